@@ -10,6 +10,7 @@ _ets_options() {
         mean) echo --steps ;;
         dis) echo --literals ;;
         dot) echo --code ;;
+        lower) echo --map ;;
     esac
 }
 
@@ -30,7 +31,7 @@ _ets_wants_value() {
 }
 
 _ets() {
-    local commands="run mean check compile dis asm upgrade dot exec trace profile orders help"
+    local commands="lower run mean check compile dis asm upgrade dot exec trace profile orders help"
     local cur=${COMP_WORDS[COMP_CWORD]} prev=${COMP_WORDS[COMP_CWORD - 1]} command=${COMP_WORDS[1]}
     local -a words=("${COMP_WORDS[@]:0:COMP_CWORD}")
     COMPREPLY=()

@@ -13,7 +13,7 @@ function __ets_takes
     for i in (seq 3 (count $words))
         string match -q -- "--$argv[1]=*" $words[$i]; and return 1
         # The last word may be an option that waits for its value.
-        test $words[$i] = --$argv[1]; and contains -- $argv[1] literals code svg; and return 1
+        test $words[$i] = --$argv[1]; and contains -- $argv[1] literals code svg map; and return 1
         test $words[$i] = --$argv[1] -a $i -lt (count $words); and return 1
     end
     return 0
@@ -34,6 +34,7 @@ end
 complete -c ets -f
 
 set -l begins '__ets_begins; or __ets_helps'
+complete -c ets -n $begins -a lower -d 'lowers a program to a graph'
 complete -c ets -n $begins -a run -d 'compiles and runs a graph'
 complete -c ets -n $begins -a mean -d 'runs the meaning of a graph, without code'
 complete -c ets -n $begins -a check -d 'says whether a graph is well formed'
@@ -63,4 +64,5 @@ complete -c ets -n '__ets_takes svg profile' -l svg -d 'a picture in place of li
 complete -c ets -n '__ets_takes count orders' -l count -x -d 'how many orders'
 complete -c ets -n '__ets_takes seed orders' -l seed -x -d 'which orders'
 complete -c ets -n '__ets_takes literals dis' -l literals -d "the object's table of literals, too"
+complete -c ets -n '__ets_takes map lower' -l map -d 'in place of the graph, the places of its nodes'
 complete -c ets -n '__ets_takes code dot' -l code -d 'the code of the object on standard input'

@@ -10,6 +10,7 @@ use Rattle.command_line.specs.declared.Asked.{Asked}
 use Rattle.command_line.specs.declared.Command.{Command}
 use Rattle.command_line.specs.declared.Format.{Format}
 use Rattle.command_line.specs.declared.Literals.{Literals}
+use Rattle.command_line.specs.declared.Lowering.{Lowering}
 use Rattle.command_line.specs.declared.Mode.{Mode}
 use Rattle.command_line.specs.declared.Request.{Request}
 use Rattle.command_line.specs.declared.RunOptions.{RunOptions}
@@ -39,7 +40,8 @@ command_named word =
     else (if bytes_eq word (codes "trace") then Some Command.Trace
     else (if bytes_eq word (codes "profile") then Some Command.Profile
     else (if bytes_eq word (codes "orders") then Some Command.Orders
-    else None)))))))))))
+    else (if bytes_eq word (codes "lower") then Some Command.Lower
+    else None))))))))))))
 
 abbrev pub option_named : Text → Option OptionName
 option_named name =
@@ -54,7 +56,8 @@ option_named name =
     else (if bytes_eq name (codes "count") then Some OptionName.Count
     else (if bytes_eq name (codes "seed") then Some OptionName.Seed
     else (if bytes_eq name (codes "svg") then Some OptionName.Svg
-    else None))))))))))
+    else (if bytes_eq name (codes "map") then Some OptionName.Map
+    else None)))))))))))
 
 abbrev pub says_how_to_run : OptionName → Bool
 says_how_to_run OptionName.Elements = true
@@ -86,6 +89,7 @@ takes Command.Orders OptionName.Frames = true
 takes Command.Orders OptionName.Steps = true
 takes Command.Orders OptionName.Count = true
 takes Command.Orders OptionName.Seed = true
+takes Command.Lower OptionName.Map = true
 takes c o = false
 
 -- and which command takes inputs
@@ -120,6 +124,7 @@ request_of Command.Asm g ins = Request.Asm
 request_of Command.Trace g ins = Request.Trace (run_options g) g.last (unwrap_or g.format Format.Lines)
 request_of Command.Profile g ins = Request.Profile (run_options g) (unwrap_or g.sizes usual_sizes) g.svg
 request_of Command.Orders g ins = Request.Orders (run_options g) (unwrap_or g.count 100) (unwrap_or g.seed 1)
+request_of Command.Lower g ins = Request.Lower g.lowering
 
 -- what stands before the first c, and what stands behind it, if there is one
 abbrev pub parts_at : ℕ → Text → Text × Option Text
@@ -199,6 +204,7 @@ with_option g OptionName.Sizes value = option_map (λ z. record g { sizes = Some
 with_option g OptionName.Literals value = None
 with_option g OptionName.Code value = None
 with_option g OptionName.Svg value = None
+with_option g OptionName.Map value = None
 
 -- INPUTS: each is written like a literal of a graph's text. They are at most 16, and the first fault stays.
 abbrev pub no_inputs : Inputs
@@ -240,15 +246,20 @@ long_of word = option_map (parts_at 61) (option_and_then (after 45) (after 45 wo
 abbrev pub valued : Given → OptionName → Text → Step
 valued g o value = option_map_or (λ more. Step.Next more None) (with_option g o value) Step.Mistake
 
--- `literals`, `code` and `svg` have no value, and may be given once; each other option waits for the next word
+-- `literals`, `code`, `svg` and `map` have no value, and may be given once; each other option waits for the next word
 abbrev pub literals_listed : Given → Literals → Step
 literals_listed g Literals.Listed = Step.Mistake
 literals_listed g Literals.LeftOut = Step.Next (record g { literals = Literals.Listed }) None
+
+abbrev pub map_asked : Given → Lowering → Step
+map_asked g Lowering.Map = Step.Mistake
+map_asked g Lowering.Graph = Step.Next (record g { lowering = Lowering.Map }) None
 
 abbrev pub without_value : Given → OptionName → Step
 without_value g OptionName.Literals = literals_listed g g.literals
 without_value g OptionName.Code = if g.code then Step.Mistake else Step.Next (record g { code = true }) None
 without_value g OptionName.Svg = if g.svg then Step.Mistake else Step.Next (record g { svg = true }) None
+without_value g OptionName.Map = map_asked g g.lowering
 without_value g o = Step.Next g (Some o)
 
 -- the option has its value behind `=`, or none there
@@ -318,6 +329,7 @@ nothing = record {
   seed = None;
   sizes = None;
   svg = false;
+  lowering = Lowering.Graph;
 }
 
 -- ALL WORDS
@@ -344,6 +356,6 @@ asked [] = Asked.Mistake
 asked (word ∷ rest) =
     option_map_or (λ c. asked_of c nothing no_inputs None rest) (command_named word) (no_command_asked word rest)
 
--- what `--version` prints
+-- what `--version` prints: the version, and the kit that the program is made with
 abbrev pub version_line : Text
-version_line = codes "ets 0.1.0" ++ 10 ∷ []
+version_line = codes "ets 0.2.0 (rattle-kit-13f)" ++ 10 ∷ []

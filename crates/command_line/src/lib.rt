@@ -63,6 +63,17 @@ pub enum Request {
         count: u64,
         seed: u64,
     },
+    /// Lowers the program on standard input to a graph.
+    Lower(Lowering),
+}
+
+/// What is written of a program that is lowered.
+#[derive(Clone, Copy, Debug, PartialEq, Eq)]
+pub enum Lowering {
+    /// The graph's text, and the inputs.
+    Graph,
+    /// Of each node the place in the program that it is made for.
+    Map,
 }
 
 /// Whether the table of literals stands behind a listing.
@@ -119,6 +130,7 @@ pub enum Command {
     Trace,
     Profile,
     Orders,
+    Lower,
 }
 
 /// What help is asked of.
@@ -166,6 +178,8 @@ fn command_named(word: &str) -> Option<Command>
         Some(Command::Profile)
     } else if word == "orders" {
         Some(Command::Orders)
+    } else if word == "lower" {
+        Some(Command::Lower)
     } else {
         None
     }
@@ -282,9 +296,9 @@ pub fn read_words<S: AsStr>(words: &[S]) -> Asked
     }
 }
 
-/// The line of `--version`.
+/// The line of `--version`: the version, and the kit whose prover and compiler it is made with.
 pub fn version_line() -> &'static [u8]
     ensures { result.now ≡ version_line }
 {
-    b"ets 0.1.0\n"
+    b"ets 0.2.0 (rattle-kit-13f)\n"
 }

@@ -1,9 +1,9 @@
 //! The options of a command, and what one word after it says.
 
 ghost use Rattle.std.specs.Prelude.{◌≡◌, ◌<◌, option_map};
-ghost use Rattle.command_line.specs.Words.{after, asks_help, asks_version, first_mode, first_format, first_number, first_sizes, flag_met, format_named, is_flag, is_short, literals_listed, long_of, mode_named, named, nothing, number_of, option_met, option_named, option_of, parts_at, plain_met, request_of, run_options, says_how_to_run, sizes_from, takes, takes_inputs, usual_sizes, valued, with_option, without_value, word_met};
+ghost use Rattle.command_line.specs.Words.{after, asks_help, asks_version, first_mode, first_format, first_number, first_sizes, flag_met, format_named, is_flag, is_short, literals_listed, long_of, map_asked, mode_named, named, nothing, number_of, option_met, option_named, option_of, parts_at, plain_met, request_of, run_options, says_how_to_run, sizes_from, takes, takes_inputs, usual_sizes, valued, with_option, without_value, word_met};
 
-use crate::{Command, Format, Inputs, Literals, Mode, Request, RunOptions, Sizes};
+use crate::{Command, Format, Inputs, Literals, Lowering, Mode, Request, RunOptions, Sizes};
 
 /// The options of all commands.
 #[derive(Clone, Copy, Debug, PartialEq, Eq)]
@@ -24,6 +24,8 @@ pub(crate) enum OptionName {
     Sizes,
     /// It has no value.
     Svg,
+    /// It has no value.
+    Map,
 }
 
 /// The options that were given so far.
@@ -42,6 +44,7 @@ pub(crate) struct Given {
     pub(crate) seed: Option<u64>,
     pub(crate) sizes: Option<Sizes>,
     pub(crate) svg: bool,
+    pub(crate) lowering: Lowering,
 }
 
 /// What a word after a command says.
@@ -74,6 +77,7 @@ impl Given {
             seed: None,
             sizes: None,
             svg: false,
+            lowering: Lowering::Graph,
         }
     }
 
@@ -118,7 +122,7 @@ impl Given {
                 sizes: Some(first_sizes(self.sizes, value)?),
                 ..self
             }),
-            OptionName::Literals | OptionName::Code | OptionName::Svg => None,
+            OptionName::Literals | OptionName::Code | OptionName::Svg | OptionName::Map => None,
         }
     }
 }
@@ -238,6 +242,8 @@ fn option_named(name: &str) -> Option<OptionName>
         Some(OptionName::Seed)
     } else if name == "svg" {
         Some(OptionName::Svg)
+    } else if name == "map" {
+        Some(OptionName::Map)
     } else {
         None
     }
@@ -286,6 +292,7 @@ fn takes(command: Command, option: OptionName) -> bool
                 | OptionName::Count
                 | OptionName::Seed
         ),
+        Command::Lower => option == OptionName::Map,
         _ => false,
     }
 }
@@ -344,6 +351,7 @@ pub(crate) fn request_of(command: Command, given: Given, inputs: Inputs) -> Requ
             count: given.count.unwrap_or(100),
             seed: given.seed.unwrap_or(1),
         },
+        Command::Lower => Request::Lower(given.lowering),
     }
 }
 
@@ -432,6 +440,22 @@ fn literals_listed(given: Given) -> Step
     }
 }
 
+/// The option `--map`, which may be given once.
+fn map_asked(given: Given) -> Step
+    ensures { result ≡ map_asked given given.lowering }
+{
+    match given.lowering {
+        Lowering::Map => Step::Mistake,
+        Lowering::Graph => Step::Next(
+            Given {
+                lowering: Lowering::Map,
+                ..given
+            },
+            None,
+        ),
+    }
+}
+
 /// The option where no `=` follows its name.
 fn without_value(given: Given, option: OptionName) -> Step
     ensures { result ≡ without_value given option }
@@ -448,6 +472,7 @@ fn without_value(given: Given, option: OptionName) -> Step
         ),
         OptionName::Svg if given.svg => Step::Mistake,
         OptionName::Svg => Step::Next(Given { svg: true, ..given }, None),
+        OptionName::Map => map_asked(given),
         option => Step::Next(given, Some(option)),
     }
 }

@@ -13,8 +13,8 @@ use command_line::Topic;
 use std::alloc::{AllocError, Global};
 use std::convert::AsStr;
 
-/// The version of the program, as in `command_line::version_line`.
-const VERSION: &str = "0.1.0";
+/// The version of the program and the kit that it is made with, as in `command_line::version_line`.
+const VERSION: &str = "0.2.0 (rattle-kit-13f)";
 
 /// The formats in which a trace may be written.
 const FORMATS: [&str; 2] = ["text", "chrome"];
@@ -22,7 +22,8 @@ const FORMATS: [&str; 2] = ["text", "chrome"];
 /// The end of the program's help.
 const AFTER: &str = "\
 Examples, in a clone of the project:
-  ets run < examples/add.ets                      runs a graph on the inputs behind it
+  ets lower < examples/factorial.df | ets run     lowers a program to a graph, and runs that on the program's inputs
+  ets run < examples/add.ets                      runs a graph on the inputs after it
   ets run --elements 16 < examples/fibonacci.ets  runs it on 16 processing elements
   ets mean < examples/add.ets                     runs its meaning, without code
   sed '/^main /q' examples/add.ets > add          leaves the inputs out, for the commands that read a graph alone:
@@ -39,12 +40,20 @@ Examples, in a clone of the project:
   ets profile < examples/fibonacci.ets            measures how much parallelism there is
   ets orders < examples/fibonacci.ets             runs a graph in 100 random orders
 
-Graphs, inputs, reports, objects and all refusals: docs/FORMATS.md. Graphs to try: examples/README.md.
+The language of programs: docs/LANGUAGE.md. Graphs, inputs, reports, objects and all refusals: docs/FORMATS.md.
+Programs and graphs to try: examples/README.md.
 
 Exit status: 0 done, or a run that ended at rest; 1 a refusal, a mistake in the command line, or a failed write;
   2 a run that starved; 3 a cell that was filled twice; 4 out of steps; 5 stuck; 6 out of memory in a run.
 After a refusal, a mistake, and a report or a profile that does not end at rest, a hint stands on standard
   error; profile --svg and trace --format chrome tell no end, so there only after a refusal or a mistake.";
+
+/// The end of the help of `ets lower`.
+const AFTER_LOWER: &str = "\
+Examples: ets lower < examples/factorial.df | ets run
+          ets lower < examples/factorial.df | sed '/^main /q' | ets check
+          ets lower --map < examples/factorial.df
+The language, with its refusals: docs/LANGUAGE.md. What is printed: docs/FORMATS.md, \"Lowering: `ets lower`\".";
 
 /// The end of the help of `ets run`.
 const AFTER_RUN: &str = "\
@@ -141,6 +150,19 @@ fn with_run_options<'a>(alloc: Global, command: Command<'a>) -> Result<Command<'
         .arg(frames(alloc))?
         .arg(steps(alloc))?
         .arg(mode)
+}
+
+fn lower_command<'a>(alloc: Global) -> Result<Command<'a>, AllocError> {
+    let map = Arg::new(alloc, "map")
+        .long("map")
+        .action(ArgAction::SetTrue)
+        .help("in place of the graph, the place in the program of each of its nodes");
+    Command::new(alloc, "lower")
+        .about(
+            "Lowers a program to a graph: its text on standard input, then a line `inputs` and its inputs, one a line",
+        )
+        .after_help(AFTER_LOWER)
+        .arg(map)
 }
 
 fn run_command<'a>(alloc: Global) -> Result<Command<'a>, AllocError> {
@@ -262,10 +284,13 @@ pub fn program_command<'a>(alloc: Global) -> Result<Command<'a>, AllocError> {
         .about("Writes the object of the listing on standard input")
         .after_help(AFTER_ASM);
     Command::new(alloc, "ets")
-        .about("Compiles dataflow graphs for an explicit token store machine and runs them")
+        .about(
+            "Compiles dataflow programs and graphs for an explicit token store machine and runs them",
+        )
         .after_help(AFTER)
         .version(VERSION)
         .subcommand_required(true)
+        .subcommand(lower_command(alloc)?)?
         .subcommand(check)?
         .subcommand(compile)?
         .subcommand(dis_command(alloc)?)?
@@ -311,6 +336,7 @@ fn name_of(command: command_line::Command) -> &'static str {
         command_line::Command::Trace => "trace",
         command_line::Command::Profile => "profile",
         command_line::Command::Orders => "orders",
+        command_line::Command::Lower => "lower",
     }
 }
 

@@ -5,11 +5,14 @@ use Rattle.std.specs.declared.io.Error.{Error}
 use Rattle.command_line.specs.Words.{asked, version_line}
 use Rattle.command_line.specs.declared.Asked.{Asked}
 use Rattle.command_line.specs.declared.Literals.{Literals}
+use Rattle.command_line.specs.declared.Lowering.{Lowering}
 use Rattle.command_line.specs.declared.Request.{Request}
 use Rattle.driver.specs.Disassembled.{listing_of, listing_with_literals_of, upgrade_of}
 use Rattle.commands.specs.declared.input.InputFault.{InputFault}
 use Rattle.commands.specs.declared.refusal.Refusal.{Refusal}
+use Rattle.lowered_text.specs.Texts.{graph_and_inputs, map_of}
 use Rattle.commands.specs.Assembled.{PrintsAssembled}
+use Rattle.commands.specs.Lowered.{PrintsLowered}
 use Rattle.commands.specs.Agreed.{PrintsOrders}
 use Rattle.commands.specs.Traced.{PrintsTrace}
 use Rattle.commands.specs.Profiled.{PrintsProfile}
@@ -31,6 +34,8 @@ Answers result old new input Request.Asm = PrintsAssembled result old new input
 Answers result old new input (Request.Orders o count seed) = PrintsOrders result old new input o count seed
 Answers result old new input (Request.Trace o last format) = PrintsTrace result old new input o last format
 Answers result old new input (Request.Profile o sizes svg) = PrintsProfile result old new input o sizes svg
+Answers result old new input (Request.Lower Lowering.Graph) = PrintsLowered graph_and_inputs result old new input
+Answers result old new input (Request.Lower Lowering.Map) = PrintsLowered map_of result old new input
 
 -- the input is all that the reader has, at most 64 MiB
 abbrev pub ServesRequest : {E : Type 0} → Option (List ℕ) → Result ℕ E → Option (List ℕ) → Option (List ℕ) → Request → Type 0

@@ -10,3 +10,4 @@ pub mod Traced
 pub mod Profiled
 pub mod Answered
 pub mod Assembled
+pub mod Lowered

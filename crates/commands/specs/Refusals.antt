@@ -7,6 +7,8 @@ use Rattle.object_view.specs.declared.fault.ObjectFault.{ObjectFault}
 use Rattle.assembler.specs.declared.fault.AsmFault.{AsmFault}
 use Rattle.assembler.specs.declared.fault.AsmFaultKind.{AsmFaultKind}
 use Rattle.schedule.specs.declared.config.StartFault.{StartFault}
+use Rattle.source.specs.declared.fault.FaultKind.{FaultKind}
+use Rattle.lowered_text.specs.declared.fault.LowerFault.{LowerFault}
 use Rattle.driver.specs.declared.fault.Fault.{Fault}
 use Rattle.commands.specs.declared.input.InputFault.{InputFault}
 use Rattle.commands.specs.declared.refusal.Refusal.{Refusal}
@@ -67,6 +69,25 @@ start_word StartFault.NoFrames = codes "NoFrames"
 start_word StartFault.BadConfig = codes "BadConfig"
 start_word StartFault.Memory = codes "Memory"
 
+abbrev pub program_word : FaultKind → List ℕ
+program_word FaultKind.BadByte = codes "BadByte"
+program_word FaultKind.BadNumber = codes "BadNumber"
+program_word FaultKind.BadName = codes "BadName"
+program_word FaultKind.Unexpected = codes "Unexpected"
+program_word FaultKind.Unended = codes "Unended"
+program_word FaultKind.TooDeep = codes "TooDeep"
+program_word FaultKind.NotACell = codes "NotACell"
+program_word FaultKind.SameName = codes "SameName"
+program_word FaultKind.NoSuchName = codes "NoSuchName"
+program_word FaultKind.Arity = codes "Arity"
+program_word FaultKind.BadBound = codes "BadBound"
+program_word FaultKind.BadCount = codes "BadCount"
+program_word FaultKind.TooMany = codes "TooMany"
+program_word FaultKind.TooWide = codes "TooWide"
+program_word FaultKind.TooBig = codes "TooBig"
+program_word FaultKind.NoMain = codes "NoMain"
+program_word FaultKind.Memory = codes "Memory"
+
 -- a number, or `-` where it does not apply
 abbrev pub number_or_dash : Option ℕ → List ℕ
 number_or_dash None = codes "-"
@@ -82,6 +103,7 @@ cause_text (Refusal.InputLine n) = codes "input line " ++ decimal n
 cause_text (Refusal.Start f) = codes "start " ++ start_word f
 cause_text (Refusal.Object f) = codes "object " ++ object_word f
 cause_text (Refusal.Asm f) = codes "asm " ++ asm_word f.kind ++ codes " line " ++ decimal f.line
+cause_text (Refusal.Program f) = codes "program " ++ program_word f.kind ++ codes " line " ++ decimal f.line ++ codes " column " ++ decimal f.column
 cause_text Refusal.Memory = codes "memory"
 
 abbrev pub refusal_line : Refusal → List ℕ
@@ -96,6 +118,11 @@ told_as (Fault.TooFar b) = Refusal.TooFar b
 told_as (Fault.Object f) = Refusal.Object f
 told_as (Fault.Start f) = Refusal.Start f
 told_as Fault.Memory = Refusal.Memory
+
+-- the refusal that a program's fault is told as
+abbrev pub unlowered_as : LowerFault → Refusal
+unlowered_as (LowerFault.Program f) = Refusal.Program f
+unlowered_as LowerFault.Memory = Refusal.Memory
 
 -- the refusal that a missing input is told as
 abbrev pub unread_as : InputFault → Refusal

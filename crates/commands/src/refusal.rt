@@ -1,15 +1,17 @@
 //! Why a command has no result.
 
 ghost use Rattle.std.specs.Prelude.{◌≡◌};
-ghost use Rattle.commands.specs.Refusals.{told_as, unread_as};
+ghost use Rattle.commands.specs.Refusals.{told_as, unlowered_as, unread_as};
 
 use crate::input::InputFault;
 use assembler::AsmFault;
 use driver::fault::Fault;
 use graph_check::CheckFault;
 use graph_file::ReadFault;
+use lowered_text::fault::LowerFault;
 use object_view::ObjectFault;
 use schedule::config::StartFault;
+use source::fault::ProgramFault;
 use std::alloc::AllocError;
 
 /// Why a command has no result.
@@ -30,6 +32,8 @@ pub enum Refusal {
     Object(ObjectFault),
     /// Standard input is no listing of an object.
     Asm(AsmFault),
+    /// Standard input has no program that can be lowered.
+    Program(ProgramFault),
     Memory,
 }
 
@@ -56,6 +60,17 @@ impl From<Fault> for Refusal {
             Fault::Object(fault) => Refusal::Object(fault),
             Fault::Start(fault) => Refusal::Start(fault),
             Fault::Memory => Refusal::Memory,
+        }
+    }
+}
+
+impl From<LowerFault> for Refusal {
+    fn from(fault: LowerFault) -> Refusal
+        ensures { result ≡ unlowered_as fault }
+    {
+        match fault {
+            LowerFault::Program(fault) => Refusal::Program(fault),
+            LowerFault::Memory => Refusal::Memory,
         }
     }
 }

@@ -2,8 +2,8 @@
 
 ghost use Rattle.std.specs.Prelude.{◌≡◌, ◌++◌, decimal};
 ghost use Rattle.semantics.specs.Text.{line};
-ghost use Rattle.commands.specs.declared.refusal.Refusal.TheVariants.{Asm, Read, Check};
-ghost use Rattle.commands.specs.Refusals.{asm_word, read_word, check_word, object_word, start_word, number_or_dash, refusal_line};
+ghost use Rattle.commands.specs.declared.refusal.Refusal.TheVariants.{Asm, Read, Check, Program};
+ghost use Rattle.commands.specs.Refusals.{asm_word, read_word, check_word, object_word, start_word, program_word, number_or_dash, refusal_line};
 ghost use Rattle.sink.specs.Sends.{Sends};
 
 use crate::refusal::Refusal;
@@ -14,6 +14,7 @@ use itoa::Buffer;
 use object_view::ObjectFault;
 use schedule::config::StartFault;
 use sink::{send, send_all};
+use source::fault::{FaultKind, ProgramFault};
 use std::io::{self, Write};
 
 fn read_word(kind: ReadFaultKind) -> &'static [u8]
@@ -125,6 +126,52 @@ fn write_asm_fault<W: Write>(writer: &mut W, fault: AsmFault) -> io::Result<()>
     send_all(writer, &[b"refused: asm ", kind, b" line ", line, b"\n"])
 }
 
+fn program_word(kind: FaultKind) -> &'static [u8]
+    ensures { result.now ≡ program_word kind }
+{
+    match kind {
+        FaultKind::BadByte => b"BadByte",
+        FaultKind::BadNumber => b"BadNumber",
+        FaultKind::BadName => b"BadName",
+        FaultKind::Unexpected => b"Unexpected",
+        FaultKind::Unended => b"Unended",
+        FaultKind::TooDeep => b"TooDeep",
+        FaultKind::NotACell => b"NotACell",
+        FaultKind::SameName => b"SameName",
+        FaultKind::NoSuchName => b"NoSuchName",
+        FaultKind::Arity => b"Arity",
+        FaultKind::BadBound => b"BadBound",
+        FaultKind::BadCount => b"BadCount",
+        FaultKind::TooMany => b"TooMany",
+        FaultKind::TooWide => b"TooWide",
+        FaultKind::TooBig => b"TooBig",
+        FaultKind::NoMain => b"NoMain",
+        FaultKind::Memory => b"Memory",
+    }
+}
+
+fn write_program_fault<W: Write>(writer: &mut W, fault: ProgramFault) -> io::Result<()>
+    ensures { Sends result (W.contents writer.old) (W.contents writer.new) (refusal_line (Program fault)) }
+{
+    let mut first = Buffer::new();
+    let mut second = Buffer::new();
+    let kind = program_word(fault.kind);
+    let line = number_or_dash(&mut first, Some(fault.line as u64));
+    let column = number_or_dash(&mut second, Some(fault.column as u64));
+    send_all(
+        writer,
+        &[
+            b"refused: program ",
+            kind,
+            b" line ",
+            line,
+            b" column ",
+            column,
+            b"\n",
+        ],
+    )
+}
+
 fn write_check_fault<W: Write>(writer: &mut W, fault: CheckFault) -> io::Result<()>
     ensures { Sends result (W.contents writer.old) (W.contents writer.new) (refusal_line (Check fault)) }
 {
@@ -176,6 +223,7 @@ pub fn write_refusal<W: Write>(writer: &mut W, refusal: &Refusal) -> io::Result<
             send_all(writer, &[b"refused: object ", object_word(*fault), b"\n"])
         }
         Refusal::Asm(fault) => write_asm_fault(writer, *fault),
+        Refusal::Program(fault) => write_program_fault(writer, *fault),
         Refusal::Memory => send(writer, b"refused: memory\n"),
     }
 }

@@ -9,13 +9,16 @@ ghost use Rattle.commands.specs.Answered.{Answers, ServesRequest, Says, ServesAs
 use crate::assembling::print_assembled;
 use crate::given::{option_refusal, read_given};
 use crate::input::{LinesFault, parse_integers, read_input, split_at_main};
+use crate::lowering::{print_lowered, print_map};
 use crate::orders::print_orders;
 use crate::profiling::print_profile;
 use crate::refusal::Refusal;
 use crate::refusal_text::write_refusal;
 use crate::status::{status_of, status_of_meaning};
 use crate::tracing::print_trace;
-use command_line::{Asked, Inputs, Literals, Request, RunOptions, read_words, version_line};
+use command_line::{
+    Asked, Inputs, Literals, Lowering, Request, RunOptions, read_words, version_line,
+};
 use command_texts::{help_text, mistake_text};
 use dot::write_graph_dot;
 use driver::compiling::{CompileRefusal, check_text, write_object};
@@ -354,6 +357,8 @@ fn answer<R: Threads + Wait + Sync, A: Allocator + Clone + Send + Sync, G: Gate 
             literals: Literals::Listed,
         } => print_listing_with_literals(input, writer),
         Request::Asm => print_assembled(alloc, input, writer),
+        Request::Lower(Lowering::Graph) => print_lowered(alloc, input, writer),
+        Request::Lower(Lowering::Map) => print_map(alloc, input, writer),
         Request::Upgrade => print_upgrade(input, writer),
         Request::Run(options) => print_run(alloc, input, options, writer, rt, gate),
         Request::Mean { steps } => print_meaning(alloc, input, *steps, writer),

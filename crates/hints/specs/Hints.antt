@@ -38,6 +38,7 @@ wants_reason Request.Upgrade output = is_refused output
 wants_reason (Request.Dot code) output = is_refused output
 wants_reason (Request.Exec o ins) output = not (is_at_rest output)
 wants_reason Request.Asm output = is_refused output
+wants_reason (Request.Lower lowering) output = is_refused output
 wants_reason (Request.Trace o last Format.Lines) output = not (is_at_rest output)
 wants_reason (Request.Trace o last Format.Chrome) output = is_refused output
 wants_reason (Request.Profile o sizes true) output = is_refused output

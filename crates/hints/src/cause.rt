@@ -3,6 +3,7 @@
 mod graphs;
 mod listings;
 mod objects;
+mod programs;
 mod runs;
 mod texts;
 mod words;
@@ -14,6 +15,7 @@ use graph_file::ReadFaultKind;
 pub use graphs::{CallCause, GraphCause, NodeCause, RegionCause};
 pub use listings::{ListingCause, TableCause, TermCause};
 pub use objects::{InstrCause, ObjectCause, OperandCause};
+pub use programs::{Count, Missing, ProgramCause, Wanted};
 pub use runs::{EndCause, OptionCause, RunCause, StepsCause};
 pub use texts::{FieldCause, FormCause, LineCause, TextCause};
 pub use words::WordCause;
@@ -32,6 +34,7 @@ pub enum Cause<'a> {
     Listing(ListingCause<'a>),
     Object(ObjectCause<'a>),
     Instr(InstrCause),
+    Program(ProgramCause<'a>),
     Run(RunCause<'a>),
     Word(WordCause<'a>),
 }
@@ -51,6 +54,7 @@ impl<'a> Cause<'a> {
             Cause::Listing(cause) => cause.message(),
             Cause::Object(cause) => cause.message(),
             Cause::Instr(cause) => cause.message(),
+            Cause::Program(cause) => cause.message(),
             Cause::Run(cause) => cause.message(),
             Cause::Word(cause) => cause.message(),
         }

@@ -345,18 +345,22 @@ fn outside<'a, A: Allocator>(
     }
 }
 
+/// The graph of the text, where memory allows it.
+fn read_again<'a, A: Allocator + Clone>(alloc: &A, text: &'a [u8]) -> Option<Graph<'a, A>> {
+    let own = alloc.clone().ok()?;
+    read(own, text).ok()
+}
+
 /// Why the graph of the text is not well formed: a fault of kind `kind` at block `block` and node `node`. `None` also where
 /// memory is refused.
 pub fn graph_fault<'a, A: Allocator + Clone>(
-    alloc: A,
+    alloc: &A,
     text: &'a [u8],
     kind: CheckFaultKind,
     block: Option<u64>,
     node: Option<u64>,
 ) -> Option<Found<'a>> {
-    let Ok(graph) = read(alloc, text) else {
-        return None;
-    };
+    let graph = read_again(alloc, text)?;
     match block {
         Some(place) => in_block(&graph, text, kind, place, node),
         None => outside(&graph, text, kind),
@@ -365,14 +369,12 @@ pub fn graph_fault<'a, A: Allocator + Clone>(
 
 /// Why the graph of the text has no code: `cause`, at code block `number`.
 pub fn code_fault<'a, A: Allocator + Clone>(
-    alloc: A,
+    alloc: &A,
     text: &'a [u8],
     number: u64,
     cause: GraphCause<'a>,
 ) -> Option<Found<'a>> {
-    let Ok(graph) = read(alloc, text) else {
-        return None;
-    };
+    let graph = read_again(alloc, text)?;
     let (block, iterations) = coded_block(&graph, number)?;
     let place = Place::Code {
         number,

@@ -26,13 +26,14 @@ mod object_words;
 mod operands;
 mod outcome;
 mod place;
+mod programs;
 mod rules;
 mod runs;
 mod shown;
 mod text_faults;
 mod words;
 
-use cause::{Cause, GraphCause, RunCause};
+use cause::{Cause, GraphCause, ProgramCause, RunCause};
 use command_line::{Asked, Format, Request, read_words};
 use found::Found;
 use graph_faults::{code_fault, graph_fault};
@@ -41,7 +42,8 @@ use lines::split_graph;
 use listing_faults::{listing_fault, unknown_listing};
 use message::Message;
 use object_faults::object_fault;
-use outcome::{Outcome, is_differing, outcome_of};
+use outcome::{Located, Outcome, is_differing, outcome_of};
+use programs::program_fault;
 use runs::{end_fault, given_fault, input_fault, memory_cause, orders_fault, start_fault};
 use std::alloc::{AllocError, Allocator};
 use std::convert::AsStr;
@@ -79,6 +81,7 @@ fn wants_reason(request: &Request, output: &[u8]) -> bool
         | Request::Upgrade
         | Request::Dot { .. }
         | Request::Asm
+        | Request::Lower(_)
         | Request::Profile { svg: true, .. }
         | Request::Trace {
             format: Format::Chrome,
@@ -113,43 +116,55 @@ fn command_of(request: &Request) -> &'static str {
         Request::Dis { .. } => "dis",
         Request::Upgrade => "upgrade",
         Request::Asm => "asm",
+        Request::Lower(_) => "lower",
         Request::Dot { code: false } => "dot",
         Request::Dot { code: true } => "dot --code",
     }
 }
 
 /// The cause of a refusal whose place is in the input.
-fn input_cause<'a, A: Allocator + Clone>(
-    alloc: A,
+fn located_cause<'a, A: Allocator + Clone>(
+    alloc: &A,
     request: &Request,
     input: &'a [u8],
-    outcome: Outcome<'a>,
+    refusal: Located,
 ) -> Option<Found<'a>> {
-    let command = command_of(request);
+    let command: &'a str = command_of(request);
     let text = graph_text(request, input);
-    match outcome {
-        Outcome::Read { kind, line } => Some(text_fault(kind, text, line, command)),
-        Outcome::Check { kind, block, node } => graph_fault(alloc, text, kind, block, node),
-        Outcome::TooManySlots { block } => {
+    match refusal {
+        Located::Read { kind, line } => Some(text_fault(kind, text, line, command)),
+        Located::Check { kind, block, node } => graph_fault(alloc, text, kind, block, node),
+        Located::TooManySlots { block } => {
             code_fault(alloc, text, block, GraphCause::TooManySlots)
         }
-        Outcome::TooFar { block } => code_fault(alloc, text, block, GraphCause::TooFar),
-        Outcome::InputLine { line } => Some(input_fault(input, line)),
-        Outcome::Object(kind) => object_fault(kind, input, command),
-        Outcome::Listing { kind, line } => Some(listing_fault(kind, input, line)),
-        _ => None,
+        Located::TooFar { block } => code_fault(alloc, text, block, GraphCause::TooFar),
+        Located::InputLine { line } => Some(input_fault(input, line)),
+        Located::Object(kind) => object_fault(kind, input, command),
+        Located::Listing { kind, line } => Some(listing_fault(kind, input, line)),
+        Located::Program(place) => Some(program_fault(alloc, input, place)),
     }
 }
 
-/// What is told of an outcome whose place cannot be found, because the input was not kept or memory was refused.
-fn plain(outcome: Outcome<'_>) -> Found<'_> {
-    let cause = match outcome {
-        Outcome::Read { kind, .. } => Cause::Reading(kind),
-        Outcome::Check { kind, .. } => Cause::Checking(kind),
-        Outcome::Listing { .. } => unknown_listing(),
-        Outcome::Object(_) => Cause::Run(RunCause::Unknown {
+/// What is told of a refusal whose place cannot be found, because the input was not kept or memory was refused.
+fn unlocated<'a>(refusal: Located) -> Cause<'a> {
+    match refusal {
+        Located::Read { kind, .. } => Cause::Reading(kind),
+        Located::Check { kind, .. } => Cause::Checking(kind),
+        Located::Listing { .. } => unknown_listing(),
+        Located::Program(place) => Cause::Program(ProgramCause::Kind(place.kind)),
+        Located::Object(_) => Cause::Run(RunCause::Unknown {
             part: "Refusals of an object",
         }),
+        Located::TooManySlots { .. } | Located::TooFar { .. } | Located::InputLine { .. } => {
+            Cause::Run(RunCause::Unknown { part: "Refusals" })
+        }
+    }
+}
+
+/// What is told of an outcome whose place cannot be found.
+fn plain(outcome: Outcome<'_>) -> Found<'_> {
+    let cause = match outcome {
+        Outcome::Located(refusal) => unlocated(refusal),
         _ => Cause::Run(RunCause::Unknown { part: "Refusals" }),
     };
     Found::nowhere(cause)
@@ -179,10 +194,9 @@ fn outcome_cause<'a, S: AsStr, A: Allocator + Clone>(
         Outcome::OrdersDiffer => Some(orders_fault()),
         Outcome::Start(kind) => start_fault(alloc, request, input, kind),
         Outcome::Ended(end) => Some(end_fault(request, end)),
-        Outcome::InputLine { line } if matches!(request, Request::Exec { .. }) => {
-            given_fault(after_command(words), line)
-        }
-        _ => input_cause(alloc, request, input?, outcome),
+        Outcome::Located(Located::InputLine { line }) if matches!(request, Request::Exec { .. }) =>
+            { given_fault(after_command(words), line) }
+        Outcome::Located(refusal) => located_cause(&alloc, request, input?, refusal),
     }
 }
 

@@ -3,6 +3,7 @@
 use crate::shown::{Lying, Many, Shown, Spelled};
 use graph_check::CheckFaultKind;
 use graph_file::ReadFaultKind;
+use source::fault::FaultKind;
 use std::fmt::{self, Display};
 
 /// A value that a message shows.
@@ -17,6 +18,7 @@ pub enum Piece<'a> {
     Source(Spelled),
     Reading(ReadFaultKind),
     Checking(CheckFaultKind),
+    Programming(FaultKind),
 }
 
 impl Display for Piece<'_> {
@@ -31,6 +33,7 @@ impl Display for Piece<'_> {
             Piece::Source(source) => Display::fmt(source, f),
             Piece::Reading(kind) => Display::fmt(kind, f),
             Piece::Checking(kind) => Display::fmt(kind, f),
+            Piece::Programming(kind) => Display::fmt(kind, f),
         }
     }
 }

@@ -26,6 +26,7 @@ fn options_of(command: &str) -> Option<&'static str> {
         "mean" => Some("--steps N, at most once"),
         "dis" => Some("--literals, at most once"),
         "dot" => Some("--code, at most once"),
+        "lower" => Some("--map, at most once"),
         _ => None,
     }
 }
@@ -45,6 +46,7 @@ fn is_command(word: &str) -> bool {
             | "asm"
             | "upgrade"
             | "dot"
+            | "lower"
     )
 }
 
@@ -108,6 +110,8 @@ fn is_file(word: &str) -> bool {
 fn no_command<'a>(file: &'a str) -> WordCause<'a> {
     let command = if file.ends_with(".etsobject") {
         "dis"
+    } else if file.ends_with(".df") {
+        "lower"
     } else {
         "run"
     };

@@ -357,7 +357,7 @@ fn beginning<'a>(bytes: &[u8], command: &'a str) -> Option<Found<'a>> {
 }
 
 /// Why the bytes are not an object: a fault of kind `kind`. `command` is what was asked for.
-pub fn object_fault<'a>(kind: ObjectFault, bytes: &[u8], command: &'a str) -> Option<Found<'a>> {
+pub fn object_fault<'a>(kind: ObjectFault, bytes: &'a [u8], command: &'a str) -> Option<Found<'a>> {
     if let Some(found) = beginning(bytes, command) {
         return Some(found);
     }

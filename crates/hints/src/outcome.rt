@@ -4,10 +4,12 @@ ghost use Rattle.std.specs.Prelude.{◌≡◌};
 ghost use Rattle.hints.specs.Hints.{is_differing};
 
 use crate::lines::{LINE_FEED, field_at, text_at};
+use crate::programs::ProgramPlace;
 use crate::rules::Rule;
 use graph_check::CheckFaultKind;
 use graph_file::{ReadFaultKind, literal};
 use object_view::ObjectFault;
+use source::fault::FaultKind;
 
 /// Why a run did not start.
 #[derive(Clone, Copy, PartialEq, Eq)]
@@ -43,12 +45,9 @@ pub enum Ended<'a> {
     Stuck(Rule),
 }
 
-/// A refusal, or an end other than rest.
+/// A refusal whose place is in the input.
 #[derive(Clone, Copy)]
-pub enum Outcome<'a> {
-    Unread,
-    /// Of a refusal, or of a run that ended so.
-    Memory,
+pub enum Located {
     Read {
         kind: ReadFaultKind,
         line: u64,
@@ -67,12 +66,22 @@ pub enum Outcome<'a> {
     InputLine {
         line: u64,
     },
-    Start(Unstarted),
     Object(ObjectFault),
     Listing {
         kind: ListingFault,
         line: u64,
     },
+    Program(ProgramPlace),
+}
+
+/// A refusal, or an end other than rest.
+#[derive(Clone, Copy)]
+pub enum Outcome<'a> {
+    Unread,
+    /// Of a refusal, or of a run that ended so.
+    Memory,
+    Located(Located),
+    Start(Unstarted),
     Ended(Ended<'a>),
     /// Two orders have different reports.
     OrdersDiffer,
@@ -145,6 +154,29 @@ fn listing_kind(word: &str) -> Option<ListingFault> {
     Some(kind)
 }
 
+fn program_kind(word: &str) -> Option<FaultKind> {
+    let kind = match word {
+        "BadByte" => FaultKind::BadByte,
+        "BadNumber" => FaultKind::BadNumber,
+        "BadName" => FaultKind::BadName,
+        "Unexpected" => FaultKind::Unexpected,
+        "Unended" => FaultKind::Unended,
+        "TooDeep" => FaultKind::TooDeep,
+        "NotACell" => FaultKind::NotACell,
+        "SameName" => FaultKind::SameName,
+        "NoSuchName" => FaultKind::NoSuchName,
+        "Arity" => FaultKind::Arity,
+        "BadBound" => FaultKind::BadBound,
+        "BadCount" => FaultKind::BadCount,
+        "TooMany" => FaultKind::TooMany,
+        "TooWide" => FaultKind::TooWide,
+        "TooBig" => FaultKind::TooBig,
+        "NoMain" => FaultKind::NoMain,
+        _ => return None,
+    };
+    Some(kind)
+}
+
 fn start_kind(word: &str) -> Option<Unstarted> {
     match word {
         "WrongInputs" => Some(Unstarted::WrongInputs),
@@ -164,44 +196,52 @@ fn number_at(line: &[u8], place: usize) -> Option<u64> {
 }
 
 fn check_outcome<'a>(line: &'a [u8]) -> Option<Outcome<'a>> {
-    Some(Outcome::Check {
+    Some(Outcome::Located(Located::Check {
         kind: check_kind(text_at(line, 1)?)?,
         block: number(field_at(line, 3)?),
         node: number(field_at(line, 5)?),
-    })
+    }))
 }
 
 /// The outcome of a refusal because of a line of the input, or because the input could not be read.
 fn input_outcome<'a>(line: &'a [u8]) -> Option<Outcome<'a>> {
     match field_at(line, 2) {
-        Some(digits) => Some(Outcome::InputLine {
+        Some(digits) => Some(Outcome::Located(Located::InputLine {
             line: number(digits)?,
-        }),
+        })),
         None => Some(Outcome::Unread),
     }
 }
 
 fn read_outcome<'a>(line: &'a [u8]) -> Option<Outcome<'a>> {
-    Some(Outcome::Read {
+    Some(Outcome::Located(Located::Read {
         kind: read_kind(text_at(line, 1)?)?,
         line: number_at(line, 3)?,
-    })
+    }))
 }
 
 fn listing_outcome<'a>(line: &'a [u8]) -> Option<Outcome<'a>> {
-    Some(Outcome::Listing {
+    Some(Outcome::Located(Located::Listing {
         kind: listing_kind(text_at(line, 1)?)?,
         line: number_at(line, 3)?,
-    })
+    }))
+}
+
+fn program_outcome<'a>(line: &'a [u8]) -> Option<Outcome<'a>> {
+    Some(Outcome::Located(Located::Program(ProgramPlace {
+        kind: program_kind(text_at(line, 1)?)?,
+        line: number_at(line, 3)?,
+        column: number_at(line, 5)?,
+    })))
 }
 
 /// The outcome of a refusal because of the code of a block.
 fn code_outcome<'a>(line: &'a [u8]) -> Option<Outcome<'a>> {
     let block = number_at(line, 3)?;
     if line.starts_with(b"slots") {
-        Some(Outcome::TooManySlots { block })
+        Some(Outcome::Located(Located::TooManySlots { block }))
     } else {
-        Some(Outcome::TooFar { block })
+        Some(Outcome::Located(Located::TooFar { block }))
     }
 }
 
@@ -210,7 +250,7 @@ fn start_outcome<'a>(word: &str) -> Option<Outcome<'a>> {
 }
 
 fn object_outcome<'a>(word: &str) -> Option<Outcome<'a>> {
-    Some(Outcome::Object(object_kind(word)?))
+    Some(Outcome::Located(Located::Object(object_kind(word)?)))
 }
 
 /// What the line of a refusal says after `refused: `.
@@ -224,6 +264,7 @@ fn refused(line: &[u8]) -> Option<Outcome<'_>> {
         "start" => start_outcome(text_at(line, 1)?),
         "object" => object_outcome(text_at(line, 1)?),
         "asm" => listing_outcome(line),
+        "program" => program_outcome(line),
         _ => None,
     }
 }

@@ -52,6 +52,18 @@ pub enum Place<'a> {
         block: u64,
         offset: u64,
     },
+    /// A token of a program, with its line.
+    Program {
+        line: u64,
+        text: Shown<'a>,
+        column: u64,
+        token: Shown<'a>,
+    },
+    /// The place behind the last byte of a program.
+    ProgramEnd {
+        line: u64,
+        column: u64,
+    },
     /// A rule of the machine, where no more is known of the token that it excludes.
     Rule(Rule),
 }
@@ -100,6 +112,23 @@ impl<'a> Place<'a> {
                 Number(number),
                 Number(block),
                 Number(offset),
+            ),
+            Place::Program {
+                line,
+                text,
+                column,
+                token,
+            } => four(
+                "line {} is `{}`; at column {} stands `{}`",
+                Number(line),
+                Bytes(text),
+                Number(column),
+                Bytes(token),
+            ),
+            Place::ProgramEnd { line, column } => two(
+                "the program ends at line {}, column {}",
+                Number(line),
+                Number(column),
             ),
             Place::Rule(rule) => two(
                 "rule {} excludes a token: {}",

@@ -17,6 +17,11 @@ fn object_advice(command: &str) -> &'static str {
     }
 }
 
+/// Whether a program begins with this line.
+fn is_program(first: &[u8]) -> bool {
+    first.starts_with(b"fn ") || first.starts_with(b"array ") || first.starts_with(b"//")
+}
+
 /// The cause for a text whose first line is not the header of a graph.
 fn no_header<'a>(text: &[u8], first: &[u8], command: &'a str) -> Cause<'a> {
     let cause = if text.is_empty() {
@@ -28,6 +33,8 @@ fn no_header<'a>(text: &[u8], first: &[u8], command: &'a str) -> Cause<'a> {
         TextCause::AListing { command }
     } else if text.starts_with(b"\xef\xbb\xbf") {
         TextCause::ByteOrderMark
+    } else if is_program(first) {
+        TextCause::AProgram { command }
     } else if first.ends_with(b"\r") {
         return Cause::Line(LineCause::CarriageReturn);
     } else if first == b"etsgraph 1".as_slice() || first == b"etsgraph 2".as_slice() {
@@ -70,6 +77,7 @@ fn has_line(cause: &Cause<'_>) -> bool {
             TextCause::Empty { .. }
                 | TextCause::AnObject { .. }
                 | TextCause::AListing { .. }
+                | TextCause::AProgram { .. }
                 | TextCause::BlockUnended { .. }
                 | TextCause::NoMain
         )

@@ -10,6 +10,7 @@ fn waits(word: &str) -> bool {
         && word != "--literals"
         && word != "--code"
         && word != "--svg"
+        && word != "--map"
         && !word.contains('=')
 }
 

@@ -12,11 +12,12 @@ use Rattle.law_source.specs.Below.{stores_below}
 use Rattle.law_source.specs.Means.{Stands, MeansExpr, MeansList, MeansBody}
 use Rattle.law_source.proofs.Having.{have_both}
 use Rattle.law_source.proofs.NamesAgree.{agrees_split, agrees_let}
-use Rattle.law_source.proofs.Counting.{list_count}
+use Rattle.source.proofs.Counting.{list_count}
 use Rattle.law_source.proofs.Ranges.{stores_both}
 use Rattle.law_source.proofs.Parts.{first_part, rest_part}
 
-module _ (p : Program) (g : Graph) (origin : ℕ → Origin) (inputs : List ℤ) (run : List Activity) (s : State) (r : Run (flow_of g) (start inputs) run s) (c : Context) where
+module _ (p : Program) (g : Graph) (origin : ℕ → Origin) (inputs : List ℤ) (run : List Activity) (s : State) (r : Run (flow_of g) (start inputs) run s)
+    (c : Context) where
   abbrev StandsIn : Site → Spot → Lowered → Type 0
   StandsIn site spot l = Stands p g origin inputs run s r c site spot l
 
@@ -25,9 +26,11 @@ module _ (p : Program) (g : Graph) (origin : ℕ → Origin) (inputs : List ℤ)
 
   -- the stores of two parts, one behind the other
   pub both_stored : (spot : Spot) (l k : Lowered) (ss us : Stores) → Makes ss spot.next (spot.next + length l.nodes)
-      → Makes us (spot.next + length l.nodes) (spot.next + length l.nodes + length k.nodes) → Makes (ss ++ us) spot.next (spot.next + length (l.nodes ++ k.nodes))
+      → Makes us (spot.next + length l.nodes) (spot.next + length l.nodes + length k.nodes)
+      → Makes (ss ++ us) spot.next (spot.next + length (l.nodes ++ k.nodes))
   both_stored spot l k ss us h i =
-      let long : spot.next + length l.nodes + length k.nodes ≡ spot.next + length (l.nodes ++ k.nodes) = let n = length-append l.nodes k.nodes in omega (arith, n) in
+      let long : spot.next + length l.nodes + length k.nodes ≡ spot.next + length (l.nodes ++ k.nodes) = let n = length-append l.nodes k.nodes in
+      omega (arith, n) in
       subst (λ n. Makes (ss ++ us) spot.next n) long
       (stores_both (flow_of g) run c spot.next (spot.next + length l.nodes) (spot.next + length l.nodes + length k.nodes) ss us (omega arith) (omega arith) h i)
 
@@ -37,7 +40,8 @@ module _ (p : Program) (g : Graph) (origin : ℕ → Origin) (inputs : List ℤ)
       let out = means site spot scope env names n fits rule h known in
       record { vs = out.vs; ss = out.ss; evaluated = one out.evaluated; have = out.have; stored = out.stored }
 
-  pub means_more : (e : Expr) (es : Exprs) → MeansExpr p g origin inputs run s r c e → MeansList p g origin inputs run s r c es → MeansList p g origin inputs run s r c (More e es)
+  pub means_more : (e : Expr) (es : Exprs) → MeansExpr p g origin inputs run s r c e → MeansList p g origin inputs run s r c es
+      → MeansList p g origin inputs run s r c (More e es)
   means_more e es first others site spot scope env names n fits rule h known =
       let l : Lowered = lower p site spot scope e in
       let k : Lowered = lower_list p site (spot_after spot l) scope es in
@@ -66,7 +70,8 @@ module _ (p : Program) (g : Graph) (origin : ℕ → Origin) (inputs : List ℤ)
       let out = means site spot scope env names n fits.2 rule h known in
       record { vs = out.vs; ss = out.ss; evaluated = chain out.evaluated; have = out.have; stored = out.stored }
 
-  pub means_do : (es : Exprs) (rest : Body) → MeansList p g origin inputs run s r c es → MeansBody p g origin inputs run s r c rest → MeansBody p g origin inputs run s r c (Do es rest)
+  pub means_do : (es : Exprs) (rest : Body) → MeansList p g origin inputs run s r c es → MeansBody p g origin inputs run s r c rest
+      → MeansBody p g origin inputs run s r c (Do es rest)
   means_do es rest first means site spot scope env names n behind_else fits rule h known =
       let l : Lowered = lower_list p site spot scope es in
       let k : Lowered = lower_body p site (spot_after spot l) scope rest in
@@ -84,7 +89,8 @@ module _ (p : Program) (g : Graph) (origin : ℕ → Origin) (inputs : List ℤ)
         stored = both_stored spot l k out.ss later.ss out.stored later.stored;
       }
 
-  pub means_let : (at : ℕ) (targets : List Target) (es : Exprs) (rest : Body) → MeansList p g origin inputs run s r c es → MeansBody p g origin inputs run s r c rest
+  pub means_let : (at : ℕ) (targets : List Target) (es : Exprs) (rest : Body) → MeansList p g origin inputs run s r c es
+      → MeansBody p g origin inputs run s r c rest
       → MeansBody p g origin inputs run s r c (Let at targets es rest)
   means_let at targets es rest first means site spot scope env names n behind_else fits rule h known =
       let l : Lowered = lower_list p site spot scope es in

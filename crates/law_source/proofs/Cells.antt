@@ -18,7 +18,7 @@ use Rattle.source.specs.Evaluates.{Evaluates, fetch, counted_from, place_from, p
 use Rattle.source.specs.Lowered.{Lowered, Site, Spot, made, ended, arrays_of, graph_of, lower}
 use Rattle.source.proofs.Kept.{in_fetch}
 use Rattle.law_source.specs.Means.{over, Stands, MeansExpr}
-use Rattle.law_source.proofs.Counting.{count_of}
+use Rattle.source.proofs.Counting.{count_of}
 use Rattle.law_source.proofs.Parts.{first_part}
 use Rattle.law_source.proofs.Leaves.{append_nothing, last_gives, last_quiet, last_told}
 use Rattle.law_source.proofs.Operators.{HasOneValue, one_each, same_value, told_at}
@@ -33,19 +33,22 @@ lens_in items = map (λ (a : Name × ℕ). a.1) (arrays_of items)
 record Found (items : List Item) (a : Name) (i : Value) (o : Origin) : Type 0 where
   pub at : ℕ
   pub placed : (n : ℕ) → graph.place_from n a (names_in items) ≡ n + at
-  pub cells : (base : ℕ) → place_from base items a i o ≡ counted_from (base + sum (take at (lens_in items))) (index_in (slice_index_or (lens_in items) at 0) i o)
+  pub cells : (base : ℕ) → place_from base items a i o ≡ counted_from (base + sum (take at (lens_in items)))
+      (index_in (slice_index_or (lens_in items) at 0) i o)
 
 found : (items : List Item) (a : Name) (i : Value) (o : Origin) → is_some (array_in items a) ≡ true → Found items a i o
 found [] a i o h = cc
 found (Defines g ∷ items) a i o h = let k = found items a i o h in record { at = k.at; placed = k.placed; cells = k.cells }
 found (Cells x len ∷ items) a i o h = go (same_name a x.name) refl h (λ h. found items a i o h)
   where
-    go : (t : Bool) → same_name a x.name ≡ t → is_some (if t then Some len.number else array_in items a) ≡ true → (is_some (array_in items a) ≡ true → Found items a i o) → Found (Cells x len ∷ items) a i o
+    go : (t : Bool) → same_name a x.name ≡ t → is_some (if t then Some len.number else array_in items a) ≡ true
+        → (is_some (array_in items a) ≡ true → Found items a i o) → Found (Cells x len ∷ items) a i o
     go true e h later = record {
       at = 0;
       placed = λ n. ap (λ (t : Bool). if t then n else graph.place_from (n + 1) a (names_in items)) e ∙ omega arith;
       cells = λ base.
-          let none : base ≡ base + sum (take 0 (lens_in (Cells x len ∷ items))) = let z : sum (take 0 (lens_in (Cells x len ∷ items))) ≡ 0 = refl in omega (arith, z) in
+          let none : base ≡ base + sum (take 0 (lens_in (Cells x len ∷ items))) = let z : sum (take 0 (lens_in (Cells x len ∷ items))) ≡ 0 = refl in
+          omega (arith, z) in
           ap (λ (t : Bool). if t then counted_from base (index_in len.number i o) else place_from (base + len.number) items a i o) e
           ∙ ap (λ b. counted_from b (index_in len.number i o)) none;
     }
@@ -56,7 +59,8 @@ found (Cells x len ∷ items) a i o h = go (same_name a x.name) refl h (λ h. fo
           cells = λ base.
               let more = sum_by-cons (λ (x : ℕ). x) len.number (take k.at (lens_in items)) in
               let same : sum (take (suc k.at) (lens_in (Cells x len ∷ items))) ≡ sum (len.number ∷ take k.at (lens_in items)) = refl in
-              let all : base + len.number + sum (take k.at (lens_in items)) ≡ base + sum (take (suc k.at) (lens_in (Cells x len ∷ items))) = omega (arith, more, same) in
+              let all : base + len.number + sum (take k.at (lens_in items)) ≡ base + sum (take (suc k.at) (lens_in (Cells x len ∷ items))) =
+              omega (arith, more, same) in
               ap (λ (t : Bool). if t then counted_from base (index_in len.number i o) else place_from (base + len.number) items a i o) e
               ∙ k.cells (base + len.number)
               ∙ ap (λ b. counted_from b (index_in (slice_index_or (lens_in items) k.at 0) i o)) all;
@@ -64,12 +68,14 @@ found (Cells x len ∷ items) a i o h = go (same_name a x.name) refl h (λ h. fo
 
 -- an array's cells in the graph
 pub cell_named : (p : Program) (g : Graph) → graph_of p ≡ g → (a : Name) (i : Value) (o : Origin) → is_some (array_in p a) ≡ true
-    → place_from 0 p a i o ≡ counted_from (first_cell (flow_of g) (graph.place_of a (array_names g))) (index_in (array_len (flow_of g) (graph.place_of a (array_names g))) i o)
+    → place_from 0 p a i o ≡ counted_from (first_cell (flow_of g) (graph.place_of a (array_names g)))
+    (index_in (array_len (flow_of g) (graph.place_of a (array_names g))) i o)
 cell_named p g is a i o h =
     let k = found p a i o h in
     let at : graph.place_of a (array_names (graph_of p)) ≡ k.at = k.placed 0 ∙ omega arith in
     let none : 0 + sum (take k.at (lens_in p)) ≡ sum (take k.at (lens_in p)) = omega arith in
-    subst (λ (g : Graph). place_from 0 p a i o ≡ counted_from (first_cell (flow_of g) (graph.place_of a (array_names g))) (index_in (array_len (flow_of g) (graph.place_of a (array_names g))) i o)) is
+    subst (λ (g : Graph). place_from 0 p a i o ≡ counted_from (first_cell (flow_of g) (graph.place_of a (array_names g)))
+    (index_in (array_len (flow_of g) (graph.place_of a (array_names g))) i o)) is
     (k.cells 0 ∙ ap (λ b. counted_from b (index_in (slice_index_or (lens_in p) k.at 0) i o)) none
     ∙ ap (λ n. counted_from (sum (take n (lens_in p))) (index_in (slice_index_or (lens_in p) n 0) i o)) (sym at))
 
@@ -84,7 +90,8 @@ module _ (p : Program) (g : Graph) (origin : ℕ → Origin) (inputs : List ℤ)
   pub two : g.version ≡ 2
   two = sym (ap (λ (g : Graph). g.version) is)
 
-  reads_it : (base : ℕ) (ix : Indexed) (v : Value) → Fetched (flow_of g) inputs run s r base ix v → Reads (over p g origin inputs run s r) (counted_from base ix) v
+  reads_it : (base : ℕ) (ix : Indexed) (v : Value) → Fetched (flow_of g) inputs run s r base ix v
+      → Reads (over p g origin inputs run s r) (counted_from base ix) v
   reads_it base (Outside w) v h = h
   reads_it base (Place n) v h = h
 
@@ -93,9 +100,11 @@ module _ (p : Program) (g : Graph) (origin : ℕ → Origin) (inputs : List ℤ)
       let l : Lowered = lower p site spot scope e in
       let m : Lowered = ended site spot l at (node.Fetch a) l.sources 1 in
       let rules = in_fetch p names at a e n rule in
-      let before : StandsIn site spot l = first_part p g origin inputs run s r c site spot l m (made site at (node.Fetch a) l.sources ∷ []) [] refl (sym (append_nothing l.blocks)) h in
+      let before : StandsIn site spot l = first_part p g origin inputs run s r c site spot l m (made site at (node.Fetch a) l.sources ∷ []) [] refl
+      (sym (append_nothing l.blocks)) h in
       let out = means site spot scope env names 1 fits rules.1.values before known in
-      let x : HasOneValue p g origin inputs run s r st two c l.sources out.vs = one_each p g origin inputs run s r st two c l.sources out.vs out.have (count_of p site spot scope e names 1 rules.1.values) in
+      let x : HasOneValue p g origin inputs run s r st two c l.sources out.vs = one_each p g origin inputs run s r st two c l.sources out.vs out.have
+      (count_of p site spot scope e names 1 rules.1.values) in
       let v = last_gives p g origin inputs run s r st c site spot l at (node.Fetch a) l.sources h (omega arith) in
       let n' : ℕ = spot.next + length l.nodes in
       let array : ℕ = graph.place_of a (array_names g) in

@@ -39,35 +39,48 @@ module _ (p : Program) (g : Graph) (origin : ℕ → Origin) (inputs : List ℤ)
   Equals n v kind ss = LineEquation (flow_of g) inputs run s r c n 0 v kind ss
 
   -- A PART THAT ENDS WITH ONE LINE MORE: the line's value, and its stores, if it is quiet
-  module _ (site : Site) (spot : Spot) (l : Lowered) (at : ℕ) (kind : Kind Name) (ss : List Source) (h : StandsIn site spot (ended site spot l at kind ss 1)) where
+  module _ (site : Site) (spot : Spot) (l : Lowered) (at : ℕ) (kind : Kind Name) (ss : List Source)
+      (h : StandsIn site spot (ended site spot l at kind ss 1)) where
     abbrev pub own : ℕ
     own = spot.next + length l.nodes
 
     last : StandsIn site (spot_after spot l) (record { nodes = made site at kind ss ∷ []; sources = []; blocks = [] })
-    last = rest_part p g origin inputs run s r c site spot l (record { nodes = made site at kind ss ∷ []; sources = []; blocks = [] }) (ended site spot l at kind ss 1) refl (sym (append_nothing l.blocks)) h
+    last = rest_part p g origin inputs run s r c site spot l (record { nodes = made site at kind ss ∷ []; sources = []; blocks = [] })
+        (ended site spot l at kind ss 1) refl (sym (append_nothing l.blocks)) h
 
-    pub last_gives : 0 < ports_of (flow_of g) (resolved g (made site at kind ss)).kind ss → (v : Value) × HasIt (port own 0) v × Equals own v (resolved g (made site at kind ss)).kind ss
+    pub last_gives : 0 < ports_of (flow_of g) (resolved g (made site at kind ss)).kind ss → (v : Value) × HasIt (port own 0) v × Equals own v
+        (resolved g (made site at kind ss)).kind ss
     last_gives low =
         line_gives (flow_of g) inputs run s r st c last.block own 0 (resolved g (made site at kind ss))
         (block_is p g origin inputs run s r c site (spot_after spot l) (record { nodes = made site at kind ss ∷ []; sources = []; blocks = [] }) last) last.due
-        (own_line p g origin inputs run s r c site (spot_after spot l) (record { nodes = made site at kind ss ∷ []; sources = []; blocks = [] }) (made site at kind ss) [] refl last).0
+        (own_line p g origin inputs run s r c site (spot_after spot l) (record { nodes = made site at kind ss ∷ []; sources = []; blocks = [] })
+        (made site at kind ss) [] refl last).0
         last.taken low
 
     pub last_node : node_of (flow_of g) c own ≡ Some (resolved g (made site at kind ss))
     last_node =
-        ap (λ o. node_in o own) (block_is p g origin inputs run s r c site (spot_after spot l) (record { nodes = made site at kind ss ∷ []; sources = []; blocks = [] }) last)
-        ∙ (own_line p g origin inputs run s r c site (spot_after spot l) (record { nodes = made site at kind ss ∷ []; sources = []; blocks = [] }) (made site at kind ss) [] refl last).0
+        ap (λ o. node_in o own) (block_is p g origin inputs run s r c site (spot_after spot l)
+        (record { nodes = made site at kind ss ∷ []; sources = []; blocks = [] }) last)
+        ∙ (own_line p g origin inputs run s r c site (spot_after spot l) (record { nodes = made site at kind ss ∷ []; sources = []; blocks = [] })
+        (made site at kind ss) [] refl last).0
 
     pub last_told : (i : ℕ) × (block_number (flow_of g) c ≡ Some i) × (MayFail kind → origin at ≡ At i own)
-    last_told = (last.number, last.is_number, (own_line p g origin inputs run s r c site (spot_after spot l) (record { nodes = made site at kind ss ∷ []; sources = []; blocks = [] }) (made site at kind ss) [] refl last).1)
+    last_told = (
+      last.number,
+      last.is_number,
+      (own_line p g origin inputs run s r c site (spot_after spot l)
+          (record { nodes = made site at kind ss ∷ []; sources = []; blocks = [] }) (made site at kind ss) [] refl last).1,
+    )
 
     pub last_quiet : (us : Stores) → IsQuiet (resolved g (made site at kind ss)).kind → IsPermutation us (stores_below (flow_of g) run c spot.next own)
         → IsPermutation us (stores_below (flow_of g) run c spot.next (spot.next + length (ended site spot l at kind ss 1).nodes))
     last_quiet us silent k =
         let none : IsPermutation [] (stores_below (flow_of g) run c own (own + 1)) =
-        subst (λ l. IsPermutation [] l) (sym (quiet (flow_of g) inputs run s r st c own (resolved g (made site at kind ss)) last_node silent)) (IsPermutation-refl []) in
+        subst (λ l. IsPermutation [] l) (sym (quiet (flow_of g) inputs run s r st c own (resolved g (made site at kind ss)) last_node silent))
+        (IsPermutation-refl []) in
         let both = stores_both (flow_of g) run c spot.next own (own + 1) us [] (omega arith) (omega arith) k none in
-        let long : own + 1 ≡ spot.next + length (ended site spot l at kind ss 1).nodes = let n = length-append l.nodes (made site at kind ss ∷ []) in omega (arith, n) in
+        let long : own + 1 ≡ spot.next + length (ended site spot l at kind ss 1).nodes = let n = length-append l.nodes (made site at kind ss ∷ []) in
+        omega (arith, n) in
         subst (λ n. IsPermutation us (stores_below (flow_of g) run c spot.next n)) long
         (subst (λ us. IsPermutation us (stores_below (flow_of g) run c spot.next (own + 1))) (append_nothing us) both)
 

@@ -59,7 +59,8 @@ module _ (fl : Flow) (inputs : List ℤ) (run : List Activity) (s : State) (r : 
   abbrev ResultOf : Option Source → Value → Type 0
   ResultOf o v = HasSome fl inputs run s r Main o v
 
-  pub outputs_shown : (b : Block ℕ) (vs : List Value) → block_of fl Main ≡ Some b → Have fl inputs run s r Main b.results vs → (j : ℕ) → s.memory.outputs j ≡ slice_get vs j
+  pub outputs_shown : (b : Block ℕ) (vs : List Value) → block_of fl Main ≡ Some b → Have fl inputs run s r Main b.results vs → (j : ℕ)
+      → s.memory.outputs j ≡ slice_get vs j
   outputs_shown b vs eb h j = go (slice_get vs j) refl
     where
       at : result_at fl Main j ≡ slice_get b.results j

@@ -24,7 +24,7 @@ use Rattle.law_source.specs.Holds.{resolved}
 use Rattle.law_source.specs.Below.{stores_below}
 use Rattle.law_source.specs.Means.{over, Stands, MeansExpr}
 use Rattle.law_source.proofs.NamesAgree.{agrees_split}
-use Rattle.law_source.proofs.Counting.{count_of}
+use Rattle.source.proofs.Counting.{count_of}
 use Rattle.law_source.proofs.Ranges.{stores_both}
 use Rattle.law_source.proofs.StoreLines.{IsStore}
 use Rattle.law_source.proofs.StoredOnce.{one_store, no_store}
@@ -69,7 +69,8 @@ module _ (p : Program) (g : Graph) (origin : ℕ → Origin) (inputs : List ℤ)
         let one = one_store (flow_of g) inputs run s r st c n line el (subst (λ k. IsStore k) (sym ek) tt) (first_cell (flow_of g) a + q) y h.2 in
         (h.0, subst (λ l. IsPermutation ((first_cell (flow_of g) a + q, y) ∷ []) l) (sym one) (IsPermutation-refl ((first_cell (flow_of g) a + q, y) ∷ [])))
 
-    pub means_store : (at : ℕ) (a : Name) (e d : Expr) → MeansExpr p g origin inputs run s r c e → MeansExpr p g origin inputs run s r c d → MeansExpr p g origin inputs run s r c (Store at a e d)
+    pub means_store : (at : ℕ) (a : Name) (e d : Expr) → MeansExpr p g origin inputs run s r c e → MeansExpr p g origin inputs run s r c d
+        → MeansExpr p g origin inputs run s r c (Store at a e d)
     means_store at a e d left right site spot scope env names n fits rule h known =
         let l : Lowered = lower p site spot scope e in
         let k : Lowered = lower p site (spot_after spot l) scope d in
@@ -77,14 +78,17 @@ module _ (p : Program) (g : Graph) (origin : ℕ → Origin) (inputs : List ℤ)
         let m : Lowered = ended site spot both at (node.Store a) both.sources 1 in
         let rules = in_store p names at a e d n rule in
         let agree = agrees_split (flow_of g) inputs run s r c scope env (uses e) (uses d) known in
-        let all : StandsIn site spot both = first_part p g origin inputs run s r c site spot both m (made site at (node.Store a) both.sources ∷ []) [] refl (sym (append_nothing both.blocks)) h in
+        let all : StandsIn site spot both = first_part p g origin inputs run s r c site spot both m (made site at (node.Store a) both.sources ∷ []) [] refl
+        (sym (append_nothing both.blocks)) h in
         let before : StandsIn site spot l = first_part p g origin inputs run s r c site spot l both k.nodes k.blocks refl refl all in
         let behind : StandsIn site (spot_after spot l) k = rest_part p g origin inputs run s r c site spot l k both refl refl all in
         let out = left site spot scope env names 1 fits.0 rules.1.values before agree.0 in
         let later = right site (spot_after spot l) scope env names 1 fits.1 rules.2.values behind agree.1 in
         let t = two p g origin inputs run s r st is c in
-        let x : HasOneValue p g origin inputs run s r st t c l.sources out.vs = one_each p g origin inputs run s r st t c l.sources out.vs out.have (count_of p site spot scope e names 1 rules.1.values) in
-        let y : HasOneValue p g origin inputs run s r st t c k.sources later.vs = one_each p g origin inputs run s r st t c k.sources later.vs later.have (count_of p site (spot_after spot l) scope d names 1 rules.2.values) in
+        let x : HasOneValue p g origin inputs run s r st t c l.sources out.vs = one_each p g origin inputs run s r st t c l.sources out.vs out.have
+        (count_of p site spot scope e names 1 rules.1.values) in
+        let y : HasOneValue p g origin inputs run s r st t c k.sources later.vs = one_each p g origin inputs run s r st t c k.sources later.vs later.have
+        (count_of p site (spot_after spot l) scope d names 1 rules.2.values) in
         let v = last_gives p g origin inputs run s r st c site spot both at (node.Store a) both.sources h (omega arith) in
         let n' : ℕ = spot.next + length both.nodes in
         let array : ℕ = graph.place_of a (array_names g) in
@@ -96,13 +100,17 @@ module _ (p : Program) (g : Graph) (origin : ℕ → Origin) (inputs : List ℤ)
         let index : eq.0 ≡ x.value = same_value p g origin inputs run s r st t c x.source eq.0 x.value eq.2 x.has in
         let value : eq.1 ≡ y.value = same_value p g origin inputs run s r st t c y.source eq.1 y.value eq.3 y.has in
         let ix : Indexed = index_in (array_len (flow_of g) array) x.value (origin at) in
-        let place : index_in (array_len (flow_of g) array) eq.0 (origin_at (flow_of g) c n') ≡ ix = ap₂ (λ i o. index_in (array_len (flow_of g) array) i o) index o in
-        let storing = subst (λ w. Storing (flow_of g) inputs run s r c n' base w ix v.0) value (subst (λ ix. Storing (flow_of g) inputs run s r c n' base eq.1 ix v.0) place eq.4) in
-        let own = stored_so n' array (resolved g (made site at (node.Store a) both.sources)) x.source (last_node p g origin inputs run s r st c site spot both at (node.Store a) both.sources h) refl
+        let place : index_in (array_len (flow_of g) array) eq.0 (origin_at (flow_of g) c n') ≡ ix =
+        ap₂ (λ i o. index_in (array_len (flow_of g) array) i o) index o in
+        let storing = subst (λ w. Storing (flow_of g) inputs run s r c n' base w ix v.0) value
+        (subst (λ ix. Storing (flow_of g) inputs run s r c n' base eq.1 ix v.0) place eq.4) in
+        let own = stored_so n' array (resolved g (made site at (node.Store a) both.sources)) x.source
+        (last_node p g origin inputs run s r st c site spot both at (node.Store a) both.sources h) refl
         (ap (λ ss. slice_get ss 0) list) x.value y.value v.0 x.has ix (ap (λ o. index_in (array_len (flow_of g) array) x.value o) o) storing in
         let named : place_from 0 p a x.value (origin at) ≡ counted_from base ix = cell_named p g is a x.value (origin at) rules.0 in
         let ours = both_stored p g origin inputs run s r c spot l k out.ss later.ss out.stored later.stored in
-        let whole = stores_both (flow_of g) run c spot.next n' (n' + 1) (out.ss ++ later.ss) (filled (counted_from base ix) y.value) (omega arith) (omega arith) ours own.1 in
+        let whole = stores_both (flow_of g) run c spot.next n' (n' + 1) (out.ss ++ later.ss) (filled (counted_from base ix) y.value) (omega arith)
+        (omega arith) ours own.1 in
         let long : n' + 1 ≡ spot.next + length m.nodes = let z = length-append both.nodes (made site at (node.Store a) both.sources ∷ []) in omega (arith, z) in
         record {
           vs = answer (place_from 0 p a x.value (origin at)) y.value ∷ [];
@@ -110,6 +118,8 @@ module _ (p : Program) (g : Graph) (origin : ℕ → Origin) (inputs : List ℤ)
           evaluated = eval.store (subst (λ vs. Evaluates (over p g origin inputs run s r) env e vs out.ss) x.values out.evaluated)
               (subst (λ vs. Evaluates (over p g origin inputs run s r) env d vs later.ss) y.values later.evaluated);
           have = (subst (λ v. HasIt (port n' 0) v) (own.0 ∙ ap (λ ix. answer ix y.value) (sym named)) v.1, tt);
-          stored = subst (λ ix. IsPermutation (out.ss ++ later.ss ++ filled ix y.value) (stores_below (flow_of g) run c spot.next (spot.next + length m.nodes))) (sym named)
-              (subst (λ n. IsPermutation (out.ss ++ later.ss ++ filled (counted_from base ix) y.value) (stores_below (flow_of g) run c spot.next n)) long whole);
+          stored = subst (λ ix. IsPermutation (out.ss ++ later.ss ++ filled ix y.value) (stores_below (flow_of g) run c spot.next
+              (spot.next + length m.nodes))) (sym named)
+              (subst (λ n. IsPermutation (out.ss ++ later.ss ++ filled (counted_from base ix) y.value) (stores_below (flow_of g) run c spot.next n)) long
+              whole);
         }

@@ -6,14 +6,14 @@ use Rattle.tags.specs.declared.value.Value.{Value}
 use Rattle.semantics.specs.declared.graph.Source.{Source}
 use Rattle.semantics.specs.Graph.{Flow, same_name}
 use Rattle.semantics.specs.Meaning.{Context, State, Activity, Run, start}
-use Rattle.semantics.proofs.Lines.{same_name_is, same_name_itself}
+use Rattle.semantics.proofs.Lines.{same_name_is}
 use Rattle.law_values.specs.Equations.{Has}
 use Rattle.source.specs.Tree.{Name, NameAt, Target, Bind, Drop}
 use Rattle.source.specs.Outside.{is_in, without, once, bare, bound_by}
 use Rattle.source.specs.Evaluates.{Env, bound, entered, let_in}
 use Rattle.source.specs.Lowered.{Scope, source_in, scoped, let_scoped}
 use Rattle.law_source.specs.Agrees.{Knows, Agrees, Have}
-use Rattle.law_source.proofs.NamesUsed.{AreIn}
+use Rattle.source.proofs.NamesUsed.{AreIn, in_or}
 
 module _ (fl : Flow) (inputs : List ℤ) (run : List Activity) (s : State) (r : Run fl (start inputs) run s) (c : Context) where
   abbrev HasIt : Source → Value → Type 0
@@ -33,7 +33,8 @@ module _ (fl : Flow) (inputs : List ℤ) (run : List Activity) (s : State) (r : 
   agrees_split scope env [] ys h = (tt, h)
   agrees_split scope env (x ∷ xs) ys h = let k = agrees_split scope env xs ys h.1 in ((h.0, k.0), k.1)
 
-  pub agrees_each : (scope : Scope) (env : Env) (names xs : List Name) → ((x : Name) → is_in x names ≡ true → KnowsIt scope env x) → AreIn names xs → AgreesIt scope env xs
+  pub agrees_each : (scope : Scope) (env : Env) (names xs : List Name) → ((x : Name) → is_in x names ≡ true → KnowsIt scope env x) → AreIn names xs
+      → AgreesIt scope env xs
   agrees_each scope env names [] f h = tt
   agrees_each scope env names (x ∷ xs) f h = (f x h.0, agrees_each scope env names xs f h.1)
 
@@ -54,17 +55,10 @@ module _ (fl : Flow) (inputs : List ℤ) (run : List Activity) (s : State) (r : 
   abbrev Bound : Bool → Value → Env → Source → Scope → Name → Type 0
   Bound t v env x scope name = (w : Value) × ((if t then Some v else bound env name) ≡ Some w) × HasIt (if t then x else source_in scope name) w
 
-  front : (t : Bool) (v : Value) (env : Env) (x : Source) (scope : Scope) (name : Name) → HasIt x v → (t ≡ false → KnowsIt scope env name) → Bound t v env x scope name
+  front : (t : Bool) (v : Value) (env : Env) (x : Source) (scope : Scope) (name : Name) → HasIt x v → (t ≡ false → KnowsIt scope env name)
+      → Bound t v env x scope name
   front true v env x scope name h k = (v, refl, h)
   front false v env x scope name h k = k refl
-
-  in_rest : (t u : Bool) → (t || u) ≡ true → t ≡ false → u ≡ true
-  in_rest true u h e = cc
-  in_rest false u h e = h
-
-  not_rest : (t u : Bool) → (t || u) ≡ false → u ≡ false
-  not_rest true u h = cc
-  not_rest false u h = h
 
   -- a name of the list has the value in its place
   pub known_in : (xs : List NameAt) (ss : List Source) (vs : List Value) (scope : Scope) (env : Env) → HaveIt ss vs → length xs ≡ length ss
@@ -74,7 +68,7 @@ module _ (fl : Flow) (inputs : List ℤ) (run : List Activity) (s : State) (r : 
   known_in (y ∷ xs) (z ∷ ss) [] scope env h e x k = absurd h
   known_in (y ∷ xs) (z ∷ ss) (v ∷ vs) scope env h e x k =
       front (same_name x y.name) v (entered xs vs env) z (scoped (bare xs) ss scope) x h.0
-      (λ f. known_in xs ss vs scope env h.1 (omega (arith, e)) x (in_rest (same_name x y.name) (is_in x (bare xs)) k f))
+      (λ f. known_in xs ss vs scope env h.1 (omega (arith, e)) x (in_or (same_name x y.name) (is_in x (bare xs)) k f))
 
   -- and any other name what it had
   pub known_past : (xs : List NameAt) (ss : List Source) (vs : List Value) (scope : Scope) (env : Env) → HaveIt ss vs
@@ -125,7 +119,8 @@ module _ (fl : Flow) (inputs : List ℤ) (run : List Activity) (s : State) (r : 
   Entered env (x ∷ xs) [] = ⊥
   Entered env (x ∷ xs) (z ∷ ss) = ((v : Value) × (bound env x ≡ Some v) × HasIt z v) × Entered env xs ss
 
-  arm_known : (env : Env) (xs : List Name) (ss : List Source) (scope : Scope) → Entered env xs ss → (x : Name) → is_in x xs ≡ true → KnowsIt (scoped xs ss scope) env x
+  arm_known : (env : Env) (xs : List Name) (ss : List Source) (scope : Scope) → Entered env xs ss → (x : Name) → is_in x xs ≡ true
+      → KnowsIt (scoped xs ss scope) env x
   arm_known env [] ss scope h x k = cc
   arm_known env (y ∷ xs) [] scope h x k = absurd h
   arm_known env (y ∷ xs) (z ∷ ss) scope h x k = go (same_name x y) refl (λ e. arm_known env xs ss scope h.1 x e)
@@ -133,37 +128,8 @@ module _ (fl : Flow) (inputs : List ℤ) (run : List Activity) (s : State) (r : 
       go : (t : Bool) → same_name x y ≡ t → (is_in x xs ≡ true → KnowsIt (scoped xs ss scope) env x)
           → (w : Value) × (bound env x ≡ Some w) × HasIt (if t then z else source_in (scoped xs ss scope) x) w
       go true e later = (h.0.0, ap (bound env) (same_name_is x y e) ∙ h.0.1, h.0.2)
-      go false e later = later (in_rest (same_name x y) (is_in x xs) k e)
+      go false e later = later (in_or (same_name x y) (is_in x xs) k e)
 
-  pub agrees_arm : (env : Env) (xs : List Name) (ss : List Source) (scope : Scope) → Entered env xs ss → (ys : List Name) → AreIn xs ys → AgreesIt (scoped xs ss scope) env ys
+  pub agrees_arm : (env : Env) (xs : List Name) (ss : List Source) (scope : Scope) → Entered env xs ss → (ys : List Name) → AreIn xs ys
+      → AgreesIt (scoped xs ss scope) env ys
   agrees_arm env xs ss scope h ys k = agrees_each (scoped xs ss scope) env xs ys (λ x e. arm_known env xs ss scope h x e) k
-
--- each use is one of the outside names
-in_some : (x y : Name) (xs : List Name) → is_in y xs ≡ true → same_name x y ≡ false → is_in y (filter (λ z. not (same_name x z)) xs) ≡ true
-in_some x y [] h e = cc
-in_some x y (z ∷ xs) h e = go (same_name y z) (same_name x z) refl refl h (λ k. in_some x y xs k e)
-  where
-    go : (t u : Bool) → same_name y z ≡ t → same_name x z ≡ u → (t || is_in y xs) ≡ true
-        → (is_in y xs ≡ true → is_in y (filter (λ z. not (same_name x z)) xs) ≡ true)
-        → is_in y (if not u then z ∷ filter (λ z. not (same_name x z)) xs else filter (λ z. not (same_name x z)) xs) ≡ true
-    go true true f g k later =
-        let same = same_name_is y z f in let other = ap (same_name x) same in absurd (cc)
-    go true false f g k later = ap (λ (t : Bool). t || is_in y (filter (λ z. not (same_name x z)) xs)) f
-    go false true f g k later = later k
-    go false false f g k later = ap (λ (t : Bool). t || is_in y (filter (λ z. not (same_name x z)) xs)) f ∙ later k
-
-in_once : (x : Name) (xs ys : List Name) → AreIn (once xs) ys → AreIn (once (x ∷ xs)) ys
-in_once x xs [] h = tt
-in_once x xs (y ∷ ys) h = (go (same_name y x) refl, in_once x xs ys h.1)
-  where
-    go : (t : Bool) → same_name y x ≡ t → (same_name y x || is_in y (filter (λ z. not (same_name x z)) (once xs))) ≡ true
-    go true e = ap (λ (t : Bool). t || is_in y (filter (λ z. not (same_name x z)) (once xs))) e
-    go false e = ap (λ (t : Bool). t || is_in y (filter (λ z. not (same_name x z)) (once xs))) e ∙ in_some x y (once xs) h.0 (turned (same_name x y) refl)
-      where
-        turned : (u : Bool) → same_name x y ≡ u → same_name x y ≡ false
-        turned false f = f
-        turned true f = let same = same_name_is x y f in let self = same_name_itself y in let k = ap (λ x. same_name y x) same in absurd (cc)
-
-pub uses_once : (xs : List Name) → AreIn (once xs) xs
-uses_once [] = tt
-uses_once (x ∷ xs) = (ap (λ (t : Bool). t || is_in x (filter (λ z. not (same_name x z)) (once xs))) (same_name_itself x), in_once x xs xs (uses_once xs))

@@ -25,7 +25,7 @@ use Rattle.source.proofs.Kept.{in_prefix, in_infix}
 use Rattle.law_source.specs.Agrees.{Have}
 use Rattle.law_source.specs.Means.{over, Stands, Comes, MeansExpr}
 use Rattle.law_source.proofs.NamesAgree.{agrees_split}
-use Rattle.law_source.proofs.Counting.{count_of}
+use Rattle.source.proofs.Counting.{count_of}
 use Rattle.law_source.proofs.Parts.{first_part, rest_part}
 use Rattle.law_source.proofs.Bodies.{both_stored}
 use Rattle.law_source.proofs.Leaves.{append_nothing, last_gives, last_quiet, last_told, no_stores}
@@ -72,10 +72,12 @@ module _ (p : Program) (g : Graph) (origin : ℕ → Origin) (inputs : List ℤ)
         ss = [];
         evaluated = prefix number;
         have = (subst (λ v. HasIt (port (spot.next + length (only []).nodes) 0) v) v.2 v.1, tt);
-        stored = last_quiet p g origin inputs run s r st c site spot (only []) at (node.Lit (on_int Neg (signed k))) (site.trigger ∷ []) h [] tt (no_stores p g origin inputs run s r st c spot.next);
+        stored = last_quiet p g origin inputs run s r st c site spot (only []) at (node.Lit (on_int Neg (signed k))) (site.trigger ∷ []) h [] tt
+            (no_stores p g origin inputs run s r st c spot.next);
       }
 
-  prefixed_means : (at : ℕ) (op : Unary) (e : Expr) → ((site : Site) (spot : Spot) (l : Lowered) → prefixed site spot at op e l ≡ ended site spot l at (node.Apply1 op) l.sources 1)
+  prefixed_means : (at : ℕ) (op : Unary) (e : Expr) → ((site : Site) (spot : Spot) (l : Lowered)
+      → prefixed site spot at op e l ≡ ended site spot l at (node.Apply1 op) l.sources 1)
       → ((Fits e ⊎ IsLeast op e) → Fits e) → MeansExpr p g origin inputs run s r c e → MeansExpr p g origin inputs run s r c (Prefix at op e)
   prefixed_means at op e is fit means site spot scope env names n fits rule h known =
       let l : Lowered = lower p site spot scope e in
@@ -83,14 +85,16 @@ module _ (p : Program) (g : Graph) (origin : ℕ → Origin) (inputs : List ℤ)
       let rules = in_prefix p names at op e n rule in
       let same : prefixed site spot at op e l ≡ m = is site spot l in
       let here : StandsIn site spot m = subst (λ m. StandsIn site spot m) same h in
-      let before : StandsIn site spot l = first_part p g origin inputs run s r c site spot l m (made site at (node.Apply1 op) l.sources ∷ []) [] refl (sym (append_nothing l.blocks)) here in
+      let before : StandsIn site spot l = first_part p g origin inputs run s r c site spot l m (made site at (node.Apply1 op) l.sources ∷ []) [] refl
+      (sym (append_nothing l.blocks)) here in
       let out = means site spot scope env names 1 (fit fits.1) rules.0.values before known in
       let x : HasOneValue l.sources out.vs = one_each l.sources out.vs out.have (count_of p site spot scope e names 1 rules.0.values) in
       let v = last_gives p g origin inputs run s r st c site spot l at (node.Apply1 op) l.sources here (omega arith) in
       let n' : ℕ = spot.next + length l.nodes in
       let eq = subst (λ ss. LineEquation (flow_of g) inputs run s r c n' 0 v.0 (node.Apply1 op) ss) x.sources v.2 in
       let value : v.0 ≡ apply1 op x.value = eq.2 ∙ ap (apply1 op) (same_value x.source eq.0 x.value eq.1 x.has) in
-      subst (λ m. Comes p g origin inputs run s r c (Evaluates (over p g origin inputs run s r) env (Prefix at op e)) m.sources spot.next (spot.next + length m.nodes)) (sym same)
+      subst (λ m. Comes p g origin inputs run s r c (Evaluates (over p g origin inputs run s r) env (Prefix at op e)) m.sources spot.next
+      (spot.next + length m.nodes)) (sym same)
       (record {
         vs = apply1 op x.value ∷ [];
         ss = out.ss;
@@ -136,7 +140,8 @@ module _ (p : Program) (g : Graph) (origin : ℕ → Origin) (inputs : List ℤ)
       let rules = in_infix p names at sign e d n rule in
       let agree = agrees_split (flow_of g) inputs run s r c scope env (uses e) (uses d) known in
       let both : StandsIn site spot (joined l k) =
-      first_part p g origin inputs run s r c site spot (joined l k) m (made site at (node.Apply2 (operator_of sign)) ss ∷ []) [] refl (sym (append_nothing (joined l k).blocks)) h in
+      first_part p g origin inputs run s r c site spot (joined l k) m (made site at (node.Apply2 (operator_of sign)) ss ∷ []) [] refl
+      (sym (append_nothing (joined l k).blocks)) h in
       let before : StandsIn site spot l = first_part p g origin inputs run s r c site spot l (joined l k) k.nodes k.blocks refl refl both in
       let behind : StandsIn site (spot_after spot l) k = rest_part p g origin inputs run s r c site spot l k (joined l k) refl refl both in
       let out = left site spot scope env names 1 fits.0 rules.0.values before agree.0 in

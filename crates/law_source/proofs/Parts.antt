@@ -12,9 +12,11 @@ use Rattle.law_values.specs.Settled.{Settled}
 use Rattle.law_values.proofs.GraphForms.{line_past, ports_line_at}
 use Rattle.source.specs.Tree.{Program}
 use Rattle.source.specs.Lowered.{Made, MadeBlock, Lowered, Site, Spot, spot_after}
-use Rattle.law_source.specs.Holds.{Holds, resolved, MayFail, AreTold, HasBlocks}
+use Rattle.source.specs.Holds.{Holds}
+use Rattle.law_source.specs.Holds.{resolved, MayFail, AreTold, HasBlocks}
 use Rattle.law_source.specs.Means.{Stands}
-use Rattle.law_source.proofs.Holding.{holds_split, told_split, blocks_split, resolved_append}
+use Rattle.source.proofs.Holding.{holds_split}
+use Rattle.law_source.proofs.Holding.{told_split, blocks_split, resolved_append}
 
 -- A LINE of an invocation that is due, where its region is taken: each port has a value, which satisfies its equation.
 module _ (fl : Flow) (inputs : List ℤ) (run : List Activity) (s : State) (r : Run fl (start inputs) run s) (st : Settled fl inputs run s r) where
@@ -38,7 +40,8 @@ module _ (p : Program) (g : Graph) (origin : ℕ → Origin) (inputs : List ℤ)
   StandsHere at l = Stands p g origin inputs run s r c site at l
 
   -- what stands before the rest
-  pub first_part : (l m : Lowered) (ns : List Made) (bs : List MadeBlock) → m.nodes ≡ l.nodes ++ ns → m.blocks ≡ l.blocks ++ bs → StandsHere spot m → StandsHere spot l
+  pub first_part : (l m : Lowered) (ns : List Made) (bs : List MadeBlock) → m.nodes ≡ l.nodes ++ ns → m.blocks ≡ l.blocks ++ bs → StandsHere spot m
+      → StandsHere spot l
   first_part l m ns bs en eb h =
       record {
         number = h.number;
@@ -76,7 +79,8 @@ module _ (p : Program) (g : Graph) (origin : ℕ → Origin) (inputs : List ℤ)
       }
 
   -- the first line
-  pub own_line : (l : Lowered) (m : Made) (ms : List Made) → l.nodes ≡ m ∷ ms → (h : StandsHere spot l) → (node_at h.block spot.next ≡ Some (resolved g m)) × (MayFail m.node.kind → origin m.at ≡ At h.number spot.next)
+  pub own_line : (l : Lowered) (m : Made) (ms : List Made) → l.nodes ≡ m ∷ ms → (h : StandsHere spot l)
+      → (node_at h.block spot.next ≡ Some (resolved g m)) × (MayFail m.node.kind → origin m.at ≡ At h.number spot.next)
   own_line l m ms e h =
       ((subst (λ ms. Holds h.block spot.next (map (resolved g) ms)) e h.lines).0, (subst (λ ms. AreTold origin h.number spot.next ms) e h.told).0)
 

@@ -15,7 +15,7 @@ use Rattle.law_source.specs.Holds.{AreTold, HasBlock, HasBlocks, block_place, bl
 use Rattle.law_source.specs.Theorem.{PlacesFromOrigins}
 use Rattle.law_source.proofs.MainStands.{graph_is}
 
-get_left : {X : Type 0} (xs ys : List X) (i : ℕ) (x : X) → slice_get xs i ≡ Some x → slice_get (xs ++ ys) i ≡ Some x
+pub get_left : {X : Type 0} (xs ys : List X) (i : ℕ) (x : X) → slice_get xs i ≡ Some x → slice_get (xs ++ ys) i ≡ Some x
 get_left [] ys i x e = cc
 get_left (y ∷ xs) ys zero x e = e
 get_left (y ∷ xs) ys (suc i) x e = get_left xs ys i x e
@@ -63,11 +63,13 @@ stands_at p [] f h e = cc
 stands_at p (Cells x len ∷ items) f h e = let at = stands_at p items f h e in record { from = at.from; made = at.made; graph = at.graph }
 stands_at p (Defines k ∷ items) f h e = go (same_name f k.name.name) e (λ e. stands_at p items f h e)
   where
-    go : (t : Bool) → (if t then Some k else function_in items f) ≡ Some h → (function_in items f ≡ Some h → StandsAt p items h) → StandsAt p (Defines k ∷ items) h
+    go : (t : Bool) → (if t then Some k else function_in items f) ≡ Some h → (function_in items f ≡ Some h → StandsAt p items h)
+        → StandsAt p (Defines k ∷ items) h
     go true e later = subst (λ h. StandsAt p (Defines k ∷ items) h) (same_Some k h e) (first_stands p k items)
     go false e later = later_stands p k h items (later e)
 
-each_has : (g : Graph) (origin : ℕ → Origin) (f : Name) (bs : List MadeBlock) → ((j : ℕ) (b : MadeBlock) → slice_get bs j ≡ Some b → HasBlock g origin f b) → HasBlocks g origin f bs
+each_has : (g : Graph) (origin : ℕ → Origin) (f : Name) (bs : List MadeBlock) → ((j : ℕ) (b : MadeBlock) → slice_get bs j ≡ Some b → HasBlock g origin f b)
+    → HasBlocks g origin f bs
 each_has g origin f [] h = tt
 each_has g origin f (b ∷ bs) h = (h 0 b refl, each_has g origin f bs (λ j b e. h (suc j) b e))
 
@@ -77,7 +79,8 @@ module _ (p : Program) (g : Graph) (origin : ℕ → Origin) (is : graph_of p �
   has : (j : ℕ) (b : MadeBlock) → slice_get (function_blocks p h) j ≡ Some b → HasBlock g origin h.name.name b
   has j b e =
       let i = at.from + j in
-      let got : slice_get g.blocks i ≡ Some (graph_block h.name.name b) = subst (λ (g : Graph). slice_get g.blocks i ≡ Some (graph_block h.name.name b)) is (at.graph j b e) in
+      let got : slice_get g.blocks i ≡ Some (graph_block h.name.name b) = subst (λ (g : Graph). slice_get g.blocks i ≡ Some (graph_block h.name.name b)) is
+      (at.graph j b e) in
       let name = block_name h.name.name b.loop in
       let named = map_get (λ (b : List ℕ × Block (List ℕ)). b.0) g.blocks i (graph_block h.name.name b) got in
       let same : i ≡ block_place g h.name.name b = well.blocks_differ i (place_of name (block_names g)) name named (place_get name (block_names g) i named) in

@@ -14,7 +14,7 @@ put_behind x [] ys = put_first x ys
 put_behind x (y ∷ xs) ys = put_later x y (xs ++ ys) (xs ++ x ∷ ys) (put_behind x xs ys)
 
 -- each element that one of two tests keeps, and no element that both keep
-perm_filters : {X : Type 0} (f g h : X → Bool) → ((x : X) → h x ≡ (f x || g x)) → ((x : X) → (f x && g x) ≡ false) → (xs : List X)
+pub perm_filters : {X : Type 0} (f g h : X → Bool) → ((x : X) → h x ≡ (f x || g x)) → ((x : X) → (f x && g x) ≡ false) → (xs : List X)
     → Perm (filter h xs) (filter f xs ++ filter g xs)
 perm_filters f g h all apart [] = refl
 perm_filters {X} f g h all apart (x ∷ xs) = go (f x) (g x) (h x) refl refl (all x) (apart x) (perm_filters f g h all apart xs)
@@ -84,21 +84,25 @@ module _ (fl : Flow) (run : List Activity) (c : Context) where
 
   -- a range without nodes makes no store
   pub stores_none : (n : ℕ) → stores_below fl run c n n ≡ []
-  stores_none n = ap (λ (us : List Stored). map cell_and_value us) (none_kept (λ (w : Stored). is_below c n n w.context w.node) (stores_of fl run) (λ w. range_empty n (node_under c w.context w.node)))
+  stores_none n = ap (λ (us : List Stored). map cell_and_value us) (none_kept (λ (w : Stored). is_below c n n w.context w.node) (stores_of fl run)
+      (λ w. range_empty n (node_under c w.context w.node)))
 
   -- and one of two parts makes those of both
-  pub stores_split : (lo mid hi : ℕ) → lo ≤ mid → mid ≤ hi → IsPermutation (stores_below fl run c lo mid ++ stores_below fl run c mid hi) (stores_below fl run c lo hi)
+  pub stores_split : (lo mid hi : ℕ) → lo ≤ mid → mid ≤ hi → IsPermutation (stores_below fl run c lo mid ++ stores_below fl run c mid hi)
+      (stores_below fl run c lo hi)
   stores_split lo mid hi low high =
       let f : Stored → Bool = λ w. is_below c lo mid w.context w.node in
       let g : Stored → Bool = λ w. is_below c mid hi w.context w.node in
       let h : Stored → Bool = λ w. is_below c lo hi w.context w.node in
       let p = perm_to (filter h (stores_of fl run)) (filter f (stores_of fl run) ++ filter g (stores_of fl run))
-      (perm_filters f g h (λ w. range_or lo mid hi low high (node_under c w.context w.node)) (λ w. range_apart lo mid hi (node_under c w.context w.node)) (stores_of fl run)) in
+      (perm_filters f g h (λ w. range_or lo mid hi low high (node_under c w.context w.node)) (λ w. range_apart lo mid hi (node_under c w.context w.node))
+      (stores_of fl run)) in
       subst (λ us. IsPermutation us (stores_below fl run c lo hi)) (map_append cell_and_value (filter f (stores_of fl run)) (filter g (stores_of fl run)))
       (IsPermutation-map cell_and_value (filter f (stores_of fl run) ++ filter g (stores_of fl run)) (filter h (stores_of fl run)) (IsPermutation-sym _ _ p))
 
   -- so what two parts store together is what the whole range stores
-  pub stores_both : (lo mid hi : ℕ) (ss us : Stores) → lo ≤ mid → mid ≤ hi → IsPermutation ss (stores_below fl run c lo mid) → IsPermutation us (stores_below fl run c mid hi)
+  pub stores_both : (lo mid hi : ℕ) (ss us : Stores) → lo ≤ mid → mid ≤ hi → IsPermutation ss (stores_below fl run c lo mid)
+      → IsPermutation us (stores_below fl run c mid hi)
       → IsPermutation (ss ++ us) (stores_below fl run c lo hi)
   stores_both lo mid hi ss us low high h k =
       IsPermutation-trans _ _ _ (IsPermutation-append ss (stores_below fl run c lo mid) us (stores_below fl run c mid hi) h k) (stores_split lo mid hi low high)

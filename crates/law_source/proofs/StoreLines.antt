@@ -1,5 +1,5 @@
 -- What lies under a node, and that a node that neither stores nor makes an invocation has no store.
-use Rattle.std.proofs.Common.{◌≡◌, ℕ, ◌+◌, ◌&&◌, ◌==◌, ◌⊎◌, ℤ, Bool, true, false, List, [], ◌∷◌, length, map, filter, Option, Some, None, nat_lt, nat_le, if◌then◌else◌, inl, inr, refl, sym, ap, ap₂, ◌∙◌, subst, arith, eqb-true, ltb-true, leb-true, ⊎_elim}
+use Rattle.std.proofs.Common.{◌≡◌, ℕ, ◌+◌, ◌==◌, ◌⊎◌, ℤ, Bool, true, false, List, [], ◌∷◌, length, map, filter, Option, Some, None, nat_lt, nat_le, if◌then◌else◌, inl, inr, refl, sym, ap, ap₂, ◌∙◌, subst, arith, ltb-true, leb-true, ⊎_elim}
 use Rattle.std.specs.Prelude.{⊤}
 use Rattle.std.proofs.lemmas.Option.{same_Some}
 use Rattle.tags.specs.declared.value.Value.{Value}
@@ -10,11 +10,13 @@ use Rattle.semantics.specs.Meaning.{Context, Main, Called, Turned, State, Activi
 use Rattle.lemmas.proofs.Permutations.{Within, Each, each_from, within_to}
 use Rattle.lemmas.proofs.Bools.{first_of_and, second_of_and}
 use Rattle.law_determinacy.proofs.Shapes.{storing}
+use Rattle.law_values.specs.Contexts.{same_context}
+use Rattle.law_values.proofs.Contexts.{same_context_is}
 use Rattle.law_values.specs.Given.{Gives, Stored, stores_of}
 use Rattle.law_values.specs.Equations.{IsDue}
 use Rattle.law_values.specs.Settled.{Settled}
 use Rattle.law_values.proofs.EndCells.{stored_from}
-use Rattle.law_source.specs.Below.{same_context, node_under, is_within, is_below, cell_and_value, stores_below}
+use Rattle.law_source.specs.Below.{node_under, is_within, is_below, cell_and_value, stores_below}
 
 abbrev pub IsStore : Kind ℕ → Type 0
 IsStore (Store a) = ⊤
@@ -41,7 +43,8 @@ quiet_loop : (kind : Kind ℕ) → IsQuiet kind → IsLoop kind → ⊥
 quiet_loop (Loop f n) h k = h
 quiet_loop kind h k = k
 
-fired_store : (fl : Flow) (c : Context) (n : ℕ) (kind : Kind ℕ) (i v : Value) (d : Deed) (x : ℕ) → d ≡ Fills c n x v → fired fl c n kind (i ∷ v ∷ []) ≡ Some d → IsStore kind
+fired_store : (fl : Flow) (c : Context) (n : ℕ) (kind : Kind ℕ) (i v : Value) (d : Deed) (x : ℕ) → d ≡ Fills c n x v → fired fl c n kind (i ∷ v ∷ []) ≡ Some d
+    → IsStore kind
 fired_store fl c n (Lit z) i v d x is e = cc
 fired_store fl c n (Apply1 op) i v d x is e = cc
 fired_store fl c n (Apply2 op) i v d x is e = cc
@@ -63,13 +66,15 @@ line_of_store fl c n i v d x is e = go (block_of fl c) e
     by_count line true f = fired_store fl c n line.kind i v d x is f
     by_count line false f = cc
 
-    by_line : (o : Option (Node ℕ)) → on_node o (λ (node : Node ℕ). if length (i ∷ v ∷ []) == length node.sources then fired fl c n node.kind (i ∷ v ∷ []) else None) ≡ Some d
+    by_line : (o : Option (Node ℕ)) → on_node o (λ (node : Node ℕ). if length (i ∷ v ∷ []) == length node.sources then fired fl c n node.kind
+        (i ∷ v ∷ []) else None) ≡ Some d
         → (line : Node ℕ) × (o ≡ Some line) × IsStore line.kind
     by_line None f = cc
     by_line (Some line) f = (line, refl, by_count line (length (i ∷ v ∷ []) == length line.sources) f)
 
     by_input : (b : Block ℕ) (t : Bool)
-        → (if t then input_passed c n (i ∷ v ∷ []) else on_node (node_at b n) (λ (node : Node ℕ). if length (i ∷ v ∷ []) == length node.sources then fired fl c n node.kind (i ∷ v ∷ []) else None)) ≡ Some d
+        → (if t then input_passed c n (i ∷ v ∷ []) else on_node (node_at b n) (λ (node : Node ℕ). if length
+        (i ∷ v ∷ []) == length node.sources then fired fl c n node.kind (i ∷ v ∷ []) else None)) ≡ Some d
         → (line : Node ℕ) × (node_at b n ≡ Some line) × IsStore line.kind
     by_input b true f = cc
     by_input b false f = by_line (node_at b n) f
@@ -77,21 +82,6 @@ line_of_store fl c n i v d x is e = go (block_of fl c) e
     go : (o : Option (Block ℕ)) → on_block o (fired_in fl c n (i ∷ v ∷ [])) ≡ Some d → (line : Node ℕ) × (node_in o n ≡ Some line) × IsStore line.kind
     go None f = cc
     go (Some b) f = by_input b (nat_lt n b.inputs) f
-
-pub same_context_is : (c d : Context) → same_context c d ≡ true → c ≡ d
-same_context_is Main Main e = refl
-same_context_is Main (Called d n) e = cc
-same_context_is Main (Turned d n j) e = cc
-same_context_is (Called c m) Main e = cc
-same_context_is (Called c m) (Called d n) e =
-    ap₂ (λ c n. Called c n) (same_context_is c d (second_of_and (m == n) (same_context c d) e)) (eqb-true m n (first_of_and (m == n) (same_context c d) e))
-same_context_is (Called c m) (Turned d n j) e = cc
-same_context_is (Turned c m i) Main e = cc
-same_context_is (Turned c m i) (Called d n) e = cc
-same_context_is (Turned c m i) (Turned d n j) e =
-    let rest = second_of_and (m == n) ((i == j) && same_context c d) e in
-    ap₂ (λ c n. Turned c n i) (same_context_is c d (second_of_and (i == j) (same_context c d) rest)) (eqb-true m n (first_of_and (m == n) ((i == j) && same_context c d) e))
-    ∙ ap (λ i. Turned d n i) (eqb-true i j (first_of_and (i == j) (same_context c d) rest))
 
 pub kept_none : {X : Type 0} (f : X → Bool) (xs : List X) → Each (λ x. f x ≡ false) xs → filter f xs ≡ []
 kept_none f [] h = refl
@@ -108,14 +98,34 @@ within_one n (Some m) e =
     let high = ltb-true m (n + 1) (second_of_and (nat_le n m) (nat_lt m (n + 1)) e) in
     let same : m ≡ n = omega (arith, low, high) in ap (λ m. Some m) same
 
+pub bools_same : (a b : Bool) → (a ≡ true → b ≡ true) → (b ≡ true → a ≡ true) → a ≡ b
+bools_same true b f g = sym (f refl)
+bools_same false true f g = g refl
+bools_same false false f g = refl
+
+pub filters_same : {X : Type 0} (f g : X → Bool) (xs : List X) → Each (λ x. f x ≡ g x) xs → filter f xs ≡ filter g xs
+filters_same f g [] h = refl
+filters_same f g (x ∷ xs) h = ap₂ (λ (b : Bool) l. if b then x ∷ l else l) h.0 (filters_same f g xs h.1)
+
+pub within_some : (lo hi : ℕ) (o : Option ℕ) → is_within lo hi o ≡ true → (k : ℕ) × (o ≡ Some k)
+within_some lo hi None e = cc
+within_some lo hi (Some k) e = (k, refl)
+
+pub call_loop : (kind : Kind ℕ) → IsCall kind → IsLoop kind → ⊥
+call_loop (Call f) h k = k
+call_loop (StrictCall f) h k = k
+call_loop kind h k = h
+
 module _ (fl : Flow) (inputs : List ℤ) (run : List Activity) (s : State) (r : Run fl (start inputs) run s) (st : Settled fl inputs run s r) where
-  pub stored_at : (w : Stored) → Within w (stores_of fl run) → IsDue fl inputs run s r w.context × ((line : Node ℕ) × (node_of fl w.context w.node ≡ Some line) × IsStore line.kind)
+  pub stored_at : (w : Stored) → Within w (stores_of fl run) → IsDue fl inputs run s r w.context ×
+      ((line : Node ℕ) × (node_of fl w.context w.node ≡ Some line) × IsStore line.kind)
   stored_at w h =
       let a = stored_from fl (start inputs) s run r w h in
       let f = storing fl a.0 w.context w.node w.cell w.value a.2 in
       let gives : Gives fl run s.memory w.context w.node 0 w.value = (a.0, Fills w.context w.node w.cell w.value, within_to a.0 run a.1, a.2, refl) in (
         st.silent_invocations w.context w.node 0 w.value gives,
-        line_of_store fl w.context w.node f.0 w.value (Fills w.context w.node w.cell w.value) w.cell refl (subst (λ a. deed fl a ≡ Some (Fills w.context w.node w.cell w.value)) f.1 a.2),
+        line_of_store fl w.context w.node f.0 w.value (Fills w.context w.node w.cell w.value) w.cell refl
+            (subst (λ a. deed fl a ≡ Some (Fills w.context w.node w.cell w.value)) f.1 a.2),
       )
 
   -- what lies under node n of c is that node, or n is a call or a loop
@@ -135,16 +145,19 @@ module _ (fl : Flow) (inputs : List ℤ) (run : List Activity) (s : State) (r : 
       go false f e = cc
   under c n (Called d k) m due e = go (same_context c (Called d k)) refl e (λ e. under c n d k due.0 e)
     where
-      go : (t : Bool) → same_context c (Called d k) ≡ t → (if t then Some m else node_under c d k) ≡ Some n → (node_under c d k ≡ Some n → Under c n d k) → Under c n (Called d k) m
+      go : (t : Bool) → same_context c (Called d k) ≡ t → (if t then Some m else node_under c d k) ≡ Some n → (node_under c d k ≡ Some n → Under c n d k)
+          → Under c n (Called d k) m
       go true f e later = inl (sym (same_context_is c (Called d k) f), same_Some m n e)
       go false f e later = inr (made_under c n d k due.1.0 due.1.1 (inl due.1.2) (later e))
   under c n (Turned d k t) m due e = go (same_context c (Turned d k t)) refl e (λ e. under c n d k due.0 e)
     where
-      go : (u : Bool) → same_context c (Turned d k t) ≡ u → (if u then Some m else node_under c d k) ≡ Some n → (node_under c d k ≡ Some n → Under c n d k) → Under c n (Turned d k t) m
+      go : (u : Bool) → same_context c (Turned d k t) ≡ u → (if u then Some m else node_under c d k) ≡ Some n → (node_under c d k ≡ Some n → Under c n d k)
+          → Under c n (Turned d k t) m
       go true f e later = inl (sym (same_context_is c (Turned d k t) f), same_Some m n e)
       go false f e later = inr (made_under c n d k due.1.0 due.1.1 (inr due.1.2) (later e))
 
-  quiet_under : (c : Context) (n : ℕ) (line : Node ℕ) → node_of fl c n ≡ Some line → IsQuiet line.kind → (w : Stored) → Within w (stores_of fl run) → node_under c w.context w.node ≡ Some n → ⊥
+  pub quiet_under : (c : Context) (n : ℕ) (line : Node ℕ) → node_of fl c n ≡ Some line → IsQuiet line.kind → (w : Stored) → Within w (stores_of fl run)
+      → node_under c w.context w.node ≡ Some n → ⊥
   quiet_under c n line el quiet w h e =
       let at = stored_at w h in go at.1.0 at.1.1 at.1.2 (under c n w.context w.node at.0 e)
     where

@@ -8,28 +8,22 @@ use Rattle.semantics.specs.declared.graph.Kind.TheVariants.{Store}
 use Rattle.semantics.specs.Graph.{Node, Flow}
 use Rattle.semantics.specs.Meaning.{Context, Main, Called, Turned, State, Activity, Run, start, node_of, IsCall, IsLoop}
 use Rattle.lemmas.proofs.Permutations.{Within, each_from, get_within, within_to}
-use Rattle.lemmas.proofs.Bools.{equal_itself}
 use Rattle.lemmas.proofs.Contains.{contains_get}
+use Rattle.law_values.proofs.Contexts.{same_itself}
 use Rattle.law_values.specs.Given.{Stored, stores_of}
 use Rattle.law_values.specs.Settled.{Settled}
-use Rattle.law_source.specs.Below.{same_context, node_under, is_within, is_below, cell_and_value, stores_below}
+use Rattle.law_source.specs.Below.{node_under, is_within, is_below, cell_and_value, stores_below}
 use Rattle.law_source.proofs.StoreLines.{IsStore, stored_at, under, kept_none, false_by, within_one}
 
-same_itself : (c : Context) → same_context c c ≡ true
-same_itself Main = refl
-same_itself (Called c n) = ap₂ (λ (a b : Bool). a && b) (equal_itself n) (same_itself c)
-same_itself (Turned c n i) =
-    ap₂ (λ (a b : Bool). a && b) (equal_itself n) (ap₂ (λ (a b : Bool). a && b) (equal_itself i) (same_itself c))
-
-own_under : (c : Context) (n : ℕ) → node_under c c n ≡ Some n
+pub own_under : (c : Context) (n : ℕ) → node_under c c n ≡ Some n
 own_under Main n = refl
 own_under (Called c k) n = ap (λ (t : Bool). if t then Some n else node_under (Called c k) c k) (same_itself (Called c k))
 own_under (Turned c k i) n = ap (λ (t : Bool). if t then Some n else node_under (Turned c k i) c k) (same_itself (Turned c k i))
 
-within_itself : (n : ℕ) → is_within n (n + 1) (Some n) ≡ true
+pub within_itself : (n : ℕ) → is_within n (n + 1) (Some n) ≡ true
 within_itself n = ap₂ (λ (a b : Bool). a && b) (le-leb n n (omega arith)) (lt-ltb n (n + 1) (omega arith))
 
-kept_one : {X : Type 0} (f : X → Bool) (xs : List X) (i : ℕ) (u : X) → slice_get xs i ≡ Some u → f u ≡ true
+pub kept_one : {X : Type 0} (f : X → Bool) (xs : List X) (i : ℕ) (u : X) → slice_get xs i ≡ Some u → f u ≡ true
     → ((j : ℕ) (w : X) → slice_get xs j ≡ Some w → f w ≡ true → j ≡ i) → filter f xs ≡ u ∷ []
 kept_one f [] i u e t only = cc
 kept_one f (x ∷ xs) zero u e t only =
@@ -41,11 +35,11 @@ kept_one f (x ∷ xs) (suc i) u e t only =
     ap (λ (b : Bool). if b then x ∷ filter f xs else filter f xs) (false_by (f x) (λ k. let z = only zero x refl k in absurd (omega (arith, z))))
     ∙ kept_one f xs i u e t (λ j w g k. let z = only (suc j) w g k in omega (arith, z))
 
-store_call : (kind : Kind ℕ) → IsStore kind → IsCall kind → ⊥
+pub store_call : (kind : Kind ℕ) → IsStore kind → IsCall kind → ⊥
 store_call (Store a) h k = k
 store_call kind h k = h
 
-store_loop : (kind : Kind ℕ) → IsStore kind → IsLoop kind → ⊥
+pub store_loop : (kind : Kind ℕ) → IsStore kind → IsLoop kind → ⊥
 store_loop (Store a) h k = k
 store_loop kind h k = h
 
@@ -63,7 +57,8 @@ module _ (fl : Flow) (inputs : List ℤ) (run : List Activity) (s : State) (r : 
       (under fl inputs run s r st c n w.context w.node at.0 (within_one n (node_under c w.context w.node) t))
 
   -- where the run has its store, that is the only one
-  pub one_store : (x : ℕ) (v : Value) → Contains (stores_of fl run) (record { context = c; node = n; cell = x; value = v }) → stores_below fl run c n (n + 1) ≡ (x, v) ∷ []
+  pub one_store : (x : ℕ) (v : Value) → Contains (stores_of fl run) (record { context = c; node = n; cell = x; value = v })
+      → stores_below fl run c n (n + 1) ≡ (x, v) ∷ []
   one_store x v h =
       let u : Stored = record { context = c; node = n; cell = x; value = v } in
       let at = contains_get (stores_of fl run) u h in

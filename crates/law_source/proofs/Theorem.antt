@@ -3,7 +3,9 @@ use Rattle.std.proofs.Common.{◌≡◌, ◌+◌, ℤ, [], length, map, sym, ap,
 use Rattle.std.proofs.lemmas.List.{length-map}
 use Rattle.tags.specs.declared.value.Value.TheVariants.{Int}
 use Rattle.semantics.specs.Graph.{flow_of, node_count}
-use Rattle.semantics.specs.Meaning.{Main}
+use Rattle.std.specs.Prelude.{sum}
+use Rattle.semantics.specs.Meaning.{Main, fetch_count}
+use Rattle.semantics.proofs.Sums.{sum_of_zeros}
 use Rattle.law_values.specs.Settled.{Settled, NoneWaits}
 use Rattle.law_values.proofs.Theorem.{runs_at_rest}
 use Rattle.source.specs.Outside.{bare}
@@ -12,9 +14,13 @@ use Rattle.source.specs.Evaluates.{entered}
 use Rattle.source.specs.Lowered.{node_of, function_scope, turn_site}
 use Rattle.law_source.specs.Below.{stores_below}
 use Rattle.law_source.specs.Means.{MeansIn}
-use Rattle.law_source.specs.Theorem.{MeaningFromParts}
-use Rattle.law_source.proofs.NoneWaits.{none_waits}
+use Rattle.law_source.specs.Theorem.{FunctionsArePlaced, PartsKeepMeaning, MeaningFromParts, LoweringKeepsMeaning, TextsKeepMeaning, MachinesShowPrograms}
+use Rattle.law_values.proofs.NoneWaits.{none_waits}
 use Rattle.law_source.proofs.MainComes.{outputs_shown, cells_filled, cells_filled_once}
+use Rattle.law_source.proofs.Placed.{places_from_origins}
+use Rattle.law_source.proofs.OriginsTold.{origins_are_told}
+use Rattle.law_source.proofs.Steps.{parts_from_places}
+use Rattle.law_source.proofs.Texts.{tokens_rise, spellings_differ}
 use Rattle.law_source.proofs.MainStands.{main_function, each_function_good, graph_is, main_spot, main_lowered, main_is, main_stands, main_agrees, block}
 
 pub meaning_from_parts : MeaningFromParts
@@ -46,3 +52,32 @@ meaning_from_parts placed parts p g origin low well inputs count s rests =
       filled = cells_filled (flow_of g) inputs run s r st b eb out.ss ss;
       once = cells_filled_once (flow_of g) inputs run s r st b eb out.ss ss;
     }
+
+-- ALL OF IT
+functions_are_placed : FunctionsArePlaced
+functions_are_placed = places_from_origins origins_are_told
+
+parts_keep_meaning : PartsKeepMeaning
+parts_keep_meaning = parts_from_places functions_are_placed
+
+pub lowering_keeps_meaning : LoweringKeepsMeaning
+lowering_keeps_meaning = meaning_from_parts functions_are_placed parts_keep_meaning
+
+pub texts_keep_meaning : TextsKeepMeaning
+texts_keep_meaning text p g origin low well inputs count s rests =
+    lowering_keeps_meaning p g origin
+    (record { lowered = low.lowered; apart = spellings_differ text low.tokens p low.spelled (tokens_rise text low.tokens low.read) }) well inputs count s rests
+
+pub machines_show_programs : MachinesShowPrograms
+machines_show_programs text p g origin low well inputs count m exact none = record {
+  memory = exact.state.memory;
+  seen = exact.seen;
+  computes =
+      texts_keep_meaning text p g origin low well inputs count exact.state
+      (record {
+        reached = exact.reached;
+        at_rest = exact.at_rest;
+        no_clash = λ x h. exact.no_clash exact.state x exact.reached h;
+        none_waits = sum_of_zeros (sum (flow_of g).arrays) (λ x. fetch_count (flow_of g) x exact.state.tokens) (λ x. sym (exact.readers x) ∙ none x);
+      });
+}

@@ -1,16 +1,11 @@
 -- WHICH STORES A PART MAKES: those at its nodes, and those of the invocations that are made at its nodes.
-use Rattle.std.specs.Prelude.{ℕ, ◌+◌, ◌==◌, ◌&&◌, nat_le, nat_lt, Bool, true, false, List, map, filter, Option, Some, None, if◌then◌else◌}
+use Rattle.std.specs.Prelude.{ℕ, ◌&&◌, nat_le, nat_lt, Bool, false, List, map, filter, Option, Some, None, if◌then◌else◌}
 use Rattle.semantics.specs.Graph.{Flow}
 use Rattle.semantics.specs.Meaning.{Context, Main, Called, Turned, Activity}
+use Rattle.law_values.specs.Contexts.{same_context}
 use Rattle.law_values.specs.Given.{Stored, stores_of}
 use Rattle.source.specs.Evaluates.{Stores}
 use Rattle.tags.specs.declared.value.Value.{Value}
-
-abbrev pub same_context : Context → Context → Bool
-same_context Main Main = true
-same_context (Called c m) (Called d n) = (m == n) && same_context c d
-same_context (Turned c m i) (Turned d n j) = (m == n) && ((i == j) && same_context c d)
-same_context c d = false
 
 -- The node of c at which node n of d lies: it is that node, or the one that d was made at, or an invocation around d. There
 -- is none where d is neither c nor made in c.
@@ -33,9 +28,3 @@ cell_and_value w = (w.cell, w.value)
 -- the stores of a run that lie there, in order
 abbrev pub stores_below : Flow → List Activity → Context → ℕ → ℕ → Stores
 stores_below fl run c lo hi = map cell_and_value (filter (λ (w : Stored). is_below c lo hi w.context w.node) (stores_of fl run))
-
--- how deep an invocation lies: a turn lies deeper than those before it
-abbrev pub depth : Context → ℕ
-depth Main = 0
-depth (Called c n) = depth c + 1
-depth (Turned c n t) = depth c + 1 + t

@@ -4,14 +4,9 @@ use Rattle.tags.specs.declared.value.Origin.{Origin}
 use Rattle.tags.specs.declared.value.Origin.TheVariants.{At}
 use Rattle.semantics.specs.declared.graph.Kind.{Kind}
 use Rattle.semantics.specs.declared.graph.Kind.TheVariants.{Apply2, Fetch, Store}
-use Rattle.semantics.specs.Graph.{Node, Block, Graph, node_at, place_of, resolved_kind, resolved_block, array_names, block_names, flow_of}
+use Rattle.semantics.specs.Graph.{Node, Block, Graph, place_of, resolved_kind, resolved_block, array_names, block_names, flow_of}
 use Rattle.source.specs.Tree.{Name}
 use Rattle.source.specs.Lowered.{Made, MadeBlock, graph_block, block_name}
-
--- from node n on, the block has these lines
-abbrev pub Holds : {N : Type 0} → Block N → ℕ → List (Node N) → Type 0
-Holds b n [] = ⊤
-Holds b n (line ∷ lines) = (node_at b n ≡ Some line) × Holds b (n + 1) lines
 
 -- a node line, with the places of arrays and blocks of the graph for their names
 abbrev pub resolved : Graph → Made → Node ℕ

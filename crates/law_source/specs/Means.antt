@@ -7,6 +7,7 @@ use Rattle.operators.specs.Values.{truth}
 use Rattle.semantics.specs.declared.graph.Source.{Source}
 use Rattle.semantics.specs.Graph.{Block, Graph, flow_of, node_count}
 use Rattle.semantics.specs.Meaning.{Context, State, Activity, Run, Stood, ArmsTaken, arms_round, block_number, start}
+use Rattle.law_values.specs.Contexts.{depth}
 use Rattle.law_values.specs.Equations.{IsDue, Has}
 use Rattle.source.specs.Tree.{Name, NameAt, Expr, Exprs, Body, Turn, Before, After, Program, names_of}
 use Rattle.source.specs.Fits.{Fits, FitsAll, FitsBody, FitsTurn}
@@ -15,9 +16,10 @@ use Rattle.source.specs.Rules.{values, list_values, body_values, turn_values}
 use Rattle.source.specs.Evaluates.{World, Env, Stores, entered, Evaluates, EvaluatesAll, Runs}
 use Rattle.source.specs.Lowered.{Lowered, Site, Spot, Scope, source_in, turn_site, lower, lower_list, lower_body, lower_turn}
 use Rattle.source.specs.Theorem.{world}
-use Rattle.law_source.specs.Holds.{Holds, resolved, AreTold, HasBlocks}
+use Rattle.source.specs.Holds.{Holds}
+use Rattle.law_source.specs.Holds.{resolved, AreTold, HasBlocks}
 use Rattle.law_source.specs.Agrees.{Agrees, Have}
-use Rattle.law_source.specs.Below.{depth, stores_below}
+use Rattle.law_source.specs.Below.{stores_below}
 
 -- One turn of a loop, from the values that it has, to its flag, the values that it gives, and its stores.
 pub data OneTurn (w : World) : Env → Turn → List Value → Value → List Value → Stores → Type 0 where
@@ -88,7 +90,7 @@ module _ (p : Program) (g : Graph) (origin : ℕ → Origin) (inputs : List ℤ)
 
   abbrev pub MeansTurn : Context → Turn → Type 0
   MeansTurn c turn = (f : Name) (spot : Spot) (at : ℕ) (scope : Scope) (env : Env) (names : List Name) (vs : List Value)
-      → FitsTurn turn → turn_values p names turn ≡ Ok (length (names_of turn))
+      → 0 < length (names_of turn) → FitsTurn turn → turn_values p names turn ≡ Ok (length (names_of turn))
       → Stands c (turn_site f) spot (lower_turn p f spot at scope turn)
       → Have (flow_of g) inputs run s r c (map (source_in scope) (bare (names_of turn))) vs → Known c scope env (turn_uses turn)
       → ComesOf c (turn_gives env turn vs) spot (lower_turn p f spot at scope turn)

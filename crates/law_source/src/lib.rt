@@ -1,10 +1,11 @@
-//! Lowering keeps the meaning of a program: what its graph has at rest is what the program computes. In part; the end of this page
-//! says what is not proved yet.
+//! Lowering keeps the meaning of a program: what its graph has at rest is what the program computes.
 //!
 //! **The statement** (`LoweringKeepsMeaning`). A good program, no two of whose tokens have one place, is lowered to a graph that is
 //! well formed. Then in each state at rest, with no clash and no fetch that waits, the outputs are those that the program has by
 //! its own evaluator, over the memory in the end; the full cells are exactly the program's stores, each made once; and each fault
-//! has the origin that lowering tells of its token.
+//! has the origin that lowering tells of its token. Of the tree of a text no two tokens have one place, so there it holds as it
+//! is (`TextsKeepMeaning`). A machine over faithful code that rests, wants nothing and has no waiting reader shows outputs and
+//! cells of such a state (`MachinesShowPrograms`). That lowering gives graphs that are well formed is asked here, not proved.
 //!
 //! **Why it holds.** A run at rest satisfies the equations of its nodes (`law_values`), and knows no order. So each part can be
 //! looked at by itself (`MeansExpr`, `MeansList`, `MeansBody`, `MeansTurn`). A part stands in an invocation: the block has its
@@ -15,27 +16,38 @@
 //! deeper than the run is long), then on the part. It is not on time: a call is evaluated with all that its function does,
 //! also behind its result. Only used names matter, so no evaluation is ever moved to other names.
 //!
+//! - A call's arguments are the inputs of the invocation that it makes, whose results are the values of its ports, and whose
+//!   stores are all that lie at its node. That it is due is seen from a port: each function has a result.
+//! - A conditional took its predicate's value, so the arm of that truth is taken, each of whose enters has the value of its
+//!   source. The lines of the other arm lie in it, some in arms of arms, and where an arm is not taken nothing is stored.
+//! - A loop has some number of turns, the same for each port. The inputs of a turn are the results of the one before, of which
+//!   the outside names are carried as they came; the stores of the node are those of the turns, one behind the other.
+//! - The origin of a token is that of the first line with its place. A count of each place in the tokens and in the lines shows
+//!   that a line that makes faults is the only one with its place; a conditional and a loop have many, which make none.
+//!
 //! **The files**, by chapter.
 //! - Statements: `Holds` (lines in a block, blocks in a graph), `Agrees`, `Below` (which stores a part makes), `Means`, `Theorem`.
-//! - Lines and blocks: `Holding`, `Parts` (parts of a part that stands), `Placed` (blocks stand at the places of their names).
-//! - Names: `NamesUsed` (what is used is in scope), `NamesAgree` (through lists of names, `let`, and the enters of an arm).
-//! - Numbers: `Counting` (a part has as many sources as values), `Ranges`, `StoreLines`, `StoredOnce` and `StoreIndexes` (the stores
-//!   of a range of nodes, of a quiet node, and of a store's node).
-//! - Parts: `Having`, `Leaves`, `Operators`, `Cells`, `MeansStore`, `Bodies`; `TurnsGo` (turns make a loop).
-//! - The whole: `NoneWaits`, `MainStands`, `MainComes`, `Theorem`.
-//!
-//! **Proved**: the theorem from the meaning of parts; that blocks stand where they should, from the origins of their lines; and that
-//! numbers, names, brackets, operators, fetches, stores, lists and bodies keep their meaning where their parts do.
-//! **Not proved yet**: calls, conditionals, loops and turns, and so the induction (`MeansStep`) and what comes of it
-//! (`PartsKeepMeaning`); and that a block's lines have the origins that are told of their tokens (`OriginsAreTold`). So the theorem
-//! itself does not stand yet.
+//! - Lines and blocks: `Holding`, `Parts` (parts of a part that stands), `Placed` (blocks stand at the places of their names),
+//!   `Lies` (in which arms the lines of a part lie), `Scene` (a run with all that is known of it), `Standing`.
+//! - Origins: `PlaceCounts`, `PartsTold` (places of tokens and lines counted), `OriginsTold`, `Texts` (tokens of a text).
+//! - Names: `NamesUsed` (what is used is in scope), `NamesAgree` (through lists of names, `let`, and the enters of an arm), `Firsts`
+//!   and `TurnNames` (of a loop).
+//! - Numbers: `Counting` (a part has as many sources as values), `Ranges`, `StoreLines`, `StoredOnce` and `Silent` (the stores of a
+//!   range of nodes, of a quiet node, of a store's node, and of an arm that is not taken), `Under`, `LoopStores` (those of turns).
+//! - Parts: `Having`, `Inputs`, `Leaves`, `Operators`, `Cells`, `MeansStore`, `Bodies`, `Calls`, `Conditionals`, `MeansIf`,
+//!   `MeansTurn`, `TurnsGo`, `MeansLoop`; and all of them (`Steps`).
+//! - The whole: `MainStands`, `MainComes`, `Theorem`; and `ExampleEcho`: one text of which all is so that the theorem asks.
 #![tactic(auto)]
 
-ghost use Rattle.law_source.specs.Theorem.{MeaningFromParts, PlacesFromOrigins};
+ghost use Rattle.law_source.specs.Theorem.{LoweringKeepsMeaning, TokensRise, SpellingsDiffer, TextsKeepMeaning, MachinesShowPrograms};
 
-/// Where each part means what it is lowered to, a program does; and the blocks of each function stand in the graph at the
-/// places of their names, where the origins of their lines are told.
-pub fn meaning_comes_from_parts()
-    ensures meaning { MeaningFromParts }
-    ensures places { PlacesFromOrigins }
+/// Lowering keeps the meaning of each good program whose tokens have places of their own. The tokens of a text stand one behind the
+/// other, so those of a tree that they spell have places of their own, and it keeps the meaning of each good program of a text.
+/// A machine that came to rest over faithful code of its graph, with no reader waiting, shows what the program computes.
+pub fn lowering_keeps_meaning()
+    ensures meaning { LoweringKeepsMeaning }
+    ensures tokens { TokensRise }
+    ensures places { SpellingsDiffer }
+    ensures texts { TextsKeepMeaning }
+    ensures machines { MachinesShowPrograms }
 {}

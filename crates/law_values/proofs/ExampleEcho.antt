@@ -12,14 +12,14 @@ use Rattle.law_values.specs.Equations.{IsDue, TakenAt, Equation, Result}
 use Rattle.law_values.specs.Settled.{Settled}
 use Rattle.law_values.proofs.ExampleValues.{from, alone}
 
-abbrev echoing : Flow
+abbrev pub echoing : Flow
 echoing = alone record { inputs = 1; outputs = 1; nodes = []; results = from 0 ∷ [] }
 
 module _ (z : ℤ) where
   abbrev after_input : State
   after_input = record { tokens = tagged Main (AtOut 0) (Operand 0) (Int z) ∷ []; memory = (start (z ∷ [])).memory }
 
-  abbrev at_end : State
+  abbrev pub at_end : State
   at_end = record { tokens = []; memory = with_output (start (z ∷ [])).memory 0 (Int z) }
 
   first_step : Step echoing (Fires Main 0 (Int z ∷ [])) (start (z ∷ [])) after_input
@@ -42,7 +42,7 @@ module _ (z : ℤ) where
     memory = refl;
   }
 
-  abbrev run : List Activity
+  abbrev pub run : List Activity
   run = Fires Main 0 (Int z ∷ []) ∷ Outputs 0 (Int z) ∷ []
 
   pub echo_run : Run echoing (start (z ∷ [])) run at_end

@@ -1,3 +1,4 @@
+pub mod Contexts
 pub mod GraphForms
 pub mod GraphFormed
 pub mod RunTakers
@@ -16,6 +17,8 @@ pub mod ValuesEqual
 pub mod ValuesSilent
 pub mod ValuesSides
 pub mod EndCells
+pub mod EndIndexes
+pub mod NoneWaits
 pub mod EndOutputs
 pub mod EndTokens
 pub mod Theorem

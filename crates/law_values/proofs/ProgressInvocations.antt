@@ -12,11 +12,12 @@ use Rattle.semantics.specs.Graph.{Node, Block, Flow, node_at, node_count}
 use Rattle.semantics.specs.Meaning.{Context, Called, Turned, AtNode, AtTurn, Operand, Predicate, Flag, Carried, tagged, Activity, Fires, Gates, Passes, Returns, Turns, taken, Says, Message, Sends, Tells, Enters, Nothing, deed, fired, gated, passed, block_of, block_numbered, callee, callee_in, callee_of, node_of, node_in, same_side, arm_of, arms_round, ArmsTaken, HadTrueFlag, StartsWhenStrict, IsCall, IsLoop, entering}
 use Rattle.lemmas.proofs.Permutations.{Within, within_to}
 use Rattle.lemmas.proofs.SliceGet.{get_some}
+use Rattle.law_values.specs.Contexts.{depth}
 use Rattle.law_values.specs.Given.{ports_in, ports_line, ports_of, outputs_in}
 use Rattle.law_values.proofs.GraphForms.{HasForm, InRegion, IsCondAt, IsLine}
 use Rattle.law_values.proofs.RunRested.{Rested, Came, IsDueIn, RegionTaken}
 use Rattle.law_values.proofs.RunUses.{operand_came, result_came, carried_came, flag_came, said_came, predicate_told, entering_within}
-use Rattle.law_values.proofs.RunDepth.{depth, shallow}
+use Rattle.law_values.proofs.RunDepth.{shallow}
 use Rattle.law_values.proofs.RunRegions.{TakenIn, block_shaped, in_taken, outside, inside}
 use Rattle.law_values.proofs.GraphForms.{line_below}
 use Rattle.law_values.proofs.ProgressNodes.{Given, IsPlain, operands, operands_stand, plain_given, merge_given, input_given, gives_said, gates_line, passes_line, fires_line}

@@ -4,7 +4,7 @@ use Rattle.std.proofs.lemmas.List.Sorted.{IsPermutation-sym}
 use Rattle.tags.specs.declared.value.Value.{Value}
 use Rattle.tags.specs.declared.value.Value.TheVariants.{Int}
 use Rattle.semantics.specs.Graph.{Flow}
-use Rattle.semantics.specs.Meaning.{Context, Main, Called, Turned, Tagged, State, Activity, Fires, taken, Message, Enters, tokens_of, Step, Run, Stood, start}
+use Rattle.semantics.specs.Meaning.{Context, Main, Tagged, State, Activity, Fires, taken, Message, Enters, tokens_of, Step, Run, Stood, start}
 use Rattle.lemmas.proofs.Permutations.{Within, Each, each_within, each_weaker, within_append, within_right, within_from, within_permutation}
 use Rattle.law_determinacy.proofs.Diamond.{deed_of, held_from}
 use Rattle.law_determinacy.proofs.History.{spoken}
@@ -12,12 +12,8 @@ use Rattle.law_determinacy.proofs.Uses.{Member, tokens_member, entering_member}
 use Rattle.law_determinacy.proofs.Rows.{Row, RowFires, RowTells, RowGates, RowQuiet, RowMerges, RowCalls, RowStrict, RowLoops, RowReturns, RowAgain, RowLeaves, rows}
 use Rattle.law_determinacy.proofs.Laws.{IsFlowWell}
 use Rattle.law_determinacy.proofs.Grounds.{strict_inputs}
+use Rattle.law_values.specs.Contexts.{depth}
 use Rattle.law_values.proofs.RunRested.{Rested, Came}
-
-abbrev pub depth : Context → ℕ
-depth Main = 0
-depth (Called c n) = depth c + 1
-depth (Turned c n t) = depth c + 1 + t
 
 -- what a message reaches lies at most one deeper
 abbrev Near : ℕ → Flow → Message → Type 0

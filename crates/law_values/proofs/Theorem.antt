@@ -1,25 +1,31 @@
 -- All of it: once a run of a well-formed graph is at rest, with no second store and no waiting fetch, its values satisfy the equations.
-use Rattle.std.proofs.Common.{◌≡◌, ℕ, ℤ, List, Option, Some, None, refl, sym, ◌∙◌, subst, flat_map}
+use Rattle.std.proofs.Common.{◌≡◌, ℕ, ◌≤◌, ℤ, List, [], ◌∷◌, length, Option, Some, None, refl, sym, ◌∙◌, subst, flat_map}
 use Rattle.std.specs.Prelude.{slice_get}
 use Rattle.tags.specs.declared.value.Value.{Value}
 use Rattle.semantics.specs.declared.graph.Source.{Source}
-use Rattle.semantics.specs.Graph.{Graph, flow_of}
+use Rattle.operators.specs.Values.{Outside, index_in}
+use Rattle.semantics.specs.declared.graph.Kind.TheVariants.{Store}
+use Rattle.semantics.specs.Graph.{Node, Block, Graph, array_len, flow_of}
 use Rattle.semantics.specs.WellFormed.{WellFormed}
-use Rattle.semantics.specs.Meaning.{Main, State, Activity, Outputs, taken, Puts, Run, Stood, AtRest, start}
+use Rattle.semantics.specs.Meaning.{Context, Main, AtNode, Operand, tagged, State, Activity, Fires, Outputs, taken, Puts, Run, Stood, Due, AtRest, start, block_of, node_in, node_of, origin_at}
+use Rattle.lemmas.proofs.Permutations.{Within, within_from}
 use Rattle.law_determinacy.specs.Outcome.{AreInputsOf, NoClash}
 use Rattle.law_determinacy.proofs.History.{Ever, run_lawful, stood_ever}
 use Rattle.law_determinacy.proofs.Due.{ever_stood}
 use Rattle.law_determinacy.proofs.Laws.{lawful_more}
 use Rattle.law_determinacy.proofs.Resolved.{flow_well, fits}
 use Rattle.law_determinacy.proofs.Theorems.{each_place_once, standing_due}
-use Rattle.law_values.specs.Given.{result_in}
+use Rattle.law_values.specs.Contexts.{depth}
+use Rattle.law_values.specs.Given.{Gives, Stored, stores_of, result_in}
+use Rattle.law_values.specs.Equations.{IsDue}
 use Rattle.semantics.specs.Machine.{Machine}
 use Rattle.semantics.specs.Faithful.{IsExact, NoReader}
 use Rattle.law_values.specs.Settled.{Settled, NoneWaits}
 use Rattle.law_values.specs.Shown.{ShowsSettled}
 use Rattle.law_values.proofs.RunHappens.{happens}
 use Rattle.law_values.proofs.GraphFormed.{shaped, main_block}
-use Rattle.law_values.proofs.RunRested.{Rested}
+use Rattle.law_values.proofs.RunRested.{Rested, Came}
+use Rattle.law_values.proofs.RunDepth.{shallow}
 use Rattle.law_values.proofs.RunUses.{result_came}
 use Rattle.law_values.proofs.RunOrigins.{HasSomeIn, ResultIn, took_all, result_from}
 use Rattle.law_values.proofs.ProgressDues.{taken_given, active}
@@ -27,6 +33,7 @@ use Rattle.law_values.proofs.ValuesGivers.{one_value}
 use Rattle.law_values.proofs.ValuesEqual.{equations}
 use Rattle.law_values.proofs.ValuesSilent.{silent_invocations, silent_arms, silent_ports, decided}
 use Rattle.law_values.proofs.EndCells.{cells_stored, stored_cells, stored_once, node_stores_once}
+use Rattle.law_values.proofs.EndIndexes.{index_taken}
 use Rattle.law_values.proofs.EndOutputs.{shown, shows}
 use Rattle.law_values.proofs.EndTokens.{no_tokens}
 
@@ -90,6 +97,37 @@ pub runs_at_rest : (g : Graph) (inputs : List ℤ) → WellFormed g → AreInput
     → AtRest (flow_of g) s → NoClash (flow_of g) s → NoneWaits (flow_of g) s → Settled (flow_of g) inputs run s r
 unfolding rested
 runs_at_rest g inputs well count run s r rests quiet none = settled (rested g inputs well count run s r rests quiet none)
+
+-- An invocation that is due lies no deeper than the run is long.
+due_within : (z : Rested) (c : Context) → Due z.flow z.run (Came z) c → depth c ≤ length z.run
+due_within z c due =
+    let a = active z c due in
+    shallow z (tagged c (AtNode 0) (Operand 0) a.0) (took_all z (Fires c 0 (a.0 ∷ [])) (within_from (Fires c 0 (a.0 ∷ [])) z.run a.1)).0
+
+pub due_shallow : (g : Graph) (inputs : List ℤ) (well : WellFormed g) (count : AreInputsOf g inputs) (run : List Activity) (s : State) (r : Run (flow_of g) (start inputs) run s)
+    → AtRest (flow_of g) s → NoClash (flow_of g) s → NoneWaits (flow_of g) s → (c : Context) → IsDue (flow_of g) inputs run s r c → depth c ≤ length run
+unfolding rested
+due_shallow g inputs well count run s r rests quiet none c due = due_within (rested g inputs well count run s r rests quiet none) c due
+
+-- A store that happens took an index that its first source has, and that names a cell.
+stores_well : (z : Rested) (c : Context) (n : ℕ) (line : Node ℕ) (a : ℕ) (x : Source) → node_of z.flow c n ≡ Some line → line.kind ≡ Store a → slice_get line.sources 0 ≡ Some x
+    → (w : Stored) → Within w (stores_of z.flow z.run) → w.context ≡ c → w.node ≡ n
+    → (i : Value) × Gives z.flow z.run z.state.memory c x.node x.port i × ((fault : Value) → index_in (array_len z.flow a) i (origin_at z.flow c n) ≡ Outside fault → ⊥)
+stores_well z c n line a x el ek ex w h ec en = go (block_of z.flow c) refl el
+  where
+    go : (o : Option (Block ℕ)) → block_of z.flow c ≡ o → node_in o n ≡ Some line
+        → (i : Value) × Gives z.flow z.run z.state.memory c x.node x.port i × ((fault : Value) → index_in (array_len z.flow a) i (origin_at z.flow c n) ≡ Outside fault → ⊥)
+    go None eb f = cc
+    go (Some b) eb f = index_taken z c n b line a x eb f ek ex w h ec en
+
+pub store_indexes : (g : Graph) (inputs : List ℤ) (well : WellFormed g) (count : AreInputsOf g inputs) (run : List Activity) (s : State) (r : Run (flow_of g) (start inputs) run s)
+    → AtRest (flow_of g) s → NoClash (flow_of g) s → NoneWaits (flow_of g) s
+    → (c : Context) (n : ℕ) (line : Node ℕ) (a : ℕ) (x : Source) → node_of (flow_of g) c n ≡ Some line → line.kind ≡ Store a → slice_get line.sources 0 ≡ Some x
+    → (w : Stored) → Within w (stores_of (flow_of g) run) → w.context ≡ c → w.node ≡ n
+    → (i : Value) × Gives (flow_of g) run s.memory c x.node x.port i × ((fault : Value) → index_in (array_len (flow_of g) a) i (origin_at (flow_of g) c n) ≡ Outside fault → ⊥)
+unfolding rested
+store_indexes g inputs well count run s r rests quiet none c n line a x el ek ex w h ec en =
+    stores_well (rested g inputs well count run s r rests quiet none) c n line a x el ek ex w h ec en
 
 -- what a machine shows that has just what the graph means, with no reader
 pub machines_show : (g : Graph) (inputs : List ℤ) → WellFormed g → AreInputsOf g inputs → (m : Machine) → IsExact (flow_of g) inputs m → NoReader m → ShowsSettled (flow_of g) inputs m

@@ -1,3 +1,4 @@
+pub mod Contexts
 pub mod Given
 pub mod Equations
 pub mod Settled

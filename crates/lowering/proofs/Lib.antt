@@ -12,3 +12,6 @@ pub mod ResultsTold
 pub mod Lowers
 pub mod Same
 pub mod Nodes
+pub mod Once
+pub mod Numbers
+pub mod Exact

@@ -153,3 +153,12 @@ entered_scope n f predicate (x ∷ xs) = ap (λ (k : ℕ). scoped (x ∷ xs) (in
 -- the inputs of a turn's block
 pub turn_inputs : (xs outs : List Name) → scoped (xs ++ outs) (inputs_from 0 (length (xs ++ outs))) [] ≡ turn_scope xs outs
 turn_inputs xs outs = ap (λ (n : ℕ). scoped (xs ++ outs) (inputs_from 0 n) []) (length-append xs outs)
+
+-- values alone
+pub only_more : (s : State) (ss : List Source) → with_sources s ss ≡ after s (only ss)
+only_more s ss = alike s _ _ _ _ _ _ _ _ _ _ (sym (add-zero s.spot.next)) (sym (add-zero s.spot.loops)) refl (sym (append-nil s.nodes)) (sym (append-nil s.blocks))
+
+-- what an arm takes where it uses a name
+pub some_taken : (f : Name → Source) (predicate : Source) (xs : List Name) → 0 < length xs → or_predicate predicate (map f xs) ≡ map f xs
+some_taken f predicate [] h = absurd (omega (arith, h))
+some_taken f predicate (x ∷ xs) h = refl

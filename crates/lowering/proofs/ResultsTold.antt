@@ -8,8 +8,8 @@ use Rattle.source.specs.Tree.{Name, NameAt, NumberAt, Target, Bind, Drop, Expr, 
 use Rattle.source.specs.Words.{Words, words, part_words, first_words, body_words, turn_words, target_word, start_words, item_words, program_words, result_words}
 use Rattle.source.specs.Spelled.{others}
 use Rattle.source.specs.Rules.{function_in, written_or_one}
-use Rattle.source.specs.Lowered.{results_of}
-use Rattle.lowering.specs.Results.{Heads, heads_of, head_read, heads_read, results_in, told_results}
+use Rattle.source.specs.Lowered.{results_of, arrays_of}
+use Rattle.lowering.specs.Results.{Heads, heads_of, head_read, heads_read, results_in, told_results, told_arrays}
 
 read_append : (h : Heads) (a b : Words) → heads_read h (a ++ b) ≡ heads_read (heads_read h b) a
 read_append h [] b = refl
@@ -71,34 +71,35 @@ params_quiet : (xs : List NameAt) → Quiet (map (λ (x : NameAt). word.Paramete
 params_quiet [] h = refl
 params_quiet (x ∷ xs) h = ap (head_read (word.Parameter x.at x.name)) (params_quiet xs h)
 
-results_told : (r : Option NumberAt) (table : List (Name × ℕ)) → heads_read (heads_of 1 table) (result_words r) ≡ heads_of (written_or_one r) table
-results_told None table = refl
-results_told (Some n) table = refl
+results_told : (r : Option NumberAt) (table arrays : List (Name × ℕ))
+    → heads_read (heads_of table arrays) (result_words r) ≡ record (heads_of table arrays) { results = written_or_one r }
+results_told None table arrays = refl
+results_told (Some n) table arrays = refl
 
 table_of : List Item → List (Name × ℕ)
 table_of [] = []
 table_of (Cells x len ∷ items) = table_of items
 table_of (Defines f ∷ items) = (f.name.name, written_or_one f.results) ∷ table_of items
 
-function_told : (f : Function) (table : List (Name × ℕ))
-    → heads_read (heads_of 1 table) (item_words (Defines f)) ≡ heads_of 1 ((f.name.name, written_or_one f.results) ∷ table)
-function_told f table =
+function_told : (f : Function) (table arrays : List (Name × ℕ))
+    → heads_read (heads_of table arrays) (item_words (Defines f)) ≡ heads_of ((f.name.name, written_or_one f.results) ∷ table) arrays
+function_told f table arrays =
     let head : Words = word.Function f.name.at f.name.name ∷ map (λ (x : NameAt). word.Parameter x.at x.name) f.params in
-    let h : Heads = heads_of 1 table in
-    let k : Heads = heads_of (written_or_one f.results) table in
+    let h : Heads = heads_of table arrays in
+    let k : Heads = record h { results = written_or_one f.results } in
     read_append h (head ++ result_words f.results ++ word.Body f.body_at ∷ body_words f.body) (word.EndFunction ∷ [])
     ∙ read_append h (head ++ result_words f.results) (word.Body f.body_at ∷ body_words f.body)
     ∙ ap (λ (q : Heads). heads_read q (head ++ result_words f.results)) (quiet_body f.body h)
     ∙ read_append h head (result_words f.results)
-    ∙ ap (λ (q : Heads). heads_read q head) (results_told f.results table)
+    ∙ ap (λ (q : Heads). heads_read q head) (results_told f.results table arrays)
     ∙ ap (head_read (word.Function f.name.at f.name.name)) (params_quiet f.params k)
 
-items_told : (items : List Item) → heads_read (heads_of 1 []) (program_words items) ≡ heads_of 1 (table_of items)
+items_told : (items : List Item) → heads_read (heads_of [] []) (program_words items) ≡ heads_of (table_of items) (arrays_of items)
 unfolding table_of
 items_told [] = refl
 items_told (Cells x len ∷ items) = ap (head_read (word.Array x.at x.name)) (ap (head_read (word.Length len.at len.number)) (items_told items))
-items_told (Defines f ∷ items) = read_append (heads_of 1 []) (item_words (Defines f)) (program_words items)
-    ∙ ap (λ (q : Heads). heads_read q (item_words (Defines f))) (items_told items) ∙ function_told f (table_of items)
+items_told (Defines f ∷ items) = read_append (heads_of [] []) (item_words (Defines f)) (program_words items)
+    ∙ ap (λ (q : Heads). heads_read q (item_words (Defines f))) (items_told items) ∙ function_told f (table_of items) (arrays_of items)
 
 found : (items : List Item) (f : Name) → results_in (table_of items) f ≡ results_of (function_in items f)
 unfolding table_of
@@ -113,3 +114,6 @@ found (Defines g ∷ items) f = by (same_name f g.name.name) (found items f)
 
 pub results_are_told : (p : Program) (f : Name) → told_results (program_words p) f ≡ results_of (function_in p f)
 results_are_told p f = ap (λ (h : Heads). results_in h.table f) (items_told p) ∙ found p f
+
+pub arrays_are_told : (p : Program) → told_arrays (program_words p) ≡ arrays_of p
+arrays_are_told p = ap (λ (h : Heads). h.arrays) (items_told p)

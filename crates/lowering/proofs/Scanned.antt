@@ -22,13 +22,13 @@ back : (z t u : Scan) (a b : Words) → scanned z b ≡ t → scanned t a ≡ u 
 back z t u a b e f = scanned_append z a b ∙ ap (λ x. scanned x a) e ∙ f
 
 -- names without these and those
-kept : (q : Name → Bool) (y : Name) (ys : List Name) → q y ≡ true → filter q (y ∷ ys) ≡ y ∷ filter q ys
+pub kept : (q : Name → Bool) (y : Name) (ys : List Name) → q y ≡ true → filter q (y ∷ ys) ≡ y ∷ filter q ys
 kept q y ys e = ap (λ (b : Bool). if b then y ∷ filter q ys else filter q ys) e
 
-left_out : (q : Name → Bool) (y : Name) (ys : List Name) → q y ≡ false → filter q (y ∷ ys) ≡ filter q ys
+pub left_out : (q : Name → Bool) (y : Name) (ys : List Name) → q y ≡ false → filter q (y ∷ ys) ≡ filter q ys
 left_out q y ys e = ap (λ (b : Bool). if b then y ∷ filter q ys else filter q ys) e
 
-filter_twice : (p q r : Name → Bool) → ((y : Name) → r y ≡ (q y && p y)) → (ys : List Name) → filter p (filter q ys) ≡ filter r ys
+pub filter_twice : (p q r : Name → Bool) → ((y : Name) → r y ≡ (q y && p y)) → (ys : List Name) → filter p (filter q ys) ≡ filter r ys
 filter_twice p q r h [] = refl
 filter_twice p q r h (y ∷ ys) = by (q y) refl (p y) refl (filter_twice p q r h ys)
   where

@@ -4,6 +4,8 @@ pub mod Machine
 pub mod Blocks
 pub mod Scan
 pub mod Results
+pub mod Numbered
 pub mod Lowers
 pub mod Targets
 pub mod Opened
+pub mod Built

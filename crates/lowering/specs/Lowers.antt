@@ -4,9 +4,9 @@ use Rattle.source.specs.Tree.{Name, Program}
 use Rattle.source.specs.Words.{program_words}
 use Rattle.source.specs.Fits.{FitsProgram}
 use Rattle.source.specs.Rules.{checked, function_in}
-use Rattle.source.specs.Lowered.{MadeBlock, results_of, made_blocks, blocks_of, graph_block}
+use Rattle.source.specs.Lowered.{MadeBlock, results_of, made_blocks, blocks_of, graph_block, arrays_of}
 use Rattle.lowering.specs.Machine.{run, between}
-use Rattle.lowering.specs.Results.{told_results}
+use Rattle.lowering.specs.Results.{told_results, told_arrays}
 use Rattle.lowering.specs.Blocks.{named_blocks}
 use Rattle.lowering.specs.Scan.{told_plans}
 
@@ -24,3 +24,6 @@ BlocksOfGraph = (p : Program) → map (λ (b : Name × MadeBlock). graph_block b
 -- what the words tell of a function is how many results it has
 abbrev pub ResultsAreTold : Type 0
 ResultsAreTold = (p : Program) (f : Name) → told_results (program_words p) f ≡ results_of (function_in p f)
+
+abbrev pub ArraysAreTold : Type 0
+ArraysAreTold = (p : Program) → told_arrays (program_words p) ≡ arrays_of p

@@ -7,6 +7,7 @@ ghost use Rattle.lowering.specs.Machine.{Left, Looping};
 ghost use Rattle.semantics.specs.declared.graph.Kind.TheVariants as node;
 
 use crate::frame::{Arms, Frame, Open, Site};
+use crate::loops::all_sources;
 use crate::machine::Machine;
 use crate::scope::Scope;
 use crate::values::{inputs, single};
@@ -68,6 +69,7 @@ impl<'a, A: Allocator + Clone> Machine<'a, A> {
     }
 
     /// What an arm takes from outside: what each name stands for, or the predicate where there is no name.
+    #[tactic(auto, using(crate::proofs::Nodes::some_taken))]
     pub fn taken(
         &self,
         arms: &Arms<'a, A>,
@@ -78,11 +80,7 @@ impl<'a, A: Allocator + Clone> Machine<'a, A> {
         if names.is_empty() {
             return single(self.alloc.clone()?, first(&arms.predicate));
         }
-        let mut sources = Vec::new(self.alloc.clone()?);
-        for name in names {
-            sources.push(arms.scope.source(name.bytes))?;
-        }
-        Ok(sources)
+        all_sources(self.alloc.clone()?, &arms.scope, names)
     }
 
     /// An arm begins.

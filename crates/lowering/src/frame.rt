@@ -3,6 +3,7 @@
 use crate::made::{Made, MadeBlock};
 use crate::names::{NameAt, Target};
 use crate::scope::Scope;
+use graph::Name;
 use semantics::graph::{Region, Source};
 use std::alloc::Allocator;
 use std::marker::Model;
@@ -52,7 +53,7 @@ pub struct Begun<'a, A: Allocator> {
     pub at: usize,
     pub outer: Vec<Source, A>,
     pub names: Vec<NameAt<'a>, A>,
-    pub outs: Vec<graph::Name<'a>, A>,
+    pub outs: Vec<Name<'a>, A>,
 }
 
 impl<'a, A: Allocator> Model for Begun<'a, A> {
@@ -63,7 +64,8 @@ impl<'a, A: Allocator> Model for Begun<'a, A> {
     ghost view = { λ b. record { at = b.at; outer = b.outer.items; names = b.names.items; outs = b.outs.items } };
 }
 
-/// A loop whose turn is open: besides, its first values, where it stands, and what its block and the loops before it have.
+/// A loop whose turn is open: besides, its first values, where it stands, what its block and the loops before it have, and the name of
+/// the turn's block.
 #[derive(Drop)]
 pub struct Turning<'a, A: Allocator> {
     pub begun: Begun<'a, A>,
@@ -73,9 +75,13 @@ pub struct Turning<'a, A: Allocator> {
     pub scope: Scope<'a, A>,
     pub nodes: Vec<Made<'a, A>, A>,
     pub blocks: Vec<MadeBlock<'a, A>, A>,
+    /// The name of the turn's block.
+    pub block: Name<'a>,
 }
 
 impl<'a, A: Allocator> Model for Turning<'a, A> {
+    ghost use Rattle.std.specs.Prelude.{◌≡◌, ◌+◌};
+    ghost use Rattle.source.specs.Lowered.{loop_name};
     ghost use Rattle.lowering.specs.Machine.{Turning};
 
     ghost Value = { Turning };
@@ -92,6 +98,8 @@ impl<'a, A: Allocator> Model for Turning<'a, A> {
       nodes = t.nodes.items;
       blocks = t.blocks.items;
     } };
+
+    ghost invariant = { λ t. t.block ≡ loop_name t.site.function.now (t.spot.loops + 1) };
 }
 
 /// What is open.

@@ -1,17 +1,35 @@
 //! Functions.
 
-ghost use Rattle.std.specs.Prelude.{◌≡◌, ◌+◌, ◌∷◌, ◌++◌, [], OnOk, IfOk};
-ghost use Rattle.lowering.specs.Machine.{Header, with_parameter, body_begun};
+ghost use Rattle.std.specs.Prelude.{◌≡◌, ◌+◌, ◌∷◌, ◌++◌, [], OnOk, IfOk, length};
+ghost use Rattle.source.specs.Lowered.{scoped, inputs_from};
+ghost use Rattle.source.specs.Outside.{bare};
+ghost use Rattle.lowering.specs.Machine.{Header, between, with_parameter, body_begun, function_ended, of_function};
 
 use crate::frame::{Frame, Open, Site, Spot};
 use crate::machine::Machine;
-use crate::names::NameAt;
+use crate::made::{MadeBlock, OfFunction};
+use crate::names::{NameAt, nameless};
 use crate::scope::Scope;
 use crate::turns::{bare_names, number_of};
 use crate::values::inputs;
 use semantics::graph::{Region, Source};
 use std::alloc::{AllocError, Allocator};
+use std::collections::VecDeque;
 use std::mem;
+
+/// What names stand for when a function begins: its parameters, inputs of its block.
+fn function_scope<'a, A: Allocator + Clone>(
+    alloc: A,
+    params: &[NameAt<'a>],
+) -> Result<Scope<'a, A>, AllocError>
+    ensures { IfOk result (λ s. s ≡ scoped (bare params.now) (inputs_from 0 (length params.now)) []) }
+{
+    let names = bare_names(alloc.clone()?, params)?;
+    let values = inputs(alloc.clone()?, 0, params.len())?;
+    let mut scope = Scope::new(alloc);
+    scope.bind_all(&names, &values)?;
+    Ok(scope)
+}
 
 impl<'a, A: Allocator + Clone> Machine<'a, A> {
     /// A function begins.
@@ -51,11 +69,8 @@ impl<'a, A: Allocator + Clone> Machine<'a, A> {
             },
         ) = self.frames.pop_front()
         {
-            let names = bare_names(self.alloc.clone()?, &params)?;
             let next = number_of(params.len())?;
-            let values = inputs(self.alloc.clone()?, 0, params.len())?;
-            let mut scope = Scope::new(self.alloc.clone()?);
-            scope.bind_all(&names, &values)?;
+            let scope = function_scope(self.alloc.clone()?, &params)?;
             let _before = mem::replace(&mut self.scope, scope);
             self.site = Site {
                 function: function.name,
@@ -67,4 +82,83 @@ impl<'a, A: Allocator + Clone> Machine<'a, A> {
         }
         Ok(())
     }
+
+    /// The blocks of a function, its own first, and nothing is made any more.
+    fn take_blocks(
+        &mut self,
+        at: usize,
+        inputs: usize,
+    ) -> Result<Vec<MadeBlock<'a, A>, A>, AllocError>
+        ensures taken { OnOk result (self.new ≡ record self.old { nodes = []; sources = []; blocks = [] }) }
+        ensures blocks { IfOk result (λ v. v.items
+            ≡ record { at = at; loop = 0; inputs = inputs; nodes = self.old.nodes; results = self.old.sources } ∷ self.old.blocks) }
+    {
+        let no_nodes = Vec::new(self.alloc.clone()?);
+        let no_sources = Vec::new(self.alloc.clone()?);
+        let no_blocks = Vec::new(self.alloc.clone()?);
+        let mut all = Vec::new(self.alloc.clone()?);
+        all.push(MadeBlock {
+            at,
+            number: 0,
+            inputs,
+            nodes: mem::replace(&mut self.nodes, no_nodes),
+            results: mem::replace(&mut self.sources, no_sources),
+        })?;
+        let mut inner = mem::replace(&mut self.blocks, no_blocks);
+        all.append(&mut inner)?;
+        Ok(all)
+    }
+
+    /// Nothing is open.
+    fn close(&mut self) -> Result<(), AllocError>
+        ensures { OnOk result (self.new ≡ record (between self.old.plans self.old.done) {
+          sources = self.old.sources;
+          nodes = self.old.nodes;
+          blocks = self.old.blocks;
+        }) }
+    {
+        let empty = Scope::new(self.alloc.clone()?);
+        let _inner = mem::replace(&mut self.scope, empty);
+        self.frames = VecDeque::new(self.alloc.clone()?);
+        self.site = Site {
+            function: nameless(),
+            region: Region::Root,
+            trigger: Source { node: 0, port: 0 },
+        };
+        self.spot = Spot { next: 0, loops: 0 };
+        self.number = false;
+        Ok(())
+    }
+
+    /// A function ends: its own block, and those of its loops.
+    pub fn end_function(&mut self) -> Result<(), AllocError>
+        ensures { OnOk result (self.new ≡ function_ended self.old self.old.frames) }
+    {
+        if let Some(
+            Frame {
+                open: Open::Header { function, params },
+            },
+        ) = self.frames.pop_front()
+        {
+            let blocks = self.take_blocks(function.at, params.len())?;
+            add_blocks(&mut self.done, function.name, blocks)?;
+            self.close()?;
+        }
+        Ok(())
+    }
+}
+
+/// The blocks of the loops of a function.
+fn add_blocks<'a, A: Allocator>(
+    done: &mut Vec<OfFunction<'a, A>, A>,
+    function: &'a [u8],
+    blocks: Vec<MadeBlock<'a, A>, A>,
+) -> Result<(), AllocError>
+    ensures { OnOk result (done.new.items ≡ done.old.items ++ of_function function.now blocks.entry.items) }
+{
+    let mut rest = VecDeque::from_vec(blocks);
+    while let Some(block) = rest.pop_front() {
+        done.push(OfFunction { function, block })?;
+    }
+    Ok(())
 }

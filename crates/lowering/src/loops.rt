@@ -1,11 +1,11 @@
 //! Ends of loops.
 
 ghost use Rattle.std.specs.Prelude.{◌≡◌, ◌+◌, ◌∷◌, ◌++◌, [], OnOk, IfOk, length, map};
-ghost use Rattle.source.specs.Lowered.{source_in, loop_name, turn_block};
+ghost use Rattle.source.specs.Lowered.{source_in, turn_block};
 ghost use Rattle.source.specs.Outside.{bare};
-ghost use Rattle.lowering.specs.Machine.{turn_ended};
+ghost use Rattle.lowering.specs.Machine.{turn_ended, arm_closed, turn_closed, loop_ended};
 
-use crate::frame::{Begun, Turning};
+use crate::frame::{Arms, Begun, Frame, Open, Turning};
 use crate::machine::Machine;
 use crate::made::MadeBlock;
 use crate::scope::Scope;
@@ -30,12 +30,35 @@ fn add_sources<'a, A: Allocator>(
     Ok(())
 }
 
+/// What names stand for.
+pub fn all_sources<'a, A: Allocator>(
+    alloc: A,
+    scope: &Scope<'a, A>,
+    names: &[Name<'a>],
+) -> Result<Vec<Source, A>, AllocError>
+    ensures { IfOk result (λ v. v.items ≡ map (source_in scope.now) names.now) }
+{
+    let mut sources = Vec::new(alloc);
+    add_sources(scope, names, &mut sources)?;
+    Ok(sources)
+}
+
 /// How many names a loop has.
 #[tactic(auto, using(crate::proofs::HowMany::so_many_bare))]
 fn own<'a, A: Allocator>(begun: &Begun<'a, A>) -> Result<u32, AllocError>
     ensures { IfOk result (λ n. n ≡ length (bare begun.now.names)) }
 {
     number_of(begun.names.len())
+}
+
+/// The bound of a loop, which is at most 64.
+fn bound_of(bound: u64) -> Result<u32, AllocError>
+    ensures { IfOk result (λ n. n ≡ bound) }
+{
+    match u32::try_from(bound) {
+        Ok(number) => Ok(number),
+        Err(_) => Err(AllocError),
+    }
 }
 
 impl<'a, A: Allocator + Clone> Machine<'a, A> {
@@ -87,12 +110,11 @@ impl<'a, A: Allocator + Clone> Machine<'a, A> {
         &mut self,
         at: usize,
         bound: u32,
-        block: Name<'a>,
         turn: Turning<'a, A>,
     ) -> Result<(), AllocError>
-        requires { block ≡ loop_name turn.site.function (turn.spot.loops + 1) }
         ensures { OnOk result (self.new ≡ turn_ended self.old at bound turn.entry self.old.frames) }
     {
+        let block = turn.block;
         let begun = turn.begun;
         let names = own(&begun)?;
         let number = next_loop(turn.spot.loops)?;
@@ -108,5 +130,62 @@ impl<'a, A: Allocator + Clone> Machine<'a, A> {
         self.sources = begun.outer;
         self.put(at, Kind::Loop { block, bound }, sources)?;
         self.give_all(values)
+    }
+
+    /// The arm of a turn with its test first ends, and so does the turn.
+    fn close_arm(&mut self, at: usize, bound: u32, arms: Arms<'a, A>) -> Result<(), AllocError>
+        ensures { OnOk result (self.new ≡ arm_closed self.old at bound arms.entry self.old.frames) }
+    {
+        if let Some(
+            Frame {
+                open: Open::Turned { turn },
+            },
+        ) = self.frames.pop_front()
+        {
+            self.come_back(arms, turn.begun.at, &turn.begun.names)?;
+            self.end_turn(at, bound, turn)?;
+        }
+        Ok(())
+    }
+
+    /// The test behind a body ends, and so does the turn: its results are the flag and the values of the body.
+    fn close_test(
+        &mut self,
+        at: usize,
+        bound: u32,
+        mut values: Vec<Source, A>,
+    ) -> Result<(), AllocError>
+        ensures { OnOk result (self.new ≡ turn_closed (record self.old { sources = self.old.sources ++ values.items }) at bound self.old.frames) }
+    {
+        self.sources.append(&mut values)?;
+        if let Some(
+            Frame {
+                open: Open::Turned { turn },
+            },
+        ) = self.frames.pop_front()
+        {
+            self.end_turn(at, bound, turn)?;
+        }
+        Ok(())
+    }
+
+    /// A loop ends.
+    pub fn end_loop(&mut self, at: usize, bound: u64) -> Result<(), AllocError>
+        ensures { OnOk result (self.new ≡ loop_ended self.old at bound self.old.frames) }
+    {
+        let bound = bound_of(bound)?;
+        match self.frames.pop_front() {
+            Some(
+                Frame {
+                    open: Open::Looping { arms },
+                },
+            ) => self.close_arm(at, bound, arms),
+            Some(
+                Frame {
+                    open: Open::Ending { values },
+                },
+            ) => self.close_test(at, bound, values),
+            _ => Ok(()),
+        }
     }
 }

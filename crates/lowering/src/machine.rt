@@ -4,6 +4,7 @@ ghost use Rattle.std.specs.Prelude.{◌≡◌, ◌+◌, ◌-◌, ◌∷◌, ◌+
 ghost use Rattle.lowering.specs.Machine.{after, one_node, before_last, last_of, with_node, with_sources};
 
 use crate::frame::{Frame, Site, Spot};
+use crate::loop_names::LoopName;
 use crate::made::{Made, MadeBlock, OfFunction};
 use crate::plan::Plan;
 use crate::scope::Scope;
@@ -26,6 +27,8 @@ pub struct Machine<'a, A: Allocator> {
     pub plans: VecDeque<Plan<'a, A>, A>,
     pub frames: VecDeque<Frame<'a, A>, A>,
     pub done: Vec<OfFunction<'a, A>, A>,
+    /// The names of the loops whose turns did not begin yet.
+    pub loops: VecDeque<LoopName<'a>, A>,
     pub alloc: A,
 }
 
@@ -59,6 +62,13 @@ pub fn next_number(number: u32) -> Result<u32, AllocError>
 }
 
 impl<'a, A: Allocator + Clone> Machine<'a, A> {
+    /// The blocks that are made.
+    pub fn into_done(self) -> Vec<OfFunction<'a, A>, A>
+        ensures { result.items ≡ self.entry.done }
+    {
+        self.done
+    }
+
     /// One node more, without its values.
     pub fn put(
         &mut self,

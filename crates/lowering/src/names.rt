@@ -1,8 +1,10 @@
 //! Names where they stand, and what they stand for.
 
-ghost use Rattle.std.specs.Prelude.{◌≡◌};
+ghost use Rattle.std.specs.Prelude.{◌≡◌, []};
 ghost use Rattle.semantics.specs.Graph.{same_name};
+ghost use Rattle.source.specs.Words as words;
 
+use graph::Name;
 use semantics::graph::Source;
 use std::marker::Model;
 
@@ -11,6 +13,23 @@ pub fn same(name: &[u8], other: &[u8]) -> bool
     ensures { result ≡ same_name name.now other.now }
 {
     name == other
+}
+
+/// No name.
+pub fn nameless<'a>() -> &'a [u8]
+    ensures { result.now ≡ [] }
+{
+    b"".as_slice()
+}
+
+/// The bytes of the name of that number.
+pub fn name_of<'a>(names: &[Name<'a>], n: usize) -> &'a [u8]
+    ensures { result.now ≡ words.name_of names.now n }
+{
+    match names.get(n) {
+        Some(name) => name.bytes,
+        None => b"".as_slice(),
+    }
 }
 
 /// A name where it is given to something.

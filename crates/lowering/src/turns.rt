@@ -1,11 +1,12 @@
 //! Loops.
 
 ghost use Rattle.std.specs.Prelude.{◌≡◌, ◌+◌, ◌∷◌, ◌++◌, [], OnOk, IfOk, length, map};
-ghost use Rattle.source.specs.Lowered.{scoped, turn_scope};
+ghost use Rattle.source.specs.Lowered.{loop_name, scoped, turn_scope};
 ghost use Rattle.source.specs.Outside.{bare};
 ghost use Rattle.lowering.specs.Machine.{loop_begun, named_first, turning, turn_begun, tested, came_back, passing, passed, with_all};
 
 use crate::frame::{Arms, Begun, Frame, Open, Site, Spot, Turning};
+use crate::loop_names::next_loop_name;
 use crate::machine::Machine;
 use crate::names::NameAt;
 use crate::scope::Scope;
@@ -152,7 +153,9 @@ impl<'a, A: Allocator + Clone> Machine<'a, A> {
         &mut self,
         begun: Begun<'a, A>,
         scope: Scope<'a, A>,
+        block: Name<'a>,
     ) -> Result<Turning<'a, A>, AllocError>
+        requires { block ≡ loop_name self.old.site.function (self.old.spot.loops + 1) }
         ensures parked { OnOk result (self.new ≡ record self.old { scope = scope.entry; sources = []; nodes = []; blocks = [] }) }
         ensures kept { IfOk result (λ t. t ≡ turning self.old begun.entry) }
     {
@@ -167,6 +170,7 @@ impl<'a, A: Allocator + Clone> Machine<'a, A> {
             scope: mem::replace(&mut self.scope, scope),
             nodes: mem::replace(&mut self.nodes, no_nodes),
             blocks: mem::replace(&mut self.blocks, no_blocks),
+            block,
         })
     }
 
@@ -183,7 +187,8 @@ impl<'a, A: Allocator + Clone> Machine<'a, A> {
             let next = width(&begun)?;
             let loops = next_loop(self.spot.loops)?;
             let scope = first_scope(self.alloc.clone()?, &begun)?;
-            let turn = self.park(begun, scope)?;
+            let block = next_loop_name(&mut self.loops, self.site.function, loops)?;
+            let turn = self.park(begun, scope, block)?;
             self.site = Site {
                 function: self.site.function,
                 region: Region::Root,

@@ -48,6 +48,7 @@ module _ (bytes kept : List ℕ) (same : HasSameEnds bytes kept) where
   reason_alike (Request.Dot code) = refused_alike
   reason_alike (Request.Exec o ins) = ap not rests_alike
   reason_alike Request.Asm = refused_alike
+  reason_alike (Request.Lower lowering) = refused_alike
   reason_alike (Request.Trace o last Format.Lines) = ap not rests_alike
   reason_alike (Request.Trace o last Format.Chrome) = refused_alike
   reason_alike (Request.Profile o sizes true) = refused_alike

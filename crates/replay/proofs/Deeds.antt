@@ -13,7 +13,8 @@ use Rattle.tags.specs.declared.slot.SlotState.TheVariants.{Empty, Credits, Waite
 use Rattle.semantics.specs.declared.program.Op.{Op}
 use Rattle.semantics.specs.declared.program.Op.TheVariants.{Apply2, Sync, Switch, Send, Return, Ask, Open, Take, Give, Drain, Release}
 use Rattle.semantics.specs.Program.{Instr, Program, instr_at}
-use Rattle.semantics.specs.Rule.{Seat, Outcome, Becomes, Excluded, token, signal, signal_to, to_all, fires, fire_one, fire_two, meets, opens, takes, gives, drains, alone, on_left, outcome_of, rule_at, slot_of}
+use Rattle.semantics.specs.Rule.{Seat, Outcome, Becomes, Excluded, token, signal, signal_to, to_all, fires, fire_one, fire_two, meets, opens, takes, gives}
+use Rattle.semantics.specs.Rule.{drains, alone, on_left, outcome_of, rule_at, slot_of}
 use Rattle.semantics.specs.Machine.{Store, Happens, Fires, slot_in, slot_used, with_slot, at_start}
 use Rattle.semantics.proofs.Emulator.{instr, left, none, one_block}
 use Rattle.replay.specs.declared.moment.Deed.{Deed}
@@ -23,7 +24,8 @@ use Rattle.replay.proofs.Instructing.{none_left, slot_then}
 
 -- EXAMPLES. The instructions of a loop with bound 2, at 0 to 3, an instruction for two words at 4, and another `open`, which signals to none
 abbrev code : Program
-code = one_block 1 1 1 (instr (Open 2) 0 (left 4) none ∷ instr (Take 2) 0 none none ∷ instr (Give 2) 0 (left 2) none ∷ instr (Drain 2) 0 (left 1) none ∷ instr Sync 0 none none ∷ instr (Open 2) 0 none none ∷ [])
+code = one_block 1 1 1 (instr (Open 2) 0 (left 4) none ∷ instr (Take 2) 0 none none ∷ instr (Give 2) 0 (left 2) none ∷ instr (Drain 2) 0
+    (left 1) none ∷ instr Sync 0 none none ∷ instr (Open 2) 0 none none ∷ [])
 
 abbrev holding : SlotState → Store
 holding v = with_slot (at_start code []).store 0 0 v
@@ -34,7 +36,8 @@ then_holding before after = with_slot (holding before) 0 0 after
 -- A token for instruction `ip` finds the slot in the one state, makes these tokens, and leaves the slot in the other; and this is told of it.
 abbrev Told : ℕ → Port → Word → SlotState → List Token → SlotState → Deed → Type 0
 Told ip port w before made after d =
-    Happens code 1 (holding before) (To.Instr 0 ip port) w made (then_holding before after) × (deed_of code (holding before) (then_holding before after) (To.Instr 0 ip port) made ≡ d)
+    Happens code 1 (holding before) (To.Instr 0 ip port) w made (then_holding before after)
+    × (deed_of code (holding before) (then_holding before after) (To.Instr 0 ip port) made ≡ d)
 
 -- where an iteration waits
 abbrev back : Cont
@@ -115,7 +118,8 @@ module _ (p : Program) (s : Seat) (i : Instr) (w : Word) where
   excluded u v made rule e = absurd (let bad : ⊥ = cc in bad)
 
   -- where the slot is empty then, nothing waits
-  empties : (u v : SlotState) (made : List Token) (o : Option (List Token)) → ((ts : List Token) → IsTrueOf w u Empty ts) → Becomes v made ≡ fires Empty o → IsTrueOf w u v made
+  empties : (u v : SlotState) (made : List Token) (o : Option (List Token)) → ((ts : List Token) → IsTrueOf w u Empty ts) → Becomes v made ≡ fires Empty o
+      → IsTrueOf w u v made
   empties u v made None h e = excluded u v made 4 e
   empties u v made (Some ts) h e = becomes u v Empty made ts e (h ts)
 
@@ -140,7 +144,8 @@ module _ (p : Program) (s : Seat) (i : Instr) (w : Word) where
   taken (Credits n) v x made is e = excluded (Credits n) v made 4 e
   taken u v x made is e = excluded u v made 3 e
 
-  added : (n : ℕ) (v : SlotState) (made : List Token) (t : Bool) → Becomes v made ≡ (if t then Becomes (Credits (n + 1)) [] else Excluded 3) → IsTrueOf w (Credits n) v made
+  added : (n : ℕ) (v : SlotState) (made : List Token) (t : Bool) → Becomes v made ≡ (if t then Becomes (Credits (n + 1)) [] else Excluded 3)
+      → IsTrueOf w (Credits n) v made
   added n v made true e = becomes (Credits n) v (Credits (n + 1)) made [] e (λ h. absurd h, λ h no. absurd h)
   added n v made false e = excluded (Credits n) v made 3 e
 
@@ -154,11 +159,14 @@ module _ (p : Program) (s : Seat) (i : Instr) (w : Word) where
   given (Slot.Left x) v k made e = excluded (Slot.Left x) v made 3 e
   given (Slot.Right x) v k made e = excluded (Slot.Right x) v made 3 e
 
-  left_over : (n k : ℕ) (v : SlotState) (made : List Token) (t : Bool) → Becomes v made ≡ (if t then Becomes (Draining (k - n)) [] else Excluded 3) → IsTrueOf w (Credits n) v made
+  left_over : (n k : ℕ) (v : SlotState) (made : List Token) (t : Bool) → Becomes v made ≡ (if t then Becomes (Draining (k - n)) [] else Excluded 3)
+      → IsTrueOf w (Credits n) v made
   left_over n k v made true e = becomes (Credits n) v (Draining (k - n)) made [] e (λ h. (tt, λ no. no, refl), λ h no. tt)
   left_over n k v made false e = excluded (Credits n) v made 3 e
 
-  all_there : (n k : ℕ) (v : SlotState) (made : List Token) (t : Bool) → Becomes v made ≡ (if t then Becomes Empty (to_all s signal i) else if nat_lt n k then Becomes (Draining (k - n)) [] else Excluded 3) → IsTrueOf w (Credits n) v made
+  all_there : (n k : ℕ) (v : SlotState) (made : List Token) (t : Bool)
+      → Becomes v made ≡ (if t then Becomes Empty (to_all s signal i) else if nat_lt n k then Becomes (Draining (k - n)) [] else Excluded 3)
+      → IsTrueOf w (Credits n) v made
   all_there n k v made true e = becomes (Credits n) v Empty made (to_all s signal i) e (λ h. absurd h, λ h no. absurd h)
   all_there n k v made false e = left_over n k v made (nat_lt n k) e
 
@@ -166,7 +174,8 @@ module _ (p : Program) (s : Seat) (i : Instr) (w : Word) where
   drained (Credits n) v k made e = all_there n k v made (n == k) e
   drained u v k made e = excluded u v made 3 e
 
-  at_left : (u v : SlotState) (port : Port) (made : List Token) (o : Outcome) → (Becomes v made ≡ o → IsTrueOf w u v made) → Becomes v made ≡ on_left port o → IsTrueOf w u v made
+  at_left : (u v : SlotState) (port : Port) (made : List Token) (o : Outcome) → (Becomes v made ≡ o → IsTrueOf w u v made) → Becomes v made ≡ on_left port o
+      → IsTrueOf w u v made
   at_left u v Left made o h e = h e
   at_left u v Right made o h e = excluded u v made 2 e
 
@@ -178,7 +187,8 @@ module _ (p : Program) (s : Seat) (i : Instr) (w : Word) where
   none_used u v port made empty e =
       subst (λ (x : SlotState). IsTrueOf w x v made) (sym empty) (one v port made (e ∙ ap (λ (x : SlotState). alone p s i x port w) empty))
 
-  rules : (op : Op) (u v : SlotState) (port : Port) (made : List Token) → (slot_of i op ≡ None → u ≡ Empty) → Becomes v made ≡ outcome_of p s i op u port w → IsTrueOf w u v made
+  rules : (op : Op) (u v : SlotState) (port : Port) (made : List Token) → (slot_of i op ≡ None → u ≡ Empty) → Becomes v made ≡ outcome_of p s i op u port w
+      → IsTrueOf w u v made
   rules (Apply2 op) u v port made empty e = two u v port made e
   rules Sync u v port made empty e = two u v port made e
   rules Switch u v port made empty e = two u v port made e
@@ -194,7 +204,8 @@ module _ (p : Program) (s : Seat) (i : Instr) (w : Word) where
   rules op u v port made empty e = none_used u v port made (empty refl) e
 
 -- what is told of a token that came to an instruction is true of it
-pub tells_truth : (p : Program) (total : ℕ) (old new : Store) (f ip : ℕ) (port : Port) (w : Word) (made : List Token) → Happens p total old (To.Instr f ip port) w made new
+pub tells_truth : (p : Program) (total : ℕ) (old new : Store) (f ip : ℕ) (port : Port) (w : Word) (made : List Token)
+    → Happens p total old (To.Instr f ip port) w made new
     → let r = slot_used (instr_at p ip) in IsTrueOf w (slot_in old f r) (slot_in new f r) made
 tells_truth p total old new f ip port w made happens = by (instr_at p ip) happens where
   s : Seat
@@ -203,15 +214,18 @@ tells_truth p total old new f ip port w made happens = by (instr_at p ip) happen
   no_slot : (r : Option ℕ) → r ≡ None → slot_in old f r ≡ Empty
   no_slot r is = ap (λ (x : Option ℕ). slot_in old f x) is
 
-  of : (i : Instr) (o : Outcome) → o ≡ outcome_of p s i i.op (slot_in old f (slot_of i i.op)) port w → Fires old f (slot_of i i.op) o made new → IsTrueOf w (slot_in old f (slot_of i i.op)) (slot_in new f (slot_of i i.op)) made
+  of : (i : Instr) (o : Outcome) → o ≡ outcome_of p s i i.op (slot_in old f (slot_of i i.op)) port w → Fires old f (slot_of i i.op) o made new
+      → IsTrueOf w (slot_in old f (slot_of i i.op)) (slot_in new f (slot_of i i.op)) made
   of i (Excluded rule) is h = absurd h
   of i (Becomes v ts) is h =
       let r = slot_of i i.op in
       let told : IsTrueOf w (slot_in old f r) v ts = rules p s i w i.op (slot_in old f r) v port ts (no_slot r) is in
-      let no : slot_of i i.op ≡ None → v ≡ Empty = λ none. none_left p s i i.op port w v ts (is ∙ ap (λ (x : SlotState). outcome_of p s i i.op x port w) (no_slot r none)) none in
+      let no : slot_of i i.op ≡ None → v ≡ Empty = λ none. none_left p s i i.op port w v ts
+      (is ∙ ap (λ (x : SlotState). outcome_of p s i i.op x port w) (no_slot r none)) none in
       let after : v ≡ slot_in new f r = slot_then old f i v r refl no ∙ sym (ap (λ (x : Store). slot_in x f r) h.1) in
       subst (λ (x : SlotState). IsTrueOf w (slot_in old f r) x made) after (subst (λ (ys : List Token). IsTrueOf w (slot_in old f r) v ys) (sym h.0) told)
 
-  by : (x : Option Instr) → Fires old f (slot_used x) (rule_at p s x (slot_in old f (slot_used x)) port w) made new → IsTrueOf w (slot_in old f (slot_used x)) (slot_in new f (slot_used x)) made
+  by : (x : Option Instr) → Fires old f (slot_used x) (rule_at p s x (slot_in old f (slot_used x)) port w) made new
+      → IsTrueOf w (slot_in old f (slot_used x)) (slot_in new f (slot_used x)) made
   by None h = absurd h
   by (Some i) h = of i (outcome_of p s i i.op (slot_in old f (slot_of i i.op)) port w) refl h

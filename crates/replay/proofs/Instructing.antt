@@ -32,11 +32,13 @@ use Rattle.replay.proofs.Keeping.{with_slots, slot_is, slot_kept, slot_near, slo
 abbrev seat : ℕ → ℕ → Seat
 seat f ip = record { frame = f; ip = ip }
 
-answer_near : (b : Bounds) (f ip : ℕ) (first : Option Dest) → f < b.frames → ip < 2 ^ 30 → IfSome first (λ (d : Dest). d.ahead < 2 ^ 30) → IsNearCont b (answer_to (seat f ip) (option_to_list first))
+answer_near : (b : Bounds) (f ip : ℕ) (first : Option Dest) → f < b.frames → ip < 2 ^ 30 → IfSome first (λ (d : Dest). d.ahead < 2 ^ 30)
+    → IsNearCont b (answer_to (seat f ip) (option_to_list first))
 answer_near b f ip None l m n = (l, omega arith)
 answer_near b f ip (Some d) l m n = (l, omega arith)
 
-landing_near : (b : Bounds) (f ip : ℕ) (first : Option Dest) → f < b.frames → ip < 2 ^ 30 → IfSome first (λ (d : Dest). d.ahead < 2 ^ 30) → IsNearCont b (landing_at (seat f ip) (option_to_list first))
+landing_near : (b : Bounds) (f ip : ℕ) (first : Option Dest) → f < b.frames → ip < 2 ^ 30 → IfSome first (λ (d : Dest). d.ahead < 2 ^ 30)
+    → IsNearCont b (landing_at (seat f ip) (option_to_list first))
 landing_near b f ip None l m n = (l, omega arith)
 landing_near b f ip (Some d) l m n = (l, omega arith)
 
@@ -44,12 +46,14 @@ fired_empty : (v : SlotState) (ts : List Token) (o : Option (List Token)) → Be
 fired_empty v ts None e = absurd (let bad : ⊥ = cc in bad)
 fired_empty v ts (Some made) e = cc
 
-alone_empty : (p : Program) (s : Seat) (i : Instr) (port : Port) (w : Word) (v : SlotState) (ts : List Token) → Becomes v ts ≡ alone p s i Empty port w → v ≡ Empty
+alone_empty : (p : Program) (s : Seat) (i : Instr) (port : Port) (w : Word) (v : SlotState) (ts : List Token) → Becomes v ts ≡ alone p s i Empty port w
+    → v ≡ Empty
 alone_empty p s i Left w v ts e = fired_empty v ts (fire_one p s i i.op w) e
 alone_empty p s i Right w v ts e = absurd (let bad : ⊥ = cc in bad)
 
 -- an instruction that uses no slot leaves none
-pub none_left : (p : Program) (s : Seat) (i : Instr) (op : Op) (port : Port) (w : Word) (v : SlotState) (ts : List Token) → Becomes v ts ≡ outcome_of p s i op Empty port w → slot_of i op ≡ None → v ≡ Empty
+pub none_left : (p : Program) (s : Seat) (i : Instr) (op : Op) (port : Port) (w : Word) (v : SlotState) (ts : List Token)
+    → Becomes v ts ≡ outcome_of p s i op Empty port w → slot_of i op ≡ None → v ≡ Empty
 none_left p s i (Apply2 op) port w v ts e n = absurd (let bad : ⊥ = cc in bad)
 none_left p s i Sync port w v ts e n = absurd (let bad : ⊥ = cc in bad)
 none_left p s i Switch port w v ts e n = absurd (let bad : ⊥ = cc in bad)
@@ -65,13 +69,15 @@ none_left p s i (Drain k) port w v ts e n = absurd (let bad : ⊥ = cc in bad)
 none_left p s i op port w v ts e n = alone_empty p s i port w v ts e
 
 -- the slot that the instruction uses is this one then; where it uses none, it is as empty as before
-pub slot_then : (s : Store) (f : ℕ) (i : Instr) (v : SlotState) (r : Option ℕ) → slot_of i i.op ≡ r → (slot_of i i.op ≡ None → v ≡ Empty) → v ≡ slot_in (with_slot_in s f r v) f (slot_of i i.op)
+pub slot_then : (s : Store) (f : ℕ) (i : Instr) (v : SlotState) (r : Option ℕ) → slot_of i i.op ≡ r → (slot_of i i.op ≡ None → v ≡ Empty)
+    → v ≡ slot_in (with_slot_in s f r v) f (slot_of i i.op)
 slot_then s f i v r r_is none = by r r_is where
   by : (q : Option ℕ) → slot_of i i.op ≡ q → v ≡ slot_in (with_slot_in s f r v) f (slot_of i i.op)
   by None is = none is ∙ sym (ap (λ (q : Option ℕ). slot_in (with_slot_in s f r v) f q) is)
   by (Some q) is =
       let used : r ≡ Some q = sym r_is ∙ is in
-      let put : slot_in (with_slot_in s f (Some q) v) f (Some q) ≡ v = ap (λ (k : ℕ → SlotState). k q) (put_same s.slots f f (put_at (s.slots f) q v) refl) ∙ put_same (s.slots f) q q v refl in
+      let put : slot_in (with_slot_in s f (Some q) v) f (Some q) ≡ v = ap (λ (k : ℕ → SlotState). k q) (put_same s.slots f f (put_at (s.slots f) q v) refl)
+      ∙ put_same (s.slots f) q q v refl in
       sym (ap (λ (x : Option ℕ). slot_in (with_slot_in s f r v) f x) is ∙ ap (λ (x : Option ℕ). slot_in (with_slot_in s f x v) f (Some q)) used ∙ put)
 
 abbrev pub slot_at : Instruction → Option ℕ
@@ -82,7 +88,8 @@ module _ {A : Type 0} (p : Program) (h : State A) (s : Store) (holds : Holds h s
   b = bounds_of p h.frames
 
   -- an event of an instruction that is there
-  pub at_instr : (f ip : ℕ) (port : Port) (w : Word) (i : Instr) (made : List Token) (n : Store) → Some i ≡ instr_at p ip → Happens p h.frames s (To.Instr f ip port) w made n
+  pub at_instr : (f ip : ℕ) (port : Port) (w : Word) (i : Instr) (made : List Token) (n : Store) → Some i ≡ instr_at p ip
+      → Happens p h.frames s (To.Instr f ip port) w made n
       → Fires s f (slot_of i i.op) (outcome_of p (seat f ip) i i.op (held_in h.slots f (slot_of i i.op)) port w) made n
   at_instr f ip port w i made n e happens =
       subst (λ (v : SlotState). Fires s f (slot_of i i.op) (outcome_of p (seat f ip) i i.op v port w) made n) (sym (slot_is h s holds f (slot_of i i.op)))
@@ -92,7 +99,8 @@ module _ {A : Type 0} (p : Program) (h : State A) (s : Store) (holds : Holds h s
   held_near f r = subst (λ (v : SlotState). IsNearSlot b v) (sym (slot_is h s holds f r)) (slot_near b s near f r)
 
   -- the deed at the slot that the instruction uses
-  deed_is : (f ip : ℕ) (port : Port) (i : Instr) (v : SlotState) (r : Option ℕ) (ts : List Token) → Some i ≡ instr_at p ip → slot_of i i.op ≡ r → (slot_of i i.op ≡ None → v ≡ Empty)
+  deed_is : (f ip : ℕ) (port : Port) (i : Instr) (v : SlotState) (r : Option ℕ) (ts : List Token) → Some i ≡ instr_at p ip → slot_of i i.op ≡ r
+      → (slot_of i i.op ≡ None → v ≡ Empty)
       → at_slot (held_in h.slots f (slot_of i i.op)) v ≡ deed_of p s (with_slot_in s f r v) (To.Instr f ip port) ts
   deed_is f ip port i v r ts e r_is none =
       ap (λ (x : SlotState). at_slot x v) (slot_is h s holds f (slot_of i i.op))
@@ -107,12 +115,15 @@ module _ {A : Type 0} (p : Program) (h : State A) (s : Store) (holds : Holds h s
     cells = λ a x l. cell_there p.arrays a x l;
   }
 
-  pub fired : (width f ip : ℕ) (port : Port) (w : Word) (i : Instruction) (u v : SlotState) (ts : List Token) (slots : Slots A) (did : Did) (made : List Token) (n : Store) → width ≤ 512 → f < h.frames → IsNearWord b w → IsShort width ip i → Some (instr_of i) ≡ instr_at p ip
-      → u ≡ held_in h.slots f (slot_of (instr_of i) i.op) → Becomes v ts ≡ outcome_of p (seat f ip) (instr_of i) i.op u port w → Sets h.slots f (slot_of (instr_of i) i.op) v slots → did.made ≡ length ts → did.deed ≡ at_slot u v
+  pub fired : (width f ip : ℕ) (port : Port) (w : Word) (i : Instruction) (u v : SlotState) (ts : List Token) (slots : Slots A) (did : Did) (made : List Token)
+      (n : Store) → width ≤ 512 → f < h.frames → IsNearWord b w → IsShort width ip i → Some (instr_of i) ≡ instr_at p ip
+      → u ≡ held_in h.slots f (slot_of (instr_of i) i.op) → Becomes v ts ≡ outcome_of p (seat f ip) (instr_of i) i.op u port w
+      → Sets h.slots f (slot_of (instr_of i) i.op) v slots → did.made ≡ length ts → did.deed ≡ at_slot u v
       → Happens p h.frames s (To.Instr f ip port) w made n → IsDone p h.frames did (To.Instr f ip port) made s (with_slots h slots) n
   fired width f ip port w i u v ts slots did made n wide there near_w short found was becomes sets count deed_at happens =
       subst (λ (x : Store). IsDone p h.frames did (To.Instr f ip port) made s (with_slots h slots) x) (sym fires.1)
-      (subst (λ (us : List Token). IsDone p h.frames did (To.Instr f ip port) us s (with_slots h slots) (with_slot_in s f (slot_at i) v)) (sym fires.0) (record {
+      (subst (λ (us : List Token). IsDone p h.frames did (To.Instr f ip port) us s (with_slots h slots) (with_slot_in s f (slot_at i) v)) (sym fires.0)
+      (record {
         made = count;
         deed = deed_at ∙ ap (λ (x : SlotState). at_slot x v) was ∙ deed_is f ip port (instr_of i) v (slot_at i) ts found refl none;
         holds = slot_kept h s holds f (slot_at i) v slots there (low_slot (instr_of i) i.op 512 (let low = short.slot in omega (arith, wide, low))) sets;
@@ -127,7 +138,10 @@ module _ {A : Type 0} (p : Program) (h : State A) (s : Store) (holds : Holds h s
       fires = subst (λ (o : Outcome). Fires s f (slot_at i) o made n) (sym comes) (at_instr f ip port w (instr_of i) made n found happens)
 
       after : NearOutcome b (Becomes v ts)
-      after = subst (λ (o : Outcome). NearOutcome b o) (sym comes) (outcome_near p b (seat f ip) (instr_of i) (seat_near width f ip i there short) i.op (held_in h.slots f (slot_at i)) port w (held_near f (slot_at i)) near_w)
+      after = subst (λ (o : Outcome). NearOutcome b o) (sym comes)
+          (outcome_near p b (seat f ip) (instr_of i) (seat_near width f ip i there short) i.op (held_in h.slots f (slot_at i)) port w
+          (held_near f (slot_at i)) near_w)
 
       none : (slot_at i) ≡ None → v ≡ Empty
-      none is = none_left p (seat f ip) (instr_of i) i.op port w v ts (comes ∙ ap (λ (q : Option ℕ). outcome_of p (seat f ip) (instr_of i) i.op (held_in h.slots f q) port w) is) is
+      none is = none_left p (seat f ip) (instr_of i) i.op port w v ts
+          (comes ∙ ap (λ (q : Option ℕ). outcome_of p (seat f ip) (instr_of i) i.op (held_in h.slots f q) port w) is) is

@@ -45,17 +45,20 @@ module _ {A : Type 0} (h : State A) (s : Store) (holds : Holds h s) where
   slot_is f None = refl
   slot_is f (Some r) = holds.slots f r
 
-  pub slot_kept : (f : ℕ) (r : Option ℕ) (v : SlotState) (slots : Slots A) → f < h.frames → IsLow 512 r → Sets h.slots f r v slots → Holds (with_slots h slots) (with_slot_in s f r v)
+  pub slot_kept : (f : ℕ) (r : Option ℕ) (v : SlotState) (slots : Slots A) → f < h.frames → IsLow 512 r → Sets h.slots f r v slots
+      → Holds (with_slots h slots) (with_slot_in s f r v)
   slot_kept f None v slots l low sets = subst (λ (k : Slots A). Holds (with_slots h k) s) (sym sets) holds
   slot_kept f (Some r) v slots l low sets = record {
     slots = λ g q. sets.0 g q ∙ ap (λ (k : ℕ → ℕ → SlotState). put_at k f (put_at (k f) r v) g q) slots_are;
     cells = holds.cells;
-    full = (let changed = full_changed h.frames 512 f r s.slots v l low in let was = holds.full in let now = sets.1 in let here : fullness (held h.slots f r) ≡ fullness (s.slots f r) = ap fullness (holds.slots f r) in omega (arith, changed, was, now, here));
+    full = (let changed = full_changed h.frames 512 f r s.slots v l low in let was = holds.full in let now = sets.1 in let here : fullness
+        (held h.slots f r) ≡ fullness (s.slots f r) = ap fullness (holds.slots f r) in omega (arith, changed, was, now, here));
     out = holds.out;
     requests = holds.requests;
   }
 
-  pub cell_kept : (x : ℕ) (c : CellState) (cells : Cells A) → ((y : ℕ) → kept cells y ≡ put_at (kept h.cells) x (known c) y) → Holds (with_cells h cells) (with_cell s x c)
+  pub cell_kept : (x : ℕ) (c : CellState) (cells : Cells A) → ((y : ℕ) → kept cells y ≡ put_at (kept h.cells) x (known c) y)
+      → Holds (with_cells h cells) (with_cell s x c)
   cell_kept x c cells sets = record {
     slots = holds.slots;
     cells = λ y. sets y ∙ ⊎_elim
@@ -87,7 +90,8 @@ module _ (b : Bounds) (s : Store) (near : IsNearStore b s) where
   pub slot_stays : (f : ℕ) (r : Option ℕ) (v : SlotState) → IsNearSlot b v → IsNearStore b (with_slot_in s f r v)
   slot_stays f None v n = near
   slot_stays f (Some r) v n = record {
-    slots = λ g q. put_all (λ (k : ℕ → SlotState). IsNearSlot b (k q)) s.slots f g (put_at (s.slots f) r v) (put_all (IsNearSlot b) (s.slots f) r q v n (near.slots f q)) (near.slots g q);
+    slots = λ g q. put_all (λ (k : ℕ → SlotState). IsNearSlot b (k q)) s.slots f g (put_at (s.slots f) r v)
+        (put_all (IsNearSlot b) (s.slots f) r q v n (near.slots f q)) (near.slots g q);
     cells = near.cells;
     requests = near.requests;
     out = near.out;

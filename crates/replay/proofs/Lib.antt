@@ -4,3 +4,7 @@ pub mod Serving
 pub mod Instructing
 pub mod Watching
 pub mod Deeds
+pub mod Complete
+pub mod Same
+pub mod Entering
+pub mod Ledgers

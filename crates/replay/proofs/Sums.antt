@@ -48,7 +48,8 @@ one_free (suc n) f out l e = ⊎_elim
     (cases_eq n f)
 
 -- one frame's flag is changed
-pub out_changed : (n f : ℕ) (out : ℕ → Bool) (b : Bool) → f < n → sum_below n (λ k. one_if (put_at out f b k)) + one_if (out f) ≡ sum_below n (λ k. one_if (out k)) + one_if b
+pub out_changed : (n f : ℕ) (out : ℕ → Bool) (b : Bool) → f < n
+    → sum_below n (λ k. one_if (put_at out f b k)) + one_if (out f) ≡ sum_below n (λ k. one_if (out k)) + one_if b
 out_changed n f out b l =
     let all = sum_changed n f (λ k. one_if (put_at out f b k)) (λ k. one_if (out k)) l (λ k ne. ap one_if (put_other out f k b (λ e. ne (sym e)))) in
     let here : one_if (put_at out f b f) ≡ one_if b = ap one_if (put_same out f f b refl) in
@@ -59,11 +60,14 @@ row width slots f = sum_below width (λ r. fullness (slots f r))
 
 -- one slot is changed
 pub full_changed : (n width f r : ℕ) (slots : ℕ → ℕ → SlotState) (v : SlotState) → f < n → r < width
-    → sum_below n (λ g. sum_below width (λ q. fullness (put_at slots f (put_at (slots f) r v) g q))) + fullness (slots f r) ≡ sum_below n (λ g. sum_below width (λ q. fullness (slots g q))) + fullness v
+    → sum_below n (λ g. sum_below width (λ q. fullness (put_at slots f (put_at (slots f) r v) g q))) + fullness (slots f r) ≡ sum_below n
+    (λ g. sum_below width (λ q. fullness (slots g q))) + fullness v
 full_changed n width f r slots v l low =
     let new : ℕ → ℕ → SlotState = put_at slots f (put_at (slots f) r v) in
     let frame : new f ≡ put_at (slots f) r v = put_same slots f f (put_at (slots f) r v) refl in
-    let all = sum_changed n f (row width new) (row width slots) l (λ k ne. ap (λ (s : ℕ → SlotState). sum_below width (λ q. fullness (s q))) (put_other slots f k (put_at (slots f) r v) (λ e. ne (sym e)))) in
-    let within = sum_changed width r (λ q. fullness (new f q)) (λ q. fullness (slots f q)) low (λ k ne. ap (λ (s : ℕ → SlotState). fullness (s k)) frame ∙ ap fullness (put_other (slots f) r k v (λ e. ne (sym e)))) in
+    let all = sum_changed n f (row width new) (row width slots) l
+    (λ k ne. ap (λ (s : ℕ → SlotState). sum_below width (λ q. fullness (s q))) (put_other slots f k (put_at (slots f) r v) (λ e. ne (sym e)))) in
+    let within = sum_changed width r (λ q. fullness (new f q)) (λ q. fullness (slots f q)) low
+    (λ k ne. ap (λ (s : ℕ → SlotState). fullness (s k)) frame ∙ ap fullness (put_other (slots f) r k v (λ e. ne (sym e)))) in
     let here : fullness (new f r) ≡ fullness v = ap (λ (s : ℕ → SlotState). fullness (s r)) frame ∙ ap fullness (put_same (slots f) r r v refl) in
     omega (arith, all, within, here)

@@ -31,7 +31,8 @@ held_in slots f (Some r) = held slots f r
 -- The slot, if there is one, has this state then, and all others stay. The number of full ones is told.
 abbrev pub Sets : {A : Type 0} → Slots A → ℕ → Option ℕ → SlotState → Slots A → Type 0
 Sets old f None v new = new ≡ old
-Sets old f (Some r) v new = ((g q : ℕ) → held new g q ≡ put_at (held old) f (put_at (held old f) r v) g q) × (new.full ≡ old.full + fullness v - fullness (held old f r))
+Sets old f (Some r) v new = ((g q : ℕ) → held new g q ≡ put_at (held old) f (put_at (held old f) r v) g q)
+    × (new.full ≡ old.full + fullness v - fullness (held old f r))
 
 -- an answer whether this is so
 abbrev pub Tells : Type 0 → Bool → Type 0
@@ -54,7 +55,8 @@ pub record IsDone {A : Type 0} (p : Program) (frames : ℕ) (did : Did) (to : To
 
 -- Whatever the token does in a store that is held, is done.
 abbrev pub Follows : {A : Type 0} → Program → State A → Token → Result Did ReplayFault → State A → Type 0
-Follows p old t result new = (s n : Store) (made : List Token) → Holds old s → IsNearStore (bounds_of p old.frames) s → IsNearToken (bounds_of p old.frames) t → Happens p old.frames s t.to t.word made n
+Follows p old t result new = (s n : Store) (made : List Token) → Holds old s → IsNearStore (bounds_of p old.frames) s → IsNearToken (bounds_of p old.frames) t
+    → Happens p old.frames s t.to t.word made n
     → OfRun result (λ did. IsDone p old.frames did t.to made s new n)
 
 -- All of the machine is held.
@@ -66,9 +68,11 @@ pub record Stands {A : Type 0} (p : Program) (h : State A) (m : Machine) : Type 
 
 -- Whatever event takes the token in a machine that is held, this is its moment.
 abbrev pub Moves : {A : Type 0} → Program → State A → Token → Result Moment ReplayFault → State A → Type 0
-Moves p old t result new = (z : Size) (e : ℕ) (m n : Machine) → z.elements * z.frames ≡ old.frames → Stands p old m → (ev : Event p z e t m n) → OfRun result (λ x. IsMoment p z t ev.made m n x × Stands p new n)
+Moves p old t result new = (z : Size) (e : ℕ) (m n : Machine) → z.elements * z.frames ≡ old.frames → Stands p old m → (ev : Event p z e t m n)
+    → OfRun result (λ x. IsMoment p z t ev.made m n x × Stands p new n)
 
 -- Of each run by these events, of machines with `frames` frames and from `inputs` inputs, these are the moments.
 abbrev pub IsReplay : Program → ℕ → ℕ → Events → Result (List Moment) ReplayFault → Type 0
-IsReplay p frames inputs events result = (z : Size) (xs : List ℤ) (last : Machine) → z.elements * z.frames ≡ frames → length xs ≡ inputs → Run p z (at_start p xs) events last
+IsReplay p frames inputs events result = (z : Size) (xs : List ℤ) (last : Machine) → z.elements * z.frames ≡ frames → length xs ≡ inputs
+    → Run p z (at_start p xs) events last
     → OfRun result (λ moments. Watches p z (at_start p xs) events moments last)

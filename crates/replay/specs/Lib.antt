@@ -1,4 +1,6 @@
 pub mod Moments
+pub mod Books
 pub mod Held
 pub mod Nearby
 pub mod Follows
+pub mod Entering

@@ -61,5 +61,6 @@ pub record IsMoment (p : Program) (z : Size) (t : Token) (made : List Token) (ol
 -- A run of the machine by these events, with the moment of each.
 abbrev pub Watches : Program → Size → Machine → Events → List Moment → Machine → Type 0
 Watches p z old [] [] new = IsPermutation old.pool new.pool × (new.store ≡ old.store)
-Watches p z old (ev ∷ later) (x ∷ xs) new = (mid : Machine) × (e : Event p z ev.0 ev.1 old mid) × IsMoment p z ev.1 e.made old mid x × Watches p z mid later xs new
+Watches p z old (ev ∷ later) (x ∷ xs) new = (mid : Machine) × (e : Event p z ev.0 ev.1 old mid) × IsMoment p z ev.1 e.made old mid x
+    × Watches p z mid later xs new
 Watches p z old events moments new = ⊥

@@ -65,7 +65,7 @@ fn count_made(made: &Made) -> u64
 }
 
 // What a token did at an instruction whose slot had the one state before and has the other then.
-fn deed_at(before: &SlotState, after: &SlotState) -> Deed
+pub(crate) fn deed_at(before: &SlotState, after: &SlotState) -> Deed
     ensures { result ≡ at_slot before.now after.now }
 {
     match *before {

@@ -8,7 +8,7 @@ use std::alloc::{AllocError, AllocFailed};
 /// Why events are not replayed.
 #[derive(Clone, Copy, Debug, PartialEq, Eq)]
 pub enum ReplayFault {
-    /// They are not those of a run of this code.
+    /// They are not those of a run of this code; of books, that an event was not found to fit.
     NotARun,
     /// A growth was refused, or there is more than a number of 64 bits counts.
     Memory,

@@ -1,14 +1,23 @@
-//! The events of a run, done again: what each one did, and how many tokens, full slots and frames out there are after it.
+//! The events of a run, done again: what each one did, and how many tokens, full slots and frames out there are after it; and the books of a
+//! run, which have of each event what it changed.
 #![tactic(auto)]
 
 mod acts;
+mod books;
 mod cells;
+mod entry;
+mod extent;
 mod fault;
+mod ledger;
 mod moment;
 mod replaying;
 mod slots;
 mod state;
 
+pub use books::open;
+pub use entry::{Change, Entry};
+pub use extent::Extent;
 pub use fault::ReplayFault;
+pub use ledger::{Ledger, start_tokens};
 pub use moment::{Deed, Moment};
 pub use replaying::replay;

@@ -17,7 +17,7 @@ use Rattle.source.proofs.Steps.{then_ok, ok_same, ok_as}
 use Rattle.source.proofs.Kept.{test_ok, known_name, in_prefix, in_infix, in_fetch, in_store, IsCalled, in_call, in_if, IsTurned, in_loop, in_more, in_first, in_firsts, in_let, in_do, in_before, in_after}
 
 -- the body of each function that a name stands for fits, and has its results
-abbrev EachGood : Program → Type 0
+abbrev pub EachGood : Program → Type 0
 EachGood p = (f : Name) (g : Function) → function_in p f ≡ Some g → FitsBody false g.body × (body_values p (bare g.params) g.body ≡ Ok (written_or_one
     g.results))
 
@@ -112,7 +112,7 @@ functions_good p (Defines k ∷ items) fits c f g h =
     let s = then_ok (function_checked p k) (λ good. functions_checked p items) tt c in
     chosen_good p (same_name f k.name.name) k g (function_in items f) (function_good p k fits.0.2 s.1) (functions_good p items fits.1 s.2 f g) h
 
-each_good : (p : Program) → IsGood p → EachGood p
+pub each_good : (p : Program) → IsGood p → EachGood p
 each_good p good =
     let s = then_ok (heads no_items p) (λ all. must (is_some (function_in p main_name)) NoMain good.end >>= (λ main. functions_checked p p)) tt good.checked in
     let t = then_ok (must (is_some (function_in p main_name)) NoMain good.end) (λ main. functions_checked p p) tt s.2 in

@@ -4,7 +4,11 @@ pub mod Spelling
 pub mod Steps
 pub mod Kept
 pub mod CountedSources
-mod Counted
+pub mod Counted
+pub mod Counting
+pub mod NamesUsed
+pub mod OutsideNames
+pub mod Holding
 mod OneAnswer
 mod ReadSamples
 mod LowerSamples

@@ -14,3 +14,4 @@ pub mod Lowered
 pub mod Samples
 pub mod Examples
 pub mod Counts
+pub mod Holds

@@ -1,7 +1,7 @@
 -- THE TEXT OF A PROGRAM, AND ITS TOKENS. A text is its bytes, and a place in it is the number of bytes before.
-use Rattle.std.specs.Prelude.{ℕ, zero, suc, ◌+◌, ◌-◌, ◌^◌, ◌==◌, ◌&&◌, ◌||◌, not, nat_le, Bool, true, false, List, [], ◌∷◌, length, take, drop, fold, find, take_while, bytes_eq, codes, Option, None, Some, Result, Ok, Err, if◌then◌else◌}
+use Rattle.std.specs.Prelude.{◌≡◌, ℕ, zero, suc, ◌+◌, ◌-◌, ◌^◌, ◌==◌, ◌&&◌, ◌||◌, not, nat_le, Bool, true, false, List, [], ◌∷◌, length, take, drop, fold, find, take_while, bytes_eq, codes, Option, None, Some, Result, Ok, Err, if◌then◌else◌}
 use Rattle.std.specs.List.{list_all, list_any}
-use Rattle.std.specs.Char.{is_ascii_digit, is_ascii_alphanumeric}
+use Rattle.std.specs.Char.{is_ascii_digit, is_ascii_alphabetic, is_ascii_alphanumeric}
 use Rattle.std.specs.Str.Parse.{digits_value}
 use Rattle.source.specs.declared.fault.Fault.{Fault}
 use Rattle.source.specs.declared.fault.FaultKind.{FaultKind}
@@ -143,12 +143,27 @@ is_name run = not (begins (codes "_") run) && nat_le (length run) 24 && not (has
 abbrev pub name_run : List ℕ → Beginning
 name_run run = if is_name run then Read (Name (length run)) (length run) else Refused BadName
 
+-- the keyword that a run is
+abbrev pub keyword_of : List ℕ → Option Keyword
+keyword_of run = find (λ k. bytes_eq run (keyword_text k)) keywords
+
+abbrev pub begins_with_letter : List ℕ → Bool
+begins_with_letter [] = false
+begins_with_letter (b ∷ bytes) = is_ascii_alphabetic b
+
+-- A name as a text has it.
+pub record IsSpelledName (x : List ℕ) : Type 0 where
+  pub run : list_all is_run_byte x ≡ true
+  pub letter : begins_with_letter x ≡ true
+  pub no_keyword : keyword_of x ≡ None
+  pub name : is_name x ≡ true
+
 abbrev pub keyword_or_name : List ℕ → Option Keyword → Beginning
 keyword_or_name run (Some k) = Read (Word k) (length run)
 keyword_or_name run None = name_run run
 
 abbrev pub word_run : List ℕ → Beginning
-word_run run = if bytes_eq run (codes "_") then Read (Mark Underscore) 1 else keyword_or_name run (find (λ k. bytes_eq run (keyword_text k)) keywords)
+word_run run = if bytes_eq run (codes "_") then Read (Mark Underscore) 1 else keyword_or_name run (keyword_of run)
 
 abbrev pub run_read : ℕ → List ℕ → Beginning
 run_read b run = if is_ascii_digit b then numeral_run run else word_run run

@@ -5,6 +5,8 @@ use Rattle.source.specs.declared.word.Word.{Word}
 use Rattle.source.specs.declared.word.Word.TheVariants as word
 use Rattle.source.specs.Tree.{Name, NameAt, NumberAt, Target, Bind, Drop, Expr, Number, Named, Bracket, Prefix, Infix, Fetch, Store, Call, If, Loop, Exprs, One, More, Body, Let, Do, Give, Chain, Turn, Before, After, Item, Cells, Defines, Program, names_of}
 use Rattle.source.specs.Spelled.{others}
+use Rattle.source.specs.Fits.{FitsProgram}
+use Rattle.source.specs.Tokens.{IsSpelledName}
 
 abbrev pub Words : Type 0
 Words = List (Word Name)
@@ -124,9 +126,25 @@ numbers_of (word.Start at x) = x ∷ []
 numbers_of (word.Bind at x) = x ∷ []
 numbers_of w = []
 
+-- what code has of a program
+pub record NamedWords : Type 0 where
+  pub names : List Name
+  pub words : List (Word ℕ)
+
 -- A table of names, and words with numbers of names in it, are those of a program: no name stands twice in the table, and
 -- each number is one of it.
 pub record AreWords (names : List Name) (ws : List (Word ℕ)) (p : Program) : Type 0 where
   pub words : map (named names) ws ≡ program_words p
   pub known : All (λ w. All (λ n. n < length names) (numbers_of w)) ws
   pub distinct : (i j : ℕ) → i < length names → j < length names → name_of names i ≡ name_of names j → i ≡ j
+
+-- a program of the grammar, whose words these are
+pub record IsProgram (names : List Name) (ws : List (Word ℕ)) (p : Program) : Type 0 where
+  pub fits : FitsProgram p
+  pub words : AreWords names ws p
+
+-- There is one, and its names are as texts have them.
+pub record HasTree (names : List Name) (ws : List (Word ℕ)) : Type 0 where
+  pub tree : Program
+  pub is : IsProgram names ws tree
+  pub spelled : All IsSpelledName names

@@ -74,30 +74,3 @@ pub struct ProgramFault {
     pub line: usize,
     pub column: usize,
 }
-
-impl Fault {
-    ghost use Rattle.std.specs.Prelude.{◌≡◌, ◌≤◌, length};
-    ghost use Rattle.source.specs.Tokens.{position};
-
-    /// The fault with its line and its column in the program's text.
-    pub fn in_text(self, text: &[u8]) -> ProgramFault
-        requires { self.at ≤ length text.now }
-        ensures { result ≡ record { kind = self.kind; line = (position text.now self.at).line; column = (position text.now self.at).column } }
-    {
-        let mut line = 1;
-        let mut column = 1;
-        for byte in &text[..self.at] {
-            if *byte == b'\n' {
-                line += 1;
-                column = 1;
-            } else {
-                column += 1;
-            }
-        }
-        ProgramFault {
-            kind: self.kind,
-            line,
-            column,
-        }
-    }
-}

@@ -12,7 +12,8 @@ use Rattle.source_check.specs.declared.frame.Entry.{Entry}
 use Rattle.source_check.specs.Heads.{Heads, no_heads, through, head_step}
 use Rattle.source_check.specs.Steps.{State, begun, steps}
 use Rattle.source_check.specs.Checks.{is_function, words_checked}
-use Rattle.source_check.specs.Checked.{IsProgram, IsChecked}
+use Rattle.source.specs.Words.{IsProgram}
+use Rattle.source_check.specs.Checked.{IsChecked}
 use Rattle.source_check.specs.Numbers.{IsMain}
 use Rattle.source_check.specs.Stack.{HeadsGive, Follows, out_of_memory, by_number, item_in, numbers}
 use Rattle.source_check.proofs.Numbers.{numbers_are_checked}

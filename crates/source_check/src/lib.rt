@@ -4,7 +4,8 @@
 ghost use Rattle.std.specs.Prelude.{◌≡◌, ◌⊎◌, ◌≤◌, ℕ, List, [], Err, IfOk, IfErr, OnOk, IsTrue, ◌↔◌, length, slice_index_or};
 ghost use Rattle.source.specs.Tree as tree;
 ghost use Rattle.source.specs.Rules.{checked, main_name};
-ghost use Rattle.source_check.specs.Checked.{IsProgram, IsChecked};
+ghost use Rattle.source.specs.Words.{IsProgram};
+ghost use Rattle.source_check.specs.Checked.{IsChecked};
 ghost use Rattle.source_check.specs.Checks as checks;
 ghost use Rattle.source_check.specs.Numbers.{IsMain};
 ghost use Rattle.source_check.specs.Stack.{Follows, out_of_memory, by_number, item_in};
@@ -28,7 +29,7 @@ use table::{Table, must, read_heads};
 #[derive(Drop)]
 pub struct Checked<'a, A: Allocator> {
     pub program: Program<'a, A>,
-    ghost checked: { IsChecked program.names.items program.words.items },
+    ghost checked: { IsChecked program.names program.words },
 }
 
 fn is_main<'a>(name: &Name<'a>) -> bool
@@ -84,7 +85,7 @@ pub fn check<'a, A: Allocator + Clone>(
     program: Program<'a, A>,
 ) -> Result<Checked<'a, A>, Fault>
     ensures same { IfOk result (λ c. c.program ≡ program.entry) }
-    ensures refused { (p : tree.Program) → IsProgram program.entry.names.items program.entry.words.items p → IfErr result (λ f. (f ≡ out_of_memory) ⊎ (checked end p ≡ Err f)) }
+    ensures refused { (p : tree.Program) → IsProgram program.entry.names program.entry.words p → IfErr result (λ f. (f ≡ out_of_memory) ⊎ (checked end p ≡ Err f)) }
 {
     let main = main_number(&program.names);
     check_words(alloc, main, end, &program.words)?;

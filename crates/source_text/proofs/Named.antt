@@ -1,15 +1,17 @@
 -- A TABLE OF NAMES after a name was looked up.
-use Rattle.std.proofs.Common.{◌≡◌, ℕ, ◌+◌, ◌-◌, ◌<◌, ◌≤◌, Bool, true, false, nat_lt, List, [], ◌∷◌, ◌++◌, length, Option, Some, None, refl, sym, ap, ◌∙◌, subst, append-nil, append_assoc, arith, ltb-true, ltb-false, Bor}
+use Rattle.std.proofs.Common.{◌≡◌, ℕ, ◌+◌, ◌-◌, ◌<◌, ◌≤◌, Bool, true, false, nat_lt, List, [], ◌∷◌, ◌++◌, length, All, Option, Some, None, refl, sym, ap, ◌∙◌, subst, append-nil, append_assoc, arith, ltb-true, ltb-false, Bor}
 use Rattle.std.specs.BTreeMap.{BTreeMap, get_by, UpdatesBy}
 use Rattle.std.specs.Cmp.Lexicographic.{slice_cmp}
 use Rattle.std.specs.Ordering.{nat_cmp}
 use Rattle.std.proofs.lemmas.List.{get_or_append_left, get_or-append_right, length-append}
+use Rattle.std.proofs.lemmas.List.Elements.{All-nil, All-cons, All-append}
 use Rattle.std.proofs.lemmas.Option.{get_or_from_slice_get, slice_get-get_or}
 use Rattle.semantics.specs.Graph.{place_of}
 use Rattle.graph_check.specs.Names.{is_name}
 use Rattle.graph_check.proofs.Places.{place_some, place_none, index_more}
 use Rattle.graph_check.proofs.Shapes.{is_name_at, at_is_name}
 use Rattle.source.specs.Tree.{Name}
+use Rattle.source.specs.Tokens.{IsSpelledName}
 use Rattle.source.specs.Words.{name_of}
 use Rattle.source_text.specs.Naming.{IsDistinct, IsTable, Extends, IsNumbered}
 
@@ -36,6 +38,7 @@ found_name numbers names name n o looked is table =
       extends = extends_itself names;
       within = subst (λ k. k < length names) (sym place.0) (ltb-true (place_of name names) (length names) place.1);
       is = ap (name_of names) place.0 ∙ get_or_from_slice_get names (place_of name names) name [] (is_name_at name names place.1);
+      spelled = λ all one. all;
     }
 
 -- a new name
@@ -88,4 +91,6 @@ new_name numbers new names table name n o looked none count is updates old =
       extends = record { more = name ∷ []; is = is };
       within = subst (λ t. n < length t) (sym is) (omega (arith, count, length_more names name));
       is = ap (λ t. name_of t n) is ∙ last_name names name n count;
+      spelled = λ all one. subst (All IsSpelledName) (sym is) (All-append IsSpelledName names (name ∷ []) all
+          (All-cons IsSpelledName name [] one (All-nil IsSpelledName)));
     }

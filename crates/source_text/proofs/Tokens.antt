@@ -1,7 +1,7 @@
 -- READING, token by token.
 use Rattle.std.proofs.Common.{◌≡◌, ℕ, zero, suc, ◌+◌, ◌<◌, ◌≤◌, List, [], ◌∷◌, ◌++◌, map, drop, length, get_or, All, Result, Ok, Err, MatchResult, inl, inr, refl, sym, ap, ap₂, ◌∙◌, subst, append_assoc, arith}
 use Rattle.std.proofs.lemmas.List.{at_drop_all}
-use Rattle.std.proofs.lemmas.List.Elements.{All-nil, All-cons}
+use Rattle.std.proofs.lemmas.List.Elements.{All-nil, All-cons, All-get_or}
 use Rattle.std.specs.BTreeMap.{BTreeMap}
 use Rattle.std.specs.Prelude.{OnOk}
 use Rattle.lemmas.proofs.Lists.{drop_opens}
@@ -9,6 +9,7 @@ use Rattle.source.specs.declared.fault.Fault.{Fault}
 use Rattle.source.specs.declared.fault.FaultKind.{FaultKind}
 use Rattle.source.specs.declared.token.Token.{Token}
 use Rattle.source.specs.declared.word.Word.{Word}
+use Rattle.source.specs.Tokens.{IsSpelledName}
 use Rattle.source.specs.Tree.{Name}
 use Rattle.source.specs.Spelled as spelled
 use Rattle.source.specs.Spelled.{lexeme}
@@ -18,10 +19,10 @@ use Rattle.law_grammar.specs.declared.symbol.Symbol.TheVariants.{Items}
 use Rattle.law_grammar.specs.Automaton.{Stack, Moved, moved_after, advance, words_after, run_on, run, placed, parsed}
 use Rattle.source_text.specs.declared.lexeme.Lexeme.{Lexeme}
 use Rattle.source_text.specs.Outcomes.{lexeme_named, IsShallow}
-use Rattle.source_text.specs.Naming.{Extends, IsSaid}
+use Rattle.source_text.specs.Naming.{Extends, IsSaid, IsWellSpelled}
 use Rattle.law_grammar.specs.Named.{named_stack}
 use Rattle.source_text.specs.Running.{words_named, state, onward, ending, IsKind, IsFault}
-use Rattle.source_text.specs.Reading.{IsStart, IsAdvanced, IsStopped, IsReading, AreParsed}
+use Rattle.source_text.specs.Reading.{AreWellSpelled, IsStart, IsAdvanced, IsStopped, IsReading, AreParsed}
 use Rattle.source_text.proofs.Named.{extends_itself, extends_twice}
 use Rattle.source_text.proofs.Known.{known_words}
 use denote.Ref.{Bor}
@@ -54,6 +55,7 @@ pub begins : (text : List ℕ) (ts : List Token) (numbers : BTreeMap (Bor (List 
     → IsStart numbers table stack words → IsReading text ts 0 numbers table stack words
 begins text ts numbers table stack words start = record {
   indexed = start.indexed;
+  spelled = λ well. subst (All IsSpelledName) (sym start.no_names) (All-nil IsSpelledName);
   shallow = subst (All IsShallow) (sym start.only_items) (All-cons IsShallow Items [] tt (All-nil IsShallow));
   so_far = λ names e.
       words_nothing (parsed text ts)
@@ -74,11 +76,16 @@ module _ (text : List ℕ) (ts : List Token) (n : ℕ) (t : Token) (numbers : BT
       reading.so_far names e ∙ ap (λ l. words_after (words_named names words) (run 200 (length text) (named_stack names stack) (map (placed text) l)))
       (drop_opens ts n t h at)
 
+  its_spelling : n < length ts → t ≡ get_or ts n t → AreWellSpelled text ts → IsWellSpelled (lexeme text t)
+  its_spelling h at well =
+      let its_own : Token → Type 0 = λ t. IsWellSpelled (lexeme text t) in subst its_own (sym at) (All-get_or its_own ts n t h well)
+
   pub reads_on : (new : BTreeMap (Bor (List ℕ)) ℕ) (table' : List Name) (stack' : List (Symbol ℕ)) (words' : List (Word ℕ)) → n < length ts → t ≡ get_or ts n t
       → IsReading text ts n numbers table stack words → IsAdvanced t.at (lexeme text t) table stack words new table' stack' words'
       → IsReading text ts (n + 1) new table' stack' words'
   reads_on new table' stack' words' h at reading advanced = record {
     indexed = advanced.indexed;
+    spelled = λ well. advanced.spelled (reading.spelled well) (its_spelling h at well);
     shallow = advanced.shallow;
     so_far = λ names e.
         opened h at names reading (extends_twice table table' names advanced.extends e)
@@ -115,6 +122,7 @@ module _ (text : List ℕ) (ts : List Token) (n : ℕ) (numbers : BTreeMap (Bor 
       said = says read h reading end table (extends_itself table);
       known = known_words table read (λ names e. same_words _ _ (sym (says read h reading end table (extends_itself table)) ∙ says read h reading end names e));
       distinct = reading.indexed.distinct;
+      spelled = reading.spelled;
     }
 
     pub ends_badly : (fault : Fault) → length ts ≤ n → IsReading text ts n numbers table stack words
@@ -124,7 +132,8 @@ module _ (text : List ℕ) (ts : List Token) (n : ℕ) (numbers : BTreeMap (Bor 
 
     pub finishes : {P : Type 0} (names_of : P → List Name) (words_of : P → List (Word ℕ)) (r : Result P Fault) → length ts ≤ n
         → IsReading text ts n numbers table stack words
-        → MatchResult r (λ p. (names_of p ≡ table) × ((names : List Name) → ending (length text) (state names stack words) ≡ Ok (words_named names (words_of p))))
+        → MatchResult r (λ p. (names_of p ≡ table) × ((names : List Name) → ending (length text) (state names stack words) ≡ Ok
+        (words_named names (words_of p))))
         (λ fault. IsFault fault (ending (length text) (state table stack words)))
         → MatchResult r (λ p. AreParsed text ts (names_of p) (words_of p)) (λ fault. IsFault fault (parsed text ts))
     finishes names_of words_of (Ok p) h reading end = subst (λ names. AreParsed text ts names (words_of p)) (sym end.0) (ends_well (words_of p) h reading end.1)
@@ -140,6 +149,7 @@ pub advances : {U : Type 0} (at : ℕ) (l : Lexeme) (meant : spelled.Lexeme) (nu
 advances at l meant numbers old table s w s' w' (Ok u) said took shallow = record {
   indexed = said.table;
   extends = said.extends;
+  spelled = said.spelled;
   shallow = shallow;
   moved = λ names e. ap (λ l. onward at l (state names s w)) (sym (said.says names e)) ∙ took names;
 }

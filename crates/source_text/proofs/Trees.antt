@@ -1,16 +1,23 @@
 -- TREES: what the automaton makes of tokens is the one program that they are of.
-use Rattle.std.proofs.Common.{◌≡◌, ℕ, List, Result, Ok, Err, MatchResult, inl, inr, sym, ◌∙◌}
+use Rattle.std.proofs.Common.{◌≡◌, ℕ, List, [], ◌∷◌, drop, All, Result, Ok, Err, MatchResult, inl, inr, sym, subst, ◌∙◌}
+use Rattle.std.proofs.lemmas.List.Elements.{All-nil, All-cons, All-head, All-tail}
 use Rattle.source.specs.declared.fault.Fault.{Fault}
 use Rattle.source.specs.declared.token.Token.{Token}
+use Rattle.source.specs.declared.token.TokenKind.{TokenKind}
+use Rattle.source.specs.declared.token.TokenKind.TheVariants as token
 use Rattle.source.specs.declared.word.Word.{Word}
-use Rattle.source.specs.Tokens.{lexed}
+use Rattle.source.specs.Tokens.{IsSpelledName, lexed}
 use Rattle.source.specs.Tree.{Name}
+use Rattle.source.specs.Spelled.{lexeme, lexeme_at}
+use Rattle.source.specs.Words.{HasTree}
+use Rattle.source_tokens.specs.Stands.{BeginsWith, Stands}
 use Rattle.law_grammar.specs.Automaton.{parsed}
 use Rattle.law_grammar.proofs.Sound.{parsed_sound}
 use Rattle.law_grammar.proofs.Complete.{parsed_complete}
 use Rattle.law_grammar.proofs.FirstFault.{parsed_fault}
 use Rattle.source_text.specs.Running.{IsFault}
-use Rattle.source_text.specs.Reading.{AreParsed, AreRead, IsParseFault, HasProgram, HasFault, of_tokens}
+use Rattle.source_text.specs.Naming.{IsWellSpelled}
+use Rattle.source_text.specs.Reading.{AreWellSpelled, AreParsed, AreRead, IsParseFault, HasFault, of_tokens}
 use Rattle.source_text.proofs.Tokens.{same_words}
 
 module _ (text : List ℕ) (ts : List Token) where
@@ -20,6 +27,7 @@ module _ (text : List ℕ) (ts : List Token) where
       record {
         program = (read.program, read.parses);
         only = λ p h. record { words = same_words _ _ (sym parsed.said ∙ parsed_complete text ts p h); known = parsed.known; distinct = parsed.distinct };
+        spelled = parsed.spelled;
       }
 
   pub told : (fault : Fault) → IsFault fault (parsed text ts) → IsParseFault text ts fault
@@ -33,9 +41,28 @@ module _ (text : List ℕ) (ts : List Token) where
   read_so names_of words_of (Err fault) is = told fault is
 
   -- with the text's tokens
-  pub has_program : {P : Type 0} (names_of : P → List Name) (words_of : P → List (Word ℕ)) (r : Result P Fault) → lexed text ≡ Ok ts
-      → MatchResult r (λ p. AreRead text ts (names_of p) (words_of p)) (λ fault. IsParseFault text ts fault)
-      → MatchResult r (λ p. HasProgram text (names_of p) (words_of p)) (λ fault. HasFault text fault)
-  has_program names_of words_of (Ok p) are read = record { tokens = ts; lexed = are; are = read }
-  has_program names_of words_of (Err fault) are (inl memory) = inl memory
-  has_program names_of words_of (Err fault) are (inr refuses) = inr (of_tokens ts are refuses)
+  pub has_fault : (fault : Fault) → lexed text ≡ Ok ts → IsParseFault text ts fault → HasFault text fault
+  has_fault fault are (inl memory) = inl memory
+  has_fault fault are (inr refuses) = inr (of_tokens ts are refuses)
+
+-- NAMES of tokens that stand in the text are as texts have them.
+well_spelled : (text : List ℕ) (at : ℕ) (kind : TokenKind) → BeginsWith (drop at text) kind → IsWellSpelled (lexeme_at text at kind)
+well_spelled text at (token.Word k) stands = tt
+well_spelled text at (token.Mark s) stands = tt
+well_spelled text at (token.Number n) stands = tt
+well_spelled text at (token.Name len) stands = subst IsSpelledName (sym stands.its_bytes) stands.name
+
+pub are_well_spelled : (text : List ℕ) (ts : List Token) → All (Stands text) ts → AreWellSpelled text ts
+are_well_spelled text [] stand = All-nil (λ (t : Token). IsWellSpelled (lexeme text t))
+are_well_spelled text (t ∷ ts) stand =
+    All-cons (λ (t : Token). IsWellSpelled (lexeme text t)) t ts (well_spelled text t.at t.kind (All-head (Stands text) t ts stand))
+    (are_well_spelled text ts (All-tail (Stands text) t ts stand))
+
+-- the tree of what was read
+pub has_tree : (text : List ℕ) (ts : List Token) (names : List Name) (words : List (Word ℕ)) → AreRead text ts names words → All (Stands text) ts
+    → HasTree names words
+has_tree text ts names words are stand = record {
+  tree = are.program.0;
+  is = record { fits = are.program.1.fits; words = are.only are.program.0 are.program.1 };
+  spelled = are.spelled (are_well_spelled text ts stand);
+}

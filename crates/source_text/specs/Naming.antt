@@ -1,7 +1,8 @@
 -- A TABLE OF NAMES, which grows.
-use Rattle.std.specs.Prelude.{◌≡◌, ℕ, ◌<◌, ◌++◌, List, length}
+use Rattle.std.specs.Prelude.{◌≡◌, ℕ, ◌<◌, ◌++◌, List, length, All, ⊤}
 use Rattle.std.specs.BTreeMap.{BTreeMap}
 use Rattle.source.specs.Tree.{Name}
+use Rattle.source.specs.Tokens.{IsSpelledName}
 use Rattle.source.specs.Spelled as spelled
 use Rattle.source.specs.Words.{name_of}
 use Rattle.graph_check.specs.Names.{IsIndexOf}
@@ -23,15 +24,24 @@ pub record Extends (names table : List Name) : Type 0 where
   pub more : List Name
   pub is : table ≡ names ++ more
 
+-- a name that a token says is as texts have it
+abbrev pub IsWellSpelled : spelled.Lexeme → Type 0
+IsWellSpelled (spelled.TheName name) = IsSpelledName name
+IsWellSpelled (spelled.TheWord keyword) = ⊤
+IsWellSpelled (spelled.TheSign sign) = ⊤
+IsWellSpelled (spelled.TheNumber number) = ⊤
+
 -- the table after a name was looked up, whose number this is
 pub record IsNumbered (old : List Name) (numbers : BTreeMap (Bor (List ℕ)) ℕ) (new : List Name) (name : Name) (n : ℕ) : Type 0 where
   pub table : IsTable numbers new
   pub extends : Extends old new
   pub within : n < length new
   pub is : name_of new n ≡ name
+  pub spelled : All IsSpelledName old → IsSpelledName name → All IsSpelledName new
 
 -- the table after a token was read that says this
 pub record IsSaid (old : List Name) (numbers : BTreeMap (Bor (List ℕ)) ℕ) (new : List Name) (meant : spelled.Lexeme) (l : Lexeme) : Type 0 where
   pub table : IsTable numbers new
   pub extends : Extends old new
+  pub spelled : All IsSpelledName old → IsWellSpelled meant → All IsSpelledName new
   pub says : (names : List Name) → Extends new names → lexeme_named names l ≡ meant

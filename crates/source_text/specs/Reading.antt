@@ -8,23 +8,28 @@ use Rattle.source.specs.declared.fault.FaultKind.TheVariants.{Memory}
 use Rattle.source.specs.declared.fault.ProgramFault.{ProgramFault}
 use Rattle.source.specs.declared.token.Token.{Token}
 use Rattle.source.specs.declared.word.Word.{Word}
-use Rattle.source.specs.Tokens.{program_of, inputs_of, position, lexed}
+use Rattle.source.specs.Tokens.{program_of, inputs_of, position, IsSpelledName, lexed}
 use Rattle.source.specs.Tree.{Name, Program}
-use Rattle.source.specs.Spelled.{Lexeme}
+use Rattle.source.specs.Spelled.{Lexeme, lexeme}
 use Rattle.source.specs.Words.{named, numbers_of, AreWords}
 use Rattle.source.specs.Parses.{Parses, Refuses}
 use Rattle.law_grammar.specs.declared.symbol.Symbol.{Symbol}
 use Rattle.law_grammar.specs.declared.symbol.Symbol.TheVariants.{Items}
 use Rattle.law_grammar.specs.Automaton.{words_after, run, placed, parsed}
 use Rattle.source_text.specs.Outcomes.{IsShallow}
-use Rattle.source_text.specs.Naming.{IsDistinct, IsTable, Extends}
+use Rattle.source_text.specs.Naming.{IsDistinct, IsTable, Extends, IsWellSpelled}
 use Rattle.law_grammar.specs.Named.{named_stack}
 use Rattle.source_text.specs.Running.{words_named, state, onward, IsKind}
 use denote.Ref.{Bor}
 
+-- the names that tokens say are as texts have them
+abbrev pub AreWellSpelled : List ℕ → List Token → Type 0
+AreWellSpelled text ts = All (λ t. IsWellSpelled (lexeme text t)) ts
+
 -- nothing was read
 pub record IsStart (numbers : BTreeMap (Bor (List ℕ)) ℕ) (table : List Name) (stack : List (Symbol ℕ)) (words : List (Word ℕ)) : Type 0 where
   pub indexed : IsTable numbers table
+  pub no_names : table ≡ []
   pub only_items : stack ≡ Items ∷ []
   pub no_words : words ≡ []
 
@@ -33,6 +38,7 @@ pub record IsAdvanced (at : ℕ) (l : Lexeme) (old : List Name) (s : List (Symbo
     (numbers : BTreeMap (Bor (List ℕ)) ℕ) (table : List Name) (stack : List (Symbol ℕ)) (words : List (Word ℕ)) : Type 0 where
   pub indexed : IsTable numbers table
   pub extends : Extends old table
+  pub spelled : All IsSpelledName old → IsWellSpelled l → All IsSpelledName table
   pub shallow : All IsShallow stack
   pub moved : (names : List Name) → Extends table names → onward at l (state names s w) ≡ Ok (state names stack words)
 
@@ -46,6 +52,7 @@ pub record IsStopped (at : ℕ) (l : Lexeme) (old : List Name) (s : List (Symbol
 pub record IsReading (text : List ℕ) (ts : List Token) (n : ℕ) (numbers : BTreeMap (Bor (List ℕ)) ℕ) (table : List Name) (stack : List (Symbol ℕ))
     (words : List (Word ℕ)) : Type 0 where
   pub indexed : IsTable numbers table
+  pub spelled : AreWellSpelled text ts → All IsSpelledName table
   pub shallow : All IsShallow stack
   pub so_far : (names : List Name) → Extends table names
       → parsed text ts ≡ words_after (words_named names words) (run 200 (length text) (named_stack names stack) (map (placed text) (drop n ts)))
@@ -55,11 +62,13 @@ pub record AreParsed (text : List ℕ) (ts : List Token) (names : List Name) (wo
   pub said : parsed text ts ≡ Ok (map (named names) words)
   pub known : All (λ w. All (λ n. n < length names) (numbers_of w)) words
   pub distinct : IsDistinct names
+  pub spelled : AreWellSpelled text ts → All IsSpelledName names
 
 -- names and words are those of each program whose tokens these are, and there is one
 pub record AreRead (text : List ℕ) (ts : List Token) (names : List Name) (words : List (Word ℕ)) : Type 0 where
   pub program : (p : Program) × Parses text ts p
   pub only : (p : Program) → Parses text ts p → AreWords names words p
+  pub spelled : AreWellSpelled text ts → All IsSpelledName names
 
 -- the first token at which no program goes on, or a refused growth
 abbrev pub IsParseFault : List ℕ → List Token → Fault → Type 0

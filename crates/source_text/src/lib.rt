@@ -15,5 +15,5 @@ mod reading;
 mod signs;
 mod texts;
 
-pub use reading::parse;
+pub use reading::{Parsed, parse};
 pub use texts::{SourceText, read_program};

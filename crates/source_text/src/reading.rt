@@ -10,12 +10,20 @@ ghost use Rattle.source_text.specs.Reading.{IsStart, IsAdvanced, IsStopped, AreR
 
 use crate::names::Names;
 use crate::parser::Parser;
+use graph::Name;
 use law_grammar::symbol::Symbol;
 use source::fault::{Fault, FaultKind};
-use source::program::Program;
 use source::token::Token;
+use source::word::Word;
 use std::alloc::{AllocError, Allocator};
 use std::collections::BTreeMap;
+
+/// The names of a program, each once, and its words, which tell a name by its number among these.
+#[derive(Drop)]
+pub struct Parsed<'a, A: Allocator> {
+    pub names: Vec<Name<'a>, A>,
+    pub words: Vec<Word<usize>, A>,
+}
 
 /// What was read of a text.
 #[derive(Drop)]
@@ -55,7 +63,7 @@ impl<'a, A: Allocator + Clone> Reader<'a, A> {
     }
 
     /// The program, where no token is left.
-    fn finish(self, end: usize) -> Result<Program<'a, A>, Fault>
+    fn finish(self, end: usize) -> Result<Parsed<'a, A>, Fault>
         ensures { MatchResult result
             (λ p. (p.names.items ≡ self.entry.names.table.items)
             × ((names : List Name) → ending end (state names self.entry.parser.stack.items self.entry.parser.words.items)
@@ -63,21 +71,21 @@ impl<'a, A: Allocator + Clone> Reader<'a, A> {
             (λ fault. IsFault fault (ending end (state self.entry.names.table.items self.entry.parser.stack.items self.entry.parser.words.items))) }
     {
         let words = self.parser.finish(end)?;
-        Ok(Program {
+        Ok(Parsed {
             names: self.names.table,
             words,
         })
     }
 }
 
-/// The program whose tokens these are of the text: there is exactly one. Else the first token at which no program goes on that fits
+/// The program whose tokens these are of the text, by its names and its words: there is exactly one. Else the first token at which no program goes on that fits
 /// the grammar and is at most 200 deep, or the end, and why. `Memory` comes only where a growth was refused. The time is that of the
 /// tokens by the logarithm of the number of names.
 pub fn parse<'a, A: Allocator + Clone>(
     alloc: A,
     text: &'a [u8],
     tokens: &[Token],
-) -> Result<Program<'a, A>, Fault>
+) -> Result<Parsed<'a, A>, Fault>
     ensures { MatchResult result (λ p. AreRead text.now tokens.now p.names.items p.words.items) (λ fault. IsParseFault text.now tokens.now fault) }
 {
     let Ok(mut reader) = Reader::new(alloc) else {

@@ -34,7 +34,7 @@ fn told(text: &[u8], fault: Fault) -> ProgramFault
 
 /// The program that a text without inputs has, or its first fault.
 fn read<'a, A: Allocator + Clone>(alloc: A, text: &'a [u8]) -> Result<Program<'a, A>, Fault>
-    ensures { MatchResult result (λ p. HasProgram text.now p.names.items p.words.items) (λ fault. HasFault text.now fault) }
+    ensures { MatchResult result (λ p. HasProgram text.now p.names p.words) (λ fault. HasFault text.now fault) }
 {
     let Ok(own) = alloc.clone() else {
         return Err(Fault {
@@ -43,7 +43,11 @@ fn read<'a, A: Allocator + Clone>(alloc: A, text: &'a [u8]) -> Result<Program<'a
         });
     };
     let tokens = lex(own, text)?;
-    parse(alloc, text, &tokens)
+    let parsed = parse(alloc, text, &tokens)?;
+    Ok(Program {
+        names: parsed.names,
+        words: parsed.words,
+    })
 }
 
 /// The program and the inputs that a text holds, or the program's first fault with its line and its column.
@@ -51,7 +55,7 @@ pub fn read_program<'a, A: Allocator + Clone>(
     alloc: A,
     text: &'a [u8],
 ) -> Result<SourceText<'a, A>, ProgramFault>
-    ensures { MatchResult result (λ s. IsRead text.now s.text.now s.program.names.items s.program.words.items s.inputs.now) (λ fault. IsTold text.now fault) }
+    ensures { MatchResult result (λ s. IsRead text.now s.text.now s.program.names s.program.words s.inputs.now) (λ fault. IsTold text.now fault) }
 {
     let parted = split(text);
     match read(alloc, parted.program) {

@@ -1,9 +1,10 @@
 -- What a text begins with is some bytes, which lie in it, and a token that it begins with says so.
 use Rattle.std.proofs.Common.{◌≡◌, ℕ, ◌+◌, ◌^◌, ◌≤◌, ◌==◌, ◌&&◌, not, nat_le, Bool, true, false, List, [], ◌∷◌, length, Option, Some, None, cond, if◌then◌else◌, codes, refl, sym, ap, subst, ◌∙◌, arith, eqb-true, find, take, bytes_eq, take_while}
 use Rattle.std.specs.List.{list_all, prefix_len}
-use Rattle.std.specs.Char.{is_ascii_digit}
+use Rattle.std.specs.Char.{is_ascii_digit, is_ascii_alphabetic}
 use Rattle.std.specs.Str.Parse.{digits_value}
 use Rattle.std.proofs.lemmas.Bool.{leb-true}
+use Rattle.std.proofs.lemmas.Bool.Decides.{nat_tests}
 use Rattle.std.proofs.lemmas.List.Sums.{prefix_len-le-length, take_while-cons}
 use Rattle.std.proofs.lemmas.List.Folds.{length-prefix_len}
 use Rattle.std.proofs.lemmas.Slice.Eq.{bytes_eq-Decides}
@@ -14,7 +15,7 @@ use Rattle.source.specs.declared.token.Keyword.{Keyword}
 use Rattle.source.specs.declared.token.Sign.{Sign}
 use Rattle.source.specs.declared.token.Sign.TheVariants.{Underscore}
 use Rattle.source.specs.declared.token.TokenKind.TheVariants.{Mark, Number, Name}
-use Rattle.source.specs.Tokens.{Beginning, Skipped, Read, Refused, begins, line_from, is_blank, is_run_byte, is_numeral, numeral_run, is_name, name_run, keyword_text, keywords, keyword_or_name, word_run, run_read, sign_text, signs, sign_read, beginning}
+use Rattle.source.specs.Tokens.{Beginning, Skipped, Read, Refused, begins, line_from, is_blank, is_run_byte, is_numeral, numeral_run, begins_with_letter, is_name, name_run, keyword_text, keywords, keyword_of, keyword_or_name, word_run, run_read, sign_text, signs, sign_read, beginning}
 use Rattle.source_tokens.specs.Beginnings.{sign_beginning}
 use Rattle.source_tokens.specs.Stands.{run_of, BeginsWith}
 
@@ -38,6 +39,14 @@ passing p b bytes e =
 
 goes_on : (p : ℕ → Bool) (b : ℕ) (bytes : List ℕ) → p b ≡ true → take_while p (b ∷ bytes) ≡ b ∷ take_while p bytes
 goes_on p b bytes e = take_while-cons p b bytes ∙ rw e refl
+
+all_of_run : (p : ℕ → Bool) (bytes : List ℕ) → list_all p (take_while p bytes) ≡ true
+all_of_run p [] = refl
+all_of_run p (b ∷ bytes) = go (p b) refl (all_of_run p bytes)
+  where
+    go : (t : Bool) → p b ≡ t → list_all p (take_while p bytes) ≡ true → list_all p (take_while p (b ∷ bytes)) ≡ true
+    go true e more = ap (list_all p) (goes_on p b bytes e) ∙ rw e more
+    go false e more = let none : take_while p (b ∷ bytes) ≡ [] = take_while-cons p b bytes ∙ rw e refl in ap (list_all p) none
 
 -- what is found in a list
 find_passes : {X : Type 0} (p : X → Bool) (xs : List X) (x : X) → find p xs ≡ Some x → p x ≡ true
@@ -81,18 +90,47 @@ of_numeral rest h =
     ))
     (λ e. tt)
 
-of_name : (rest : List ℕ) → IsSome rest → IsSound rest (name_run (run_of rest))
-of_name rest h =
+-- a run is a name where it begins with no digit and is no keyword
+no_underscore : (b : ℕ) (bytes : List ℕ) → is_name (b ∷ bytes) ≡ true → (b == 95) ≡ false
+no_underscore b bytes e = go (b == 95) refl
+  where
+    go : (t : Bool) → (b == 95) ≡ t → (b == 95) ≡ false
+    go false is = is
+    go true is =
+        let same : b ≡ 95 = eqb-true b 95 is in
+        absurd (subst (λ (x : ℕ). is_name (x ∷ bytes) ≡ true → ⊥) (sym same) (λ no. cc) e)
+
+letter : (b : ℕ) (bytes : List ℕ) → is_run_byte b ≡ true → is_ascii_digit b ≡ false → is_name (b ∷ bytes) ≡ true → is_ascii_alphabetic b ≡ true
+letter b bytes run digit name = let none = no_underscore b bytes name in grind (arith, nat_tests)
+
+of_name : (b : ℕ) (bytes : List ℕ) → is_run_byte b ≡ true → is_ascii_digit b ≡ false → keyword_of (run_of (b ∷ bytes)) ≡ None → IsSome (b ∷ bytes)
+    → IsSound (b ∷ bytes) (name_run (run_of (b ∷ bytes)))
+of_name b bytes run digit none h =
+    let rest : List ℕ = b ∷ bytes in
+    let more : run_of rest ≡ b ∷ run_of bytes = goes_on is_run_byte b bytes run in
     by_test rest (is_name (run_of rest)) (Read (Name (length (run_of rest))) (length (run_of rest))) (Refused BadName)
-    (λ e. (h.some, h.few, record { name = e; its_len = refl; its_bytes = ap (λ (n : ℕ). take n rest) (length-prefix_len is_run_byte rest) }))
+    (λ e. (
+      h.some,
+      h.few,
+      record {
+        name = record {
+          run = all_of_run is_run_byte rest;
+          letter = ap begins_with_letter more ∙ letter b (run_of bytes) run digit (subst (λ (x : List ℕ). is_name x ≡ true) more e);
+          no_keyword = none;
+          name = e;
+        };
+        its_len = refl;
+        its_bytes = ap (λ (n : ℕ). take n rest) (length-prefix_len is_run_byte rest);
+      },
+    ))
     (λ e. tt)
 
-of_keyword : (rest : List ℕ) (k : Option Keyword)
-    → find (λ k. bytes_eq (run_of rest) (keyword_text k)) keywords ≡ k → IsSome rest → IsSound rest (keyword_or_name (run_of rest) k)
-of_keyword rest (Some k) e h =
-    let same = find_passes (λ (k : Keyword). bytes_eq (run_of rest) (keyword_text k)) keywords k e in
-    (h.some, h.few, (bytes_eq-Decides (run_of rest) (keyword_text k)).0 same)
-of_keyword rest None e h = of_name rest h
+of_keyword : (b : ℕ) (bytes : List ℕ) (k : Option Keyword) → keyword_of (run_of (b ∷ bytes)) ≡ k → is_run_byte b ≡ true → is_ascii_digit b ≡ false
+    → IsSome (b ∷ bytes) → IsSound (b ∷ bytes) (keyword_or_name (run_of (b ∷ bytes)) k)
+of_keyword b bytes (Some k) e run digit h =
+    let same = find_passes (λ (k : Keyword). bytes_eq (run_of (b ∷ bytes)) (keyword_text k)) keywords k e in
+    (h.some, h.few, (bytes_eq-Decides (run_of (b ∷ bytes)) (keyword_text k)).0 same)
+of_keyword b bytes None e run digit h = of_name b bytes run digit e h
 
 -- a run that is `_`
 of_underscore : (b : ℕ) (bytes : List ℕ) → is_run_byte b ≡ true → run_of (b ∷ bytes) ≡ codes "_" → begins (codes "_") (b ∷ bytes) ≡ true
@@ -101,19 +139,20 @@ of_underscore b bytes e is =
     let first : b ≡ 95 = same_head b 95 (run_of bytes) [] (sym more ∙ is) in
     rw first refl
 
-of_word : (b : ℕ) (bytes : List ℕ) → is_run_byte b ≡ true → IsSome (b ∷ bytes) → IsSound (b ∷ bytes) (word_run (run_of (b ∷ bytes)))
-of_word b bytes run h =
+of_word : (b : ℕ) (bytes : List ℕ) → is_run_byte b ≡ true → is_ascii_digit b ≡ false → IsSome (b ∷ bytes)
+    → IsSound (b ∷ bytes) (word_run (run_of (b ∷ bytes)))
+of_word b bytes run digit h =
     let r : List ℕ = run_of (b ∷ bytes) in
-    by_test (b ∷ bytes) (bytes_eq r (codes "_")) (Read (Mark Underscore) 1) (keyword_or_name r (find (λ k. bytes_eq r (keyword_text k)) keywords))
+    by_test (b ∷ bytes) (bytes_eq r (codes "_")) (Read (Mark Underscore) 1) (keyword_or_name r (keyword_of r))
     (λ e. (omega arith, omega arith, of_underscore b bytes run ((bytes_eq-Decides r (codes "_")).0 e)))
-    (λ e. of_keyword (b ∷ bytes) (find (λ k. bytes_eq r (keyword_text k)) keywords) refl h)
+    (λ e. of_keyword b bytes (keyword_of r) refl run digit h)
 
 of_run : (b : ℕ) (bytes : List ℕ) → is_run_byte b ≡ true → IsSound (b ∷ bytes) (run_read b (run_of (b ∷ bytes)))
 of_run b bytes run =
     let p = passing is_run_byte b bytes run in
     let h : IsSome (b ∷ bytes) = record { some = p.0; few = p.1 } in
     let r : List ℕ = run_of (b ∷ bytes) in
-    by_test (b ∷ bytes) (is_ascii_digit b) (numeral_run r) (word_run r) (λ e. of_numeral (b ∷ bytes) h) (λ e. of_word b bytes run h)
+    by_test (b ∷ bytes) (is_ascii_digit b) (numeral_run r) (word_run r) (λ e. of_numeral (b ∷ bytes) h) (λ e. of_word b bytes run e h)
 
 -- SIGNS
 is_some : List ℕ → Bool

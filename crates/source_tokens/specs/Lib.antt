@@ -2,3 +2,4 @@ pub mod Beginnings
 pub mod Lexing
 pub mod Signs
 pub mod Stands
+pub mod Placing

@@ -4,7 +4,7 @@ use Rattle.std.specs.Str.Parse.{digits_value}
 use Rattle.source.specs.declared.token.Token.{Token}
 use Rattle.source.specs.declared.token.TokenKind.{TokenKind}
 use Rattle.source.specs.declared.token.TokenKind.TheVariants.{Word, Mark, Number, Name}
-use Rattle.source.specs.Tokens.{begins, is_run_byte, is_numeral, is_name, keyword_text, sign_text}
+use Rattle.source.specs.Tokens.{begins, is_run_byte, is_numeral, IsSpelledName, keyword_text, sign_text}
 
 -- the run that a text begins with
 abbrev pub run_of : List ℕ → List ℕ
@@ -18,7 +18,7 @@ pub record BeginsWithNumber (rest : List ℕ) (number : ℕ) : Type 0 where
 
 -- the run is a name of so many bytes
 pub record BeginsWithName (rest : List ℕ) (len : ℕ) : Type 0 where
-  pub name : is_name (run_of rest) ≡ true
+  pub name : IsSpelledName (run_of rest)
   pub its_len : length (run_of rest) ≡ len
   pub its_bytes : take len rest ≡ run_of rest
 

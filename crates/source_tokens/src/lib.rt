@@ -10,4 +10,4 @@ mod signs;
 
 pub use lexing::{lex, name_at};
 pub use parting::{Parted, split};
-pub use placing::{LineColumn, position};
+pub use placing::{LineColumn, Reached, first_place, position, reach};

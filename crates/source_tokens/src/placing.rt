@@ -1,7 +1,8 @@
 //! Lines and columns.
 
-ghost use Rattle.std.specs.Prelude.{◌≡◌, take};
+ghost use Rattle.std.specs.Prelude.{◌≡◌, ◌≤◌, ℕ, List, min, length};
 ghost use Rattle.source.specs.Tokens.{position};
+ghost use Rattle.source_tokens.specs.Placing.{IsReached, seen_at};
 
 /// A line, and a column in bytes, both from 1.
 #[derive(Clone, Copy, Debug, PartialEq, Eq)]
@@ -10,28 +11,72 @@ pub struct LineColumn {
     pub column: usize,
 }
 
-/// The line and the column of a place, which is the number of bytes that stand before it.
-pub fn position(program: &[u8], at: usize) -> LineColumn
-    ensures line { result.line ≡ (position program.now at).line }
-    ensures column { result.column ≡ (position program.now at).column }
+/// A place that was reached in a program, which is the number of bytes that stand before it, with its line and its column.
+#[derive(Clone, Copy, Debug, PartialEq, Eq)]
+pub struct Reached {
+    pub at: usize,
+    pub line: usize,
+    pub column: usize,
+}
+
+/// The beginning of a program.
+pub fn first_place() -> Reached
+    ensures reached { (program : List ℕ) → IsReached program result }
+    ensures place { result.at ≡ 0 }
 {
-    let before = until(program, at);
-    let mut line = 1;
-    let mut column = 1;
-    for b in before {
-        if *b == b'\n' {
+    Reached {
+        at: 0,
+        line: 1,
+        column: 1,
+    }
+}
+
+/// The place `at`, or the end of the program where that comes before it. It goes on from a place that was reached, and from the
+/// beginning where that stands behind it.
+pub fn reach(program: &[u8], from: Reached, at: usize) -> Reached
+    requires { IsReached program.now from }
+    ensures reached { IsReached program.now result }
+    ensures place { result.at ≡ min at (length program.now) }
+    ensures position { seen_at result ≡ position program.now at }
+{
+    let end = at.min(program.len());
+    if at < from.at {
+        go_on(program, first_place(), end)
+    } else {
+        go_on(program, from, end)
+    }
+}
+
+/// The place `end`, from one that was reached before.
+fn go_on(program: &[u8], from: Reached, end: usize) -> Reached
+    requires from { IsReached program.now from }
+    requires before { from.at ≤ end }
+    requires within { end ≤ length program.now }
+    ensures reached { IsReached program.now result }
+    ensures place { result.at ≡ end }
+{
+    let mut line = from.line;
+    let mut column = from.column;
+    for i in from.at..end {
+        if program[i] == b'\n' {
             line += 1;
             column = 1;
         } else {
             column += 1;
         }
     }
-    LineColumn { line, column }
+    Reached {
+        at: end,
+        line,
+        column,
+    }
 }
 
-/// The bytes before a place.
-fn until(program: &[u8], at: usize) -> &[u8]
-    ensures { result.now ≡ take at program.now }
+/// The line and the column of a place, which is the number of bytes that stand before it.
+pub fn position(program: &[u8], at: usize) -> LineColumn
+    ensures line { result.line ≡ (position program.now at).line }
+    ensures column { result.column ≡ (position program.now at).column }
 {
-    program.get(..at).unwrap_or(program)
+    let Reached { line, column, .. } = reach(program, first_place(), at);
+    LineColumn { line, column }
 }

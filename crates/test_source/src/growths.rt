@@ -1,7 +1,8 @@
 //! A long text, and growths that are refused.
 
 use rationed::{Rationed, is_next_refused};
-use source::fault::FaultKind;
+use source::fault::{Fault, FaultKind};
+use source_check::check;
 use source_text::read_program;
 use source_tokens::lex;
 use std::test::Fail;
@@ -51,16 +52,18 @@ fn refused_growths(rt: HostRuntime) -> Result<(), Fail> {
     Ok(())
 }
 
+/// A program with arrays, functions and names of values.
+const PROGRAM: &[u8] =
+    b"array A[9]; fn f(a, b, c, d, e) { A[a] := b; a + b * c - d / e } fn main(n) { let x, y = n, 1; f(x, y, n, 2, 3) }";
+
 /// Each growth of reading a whole text is refused in turn, until none is.
 #[test]
 fn refused_growths_of_a_program(rt: HostRuntime) -> Result<(), Fail> {
-    let text =
-        b"array A[9]; fn f(a, b, c, d, e) { A[a] := b; a + b * c - d / e } fn main(n) { let x, y = n, 1; f(x, y, n, 2, 3) }";
     let mut refused = 0u64;
     let mut whole = false;
     for growth in 1..100u64 {
         let heap = Rationed::new(rt.alloc(), growth);
-        let fault = match read_program(&heap, text) {
+        let fault = match read_program(&heap, PROGRAM) {
             Ok(_) => None,
             Err(fault) => Some(fault.kind),
         };
@@ -73,5 +76,35 @@ fn refused_growths_of_a_program(rt: HostRuntime) -> Result<(), Fail> {
         refused = refused.wrapping_add(1);
     }
     assert!(rt; whole && refused > 10);
+    Ok(())
+}
+
+const NO_MEMORY: Fault = Fault {
+    kind: FaultKind::Memory,
+    at: 0,
+};
+
+/// Each growth of looking at the rules is refused in turn, until none is.
+#[test]
+fn refused_growths_of_a_check(rt: HostRuntime) -> Result<(), Fail> {
+    let plenty = Rationed::new(rt.alloc(), 0);
+    let mut refused = 0u64;
+    let mut whole = false;
+    for growth in 1..100u64 {
+        let heap = Rationed::new(rt.alloc(), growth);
+        let source = read_program(&plenty, PROGRAM)?;
+        let fault = match check(&&heap, source.text.len(), source.program) {
+            Ok(_) => None,
+            Err(fault) => Some(fault),
+        };
+        whole = is_next_refused(&heap);
+        if whole {
+            assert_eq!(rt; fault, None, "{growth}");
+            break;
+        }
+        assert_eq!(rt; fault, Some(NO_MEMORY), "{growth}");
+        refused = refused.wrapping_add(1);
+    }
+    assert!(rt; whole && refused > 1);
     Ok(())
 }

@@ -1,8 +1,10 @@
 //! Long programs, and deep ones.
 
 use source::fault::FaultKind;
+use source_check::check;
 use source_text::read_program;
-use std::alloc::{AllocError, Allocator};
+use std::alloc::{AllocError, Allocator, Global};
+use std::io::{self, Write};
 use std::test::Fail;
 
 /// A sum is as long as it may be. Each term has two words and its operator, and each operator says where its right side begins.
@@ -18,6 +20,37 @@ fn a_long_sum(rt: HostRuntime) -> Result<(), Fail> {
     assert_eq!(rt; source.program.names.len(), 2);
     // Function, Parameter, Body, List, the first name, three words a term, Part, Give, EndFunction.
     assert_eq!(rt; source.program.words.len(), 300_008);
+    Ok(())
+}
+
+/// A function that gives names to as many values in one `let`, and adds all of them.
+fn with_names(alloc: Global, count: usize) -> io::Result<Vec<u8>> {
+    let mut text = Vec::new(alloc);
+    text.write_all(b"fn main(n) { let x")?;
+    for name in 1..count {
+        write!(text, ", x{name}")?;
+    }
+    text.write_all(b" = n")?;
+    for _ in 1..count {
+        text.write_all(b", n")?;
+    }
+    text.write_all(b"; x")?;
+    for name in 1..count {
+        write!(text, " + x{name}")?;
+    }
+    text.write_all(b" }")?;
+    Ok(text)
+}
+
+/// The sum is as deep a tree as it is long, so what follows a tree would run out of stack here; and what searches names one by one, out
+/// of time.
+#[test]
+fn many_names(rt: HostRuntime) -> Result<(), Fail> {
+    let alloc = rt.alloc();
+    let text = with_names(alloc, 5_000)?;
+    let source = read_program(alloc, &text)?;
+    assert_eq!(rt; source.program.names.len(), 5_002);
+    assert!(rt; check(&alloc, text.len(), source.program).is_ok());
     Ok(())
 }
 

@@ -3,7 +3,8 @@
 use clap::ArgMatches;
 use clap::error::ErrorKind;
 use command_line::{
-    Asked, Format, Inputs, Literals, Mode, Request, RunOptions, Sizes, read_words, version_line,
+    Asked, Format, Inputs, Literals, Lowering, Mode, Request, RunOptions, Sizes, read_words,
+    version_line,
 };
 use command_texts::{help_text, mistake_text, program_command};
 use std::alloc::Global;
@@ -111,6 +112,14 @@ fn literals_in(matches: &ArgMatches<'_>) -> Literals {
     }
 }
 
+fn lowering_in(matches: &ArgMatches<'_>) -> Lowering {
+    if matches.get_flag("map") {
+        Lowering::Map
+    } else {
+        Lowering::Graph
+    }
+}
+
 /// Whether the numbers of elements are those in this list.
 fn are_sizes(sizes: Sizes, words: &[&str]) -> bool {
     (0..64).all(|size: u64| {
@@ -149,6 +158,7 @@ fn request_in(matches: &ArgMatches<'_>) -> Option<Request> {
             code: dot.get_flag("code"),
         }),
         Some(("asm", _)) => Some(Request::Asm),
+        Some(("lower", lower)) => Some(Request::Lower(lowering_in(lower))),
         Some(("trace", trace)) => Some(Request::Trace {
             options: options_in(trace)?,
             last: trace.get_one::<u64>("last"),
@@ -229,6 +239,7 @@ fn is_same(a: &Request, b: &Request) -> bool {
         (Request::Dis { literals: a }, Request::Dis { literals: b }) => *a == *b,
         (Request::Upgrade, Request::Upgrade) => true,
         (Request::Asm, Request::Asm) => true,
+        (Request::Lower(a), Request::Lower(b)) => *a == *b,
         (
             Request::Trace {
                 options: a,

@@ -143,8 +143,9 @@ const MEASURES: [&str; 20] = [
 ];
 
 /// What may stand after `dis` and `dot`.
-const FLAGS: [&str; 12] = [
+const FLAGS: [&str; 13] = [
     "--literals",
+    "--map",
     "--literals=x",
     "--literals=",
     "--lit",
@@ -289,7 +290,7 @@ fn main(rt: HostRuntime) -> anyhow::Result<()> {
     for command in LEAVES {
         println!(rt; "{command}: {}", try_after(alloc, command, options, 1)?)?;
     }
-    for command in ["ets dis", "ets dot"] {
+    for command in ["ets dis", "ets dot", "ets lower"] {
         println!(rt;
             "{command}: {}",
             try_after(alloc, command, FLAGS.as_slice(), 2)?

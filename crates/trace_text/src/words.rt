@@ -71,7 +71,7 @@ fn send_cont<W: Write>(writer: &mut W, cont: Cont) -> io::Result<()>
 }
 
 /// A word.
-fn send_word<W: Write>(writer: &mut W, word: Word) -> io::Result<()>
+pub fn send_word<W: Write>(writer: &mut W, word: Word) -> io::Result<()>
     ensures { Sends result (W.contents writer.old) (W.contents writer.new) (word_text word) }
 {
     match word {

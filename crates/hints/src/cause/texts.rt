@@ -18,6 +18,9 @@ pub enum TextCause<'a> {
     AListing {
         command: &'a str,
     },
+    AProgram {
+        command: &'a str,
+    },
     Header,
     ByteOrderMark,
     LineUnended,
@@ -51,6 +54,10 @@ impl<'a> TextCause<'a> {
             ),
             TextCause::AListing { command } => one(
                 "standard input is a listing, and `ets {}` reads a graph; `ets asm` makes an object of a listing",
+                Word(command),
+            ),
+            TextCause::AProgram { command } => one(
+                "standard input looks like a program, which `ets lower` makes a graph of: `ets lower < FILE | ets {}`",
                 Word(command),
             ),
             TextCause::Header => plain("a graph begins with the line `etsgraph 1` or `etsgraph 2`"),

@@ -35,10 +35,10 @@ impl<'a> WordCause<'a> {
     pub fn message(self) -> Message<'a> {
         match self {
             WordCause::NoCommand => plain(
-                "a command comes first: run, exec, mean, trace, profile, orders, check, compile, dis, asm, upgrade, dot or help, as in `ets run < FILE`",
+                "a command comes first; the most used are `ets lower < PROGRAM | ets run`, `ets run < GRAPH`, `ets mean`, `ets trace` and `ets profile`; `ets help` has all",
             ),
             WordCause::Command => plain(
-                "the commands are run, exec, mean, trace, profile, orders, check, compile, dis, asm, upgrade, dot and help",
+                "the commands are lower, run, exec, mean, trace, profile, orders, check, compile, dis, asm, upgrade, dot and help",
             ),
             WordCause::File { command, file } => three(
                 "`ets {}` reads standard input: give it the file by `<`, as in `ets {} < {}`",
@@ -66,7 +66,7 @@ impl<'a> WordCause<'a> {
                 Word(command),
             ),
             WordCause::Help => plain(
-                "behind `ets help` stands one command at most: run, exec, mean, trace, profile, orders, check, compile, dis, asm, upgrade, dot or help",
+                "behind `ets help` stands one command at most: lower, run, exec, mean, trace, profile, orders, check, compile, dis, asm, upgrade, dot or help",
             ),
         }
     }

@@ -10,5 +10,9 @@ use Rattle.replay.proofs.state.State.at_fetch.Goals as goal
 pub returns-clause-follows : goal.returns-clause-follows
 returns-clause-follows g c p s n made holds near token happens =
     fetched_later p c.args.self.now s holds near c.args.cell c.args.cont c.match-cell.before c.set.new.self made n token.word
-    (elim c.match-cell.branch [ in-Vacant w ↦ subst (λ (k : Cell). Waits k c.match-cell.before) w.in-Vacant.ensures w.before-is | in-Deferred w ↦ subst (λ (k : Cell). Waits k c.match-cell.before) w.in-Deferred.ensures w.before-is ])
+    (elim c.match-cell.branch [
+      | in-Vacant w ↦ subst (λ (k : Cell). Waits k c.match-cell.before) w.in-Vacant.ensures w.before-is
+      | in-Deferred w ↦ subst
+          (λ (k : Cell). Waits k c.match-cell.before) w.in-Deferred.ensures w.before-is
+    ])
     (λ y. c.in_ok-set.ensures y ∙ ap (λ (k : ℕ). put_at (kept c.args.self.now.cells) c.args.cell (Deferred k) y) c.in-Some.ensures.1) happens

@@ -15,8 +15,10 @@ returns-in_ok-set_in-in-Becomes-clause-follows g c s n made holds near token hap
     let ts : List Token = tokens_of (seat_of c.args.seat) c.fire.new.made in
     let used = c.slot_in-slot.ensures (instr_of i) refl in
     let count = c.count_made-made.ensures (seat_of c.args.seat) in
-    fired p c.args.self.now s holds near (g.C.Instructions.width c.args.code.now) f c.args.seat.ip c.args.port c.args.word i c.state_in-state.result c.in-Becomes.after
-    ts c.set_in.new.self record { deed = c.deed_at.result; made = c.count_made-made.result } made n c.requires.narrow token.to token.word c.in-Some.ensures.short c.in-Some.ensures.exact
+    fired p c.args.self.now s holds near
+    (g.C.Instructions.width c.args.code.now) f c.args.seat.ip c.args.port c.args.word i c.state_in-state.result c.in-Becomes.after
+    ts c.set_in.new.self record { deed = c.deed_at.result; made = c.count_made-made.result } made n c.requires.narrow token.to token.word
+    c.in-Some.ensures.short c.in-Some.ensures.exact
     (c.state_in-state.ensures ∙ ap (λ (r : Option ℕ). held_in slots f r) used) c.in-Becomes.ensures
     (subst (λ (r : Option ℕ). Sets slots f r c.in-Becomes.after c.set_in.new.self) used c.in_ok-set_in-in-Becomes.ensures)
     count c.deed_at.ensures happens

@@ -3,7 +3,8 @@ use Rattle.replay.proofs.Serving.{given, queued}
 use Rattle.replay.proofs.state.State.at_manager.Goals as goal
 
 pub returns-then-self-clause-follows : goal.returns-then-self-clause-follows
-returns-then-self-clause-follows g c p s n made holds near token happens = given p c.args.self.now s holds near c.args.cont made n token.word c.if-self.true happens
+returns-then-self-clause-follows g c p s n made holds near token happens = given p c.args.self.now s holds near c.args.cont made n token.word c.if-self.true
+    happens
 
 pub returns-clause-follows : goal.returns-clause-follows
 returns-clause-follows g c p s n made holds near token happens =

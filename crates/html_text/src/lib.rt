@@ -1,0 +1,15 @@
+//! A run as a page that any browser shows: the run's data as a text, and the page around it.
+#![tactic(auto)]
+
+mod changes;
+mod data;
+mod lists;
+mod model;
+mod page;
+mod picture;
+mod pieces;
+mod style;
+mod tokens;
+
+pub use data::write_data;
+pub use page::{Part, write_part};

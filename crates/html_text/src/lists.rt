@@ -1,0 +1,273 @@
+//! The page's script: the lists, the timeline, and moving through the run.
+
+/// What stands beside the picture, and the end of the page.
+pub(crate) const LISTS: &[u8] = br##"// ---- the lists beside it
+let picked = null, pos = -1, follow = 0;
+function choose(p) { picked = p; if (p) pause(); show(); }
+const evButton = (n, text) => el('button', {class: 'ev' + (n === pos ? ' cur' : ''), on: () => go(n)}, text || String(n));
+const tokButton = (t, cls, text) => el('button', {class: 'chip ' + cls + (picked && picked.t === t ? ' sel' : ''), title: word(carries(TOK[t])),
+    on: () => choose({t: t})}, text || brief(carries(TOK[t]), 16));
+function info(n) {
+  const box = $('info');
+  box.hidden = !picked;
+  if (!picked) return;
+  const close = el('button', {style: 'float:right', 'aria-label': 'Close', on: () => choose(null)}, '\u2715');
+  if (picked.t !== undefined) {
+    const t = picked.t, T = TOK[t], m = MADE[t], k = TAKEN[t];
+    fill(box, close, el('h2', {}, 'Token ' + t), el('div', {}, el('b', {}, word(carries(T))), ' for ' + whereTo(T, -1) + '.'),
+      el('div', {}, m < 0 ? 'It was there at the start.' : ['Made by ', evButton(m, 'event ' + m), ' ', el('span', {class: 'none'}, doing(m))]),
+      el('div', {}, k === LATER ? 'It is never taken.' : ['Taken by ', evButton(k, 'event ' + k), ' ', el('span', {class: 'none'}, doing(k))]));
+  } else {
+    const c = CODE[picked.ip], list = c.ev;
+    let a = 0, b = list.length;
+    while (a < b) { const q = (a + b) >> 1; if (list[q] < n) a = q + 1; else b = q; }
+    const from = Math.max(0, a - 30), to = Math.min(list.length, from + 60);
+    fill(box, close, el('h2', {}, c.b + '.' + c.k + ' ' + c.name + ' ' + c.op), HELP[c.name] ? el('div', {class: 'none'}, HELP[c.name]) : '',
+      el('div', {}, 'goes to: ', c.d.filter(d => d).map(d => name(d.ip) + ' (' + at(d.ip) + '), ' + SIDE[d.port]).join('; ') ||
+          'no instruction of its block', c.slot === null ? '' : '; slot ' + c.slot),
+      el('div', {style: 'margin-top:.3rem'}, many(list.length, 'event'), list.length ? ': ' : '.', from ? '\u2026 ' : '',
+          list.slice(from, to).map(x => evButton(x, x + ' \u00b7 frame ' + TOK[EV[x][1]][1])), to < list.length ? ' \u2026' : ''));
+  }
+}
+function doing(n) { const t = TOK[EV[n][1]]; return t[0] === 'i' ? name(t[2]) + ' (' + at(t[2]) + '), frame ' + t[1] : whereTo(t, -1); }
+function lists(n, s, pool, f) {
+  const ev = n < 0 ? null : EV[n], c = ev && ev[3], t0 = ev && TOK[ev[1]], hit = k => c && c[0] === 's' && skey(c[1], c[2]) === k;
+  const outs = [];
+  for (let p = 0; p <= BLOCKS[MAIN].outs; p++) {
+    const o = s.outs.get(p), done = p === BLOCKS[MAIN].outs;
+    outs.push(el('span', {style: 'margin-right:1rem'}, done ? 'done ' : 'output ' + p + ' ', o ?
+        el('span', {class: 'chip ' + (o.ev === n ? 'new' : ''), title: o.v}, done ? 'yes' : o.v) : el('span', {class: 'none'}, '\u2013')));
+  }
+  fill($('outs'), outs);
+  // frames
+  const used = [...s.out.keys()].sort((a, b) => a - b), cards = [], by = new Map();
+  s.slots.forEach((v, k) => { const fr = Math.floor(k / 512); if (!by.has(fr)) by.set(fr, []); by.get(fr).push([k % 512, v]); });
+  $('fcount').textContent = used.length + ' in use, ' + (D.frames - used.length).toLocaleString('en') + ' free';
+  const near = used.length <= 24 ? used : [f].filter(x => s.out.has(x)).concat(used.filter(x => x !== f).slice(0, 11));
+  for (const fr of near) {
+    const o = s.out.get(fr), b = BLOCKS[o.b], full = by.get(fr) || [], slots = [], mine = new Map(full);
+    const order = b && b.slots <= 20 ? [...Array(b.slots).keys()] : full.map(x => x[0]).sort((x, y) => x - y);
+    if (c && c[0] === 's' && c[1] === fr && !order.includes(c[2])) order.push(c[2]);
+    for (const r of order) {
+      const v = mine.get(r), q = v && v.s, k = skey(fr, r);
+      slots.push(el(q ? 'button' : 'span', {class: 'slot' + (q ? ' full' : '') + (hit(k) ? ' hit' : ''), on: q ? () => choose({t: EV[v.ev][1]}) :
+          undefined, title: 'slot ' + r + ': ' + stands(q)}, el('small', {}, r), !q ? '' : q[0] === 'c' ? many(q[1], 'credit') : q[0] === 'w' ?
+          'asks ' + short(q[1]) : q[0] === 'd' ? 'drain ' + q[1] : [brief(q[1], 14), ' ', el('small', {}, q[0])]));
+    }
+    cards.push(el('div', {class: 'frame' + (fr === f ? ' cur' : '')}, el('button',
+        {title: 'Show this frame in the code', on: () => { $('fsel').value = 'f'; follow = fr; frameMenu(fr); show(); }}, 'frame ' + fr),
+        el('span', {class: 'none'}, ' ' + (b ? bname(b) : 'just given') + (E > 1 ? ', element ' + fr % E : '')),
+        el('div', {class: 'slots'}, slots.length ? slots : el('span', {class: 'none'}, 'all slots empty'))));
+  }
+  if (near.length < used.length) cards.push(el('div', {class: 'none'}, 'and ' + (used.length - near.length) + ' more frames'));
+  fill($('frames'), cards.length ? cards : el('span', {class: 'none'}, 'No frame is in use.'));
+  // arrays
+  $('acard').hidden = !ARRAYS.length;
+  const x0 = t0 && (t0[0] === 'r' || t0[0] === 'w') ? t0[1] : -1;
+  fill($('cells'), ARRAYS.map(a => {
+    const show = [], big = a.len > 64;
+    if (big) { for (const x of s.cells.keys()) if (x >= a.base && x < a.base + a.len) show.push(x); show.sort((p, q) => p - q);
+        if (show.length > 96) { let k = show.findIndex(x => x >= x0); k = x0 < 0 || k < 0 ? 0 : k; show.splice(k + 48);
+        show.splice(0, Math.max(0, k - 48)); } } else for (let i = 0; i < a.len; i++) show.push(a.base + i);
+    return [el('h3', {}, a.name + ', ' + many(a.len, 'cell') + (big ? ', those that are not empty:' : '')),
+        el('div', {class: 'cells', style: 'margin-bottom:.4rem'}, show.map(x => {
+      const v = s.cells.get(x), conts = [];
+      for (let q = v; q && q.cont && conts.length < 5; q = q.more) conts.unshift(word(q.cont));
+      return el('span', {class: 'cell' + (v ? v.n ? ' readers' : ' full' : '') + (x === x0 ? ' hit' : ''),
+          title: cell(x) + ': ' + (!v ? 'empty' : v.n ? many(v.n, 'read') + ' waiting: ' + conts.join('; ') : v.v)}, el('small', {}, x - a.base), !v ? '' :
+          v.n ? many(v.n, 'read waits', 'reads wait') : v.v);
+    }), show.length ? '' : el('span', {class: 'none'}, 'all empty'))];
+  }));
+  // requests
+  const rq = [];
+  for (let k = s.qh; k < s.qt && rq.length < 12; k++) { const t = EV[REQ[k]][1];
+      rq.push(el('li', {}, tokButton(t, 'wait', 'frame'), el('span', {class: 'to'}, ' for ' + word(TOK[t][1])))); }
+  let more = s.qt - s.qh - rq.length;
+  s.slots.forEach((v, k) => { if (v.s[0] === 'w') {
+      if (rq.length < 24) rq.push(el('li', {}, tokButton(EV[v.ev][1], 'wait', 'credit'),
+      el('span', {class: 'to'}, ' for ' + word(v.s[1]) + ', in slot ' + (k % 512) + ' of frame ' + Math.floor(k / 512)))); else more++; } });
+  fill($('reqs'), rq.length ? el('ul', {class: 'list'}, rq, more > 0 ? el('li', {class: 'none'}, 'and ' + more + ' more') : '') :
+      el('span', {class: 'none'}, 'No request waits for a frame or a credit.'));
+  // tokens
+  $('tcount').textContent = pool.length.toLocaleString('en');
+  const nextT = n + 1 < N ? EV[n + 1][1] : -1, order = pool.slice(0, 24);
+  if (nextT >= 0 && !order.includes(nextT)) order.unshift(nextT);
+  fill($('toks'), order.map(t => el('li', {}, tokButton(t, MADE[t] === n ? 'new' : ''),
+      el('span', {class: 'to'}, ' \u2192 ' + whereTo(TOK[t], -1) + (t === nextT ? '  \u25c0 next' : '')))), pool.length > order.length ?
+      el('li', {class: 'none'}, 'and ' + (pool.length - order.length) + ' more') : '', pool.length ? '' : el('li', {class: 'none'}, 'None.'));
+}
+let menuOf = '';
+function frameMenu(f) {
+  const v = $('fsel').value || 'follow', want = v === 'f' ? 'frame ' + follow : 'one frame: ' + f;
+  if (menuOf === v + f + want) return;
+  menuOf = v + f + want;
+  fill($('fsel'), el('option', {value: 'follow'}, 'of the event (' + f + ')'), el('option', {value: 'all'}, 'all frames'),
+      el('option', {value: 'f'}, want));
+  $('fsel').value = v;
+}
+
+// ---- the timeline
+const KIND = {fired: 'fired', waited: 'waited', answered: 'memory', stored: 'memory', served: 'memory', deferred: 'defer', queued: 'defer',
+    given: 'manager', freed: 'manager', handed: 'manager', arrived: 'host'}, kind = ev => ev[3] && ev[3][3] && ev[3][3][0] === 'c' ? 'fired' :
+    KIND[ev[2]] || 'fired';
+fill($('legend'), [['fired', 'fired'], ['waited', 'waits in a slot'], ['memory', 'a cell is read or filled'], ['defer', 'a read or a request waits'],
+    ['manager', 'frames'], ['host', 'the host']].map(([k, s]) => el('span', {}, el('i', {style: 'background:var(--' + k + ')'}), s)),
+    el('span', {}, 'above: tokens on their way, at most ' + TOP.toLocaleString('en')));
+const cv = $('cv'), HC = 34, LANE = Math.max(5, Math.min(14, Math.floor(72 / E))), YL = HC + 4, YZ = YL + LANE * E + 26, ONE = E === 1 || E > 6,
+    ZL = E === 1 ? 26 : ONE ? 38 : 20, HT = YZ + ZL * (ONE ? 1 : E) + 2, PADL = E > 1 ? 34 : 4;
+let tlw = 0, back = null, backKey = '', win = {a: 0, w: 1};
+function timeline(n) {
+  const dpr = devicePixelRatio || 1, W = tlw, css = getComputedStyle(document.documentElement), col = k => css.getPropertyValue('--' + k).trim();
+  if (W < 50) return;
+  const key = W + '/' + dpr + '/' + col('bg'), IW = W - PADL - 4;
+  cv.style.height = HT + 'px';
+  const X = m => PADL + (N ? (m + 1) * IW / N : 0);
+  if (key !== backKey) {
+    backKey = key; cv.width = Math.round(W * dpr); cv.height = Math.round(HT * dpr);
+    back = document.createElement('canvas'); back.width = cv.width; back.height = cv.height;
+    const c = back.getContext('2d'); c.scale(dpr, dpr);
+    c.fillStyle = col('soft'); c.fillRect(PADL, 0, IW, HC);
+    c.fillStyle = col('accent'); c.globalAlpha = .55; c.beginPath(); c.moveTo(PADL, HC);
+    for (let x = 0; x <= IW; x++) { const a = Math.floor(x * N / IW), b = Math.min(N, Math.max(a, Math.floor((x + 1) * N / IW) - 1)); let m = 0;
+        for (let k = a; k <= b; k++) if (COUNT[k] > m) m = COUNT[k]; c.lineTo(PADL + x, HC - m * (HC - 3) / (TOP || 1)); }
+    c.lineTo(PADL + IW, HC); c.fill(); c.globalAlpha = 1;
+    const per = new Map();
+    for (let m = 0; m < N; m++) { const x = Math.floor(m * IW / N), k = EV[m][0] * 8192 + x, q = kind(EV[m]); const o = per.get(k);
+        if (o) o[q] = (o[q] || 0) + 1; else per.set(k, {[q]: 1}); }
+    for (let e = 0; e < E; e++) { c.fillStyle = col('soft'); c.fillRect(PADL, YL + e * LANE, IW, LANE - 1); }
+    const cols = {}; for (const k of ['fired', 'waited', 'memory', 'defer', 'manager', 'host']) cols[k] = col(k);
+    const bw = Math.max(1, IW / Math.max(1, N));
+    per.forEach((o, k) => { const e = Math.floor(k / 8192), x = k % 8192; let tot = 0, y = 0; for (const q in o) tot += o[q];
+        for (const q in o) { const h = (LANE - 1) * o[q] / tot; c.fillStyle = cols[q]; c.fillRect(PADL + x, YL + e * LANE + y, bw > 3 ? bw - 1 : bw, h);
+        y += h; } });
+    c.fillStyle = col('dim'); c.font = '10px sans-serif'; c.textBaseline = 'middle';
+    if (E > 1) for (let e = 0; e < E; e++) { if (LANE >= 9 || e % 4 === 0) c.fillText('el ' + e, 2, YL + e * LANE + LANE / 2); }
+    c.textBaseline = 'alphabetic';
+  }
+  const c = cv.getContext('2d');
+  c.setTransform(1, 0, 0, 1, 0, 0); c.clearRect(0, 0, cv.width, cv.height); c.drawImage(back, 0, 0); c.scale(dpr, dpr);
+  const count = Math.max(3, Math.floor(IW / 58)), bw = IW / count, a = Math.max(0, Math.min(N - count, n - (count >> 1)));
+  win = {a: a, w: bw, n: count};
+  c.strokeStyle = col('ink'); c.lineWidth = 1.5; const xa = PADL + a * IW / (N || 1), xb = PADL + Math.min(N, a + count) * IW / (N || 1);
+  c.globalAlpha = .35; c.beginPath(); c.moveTo(xa, YL + LANE * E); c.lineTo(PADL, YZ - 17); c.moveTo(xb, YL + LANE * E);
+      c.lineTo(PADL + Math.min(N, count) * bw, YZ - 17); c.stroke(); c.globalAlpha = 1;
+  const px = Math.min(PADL + IW - 1, X(n)); c.fillStyle = col('defer'); c.fillRect(px - 1, 0, 2, YL + LANE * E);
+  c.beginPath(); c.moveTo(px - 5, 0); c.lineTo(px + 5, 0); c.lineTo(px, 7); c.fill();
+  c.font = '11px ui-monospace,Menlo,Consolas,"Liberation Mono",monospace'; c.textAlign = 'center';
+  for (let e = 0; e < (ONE ? 1 : E); e++) { c.fillStyle = col('soft'); c.fillRect(PADL, YZ + e * ZL, IW, ZL - 1);
+      if (!ONE) { c.fillStyle = col('dim'); c.textAlign = 'left'; c.fillText('el ' + e, 2, YZ + e * ZL + ZL / 2 + 4); c.textAlign = 'center'; } }
+  for (let m = a; m < Math.min(N, a + count); m++) {
+    const x = PADL + (m - a) * bw, y = YZ + (ONE ? 0 : EV[m][0] * ZL), mid = y + (E > 6 ? 12 : ZL / 2), t = TOK[EV[m][1]];
+    c.fillStyle = col(kind(EV[m])); c.fillRect(x + 1, y, bw - 2, ZL - 1);
+    c.fillStyle = col('card'); c.fillRect(x + 2.5, y + 3.5, bw - 5, ZL - 6);
+    c.fillStyle = m <= n ? col('ink') : col('faint');
+    const s = t[0] === 'i' ? name(t[2]) : {r: 'read', w: 'write', q: 'request', b: 'freed', h: 'host'}[t[0]];
+    c.fillText(s.length * 6.7 > bw - 6 ? s.slice(0, Math.floor((bw - 8) / 6.7)) : s, x + bw / 2, mid + 3.5);
+    if (E > 6) c.fillText('el ' + EV[m][0], x + bw / 2, mid + 18);
+    if (m === n) { c.strokeStyle = col('defer'); c.lineWidth = 2; c.strokeRect(x + 1, y + 1, bw - 2, ZL - 3); }
+    if (m === n || m % 5 === 0) { c.fillStyle = m === n ? col('defer') : col('dim'); c.fillText(String(m), x + bw / 2, YZ - 5); }
+  }
+  cv.setAttribute('aria-valuemax', N - 1); cv.setAttribute('aria-valuenow', n);
+      cv.setAttribute('aria-valuetext', n < 0 ? 'start' : 'event ' + n + ': ' + doing(n));
+}
+function jump(ev) {
+  const r = cv.getBoundingClientRect(), x = ev.clientX - r.left - PADL, y = ev.clientY - r.top, IW = r.width - PADL - 4;
+  go(y >= YZ - 14 ? win.a + Math.floor(x / win.w) : Math.floor(x * N / IW));
+}
+let drag = false;
+cv.addEventListener('pointerdown', ev => { drag = true; pause(); jump(ev); });
+addEventListener('pointermove', ev => { if (drag && ev.clientY - cv.getBoundingClientRect().top < YZ - 14) jump(ev); });
+addEventListener('pointerup', () => { drag = false; });
+
+// ---- moving
+let timer = null, hashing = null;
+const hashOf = () => '#event=' + (pos < 0 ? 'start' : pos);
+function putHash() { hashing = null; if (location.hash !== hashOf()) try { history.replaceState(null, '', hashOf()); } catch (x) {
+    location.replace(hashOf()); } }
+function setHash() { $('link').setAttribute('href', hashOf()); if (!hashing) hashing = setTimeout(putHash, 250); }
+function show() {
+  const n = pos, s = stateAt(n), f = $('fsel').value === 'f' ? follow : frameOf(n), pool = [];
+  for (let t = 0, m = born(n); t < m; t++) if (TAKEN[t] > n) pool.push(t);
+  frameMenu(f);
+  draw(blocksFor(n, f, s));
+  fill($('say'), sentence(n), n === N - 1 ? ending() : '');
+  $('say').setAttribute('aria-live', timer ? 'off' : 'polite');
+  $('at').textContent = n < 0 ? 'start, of ' + many(N, 'event') : 'event ' + n + ' (0 to ' + (N - 1) + ')';
+  $('first').disabled = $('back').disabled = n < 0; $('next').disabled = $('last').disabled = n >= N - 1;
+  const focus = marks(n, s, pool, f);
+  lists(n, s, pool, f); info(n); timeline(n); setHash();
+  reveal(focus, n < 0 || TOK[EV[n][1]][0] !== 'i' ? -1 : TOK[EV[n][1]][2]);
+}
+function go(n) { n = Math.max(-1, Math.min(N - 1, Math.trunc(n))); if (n !== n) return; pos = n; show(); }
+function pause() { if (timer) { clearTimeout(timer); timer = null; $('play').textContent = 'Play'; }  }
+function play() {
+  if (timer) { pause(); return; }
+  if (pos >= N - 1) pos = -1;
+  $('play').textContent = 'Pause';
+  let due = performance.now();
+  const tick = () => {
+    const rate = +$('speed').value, now = performance.now(), k = Math.max(1, Math.floor((now - due) * rate / 1000));
+    due = now; go(pos + k);
+    if (pos >= N - 1) { pause(); return; }
+    timer = setTimeout(tick, Math.max(16, 1000 / rate));
+  };
+  timer = setTimeout(tick, Math.max(16, 1000 / +$('speed').value));
+  show();
+}
+function fromHash() { const m = /event=(start|-?\d+)/.exec(location.hash); return m ? (m[1] === 'start' ? -1 : Math.min(N - 1, Math.max(-1, +m[1]))) :
+    null; }
+$('first').onclick = () => { pause(); go(-1); }; $('back').onclick = () => { pause(); go(pos - 1); };
+    $('next').onclick = () => { pause(); go(pos + 1); }; $('last').onclick = () => { pause(); go(N - 1); }; $('play').onclick = play;
+$('goto').onchange = () => { const v = $('goto').value.trim(); if (/^\d+$/.test(v)) { pause(); go(+v); } $('goto').value = ''; };
+$('fsel').onchange = () => { if ($('fsel').value === 'f') follow = frameOf(pos); show(); };
+$('bsel').onchange = () => { show(); }; $('zsel').onchange = () => { scale(); show(); };
+addEventListener('keydown', ev => {
+  const tag = ev.target.tagName;
+  if (ev.ctrlKey || ev.metaKey || ev.altKey || tag === 'INPUT' || tag === 'SELECT') return;
+  const act = ev.target.getAttribute && ev.target.getAttribute('role') === 'button', btn = tag === 'BUTTON' || tag === 'SUMMARY' || tag === 'A';
+  if (act && (ev.key === 'Enter' || ev.key === ' ')) { ev.target.dispatchEvent(new MouseEvent('click', {bubbles: true})); ev.preventDefault(); return;
+      }
+  const k = ev.key;
+  if (k === 'ArrowLeft') { pause(); go(pos - 1); } else if (k === 'ArrowRight') { pause(); go(pos + 1); } else if (k === 'Home') { pause(); go(-1);
+      } else if (k === 'End') { pause(); go(N - 1); }
+  else if (k === 'Escape') choose(null); else if (k === ' ' && !btn) play(); else return;
+  ev.preventDefault();
+});
+addEventListener('hashchange', () => { const n = fromHash(); if (n !== null && n !== pos) { pause(); go(n); } });
+for (const b of document.querySelectorAll('#ctl [aria-label]')) b.title = b.getAttribute('aria-label');
+const measure = () => { tlw = $('tl').clientWidth - 22; };
+addEventListener('resize', () => { measure(); scale(); timeline(pos); });
+if (matchMedia) matchMedia('(prefers-color-scheme:dark)').addEventListener('change', () => timeline(pos));
+
+// ---- begin
+const total = BLOCKS.filter(b => b.used).reduce((a, b) => a + b.code.length, 0), idle = BLOCKS.filter(b => !b.used);
+fill($('bsel'), el('option', {value: 'run'}, 'of this run'), el('option', {value: 'follow'}, 'of the event'), el('option', {value: 'all'}, 'all'),
+    BLOCKS.map(b => el('option', {value: b.n}, bname(b) + (b.used ? '' : ', not used'))));
+$('bsel').value = total <= 45 || BLOCKS.length - idle.length < 2 ? 'run' : 'follow';
+if (idle.length) $('note').textContent = 'Not used in this run: ' + idle.map(bname).join(', ') + '.';
+$('sub').textContent = [many(N, 'event'), many(E, 'element'), many(BLOCKS.length, 'code block'), many(CODE.length, 'instruction'),
+    'end: ' + END].join(' \u00b7 ');
+{ const m = /^main (\S+)$/m.exec($('source').textContent); if (m) { document.title = 'Run of ' + m[1] + ': ' + END; } }
+for (const d of document.querySelectorAll('#plain details')) d.open = false;
+$('app').hidden = false;
+{ // the books must agree with the report
+  const s = stateAt(N - 1), want = [];
+  let readers = 0, credits = 0;
+  s.cells.forEach(c => { readers += c.n; }); s.slots.forEach(v => { if (v.s[0] === 'w') credits++; });
+  for (let p = 0; p < BLOCKS[MAIN].outs; p++) want.push('output ' + p + ' ' + (s.outs.has(p) ? s.outs.get(p).v : '-'));
+  for (const a of ARRAYS) for (let i = 0; i < a.len; i++) { const c = s.cells.get(a.base + i);
+      if (c && !c.n) want.push('cell ' + a.name.replace('array ', '') + ' ' + i + ' ' + c.v); }
+  want.push('deferred ' + readers, 'waiting ' + (s.qt - s.qh) + ' ' + credits, 'frames ' + s.out.size);
+  const off = want.findIndex((l, k) => l !== REPORT[k]);
+  if (off >= 0) fail('The events of this page do not add up to its report: \u201c' + want[off] + '\u201d against \u201c' + REPORT[off] + '\u201d.');
+}
+frameMenu(0);
+measure();
+const h = fromHash();
+go(h === null ? -1 : h);
+document.documentElement.setAttribute('data-ready', Math.round(performance.now()));
+})();
+</script>
+</body>
+</html>
+"##;

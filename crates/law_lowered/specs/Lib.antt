@@ -1,0 +1,2 @@
+pub mod HasText
+pub mod Well

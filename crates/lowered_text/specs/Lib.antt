@@ -1,0 +1,4 @@
+pub mod Lowers
+pub mod Told
+pub mod Texts
+pub mod Parts

@@ -1,0 +1,45 @@
+//! Why a text is not lowered.
+
+ghost use Rattle.std.specs.Prelude.{◌≡◌};
+ghost use Rattle.lowered_text.specs.Told.{IsUntold};
+ghost use Rattle.lowered_text.specs.declared.fault.LowerFault.TheVariants.{Memory};
+
+use source::fault::{FaultKind, ProgramFault};
+use std::alloc::AllocError;
+use std::io;
+
+/// Why a text has no graph.
+#[derive(Debug, Drop)]
+pub enum LowerFault {
+    /// The text has no program, or one that breaks a rule or is too big: this is its first fault. Want of memory is never told so.
+    Program(ProgramFault),
+    Memory,
+}
+
+impl From<AllocError> for LowerFault {
+    ghost from_gives = { λ _ told. told ≡ Memory };
+
+    fn from(_error: AllocError) -> LowerFault {
+        LowerFault::Memory
+    }
+}
+
+impl From<ProgramFault> for LowerFault {
+    ghost from_gives = { λ fault told. IsUntold fault told };
+
+    fn from(fault: ProgramFault) -> LowerFault {
+        match fault.kind {
+            FaultKind::Memory => LowerFault::Memory,
+            _ => LowerFault::Program(fault),
+        }
+    }
+}
+
+/// Why nothing, or only a beginning, was written.
+#[derive(Debug, Drop)]
+pub enum LowerRefusal {
+    /// The text has no graph, and nothing was written.
+    Fault(LowerFault),
+    /// A write failed. A beginning was written.
+    Write(io::Error),
+}

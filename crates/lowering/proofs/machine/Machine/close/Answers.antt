@@ -1,0 +1,5 @@
+use Rattle.std.proofs.Common.{refl}
+use Rattle.lowering.proofs.machine.Machine.close.Goals as goal
+
+pub returns : goal.returns
+returns g c = rw (← c.self.view_is, c.nameless.ensures, c.replace-inner.ensures.after, c.new-empty.ensures, c.new.ensures.items) refl

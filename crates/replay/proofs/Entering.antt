@@ -1,0 +1,238 @@
+-- An event of the lane that is all of the machine, as an entry of the books.
+use Rattle.std.proofs.Common.{◌≡◌, refl, sym, ◌∙◌, ap, subst, ℕ, suc, ◌+◌, ◌-◌, ◌*◌, ◌<◌, Bool, true, false, not, List, [], ◌∷◌, ◌++◌, length}
+use Rattle.std.proofs.Common.{drop, Option, Some, None, arith}
+use Rattle.std.specs.Prelude.{◌==◌, nat_lt, if◌then◌else◌, remove, slice_get, IsPermutation, Ok}
+use Rattle.std.specs.List.{range_with_len}
+use Rattle.std.proofs.Math.Nat.{mod-one, mod-eq_of_lt}
+use Rattle.std.proofs.Math.Seq.{drop-append_seam}
+use Rattle.std.proofs.lemmas.Bool.{ne_eqb, le-ltb}
+use Rattle.std.proofs.lemmas.List.{append-nil}
+use Rattle.std.proofs.lemmas.List.Edits.{length-remove}
+use Rattle.std.proofs.lemmas.List.Sorted.{IsPermutation-refl, IsPermutation-trans, IsPermutation-sym}
+use Rattle.tags.specs.Addresses.{element_of}
+use Rattle.tags.specs.declared.token.Cont.{Cont}
+use Rattle.tags.specs.declared.token.Word.{Word}
+use Rattle.tags.specs.declared.token.To.{To}
+use Rattle.tags.specs.declared.token.Token.{Token}
+use Rattle.tags.specs.declared.slot.SlotState.{SlotState}
+use Rattle.semantics.specs.Program.{Program, instr_at}
+use Rattle.semantics.specs.Machine.{Store, Size, Event, Happens, slot_in, slot_used, outputs_of}
+use Rattle.frame_manager.specs.Managed.{Managed}
+use Rattle.frame_manager.specs.Answered.{request_tokens, release_tokens}
+use Rattle.element.specs.Changed.{IsRequested, IsReleased}
+use Rattle.element.specs.Parts.{Shape, Part, Manages}
+use Rattle.element.specs.Held.{LaneView, is_here, here, elsewhere}
+use Rattle.element.specs.Acts.{ServesFirst}
+use Rattle.element.specs.Steps.{Does, IsAfter, place_of}
+use Rattle.replay.specs.declared.moment.Deed.TheVariants as deed
+use Rattle.replay.specs.declared.entry.Change.{Change}
+use Rattle.replay.specs.declared.entry.Change.TheVariants as change
+use Rattle.replay.specs.declared.entry.Entry.{Entry}
+use Rattle.replay.specs.declared.extent.Extent.{Extent}
+use Rattle.replay.specs.Moments.{at_slot, deed_of}
+use Rattle.replay.specs.Books.{Book, IsEntry, IsInOrder, change_of, changed, machine_of, slot_change}
+use Rattle.replay.specs.Entering.{IsWhole, Records, StateIs, place_used, place_in, state_at, deed_by, change_by, place_change}
+use Rattle.replay.proofs.Complete.{complete}
+
+-- ONE ELEMENT takes all tokens.
+pub on_first : (to : To) → element_of 1 to ≡ 0
+on_first (To.Instr f ip port) = mod-one f
+on_first (To.Fetch x) = mod-one x
+on_first (To.Store x v) = mod-one x
+on_first To.Manager = refl
+on_first (To.Release f) = refl
+on_first (To.Host j) = refl
+
+module _ (z : Shape) (only : z.elements ≡ 1) (first : z.element ≡ 0) where
+  is_ours : (t : Token) → is_here z t ≡ true
+  is_ours t = ap (λ (n : ℕ). element_of n t.to == z.element) only ∙ ap (λ (n : ℕ). n == z.element) (on_first t.to) ∙ ap (λ (n : ℕ). 0 == n) first
+
+  pub all_here : (ts : List Token) → here z ts ≡ ts
+  all_here [] = refl
+  all_here (t ∷ ts) = ap (λ (b : Bool). if b then t ∷ here z ts else here z ts) (is_ours t) ∙ ap (λ (l : List Token). t ∷ l) (all_here ts)
+
+  pub none_elsewhere : (ts : List Token) → elsewhere z ts ≡ []
+  none_elsewhere [] = refl
+  none_elsewhere (t ∷ ts) = ap (λ (b : Bool). if not b then t ∷ elsewhere z ts else elsewhere z ts) (is_ours t) ∙ none_elsewhere ts
+
+-- DEEDS AND CHANGES
+not_none : (n : ℕ) → (suc n == 0) ≡ false
+not_none n = ne_eqb (suc n) 0 (λ e. let no : ⊥ = omega (arith, e) in no)
+
+not_few : (n : ℕ) → nat_lt (suc (suc n)) 2 ≡ false
+not_few n = le-ltb (suc (suc n)) 2 (omega arith)
+
+pub deed_is : (p : Program) (s n : Store) (to : To) (made : List Token)
+    → deed_by to (state_at s (place_used p to)) (state_at n (place_used p to)) (length made) ≡ deed_of p s n to made
+deed_is p s n (To.Instr f ip port) made = at (slot_used (instr_at p ip)) where
+  at : (r : Option ℕ) → at_slot (state_at s (place_in f r)) (state_at n (place_in f r)) ≡ at_slot (slot_in s f r) (slot_in n f r)
+  at None = refl
+  at (Some r) = refl
+deed_is p s n (To.Fetch x) [] = refl
+deed_is p s n (To.Fetch x) (t ∷ ts) = ap (λ (b : Bool). if b then deed.Deferred else deed.Answered) (not_none (length ts))
+deed_is p s n (To.Store x v) [] = refl
+deed_is p s n (To.Store x v) (t ∷ []) = refl
+deed_is p s n (To.Store x v) (t ∷ u ∷ ts) = ap (λ (b : Bool). if b then deed.Stored else deed.Served) (not_few (length ts))
+deed_is p s n To.Manager [] = refl
+deed_is p s n To.Manager (t ∷ ts) = ap (λ (b : Bool). if b then deed.Queued else deed.Given) (not_none (length ts))
+deed_is p s n (To.Release f) [] = refl
+deed_is p s n (To.Release f) (t ∷ ts) = ap (λ (b : Bool). if b then deed.Freed else deed.HandedOn) (not_none (length ts))
+deed_is p s n (To.Host j) made = refl
+
+pub change_is : (p : Program) (n : Store) (to : To) (w : Word) (made : List Token)
+    → change_by (outputs_of p) to w (place_used p to) (state_at n (place_used p to)) made ≡ change_of p n to w made
+change_is p n (To.Instr f ip port) w made = at (slot_used (instr_at p ip)) where
+  at : (r : Option ℕ) → place_change (place_in f r) (state_at n (place_in f r)) ≡ slot_change n f r
+  at None = refl
+  at (Some r) = refl
+change_is p n (To.Fetch x) (Word.Back c) [] = refl
+change_is p n (To.Fetch x) (Word.Back c) (t ∷ ts) = ap (λ (b : Bool). if b then change.Reader x c else change.Nothing) (not_none (length ts))
+change_is p n (To.Fetch x) w made = refl
+change_is p n (To.Store x v) w made = refl
+change_is p n To.Manager (Word.Back c) [] = refl
+change_is p n To.Manager (Word.Back c) (t ∷ ts) = refl
+change_is p n To.Manager (Word.Val v) [] = refl
+change_is p n To.Manager (Word.Val v) (t ∷ ts) = refl
+change_is p n To.Manager (Word.Frame f) [] = refl
+change_is p n To.Manager (Word.Frame f) (t ∷ ts) = refl
+change_is p n (To.Release f) w [] = refl
+change_is p n (To.Release f) w (t ∷ ts) = ap (λ (b : Bool). if b then change.Free f else change.Handed f) (not_none (length ts))
+change_is p n (To.Host j) w made = refl
+
+-- FRAMES IN ORDER
+requested : (h k : Option Managed) (s : Store) (c : Cont) (given : Option ℕ) (made : List Token) (n : Store) → Manages h s → made ≡ request_tokens c given
+    → IsRequested h c (Ok given) k → IsInOrder s To.Manager made n
+requested None k s c given made n holds is r = absurd holds
+requested (Some m) None s c given made n holds is r = absurd r
+requested (Some m) (Some q) s c None made n holds is r = subst (λ (ts : List Token). IsInOrder s To.Manager ts n) (sym is) tt
+requested (Some m) (Some q) s c (Some f) made n holds is r = subst (λ (ts : List Token). IsInOrder s To.Manager ts n) (sym is)
+    (λ g h e low. let same : g ≡ f = sym (carried f g e) in holds.out h ∙ r.0.0.least h (subst (λ (x : ℕ). h < x) same low))
+  where
+    frame_in : Word → ℕ
+    frame_in (Word.Frame x) = x
+    frame_in w = 0
+
+    carried : (x y : ℕ) → Word.Frame x ≡ Word.Frame y → x ≡ y
+    carried x y e = ap frame_in e
+
+released : (h k : Option Managed) (s n : Store) (f : ℕ) (given : Option (Cont × ℕ)) (made : List Token) → Manages h s → Manages k n
+    → made ≡ release_tokens given → IsReleased h f (Ok given) k → IsInOrder s (To.Release f) made n
+released None k s n f given made holds after is r = absurd holds
+released (Some m) None s n f given made holds after is r = absurd after
+released (Some m) (Some q) s n f None made holds after is r = subst (λ (ts : List Token). IsInOrder s (To.Release f) ts n) (sym is) tt
+released (Some m) (Some q) s n f (Some g) made holds after is r = subst (λ (ts : List Token). IsInOrder s (To.Release f) ts n) (sym is)
+    (g.0, holds.requests ∙ r.0.2 ∙ ap (λ (l : List Cont). g.0 ∷ l) (sym after.requests))
+
+in_order : (p : Program) (total : ℕ) (h k : Part) (s n : Store) (to : To) (w : Word) (made : List Token) → Manages h.manager s → Manages k.manager n
+    → ServesFirst h to w made k → Happens p total s to w made n → IsInOrder s to made n
+in_order p total h k s n To.Manager (Word.Back c) made holds after first happens = requested h.manager k.manager s c first.0 made n holds first.1 first.2
+in_order p total h k s n To.Manager w made holds after first happens = absurd happens
+in_order p total h k s n (To.Release f) w made holds after first happens = released h.manager k.manager s n f first.0 made holds after first.1 first.2
+in_order p total h k s n (To.Instr f ip port) w made holds after first happens = tt
+in_order p total h k s n (To.Fetch x) w made holds after first happens = tt
+in_order p total h k s n (To.Store x v) w made holds after first happens = tt
+in_order p total h k s n (To.Host j) w made holds after first happens = tt
+
+-- AN EVENT. The token at a place of the lane's was taken; these are the states of its slot before and after it.
+module _ (p : Program) (x : Extent) (l k : LaneView) (whole : IsWhole p x l) (z : Size) (e at : ℕ) (t : Token) (b : Book) (numbers : List ℕ) (next : ℕ)
+    (frames : z.elements * z.frames ≡ x.frames) (addressed : element_of z.elements t.to ≡ e) (records : Records l numbers next b)
+    (low : at < length l.held.queue) (there : slice_get l.held.queue at ≡ Some t)
+    (sent : List Token) (does : Does p l.held at [] k.held sent) where
+  abbrev q : List Token
+  q = l.held.queue
+
+  place_same : place_of l.held at ≡ at
+  place_same = mod-eq_of_lt low
+
+  token_same : does.token ≡ t
+  token_same = let both : Some does.token ≡ Some t = sym does.picks.token ∙ ap (λ (i : ℕ). slice_get q i) place_same ∙ there in cc (both)
+
+  queue_is : k.held.queue ≡ remove q at ++ does.made
+  queue_is = does.queue ∙ ap (λ (i : ℕ). remove q i ++ here l.held.part.shape does.made) place_same
+      ∙ ap (λ (ts : List Token). remove q at ++ ts) (all_here l.held.part.shape whole.elements whole.element does.made)
+
+  sent_is : sent ≡ []
+  sent_is = does.sent ∙ none_elsewhere l.held.part.shape whole.elements whole.element does.made
+
+  pub made_is : (made : List Token) → made ≡ drop (length q - 1) k.held.queue → made ≡ does.made
+  made_is made is =
+      let less = length-remove q at low in
+      let count : length q - 1 ≡ length (remove q at) = omega (arith, less) in
+      is ∙ ap (λ (ts : List Token). drop (length q - 1) ts) queue_is ∙ ap (λ (i : ℕ). drop i (remove q at ++ does.made)) count
+      ∙ drop-append_seam (remove q at) does.made
+
+  taken_from : IsPermutation b.pool (q ++ ([] ++ []))
+  taken_from = subst (λ (ts : List Token). IsPermutation b.pool ts) (records.pool ∙ sym (append-nil q)) (IsPermutation-refl b.pool)
+
+  came : IsAfter p l.held does.token k.held sent [] does.made (machine_of b)
+  came = does.event (machine_of b) [] records.part taken_from
+
+  abbrev n : ℕ → List ℕ → Book
+  n next2 numbers2 = record { store = came.next.store; pool = k.held.queue; numbers = numbers2; next = next2 }
+
+  total : l.held.part.shape.elements * l.held.part.shape.frames ≡ z.elements * z.frames
+  total = let one = whole.elements in let all = whole.frames in ap (λ (i : ℕ). i * l.held.part.shape.frames) one
+      ∙ (let same : 1 * l.held.part.shape.frames ≡ l.held.part.shape.frames = omega arith in same) ∙ all ∙ sym frames
+
+  happens : Happens p (z.elements * z.frames) b.store t.to t.word came.event.made came.next.store
+  happens = subst (λ (u : Token). Happens p (z.elements * z.frames) b.store u.to u.word came.event.made came.next.store) token_same
+      (subst (λ (i : ℕ). Happens p i b.store does.token.to does.token.word came.event.made came.next.store) total came.event.happens)
+
+  event : (next2 : ℕ) (numbers2 : List ℕ) → Event p z e t (machine_of b) (machine_of (n next2 numbers2))
+  event next2 numbers2 = record {
+    made = came.event.made;
+    rest = came.event.rest;
+    addressed = addressed;
+    takes = subst (λ (u : Token). IsPermutation b.pool (u ∷ came.event.rest)) token_same came.event.takes;
+    happens = happens;
+    leaves = IsPermutation-trans k.held.queue came.next.pool (came.event.made ++ came.event.rest) (IsPermutation-sym came.next.pool k.held.queue
+        (subst (λ (ts : List Token). IsPermutation came.next.pool ts)
+        (ap (λ (ts : List Token). k.held.queue ++ (ts ++ [])) sent_is ∙ append-nil k.held.queue) came.tokens)) came.event.leaves;
+  }
+
+  first_there : k.held.part.shape.element ≡ 0
+  first_there = ap (λ (s : Shape). s.element) does.shape ∙ whole.element
+
+  ordered : (made : List Token) → made ≡ does.made → IsInOrder b.store t.to made came.next.store
+  ordered made is = subst (λ (ts : List Token). IsInOrder b.store t.to ts came.next.store) (came.makes ∙ sym is)
+      (in_order p (z.elements * z.frames) l.held.part k.held.part b.store came.next.store t.to t.word came.event.made (records.part.manager whole.element)
+      (came.part.manager first_there)
+      (subst (λ (ts : List Token). ServesFirst l.held.part t.to t.word ts k.held.part) (sym came.makes)
+      (subst (λ (u : Token). ServesFirst l.held.part u.to u.word does.made k.held.part) token_same does.first)) happens)
+
+  pub enters : {A : Type 0} (u v : SlotState) (entry : Entry A) (numbers2 : List ℕ) (next2 : ℕ) → StateIs l (place_used p t.to) u
+      → StateIs k (place_used p t.to) v → slice_get numbers at ≡ Some entry.number
+      → entry.made.items ≡ drop (length q - 1) k.held.queue → entry.deed ≡ deed_by t.to u v (length entry.made.items)
+      → entry.change ≡ change_by (outputs_of p) t.to t.word (place_used p t.to) v entry.made.items
+      → numbers2 ≡ remove numbers at ++ range_with_len next (length entry.made.items) → next2 ≡ next + length entry.made.items
+      → (m : Book) × IsEntry p z e t b m entry × Records k numbers2 next2 m
+  unfolding event came
+  enters u v entry numbers2 next2 before after number made deed change numbers_are next_is =
+      let ts : List Token = entry.made.items in
+      let made_same : ts ≡ does.made = made_is ts made in
+      let s : Store = came.next.store in
+      let change_same : entry.change ≡ change_of p s t.to t.word ts = change
+      ∙ ap (λ (w : SlotState). change_by (outputs_of p) t.to t.word (place_used p t.to) w ts) (after s came.part) ∙ change_is p s t.to t.word ts in
+      let happened : Happens p (z.elements * z.frames) b.store t.to t.word ts s = subst
+      (λ (us : List Token). Happens p (z.elements * z.frames) b.store t.to t.word us s) (came.makes ∙ sym made_same) happens in (
+        n next2 numbers2,
+        record {
+          event = event next2 numbers2;
+          made = made_same ∙ sym came.makes;
+          deed = deed ∙ ap (λ (w : SlotState). deed_by t.to w v (length ts)) (before b.store records.part)
+              ∙ ap (λ (w : SlotState). deed_by t.to (state_at b.store (place_used p t.to)) w (length ts)) (after s came.part) ∙ deed_is p b.store s t.to ts;
+          change = change_same;
+          complete = subst (λ (c : Change). s ≡ changed c b.store) (sym change_same)
+              (complete p (z.elements * z.frames) b.store s t.to t.word ts happened (ordered ts made_same));
+          place = at;
+          token = ap (λ (us : List Token). slice_get us at) records.pool ∙ there;
+          number = ap (λ (is : List ℕ). slice_get is at) records.numbers ∙ number;
+          pool = queue_is ∙ ap (λ (us : List Token). remove us at ++ does.made) (sym records.pool)
+              ∙ ap (λ (us : List Token). remove b.pool at ++ us) (sym made_same);
+          numbers = numbers_are ∙ ap (λ (is : List ℕ). remove is at ++ range_with_len next (length ts)) (sym records.numbers)
+              ∙ ap (λ (i : ℕ). remove b.numbers at ++ range_with_len i (length ts)) (sym records.next);
+          next = next_is ∙ ap (λ (i : ℕ). i + length ts) (sym records.next);
+          in_order = ordered ts made_same;
+        },
+        record { part = came.part; pool = refl; numbers = refl; next = refl },
+      )

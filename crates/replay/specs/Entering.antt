@@ -1,0 +1,140 @@
+-- How the books of a run are kept: on one lane that holds the whole machine.
+use Rattle.std.specs.Prelude.{◌≡◌, ℕ, ◌+◌, ◌*◌, ◌^◌, ◌<◌, ◌≤◌, ◌==◌, nat_lt, if◌then◌else◌, ℤ, List, [], ◌∷◌, length, sum, Option, Some, None, slice_get}
+use Rattle.tags.specs.declared.token.Port.TheVariants.{Left}
+use Rattle.tags.specs.declared.token.Cont.{Cont}
+use Rattle.tags.specs.declared.token.Word.{Word}
+use Rattle.tags.specs.declared.token.To.{To}
+use Rattle.tags.specs.declared.token.Token.{Token}
+use Rattle.tags.specs.declared.slot.SlotState.{SlotState}
+use Rattle.tags.specs.declared.slot.SlotState.TheVariants.{Empty}
+use Rattle.semantics.specs.Program.{Program, instr_at, first_of}
+use Rattle.semantics.specs.Rule.{token}
+use Rattle.semantics.specs.Machine.{Store, Size, Events, outputs_of, slot_used, input_tokens}
+use Rattle.element.specs.Parts.{IsPart}
+use Rattle.element.specs.Held.{LaneView}
+use Rattle.element.specs.Openings.{StartsAs}
+use Rattle.element.specs.Steps.{Does}
+use Rattle.replay.specs.declared.moment.Deed.{Deed}
+use Rattle.replay.specs.declared.moment.Deed.TheVariants as deed
+use Rattle.replay.specs.declared.entry.Change.{Change}
+use Rattle.replay.specs.declared.entry.Change.TheVariants as change
+use Rattle.replay.specs.declared.entry.Entry.{Entry}
+use Rattle.replay.specs.declared.extent.Extent.{Extent}
+use Rattle.replay.specs.declared.slots.Place.{Place}
+use Rattle.replay.specs.declared.ledger.Ledger.{Ledger}
+use Rattle.replay.specs.Moments.{at_slot}
+use Rattle.replay.specs.Books.{Book, IsEntry, AreEntries, opening, frame_change, host_change}
+
+-- The numbers are those of the program and of its machine.
+pub record IsExtent (p : Program) (width : ℕ) (x : Extent) : Type 0 where
+  pub elements : 0 < x.elements
+  pub some_frames : 0 < x.frames
+  pub few_frames : x.frames ≤ 16384
+  pub some_slots : 0 < x.slots
+  pub few_slots : x.slots ≤ 512
+  pub slots : width ≤ x.slots
+  pub cells : x.cells ≡ sum p.arrays
+  pub main : x.main ≡ first_of p p.main
+  pub short : x.main < 2 ^ 30
+  pub outputs : x.outputs ≡ outputs_of p
+  pub few_outputs : x.outputs ≤ 16
+
+-- the slot that a token's instruction uses, if it uses one
+abbrev pub place_in : ℕ → Option ℕ → Option Place
+place_in f None = None
+place_in f (Some r) = Some record { frame = f; slot = r }
+
+abbrev pub place_used : Program → To → Option Place
+place_used p (To.Instr f ip port) = place_in f (slot_used (instr_at p ip))
+place_used p to = None
+
+abbrev pub state_at : Store → Option Place → SlotState
+state_at s None = Empty
+state_at s (Some x) = s.slots x.frame x.slot
+
+-- the deed of a token that found a slot in the one state, left it in the other, and made so many tokens
+abbrev pub deed_by : To → SlotState → SlotState → ℕ → Deed
+deed_by (To.Instr f ip port) before after made = at_slot before after
+deed_by (To.Fetch x) before after made = if made == 0 then deed.Deferred else deed.Answered
+deed_by (To.Store x v) before after made = if nat_lt made 2 then deed.Stored else deed.Served
+deed_by To.Manager before after made = if made == 0 then deed.Queued else deed.Given
+deed_by (To.Release f) before after made = if made == 0 then deed.Freed else deed.HandedOn
+deed_by (To.Host j) before after made = deed.Arrived
+
+abbrev pub place_change : Option Place → SlotState → Change
+place_change None after = change.Nothing
+place_change (Some x) after = change.Slot x.frame x.slot after
+
+abbrev pub request_change : Word → Option Token → Change
+request_change w (Some answer) = frame_change answer.word
+request_change (Word.Back c) None = change.Queued c
+request_change w None = change.Nothing
+
+abbrev pub fetch_change : ℕ → Word → ℕ → Change
+fetch_change x (Word.Back c) made = if made == 0 then change.Reader x c else change.Nothing
+fetch_change x w made = change.Nothing
+
+-- its change, by the slot that it used and the state of that then
+abbrev pub change_by : ℕ → To → Word → Option Place → SlotState → List Token → Change
+change_by outputs (To.Instr f ip port) w used after made = place_change used after
+change_by outputs (To.Fetch x) w used after made = fetch_change x w (length made)
+change_by outputs (To.Store x v) w used after made = change.Filled x v
+change_by outputs To.Manager w used after made = request_change w (slice_get made 0)
+change_by outputs (To.Release f) w used after made = if length made == 0 then change.Free f else change.Handed f
+change_by outputs (To.Host j) w used after made = host_change (nat_lt j outputs) j w
+
+-- THE LANE is that of the one element of a machine of this extent, which runs the program.
+pub record IsWhole (p : Program) (x : Extent) (l : LaneView) : Type 0 where
+  pub program : l.program ≡ p
+  pub element : l.held.part.shape.element ≡ 0
+  pub elements : l.held.part.shape.elements ≡ 1
+  pub frames : l.held.part.shape.frames ≡ x.frames
+  pub slots : l.held.part.shape.width ≡ x.slots
+
+-- in each machine of which the lane is the part, the slot has this state
+abbrev pub StateIs : LaneView → Option Place → SlotState → Type 0
+StateIs l place v = (s : Store) → IsPart l.held.part s → v ≡ state_at s place
+
+-- The lane and the numbers of its tokens have what the books have.
+pub record Records (l : LaneView) (given : List ℕ) (upcoming : ℕ) (b : Book) : Type 0 where
+  pub part : IsPart l.held.part b.store
+  pub pool : b.pool ≡ l.held.queue
+  pub numbers : b.numbers ≡ given
+  pub next : b.next ≡ upcoming
+
+-- Whatever the books are that the ledger has, this is the entry of the event, and the ledger has the books after it.
+abbrev pub Enters : {C A : Type 0} → Program → Ledger C A → ℕ × Token → Entry A → Ledger C A → Type 0
+Enters p old ev x new = (z : Size) (b : Book) → z.elements ≡ old.extent.elements → z.elements * z.frames ≡ old.extent.frames
+    → Records old.lane old.numbers.items old.next b
+    → (n : Book) × IsEntry p z ev.0 ev.1 b n x × Records new.lane new.numbers.items new.next n
+
+-- the same of all of these events
+abbrev pub EntersAll : {C A : Type 0} → Program → Ledger C A → Events → List (Entry A) → Type 0
+EntersAll p old events entries = (z : Size) (b : Book) → z.elements ≡ old.extent.elements → z.elements * z.frames ≡ old.extent.frames
+    → Records old.lane old.numbers.items old.next b
+    → (n : Book) × AreEntries p z b events entries n
+
+-- the lane took the token at that place
+abbrev pub Took : LaneView → ℕ → LaneView → Type 0
+Took old at new = (sent : List Token) × Does old.program old.held at [] new.held sent
+
+-- THE START
+abbrev pub start_tokens : ℕ → List ℤ → List Token
+start_tokens first inputs = token (To.Instr 0 first Left) (Word.Back (Cont.Host 0)) ∷ input_tokens (first + 1) inputs
+
+-- the lane is the machine at the start but for its tokens
+pub record IsFreshLane (p : Program) (x : Extent) (l : LaneView) : Type 0 where
+  pub whole : IsWhole p x l
+  pub queue : l.held.queue ≡ []
+  pub starts : StartsAs p l.held.part
+
+-- nothing is entered yet
+pub record IsBlank {C A : Type 0} (p : Program) (g : Ledger C A) : Type 0 where
+  pub lane : IsFreshLane p g.extent g.lane
+  pub numbers : g.numbers.items ≡ []
+  pub next : g.next ≡ 0
+
+-- THE BOOKS of the events, from the start on these inputs on
+abbrev pub AreBooks : {A : Type 0} → Program → Extent → List ℤ → Events → List (Entry A) → Type 0
+AreBooks p x inputs events entries = (z : Size) → z.elements ≡ x.elements → z.elements * z.frames ≡ x.frames
+    → (last : Book) × AreEntries p z (opening p inputs) events entries last

@@ -1,0 +1,77 @@
+//! The books of a run.
+
+ghost use Rattle.std.specs.Prelude.{◌≡◌, ◌+◌, ◌*◌, ◌≤◌, length, All, IfOk};
+ghost use Rattle.tags.specs.declared.slot.SlotState.TheVariants.{Empty};
+ghost use Rattle.frame_store.specs.BankViews.{bank_states};
+ghost use Rattle.frame_store.specs.Slots.{all_empty};
+ghost use Rattle.replay.specs.Entering.{IsExtent, IsBlank, IsFreshLane};
+
+use crate::extent::Extent;
+use crate::ledger::Ledger;
+use element::instructions::Instructions;
+use element::lane::Lane;
+use frame_manager::Manager;
+use frame_store::bank::BankMut;
+use frame_store::store::Store;
+use istructure::Cells;
+use std::alloc::{AllocError, Allocator};
+
+/// More events than there are in memory.
+const MOST: u64 = 9_223_372_036_854_775_807;
+
+// A lane that is all of the machine, before its first token.
+fn lane_over<'m, C: Instructions, A: Allocator>(
+    alloc: A,
+    bank: BankMut<'m>,
+    code: &'m C,
+    extent: Extent,
+) -> Result<Lane<'m, C, A>, AllocError>
+where
+    A: Clone,
+    requires extent { IsExtent (C.program code.now) (C.width code.now) extent }
+    requires bank { bank.start + bank.frames * bank.width ≤ length (bank_states bank) }
+    requires empty { All (λ s. s ≡ Empty) (bank_states bank) }
+    requires frames { bank.frames ≡ extent.frames }
+    requires slots { bank.width ≡ extent.slots }
+    ensures { IfOk result (IsFreshLane (C.program code.now) extent) }
+{
+    let cells = Cells::new(alloc.clone()?, extent.cells, 0, 1)?;
+    let manager = Manager::new(alloc.clone()?, extent.frames)?;
+    Lane::new(
+        alloc,
+        code,
+        MOST,
+        0,
+        1,
+        bank,
+        cells,
+        Some(manager),
+        extent.outputs,
+    )
+}
+
+/// A ledger in which nothing is entered yet, over a store of empty slots for all frames of the machine. It takes as much memory as the machine.
+pub fn open<'m, C: Instructions, A: Allocator>(
+    alloc: A,
+    store: &'m mut Store<A>,
+    code: &'m C,
+    extent: Extent,
+) -> Result<Ledger<'m, C, A>, AllocError>
+where
+    A: Clone,
+    requires extent { IsExtent (C.program code.now) (C.width code.now) extent }
+    requires empty { store.old ≡ all_empty 1 extent.frames extent.slots }
+    ensures { IfOk result (λ g. IsBlank (C.program code.now) g × (g.extent ≡ extent)) }
+{
+    let numbers = Vec::new(alloc.clone()?);
+    let Some(bank) = store.banks().next() else {
+        return Err(AllocError);
+    };
+    let lane = lane_over(alloc, bank, code, extent)?;
+    Ok(Ledger {
+        extent,
+        lane,
+        numbers,
+        next: 0,
+    })
+}
