@@ -7,7 +7,7 @@ mod comparing;
 mod drawing;
 pub mod given;
 pub mod input;
-pub mod lowering;
+pub mod lowered;
 pub mod orders;
 pub mod profiling;
 pub mod refusal;

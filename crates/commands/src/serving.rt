@@ -9,7 +9,7 @@ ghost use Rattle.commands.specs.Answered.{Answers, ServesRequest, Says, ServesAs
 use crate::assembling::print_assembled;
 use crate::given::{option_refusal, read_given};
 use crate::input::{LinesFault, parse_integers, read_input, split_at_main};
-use crate::lowering::{print_lowered, print_map};
+use crate::lowered::{print_lowered, print_map};
 use crate::orders::print_orders;
 use crate::profiling::print_profile;
 use crate::refusal::Refusal;
