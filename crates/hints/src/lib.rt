@@ -11,6 +11,7 @@ ghost use Rattle.hints.specs.Hints.{is_at_rest, is_refused, wants_hint, wants_re
 mod cause;
 mod field_faults;
 mod found;
+mod going;
 mod graph_faults;
 mod graphs;
 mod kinds;
