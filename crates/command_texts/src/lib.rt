@@ -17,7 +17,7 @@ use std::convert::AsStr;
 const VERSION: &str = "0.2.0 (rattle-kit-13f)";
 
 /// The formats in which a trace may be written.
-const FORMATS: [&str; 2] = ["text", "chrome"];
+const FORMATS: [&str; 3] = ["text", "chrome", "html"];
 
 /// The end of the program's help.
 const AFTER: &str = "\
@@ -37,6 +37,7 @@ Examples, in a clone of the project:
   ets dis < object > listing                      keeps the listing, to be changed by hand
   ets asm < listing > object                      makes an object of a listing
   ets trace --last 20 < examples/factorial.ets    prints the last 20 events of a run
+  ets trace --format html < examples/factorial.ets > run.html  makes a page that shows a run in a browser
   ets profile < examples/fibonacci.ets            measures how much parallelism there is
   ets orders < examples/fibonacci.ets             runs a graph in 100 random orders
 
@@ -46,7 +47,7 @@ Programs and graphs to try: examples/README.md.
 Exit status: 0 done, or a run that ended at rest; 1 a refusal, a mistake in the command line, or a failed write;
   2 a run that starved; 3 a cell that was filled twice; 4 out of steps; 5 stuck; 6 out of memory in a run.
 After a refusal, a mistake, and a report or a profile that does not end at rest, a hint stands on standard
-  error; profile --svg and trace --format chrome tell no end, so there only after a refusal or a mistake.";
+  error; profile --svg and trace --format chrome or html tell no end, so there only after a refusal or a mistake.";
 
 /// The end of the help of `ets lower`.
 const AFTER_LOWER: &str = "\
@@ -98,7 +99,8 @@ How a listing is written: docs/FORMATS.md, \"Assembling: `ets asm`\".";
 const AFTER_TRACE: &str = "\
 Examples: ets trace < examples/add.ets
           ets trace --elements 4 --format chrome < examples/fibonacci.ets > trace.json
-The lines, and the JSON, which Perfetto and browsers' tracing pages open: docs/FORMATS.md, \"Trace\".";
+          ets trace --format html < examples/factorial.ets > run.html
+The lines, the JSON, which Perfetto and browsers' tracing pages open, and the page: docs/FORMATS.md, \"Trace\".";
 
 const AFTER_PROFILE: &str = "\
 Examples: ets profile < examples/fibonacci.ets
@@ -225,7 +227,7 @@ fn trace_command<'a>(alloc: Global) -> Result<Command<'a>, AllocError> {
         .value_name("FORMAT")
         .value_parser(ValueParser::Names(&FORMATS))
         .default_value("text")
-        .help("text: a line for each event, then the report; chrome: Trace Event JSON");
+        .help("text: a line for each event, then the report; chrome: Trace Event JSON; html: a page that shows the run in a browser");
     let command = Command::new(alloc, "trace")
         .about("Runs a graph and prints its events: its text on standard input, then its inputs")
         .after_help(AFTER_TRACE)

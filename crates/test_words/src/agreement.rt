@@ -96,9 +96,9 @@ fn options_without_mode(matches: &ArgMatches<'_>) -> Option<RunOptions> {
 
 fn format_in(word: &str) -> Option<Format> {
     if word == "text" {
-        Some(Format::Lines)
+        Some(Format::Events(EventFormat::Lines))
     } else if word == "chrome" {
-        Some(Format::Chrome)
+        Some(Format::Events(EventFormat::Chrome))
     } else {
         None
     }
