@@ -14,13 +14,14 @@ use Rattle.tags.specs.declared.token.Token.{Token}
 use Rattle.tags.specs.Addresses.{element_of}
 use Rattle.semantics.specs.Program.{Program, first_of}
 use Rattle.semantics.specs.Rule.{token}
-use Rattle.semantics.specs.Machine.{Size, Events, input_tokens, at_start}
+use Rattle.semantics.specs.Machine.{Store, Size, Events, input_tokens, at_start}
 use Rattle.element.specs.Near.{Bounds, IsNearToken}
 use Rattle.element.specs.Parts.{IsPart}
 use Rattle.element.specs.Held.{LaneView, IsFor, fixed_of, bounds_at, with_more}
 use Rattle.element.specs.Openings.{StartsAs}
 use Rattle.replay.specs.Views.{EntryView}
-use Rattle.replay.specs.Books.{Book, IsEntry, AreEntries, opening}
+use Rattle.replay.specs.declared.entry.Change.{Change}
+use Rattle.replay.specs.Books.{Book, IsEntry, AreEntries, opening, changed, all_changed}
 use Rattle.replay.specs.Entering.{start_tokens, IsWhole, Records}
 use Rattle.replay.specs.declared.extent.Extent.{Extent}
 use Rattle.replay.proofs.Entering.{on_first}
@@ -137,3 +138,13 @@ entries_next p z a b c events i ev xs ys x low is more w e =
 pub entries_all : (p : Program) (z : Size) (a b : Book) (events : Events) (i : ℕ) (xs : List EntryView) → length events ≤ i
     → AreEntries p z a (take i events) xs b → AreEntries p z a events xs b
 entries_all p z a b events i xs high w = subst (λ (es : Events). AreEntries p z a es xs b) (take_all i events high) w
+
+-- one more change
+changed_push : (cs : List Change) (c : Change) (s : Store) → all_changed (cs ++ c ∷ []) s ≡ changed c (all_changed cs s)
+changed_push [] c s = refl
+changed_push (d ∷ cs) c s = changed_push cs c (changed d s)
+
+pub changed_more : (cs ds : List Change) (c : Change) (s m n : Store) → ds ≡ cs ++ c ∷ [] → all_changed cs s ≡ m → n ≡ changed c m
+    → all_changed ds s ≡ n
+changed_more cs ds c s m n more so_far then = ap (λ (l : List Change). all_changed l s) more ∙ changed_push cs c s
+    ∙ ap (λ (x : Store). changed c x) so_far ∙ sym then

@@ -79,6 +79,30 @@ where
     })
 }
 
+// The books that the ledger keeps.
+fn keep_in<C: Instructions, A: Allocator + Clone>(
+    alloc: A,
+    ledger: Ledger<'_, C, A>,
+    code: &C,
+    inputs: &[i64],
+    earlier: &[(u32, Token)],
+    events: &[(u32, Token)],
+) -> Result<Books<A>, ReplayFault>
+    requires blank { IsBlank (C.program code.now) ledger }
+    requires extent { IsExtent (C.program code.now) (C.width code.now) ledger.extent }
+    requires few { length inputs.now ≤ 16 }
+    ensures { IfOk result (AreBooks (C.program code.now) ledger.entry.extent inputs.now earlier.now events.now) }
+{
+    let mut ledger = ledger;
+    let books = ledger.keep(alloc, code, inputs, earlier, events);
+    let Ledger {
+        lane: _lane,
+        numbers: _numbers,
+        ..
+    } = ledger;
+    books
+}
+
 /// The books of `events` of a run on these inputs, before which there were the events `earlier`. The machine hands out the free frame of least
 /// number, and gives a frame that comes back to the request that has waited longest. What is answered is a run of the machine by these events.
 /// `NotARun` says that an event was not found to fit: nothing else is promised of it. It takes as much memory as the machine, and as the books.
@@ -95,6 +119,6 @@ pub fn keep_books<C: Instructions, A: Allocator + Clone>(
     ensures { IfOk result (AreBooks (C.program code.now) extent inputs.now earlier.now events.now) }
 {
     let mut store = Store::new(alloc.clone()?, 1, extent.frames as usize, extent.slots as usize)?;
-    let mut ledger = open(alloc.clone()?, &mut store, code, extent)?;
-    ledger.keep(alloc, code, inputs, earlier, events)
+    let ledger = open(alloc.clone()?, &mut store, code, extent)?;
+    keep_in(alloc, ledger, code, inputs, earlier, events)
 }
