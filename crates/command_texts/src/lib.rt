@@ -37,7 +37,6 @@ Examples, in a clone of the project:
   ets dis < object > listing                      keeps the listing, to be changed by hand
   ets asm < listing > object                      makes an object of a listing
   ets trace --last 20 < examples/factorial.ets    prints the last 20 events of a run
-  ets trace --format html < examples/factorial.ets > run.html  makes a page that shows a run in a browser
   ets profile < examples/fibonacci.ets            measures how much parallelism there is
   ets orders < examples/fibonacci.ets             runs a graph in 100 random orders
 
@@ -227,7 +226,7 @@ fn trace_command<'a>(alloc: Global) -> Result<Command<'a>, AllocError> {
         .value_name("FORMAT")
         .value_parser(ValueParser::Names(&FORMATS))
         .default_value("text")
-        .help("text: a line for each event, then the report; chrome: Trace Event JSON; html: a page that shows the run in a browser");
+        .help("text: a line for each event, then the report; chrome: Trace Event JSON; html: a page that shows the run");
     let command = Command::new(alloc, "trace")
         .about("Runs a graph and prints its events: its text on standard input, then its inputs")
         .after_help(AFTER_TRACE)

@@ -95,11 +95,7 @@ fn keep_in<C: Instructions, A: Allocator + Clone>(
 {
     let mut ledger = ledger;
     let books = ledger.keep(alloc, code, inputs, earlier, events);
-    let Ledger {
-        lane: _lane,
-        numbers: _numbers,
-        ..
-    } = ledger;
+    drop(ledger);
     books
 }
 
@@ -118,7 +114,12 @@ pub fn keep_books<C: Instructions, A: Allocator + Clone>(
     requires few { length inputs.now ≤ 16 }
     ensures { IfOk result (AreBooks (C.program code.now) extent inputs.now earlier.now events.now) }
 {
-    let mut store = Store::new(alloc.clone()?, 1, extent.frames as usize, extent.slots as usize)?;
+    let mut store = Store::new(
+        alloc.clone()?,
+        1,
+        extent.frames as usize,
+        extent.slots as usize,
+    )?;
     let ledger = open(alloc.clone()?, &mut store, code, extent)?;
     keep_in(alloc, ledger, code, inputs, earlier, events)
 }

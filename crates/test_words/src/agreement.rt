@@ -3,7 +3,7 @@
 use clap::ArgMatches;
 use clap::error::ErrorKind;
 use command_line::{
-    Asked, Format, Inputs, Literals, Lowering, Mode, Request, RunOptions, Sizes, read_words,
+    Asked, EventFormat, Format, Inputs, Literals, Lowering, Mode, Request, RunOptions, Sizes, read_words,
     version_line,
 };
 use command_texts::{help_text, mistake_text, program_command};
@@ -99,6 +99,8 @@ fn format_in(word: &str) -> Option<Format> {
         Some(Format::Events(EventFormat::Lines))
     } else if word == "chrome" {
         Some(Format::Events(EventFormat::Chrome))
+    } else if word == "html" {
+        Some(Format::Html)
     } else {
         None
     }

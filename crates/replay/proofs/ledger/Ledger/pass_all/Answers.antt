@@ -1,5 +1,6 @@
 use Rattle.std.proofs.Common.{◌∙◌, ◌++◌, ◌∷◌, [], refl, sym, ap}
 use Rattle.replay.specs.declared.extent.Extent.{Extent}
+use Rattle.replay.specs.Views.{EntryView}
 use Rattle.replay.proofs.Ledgers.{changed_more, entries_next, entries_all}
 use Rattle.replay.proofs.ledger.Ledger.pass_all.Goals as goal
 
@@ -21,8 +22,8 @@ loop-event-preserved g c =
               entries = here.1.entries ++ x ∷ [];
               are = entries_next p z b here.0 next.0 c.args.events.now l.event-index ev here.1.entries (here.1.entries ++ x ∷ []) x
                   c.loop-event-test.true c.event-item.is refl here.1.are next.1;
-              sum = changed_more l.changes.items c.push.new.self.items x.change b.store here.0.store next.0.store c.in_ok-push.ensures.items
-                  here.1.sum next.1.complete;
+              sum = changed_more l.changes.items c.push.new.self.items x.change b.store here.0.store next.0.store
+                  (c.in_ok-push.ensures.items ∙ ap (λ (e : EntryView). l.changes.items ++ e.change ∷ []) c.entry.view_is) here.1.sum next.1.complete;
             },
             next.2,
           );
