@@ -2,6 +2,7 @@
 use Rattle.std.specs.Prelude.{ℕ, ◌-◌, ◌≤◌, ◌||◌, Bool, true, false, not, List, [], ◌∷◌, ◌++◌, length, take, drop, Option, None, Some, codes}
 use Rattle.std.specs.Str.{bytes_eq}
 use Rattle.command_line.specs.declared.Asked.{Asked}
+use Rattle.command_line.specs.declared.EventFormat.{EventFormat}
 use Rattle.command_line.specs.declared.Format.{Format}
 use Rattle.command_line.specs.declared.Request.{Request}
 
@@ -39,8 +40,9 @@ wants_reason (Request.Dot code) output = is_refused output
 wants_reason (Request.Exec o ins) output = not (is_at_rest output)
 wants_reason Request.Asm output = is_refused output
 wants_reason (Request.Lower lowering) output = is_refused output
-wants_reason (Request.Trace o last Format.Lines) output = not (is_at_rest output)
-wants_reason (Request.Trace o last Format.Chrome) output = is_refused output
+wants_reason (Request.Trace o last (Format.Events EventFormat.Lines)) output = not (is_at_rest output)
+wants_reason (Request.Trace o last (Format.Events EventFormat.Chrome)) output = is_refused output
+wants_reason (Request.Trace o last Format.Html) output = is_refused output
 wants_reason (Request.Profile o sizes true) output = is_refused output
 wants_reason (Request.Profile o sizes false) output = not (is_at_rest output)
 wants_reason (Request.Orders o count seed) output = is_differing output || not (is_at_rest output)

@@ -35,7 +35,7 @@ mod text_faults;
 mod words;
 
 use cause::{Cause, GraphCause, ProgramCause, RunCause};
-use command_line::{Asked, Format, Request, read_words};
+use command_line::{Asked, EventFormat, Format, Request, read_words};
 use found::Found;
 use graph_faults::{code_fault, graph_fault};
 pub use line::{Hint, Line};
@@ -72,7 +72,7 @@ fn wants_reason(request: &Request, output: &[u8]) -> bool
         | Request::Exec { .. }
         | Request::Profile { svg: false, .. }
         | Request::Trace {
-            format: Format::Lines,
+            format: Format::Events(EventFormat::Lines),
             ..
         } => !is_at_rest(output),
         Request::Orders { .. } => is_differing(output) || !is_at_rest(output),
@@ -85,7 +85,7 @@ fn wants_reason(request: &Request, output: &[u8]) -> bool
         | Request::Lower(_)
         | Request::Profile { svg: true, .. }
         | Request::Trace {
-            format: Format::Chrome,
+            format: Format::Events(EventFormat::Chrome) | Format::Html,
             ..
         } => is_refused(output),
     }

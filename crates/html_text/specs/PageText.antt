@@ -16,5 +16,5 @@ part_text Script = MODEL.now ++ PICTURE.now ++ LISTS.now
 
 -- the page with the text of the graph and its inputs, the listing of its code, the report of the run, and the run's data
 abbrev pub html_text : List ℕ → List ℕ → List ℕ → List ℕ → List ℕ
-html_text source listing report run = part_text Top ++ source ++ part_text ToListing ++ listing ++ part_text ToReport ++ report ++ part_text ToData ++ run
-    ++ part_text Script
+html_text source listing report run = (part_text Top ++ source) ++ (part_text ToListing ++ listing) ++ (part_text ToReport ++ report)
+    ++ (part_text ToData ++ run) ++ part_text Script
