@@ -27,8 +27,9 @@ pub fn books_of<A: Allocator + Clone>(
     ensures { IfOk result (HasBooks object.now.bytes inputs.now config first report.now) }
 {
     let code = Loaded::new(alloc.clone()?, object.as_object())?;
-    // What the bytes promise: they are the object of this code.
+    // What the bytes promise: they are the object of this code, which has few inputs.
     let _bytes = code.object().bytes();
+    let _count = code.inputs();
     let extent = Extent {
         elements: config.elements as u32,
         frames: (config.elements * config.frames) as u32,
