@@ -55,6 +55,7 @@ PrintsEvents result old new input o last format =
 abbrev pub page_text : List ℕ → RunOptions → ℕ → Graph → List ℕ → Report → BooksView → List ℕ
 page_text input o first g bytes r books =
     html_text input (listing_of bytes) (report_text g.arrays r) (data_text o.elements (o.elements * o.frames) first (drop first r.events) books)
+    (length r.events - first)
 
 pub record IsPageOf (input : List ℕ) (o : RunOptions) (first : ℕ) (g : Graph) (bytes : List ℕ) (r : Report) (books : BooksView) : Type 0 where
   pub text : List ℕ

@@ -24,7 +24,7 @@ use driver::compiling::{Compiled, compile};
 use driver::emulation::emulate_object;
 use driver::fault::Fault;
 use graph::Graph;
-use html_text::{Part, write_data, write_part};
+use html_text::{Part, write_data, write_mark, write_part};
 use object_view::Object;
 use replay::{Books, ReplayFault};
 use report_text::write_report;
@@ -119,7 +119,8 @@ fn write_page<'a, A: Allocator, W: Write>(
     write_listing(writer, object)?;
     write_result(writer, graph, report)?;
     write_run(writer, options, first, report, books)?;
-    write_part(writer, Part::Script)
+    write_part(writer, Part::Script)?;
+    write_mark(writer, report.events.len().saturating_sub(first))
 }
 
 /// A run of a text's graph whose report lists the events.

@@ -1,6 +1,6 @@
 //! The books of a run of an object.
 
-ghost use Rattle.std.specs.Prelude.{Bool, false, IfOk};
+ghost use Rattle.std.specs.Prelude.{◌≤◌, Bool, false, IfOk, length};
 ghost use Rattle.driver.specs.Listed.{HasBooks};
 ghost use Rattle.driver.specs.Objects.{ShowsObject};
 
@@ -22,12 +22,14 @@ pub fn books_of<A: Allocator + Clone>(
     report: &Report<A>,
     first: usize,
 ) -> Result<Books<A>, ReplayFault>
-    requires { (may_stop : Bool) × ShowsObject object.now.bytes inputs.now config false may_stop report.now }
+    requires shows { (may_stop : Bool) × ShowsObject object.now.bytes inputs.now config false may_stop report.now }
+    requires within { first ≤ length report.now.events }
     ensures { IfOk result (HasBooks object.now.bytes inputs.now config first report.now) }
 {
     let code = Loaded::new(alloc.clone()?, object.as_object())?;
-    // What the bytes promise: they are the object of this code.
+    // What the bytes promise: they are the object of this code, which has few inputs.
     let _bytes = code.object().bytes();
+    let _count = code.inputs();
     let extent = Extent {
         elements: config.elements as u32,
         frames: (config.elements * config.frames) as u32,
@@ -36,6 +38,6 @@ pub fn books_of<A: Allocator + Clone>(
         main: code.main_entry(),
         outputs: code.outputs(),
     };
-    let (earlier, events) = report.events.split_at(first.min(report.events.len()));
+    let (earlier, events) = report.events.split_at(first);
     keep_books(alloc, &code, extent, inputs, earlier, events)
 }

@@ -1,7 +1,7 @@
 //! The data of a run.
 
 ghost use Rattle.std.specs.Prelude.{◌≡◌};
-ghost use Rattle.html_text.specs.DataText.{line_lead, event_head, event_text, listed_change, changes_text, listed_numbers, size_text, before_text, start_text, data_text};
+ghost use Rattle.html_text.specs.DataText.{line_lead, event_head, event_text, listed_change, changes_text, listed_number, listed_numbers, size_text, before_text, start_text, data_text};
 ghost use Rattle.trace_text.specs.TraceText.{paired};
 ghost use Rattle.sink.specs.Sends.{Sends};
 
@@ -93,12 +93,19 @@ fn send_changes<W: Write>(writer: &mut W, changes: &[Change]) -> io::Result<()>
     Ok(())
 }
 
+/// A number that stands in a list.
+fn send_listed_number<W: Write>(writer: &mut W, place: usize, number: u64) -> io::Result<()>
+    ensures { Sends result (W.contents writer.old) (W.contents writer.new) (listed_number place number) }
+{
+    send_long(writer, comma(place), number)
+}
+
 /// The numbers of tokens.
 fn send_numbers<W: Write>(writer: &mut W, numbers: &[u64]) -> io::Result<()>
     ensures { Sends result (W.contents writer.old) (W.contents writer.new) (listed_numbers numbers.now) }
 {
     for place in 0..numbers.len() {
-        send_long(writer, comma(place), numbers[place])?;
+        send_listed_number(writer, place, numbers[place])?;
     }
     Ok(())
 }
