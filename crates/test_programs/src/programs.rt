@@ -17,7 +17,9 @@ use test_served::ways::{Fault, fault_beside, fault_of};
 /// The program whose token goes to another element every few events, so that its turns take thousands of rounds; and its input, with another
 /// one in place of that.
 const SERIAL: &str = "sum_loop.df";
+
 const LONG: &[u8] = b"\n1000\n";
+
 const SHORT: &[u8] = b"\n30\n";
 
 /// The text, on a smaller input where it is that of the serial program or of its graph.
