@@ -1,1 +1,3 @@
 mod Outputs
+mod Shown
+mod Refusals

@@ -4,7 +4,7 @@ use Rattle.semantics.specs.declared.report.End.TheVariants.{Rest}
 use Rattle.semantics.specs.Graph.{Graph}
 use Rattle.semantics.specs.Machine.{Size}
 use Rattle.semantics.specs.Report.{Report}
-use Rattle.semantics.specs.Text.{text_of}
+use Rattle.semantics.specs.Text.{HasText, text_of}
 use Rattle.schedule.specs.declared.config.Config.{Config}
 use Rattle.command_line.specs.declared.Mode.{Mode}
 use Rattle.source.specs.Tree.{Program}
@@ -34,7 +34,7 @@ QuietReportsShowPrograms = (text : List ℕ) (p : Program) (g : Graph) → Lower
     → (mode : Mode) (inputs : List ℤ) (c : Config) (may_stop : Bool) (r : Report)
     → TellsQuietly mode (text_of g) g inputs c may_stop r → r.end ≡ Rest → r.deferred ≡ 0 → ShowsProgram p inputs r
 
--- What refuses a run of the graph refuses a run of its text.
+-- What refuses a run of the graph, which has a text, refuses a run of that text.
 abbrev pub RefusalsAreTheTexts : Type 0
-RefusalsAreTheTexts = (text : List ℕ) (p : Program) (g : Graph) → Lowers text p g
+RefusalsAreTheTexts = (text : List ℕ) (p : Program) (g : Graph) → Lowers text p g → HasText g
     → (inputs : List ℤ) (c : Config) (f : Fault) → IsNotRun g inputs c f → IsRefused (text_of g) inputs c f
