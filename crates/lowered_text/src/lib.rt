@@ -4,7 +4,7 @@
 
 pub mod fault;
 mod map;
-mod programs;
+pub mod programs;
 
 ghost use Rattle.std.specs.Prelude.{◌≡◌, ◌++◌, ℕ, List};
 ghost use Rattle.semantics.specs.Text.{text_of};

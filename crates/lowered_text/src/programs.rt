@@ -20,18 +20,18 @@ use std::alloc::Allocator;
 
 /// The two parts of a text.
 #[derive(Clone, Copy)]
-pub(crate) struct Parts<'a> {
+pub struct Parts<'a> {
     /// The text of the program.
-    pub(crate) program: &'a [u8],
+    pub program: &'a [u8],
     /// What follows the line `inputs`.
-    pub(crate) inputs: &'a [u8],
+    pub inputs: &'a [u8],
 }
 
 /// A graph, and for each of its blocks the places in the text from which it came.
 #[derive(Drop)]
-pub(crate) struct Made<'a, A: Allocator> {
-    pub(crate) graph: Graph<'a, A>,
-    pub(crate) places: Vec<Places<A>, A>,
+pub struct Made<'a, A: Allocator> {
+    pub graph: Graph<'a, A>,
+    pub places: Vec<Places<A>, A>,
 }
 
 /// The fault with its line and its column in the program's text.
@@ -76,7 +76,7 @@ fn good_source<'a, A: Allocator + Clone>(
 }
 
 /// The program of a text, if it keeps the rules, and the two parts of the text.
-pub(crate) fn read_good<'a, A: Allocator + Clone>(
+pub fn read_good<'a, A: Allocator + Clone>(
     alloc: &A,
     text: &'a [u8],
 ) -> Result<(Named<'a, A>, Parts<'a>), LowerFault>
@@ -110,7 +110,7 @@ fn graph_of<'a, A: Allocator>(
 }
 
 /// The graph of a program, whose text is `program`.
-pub(crate) fn make<'a, A: Allocator + Clone>(
+pub fn make<'a, A: Allocator + Clone>(
     alloc: &A,
     program: &[u8],
     named: &'a Named<'a, A>,

@@ -62,7 +62,10 @@ fn main(rt: HostRuntime) -> anyhow::Result<ExitCode> {
     let mut out = io::writer(&rt);
     let parts = named_parts(alloc, &words, &PARTS)?;
     if parts.is_empty() {
-        writeln!(out, "words: examples, programs, workbench, dots or hostile_objects")?;
+        writeln!(
+            out,
+            "words: examples, programs, workbench, dots or hostile_objects"
+        )?;
         return Ok(ExitCode::FAILURE);
     }
     for part in &parts {

@@ -17,7 +17,9 @@ use test_served::ways::{Fault, fault_beside, fault_of};
 /// The program whose token goes to another element every few events, so that its turns take thousands of rounds; and its input, with another
 /// one in place of that.
 const SERIAL: &str = "sum_loop.df";
+
 const LONG: &[u8] = b"\n1000\n";
+
 const SHORT: &[u8] = b"\n30\n";
 
 /// The text, on a smaller input where it is that of the serial program or of its graph.
@@ -42,7 +44,7 @@ fn graph_beside(files: &HostRuntime, name: &str) -> anyhow::Result<Option<Vec<u8
 }
 
 /// What the runs of a program tell, where no graph stands beside it.
-fn known(name: &str) -> Option<&'static [u8]> {
+fn computed(name: &str) -> Option<&'static [u8]> {
     let known = KNOWN.iter().find(|known| known.name == name)?;
     Some(known.told)
 }
@@ -88,7 +90,7 @@ fn agrees<R: Threads + Wait + Sync, W: Write>(
         let fault = fault_beside(rt, alloc, &program, &graph)?;
         return tell(out, name, true, fault);
     }
-    match known(name) {
+    match computed(name) {
         Some(told) => {
             let fault = fault_of(rt, alloc, &program, told)?;
             tell(out, name, false, fault)

@@ -49,14 +49,7 @@ pub fn run_told<R: Threads + Wait + Sync>(
     input: &[u8],
     way: Way,
 ) -> Result<Vec<u8>, AllocError> {
-    let words = [
-        "ets",
-        "run",
-        "--mode",
-        way.mode,
-        "--elements",
-        way.elements,
-    ];
+    let words = ["ets", "run", "--mode", way.mode, "--elements", way.elements];
     told(alloc, &answer(rt, alloc, &words, input).text)
 }
 

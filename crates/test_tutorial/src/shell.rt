@@ -214,7 +214,6 @@ impl<'a> Shell<'a> {
         let (change, file) = words.split_once("/' ").context("no file")?;
         let (old, new) = change.split_once('/').context("no change")?;
         let text = self.read(file)?;
-        changed(self.alloc(), &text, old.as_bytes(), new.as_bytes())?
-            .context("nothing is changed")
+        changed(self.alloc(), &text, old.as_bytes(), new.as_bytes())?.context("nothing is changed")
     }
 }

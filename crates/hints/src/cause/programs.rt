@@ -169,7 +169,7 @@ impl Wrong {
                 "a call has at least one argument, as a function has at least one parameter",
             Wrong::Chain => "comparisons do not chain: `a < b < c` is written `(a < b) & (b < c)`",
             Wrong::Doubled =>
-                "`&` and `|` stand once: `(a < b) & (c < d)`; there is no `&&` and no `||`",
+                "`&` and `|` stand once, and work on bits, so that `1 & 2` is 0: two tests are joined as `(a != 0) & (b < c)`",
             Wrong::NoFunction => "only the name of a function stands before the bracket of a call",
             Wrong::NoArray => "only the name of an array stands before `[`",
             Wrong::Inputs => {

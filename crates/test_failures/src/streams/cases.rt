@@ -207,8 +207,7 @@ const TEXT: &[u8] =
     b"etsgraph 1\narray A 2\nblock m 1 3\n- lit 0 0.0\n- fetch A 1.0\n- fetch A 1.0\n- store A 1.0 0.0\nout 2.0 3.0 4.0\nend\nmain m\n";
 
 /// The same as a program, and its input.
-const PROGRAM: &[u8] =
-    b"array A[2];\nfn main(n) -> 3 { A[0], A[0], A[0] := n }\ninputs\n9\n";
+const PROGRAM: &[u8] = b"array A[2];\nfn main(n) -> 3 { A[0], A[0], A[0] := n }\ninputs\n9\n";
 
 /// All inputs that some command line reads.
 #[derive(Drop)]

@@ -1,0 +1,40 @@
+-- WHAT FOLLOWS FOR WHO TAKES THE STEPS ALONE: lowers a program, and runs the text of the graph in any way.
+use Rattle.std.specs.Prelude.{◌≡◌, ℕ, Bool, ℤ, List}
+use Rattle.semantics.specs.declared.report.End.TheVariants.{Rest}
+use Rattle.semantics.specs.Graph.{Graph}
+use Rattle.semantics.specs.Machine.{Size}
+use Rattle.semantics.specs.Report.{Report}
+use Rattle.semantics.specs.Text.{text_of}
+use Rattle.schedule.specs.declared.config.Config.{Config}
+use Rattle.command_line.specs.declared.Mode.{Mode}
+use Rattle.source.specs.Tree.{Program}
+use Rattle.lowered_text.specs.Lowers.{Lowers}
+use Rattle.driver.specs.declared.fault.Fault.{Fault}
+use Rattle.driver.specs.Headline.{TellsOf, TellsTruthIn, TellsQuietly}
+use Rattle.driver.specs.Refused.{IsRefused}
+use Rattle.programs.specs.Promise.{ShowsProgram}
+use Rattle.programs.specs.Refused.{IsNotRun}
+
+-- A report of which the headline holds, of the text of a lowered program's graph, shows the program where it ends at rest with no
+-- deferred reader: of a run in any order,
+abbrev pub ReportsShowPrograms : Type 0
+ReportsShowPrograms = (text : List ℕ) (p : Program) (g : Graph) → Lowers text p g
+    → (inputs : List ℤ) (z : Size) (steps : ℕ) (listed may_stop : Bool) (r : Report)
+    → TellsOf (text_of g) g inputs z steps listed may_stop r → r.end ≡ Rest → r.deferred ≡ 0 → ShowsProgram p inputs r
+
+-- in each mode,
+abbrev pub ModesShowPrograms : Type 0
+ModesShowPrograms = (text : List ℕ) (p : Program) (g : Graph) → Lowers text p g
+    → (mode : Mode) (inputs : List ℤ) (c : Config) (may_stop : Bool) (r : Report)
+    → TellsTruthIn mode (text_of g) g inputs c may_stop r → r.end ≡ Rest → r.deferred ≡ 0 → ShowsProgram p inputs r
+
+-- and where the report lists no events.
+abbrev pub QuietReportsShowPrograms : Type 0
+QuietReportsShowPrograms = (text : List ℕ) (p : Program) (g : Graph) → Lowers text p g
+    → (mode : Mode) (inputs : List ℤ) (c : Config) (may_stop : Bool) (r : Report)
+    → TellsQuietly mode (text_of g) g inputs c may_stop r → r.end ≡ Rest → r.deferred ≡ 0 → ShowsProgram p inputs r
+
+-- What refuses a run of the graph refuses a run of its text.
+abbrev pub RefusalsAreTheTexts : Type 0
+RefusalsAreTheTexts = (text : List ℕ) (p : Program) (g : Graph) → Lowers text p g
+    → (inputs : List ℤ) (c : Config) (f : Fault) → IsNotRun g inputs c f → IsRefused (text_of g) inputs c f

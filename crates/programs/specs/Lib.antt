@@ -1,0 +1,4 @@
+pub mod Promise
+pub mod Compiled
+pub mod Refused
+pub mod Laws

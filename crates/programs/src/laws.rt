@@ -1,0 +1,15 @@
+//! What reports say of programs, whoever made the report.
+
+ghost use Rattle.programs.specs.Laws.{ReportsShowPrograms, ModesShowPrograms, QuietReportsShowPrograms, RefusalsAreTheTexts};
+
+/// The text of a lowered program's graph tells the program's truth.
+///
+/// Where a report of that text, of which the headline holds, ends at rest with no deferred reader, its outputs and cells are
+/// those that the program computes by its own evaluator: in any order of the events, in each mode, and where the report lists
+/// no events. What refuses a run of the graph refuses a run of its text.
+pub fn reports_show_programs()
+    ensures programs { ReportsShowPrograms }
+    ensures modes { ModesShowPrograms }
+    ensures quiet { QuietReportsShowPrograms }
+    ensures refusals { RefusalsAreTheTexts }
+{}

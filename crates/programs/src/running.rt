@@ -1,0 +1,41 @@
+//! Runs of programs. The promise is the contract of `run_program`.
+
+ghost use Rattle.std.specs.Prelude.{MatchResult};
+ghost use Rattle.programs.specs.Promise.{TellsProgram};
+ghost use Rattle.programs.specs.Refused.{IsRefusedRun};
+
+use crate::compiling::compile_program;
+use crate::fault::RunFault;
+use command_line::Mode;
+use driver::running::run_code_quietly;
+use loaded::Loaded;
+use rounds::Gate;
+use schedule::config::Config;
+use schedule::report::Report;
+use std::alloc::Allocator;
+use std::sync::Wait;
+use std::thread::Threads;
+
+/// Runs the program of the text on these inputs: it is lowered to a graph, that is compiled, and its code is run in the given
+/// mode. What follows a line `inputs` in the text is no part of it. Gives a report that lists no events, so a long run takes no
+/// more memory than a short one. In the mode `One` the elements take turns, and each takes its oldest token.
+pub fn run_program<
+    R: Threads + Wait + Sync,
+    A: Allocator + Clone + Send + Sync,
+    G: Gate + Sync,
+>(
+    alloc: A,
+    text: &[u8],
+    inputs: &[i64],
+    config: Config,
+    mode: Mode,
+    rt: &R,
+    gate: &G,
+) -> Result<Report<A>, RunFault>
+    ensures { MatchResult result (TellsProgram mode text.now inputs.now config G.may_stop) (IsRefusedRun text.now inputs.now config) }
+{
+    let object = compile_program(alloc.clone()?, text)?;
+    let code = Loaded::new(alloc.clone()?, object.as_object())?;
+    let report = run_code_quietly(alloc, &code, inputs, config, mode, rt, gate)?;
+    Ok(report)
+}
