@@ -195,7 +195,14 @@ fn page_input<'a, R: Threads + Wait + Sync, A: Allocator + Clone + Send + Sync, 
     let Listed { compiled, report } = listed;
     let events: &[(u32, Token)] = &report.events;
     let first = first_of_last(events.len(), last);
-    match books_of(alloc, &compiled.object, &given.integers, config, &report, first) {
+    match books_of(
+        alloc,
+        &compiled.object,
+        &given.integers,
+        config,
+        &report,
+        first,
+    ) {
         Ok(books) => Ok(Paged {
             compiled,
             report,
