@@ -1,13 +1,8 @@
 //! The machine's inner loop in plain Rust, for comparison: the same object, tokens in queues, slots as two words, each
 //! instruction decoded from its 16 bytes when it is run, one match on its opcode. It is no part of what is proved.
 //!
-//! Build: rustc --edition 2021 -O plain_machine.rs. Run: plain_machine INPUT [ELEMENTS [FRAMES [OBJECT [LOOK]]]]; the object is that
-//! of crates/bench_events, where none is given. An object is taken to be sound. With LOOK each element runs in a thread of its own, and looks
-//! at its boxes each time it has made that number of events.
-
-#[path = "../../crates/test_inputs/src/objects.rt"]
-#[allow(dead_code)]
-mod objects;
+//! Build: rustc --edition 2021 -O plain_machine.rs. Run: plain_machine OBJECT INPUT [ELEMENTS [FRAMES [LOOK]]]. An object is taken to be
+//! sound. With LOOK each element runs in a thread of its own, and looks at its boxes each time it has made that number of events.
 
 use std::collections::VecDeque;
 use std::sync::Mutex;
@@ -612,14 +607,11 @@ fn run_free(code: &Code, lanes: &mut [Lane], host: &mut Host, look: u64) -> Opti
 
 fn main() {
     let args: Vec<String> = std::env::args().collect();
-    let bytes = match args.get(4) {
-        Some(path) => std::fs::read(path).expect("an object"),
-        None => objects::LOOP.to_vec(),
-    };
     let number = |place: usize, other: u32| args.get(place).map_or(other, |it| it.parse().expect("a number"));
-    let input: i64 = args[1].parse().expect("a number");
-    let elements = number(2, 1);
-    let frames = number(3, 8);
+    let bytes = std::fs::read(&args[1]).expect("an object");
+    let input: i64 = args[2].parse().expect("a number");
+    let elements = number(3, 1);
+    let frames = number(4, 8);
     let code = Code::new(&bytes);
     let mut free = vec![0u64; (elements * frames) as usize / 64 + 1];
     for frame in 1..elements * frames {

@@ -18,7 +18,7 @@ _ets_options() {
 _ets_values() {
     case $1 in
         --mode) echo one rounds free ;;
-        --format) echo text chrome ;;
+        --format) echo text chrome html ;;
     esac
 }
 

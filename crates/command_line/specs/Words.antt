@@ -9,6 +9,7 @@ use Rattle.graph_file.specs.Fields.{literal_of}
 use Rattle.command_line.specs.declared.Asked.{Asked}
 use Rattle.command_line.specs.declared.Command.{Command}
 use Rattle.command_line.specs.declared.Format.{Format}
+use Rattle.command_line.specs.declared.EventFormat.{EventFormat}
 use Rattle.command_line.specs.declared.Literals.{Literals}
 use Rattle.command_line.specs.declared.Lowering.{Lowering}
 use Rattle.command_line.specs.declared.Mode.{Mode}
@@ -121,7 +122,7 @@ request_of Command.Upgrade g ins = Request.Upgrade
 request_of Command.Dot g ins = Request.Dot g.code
 request_of Command.Exec g ins = Request.Exec (run_options g) ins
 request_of Command.Asm g ins = Request.Asm
-request_of Command.Trace g ins = Request.Trace (run_options g) g.last (unwrap_or g.format Format.Lines)
+request_of Command.Trace g ins = Request.Trace (run_options g) g.last (unwrap_or g.format (Format.Events EventFormat.Lines))
 request_of Command.Profile g ins = Request.Profile (run_options g) (unwrap_or g.sizes usual_sizes) g.svg
 request_of Command.Orders g ins = Request.Orders (run_options g) (unwrap_or g.count 100) (unwrap_or g.seed 1)
 request_of Command.Lower g ins = Request.Lower g.lowering
@@ -161,9 +162,10 @@ first_mode None value = Some (mode_named value)
 
 abbrev pub format_named : Text → Option Format
 format_named word =
-    if bytes_eq word (codes "text") then Some Format.Lines
-    else (if bytes_eq word (codes "chrome") then Some Format.Chrome
-    else None)
+    if bytes_eq word (codes "text") then Some (Format.Events EventFormat.Lines)
+    else (if bytes_eq word (codes "chrome") then Some (Format.Events EventFormat.Chrome)
+    else (if bytes_eq word (codes "html") then Some Format.Html
+    else None))
 
 abbrev pub first_format : Option Format → Text → Option Format
 first_format (Some before) value = None

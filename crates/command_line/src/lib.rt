@@ -86,6 +86,14 @@ pub enum Literals {
 /// How a trace is written.
 #[derive(Clone, Copy, Debug, PartialEq, Eq)]
 pub enum Format {
+    Events(EventFormat),
+    /// A page that shows the run, with its events as data.
+    Html,
+}
+
+/// How the events of a trace are written.
+#[derive(Clone, Copy, Debug, PartialEq, Eq)]
+pub enum EventFormat {
     /// A line for each event.
     Lines,
     /// Trace Event JSON, which browsers' tracing pages open.

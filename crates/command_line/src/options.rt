@@ -3,7 +3,7 @@
 ghost use Rattle.std.specs.Prelude.{◌≡◌, ◌<◌, option_map};
 ghost use Rattle.command_line.specs.Words.{after, asks_help, asks_version, first_mode, first_format, first_number, first_sizes, flag_met, format_named, is_flag, is_short, literals_listed, long_of, map_asked, mode_named, named, nothing, number_of, option_met, option_named, option_of, parts_at, plain_met, request_of, run_options, says_how_to_run, sizes_from, takes, takes_inputs, usual_sizes, valued, with_option, without_value, word_met};
 
-use crate::{Command, Format, Inputs, Literals, Lowering, Mode, Request, RunOptions, Sizes};
+use crate::{Command, EventFormat, Format, Inputs, Literals, Lowering, Mode, Request, RunOptions, Sizes};
 
 /// The options of all commands.
 #[derive(Clone, Copy, Debug, PartialEq, Eq)]
@@ -131,9 +131,11 @@ fn format_named(word: &str) -> Option<Format>
     ensures { result ≡ format_named word.now }
 {
     if word == "text" {
-        Some(Format::Lines)
+        Some(Format::Events(EventFormat::Lines))
     } else if word == "chrome" {
-        Some(Format::Chrome)
+        Some(Format::Events(EventFormat::Chrome))
+    } else if word == "html" {
+        Some(Format::Html)
     } else {
         None
     }
@@ -339,7 +341,7 @@ pub(crate) fn request_of(command: Command, given: Given, inputs: Inputs) -> Requ
         Command::Trace => Request::Trace {
             options: run_options(given),
             last: given.last,
-            format: given.format.unwrap_or(Format::Lines),
+            format: given.format.unwrap_or(Format::Events(EventFormat::Lines)),
         },
         Command::Profile => Request::Profile {
             options: run_options(given),

@@ -17,7 +17,7 @@ use std::convert::AsStr;
 const VERSION: &str = "0.2.0 (rattle-kit-13f)";
 
 /// The formats in which a trace may be written.
-const FORMATS: [&str; 2] = ["text", "chrome"];
+const FORMATS: [&str; 3] = ["text", "chrome", "html"];
 
 /// The end of the program's help.
 const AFTER: &str = "\
@@ -46,7 +46,7 @@ Programs and graphs to try: examples/README.md.
 Exit status: 0 done, or a run that ended at rest; 1 a refusal, a mistake in the command line, or a failed write;
   2 a run that starved; 3 a cell that was filled twice; 4 out of steps; 5 stuck; 6 out of memory in a run.
 After a refusal, a mistake, and a report or a profile that does not end at rest, a hint stands on standard
-  error; profile --svg and trace --format chrome tell no end, so there only after a refusal or a mistake.";
+  error; profile --svg and trace --format chrome or html tell no end, so there only after a refusal or a mistake.";
 
 /// The end of the help of `ets lower`.
 const AFTER_LOWER: &str = "\
@@ -98,7 +98,8 @@ How a listing is written: docs/FORMATS.md, \"Assembling: `ets asm`\".";
 const AFTER_TRACE: &str = "\
 Examples: ets trace < examples/add.ets
           ets trace --elements 4 --format chrome < examples/fibonacci.ets > trace.json
-The lines, and the JSON, which Perfetto and browsers' tracing pages open: docs/FORMATS.md, \"Trace\".";
+          ets trace --format html < examples/factorial.ets > run.html
+The lines, the JSON, which Perfetto and browsers' tracing pages open, and the page: docs/FORMATS.md, \"Trace\".";
 
 const AFTER_PROFILE: &str = "\
 Examples: ets profile < examples/fibonacci.ets
@@ -225,7 +226,7 @@ fn trace_command<'a>(alloc: Global) -> Result<Command<'a>, AllocError> {
         .value_name("FORMAT")
         .value_parser(ValueParser::Names(&FORMATS))
         .default_value("text")
-        .help("text: a line for each event, then the report; chrome: Trace Event JSON");
+        .help("text: a line for each event, then the report; chrome: Trace Event JSON; html: a page that shows the run");
     let command = Command::new(alloc, "trace")
         .about("Runs a graph and prints its events: its text on standard input, then its inputs")
         .after_help(AFTER_TRACE)

@@ -1,5 +1,5 @@
 -- What an input gives, or why it does not, told of the commands that read it.
-use Rattle.std.proofs.Common.{◌≡◌, ℕ, ℤ, List, Bool, false, inl, inr, ◌⊎◌, Result, Ok, Err, sym, subst}
+use Rattle.std.proofs.Common.{◌≡◌, ℕ, ℤ, List, Bool, false, inl, inr, ◌⊎◌, Result, Ok, Err, refl, sym, subst}
 use Rattle.std.specs.Prelude.{Some, None}
 use Rattle.semantics.specs.Graph.{Graph}
 use Rattle.semantics.specs.Report.{Report}
@@ -10,20 +10,22 @@ use Rattle.oracle.specs.declared.report.MeanEnd.{MeanEnd}
 use Rattle.oracle.specs.Gathering.{waves_told}
 use Rattle.oracle.specs.Waves.{AreWavesOf}
 use Rattle.replay.specs.declared.moment.Moment.{Moment}
+use Rattle.replay.specs.declared.fault.ReplayFault.{ReplayFault}
+use Rattle.replay.specs.Views.{BooksView}
 use Rattle.profile_text.specs.declared.lines.MachineRow.{MachineRow}
 use Rattle.command_line.specs.declared.Mode.{Mode}
 use Rattle.command_line.specs.declared.RunOptions.{RunOptions}
 use Rattle.command_line.specs.declared.sizes.Sizes.{Sizes}
 use Rattle.driver.specs.declared.fault.Fault.{Fault}
 use Rattle.driver.specs.Headline.{TellsQuietly}
-use Rattle.driver.specs.Listed.{IsWatched}
+use Rattle.driver.specs.Listed.{IsListed, IsWatched, HasBooks}
 use Rattle.driver.specs.Refused.{IsGoodText, IsReady, IsRefused, IsRefusedMeaning}
 use Rattle.commands.specs.declared.refusal.Refusal.{Refusal}
 use Rattle.commands.specs.Input.{integers_of}
 use Rattle.commands.specs.Refusals.{told_as}
 use Rattle.commands.specs.Given.{IsGiven, IsNotGiven}
 use Rattle.commands.specs.Agreed.{IsNoOrderOf, WhyNoOrder}
-use Rattle.commands.specs.Traced.{IsTraceOf}
+use Rattle.commands.specs.Traced.{IsTraceOf, IsPageOf, IsNoPageOf, unkept_as}
 use Rattle.commands.specs.Profiled.{IsNoProfileOf, IsProfileOf, WhyNoProfile, IsNoRow, AreRows, sizes_below}
 use Rattle.commands.specs.Served.{Parts, IsTold, IsRunOf, IsNoRunOf, IsRefusedLine, WhyNoRun, config_of}
 
@@ -105,6 +107,27 @@ module _ (input text : List ℕ) (inputs : List ℤ) (given : IsGiven input text
     named = named;
     watched = subst (λ (b : Bool). IsWatched mode text g bytes inputs (config_of o) b r moments) never (subst (λ (d : Config). IsWatched mode text g bytes inputs d may_stop r moments) same watched);
   }
+
+  pub page_of : (o : RunOptions) (first : ℕ) (g : Graph) (bytes : List ℕ) (r : Report) (books : BooksView) (mode : Mode) → o.mode ≡ Some mode → (c : Config)
+      → c ≡ config_of o → (may_stop : Bool) → may_stop ≡ false → IsListed mode text g bytes inputs c may_stop r → HasBooks bytes inputs c first r books
+      → IsPageOf input o first g bytes r books
+  page_of o first g bytes r books mode named c same may_stop never listed books_are = record {
+    text = text;
+    inputs = inputs;
+    given = given;
+    mode = mode;
+    named = named;
+    listed = subst (λ (b : Bool). IsListed mode text g bytes inputs (config_of o) b r) never
+        (subst (λ (d : Config). IsListed mode text g bytes inputs d may_stop r) same listed);
+    books = subst (λ (d : Config). HasBooks bytes inputs d first r books) same books_are;
+  }
+
+  pub no_room : (o : RunOptions) → IsNoRunOf input o Refusal.Memory
+  no_room o = record { parts = parts; why = inl refl }
+
+  pub not_kept : (o : RunOptions) (fault : ReplayFault) (f : Refusal) → f ≡ unkept_as fault → IsNoPageOf input o f
+  not_kept o ReplayFault.NotARun f told = inr told
+  not_kept o ReplayFault.Memory f told = inl (record { parts = parts; why = inl told })
 
   pub run_refused : (o : RunOptions) (c : Config) → c ≡ config_of o → (fault : Fault) → IsRefused text inputs c fault → (f : Refusal) → f ≡ told_as fault → IsNoRunOf input o f
   run_refused o c same fault refused f told = stopped_run o f (inl (fault, subst (λ (d : Config). IsRefused text inputs d fault) same refused, told))

@@ -1,15 +1,21 @@
--- What `trace` prints of a run: its events.
-use Rattle.std.specs.Prelude.{◌≡◌, ℕ, ◌-◌, false, ℤ, ◌⊎◌, List, ◌++◌, length, drop, Option, Some, None, Result}
+-- What `trace` prints of a run: its events, or a page that shows it.
+use Rattle.std.specs.Prelude.{◌≡◌, ℕ, ◌-◌, ◌*◌, false, ℤ, ◌⊎◌, List, ◌++◌, length, drop, Option, Some, None, Result}
 use Rattle.semantics.specs.Graph.{Graph}
 use Rattle.semantics.specs.Report.{Report}
 use Rattle.object_view.specs.Reading.{opened}
 use Rattle.replay.specs.declared.moment.Moment.{Moment}
+use Rattle.replay.specs.declared.fault.ReplayFault.{ReplayFault}
+use Rattle.replay.specs.Views.{BooksView}
 use Rattle.report_text.specs.ReportText.{report_text}
 use Rattle.trace_text.specs.TraceText.{trace_text, chrome_text}
+use Rattle.command_line.specs.declared.EventFormat.{EventFormat}
 use Rattle.command_line.specs.declared.Format.{Format}
 use Rattle.command_line.specs.declared.Mode.{Mode}
 use Rattle.command_line.specs.declared.RunOptions.{RunOptions}
-use Rattle.driver.specs.Listed.{IsWatched}
+use Rattle.driver.specs.Disassembled.{listing_of}
+use Rattle.driver.specs.Listed.{IsListed, IsWatched, HasBooks}
+use Rattle.html_text.specs.DataText.{data_text}
+use Rattle.html_text.specs.PageText.{html_text}
 use Rattle.commands.specs.declared.refusal.Refusal.{Refusal}
 use Rattle.commands.specs.Served.{Prints, Refuses, IsNoRunOf, config_of}
 use Rattle.commands.specs.Status.{exit_status}
@@ -31,15 +37,50 @@ first_of count None = 0
 first_of count (Some last) = count - last
 
 -- the events from number `first` on; as lines, behind which stands the report, or as JSON
-abbrev pub events_text : Format → ℕ → ℕ → Graph → List ℕ → Report → List Moment → List ℕ
-events_text Format.Lines first elements g bytes r moments =
+abbrev pub events_text : EventFormat → ℕ → ℕ → Graph → List ℕ → Report → List Moment → List ℕ
+events_text EventFormat.Lines first elements g bytes r moments =
     trace_text (opened bytes).code.program first (drop first r.events) (drop first moments) ++ report_text g.arrays r
-events_text Format.Chrome first elements g bytes r moments =
+events_text EventFormat.Chrome first elements g bytes r moments =
     chrome_text (opened bytes).code.program elements first (drop first r.events) (drop first moments)
 
 -- the refusals are those of `run`
-abbrev pub PrintsTrace : {E : Type 0} → Result ℕ E → Option (List ℕ) → Option (List ℕ) → List ℕ → RunOptions → Option ℕ → Format → Type 0
-PrintsTrace result old new input o last format =
+abbrev pub PrintsEvents : {E : Type 0} → Result ℕ E → Option (List ℕ) → Option (List ℕ) → List ℕ → RunOptions → Option ℕ → EventFormat → Type 0
+PrintsEvents result old new input o last format =
     ((g : Graph) × (bytes : List ℕ) × (r : Report) × (moments : List Moment) × IsTraceOf input o g bytes r moments
     × Prints result old new (events_text format (first_of (length r.events) last) o.elements g bytes r moments) (exit_status r.end))
     ⊎ ((f : Refusal) × IsNoRunOf input o f × Refuses result old new f)
+
+-- THE PAGE of a run: the input, which is the graph's text and the integers; the listing of the graph's code; the report of the run; and the
+-- books of its events from number `first` on, as data. The page's own source is the same for all runs.
+abbrev pub page_text : List ℕ → RunOptions → ℕ → Graph → List ℕ → Report → BooksView → List ℕ
+page_text input o first g bytes r books =
+    html_text input (listing_of bytes) (report_text g.arrays r) (data_text o.elements (o.elements * o.frames) first (drop first r.events) books)
+    (length r.events - first)
+
+pub record IsPageOf (input : List ℕ) (o : RunOptions) (first : ℕ) (g : Graph) (bytes : List ℕ) (r : Report) (books : BooksView) : Type 0 where
+  pub text : List ℕ
+  pub inputs : List ℤ
+  pub given : IsGiven input text inputs
+  pub mode : Mode
+  pub named : o.mode ≡ Some mode
+  pub listed : IsListed mode text g bytes inputs (config_of o) false r
+  pub books : HasBooks bytes inputs (config_of o) first r books
+
+-- Why there is no page: the cause for which `run` has no report; or `Books`, which says that an event was not found to fit the books. The machine
+-- hands out the free frame of least number, but no report promises that, so it is not proved that `Books` is never told.
+abbrev pub unkept_as : ReplayFault → Refusal
+unkept_as ReplayFault.NotARun = Refusal.Books
+unkept_as ReplayFault.Memory = Refusal.Memory
+
+abbrev pub IsNoPageOf : List ℕ → RunOptions → Refusal → Type 0
+IsNoPageOf input o f = IsNoRunOf input o f ⊎ (f ≡ Refusal.Books)
+
+abbrev pub PrintsPage : {E : Type 0} → Result ℕ E → Option (List ℕ) → Option (List ℕ) → List ℕ → RunOptions → Option ℕ → Type 0
+PrintsPage result old new input o last =
+    ((g : Graph) × (bytes : List ℕ) × (r : Report) × (books : BooksView) × IsPageOf input o (first_of (length r.events) last) g bytes r books
+    × Prints result old new (page_text input o (first_of (length r.events) last) g bytes r books) (exit_status r.end))
+    ⊎ ((f : Refusal) × IsNoPageOf input o f × Refuses result old new f)
+
+abbrev pub PrintsTrace : {E : Type 0} → Result ℕ E → Option (List ℕ) → Option (List ℕ) → List ℕ → RunOptions → Option ℕ → Format → Type 0
+PrintsTrace result old new input o last (Format.Events format) = PrintsEvents result old new input o last format
+PrintsTrace result old new input o last Format.Html = PrintsPage result old new input o last

@@ -9,6 +9,7 @@ pub mod given;
 pub mod input;
 pub mod lowered;
 pub mod orders;
+mod paging;
 pub mod profiling;
 pub mod refusal;
 pub mod refusal_text;

@@ -34,6 +34,8 @@ pub enum Refusal {
     Asm(AsmFault),
     /// Standard input has no program that can be lowered.
     Program(ProgramFault),
+    /// An event of a run was not found to fit the books of it. A machine that hands out the free frame of least number has no such event.
+    Books,
     Memory,
 }
 

@@ -224,6 +224,7 @@ pub fn write_refusal<W: Write>(writer: &mut W, refusal: &Refusal) -> io::Result<
         }
         Refusal::Asm(fault) => write_asm_fault(writer, *fault),
         Refusal::Program(fault) => write_program_fault(writer, *fault),
+        Refusal::Books => send(writer, b"refused: books\n"),
         Refusal::Memory => send(writer, b"refused: memory\n"),
     }
 }

@@ -7,13 +7,14 @@ ghost use Rattle.sink.specs.Sends.{Sends};
 ghost use Rattle.trace_text.specs.TraceText.{trace_text};
 ghost use Rattle.report_text.specs.ReportText.{report_text};
 ghost use Rattle.commands.specs.Served.{IsNoRunOf};
-ghost use Rattle.commands.specs.Traced.{IsTraceOf, PrintsTrace, events_text, first_of};
+ghost use Rattle.commands.specs.Traced.{IsTraceOf, PrintsEvents, PrintsTrace, events_text, first_of};
 
 use crate::given::{option_refusal, read_given};
+use crate::paging::print_page;
 use crate::refusal::Refusal;
 use crate::serving::{config_of, refuse};
 use crate::status::status_of;
-use command_line::{Format, Mode, RunOptions};
+use command_line::{EventFormat, Format, Mode, RunOptions};
 use driver::compiling::{Compiled, compile};
 use driver::fault::Fault;
 use driver::watching::{Watched, watch_object};
@@ -32,7 +33,7 @@ use tags::token::Token;
 use trace_text::{write_chrome, write_events};
 
 /// The number of the first event that is printed, of `count`.
-fn first_of_last(count: usize, last: Option<u64>) -> usize
+pub(crate) fn first_of_last(count: usize, last: Option<u64>) -> usize
     ensures { result ≡ first_of count last }
 {
     match last {
@@ -42,7 +43,7 @@ fn first_of_last(count: usize, last: Option<u64>) -> usize
 }
 
 /// The events from that place on.
-fn events_from(events: &[(u32, Token)], first: usize) -> &[(u32, Token)]
+pub(crate) fn events_from(events: &[(u32, Token)], first: usize) -> &[(u32, Token)]
     ensures { result.now ≡ drop first events.now }
 {
     if first < events.len() {
@@ -88,7 +89,7 @@ fn write_trace<'a, A: Allocator, W: Write>(
     moments: &[Moment],
     elements: u64,
     last: Option<u64>,
-    format: Format,
+    format: EventFormat,
 ) -> io::Result<()>
     requires { elements ≤ 16 }
     ensures { Sends result (W.contents writer.old) (W.contents writer.new) (events_text format (first_of (length report.now.events) last) elements graph.now object.now.bytes report.now moments.now) }
@@ -99,8 +100,8 @@ fn write_trace<'a, A: Allocator, W: Write>(
     let events = events_from(&report.events, first);
     let moments = moments_from(moments, first);
     match format {
-        Format::Lines => write_lines(writer, object, first as u64, events, moments, graph, report),
-        Format::Chrome => write_chrome(
+        EventFormat::Lines => write_lines(writer, object, first as u64, events, moments, graph, report),
+        EventFormat::Chrome => write_chrome(
             writer,
             object,
             elements as u32,
@@ -167,7 +168,7 @@ fn watch_input<'a, R: Threads + Wait + Sync, A: Allocator + Clone + Send + Sync,
 
 /// Runs the graph of the input on the integers after it, and prints its events, or only the last ones: as lines, behind which stands the
 /// report, or as JSON; or why there are none. Gives the exit status, which is that of the report.
-pub fn print_trace<
+fn print_events<
     R: Threads + Wait + Sync,
     A: Allocator + Clone + Send + Sync,
     G: Gate + Sync,
@@ -177,13 +178,13 @@ pub fn print_trace<
     input: &[u8],
     options: &RunOptions,
     last: Option<u64>,
-    format: Format,
+    format: EventFormat,
     writer: &mut W,
     rt: &R,
     gate: &G,
 ) -> io::Result<u8>
     requires { G.may_stop ≡ false }
-    ensures { PrintsTrace result (W.contents writer.old) (W.contents writer.new) input.now options.now last format }
+    ensures { PrintsEvents result (W.contents writer.old) (W.contents writer.new) input.now options.now last format }
 {
     let Traced { compiled, watched } = match watch_input(alloc, input, options, rt, gate) {
         Ok(traced) => traced,
@@ -202,5 +203,33 @@ pub fn print_trace<
     ) {
         Ok(()) => Ok(status_of(report.end)),
         Err(fault) => Err(fault),
+    }
+}
+
+/// Runs the graph of the input on the integers after it, and prints its events, or a page that shows the run, in this format, or of only the
+/// last events; or why there is no run. Gives the exit status, which is that of the report.
+pub fn print_trace<
+    R: Threads + Wait + Sync,
+    A: Allocator + Clone + Send + Sync,
+    G: Gate + Sync,
+    W: Write,
+>(
+    alloc: A,
+    input: &[u8],
+    options: &RunOptions,
+    last: Option<u64>,
+    format: Format,
+    writer: &mut W,
+    rt: &R,
+    gate: &G,
+) -> io::Result<u8>
+    requires { G.may_stop ≡ false }
+    ensures { PrintsTrace result (W.contents writer.old) (W.contents writer.new) input.now options.now last format }
+{
+    match format {
+        Format::Events(format) => {
+            print_events(alloc, input, options, last, format, writer, rt, gate)
+        }
+        Format::Html => print_page(alloc, input, options, last, writer, rt, gate),
     }
 }

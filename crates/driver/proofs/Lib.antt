@@ -8,3 +8,4 @@ pub mod OpenedObjects
 pub mod Joined
 pub mod Watched
 pub mod Valued
+pub mod Booked

@@ -25,7 +25,7 @@ module _ (bytes : List ℕ) (inputs : List ℤ) (c : Config) (may_stop : Bool) (
   run : Run o.code.program (size_of c) (at_start o.code.program inputs) r.events shows.shows.last
   run = subst (λ (p : Program). Run p (size_of c) (at_start p inputs) r.events shows.shows.last) same shows.shows.run
 
-  fit : length inputs ≡ inputs_of o.code.program
+  pub fit : length inputs ≡ inputs_of o.code.program
   fit = shows.inputs_fit ∙ ap inputs_of same
 
   pub seen : (frames count : ℕ) (moments : List Moment) → c.elements * c.frames ≡ frames → inputs_of o.code.program ≡ count → IsReplay o.code.program frames count r.events (Ok moments)

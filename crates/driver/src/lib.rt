@@ -2,6 +2,7 @@
 //! and of `emulation::run_text`, which lists no events.
 #![tactic(auto)]
 
+pub mod books;
 pub mod compiling;
 pub mod emulation;
 pub mod fault;

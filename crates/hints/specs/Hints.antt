@@ -2,6 +2,7 @@
 use Rattle.std.specs.Prelude.{ℕ, ◌-◌, ◌≤◌, ◌||◌, Bool, true, false, not, List, [], ◌∷◌, ◌++◌, length, take, drop, Option, None, Some, codes}
 use Rattle.std.specs.Str.{bytes_eq}
 use Rattle.command_line.specs.declared.Asked.{Asked}
+use Rattle.command_line.specs.declared.EventFormat.{EventFormat}
 use Rattle.command_line.specs.declared.Format.{Format}
 use Rattle.command_line.specs.declared.Request.{Request}
 
@@ -18,7 +19,7 @@ hint_text None cause = hint_line cause
 hint_text (Some place) cause = hint_line place ++ hint_line cause
 
 -- WHERE A HINT IS WANTED: for a request whose output tells an end (a run, also one of an object or of the meaning, one that is traced as text, the profile as lines, and runs in
--- many orders) unless that is rest; also where two orders differ; for any other request where it was refused; for a mistake in the command line; never for help and the version
+-- many orders) unless that is rest; also where two orders differ, and for a page of many events; for any other request where it was refused; for a mistake in the command line; never for help and the version
 abbrev pub is_refused : List ℕ → Bool
 is_refused output = bytes_eq (take 9 output) (codes "refused: ")
 
@@ -27,6 +28,9 @@ is_at_rest output = bytes_eq (drop (length output - 9) output) (codes "end Rest"
 
 abbrev pub is_differing : List ℕ → Bool
 is_differing output = bytes_eq (take 13 output) (codes "orders differ")
+
+abbrev pub is_large : List ℕ → Bool
+is_large output = bytes_eq (drop (length output - 15) output) (codes "<!-- large -->" ++ 10 ∷ [])
 
 abbrev pub wants_reason : Request → List ℕ → Bool
 wants_reason (Request.Run o) output = not (is_at_rest output)
@@ -39,8 +43,9 @@ wants_reason (Request.Dot code) output = is_refused output
 wants_reason (Request.Exec o ins) output = not (is_at_rest output)
 wants_reason Request.Asm output = is_refused output
 wants_reason (Request.Lower lowering) output = is_refused output
-wants_reason (Request.Trace o last Format.Lines) output = not (is_at_rest output)
-wants_reason (Request.Trace o last Format.Chrome) output = is_refused output
+wants_reason (Request.Trace o last (Format.Events EventFormat.Lines)) output = not (is_at_rest output)
+wants_reason (Request.Trace o last (Format.Events EventFormat.Chrome)) output = is_refused output
+wants_reason (Request.Trace o last Format.Html) output = is_refused output || is_large output
 wants_reason (Request.Profile o sizes true) output = is_refused output
 wants_reason (Request.Profile o sizes false) output = not (is_at_rest output)
 wants_reason (Request.Orders o count seed) output = is_differing output || not (is_at_rest output)

@@ -15,7 +15,7 @@ use graph_file::ReadFaultKind;
 pub use graphs::{CallCause, GraphCause, NodeCause, RegionCause};
 pub use listings::{ListingCause, TableCause, TermCause};
 pub use objects::{InstrCause, ObjectCause, OperandCause};
-pub use programs::{Count, Missing, ProgramCause, Wanted};
+pub use programs::{Count, Form, Missing, ProgramCause, Wanted, Within, Wrong};
 pub use runs::{EndCause, OptionCause, RunCause, StepsCause};
 pub use texts::{FieldCause, FormCause, LineCause, TextCause};
 pub use words::WordCause;

@@ -11,6 +11,7 @@ ghost use Rattle.hints.specs.Hints.{is_at_rest, is_refused, wants_hint, wants_re
 mod cause;
 mod field_faults;
 mod found;
+mod going;
 mod graph_faults;
 mod graphs;
 mod kinds;
@@ -34,7 +35,7 @@ mod text_faults;
 mod words;
 
 use cause::{Cause, GraphCause, ProgramCause, RunCause};
-use command_line::{Asked, Format, Request, read_words};
+use command_line::{Asked, EventFormat, Format, Request, read_words};
 use found::Found;
 use graph_faults::{code_fault, graph_fault};
 pub use line::{Hint, Line};
@@ -42,7 +43,7 @@ use lines::split_graph;
 use listing_faults::{listing_fault, unknown_listing};
 use message::Message;
 use object_faults::object_fault;
-use outcome::{Located, Outcome, is_differing, outcome_of};
+use outcome::{Located, Outcome, is_differing, is_large, outcome_of};
 use programs::program_fault;
 use runs::{end_fault, given_fault, input_fault, memory_cause, orders_fault, start_fault};
 use std::alloc::{AllocError, Allocator};
@@ -61,7 +62,7 @@ fn is_at_rest(output: &[u8]) -> bool
     output.ends_with(b"end Rest\n")
 }
 
-/// Whether the output of this request wants a hint. A picture and a trace in JSON do not tell how a run ended.
+/// Whether the output of this request wants a hint. A picture, a trace in JSON and a page do not tell how a run ended.
 fn wants_reason(request: &Request, output: &[u8]) -> bool
     ensures { result ≡ wants_reason request.now output.now }
 {
@@ -71,7 +72,7 @@ fn wants_reason(request: &Request, output: &[u8]) -> bool
         | Request::Exec { .. }
         | Request::Profile { svg: false, .. }
         | Request::Trace {
-            format: Format::Lines,
+            format: Format::Events(EventFormat::Lines),
             ..
         } => !is_at_rest(output),
         Request::Orders { .. } => is_differing(output) || !is_at_rest(output),
@@ -84,9 +85,13 @@ fn wants_reason(request: &Request, output: &[u8]) -> bool
         | Request::Lower(_)
         | Request::Profile { svg: true, .. }
         | Request::Trace {
-            format: Format::Chrome,
+            format: Format::Events(EventFormat::Chrome),
             ..
         } => is_refused(output),
+        Request::Trace {
+            format: Format::Html,
+            ..
+        } => is_refused(output) || is_large(output),
     }
 }
 
@@ -192,6 +197,7 @@ fn outcome_cause<'a, S: AsStr, A: Allocator + Clone>(
         Outcome::Unread => Some(Found::nowhere(Cause::Run(RunCause::Unread))),
         Outcome::Memory => Some(Found::nowhere(Cause::Run(memory_cause(request)))),
         Outcome::OrdersDiffer => Some(orders_fault()),
+        Outcome::LargePage => Some(Found::nowhere(Cause::Run(RunCause::LargePage))),
         Outcome::Start(kind) => start_fault(alloc, request, input, kind),
         Outcome::Ended(end) => Some(end_fault(request, end)),
         Outcome::Located(Located::InputLine { line }) if matches!(request, Request::Exec { .. }) =>

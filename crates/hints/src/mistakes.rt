@@ -15,7 +15,7 @@ fn options_of(command: &str) -> Option<&'static str> {
             "--elements N (1 to 16), --frames N (1 to 1024), --steps N (at most 4294967296) and --mode one, rounds or free, each at most once; all other words are inputs",
         ),
         "trace" => Some(
-            "--last N, --format text or chrome, --elements N (1 to 16), --frames N (1 to 1024), --steps N (at most 4294967296) and --mode one, rounds or free, each at most once",
+            "--last N, --format text, chrome or html, --elements N (1 to 16), --frames N (1 to 1024), --steps N (at most 4294967296) and --mode one, rounds or free, each at most once",
         ),
         "profile" => Some(
             "--elements N,N,.. (each 1 to 16), --frames N (1 to 1024), --steps N (at most 4294967296) and --svg, each at most once",

@@ -1,7 +1,7 @@
 //! What an output says: which refusal, or which end of a run.
 
 ghost use Rattle.std.specs.Prelude.{◌≡◌};
-ghost use Rattle.hints.specs.Hints.{is_differing};
+ghost use Rattle.hints.specs.Hints.{is_differing, is_large};
 
 use crate::lines::{LINE_FEED, field_at, text_at};
 use crate::programs::ProgramPlace;
@@ -85,6 +85,8 @@ pub enum Outcome<'a> {
     Ended(Ended<'a>),
     /// Two orders have different reports.
     OrdersDiffer,
+    /// A page shows many events.
+    LargePage,
 }
 
 fn read_kind(word: &str) -> Option<ReadFaultKind> {
@@ -314,11 +316,19 @@ pub fn is_differing(output: &[u8]) -> bool
     output.starts_with(b"orders differ")
 }
 
+/// Whether the output is a page that shows many events.
+pub fn is_large(output: &[u8]) -> bool
+    ensures { result ≡ is_large output.now }
+{
+    output.ends_with(b"<!-- large -->\n")
+}
+
 /// What the output of a command says. `output` is the whole of it, or its beginning and its end.
 pub fn outcome_of(output: &[u8]) -> Option<Outcome<'_>> {
     match output.strip_prefix(b"refused: ".as_slice()) {
         Some(rest) => refused(rest.split(|byte| *byte == LINE_FEED).next()?),
         None if is_differing(output) => Some(Outcome::OrdersDiffer),
+        None if is_large(output) => Some(Outcome::LargePage),
         None => end_in(output),
     }
 }

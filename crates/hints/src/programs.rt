@@ -1,7 +1,8 @@
 //! What is wrong with the program of a text, for each kind of fault.
 
-use crate::cause::{Cause, Count, Missing, ProgramCause, Wanted};
+use crate::cause::{Cause, Count, Form, Missing, ProgramCause, Wanted, Within, Wrong};
 use crate::found::Found;
+use crate::going::{Going, Next, Opened, Part};
 use crate::lines::line_at;
 use crate::place::Place;
 use crate::shown::Shown;
@@ -63,108 +64,263 @@ fn offset_of(text: &[u8], place: ProgramPlace) -> usize {
     before.saturating_add(place.column.saturating_sub(1) as usize)
 }
 
-/// The token before the one at this place, if there is one.
-fn token_before(tokens: &[Token], at: usize) -> Option<Token> {
+/// What is seen at the place of a fault: the token that stands there and the one before it, if there are any; what comes next after that;
+/// and what was opened last, and is open.
+#[derive(Clone, Copy)]
+struct Seen {
+    stands: Option<Token>,
+    before: Option<Token>,
+    next: Next,
+    innermost: Option<Opened>,
+}
+
+/// What is seen at the place `at` of the text. None where memory is refused.
+fn look<A: Allocator + Clone>(alloc: &A, text: &[u8], at: usize) -> Option<Seen> {
+    let tokens = lex(alloc.clone().ok()?, text).ok()?;
+    let mut going = Going::new(alloc.clone().ok()?);
     let mut before = None;
-    for token in tokens {
+    let mut stands = None;
+    for token in &tokens {
         if token.at >= at {
-            return before;
+            stands = Some(*token);
+            break;
         }
+        going.take(*token).ok()?;
         before = Some(*token);
     }
-    before
+    Some(Seen {
+        stands,
+        before,
+        next: going.next,
+        innermost: going.innermost(),
+    })
 }
 
-/// What may stand after a word.
-fn after_word<'a>(keyword: Keyword, before: Shown<'a>) -> Wanted<'a> {
-    match keyword {
-        Keyword::Array | Keyword::Fn | Keyword::Strict => Wanted::Name { before },
-        Keyword::Let => Wanted::Target,
-        Keyword::Loop => Wanted::Number { before },
-        Keyword::Else => Wanted::Block { before },
-        Keyword::If | Keyword::While => Wanted::Expression { before },
-        Keyword::Inputs => Wanted::NoInputs,
+fn sign_of(token: Option<Token>) -> Option<Sign> {
+    match token?.kind {
+        TokenKind::Mark { sign } => Some(sign),
+        _ => None,
     }
 }
 
-/// What may stand after a sign.
-fn after_sign<'a>(sign: Sign, before: Shown<'a>) -> Wanted<'a> {
-    match sign {
-        Sign::CloseParen | Sign::CloseBracket | Sign::CloseBrace | Sign::Underscore => {
-            Wanted::AfterOperand { before }
+/// The bytes of this token; of none where there is none.
+fn shown<'a>(text: &'a [u8], token: Option<Token>) -> Shown<'a> {
+    match token {
+        Some(token) => Shown {
+            bytes: token_of(from(text, token.at)),
+        },
+        None => Shown { bytes: b"" },
+    }
+}
+
+/// In which line the place stands, counted from 1.
+fn line_of(text: &[u8], at: usize) -> u64 {
+    let before = text.get(..at).unwrap_or(text);
+    let feeds = before.iter().filter(|byte| **byte == b'\n').count();
+    (feeds as u64).saturating_add(1)
+}
+
+/// What was opened last, where a bracket or a brace opened it.
+fn bracket(innermost: Option<Opened>) -> Option<Opened> {
+    let opened = innermost?;
+    match opened.part {
+        Part::Block(_) | Part::Group | Part::Arguments | Part::Index | Part::LastTest => {
+            Some(opened)
         }
-        Sign::Arrow => Wanted::Number { before },
-        _ => Wanted::Expression { before },
+        Part::Let | Part::Test | Part::WhileTest | Part::FirstValue => None,
     }
 }
 
-/// What may stand after this token.
-fn after_token<'a>(token: Token, before: Shown<'a>) -> Wanted<'a> {
-    match token.kind {
-        TokenKind::Word { keyword } => after_word(keyword, before),
-        TokenKind::Mark { sign } => after_sign(sign, before),
-        TokenKind::Number { .. } | TokenKind::Name { .. } => Wanted::AfterOperand { before },
-    }
+/// That what was opened last is not closed, where a bracket or a brace opened it.
+fn unclosed<'a>(text: &'a [u8], innermost: Option<Opened>) -> Option<Wanted<'a>> {
+    let at = bracket(innermost)?.at;
+    Some(Wanted::Unclosed {
+        opening: Shown {
+            bytes: token_of(from(text, at)),
+        },
+        line: line_of(text, at),
+    })
 }
 
-/// Whether an operand may end with this token.
-fn ends_operand(token: Token) -> bool {
-    match token.kind {
-        TokenKind::Number { .. } | TokenKind::Name { .. } => true,
-        TokenKind::Mark { sign } => matches!(
-            sign,
-            Sign::CloseParen | Sign::CloseBracket | Sign::CloseBrace
-        ),
-        TokenKind::Word { .. } => false,
-    }
-}
-
-fn is_semicolon(token: Token) -> bool {
+/// Whether a name comes next.
+fn wants_name(next: Next) -> bool {
     matches!(
-        token.kind,
-        TokenKind::Mark {
-            sign: Sign::Semicolon
-        }
+        next,
+        Next::ArrayName
+            | Next::FunctionName
+            | Next::Parameter
+            | Next::Target
+            | Next::Callee
+            | Next::LoopName
     )
 }
 
-/// What could stand at this place, where `stands` stands, after this token.
-fn wanted_after<'a>(text: &'a [u8], token: Token, stands: &'a [u8]) -> Wanted<'a> {
-    if stands == b"inputs".as_slice() {
-        Wanted::NoInputs
-    } else if stands == b"=".as_slice() && ends_operand(token) {
-        Wanted::NoEquals
-    } else if stands == b"}".as_slice() && is_semicolon(token) {
-        Wanted::NoSemicolon
-    } else if matches!(stands, b"let" | b"fn" | b"array") && ends_operand(token) {
-        Wanted::Ended {
-            word: Shown { bytes: stands },
-        }
-    } else {
-        let before = Shown {
-            bytes: token_of(from(text, token.at)),
-        };
-        after_token(token, before)
+/// Whether an expression comes next.
+fn wants_operand(next: Next) -> bool {
+    matches!(next, Next::Step | Next::Expression)
+}
+
+/// What is wrong with a word here, where something is known.
+fn wrong_word<'a>(text: &'a [u8], seen: Seen, keyword: Keyword) -> Option<Wanted<'a>> {
+    match keyword {
+        Keyword::Inputs => Some(Wanted::Wrong(Wrong::Inputs)),
+        _ if wants_name(seen.next) => Some(Wanted::Word {
+            word: shown(text, seen.stands),
+        }),
+        Keyword::Fn | Keyword::Array => unclosed(text, seen.innermost),
+        Keyword::While if wants_operand(seen.next) => Some(Wanted::Form(Form::Loop)),
+        Keyword::Else if wants_operand(seen.next) => Some(Wanted::Form(Form::Else)),
+        Keyword::Let => match (seen.next, seen.innermost) {
+            (
+                Next::AfterOperand,
+                Some(
+                    Opened {
+                        part: Part::Block(_) | Part::Let,
+                        ..
+                    },
+                ),
+            ) => Some(Wanted::NoSemicolon),
+            _ => None,
+        },
+        _ => None,
     }
 }
 
-/// What could stand at this place, where `stands` stands. An item where memory is refused.
-fn wanted<'a, A: Allocator + Clone>(
-    alloc: &A,
-    text: &'a [u8],
-    at: usize,
-    stands: &'a [u8],
-) -> Wanted<'a> {
-    let Ok(own) = alloc.clone() else {
-        return Wanted::Item;
-    };
-    let Ok(tokens) = lex(own, text) else {
-        return Wanted::Item;
-    };
-    match token_before(&tokens, at) {
-        Some(token) => wanted_after(text, token, stands),
-        None => Wanted::Item,
+/// What is wrong with a sign that closes something, where a value or a step comes next.
+fn wrong_end(before: Option<Sign>, sign: Sign, part: Option<Part>) -> Option<Wrong> {
+    match (before, sign, part) {
+        (Some(Sign::Semicolon), Sign::CloseBrace, _) => Some(Wrong::Semicolon),
+        (Some(Sign::OpenBrace), Sign::CloseBrace, _) => Some(Wrong::EmptyBlock),
+        (
+            Some(Sign::Comma),
+            Sign::CloseBrace | Sign::CloseParen | Sign::CloseBracket | Sign::Semicolon,
+            _,
+        ) => Some(Wrong::TrailingComma),
+        (Some(Sign::OpenParen), Sign::CloseParen, Some(Part::Arguments)) => {
+            Some(Wrong::NoArguments)
+        }
+        (Some(Sign::Ampersand), Sign::Ampersand, _) | (Some(Sign::Bar), Sign::Bar, _) => {
+            Some(Wrong::Doubled)
+        }
+        (_, Sign::Equals, _) => Some(Wrong::Equals),
+        _ => None,
     }
+}
+
+/// What is wrong with a sign behind an operand.
+fn wrong_behind(sign: Sign) -> Option<Wrong> {
+    match sign {
+        Sign::Equals => Some(Wrong::Equals),
+        Sign::EqualTo
+        | Sign::NotEqualTo
+        | Sign::Less
+        | Sign::AtMost
+        | Sign::Greater
+        | Sign::AtLeast => Some(Wrong::Chain),
+        Sign::OpenParen => Some(Wrong::NoFunction),
+        Sign::OpenBracket => Some(Wrong::NoArray),
+        _ => None,
+    }
+}
+
+/// What is wrong with a sign here, where something is known.
+fn wrong_sign(seen: Seen, sign: Sign) -> Option<Wrong> {
+    match seen.next {
+        Next::Item => match sign {
+            Sign::CloseBrace => Some(Wrong::NothingOpen),
+            Sign::Semicolon => Some(Wrong::BehindFunction),
+            _ => None,
+        },
+        Next::Step | Next::Expression => {
+            let part = seen.innermost.map(|opened| opened.part);
+            wrong_end(sign_of(seen.before), sign, part)
+        }
+        Next::AfterOperand => wrong_behind(sign),
+        _ => None,
+    }
+}
+
+/// What is wrong here, where something is known of what stands here.
+fn wrong<'a>(text: &'a [u8], seen: Seen) -> Option<Wanted<'a>> {
+    match seen.stands?.kind {
+        TokenKind::Word { keyword } => wrong_word(text, seen, keyword),
+        TokenKind::Mark { sign } => Some(Wanted::Wrong(wrong_sign(seen, sign)?)),
+        TokenKind::Number { .. } | TokenKind::Name { .. } => None,
+    }
+}
+
+/// What is open round an operand.
+fn within(innermost: Option<Opened>) -> Within {
+    let Some(opened) = innermost else {
+        return Within::Block;
+    };
+    match opened.part {
+        Part::Block(_) => Within::Block,
+        Part::Let => Within::Let,
+        Part::Group | Part::LastTest => Within::Brackets,
+        Part::Arguments => Within::Arguments,
+        Part::Index => Within::Index,
+        Part::Test => Within::Test,
+        Part::WhileTest => Within::WhileTest,
+        Part::FirstValue => Within::Names,
+    }
+}
+
+/// What could stand here.
+fn wanted_next<'a>(text: &'a [u8], seen: Seen) -> Wanted<'a> {
+    let before = shown(text, seen.before);
+    let form = match seen.next {
+        Next::Step => return Wanted::Step { before },
+        Next::Expression => return Wanted::Expression { before },
+        Next::AfterOperand => {
+            let within = within(seen.innermost);
+            return Wanted::AfterOperand { before, within };
+        }
+        Next::Item => Form::Item,
+        Next::ArrayName | Next::ArrayOpen | Next::ArrayLength | Next::ArrayClose | Next::ArrayEnd =>
+            Form::Array,
+        Next::FunctionName
+        | Next::ParametersOpen
+        | Next::Parameter
+        | Next::AfterParameter
+        | Next::AfterParameters
+        | Next::ResultCount
+        | Next::FunctionBody => Form::Function,
+        Next::Target | Next::AfterTarget => Form::Let,
+        Next::Callee | Next::CalleeOpen => Form::StrictCall,
+        Next::Bound | Next::NamesOpen | Next::LoopName | Next::LoopEquals | Next::AfterNames => {
+            Form::Loop
+        }
+        Next::While | Next::LastTestOpen => Form::LastTest,
+        Next::Else | Next::Otherwise => Form::Else,
+    };
+    Wanted::Form(form)
+}
+
+/// What could stand at this place, where something else stands. An item where memory is refused.
+fn wanted<'a, A: Allocator + Clone>(alloc: &A, text: &'a [u8], at: usize) -> Wanted<'a> {
+    let Some(seen) = look(alloc, text, at) else {
+        return Wanted::Form(Form::Item);
+    };
+    match wrong(text, seen) {
+        Some(wanted) => wanted,
+        None => wanted_next(text, seen),
+    }
+}
+
+/// What is missing at the end of the text.
+fn missing_at_end<'a, A: Allocator + Clone>(alloc: &A, text: &'a [u8]) -> ProgramCause<'a> {
+    let Some(seen) = look(alloc, text, text.len()) else {
+        return ProgramCause::Kind(FaultKind::Unended);
+    };
+    let open = match seen.next {
+        Next::Step | Next::Expression | Next::AfterOperand => unclosed(text, seen.innermost),
+        _ => None,
+    };
+    ProgramCause::Unexpected(match open {
+        Some(wanted) => wanted,
+        None => wanted_next(text, seen),
+    })
 }
 
 /// The byte that follows a token, and the spaces after that.
@@ -185,18 +341,118 @@ fn missing<'a>(bytes: &[u8], stands: &'a [u8]) -> Missing<'a> {
     }
 }
 
-/// Which number of values is wrong, where the fault stands at this token.
-fn count<'a>(bytes: &[u8], stands: &'a [u8]) -> Count<'a> {
+/// How many parameters and results a function has.
+#[derive(Clone, Copy)]
+struct Head {
+    parameters: u64,
+    results: u64,
+}
+
+/// Where in the head of a function a token stands.
+#[derive(Clone, Copy)]
+enum Spot {
+    Outside,
+    /// Behind the word `fn`.
+    Named,
+    Parameters,
+    /// Behind its parameters.
+    Behind,
+}
+
+impl Head {
+    /// Goes on by a token, where the function has this name. None where its head is over.
+    fn take(&mut self, spot: Spot, text: &[u8], name: &[u8], token: Token) -> Option<Spot> {
+        match (spot, token.kind) {
+            (
+                Spot::Outside,
+                TokenKind::Word {
+                    keyword: Keyword::Fn,
+                },
+            ) => Some(Spot::Named),
+            (Spot::Outside, _) => Some(Spot::Outside),
+            (Spot::Named, _) if token_of(from(text, token.at)) == name => Some(Spot::Parameters),
+            (Spot::Named, _) => Some(Spot::Outside),
+            (Spot::Parameters, TokenKind::Name { .. }) => {
+                self.parameters = self.parameters.saturating_add(1);
+                Some(Spot::Parameters)
+            }
+            (
+                Spot::Parameters,
+                TokenKind::Mark {
+                    sign: Sign::CloseParen,
+                },
+            ) => Some(Spot::Behind),
+            (Spot::Parameters, _) => Some(Spot::Parameters),
+            (Spot::Behind, TokenKind::Mark { sign: Sign::Arrow }) => Some(Spot::Behind),
+            (Spot::Behind, TokenKind::Number { number }) => {
+                self.results = number;
+                None
+            }
+            (Spot::Behind, _) => None,
+        }
+    }
+}
+
+/// How many parameters and results the function of this name has. None where there is no such function, or memory is refused.
+fn head_of<A: Allocator + Clone>(alloc: &A, text: &[u8], name: &[u8]) -> Option<Head> {
+    let tokens = lex(alloc.clone().ok()?, text).ok()?;
+    let mut head = Head {
+        parameters: 0,
+        results: 1,
+    };
+    let mut spot = Spot::Outside;
+    for token in &tokens {
+        match head.take(spot, text, name, *token) {
+            Some(next) => spot = next,
+            None => return Some(head),
+        }
+    }
+    None
+}
+
+/// What is wrong with a call of a function of this name.
+fn call_count<'a, A: Allocator + Clone>(alloc: &A, text: &[u8], name: &'a [u8]) -> Count<'a> {
+    let function = Shown { bytes: name };
+    match head_of(alloc, text, name) {
+        Some(
+            Head {
+                parameters,
+                results: 1,
+            },
+        ) => Count::Arguments {
+            function,
+            parameters,
+        },
+        Some(
+            Head {
+                parameters,
+                results,
+            },
+        ) => Count::Call {
+            function,
+            parameters,
+            results,
+        },
+        None => Count::One,
+    }
+}
+
+/// Which number of values is wrong at the place `at` of the program, where this token stands.
+fn count<'a, A: Allocator + Clone>(
+    alloc: &A,
+    program: &'a [u8],
+    at: usize,
+    stands: &'a [u8],
+) -> Count<'a> {
     match stands {
         b"let" => Count::Targets,
         b"{" => Count::Results,
         b"if" => Count::Arms,
         b"loop" => Count::Turn,
         [first, ..]
-            if first.is_ascii_alphabetic() && byte_after(bytes, stands.len()) == Some(b'(') => {
-            Count::Arguments {
-                function: Shown { bytes: stands },
-            }
+            if first.is_ascii_alphabetic()
+                && byte_after(from(program, at), stands.len()) == Some(b'(') => {
+            call_count(alloc, program, stands)
         }
         _ => Count::One,
     }
@@ -230,10 +486,11 @@ fn cause_at<'a, A: Allocator + Clone>(
     match kind {
         FaultKind::BadNumber => ProgramCause::BadNumber,
         FaultKind::BadName => ProgramCause::BadName { name },
-        FaultKind::Unexpected => ProgramCause::Unexpected(wanted(alloc, program, at, stands)),
+        FaultKind::Unexpected => ProgramCause::Unexpected(wanted(alloc, program, at)),
+        FaultKind::Unended => missing_at_end(alloc, program),
         FaultKind::SameName => ProgramCause::SameName { name },
         FaultKind::NoSuchName => ProgramCause::NoSuchName(missing(bytes, stands)),
-        FaultKind::Arity => ProgramCause::Arity(count(bytes, stands)),
+        FaultKind::Arity => ProgramCause::Arity(count(alloc, program, at, stands)),
         kind => ProgramCause::Kind(kind),
     }
 }

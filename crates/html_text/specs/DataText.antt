@@ -1,4 +1,5 @@
--- The data of a page that shows a run, as a text: one JSON object with the tokens of the start and an entry for each event, each on a line.
+-- The data of a page that shows a run, as a text: one JSON object with what there is before the first event and an entry for each
+-- event, each on a line.
 use Rattle.std.specs.Prelude.{ℕ, zero, suc, List, [], ◌++◌, codes, decimal}
 use Rattle.tags.specs.declared.token.Word.{Word}
 use Rattle.tags.specs.declared.token.Word.TheVariants as word
@@ -14,7 +15,7 @@ use Rattle.trace_text.specs.TraceText.{word_text, deed_text, paired}
 use Rattle.replay.specs.declared.moment.Deed.{Deed}
 use Rattle.replay.specs.declared.entry.Change.{Change}
 use Rattle.replay.specs.declared.entry.Change.TheVariants as change
-use Rattle.replay.specs.declared.entry.Entry.{Entry}
+use Rattle.replay.specs.Views.{EntryView, BooksView}
 
 -- PIECES of arrays: a tag and a number; a word in quotation marks, which ends the array.
 abbrev pub number_text : List ℕ → ℕ → List ℕ
@@ -83,14 +84,34 @@ line_lead (suc n) = codes ",\n"
 abbrev pub event_head : ℕ → ℕ → ℕ → Deed → List ℕ
 event_head n e number d = (line_lead n ++ number_text (codes "[") e) ++ number_text (codes ",") number ++ (codes ",\"" ++ deed_text d)
 
-abbrev pub event_text : {A : Type 0} → ℕ → ℕ × Token → Entry A → List ℕ
-event_text n ev x = event_head n ev.0 x.number x.deed ++ codes "\"," ++ change_text x.change ++ codes ",[" ++ tokens_text x.made.items ++ codes "]]"
+abbrev pub event_text : ℕ → ℕ × Token → EntryView → List ℕ
+event_text n ev x = event_head n ev.0 x.number x.deed ++ codes "\"," ++ change_text x.change ++ codes ",[" ++ tokens_text x.made ++ codes "]]"
 
--- THE DATA of a run on so many elements, which have so many frames in all, of which frame 0 is out at the start
-abbrev pub start_text : ℕ → ℕ → List Token → List ℕ
-start_text elements frames start = number_text (codes "{\"format\":1,\"elements\":") elements ++ number_text (codes ",\"frames\":") frames
-    ++ codes ",\"out\":[0],\"start\":[" ++ tokens_text start
+-- BEFORE THE FIRST EVENT that is shown: what the earlier events changed, each change on a line; and the tokens that are on their way then.
+abbrev pub listed_change : ℕ → Change → List ℕ
+listed_change n c = line_lead n ++ change_text c
 
-abbrev pub data_text : {A : Type 0} → ℕ → ℕ → List Token → Events → List (Entry A) → List ℕ
-data_text elements frames start events entries = start_text elements frames start ++ codes "],\"events\":[" ++ paired event_text 0 events entries
-    ++ codes "\n]}"
+abbrev pub changes_text : List Change → List ℕ
+changes_text cs = numbered listed_change 0 cs
+
+abbrev pub listed_number : ℕ → ℕ → List ℕ
+listed_number place n = number_text (comma place) n
+
+abbrev pub listed_numbers : List ℕ → List ℕ
+listed_numbers ns = numbered listed_number 0 ns
+
+-- THE DATA of a run on so many elements, which have so many frames in all, of which frame 0 is out at the start: of its events from number
+-- `first` on
+abbrev pub size_text : ℕ → ℕ → ℕ → List ℕ
+size_text elements frames first = number_text (codes "{\"format\":1,\"elements\":") elements ++ number_text (codes ",\"frames\":") frames
+    ++ number_text (codes ",\"first\":") first
+
+abbrev pub before_text : BooksView → List ℕ
+before_text books = codes ",\"out\":[0],\"changes\":[" ++ changes_text books.changes ++ number_text (codes "],\"next\":") books.next
+
+abbrev pub start_text : BooksView → List ℕ
+start_text books = codes ",\"numbers\":[" ++ listed_numbers books.numbers ++ codes "],\"start\":[" ++ tokens_text books.tokens
+
+abbrev pub data_text : ℕ → ℕ → ℕ → Events → BooksView → List ℕ
+data_text elements frames first events books = size_text elements frames first ++ before_text books ++ start_text books ++ codes "],\"events\":["
+    ++ paired event_text 0 events books.entries ++ codes "\n]}"

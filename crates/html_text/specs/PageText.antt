@@ -1,5 +1,5 @@
 -- The page that shows a run: its own source, with the run's texts and its data in between.
-use Rattle.std.specs.Prelude.{ℕ, List, ◌++◌}
+use Rattle.std.specs.Prelude.{ℕ, List, [], ◌++◌, codes, nat_lt, if◌then◌else◌}
 use Rattle.html_text.specs.declared.style.TheConstants.{TOP, TO_LISTING, TO_REPORT, TO_DATA}
 use Rattle.html_text.specs.declared.model.TheConstants.{MODEL}
 use Rattle.html_text.specs.declared.picture.TheConstants.{PICTURE}
@@ -14,7 +14,11 @@ part_text ToReport = TO_REPORT.now
 part_text ToData = TO_DATA.now
 part_text Script = MODEL.now ++ PICTURE.now ++ LISTS.now
 
--- the page with the text of the graph and its inputs, the listing of its code, the report of the run, and the run's data
-abbrev pub html_text : List ℕ → List ℕ → List ℕ → List ℕ → List ℕ
-html_text source listing report run = part_text Top ++ source ++ part_text ToListing ++ listing ++ part_text ToReport ++ report ++ part_text ToData ++ run
-    ++ part_text Script
+-- behind a page of more than 200,000 events stands a mark
+abbrev pub large_mark : ℕ → List ℕ
+large_mark events = if nat_lt 200000 events then codes "<!-- large -->\n" else []
+
+-- the page with the text of the graph and its inputs, the listing of its code, the report of the run, and the run's data with so many events
+abbrev pub html_text : List ℕ → List ℕ → List ℕ → List ℕ → ℕ → List ℕ
+html_text source listing report run events = (part_text Top ++ source) ++ (part_text ToListing ++ listing) ++ (part_text ToReport ++ report)
+    ++ (part_text ToData ++ run) ++ part_text Script ++ large_mark events

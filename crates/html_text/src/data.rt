@@ -1,14 +1,14 @@
 //! The data of a run.
 
 ghost use Rattle.std.specs.Prelude.{◌≡◌};
-ghost use Rattle.html_text.specs.DataText.{line_lead, event_head, event_text, start_text, data_text};
+ghost use Rattle.html_text.specs.DataText.{line_lead, event_head, event_text, listed_change, changes_text, listed_number, listed_numbers, size_text, before_text, start_text, data_text};
 ghost use Rattle.trace_text.specs.TraceText.{paired};
 ghost use Rattle.sink.specs.Sends.{Sends};
 
 use crate::changes::send_change;
 use crate::pieces::{send_long, send_number};
-use crate::tokens::send_tokens;
-use replay::{Deed, Entry};
+use crate::tokens::{comma, send_tokens};
+use replay::{Books, Change, Deed, Entry};
 use sink::{send, send_all};
 use std::alloc::Allocator;
 use std::io::{self, Write};
@@ -75,37 +75,87 @@ fn send_events<A: Allocator, W: Write>(
     Ok(())
 }
 
-/// The numbers of the machine and the tokens of the start.
-fn send_start<W: Write>(
-    writer: &mut W,
-    elements: u32,
-    frames: u32,
-    start: &[Token],
-) -> io::Result<()>
-    ensures { Sends result (W.contents writer.old) (W.contents writer.new) (start_text elements frames start.now) }
+/// A change that stands in a list.
+fn send_listed_change<W: Write>(writer: &mut W, place: usize, change: Change) -> io::Result<()>
+    ensures { Sends result (W.contents writer.old) (W.contents writer.new) (listed_change place change) }
+{
+    send(writer, line_lead(place))?;
+    send_change(writer, change)
+}
+
+/// The changes of the earlier events.
+fn send_changes<W: Write>(writer: &mut W, changes: &[Change]) -> io::Result<()>
+    ensures { Sends result (W.contents writer.old) (W.contents writer.new) (changes_text changes.now) }
+{
+    for place in 0..changes.len() {
+        send_listed_change(writer, place, changes[place])?;
+    }
+    Ok(())
+}
+
+/// A number that stands in a list.
+fn send_listed_number<W: Write>(writer: &mut W, place: usize, number: u64) -> io::Result<()>
+    ensures { Sends result (W.contents writer.old) (W.contents writer.new) (listed_number place number) }
+{
+    send_long(writer, comma(place), number)
+}
+
+/// The numbers of tokens.
+fn send_numbers<W: Write>(writer: &mut W, numbers: &[u64]) -> io::Result<()>
+    ensures { Sends result (W.contents writer.old) (W.contents writer.new) (listed_numbers numbers.now) }
+{
+    for place in 0..numbers.len() {
+        send_listed_number(writer, place, numbers[place])?;
+    }
+    Ok(())
+}
+
+/// The numbers of the machine, and that of the first event shown.
+fn send_size<W: Write>(writer: &mut W, elements: u32, frames: u32, first: u64) -> io::Result<()>
+    ensures { Sends result (W.contents writer.old) (W.contents writer.new) (size_text elements frames first) }
 {
     send_number(writer, b"{\"format\":1,\"elements\":", elements)?;
     send_number(writer, b",\"frames\":", frames)?;
-    send(writer, b",\"out\":[0],\"start\":[")?;
-    send_tokens(writer, start)
+    send_long(writer, b",\"first\":", first)
 }
 
-/// Writes the data of a run on so many elements, which have so many frames in all: one JSON object with the tokens of the start, and with
-/// an entry for each event, each on a line. `entries` are the books of the events: they go in pairs, and the shorter one ends it. The
-/// writer is called until it has taken all of it; a call that takes no byte is a fault. After an `Err` a beginning of the text was written.
-/// Takes no memory.
+/// What the earlier events changed.
+fn send_before<A: Allocator, W: Write>(writer: &mut W, books: &Books<A>) -> io::Result<()>
+    ensures { Sends result (W.contents writer.old) (W.contents writer.new) (before_text books.now) }
+{
+    send(writer, b",\"out\":[0],\"changes\":[")?;
+    send_changes(writer, &books.changes)?;
+    send_long(writer, b"],\"next\":", books.next)
+}
+
+/// The tokens that are on their way before the first event shown.
+fn send_start<A: Allocator, W: Write>(writer: &mut W, books: &Books<A>) -> io::Result<()>
+    ensures { Sends result (W.contents writer.old) (W.contents writer.new) (start_text books.now) }
+{
+    send(writer, b",\"numbers\":[")?;
+    send_numbers(writer, &books.numbers)?;
+    send(writer, b"],\"start\":[")?;
+    send_tokens(writer, &books.tokens)
+}
+
+/// Writes the data of a run on so many elements, which have so many frames in all, from event number `first` on: one JSON object with what
+/// there is before that event, and with an entry for each event, each on a line. `books` are the books of these events: their entries go in
+/// pairs with the events, and the shorter list ends it. The writer is called until it has taken all of it; a call that takes no byte is a fault.
+/// After an `Err` a beginning of the text was written. Takes no memory.
 pub fn write_data<A: Allocator, W: Write>(
     writer: &mut W,
     elements: u32,
     frames: u32,
-    start: &[Token],
+    first: u64,
     events: &[(u32, Token)],
-    entries: &[Entry<A>],
+    books: &Books<A>,
 ) -> io::Result<()>
-    ensures { Sends result (W.contents writer.old) (W.contents writer.new) (data_text elements frames start.now events.now entries.now) }
+    ensures { Sends result (W.contents writer.old) (W.contents writer.new) (data_text elements frames first events.now books.now) }
 {
-    send_start(writer, elements, frames, start)?;
+    send_size(writer, elements, frames, first)?;
+    send_before(writer, books)?;
+    send_start(writer, books)?;
     send(writer, b"],\"events\":[")?;
-    send_events(writer, events, entries)?;
+    send_events(writer, events, &books.entries)?;
     send(writer, b"\n]}")
 }

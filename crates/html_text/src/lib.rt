@@ -12,4 +12,4 @@ mod style;
 mod tokens;
 
 pub use data::write_data;
-pub use page::{Part, write_part};
+pub use page::{Part, write_mark, write_part};

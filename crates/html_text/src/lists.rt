@@ -4,7 +4,7 @@
 pub(crate) const LISTS: &[u8] = br##"// ---- the lists beside it
 let picked = null, pos = -1, follow = 0;
 function choose(p) { picked = p; if (p) pause(); show(); }
-const evButton = (n, text) => el('button', {class: 'ev' + (n === pos ? ' cur' : ''), on: () => go(n)}, text || String(n));
+const evButton = (n, text) => el('button', {class: 'ev' + (n === pos ? ' cur' : ''), on: () => go(n)}, text || String(no(n)));
 const tokButton = (t, cls, text) => el('button', {class: 'chip ' + cls + (picked && picked.t === t ? ' sel' : ''), title: word(carries(TOK[t])),
     on: () => choose({t: t})}, text || brief(carries(TOK[t]), 16));
 function info(n) {
@@ -14,9 +14,9 @@ function info(n) {
   const close = el('button', {style: 'float:right', 'aria-label': 'Close', on: () => choose(null)}, '\u2715');
   if (picked.t !== undefined) {
     const t = picked.t, T = TOK[t], m = MADE[t], k = TAKEN[t];
-    fill(box, close, el('h2', {}, 'Token ' + t), el('div', {}, el('b', {}, word(carries(T))), ' for ' + whereTo(T, -1) + '.'),
-      el('div', {}, m < 0 ? 'It was there at the start.' : ['Made by ', evButton(m, 'event ' + m), ' ', el('span', {class: 'none'}, doing(m))]),
-      el('div', {}, k === LATER ? 'It is never taken.' : ['Taken by ', evButton(k, 'event ' + k), ' ', el('span', {class: 'none'}, doing(k))]));
+    fill(box, close, el('h2', {}, 'Token ' + numberOf(t)), el('div', {}, el('b', {}, word(carries(T))), ' for ' + whereTo(T, -1) + '.'),
+      el('div', {}, m < 0 ? D.first ? 'It was made before event ' + D.first + '.' : 'It was there at the start.' : ['Made by ', evButton(m, 'event ' + no(m)), ' ', el('span', {class: 'none'}, doing(m))]),
+      el('div', {}, k === LATER ? 'It is never taken.' : ['Taken by ', evButton(k, 'event ' + no(k)), ' ', el('span', {class: 'none'}, doing(k))]));
   } else {
     const c = CODE[picked.ip], list = c.ev;
     let a = 0, b = list.length;
@@ -26,7 +26,7 @@ function info(n) {
       el('div', {}, 'goes to: ', c.d.filter(d => d).map(d => name(d.ip) + ' (' + at(d.ip) + '), ' + SIDE[d.port]).join('; ') ||
           'no instruction of its block', c.slot === null ? '' : '; slot ' + c.slot),
       el('div', {style: 'margin-top:.3rem'}, many(list.length, 'event'), list.length ? ': ' : '.', from ? '\u2026 ' : '',
-          list.slice(from, to).map(x => evButton(x, x + ' \u00b7 frame ' + TOK[EV[x][1]][1])), to < list.length ? ' \u2026' : ''));
+          list.slice(from, to).map(x => evButton(x, no(x) + ' \u00b7 frame ' + TOK[EV[x][1]][1])), to < list.length ? ' \u2026' : ''));
   }
 }
 function doing(n) { const t = TOK[EV[n][1]]; return t[0] === 'i' ? name(t[2]) + ' (' + at(t[2]) + '), frame ' + t[1] : whereTo(t, -1); }
@@ -49,14 +49,14 @@ function lists(n, s, pool, f) {
     const order = b && b.slots <= 20 ? [...Array(b.slots).keys()] : full.map(x => x[0]).sort((x, y) => x - y);
     if (c && c[0] === 's' && c[1] === fr && !order.includes(c[2])) order.push(c[2]);
     for (const r of order) {
-      const v = mine.get(r), q = v && v.s, k = skey(fr, r);
-      slots.push(el(q ? 'button' : 'span', {class: 'slot' + (q ? ' full' : '') + (hit(k) ? ' hit' : ''), on: q ? () => choose({t: EV[v.ev][1]}) :
+      const v = mine.get(r), q = v && v.s, k = skey(fr, r), known = q && v.ev >= 0;
+      slots.push(el(known ? 'button' : 'span', {class: 'slot' + (q ? ' full' : '') + (hit(k) ? ' hit' : ''), on: known ? () => choose({t: EV[v.ev][1]}) :
           undefined, title: 'slot ' + r + ': ' + stands(q)}, el('small', {}, r), !q ? '' : q[0] === 'c' ? many(q[1], 'credit') : q[0] === 'w' ?
           'asks ' + short(q[1]) : q[0] === 'd' ? 'drain ' + q[1] : [brief(q[1], 14), ' ', el('small', {}, q[0])]));
     }
     cards.push(el('div', {class: 'frame' + (fr === f ? ' cur' : '')}, el('button',
         {title: 'Show this frame in the code', on: () => { $('fsel').value = 'f'; follow = fr; frameMenu(fr); show(); }}, 'frame ' + fr),
-        el('span', {class: 'none'}, ' ' + (b ? bname(b) : 'just given') + (E > 1 ? ', element ' + fr % E : '')),
+        el('span', {class: 'none'}, ' ' + (b ? bname(b) : o.ev < 0 ? '' : 'just given') + (E > 1 ? ', element ' + fr % E : '')),
         el('div', {class: 'slots'}, slots.length ? slots : el('span', {class: 'none'}, 'all slots empty'))));
   }
   if (near.length < used.length) cards.push(el('div', {class: 'none'}, 'and ' + (used.length - near.length) + ' more frames'));
@@ -80,11 +80,12 @@ function lists(n, s, pool, f) {
   }));
   // requests
   const rq = [];
-  for (let k = s.qh; k < s.qt && rq.length < 12; k++) { const t = EV[REQ[k]][1];
-      rq.push(el('li', {}, tokButton(t, 'wait', 'frame'), el('span', {class: 'to'}, ' for ' + word(TOK[t][1])))); }
+  for (let k = s.qh; k < s.qt && rq.length < 12; k++) { const [to, m] = REQ[k];
+      rq.push(el('li', {}, m < 0 ? el('span', {class: 'chip wait'}, 'frame') : tokButton(EV[m][1], 'wait', 'frame'),
+      el('span', {class: 'to'}, ' for ' + word(to)))); }
   let more = s.qt - s.qh - rq.length;
   s.slots.forEach((v, k) => { if (v.s[0] === 'w') {
-      if (rq.length < 24) rq.push(el('li', {}, tokButton(EV[v.ev][1], 'wait', 'credit'),
+      if (rq.length < 24) rq.push(el('li', {}, v.ev < 0 ? el('span', {class: 'chip wait'}, 'credit') : tokButton(EV[v.ev][1], 'wait', 'credit'),
       el('span', {class: 'to'}, ' for ' + word(v.s[1]) + ', in slot ' + (k % 512) + ' of frame ' + Math.floor(k / 512)))); else more++; } });
   fill($('reqs'), rq.length ? el('ul', {class: 'list'}, rq, more > 0 ? el('li', {class: 'none'}, 'and ' + more + ' more') : '') :
       el('span', {class: 'none'}, 'No request waits for a frame or a credit.'));
@@ -165,10 +166,10 @@ function timeline(n) {
     c.fillText(s.length * 6.7 > bw - 6 ? s.slice(0, Math.floor((bw - 8) / 6.7)) : s, x + bw / 2, mid + 3.5);
     if (E > 6) c.fillText('el ' + EV[m][0], x + bw / 2, mid + 18);
     if (m === n) { c.strokeStyle = col('defer'); c.lineWidth = 2; c.strokeRect(x + 1, y + 1, bw - 2, ZL - 3); }
-    if (m === n || m % 5 === 0) { c.fillStyle = m === n ? col('defer') : col('dim'); c.fillText(String(m), x + bw / 2, YZ - 5); }
+    if (m === n || no(m) % 5 === 0) { c.fillStyle = m === n ? col('defer') : col('dim'); c.fillText(String(no(m)), x + bw / 2, YZ - 5); }
   }
-  cv.setAttribute('aria-valuemax', N - 1); cv.setAttribute('aria-valuenow', n);
-      cv.setAttribute('aria-valuetext', n < 0 ? 'start' : 'event ' + n + ': ' + doing(n));
+  cv.setAttribute('aria-valuemin', no(-1)); cv.setAttribute('aria-valuemax', no(N - 1)); cv.setAttribute('aria-valuenow', no(n));
+      cv.setAttribute('aria-valuetext', n < 0 ? 'start' : 'event ' + no(n) + ': ' + doing(n));
 }
 function jump(ev) {
   const r = cv.getBoundingClientRect(), x = ev.clientX - r.left - PADL, y = ev.clientY - r.top, IW = r.width - PADL - 4;
@@ -181,7 +182,7 @@ addEventListener('pointerup', () => { drag = false; });
 
 // ---- moving
 let timer = null, hashing = null;
-const hashOf = () => '#event=' + (pos < 0 ? 'start' : pos);
+const hashOf = () => '#event=' + (pos < 0 ? 'start' : no(pos));
 function putHash() { hashing = null; if (location.hash !== hashOf()) try { history.replaceState(null, '', hashOf()); } catch (x) {
     location.replace(hashOf()); } }
 function setHash() { $('link').setAttribute('href', hashOf()); if (!hashing) hashing = setTimeout(putHash, 250); }
@@ -192,7 +193,8 @@ function show() {
   draw(blocksFor(n, f, s));
   fill($('say'), sentence(n), n === N - 1 ? ending() : '');
   $('say').setAttribute('aria-live', timer ? 'off' : 'polite');
-  $('at').textContent = n < 0 ? 'start, of ' + many(N, 'event') : 'event ' + n + ' (0 to ' + (N - 1) + ')';
+  $('at').textContent = n < 0 ? 'start' + (D.first ? ', before event ' + D.first : '') + ', of ' + many(N, 'event') :
+      'event ' + no(n) + ' (' + D.first + ' to ' + no(N - 1) + ')';
   $('first').disabled = $('back').disabled = n < 0; $('next').disabled = $('last').disabled = n >= N - 1;
   const focus = marks(n, s, pool, f);
   lists(n, s, pool, f); info(n); timeline(n); setHash();
@@ -214,11 +216,11 @@ function play() {
   timer = setTimeout(tick, Math.max(16, 1000 / +$('speed').value));
   show();
 }
-function fromHash() { const m = /event=(start|-?\d+)/.exec(location.hash); return m ? (m[1] === 'start' ? -1 : Math.min(N - 1, Math.max(-1, +m[1]))) :
+function fromHash() { const m = /event=(start|-?\d+)/.exec(location.hash); return m ? (m[1] === 'start' ? -1 : Math.min(N - 1, Math.max(-1, m[1] - D.first))) :
     null; }
 $('first').onclick = () => { pause(); go(-1); }; $('back').onclick = () => { pause(); go(pos - 1); };
     $('next').onclick = () => { pause(); go(pos + 1); }; $('last').onclick = () => { pause(); go(N - 1); }; $('play').onclick = play;
-$('goto').onchange = () => { const v = $('goto').value.trim(); if (/^\d+$/.test(v)) { pause(); go(+v); } $('goto').value = ''; };
+$('goto').onchange = () => { const v = $('goto').value.trim(); if (/^\d+$/.test(v)) { pause(); go(v - D.first); } $('goto').value = ''; };
 $('fsel').onchange = () => { if ($('fsel').value === 'f') follow = frameOf(pos); show(); };
 $('bsel').onchange = () => { show(); }; $('zsel').onchange = () => { scale(); show(); };
 addEventListener('keydown', ev => {
@@ -244,8 +246,8 @@ const total = BLOCKS.filter(b => b.used).reduce((a, b) => a + b.code.length, 0),
 fill($('bsel'), el('option', {value: 'run'}, 'of this run'), el('option', {value: 'follow'}, 'of the event'), el('option', {value: 'all'}, 'all'),
     BLOCKS.map(b => el('option', {value: b.n}, bname(b) + (b.used ? '' : ', not used'))));
 $('bsel').value = total <= 45 || BLOCKS.length - idle.length < 2 ? 'run' : 'follow';
-if (idle.length) $('note').textContent = 'Not used in this run: ' + idle.map(bname).join(', ') + '.';
-$('sub').textContent = [many(N, 'event'), many(E, 'element'), many(BLOCKS.length, 'code block'), many(CODE.length, 'instruction'),
+if (idle.length) $('note').textContent = (D.first ? 'Not used by these events: ' : 'Not used in this run: ') + idle.map(bname).join(', ') + '.';
+$('sub').textContent = [(D.first ? 'the last ' : '') + many(N, 'event'), many(E, 'element'), many(BLOCKS.length, 'code block'), many(CODE.length, 'instruction'),
     'end: ' + END].join(' \u00b7 ');
 { const m = /^main (\S+)$/m.exec($('source').textContent); if (m) { document.title = 'Run of ' + m[1] + ': ' + END; } }
 for (const d of document.querySelectorAll('#plain details')) d.open = false;

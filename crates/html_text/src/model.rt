@@ -63,10 +63,12 @@ const HELP = {sync: 'Waits for both tokens, then sends a signal (0).', switch: '
       give: 'Gets a credit back from an iteration that is over.', drain: 'Waits until all credits of the loop are back.',
       release: 'Gives the frame back, and tells so.'};
 
-// ---- tokens are numbered: those of the start, then all that were made, in order
+// ---- tokens and events have places here, from 0 on: first the tokens that are there before the first event, then all that are made, in order
 const EV = D.events, N = EV.length, E = D.elements, TOK = [], MADE = [], FIRST = new Int32Array(N + 2);
 for (const t of D.start) { TOK.push(t); MADE.push(-1); }
-const START = TOK.length;
+const START = TOK.length, PLACE = new Map(D.numbers.map((k, i) => [k, i]));
+const no = n => D.first + n, numberOf = t => t < START ? D.numbers[t] : D.next + t - START;
+for (const ev of EV) ev[1] = ev[1] >= D.next ? START + ev[1] - D.next : PLACE.get(ev[1]);
 for (let n = 0; n < N; n++) { FIRST[n] = TOK.length; for (const t of EV[n][4]) { TOK.push(t); MADE.push(n); } }
 FIRST[N] = FIRST[N + 1] = TOK.length;
 const TAKEN = new Int32Array(TOK.length).fill(LATER), COUNT = new Int32Array(N + 1);
@@ -74,7 +76,7 @@ COUNT[0] = START;
 let TOP = START;
 for (let n = 0; n < N; n++) {
   const t = EV[n][1], T = TOK[t];
-  if (!T || TAKEN[t] !== LATER || MADE[t] >= n) { fail('Event ' + n + ' takes a token that is not there.'); return; }
+  if (!T || TAKEN[t] !== LATER || MADE[t] >= n) { fail('Event ' + no(n) + ' takes a token that is not there.'); return; }
   TAKEN[t] = n;
   COUNT[n + 1] = COUNT[n] - 1 + EV[n][4].length;
   if (COUNT[n + 1] > TOP) TOP = COUNT[n + 1];
@@ -83,35 +85,39 @@ for (let n = 0; n < N; n++) {
 const born = n => n < 0 ? START : FIRST[n + 1];  // how many tokens there have been after event n
 
 // ---- the state. Values are never changed in place, so that copies are cheap.
-const REQ = [];  // all requests that ever queued
+const REQ = [];  // all requests that ever queued, each with its event
 const BEFORE = new Array(N);  // what stood at the place that an event changed
 function fresh() { return {slots: new Map(), cells: new Map(), out: new Map(), outs: new Map(), qh: 0, qt: 0}; }
 function copy(s) { return {slots: new Map(s.slots), cells: new Map(s.cells), out: new Map(s.out), outs: new Map(s.outs), qh: s.qh, qt: s.qt}; }
-function settle(s, toks, n) {  // a frame belongs to the block that its tokens are for
+function settle(s, toks) {  // a frame belongs to the block that its tokens are for
   for (const t of toks) if (t[0] === 'i') { const o = s.out.get(t[1]); if (o && o.b < 0 && CODE[t[2]]) s.out.set(t[1], {b: CODE[t[2]].b, ev: o.ev}); }
 }
 const skey = (f, r) => f * 512 + r;
-function apply(s, n, note) {
-  const ev = EV[n], c = ev[3];
+function change(s, c, n, note) {  // gives what stood there
   let was;
-  if (c) switch (c[0]) {
+  switch (c[0]) {
     case 's': { const k = skey(c[1], c[2]); was = s.slots.get(k); if (c[3]) s.slots.set(k, {s: c[3], ev: n}); else s.slots.delete(k); break; }
     case 'v': was = s.cells.get(c[1]); s.cells.set(c[1], {v: c[2], ev: n, n: 0}); break;
     case '+': was = s.cells.get(c[1]); s.cells.set(c[1], {more: was, cont: c[2], ev: n, n: (was ? was.n : 0) + 1}); break;
     case 'o': s.out.set(c[1], {b: -1, ev: n}); break;
     case 'f': was = s.out.get(c[1]); s.out.delete(c[1]); break;
-    case 'q': if (note) REQ.push(n); s.qt++; break;
+    case 'q': if (note) REQ.push([c[1], n]); s.qt++; break;
     case 'h': was = s.out.get(c[1]); s.out.set(c[1], {b: -1, ev: n}); s.qh++; break;
     case 'p': s.outs.set(c[1], {v: c[2], ev: n}); break;
   }
-  settle(s, ev[4], n);
+  return was;
+}
+function apply(s, n, note) {
+  const ev = EV[n], was = ev[3] ? change(s, ev[3], n, note) : undefined;
+  settle(s, ev[4]);
   if (note) BEFORE[n] = was;
 }
 const weight = s => s.slots.size + s.cells.size + s.out.size + s.outs.size, SNAP = [];
 {
   const s = fresh();
   for (const f of D.out) s.out.set(f, {b: -1, ev: -1});
-  settle(s, D.start, -1);
+  for (const c of D.changes) if (c) change(s, c, -1, true);
+  settle(s, D.start);
   let last = -1;
   SNAP.push({n: -1, s: copy(s)});
   for (let n = 0; n < N; n++) { apply(s, n, true); if (n - last >= Math.max(500, weight(s) / 2)) { SNAP.push({n: n, s: copy(s)}); last = n; } }
@@ -179,10 +185,11 @@ function frameOf(n) {  // the frame that an event is of, or that its token came 
   return START && D.start[0][0] === 'i' ? D.start[0][1] : 0;
 }
 function sentence(n) {
-  if (n < 0) return ['Before the first event: ', many(START, 'token'), START === 1 ? ' is' : ' are', ' on the way: ',
-      D.start.map(t => word(carries(t)) + ' to ' + whereTo(t, t[1])).join('; '), '.'];
+  if (n < 0) return ['Before ' + (D.first ? 'event ' + D.first : 'the first event') + ': ', many(START, 'token'), START === 1 ? ' is' : ' are',
+      ' on the way: ', D.start.slice(0, 18).map(t => word(carries(t)) + ' to ' + whereTo(t, D.first ? -1 : t[1])).join('; '), START > 18 ?
+      '; and ' + (START - 18) + ' more.' : '.'];
   const [e, k, deed, c, made] = EV[n], t = TOK[k], b = s => el('b', {}, s), out = [], was = BEFORE[n], f = t[0] === 'i' ? t[1] : -1;
-  out.push(b('Event ' + n), ', element ' + e);
+  out.push(b('Event ' + no(n)), ', element ' + e);
   switch (t[0]) {
     case 'i': {
       const i = CODE[t[2]], two = i && i.two;

@@ -1,7 +1,7 @@
 //! The page around the texts and the data.
 
-ghost use Rattle.std.specs.Prelude.{◌++◌};
-ghost use Rattle.html_text.specs.PageText.{part_text};
+ghost use Rattle.std.specs.Prelude.{◌≡◌, ◌++◌};
+ghost use Rattle.html_text.specs.PageText.{part_text, large_mark};
 ghost use Rattle.sink.specs.Sends.{Sends};
 
 use crate::lists::LISTS;
@@ -48,4 +48,25 @@ pub fn write_part<W: Write>(writer: &mut W, part: Part) -> io::Result<()>
         Part::ToData => send(writer, TO_DATA),
         Part::Script => send_script(writer),
     }
+}
+
+/// A page of more events than this is slow to open.
+const LARGE: usize = 200_000;
+
+fn large_mark(events: usize) -> &'static [u8]
+    ensures { result.now ≡ large_mark events }
+{
+    if LARGE < events {
+        b"<!-- large -->\n"
+    } else {
+        b""
+    }
+}
+
+/// Writes what stands behind a page of so many events: a mark, if they are many. The writer is called until it has taken all of it; a call that
+/// takes no byte is a fault. After an `Err` a beginning of the text was written. Takes no memory.
+pub fn write_mark<W: Write>(writer: &mut W, events: usize) -> io::Result<()>
+    ensures { Sends result (W.contents writer.old) (W.contents writer.new) (large_mark events) }
+{
+    send(writer, large_mark(events))
 }

@@ -54,8 +54,8 @@ fn send_token<W: Write>(writer: &mut W, token: &Token) -> io::Result<()>
     }
 }
 
-/// What stands before a token of a list.
-fn comma(place: usize) -> &'static [u8]
+/// What stands before a thing of a list.
+pub(crate) fn comma(place: usize) -> &'static [u8]
     ensures { result.now ≡ comma place }
 {
     match place {

@@ -27,7 +27,7 @@ use Rattle.element.specs.Steps.{Does, IsAfter, place_of}
 use Rattle.replay.specs.declared.moment.Deed.TheVariants as deed
 use Rattle.replay.specs.declared.entry.Change.{Change}
 use Rattle.replay.specs.declared.entry.Change.TheVariants as change
-use Rattle.replay.specs.declared.entry.Entry.{Entry}
+use Rattle.replay.specs.Views.{EntryView}
 use Rattle.replay.specs.declared.extent.Extent.{Extent}
 use Rattle.replay.specs.Moments.{at_slot, deed_of}
 use Rattle.replay.specs.Books.{Book, IsEntry, IsInOrder, change_of, changed, machine_of, slot_change}
@@ -200,15 +200,15 @@ module _ (p : Program) (x : Extent) (l k : LaneView) (whole : IsWhole p x l) (z 
       (subst (λ (ts : List Token). ServesFirst l.held.part t.to t.word ts k.held.part) (sym came.makes)
       (subst (λ (u : Token). ServesFirst l.held.part u.to u.word does.made k.held.part) token_same does.first)) happens)
 
-  pub enters : {A : Type 0} (u v : SlotState) (entry : Entry A) (numbers2 : List ℕ) (next2 : ℕ) → StateIs l (place_used p t.to) u
+  pub enters : (u v : SlotState) (entry : EntryView) (numbers2 : List ℕ) (next2 : ℕ) → StateIs l (place_used p t.to) u
       → StateIs k (place_used p t.to) v → slice_get numbers at ≡ Some entry.number
-      → entry.made.items ≡ drop (length q - 1) k.held.queue → entry.deed ≡ deed_by t.to u v (length entry.made.items)
-      → entry.change ≡ change_by (outputs_of p) t.to t.word (place_used p t.to) v entry.made.items
-      → numbers2 ≡ remove numbers at ++ range_with_len next (length entry.made.items) → next2 ≡ next + length entry.made.items
+      → entry.made ≡ drop (length q - 1) k.held.queue → entry.deed ≡ deed_by t.to u v (length entry.made)
+      → entry.change ≡ change_by (outputs_of p) t.to t.word (place_used p t.to) v entry.made
+      → numbers2 ≡ remove numbers at ++ range_with_len next (length entry.made) → next2 ≡ next + length entry.made
       → (m : Book) × IsEntry p z e t b m entry × Records k numbers2 next2 m
   unfolding event came
   enters u v entry numbers2 next2 before after number made deed change numbers_are next_is =
-      let ts : List Token = entry.made.items in
+      let ts : List Token = entry.made in
       let made_same : ts ≡ does.made = made_is ts made in
       let s : Store = came.next.store in
       let change_same : entry.change ≡ change_of p s t.to t.word ts = change

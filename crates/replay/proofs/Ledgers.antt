@@ -14,19 +14,20 @@ use Rattle.tags.specs.declared.token.Token.{Token}
 use Rattle.tags.specs.Addresses.{element_of}
 use Rattle.semantics.specs.Program.{Program, first_of}
 use Rattle.semantics.specs.Rule.{token}
-use Rattle.semantics.specs.Machine.{Size, Events, input_tokens, at_start}
+use Rattle.semantics.specs.Machine.{Store, Size, Events, input_tokens, at_start}
 use Rattle.element.specs.Near.{Bounds, IsNearToken}
 use Rattle.element.specs.Parts.{IsPart}
 use Rattle.element.specs.Held.{LaneView, IsFor, fixed_of, bounds_at, with_more}
 use Rattle.element.specs.Openings.{StartsAs}
-use Rattle.replay.specs.declared.entry.Entry.{Entry}
-use Rattle.replay.specs.Books.{Book, IsEntry, AreEntries, opening}
+use Rattle.replay.specs.Views.{EntryView}
+use Rattle.replay.specs.declared.entry.Change.{Change}
+use Rattle.replay.specs.Books.{Book, IsEntry, AreEntries, opening, changed, all_changed}
 use Rattle.replay.specs.Entering.{start_tokens, IsWhole, Records}
 use Rattle.replay.specs.declared.extent.Extent.{Extent}
 use Rattle.replay.proofs.Entering.{on_first}
 
 -- one more entry
-pub entries_push : {A : Type 0} (p : Program) (z : Size) (a b c : Book) (events : Events) (xs : List (Entry A)) (ev : ℕ × Token) (x : Entry A)
+pub entries_push : (p : Program) (z : Size) (a b c : Book) (events : Events) (xs : List EntryView) (ev : ℕ × Token) (x : EntryView)
     → AreEntries p z a events xs b → IsEntry p z ev.0 ev.1 b c x
     → AreEntries p z a (events ++ ev ∷ []) (xs ++ x ∷ []) c
 entries_push p z a b c [] [] ev x w e = (c, subst (λ (m : Book). IsEntry p z ev.0 ev.1 m c x) w e, refl)
@@ -126,14 +127,24 @@ opened_records p l k inputs tokens numbers more next after count starts none no_
     }
 
 -- the next entry of the events in order
-pub entries_next : {A : Type 0} (p : Program) (z : Size) (a b c : Book) (events : Events) (i : ℕ) (ev : ℕ × Token) (xs ys : List (Entry A)) (x : Entry A)
+pub entries_next : (p : Program) (z : Size) (a b c : Book) (events : Events) (i : ℕ) (ev : ℕ × Token) (xs ys : List EntryView) (x : EntryView)
     → i < length events → ev ≡ get_or events i ev → ys ≡ xs ++ x ∷ []
     → AreEntries p z a (take i events) xs b → IsEntry p z ev.0 ev.1 b c x → AreEntries p z a (take (i + 1) events) ys c
-entries_next {A} p z a b c events i ev xs ys x low is more w e =
+entries_next p z a b c events i ev xs ys x low is more w e =
     let taken : take (i + 1) events ≡ take i events ++ ev ∷ [] = take_more events i ev low ∙ ap (λ (y : ℕ × Token). take i events ++ y ∷ []) (sym is) in
     subst (λ (es : Events). AreEntries p z a es ys c) (sym taken)
-    (subst (λ (ls : List (Entry A)). AreEntries p z a (take i events ++ ev ∷ []) ls c) (sym more) (entries_push p z a b c (take i events) xs ev x w e))
+    (subst (λ (ls : List EntryView). AreEntries p z a (take i events ++ ev ∷ []) ls c) (sym more) (entries_push p z a b c (take i events) xs ev x w e))
 
-pub entries_all : {A : Type 0} (p : Program) (z : Size) (a b : Book) (events : Events) (i : ℕ) (xs : List (Entry A)) → length events ≤ i
+pub entries_all : (p : Program) (z : Size) (a b : Book) (events : Events) (i : ℕ) (xs : List EntryView) → length events ≤ i
     → AreEntries p z a (take i events) xs b → AreEntries p z a events xs b
 entries_all p z a b events i xs high w = subst (λ (es : Events). AreEntries p z a es xs b) (take_all i events high) w
+
+-- one more change
+changed_push : (cs : List Change) (c : Change) (s : Store) → all_changed (cs ++ c ∷ []) s ≡ changed c (all_changed cs s)
+changed_push [] c s = refl
+changed_push (d ∷ cs) c s = changed_push cs c (changed d s)
+
+pub changed_more : (cs ds : List Change) (c : Change) (s m n : Store) → ds ≡ cs ++ c ∷ [] → all_changed cs s ≡ m → n ≡ changed c m
+    → all_changed ds s ≡ n
+changed_more cs ds c s m n more so_far then = ap (λ (l : List Change). all_changed l s) more ∙ changed_push cs c s
+    ∙ ap (λ (x : Store). changed c x) so_far ∙ sym then

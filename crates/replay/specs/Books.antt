@@ -10,7 +10,7 @@ use Rattle.semantics.specs.Machine.{CellState, Full, Deferred, Store, Machine, S
 use Rattle.semantics.specs.Machine.{with_out, with_requests, with_output, with_done}
 use Rattle.replay.specs.declared.entry.Change.{Change}
 use Rattle.replay.specs.declared.entry.Change.TheVariants as change
-use Rattle.replay.specs.declared.entry.Entry.{Entry}
+use Rattle.replay.specs.Views.{EntryView, BooksView}
 use Rattle.replay.specs.Moments.{deed_of}
 
 -- CHANGES. The store after a change of it: one slot, cell, frame, request or output is another, and all else is as it was.
@@ -29,6 +29,11 @@ changed (change.Queued c) s = with_requests s (s.requests ++ c ∷ [])
 changed (change.Handed f) s = with_requests s (drop 1 s.requests)
 changed (change.Output j v) s = with_output s j v
 changed (change.Done j w) s = with_done s
+
+-- and after all of these, one after the other
+abbrev pub all_changed : List Change → Store → Store
+all_changed [] s = s
+all_changed (c ∷ cs) s = all_changed cs (changed c s)
 
 -- the slot that an instruction uses, if it uses one, has the state that the store has
 abbrev pub slot_change : Store → ℕ → Option ℕ → Change
@@ -83,11 +88,11 @@ abbrev pub opening : Program → List ℤ → Book
 opening p inputs = opened_on (at_start p inputs)
 
 -- The entry of an event that took this token on this element, with the books before it and after it.
-pub record IsEntry {A : Type 0} (p : Program) (z : Size) (e : ℕ) (t : Token) (old new : Book) (x : Entry A) : Type 0 where
+pub record IsEntry (p : Program) (z : Size) (e : ℕ) (t : Token) (old new : Book) (x : EntryView) : Type 0 where
   pub event : Event p z e t (machine_of old) (machine_of new)
-  pub made : x.made.items ≡ event.made
-  pub deed : x.deed ≡ deed_of p old.store new.store t.to x.made.items
-  pub change : x.change ≡ change_of p new.store t.to t.word x.made.items
+  pub made : x.made ≡ event.made
+  pub deed : x.deed ≡ deed_of p old.store new.store t.to x.made
+  pub change : x.change ≡ change_of p new.store t.to t.word x.made
   -- THE BOOKS ARE COMPLETE: the store after the event is the store before it with this change.
   pub complete : new.store ≡ changed x.change old.store
   -- the token was on its way and had this number
@@ -95,13 +100,30 @@ pub record IsEntry {A : Type 0} (p : Program) (z : Size) (e : ℕ) (t : Token) (
   pub token : slice_get old.pool place ≡ Some t
   pub number : slice_get old.numbers place ≡ Some x.number
   -- it is on its way no more, and those that were made are, with the next numbers
-  pub pool : new.pool ≡ remove old.pool place ++ x.made.items
-  pub numbers : new.numbers ≡ remove old.numbers place ++ range_with_len old.next (length x.made.items)
-  pub next : new.next ≡ old.next + length x.made.items
-  pub in_order : IsInOrder old.store t.to x.made.items new.store
+  pub pool : new.pool ≡ remove old.pool place ++ x.made
+  pub numbers : new.numbers ≡ remove old.numbers place ++ range_with_len old.next (length x.made)
+  pub next : new.next ≡ old.next + length x.made
+  pub in_order : IsInOrder old.store t.to x.made new.store
 
 -- These are the entries of the events, from the books as they were to the books as they are then.
-abbrev pub AreEntries : {A : Type 0} → Program → Size → Book → Events → List (Entry A) → Book → Type 0
+abbrev pub AreEntries : Program → Size → Book → Events → List EntryView → Book → Type 0
 AreEntries p z old [] [] new = new ≡ old
 AreEntries p z old (ev ∷ later) (x ∷ xs) new = (mid : Book) × IsEntry p z ev.0 ev.1 old mid x × AreEntries p z mid later xs new
 AreEntries p z old events entries new = ⊥
+
+-- EARLIER EVENTS, of which less is kept: there are entries of them, from the books as they were to the books as they are then, and these changes
+-- lead from the one store to the other.
+pub record Passed (p : Program) (z : Size) (old : Book) (events : Events) (changes : List Change) (new : Book) : Type 0 where
+  pub entries : List EntryView
+  pub are : AreEntries p z old events entries new
+  pub sum : all_changed changes old.store ≡ new.store
+
+-- THE BOOKS OF A RUN'S EVENTS from one on, of a run on these inputs: what the machine has before the first of them, and their entries.
+pub record KeepsBooks (p : Program) (z : Size) (inputs : List ℤ) (earlier events : Events) (books : BooksView) : Type 0 where
+  pub first : Book
+  pub passed : Passed p z (opening p inputs) earlier books.changes first
+  pub tokens : books.tokens ≡ first.pool
+  pub numbers : books.numbers ≡ first.numbers
+  pub next : books.next ≡ first.next
+  pub last : Book
+  pub entries : AreEntries p z first events books.entries last

@@ -18,12 +18,12 @@ use Rattle.replay.specs.declared.moment.Deed.{Deed}
 use Rattle.replay.specs.declared.moment.Deed.TheVariants as deed
 use Rattle.replay.specs.declared.entry.Change.{Change}
 use Rattle.replay.specs.declared.entry.Change.TheVariants as change
-use Rattle.replay.specs.declared.entry.Entry.{Entry}
 use Rattle.replay.specs.declared.extent.Extent.{Extent}
 use Rattle.replay.specs.declared.slots.Place.{Place}
 use Rattle.replay.specs.declared.ledger.Ledger.{Ledger}
 use Rattle.replay.specs.Moments.{at_slot}
-use Rattle.replay.specs.Books.{Book, IsEntry, AreEntries, opening, frame_change, host_change}
+use Rattle.replay.specs.Views.{EntryView, BooksView}
+use Rattle.replay.specs.Books.{Book, IsEntry, AreEntries, Passed, KeepsBooks, opening, frame_change, host_change}
 
 -- The numbers are those of the program and of its machine.
 pub record IsExtent (p : Program) (width : ℕ) (x : Extent) : Type 0 where
@@ -103,16 +103,22 @@ pub record Records (l : LaneView) (given : List ℕ) (upcoming : ℕ) (b : Book)
   pub next : b.next ≡ upcoming
 
 -- Whatever the books are that the ledger has, this is the entry of the event, and the ledger has the books after it.
-abbrev pub Enters : {C A : Type 0} → Program → Ledger C A → ℕ × Token → Entry A → Ledger C A → Type 0
+abbrev pub Enters : {C A : Type 0} → Program → Ledger C A → ℕ × Token → EntryView → Ledger C A → Type 0
 Enters p old ev x new = (z : Size) (b : Book) → z.elements ≡ old.extent.elements → z.elements * z.frames ≡ old.extent.frames
     → Records old.lane old.numbers.items old.next b
     → (n : Book) × IsEntry p z ev.0 ev.1 b n x × Records new.lane new.numbers.items new.next n
 
 -- the same of all of these events
-abbrev pub EntersAll : {C A : Type 0} → Program → Ledger C A → Events → List (Entry A) → Type 0
+abbrev pub EntersAll : {C A : Type 0} → Program → Ledger C A → Events → List EntryView → Type 0
 EntersAll p old events entries = (z : Size) (b : Book) → z.elements ≡ old.extent.elements → z.elements * z.frames ≡ old.extent.frames
     → Records old.lane old.numbers.items old.next b
     → (n : Book) × AreEntries p z b events entries n
+
+-- Whatever the books are that the ledger has, these events were entered and these are their changes, and the ledger has the books after them.
+abbrev pub Passes : {C A : Type 0} → Program → Ledger C A → Events → List Change → Ledger C A → Type 0
+Passes p old events changes new = (z : Size) (b : Book) → z.elements ≡ old.extent.elements → z.elements * z.frames ≡ old.extent.frames
+    → Records old.lane old.numbers.items old.next b
+    → (n : Book) × Passed p z b events changes n × Records new.lane new.numbers.items new.next n
 
 -- the lane took the token at that place
 abbrev pub Took : LaneView → ℕ → LaneView → Type 0
@@ -134,7 +140,11 @@ pub record IsBlank {C A : Type 0} (p : Program) (g : Ledger C A) : Type 0 where
   pub numbers : g.numbers.items ≡ []
   pub next : g.next ≡ 0
 
+-- the ledger has the books of the start on these inputs
+abbrev pub Begins : {C A : Type 0} → Program → List ℤ → Ledger C A → Type 0
+Begins p inputs new = Records new.lane new.numbers.items new.next (opening p inputs)
+
 -- THE BOOKS of the events, from the start on these inputs on
-abbrev pub AreBooks : {A : Type 0} → Program → Extent → List ℤ → Events → List (Entry A) → Type 0
-AreBooks p x inputs events entries = (z : Size) → z.elements ≡ x.elements → z.elements * z.frames ≡ x.frames
-    → (last : Book) × AreEntries p z (opening p inputs) events entries last
+abbrev pub AreBooks : Program → Extent → List ℤ → Events → Events → BooksView → Type 0
+AreBooks p x inputs earlier events books = (z : Size) → z.elements ≡ x.elements → z.elements * z.frames ≡ x.frames
+    → KeepsBooks p z inputs earlier events books

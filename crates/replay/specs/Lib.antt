@@ -1,4 +1,5 @@
 pub mod Moments
+pub mod Views
 pub mod Books
 pub mod Held
 pub mod Nearby

@@ -4,9 +4,11 @@ ghost use Rattle.std.specs.Prelude.{◌≡◌, ◌+◌, ◌*◌, ◌≤◌, leng
 ghost use Rattle.tags.specs.declared.slot.SlotState.TheVariants.{Empty};
 ghost use Rattle.frame_store.specs.BankViews.{bank_states};
 ghost use Rattle.frame_store.specs.Slots.{all_empty};
-ghost use Rattle.replay.specs.Entering.{IsExtent, IsBlank, IsFreshLane};
+ghost use Rattle.replay.specs.Entering.{IsExtent, IsBlank, IsFreshLane, AreBooks};
 
+use crate::entry::Books;
 use crate::extent::Extent;
+use crate::fault::ReplayFault;
 use crate::ledger::Ledger;
 use element::instructions::Instructions;
 use element::lane::Lane;
@@ -15,6 +17,7 @@ use frame_store::bank::BankMut;
 use frame_store::store::Store;
 use istructure::Cells;
 use std::alloc::{AllocError, Allocator};
+use tags::token::Token;
 
 /// More events than there are in memory.
 const MOST: u64 = 9_223_372_036_854_775_807;
@@ -50,8 +53,8 @@ where
     )
 }
 
-/// A ledger in which nothing is entered yet, over a store of empty slots for all frames of the machine. It takes as much memory as the machine.
-pub fn open<'m, C: Instructions, A: Allocator>(
+// A ledger in which nothing is entered yet, over a store of empty slots for all frames of the machine. It takes as much memory as the machine.
+fn open<'m, C: Instructions, A: Allocator>(
     alloc: A,
     store: &'m mut Store<A>,
     code: &'m C,
@@ -74,4 +77,49 @@ where
         numbers,
         next: 0,
     })
+}
+
+// The books that the ledger keeps.
+fn keep_in<C: Instructions, A: Allocator + Clone>(
+    alloc: A,
+    ledger: Ledger<'_, C, A>,
+    code: &C,
+    inputs: &[i64],
+    earlier: &[(u32, Token)],
+    events: &[(u32, Token)],
+) -> Result<Books<A>, ReplayFault>
+    requires blank { IsBlank (C.program code.now) ledger }
+    requires extent { IsExtent (C.program code.now) (C.width code.now) ledger.extent }
+    requires few { length inputs.now ≤ 16 }
+    ensures { IfOk result (AreBooks (C.program code.now) ledger.entry.extent inputs.now earlier.now events.now) }
+{
+    let mut ledger = ledger;
+    let books = ledger.keep(alloc, code, inputs, earlier, events);
+    drop(ledger);
+    books
+}
+
+/// The books of `events` of a run on these inputs, before which there were the events `earlier`. The machine hands out the free frame of least
+/// number, and gives a frame that comes back to the request that has waited longest. What is answered is a run of the machine by these events.
+/// `NotARun` says that an event was not found to fit: nothing else is promised of it. It takes as much memory as the machine, and as the books.
+pub fn keep_books<C: Instructions, A: Allocator + Clone>(
+    alloc: A,
+    code: &C,
+    extent: Extent,
+    inputs: &[i64],
+    earlier: &[(u32, Token)],
+    events: &[(u32, Token)],
+) -> Result<Books<A>, ReplayFault>
+    requires extent { IsExtent (C.program code.now) (C.width code.now) extent }
+    requires few { length inputs.now ≤ 16 }
+    ensures { IfOk result (AreBooks (C.program code.now) extent inputs.now earlier.now events.now) }
+{
+    let mut store = Store::new(
+        alloc.clone()?,
+        1,
+        extent.frames as usize,
+        extent.slots as usize,
+    )?;
+    let ledger = open(alloc.clone()?, &mut store, code, extent)?;
+    keep_in(alloc, ledger, code, inputs, earlier, events)
 }

@@ -2,6 +2,7 @@
 
 use crate::moment::Deed;
 use std::alloc::Allocator;
+use std::marker::Model;
 use tags::slot::SlotState;
 use tags::token::{Cont, FrameId, Token, Word};
 use tags::value::Value;
@@ -65,4 +66,34 @@ pub struct Entry<A: Allocator> {
     pub change: Change,
     /// The tokens that it made, in order.
     pub made: Vec<Token, A>,
+}
+
+impl<A: Allocator> Model for Entry<A> {
+    ghost use Rattle.replay.specs.Views.{EntryView};
+
+    ghost Value = { EntryView };
+
+    ghost view = { λ e. record { number = e.number; deed = e.deed; change = e.change; made = e.made.items } };
+}
+
+/// The books of a run's events from one on: what the machine has before it, and an entry for each event.
+#[derive(Drop)]
+pub struct Books<A: Allocator> {
+    /// What the earlier events changed, one after the other. Of no earlier events there is none.
+    pub changes: Vec<Change, A>,
+    /// The tokens that are on their way before the first of the events, in the order in which they were made.
+    pub tokens: Vec<Token, A>,
+    /// The numbers of these tokens.
+    pub numbers: Vec<u64, A>,
+    /// The number of the next token that is made.
+    pub next: u64,
+    pub entries: Vec<Entry<A>, A>,
+}
+
+impl<A: Allocator> Model for Books<A> {
+    ghost use Rattle.replay.specs.Views.{BooksView};
+
+    ghost Value = { BooksView };
+
+    ghost view = { λ b. record { changes = b.changes.items; tokens = b.tokens.items; numbers = b.numbers.items; next = b.next; entries = b.entries.items } };
 }

@@ -5,11 +5,11 @@ ghost use Rattle.std.specs.List.{range_with_len};
 ghost use Rattle.semantics.specs.Program.{Program};
 ghost use Rattle.replay.specs.Books.{frame_change, host_change};
 ghost use Rattle.element.specs.Held.{fixed_of};
-ghost use Rattle.replay.specs.Entering.{IsExtent, IsWhole, IsBlank, StateIs, Took, Enters, EntersAll, AreBooks, start_tokens, place_used, deed_by, change_by};
+ghost use Rattle.replay.specs.Entering.{IsExtent, IsWhole, IsBlank, StateIs, Took, Enters, EntersAll, Passes, Begins, AreBooks, start_tokens, place_used, deed_by, change_by};
 ghost use Rattle.replay.specs.Entering.{place_change, request_change, fetch_change};
 
 use crate::acts::deed_at;
-use crate::entry::{Change, Entry};
+use crate::entry::{Books, Change, Entry};
 use crate::extent::Extent;
 use crate::fault::ReplayFault;
 use crate::moment::Deed;
@@ -325,28 +325,79 @@ impl<'m, C: Instructions, A: Allocator> Ledger<'m, C, A> {
         Ok(entries)
     }
 
-    /// The books of a run on these inputs: enters the tokens of the start, and then each of the events, and gives the entries. The machine
-    /// hands out the free frame of least number, and gives a frame that comes back to the request that has waited longest. What is answered is a
-    /// run of the machine by these events. `NotARun` says that an event was not found to fit: nothing else is promised of it. After an error the
-    /// ledger is of no use.
-    pub fn keep(
+    // Enters each of the events, and keeps of each only what it changed, if it changed anything. After an error the ledger is of no use.
+    fn pass_all(
         &mut self,
-        alloc: A,
+        alloc: &A,
         code: &C,
-        inputs: &[i64],
         events: &[(u32, Token)],
-    ) -> Result<Vec<Entry<A>, A>, ReplayFault>
+    ) -> Result<Vec<Change, A>, ReplayFault>
+    where
+        A: Clone,
+        requires whole { IsWhole (C.program code.now) self.old.extent self.old.lane }
+        requires extent { IsExtent (C.program code.now) (C.width code.now) self.old.extent }
+        ensures whole { IsWhole (C.program code.now) self.new.extent self.new.lane }
+        ensures extent { self.new.extent ≡ self.old.extent }
+        ensures passed { IfOk result (λ v. Passes (C.program code.now) self.old events.now v.items self.new) }
+    {
+        let mut changes = Vec::new(alloc.clone()?);
+        for event in events {
+            let entry = self.enter(alloc, code, event)?;
+            changes.push(entry.change)?;
+        }
+        Ok(changes)
+    }
+
+    // Enters the tokens of the start.
+    fn begin(&mut self, alloc: A, code: &C, inputs: &[i64]) -> Result<(), ReplayFault>
     where
         A: Clone,
         requires blank { IsBlank (C.program code.now) self.old }
         requires extent { IsExtent (C.program code.now) (C.width code.now) self.old.extent }
         requires few { length inputs.now ≤ 16 }
-        ensures { IfOk result (λ v. AreBooks (C.program code.now) self.old.extent inputs.now events.now v.items) }
+        ensures whole { IsWhole (C.program code.now) self.new.extent self.new.lane }
+        ensures extent { self.new.extent ≡ self.old.extent }
+        ensures begun { OnOk result (Begins (C.program code.now) inputs.now self.new) }
     {
-        let tokens = start_tokens(alloc.clone()?, self.extent.main, inputs)?;
+        let tokens = start_tokens(alloc, self.extent.main, inputs)?;
         self.lane.receive_all(&tokens)?;
         let next = self.next;
         self.next = number_all(&mut self.numbers, next, tokens.len())?;
-        self.enter_all(alloc, code, events)
+        Ok(())
+    }
+
+    /// The books of a run on these inputs: enters the tokens of the start, and then each of the events, and gives the entries of `events`, before
+    /// which there were those of `earlier`. The machine hands out the free frame of least number, and gives a frame that comes back to the
+    /// request that has waited longest. What is answered is a run of the machine by these events. `NotARun` says that an event was not found to
+    /// fit: nothing else is promised of it. After an error the ledger is of no use.
+    pub fn keep(
+        &mut self,
+        alloc: A,
+        code: &C,
+        inputs: &[i64],
+        earlier: &[(u32, Token)],
+        events: &[(u32, Token)],
+    ) -> Result<Books<A>, ReplayFault>
+    where
+        A: Clone,
+        requires blank { IsBlank (C.program code.now) self.old }
+        requires extent { IsExtent (C.program code.now) (C.width code.now) self.old.extent }
+        requires few { length inputs.now ≤ 16 }
+        ensures { IfOk result (AreBooks (C.program code.now) self.old.extent inputs.now earlier.now events.now) }
+    {
+        self.begin(alloc.clone()?, code, inputs)?;
+        let changes = self.pass_all(&alloc, code, earlier)?;
+        let tokens = self.tokens_from(alloc.clone()?, 0)?;
+        let mut numbers = Vec::new(alloc.clone()?);
+        numbers.extend_from_slice(&self.numbers)?;
+        let next = self.next;
+        let entries = self.enter_all(alloc, code, events)?;
+        Ok(Books {
+            changes,
+            tokens,
+            numbers,
+            next,
+            entries,
+        })
     }
 }

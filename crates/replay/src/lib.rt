@@ -14,10 +14,9 @@ mod replaying;
 mod slots;
 mod state;
 
-pub use books::open;
-pub use entry::{Change, Entry};
+pub use books::keep_books;
+pub use entry::{Books, Change, Entry};
 pub use extent::Extent;
 pub use fault::ReplayFault;
-pub use ledger::{Ledger, start_tokens};
 pub use moment::{Deed, Moment};
 pub use replaying::replay;

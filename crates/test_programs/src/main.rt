@@ -1,12 +1,13 @@
 //! Runs programs of all kinds, and looks at what is said of them. The words of the command line name the parts, each with words of its
-//! own behind it: `examples`, behind which the names of their files stand; `workbench` and `dots`, over random graphs; and
-//! `hostile_objects`. Behind these three a number of graphs or objects may stand, and their seed. Prints what each part found; where one
+//! own behind it: `examples` and `programs`, behind which the names of their files stand; `workbench` and `dots`, over random graphs; and
+//! `hostile_objects`. Behind the last three a number of graphs or objects may stand, and their seed. Prints what each part found; where one
 //! finds something that differs, that, with status 1.
 #![tactic(auto)]
 
 mod dots;
 mod examples;
 mod hostile_objects;
+mod programs;
 mod sizes;
 mod workbench;
 
@@ -19,7 +20,13 @@ use std::thread::Threads;
 use test_inputs::parts::{Named, named_parts};
 
 /// The names of the parts.
-const PARTS: [&str; 4] = ["examples", "workbench", "dots", "hostile_objects"];
+const PARTS: [&str; 5] = [
+    "examples",
+    "programs",
+    "workbench",
+    "dots",
+    "hostile_objects",
+];
 
 /// Whether all that a part looks at agrees. Prints what was found.
 fn part_agrees<R: Threads + Wait + Sync, W: Write>(
@@ -32,6 +39,9 @@ fn part_agrees<R: Threads + Wait + Sync, W: Write>(
     if part.name == "examples" {
         examples::tell_all(rt, files, out, part.words)?;
         return Ok(true);
+    }
+    if part.name == "programs" {
+        return programs::agree(rt, files, out, part.words);
     }
     let Some(sizes) = sizes_in(part.words) else {
         writeln!(out, "words: {} COUNT SEED", part.name)?;
@@ -52,7 +62,10 @@ fn main(rt: HostRuntime) -> anyhow::Result<ExitCode> {
     let mut out = io::writer(&rt);
     let parts = named_parts(alloc, &words, &PARTS)?;
     if parts.is_empty() {
-        writeln!(out, "words: examples, workbench, dots or hostile_objects")?;
+        writeln!(
+            out,
+            "words: examples, programs, workbench, dots or hostile_objects"
+        )?;
         return Ok(ExitCode::FAILURE);
     }
     for part in &parts {

@@ -1,6 +1,8 @@
 //! The whole program in memory, for programs that test it: words and an input in, a text and a status out.
 #![tactic(auto)]
 
+pub mod ways;
+
 use commands::serving::serve;
 use rounds::Open;
 use std::alloc::Global;

@@ -1,11 +1,13 @@
 //! Checks that the tutorial is as the program would have it now. The first word of the command line names the file of the page;
 //! after it `make` may stand. The page lies with the files that it names. Each command of the page is run again, and has to
-//! print what stands below it. Prints `agree`, or the first line that differs, with status 1. With `make` it prints the page as
+//! print what stands below it. Each program that the page lowers has to tell, in each mode and on up to 16 elements, what the graph beside
+//! it tells. Prints `agree`, or the first line that differs, with status 1. With `make` it prints the page as
 //! it should be, and each file that a command writes.
 #![tactic(auto)]
 
 mod drawings;
 mod pages;
+mod programs;
 mod shell;
 
 use pages::{first_difference, made_page};
@@ -34,6 +36,10 @@ fn main(rt: HostRuntime) -> anyhow::Result<ExitCode> {
         return Ok(ExitCode::FAILURE);
     }
     if let Some(fault) = &shell.fault {
+        writeln!(out, "{fault}")?;
+        return Ok(ExitCode::FAILURE);
+    }
+    if let Some(fault) = programs::first_fault(&rt, &rt, page.as_str())? {
         writeln!(out, "{fault}")?;
         return Ok(ExitCode::FAILURE);
     }

@@ -5,6 +5,7 @@
 //!
 //! - `cat FILE`;
 //! - `sed '/^main /q' FILE`, the graph of a file, without the inputs after it;
+//! - `sed 's/OLD/NEW/' FILE`, a file with NEW in place of OLD, which stands in it once and has no sign of a pattern;
 //! - `(sed '/^main /q' FILE; printf '5\n7\n')`, the graph with these inputs;
 //! - `ets WORDS` and `ets WORDS < FILE`.
 //!
@@ -18,6 +19,7 @@ use std::fs;
 use std::io::Write;
 use std::sync::Wait;
 use std::thread::Threads;
+use test_inputs::pieces::changed;
 use test_served::{Outcome, answer};
 
 /// The folder in which the page says that its files lie.
@@ -25,6 +27,9 @@ const FOLDER: &str = "tutorial/";
 
 /// The beginning of a stage that gives the graph of a file.
 const GRAPH_OF: &str = "sed '/^main /q' ";
+
+/// The beginning of a stage that gives a file with a change.
+const CHANGED: &str = "sed 's/";
 
 /// Runs commands. What they write to files is kept, and compared with those files.
 #[derive(Drop)]
@@ -145,6 +150,8 @@ impl<'a> Shell<'a> {
             self.read(file)?
         } else if let Some(file) = stage.strip_prefix(GRAPH_OF) {
             self.graph_of(file)?
+        } else if let Some(words) = stage.strip_prefix(CHANGED) {
+            self.with_change(words)?
         } else if let Some(group) = stage.strip_prefix("(") {
             self.graph_with_inputs(group)?
         } else {
@@ -200,5 +207,13 @@ impl<'a> Shell<'a> {
             }
         }
         Ok(text)
+    }
+
+    /// A file with a change. `words` are the old text, the new one and the file, as `sed` has them.
+    fn with_change(&self, words: &str) -> anyhow::Result<Vec<u8>> {
+        let (change, file) = words.split_once("/' ").context("no file")?;
+        let (old, new) = change.split_once('/').context("no change")?;
+        let text = self.read(file)?;
+        changed(self.alloc(), &text, old.as_bytes(), new.as_bytes())?.context("nothing is changed")
     }
 }

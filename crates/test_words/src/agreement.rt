@@ -3,7 +3,7 @@
 use clap::ArgMatches;
 use clap::error::ErrorKind;
 use command_line::{
-    Asked, Format, Inputs, Literals, Lowering, Mode, Request, RunOptions, Sizes, read_words,
+    Asked, EventFormat, Format, Inputs, Literals, Lowering, Mode, Request, RunOptions, Sizes, read_words,
     version_line,
 };
 use command_texts::{help_text, mistake_text, program_command};
@@ -96,9 +96,11 @@ fn options_without_mode(matches: &ArgMatches<'_>) -> Option<RunOptions> {
 
 fn format_in(word: &str) -> Option<Format> {
     if word == "text" {
-        Some(Format::Lines)
+        Some(Format::Events(EventFormat::Lines))
     } else if word == "chrome" {
-        Some(Format::Chrome)
+        Some(Format::Events(EventFormat::Chrome))
+    } else if word == "html" {
+        Some(Format::Html)
     } else {
         None
     }

@@ -1,34 +1,100 @@
 //! What is wrong with a program.
 
-use crate::message::Piece::{Bytes, Programming};
-use crate::message::{Message, one, plain};
-use crate::shown::Shown;
+use crate::message::Piece::{Bytes, Count as Counted, Number, Programming};
+use crate::message::{Message, Piece, one, plain, three, two};
+use crate::shown::{Many, Shown};
 use source::fault::FaultKind;
+
+/// What stands open round an operand.
+#[derive(Clone, Copy)]
+pub enum Within {
+    Block,
+    Let,
+    Brackets,
+    Arguments,
+    Index,
+    /// The test of an `if`.
+    Test,
+    /// The test of a loop before its body.
+    WhileTest,
+    /// The names of a loop, each with its first value.
+    Names,
+}
+
+/// How a part of a program is written.
+#[derive(Clone, Copy)]
+pub enum Form {
+    Item,
+    Array,
+    Function,
+    Let,
+    Loop,
+    /// The test behind the body of a loop.
+    LastTest,
+    Else,
+    StrictCall,
+}
+
+/// What stands in a program as it cannot.
+#[derive(Clone, Copy)]
+pub enum Wrong {
+    /// A `}` where no block is open.
+    NothingOpen,
+    /// A `;` behind the body of a function.
+    BehindFunction,
+    /// An `=` that stands neither in a `let` nor in the head of a loop.
+    Equals,
+    /// A body's end behind a `;`.
+    Semicolon,
+    /// A block without values.
+    EmptyBlock,
+    /// The end of a list behind a `,`.
+    TrailingComma,
+    /// A call without arguments.
+    NoArguments,
+    /// A comparison of a comparison.
+    Chain,
+    /// `&&` or `||`.
+    Doubled,
+    /// A bracket behind what is no function's name.
+    NoFunction,
+    /// A square bracket behind what is no array's name.
+    NoArray,
+    /// The word `inputs` in a line with something else.
+    Inputs,
+}
 
 /// What could stand where something else stands.
 #[derive(Clone, Copy)]
 pub enum Wanted<'a> {
-    Item,
+    Form(Form),
+    Wrong(Wrong),
+    /// A word where a name is wanted.
+    Word { word: Shown<'a> },
     /// After this, which ends an operand.
-    AfterOperand { before: Shown<'a> },
+    AfterOperand { before: Shown<'a>, within: Within },
     Expression { before: Shown<'a> },
-    Name { before: Shown<'a> },
-    Number { before: Shown<'a> },
-    Target,
-    Block { before: Shown<'a> },
-    /// The `=` of a `let`, where something else is meant.
-    NoEquals,
-    /// A body's end behind a `;`.
+    Step { before: Shown<'a> },
+    /// A `let` where a `;` is missing.
     NoSemicolon,
-    /// A `let` or an item where a `;` or a `}` is missing.
-    Ended { word: Shown<'a> },
-    NoInputs,
+    /// The end of this, which stands in a line.
+    Unclosed { opening: Shown<'a>, line: u64 },
 }
 
 /// Where a number of values is another one than that for which they stand.
 #[derive(Clone, Copy)]
 pub enum Count<'a> {
-    Arguments { function: Shown<'a> },
+    /// Of a function with one result.
+    Arguments {
+        function: Shown<'a>,
+        parameters: u64,
+    },
+    /// Of a function with more results, or these are not wanted.
+    Call {
+        function: Shown<'a>,
+        parameters: u64,
+        results: u64,
+    },
     Targets,
     Results,
     Arms,
@@ -61,49 +127,137 @@ pub enum ProgramCause<'a> {
     Kind(FaultKind),
 }
 
+impl Form {
+    /// What a person is told.
+    fn text(self) -> &'static str {
+        match self {
+            Form::Item => {
+                "a program has items: `array NAME[CELLS];` and `fn NAME(PARAMETERS) { BODY }`, with `-> N` before the body where there are N results"
+            }
+            Form::Array => "an array is written `array A[8];`, with a number of cells",
+            Form::Function => {
+                "a function is written `fn f(x, y) { BODY }`, or with two results `fn f(x, y) -> 2 { BODY }`, and has at least one parameter"
+            }
+            Form::Let =>
+                "`let` is written `let x = VALUE;`, or `let x, _ = VALUES;` where `_` drops a value",
+            Form::Loop => {
+                "a loop is written `loop 4 (i = 0, s = 0) while i < n { BODY }`, or `loop 4 (i = 0, s = 0) { BODY } while (i < n)`"
+            }
+            Form::LastTest => {
+                "a loop with its test behind the body is written `loop 4 (i = 0) { BODY } while (i < n)`, with the brackets"
+            }
+            Form::Else =>
+                "each `if` has an `else`: `if p { a } else { b }`, or `if p { a } else if q { b } else { c }`",
+            Form::StrictCall => "after `strict` stands a call: `strict f(x)`",
+        }
+    }
+}
+
+impl Wrong {
+    /// What a person is told.
+    fn text(self) -> &'static str {
+        match self {
+            Wrong::NothingOpen => "no block is open that this `}` could close",
+            Wrong::BehindFunction => "no `;` stands behind the body of a function",
+            Wrong::Equals => {
+                "`=` stands in `let x = ..` and in the head of a loop; a comparison is `==`, and a cell is filled by `A[i] := v`"
+            }
+            Wrong::Semicolon => "a block ends with its values, and no `;` stands after them",
+            Wrong::EmptyBlock => "a block is not empty: it ends with its values",
+            Wrong::TrailingComma => "after `,` another value stands: no list ends with a `,`",
+            Wrong::NoArguments =>
+                "a call has at least one argument, as a function has at least one parameter",
+            Wrong::Chain => "comparisons do not chain: `a < b < c` is written `(a < b) & (b < c)`",
+            Wrong::Doubled =>
+                "`&` and `|` stand once, and work on bits, so that `1 & 2` is 0: two tests are joined as `(a != 0) & (b < c)`",
+            Wrong::NoFunction => "only the name of a function stands before the bracket of a call",
+            Wrong::NoArray => "only the name of an array stands before `[`",
+            Wrong::Inputs => {
+                "`inputs` ends the program where it stands alone in its line, with no space before or after it"
+            }
+        }
+    }
+}
+
+impl Within {
+    /// What a person is told after an operand.
+    fn text(self) -> &'static str {
+        match self {
+            Within::Block => {
+                "after `{}` could stand an operator, `,`, `;`, or the `}` that ends the block"
+            }
+            Within::Let =>
+                "after `{}` could stand an operator, `,`, or the `;` that ends the `let`",
+            Within::Brackets =>
+                "after `{}` could stand an operator, or the `)` that closes the bracket",
+            Within::Arguments =>
+                "after `{}` could stand an operator, `,`, or the `)` that ends the call",
+            Within::Index => "after `{}` could stand an operator, or the `]` that ends the index",
+            Within::Test => "after `{}` could stand an operator, or the `{` of the arm",
+            Within::WhileTest =>
+                "after `{}` could stand an operator, or the `{` of the loop's body",
+            Within::Names => {
+                "after `{}` could stand an operator, `,`, or the `)` that ends the loop's names"
+            }
+        }
+    }
+}
+
 impl<'a> Wanted<'a> {
     /// What a person is told.
     fn message(self) -> Message<'a> {
         match self {
-            Wanted::Item => plain(
-                "a program has items: `array NAME[CELLS];` and `fn NAME(PARAMETERS) { BODY }`, with `-> N` before the body where there are N results",
-            ),
-            Wanted::AfterOperand { before } => one(
-                "after `{}` could stand an operator, `,`, `;`, or what closes the bracket or the block",
-                Bytes(before),
-            ),
-            Wanted::Expression { before } => one(
-                "after `{}` an expression begins: a number, a name, `(`, `-`, `~`, `if`, `loop` or `strict`",
-                Bytes(before),
-            ),
-            Wanted::Name { before } => one("after `{}` stands a name", Bytes(before)),
-            Wanted::Number { before } => one("after `{}` stands a number", Bytes(before)),
-            Wanted::Target => plain("after `let` stand names, or `_` for a value that is dropped"),
-            Wanted::Block { before } => one("after `{}` stands a block in braces", Bytes(before)),
-            Wanted::NoEquals => plain(
-                "`=` stands in `let x = ..` and in the head of a loop; a comparison is `==`, and a cell is filled by `A[i] := v`",
-            ),
-            Wanted::NoSemicolon => plain(
-                "a block ends with its values, and no `;` stands after them",
-            ),
-            Wanted::Ended { word } => one(
-                "before `{}` a `;` is missing, or what closes a bracket or a block",
+            Wanted::Form(form) => plain(form.text()),
+            Wanted::Wrong(wrong) => plain(wrong.text()),
+            Wanted::Word { word } => one(
+                "`{}` is a word of the language, and no name",
                 Bytes(word),
             ),
-            Wanted::NoInputs => plain(
-                "`inputs` ends the program where it stands alone in its line, with no space before or after it",
+            Wanted::AfterOperand { before, within } => one(within.text(), Bytes(before)),
+            Wanted::Expression { before } => one(
+                "after `{}` an expression begins: with a number, a name, `(`, `-`, `~`, `if`, `loop` or `strict`",
+                Bytes(before),
+            ),
+            Wanted::Step { before } => one(
+                "after `{}` stands a `let`, or an expression begins: with a number, a name, `(`, `-`, `~`, `if`, `loop` or `strict`",
+                Bytes(before),
+            ),
+            Wanted::NoSemicolon => plain("before `let` a `;` is missing"),
+            Wanted::Unclosed { opening, line } => two(
+                "the `{}` of line {} is not closed",
+                Bytes(opening),
+                Number(line),
             ),
         }
     }
+}
+
+/// How many of a thing there are, as it is shown.
+fn many<'a>(count: u64, noun: &'static str) -> Piece<'a> {
+    Counted(Many { count, noun })
 }
 
 impl<'a> Count<'a> {
     /// What a person is told.
     fn message(self) -> Message<'a> {
         match self {
-            Count::Arguments { function } => one(
-                "this call gives another number of values than `{}` has parameters",
+            Count::Arguments {
+                function,
+                parameters,
+            } => two(
+                "`{}` has {}, and this call gives more or fewer values",
                 Bytes(function),
+                many(parameters, "parameter"),
+            ),
+            Count::Call {
+                function,
+                parameters,
+                results,
+            } => three(
+                "`{}` has {} and {}: the call gives more or fewer values, or stands where one value has to be",
+                Bytes(function),
+                many(parameters, "parameter"),
+                many(results, "result"),
             ),
             Count::Targets => plain(
                 "after `=` stand more or fewer values than `let` has names; `_` drops one",
@@ -111,9 +265,11 @@ impl<'a> Count<'a> {
             Count::Results => plain(
                 "the function's body gives another number of values than its head says: N after `-> N`, and one where that is left out",
             ),
-            Count::Arms => plain("the two arms of this `if` give different numbers of values"),
+            Count::Arms => plain(
+                "the arms of this `if` give different numbers of values, or it stands where one value has to be, and gives more",
+            ),
             Count::Turn => plain(
-                "a turn of this loop gives another number of values than the loop has names",
+                "a turn of this loop gives more or fewer values than the loop has names, or it stands where one value has to be, and has more names",
             ),
             Count::One => plain(
                 "one value has to stand here: an operand, an index, what is stored, a test or a loop's first value",

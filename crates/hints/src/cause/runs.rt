@@ -31,6 +31,8 @@ pub enum RunCause<'a> {
     TooManyInputs,
     Option(OptionCause),
     Unwritten,
+    /// A page of a run was printed.
+    LargePage,
     /// No more is known than what the output says; this part of the formats explains that.
     Unknown {
         part: &'static str,
@@ -51,6 +53,9 @@ impl<'a> RunCause<'a> {
             ),
             RunCause::EventMemory => plain(
                 "memory was refused: fewer --elements, --frames and --steps take less of it",
+            ),
+            RunCause::LargePage => plain(
+                "a page of more than 200000 events is slow to open: --last K makes one of the last K events",
             ),
             RunCause::CarriageReturn => plain(
                 "lines end with CR LF here, and with LF alone in inputs: `tr -d '\\r'` takes the CRs out",

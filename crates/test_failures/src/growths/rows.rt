@@ -26,7 +26,7 @@ pub struct Row<'a> {
     pub status: u8,
 }
 
-/// A command line, the graph and the lines of inputs that it reads, and the text and the exit status that it should have.
+/// A command line, the graph or the program and the lines of inputs that it reads, and the text and the exit status that it should have.
 #[derive(Clone, Copy)]
 pub struct Example {
     pub name: &'static str,
@@ -40,9 +40,9 @@ pub struct Example {
 }
 
 impl Example {
-    /// What its answer has of a run: a meaning is not made by the machine.
+    /// What its answer has of a run: neither a meaning nor a graph is made by the machine.
     pub fn answer(&self) -> Answer {
-        if self.words.contains(&"mean") {
+        if self.words.contains(&"mean") || self.words.contains(&"lower") {
             Answer::Text
         } else {
             Answer::Report
@@ -51,7 +51,7 @@ impl Example {
 }
 
 /// Worked examples. Their texts and statuses were known before.
-pub const EXAMPLES: [Example; 22] = [
+pub const EXAMPLES: [Example; 24] = [
     Example {
         name: "add",
         words: &["ets", "run"],
@@ -277,7 +277,44 @@ pub const EXAMPLES: [Example; 22] = [
         wanted: b"output 0 25\ncell A 0 0\ncell A 1 1\ncell A 2 2\ncell A 3 3\ncell A 4 4\ncell A 5 5\ncell A 6 6\ncell A 7 7\nend Rest\n",
         status: 0,
     },
+    Example {
+        name: "lower of a sum",
+        words: &["ets", "lower"],
+        graph: SUM_PROGRAM,
+        change: None,
+        inputs: b"inputs\n20\n",
+        wanted: b"etsgraph 2\nblock main 1 1\n- lit 0 0.0\n- loop main__1 2 0.0 1.0\nout 2.1\nend\nblock main__1 2 3\n- lit 1 0.0\n- sub 0.0 2.0\n- add 1.0 0.0\nout 3.0 3.0 4.0\nend\nmain main\n20\n",
+        status: 0,
+    },
+    Example {
+        name: "lower of a program that is refused",
+        words: &["ets", "lower"],
+        graph: SUM_PROGRAM,
+        change: Some((b"\n    s", b"\n    i")),
+        inputs: b"inputs\n20\n",
+        wanted: b"refused: program NoSuchName line 3 column 5\n",
+        status: 1,
+    },
 ];
+
+/// The sum of the numbers up to one that is given.
+const SUM_PROGRAM: &[u8] =
+    b"fn main(n) {\n    let _, s = loop 2 (i = n, s = 0) { i - 1, s + i } while (i);\n    s\n}\n";
+
+/// A program with each form of the language.
+const EACH_FORM: &[u8] = b"array A[4];
+
+fn pair(x, y) -> 2 { x, if y > x { strict less(y, x) } else if y { -y } else { ~0 } }
+fn less(x, y) { x - y }
+
+fn main(n) {
+    A[0] := n;
+    loop 4 (i = 0) while i < 3 { A[i + 1] := A[i] * 2; i + 1 };
+    let _, s = loop 2 (i = 3, s = 0) { i - 1, s + A[i] } while (i);
+    let a, _ = pair(n, (s));
+    a
+}
+";
 
 /// What a command reads.
 #[derive(Clone, Copy, PartialEq, Eq)]
@@ -301,7 +338,23 @@ pub struct Command {
 }
 
 /// Command lines whose answers are compared with those where no growth is refused.
-pub const COMMANDS: [Command; 21] = [
+pub const COMMANDS: [Command; 23] = [
+    Command {
+        name: "lower of each form",
+        words: &["ets", "lower"],
+        text: EACH_FORM,
+        inputs: b"inputs\n3\n",
+        reads: Reads::Text,
+        answer: Answer::Text,
+    },
+    Command {
+        name: "lower --map of each form",
+        words: &["ets", "lower", "--map"],
+        text: EACH_FORM,
+        inputs: b"inputs\n3\n",
+        reads: Reads::Text,
+        answer: Answer::Text,
+    },
     Command {
         name: "compile of add",
         words: &["ets", "compile"],

@@ -20,6 +20,10 @@ pub enum Input {
     CutText,
     /// The text of a graph, and a line after it that is not an integer.
     TextAndWord,
+    /// A program, and inputs after it.
+    Program,
+    /// The program, cut off before its end.
+    CutProgram,
     /// Nothing: the command line reads no input.
     Nothing,
     /// Nothing, and the text that is printed is not shown.
@@ -35,7 +39,7 @@ pub struct Case {
 }
 
 /// Every command, some refusals, help, the version, and a mistake.
-pub const CASES: [Case; 29] = [
+pub const CASES: [Case; 32] = [
     Case {
         name: "check",
         words: &["ets", "check"],
@@ -127,6 +131,21 @@ pub const CASES: [Case; 29] = [
         input: Input::TextAndInputs,
     },
     Case {
+        name: "lower",
+        words: &["ets", "lower"],
+        input: Input::Program,
+    },
+    Case {
+        name: "lower --map",
+        words: &["ets", "lower", "--map"],
+        input: Input::Program,
+    },
+    Case {
+        name: "lower, refused",
+        words: &["ets", "lower"],
+        input: Input::CutProgram,
+    },
+    Case {
         name: "check, refused",
         words: &["ets", "check"],
         input: Input::CutText,
@@ -187,6 +206,9 @@ pub const CASES: [Case; 29] = [
 const TEXT: &[u8] =
     b"etsgraph 1\narray A 2\nblock m 1 3\n- lit 0 0.0\n- fetch A 1.0\n- fetch A 1.0\n- store A 1.0 0.0\nout 2.0 3.0 4.0\nend\nmain m\n";
 
+/// The same as a program, and its input.
+const PROGRAM: &[u8] = b"array A[2];\nfn main(n) -> 3 { A[0], A[0], A[0] := n }\ninputs\n9\n";
+
 /// All inputs that some command line reads.
 #[derive(Drop)]
 pub struct Inputs {
@@ -224,6 +246,8 @@ impl Inputs {
             Input::Listing => &self.listing,
             Input::CutText => TEXT.get(..50).unwrap_or(TEXT),
             Input::TextAndWord => &self.text_and_word,
+            Input::Program => PROGRAM,
+            Input::CutProgram => PROGRAM.get(..50).unwrap_or(PROGRAM),
             Input::Nothing | Input::Help => &[],
         }
     }

@@ -45,7 +45,7 @@ returns-clause-entered g c z b elements frames records =
     enters p x l k c.requires.whole z ev.0 at t b numbers next frames
     (ap (λ (i : ℕ). element_of i t.to) elements ∙ sym c.element.ensures ∙ c.if-element-event.false)
     records c.in-Some.ensures.within c.in-Some.ensures.there did.0 (subst (λ (q : Program). Does q l.held at [] k.held did.0) c.requires.whole.program did.1)
-    u v (record { number = n; deed = c.deed_by-deed.result; change = c.change_by-change.result; made = c.in_ok-made.made }) c.number_all.new.numbers.items
+    u v (record { number = n; deed = c.deed_by-deed.result; change = c.change_by-change.result; made = c.in_ok-made.made.items }) c.number_all.new.numbers.items
     c.in_ok-self.field-0
     before after number
     (c.in_ok-made.ensures ∙ ap (λ (i : ℕ). drop (i - 1) k.held.queue) held)

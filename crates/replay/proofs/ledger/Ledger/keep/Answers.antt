@@ -1,33 +1,24 @@
-use Rattle.std.proofs.Common.{◌≡◌, ◌∙◌, sym, ap, subst, ℕ, List, length, arith}
-use Rattle.std.specs.Prelude.{All}
-use Rattle.std.proofs.lemmas.Result.{IfOk-weaker}
-use Rattle.tags.specs.declared.token.Token.{Token}
-use Rattle.element.specs.Held.{IsFor, fixed_of}
+use Rattle.std.proofs.Common.{◌∙◌, ◌++◌, sym, ap, ℕ, List}
+use Rattle.replay.specs.declared.extent.Extent.{Extent}
 use Rattle.replay.specs.Books.{opening}
-use Rattle.replay.specs.Entering.{start_tokens}
-use Rattle.replay.proofs.Ledgers.{start_for, opened_records}
 use Rattle.replay.proofs.ledger.Ledger.keep.Goals as goal
 
-pub receive_all-requires : goal.receive_all-requires
-receive_all-requires g c =
-    let p = g.C.Instructions.program c.args.code.now in
-    let l = c.args.self.now.lane in
-    subst (λ (ts : List Token). All (IsFor (fixed_of l)) ts) (sym (c.deref.ensures.value ∙ c.in_ok-tokens.ensures))
-    (start_for p c.args.self.now.extent l c.requires.blank.lane.whole c.requires.extent.some_frames c.args.self.now.extent.main c.args.inputs.now)
-
 pub returns : goal.returns
-returns g c =
+returns g c z elements frames =
     let p = g.C.Instructions.program c.args.code.now in
-    let l = c.args.self.now.lane in
-    let blank = c.requires.blank in
-    let held = c.len.ensures in
-    let seen = c.deref.ensures.len in
-    let count : c.len.result ≡ length c.deref.result.now = omega (arith, held, seen) in
-    IfOk-weaker c.enter_all.result _ _ (λ v enters. λ z elements frames.
-    let r = enters z (opening p c.args.inputs.now) elements frames
-    (opened_records p l c.receive_all.new.self c.args.inputs.now c.deref.result.now c.args.self.now.numbers.items c.number_all.new.numbers.items
-    c.args.self.now.next c.in_ok-self.field-0 c.len.result
-    blank.lane.starts blank.lane.queue blank.numbers blank.next
-    (c.deref.ensures.value ∙ c.in_ok-tokens.ensures ∙ ap (λ (n : ℕ). start_tokens n c.args.inputs.now) c.requires.extent.main)
-    c.in_ok-receive_all.ensures.ok c.in_ok-self.ensures.all c.in_ok-self.ensures.after count) in
-    (r.0, r.1)) c.enter_all.ensures
+    let begun = c.begin.ensures.extent in
+    let same = c.pass_all.ensures.extent ∙ begun in
+    let passed = c.in_ok-changes.ensures.passed z (opening p c.args.inputs.now) (elements ∙ ap (λ (x : Extent). x.elements) (sym begun))
+    (frames ∙ ap (λ (x : Extent). x.frames) (sym begun)) c.in_ok-begin.ensures.begun in
+    let n = passed.0 in
+    let entered = c.in_ok-entries.ensures z n (elements ∙ ap (λ (x : Extent). x.elements) (sym same))
+    (frames ∙ ap (λ (x : Extent). x.frames) (sym same)) passed.2 in
+    record {
+      first = n;
+      passed = passed.1;
+      tokens = c.in_ok-tokens.ensures ∙ sym passed.2.pool;
+      numbers = c.in_ok-extend_from_slice.ensures.items ∙ ap (λ (ns : List ℕ). ns ++ c.deref.result.now) c.new-numbers.ensures.items ∙ c.deref.ensures.value ∙ sym passed.2.numbers;
+      next = sym passed.2.next;
+      last = entered.0;
+      entries = entered.1;
+    }

@@ -5,7 +5,7 @@ use Rattle.replay.specs.declared.moment.Moment.{Moment}
 use Rattle.commands.specs.Status.{exit_status}
 use Rattle.commands.specs.Traced.{events_text, first_of}
 use Rattle.commands.proofs.Served.{printed, stopped}
-use Rattle.commands.proofs.tracing.print_trace.Goals as goal
+use Rattle.commands.proofs.tracing.print_events.Goals as goal
 
 pub returns-in-Ok-write_trace : goal.returns-in-Ok-write_trace
 returns-in-Ok-write_trace g c =

@@ -1,0 +1,248 @@
+//! The page that shows a run.
+
+ghost use Rattle.std.specs.Prelude.{◌≡◌, ◌≤◌, ◌*◌, ◌++◌, false, drop, length, IfOk, MatchResult};
+ghost use Rattle.html_text.specs.DataText.{data_text};
+ghost use Rattle.html_text.specs.PageText.{part_text, html_text};
+ghost use Rattle.html_text.specs.declared.page.Part.TheVariants.{Top, ToListing, ToReport, ToData};
+ghost use Rattle.disassembler.specs.Listing.{listing};
+ghost use Rattle.report_text.specs.ReportText.{report_text};
+ghost use Rattle.driver.specs.Disassembled.{listing_of};
+ghost use Rattle.driver.specs.Listed.{IsListed};
+ghost use Rattle.driver.specs.Refused.{IsRefused};
+ghost use Rattle.sink.specs.Sends.{Sends};
+ghost use Rattle.commands.specs.Traced.{IsPageOf, IsNoPageOf, PrintsPage, unkept_as, first_of, page_text};
+
+use crate::given::{option_refusal, read_given};
+use crate::refusal::Refusal;
+use crate::serving::{config_of, refuse};
+use crate::status::status_of;
+use crate::tracing::{events_from, first_of_last};
+use command_line::{Mode, RunOptions};
+use disassembler::list;
+use driver::books::books_of;
+use driver::compiling::{Compiled, compile};
+use driver::emulation::emulate_object;
+use driver::fault::Fault;
+use graph::Graph;
+use html_text::{Part, write_data, write_mark, write_part};
+use object_view::Object;
+use replay::{Books, ReplayFault};
+use report_text::write_report;
+use rounds::Gate;
+use schedule::config::Config;
+use schedule::report::Report;
+use sink::send;
+use std::alloc::Allocator;
+use std::io::{self, Write};
+use std::sync::Wait;
+use std::thread::Threads;
+
+/// Writes the page's beginning, and the input.
+fn write_source<W: Write>(writer: &mut W, input: &[u8]) -> io::Result<()>
+    ensures { Sends result (W.contents writer.old) (W.contents writer.new) (part_text Top ++ input.now) }
+{
+    write_part(writer, Part::Top)?;
+    send(writer, input)
+}
+
+/// Writes the listing of the code.
+fn write_listing<W: Write>(writer: &mut W, object: &Object<'_>) -> io::Result<()>
+    ensures { Sends result (W.contents writer.old) (W.contents writer.new) (part_text ToListing ++ listing object.now.version object.now.code.program) }
+{
+    write_part(writer, Part::ToListing)?;
+    list(object, writer)
+}
+
+/// Writes the report.
+fn write_result<'a, A: Allocator, W: Write>(
+    writer: &mut W,
+    graph: &Graph<'a, A>,
+    report: &Report<A>,
+) -> io::Result<()>
+    ensures { Sends result (W.contents writer.old) (W.contents writer.new) (part_text ToReport ++ report_text graph.now.arrays report.now) }
+{
+    write_part(writer, Part::ToReport)?;
+    write_report(writer, graph, report)
+}
+
+/// Writes the data of the events from number `first` on.
+fn write_run<A: Allocator, W: Write>(
+    writer: &mut W,
+    options: &RunOptions,
+    first: usize,
+    report: &Report<A>,
+    books: &Books<A>,
+) -> io::Result<()>
+    requires elements { options.now.elements ≤ 16 }
+    requires frames { options.now.frames ≤ 1024 }
+    ensures { Sends result (W.contents writer.old) (W.contents writer.new) (part_text ToData ++ data_text options.now.elements (options.now.elements * options.now.frames) first (drop first report.now.events) books.now) }
+{
+    write_part(writer, Part::ToData)?;
+    write_data(
+        writer,
+        options.elements as u32,
+        (options.elements * options.frames) as u32,
+        first as u64,
+        events_from(&report.events, first),
+        books,
+    )
+}
+
+/// A run of the graph of an input, with the books of its events.
+#[derive(Drop)]
+struct Paged<'a, A: Allocator> {
+    compiled: Compiled<'a, A>,
+    report: Report<A>,
+    /// The number of the first event that is shown.
+    first: usize,
+    books: Books<A>,
+}
+
+/// Writes the page.
+fn write_page<'a, A: Allocator, W: Write>(
+    writer: &mut W,
+    input: &[u8],
+    options: &RunOptions,
+    object: &Object<'_>,
+    graph: &Graph<'a, A>,
+    report: &Report<A>,
+    first: usize,
+    books: &Books<A>,
+) -> io::Result<()>
+    requires elements { options.now.elements ≤ 16 }
+    requires frames { options.now.frames ≤ 1024 }
+    ensures { Sends result (W.contents writer.old) (W.contents writer.new) (page_text input.now options.now first graph.now object.now.bytes report.now books.now) }
+{
+    // What the bytes promise: they are the object.
+    let _bytes = object.bytes();
+    write_source(writer, input)?;
+    write_listing(writer, object)?;
+    write_result(writer, graph, report)?;
+    write_run(writer, options, first, report, books)?;
+    write_part(writer, Part::Script)?;
+    write_mark(writer, report.events.len().saturating_sub(first))
+}
+
+/// A run of a text's graph whose report lists the events.
+#[derive(Drop)]
+struct Listed<'a, A: Allocator> {
+    compiled: Compiled<'a, A>,
+    report: Report<A>,
+}
+
+/// Compiles the graph of the text, and runs it in the given mode.
+fn list_text<'a, R: Threads + Wait + Sync, A: Allocator + Clone + Send + Sync, G: Gate + Sync>(
+    alloc: A,
+    text: &'a [u8],
+    inputs: &[i64],
+    config: Config,
+    mode: Mode,
+    rt: &R,
+    gate: &G,
+) -> Result<Listed<'a, A>, Fault>
+    ensures { MatchResult result
+        (λ l. IsListed mode text.now l.compiled.checked l.compiled.object.bytes inputs.now config G.may_stop l.report)
+        (IsRefused text.now inputs.now config) }
+{
+    let compiled = compile(alloc.clone()?, text)?;
+    let bytes = compiled.object.bytes();
+    let report = emulate_object(alloc, bytes, inputs, config, mode, rt, gate)?;
+    Ok(Listed { compiled, report })
+}
+
+/// The refusal of a page that has no books.
+fn unkept(fault: ReplayFault) -> Refusal
+    ensures { result ≡ unkept_as fault }
+{
+    match fault {
+        ReplayFault::NotARun => Refusal::Books,
+        ReplayFault::Memory => Refusal::Memory,
+    }
+}
+
+/// Runs the graph of the input on the integers after it, and keeps the books of its events, or of the last ones.
+fn page_input<'a, R: Threads + Wait + Sync, A: Allocator + Clone + Send + Sync, G: Gate + Sync>(
+    alloc: A,
+    input: &'a [u8],
+    options: &RunOptions,
+    last: Option<u64>,
+    rt: &R,
+    gate: &G,
+) -> Result<Paged<'a, A>, Refusal>
+    requires { G.may_stop ≡ false }
+    ensures page { MatchResult result
+        (λ p. IsPageOf input.now options.now p.first p.compiled.checked p.compiled.object.bytes p.report p.books)
+        (IsNoPageOf input.now options.now) }
+    ensures first { IfOk result (λ p. p.first ≡ first_of (length p.report.events) last) }
+{
+    let given = match read_given(&alloc, input) {
+        Ok(given) => given,
+        Err(refusal) => return Err(refusal),
+    };
+    let config = config_of(options);
+    let Some(mode) = options.mode else {
+        return Err(option_refusal(alloc, given.text, &given.integers, config));
+    };
+    let Ok(room) = alloc.clone() else {
+        return Err(Refusal::Memory);
+    };
+    let listed = match list_text(room, given.text, &given.integers, config, mode, rt, gate) {
+        Ok(listed) => listed,
+        Err(fault) => return Err(Refusal::from(fault)),
+    };
+    let Listed { compiled, report } = listed;
+    let first = first_of_last(report.events.len(), last);
+    match books_of(alloc, &compiled.object, &given.integers, config, &report, first) {
+        Ok(books) => Ok(Paged {
+            compiled,
+            report,
+            first,
+            books,
+        }),
+        Err(fault) => Err(unkept(fault)),
+    }
+}
+
+/// Runs the graph of the input on the integers after it, and prints a page that shows all its events or only the last ones; or why there is
+/// none. Gives the exit status, which is that of the report.
+pub(crate) fn print_page<
+    R: Threads + Wait + Sync,
+    A: Allocator + Clone + Send + Sync,
+    G: Gate + Sync,
+    W: Write,
+>(
+    alloc: A,
+    input: &[u8],
+    options: &RunOptions,
+    last: Option<u64>,
+    writer: &mut W,
+    rt: &R,
+    gate: &G,
+) -> io::Result<u8>
+    requires { G.may_stop ≡ false }
+    ensures { PrintsPage result (W.contents writer.old) (W.contents writer.new) input.now options.now last }
+{
+    let paged = match page_input(alloc, input, options, last, rt, gate) {
+        Ok(paged) => paged,
+        Err(refusal) => return refuse(writer, &refusal),
+    };
+    let Paged {
+        compiled,
+        report,
+        first,
+        books,
+    } = paged;
+    match write_page(
+        writer,
+        input,
+        options,
+        &compiled.object.as_object(),
+        compiled.checked.graph(),
+        &report,
+        first,
+        &books,
+    ) {
+        Ok(()) => Ok(status_of(report.end)),
+        Err(fault) => Err(fault),
+    }
+}

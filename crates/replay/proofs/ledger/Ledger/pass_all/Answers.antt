@@ -1,0 +1,44 @@
+use Rattle.std.proofs.Common.{◌∙◌, ◌++◌, ◌∷◌, [], refl, sym, ap}
+use Rattle.replay.specs.declared.extent.Extent.{Extent}
+use Rattle.replay.specs.Views.{EntryView}
+use Rattle.replay.proofs.Ledgers.{changed_more, entries_next, entries_all}
+use Rattle.replay.proofs.ledger.Ledger.pass_all.Goals as goal
+
+pub loop-event-preserved : goal.loop-event-preserved
+loop-event-preserved g c =
+    let p = g.C.Instructions.program c.args.code.now in
+    let l = c.loop-event in
+    let ev = c.event-item.result in
+    let x = c.in_ok-entry.entry in
+    record {
+      whole = c.enter.ensures.whole;
+      extent = c.enter.ensures.extent ∙ l.invariant.extent;
+      so_far = λ z b elements frames records.
+          let here = l.invariant.so_far z b elements frames records in
+          let next = c.in_ok-entry.ensures.entered z here.0 (elements ∙ ap (λ (y : Extent). y.elements) (sym l.invariant.extent))
+          (frames ∙ ap (λ (y : Extent). y.frames) (sym l.invariant.extent)) here.2 in (
+            next.0,
+            record {
+              entries = here.1.entries ++ x ∷ [];
+              are = entries_next p z b here.0 next.0 c.args.events.now l.event-index ev here.1.entries (here.1.entries ++ x ∷ []) x
+                  c.loop-event-test.true c.event-item.is refl here.1.are next.1;
+              sum = changed_more l.changes.items c.push.new.self.items x.change b.store here.0.store next.0.store
+                  (c.in_ok-push.ensures.items ∙ ap (λ (e : EntryView). l.changes.items ++ e.change ∷ []) c.entry.view_is) here.1.sum next.1.complete;
+            },
+            next.2,
+          );
+    }
+
+pub returns-clause-passed : goal.returns-clause-passed
+returns-clause-passed g c z b elements frames records =
+    let p = g.C.Instructions.program c.args.code.now in
+    let l = c.loop-event in
+    let here = l.invariant.so_far z b elements frames records in (
+      here.0,
+      record {
+        entries = here.1.entries;
+        are = entries_all p z b here.0 c.args.events.now l.event-index here.1.entries c.loop-event-test.false here.1.are;
+        sum = here.1.sum;
+      },
+      here.2,
+    )

@@ -1,0 +1,143 @@
+//! What the programs tell that have no graph beside them: outputs, cells, and that nothing waits at the end. All of it was computed without
+//! this project, by other programs and by hand; the two faults have the nodes where they are made, counted in the graph by hand.
+
+/// A program, and what its runs tell.
+#[derive(Clone, Copy)]
+pub struct Known {
+    pub name: &'static str,
+    pub told: &'static [u8],
+}
+
+/// The programs without a graph.
+pub const KNOWN: [Known; 8] = [
+    Known {
+        name: "fibonacci_loop.df",
+        told: b"output 0 55
+output 1 89
+deferred 0
+end Rest
+",
+    },
+    Known {
+        name: "square_root.df",
+        told: b"output 0 1000
+deferred 0
+end Rest
+",
+    },
+    Known {
+        name: "longest_collatz.df",
+        told: b"output 0 27
+output 1 111
+deferred 0
+end Rest
+",
+    },
+    Known {
+        name: "prefix_sums.df",
+        told: b"output 0 385
+cell S 0 0
+cell S 1 1
+cell S 2 5
+cell S 3 14
+cell S 4 30
+cell S 5 55
+cell S 6 91
+cell S 7 140
+cell S 8 204
+cell S 9 285
+cell S 10 385
+deferred 0
+end Rest
+",
+    },
+    Known {
+        name: "greatest.df",
+        told: b"output 0 952
+cell A 0 590
+cell A 1 575
+cell A 2 84
+cell A 3 781
+cell A 4 474
+cell A 5 899
+cell A 6 952
+cell A 7 185
+cell A 8 886
+cell A 9 847
+cell A 10 308
+cell A 11 821
+cell A 12 866
+cell A 13 851
+cell A 14 288
+cell A 15 321
+deferred 0
+end Rest
+",
+    },
+    Known {
+        name: "matrix_product.df",
+        told: b"output 0 30
+output 1 90
+cell A 0 1
+cell A 1 2
+cell A 2 3
+cell A 3 4
+cell A 4 5
+cell A 5 6
+cell A 6 7
+cell A 7 8
+cell A 8 9
+cell B 0 9
+cell B 1 8
+cell B 2 7
+cell B 3 6
+cell B 4 5
+cell B 5 4
+cell B 6 3
+cell B 7 2
+cell B 8 1
+cell C 0 30
+cell C 1 24
+cell C 2 18
+cell C 3 84
+cell C 4 69
+cell C 5 54
+cell C 6 138
+cell C 7 114
+cell C 8 90
+deferred 0
+end Rest
+",
+    },
+    Known {
+        name: "faults.df",
+        told: b"output 0 fault range at 0 4
+output 1 2
+output 2 fault zero at 0 2
+output 3 10
+cell A 3 5
+deferred 0
+end Rest
+",
+    },
+    Known {
+        name: "precedence.df",
+        told: b"output 0 24
+output 1 8
+output 2 2
+output 3 5
+output 4 10
+output 5 1
+output 6 5
+output 7 2
+output 8 -5
+output 9 -9
+output 10 1
+output 11 -10
+output 12 2
+output 13 -1
+deferred 0
+end Rest
+",
+    },
+];
