@@ -46,11 +46,7 @@ fn report_in<R: Threads + Wait + Sync>(
 }
 
 /// Whether the report has these outputs and cells, at rest, with no reader waiting and no event listed.
-fn is_told(
-    report: &Report<Global>,
-    outputs: &[Option<Value>],
-    cells: &[(u32, Value)],
-) -> bool {
+fn is_told(report: &Report<Global>, outputs: &[Option<Value>], cells: &[(u32, Value)]) -> bool {
     report.end == End::Rest
         && report.deferred == 0
         && report.outputs.as_slice() == outputs
@@ -88,6 +84,11 @@ fn refusals_are_told(rt: HostRuntime) -> Result<(), Fail> {
     let nameless = report_in(&rt, rt.alloc(), NAMELESS, 1, Mode::One);
     assert!(rt; matches!(nameless, Err(RunFault::Program(fault)) if is_nameless(&fault)));
     let empty = run_program(rt.alloc(), FACTORIAL, &[], CONFIG, Mode::One, &rt, &Open);
-    assert!(rt; matches!(empty, Err(RunFault::Graph(Fault::Start(StartFault::WrongInputs)))));
+    assert!(rt;
+        matches!(
+            empty,
+            Err(RunFault::Graph(Fault::Start(StartFault::WrongInputs)))
+        )
+    );
     Ok(())
 }
