@@ -1,4 +1,5 @@
-use Rattle.std.proofs.Common.{◌≡◌, ◌≤◌, ◌∙◌, ℕ, ℤ, List, Option, None, Some, length, inl, inr, ap, sym, subst, arith, rules}
+use Rattle.std.proofs.Common.{◌≡◌, ◌≤◌, ◌∙◌, ℕ, ℤ, List, Option, None, Some, length, inl, inr, ap, sym, subst, arith}
+use Rattle.tags.specs.declared.token.Token.{Token}
 use Rattle.semantics.specs.Report.{Report}
 use Rattle.driver.specs.Listed.{IsListed, HasBooks}
 use Rattle.driver.specs.Refused.{IsRefused}
@@ -33,11 +34,12 @@ returns-clause-page g c = not_kept c.args.input.now _ _ c.in-Ok.ensures c.args.o
 
 pub books_of-requires-clause-within : goal.books_of-requires-clause-within
 books_of-requires-clause-within g c =
-    let r = c.in-Ok-list_text.listed.report in
-    let many : c.len.result ≡ length r.events = search rules in
-    subst (λ (n : ℕ). n ≤ length r.events) (sym (c.first_of_last-first.ensures ∙ ap (λ (n : ℕ). first_of n c.args.last) many)) (first_low (length r.events) c.args.last)
+    let events : List (ℕ × Token) = c.in-Ok-list_text.listed.report.events in
+    let same = c.deref-events.ensures.value ∙ ap (λ (r : Report). r.events) c.report.view_is in
+    subst (λ (n : ℕ). n ≤ length events)
+    (sym (c.first_of_last-first.ensures ∙ ap (λ (es : List (ℕ × Token)). first_of (length es) c.args.last) same)) (first_low (length events) c.args.last)
 
 pub returns-in-Ok-books_of-clause-first : goal.returns-in-Ok-books_of-clause-first
 returns-in-Ok-books_of-clause-first g c =
-    let many : c.len.result ≡ length c.in-Ok-list_text.listed.report.events = search rules in
-    c.first_of_last-first.ensures ∙ ap (λ (n : ℕ). first_of n c.args.last) many
+    let same = c.deref-events.ensures.value ∙ ap (λ (r : Report). r.events) c.report.view_is in
+    c.first_of_last-first.ensures ∙ ap (λ (es : List (ℕ × Token)). first_of (length es) c.args.last) same
