@@ -30,7 +30,7 @@ abbrev pub is_differing : List ℕ → Bool
 is_differing output = bytes_eq (take 13 output) (codes "orders differ")
 
 abbrev pub is_large : List ℕ → Bool
-is_large output = bytes_eq (drop (length output - 15) output) (codes "<!-- large -->" ++ 10 ∷ [])
+is_large output = bytes_eq (codes "<!-- large -->" ++ 10 ∷ []) (drop (length output - 15) output)
 
 abbrev pub wants_reason : Request → List ℕ → Bool
 wants_reason (Request.Run o) output = not (is_at_rest output)
