@@ -3,7 +3,9 @@
 ghost use Rattle.std.specs.Prelude.{◌≡◌, ◌<◌, option_map};
 ghost use Rattle.command_line.specs.Words.{after, asks_help, asks_version, first_mode, first_format, first_number, first_sizes, flag_met, format_named, is_flag, is_short, literals_listed, long_of, map_asked, mode_named, named, nothing, number_of, option_met, option_named, option_of, parts_at, plain_met, request_of, run_options, says_how_to_run, sizes_from, takes, takes_inputs, usual_sizes, valued, with_option, without_value, word_met};
 
-use crate::{Command, EventFormat, Format, Inputs, Literals, Lowering, Mode, Request, RunOptions, Sizes};
+use crate::{
+    Command, EventFormat, Format, Inputs, Literals, Lowering, Mode, Request, RunOptions, Sizes,
+};
 
 /// The options of all commands.
 #[derive(Clone, Copy, Debug, PartialEq, Eq)]

@@ -226,7 +226,9 @@ fn trace_command<'a>(alloc: Global) -> Result<Command<'a>, AllocError> {
         .value_name("FORMAT")
         .value_parser(ValueParser::Names(&FORMATS))
         .default_value("text")
-        .help("text: a line for each event, then the report; chrome: Trace Event JSON; html: a page that shows the run");
+        .help(
+            "text: a line for each event, then the report; chrome: Trace Event JSON; html: a page that shows the run",
+        );
     let command = Command::new(alloc, "trace")
         .about("Runs a graph and prints its events: its text on standard input, then its inputs")
         .after_help(AFTER_TRACE)

@@ -119,7 +119,7 @@ module _ (input text : List ℕ) (inputs : List ℤ) (given : IsGiven input text
     named = named;
     listed = subst (λ (b : Bool). IsListed mode text g bytes inputs (config_of o) b r) never
         (subst (λ (d : Config). IsListed mode text g bytes inputs d may_stop r) same listed);
-    books = subst (λ (d : Config). HasBooks bytes inputs d first r books) same books_are;
+    kept = subst (λ (d : Config). HasBooks bytes inputs d first r books) same books_are;
   }
 
   pub no_room : (o : RunOptions) → IsNoRunOf input o Refusal.Memory

@@ -64,7 +64,7 @@ pub record IsPageOf (input : List ℕ) (o : RunOptions) (first : ℕ) (g : Graph
   pub mode : Mode
   pub named : o.mode ≡ Some mode
   pub listed : IsListed mode text g bytes inputs (config_of o) false r
-  pub books : HasBooks bytes inputs (config_of o) first r books
+  pub kept : HasBooks bytes inputs (config_of o) first r books
 
 -- Why there is no page: the cause for which `run` has no report; or `Books`, which says that an event was not found to fit the books. The machine
 -- hands out the free frame of least number, but no report promises that, so it is not proved that `Books` is never told.

@@ -36,6 +36,7 @@ use std::alloc::Allocator;
 use std::io::{self, Write};
 use std::sync::Wait;
 use std::thread::Threads;
+use tags::token::Token;
 
 /// Writes the page's beginning, and the input.
 fn write_source<W: Write>(writer: &mut W, input: &[u8]) -> io::Result<()>
@@ -120,7 +121,8 @@ fn write_page<'a, A: Allocator, W: Write>(
     write_result(writer, graph, report)?;
     write_run(writer, options, first, report, books)?;
     write_part(writer, Part::Script)?;
-    write_mark(writer, report.events.len().saturating_sub(first))
+    let events: &[(u32, Token)] = &report.events;
+    write_mark(writer, events.len().saturating_sub(first))
 }
 
 /// A run of a text's graph whose report lists the events.
@@ -191,8 +193,16 @@ fn page_input<'a, R: Threads + Wait + Sync, A: Allocator + Clone + Send + Sync, 
         Err(fault) => return Err(Refusal::from(fault)),
     };
     let Listed { compiled, report } = listed;
-    let first = first_of_last(report.events.len(), last);
-    match books_of(alloc, &compiled.object, &given.integers, config, &report, first) {
+    let events: &[(u32, Token)] = &report.events;
+    let first = first_of_last(events.len(), last);
+    match books_of(
+        alloc,
+        &compiled.object,
+        &given.integers,
+        config,
+        &report,
+        first,
+    ) {
         Ok(books) => Ok(Paged {
             compiled,
             report,

@@ -100,7 +100,15 @@ fn write_trace<'a, A: Allocator, W: Write>(
     let events = events_from(&report.events, first);
     let moments = moments_from(moments, first);
     match format {
-        EventFormat::Lines => write_lines(writer, object, first as u64, events, moments, graph, report),
+        EventFormat::Lines => write_lines(
+            writer,
+            object,
+            first as u64,
+            events,
+            moments,
+            graph,
+            report,
+        ),
         EventFormat::Chrome => write_chrome(
             writer,
             object,

@@ -37,7 +37,7 @@ not_lowered text LowerFault.Memory told e h = subst (λ t. IsNotCompiled text t)
 pub not_compiled : (text : List ℕ) (p : Program) (g : Graph) → Lowers text p g → (f : Fault) (told : RunFault) → IsUnrun f told → IsTooLarge g f
     → IsNotCompiled text told
 not_compiled text p g h f told (inl (m, e)) k = subst (λ t. IsNotCompiled text t) (sym e) tt
-not_compiled text p g h f told (inr (n, e)) k = subst (λ t. IsNotCompiled text t) (sym e) (n, p, g, h, k)
+not_compiled text p g h f told (inr (n, e)) k = subst (λ t. IsNotCompiled text t) (sym e) (n, (p, g, h, k))
 
 -- what has no object is not run
 too_large_is_not_run : (g : Graph) (inputs : List ℤ) (c : Config) (f : Fault) → IsTooLarge g f → IsNotRun g inputs c f
@@ -51,7 +51,7 @@ too_large_is_not_run g inputs c Fault.Memory h = h
 
 pub not_compiled_is_not_run : (text : List ℕ) (inputs : List ℤ) (c : Config) (f : RunFault) → IsNotCompiled text f → IsRefusedRun text inputs c f
 not_compiled_is_not_run text inputs c (RunFault.Program f) h = h
-not_compiled_is_not_run text inputs c (RunFault.Graph f) (n, p, g, h, k) = (n, p, g, h, too_large_is_not_run g inputs c f k)
+not_compiled_is_not_run text inputs c (RunFault.Graph f) (n, (p, g, h, k)) = (n, (p, g, h, too_large_is_not_run g inputs c f k))
 not_compiled_is_not_run text inputs c RunFault.Memory h = tt
 
 -- of an object that is not run
@@ -71,7 +71,7 @@ pub not_run : (text : List ℕ) (p : Program) (g : Graph) → Lowers text p g �
     (f : Fault) (told : RunFault) → IsUnrun f told → IsRefusedObject bytes inputs c f → IsRefusedRun text inputs c told
 not_run text p g h bytes k inputs c f told (inl (m, e)) r = subst (λ t. IsRefusedRun text inputs c t) (sym e) tt
 not_run text p g h bytes k inputs c f told (inr (n, e)) r =
-    subst (λ t. IsRefusedRun text inputs c t) (sym e) (n, p, g, h, object_is_not_run g bytes inputs c k f n r)
+    subst (λ t. IsRefusedRun text inputs c t) (sym e) (n, (p, g, h, object_is_not_run g bytes inputs c k f n r))
 
 -- AND OF ITS TEXT
 refused_text : (g : Graph) → IsGoodText (text_of g) g → (inputs : List ℤ) (c : Config) (f : Fault) → IsNotRun g inputs c f → IsRefused (text_of g) inputs c f

@@ -77,5 +77,5 @@ pub quiet_shows : (text : List ℕ) (p : Program) (g : Graph) → Lowers text p 
     → (mode : Mode) (inputs : List ℤ) (c : Config) (may_stop : Bool) (r : Report)
     → TellsQuietly mode (text_of g) g inputs c may_stop r → r.end ≡ Rest → r.deferred ≡ 0 → ShowsProgram p inputs r
 quiet_shows text p g h mode inputs c may_stop r t rest none =
-    let v = mode_shows text p g h mode inputs c may_stop (with_events r t.2.2.1) t.2.2.2 rest none in
+    let v = mode_shows text p g h mode inputs c may_stop (with_events r t.2.1) t.2.2 rest none in
     record { memory = v.memory; computes = v.computes; outputs = v.outputs; cells = v.cells }

@@ -66,4 +66,4 @@ abbrev pub ProgramsComeToRest : Type 0
 ProgramsComeToRest = (text : List ℕ) (p : Program) (g : Graph) → Lowers text p g → (inputs : List ℤ) → AreInputsOf g inputs
     → (m : Meaning.Memory) (k : Computes p (origin_of p) inputs m) → ReadsBehindStores (body_touches k.main.runs)
     → (s : State) × RestsWell (flow_of g) inputs s
-      × ((j : ℕ) → s.memory.outputs j ≡ m.outputs j) × ((x : ℕ) → s.memory.cells x ≡ m.cells x)
+    × ((j : ℕ) → s.memory.outputs j ≡ m.outputs j) × ((x : ℕ) → s.memory.cells x ≡ m.cells x)

@@ -6,7 +6,7 @@ ghost use Rattle.semantics.specs.WellFormed.{WellFormed};
 ghost use Rattle.lowered_text.specs.Parts.{IsGood};
 ghost use Rattle.driver.specs.Compiled.{IsTooLarge};
 ghost use Rattle.driver.specs.Refused.{IsCompiled};
-ghost use Rattle.driver.specs.declared.fault.Fault as Faults;
+ghost use Rattle.driver.specs.declared.fault.Fault.TheVariants as Faults;
 ghost use Rattle.programs.specs.Compiled.{IsProgramObject};
 ghost use Rattle.programs.specs.Refused.{IsNotCompiled};
 
@@ -22,7 +22,7 @@ use std::alloc::Allocator;
 
 /// A graph that is well formed, as checked.
 fn check_good<'a, A: Allocator + Clone>(graph: Graph<'a, A>) -> Result<Checked<'a, A>, Fault>
-    ensures { WellFormed graph.entry → MatchResult result (λ c. (c ≡ graph.entry) × HasText graph.entry) (λ fault. fault ≡ Faults.TheVariants.Memory) }
+    ensures { WellFormed graph.entry → MatchResult result (λ c. (c ≡ graph.entry) × HasText graph.entry) (λ fault. fault ≡ Faults.Memory) }
 {
     let checked = check(graph)?;
     // What it promises: the limits of a text are kept.

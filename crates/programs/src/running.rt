@@ -19,11 +19,7 @@ use std::thread::Threads;
 /// Runs the program of the text on these inputs: it is lowered to a graph, that is compiled, and its code is run in the given
 /// mode. What follows a line `inputs` in the text is no part of it. Gives a report that lists no events, so a long run takes no
 /// more memory than a short one. In the mode `One` the elements take turns, and each takes its oldest token.
-pub fn run_program<
-    R: Threads + Wait + Sync,
-    A: Allocator + Clone + Send + Sync,
-    G: Gate + Sync,
->(
+pub fn run_program<R: Threads + Wait + Sync, A: Allocator + Clone + Send + Sync, G: Gate + Sync>(
     alloc: A,
     text: &[u8],
     inputs: &[i64],

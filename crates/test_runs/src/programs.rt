@@ -8,8 +8,8 @@ use rounds::Open;
 use schedule::config::{Config, StartFault};
 use schedule::report::Report;
 use semantics::report::End;
-use source::fault::FaultKind;
-use std::alloc::{Allocator, Global};
+use source::fault::{FaultKind, ProgramFault};
+use std::alloc::Global;
 use std::sync::Wait;
 use std::test::Fail;
 use std::thread::Threads;
@@ -45,44 +45,50 @@ fn report_in<R: Threads + Wait + Sync>(
     run_program(alloc, text, &[input], CONFIG, mode, rt, &Open)
 }
 
+/// Whether the report has these outputs and cells, at rest, with no reader waiting and no event listed.
+fn is_told(report: &Report<Global>, outputs: &[Option<Value>], cells: &[(u32, Value)]) -> bool {
+    report.end == End::Rest
+        && report.deferred == 0
+        && report.outputs.as_slice() == outputs
+        && report.cells.as_slice() == cells
+        && report.events.is_empty()
+}
+
 #[test]
 fn factorial_of_twenty(rt: HostRuntime) -> Result<(), Fail> {
+    let wanted = [Some(Value::Int(2_432_902_008_176_640_000))];
     for mode in MODES {
-        let Ok(report) = report_in(&rt, rt.alloc(), FACTORIAL, 20, mode) else {
-            return Err(Fail);
-        };
-        assert!(report.end == End::Rest && report.deferred == 0);
-        let wanted = [Some(Value::Int(2_432_902_008_176_640_000))];
-        assert!(report.outputs.as_slice() == wanted.as_slice());
-        assert!(report.cells.is_empty() && report.events.is_empty());
+        let report = report_in(&rt, rt.alloc(), FACTORIAL, 20, mode);
+        assert!(rt; report.is_ok_and(|report| is_told(&report, &wanted, &[])));
     }
     Ok(())
 }
 
 #[test]
 fn a_cell_is_filled(rt: HostRuntime) -> Result<(), Fail> {
+    let wanted = [Some(Value::Int(9)), Some(Value::Int(10))];
     for mode in MODES {
-        let Ok(report) = report_in(&rt, rt.alloc(), SQUARE, 3, mode) else {
-            return Err(Fail);
-        };
-        let wanted = [Some(Value::Int(9)), Some(Value::Int(10))];
-        assert!(report.outputs.as_slice() == wanted.as_slice());
-        assert!(report.cells.as_slice() == [(3u32, Value::Int(9))].as_slice());
+        let report = report_in(&rt, rt.alloc(), SQUARE, 3, mode);
+        assert!(rt; report.is_ok_and(|report| is_told(&report, &wanted, &[(3, Value::Int(9))])));
     }
     Ok(())
+}
+
+/// Whether this is the first fault, in line 2 and column 9.
+fn is_nameless(fault: &ProgramFault) -> bool {
+    fault.kind == FaultKind::NoSuchName && fault.line == 2 && fault.column == 9
 }
 
 #[test]
 fn refusals_are_told(rt: HostRuntime) -> Result<(), Fail> {
     let nameless = report_in(&rt, rt.alloc(), NAMELESS, 1, Mode::One);
-    let Err(RunFault::Program(fault)) = nameless else {
-        return Err(Fail);
-    };
-    assert!(fault.kind == FaultKind::NoSuchName && fault.line == 2 && fault.column == 9);
+    assert!(rt; matches!(nameless, Err(RunFault::Program(fault)) if is_nameless(&fault)));
     let empty = run_program(rt.alloc(), FACTORIAL, &[], CONFIG, Mode::One, &rt, &Open);
-    assert!(matches!(
-        empty,
-        Err(RunFault::Graph(Fault::Start(StartFault::WrongInputs)))
-    ));
+    assert!(rt;
+        matches!(
+            empty,
+            Err(RunFault::Graph(Fault::Start(StartFault::WrongInputs)))
+        )
+    );
     Ok(())
 }

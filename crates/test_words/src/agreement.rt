@@ -3,8 +3,8 @@
 use clap::ArgMatches;
 use clap::error::ErrorKind;
 use command_line::{
-    Asked, EventFormat, Format, Inputs, Literals, Lowering, Mode, Request, RunOptions, Sizes, read_words,
-    version_line,
+    Asked, EventFormat, Format, Inputs, Literals, Lowering, Mode, Request, RunOptions, Sizes,
+    read_words, version_line,
 };
 use command_texts::{help_text, mistake_text, program_command};
 use std::alloc::Global;

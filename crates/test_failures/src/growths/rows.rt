@@ -283,7 +283,7 @@ pub const EXAMPLES: [Example; 24] = [
         graph: SUM_PROGRAM,
         change: None,
         inputs: b"inputs\n20\n",
-        wanted: b"etsgraph 2\nblock main 1 1\n- lit 0 0.0\n- loop main__1 2 0.0 1.0\nout 2.1\nend\nblock main__1 2 3\n- lit 1 0.0\n- sub 0.0 2.0\n- add 1.0 0.0\nout 3.0 3.0 4.0\nend\nmain main\n20\n",
+        wanted: SUM_GRAPH,
         status: 0,
     },
     Example {
@@ -300,6 +300,23 @@ pub const EXAMPLES: [Example; 24] = [
 /// The sum of the numbers up to one that is given.
 const SUM_PROGRAM: &[u8] =
     b"fn main(n) {\n    let _, s = loop 2 (i = n, s = 0) { i - 1, s + i } while (i);\n    s\n}\n";
+
+/// What it is lowered to, with its input.
+const SUM_GRAPH: &[u8] = b"etsgraph 2
+block main 1 1
+- lit 0 0.0
+- loop main__1 2 0.0 1.0
+out 2.1
+end
+block main__1 2 3
+- lit 1 0.0
+- sub 0.0 2.0
+- add 1.0 0.0
+out 3.0 3.0 4.0
+end
+main main
+20
+";
 
 /// A program with each form of the language.
 const EACH_FORM: &[u8] = b"array A[4];

@@ -13,8 +13,8 @@ returns g c =
     let k = c.in_ok-compiled.compiled in
     let same = c.bytes-bytes.ensures in
     let shows = subst
-        (λ (bs : List ℕ). ShowsObject bs c.args.inputs.now c.args.config false (stops_in c.args.mode g.G.Gate.may_stop) c.in_ok-report.report) same
-        c.in_ok-report.ensures.shows in
+    (λ (bs : List ℕ). ShowsObject bs c.args.inputs.now c.args.config false (stops_in c.args.mode g.G.Gate.may_stop) c.in_ok-report.report) same
+    c.in_ok-report.ensures.shows in
     record {
       compiled = c.in_ok-compiled.ensures;
       tells = tells_in c.args.mode c.args.text.now k.checked k.object.bytes c.args.inputs.now c.args.config g.G.Gate.may_stop c.in_ok-report.report

@@ -1,11 +1,16 @@
-use Rattle.std.proofs.Common.{◌≡◌, ◌∙◌, ℤ, List, inl, inr, ap, sym, subst}
+use Rattle.std.proofs.Common.{◌≡◌, ◌≤◌, ◌∙◌, ℕ, ℤ, List, Option, None, Some, length, inl, inr, ap, sym, subst, arith}
+use Rattle.tags.specs.declared.token.Token.{Token}
 use Rattle.semantics.specs.Report.{Report}
 use Rattle.driver.specs.Listed.{IsListed, HasBooks}
 use Rattle.driver.specs.Refused.{IsRefused}
 use Rattle.commands.specs.declared.refusal.Refusal.{Refusal}
-use Rattle.commands.specs.Traced.{IsNoPageOf}
+use Rattle.commands.specs.Traced.{IsNoPageOf, first_of}
 use Rattle.commands.proofs.Givens.{IsRefusedOption, not_run, page_of, run_refused, mode_refused, no_room, not_kept}
 use Rattle.commands.proofs.paging.page_input.Goals as goal
+
+first_low : (n : ℕ) (last : Option ℕ) → first_of n last ≤ n
+first_low n None = omega arith
+first_low n (Some last) = omega arith
 
 pub returns-in-Err-clause-page : goal.returns-in-Err-clause-page
 returns-in-Err-clause-page g c = inl (not_run c.args.input.now c.in-Err.refusal c.in-Err.ensures c.args.options.now)
@@ -17,9 +22,6 @@ returns-in_default-clause-page g c =
     (subst (λ (zs : List ℤ). IsRefusedOption c.in-Ok.given.text.now zs c.config_of-config.result c.option_refusal.result) c.deref.ensures.value
     c.option_refusal.ensures))
 
-pub returns-in_default-2-clause-page : goal.returns-in_default-2-clause-page
-returns-in_default-2-clause-page g c = inl (no_room c.args.input.now _ _ c.in-Ok.ensures c.args.options.now)
-
 pub returns-in-Err-list_text-clause-page : goal.returns-in-Err-list_text-clause-page
 returns-in-Err-list_text-clause-page g c =
     inl (run_refused c.args.input.now _ _ c.in-Ok.ensures c.args.options.now c.config_of-config.result c.config_of-config.ensures
@@ -27,15 +29,17 @@ returns-in-Err-list_text-clause-page g c =
     (subst (λ (zs : List ℤ). IsRefused c.in-Ok.given.text.now zs c.config_of-config.result c.in-Err-list_text.fault) c.deref-2.ensures.value
     c.in-Err-list_text.ensures) c.from.result c.from.ensures)
 
-pub returns-in-Ok-books_of-clause-page : goal.returns-in-Ok-books_of-clause-page
-returns-in-Ok-books_of-clause-page g c =
-    let l = c.in-Ok-list_text.listed in
-    page_of c.args.input.now _ _ c.in-Ok.ensures c.args.options.now c.first_of_last-first.result l.compiled.checked l.compiled.object.bytes l.report
-    c.in-Ok-books_of.books c.in-Some.mode c.in-Some.is c.config_of-config.result c.config_of-config.ensures g.G.Gate.may_stop c.requires
-    (subst (λ (zs : List ℤ). IsListed c.in-Some.mode c.in-Ok.given.text.now l.compiled.checked l.compiled.object.bytes zs c.config_of-config.result
-    g.G.Gate.may_stop l.report) c.deref-2.ensures.value c.in-Ok-list_text.ensures)
-    (subst (λ (zs : List ℤ). HasBooks l.compiled.object.bytes zs c.config_of-config.result c.first_of_last-first.result l.report
-    c.in-Ok-books_of.books) c.deref-4.ensures.value c.in-Ok-books_of.ensures)
-
 pub returns-clause-page : goal.returns-clause-page
 returns-clause-page g c = not_kept c.args.input.now _ _ c.in-Ok.ensures c.args.options.now c.in-Err-books_of.fault c.unkept.result c.unkept.ensures
+
+pub books_of-requires-clause-within : goal.books_of-requires-clause-within
+books_of-requires-clause-within g c =
+    let events : List (ℕ × Token) = c.in-Ok-list_text.listed.report.events in
+    let same = c.deref-events.ensures.value ∙ ap (λ (r : Report). r.events) c.report.view_is in
+    subst (λ (n : ℕ). n ≤ length events)
+    (sym (c.first_of_last-first.ensures ∙ ap (λ (es : List (ℕ × Token)). first_of (length es) c.args.last) same)) (first_low (length events) c.args.last)
+
+pub returns-in-Ok-books_of-clause-first : goal.returns-in-Ok-books_of-clause-first
+returns-in-Ok-books_of-clause-first g c =
+    let same = c.deref-events.ensures.value ∙ ap (λ (r : Report). r.events) c.report.view_is in
+    c.first_of_last-first.ensures ∙ ap (λ (es : List (ℕ × Token)). first_of (length es) c.args.last) same

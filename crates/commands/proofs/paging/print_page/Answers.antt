@@ -17,10 +17,15 @@ returns-in-Ok-write_page g c =
     let e1 = ap (λ (h : Graph). page_text i o p.first h c.as_object.result.bytes r p.books) c.graph.ensures.same in
     let e2 = ap (λ (v : Opened). page_text i o p.first k.checked v.bytes r p.books) c.as_object.ensures in
     let e3 = ap (λ (m : ℕ). page_text i o m k.checked k.object.bytes r p.books) c.in-Ok.ensures.first in
-    inl (k.checked, k.object.bytes, r, p.books,
-    subst (λ (m : ℕ). IsPageOf i o m k.checked k.object.bytes r p.books) c.in-Ok.ensures.first c.in-Ok.ensures.page,
-    printed _ _ _ _ _ _ _ (exit_status r.end) (e1 ∙ e2 ∙ e3) (c.status_of.ensures ∙ ap (λ x. exit_status x.end) c.report.view_is)
-    c.in-Ok-write_page.ensures)
+    inl (
+      k.checked,
+      k.object.bytes,
+      r,
+      p.books,
+      subst (λ (m : ℕ). IsPageOf i o m k.checked k.object.bytes r p.books) c.in-Ok.ensures.first c.in-Ok.ensures.page,
+      printed _ _ _ _ _ _ _ (exit_status r.end) (e1 ∙ e2 ∙ e3) (c.status_of.ensures ∙ ap (λ x. exit_status x.end) c.report.view_is)
+          c.in-Ok-write_page.ensures,
+    )
 
 pub returns : goal.returns
 returns g c =
@@ -33,6 +38,11 @@ returns g c =
     let e1 = ap (λ (h : Graph). page_text i o p.first h c.as_object.result.bytes r p.books) c.graph.ensures.same in
     let e2 = ap (λ (v : Opened). page_text i o p.first k.checked v.bytes r p.books) c.as_object.ensures in
     let e3 = ap (λ (m : ℕ). page_text i o m k.checked k.object.bytes r p.books) c.in-Ok.ensures.first in
-    inl (k.checked, k.object.bytes, r, p.books,
-    subst (λ (m : ℕ). IsPageOf i o m k.checked k.object.bytes r p.books) c.in-Ok.ensures.first c.in-Ok.ensures.page,
-    stopped _ _ _ _ _ _ (exit_status r.end) (e1 ∙ e2 ∙ e3) c.in-Err-write_page.ensures)
+    inl (
+      k.checked,
+      k.object.bytes,
+      r,
+      p.books,
+      subst (λ (m : ℕ). IsPageOf i o m k.checked k.object.bytes r p.books) c.in-Ok.ensures.first c.in-Ok.ensures.page,
+      stopped _ _ _ _ _ _ (exit_status r.end) (e1 ∙ e2 ∙ e3) c.in-Err-write_page.ensures,
+    )

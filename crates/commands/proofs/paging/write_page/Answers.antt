@@ -1,4 +1,5 @@
 use Rattle.std.proofs.Common.{◌++◌, ℕ, List, Option, Err, ◌∙◌, ap}
+use Rattle.tags.specs.declared.token.Token.{Token}
 use Rattle.std.proofs.Common.{◌*◌, ◌-◌, drop, length}
 use Rattle.semantics.specs.Report.{Report}
 use Rattle.object_view.specs.Reading.{Opened, opened}
@@ -144,8 +145,8 @@ returns g c =
     let w6 : Option (List ℕ) = g.W.Write.contents c.write_mark.new.writer in
     let e2 = ap (λ (o : Opened). part_text ToListing ++ listing o.version o.code.program)
     (c.bytes-bytes.ensures.opened ∙ ap opened c.bytes-bytes.ensures.same) in
-    let e6 = ap large_mark (c.saturating_sub.ensures ∙ ap (λ (n : ℕ). n - c.args.first) (c.len.ensures ∙ ap (λ
-    (r : Report). length r.events) c.report.view_is)) in
+    let same = c.deref-events.ensures.value ∙ ap (λ (r : Report). r.events) c.report.view_is in
+    let e6 = ap large_mark (c.saturating_sub.ensures ∙ ap (λ (es : List (ℕ × Token)). length es - c.args.first) same) in
     sends_more c.write_mark.result w0 w5 w6 ((((t1 ++ t2) ++ t3) ++ t4) ++ t5) t6
     (appends_then w0 w4 w5 (((t1 ++ t2) ++ t3) ++ t4) t5
     (appends_then w0 w3 w4 ((t1 ++ t2) ++ t3) t4
