@@ -1,6 +1,6 @@
 -- What an input gives, or why it does not, told of the commands that read it.
-use Rattle.std.proofs.Common.{◌≡◌, ℕ, ℤ, List, Bool, false, inl, inr, ◌⊎◌, Result, Ok, Err, ◌≤◌, arith, sym, subst}
-use Rattle.std.specs.Prelude.{Option, Some, None}
+use Rattle.std.proofs.Common.{◌≡◌, ℕ, ℤ, List, Bool, false, inl, inr, ◌⊎◌, Result, Ok, Err, refl, sym, subst}
+use Rattle.std.specs.Prelude.{Some, None}
 use Rattle.semantics.specs.Graph.{Graph}
 use Rattle.semantics.specs.Report.{Report}
 use Rattle.schedule.specs.declared.config.Config.{Config}
@@ -25,7 +25,7 @@ use Rattle.commands.specs.Input.{integers_of}
 use Rattle.commands.specs.Refusals.{told_as}
 use Rattle.commands.specs.Given.{IsGiven, IsNotGiven}
 use Rattle.commands.specs.Agreed.{IsNoOrderOf, WhyNoOrder}
-use Rattle.commands.specs.Traced.{IsTraceOf, IsPageOf, IsNoPageOf, first_of, unkept_as}
+use Rattle.commands.specs.Traced.{IsTraceOf, IsPageOf, IsNoPageOf, unkept_as}
 use Rattle.commands.specs.Profiled.{IsNoProfileOf, IsProfileOf, WhyNoProfile, IsNoRow, AreRows, sizes_below}
 use Rattle.commands.specs.Served.{Parts, IsTold, IsRunOf, IsNoRunOf, IsRefusedLine, WhyNoRun, config_of}
 
@@ -66,11 +66,6 @@ no_mode_of text inputs o f none (inr ready) = inr (ready.0, none, ready.1)
 no_count_of : (text : List ℕ) (inputs : List ℤ) (o : RunOptions) (count : ℕ) (f : Refusal) → (IsGood (config_of o) → count ≡ 0) → IsRefusedOption text inputs (config_of o) f → WhyNoOrder (Ok inputs) text o count f
 no_count_of text inputs o count f none (inl told) = inl told
 no_count_of text inputs o count f none (inr ready) = inr (ready.0, none ready.0.good, ready.1)
-
--- the first event that is shown is one of the events, or behind them
-pub first_within : (count : ℕ) (last : Option ℕ) (first all : ℕ) → first ≡ first_of count last → count ≡ all → first ≤ all
-first_within count None first all is same = omega (arith, is)
-first_within count (Some last) first all is same = omega (arith, is, same)
 
 module _ (input text : List ℕ) (inputs : List ℤ) (given : IsGiven input text inputs) where
   parts : Parts input
@@ -126,6 +121,9 @@ module _ (input text : List ℕ) (inputs : List ℤ) (given : IsGiven input text
         (subst (λ (d : Config). IsListed mode text g bytes inputs d may_stop r) same listed);
     kept = subst (λ (d : Config). HasBooks bytes inputs d first r books) same books_are;
   }
+
+  pub no_room : (o : RunOptions) → IsNoRunOf input o Refusal.Memory
+  no_room o = record { parts = parts; why = inl refl }
 
   pub not_kept : (o : RunOptions) (fault : ReplayFault) (f : Refusal) → f ≡ unkept_as fault → IsNoPageOf input o f
   not_kept o ReplayFault.NotARun f told = inr told
