@@ -5,9 +5,10 @@ use Rattle.std.specs.Str.{bytes_eq}
 use Rattle.std.proofs.lemmas.List.{take-take, drop-drop}
 use Rattle.command_line.specs.Words.{asked}
 use Rattle.command_line.specs.declared.Asked.{Asked}
+use Rattle.command_line.specs.declared.EventFormat.{EventFormat}
 use Rattle.command_line.specs.declared.Format.{Format}
 use Rattle.command_line.specs.declared.Request.{Request}
-use Rattle.hints.specs.Hints.{is_refused, is_at_rest, is_differing, wants_reason, wants_hint}
+use Rattle.hints.specs.Hints.{is_refused, is_at_rest, is_differing, is_large, wants_reason, wants_hint}
 use Rattle.keeping.specs.Kept.{HasSameEnds, back}
 use Rattle.process.specs.declared.telling.Told.{Told}
 use Rattle.process.specs.Told.{Speaks}
@@ -38,6 +39,9 @@ module _ (bytes kept : List ℕ) (same : HasSameEnds bytes kept) where
   differs_alike : is_differing kept ≡ is_differing bytes
   differs_alike = ap (λ (l : List ℕ). bytes_eq l (codes "orders differ")) (same_front 13 (omega arith))
 
+  large_alike : is_large kept ≡ is_large bytes
+  large_alike = ap (λ (l : List ℕ). bytes_eq (codes "<!-- large -->" ++ 10 ∷ []) l) (same_back 15 (omega arith))
+
   reason_alike : (r : Request) → wants_reason r kept ≡ wants_reason r bytes
   reason_alike (Request.Run o) = ap not rests_alike
   reason_alike (Request.Mean steps) = ap not rests_alike
@@ -49,8 +53,9 @@ module _ (bytes kept : List ℕ) (same : HasSameEnds bytes kept) where
   reason_alike (Request.Exec o ins) = ap not rests_alike
   reason_alike Request.Asm = refused_alike
   reason_alike (Request.Lower lowering) = refused_alike
-  reason_alike (Request.Trace o last Format.Lines) = ap not rests_alike
-  reason_alike (Request.Trace o last Format.Chrome) = refused_alike
+  reason_alike (Request.Trace o last (Format.Events EventFormat.Lines)) = ap not rests_alike
+  reason_alike (Request.Trace o last (Format.Events EventFormat.Chrome)) = refused_alike
+  reason_alike (Request.Trace o last Format.Html) = ap (λ (b : Bool). b || is_large kept) refused_alike ∙ ap (λ (b : Bool). is_refused bytes || b) large_alike
   reason_alike (Request.Profile o sizes true) = refused_alike
   reason_alike (Request.Profile o sizes false) = ap not rests_alike
   reason_alike (Request.Orders o count seed) = ap (λ (b : Bool). b || not (is_at_rest kept)) differs_alike ∙ ap (λ (b : Bool). is_differing bytes || not b) rests_alike
