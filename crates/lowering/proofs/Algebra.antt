@@ -6,7 +6,9 @@ use Rattle.source.specs.Tree.{Name, Program}
 use Rattle.source.specs.Words.{Words}
 use Rattle.source.specs.Lowered.{Made, MadeBlock, Lowered, Site, Spot, spot_after, joined, followed, ended, made, ports_from}
 use Rattle.lowering.specs.Plans.{Plan}
-use Rattle.lowering.specs.Machine.{State, after, planned, run, act, noted, is_number, one_node, before_last, last_of, operated, negated, last_negated}
+use Rattle.lowering.specs.State.{State, after, planned, noted}
+use Rattle.lowering.specs.Operators.{one_node, before_last, last_of, operated, negated, last_negated}
+use Rattle.lowering.specs.Machine.{run, act, is_number}
 
 pub run_append : (p : Program) (s : State) (a b : Words) → run p s (a ++ b) ≡ run p (run p s a) b
 run_append p s [] b = refl

@@ -12,7 +12,9 @@ use Rattle.source.specs.First.{◌>>=◌}
 use Rattle.source.specs.Words.{IsProgram}
 use Rattle.source_check.specs.Checked.{IsChecked}
 use Rattle.lowering.specs.Plans.{Plan}
-use Rattle.lowering.specs.Machine.{State, run, between}
+use Rattle.lowering.specs.State.{State}
+use Rattle.lowering.specs.Functions.{between}
+use Rattle.lowering.specs.Machine.{run}
 use Rattle.lowering.specs.Blocks.{named_blocks}
 use Rattle.lowering.specs.Scan.{told_plans}
 use Rattle.lowering.specs.Results.{told_arrays, told_results}

@@ -9,7 +9,8 @@ use Rattle.source.specs.Fits.{count}
 use Rattle.source.specs.Rules.{function_in}
 use Rattle.source.specs.Lowered.{Lowered, Scope, lower, lower_list, lower_body, spot_after, joined, followed, let_scoped, call_kind, results_of}
 use Rattle.lowering.specs.Plans.{Plan, plans, list_plans, body_plans}
-use Rattle.lowering.specs.Machine.{State, Frame, Firsts, Listed, Targets, Begun, after, planned, noted, run}
+use Rattle.lowering.specs.State.{State, Frame, Firsts, Listed, Targets, Begun, after, planned, noted}
+use Rattle.lowering.specs.Machine.{run}
 use Rattle.lowering.proofs.Algebra.{and_then, both_plans, after_joined, after_followed, after_ended, quiet}
 use Rattle.lowering.proofs.Says.{Says, SaysAll, SaysBody, SaysFirsts, with_names}
 

@@ -8,7 +8,8 @@ use Rattle.source.specs.Rules.{checked}
 use Rattle.source.specs.Lowered.{MadeBlock, made_blocks, blocks_of, graph_block, function_blocks}
 use Rattle.lowering.specs.Counts.{ItemsCounted}
 use Rattle.lowering.specs.Plans.{Plan, program_plans}
-use Rattle.lowering.specs.Machine.{run, between, of_function}
+use Rattle.lowering.specs.Functions.{between, of_function}
+use Rattle.lowering.specs.Machine.{run}
 use Rattle.lowering.specs.Blocks.{named_blocks}
 use Rattle.lowering.specs.Scan.{told_plans}
 use Rattle.lowering.specs.Lowers.{MachineLowers, BlocksAreMade, BlocksOfGraph}

@@ -7,7 +7,9 @@ use Rattle.semantics.specs.declared.graph.Kind.{Kind}
 use Rattle.semantics.specs.declared.graph.Kind.TheVariants as node
 use Rattle.source.specs.Tree.{Name, NameAt, Target, Bind, Drop}
 use Rattle.source.specs.Lowered.{Made, Site, Spot, made, ports_from, inputs_from, port, literal, only, Scope, scoped, let_scoped, merges, enters, entered_names, or_predicate, source_in, turn_scope}
-use Rattle.lowering.specs.Machine.{State, after, one_node, with_node, with_sources, with_all, with_merges, entered_nodes}
+use Rattle.lowering.specs.State.{State, after}
+use Rattle.lowering.specs.Operators.{one_node, with_node, with_sources}
+use Rattle.lowering.specs.Conditionals.{with_all, with_merges, entered_nodes}
 use Rattle.lowering.proofs.Algebra.{alike}
 
 pub one_more : (s : State) (at : ℕ) (kind : Kind Name) (ss : List Source) (n : ℕ)

@@ -13,7 +13,8 @@ use Rattle.source.specs.Tree.{Name, Program}
 use Rattle.source.specs.Words.{name_of, named, numbers_of}
 use Rattle.source.specs.Rules.{function_in}
 use Rattle.source.specs.Lowered.{results_of}
-use Rattle.lowering.specs.Machine.{State, run, act, act_with, noted, is_number, called_results}
+use Rattle.lowering.specs.State.{State, noted}
+use Rattle.lowering.specs.Machine.{run, act, act_with, is_number, called_results}
 use Rattle.lowering.specs.Results.{Heads, heads_of, head_read, heads_read, heads_told, results_in, told_arrays, told_results}
 use Rattle.lowering.specs.Numbered.{Kept, names_told, kept_begun, kept_read, all_kept, results_at, run_numbered}
 

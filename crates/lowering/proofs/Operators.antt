@@ -13,7 +13,9 @@ use Rattle.source.specs.Evaluates.{signed}
 use Rattle.source.specs.Lowered.{Made, Lowered, Site, Spot, lower, ended, joined, spot_after, prefixed, made, operator_of, operands}
 use Rattle.lowering.specs.Counts.{many, Counted}
 use Rattle.lowering.specs.Plans.{Plan, plans}
-use Rattle.lowering.specs.Machine.{State, after, planned, noted, run, operated, prefix, as_they_are}
+use Rattle.lowering.specs.State.{State, after, planned, noted}
+use Rattle.lowering.specs.Operators.{operated, prefix, as_they_are}
+use Rattle.lowering.specs.Machine.{run}
 use Rattle.lowering.proofs.Algebra.{and_then, both_plans, after_joined, after_operated, last_of_nodes}
 use Rattle.lowering.proofs.HowMany.{so_many}
 use Rattle.lowering.proofs.Says.{Says, is_numeral}

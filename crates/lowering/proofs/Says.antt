@@ -4,7 +4,8 @@ use Rattle.source.specs.Tree.{Name, NameAt, Expr, Number, Named, Bracket, Prefix
 use Rattle.source.specs.Words.{words, part_words, first_words, body_words}
 use Rattle.source.specs.Lowered.{Lowered, Scope, lower, lower_list, lower_body}
 use Rattle.lowering.specs.Plans.{Plan, plans, list_plans, body_plans}
-use Rattle.lowering.specs.Machine.{State, Frame, Firsts, Begun, after, planned, noted, run}
+use Rattle.lowering.specs.State.{State, Frame, Firsts, Begun, after, planned, noted}
+use Rattle.lowering.specs.Machine.{run}
 
 abbrev pub is_numeral : Expr → Bool
 is_numeral (Number at n) = true

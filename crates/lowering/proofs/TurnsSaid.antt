@@ -9,7 +9,9 @@ use Rattle.source.specs.Outside.{outside_body, outside_turn, bare}
 use Rattle.source.specs.Lowered.{Made, MadeBlock, Lowered, Site, Spot, Scope, lower, lower_list, lower_body, lower_turn, spot_after, next_spot, joined, arm_site, entered_names, first_of, merges, chosen, made, inputs_from, ports_from, source_in, loop_name, turn_block, turn_scope, turn_site, scoped, looped}
 use Rattle.lowering.specs.Counts.{many, Counted}
 use Rattle.lowering.specs.Plans.{Plan, plan, plans, list_plans, body_plans, turn_plans}
-use Rattle.lowering.specs.Machine.{State, Begun, Turning, Arms, Frame, Firsts, Turned, Looping, Ending, after, planned, noted, run, loop_ended, turning}
+use Rattle.lowering.specs.State.{State, Begun, Turning, Arms, Frame, Firsts, Turned, Looping, Ending, after, planned, noted}
+use Rattle.lowering.specs.Loops.{loop_ended, turning}
+use Rattle.lowering.specs.Machine.{run}
 use Rattle.lowering.proofs.Algebra.{and_then, both_plans, alike, built}
 use Rattle.lowering.proofs.HowMany.{so_many}
 use Rattle.lowering.proofs.Says.{Says, SaysAll, SaysBody, SaysFirsts, is_numeral, with_names}

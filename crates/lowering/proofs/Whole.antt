@@ -7,7 +7,9 @@ use Rattle.source.specs.Fits.{count}
 use Rattle.source.specs.Lowered.{MadeBlock, function_blocks, function_scope, turn_site}
 use Rattle.lowering.specs.Counts.{Counted, ListCounted, BodyCounted, TurnCounted, ItemsCounted}
 use Rattle.lowering.specs.Plans.{Plan, body_plans, item_plans, program_plans}
-use Rattle.lowering.specs.Machine.{State, Frame, Header, run, planned, between, of_function}
+use Rattle.lowering.specs.State.{State, Frame, Header, planned}
+use Rattle.lowering.specs.Functions.{between, of_function}
+use Rattle.lowering.specs.Machine.{run}
 use Rattle.lowering.specs.Blocks.{named_blocks}
 use Rattle.lowering.proofs.Algebra.{and_then, both_plans}
 use Rattle.lowering.proofs.Says.{Says, SaysAll, SaysBody, SaysFirsts}

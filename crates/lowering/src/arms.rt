@@ -2,8 +2,9 @@
 
 ghost use Rattle.std.specs.Prelude.{◌≡◌, ◌+◌, ◌∷◌, ◌++◌, [], OnOk, IfOk, length, map};
 ghost use Rattle.source.specs.Lowered.{first_of, merges, inputs_from, or_predicate, source_in};
-ghost use Rattle.lowering.specs.Machine.{entered, chosen_by, arms_of, first_arm, second_arm, if_ended, with_node, with_merges, entered_nodes};
-ghost use Rattle.lowering.specs.Machine.{Left, Looping};
+ghost use Rattle.lowering.specs.Operators.{with_node};
+ghost use Rattle.lowering.specs.Conditionals.{entered, chosen_by, arms_of, first_arm, second_arm, if_ended, with_merges, entered_nodes};
+ghost use Rattle.lowering.specs.State.{Left, Looping};
 ghost use Rattle.semantics.specs.declared.graph.Kind.TheVariants as node;
 
 use crate::frame::{Arms, Frame, Open, Site};
@@ -39,7 +40,7 @@ impl<'a, A: Allocator + Clone> Machine<'a, A> {
         self.put(at, Kind::Cond, told)?;
         let none = Vec::new(self.alloc.clone()?);
         let outer = mem::replace(&mut self.sources, none);
-        let empty = Scope::new(self.alloc.clone()?);
+        let empty = Scope::new(&self.alloc)?;
         let scope = mem::replace(&mut self.scope, empty);
         Ok(Arms {
             site: self.site,
@@ -108,7 +109,7 @@ impl<'a, A: Allocator + Clone> Machine<'a, A> {
         let taken = self.taken(arms, names)?;
         self.put_enters(at, &taken)?;
         let enters = inputs(self.alloc.clone()?, node, names.len())?;
-        let mut scope = Scope::new(self.alloc.clone()?);
+        let mut scope = Scope::new(&self.alloc)?;
         scope.bind_all(names, &enters)?;
         let _outer = mem::replace(&mut self.scope, scope);
         self.sources = Vec::new(self.alloc.clone()?);

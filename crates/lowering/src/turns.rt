@@ -3,7 +3,8 @@
 ghost use Rattle.std.specs.Prelude.{◌≡◌, ◌+◌, ◌∷◌, ◌++◌, [], OnOk, IfOk, length, map};
 ghost use Rattle.source.specs.Lowered.{loop_name, scoped, turn_scope};
 ghost use Rattle.source.specs.Outside.{bare};
-ghost use Rattle.lowering.specs.Machine.{loop_begun, named_first, turning, turn_begun, tested, came_back, passing, passed, with_all};
+ghost use Rattle.lowering.specs.Conditionals.{with_all};
+ghost use Rattle.lowering.specs.Loops.{loop_begun, named_first, turning, turn_begun, tested, came_back, passing, passed};
 
 use crate::frame::{Arms, Begun, Frame, Open, Site, Spot, Turning};
 use crate::loop_names::next_loop_name;
@@ -86,7 +87,7 @@ fn first_scope<'a, A: Allocator + Clone>(
 {
     let names = carried(alloc.clone()?, &begun.names, &begun.outs)?;
     let values = inputs(alloc.clone()?, 0, names.len())?;
-    let mut scope = Scope::new(alloc);
+    let mut scope = Scope::new(&alloc)?;
     scope.bind_all(&names, &values)?;
     Ok(scope)
 }
