@@ -1,5 +1,5 @@
 -- What maps and sets of names have after one name more.
-use Rattle.std.proofs.Common.{◌≡◌, ℕ, Bool, true, false, ◌||◌, List, [], ◌∷◌, Option, Some, if◌then◌else◌, refl, ◌∙◌, ap, Bor}
+use Rattle.std.proofs.Common.{◌≡◌, Bool, true, false, ◌||◌, [], ◌∷◌, Option, Some, if◌then◌else◌, refl, ◌∙◌, ap, Bor}
 use Rattle.std.specs.Prelude.{unwrap_or}
 use Rattle.std.specs.Map.{lookup}
 use Rattle.std.specs.BTreeMap.{BTreeMap, get_by, UpdatesBy, is_at}

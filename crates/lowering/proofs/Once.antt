@@ -4,7 +4,7 @@ use Rattle.std.proofs.Math.Seq.{drop-cons}
 use Rattle.std.proofs.lemmas.List.{drop_all}
 use Rattle.std.specs.BTreeSet.{BTreeSet}
 use Rattle.semantics.specs.Graph.{same_name}
-use Rattle.semantics.proofs.Lines.{same_name_is, same_name_itself}
+use Rattle.semantics.proofs.Lines.{same_name_is}
 use Rattle.source.specs.Tree.{Name}
 use Rattle.source.specs.Outside.{is_in, once, without}
 use Rattle.std.specs.Prelude.{if◌then◌else◌}

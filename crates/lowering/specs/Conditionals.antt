@@ -19,6 +19,14 @@ with_merges s ms = record s { spot = record { next = s.spot.next + length ms; lo
 abbrev pub entered_nodes : Site → ℕ → List Source → List Made
 entered_nodes site at ss = map (λ (s : Source). made site at node.Enter (s ∷ [])) ss
 
+-- the enters of an arm
+abbrev pub enters_of : State → Arms → Bool → ℕ → List Name → Lowered
+enters_of s arms side at names = entered_names (arm_site arms.site arms.cond side s.spot) s.spot at arms.scope (first_of arms.predicate) names
+
+-- the enters of an arm are made, within the arm
+abbrev pub with_enters : State → Arms → Bool → ℕ → List Name → State
+with_enters s arms side at names = with_all (record s { site = arm_site arms.site arms.cond side s.spot }) (enters_of s arms side at names)
+
 -- an arm begins, with its enters
 abbrev pub entered : State → Arms → Bool → ℕ → List Name → State
 entered s arms side at names =

@@ -1,5 +1,5 @@
 -- What each name of a scope stands for, in a map.
-use Rattle.std.specs.Prelude.{◌≡◌, List, unwrap_or}
+use Rattle.std.specs.Prelude.{◌≡◌, unwrap_or}
 use Rattle.std.specs.BTreeMap.{BTreeMap, get_by}
 use Rattle.std.specs.Cmp.Lexicographic.{slice_cmp}
 use Rattle.std.specs.Ordering.{nat_cmp}

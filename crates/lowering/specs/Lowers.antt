@@ -1,5 +1,5 @@
 -- THE MACHINE LOWERS a program: over its words, with the plans that the words tell, it makes the blocks of the definition.
-use Rattle.std.specs.Prelude.{◌≡◌, ℕ, List, [], map, Ok}
+use Rattle.std.specs.Prelude.{◌≡◌, ℕ, [], map, Ok}
 use Rattle.source.specs.Tree.{Name, Program}
 use Rattle.source.specs.Words.{program_words}
 use Rattle.source.specs.Fits.{FitsProgram}

@@ -222,7 +222,6 @@ impl<'a, A: Allocator + Clone> Machine<'a, A> {
     }
 
     /// The other arm of a test: an `enter` of each name of the loop.
-    #[tactic(auto, using(crate::proofs::Nodes::all_enters))]
     fn pass(
         &mut self,
         arms: &Arms<'a, A>,
@@ -232,19 +231,9 @@ impl<'a, A: Allocator + Clone> Machine<'a, A> {
         ensures entered { OnOk result (self.new ≡ with_all (record self.old { site = passing self.old arms.now }) (passed self.old arms.now at names.now)) }
         ensures values { IfOk result (λ v. v.items ≡ (passed self.old arms.now at names.now).sources) }
     {
-        let node = self.spot.next;
-        self.site = Site {
-            function: arms.site.function,
-            region: Region::Arm {
-                cond: arms.cond,
-                side: false,
-            },
-            trigger: Source { node, port: 0 },
-        };
         let own = bare_names(self.alloc.clone()?, names)?;
-        let taken = self.taken(arms, &own)?;
-        self.put_enters(at, &taken)?;
-        inputs(self.alloc.clone()?, node, taken.len())
+        let values = self.enter_all(arms, false, at, &own)?;
+        Ok(values)
     }
 
     /// The arm of a turn that goes on ends. The other arm gives the loop's names as they came.
