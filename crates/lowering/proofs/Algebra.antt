@@ -1,12 +1,14 @@
 -- Parts one after another are one part.
-use Rattle.std.proofs.Common.{◌≡◌, ℕ, ◌+◌, ◌-◌, Bool, true, false, List, [], ◌∷◌, ◌++◌, length, take, drop, map, refl, sym, ◌∙◌, ap, subst, arith, append_assoc, append-nil, length-append, add_assoc, add-zero}
+use Rattle.std.proofs.Common.{◌≡◌, ℕ, ◌-◌, List, [], ◌∷◌, ◌++◌, length, take, drop, refl, sym, ◌∙◌, ap, subst, arith, append_assoc, append-nil, length-append}
 use Rattle.semantics.specs.declared.graph.Source.{Source}
 use Rattle.semantics.specs.declared.graph.Kind.{Kind}
 use Rattle.source.specs.Tree.{Name, Program}
 use Rattle.source.specs.Words.{Words}
-use Rattle.source.specs.Lowered.{Made, MadeBlock, Lowered, Site, Spot, spot_after, joined, followed, ended, made, ports_from}
+use Rattle.source.specs.Lowered.{Made, MadeBlock, Lowered, spot_after, joined, followed, ended, made}
 use Rattle.lowering.specs.Plans.{Plan}
-use Rattle.lowering.specs.Machine.{State, after, planned, run, act, noted, is_number, one_node, before_last, last_of, operated, negated, last_negated}
+use Rattle.lowering.specs.State.{State, after, planned, noted}
+use Rattle.lowering.specs.Operators.{one_node, before_last, last_of, operated, negated, last_negated}
+use Rattle.lowering.specs.Machine.{run, act, is_number}
 
 pub run_append : (p : Program) (s : State) (a b : Words) → run p s (a ++ b) ≡ run p (run p s a) b
 run_append p s [] b = refl

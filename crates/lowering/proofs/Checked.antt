@@ -1,5 +1,5 @@
 -- In a program that fits the grammar and keeps the rules each operand has one value, and each name of a loop a first value.
-use Rattle.std.proofs.Common.{◌≡◌, ℕ, ◌+◌, ◌==◌, Bool, true, false, List, [], ◌∷◌, ◌++◌, Option, None, Some, Ok, length, refl, sym, ◌∙◌, ap, inl, inr, ◌⊎◌}
+use Rattle.std.proofs.Common.{◌≡◌, ℕ, ◌+◌, ◌==◌, Bool, true, false, List, [], ◌∷◌, ◌++◌, Some, Ok, sym, ◌∙◌, ap, inl, inr}
 use Rattle.std.specs.Prelude.{is_some}
 use Rattle.operators.specs.declared.Unary.{Unary}
 use Rattle.operators.specs.declared.Unary.TheVariants.{Neg, Not}
@@ -12,7 +12,7 @@ use Rattle.source.specs.Outside.{bare, bound_by}
 use Rattle.source.specs.Rules.{values, list_values, first_values, body_values, turn_values, function_in, written_or_one, and_first, functions_checked, function_checked, new_names, heads, no_items, main_name, checked}
 use Rattle.source.specs.Lowered.{results_of}
 use Rattle.source.proofs.Steps.{then_ok, ok_same}
-use Rattle.source.proofs.Kept.{HasOne, known_name, in_prefix, in_infix, in_fetch, in_store, IsCalled, in_call, in_if, IsTurned, in_loop, in_more, in_first, in_firsts, in_let, in_do, in_before, in_after}
+use Rattle.source.proofs.Kept.{known_name, in_prefix, in_infix, in_fetch, in_store, in_call, in_if, in_loop, in_more, in_first, in_firsts, in_let, in_do, in_before, in_after}
 use Rattle.lowering.specs.Counts.{many, list_many, body_many, Counted, ListCounted, BodyCounted, TurnCounted, ItemsCounted}
 
 -- an expression with so many values

@@ -1,18 +1,19 @@
 -- What is gone over is the program.
-use Rattle.std.proofs.Common.{◌≡◌, ℕ, List, [], ◌∷◌, length, map, Result, Ok, Err, refl, sym, ◌∙◌, ap}
+use Rattle.std.proofs.Common.{◌≡◌, ℕ, List, [], ◌∷◌, map, Result, Ok, Err, refl, sym, ◌∙◌, ap}
 use Rattle.std.specs.Prelude.{⊤}
 use Rattle.source.specs.declared.fault.Fault.{Fault}
 use Rattle.semantics.specs.Graph.{Block}
 use Rattle.source.specs.declared.word.Word.{Word}
 use Rattle.source.specs.Tree.{Name, Program}
-use Rattle.source.specs.Words.{program_words, name_of}
-use Rattle.source.specs.Rules.{checked}
+use Rattle.source.specs.Words.{name_of}
 use Rattle.source.specs.Lowered.{MadeBlock, made_blocks, blocks_of, arrays_of, graph_of, graph_block, lowered, sizes}
 use Rattle.source.specs.First.{◌>>=◌}
 use Rattle.source.specs.Words.{IsProgram}
 use Rattle.source_check.specs.Checked.{IsChecked}
 use Rattle.lowering.specs.Plans.{Plan}
-use Rattle.lowering.specs.Machine.{State, run, between}
+use Rattle.lowering.specs.State.{State}
+use Rattle.lowering.specs.Functions.{between}
+use Rattle.lowering.specs.Machine.{run}
 use Rattle.lowering.specs.Blocks.{named_blocks}
 use Rattle.lowering.specs.Scan.{told_plans}
 use Rattle.lowering.specs.Results.{told_arrays, told_results}

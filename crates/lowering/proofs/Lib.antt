@@ -13,5 +13,6 @@ pub mod Lowers
 pub mod Same
 pub mod Nodes
 pub mod Once
+pub mod NameMaps
 pub mod Numbers
 pub mod Exact

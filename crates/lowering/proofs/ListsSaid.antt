@@ -1,15 +1,13 @@
 -- The machine on lists, calls and bodies.
-use Rattle.std.proofs.Common.{◌≡◌, ℕ, suc, ◌+◌, Bool, true, false, List, [], ◌∷◌, ◌++◌, length, map, refl, sym, ◌∙◌, ap, subst, arith, append_assoc, append-nil}
-use Rattle.semantics.specs.declared.graph.Source.{Source}
+use Rattle.std.proofs.Common.{◌≡◌, ℕ, Bool, false, List, [], ◌∷◌, ◌++◌, map, refl, sym, ◌∙◌, ap, subst, append_assoc, append-nil}
 use Rattle.source.specs.declared.word.Word.TheVariants as word
 use Rattle.source.specs.Tree.{Name, NameAt, Target, Bind, Drop, Expr, Call, Exprs, One, More, Body, Let, Do, Give, Chain, Program}
-use Rattle.source.specs.Words.{words, part_words, first_words, start_words, body_words, target_word}
-use Rattle.source.specs.Spelled.{others}
-use Rattle.source.specs.Fits.{count}
+use Rattle.source.specs.Words.{words, part_words, first_words, body_words, target_word}
 use Rattle.source.specs.Rules.{function_in}
-use Rattle.source.specs.Lowered.{Lowered, Scope, lower, lower_list, lower_body, spot_after, joined, followed, let_scoped, call_kind, results_of}
+use Rattle.source.specs.Lowered.{Lowered, lower, lower_list, lower_body, spot_after, let_scoped, call_kind, results_of}
 use Rattle.lowering.specs.Plans.{Plan, plans, list_plans, body_plans}
-use Rattle.lowering.specs.Machine.{State, Frame, Firsts, Listed, Targets, Begun, after, planned, noted, run}
+use Rattle.lowering.specs.State.{State, Frame, Firsts, Listed, Targets, Begun, after, planned, noted}
+use Rattle.lowering.specs.Machine.{run}
 use Rattle.lowering.proofs.Algebra.{and_then, both_plans, after_joined, after_followed, after_ended, quiet}
 use Rattle.lowering.proofs.Says.{Says, SaysAll, SaysBody, SaysFirsts, with_names}
 

@@ -1,16 +1,14 @@
 -- The machine, the scan and the rules together.
-use Rattle.std.proofs.Common.{◌≡◌, ℕ, List, [], ◌∷◌, ◌++◌, Ok, map, refl, sym, ◌∙◌, ap, subst, append-nil}
+use Rattle.std.proofs.Common.{◌≡◌, List, [], ◌∷◌, ◌++◌, map, refl, sym, ◌∙◌, ap, append-nil}
 use Rattle.lemmas.proofs.Lists.{map_append}
 use Rattle.source.specs.Tree.{Name, Item, Cells, Defines, Program}
 use Rattle.source.specs.Words.{program_words}
-use Rattle.source.specs.Fits.{FitsProgram}
-use Rattle.source.specs.Rules.{checked}
 use Rattle.source.specs.Lowered.{MadeBlock, made_blocks, blocks_of, graph_block, function_blocks}
 use Rattle.lowering.specs.Counts.{ItemsCounted}
 use Rattle.lowering.specs.Plans.{Plan, program_plans}
-use Rattle.lowering.specs.Machine.{run, between, of_function}
+use Rattle.lowering.specs.Functions.{between, of_function}
+use Rattle.lowering.specs.Machine.{run}
 use Rattle.lowering.specs.Blocks.{named_blocks}
-use Rattle.lowering.specs.Scan.{told_plans}
 use Rattle.lowering.specs.Lowers.{MachineLowers, BlocksAreMade, BlocksOfGraph}
 use Rattle.lowering.proofs.Whole.{items_say}
 use Rattle.lowering.proofs.Scanned.{plans_told}

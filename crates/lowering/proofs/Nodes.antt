@@ -1,13 +1,15 @@
 -- One node more.
-use Rattle.std.proofs.Common.{min, ◌≡◌, ℕ, zero, suc, ◌+◌, ◌<◌, ◌≤◌, ◌⊎◌, inl, inr, Option, None, Some, get_or, drop, take, map, add-one, List, [], ◌∷◌, ◌++◌, length, refl, sym, ◌∙◌, ap, arith, length-append, append-nil, append_assoc, add-zero}
+use Rattle.std.proofs.Common.{min, ◌≡◌, ℕ, zero, suc, ◌+◌, ◌<◌, ◌≤◌, Bool, ◌⊎◌, inl, inr, get_or, drop, map, add-one, List, [], ◌∷◌, ◌++◌, length, refl, sym, ◌∙◌, ap, arith, length-append, append-nil, append_assoc, add-zero}
 use Rattle.std.proofs.Math.Seq.{drop-cons}
 use Rattle.std.proofs.lemmas.List.{drop_all}
 use Rattle.semantics.specs.declared.graph.Source.{Source}
 use Rattle.semantics.specs.declared.graph.Kind.{Kind}
 use Rattle.semantics.specs.declared.graph.Kind.TheVariants as node
 use Rattle.source.specs.Tree.{Name, NameAt, Target, Bind, Drop}
-use Rattle.source.specs.Lowered.{Made, Site, Spot, made, ports_from, inputs_from, port, literal, only, Scope, scoped, let_scoped, merges, enters, entered_names, or_predicate, source_in, turn_scope}
-use Rattle.lowering.specs.Machine.{State, after, one_node, with_node, with_sources, with_all, with_merges, entered_nodes}
+use Rattle.source.specs.Lowered.{Made, Site, made, ports_from, inputs_from, port, literal, only, Scope, scoped, let_scoped, merges, entered_names, arm_site, first_of, or_predicate, source_in, turn_scope}
+use Rattle.lowering.specs.State.{Arms, State, after}
+use Rattle.lowering.specs.Operators.{one_node, with_node, with_sources}
+use Rattle.lowering.specs.Conditionals.{with_all, with_merges, entered_nodes, entered, enters_of, with_enters}
 use Rattle.lowering.proofs.Algebra.{alike}
 
 pub one_more : (s : State) (at : ℕ) (kind : Kind Name) (ss : List Source) (n : ℕ)
@@ -141,14 +143,31 @@ pub all_enters : (s : State) (at : ℕ) (scope : Scope) (predicate : Source) (xs
     → with_merges s (entered_nodes s.site at (or_predicate predicate (map (source_in scope) xs))) ≡ with_all s (entered_names s.site s.spot at scope predicate xs)
 all_enters s at scope predicate xs = alike s _ _ _ _ _ _ _ _ _ _ refl (sym (add-zero s.spot.loops)) refl refl refl
 
-pub entered_scope : (n : ℕ) (f : Name → Source) (predicate : Source) (xs : List Name)
-    → scoped xs (inputs_from n (length xs)) [] ≡ scoped xs (inputs_from n (length (or_predicate predicate (map f xs)))) []
-entered_scope n f predicate [] = refl
-entered_scope n f predicate (x ∷ xs) = ap (λ (k : ℕ). scoped (x ∷ xs) (inputs_from n k) []) (ap suc (sym (mapped f xs)))
+-- an arm that takes what is told makes its enters
+pub arm_enters : (s t n : State) (arms brms : Arms) (side : Bool) (at : ℕ) (xs : List Name) (taken : List Source) → t ≡ s → brms ≡ arms
+    → n ≡ with_merges (record t { site = arm_site brms.site brms.cond side t.spot }) (entered_nodes (arm_site brms.site brms.cond side t.spot) at taken)
+    → taken ≡ or_predicate (first_of arms.predicate) (map (source_in arms.scope) xs)
+    → n ≡ with_enters s arms side at xs
+arm_enters s t n arms brms side at xs taken p q e h =
+    e ∙ (λ i. made_of (p i) (q i) (h i))
+    ∙ all_enters (record s { site = arm_site arms.site arms.cond side s.spot }) at arms.scope (first_of arms.predicate) xs
   where
-    mapped : (f : Name → Source) (xs : List Name) → length (map f xs) ≡ length xs
-    mapped f [] = refl
-    mapped f (x ∷ xs) = ap suc (mapped f xs)
+    made_of : State → Arms → List Source → State
+    made_of z a ss = with_merges (record z { site = arm_site a.site a.cond side z.spot }) (entered_nodes (arm_site a.site a.cond side z.spot) at ss)
+
+pub arm_values : (s t : State) (arms : Arms) (side : Bool) (at : ℕ) (xs : List Name) (taken vs : List Source) (n : ℕ) → t ≡ s
+    → vs ≡ inputs_from t.spot.next n → n ≡ length taken → taken ≡ or_predicate (first_of arms.predicate) (map (source_in arms.scope) xs)
+    → vs ≡ (enters_of s arms side at xs).sources
+arm_values s t arms side at xs taken vs n p e k h = e ∙ (λ i. inputs_from (p i).spot.next (k i)) ∙ ap (λ (ss : List Source). inputs_from s.spot.next (length ss)) h
+
+-- an arm begins, where its enters are made
+pub arm_begins : (s t : State) (arms : Arms) (side : Bool) (at : ℕ) (xs : List Name) (vs none : List Source) (scope : Scope)
+    → t ≡ with_enters s arms side at xs → vs ≡ (enters_of s arms side at xs).sources → scope ≡ scoped xs vs [] → none ≡ []
+    → record t { scope = scope; sources = none } ≡ entered s arms side at xs
+arm_begins s t arms side at xs vs none scope e v k h = λ i. begun (e i) ((k ∙ ap (λ (ss : List Source). scoped xs ss []) v) i) (h i)
+  where
+    begun : State → Scope → List Source → State
+    begun z sc ss = record z { scope = sc; sources = ss }
 
 -- the inputs of a turn's block
 pub turn_inputs : (xs outs : List Name) → scoped (xs ++ outs) (inputs_from 0 (length (xs ++ outs))) [] ≡ turn_scope xs outs

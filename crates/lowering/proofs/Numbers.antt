@@ -1,5 +1,5 @@
 -- What is told by numbers of names is what is told by the names.
-use Rattle.std.proofs.Common.{◌≡◌, ℕ, zero, suc, ◌<◌, ◌==◌, Bool, true, false, List, [], ◌∷◌, map, length, refl, sym, ◌∙◌, ap, subst, arith}
+use Rattle.std.proofs.Common.{◌≡◌, ℕ, zero, suc, ◌<◌, ◌==◌, Bool, true, false, List, [], ◌∷◌, length, refl, sym, ◌∙◌, ap, subst}
 use Rattle.std.specs.Prelude.{All, replicate, slice_index_or, slice_set, if◌then◌else◌}
 use Rattle.std.proofs.lemmas.Bool.{eqb-true, eqb-false}
 use Rattle.std.proofs.lemmas.List.{get_or-set_same, get_or-set_other}
@@ -13,8 +13,9 @@ use Rattle.source.specs.Tree.{Name, Program}
 use Rattle.source.specs.Words.{name_of, named, numbers_of}
 use Rattle.source.specs.Rules.{function_in}
 use Rattle.source.specs.Lowered.{results_of}
-use Rattle.lowering.specs.Machine.{State, run, act, act_with, noted, is_number, called_results}
-use Rattle.lowering.specs.Results.{Heads, heads_of, head_read, heads_read, heads_told, results_in, told_arrays, told_results}
+use Rattle.lowering.specs.State.{State, noted}
+use Rattle.lowering.specs.Machine.{run, act, act_with, is_number, called_results}
+use Rattle.lowering.specs.Results.{Heads, head_read, heads_told, results_in, told_arrays, told_results}
 use Rattle.lowering.specs.Numbered.{Kept, names_told, kept_begun, kept_read, all_kept, results_at, run_numbered}
 
 abbrev Distinct : List Name → Type 0

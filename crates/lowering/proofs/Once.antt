@@ -1,83 +1,134 @@
--- Names once each, where they stand first: those that are kept so far, and of the rest those that are not among them.
-use Rattle.std.proofs.Common.{◌≡◌, ℕ, suc, ◌+◌, ◌<◌, ◌≤◌, Bool, true, false, not, ◌||◌, ◌&&◌, List, [], ◌∷◌, ◌++◌, length, drop, filter, get_or, refl, sym, ◌∙◌, ap, subst, append-nil, append_assoc, add-one}
+-- What code keeps of the marks of a part: what is kept so far, and of the rest that which a set of names lacks.
+use Rattle.std.proofs.Common.{◌≡◌, ℕ, suc, ◌+◌, ◌<◌, ◌≤◌, Bool, true, false, not, ◌||◌, ◌&&◌, List, [], ◌∷◌, ◌++◌, length, drop, filter, get_or, refl, sym, ◌∙◌, ap, subst, append-nil, append_assoc, add-one, Bor}
 use Rattle.std.proofs.Math.Seq.{drop-cons}
 use Rattle.std.proofs.lemmas.List.{drop_all}
+use Rattle.std.specs.BTreeSet.{BTreeSet}
 use Rattle.semantics.specs.Graph.{same_name}
-use Rattle.semantics.proofs.Lines.{same_name_is, same_name_itself}
+use Rattle.semantics.proofs.Lines.{same_name_is}
 use Rattle.source.specs.Tree.{Name}
 use Rattle.source.specs.Outside.{is_in, once, without}
 use Rattle.std.specs.Prelude.{if◌then◌else◌}
-use Rattle.lowering.specs.Scan.{kept_once}
+use Rattle.lowering.specs.Uses.{shown, has, lacks, with_new}
 use Rattle.lowering.proofs.Scanned.{kept, left_out, filter_twice}
+use Rattle.lowering.proofs.Same.{same_way}
 
-pub without_none : (xs : List Name) → without [] xs ≡ xs
-without_none [] = refl
-without_none (x ∷ xs) = ap (λ ys. x ∷ ys) (without_none xs)
+abbrev Names : Type 0
+Names = BTreeSet (Bor Name)
 
-is_in_append : (y : Name) (ks : List Name) (x : Name) → is_in y (ks ++ x ∷ []) ≡ (is_in y ks || same_name y x)
-is_in_append y [] x = by (same_name y x)
+lacks_all : (k : Names) → ((z : Name) → has k z ≡ false) → (xs : List Name) → filter (lacks k) xs ≡ xs
+lacks_all k none [] = refl
+lacks_all k none (x ∷ xs) = kept (lacks k) x xs (ap not (none x)) ∙ ap (λ zs. x ∷ zs) (lacks_all k none xs)
+
+-- A name more is no longer lacked.
+abbrev HasMore : Names → Names → Name → Type 0
+HasMore j k x = (z : Name) → has j z ≡ (same_name z x || has k z)
+
+lacks_used : (j k : Names) (x : Name) → HasMore j k x → (y : Name) → lacks j y ≡ (not (same_name x y) && lacks k y)
+lacks_used j k x h y = ap not (h y) ∙ by (same_name y x) (has k y) ∙ ap (λ (b : Bool). not b && lacks k y) (same_way y x)
   where
-    by : (b : Bool) → (b || false) ≡ b
-    by true = refl
-    by false = refl
-is_in_append y (k ∷ ks) x = by (same_name y k) (is_in_append y ks x)
+    by : (b c : Bool) → not (b || c) ≡ (not b && not c)
+    by true c = refl
+    by false c = refl
+
+lacks_bound : (j k : Names) (x : Name) → HasMore j k x → (y : Name) → lacks j y ≡ (not (is_in y (x ∷ [])) && lacks k y)
+lacks_bound j k x h y = ap not (h y) ∙ by (same_name y x) (has k y)
   where
-    by : (b : Bool) → is_in y (ks ++ x ∷ []) ≡ (is_in y ks || same_name y x) → (b || is_in y (ks ++ x ∷ [])) ≡ ((b || is_in y ks) || same_name y x)
-    by true e = refl
-    by false e = e
+    by : (b c : Bool) → not (b || c) ≡ (not (b || false) && not c)
+    by true c = refl
+    by false c = refl
 
-same_way : (x y : Name) → same_name x y ≡ same_name y x
-same_way x y = by (same_name x y) refl (same_name y x) refl
+one_way : (b c : Bool) → (b && c) ≡ (c && b)
+one_way true true = refl
+one_way true false = refl
+one_way false true = refl
+one_way false false = refl
+
+-- It is one whether names are left out before or behind.
+once_filter : (p : Name → Bool) (xs : List Name) → once (filter p xs) ≡ filter p (once xs)
+once_filter p [] = refl
+once_filter p (x ∷ xs) = by (p x) refl (once_filter p xs)
   where
-    by : (b : Bool) → same_name x y ≡ b → (c : Bool) → same_name y x ≡ c → same_name x y ≡ same_name y x
-    by true e true f = e ∙ sym f
-    by false e false f = e ∙ sym f
-    by true e false f = let p : x ≡ y = same_name_is x y e in e ∙ sym (subst (λ z. same_name z x ≡ true) p (same_name_itself x))
-    by false e true f = let p : y ≡ x = same_name_is y x f in subst (λ z. same_name z y ≡ true) p (same_name_itself y) ∙ sym f
+    other : Name → Bool
+    other y = not (same_name x y)
 
--- a name that is kept hides no more
-hidden : (ks : List Name) (x y : Name) → is_in x ks ≡ true → not (is_in y ks) ≡ (not (same_name x y) && not (is_in y ks))
-hidden ks x y e = by (same_name x y) refl
+    off : p x ≡ false → (y : Name) (b : Bool) → same_name x y ≡ b → p y ≡ (not b && p y)
+    off e y true h = subst (λ z. p z ≡ false) (same_name_is x y h) e
+    off e y false h = refl
+
+    by : (b : Bool) → p x ≡ b → once (filter p xs) ≡ filter p (once xs) → once (filter p (x ∷ xs)) ≡ filter p (once (x ∷ xs))
+    by true e ih = ap once (kept p x xs e) ∙ ap (λ zs. x ∷ filter other zs) ih
+        ∙ ap (λ zs. x ∷ zs) (filter_twice other p (λ y. p y && other y) (λ y. refl) (once xs))
+        ∙ sym (kept p x (filter other (once xs)) e ∙ ap (λ zs. x ∷ zs) (filter_twice p other (λ y. p y && other y) (λ y. one_way (p y) (other y)) (once xs)))
+    by false e ih = ap once (left_out p x xs e) ∙ ih
+        ∙ sym (left_out p x (filter other (once xs)) e ∙ filter_twice p other p (λ y. off e y (same_name x y) refl) (once xs))
+
+-- NAMES THAT ARE NEW
+pub new_begun : (k : Names) (marks : List (Name × Bool)) → ((z : Name) → has k z ≡ false) → filter (lacks k) (once (shown marks)) ≡ once (shown marks)
+new_begun k marks none = lacks_all k none (once (shown marks))
+
+new_mark : (j k : Names) (js ks rest : List Name) (x : Name) (b : Bool) → js ≡ with_new (has k) (x, b) ks → HasMore j k x
+    → js ++ filter (lacks j) (once rest) ≡ ks ++ filter (lacks k) (once (if b then without (x ∷ []) rest else x ∷ rest))
+new_mark j k js ks rest x true e h =
+    ap (λ zs. zs ++ filter (lacks j) (once rest)) e
+    ∙ ap (λ zs. ks ++ zs) (sym (ap (filter (lacks k)) (once_filter (λ y. not (is_in y (x ∷ []))) rest)
+    ∙ filter_twice (lacks k) (λ y. not (is_in y (x ∷ []))) (lacks j) (lacks_bound j k x h) (once rest)))
+new_mark j k js ks rest x false e h = by (has k x) refl
   where
-    by : (b : Bool) → same_name x y ≡ b → not (is_in y ks) ≡ (not b && not (is_in y ks))
-    by false h = refl
-    by true h = ap not (subst (λ z. is_in z ks ≡ true) (same_name_is x y h) e)
+    other : Name → Bool
+    other y = not (same_name x y)
 
--- a new name hides itself from now on
-shown : (ks : List Name) (x y : Name) → not (is_in y (ks ++ x ∷ [])) ≡ (not (same_name x y) && not (is_in y ks))
-shown ks x y = ap not (is_in_append y ks x ∙ ap (λ (b : Bool). is_in y ks || b) (same_way y x)) ∙ by (is_in y ks) (same_name x y)
+    twice : filter (lacks k) (filter other (once rest)) ≡ filter (lacks j) (once rest)
+    twice = filter_twice (lacks k) other (lacks j) (lacks_used j k x h) (once rest)
+
+    by : (b : Bool) → has k x ≡ b → js ++ filter (lacks j) (once rest) ≡ ks ++ filter (lacks k) (x ∷ filter other (once rest))
+    by true f = ap (λ zs. zs ++ filter (lacks j) (once rest)) (e ∙ ap (λ (b : Bool). if b then ks else ks ++ x ∷ []) f)
+        ∙ ap (λ zs. ks ++ zs) (sym (left_out (lacks k) x (filter other (once rest)) (ap not f) ∙ twice))
+    by false f = ap (λ zs. zs ++ filter (lacks j) (once rest)) (e ∙ ap (λ (b : Bool). if b then ks else ks ++ x ∷ []) f)
+        ∙ append_assoc ks (x ∷ []) (filter (lacks j) (once rest))
+        ∙ ap (λ zs. ks ++ zs) (sym (kept (lacks k) x (filter other (once rest)) (ap not f) ∙ ap (λ zs. x ∷ zs) twice))
+
+pub new_step : (j k : Names) (js ks : List Name) (marks : List (Name × Bool)) (i : ℕ) (m d : Name × Bool) → i < length marks → m ≡ get_or marks i d
+    → js ≡ with_new (has k) m ks → ((z : Name) → has j z ≡ (same_name z m.0 || has k z))
+    → js ++ filter (lacks j) (once (shown (drop (i + 1) marks))) ≡ ks ++ filter (lacks k) (once (shown (drop i marks)))
+new_step j k js ks marks i m d l e w h =
+    ap (λ (n : ℕ). js ++ filter (lacks j) (once (shown (drop n marks)))) (add-one i)
+    ∙ new_mark j k js ks (shown (drop (suc i) marks)) m.0 m.1 w h
+    ∙ ap (λ (n : Name × Bool). ks ++ filter (lacks k) (once (shown (n ∷ drop (suc i) marks)))) e
+    ∙ ap (λ ns. ks ++ filter (lacks k) (once (shown ns))) (sym (drop-cons marks i d l))
+
+pub new_ended : (k : Names) (ks : List Name) (marks : List (Name × Bool)) (i : ℕ) → length marks ≤ i → ks ++ filter (lacks k) (once (shown (drop i marks))) ≡ ks
+new_ended k ks marks i h = ap (λ ms. ks ++ filter (lacks k) (once (shown ms))) (drop_all i marks h) ∙ append-nil ks
+
+-- NAMES THAT ARE NOT HIDDEN
+pub shown_begun : (k : Names) (marks : List (Name × Bool)) → ((z : Name) → has k z ≡ false) → filter (lacks k) (shown marks) ≡ shown marks
+shown_begun k marks none = lacks_all k none (shown marks)
+
+shown_mark : (j k : Names) (js ks rest : List Name) (x : Name) (b : Bool) → js ≡ with_new (has k) (x, b) ks
+    → ((z : Name) → has j z ≡ ((b && same_name z x) || has k z))
+    → js ++ filter (lacks j) rest ≡ ks ++ filter (lacks k) (if b then without (x ∷ []) rest else x ∷ rest)
+shown_mark j k js ks rest x true e h =
+    ap (λ zs. zs ++ filter (lacks j) rest) e
+    ∙ ap (λ zs. ks ++ zs) (sym (filter_twice (lacks k) (λ y. not (is_in y (x ∷ []))) (lacks j) (lacks_bound j k x h) rest))
+shown_mark j k js ks rest x false e h = by (has k x) refl
   where
-    by : (b c : Bool) → not (b || c) ≡ (not c && not b)
-    by true true = refl
-    by true false = refl
-    by false true = refl
-    by false false = refl
+    same : filter (lacks j) rest ≡ filter (lacks k) rest
+    same = ap (λ (p : Name → Bool). filter p rest) (λ i z. ap not (h z) i)
 
-again_first : (ks : List Name) (x : Name) (xs : List Name) → is_in x ks ≡ true → without ks (once (x ∷ xs)) ≡ without ks (once xs)
-again_first ks x xs e = left_out (λ y. not (is_in y ks)) x (filter (λ y. not (same_name x y)) (once xs)) (ap not e)
-    ∙ filter_twice (λ y. not (is_in y ks)) (λ y. not (same_name x y)) (λ y. not (is_in y ks)) (λ y. hidden ks x y e) (once xs)
+    by : (b : Bool) → has k x ≡ b → js ++ filter (lacks j) rest ≡ ks ++ filter (lacks k) (x ∷ rest)
+    by true f = ap (λ zs. zs ++ filter (lacks j) rest) (e ∙ ap (λ (b : Bool). if b then ks else ks ++ x ∷ []) f)
+        ∙ ap (λ zs. ks ++ zs) (same ∙ sym (left_out (lacks k) x rest (ap not f)))
+    by false f = ap (λ zs. zs ++ filter (lacks j) rest) (e ∙ ap (λ (b : Bool). if b then ks else ks ++ x ∷ []) f)
+        ∙ append_assoc ks (x ∷ []) (filter (lacks j) rest)
+        ∙ ap (λ zs. ks ++ zs) (ap (λ zs. x ∷ zs) same ∙ sym (kept (lacks k) x rest (ap not f)))
 
-new_first : (ks : List Name) (x : Name) (xs : List Name) → is_in x ks ≡ false → without ks (once (x ∷ xs)) ≡ x ∷ without (ks ++ x ∷ []) (once xs)
-new_first ks x xs e = kept (λ y. not (is_in y ks)) x (filter (λ y. not (same_name x y)) (once xs)) (ap not e)
-    ∙ ap (λ zs. x ∷ zs) (filter_twice (λ y. not (is_in y ks)) (λ y. not (same_name x y)) (λ y. not (is_in y (ks ++ x ∷ []))) (λ y. shown ks x y) (once xs))
+pub shown_step : (j k : Names) (js ks : List Name) (marks : List (Name × Bool)) (i : ℕ) (m d : Name × Bool) → i < length marks → m ≡ get_or marks i d
+    → js ≡ with_new (has k) m ks → ((z : Name) → has j z ≡ ((m.1 && same_name z m.0) || has k z))
+    → js ++ filter (lacks j) (shown (drop (i + 1) marks)) ≡ ks ++ filter (lacks k) (shown (drop i marks))
+shown_step j k js ks marks i m d l e w h =
+    ap (λ (n : ℕ). js ++ filter (lacks j) (shown (drop n marks))) (add-one i)
+    ∙ shown_mark j k js ks (shown (drop (suc i) marks)) m.0 m.1 w h
+    ∙ ap (λ (n : Name × Bool). ks ++ filter (lacks k) (shown (n ∷ drop (suc i) marks))) e
+    ∙ ap (λ ns. ks ++ filter (lacks k) (shown ns)) (sym (drop-cons marks i d l))
 
-pub begun : (xs : List Name) → without [] (once xs) ≡ once xs
-begun xs = without_none (once xs)
-
--- one name more, kept where it is new
-pub keep_step : (ks js xs : List Name) (i : ℕ) (x d : Name) → i < length xs → x ≡ get_or xs i d → js ≡ kept_once x ks
-    → js ++ without js (once (drop (i + 1) xs)) ≡ ks ++ without ks (once (drop i xs))
-keep_step ks js xs i x d h e k =
-    ap (λ (n : ℕ). js ++ without js (once (drop n xs))) (add-one i)
-    ∙ ap (λ zs. zs ++ without zs (once (drop (suc i) xs))) k
-    ∙ by (is_in x ks) refl
-    ∙ ap (λ (y : Name). ks ++ without ks (once (y ∷ drop (suc i) xs))) e
-    ∙ ap (λ zs. ks ++ without ks (once zs)) (sym (drop-cons xs i d h))
-  where
-    by : (b : Bool) → is_in x ks ≡ b
-        → (if b then ks else ks ++ x ∷ []) ++ without (if b then ks else ks ++ x ∷ []) (once (drop (suc i) xs)) ≡ ks ++ without ks (once (x ∷ drop (suc i) xs))
-    by true f = ap (λ zs. ks ++ zs) (sym (again_first ks x (drop (suc i) xs) f))
-    by false f = append_assoc ks (x ∷ []) (without (ks ++ x ∷ []) (once (drop (suc i) xs))) ∙ ap (λ zs. ks ++ zs) (sym (new_first ks x (drop (suc i) xs) f))
-
-pub ended : (ks xs : List Name) (i : ℕ) → length xs ≤ i → ks ++ without ks (once (drop i xs)) ≡ ks
-ended ks xs i h = ap (λ zs. ks ++ without ks (once zs)) (drop_all i xs h) ∙ append-nil ks
+pub shown_ended : (k : Names) (ks : List Name) (marks : List (Name × Bool)) (i : ℕ) → length marks ≤ i → ks ++ filter (lacks k) (shown (drop i marks)) ≡ ks
+shown_ended k ks marks i h = ap (λ ms. ks ++ filter (lacks k) (shown ms)) (drop_all i marks h) ∙ append-nil ks

@@ -1,5 +1,5 @@
 -- The machine on names, literals, operators and cells.
-use Rattle.std.proofs.Common.{◌≡◌, ℕ, ◌+◌, Bool, true, false, List, [], ◌∷◌, ◌++◌, length, refl, sym, ◌∙◌, ap, subst, arith, length-append}
+use Rattle.std.proofs.Common.{◌≡◌, ℕ, true, false, List, [], ◌∷◌, ◌++◌, length, refl, ◌∙◌, ap, arith, length-append}
 use Rattle.operators.specs.declared.Unary.{Unary}
 use Rattle.operators.specs.declared.Unary.TheVariants.{Neg, Not}
 use Rattle.semantics.specs.declared.graph.Source.{Source}
@@ -10,10 +10,11 @@ use Rattle.source.specs.declared.word.Word.TheVariants as word
 use Rattle.source.specs.Tree.{Name, Expr, Number, Named, Bracket, Prefix, Infix, Fetch, Store, Call, If, Loop, Program}
 use Rattle.source.specs.Words.{words}
 use Rattle.source.specs.Evaluates.{signed}
-use Rattle.source.specs.Lowered.{Made, Lowered, Site, Spot, lower, ended, joined, spot_after, prefixed, made, operator_of, operands}
+use Rattle.source.specs.Lowered.{Made, Lowered, lower, ended, joined, spot_after, prefixed, made, operator_of, operands}
 use Rattle.lowering.specs.Counts.{many, Counted}
-use Rattle.lowering.specs.Plans.{Plan, plans}
-use Rattle.lowering.specs.Machine.{State, after, planned, noted, run, operated, prefix, as_they_are}
+use Rattle.lowering.specs.Plans.{plans}
+use Rattle.lowering.specs.State.{State, after, planned, noted}
+use Rattle.lowering.specs.Operators.{operated, prefix, as_they_are}
 use Rattle.lowering.proofs.Algebra.{and_then, both_plans, after_joined, after_operated, last_of_nodes}
 use Rattle.lowering.proofs.HowMany.{so_many}
 use Rattle.lowering.proofs.Says.{Says, is_numeral}

@@ -1,10 +1,11 @@
 -- WHAT THE MACHINE SAYS OF A PART: over its words it does what the lowering of the tree says, and takes the plans of the part.
-use Rattle.std.proofs.Common.{◌≡◌, ℕ, Bool, true, false, List, [], ◌∷◌, ◌++◌}
-use Rattle.source.specs.Tree.{Name, NameAt, Expr, Number, Named, Bracket, Prefix, Infix, Fetch, Store, Call, If, Loop, Exprs, Body, Program}
+use Rattle.std.proofs.Common.{◌≡◌, Bool, true, false, List, ◌∷◌, ◌++◌}
+use Rattle.source.specs.Tree.{NameAt, Expr, Number, Exprs, Body, Program}
 use Rattle.source.specs.Words.{words, part_words, first_words, body_words}
-use Rattle.source.specs.Lowered.{Lowered, Scope, lower, lower_list, lower_body}
+use Rattle.source.specs.Lowered.{Scope, lower, lower_list, lower_body}
 use Rattle.lowering.specs.Plans.{Plan, plans, list_plans, body_plans}
-use Rattle.lowering.specs.Machine.{State, Frame, Firsts, Begun, after, planned, noted, run}
+use Rattle.lowering.specs.State.{State, Frame, Firsts, Begun, after, planned, noted}
+use Rattle.lowering.specs.Machine.{run}
 
 abbrev pub is_numeral : Expr → Bool
 is_numeral (Number at n) = true

@@ -1,5 +1,5 @@
 -- The scan over the words of a part finds its plans, and what it uses.
-use Rattle.std.proofs.Common.{◌≡◌, ℕ, suc, ◌+◌, Bool, true, false, not, ◌||◌, ◌&&◌, List, [], ◌∷◌, ◌++◌, Option, None, Some, map, filter, length, refl, sym, ◌∙◌, ap, subst, arith, append_assoc, append-nil}
+use Rattle.std.proofs.Common.{◌≡◌, ℕ, Bool, true, false, not, ◌||◌, ◌&&◌, List, [], ◌∷◌, ◌++◌, Option, None, Some, map, filter, length, refl, sym, ◌∙◌, ap, arith, append_assoc, append-nil}
 use Rattle.std.specs.Prelude.{if◌then◌else◌}
 use Rattle.semantics.specs.Graph.{same_name}
 use Rattle.source.specs.declared.word.Word.{Word}
@@ -7,10 +7,10 @@ use Rattle.source.specs.declared.word.Word.TheVariants as word
 use Rattle.source.specs.Tree.{Name, NameAt, NumberAt, Target, Bind, Drop, Expr, Number, Named, Bracket, Prefix, Infix, Fetch, Store, Call, If, Loop, Exprs, One, More, Body, Let, Do, Give, Chain, Turn, Before, After, Function, Item, Cells, Defines, Program, names_of}
 use Rattle.source.specs.Words.{Words, words, part_words, first_words, body_words, turn_words, target_word, item_words, program_words, result_words}
 use Rattle.source.specs.Fits.{count}
-use Rattle.source.specs.Outside.{without, is_in, once, bare, bound_by, uses, list_uses, body_uses, turn_uses, outside_body, outside_turn}
+use Rattle.source.specs.Outside.{without, is_in, bare, bound_by, uses, list_uses, body_uses, turn_uses, outside_body, outside_turn}
 use Rattle.source.proofs.CountedSources.{without_none}
 use Rattle.lowering.specs.Counts.{Counted, ListCounted, BodyCounted, TurnCounted, ItemsCounted}
-use Rattle.lowering.specs.Plans.{Plan, plan, plans, list_plans, body_plans, turn_plans, item_plans, program_plans}
+use Rattle.lowering.specs.Plans.{Plan, plan, plans, list_plans, body_plans, turn_plans, program_plans}
 use Rattle.lowering.specs.Scan.{Scan, scan_of, read, scanned, told_plans}
 
 scanned_append : (z : Scan) (a b : Words) → scanned z (a ++ b) ≡ scanned (scanned z b) a

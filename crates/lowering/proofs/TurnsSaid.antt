@@ -1,18 +1,20 @@
 -- The machine on loops.
-use Rattle.std.proofs.Common.{◌≡◌, ℕ, suc, ◌+◌, Bool, true, false, List, [], ◌∷◌, ◌++◌, length, map, refl, sym, ◌∙◌, ap, subst, arith, append_assoc, append-nil, length-append}
+use Rattle.std.proofs.Common.{◌≡◌, ℕ, ◌+◌, false, List, [], ◌∷◌, ◌++◌, length, map, refl, ◌∙◌, arith, append_assoc, append-nil, length-append}
 use Rattle.semantics.specs.declared.graph.Source.{Source}
 use Rattle.semantics.specs.declared.graph.Kind.TheVariants as node
 use Rattle.source.specs.declared.word.Word.TheVariants as word
 use Rattle.source.specs.Tree.{Name, NameAt, NumberAt, Expr, Loop, Exprs, Body, Turn, Before, After, Program, names_of}
 use Rattle.source.specs.Words.{words, body_words, first_words, turn_words}
 use Rattle.source.specs.Outside.{outside_body, outside_turn, bare}
-use Rattle.source.specs.Lowered.{Made, MadeBlock, Lowered, Site, Spot, Scope, lower, lower_list, lower_body, lower_turn, spot_after, next_spot, joined, arm_site, entered_names, first_of, merges, chosen, made, inputs_from, ports_from, source_in, loop_name, turn_block, turn_scope, turn_site, scoped, looped}
+use Rattle.source.specs.Lowered.{Made, MadeBlock, Lowered, Spot, lower, lower_list, lower_body, lower_turn, spot_after, joined, arm_site, entered_names, first_of, merges, chosen, made, ports_from, source_in, loop_name, turn_block, turn_scope, turn_site, scoped, looped}
 use Rattle.lowering.specs.Counts.{many, Counted}
 use Rattle.lowering.specs.Plans.{Plan, plan, plans, list_plans, body_plans, turn_plans}
-use Rattle.lowering.specs.Machine.{State, Begun, Turning, Arms, Frame, Firsts, Turned, Looping, Ending, after, planned, noted, run, loop_ended, turning}
-use Rattle.lowering.proofs.Algebra.{and_then, both_plans, alike, built}
+use Rattle.lowering.specs.State.{State, Begun, Arms, Frame, Firsts, Turned, Looping, Ending, after, planned, noted}
+use Rattle.lowering.specs.Loops.{loop_ended, turning}
+use Rattle.lowering.specs.Machine.{run}
+use Rattle.lowering.proofs.Algebra.{and_then, both_plans, alike}
 use Rattle.lowering.proofs.HowMany.{so_many}
-use Rattle.lowering.proofs.Says.{Says, SaysAll, SaysBody, SaysFirsts, is_numeral, with_names}
+use Rattle.lowering.proofs.Says.{Says, SaysBody, SaysFirsts, is_numeral}
 use Rattle.lowering.proofs.ArmsSaid.{first_arm_says, first_arm_of, in_first_arm, the_arms}
 
 -- behind a loop whose turn had so many loops, nodes, results and blocks

@@ -1,13 +1,15 @@
 -- The machine on whole programs: over the words of a program, with its plans, it makes the program's blocks.
-use Rattle.std.proofs.Common.{◌≡◌, ℕ, suc, ◌+◌, Bool, true, false, List, [], ◌∷◌, ◌++◌, Option, None, Some, length, map, refl, sym, ◌∙◌, ap, subst, arith, append_assoc, append-nil}
+use Rattle.std.proofs.Common.{◌≡◌, false, List, [], ◌∷◌, ◌++◌, Option, None, Some, length, map, refl, sym, ◌∙◌, ap, arith, append_assoc, append-nil}
 use Rattle.source.specs.declared.word.Word.TheVariants as word
 use Rattle.source.specs.Tree.{Name, NameAt, NumberAt, Expr, Number, Named, Bracket, Prefix, Infix, Fetch, Store, Call, If, Loop, Exprs, One, More, Body, Let, Do, Give, Chain, Turn, Before, After, Function, Item, Cells, Defines, Program, names_of}
 use Rattle.source.specs.Words.{Words, body_words, item_words, program_words, result_words}
 use Rattle.source.specs.Fits.{count}
 use Rattle.source.specs.Lowered.{MadeBlock, function_blocks, function_scope, turn_site}
 use Rattle.lowering.specs.Counts.{Counted, ListCounted, BodyCounted, TurnCounted, ItemsCounted}
-use Rattle.lowering.specs.Plans.{Plan, body_plans, item_plans, program_plans}
-use Rattle.lowering.specs.Machine.{State, Frame, Header, run, planned, between, of_function}
+use Rattle.lowering.specs.Plans.{Plan, body_plans, program_plans}
+use Rattle.lowering.specs.State.{State, Frame, Header}
+use Rattle.lowering.specs.Functions.{between, of_function}
+use Rattle.lowering.specs.Machine.{run}
 use Rattle.lowering.specs.Blocks.{named_blocks}
 use Rattle.lowering.proofs.Algebra.{and_then, both_plans}
 use Rattle.lowering.proofs.Says.{Says, SaysAll, SaysBody, SaysFirsts}

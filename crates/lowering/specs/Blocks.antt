@@ -1,8 +1,8 @@
 -- THE BLOCKS OF A PROGRAM, each with the name of its function, in the order of the graph.
 use Rattle.std.specs.Prelude.{List, [], ◌∷◌, ◌++◌}
-use Rattle.source.specs.Tree.{Name, Function, Item, Cells, Defines, Program}
+use Rattle.source.specs.Tree.{Name, Item, Cells, Defines, Program}
 use Rattle.source.specs.Lowered.{MadeBlock, function_blocks}
-use Rattle.lowering.specs.Machine.{of_function}
+use Rattle.lowering.specs.Functions.{of_function}
 
 abbrev pub named_blocks : Program → List Item → List (Name × MadeBlock)
 named_blocks p [] = []

@@ -2,8 +2,7 @@
 use Rattle.std.specs.Prelude.{◌≡◌, ℕ, List, map, Ok}
 use Rattle.semantics.specs.Graph.{Block}
 use Rattle.source.specs.Tree.{Name, Program}
-use Rattle.source.specs.Lowered.{Made, MadeBlock, lowered, graph_of, arrays_of, blocks_of, made_blocks, sizes}
-use Rattle.source.specs.First.{◌>>=◌}
+use Rattle.source.specs.Lowered.{Made, MadeBlock, lowered, graph_of, arrays_of, blocks_of, made_blocks}
 
 -- the place of the function's name or of the word `loop`, how many inputs the block has, and the place of each node line
 pub record Places : Type 0 where

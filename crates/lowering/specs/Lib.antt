@@ -1,5 +1,11 @@
 pub mod Plans
 pub mod Counts
+pub mod State
+pub mod Operators
+pub mod Lists
+pub mod Conditionals
+pub mod Loops
+pub mod Functions
 pub mod Machine
 pub mod Blocks
 pub mod Scan
@@ -9,3 +15,5 @@ pub mod Lowers
 pub mod Targets
 pub mod Opened
 pub mod Built
+pub mod Uses
+pub mod Latest

@@ -1,11 +1,12 @@
 -- THE MACHINE LOWERS a program: over its words, with the plans that the words tell, it makes the blocks of the definition.
-use Rattle.std.specs.Prelude.{◌≡◌, ℕ, List, [], map, Ok}
+use Rattle.std.specs.Prelude.{◌≡◌, ℕ, [], map, Ok}
 use Rattle.source.specs.Tree.{Name, Program}
 use Rattle.source.specs.Words.{program_words}
 use Rattle.source.specs.Fits.{FitsProgram}
 use Rattle.source.specs.Rules.{checked, function_in}
 use Rattle.source.specs.Lowered.{MadeBlock, results_of, made_blocks, blocks_of, graph_block, arrays_of}
-use Rattle.lowering.specs.Machine.{run, between}
+use Rattle.lowering.specs.Functions.{between}
+use Rattle.lowering.specs.Machine.{run}
 use Rattle.lowering.specs.Results.{told_results, told_arrays}
 use Rattle.lowering.specs.Blocks.{named_blocks}
 use Rattle.lowering.specs.Scan.{told_plans}

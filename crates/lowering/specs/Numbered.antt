@@ -6,7 +6,9 @@ use Rattle.source.specs.declared.word.Word.TheVariants as word
 use Rattle.source.specs.Tree.{Name}
 use Rattle.source.specs.Words.{Words, name_of, named}
 use Rattle.source.specs.Lowered.{MadeBlock}
-use Rattle.lowering.specs.Machine.{State, act_with, between, noted, is_number}
+use Rattle.lowering.specs.State.{State, noted}
+use Rattle.lowering.specs.Functions.{between}
+use Rattle.lowering.specs.Machine.{act_with, is_number}
 use Rattle.lowering.specs.Scan.{told_plans}
 
 abbrev pub names_told : List Name → List (Word ℕ) → Words

@@ -1,7 +1,7 @@
 -- What code has open, as the machine has it.
 use Rattle.lowering.specs.declared.frame.Open.{Open}
 use Rattle.lowering.specs.declared.frame.Open.TheVariants as opened
-use Rattle.lowering.specs.Machine.{Frame, Header, Listed, Targets, Left, Right, Firsts, Turned, Looping, Ending}
+use Rattle.lowering.specs.State.{Frame, Header, Listed, Targets, Left, Right, Firsts, Turned, Looping, Ending}
 
 abbrev pub frame_of : {A : _} → Open A → Frame
 frame_of (opened.Header f params) = Header f params.items

@@ -1,11 +1,11 @@
 -- PLANS WORD BY WORD. The words are gone over from the last to the first: so it is known what a part uses when it begins. For each
 -- open part the scan has the names that it uses from outside, in order of the text, as far as it was read.
-use Rattle.std.specs.Prelude.{ℕ, List, [], ◌∷◌, ◌++◌, if◌then◌else◌}
+use Rattle.std.specs.Prelude.{ℕ, List, [], ◌∷◌, ◌++◌}
 use Rattle.source.specs.declared.word.Word.{Word}
 use Rattle.source.specs.declared.word.Word.TheVariants as word
 use Rattle.source.specs.Tree.{Name}
 use Rattle.source.specs.Words.{Words}
-use Rattle.source.specs.Outside.{is_in, without, once}
+use Rattle.source.specs.Outside.{without, once}
 use Rattle.lowering.specs.Plans.{Plan, plan}
 
 pub record Scan : Type 0 where
@@ -31,10 +31,6 @@ joined us = us
 abbrev pub bound : Name → List (List Name) → List (List Name)
 bound x (us ∷ vs ∷ rest) = us ∷ without (x ∷ []) vs ∷ rest
 bound x us = us
-
--- with a name that is new
-abbrev pub kept_once : Name → List Name → List Name
-kept_once x ks = if is_in x ks then ks else ks ++ x ∷ []
 
 abbrev pub opened : List (List Name) → List (List Name)
 opened us = [] ∷ us

@@ -1,9 +1,10 @@
 //! Conditionals.
 
 ghost use Rattle.std.specs.Prelude.{◌≡◌, ◌+◌, ◌∷◌, ◌++◌, [], OnOk, IfOk, length, map};
-ghost use Rattle.source.specs.Lowered.{first_of, merges, inputs_from, or_predicate, source_in};
-ghost use Rattle.lowering.specs.Machine.{entered, chosen_by, arms_of, first_arm, second_arm, if_ended, with_node, with_merges, entered_nodes};
-ghost use Rattle.lowering.specs.Machine.{Left, Looping};
+ghost use Rattle.source.specs.Lowered.{first_of, merges, inputs_from, or_predicate, source_in, scoped};
+ghost use Rattle.lowering.specs.Operators.{with_node};
+ghost use Rattle.lowering.specs.Conditionals.{entered, chosen_by, arms_of, first_arm, second_arm, if_ended, with_merges, entered_nodes, enters_of, with_enters};
+ghost use Rattle.lowering.specs.State.{Left, Looping};
 ghost use Rattle.semantics.specs.declared.graph.Kind.TheVariants as node;
 
 use crate::frame::{Arms, Frame, Open, Site};
@@ -26,6 +27,19 @@ fn first(sources: &[Source]) -> Source
     }
 }
 
+/// The scope of these names alone.
+fn scope_of<'a, A: Allocator + Clone>(
+    alloc: &A,
+    names: &[Name<'a>],
+    sources: &[Source],
+) -> Result<Scope<'a, A>, AllocError>
+    ensures { IfOk result (λ s. s ≡ scoped names.now sources.now []) }
+{
+    let mut scope = Scope::new(alloc)?;
+    scope.bind_all(names, sources)?;
+    Ok(scope)
+}
+
 impl<'a, A: Allocator + Clone> Machine<'a, A> {
     /// The node of a conditional of the last value.
     fn choose(&mut self, at: usize) -> Result<Arms<'a, A>, AllocError>
@@ -39,7 +53,7 @@ impl<'a, A: Allocator + Clone> Machine<'a, A> {
         self.put(at, Kind::Cond, told)?;
         let none = Vec::new(self.alloc.clone()?);
         let outer = mem::replace(&mut self.sources, none);
-        let empty = Scope::new(self.alloc.clone()?);
+        let empty = Scope::new(&self.alloc)?;
         let scope = mem::replace(&mut self.scope, empty);
         Ok(Arms {
             site: self.site,
@@ -83,8 +97,34 @@ impl<'a, A: Allocator + Clone> Machine<'a, A> {
         all_sources(self.alloc.clone()?, &arms.scope, names)
     }
 
+    /// An `enter` of each source that an arm takes from outside, within the arm. What the arm has are their values.
+    pub fn enter_all(
+        &mut self,
+        arms: &Arms<'a, A>,
+        side: bool,
+        at: usize,
+        names: &[Name<'a>],
+    ) -> Result<Vec<Source, A>, AllocError>
+        ensures entered { OnOk result (self.new ≡ with_enters self.old arms.now side at names.now) }
+        ensures values { IfOk result (λ v. v.items ≡ (enters_of self.old arms.now side at names.now).sources) }
+    {
+        let node = self.spot.next;
+        let region = Region::Arm {
+            cond: arms.cond,
+            side,
+        };
+        self.site = Site {
+            function: arms.site.function,
+            region,
+            trigger: Source { node, port: 0 },
+        };
+        let taken = self.taken(arms, names)?;
+        self.put_enters(at, &taken)?;
+        let values = inputs(self.alloc.clone()?, node, taken.len())?;
+        Ok(values)
+    }
+
     /// An arm begins.
-    #[tactic(auto, using(crate::proofs::Nodes::all_enters, crate::proofs::Nodes::entered_scope))]
     fn enter(
         &mut self,
         arms: &Arms<'a, A>,
@@ -94,24 +134,11 @@ impl<'a, A: Allocator + Clone> Machine<'a, A> {
     ) -> Result<(), AllocError>
         ensures { OnOk result (self.new ≡ entered self.old arms.now side at names.now) }
     {
-        let node = self.spot.next;
-        let trigger = Source { node, port: 0 };
-        let region = Region::Arm {
-            cond: arms.cond,
-            side,
-        };
-        self.site = Site {
-            function: arms.site.function,
-            region,
-            trigger,
-        };
-        let taken = self.taken(arms, names)?;
-        self.put_enters(at, &taken)?;
-        let enters = inputs(self.alloc.clone()?, node, names.len())?;
-        let mut scope = Scope::new(self.alloc.clone()?);
-        scope.bind_all(names, &enters)?;
+        let enters = self.enter_all(arms, side, at, names)?;
+        let scope = scope_of(&self.alloc, names, &enters)?;
+        let none = Vec::new(self.alloc.clone()?);
         let _outer = mem::replace(&mut self.scope, scope);
-        self.sources = Vec::new(self.alloc.clone()?);
+        self.sources = none;
         Ok(())
     }
 

@@ -34,7 +34,7 @@ pub struct Arms<'a, A: Allocator> {
 }
 
 impl<'a, A: Allocator> Model for Arms<'a, A> {
-    ghost use Rattle.lowering.specs.Machine.{Arms};
+    ghost use Rattle.lowering.specs.State.{Arms};
 
     ghost Value = { Arms };
 
@@ -57,7 +57,7 @@ pub struct Begun<'a, A: Allocator> {
 }
 
 impl<'a, A: Allocator> Model for Begun<'a, A> {
-    ghost use Rattle.lowering.specs.Machine.{Begun};
+    ghost use Rattle.lowering.specs.State.{Begun};
 
     ghost Value = { Begun };
 
@@ -82,7 +82,7 @@ pub struct Turning<'a, A: Allocator> {
 impl<'a, A: Allocator> Model for Turning<'a, A> {
     ghost use Rattle.std.specs.Prelude.{◌≡◌, ◌+◌};
     ghost use Rattle.source.specs.Lowered.{loop_name};
-    ghost use Rattle.lowering.specs.Machine.{Turning};
+    ghost use Rattle.lowering.specs.State.{Turning};
 
     ghost Value = { Turning };
 
@@ -152,7 +152,7 @@ pub struct Frame<'a, A: Allocator> {
 }
 
 impl<'a, A: Allocator> Model for Frame<'a, A> {
-    ghost use Rattle.lowering.specs.Machine.{Frame};
+    ghost use Rattle.lowering.specs.State.{Frame};
     ghost use Rattle.lowering.specs.Opened.{frame_of};
 
     ghost Value = { Frame };

@@ -3,7 +3,8 @@
 ghost use Rattle.std.specs.Prelude.{◌≡◌, ◌+◌, ◌∷◌, ◌++◌, [], OnOk, IfOk, length};
 ghost use Rattle.source.specs.Lowered.{scoped, inputs_from};
 ghost use Rattle.source.specs.Outside.{bare};
-ghost use Rattle.lowering.specs.Machine.{Header, between, with_parameter, body_begun, function_ended, of_function};
+ghost use Rattle.lowering.specs.State.{Header};
+ghost use Rattle.lowering.specs.Functions.{between, with_parameter, body_begun, function_ended, of_function};
 
 use crate::frame::{Frame, Open, Site, Spot};
 use crate::machine::Machine;
@@ -26,7 +27,7 @@ fn function_scope<'a, A: Allocator + Clone>(
 {
     let names = bare_names(alloc.clone()?, params)?;
     let values = inputs(alloc.clone()?, 0, params.len())?;
-    let mut scope = Scope::new(alloc);
+    let mut scope = Scope::new(&alloc)?;
     scope.bind_all(&names, &values)?;
     Ok(scope)
 }
@@ -117,7 +118,7 @@ impl<'a, A: Allocator + Clone> Machine<'a, A> {
           blocks = self.old.blocks;
         }) }
     {
-        let empty = Scope::new(self.alloc.clone()?);
+        let empty = Scope::new(&self.alloc)?;
         let _inner = mem::replace(&mut self.scope, empty);
         self.frames = VecDeque::new(self.alloc.clone()?);
         self.site = Site {

@@ -21,6 +21,7 @@ mod loop_names;
 mod loops;
 mod machine;
 mod made;
+mod name_set;
 mod names;
 mod plan;
 mod scan;

@@ -2,7 +2,7 @@
 
 ghost use Rattle.std.specs.Prelude.{◌≡◌, ◌∷◌, ◌++◌, [], OnOk};
 ghost use Rattle.lowering.specs.Opened.{frame_of};
-ghost use Rattle.lowering.specs.Machine.{called, dropped, given, list_begun, let_begun, targeted, let_ended};
+ghost use Rattle.lowering.specs.Lists.{called, dropped, given, list_begun, let_begun, targeted, let_ended};
 
 use crate::frame::{Frame, Open};
 use crate::machine::Machine;

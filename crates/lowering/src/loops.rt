@@ -3,7 +3,7 @@
 ghost use Rattle.std.specs.Prelude.{◌≡◌, ◌+◌, ◌∷◌, ◌++◌, [], OnOk, IfOk, length, map};
 ghost use Rattle.source.specs.Lowered.{source_in, turn_block};
 ghost use Rattle.source.specs.Outside.{bare};
-ghost use Rattle.lowering.specs.Machine.{turn_ended, arm_closed, turn_closed, loop_ended};
+ghost use Rattle.lowering.specs.Loops.{turn_ended, arm_closed, turn_closed, loop_ended};
 
 use crate::frame::{Arms, Begun, Frame, Open, Turning};
 use crate::machine::Machine;
@@ -17,7 +17,7 @@ use std::alloc::{AllocError, Allocator};
 use std::mem;
 
 /// What names stand for, behind other sources.
-fn add_sources<'a, A: Allocator>(
+fn add_sources<'a, A: Allocator + Clone>(
     scope: &Scope<'a, A>,
     names: &[Name<'a>],
     sources: &mut Vec<Source, A>,
@@ -31,7 +31,7 @@ fn add_sources<'a, A: Allocator>(
 }
 
 /// What names stand for.
-pub fn all_sources<'a, A: Allocator>(
+pub fn all_sources<'a, A: Allocator + Clone>(
     alloc: A,
     scope: &Scope<'a, A>,
     names: &[Name<'a>],

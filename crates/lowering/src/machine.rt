@@ -1,7 +1,8 @@
 //! The machine that goes over the words of a program, and makes its blocks.
 
 ghost use Rattle.std.specs.Prelude.{◌≡◌, ◌+◌, ◌-◌, ◌∷◌, ◌++◌, [], length, take, drop, OnOk, IfOk};
-ghost use Rattle.lowering.specs.Machine.{after, one_node, before_last, last_of, with_node, with_sources};
+ghost use Rattle.lowering.specs.State.{after};
+ghost use Rattle.lowering.specs.Operators.{one_node, before_last, last_of, with_node, with_sources};
 
 use crate::frame::{Frame, Site, Spot};
 use crate::loop_names::LoopName;
@@ -33,7 +34,7 @@ pub struct Machine<'a, A: Allocator> {
 }
 
 impl<'a, A: Allocator> Model for Machine<'a, A> {
-    ghost use Rattle.lowering.specs.Machine.{State};
+    ghost use Rattle.lowering.specs.State.{State};
 
     ghost Value = { State };
 

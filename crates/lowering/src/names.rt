@@ -1,19 +1,11 @@
 //! Names where they stand, and what they stand for.
 
 ghost use Rattle.std.specs.Prelude.{◌≡◌, []};
-ghost use Rattle.semantics.specs.Graph.{same_name};
 ghost use Rattle.source.specs.Words as words;
 
 use graph::Name;
 use semantics::graph::Source;
 use std::marker::Model;
-
-/// Whether two names are the same.
-pub fn same(name: &[u8], other: &[u8]) -> bool
-    ensures { result ≡ same_name name.now other.now }
-{
-    name == other
-}
 
 /// No name.
 pub fn nameless<'a>() -> &'a [u8]

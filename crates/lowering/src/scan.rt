@@ -1,11 +1,14 @@
 //! Plans, told by the words from the last to the first.
 
-ghost use Rattle.std.specs.Prelude.{◌≡◌, ◌∷◌, ◌++◌, [], IfOk, OnOk};
+ghost use Rattle.std.specs.Prelude.{◌≡◌, ◌∷◌, ◌++◌, ◌&&◌, ◌||◌, [], ℕ, List, IfOk, OnOk};
+ghost use Rattle.semantics.specs.Graph.{same_name};
 ghost use Rattle.source.specs.Words.{named};
-ghost use Rattle.source.specs.Outside.{is_in, once, without};
+ghost use Rattle.source.specs.Outside.{once, without};
 ghost use Rattle.lowering.specs.Scan as scan;
+ghost use Rattle.lowering.specs.Uses.{shown, has, with_new};
 
-use crate::names::{name_of, same};
+use crate::name_set::NameSet;
+use crate::names::name_of;
 use crate::plan::Plan;
 use graph::Name;
 use source::word::Word;
@@ -13,89 +16,168 @@ use std::alloc::{AllocError, Allocator};
 use std::collections::VecDeque;
 use std::marker::Model;
 
+/// A use of a name, or a binding of it, which hides the uses of it behind.
+#[derive(Drop)]
+struct Mark<'a> {
+    name: &'a [u8],
+    is_bound: bool,
+}
+
+impl<'a> Model for Mark<'a> {
+    ghost use Rattle.std.specs.Prelude.{ℕ, List, Bool};
+
+    ghost Value = { List ℕ × Bool };
+
+    ghost view = { λ m. (m.name.now, m.is_bound) };
+}
+
 /// The names that an open part uses from outside, as far as it was read, in order of the text.
 #[derive(Drop)]
 pub struct Uses<'a, A: Allocator> {
-    names: VecDeque<Name<'a>, A>,
+    marks: VecDeque<Mark<'a>, A>,
 }
 
 impl<'a, A: Allocator> Model for Uses<'a, A> {
     ghost use Rattle.std.specs.Prelude.{ℕ, List};
+    ghost use Rattle.lowering.specs.Uses.{shown};
 
     ghost Value = { List (List ℕ) };
 
-    ghost view = { λ u. u.names.items };
+    ghost view = { λ u. shown u.marks.items };
 }
 
-/// Whether a name is one of these.
-fn contains<'a>(names: &[Name<'a>], name: &[u8]) -> bool
-    ensures { result ≡ is_in name.now names.now }
+/// Keeps the name of a mark, if it is used there and is new.
+fn keep_new<'a, A: Allocator + Clone>(
+    kept: &mut Vec<Name<'a>, A>,
+    known: &mut NameSet<'a, A>,
+    mark: &Mark<'a>,
+) -> Result<(), AllocError>
+    ensures kept { OnOk result (kept.new.items ≡ with_new (has known.old.names) mark.now kept.old.items) }
+    ensures known { OnOk result ((x : List ℕ) → has known.new.names x ≡ (same_name x mark.now.0 || has known.old.names x)) }
 {
-    for other in names {
-        if same(name, other.bytes) {
-            return true;
-        }
-    }
-    false
-}
-
-/// Keeps a name that is new.
-fn keep<'a, A: Allocator>(kept: &mut Vec<Name<'a>, A>, name: &'a [u8]) -> Result<(), AllocError>
-    ensures { OnOk result (kept.new.items ≡ scan.kept_once name.now kept.old.items) }
-{
-    if !contains(kept, name) {
-        kept.push(Name { bytes: name })?;
+    let is_new = known.add(mark.name)?;
+    if is_new && !mark.is_bound {
+        kept.push(Name { bytes: mark.name })?;
     }
     Ok(())
 }
 
-impl<'a, A: Allocator> Uses<'a, A> {
+/// Keeps the name of a mark, if it is used there and is not hidden.
+fn keep_shown<'a, A: Allocator + Clone>(
+    kept: &mut Vec<Name<'a>, A>,
+    hidden: &mut NameSet<'a, A>,
+    mark: &Mark<'a>,
+) -> Result<(), AllocError>
+    ensures kept { OnOk result (kept.new.items ≡ with_new (has hidden.old.names) mark.now kept.old.items) }
+    ensures hidden { OnOk result ((x : List ℕ) → has hidden.new.names x ≡ ((mark.now.1 && same_name x mark.now.0) || has hidden.old.names x)) }
+{
+    if mark.is_bound {
+        hidden.add(mark.name)?;
+    } else if !hidden.contains(mark.name) {
+        kept.push(Name { bytes: mark.name })?;
+    }
+    Ok(())
+}
+
+/// Each name once, where it stands first.
+#[tactic(auto, using(crate::proofs::Once::new_begun, crate::proofs::Once::new_step, crate::proofs::Once::new_ended))]
+fn first_uses<'a, A: Allocator + Clone>(
+    alloc: &A,
+    marks: &VecDeque<Mark<'a>, A>,
+) -> Result<Vec<Name<'a>, A>, AllocError>
+    ensures { IfOk result (λ v. v.items ≡ once (shown marks.now.items)) }
+{
+    let mut kept = Vec::new(alloc.clone()?);
+    let mut known = NameSet::new(alloc.clone()?);
+    for i in 0..marks.len() {
+        if let Some(mark) = marks.get(i) {
+            keep_new(&mut kept, &mut known, mark)?;
+        }
+    }
+    Ok(kept)
+}
+
+/// All names, as far as they are not hidden.
+#[tactic(auto, using(crate::proofs::Once::shown_begun, crate::proofs::Once::shown_step, crate::proofs::Once::shown_ended))]
+fn all_shown<'a, A: Allocator + Clone>(
+    alloc: &A,
+    marks: &VecDeque<Mark<'a>, A>,
+) -> Result<Vec<Name<'a>, A>, AllocError>
+    ensures { IfOk result (λ v. v.items ≡ shown marks.now.items) }
+{
+    let mut kept = Vec::new(alloc.clone()?);
+    let mut hidden = NameSet::new(alloc.clone()?);
+    for i in 0..marks.len() {
+        if let Some(mark) = marks.get(i) {
+            keep_shown(&mut kept, &mut hidden, mark)?;
+        }
+    }
+    Ok(kept)
+}
+
+/// Uses of these names in front of others.
+fn used_before<'a, A: Allocator>(
+    mut first: Vec<Name<'a>, A>,
+    mut marks: VecDeque<Mark<'a>, A>,
+) -> Result<VecDeque<Mark<'a>, A>, AllocError>
+    ensures { IfOk result (λ v. shown v.items ≡ first.entry.items ++ shown marks.entry.items) }
+{
+    while let Some(name) = first.pop() {
+        marks.push_front(Mark {
+            name: name.bytes,
+            is_bound: false,
+        })?;
+    }
+    Ok(marks)
+}
+
+impl<'a, A: Allocator + Clone> Uses<'a, A> {
     fn new(alloc: A) -> Uses<'a, A>
         ensures { result ≡ [] }
     {
         Uses {
-            names: VecDeque::new(alloc),
+            marks: VecDeque::new(alloc),
         }
+    }
+
+    /// With a use of a name in front.
+    fn with_use(self, name: &'a [u8]) -> Result<Uses<'a, A>, AllocError>
+        ensures { IfOk result (λ u. u ≡ name.now ∷ self.entry) }
+    {
+        let mut marks = self.marks;
+        marks.push_front(Mark {
+            name,
+            is_bound: false,
+        })?;
+        Ok(Uses { marks })
     }
 
     /// Each name once, where it stands first.
-    #[tactic(auto, using(crate::proofs::Once::begun, crate::proofs::Once::keep_step, crate::proofs::Once::ended))]
-    fn once(&self, alloc: A) -> Result<Vec<Name<'a>, A>, AllocError>
+    fn once(&self, alloc: &A) -> Result<Vec<Name<'a>, A>, AllocError>
         ensures { IfOk result (λ v. v.items ≡ once self.now) }
     {
-        let mut kept = Vec::new(alloc);
-        for i in 0..self.names.len() {
-            if let Some(name) = self.names.get(i) {
-                keep(&mut kept, name.bytes)?;
-            }
-        }
-        Ok(kept)
+        first_uses(alloc, &self.marks)
     }
 
     /// All but this name.
-    fn without(self, alloc: A, name: &[u8]) -> Result<Uses<'a, A>, AllocError>
+    fn without(self, name: &'a [u8]) -> Result<Uses<'a, A>, AllocError>
         ensures { IfOk result (λ u. u ≡ without (name.now ∷ []) self.entry) }
     {
-        let mut kept = VecDeque::new(alloc);
-        let mut rest = self.names;
-        while let Some(other) = rest.pop_front() {
-            if !same(other.bytes, name) {
-                kept.push_back(other)?;
-            }
-        }
-        Ok(Uses { names: kept })
+        let mut marks = self.marks;
+        marks.push_front(Mark {
+            name,
+            is_bound: true,
+        })?;
+        Ok(Uses { marks })
     }
 
     /// These, and then others.
-    fn join(self, others: Uses<'a, A>) -> Result<Uses<'a, A>, AllocError>
+    fn join(self, alloc: &A, others: Uses<'a, A>) -> Result<Uses<'a, A>, AllocError>
         ensures { IfOk result (λ u. u ≡ self.entry ++ others.entry) }
     {
-        let mut first = self.names;
-        let mut all = others.names;
-        while let Some(name) = first.pop_back() {
-            all.push_front(name)?;
-        }
-        Ok(Uses { names: all })
+        let first = all_shown(alloc, &self.marks)?;
+        let marks = used_before(first, others.marks)?;
+        Ok(Uses { marks })
     }
 }
 
@@ -138,9 +220,8 @@ impl<'a, A: Allocator + Clone> Scan<'a, A> {
     fn use_name(&mut self, name: &'a [u8]) -> Result<(), AllocError>
         ensures { OnOk result (self.new ≡ scan.scan_of self.old.plans (scan.used name.now self.old.uses) self.old.places) }
     {
-        if let Some(mut uses) = self.uses.pop_front() {
-            uses.names.push_front(Name { bytes: name })?;
-            self.uses.push_front(uses)?;
+        if let Some(uses) = self.uses.pop_front() {
+            self.uses.push_front(uses.with_use(name)?)?;
         }
         Ok(())
     }
@@ -151,7 +232,7 @@ impl<'a, A: Allocator + Clone> Scan<'a, A> {
     {
         if let Some(first) = self.uses.pop_front() {
             if let Some(second) = self.uses.pop_front() {
-                self.uses.push_front(first.join(second)?)?;
+                self.uses.push_front(first.join(&self.alloc, second)?)?;
             } else {
                 self.uses.push_front(first)?;
             }
@@ -160,13 +241,12 @@ impl<'a, A: Allocator + Clone> Scan<'a, A> {
     }
 
     /// A name is bound in the part around the innermost one.
-    fn bind(&mut self, name: &[u8]) -> Result<(), AllocError>
+    fn bind(&mut self, name: &'a [u8]) -> Result<(), AllocError>
         ensures { OnOk result (self.new ≡ scan.scan_of self.old.plans (scan.bound name.now self.old.uses) self.old.places) }
     {
         if let Some(first) = self.uses.pop_front() {
             if let Some(second) = self.uses.pop_front() {
-                let rest = second.without(self.alloc.clone()?, name)?;
-                self.uses.push_front(rest)?;
+                self.uses.push_front(second.without(name)?)?;
             }
             self.uses.push_front(first)?;
         }
@@ -203,7 +283,7 @@ impl<'a, A: Allocator + Clone> Scan<'a, A> {
     {
         if let Some(uses) = self.uses.pop_front() {
             if let Some(at) = self.places.pop_front() {
-                let names = uses.once(self.alloc.clone()?)?;
+                let names = uses.once(&self.alloc)?;
                 self.plans.push_front(Plan { at, names })?;
                 self.places.push_front(at)?;
             }

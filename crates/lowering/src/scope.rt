@@ -1,50 +1,72 @@
 //! What names stand for.
 
-ghost use Rattle.std.specs.Prelude.{◌≡◌, ◌∷◌, [], OnOk};
+ghost use Rattle.std.specs.Prelude.{◌≡◌, ◌∷◌, [], ℕ, List, IfOk, OnOk, OnErr};
 ghost use Rattle.source.specs.Lowered.{source_in, scoped, let_scoped};
+ghost use Rattle.semantics.specs.declared.graph.Source.{Source};
+ghost use Rattle.lowering.specs.Latest.{IsLatest};
 
-use crate::names::{Entry, Target, same};
+use crate::names::{Entry, Target};
 use graph::Name;
 use semantics::graph::Source;
 use std::alloc::{AllocError, Allocator};
-use std::collections::VecDeque;
+use std::collections::{BTreeMap, VecDeque};
 use std::marker::Model;
+
+/// What each name stands for last.
+type Latest<'a, A> = BTreeMap<&'a [u8], Source, A>;
+
+/// From now on the name stands for this.
+fn stand<'a, A: Allocator + Clone>(
+    latest: &mut Latest<'a, A>,
+    name: &'a [u8],
+    source: Source,
+) -> Result<(), AllocError>
+    ensures stands { OnOk result ((scope : List (List ℕ × Source)) → IsLatest latest.old scope → IsLatest latest.new ((name.now, source) ∷ scope)) }
+    ensures refused { OnErr result ((scope : List (List ℕ × Source)) → IsLatest latest.old scope → IsLatest latest.new scope) }
+{
+    match latest.insert(name, source) {
+        Ok(_) => Ok(()),
+        Err(_) => Err(AllocError),
+    }
+}
 
 /// The names in scope, each with its source. Those that hide others stand in front.
 #[derive(Drop)]
 pub struct Scope<'a, A: Allocator> {
     entries: VecDeque<Entry<'a>, A>,
+    latest: Latest<'a, A>,
 }
 
 impl<'a, A: Allocator> Model for Scope<'a, A> {
     ghost use Rattle.source.specs.Lowered.{Scope};
+    ghost use Rattle.lowering.specs.Latest.{IsLatest};
 
     ghost Value = { Scope };
 
     ghost view = { λ s. s.entries.items };
+
+    ghost invariant = { λ s. IsLatest s.latest s.entries.items };
 }
 
-impl<'a, A: Allocator> Scope<'a, A> {
-    pub fn new(alloc: A) -> Scope<'a, A>
-        ensures { result ≡ [] }
+impl<'a, A: Allocator + Clone> Scope<'a, A> {
+    #[tactic(auto, using(crate::proofs::NameMaps::none_stand))]
+    pub fn new(alloc: &A) -> Result<Scope<'a, A>, AllocError>
+        ensures { IfOk result (λ s. s ≡ []) }
     {
-        Scope {
-            entries: VecDeque::new(alloc),
-        }
+        Ok(Scope {
+            entries: VecDeque::new(alloc.clone()?),
+            latest: BTreeMap::new(alloc.clone()?),
+        })
     }
 
     /// What a name stands for.
-    pub fn source(&self, name: &[u8]) -> Source
+    pub fn source(&self, name: &'a [u8]) -> Source
         ensures { result ≡ source_in self.now name.now }
     {
-        for i in 0..self.entries.len() {
-            if let Some(entry) = self.entries.get(i) {
-                if same(name, entry.name) {
-                    return entry.source;
-                }
-            }
+        match self.latest.get(&name) {
+            Some(source) => *source,
+            None => Source { node: 0, port: 0 },
         }
-        Source { node: 0, port: 0 }
     }
 
     /// From now on the name stands for this.
@@ -52,6 +74,10 @@ impl<'a, A: Allocator> Scope<'a, A> {
         ensures { OnOk result (self.new ≡ (name.now, source) ∷ self.old) }
     {
         self.entries.push_front(Entry { name, source })?;
+        if let Err(refused) = stand(&mut self.latest, name, source) {
+            let _entry = self.entries.pop_front();
+            return Err(refused);
+        }
         Ok(())
     }
 

@@ -4,7 +4,8 @@ ghost use Rattle.std.specs.Prelude.{◌≡◌, ◌∷◌, [], ℕ, List, IfOk, O
 ghost use Rattle.source.specs.Lowered.{only, source_in};
 ghost use Rattle.source.specs.Words as words;
 ghost use Rattle.source.specs.Tree as tree;
-ghost use Rattle.lowering.specs.Machine.{after, between, noted};
+ghost use Rattle.lowering.specs.State.{after, noted};
+ghost use Rattle.lowering.specs.Functions.{between};
 ghost use Rattle.lowering.specs.Machine as state;
 ghost use Rattle.lowering.specs.Numbered.{act_numbered, run_numbered};
 
@@ -72,7 +73,7 @@ impl<'a, A: Allocator + Clone> Machine<'a, A> {
                 trigger: Source { node: 0, port: 0 },
             },
             spot: Spot { next: 0, loops: 0 },
-            scope: Scope::new(alloc.clone()?),
+            scope: Scope::new(alloc)?,
             sources: Vec::new(alloc.clone()?),
             number: false,
             nodes: Vec::new(alloc.clone()?),
@@ -87,7 +88,7 @@ impl<'a, A: Allocator + Clone> Machine<'a, A> {
 
     /// What a name stands for.
     #[tactic(auto, using(crate::proofs::Nodes::only_more))]
-    fn name(&mut self, name: &[u8]) -> Result<(), AllocError>
+    fn name(&mut self, name: &'a [u8]) -> Result<(), AllocError>
         ensures { OnOk result (self.new ≡ after self.old (only (source_in self.old.scope name.now ∷ []))) }
     {
         let source = self.scope.source(name);

@@ -3,7 +3,8 @@
 ghost use Rattle.std.specs.Prelude.{◌≡◌, ◌+◌, ◌∷◌, ◌++◌, [], OnOk, IfOk, length, map};
 ghost use Rattle.source.specs.Lowered.{loop_name, scoped, turn_scope};
 ghost use Rattle.source.specs.Outside.{bare};
-ghost use Rattle.lowering.specs.Machine.{loop_begun, named_first, turning, turn_begun, tested, came_back, passing, passed, with_all};
+ghost use Rattle.lowering.specs.Conditionals.{with_all};
+ghost use Rattle.lowering.specs.Loops.{loop_begun, named_first, turning, turn_begun, tested, came_back, passing, passed};
 
 use crate::frame::{Arms, Begun, Frame, Open, Site, Spot, Turning};
 use crate::loop_names::next_loop_name;
@@ -86,7 +87,7 @@ fn first_scope<'a, A: Allocator + Clone>(
 {
     let names = carried(alloc.clone()?, &begun.names, &begun.outs)?;
     let values = inputs(alloc.clone()?, 0, names.len())?;
-    let mut scope = Scope::new(alloc);
+    let mut scope = Scope::new(&alloc)?;
     scope.bind_all(&names, &values)?;
     Ok(scope)
 }
@@ -221,7 +222,6 @@ impl<'a, A: Allocator + Clone> Machine<'a, A> {
     }
 
     /// The other arm of a test: an `enter` of each name of the loop.
-    #[tactic(auto, using(crate::proofs::Nodes::all_enters))]
     fn pass(
         &mut self,
         arms: &Arms<'a, A>,
@@ -231,19 +231,9 @@ impl<'a, A: Allocator + Clone> Machine<'a, A> {
         ensures entered { OnOk result (self.new ≡ with_all (record self.old { site = passing self.old arms.now }) (passed self.old arms.now at names.now)) }
         ensures values { IfOk result (λ v. v.items ≡ (passed self.old arms.now at names.now).sources) }
     {
-        let node = self.spot.next;
-        self.site = Site {
-            function: arms.site.function,
-            region: Region::Arm {
-                cond: arms.cond,
-                side: false,
-            },
-            trigger: Source { node, port: 0 },
-        };
         let own = bare_names(self.alloc.clone()?, names)?;
-        let taken = self.taken(arms, &own)?;
-        self.put_enters(at, &taken)?;
-        inputs(self.alloc.clone()?, node, taken.len())
+        let values = self.enter_all(arms, false, at, &own)?;
+        Ok(values)
     }
 
     /// The arm of a turn that goes on ends. The other arm gives the loop's names as they came.

@@ -4,7 +4,8 @@ ghost use Rattle.std.specs.Prelude.{◌≡◌, ◌+◌, ◌∷◌, ◌++◌, [],
 ghost use Rattle.source.specs.Lowered.{ports_from, inputs_from, literal, operands, operator_of};
 ghost use Rattle.source.specs.Evaluates.{signed};
 ghost use Rattle.semantics.specs.declared.graph.Kind.TheVariants as node;
-ghost use Rattle.lowering.specs.Machine.{after, one_node, operated, as_they_are, prefix, with_sources, last_negated, negated, minus};
+ghost use Rattle.lowering.specs.State.{after};
+ghost use Rattle.lowering.specs.Operators.{one_node, operated, as_they_are, prefix, with_sources, last_negated, negated, minus};
 
 use crate::machine::{Machine, next_number};
 use crate::made::Made;

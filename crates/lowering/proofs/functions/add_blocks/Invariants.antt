@@ -1,5 +1,5 @@
 use Rattle.std.proofs.Common.{◌≡◌, ◌++◌, length}
-use Rattle.lowering.specs.Machine.{of_function}
+use Rattle.lowering.specs.Functions.{of_function}
 use Rattle.lowering.proofs.functions.add_blocks.Given as goal
 
 abbrev pub invariant-loop-block : goal.invariant-loop-block

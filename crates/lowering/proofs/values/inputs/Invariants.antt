@@ -1,5 +1,5 @@
 use Rattle.std.proofs.Common.{◌≡◌, ◌+◌}
-use Rattle.source.specs.Lowered.{ports_from, inputs_from}
+use Rattle.source.specs.Lowered.{inputs_from}
 use Rattle.lowering.proofs.values.inputs.Given as goal
 
 abbrev pub invariant-loop : goal.invariant-loop

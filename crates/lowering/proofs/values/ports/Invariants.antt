@@ -1,5 +1,5 @@
-use Rattle.std.proofs.Common.{◌≡◌, ◌+◌}
-use Rattle.source.specs.Lowered.{ports_from, inputs_from}
+use Rattle.std.proofs.Common.{◌≡◌}
+use Rattle.source.specs.Lowered.{ports_from}
 use Rattle.lowering.proofs.values.ports.Given as goal
 
 abbrev pub invariant-loop : goal.invariant-loop

@@ -1,6 +1,6 @@
 use Rattle.std.proofs.Common.{◌≡◌, drop}
 use Rattle.source.specs.Lowered.{merges}
-use Rattle.lowering.specs.Machine.{with_merges}
+use Rattle.lowering.specs.Conditionals.{with_merges}
 use Rattle.lowering.proofs.machine.Machine.merge.Given as goal
 
 abbrev pub invariant-loop-i : goal.invariant-loop-i

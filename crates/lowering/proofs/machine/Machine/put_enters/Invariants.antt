@@ -1,5 +1,5 @@
 use Rattle.std.proofs.Common.{◌≡◌, drop}
-use Rattle.lowering.specs.Machine.{with_merges, entered_nodes}
+use Rattle.lowering.specs.Conditionals.{with_merges, entered_nodes}
 use Rattle.lowering.proofs.machine.Machine.put_enters.Given as goal
 
 abbrev pub invariant-loop-i : goal.invariant-loop-i

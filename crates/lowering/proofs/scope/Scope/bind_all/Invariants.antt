@@ -1,5 +1,5 @@
 use Rattle.std.proofs.Common.{◌≡◌, ◌≤◌, drop, length}
-use Rattle.source.specs.Lowered.{scoped, let_scoped}
+use Rattle.source.specs.Lowered.{scoped}
 use Rattle.lowering.proofs.scope.Scope.bind_all.Given as goal
 
 abbrev pub invariant-loop-i : goal.invariant-loop-i
