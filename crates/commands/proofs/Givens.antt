@@ -10,7 +10,6 @@ use Rattle.oracle.specs.declared.report.MeanEnd.{MeanEnd}
 use Rattle.oracle.specs.Gathering.{waves_told}
 use Rattle.oracle.specs.Waves.{AreWavesOf}
 use Rattle.replay.specs.declared.moment.Moment.{Moment}
-use Rattle.replay.specs.declared.fault.ReplayFault.{ReplayFault}
 use Rattle.replay.specs.Views.{BooksView}
 use Rattle.profile_text.specs.declared.lines.MachineRow.{MachineRow}
 use Rattle.command_line.specs.declared.Mode.{Mode}
@@ -20,12 +19,12 @@ use Rattle.driver.specs.declared.fault.Fault.{Fault}
 use Rattle.driver.specs.Headline.{TellsQuietly}
 use Rattle.driver.specs.Listed.{IsListed, IsWatched, HasBooks}
 use Rattle.driver.specs.Refused.{IsGoodText, IsReady, IsRefused, IsRefusedMeaning}
-use Rattle.commands.specs.declared.refusal.Refusal.{Refusal}
+use Rattle.outcomes.specs.declared.refusal.Refusal.{Refusal}
 use Rattle.commands.specs.Input.{integers_of}
 use Rattle.commands.specs.Refusals.{told_as}
 use Rattle.commands.specs.Given.{IsGiven, IsNotGiven}
 use Rattle.commands.specs.Agreed.{IsNoOrderOf, WhyNoOrder}
-use Rattle.commands.specs.Traced.{IsTraceOf, IsPageOf, IsNoPageOf, unkept_as}
+use Rattle.commands.specs.Traced.{IsTraceOf, IsPageOf}
 use Rattle.commands.specs.Profiled.{IsNoProfileOf, IsProfileOf, WhyNoProfile, IsNoRow, AreRows, sizes_below}
 use Rattle.commands.specs.Served.{Parts, IsTold, IsRunOf, IsNoRunOf, IsRefusedLine, WhyNoRun, config_of}
 
@@ -124,10 +123,6 @@ module _ (input text : List ℕ) (inputs : List ℤ) (given : IsGiven input text
 
   pub no_room : (o : RunOptions) → IsNoRunOf input o Refusal.Memory
   no_room o = record { parts = parts; why = inl refl }
-
-  pub not_kept : (o : RunOptions) (fault : ReplayFault) (f : Refusal) → f ≡ unkept_as fault → IsNoPageOf input o f
-  not_kept o ReplayFault.NotARun f told = inr told
-  not_kept o ReplayFault.Memory f told = inl (record { parts = parts; why = inl told })
 
   pub run_refused : (o : RunOptions) (c : Config) → c ≡ config_of o → (fault : Fault) → IsRefused text inputs c fault → (f : Refusal) → f ≡ told_as fault → IsNoRunOf input o f
   run_refused o c same fault refused f told = stopped_run o f (inl (fault, subst (λ (d : Config). IsRefused text inputs d fault) same refused, told))

@@ -3,7 +3,8 @@ use Rattle.std.proofs.Common.{◌≡◌, ℕ, ℤ, List, inl, inr, true, false, 
 use Rattle.semantics.specs.Graph.{Graph}
 use Rattle.semantics.specs.Machine.{Events}
 use Rattle.semantics.specs.Program.{Program}
-use Rattle.semantics.specs.Report.{Report, Shows}
+use Rattle.semantics.specs.Report.{Report}
+use Rattle.schedule.specs.Shown.{ShowsInOrder}
 use Rattle.semantics.specs.declared.report.End.{End}
 use Rattle.schedule.specs.declared.config.Config.{Config}
 use Rattle.schedule.specs.declared.halt.Halt.{Halt}
@@ -37,7 +38,7 @@ told_cut k halt r (inr told) e = ends_cut k.state.setting.program r halt told.1 
 
 pub order_of : (text : List ℕ) (g : Graph) (bytes : List ℕ) (inputs : List ℤ) (c : Config) (seed order first : ℕ) (old new : Kept) (halt : Halt) (r : Report)
     → IsCompiled text g bytes → StartsObject bytes inputs c old → first ≡ first_number seed order → PlaysDrawn c.elements first old new halt → IsReportOf new halt r
-    → ((ins : List ℤ) → Began ins new.state new.events → HaltsAs new.state true halt → Shows new.state.setting.program (size new.state.setting) ins new.state.setting.steps true false r)
+    → ((ins : List ℤ) → Began ins new.state new.events → HaltsAs new.state true halt → ShowsInOrder new.state.setting.program (size new.state.setting) ins new.state.setting.steps true false r)
     → IsOrder text inputs c seed order g r
 order_of text g bytes inputs c seed order first old new halt r compiled starts is drawn told shows =
     let picks : List (ℕ × ℕ) = picks_from c.elements drawn.count first in
@@ -45,7 +46,7 @@ order_of text g bytes inputs c seed order first old new halt r compiled starts i
     subst (λ (l : Events). Began ins new.state l) (sym drawn.events) (began_plays ins true picks old.state new.state halt old.events drawn.made drawn.plays b) in
     let halts = halts_as true picks old.state new.state halt drawn.made drawn.plays in
     let shown = shows_object bytes inputs c old starts true false r
-    (λ ins b. subst (λ (z : Setting). Shows z.program (size z) ins z.steps true false r) (setting_plays true picks old.state new.state halt drawn.made drawn.plays) (shows ins (began ins b) halts)) in
+    (λ ins b. subst (λ (z : Setting). ShowsInOrder z.program (size z) ins z.steps true false r) (setting_plays true picks old.state new.state halt drawn.made drawn.plays) (shows ins (began ins b) halts)) in
     let list = follows_list bytes inputs c old starts picks r (new, halt, drawn.made, drawn.plays, drawn.events, told) in
     record {
       count = drawn.count;

@@ -10,7 +10,7 @@ use Rattle.driver.specs.declared.fault.Fault.{Fault}
 use Rattle.driver.specs.Compiled.{IsTooLarge}
 use Rattle.driver.specs.Refused.{IsGoodText}
 use Rattle.driver.proofs.TextObjects.{too_large_to_run}
-use Rattle.commands.specs.declared.refusal.Refusal.{Refusal}
+use Rattle.outcomes.specs.declared.refusal.Refusal.{Refusal}
 use Rattle.commands.specs.Profiled.{AreRows, IsChosen, IsNoRow, IsRow, config_with, sizes_below}
 use Rattle.commands.specs.Refusals.{told_as}
 

@@ -17,7 +17,8 @@ use Rattle.command_line.specs.declared.RunOptions.{RunOptions}
 use Rattle.command_line.specs.declared.inputs.Inputs.{Inputs}
 use Rattle.driver.specs.declared.fault.Fault.{Fault}
 use Rattle.commands.specs.declared.input.LinesFault.{LinesFault}
-use Rattle.commands.specs.declared.refusal.Refusal.{Refusal}
+use Rattle.outcomes.specs.declared.refusal.Refusal.{Refusal}
+use Rattle.outcomes.specs.declared.outcome.Outcome.{Outcome}
 use Rattle.commands.specs.Input.{graph_length, integers_of, IsBadInput}
 use Rattle.driver.specs.Objects.{ShowsObjectIn}
 use Rattle.driver.specs.Refused.{IsGoodText, IsReady, IsReadyObject, IsBadText, IsNoObject, IsRefused, IsRefusedMeaning, IsRefusedObject}
@@ -25,13 +26,13 @@ use Rattle.commands.specs.Refusals.{told_as}
 use Rattle.commands.specs.Served.{Prints, Parts, config_of, IsRefusedLine, IsNoRunOf, WhyNoRun, IsMeaningOf, IsNoMeaningOf, WhyNoMeaning, IsExecOf, IsNoExecOf}
 
 -- WHAT IS PRINTED
-pub printed : (E : Type 0) (x : ⊤) (n : ℕ) (old new : Option (List ℕ)) (sent text : List ℕ) (status : ℕ) → sent ≡ text → n ≡ status → Sends {E = E} (Ok x) old new sent → Prints {E = E} (Ok n) old new text status
+pub printed : (E : Type 0) (x : ⊤) (o : Outcome) (old new : Option (List ℕ)) (sent text : List ℕ) (outcome : Outcome) → sent ≡ text → o ≡ outcome → Sends {E = E} (Ok x) old new sent → Prints {E = E} (Ok o) old new text outcome
 unfolding Sends
-printed E x n old new sent text status same is h = (is, subst (λ (l : List ℕ). Appends old new l) same h)
+printed E x o old new sent text outcome same is h = (is, subst (λ (l : List ℕ). Appends old new l) same h)
 
-pub stopped : (E : Type 0) (e : E) (old new : Option (List ℕ)) (sent text : List ℕ) (status : ℕ) → sent ≡ text → Sends {E = E} (Err e) old new sent → Prints {E = E} (Err e) old new text status
+pub stopped : (E : Type 0) (e : E) (old new : Option (List ℕ)) (sent text : List ℕ) (outcome : Outcome) → sent ≡ text → Sends {E = E} (Err e) old new sent → Prints {E = E} (Err e) old new text outcome
 unfolding Sends
-stopped E e old new sent text status same h = (h.0, h.1, sym same ∙ h.2, h.3)
+stopped E e old new sent text outcome same h = (h.0, h.1, sym same ∙ h.2, h.3)
 
 -- a line that is no integer
 pub bad_line_of : (lines : List ℕ) (f : LinesFault) (n : ℕ) → f ≡ LinesFault.BadLine n → IsBadInput lines f → integers_of lines ≡ Err n

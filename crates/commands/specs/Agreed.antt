@@ -10,11 +10,12 @@ use Rattle.report_text.specs.ReportText.{report_text}
 use Rattle.command_line.specs.declared.RunOptions.{RunOptions}
 use Rattle.driver.specs.Headline.{TellsTruthListed}
 use Rattle.driver.specs.Refused.{IsReady, IsRefused}
-use Rattle.commands.specs.declared.refusal.Refusal.{Refusal}
+use Rattle.outcomes.specs.declared.refusal.Refusal.{Refusal}
 use Rattle.commands.specs.Input.{integers_of}
 use Rattle.commands.specs.Ordered.{first_number, picks_from}
 use Rattle.commands.specs.Served.{Parts, Prints, Refuses, IsTold, IsRefusedLine, config_of}
-use Rattle.commands.specs.Status.{exit_status}
+use Rattle.outcomes.specs.declared.outcome.Outcome.{Outcome}
+use Rattle.outcomes.specs.Outcomes.{ending_of}
 use Rattle.commands.specs.Given.{IsGiven}
 
 -- the most picks that are drawn for an order
@@ -93,8 +94,8 @@ abbrev pub differing_text : Graph → Report → ℕ → Graph → Report → Li
 differing_text g a k h b = line (codes "orders differ") ++ order_text 0 g a ++ order_text k h b
 
 -- THE COMMAND
-abbrev pub PrintsOrders : {E : Type 0} → Result ℕ E → Option (List ℕ) → Option (List ℕ) → List ℕ → RunOptions → ℕ → ℕ → Type 0
+abbrev pub PrintsOrders : {E : Type 0} → Result Outcome E → Option (List ℕ) → Option (List ℕ) → List ℕ → RunOptions → ℕ → ℕ → Type 0
 PrintsOrders result old new input o count seed =
-    ((g : Graph) × (r : Report) × Agree input o count seed g r × Prints result old new (same_text count g r) (exit_status r.end))
-    ⊎ (((g : Graph) × (a : Report) × (k : ℕ) × (h : Graph) × (b : Report) × Differ input o count seed g a k h b × Prints result old new (differing_text g a k h b) 1)
+    ((g : Graph) × (r : Report) × Agree input o count seed g r × Prints result old new (same_text count g r) (Outcome.Reported (ending_of r)))
+    ⊎ (((g : Graph) × (a : Report) × (k : ℕ) × (h : Graph) × (b : Report) × Differ input o count seed g a k h b × Prints result old new (differing_text g a k h b) Outcome.Differed)
     ⊎ ((f : Refusal) × IsNoOrderOf input o count f × Refuses result old new f))

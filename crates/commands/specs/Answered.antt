@@ -1,6 +1,5 @@
 -- What the whole program prints, for each list of words.
-use Rattle.std.specs.Prelude.{◌≡◌, ◌≤◌, ℕ, ◌⊎◌, List, length, Option, Result, IfSome}
-use Rattle.std.specs.Result.{result_unwrap_or}
+use Rattle.std.specs.Prelude.{◌≡◌, ◌≤◌, ℕ, ◌⊎◌, List, length, Option, Result, Ok, Err, IfSome}
 use Rattle.std.specs.declared.io.Error.{Error}
 use Rattle.command_line.specs.Words.{asked, version_line}
 use Rattle.command_line.specs.declared.Asked.{Asked}
@@ -9,7 +8,9 @@ use Rattle.command_line.specs.declared.Lowering.{Lowering}
 use Rattle.command_line.specs.declared.Request.{Request}
 use Rattle.driver.specs.Disassembled.{listing_of, listing_with_literals_of, upgrade_of}
 use Rattle.commands.specs.declared.input.InputFault.{InputFault}
-use Rattle.commands.specs.declared.refusal.Refusal.{Refusal}
+use Rattle.outcomes.specs.declared.refusal.Refusal.{Refusal}
+use Rattle.outcomes.specs.declared.outcome.Outcome.{Outcome}
+use Rattle.outcomes.specs.Outcomes.{outcome_status}
 use Rattle.lowered_text.specs.Texts.{graph_and_inputs, map_of}
 use Rattle.commands.specs.Assembled.{PrintsAssembled}
 use Rattle.commands.specs.Lowered.{PrintsLowered}
@@ -20,7 +21,7 @@ use Rattle.commands.specs.Refusals.{unread_as}
 use Rattle.commands.specs.Served.{Prints, Refuses, PrintsCheck, PrintsObject, PrintsRun, PrintsOf, PrintsMeaning, PrintsDot, PrintsExec}
 
 -- ALL COMMANDS
-abbrev pub Answers : {E : Type 0} → Result ℕ E → Option (List ℕ) → Option (List ℕ) → List ℕ → Request → Type 0
+abbrev pub Answers : {E : Type 0} → Result Outcome E → Option (List ℕ) → Option (List ℕ) → List ℕ → Request → Type 0
 Answers result old new input Request.Check = PrintsCheck result old new input
 Answers result old new input Request.Compile = PrintsObject result old new input
 Answers result old new input (Request.Run o) = PrintsRun result old new input o
@@ -38,27 +39,31 @@ Answers result old new input (Request.Lower Lowering.Graph) = PrintsLowered grap
 Answers result old new input (Request.Lower Lowering.Map) = PrintsLowered map_of result old new input
 
 -- the input is all that the reader has, at most 64 MiB
-abbrev pub ServesRequest : {E : Type 0} → Option (List ℕ) → Result ℕ E → Option (List ℕ) → Option (List ℕ) → Request → Type 0
+abbrev pub ServesRequest : {E : Type 0} → Option (List ℕ) → Result Outcome E → Option (List ℕ) → Option (List ℕ) → Request → Type 0
 ServesRequest remaining result old new request =
     ((input : List ℕ) × IfSome remaining (λ xs. input ≡ xs) × (length input ≤ 67108864) × Answers result old new input request)
     ⊎ ((fault : InputFault) × Refuses result old new (unread_as fault))
 
 -- ALL COMMAND LINES
--- a text of the command line, of which nothing is said here, and this status; or memory was refused
-abbrev pub Says : {E : Type 0} → Result ℕ E → Option (List ℕ) → Option (List ℕ) → ℕ → Type 0
-Says result old new status = ((text : List ℕ) × Prints result old new text status) ⊎ Refuses result old new Refusal.Memory
+-- a text of the command line, of which nothing is said here, and this came of it; or memory was refused
+abbrev pub Says : {E : Type 0} → Result Outcome E → Option (List ℕ) → Option (List ℕ) → Outcome → Type 0
+Says result old new outcome = ((text : List ℕ) × Prints result old new text outcome) ⊎ Refuses result old new Refusal.Memory
 
-abbrev pub ServesAsked : {E : Type 0} → Option (List ℕ) → Result ℕ E → Option (List ℕ) → Option (List ℕ) → Asked → Type 0
+abbrev pub ServesAsked : {E : Type 0} → Option (List ℕ) → Result Outcome E → Option (List ℕ) → Option (List ℕ) → Asked → Type 0
 ServesAsked remaining result old new (Asked.Request request) = ServesRequest remaining result old new request
-ServesAsked remaining result old new (Asked.Help topic) = Says result old new 0
-ServesAsked remaining result old new Asked.Version = Prints result old new version_line 0
-ServesAsked remaining result old new Asked.Mistake = Says result old new 1
+ServesAsked remaining result old new (Asked.Help topic) = Says result old new Outcome.Done
+ServesAsked remaining result old new Asked.Version = Prints result old new version_line Outcome.Done
+ServesAsked remaining result old new Asked.Mistake = Says result old new Outcome.Mistake
 
 -- the words are those after the program's name
-abbrev pub ServesWords : {E : Type 0} → List (List ℕ) → Option (List ℕ) → Result ℕ E → Option (List ℕ) → Option (List ℕ) → Type 0
+abbrev pub ServesWords : {E : Type 0} → List (List ℕ) → Option (List ℕ) → Result Outcome E → Option (List ℕ) → Option (List ℕ) → Type 0
 ServesWords words remaining result old new = ServesAsked remaining result old new (asked words)
 
--- the status of the process, which is 1 after a failed write
+-- the status of the process: that of what came of it, and 1 after a failed write
+abbrev pub status_of : {E : Type 0} → Result Outcome E → ℕ
+status_of (Ok outcome) = outcome_status outcome
+status_of (Err e) = 1
+
 abbrev pub Serves : List (List ℕ) → Option (List ℕ) → Option (List ℕ) → Option (List ℕ) → ℕ → Type 0
 Serves words remaining old new status =
-    (outcome : Result ℕ Error) × ServesWords words remaining outcome old new × (status ≡ result_unwrap_or outcome 1)
+    (served : Result Outcome Error) × ServesWords words remaining served old new × (status ≡ status_of served)

@@ -1,6 +1,6 @@
 -- What an input gives: the text of a graph, and the integers of the lines that follow it.
 use Rattle.std.specs.Prelude.{◌≡◌, ℕ, ℤ, ◌⊎◌, List, ◌++◌, length, Ok, Err}
-use Rattle.commands.specs.declared.refusal.Refusal.{Refusal}
+use Rattle.outcomes.specs.declared.refusal.Refusal.{Refusal}
 use Rattle.commands.specs.Input.{graph_length, integers_of}
 use Rattle.commands.specs.Served.{Parts, IsRefusedLine}
 

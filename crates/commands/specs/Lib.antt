@@ -1,5 +1,4 @@
 pub mod Input
-pub mod Status
 pub mod Refusals
 pub mod Served
 pub mod Given

@@ -20,10 +20,11 @@ use Rattle.driver.specs.Objects.{RunsObject}
 use Rattle.driver.specs.Orders.{FollowsRounds}
 use Rattle.driver.specs.Refused.{IsGoodText, IsRefused, IsRefusedMeaning}
 use Rattle.commands.specs.declared.profiling.Held.{Held}
-use Rattle.commands.specs.declared.refusal.Refusal.{Refusal}
+use Rattle.outcomes.specs.declared.refusal.Refusal.{Refusal}
 use Rattle.commands.specs.Input.{integers_of}
 use Rattle.commands.specs.Served.{Parts, Prints, Refuses, IsTold, IsRefusedLine}
-use Rattle.commands.specs.Status.{meaning_status}
+use Rattle.outcomes.specs.declared.outcome.Ending.{Ending}
+use Rattle.outcomes.specs.declared.outcome.Outcome.{Outcome}
 use Rattle.commands.specs.Given.{IsGiven}
 
 -- ROWS. What the machine is set to for a row: each turn has one event.
@@ -104,9 +105,14 @@ abbrev pub text_of : Bool → Graph → MeanEnd → List ℕ → List MachineRow
 text_of true g end counts rows = svg_text counts
 text_of false g end counts rows = profile_text g.arrays counts rows end
 
+-- what came of it: a picture does not tell how the meaning ended
+abbrev pub profiled : Bool → MeanEnd → Outcome
+profiled true end = Outcome.Drawn (Ending.Meaning end)
+profiled false end = Outcome.Reported (Ending.Meaning end)
+
 -- THE COMMAND
-abbrev pub PrintsProfile : {E : Type 0} → Result ℕ E → Option (List ℕ) → Option (List ℕ) → List ℕ → RunOptions → Sizes → Bool → Type 0
+abbrev pub PrintsProfile : {E : Type 0} → Result Outcome E → Option (List ℕ) → Option (List ℕ) → List ℕ → RunOptions → Sizes → Bool → Type 0
 PrintsProfile result old new input o z svg =
     ((g : Graph) × (end : MeanEnd) × (counts : List ℕ) × (rows : List MachineRow) × IsProfileOf input o z svg g end counts rows
-    × Prints result old new (text_of svg g end counts rows) (meaning_status end))
+    × Prints result old new (text_of svg g end counts rows) (profiled svg end))
     ⊎ ((f : Refusal) × IsNoProfileOf input o z svg f × Refuses result old new f)

@@ -11,7 +11,7 @@ use Rattle.source.specs.declared.fault.FaultKind.{FaultKind}
 use Rattle.lowered_text.specs.declared.fault.LowerFault.{LowerFault}
 use Rattle.driver.specs.declared.fault.Fault.{Fault}
 use Rattle.commands.specs.declared.input.InputFault.{InputFault}
-use Rattle.commands.specs.declared.refusal.Refusal.{Refusal}
+use Rattle.outcomes.specs.declared.refusal.Refusal.{Refusal}
 
 abbrev pub read_word : ReadFaultKind → List ℕ
 read_word ReadFaultKind.NoHeader = codes "NoHeader"
@@ -104,7 +104,6 @@ cause_text (Refusal.Start f) = codes "start " ++ start_word f
 cause_text (Refusal.Object f) = codes "object " ++ object_word f
 cause_text (Refusal.Asm f) = codes "asm " ++ asm_word f.kind ++ codes " line " ++ decimal f.line
 cause_text (Refusal.Program f) = codes "program " ++ program_word f.kind ++ codes " line " ++ decimal f.line ++ codes " column " ++ decimal f.column
-cause_text Refusal.Books = codes "books"
 cause_text Refusal.Memory = codes "memory"
 
 abbrev pub refusal_line : Refusal → List ℕ

@@ -1,4 +1,4 @@
--- What the commands print, and their exit status.
+-- What the commands print, and what comes of them.
 use Rattle.std.specs.Prelude.{◌≡◌, ℕ, ℤ, Bool, true, false, ◌⊎◌, List, ◌++◌, length, Option, Some, None, Result, Ok, Err, codes}
 use Rattle.std.specs.Io.KnownBytes.{Appends}
 use Rattle.tags.specs.declared.value.Value.{Value}
@@ -20,23 +20,25 @@ use Rattle.command_line.specs.declared.Mode.{Mode}
 use Rattle.command_line.specs.declared.RunOptions.{RunOptions}
 use Rattle.command_line.specs.declared.inputs.Inputs.{Inputs}
 use Rattle.driver.specs.declared.fault.Fault.{Fault}
-use Rattle.commands.specs.declared.refusal.Refusal.{Refusal}
+use Rattle.outcomes.specs.declared.refusal.Refusal.{Refusal}
 use Rattle.driver.specs.Disassembled.{IsOpened, IsUnopened, picture_of}
 use Rattle.driver.specs.Headline.{TellsQuietly}
 use Rattle.commands.specs.Input.{graph_length, integers_of}
 use Rattle.driver.specs.Objects.{ShowsObjectIn}
 use Rattle.driver.specs.Refused.{IsGoodText, IsCompiled, IsReady, IsReadyObject, IsBadText, IsRefusedText, IsRefused, IsRefusedMeaning, IsRefusedObject}
 use Rattle.commands.specs.Refusals.{refusal_line, told_as}
-use Rattle.commands.specs.Status.{exit_status, meaning_status}
+use Rattle.outcomes.specs.declared.outcome.Ending.{Ending}
+use Rattle.outcomes.specs.declared.outcome.Outcome.{Outcome}
+use Rattle.outcomes.specs.Outcomes.{ending_of}
 
--- this text, and then this status; after a fault of the writer a beginning of the text
-abbrev pub Prints : {E : Type 0} → Result ℕ E → Option (List ℕ) → Option (List ℕ) → List ℕ → ℕ → Type 0
-Prints (Ok n) old new text status = (n ≡ status) × Appends old new text
-Prints (Err e) old new text status = (front : List ℕ) × (rest : List ℕ) × (text ≡ front ++ rest) × Appends old new front
+-- this text, of which this came; after a fault of the writer a beginning of the text
+abbrev pub Prints : {E : Type 0} → Result Outcome E → Option (List ℕ) → Option (List ℕ) → List ℕ → Outcome → Type 0
+Prints (Ok o) old new text outcome = (o ≡ outcome) × Appends old new text
+Prints (Err e) old new text outcome = (front : List ℕ) × (rest : List ℕ) × (text ≡ front ++ rest) × Appends old new front
 
--- the line of a refusal, and status 1
-abbrev pub Refuses : {E : Type 0} → Result ℕ E → Option (List ℕ) → Option (List ℕ) → Refusal → Type 0
-Refuses result old new f = Prints result old new (refusal_line f) 1
+-- the line of a refusal, which came of it
+abbrev pub Refuses : {E : Type 0} → Result Outcome E → Option (List ℕ) → Option (List ℕ) → Refusal → Type 0
+Refuses result old new f = Prints result old new (refusal_line f) (Outcome.Refused f)
 
 -- the refusal tells a fault that has this cause
 abbrev pub IsTold : (Fault → Type 0) → Refusal → Type 0
@@ -75,9 +77,9 @@ pub record IsNoRunOf (input : List ℕ) (o : RunOptions) (f : Refusal) : Type 0 
   pub parts : Parts input
   pub why : (f ≡ Refusal.Memory) ⊎ WhyNoRun (integers_of parts.lines) parts.text o f
 
-abbrev pub PrintsRun : {E : Type 0} → Result ℕ E → Option (List ℕ) → Option (List ℕ) → List ℕ → RunOptions → Type 0
+abbrev pub PrintsRun : {E : Type 0} → Result Outcome E → Option (List ℕ) → Option (List ℕ) → List ℕ → RunOptions → Type 0
 PrintsRun result old new input o =
-    ((g : Graph) × (r : Report) × IsRunOf input o g r × Prints result old new (report_text g.arrays r) (exit_status r.end))
+    ((g : Graph) × (r : Report) × IsRunOf input o g r × Prints result old new (report_text g.arrays r) (Outcome.Reported (ending_of r)))
     ⊎ ((f : Refusal) × IsNoRunOf input o f × Refuses result old new f)
 
 -- MEAN
@@ -96,36 +98,36 @@ pub record IsNoMeaningOf (input : List ℕ) (f : Refusal) : Type 0 where
   pub parts : Parts input
   pub why : (f ≡ Refusal.Memory) ⊎ WhyNoMeaning (integers_of parts.lines) parts.text f
 
-abbrev pub PrintsMeaning : {E : Type 0} → Result ℕ E → Option (List ℕ) → Option (List ℕ) → List ℕ → ℕ → Type 0
+abbrev pub PrintsMeaning : {E : Type 0} → Result Outcome E → Option (List ℕ) → Option (List ℕ) → List ℕ → ℕ → Type 0
 PrintsMeaning result old new input steps =
     ((g : Graph) × (end : MeanEnd) × (outputs : List (Option Value)) × (cells : List Full) × IsMeaningOf input steps g end outputs cells
-    × Prints result old new (meaning_text g.arrays outputs cells end) (meaning_status end))
+    × Prints result old new (meaning_text g.arrays outputs cells end) (Outcome.Reported (Ending.Meaning end)))
     ⊎ ((f : Refusal) × IsNoMeaningOf input f × Refuses result old new f)
 
 -- CHECK AND COMPILE
-abbrev pub PrintsCheck : {E : Type 0} → Result ℕ E → Option (List ℕ) → Option (List ℕ) → List ℕ → Type 0
+abbrev pub PrintsCheck : {E : Type 0} → Result Outcome E → Option (List ℕ) → Option (List ℕ) → List ℕ → Type 0
 PrintsCheck result old new text =
-    ((g : Graph) × IsGoodText text g × Prints result old new (line (codes "ok")) 0)
+    ((g : Graph) × IsGoodText text g × Prints result old new (line (codes "ok")) Outcome.Done)
     ⊎ ((f : Refusal) × IsTold (IsBadText text) f × Refuses result old new f)
 
-abbrev pub PrintsObject : {E : Type 0} → Result ℕ E → Option (List ℕ) → Option (List ℕ) → List ℕ → Type 0
+abbrev pub PrintsObject : {E : Type 0} → Result Outcome E → Option (List ℕ) → Option (List ℕ) → List ℕ → Type 0
 PrintsObject result old new text =
-    ((g : Graph) × (bytes : List ℕ) × IsCompiled text g bytes × Prints result old new bytes 0)
+    ((g : Graph) × (bytes : List ℕ) × IsCompiled text g bytes × Prints result old new bytes Outcome.Done)
     ⊎ ((f : Refusal) × IsTold (IsRefusedText text) f × Refuses result old new f)
 
 -- DIS AND UPGRADE
-abbrev pub PrintsOf : {E : Type 0} → (List ℕ → List ℕ) → Result ℕ E → Option (List ℕ) → Option (List ℕ) → List ℕ → Type 0
+abbrev pub PrintsOf : {E : Type 0} → (List ℕ → List ℕ) → Result Outcome E → Option (List ℕ) → Option (List ℕ) → List ℕ → Type 0
 PrintsOf text result old new bytes =
-    (IsOpened bytes × Prints result old new (text bytes) 0)
+    (IsOpened bytes × Prints result old new (text bytes) Outcome.Done)
     ⊎ ((fault : ObjectFault) × IsUnopened bytes fault × Refuses result old new (Refusal.Object fault))
 
 -- DOT: the picture of a graph that is well formed, or of an object's code
-abbrev pub PrintsPicture : {E : Type 0} → Result ℕ E → Option (List ℕ) → Option (List ℕ) → List ℕ → Type 0
+abbrev pub PrintsPicture : {E : Type 0} → Result Outcome E → Option (List ℕ) → Option (List ℕ) → List ℕ → Type 0
 PrintsPicture result old new text =
-    ((g : Graph) × IsGoodText text g × Prints result old new (graph_dot g) 0)
+    ((g : Graph) × IsGoodText text g × Prints result old new (graph_dot g) Outcome.Done)
     ⊎ ((f : Refusal) × IsTold (IsBadText text) f × Refuses result old new f)
 
-abbrev pub PrintsDot : {E : Type 0} → Result ℕ E → Option (List ℕ) → Option (List ℕ) → List ℕ → Bool → Type 0
+abbrev pub PrintsDot : {E : Type 0} → Result Outcome E → Option (List ℕ) → Option (List ℕ) → List ℕ → Bool → Type 0
 PrintsDot result old new input true = PrintsOf picture_of result old new input
 PrintsDot result old new input false = PrintsPicture result old new input
 
@@ -148,7 +150,7 @@ WhyNoExec Inputs.TooMany bytes o f = (first_refusal bytes ≡ None) × (f ≡ Re
 abbrev pub IsNoExecOf : List ℕ → RunOptions → Inputs → Refusal → Type 0
 IsNoExecOf bytes o ins f = (f ≡ Refusal.Memory) ⊎ (((fault : ObjectFault) × (first_refusal bytes ≡ Some fault) × (f ≡ Refusal.Object fault)) ⊎ WhyNoExec ins bytes o f)
 
-abbrev pub PrintsExec : {E : Type 0} → Result ℕ E → Option (List ℕ) → Option (List ℕ) → List ℕ → RunOptions → Inputs → Type 0
+abbrev pub PrintsExec : {E : Type 0} → Result Outcome E → Option (List ℕ) → Option (List ℕ) → List ℕ → RunOptions → Inputs → Type 0
 PrintsExec result old new bytes o ins =
-    ((r : Report) × IsExecOf bytes o ins r × Prints result old new (object_report_text (opened bytes).code.program.arrays r) (exit_status r.end))
+    ((r : Report) × IsExecOf bytes o ins r × Prints result old new (object_report_text (opened bytes).code.program.arrays r) (Outcome.Reported (ending_of r)))
     ⊎ ((f : Refusal) × IsNoExecOf bytes o ins f × Refuses result old new f)

@@ -4,7 +4,6 @@ use Rattle.semantics.specs.Graph.{Graph}
 use Rattle.semantics.specs.Report.{Report}
 use Rattle.object_view.specs.Reading.{opened}
 use Rattle.replay.specs.declared.moment.Moment.{Moment}
-use Rattle.replay.specs.declared.fault.ReplayFault.{ReplayFault}
 use Rattle.replay.specs.Views.{BooksView}
 use Rattle.report_text.specs.ReportText.{report_text}
 use Rattle.trace_text.specs.TraceText.{trace_text, chrome_text}
@@ -16,9 +15,10 @@ use Rattle.driver.specs.Disassembled.{listing_of}
 use Rattle.driver.specs.Listed.{IsListed, IsWatched, HasBooks}
 use Rattle.html_text.specs.DataText.{data_text}
 use Rattle.html_text.specs.PageText.{html_text}
-use Rattle.commands.specs.declared.refusal.Refusal.{Refusal}
+use Rattle.outcomes.specs.declared.refusal.Refusal.{Refusal}
 use Rattle.commands.specs.Served.{Prints, Refuses, IsNoRunOf, config_of}
-use Rattle.commands.specs.Status.{exit_status}
+use Rattle.outcomes.specs.declared.outcome.Outcome.{Outcome}
+use Rattle.outcomes.specs.Outcomes.{ending_of}
 use Rattle.commands.specs.Given.{IsGiven}
 
 -- A run of the graph that the input has, on the integers that follow it: its object, its true report, which lists the events, and what
@@ -43,11 +43,16 @@ events_text EventFormat.Lines first elements g bytes r moments =
 events_text EventFormat.Chrome first elements g bytes r moments =
     chrome_text (opened bytes).code.program elements first (drop first r.events) (drop first moments)
 
+-- what came of it: JSON does not tell how the run ended
+abbrev pub traced : EventFormat → Report → Outcome
+traced EventFormat.Lines r = Outcome.Reported (ending_of r)
+traced EventFormat.Chrome r = Outcome.Drawn (ending_of r)
+
 -- the refusals are those of `run`
-abbrev pub PrintsEvents : {E : Type 0} → Result ℕ E → Option (List ℕ) → Option (List ℕ) → List ℕ → RunOptions → Option ℕ → EventFormat → Type 0
+abbrev pub PrintsEvents : {E : Type 0} → Result Outcome E → Option (List ℕ) → Option (List ℕ) → List ℕ → RunOptions → Option ℕ → EventFormat → Type 0
 PrintsEvents result old new input o last format =
     ((g : Graph) × (bytes : List ℕ) × (r : Report) × (moments : List Moment) × IsTraceOf input o g bytes r moments
-    × Prints result old new (events_text format (first_of (length r.events) last) o.elements g bytes r moments) (exit_status r.end))
+    × Prints result old new (events_text format (first_of (length r.events) last) o.elements g bytes r moments) (traced format r))
     ⊎ ((f : Refusal) × IsNoRunOf input o f × Refuses result old new f)
 
 -- THE PAGE of a run: the input, which is the graph's text and the integers; the listing of the graph's code; the report of the run; and the
@@ -56,6 +61,10 @@ abbrev pub page_text : List ℕ → RunOptions → ℕ → Graph → List ℕ �
 page_text input o first g bytes r books =
     html_text input (listing_of bytes) (report_text g.arrays r) (data_text o.elements (o.elements * o.frames) first (drop first r.events) books)
     (length r.events - first)
+
+-- what came of it
+abbrev pub paged : ℕ → Report → Outcome
+paged first r = Outcome.Paged (ending_of r) (length r.events - first)
 
 pub record IsPageOf (input : List ℕ) (o : RunOptions) (first : ℕ) (g : Graph) (bytes : List ℕ) (r : Report) (books : BooksView) : Type 0 where
   pub text : List ℕ
@@ -66,21 +75,13 @@ pub record IsPageOf (input : List ℕ) (o : RunOptions) (first : ℕ) (g : Graph
   pub listed : IsListed mode text g bytes inputs (config_of o) false r
   pub kept : HasBooks bytes inputs (config_of o) first r books
 
--- Why there is no page: the cause for which `run` has no report; or `Books`, which says that an event was not found to fit the books. The machine
--- hands out the free frame of least number, but no report promises that, so it is not proved that `Books` is never told.
-abbrev pub unkept_as : ReplayFault → Refusal
-unkept_as ReplayFault.NotARun = Refusal.Books
-unkept_as ReplayFault.Memory = Refusal.Memory
-
-abbrev pub IsNoPageOf : List ℕ → RunOptions → Refusal → Type 0
-IsNoPageOf input o f = IsNoRunOf input o f ⊎ (f ≡ Refusal.Books)
-
-abbrev pub PrintsPage : {E : Type 0} → Result ℕ E → Option (List ℕ) → Option (List ℕ) → List ℕ → RunOptions → Option ℕ → Type 0
+-- where there is no page, it tells the cause for which `run` has no report
+abbrev pub PrintsPage : {E : Type 0} → Result Outcome E → Option (List ℕ) → Option (List ℕ) → List ℕ → RunOptions → Option ℕ → Type 0
 PrintsPage result old new input o last =
     ((g : Graph) × (bytes : List ℕ) × (r : Report) × (books : BooksView) × IsPageOf input o (first_of (length r.events) last) g bytes r books
-    × Prints result old new (page_text input o (first_of (length r.events) last) g bytes r books) (exit_status r.end))
-    ⊎ ((f : Refusal) × IsNoPageOf input o f × Refuses result old new f)
+    × Prints result old new (page_text input o (first_of (length r.events) last) g bytes r books) (paged (first_of (length r.events) last) r))
+    ⊎ ((f : Refusal) × IsNoRunOf input o f × Refuses result old new f)
 
-abbrev pub PrintsTrace : {E : Type 0} → Result ℕ E → Option (List ℕ) → Option (List ℕ) → List ℕ → RunOptions → Option ℕ → Format → Type 0
+abbrev pub PrintsTrace : {E : Type 0} → Result Outcome E → Option (List ℕ) → Option (List ℕ) → List ℕ → RunOptions → Option ℕ → Format → Type 0
 PrintsTrace result old new input o last (Format.Events format) = PrintsEvents result old new input o last format
 PrintsTrace result old new input o last Format.Html = PrintsPage result old new input o last

@@ -4,10 +4,10 @@ ghost use Rattle.std.specs.Prelude.{◌≡◌};
 ghost use Rattle.commands.specs.Assembled.{PrintsAssembled};
 ghost use Rattle.commands.specs.Refusals.{unassembled_as};
 
-use crate::refusal::Refusal;
 use crate::serving::refuse;
 use assembler::{AsmFault, AsmFaultKind, assemble};
 use object_view::write;
+use outcomes::{Outcome, Refusal};
 use std::alloc::Allocator;
 use std::io::{self, Write};
 
@@ -22,17 +22,17 @@ fn asm_refusal(fault: AsmFault) -> Refusal
     }
 }
 
-/// Prints the object of the listing that the text is, or what is wrong with it first. Gives the exit status.
+/// Prints the object of the listing that the text is, or what is wrong with it first. Gives what came of it.
 pub fn print_assembled<A: Allocator + Clone, W: Write>(
     alloc: A,
     text: &[u8],
     writer: &mut W,
-) -> io::Result<u8>
+) -> io::Result<Outcome>
     ensures { PrintsAssembled result (W.contents writer.old) (W.contents writer.new) text.now }
 {
     match assemble(alloc, text) {
         Ok(assembled) => match write(&assembled.code, assembled.version, writer) {
-            Ok(()) => Ok(0),
+            Ok(()) => Ok(Outcome::Done),
             Err(fault) => Err(fault),
         },
         Err(fault) => refuse(writer, &asm_refusal(fault)),

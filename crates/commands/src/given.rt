@@ -3,14 +3,15 @@
 ghost use Rattle.std.specs.Prelude.{◌≡◌, ◌⊎◌, MatchResult};
 ghost use Rattle.schedule.specs.declared.config.StartFault.{StartFault as Starting};
 ghost use Rattle.driver.specs.Refused.{IsReady, IsRefused};
-ghost use Rattle.commands.specs.declared.refusal.Refusal.{Refusal as Told};
+ghost use Rattle.outcomes.specs.declared.refusal.Refusal.{Refusal as Told};
 ghost use Rattle.commands.specs.Given.{IsGiven, IsNotGiven};
 ghost use Rattle.commands.specs.Served.{IsRefusedLine, IsTold};
 
 use crate::input::{LinesFault, parse_integers, split_at_main};
-use crate::refusal::Refusal;
+use crate::refusal::fault_refusal;
 use driver::compiling::compile;
 use driver::emulation::start_text;
+use outcomes::Refusal;
 use schedule::config::{Config, StartFault};
 use std::alloc::Allocator;
 
@@ -31,7 +32,7 @@ fn line_refusal<A: Allocator + Clone>(alloc: &A, text: &[u8], line: u64) -> Refu
     };
     match compile(room, text) {
         Ok(_compiled) => Refusal::InputLine(line),
-        Err(fault) => Refusal::from(fault),
+        Err(fault) => fault_refusal(fault),
     }
 }
 
@@ -64,6 +65,6 @@ pub(crate) fn option_refusal<A: Allocator + Clone>(
 {
     match start_text(alloc, text, inputs, config) {
         Ok(()) => Refusal::Start(StartFault::BadConfig),
-        Err(fault) => Refusal::from(fault),
+        Err(fault) => fault_refusal(fault),
     }
 }

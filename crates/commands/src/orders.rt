@@ -10,10 +10,9 @@ ghost use Rattle.commands.specs.Played.{PlaysDrawn};
 use crate::comparing::are_same;
 use crate::drawing::{draw, first_number};
 use crate::given::{option_refusal, read_given};
-use crate::refusal::Refusal;
+use crate::refusal::fault_refusal;
 use crate::refusal_text::write_numbered;
-use crate::serving::{REFUSED, config_of, refuse};
-use crate::status::status_of;
+use crate::serving::{config_of, refuse};
 use command_line::RunOptions;
 use driver::compiling::{Compiled, compile};
 use driver::fault::Fault;
@@ -22,6 +21,7 @@ use graph::Graph;
 use graph_check::Checked;
 use itoa::Buffer;
 use loaded::Loaded;
+use outcomes::{Ending, Outcome, Refusal};
 use report_text::write_report;
 use schedule::config::Config;
 use schedule::halt::Halt;
@@ -179,7 +179,7 @@ fn make_orders<'a, A: Allocator + Clone>(
     }
     match run_orders(alloc, given.text, &given.integers, config, count, seed) {
         Ok(orders) => Ok(orders),
-        Err(fault) => Err(Refusal::from(fault)),
+        Err(fault) => Err(fault_refusal(fault)),
     }
 }
 
@@ -238,8 +238,8 @@ fn write_differing<'a, A: Allocator, W: Write>(
 }
 
 /// Runs the graph of the input in `count` orders, which a seed chooses. Prints that all have one report, and that report; or
-/// the report of the first order and that of the first one that differs from it; or why there are none. Gives the exit status:
-/// that of the report, and 1 where two reports differ.
+/// the report of the first order and that of the first one that differs from it; or why there are none. Gives what came of
+/// it.
 pub fn print_orders<A: Allocator + Clone, W: Write>(
     alloc: A,
     input: &[u8],
@@ -247,7 +247,7 @@ pub fn print_orders<A: Allocator + Clone, W: Write>(
     count: u64,
     seed: u64,
     writer: &mut W,
-) -> io::Result<u8>
+) -> io::Result<Outcome>
     ensures { PrintsOrders result (W.contents writer.old) (W.contents writer.new) input.now options.now count seed }
 {
     let Orders { checked, reports } = match make_orders(alloc, input, options, count, seed) {
@@ -257,12 +257,12 @@ pub fn print_orders<A: Allocator + Clone, W: Write>(
     let Reports { first, other } = reports;
     match other {
         None => match write_same(writer, count, checked.graph(), &first) {
-            Ok(()) => Ok(status_of(first.end)),
+            Ok(()) => Ok(Outcome::Reported(Ending::of(&first))),
             Err(fault) => Err(fault),
         },
         Some(other) => {
             match write_differing(writer, checked.graph(), &first, other.number, &other.report) {
-                Ok(()) => Ok(REFUSED),
+                Ok(()) => Ok(Outcome::Differed),
                 Err(fault) => Err(fault),
             }
         }

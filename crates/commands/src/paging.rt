@@ -10,12 +10,12 @@ ghost use Rattle.driver.specs.Disassembled.{listing_of};
 ghost use Rattle.driver.specs.Listed.{IsListed};
 ghost use Rattle.driver.specs.Refused.{IsRefused};
 ghost use Rattle.sink.specs.Sends.{Sends};
-ghost use Rattle.commands.specs.Traced.{IsPageOf, IsNoPageOf, PrintsPage, unkept_as, first_of, page_text};
+ghost use Rattle.commands.specs.Served.{IsNoRunOf};
+ghost use Rattle.commands.specs.Traced.{IsPageOf, PrintsPage, first_of, page_text, paged};
 
 use crate::given::{option_refusal, read_given};
-use crate::refusal::Refusal;
+use crate::refusal::fault_refusal;
 use crate::serving::{config_of, refuse};
-use crate::status::status_of;
 use crate::tracing::{events_from, first_of_last};
 use command_line::{Mode, RunOptions};
 use disassembler::list;
@@ -26,7 +26,8 @@ use driver::fault::Fault;
 use graph::Graph;
 use html_text::{Part, write_data, write_mark, write_part};
 use object_view::Object;
-use replay::{Books, ReplayFault};
+use outcomes::{Ending, Outcome, Refusal};
+use replay::Books;
 use report_text::write_report;
 use rounds::Gate;
 use schedule::config::Config;
@@ -152,16 +153,6 @@ fn list_text<'a, R: Threads + Wait + Sync, A: Allocator + Clone + Send + Sync, G
     Ok(Listed { compiled, report })
 }
 
-/// The refusal of a page that has no books.
-fn unkept(fault: ReplayFault) -> Refusal
-    ensures { result ≡ unkept_as fault }
-{
-    match fault {
-        ReplayFault::NotARun => Refusal::Books,
-        ReplayFault::Memory => Refusal::Memory,
-    }
-}
-
 /// Runs the graph of the input on the integers after it, and keeps the books of its events, or of the last ones.
 fn page_input<'a, R: Threads + Wait + Sync, A: Allocator + Clone + Send + Sync, G: Gate + Sync>(
     alloc: A,
@@ -174,7 +165,7 @@ fn page_input<'a, R: Threads + Wait + Sync, A: Allocator + Clone + Send + Sync, 
     requires { G.may_stop ≡ false }
     ensures page { MatchResult result
         (λ p. IsPageOf input.now options.now p.first p.compiled.checked p.compiled.object.bytes p.report p.books)
-        (IsNoPageOf input.now options.now) }
+        (IsNoRunOf input.now options.now) }
     ensures first { IfOk result (λ p. p.first ≡ first_of (length p.report.events) last) }
 {
     let given = match read_given(&alloc, input) {
@@ -190,7 +181,7 @@ fn page_input<'a, R: Threads + Wait + Sync, A: Allocator + Clone + Send + Sync, 
     };
     let listed = match list_text(room, given.text, &given.integers, config, mode, rt, gate) {
         Ok(listed) => listed,
-        Err(fault) => return Err(Refusal::from(fault)),
+        Err(fault) => return Err(fault_refusal(fault)),
     };
     let Listed { compiled, report } = listed;
     let events: &[(u32, Token)] = &report.events;
@@ -209,12 +200,23 @@ fn page_input<'a, R: Threads + Wait + Sync, A: Allocator + Clone + Send + Sync, 
             first,
             books,
         }),
-        Err(fault) => Err(unkept(fault)),
+        Err(_) => Err(Refusal::Memory),
+    }
+}
+
+/// What came of a run whose page shows the events from number `first` on.
+fn shown<A: Allocator>(report: &Report<A>, first: usize) -> Outcome
+    ensures { result ≡ paged first report.now }
+{
+    let events = report.events.len().saturating_sub(first);
+    Outcome::Paged {
+        ending: Ending::of(report),
+        events: events as u64,
     }
 }
 
 /// Runs the graph of the input on the integers after it, and prints a page that shows all its events or only the last ones; or why there is
-/// none. Gives the exit status, which is that of the report.
+/// none. Gives what came of it.
 pub(crate) fn print_page<
     R: Threads + Wait + Sync,
     A: Allocator + Clone + Send + Sync,
@@ -228,7 +230,7 @@ pub(crate) fn print_page<
     writer: &mut W,
     rt: &R,
     gate: &G,
-) -> io::Result<u8>
+) -> io::Result<Outcome>
     requires { G.may_stop ≡ false }
     ensures { PrintsPage result (W.contents writer.old) (W.contents writer.new) input.now options.now last }
 {
@@ -252,7 +254,7 @@ pub(crate) fn print_page<
         first,
         &books,
     ) {
-        Ok(()) => Ok(status_of(report.end)),
+        Ok(()) => Ok(shown(&report, first)),
         Err(fault) => Err(fault),
     }
 }

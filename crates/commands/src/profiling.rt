@@ -5,21 +5,22 @@ ghost use Rattle.semantics.specs.Graph.{Graph};
 ghost use Rattle.profile_text.specs.Picture.{greatest_from};
 ghost use Rattle.semantics.specs.declared.report.End.{End};
 ghost use Rattle.sink.specs.Sends.{Sends};
-ghost use Rattle.commands.specs.declared.refusal.Refusal.{Refusal as Told};
+ghost use Rattle.outcomes.specs.declared.refusal.Refusal.{Refusal as Told};
 ghost use Rattle.driver.specs.Refused.{IsCompiled, IsGoodText, IsRefused};
 ghost use Rattle.commands.specs.Served.{IsTold};
-ghost use Rattle.commands.specs.Profiled.{AreRows, IsChosen, IsNoProfileOf, IsNoRow, IsProfileOf, IsRow, PrintsProfile, config_with, held_in, sizes_below, text_of};
+ghost use Rattle.commands.specs.Profiled.{AreRows, IsChosen, IsNoProfileOf, IsNoRow, IsProfileOf, IsRow, PrintsProfile, config_with, held_in, profiled, sizes_below, text_of};
 
 use crate::given::read_given;
-use crate::refusal::Refusal;
+use crate::refusal::fault_refusal;
 use crate::serving::refuse;
-use crate::status::status_of_meaning;
 use command_line::{RunOptions, Sizes};
 use driver::compiling::compile_graph;
 use driver::meaning::{Waved, waves_text};
 use driver::watching::{WatchedRounds, watch_rounds};
 use graph_check::Checked;
 use loaded::Loaded;
+use oracle::MeanEnd;
+use outcomes::{Ending, Outcome, Refusal};
 use profile_text::{MachineRow, write_profile, write_svg};
 use replay::Moment;
 use rounds::Open;
@@ -119,7 +120,7 @@ fn measure<R: Threads + Wait + Sync, A: Allocator + Clone + Send + Sync>(
         alloc, code, inputs, config, rt, &Open,
     ) {
         Ok(counted) => counted,
-        Err(fault) => return Err(Refusal::from(fault)),
+        Err(fault) => return Err(fault_refusal(fault)),
     };
     if wants_memory(&watched.report) {
         return Err(Refusal::Memory);
@@ -195,7 +196,7 @@ fn rows_of_graph<'a, R: Threads + Wait + Sync, A: Allocator + Clone + Send + Syn
     };
     let object = match compile_graph(room, checked) {
         Ok(object) => object,
-        Err(fault) => return Err(Refusal::from(fault)),
+        Err(fault) => return Err(fault_refusal(fault)),
     };
     let Ok(room) = alloc.clone() else {
         return Err(Refusal::Memory);
@@ -258,7 +259,7 @@ fn make_profile<'a, R: Threads + Wait + Sync, A: Allocator + Clone + Send + Sync
     };
     let waves = match waves_text(room, given.text, &given.integers, options.steps) {
         Ok(waves) => waves,
-        Err(fault) => return Err(Refusal::from(fault)),
+        Err(fault) => return Err(fault_refusal(fault)),
     };
     let inputs = &given.integers;
     match rows_beside(alloc, &waves.checked, inputs, options, sizes, svg, rt) {
@@ -283,8 +284,20 @@ fn write_made<A: Allocator, W: Write>(
     }
 }
 
+/// What came of a profile. A picture does not tell how the meaning ended.
+fn profiled(svg: bool, end: MeanEnd) -> Outcome
+    ensures { result ≡ profiled svg end }
+{
+    let ending = Ending::Meaning(end);
+    if svg {
+        Outcome::Drawn(ending)
+    } else {
+        Outcome::Reported(ending)
+    }
+}
+
 /// Prints how much parallelism the graph of the input has, on the integers after it: its waves as a picture, or as lines, with a row
-/// for each number of elements; or why there is none. Gives the exit status, which is that of the meaning.
+/// for each number of elements; or why there is none. Gives what came of it.
 pub fn print_profile<R: Threads + Wait + Sync, A: Allocator + Clone + Send + Sync, W: Write>(
     alloc: A,
     input: &[u8],
@@ -293,7 +306,7 @@ pub fn print_profile<R: Threads + Wait + Sync, A: Allocator + Clone + Send + Syn
     svg: bool,
     writer: &mut W,
     rt: &R,
-) -> io::Result<u8>
+) -> io::Result<Outcome>
     ensures { PrintsProfile result (W.contents writer.old) (W.contents writer.new) input.now options.now sizes svg }
 {
     let Profile { waves, rows } = match make_profile(alloc, input, options, sizes, svg, rt) {
@@ -301,7 +314,7 @@ pub fn print_profile<R: Threads + Wait + Sync, A: Allocator + Clone + Send + Syn
         Err(refusal) => return refuse(writer, &refusal),
     };
     match write_made(writer, svg, &waves, &rows) {
-        Ok(()) => Ok(status_of_meaning(waves.report.end)),
+        Ok(()) => Ok(profiled(svg, waves.report.end)),
         Err(fault) => Err(fault),
     }
 }

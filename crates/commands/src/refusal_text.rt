@@ -2,16 +2,16 @@
 
 ghost use Rattle.std.specs.Prelude.{◌≡◌, ◌++◌, decimal};
 ghost use Rattle.semantics.specs.Text.{line};
-ghost use Rattle.commands.specs.declared.refusal.Refusal.TheVariants.{Asm, Read, Check, Program};
+ghost use Rattle.outcomes.specs.declared.refusal.Refusal.TheVariants.{Asm, Read, Check, Program};
 ghost use Rattle.commands.specs.Refusals.{asm_word, read_word, check_word, object_word, start_word, program_word, number_or_dash, refusal_line};
 ghost use Rattle.sink.specs.Sends.{Sends};
 
-use crate::refusal::Refusal;
 use assembler::{AsmFault, AsmFaultKind};
 use graph_check::{CheckFault, CheckFaultKind};
 use graph_file::{ReadFault, ReadFaultKind};
 use itoa::Buffer;
 use object_view::ObjectFault;
+use outcomes::Refusal;
 use schedule::config::StartFault;
 use sink::{send, send_all};
 use source::fault::{FaultKind, ProgramFault};
@@ -224,7 +224,6 @@ pub fn write_refusal<W: Write>(writer: &mut W, refusal: &Refusal) -> io::Result<
         }
         Refusal::Asm(fault) => write_asm_fault(writer, *fault),
         Refusal::Program(fault) => write_program_fault(writer, *fault),
-        Refusal::Books => send(writer, b"refused: books\n"),
         Refusal::Memory => send(writer, b"refused: memory\n"),
     }
 }

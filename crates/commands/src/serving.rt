@@ -12,9 +12,8 @@ use crate::input::{LinesFault, parse_integers, read_input, split_at_main};
 use crate::lowered::{print_lowered, print_map};
 use crate::orders::print_orders;
 use crate::profiling::print_profile;
-use crate::refusal::Refusal;
+use crate::refusal::{fault_refusal, input_refusal};
 use crate::refusal_text::write_refusal;
-use crate::status::{status_of, status_of_meaning};
 use crate::tracing::print_trace;
 use command_line::{
     Asked, Inputs, Literals, Lowering, Request, RunOptions, read_words, version_line,
@@ -29,6 +28,7 @@ use driver::objects::{
 };
 use driver::running::{check_start, open_code, run_code_quietly};
 use loaded::Loaded;
+use outcomes::{Ending, Outcome, Refusal};
 use report_text::{write_meaning, write_object_report, write_report};
 use rounds::Gate;
 use schedule::config::{Config, StartFault};
@@ -40,8 +40,8 @@ use std::io::{self, Read, Write};
 use std::sync::Wait;
 use std::thread::Threads;
 
-/// The exit status of a refusal, of a fault of the command line and of a failed write.
-pub(crate) const REFUSED: u8 = 1;
+/// The exit status of a failed write.
+const UNWRITTEN: u8 = 1;
 
 /// How many steps an element takes in one turn.
 const TURN: u64 = 64;
@@ -80,33 +80,40 @@ fn run_input<'a, R: Threads + Wait + Sync, A: Allocator + Clone + Send + Sync, G
     };
     match run_text(alloc, given.text, &given.integers, config, mode, rt, gate) {
         Ok(emulated) => Ok(emulated),
-        Err(fault) => Err(Refusal::from(fault)),
+        Err(fault) => Err(fault_refusal(fault)),
     }
 }
 
-/// Prints the line of the refusal, and gives the exit status of a refusal.
-pub(crate) fn refuse<W: Write>(writer: &mut W, refusal: &Refusal) -> io::Result<u8>
+/// Prints the line of the refusal, which is what came of it.
+pub(crate) fn refuse<W: Write>(writer: &mut W, refusal: &Refusal) -> io::Result<Outcome>
     ensures { Refuses result (W.contents writer.old) (W.contents writer.new) refusal.now }
 {
     match write_refusal(writer, refusal) {
-        Ok(()) => Ok(REFUSED),
+        Ok(()) => Ok(Outcome::Refused(*refusal)),
         Err(fault) => Err(fault),
     }
 }
 
-/// Runs the graph of the input on the integers after it, and prints the report, or why there is none. Gives the exit status.
+/// Runs the graph of the input on the integers after it, and prints the report, or why there is none. Gives what came of it.
 pub fn print_run<
     R: Threads + Wait + Sync,
     A: Allocator + Clone + Send + Sync,
     G: Gate + Sync,
     W: Write,
->(alloc: A, input: &[u8], options: &RunOptions, writer: &mut W, rt: &R, gate: &G) -> io::Result<u8>
+>(
+    alloc: A,
+    input: &[u8],
+    options: &RunOptions,
+    writer: &mut W,
+    rt: &R,
+    gate: &G,
+) -> io::Result<Outcome>
     requires { G.may_stop ≡ false }
     ensures { PrintsRun result (W.contents writer.old) (W.contents writer.new) input.now options.now }
 {
     match run_input(alloc, input, options, rt, gate) {
         Ok(emulated) => match write_report(writer, emulated.checked.graph(), &emulated.report) {
-            Ok(()) => Ok(status_of(emulated.report.end)),
+            Ok(()) => Ok(Outcome::Reported(Ending::of(&emulated.report))),
             Err(fault) => Err(fault),
         },
         Err(refusal) => refuse(writer, &refusal),
@@ -131,124 +138,124 @@ fn mean_input<'a, A: Allocator + Clone>(
         Err(LinesFault::BadLine(line)) => {
             return match check_text(alloc, text) {
                 Ok(_checked) => Err(Refusal::InputLine(line)),
-                Err(fault) => Err(Refusal::from(fault)),
+                Err(fault) => Err(fault_refusal(fault)),
             };
         }
     };
     match mean_text(alloc, text, &integers, steps) {
         Ok(meant) => Ok(meant),
-        Err(fault) => Err(Refusal::from(fault)),
+        Err(fault) => Err(fault_refusal(fault)),
     }
 }
 
 /// Runs the meaning of the graph of the input on the integers after it, for at most `steps` activities. Prints what it gave, or
-/// why it was not run. Gives the exit status.
+/// why it was not run. Gives what came of it.
 pub fn print_meaning<A: Allocator + Clone, W: Write>(
     alloc: A,
     input: &[u8],
     steps: u64,
     writer: &mut W,
-) -> io::Result<u8>
+) -> io::Result<Outcome>
     ensures { PrintsMeaning result (W.contents writer.old) (W.contents writer.new) input.now steps }
 {
     match mean_input(alloc, input, steps) {
         Ok(meant) => match write_meaning(writer, meant.checked.graph(), &meant.report) {
-            Ok(()) => Ok(status_of_meaning(meant.report.end)),
+            Ok(()) => Ok(Outcome::Reported(Ending::Meaning(meant.report.end))),
             Err(fault) => Err(fault),
         },
         Err(refusal) => refuse(writer, &refusal),
     }
 }
 
-/// Prints `ok` where the text has a well-formed graph, or what is wrong with it. Gives the exit status.
+/// Prints `ok` where the text has a well-formed graph, or what is wrong with it. Gives what came of it.
 pub fn print_check<A: Allocator + Clone, W: Write>(
     alloc: A,
     text: &[u8],
     writer: &mut W,
-) -> io::Result<u8>
+) -> io::Result<Outcome>
     ensures { PrintsCheck result (W.contents writer.old) (W.contents writer.new) text.now }
 {
     match check_text(alloc, text) {
         Ok(_checked) => match send(writer, b"ok\n") {
-            Ok(()) => Ok(0),
+            Ok(()) => Ok(Outcome::Done),
             Err(fault) => Err(fault),
         },
-        Err(fault) => refuse(writer, &Refusal::from(fault)),
+        Err(fault) => refuse(writer, &fault_refusal(fault)),
     }
 }
 
-/// Prints the object of the text's graph, or why there is none. Gives the exit status.
+/// Prints the object of the text's graph, or why there is none. Gives what came of it.
 pub fn print_object<A: Allocator + Clone, W: Write>(
     alloc: A,
     text: &[u8],
     writer: &mut W,
-) -> io::Result<u8>
+) -> io::Result<Outcome>
     ensures { PrintsObject result (W.contents writer.old) (W.contents writer.new) text.now }
 {
     match write_object(alloc, text, writer) {
-        Ok(()) => Ok(0),
-        Err(CompileRefusal::Fault(fault)) => refuse(writer, &Refusal::from(fault)),
+        Ok(()) => Ok(Outcome::Done),
+        Err(CompileRefusal::Fault(fault)) => refuse(writer, &fault_refusal(fault)),
         Err(CompileRefusal::Write(fault)) => Err(fault),
     }
 }
 
-/// Prints the listing of the object with these bytes, or why they are not an object. Gives the exit status.
-pub fn print_listing<W: Write>(bytes: &[u8], writer: &mut W) -> io::Result<u8>
+/// Prints the listing of the object with these bytes, or why they are not an object. Gives what came of it.
+pub fn print_listing<W: Write>(bytes: &[u8], writer: &mut W) -> io::Result<Outcome>
     ensures { PrintsOf listing_of result (W.contents writer.old) (W.contents writer.new) bytes.now }
 {
     match disassemble(bytes, writer) {
-        Ok(()) => Ok(0),
+        Ok(()) => Ok(Outcome::Done),
         Err(ObjectRefusal::Object(fault)) => refuse(writer, &Refusal::Object(fault)),
         Err(ObjectRefusal::Write(fault)) => Err(fault),
     }
 }
 
-/// Prints the listing of the object with these bytes and its table of literals, or why they are not an object. Gives the exit
-/// status.
-pub fn print_listing_with_literals<W: Write>(bytes: &[u8], writer: &mut W) -> io::Result<u8>
+/// Prints the listing of the object with these bytes and its table of literals, or why they are not an object. Gives what
+/// came of it.
+pub fn print_listing_with_literals<W: Write>(bytes: &[u8], writer: &mut W) -> io::Result<Outcome>
     ensures { PrintsOf listing_with_literals_of result (W.contents writer.old) (W.contents writer.new) bytes.now }
 {
     match disassemble_with_literals(bytes, writer) {
-        Ok(()) => Ok(0),
+        Ok(()) => Ok(Outcome::Done),
         Err(ObjectRefusal::Object(fault)) => refuse(writer, &Refusal::Object(fault)),
         Err(ObjectRefusal::Write(fault)) => Err(fault),
     }
 }
 
-/// Prints, as version 2, the object with these bytes, or why they are not an object. Gives the exit status.
-pub fn print_upgrade<W: Write>(bytes: &[u8], writer: &mut W) -> io::Result<u8>
+/// Prints, as version 2, the object with these bytes, or why they are not an object. Gives what came of it.
+pub fn print_upgrade<W: Write>(bytes: &[u8], writer: &mut W) -> io::Result<Outcome>
     ensures { PrintsOf upgrade_of result (W.contents writer.old) (W.contents writer.new) bytes.now }
 {
     match upgrade_object(bytes, writer) {
-        Ok(()) => Ok(0),
+        Ok(()) => Ok(Outcome::Done),
         Err(ObjectRefusal::Object(fault)) => refuse(writer, &Refusal::Object(fault)),
         Err(ObjectRefusal::Write(fault)) => Err(fault),
     }
 }
 
-/// Prints the picture of the text's graph, or what is wrong with the graph. Gives the exit status.
+/// Prints the picture of the text's graph, or what is wrong with the graph. Gives what came of it.
 pub fn print_graph_picture<A: Allocator + Clone, W: Write>(
     alloc: A,
     text: &[u8],
     writer: &mut W,
-) -> io::Result<u8>
+) -> io::Result<Outcome>
     ensures { PrintsPicture result (W.contents writer.old) (W.contents writer.new) text.now }
 {
     match check_text(alloc, text) {
         Ok(checked) => match write_graph_dot(checked.graph(), writer) {
-            Ok(()) => Ok(0),
+            Ok(()) => Ok(Outcome::Done),
             Err(fault) => Err(fault),
         },
-        Err(fault) => refuse(writer, &Refusal::from(fault)),
+        Err(fault) => refuse(writer, &fault_refusal(fault)),
     }
 }
 
-/// Prints the picture of the code of the object with these bytes, or why they are not an object. Gives the exit status.
-pub fn print_code_picture<W: Write>(bytes: &[u8], writer: &mut W) -> io::Result<u8>
+/// Prints the picture of the code of the object with these bytes, or why they are not an object. Gives what came of it.
+pub fn print_code_picture<W: Write>(bytes: &[u8], writer: &mut W) -> io::Result<Outcome>
     ensures { PrintsOf picture_of result (W.contents writer.old) (W.contents writer.new) bytes.now }
 {
     match draw_object(bytes, writer) {
-        Ok(()) => Ok(0),
+        Ok(()) => Ok(Outcome::Done),
         Err(ObjectRefusal::Object(fault)) => refuse(writer, &Refusal::Object(fault)),
         Err(ObjectRefusal::Write(fault)) => Err(fault),
     }
@@ -272,11 +279,11 @@ fn exec_object<R: Threads + Wait + Sync, A: Allocator + Clone + Send + Sync, G: 
     match options.mode {
         Some(mode) => match run_code_quietly(alloc, code, inputs, config, mode, rt, gate) {
             Ok(report) => Ok(report),
-            Err(fault) => Err(Refusal::from(fault)),
+            Err(fault) => Err(fault_refusal(fault)),
         },
         None => match check_start(alloc, code, inputs, config) {
             Ok(_ready) => Err(Refusal::Start(StartFault::BadConfig)),
-            Err(fault) => Err(Refusal::from(fault)),
+            Err(fault) => Err(fault_refusal(fault)),
         },
     }
 }
@@ -303,8 +310,8 @@ fn exec_inputs<R: Threads + Wait + Sync, A: Allocator + Clone + Send + Sync, G: 
     }
 }
 
-/// Runs the object with these bytes on the inputs of the command line. Prints the report, or why there is none. Gives the exit
-/// status.
+/// Runs the object with these bytes on the inputs of the command line. Prints the report, or why there is none. Gives what
+/// came of it.
 pub fn print_exec<
     R: Threads + Wait + Sync,
     A: Allocator + Clone + Send + Sync,
@@ -318,17 +325,17 @@ pub fn print_exec<
     writer: &mut W,
     rt: &R,
     gate: &G,
-) -> io::Result<u8>
+) -> io::Result<Outcome>
     requires { G.may_stop ≡ false }
     ensures { PrintsExec result (W.contents writer.old) (W.contents writer.new) bytes.now options.now inputs.now }
 {
     let code = match open_code(&alloc, bytes) {
         Ok(code) => code,
-        Err(fault) => return refuse(writer, &Refusal::from(fault)),
+        Err(fault) => return refuse(writer, &fault_refusal(fault)),
     };
     match exec_inputs(alloc, &code, options, inputs, rt, gate) {
         Ok(report) => match write_object_report(writer, code.object(), &report) {
-            Ok(()) => Ok(status_of(report.end)),
+            Ok(()) => Ok(Outcome::Reported(Ending::of(&report))),
             Err(fault) => Err(fault),
         },
         Err(refusal) => refuse(writer, &refusal),
@@ -343,7 +350,7 @@ fn answer<R: Threads + Wait + Sync, A: Allocator + Clone + Send + Sync, G: Gate 
     alloc: A,
     rt: &R,
     gate: &G,
-) -> io::Result<u8>
+) -> io::Result<Outcome>
     requires { G.may_stop ≡ false }
     ensures { Answers result (W.contents writer.old) (W.contents writer.new) input.now request.now }
 {
@@ -385,14 +392,21 @@ fn answer<R: Threads + Wait + Sync, A: Allocator + Clone + Send + Sync, G: Gate 
     }
 }
 
-/// Reads all that the reader has, and prints what is asked for, or why that is not possible. Gives the exit status.
+/// Reads all that the reader has, and prints what is asked for, or why that is not possible. Gives what came of it.
 pub fn serve_request<
     R: Threads + Wait + Sync,
     A: Allocator + Clone + Send + Sync,
     G: Gate + Sync,
     I: Read,
     W: Write,
->(request: &Request, reader: &mut I, writer: &mut W, alloc: A, rt: &R, gate: &G) -> io::Result<u8>
+>(
+    request: &Request,
+    reader: &mut I,
+    writer: &mut W,
+    alloc: A,
+    rt: &R,
+    gate: &G,
+) -> io::Result<Outcome>
     requires { G.may_stop ≡ false }
     ensures { ServesRequest (I.remaining reader.old) result (W.contents writer.old) (W.contents writer.new) request.now }
 {
@@ -401,34 +415,34 @@ pub fn serve_request<
     };
     match read_input(room, reader) {
         Ok(input) => answer(request, &input, writer, alloc, rt, gate),
-        Err(fault) => refuse(writer, &Refusal::from(fault)),
+        Err(fault) => refuse(writer, &input_refusal(fault)),
     }
 }
 
 /// What is printed for a fault of the command line that has no other text.
 const NO_TEXT: &[u8] = b"error: unknown command line\n";
 
-/// Prints the text, and gives `status`.
-pub(crate) fn print_text<W: Write>(writer: &mut W, text: &[u8], status: u8) -> io::Result<u8>
-    ensures { Prints result (W.contents writer.old) (W.contents writer.new) text.now status }
+/// Prints the text, and gives `outcome`.
+fn print_text<W: Write>(writer: &mut W, text: &[u8], outcome: Outcome) -> io::Result<Outcome>
+    ensures { Prints result (W.contents writer.old) (W.contents writer.new) text.now outcome }
 {
     match send(writer, text) {
-        Ok(()) => Ok(status),
+        Ok(()) => Ok(outcome),
         Err(fault) => Err(fault),
     }
 }
 
-/// Prints the text of a command line that is not a request, and gives `status`.
+/// Prints the text of a command line that is not a request, and gives `outcome`.
 fn say<W: Write>(
     writer: &mut W,
     text: Result<Option<String>, AllocError>,
-    status: u8,
-) -> io::Result<u8>
-    ensures { Says result (W.contents writer.old) (W.contents writer.new) status }
+    outcome: Outcome,
+) -> io::Result<Outcome>
+    ensures { Says result (W.contents writer.old) (W.contents writer.new) outcome }
 {
     match text {
-        Ok(Some(text)) => print_text(writer, text.as_bytes(), status),
-        Ok(None) => print_text(writer, NO_TEXT, status),
+        Ok(Some(text)) => print_text(writer, text.as_bytes(), outcome),
+        Ok(None) => print_text(writer, NO_TEXT, outcome),
         Err(_refused) => refuse(writer, &Refusal::Memory),
     }
 }
@@ -450,7 +464,7 @@ fn program_of<S: AsStr>(words: &[S]) -> &str {
     }
 }
 
-/// Prints what is asked for, or the text of a command line that is not a request. Gives the exit status.
+/// Prints what is asked for, or the text of a command line that is not a request. Gives what came of it.
 fn serve_asked<
     R: Threads + Wait + Sync,
     A: Allocator + Clone + Send + Sync,
@@ -467,19 +481,23 @@ fn serve_asked<
     global: Global,
     rt: &R,
     gate: &G,
-) -> io::Result<u8>
+) -> io::Result<Outcome>
     requires { G.may_stop ≡ false }
     ensures { ServesAsked (I.remaining reader.old) result (W.contents writer.old) (W.contents writer.new) asked.now }
 {
     match asked {
         Asked::Request(request) => serve_request(request, reader, writer, alloc, rt, gate),
-        Asked::Help(topic) => say(writer, help_text(global, program_of(words), *topic), 0),
-        Asked::Version => print_text(writer, version_line(), 0),
-        Asked::Mistake => say(writer, mistake_text(global, words), REFUSED),
+        Asked::Help(topic) => say(
+            writer,
+            help_text(global, program_of(words), *topic),
+            Outcome::Done,
+        ),
+        Asked::Version => print_text(writer, version_line(), Outcome::Done),
+        Asked::Mistake => say(writer, mistake_text(global, words), Outcome::Mistake),
     }
 }
 
-/// Prints what the words of the command line ask for. Gives the exit status.
+/// Prints what the words of the command line ask for. Gives what came of it, which tells the exit status and why.
 pub fn serve_words<
     R: Threads + Wait + Sync,
     A: Allocator + Clone + Send + Sync,
@@ -495,7 +513,7 @@ pub fn serve_words<
     global: Global,
     rt: &R,
     gate: &G,
-) -> io::Result<u8>
+) -> io::Result<Outcome>
     requires { G.may_stop ≡ false }
     ensures { ServesWords (map S.text (drop 1 words.now)) (I.remaining reader.old) result (W.contents writer.old) (W.contents writer.new) }
 {
@@ -517,5 +535,8 @@ pub fn serve<
     requires { G.may_stop ≡ false }
     ensures { Serves (map S.text (drop 1 words.now)) (I.remaining reader.old) (W.contents writer.old) (W.contents writer.new) result }
 {
-    serve_words(words, reader, writer, alloc, global, rt, gate).unwrap_or(REFUSED)
+    match serve_words(words, reader, writer, alloc, global, rt, gate) {
+        Ok(outcome) => outcome.status(),
+        Err(_fault) => UNWRITTEN,
+    }
 }

@@ -7,19 +7,19 @@ ghost use Rattle.sink.specs.Sends.{Sends};
 ghost use Rattle.trace_text.specs.TraceText.{trace_text};
 ghost use Rattle.report_text.specs.ReportText.{report_text};
 ghost use Rattle.commands.specs.Served.{IsNoRunOf};
-ghost use Rattle.commands.specs.Traced.{IsTraceOf, PrintsEvents, PrintsTrace, events_text, first_of};
+ghost use Rattle.commands.specs.Traced.{IsTraceOf, PrintsEvents, PrintsTrace, events_text, first_of, traced};
 
 use crate::given::{option_refusal, read_given};
 use crate::paging::print_page;
-use crate::refusal::Refusal;
+use crate::refusal::fault_refusal;
 use crate::serving::{config_of, refuse};
-use crate::status::status_of;
 use command_line::{EventFormat, Format, Mode, RunOptions};
 use driver::compiling::{Compiled, compile};
 use driver::fault::Fault;
 use driver::watching::{Watched, watch_object};
 use graph::Graph;
 use object_view::Object;
+use outcomes::{Ending, Outcome, Refusal};
 use replay::Moment;
 use report_text::write_report;
 use rounds::Gate;
@@ -170,12 +170,22 @@ fn watch_input<'a, R: Threads + Wait + Sync, A: Allocator + Clone + Send + Sync,
     };
     match watch_text(alloc, given.text, &given.integers, config, mode, rt, gate) {
         Ok(traced) => Ok(traced),
-        Err(fault) => Err(Refusal::from(fault)),
+        Err(fault) => Err(fault_refusal(fault)),
+    }
+}
+
+/// What came of a run whose events were printed in this format. Only behind lines stands the report.
+fn outcome_of<A: Allocator>(format: EventFormat, report: &Report<A>) -> Outcome
+    ensures { result ≡ traced format report.now }
+{
+    match format {
+        EventFormat::Lines => Outcome::Reported(Ending::of(report)),
+        EventFormat::Chrome => Outcome::Drawn(Ending::of(report)),
     }
 }
 
 /// Runs the graph of the input on the integers after it, and prints its events, or only the last ones: as lines, behind which stands the
-/// report, or as JSON; or why there are none. Gives the exit status, which is that of the report.
+/// report, or as JSON; or why there are none. Gives what came of it.
 fn print_events<
     R: Threads + Wait + Sync,
     A: Allocator + Clone + Send + Sync,
@@ -190,7 +200,7 @@ fn print_events<
     writer: &mut W,
     rt: &R,
     gate: &G,
-) -> io::Result<u8>
+) -> io::Result<Outcome>
     requires { G.may_stop ≡ false }
     ensures { PrintsEvents result (W.contents writer.old) (W.contents writer.new) input.now options.now last format }
 {
@@ -209,13 +219,13 @@ fn print_events<
         last,
         format,
     ) {
-        Ok(()) => Ok(status_of(report.end)),
+        Ok(()) => Ok(outcome_of(format, &report)),
         Err(fault) => Err(fault),
     }
 }
 
 /// Runs the graph of the input on the integers after it, and prints its events, or a page that shows the run, in this format, or of only the
-/// last events; or why there is no run. Gives the exit status, which is that of the report.
+/// last events; or why there is no run. Gives what came of it.
 pub fn print_trace<
     R: Threads + Wait + Sync,
     A: Allocator + Clone + Send + Sync,
@@ -230,7 +240,7 @@ pub fn print_trace<
     writer: &mut W,
     rt: &R,
     gate: &G,
-) -> io::Result<u8>
+) -> io::Result<Outcome>
     requires { G.may_stop ≡ false }
     ensures { PrintsTrace result (W.contents writer.old) (W.contents writer.new) input.now options.now last format }
 {

@@ -1,5 +1,5 @@
 -- The books of a run of an object, kept over the object's code.
-use Rattle.std.proofs.Common.{◌≡◌, ◌+◌, ◌*◌, ◌^◌, ◌<◌, ◌≤◌, ◌∙◌, ℕ, ℤ, Bool, false, List, length, sym, refl, ap, subst, arith, rules, take, drop}
+use Rattle.std.proofs.Common.{◌≡◌, ◌+◌, ◌*◌, ◌^◌, ◌<◌, ◌≤◌, ◌∙◌, ◌++◌, ℕ, ℤ, Bool, false, List, length, sym, refl, ap, subst, arith, rules, take, drop, take-append-drop}
 use Rattle.std.specs.Prelude.{sum}
 use Rattle.std.proofs.lemmas.Nat.{mul-le}
 use Rattle.std.proofs.Math.Nat.{one-le-mul}
@@ -11,13 +11,16 @@ use Rattle.object_view.specs.Reading.{Opened, opened}
 use Rattle.replay.specs.declared.extent.Extent.{Extent}
 use Rattle.replay.specs.Views.{BooksView}
 use Rattle.replay.specs.Books.{KeepsBooks}
-use Rattle.replay.specs.Entering.{IsExtent, AreBooks}
+use Rattle.replay.specs.declared.fault.ReplayFault.{ReplayFault}
+use Rattle.replay.specs.declared.fault.ReplayFault.TheVariants.{NotARun}
+use Rattle.replay.specs.Entering.{IsExtent, AreBooks, Says, HasNoRun}
+use Rattle.frame_order.specs.InOrder.{IsOrdered}
 use Rattle.schedule.specs.declared.config.Config.{Config}
 use Rattle.schedule.specs.Setting.{inputs_of}
 use Rattle.driver.specs.Listed.{HasBooks}
 use Rattle.driver.specs.Objects.{ShowsObject}
 use Rattle.driver.specs.Orders.{size_of}
-use Rattle.driver.proofs.Watched.{fit}
+use Rattle.driver.proofs.Watched.{fit, same}
 
 module _ (bytes : List ℕ) (inputs : List ℤ) (c : Config) (may_stop : Bool) (r : Report) (shows : ShowsObject bytes inputs c false may_stop r) where
   -- the numbers of its machine
@@ -49,6 +52,20 @@ module _ (bytes : List ℕ) (inputs : List ℤ) (c : Config) (may_stop : Bool) (
   few_inputs o is object count exact few =
       let same = fit bytes inputs c may_stop r o is object shows in
       omega (arith, same, exact, few)
+
+-- its events are those of a run in order
+pub fitting : (bytes : List ℕ) (inputs : List ℤ) (c : Config) (may_stop : Bool) (r : Report) (o : Opened) → opened bytes ≡ o
+    → (object : IsObject bytes o.version o.code) → (shows : ShowsObject bytes inputs c false may_stop r) → (x : Extent) → x.elements ≡ c.elements
+    → x.frames ≡ c.elements * c.frames → (first : ℕ) (earlier events : Events) → earlier ≡ take first r.events → events ≡ drop first r.events
+    → (f : ReplayFault) → f ≡ NotARun → Says f (HasNoRun o.code.program x inputs (earlier ++ events)) → ⊥
+fitting bytes inputs c may_stop r o is object shows x elements frames first earlier events front rest f never none =
+    let p : Program = o.code.program in
+    let all : earlier ++ events ≡ r.events = ap (λ (es : Events). es ++ events) front ∙ ap (λ (es : Events). take first r.events ++ es) rest ∙ take-append-drop first r.events in
+    let code : IsOrdered p (size_of c) inputs r.events = subst (λ (q : Program). IsOrdered q (size_of c) inputs r.events)
+    (same bytes inputs c may_stop r o is object shows) shows.in_order in
+    let run : IsOrdered p (size_of c) inputs (earlier ++ events) = subst (λ (es : Events). IsOrdered p (size_of c) inputs es) (sym all) code in
+    let fault : HasNoRun p x inputs (earlier ++ events) = subst (λ (g : ReplayFault). Says g (HasNoRun p x inputs (earlier ++ events))) never none in
+    fault (size_of c) (sym elements) (sym frames) run
 
 -- the books of the machine's extent are those of the report
 pub booked : (bytes : List ℕ) (inputs : List ℤ) (c : Config) (r : Report) (o : Opened) → opened bytes ≡ o → (x : Extent) → x.elements ≡ c.elements

@@ -18,9 +18,9 @@ use Rattle.select.specs.Emitted.{code_of, emitted_block}
 use Rattle.select.specs.Emittable.{IsEmittable}
 use Rattle.select.specs.Literals.{table_of}
 use Rattle.schedule.specs.Setting.{inputs_in, inputs_of}
-use Rattle.law_composition.specs.Graphs.{plan_of}
-use Rattle.law_composition.proofs.AnyGraph.{plans_have_objects, plans_take_inputs, code_has_bounds}
-use Rattle.law_whole.proofs.Law.{graphs_keep_promises}
+use Rattle.law_compiler.specs.Objects.{plan_of}
+use Rattle.law_compiler.proofs.Objects.{plans_have_objects, plans_take_inputs, code_has_bounds}
+use Rattle.law_compiler.proofs.WholeLaw.{graphs_keep_promises}
 use Rattle.driver.specs.Compiled.{IsCodeFor}
 use Rattle.driver.proofs.Outputs.{plan_outputs, same_outputs}
 

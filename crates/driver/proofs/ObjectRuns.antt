@@ -3,7 +3,8 @@ use Rattle.std.proofs.Common.{◌≡◌, ℕ, ◌++◌, Bool, true, false, ℤ, 
 use Rattle.semantics.specs.Program.{Program, Code}
 use Rattle.semantics.specs.Bytes.{IsObject}
 use Rattle.semantics.specs.Machine.{Events}
-use Rattle.semantics.specs.Report.{Report, Shows}
+use Rattle.semantics.specs.Report.{Report}
+use Rattle.schedule.specs.Shown.{ShowsInOrder}
 use Rattle.object_view.specs.Reading.{Opened, opened}
 use Rattle.schedule.specs.declared.config.Config.{Config}
 use Rattle.schedule.specs.Setting.{Setting, size}
@@ -11,11 +12,12 @@ use Rattle.schedule.specs.declared.halt.Halt.{Halt}
 use Rattle.schedule.specs.Runs.{Kept, Began, Plays, rounds_of}
 use Rattle.schedule.specs.Told.{IsReportOf}
 use Rattle.schedule.specs.Unlisted.{with_events, ShowsQuietly, Quietly, RunsInTurn}
+use Rattle.schedule.proofs.Showing.{shown}
 use Rattle.command_line.specs.declared.Mode.{Mode}
 use Rattle.rounds.specs.Counted.{TellsRounds}
 use Rattle.driver.specs.Headline.{stops_in}
 use Rattle.driver.specs.Objects.{ShowsObject, ShowsObjectIn, RunsObject, StartsObject}
-use Rattle.driver.specs.Orders.{Follows, FollowsTurns, FollowsList, FollowsRounds}
+use Rattle.driver.specs.Orders.{size_of, Follows, FollowsTurns, FollowsList, FollowsRounds}
 
 -- WHAT THE BYTES OF AN OBJECT TELL, of the code that was made of the object
 module _ (slice : List ℕ) (o code : Opened) (same : slice ≡ o.bytes) (is : o ≡ code) where
@@ -39,21 +41,25 @@ module _ (bytes : List ℕ) (inputs : List ℤ) (c : Config) (k : Kept) (s : Sta
   elements_of = ap (λ (g : Setting). g.elements) s.opens.setting
 
   -- the report shows a run on these inputs
-  shown_object : (listed may_stop : Bool) (r : Report) → Shows k.state.setting.program (size k.state.setting) inputs k.state.setting.steps listed may_stop r
+  shown_object : (listed may_stop : Bool) (r : Report) → ShowsInOrder k.state.setting.program (size k.state.setting) inputs k.state.setting.steps listed may_stop r
       → ShowsObject bytes inputs c listed may_stop r
-  shown_object listed may_stop r shows = record {
-    version = s.version;
-    code = s.code;
-    object = s.object;
-    only = s.only;
-    inputs_fit = s.opens.arity;
-    good = s.opens.good;
-    some_frame = s.opens.some_frame;
-    shows = subst (λ (g : Setting). Shows g.program (size g) inputs g.steps listed may_stop r) s.opens.setting shows;
-  }
+  shown_object listed may_stop r shows =
+      let here : ShowsInOrder s.code.program (size_of c) inputs c.steps listed may_stop r
+      = subst (λ (g : Setting). ShowsInOrder g.program (size g) inputs g.steps listed may_stop r) s.opens.setting shows in
+      record {
+        version = s.version;
+        code = s.code;
+        object = s.object;
+        only = s.only;
+        inputs_fit = s.opens.arity;
+        good = s.opens.good;
+        some_frame = s.opens.some_frame;
+        shows = shown s.code.program (size_of c) inputs c.steps listed may_stop r here;
+        in_order = (here.last, here.run);
+      }
 
   pub shows_object : (listed may_stop : Bool) (r : Report)
-      → ((ins : List ℤ) → Began ins k.state k.events → Shows k.state.setting.program (size k.state.setting) ins k.state.setting.steps listed may_stop r) → ShowsObject bytes inputs c listed may_stop r
+      → ((ins : List ℤ) → Began ins k.state k.events → ShowsInOrder k.state.setting.program (size k.state.setting) ins k.state.setting.steps listed may_stop r) → ShowsObject bytes inputs c listed may_stop r
   shows_object listed may_stop r shows = shown_object listed may_stop r (shows inputs s.opens.began)
 
   shows_object_quietly : (listed may_stop : Bool) (r : Report)

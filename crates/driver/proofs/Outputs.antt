@@ -7,15 +7,15 @@ use Rattle.semantics.specs.Program.{CodeBlock}
 use Rattle.semantics.specs.Plan.{Plan}
 use Rattle.semantics.specs.Placed.{placed_blocks}
 use Rattle.semantics.specs.Machine.{results_in, outputs_of}
-use Rattle.expansion.specs.Variants.{some_block_loops, variants_of}
-use Rattle.expansion.specs.Blocks.{Coded}
-use Rattle.expansion.specs.Expanded.{Codes, with_code, no_codes, plain_code, variant_code, plain_codes, variant_codes, expanded}
+use Rattle.schemas.specs.Variants.{some_block_loops, variants_of}
+use Rattle.schemas.specs.Blocks.{Coded}
+use Rattle.schemas.specs.Expanded.{Codes, with_code, no_codes, plain_code, variant_code, plain_codes, variant_codes, expanded}
 use Rattle.folding.specs.Folded.{folded, folded_block}
 use Rattle.fanout.specs.Narrowed.{narrowed_block}
 use Rattle.select.specs.Emitted.{emitted_block}
-use Rattle.law_expansion.proofs.ArcsCodes.{plain_outputs}
-use Rattle.law_composition.specs.Graphs.{plan_of}
-use Rattle.law_composition.proofs.AnyGraph.{main_there}
+use Rattle.law_wiring.proofs.ArcsCodes.{plain_outputs}
+use Rattle.law_compiler.specs.Objects.{plan_of}
+use Rattle.law_compiler.proofs.Objects.{main_there}
 use Rattle.driver.specs.Compiled.{outputs_in, flow_outputs}
 
 -- the first code blocks have the outputs of these blocks

@@ -7,7 +7,7 @@ use Rattle.semantics.specs.Report.{Report}
 use Rattle.schedule.specs.declared.config.Config.{Config}
 use Rattle.schedule.specs.Unlisted.{with_events}
 use Rattle.command_line.specs.declared.Mode.{Mode}
-use Rattle.law_values.proofs.Theorem.{runs_at_rest}
+use Rattle.law_confluence.proofs.Equations.{runs_at_rest}
 use Rattle.driver.specs.Headline.{TellsOf, TellsTruthIn, TellsQuietly}
 use Rattle.driver.specs.Values.{TellsValues}
 use Rattle.driver.proofs.Waiting.{none_waits}

@@ -19,7 +19,7 @@ use Rattle.driver.specs.Orders.{size_of}
 module _ (bytes : List ℕ) (inputs : List ℤ) (c : Config) (may_stop : Bool) (r : Report) (o : Opened) (is : opened bytes ≡ o)
     (object : IsObject bytes o.version o.code) (shows : ShowsObject bytes inputs c false may_stop r) where
   -- it is a run of this code
-  same : shows.code.program ≡ o.code.program
+  pub same : shows.code.program ≡ o.code.program
   same = ap (λ (x : Code). x.program) (shows.only o.version o.code object)
 
   run : Run o.code.program (size_of c) (at_start o.code.program inputs) r.events shows.shows.last

@@ -6,14 +6,14 @@ use Rattle.semantics.specs.Bytes.{IsCode, IsObject}
 use Rattle.semantics.specs.Cause.{HasBounds}
 use Rattle.semantics.specs.Faithful.{inputs_of}
 use Rattle.semantics.specs.Machine.{outputs_of}
-use Rattle.law_graphs.specs.Graphs.{KeepsPromises}
+use Rattle.law_compiler.specs.Graphs.{KeepsPromises}
 use Rattle.slot_alloc.specs.Assigned.{IsAssigned, IsFirstCrowded}
 use Rattle.semantics.specs.declared.version.Version.{Version}
 use Rattle.semantics.specs.Versions.{version_number}
 use Rattle.select.specs.Emitted.{code_of}
 use Rattle.select.specs.Literals.{table_of, too_far}
 use Rattle.schedule.specs.Setting.{inputs_of as inputs_in_code}
-use Rattle.law_composition.specs.Graphs.{plan_of}
+use Rattle.law_compiler.specs.Objects.{plan_of}
 use Rattle.driver.specs.declared.fault.Fault.{Fault}
 
 -- how many outputs main has

@@ -3,6 +3,7 @@ use Rattle.std.specs.Prelude.{◌≡◌, ℕ, ◌<◌, Bool, false, ℤ, List, l
 use Rattle.semantics.specs.Program.{Program, Code}
 use Rattle.semantics.specs.Bytes.{IsObject}
 use Rattle.semantics.specs.Report.{Report, Shows}
+use Rattle.frame_order.specs.InOrder.{IsOrdered}
 use Rattle.schedule.specs.declared.config.Config.{Config}
 use Rattle.schedule.specs.Setting.{inputs_of as inputs_in_code}
 use Rattle.schedule.specs.Runs.{Kept}
@@ -32,6 +33,8 @@ pub record ShowsObject (bytes : List ℕ) (inputs : List ℤ) (c : Config) (list
   pub good : IsGood c
   pub some_frame : 0 < c.frames
   pub shows : Shows code.program (size_of c) inputs c.steps listed may_stop r
+  -- its events are those of a run in which the free frame of least number goes out, and a frame that comes back goes to the request that has waited longest
+  pub in_order : IsOrdered code.program (size_of c) inputs r.events
 
 -- The run of the object's code has the order that `Ordered` asks for.
 pub record RunsObject (bytes : List ℕ) (inputs : List ℤ) (c : Config) (Ordered : Program → Config → List ℤ → Report → Type 0) (r : Report) : Type 0 where

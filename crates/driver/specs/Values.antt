@@ -7,7 +7,7 @@ use Rattle.semantics.specs.Machine.{Size}
 use Rattle.semantics.specs.Report.{Report}
 use Rattle.schedule.specs.declared.config.Config.{Config}
 use Rattle.command_line.specs.declared.Mode.{Mode}
-use Rattle.law_values.specs.Settled.{Settled}
+use Rattle.law_confluence.specs.EquationsSettled.{Settled}
 use Rattle.driver.specs.Headline.{ShowsMemory, TellsOf, TellsTruthIn, TellsQuietly}
 
 -- The report's outputs and cells are those of a run of the meaning whose values satisfy the equations of the nodes.

@@ -10,10 +10,10 @@ use replay::{Books, Extent, ReplayFault, keep_books};
 use schedule::config::Config;
 use schedule::main_code::MainCode;
 use schedule::report::Report;
-use std::alloc::Allocator;
+use std::alloc::{AllocError, Allocator};
 
-/// The books of the events that the report lists, from number `first` on. The report is of a run of the object. That the machine hands out the
-/// free frame of least number is not part of what a report promises: `NotARun` says that an event was not found to fit.
+/// The books of the events that the report lists, from number `first` on. The report is of a run of the object. It takes as much memory as the
+/// machine, and as the books. An error is that this was refused.
 pub fn books_of<A: Allocator + Clone>(
     alloc: A,
     object: &OwnedObject<A>,
@@ -21,7 +21,7 @@ pub fn books_of<A: Allocator + Clone>(
     config: Config,
     report: &Report<A>,
     first: usize,
-) -> Result<Books<A>, ReplayFault>
+) -> Result<Books<A>, AllocError>
     requires shows { (may_stop : Bool) × ShowsObject object.now.bytes inputs.now config false may_stop report.now }
     requires within { first ≤ length report.now.events }
     ensures { IfOk result (HasBooks object.now.bytes inputs.now config first report.now) }
@@ -39,5 +39,9 @@ pub fn books_of<A: Allocator + Clone>(
         outputs: code.outputs(),
     };
     let (earlier, events) = report.events.split_at(first);
-    keep_books(alloc, &code, extent, inputs, earlier, events)
+    match keep_books(alloc, &code, extent, inputs, earlier, events) {
+        Ok(books) => Ok(books),
+        Err(ReplayFault::Memory) => Err(AllocError),
+        Err(ReplayFault::NotARun) => unreachable!(),
+    }
 }

@@ -3,20 +3,20 @@
 
 ghost use Rattle.std.specs.Prelude.{◌≡◌, IfOk, MatchResult};
 ghost use Rattle.semantics.specs.Versions.{version_number};
-ghost use Rattle.law_composition.specs.Graphs.{plan_of};
+ghost use Rattle.law_compiler.specs.Objects.{plan_of};
 ghost use Rattle.driver.specs.Compiled.{IsCodeFor, IsObjectOf, IsTooLarge};
 ghost use Rattle.driver.specs.Refused.{IsGoodText, IsCompiled, IsBadText, IsRefusedText};
 ghost use Rattle.driver.specs.Written.{WritesObject};
 
 use crate::fault::Fault;
 use code::{Code, Plan};
-use expansion::expand;
 use fanout::narrow;
 use folding::fold;
 use graph::Graph;
 use graph_check::{Checked, check};
 use graph_file::read;
 use object_view::{OwnedObject, write};
+use schemas::expand;
 use select::emit;
 use semantics::version::Version;
 use slot_alloc::assign;

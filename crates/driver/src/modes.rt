@@ -2,7 +2,7 @@
 
 ghost use Rattle.std.specs.Prelude.{◌≡◌, ℕ, ℤ, List, ◌++◌, false};
 ghost use Rattle.semantics.specs.Machine.{Events};
-ghost use Rattle.semantics.specs.Report.{Shows};
+ghost use Rattle.schedule.specs.Shown.{ShowsInOrder};
 ghost use Rattle.command_line.specs.declared.Mode.{Mode};
 ghost use Rattle.schedule.specs.declared.halt.Halt.{Halt};
 ghost use Rattle.schedule.specs.Setting.{size};
@@ -28,7 +28,7 @@ pub fn run_in<
     A: Allocator + Clone + Send + Sync,
     G: Gate + Sync,
 >(machine: Machine<'_, C, A>, mode: Mode, rt: &R, gate: &G) -> Report<A>
-    ensures shows { (inputs : List ℤ) → Began inputs machine.entry.state machine.entry.events → Shows machine.entry.state.setting.program (size machine.entry.state.setting) inputs machine.entry.state.setting.steps false (stops_in mode G.may_stop) result }
+    ensures shows { (inputs : List ℤ) → Began inputs machine.entry.state machine.entry.events → ShowsInOrder machine.entry.state.setting.program (size machine.entry.state.setting) inputs machine.entry.state.setting.steps false (stops_in mode G.may_stop) result }
     ensures plays { mode ≡ Mode.One → (last : Kept) × (halt : Halt) × (rounds : ℕ) × (made : Events) × Plays false (rounds_of rounds machine.entry.state.setting.elements) machine.entry.state last.state halt made × (last.events ≡ machine.entry.events ++ made) × IsReportOf last halt result }
 {
     match mode {

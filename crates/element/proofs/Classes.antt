@@ -7,7 +7,7 @@ use Rattle.tags.specs.declared.token.Token.{Token}
 use Rattle.tags.specs.declared.slot.SlotState.{SlotState}
 use Rattle.tags.specs.Addresses.{element_of}
 use Rattle.semantics.specs.declared.program.Op.{Op}
-use Rattle.semantics.specs.declared.program.Op.TheVariants.{Apply1, Apply2, Apply2Right, Apply2Left, Lit, Copy, Sync, Switch, Fetch, Store, Frame, Link, Send, Return, Ask, Release}
+use Rattle.semantics.specs.declared.program.Op.TheVariants.{Apply1, Apply2, Apply2Right, Apply2Left, Lit, Copy, Sync, Switch, Fetch, Store, Frame, Link, Send, Return, Ask, Open, Take, Give, Drain, Release}
 use Rattle.std.specs.Prelude.{option_to_list}
 use Rattle.semantics.specs.declared.program.Dest.{Dest}
 use Rattle.semantics.specs.Program.{Instr, Program, instr_at}
@@ -16,7 +16,7 @@ use Rattle.semantics.specs.Machine.{slot_in, slot_used, excluded_by, stuck_rule}
 use Rattle.element.specs.declared.instructions.Instruction.{Instruction}
 use Rattle.element.specs.declared.lane.Stepped.{Stepped}
 use Rattle.element.specs.declared.lane.Stepped.TheVariants as Step
-use Rattle.element.specs.Decoded.{instr_of, dest_in, IsShort, IsPair, IsLone}
+use Rattle.element.specs.Decoded.{instr_of, dest_in, IsShort, IsPair, IsLone, IsCredit}
 use Rattle.element.specs.Fired.{to_half}
 use Rattle.element.specs.Near.{IsNearToken, IsNearTo}
 use Rattle.element.specs.Parts.{IsSound, bounds}
@@ -71,6 +71,13 @@ lone_alone p s i (Fetch a) slot port w k = refl
 lone_alone p s i Frame slot port w k = refl
 lone_alone p s i (Link b) slot port w k = refl
 lone_alone p s i op slot port w k = absurd k
+
+pub credit_slot : (i : Instr) (op : Op) → IsCredit op → slot_of i op ≡ Some i.slot
+credit_slot i (Open n) k = refl
+credit_slot i (Take n) k = refl
+credit_slot i (Give n) k = refl
+credit_slot i (Drain n) k = refl
+credit_slot i op k = absurd k
 
 -- a copy passes its word on to both destinations
 to_two : (s : Seat) (w : Word) (a b : Option Dest) → to_each s w (option_to_list a ++ option_to_list b) ≡ to_each s w (option_to_list a) ++ to_each s w (option_to_list b)

@@ -6,7 +6,7 @@ use Rattle.tags.specs.declared.value.Origin.{Origin}
 use Rattle.tags.specs.declared.value.Origin.TheVariants.{Untold, At}
 use Rattle.semantics.specs.declared.program.Dest.{Dest}
 use Rattle.semantics.specs.declared.program.Op.{Op}
-use Rattle.semantics.specs.declared.program.Op.TheVariants.{Apply1, Apply2, Apply2Right, Apply2Left, Lit, Copy, Sync, Switch, Fetch, Store, Frame, Link, Send, Return, Ask, Release}
+use Rattle.semantics.specs.declared.program.Op.TheVariants.{Apply1, Apply2, Apply2Right, Apply2Left, Lit, Copy, Sync, Switch, Fetch, Store, Frame, Link, Send, Return, Ask, Open, Take, Give, Drain, Release}
 use Rattle.semantics.specs.Program.{Instr}
 use Rattle.element.specs.declared.instructions.Instruction.{Instruction}
 
@@ -54,3 +54,11 @@ IsLone (Fetch a) = ⊤
 IsLone Frame = ⊤
 IsLone (Link b) = ⊤
 IsLone op = ⊥
+
+-- it keeps the credits of a loop
+abbrev pub IsCredit : Op → Type 0
+IsCredit (Open k) = ⊤
+IsCredit (Take k) = ⊤
+IsCredit (Give k) = ⊤
+IsCredit (Drain k) = ⊤
+IsCredit op = ⊥

@@ -143,7 +143,7 @@ impl<'m, A: Allocator> Contents<'m, A> {
 
     // What the token at `at` of the queue does.
     #[inline(always)]
-    fn act<C: Instructions>(
+    fn act<C: Instructions, Site>(
         &mut self,
         code: &C,
         at: usize,
@@ -155,7 +155,7 @@ impl<'m, A: Allocator> Contents<'m, A> {
         requires { CanAct (C.program code.now) (C.width code.now) (held_in self.old) at token }
         ensures { ActsAs (C.program code.now) (held_in self.old) at token sent.old.items result (held_in self.new) sent.new.items }
     {
-        if self.acts_at_once(code, at, &token) {
+        if self.acts_at_once::<C, Site>(code, at, &token) {
             return Stepped::Did;
         }
         self.act_otherwise(code, at, token, sent)
@@ -229,7 +229,7 @@ impl<'m, A: Allocator> Contents<'m, A> {
     /// readers in the order in which they came, and whoever stored last. After `Clash`, `Stuck` and `Memory` all stands
     /// as before.
     #[inline(always)]
-    pub fn step<C: Instructions>(
+    pub fn step<C: Instructions, Site>(
         &mut self,
         pick: u64,
         code: &C,
@@ -251,6 +251,6 @@ impl<'m, A: Allocator> Contents<'m, A> {
         }
         let at = among(pick, waiting);
         let token = self.queue.packed(at);
-        self.act(code, at, token, sent)
+        self.act::<C, Site>(code, at, token, sent)
     }
 }

@@ -20,13 +20,15 @@ mod two_inputs;
 
 use crate::instructions::{Instruction, Instructions};
 pub use continuations::answer;
+pub use credits::{Credit, credit_told};
 use credits::{drains, gives, opens, takes};
 pub use leaving::Leaving;
 pub use made::{Made, NONE, SIGNAL, Seat};
 use one_input::fire_one;
+pub use one_input::frame_request;
 pub use outcomes::Outcome;
 use outcomes::{excluded, fires};
-pub use pairs::{Asks, Operates, Others, Pair, Returns, Sends, Switches, Syncs};
+pub use pairs::{Asks, Operates, Pair, Releases, Returns, Sends, Stores, Switches, Syncs};
 pub use passing::{Passed, pass_one};
 use semantics::program::Op;
 use tags::slot::SlotState;

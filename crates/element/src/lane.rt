@@ -184,9 +184,10 @@ impl<'m, C: Instructions, A: Allocator> Lane<'m, C, A> {
     /// has a token and has made all its events. The token is taken out and the others close up. New tokens go last: into the
     /// queue, and those for other elements into `sent`; those to the outside come first, then those to the first destination
     /// and to the second; a store answers its readers in the order in which they came, and whoever stored last. After
-    /// `Clash`, `Stuck` and `Memory` all stands as before.
+    /// `Clash`, `Stuck` and `Memory` all stands as before. `Site` stands for where it is called: each has code of its own, which a
+    /// loop with a site of its own has built into it.
     #[inline(always)]
-    pub fn step(&mut self, pick: u64, sent: &mut Vec<Token, A>) -> Option<Stepped>
+    pub fn step<Site>(&mut self, pick: u64, sent: &mut Vec<Token, A>) -> Option<Stepped>
     where
         A: Clone,
         ensures exact { IfSome result (λ stepped. Steps self.old.program self.old.held pick sent.old.items stepped self.new.held sent.new.items) }
@@ -202,6 +203,6 @@ impl<'m, C: Instructions, A: Allocator> Lane<'m, C, A> {
         if self.contents.made == self.steps {
             return None;
         }
-        Some(self.contents.step(pick, self.code, sent))
+        Some(self.contents.step::<C, Site>(pick, self.code, sent))
     }
 }

@@ -7,7 +7,7 @@ use Rattle.lemmas.proofs.SliceGet.{get_some}
 use Rattle.tags.specs.declared.token.Port.{Port}
 use Rattle.tags.specs.declared.token.Port.TheVariants.{Left}
 use Rattle.semantics.specs.declared.program.Dest.{Dest}
-use Rattle.law_net.specs.Implements.{leads_to}
+use Rattle.fanout.specs.Leading.{leads_to}
 use Rattle.fanout.specs.Sides.{copies}
 use Rattle.fanout.specs.Places.{Layout, place_of}
 use Rattle.fanout.specs.Trees.{dest_at, leaf, leaf_or, child, copy_at, side}

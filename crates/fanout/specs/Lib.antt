@@ -6,3 +6,4 @@ pub mod Narrowed
 pub mod Laws
 pub mod Sound
 pub mod Loops
+pub mod Leading

@@ -286,7 +286,12 @@ fn at_node<'a>(
 
 fn at_line<'a>(line: u64, bytes: &'a [u8], cause: GraphCause<'a>) -> Found<'a> {
     let text = Shown { bytes };
-    Found::at(Place::Line { line, text }, Cause::Graph(cause))
+    let place = Place::Line {
+        line,
+        text,
+        column: 1,
+    };
+    Found::at(place, Cause::Graph(cause))
 }
 
 /// A fault in block number `place`: at a node, at the line of results, or at the line of the block itself.

@@ -6,9 +6,9 @@ use crate::found::Found;
 use crate::lines::line_at;
 use crate::listing_lines::{Before, Subject, said, word_at, word_count};
 use crate::operands::{form_of, has_slot};
-use crate::outcome::ListingFault;
 use crate::place::Place;
 use crate::shown::{Many, Shown};
+use assembler::AsmFaultKind;
 use graph_file::literal;
 
 fn shown(line: &[u8], place: usize) -> Shown<'_> {
@@ -150,12 +150,12 @@ fn bad_table(subject: Subject) -> TableCause {
 }
 
 /// The cause for a bad word of an instruction.
-fn bad_term<'a>(kind: ListingFault, line: &'a [u8]) -> TermCause<'a> {
+fn bad_term<'a>(kind: AsmFaultKind, line: &'a [u8]) -> TermCause<'a> {
     match kind {
-        ListingFault::BadSlot => bad_slot(line),
-        ListingFault::BadDestination => bad_destination(line),
-        ListingFault::BadOperand => bad_operand(line),
-        ListingFault::BadOrigin => TermCause::Origin {
+        AsmFaultKind::BadSlot => bad_slot(line),
+        AsmFaultKind::BadDestination => bad_destination(line),
+        AsmFaultKind::BadOperand => bad_operand(line),
+        AsmFaultKind::BadOrigin => TermCause::Origin {
             word: shown(line, 6),
         },
         _ => TermCause::Name {
@@ -172,32 +172,32 @@ pub fn unknown_listing<'a>() -> Cause<'a> {
 }
 
 /// The cause for a fault of this kind at a line, which has these before it.
-fn line_cause<'a>(kind: ListingFault, line: &'a [u8], before: &Before) -> Cause<'a> {
+fn line_cause<'a>(kind: AsmFaultKind, line: &'a [u8], before: &Before) -> Cause<'a> {
     let subject = before.subject(line);
     let cause = match kind {
-        ListingFault::BadLine => bad_line(line, before, subject),
-        ListingFault::BadNumber => {
+        AsmFaultKind::BadLine => bad_line(line, before, subject),
+        AsmFaultKind::BadNumber => {
             return bad_number(line, subject, before.next(subject)).unwrap_or(unknown_listing());
         }
-        ListingFault::BadVersion => ListingCause::Version {
+        AsmFaultKind::BadVersion => ListingCause::Version {
             word: shown(line, 1),
         },
-        ListingFault::BadLiteral => ListingCause::Table(bad_literal(subject)),
-        ListingFault::BadTable => ListingCause::Table(bad_table(subject)),
+        AsmFaultKind::BadLiteral => ListingCause::Table(bad_literal(subject)),
+        AsmFaultKind::BadTable => ListingCause::Table(bad_table(subject)),
         _ => ListingCause::Term(bad_term(kind, line)),
     };
     Cause::Listing(cause)
 }
 
 /// The cause for a text that is something else than a listing, or that ends too early.
-fn text_cause<'a>(kind: ListingFault, text: &[u8]) -> Option<Cause<'a>> {
+fn text_cause<'a>(kind: AsmFaultKind, text: &[u8]) -> Option<Cause<'a>> {
     let cause = if text.is_empty() {
         return Some(Cause::Text(TextCause::Empty { command: "asm" }));
     } else if text.starts_with(b"ETSOBJCT") {
         ListingCause::AnObject
     } else if text.starts_with(b"etsgraph ") {
         ListingCause::AGraph
-    } else if kind == ListingFault::Unended {
+    } else if kind == AsmFaultKind::Unended {
         ListingCause::Unended
     } else {
         return None;
@@ -206,7 +206,7 @@ fn text_cause<'a>(kind: ListingFault, text: &[u8]) -> Option<Cause<'a>> {
 }
 
 /// Why the text is not a listing of an object: a fault of kind `kind` at line `number`.
-pub fn listing_fault<'a>(kind: ListingFault, text: &'a [u8], number: u64) -> Found<'a> {
+pub fn listing_fault<'a>(kind: AsmFaultKind, text: &'a [u8], number: u64) -> Found<'a> {
     if let Some(cause) = text_cause(kind, text) {
         return Found::nowhere(cause);
     }
@@ -216,5 +216,14 @@ pub fn listing_fault<'a>(kind: ListingFault, text: &'a [u8], number: u64) -> Fou
         None => line_cause(kind, line, &Before::of(text, number)),
     };
     let text = Shown { bytes: line };
-    Found::at(Place::Line { line: number, text }, cause)
+    let column = match cause {
+        Cause::Listing(ListingCause::Tab { column }) => column,
+        _ => 1,
+    };
+    let place = Place::Line {
+        line: number,
+        text,
+        column,
+    };
+    Found::at(place, cause)
 }

@@ -1,6 +1,6 @@
 //! Messages: a text, with the values that it shows.
 
-use crate::shown::{Lying, Many, Shown, Spelled};
+use crate::shown::{Lying, Many, Shown, Spelled, Window};
 use graph_check::CheckFaultKind;
 use graph_file::ReadFaultKind;
 use source::fault::FaultKind;
@@ -12,6 +12,7 @@ pub enum Piece<'a> {
     Nothing,
     Word(&'a str),
     Bytes(Shown<'a>),
+    Part(Window<'a>),
     Number(u64),
     Count(Many),
     Region(Lying),
@@ -27,6 +28,7 @@ impl Display for Piece<'_> {
             Piece::Nothing => Ok(()),
             Piece::Word(word) => f.write_str(word),
             Piece::Bytes(bytes) => Display::fmt(bytes, f),
+            Piece::Part(window) => Display::fmt(window, f),
             Piece::Number(number) => Display::fmt(number, f),
             Piece::Count(count) => Display::fmt(count, f),
             Piece::Region(region) => Display::fmt(region, f),

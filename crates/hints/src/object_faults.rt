@@ -2,10 +2,11 @@
 
 use crate::cause::{Cause, InstrCause, ObjectCause, OperandCause};
 use crate::found::Found;
-use crate::object_words::{Entry, HALF, HEADER, Header, Instr, word_at};
+use crate::object_words::{Entry, HALF, HEADER, Header, Instr, dest_of, word_at};
 use crate::place::Place;
 use crate::shown::Many;
 use object_view::ObjectFault;
+use semantics::opcode::Opcode;
 
 /// The number of the last origin.
 const ORIGINS: u64 = 262_144;
@@ -66,6 +67,20 @@ fn at_word<'a>(place: u64, cause: ObjectCause<'a>) -> Found<'a> {
 /// A cause that lies in no one word.
 fn at_all<'a>(cause: ObjectCause<'a>) -> Found<'a> {
     Found::nowhere(Cause::Object(cause))
+}
+
+fn slot_cause(opcode: Opcode, instr: Instr, within: Within) -> Option<InstrCause> {
+    let slot = instr.slot;
+    if opcode.uses_slot() {
+        let slots = Many {
+            count: within.slots,
+            noun: "slot",
+        };
+        unless(slot < within.slots, InstrCause::Slot { slot, slots })
+    } else {
+        let opcode = instr.code;
+        unless(slot == 0, InstrCause::NoSlot { opcode, slot })
+    }
 }
 
 fn header_cause<'a>(header: &Header) -> Option<(u64, ObjectCause<'a>)> {
@@ -169,12 +184,12 @@ impl<'a> Tables<'a> {
         self.array_cause()
     }
 
-    fn operand_cause(&self, instr: Instr) -> Option<InstrCause> {
-        let (operand, origin) = instr.parts(self.header.version);
+    fn operand_cause(&self, opcode: Opcode, instr: Instr) -> Option<InstrCause> {
+        let (operand, origin) = instr.parts(opcode, self.header.version);
         let is_half = self.header.version == 1 || operand < HALF;
-        let fits = instr.may_have(operand) && is_half;
+        let fits = opcode.may_have(operand) && is_half;
         let cause = OperandCause::Unknown {
-            opcode: instr.opcode,
+            opcode: instr.code,
             operand,
         };
         let most = ORIGINS;
@@ -182,19 +197,6 @@ impl<'a> Tables<'a> {
             origin <= most,
             OperandCause::Origin { origin, most },
         ))
-    }
-
-    fn slot_cause(&self, instr: Instr, within: Within) -> Option<InstrCause> {
-        let Instr { opcode, slot, .. } = instr;
-        if instr.has_slot() {
-            let slots = Many {
-                count: within.slots,
-                noun: "slot",
-            };
-            unless(slot < within.slots, InstrCause::Slot { slot, slots })
-        } else {
-            unless(slot == 0, InstrCause::NoSlot { opcode, slot })
-        }
     }
 
     fn destination_cause(&self, half: u64, within: Within) -> Option<InstrCause> {
@@ -206,51 +208,72 @@ impl<'a> Tables<'a> {
             return Some(InstrCause::PastEnd { ahead });
         }
         let to = within.place.saturating_add(ahead.saturating_mul(2));
-        let target = Instr::of(self.bytes, to);
-        let takes_right = target.is_dyadic() || !target.is_known();
+        let takes_right = match Instr::of(self.bytes, to).opcode() {
+            Some(target) => target.takes_two(),
+            None => true,
+        };
         unless(
             half < 32_768 || takes_right,
             InstrCause::RightPort { ahead },
         )
     }
 
-    fn target_cause(&self, instr: Instr) -> Option<InstrCause> {
-        let operand = instr.operand;
+    fn destinations_cause(
+        &self,
+        opcode: Opcode,
+        instr: Instr,
+        within: Within,
+    ) -> Option<InstrCause> {
+        let Instr {
+            code,
+            first,
+            second,
+            ..
+        } = instr;
+        let fit = opcode.may_go_to(dest_of(first), dest_of(second));
+        self.destination_cause(first, within)
+            .or(self.destination_cause(second, within))
+            .or(unless(fit, InstrCause::Destinations { opcode: code }))
+    }
+
+    fn target_cause(&self, opcode: Opcode, operand: u64) -> Option<InstrCause> {
         let blocks = self.header.blocks;
-        let fits = match instr.opcode {
-            24 => operand < blocks,
-            25 => {
+        let fits = match opcode {
+            Opcode::Link => operand < blocks,
+            Opcode::Send => {
                 let block = operand / 65_536;
                 block < blocks && operand % 65_536 <= Entry::of(self.bytes, block).inputs
             }
-            26 | 27 | 32 => operand <= 255,
+            Opcode::Return | Opcode::Ask | Opcode::Release => operand <= 255,
             _ => true,
         };
         unless_operand(fits, OperandCause::Target { operand })
     }
 
-    fn number_cause(&self, instr: Instr) -> Option<InstrCause> {
-        let (operand, _origin) = instr.parts(self.header.version);
-        if instr.has_literal() {
-            numbered("literal", operand, self.header.literals)
-        } else if matches!(instr.opcode, 21 | 22) {
-            numbered("array", operand, self.header.arrays)
-        } else {
-            None
+    fn number_cause(&self, opcode: Opcode, instr: Instr) -> Option<InstrCause> {
+        let (operand, _origin) = instr.parts(opcode, self.header.version);
+        match opcode {
+            Opcode::Apply2Right { .. } | Opcode::Apply2Left { .. } | Opcode::Lit => {
+                numbered("literal", operand, self.header.literals)
+            }
+            Opcode::Fetch | Opcode::Store => numbered("array", operand, self.header.arrays),
+            _ => None,
         }
     }
 
     /// The first thing that is wrong with an instruction.
     fn instr_cause(&self, instr: Instr, within: Within) -> Option<InstrCause> {
-        let Instr { opcode, flag, .. } = instr;
-        unless(instr.is_known(), InstrCause::Opcode { opcode, flag })
-            .or(self.operand_cause(instr))
-            .or(self.slot_cause(instr, within))
-            .or(self.destination_cause(instr.first, within))
-            .or(self.destination_cause(instr.second, within))
-            .or(unless(instr.may_go_to(), InstrCause::Destinations { opcode }))
-            .or(self.target_cause(instr))
-            .or(self.number_cause(instr))
+        let Some(opcode) = instr.opcode() else {
+            return Some(InstrCause::Opcode {
+                opcode: instr.code,
+                flag: instr.flag,
+            });
+        };
+        self.operand_cause(opcode, instr)
+            .or(slot_cause(opcode, instr, within))
+            .or(self.destinations_cause(opcode, instr, within))
+            .or(self.target_cause(opcode, instr.operand))
+            .or(self.number_cause(opcode, instr))
     }
 
     /// The first bad instruction of a block. `first` is the number of the first word of the block's instructions.

@@ -1,4 +1,8 @@
-//! The words of bytes that should be an object, as far as the bytes reach, and what each opcode wants.
+//! The words of bytes that should be an object, as far as the bytes reach.
+
+use semantics::opcode::Opcode;
+use semantics::program::Dest;
+use tags::token::Port;
 
 /// How many words a header has.
 pub const HEADER: u64 = 6;
@@ -64,7 +68,8 @@ impl Entry {
 /// An instruction.
 #[derive(Clone, Copy)]
 pub struct Instr {
-    pub opcode: u64,
+    /// The number of its opcode.
+    pub code: u64,
     pub flag: u64,
     pub slot: u64,
     /// The half words of the two destinations.
@@ -79,7 +84,7 @@ impl Instr {
     pub fn of(bytes: &[u8], place: u64) -> Instr {
         let word = word_at(bytes, place);
         Instr {
-            opcode: word % 256,
+            code: word % 256,
             flag: word / 256 % 256,
             slot: word / 65_536 % 65_536,
             first: word / HALF % 65_536,
@@ -88,69 +93,35 @@ impl Instr {
         }
     }
 
-    /// Whether the opcode exists, with this flag.
-    pub fn is_known(self) -> bool {
-        match self.opcode {
-            1..=14 => self.flag <= 2,
-            15..=32 => self.flag == 0,
-            _ => false,
-        }
-    }
-
-    /// Whether it takes two tokens.
-    pub fn is_dyadic(self) -> bool {
-        match self.opcode {
-            1..=14 => self.flag == 0,
-            19 | 20 | 22 | 25 | 26 | 27 | 32 => true,
-            _ => false,
-        }
-    }
-
-    /// Whether it has a slot.
-    pub fn has_slot(self) -> bool {
-        self.is_dyadic() || matches!(self.opcode, 28..=31)
-    }
-
-    /// Whether its operand is the number of a literal.
-    pub fn has_literal(self) -> bool {
-        self.opcode == 17 || (self.opcode <= 14 && self.flag != 0)
-    }
-
-    /// Whether its second word may name an origin.
-    fn may_fault(self) -> bool {
-        matches!(self.opcode, 4 | 5 | 21 | 22)
+    /// Its opcode, if there is one of its number and its flag.
+    pub fn opcode(self) -> Option<Opcode> {
+        let code = u8::try_from(self.code).ok()?;
+        let flag = u8::try_from(self.flag).ok()?;
+        Opcode::of_code(code, flag)
     }
 
     /// Its operand and the number of its origin, in an object of version `version`.
-    pub fn parts(self, version: u64) -> (u64, u64) {
-        if version == 2 && self.may_fault() {
+    pub fn parts(self, opcode: Opcode, version: u64) -> (u64, u64) {
+        if version == 2 && opcode.may_fault() {
             (self.operand % HALF, self.operand / HALF)
         } else {
             (self.operand, 0)
         }
     }
+}
 
-    /// Whether `operand` is allowed, as far as the opcode alone decides that.
-    pub fn may_have(self, operand: u64) -> bool {
-        match self.opcode {
-            28..=31 => 2 <= operand && operand <= 64,
-            15 | 16 | 18 | 19 | 20 | 23 => operand == 0,
-            1..=14 if self.flag == 0 => operand == 0,
-            _ => true,
-        }
+/// The destination that a half word tells, if it tells one.
+pub fn dest_of(half: u64) -> Option<Dest> {
+    if half == 0 {
+        return None;
     }
-
-    /// Whether its opcode allows the destinations that it has.
-    pub fn may_go_to(self) -> bool {
-        let has_first = self.first != 0;
-        let has_second = self.second != 0;
-        match self.opcode {
-            21 | 22 | 23 | 27 => has_first && !has_second,
-            24 => has_first && self.first < 32_768,
-            29 | 32 => !has_first && !has_second,
-            30 | 31 => !has_second,
-            20 => true,
-            _ => has_first || !has_second,
-        }
-    }
+    let port = if half < 32_768 {
+        Port::Left
+    } else {
+        Port::Right
+    };
+    Some(Dest {
+        ahead: (half % 32_768) as u32,
+        port,
+    })
 }

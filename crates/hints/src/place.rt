@@ -1,17 +1,18 @@
 //! Where a cause stands.
 
-use crate::message::Piece::{Bytes, Number, Word};
+use crate::message::Piece::{Bytes, Number, Part, Word};
 use crate::message::{Message, four, one, three, two};
 use crate::rules::Rule;
-use crate::shown::Shown;
+use crate::shown::{Shown, Window};
 
 /// Where a cause stands, with the line that stands there.
 #[derive(Clone, Copy)]
 pub enum Place<'a> {
-    /// A line of a text, from 1.
+    /// A line of a text, from 1, and a column of it that is to be seen, from 1.
     Line {
         line: u64,
         text: Shown<'a>,
+        column: u64,
     },
     /// A node of a block. Node numbers count the inputs too.
     Node {
@@ -72,7 +73,7 @@ impl<'a> Place<'a> {
     /// What a person is told.
     pub fn message(self) -> Message<'a> {
         match self {
-            Place::Line { line, text } => line_message(line, text),
+            Place::Line { line, text, column } => line_message(line, text, column),
             Place::Node {
                 block,
                 node,
@@ -121,7 +122,7 @@ impl<'a> Place<'a> {
             } => four(
                 "line {} is `{}`; at column {} stands `{}`",
                 Number(line),
-                Bytes(text),
+                Part(Window { line: text, column }),
                 Number(column),
                 Bytes(token),
             ),
@@ -139,12 +140,12 @@ impl<'a> Place<'a> {
     }
 }
 
-fn line_message<'a>(line: u64, text: Shown<'a>) -> Message<'a> {
+fn line_message<'a>(line: u64, text: Shown<'a>, column: u64) -> Message<'a> {
     if text.bytes.is_empty() {
-        one("line {} is empty", Number(line))
-    } else {
-        two("line {} is `{}`", Number(line), Bytes(text))
+        return one("line {} is empty", Number(line));
     }
+    let part = Part(Window { line: text, column });
+    two("line {} is `{}`", Number(line), part)
 }
 
 fn input_message<'a>(line: u64, text: Shown<'a>) -> Message<'a> {

@@ -6,18 +6,10 @@ use crate::going::{Going, Next, Opened, Part};
 use crate::lines::line_at;
 use crate::place::Place;
 use crate::shown::Shown;
-use source::fault::FaultKind;
+use source::fault::{FaultKind, ProgramFault};
 use source::token::{Keyword, Sign, Token, TokenKind};
 use source_tokens::{lex, split};
 use std::alloc::Allocator;
-
-/// A fault of a program as it is told: its kind, its line, and its column in bytes, both from 1.
-#[derive(Clone, Copy)]
-pub struct ProgramPlace {
-    pub kind: FaultKind,
-    pub line: u64,
-    pub column: u64,
-}
 
 fn is_run_byte(byte: u8) -> bool {
     byte.is_ascii_alphanumeric() || byte == b'_'
@@ -55,13 +47,13 @@ fn from(text: &[u8], at: usize) -> &[u8] {
 }
 
 /// How many bytes stand before this line and column.
-fn offset_of(text: &[u8], place: ProgramPlace) -> usize {
+fn offset_of(text: &[u8], place: ProgramFault) -> usize {
     let mut before = 0usize;
     let lines = text.split(|byte| *byte == b'\n');
-    for line in lines.take(place.line.saturating_sub(1) as usize) {
+    for line in lines.take(place.line.saturating_sub(1)) {
         before = before.saturating_add(line.len()).saturating_add(1);
     }
-    before.saturating_add(place.column.saturating_sub(1) as usize)
+    before.saturating_add(place.column.saturating_sub(1))
 }
 
 /// What is seen at the place of a fault: the token that stands there and the one before it, if there are any; what comes next after that;
@@ -496,8 +488,9 @@ fn cause_at<'a, A: Allocator + Clone>(
 }
 
 /// The place in a program, with what stands there.
-fn place_of<'a>(program: &'a [u8], place: ProgramPlace, at: usize) -> Place<'a> {
-    let ProgramPlace { line, column, .. } = place;
+fn place_of<'a>(program: &'a [u8], place: ProgramFault, at: usize) -> Place<'a> {
+    let line = place.line as u64;
+    let column = place.column as u64;
     let bytes = from(program, at);
     if bytes.is_empty() {
         return Place::ProgramEnd { line, column };
@@ -518,7 +511,7 @@ fn place_of<'a>(program: &'a [u8], place: ProgramPlace, at: usize) -> Place<'a> 
 pub fn program_fault<'a, A: Allocator + Clone>(
     alloc: &A,
     text: &'a [u8],
-    place: ProgramPlace,
+    place: ProgramFault,
 ) -> Found<'a> {
     if let Some(cause) = no_program(text) {
         return Found::nowhere(Cause::Program(cause));

@@ -27,6 +27,36 @@ impl fmt::Display for Shown<'_> {
     }
 }
 
+/// A line, of which the part round a column, from 1, is shown where the line is long.
+#[derive(Clone, Copy)]
+pub struct Window<'a> {
+    pub line: Shown<'a>,
+    pub column: u64,
+}
+
+impl Window<'_> {
+    /// How many bytes are left out before the part that is shown.
+    fn start(&self) -> usize {
+        let column = self.column as usize;
+        if column <= MOST {
+            return 0;
+        }
+        let most = self.line.bytes.len().saturating_sub(MOST);
+        column.saturating_sub(MOST / 2).min(most)
+    }
+}
+
+impl fmt::Display for Window<'_> {
+    fn fmt<W: fmt::Write>(&self, f: &mut fmt::Formatter<W>) -> fmt::Result {
+        let start = self.start();
+        if start > 0 {
+            f.write_str("..")?;
+        }
+        let bytes = self.line.bytes.get(start..).unwrap_or(b"");
+        fmt::Display::fmt(&Shown { bytes }, f)
+    }
+}
+
 /// How many of a thing there are: `1 source`, `2 sources`.
 #[derive(Clone, Copy)]
 pub struct Many {

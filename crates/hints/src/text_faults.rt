@@ -3,7 +3,7 @@
 use crate::cause::{Cause, LineCause, TextCause};
 use crate::found::Found;
 use crate::line_faults::{bad_line, bad_name, bad_number, field_cause, too_many};
-use crate::lines::{Context, Spot, line_at};
+use crate::lines::{Context, SPACE, Spot, line_at};
 use crate::place::Place;
 use crate::shown::Shown;
 use graph_file::{ReadFaultKind, literal};
@@ -84,6 +84,34 @@ fn has_line(cause: &Cause<'_>) -> bool {
     )
 }
 
+/// The column of the first field of the line that has these bytes, from 1.
+fn column_at(line: &[u8], field: &[u8]) -> u64 {
+    let mut column = 1u64;
+    for other in line.split(|byte| *byte == SPACE) {
+        if other == field {
+            return column;
+        }
+        column = column.saturating_add(other.len() as u64).saturating_add(1);
+    }
+    1
+}
+
+/// The column of the line that is to be seen, from 1.
+fn column_of(line: &[u8], cause: &Cause<'_>) -> u64 {
+    match cause {
+        Cause::Line(
+            LineCause::Tab { column }
+            | LineCause::StrayByte { column, .. }
+            | LineCause::Spacing { column },
+        ) => *column,
+        Cause::Field(cause) => match cause.field() {
+            Some(field) => column_at(line, field.bytes),
+            None => 1,
+        },
+        _ => 1,
+    }
+}
+
 fn cause_of<'a>(
     kind: ReadFaultKind,
     text: &'a [u8],
@@ -118,7 +146,12 @@ pub fn text_fault<'a>(
     let cause = cause_of(kind, text, line, &context, command);
     if has_line(&cause) {
         let text = Shown { bytes: line };
-        Found::at(Place::Line { line: number, text }, cause)
+        let place = Place::Line {
+            line: number,
+            text,
+            column: column_of(line, &cause),
+        };
+        Found::at(place, cause)
     } else {
         Found::nowhere(cause)
     }

@@ -1,1 +1,3 @@
 mod Pairs
+pub mod Bytes
+pub mod PlainTexts

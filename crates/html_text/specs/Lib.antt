@@ -1,2 +1,3 @@
 pub mod DataText
 pub mod PageText
+pub mod Plain

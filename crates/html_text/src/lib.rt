@@ -8,8 +8,10 @@ mod model;
 mod page;
 mod picture;
 mod pieces;
+mod plain;
 mod style;
 mod tokens;
 
 pub use data::write_data;
 pub use page::{Part, write_mark, write_part};
+pub use plain::texts_are_plain;

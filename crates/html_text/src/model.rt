@@ -82,6 +82,9 @@ for (let n = 0; n < N; n++) {
   if (COUNT[n + 1] > TOP) TOP = COUNT[n + 1];
   if (T[0] === 'i' && CODE[T[2]]) { CODE[T[2]].ev.push(n); BLOCKS[CODE[T[2]].b].used = true; }
 }
+// A block is used where a token is for it. Main's code is shown where none is.
+for (const t of D.start) if (t[0] === 'i' && CODE[t[2]]) BLOCKS[CODE[t[2]].b].used = true;
+if (!BLOCKS.some(b => b.used)) BLOCKS[MAIN].used = true;
 const born = n => n < 0 ? START : FIRST[n + 1];  // how many tokens there have been after event n
 
 // ---- the state. Values are never changed in place, so that copies are cheap.

@@ -2,19 +2,15 @@
 
 use std::marker::Brand;
 
-/// What a reader had left, and what a writer held, when keeping began, where that is known. Each call picks it.
+/// What a reader had left when keeping began, where that is known. Each call picks it.
 pub trait Start {
     ghost use Rattle.std.specs.Prelude.{ℕ, List, Option};
 
     ghost remaining: { Option (List ℕ) };
-
-    ghost contents: { Option (List ℕ) };
 }
 
 impl Start for Brand {
     ghost use Rattle.std.specs.Prelude.{None};
 
     ghost remaining = { None };
-
-    ghost contents = { None };
 }

@@ -1,2 +1,18 @@
-pub mod Roles
-pub mod Implements
+-- Contexts
+pub mod ContextsParts
+pub mod ContextsBlocks
+pub mod Contexts
+pub mod ContextsTold
+pub mod ContextsAround
+pub mod ContextsCredits
+pub mod ContextsWires
+pub mod ContextsFirings
+pub mod ContextsLaws
+pub mod ContextsStands
+pub mod ContextsOperands
+pub mod ContextsTheorem
+pub mod ContextsPackages
+pub mod ContextsExpanded
+pub mod ContextsCoded
+-- Credits
+pub mod Credits

@@ -1,4 +1,7 @@
-pub mod OwnSlots
-pub mod Theorem
+-- Slots
+pub mod Slots
+-- Frames
+pub mod Frames
+pub mod FramesGenerations
+-- Bounds
 pub mod Bounds
-pub mod Generations

@@ -6,7 +6,7 @@ use Rattle.source.specs.Tree.{Name, Program}
 use Rattle.source.specs.Words.{NamedWords, IsProgram}
 use Rattle.source.specs.Counts.{IsGood as IsGoodProgram}
 use Rattle.source.specs.Lowered.{lowered, graph_of, arrays_of, blocks_of, made_blocks}
-use Rattle.law_lowered.specs.HasText.{HasSpelledNames}
+use Rattle.law_language.specs.LoweredHasText.{HasSpelledNames}
 use Rattle.lowering.specs.Built.{Places, places_of}
 use Rattle.lowered_text.specs.Lowers.{IsGoodProgramOf, Lowers}
 

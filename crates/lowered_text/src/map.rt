@@ -3,7 +3,7 @@
 ghost use Rattle.std.specs.Prelude.{◌≡◌};
 ghost use Rattle.sink.specs.Numbered.{numbered};
 ghost use Rattle.sink.specs.Sends.{Sends};
-ghost use Rattle.source_tokens.specs.Placing.{seen_at};
+ghost use Rattle.source_tokens.specs.Placing.{IsReached, seen_at};
 ghost use Rattle.lowered_text.specs.Texts.{node_line, block_lines};
 
 use itoa::Buffer;
@@ -37,19 +37,23 @@ fn send_node<W: Write>(writer: &mut W, block: usize, node: u64, place: Reached) 
     )
 }
 
-/// The lines of a block. Its nodes are made for tokens behind that of the block, for the most part, so each is looked for from there.
+/// The lines of a block. Each node is made for a token near that of the node before, so its place is looked for from there.
 fn send_block<A: Allocator, W: Write>(
     writer: &mut W,
     program: &[u8],
     block: usize,
     places: &Places<A>,
+    last: &mut Reached,
 ) -> io::Result<()>
-    ensures { Sends result (W.contents writer.old) (W.contents writer.new) (block_lines program.now block places.now) }
+    requires { IsReached program.now last.old }
+    ensures lines { Sends result (W.contents writer.old) (W.contents writer.new) (block_lines program.now block places.now) }
+    ensures reached { IsReached program.now last.new }
 {
-    let start = reach(program, first_place(), places.block);
     for (line, at) in places.nodes.iter().enumerate() {
         let node = u64::from(places.inputs) + line as u64;
-        send_node(writer, block, node, reach(program, start, *at))?;
+        let place = reach(program, *last, *at);
+        *last = place;
+        send_node(writer, block, node, place)?;
     }
     Ok(())
 }
@@ -62,8 +66,9 @@ pub(crate) fn send_map<A: Allocator, W: Write>(
 ) -> io::Result<()>
     ensures { Sends result (W.contents writer.old) (W.contents writer.new) (numbered (block_lines program.now) 0 places.now) }
 {
+    let mut last = first_place();
     for (block, places) in places.iter().enumerate() {
-        send_block(writer, program, block, places)?;
+        send_block(writer, program, block, places, &mut last)?;
     }
     Ok(())
 }

@@ -5,14 +5,14 @@ use native.Mathlib.Decide.{ℕ_discrete}
 use Rattle.std.specs.Prelude.{IsPermutation}
 use Rattle.std.proofs.lemmas.List.{append-nil}
 use Rattle.std.proofs.lemmas.List.Sorted.{IsPermutation-refl, IsPermutation-sym, IsPermutation-trans, IsPermutation-append_left, IsPermutation-append_right}
-use Rattle.law_net.proofs.Orders.{shuffled, Part as Piece, ◌⊕◌, at_first, at_last}
+use Rattle.law_confluence.proofs.Orders.{shuffled, Part as Piece, ◌⊕◌, at_first, at_last}
 use Rattle.tags.specs.declared.token.Token.{Token}
 use Rattle.mesh.specs.declared.view.Deed.{Deed}
 use Rattle.mesh.specs.declared.view.Deed.TheVariants.{Committed, Posted, FoundFull, Took, FoundEmpty, SawLive, Stopped, SawStop}
 use Rattle.mesh.specs.Deeds.{Bundle, posts, posted, takes_from, taken, commits_in}
 use Rattle.mesh.proofs.Deeds.{posted_more, taken_more, posted_same, taken_same, posts_here, posts_else, takes_here, takes_else}
-use Rattle.law_free_runs.specs.Laws.{made_of, spent_of, joined, all_posted, all_taken}
-use Rattle.law_free_runs.proofs.Joining.{joined_append}
+use Rattle.law_linearization.specs.HistoryLaws.{made_of, spent_of, joined, all_posted, all_taken}
+use Rattle.law_linearization.proofs.EndsJoining.{joined_append}
 
 abbrev Ts : Type 0
 Ts = List Token

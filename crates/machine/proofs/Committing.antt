@@ -19,12 +19,12 @@ use Rattle.schedule.specs.Steps.{logged}
 use Rattle.rounds.specs.Turns.{Turns, IsWhole, by}
 use Rattle.machine.specs.declared.runner.Runner.{Runner}
 use Rattle.semantics.specs.Machine.{Events}
-use Rattle.law_free_runs.specs.Blocks.{Act, Block}
+use Rattle.law_linearization.specs.History.{Act, Block}
 use Rattle.ordering.specs.declared.log.Counts.{Counts}
 use Rattle.ordering.specs.Noted.{Noted, noted_in, with_block}
 use Rattle.ordering.specs.Logs.{taken_in, made_in, counts_of, SpendsOldest, Notes, Logs}
 use Rattle.ordering.proofs.Logging.{ends_block}
-use Rattle.law_net.proofs.Orders.{at_first}
+use Rattle.law_confluence.proofs.Orders.{at_first}
 use Rattle.rounds.proofs.Counting.{grown}
 use Rattle.machine.specs.Runners.{Ran, IsRunning, IsClear, HasNoReason, HasMade, NotesBlock, left_last, still_first, away, tokens_of, behind_all}
 use Rattle.machine.proofs.Tokens.{minus}

@@ -2,7 +2,7 @@
 use Rattle.std.proofs.Common.{◌≡◌, refl, sym, ◌∙◌, ap, subst, ℕ, suc, ◌+◌, ◌%◌, ◌<◌, ◌≤◌, List, [], ◌∷◌, ◌++◌, length, map, get_or, Some, arith, append_assoc}
 use Rattle.std.specs.Prelude.{All, IsPermutation, slice_get, remove}
 use Rattle.lemmas.proofs.Lists.{same_head, same_tail}
-use Rattle.law_net.proofs.Orders.{at_first, at_last}
+use Rattle.law_confluence.proofs.Orders.{at_first, at_last}
 use Rattle.tags.specs.declared.token.Token.{Token}
 use Rattle.tags.specs.Addresses.{element_of}
 use Rattle.semantics.specs.Program.{Program}
@@ -17,9 +17,9 @@ use Rattle.schedule.specs.Setting.{Setting}
 use Rattle.schedule.specs.State.{IsPlaced}
 use Rattle.schedule.proofs.Stepping.{bounds_are}
 use Rattle.rounds.specs.Turns.{Turns}
-use Rattle.law_free_runs.specs.Blocks.{Act, bounds_of, Chain, Flows}
-use Rattle.law_free_runs.proofs.Acting.{steps_act}
-use Rattle.law_free_runs.proofs.Ending.{own_part}
+use Rattle.law_linearization.specs.History.{Act, bounds_of, Chain, Flows}
+use Rattle.law_linearization.proofs.HistoryActing.{steps_act}
+use Rattle.law_linearization.proofs.Ends.{own_part}
 
 -- the events of a turn
 abbrev pub acts_of : (p : Program) (steps : ℕ) (old : Held) (before ts : List Token) (new : Held) (after : List Token) → Turns p steps old before ts new after → List Act

@@ -13,7 +13,8 @@ use Rattle.crossbeam_utils.specs.Padded.{padded_value}
 use Rattle.tags.specs.declared.token.Token.{Token}
 use Rattle.semantics.specs.Machine.{Events}
 use Rattle.semantics.specs.declared.report.End.{End}
-use Rattle.semantics.specs.Report.{Report, Shows}
+use Rattle.semantics.specs.Report.{Report}
+use Rattle.schedule.specs.Shown.{ShowsInOrder}
 use Rattle.element.specs.Held.{Held, Fixed, held_of}
 use Rattle.schedule.specs.declared.halt.Halt.{Halt}
 use Rattle.schedule.specs.Setting.{Setting, size}
@@ -27,14 +28,14 @@ use Rattle.rounds.specs.Turns.{HaltsLane, coming}
 use Rattle.rounds.specs.Rounds.{IsHalted, ShowsOn}
 use Rattle.rounds.proofs.Closing.{raw_sound, none_sound, shows_any}
 use Rattle.rounds.proofs.Rounding.{halts_as}
-use Rattle.law_free_runs.specs.Blocks.{Block, events_in, LeavesTokens, AreBelow}
-use Rattle.law_free_runs.specs.Ends as ends
+use Rattle.law_linearization.specs.History.{Block, events_in, LeavesTokens, AreBelow}
+use Rattle.law_linearization.specs.Ends as ends
 use Rattle.ordering.specs.declared.log.BlockLog.{BlockLog}
 use Rattle.ordering.specs.Noted.{noted_in}
 use Rattle.ordering.specs.Logs.{Logs}
 use Rattle.ordering.specs.Orders.{IsHistory}
-use Rattle.law_free_runs.proofs.Ending.{ends_freely}
-use Rattle.law_free_runs.proofs.Showing.{points}
+use Rattle.law_linearization.proofs.Ends.{ends_freely}
+use Rattle.law_linearization.proofs.EndsShowing.{points}
 use Rattle.machine.specs.declared.runner.Left.{Left}
 use Rattle.machine.specs.declared.runner.Runner.{Runner}
 use Rattle.machine.specs.Runners.{Ran, IsRunning, Runs, IsClear, IsLeft, away}
@@ -348,7 +349,7 @@ module _ {C A L : Type 0} where
                     (shown.0, shows_any now.program (size now) inputs now.steps false may_stop (with_events r shown.0) shown.1, shown.2)
                 by_halt all last (inr (stop, may)) =
                     let shown = stopped stop inputs false x.tokens all sound last in
-                    (shown.0, subst (λ (m : Bool). Shows now.program (size now) inputs now.steps false m (with_events r shown.0)) (sym may) shown.1, shown.2)
+                    (shown.0, subst (λ (m : Bool). ShowsInOrder now.program (size now) inputs now.steps false m (with_events r shown.0)) (sym may) shown.1, shown.2)
 
                 told : (all : Events) → Began inputs (coming g (lanes_in news) x.tokens) all → ShowsBut g.program (size g) inputs g.steps false may_stop after all r
                 told all last = subst (λ (z : Setting). ShowsBut z.program (size z) inputs z.steps false may_stop after all r) setting

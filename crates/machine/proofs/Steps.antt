@@ -6,7 +6,7 @@ use Rattle.std.proofs.lemmas.List.{append-nil, length-append, map-append, length
 use Rattle.std.proofs.lemmas.List.Elements.{All-append}
 use Rattle.std.proofs.lemmas.List.Sorted.{IsPermutation-refl, IsPermutation-sym, IsPermutation-trans, IsPermutation-append_left, IsPermutation-append_right, length_permutation, All-permutation}
 use Rattle.lemmas.proofs.Permutations.{permutation_cancel}
-use Rattle.law_net.proofs.Orders.{shuffled, Part as Piece, ◌⊕◌, at_first, at_last}
+use Rattle.law_confluence.proofs.Orders.{shuffled, Part as Piece, ◌⊕◌, at_first, at_last}
 use Rattle.tags.specs.declared.token.Token.{Token}
 use Rattle.tags.specs.Addresses.{element_of}
 use Rattle.element.specs.Near.{Bounds, IsNearToken}
@@ -23,8 +23,8 @@ use Rattle.mesh.specs.Seats.{MeshId, AllTo}
 use Rattle.mesh.proofs.Deeds.{commits_more, commits_same}
 use Rattle.rounds.specs.Turns.{Turns}
 use Rattle.rounds.proofs.Counting.{grown}
-use Rattle.law_free_runs.specs.Blocks.{Act, Block, bounds_of, commit_of, count_acts, IsOwn, Chain, Flows, Blocks}
-use Rattle.law_free_runs.proofs.Ending.{own_part}
+use Rattle.law_linearization.specs.History.{Act, Block, bounds_of, commit_of, count_acts, IsOwn, Chain, Flows, Blocks}
+use Rattle.law_linearization.proofs.Ends.{own_part}
 use Rattle.machine.specs.Runners.{Ran}
 use Rattle.machine.proofs.Tokens.{minus, minus_is}
 use Rattle.machine.proofs.Flowing.{acts_of, acts_are, flows_whole, flows_first, oldest_taken, turn_placed, turn_chain}

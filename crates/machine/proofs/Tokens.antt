@@ -6,7 +6,7 @@ use lib.Pointwise.{pointwise}
 use Rattle.std.specs.Ordering.{int_eq}
 use Rattle.std.proofs.lemmas.List.Sorted.{IsPermutation-refl, IsPermutation-sym, IsPermutation-trans, IsPermutation-cons}
 use Rattle.lemmas.proofs.Permutations.{Put, Within, put_first, within_permutation, permutation_cancel}
-use Rattle.law_net.proofs.Orders.{shuffled, Part as Piece, ◌⊕◌}
+use Rattle.law_confluence.proofs.Orders.{shuffled, Part as Piece, ◌⊕◌}
 use Rattle.tags.specs.declared.value.FaultKind.{FaultKind}
 use Rattle.tags.specs.declared.value.Origin.{Origin}
 use Rattle.tags.specs.declared.value.Value.{Value}

@@ -15,8 +15,8 @@ use Rattle.ordering.specs.declared.log.Counts.{Counts}
 use Rattle.ordering.specs.Noted.{Noted, noted_in}
 use Rattle.ordering.specs.Logs.{Logs}
 use Rattle.semantics.specs.Machine.{Events}
-use Rattle.law_free_runs.specs.Blocks.{Block, Blocks, bounds_of, commit_of, count_acts}
-use Rattle.law_free_runs.specs.Laws.{IsBalanced}
+use Rattle.law_linearization.specs.History.{Block, Blocks, bounds_of, commit_of, count_acts}
+use Rattle.law_linearization.specs.HistoryLaws.{IsBalanced}
 use Rattle.machine.specs.declared.nearness.Reach.{Reach}
 use Rattle.machine.specs.declared.runner.Left.{Left}
 use Rattle.machine.specs.declared.runner.Runner.{Runner}

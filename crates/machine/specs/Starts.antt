@@ -8,7 +8,7 @@ use Rattle.schedule.specs.declared.halt.Halt.{Halt}
 use Rattle.schedule.specs.Setting.{Setting}
 use Rattle.mesh.specs.Seats.{MeshId, SeatView}
 use Rattle.semantics.specs.Machine.{Events}
-use Rattle.law_free_runs.specs.Blocks.{Block}
+use Rattle.law_linearization.specs.History.{Block}
 use Rattle.ordering.specs.declared.log.BlockLog.{BlockLog}
 use Rattle.ordering.specs.Noted.{noted_in, nothing}
 use Rattle.ordering.specs.Orders.{IsHistory, IsOrdered}

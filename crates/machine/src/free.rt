@@ -4,7 +4,7 @@ ghost use Rattle.std.specs.Prelude.{◌≡◌, ◌≢◌, ◌<◌, ◌≤◌, �
 ghost use Rattle.crossbeam_utils.specs.Padded.{padded_value};
 ghost use Rattle.semantics.specs.Machine.{Events};
 ghost use Rattle.semantics.specs.declared.report.End.{End};
-ghost use Rattle.semantics.specs.Report.{Shows};
+ghost use Rattle.schedule.specs.Shown.{ShowsInOrder};
 ghost use Rattle.element.specs.Held.{held_of, fixed_of};
 ghost use Rattle.schedule.specs.Setting.{size, IsGoodSetting};
 ghost use Rattle.schedule.specs.State.{IsSoundState, RunsAs, setting_in, tokens_in};
@@ -300,7 +300,7 @@ pub fn run<
     A: Allocator + Clone + Send + Sync,
     G: Gate + Sync,
 >(machine: Machine<'_, C, A>, rt: &R, gate: &G) -> Report<A>
-    ensures shows { (inputs : List ℤ) → Began inputs machine.entry.state machine.entry.events → Shows machine.entry.state.setting.program (size machine.entry.state.setting) inputs machine.entry.state.setting.steps false G.may_stop result }
+    ensures shows { (inputs : List ℤ) → Began inputs machine.entry.state machine.entry.events → ShowsInOrder machine.entry.state.setting.program (size machine.entry.state.setting) inputs machine.entry.state.setting.steps false G.may_stop result }
     ensures ends { (inputs : List ℤ) → Began inputs machine.entry.state machine.entry.events → result.end ≢ End.Memory → EndsFreely machine.entry.state.setting inputs G.may_stop result }
 {
     run_machine(machine, rt, gate)

@@ -6,7 +6,7 @@ ghost use Rattle.element.specs.Held.{fixed_of};
 ghost use Rattle.schedule.specs.State.{RunsAs, setting_in};
 ghost use Rattle.schedule.specs.Setting.{IsGoodSetting};
 ghost use Rattle.schedule.specs.declared.halt.Halt.{Halt};
-ghost use Rattle.law_free_runs.specs.Blocks.{bounds_of};
+ghost use Rattle.law_linearization.specs.History.{bounds_of};
 ghost use Rattle.machine.specs.Runners.{bounds_within, Runs, Keeps, IsClear, StaysAt, Receives};
 
 use crate::nearness::{Reach, are_near};

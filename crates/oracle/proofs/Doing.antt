@@ -6,7 +6,7 @@ use Rattle.std.proofs.lemmas.List.Sorted.{IsPermutation-refl}
 use Rattle.tags.specs.declared.value.Value.{Value}
 use Rattle.semantics.specs.Graph.{Graph, flow_of, array_len}
 use Rattle.semantics.specs.Meaning.{Context, State, Activity, taken, Step, Run, Leads, Clashes}
-use Rattle.law_determinacy.proofs.Determinacy.{same_refl}
+use Rattle.law_confluence.proofs.OutcomeDeterminacy.{same_refl}
 use Rattle.lemmas.proofs.Permutations.{Each, each_append_back}
 use Rattle.oracle.specs.declared.invocations.Made.{Made}
 use Rattle.oracle.specs.declared.invocations.Invocation.{Invocation}

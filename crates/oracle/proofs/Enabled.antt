@@ -9,16 +9,16 @@ use Rattle.semantics.specs.WellFormed.{WellFormed}
 use Rattle.semantics.specs.Faithful.{inputs_of}
 use Rattle.semantics.specs.Meaning.{Context, AtNode, Tagged, tagged, Memory, State, Activity, taken, deed, done, adds, tokens_of, Step, AtRest}
 use Rattle.semantics.specs.Meaning as Meaning
-use Rattle.law_determinacy.specs.Outcome.{NoClash}
-use Rattle.law_determinacy.proofs.Deeds.{full_of}
-use Rattle.law_determinacy.proofs.Diamond.{deed_of, held_from, effect_of}
-use Rattle.law_determinacy.proofs.Determinacy.{same_sym}
-use Rattle.law_determinacy.proofs.Keys.{Unique, Held, same_activity}
+use Rattle.law_confluence.specs.Outcome.{NoClash}
+use Rattle.law_confluence.proofs.ActivityDeeds.{full_of}
+use Rattle.law_confluence.proofs.ActivityDiamond.{deed_of, held_from, effect_of}
+use Rattle.law_confluence.proofs.OutcomeDeterminacy.{same_sym}
+use Rattle.law_confluence.proofs.ActivityKeys.{Unique, Held, same_activity}
 use Rattle.lemmas.proofs.Permutations.{Within, Each, put_first, each_from, each_within, within_append, within_left, within_right, within_to, each_weaker, get_within}
-use Rattle.law_determinacy.proofs.Resolved.{flow_well}
-use Rattle.law_determinacy.proofs.Rest.{takes_some, some_taken}
-use Rattle.law_determinacy.proofs.Runs.{activity_once, step_of}
-use Rattle.law_determinacy.proofs.Theorems.{reached_unique}
+use Rattle.law_confluence.proofs.OutcomeResolved.{flow_well}
+use Rattle.law_confluence.proofs.OutcomeRest.{takes_some, some_taken}
+use Rattle.law_confluence.proofs.HistoryRuns.{activity_once, step_of}
+use Rattle.law_confluence.proofs.Outcome.{reached_unique}
 use Rattle.oracle.specs.declared.invocations.Invocation.{Invocation}
 use Rattle.oracle.specs.declared.deeds.Deed.{Deed}
 use Rattle.oracle.specs.declared.state.Gate.TheVariants.{Free}

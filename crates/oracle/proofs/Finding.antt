@@ -8,7 +8,7 @@ use Rattle.semantics.specs.WellFormed.{WellFormed}
 use Rattle.semantics.specs.Faithful.{inputs_of}
 use Rattle.semantics.specs.Meaning.{Context, State, Activity, Same, Clashes}
 use Rattle.lemmas.proofs.Permutations.{each_append_back, each_permutation}
-use Rattle.law_determinacy.proofs.Determinacy.{same_sym, same_trans}
+use Rattle.law_confluence.proofs.OutcomeDeterminacy.{same_sym, same_trans}
 use Rattle.oracle.specs.declared.invocations.Invocation.{Invocation}
 use Rattle.oracle.specs.declared.deeds.Deed.{Deed}
 use Rattle.oracle.specs.declared.deeds.Deed.TheVariants.{Sends, Tells, Enters, EntersAll, Stops, Reads, Fills, Puts}

@@ -8,7 +8,7 @@ use Rattle.semantics.specs.Graph.{Flow}
 use Rattle.semantics.specs.Meaning.{Context, AtNode, Tagged, tagged, Activity, taken, operands_from, deed}
 use Rattle.semantics.specs.Meaning as Meaning
 use Rattle.lemmas.proofs.Permutations.{Within, put_first, within_permutation, permutation_cancel}
-use Rattle.law_determinacy.proofs.Shapes.{fires_deed, gates_said, passes_said}
+use Rattle.law_confluence.proofs.ActivityShapes.{fires_deed, gates_said, passes_said}
 use Rattle.oracle.specs.declared.deeds.Deed.{Deed}
 use Rattle.oracle.specs.declared.deeds.Deed.TheVariants.{Reads, Fills}
 use Rattle.oracle.specs.declared.state.Gate.TheVariants.{Free, Defers, Clashes as GateClashes}

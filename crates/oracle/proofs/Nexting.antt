@@ -11,9 +11,9 @@ use Rattle.semantics.specs.Meaning.{Context, Statement, AtNode, AtOut, Tagged, t
 use Rattle.semantics.specs.Meaning as Meaning
 use Rattle.lemmas.proofs.Permutations.{Within, Each, put_first, each_from, each_within, each_permutation, each_append, each_append_back, within_permutation, within_left}
 use Rattle.lemmas.proofs.SliceGet.{get_some}
-use Rattle.law_determinacy.proofs.Shapes.{storing, showing}
-use Rattle.law_determinacy.proofs.Runs.{run_to_same}
-use Rattle.law_determinacy.proofs.Theorems.{reached_unique}
+use Rattle.law_confluence.proofs.ActivityShapes.{storing, showing}
+use Rattle.law_confluence.proofs.HistoryRuns.{run_to_same}
+use Rattle.law_confluence.proofs.Outcome.{reached_unique}
 use Rattle.oracle.specs.declared.invocations.Invocation.{Invocation}
 use Rattle.oracle.specs.declared.deeds.Deed.{Deed}
 use Rattle.oracle.specs.declared.deeds.Deed.TheVariants.{Sends, Tells, Enters, EntersAll, Stops, Reads, Fills, Puts}

@@ -9,6 +9,7 @@ use Rattle.oracle.specs.declared.invocations.Invocation.{Invocation}
 use Rattle.oracle.specs.Running.{same_made, made_from}
 use Rattle.oracle.specs.Numbering.{IsNumbering}
 use Rattle.oracle.proofs.Entering.{made_same}
+use Rattle.oracle.proofs.Apart.{made_refl}
 
 -- whether two are equal in the order
 abbrev pub TellsApart : (Made → Made → Ordering) → Type 0
@@ -47,3 +48,10 @@ numbers_more cmp m n xs made block apart numbers absent updates q =
         let same : length xs ≡ 0 + length xs = omega arith in
         ap (λ k. Some k) same ∙ sym (ap (λ v. or_later v (Some (0 + length xs))) none)
     go false e = numbers q ∙ later (made_from q 0 xs)
+
+-- the one that is added is the first that was made there, if no other was
+pub made_last : (xs : List Invocation) (made : Made) (block : ℕ) → made_from made 0 xs ≡ None → made_from made 0 (xs ++ record { made = made; block = block } ∷ []) ≡ Some (length xs)
+made_last xs made block absent =
+    let first : 0 + length xs ≡ length xs = omega arith in
+    last_from made 0 (record { made = made; block = block }) xs ∙ ap (λ v. or_later v (if same_made made made then Some (0 + length xs) else None)) absent
+    ∙ ap (λ b. if b then Some (0 + length xs) else None) (made_refl made) ∙ ap (λ k. Some k) first

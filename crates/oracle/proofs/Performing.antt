@@ -8,9 +8,9 @@ use Rattle.semantics.specs.Graph.{Graph, flow_of}
 use Rattle.semantics.specs.Meaning.{Context, Tagged, Memory, Effect, State, Activity, taken, effect, done, adds, tokens_of, with_cell, with_output, when_full, when_empty, Step, Run, start}
 use Rattle.semantics.specs.Meaning as Meaning
 use Rattle.lemmas.proofs.Permutations.{Each, each_append, each_append_back, each_weaker}
-use Rattle.law_determinacy.proofs.Diamond.{effect_of}
-use Rattle.law_determinacy.proofs.Determinacy.{same_refl}
-use Rattle.law_determinacy.proofs.Runs.{run_append, step_of}
+use Rattle.law_confluence.proofs.ActivityDiamond.{effect_of}
+use Rattle.law_confluence.proofs.OutcomeDeterminacy.{same_refl}
+use Rattle.law_confluence.proofs.HistoryRuns.{run_append, step_of}
 use Rattle.oracle.specs.declared.invocations.Made.{Made}
 use Rattle.oracle.specs.declared.deeds.Deed.{Deed}
 use Rattle.oracle.specs.declared.deeds.Deed.TheVariants.{Sends, Tells, Enters, EntersAll, Stops, Reads, Fills, Puts}

@@ -3,8 +3,8 @@ use Rattle.std.proofs.Common.{ℕ, List, sym, ap, ◌∙◌}
 use Rattle.std.proofs.lemmas.List.Sorted.{IsPermutation-sym, IsPermutation-trans}
 use Rattle.semantics.specs.Graph.{Flow}
 use Rattle.semantics.specs.Meaning.{Memory, State, Activity, Same, AtRest, Clashes}
-use Rattle.law_determinacy.specs.Outcome.{NoClash}
-use Rattle.law_determinacy.proofs.Determinacy.{same_sym, step_same, run_same}
+use Rattle.law_confluence.specs.Outcome.{NoClash}
+use Rattle.law_confluence.proofs.OutcomeDeterminacy.{same_sym, step_same, run_same}
 use Rattle.oracle.specs.Waves.{AreEnabled, IsWave}
 
 pub clash_same : (fl : Flow) (s t : State) (x : ℕ) → Same s t → Clashes fl s x → Clashes fl t x

@@ -4,7 +4,7 @@ use Rattle.tags.specs.declared.value.Value.{Value}
 use Rattle.semantics.specs.Meaning.{Context, Statement, AtNode, AtOut, AtTurn, Port, Tagged, tagged, Activity, taken, operands_from, deed, on_block, on_node, fired, fired_in, input_passed, gated, passed, block_number, block_numbered, block_of}
 use Rattle.semantics.specs.Meaning as Meaning
 use Rattle.lemmas.proofs.Permutations.{Within, Each, put_first, each_weaker}
-use Rattle.law_determinacy.proofs.Keys.{within_one}
+use Rattle.law_confluence.proofs.ActivityKeys.{within_one}
 use Rattle.oracle.specs.Lines.{operand_spots}
 use Rattle.oracle.specs.Meant.{statement_of, port_of}
 

@@ -17,9 +17,9 @@ use Rattle.semantics.specs.Meaning.{Context, Statement, AtNode, AtOut, Port, Tag
 use Rattle.semantics.specs.Meaning as Meaning
 use Rattle.lemmas.proofs.Permutations.{Within, within_right}
 use Rattle.lemmas.proofs.Alls.{all_at}
-use Rattle.law_determinacy.proofs.Uses.{UseOf, AsOperand, AsResult, AsFlag, AsCarried, Member, source_within}
-use Rattle.law_determinacy.proofs.History.{at_start, run_history}
-use Rattle.law_determinacy.proofs.Resolved.{flow_well, fits}
+use Rattle.law_confluence.proofs.ActivityUses.{UseOf, AsOperand, AsResult, AsFlag, AsCarried, Member, source_within}
+use Rattle.law_confluence.proofs.History.{at_start, run_history}
+use Rattle.law_confluence.proofs.OutcomeResolved.{flow_well, fits}
 use Rattle.oracle.specs.declared.invocations.Made.{Made}
 use Rattle.oracle.specs.declared.invocations.Made.TheVariants.{Main, Called, Turned}
 use Rattle.oracle.specs.declared.invocations.Invocation.{Invocation}

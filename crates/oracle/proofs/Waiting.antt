@@ -7,13 +7,13 @@ use Rattle.tags.specs.declared.value.Value.{Value}
 use Rattle.semantics.specs.Graph.{Graph, Flow, flow_of}
 use Rattle.semantics.specs.Meaning.{Context, Statement, AtNode, Port, Tagged, tagged, Memory, State, Effect, Activity, taken, deed, done, adds, tokens_of, block_number, Step, AtRest, Clashes}
 use Rattle.semantics.specs.Meaning as Meaning
-use Rattle.law_determinacy.specs.Outcome.{NoClash}
+use Rattle.law_confluence.specs.Outcome.{NoClash}
 use Rattle.lemmas.proofs.Permutations.{Within, Each, put_first, put_later, each_within, within_append, within_right, each_weaker, within_map}
-use Rattle.law_determinacy.proofs.Keys.{Unique, Held, same_activity}
-use Rattle.law_determinacy.proofs.Deeds.{full_of}
-use Rattle.law_determinacy.proofs.Diamond.{deed_of, held_from}
-use Rattle.law_determinacy.proofs.Laws.{IsFlowWell}
-use Rattle.law_determinacy.proofs.Rest.{takes_some}
+use Rattle.law_confluence.proofs.ActivityKeys.{Unique, Held, same_activity}
+use Rattle.law_confluence.proofs.ActivityDeeds.{full_of}
+use Rattle.law_confluence.proofs.ActivityDiamond.{deed_of, held_from}
+use Rattle.law_confluence.proofs.HistoryLaws.{IsFlowWell}
+use Rattle.law_confluence.proofs.OutcomeRest.{takes_some}
 use Rattle.oracle.specs.declared.invocations.Invocation.{Invocation}
 use Rattle.oracle.specs.declared.tokens.Spot.{Spot}
 use Rattle.oracle.specs.declared.tokens.Token.{Token}

@@ -9,10 +9,10 @@ use Rattle.semantics.specs.Text.{HasText}
 use Rattle.semantics.specs.WellFormed.{WellFormed}
 use Rattle.semantics.specs.Faithful.{inputs_of}
 use Rattle.semantics.specs.Meaning.{Context, State, Activity, Same, Run, Reached, Leads, AtRest, Clashes, start}
-use Rattle.law_determinacy.specs.Outcome.{NoClash}
-use Rattle.law_determinacy.proofs.Determinacy.{same_refl, same_sym, same_trans, run_same}
-use Rattle.law_determinacy.proofs.Runs.{run_append, reached_leads, run_to_same}
-use Rattle.law_determinacy.proofs.Theorems.{determinacy, second_store_from}
+use Rattle.law_confluence.specs.Outcome.{NoClash}
+use Rattle.law_confluence.proofs.OutcomeDeterminacy.{same_refl, same_sym, same_trans, run_same}
+use Rattle.law_confluence.proofs.HistoryRuns.{run_append, reached_leads, run_to_same}
+use Rattle.law_confluence.proofs.Outcome.{determinacy, second_store_from}
 use Rattle.oracle.specs.declared.deeds.Deed.{Deed}
 use Rattle.oracle.specs.declared.state.Gate.{Gate}
 use Rattle.oracle.specs.declared.state.Gate.TheVariants.{Free, Defers, Clashes as GateClashes}

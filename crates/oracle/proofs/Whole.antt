@@ -11,8 +11,8 @@ use Rattle.semantics.specs.Faithful.{inputs_of}
 use Rattle.semantics.specs.Meaning.{Context, Tagged, Memory, State, Activity, Step, Run, Reached, start, entering}
 use Rattle.semantics.specs.Meaning as Meaning
 use Rattle.lemmas.proofs.Permutations.{each_append, each_weaker}
-use Rattle.law_determinacy.proofs.Resolved.{flow_well}
-use Rattle.law_determinacy.proofs.Theorems.{determinacy, second_store_from}
+use Rattle.law_confluence.proofs.OutcomeResolved.{flow_well}
+use Rattle.law_confluence.proofs.Outcome.{determinacy, second_store_from}
 use Rattle.oracle.specs.declared.invocations.Made.TheVariants.{Main}
 use Rattle.oracle.specs.declared.invocations.Invocation.{Invocation}
 use Rattle.oracle.specs.declared.deeds.Deed.{Deed}

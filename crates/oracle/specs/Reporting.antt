@@ -5,7 +5,7 @@ use Rattle.semantics.specs.Graph.{Graph, flow_of, first_cell, array_len}
 use Rattle.semantics.specs.Text.{HasText}
 use Rattle.semantics.specs.WellFormed.{WellFormed}
 use Rattle.semantics.specs.Meaning.{State, Activity, Step, Run, Reached, AtRest, Clashes, start}
-use Rattle.law_determinacy.specs.Outcome.{NoClash, IsOnlyOutcome}
+use Rattle.law_confluence.specs.Outcome.{NoClash, IsOnlyOutcome}
 use Rattle.oracle.specs.declared.report.MeanEnd.{MeanEnd}
 use Rattle.oracle.specs.declared.report.MeanEnd.TheVariants.{Rest, Clash, Steps}
 use Rattle.oracle.specs.declared.report.Full.{Full}

@@ -4,7 +4,7 @@ use Rattle.std.specs.Prelude.{◌≡◌, ℕ, ◌+◌, ◌<◌, ◌≤◌, ℤ, 
 use Rattle.semantics.specs.Graph.{Graph, Flow, flow_of, array_len}
 use Rattle.semantics.specs.WellFormed.{WellFormed}
 use Rattle.semantics.specs.Meaning.{Tagged, State, Activity, taken, Step, Same, Run, Leads, AtRest, Clashes, start}
-use Rattle.law_determinacy.specs.Outcome.{NoClash, AreInputsOf}
+use Rattle.law_confluence.specs.Outcome.{NoClash, AreInputsOf}
 use Rattle.oracle.specs.declared.report.MeanEnd.{MeanEnd}
 use Rattle.oracle.specs.declared.report.MeanEnd.TheVariants.{Rest, Clash, Steps}
 use Rattle.oracle.specs.Reporting.{cell_at, IsOutcome}

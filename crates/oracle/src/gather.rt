@@ -80,9 +80,9 @@ fn take_one<A: Allocator>(waiting: &mut Vec<Token, A>, token: &Token, spot: Spot
     }
 }
 
-/// Takes the partners of the token out, and gives the values at all these spots in order.
+/// Takes the partners of the token out, and gives the values at all these spots in order, in the list that it is given.
 pub fn take_out<A: Allocator, B: Allocator>(
-    alloc: B,
+    mut values: Vec<Value, B>,
     waiting: &mut Vec<Token, A>,
     token: &Token,
     spots: &[Spot],
@@ -90,7 +90,7 @@ pub fn take_out<A: Allocator, B: Allocator>(
     ensures left { OnOk result (waiting.new.items ≡ Acting.left_of token.now spots.now waiting.old.items) }
     ensures values { IfOk result (λ v. v.items ≡ Acting.values_of token.now spots.now waiting.old.items) }
 {
-    let mut values = Vec::new(alloc);
+    values.clear();
     for spot in spots {
         if let Some(value) = take_one(waiting, token, *spot) {
             values.push(value)?;

@@ -1,6 +1,6 @@
 //! The invocations of blocks, numbered: each is named by the place that it was made at, and found by it in a map.
 
-ghost use Rattle.std.specs.Prelude.{◌≡◌, ◌++◌, ◌∷◌, [], None, length, slice_get, IfOk, OnOk, OnErr};
+ghost use Rattle.std.specs.Prelude.{◌≡◌, ◌++◌, ◌∷◌, [], None, Some, length, slice_get, IfOk, IfSome, OnOk, OnErr};
 ghost use Rattle.oracle.specs.Running as Running;
 
 use std::alloc::{AllocError, Allocator};
@@ -22,23 +22,55 @@ pub struct Invocation {
     pub block: usize,
 }
 
-/// The invocations in the order in which they were made, and the number of each by the place that it was made at.
+/// The number of the invocation that was made at a place.
+#[derive(Clone, Copy)]
+pub struct Numbered {
+    pub made: Made,
+    pub number: usize,
+}
+
+/// The invocations in the order in which they were made, and the number of each by the place that it was made at. Values enter an
+/// invocation one after the other, so the one that was asked for last is looked at first.
 #[derive(Drop)]
 pub struct Invocations<A: Allocator> {
     table: Vec<Invocation, A>,
     numbers: BTreeMap<Made, usize, A>,
+    last: Option<Numbered>,
 }
 
 impl<A: Allocator> Model for Invocations<A> {
     ghost use Rattle.std.specs.Prelude.{List};
     ghost use Rattle.oracle.specs.declared.invocations.Invocation.{Invocation};
-    ghost use Rattle.oracle.specs.Numbering.{IsNumbering};
+    ghost use Rattle.oracle.specs.Numbering.{IsNumbering, IsNumbered};
 
     ghost Value = { List Invocation };
 
     ghost view = { λ s. s.table.items };
 
-    ghost invariant = { λ s. IsNumbering ⟦<Made as Ord>⟧.cmp s.numbers s.table.items };
+    ghost invariant = { λ s. IsNumbering ⟦<Made as Ord>⟧.cmp s.numbers s.table.items × IsNumbered s.table.items s.last };
+}
+
+/// Whether both are one place.
+fn is_same(left: Made, right: Made) -> bool
+    ensures { result ≡ Running.same_made left right }
+{
+    match (left, right) {
+        (Made::Main, Made::Main) => true,
+        (Made::Called { by: c, node: n }, Made::Called { by: d, node: m }) => c == d && n == m,
+        (
+            Made::Turned {
+                by: c,
+                node: n,
+                turn: i,
+            },
+            Made::Turned {
+                by: d,
+                node: m,
+                turn: j,
+            },
+        ) => c == d && n == m && i == j,
+        _ => false,
+    }
 }
 
 impl<A: Allocator + Clone> Invocations<A> {
@@ -49,6 +81,7 @@ impl<A: Allocator + Clone> Invocations<A> {
         let mut invocations = Invocations {
             table: Vec::new(alloc.clone()?),
             numbers: BTreeMap::new(alloc),
+            last: None,
         };
         invocations.add(&Made::Main, block)?;
         Ok(invocations)
@@ -61,11 +94,30 @@ impl<A: Allocator + Clone> Invocations<A> {
         self.table.get(number).copied()
     }
 
-    /// The number of the invocation that was made there, if there is one.
-    fn find(&self, made: &Made) -> Option<usize>
-        ensures { result ≡ Running.made_from made.now 0 self.now }
+    /// The number of the invocation that was made there, if it was asked for last.
+    fn recall(&self, made: &Made) -> Option<usize>
+        ensures { IfSome result (λ n. Running.made_from made.now 0 self.now ≡ Some n) }
     {
-        self.numbers.get(made).copied()
+        match self.last {
+            Some(last) if is_same(last.made, *made) => Some(last.number),
+            _ => None,
+        }
+    }
+
+    /// The number of the invocation that was made there, if there is one.
+    fn find(&mut self, made: &Made) -> Option<usize>
+        ensures number { result ≡ Running.made_from made.now 0 self.old }
+        ensures kept { self.new ≡ self.old }
+    {
+        if let Some(number) = self.recall(made) {
+            return Some(number);
+        }
+        let number = *self.numbers.get(made)?;
+        self.last = Some(Numbered {
+            made: *made,
+            number,
+        });
+        Some(number)
     }
 
     /// How many there are.
@@ -85,7 +137,13 @@ impl<A: Allocator + Clone> Invocations<A> {
         let number = self.len();
         self.table.push(Invocation { made: *made, block })?;
         match self.numbers.insert(*made, number) {
-            Ok(_) => Ok(number),
+            Ok(_) => {
+                self.last = Some(Numbered {
+                    made: *made,
+                    number,
+                });
+                Ok(number)
+            }
             Err(_) => {
                 self.table.pop();
                 Err(AllocError)

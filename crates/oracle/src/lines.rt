@@ -73,7 +73,11 @@ pub fn block_at<'b, 'a, A: Allocator>(
     graph.blocks.get(place)
 }
 
-fn node_at<'b, 'a, A: Allocator>(block: &'b Block<'a, A>, place: usize) -> Option<&'b Node<'a, A>>
+/// The node at that place of a block.
+pub fn node_at<'b, 'a, A: Allocator>(
+    block: &'b Block<'a, A>,
+    place: usize,
+) -> Option<&'b Node<'a, A>>
     ensures { option_copied result ≡ slice_get block.now.1.nodes place }
 {
     block.nodes.get(place)

@@ -10,7 +10,7 @@ ghost use Rattle.oracle.specs.Running.{plain, nones, no_cells, start_of, main_pl
 use crate::invocations::Invocations;
 use crate::lines::{arrays_of, input_count, output_count};
 use crate::report::{Full, MeanEnd, MeanFault, MeanReport};
-use crate::state::{State, held, next_act, perform};
+use crate::state::{Spare, State, held, next_act, perform};
 use crate::tokens::{Spot, Token};
 use graph::Array;
 use graph_check::Checked;
@@ -84,7 +84,11 @@ pub fn start<'a, A: Allocator + Clone>(
         waiting: Vec::new(alloc.clone()?),
         deferred: Vec::new(alloc.clone()?),
         cells: empty_cells(alloc.clone()?, arrays_of(checked))?,
-        outputs: empty(alloc, output_count(checked.graph(), main))?,
+        outputs: empty(alloc.clone()?, output_count(checked.graph(), main))?,
+        spare: Spare {
+            spots: Vec::new(alloc.clone()?),
+            values: Vec::new(alloc),
+        },
     })
 }
 
@@ -102,7 +106,10 @@ fn run<'a, A: Allocator + Clone>(
 {
     for _step in 0..steps {
         match next_act(checked, state)? {
-            Ok(act) => perform(checked, state, &act.deed, &act.values)?,
+            Ok(act) => {
+                perform(checked, state, &act.deed, &act.values)?;
+                state.spare.values = act.values;
+            }
             Err(end) => return Ok(end),
         }
     }
@@ -186,6 +193,7 @@ fn run_to_end<'a, A: Allocator + Clone>(
         deferred: _,
         cells: _,
         outputs,
+        spare: _,
     } = state;
     Ok(MeanReport {
         end,

@@ -1,12 +1,13 @@
 //! Which activity a token takes part in, by the place where it is.
 
-ghost use Rattle.std.specs.Prelude.{◌≡◌, ℕ, IfOk};
+ghost use Rattle.std.specs.Prelude.{◌≡◌, ◌++◌, Some, OnOk};
 ghost use Rattle.semantics.specs.Graph.{Graph};
 ghost use Rattle.oracle.specs.Lines as Lines;
 
 use crate::invocations::{Invocation, Made};
-use crate::lines::{Line, line_at};
+use crate::lines::{block_at, node_at};
 use crate::tokens::Spot;
+use graph::{Block, Name};
 use graph_check::Checked;
 use semantics::graph::Kind;
 use std::alloc::{AllocError, Allocator};
@@ -29,8 +30,8 @@ pub enum Shape {
 }
 
 /// A node that takes all its operands at once, and has as many as it takes.
-fn fires(kind: &Kind<usize>, arity: usize) -> bool
-    ensures { result ≡ Lines.takes_all kind.now arity }
+fn fires<'a>(kind: &Kind<Name<'a>>, arity: usize) -> bool
+    ensures each { (g : Graph) → result ≡ Lines.takes_all (Lines.resolved_in g kind.now) arity }
 {
     match kind {
         Kind::Lit { .. } | Kind::Apply1 { .. } | Kind::Cond | Kind::Fetch { .. } => arity == 1,
@@ -40,8 +41,13 @@ fn fires(kind: &Kind<usize>, arity: usize) -> bool
     }
 }
 
-fn shape_at_node(kind: &Kind<usize>, arity: usize, node: usize, position: usize) -> Option<Shape>
-    ensures { result ≡ Lines.node_shape kind.now arity node position }
+fn shape_at_node<'a>(
+    kind: &Kind<Name<'a>>,
+    arity: usize,
+    node: usize,
+    position: usize,
+) -> Option<Shape>
+    ensures each { (g : Graph) → result ≡ Lines.node_shape (Lines.resolved_in g kind.now) arity node position }
 {
     match kind {
         Kind::Merge { .. } | Kind::Call { .. } | Kind::Loop { .. } => {
@@ -65,31 +71,35 @@ fn shape_at_node(kind: &Kind<usize>, arity: usize, node: usize, position: usize)
 }
 
 /// The activity that takes an operand of a node.
-fn shape_of_operand(line: &Line, node: usize, position: usize) -> Option<Shape>
-    ensures { result ≡ Lines.operand_shape line.now node position }
+fn shape_of_operand<'a, A: Allocator>(
+    block: &Block<'a, A>,
+    node: usize,
+    position: usize,
+) -> Option<Shape>
+    ensures each { (g : Graph) → result ≡ Lines.operand_shape (Lines.line_in g (Some block.now) node) node position }
 {
-    match line {
-        Line::Input => {
-            if position == 0 {
-                Some(Shape::Fires { node, count: 1 })
-            } else {
-                None
-            }
-        }
-        Line::Node { kind, arity, .. } => shape_at_node(kind, *arity, node, position),
-        Line::Nothing => None,
+    let inputs = block.inputs as usize;
+    if node < inputs {
+        return if position == 0 {
+            Some(Shape::Fires { node, count: 1 })
+        } else {
+            None
+        };
     }
+    let line = node_at(block, node - inputs)?;
+    shape_at_node(&line.kind, line.sources.len(), node, position)
 }
 
 /// The activity that takes a predicate.
-fn shape_of_predicate(line: &Line, node: usize) -> Option<Shape>
-    ensures { result ≡ Lines.predicate_shape line.now node }
+fn shape_of_predicate<'a, A: Allocator>(block: &Block<'a, A>, node: usize) -> Option<Shape>
+    ensures each { (g : Graph) → result ≡ Lines.predicate_shape (Lines.line_in g (Some block.now) node) node }
 {
-    match line {
-        Line::Node {
-            kind: Kind::Enter,
-            ..
-        } => Some(Shape::Gates { node }),
+    let inputs = block.inputs as usize;
+    if node < inputs {
+        return None;
+    }
+    match node_at(block, node - inputs)?.kind {
+        Kind::Enter => Some(Shape::Gates { node }),
         _ => None,
     }
 }
@@ -125,48 +135,47 @@ pub fn shape_of<'a, A: Allocator>(
 {
     match spot {
         Spot::Operand { node, position } => {
-            shape_of_operand(&line_at(checked, invocation.block, node), node, position)
+            shape_of_operand(block_at(checked.graph(), invocation.block)?, node, position)
         }
         Spot::Predicate { node } => {
-            shape_of_predicate(&line_at(checked, invocation.block, node), node)
+            shape_of_predicate(block_at(checked.graph(), invocation.block)?, node)
         }
         Spot::Out { number } => shape_of_result(invocation.made, number),
         Spot::Flag { number } | Spot::Carried { number } => shape_of_turn(invocation.made, number),
     }
 }
 
-fn operand_spots<A: Allocator>(
-    alloc: A,
+/// Adds the spots of a node's operands.
+fn push_operands<A: Allocator>(
+    spots: &mut Vec<Spot, A>,
     node: usize,
     count: usize,
-) -> Result<Vec<Spot, A>, AllocError>
-    ensures { IfOk result (λ v. v.items ≡ Lines.operand_spots node 0 count) }
+) -> Result<(), AllocError>
+    ensures { OnOk result (spots.new.items ≡ spots.old.items ++ Lines.operand_spots node 0 count) }
 {
-    let mut spots = Vec::new(alloc);
     for position in 0..count {
         spots.push(Spot::Operand { node, position })?;
     }
-    Ok(spots)
+    Ok(())
 }
 
-/// The spots of the tokens that an activity takes, in order.
-pub fn spots_of<A: Allocator>(alloc: A, shape: Shape) -> Result<Vec<Spot, A>, AllocError>
-    ensures { IfOk result (λ v. v.items ≡ Lines.spots_in shape) }
+/// Lists the spots of the tokens that an activity takes, in order, in place of what the list held.
+pub fn list_spots<A: Allocator>(spots: &mut Vec<Spot, A>, shape: Shape) -> Result<(), AllocError>
+    ensures { OnOk result (spots.new.items ≡ Lines.spots_in shape) }
 {
+    spots.clear();
     match shape {
-        Shape::Fires { node, count } => operand_spots(alloc, node, count),
+        Shape::Fires { node, count } => push_operands(spots, node, count)?,
         Shape::Gates { node } => {
-            Ok(vec![in alloc;
-                Spot::Operand { node, position: 0 },
-                Spot::Predicate { node },
-            ]?)
+            spots.push(Spot::Operand { node, position: 0 })?;
+            spots.push(Spot::Predicate { node })?;
         }
-        Shape::Passes { node, position } => Ok(vec![in alloc; Spot::Operand { node, position }]?),
-        Shape::Returns { number } | Shape::Outputs { number } => {
-            Ok(vec![in alloc; Spot::Out { number }]?)
-        }
+        Shape::Passes { node, position } => spots.push(Spot::Operand { node, position })?,
+        Shape::Returns { number } | Shape::Outputs { number } => spots.push(Spot::Out { number })?,
         Shape::Turns { number } => {
-            Ok(vec![in alloc; Spot::Flag { number }, Spot::Carried { number }]?)
+            spots.push(Spot::Flag { number })?;
+            spots.push(Spot::Carried { number })?;
         }
     }
+    Ok(())
 }

@@ -13,11 +13,12 @@ use crate::invocations::{Invocation, Invocations, Made};
 use crate::lines::block_at;
 use crate::report::MeanEnd;
 use crate::sending::{Sent, enter, enter_all, send, tell};
-use crate::shapes::{Shape, shape_of, spots_of};
+use crate::shapes::{Shape, list_spots, shape_of};
 use crate::tokens::{Spot, Token};
 use graph_check::Checked;
 use std::alloc::{AllocError, Allocator};
 use std::collections::VecDeque;
+use std::mem;
 use tags::value::Value;
 
 /// The list of tokens has three parts, in this order. A token that was looked at and could not act goes behind.
@@ -32,6 +33,14 @@ pub struct State<A: Allocator> {
     pub deferred: Vec<Token, A>,
     pub cells: Vec<Option<Value>, A>,
     pub outputs: Vec<Option<Value>, A>,
+    pub spare: Spare<A>,
+}
+
+/// Lists that are used again: of the spots of the last activity, and for the values of the next one.
+#[derive(Drop)]
+pub struct Spare<A: Allocator> {
+    pub spots: Vec<Spot, A>,
+    pub values: Vec<Value, A>,
 }
 
 /// An activity with the values that it took, and what it does.
@@ -58,16 +67,17 @@ fn take_all<'a, A: Allocator + Clone>(
     token: &Token,
     invocation: &Invocation,
     shape: &Shape,
-    spots: &[Spot],
+    spare: &mut Spare<A>,
 ) -> Result<Act<A>, AllocError>
     requires few { total_of checked.now.arrays ≤ 65536 }
-    requires spots { spots.now ≡ spots_in shape.now }
+    requires spots { spare.old.spots.items ≡ spots_in shape.now }
     requires never_fails { Running.join_all checked.now waiting.old.items token.now invocation.now shape.now ≢ Fails }
     ensures { IfOk result (λ act. Running.join_all checked.now waiting.old.items token.now invocation.now shape.now ≡ Joins waiting.new.items act.values.items act.deed) }
 {
-    let alloc = waiting.allocator().clone()?;
-    let values = take_out(alloc, waiting, token, spots)?;
-    if values.len() != spots.len() {
+    let none = Vec::new(waiting.allocator().clone()?);
+    let values = mem::replace(&mut spare.values, none);
+    let values = take_out(values, waiting, token, &spare.spots)?;
+    if values.len() != spare.spots.len() {
         unreachable!()
     }
     match deed_of(checked, token.context, *invocation, *shape, &values) {
@@ -83,6 +93,7 @@ fn join_for<'a, A: Allocator + Clone>(
     token: &Token,
     invocation: &Invocation,
     shape: &Shape,
+    spare: &mut Spare<A>,
 ) -> Result<Option<Act<A>>, AllocError>
     requires few { total_of checked.now.arrays ≤ 65536 }
     requires never_fails { Running.join_shape checked.now waiting.old.items token.now invocation.now (Some shape.now) ≢ Fails }
@@ -90,9 +101,9 @@ fn join_for<'a, A: Allocator + Clone>(
         ((Running.join_shape checked.now waiting.old.items token.now invocation.now (Some shape.now) ≡ Alone) × (waiting.new.items ≡ waiting.old.items ++ token.now ∷ []))
         (λ act. Running.join_shape checked.now waiting.old.items token.now invocation.now (Some shape.now) ≡ Joins waiting.new.items act.values.items act.deed)) }
 {
-    let spots = spots_of(waiting.allocator().clone()?, *shape)?;
-    if all_there(waiting, token, &spots) {
-        let act = take_all(checked, waiting, token, invocation, shape, &spots)?;
+    list_spots(&mut spare.spots, *shape)?;
+    if all_there(waiting, token, &spare.spots) {
+        let act = take_all(checked, waiting, token, invocation, shape, spare)?;
         return Ok(Some(act));
     }
     waiting.push(*token)?;
@@ -106,6 +117,7 @@ fn join<'a, A: Allocator + Clone>(
     invocations: &Invocations<A>,
     waiting: &mut Vec<Token, A>,
     token: &Token,
+    spare: &mut Spare<A>,
 ) -> Result<Option<Act<A>>, AllocError>
     requires few { total_of checked.now.arrays ≤ 65536 }
     requires never_fails { join_of checked.now invocations.now waiting.old.items token.now ≢ Fails }
@@ -115,7 +127,7 @@ fn join<'a, A: Allocator + Clone>(
 {
     if let Some(invocation) = invocations.get(token.context) {
         if let Some(shape) = shape_of(checked, invocation, token.spot) {
-            return join_for(checked, waiting, token, &invocation, &shape);
+            return join_for(checked, waiting, token, &invocation, &shape, spare);
         }
     }
     waiting.push(*token)?;
@@ -166,6 +178,7 @@ pub fn join_among<'a, A: Allocator + Clone>(
     invocations: &Invocations<A>,
     rows: &mut Vec<Row<A>, A>,
     token: &Token,
+    spare: &mut Spare<A>,
 ) -> Result<Option<Act<A>>, AllocError>
     requires few { total_of checked.now.arrays ≤ 65536 }
     requires never_fails { join_of checked.now invocations.now (rows_of (map (λ v. v.items) rows.old.items) token.now.context) token.now ≢ Fails }
@@ -177,7 +190,7 @@ pub fn join_among<'a, A: Allocator + Clone>(
         (λ act. (join_of checked.now invocations.now row token.now ≡ Joins (new token.now.context) act.values.items act.deed) × (with_row old token.now.context (new token.now.context) ≡ new))) }
 {
     reach(rows, token.context)?;
-    join(checked, invocations, &mut rows[token.context], token)
+    join(checked, invocations, &mut rows[token.context], token, spare)
 }
 
 /// The first activity of the first token in the list that can act.
@@ -194,7 +207,9 @@ pub fn next_act<'a, A: Allocator + Clone>(
         IfOk result (λ r. MatchResult r (λ act. next_among checked.now old from ≡ Goes new to act.values.items act.deed) (λ e. next_among checked.now old from ≡ Stays new e)) }
 {
     while let Some(token) = state.fresh.pop_front() {
-        if let Some(act) = join_among(checked, &state.invocations, &mut state.waiting, &token)? {
+        let waiting = &mut state.waiting;
+        let spare = &mut state.spare;
+        if let Some(act) = join_among(checked, &state.invocations, waiting, &token, spare)? {
             match ask(&state.cells, &act.deed) {
                 Gate::Free => return Ok(Ok(act)),
                 Gate::Defers => state.deferred.push(token)?,

@@ -26,7 +26,9 @@ fn gather<'a, A: Allocator + Clone>(
 {
     let mut acts = Vec::new(state.waiting.allocator().clone()?);
     while let Some(token) = state.fresh.pop_front() {
-        if let Some(act) = join_among(checked, &state.invocations, &mut state.waiting, &token)? {
+        let waiting = &mut state.waiting;
+        let spare = &mut state.spare;
+        if let Some(act) = join_among(checked, &state.invocations, waiting, &token, spare)? {
             match ask(&state.cells, &act.deed) {
                 Gate::Free => acts.push(act)?,
                 Gate::Defers => state.deferred.push(token)?,

@@ -5,7 +5,7 @@ use Rattle.lemmas.proofs.Lists.{same_head, same_tail}
 use Rattle.tags.specs.declared.token.Token.{Token}
 use Rattle.semantics.specs.Machine.{Events}
 use Rattle.rounds.specs.Turns.{by}
-use Rattle.law_free_runs.specs.Blocks.{Block, by_element}
+use Rattle.law_linearization.specs.History.{Block, by_element}
 use Rattle.ordering.specs.declared.log.Counts.{Counts}
 use Rattle.ordering.specs.declared.rest.Rest.{Rest}
 use Rattle.ordering.specs.Logs.{taken_in}

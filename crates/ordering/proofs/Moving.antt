@@ -9,8 +9,8 @@ use Rattle.lemmas.proofs.Lists.{same_head, same_tail}
 use Rattle.tags.specs.declared.token.Token.{Token}
 use Rattle.tags.specs.Addresses.{element_of}
 use Rattle.semantics.specs.Machine.{Events}
-use Rattle.law_free_runs.specs.Blocks.{Block, by_element, events_in, blocks_by, if_by, LeavesTokens}
-use Rattle.law_free_runs.proofs.Reordering.{behind, takes_first, first_other, first_own}
+use Rattle.law_linearization.specs.History.{Block, by_element, events_in, blocks_by, if_by, LeavesTokens}
+use Rattle.law_linearization.proofs.HistoryReordering.{behind, takes_first, first_other, first_own}
 use Rattle.ordering.specs.Rests.{with_spent, AreOwn, SameOthers, Leads}
 
 abbrev Tokens : Type 0

@@ -6,10 +6,10 @@ use Rattle.lemmas.proofs.SliceGet.{get_some}
 use Rattle.lemmas.proofs.Bools.{by_equality}
 use Rattle.tags.specs.declared.token.Token.{Token}
 use Rattle.semantics.specs.Machine.{Events}
-use Rattle.law_free_runs.specs.Blocks.{Block, events_in, blocks_by, entry_of, LeavesTokens, AreBelow}
-use Rattle.law_free_runs.proofs.Running.{leaves_same, by_same}
-use Rattle.law_free_runs.proofs.Weaving.{all_below}
-use Rattle.law_free_runs.proofs.Reordering.{first_other}
+use Rattle.law_linearization.specs.History.{Block, events_in, blocks_by, entry_of, LeavesTokens, AreBelow}
+use Rattle.law_linearization.proofs.HistoryRunning.{leaves_same, by_same}
+use Rattle.law_linearization.proofs.HistoryWeaving.{all_below}
+use Rattle.law_linearization.proofs.HistoryReordering.{first_other}
 use Rattle.ordering.specs.declared.log.Counts.{Counts}
 use Rattle.ordering.specs.declared.log.BlockLog.{BlockLog}
 use Rattle.ordering.specs.declared.rest.Rest.{Rest}

@@ -6,7 +6,7 @@ use Rattle.std.proofs.lemmas.List.{length-map}
 use Rattle.std.proofs.lemmas.List.Elements.{All-head, All-tail}
 use Rattle.tags.specs.declared.token.Token.{Token}
 use Rattle.rounds.specs.Turns.{by}
-use Rattle.law_free_runs.specs.Blocks.{Act, Block, by_element}
+use Rattle.law_linearization.specs.History.{Act, Block, by_element}
 use Rattle.ordering.specs.declared.log.Counts.{Counts}
 use Rattle.ordering.specs.declared.rest.Rest.{Rest}
 use Rattle.ordering.specs.Noted.{Noted}

@@ -2,7 +2,7 @@
 use Rattle.std.specs.Prelude.{◌≡◌, List, [], ◌++◌, map, length, All}
 use Rattle.std.specs.List.{flat_map}
 use Rattle.tags.specs.declared.token.Token.{Token}
-use Rattle.law_free_runs.specs.Blocks.{Act, Block}
+use Rattle.law_linearization.specs.History.{Act, Block}
 use Rattle.ordering.specs.declared.log.Counts.{Counts}
 use Rattle.ordering.specs.Noted.{Noted}
 

@@ -2,7 +2,7 @@
 use Rattle.std.specs.Prelude.{◌≡◌, ℕ, ◌≤◌, List, [], ◌++◌, length, sum_by, slice_get, Some}
 use Rattle.tags.specs.declared.token.Token.{Token}
 use Rattle.semantics.specs.Machine.{Events}
-use Rattle.law_free_runs.specs.Blocks.{Block, events_in, blocks_by, LeavesTokens, AreBelow}
+use Rattle.law_linearization.specs.History.{Block, events_in, blocks_by, LeavesTokens, AreBelow}
 use Rattle.ordering.specs.declared.log.BlockLog.{BlockLog}
 use Rattle.ordering.specs.declared.rest.Rest.{Rest}
 use Rattle.ordering.specs.Noted.{noted_in}

@@ -3,7 +3,7 @@ use Rattle.std.specs.Prelude.{◌≡◌, ◌≢◌, ℕ, ◌+◌, ◌<◌, List,
 use Rattle.tags.specs.declared.token.Token.{Token}
 use Rattle.tags.specs.Addresses.{element_of}
 use Rattle.semantics.specs.Machine.{Events}
-use Rattle.law_free_runs.specs.Blocks.{Block, events_in, blocks_by, LeavesTokens}
+use Rattle.law_linearization.specs.History.{Block, events_in, blocks_by, LeavesTokens}
 use Rattle.ordering.specs.declared.log.Counts.{Counts}
 use Rattle.ordering.specs.declared.rest.Rest.{Rest}
 use Rattle.ordering.specs.Logs.{taken_in}

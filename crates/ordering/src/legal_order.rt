@@ -2,7 +2,7 @@
 
 ghost use Rattle.std.specs.Prelude.{◌≡◌, ℕ, ◌<◌, ◌^◌, List, length, slice_get, Some, IsPermutation, OnOk, IfOk, true, false};
 ghost use Rattle.tags.specs.declared.token.Token.{Token};
-ghost use Rattle.law_free_runs.specs.Blocks.{Block};
+ghost use Rattle.law_linearization.specs.History.{Block};
 ghost use Rattle.ordering.specs.declared.rest.Rest.{Rest};
 ghost use Rattle.ordering.specs.Pools.{amount};
 ghost use Rattle.ordering.specs.Rests.{IsStuck};

@@ -3,7 +3,7 @@
 ghost use Rattle.std.specs.Prelude.{◌≡◌, ℕ, ◌+◌, ◌<◌, ◌≤◌, ◌++◌, List, length, take, drop, OnOk, IfOk, true, false};
 ghost use Rattle.tags.specs.declared.token.Token.{Token};
 ghost use Rattle.rounds.specs.Turns.{by};
-ghost use Rattle.law_free_runs.specs.Blocks.{Block};
+ghost use Rattle.law_linearization.specs.History.{Block};
 ghost use Rattle.ordering.specs.Pools.{amount, all_copies};
 ghost use Rattle.ordering.specs.Rests.{first_spent, IsWhole, StandsFor, Holds, TakesNeeded, GoesOn, IsStuck};
 

@@ -1,11 +1,12 @@
 -- What is told on standard error.
-use Rattle.std.specs.Prelude.{◌≡◌, ℕ, List, ◌++◌, Option, Some, None, IsSomeAnd}
+use Rattle.std.specs.Prelude.{ℕ, List, ◌++◌, Option, Some, None}
 use Rattle.std.specs.Io.KnownBytes.{Keeps, Appends}
+use Rattle.outcomes.specs.declared.outcome.Outcome.{Outcome}
 use Rattle.process.specs.declared.telling.Told.{Told}
 
--- what may be told of words, of an input, if it was kept, and of an output: a text, or nothing
+-- what may be told of words, of an input, if it was kept, and of what came of them, where that was written whole: a text, or nothing
 abbrev pub Telling : Type 1
-Telling = List (List ℕ) → Option (List ℕ) → List ℕ → Option (List ℕ) → Type 0
+Telling = List (List ℕ) → Option (List ℕ) → Option Outcome → Option (List ℕ) → Type 0
 
 -- Standard error holds what it held before, and then the text that explains the run; a beginning of that after a fault; else nothing more.
 abbrev pub Speaks : (Option (List ℕ) → Type 0) → Option (List ℕ) → Option (List ℕ) → Told → Type 0
@@ -13,7 +14,3 @@ Speaks Explains old new Told.Nothing = Explains None × Keeps old new
 Speaks Explains old new Told.Hint = (text : List ℕ) × Explains (Some text) × Appends old new text
 Speaks Explains old new Told.Beginning = (front : List ℕ) × (rest : List ℕ) × Explains (Some (front ++ rest)) × Appends old new front
 Speaks Explains old new Told.Unknown = Keeps old new
-
--- The output that is explained is this one. Of an output that was not kept nothing is told.
-abbrev pub Tells : Telling → List (List ℕ) → Option (List ℕ) → Option (List ℕ) → Option (List ℕ) → Option (List ℕ) → Told → Type 0
-Tells tells words input output old new told = Speaks (λ text. IsSomeAnd output (λ o. tells words input o text)) old new told

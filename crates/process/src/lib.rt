@@ -10,12 +10,14 @@ ghost use Rattle.std.specs.Prelude.{◌≡◌, IfOk, MatchResult, drop, map};
 ghost use Rattle.std.specs.Io.KnownBytes.{Keeps};
 ghost use Rattle.std.specs.IoError.{error_kind};
 ghost use Rattle.std.specs.declared.io.ErrorKind.{ErrorKind};
-ghost use Rattle.process.specs.Process.{Ends, Wants};
+ghost use Rattle.hints.specs.Hints.{wants_hint};
+ghost use Rattle.process.specs.Process.{Ends, IsWanted, exits};
 ghost use Rattle.process.specs.Hinted.{tells_hint};
 
 use answering::answer;
 pub use explaining::{Explain, Hints};
-use keeping::{KeepingReader, KeepingWriter, Start};
+use keeping::{KeepingReader, Start};
+use outcomes::Outcome;
 use std::alloc::Global;
 use std::convert::AsStr;
 use std::io::{self, BufWriter, Read, Write};
@@ -28,6 +30,8 @@ use telling::tell;
 /// What a process leaves.
 #[derive(Drop)]
 pub struct Ended<I, W> {
+    /// What came of the words. `None` where a write failed.
+    pub outcome: Option<Outcome>,
     /// The exit status.
     pub status: u8,
     /// What was told on standard error.
@@ -38,7 +42,20 @@ pub struct Ended<I, W> {
     pub writer: W,
 }
 
-/// Runs the process. Keeping begins with this reader and this writer.
+/// The exit status of a failed write.
+const FAILED: u8 = 1;
+
+/// The exit status for what came of the words.
+fn exit_status(outcome: Option<Outcome>) -> u8
+    ensures { result ≡ exits outcome }
+{
+    match outcome {
+        Some(outcome) => outcome.status(),
+        None => FAILED,
+    }
+}
+
+/// Runs the process. Keeping begins with this reader.
 fn run_from<
     B: Start,
     X: Explain,
@@ -56,25 +73,23 @@ fn run_from<
     alloc: Global,
     rt: &R,
 ) -> io::Result<Ended<I, W>>
-    requires remaining { B.remaining ≡ I.remaining reader }
-    requires contents { B.contents ≡ W.contents writer }
+    requires { B.remaining ≡ I.remaining reader }
     ensures { MatchResult result
-        (λ e. Ends X.tells (map S.text (drop 1 words.now)) (I.remaining reader) (I.remaining e.reader) (W.contents writer) (W.contents e.writer) (E.contents errors.old) (E.contents errors.new) e.status e.told)
+        (λ e. Ends X.tells (map S.text (drop 1 words.now)) (I.remaining reader) (I.remaining e.reader) (W.contents writer) (W.contents e.writer) (E.contents errors.old) (E.contents errors.new) e.outcome e.status e.told)
         (λ e. (error_kind e ≡ ErrorKind.OutOfMemory) × Keeps (E.contents errors.old) (E.contents errors.new)) }
 {
     let mut reader: KeepingReader<I, Global, B> = KeepingReader::new(alloc, reader);
-    let writer: KeepingWriter<W, Global, B> = KeepingWriter::new(alloc, writer);
     let mut writer = BufWriter::new(alloc, writer)?;
-    let status = answer(words, &mut reader, &mut writer, alloc, rt);
+    let outcome = answer(words, &mut reader, &mut writer, alloc, rt);
     let (writer, _unwritten) = writer.into_parts();
     let input = reader.kept();
-    let output = writer.kept();
-    let told = tell(explainer, alloc, words, input, output, errors);
+    let told = tell(explainer, alloc, words, input, outcome, errors);
     Ok(Ended {
-        status,
+        outcome,
+        status: exit_status(outcome),
         told,
         reader: reader.into_inner(),
-        writer: writer.into_inner(),
+        writer,
     })
 }
 
@@ -97,7 +112,7 @@ pub fn run_explained<
     rt: &R,
 ) -> io::Result<Ended<I, W>>
     ensures { MatchResult result
-        (λ e. Ends X.tells (map S.text (drop 1 words.now)) (I.remaining reader) (I.remaining e.reader) (W.contents writer) (W.contents e.writer) (E.contents errors.old) (E.contents errors.new) e.status e.told)
+        (λ e. Ends X.tells (map S.text (drop 1 words.now)) (I.remaining reader) (I.remaining e.reader) (W.contents writer) (W.contents e.writer) (E.contents errors.old) (E.contents errors.new) e.outcome e.status e.told)
         (λ e. (error_kind e ≡ ErrorKind.OutOfMemory) × Keeps (E.contents errors.old) (E.contents errors.new)) }
 {
     run_from::<Brand, X, S, I, W, E, R>(words, reader, writer, errors, explainer, alloc, rt)
@@ -115,9 +130,9 @@ pub fn run_process<S: AsStr, I: Read + Drop, W: Write + Drop, E: Write, R: Threa
     rt: &R,
 ) -> io::Result<Ended<I, W>>
     ensures ends { MatchResult result
-        (λ e. Ends tells_hint (map S.text (drop 1 words.now)) (I.remaining reader) (I.remaining e.reader) (W.contents writer) (W.contents e.writer) (E.contents errors.old) (E.contents errors.new) e.status e.told)
+        (λ e. Ends tells_hint (map S.text (drop 1 words.now)) (I.remaining reader) (I.remaining e.reader) (W.contents writer) (W.contents e.writer) (E.contents errors.old) (E.contents errors.new) e.outcome e.status e.told)
         (λ e. (error_kind e ≡ ErrorKind.OutOfMemory) × Keeps (E.contents errors.old) (E.contents errors.new)) }
-    ensures wants { IfOk result (λ e. Wants (map S.text (drop 1 words.now)) (W.contents writer) (W.contents e.writer) e.told) }
+    ensures wants { IfOk result (λ e. IsWanted (wants_hint e.outcome) e.told) }
 {
     run_explained(words, reader, writer, errors, &Hints, alloc, rt)
 }

@@ -1,9 +1,10 @@
 //! What is told on standard error.
 
-ghost use Rattle.std.specs.Prelude.{◌≡◌, IfSome, drop, map, option_map};
-ghost use Rattle.process.specs.Told.{Tells};
+ghost use Rattle.std.specs.Prelude.{◌≡◌, drop, map, option_map};
+ghost use Rattle.process.specs.Told.{Speaks};
 
 use crate::explaining::Explain;
+use outcomes::Outcome;
 use std::alloc::Global;
 use std::convert::AsStr;
 use std::io::Write;
@@ -21,21 +22,18 @@ pub enum Told {
     Unknown,
 }
 
-/// Tells what explains a run with these words, this input and this output, as far as these were kept.
+/// Tells what explains a run with these words and this input, if that was kept, of which this came.
 pub fn tell<X: Explain, S: AsStr, E: Write>(
     explainer: &X,
     alloc: Global,
     words: &[S],
     input: Option<&[u8]>,
-    output: Option<&[u8]>,
+    outcome: Option<Outcome>,
     errors: &mut E,
 ) -> Told
-    ensures { Tells X.tells (map S.text (drop 1 words.now)) (option_map (λ i. i.now) input.entry) (option_map (λ o. o.now) output.entry) (E.contents errors.old) (E.contents errors.new) result }
+    ensures { Speaks (X.tells (map S.text (drop 1 words.now)) (option_map (λ i. i.now) input.entry) outcome) (E.contents errors.old) (E.contents errors.new) result }
 {
-    let Some(output) = output else {
-        return Told::Unknown;
-    };
-    match explainer.explain(alloc, words, input, output) {
+    match explainer.explain(alloc, words, input, outcome) {
         Ok(Some(hint)) => match hint.write(errors) {
             Ok(()) => Told::Hint,
             Err(_fault) => Told::Beginning,

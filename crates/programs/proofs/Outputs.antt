@@ -6,9 +6,9 @@ use Rattle.tags.specs.declared.value.Origin.{Origin}
 use Rattle.semantics.specs.Graph.{Block, Graph, flow_of}
 use Rattle.semantics.specs.WellFormed.{WellFormed}
 use Rattle.semantics.specs.Meaning.{State, Activity, Run, AtRest, start}
-use Rattle.law_determinacy.specs.Outcome.{AreInputsOf, NoClash}
-use Rattle.law_values.specs.Settled.{NoneWaits}
-use Rattle.law_values.proofs.Theorem.{runs_at_rest}
+use Rattle.law_confluence.specs.Outcome.{AreInputsOf, NoClash}
+use Rattle.law_confluence.specs.EquationsSettled.{NoneWaits}
+use Rattle.law_confluence.proofs.Equations.{runs_at_rest}
 use Rattle.source.specs.Tree.{Program}
 use Rattle.source.specs.Outside.{bare}
 use Rattle.source.specs.Rules.{main_name, written_or_one}
@@ -17,11 +17,11 @@ use Rattle.source.specs.Lowered.{turn_site, function_scope}
 use Rattle.source.specs.Theorem.{world}
 use Rattle.source.proofs.Counted.{main_counts}
 use Rattle.source.proofs.Counting.{body_count}
-use Rattle.law_source.specs.Theorem.{IsLoweredText}
-use Rattle.law_source.proofs.MainStands.{each_function_good, graph_is, main_spot, main_is, block}
-use Rattle.law_source.proofs.OriginsTold.{origins_are_told}
-use Rattle.law_source.proofs.Placed.{places_from_origins}
-use Rattle.law_source.proofs.Texts.{tokens_rise, spellings_differ}
+use Rattle.law_language.specs.MeansTheorem.{IsLoweredText}
+use Rattle.law_language.proofs.MeansMainStands.{each_function_good, graph_is, main_spot, main_is, block}
+use Rattle.law_language.proofs.MeansOriginsTold.{origins_are_told}
+use Rattle.law_language.proofs.MeansPlaced.{places_from_origins}
+use Rattle.law_language.proofs.MeansTexts.{tokens_rise, spellings_differ}
 
 module _ (text : List ℕ) (p : Program) (g : Graph) (origin : ℕ → Origin) (low : IsLoweredText text p g origin) (well : WellFormed g)
     (inputs : List ℤ) (count : AreInputsOf g inputs) (run : List Activity) (s : State) (r : Run (flow_of g) (start inputs) run s)

@@ -10,13 +10,13 @@ use Rattle.semantics.specs.Text.{text_of}
 use Rattle.schedule.specs.declared.config.Config.{Config}
 use Rattle.schedule.specs.Unlisted.{with_events}
 use Rattle.command_line.specs.declared.Mode.{Mode}
-use Rattle.law_values.proofs.NoneWaits.{none_waits}
+use Rattle.law_confluence.proofs.EquationsNoneWaits.{none_waits}
 use Rattle.source.specs.Tokens.{program_of}
 use Rattle.source.specs.Tree.{Program}
 use Rattle.source.specs.Lowered.{origin_of}
 use Rattle.source.specs.Theorem.{RestsWell, Computes}
-use Rattle.law_source.specs.Theorem.{IsLoweredText}
-use Rattle.law_source.proofs.Theorem.{texts_keep_meaning}
+use Rattle.law_language.specs.MeansTheorem.{IsLoweredText}
+use Rattle.law_language.proofs.MeansTheorem.{texts_keep_meaning}
 use Rattle.lowered_text.specs.Lowers.{Lowers}
 use Rattle.driver.specs.Compiled.{flow_outputs, outputs_in}
 use Rattle.driver.specs.Headline.{TellsOf, TellsTruthIn, TellsQuietly}

@@ -6,7 +6,7 @@ use Rattle.operators.specs.Values.{Indexed, Place, Outside}
 use Rattle.semantics.specs.Graph.{Graph, flow_of}
 use Rattle.semantics.specs.Meaning as Meaning
 use Rattle.semantics.specs.Meaning.{State}
-use Rattle.law_determinacy.specs.Outcome.{AreInputsOf}
+use Rattle.law_confluence.specs.Outcome.{AreInputsOf}
 use Rattle.source.specs.Tree.{Expr, Exprs, Body, Turn, Program}
 use Rattle.source.specs.Evaluates.{World, Env, Stores, place_in, Evaluates, EvaluatesAll, Runs, Turns, number, named, bracket, prefix, infix_, fetch, store, call, if_true, if_false, loop, one, more, lets, does, gives, chain, leaves, goes, ends, again}
 use Rattle.source.specs.Lowered.{origin_of}

@@ -14,7 +14,8 @@ use Rattle.semantics.specs.Rule.{Outcome, Becomes, Excluded}
 use Rattle.semantics.specs.Machine.{CellState, Vacant, Full, Deferred, Store, Happens, Fires, Fetches, Stores, Requests, Releases, Hosts, outputs_of}
 use Rattle.semantics.specs.Machine.{slot_used, with_slot, with_slot_in, with_cell, with_requests, with_out, answer}
 use Rattle.semantics.proofs.Stores.{slot_filled}
-use Rattle.replay.specs.Books.{changed, change_of, slot_change, host_change, readers_of, IsInOrder}
+use Rattle.frame_order.specs.InOrder.{IsInOrder}
+use Rattle.replay.specs.Books.{changed, change_of, slot_change, host_change, readers_of}
 
 -- an instruction: its slot has what it was set to
 fired : (s n : Store) (f : ℕ) (r : Option ℕ) (v : SlotState) → n ≡ with_slot_in s f r v → n ≡ changed (slot_change n f r) s

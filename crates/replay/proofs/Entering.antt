@@ -17,20 +17,19 @@ use Rattle.tags.specs.declared.token.Token.{Token}
 use Rattle.tags.specs.declared.slot.SlotState.{SlotState}
 use Rattle.semantics.specs.Program.{Program, instr_at}
 use Rattle.semantics.specs.Machine.{Store, Size, Event, Happens, slot_in, slot_used, outputs_of}
-use Rattle.frame_manager.specs.Managed.{Managed}
-use Rattle.frame_manager.specs.Answered.{request_tokens, release_tokens}
-use Rattle.element.specs.Changed.{IsRequested, IsReleased}
-use Rattle.element.specs.Parts.{Shape, Part, Manages}
+use Rattle.element.specs.Parts.{Shape, Part}
 use Rattle.element.specs.Held.{LaneView, is_here, here, elsewhere}
 use Rattle.element.specs.Acts.{ServesFirst}
 use Rattle.element.specs.Steps.{Does, IsAfter, place_of}
+use Rattle.frame_order.specs.InOrder.{IsInOrder}
+use Rattle.frame_order.proofs.InOrder.{part_in_order}
 use Rattle.replay.specs.declared.moment.Deed.TheVariants as deed
 use Rattle.replay.specs.declared.entry.Change.{Change}
 use Rattle.replay.specs.declared.entry.Change.TheVariants as change
 use Rattle.replay.specs.Views.{EntryView}
 use Rattle.replay.specs.declared.extent.Extent.{Extent}
 use Rattle.replay.specs.Moments.{at_slot, deed_of}
-use Rattle.replay.specs.Books.{Book, IsEntry, IsInOrder, change_of, changed, machine_of, slot_change}
+use Rattle.replay.specs.Books.{Book, IsEntry, change_of, changed, machine_of, slot_change}
 use Rattle.replay.specs.Entering.{IsWhole, Records, StateIs, place_used, place_in, state_at, deed_by, change_by, place_change}
 use Rattle.replay.proofs.Complete.{complete}
 
@@ -99,40 +98,6 @@ change_is p n (To.Release f) w [] = refl
 change_is p n (To.Release f) w (t ∷ ts) = ap (λ (b : Bool). if b then change.Free f else change.Handed f) (not_none (length ts))
 change_is p n (To.Host j) w made = refl
 
--- FRAMES IN ORDER
-requested : (h k : Option Managed) (s : Store) (c : Cont) (given : Option ℕ) (made : List Token) (n : Store) → Manages h s → made ≡ request_tokens c given
-    → IsRequested h c (Ok given) k → IsInOrder s To.Manager made n
-requested None k s c given made n holds is r = absurd holds
-requested (Some m) None s c given made n holds is r = absurd r
-requested (Some m) (Some q) s c None made n holds is r = subst (λ (ts : List Token). IsInOrder s To.Manager ts n) (sym is) tt
-requested (Some m) (Some q) s c (Some f) made n holds is r = subst (λ (ts : List Token). IsInOrder s To.Manager ts n) (sym is)
-    (λ g h e low. let same : g ≡ f = sym (carried f g e) in holds.out h ∙ r.0.0.least h (subst (λ (x : ℕ). h < x) same low))
-  where
-    frame_in : Word → ℕ
-    frame_in (Word.Frame x) = x
-    frame_in w = 0
-
-    carried : (x y : ℕ) → Word.Frame x ≡ Word.Frame y → x ≡ y
-    carried x y e = ap frame_in e
-
-released : (h k : Option Managed) (s n : Store) (f : ℕ) (given : Option (Cont × ℕ)) (made : List Token) → Manages h s → Manages k n
-    → made ≡ release_tokens given → IsReleased h f (Ok given) k → IsInOrder s (To.Release f) made n
-released None k s n f given made holds after is r = absurd holds
-released (Some m) None s n f given made holds after is r = absurd after
-released (Some m) (Some q) s n f None made holds after is r = subst (λ (ts : List Token). IsInOrder s (To.Release f) ts n) (sym is) tt
-released (Some m) (Some q) s n f (Some g) made holds after is r = subst (λ (ts : List Token). IsInOrder s (To.Release f) ts n) (sym is)
-    (g.0, holds.requests ∙ r.0.2 ∙ ap (λ (l : List Cont). g.0 ∷ l) (sym after.requests))
-
-in_order : (p : Program) (total : ℕ) (h k : Part) (s n : Store) (to : To) (w : Word) (made : List Token) → Manages h.manager s → Manages k.manager n
-    → ServesFirst h to w made k → Happens p total s to w made n → IsInOrder s to made n
-in_order p total h k s n To.Manager (Word.Back c) made holds after first happens = requested h.manager k.manager s c first.0 made n holds first.1 first.2
-in_order p total h k s n To.Manager w made holds after first happens = absurd happens
-in_order p total h k s n (To.Release f) w made holds after first happens = released h.manager k.manager s n f first.0 made holds after first.1 first.2
-in_order p total h k s n (To.Instr f ip port) w made holds after first happens = tt
-in_order p total h k s n (To.Fetch x) w made holds after first happens = tt
-in_order p total h k s n (To.Store x v) w made holds after first happens = tt
-in_order p total h k s n (To.Host j) w made holds after first happens = tt
-
 -- AN EVENT. The token at a place of the lane's was taken; these are the states of its slot before and after it.
 module _ (p : Program) (x : Extent) (l k : LaneView) (whole : IsWhole p x l) (z : Size) (e at : ℕ) (t : Token) (b : Book) (numbers : List ℕ) (next : ℕ)
     (frames : z.elements * z.frames ≡ x.frames) (addressed : element_of z.elements t.to ≡ e) (records : Records l numbers next b)
@@ -147,7 +112,7 @@ module _ (p : Program) (x : Extent) (l k : LaneView) (whole : IsWhole p x l) (z 
   token_same : does.token ≡ t
   token_same = let both : Some does.token ≡ Some t = sym does.picks.token ∙ ap (λ (i : ℕ). slice_get q i) place_same ∙ there in cc (both)
 
-  queue_is : k.held.queue ≡ remove q at ++ does.made
+  pub queue_is : k.held.queue ≡ remove q at ++ does.made
   queue_is = does.queue ∙ ap (λ (i : ℕ). remove q i ++ here l.held.part.shape does.made) place_same
       ∙ ap (λ (ts : List Token). remove q at ++ ts) (all_here l.held.part.shape whole.elements whole.element does.made)
 
@@ -190,13 +155,10 @@ module _ (p : Program) (x : Extent) (l k : LaneView) (whole : IsWhole p x l) (z 
         (ap (λ (ts : List Token). k.held.queue ++ (ts ++ [])) sent_is ∙ append-nil k.held.queue) came.tokens)) came.event.leaves;
   }
 
-  first_there : k.held.part.shape.element ≡ 0
-  first_there = ap (λ (s : Shape). s.element) does.shape ∙ whole.element
-
   ordered : (made : List Token) → made ≡ does.made → IsInOrder b.store t.to made came.next.store
   ordered made is = subst (λ (ts : List Token). IsInOrder b.store t.to ts came.next.store) (came.makes ∙ sym is)
-      (in_order p (z.elements * z.frames) l.held.part k.held.part b.store came.next.store t.to t.word came.event.made (records.part.manager whole.element)
-      (came.part.manager first_there)
+      (part_in_order p (z.elements * z.frames) l.held.part k.held.part b.store came.next.store t.to t.word came.event.made
+      (subst (λ (u : Token). element_of l.held.part.shape.elements u.to ≡ l.held.part.shape.element) token_same came.event.addressed) does.shape records.part came.part
       (subst (λ (ts : List Token). ServesFirst l.held.part t.to t.word ts k.held.part) (sym came.makes)
       (subst (λ (u : Token). ServesFirst l.held.part u.to u.word does.made k.held.part) token_same does.first)) happens)
 

@@ -4,7 +4,8 @@ use Rattle.std.proofs.Common.{arith, length-take-le, length-drop, get_or-drop, t
 use Rattle.std.specs.Prelude.{All}
 use Rattle.std.specs.List.{range_with_len}
 use Rattle.std.proofs.lemmas.List.{take_more}
-use Rattle.std.proofs.lemmas.List.Elements.{All-nil, All-cons, All-weaker}
+use Rattle.std.proofs.lemmas.List.Elements.{All-nil, All-cons, All-append, All-weaker}
+use Rattle.std.proofs.lemmas.List.FromFn.{length-range_with_len}
 use Rattle.tags.specs.declared.value.Value.TheVariants.{Int}
 use Rattle.tags.specs.declared.token.Port.TheVariants.{Left}
 use Rattle.tags.specs.declared.token.Cont.{Cont}
@@ -108,6 +109,31 @@ start_for p x l whole some first inputs =
     All-weaker (IsNearToken (bounds_at (fixed_of l))) (IsFor (fixed_of l))
     (λ t near. record { near = near; addressed = ap (λ (n : ℕ). element_of n t.to) one ∙ on_first t.to ∙ sym whole.element })
     (start_tokens first inputs) (start_near (bounds_at (fixed_of l)) few first inputs)
+
+-- a lane that receives tokens is whole still
+pub more_whole : (p : Program) (x : Extent) (l k : LaneView) (ts : List Token) → IsWhole p x l → All (IsFor (fixed_of l)) ts → k ≡ with_more l ts → IsWhole p x k
+more_whole p x l k ts whole all is = subst (λ (v : LaneView). IsWhole p x v) (sym is) (record {
+  program = whole.program;
+  element = whole.element;
+  elements = whole.elements;
+  frames = whole.frames;
+  slots = whole.slots;
+  sound = record {
+    part = whole.sound.part;
+    near = All-append (IsNearToken (bounds_at (fixed_of l))) l.held.queue ts whole.sound.near
+        (All-weaker (IsFor (fixed_of l)) (IsNearToken (bounds_at (fixed_of l))) (λ t f. f.near) ts all);
+    addressed = All-append (λ (t : Token). element_of l.held.part.shape.elements t.to ≡ l.held.part.shape.element) l.held.queue ts whole.sound.addressed
+        (All-weaker (IsFor (fixed_of l)) (λ (t : Token). element_of l.held.part.shape.elements t.to ≡ l.held.part.shape.element) (λ t f. f.addressed) ts all);
+    answered = whole.sound.answered;
+  };
+})
+
+-- and each of its tokens has a number
+pub begun_numbered : (numbers more : List ℕ) (q r ts : List Token) (next count : ℕ) → numbers ≡ [] → q ≡ [] → more ≡ numbers ++ range_with_len next count
+    → r ≡ q ++ ts → count ≡ length ts → length more ≡ length r
+begun_numbered numbers more q r ts next count none empty more_is r_is counted =
+    ap (λ (l : List ℕ). length l) (more_is ∙ ap (λ (l : List ℕ). l ++ range_with_len next count) none) ∙ length-range_with_len next count ∙ counted
+    ∙ sym (ap (λ (l : List Token). length l) (r_is ∙ ap (λ (l : List Token). l ++ ts) empty))
 
 -- once it received them, it has what the books have that are opened
 pub opened_records : (p : Program) (l k : LaneView) (inputs : List ℤ) (tokens : List Token) (numbers more : List ℕ) (next after count : ℕ)

@@ -8,3 +8,5 @@ pub mod Complete
 pub mod Same
 pub mod Entering
 pub mod Ledgers
+pub mod Determined
+pub mod Fitting

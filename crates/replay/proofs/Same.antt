@@ -1,7 +1,7 @@
--- Tokens that are found to be equal are one token.
+-- Tokens that are found to be equal are one token, and each is found to be equal to itself.
 use Rattle.std.specs.Prelude.{◌≡◌, ℕ, ℤ, Bool, true, false, ◌&&◌, ◌==◌, IsTrue}
 use Rattle.std.proofs.Common.{refl, sym, ap, ap₂, true≢false}
-use Rattle.std.proofs.lemmas.Bool.{eqb-true}
+use Rattle.std.proofs.lemmas.Bool.{eqb-true, eq-eqb}
 use Rattle.std.specs.Cmp.{signed_Decides}
 use Rattle.tags.specs.declared.token.Token.{Token}
 use Rattle.tags.specs.declared.token.To.{To}
@@ -125,3 +125,48 @@ pub same_exact : (t u : Token) → IsTrue (same t u) → t ≡ u
 same_exact t u e =
     let h = both ((to_eq.ghosts).eq t.to u.to) ((word_eq.ghosts).eq t.word u.word) e in
     ap₂ (λ (x : To) (y : Word). record { to = x; word = y }) (to_exact t.to u.to h.0) (word_exact t.word u.word h.1)
+
+-- EACH IS EQUAL TO ITSELF
+and_true : (a b : Bool) → IsTrue a → IsTrue b → IsTrue (a && b)
+and_true true b e f = f
+and_true false b e f = no e
+
+port_refl : (p : Port) → IsTrue ((port_eq.ghosts).eq p p)
+port_refl Port.Left = refl
+port_refl Port.Right = refl
+
+kind_refl : (k : FaultKind) → IsTrue ((kind_eq.ghosts).eq k k)
+kind_refl FaultKind.Zero = refl
+kind_refl FaultKind.Range = refl
+
+origin_refl : (o : Origin) → IsTrue ((origin_eq.ghosts).eq o o)
+origin_refl Origin.Untold = refl
+origin_refl (Origin.At b n) = and_true (b == b) (n == n) (eq-eqb b b refl) (eq-eqb n n refl)
+
+value_refl : (v : Value) → IsTrue ((value_eq.ghosts).eq v v)
+value_refl (Value.Int z) = (signed_Decides z z).1 refl
+value_refl (Value.Fault k o) = and_true ((kind_eq.ghosts).eq k k) ((origin_eq.ghosts).eq o o) (kind_refl k) (origin_refl o)
+
+placed_refl : (f i : ℕ) (p : Port) → IsTrue ((f == f) && ((i == i) && (port_eq.ghosts).eq p p))
+placed_refl f i p = and_true (f == f) ((i == i) && (port_eq.ghosts).eq p p) (eq-eqb f f refl)
+    (and_true (i == i) ((port_eq.ghosts).eq p p) (eq-eqb i i refl) (port_refl p))
+
+cont_refl : (c : Cont) → IsTrue ((cont_eq.ghosts).eq c c)
+cont_refl (Cont.Frame f i p) = placed_refl f i p
+cont_refl (Cont.Host p) = eq-eqb p p refl
+
+word_refl : (w : Word) → IsTrue ((word_eq.ghosts).eq w w)
+word_refl (Word.Val v) = value_refl v
+word_refl (Word.Frame f) = eq-eqb f f refl
+word_refl (Word.Back c) = cont_refl c
+
+to_refl : (a : To) → IsTrue ((to_eq.ghosts).eq a a)
+to_refl (To.Instr f ip p) = placed_refl f ip p
+to_refl (To.Fetch x) = eq-eqb x x refl
+to_refl (To.Store x v) = and_true (x == x) ((value_eq.ghosts).eq v v) (eq-eqb x x refl) (value_refl v)
+to_refl To.Manager = refl
+to_refl (To.Release f) = eq-eqb f f refl
+to_refl (To.Host p) = eq-eqb p p refl
+
+pub same_refl : (t : Token) → IsTrue (same t t)
+same_refl t = and_true ((to_eq.ghosts).eq t.to t.to) ((word_eq.ghosts).eq t.word t.word) (to_refl t.to) (word_refl t.word)

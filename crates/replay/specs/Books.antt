@@ -1,5 +1,5 @@
 -- The books of a run: of each event the number of the token that it took, what it changed, and the tokens that it made.
-use Rattle.std.specs.Prelude.{◌≡◌, ℕ, ◌+◌, ◌<◌, ℤ, Bool, true, false, nat_lt, List, [], ◌∷◌, ◌++◌, length, drop, remove, Option, Some, None, slice_get, ⊤}
+use Rattle.std.specs.Prelude.{◌≡◌, ℕ, ◌+◌, ℤ, Bool, true, false, nat_lt, List, [], ◌∷◌, ◌++◌, length, drop, remove, Option, Some, None, slice_get}
 use Rattle.std.specs.List.{range_with_len}
 use Rattle.tags.specs.declared.token.Cont.{Cont}
 use Rattle.tags.specs.declared.token.Word.{Word}
@@ -8,6 +8,7 @@ use Rattle.tags.specs.declared.token.Token.{Token}
 use Rattle.semantics.specs.Program.{Program, instr_at}
 use Rattle.semantics.specs.Machine.{CellState, Full, Deferred, Store, Machine, Size, Event, Events, at_start, outputs_of, slot_used, with_slot, with_cell}
 use Rattle.semantics.specs.Machine.{with_out, with_requests, with_output, with_done}
+use Rattle.frame_order.specs.InOrder.{IsInOrder}
 use Rattle.replay.specs.declared.entry.Change.{Change}
 use Rattle.replay.specs.declared.entry.Change.TheVariants as change
 use Rattle.replay.specs.Views.{EntryView, BooksView}
@@ -62,12 +63,6 @@ change_of p new (To.Release f) w [] = change.Free f
 change_of p new (To.Release f) w (t ∷ ts) = change.Handed f
 change_of p new (To.Host j) w made = host_change (nat_lt j (outputs_of p)) j w
 change_of p new to w made = change.Nothing
-
--- THE ORDER OF FRAMES. The free frame of least number goes out, and a frame that comes back goes to the request that has waited longest.
-abbrev pub IsInOrder : Store → To → List Token → Store → Type 0
-IsInOrder old To.Manager (t ∷ ts) new = (f g : ℕ) → t.word ≡ Word.Frame f → g < f → old.out g ≡ true
-IsInOrder old (To.Release f) (t ∷ ts) new = (c : Cont) × (old.requests ≡ c ∷ new.requests)
-IsInOrder old to made new = ⊤
 
 -- THE BOOKS at a moment: the machine's store; the tokens that are on their way, in the order in which they were made, with the number of
 -- each; and the number that the next one gets.

@@ -1,5 +1,5 @@
 -- How the books of a run are kept: on one lane that holds the whole machine.
-use Rattle.std.specs.Prelude.{◌≡◌, ℕ, ◌+◌, ◌*◌, ◌^◌, ◌<◌, ◌≤◌, ◌==◌, nat_lt, if◌then◌else◌, ℤ, List, [], ◌∷◌, length, sum, Option, Some, None, slice_get}
+use Rattle.std.specs.Prelude.{◌≡◌, ℕ, ◌+◌, ◌*◌, ◌^◌, ◌<◌, ◌≤◌, ◌==◌, nat_lt, if◌then◌else◌, ℤ, List, [], ◌∷◌, length, sum, Option, Some, None, slice_get, ⊤}
 use Rattle.tags.specs.declared.token.Port.TheVariants.{Left}
 use Rattle.tags.specs.declared.token.Cont.{Cont}
 use Rattle.tags.specs.declared.token.Word.{Word}
@@ -9,13 +9,16 @@ use Rattle.tags.specs.declared.slot.SlotState.{SlotState}
 use Rattle.tags.specs.declared.slot.SlotState.TheVariants.{Empty}
 use Rattle.semantics.specs.Program.{Program, instr_at, first_of}
 use Rattle.semantics.specs.Rule.{token}
-use Rattle.semantics.specs.Machine.{Store, Size, Events, outputs_of, slot_used, input_tokens}
+use Rattle.semantics.specs.Machine.{Store, Machine, Size, Event, Events, Happens, outputs_of, slot_used, input_tokens}
 use Rattle.element.specs.Parts.{IsPart}
-use Rattle.element.specs.Held.{LaneView}
+use Rattle.element.specs.Held.{LaneView, IsSoundLane}
+use Rattle.frame_order.specs.InOrder.{OrderedRun, IsOrdered}
 use Rattle.element.specs.Openings.{StartsAs}
 use Rattle.element.specs.Steps.{Does}
 use Rattle.replay.specs.declared.moment.Deed.{Deed}
 use Rattle.replay.specs.declared.moment.Deed.TheVariants as deed
+use Rattle.replay.specs.declared.fault.ReplayFault.{ReplayFault}
+use Rattle.replay.specs.declared.fault.ReplayFault.TheVariants.{NotARun, Memory}
 use Rattle.replay.specs.declared.entry.Change.{Change}
 use Rattle.replay.specs.declared.entry.Change.TheVariants as change
 use Rattle.replay.specs.declared.extent.Extent.{Extent}
@@ -23,7 +26,7 @@ use Rattle.replay.specs.declared.slots.Place.{Place}
 use Rattle.replay.specs.declared.ledger.Ledger.{Ledger}
 use Rattle.replay.specs.Moments.{at_slot}
 use Rattle.replay.specs.Views.{EntryView, BooksView}
-use Rattle.replay.specs.Books.{Book, IsEntry, AreEntries, Passed, KeepsBooks, opening, frame_change, host_change}
+use Rattle.replay.specs.Books.{Book, IsEntry, AreEntries, Passed, KeepsBooks, machine_of, opening, frame_change, host_change}
 
 -- The numbers are those of the program and of its machine.
 pub record IsExtent (p : Program) (width : ℕ) (x : Extent) : Type 0 where
@@ -83,13 +86,18 @@ change_by outputs To.Manager w used after made = request_change w (slice_get mad
 change_by outputs (To.Release f) w used after made = if length made == 0 then change.Free f else change.Handed f
 change_by outputs (To.Host j) w used after made = host_change (nat_lt j outputs) j w
 
--- THE LANE is that of the one element of a machine of this extent, which runs the program.
+-- THE LANE is that of the one element of a machine of this extent, which runs the program, and is sound.
 pub record IsWhole (p : Program) (x : Extent) (l : LaneView) : Type 0 where
   pub program : l.program ≡ p
   pub element : l.held.part.shape.element ≡ 0
   pub elements : l.held.part.shape.elements ≡ 1
   pub frames : l.held.part.shape.frames ≡ x.frames
   pub slots : l.held.part.shape.width ≡ x.slots
+  pub sound : IsSoundLane l.program l.held
+
+-- the slot is one of the machine's
+abbrev pub IsThere : Extent → Place → Type 0
+IsThere x y = (y.frame < x.frames) × (y.slot < x.slots)
 
 -- in each machine of which the lane is the part, the slot has this state
 abbrev pub StateIs : LaneView → Option Place → SlotState → Type 0
@@ -120,9 +128,38 @@ Passes p old events changes new = (z : Size) (b : Book) → z.elements ≡ old.e
     → Records old.lane old.numbers.items old.next b
     → (n : Book) × Passed p z b events changes n × Records new.lane new.numbers.items new.next n
 
+-- each of the lane's tokens has its number
+abbrev pub IsNumbered : {C A : Type 0} → Ledger C A → Type 0
+IsNumbered g = length g.numbers.items ≡ length g.lane.held.queue
+
 -- the lane took the token at that place
 abbrev pub Took : LaneView → ℕ → LaneView → Type 0
 Took old at new = (sent : List Token) × Does old.program old.held at [] new.held sent
+
+-- WHAT IS NO RUN. Where the fault is that there is none, this is so.
+abbrev pub Says : ReplayFault → Type 0 → Type 0
+Says NotARun P = P
+Says Memory P = ⊤
+
+-- In no machine of which the lane is the part, a rule lets the token at that place act.
+abbrev pub IsExcluded : LaneView → ℕ → Type 0
+IsExcluded l at = (t : Token) → slice_get l.held.queue at ≡ Some t → (s n : Store) (total : ℕ) (made : List Token) → IsPart l.held.part s
+    → Happens l.program total s t.to t.word made n → ⊥
+
+-- Whatever the books are that the ledger has, there is no such event.
+abbrev pub IsUnfit : {C A : Type 0} → Program → Ledger C A → ℕ × Token → Type 0
+IsUnfit p old ev = (z : Size) (b : Book) → z.elements ≡ old.extent.elements → z.elements * z.frames ≡ old.extent.frames
+    → Records old.lane old.numbers.items old.next b → (m : Machine) → Event p z ev.0 ev.1 (machine_of b) m → ⊥
+
+-- there is no run in order by these events
+abbrev pub AreUnfit : {C A : Type 0} → Program → Ledger C A → Events → Type 0
+AreUnfit p old events = (z : Size) (b : Book) → z.elements ≡ old.extent.elements → z.elements * z.frames ≡ old.extent.frames
+    → Records old.lane old.numbers.items old.next b → (last : Machine) → OrderedRun p z (machine_of b) events last → ⊥
+
+-- No machine of this extent has a run by these events, from the start on these inputs on, in which the free frame of least number goes out, and a
+-- frame that comes back goes to the request that has waited longest.
+abbrev pub HasNoRun : Program → Extent → List ℤ → Events → Type 0
+HasNoRun p x inputs events = (z : Size) → z.elements ≡ x.elements → z.elements * z.frames ≡ x.frames → IsOrdered p z inputs events → ⊥
 
 -- THE START
 abbrev pub start_tokens : ℕ → List ℤ → List Token

@@ -1,10 +1,10 @@
 //! The books of a run.
 
-ghost use Rattle.std.specs.Prelude.{◌≡◌, ◌+◌, ◌*◌, ◌≤◌, length, All, IfOk};
+ghost use Rattle.std.specs.Prelude.{◌≡◌, ◌+◌, ◌*◌, ◌≤◌, ◌++◌, length, All, IfOk, IfErr};
 ghost use Rattle.tags.specs.declared.slot.SlotState.TheVariants.{Empty};
 ghost use Rattle.frame_store.specs.BankViews.{bank_states};
 ghost use Rattle.frame_store.specs.Slots.{all_empty};
-ghost use Rattle.replay.specs.Entering.{IsExtent, IsBlank, IsFreshLane, AreBooks};
+ghost use Rattle.replay.specs.Entering.{IsExtent, IsBlank, IsFreshLane, AreBooks, Says, HasNoRun};
 
 use crate::entry::Books;
 use crate::extent::Extent;
@@ -91,7 +91,8 @@ fn keep_in<C: Instructions, A: Allocator + Clone>(
     requires blank { IsBlank (C.program code.now) ledger }
     requires extent { IsExtent (C.program code.now) (C.width code.now) ledger.extent }
     requires few { length inputs.now ≤ 16 }
-    ensures { IfOk result (AreBooks (C.program code.now) ledger.entry.extent inputs.now earlier.now events.now) }
+    ensures books { IfOk result (AreBooks (C.program code.now) ledger.entry.extent inputs.now earlier.now events.now) }
+    ensures unfit { IfErr result (λ fault. Says fault (HasNoRun (C.program code.now) ledger.entry.extent inputs.now (earlier.now ++ events.now))) }
 {
     let mut ledger = ledger;
     let books = ledger.keep(alloc, code, inputs, earlier, events);
@@ -101,7 +102,7 @@ fn keep_in<C: Instructions, A: Allocator + Clone>(
 
 /// The books of `events` of a run on these inputs, before which there were the events `earlier`. The machine hands out the free frame of least
 /// number, and gives a frame that comes back to the request that has waited longest. What is answered is a run of the machine by these events.
-/// `NotARun` says that an event was not found to fit: nothing else is promised of it. It takes as much memory as the machine, and as the books.
+/// `NotARun` says that no machine of this extent has such a run by them. It takes as much memory as the machine, and as the books.
 pub fn keep_books<C: Instructions, A: Allocator + Clone>(
     alloc: A,
     code: &C,
@@ -112,7 +113,8 @@ pub fn keep_books<C: Instructions, A: Allocator + Clone>(
 ) -> Result<Books<A>, ReplayFault>
     requires extent { IsExtent (C.program code.now) (C.width code.now) extent }
     requires few { length inputs.now ≤ 16 }
-    ensures { IfOk result (AreBooks (C.program code.now) extent inputs.now earlier.now events.now) }
+    ensures books { IfOk result (AreBooks (C.program code.now) extent inputs.now earlier.now events.now) }
+    ensures unfit { IfErr result (λ fault. Says fault (HasNoRun (C.program code.now) extent inputs.now (earlier.now ++ events.now))) }
 {
     let mut store = Store::new(
         alloc.clone()?,

@@ -1,11 +1,12 @@
 //! The books of a run while they are kept.
 
-ghost use Rattle.std.specs.Prelude.{◌≡◌, ◌<◌, ◌≤◌, ◌+◌, ◌++◌, ◌^◌, true, drop, length, slice_get, IfOk, IfSome, OnOk};
+ghost use Rattle.std.specs.Prelude.{◌≡◌, ◌<◌, ◌≤◌, ◌+◌, ◌++◌, ◌^◌, true, false, drop, length, slice_get, IfOk, IfErr, IfSome, IfNone, OnOk, Contains};
 ghost use Rattle.std.specs.List.{range_with_len};
 ghost use Rattle.semantics.specs.Program.{Program};
 ghost use Rattle.replay.specs.Books.{frame_change, host_change};
-ghost use Rattle.element.specs.Held.{fixed_of};
-ghost use Rattle.replay.specs.Entering.{IsExtent, IsWhole, IsBlank, StateIs, Took, Enters, EntersAll, Passes, Begins, AreBooks, start_tokens, place_used, deed_by, change_by};
+ghost use Rattle.element.specs.Held.{fixed_of, IsSoundLane};
+ghost use Rattle.replay.specs.Entering.{IsExtent, IsWhole, IsBlank, IsThere, IsNumbered, StateIs, Took, Enters, EntersAll, Passes, Begins, AreBooks};
+ghost use Rattle.replay.specs.Entering.{Says, IsExcluded, IsUnfit, AreUnfit, HasNoRun, start_tokens, place_used, deed_by, change_by};
 ghost use Rattle.replay.specs.Entering.{place_change, request_change, fetch_change};
 
 use crate::acts::deed_at;
@@ -34,14 +35,16 @@ pub struct Ledger<'m, C: Instructions, A: Allocator> {
 
 // Whether the tokens are equal.
 fn is_same(left: &Token, right: &Token) -> bool
-    ensures { result ≡ true → left.now ≡ right.now }
+    ensures yes { result ≡ true → left.now ≡ right.now }
+    ensures no { result ≡ false → left.now ≡ right.now → ⊥ }
 {
     *left == *right
 }
 
 // The slot that the token's instruction uses, if it uses one.
 fn place_used<C: Instructions>(code: &C, to: &To) -> Option<Place>
-    ensures { result ≡ place_used (C.program code.now) to.now }
+    ensures exact { result ≡ place_used (C.program code.now) to.now }
+    ensures short { IfSome result (λ place. place.slot < C.width code.now) }
 {
     let To::Instr { frame, ip, .. } = *to else {
         return None;
@@ -183,17 +186,18 @@ pub fn start_tokens<A: Allocator>(
     Ok(tokens)
 }
 
-// Gives the next numbers to so many tokens, and says which number comes then.
+// Gives the next numbers to so many tokens, and says which number comes then. An error is that memory was refused, or that there are too many
+// tokens to be numbered.
 fn number_all<A: Allocator>(
     numbers: &mut Vec<u64, A>,
     next: u64,
     count: usize,
-) -> Result<u64, ReplayFault>
+) -> Result<u64, AllocError>
     ensures after { IfOk result (λ after. after ≡ next + count) }
     ensures all { IfOk result (λ after. numbers.new.items ≡ numbers.old.items ++ range_with_len next count) }
 {
     let Some(after) = next.checked_add(count as u64) else {
-        return Err(ReplayFault::Memory);
+        return Err(AllocError);
     };
     for number in next..after {
         numbers.push(number)?;
@@ -206,6 +210,7 @@ impl<'m, C: Instructions, A: Allocator> Ledger<'m, C, A> {
     fn place_of(&self, token: &Token) -> Option<usize>
         ensures there { IfSome result (λ at. slice_get self.now.lane.held.queue at ≡ Some token.now) }
         ensures within { IfSome result (λ at. at < length self.now.lane.held.queue) }
+        ensures none { IfNone result (Contains self.now.lane.held.queue token.now → ⊥) }
     {
         let queue = self.lane.queue();
         for at in 0..queue.len() {
@@ -217,20 +222,15 @@ impl<'m, C: Instructions, A: Allocator> Ledger<'m, C, A> {
         None
     }
 
-    // What the slot holds. An error is that there is no such slot.
-    fn state_at(&self, place: Option<Place>) -> Result<SlotState, ReplayFault>
-        requires { (p : Program) × IsWhole p self.now.extent self.now.lane }
-        ensures { IfOk result (StateIs self.now.lane place) }
+    // What the slot holds. Where there is none it is empty.
+    fn state_at(&self, place: Option<Place>) -> SlotState
+        requires whole { (p : Program) × IsWhole p self.now.extent self.now.lane }
+        requires there { IfSome place (IsThere self.now.extent) }
+        ensures { StateIs self.now.lane place result }
     {
         match place {
-            None => Ok(SlotState::Empty),
-            Some(Place { frame, slot }) => {
-                if frame < self.extent.frames && slot < self.extent.slots {
-                    Ok(self.lane.slot_state(frame, slot))
-                } else {
-                    Err(ReplayFault::NotARun)
-                }
-            }
+            None => SlotState::Empty,
+            Some(Place { frame, slot }) => self.lane.slot_state(frame, slot),
         }
     }
 
@@ -246,33 +246,42 @@ impl<'m, C: Instructions, A: Allocator> Ledger<'m, C, A> {
         Ok(tokens)
     }
 
-    // The lane takes the token at that place.
+    // The lane takes the token at that place. `NotARun` says that a rule excludes the token.
     fn step(&mut self, alloc: &A, at: usize) -> Result<(), ReplayFault>
     where
         A: Clone,
+        requires low { at < length self.old.lane.held.queue }
+        requires sound { IsSoundLane self.old.lane.program self.old.lane.held }
         ensures did { OnOk result (Took self.old.lane at self.new.lane) }
+        ensures excluded { IfErr result (λ fault. Says fault (IsExcluded self.old.lane at)) }
+        ensures sound { IsSoundLane self.new.lane.program self.new.lane.held }
         ensures fixed { fixed_of self.new.lane ≡ fixed_of self.old.lane }
         ensures extent { self.new.extent ≡ self.old.extent }
         ensures numbers { self.new.numbers ≡ self.old.numbers }
         ensures next { self.new.next ≡ self.old.next }
     {
         let mut sent = Vec::new(alloc.clone()?);
-        match self.lane.step(at as u64, &mut sent) {
+        match self.lane.step::<()>(at as u64, &mut sent) {
             Some(Stepped::Did) => Ok(()),
-            Some(Stepped::Memory) => Err(ReplayFault::Memory),
-            _ => Err(ReplayFault::NotARun),
+            Some(Stepped::Idle) => Err(ReplayFault::NotARun),
+            Some(Stepped::Clash { .. }) => Err(ReplayFault::NotARun),
+            Some(Stepped::Stuck { .. }) => Err(ReplayFault::NotARun),
+            Some(Stepped::Memory) | None => Err(ReplayFault::Memory),
         }
     }
 
-    // Enters an event. After an error the ledger is of no use.
+    // Enters an event. `NotARun` says that the machine has no such event. After an error the ledger is of no use.
     fn enter(&mut self, alloc: &A, code: &C, event: &(u32, Token)) -> Result<Entry<A>, ReplayFault>
     where
         A: Clone,
         requires whole { IsWhole (C.program code.now) self.old.extent self.old.lane }
         requires extent { IsExtent (C.program code.now) (C.width code.now) self.old.extent }
+        requires numbered { IsNumbered self.old }
         ensures whole { IsWhole (C.program code.now) self.new.extent self.new.lane }
         ensures extent { self.new.extent ≡ self.old.extent }
+        ensures numbered { IfOk result (λ x. IsNumbered self.new) }
         ensures entered { IfOk result (λ x. Enters (C.program code.now) self.old event.now x self.new) }
+        ensures unfit { IfErr result (λ fault. Says fault (IsUnfit (C.program code.now) self.old event.now)) }
     {
         let token = event.1;
         if token.to.element(self.extent.elements) != event.0 {
@@ -281,15 +290,12 @@ impl<'m, C: Instructions, A: Allocator> Ledger<'m, C, A> {
         let Some(at) = self.place_of(&token) else {
             return Err(ReplayFault::NotARun);
         };
-        let Some(number) = self.numbers.get(at) else {
-            return Err(ReplayFault::NotARun);
-        };
-        let number = *number;
+        let number = self.numbers[at];
         let used = place_used(code, &token.to);
-        let before = self.state_at(used)?;
+        let before = self.state_at(used);
         let held = self.lane.queue().len();
         self.step(alloc, at)?;
-        let after = self.state_at(used)?;
+        let after = self.state_at(used);
         let made = self.tokens_from(alloc.clone()?, held - 1)?;
         self.numbers.remove(at);
         let next = self.next;
@@ -304,7 +310,7 @@ impl<'m, C: Instructions, A: Allocator> Ledger<'m, C, A> {
         })
     }
 
-    // Enters each of the events. After an error the ledger is of no use.
+    // Enters each of the events. `NotARun` says that there is no run in order by them. After an error the ledger is of no use.
     fn enter_all(
         &mut self,
         alloc: A,
@@ -315,7 +321,9 @@ impl<'m, C: Instructions, A: Allocator> Ledger<'m, C, A> {
         A: Clone,
         requires whole { IsWhole (C.program code.now) self.old.extent self.old.lane }
         requires extent { IsExtent (C.program code.now) (C.width code.now) self.old.extent }
-        ensures { IfOk result (λ v. EntersAll (C.program code.now) self.old events.now v.items) }
+        requires numbered { IsNumbered self.old }
+        ensures entered { IfOk result (λ v. EntersAll (C.program code.now) self.old events.now v.items) }
+        ensures unfit { IfErr result (λ fault. Says fault (AreUnfit (C.program code.now) self.old events.now)) }
     {
         let mut entries = Vec::with_capacity(alloc.clone()?, events.len())?;
         for event in events {
@@ -325,7 +333,8 @@ impl<'m, C: Instructions, A: Allocator> Ledger<'m, C, A> {
         Ok(entries)
     }
 
-    // Enters each of the events, and keeps of each only what it changed, if it changed anything. After an error the ledger is of no use.
+    // Enters each of the events, and keeps of each only its change, also where that is none. `NotARun` says that there is no run in order by them.
+    // After an error the ledger is of no use.
     fn pass_all(
         &mut self,
         alloc: &A,
@@ -336,9 +345,12 @@ impl<'m, C: Instructions, A: Allocator> Ledger<'m, C, A> {
         A: Clone,
         requires whole { IsWhole (C.program code.now) self.old.extent self.old.lane }
         requires extent { IsExtent (C.program code.now) (C.width code.now) self.old.extent }
+        requires numbered { IsNumbered self.old }
         ensures whole { IsWhole (C.program code.now) self.new.extent self.new.lane }
         ensures extent { self.new.extent ≡ self.old.extent }
+        ensures numbered { IfOk result (λ v. IsNumbered self.new) }
         ensures passed { IfOk result (λ v. Passes (C.program code.now) self.old events.now v.items self.new) }
+        ensures unfit { IfErr result (λ fault. Says fault (AreUnfit (C.program code.now) self.old events.now)) }
     {
         let mut changes = Vec::new(alloc.clone()?);
         for event in events {
@@ -349,7 +361,7 @@ impl<'m, C: Instructions, A: Allocator> Ledger<'m, C, A> {
     }
 
     // Enters the tokens of the start.
-    fn begin(&mut self, alloc: A, code: &C, inputs: &[i64]) -> Result<(), ReplayFault>
+    fn begin(&mut self, alloc: A, code: &C, inputs: &[i64]) -> Result<(), AllocError>
     where
         A: Clone,
         requires blank { IsBlank (C.program code.now) self.old }
@@ -357,6 +369,7 @@ impl<'m, C: Instructions, A: Allocator> Ledger<'m, C, A> {
         requires few { length inputs.now ≤ 16 }
         ensures whole { IsWhole (C.program code.now) self.new.extent self.new.lane }
         ensures extent { self.new.extent ≡ self.old.extent }
+        ensures numbered { OnOk result (IsNumbered self.new) }
         ensures begun { OnOk result (Begins (C.program code.now) inputs.now self.new) }
     {
         let tokens = start_tokens(alloc, self.extent.main, inputs)?;
@@ -368,8 +381,8 @@ impl<'m, C: Instructions, A: Allocator> Ledger<'m, C, A> {
 
     /// The books of a run on these inputs: enters the tokens of the start, and then each of the events, and gives the entries of `events`, before
     /// which there were those of `earlier`. The machine hands out the free frame of least number, and gives a frame that comes back to the
-    /// request that has waited longest. What is answered is a run of the machine by these events. `NotARun` says that an event was not found to
-    /// fit: nothing else is promised of it. After an error the ledger is of no use.
+    /// request that has waited longest. What is answered is a run of the machine by these events. `NotARun` says that there is no such run by
+    /// them. After an error the ledger is of no use.
     pub fn keep(
         &mut self,
         alloc: A,
@@ -383,7 +396,8 @@ impl<'m, C: Instructions, A: Allocator> Ledger<'m, C, A> {
         requires blank { IsBlank (C.program code.now) self.old }
         requires extent { IsExtent (C.program code.now) (C.width code.now) self.old.extent }
         requires few { length inputs.now ≤ 16 }
-        ensures { IfOk result (AreBooks (C.program code.now) self.old.extent inputs.now earlier.now events.now) }
+        ensures books { IfOk result (AreBooks (C.program code.now) self.old.extent inputs.now earlier.now events.now) }
+        ensures unfit { IfErr result (λ fault. Says fault (HasNoRun (C.program code.now) self.old.extent inputs.now (earlier.now ++ events.now))) }
     {
         self.begin(alloc.clone()?, code, inputs)?;
         let changes = self.pass_all(&alloc, code, earlier)?;

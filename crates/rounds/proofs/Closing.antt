@@ -7,7 +7,8 @@ use Rattle.tags.specs.declared.token.Token.{Token}
 use Rattle.semantics.specs.Machine.{Events, outputs_of, Machine, Size}
 use Rattle.semantics.specs.Program.{Program}
 use Rattle.semantics.specs.declared.report.End.{End}
-use Rattle.semantics.specs.Report.{Report, Shows, HasEnd}
+use Rattle.semantics.specs.Report.{Report, HasEnd}
+use Rattle.schedule.specs.Shown.{ShowsInOrder}
 use Rattle.element.specs.Near.{IsNearToken}
 use Rattle.element.specs.Parts.{bounds}
 use Rattle.tags.specs.Addresses.{element_of}
@@ -179,7 +180,7 @@ end_any p z steps listed may_stop evs m (End.Stuck n) h = h
 end_any p z steps listed may_stop evs m End.Memory h = h
 end_any p z steps listed may_stop evs m End.Stop h = absurd (let no : ⊥ = cc in no)
 
-pub shows_any : (p : Program) (z : Size) (inputs : List ℤ) (steps : ℕ) (listed may_stop : Bool) (r : Report) → Shows p z inputs steps listed false r → Shows p z inputs steps listed may_stop r
+pub shows_any : (p : Program) (z : Size) (inputs : List ℤ) (steps : ℕ) (listed may_stop : Bool) (r : Report) → ShowsInOrder p z inputs steps listed false r → ShowsInOrder p z inputs steps listed may_stop r
 shows_any p z inputs steps listed may_stop r s = record {
   last = s.last;
   run = s.run;
@@ -193,11 +194,11 @@ pub refused_shows : (s : State) (inputs : List ℤ) (listed may_stop : Bool) (ke
 refused_shows s inputs listed may_stop kept evs r sound is =
     let p = s.setting.program in
     let shown = shows_any p (size s.setting) inputs s.setting.steps false may_stop (opening_picture (outputs_of p)) (shows_opening s inputs false (outputs_of p) sound refl) in
-    ([], subst (λ (x : Report). Shows p (size s.setting) inputs s.setting.steps false may_stop (with_events x [])) (sym is) shown, λ l same. ap (λ (x : Report). x.events) is)
+    ([], subst (λ (x : Report). ShowsInOrder p (size s.setting) inputs s.setting.steps false may_stop (with_events x [])) (sym is) shown, λ l same. ap (λ (x : Report). x.events) is)
 
 -- what is told of a run whose events are listed, and of one whose events are not
-pub told_run : (p : Program) (z : Size) (inputs : List ℤ) (steps : ℕ) (may_stop : Bool) (evs : Events) (r : Report) → ShowsOn true p z inputs steps may_stop evs evs r → Shows p z inputs steps false may_stop r
-told_run p z inputs steps may_stop evs r (shown, shows, lists) = subst (λ (l : Events). Shows p z inputs steps false may_stop (with_events r l)) (sym (lists refl refl)) shows
+pub told_run : (p : Program) (z : Size) (inputs : List ℤ) (steps : ℕ) (may_stop : Bool) (evs : Events) (r : Report) → ShowsOn true p z inputs steps may_stop evs evs r → ShowsInOrder p z inputs steps false may_stop r
+told_run p z inputs steps may_stop evs r (shown, shows, lists) = subst (λ (l : Events). ShowsInOrder p z inputs steps false may_stop (with_events r l)) (sym (lists refl refl)) shows
 
 pub told_quietly : (p : Program) (z : Size) (inputs : List ℤ) (steps : ℕ) (may_stop : Bool) (kept evs : Events) (r : Report) → r.events ≡ [] → ShowsOn false p z inputs steps may_stop kept evs r → ShowsQuietly p z inputs steps false may_stop r
 told_quietly p z inputs steps may_stop kept evs r none (shown, shows, lists) = record { unlisted = none; events = shown; shows = shows }
@@ -259,4 +260,4 @@ module _ {C A L : Type 0} where
             (s.0, shows_any now.program (size now) inputs now.steps false may_stop (with_events r s.0) s.1, λ on same. s.2 (kept on same))
         by_halt (inr (stop, may)) =
             let s = stopped stop inputs false rounds.rest all now_sound last in
-            (s.0, subst (λ (m : Bool). Shows now.program (size now) inputs now.steps false m (with_events r s.0)) (sym may) s.1, λ on same. s.2 (kept on same))
+            (s.0, subst (λ (m : Bool). ShowsInOrder now.program (size now) inputs now.steps false m (with_events r s.0)) (sym may) s.1, λ on same. s.2 (kept on same))

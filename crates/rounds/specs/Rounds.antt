@@ -4,7 +4,8 @@ use Rattle.std.specs.List.{flat_map}
 use Rattle.tags.specs.declared.token.Token.{Token}
 use Rattle.semantics.specs.Program.{Program}
 use Rattle.semantics.specs.Machine.{Size, Events}
-use Rattle.semantics.specs.Report.{Report, Shows}
+use Rattle.semantics.specs.Report.{Report}
+use Rattle.schedule.specs.Shown.{ShowsInOrder}
 use Rattle.schedule.specs.Unlisted.{with_events}
 use Rattle.element.specs.Held.{Held, Fixed, held_of, fixed_of}
 use Rattle.schedule.specs.declared.halt.Halt.{Halt}
@@ -94,4 +95,4 @@ pub record MadeRound {C A L : Type 0} (g : Setting) (listed may_stop : Bool) (ol
 -- The report shows a run that went on from these events; where events are listed, and these are those that were kept, it
 -- lists those of the run.
 abbrev pub ShowsOn : Bool → Program → Size → List ℤ → ℕ → Bool → Events → Events → Report → Type 0
-ShowsOn listed p z inputs steps may_stop kept events r = (shown : Events) × Shows p z inputs steps false may_stop (with_events r shown) × (listed ≡ true → kept ≡ events → r.events ≡ shown)
+ShowsOn listed p z inputs steps may_stop kept events r = (shown : Events) × ShowsInOrder p z inputs steps false may_stop (with_events r shown) × (listed ≡ true → kept ≡ events → r.events ≡ shown)

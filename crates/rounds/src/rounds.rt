@@ -3,7 +3,7 @@
 ghost use Rattle.std.specs.Prelude.{◌≡◌, ◌<◌, ◌++◌, [], ℕ, ℤ, List, length, map, All, slice_index_or, IfOk, IfSome, IfNone, OnOk, Some, None, true, false};
 ghost use Rattle.tags.specs.declared.token.Token.{Token};
 ghost use Rattle.semantics.specs.Machine.{Events};
-ghost use Rattle.semantics.specs.Report.{Shows};
+ghost use Rattle.schedule.specs.Shown.{ShowsInOrder};
 ghost use Rattle.element.specs.Held.{held_of, fixed_of};
 ghost use Rattle.schedule.specs.Setting.{size};
 ghost use Rattle.schedule.specs.State.{IsSoundState, RunsAs, setting_in, tokens_in};
@@ -366,7 +366,7 @@ pub fn run<
     A: Allocator + Clone + Send,
     G: Gate + Sync,
 >(machine: Machine<'_, C, A>, rt: &R, gate: &G) -> Report<A>
-    ensures shows { (inputs : List ℤ) → Began inputs machine.entry.state machine.entry.events → Shows machine.entry.state.setting.program (size machine.entry.state.setting) inputs machine.entry.state.setting.steps false G.may_stop result }
+    ensures shows { (inputs : List ℤ) → Began inputs machine.entry.state machine.entry.events → ShowsInOrder machine.entry.state.setting.program (size machine.entry.state.setting) inputs machine.entry.state.setting.steps false G.may_stop result }
     ensures tells { (rounds : ℕ) × TellsRounds true G.may_stop machine.entry rounds result }
 {
     run_counted(machine, rt, gate).report
@@ -379,7 +379,7 @@ pub fn run_counted<
     A: Allocator + Clone + Send,
     G: Gate + Sync,
 >(machine: Machine<'_, C, A>, rt: &R, gate: &G) -> Counted<A>
-    ensures shows { (inputs : List ℤ) → Began inputs machine.entry.state machine.entry.events → Shows machine.entry.state.setting.program (size machine.entry.state.setting) inputs machine.entry.state.setting.steps false G.may_stop result.report }
+    ensures shows { (inputs : List ℤ) → Began inputs machine.entry.state machine.entry.events → ShowsInOrder machine.entry.state.setting.program (size machine.entry.state.setting) inputs machine.entry.state.setting.steps false G.may_stop result.report }
     ensures tells { TellsRounds true G.may_stop machine.entry result.rounds result.report }
 {
     run_machine(machine, rt, gate)

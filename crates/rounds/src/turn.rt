@@ -48,7 +48,7 @@ pub fn take_turn<C: Instructions, A: Allocator + Clone, L: Log>(
         if log.make_room().is_err() {
             return Some(Halt::Memory);
         }
-        let Some(stepped) = lane.step(0, sent) else {
+        let Some(stepped) = lane.step::<L>(0, sent) else {
             return Some(Halt::Steps);
         };
         match stepped {

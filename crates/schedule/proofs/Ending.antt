@@ -4,13 +4,13 @@ use Rattle.std.specs.Prelude.{slice_set, count_by, ◌==◌, if◌then◌else◌
 use Rattle.std.proofs.lemmas.Bool.{ne_eqb, eq-eqb}
 use Rattle.std.proofs.lemmas.List.{append-nil}
 use Rattle.std.proofs.lemmas.List.Sums.{sum_by-append, sum_by-cons}
-use Rattle.std.proofs.lemmas.List.Sorted.{IsPermutation-refl, IsPermutation-trans}
 use Rattle.tags.specs.declared.token.Token.{Token}
-use Rattle.semantics.specs.Program.{Program}
-use Rattle.semantics.specs.Machine.{Machine, Store, Size, Event, Events, Happens, Run, at_start}
+use Rattle.semantics.specs.Machine.{Events, at_start}
 use Rattle.element.specs.declared.lane.Stepped.{Stepped}
 use Rattle.element.specs.declared.lane.Stepped.TheVariants.{Idle, Did, Clash, Stuck, Memory}
 use Rattle.element.specs.Held.{Held, queued}
+use Rattle.frame_order.specs.InOrder.{OrderedRun}
+use Rattle.frame_order.proofs.InOrder.{run_more}
 use Rattle.schedule.specs.declared.halt.Halt.{Halt}
 use Rattle.schedule.specs.Setting.{Setting, size}
 use Rattle.schedule.specs.State.{State, AllFrom}
@@ -19,23 +19,6 @@ use Rattle.schedule.specs.Runs.{Began, BeganListed, IsHalt, Then, Plays, EndsLef
 use Rattle.schedule.specs.Unlisted.{kept_with}
 use Rattle.schedule.proofs.Places.{first_get, from_map}
 use Rattle.schedule.proofs.Stepping.{set_others}
-
--- one more event at the end of a run
-pub run_more : (p : Program) (z : Size) (start : Machine) (events : Events) (e : ℕ) (t : Token) (mid last : Machine)
-    → Run p z start events mid → Event p z e t mid last → Run p z start (events ++ (e, t) ∷ []) last
-run_more p z start [] e t mid last run ev = (
-  last,
-  record {
-    made = ev.made;
-    rest = ev.rest;
-    addressed = ev.addressed;
-    takes = IsPermutation-trans start.pool mid.pool (t ∷ ev.rest) run.0 ev.takes;
-    happens = subst (λ (s : Store). Happens p (z.elements * z.frames) s t.to t.word ev.made last.store) run.1 ev.happens;
-    leaves = ev.leaves;
-  },
-  (IsPermutation-refl last.pool, refl),
-)
-run_more p z start (x ∷ later) e t mid last run ev = (run.0, run.1, run_more p z run.0 later e t mid last run.2 ev)
 
 abbrev made_by : ℕ → Events → ℕ
 made_by i evs = count_by (λ (ev : ℕ × Token). ev.0 == i) evs
@@ -68,10 +51,10 @@ began_did inputs old new e pick before evs d b =
     (d.step.count ∙ ap (λ (n : ℕ). n + 1) was ∙ sym (made_same e t before)) in
     let all : AllFrom (λ (i : ℕ) (h : Held). h.made ≡ made_by i after) 0 new.lanes
     = subst (λ (l : List Held). AllFrom (λ (i : ℕ) (h : Held). h.made ≡ made_by i after) 0 l) (sym d.lanes) (from_map (λ (i : ℕ) (h : Held). h.made ≡ made_by i after) (λ (i : ℕ) (h : Held). h.made ≡ made_by i after) (λ (h : Held). queued h d.sent) (λ (i : ℕ) (h : Held) c. c) 0 (slice_set old.lanes e d.next) counts) in
-    let run : Run old.setting.program (size old.setting) (at_start old.setting.program inputs) after happened.0 = run_more old.setting.program (size old.setting) (at_start old.setting.program inputs) before e t b.machine happened.0 b.run happened.1 in
+    let run : OrderedRun old.setting.program (size old.setting) (at_start old.setting.program inputs) after happened.0 = run_more old.setting.program (size old.setting) (at_start old.setting.program inputs) before e t b.machine happened.0 b.run happened.1 in
     subst (λ (l : Events). Began inputs new (before ++ l)) (sym d.events) (record {
       machine = happened.0;
-      run = subst (λ (g : Setting). Run g.program (size g) (at_start g.program inputs) after happened.0) (sym d.setting) run;
+      run = subst (λ (g : Setting). OrderedRun g.program (size g) (at_start g.program inputs) after happened.0) (sym d.setting) run;
       stands = happened.2;
       counts = all;
     })

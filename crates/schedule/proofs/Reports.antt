@@ -14,7 +14,7 @@ use Rattle.semantics.specs.Program.{Program}
 use Rattle.semantics.specs.Rule.{array_base}
 use Rattle.semantics.specs.Machine.{Machine, CellState, Vacant, Full, Size, Events, at_start, outputs_of, reader_count}
 use Rattle.semantics.specs.declared.report.End.{End}
-use Rattle.semantics.specs.Report.{Report, IsPicture, Shows, HasEnd, sum_below, waiters, one_if}
+use Rattle.semantics.specs.Report.{Report, IsPicture, HasEnd, sum_below, waiters, one_if}
 use Rattle.semantics.proofs.Sums.{sum_of_zeros}
 use Rattle.element.specs.Near.{IsNearTo, IsNearToken}
 use Rattle.element.specs.Parts.{bounds}
@@ -26,6 +26,7 @@ use Rattle.schedule.specs.State.{State, IsPlaced, IsSoundState, Stands, IsWell, 
 use Rattle.schedule.specs.Runs.{Began, HaltsAs, NamesCell}
 use Rattle.schedule.specs.Told.{TellsLanes, Tells, opening_picture, IsReportOf, ReportsLanes, Reports, value_of, readers_of, slot_of_lane, cell_readers, slot_at, entry, full_below}
 use Rattle.schedule.specs.Unlisted.{with_events, Quietly, ReportsKept, kept_with}
+use Rattle.schedule.specs.Shown.{ShowsInOrder}
 use Rattle.schedule.proofs.Places.{first_get, to_map}
 use Rattle.schedule.proofs.Pictures.{IsKnown, known_lanes, pictured}
 use Rattle.schedule.proofs.Showing.{picked, shows_here}
@@ -53,10 +54,10 @@ opening_pictured p z inputs some = record {
   frames_out = sym (first_of_some (z.elements * z.frames) (λ f. one_if (f == 0)) some (λ f. ap (λ (b : Bool). one_if b) (eqb-suc-zero f)));
 }
 
-pub shows_opening : (s : State) (inputs : List ℤ) (listed : Bool) (outputs : ℕ) → IsSoundState s → outputs ≡ outputs_of s.setting.program → Shows s.setting.program (size s.setting) inputs s.setting.steps listed false (opening_picture outputs)
+pub shows_opening : (s : State) (inputs : List ℤ) (listed : Bool) (outputs : ℕ) → IsSoundState s → outputs ≡ outputs_of s.setting.program → ShowsInOrder s.setting.program (size s.setting) inputs s.setting.steps listed false (opening_picture outputs)
 shows_opening s inputs listed outputs sound is =
     let some : 1 ≤ total s.setting = (let a = sound.setting.some in let b = sound.setting.some_frames in one-le-mul {a = s.setting.elements} {b = s.setting.frames} (omega arith) (omega arith)) in
-    subst (λ (n : ℕ). Shows s.setting.program (size s.setting) inputs s.setting.steps listed false (opening_picture n)) (sym is) (record {
+    subst (λ (n : ℕ). ShowsInOrder s.setting.program (size s.setting) inputs s.setting.steps listed false (opening_picture n)) (sym is) (record {
       last = at_start s.setting.program inputs;
       run = (IsPermutation-refl (at_start s.setting.program inputs).pool, refl);
       picture = opening_pictured s.setting.program (size s.setting) inputs some;
@@ -161,10 +162,10 @@ told_coming g raw ts list halt r (inr (has, ends, (first, t))) =
 -- with the events of a run, or with none, the report of lanes shows that run, whatever tokens are on their way
 pub shows_lanes : (g : Setting) (raw : List Held) (ts : List Token) (list : Events) (halt : Halt) (r : Report) → IsSoundState (coming g raw ts) → ReportsLanes g raw list halt r
     → (inputs : List ℤ) (listed : Bool) (evs : Events) → Began inputs (coming g raw ts) evs → HaltsAs (coming g raw ts) listed halt
-    → (shown : Events) × Shows g.program (size g) inputs g.steps listed false (with_events r shown) × (list ≡ evs → r.events ≡ shown)
+    → (shown : Events) × ShowsInOrder g.program (size g) inputs g.steps listed false (with_events r shown) × (list ≡ evs → r.events ≡ shown)
 shows_lanes g raw ts list halt r sound (inl is) inputs listed evs began halts =
     let shown = shows_opening (coming g raw ts) inputs listed (outputs_of g.program) sound refl in
-    ([], subst (λ (x : Report). Shows g.program (size g) inputs g.steps listed false (with_events x [])) (sym is) shown, λ same. ap (λ (x : Report). x.events) is)
+    ([], subst (λ (x : Report). ShowsInOrder g.program (size g) inputs g.steps listed false (with_events x [])) (sym is) shown, λ same. ap (λ (x : Report). x.events) is)
 shows_lanes g raw ts list halt r sound (inr (has, ends, told)) inputs listed evs began halts =
     let picture = lanes_pictured g raw ts began.machine (with_events r evs) sound began.stands told in
     (evs, shows_here inputs (coming g raw ts) evs listed halt (with_events r evs) sound began halts ends refl picture, λ same. has ∙ same)
@@ -172,10 +173,10 @@ shows_lanes g raw ts list halt r sound (inr (has, ends, told)) inputs listed evs
 -- the same of a run that was stopped
 pub stopped_lanes : (g : Setting) (raw : List Held) (ts : List Token) (list : Events) (r : Report) → IsSoundState (coming g raw ts) → ReportsLanes g raw list Halt.Stop r
     → (inputs : List ℤ) (listed : Bool) (evs : Events) → Began inputs (coming g raw ts) evs
-    → (shown : Events) × Shows g.program (size g) inputs g.steps listed true (with_events r shown) × (list ≡ evs → r.events ≡ shown)
+    → (shown : Events) × ShowsInOrder g.program (size g) inputs g.steps listed true (with_events r shown) × (list ≡ evs → r.events ≡ shown)
 stopped_lanes g raw ts list r sound (inl is) inputs listed evs began =
     let shown = shows_opening (coming g raw ts) inputs listed (outputs_of g.program) sound refl in
-    ([], subst (λ (x : Report). Shows g.program (size g) inputs g.steps listed true (with_events x [])) (sym is) (record { last = shown.last; run = shown.run; picture = shown.picture; ends = tt }), λ same. ap (λ (x : Report). x.events) is)
+    ([], subst (λ (x : Report). ShowsInOrder g.program (size g) inputs g.steps listed true (with_events x [])) (sym is) (record { last = shown.last; run = shown.run; picture = shown.picture; ends = tt }), λ same. ap (λ (x : Report). x.events) is)
 stopped_lanes g raw ts list r sound (inr (has, ends, told)) inputs listed evs began = (
   evs,
   record {
@@ -195,7 +196,7 @@ unlisted_lanes g raw list halt r (inr (has, ends, told)) none = has ∙ none
 -- the same of elements in memory
 pub shows_reported : {C A : Type 0} (program : C → Program) (width : C → ℕ) (m : Elements C A) (list : Events) (halt : Halt) (r : Report) → IsWell program width m → Reports program width m list halt r
     → (inputs : List ℤ) (listed : Bool) (evs : Events) → Began inputs (state_of program width m) evs → HaltsAs (state_of program width m) listed halt
-    → (shown : Events) × Shows (state_of program width m).setting.program (size (state_of program width m).setting) inputs (state_of program width m).setting.steps listed false (with_events r shown) × (list ≡ evs → r.events ≡ shown)
+    → (shown : Events) × ShowsInOrder (state_of program width m).setting.program (size (state_of program width m).setting) inputs (state_of program width m).setting.steps listed false (with_events r shown) × (list ≡ evs → r.events ≡ shown)
 shows_reported {C} {A} program width m list halt r well reported inputs listed evs began halts =
     shows_lanes (state_of program width m).setting (map held_of m.lanes.items) (drop m.come m.sent.items) list halt r well.sound reported inputs listed evs began halts
 
@@ -208,7 +209,7 @@ reports_quietly program width m list halt r well (inl is) none evs =
       [],
       record {
         told = inl (ap (λ (x : Report). with_events x []) is);
-        shows = λ inputs listed began halts. subst (λ (x : Report). Shows s.setting.program (size s.setting) inputs s.setting.steps listed false (with_events x [])) (sym is) (shows_opening s inputs listed (outputs_of s.setting.program) well.sound refl);
+        shows = λ inputs listed began halts. subst (λ (x : Report). ShowsInOrder s.setting.program (size s.setting) inputs s.setting.steps listed false (with_events x [])) (sym is) (shows_opening s inputs listed (outputs_of s.setting.program) well.sound refl);
       },
     )
 reports_quietly program width m list halt r well (inr (has, ends, told)) none evs =

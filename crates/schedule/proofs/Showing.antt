@@ -14,7 +14,8 @@ use Rattle.tags.specs.declared.slot.SlotState.{SlotState}
 use Rattle.tags.specs.declared.slot.SlotState.TheVariants as slot
 use Rattle.tags.specs.Addresses.{element_of}
 use Rattle.semantics.specs.declared.report.End.{End}
-use Rattle.semantics.specs.Machine.{Machine, Store, Events, Wants, stuck_rule}
+use Rattle.semantics.specs.Machine.{Machine, Store, Size, Events, Wants, stuck_rule, at_start}
+use Rattle.semantics.specs.Program.{Program}
 use Rattle.semantics.specs.Report.{Report, IsPicture, Shows, HasEnd, HasTokenFor, sum_below, waiters}
 use Rattle.semantics.specs.Faithful.{HasStoreOfFull}
 use Rattle.semantics.proofs.Sums.{sum_zero}
@@ -22,10 +23,13 @@ use Rattle.element.specs.Parts.{IsPart}
 use Rattle.element.specs.Held.{Held}
 use Rattle.element.specs.Steps as one
 use Rattle.element.specs.Steps.{place_of}
+use Rattle.frame_order.specs.InOrder.{OrderedRun}
+use Rattle.frame_order.proofs.InOrder.{run_of}
 use Rattle.schedule.specs.declared.halt.Halt.{Halt}
 use Rattle.schedule.specs.Setting.{Setting, size, total}
 use Rattle.schedule.specs.State.{State, AllFrom, IsPlaced, IsSoundState, Stands, tokens_in}
 use Rattle.schedule.specs.Runs.{Began, HaltsAs, EndsAs}
+use Rattle.schedule.specs.Shown.{ShowsInOrder}
 use Rattle.schedule.proofs.Places.{first_get}
 
 in_lanes : (lanes : List Held) (i : ℕ) (h : Held) (t : Token) → slice_get lanes i ≡ Some h → Contains h.queue t → Contains (tokens_in lanes) t
@@ -142,12 +146,22 @@ module _ (s : State) (m : Machine) (r : Report) (sound : IsSoundState s) (stands
 
 -- the report of a run that halts here shows it
 pub shows_here : (inputs : List ℤ) (s : State) (evs : Events) (listed : Bool) (halt : Halt) (r : Report) → IsSoundState s → (b : Began inputs s evs) → HaltsAs s listed halt → EndsAs s.setting.program r halt → r.events ≡ evs
-    → IsPicture s.setting.program (size s.setting) b.machine r → Shows s.setting.program (size s.setting) inputs s.setting.steps listed false r
+    → IsPicture s.setting.program (size s.setting) b.machine r → ShowsInOrder s.setting.program (size s.setting) inputs s.setting.steps listed false r
 shows_here inputs s evs listed halt r sound b halts ends told picture =
     let end = has_end s b.machine r sound b.stands picture listed evs halt b.counts halts ends in
     record {
       last = b.machine;
-      run = subst (λ (l : Events). Rattle.semantics.specs.Machine.Run s.setting.program (size s.setting) (Rattle.semantics.specs.Machine.at_start s.setting.program inputs) l b.machine) (sym told) b.run;
+      run = subst (λ (l : Events). OrderedRun s.setting.program (size s.setting) (at_start s.setting.program inputs) l b.machine) (sym told) b.run;
       picture = picture;
       ends = subst (λ (l : Events). HasEnd s.setting.program (size s.setting) s.setting.steps listed false l b.machine r.end) (sym told) end;
     }
+
+-- what it shows in order it shows
+pub shown : (p : Program) (z : Size) (inputs : List ℤ) (steps : ℕ) (listed may_stop : Bool) (r : Report) → ShowsInOrder p z inputs steps listed may_stop r
+    → Shows p z inputs steps listed may_stop r
+shown p z inputs steps listed may_stop r s = record {
+  last = s.last;
+  run = run_of p z (at_start p inputs) s.last r.events s.run;
+  picture = s.picture;
+  ends = s.ends;
+}

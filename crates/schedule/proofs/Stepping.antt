@@ -8,13 +8,15 @@ use Rattle.std.proofs.lemmas.List.Sorted.{IsPermutation-sym, IsPermutation-trans
 use Rattle.std.proofs.lemmas.Option.{slice_get_within, get_or_from_slice_get}
 use Rattle.tags.specs.declared.token.Token.{Token}
 use Rattle.tags.specs.Addresses.{element_of}
-use Rattle.semantics.specs.Machine.{Machine, Size, Event}
+use Rattle.semantics.specs.Machine.{Machine, Size}
 use Rattle.element.specs.Near.{Bounds, IsNearToken}
 use Rattle.element.specs.Parts.{Shape, IsPart, bounds}
 use Rattle.element.specs.Held.{Held, is_here, here, queued, IsSoundLane}
 use Rattle.element.specs.Steps as one
 use Rattle.element.specs.Steps.{size_of, place_of, HoldsTokens, IsAfter}
+use Rattle.frame_order.specs.InOrder.{OrderedEvent}
 use Rattle.element.proofs.Opening.{others_stay}
+use Rattle.frame_order.proofs.InOrder.{does_in_order}
 use Rattle.schedule.specs.Setting.{Setting, size, total}
 use Rattle.schedule.specs.State.{State, AllFrom, IsAt, delivered, tokens_in, IsPlaced, IsSoundState, Stands}
 use Rattle.element.specs.declared.lane.Stepped.{Stepped}
@@ -126,8 +128,10 @@ module _ (old : State) (e pick : ℕ) (lane next : Held) (sent : List Token) (so
     size_is : size_of lane.part.shape ≡ size g
     size_is = ap (λ (n : ℕ). let z : Size = record { elements = n; frames = lane.part.shape.frames } in z) placed.elements ∙ ap (λ (n : ℕ). let z : Size = record { elements = g.elements; frames = n } in z) placed.frames
 
-    event : Event g.program (size g) e step.token m made_it.next
-    event = subst (λ (z : Size). Event g.program z e step.token m made_it.next) size_is (subst (λ (n : ℕ). Event g.program (size_of lane.part.shape) n step.token m made_it.next) placed.element made_it.event)
+    ordered : OrderedEvent g.program (size g) e step.token m made_it.next
+    unfolding made_it
+    ordered = subst (λ (z : Size). OrderedEvent g.program z e step.token m made_it.next) size_is
+        (subst (λ (n : ℕ). OrderedEvent g.program (size_of lane.part.shape) n step.token m made_it.next) placed.element (does_in_order g.program lane pick [] next sent step m others part holds))
 
     parts : AllFrom (λ (i : ℕ) (h : Held). IsPart h.part made_it.next.store) 0 (slice_set old.lanes e next)
     parts = let at : e ≡ 0 + e = omega arith in set_others (λ (i : ℕ) (h : Held). IsPlaced g i h × IsPart h.part m.store) (λ (i : ℕ) (h : Held). IsPart h.part made_it.next.store) e
@@ -156,14 +160,14 @@ module _ (old : State) (e pick : ℕ) (lane next : Held) (sent : List Token) (so
         let near : IsNearToken (bounds g.program lane.part.shape) step.token = subst (λ (t : Token). IsNearToken (bounds g.program lane.part.shape) t) is (placed.sound.near place step.token (slice_get_within lane.queue place step.token step.picks.token)) in
         subst (λ (b : Bounds). IsNearToken b step.token) (bounds_are g e lane placed) near
 
-    pub stands_after : (n : Machine) × Event g.program (size g) e step.token m n × Stands after n
+    pub stands_after : (n : Machine) × OrderedEvent g.program (size g) e step.token m n × Stands after n
     stands_after = (
       made_it.next,
-      event,
+      ordered,
       record {
         parts = from_map (λ (i : ℕ) (h : Held). IsPart h.part made_it.next.store) (λ (i : ℕ) (h : Held). IsPart h.part made_it.next.store) (λ (h : Held). queued h sent) (λ (i : ℕ) (h : Held) p. p) 0 (slice_set old.lanes e next) parts;
         tokens = tokens;
-        bounded = bounded_after g m.store stands.bounded sound.setting.fits step.token.to step.token.word event.made made_it.next.store near_token.to event.happens;
+        bounded = bounded_after g m.store stands.bounded sound.setting.fits step.token.to step.token.word ordered.event.made made_it.next.store near_token.to ordered.event.happens;
       },
     )
 

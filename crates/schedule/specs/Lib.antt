@@ -6,3 +6,4 @@ pub mod Starts
 pub mod Told
 pub mod Unlisted
 pub mod Apart
+pub mod Shown

@@ -5,10 +5,11 @@ use Rattle.semantics.specs.declared.report.End.{End}
 use Rattle.semantics.specs.Program.{Program}
 use Rattle.semantics.specs.Rule.{array_base, array_len}
 use Rattle.semantics.specs.Report.{Report}
-use Rattle.semantics.specs.Machine.{Machine, Events, Run, at_start}
+use Rattle.semantics.specs.Machine.{Machine, Events, at_start}
 use Rattle.element.specs.declared.lane.Stepped.{Stepped}
 use Rattle.element.specs.declared.lane.Stepped.TheVariants as stepped
 use Rattle.element.specs.Held.{Held}
+use Rattle.frame_order.specs.InOrder.{OrderedRun}
 use Rattle.schedule.specs.declared.halt.Halt.{Halt}
 use Rattle.schedule.specs.Setting.{size}
 use Rattle.schedule.specs.State.{State, AllFrom, tokens_in, Stands}
@@ -19,11 +20,11 @@ pub record Kept : Type 0 where
   pub state : State
   pub events : Events
 
--- The events lead from the start on these inputs to a machine that the lanes are the parts of, and each element has made
--- its own.
+-- The events lead from the start on these inputs to a machine that the lanes are the parts of, in a run that hands out frames in order, and
+-- each element has made its own.
 pub record Began (inputs : List ℤ) (s : State) (evs : Events) : Type 0 where
   pub machine : Machine
-  pub run : Run s.setting.program (size s.setting) (at_start s.setting.program inputs) evs machine
+  pub run : OrderedRun s.setting.program (size s.setting) (at_start s.setting.program inputs) evs machine
   pub stands : Stands s machine
   pub counts : AllFrom (λ (i : ℕ) (h : Held). h.made ≡ count_by (λ (ev : ℕ × Token). ev.0 == i) evs) 0 s.lanes
 

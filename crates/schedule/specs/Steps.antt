@@ -1,17 +1,18 @@
 -- What a step does.
 use Rattle.std.specs.Prelude.{◌≡◌, ℕ, ◌<◌, List, [], ◌∷◌, ◌++◌, length, Bool, true, false, Option, Some, None, slice_get, slice_set}
 use Rattle.tags.specs.declared.token.Token.{Token}
-use Rattle.semantics.specs.Machine.{Machine, Event, Events}
+use Rattle.semantics.specs.Machine.{Machine, Events}
 use Rattle.element.specs.declared.lane.Stepped.{Stepped}
 use Rattle.element.specs.declared.lane.Stepped.TheVariants.{Idle, Did, Clash, Stuck, Memory}
 use Rattle.element.specs.Held.{Held}
+use Rattle.frame_order.specs.InOrder.{OrderedEvent}
 use Rattle.element.specs.Steps as one
 use Rattle.element.specs.Steps.{Excludes, Clashes}
 use Rattle.schedule.specs.Setting.{size}
 use Rattle.schedule.specs.State.{State, delivered, Stands}
 
 -- The element's lane takes the token that the pick names, and the tokens that it makes for others come to their lanes.
--- It is one event of each machine that the lanes are the parts of.
+-- It is one event of each machine that the lanes are the parts of, and hands out frames in order.
 pub record Does (old : State) (e pick : ℕ) (new : State) (evs : Events) : Type 0 where
   pub lane : Held
   pub there : slice_get old.lanes e ≡ Some lane
@@ -23,7 +24,7 @@ pub record Does (old : State) (e pick : ℕ) (new : State) (evs : Events) : Type
   pub setting : new.setting ≡ old.setting
   pub lanes : new.lanes ≡ delivered sent (slice_set old.lanes e next)
   pub events : evs ≡ (e, step.token) ∷ []
-  pub event : (m : Machine) → Stands old m → (n : Machine) × Event old.setting.program (size old.setting) e step.token m n × Stands new n
+  pub event : (m : Machine) → Stands old m → (n : Machine) × OrderedEvent old.setting.program (size old.setting) e step.token m n × Stands new n
 
 -- the events that an answer stands for
 abbrev pub events_of : Stepped → ℕ → Token → Events

@@ -2,12 +2,13 @@
 use Rattle.std.specs.Prelude.{◌≡◌, ℕ, ◌++◌, Bool, false, ℤ, List, []}
 use Rattle.semantics.specs.Program.{Program}
 use Rattle.semantics.specs.Machine.{Size, Events}
-use Rattle.semantics.specs.Report.{Report, Shows}
+use Rattle.semantics.specs.Report.{Report}
 use Rattle.schedule.specs.declared.halt.Halt.{Halt}
 use Rattle.schedule.specs.Setting.{size}
 use Rattle.schedule.specs.State.{State}
 use Rattle.schedule.specs.Runs.{Kept, Began, Plays, HaltsAs, rounds_of}
 use Rattle.schedule.specs.Told.{IsReportOf}
+use Rattle.schedule.specs.Shown.{ShowsInOrder}
 
 -- the report with these events in place of its own
 abbrev pub with_events : Report → Events → Report
@@ -21,17 +22,17 @@ Quietly Tells r = (r.events ≡ []) × (events : Events) × Tells (with_events r
 pub record ShowsQuietly (p : Program) (z : Size) (inputs : List ℤ) (steps : ℕ) (listed may_stop : Bool) (r : Report) : Type 0 where
   pub unlisted : r.events ≡ []
   pub events : Events
-  pub shows : Shows p z inputs steps listed may_stop (with_events r events)
+  pub shows : ShowsInOrder p z inputs steps listed may_stop (with_events r events)
 
 -- The report shows a run with these events, or its own lists were refused; and if they are those that were kept, it lists the
 -- run that it shows.
 abbrev pub ShowsBut : Program → Size → List ℤ → ℕ → Bool → Bool → Events → Events → Report → Type 0
-ShowsBut p z inputs steps listed may_stop kept evs r = (shown : Events) × Shows p z inputs steps listed may_stop (with_events r shown) × (kept ≡ evs → r.events ≡ shown)
+ShowsBut p z inputs steps listed may_stop kept evs r = (shown : Events) × ShowsInOrder p z inputs steps listed may_stop (with_events r shown) × (kept ≡ evs → r.events ≡ shown)
 
 -- The report is of this machine, which halted so: it has its events and its end, tells what its lanes hold, and shows the run that led there.
 pub record ReportsKept (k : Kept) (halt : Halt) (r : Report) : Type 0 where
   pub told : IsReportOf k halt r
-  pub shows : (inputs : List ℤ) (listed : Bool) → Began inputs k.state k.events → HaltsAs k.state listed halt → Shows k.state.setting.program (size k.state.setting) inputs k.state.setting.steps listed false r
+  pub shows : (inputs : List ℤ) (listed : Bool) → Began inputs k.state k.events → HaltsAs k.state listed halt → ShowsInOrder k.state.setting.program (size k.state.setting) inputs k.state.setting.steps listed false r
 
 -- the machine with these events
 abbrev pub kept_with : State → Events → Kept
@@ -51,4 +52,4 @@ pub record RunsInTurn (first : Kept) (r : Report) : Type 0 where
   pub plays : Plays false (rounds_of rounds first.state.setting.elements) first.state last.state halt made
   pub events : last.events ≡ first.events ++ made
   pub told : IsReportOf last halt r
-  pub shows : (inputs : List ℤ) → Began inputs first.state first.events → Shows first.state.setting.program (size first.state.setting) inputs first.state.setting.steps false false r
+  pub shows : (inputs : List ℤ) → Began inputs first.state first.events → ShowsInOrder first.state.setting.program (size first.state.setting) inputs first.state.setting.steps false false r

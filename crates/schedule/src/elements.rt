@@ -20,8 +20,14 @@ use crate::shape::Shape;
 use arrayvec::ArrayVec;
 use element::lane::{Lane, Stepped};
 use std::alloc::{AllocError, Allocator};
+use std::marker::PhantomData;
 use tags::token::Token;
 use tags::value::Value;
+
+/// The site of the loop of one element, which has the code of a step built into it.
+struct Alone<L: Log> {
+    _log: PhantomData<L>,
+}
 
 /// The lanes of all elements, and the tokens that are on their way.
 #[derive(Drop)]
@@ -83,7 +89,7 @@ impl<'m, C: MainCode, A: Allocator> Elements<'m, C, A> {
 
     // A step with no token on its way, where there is room to note an event.
     #[inline(always)]
-    fn step_lane<L: Log>(
+    fn step_lane<L: Log, Site>(
         &mut self,
         element: u32,
         pick: u64,
@@ -103,7 +109,7 @@ impl<'m, C: MainCode, A: Allocator> Elements<'m, C, A> {
         let Some(token) = lane.token(pick) else {
             return Some(Stepped::Idle);
         };
-        let stepped = lane.step(pick, &mut self.sent)?;
+        let stepped = lane.step::<Site>(pick, &mut self.sent)?;
         log.note_step(element, token, stepped);
         Some(stepped)
     }
@@ -111,7 +117,7 @@ impl<'m, C: MainCode, A: Allocator> Elements<'m, C, A> {
     /// The element takes the token that `pick`, modulo the number of its tokens, names from the oldest on; `None` where it
     /// has a token and has made all its events.
     #[inline(always)]
-    pub fn step<L: Log>(
+    pub fn step<L: Log, Site>(
         &mut self,
         element: u32,
         pick: u64,
@@ -127,7 +133,7 @@ impl<'m, C: MainCode, A: Allocator> Elements<'m, C, A> {
         if self.settle().is_err() || log.make_room().is_err() {
             return self.refused(element);
         }
-        self.step_lane(element, pick, log)
+        self.step_lane::<L, Site>(element, pick, log)
     }
 
     // Whether there is a token.
@@ -147,7 +153,7 @@ impl<'m, C: MainCode, A: Allocator> Elements<'m, C, A> {
     // Makes one step of a run, and answers whether the run halts there. A run over a list passes over an element that has
     // made all its events.
     #[inline(always)]
-    fn advance<L: Log>(
+    fn advance<L: Log, Site>(
         &mut self,
         listed: bool,
         element: u32,
@@ -161,7 +167,7 @@ impl<'m, C: MainCode, A: Allocator> Elements<'m, C, A> {
         ensures well { IsWell C.program C.width self.new }
         ensures exact { (events : Events) × Advances listed (state_of C.program C.width self.old) element pick (state_of C.program C.width self.new) events result × (log.new.events.items ≡ logged L.LISTS log.old.events.items events) }
     {
-        match self.step(element, pick, log) {
+        match self.step::<L, Site>(element, pick, log) {
             Some(Stepped::Did) => None,
             other => self.halts(listed, other),
         }
@@ -204,7 +210,7 @@ impl<'m, C: MainCode, A: Allocator> Elements<'m, C, A> {
         ensures exact { (events : Events) × Plays true picks.now (state_of C.program C.width self.old) (state_of C.program C.width self.new) result events × (log.new.events.items ≡ logged L.LISTS log.old.events.items events) }
     {
         for (element, pick) in picks {
-            match self.advance(true, *element, *pick, log) {
+            match self.advance::<L, ()>(true, *element, *pick, log) {
                 None => {}
                 Some(halt) => return halt,
             }
@@ -227,7 +233,7 @@ impl<'m, C: MainCode, A: Allocator> Elements<'m, C, A> {
         ensures exact { (rounds : ℕ) × (events : Events) × Plays false (rounds_of rounds self.old.shape.elements) (state_of C.program C.width self.old) (state_of C.program C.width self.new) result events × (log.new.events.items ≡ logged L.LISTS log.old.events.items events) }
     {
         'events: loop {
-            match self.advance(false, 0, 0, log) {
+            match self.advance::<L, Alone<L>>(false, 0, 0, log) {
                 None => {}
                 Some(halt) => return halt,
             }
@@ -248,7 +254,7 @@ impl<'m, C: MainCode, A: Allocator> Elements<'m, C, A> {
         }
         'passes: loop {
             for element in 0..self.shape.elements {
-                match self.advance(false, element, 0, log) {
+                match self.advance::<L, ()>(false, element, 0, log) {
                     None => {}
                     Some(halt) => return halt,
                 }

@@ -10,7 +10,7 @@ ghost use Rattle.schedule.specs.Steps.{Steps, logged};
 ghost use Rattle.schedule.specs.Runs.{Kept, Began, BeganListed, Plays, HaltsAs, NamesCell, rounds_of};
 ghost use Rattle.schedule.specs.declared.halt.Halt.{Halt};
 ghost use Rattle.schedule.specs.Told.{IsReportOf};
-ghost use Rattle.semantics.specs.Report.{Shows};
+ghost use Rattle.schedule.specs.Shown.{ShowsInOrder};
 ghost use Rattle.schedule.specs.Setting.{size};
 ghost use Rattle.schedule.specs.State.{State};
 ghost use Rattle.schedule.specs.Unlisted.{Quietly, RunsInTurn, ReportsKept, ShowsBut, kept_with, without_events};
@@ -194,7 +194,7 @@ impl<'m, C: MainCode, A: Allocator> Machine<'m, C, A> {
         A: Clone,
         requires { All (λ pick. pick.0 < self.state.setting.elements) picks.now }
         ensures plays { (last : Kept) × (halt : Halt) × (made : Events) × Plays true picks.now self.entry.state last.state halt made × (last.events ≡ self.entry.events ++ made) × IsReportOf last halt result }
-        ensures shows { (inputs : List ℤ) → Began inputs self.entry.state self.entry.events → Shows self.entry.state.setting.program (size self.entry.state.setting) inputs self.entry.state.setting.steps true false result }
+        ensures shows { (inputs : List ℤ) → Began inputs self.entry.state self.entry.events → ShowsInOrder self.entry.state.setting.program (size self.entry.state.setting) inputs self.entry.state.setting.steps true false result }
     {
         let halt = self.play(picks);
         self.report(halt)
@@ -207,7 +207,7 @@ impl<'m, C: MainCode, A: Allocator> Machine<'m, C, A> {
     where
         A: Clone,
         ensures plays { (last : Kept) × (halt : Halt) × (rounds : ℕ) × (made : Events) × Plays false (rounds_of rounds self.entry.state.setting.elements) self.entry.state last.state halt made × (last.events ≡ self.entry.events ++ made) × IsReportOf last halt result }
-        ensures shows { (inputs : List ℤ) → Began inputs self.entry.state self.entry.events → Shows self.entry.state.setting.program (size self.entry.state.setting) inputs self.entry.state.setting.steps false false result }
+        ensures shows { (inputs : List ℤ) → Began inputs self.entry.state self.entry.events → ShowsInOrder self.entry.state.setting.program (size self.entry.state.setting) inputs self.entry.state.setting.steps false false result }
     {
         let halt = self.play_in_turn();
         self.report(halt)
@@ -254,7 +254,7 @@ impl<'m, C: MainCode, A: Allocator, L: Log> Machine<'m, C, A, L> {
         ensures began { (inputs : List ℤ) → BeganListed L.LISTS inputs self.old → BeganListed L.LISTS inputs self.new }
         ensures setting { self.new.state.setting ≡ self.old.state.setting }
     {
-        self.elements.step(element, pick, &mut self.log)
+        self.elements.step::<L, ()>(element, pick, &mut self.log)
     }
 
     /// Makes one step for each element and pick of the list, in order, and answers why it makes no more. It stops early
@@ -297,7 +297,7 @@ impl<'m, C: MainCode, A: Allocator, L: Log> Machine<'m, C, A, L> {
         ensures told { IsReportOf self.entry halt result }
         ensures quietly { self.entry.events ≡ [] → (events : Events) → Quietly (ReportsKept (kept_with self.entry.state events) halt) result }
         ensures any { (inputs : List ℤ) (listed : Bool) (events : Events) → Began inputs self.entry.state events → HaltsAs self.entry.state listed halt → ShowsBut self.entry.state.setting.program (size self.entry.state.setting) inputs self.entry.state.setting.steps listed false self.entry.events events result }
-        ensures shows { (inputs : List ℤ) (listed : Bool) → Began inputs self.entry.state self.entry.events → HaltsAs self.entry.state listed halt → Shows self.entry.state.setting.program (size self.entry.state.setting) inputs self.entry.state.setting.steps listed false result }
+        ensures shows { (inputs : List ℤ) (listed : Bool) → Began inputs self.entry.state self.entry.events → HaltsAs self.entry.state listed halt → ShowsInOrder self.entry.state.setting.program (size self.entry.state.setting) inputs self.entry.state.setting.steps listed false result }
     {
         let Machine {
             elements,

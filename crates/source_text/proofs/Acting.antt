@@ -10,11 +10,11 @@ use Rattle.source.specs.declared.word.Word.{Word}
 use Rattle.source.specs.Tree.{Name}
 use Rattle.source.specs.Spelled.{Lexeme}
 use Rattle.source.specs.Words.{Words, named}
-use Rattle.law_grammar.specs.declared.symbol.Symbol.{Symbol}
-use Rattle.law_grammar.specs.declared.symbol.Symbol.TheVariants.{Emit, Items}
-use Rattle.law_grammar.specs.Automaton.{Outcome, Takes, Passes, Refuses, Moved, moved_after, advance, step, ended, ended_then, finish, finished, words_after}
-use Rattle.law_grammar.specs.Named.{named_symbol, named_stack}
-use Rattle.source_text.specs.declared.outcome.Few.{Few}
+use Rattle.law_language.specs.declared.symbol.Symbol.{Symbol}
+use Rattle.law_language.specs.declared.symbol.Symbol.TheVariants.{Emit, Items}
+use Rattle.law_language.specs.GrammarAutomaton.{Outcome, Takes, Passes, Refuses, Moved, moved_after, advance, step, ended, ended_then, finish, finished, words_after}
+use Rattle.law_language.specs.GrammarNamed.{named_symbol, named_stack}
+use Rattle.source_text.specs.declared.outcome.Pushes.{Pushes}
 use Rattle.source_text.specs.declared.outcome.Outcome.TheVariants as done
 use Rattle.source_text.specs.declared.reaction.Reaction.{Reaction}
 use Rattle.source_text.specs.Outcomes.{few, shown, doing_named, behind, atop, reaction_named, IsShallow, AreShallow, IsShallowBelow, AreAllShallow}
@@ -54,12 +54,12 @@ pushed_shallow : (s : List (Symbol ℕ)) (below : Option (Symbol ℕ)) → All I
 pushed_shallow s None h k = subst (All IsShallow) (sym (append-nil s)) h
 pushed_shallow s (Some x) h k = All-push IsShallow s x h k
 
-pub stays_shallow : (s t : List (Symbol ℕ)) (r : Reaction) (words : Few (Word ℕ) 2) (symbols : Few (Symbol ℕ) 9) → r.outcome ≡ done.Takes words symbols
-    → t ≡ s ++ option_to_list r.below ++ reverse (few symbols) → All IsShallow s → AreAllShallow r → All IsShallow t
-stays_shallow s t r words symbols is e h k =
+pub stays_shallow : (s t : List (Symbol ℕ)) (r : Reaction) (p : Pushes) → r.outcome ≡ done.Takes
+    → t ≡ s ++ option_to_list r.below ++ reverse (few p.symbols) → All IsShallow s → AreAllShallow r p → All IsShallow t
+stays_shallow s t r p is e h k =
     subst (All IsShallow) (sym e)
-    (All-append IsShallow (s ++ option_to_list r.below) (reverse (few symbols)) (pushed_shallow s r.below h k.1)
-    (all_reversed (few symbols) (subst AreShallow is k.0)))
+    (All-append IsShallow (s ++ option_to_list r.below) (reverse (few p.symbols)) (pushed_shallow s r.below h k.1)
+    (all_reversed (few p.symbols) (subst (λ o. AreShallow o p) is k.0)))
 
 module _ (names : List Name) where
   pub stack_more : (s : List (Symbol ℕ)) (x : Symbol ℕ) → named_stack names (s ++ x ∷ []) ≡ named_symbol names x ∷ named_stack names s
@@ -103,12 +103,12 @@ module _ (names : List Name) where
   acted_takes at l s w (Some x) (Some y) words symbols =
       same_moved _ _ _ _ (words_acted w (x ∷ []) words) (stack_below s y symbols)
 
-  pub acts_takes : (at : ℕ) (l : Lexeme) (s : List (Symbol ℕ)) (w : List (Word ℕ)) (r : Reaction) (words : Few (Word ℕ) 2) (symbols : Few (Symbol ℕ) 9)
-      (t : List (Symbol ℕ)) (v : List (Word ℕ)) → r.outcome ≡ done.Takes words symbols → t ≡ s ++ option_to_list r.below ++ reverse (few symbols)
-      → v ≡ w ++ option_to_list r.before ++ few words → reacted at l (state names s w) (reaction_named names r) ≡ Ok (state names t v)
-  acts_takes at l s w r words symbols t v is e f =
-      ap (λ o. reacted at l (state names s w) (behind names r.before (atop names r.below (doing_named names (shown o))))) is
-      ∙ acted_takes at l s w r.before r.below (few words) (few symbols)
+  pub acts_takes : (at : ℕ) (l : Lexeme) (s : List (Symbol ℕ)) (w : List (Word ℕ)) (r : Reaction) (p : Pushes)
+      (t : List (Symbol ℕ)) (v : List (Word ℕ)) → r.outcome ≡ done.Takes → t ≡ s ++ option_to_list r.below ++ reverse (few p.symbols)
+      → v ≡ w ++ option_to_list r.before ++ few p.words → reacted at l (state names s w) (reaction_named names r p) ≡ Ok (state names t v)
+  acts_takes at l s w r p t v is e f =
+      ap (λ o. reacted at l (state names s w) (behind names r.before (atop names r.below (doing_named names (shown o p))))) is
+      ∙ acted_takes at l s w r.before r.below (few p.words) (few p.symbols)
       ∙ ap₂ (λ s w. the_moved (words_named names w) (named_stack names s)) (sym e) (sym f)
 
   moved_twice : (a b : Words) (r : Result Moved FaultKind) → moved_after a (moved_after b r) ≡ moved_after (a ++ b) r

@@ -13,7 +13,7 @@ use Rattle.graph_check.proofs.Shapes.{is_name_at, at_is_name}
 use Rattle.source.specs.Tree.{Name}
 use Rattle.source.specs.Tokens.{IsSpelledName}
 use Rattle.source.specs.Words.{name_of}
-use Rattle.source_text.specs.Naming.{IsDistinct, IsTable, Extends, IsNumbered}
+use Rattle.source_text.specs.Naming.{IsDistinct, IsTable, Extends, IsNumberOf, IsNumbered}
 
 abbrev looked_up : Name → BTreeMap (Bor (List ℕ)) ℕ → Option ℕ
 looked_up name numbers = get_by (λ k. slice_cmp nat_cmp name k.now) numbers
@@ -40,6 +40,17 @@ found_name numbers names name n o looked is table =
       is = ap (name_of names) place.0 ∙ get_or_from_slice_get names (place_of name names) name [] (is_name_at name names place.1);
       spelled = λ all one. all;
     }
+
+-- a name that was read of late
+pub recent_name : (numbers : BTreeMap (Bor (List ℕ)) ℕ) (names : List Name) (name : Name) (n : ℕ) → IsNumberOf names name n → IsTable numbers names
+    → IsNumbered names numbers names name n
+recent_name numbers names name n known table = record {
+  table = table;
+  extends = extends_itself names;
+  within = known.within;
+  is = known.is;
+  spelled = λ all one. all;
+}
 
 -- a new name
 absent_from : (names : List Name) (name : Name) → is_name name names ≡ false → (i : ℕ) → i < length names → name_of names i ≡ name → ⊥

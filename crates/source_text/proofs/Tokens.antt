@@ -14,13 +14,13 @@ use Rattle.source.specs.Tree.{Name}
 use Rattle.source.specs.Spelled as spelled
 use Rattle.source.specs.Spelled.{lexeme}
 use Rattle.source.specs.Words.{Words}
-use Rattle.law_grammar.specs.declared.symbol.Symbol.{Symbol}
-use Rattle.law_grammar.specs.declared.symbol.Symbol.TheVariants.{Items}
-use Rattle.law_grammar.specs.Automaton.{Stack, Moved, moved_after, advance, words_after, run_on, run, placed, parsed}
+use Rattle.law_language.specs.declared.symbol.Symbol.{Symbol}
+use Rattle.law_language.specs.declared.symbol.Symbol.TheVariants.{Items}
+use Rattle.law_language.specs.GrammarAutomaton.{Stack, Moved, moved_after, advance, words_after, run_on, run, placed, parsed}
 use Rattle.source_text.specs.declared.lexeme.Lexeme.{Lexeme}
 use Rattle.source_text.specs.Outcomes.{lexeme_named, IsShallow}
 use Rattle.source_text.specs.Naming.{Extends, IsSaid, IsWellSpelled}
-use Rattle.law_grammar.specs.Named.{named_stack}
+use Rattle.law_language.specs.GrammarNamed.{named_stack}
 use Rattle.source_text.specs.Running.{words_named, state, onward, ending, IsKind, IsFault}
 use Rattle.source_text.specs.Reading.{AreWellSpelled, IsStart, IsAdvanced, IsStopped, IsReading, AreParsed}
 use Rattle.source_text.proofs.Named.{extends_itself, extends_twice}

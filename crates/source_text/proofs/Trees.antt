@@ -11,10 +11,10 @@ use Rattle.source.specs.Tree.{Name}
 use Rattle.source.specs.Spelled.{lexeme, lexeme_at}
 use Rattle.source.specs.Words.{HasTree}
 use Rattle.source_tokens.specs.Stands.{BeginsWith, Stands}
-use Rattle.law_grammar.specs.Automaton.{parsed}
-use Rattle.law_grammar.proofs.Sound.{parsed_sound}
-use Rattle.law_grammar.proofs.Complete.{parsed_complete}
-use Rattle.law_grammar.proofs.FirstFault.{parsed_fault}
+use Rattle.law_language.specs.GrammarAutomaton.{parsed}
+use Rattle.law_language.proofs.GrammarSound.{parsed_sound}
+use Rattle.law_language.proofs.GrammarComplete.{parsed_complete}
+use Rattle.law_language.proofs.GrammarFirstFault.{parsed_fault}
 use Rattle.source_text.specs.Running.{IsFault}
 use Rattle.source_text.specs.Naming.{IsWellSpelled}
 use Rattle.source_text.specs.Reading.{AreWellSpelled, AreParsed, AreRead, IsParseFault, HasFault, of_tokens}

@@ -31,6 +31,11 @@ IsWellSpelled (spelled.TheWord keyword) = ⊤
 IsWellSpelled (spelled.TheSign sign) = ⊤
 IsWellSpelled (spelled.TheNumber number) = ⊤
 
+-- the number of a name in a table
+pub record IsNumberOf (names : List Name) (name : Name) (n : ℕ) : Type 0 where
+  pub within : n < length names
+  pub is : name_of names n ≡ name
+
 -- the table after a name was looked up, whose number this is
 pub record IsNumbered (old : List Name) (numbers : BTreeMap (Bor (List ℕ)) ℕ) (new : List Name) (name : Name) (n : ℕ) : Type 0 where
   pub table : IsTable numbers new

@@ -5,13 +5,14 @@ use Rattle.source.specs.declared.word.Word.{Word}
 use Rattle.source.specs.Tree.{Name}
 use Rattle.source.specs.Spelled as spelled
 use Rattle.source.specs.Words.{name_of, named}
-use Rattle.law_grammar.specs.declared.symbol.Symbol.{Symbol}
-use Rattle.law_grammar.specs.declared.symbol.Symbol.TheVariants.{Steps, Targets, LetEnd, StepEnd, Operand, Negated, After, AfterName, AfterIndex, Callee, CallEnd, Otherwise, Bound, Start, Starts, Turn}
-use Rattle.law_grammar.specs.Automaton as automaton
-use Rattle.law_grammar.specs.Named.{named_symbol}
+use Rattle.law_language.specs.declared.symbol.Symbol.{Symbol}
+use Rattle.law_language.specs.declared.symbol.Symbol.TheVariants.{Steps, Targets, LetEnd, StepEnd, Operand, Negated, After, AfterName, AfterIndex, Callee, CallEnd, Otherwise, Bound, Start, Starts, Turn}
+use Rattle.law_language.specs.GrammarAutomaton as automaton
+use Rattle.law_language.specs.GrammarNamed.{named_symbol}
 use Rattle.source_text.specs.declared.lexeme.Lexeme.{Lexeme}
 use Rattle.source_text.specs.declared.lexeme.Lexeme.TheVariants as code
 use Rattle.source_text.specs.declared.outcome.Few.{Few}
+use Rattle.source_text.specs.declared.outcome.Pushes.{Pushes}
 use Rattle.source_text.specs.declared.outcome.Outcome.{Outcome}
 use Rattle.source_text.specs.declared.outcome.Outcome.TheVariants as done
 use Rattle.source_text.specs.declared.reaction.Reaction.{Reaction}
@@ -31,10 +32,10 @@ pub data Doing : Type 0 where
 abbrev pub few : {T : Type 0} {N : ℕ} → Few T N → List T
 few items = take items.len items.items
 
-abbrev pub shown : Outcome → Doing
-shown (done.Takes words symbols) = Takes (few words) (few symbols)
-shown done.Passes = Passes
-shown (done.Refuses kind) = Refuses kind
+abbrev pub shown : Outcome → Pushes → Doing
+shown done.Takes pushes = Takes (few pushes.words) (few pushes.symbols)
+shown done.Passes pushes = Passes
+shown (done.Refuses kind) pushes = Refuses kind
 
 abbrev pub doing_named : List Name → Doing → automaton.Outcome
 doing_named names (Takes words symbols) = automaton.Takes (map (named names) words) (map (named_symbol names) symbols)
@@ -42,8 +43,8 @@ doing_named names Passes = automaton.Passes []
 doing_named names (Refuses kind) = automaton.Refuses kind
 
 -- what it does is this, whatever the names are
-abbrev pub Does : Outcome → (List Name → automaton.Outcome) → Type 0
-Does outcome meant = (names : List Name) → doing_named names (shown outcome) ≡ meant names
+abbrev pub Does : Outcome → Pushes → (List Name → automaton.Outcome) → Type 0
+Does outcome pushes meant = (names : List Name) → doing_named names (shown outcome pushes) ≡ meant names
 
 -- DEPTH. Where a symbol puts one that is deeper, there is room.
 abbrev pub IsShallow : Symbol ℕ → Type 0
@@ -65,10 +66,10 @@ IsShallow (Starts depth) = depth < 200
 IsShallow (Turn depth) = depth < 200
 IsShallow symbol = ⊤
 
-abbrev pub AreShallow : Outcome → Type 0
-AreShallow (done.Takes words symbols) = All IsShallow (few symbols)
-AreShallow done.Passes = ⊤
-AreShallow (done.Refuses kind) = ⊤
+abbrev pub AreShallow : Outcome → Pushes → Type 0
+AreShallow done.Takes pushes = All IsShallow (few pushes.symbols)
+AreShallow done.Passes pushes = ⊤
+AreShallow (done.Refuses kind) pushes = ⊤
 
 -- A REACTION. A word may come before the others, and a symbol below those that come.
 abbrev pub behind : List Name → Option (Word ℕ) → automaton.Outcome → automaton.Outcome
@@ -79,15 +80,15 @@ abbrev pub atop : List Name → Option (Symbol ℕ) → automaton.Outcome → au
 atop names None outcome = outcome
 atop names (Some symbol) outcome = automaton.above (named_symbol names symbol ∷ []) outcome
 
-abbrev pub reaction_named : List Name → Reaction → automaton.Outcome
-reaction_named names reaction = behind names reaction.before (atop names reaction.below (doing_named names (shown reaction.outcome)))
+abbrev pub reaction_named : List Name → Reaction → Pushes → automaton.Outcome
+reaction_named names reaction pushes = behind names reaction.before (atop names reaction.below (doing_named names (shown reaction.outcome pushes)))
 
-abbrev pub Reacts : Reaction → (List Name → automaton.Outcome) → Type 0
-Reacts reaction meant = (names : List Name) → reaction_named names reaction ≡ meant names
+abbrev pub Reacts : Reaction → Pushes → (List Name → automaton.Outcome) → Type 0
+Reacts reaction pushes meant = (names : List Name) → reaction_named names reaction pushes ≡ meant names
 
 abbrev pub IsShallowBelow : Option (Symbol ℕ) → Type 0
 IsShallowBelow None = ⊤
 IsShallowBelow (Some symbol) = IsShallow symbol
 
-abbrev pub AreAllShallow : Reaction → Type 0
-AreAllShallow reaction = AreShallow reaction.outcome × IsShallowBelow reaction.below
+abbrev pub AreAllShallow : Reaction → Pushes → Type 0
+AreAllShallow reaction pushes = AreShallow reaction.outcome pushes × IsShallowBelow reaction.below

@@ -13,12 +13,12 @@ use Rattle.source.specs.Tree.{Name, Program}
 use Rattle.source.specs.Spelled.{Lexeme, lexeme}
 use Rattle.source.specs.Words.{named, numbers_of, AreWords}
 use Rattle.source.specs.Parses.{Parses, Refuses}
-use Rattle.law_grammar.specs.declared.symbol.Symbol.{Symbol}
-use Rattle.law_grammar.specs.declared.symbol.Symbol.TheVariants.{Items}
-use Rattle.law_grammar.specs.Automaton.{words_after, run, placed, parsed}
+use Rattle.law_language.specs.declared.symbol.Symbol.{Symbol}
+use Rattle.law_language.specs.declared.symbol.Symbol.TheVariants.{Items}
+use Rattle.law_language.specs.GrammarAutomaton.{words_after, run, placed, parsed}
 use Rattle.source_text.specs.Outcomes.{IsShallow}
 use Rattle.source_text.specs.Naming.{IsDistinct, IsTable, Extends, IsWellSpelled}
-use Rattle.law_grammar.specs.Named.{named_stack}
+use Rattle.law_language.specs.GrammarNamed.{named_stack}
 use Rattle.source_text.specs.Running.{words_named, state, onward, IsKind}
 use denote.Ref.{Bor}
 

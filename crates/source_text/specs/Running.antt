@@ -7,9 +7,9 @@ use Rattle.source.specs.declared.word.Word.{Word}
 use Rattle.source.specs.Tree.{Name}
 use Rattle.source.specs.Spelled.{Lexeme}
 use Rattle.source.specs.Words.{Words, named}
-use Rattle.law_grammar.specs.declared.symbol.Symbol.{Symbol}
-use Rattle.law_grammar.specs.Automaton.{Outcome, Moved, moved_after, advance_by, advance, finish, finished, words_after}
-use Rattle.law_grammar.specs.Named.{named_stack}
+use Rattle.law_language.specs.declared.symbol.Symbol.{Symbol}
+use Rattle.law_language.specs.GrammarAutomaton.{Outcome, Moved, moved_after, advance_by, advance, finish, finished, words_after}
+use Rattle.law_language.specs.GrammarNamed.{named_stack}
 
 abbrev pub words_named : List Name → List (Word ℕ) → Words
 words_named names words = map (named names) words

@@ -1,30 +1,38 @@
 //! What may follow an operand.
 
 ghost use Rattle.std.specs.Prelude.{◌≤◌};
-ghost use Rattle.law_grammar.specs.Automaton as automaton;
+ghost use Rattle.law_language.specs.GrammarAutomaton as automaton;
+ghost use Rattle.source_text.specs.declared.outcome.Pushes.{Pushes};
 ghost use Rattle.source_text.specs.Outcomes.{lexeme_named, Does, AreShallow};
 
 use crate::lexeme::Lexeme;
-use crate::outcome::{Outcome, passes, refuses, takes};
+use crate::outcome::{Outcome, Pushes, passes, refuses, takes};
 use crate::signs::{goes_on, infix_of, sign_level};
-use law_grammar::symbol::Symbol;
+use law_language::symbol::Symbol;
 use operators::Binary;
 use source::fault::FaultKind;
 use source::token::Sign;
 use source::word::{InfixSign, Word};
 
 /// Behind an operand stands an operator with its operand, or what is for the symbol below.
-pub(crate) fn after(level: u8, left: u8, depth: u8, at: usize, lexeme: Lexeme) -> Outcome
+pub(crate) fn after(
+    pushes: &mut Pushes,
+    level: u8,
+    left: u8,
+    depth: u8,
+    at: usize,
+    lexeme: Lexeme,
+) -> Outcome
     requires { depth ≤ 200 }
-    ensures does { Does result (λ names. automaton.after level left depth at (lexeme_named names lexeme)) }
-    ensures shallow { AreShallow result }
+    ensures does { Does result pushes.new (λ names. automaton.after level left depth at (lexeme_named names lexeme)) }
+    ensures shallow { AreShallow result pushes.new }
 {
     match lexeme {
         Lexeme::Mark {
             sign: Sign::Becomes,
         } => after_cell(level, left),
         Lexeme::Mark { sign } => match infix_of(sign) {
-            Some(infix) => after_infix(level, left, depth, at, infix),
+            Some(infix) => after_infix(pushes, level, left, depth, at, infix),
             None => passes(),
         },
         _ => passes(),
@@ -33,8 +41,8 @@ pub(crate) fn after(level: u8, left: u8, depth: u8, at: usize, lexeme: Lexeme) -
 
 /// A `:=` has no cell before it where an operator could stand.
 fn after_cell(level: u8, left: u8) -> Outcome
-    ensures does { Does result (λ names. automaton.after_cell level left) }
-    ensures shallow { AreShallow result }
+    ensures does { (pushes : Pushes) → Does result pushes (λ names. automaton.after_cell level left) }
+    ensures shallow { (pushes : Pushes) → AreShallow result pushes }
 {
     if goes_on(level, left, InfixSign::Direct { op: Binary::Add }) {
         refuses(FaultKind::NotACell)
@@ -43,15 +51,23 @@ fn after_cell(level: u8, left: u8) -> Outcome
     }
 }
 
-fn after_infix(level: u8, left: u8, depth: u8, at: usize, sign: InfixSign) -> Outcome
+fn after_infix(
+    pushes: &mut Pushes,
+    level: u8,
+    left: u8,
+    depth: u8,
+    at: usize,
+    sign: InfixSign,
+) -> Outcome
     requires { depth ≤ 200 }
-    ensures does { Does result (λ names. automaton.after_infix level left depth at sign) }
-    ensures shallow { AreShallow result }
+    ensures does { Does result pushes.new (λ names. automaton.after_infix level left depth at sign) }
+    ensures shallow { AreShallow result pushes.new }
 {
     if !goes_on(level, left, sign) {
         return passes();
     }
     takes(
+        pushes,
         &[Word::Left],
         &[
             Symbol::Operand {

@@ -1,39 +1,44 @@
 //! Bodies, and the parts of a loop.
 
 ghost use Rattle.std.specs.Prelude.{◌<◌, ◌+◌};
-ghost use Rattle.law_grammar.specs.Automaton as automaton;
+ghost use Rattle.law_language.specs.GrammarAutomaton as automaton;
 ghost use Rattle.source_text.specs.Outcomes.{lexeme_named, Does, AreShallow};
 
 use crate::lexeme::Lexeme;
 use crate::numbers::{is_small, too_large};
-use crate::outcome::{Outcome, takes, unexpected};
-use law_grammar::symbol::Symbol;
+use crate::outcome::{Outcome, Pushes, takes, unexpected};
+use law_language::symbol::Symbol;
 use source::token::{Keyword, Sign};
 use source::word::Word;
 
-pub(crate) fn target(at: usize, lexeme: Lexeme) -> Outcome
-    ensures does { Does result (λ names. automaton.target at (lexeme_named names lexeme)) }
-    ensures shallow { AreShallow result }
+pub(crate) fn target(pushes: &mut Pushes, at: usize, lexeme: Lexeme) -> Outcome
+    ensures does { Does result pushes.new (λ names. automaton.target at (lexeme_named names lexeme)) }
+    ensures shallow { AreShallow result pushes.new }
 {
     match lexeme {
-        Lexeme::Name { name } => takes(&[Word::Bind { at, name }], &[]),
+        Lexeme::Name { name } => takes(pushes, &[Word::Bind { at, name }], &[]),
         Lexeme::Mark {
             sign: Sign::Underscore,
-        } => takes(&[Word::Drop], &[]),
+        } => takes(pushes, &[Word::Drop], &[]),
         _ => unexpected(),
     }
 }
 
-pub(crate) fn targets(bound: usize, depth: u8, lexeme: Lexeme) -> Outcome
+pub(crate) fn targets(pushes: &mut Pushes, bound: usize, depth: u8, lexeme: Lexeme) -> Outcome
     requires { depth < 200 }
-    ensures does { Does result (λ names. automaton.targets bound depth (lexeme_named names lexeme)) }
-    ensures shallow { AreShallow result }
+    ensures does { Does result pushes.new (λ names. automaton.targets bound depth (lexeme_named names lexeme)) }
+    ensures shallow { AreShallow result pushes.new }
 {
     match lexeme {
         Lexeme::Mark { sign: Sign::Comma } => {
-            takes(&[], &[Symbol::Target, Symbol::Targets { at: bound, depth }])
+            takes(
+                pushes,
+                &[],
+                &[Symbol::Target, Symbol::Targets { at: bound, depth }],
+            )
         }
         Lexeme::Mark { sign: Sign::Equals } => takes(
+            pushes,
             &[Word::List],
             &[
                 Symbol::Operand {
@@ -47,13 +52,14 @@ pub(crate) fn targets(bound: usize, depth: u8, lexeme: Lexeme) -> Outcome
     }
 }
 
-pub(crate) fn let_end(bound: usize, depth: u8, lexeme: Lexeme) -> Outcome
+pub(crate) fn let_end(pushes: &mut Pushes, bound: usize, depth: u8, lexeme: Lexeme) -> Outcome
     requires { depth < 200 }
-    ensures does { Does result (λ names. automaton.let_end bound depth (lexeme_named names lexeme)) }
-    ensures shallow { AreShallow result }
+    ensures does { Does result pushes.new (λ names. automaton.let_end bound depth (lexeme_named names lexeme)) }
+    ensures shallow { AreShallow result pushes.new }
 {
     match lexeme {
         Lexeme::Mark { sign: Sign::Comma } => takes(
+            pushes,
             &[Word::Part],
             &[
                 Symbol::Operand {
@@ -66,6 +72,7 @@ pub(crate) fn let_end(bound: usize, depth: u8, lexeme: Lexeme) -> Outcome
         Lexeme::Mark {
             sign: Sign::Semicolon,
         } => takes(
+            pushes,
             &[Word::Part, Word::EndLet { at: bound }],
             &[Symbol::Steps { depth }],
         ),
@@ -73,14 +80,15 @@ pub(crate) fn let_end(bound: usize, depth: u8, lexeme: Lexeme) -> Outcome
     }
 }
 
-pub(crate) fn step_end(depth: u8, lexeme: Lexeme) -> Outcome
+pub(crate) fn step_end(pushes: &mut Pushes, depth: u8, lexeme: Lexeme) -> Outcome
     requires { depth < 200 }
-    ensures does { Does result (λ names. automaton.step_end depth (lexeme_named names lexeme)) }
-    ensures shallow { AreShallow result }
+    ensures does { Does result pushes.new (λ names. automaton.step_end depth (lexeme_named names lexeme)) }
+    ensures shallow { AreShallow result pushes.new }
 {
     match lexeme {
         Lexeme::Mark { sign: Sign::Comma } => {
             takes(
+                pushes,
                 &[Word::Part],
                 &[
                     Symbol::Operand {
@@ -93,22 +101,29 @@ pub(crate) fn step_end(depth: u8, lexeme: Lexeme) -> Outcome
         }
         Lexeme::Mark {
             sign: Sign::Semicolon,
-        } => takes(&[Word::Part, Word::Do], &[Symbol::Steps { depth }]),
+        } => takes(pushes, &[Word::Part, Word::Do], &[Symbol::Steps { depth }]),
         Lexeme::Mark {
             sign: Sign::CloseBrace,
-        } => takes(&[Word::Part, Word::Give], &[]),
+        } => takes(pushes, &[Word::Part, Word::Give], &[]),
         _ => unexpected(),
     }
 }
 
 /// The bound of the loop that stands at `start`.
-pub(crate) fn bound(start: usize, depth: u8, at: usize, lexeme: Lexeme) -> Outcome
+pub(crate) fn bound(
+    pushes: &mut Pushes,
+    start: usize,
+    depth: u8,
+    at: usize,
+    lexeme: Lexeme,
+) -> Outcome
     requires { depth < 200 }
-    ensures does { Does result (λ names. automaton.bound start depth at (lexeme_named names lexeme)) }
-    ensures shallow { AreShallow result }
+    ensures does { Does result pushes.new (λ names. automaton.bound start depth at (lexeme_named names lexeme)) }
+    ensures shallow { AreShallow result pushes.new }
 {
     match lexeme {
         Lexeme::Number { number } if is_small(number) => takes(
+            pushes,
             &[Word::Bound { at, bound: number }],
             &[
                 Symbol::Sign {
@@ -130,13 +145,14 @@ pub(crate) fn bound(start: usize, depth: u8, at: usize, lexeme: Lexeme) -> Outco
     }
 }
 
-pub(crate) fn start(depth: u8, at: usize, lexeme: Lexeme) -> Outcome
+pub(crate) fn start(pushes: &mut Pushes, depth: u8, at: usize, lexeme: Lexeme) -> Outcome
     requires { depth < 200 }
-    ensures does { Does result (λ names. automaton.start depth at (lexeme_named names lexeme)) }
-    ensures shallow { AreShallow result }
+    ensures does { Does result pushes.new (λ names. automaton.start depth at (lexeme_named names lexeme)) }
+    ensures shallow { AreShallow result pushes.new }
 {
     match lexeme {
         Lexeme::Name { name } => takes(
+            pushes,
             &[Word::Start { at, name }],
             &[
                 Symbol::Sign { sign: Sign::Equals },
@@ -150,32 +166,34 @@ pub(crate) fn start(depth: u8, at: usize, lexeme: Lexeme) -> Outcome
     }
 }
 
-pub(crate) fn starts(depth: u8, lexeme: Lexeme) -> Outcome
+pub(crate) fn starts(pushes: &mut Pushes, depth: u8, lexeme: Lexeme) -> Outcome
     requires { depth < 200 }
-    ensures does { Does result (λ names. automaton.starts depth (lexeme_named names lexeme)) }
-    ensures shallow { AreShallow result }
+    ensures does { Does result pushes.new (λ names. automaton.starts depth (lexeme_named names lexeme)) }
+    ensures shallow { AreShallow result pushes.new }
 {
     match lexeme {
         Lexeme::Mark { sign: Sign::Comma } => takes(
+            pushes,
             &[Word::First],
             &[Symbol::Start { depth }, Symbol::Starts { depth }],
         ),
         Lexeme::Mark {
             sign: Sign::CloseParen,
-        } => takes(&[Word::First], &[]),
+        } => takes(pushes, &[Word::First], &[]),
         _ => unexpected(),
     }
 }
 
-pub(crate) fn turn(depth: u8, lexeme: Lexeme) -> Outcome
+pub(crate) fn turn(pushes: &mut Pushes, depth: u8, lexeme: Lexeme) -> Outcome
     requires { depth < 200 }
-    ensures does { Does result (λ names. automaton.turn depth (lexeme_named names lexeme)) }
-    ensures shallow { AreShallow result }
+    ensures does { Does result pushes.new (λ names. automaton.turn depth (lexeme_named names lexeme)) }
+    ensures shallow { AreShallow result pushes.new }
 {
     match lexeme {
         Lexeme::Word {
             keyword: Keyword::While,
         } => takes(
+            pushes,
             &[Word::TestFirst],
             &[
                 Symbol::Operand {
@@ -192,6 +210,7 @@ pub(crate) fn turn(depth: u8, lexeme: Lexeme) -> Outcome
         Lexeme::Mark {
             sign: Sign::OpenBrace,
         } => takes(
+            pushes,
             &[Word::BodyFirst],
             &[
                 Symbol::Steps { depth },

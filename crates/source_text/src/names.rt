@@ -1,28 +1,89 @@
 //! The names of a program, each once.
 
-ghost use Rattle.std.specs.Prelude.{◌≡◌, IfOk, IfErr};
+ghost use Rattle.std.specs.Prelude.{◌≡◌, ℕ, Some, [], IfOk, IfErr};
 ghost use Rattle.source.specs.Spelled.{lexeme};
 ghost use Rattle.source.specs.declared.fault.FaultKind.TheVariants.{Memory};
-ghost use Rattle.source_text.specs.Naming.{IsTable, IsNumbered, IsSaid};
+ghost use Rattle.source_text.specs.Naming.{IsTable, IsNumberOf, IsNumbered, IsSaid};
 
 use crate::lexeme::Lexeme;
 use graph::Name;
 use source::fault::FaultKind;
 use source::token::{Token, TokenKind};
 use source_tokens::name_at;
-use std::alloc::Allocator;
+use std::alloc::{AllocError, Allocator};
 use std::collections::BTreeMap;
+
+/// For so many hashes the number is kept of the name that was last read with it.
+const SLOTS: usize = 4096;
 
 /// The names so far, and a map from each to its number.
 #[derive(Drop)]
 pub(crate) struct Names<'a, A: Allocator> {
     pub numbers: BTreeMap<&'a [u8], usize, A>,
     pub table: Vec<Name<'a>, A>,
+    /// Numbers of names by their hashes. What stands here is looked at and not relied on.
+    pub recent: Vec<usize, A>,
+}
+
+/// No name was read of late.
+fn no_recent<A: Allocator>(alloc: A) -> Result<Vec<usize, A>, AllocError> {
+    Ok(vec![in alloc; 0; SLOTS]?)
+}
+
+/// The place of a name among those that were read of late.
+fn slot_of(name: &[u8]) -> usize {
+    let mut hash: u32 = 0;
+    for b in name {
+        hash = hash.wrapping_mul(31).wrapping_add(u32::from(*b));
+    }
+    hash as usize % SLOTS
 }
 
 impl<'a, A: Allocator + Clone> Names<'a, A> {
+    /// Nothing was read.
+    pub(crate) fn new(alloc: &A) -> Result<Names<'a, A>, AllocError>
+        ensures indexed { IfOk result (λ names. IsTable names.numbers names.table.items) }
+        ensures empty { IfOk result (λ names. names.table.items ≡ []) }
+    {
+        Ok(Names {
+            numbers: BTreeMap::new(alloc.clone()?),
+            table: Vec::new(alloc.clone()?),
+            recent: no_recent(alloc.clone()?)?,
+        })
+    }
+
+    /// The number of a name that is the last one with its slot.
+    fn recent_number(&self, slot: usize, name: &[u8]) -> Option<usize>
+        ensures { (n : ℕ) → result ≡ Some n → IsNumberOf self.now.table.items name.now n }
+    {
+        let number = *self.recent.get(slot)?;
+        let known = self.table.get(number)?;
+        if known.bytes == name {
+            Some(number)
+        } else {
+            None
+        }
+    }
+
     /// The number of a name, which is a new one where the name is new.
     fn number(&mut self, name: &'a [u8]) -> Result<usize, FaultKind>
+        ensures numbered { IsTable self.old.numbers self.old.table.items
+            → IfOk result (λ n. IsNumbered self.old.table.items self.new.numbers self.new.table.items name.now n) }
+        ensures memory { IfErr result (λ kind. kind ≡ Memory) }
+    {
+        let slot = slot_of(name);
+        if let Some(number) = self.recent_number(slot, name) {
+            return Ok(number);
+        }
+        let number = self.look_up(name)?;
+        if slot < self.recent.len() {
+            self.recent[slot] = number;
+        }
+        Ok(number)
+    }
+
+    /// The number of a name by the map, which is a new one where the name is new.
+    fn look_up(&mut self, name: &'a [u8]) -> Result<usize, FaultKind>
         ensures numbered { IsTable self.old.numbers self.old.table.items
             → IfOk result (λ n. IsNumbered self.old.table.items self.new.numbers self.new.table.items name.now n) }
         ensures memory { IfErr result (λ kind. kind ≡ Memory) }

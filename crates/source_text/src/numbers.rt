@@ -2,7 +2,7 @@
 
 ghost use Rattle.std.specs.Prelude.{◌≡◌, ◌≤◌, ◌^◌, ◌==◌, nat_lt, if◌then◌else◌};
 ghost use Rattle.source.specs.declared.fault.FaultKind.TheVariants.{BadNumber, Unexpected};
-ghost use Rattle.source_text.specs.Outcomes.{Refuses, shown, AreShallow};
+ghost use Rattle.source_text.specs.declared.outcome.Outcome.TheVariants.{Refuses};
 
 use crate::outcome::{Outcome, refuses};
 use source::fault::FaultKind;
@@ -18,8 +18,7 @@ pub(crate) fn is_small(number: u64) -> bool
 
 /// A number that is not below 2 ^ 63.
 pub(crate) fn too_large(number: u64) -> Outcome
-    ensures does { shown result ≡ Refuses (if number == 2 ^ 63 then BadNumber else Unexpected) }
-    ensures shallow { AreShallow result }
+    ensures { result ≡ Refuses (if number == 2 ^ 63 then BadNumber else Unexpected) }
 {
     if number == LARGEST {
         refuses(FaultKind::BadNumber)

@@ -1,16 +1,16 @@
 //! Operands.
 
 ghost use Rattle.std.specs.Prelude.{◌≤◌, ◌<◌, ◌+◌, ◌++◌, ◌∷◌, []};
-ghost use Rattle.law_grammar.specs.Automaton as automaton;
+ghost use Rattle.law_language.specs.GrammarAutomaton as automaton;
 ghost use Rattle.source.specs.Words.{name_of};
 ghost use Rattle.source_text.specs.declared.lexeme.Lexeme.TheVariants.{Number};
-ghost use Rattle.law_grammar.specs.Named.{named_symbol};
+ghost use Rattle.law_language.specs.GrammarNamed.{named_symbol};
 ghost use Rattle.source_text.specs.Outcomes.{lexeme_named, Does, IsShallow, AreShallow};
 
 use crate::lexeme::Lexeme;
 use crate::numbers::{LARGEST, is_small, too_large};
-use crate::outcome::{Outcome, refuses, takes, unexpected};
-use law_grammar::symbol::Symbol;
+use crate::outcome::{Outcome, Pushes, refuses, takes, unexpected};
+use law_language::symbol::Symbol;
 use operators::Unary;
 use source::fault::FaultKind;
 use source::token::{Keyword, Sign};
@@ -20,13 +20,14 @@ use source::word::Word;
 pub(crate) const LIMIT: u8 = 200;
 
 /// What follows an `if`, and what follows the conditional.
-fn conditional(at: usize, depth: u8, last: Symbol<usize>) -> Outcome
+fn conditional(pushes: &mut Pushes, at: usize, depth: u8, last: Symbol<usize>) -> Outcome
     requires deep { depth + 2 ≤ 200 }
     requires shallow { IsShallow last }
-    ensures does { Does result (λ names. automaton.Takes [] (automaton.conditional at depth ++ named_symbol names last ∷ [])) }
-    ensures shallow { AreShallow result }
+    ensures does { Does result pushes.new (λ names. automaton.Takes [] (automaton.conditional at depth ++ named_symbol names last ∷ [])) }
+    ensures shallow { AreShallow result pushes.new }
 {
     takes(
+        pushes,
         &[],
         &[
             Symbol::Operand {
@@ -51,10 +52,10 @@ fn conditional(at: usize, depth: u8, last: Symbol<usize>) -> Outcome
     )
 }
 
-fn operand_word(level: u8, depth: u8, at: usize, keyword: Keyword) -> Outcome
+fn operand_word(pushes: &mut Pushes, level: u8, depth: u8, at: usize, keyword: Keyword) -> Outcome
     requires { depth ≤ 201 }
-    ensures does { Does result (λ names. automaton.operand_word 200 level depth at keyword) }
-    ensures shallow { AreShallow result }
+    ensures does { Does result pushes.new (λ names. automaton.operand_word 200 level depth at keyword) }
+    ensures shallow { AreShallow result pushes.new }
 {
     let after = Symbol::After {
         level,
@@ -62,23 +63,28 @@ fn operand_word(level: u8, depth: u8, at: usize, keyword: Keyword) -> Outcome
         depth,
     };
     match keyword {
-        Keyword::If if depth + 2 <= LIMIT => conditional(at, depth, after),
-        Keyword::Strict if depth < LIMIT => takes(&[], &[Symbol::Callee { depth }, after]),
+        Keyword::If if depth + 2 <= LIMIT => conditional(pushes, at, depth, after),
+        Keyword::Strict if depth < LIMIT => takes(pushes, &[], &[Symbol::Callee { depth }, after]),
         Keyword::Loop if depth < LIMIT => {
-            takes(&[Word::Loop { at }], &[Symbol::Bound { at, depth }, after])
+            takes(
+                pushes,
+                &[Word::Loop { at }],
+                &[Symbol::Bound { at, depth }, after],
+            )
         }
         Keyword::If | Keyword::Strict | Keyword::Loop => refuses(FaultKind::TooDeep),
         _ => unexpected(),
     }
 }
 
-fn operand_sign(level: u8, depth: u8, at: usize, sign: Sign) -> Outcome
+fn operand_sign(pushes: &mut Pushes, level: u8, depth: u8, at: usize, sign: Sign) -> Outcome
     requires { depth ≤ 201 }
-    ensures does { Does result (λ names. automaton.operand_sign 200 level depth at sign) }
-    ensures shallow { AreShallow result }
+    ensures does { Does result pushes.new (λ names. automaton.operand_sign 200 level depth at sign) }
+    ensures shallow { AreShallow result pushes.new }
 {
     match sign {
         Sign::OpenParen if depth < LIMIT => takes(
+            pushes,
             &[],
             &[
                 Symbol::Operand {
@@ -99,6 +105,7 @@ fn operand_sign(level: u8, depth: u8, at: usize, sign: Sign) -> Outcome
             ],
         ),
         Sign::Minus if depth <= LIMIT => takes(
+            pushes,
             &[],
             &[
                 Symbol::Negated { depth },
@@ -113,6 +120,7 @@ fn operand_sign(level: u8, depth: u8, at: usize, sign: Sign) -> Outcome
             ],
         ),
         Sign::Tilde if depth < LIMIT => takes(
+            pushes,
             &[],
             &[
                 Symbol::Operand {
@@ -134,15 +142,16 @@ fn operand_sign(level: u8, depth: u8, at: usize, sign: Sign) -> Outcome
     }
 }
 
-fn operand_number(level: u8, depth: u8, at: usize, number: u64) -> Outcome
+fn operand_number(pushes: &mut Pushes, level: u8, depth: u8, at: usize, number: u64) -> Outcome
     requires { depth ≤ 201 }
-    ensures does { Does result (λ names. automaton.operand 200 level depth at (lexeme_named names (Number number))) }
-    ensures shallow { AreShallow result }
+    ensures does { Does result pushes.new (λ names. automaton.operand 200 level depth at (lexeme_named names (Number number))) }
+    ensures shallow { AreShallow result pushes.new }
 {
     if !is_small(number) {
         too_large(number)
     } else if depth <= LIMIT {
         takes(
+            pushes,
             &[Word::Number { at, number }],
             &[Symbol::After {
                 level,
@@ -155,14 +164,21 @@ fn operand_number(level: u8, depth: u8, at: usize, number: u64) -> Outcome
     }
 }
 
-pub(crate) fn operand(level: u8, depth: u8, at: usize, lexeme: Lexeme) -> Outcome
+pub(crate) fn operand(
+    pushes: &mut Pushes,
+    level: u8,
+    depth: u8,
+    at: usize,
+    lexeme: Lexeme,
+) -> Outcome
     requires { depth ≤ 201 }
-    ensures does { Does result (λ names. automaton.operand 200 level depth at (lexeme_named names lexeme)) }
-    ensures shallow { AreShallow result }
+    ensures does { Does result pushes.new (λ names. automaton.operand 200 level depth at (lexeme_named names lexeme)) }
+    ensures shallow { AreShallow result pushes.new }
 {
     match lexeme {
-        Lexeme::Number { number } => operand_number(level, depth, at, number),
+        Lexeme::Number { number } => operand_number(pushes, level, depth, at, number),
         Lexeme::Name { name } if depth <= LIMIT => takes(
+            pushes,
             &[],
             &[Symbol::AfterName {
                 at,
@@ -172,33 +188,34 @@ pub(crate) fn operand(level: u8, depth: u8, at: usize, lexeme: Lexeme) -> Outcom
             }],
         ),
         Lexeme::Name { .. } => refuses(FaultKind::TooDeep),
-        Lexeme::Mark { sign } => operand_sign(level, depth, at, sign),
-        Lexeme::Word { keyword } => operand_word(level, depth, at, keyword),
+        Lexeme::Mark { sign } => operand_sign(pushes, level, depth, at, sign),
+        Lexeme::Word { keyword } => operand_word(pushes, level, depth, at, keyword),
     }
 }
 
 /// The operand of a `-`. A number is not deeper, and may be 2 ^ 63.
-pub(crate) fn negated(depth: u8, at: usize, lexeme: Lexeme) -> Outcome
+pub(crate) fn negated(pushes: &mut Pushes, depth: u8, at: usize, lexeme: Lexeme) -> Outcome
     requires { depth ≤ 200 }
-    ensures does { Does result (λ names. automaton.negated 200 depth at (lexeme_named names lexeme)) }
-    ensures shallow { AreShallow result }
+    ensures does { Does result pushes.new (λ names. automaton.negated 200 depth at (lexeme_named names lexeme)) }
+    ensures shallow { AreShallow result pushes.new }
 {
     match lexeme {
         Lexeme::Number { number } if number <= LARGEST => {
-            takes(&[Word::Number { at, number }], &[])
+            takes(pushes, &[Word::Number { at, number }], &[])
         }
         Lexeme::Number { .. } => unexpected(),
-        _ => operand(8, depth + 1, at, lexeme),
+        _ => operand(pushes, 8, depth + 1, at, lexeme),
     }
 }
 
-pub(crate) fn callee(depth: u8, at: usize, lexeme: Lexeme) -> Outcome
+pub(crate) fn callee(pushes: &mut Pushes, depth: u8, at: usize, lexeme: Lexeme) -> Outcome
     requires { depth < 200 }
-    ensures does { Does result (λ names. automaton.callee depth at (lexeme_named names lexeme)) }
-    ensures shallow { AreShallow result }
+    ensures does { Does result pushes.new (λ names. automaton.callee depth at (lexeme_named names lexeme)) }
+    ensures shallow { AreShallow result pushes.new }
 {
     match lexeme {
         Lexeme::Name { name } => takes(
+            pushes,
             &[Word::Callee { at, function: name }, Word::List],
             &[
                 Symbol::Sign {
@@ -221,6 +238,7 @@ pub(crate) fn callee(depth: u8, at: usize, lexeme: Lexeme) -> Outcome
 }
 
 pub(crate) fn call_end(
+    pushes: &mut Pushes,
     at: usize,
     strict: bool,
     function: usize,
@@ -228,11 +246,12 @@ pub(crate) fn call_end(
     lexeme: Lexeme,
 ) -> Outcome
     requires { depth < 200 }
-    ensures does { Does result (λ names. automaton.call_end at strict (name_of names function) depth (lexeme_named names lexeme)) }
-    ensures shallow { AreShallow result }
+    ensures does { Does result pushes.new (λ names. automaton.call_end at strict (name_of names function) depth (lexeme_named names lexeme)) }
+    ensures shallow { AreShallow result pushes.new }
 {
     match lexeme {
         Lexeme::Mark { sign: Sign::Comma } => takes(
+            pushes,
             &[Word::Part],
             &[
                 Symbol::Operand {
@@ -250,6 +269,7 @@ pub(crate) fn call_end(
         Lexeme::Mark {
             sign: Sign::CloseParen,
         } => takes(
+            pushes,
             &[
                 Word::Part,
                 Word::Call {
@@ -265,18 +285,23 @@ pub(crate) fn call_end(
 }
 
 /// Behind an `else` stands an `if` or a block.
-pub(crate) fn otherwise(depth: u8, at: usize, lexeme: Lexeme) -> Outcome
+pub(crate) fn otherwise(pushes: &mut Pushes, depth: u8, at: usize, lexeme: Lexeme) -> Outcome
     requires { depth < 200 }
-    ensures does { Does result (λ names. automaton.otherwise 200 depth at (lexeme_named names lexeme)) }
-    ensures shallow { AreShallow result }
+    ensures does { Does result pushes.new (λ names. automaton.otherwise 200 depth at (lexeme_named names lexeme)) }
+    ensures shallow { AreShallow result pushes.new }
 {
     match lexeme {
         Lexeme::Mark {
             sign: Sign::OpenBrace,
-        } => takes(&[], &[Symbol::Steps { depth }]),
+        } => takes(pushes, &[], &[Symbol::Steps { depth }]),
         Lexeme::Word {
             keyword: Keyword::If,
-        } if depth + 2 <= LIMIT => conditional(at, depth, Symbol::Emit { word: Word::Chain }),
+        } if depth + 2 <= LIMIT => conditional(
+            pushes,
+            at,
+            depth,
+            Symbol::Emit { word: Word::Chain },
+        ),
         Lexeme::Word {
             keyword: Keyword::If,
         } => refuses(FaultKind::TooDeep),

@@ -2,9 +2,10 @@
 
 ghost use Rattle.std.specs.Prelude.{◌≡◌, ◌≤◌, length, All};
 ghost use Rattle.source.specs.declared.fault.FaultKind.TheVariants.{Unexpected};
-ghost use Rattle.source_text.specs.Outcomes.{Takes, Passes, Refuses, shown, IsShallow, AreShallow, few};
+ghost use Rattle.source_text.specs.declared.outcome.Outcome.TheVariants as outcome;
+ghost use Rattle.source_text.specs.Outcomes.{Takes, shown, IsShallow, AreShallow, few};
 
-use law_grammar::symbol::Symbol;
+use law_language::symbol::Symbol;
 use source::fault::FaultKind;
 use source::word::Word;
 
@@ -23,81 +24,75 @@ impl<T, const N: usize> Few<T, N> {
     }
 }
 
+/// The words and the symbols that the last step pushes. It stands in one place for all steps, since it is large.
+#[derive(Drop)]
+pub(crate) struct Pushes {
+    pub words: Few<Word<usize>, 2>,
+    /// They come in the symbol's place, the first one on top.
+    pub symbols: Few<Symbol<usize>, 9>,
+}
+
+impl Pushes {
+    pub(crate) fn new() -> Pushes {
+        Pushes {
+            words: Few {
+                items: [Word::Drop; 2],
+                len: 0,
+            },
+            symbols: Few {
+                items: [Symbol::Items; 9],
+                len: 0,
+            },
+        }
+    }
+}
+
 /// What a symbol does with a token.
 #[derive(Clone, Copy)]
 pub(crate) enum Outcome {
-    /// The token is taken: these words are appended, and these symbols come in the symbol's place, the first one on top.
-    Takes {
-        words: Few<Word<usize>, 2>,
-        symbols: Few<Symbol<usize>, 9>,
-    },
+    /// The token is taken, with these pushes.
+    Takes,
     /// The token is for the symbol below.
     Passes,
-    Refuses {
-        kind: FaultKind,
-    },
-}
-
-/// Few words.
-fn few_words(words: &[Word<usize>]) -> Few<Word<usize>, 2>
-    requires { length words.now ≤ 2 }
-    ensures { few result ≡ words.now }
-{
-    let mut items = [Word::Drop; 2];
-    items[..words.len()].copy_from_slice(words);
-    Few {
-        items,
-        len: words.len(),
-    }
-}
-
-/// Few symbols.
-fn few_symbols(symbols: &[Symbol<usize>]) -> Few<Symbol<usize>, 9>
-    requires { length symbols.now ≤ 9 }
-    ensures { few result ≡ symbols.now }
-{
-    let mut items = [Symbol::Items; 9];
-    items[..symbols.len()].copy_from_slice(symbols);
-    Few {
-        items,
-        len: symbols.len(),
-    }
+    Refuses { kind: FaultKind },
 }
 
 /// The token is taken.
-pub(crate) fn takes(words: &[Word<usize>], symbols: &[Symbol<usize>]) -> Outcome
+pub(crate) fn takes(
+    pushes: &mut Pushes,
+    words: &[Word<usize>],
+    symbols: &[Symbol<usize>],
+) -> Outcome
     requires words { length words.now ≤ 2 }
     requires symbols { length symbols.now ≤ 9 }
     requires shallow { All IsShallow symbols.now }
-    ensures does { shown result ≡ Takes words.now symbols.now }
-    ensures shallow { AreShallow result }
+    ensures does { shown result pushes.new ≡ Takes words.now symbols.now }
+    ensures shallow { AreShallow result pushes.new }
 {
-    Outcome::Takes {
-        words: few_words(words),
-        symbols: few_symbols(symbols),
-    }
+    pushes.words.items[..words.len()].copy_from_slice(words);
+    pushes.words.len = words.len();
+    pushes.symbols.items[..symbols.len()].copy_from_slice(symbols);
+    pushes.symbols.len = symbols.len();
+    Outcome::Takes
 }
 
 /// The token is for the symbol below.
 pub(crate) fn passes() -> Outcome
-    ensures does { shown result ≡ Passes }
-    ensures shallow { AreShallow result }
+    ensures { result ≡ outcome.Passes }
 {
     Outcome::Passes
 }
 
 /// The token is refused.
 pub(crate) fn refuses(kind: FaultKind) -> Outcome
-    ensures does { shown result ≡ Refuses kind }
-    ensures shallow { AreShallow result }
+    ensures { result ≡ outcome.Refuses kind }
 {
     Outcome::Refuses { kind }
 }
 
 /// The token does not go on.
 pub(crate) fn unexpected() -> Outcome
-    ensures does { shown result ≡ Refuses Unexpected }
-    ensures shallow { AreShallow result }
+    ensures { result ≡ outcome.Refuses Unexpected }
 {
     refuses(FaultKind::Unexpected)
 }

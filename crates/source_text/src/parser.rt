@@ -1,7 +1,7 @@
 //! The parser: a stack of symbols, and the words so far.
 
 ghost use Rattle.std.specs.Prelude.{◌≡◌, ◌++◌, ℕ, List, reverse, All, false, Ok, MatchResult, OnOk, IfErr, option_to_list, if◌then◌else◌, [], ◌∷◌};
-ghost use Rattle.law_grammar.specs.declared.symbol.Symbol.{Symbol};
+ghost use Rattle.law_language.specs.declared.symbol.Symbol.{Symbol};
 ghost use Rattle.source.specs.Tree.{Name};
 ghost use Rattle.source.specs.Spelled as spelled;
 ghost use Rattle.source.specs.declared.fault.FaultKind.TheVariants.{Memory};
@@ -9,9 +9,9 @@ ghost use Rattle.source_text.specs.Outcomes.{lexeme_named, reaction_named, IsSha
 ghost use Rattle.source_text.specs.Running.{words_named, state, onward, reacted, ending, IsKind, IsFault};
 
 use crate::lexeme::Lexeme;
-use crate::outcome::Outcome;
+use crate::outcome::{Outcome, Pushes};
 use crate::reaction::{Reaction, react};
-use law_grammar::symbol::Symbol;
+use law_language::symbol::Symbol;
 use source::fault::{Fault, FaultKind};
 use source::word::Word;
 use std::alloc::Allocator;
@@ -74,23 +74,23 @@ impl<A: Allocator> Parser<A> {
     }
 
     /// Does what the symbol does that stood on the stack, and tells whether the token is taken.
-    fn act(&mut self, reaction: Reaction) -> Result<bool, FaultKind>
-        requires reaction { AreAllShallow reaction }
+    fn act(&mut self, reaction: Reaction, pushes: &Pushes) -> Result<bool, FaultKind>
+        requires reaction { AreAllShallow reaction pushes.now }
         requires stack { All IsShallow self.old.stack.items }
         ensures acts { (names : List Name) (at : ℕ) (l : spelled.Lexeme) → MatchResult result
-            (λ taken. reacted at l (state names self.old.stack.items self.old.words.items) (reaction_named names reaction)
+            (λ taken. reacted at l (state names self.old.stack.items self.old.words.items) (reaction_named names reaction pushes.now)
             ≡ (if taken then Ok (state names self.new.stack.items self.new.words.items)
             else onward at l (state names self.new.stack.items self.new.words.items)))
-            (λ kind. IsKind kind (reacted at l (state names self.old.stack.items self.old.words.items) (reaction_named names reaction))) }
+            (λ kind. IsKind kind (reacted at l (state names self.old.stack.items self.old.words.items) (reaction_named names reaction pushes.now))) }
         ensures shallow { OnOk result (All IsShallow self.new.stack.items) }
         ensures smaller { result ≡ Ok false → self.new.stack.items ≡ self.old.stack.items }
     {
         self.push_word(reaction.before)?;
         match reaction.outcome {
-            Outcome::Takes { words, symbols } => {
-                self.push_words(words.as_slice())?;
+            Outcome::Takes => {
+                self.push_words(pushes.words.as_slice())?;
                 self.push_symbol(reaction.below)?;
-                self.push_symbols(symbols.as_slice())?;
+                self.push_symbols(pushes.symbols.as_slice())?;
                 Ok(true)
             }
             Outcome::Passes => Ok(false),
@@ -99,7 +99,12 @@ impl<A: Allocator> Parser<A> {
     }
 
     /// Takes a token, or tells why it does not go on.
-    pub(crate) fn take(&mut self, at: usize, lexeme: Lexeme) -> Result<(), FaultKind>
+    pub(crate) fn take(
+        &mut self,
+        pushes: &mut Pushes,
+        at: usize,
+        lexeme: Lexeme,
+    ) -> Result<(), FaultKind>
         requires { All IsShallow self.old.stack.items }
         ensures took { (names : List Name) → MatchResult result
             (λ _. onward at (lexeme_named names lexeme) (state names self.old.stack.items self.old.words.items)
@@ -108,7 +113,8 @@ impl<A: Allocator> Parser<A> {
         ensures shallow { OnOk result (All IsShallow self.new.stack.items) }
     {
         while let Some(symbol) = self.stack.pop() {
-            if self.act(react(symbol, at, lexeme))? {
+            let reaction = react(pushes, symbol, at, lexeme);
+            if self.act(reaction, pushes)? {
                 return Ok(());
             }
         }

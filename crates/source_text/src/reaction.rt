@@ -3,10 +3,11 @@
 ghost use Rattle.std.specs.Prelude.{◌≡◌, ◌≤◌, ◌<◌, None};
 ghost use Rattle.source.specs.declared.token.Sign.TheVariants.{OpenParen, OpenBracket};
 ghost use Rattle.source.specs.Spelled.{TheSign};
-ghost use Rattle.law_grammar.specs.declared.symbol.Symbol.TheVariants.{Sign as OneSign, Keyword as OneWord};
-ghost use Rattle.law_grammar.specs.Automaton as automaton;
+ghost use Rattle.law_language.specs.declared.symbol.Symbol.TheVariants.{Sign as OneSign, Keyword as OneWord};
+ghost use Rattle.law_language.specs.GrammarAutomaton as automaton;
 ghost use Rattle.source.specs.Words.{name_of};
-ghost use Rattle.law_grammar.specs.Named.{named_symbol};
+ghost use Rattle.law_language.specs.GrammarNamed.{named_symbol};
+ghost use Rattle.source_text.specs.declared.outcome.Pushes.{Pushes};
 ghost use Rattle.source_text.specs.Outcomes.{lexeme_named, Does, Reacts, IsShallow, AreShallow, AreAllShallow};
 
 use crate::after::after;
@@ -17,13 +18,13 @@ use crate::items::{
 };
 use crate::lexeme::Lexeme;
 use crate::operands::{LIMIT, call_end, callee, negated, operand, otherwise};
-use crate::outcome::{Outcome, passes, refuses, takes, unexpected};
-use law_grammar::symbol::Symbol;
+use crate::outcome::{Outcome, Pushes, passes, refuses, takes, unexpected};
+use law_language::symbol::Symbol;
 use source::fault::FaultKind;
 use source::token::{Keyword, Sign};
 use source::word::Word;
 
-/// What a symbol does with a token: a word may come before the others, and a symbol below those that come.
+/// What a symbol does with a token: a word may come before those that it pushes, and a symbol below those.
 #[derive(Clone, Copy)]
 pub(crate) struct Reaction {
     pub before: Option<Word<usize>>,
@@ -33,9 +34,8 @@ pub(crate) struct Reaction {
 
 /// The step is what the outcome says.
 fn plain(outcome: Outcome) -> Reaction
-    requires { AreShallow outcome }
     ensures does { result ≡ record { before = None; outcome = outcome; below = None } }
-    ensures shallow { AreAllShallow result }
+    ensures shallow { (pushes : Pushes) → AreShallow outcome pushes → AreAllShallow result pushes }
 {
     Reaction {
         before: None,
@@ -46,6 +46,7 @@ fn plain(outcome: Outcome) -> Reaction
 
 /// A name is that of a function before `(`, of an array before `[`, and else of a value.
 fn after_name(
+    pushes: &mut Pushes,
     named: usize,
     name: usize,
     level: u8,
@@ -54,33 +55,34 @@ fn after_name(
     lexeme: Lexeme,
 ) -> Reaction
     requires { depth ≤ 200 }
-    ensures does { Reacts result (λ names. automaton.after_name 200 named (name_of names name) level depth at (lexeme_named names lexeme)) }
-    ensures shallow { AreAllShallow result }
+    ensures does { Reacts result pushes.new (λ names. automaton.after_name 200 named (name_of names name) level depth at (lexeme_named names lexeme)) }
+    ensures shallow { AreAllShallow result pushes.new }
 {
     match lexeme {
         Lexeme::Mark {
             sign: Sign::OpenParen,
-        } => plain(call(named, name, level, depth)),
+        } => plain(call(pushes, named, name, level, depth)),
         Lexeme::Mark {
             sign: Sign::OpenBracket,
-        } => plain(cell(named, name, level, depth)),
+        } => plain(cell(pushes, named, name, level, depth)),
         _ => Reaction {
             before: Some(Word::Name { at: named, name }),
-            outcome: after(level, 9, depth, at, lexeme),
+            outcome: after(pushes, level, 9, depth, at, lexeme),
             below: None,
         },
     }
 }
 
-fn call(at: usize, function: usize, level: u8, depth: u8) -> Outcome
+fn call(pushes: &mut Pushes, at: usize, function: usize, level: u8, depth: u8) -> Outcome
     requires { depth ≤ 200 }
-    ensures does { Does result (λ names. automaton.after_name 200 at (name_of names function) level depth at (TheSign OpenParen)) }
-    ensures shallow { AreShallow result }
+    ensures does { Does result pushes.new (λ names. automaton.after_name 200 at (name_of names function) level depth at (TheSign OpenParen)) }
+    ensures shallow { AreShallow result pushes.new }
 {
     if depth == LIMIT {
         return refuses(FaultKind::TooDeep);
     }
     takes(
+        pushes,
         &[Word::Callee { at, function }, Word::List],
         &[
             Symbol::Operand {
@@ -102,15 +104,16 @@ fn call(at: usize, function: usize, level: u8, depth: u8) -> Outcome
     )
 }
 
-fn cell(at: usize, array: usize, level: u8, depth: u8) -> Outcome
+fn cell(pushes: &mut Pushes, at: usize, array: usize, level: u8, depth: u8) -> Outcome
     requires { depth ≤ 200 }
-    ensures does { Does result (λ names. automaton.after_name 200 at (name_of names array) level depth at (TheSign OpenBracket)) }
-    ensures shallow { AreShallow result }
+    ensures does { Does result pushes.new (λ names. automaton.after_name 200 at (name_of names array) level depth at (TheSign OpenBracket)) }
+    ensures shallow { AreShallow result pushes.new }
 {
     if depth == LIMIT {
         return refuses(FaultKind::TooDeep);
     }
     takes(
+        pushes,
         &[Word::Cell { at, array }],
         &[
             Symbol::Operand {
@@ -132,6 +135,7 @@ fn cell(at: usize, array: usize, level: u8, depth: u8) -> Outcome
 
 /// A store is any expression, and no operand.
 fn after_index(
+    pushes: &mut Pushes,
     cell: usize,
     array: usize,
     level: u8,
@@ -140,13 +144,14 @@ fn after_index(
     lexeme: Lexeme,
 ) -> Reaction
     requires { depth < 200 }
-    ensures does { Reacts result (λ names. automaton.after_index cell (name_of names array) level depth at (lexeme_named names lexeme)) }
-    ensures shallow { AreAllShallow result }
+    ensures does { Reacts result pushes.new (λ names. automaton.after_index cell (name_of names array) level depth at (lexeme_named names lexeme)) }
+    ensures shallow { AreAllShallow result pushes.new }
 {
     match lexeme {
         Lexeme::Mark {
             sign: Sign::Becomes,
         } if level == 0 => plain(takes(
+            pushes,
             &[Word::Index],
             &[
                 Symbol::Operand {
@@ -160,58 +165,64 @@ fn after_index(
         )),
         _ => Reaction {
             before: Some(Word::Fetch { at: cell, array }),
-            outcome: after(level, 9, depth, at, lexeme),
+            outcome: after(pushes, level, 9, depth, at, lexeme),
             below: None,
         },
     }
 }
 
 /// What follows a body's brace, or a step's semicolon.
-fn steps(depth: u8, at: usize, lexeme: Lexeme) -> Reaction
+fn steps(pushes: &mut Pushes, depth: u8, at: usize, lexeme: Lexeme) -> Reaction
     requires { depth < 200 }
-    ensures does { Reacts result (λ names. automaton.steps 200 depth at (lexeme_named names lexeme)) }
-    ensures shallow { AreAllShallow result }
+    ensures does { Reacts result pushes.new (λ names. automaton.steps 200 depth at (lexeme_named names lexeme)) }
+    ensures shallow { AreAllShallow result pushes.new }
 {
     match lexeme {
         Lexeme::Word {
             keyword: Keyword::Let,
         } => plain(takes(
+            pushes,
             &[Word::Let { at }],
             &[Symbol::Target, Symbol::Targets { at, depth }],
         )),
         _ => Reaction {
             before: Some(Word::List),
-            outcome: operand(0, depth + 1, at, lexeme),
+            outcome: operand(pushes, 0, depth + 1, at, lexeme),
             below: Some(Symbol::StepEnd { depth }),
         },
     }
 }
 
-fn one_sign(sign: Sign, lexeme: Lexeme) -> Outcome
-    ensures does { Does result (λ names. automaton.step 200 (OneSign sign) 0 (lexeme_named names lexeme)) }
-    ensures shallow { AreShallow result }
+fn one_sign(pushes: &mut Pushes, sign: Sign, lexeme: Lexeme) -> Outcome
+    ensures does { Does result pushes.new (λ names. automaton.step 200 (OneSign sign) 0 (lexeme_named names lexeme)) }
+    ensures shallow { AreShallow result pushes.new }
 {
     match lexeme {
-        Lexeme::Mark { sign: read } if read == sign => takes(&[], &[]),
+        Lexeme::Mark { sign: read } if read == sign => takes(pushes, &[], &[]),
         _ => unexpected(),
     }
 }
 
-fn one_word(keyword: Keyword, lexeme: Lexeme) -> Outcome
-    ensures does { Does result (λ names. automaton.step 200 (OneWord keyword) 0 (lexeme_named names lexeme)) }
-    ensures shallow { AreShallow result }
+fn one_word(pushes: &mut Pushes, keyword: Keyword, lexeme: Lexeme) -> Outcome
+    ensures does { Does result pushes.new (λ names. automaton.step 200 (OneWord keyword) 0 (lexeme_named names lexeme)) }
+    ensures shallow { AreShallow result pushes.new }
 {
     match lexeme {
-        Lexeme::Word { keyword: read } if read == keyword => takes(&[], &[]),
+        Lexeme::Word { keyword: read } if read == keyword => takes(pushes, &[], &[]),
         _ => unexpected(),
     }
 }
 
 /// What the symbol does with a token that says this.
-pub(crate) fn react(symbol: Symbol<usize>, at: usize, lexeme: Lexeme) -> Reaction
+pub(crate) fn react(
+    pushes: &mut Pushes,
+    symbol: Symbol<usize>,
+    at: usize,
+    lexeme: Lexeme,
+) -> Reaction
     requires { IsShallow symbol }
-    ensures does { Reacts result (λ names. automaton.step 200 (named_symbol names symbol) at (lexeme_named names lexeme)) }
-    ensures shallow { AreAllShallow result }
+    ensures does { Reacts result pushes.new (λ names. automaton.step 200 (named_symbol names symbol) at (lexeme_named names lexeme)) }
+    ensures shallow { AreAllShallow result pushes.new }
 {
     match symbol {
         Symbol::Emit { word } => Reaction {
@@ -219,48 +230,50 @@ pub(crate) fn react(symbol: Symbol<usize>, at: usize, lexeme: Lexeme) -> Reactio
             outcome: passes(),
             below: None,
         },
-        Symbol::Steps { depth } => steps(depth, at, lexeme),
+        Symbol::Steps { depth } => steps(pushes, depth, at, lexeme),
         Symbol::AfterName {
             at: named,
             name,
             level,
             depth,
-        } => after_name(named, name, level, depth, at, lexeme),
+        } => after_name(pushes, named, name, level, depth, at, lexeme),
         Symbol::AfterIndex {
             at: cell,
             array,
             level,
             depth,
-        } => after_index(cell, array, level, depth, at, lexeme),
-        Symbol::Sign { sign } => plain(one_sign(sign, lexeme)),
-        Symbol::Keyword { keyword } => plain(one_word(keyword, lexeme)),
-        Symbol::Items => plain(items(lexeme)),
-        Symbol::ArrayName => plain(array_name(at, lexeme)),
-        Symbol::ArrayLength => plain(array_length(at, lexeme)),
-        Symbol::FunctionName => plain(function_name(at, lexeme)),
-        Symbol::Parameter => plain(parameter(at, lexeme)),
-        Symbol::Parameters => plain(parameters(lexeme)),
-        Symbol::Results => plain(results(at, lexeme)),
-        Symbol::ResultCount => plain(result_count(at, lexeme)),
-        Symbol::FunctionBody => plain(function_body(at, lexeme)),
-        Symbol::Target => plain(target(at, lexeme)),
-        Symbol::Targets { at: bound, depth } => plain(targets(bound, depth, lexeme)),
-        Symbol::LetEnd { at: bound, depth } => plain(let_end(bound, depth, lexeme)),
-        Symbol::StepEnd { depth } => plain(step_end(depth, lexeme)),
-        Symbol::Operand { level, depth } => plain(operand(level, depth, at, lexeme)),
-        Symbol::Negated { depth } => plain(negated(depth, at, lexeme)),
-        Symbol::After { level, left, depth } => plain(after(level, left, depth, at, lexeme)),
-        Symbol::Callee { depth } => plain(callee(depth, at, lexeme)),
+        } => after_index(pushes, cell, array, level, depth, at, lexeme),
+        Symbol::Sign { sign } => plain(one_sign(pushes, sign, lexeme)),
+        Symbol::Keyword { keyword } => plain(one_word(pushes, keyword, lexeme)),
+        Symbol::Items => plain(items(pushes, lexeme)),
+        Symbol::ArrayName => plain(array_name(pushes, at, lexeme)),
+        Symbol::ArrayLength => plain(array_length(pushes, at, lexeme)),
+        Symbol::FunctionName => plain(function_name(pushes, at, lexeme)),
+        Symbol::Parameter => plain(parameter(pushes, at, lexeme)),
+        Symbol::Parameters => plain(parameters(pushes, lexeme)),
+        Symbol::Results => plain(results(pushes, at, lexeme)),
+        Symbol::ResultCount => plain(result_count(pushes, at, lexeme)),
+        Symbol::FunctionBody => plain(function_body(pushes, at, lexeme)),
+        Symbol::Target => plain(target(pushes, at, lexeme)),
+        Symbol::Targets { at: bound, depth } => plain(targets(pushes, bound, depth, lexeme)),
+        Symbol::LetEnd { at: bound, depth } => plain(let_end(pushes, bound, depth, lexeme)),
+        Symbol::StepEnd { depth } => plain(step_end(pushes, depth, lexeme)),
+        Symbol::Operand { level, depth } => plain(operand(pushes, level, depth, at, lexeme)),
+        Symbol::Negated { depth } => plain(negated(pushes, depth, at, lexeme)),
+        Symbol::After { level, left, depth } => plain(after(
+            pushes, level, left, depth, at, lexeme,
+        )),
+        Symbol::Callee { depth } => plain(callee(pushes, depth, at, lexeme)),
         Symbol::CallEnd {
             at: called,
             strict,
             function,
             depth,
-        } => plain(call_end(called, strict, function, depth, lexeme)),
-        Symbol::Otherwise { depth } => plain(otherwise(depth, at, lexeme)),
-        Symbol::Bound { at: begun, depth } => plain(bound(begun, depth, at, lexeme)),
-        Symbol::Start { depth } => plain(start(depth, at, lexeme)),
-        Symbol::Starts { depth } => plain(starts(depth, lexeme)),
-        Symbol::Turn { depth } => plain(turn(depth, lexeme)),
+        } => plain(call_end(pushes, called, strict, function, depth, lexeme)),
+        Symbol::Otherwise { depth } => plain(otherwise(pushes, depth, at, lexeme)),
+        Symbol::Bound { at: begun, depth } => plain(bound(pushes, begun, depth, at, lexeme)),
+        Symbol::Start { depth } => plain(start(pushes, depth, at, lexeme)),
+        Symbol::Starts { depth } => plain(starts(pushes, depth, lexeme)),
+        Symbol::Turn { depth } => plain(turn(pushes, depth, lexeme)),
     }
 }

@@ -9,14 +9,14 @@ ghost use Rattle.source_text.specs.Running.{words_named, state, ending, IsFault}
 ghost use Rattle.source_text.specs.Reading.{IsStart, IsAdvanced, IsStopped, AreRead, IsParseFault};
 
 use crate::names::Names;
+use crate::outcome::Pushes;
 use crate::parser::Parser;
 use graph::Name;
-use law_grammar::symbol::Symbol;
+use law_language::symbol::Symbol;
 use source::fault::{Fault, FaultKind};
 use source::token::Token;
 use source::word::Word;
 use std::alloc::{AllocError, Allocator};
-use std::collections::BTreeMap;
 
 /// The names of a program, each once, and its words, which tell a name by its number among these.
 #[derive(Drop)]
@@ -37,19 +37,18 @@ impl<'a, A: Allocator + Clone> Reader<'a, A> {
     fn new(alloc: A) -> Result<Self, AllocError>
         ensures { IfOk result (λ r. IsStart r.names.numbers r.names.table.items r.parser.stack.items r.parser.words.items) }
     {
-        let numbers = BTreeMap::new(alloc.clone()?);
-        let table = Vec::new(alloc.clone()?);
+        let names = Names::new(&alloc)?;
         let words = Vec::new(alloc.clone()?);
         let mut stack = Vec::new(alloc);
         stack.extend_from_slice(&[Symbol::Items])?;
         Ok(Reader {
-            names: Names { numbers, table },
+            names,
             parser: Parser { stack, words },
         })
     }
 
     /// Reads a token, or tells why it does not go on.
-    fn read(&mut self, text: &'a [u8], token: &Token) -> Result<(), FaultKind>
+    fn read(&mut self, pushes: &mut Pushes, text: &'a [u8], token: &Token) -> Result<(), FaultKind>
         requires table { IsTable self.old.names.numbers self.old.names.table.items }
         requires shallow { All IsShallow self.old.parser.stack.items }
         ensures { MatchResult result
@@ -59,7 +58,7 @@ impl<'a, A: Allocator + Clone> Reader<'a, A> {
             self.old.parser.words.items kind) }
     {
         let lexeme = self.names.lexeme(text, token)?;
-        self.parser.take(token.at, lexeme)
+        self.parser.take(pushes, token.at, lexeme)
     }
 
     /// The program, where no token is left.
@@ -94,8 +93,9 @@ pub fn parse<'a, A: Allocator + Clone>(
             at: 0,
         });
     };
+    let mut pushes = Pushes::new();
     for token in tokens {
-        if let Err(kind) = reader.read(text, token) {
+        if let Err(kind) = reader.read(&mut pushes, text, token) {
             return Err(Fault { kind, at: token.at });
         }
     }

@@ -2,7 +2,7 @@
 
 ghost use Rattle.std.specs.Prelude.{◌≡◌, ◌≤◌};
 ghost use Rattle.source.specs.Fits.{sign_level, left_level};
-ghost use Rattle.law_grammar.specs.Automaton.{infix_of, goes_on};
+ghost use Rattle.law_language.specs.GrammarAutomaton.{infix_of, goes_on};
 
 use operators::Binary;
 use source::token::Sign;

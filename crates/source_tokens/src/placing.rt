@@ -31,8 +31,8 @@ pub fn first_place() -> Reached
     }
 }
 
-/// The place `at`, or the end of the program where that comes before it. It goes on from a place that was reached, and from the
-/// beginning where that stands behind it.
+/// The place `at`, or the end of the program where that comes before it. It goes on from a place that was reached, or back from it: the
+/// time is that of the bytes between them, and of the line of the place where it goes back to another line.
 pub fn reach(program: &[u8], from: Reached, at: usize) -> Reached
     requires { IsReached program.now from }
     ensures reached { IsReached program.now result }
@@ -40,8 +40,8 @@ pub fn reach(program: &[u8], from: Reached, at: usize) -> Reached
     ensures position { seen_at result ≡ position program.now at }
 {
     let end = at.min(program.len());
-    if at < from.at {
-        go_on(program, first_place(), end)
+    if end < from.at {
+        go_back(program, from, end)
     } else {
         go_on(program, from, end)
     }
@@ -70,6 +70,48 @@ fn go_on(program: &[u8], from: Reached, end: usize) -> Reached
         line,
         column,
     }
+}
+
+/// The place `end`, from one behind it that was reached before.
+fn go_back(program: &[u8], from: Reached, end: usize) -> Reached
+    requires from { IsReached program.now from }
+    requires behind { end ≤ from.at }
+    ensures reached { IsReached program.now result }
+    ensures place { result.at ≡ end }
+{
+    let mut line = from.line;
+    let mut column = from.column;
+    let mut same_line = true;
+    let mut i = from.at;
+    while i > end {
+        i -= 1;
+        if program[i] == b'\n' {
+            line -= 1;
+            same_line = false;
+        } else if same_line {
+            column -= 1;
+        }
+    }
+    if !same_line {
+        column = column_at(program, end);
+    }
+    Reached {
+        at: end,
+        line,
+        column,
+    }
+}
+
+/// The column of a place, counted from the beginning of its line.
+fn column_at(program: &[u8], at: usize) -> usize
+    requires { at ≤ length program.now }
+    ensures { result ≡ (position program.now at).column }
+{
+    let mut start = at;
+    while start > 0 && program[start - 1] != b'\n' {
+        start -= 1;
+    }
+    at - start + 1
 }
 
 /// The line and the column of a place, which is the number of bytes that stand before it.

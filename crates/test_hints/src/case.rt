@@ -1,5 +1,6 @@
 //! One case: command lines with one input.
 
+use crate::given::outcome_of;
 use hints::explain;
 use process::run_process;
 use std::alloc::{AllocError, Global};
@@ -18,6 +19,8 @@ pub struct Case {
     input: Vec<u8>,
     /// The bytes that the table gives in place of what the program writes.
     output: Vec<u8>,
+    /// What came of it, as the table gives that. It is empty where the program is run.
+    outcome: Vec<u8>,
 }
 
 /// The words of a line.
@@ -50,6 +53,7 @@ impl Case {
             lines: Vec::new(alloc),
             input: Vec::new(alloc),
             output: Vec::new(alloc),
+            outcome: Vec::new(alloc),
         }
     }
 
@@ -58,6 +62,7 @@ impl Case {
         self.lines.clear();
         self.input.clear();
         self.output.clear();
+        self.outcome.clear();
     }
 
     /// Takes these words for a further command line.
@@ -76,6 +81,7 @@ impl Case {
             [b'!', piece @ ..] => append(&mut self.input, piece, 0)?,
             [b'*', repeated @ ..] => append_repeated(&mut self.input, repeated)?,
             [b'@', digits @ ..] => append_word(&mut self.input, digits)?,
+            [b'=', outcome @ ..] => self.outcome.extend_from_slice(outcome)?,
             [b'>', piece @ ..] => {
                 append(&mut self.output, piece, 0)?;
                 self.output.push(b'\n')?;
@@ -92,15 +98,15 @@ impl Case {
         out.write_all(if hint.is_empty() { b"no hint\n" } else { hint })
     }
 
-    /// Explains the output that the table gives, and writes what was told of it.
+    /// Explains what came of it, as the table gives that, and writes what was told of it.
     fn explain_given<W: Write>(&self, words: &[&str], out: &mut W) -> io::Result<()> {
         let input = Some(self.input.as_slice());
-        let output = self.output.as_slice();
+        let outcome = outcome_of(str::from_utf8(&self.outcome).unwrap_or("?"));
         let mut hint = Vec::new(self.alloc);
-        if let Some(lines) = explain(self.alloc, words, input, output)? {
+        if let Some(lines) = explain(self.alloc, words, input, outcome)? {
             lines.write(&mut hint)?;
         }
-        self.show(output, &hint, out)
+        self.show(&self.output, &hint, out)
     }
 
     /// Runs a command line, and writes what was told of it. Gives the exit status, if it was run.
@@ -111,7 +117,7 @@ impl Case {
         out: &mut W,
     ) -> io::Result<Option<u8>> {
         let words = words_of(self.alloc, line)?;
-        if !self.output.is_empty() {
+        if !self.outcome.is_empty() {
             self.explain_given(&words, out)?;
             return Ok(None);
         }

@@ -4,7 +4,9 @@
 //! - `|LINE` is a line of its input, and `!LINE` a line without its end;
 //! - `*FIRST LAST PIECE` is the piece, once for each number from FIRST to LAST;
 //! - `@DIGITS` is a word of its input, of 16 hexadecimal digits, in 8 bytes, the lowest first;
-//! - `>LINE` is a line of an output that takes the place of what the program writes;
+//! - `>LINE` is a line of an output that takes the place of what the program writes, and `=WORDS` is what came of it: `done`,
+//!   `differed`, `steps`, `memory`, `starved FRAMES CREDITS`, `stuck RULE`, `refused input`, `refused memory`, `refused slots
+//!   BLOCK`, `refused far BLOCK`, `refused listing LINE` (a bad literal), or `unwritten`;
 //! - `# WORDS` is a comment.
 //!
 //! In a line or a piece `%` is the number (in a line 0), and `\HH` the byte that these two hexadecimal digits are. Each command
@@ -15,6 +17,7 @@
 #![tactic(auto)]
 
 mod case;
+mod given;
 
 use case::Case;
 use commands::input::read_input;

@@ -1,10 +1,10 @@
 //! The plans of small graphs, instruction by instruction.
 
 use code::{CodeBlock, Plan};
-use expansion::expand;
 use graph_check::check;
 use graph_file::read;
 use rationed::{Rationed, is_next_refused};
+use schemas::expand;
 use semantics::program::{Mark, Op};
 use std::alloc::{AllocError, Allocator, Global};
 use std::process::Abort;

@@ -1,13 +1,15 @@
 //! What an element does with a token for an instruction.
 
-ghost use Rattle.std.specs.Prelude.{◌≡◌, ◌%◌, ◌<◌, ◌^◌, true, false, List, length, IfSome, Some};
+ghost use Rattle.std.specs.Prelude.{◌≡◌, ◌%◌, ◌<◌, ◌^◌, true, false, List, [], ◌∷◌, length, IfSome, Some};
 ghost use Rattle.tags.specs.declared.token.To.{To};
+ghost use Rattle.semantics.specs.declared.program.Op.{Op};
 ghost use Rattle.element.specs.Held.{held_in, part_of, taken, with_part};
 ghost use Rattle.tags.specs.declared.slot.SlotState.TheVariants.{Empty};
 ghost use Rattle.frame_store.specs.BankViews.{bank_states};
 ghost use Rattle.semantics.specs.Program.{Program, instr_at};
+ghost use Rattle.semantics.specs.Rule as Rule;
 ghost use Rattle.semantics.specs.Rule.{fire_two};
-ghost use Rattle.element.specs.Decoded.{instr_of, IsShort, IsPair, IsLone};
+ghost use Rattle.element.specs.Decoded.{instr_of, IsShort, IsPair, IsLone, IsCredit};
 ghost use Rattle.element.specs.Acts.{CanAct, ActsAs, FiresAs};
 ghost use Rattle.element.specs.Changed.{with_state, with_place};
 ghost use Rattle.element.specs.Fired.{seat_of, passed_on, left_on, HasRoomInWord};
@@ -16,8 +18,8 @@ ghost use Rattle.tags.specs.declared.token.Token.{Token};
 
 use super::Contents;
 use crate::firing::{
-    Asks, Leaving, Meeting, NONE, Operates, Others, Outcome, Pair, Passed, Returns, Seat, Sends,
-    Switches, Syncs, fire, meet, pass_one,
+    Asks, Credit, Leaving, Meeting, NONE, Operates, Outcome, Pair, Passed, Releases, Returns,
+    SIGNAL, Seat, Sends, Stores, Switches, Syncs, credit_told, fire, frame_request, meet, pass_one,
 };
 use crate::instructions::{Instruction, Instructions};
 use crate::lane::Stepped;
@@ -26,13 +28,14 @@ use packed::token::PackedToken;
 use packed::word::PackedWord;
 use semantics::program::Op;
 use std::alloc::Allocator;
-use tags::token::{Port, Token};
+use tags::token::{FrameId, Port, To, Token};
 
 impl<'m, A: Allocator> Contents<'m, A> {
     // What a token does at once, and whether it does: most that need no more than the words as they lie, a slot and room for a
-    // few tokens here. Else all stands as before. Arms that say the same let each operation go straight on to its end.
+    // few tokens here. Else all stands as before. Arms that say the same let each operation go straight on to its end. Each
+    // site of the call has code of its own.
     #[inline(always)]
-    pub(super) fn acts_at_once<C: Instructions>(
+    pub(super) fn acts_at_once<C: Instructions, Site>(
         &mut self,
         code: &C,
         at: usize,
@@ -53,17 +56,26 @@ impl<'m, A: Allocator> Contents<'m, A> {
             ip: input.ip,
         };
         match instr.op {
-            Op::Apply2 { .. } => self.at_pair::<C, Operates>(
+            Op::Apply2 { .. } => self.at_pair::<C, Operates, Site>(
                 code, at, token, seat, &instr, input.port,
             ),
-            Op::Sync => self.at_pair::<C, Syncs>(code, at, token, seat, &instr, input.port),
-            Op::Switch => self.at_pair::<C, Switches>(code, at, token, seat, &instr, input.port),
-            Op::Send { .. } => self.at_pair::<C, Sends>(code, at, token, seat, &instr, input.port),
-            Op::Return { .. } => self.at_pair::<C, Returns>(
+            Op::Sync => self.at_pair::<C, Syncs, Site>(code, at, token, seat, &instr, input.port),
+            Op::Switch => self.at_pair::<C, Switches, Site>(
                 code, at, token, seat, &instr, input.port,
             ),
-            Op::Ask { .. } => self.at_pair::<C, Asks>(code, at, token, seat, &instr, input.port),
-            Op::Store { .. } | Op::Release { .. } => self.at_pair::<C, Others>(
+            Op::Send { .. } => self.at_pair::<C, Sends, Site>(
+                code, at, token, seat, &instr, input.port,
+            ),
+            Op::Return { .. } => self.at_pair::<C, Returns, Site>(
+                code, at, token, seat, &instr, input.port,
+            ),
+            Op::Ask { .. } => self.at_pair::<C, Asks, Site>(
+                code, at, token, seat, &instr, input.port,
+            ),
+            Op::Store { .. } => self.at_pair::<C, Stores, Site>(
+                code, at, token, seat, &instr, input.port,
+            ),
+            Op::Release { .. } => self.at_pair::<C, Releases, Site>(
                 code, at, token, seat, &instr, input.port,
             ),
             Op::Apply1 { .. } => self.at_lone(code, at, token, seat, &instr, input.port),
@@ -71,6 +83,9 @@ impl<'m, A: Allocator> Contents<'m, A> {
             Op::Apply2Left { .. } => self.at_lone(code, at, token, seat, &instr, input.port),
             Op::Lit { .. } => self.at_lone(code, at, token, seat, &instr, input.port),
             Op::Copy => self.at_lone(code, at, token, seat, &instr, input.port),
+            Op::Take { .. } => self.at_credit(code, at, token, seat, &instr, input.port),
+            Op::Give { .. } => self.at_credit(code, at, token, seat, &instr, input.port),
+            Op::Frame => self.at_frame(code, at, token, seat, &instr, input.port),
             _ => false,
         }
     }
@@ -78,7 +93,7 @@ impl<'m, A: Allocator> Contents<'m, A> {
     // An instruction with two inputs: the first token waits in the slot for the second, as it lies. Two arms do the same where
     // what was asked lets each be compiled shorter: on either port it is known which of the words is the token's.
     #[inline(always)]
-    fn at_pair<C: Instructions, K: Pair>(
+    fn at_pair<C: Instructions, K: Pair, Site>(
         &mut self,
         code: &C,
         at: usize,
@@ -136,6 +151,103 @@ impl<'m, A: Allocator> Contents<'m, A> {
         }
     }
 
+    // An instruction that takes or gives a credit.
+    #[inline(always)]
+    fn at_credit<C: Instructions>(
+        &mut self,
+        code: &C,
+        at: usize,
+        token: &PackedToken,
+        seat: Seat,
+        instr: &Instruction,
+        port: Port,
+    ) -> bool
+        requires can { CanAct (C.program code.now) (C.width code.now) (held_in self.old) at token.now }
+        requires address { token.now.to ≡ To.Instr seat.frame seat.ip port }
+        requires found { instr_at (C.program code.now) seat.ip ≡ Some (instr_of instr.now) }
+        requires short { IsShort (C.width code.now) seat.ip instr.now }
+        requires credit { IsCredit instr.now.op }
+        ensures did { result ≡ true → (before : List Token) → ActsAs (C.program code.now) (held_in self.old) at token.now before Did (held_in self.new) before }
+        ensures not { result ≡ false → held_in self.new ≡ held_in self.old }
+    {
+        let place = self.place_of_slot(seat.frame, instr.slot);
+        let held = self.slot_at(place);
+        match credit_told(instr, &held, &token.word()) {
+            Credit::Untold => false,
+            Credit::Kept { slot } => match port {
+                Port::Right => false,
+                Port::Left => self.wait(at, place, slot),
+            },
+            Credit::Answered { slot, token } => match port {
+                Port::Right => false,
+                Port::Left => self.answer(at, place, slot, token),
+            },
+        }
+    }
+
+    // An instruction that asks for a frame, on the element of the frame manager.
+    #[inline(always)]
+    fn at_frame<C: Instructions>(
+        &mut self,
+        code: &C,
+        at: usize,
+        token: &PackedToken,
+        seat: Seat,
+        instr: &Instruction,
+        port: Port,
+    ) -> bool
+        requires can { CanAct (C.program code.now) (C.width code.now) (held_in self.old) at token.now }
+        requires address { token.now.to ≡ To.Instr seat.frame seat.ip port }
+        requires found { instr_at (C.program code.now) seat.ip ≡ Some (instr_of instr.now) }
+        requires short { IsShort (C.width code.now) seat.ip instr.now }
+        requires frame { instr.now.op ≡ Op.Frame }
+        ensures did { result ≡ true → (before : List Token) → ActsAs (C.program code.now) (held_in self.old) at token.now before Did (held_in self.new) before }
+        ensures not { result ≡ false → held_in self.new ≡ held_in self.old }
+    {
+        match port {
+            Port::Right => false,
+            Port::Left => self.ask(at, PackedToken::pack(frame_request(seat, instr))),
+        }
+    }
+
+    // The token is taken out, and one for this element is made; nothing is done where there is no room.
+    #[inline(always)]
+    fn ask(&mut self, at: usize, token: PackedToken) -> bool
+        requires some { 0 < self.old.elements }
+        requires manager { token.to ≡ To.Manager }
+        requires there { at < length self.old.queue.items }
+        requires few { self.old.made < 2 ^ 63 }
+        ensures did { result ≡ true → (before : List Token) → FiresAs (Some (token ∷ [])) (part_of self.old) (held_in self.old) at before Did (held_in self.new) before }
+        ensures not { result ≡ false → held_in self.new ≡ held_in self.old }
+    {
+        if self.element != 0 || !self.queue.has_room(1) {
+            return false;
+        }
+        self.take(at);
+        self.send_here(token);
+        true
+    }
+
+    // The slot at the place changes, the token is taken out, and one is made; nothing is done where that is for another
+    // element, or there is no room.
+    #[inline(always)]
+    fn answer(&mut self, at: usize, place: usize, held: Slot, token: PackedToken) -> bool
+        requires some { 0 < self.old.elements }
+        requires place { place < length (bank_states self.old.bank) }
+        requires there { at < length self.old.queue.items }
+        requires few { self.old.made < 2 ^ 63 }
+        ensures did { result ≡ true → (before : List Token) → FiresAs (Some (token ∷ [])) (with_state (part_of self.old) place held) (held_in self.old) at before Did (held_in self.new) before }
+        ensures not { result ≡ false → held_in self.new ≡ held_in self.old }
+    {
+        if !self.keeps(&token) || !self.queue.has_room(1) {
+            return false;
+        }
+        self.put_at(place, held);
+        self.take(at);
+        self.send_here(token);
+        true
+    }
+
     // The slot at the place changes, the token is taken out, and nothing is made.
     #[inline(always)]
     fn wait(&mut self, at: usize, place: usize, held: Slot) -> bool
@@ -176,7 +288,10 @@ impl<'m, A: Allocator> Contents<'m, A> {
             Some(passed) => self.pass(at, seat, Some(place), &passed),
             None => match K::leave(code, seat, instr, left, right) {
                 Some(leaving) => self.pass_out(at, seat, place, leaving),
-                None => false,
+                None => match K::release(seat, instr, left, right) {
+                    Some(after) => self.release(at, place, seat.frame, after),
+                    None => false,
+                },
             },
         }
     }
@@ -227,6 +342,28 @@ impl<'m, A: Allocator> Contents<'m, A> {
         let signal = PackedWord::int(0);
         self.send_near(seat, &signal, leaving.first);
         self.send_near(seat, &signal, leaving.second);
+        true
+    }
+
+    // The slot at the place is empty then, the token is taken out, one releases the frame, and one goes into another frame; but
+    // nothing is done where either is for another element, or there is no room.
+    #[inline(always)]
+    fn release(&mut self, at: usize, place: usize, frame: FrameId, after: PackedToken) -> bool
+        requires some { 0 < self.old.elements }
+        requires place { place < length (bank_states self.old.bank) }
+        requires there { at < length self.old.queue.items }
+        requires few { self.old.made < 2 ^ 63 }
+        ensures did { result ≡ true → (before : List Token) → FiresAs (Some (Rule.token (To.Release frame) Rule.signal ∷ after ∷ [])) (with_state (part_of self.old) place Empty) (held_in self.old) at before Did (held_in self.new) before }
+        ensures not { result ≡ false → held_in self.new ≡ held_in self.old }
+    {
+        if self.element != 0 || !self.keeps(&after) || !self.queue.has_room(2) {
+            return false;
+        }
+        self.put_at(place, Slot::empty());
+        self.take(at);
+        let to = To::Release { frame };
+        self.send_here(PackedToken::pack(Token { to, word: SIGNAL }));
+        self.send_here(after);
         true
     }
 

@@ -1,16 +1,96 @@
 //! The instructions that keep the credits of a loop.
 
 ghost use Rattle.std.specs.Prelude.{◌≡◌};
+ghost use Rattle.tags.specs.declared.token.Port.TheVariants.{Left};
+ghost use Rattle.semantics.specs.Program.{Program, Instr};
 ghost use Rattle.semantics.specs.Rule as Rule;
 ghost use Rattle.element.specs.Decoded.{instr_of};
 ghost use Rattle.element.specs.Fired.{seat_of, tokens_of, outcome_by};
+ghost use Rattle.element.specs.Outcomes.{CreditIs};
 
 use super::continuations::answer;
 use super::made::{Made, SIGNAL, Seat};
 use super::outcomes::{Outcome, becomes, becomes_signalled, becomes_with, excluded};
 use crate::instructions::Instruction;
+use frame_store::slot::Slot;
+use packed::token::PackedToken;
+use packed::word::PackedWord;
+use semantics::program::Op;
 use tags::slot::SlotState;
 use tags::token::Word;
+
+/// What comes at once of a credit that is taken or given.
+#[derive(Clone, Copy)]
+pub enum Credit {
+    /// The slot is this one then, and nothing is made.
+    Kept { slot: Slot },
+    /// The slot is this one then, and a token is made.
+    Answered { slot: Slot, token: PackedToken },
+    /// It is not told at once.
+    Untold,
+}
+
+// A slot of this state.
+#[inline(always)]
+fn holding(state: SlotState) -> Slot
+    ensures { result ≡ state }
+{
+    let mut slot = Slot::empty();
+    slot.set(state);
+    slot
+}
+
+// A credit is taken, or whoever asks for it waits.
+#[inline(always)]
+fn taken(slot: SlotState, word: Word) -> Credit
+    ensures { CreditIs (Rule.takes slot word) result }
+{
+    match (slot, word) {
+        (SlotState::Credits(0), Word::Back(cont)) => Credit::Kept {
+            slot: holding(SlotState::Waiter(cont)),
+        },
+        (SlotState::Credits(credits), Word::Back(cont)) => Credit::Answered {
+            slot: holding(SlotState::Credits(credits - 1)),
+            token: PackedToken::pack(answer(cont, SIGNAL)),
+        },
+        _ => Credit::Untold,
+    }
+}
+
+// A credit comes back while the loop goes on.
+#[inline(always)]
+fn given(slot: SlotState, bound: u8) -> Credit
+    ensures { (s : Rule.Seat) (i : Instr) → CreditIs (Rule.gives s i bound slot) result }
+{
+    match slot {
+        SlotState::Credits(credits) => {
+            if credits < u32::from(bound) {
+                Credit::Kept {
+                    slot: holding(SlotState::Credits(credits + 1)),
+                }
+            } else {
+                Credit::Untold
+            }
+        }
+        SlotState::Waiter(cont) => Credit::Answered {
+            slot: holding(SlotState::Credits(0)),
+            token: PackedToken::pack(answer(cont, SIGNAL)),
+        },
+        _ => Credit::Untold,
+    }
+}
+
+/// What comes at once of a left token at an instruction that takes or gives a credit.
+#[inline(always)]
+pub fn credit_told(instr: &Instruction, held: &Slot, word: &PackedWord) -> Credit
+    ensures { (p : Program) (s : Rule.Seat) → CreditIs (Rule.outcome_of p s (instr_of instr.now) instr.now.op held.now Left word.now) result }
+{
+    match instr.op {
+        Op::Take { .. } => taken(held.state(), word.unpack()),
+        Op::Give { bound } => given(held.state(), bound),
+        _ => Credit::Untold,
+    }
+}
 
 // The first credits of a loop, but for the one that begins it.
 pub(super) fn opens(

@@ -47,7 +47,7 @@ pub(super) fn fire_one<C: Instructions>(
             return true;
         }
         (Op::Frame, _) => {
-            asks_for_frame(seat, instr, made);
+            one(frame_request(seat, instr), made);
             return true;
         }
         (Op::Link { block }, Word::Frame(frame)) => {
@@ -60,18 +60,17 @@ pub(super) fn fire_one<C: Instructions>(
     true
 }
 
-// The request for a frame.
+/// The request for a frame.
 #[inline(always)]
-fn asks_for_frame(seat: Seat, instr: &Instruction, made: &mut Made)
+pub fn frame_request(seat: Seat, instr: &Instruction) -> Token
     requires near { seat.ip < 2 ^ 30 }
     requires short { IfSome (dest_in instr.now.first) (λ d. d.ahead < 2 ^ 30) }
-    ensures { tokens_of (seat_of seat) made.new ≡ Rule.token To.Manager (Word.Back (Rule.answer_to (seat_of seat) (instr_of instr.now).firsts)) ∷ [] }
+    ensures { result ≡ Rule.token To.Manager (Word.Back (Rule.answer_to (seat_of seat) (instr_of instr.now).firsts)) }
 {
-    let token = Token {
+    Token {
         to: To::Manager,
         word: Word::Back(answer_to(seat, instr)),
-    };
-    one(token, made);
+    }
 }
 
 // The continuation goes to the first instruction of a block in the frame.

@@ -1,6 +1,7 @@
 //! Instructions with two inputs, of words as they lie: a kind for each operation, so that each goes a way of its own.
 
-ghost use Rattle.std.specs.Prelude.{◌≡◌, ◌+◌, ◌<◌, ◌^◌, IfSome, Some};
+ghost use Rattle.std.specs.Prelude.{◌≡◌, ◌+◌, ◌<◌, ◌^◌, [], ◌∷◌, IfSome, Some};
+ghost use Rattle.tags.specs.declared.token.To.{To};
 ghost use Rattle.semantics.specs.Program.{Program};
 ghost use Rattle.semantics.specs.Rule as Rule;
 ghost use Rattle.element.specs.Decoded.{instr_of, IsShort};
@@ -36,6 +37,20 @@ pub trait Pair {
         requires short { IsShort (C.width code.now) seat.ip instr.now }
         requires room { HasRoomInWord left.now }
         ensures { IfSome result (λ x. Rule.fire_two (C.program code.now) (seat_of seat) (instr_of instr.now) instr.now.op left.now right.now ≡ Some (left_on (seat_of seat) x)) };
+
+    /// The token that it sends after the one that releases its frame.
+    #[inline(always)]
+    fn release(
+        seat: Seat,
+        instr: &Instruction,
+        left: &PackedWord,
+        right: &PackedWord,
+    ) -> Option<PackedToken>
+        requires room { HasRoomInWord left.now }
+        ensures { IfSome result (λ t. (p : Program) → Rule.fire_two p (seat_of seat) (instr_of instr.now) instr.now.op left.now right.now ≡ Some (Rule.token (To.Release seat.frame) Rule.signal ∷ t ∷ [])) }
+    {
+        None
+    }
 }
 
 /// An operator on two words.
@@ -232,10 +247,10 @@ impl Pair for Asks {
     }
 }
 
-/// Any other: its first word waits, and no more is made at once.
-pub struct Others;
+/// `store`: its first word waits, and no more is done at once.
+pub struct Stores;
 
-impl Pair for Others {
+impl Pair for Stores {
     #[inline(always)]
     fn passes(_instr: &Instruction, _left: &PackedWord, _right: &PackedWord) -> Option<Passed> {
         None
@@ -250,5 +265,46 @@ impl Pair for Others {
         _right: &PackedWord,
     ) -> Option<Leaving> {
         None
+    }
+}
+
+/// `release`.
+pub struct Releases;
+
+impl Pair for Releases {
+    #[inline(always)]
+    fn passes(_instr: &Instruction, _left: &PackedWord, _right: &PackedWord) -> Option<Passed> {
+        None
+    }
+
+    #[inline(always)]
+    fn leave<C: Instructions>(
+        _code: &C,
+        _seat: Seat,
+        _instr: &Instruction,
+        _left: &PackedWord,
+        _right: &PackedWord,
+    ) -> Option<Leaving> {
+        None
+    }
+
+    #[inline(always)]
+    fn release(
+        _seat: Seat,
+        instr: &Instruction,
+        left: &PackedWord,
+        _right: &PackedWord,
+    ) -> Option<PackedToken> {
+        let Op::Release { offset } = instr.op else {
+            return None;
+        };
+        match left.unpack() {
+            Word::Back(Cont::Frame { frame, ip, .. }) => {
+                let ip = further(ip, offset);
+                let signal = PackedWord::int(0);
+                Some(PackedToken::to_instr(frame, ip, Port::Left, &signal))
+            }
+            _ => None,
+        }
     }
 }

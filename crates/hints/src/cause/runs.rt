@@ -1,7 +1,7 @@
 //! Why a run does not start, and why it did not end at rest.
 
 use crate::message::Piece::{Bytes, Count, Number, Word};
-use crate::message::{Message, four, one, plain, three, two};
+use crate::message::{Message, Piece, four, one, plain, three, two};
 use crate::shown::{Many, Shown};
 
 /// Why a run does not start, or what became of it.
@@ -133,7 +133,7 @@ pub enum EndCause<'a> {
     StarvedOfFrames { frames: Many },
     StarvedOfCredits { credits: Many, advice: &'static str },
     Starved { frames: Many, credits: Many },
-    Clash { array: Shown<'a>, index: Shown<'a> },
+    Clash { array: Piece<'a>, index: u64 },
     Steps(StepsCause),
     /// Of compiled code, in which no rule excludes a token.
     FaultOfProgram,
@@ -163,8 +163,8 @@ impl<'a> EndCause<'a> {
             ),
             EndCause::Clash { array, index } => two(
                 "a second store came to cell {} of array {}: a cell takes one store in a run",
-                Bytes(index),
-                Bytes(array),
+                Number(index),
+                array,
             ),
             EndCause::Steps(cause) => cause.message(),
             EndCause::FaultOfProgram => plain(

@@ -245,6 +245,22 @@ pub enum FieldCause<'a> {
 }
 
 impl<'a> FieldCause<'a> {
+    /// The field that is wrong, where it is told.
+    pub fn field(self) -> Option<Shown<'a>> {
+        match self {
+            FieldCause::MinusZero | FieldCause::NoCells => None,
+            FieldCause::Number { field }
+            | FieldCause::Literal { field }
+            | FieldCause::LeadingZero { field }
+            | FieldCause::TooLarge { field }
+            | FieldCause::LiteralTooLarge { field }
+            | FieldCause::Source { field }
+            | FieldCause::NameStart { field }
+            | FieldCause::NameByte { field }
+            | FieldCause::NameTooLong { field, .. } => Some(field),
+        }
+    }
+
     /// What a person is told.
     pub fn message(self) -> Message<'a> {
         match self {

@@ -1,6 +1,6 @@
-use Rattle.law_reuse.proofs.OnceLaw.{once_runs_are_own}
-use Rattle.law_reuse.proofs.UnfoldedRuns.{each_run_unfolds}
-use Rattle.law_reuse.proofs.AllRuns.{shared_slots_are_faithful, releases_are_last, holders_are_alone}
+use Rattle.law_reuse.proofs.SlotsLaw.{once_runs_are_own}
+use Rattle.law_reuse.proofs.FramesUnfolded.{each_run_unfolds}
+use Rattle.law_reuse.proofs.FramesTheorem.{shared_slots_are_faithful, releases_are_last, holders_are_alone}
 use Rattle.law_reuse.proofs.Bounds.{code_uses_again}
 use Rattle.law_reuse.proofs.shared_slots_are_faithful.Goals as goal
 

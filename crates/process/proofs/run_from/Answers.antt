@@ -2,7 +2,7 @@ use Rattle.std.proofs.Common.{◌≡◌, ℕ, List, [], map, drop, ap, sym, ◌�
 use Rattle.std.specs.Prelude.{Option}
 use Rattle.std.specs.Io.Buffered.{writer_contents, writer_inner}
 use Rattle.std.specs.Io.KnownBytes.{append_known}
-use Rattle.process.proofs.Explained.{answers_of, reads_of, writes_of, explained_run}
+use Rattle.process.proofs.Explained.{answers_of, reads_of, explained_run}
 use Rattle.process.proofs.Flushed.{nothing_more}
 use Rattle.process.proofs.run_from.Goals as goal
 
@@ -17,14 +17,14 @@ returns g c =
     let contents = g.W.Write.contents in
     let read = ap remaining c.new-reader.ensures in
     let left = ap remaining (sym c.into_inner.ensures) in
-    let before = begins _ _ _ (ap (λ w. contents w.inner) c.in_ok-writer.ensures.inner ∙ ap contents c.new-writer.ensures) c.in_ok-writer.ensures.empty in
-    let after = ap contents (sym c.into_inner-2.ensures) in
-    let answered = ap (λ w. contents w.inner) (sym c.into_parts-writer.ensures.inner) ∙ after in
+    let before = begins _ _ _ (ap contents c.in_ok-writer.ensures.inner) c.in_ok-writer.ensures.empty in
+    let after = ap contents (sym c.into_parts-writer.ensures.inner) in
     record {
       answers =
-          answers_of words (remaining c.new-reader.result.inner) (remaining c.args.reader) (writer_contents (λ w. contents w.inner) c.in_ok-writer.writer) (contents c.args.writer)
-          (contents (writer_inner c.answer-status.new.writer).inner) (contents c.into_inner-2.result) c.answer-status.result read before answered c.answer-status.ensures;
+          answers_of words (remaining c.new-reader.result.inner) (remaining c.args.reader) (writer_contents contents c.in_ok-writer.writer) (contents c.args.writer)
+          (contents (writer_inner c.answer-outcome.new.writer)) (contents c.into_parts-writer.result.0) c.answer-outcome.result read before after c.answer-outcome.ensures;
+      exit = c.exit_status.ensures;
       explains =
-          explained_run g.X.Explain.tells words _ _ _ _ _ (reads_of (λ i. i.now) _ _ _ _ _ c.requires.remaining left c.kept-input.ensures)
-          _ (g.E.Write.contents c.args.errors.now) (g.E.Write.contents c.tell-told.new.errors) _ (writes_of (λ o. o.now) _ _ _ _ _ c.requires.contents after c.kept-output.ensures) c.tell-told.ensures;
+          explained_run g.X.Explain.tells words _ _ _ _ (reads_of (λ i. i.now) _ _ _ _ _ c.requires left c.kept-input.ensures)
+          (g.E.Write.contents c.args.errors.now) (g.E.Write.contents c.tell-told.new.errors) _ c.tell-told.ensures;
     }

@@ -33,4 +33,4 @@ returns-in-Ok-run_orders-clause-other g c =
 pub returns-clause-refused : goal.returns-clause-refused
 returns-clause-refused g c =
     order_refused c.args.input.now _ _ c.in-Ok.ensures c.args.options.now c.args.count c.config_of-config.result c.config_of-config.ensures c.in-Err-run_orders.fault
-    (subst (λ (zs : List ℤ). IsRefused c.in-Ok.given.text.now zs c.config_of-config.result c.in-Err-run_orders.fault) c.deref-2.ensures.value c.in-Err-run_orders.ensures.refused) c.from.result c.from.ensures
+    (subst (λ (zs : List ℤ). IsRefused c.in-Ok.given.text.now zs c.config_of-config.result c.in-Err-run_orders.fault) c.deref-2.ensures.value c.in-Err-run_orders.ensures.refused) c.fault_refusal.result c.fault_refusal.ensures

@@ -1,8 +1,7 @@
 use Rattle.std.proofs.Common.{ℕ, List, inl, ap, ◌∙◌, length, subst}
 use Rattle.semantics.specs.Graph.{Graph}
 use Rattle.object_view.specs.Reading.{Opened}
-use Rattle.commands.specs.Status.{exit_status}
-use Rattle.commands.specs.Traced.{IsPageOf, page_text, first_of}
+use Rattle.commands.specs.Traced.{IsPageOf, page_text, paged, first_of}
 use Rattle.commands.proofs.Served.{printed, stopped}
 use Rattle.commands.proofs.paging.print_page.Goals as goal
 
@@ -23,7 +22,7 @@ returns-in-Ok-write_page g c =
       r,
       p.books,
       subst (λ (m : ℕ). IsPageOf i o m k.checked k.object.bytes r p.books) c.in-Ok.ensures.first c.in-Ok.ensures.page,
-      printed _ _ _ _ _ _ _ (exit_status r.end) (e1 ∙ e2 ∙ e3) (c.status_of.ensures ∙ ap (λ x. exit_status x.end) c.report.view_is)
+      printed _ _ _ _ _ _ _ (paged n r) (e1 ∙ e2 ∙ e3) (c.shown.ensures ∙ ap (λ (m : ℕ). paged m r) c.in-Ok.ensures.first)
           c.in-Ok-write_page.ensures,
     )
 
@@ -44,5 +43,5 @@ returns g c =
       r,
       p.books,
       subst (λ (m : ℕ). IsPageOf i o m k.checked k.object.bytes r p.books) c.in-Ok.ensures.first c.in-Ok.ensures.page,
-      stopped _ _ _ _ _ _ (exit_status r.end) (e1 ∙ e2 ∙ e3) c.in-Err-write_page.ensures,
+      stopped _ _ _ _ _ _ (paged n r) (e1 ∙ e2 ∙ e3) c.in-Err-write_page.ensures,
     )

@@ -3,7 +3,7 @@ use Rattle.std.specs.Prelude.{Some}
 use Rattle.oracle.specs.Gathering.{waves_told}
 use Rattle.oracle.specs.Waves.{AreWavesOf}
 use Rattle.driver.specs.Refused.{IsRefusedMeaning}
-use Rattle.commands.specs.declared.refusal.Refusal.{Refusal}
+use Rattle.outcomes.specs.declared.refusal.Refusal.{Refusal}
 use Rattle.commands.specs.Profiled.{AreRows, IsNoRow, sizes_below}
 use Rattle.commands.proofs.Givens.{not_profiled, profile_of, rows_refused, waves_refused}
 use Rattle.commands.proofs.profiling.make_profile.Goals as goal
@@ -14,7 +14,7 @@ returns-in-Err g c = not_profiled c.args.input.now c.in-Err.refusal c.in-Err.ens
 pub returns-in-Err-waves_text : goal.returns-in-Err-waves_text
 returns-in-Err-waves_text g c =
     waves_refused c.args.input.now _ _ c.in-Ok.ensures c.args.options.now c.args.sizes c.args.svg c.in-Err-waves_text.fault
-    (subst (λ (zs : List ℤ). IsRefusedMeaning c.in-Ok.given.text.now zs c.in-Err-waves_text.fault) c.deref.ensures.value c.in-Err-waves_text.ensures.refused) c.from.result c.from.ensures
+    (subst (λ (zs : List ℤ). IsRefusedMeaning c.in-Ok.given.text.now zs c.in-Err-waves_text.fault) c.deref.ensures.value c.in-Err-waves_text.ensures.refused) c.fault_refusal.result c.fault_refusal.ensures
 
 pub returns : goal.returns
 returns g c =

@@ -45,5 +45,5 @@ returns-in-Err g c = λ text gr compiled. (
   c.in-Err.fault,
   subst (λ (d : Config). IsRefused text c.args.inputs.now d c.in-Err.fault) c.config_with-config.ensures
       (refused_as_text text gr c.args.code.now.bytes c.args.inputs.now c.config_with-config.result compiled c.in-Err.fault c.in-Err.ensures.shows),
-  c.from.ensures,
+  c.fault_refusal.ensures,
 )

@@ -8,7 +8,7 @@ pub returns-then-has_none : goal.returns-then-has_none
 returns-then-has_none g c = λ text good. rows_of_none text c.args.inputs.now c.args.options.now c.args.sizes _ (c.has_none.ensures.none c.if-has_none.true) c.new.ensures.items
 
 pub returns-in-Err : goal.returns-in-Err
-returns-in-Err g c = λ text good. inr (no_row_of text c.args.inputs.now c.args.options.now c.args.sizes c.args.checked.now good (c.has_none.ensures.some c.if-has_none.false) c.in-Err.fault c.in-Err.ensures c.from.result c.from.ensures)
+returns-in-Err g c = λ text good. inr (no_row_of text c.args.inputs.now c.args.options.now c.args.sizes c.args.checked.now good (c.has_none.ensures.some c.if-has_none.false) c.in-Err.fault c.in-Err.ensures c.fault_refusal.result c.fault_refusal.ensures)
 
 pub returns : goal.returns
 returns g c = λ text good.

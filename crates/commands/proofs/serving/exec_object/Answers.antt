@@ -8,7 +8,7 @@ returns-in-Ok g c =
 
 pub returns-in-Err : goal.returns-in-Err
 returns-in-Err g c =
-    refused_exec c.args.code.now.bytes c.args.options.now c.args.inputs.now c.config_of-config.result c.config_of-config.ensures c.in-Err.fault c.in-Err.ensures c.from.result c.from.ensures
+    refused_exec c.args.code.now.bytes c.args.options.now c.args.inputs.now c.config_of-config.result c.config_of-config.ensures c.in-Err.fault c.in-Err.ensures c.fault_refusal.result c.fault_refusal.ensures
 
 pub returns-in-Ok-check_start : goal.returns-in-Ok-check_start
 returns-in-Ok-check_start g c =
@@ -16,4 +16,4 @@ returns-in-Ok-check_start g c =
 
 pub returns-in-Err-check_start : goal.returns-in-Err-check_start
 returns-in-Err-check_start g c =
-    refused_exec c.args.code.now.bytes c.args.options.now c.args.inputs.now c.config_of-config.result c.config_of-config.ensures c.in-Err-check_start.fault c.in-Err-check_start.ensures c.from-in-Err-check_start.result c.from-in-Err-check_start.ensures
+    refused_exec c.args.code.now.bytes c.args.options.now c.args.inputs.now c.config_of-config.result c.config_of-config.ensures c.in-Err-check_start.fault c.in-Err-check_start.ensures c.fault_refusal-in-Err-check_start.result c.fault_refusal-in-Err-check_start.ensures

@@ -10,7 +10,7 @@ returns-in-Ok-check_text g c =
 
 pub returns-in-Err : goal.returns-in-Err
 returns-in-Err g c =
-    bad_text c.args.input.now _ _ c.split_at_main.ensures.whole c.split_at_main.ensures.end c.in-Err-BadLine.line (bad_line_of c.split_at_main.result.1.now c.in-Err-BadLine.field-0 c.in-Err-BadLine.line c.in-Err-BadLine.field-0-is c.in-Err-BadLine.ensures) c.in-Err.fault c.in-Err.ensures c.from.result c.from.ensures
+    bad_text c.args.input.now _ _ c.split_at_main.ensures.whole c.split_at_main.ensures.end c.in-Err-BadLine.line (bad_line_of c.split_at_main.result.1.now c.in-Err-BadLine.field-0 c.in-Err-BadLine.line c.in-Err-BadLine.field-0-is c.in-Err-BadLine.ensures) c.in-Err.fault c.in-Err.ensures c.fault_refusal.result c.fault_refusal.ensures
 
 pub returns-in-Ok-mean_text : goal.returns-in-Ok-mean_text
 returns-in-Ok-mean_text g c =
@@ -22,4 +22,4 @@ returns-in-Ok-mean_text g c =
 pub returns : goal.returns
 returns g c =
     refused_meaning c.args.input.now _ _ c.split_at_main.ensures.whole c.split_at_main.ensures.end c.in-Ok-parse_integers.integers.items c.in-Ok-parse_integers.ensures c.in-Err-mean_text.fault
-    (subst (λ (zs : List ℤ). IsRefusedMeaning c.split_at_main.result.0.now zs c.in-Err-mean_text.fault) c.deref.ensures.value c.in-Err-mean_text.ensures.refused) c.from-in-Err-mean_text.result c.from-in-Err-mean_text.ensures
+    (subst (λ (zs : List ℤ). IsRefusedMeaning c.split_at_main.result.0.now zs c.in-Err-mean_text.fault) c.deref.ensures.value c.in-Err-mean_text.ensures.refused) c.fault_refusal-in-Err-mean_text.result c.fault_refusal-in-Err-mean_text.ensures

@@ -1,7 +1,8 @@
-use Rattle.std.proofs.Common.{inl, ap}
+use Rattle.std.proofs.Common.{inl, ap, refl}
 use Rattle.semantics.specs.Graph.{Graph}
 use Rattle.report_text.specs.ReportText.{meaning_text}
-use Rattle.commands.specs.Status.{meaning_status}
+use Rattle.outcomes.specs.declared.outcome.Ending.{Ending}
+use Rattle.outcomes.specs.declared.outcome.Outcome.{Outcome}
 use Rattle.commands.proofs.Served.{printed, stopped}
 use Rattle.commands.proofs.serving.print_meaning.Goals as goal
 
@@ -14,7 +15,7 @@ returns-in-Ok-write_meaning g c =
       m.report.outputs.items,
       m.report.cells.items,
       c.in-Ok.ensures,
-      printed _ _ _ _ _ _ _ (meaning_status m.report.end) (ap (λ (h : Graph). meaning_text h.arrays m.report.outputs.items m.report.cells.items m.report.end) c.graph.ensures.same) c.status_of_meaning.ensures c.in-Ok-write_meaning.ensures,
+      printed _ _ _ _ _ _ _ (Outcome.Reported (Ending.Meaning m.report.end)) (ap (λ (h : Graph). meaning_text h.arrays m.report.outputs.items m.report.cells.items m.report.end) c.graph.ensures.same) refl c.in-Ok-write_meaning.ensures,
     )
 
 pub returns-in-Ok : goal.returns-in-Ok
@@ -26,5 +27,5 @@ returns-in-Ok g c =
       m.report.outputs.items,
       m.report.cells.items,
       c.in-Ok.ensures,
-      stopped _ _ _ _ _ _ (meaning_status m.report.end) (ap (λ (h : Graph). meaning_text h.arrays m.report.outputs.items m.report.cells.items m.report.end) c.graph.ensures.same) c.in-Err-write_meaning.ensures,
+      stopped _ _ _ _ _ _ (Outcome.Reported (Ending.Meaning m.report.end)) (ap (λ (h : Graph). meaning_text h.arrays m.report.outputs.items m.report.cells.items m.report.end) c.graph.ensures.same) c.in-Err-write_meaning.ensures,
     )

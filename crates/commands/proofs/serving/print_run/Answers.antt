@@ -1,7 +1,8 @@
-use Rattle.std.proofs.Common.{inl, ap, ◌∙◌}
+use Rattle.std.proofs.Common.{inl, ap}
 use Rattle.semantics.specs.Graph.{Graph}
 use Rattle.report_text.specs.ReportText.{report_text}
-use Rattle.commands.specs.Status.{exit_status}
+use Rattle.outcomes.specs.declared.outcome.Outcome.{Outcome}
+use Rattle.outcomes.specs.Outcomes.{ending_of}
 use Rattle.commands.proofs.Served.{printed, stopped}
 use Rattle.commands.proofs.serving.print_run.Goals as goal
 
@@ -12,7 +13,7 @@ returns-in-Ok-write_report g c =
       e.checked,
       e.report,
       c.in-Ok.ensures,
-      printed _ _ _ _ _ _ _ (exit_status e.report.end) (ap (λ x. report_text c.graph.result.now.arrays x.report) c.emulated.view_is ∙ ap (λ (h : Graph). report_text h.arrays e.report) c.graph.ensures.same ∙ ap (λ x. report_text x.checked.arrays e.report) c.emulated.view_is) (c.status_of.ensures ∙ ap (λ x. exit_status x.report.end) c.emulated.view_is) c.in-Ok-write_report.ensures,
+      printed _ _ _ _ _ _ _ (Outcome.Reported (ending_of e.report)) (ap (λ (h : Graph). report_text h.arrays e.report) c.graph.ensures.same) (ap Outcome.Reported c.of.ensures) c.in-Ok-write_report.ensures,
     )
 
 pub returns-in-Ok : goal.returns-in-Ok
@@ -22,5 +23,5 @@ returns-in-Ok g c =
       e.checked,
       e.report,
       c.in-Ok.ensures,
-      stopped _ _ _ _ _ _ (exit_status e.report.end) (ap (λ x. report_text c.graph.result.now.arrays x.report) c.emulated.view_is ∙ ap (λ (h : Graph). report_text h.arrays e.report) c.graph.ensures.same ∙ ap (λ x. report_text x.checked.arrays e.report) c.emulated.view_is) c.in-Err-write_report.ensures,
+      stopped _ _ _ _ _ _ (Outcome.Reported (ending_of e.report)) (ap (λ (h : Graph). report_text h.arrays e.report) c.graph.ensures.same) c.in-Err-write_report.ensures,
     )

@@ -22,4 +22,4 @@ returns-in-Ok-run_text g c =
 pub returns : goal.returns
 returns g c =
     run_refused c.args.input.now _ _ c.in-Ok.ensures c.args.options.now c.config_of-config.result c.config_of-config.ensures c.in-Err-run_text.fault
-    (subst (λ (zs : List ℤ). IsRefused c.in-Ok.given.text.now zs c.config_of-config.result c.in-Err-run_text.fault) c.deref-2.ensures.value c.in-Err-run_text.ensures) c.from.result c.from.ensures
+    (subst (λ (zs : List ℤ). IsRefused c.in-Ok.given.text.now zs c.config_of-config.result c.in-Err-run_text.fault) c.deref-2.ensures.value c.in-Err-run_text.ensures) c.fault_refusal.result c.fault_refusal.ensures

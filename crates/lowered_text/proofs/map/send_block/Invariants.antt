@@ -1,4 +1,4 @@
-use Rattle.std.proofs.Common.{◌≡◌, ℕ, ◌+◌, take}
+use Rattle.std.proofs.Common.{◌+◌, take}
 use Rattle.std.specs.Io.KnownBytes.{Appends}
 use Rattle.sink.specs.Numbered.{numbered}
 use Rattle.source.specs.Tokens.{position}
@@ -10,5 +10,5 @@ abbrev pub invariant-loop-line : goal.invariant-loop-line
 invariant-loop-line g l = record {
   appended : Appends (g.W.Write.contents l.fn.writer) (g.W.Write.contents l.writer)
       (numbered (λ line at. node_line l.block (l.places.inputs + line) (position l.program at)) 0 (take l.line l.at-items));
-  reached : IsReached l.program l.start;
+  reached : IsReached l.program l.last;
 }

@@ -4,7 +4,7 @@ use Rattle.semantics.specs.Text.{HasText}
 use Rattle.source.specs.Tree.{Name}
 use Rattle.source.specs.Rules.{main_name}
 use Rattle.source.specs.Lowered.{graph_of, arrays_of}
-use Rattle.law_lowered.proofs.HasText.{lowering_has_text}
+use Rattle.law_language.proofs.LoweredHasText.{lowering_has_text}
 use Rattle.lowered_text.proofs.programs.graph_of.Goals as goal
 
 pub invariant_of-result : goal.invariant_of-result

@@ -1,6 +1,6 @@
 use Rattle.std.proofs.Common.{◌≡◌, List, length, IsPermutation}
 use Rattle.tags.specs.declared.token.Token.{Token}
-use Rattle.law_free_runs.specs.Blocks.{Block}
+use Rattle.law_linearization.specs.History.{Block}
 use Rattle.ordering.specs.Pools.{amount}
 use Rattle.ordering.specs.Orders.{IsHistory, OrderedSoFar, blocks_left}
 use Rattle.ordering.proofs.legal_order.order.Given as goal

@@ -1,6 +1,6 @@
 use Rattle.std.proofs.Common.{◌≡◌, ℕ, ◌+◌, ◌<◌, ◌≤◌, false, List, length, slice_get, Some, if◌then◌else◌}
 use Rattle.tags.specs.declared.token.Token.{Token}
-use Rattle.law_free_runs.specs.Blocks.{Block}
+use Rattle.law_linearization.specs.History.{Block}
 use Rattle.ordering.specs.declared.rest.Rest.{Rest}
 use Rattle.ordering.specs.Pools.{amount}
 use Rattle.ordering.specs.Rests.{IsStuck}

@@ -1,6 +1,6 @@
 use Rattle.std.proofs.Common.{◌≡◌, ℕ, ◌≤◌, List, length}
 use Rattle.tags.specs.declared.token.Token.{Token}
-use Rattle.law_free_runs.specs.Blocks.{Block}
+use Rattle.law_linearization.specs.History.{Block}
 use Rattle.ordering.specs.Pools.{amount}
 use Rattle.ordering.specs.Rests.{StandsFor, Holds, GoesOn}
 use Rattle.ordering.proofs.rest.go_on.Given as goal

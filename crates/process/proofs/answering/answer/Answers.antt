@@ -4,10 +4,10 @@ use Rattle.process.proofs.answering.answer.Goals as goal
 
 pub returns : goal.returns
 returns g c =
-    let all = writer_contents g.W.Write.contents c.serve-status.new.writer in
+    let all = writer_contents g.W.Write.contents c.serve_words-served.new.writer in
     let new = c.flushed.new.writer in (
       all,
-      c.serve-status.result,
-      c.serve-status.ensures,
-      flushes all (g.W.Write.contents (writer_inner new)) (writer_buffer new) c.serve-status.result c.flushed.result c.flushed.ensures.kept c.flushed.ensures.status,
+      c.serve_words-served.result,
+      c.serve_words-served.ensures,
+      flushes all (g.W.Write.contents (writer_inner new)) (writer_buffer new) c.serve_words-served.result c.flushed.result c.flushed.ensures.kept c.flushed.ensures.whole,
     )

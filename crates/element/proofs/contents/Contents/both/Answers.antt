@@ -19,3 +19,9 @@ returns-in-Some-leave-clause-did g c = λ yes before.
     let old : Held = held_in c.args.self.now in
     let made : Option (List Token) → Type 0 = λ m. FiresAs m (with_state old.part c.args.place Empty) old c.args.at before Did (held_in c.pass_out.new.self) before in
     subst made (sym c.in-Some-leave.ensures) (c.pass_out.ensures.did yes before)
+
+pub returns-in-Some-release-clause-did : goal.returns-in-Some-release-clause-did
+returns-in-Some-release-clause-did g c = λ yes before.
+    let old : Held = held_in c.args.self.now in
+    let made : Option (List Token) → Type 0 = λ m. FiresAs m (with_state old.part c.args.place Empty) old c.args.at before Did (held_in c.release-in-Some-release.new.self) before in
+    subst made (sym (c.in-Some-release.ensures (g.C.Instructions.program c.args.code.now))) (c.release-in-Some-release.ensures.did yes before)

@@ -1,5 +1,5 @@
 use Rattle.std.proofs.Common.{◌≡◌, refl, ◌∙◌, ap, sym, subst, [], ◌++◌, false}
-use Rattle.semantics.specs.Report.{Shows}
+use Rattle.schedule.specs.Shown.{ShowsInOrder}
 use Rattle.schedule.specs.Setting.{Setting, size}
 use Rattle.schedule.specs.State.{State}
 use Rattle.schedule.specs.Runs.{Kept, Began, Plays, rounds_of}
@@ -28,6 +28,6 @@ returns g c =
         shows = λ inputs began.
             let at_first = subst (λ (s : State). Began inputs s before) (sym same) began in
             let shown = (q.2).shows inputs false (e.4 inputs before at_first) c.play_in_turn-halt.ensures.halts in
-            subst (λ (z : Setting). Shows z.program (size z) inputs z.steps false false (with_events c.report.result q.1)) (c.play_in_turn-halt.ensures.setting ∙ ap (λ (s : State). s.setting) same) shown;
+            subst (λ (z : Setting). ShowsInOrder z.program (size z) inputs z.steps false false (with_events c.report.result q.1)) (c.play_in_turn-halt.ensures.setting ∙ ap (λ (s : State). s.setting) same) shown;
       },
     )

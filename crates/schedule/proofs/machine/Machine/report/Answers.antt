@@ -1,6 +1,6 @@
 use Rattle.std.proofs.Common.{◌≡◌, refl, sym, subst, [], ℤ, List, Bool, false}
 use Rattle.semantics.specs.Machine.{Events}
-use Rattle.semantics.specs.Report.{Shows}
+use Rattle.schedule.specs.Shown.{ShowsInOrder}
 use Rattle.schedule.specs.Setting.{size}
 use Rattle.schedule.specs.State.{state_of}
 use Rattle.schedule.specs.Runs.{Kept, Began, HaltsAs, NamesCell}
@@ -26,9 +26,9 @@ returns-clause-shows g c = λ inputs listed began halts.
     let b : Began inputs s evs = subst (λ (k : Kept). Began inputs k.state k.events) (sym c.self.view_is) began in
     let h : HaltsAs s listed c.args.halt = subst (λ (k : Kept). HaltsAs k.state listed c.args.halt) (sym c.self.view_is) halts in
     let found = shows_reported g.C.Instructions.program g.C.Instructions.width m evs c.args.halt r c.self.invariant c.report_of.ensures inputs listed evs b h in
-    let shown : Shows s.setting.program (size s.setting) inputs s.setting.steps listed false r =
-    subst (λ (l : Events). Shows s.setting.program (size s.setting) inputs s.setting.steps listed false (with_events r l)) (sym (found.2 refl)) found.1 in
-    subst (λ (k : Kept). Shows k.state.setting.program (size k.state.setting) inputs k.state.setting.steps listed false r) c.self.view_is shown
+    let shown : ShowsInOrder s.setting.program (size s.setting) inputs s.setting.steps listed false r =
+    subst (λ (l : Events). ShowsInOrder s.setting.program (size s.setting) inputs s.setting.steps listed false (with_events r l)) (sym (found.2 refl)) found.1 in
+    subst (λ (k : Kept). ShowsInOrder k.state.setting.program (size k.state.setting) inputs k.state.setting.steps listed false r) c.self.view_is shown
 
 pub returns-clause-any : goal.returns-clause-any
 returns-clause-any g c =

@@ -13,7 +13,7 @@ returns-in_ok-push_symbols-in-Takes-clause-acts g c = λ names at l.
     c.as_slice-in-Takes.ensures in
     let words = c.push_symbols.ensures.words ∙ c.push_symbol.ensures.words ∙ c.in_ok-push_words-in-Takes.ensures.words
     ∙ ap₂ (λ t u. t ++ u) c.in_ok-push_word.ensures.words c.as_slice.ensures in
-    acts_takes names at l old.stack.items old.words.items r c.in-Takes.words c.in-Takes.symbols c.push_symbols.new.self.stack.items
+    acts_takes names at l old.stack.items old.words.items r c.args.pushes.now c.push_symbols.new.self.stack.items
     c.push_symbols.new.self.words.items
     c.in-Takes.is stack words
 
@@ -25,5 +25,5 @@ returns-in_ok-push_symbols-in-Takes-clause-shallow g c =
     ∙ ap₂ (λ t u. t ++ reverse u)
     (c.in_ok-push_symbol-in-Takes.ensures.stack ∙ ap (λ t. t ++ option_to_list r.below) (c.push_words.ensures.stack ∙ c.push_word.ensures.stack))
     c.as_slice-in-Takes.ensures in
-    stays_shallow old.stack.items c.push_symbols.new.self.stack.items r c.in-Takes.words c.in-Takes.symbols c.in-Takes.is stack c.requires.stack
+    stays_shallow old.stack.items c.push_symbols.new.self.stack.items r c.args.pushes.now c.in-Takes.is stack c.requires.stack
     c.requires.reaction

@@ -1,8 +1,0 @@
-use Rattle.std.proofs.Common.{◌≡◌, ◌+◌, length}
-use Rattle.expansion.specs.Blocks as Blocks
-use Rattle.expansion.proofs.block.push_inputs.Given as goal
-
-abbrev pub invariant-loop-number : goal.invariant-loop-number
-invariant-loop-number g l =
-    (l.builder ≡ Blocks.with_inputs l.fn.builder l.scope l.number)
-    × (length l.builder.instrs ≡ length l.fn.builder.instrs + l.number)

@@ -1,6 +1,0 @@
-use Rattle.std.proofs.Common.{◌≡◌, map, take}
-use Rattle.expansion.specs.Flows.{resolved_node}
-use Rattle.expansion.proofs.flow.resolve_nodes.Given as goal
-
-abbrev pub invariant-loop-node : goal.invariant-loop-node
-invariant-loop-node g l = l.resolved.items ≡ map (resolved_node l.checked) (take l.node-index l.nodes)

@@ -1,0 +1,2 @@
+//! The order in which frames are handed out: definitions of events and runs that keep it, and that each step of a lane does. It has no code.
+#![tactic(auto)]

@@ -1,2 +1,0 @@
-pub mod Credits
-pub mod Coded

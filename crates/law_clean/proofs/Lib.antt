@@ -1,9 +1,0 @@
-pub mod Still
-pub mod Fires
-pub mod Starts
-pub mod Along
-pub mod Credits
-pub mod Supplied
-pub mod Whole
-pub mod Frames
-pub mod Clean

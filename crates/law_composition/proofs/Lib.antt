@@ -1,3 +1,0 @@
-pub mod SoundObjects
-pub mod AnyGraph
-pub mod FoldedInstrs

@@ -1,8 +1,0 @@
-//! Sound plans, as far as an object.
-
-ghost use Rattle.law_composition.specs.Sound.{SoundHaveObjects};
-
-/// A sound plan has an object when it is narrowed and has good slots, but for the sizes that are refused.
-pub fn sound_plans_have_objects()
-    ensures { SoundHaveObjects }
-{}

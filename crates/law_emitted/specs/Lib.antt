@@ -1,4 +1,0 @@
-pub mod Alike
-pub mod Same
-pub mod SameRuns
-pub mod Loops

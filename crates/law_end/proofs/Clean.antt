@@ -1,0 +1,71 @@
+-- At rest, with nothing wanted and no reader waiting, no frame is out and every slot is empty.
+use Rattle.std.proofs.Common.{◌≡◌, ℕ, true, false, ◌⊎◌, inl, inr, Some, sym, ap, ◌∙◌}
+use Rattle.std.proofs.lemmas.Bool.{cases_Bool}
+use Rattle.tags.specs.declared.slot.SlotState.TheVariants.{Empty}
+use Rattle.semantics.specs.Meaning.{Context}
+use Rattle.semantics.specs.Faithful.{IsClean}
+use Rattle.law_confluence.proofs.NetSlots.{AtSlot}
+use Rattle.law_net.specs.ContextsParts.{Opener, Item}
+use Rattle.law_net.specs.ContextsBlocks.{is_loop}
+use Rattle.law_net.specs.Contexts.{or_zero, block_in, wiring_in, IsContext}
+use Rattle.law_net.specs.ContextsFirings.{frame_at}
+use Rattle.law_net.specs.ContextsStands.{frame_of, word_of, only, in_slot, slot_of, on_side}
+use Rattle.law_net.proofs.WiredNets.{only_contains}
+use Rattle.law_end.proofs.OverLast as Last
+use Rattle.law_net.specs.ContextsPackages.{OfRuns, CleanAtRest}
+use Rattle.law_end.proofs.CleanStill.{AtRest}
+use Rattle.law_end.proofs.CleanFires.{waiting_stands}
+use Rattle.law_end.proofs.CleanFrames.{ended, freed}
+
+module _ (u : AtRest) where
+  frames_in : (f : ℕ) → u.m.store.out f ≡ false
+  frames_in f = pick (cases_Bool (u.m.store.out f))
+    where
+      pick : (u.m.store.out f ≡ true) ⊎ (u.m.store.out f ≡ false) → u.m.store.out f ≡ false
+      pick (inr e) = e
+      pick (inl e) = let (c, at) = u.kept.follows.stands.not_out f e in (u.kept.follows.stands.out c f at).1 (freed u c f at)
+
+  -- a frame's slots, where a context has it
+  of_context : (c : Context) (f : ℕ) → frame_at u.fl u.kept.follows.net.fired c ≡ Some f → (r : ℕ) → u.m.store.slots f r ≡ Empty
+  of_context c f at r = Last.slots_empty u.fl u.p u.w u.inputs u.past u.m u.good u.fit u.kept c f at (ended u c f at) r
+
+  slots_empty : (f r : ℕ) → u.m.store.slots f r ≡ Empty
+  slots_empty f r = pick (u.kept.follows.stands.slots.empty f r)
+    where
+      by_base : (u.kept.follows.stands.base f r ≡ Empty)
+          ⊎ ((c : Context) × (n : ℕ) × IsContext u.fl c × (is_loop (block_in u.fl c) n ≡ true) × (frame_at u.fl u.kept.follows.net.fired c ≡ Some f)
+          × ((wiring_in u.fl u.w c).slot (Opener n) ≡ r))
+          → u.m.store.slots f r ≡ u.kept.follows.stands.base f r → u.m.store.slots f r ≡ Empty
+      by_base (inl e) same = same ∙ e
+      by_base (inr (c, n, x, l, at, o)) same = of_context c f at r
+
+      pick : (u.m.store.slots f r ≡ u.kept.follows.stands.base f r)
+          ⊎ AtSlot (λ (i : Item). frame_of u.fl u.kept.follows.net.fired i.context) (slot_of u.fl u.w)
+          (λ (i : Item). on_side i.inlet.port (word_of u.fl u.p u.w u.kept.follows.net.fired i.word)) u.kept.follows.stands.base
+          (only (in_slot u.fl) u.kept.follows.net.waiting) f r → u.m.store.slots f r ≡ Empty
+      pick (inl e) = by_base (u.kept.follows.stands.others f r) e
+      pick (inr (i, d, a, e)) =
+          let waits = (only_contains (in_slot u.fl) u.kept.follows.net.waiting i d).0 in
+          let (g, at) = u.kept.follows.stands.known i (waiting_stands u i waits) in
+          of_context i.context f (at ∙ ap Some (sym (ap or_zero at) ∙ a)) r
+
+  pub clean : IsClean u.m
+  clean = record { frames = frames_in; slots = slots_empty }
+
+pub all_clean_at_rest : OfRuns CleanAtRest
+all_clean_at_rest fl p w inputs q m good fit kept rests wants unread =
+    clean
+    (record {
+      fl = fl;
+      p = p;
+      w = w;
+      inputs = inputs;
+      past = q;
+      m = m;
+      good = good;
+      fit = fit;
+      kept = kept;
+      rests = rests;
+      wants = wants;
+      unread = unread;
+    })

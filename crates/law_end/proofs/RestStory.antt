@@ -1,0 +1,220 @@
+-- A run of the meaning beside the moves of the net, in which each token stood that an item stands for which came.
+use Rattle.std.proofs.Common.{◌≡◌, ℕ, ℤ, List, [], ◌∷◌, ◌++◌, refl, sym, ap, ◌∙◌, subst, append_assoc, append-nil, ⊎_elim}
+use Rattle.std.specs.Prelude.{All, IsPermutation, Contains, flat_map}
+use Rattle.std.proofs.lemmas.List.Concat.{flat_map-append}
+use Rattle.std.proofs.lemmas.List.Sorted.{IsPermutation-trans, IsPermutation-refl, IsPermutation-sym, IsPermutation-append, IsPermutation-append_left}
+use Rattle.std.proofs.lemmas.List.Sorted.{All-permutation}
+use Rattle.std.proofs.lemmas.List.Elements.{All-append, All-nil, All-weaker, All-contains, All-contains_itself}
+use Rattle.semantics.specs.Graph.{Flow}
+use Rattle.semantics.specs.Meaning as Meaning
+use Rattle.semantics.specs.Meaning.{State, Memory, Activity, Main, Tagged, taken, start, entering, Leads}
+use Rattle.semantics.specs.Plan.{Plan}
+use Rattle.semantics.specs.Machine.{Machine}
+use Rattle.lemmas.proofs.Permutations.{Within, within_permutation, within_append, within_left, within_right, within_from}
+use Rattle.lemmas.proofs.Alls.{all_left, all_right}
+use Rattle.law_confluence.proofs.Orders.{at_last, shuffled, flat_map-IsPermutation, Part, ◌⊕◌}
+use Rattle.law_confluence.proofs.Net.{Waits, Fires, net_sound_moves, net_sound_begins, fires_allowed}
+use Rattle.law_confluence.proofs.NetFollows.{run_from, run_join, state_of, Simulates}
+use Rattle.law_confluence.proofs.NetArms.{arms_lawful}
+use Rattle.law_net.specs.ContextsParts.{Item, Firing, spot_of, same_spot, role_of}
+use Rattle.law_net.specs.Contexts.{Wires}
+use Rattle.law_net.specs.ContextsTold.{told}
+use Rattle.law_net.specs.ContextsFirings.{Config, Move, begin, begins, takes, makes, memory_of, IsProperMove, ProperMoves, Still, Then}
+use Rattle.law_net.specs.ContextsLaws.{Fits, WordFits, IsPredicate, is_true, InArm, source, says, Allowed, NetHasArms, NetIsLawful, IsSoundNet, WordsFit}
+use Rattle.law_net.specs.ContextsStands.{Past}
+use Rattle.law_net.specs.ContextsTheorem.{IsGood}
+use Rattle.law_net.specs.ContextsPackages.{InputsFit, Keeps, telling_of}
+use Rattle.law_net.proofs.ContextsComposition.{told_inputs}
+use Rattle.law_net_refines_meaning.proofs.Firings.{all_told}
+use Rattle.law_net.proofs.WiredWords.{words_are_fit}
+use Rattle.law_net.proofs.WiredFed.{inlets_are_fed}
+use Rattle.law_net.proofs.WiredEntered.{arms_are_entered}
+use Rattle.law_net.proofs.WiredRivals.{rivals_are_apart}
+use Rattle.law_net.proofs.WiredNets.{all_of, flat_contains}
+
+-- what stood before a run is spent in it or still stands
+pub stays_in : (fl : Flow) (r : List Activity) (s t : State) → Meaning.Run fl s r t → (x : Tagged) → Within x s.tokens → Within x (flat_map taken r ++ t.tokens)
+stays_in fl [] s t p x h = within_permutation x s.tokens t.tokens p.0 h
+stays_in fl (a ∷ r) s t p x h =
+    subst (λ (l : List Tagged). Within x l) (sym (append_assoc (taken a) (flat_map taken r) t.tokens))
+    (⊎_elim (λ k. within_left x (taken a) (flat_map taken r ++ t.tokens) k)
+    (λ k. within_right x (taken a) (flat_map taken r ++ t.tokens)
+    (stays_in fl r p.0 t p.2 x (within_permutation x (p.1.does.added ++ p.1.rest) p.0.tokens (IsPermutation-sym _ _ p.1.leaves)
+    (within_right x p.1.does.added p.1.rest k))))
+    (within_append x (taken a) p.1.rest (within_permutation x s.tokens (taken a ++ p.1.rest) p.1.takes h)))
+
+module _ (fl : Flow) (p : Plan) (w : Wires) (inputs : List ℤ) (good : IsGood fl p w) (fit : InputsFit fl inputs) where
+  arms : NetHasArms fl w inputs
+  arms =
+      let words = words_are_fit fl p w good inputs fit in let fed = inlets_are_fed fl p w good inputs fit in
+      let entered = arms_are_entered fl p w good inputs fit in record {
+        enters = entered.enters;
+        words = entered.words;
+        makes_fit = words.makes_fit;
+        begins_fit = words.begins_fit;
+        none_first = entered.none_first;
+        begins_once = fed.begins_once;
+        makes_once = fed.makes_once;
+        begins_apart = fed.begins_apart;
+        feeders = fed.feeders;
+        rivals = rivals_are_apart fl p w good inputs;
+      }
+
+  lawful : NetIsLawful fl w inputs
+  lawful =
+      arms_lawful spot_of same_spot (takes fl) (makes fl w) (begins inputs) role_of (Fits fl w) (IsPredicate fl) is_true (InArm fl) (source fl w) (says fl) arms
+
+  -- all tokens that the item stands for stood
+  abbrev pub Ever : List Tagged → Item → Type 0
+  Ever history i = (t : Tagged) → Contains (told fl i) t → Within t history
+
+  abbrev pub History : List Activity → State → List Tagged
+  History run s = flat_map taken run ++ s.tokens
+
+  pub record Told (c : Config) : Type 0 where
+    pub sound : IsSoundNet fl w inputs c
+    pub fits : WordsFit fl w inputs c
+    pub state : State
+    pub run : List Activity
+    pub is_run : Meaning.Run fl (start inputs) run state
+    pub tokens : IsPermutation state.tokens (flat_map (told fl) (c.pending ++ c.waiting))
+    pub memory_is : state.memory ≡ memory_of fl c.fired
+    pub ever : All (Ever (flat_map taken run ++ state.tokens)) (c.pending ++ (c.waiting ++ flat_map (takes fl) c.fired))
+
+  -- what a firing takes, and the rest
+  split : (P : Item → Type 0) (c : Config) (f : Firing) (now kept rest others : List Item) → IsPermutation c.pending (now ++ rest)
+      → IsPermutation c.waiting (kept ++ others) → IsPermutation (now ++ kept) (takes fl f)
+      → All P (c.pending ++ (c.waiting ++ flat_map (takes fl) c.fired)) → All P (takes fl f ++ (rest ++ (others ++ flat_map (takes fl) c.fired)))
+  split P c f now kept rest others a b both all =
+      All-permutation P _ _ (IsPermutation-trans _ _ _ (IsPermutation-append _ _ _ _ a (IsPermutation-append_left (flat_map (takes fl) c.fired) _ _ b))
+      (IsPermutation-trans _ _ _ (shuffled (now ∷ rest ∷ kept ∷ others ∷ flat_map (takes fl) c.fired ∷ []) ((Part 0 ⊕ Part 1) ⊕ ((Part 2 ⊕ Part 3) ⊕ Part 4))
+      ((Part 0 ⊕ Part 2) ⊕ (Part 1 ⊕ (Part 3 ⊕ Part 4))) refl)
+      (IsPermutation-append_left (rest ++ (others ++ flat_map (takes fl) c.fired)) _ _ both))) all
+
+  -- what holds of all items goes on
+  waits_all : (P : Item → Type 0) (c : Config) (i : Item) (rest : List Item) → IsPermutation c.pending (i ∷ rest)
+      → All P (c.pending ++ (c.waiting ++ flat_map (takes fl) c.fired)) → All P (rest ++ ((i ∷ c.waiting) ++ flat_map (takes fl) c.fired))
+  waits_all P c i rest a all = All-permutation P _ _
+      (IsPermutation-trans _ _ _ (IsPermutation-append_left (c.waiting ++ flat_map (takes fl) c.fired) _ _ a)
+      (shuffled ((i ∷ []) ∷ rest ∷ c.waiting ∷ flat_map (takes fl) c.fired ∷ []) ((Part 0 ⊕ Part 1) ⊕ (Part 2 ⊕ Part 3))
+      (Part 1 ⊕ ((Part 0 ⊕ Part 2) ⊕ Part 3)) refl)) all
+
+  fires_all : (P : Item → Type 0) (c : Config) (f : Firing) (now kept rest others : List Item) → IsPermutation c.pending (now ++ rest)
+      → IsPermutation c.waiting (kept ++ others) → IsPermutation (now ++ kept) (takes fl f)
+      → All P (makes fl w f) → All P (c.pending ++ (c.waiting ++ flat_map (takes fl) c.fired))
+      → All P ((makes fl w f ++ rest) ++ (others ++ (takes fl f ++ flat_map (takes fl) c.fired)))
+  fires_all P c f now kept rest others a b both made before =
+      let all = split P c f now kept rest others a b both before in
+      let mine = all_left P (takes fl f) (rest ++ (others ++ flat_map (takes fl) c.fired)) all in
+      let left = all_right P (takes fl f) (rest ++ (others ++ flat_map (takes fl) c.fired)) all in
+      let more = all_right P rest (others ++ flat_map (takes fl) c.fired) left in
+      All-append P (makes fl w f ++ rest) (others ++ (takes fl f ++ flat_map (takes fl) c.fired))
+      (All-append P (makes fl w f) rest made (all_left P rest (others ++ flat_map (takes fl) c.fired) left))
+      (All-append P others (takes fl f ++ flat_map (takes fl) c.fired) (all_left P others (flat_map (takes fl) c.fired) more)
+      (All-append P (takes fl f) (flat_map (takes fl) c.fired) mine (all_right P others (flat_map (takes fl) c.fired) more)))
+
+  fits_of : (fired : List Firing) (items : List Item) → All (Allowed fl w inputs fired) items → All (λ (i : Item). Fits fl w (spot_of i)) items
+  fits_of fired items all = All-weaker (Allowed fl w inputs fired) (λ (i : Item). Fits fl w (spot_of i)) (λ i k. k.fits) items all
+
+  told_in : (items : List Item) (history : List Tagged) → ((t : Tagged) → Within t (flat_map (told fl) items) → Within t history) → All (Ever history) items
+  told_in items history h =
+      All-weaker (Contains items) (Ever history) (λ i c t d. h t (within_from t (flat_map (told fl) items) (flat_contains (told fl) items i t c d))) items
+      (All-contains_itself items)
+
+  move_told : (c d : Config) (m : Move fl w c d) → IsProperMove fl w c.fired c d m → Told c → Told d
+  move_told c d (Waits i rest a e) proper k = subst Told (sym e) (record {
+    sound =
+        subst (IsSoundNet fl w inputs) e (net_sound_moves spot_of same_spot (takes fl) (makes fl w) (begins inputs) role_of
+        (Allowed fl w inputs) lawful c d k.sound (Waits i rest a e));
+    fits = waits_all (WordFits fl w) c i rest a k.fits;
+    state = k.state;
+    run = k.run;
+    is_run = k.is_run;
+    tokens = IsPermutation-trans _ _ _ k.tokens (flat_map-IsPermutation (told fl) _ _ (IsPermutation-trans _ _ _ (IsPermutation-append_left c.waiting _ _ a)
+        (shuffled ((i ∷ []) ∷ rest ∷ c.waiting ∷ []) ((Part 0 ⊕ Part 1) ⊕ Part 2) (Part 1 ⊕ (Part 0 ⊕ Part 2)) refl)));
+    memory_is = k.memory_is;
+    ever = waits_all (Ever (flat_map taken k.run ++ k.state.tokens)) c i rest a k.ever;
+  })
+  move_told c d (Fires f now kept rest others a b both e) proper k =
+      let allowed = fires_allowed spot_of same_spot (takes fl) (makes fl w) (begins inputs) role_of
+      (Allowed fl w inputs) lawful c k.sound f now kept rest others a b both in
+      let words = all_left (WordFits fl w) (takes fl f) (rest ++ (others ++ flat_map (takes fl) c.fired))
+      (split (WordFits fl w) c f now kept rest others a b both k.fits) in
+      let sim : Simulates fl inputs (takes fl) (makes fl w) (told fl) (memory_of fl) f c.fired =
+      all_told (telling_of fl f.context f.part) fl p w inputs f c.fired good fit allowed words proper refl in
+      let frame = flat_map (told fl) (rest ++ others) in
+      let perm : IsPermutation (c.pending ++ c.waiting) (takes fl f ++ (rest ++ others)) =
+      IsPermutation-trans _ _ _ (IsPermutation-append _ _ _ _ a b) (IsPermutation-trans _ _ _
+      (shuffled (now ∷ rest ∷ kept ∷ others ∷ []) ((Part 0 ⊕ Part 1) ⊕ (Part 2 ⊕ Part 3)) ((Part 0 ⊕ Part 2) ⊕ (Part 1 ⊕ Part 3)) refl)
+      (IsPermutation-append_left (rest ++ others) _ _ both)) in
+      let here : IsPermutation k.state.tokens (flat_map (told fl) (takes fl f) ++ frame) =
+      at_last (IsPermutation-trans _ _ _ k.tokens (flat_map-IsPermutation (told fl) _ _ perm)) (flat_map-append (told fl) (takes fl f) (rest ++ others)) in
+      let led = sim frame in
+      let t = state_of (flat_map (told fl) (makes fl w f) ++ frame) (memory_of fl (f ∷ c.fired)) in
+      let step = run_from fl led.0 k.state (state_of (flat_map (told fl) (takes fl f) ++ frame) (memory_of fl c.fired)) t (here, k.memory_is) led.1 in
+      let more = later k.run led.0 k.state t step in
+      subst Told (sym e) (record {
+        sound =
+            subst (IsSoundNet fl w inputs) e (net_sound_moves spot_of same_spot (takes fl) (makes fl w) (begins inputs) role_of
+            (Allowed fl w inputs) lawful c d k.sound (Fires f now kept rest others a b both e));
+        fits =
+            fires_all (WordFits fl w) c f now kept rest others a b both
+            ((words_are_fit fl p w good inputs fit).words f (fits_of c.fired (takes fl f) allowed) words) k.fits;
+        state = t;
+        run = k.run ++ led.0;
+        is_run = run_join fl k.run led.0 (start inputs) k.state t k.is_run step;
+        tokens =
+            same_tokens (sym (flat_map-append (told fl) (makes fl w f) (rest ++ others))
+            ∙ ap (flat_map (told fl)) (sym (append_assoc (makes fl w f) rest others)));
+        memory_is = refl;
+        ever = fires_all (Ever (flat_map taken (k.run ++ led.0) ++ t.tokens)) c f now kept rest others a b both
+            (told_in (makes fl w f) (flat_map taken (k.run ++ led.0) ++ t.tokens)
+            (λ x h. within_right x (flat_map taken (k.run ++ led.0)) t.tokens (within_left x (flat_map (told fl) (makes fl w f)) frame h)))
+            (All-weaker (Ever (flat_map taken k.run ++ k.state.tokens)) (Ever (flat_map taken (k.run ++ led.0) ++ t.tokens))
+            (λ i h x q. more x (h x q)) _ k.ever);
+      })
+    where
+      same_tokens : {xs ys : List Tagged} → xs ≡ ys → IsPermutation xs ys
+      same_tokens {xs = xs} e = subst (λ l. IsPermutation xs l) e (IsPermutation-refl xs)
+
+      -- what stood goes on in the history
+      later : (first second : List Activity) (s t : State) → Meaning.Run fl s second t → (x : Tagged) → Within x (flat_map taken first ++ s.tokens)
+          → Within x (flat_map taken (first ++ second) ++ t.tokens)
+      later first second s t r x h =
+          subst (λ (l : List Tagged). Within x l)
+          (sym (ap (λ (l : List Tagged). l ++ t.tokens) (flat_map-append taken first second)
+          ∙ append_assoc (flat_map taken first) (flat_map taken second) t.tokens))
+          (⊎_elim (λ k. within_left x (flat_map taken first) (flat_map taken second ++ t.tokens) k)
+          (λ k. within_right x (flat_map taken first) (flat_map taken second ++ t.tokens) (stays_in fl second s t r x k))
+          (within_append x (flat_map taken first) s.tokens h))
+
+  pub moves_told : (c d : Config) → ProperMoves fl w c d → Told c → Told d
+  moves_told c d (Still e) k = k
+  moves_told c d (Then a mid b m proper more) k = moves_told mid b more (move_told a mid m proper k)
+
+  begin_told : Told (begin inputs)
+  begin_told =
+      let same : flat_map (told fl) (begins inputs ++ []) ≡ (start inputs).tokens = ap (flat_map (told fl)) (append-nil (begins inputs))
+      ∙ told_inputs fl 0 inputs in record {
+        sound = net_sound_begins spot_of same_spot (takes fl) (makes fl w) (begins inputs) role_of (Allowed fl w inputs) lawful;
+        fits = All-append (WordFits fl w) (begins inputs) [] (words_are_fit fl p w good inputs fit).begin_words (All-nil (WordFits fl w));
+        state = start inputs;
+        run = [];
+        is_run = (IsPermutation-refl (start inputs).tokens, refl);
+        tokens = subst (λ (l : List Tagged). IsPermutation (start inputs).tokens l) (sym same) (IsPermutation-refl (start inputs).tokens);
+        memory_is = refl;
+        ever = told_in (begins inputs ++ []) (start inputs).tokens (λ x h. subst (λ (l : List Tagged). Within x l) same h);
+      }
+
+-- OF EACH RUN
+module _ (fl : Flow) (p : Plan) (w : Wires) (inputs : List ℤ) (past : Past) (m : Machine) (good : IsGood fl p w) (fit : InputsFit fl inputs)
+    (kept : Keeps fl p w inputs past m) where
+  pub story : Told fl p w inputs good fit kept.follows.net
+  story = moves_told fl p w inputs good fit (begin inputs) kept.follows.net kept.follows.moves (begin_told fl p w inputs good fit)
+
+  -- each token that an item stands for which came stood
+  pub ever_told : (i : Item) → Contains (all_of fl kept.follows.net) i → (t : Tagged) → Contains (told fl i) t
+      → Within t (flat_map taken story.run ++ story.state.tokens)
+  ever_told i c =
+      All-contains (λ (i : Item). (t : Tagged) → Contains (told fl i) t → Within t (flat_map taken story.run ++ story.state.tokens))
+      (all_of fl kept.follows.net) i story.ever c

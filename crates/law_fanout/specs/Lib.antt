@@ -1,0 +1,4 @@
+-- Spread
+pub mod Spreads
+-- Narrow
+pub mod Narrowed

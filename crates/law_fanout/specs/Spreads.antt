@@ -1,0 +1,161 @@
+-- When the code of a plan is that of another one with copies between: its instructions in other places, and trees of copies
+-- in the place of some destinations.
+use Rattle.std.specs.Prelude.{◌≡◌, ℕ, ◌+◌, ◌≤◌, ◌<◌, Contains, Bool, true, false, List, [], ◌∷◌, ◌++◌, map, Some, IsPermutation, ⊤}
+use Rattle.tags.specs.declared.token.Port.{Port}
+use Rattle.tags.specs.declared.token.Port.TheVariants.{Left}
+use Rattle.tags.specs.declared.token.Cont.{Cont}
+use Rattle.tags.specs.declared.token.Word.{Word}
+use Rattle.tags.specs.declared.token.To.{To}
+use Rattle.tags.specs.declared.token.Token.{Token}
+use Rattle.tags.specs.declared.slot.SlotState.{SlotState}
+use Rattle.tags.specs.declared.slot.SlotState.TheVariants as Slot
+use Rattle.tags.specs.declared.slot.SlotState.TheVariants.{Waiter}
+use Rattle.semantics.specs.declared.program.Dest.{Dest}
+use Rattle.semantics.specs.declared.program.Op.{Op}
+use Rattle.semantics.specs.declared.program.Op.TheVariants.{Copy, Switch, Link, Send, Fetch, Store, Frame, Ask}
+use Rattle.semantics.specs.Program.{Instr, Program, first_of, instr_at}
+use Rattle.semantics.specs.Machine.{CellState, Deferred, Store as MStore, outputs_of}
+use Rattle.semantics.specs.Plan.{Plan, landing}
+use Rattle.semantics.specs.declared.program.Mark.{Mark}
+use Rattle.semantics.specs.Orderly.{inputs_of, often, is_entry, same_block, IsMarked, Orderly}
+use Rattle.semantics.specs.Wired.{IsWired}
+use Rattle.law_fresh_frames.specs.Alike.{LandsRightly, IsTidy, Keeps}
+use Rattle.code.specs.Sound.{IsSound}
+use Rattle.semantics.specs.Holders.{holder_at}
+
+-- OTHER PLACES. Words and states with other numbers for their instructions
+abbrev pub ip_cont : (ℕ → ℕ) → Cont → Cont
+ip_cont h (Cont.Frame f ip p) = Cont.Frame f (h ip) p
+ip_cont h (Cont.Host j) = Cont.Host j
+
+abbrev pub ip_word : (ℕ → ℕ) → Word → Word
+ip_word h (Word.Val v) = Word.Val v
+ip_word h (Word.Frame f) = Word.Frame f
+ip_word h (Word.Back c) = Word.Back (ip_cont h c)
+
+abbrev pub ip_to : (ℕ → ℕ) → To → To
+ip_to h (To.Instr f ip p) = To.Instr f (h ip) p
+ip_to h to = to
+
+abbrev pub ip_token : (ℕ → ℕ) → Token → Token
+ip_token h t = record { to = ip_to h t.to; word = ip_word h t.word }
+
+abbrev pub ip_slot : (ℕ → ℕ) → SlotState → SlotState
+ip_slot h (Slot.Left w) = Slot.Left (ip_word h w)
+ip_slot h (Slot.Right w) = Slot.Right (ip_word h w)
+ip_slot h (Waiter c) = Waiter (ip_cont h c)
+ip_slot h s = s
+
+abbrev pub ip_cell : (ℕ → ℕ) → CellState → CellState
+ip_cell h (Deferred cs) = Deferred (map (ip_cont h) cs)
+ip_cell h c = c
+
+abbrev pub ip_store : (ℕ → ℕ) → MStore → MStore
+ip_store h s =
+    record {
+      slots = λ f r. ip_slot h (s.slots f r);
+      cells = λ x. ip_cell h (s.cells x);
+      out = s.out;
+      requests = map (ip_cont h) s.requests;
+      outputs = s.outputs;
+      done = s.done;
+    }
+
+-- PORTS. An instruction's number, and the port
+abbrev pub Spot : Type 0
+Spot = ℕ × Port
+
+-- A copy that is none of the moved instructions: it leads on to what is behind it, and never to a `give` or a `take`.
+pub record IsCopyAt (q : Program) (h : ℕ → ℕ) (ip : ℕ) (zs : List Spot) : Type 0 where
+  pub i : Instr
+  pub d : Dest
+  pub e : Dest
+  pub there : instr_at q ip ≡ Some i
+  pub copies : i.op ≡ Copy
+  pub first : i.firsts ≡ d ∷ []
+  pub second : i.seconds ≡ e ∷ []
+  pub fresh : (a : ℕ) → ip ≡ h a → ⊥
+  pub later : (0 < d.ahead) × (0 < e.ahead)
+  pub lone : (x : Spot) → Contains zs x → often (instr_at q (h x.0)) ≡ false
+
+-- A port of the new code stands for these of the old: for that of the moved instruction, or, if it is a copy's, for those
+-- for which the copy's destinations stand.
+pub data StandsFor (q : Program) (h : ℕ → ℕ) : ℕ → Port → List Spot → Type 0 where
+  here : (ip : ℕ) (r : Port) (zs : List Spot) (a : ℕ) → ip ≡ h a → zs ≡ (a, r) ∷ [] → StandsFor q h ip r zs
+  fork : (ip : ℕ) (r : Port) (zs xs ys : List Spot) (K : IsCopyAt q h ip zs) → r ≡ Left → StandsFor q h (ip + K.d.ahead) K.d.port xs
+      → StandsFor q h (ip + K.e.ahead) K.e.port ys → zs ≡ xs ++ ys → StandsFor q h ip r zs
+
+-- the destinations of what stands at that number
+abbrev pub Lead : Program → (ℕ → ℕ) → ℕ → List Dest → List Spot → Type 0
+Lead q h ip [] zs = zs ≡ []
+Lead q h ip (d ∷ ds) zs = (xs : List Spot) × (ys : List Spot) × StandsFor q h (ip + d.ahead) d.port xs × Lead q h ip ds ys × (zs ≡ xs ++ ys)
+
+abbrev pub targets : ℕ → List Dest → List Spot
+targets ip ds = map (λ (d : Dest). (ip + d.ahead, d.port)) ds
+
+-- the new destinations of the one stand for the old ones of the other, in whatever order
+abbrev pub Leads : Program → (ℕ → ℕ) → ℕ → List Dest → ℕ → List Dest → Type 0
+Leads q h ip ds a es = (zs : List Spot) × Lead q h ip ds zs × IsPermutation (targets a es) zs
+
+abbrev pub is_answered : Op → Bool
+is_answered (Fetch a) = true
+is_answered (Store a) = true
+is_answered Frame = true
+is_answered (Ask o) = true
+is_answered (Link b) = true
+is_answered op = false
+
+-- what it enters stands where it stood
+abbrev pub Enters : Program → Program → (ℕ → ℕ) → Op → Type 0
+Enters p q h (Link b) = h (first_of p b) ≡ first_of q b
+Enters p q h (Send b e) = h (first_of p b + e) ≡ first_of q b + e
+Enters p q h op = ⊤
+
+-- the instruction i of number a, in its new place
+pub record IsMoved (p q : Program) (h : ℕ → ℕ) (a : ℕ) (i : Instr) : Type 0 where
+  pub j : Instr
+  pub there : instr_at q (h a) ≡ Some j
+  pub op : j.op ≡ i.op
+  pub origin : j.origin ≡ i.origin
+  pub slot : j.slot ≡ i.slot
+  pub all : Leads q h (h a) (j.firsts ++ j.seconds) a (i.firsts ++ i.seconds)
+  pub firsts : i.op ≡ Switch → Leads q h (h a) j.firsts a i.firsts
+  pub seconds : (i.op ≡ Switch → Leads q h (h a) j.seconds a i.seconds) × ((b : ℕ) → i.op ≡ Link b → Leads q h (h a) j.seconds a i.seconds)
+  pub answered : is_answered i.op ≡ true
+      → (d : Dest) × (e : Dest) × (i.firsts ≡ d ∷ []) × (j.firsts ≡ e ∷ []) × (h (a + d.ahead) ≡ h a + e.ahead) × (e.port ≡ d.port)
+  pub enters : Enters p q h i.op
+
+-- ALL OF IT. The instruction of number a has number h a in the new code.
+pub record Spreads (p q : Plan) : Type 0 where
+  pub h : ℕ → ℕ
+  pub arrays : q.program.arrays ≡ p.program.arrays
+  pub outputs : outputs_of q.program ≡ outputs_of p.program
+  pub inputs : inputs_of q ≡ inputs_of p
+  pub instrs : (a : ℕ) (i : Instr) → instr_at p.program a ≡ Some i → IsMoved p.program q.program h a i
+  -- the landing of a link stays a row, and as long
+  pub rows : (a callee o : ℕ) (i : Instr) (d : Dest) → instr_at p.program a ≡ Some i → i.op ≡ Link callee → i.firsts ≡ d ∷ [] → o < landing p callee
+      → h (a + d.ahead + o) ≡ h (a + d.ahead) + o
+  pub lengths : (b : ℕ) → landing q b ≡ landing p b
+  -- each has its holder and its mark
+  pub holders : (a : ℕ) → holder_at q (h a) ≡ holder_at p a
+  pub marks : (a : ℕ) (m : Mark) → IsMarked q (h a) m → IsMarked p a m
+  -- no two of them are at one place, and nothing else is
+  pub apart : (a b : ℕ) → h a ≡ h b → a ≡ b
+  pub alone : (a : ℕ) (j : Instr) → instr_at q.program (h a) ≡ Some j → (i : Instr) × (instr_at p.program a ≡ Some i)
+  -- and whatever stands in the new code stands for some
+  pub all : (ip : ℕ) (j : Instr) → instr_at q.program ip ≡ Some j → (zs : List Spot) × StandsFor q.program h ip Left zs
+  -- ports stand for ports of the block in which they are
+  pub blocks : (ip jp : ℕ) (r t : Port) (xs ys : List Spot) (x y : Spot) → StandsFor q.program h ip r xs → StandsFor q.program h jp t ys → Contains xs x
+      → Contains ys y
+      → same_block p.program.blocks x.0 y.0 ≡ true → same_block q.program.blocks ip jp ≡ true
+  -- entries stay entries, and those of the main block are its first instructions
+  pub starts : (a : ℕ) → is_entry p.program.blocks a ≡ true → is_entry q.program.blocks (h a) ≡ true
+  pub entries : (n : ℕ) → n ≤ inputs_of p → h (first_of p.program p.program.main + n) ≡ first_of q.program q.program.main + n
+
+-- A plan that is another one with copies between keeps what passes are to keep.
+abbrev pub SpreadPlansKeep : Type 0
+SpreadPlansKeep = (p q : Plan) → Spreads p q → IsWired p → Orderly p → LandsRightly p → Keeps p q
+
+-- And it stays tidy.
+abbrev pub SpreadPlansStayTidy : Type 0
+SpreadPlansStayTidy = (p q : Plan) → Spreads p q → IsSound p → IsTidy p → IsTidy q

@@ -1,0 +1,7 @@
+-- Fresh
+pub mod Fresh
+pub mod FreshReady
+-- Alike
+pub mod Alike
+-- Bounded
+pub mod Bounded

@@ -1,4 +1,0 @@
-pub mod Automaton
-pub mod Named
-pub mod Ready
-pub mod Theorem

@@ -1,0 +1,25 @@
+-- THE THEOREM OF THE PARSER: it reads exactly the programs that fit the grammar and are not too deep, and else tells the first
+-- token at which none goes on.
+use Rattle.std.specs.Prelude.{◌≡◌, ℕ, List, Ok, Err}
+use Rattle.source.specs.declared.fault.Fault.{Fault}
+use Rattle.source.specs.declared.token.Token.{Token}
+use Rattle.source.specs.Tree.{Program}
+use Rattle.source.specs.Words.{Words, program_words}
+use Rattle.source.specs.Parses.{Parses, Refuses}
+use Rattle.law_language.specs.GrammarAutomaton.{parsed}
+
+-- What is read is such a program.
+abbrev pub Sound : Type 0
+Sound = (text : List ℕ) (ts : List Token) (ws : Words) → parsed text ts ≡ Ok ws → (p : Program) × Parses text ts p × (ws ≡ program_words p)
+
+-- Each such program is read.
+abbrev pub Complete : Type 0
+Complete = (text : List ℕ) (ts : List Token) (p : Program) → Parses text ts p → parsed text ts ≡ Ok (program_words p)
+
+-- No text has two.
+abbrev pub Once : Type 0
+Once = (text : List ℕ) (ts : List Token) (p q : Program) → Parses text ts p → Parses text ts q → p ≡ q
+
+-- A fault is the first one, and its kind is right.
+abbrev pub FirstFault : Type 0
+FirstFault = (text : List ℕ) (ts : List Token) (fault : Fault) → parsed text ts ≡ Err fault → Refuses text ts fault

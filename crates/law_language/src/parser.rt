@@ -1,0 +1,15 @@
+//! The parser of the source language as an automaton: a stack of symbols, which is all that it knows, and words that are
+//! appended. It reads exactly the programs that fit the grammar. Each symbol knows how many expressions are open around
+//! it, so what a symbol does with a token depends on the two of them alone.
+
+ghost use Rattle.law_language.specs.Grammar.{Sound, Complete, Once, FirstFault};
+
+/// The automaton reads the tokens of a text exactly if a program has them that fits the grammar and is at most 200 deep; then
+/// it is the only one, and the words that are appended are its words. Else the fault is at the first token at which no such
+/// program goes on, or at the end, and its kind says why.
+pub fn automaton_reads_the_grammar()
+    ensures sound { Sound }
+    ensures complete { Complete }
+    ensures once { Once }
+    ensures first_fault { FirstFault }
+{}

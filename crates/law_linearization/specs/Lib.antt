@@ -1,0 +1,5 @@
+-- History
+pub mod History
+pub mod HistoryLaws
+-- Ends
+pub mod Ends

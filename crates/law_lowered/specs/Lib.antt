@@ -1,2 +1,0 @@
-pub mod HasText
-pub mod Well

@@ -1,0 +1,167 @@
+-- What leaves main: its results, and its end.
+use Rattle.std.proofs.Common.{◌≡◌, ℕ, ◌+◌, true, false, List, [], ◌∷◌, ◌++◌, map, refl, zero-add, sym, ap, ◌∙◌, subst, inl, inr, ◌⊎◌, true≢false, Some, None}
+use Rattle.std.specs.Prelude.{Contains}
+use Rattle.lemmas.proofs.Permutations.{permutation_same}
+use Rattle.lemmas.proofs.Contains.{contains_cases, contains_none}
+use Rattle.tags.specs.declared.value.Value.{Value}
+use Rattle.tags.specs.declared.token.Port.TheVariants.{Left}
+use Rattle.tags.specs.declared.token.Cont.{Cont}
+use Rattle.tags.specs.declared.token.Word.{Word}
+use Rattle.tags.specs.declared.token.To.{To}
+use Rattle.tags.specs.declared.token.Token.{Token}
+use Rattle.tags.specs.declared.slot.SlotState.TheVariants.{Empty}
+use Rattle.semantics.specs.declared.program.Op.{Op}
+use Rattle.semantics.specs.declared.program.Op.TheVariants as Ops
+use Rattle.semantics.specs.Meaning.{Context, Main}
+use Rattle.semantics.specs.Rule.{token, to_each, to_all, fires, fire_two}
+use Rattle.semantics.specs.Rule as Rule
+use Rattle.semantics.specs.Machine.{Fires}
+use Rattle.semantics.specs.Credits.{released_by}
+use Rattle.law_fresh_frames.specs.Alike.{plain_dests}
+use Rattle.law_net.specs.ContextsParts.{Result, End, Shown, Done, Freed, inlet, Note, Datum, FrameOf, BackTo, ToHost, signal, Item, item, each}
+use Rattle.law_net.specs.ContextsBlocks.{side}
+use Rattle.law_net.specs.Contexts.{block_in, wiring_in}
+use Rattle.law_net.specs.ContextsWires.{stands_at}
+use Rattle.law_net.specs.ContextsFirings.{frame_at}
+use Rattle.law_net.specs.ContextsStands.{frame_of, word_of, slot_of, named_by, is_held, is_instr}
+use Rattle.law_machine_refines_net.specs.MovesCases.{Taking, IsCaused, net_of, Followed, IsFree}
+use Rattle.law_machine_refines_net.proofs.MovesLists.{contains_one}
+use Rattle.law_machine_refines_net.proofs.MovesFitted.{code, taken_here}
+use Rattle.law_machine_refines_net.proofs.SendsRules.{at, instr, stood, dyadic_grants, free_from, free_of, releases}
+use Rattle.law_machine_refines_net.proofs.SendsPairs as Pairs
+use Rattle.law_machine_refines_net.proofs.SendsPairs.{Second, dyadic, left_here, right_here}
+use Rattle.law_machine_refines_net.proofs.Sends.{Wire}
+use Rattle.law_machine_refines_net.proofs.SendsAlong.{both, all_lead, pair_follows}
+use Rattle.law_machine_refines_net.proofs.MovesWhole.{WasThere, UsedNow, is_credit}
+use Rattle.law_machine_refines_net.proofs.OutwardsPassed.{calm_books, none_counted, none_released}
+use Rattle.law_machine_refines_net.proofs.OutwardsCrossing.{crosses_follow}
+use Rattle.law_machine_refines_net.proofs.Hosts.{outputs_are}
+use Rattle.law_machine_refines_net.proofs.SendsInwards.{told_at, carried}
+
+-- A RESULT of main
+module _ (s : Taking) (j : ℕ) (in_main : s.i.context ≡ Main) (e : s.i.inlet.part ≡ Result j) where
+  abbrev l : Taking
+  l = told_at s Main (Result j) in_main e
+
+  abbrev is_result : is_instr (Result j) ≡ true
+  is_result = Pairs.is l refl refl
+
+  abbrev W : Note → Word
+  W n = word_of s.fl s.p s.w (net_of s).fired n
+
+  -- what comes of both words
+  abbrev Comes : Op → Word → Word → Type 0
+  Comes op x y =
+      Fires s.m.store (frame_of s.fl (net_of s).fired Main) (Some (slot_of s.fl s.w l.i))
+      (fires Empty (fire_two s.p.program (at l is_result) (instr l is_result) op x y)) s.event.made s.new.store
+
+  sends_on : (sec : Second l refl refl) (v : Value) → sec.right ≡ Datum v → Comes (Ops.Return j) (W ToHost) (W (Datum v)) → Followed s
+  sends_on sec v r m = crosses_follow l refl refl refl sec (record {
+    out = item Main (inlet (Shown j) Left 0) sec.right ∷ [];
+    out_made = token (To.Host (0 + j)) (Word.Val v) ∷ [];
+    out_is = λ t. token (To.Host (zero-add j t)) (W (sym r t)) ∷ [];
+    out_held = λ x h. ap (λ (x : Item). is_held x.inlet.part) (sym (contains_one (item Main (inlet (Shown j) Left 0) sec.right) x h));
+    out_known = λ x h. (0, ap (λ (x : Item). frame_at s.fl (net_of s).fired x.context) (sym (contains_one (item Main (inlet (Shown j) Left 0) sec.right) x h)));
+    out_named = λ x d h n. absurd (unnamed x d (contains_one (item Main (inlet (Shown j) Left 0) sec.right) x h) n);
+    out_asked = λ x d y h n. absurd (unnamed x d (contains_one (item Main (inlet (Shown j) Left 0) sec.right) x h) (ap named_by n));
+    out_caused =
+        λ x h i k. absurd (true≢false (sym i
+        ∙ ap (λ (x : Item). is_instr x.inlet.part) (sym (contains_one (item Main (inlet (Shown j) Left 0) sec.right) x h))));
+    books = λ d n h k. calm_books l (item Main (inlet (Shown j) Left 0) sec.right ∷ []) calm d n;
+    dests = (instr l is_result).firsts ++ (instr l is_result).seconds;
+    makes_is = refl;
+    leads = all_lead l refl is_result refl refl;
+    plain_dest = λ d h. subst (λ o. Contains (plain_dests (instr l is_result) o) d) (sym (stood l is_result).is.op) h;
+    did = m;
+    released = λ d n g h k f. none_counted l free (item Main (inlet (Shown j) Left 0) sec.right ∷ []) calm d n g;
+    releases = none_released l free;
+  })
+    where
+      calm : (x : Item) → Contains (item Main (inlet (Shown j) Left 0) sec.right ∷ []) x → is_credit x.inlet.part ≡ false
+      calm x h = ap (λ (x : Item). is_credit x.inlet.part) (sym (contains_one (item Main (inlet (Shown j) Left 0) sec.right) x h))
+
+      free : IsFree l
+      free = free_of l is_result (dyadic_grants (instr l is_result).op (dyadic l refl refl)) (ap releases (stood l is_result).is.op)
+
+      unnamed : (x : Item) (d : Context) → item Main (inlet (Shown j) Left 0) sec.right ≡ x → named_by x.word ≡ Some d → ⊥
+      unnamed x d h n = let z : None ≡ Some d = ap named_by (sym r) ∙ ap (λ (x : Item). named_by x.word) h ∙ n in absurd (cc)
+
+  by_word : (sec : Second l refl refl) (k : Note) → sec.right ≡ k → Comes (Ops.Return j) (W ToHost) (W k) → Followed s
+  by_word sec (Datum v) r m = sends_on sec v r m
+  by_word sec (FrameOf d) r m = absurd m
+  by_word sec (BackTo d x) r m = absurd m
+  by_word sec ToHost r m = absurd m
+
+  pub result_follows : Followed s
+  result_follows =
+      pair_follows l refl refl refl (λ sec. by_word sec sec.right refl
+      (subst (λ n. Comes (Ops.Return j) (W n) (W sec.right)) (carried l _ (left_here l refl refl sec)) (both l refl refl refl sec (Ops.Return j) refl)))
+
+-- THE END of main
+module _ (s : Taking) (in_main : s.i.context ≡ Main) (e : s.i.inlet.part ≡ End) where
+  abbrev last : Taking
+  last = told_at s Main End in_main e
+
+  abbrev is_end : is_instr End ≡ true
+  is_end = Pairs.is last refl refl
+
+  abbrev results : ℕ
+  results = (block_in s.fl Main).outputs
+
+  abbrev Ends : Word → Word → Type 0
+  Ends x y =
+      Fires s.m.store (frame_of s.fl (net_of s).fired Main) (Some (slot_of s.fl s.w last.i))
+      (fires Empty (fire_two s.p.program (at last is_end) (instr last is_end) (Ops.Release results) x y)) s.event.made s.new.store
+
+  no_wire : Wire last is_end false ≡ []
+  no_wire = (code last last.i (taken_here last)).lawful.fed.sides (side End false) (inr refl)
+
+  abbrev ending : List Item
+  ending = item Main (inlet Freed Left 0) signal ∷ item Main (inlet Done Left 0) signal ∷ []
+
+  abbrev end_tokens : List Token
+  end_tokens = token (To.Release (frame_of s.fl (net_of s).fired Main)) Rule.signal ∷ token (To.Host (0 + results)) Rule.signal ∷ []
+
+  of_both : (P : Item → Type 0) → P (item Main (inlet Freed Left 0) signal) → P (item Main (inlet Done Left 0) signal) → (x : Item) → Contains ending x → P x
+  of_both P a b x h = pick (contains_cases (item Main (inlet Freed Left 0) signal) (item Main (inlet Done Left 0) signal ∷ []) x h)
+    where
+      pick : (item Main (inlet Freed Left 0) signal ≡ x) ⊎ Contains (item Main (inlet Done Left 0) signal ∷ []) x → P x
+      pick (inl d) = subst P d a
+      pick (inr c) = subst P (contains_one (item Main (inlet Done Left 0) signal) x c) b
+
+  end_free : s.event.made ≡ end_tokens → IsFree last
+  end_free m = free_from last is_end (dyadic_grants (instr last is_end).op (dyadic last refl refl)) (λ f base.
+      subst (λ o. released_by o f base s.event.made ≡ 0) (sym (stood last is_end).is.op)
+      (subst (λ ts. released_by (Ops.Release results) f base ts ≡ 0) (sym m) refl))
+
+  ends_on : (sec : Second last refl refl) → Ends (Word.Back (Cont.Host 0)) (word_of s.fl s.p s.w (net_of s).fired sec.right) → Followed s
+  ends_on sec m = crosses_follow last refl refl refl sec (record {
+    out = ending;
+    out_made = end_tokens;
+    out_is =
+        λ t. token (To.Release (frame_of s.fl (net_of s).fired Main)) Rule.signal
+        ∷ token (To.Host ((zero-add results ∙ sym (outputs_are s.fl s.p s.w s.good)) t)) Rule.signal ∷ [];
+    out_held = of_both (λ (x : Item). is_held x.inlet.part ≡ false) refl refl;
+    out_known = of_both (λ (x : Item). (n : ℕ) × (frame_at s.fl (net_of s).fired x.context ≡ Some n)) (0, refl) (0, refl);
+    out_named =
+        λ x d h. of_both (λ (x : Item). named_by x.word ≡ Some d → (n : ℕ) × (frame_at s.fl (net_of s).fired d ≡ Some n)) (λ n. absurd (cc))
+        (λ n. absurd (cc)) x h;
+    out_asked = λ x d y h. of_both (λ (x : Item). x.word ≡ BackTo d y → WasThere last x ⊎ UsedNow last d y) (λ n. absurd (cc)) (λ n. absurd (cc)) x h;
+    out_caused =
+        λ x h i k. of_both (λ (x : Item). (is_instr x.inlet.part ≡ true) → IsCaused last x) (λ i. absurd (true≢false (sym i)))
+        (λ i. absurd (true≢false (sym i))) x h i;
+    books = λ d n h k. calm_books last ending (of_both (λ (x : Item). is_credit x.inlet.part ≡ false) refl refl) d n;
+    makes_is = ap (λ l. ending ++ each Main signal l) (sym no_wire);
+    dests = [];
+    leads = permutation_same _ _ (ap (map (stands_at (wiring_in s.fl s.w Main))) (sym no_wire));
+    plain_dest = λ d h. absurd (contains_none d h);
+    did = m;
+    released = λ d n g h k f. none_counted last (end_free m.0) ending (of_both (λ (x : Item). is_credit x.inlet.part ≡ false) refl refl) d n g;
+    releases = none_released last (end_free m.0);
+  })
+
+  pub end_follows : Followed s
+  end_follows =
+      pair_follows last refl refl refl (λ sec. ends_on sec
+      (subst (λ n. Ends (word_of s.fl s.p s.w (net_of s).fired n) (word_of s.fl s.p s.w (net_of s).fired sec.right))
+      (carried last _ (left_here last refl refl sec)) (both last refl refl refl sec (Ops.Release results) refl)))

@@ -1,0 +1,82 @@
+-- Moves
+pub mod MovesLists
+pub mod MovesSites
+pub mod MovesStill
+pub mod MovesWhole
+pub mod MovesFollowed
+pub mod MovesReached
+pub mod MovesSettled
+pub mod MovesHalts
+pub mod MovesGoes
+pub mod MovesBare
+pub mod MovesSpots
+pub mod MovesFitted
+pub mod MovesSingle
+pub mod MovesLasting
+pub mod MovesEvents
+-- Sends
+pub mod SendsRules
+pub mod SendsPairs
+pub mod Sends
+pub mod SendsAlong
+pub mod SendsInwards
+-- Hosts
+pub mod HostsStarts
+pub mod Hosts
+pub mod HostsResults
+-- Cells
+pub mod CellsAnswered
+pub mod CellsHeld
+pub mod CellsFetched
+pub mod CellsAnswering
+pub mod CellsStored
+pub mod CellsRequests
+pub mod Cells
+-- Frames
+pub mod FramesWanted
+pub mod FramesRequested
+pub mod FramesUnframed
+pub mod FramesManaged
+pub mod FramesQueued
+pub mod FramesGrown
+pub mod FramesHanded
+pub mod FramesArgued
+pub mod FramesParted
+pub mod FramesRenewed
+pub mod FramesStrict
+pub mod FramesAsking
+-- Outwards
+pub mod OutwardsReturned
+pub mod OutwardsChildren
+pub mod OutwardsPassed
+pub mod OutwardsLeaving
+pub mod OutwardsLinked
+pub mod OutwardsCrossing
+pub mod OutwardsEnded
+pub mod OutwardsArguments
+pub mod OutwardsMeeting
+pub mod OutwardsSent
+pub mod OutwardsGranted
+pub mod OutwardsTurning
+pub mod OutwardsReturning
+pub mod OutwardsLastTurn
+pub mod OutwardsNexts
+pub mod OutwardsTurnEnded
+pub mod Outwards
+-- Credits
+pub mod CreditsLenders
+pub mod CreditsLending
+pub mod CreditsLent
+pub mod CreditsBooks
+pub mod CreditsLedgers
+pub mod CreditsSignals
+pub mod CreditsStanding
+pub mod CreditsOpening
+pub mod CreditsGranting
+pub mod CreditsReturned
+pub mod CreditsDrained
+pub mod CreditsDraining
+pub mod CreditsGiving
+pub mod CreditsServing
+pub mod CreditsBounded
+pub mod Credits

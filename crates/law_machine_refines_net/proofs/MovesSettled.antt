@@ -1,0 +1,119 @@
+-- The pool after an event, and all tokens that came.
+use Rattle.std.proofs.Common.{◌≡◌, ℕ, Bool, true, false, not, List, [], ◌∷◌, ◌++◌, map, refl, sym, ap, ◌∙◌, true≢false, Option, Some, None, if◌then◌else◌}
+use Rattle.std.specs.Prelude.{IsPermutation, Contains}
+use Rattle.std.proofs.lemmas.List.{map-append}
+use Rattle.std.proofs.lemmas.List.Concat.{flat_map-append}
+use Rattle.std.proofs.lemmas.List.Sorted.{IsPermutation-trans, IsPermutation-sym, IsPermutation-map, IsPermutation-append, IsPermutation-append_left}
+use Rattle.std.proofs.lemmas.List.Sorted.{IsPermutation-append_right}
+use Rattle.lemmas.proofs.Contains.{contains_head, contains_tail}
+use Rattle.tags.specs.declared.token.Word.{Word}
+use Rattle.tags.specs.declared.token.Token.{Token}
+use Rattle.tags.specs.declared.value.Value.{Value}
+use Rattle.semantics.specs.Graph.{Flow}
+use Rattle.semantics.specs.Plan.{Plan}
+use Rattle.law_confluence.proofs.Orders.{shuffled, Part as Piece, ◌⊕◌, at_first, at_last, flat_map-IsPermutation}
+use Rattle.law_net.specs.ContextsParts.{Part, Held, Item, Firing}
+use Rattle.law_net.specs.Contexts.{Wires, block_in}
+use Rattle.law_net.specs.ContextsBlocks.{is_store}
+use Rattle.law_net.specs.ContextsFirings.{Config, cell_of, second_of}
+use Rattle.law_net.specs.ContextsStands.{word_of, to_of, cell_to, token_of, only, is_held, Stands, came, is_cell_token, but_cells, events_taken}
+use Rattle.law_machine_refines_net.specs.MovesCases.{Taking, net_of, is_quiet}
+use Rattle.law_machine_refines_net.proofs.MovesLists.{kept_append, rest_same}
+
+-- no request of a cell
+pub no_cell_to : (fl : Flow) (p : Plan) (w : Wires) (fired : List Firing) (i : Item) (r : Part) (word : Word) → is_held r ≡ false
+    → is_cell_token (record { to = to_of fl p w fired i r; word = word }) ≡ false
+no_cell_to fl p w fired i (Held n) word e = absurd (true≢false e)
+no_cell_to fl p w fired i r word e = refl
+
+-- and one with a good index
+pub cell_to_is : (o : Option ℕ) (x : ℕ) (t : Bool) (v : Value) (word : Word) → o ≡ Some x → is_cell_token (record { to = cell_to o t v; word = word }) ≡ true
+cell_to_is None x t v word e = absurd (cc)
+cell_to_is (Some y) x true v word e = refl
+cell_to_is (Some y) x false v word e = refl
+
+pub quiet_held : (r : Part) → is_quiet r ≡ true → is_held r ≡ false
+quiet_held (Held n) e = absurd (true≢false (sym e))
+quiet_held r e = refl
+
+-- an item's token is a cell's just where it is a request
+abbrev pub IsTold : Flow → Plan → Wires → List Firing → Item → Type 0
+IsTold fl p w fired j = is_cell_token (token_of fl p w fired j) ≡ is_held j.inlet.part
+
+pub told_other : (fl : Flow) (p : Plan) (w : Wires) (fired : List Firing) (j : Item) → is_held j.inlet.part ≡ false → IsTold fl p w fired j
+told_other fl p w fired j e = no_cell_to fl p w fired j j.inlet.part (word_of fl p w fired j.word) e ∙ sym e
+
+pub told_held : (fl : Flow) (p : Plan) (w : Wires) (fired : List Firing) (j : Item) (n x : ℕ) → j.inlet.part ≡ Held n → cell_of fl j.context n j.held ≡ Some x
+    → IsTold fl p w fired j
+told_held fl p w fired j n x e good =
+    let word = word_of fl p w fired j.word in
+    ap (λ (r : Part). is_cell_token (record { to = to_of fl p w fired j r; word = word })) e
+    ∙ cell_to_is (cell_of fl j.context n j.held) x (is_store (block_in fl j.context) n) (second_of j.held) word good ∙ sym (ap is_held e)
+
+-- the tokens of the others stay
+pub cells_out : (fl : Flow) (p : Plan) (w : Wires) (fired : List Firing) (items : List Item) → ((j : Item) → Contains items j → IsTold fl p w fired j)
+    → but_cells (map (token_of fl p w fired) items) ≡ map (token_of fl p w fired) (only (λ (i : Item). not (is_held i.inlet.part)) items)
+cells_out fl p w fired [] h = refl
+cells_out fl p w fired (j ∷ js) h =
+    ap (λ (t : Bool). (if t then [] else token_of fl p w fired j ∷ []) ++ but_cells (map (token_of fl p w fired) js)) (h j (contains_head j js))
+    ∙ ap (λ l. (if is_held j.inlet.part then [] else token_of fl p w fired j ∷ []) ++ l) (cells_out fl p w fired js (λ x c. h x (contains_tail j js x c)))
+    ∙ split (is_held j.inlet.part)
+  where
+    split : (t : Bool) → (if t then [] else token_of fl p w fired j ∷ []) ++ map (token_of fl p w fired) (only (λ (i : Item). not (is_held i.inlet.part)) js)
+        ≡ map (token_of fl p w fired) ((if not t then j ∷ [] else []) ++ only (λ (i : Item). not (is_held i.inlet.part)) js)
+    split true = refl
+    split false = refl
+
+module _ (s : Taking) where
+  abbrev net : Config
+  net = net_of s
+
+  abbrev tok : Item → Token
+  tok j = token_of s.fl s.p s.w net.fired j
+
+  abbrev old : Stands s.fl s.p s.w s.m net
+  old = s.keeps.follows.stands
+
+  -- the tokens that are left are those of the other items
+  pub rest_is : IsPermutation s.event.rest (map tok s.others)
+  rest_is = rest_same s.t s.event.rest (map tok s.others) (IsPermutation-trans _ _ _ (IsPermutation-sym _ _ s.event.takes)
+      (IsPermutation-trans _ _ _ old.pool (at_last (IsPermutation-map tok net.pending (s.i ∷ s.others) s.perm)
+      (ap (λ t. t ∷ map tok s.others) (sym s.is_token)))))
+
+  pub pool_is : (made : List Item) → IsPermutation s.event.made (map tok made) → IsPermutation s.new.pool (map tok (made ++ s.others))
+  pool_is made e = at_last (IsPermutation-trans _ _ _ s.event.leaves (IsPermutation-append _ _ _ _ e rest_is)) (sym (map-append tok made s.others))
+
+  -- all tokens so far, with what is made
+  pub met_tokens : IsPermutation (events_taken (s.q.events ++ (s.e, s.t) ∷ []) ++ s.new.pool) ((events_taken s.q.events ++ s.m.pool) ++ s.event.made)
+  met_tokens =
+      let E = events_taken s.q.events in
+      at_first (ap (λ l. l ++ s.new.pool) (map-append (λ (ev : ℕ × Token). ev.1) s.q.events ((s.e, s.t) ∷ [])))
+      (IsPermutation-trans _ _ _ (IsPermutation-append_right (E ++ s.t ∷ []) _ _ s.event.leaves)
+      (IsPermutation-trans _ _ _ (shuffled (E ∷ (s.t ∷ []) ∷ s.event.made ∷ s.event.rest ∷ []) ((Piece 0 ⊕ Piece 1) ⊕ (Piece 2 ⊕ Piece 3))
+      ((Piece 0 ⊕ (Piece 1 ⊕ Piece 3)) ⊕ Piece 2) refl)
+      (IsPermutation-append_left s.event.made _ _ (IsPermutation-append_right E _ _ (IsPermutation-sym _ _ s.event.takes)))))
+
+  abbrev pub nh : Item → Bool
+  nh j = not (is_held j.inlet.part)
+
+  -- what came, with what is made
+  pub met_is : (made all : List Item) → IsPermutation (but_cells s.event.made) (map tok (only nh made)) → IsPermutation all (made ++ came s.fl net)
+      → IsPermutation (but_cells (events_taken (s.q.events ++ (s.e, s.t) ∷ []) ++ s.new.pool)) (map tok (only nh all))
+  met_is made all c perm =
+      let B = λ (t : Token). if is_cell_token t then [] else t ∷ [] in
+      let a = flat_map-IsPermutation B _ _ met_tokens in
+      let b : but_cells ((events_taken s.q.events ++ s.m.pool) ++ s.event.made) ≡ but_cells (events_taken s.q.events ++ s.m.pool) ++ but_cells s.event.made =
+      flat_map-append B (events_taken s.q.events ++ s.m.pool) s.event.made in
+      let d : IsPermutation (but_cells (events_taken s.q.events ++ s.m.pool) ++ but_cells s.event.made)
+      (map tok (only nh (came s.fl net)) ++ map tok (only nh made)) = IsPermutation-append _ _ _ _ s.keeps.follows.met c in
+      let g : IsPermutation (only nh all) (only nh made ++ only nh (came s.fl net)) =
+      at_last (flat_map-IsPermutation (λ (i : Item). if nh i then i ∷ [] else []) _ _ perm) (kept_append nh made (came s.fl net)) in
+      let h : IsPermutation (map tok (only nh all)) (map tok (only nh made) ++ map tok (only nh (came s.fl net))) =
+      at_last (IsPermutation-map tok _ _ g) (map-append tok (only nh made) (only nh (came s.fl net))) in
+      IsPermutation-trans _ _ _ (at_last a b) (IsPermutation-trans _ _ _ d (IsPermutation-trans _ _ _
+      (shuffled (map tok (only nh (came s.fl net)) ∷ map tok (only nh made) ∷ []) (Piece 0 ⊕ Piece 1) (Piece 1 ⊕ Piece 0) refl) (IsPermutation-sym _ _ h)))
+
+  pub made_but : (made : List Item) → IsPermutation s.event.made (map tok made) → ((j : Item) → Contains made j → IsTold s.fl s.p s.w net.fired j)
+      → IsPermutation (but_cells s.event.made) (map tok (only nh made))
+  made_but made e told =
+      at_last (flat_map-IsPermutation (λ (t : Token). if is_cell_token t then [] else t ∷ []) _ _ e) (cells_out s.fl s.p s.w net.fired made told)

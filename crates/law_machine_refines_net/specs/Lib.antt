@@ -1,0 +1,2 @@
+pub mod MovesCases
+pub mod Moves

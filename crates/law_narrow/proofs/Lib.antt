@@ -1,6 +1,0 @@
-pub mod NewPlaces
-pub mod Trees
-pub mod Entries
-pub mod Blocks
-pub mod Spread
-pub mod Keeps

@@ -1,0 +1,10 @@
+pub mod Firings
+pub mod FiringsActs
+pub mod FiringsSettles
+pub mod FiringsWords
+pub mod FiringsNodes
+pub mod FiringsControl
+pub mod FiringsCalls
+pub mod FiringsSites
+pub mod FiringsCells
+pub mod FiringsGraphs

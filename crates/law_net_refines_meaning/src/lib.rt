@@ -1,0 +1,28 @@
+//! Each firing of the net of contexts is some activities of the meaning.
+//!
+//! **The statement.** `firings_are_told` (`specs/Firings`): a proper firing of a lawful net is some activities of the meaning, in any surroundings;
+//! and a well-formed graph has as many operands as its nodes want, from earlier nodes.
+//!
+//! **Why it holds.**
+//! 1. An item stands for some tokens of the meaning, or for none (`told`, in `law_net`): an argument that waits for a frame stands for that operand
+//!    of the call; a signal, a frame and a continuation for none.
+//! 2. So what a firing takes and makes stands for tokens, and some activities have to lead from these to those, whatever else there is
+//!    (`FiringsActs`).
+//! 3. A conditional has no instruction: as soon as its source is sent, it is decided (`FiringsSettles`).
+//! 4. A node's part fires as the node does, and the conditionals that it feeds act with it (`FiringsNodes`).
+//! 5. What only controls sends on what it was told, or tells nothing (`FiringsControl`).
+//! 6. A sender passes an operand into an invocation, a landing takes a result back, a turn's value goes to the next turn or out (`FiringsCalls`).
+//! 7. A fetch asks its cell and the cell answers; a store fills it (`FiringsCells`).
+//!
+//! **The files.** One chapter, `Firings`; `Firings` itself is all of them, `FiringsGraphs` the operands of a well-formed graph.
+#![tactic(auto)]
+
+ghost use Rattle.law_net_refines_meaning.specs.Firings.{AllIsTold, GraphsAreEarlier, GraphsHaveOperands};
+
+/// A proper firing of a lawful net is some activities of the meaning, in any surroundings. A well-formed
+/// graph has as many operands as its nodes want, and they come from earlier nodes.
+pub fn firings_are_told()
+    ensures all { AllIsTold }
+    ensures operands { GraphsHaveOperands }
+    ensures earlier { GraphsAreEarlier }
+{}

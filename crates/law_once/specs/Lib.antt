@@ -1,5 +1,0 @@
-pub mod Once
-pub mod Bounded
-pub mod Alike
-pub mod Spreads
-pub mod Ready

@@ -1,3 +1,0 @@
-pub mod Tidy
-pub mod FoldedTidy
-pub mod Passes

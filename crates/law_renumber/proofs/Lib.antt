@@ -1,9 +1,0 @@
-pub mod Places
-pub mod Events
-pub mod Runs
-pub mod Orders
-pub mod Credits
-pub mod Keeping
-pub mod Holders
-pub mod Folding
-pub mod Twice

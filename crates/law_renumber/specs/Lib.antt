@@ -1,3 +1,0 @@
-pub mod Renumbers
-pub mod Keeps
-pub mod Folded

@@ -1,3 +1,0 @@
-pub mod Rest
-pub mod Starts
-pub mod Counted

@@ -1,3 +1,0 @@
-pub mod Tidy
-pub mod Whole
-pub mod Law

@@ -1,0 +1,41 @@
+-- Exit statuses, each a function of what came of a command.
+use Rattle.std.specs.Prelude.{ℕ}
+use Rattle.semantics.specs.Report.{Report}
+use Rattle.semantics.specs.declared.report.End.{End}
+use Rattle.oracle.specs.declared.report.MeanEnd.{MeanEnd}
+use Rattle.outcomes.specs.declared.outcome.Ending.{Ending}
+use Rattle.outcomes.specs.declared.outcome.Outcome.{Outcome}
+
+-- the exit status for the end of a run
+abbrev pub exit_status : End → ℕ
+exit_status End.Rest = 0
+exit_status End.Starved = 2
+exit_status (End.Clash a i) = 3
+exit_status End.Steps = 4
+exit_status (End.Stuck r) = 5
+exit_status End.Memory = 6
+exit_status End.Stop = 0
+
+-- the exit status for the end of a run of the meaning
+abbrev pub meaning_status : MeanEnd → ℕ
+meaning_status MeanEnd.Rest = 0
+meaning_status (MeanEnd.Clash a i) = 3
+meaning_status MeanEnd.Steps = 4
+
+abbrev pub ending_status : Ending → ℕ
+ending_status (Ending.Run end frames credits) = exit_status end
+ending_status (Ending.Meaning end) = meaning_status end
+
+-- the exit status for what came of a command
+abbrev pub outcome_status : Outcome → ℕ
+outcome_status Outcome.Done = 0
+outcome_status Outcome.Mistake = 1
+outcome_status (Outcome.Refused f) = 1
+outcome_status (Outcome.Reported e) = ending_status e
+outcome_status (Outcome.Drawn e) = ending_status e
+outcome_status (Outcome.Paged e events) = ending_status e
+outcome_status Outcome.Differed = 1
+
+-- how the run with this report ended
+abbrev pub ending_of : Report → Ending
+ending_of r = Ending.Run r.end r.waiting_frames r.waiting_credits

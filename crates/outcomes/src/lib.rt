@@ -1,0 +1,9 @@
+//! What comes of a command: why it has no result, or how what it ran ended. The exit status is a function of that, and so is
+//! what a person is told on standard error.
+#![tactic(auto)]
+
+mod outcome;
+mod refusal;
+
+pub use outcome::{Ending, Outcome};
+pub use refusal::Refusal;

@@ -1,0 +1,112 @@
+//! What came of a command that was printed whole.
+
+ghost use Rattle.std.specs.Prelude.{◌≡◌};
+ghost use Rattle.outcomes.specs.Outcomes.{ending_of, ending_status, exit_status, meaning_status, outcome_status};
+
+use crate::refusal::Refusal;
+use oracle::MeanEnd;
+use schedule::report::Report;
+use semantics::report::End;
+use std::alloc::Allocator;
+
+/// The exit status of a refusal, of a fault of the command line, and where two orders differ.
+const REFUSED: u8 = 1;
+
+/// How what was run ended.
+#[derive(Clone, Copy, Debug)]
+pub enum Ending {
+    /// A run of the machine.
+    Run {
+        end: End,
+        /// How many requests for frames wait.
+        frames: u64,
+        /// How many requests for credits wait.
+        credits: u64,
+    },
+    /// The meaning of a graph.
+    Meaning(MeanEnd),
+}
+
+/// What came of a command that was printed whole.
+#[derive(Clone, Copy, Debug)]
+pub enum Outcome {
+    /// What was asked for was printed, and it is not of a run.
+    Done,
+    /// The words of the command line ask for nothing that there is.
+    Mistake,
+    /// The line of this refusal was printed.
+    Refused(Refusal),
+    /// A report was printed, which tells how the run ended.
+    Reported(Ending),
+    /// A picture, or events as data, which do not tell how the run ended.
+    Drawn(Ending),
+    /// A page that shows this many events of a run.
+    Paged { ending: Ending, events: u64 },
+    /// The reports of two orders that differ.
+    Differed,
+}
+
+/// The exit status that tells the end of a run of the meaning.
+fn status_of_meaning(end: MeanEnd) -> u8
+    ensures { result ≡ meaning_status end }
+{
+    match end {
+        MeanEnd::Rest => 0,
+        MeanEnd::Clash { .. } => 3,
+        MeanEnd::Steps => 4,
+    }
+}
+
+/// The exit status that tells the end of a run.
+fn status_of(end: End) -> u8
+    ensures { result ≡ exit_status end }
+{
+    match end {
+        End::Rest | End::Stop => 0,
+        End::Starved => 2,
+        End::Clash { .. } => 3,
+        End::Steps => 4,
+        End::Stuck { .. } => 5,
+        End::Memory => 6,
+    }
+}
+
+impl Ending {
+    /// How the run with this report ended.
+    pub fn of<A: Allocator>(report: &Report<A>) -> Ending
+        ensures { result ≡ ending_of report.now }
+    {
+        Ending::Run {
+            end: report.end,
+            frames: report.waiting_frames,
+            credits: report.waiting_credits,
+        }
+    }
+
+    fn status(self) -> u8
+        ensures { result ≡ ending_status self }
+    {
+        match self {
+            Ending::Run { end, .. } => status_of(end),
+            Ending::Meaning(end) => status_of_meaning(end),
+        }
+    }
+}
+
+impl Outcome {
+    /// The exit status: 0 at rest or done, 1 refused, a mistake or two orders that differ, 2 starved, 3 a clash, 4 out of steps, 5
+    /// stuck, 6 out of memory.
+    pub fn status(self) -> u8
+        ensures { result ≡ outcome_status self }
+    {
+        match self {
+            Outcome::Done => 0,
+            Outcome::Mistake => REFUSED,
+            Outcome::Refused(_refusal) => REFUSED,
+            Outcome::Reported(ending) => ending.status(),
+            Outcome::Drawn(ending) => ending.status(),
+            Outcome::Paged { ending, .. } => ending.status(),
+            Outcome::Differed => REFUSED,
+        }
+    }
+}

@@ -1,0 +1,42 @@
+//! Why a command has no result.
+
+ghost use Rattle.std.specs.Prelude.{◌≡◌};
+
+use assembler::AsmFault;
+use graph_check::CheckFault;
+use graph_file::ReadFault;
+use object_view::ObjectFault;
+use schedule::config::StartFault;
+use source::fault::ProgramFault;
+use std::alloc::AllocError;
+
+/// Why a command has no result: the fault as it was found, with its place.
+#[derive(Clone, Copy, Debug)]
+pub enum Refusal {
+    /// Standard input is too long, or a read failed.
+    Input,
+    Read(ReadFault),
+    Check(CheckFault),
+    /// In the code block with this number a holder finds no slot of a frame open, where each takes the least that it may share.
+    TooManySlots(u64),
+    /// The code block with this number is too long for an object, or has too many literals.
+    TooFar(u64),
+    /// This line of the inputs, counted from 1, is not an integer.
+    InputLine(u64),
+    Start(StartFault),
+    /// Standard input is not an object.
+    Object(ObjectFault),
+    /// Standard input is no listing of an object.
+    Asm(AsmFault),
+    /// Standard input has no program that can be lowered.
+    Program(ProgramFault),
+    Memory,
+}
+
+impl From<AllocError> for Refusal {
+    fn from(_refused: AllocError) -> Refusal
+        ensures { result ≡ Refusal.Memory }
+    {
+        Refusal::Memory
+    }
+}

@@ -1,0 +1,57 @@
+//! What came of a command, as the table gives it.
+
+use assembler::{AsmFault, AsmFaultKind};
+use outcomes::{Ending, Outcome, Refusal};
+use semantics::report::End;
+
+/// The number that the word is; 0 where it is none.
+fn number(word: Option<&str>) -> u64 {
+    match word {
+        Some(word) => word.parse().unwrap_or(0),
+        None => 0,
+    }
+}
+
+fn ended(end: End, frames: u64, credits: u64) -> Outcome {
+    Outcome::Reported(Ending::Run {
+        end,
+        frames,
+        credits,
+    })
+}
+
+/// The refusal of this part, at this block or line.
+fn refusal_of(part: &str, place: u64) -> Refusal {
+    match part {
+        "input" => Refusal::Input,
+        "slots" => Refusal::TooManySlots(place),
+        "far" => Refusal::TooFar(place),
+        "listing" => Refusal::Asm(AsmFault {
+            kind: AsmFaultKind::BadLiteral,
+            line: place,
+        }),
+        _ => Refusal::Memory,
+    }
+}
+
+/// What came of a command, as these words tell it. `None` where a write failed.
+pub fn outcome_of(words: &str) -> Option<Outcome> {
+    let mut words = words.split(' ');
+    let outcome = match words.next()? {
+        "done" => Outcome::Done,
+        "differed" => Outcome::Differed,
+        "steps" => ended(End::Steps, 0, 0),
+        "memory" => ended(End::Memory, 0, 0),
+        "starved" => ended(End::Starved, number(words.next()), number(words.next())),
+        "stuck" => {
+            let rule = number(words.next()) as u8;
+            ended(End::Stuck { rule }, 0, 0)
+        }
+        "refused" => {
+            let part = words.next()?;
+            Outcome::Refused(refusal_of(part, number(words.next())))
+        }
+        _ => return None,
+    };
+    Some(outcome)
+}
