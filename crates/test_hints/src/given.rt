@@ -44,7 +44,7 @@ pub fn outcome_of(words: &str) -> Option<Outcome> {
         "memory" => ended(End::Memory, 0, 0),
         "starved" => ended(End::Starved, number(words.next()), number(words.next())),
         "stuck" => {
-            let rule = number(words.next()) as u8;
+            let rule = u8::try_from(number(words.next())).unwrap_or(0);
             ended(End::Stuck { rule }, 0, 0)
         }
         "refused" => {
