@@ -1,27 +1,8 @@
 -- Spread
-pub mod SpreadClumps
 pub mod SpreadPlaces
-pub mod SpreadSent
-pub mod SpreadEvents
-pub mod SpreadCounts
-pub mod SpreadSteps
-pub mod SpreadOldRun
-pub mod SpreadNextEvent
-pub mod SpreadRuns
-pub mod SpreadRelease
-pub mod SpreadMatching
-pub mod SpreadAgree
-pub mod SpreadBlock
-pub mod SpreadOnce
-pub mod SpreadLands
-pub mod SpreadBounds
-pub mod SpreadArcs
-pub mod SpreadNewArcs
+pub mod SpreadMoves
 pub mod SpreadWays
-pub mod SpreadPending
-pub mod SpreadOldArcs
-pub mod SpreadArcEvents
-pub mod SpreadCaused
+pub mod SpreadSimulates
 pub mod SpreadTidy
 pub mod SpreadKeeps
 -- Narrow

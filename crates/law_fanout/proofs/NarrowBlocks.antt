@@ -1,5 +1,5 @@
 -- The marks, the blocks and the landings of narrowed plans, and for what their instructions stand.
-use Rattle.std.proofs.Common.{◌≡◌, refl, sym, ap, ◌∙◌, subst, ℕ, zero, suc, ◌+◌, ◌-◌, ◌<◌, ◌⊎◌, inl, inr, Bool, true, false, List, [], ◌∷◌, ◌++◌, length}
+use Rattle.std.proofs.Common.{◌≡◌, refl, sym, ap, ◌∙◌, subst, ℕ, zero, suc, ◌+◌, ◌<◌, ◌⊎◌, inl, inr, Bool, true, false, List, [], ◌∷◌, ◌++◌, length}
 use Rattle.std.proofs.Common.{Option, Some, None, Contains, arith, nat_lt}
 use Rattle.std.specs.Prelude.{slice_get}
 use Rattle.std.proofs.lemmas.List.Elements.{Contains-append_cases}
@@ -22,13 +22,14 @@ use Rattle.fanout.proofs.Plans.{l, IsOld, IsNew, origin_of, mark_old}
 use Rattle.fanout.proofs.Arrows.{dests_stay}
 use Rattle.fanout.proofs.SoundFlags.{sound_stands_clear}
 use Rattle.law_fresh_frames.specs.Alike.{IsTidy}
-use Rattle.law_fanout.specs.Spreads.{Spot, StandsFor, here, fork}
+use Rattle.law_fanout.specs.Spreads.{StandsFor, here, fork}
 use Rattle.std.specs.Option.{option_map}
 use Rattle.lemmas.proofs.Contains.{contains_cases, contains_none}
 use Rattle.lemmas.proofs.SliceGet.{map_get_back, get_some}
 use Rattle.semantics.proofs.BlockPlaces.{block_of, first_in, same_in}
 use Rattle.law_fanout.proofs.NarrowPlaces.{new_ip, back_in, place_in, ip_at}
 use Rattle.law_fanout.proofs.NarrowTrees.{copy_node}
+use Rattle.law_simulation.specs.Places.{Spot}
 
 module _ (p : Plan) (s : IsSound p) (tidy : IsTidy p) where
   abbrev P : Program

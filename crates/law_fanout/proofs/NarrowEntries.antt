@@ -1,5 +1,5 @@
 -- The entries of a narrowed block are those of the block, in their places.
-use Rattle.std.proofs.Common.{◌≡◌, ap, ◌∙◌, ℕ, ◌+◌, ◌-◌, ◌<◌, ◌≤◌, true, length, Some, zero-add, arith}
+use Rattle.std.proofs.Common.{◌≡◌, ap, ◌∙◌, ℕ, ◌+◌, ◌<◌, ◌≤◌, true, length, Some, zero-add, arith}
 use Rattle.std.specs.Prelude.{slice_get}
 use Rattle.std.specs.Option.{option_map}
 use Rattle.std.proofs.lemmas.Option.{slice_get-map}
@@ -10,7 +10,7 @@ use Rattle.code.specs.Sound.{IsSound}
 use Rattle.fanout.specs.Narrowed.{layout_of, narrowed, narrowed_block}
 use Rattle.fanout.specs.Places.{place_of}
 use Rattle.law_fresh_frames.specs.Alike.{IsTidy}
-use Rattle.std.proofs.Common.{◌≡◌, ap, ◌∙◌, ℕ, ◌+◌, ◌-◌, ◌<◌, ◌≤◌, true, length, Some, arith, zero-add}
+use Rattle.std.proofs.Common.{◌≡◌, ap, ◌∙◌, ℕ, ◌+◌, ◌<◌, ◌≤◌, true, length, Some, arith, zero-add}
 use Rattle.std.specs.Prelude.{slice_get}
 use Rattle.std.proofs.lemmas.Option.{slice_get_within, slice_get-map}
 use Rattle.lemmas.proofs.SliceGet.{get_some}

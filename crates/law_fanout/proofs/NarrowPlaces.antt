@@ -17,7 +17,7 @@ use Rattle.fanout.proofs.Spots.{places_differ}
 use Rattle.fanout.proofs.Standing.{instrs_stay}
 use Rattle.fanout.proofs.Plans.{is, ts, l, all}
 use Rattle.fanout.proofs.Arrows.{in_parts}
-use Rattle.law_fanout.proofs.SpreadSteps.{slot_same}
+use Rattle.law_simulation.proofs.SimulationTraces.{slot_same}
 
 abbrev pub new_ip : Plan → List CodeBlock → ℕ → ℕ
 new_ip p [] ip = ip

@@ -32,9 +32,10 @@ use Rattle.fanout.proofs.Standing.{instrs_stay}
 use Rattle.fanout.proofs.Plans.{is, ts, l, all}
 use Rattle.fanout.proofs.Arrows.{in_parts, past, dests_stay}
 use Rattle.fanout.proofs.SoundFlags.{sound_stands_clear}
-use Rattle.law_fanout.specs.Spreads.{Spot, StandsFor, IsCopyAt, here, fork, Lead, targets, Leads, is_answered}
+use Rattle.law_fanout.specs.Spreads.{StandsFor, IsCopyAt, here, fork, Lead, targets, Leads}
 use Rattle.law_fresh_frames.specs.Alike.{IsTidy, plain_dests}
 use Rattle.law_fanout.proofs.NarrowPlaces.{new_ip, ip_at, back_in}
+use Rattle.law_simulation.specs.Places.{Spot, is_answered}
 
 module _ (p : Plan) (s : IsSound p) (tidy : IsTidy p) where
   abbrev P : Program

@@ -1,6 +1,6 @@
 -- What a plan that is another one with copies between says of single instructions and landings.
 use Rattle.std.proofs.Common.{◌≡◌, refl, sym, ap, ◌∙◌, subst, ℕ, ◌+◌, ◌<◌, Bool, true, List, [], ◌∷◌, length, Option, Some, None, arith}
-use Rattle.std.specs.Prelude.{slice_get, ◌-◌, false}
+use Rattle.std.specs.Prelude.{slice_get, false}
 use Rattle.std.proofs.lemmas.Option.{slice_get_within, same_Some}
 use Rattle.lemmas.proofs.Contains.{contains_head}
 use Rattle.lemmas.proofs.SliceGet.{get_some}
@@ -15,7 +15,8 @@ use Rattle.semantics.proofs.BlockPlaces.{same_in}
 use Rattle.law_reuse.proofs.SlotsStands.{instr_in, Stands, stands_at, stands_block, stands_within, Found, found}
 use Rattle.law_fresh_frames.proofs.FreshParts.{one_part}
 use Rattle.law_fresh_frames.specs.Alike.{HasLanding}
-use Rattle.law_fanout.specs.Spreads.{Spot, StandsFor, here, fork, is_answered, IsMoved, Spreads}
+use Rattle.law_fanout.specs.Spreads.{StandsFor, here, fork, IsMoved, Spreads}
+use Rattle.law_simulation.specs.Places.{Spot, is_answered}
 
 -- what is beyond the beginning of a landing stays so far beyond it
 pub row_stays : (p q : Plan) (S : Spreads p q) (base o : ℕ) → HasLanding p base o → S.h (base + o) ≡ S.h base + o

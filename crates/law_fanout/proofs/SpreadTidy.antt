@@ -18,8 +18,9 @@ use Rattle.semantics.specs.Orderly.{often}
 use Rattle.code.specs.Sound.{NamesRightly, IsSound}
 use Rattle.law_reuse.proofs.SlotsStands.{Stands, stands_at, Found, found}
 use Rattle.law_fresh_frames.specs.Alike.{plain_dests, HasLanding, IsTidy}
-use Rattle.law_fanout.specs.Spreads.{Spot, StandsFor, here, fork, Lead, targets, Leads, is_answered, IsMoved, Spreads, SpreadPlansStayTidy}
+use Rattle.law_fanout.specs.Spreads.{StandsFor, here, fork, Lead, targets, Leads, IsMoved, Spreads, SpreadPlansStayTidy}
 use Rattle.law_fanout.proofs.SpreadPlaces.{often_kept, landing_inside}
+use Rattle.law_simulation.specs.Places.{Spot, is_answered}
 
 module _ (p q : Plan) (S : Spreads p q) where
   abbrev P : Program

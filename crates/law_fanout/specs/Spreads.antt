@@ -1,20 +1,13 @@
 -- When the code of a plan is that of another one with copies between: its instructions in other places, and trees of copies
 -- in the place of some destinations.
-use Rattle.std.specs.Prelude.{◌≡◌, ℕ, ◌+◌, ◌≤◌, ◌<◌, Contains, Bool, true, false, List, [], ◌∷◌, ◌++◌, map, Some, IsPermutation, ⊤}
+use Rattle.std.specs.Prelude.{◌≡◌, ℕ, ◌+◌, ◌≤◌, ◌<◌, Contains, true, false, List, [], ◌∷◌, ◌++◌, map, Some, IsPermutation, ⊤}
 use Rattle.tags.specs.declared.token.Port.{Port}
 use Rattle.tags.specs.declared.token.Port.TheVariants.{Left}
-use Rattle.tags.specs.declared.token.Cont.{Cont}
-use Rattle.tags.specs.declared.token.Word.{Word}
-use Rattle.tags.specs.declared.token.To.{To}
-use Rattle.tags.specs.declared.token.Token.{Token}
-use Rattle.tags.specs.declared.slot.SlotState.{SlotState}
-use Rattle.tags.specs.declared.slot.SlotState.TheVariants as Slot
-use Rattle.tags.specs.declared.slot.SlotState.TheVariants.{Waiter}
 use Rattle.semantics.specs.declared.program.Dest.{Dest}
 use Rattle.semantics.specs.declared.program.Op.{Op}
-use Rattle.semantics.specs.declared.program.Op.TheVariants.{Copy, Switch, Link, Send, Fetch, Store, Frame, Ask}
+use Rattle.semantics.specs.declared.program.Op.TheVariants.{Copy, Switch, Link, Send}
 use Rattle.semantics.specs.Program.{Instr, Program, first_of, instr_at}
-use Rattle.semantics.specs.Machine.{CellState, Deferred, Store as MStore, outputs_of}
+use Rattle.semantics.specs.Machine.{outputs_of}
 use Rattle.semantics.specs.Plan.{Plan, landing}
 use Rattle.semantics.specs.declared.program.Mark.{Mark}
 use Rattle.semantics.specs.Orderly.{inputs_of, often, is_entry, same_block, IsMarked, Orderly}
@@ -22,48 +15,7 @@ use Rattle.semantics.specs.Wired.{IsWired}
 use Rattle.law_fresh_frames.specs.Alike.{LandsRightly, IsTidy, Keeps}
 use Rattle.code.specs.Sound.{IsSound}
 use Rattle.semantics.specs.Holders.{holder_at}
-
--- OTHER PLACES. Words and states with other numbers for their instructions
-abbrev pub ip_cont : (ℕ → ℕ) → Cont → Cont
-ip_cont h (Cont.Frame f ip p) = Cont.Frame f (h ip) p
-ip_cont h (Cont.Host j) = Cont.Host j
-
-abbrev pub ip_word : (ℕ → ℕ) → Word → Word
-ip_word h (Word.Val v) = Word.Val v
-ip_word h (Word.Frame f) = Word.Frame f
-ip_word h (Word.Back c) = Word.Back (ip_cont h c)
-
-abbrev pub ip_to : (ℕ → ℕ) → To → To
-ip_to h (To.Instr f ip p) = To.Instr f (h ip) p
-ip_to h to = to
-
-abbrev pub ip_token : (ℕ → ℕ) → Token → Token
-ip_token h t = record { to = ip_to h t.to; word = ip_word h t.word }
-
-abbrev pub ip_slot : (ℕ → ℕ) → SlotState → SlotState
-ip_slot h (Slot.Left w) = Slot.Left (ip_word h w)
-ip_slot h (Slot.Right w) = Slot.Right (ip_word h w)
-ip_slot h (Waiter c) = Waiter (ip_cont h c)
-ip_slot h s = s
-
-abbrev pub ip_cell : (ℕ → ℕ) → CellState → CellState
-ip_cell h (Deferred cs) = Deferred (map (ip_cont h) cs)
-ip_cell h c = c
-
-abbrev pub ip_store : (ℕ → ℕ) → MStore → MStore
-ip_store h s =
-    record {
-      slots = λ f r. ip_slot h (s.slots f r);
-      cells = λ x. ip_cell h (s.cells x);
-      out = s.out;
-      requests = map (ip_cont h) s.requests;
-      outputs = s.outputs;
-      done = s.done;
-    }
-
--- PORTS. An instruction's number, and the port
-abbrev pub Spot : Type 0
-Spot = ℕ × Port
+use Rattle.law_simulation.specs.Places.{Spot, is_answered}
 
 -- A copy that is none of the moved instructions: it leads on to what is behind it, and never to a `give` or a `take`.
 pub record IsCopyAt (q : Program) (h : ℕ → ℕ) (ip : ℕ) (zs : List Spot) : Type 0 where
@@ -96,14 +48,6 @@ targets ip ds = map (λ (d : Dest). (ip + d.ahead, d.port)) ds
 -- the new destinations of the one stand for the old ones of the other, in whatever order
 abbrev pub Leads : Program → (ℕ → ℕ) → ℕ → List Dest → ℕ → List Dest → Type 0
 Leads q h ip ds a es = (zs : List Spot) × Lead q h ip ds zs × IsPermutation (targets a es) zs
-
-abbrev pub is_answered : Op → Bool
-is_answered (Fetch a) = true
-is_answered (Store a) = true
-is_answered Frame = true
-is_answered (Ask o) = true
-is_answered (Link b) = true
-is_answered op = false
 
 -- what it enters stands where it stood
 abbrev pub Enters : Program → Program → (ℕ → ℕ) → Op → Type 0

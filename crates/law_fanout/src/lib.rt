@@ -5,15 +5,10 @@
 //! copies between, so its code is faithful.
 //!
 //! **Why they hold.**
-//! 1. A port of the new code stands for ports of the old one: that of a moved instruction for itself, that of a copy for all leaves of its tree
-//!    (`SpreadClumps`).
-//! 2. Beside a run of the new code goes a run of the old one, whose tokens are those that the new ones stand for (`SpreadOldRun`).
-//! 3. The event of a moved instruction is the instruction's (`SpreadEvents`, `SpreadSent`); that of a copy is none of the plan; any other event is
-//!    the same (`SpreadNextEvent`).
-//! 4. A port gets no more tokens than each port for which it stands, so one at most (`SpreadCounts`, `SpreadOnce`).
-//! 5. A token comes after an arc into its port was used, or is on its way to it through copies (`SpreadOldArcs`, `SpreadPending`, `SpreadCaused`).
-//! 6. Words, blocks and releases: what a new token carries and names, an old one did (`SpreadAgree`, `SpreadBlock`, `SpreadRelease`, `SpreadLands`).
-//! 7. The copies that narrowing puts in are such trees: a destination leads to a copy that leads to it (`NarrowTrees`), and all else stands in
+//! 1. A port of the new code stands for ports of the old one: that of a moved instruction for itself, that of a copy for all leaves of its tree. So the
+//!    one plan simulates the other (`law_simulation`): a copy hands on its word, and its event is none of the plan (`SpreadSimulates`).
+//! 2. A moved instruction's new destinations lead to where its old ones led, through copies or not (`SpreadWays`, `SpreadMoves`).
+//! 3. The copies that narrowing puts in are such trees: a destination leads to a copy that leads to it (`NarrowTrees`), and all else stands in
 //!    another place (`NarrowPlaces`, `NarrowSpread`).
 //!
 //! **The files**, by chapter.

@@ -23,9 +23,10 @@ use Rattle.folding.specs.Places.{layout_of, new_place}
 use Rattle.folding.specs.Moved.{moved_dest, moved_dests}
 use Rattle.folding.proofs.Pairs.{closed_one, closed_in, closed_uses, given, wanted_one, wanted}
 use Rattle.folding.proofs.Cases.{port_at, value_at}
-use Rattle.law_fanout.specs.Spreads.{ip_word}
-use Rattle.law_immediates.specs.Fold.{fires_lit, StandsBy, StandAllBy, stand_none, stand_more, Sends, Settles, settled, fired}
-use Rattle.law_immediates.proofs.FoldRules.{settles_map, sends_grow, settles_perm, settles_then, settles_after}
+use Rattle.law_simulation.specs.Simulates.{StandsBy, StandAllBy}
+use Rattle.law_simulation.specs.Places.{ip_word}
+use Rattle.law_simulation.specs.Simulates.{Sends, Settles, fired, fires_lit, settled, stand_more, stand_none}
+use Rattle.law_simulation.proofs.SimulationRules.{sends_grow, settles_after, settles_map, settles_perm, settles_then}
 
 module _ (kind : Word → Type 0) (P Q : Program) (g h : ℕ → ℕ) where
   -- ---- TWO LISTS

@@ -37,20 +37,28 @@ use Rattle.folding.proofs.Sole.{keeps_sole}
 use Rattle.folding.proofs.Pairs.{closed_in, closed_uses, uses_in, given, wanted, pairs_match}
 use Rattle.folding.proofs.Cases.{port_at, value_at, FoldedAt, FoldCase, is_kept, is_right, is_left, fold_cases}
 use Rattle.folding.proofs.Plain.{PlainAt, entry_plain, landing_plain, sole_plain}
-use Rattle.law_fanout.specs.Spreads.{ip_word, is_answered}
 use Rattle.law_fresh_frames.specs.Alike.{HasLanding}
-use Rattle.law_immediates.specs.Fold.{Plain, IsValue, Sends, Settles, Clumped, Pairs, Ready, Leads, Enters, IsMoved, IsPair}
 use Rattle.law_immediates.specs.Kept.{slotted, kept_block, kept_slots, KeptSlotsFolds}
-use Rattle.law_immediates.proofs.FoldRules.{settles_map, settles_then}
 use Rattle.law_immediates.proofs.KeptLeading.{operands, Whole}
 use Rattle.law_immediates.proofs.KeptClosed.{lit_or}
 use Rattle.law_immediates.proofs.KeptUses.{Wants, wanted_of}
 use Rattle.law_immediates.proofs.KeptTargets.{open_leads}
-use Rattle.law_immediates.proofs.KeptReadies.{two_out, settles_keeps, ready_join}
+use Rattle.law_immediates.proofs.KeptReadies.{ready_join}
 use Rattle.law_immediates.proofs.KeptNumbering.{plain_at, place_ip, word_ip, plain_ip, plain_is}
 use Rattle.law_immediates.proofs.KeptPlaces.{spares, inside, ahead, there_old, there_new, g_at, h_at}
 use Rattle.law_immediates.proofs.KeptSpots.{stays, kept_of, plain_of, not_plain, plain_at_h, plain_there, plain_here, fresh_at, plain_only, plain_holders}
 use Rattle.law_immediates.proofs.KeptSpots.{plain_apart, pairs_apart, later}
+use Rattle.folding.proofs.Cases.{KeptAt}
+use Rattle.folding.specs.Moved.{is_shut}
+use Rattle.lemmas.proofs.Contains.{contains_get}
+use Rattle.std.proofs.lemmas.List.Elements.{Contains-append_cases, Contains-append_left, Contains-append_right}
+use Rattle.std.proofs.Common.{◌||◌}
+use Rattle.law_immediates.proofs.KeptUses.{moved_has}
+use Rattle.law_simulation.specs.Simulates.{Way}
+use Rattle.law_simulation.specs.Places.{ip_word, is_answered}
+use Rattle.law_simulation.specs.Simulates.{Clumped, Enters, IsMoved, IsPair, IsValue, Leads, Pairs, Plain, Ready, Sends, Settles}
+use Rattle.law_simulation.proofs.SimulationPorts.{two_out}
+use Rattle.law_simulation.proofs.SimulationRules.{settles_keeps, settles_map, settles_then}
 
 both_none : (xs ys : List ℕ) → xs ++ ys ≡ [] → (xs ≡ []) × (ys ≡ [])
 both_none [] ys e = (refl, e)
@@ -215,18 +223,67 @@ module _ (p : Plan) (s : IsSound p) (b : ℕ) (c : CodeBlock) (at_b : slice_get 
         go [] e = inl (clumped t f w (whole IsValue (λ z. (Int z, refl)) t f w (λ x k. absurd (none_given t e x k))))
         go (x ∷ xs) e = inr (pairs t f w x (subst (λ (l : List ℕ). Contains l x) (sym e) (contains_head x xs)))
 
-    pub leads_side : (t : Bool) → Leads P Q g h (E + place n) (moved_dests (layout_of p c) n (dests_of i t)) (F + n) (dests_of i t)
-    leads_side t f w = ready_side t f w
+    -- a destination to what stands for itself leads there still
+    way_side : (t : Bool) (d : Dest) → Contains (dests_of i t) d → Plain P Q h (F + n + d.ahead)
+        → Way P Q h (E + place n) (moved_dests (layout_of p c) n (dests_of i t)) (F + n + d.ahead, d.port)
+    way_side t d among K =
+        let g = contains_get (dests_of i t) d among in
+        let low = inside p s b c at_b n g.0 i t d at g.1 in
+        let more = ahead p s b c at_b n g.0 i t d at g.1 in
+        let e : F + n + d.ahead ≡ F + (n + d.ahead) = omega arith in
+        let M : PlainAt p c (n + d.ahead) = plain_of p c (n + d.ahead) (plain_only p s b c at_b (n + d.ahead) low (subst (Plain P Q h) e K)) in
+        let kept : KeptAt p c (n + d.ahead) = kept_of p c (n + d.ahead) M.folded in
+        let k = get_some c.instrs (n + d.ahead) low in
+        let here = stays p c (n + d.ahead) k.0 k.1 M.unused in
+        let shut : is_shut (layout_of p c) (n + d.ahead) d.port ≡ false = (λ v. here v || kept.shut d.port v) in
+        let up = keeps_order p c n (n + d.ahead) (omega (arith, more)) low (stays p c n i at none) in
+        let spot = plain_at_h p s b c at_b (n + d.ahead) low M in
+        let eh = ap h e in
+        record {
+          d = new_dest (layout_of p c) n (n + d.ahead) d.port;
+          named = moved_has p c n (dests_of i t) g.0 d g.1 shut;
+          leads = inl (omega (arith, up, spot, eh), kept.port d.port);
+        }
 
-    pub leads_all : Leads P Q g h (E + place n) (moved_dests (layout_of p c) n i.firsts ++ moved_dests (layout_of p c) n i.seconds) (F + n)
-        (i.firsts ++ i.seconds)
-    leads_all f w =
+    way_all : (d : Dest) → Contains (i.firsts ++ i.seconds) d → Plain P Q h (F + n + d.ahead)
+        → Way P Q h (E + place n) (moved_dests (layout_of p c) n i.firsts ++ moved_dests (layout_of p c) n i.seconds) (F + n + d.ahead, d.port)
+    way_all d among K = go (Contains-append_cases i.firsts i.seconds d among)
+      where
+        go : Contains i.firsts d ⊎ Contains i.seconds d
+            → Way P Q h (E + place n) (moved_dests (layout_of p c) n i.firsts ++ moved_dests (layout_of p c) n i.seconds) (F + n + d.ahead, d.port)
+        go (inl c2) =
+            let W = way_side false d c2 K in
+            record {
+              d = W.d;
+              named = Contains-append_left (moved_dests (layout_of p c) n i.firsts) (moved_dests (layout_of p c) n i.seconds) W.d W.named;
+              leads = W.leads;
+            }
+        go (inr c2) =
+            let W = way_side true d c2 K in
+            record {
+              d = W.d;
+              named = Contains-append_right (moved_dests (layout_of p c) n i.firsts) (moved_dests (layout_of p c) n i.seconds) W.d W.named;
+              leads = W.leads;
+            }
+
+    pub leads_side : (t : Bool) → Leads P Q g h (E + place n) (moved_dests (layout_of p c) n (dests_of i t)) (F + n) (dests_of i t)
+    leads_side t = record { made = ready_side t; ways = way_side t }
+
+    ready_all : (f : ℕ) (w : Word)
+        → Ready P Q g h w (to_each record { frame = f; ip = E + place n } (ip_word h w)
+        (moved_dests (layout_of p c) n i.firsts ++ moved_dests (layout_of p c) n i.seconds))
+        (to_each record { frame = f; ip = F + n } w (i.firsts ++ i.seconds))
+    ready_all f w =
         let all = ready_join P Q g h w (New false f w) (New true f w) (Old false f w) (Old true f w) (ready_side false f w) (ready_side true f w) in
         subst (λ (l : List Token). Ready P Q g h w l (to_each record { frame = f; ip = F + n } w (i.firsts ++ i.seconds)))
         (sym (map_append (at_dest record { frame = f; ip = E + place n } (ip_word h w)) (moved_dests (layout_of p c) n i.firsts)
         (moved_dests (layout_of p c) n i.seconds)))
         (subst (λ (l : List Token). Ready P Q g h w (New false f w ++ New true f w) l)
         (sym (map_append (at_dest record { frame = f; ip = F + n } w) i.firsts i.seconds)) all)
+
+    pub leads_all : Leads P Q g h (E + place n) (moved_dests (layout_of p c) n i.firsts ++ moved_dests (layout_of p c) n i.seconds) (F + n)
+        (i.firsts ++ i.seconds)
+    leads_all = record { made = ready_all; ways = way_all }
 
   -- ---- AN INSTRUCTION THAT STANDS FOR ITSELF
   module _ (n : ℕ) (i : Instr) (at : slice_get c.instrs n ≡ Some i) (K : PlainAt p c n) where
@@ -370,7 +427,7 @@ kept_slots_folds p s = record {
   holders = plain_holders p s;
   apart = plain_apart p s;
   pairs_apart = pairs_apart p s;
-  later = later p s;
+  later = λ ip j d at on fresh named. later p s ip j d at named;
 }
   where
     m : (c : CodeBlock) × (slice_get p.program.blocks p.program.main ≡ Some c)

@@ -23,7 +23,7 @@ new_ip p [] ip = ip
 new_ip p (c ∷ cs) ip = if nat_lt ip (length c.instrs) then new_place (layout_of p c) ip else length (kept_block p c).instrs + new_ip p cs (ip - length c.instrs)
 
 abbrev pub plain_ip : Plan → List CodeBlock → ℕ → Bool
-plain_ip p [] ip = true
+plain_ip p [] ip = false
 plain_ip p (c ∷ cs) ip = if nat_lt ip (length c.instrs) then plain_at p c ip else plain_ip p cs (ip - length c.instrs)
 
 abbrev pub end_of : List CodeBlock → ℕ
@@ -81,3 +81,20 @@ none_at_end (c ∷ cs) =
     ap (λ (t : Bool). if t then slice_get c.instrs (length c.instrs + end_of cs) else instr_from cs (length c.instrs + end_of cs - length c.instrs))
     (le-ltb (length c.instrs + end_of cs) (length c.instrs) (omega arith))
     ∙ ap (instr_from cs) back ∙ none_at_end cs
+
+-- behind the code nothing stands for itself, and all its places are one
+plain_past : (p : Plan) (bs : List CodeBlock) (k : ℕ) → plain_ip p bs (end_of bs + k) ≡ false
+plain_past p [] k = refl
+plain_past p (c ∷ bs) k =
+    let ip : ℕ = length c.instrs + end_of bs + k in
+    let back : ip - length c.instrs ≡ end_of bs + k = omega arith in
+    ap (λ (t : Bool). if t then plain_at p c ip else plain_ip p bs (ip - length c.instrs)) (le-ltb ip (length c.instrs) (omega arith))
+    ∙ ap (plain_ip p bs) back ∙ plain_past p bs k
+
+pub places_meet : (p : Plan) → ((b c : ℕ) → word_ip p b ≡ word_ip p c → b ≡ c) → ⊥
+places_meet p apart =
+    let end : ℕ = end_of p.program.blocks in
+    let here : (k : ℕ) → word_ip p (end + k) ≡ end_of (kept_blocks p p.program.blocks) =
+    (λ k. ap (λ (t : Bool). if t then new_ip p p.program.blocks (end + k) else end_of (kept_blocks p p.program.blocks)) (plain_past p p.program.blocks k)) in
+    let same = apart (end + 0) (end + 1) (here 0 ∙ sym (here 1)) in
+    omega (arith, same)

@@ -14,8 +14,8 @@ use Rattle.law_fresh_frames.proofs.Alike.{alike_is_faithful}
 use Rattle.law_immediates.specs.Fold.{Folds}
 use Rattle.law_immediates.specs.Kept.{slotted, kept_block, kept_slots, KeptSlotsRunsAlike, KeptSlotsFaithful}
 use Rattle.law_immediates.proofs.KeptBlocks.{kept_back}
-use Rattle.law_immediates.proofs.FoldSeen.{folds_run_alike}
 use Rattle.law_immediates.proofs.KeptMoves.{kept_slots_folds}
+use Rattle.law_simulation.proofs.SimulationSeen.{related_runs_alike}
 
 -- the loops open with the bounds that they had
 same_opens : (l : Layout) (n : ℕ) (is : List Instr)
@@ -39,7 +39,7 @@ still_has_bounds fl p h = (
 )
 
 pub kept_slots_runs_alike : KeptSlotsRunsAlike
-kept_slots_runs_alike p s orderly lands = folds_run_alike p (kept_slots p) (kept_slots_folds p s) s.wired orderly lands
+kept_slots_runs_alike p s orderly lands = related_runs_alike p (kept_slots p) (kept_slots_folds p s) s.wired orderly lands
 
 pub kept_slots_faithful : KeptSlotsFaithful
 kept_slots_faithful fl p s orderly lands takes F =

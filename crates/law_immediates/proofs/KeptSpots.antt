@@ -13,7 +13,6 @@ use Rattle.code.specs.Sound.{IsSound}
 use Rattle.law_reuse.proofs.SlotsStands.{one_block, Found, found}
 use Rattle.law_reuse.proofs.SlotsStands as Places
 use Rattle.law_reuse.proofs.SlotsClaims.{holder_here}
-use Rattle.law_fanout.proofs.SpreadSteps.{slot_same}
 use Rattle.semantics.specs.Holders.{holder_of, holder_at}
 use Rattle.operators.specs.declared.Binary.{Binary}
 use Rattle.semantics.specs.declared.program.Dest.{Dest}
@@ -29,12 +28,13 @@ use Rattle.folding.proofs.SoundLists.{moved_back}
 use Rattle.folding.proofs.Pairs.{closed_uses}
 use Rattle.folding.proofs.Cases.{KeptAt, FoldCase, is_kept, is_right, is_left, fold_cases}
 use Rattle.folding.proofs.Plain.{PlainAt}
-use Rattle.law_immediates.specs.Fold.{Plain, Fresh}
 use Rattle.law_immediates.specs.Kept.{slotted, kept_block, kept_slots}
 use Rattle.law_immediates.proofs.KeptClosed.{gone_some}
-use Rattle.law_immediates.proofs.KeptNumbering.{is_nil, plain_at, place_ip, word_ip, new_ip, plain_ip, end_of, plain_is, none_at_end}
+use Rattle.law_immediates.proofs.KeptNumbering.{is_nil, plain_at, place_ip, word_ip, new_ip, plain_ip, end_of, plain_is, none_at_end, places_meet}
 use Rattle.law_immediates.proofs.KeptPlaces.{new_block, ahead, inside, there_old, there_new, g_at, h_at}
 use Rattle.law_immediates.proofs.KeptBlocks.{kept_back}
+use Rattle.law_simulation.specs.Simulates.{Fresh, Plain, empty, itself}
+use Rattle.law_simulation.proofs.SimulationTraces.{slot_same}
 
 pub plain_parts : (a b : Bool) → (not a && b) ≡ true → (a ≡ false) × (b ≡ true)
 plain_parts true b e = absurd (true≢false (sym e))
@@ -102,7 +102,7 @@ module _ (p : Plan) (s : IsSound p) where
     plain_there n i at K = ap (instr_at Q) (plain_at_h n (slice_get_within c.instrs n i at) K) ∙ there_new p s b c at_b n i at (stays p c n i at K.unused)
 
     pub plain_here : (n : ℕ) (i : Instr) → slice_get c.instrs n ≡ Some i → PlainAt p c n → Plain P Q h (first_of P b + n)
-    plain_here n i at K = record { i = i; j = slotted (layout_of p c) n i; old = there_old p s b c at_b n i at; new = plain_there n i at K }
+    plain_here n i at K = itself i (slotted (layout_of p c) n i) (there_old p s b c at_b n i at) (plain_there n i at K)
 
     pub new_within : (n : ℕ) (i : Instr) → slice_get c.instrs n ≡ Some i → gone_at (layout_of p c) n ≡ false
         → new_place (layout_of p c) n < length (kept_block p c).instrs
@@ -126,11 +126,12 @@ module _ (p : Plan) (s : IsSound p) where
   some_none i e = cc
 
   pub at_of : (a : ℕ) → Plain P Q h a → At a
-  at_of a K = go (found P a K.i K.old)
+  at_of a (empty none none_new apart) = absurd (places_meet p apart)
+  at_of a (itself i j old new) = go (found P a i old)
     where
-      go : Found P a K.i → At a
+      go : Found P a i → At a
       go N =
-          let low = slice_get_within N.stands.code.instrs N.n K.i N.stands.instr in
+          let low = slice_get_within N.stands.code.instrs N.n i N.stands.instr in
           let is : plain_ip p P.blocks a ≡ plain_at p N.stands.code N.n = ap (plain_ip p P.blocks) N.place
           ∙ plain_is p P.blocks N.b N.n N.stands.code N.stands.block low in
           pick (plain_at p N.stands.code N.n) refl is
@@ -142,14 +143,14 @@ module _ (p : Plan) (s : IsSound p) where
                 b = N.b;
                 n = N.n;
                 c = N.stands.code;
-                i = K.i;
+                i = i;
                 block = N.stands.block;
                 instr = N.stands.instr;
                 plain = k;
                 place = N.place;
-                moved = ap h N.place ∙ plain_at_h N.b N.stands.code N.stands.block N.n (slice_get_within N.stands.code.instrs N.n K.i N.stands.instr) k;
+                moved = ap h N.place ∙ plain_at_h N.b N.stands.code N.stands.block N.n (slice_get_within N.stands.code.instrs N.n i N.stands.instr) k;
               }
-          pick false t is = absurd (some_none K.j (sym K.new ∙ not_plain p a (is ∙ t)))
+          pick false t is = absurd (some_none j (sym new ∙ not_plain p a (is ∙ t)))
 
   -- two that stay are at one place only if they are one
   pub record Same (b b2 n n2 : ℕ) (c c2 : CodeBlock) : Type 0 where

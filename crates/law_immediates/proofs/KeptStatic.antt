@@ -1,5 +1,5 @@
 -- Marks, blocks, landings and loops of the plan with its slots kept.
-use Rattle.std.proofs.Common.{◌≡◌, refl, sym, ap, ◌∙◌, subst, ℕ, ℤ, zero, suc, ◌+◌, ◌-◌, ◌<◌, ◌≤◌, ◌⊎◌, inl, inr, Bool, true, false, true≢false, List, [], ◌∷◌}
+use Rattle.std.proofs.Common.{◌≡◌, refl, sym, ap, ◌∙◌, subst, ℕ, ℤ, zero, suc, ◌+◌, ◌<◌, ◌≤◌, ◌⊎◌, inl, inr, Bool, true, false, true≢false, List, [], ◌∷◌}
 use Rattle.std.proofs.Common.{◌++◌, length, Option, Some, None, Contains, nat_lt, arith}
 use Rattle.std.specs.Prelude.{slice_get}
 use Rattle.std.specs.Option.{option_map}
@@ -34,17 +34,16 @@ use Rattle.folding.proofs.Pairs.{closed_uses}
 use Rattle.folding.proofs.Cases.{KeptAt, FoldCase, is_kept, is_right, is_left, fold_cases}
 use Rattle.folding.proofs.Plain.{PlainAt, landing_plain, sole_plain}
 use Rattle.law_fresh_frames.specs.Alike.{HasLanding, IsTidy, plain_dests}
-use Rattle.law_fanout.specs.Spreads.{Spot, is_answered}
 use Rattle.law_immediates.proofs.KeptMoves.{shape_one}
-use Rattle.law_immediates.specs.Fold.{Plain}
 use Rattle.law_immediates.specs.Kept.{slotted, kept_block, kept_slots}
 use Rattle.law_immediates.proofs.KeptClosed.{lit_or}
 use Rattle.law_immediates.proofs.KeptNumbering.{place_ip, word_ip}
 use Rattle.law_immediates.proofs.KeptPlaces.{new_block, spares, inside, ahead, there_old, there_new, g_at}
-use Rattle.law_immediates.proofs.KeptSpots.{stays, kept_of, plain_at_h, plain_here, new_within, apply_stays, At, at_of, plain_apart, pairs_apart, NewAt, new_at}
+use Rattle.law_immediates.proofs.KeptSpots.{stays, kept_of, plain_at_h, plain_here, new_within, apply_stays, At, at_of, NewAt, new_at}
 use Rattle.law_immediates.proofs.KeptSpots.{DestAt, dest_of, dest_place}
-use Rattle.law_immediates.proofs.FoldParts.{counts_none}
-use Rattle.law_immediates.proofs.FoldCounts.{is_pair, Leaf, at_moved, at_pair, at_lit}
+use Rattle.law_simulation.specs.Places.{Spot, is_answered}
+use Rattle.law_simulation.specs.Simulates.{Leaf, Plain, at_moved, at_pair, behind, counts_none, hands_on, is_pair}
+use Rattle.law_simulation.proofs.SimulationParts.{hands_no_pair}
 
 often_op : (i j : Instr) → j.op ≡ i.op → often (Some j) ≡ often (Some i)
 often_op i j e = ap (λ (op : Op). elim op as (λ x. Bool) [ Give k ↦ true | Take k ↦ true | _ ↦ false ]) e
@@ -70,7 +69,7 @@ module _ (p : Plan) (s : IsSound p) where
   h = word_ip p
 
   abbrev L : ℕ → Port → Spot → Type 0
-  L = Leaf P Q (place_ip p) h (plain_apart p s) (pairs_apart p s)
+  L = Leaf P Q (place_ip p) h
 
   -- ---- OPERATIONS
   pair_not : (c : CodeBlock) (n : ℕ) (i : Instr) → slice_get c.instrs n ≡ Some i → is_pair (slotted (layout_of p c) n i).op ≡ false → KeptAt p c n
@@ -215,7 +214,7 @@ module _ (p : Plan) (s : IsSound p) where
   leaf_inside ip r x (at_moved n1 r1 x1 a e K is) b I = subst (Inside Q b) (sym e) (moved_inside a b K (subst (λ (x : Spot). Inside P b x.0) is I))
   leaf_inside ip r x (at_pair n1 r1 x1 a i j o e at op there pair fresh left is) b I =
       subst (Inside Q b) (sym e) (pair_inside a b i o at op (subst (λ (x : Spot). Inside P b x.0) is I))
-  leaf_inside ip r x (at_lit n1 r1 x1 j d z there op fresh left k more) b I = from_dest ip j d there k b (leaf_inside (ip + d.ahead) d.port x more b I)
+  leaf_inside ip r x (behind n1 r1 x1 j d there op fresh left k more) b I = from_dest ip j d there k b (leaf_inside (ip + d.ahead) d.port x more b I)
 
   pub blocks_kept : (ip jp : ℕ) (r t : Port) (x y : Spot) → L ip r x → L jp t y → same_block P.blocks x.0 y.0 ≡ true → same_block Q.blocks ip jp ≡ true
   blocks_kept ip jp r t x y lx ly e =
@@ -312,22 +311,24 @@ module _ (p : Plan) (s : IsSound p) where
         ∙ ap often (there_new p s b c at_b (n + D.old.ahead) T.0 T.1 (shut_stays (layout_of p c) (n + D.old.ahead) D.old.port D.shut))
         ∙ often_new c (n + D.old.ahead) T.0 T.1 off
 
-    lit_plain : (i : Instr) (z : ℤ) → i.op ≡ Lit z → (d : Dest) → Contains (i.firsts ++ i.seconds) d → Contains (plain_dests i i.op) d
-    lit_plain i z e d k = subst (λ (op : Op). Contains (plain_dests i op) d) (sym e) k
+    hands_plain : (i : Instr) (op : Op) → hands_on op ≡ true → (d : Dest) → Contains (i.firsts ++ i.seconds) d → Contains (plain_dests i op) d
+    hands_plain i (Link b) e d k = absurd (true≢false (sym e))
+    hands_plain i op e d k = k
 
     side_in : (i : Instr) (side : Bool) (k : ℕ) (d : Dest) → slice_get (dests_of i side) k ≡ Some d → Contains (i.firsts ++ i.seconds) d
     side_in i false k d e = Contains-append_left i.firsts i.seconds d (get_contains i.firsts k d e)
     side_in i true k d e = Contains-append_right i.firsts i.seconds d (get_contains i.seconds k d e)
 
-    lit_target : (ip : ℕ) (j : Instr) (z : ℤ) (d : Dest) → instr_at Q ip ≡ Some j → j.op ≡ Lit z → Contains (j.firsts ++ j.seconds) d
+    hands_target : (ip : ℕ) (j : Instr) (d : Dest) → instr_at Q ip ≡ Some j → hands_on j.op ≡ true → Contains (j.firsts ++ j.seconds) d
         → often (instr_at Q (ip + d.ahead)) ≡ false
-    lit_target ip j z d at op k =
+    hands_target ip j d at op k =
         let N : NewAt p s ip j = new_at p s ip j at in
         let D : DestAt p s N.c N.n N.i d = dest_of p s N.c N.n N.i d (subst (λ (j : Instr). Contains (j.firsts ++ j.seconds) d) N.is k) in
-        let new : (slotted (layout_of p N.c) N.n N.i).op ≡ Lit z = ap (λ (j : Instr). j.op) (sym N.is) ∙ op in
-        let K : KeptAt p N.c N.n = pair_not N.c N.n N.i N.instr (ap is_pair new) in
+        let new : hands_on (slotted (layout_of p N.c) N.n N.i).op ≡ true = ap (λ (j : Instr). hands_on j.op) (sym N.is) ∙ op in
+        let K : KeptAt p N.c N.n = pair_not N.c N.n N.i N.instr (hands_no_pair (slotted (layout_of p N.c) N.n N.i).op new) in
         ap (λ (x : ℕ). often (instr_at Q (x + d.ahead))) N.place
-        ∙ dest_lone N.b N.c N.block N.n N.i N.instr N.stay d D (lit_plain N.i z (sym (K.op (N.i).op) ∙ new) D.old (side_in N.i D.side D.k D.old D.named))
+        ∙ dest_lone N.b N.c N.block N.n N.i N.instr N.stay d D
+        (hands_plain N.i (N.i).op (ap hands_on (sym (K.op (N.i).op)) ∙ new) D.old (side_in N.i D.side D.k D.old D.named))
 
     apply_once : (i : Instr) (o : Binary) → i.op ≡ Apply2 o → often (Some i) ≡ false
     apply_once i o e = ap (λ (op : Op). elim op as (λ x. Bool) [ Give k ↦ true | Take k ↦ true | _ ↦ false ]) e
@@ -346,7 +347,7 @@ module _ (p : Plan) (s : IsSound p) where
         subst (λ (x : Spot). often (instr_at P x.0) ≡ false) (sym is) (moved_once a K (ap (λ (n : ℕ). often (instr_at Q n)) (sym e) ∙ off))
     lone_leaf ip r x (at_pair n1 r1 x1 a i j o e at op there pair fresh left is) off =
         subst (λ (x : Spot). often (instr_at P x.0) ≡ false) (sym is) (ap often at ∙ apply_once i o op)
-    lone_leaf ip r x (at_lit n1 r1 x1 j d z there op fresh left k more) off = lone_leaf (ip + d.ahead) d.port x more (lit_target ip j z d there op k)
+    lone_leaf ip r x (behind n1 r1 x1 j d there op fresh left k more) off = lone_leaf (ip + d.ahead) d.port x more (hands_target ip j d there op k)
 
     -- ---- IT IS TIDY
     plain_back : (c : CodeBlock) (n : ℕ) (i : Instr) (d : Dest) (op new : Op) → i.op ≡ op → (slotted (layout_of p c) n i).op ≡ new

@@ -12,6 +12,7 @@ use Rattle.tags.specs.declared.token.Word.{Word}
 use Rattle.tags.specs.declared.token.To.{To}
 use Rattle.tags.specs.declared.token.Token.{Token}
 use Rattle.semantics.specs.declared.program.Dest.{Dest}
+use Rattle.semantics.specs.declared.program.Op.{Op}
 use Rattle.semantics.specs.declared.program.Op.TheVariants.{Apply2, Lit}
 use Rattle.semantics.specs.Program.{Instr, CodeBlock, Program, instr_at}
 use Rattle.semantics.specs.Rule.{token, at_dest, to_each}
@@ -26,10 +27,7 @@ use Rattle.folding.proofs.Standing.{keeps_order}
 use Rattle.folding.proofs.Taken.{leaves_out}
 use Rattle.folding.proofs.Pairs.{closed_one, closed_in, closed_uses, given, wanted_one, wanted, uses_in, pairs_match}
 use Rattle.folding.proofs.Cases.{value_at, KeptAt, FoldedAt, RightAt, LeftAt, FoldCase, is_kept, is_right, is_left, fold_cases, closed_by}
-use Rattle.law_fanout.specs.Spreads.{ip_word, ip_token}
-use Rattle.law_immediates.specs.Fold.{fires_lit, Plain, Fresh, top, Sends, StandsBy, moved, lit, right, left, StandAllBy, stand_none, Settles, settled, fired}
 use Rattle.law_immediates.specs.Kept.{slotted}
-use Rattle.law_immediates.proofs.FoldRules.{settles_map, sends_with, lit_nodes}
 use Rattle.law_immediates.proofs.KeptSpots.{plain_of, kept_of, stays as stands_still}
 use Rattle.folding.proofs.Plain.{PlainAt}
 use Rattle.std.proofs.lemmas.List.Elements.{Contains-append_left, Contains-append_right, Contains-append_cases}
@@ -39,6 +37,11 @@ use Rattle.law_immediates.proofs.KeptClosed.{lit_or, any_shut, gone_some, gone_s
 use Rattle.law_immediates.proofs.KeptUses.{given_has, moved_has, lit_some}
 use Rattle.law_immediates.proofs.KeptNumbering.{is_nil, plain_at}
 use Rattle.law_immediates.proofs.KeptLeading.{stand_one, operand, operands, news, Made, all_made, Whole, whole_made, whole_both}
+use Rattle.law_simulation.specs.Simulates.{StandsBy, StandAllBy}
+use Rattle.law_simulation.specs.Places.{ip_token, ip_word}
+use Rattle.law_simulation.specs.Simulates.{Fresh, HandsOn, Plain, Sends, Settles, fired, fires_lit, hands_on, itself, left, moved, right, settled}
+use Rattle.law_simulation.specs.Simulates.{stand_none, through, top}
+use Rattle.law_simulation.proofs.SimulationRules.{nodes_behind, sends_with, settles_map}
 
 module _ (kind : Word → Type 0) (of_value : (z : ℤ) → kind (Word.Val (Int z))) (P Q : Program) (g h : ℕ → ℕ) (p : Plan) (c : CodeBlock) (F E : ℕ)
     (spares : SparesLiterals c)
@@ -143,12 +146,7 @@ module _ (kind : Word → Type 0) (of_value : (z : ℤ) → kind (Word.Val (Int 
         new_token (n_stays shut) d.port (K.port d.port) ∙ ap (λ (x : ℕ). token (To.Instr f x d.port) (ip_word h w)) (sym (h_at m m_low K.folded none))
         ∙ ap (ip_token h) (sym old_at) in
         let fits : Plain P Q h (F + m) =
-        record {
-          i = j;
-          j = slotted (layout_of p c) m j;
-          old = there_old m j at_m;
-          new = ap (instr_at Q) (h_at m m_low K.folded none) ∙ there_new m j at_m stays;
-        } in
+        itself j (slotted (layout_of p c) m j) (there_old m j at_m) (ap (instr_at Q) (h_at m m_low K.folded none) ∙ there_new m j at_m stays) in
         made_by f n w d [] [] [] (new_dest (layout_of p c) n m d.port ∷ []) (old_token ∷ []) (old_token ∷ []) (λ t. if shut t then m ∷ [] else []) none
         (ap (λ (b : Bool). if b && not (is_closed (folds_at (layout_of p c) (n + d.ahead)) d.port) then m ∷ [] else []) K.folded) (open_dest stays shut)
         (settled (old_token ∷ []) (old_token ∷ []) (IsPermutation-refl _))
@@ -251,13 +249,12 @@ module _ (kind : Word → Type 0) (of_value : (z : ℤ) → kind (Word.Val (Int 
               record {
                 ip = E + new_place (layout_of p c) m;
                 j = slotted (layout_of p c) m j;
-                z = z;
                 d = new_dest (layout_of p c) m (m + u.ahead) u.port;
                 node =
-                    top (E + new_place (layout_of p c) m) seen (slotted (layout_of p c) m j) z (contains_head seen []) to (there_new m j at_m stays)
-                    (K.op j.op ∙ op) (fresh_at m j at_m stays not_plain);
+                    top (E + new_place (layout_of p c) m) seen (slotted (layout_of p c) m j) (contains_head seen []) to (there_new m j at_m stays)
+                    (ap hands_on (K.op j.op ∙ op)) (fresh_at m j at_m stays not_plain);
                 at = there_new m j at_m stays;
-                op = K.op j.op ∙ op;
+                op = ap hands_on (K.op j.op ∙ op);
                 named = in_side r.0 (moved_has p c m (dests_of j r.0) r.1 u r.2 (λ b. here b || kept.shut u.port b));
                 place = omega (arith, spot, eh, order);
                 port = kept.port u.port;
@@ -296,15 +293,16 @@ module _ (kind : Word → Type 0) (of_value : (z : ℤ) → kind (Word.Val (Int 
             subst (λ (l : List Dest). StandAllBy kind P Q g h (to_each record { frame = f; ip = E + new_place (layout_of p c) m } (Word.Val (Int z)) l) W.meant)
             splits W.stand in
             let st : StandsBy kind P Q g h seen W.meant =
-            lit seen W.meant f (E + new_place (layout_of p c) m) (ip_word h w) z (slotted (layout_of p c) m j)
-            (new_token (n_stays shut) Left (K.port d.port ∙ port)) (there_new m j at_m stays) (K.op j.op ∙ op) all of_kind more.0 more.1
+            through seen W.meant f (E + new_place (layout_of p c) m) (ip_word h w) (Word.Val (Int z)) (slotted (layout_of p c) m j)
+            (new_token (n_stays shut) Left (K.port d.port ∙ port)) (there_new m j at_m stays)
+            (subst (λ (op : Op). HandsOn kind op (ip_word h w) (Word.Val (Int z))) (sym (K.op j.op ∙ op)) (refl, of_kind)) all more.0 more.1
             (fresh_at m j at_m stays not_plain) in
             made_by f n w d [] (closed_in p c m (j.firsts ++ j.seconds)) [] (new_dest (layout_of p c) n m d.port ∷ []) W.meant W.meant
             (λ t. if shut t then m ∷ [] else []) uses no_wants (open_dest stays shut)
             (settles (Sends P Q h (seen ∷ [])) (kept_sends stays seen to_seen)
             (λ k l N. sends_with P Q h (fires_lit f (E + new_place (layout_of p c) m) z (slotted (layout_of p c) m j)) (seen ∷ [])
-            (λ k ip. lit_nodes P Q h f (E + new_place (layout_of p c) m) z (slotted (layout_of p c) m j) seen to_seen (there_new m j at_m stays)
-            (K.op j.op ∙ op) (fresh_at m j at_m stays not_plain) k ip) k l
+            (λ k ip. nodes_behind P Q h f (E + new_place (layout_of p c) m) (Word.Val (Int z)) (slotted (layout_of p c) m j) seen to_seen
+            (there_new m j at_m stays) (ap hands_on (K.op j.op ∙ op)) (fresh_at m j at_m stays not_plain) k ip) k l
             (subst (λ (ds : List Dest). Sends P Q h (to_each record { frame = f; ip = E + new_place (layout_of p c) m } (Word.Val (Int z)) ds) k l) splits N)))
             (stand_one kind P Q g h seen W.meant st) (same_perm W.meant (W.meant ++ []) (sym (append-nil W.meant)))
 

@@ -1,30 +1,3 @@
--- Fold
-pub mod FoldRules
-pub mod FoldEvents
-pub mod FoldWords
-pub mod FoldFires
-pub mod FoldParts
-pub mod FoldPast
-pub mod FoldMeet
-pub mod FoldCounts
-pub mod FoldSteps
-pub mod FoldFrom
-pub mod FoldBacks
-pub mod FoldArcs
-pub mod FoldCame
-pub mod FoldUses
-pub mod FoldHas
-pub mod FoldTold
-pub mod FoldSim
-pub mod FoldNext
-pub mod FoldRuns
-pub mod FoldSeen
-pub mod FoldMatching
-pub mod FoldOrder
-pub mod FoldAgree
-pub mod FoldCaused
-pub mod FoldLands
-pub mod FoldBounds
 -- Kept
 pub mod KeptClosed
 pub mod KeptUses
@@ -39,7 +12,7 @@ pub mod KeptMoves
 pub mod KeptRuns
 pub mod KeptStatic
 pub mod KeptKeeps
-pub mod KeptArcs
+pub mod KeptEntries
 -- Renumber
 pub mod RenumberPlaces
 pub mod RenumberEvents

@@ -6,20 +6,17 @@
 //! keeps of any plan what passes are to keep (`FoldingKeeps`).
 //!
 //! **Why they hold.**
-//! 1. Beside a run of the new code goes a run of the old one in which a literal fires as soon as it is triggered (`FoldPast`). So a token at an
-//!    operator with a literal operand stands for both operands (`FoldSim`).
-//! 2. An event of the new run is none, one or more of the old run (`FoldNext`), and what is seen of both is the same (`FoldSeen`).
-//! 3. A port gets no more tokens than a port of the old code for which it stands (`FoldCounts`), and no token is excluded (`FoldMatching`).
-//! 4. A token comes after an arc was used: the old run's, or what comes of it is on its way through literals that fired already (`FoldTold`,
-//!    `FoldCaused`).
-//! 5. The plan that folding makes is such a plan: the ports of literal operands are closed, and only literals name them (`KeptClosed`), instructions
+//! 1. A literal fires as soon as it is triggered, so a token at an operator with a literal operand stands for both operands, and one at a literal that
+//!    fired already for what comes of it. So the folded plan simulates the plan (`law_simulation`).
+//! 2. The plan that folding makes is such a plan: the ports of literal operands are closed, and only literals name them (`KeptClosed`), instructions
 //!    stand in new places (`KeptSpots`), each destination leads to where its target stands (`KeptTargets`), and so each instruction is what it was or
 //!    has a literal operand (`KeptMoves`).
-//! 6. With other numbers for holders every event is the plan's, slot by slot (`RenumberEvents`, `RenumberRuns`).
+//! 3. A destination of what stands for itself, to what stands for itself, leads there still (`KeptMoves`), and marks, blocks, landings and entries go
+//!    along (`KeptStatic`, `KeptEntries`); so all is kept (`KeptKeeps`).
+//! 4. With other numbers for holders every event is the plan's, slot by slot (`RenumberEvents`, `RenumberRuns`).
 //!
 //! **The files**, by chapter.
-//! - `Fold`: any plan with literal operands; `Kept`: the plan that folding makes before it numbers holders; `Renumber`: other numbers for holders,
-//!   and both together.
+//! - `Kept`: the plan that folding makes before it numbers holders; `Renumber`: other numbers for holders, and both together.
 #![tactic(auto)]
 
 mod literal_operands;

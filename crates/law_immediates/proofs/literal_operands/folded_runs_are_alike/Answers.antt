@@ -1,11 +1,11 @@
-use Rattle.law_immediates.proofs.FoldSeen.{folds_run_alike}
+use Rattle.law_simulation.proofs.SimulationSeen.{related_runs_alike}
 use Rattle.law_immediates.proofs.KeptMoves.{kept_slots_folds}
 use Rattle.law_immediates.proofs.KeptRuns.{kept_slots_runs_alike, kept_slots_faithful}
 use Rattle.law_immediates.proofs.KeptKeeps.{kept_slots_tidy, kept_slots_lands, kept_slots_bounds, kept_slots_orderly, kept_slots_keep}
 use Rattle.law_immediates.proofs.literal_operands.folded_runs_are_alike.Goals as goal
 
 pub returns-clause-folds : goal.returns-clause-folds
-returns-clause-folds c = folds_run_alike
+returns-clause-folds c = related_runs_alike
 
 pub returns-clause-kept_folds : goal.returns-clause-kept_folds
 returns-clause-kept_folds c = kept_slots_folds

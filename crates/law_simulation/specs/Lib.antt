@@ -1,0 +1,3 @@
+-- Simulation
+pub mod Places
+pub mod Simulates
