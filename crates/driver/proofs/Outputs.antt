@@ -13,7 +13,7 @@ use Rattle.schemas.specs.Expanded.{Codes, with_code, no_codes, plain_code, varia
 use Rattle.folding.specs.Folded.{folded, folded_block}
 use Rattle.fanout.specs.Narrowed.{narrowed_block}
 use Rattle.select.specs.Emitted.{emitted_block}
-use Rattle.law_wiring.proofs.ArcsCodes.{plain_outputs}
+use Rattle.law_wiring.proofs.ArcsLaws.{plain_outputs}
 use Rattle.law_compiler.specs.Objects.{plan_of}
 use Rattle.law_compiler.proofs.Objects.{main_there}
 use Rattle.driver.specs.Compiled.{outputs_in, flow_outputs}

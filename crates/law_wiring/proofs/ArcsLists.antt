@@ -1,10 +1,8 @@
 -- Instructions at their places, while instructions and destinations are added.
-use Rattle.std.proofs.Common.{◌≡◌, ℕ, zero, suc, ◌<◌, Bool, true, false, ◌⊎◌, inl, inr, List, [], ◌∷◌, ◌++◌, length, refl, ap, ◌∙◌, arith, Some}
-use Rattle.std.specs.Prelude.{slice_get, slice_set, slice_index_or, Contains}
-use Rattle.std.proofs.lemmas.List.Elements.{Contains-append_left, Contains-append_right, Contains-append_cases, Contains-push_cases}
+use Rattle.std.proofs.Common.{◌≡◌, ℕ, zero, suc, ◌+◌, ◌<◌, Bool, true, false, ◌⊎◌, inl, inr, List, [], ◌∷◌, ◌++◌, length, refl, ap, subst, arith, Some}
+use Rattle.std.specs.Prelude.{slice_get, slice_set, slice_index_or}
 use Rattle.semantics.specs.declared.program.Dest.{Dest}
 use Rattle.semantics.specs.Program.{Instr}
-use Rattle.schemas.specs.Ends.{is_empty}
 use Rattle.schemas.specs.Builds.{with_dest, no_instr}
 
 -- PUSHING
@@ -27,6 +25,16 @@ get_old (z ∷ xs) x (suc n) y e = get_old xs x n y e
 pub get_new : {X : Type 0} (xs : List X) (x : X) → slice_get (xs ++ x ∷ []) (length xs) ≡ Some x
 get_new [] x = refl
 get_new (z ∷ xs) x = get_new xs x
+
+pub get_left : {X : Type 0} (xs ys : List X) (n : ℕ) (x : X) → slice_get xs n ≡ Some x → slice_get (xs ++ ys) n ≡ Some x
+get_left [] ys n x e = absurd (cc)
+get_left (y ∷ xs) ys zero x e = e
+get_left (y ∷ xs) ys (suc n) x e = get_left xs ys n x e
+
+pub get_right : {X : Type 0} (xs ys : List X) (n k : ℕ) (x : X) → n ≡ length xs + k → slice_get ys k ≡ Some x → slice_get (xs ++ ys) n ≡ Some x
+get_right [] ys n k x q e = let same : k ≡ n = omega (arith, q) in subst (λ m. slice_get ys m ≡ Some x) same e
+get_right (y ∷ xs) ys zero k x q e = absurd (omega (arith, q))
+get_right (y ∷ xs) ys (suc n) k x q e = get_right xs ys n k x (omega (arith, q)) e
 
 pub length_push : {X : Type 0} (xs : List X) (x : X) → length (xs ++ x ∷ []) ≡ suc (length xs)
 length_push [] x = refl
@@ -69,51 +77,13 @@ pub same_op : (i : Instr) (s : Bool) (d : Dest) → (with_dest i s d).op ≡ i.o
 same_op i true d = refl
 same_op i false d = refl
 
-pub keep_linked : (is : List Instr) (n : ℕ) (s : Bool) (d : Dest) (m : ℕ) (i : Instr) → slice_get is m ≡ Some i
-    → (j : Instr) × (slice_get (linked_in is n s d) m ≡ Some j) × (j.op ≡ i.op)
-keep_linked [] n s d m i e = absurd (cc)
-keep_linked (x ∷ is) zero s d zero i e = let p : x ≡ i = cc in (with_dest x s d, refl, same_op x s d ∙ ap (λ (y : Instr). y.op) p)
-keep_linked (x ∷ is) zero s d (suc m) i e = (i, e, refl)
-keep_linked (x ∷ is) (suc n) s d zero i e = (i, e, refl)
-keep_linked (x ∷ is) (suc n) s d (suc m) i e = keep_linked is n s d m i e
-
--- the destinations of an instruction with one more
-pub dest_cases : (j : Instr) (s : Bool) (d x : Dest) → Contains ((with_dest j s d).firsts ++ (with_dest j s d).seconds) x
-    → Contains (j.firsts ++ j.seconds) x ⊎ (d ≡ x)
-dest_cases j true d x c = go (Contains-append_cases j.firsts (j.seconds ++ d ∷ []) x c)
+-- NUMBERS
+pub split : (k n : ℕ) → k < suc n → (k < n) ⊎ (k ≡ n)
+split zero zero h = inr refl
+split zero (suc n) h = inl (omega arith)
+split (suc k) zero h = absurd (omega (arith, h))
+split (suc k) (suc n) h = go (split k n (omega (arith, h)))
   where
-    right : Contains j.seconds x ⊎ (d ≡ x) → Contains (j.firsts ++ j.seconds) x ⊎ (d ≡ x)
-    right (inl h) = inl (Contains-append_right j.firsts j.seconds x h)
-    right (inr h) = inr h
-
-    go : Contains j.firsts x ⊎ Contains (j.seconds ++ d ∷ []) x → Contains (j.firsts ++ j.seconds) x ⊎ (d ≡ x)
-    go (inl h) = inl (Contains-append_left j.firsts j.seconds x h)
-    go (inr h) = right (Contains-push_cases j.seconds d x h)
-dest_cases j false d x c = go (Contains-append_cases (j.firsts ++ d ∷ []) j.seconds x c)
-  where
-    left : Contains j.firsts x ⊎ (d ≡ x) → Contains (j.firsts ++ j.seconds) x ⊎ (d ≡ x)
-    left (inl h) = inl (Contains-append_left j.firsts j.seconds x h)
-    left (inr h) = inr h
-
-    go : Contains (j.firsts ++ d ∷ []) x ⊎ Contains j.seconds x → Contains (j.firsts ++ j.seconds) x ⊎ (d ≡ x)
-    go (inl h) = left (Contains-push_cases j.firsts d x h)
-    go (inr h) = inl (Contains-append_right j.firsts j.seconds x h)
-
-pub first_cases : (j : Instr) (s : Bool) (d x : Dest) → Contains (with_dest j s d).firsts x → Contains j.firsts x ⊎ ((s ≡ false) × (d ≡ x))
-first_cases j true d x c = inl c
-first_cases j false d x c = go (Contains-push_cases j.firsts d x c)
-  where
-    go : Contains j.firsts x ⊎ (d ≡ x) → Contains j.firsts x ⊎ ((false ≡ false) × (d ≡ x))
-    go (inl h) = inl h
-    go (inr h) = inr (refl, h)
-
-pushed_some : (ds : List Dest) (d : Dest) → is_empty (ds ++ d ∷ []) ≡ false
-pushed_some [] d = refl
-pushed_some (x ∷ ds) d = refl
-
-pub still_some : (j : Instr) (s : Bool) (d : Dest) → is_empty j.firsts ≡ false → is_empty (with_dest j s d).firsts ≡ false
-still_some j true d e = e
-still_some j false d e = pushed_some j.firsts d
-
-pub now_some : (j : Instr) (d : Dest) → is_empty (with_dest j false d).firsts ≡ false
-now_some j d = pushed_some j.firsts d
+    go : (k < n) ⊎ (k ≡ n) → (suc k < suc n) ⊎ (suc k ≡ suc n)
+    go (inl p) = inl (omega (arith, p))
+    go (inr p) = inr (ap suc p)

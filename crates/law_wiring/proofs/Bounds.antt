@@ -1,7 +1,7 @@
 -- The loops of a code block open with the bounds of its graph block, its switches alone are marked, and its holders are
 -- numbered in order.
 use Rattle.std.proofs.Common.{◌≡◌, ℕ, zero, suc, ◌+◌, ◌-◌, Bool, true, false, List, [], ◌∷◌, ◌++◌, refl, sym, ap, ◌∙◌, subst, append_assoc, append-nil}
-use Rattle.std.proofs.Common.{if◌then◌else◌}
+use Rattle.std.proofs.Common.{if◌then◌else◌, Option}
 use Rattle.std.specs.Prelude.{flat_map, slice_set, slice_index_or, ⊤}
 use Rattle.semantics.specs.declared.program.Dest.{Dest}
 use Rattle.semantics.specs.declared.program.Mark.{Mark}
@@ -12,8 +12,7 @@ use Rattle.semantics.specs.Plan.{is_credit}
 use Rattle.law_wiring.specs.BoundsKeeping.{Fits, AreNumbered}
 use Rattle.schemas.specs.Builds.{Build, with_dest, no_instr, bare, slot_in, takes_holder}
 use Rattle.schemas.specs.Scopes.{Scope}
-use Rattle.schemas.specs.Blocks.{plain_build, variant_build}
-use Rattle.law_wiring.proofs.BoundsKeeping.{plain_keeps, variant_keeps}
+use Rattle.law_wiring.proofs.KeepingSteps.{Stage, bounds_at, step_bounds, code_build, all_keep}
 use Rattle.law_wiring.proofs.ArcsLists.{same_op}
 
 abbrev pub opens : List Instr → List ℕ
@@ -28,20 +27,14 @@ opens-set [] n s d = refl
 opens-set (i ∷ is) zero s d = ap (λ op. opened_by op ++ opens is) (same_op i s d)
 opens-set (i ∷ is) (suc n) s d = ap (λ ys. opened_by i.op ++ ys) (opens-set is n s d)
 
-abbrev Opens : List ℕ → Build → Type 0
-Opens xs b = opens b.instrs ≡ xs
+abbrev Opens : Stage → Build → Type 0
+Opens s b = opens b.instrs ≡ bounds_at s
 
-pub plain_opens : (s : Scope) → opens (plain_build s).instrs ≡ loop_bounds s.block
-plain_opens = plain_keeps Opens refl
-    (λ xs b op o m r f h. opens-push b.instrs (bare op o (slot_in b op)) ∙ ap (λ ys. ys ++ opened_by op) h)
-    (λ xs b o to p h. opens-set b.instrs (o.place + o.port) o.second (record { ahead = (to - o.place) - o.port; port = p }) ∙ h)
-    (λ xs b o h. h)
-
-pub variant_opens : (s : Scope) (code : ℕ) → opens (variant_build s code).instrs ≡ loop_bounds s.block
-variant_opens = variant_keeps Opens refl
-    (λ xs b op o m r f h. opens-push b.instrs (bare op o (slot_in b op)) ∙ ap (λ ys. ys ++ opened_by op) h)
-    (λ xs b o to p h. opens-set b.instrs (o.place + o.port) o.second (record { ahead = (to - o.place) - o.port; port = p }) ∙ h)
-    (λ xs b o h. h)
+pub code_opens : (s : Scope) (turn : Option ℕ) → opens (code_build s turn).instrs ≡ loop_bounds s.block
+code_opens = all_keep Opens
+    (λ s t b op o m r e f h. opens-push b.instrs (bare op o (slot_in b op)) ∙ ap (λ ys. ys ++ opened_by op) h ∙ sym (step_bounds s op t e))
+    (λ s b o to p h. opens-set b.instrs (o.place + o.port) o.second (record { ahead = (to - o.place) - o.port; port = p }) ∙ h)
+    (λ s b o h. h) refl
 
 -- MARKS
 abbrev pub AreFit : List Instr → List Mark → Type 0
@@ -62,20 +55,14 @@ fit-set (i ∷ is) (m ∷ ms) zero s d h = (subst (λ op. Fits op m) (sym (same_
 fit-set (i ∷ is) (m ∷ ms) (suc n) s d h = (h.0, fit-set is ms n s d h.1)
 fit-set (i ∷ is) [] n s d h = absurd h
 
-abbrev Marked : List ℕ → Build → Type 0
-Marked xs b = AreFit b.instrs b.marks
+abbrev Marked : Stage → Build → Type 0
+Marked s b = AreFit b.instrs b.marks
 
-pub plain_fits : (s : Scope) → AreFit (plain_build s).instrs (plain_build s).marks
-plain_fits = plain_keeps Marked tt
-    (λ xs b op o m r f h. fit-push b.instrs b.marks (bare op o (slot_in b op)) m h f)
-    (λ xs b o to p h. fit-set b.instrs b.marks (o.place + o.port) o.second (record { ahead = (to - o.place) - o.port; port = p }) h)
-    (λ xs b o h. h)
-
-pub variant_fits : (s : Scope) (code : ℕ) → AreFit (variant_build s code).instrs (variant_build s code).marks
-variant_fits = variant_keeps Marked tt
-    (λ xs b op o m r f h. fit-push b.instrs b.marks (bare op o (slot_in b op)) m h f)
-    (λ xs b o to p h. fit-set b.instrs b.marks (o.place + o.port) o.second (record { ahead = (to - o.place) - o.port; port = p }) h)
-    (λ xs b o h. h)
+pub code_fits : (s : Scope) (turn : Option ℕ) → AreFit (code_build s turn).instrs (code_build s turn).marks
+code_fits = all_keep Marked
+    (λ s t b op o m r e f h. fit-push b.instrs b.marks (bare op o (slot_in b op)) m h f)
+    (λ s b o to p h. fit-set b.instrs b.marks (o.place + o.port) o.second (record { ahead = (to - o.place) - o.port; port = p }) h)
+    (λ s b o h. h) tt
 
 -- HOLDERS
 numbered-push : (n : ℕ) (is : List Instr) (count : ℕ) (i : Instr) → AreNumbered n is count → (takes_holder i.op ≡ true → i.slot ≡ count)
@@ -90,20 +77,14 @@ numbered-set n (i ∷ is) count zero true d h = h
 numbered-set n (i ∷ is) count zero false d h = h
 numbered-set n (i ∷ is) count (suc k) s d h = (h.0, numbered-set (if takes_holder i.op then n + 1 else n) is count k s d h.1)
 
-abbrev Numbered : List ℕ → Build → Type 0
-Numbered xs b = AreNumbered 0 b.instrs b.holders
+abbrev Numbered : Stage → Build → Type 0
+Numbered s b = AreNumbered 0 b.instrs b.holders
 
 its_slot : (b : Build) (op : Op) → takes_holder op ≡ true → slot_in b op ≡ b.holders
 its_slot b op e = ap (λ t. if t then b.holders else if is_credit op then b.opened else 0) e
 
-pub plain_numbered : (s : Scope) → AreNumbered 0 (plain_build s).instrs (plain_build s).holders
-plain_numbered = plain_keeps Numbered refl
-    (λ xs b op o m r f h. numbered-push 0 b.instrs b.holders (bare op o (slot_in b op)) h (its_slot b op))
-    (λ xs b o to p h. numbered-set 0 b.instrs b.holders (o.place + o.port) o.second (record { ahead = (to - o.place) - o.port; port = p }) h)
-    (λ xs b o h. h)
-
-pub variant_numbered : (s : Scope) (code : ℕ) → AreNumbered 0 (variant_build s code).instrs (variant_build s code).holders
-variant_numbered = variant_keeps Numbered refl
-    (λ xs b op o m r f h. numbered-push 0 b.instrs b.holders (bare op o (slot_in b op)) h (its_slot b op))
-    (λ xs b o to p h. numbered-set 0 b.instrs b.holders (o.place + o.port) o.second (record { ahead = (to - o.place) - o.port; port = p }) h)
-    (λ xs b o h. h)
+pub code_numbered : (s : Scope) (turn : Option ℕ) → AreNumbered 0 (code_build s turn).instrs (code_build s turn).holders
+code_numbered = all_keep Numbered
+    (λ s t b op o m r e f h. numbered-push 0 b.instrs b.holders (bare op o (slot_in b op)) h (its_slot b op))
+    (λ s b o to p h. numbered-set 0 b.instrs b.holders (o.place + o.port) o.second (record { ahead = (to - o.place) - o.port; port = p }) h)
+    (λ s b o h. h) refl

@@ -1,6 +1,6 @@
 -- The code blocks of a plan and the graph's blocks: bounds, marks and holders.
 use Rattle.std.proofs.Common.{◌≡◌, ℕ, zero, suc, ◌+◌, Bool, true, false, cond, List, [], ◌∷◌, ◌++◌, length, refl, sym, ap, ◌∙◌, subst, append_assoc, append-nil}
-use Rattle.std.proofs.Common.{if◌then◌else◌, Some, nat_lt, sum_by}
+use Rattle.std.proofs.Common.{if◌then◌else◌, Some, None, nat_lt, sum_by}
 use Rattle.std.specs.Prelude.{slice_get, count_by, ⊤}
 use Rattle.std.proofs.lemmas.List.Sums.{sum-map, sum_by-cons}
 use Rattle.lemmas.proofs.Permutations.{permutation_same}
@@ -17,7 +17,7 @@ use Rattle.law_wiring.specs.BoundsKeeping.{Fits, MarksFit, AreNumbered, HoldersI
 use Rattle.schemas.specs.Variants.{loops_to, some_node_loops, some_block_loops, variants_of}
 use Rattle.schemas.specs.Blocks.{Coded, variant_of}
 use Rattle.schemas.specs.Expanded.{Codes, with_code, no_codes, scope_of, plain_code, variant_code, plain_codes, variant_codes, expanded}
-use Rattle.law_wiring.proofs.Bounds.{opens, AreFit, plain_opens, plain_fits, plain_numbered, variant_opens, variant_fits, variant_numbered}
+use Rattle.law_wiring.proofs.Bounds.{opens, AreFit, code_opens, code_fits, code_numbered}
 
 abbrev IsGood : CodeBlock → List Mark → Block ℕ → Type 0
 IsGood c ms g = (opens c.instrs ≡ loop_bounds g) × AreFit c.instrs ms × AreNumbered 0 c.instrs c.slots
@@ -35,15 +35,16 @@ good-push cs ms gs c m g h q = absurd h
 
 good_code : (v : ℕ) (bs : List (Block ℕ)) (vars : List ℕ) (n : ℕ) (b : Block ℕ) → IsGood (plain_code v bs vars n b).code (plain_code v bs vars n b).marks b
 unfolding plain_code
-good_code v bs vars n b = (plain_opens (scope_of v bs vars n b false), plain_fits (scope_of v bs vars n b false), plain_numbered (scope_of v bs vars n b false))
+good_code v bs vars n b =
+    (code_opens (scope_of v bs vars n b false) None, code_fits (scope_of v bs vars n b false) None, code_numbered (scope_of v bs vars n b false) None)
 
 good_variant : (v : ℕ) (bs : List (Block ℕ)) (vars : List ℕ) (n : ℕ) (b : Block ℕ)
     → IsGood (variant_code v bs vars n b).code (variant_code v bs vars n b).marks b
 unfolding variant_code
 good_variant v bs vars n b = (
-  variant_opens (scope_of v bs vars n b true) (variant_of vars n),
-  variant_fits (scope_of v bs vars n b true) (variant_of vars n),
-  variant_numbered (scope_of v bs vars n b true) (variant_of vars n),
+  code_opens (scope_of v bs vars n b true) (Some (variant_of vars n)),
+  code_fits (scope_of v bs vars n b true) (Some (variant_of vars n)),
+  code_numbered (scope_of v bs vars n b true) (Some (variant_of vars n)),
 )
 
 abbrev GoodCodes : Codes → List (Block ℕ) → Type 0

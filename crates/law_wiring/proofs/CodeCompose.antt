@@ -5,10 +5,8 @@ use Rattle.std.specs.Prelude.{slice_get}
 use Rattle.std.proofs.lemmas.Bool.{cases_lt, le-ltb}
 use Rattle.std.proofs.lemmas.Option.{slice_get_within}
 use Rattle.semantics.specs.Graph.{Block, Flow, Graph, flow_of, node_at}
-use Rattle.semantics.specs.Text.{HasText}
 use Rattle.semantics.specs.WellFormed.{WellFormed}
 use Rattle.semantics.specs.Meaning as Meaning
-use Rattle.semantics.specs.Cause as Cause
 use Rattle.semantics.specs.Cause.{is_looped}
 use Rattle.law_confluence.proofs.OutcomeResolved.{flow_well}
 use Rattle.schemas.specs.Variants.{some_block_loops, next_variant}
@@ -45,7 +43,7 @@ variants_rise bs f g l h =
     let e = ap (next_variant bs) at in
     omega (arith, step, more, e)
 
-module _ (g : Graph) (text : HasText g) (well : WellFormed g) where
+module _ (g : Graph) (well : WellFormed g) where
   abbrev fl : Flow
   fl = flow_of g
 

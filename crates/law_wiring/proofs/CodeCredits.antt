@@ -13,8 +13,7 @@ use Rattle.semantics.specs.Program.{Instr}
 use Rattle.semantics.specs.Plan.{is_open, is_credit}
 use Rattle.schemas.specs.Scopes.{Scope}
 use Rattle.schemas.specs.Builds.{Build, with_dest, no_instr, bare, slot_in, takes_holder}
-use Rattle.schemas.specs.Blocks.{plain_build, variant_build}
-use Rattle.law_wiring.proofs.BoundsKeeping.{plain_keeps, variant_keeps}
+use Rattle.law_wiring.proofs.KeepingSteps.{Stage, code_build, all_keep}
 use Rattle.law_wiring.proofs.FactsHolders.{is_later}
 use Rattle.law_net.specs.ContextsParts.{Part, Line, Opener, Sender, Landing, Giver, Taker, Drainer, LoopDone}
 use Rattle.law_net.specs.ContextsBlocks.{Site, op_of, kind_op}
@@ -49,22 +48,15 @@ open_slot : (op : Op) (holders opened : ℕ)
 open_slot (Open k) holders opened = refl
 open_slot op holders opened = refl
 
-abbrev Lasts : List ℕ → Build → Type 0
-Lasts xs b = AreLast 0 b.instrs b.opened
+abbrev Lasts : Stage → Build → Type 0
+Lasts s b = AreLast 0 b.instrs b.opened
 
-pub plain_lasts : (s : Scope) → AreLast 0 (plain_build s).instrs (plain_build s).opened
-plain_lasts = plain_keeps Lasts refl
-    (λ xs b op o m r f h. subst (AreLast 0 (b.instrs ++ bare op o (slot_in b op) ∷ [])) (open_slot op b.holders b.opened)
+pub code_lasts : (s : Scope) (turn : Option ℕ) → AreLast 0 (code_build s turn).instrs (code_build s turn).opened
+code_lasts = all_keep Lasts
+    (λ s t b op o m r e f h. subst (AreLast 0 (b.instrs ++ bare op o (slot_in b op) ∷ [])) (open_slot op b.holders b.opened)
     (last_push 0 b.opened b.instrs (bare op o (slot_in b op)) h (later_slot op b.holders b.opened)))
-    (λ xs b o to p h. last_set 0 b.opened b.instrs (o.place + o.port) o.second (record { ahead = (to - o.place) - o.port; port = p }) h)
-    (λ xs b o h. h)
-
-pub variant_lasts : (s : Scope) (code : ℕ) → AreLast 0 (variant_build s code).instrs (variant_build s code).opened
-variant_lasts = variant_keeps Lasts refl
-    (λ xs b op o m r f h. subst (AreLast 0 (b.instrs ++ bare op o (slot_in b op) ∷ [])) (open_slot op b.holders b.opened)
-    (last_push 0 b.opened b.instrs (bare op o (slot_in b op)) h (later_slot op b.holders b.opened)))
-    (λ xs b o to p h. last_set 0 b.opened b.instrs (o.place + o.port) o.second (record { ahead = (to - o.place) - o.port; port = p }) h)
-    (λ xs b o h. h)
+    (λ s b o to p h. last_set 0 b.opened b.instrs (o.place + o.port) o.second (record { ahead = (to - o.place) - o.port; port = p }) h)
+    (λ s b o h. h) refl
 
 -- before the first open
 last_before : (last now : ℕ) (is : List Instr) (g : ℕ) (y : Instr) → AreLast last is now → slice_get is g ≡ Some y → is_later y.op ≡ true

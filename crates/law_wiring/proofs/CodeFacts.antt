@@ -1,27 +1,20 @@
 -- What is known of the code of a block: its build, its marks, and how its wiring is read.
-use Rattle.std.proofs.Common.{◌≡◌, ℕ, zero, suc, ◌+◌, ◌<◌, Bool, true, false, ◌&&◌, List, [], ◌∷◌, ◌++◌, length, refl, sym, ap, ◌∙◌, subst, arith}
-use Rattle.std.proofs.Common.{if◌then◌else◌, Some, None, Contains, ◌==◌}
+use Rattle.std.proofs.Common.{◌≡◌, ℕ, zero, suc, ◌+◌, Bool, true, false, ◌&&◌, List, [], ◌∷◌, ◌++◌, length, refl, sym, ap, ◌∙◌, subst, arith}
+use Rattle.std.proofs.Common.{if◌then◌else◌, Some, None, ◌==◌}
 use Rattle.std.specs.Prelude.{slice_get}
 use Rattle.std.proofs.lemmas.Bool.{eqb-true}
 use Rattle.std.proofs.lemmas.Option.{slice_get_within, slice_get_past, same_Some}
-use Rattle.lemmas.proofs.Alls.{all_at}
 use Rattle.lemmas.proofs.Bools.{equal_itself}
-use Rattle.semantics.specs.declared.program.Dest.{Dest}
 use Rattle.semantics.specs.declared.program.Mark.{Mark}
 use Rattle.semantics.specs.Graph.{Block, Flow, Graph, flow_of}
-use Rattle.semantics.specs.Text.{HasText}
 use Rattle.semantics.specs.WellFormed.{WellFormed}
 use Rattle.semantics.specs.Cause.{is_looped}
-use Rattle.semantics.specs.Program.{Instr, CodeBlock}
+use Rattle.semantics.specs.Program.{CodeBlock}
 use Rattle.semantics.specs.Plan.{OneHolder}
-use Rattle.code.specs.Sound.{DestsAreSound}
 use Rattle.schemas.specs.Variants.{variants_of, next_variant, some_block_loops}
 use Rattle.schemas.specs.Blocks.{Coded, plain_build, variant_build, finished}
 use Rattle.schemas.specs.Expanded.{Codes, with_code, no_codes, plain_code, variant_code, plain_codes, variant_codes, codes_of, expanded}
-use Rattle.law_wiring.specs.Shapes.{AreExact}
 use Rattle.law_wiring.proofs.ArcsLists.{length_push, get_new, get_old}
-use Rattle.law_wiring.proofs.ArcsLaws.{arcs_go_forward}
-use Rattle.law_wiring.proofs.ShapesPlans.{plans_are_exact}
 use Rattle.law_wiring.proofs.FactsCodes.{plain_at, variant_at}
 use Rattle.law_wiring.proofs.FactsWholes.{plans_hold_rightly}
 use Rattle.law_wiring.proofs.BoundsWholes.{same_looped}
@@ -33,7 +26,7 @@ use Rattle.law_wiring.specs.WrittenFit.{IsFit}
 use Rattle.law_wiring.proofs.LaidWhole.{site_build}
 use Rattle.law_wiring.proofs.LaidUsual.{HasTurns}
 use Rattle.law_wiring.proofs.PartsAgree.{read_parts}
-use Rattle.law_wiring.proofs.CodeCredits.{AreLast, plain_lasts, variant_lasts}
+use Rattle.law_wiring.proofs.CodeCredits.{AreLast, code_lasts}
 use Rattle.law_wiring.proofs.CodeCompose.{number_is, codes_are_there}
 use Rattle.law_wiring.proofs.Fed.{plain_well}
 
@@ -177,34 +170,21 @@ pub record IsCodeOf (fl : Flow) (s : Site) (c : CodeBlock) (fit : IsFit fl s.blo
   pub outputs : c.outputs ≡ s.block.outputs
   pub instrs : c.instrs ≡ (site_build fl s).instrs
   pub marks : slice_get (expanded fl).marks s.own ≡ Some (site_build fl s).marks
-  pub dests : (n : ℕ) (i : Instr) (d : Dest) → slice_get c.instrs n ≡ Some i → Contains (i.firsts ++ i.seconds) d
-      → (0 < d.ahead) × (n + d.ahead < length c.instrs)
-  pub exact : AreExact c
   pub holds : OneHolder c
   pub last : ℕ
   pub lasts : AreLast 0 c.instrs last
   pub wiring : wiring_of s.block (read_parts fl s fit turned s.turns) c.instrs ≡ (wires_of fl).wiring s.own
 
-module _ (g : Graph) (text : HasText g) (well : WellFormed g) (own : ℕ) (c : CodeBlock)
+module _ (g : Graph) (well : WellFormed g) (own : ℕ) (c : CodeBlock)
     (coded : slice_get (expanded (flow_of g)).program.blocks own ≡ Some c) where
-  code_dests : (n : ℕ) (i : Instr) (d : Dest) → slice_get c.instrs n ≡ Some i → Contains (i.firsts ++ i.seconds) d
-      → (0 < d.ahead) × (n + d.ahead < length c.instrs)
-  code_dests n i d e h =
-      let sound : DestsAreSound (expanded (flow_of g)) = (arcs_go_forward g text well).dests in
-      let x = (sound own n c d (record { i = i; block = coded; there = e; named = h })).dest in
-      (x.later, x.inside)
-
-  code_exact : AreExact c
-  code_exact = all_at AreExact (expanded (flow_of g)).program.blocks own c (plans_are_exact g well) coded
-
   code_holds : OneHolder c
   code_holds = (plans_hold_rightly (flow_of g) own c coded).holders
 
-pub plain_facts : (g : Graph) (text : HasText g) (well : WellFormed g) (i : ℕ) (b : Block ℕ) (c : CodeBlock) → slice_get (flow_of g).blocks i ≡ Some b
+pub plain_facts : (g : Graph) (well : WellFormed g) (i : ℕ) (b : Block ℕ) (c : CodeBlock) → slice_get (flow_of g).blocks i ≡ Some b
     → slice_get (expanded (flow_of g)).program.blocks i ≡ Some c
     → (fit : IsFit (flow_of g) b) → IsCodeOf (flow_of g) (plain_site b i) c fit (plain_well b i)
 unfolding plain_code plain_build finished
-plain_facts g text well i b c there coded fit =
+plain_facts g well i b c there coded fit =
     let fl : Flow = flow_of g in
     let code : Coded = plain_code fl.version fl.blocks (variants_of fl.blocks) i b in
     let same : code.code ≡ c = same_Some code.code c (sym (plain_at fl.version fl.blocks i b there) ∙ coded) in
@@ -213,11 +193,10 @@ plain_facts g text well i b c there coded fit =
       outputs = ap (λ (x : CodeBlock). x.outputs) (sym same);
       instrs = ap (λ (x : CodeBlock). x.instrs) (sym same);
       marks = marks_at fl.version fl.blocks i b there;
-      dests = code_dests g text well i c coded;
-      exact = code_exact g text well i c coded;
-      holds = code_holds g text well i c coded;
+      holds = code_holds g well i c coded;
       last = (plain_build (plain_scope fl i b)).opened;
-      lasts = subst (λ is. AreLast 0 is (plain_build (plain_scope fl i b)).opened) (ap (λ (x : CodeBlock). x.instrs) same) (plain_lasts (plain_scope fl i b));
+      lasts =
+          subst (λ is. AreLast 0 is (plain_build (plain_scope fl i b)).opened) (ap (λ (x : CodeBlock). x.instrs) same) (code_lasts (plain_scope fl i b) None);
       wiring = ap (λ o. wiring_of b (plain_parts (plain_scope fl i b)) (instrs_in o)) (sym coded) ∙ ap (wiring_from fl i) (sym there);
     }
 
@@ -247,33 +226,31 @@ module _ (fl : Flow) (i : ℕ) (b : Block ℕ) (looped : some_block_loops i fl.b
       none true f false h = refl
       none true f true h = let same = differ n f (eqb-true (variant_in fl n) its h) in absurd (omega (arith, same, at))
 
-pub turn_facts : (g : Graph) (text : HasText g) (well : WellFormed g) (i : ℕ) (b : Block ℕ) (c : CodeBlock) → slice_get (flow_of g).blocks i ≡ Some b
+pub turn_facts : (g : Graph) (well : WellFormed g) (i : ℕ) (b : Block ℕ) (c : CodeBlock) → slice_get (flow_of g).blocks i ≡ Some b
     → is_looped (flow_of g) i ≡ true
     → slice_get (expanded (flow_of g)).program.blocks (variant_in (flow_of g) i) ≡ Some c
     → (fit : IsFit (flow_of g) b) (turned : HasTurns (turn_site b i (variant_in (flow_of g) i)))
     → IsCodeOf (flow_of g) (turn_site b i (variant_in (flow_of g) i)) c fit turned
 unfolding variant_code variant_build finished
-turn_facts g text well i b c there looped coded fit turned =
+turn_facts g well i b c there looped coded fit turned =
     let fl : Flow = flow_of g in
     let own : ℕ = variant_in fl i in
     let loops : some_block_loops i fl.blocks ≡ true = same_looped fl i ∙ looped in
     let code : Coded = variant_code fl.version fl.blocks (variants_of fl.blocks) i b in
     let same : code.code ≡ c = same_Some code.code c (sym (variant_at fl.version fl.blocks i b there loops) ∙ coded) in
-    let codes = codes_are_there g text well in
+    let codes = codes_are_there g well in
     let past : slice_get fl.blocks own ≡ None = slice_get_past fl.blocks own (codes.others i b there looped) in
     let zeroless : 0 + i ≡ i = omega arith in
     record {
       inputs = ap (λ (x : CodeBlock). x.inputs) (sym same);
       outputs = ap (λ (x : CodeBlock). x.outputs) (sym same);
       instrs = ap (λ (x : CodeBlock). x.instrs) (sym same);
-      marks = turn_marks_at fl i b there loops (number_is g text well i (slice_get_within fl.blocks i b there));
-      dests = code_dests g text well own c coded;
-      exact = code_exact g text well own c coded;
-      holds = code_holds g text well own c coded;
+      marks = turn_marks_at fl i b there loops (number_is g well i (slice_get_within fl.blocks i b there));
+      holds = code_holds g well own c coded;
       last = (variant_build (turn_scope fl i b) own).opened;
       lasts =
           subst (λ is. AreLast 0 is (variant_build (turn_scope fl i b) own).opened) (ap (λ (x : CodeBlock). x.instrs) same)
-          (variant_lasts (turn_scope fl i b) own);
+          (code_lasts (turn_scope fl i b) (Some own));
       wiring = ap (λ o. wiring_of b (variant_parts (turn_scope fl i b) own) (instrs_in o)) (sym coded)
           ∙ sym (found fl i b loops (λ j l e. codes.differ j i (sym (same_looped fl j) ∙ l) looped e) 0 i fl.blocks there zeroless)
           ∙ ap (wiring_from fl own) (sym past);

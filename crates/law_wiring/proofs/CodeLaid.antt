@@ -310,13 +310,13 @@ module _ (fl : Flow) (S : Site) (c : CodeBlock) (fit : IsFit fl S.block) (turned
 pub plain_code_is_written : PlainCodeIsWritten
 plain_code_is_written g text well i b c there coded fit =
     let turned = plain_well b i in
-    let facts = plain_facts g text well i b c there coded fit in
+    let facts = plain_facts g well i b c there coded fit in
     record { written = site_is_written (flow_of g) (plain_site b i) c fit turned facts; laid = site_is_laid (flow_of g) (plain_site b i) c fit turned facts }
 
 -- and so is that of a turn
 pub turn_code_is_written : TurnCodeIsWritten
 turn_code_is_written g text well i b c there looped coded fit =
     let turned = turns_well (flow_of g) (λ j d e. blocks_fit g well j d e) i b there looped (variant_in (flow_of g) i) in
-    let facts = turn_facts g text well i b c there looped coded fit turned in
+    let facts = turn_facts g well i b c there looped coded fit turned in
     let s : Site = turn_site b i (variant_in (flow_of g) i) in
     record { written = site_is_written (flow_of g) s c fit turned facts; laid = site_is_laid (flow_of g) s c fit turned facts }

@@ -1,12 +1,11 @@
 -- The code of a plain block is laid out by the parts and the wires that are written down.
-use Rattle.std.proofs.Common.{◌≡◌, ℕ, ◌+◌, ◌-◌, ◌<◌, ◌⊎◌, inl, inr, Bool, true, false, not, ◌||◌, List, [], ◌∷◌, ◌++◌, map, length, refl, sym, ap, ◌∙◌, subst}
-use Rattle.std.proofs.Common.{arith, if◌then◌else◌, Some, None, Option, Contains, nat_lt}
+use Rattle.std.proofs.Common.{◌≡◌, ℕ, ◌+◌, ◌-◌, ◌<◌, ◌≤◌, ◌⊎◌, inl, inr, Bool, true, false, not, ◌||◌, List, [], ◌∷◌, ◌++◌, map, length, refl, sym}
+use Rattle.std.proofs.Common.{ap, ◌∙◌, subst, arith, if◌then◌else◌, Some, None, Option, Contains, nat_lt}
 use Rattle.std.specs.Prelude.{slice_get, count_by}
-use Rattle.std.proofs.lemmas.List.Elements.{Contains-append_left, Contains-append_right}
+use Rattle.std.proofs.lemmas.List.Elements.{Contains-append_left, Contains-append_right, Contains-append_cases}
 use Rattle.std.proofs.lemmas.Bool.{lt-ltb, ltb-true}
 use Rattle.std.proofs.lemmas.List.{nil_from_length}
 use Rattle.std.proofs.lemmas.Option.{slice_get_within}
-use Rattle.lemmas.proofs.Alls.{all_at}
 use Rattle.lemmas.proofs.Contains.{contains_cases, contains_head, contains_tail, contains_none}
 use Rattle.lemmas.proofs.SliceGet.{get_some}
 use Rattle.tags.specs.declared.token.Port.TheVariants.{Left}
@@ -17,7 +16,6 @@ use Rattle.semantics.specs.Graph.{Node, Block, Flow, node_at}
 use Rattle.semantics.specs.Program.{Instr, CodeBlock}
 use Rattle.semantics.specs.Plan.{is_credit, is_open}
 use Rattle.semantics.specs.Rule.{slot_of}
-use Rattle.law_wiring.specs.Shapes.{HasExactShape}
 use Rattle.law_net.specs.ContextsParts as Parts
 use Rattle.law_net.specs.ContextsParts.{Part, Entry, Line, Trigger, Gate, Opener, Framer, Fanned, Linker, Landing, Giver, Taker, Drainer, LoopDone, Result}
 use Rattle.law_net.specs.ContextsParts.{Join, CondEnd, Inlet, inlet, same_part}
@@ -27,12 +25,13 @@ use Rattle.law_net.specs.ContextsWires.{answered_at, has_no_wire, holds_own, lea
 use Rattle.law_net.specs.ContextsExpanded.{wiring_of, variant_in, has_part, place_from, dests_on, inlet_by}
 use Rattle.law_wiring.specs.Written.{Wire, wire, along, parts_in, wires_in}
 use Rattle.law_wiring.specs.WrittenFit.{IsFit}
-use Rattle.law_wiring.proofs.Laid.{Env, IsLaid, IsAt, goes, dest}
+use Rattle.law_wiring.proofs.Laid.{Env, IsLaid, IsAt, goes, dest, goes_ahead}
 use Rattle.law_wiring.proofs.PartsStanding.{Stand}
 use Rattle.law_wiring.proofs.LaidNodes.{env}
 use Rattle.law_wiring.proofs.LaidWhole.{site_build, whole_laid}
 use Rattle.law_wiring.proofs.LaidUsual.{HasTurns}
 use Rattle.law_wiring.proofs.CodeFacts.{IsCodeOf}
+use Rattle.law_wiring.proofs.Fed.{no_wire_leaves}
 use Rattle.law_wiring.proofs.PartsCounts.{count_is}
 use Rattle.law_wiring.proofs.PartsOnce.{there_is, stands}
 use Rattle.law_wiring.proofs.PartsAgree.{apart}
@@ -40,7 +39,7 @@ use Rattle.law_wiring.proofs.LaidArcs.{arcs_in}
 use Rattle.law_wiring.proofs.LaidArcsSame.{arcs_agree}
 use Rattle.law_wiring.proofs.LaidArcsMore as More
 use Rattle.law_wiring.proofs.LaidArcsMore.{size_goes, no_size, some_size, goes_there, answer_arcs, frame_arc, link_arc, give_arc, drain_arc, ask_arc, fan_arc}
-use Rattle.law_wiring.proofs.LaidArcsMore.{arcs_mixed, invoke_there, loop_there, turn_there}
+use Rattle.law_wiring.proofs.LaidArcsMore.{answers, arcs_of_answers, arcs_mixed, invoke_there, loop_there, turn_there}
 use Rattle.law_wiring.proofs.PartsPlaces.{at_place, place_bounded, tally_there, AllDests, all_dests, dests_stand, dests_along}
 
 -- PARTS OF SUCH A BLOCK
@@ -174,31 +173,25 @@ module _ (fl : Flow) (S : Site) (c : CodeBlock) (fit : IsFit fl S.block) (turned
 
   -- DESTINATIONS
   inside : (n : ℕ) (i : Instr) (d : Dest) → slice_get c.instrs n ≡ Some i → Contains (i.firsts ++ i.seconds) d → (0 < d.ahead) × (n + d.ahead < length P)
-  inside n i d e h = let x = facts.dests n i d e h in let low = x.1 in let s = size in (x.0, omega (arith, low, s))
+  inside n i d e h =
+      let l = slice_get_within c.instrs n i e in
+      let s = size in
+      let r = get_some P n (omega (arith, l, s)) in
+      let here = laid.instrs n r.0 i r.1 (ap (λ is. slice_get is n) (sym facts.instrs) ∙ e) in
+      go r.0 (laid.placed n r.0 r.1) here (Contains-append_cases i.firsts i.seconds d h)
+    where
+      ahead : (r : Part) (s : Bool) → at r ≡ n → Contains (goes it (side r s) (arcs_in fl S)) d → (0 < d.ahead) × (n + d.ahead < length P)
+      ahead r s p k = let x = goes_ahead it (side r s) (arcs_in fl S) (length P) d laid.ahead k in let low = x.1 in (x.0, omega (arith, low, p))
+
+      go : (r : Part) → at r ≡ n → IsAt it (arcs_in fl S) r i → Contains i.firsts d ⊎ Contains i.seconds d → (0 < d.ahead) × (n + d.ahead < length P)
+      go r p here (inl k) = ahead r false p (subst (λ ds. Contains ds d) here.firsts k)
+      go r p here (inr k) = ahead r true p (subst (λ ds. Contains ds d) here.seconds k)
 
   firsts_inside : (n : ℕ) (i : Instr) → slice_get c.instrs n ≡ Some i → AllDests (length P) n i.firsts
   firsts_inside n i e = all_dests (length P) n i.firsts (λ d h. inside n i d e (Contains-append_left i.firsts i.seconds d h))
 
   seconds_inside : (n : ℕ) (i : Instr) → slice_get c.instrs n ≡ Some i → AllDests (length P) n i.seconds
   seconds_inside n i e = all_dests (length P) n i.seconds (λ d h. inside n i d e (Contains-append_right i.firsts i.seconds d h))
-
-  -- where no wire leaves, there is one destination if the machine answers, and else none
-  exact_at : (r : Part) → IsThere r → has_no_wire r ≡ true → (m n : ℕ) → HasExactShape (op_of (variant_in fl) S r) m n → (m ≡ length (answered_at r)) × (n ≡ 0)
-  exact_at (Framer k) t h m n x = x
-  exact_at (Linker k) t h m n x = x
-  exact_at (Giver k) t h m n x = x
-  exact_at (Drainer k) t h m n x = x
-  exact_at (Taker k) t h m n x = x
-  exact_at Parts.End t h m n x = x
-  exact_at Parts.NextFramer t h m n x = x
-  exact_at Parts.Asker t h m n x = x
-  exact_at r t h m n x = absurd (cc)
-
-  exact_is : (r : Part) (i : Instr) → IsThere r → has_no_wire r ≡ true → slice_get c.instrs (at r) ≡ Some i → i.op ≡ op_of (variant_in fl) S r
-      → (length i.firsts ≡ length (answered_at r)) × (length i.seconds ≡ 0)
-  exact_is r i t h e op =
-      let here = all_at (λ (j : Instr). HasExactShape j.op (length j.firsts) (length j.seconds)) c.instrs (at r) i facts.exact e in
-      exact_at r t h (length i.firsts) (length i.seconds) (subst (λ o. HasExactShape o (length i.firsts) (length i.seconds)) op here)
 
   abbrev pub dests_of : Instr → Bool → List Dest
   dests_of i true = i.seconds
@@ -269,26 +262,26 @@ module _ (fl : Flow) (S : Site) (c : CodeBlock) (fit : IsFit fl S.block) (turned
   no_answers Parts.Asker h = inr (inlet Parts.NextFramer Left 0, refl)
   no_answers r h = inl refl
 
-  -- no wire that is written down leaves there
-  none_leaves : (r : Part) (s : Bool) (i : Instr) → IsThere r → has_no_wire r ≡ true → slice_get c.instrs (at r) ≡ Some i → IsAt it (arcs_in fl S) r i
-      → along b (side r s) (wires_in fl S) ≡ []
-  none_leaves r s i h n e x = no_size b (side r s) (wires_in fl S) (by_side s)
-    where
-      all : (s : Bool) → length (dests_of i s) ≡ More.size (side r s) (wires_in fl S) + More.size (side r s) (answer_arcs S)
-      all s = ap (λ (ds : List Dest). length ds) (dests_go r i s x) ∙ size_goes it (side r s) (arcs_in fl S) ∙ (arcs_mixed S fl).counts (side r s)
+  -- no wire that is written down leaves there, and there is one destination if the machine answers, and else none
+  arcs_at : (r : Part) (s : Bool) → has_no_wire r ≡ true
+      → (More.size (side r s) (arcs_in fl S) ≤ answers r s) × (More.size (side r s) (wires_in fl S) ≡ 0)
+  arcs_at r s n = arcs_of_answers fl S r s (no_wire_leaves fl S fit turned (side r s) (inr n)) n
 
-      by_side : (s : Bool) → More.size (side r s) (wires_in fl S) ≡ 0
-      by_side true = let a = all true in let l = (exact_is r i h n e x.op).1 in omega (arith, a, l)
-      by_side false = go (no_answers r n)
-        where
-          go : (answered_at r ≡ []) ⊎ ((y : Inlet) × (answered_at r ≡ y ∷ [])) → More.size (side r false) (wires_in fl S) ≡ 0
-          go (inl none) = let a = all false in let l = (exact_is r i h n e x.op).0 in let z = ap (λ (xs : List Inlet). length xs) none in omega (arith, a, l, z)
-          go (inr y) =
-              let a = all false in
-              let l = (exact_is r i h n e x.op).0 in
-              let z = ap (λ (xs : List Inlet). length xs) y.1 in
-              let some = some_size (answer_arc r y.0) (answer_arcs S) (answers_there r y.0 h y.1) in
-              omega (arith, a, l, z, some)
+  exact_is : (r : Part) (i : Instr) → IsThere r → has_no_wire r ≡ true → IsAt it (arcs_in fl S) r i
+      → (length i.firsts ≡ length (answered_at r)) × (length i.seconds ≡ 0)
+  exact_is r i h n x = (firsts (no_answers r n), let a = (arcs_at r true n).0 in let l = sizes true in omega (arith, a, l))
+    where
+      sizes : (s : Bool) → length (dests_of i s) ≡ More.size (side r s) (arcs_in fl S)
+      sizes s = ap (λ (ds : List Dest). length ds) (dests_go r i s x) ∙ size_goes it (side r s) (arcs_in fl S)
+
+      firsts : (answered_at r ≡ []) ⊎ ((y : Inlet) × (answered_at r ≡ y ∷ [])) → length i.firsts ≡ length (answered_at r)
+      firsts (inl none) = let a = (arcs_at r false n).0 in let l = sizes false in let z = ap (λ (ys : List Inlet). length ys) none in omega (arith, a, l, z)
+      firsts (inr y) =
+          let a = (arcs_at r false n).0 in
+          let l = sizes false in
+          let z = ap (λ (ys : List Inlet). length ys) y.1 in
+          let some = some_size (answer_arc r y.0) (arcs_in fl S) ((arcs_mixed S fl).has (answer_arc r y.0) (answers_there r y.0 h y.1)) in
+          omega (arith, a, l, z, some)
 
   pub wire_is : (r : Part) (s : Bool) → IsThere r → w.wire (side r s) ≡ along b (side r s) (wires_in fl S)
   wire_is r s h = go (has_no_wire r) refl (instr_of r h)
@@ -299,7 +292,7 @@ module _ (fl : Flow) (S : Site) (c : CodeBlock) (fit : IsFit fl S.block) (turned
           let d = wires_go r x.0 s n x.2 in
           read_is r s x.0 h x.1 n ∙ ap (map (inlet_by P (leaves_in b r s) (at r))) d
           ∙ dests_along P placed b it (side r s) (wires_in fl S) (λ q. refl) (subst (AllDests (length P) (at r)) d (dests_inside (at r) x.0 s x.1))
-      go true n x = read_none r s n ∙ sym (none_leaves r s x.0 h n x.1 x.2)
+      go true n x = read_none r s n ∙ sym (no_size b (side r s) (wires_in fl S) (arcs_at r s n).1)
 
   -- and its destinations are these wires, and where the machine answers
   pub dests_are_wires : (r : Part) (s : Bool) (i : Instr) → IsThere r → has_no_wire r ≡ false → slice_get c.instrs (at r) ≡ Some i → IsAt it (arcs_in fl S) r i
@@ -312,7 +305,7 @@ module _ (fl : Flow) (S : Site) (c : CodeBlock) (fit : IsFit fl S.block) (turned
   answer_dest : (r : Part) (i : Instr) (y : Inlet) → IsThere r → has_no_wire r ≡ true → slice_get c.instrs (at r) ≡ Some i → IsAt it (arcs_in fl S) r i
       → answered_at r ≡ y ∷ [] → i.firsts ≡ dest it (answer_arc r y) ∷ []
   answer_dest r i y h n e x q =
-      let l = (exact_is r i h n e x.op).0 ∙ ap (λ (xs : List Inlet). length xs) q in
+      let l = (exact_is r i h n x).0 ∙ ap (λ (xs : List Inlet). length xs) q in
       let there = goes_there it (answer_arc r y) (arcs_in fl S) ((arcs_mixed S fl).has (answer_arc r y) (answers_there r y h q)) in
       single i.firsts (dest it (answer_arc r y)) l (subst (λ ds. Contains ds (dest it (answer_arc r y))) (sym x.firsts) there)
     where
@@ -343,7 +336,7 @@ module _ (fl : Flow) (S : Site) (c : CodeBlock) (fit : IsFit fl S.block) (turned
           by_answer : (answered_at r ≡ []) ⊎ ((y : Inlet) × (answered_at r ≡ y ∷ []))
               → map (leads_to (at r)) i.firsts ≡ map (stands_at w) (answered_at r ++ w.wire (side r false))
           by_answer (inl none) =
-              let l = (exact_is r i h n e x.op).0 ∙ ap (λ (xs : List Inlet). length xs) none in
+              let l = (exact_is r i h n x).0 ∙ ap (λ (xs : List Inlet). length xs) none in
               ap (map (leads_to (at r))) (nil_from_length i.firsts l)
               ∙ sym (ap (λ xs. map (stands_at w) (xs ++ w.wire (side r false))) none ∙ ap (map (stands_at w)) (read_none r false n))
           by_answer (inr y) =
@@ -359,4 +352,4 @@ module _ (fl : Flow) (S : Site) (c : CodeBlock) (fit : IsFit fl S.block) (turned
     where
       go : (t : Bool) → has_no_wire r ≡ t → map (leads_to (at r)) i.seconds ≡ map (stands_at w) (w.wire (side r true))
       go false n = dests_are_wires r true i h n e x
-      go true n = ap (map (leads_to (at r))) (nil_from_length i.seconds (exact_is r i h n e x.op).1) ∙ sym (ap (map (stands_at w)) (read_none r true n))
+      go true n = ap (map (leads_to (at r))) (nil_from_length i.seconds (exact_is r i h n x).1) ∙ sym (ap (map (stands_at w)) (read_none r true n))

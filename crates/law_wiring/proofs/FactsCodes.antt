@@ -13,7 +13,7 @@ use Rattle.semantics.specs.Program.{CodeBlock}
 use Rattle.schemas.specs.Blocks.{Coded, variant_of}
 use Rattle.schemas.specs.Variants.{loops_to, some_node_loops, some_block_loops, next_variant, variants_from, variants_of}
 use Rattle.schemas.specs.Expanded.{Codes, with_code, no_codes, plain_code, variant_code, plain_codes, variant_codes, codes_of}
-use Rattle.law_wiring.proofs.ShapesStates.{get_left, get_right}
+use Rattle.law_wiring.proofs.ArcsLists.{get_left, get_right}
 
 -- LISTS
 -- WHICH LOOPS

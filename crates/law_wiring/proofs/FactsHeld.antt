@@ -13,7 +13,7 @@ use Rattle.semantics.specs.Wired.{LoopsAgree, part_of, bound_of}
 use Rattle.schemas.specs.Builds.{takes_holder}
 use Rattle.law_wiring.specs.Facts.{HoldsRightly}
 use Rattle.law_wiring.proofs.FactsHeads.{same_at, head, heads}
-use Rattle.law_wiring.proofs.FactsSteps.{Idle}
+use Rattle.law_wiring.proofs.KeepingSteps.{Stage}
 use Rattle.law_wiring.proofs.FactsHolders.{is_later, is_later_part, holder_first, Held, OpenAt}
 
 -- OPERATIONS. What uses a slot has a holder of its own, or that of its loop.
@@ -87,7 +87,7 @@ both_false : (s t : Bool) → t ≡ false → s && t ≡ false
 both_false true t e = e
 both_false false t e = refl
 
-module _ (c : CodeBlock) (opened : ℕ) (held : Held Idle (heads c.instrs) c.slots opened) where
+module _ (c : CodeBlock) (stage : Stage) (opened : ℕ) (held : Held stage (heads c.instrs) c.slots opened) where
   up : (n : ℕ) (i : Instr) → slice_get c.instrs n ≡ Some i → slice_get (heads c.instrs) n ≡ Some (head i)
   up n i e = map_get head c.instrs n i e
 

@@ -16,7 +16,7 @@ use Rattle.semantics.specs.Wired.{LoopPart, Takes, Gives, Drains, NoPart, part_o
 use Rattle.schemas.specs.declared.builder.Outlet.{Outlet}
 use Rattle.schemas.specs.Builds.{Build, nothing, takes_holder, bare, slot_in, added, connected}
 use Rattle.law_wiring.proofs.FactsHeads.{push_cases, push_old, heads, heads_connected, heads_added}
-use Rattle.law_wiring.proofs.FactsSteps.{Stage, Idle, Opening, Giving, Taking, Step, Plain, Opened, Given, Taken, Drained}
+use Rattle.law_wiring.proofs.KeepingSteps.{Stage, Idle, Opening, Giving, Taking, Step, Plain, Opened, Given, Taken, Drained}
 use Rattle.law_wiring.proofs.ArcsLists.{get_new}
 
 -- OPERATIONS. `take`, `give` and `drain` have the holder of their loop.
@@ -82,10 +82,10 @@ abbrev pub Fresh : List Instr → ℕ → LoopPart → Type 0
 Fresh hs slot p = (n : ℕ) (j : Instr) → slice_get hs n ≡ Some j → j.slot ≡ slot → part_of j.op ≡ p → ⊥
 
 abbrev AtStage : Stage → List Instr → ℕ → Type 0
-AtStage Idle hs slot = ⊤
-AtStage (Opening k) hs slot = OpenAt hs k slot × Fresh hs slot (Gives k) × Fresh hs slot (Takes k) × Fresh hs slot (Drains k)
-AtStage (Giving k) hs slot = OpenAt hs k slot × Fresh hs slot (Takes k) × Fresh hs slot (Drains k)
-AtStage (Taking k) hs slot = OpenAt hs k slot × Fresh hs slot (Drains k)
+AtStage (Idle xs) hs slot = ⊤
+AtStage (Opening xs k) hs slot = OpenAt hs k slot × Fresh hs slot (Gives k) × Fresh hs slot (Takes k) × Fresh hs slot (Drains k)
+AtStage (Giving xs k) hs slot = OpenAt hs k slot × Fresh hs slot (Takes k) × Fresh hs slot (Drains k)
+AtStage (Taking xs k) hs slot = OpenAt hs k slot × Fresh hs slot (Drains k)
 
 pub record Held (s : Stage) (hs : List Instr) (holders opened : ℕ) : Type 0 where
   pub below : (n : ℕ) (j : Instr) → slice_get hs n ≡ Some j → takes_holder j.op ≡ true → j.slot < holders
@@ -109,15 +109,16 @@ fresh_push hs x slot p h f n j e = go (push_cases hs x j n e)
     go (inr a) s q = f (ap (λ (y : Instr). part_of y.op) a.1 ∙ q)
 
 stage_push : (s : Stage) (hs : List Instr) (x : Instr) (slot : ℕ) → part_of x.op ≡ NoPart → AtStage s hs slot → AtStage s (hs ++ x ∷ []) slot
-stage_push Idle hs x slot e h = tt
-stage_push (Opening k) hs x slot e h = (
+stage_push (Idle xs) hs x slot e h = tt
+stage_push (Opening xs k) hs x slot e h = (
   open_push hs x k slot h.0,
   fresh_push hs x slot (Gives k) h.1 (λ f. cc),
   fresh_push hs x slot (Takes k) h.2 (λ f. cc),
   fresh_push hs x slot (Drains k) h.3 (λ f. cc),
 )
-stage_push (Giving k) hs x slot e h = (open_push hs x k slot h.0, fresh_push hs x slot (Takes k) h.1 (λ f. cc), fresh_push hs x slot (Drains k) h.2 (λ f. cc))
-stage_push (Taking k) hs x slot e h = (open_push hs x k slot h.0, fresh_push hs x slot (Drains k) h.1 (λ f. cc))
+stage_push (Giving xs k) hs x slot e h =
+    (open_push hs x k slot h.0, fresh_push hs x slot (Takes k) h.1 (λ f. cc), fresh_push hs x slot (Drains k) h.2 (λ f. cc))
+stage_push (Taking xs k) hs x slot e h = (open_push hs x k slot h.0, fresh_push hs x slot (Drains k) h.1 (λ f. cc))
 
 -- what is kept of the part of a loop that an instruction may be
 abbrev Later : List Instr → Instr → Type 0
@@ -233,11 +234,11 @@ adds_plain s hs holders opened op o e h = go (takes_holder op) refl
         other_push s s hs (bare op o slot) holders opened h f (λ l. let none : is_later op ≡ false = ap is_later_part e in absurd (cc))
         (stage_push s hs (bare op o slot) opened e h.stage)
 
-adds_open : (hs : List Instr) (holders opened k : ℕ) (o : Origin) → Held Idle hs holders opened
-    → Held (Opening k) (hs ++ bare (Open k) o holders ∷ []) (holders + 1) holders
-adds_open hs holders opened k o h =
+adds_open : (xs : List ℕ) (hs : List Instr) (holders opened k : ℕ) (o : Origin) → Held (Idle xs) hs holders opened
+    → Held (Opening xs k) (hs ++ bare (Open k) o holders ∷ []) (holders + 1) holders
+adds_open xs hs holders opened k o h =
     let x : Instr = bare (Open k) o holders in
-    holder_push Idle (Opening k) hs x holders opened holders h refl refl (
+    holder_push (Idle xs) (Opening xs k) hs x holders opened holders h refl refl (
       (length hs, x, get_new hs x, refl, refl),
       fresh_push hs x holders (Gives k) (no_such (Gives k) refl) (λ f. cc),
       fresh_push hs x holders (Takes k) (no_such (Takes k) refl) (λ f. cc),
@@ -251,28 +252,28 @@ adds_open hs holders opened k o h =
         let at = t.4 in
         absurd (omega (arith, b, at, s))
 
-adds_give : (hs : List Instr) (holders opened k : ℕ) (o : Origin) → Held (Opening k) hs holders opened
-    → Held (Giving k) (hs ++ bare (Give k) o opened ∷ []) holders opened
-adds_give hs holders opened k o h =
+adds_give : (xs : List ℕ) (hs : List Instr) (holders opened k : ℕ) (o : Origin) → Held (Opening xs k) hs holders opened
+    → Held (Giving xs k) (hs ++ bare (Give k) o opened ∷ []) holders opened
+adds_give xs hs holders opened k o h =
     let x : Instr = bare (Give k) o opened in
     let at = h.stage in
-    other_push (Opening k) (Giving k) hs x holders opened h refl (λ l. (at.0, at.1))
+    other_push (Opening xs k) (Giving xs k) hs x holders opened h refl (λ l. (at.0, at.1))
     (open_push hs x k opened at.0, fresh_push hs x opened (Takes k) at.2 (λ f. cc), fresh_push hs x opened (Drains k) at.3 (λ f. cc))
 
-adds_take : (hs : List Instr) (holders opened k : ℕ) (o : Origin) → Held (Giving k) hs holders opened
-    → Held (Taking k) (hs ++ bare (Take k) o opened ∷ []) holders opened
-adds_take hs holders opened k o h =
+adds_take : (xs : List ℕ) (hs : List Instr) (holders opened k : ℕ) (o : Origin) → Held (Giving xs k) hs holders opened
+    → Held (Taking xs k) (hs ++ bare (Take k) o opened ∷ []) holders opened
+adds_take xs hs holders opened k o h =
     let x : Instr = bare (Take k) o opened in
     let at = h.stage in
-    other_push (Giving k) (Taking k) hs x holders opened h refl (λ l. (at.0, at.1))
+    other_push (Giving xs k) (Taking xs k) hs x holders opened h refl (λ l. (at.0, at.1))
     (open_push hs x k opened at.0, fresh_push hs x opened (Drains k) at.2 (λ f. cc))
 
-adds_drain : (hs : List Instr) (holders opened k : ℕ) (o : Origin) → Held (Taking k) hs holders opened
-    → Held Idle (hs ++ bare (Drain k) o opened ∷ []) holders opened
-adds_drain hs holders opened k o h =
+adds_drain : (xs : List ℕ) (hs : List Instr) (holders opened k : ℕ) (o : Origin) → Held (Taking xs k) hs holders opened
+    → Held (Idle (xs ++ k ∷ [])) (hs ++ bare (Drain k) o opened ∷ []) holders opened
+adds_drain xs hs holders opened k o h =
     let x : Instr = bare (Drain k) o opened in
     let at = h.stage in
-    other_push (Taking k) Idle hs x holders opened h refl (λ l. (at.0, at.1)) tt
+    other_push (Taking xs k) (Idle (xs ++ k ∷ [])) hs x holders opened h refl (λ l. (at.0, at.1)) tt
 
 -- what is added to the heads
 abbrev Added : Stage → Build → Op → Origin → Type 0
@@ -284,18 +285,18 @@ step_keeps s t b op o (Plain part same) h =
     subst (λ u. Held t (heads b.instrs ++ bare op o (slot_in b op) ∷ []) (if takes_holder op then b.holders + 1 else b.holders)
     (if u then b.holders else b.opened)) (sym (no_open op part))
     (adds_plain t (heads b.instrs) b.holders b.opened op o part (subst (λ u. Holds u b) same h))
-step_keeps s t b op o (Opened k part before after) h =
+step_keeps s t b op o (Opened xs k part before after) h =
     subst (λ u. Added u b op o) (sym after)
-    (subst (λ x. Added (Opening k) b x o) (sym part) (adds_open (heads b.instrs) b.holders b.opened k o (subst (λ u. Holds u b) before h)))
-step_keeps s t b op o (Given k part before after) h =
+    (subst (λ x. Added (Opening xs k) b x o) (sym part) (adds_open xs (heads b.instrs) b.holders b.opened k o (subst (λ u. Holds u b) before h)))
+step_keeps s t b op o (Given xs k part before after) h =
     subst (λ u. Added u b op o) (sym after)
-    (subst (λ x. Added (Giving k) b x o) (sym part) (adds_give (heads b.instrs) b.holders b.opened k o (subst (λ u. Holds u b) before h)))
-step_keeps s t b op o (Taken k part before after) h =
+    (subst (λ x. Added (Giving xs k) b x o) (sym part) (adds_give xs (heads b.instrs) b.holders b.opened k o (subst (λ u. Holds u b) before h)))
+step_keeps s t b op o (Taken xs k part before after) h =
     subst (λ u. Added u b op o) (sym after)
-    (subst (λ x. Added (Taking k) b x o) (sym part) (adds_take (heads b.instrs) b.holders b.opened k o (subst (λ u. Holds u b) before h)))
-step_keeps s t b op o (Drained k part before after) h =
+    (subst (λ x. Added (Taking xs k) b x o) (sym part) (adds_take xs (heads b.instrs) b.holders b.opened k o (subst (λ u. Holds u b) before h)))
+step_keeps s t b op o (Drained xs k part before after) h =
     subst (λ u. Added u b op o) (sym after)
-    (subst (λ x. Added Idle b x o) (sym part) (adds_drain (heads b.instrs) b.holders b.opened k o (subst (λ u. Holds u b) before h)))
+    (subst (λ x. Added (Idle (xs ++ k ∷ [])) b x o) (sym part) (adds_drain xs (heads b.instrs) b.holders b.opened k o (subst (λ u. Holds u b) before h)))
 
 pub adds_hold : (s t : Stage) (b : Build) (op : Op) (o : Origin) (m : Mark) (r : Region) → Step s op t → Holds s b → Holds t (added b op o m r)
 adds_hold s t b op o m r e h =
@@ -306,7 +307,7 @@ adds_hold s t b op o m r e h =
 pub links_hold : (s : Stage) (b : Build) (o : Outlet) (to : ℕ) (p : Port) → Holds s b → Holds s (connected b o to p)
 links_hold s b o to p h = subst (λ hs. Held s hs b.holders b.opened) (sym (heads_connected b.instrs o to p)) h
 
-pub begins : Holds Idle nothing
+pub begins : Holds (Idle []) nothing
 begins = record {
   below = λ n j e p. absurd (cc);
   first = λ m n i j e f p q r. absurd (cc);

@@ -1,6 +1,6 @@
 -- What the instructions of a plan name is there.
-use Rattle.std.proofs.Common.{◌≡◌, ℕ, zero, suc, ◌+◌, ◌<◌, ◌≤◌, ◌⊎◌, Bool, true, false, List, length, refl, sym, ap, ◌∙◌, subst, arith, inl, inr, Some, nat_lt}
-use Rattle.std.proofs.Common.{if◌then◌else◌}
+use Rattle.std.proofs.Common.{◌≡◌, ℕ, zero, suc, ◌+◌, ◌<◌, ◌≤◌, ◌⊎◌, Bool, true, false, List, [], length, refl, sym, ap, ◌∙◌, subst, arith}
+use Rattle.std.proofs.Common.{inl, inr, Option, Some, None, nat_lt, if◌then◌else◌}
 use Rattle.std.specs.Prelude.{slice_get, slice_index_or}
 use Rattle.std.proofs.lemmas.List.{length_push, length-set}
 use Rattle.std.proofs.lemmas.Option.{slice_get_within}
@@ -16,17 +16,19 @@ use Rattle.semantics.specs.declared.program.Mark.{Mark}
 use Rattle.semantics.specs.declared.program.Op.{Op}
 use Rattle.semantics.specs.Graph.{Node, Block, Flow, node_count}
 use Rattle.semantics.specs.Meaning.{origin_in}
+use Rattle.semantics.specs.Cause.{loop_bounds}
 use Rattle.semantics.specs.Program.{Instr, CodeBlock, Program}
 use Rattle.code.specs.Sound.{NamesRightly, IsPlace}
 use Rattle.schemas.specs.declared.builder.Outlet.{Outlet}
 use Rattle.schemas.specs.Builds.{Build, nothing, bare, slot_in, added, quieted, connected, with_dest, no_instr, dest_of}
 use Rattle.schemas.specs.Scopes.{Scope}
 use Rattle.schemas.specs.Variants.{some_block_loops, variants_of}
-use Rattle.schemas.specs.Blocks.{entries, with_inputs, plain_build, variant_build, variant_of}
+use Rattle.schemas.specs.Blocks.{entries, with_inputs, variant_of, code_of}
 use Rattle.schemas.specs.Expanded.{scope_of, plain_code, variant_code, expanded}
+use Rattle.law_wiring.specs.BoundsKeeping.{Fits}
 use Rattle.law_wiring.specs.Facts.{NamesAndComesRightly, NamesBlockRightly, NamesAllRightly}
 use Rattle.law_wiring.proofs.FactsHeads.{push_cases, same_at, head, heads, heads_connected, heads_added}
-use Rattle.law_wiring.proofs.FactsSteps.{Stage, Idle, Step, Basics, Invokes, AllowsKind, Allows, entries_keep, plain_keeps, variant_keeps}
+use Rattle.law_wiring.proofs.KeepingSteps.{Stage, Idle, Step, Basics, Invokes, AllowsKind, Allows, SendsOn, code_build, entries_keep, code_keeps}
 use Rattle.law_wiring.proofs.FactsFlows.{Takes, Turns, KindFits, BlockFits, FlowFits}
 use Rattle.law_wiring.proofs.FactsCodes.{all_codes, code_cases, plain_at, variant_at, codes_count, is_looped, some_loop}
 
@@ -48,9 +50,9 @@ basics p = record {
 abbrev Names : Program → Stage → Build → Type 0
 Names p s b = (n : ℕ) (x : Instr) → slice_get (heads b.instrs) n ≡ Some x → NamesAndComesRightly p x
 
-adds_names : (p : Program) (s t : Stage) (b : Build) (op : Op) (o : Origin) (m : Mark) (r : Region) → Step s op t → NamesRightly p op → IsPlace o → Names p s b
-    → Names p t (added b op o m r)
-adds_names p s t b op o m r e k f h n x g =
+adds_names : (p : Program) (s t : Stage) (b : Build) (op : Op) (o : Origin) (m : Mark) (r : Region) → Step s op t → Fits op m → NamesRightly p op → IsPlace o
+    → Names p s b → Names p t (added b op o m r)
+adds_names p s t b op o m r e w k f h n x g =
     let i : Instr = bare op o (slot_in b op) in
     go (push_cases (heads b.instrs) i x n (ap (λ hs. slice_get hs n) (sym (heads_added b.instrs op o (slot_in b op))) ∙ g))
   where
@@ -163,23 +165,26 @@ module _ (fl : Flow) (fits : FlowFits fl) where
       place n false p q = (p, q)
 
   -- BLOCKS
-  plain_names : (i : ℕ) (b : Block ℕ) → slice_get fl.blocks i ≡ Some b → NamesBlockRightly prog (plain_code fl.version fl.blocks vars i b).code
-  unfolding plain_code
-  plain_names i b e =
-      let s : Scope = scope_of fl.version fl.blocks vars i b false in
-      let a : Allows Ok IsPlace 255 s = allows i b false e in
+  abbrev in_scope : ℕ → Block ℕ → Bool → Scope
+  in_scope i b turns = scope_of fl.version fl.blocks vars i b turns
+
+  code_names : (i : ℕ) (b : Block ℕ) (turns : Bool) (turn : Option ℕ) → slice_get fl.blocks i ≡ Some b → SendsOn Ok (in_scope i b turns) turn
+      → NamesBlockRightly prog (code_of b (code_build (in_scope i b turns) turn)).code
+  code_names i b turns turn e k =
+      let s : Scope = in_scope i b turns in
+      let a : Allows Ok IsPlace 255 s = allows i b turns e in
       let fit : BlockFits fl b = fits.blocks i b e in
-      let begun : Names prog Idle (entries s)
-      = entries_keep (Names prog) Ok IsPlace 255 (basics prog) tt (adds_names prog) (links_names prog) (λ s b o h. h) s a (λ n x g. absurd (cc)) in
-      let names : Names prog Idle (plain_build s) =
-      plain_keeps (Names prog) Ok IsPlace 255 (basics prog) tt (adds_names prog) (links_names prog) (λ s b o h. h) s a begun in
+      let begun : Names prog (Idle []) (entries s)
+      = entries_keep (Names prog) Ok IsPlace 255 (basics prog) tt (adds_names prog) (links_names prog) (λ i c o h. h) s a (λ n x g. absurd (cc)) in
+      let names : Names prog (Idle (loop_bounds b)) (code_build s turn)
+      = code_keeps (Names prog) Ok IsPlace 255 (basics prog) tt (adds_names prog) (links_names prog) (λ i c o h. h) s turn a k begun in
       record {
         inputs = fit.inputs;
         outputs = fit.outputs;
         size =
-            plain_keeps (HasMany (b.inputs + 1)) Ok IsPlace 255 (basics prog) tt (λ s t c op o m r x k f h. adds_many (b.inputs + 1) s t c op o m r h)
-            (links_many (b.inputs + 1)) (λ s c o h. h) s a (entries_length s);
-        instrs = λ n x g. names n (head x) (map_get head (plain_build s).instrs n x g);
+            code_keeps (HasMany (b.inputs + 1)) Ok IsPlace 255 (basics prog) tt (λ s t c op o m r x w f g h. adds_many (b.inputs + 1) s t c op o m r h)
+            (links_many (b.inputs + 1)) (λ i c o h. h) s turn a k (entries_length s);
+        instrs = λ n x g. names n (head x) (map_get head (code_build s turn).instrs n x g);
       }
 
   -- an iteration sends the next one what its loop has sources for
@@ -195,35 +200,15 @@ module _ (fl : Flow) (fits : FlowFits fl) where
       let results = (fits.blocks i b at).results in
       (invokes_variant i (length n.sources) (turn.0, turn.1, turn.2) loops).1 e (omega (arith, l, outputs, results))
 
-  variant_names : (i : ℕ) (b : Block ℕ) → slice_get fl.blocks i ≡ Some b → some_block_loops i fl.blocks ≡ true
-      → NamesBlockRightly prog (variant_code fl.version fl.blocks vars i b).code
-  unfolding variant_code
-  variant_names i b e loops =
-      let s : Scope = scope_of fl.version fl.blocks vars i b true in
-      let a : Allows Ok IsPlace 255 s = allows i b true e in
-      let fit : BlockFits fl b = fits.blocks i b e in
-      let next = sends_on i b e loops in
-      let begun : Names prog Idle (entries s)
-      = entries_keep (Names prog) Ok IsPlace 255 (basics prog) tt (adds_names prog) (links_names prog) (λ s b o h. h) s a (λ n x g. absurd (cc)) in
-      let names : Names prog Idle (variant_build s (variant_of vars i))
-      = variant_keeps (Names prog) Ok IsPlace 255 (basics prog) tt (adds_names prog) (links_names prog) (λ s b o h. h) s (variant_of vars i) a next begun in
-      record {
-        inputs = fit.inputs;
-        outputs = fit.outputs;
-        size =
-            variant_keeps (HasMany (b.inputs + 1)) Ok IsPlace 255 (basics prog) tt (λ s t c op o m r x k f h. adds_many (b.inputs + 1) s t c op o m r h)
-            (links_many (b.inputs + 1)) (λ s c o h. h) s (variant_of vars i) a next (entries_length s);
-        instrs = λ n x g. names n (head x) (map_get head (variant_build s (variant_of vars i)).instrs n x g);
-      }
-
   pub names_blocks : (b : ℕ) (c : CodeBlock) → slice_get prog.blocks b ≡ Some c → NamesBlockRightly prog c
+  unfolding plain_code variant_code
   names_blocks b c e = go (code_cases fl.version fl.blocks b c e)
     where
       go : ((x : Block ℕ) × (slice_get fl.blocks b ≡ Some x) × ((plain_code fl.version fl.blocks vars b x).code ≡ c))
           ⊎ ((f : ℕ) × (x : Block ℕ) × (slice_get fl.blocks f ≡ Some x) × (some_block_loops f fl.blocks ≡ true)
           × ((variant_code fl.version fl.blocks vars f x).code ≡ c)) → NamesBlockRightly prog c
-      go (inl h) = subst (NamesBlockRightly prog) h.2 (plain_names b h.0 h.1)
-      go (inr h) = subst (NamesBlockRightly prog) h.4 (variant_names h.0 h.1 h.2 h.3)
+      go (inl h) = subst (NamesBlockRightly prog) h.2 (code_names b h.0 false None h.1 tt)
+      go (inr h) = subst (NamesBlockRightly prog) h.4 (code_names h.0 h.1 true (Some (variant_of vars h.0)) h.2 (sends_on h.0 h.1 h.2 h.3))
 
   pub names_all : NamesAllRightly prog
   names_all =

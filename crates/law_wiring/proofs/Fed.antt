@@ -299,6 +299,20 @@ module _ (fl : Flow) (s : Site) (fit : IsFit fl s.block) where
       (closed_local s.block.inputs s.block.nodes (close_flag s.block s.turns (inner fl s)) (flag_local s.turns (inner fl s) first))
       (all_both Local (joined_wires Root (root_ends fl s)) end (joined_local Root (root_ends fl s)) ((refl, refl), end_local (root_ends fl s)))
 
+  -- no wire leaves a side that a part has not, or a part that has none
+  all_apart : (t : Side) (ws : List Wire) → (is_side t ≡ false) ⊎ (has_no_wire t.part ≡ true) → AllW (From (λ u. In u (sides (parts_in fl s)))) ws
+      → AllW (λ v. t ≢ v.from) ws
+  all_apart t [] e k = tt
+  all_apart t (v ∷ ws) e k = (λ q. apart e q (side_there v.from (parts_in fl s) k.0), all_apart t ws e k.1)
+    where
+      apart : (is_side t ≡ false) ⊎ (has_no_wire t.part ≡ true) → t ≡ v.from
+          → (0 < tally (same_part v.from.part) (parts_in fl s)) × (is_side v.from ≡ true) × (has_no_wire v.from.part ≡ false) → ⊥
+      apart (inl n) q i = let z = ap is_side q in let j = i.1 in cc
+      apart (inr n) q i = let z = ap (λ (u : Side). has_no_wire u.part) q in let j = i.2 in cc
+
+  pub no_wire_leaves : TurnsWell s → (t : Side) → (is_side t ≡ false) ⊎ (has_no_wire t.part ≡ true) → AllW (λ v. t ≢ v.from) (wires_in fl s)
+  no_wire_leaves well t n = all_apart t (wires_in fl s) n (all_from fl s fit well)
+
   module _ (well : TurnsWell s) (w : Wiring) (h : IsWritten fl s w) where
     abbrev There : Part → Type 0
     There r = there_in fl s w r ≡ true
@@ -347,23 +361,12 @@ module _ (fl : Flow) (s : Site) (fit : IsFit fl s.block) where
           ap (λ (y : Inlet). is_given s.block y.part) (sym v.3) ∙ v.1.1,
         )
 
-    -- no wire leaves a side that a part has not, or a part that has none
-    all_apart : (t : Side) (ws : List Wire) → (is_side t ≡ false) ⊎ (has_no_wire t.part ≡ true) → AllW (From (λ u. In u (sides (parts_in fl s)))) ws
-        → AllW (λ v. t ≢ v.from) ws
-    all_apart t [] e k = tt
-    all_apart t (v ∷ ws) e k = (λ q. apart e q (side_there v.from (parts_in fl s) k.0), all_apart t ws e k.1)
-      where
-        apart : (is_side t ≡ false) ⊎ (has_no_wire t.part ≡ true) → t ≡ v.from
-            → (0 < tally (same_part v.from.part) (parts_in fl s)) × (is_side v.from ≡ true) × (has_no_wire v.from.part ≡ false) → ⊥
-        apart (inl n) q i = let z = ap is_side q in let j = i.1 in cc
-        apart (inr n) q i = let z = ap (λ (u : Side). has_no_wire u.part) q in let j = i.2 in cc
-
     empty_side : (t : Side) → (is_side t ≡ false) ⊎ (has_no_wire t.part ≡ true) → w.wire t ≡ []
     empty_side t n = go (there_in fl s w t.part) refl
       where
         go : (q : Bool) → there_in fl s w t.part ≡ q → w.wire t ≡ []
         go false e = h.none t e
-        go true e = h.wire t e ∙ no_along s.block t (wires_in fl s) (all_apart t (wires_in fl s) n (all_from fl s fit well))
+        go true e = h.wire t e ∙ no_along s.block t (wires_in fl s) (no_wire_leaves well t n)
 
     pub are_fed : AreFed fl s w
     are_fed = record { inlets = lead; fed = is_fed; sides = empty_side }

@@ -1,7 +1,8 @@
 -- A builder's instructions stand as the parts of a list, with destinations as the wires of a list: how each step adds to both.
 use Rattle.std.proofs.Common.{◌≡◌, ◌≢◌, ℕ, suc, ◌+◌, ◌-◌, ◌<◌, ◌≤◌, ◌⊎◌, inl, inr, Bool, true, false, ◌&&◌, List, [], ◌∷◌, ◌++◌, length, refl, sym, ap, ◌∙◌}
 use Rattle.std.proofs.Common.{subst, arith, append-nil, append_assoc, if◌then◌else◌, Some}
-use Rattle.std.specs.Prelude.{slice_get, slice_index_or, ⊤}
+use Rattle.std.specs.Prelude.{slice_get, slice_index_or, ⊤, Contains}
+use Rattle.lemmas.proofs.Contains.{contains_cases, contains_none}
 use Rattle.std.proofs.lemmas.Bool.{and_parts}
 use Rattle.std.proofs.lemmas.Option.{slice_get_within, same_Some}
 use Rattle.tags.specs.declared.value.Origin.{Origin}
@@ -20,9 +21,8 @@ use Rattle.law_wiring.specs.WrittenTypes.{Outlet}
 use Rattle.schemas.specs.Builds as Builds
 use Rattle.schemas.specs.Builds.{Build, bare, slot_in, added, quieted, connected, with_dest, dest_of, nowhere, exit_at, outlet_of, trigger_of, exited, behind}
 use Rattle.schemas.specs.Builds.{meeting, mark_of}
-use Rattle.law_wiring.proofs.ArcsLists.{get_push, length_push, length_linked, get_linked, index_old, index_new}
-use Rattle.law_wiring.proofs.ArcsKept.{split}
-use Rattle.law_wiring.proofs.ShapesStates.{get_left}
+use Rattle.law_wiring.proofs.ArcsLists.{split, get_push, get_new, length_push, length_linked, get_linked, index_old, index_new}
+use Rattle.law_wiring.proofs.ArcsLists.{get_left}
 use Rattle.law_net.specs.ContextsParts.{Part, Trigger, Gate, TurnCont, TurnFlag, TurnValue, Asker, NextFramer, NextFanned, same_part}
 use Rattle.law_net.specs.ContextsBlocks as Blocks
 use Rattle.law_net.specs.ContextsBlocks.{Side, side, Site, op_of, origin_of, is_kind, cond_kind}
@@ -82,25 +82,48 @@ other_part e r s u ne = go (same_side (side r s) u) refl
     go true h = absurd (ne (e.apart r u.part (and_parts (same_part r u.part) (same_bool s u.second) h).0))
     go false h = refl
 
--- all wires leave below a place
-abbrev pub Below : Env → ℕ → List Wire → Type 0
-Below e m [] = ⊤
-Below e m (w ∷ ws) = (e.place w.from.part < m) × Below e m ws
+-- all wires lead ahead, to below a place
+abbrev pub Ahead : Env → ℕ → List Wire → Type 0
+Ahead e m [] = ⊤
+Ahead e m (w ∷ ws) = ((e.place w.from.part < e.place w.part) × (e.place w.part < m)) × Ahead e m ws
 
-below_more : (e : Env) (m k : ℕ) (ws : List Wire) → m ≤ k → Below e m ws → Below e k ws
-below_more e m k [] l h = tt
-below_more e m k (w ∷ ws) l h = let a = h.0 in (omega (arith, a, l), below_more e m k ws l h.1)
+ahead_more : (e : Env) (m k : ℕ) (ws : List Wire) → m ≤ k → Ahead e m ws → Ahead e k ws
+ahead_more e m k [] l h = tt
+ahead_more e m k (w ∷ ws) l h = let a = h.0.1 in ((h.0.0, omega (arith, a, l)), ahead_more e m k ws l h.1)
 
-below_push : (e : Env) (m : ℕ) (ws : List Wire) (w : Wire) → Below e m ws → e.place w.from.part < m → Below e m (ws ++ w ∷ [])
-below_push e m [] w h l = (l, tt)
-below_push e m (x ∷ ws) w h l = (h.0, below_push e m ws w h.1 l)
+ahead_push : (e : Env) (m : ℕ) (ws : List Wire) (w : Wire) → Ahead e m ws → (e.place w.from.part < e.place w.part) × (e.place w.part < m)
+    → Ahead e m (ws ++ w ∷ [])
+ahead_push e m [] w h l = (l, tt)
+ahead_push e m (x ∷ ws) w h l = (h.0, ahead_push e m ws w h.1 l)
 
-none_there : (e : Env) (r : Part) (s : Bool) (m : ℕ) (ws : List Wire) → Below e m ws → e.place r ≡ m → goes e (side r s) ws ≡ []
+none_there : (e : Env) (r : Part) (s : Bool) (m : ℕ) (ws : List Wire) → Ahead e m ws → e.place r ≡ m → goes e (side r s) ws ≡ []
 none_there e r s m [] h p = refl
 none_there e r s m (w ∷ ws) h p =
-    let low = h.0 in
-    ap (λ x. if x then dest e w ∷ goes e (side r s) ws else goes e (side r s) ws) (other_part e r s w.from (λ q. omega (arith, q, p, low)))
+    let low = h.0.0 in
+    let up = h.0.1 in
+    ap (λ x. if x then dest e w ∷ goes e (side r s) ws else goes e (side r s) ws) (other_part e r s w.from (λ q. omega (arith, q, p, low, up)))
     ∙ none_there e r s m ws h.1 p
+
+-- so does each destination
+abbrev LiesAhead : Env → Side → ℕ → Dest → Type 0
+LiesAhead e t m d = (0 < d.ahead) × (e.place t.part + d.ahead < m)
+
+pub goes_ahead : (e : Env) (t : Side) (ws : List Wire) (m : ℕ) (d : Dest) → Ahead e m ws → Contains (goes e t ws) d → LiesAhead e t m d
+goes_ahead e t [] m d h c = absurd (contains_none d c)
+goes_ahead e t (w ∷ ws) m d h c = go (same_side t w.from) refl c (goes_ahead e t ws m d h.1)
+  where
+    here : same_side t w.from ≡ true → dest e w ≡ d → LiesAhead e t m d
+    here q same =
+        let at = e.apart t.part w.from.part (and_parts (same_part t.part w.from.part) (same_bool t.second w.from.second) q).0 in
+        let ahead : e.place w.part - e.place w.from.part ≡ d.ahead = ap (λ (x : Dest). x.ahead) same in
+        let low = h.0.0 in
+        let up = h.0.1 in
+        (omega (arith, ahead, low), omega (arith, ahead, low, up, at))
+
+    go : (x : Bool) → same_side t w.from ≡ x → Contains (if x then dest e w ∷ goes e t ws else goes e t ws) d → (Contains (goes e t ws) d → LiesAhead e t m d)
+        → LiesAhead e t m d
+    go true q c more = elim (contains_cases (dest e w) (goes e t ws) d c) as (λ x. LiesAhead e t m d) [ inl same ↦ here q same | inr old ↦ more old ]
+    go false q c more = more c
 
 -- STANDING
 pub record IsAt (e : Env) (ws : List Wire) (r : Part) (i : Instr) : Type 0 where
@@ -117,7 +140,7 @@ pub record IsLaid (e : Env) (b : Build) (rs : List Part) (ws : List Wire) : Type
   pub marks : (n : ℕ) (r : Part) → slice_get rs n ≡ Some r → mark_of b.marks n ≡ Blocks.mark_of e.site.block r
   pub regions : (n : ℕ) (r : Part) → slice_get rs n ≡ Some r → has_region r ≡ true → Builds.region_of b.regions n ≡ Blocks.region_of e.site.block r
   pub placed : (n : ℕ) (r : Part) → slice_get rs n ≡ Some r → e.place r ≡ n
-  pub below : Below e (length rs) ws
+  pub ahead : Ahead e (length rs) ws
 
 -- an outlet is a side
 pub record OutAt (rs : List Part) (o : Outlet) (t : Side) : Type 0 where
@@ -143,7 +166,7 @@ laid_added e b rs ws op o m g r l p q k f at = record {
   marks = λ n x y. mark n x (get_push rs r n x y);
   regions = λ n x y z. region n x z (get_push rs r n x y);
   placed = λ n x y. place n x (get_push rs r n x y);
-  below = let s = length_push rs r in below_more e (length rs) (length (rs ++ r ∷ [])) ws (omega (arith, s)) l.below;
+  ahead = let s = length_push rs r in ahead_more e (length rs) (length (rs ++ r ∷ [])) ws (omega (arith, s)) l.ahead;
 }
   where
     new : Instr
@@ -153,8 +176,8 @@ laid_added e b rs ws op o m g r l p q k f at = record {
     here = record {
       op = p;
       origin = q;
-      firsts = sym (none_there e r false (length rs) ws l.below at);
-      seconds = sym (none_there e r true (length rs) ws l.below at);
+      firsts = sym (none_there e r false (length rs) ws l.ahead at);
+      seconds = sym (none_there e r true (length rs) ws l.ahead at);
     }
 
     instr : (n : ℕ) (x : Part) (i : Instr) → (slice_get rs n ≡ Some x) ⊎ ((n ≡ length rs) × (r ≡ x))
@@ -209,8 +232,9 @@ with_it e ws w j s d p q h = go s d p q
     }
 
 pub laid_connected : (e : Env) (b : Build) (rs : List Part) (ws : List Wire) (o : Outlet) (to : ℕ) (w : Wire) → IsLaid e b rs ws
-    → OutAt rs o w.from → to ≡ e.place w.part → IsLaid e (connected b o to w.port) rs (ws ++ w ∷ [])
-laid_connected e b rs ws o to w l out t = record {
+    → OutAt rs o w.from → to ≡ e.place w.part → (e.place w.from.part < e.place w.part) × (e.place w.part < length rs)
+    → IsLaid e (connected b o to w.port) rs (ws ++ w ∷ [])
+laid_connected e b rs ws o to w l out t up = record {
   size = length_linked b.instrs at o.second d ∙ l.size;
   mark_count = l.mark_count;
   region_count = l.region_count;
@@ -218,7 +242,7 @@ laid_connected e b rs ws o to w l out t = record {
   marks = l.marks;
   regions = l.regions;
   placed = l.placed;
-  below = let a = slice_get_within rs at w.from.part out.part in let p = from_at in below_push e (length rs) ws w l.below (omega (arith, a, p));
+  ahead = ahead_push e (length rs) ws w l.ahead up;
 }
   where
     at : ℕ
@@ -252,6 +276,17 @@ laid_connected e b rs ws o to w l out t = record {
         let old = l.instrs at w.from.part z.1 out.part z.2 in
         subst (λ u. IsAt e (ws ++ w ∷ []) u i) part (subst (λ u. IsAt e (ws ++ w ∷ []) w.from.part u) z.3 (with_it e ws w z.1 o.second d same out.second old))
 
+-- to the part that came last
+pub laid_linked : (e : Env) (b : Build) (rs : List Part) (ws : List Wire) (o : Outlet) (to : ℕ) (w : Wire) → IsLaid e b (rs ++ w.part ∷ []) ws
+    → OutAt rs o w.from → to ≡ e.place w.part → IsLaid e (connected b o to w.port) (rs ++ w.part ∷ []) (ws ++ w ∷ [])
+laid_linked e b rs ws o to w l out t =
+    let here = l.placed (length rs) w.part (get_new rs w.part) in
+    let old = out_more rs (w.part ∷ []) o w.from out in
+    let from = l.placed (o.place + o.port) w.from.part old.part in
+    let low = slice_get_within rs (o.place + o.port) w.from.part out.part in
+    let long = length_push rs w.part in
+    laid_connected e b (rs ++ w.part ∷ []) ws o to w l old t (omega (arith, here, from, low), omega (arith, here, long))
+
 -- SMALL PARTS
 pub laid_behind : (e : Env) (b : Build) (rs : List Part) (ws : List Wire) (o : Outlet) (t : Side) (op : Op) (g : Region) (r : Part) → IsLaid e b rs ws
     → OutAt rs o t
@@ -259,8 +294,7 @@ pub laid_behind : (e : Env) (b : Build) (rs : List Part) (ws : List Wire) (o : O
     → (has_region r ≡ true → g ≡ Blocks.region_of e.site.block r)
     → e.place r ≡ length rs → IsLaid e (behind b o op g) (rs ++ r ∷ []) (ws ++ wire t r Left ∷ [])
 laid_behind e b rs ws o t op g r l out p q k f at =
-    laid_connected e (quieted b op g) (rs ++ r ∷ []) ws o (length b.instrs) (wire t r Left) (laid_added e b rs ws op Untold Unmarked g r l p q k f at)
-    (out_more rs (r ∷ []) o t out) (l.size ∙ sym at)
+    laid_linked e (quieted b op g) rs ws o (length b.instrs) (wire t r Left) (laid_added e b rs ws op Untold Unmarked g r l p q k f at) out (l.size ∙ sym at)
 
 pub laid_meeting : (e : Env) (b : Build) (rs : List Part) (ws : List Wire) (op : Op) (m : Mark) (g : Region) (left right : Outlet) (t u : Side) (r : Part)
     → IsLaid e b rs ws → OutAt rs left t → OutAt rs right u
@@ -269,10 +303,9 @@ pub laid_meeting : (e : Env) (b : Build) (rs : List Part) (ws : List Wire) (op :
     → e.place r ≡ length rs → IsLaid e (meeting b op m g left right) (rs ++ r ∷ []) (ws ++ wire t r Left ∷ wire u r Right ∷ [])
 laid_meeting e b rs ws op m g left right t u r l a c p q k f at =
     let one : Build = added b op Untold m g in
-    let first = laid_connected e one (rs ++ r ∷ []) ws left (length b.instrs) (wire t r Left) (laid_added e b rs ws op Untold m g r l p q k f at)
-    (out_more rs (r ∷ []) left t a) (l.size ∙ sym at) in
-    let second = laid_connected e (connected one left (length b.instrs) Left) (rs ++ r ∷ []) (ws ++ wire t r Left ∷ []) right (length b.instrs)
-    (wire u r Right) first (out_more rs (r ∷ []) right u c) (l.size ∙ sym at) in
+    let first = laid_linked e one rs ws left (length b.instrs) (wire t r Left) (laid_added e b rs ws op Untold m g r l p q k f at) a (l.size ∙ sym at) in
+    let second = laid_linked e (connected one left (length b.instrs) Left) rs (ws ++ wire t r Left ∷ []) right (length b.instrs) (wire u r Right) first c
+    (l.size ∙ sym at) in
     subst (λ xs. IsLaid e (meeting b op m g left right) (rs ++ r ∷ []) xs) (append_assoc ws (wire t r Left ∷ []) (wire u r Right ∷ [])) second
 
 -- EXITS. Where the output ports of a node leave, and the trigger of a conditional

@@ -1,8 +1,9 @@
 -- The arcs that are no wires: one where the machine answers, and no other leaves there.
-use Rattle.std.proofs.Common.{◌≡◌, ℕ, zero, suc, ◌+◌, ◌-◌, ◌<◌, ◌≤◌, ◌⊎◌, inl, inr, Bool, true, false, ◌||◌, List, [], ◌∷◌, ◌++◌, length, refl, sym, ap, ◌∙◌}
-use Rattle.std.proofs.Common.{subst, arith, append-nil, Some, None, Option, Contains, if◌then◌else◌}
+use Rattle.std.proofs.Common.{◌≡◌, ◌≢◌, ℕ, zero, suc, ◌+◌, ◌-◌, ◌<◌, ◌≤◌, ◌⊎◌, inl, inr, Bool, true, false, ◌||◌, List, [], ◌∷◌, ◌++◌, length, refl}
+use Rattle.std.proofs.Common.{sym, ap, ◌∙◌, ◌==◌, subst, arith, append-nil, Some, None, Option, Contains, if◌then◌else◌}
 use Rattle.std.specs.Prelude.{slice_get}
-use Rattle.std.proofs.lemmas.Bool.{le-ltb, lt-ltb, cases_lt}
+use Rattle.std.proofs.lemmas.Bool.{le-ltb, lt-ltb, cases_lt, eqb-true, eq-eqb}
+use Rattle.lemmas.proofs.Bools.{and_false}
 use Rattle.std.proofs.lemmas.List.Elements.{Contains-append_left, Contains-append_right, Contains-append_cases}
 use Rattle.lemmas.proofs.Contains.{contains_cases, contains_head, contains_tail, contains_none}
 use Rattle.tags.specs.declared.token.Port.TheVariants.{Left}
@@ -12,9 +13,11 @@ use Rattle.semantics.specs.declared.graph.Kind.{Kind}
 use Rattle.semantics.specs.declared.graph.Kind.TheVariants.{Lit, Apply1, Apply2, Cond, Enter, Merge, Fetch, Store, Call, StrictCall, Loop}
 use Rattle.semantics.specs.Graph.{Node, Block, Flow, node_at}
 use Rattle.law_confluence.specs.OrdersTotals.{one}
-use Rattle.law_net.specs.ContextsParts.{Opener, Framer, Fanned, Linker, Landing, Giver, Drainer, LoopDone, Asker, NextFramer, NextFanned, TurnCont, TurnFlag}
-use Rattle.law_net.specs.ContextsParts.{Entry, NextSender, DrainReturn}
+use Rattle.law_net.specs.ContextsParts as Parts
+use Rattle.law_net.specs.ContextsParts.{Part, same_part, Opener, Framer, Fanned, Linker, Landing, Giver, Drainer, LoopDone, Asker, NextFramer, NextFanned}
+use Rattle.law_net.specs.ContextsParts.{TurnCont, TurnFlag, Entry, NextSender, DrainReturn}
 use Rattle.law_net.specs.ContextsBlocks.{Side, side, Site, is_kind, call_kind, loop_kind}
+use Rattle.law_net.specs.ContextsWires.{answered_at, has_no_wire}
 use Rattle.law_wiring.specs.Written.{Wire, wire, same_side, along, inlet_of, leaves, trigger_side, meet_wires, sender_wires, strict_wires, strict_end}
 use Rattle.law_wiring.specs.Written.{strict_call_wires, invoke_wires, kind_wires, node_wires, value_wires, next_wires, last_wires, turn_wires, tail_wires}
 use Rattle.law_wiring.specs.Written.{inner_wires, wires_in}
@@ -22,14 +25,15 @@ use Rattle.law_wiring.specs.WrittenFit.{Takes, IsFit}
 use Rattle.law_wiring.proofs.Laid.{Env, goes, dest}
 use Rattle.law_wiring.proofs.LaidArcs.{invoke_arcs, strict_call_arcs, credit_arcs, kind_arcs, node_arcs, turn_arcs, tail_arcs, inner_arcs, wires_with, arcs_in}
 use Rattle.law_wiring.proofs.LaidArcsSame.{wires_split}
-use Rattle.law_wiring.proofs.WrittenMembers.{side_self}
+use Rattle.law_wiring.proofs.PartsSame.{side_is}
+use Rattle.law_wiring.proofs.WrittenMembers.{AllW, side_self}
 
 -- how many leave a side
 abbrev pub size : Side → List Wire → ℕ
 size t [] = 0
 size t (w ∷ ws) = one (same_side t w.from) + size t ws
 
-size_both : (t : Side) (xs ys : List Wire) → size t (xs ++ ys) ≡ size t xs + size t ys
+pub size_both : (t : Side) (xs ys : List Wire) → size t (xs ++ ys) ≡ size t xs + size t ys
 size_both t [] ys = omega arith
 size_both t (x ∷ xs) ys = let h = size_both t xs ys in omega (arith, h)
 
@@ -313,3 +317,133 @@ module _ (fl : Flow) (s : Site) (fit : IsFit fl s.block) where
       go : (xs : List Source) → length xs ≡ suc b.inputs → Contains (turn_more xs) w
       go [] e = absurd (omega (arith, e))
       go (x ∷ xs) e = h
+
+-- HOW OFTEN. The machine answers one side of a part at most once
+size_none : (t : Side) (ws : List Wire) → AllW (λ v. t ≢ v.from) ws → size t ws ≡ 0
+size_none t [] h = refl
+size_none t (w ∷ ws) h = go (same_side t w.from) refl (size_none t ws h.1)
+  where
+    go : (s : Bool) → same_side t w.from ≡ s → size t ws ≡ 0 → one s + size t ws ≡ 0
+    go true e z = absurd (h.0 (side_is t w.from e))
+    go false e z = omega (arith, z)
+
+module _ (t : Side) where
+  abbrev each : ℕ → ℕ
+  each n = size t (invoke_more n) + size t (credit_arcs n)
+
+  kind_each : (n : ℕ) (k : Kind ℕ) (ss : List Source) → size t (kind_more n k ss) ≤ each n
+  kind_each n (Call f) ss = omega arith
+  kind_each n (StrictCall f) [] = omega arith
+  kind_each n (StrictCall f) (x ∷ ss) = omega arith
+  kind_each n (Loop f k) ss = let s = size_both t (invoke_more n) (credit_arcs n) in omega (arith, s)
+  kind_each n k ss = omega arith
+
+  -- only one node's number has any
+  module _ (m most : ℕ) (far : (n : ℕ) → n ≢ m → each n ≡ 0) (near : each m ≤ most) where
+    none_after : (n : ℕ) (xs : List (Node ℕ)) → m < n → size t (node_more n xs) ≡ 0
+    none_after n [] l = refl
+    none_after n (x ∷ xs) l =
+        let z = far n (λ e. omega (arith, e, l)) in
+        let k = kind_each n x.kind x.sources in
+        let r = none_after (n + 1) xs (omega (arith, l)) in
+        let s = size_both t (kind_more n x.kind x.sources) (node_more (n + 1) xs) in
+        omega (arith, z, k, r, s)
+
+    nodes_most : (n : ℕ) (xs : List (Node ℕ)) → size t (node_more n xs) ≤ most
+    nodes_most n [] = omega arith
+    nodes_most n (x ∷ xs) = go (n == m) refl (nodes_most (n + 1) xs)
+      where
+        go : (y : Bool) → (n == m) ≡ y → size t (node_more (n + 1) xs) ≤ most → size t (node_more n (x ∷ xs)) ≤ most
+        go true e h =
+            let same : n ≡ m = eqb-true n m e in
+            let here = ap each same in
+            let k = kind_each n x.kind x.sources in
+            let r = none_after (n + 1) xs (omega (arith, same)) in
+            let s = size_both t (kind_more n x.kind x.sources) (node_more (n + 1) xs) in
+            omega (arith, here, near, k, r, s)
+        go false e h =
+            let z = far n (λ q. let y = eq-eqb n m q in absurd (cc)) in
+            let k = kind_each n x.kind x.sources in
+            let s = size_both t (kind_more n x.kind x.sources) (node_more (n + 1) xs) in
+            omega (arith, z, h, k, s)
+
+  turns_most : (xs : List Source) → size t (turn_more xs) ≤ size t (ask_arc ∷ fan_arc ∷ [])
+  turns_most [] = omega arith
+  turns_most (x ∷ xs) = omega arith
+
+  tail_most : (b : Block ℕ) (turns : Bool) → size t (tail_more b turns) ≤ size t (ask_arc ∷ fan_arc ∷ [])
+  tail_most b false = omega arith
+  tail_most b true = turns_most b.results
+
+  all_most : (s : Site) (m most last : ℕ) → ((n : ℕ) → n ≢ m → each n ≡ 0) → each m ≤ most → size t (ask_arc ∷ fan_arc ∷ []) ≤ last
+      → size t (answer_arcs s) ≤ most + last
+  all_most s m most last far near turn =
+      let a = nodes_most m most far near s.block.inputs s.block.nodes in
+      let c = tail_most s.block s.turns in
+      let d = size_both t (node_more s.block.inputs s.block.nodes) (tail_more s.block s.turns) in
+      omega (arith, a, c, d, turn)
+
+one_most : (x : Bool) → one x ≤ 1
+one_most true = omega arith
+one_most false = omega arith
+
+differ : (u v : Side) → u ≢ v → one (same_side u v) ≡ 0
+differ u v d = go (same_side u v) refl
+  where
+    go : (x : Bool) → same_side u v ≡ x → one x ≡ 0
+    go true e = absurd (d (side_is u v e))
+    go false e = refl
+
+other_number : (f : ℕ → Part) → ((m n : ℕ) → f m ≡ f n → n ≡ m) → (m n : ℕ) → n ≢ m → one (same_side (side (f m) false) (side (f n) false)) ≡ 0
+other_number f same m n d = differ (side (f m) false) (side (f n) false) (λ e. d (same m n (ap (λ (u : Side). u.part) e)))
+
+-- no second side
+second_none : (r q : Part) → one (same_side (side r true) (side q false)) ≡ 0
+second_none r q = ap one (and_false (same_part r q))
+
+abbrev pub answers : Part → Bool → ℕ
+answers r true = 0
+answers r false = length (answered_at r)
+
+pub answers_most : (s : Site) (r : Part) (second : Bool) → has_no_wire r ≡ true → size (side r second) (answer_arcs s) ≤ answers r second
+answers_most s r true h =
+    all_most (side r true) s 0 0 0 (λ n d. none n) (let z = none 0 in omega (arith, z))
+    (let a = second_none r Asker in let c = second_none r NextFramer in omega (arith, a, c))
+  where
+    none : (n : ℕ) → size (side r true) (invoke_more n) + size (side r true) (credit_arcs n) ≡ 0
+    none n =
+        let a = second_none r (Framer n) in
+        let c = second_none r (Linker n) in
+        let d = second_none r (Giver n) in
+        let e = second_none r (Drainer n) in
+        omega (arith, a, c, d, e)
+answers_most s (Framer m) false h =
+    all_most (side (Framer m) false) s m 1 0
+    (λ n d. let z = other_number Framer (λ j k e. cc) m n d in omega (arith, z))
+    (let z = one_most (same_side (side (Framer m) false) (side (Framer m) false)) in omega (arith, z)) (omega arith)
+answers_most s (Linker m) false h =
+    all_most (side (Linker m) false) s m 1 0
+    (λ n d. let z = other_number Linker (λ j k e. cc) m n d in omega (arith, z))
+    (let z = one_most (same_side (side (Linker m) false) (side (Linker m) false)) in omega (arith, z)) (omega arith)
+answers_most s (Giver m) false h =
+    all_most (side (Giver m) false) s m 1 0
+    (λ n d. let z = other_number Giver (λ j k e. cc) m n d in omega (arith, z))
+    (let z = one_most (same_side (side (Giver m) false) (side (Giver m) false)) in omega (arith, z)) (omega arith)
+answers_most s (Drainer m) false h =
+    all_most (side (Drainer m) false) s m 1 0
+    (λ n d. let z = other_number Drainer (λ j k e. cc) m n d in omega (arith, z))
+    (let z = one_most (same_side (side (Drainer m) false) (side (Drainer m) false)) in omega (arith, z)) (omega arith)
+answers_most s (Parts.Taker m) false h = all_most (side (Parts.Taker m) false) s 0 0 0 (λ n d. refl) (omega arith) (omega arith)
+answers_most s Parts.End false h = all_most (side Parts.End false) s 0 0 0 (λ n d. refl) (omega arith) (omega arith)
+answers_most s NextFramer false h = all_most (side NextFramer false) s 0 0 1 (λ n d. refl) (omega arith) (omega arith)
+answers_most s Asker false h = all_most (side Asker false) s 0 0 1 (λ n d. refl) (omega arith) (omega arith)
+answers_most s r false h = absurd (cc)
+
+-- so where no wire leaves, there are as many arcs as answers
+pub arcs_of_answers : (fl : Flow) (s : Site) (r : Part) (second : Bool) → AllW (λ v. side r second ≢ v.from) (wires_in fl s) → has_no_wire r ≡ true
+    → (size (side r second) (arcs_in fl s) ≤ answers r second) × (size (side r second) (wires_in fl s) ≡ 0)
+arcs_of_answers fl s r second none h =
+    let c = (arcs_mixed s fl).counts (side r second) in
+    let z = size_none (side r second) (wires_in fl s) none in
+    let a = answers_most s r second h in
+    (omega (arith, c, z, a), z)

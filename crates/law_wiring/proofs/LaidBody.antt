@@ -158,7 +158,7 @@ module _ (fl : Flow) (s : Site) (place : Part → ℕ) (apart : (r q : Part) →
         marks = λ n r x. absurd (cc);
         regions = λ n r x y. absurd (cc);
         placed = λ n r x. absurd (cc);
-        below = tt;
+        ahead = tt;
       }
 
       laid_first : IsLaid (env fl s place apart) (quieted nothing Op.Copy Root) (Entry ∷ []) []

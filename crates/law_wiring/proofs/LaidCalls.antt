@@ -2,6 +2,7 @@
 use Rattle.std.proofs.Common.{◌≡◌, ℕ, zero, suc, ◌+◌, ◌-◌, ◌<◌, ◌≤◌, true, false, List, [], ◌∷◌, ◌++◌, length, refl, sym, ap, ◌∙◌, subst, arith, append-nil}
 use Rattle.std.proofs.Common.{append_assoc, Some, All, length-append}
 use Rattle.std.specs.Prelude.{slice_get}
+use Rattle.std.proofs.lemmas.Option.{slice_get_within}
 use Rattle.std.proofs.lemmas.List.Elements.{All-head, All-tail}
 use Rattle.tags.specs.declared.value.Origin.TheVariants.{Untold}
 use Rattle.tags.specs.declared.token.Port.TheVariants.{Left}
@@ -24,7 +25,7 @@ use Rattle.law_wiring.specs.WrittenFit.{port_count, ComesBefore, IsLineFit}
 use Rattle.law_wiring.proofs.Laid.{OutAt, source_out, trigger_out, out_more}
 use Rattle.law_wiring.proofs.PartsStanding.{Stand, stand_left, stand_right, stand_row, row_length, row_push}
 use Rattle.law_wiring.proofs.LaidArcs.{invoke_arcs, strict_call_arcs, credit_arcs}
-use Rattle.law_wiring.proofs.LaidNodes.{env, Grown, grown_same, grown_added, grown_connected, grown_behind, grown_meeting, grown_exited, out_here}
+use Rattle.law_wiring.proofs.LaidNodes.{env, Grown, grown_same, grown_added, grown_connected, grown_linked, grown_behind, grown_meeting, grown_exited, out_here}
 
 -- a row behind what there is
 pub get_row : (rs : List Part) (f : ℕ → Part) (from q j : ℕ) → j < q → slice_get (rs ++ row f from q) (length rs + j) ≡ Some (f (from + j))
@@ -149,9 +150,15 @@ module _ (fl : Flow) (s : Site) (place : Part → ℕ) (apart : (r q : Part) →
       let link_out : OutAt p5 (first_of (length c2.instrs)) (side (Linker n) false) =
       out_more p4 landings (first_of (length c2.instrs)) (side (Linker n) false)
       (out_more p3 senders (first_of (length c2.instrs)) (side (Linker n) false) o3) in
+      let low = slice_get_within p3 (length c2.instrs + 0) (Linker n) o3.part in
+      let linker = g3.laid.placed (length c2.instrs + 0) (Linker n) o3.part in
+      let long4 = length-append p3 senders in
+      let long5 = length-append p4 landings in
+      let count = row_length (Landing n) 0 q in
       let g6 : G (connected c5 (first_of (length c2.instrs)) (length c4.instrs) Left) p5 (((((ws ++ w1) ++ w2) ++ w3) ++ w4) ++ w5) n =
       grown_connected fl s place apart c5 p5 ((((ws ++ w1) ++ w2) ++ w3) ++ w4) n (first_of (length c2.instrs)) (length c4.instrs)
-      (wire (side (Linker n) false) (Landing n 0) Left) g5 link_out (omega (arith, first_at, size)) in
+      (wire (side (Linker n) false) (Landing n 0) Left) g5 link_out (omega (arith, first_at, size))
+      (omega (arith, low, linker, long4, first_at), omega (arith, first_at, long5, count, some)) in
       let done = grown_exited fl s place apart (connected c5 (first_of (length c2.instrs)) (length c4.instrs) Left) p5
       (((((ws ++ w1) ++ w2) ++ w3) ++ w4) ++ w5) n (first_of (length c4.instrs)) g6
       (λ k j l. let zeroless : 0 + j ≡ j = omega arith in record {
@@ -283,9 +290,8 @@ module _ (fl : Flow) (s : Site) (place : Part → ℕ) (apart : (r q : Part) →
       grown_behind fl s place apart c3 p3 ws m (first_of (length c.instrs)) (side (Giver n) false) Op.Copy g (LoopDone n) g3 give3 refl refl refl (λ x. region)
       (omega (arith, a3, long1, long2, long3)) in
       let size = g3.laid.size in
-      let g5 = grown_connected fl s place apart c4 (p3 ++ LoopDone n ∷ []) (ws ++ w1) m (first_of (length c2.instrs)) (length c3.instrs)
-      (wire (side (Drainer n) false) (LoopDone n) Left) g4
-      (out_more p3 (LoopDone n ∷ []) (first_of (length c2.instrs)) (side (Drainer n) false) drain) (omega (arith, a3, long1, long2, long3, size)) in
+      let g5 = grown_linked fl s place apart c4 p3 (ws ++ w1) m (first_of (length c2.instrs)) (length c3.instrs)
+      (wire (side (Drainer n) false) (LoopDone n) Left) g4 drain (omega (arith, a3, long1, long2, long3, size)) in
       grown_same fl s place apart (Rows.credits c k g) (p3 ++ LoopDone n ∷ []) (rs ++ credit_parts n)
       ((ws ++ w1) ++ wire (side (Drainer n) false) (LoopDone n) Left ∷ []) (ws ++ credit_arcs n) m
       (four rs (Giver n ∷ []) (Taker n ∷ []) (Drainer n ∷ []) (LoopDone n ∷ [])) (append_assoc ws w1 (wire (side (Drainer n) false) (LoopDone n) Left ∷ [])) g5

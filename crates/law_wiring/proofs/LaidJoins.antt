@@ -21,7 +21,7 @@ use Rattle.law_net.specs.ContextsBlocks.{Side, side, leaves_in, lies_in}
 use Rattle.law_net.specs.ContextsExpanded.{row}
 use Rattle.law_wiring.specs.Written.{Wire, wire, in_region, chain_wires, chain_end, joined_parts, joined_wires, signal_wires, cond_parts, cond_sides, Ended}
 use Rattle.law_wiring.specs.Written.{arm_ends, close}
-use Rattle.law_wiring.proofs.Laid.{Env, IsLaid, OutAt, out_more, laid_added, laid_connected, laid_meeting}
+use Rattle.law_wiring.proofs.Laid.{Env, IsLaid, OutAt, out_more, laid_added, laid_linked, laid_meeting}
 use Rattle.law_wiring.proofs.PartsStanding.{Stand, stand_left, stand_right}
 use Rattle.law_wiring.proofs.LaidEnds.{AreEnds, ends_more, ends_push}
 
@@ -136,15 +136,15 @@ module _ (e : Env) where
 
   -- a signal leads on
   pub signal_laid : (c : Build) (rs : List Part) (ws : List Wire) (o : Option Outlet) (r : Region) (ts : List Side) (to : ℕ) (part : Part) (p : Port)
-      → IsLaid e c rs ws → SignalIs rs o r ts → to ≡ e.place part
-      → IsLaid e (signalled c o to p) rs (ws ++ signal_wires r ts part p)
+      → IsLaid e c (rs ++ part ∷ []) ws → SignalIs rs o r ts → to ≡ e.place part
+      → IsLaid e (signalled c o to p) (rs ++ part ∷ []) (ws ++ signal_wires r ts part p)
   signal_laid c rs ws o r [] to part p l h at =
-      subst (λ x. IsLaid e (signalled c x to p) rs (ws ++ [])) (sym h) (subst (λ xs. IsLaid e c rs xs) (sym (append-nil ws)) l)
+      subst (λ x. IsLaid e (signalled c x to p) (rs ++ part ∷ []) (ws ++ [])) (sym h) (subst (λ xs. IsLaid e c (rs ++ part ∷ []) xs) (sym (append-nil ws)) l)
   signal_laid c rs ws o r (t ∷ ts) to part p l h at =
-      subst (λ x. IsLaid e (signalled c x to p) rs (ws ++ signal_wires r (t ∷ ts) part p)) (sym h.is)
-      (laid_connected e c rs ws h.outlet to (wire (chain_end r 0 t ts) part p) l h.out at)
+      subst (λ x. IsLaid e (signalled c x to p) (rs ++ part ∷ []) (ws ++ signal_wires r (t ∷ ts) part p)) (sym h.is)
+      (laid_linked e c rs ws h.outlet to (wire (chain_end r 0 t ts) part p) l h.out at)
 
-  pub is_more : (rs qs : List Part) (o : Option Outlet) (r : Region) (ts : List Side) → SignalIs rs o r ts → SignalIs (rs ++ qs) o r ts
+  is_more : (rs qs : List Part) (o : Option Outlet) (r : Region) (ts : List Side) → SignalIs rs o r ts → SignalIs (rs ++ qs) o r ts
   is_more rs qs o r [] h = h
   is_more rs qs o r (t ∷ ts) h = signal_more rs qs o (chain_end r 0 t ts) h
 
@@ -180,11 +180,9 @@ module _ (e : Env) where
       let here : length c.instrs ≡ e.place (CondEnd k) = size ∙ sym at in
       let zeroless : length c.instrs + 0 ≡ length rs = omega (arith, size) in
       let new = laid_added e c rs ws Op.Copy Untold Unmarked r (CondEnd k) l refl refl refl (λ x. region) at in
-      let two = signal_laid one (rs ++ CondEnd k ∷ []) ws f (Arm k true) ts (length c.instrs) (CondEnd k) Left new
-      (is_more rs (CondEnd k ∷ []) f (Arm k true) ts p) here in
-      let three = signal_laid (signalled one f (length c.instrs) Left) (rs ++ CondEnd k ∷ []) (ws ++ signal_wires (Arm k true) ts (CondEnd k) Left) g
-      (Arm k false) vs (length c.instrs) (CondEnd k) Left two
-      (is_more rs (CondEnd k ∷ []) g (Arm k false) vs q) here in
+      let two = signal_laid one rs ws f (Arm k true) ts (length c.instrs) (CondEnd k) Left new p here in
+      let three = signal_laid (signalled one f (length c.instrs) Left) rs (ws ++ signal_wires (Arm k true) ts (CondEnd k) Left) g
+      (Arm k false) vs (length c.instrs) (CondEnd k) Left two q here in
       record {
         laid = three;
         ends = ends_push e (rs ++ CondEnd k ∷ []) es us r (first_of (length c.instrs)) (side (CondEnd k) false) (ends_more e rs (CondEnd k ∷ []) es us h) region

@@ -5,7 +5,6 @@ use Rattle.std.specs.Prelude.{slice_get}
 use Rattle.std.proofs.lemmas.List.Elements.{All-head, All-tail}
 use Rattle.tags.specs.declared.value.Origin.{Origin}
 use Rattle.tags.specs.declared.value.Origin.TheVariants.{Untold}
-use Rattle.tags.specs.declared.token.Port.{Port}
 use Rattle.tags.specs.declared.token.Port.TheVariants.{Left, Right}
 use Rattle.semantics.specs.declared.graph.Region.{Region}
 use Rattle.semantics.specs.declared.graph.Region.TheVariants.{Arm}
@@ -34,8 +33,8 @@ use Rattle.law_net.specs.ContextsExpanded.{variant_in}
 use Rattle.law_wiring.specs.Written.{Wire, wire, is_triggered, answer_side, answer_parts, answer_wires, trigger_parts, trigger_wires, exit_of, leaves}
 use Rattle.law_wiring.specs.Written.{leaves_at, operand_wires, merge_wires, gate_wires}
 use Rattle.law_wiring.specs.WrittenFit.{Takes, kind_ports, port_count, ComesBefore, IsFit}
-use Rattle.law_wiring.proofs.Laid.{Env, IsLaid, OutAt, has_region, HasExits, PortsAt, TriggerAt, laid_added, laid_connected, laid_behind, laid_meeting}
-use Rattle.law_wiring.proofs.Laid.{exits_more, exits_last, source_out, out_more}
+use Rattle.law_wiring.proofs.Laid.{Env, IsLaid, OutAt, has_region, HasExits, PortsAt, TriggerAt, laid_added, laid_connected, laid_linked, laid_behind}
+use Rattle.law_wiring.proofs.Laid.{laid_meeting, exits_more, exits_last, source_out, out_more}
 use Rattle.law_wiring.proofs.PartsStanding.{Stand}
 
 abbrev pub scope : Flow → Site → Scope
@@ -74,9 +73,17 @@ module _ (fl : Flow) (s : Site) (place : Part → ℕ) (apart : (r q : Part) →
   }
 
   pub grown_connected : (c : Build) (rs : List Part) (ws : List Wire) (n : ℕ) (o : Outlet) (to : ℕ) (w : Wire) → Grown c rs ws n → OutAt rs o w.from
-      → to ≡ place w.part → Grown (connected c o to w.port) rs (ws ++ w ∷ []) n
-  grown_connected c rs ws n o to w h out at = record {
-    laid = laid_connected env c rs ws o to w h.laid out at;
+      → to ≡ place w.part → (place w.from.part < place w.part) × (place w.part < length rs) → Grown (connected c o to w.port) rs (ws ++ w ∷ []) n
+  grown_connected c rs ws n o to w h out at up = record {
+    laid = laid_connected env c rs ws o to w h.laid out at up;
+    exits = record { count = h.exits.count; at = h.exits.at; triggers = h.exits.triggers };
+    entry = h.entry;
+  }
+
+  pub grown_linked : (c : Build) (rs : List Part) (ws : List Wire) (n : ℕ) (o : Outlet) (to : ℕ) (w : Wire) → Grown c (rs ++ w.part ∷ []) ws n
+      → OutAt rs o w.from → to ≡ place w.part → Grown (connected c o to w.port) (rs ++ w.part ∷ []) (ws ++ w ∷ []) n
+  grown_linked c rs ws n o to w h out at = record {
+    laid = laid_linked env c rs ws o to w h.laid out at;
     exits = record { count = h.exits.count; at = h.exits.at; triggers = h.exits.triggers };
     entry = h.entry;
   }
@@ -110,31 +117,31 @@ module _ (fl : Flow) (s : Site) (place : Part → ℕ) (apart : (r q : Part) →
       let zeroless : length c.instrs + 0 ≡ length rs = omega (arith, size) in
       record { part = ap (slice_get (rs ++ r ∷ [])) zeroless ∙ get_new rs r; second = refl }
 
-  -- SOURCES
-  connects : (c : Build) (rs : List Part) (ws : List Wire) (n to : ℕ) (x : Source) (r : Part) (q : Port) → Grown c rs ws n → Before n x → to ≡ place r
-      → Grown (connected c (outlet_of c x) to q) rs (ws ++ wire (leaves s x) r q ∷ []) n
-  connects c rs ws n to x r q h before at = grown_connected c rs ws n (outlet_of c x) to (wire (leaves s x) r q) h (source_out env c rs n x h.exits before) at
+  -- SOURCES, to the part that came last
+  abbrev Sources : Build → List Part → ℕ → Type 0
+  Sources c rs n = (x : Source) → Before n x → OutAt rs (outlet_of c x) (leaves s x)
 
-  operands_laid : (c : Build) (rs : List Part) (ws : List Wire) (n to from : ℕ) (r : Part) (ss : List Source) → Grown c rs ws n → All (Before n) ss
-      → to ≡ place r
-      → Grown (operands c to from ss) rs (ws ++ operand_wires s r from ss) n
-  operands_laid c rs ws n to from r [] h all at = subst (λ xs. Grown c rs xs n) (sym (append-nil ws)) h
-  operands_laid c rs ws n to from r (x ∷ ss) h all at =
+  operands_laid : (c : Build) (rs : List Part) (ws : List Wire) (n to from : ℕ) (r : Part) (ss : List Source) → Grown c (rs ++ r ∷ []) ws n
+      → Sources c rs n → All (Before n) ss → to ≡ place r
+      → Grown (operands c to from ss) (rs ++ r ∷ []) (ws ++ operand_wires s r from ss) n
+  operands_laid c rs ws n to from r [] h old all at = subst (λ xs. Grown c (rs ++ r ∷ []) xs n) (sym (append-nil ws)) h
+  operands_laid c rs ws n to from r (x ∷ ss) h old all at =
       let w : Wire = wire (leaves s x) r (Builds.side from) in
       let d : Build = connected c (outlet_of c x) to (Builds.side from) in
-      more_wires (operands d to (from + 1) ss) rs ws (w ∷ []) (operand_wires s r (from + 1) ss) n
-      (operands_laid d rs (ws ++ w ∷ []) n to (from + 1) r ss (connects c rs ws n to x r (Builds.side from) h (All-head (Before n) x ss all) at)
+      more_wires (operands d to (from + 1) ss) (rs ++ r ∷ []) ws (w ∷ []) (operand_wires s r (from + 1) ss) n
+      (operands_laid d rs (ws ++ w ∷ []) n to (from + 1) r ss (grown_linked c rs ws n (outlet_of c x) to w h (old x (All-head (Before n) x ss all)) at) old
       (All-tail (Before n) x ss all) at)
 
-  alternatives_laid : (c : Build) (rs : List Part) (ws : List Wire) (n to : ℕ) (r : Part) (ss : List Source) → Grown c rs ws n → All (Before n) ss
-      → to ≡ place r
-      → Grown (alternatives c to ss) rs (ws ++ merge_wires s r ss) n
-  alternatives_laid c rs ws n to r [] h all at = subst (λ xs. Grown c rs xs n) (sym (append-nil ws)) h
-  alternatives_laid c rs ws n to r (x ∷ ss) h all at =
+  alternatives_laid : (c : Build) (rs : List Part) (ws : List Wire) (n to : ℕ) (r : Part) (ss : List Source) → Grown c (rs ++ r ∷ []) ws n
+      → Sources c rs n → All (Before n) ss → to ≡ place r
+      → Grown (alternatives c to ss) (rs ++ r ∷ []) (ws ++ merge_wires s r ss) n
+  alternatives_laid c rs ws n to r [] h old all at = subst (λ xs. Grown c (rs ++ r ∷ []) xs n) (sym (append-nil ws)) h
+  alternatives_laid c rs ws n to r (x ∷ ss) h old all at =
       let w : Wire = wire (leaves s x) r Left in
       let d : Build = connected c (outlet_of c x) to Left in
-      more_wires (alternatives d to ss) rs ws (w ∷ []) (merge_wires s r ss) n
-      (alternatives_laid d rs (ws ++ w ∷ []) n to r ss (connects c rs ws n to x r Left h (All-head (Before n) x ss all) at) (All-tail (Before n) x ss all) at)
+      more_wires (alternatives d to ss) (rs ++ r ∷ []) ws (w ∷ []) (merge_wires s r ss) n
+      (alternatives_laid d rs (ws ++ w ∷ []) n to r ss (grown_linked c rs ws n (outlet_of c x) to w h (old x (All-head (Before n) x ss all)) at) old
+      (All-tail (Before n) x ss all) at)
 
   -- NODES
   its_op : (n : ℕ) (node : Node ℕ) → node_at b n ≡ Some node → line_op b n ≡ kind_op node.kind
@@ -162,7 +169,7 @@ module _ (fl : Flow) (s : Site) (place : Part → ℕ) (apart : (r q : Part) →
         marks = l.marks;
         regions = l.regions;
         placed = l.placed;
-        below = l.below;
+        ahead = l.ahead;
       }
 
   pub grown_exited : (c : Build) (rs : List Part) (ws : List Wire) (n : ℕ) (o : Outlet) → Grown c rs ws n → PortsAt env rs n o → TriggerAt env rs n o
@@ -204,7 +211,8 @@ module _ (fl : Flow) (s : Site) (place : Part → ℕ) (apart : (r q : Part) →
       let one : Build = added c op o Unmarked node.region in
       let size = h.laid.size in
       let new = grown_added c rs ws n op o Unmarked node.region (Line n) h (p ∙ sym (its_op n node e)) refl refl (λ f. sym (its_region n node e)) at in
-      let full = operands_laid one (rs ++ Line n ∷ []) ws n (length c.instrs) 0 (Line n) node.sources new all (size ∙ sym at) in
+      let full = operands_laid one rs ws n (length c.instrs) 0 (Line n) node.sources new (λ x before. source_out env c rs n x h.exits before) all
+      (size ∙ sym at) in
       leaves_there (operands one (length c.instrs) 0 node.sources) rs (Line n) (ws ++ operand_wires s (Line n) 0 node.sources) n
       (length c.instrs) false full size q
 
@@ -222,7 +230,8 @@ module _ (fl : Flow) (s : Site) (place : Part → ℕ) (apart : (r q : Part) →
       let qs : List Part = rs ++ Line n ∷ [] in
       let last : List Wire = wire (side (Line n) false) (Answer n) Left ∷ [] in
       let new = grown_added c rs ws n op o Unmarked node.region (Line n) h (p ∙ sym (its_op n node e)) refl refl (λ f. sym (its_region n node e)) at in
-      let full = operands_laid one qs ws n (length c.instrs) 0 (Line n) node.sources new all (size ∙ sym at) in
+      let full = operands_laid one rs ws n (length c.instrs) 0 (Line n) node.sources new (λ x before. source_out env c rs n x h.exits before) all
+      (size ∙ sym at) in
       let d : Build = operands one (length c.instrs) 0 node.sources in
       let long : length qs ≡ suc (length rs) = length_push rs (Line n) in
       let both = grown_behind d qs (ws ++ os) n (first_of (length c.instrs)) (side (Line n) false) Op.Copy node.region (Answer n) full
@@ -255,7 +264,8 @@ module _ (fl : Flow) (s : Site) (place : Part → ℕ) (apart : (r q : Part) →
       let one : Build = quieted c Op.Copy r in
       let size = h.laid.size in
       let new = grown_added c rs ws n Op.Copy Untold Unmarked r (Parts.Merge n) h refl refl refl (λ f. sym (its_region n node e)) at in
-      let full = alternatives_laid one (rs ++ Parts.Merge n ∷ []) ws n (length c.instrs) (Parts.Merge n) ss new all (size ∙ sym at) in
+      let full = alternatives_laid one rs ws n (length c.instrs) (Parts.Merge n) ss new (λ x before. source_out env c rs n x h.exits before) all
+      (size ∙ sym at) in
       leaves_there (alternatives one (length c.instrs) ss) rs (Parts.Merge n) (ws ++ merge_wires s (Parts.Merge n) ss) n (length c.instrs) false full size
       (leaves_by n node (side (Parts.Merge n) false) e (λ q. refl) refl refl)
 

@@ -34,7 +34,7 @@ use Rattle.law_wiring.proofs.LaidNodes.{env, scope, Grown}
 use Rattle.law_wiring.proofs.LaidBody.{body_laid, returns_laid}
 use Rattle.law_wiring.proofs.LaidTurn.{turn_laid}
 use Rattle.law_wiring.proofs.LaidEnds.{AreEnds, all_ends_laid}
-use Rattle.law_wiring.proofs.LaidJoins.{IsClosing, close_laid, region_joined, signal_laid, is_more, added_parts}
+use Rattle.law_wiring.proofs.LaidJoins.{IsClosing, close_laid, region_joined, signal_laid, added_parts}
 use Rattle.law_wiring.proofs.LaidUsual.{HasTurns, inner_usual}
 
 module _ (e : Env) where
@@ -108,8 +108,8 @@ module _ (e : Env) where
       let two = laid_behind e s.build parts wires (first_of 0) (side Entry false) (Op.Release offset) Root Parts.End one.laid
       (out_more x.parts joins (first_of 0) (side Entry false) a) op refl refl (λ f. refl) here in
       let first : List Wire = wire (side Entry false) Parts.End Left ∷ [] in
-      let three = signal_laid e (behind s.build (first_of 0) (Op.Release offset) Root) (parts ++ Parts.End ∷ []) (wires ++ first) s.signal Root ts
-      (length s.build.instrs) Parts.End Right two (is_more e parts (Parts.End ∷ []) s.signal Root ts one.signal) (size ∙ sym here) in
+      let three = signal_laid e (behind s.build (first_of 0) (Op.Release offset) Root) parts (wires ++ first) s.signal Root ts
+      (length s.build.instrs) Parts.End Right two one.signal (size ∙ sym here) in
       subst (λ ps. IsLaid e (released c.build c.ends offset) ps (x.wires ++ (joined_wires Root ts ++ (first ++ signal_wires Root ts Parts.End Right))))
       (append_assoc x.parts joins (Parts.End ∷ []))
       (subst (λ us. IsLaid e (released c.build c.ends offset) (parts ++ Parts.End ∷ []) us)

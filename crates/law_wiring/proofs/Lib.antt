@@ -1,10 +1,10 @@
+-- Keeping
+pub mod KeepingSteps
 -- Bounds
-pub mod BoundsKeeping
 pub mod Bounds
 pub mod BoundsWholes
 pub mod BoundsInputs
 -- Facts
-pub mod FactsSteps
 pub mod FactsHeads
 pub mod FactsHolders
 pub mod FactsHeld
@@ -14,29 +14,11 @@ pub mod FactsOperands
 pub mod FactsWholes
 pub mod FactsSound
 -- Shapes
-pub mod ShapesStates
-pub mod ShapesTrack
-pub mod ShapesRows
-pub mod ShapesUses
-pub mod ShapesNodes
-pub mod ShapesBody
-pub mod ShapesCounts
-pub mod ShapesEnds
-pub mod ShapesOpen
-pub mod ShapesBlocks
-pub mod ShapesWell
+pub mod ShapesNoted
+pub mod ShapesClosed
 pub mod ShapesPlans
 -- Arcs
 pub mod ArcsLists
-pub mod ArcsKept
-pub mod ArcsSettled
-pub mod ArcsSteps
-pub mod ArcsLandings
-pub mod ArcsNodes
-pub mod ArcsTails
-pub mod ArcsEnds
-pub mod ArcsFlows
-pub mod ArcsCodes
 pub mod ArcsLaws
 -- Written
 pub mod WrittenMembers
@@ -83,6 +65,7 @@ pub mod CodeFacts
 pub mod CodeWritten
 pub mod CodeRows
 pub mod CodeLaid
+pub mod CodeRead
 -- Fed
 pub mod FedOnce
 pub mod FedEnds

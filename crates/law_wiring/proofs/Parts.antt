@@ -13,7 +13,7 @@ use Rattle.law_confluence.specs.OrdersTotals.{one}
 use Rattle.law_net.specs.ContextsParts as Parts
 use Rattle.law_net.specs.ContextsParts.{Part, Entry, Line, Answer, Trigger, Gate, Opener, Framer, Fanned, Linker, Sender, Landing, CallDone, Giver, Taker}
 use Rattle.law_net.specs.ContextsParts.{Drainer, LoopDone, Strict, Join, CondEnd, same_part}
-use Rattle.law_net.specs.ContextsBlocks.{Side, Site, is_kind, loop_kind, outputs_in}
+use Rattle.law_net.specs.ContextsBlocks.{Side, Site, outputs_in}
 use Rattle.law_net.specs.ContextsExpanded.{row, invoked}
 use Rattle.law_wiring.specs.Written.{is_shared, is_triggered, answer_parts, trigger_parts, kind_parts, node_parts, joined_parts, cond_parts, Ended, arm_ends}
 use Rattle.law_wiring.proofs.PartsCounts.{tally, tally_both, row_none, row_one, row_below, nodes_none, nodes_one, closing_parts, Follow}

@@ -10,8 +10,8 @@ use Rattle.semantics.specs.Graph.{Node, Block, Flow, node_at}
 use Rattle.semantics.specs.Meaning.{Context, Main, Called, Turned, AtOut, Operand, block_of, block_number, result_uses}
 use Rattle.semantics.proofs.Lines.{block_is_there}
 use Rattle.law_net.specs.ContextsParts.{Line, Answer, TurnValue, NextSender, LastReturn, inlet}
-use Rattle.law_net.specs.ContextsBlocks.{side, Site, Wiring, there_in, is_kind, cell_kind, plain_kind, is_loop, exit, invokes, result_count}
-use Rattle.law_net.specs.Contexts.{Wires, IsContext, number_in, or_none, or_zero}
+use Rattle.law_net.specs.ContextsBlocks.{side, Site, Wiring, there_in, is_kind, cell_kind, plain_kind, exit, invokes, result_count}
+use Rattle.law_net.specs.Contexts.{Wires, IsContext, number_in, or_zero}
 use Rattle.law_net.specs.ContextsTold.{settled_sent}
 use Rattle.law_net.specs.ContextsWires.{plain_site, GoesToUses, Runs, told_along, has_port}
 use Rattle.law_net.proofs.ContextsBlocks.{has_block}
@@ -42,7 +42,7 @@ module _ (fl : Flow) (s : Site) (fit : IsFit fl s.block) (w : Wiring) (h : IsWri
   both_are true false h = absurd (cc)
   both_are false u h = absurd (cc)
 
-  copied : (n : ℕ) → there_in fl s w (Answer n) ≡ true → w.wire (side (Line n) false) ≡ inlet (Answer n) Left 0 ∷ []
+  pub copied : (n : ℕ) → there_in fl s w (Answer n) ≡ true → w.wire (side (Line n) false) ≡ inlet (Answer n) Left 0 ∷ []
   copied n t =
       let d = both_are (is_kind cell_kind s.block n) (w.answers n) t in
       let e = both_are (is_kind cell_kind s.block n) (is_shared s n) (sym (h.answers n) ∙ d.1) in

@@ -1,5 +1,4 @@
 -- All that is static holds: the plan of every well-formed graph is wired.
-use Rattle.law_net.specs.ContextsExpanded.{AllStatic}
 use Rattle.law_net.proofs.ContextsStatic.{expanded_is_wired}
 use Rattle.law_wiring.specs.WholeStatic.{EveryIsStatic, EveryIsWired}
 use Rattle.law_wiring.proofs.CodeLaid.{plain_code_is_written, turn_code_is_written}

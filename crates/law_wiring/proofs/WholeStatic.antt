@@ -24,7 +24,7 @@ module _ (g : Graph) (text : HasText g) (well : WellFormed g) where
   fits = blocks_fit g well
 
   apart : VariantsApart fl (wires_of fl)
-  apart = variants_apart fl (codes_are_there g text well)
+  apart = variants_apart fl (codes_are_there g well)
 
   abbrev own : ℕ → ℕ
   own i = variant_in fl i
@@ -34,7 +34,7 @@ module _ (g : Graph) (text : HasText g) (well : WellFormed g) where
 
 pub code_suffices : CodeSuffices
 code_suffices calls turns = record {
-  there = codes_are_there;
+  there = λ g text well. codes_are_there g well;
   laid = record {
     plain = λ g text well i b c e k. (calls g text well i b c e k (fits g text well i b e)).laid;
     turns = λ g text well i b c e l k. (turns g text well i b c e l k (fits g text well i b e)).laid;

@@ -1,5 +1,4 @@
 -- The code of calls and that of loops' turns, laid out as it is written down, make all that is static.
-use Rattle.std.specs.Prelude.{ℕ}
 use Rattle.law_net.specs.ContextsTheorem.{ExpandedIsWired}
 use Rattle.law_net.specs.ContextsExpanded.{AllStatic}
 use Rattle.law_wiring.specs.WrittenHalves.{PlainCodeIsWritten, TurnCodeIsWritten}

@@ -9,8 +9,7 @@ use Rattle.semantics.specs.Program.{CodeBlock}
 use Rattle.schemas.specs.Expanded.{expanded}
 use Rattle.law_net.specs.ContextsParts.{Part, Sender, Landing, CondEnd, End, Inlet, same_part}
 use Rattle.law_net.specs.ContextsBlocks.{Side, Wiring, Site, there_in, is_kind, cell_kind, cond_kind, invokes, source_count}
-use Rattle.law_net.specs.Contexts.{Wires}
-use Rattle.law_net.specs.ContextsWires.{answered_at, AreFed, FollowArms, LeadOn, GoesToUses, Runs, plain_site, turn_site, IsLaidOut}
+use Rattle.law_net.specs.ContextsWires.{answered_at, AreFed, FollowArms, LeadOn, plain_site, turn_site, IsLaidOut}
 use Rattle.law_net.specs.ContextsExpanded.{has_part, is_join_of, variant_in, wires_of}
 use Rattle.law_wiring.specs.Written.{parts_in, wires_in, along, is_shared, is_triggered}
 use Rattle.law_wiring.specs.WrittenFit.{IsFit}

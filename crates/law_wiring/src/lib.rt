@@ -7,24 +7,27 @@
 //! destination is a later instruction of its block.
 //!
 //! **Why they hold.**
-//! 1. A builder adds instructions in rows and arcs between them. What each step keeps, the block has (`BoundsKeeping`, `FactsSteps`, `ShapesTrack`,
-//!    `ArcsSteps`).
-//! 2. Each destination that is added leads ahead, over a free place (`ArcsKept`); what each instruction still waits for is known at each step
-//!    (`ShapesTrack`), and nothing at the end.
-//! 3. From the block alone its parts and wires are written down (`specs/Written`); each part that is there stands once among them (`PartsThere`).
-//! 4. The instructions stand as those parts, with destinations as those wires, step by step (`Laid`); each plan's block is there (`CodeCompose`).
-//! 5. So whatever is left is of lists of wires: as many wires lead to an inlet as there are parts with it (`FedOnce`), so one side feeds it (`Fed`).
-//! 6. What leaves at a node goes to its uses and nothing else tells anything (`Uses`); in the code of a turn the values go to the next turn and back
+//! 1. A builder adds instructions and arcs between them. What each step keeps whatever the graph is, the block has (`KeepingSteps`).
+//! 2. From the block alone its parts and wires are written down (`specs/Written`); each part that is there stands once among them (`PartsThere`).
+//! 3. The instructions stand as those parts, with destinations as those wires, each of which leads ahead, step by step (`Laid`); each plan's block is
+//!    there (`CodeCompose`).
+//! 4. So whatever is left is of lists of wires: as many wires lead to an inlet as there are parts with it (`FedOnce`), so one side feeds it (`Fed`).
+//! 5. What leaves at a node goes to its uses and nothing else tells anything (`Uses`); in the code of a turn the values go to the next turn and back
 //!    (`Turns`).
-//! 7. A wire stays in its region or enters from its arm (`WrittenLaws`), and carries the kind of word that its inlet takes (`WrittenSuits`).
-//! 8. Where no wire leaves a side it is an end, and ends are joined, both arms or none (`WrittenBothArms`, `WrittenLeads`).
+//! 6. A wire stays in its region or enters from its arm (`WrittenLaws`), and carries the kind of word that its inlet takes (`WrittenSuits`).
+//! 7. Where no wire leaves a side it is an end, and ends are joined, both arms or none (`WrittenBothArms`, `WrittenLeads`).
+//! 8. Arcs and shapes are read off the wires (`CodeRead`). A destination is the place of an inlet, and what has one stands first in its row (`ArcsLaws`).
+//!    An instruction has as many destinations as wires leave its part: of one that is answered one wire leaves for a use, as uses were counted
+//!    (`ShapesNoted`), or for a join (`ShapesClosed`).
 //!
 //! **The files**, by chapter.
-//! - `Bounds`, `Facts`, `Shapes`, `Arcs`: the four laws of any plan, each from the builder's steps to the plan.
+//! - `Keeping`: the induction over a builder's steps, for what a step keeps whatever it is of the graph.
+//! - `Bounds`, `Facts`: two laws of any plan, each from the builder's steps to the plan.
 //! - `Written`: the wires that are written down, and the laws of each wire; `Parts`: the parts.
 //! - `Laid`: the builder's instructions stand as they are written down; `Code`: the code of a block, and all blocks of a plan.
 //! - `Fed`, `Uses`, `Turns`: inlets, uses, and the code of a loop's turn.
 //! - `Whole`: all of it, and an example by computation.
+//! - `Arcs`, `Shapes`: where the destinations of a plan lead, and how many an instruction has; with lists of instructions (`ArcsLists`).
 #![tactic(auto)]
 
 mod arcs;
