@@ -1,4 +1,4 @@
-//! What is left of a run at rest, where nothing is wanted and no reader waits: nothing, at every.
+//! What is left of a run at rest, where nothing is wanted and no reader waits: nothing.
 
 ghost use Rattle.law_net.specs.ContextsPackages.{OfRuns, CleanAtRest};
 

@@ -3,28 +3,28 @@ use Rattle.std.proofs.Common.{◌≡◌, ℕ, Bool, true, false, not, List, [], 
 use Rattle.std.proofs.Common.{append_assoc, eqb-true, if◌then◌else◌}
 use Rattle.std.specs.Prelude.{IsPermutation, Contains, flat_map}
 use Rattle.std.proofs.lemmas.List.Elements.{Contains-append_cases}
-use Rattle.std.proofs.lemmas.List.Sorted.{IsPermutation-refl, IsPermutation-trans, IsPermutation-append_right}
-use Rattle.lemmas.proofs.Contains.{contains_head, contains_none, contains_tail}
+use Rattle.std.proofs.lemmas.List.Sorted.{IsPermutation-refl, IsPermutation-trans}
+use Rattle.lemmas.proofs.Contains.{contains_head, contains_none, contains_tail, contains_cases}
+use Rattle.lemmas.proofs.Permutations.{permutation_same}
 use Rattle.tags.specs.declared.value.Value.{Value}
 use Rattle.tags.specs.declared.token.Cont.{Cont}
 use Rattle.tags.specs.declared.token.Word.{Word}
 use Rattle.tags.specs.declared.token.Token.{Token}
 use Rattle.semantics.specs.Graph.{Flow}
-use Rattle.semantics.specs.Meaning.{Context, Memory}
+use Rattle.semantics.specs.Meaning.{Memory}
 use Rattle.semantics.specs.Machine.{answer, answers}
 use Rattle.law_confluence.proofs.Orders.{shuffled, Part as Piece, ◌⊕◌, at_last}
 use Rattle.law_net.specs.ContextsParts.{Part, Held, Item, Firing}
 use Rattle.law_net.specs.ContextsBlocks.{is_store}
 use Rattle.law_net.specs.Contexts.{block_in}
-use Rattle.law_net.specs.ContextsFirings.{Config, cell_of, makes, memory_of, Answers, ARead, HasFired}
-use Rattle.law_net.specs.ContextsStands.{token_of, only, is_held, reads, cont_in, conts_of, came, Stands}
+use Rattle.law_net.specs.ContextsFirings.{Config, cell_of, makes, memory_of, ARead, ProperAt}
+use Rattle.law_net.specs.ContextsStands.{token_of, only, is_held, reads, cont_in, conts_of, Stands}
 use Rattle.law_machine_refines_net.specs.MovesCases.{Taking, net_of}
-use Rattle.law_machine_refines_net.proofs.MovesLists.{kept_by, kept_no, kept_yes, contains_one}
-use Rattle.law_machine_refines_net.proofs.MovesWhole.{Reached}
-use Rattle.law_machine_refines_net.proofs.MovesReached.{Fire, reached_fires, came_back}
+use Rattle.law_machine_refines_net.proofs.MovesLists.{kept_by, kept_no, kept_yes, contains_one, one_holds}
+use Rattle.law_machine_refines_net.proofs.MovesAccount.{Account, kept_fires, reordered}
 use Rattle.law_machine_refines_net.proofs.MovesFitted.{waiting_here}
-use Rattle.law_machine_refines_net.proofs.CellsHeld.{held_firing, held_fires, answer_items, cont_is, place, makes_is, items_is, reply, reply_token, reads_is}
-use Rattle.law_machine_refines_net.proofs.CellsFetched.{held_past, held_remembers}
+use Rattle.law_machine_refines_net.proofs.CellsHeld.{held_firing, answer_items, cont_is, place, takes_is, makes_is, items_is, reply, reply_token, reads_is}
+use Rattle.law_machine_refines_net.proofs.CellsFetched.{IsFetch, held_remembers}
 
 -- what reads a cell is a request
 pub reads_held : (fl : Flow) (x : ℕ) (j : Item) (r : Part) → reads fl x j r ≡ true → (n : ℕ) × (r ≡ Held n)
@@ -67,30 +67,32 @@ module _ (s : Taking) (x : ℕ) (u : Value) where
   abbrev pub alongs : List Item → List Item
   alongs items = flat_map (λ (j : Item). answer_items s.fl s.w u j j.inlet.part) (only test items)
 
-  pub record Answering (d : Config) (done todo : List Item) : Type 0 where
+  pub record Answering (d : Config) (made done todo : List Item) : Type 0 where
     pub to : Config
-    pub reached : Reached s to
+    pub new : List Firing
+    pub account : Account s (IsFetch s) to new (alongs todo ++ made)
+    pub held : (f : Firing) → Contains new f → is_held f.part ≡ true
     pub waiting : to.waiting ≡ done ++ unread todo
     pub pending : IsPermutation to.pending (alongs todo ++ d.pending)
-    pub came_is : IsPermutation (came s.fl to) (alongs todo ++ came s.fl d)
     pub memory : memory_of s.fl to.fired ≡ memory_of s.fl d.fired
-    pub past : (c : Context) (q : Part) → is_held q ≡ false → (HasFired c q to.fired → HasFired c q d.fired) × (HasFired c q d.fired → HasFired c q to.fired)
 
   -- one that does not read is left
-  passes : (d : Config) (done : List Item) (j : Item) (js : List Item) → test j ≡ false → Answering d (done ++ j ∷ []) js → Answering d done (j ∷ js)
-  passes d done j js e a =
+  passes : (d : Config) (made done : List Item) (j : Item) (js : List Item) → test j ≡ false → Answering d made (done ++ j ∷ []) js
+      → Answering d made done (j ∷ js)
+  passes d made done j js e a =
       let skip : alongs (j ∷ js) ≡ alongs js = ap (flat_map (λ (j : Item). answer_items s.fl s.w u j j.inlet.part)) (kept_no test j js e) in record {
         to = a.to;
-        reached = a.reached;
+        new = a.new;
+        account = reordered a.account (alongs (j ∷ js) ++ made) (permutation_same _ _ (ap (λ l. l ++ made) (sym skip)));
+        held = a.held;
         waiting = a.waiting ∙ append_assoc done (j ∷ []) (unread js) ∙ ap (λ l. done ++ l) (sym (kept_yes (λ (i : Item). not (test i)) j js (ap not e)));
         pending = at_last a.pending (ap (λ l. l ++ d.pending) (sym skip));
-        came_is = at_last a.came_is (ap (λ l. l ++ came s.fl d) (sym skip));
         memory = a.memory;
-        past = a.past;
       }
 
   -- and one that reads is answered
-  module _ (d : Config) (v : Reached s d) (done : List Item) (j : Item) (js : List Item) (waiting : d.waiting ≡ done ++ (j ∷ js))
+  module _ (d : Config) (new : List Firing) (made : List Item) (l : Account s (IsFetch s) d new made)
+      (held : (f : Firing) → Contains new f → is_held f.part ≡ true) (done : List Item) (j : Item) (js : List Item) (waiting : d.waiting ≡ done ++ (j ∷ js))
       (inside : Contains net.waiting j) (n : ℕ) (e : j.inlet.part ≡ Held n) (yes : test j ≡ true)
       (full : (memory_of s.fl d.fired).cells x ≡ Some u) where
     abbrev f : Firing
@@ -104,71 +106,66 @@ module _ (s : Taking) (x : ℕ) (u : Value) where
         let p = place s j (waiting_here s j inside) n e in
         let same : x ≡ p.0 = eqb-true x p.0 (sym (reads_is s j (waiting_here s j inside) n e x) ∙ yes) in p.1 ∙ ap (λ y. Some y) (sym same)
 
-    proper : Answers s.fl (memory_of s.fl d.fired) j.context n j.held u
-    proper = ARead x fetch at_x full
-
-    abbrev fire : Fire s d v f
-    fire =
-        held_fires s j (waiting_here s j inside) n e d v u [] d.pending done (j ∷ []) js (IsPermutation-refl d.pending) waiting
-        (λ i c. inr (ap (λ (i : Item). is_held i.inlet.part) (sym (contains_one j i c)) ∙ ap is_held e)) (λ i c. absurd (contains_none i c))
-        (IsPermutation-refl (j ∷ [])) proper
+    proper : ProperAt s.fl d.fired f f.part
+    proper = subst (λ (r : Part). ProperAt s.fl d.fired f r) (sym e) (ARead x fetch at_x full)
 
     abbrev next : Config
     next = record { pending = makes s.fl s.w f ++ d.pending; waiting = done ++ js; fired = f ∷ d.fired }
 
-    next_reached : Reached s next
-    next_reached = reached_fires s d v f fire
+    next_account : Account s (IsFetch s) next (f ∷ new) (makes s.fl s.w f ++ made)
+    next_account =
+        kept_fires l f [] d.pending done (j ∷ []) js (IsPermutation-refl d.pending) waiting (one_holds (IsFetch s) j (n, e, fetch))
+        (permutation_same _ _ (sym (takes_is s j (waiting_here s j inside) n e u))) proper
+
+    next_held : (h : Firing) → Contains (f ∷ new) h → is_held h.part ≡ true
+    next_held h c = pick (contains_cases f new h c)
+      where
+        pick : (f ≡ h) ⊎ Contains new h → is_held h.part ≡ true
+        pick (inl q) = ap (λ (y : Firing). is_held y.part) (sym q) ∙ ap is_held e
+        pick (inr c) = held h c
 
     next_memory : memory_of s.fl next.fired ≡ memory_of s.fl d.fired
     next_memory = held_remembers s f n f.part (memory_of s.fl d.fired) e fetch
-
-    next_came : IsPermutation (came s.fl next) (makes s.fl s.w f ++ came s.fl d)
-    next_came = came_back s d v f fire
 
     takes_one_more : alongs (j ∷ js) ≡ makes s.fl s.w f ++ alongs js
     takes_one_more = ap (flat_map (λ (j : Item). answer_items s.fl s.w u j j.inlet.part)) (kept_yes test j js yes)
         ∙ ap (λ l. l ++ alongs js) (items_is s j (waiting_here s j inside) n e u ∙ sym (makes_is s j (waiting_here s j inside) n e u))
 
-    mixed : (a b c : List Item) → IsPermutation (a ++ (b ++ c)) ((b ++ a) ++ c)
-    mixed a b c = shuffled (a ∷ b ∷ c ∷ []) (Piece 0 ⊕ (Piece 1 ⊕ Piece 2)) ((Piece 1 ⊕ Piece 0) ⊕ Piece 2) refl
+    mixed : (items : List Item) → IsPermutation (alongs js ++ (makes s.fl s.w f ++ items)) (alongs (j ∷ js) ++ items)
+    mixed items =
+        at_last (shuffled (alongs js ∷ makes s.fl s.w f ∷ items ∷ []) (Piece 0 ⊕ (Piece 1 ⊕ Piece 2)) ((Piece 1 ⊕ Piece 0) ⊕ Piece 2) refl)
+        (ap (λ l. l ++ items) (sym takes_one_more))
 
-    answers_one : Answering next done js → Answering d done (j ∷ js)
+    answers_one : Answering next (makes s.fl s.w f ++ made) done js → Answering d made done (j ∷ js)
     answers_one a = record {
       to = a.to;
-      reached = a.reached;
+      new = a.new;
+      account = reordered a.account (alongs (j ∷ js) ++ made) (mixed made);
+      held = a.held;
       waiting = a.waiting ∙ ap (λ l. done ++ l) (sym (kept_no (λ (i : Item). not (test i)) j js (ap not yes)));
-      pending = at_last (IsPermutation-trans _ _ _ a.pending (mixed (alongs js) (makes s.fl s.w f) d.pending)) (ap (λ l. l ++ d.pending) (sym takes_one_more));
-      came_is =
-          at_last (IsPermutation-trans _ _ _ a.came_is
-          (IsPermutation-trans _ _ _ (IsPermutation-append_right (alongs js) _ _ next_came) (mixed (alongs js) (makes s.fl s.w f) (came s.fl d))))
-          (ap (λ l. l ++ came s.fl d) (sym takes_one_more));
+      pending = IsPermutation-trans _ _ _ a.pending (mixed d.pending);
       memory = a.memory ∙ next_memory;
-      past = λ c q k. let h = held_past s j n u d.fired e c q k in let m = a.past c q k in (λ z. h.0 (m.0 z), λ z. m.1 (h.1 z));
     }
 
   -- ALL OF THEM
-  pub all_answered : (todo : List Item) (d : Config) (v : Reached s d) (done : List Item) → d.waiting ≡ done ++ todo
-      → ((j : Item) → Contains todo j → Contains net.waiting j) → (memory_of s.fl d.fired).cells x ≡ Some u → Answering d done todo
-  all_answered [] d v done waiting inside full = record {
-    to = d;
-    reached = v;
-    waiting = waiting;
-    pending = IsPermutation-refl d.pending;
-    came_is = IsPermutation-refl (came s.fl d);
-    memory = refl;
-    past = λ c q k. (λ z. z, λ z. z);
-  }
-  all_answered (j ∷ js) d v done waiting inside full =
-      go (test j) refl (λ d v done waiting full. all_answered js d v done waiting (λ i c. inside i (contains_tail j js i c)) full)
+  abbrev Answers_all : List Item → Type 0
+  Answers_all todo = (d : Config) (new : List Firing) (made : List Item) → Account s (IsFetch s) d new made
+      → ((f : Firing) → Contains new f → is_held f.part ≡ true) → (done : List Item) → d.waiting ≡ done ++ todo
+      → (memory_of s.fl d.fired).cells x ≡ Some u → Answering d made done todo
+
+  pub all_answered : (todo : List Item) → ((j : Item) → Contains todo j → Contains net.waiting j) → Answers_all todo
+  all_answered [] inside d new made l held done waiting full =
+      record { to = d; new = new; account = l; held = held; waiting = waiting; pending = IsPermutation-refl d.pending; memory = refl }
+  all_answered (j ∷ js) inside d new made l held done waiting full = go (test j) refl (all_answered js (λ i c. inside i (contains_tail j js i c)))
     where
-      go : (t : Bool) → test j ≡ t → ((d : Config) (v : Reached s d) (done : List Item) → d.waiting ≡ done ++ js → (memory_of s.fl d.fired).cells x ≡ Some u
-          → Answering d done js) → Answering d done (j ∷ js)
-      go false e more = passes d done j js e (more d v (done ++ j ∷ []) (waiting ∙ sym (append_assoc done (j ∷ []) js)) full)
+      go : (t : Bool) → test j ≡ t → Answers_all js → Answering d made done (j ∷ js)
+      go false e more = passes d made done j js e (more d new made l held (done ++ j ∷ []) (waiting ∙ sym (append_assoc done (j ∷ []) js)) full)
       go true e more =
           let k = reads_held s.fl x j j.inlet.part e in let c = inside j (contains_head j js) in
-          answers_one d v done j js waiting c k.0 k.1 e full
-          (more (next d v done j js waiting c k.0 k.1 e full) (next_reached d v done j js waiting c k.0 k.1 e full) done refl
-          (ap (λ (m : Memory). m.cells x) (next_memory d v done j js waiting c k.0 k.1 e full) ∙ full))
+          answers_one d new made l held done j js waiting c k.0 k.1 e full
+          (more (next d new made l held done j js waiting c k.0 k.1 e full) (held_firing j u ∷ new) (makes s.fl s.w (held_firing j u) ++ made)
+          (next_account d new made l held done j js waiting c k.0 k.1 e full) (next_held d new made l held done j js waiting c k.0 k.1 e full) done refl
+          (ap (λ (m : Memory). m.cells x) (next_memory d new made l held done j js waiting c k.0 k.1 e full) ∙ full))
 
   -- THE TOKENS of what they get
   pub along_tokens : (items : List Item) → ((j : Item) → Contains items j → Contains net.waiting j)

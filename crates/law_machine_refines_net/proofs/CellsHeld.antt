@@ -1,32 +1,26 @@
 -- A request at its cell: what it is, and what it fires.
-use Rattle.std.proofs.Common.{◌≡◌, ℕ, ◌+◌, true, false, List, [], ◌∷◌, ◌++◌, refl, sym, ap, ◌∙◌, subst, arith, true≢false, Some, None, ◌==◌}
-use Rattle.std.specs.Prelude.{IsPermutation, Contains}
+use Rattle.std.proofs.Common.{◌≡◌, ℕ, ◌+◌, true, false, List, [], ◌∷◌, ◌++◌, refl, sym, ap, ◌∙◌, subst, arith, Some, None, ◌==◌, inr}
 use Rattle.tags.specs.declared.value.Value.{Value}
 use Rattle.tags.specs.declared.token.Cont.{Cont}
 use Rattle.tags.specs.declared.token.Word.{Word}
 use Rattle.tags.specs.declared.token.To.{To}
 use Rattle.semantics.specs.Rule.{token}
 use Rattle.semantics.specs.Graph.{Flow}
-use Rattle.semantics.specs.Meaning.{Context}
 use Rattle.semantics.specs.Machine.{answer}
-use Rattle.law_net.proofs.ContextsWords.{carries_of}
-use Rattle.law_net.specs.ContextsParts.{Part, Line, Held, Datum, BackTo, signal, Item, item, each, Firing, Drainer, Giver, Taker}
+use Rattle.law_net.specs.ContextsParts.{Part, Line, Held, Datum, BackTo, signal, Item, item, each, Firing}
 use Rattle.law_net.specs.ContextsBlocks.{side, is_cell}
 use Rattle.law_net.specs.Contexts.{Wires, block_in, wiring_in, IsContext}
-use Rattle.law_net.specs.ContextsFirings.{Config, takes, makes, frame_at, cell_of, memory_of, back_from, Answers, ProperAt, makes_by, own_takes, renewed}
-use Rattle.law_net.specs.ContextsFirings.{request_of, sent_word}
-use Rattle.law_net.specs.ContextsStands.{frame_of, ip_of, word_of, token_of, reads, named_by, WasUsed, Stands, reads_cell}
-use Rattle.law_machine_refines_net.specs.MovesCases.{Taking, net_of}
-use Rattle.law_machine_refines_net.proofs.MovesLists.{contains_one}
-use Rattle.law_machine_refines_net.proofs.MovesStill.{to_instr, is_steady}
-use Rattle.law_machine_refines_net.proofs.MovesWhole.{Reached, is_credit}
-use Rattle.law_machine_refines_net.proofs.MovesReached.{Fire, IsKept}
+use Rattle.law_net.specs.ContextsFirings.{Config, takes, makes, frame_at, cell_of, back_from, makes_by, own_takes, renewed, request_of, sent_word}
+use Rattle.law_net.specs.ContextsStands.{frame_of, ip_of, word_of, token_of, reads, named_by, WasUsed, Stands, reads_cell, is_instr}
+use Rattle.law_net.specs.ContextsLaws.{Carries, port_fits, spot_there, way_fits}
+use Rattle.law_net.specs.ContextsWires.{comes_at}
+use Rattle.law_net.proofs.ContextsWords.{carries_of}
+use Rattle.law_machine_refines_net.specs.MovesCases.{Taking, IsCaused, net_of}
+use Rattle.law_machine_refines_net.proofs.MovesParts.{is_credit, given_calm}
+use Rattle.law_machine_refines_net.proofs.MovesStill.{to_instr}
 use Rattle.law_machine_refines_net.proofs.MovesFitted.{fits, framed, IsHere, lone_port, plain_way}
 use Rattle.law_machine_refines_net.proofs.SendsInwards.{carried}
 use Rattle.law_machine_refines_net.proofs.CellsAnswered.{Answered, answered}
-use Rattle.law_net.specs.ContextsLaws.{Carries, port_fits, spot_there, way_fits}
-use Rattle.law_net.specs.ContextsWires.{comes_at, is_given}
-use Rattle.law_confluence.proofs.Orders.{at_last}
 
 -- a cell's answer, as items
 abbrev pub answer_items : Flow → Wires → Value → Item → Part → List Item
@@ -37,6 +31,14 @@ answer_items fl w v j r = []
 abbrev pub held_firing : Item → Value → Firing
 held_firing j v =
     record { context = j.context; part = j.inlet.part; way = 0; left = j.word; right = signal; frame = 0; answer = v; turns = 0; operands = j.held }
+
+-- WHAT A CELL ANSWERS is a value that goes to an instruction, along an arc that was used
+pub record IsReply (s : Taking) (i : Item) : Type 0 where
+  pub known : (g : ℕ) × (frame_at s.fl (net_of s).fired i.context ≡ Some g)
+  pub unnamed : named_by i.word ≡ None
+  pub instr : is_instr i.inlet.part ≡ true
+  pub calm : is_credit i.inlet.part ≡ false
+  pub caused : IsCaused s i
 
 module _ (s : Taking) (j : Item) (h : IsHere s j) (n : ℕ) (e : j.inlet.part ≡ Held n) where
   abbrev net : Config
@@ -106,43 +108,13 @@ module _ (s : Taking) (j : Item) (h : IsHere s j) (n : ℕ) (e : j.inlet.part �
       subst (λ ip. WasUsed s.p s.q.steps (frame_of s.fl net.fired j.context) ip ans.inlet.port) zero
       (s.keeps.follows.asked j j.context ans.inlet 0 h word_is (omega (arith, r)))
 
-  pub inside : (u : Value) (i : Item) → Contains (makes s.fl s.w (held_firing j u)) i → reply u ≡ i
-  inside u i c = contains_one (reply u) i (subst (λ l. Contains l i) (makes_is u) c)
-
-  pub at_reply : (u : Value) (P : Item → Type 0) → P (reply u) → (i : Item) → reply u ≡ i → P i
-  at_reply u P k i e = subst P e k
-
-  pub wired_calm : (r : Part) → is_given (block_in s.fl j.context) r ≡ false → is_credit r ≡ false
-  wired_calm (Giver m) e = absurd (true≢false e)
-  wired_calm (Taker m) e = absurd (true≢false e)
-  wired_calm (Drainer m) e = absurd (true≢false e)
-  wired_calm r e = refl
-
-  pub unnamed : (u : Value) (i : Item) (c : Context) → reply u ≡ i → named_by i.word ≡ Some c → ⊥
-  unnamed u i c e k = let z : None ≡ Some c = ap (λ (i : Item). named_by i.word) e ∙ k in absurd (cc)
-
-  -- it fires, wherever the net has got to
-  abbrev pub held_fires : (d : Config) (v : Reached s d) (u : Value) (now rest before kept later : List Item) → IsPermutation d.pending (now ++ rest)
-      → d.waiting ≡ before ++ (kept ++ later) → ((i : Item) → Contains kept i → IsKept s i)
-      → ((i : Item) → Contains now i → is_credit i.inlet.part ≡ false) → IsPermutation (now ++ kept) (j ∷ [])
-      → Answers s.fl (memory_of s.fl d.fired) j.context n j.held u → Fire s d v (held_firing j u)
-  held_fires d v u now rest before kept later pending waiting are_kept calm took proper = record {
-    now = now;
-    rest = rest;
-    before = before;
-    kept = kept;
-    later = later;
-    pending = pending;
-    waiting = waiting;
-    are_kept = are_kept;
-    now_calm = calm;
-    took = at_last took (sym (takes_is u));
-    steady = ap is_steady e;
-    proper = subst (λ (r : Part). ProperAt s.fl d.fired (held_firing j u) r) (sym e) proper;
-    calm = λ i c. at_reply u (λ (i : Item). is_credit i.inlet.part ≡ false) (wired_calm ans.inlet.part ans.given) i (inside u i c);
-    known = λ i c. at_reply u (λ (i : Item). (g : ℕ) × (frame_at s.fl net.fired i.context ≡ Some g)) (framed s j h) i (inside u i c);
-    named = λ i c h e. absurd (unnamed u i c (inside u i h) e);
-    asked = λ i c x h e. absurd (unnamed u i c (inside u i h) (ap named_by e));
+  pub reply_is : (u : Value) → IsReply s (reply u)
+  reply_is u = record {
+    known = framed s j h;
+    unnamed = refl;
+    instr = ans.is_instr;
+    calm = given_calm (block_in s.fl j.context) ans.inlet.part ans.given;
+    caused = inr was_asked;
   }
 
   -- whether it reads a cell

@@ -1,11 +1,11 @@
 -- A fetch or a store at its node: it asks its cell, or answers at once where its index is bad.
 use Rattle.std.proofs.Common.{◌≡◌, ℕ, ◌+◌, Bool, true, false, List, [], ◌∷◌, ◌++◌, map, refl, sym, ap, ◌∙◌, subst, inl, inr, ◌⊎◌, arith, true≢false, Some}
-use Rattle.std.proofs.Common.{append-nil, if◌then◌else◌}
+use Rattle.std.proofs.Common.{append-nil, if◌then◌else◌, None}
 use Rattle.std.specs.Prelude.{IsPermutation, Contains}
 use Rattle.std.proofs.lemmas.List.Elements.{Contains-append_left, Contains-append_right, Contains-append_cases}
-use Rattle.std.proofs.lemmas.List.Sorted.{IsPermutation-refl, IsPermutation-trans, IsPermutation-append_right}
+use Rattle.std.proofs.lemmas.List.Sorted.{IsPermutation-refl, Contains-permutation}
 use Rattle.lemmas.proofs.Permutations.{permutation_same}
-use Rattle.lemmas.proofs.Contains.{contains_head, contains_none}
+use Rattle.lemmas.proofs.Contains.{contains_head, contains_cases}
 use Rattle.tags.specs.declared.value.Value.{Value}
 use Rattle.tags.specs.declared.token.Port.{Port}
 use Rattle.tags.specs.declared.token.Port.TheVariants.{Left}
@@ -16,38 +16,38 @@ use Rattle.operators.specs.Values.{Outside}
 use Rattle.semantics.specs.declared.program.Op.{Op}
 use Rattle.semantics.specs.declared.program.Op.TheVariants as Ops
 use Rattle.semantics.specs.Graph.{first_cell}
-use Rattle.semantics.specs.Meaning.{Context, Main, Memory}
+use Rattle.semantics.specs.Meaning.{Context, Memory}
 use Rattle.semantics.specs.Program.{Instr}
 use Rattle.semantics.specs.Rule.{token}
-use Rattle.semantics.specs.Orderly.{readers_of}
 use Rattle.semantics.specs.Sharing.{arc, inlet as port_at}
 use Rattle.semantics.specs.Arcs.{UsesArc, UsesBy}
+use Rattle.semantics.specs.Cause.{SameSeen}
 use Rattle.law_confluence.proofs.NetSlots.{InSlots}
-use Rattle.law_confluence.proofs.Orders.{shuffled, Part as Piece, ◌⊕◌, at_last}
+use Rattle.law_confluence.proofs.Orders.{shuffled, Part as Piece, ◌⊕◌}
 use Rattle.law_reuse.proofs.SlotsUsedArcs.{stands_arcs}
 use Rattle.law_fresh_frames.specs.Alike.{plain_dests}
 use Rattle.law_fresh_frames.proofs.FreshArcs.{dest_arc, uses_new}
-use Rattle.law_net.specs.ContextsParts.{Part, Line, Held, Done, Freed, Giver, Taker, Drainer, Inlet, inlet, Datum, BackTo, Item, item, each, Firing}
+use Rattle.law_net.specs.ContextsParts.{Part, Line, Held, Inlet, inlet, Datum, BackTo, Item, item, each, Firing}
 use Rattle.law_net.specs.ContextsBlocks.{side, is_cell, is_store}
 use Rattle.law_net.specs.Contexts.{block_in, code_in, wiring_in}
-use Rattle.law_net.specs.ContextsWires.{is_given}
 use Rattle.law_net.specs.ContextsFirings.{Config, takes, makes, frame_at, cell_of, index_of, place_at, second_of, stored_at, memory_of, back_from, AFault}
-use Rattle.law_net.specs.ContextsFirings.{HasFired, ProperAt, array_at}
-use Rattle.law_net.specs.ContextsStands.{frame_of, ip_of, word_of, token_of, on_side, in_slot, slot_of, only, is_held, is_instr, reads, conts_of, named_by}
-use Rattle.law_net.specs.ContextsStands.{came, but_cells, Stands}
-use Rattle.law_machine_refines_net.specs.MovesCases.{Taking, IsCaused, net_of, Followed, IsFree, Shows}
-use Rattle.law_machine_refines_net.proofs.MovesLists.{contains_one, kept_but, kept_append}
-use Rattle.law_machine_refines_net.proofs.MovesStill.{is_steady, to_instr}
-use Rattle.law_machine_refines_net.proofs.MovesWhole.{Reached, WasThere, UsedNow, is_credit, pair_reads}
-use Rattle.law_machine_refines_net.proofs.MovesReached.{Fire, reached_here, reached_fires, came_back, two_cases, left_before, rest_before}
-use Rattle.law_machine_refines_net.proofs.MovesSettled.{pool_is, met_is, made_but, told_other, told_held, nh, IsTold}
-use Rattle.law_machine_refines_net.proofs.MovesFollowed.{follows_from}
-use Rattle.law_machine_refines_net.proofs.MovesFitted.{fits, framed, taken_here, instr_held}
+use Rattle.law_net.specs.ContextsFirings.{ProperAt, array_at, handed_to, renewed}
+use Rattle.law_net.specs.ContextsStands.{frame_of, ip_of, word_of, token_of, on_side, in_slot, slot_of, only, is_held, is_instr, named_by, Stands}
+use Rattle.law_machine_refines_net.specs.MovesCases.{Taking, IsCaused, net_of, Followed, IsFree}
+use Rattle.law_machine_refines_net.proofs.MovesLists.{contains_one, one_holds}
+use Rattle.law_machine_refines_net.proofs.MovesParts.{is_credit, pair_reads, is_lending, pair_asked, pair_quiet, quiet_calm, given_calm}
+use Rattle.law_machine_refines_net.proofs.MovesStill.{to_instr}
+use Rattle.law_machine_refines_net.proofs.MovesAccount.{Account, no_move, kept_fires, part_fires, reordered, here as where_is}
+use Rattle.law_machine_refines_net.proofs.MovesFramed.{HandNone, frames_stay}
+use Rattle.law_machine_refines_net.proofs.MovesLoops.{unlent, unlent_loops}
+use Rattle.law_machine_refines_net.proofs.MovesBalanced.{WasThere, UsedNow, Sound, balanced}
+use Rattle.law_machine_refines_net.proofs.MovesPlain.{Stays, is_silent, is_end, words_stay, pool_of, tokens_of, sound_of, requests_stay, readers_stay}
+use Rattle.law_machine_refines_net.proofs.MovesPlain.{memory_by, memory_of_silent, recalls, silent_seen}
+use Rattle.law_machine_refines_net.proofs.MovesSettled.{made_but, told_other, told_held, IsTold}
+use Rattle.law_machine_refines_net.proofs.MovesFitted.{fits, framed, taken_here, instr_held, others_before}
 use Rattle.law_machine_refines_net.proofs.SendsRules.{goes_to}
-use Rattle.law_machine_refines_net.proofs.Sends.{Stays, shows_stay}
 use Rattle.law_machine_refines_net.proofs.CellsAnswered.{Answered, answered}
 use Rattle.law_machine_refines_net.proofs.CellsHeld.{held_firing}
-use Rattle.law_machine_refines_net.proofs.CellsFetched.{held_past}
 
 -- A REQUEST IS MADE at the item's part, a node's
 module _ (s : Taking) (n : ℕ) (e : s.i.inlet.part ≡ Line n) (cell : is_cell (block_in s.fl s.i.context) n ≡ true) where
@@ -155,11 +155,8 @@ module _ (s : Taking) (n : ℕ) (e : s.i.inlet.part ≡ Line n) (cell : is_cell 
     abbrev pub request : Item
     request = record { context = c; inlet = inlet (Held n) Left 0; word = back_from c ((wiring_in s.fl s.w c).wire (side (Line n) false)); held = g.held }
 
-    one_request : (i : Item) → Contains (makes s.fl s.w g.f) i → request ≡ i
-    one_request i h = contains_one request i (subst (λ l. Contains l i) g.makes_is h)
-
-    of_request : (P : Item → Type 0) → P request → (i : Item) → Contains (makes s.fl s.w g.f) i → P i
-    of_request P h i k = subst P (one_request i k) h
+    abbrev Kind : Item → Type 0
+    Kind i = in_slot s.fl i ≡ true
 
     named_here : (x : Context) → named_by request.word ≡ Some x → (m : ℕ) × (frame_at s.fl net.fired x ≡ Some m)
     named_here x k =
@@ -171,80 +168,66 @@ module _ (s : Taking) (n : ℕ) (e : s.i.inlet.part ≡ Line n) (cell : is_cell 
         let a : BackTo c ans.inlet ≡ BackTo x y = sym back_is ∙ k in let z : c ≡ x = cc in let v : ans.inlet ≡ y = cc in
         inr (subst (λ y. UsedNow s x y) v (subst (λ x. UsedNow s x ans.inlet) z (used_now used)))
 
-    abbrev fire : Fire s net (reached_here s) g.f
-    fire = record {
-      now = s.i ∷ [];
-      rest = s.others;
-      before = g.before;
-      kept = g.kept;
-      later = g.later;
-      pending = s.perm;
-      waiting = g.waiting;
-      are_kept = λ j h. inl (g.paired j h);
-      now_calm = λ j h. ap (λ (j : Item). is_credit j.inlet.part) (sym (contains_one s.i j h)) ∙ ap is_credit e;
-      took = g.took;
-      steady = ap is_steady g.part;
-      proper = subst (λ (r : Part). ProperAt s.fl net.fired g.f r) (sym g.part) tt;
-      calm = of_request (λ (i : Item). is_credit i.inlet.part ≡ false) refl;
-      known = of_request (λ (i : Item). (m : ℕ) × (frame_at s.fl net.fired i.context ≡ Some m)) (framed s s.i (taken_here s));
-      named = λ i x h k. of_request (λ (i : Item). named_by i.word ≡ Some x → (m : ℕ) × (frame_at s.fl net.fired x ≡ Some m)) (named_here x) i h k;
-      asked = λ i x y h k. of_request (λ (i : Item). i.word ≡ BackTo x y → WasThere s i ⊎ UsedNow s x y) (asked_here x y) i h k;
-    }
-
-    abbrev pub asked_it : Config
+    abbrev asked_it : Config
     asked_it = record { pending = makes s.fl s.w g.f ++ s.others; waiting = g.before ++ g.later; fired = g.f ∷ net.fired }
 
-    reached : Reached s asked_it
-    reached = reached_fires s net (reached_here s) g.f fire
+    account : Account s Kind asked_it (g.f ∷ []) (request ∷ [])
+    account =
+        reordered (kept_fires (no_move s Kind) g.f (s.i ∷ []) s.others g.before g.kept g.later s.perm g.waiting g.paired g.took
+        (subst (λ (r : Part). ProperAt s.fl net.fired g.f r) (sym g.part) tt)) (request ∷ [])
+        (permutation_same _ _ (append-nil (makes s.fl s.w g.f) ∙ g.makes_is))
 
-    shows : Shows s (g.f ∷ net.fired) (g.before ++ g.later)
-    shows = shows_stay s is g.f (g.before ++ g.later) (ap is_instr g.part) g.stays g.slots
+    none : HandNone s.fl (g.f ∷ [])
+    none = one_holds (λ (h : Firing). handed_to s.fl h.context h.part ≡ None) g.f (ap (handed_to s.fl g.f.context) g.part)
 
-    readers_are : (x : ℕ) → IsPermutation (readers_of (s.new.store.cells x))
-        (conts_of s.fl s.p s.w net.fired (only (λ (i : Item). reads s.fl x i i.inlet.part) (g.before ++ g.later)))
-    readers_are x =
-        subst (λ k. IsPermutation (readers_of k) (conts_of s.fl s.p s.w net.fired (only (λ (i : Item). reads s.fl x i i.inlet.part) (g.before ++ g.later))))
-        (sym (g.stays.cells x))
-        (at_last (old.readers x) (ap (conts_of s.fl s.p s.w net.fired) (ap (only (λ (i : Item). reads s.fl x i i.inlet.part)) g.waiting
-        ∙ kept_but (λ (i : Item). reads s.fl x i i.inlet.part) g.before g.kept g.later
-        (λ j h. pair_reads s.fl x j (block_in s.fl j.context) j.inlet.part (g.paired j h)))))
+    pair_calm : (i : Item) → Kind i → is_credit i.inlet.part ≡ false
+    pair_calm i t = quiet_calm i.inlet.part (pair_quiet (block_in s.fl i.context) i.inlet.part t)
+
+    not_lent : is_lending g.f.part ≡ false
+    not_lent = ap is_lending g.part
+
+    not_renewed : renewed s.fl g.f g.f.part ≡ []
+    not_renewed = ap (renewed s.fl g.f) g.part
 
     -- THE INDEX IS GOOD
     pub asks_cell : (x : ℕ) → cell_of s.fl c n g.held ≡ Some x → s.event.made ≡ tok request ∷ [] → Followed s
-    asks_cell x good made = follows_from s asked_it (record {
-      reached = reached;
-      pool = pool_is s (makes s.fl s.w g.f) made_is;
+    asks_cell x good made = balanced {T = Kind} {d = asked_it} {new = g.f ∷ []} {made = request ∷ []} (record {
+      account = account;
+      frames = frames_stay account none;
+      base = old.base;
+      loops = unlent_loops account (frames_stay account none) (words_stay account none)
+          (unlent s Kind asked_it (g.f ∷ []) (request ∷ []) g.free (one_holds (λ (h : Firing). is_lending h.part ≡ false) g.f not_lent) pair_calm
+          (one_holds (λ (i : Item). is_credit i.inlet.part ≡ false) request refl));
+      words = words_stay account none;
+      sound = one_holds (Sound s asked_it) request (sound_of account none request (framed s s.i (taken_here s)) named_here asked_here);
+      pool = pool_of account none (request ∷ []) made_is (permutation_same _ _ (ap (λ l. l ++ s.others) g.makes_is));
+      tokens =
+          tokens_of account none (ap (λ l. l ++ []) not_renewed)
+          (made_but s (request ∷ []) made_is
+          (one_holds (λ (i : Item). IsTold s.fl s.p s.w net.fired i) request (told_held s.fl s.p s.w net.fired request n x refl good)));
+      caused = λ i h k l. caused i k (Contains-append_cases (makes s.fl s.w g.f) s.others i h);
+      good = λ i m h k. good_at i m k (where_is account i h);
+      waits = λ i t. inl t;
       slots = g.slots;
-      requests = g.stays.requests;
-      readers = readers_are;
-      seen = shows.seen;
-      done = shows.done;
-      out = shows.out;
-      not_out = shows.not_out;
-      good = λ i m h k. good_at i m k (two_cases s net (reached_here s) g.f fire i h);
-      waits = λ i h. inl (left_before s net (reached_here s) g.f fire i h);
-      met =
-          met_is s (makes s.fl s.w g.f) (came s.fl asked_it)
-          (made_but s (makes s.fl s.w g.f) made_is
-          (of_request (λ (i : Item). IsTold s.fl s.p s.w net.fired i) (told_held s.fl s.p s.w net.fired request n x refl good)))
-          (came_back s net (reached_here s) g.f fire);
-      caused = λ i h k l. caused_at i k (Contains-append_cases (makes s.fl s.w g.f) s.others i h);
-      free = g.free;
+      requests = requests_stay account g.stays.requests (λ i t. pair_asked (block_in s.fl i.context) i.inlet.part t);
+      readers = λ y. readers_stay account y (g.stays.cells y) (λ i t. pair_reads s.fl y i (block_in s.fl i.context) i.inlet.part t);
+      memory = memory_of_silent account none (one_holds (λ (h : Firing). is_silent h.part ≡ true) g.f (ap is_silent g.part)) (recalls s g.stays);
     })
       where
-        made_is : IsPermutation s.event.made (map tok (makes s.fl s.w g.f))
-        made_is = permutation_same _ _ (made ∙ sym (ap (map tok) g.makes_is))
+        made_is : IsPermutation s.event.made (map tok (request ∷ []))
+        made_is = permutation_same _ _ made
 
-        good_at : (i : Item) (m : ℕ) → i.inlet.part ≡ Held m → Contains (makes s.fl s.w g.f) i ⊎ Contains (net.pending ++ net.waiting) i
+        good_at : (i : Item) (m : ℕ) → i.inlet.part ≡ Held m → Contains (request ∷ []) i ⊎ Contains (net.pending ++ net.waiting) i
             → (y : ℕ) × (cell_of s.fl i.context m i.held ≡ Some y)
         good_at i m k (inr h) = old.good i m h k
         good_at i m k (inl h) =
-            of_request (λ (i : Item). i.inlet.part ≡ Held m → (y : ℕ) × (cell_of s.fl i.context m i.held ≡ Some y))
+            one_holds (λ (i : Item). i.inlet.part ≡ Held m → (y : ℕ) × (cell_of s.fl i.context m i.held ≡ Some y)) request
             (λ q. let z : n ≡ m = cc in (x, subst (λ m. cell_of s.fl c m g.held ≡ Some x) z good)) i h k
 
-        caused_at : (i : Item) → is_instr i.inlet.part ≡ true → Contains (makes s.fl s.w g.f) i ⊎ Contains s.others i → Contains net.pending i ⊎ IsCaused s i
-        caused_at i k (inl h) = absurd (true≢false (sym k ∙ of_request (λ (i : Item). is_instr i.inlet.part ≡ false) refl i h))
-        caused_at i k (inr h) = inl (rest_before s net (reached_here s) g.f fire i h)
+        caused : (i : Item) → is_instr i.inlet.part ≡ true → Contains (makes s.fl s.w g.f) i ⊎ Contains s.others i → Contains net.pending i ⊎ IsCaused s i
+        caused i k (inl h) =
+            absurd (true≢false (sym k ∙ one_holds (λ (i : Item). is_instr i.inlet.part ≡ false) request refl i (subst (λ l. Contains l i) g.makes_is h)))
+        caused i k (inr h) = inl (others_before s i h)
 
     -- THE INDEX IS BAD
     module _ (u : Value) (bad : index_of s.fl c n g.held ≡ Outside u)
@@ -258,61 +241,42 @@ module _ (s : Taking) (n : ℕ) (e : s.i.inlet.part ≡ Line n) (cell : is_cell 
       replies_is : makes s.fl s.w h ≡ reply ∷ []
       replies_is = ap (each c (Datum u)) ans.wire
 
-      of_reply : (P : Item → Type 0) → P reply → (i : Item) → Contains (makes s.fl s.w h) i → P i
-      of_reply P k i l = subst P (contains_one reply i (subst (λ l. Contains l i) replies_is l)) k
-
-      reply_calm : (r : Part) → is_given (block_in s.fl c) r ≡ false → is_credit r ≡ false
-      reply_calm (Giver m) k = absurd (true≢false k)
-      reply_calm (Taker m) k = absurd (true≢false k)
-      reply_calm (Drainer m) k = absurd (true≢false k)
-      reply_calm r k = refl
-
-      abbrev second : Fire s asked_it reached h
-      second = record {
-        now = request ∷ [];
-        rest = s.others;
-        before = [];
-        kept = [];
-        later = g.before ++ g.later;
-        pending = permutation_same _ _ (ap (λ l. l ++ s.others) g.makes_is);
-        waiting = refl;
-        are_kept = λ i k. absurd (contains_none i k);
-        now_calm = λ i k. ap (λ (i : Item). is_credit i.inlet.part) (sym (contains_one request i k));
-        took = IsPermutation-refl (request ∷ []);
-        steady = refl;
-        proper = AFault bad;
-        calm = of_reply (λ (i : Item). is_credit i.inlet.part ≡ false) (reply_calm ans.inlet.part ans.given);
-        known = of_reply (λ (i : Item). (m : ℕ) × (frame_at s.fl net.fired i.context ≡ Some m)) (framed s s.i (taken_here s));
-        named = λ i x k l. absurd (of_reply (λ (i : Item). named_by i.word ≡ Some x → ⊥) (λ q. absurd (cc)) i k l);
-        asked = λ i x y k l. absurd (of_reply (λ (i : Item). i.word ≡ BackTo x y → ⊥) (λ q. absurd (cc)) i k l);
-      }
-
       abbrev answered_it : Config
       answered_it = record { pending = makes s.fl s.w h ++ s.others; waiting = g.before ++ g.later; fired = h ∷ g.f ∷ net.fired }
 
-      both_reached : Reached s answered_it
-      both_reached = reached_fires s asked_it reached h second
+      both : Account s Kind answered_it (h ∷ g.f ∷ []) (reply ∷ request ∷ [])
+      both =
+          reordered (part_fires account h (request ∷ []) s.others [] (g.before ++ g.later) (permutation_same _ _ (ap (λ l. l ++ s.others) g.makes_is))
+          (IsPermutation-refl (g.before ++ g.later)) (IsPermutation-refl (request ∷ [])) (AFault bad) (λ test spares. refl)) (reply ∷ request ∷ [])
+          (permutation_same _ _ (ap (λ l. l ++ request ∷ []) replies_is))
+
+      of_both : (P : Firing → Type 0) → P h → P g.f → (f : Firing) → Contains (h ∷ g.f ∷ []) f → P f
+      of_both P a b f k = pick (contains_cases h (g.f ∷ []) f k)
+        where
+          pick : (h ≡ f) ⊎ Contains (g.f ∷ []) f → P f
+          pick (inl q) = subst P q a
+          pick (inr q) = one_holds P g.f b f q
+
+      of_made : (P : Item → Type 0) → P reply → P request → (i : Item) → Contains (reply ∷ request ∷ []) i → P i
+      of_made P a b i k = pick (contains_cases reply (request ∷ []) i k)
+        where
+          pick : (reply ≡ i) ⊎ Contains (request ∷ []) i → P i
+          pick (inl q) = subst P q a
+          pick (inr q) = one_holds P request b i q
+
+      none_both : HandNone s.fl (h ∷ g.f ∷ [])
+      none_both = of_both (λ (f : Firing). handed_to s.fl f.context f.part ≡ None) refl (ap (handed_to s.fl g.f.context) g.part)
 
       reply_token : tok reply ≡ token (To.Instr frame (here + ans.dest.ahead) ans.dest.port) (Word.Val u)
       reply_token =
           ap (λ (x : To). token x (Word.Val u)) (to_instr s.fl s.p s.w net.fired reply ans.inlet.part ans.is_instr)
           ∙ (λ t. token (To.Instr frame (sym far t) (sym ans.port t)) (Word.Val u))
 
-      made_is : IsPermutation s.event.made (map tok (makes s.fl s.w h))
-      made_is = permutation_same _ _ (made ∙ sym (ap (λ t. t ∷ []) reply_token) ∙ sym (ap (map tok) replies_is))
+      made_is : IsPermutation s.event.made (map tok (reply ∷ []))
+      made_is = permutation_same _ _ (made ∙ sym (ap (λ t. t ∷ []) reply_token))
 
-      not_held : (i : Item) → Contains (makes s.fl s.w h) i → is_held i.inlet.part ≡ false
-      not_held = of_reply (λ (i : Item). is_held i.inlet.part ≡ false) (instr_held ans.inlet.part ans.is_instr)
-
-      came_is : IsPermutation (came s.fl answered_it) ((makes s.fl s.w h ++ request ∷ []) ++ came s.fl net)
-      came_is =
-          IsPermutation-trans _ _ _ (came_back s asked_it reached h second)
-          (IsPermutation-trans _ _ _ (IsPermutation-append_right (makes s.fl s.w h) _ _
-          (at_last (came_back s net (reached_here s) g.f fire) (ap (λ l. l ++ came s.fl net) g.makes_is)))
-          (shuffled (makes s.fl s.w h ∷ (request ∷ []) ∷ came s.fl net ∷ []) (Piece 0 ⊕ (Piece 1 ⊕ Piece 2)) ((Piece 0 ⊕ Piece 1) ⊕ Piece 2) refl))
-
-      only_replies : only (nh s) (makes s.fl s.w h ++ request ∷ []) ≡ only (nh s) (makes s.fl s.w h)
-      only_replies = kept_append (nh s) (makes s.fl s.w h) (request ∷ []) ∙ append-nil (only (nh s) (makes s.fl s.w h))
+      not_held : (i : Item) → Contains (reply ∷ []) i → is_held i.inlet.part ≡ false
+      not_held = one_holds (λ (i : Item). is_held i.inlet.part ≡ false) reply (instr_held ans.inlet.part ans.is_instr)
 
       memory : memory_of s.fl answered_it.fired ≡ memory_of s.fl (g.f ∷ net.fired)
       memory =
@@ -323,44 +287,56 @@ module _ (s : Taking) (n : ℕ) (e : s.i.inlet.part ≡ Line n) (cell : is_cell 
           either true m = refl
           either false m = refl
 
-      past : (x : Context) (q : Part) → is_held q ≡ false
-          → (HasFired x q answered_it.fired → HasFired x q (g.f ∷ net.fired)) × (HasFired x q (g.f ∷ net.fired) → HasFired x q answered_it.fired)
-      past = held_past s request n u (g.f ∷ net.fired) refl
+      first_seen : SameSeen s.new.store (memory_of s.fl (g.f ∷ net.fired))
+      first_seen = silent_seen account (one_holds (λ (h : Firing). is_silent h.part ≡ true) g.f (ap is_silent g.part)) (recalls s g.stays).recalled
 
       pub answers_at_once : Followed s
-      answers_at_once = follows_from s answered_it (record {
-        reached = both_reached;
-        pool = pool_is s (makes s.fl s.w h) made_is;
-        slots = g.slots;
-        requests = g.stays.requests;
-        readers = readers_are;
-        seen =
-            record {
-              outputs = λ j. shows.seen.outputs j ∙ sym (ap (λ (m : Memory). m.outputs j) memory);
-              cells = λ y. shows.seen.cells y ∙ sym (ap (λ (m : Memory). m.cells y) memory);
-            };
-        done = (λ k. (past Main Done refl).1 (shows.done.0 k), λ k. shows.done.1 ((past Main Done refl).0 k));
-        out = λ x m k. (λ l. (past x Freed refl).1 ((shows.out x m k).0 l), λ l. (shows.out x m k).1 ((past x Freed refl).0 l));
-        not_out = shows.not_out;
+      answers_at_once = balanced {T = Kind} {d = answered_it} {new = h ∷ g.f ∷ []} {made = reply ∷ request ∷ []} (record {
+        account = both;
+        frames = frames_stay both none_both;
+        base = old.base;
+        loops = unlent_loops both (frames_stay both none_both) (words_stay both none_both)
+            (unlent s Kind answered_it (h ∷ g.f ∷ []) (reply ∷ request ∷ []) g.free (of_both (λ (f : Firing). is_lending f.part ≡ false) refl not_lent)
+            pair_calm (of_made (λ (i : Item). is_credit i.inlet.part ≡ false) (given_calm (block_in s.fl c) ans.inlet.part ans.given) refl));
+        words = words_stay both none_both;
+        sound =
+            of_made (Sound s answered_it)
+            (sound_of both none_both reply (framed s s.i (taken_here s)) (λ x k. absurd (cc)) (λ x y k. absurd (cc)))
+            (sound_of both none_both request (framed s s.i (taken_here s)) named_here asked_here);
+        pool = pool_of both none_both (reply ∷ []) made_is (permutation_same _ _ (ap (λ l. l ++ s.others) replies_is));
+        tokens =
+            tokens_of both none_both (ap (λ l. l ++ []) not_renewed)
+            (made_but s (reply ∷ []) made_is (λ i k. told_other s.fl s.p s.w net.fired i (not_held i k)));
+        caused = λ i k l m. caused i (Contains-append_cases (makes s.fl s.w h) s.others i k);
         good = λ i m k l. good_at i m l (Contains-append_cases (makes s.fl s.w h ++ s.others) (g.before ++ g.later) i k);
-        waits = λ i k. inl (left_before s net (reached_here s) g.f fire i k);
-        met = met_is s (makes s.fl s.w h ++ request ∷ []) (came s.fl answered_it) (at_last (made_but_here) (ap (map tok) (sym only_replies))) came_is;
-        caused = λ i k l m. caused_at i l (Contains-append_cases (makes s.fl s.w h) s.others i k);
-        free = g.free;
+        waits = λ i t. inl t;
+        slots = g.slots;
+        requests = requests_stay both g.stays.requests (λ i t. pair_asked (block_in s.fl i.context) i.inlet.part t);
+        readers = λ y. readers_stay both y (g.stays.cells y) (λ i t. pair_reads s.fl y i (block_in s.fl i.context) i.inlet.part t);
+        memory = memory_by both none_both (record {
+          outputs = λ j. first_seen.outputs j ∙ sym (ap (λ (m : Memory). m.outputs j) memory);
+          cells = λ y. first_seen.cells y ∙ sym (ap (λ (m : Memory). m.cells y) memory);
+        }) (of_both (λ (f : Firing). is_end f.part ≡ false) refl (ap is_end g.part)) g.stays.done g.stays.out;
       })
         where
-          made_but_here : IsPermutation (but_cells s.event.made) (map tok (only (nh s) (makes s.fl s.w h)))
-          made_but_here = made_but s (makes s.fl s.w h) made_is (λ i k. told_other s.fl s.p s.w net.fired i (not_held i k))
+          in_made : (i : Item) → Contains (makes s.fl s.w h) i → reply ≡ i
+          in_made i k = contains_one reply i (subst (λ l. Contains l i) replies_is k)
+
+          still_waits : (i : Item) → Contains (g.before ++ g.later) i → Contains net.waiting i
+          still_waits i k =
+              subst (λ l. Contains l i) (sym g.waiting)
+              (Contains-permutation _ _ i (shuffled (g.before ∷ g.later ∷ g.kept ∷ []) ((Piece 0 ⊕ Piece 1) ⊕ Piece 2) (Piece 0 ⊕ (Piece 2 ⊕ Piece 1)) refl)
+              (Contains-append_left (g.before ++ g.later) g.kept i k))
 
           good_at : (i : Item) (m : ℕ) → i.inlet.part ≡ Held m → Contains (makes s.fl s.w h ++ s.others) i ⊎ Contains (g.before ++ g.later) i
               → (y : ℕ) × (cell_of s.fl i.context m i.held ≡ Some y)
-          good_at i m k (inr l) = old.good i m (Contains-append_right net.pending net.waiting i (left_before s net (reached_here s) g.f fire i l)) k
+          good_at i m k (inr l) = old.good i m (Contains-append_right net.pending net.waiting i (still_waits i l)) k
           good_at i m k (inl l) = pick (Contains-append_cases (makes s.fl s.w h) s.others i l)
             where
               pick : Contains (makes s.fl s.w h) i ⊎ Contains s.others i → (y : ℕ) × (cell_of s.fl i.context m i.held ≡ Some y)
-              pick (inl l) = absurd (true≢false (sym (ap is_held k) ∙ not_held i l))
-              pick (inr l) = old.good i m (Contains-append_left net.pending net.waiting i (rest_before s net (reached_here s) g.f fire i l)) k
+              pick (inl l) = absurd (true≢false (sym (ap is_held k) ∙ not_held i (subst (λ l. Contains l i) replies_is l)))
+              pick (inr l) = old.good i m (Contains-append_left net.pending net.waiting i (others_before s i l)) k
 
-          caused_at : (i : Item) → is_instr i.inlet.part ≡ true → Contains (makes s.fl s.w h) i ⊎ Contains s.others i → Contains net.pending i ⊎ IsCaused s i
-          caused_at i k (inl l) = inr (of_reply (IsCaused s) (inl used) i l)
-          caused_at i k (inr l) = inl (rest_before s net (reached_here s) g.f fire i l)
+          caused : (i : Item) → Contains (makes s.fl s.w h) i ⊎ Contains s.others i → Contains net.pending i ⊎ IsCaused s i
+          caused i (inl l) = inr (subst (IsCaused s) (in_made i l) (inl used))
+          caused i (inr l) = inl (others_before s i l)

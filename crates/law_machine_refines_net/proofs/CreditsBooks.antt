@@ -1,9 +1,10 @@
 -- An item at one of the four instructions of a loop's credits: what the machine does with it, and what it counts.
-use Rattle.std.proofs.Common.{◌≡◌, ℕ, ◌+◌, Bool, true, false, ◌&&◌, List, [], ◌∷◌, ◌++◌, map, refl, sym, ap, ◌∙◌, subst, inl, inr, ◌⊎◌, arith, Option, Some}
-use Rattle.std.proofs.Common.{◌==◌, if◌then◌else◌, append-nil}
+use Rattle.std.proofs.Common.{◌≡◌, ℕ, Bool, true, false, ◌&&◌, List, [], ◌∷◌, ◌++◌, refl, sym, ap, ◌∙◌, subst, arith, Option, Some, ◌==◌, if◌then◌else◌}
+use Rattle.std.proofs.Common.{append-nil}
 use Rattle.std.specs.Prelude.{IsPermutation, Contains}
 use Rattle.std.proofs.lemmas.List.Sorted.{IsPermutation-refl}
-use Rattle.lemmas.proofs.Contains.{contains_cases, contains_none}
+use Rattle.lemmas.proofs.Contains.{contains_none}
+use Rattle.lemmas.proofs.Permutations.{permutation_same}
 use Rattle.tags.specs.declared.token.Port.{Port}
 use Rattle.tags.specs.declared.token.Port.TheVariants.{Left}
 use Rattle.tags.specs.declared.token.Word.{Word}
@@ -18,24 +19,21 @@ use Rattle.semantics.specs.Machine.{Fires as Happening, with_slot, slot_in, slot
 use Rattle.semantics.specs.Holders.{Holder, holder_at, holder_of, same_holder}
 use Rattle.semantics.specs.Credits.{granted_at, granted_in, granted_by, released_at, released_in, released_by}
 use Rattle.law_reuse.proofs.SlotsClaims.{holder_here}
-use Rattle.law_confluence.proofs.Orders.{at_last}
-use Rattle.law_confluence.proofs.Net.{Waits, Fires}
-use Rattle.law_net.specs.ContextsParts.{Part, Opener, Giver, Taker, Drainer, signal, Item, Firing}
+use Rattle.law_net.specs.ContextsParts.{Part, Opener, Item, Firing}
 use Rattle.law_net.specs.ContextsBlocks.{is_loop, waits_in, bound_at, op_of}
 use Rattle.law_net.specs.Contexts.{block_in, code_in, site_in, wiring_in, or_zero, IsContext}
 use Rattle.law_net.specs.ContextsCredits.{Ledger, slot_for}
-use Rattle.law_net.specs.ContextsFirings.{Config, begin, takes, makes, frame_at, IsProper, ProperMoves}
-use Rattle.law_net.specs.ContextsStands.{frame_of, word_of, token_of, only, ledger, granted_of, KeepsCredits, is_instr, is_entry_part}
+use Rattle.law_net.specs.ContextsFirings.{Config, takes, makes, frame_at, IsProper}
+use Rattle.law_net.specs.ContextsStands.{frame_of, word_of, only, ledger, KeepsCredits, is_instr}
 use Rattle.law_net.proofs.Credits as Credits
-use Rattle.law_machine_refines_net.specs.MovesCases.{Taking, IsCaused, net_of, Followed, is_quiet}
-use Rattle.law_machine_refines_net.proofs.MovesLists.{kept_no, contains_one}
-use Rattle.law_machine_refines_net.proofs.MovesWhole.{one_more}
+use Rattle.law_machine_refines_net.specs.MovesCases.{Taking, net_of, Followed}
+use Rattle.law_machine_refines_net.proofs.MovesLists.{one_holds}
+use Rattle.law_machine_refines_net.proofs.MovesAccount.{Account, Spares, no_move, item_waits, part_fires, reordered}
 use Rattle.law_machine_refines_net.proofs.MovesFitted.{fits, framed, taken_here, lone_port}
 use Rattle.law_machine_refines_net.proofs.SendsRules as Rules
 use Rattle.law_machine_refines_net.proofs.SendsInwards.{told_as}
 use Rattle.law_machine_refines_net.proofs.CreditsLenders.{IsLender, IsLoops}
-use Rattle.law_machine_refines_net.proofs.CreditsLending.{Spares}
-use Rattle.law_machine_refines_net.proofs.CreditsLent.{lends_follow}
+use Rattle.law_machine_refines_net.proofs.CreditsLending.{Kind, Lends, lends_follow}
 
 module _ (s : Taking) (n : ℕ) (l : is_loop (block_in s.fl s.i.context) n ≡ true) where
   abbrev pub net : Config
@@ -131,21 +129,21 @@ module _ (s : Taking) (n : ℕ) (l : is_loop (block_in s.fl s.i.context) n ≡ t
   abbrev pub waited : Config
   waited = record { pending = s.others; waiting = s.i ∷ net.waiting; fired = net.fired }
 
-  moves_wait : ProperMoves s.fl s.w (begin s.inputs) waited
-  moves_wait = one_more s.fl s.w (begin s.inputs) net waited s.keeps.follows.moves (Waits s.i s.others s.perm refl) tt
+  -- what waits for its credits
+  abbrev pub Lent : Item → Type 0
+  Lent = Kind s c con n l g at
 
-  pub waits_follow : IsLoops n s.i.inlet.part → ((m : ℕ) × ((s.i.inlet.part ≡ Giver m) ⊎ ((s.i.inlet.part ≡ Taker m) ⊎ (s.i.inlet.part ≡ Drainer m))))
-      → s.event.made ≡ [] → (state : SlotState) → s.new.store ≡ with_slot s.m.store g own state
+  waits_account : IsLoops n s.i.inlet.part → Account s Lent waited [] []
+  waits_account mine = item_waits (no_move s Lent) s.i s.others s.perm (refl, mine)
+
+  pub waits_follow : IsLoops n s.i.inlet.part → s.event.made ≡ [] → (state : SlotState) → s.new.store ≡ with_slot s.m.store g own state
       → state ≡ slot_for bound (ledger s.fl s.p s.w waited c n) → KeepsCredits s.fl s.p s.w waited c n
       → ((f : ℕ) (h : Holder) → granted_at s.p s.p.program f h s.m.store s.t.to ≡ (if (g == f) && same_holder h (Some whose) then 0 else 0))
       → ((f base : ℕ) → released_at s.p.program f base s.t.to s.event.made ≡ 0) → Followed s
-  waits_follow mine credit none state store now keeps grants releases = lends_follow s c con n l g at [] [] (s.i ∷ net.waiting) (record {
-    moves = moves_wait;
+  waits_follow mine none state store now keeps grants releases = lends_follow s c con n l g at waited [] [] (record {
+    account = waits_account mine;
+    pending = IsPermutation-refl s.others;
     lenders = λ f h. absurd (contains_none f h);
-    mine = (refl, mine);
-    took = IsPermutation-refl (s.i ∷ net.waiting);
-    spared = λ test spares. kept_no test s.i net.waiting (spares s.i refl mine);
-    left_fine = λ j h. fine j (contains_cases s.i net.waiting j h);
     quiet = λ j h. absurd (contains_none j h);
     signals = λ j h. absurd (contains_none j h);
     known = λ j h. absurd (contains_none j h);
@@ -160,63 +158,23 @@ module _ (s : Taking) (n : ℕ) (l : is_loop (block_in s.fl s.i.context) n ≡ t
     granted = grants;
     released = releases;
   })
-    where
-      fine : (j : Item) → (s.i ≡ j) ⊎ Contains net.waiting j
-          → Contains net.waiting j ⊎ ((m : ℕ) × ((j.inlet.part ≡ Giver m) ⊎ ((j.inlet.part ≡ Taker m) ⊎ (j.inlet.part ≡ Drainer m))))
-      fine j (inr h) = inl h
-      fine j (inl e) = inr (subst (λ (j : Item). (m : ℕ) × ((j.inlet.part ≡ Giver m) ⊎ ((j.inlet.part ≡ Taker m) ⊎ (j.inlet.part ≡ Drainer m)))) e credit)
 
-  -- it waits, and something fires with what waits
+  -- something fires with it, and with what waits
   module _ (f : Firing) (left : List Item) where
     abbrev pub gone : Config
     gone = record { pending = makes s.fl s.w f ++ s.others; waiting = left; fired = f ∷ net.fired }
 
-    -- what has to be shown
-    pub record Fired : Type 0 where
-      pub proper : IsProper s.fl net.fired f
-      pub place : f.context ≡ c
-      pub lender : IsLender n f.part
-      pub mine : IsLoops n s.i.inlet.part
-      pub took : IsPermutation (s.i ∷ net.waiting) (takes s.fl f ++ left)
-      pub spared : (test : Item → Bool) → Spares s c con n l g at test → only test left ≡ only test net.waiting
-      pub left_fine : (j : Item) → Contains left j
-          → Contains net.waiting j ⊎ ((m : ℕ) × ((j.inlet.part ≡ Giver m) ⊎ ((j.inlet.part ≡ Taker m) ⊎ (j.inlet.part ≡ Drainer m))))
-      pub quiet : (j : Item) → Contains (makes s.fl s.w f) j → is_quiet j.inlet.part ≡ true
-      pub signals : (j : Item) → Contains (makes s.fl s.w f) j → j.word ≡ signal
-      pub known : (j : Item) → Contains (makes s.fl s.w f) j → (h : ℕ) × (frame_at s.fl net.fired j.context ≡ Some h)
-      pub caused : (j : Item) → Contains (makes s.fl s.w f) j → (is_instr j.inlet.part ≡ true) → (is_entry_part (block_in s.fl j.context) j.inlet.part ≡ false)
-          → IsCaused s j
-      pub event : IsPermutation s.event.made (map (token_of s.fl s.p s.w net.fired) (makes s.fl s.w f))
-      pub state : SlotState
-      pub store : s.new.store ≡ with_slot s.m.store g own state
-      pub slot_now : state ≡ slot_for bound (ledger s.fl s.p s.w gone c n)
-      pub keeps : KeepsCredits s.fl s.p s.w gone c n
-      pub grants : ℕ
-      pub granted_now : granted_of gone c n ≡ granted_of net c n + grants
-      pub granted : (f : ℕ) (h : Holder) → granted_at s.p s.p.program f h s.m.store s.t.to ≡ (if (g == f) && same_holder h (Some whose) then grants else 0)
-      pub released : (f base : ℕ) → released_at s.p.program f base s.t.to s.event.made ≡ 0
+    abbrev pub Fired : Type 0
+    Fired = Lends s c con n l g at gone (f ∷ []) (makes s.fl s.w f)
+
+    pub then_fires : IsLoops n s.i.inlet.part → IsProper s.fl net.fired f → IsPermutation (s.i ∷ net.waiting) (takes s.fl f ++ left)
+        → ((test : Item → Bool) → Spares s Lent test → only test left ≡ only test (s.i ∷ net.waiting)) → Account s Lent gone (f ∷ []) (makes s.fl s.w f)
+    then_fires mine proper took spared =
+        reordered (part_fires (waits_account mine) f [] s.others (takes s.fl f) left (IsPermutation-refl s.others) took (IsPermutation-refl (takes s.fl f))
+        proper spared) (makes s.fl s.w f) (permutation_same _ _ (append-nil (makes s.fl s.w f)))
+
+    pub one_lends : f.context ≡ c → IsLender n f.part → (h : Firing) → Contains (f ∷ []) h → (h.context ≡ c) × IsLender n h.part
+    one_lends place lender = one_holds (λ (h : Firing). (h.context ≡ c) × IsLender n h.part) f (place, lender)
 
     pub fires_follow : Fired → Followed s
-    fires_follow v = lends_follow s c con n l g at (f ∷ []) (makes s.fl s.w f) left (record {
-      moves =
-          one_more s.fl s.w (begin s.inputs) waited gone moves_wait
-          (Fires f [] (takes s.fl f) s.others left (IsPermutation-refl s.others) v.took (IsPermutation-refl (takes s.fl f)) refl) v.proper;
-      lenders = λ h d. subst (λ (h : Firing). (h.context ≡ c) × IsLender n h.part) (contains_one f h d) (v.place, v.lender);
-      mine = (refl, v.mine);
-      took = at_last v.took (ap (λ x. x ++ left) (sym (append-nil (takes s.fl f))));
-      spared = v.spared;
-      left_fine = v.left_fine;
-      quiet = v.quiet;
-      signals = v.signals;
-      known = v.known;
-      caused = v.caused;
-      event = v.event;
-      state = v.state;
-      store = v.store;
-      slot_now = v.slot_now;
-      keeps = v.keeps;
-      grants = v.grants;
-      granted_now = v.granted_now;
-      granted = v.granted;
-      released = v.released;
-    })
+    fires_follow v = lends_follow s c con n l g at gone (f ∷ []) (makes s.fl s.w f) v

@@ -3,8 +3,7 @@ use Rattle.std.proofs.Common.{◌≡◌, ℕ, ◌+◌, ◌<◌, ◌≤◌, Bool,
 use Rattle.std.proofs.Common.{true≢false, Some, None, pos, append-nil, ◌==◌, ◌&&◌, if◌then◌else◌}
 use Rattle.std.specs.Prelude.{IsPermutation, Contains}
 use Rattle.std.proofs.lemmas.List.Elements.{Contains-append_left, Contains-append_right, Contains-append_cases}
-use Rattle.std.proofs.lemmas.List.Sorted.{IsPermutation-trans, IsPermutation-append}
-use Rattle.lemmas.proofs.Contains.{contains_cases}
+use Rattle.std.proofs.lemmas.List.Sorted.{IsPermutation-trans, IsPermutation-append, IsPermutation-refl}
 use Rattle.tags.specs.declared.value.Value.TheVariants.{Int}
 use Rattle.tags.specs.declared.token.Port.TheVariants.{Left}
 use Rattle.tags.specs.declared.slot.SlotState.TheVariants.{Empty}
@@ -28,14 +27,14 @@ use Rattle.law_net.proofs.CreditsTurns.{left_at, opened_once}
 use Rattle.law_net.proofs.Credits as Credits
 use Rattle.law_net.proofs.Credits.{none_passes}
 use Rattle.law_machine_refines_net.specs.MovesCases.{Taking, IsCaused, net_of, Followed, is_quiet}
-use Rattle.law_machine_refines_net.proofs.MovesLists.{kept_no, contains_one, count_kept}
-use Rattle.law_machine_refines_net.proofs.CellsAnswering.{kept_apart}
+use Rattle.law_machine_refines_net.proofs.MovesLists.{contains_one, count_kept}
 use Rattle.law_machine_refines_net.proofs.MovesStill.{times_no}
+use Rattle.law_machine_refines_net.proofs.MovesAccount.{Spares}
 use Rattle.law_machine_refines_net.proofs.MovesFitted.{framed, bare, bare_item, taken_here, among, IsHere}
+use Rattle.law_machine_refines_net.proofs.CellsAnswering.{kept_apart}
 use Rattle.law_machine_refines_net.proofs.CreditsLenders.{ADrained, IsLoops, LGiver, LDrainer}
-use Rattle.law_machine_refines_net.proofs.CreditsLending.{Spares}
 use Rattle.law_machine_refines_net.proofs.CreditsBooks as Books
-use Rattle.law_machine_refines_net.proofs.CreditsBooks.{gone, fires_follow}
+use Rattle.law_machine_refines_net.proofs.CreditsBooks.{gone, then_fires, one_lends, fires_follow}
 use Rattle.law_machine_refines_net.proofs.CreditsLedgers.{over_slot, times_more, some_yes, item_not}
 use Rattle.law_machine_refines_net.proofs.CreditsStanding.{was_there, waited_there, spot_here, apart, meet_not}
 use Rattle.law_machine_refines_net.proofs.CreditsReturned.{give_is, all_credits, split_by, only_one}
@@ -66,7 +65,6 @@ module _ (s : Taking) (n : ℕ) (l : is_loop (block_in s.fl s.i.context) n ≡ t
 
   -- THE DRAIN that waits or comes
   module _ (x : Item) (there : Contains all x) (xc : x.context ≡ c) (xp : x.inlet.part ≡ Drainer n) (mine : IsLoops n s.i.inlet.part)
-      (comes : (s.i.inlet.part ≡ Giver n) ⊎ (s.i.inlet.part ≡ Drainer n))
       (count : items_at c (Giver n) all ≡ granted_of net c n) where
     abbrev last : ℕ
     last = times c (Taker n) net.fired
@@ -163,31 +161,10 @@ module _ (s : Taking) (n : ℕ) (l : is_loop (block_in s.fl s.i.context) n ≡ t
         no true e = absurd (true≢false (sym e))
         no false e = refl
 
-    -- the item that comes is not left
-    left_waits : (j : Item) → Contains left j → Contains net.waiting j
-    left_waits j h = pick (contains_cases s.i net.waiting j (left_all j h).0) comes
-      where
-        given_none : gives j ≡ false
-        given_none = no (gives j) (only_contains (λ (j : Item). not (gives j)) all j (only_contains (λ (j : Item). not (drains j)) others j h).0).1
-          where
-            no : (t : Bool) → not t ≡ true → t ≡ false
-            no true e = absurd (true≢false (sym e))
-            no false e = refl
-
-        pick : (s.i ≡ j) ⊎ Contains net.waiting j → (s.i.inlet.part ≡ Giver n) ⊎ (s.i.inlet.part ≡ Drainer n) → Contains net.waiting j
-        pick (inr h) o = h
-        pick (inl e) (inl o) =
-            absurd (true≢false (sym (item_here c (Giver n) j (ap (λ (i : Item). i.context) (sym e)) (ap (λ (i : Item). i.inlet.part) (sym e) ∙ o))
-            ∙ given_none))
-        pick (inl e) (inr o) =
-            absurd (true≢false (sym (item_here c (Drainer n) j (ap (λ (i : Item). i.context) (sym e)) (ap (λ (i : Item). i.inlet.part) (sym e) ∙ o))
-            ∙ (left_all j h).1))
-
-    spared : (test : Item → Bool) → Spares s c (Books.con s n l) n l (Books.g s n l) (Books.at s n l) test → only test left ≡ only test net.waiting
+    spared : (test : Item → Bool) → Spares s (Books.Lent s n l) test → only test left ≡ only test all
     spared test spares =
-        kept_apart drains test (λ j e. let o = item_there c (Drainer n) j e in spares j o.0 (LDrainer o.1)) others
-        ∙ kept_apart gives test (λ j e. let o = item_there c (Giver n) j e in spares j o.0 (LGiver o.1)) all
-        ∙ kept_no test s.i net.waiting (spares s.i refl mine)
+        kept_apart drains test (λ j e. let o = item_there c (Drainer n) j e in spares j (o.0, LDrainer o.1)) others
+        ∙ kept_apart gives test (λ j e. let o = item_there c (Giver n) j e in spares j (o.0, LGiver o.1)) all
 
     -- THE LEDGER
     abbrev done : Item
@@ -256,13 +233,9 @@ module _ (s : Taking) (n : ℕ) (l : is_loop (block_in s.fl s.i.context) n ≡ t
         ≡ (if (Books.g s n l == y) && same_holder h (Some (Books.whose s n l)) then 0 else 0))
         → ((y base : ℕ) → released_at s.p.program y base s.t.to s.event.made ≡ 0) → Followed s
     all_back made caused store grants releases = fires_follow s n l f left (record {
-      proper = refl;
-      place = refl;
-      lender = ADrained refl;
-      mine = mine;
-      took = took;
-      spared = spared;
-      left_fine = λ j h. inl (left_waits j h);
+      account = then_fires s n l f left mine refl took spared;
+      pending = IsPermutation-refl (makes s.fl s.w f ++ s.others);
+      lenders = one_lends s n l f left refl (ADrained refl);
       quiet = of_made (λ (j : Item). is_quiet j.inlet.part ≡ true) refl;
       signals = of_made (λ (j : Item). j.word ≡ signal) refl;
       known = of_made (λ (j : Item). (g : ℕ) × (frame_at s.fl net.fired j.context ≡ Some g)) (framed s s.i (taken_here s));

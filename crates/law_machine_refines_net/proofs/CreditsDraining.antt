@@ -112,7 +112,7 @@ module _ (s : Taking) (n : ℕ) (e : s.i.inlet.part ≡ Drainer n) where
   -- ALL ARE BACK
   ends : left ≡ k → Followed s
   ends full =
-      all_back s n l s.i (contains_head s.i net.waiting) refl e (LDrainer e) (inr e) count event caused m.1 grants
+      all_back s n l s.i (contains_head s.i net.waiting) refl e (LDrainer e) count event caused m.1 grants
       (Books.released s n l (Drainer n) e refl refl mine (Ops.Drain k) refl (λ y. refl) (λ f base made. refl))
     where
       m : Comes (Becomes Empty (to_all (Rules.at t refl) word (Rules.instr t refl)))
@@ -184,7 +184,7 @@ module _ (s : Taking) (n : ℕ) (e : s.i.inlet.part ≡ Drainer n) where
     }
 
     waits : Followed s
-    waits = waits_follow s n l (LDrainer e) (n, inr (inr e)) m.0 (Draining (k - left)) m.1
+    waits = waits_follow s n l (LDrainer e) m.0 (Draining (k - left)) m.1
         (ap (λ x. Draining x) (let a = given_now in let b = given_is in let g = kept.law.given in let h = kept.law.bound in omega (arith, a, b, g, h))
         ∙ sym (drain_slot k later open_is over_is draining_now))
         keeps grants (Books.released s n l (Drainer n) e refl refl mine (Ops.Drain k) refl (λ y. refl) (λ f base made. refl))

@@ -1,6 +1,6 @@
 -- A turn gives its credit back: it is kept, it is one of all that are asked for, or it is the last of them.
-use Rattle.std.proofs.Common.{◌≡◌, ℕ, zero, suc, ◌+◌, ◌-◌, ◌<◌, ◌≤◌, Bool, true, false, List, [], ◌∷◌, map, refl, sym, ap, ◌∙◌, subst, inl, inr, arith}
-use Rattle.std.proofs.Common.{true≢false, Some, None, ◌==◌, ◌&&◌, nat_lt, lt-ltb, if◌then◌else◌}
+use Rattle.std.proofs.Common.{◌≡◌, ℕ, zero, suc, ◌+◌, ◌-◌, ◌<◌, ◌≤◌, Bool, true, false, List, [], ◌∷◌, map, refl, sym, ap, ◌∙◌, subst, inr, arith, true≢false}
+use Rattle.std.proofs.Common.{Some, None, ◌==◌, ◌&&◌, nat_lt, lt-ltb, if◌then◌else◌}
 use Rattle.std.specs.Prelude.{IsPermutation, Contains}
 use Rattle.lemmas.proofs.Contains.{contains_head, contains_tail}
 use Rattle.tags.specs.declared.token.Port.TheVariants.{Left}
@@ -146,7 +146,7 @@ module _ (s : Taking) (n : ℕ) (e : s.i.inlet.part ≡ Giver n) where
       → KeepsCredits s.fl s.p s.w w c n
       → ((f : ℕ) (h : Holder) → granted_at s.p s.p.program f h s.m.store s.t.to
       ≡ (if (Books.g s n l == f) && same_holder h (Some (Books.whose s n l)) then 0 else 0)) → Followed s
-  waits state made store now laws counts = waits_follow s n l (LGiver e) (n, inl e) made state store now laws counts releases
+  waits state made store now laws counts = waits_follow s n l (LGiver e) made state store now laws counts releases
 
   -- ALL CREDITS ARE ASKED FOR
   module _ (drains : log.draining ≡ true) where
@@ -156,7 +156,7 @@ module _ (s : Taking) (n : ℕ) (e : s.i.inlet.part ≡ Giver n) where
     -- it is the last
     ends : log.granted - log.given ≡ 1 → Gives (Draining 1) → Followed s
     ends one m =
-        all_back s n l x.0 (contains_tail s.i net.waiting x.0 x.1) at.0 at.1 (LGiver e) (inl e) count event caused m.1
+        all_back s n l x.0 (contains_tail s.i net.waiting x.0 x.1) at.0 at.1 (LGiver e) count event caused m.1
         (grants (Draining 1) (drain_is ∙ ap (λ y. Draining y) one)) releases
       where
         x : (x : Item) × Contains net.waiting x × (is_item_at c (Drainer n) x ≡ true)

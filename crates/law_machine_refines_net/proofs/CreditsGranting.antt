@@ -1,7 +1,7 @@
 -- A turn asks for its credit: it is granted, or it waits for one.
-use Rattle.std.proofs.Common.{◌≡◌, ℕ, zero, suc, ◌+◌, ◌-◌, ◌<◌, Bool, true, false, List, [], ◌∷◌, ◌++◌, refl, sym, ap, ◌∙◌, subst, inl, inr, arith, true≢false}
-use Rattle.std.proofs.Common.{Some, None, ◌==◌, ◌&&◌, nat_lt, if◌then◌else◌}
-use Rattle.std.specs.Prelude.{IsPermutation, Contains}
+use Rattle.std.proofs.Common.{◌≡◌, ℕ, zero, suc, ◌+◌, ◌-◌, ◌<◌, Bool, true, false, List, [], ◌∷◌, ◌++◌, refl, sym, ap, ◌∙◌, subst, inr, arith, true≢false, Some}
+use Rattle.std.proofs.Common.{None, ◌==◌, ◌&&◌, nat_lt, if◌then◌else◌}
+use Rattle.std.specs.Prelude.{Contains}
 use Rattle.std.proofs.lemmas.List.Elements.{Contains-append_right}
 use Rattle.std.proofs.lemmas.List.Sorted.{IsPermutation-refl}
 use Rattle.lemmas.proofs.Permutations.{permutation_same}
@@ -33,12 +33,13 @@ use Rattle.law_net.proofs.RunsPigeons.{item_here, item_there}
 use Rattle.law_machine_refines_net.specs.MovesCases.{Taking, IsCaused, net_of, Followed, is_quiet}
 use Rattle.law_machine_refines_net.proofs.MovesLists.{kept_yes, contains_one}
 use Rattle.law_machine_refines_net.proofs.MovesStill.{times_no}
+use Rattle.law_machine_refines_net.proofs.MovesAccount.{alone_fires}
 use Rattle.law_machine_refines_net.proofs.MovesFitted.{fits, code, bare, bare_item, taken_here, among, IsHere}
 use Rattle.law_machine_refines_net.proofs.Sends.{firing_of}
 use Rattle.law_machine_refines_net.proofs.SendsInwards.{told_as}
 use Rattle.law_machine_refines_net.proofs.CreditsLenders.{ATaker, LTaker}
 use Rattle.law_machine_refines_net.proofs.CreditsBooks as Books
-use Rattle.law_machine_refines_net.proofs.CreditsBooks.{waited, waits_follow, gone, Fired, fires_follow}
+use Rattle.law_machine_refines_net.proofs.CreditsBooks.{waited, waits_follow, gone, one_lends, fires_follow}
 use Rattle.law_machine_refines_net.proofs.CreditsLedgers.{free_slot, waiter_slot, times_more, item_else, some_yes}
 use Rattle.law_machine_refines_net.proofs.CreditsStanding.{taken_there, rest_there, was_there, waited_there, no_twin, spot_here}
 
@@ -178,7 +179,7 @@ module _ (s : Taking) (n : ℕ) (e : s.i.inlet.part ≡ Taker n) where
 
     take_waits : Takes (Slot.Credits 0) → Followed s
     take_waits m =
-        waits_follow s n l (LTaker e) (n, inr (inl e)) m.0 (Waiter cont) m.1
+        waits_follow s n l (LTaker e) m.0 (Waiter cont) m.1
         (sym (waiter_slot k later open_is over_is cont waits_draining waits_waiter)) waits_keep (grants 0 none)
         (Books.released s n l (Taker n) e refl refl mine (Ops.Take k) refl (λ y. refl) (λ f base made. refl))
 
@@ -259,13 +260,9 @@ module _ (s : Taking) (n : ℕ) (e : s.i.inlet.part ≡ Taker n) where
 
     take_fires : Takes (Slot.Credits (suc x)) → Followed s
     take_fires m = fires_follow s n l f net.waiting (record {
-      proper = tt;
-      place = refl;
-      lender = ATaker refl;
-      mine = LTaker e;
-      took = subst (λ y. IsPermutation (s.i ∷ net.waiting) (y ++ net.waiting)) (sym took) (IsPermutation-refl (s.i ∷ net.waiting));
-      spared = λ test h. refl;
-      left_fine = λ j h. inl h;
+      account = alone_fires s (Books.Lent s n l) f took tt;
+      pending = IsPermutation-refl (makes s.fl s.w f ++ s.others);
+      lenders = one_lends s n l f net.waiting refl (ATaker refl);
       quiet = of_made (λ (j : Item). is_quiet j.inlet.part ≡ true) refl;
       signals = of_made (λ (j : Item). j.word ≡ signal) refl;
       known =

@@ -1,8 +1,10 @@
 -- A loop is opened: its first turn is granted.
-use Rattle.std.proofs.Common.{◌≡◌, ℕ, ◌-◌, ◌<◌, Bool, true, false, List, [], ◌∷◌, ◌++◌, refl, sym, ap, ◌∙◌, subst, inl, arith, true≢false, Some, None, ◌==◌}
-use Rattle.std.proofs.Common.{◌&&◌, if◌then◌else◌}
-use Rattle.std.specs.Prelude.{IsPermutation, Contains}
+use Rattle.std.proofs.Common.{◌≡◌, ℕ, ◌-◌, ◌<◌, Bool, true, false, List, [], ◌∷◌, ◌++◌, refl, sym, ap, ◌∙◌, subst, arith, true≢false, Some, None, ◌==◌, ◌&&◌}
+use Rattle.std.proofs.Common.{if◌then◌else◌}
+use Rattle.std.specs.Prelude.{Contains}
 use Rattle.std.proofs.lemmas.List.Sorted.{IsPermutation-refl}
+use Rattle.std.proofs.lemmas.List.Elements.{Contains-append_right}
+use Rattle.lemmas.proofs.Contains.{contains_mapped}
 use Rattle.tags.specs.declared.token.Port.TheVariants.{Left}
 use Rattle.tags.specs.declared.slot.SlotState.{SlotState}
 use Rattle.tags.specs.declared.slot.SlotState.TheVariants.{Empty}
@@ -13,8 +15,6 @@ use Rattle.semantics.specs.Machine.{Fires as Happening}
 use Rattle.semantics.specs.Credits.{granted_by}
 use Rattle.semantics.specs.Holders.{same_holder}
 use Rattle.law_fresh_frames.specs.Alike.{plain_dests}
-use Rattle.std.proofs.lemmas.List.Elements.{Contains-append_right}
-use Rattle.lemmas.proofs.Contains.{contains_mapped}
 use Rattle.law_net.specs.ContextsParts.{Opener, Giver, Taker, Drainer, Drained, Inlet, signal, Item, item, Firing}
 use Rattle.law_net.specs.ContextsBlocks.{side, is_loop}
 use Rattle.law_net.specs.Contexts.{block_in, site_in, wiring_in}
@@ -28,13 +28,14 @@ use Rattle.law_net.proofs.RunsPigeons.{item_there}
 use Rattle.law_machine_refines_net.specs.MovesCases.{Taking, IsCaused, net_of, Followed, is_quiet}
 use Rattle.law_machine_refines_net.proofs.MovesSites.{there_instr}
 use Rattle.law_machine_refines_net.proofs.MovesStill.{times_no}
+use Rattle.law_machine_refines_net.proofs.MovesAccount.{alone_fires}
 use Rattle.law_machine_refines_net.proofs.MovesFitted.{fits, code, framed, bare, bare_item, taken_here, IsHere, plain_way}
 use Rattle.law_machine_refines_net.proofs.SendsRules as Rules
 use Rattle.law_machine_refines_net.proofs.Sends.{firing_of}
 use Rattle.law_machine_refines_net.proofs.SendsInwards.{told_as}
-use Rattle.law_machine_refines_net.proofs.CreditsLenders.{AnOpener, LOpener}
+use Rattle.law_machine_refines_net.proofs.CreditsLenders.{AnOpener}
 use Rattle.law_machine_refines_net.proofs.CreditsBooks as Books
-use Rattle.law_machine_refines_net.proofs.CreditsBooks.{gone, Fired, fires_follow}
+use Rattle.law_machine_refines_net.proofs.CreditsBooks.{gone, Fired, one_lends, fires_follow}
 use Rattle.law_machine_refines_net.proofs.CreditsLedgers.{free_slot, times_more, no_items, some_yes, none_no, no_none}
 use Rattle.law_machine_refines_net.proofs.CreditsSignals.{fed_quiet, sent, used}
 use Rattle.law_machine_refines_net.proofs.CreditsStanding.{taken_there, rest_there, was_there, no_take_yet, no_give_yet, no_drain_yet, none_taken_yet}
@@ -173,13 +174,9 @@ module _ (s : Taking) (n : ℕ) (e : s.i.inlet.part ≡ Opener n) where
 
     fired : Fired s n l f net.waiting
     fired = record {
-      proper = tt;
-      place = refl;
-      lender = AnOpener refl;
-      mine = LOpener e;
-      took = subst (λ x. IsPermutation (s.i ∷ net.waiting) (x ++ net.waiting)) (sym took) (IsPermutation-refl (s.i ∷ net.waiting));
-      spared = λ test h. refl;
-      left_fine = λ j h. inl h;
+      account = alone_fires s (Books.Lent s n l) f took tt;
+      pending = IsPermutation-refl (makes s.fl s.w f ++ s.others);
+      lenders = one_lends s n l f net.waiting refl (AnOpener refl);
       quiet = quiet;
       signals = λ j h. ap (λ (j : Item). j.word) (sym (where_made j h).2);
       known = λ j h. subst (λ (j : Item). (g : ℕ) × (frame_at s.fl net.fired j.context ≡ Some g)) (where_made j h).2 (framed s s.i (taken_here s));

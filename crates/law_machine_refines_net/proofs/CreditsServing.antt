@@ -4,6 +4,7 @@ use Rattle.std.proofs.Common.{nat_lt, pos, if◌then◌else◌}
 use Rattle.std.specs.Prelude.{IsPermutation, Contains}
 use Rattle.std.proofs.lemmas.List.Elements.{Contains-append_left, Contains-append_right, Contains-append_cases}
 use Rattle.std.proofs.lemmas.List.Sorted.{IsPermutation-middle, IsPermutation-trans, IsPermutation-sym, IsPermutation-append_right, Contains-permutation}
+use Rattle.std.proofs.lemmas.List.Sorted.{IsPermutation-refl}
 use Rattle.lemmas.proofs.Permutations.{permutation_same}
 use Rattle.lemmas.proofs.Contains.{contains_cases, contains_head, contains_tail}
 use Rattle.tags.specs.declared.value.Value.TheVariants.{Int}
@@ -27,14 +28,14 @@ use Rattle.law_net.proofs.Credits.{none_passes}
 use Rattle.law_net.proofs.RunsMatching.{word_at}
 use Rattle.law_net.proofs.RunsPigeons.{items_total, item_there, some_item}
 use Rattle.law_machine_refines_net.specs.MovesCases.{Taking, IsCaused, net_of, Followed, is_quiet}
-use Rattle.law_machine_refines_net.proofs.MovesLists.{kept_no, kept_but, count_but, taken_out, contains_one}
+use Rattle.law_machine_refines_net.proofs.MovesLists.{kept_but, count_but, taken_out, contains_one}
 use Rattle.law_machine_refines_net.proofs.MovesStill.{times_no}
+use Rattle.law_machine_refines_net.proofs.MovesAccount.{Spares}
 use Rattle.law_machine_refines_net.proofs.MovesFitted.{bare, bare_item, waiting_here, among, IsHere}
 use Rattle.law_machine_refines_net.proofs.MovesSpots.{one_waits}
 use Rattle.law_machine_refines_net.proofs.CreditsLenders.{ATaker, LGiver, LTaker}
-use Rattle.law_machine_refines_net.proofs.CreditsLending.{Spares}
 use Rattle.law_machine_refines_net.proofs.CreditsBooks as Books
-use Rattle.law_machine_refines_net.proofs.CreditsBooks.{gone, fires_follow}
+use Rattle.law_machine_refines_net.proofs.CreditsBooks.{gone, then_fires, one_lends, fires_follow}
 use Rattle.law_machine_refines_net.proofs.CreditsLedgers.{free_slot, waiter_slot, times_more, item_more, item_else, item_not, some_yes}
 use Rattle.law_machine_refines_net.proofs.CreditsStanding.{was_there, waited_there, spot_here, meet_not}
 use Rattle.law_machine_refines_net.proofs.CreditsGiving.{l, opened, over_is, given_is, kept, not_drainer, not_taker, Gives, did, grants, releases}
@@ -154,10 +155,10 @@ module _ (s : Taking) (n : ℕ) (e : s.i.inlet.part ≡ Giver n) (free : (Books.
           pick (inr o) = none_left i a b o
           pick (inl o) = meet_not s i j o (contains_tail s.i net.waiting j waits) (same_turn i (left_here i h) a b)
 
-      spared : (test : Item → Bool) → Spares s c (Books.con s n loop) n loop (Books.g s n loop) (Books.at s n loop) test
-          → only test left ≡ only test net.waiting
-      spared test spares = kept_no test s.i (before ++ after) (spares s.i refl (LGiver e))
-          ∙ sym (ap (only test) order ∙ kept_but test before (j ∷ []) after (λ i h. ap test (sym (contains_one j i h)) ∙ spares j jc (LTaker jp)))
+      spared : (test : Item → Bool) → Spares s (Books.Lent s n loop) test → only test left ≡ only test (s.i ∷ net.waiting)
+      spared test spares =
+          sym (ap (λ l. only test (s.i ∷ l)) order
+          ∙ kept_but test (s.i ∷ before) (j ∷ []) after (λ i h. ap test (sym (contains_one j i h)) ∙ spares j (jc, LTaker jp)))
 
       -- THE LEDGER
       counted : (r : Part) → (j.inlet.part ≡ r → ⊥) → items_at c r (before ++ after) ≡ items_at c r net.waiting
@@ -236,13 +237,9 @@ module _ (s : Taking) (n : ℕ) (e : s.i.inlet.part ≡ Giver n) (free : (Books.
 
         serves : Followed s
         serves = fires_follow s n loop f left (record {
-          proper = tt;
-          place = refl;
-          lender = ATaker refl;
-          mine = LGiver e;
-          took = took;
-          spared = spared;
-          left_fine = λ i h. fine i (contains_cases s.i (before ++ after) i h);
+          account = then_fires s n loop f left (LGiver e) tt took spared;
+          pending = IsPermutation-refl (makes s.fl s.w f ++ s.others);
+          lenders = one_lends s n loop f left refl (ATaker refl);
           quiet = of_made (λ (j : Item). is_quiet j.inlet.part ≡ true) refl;
           signals = of_made (λ (j : Item). j.word ≡ signal) refl;
           known =
@@ -259,11 +256,6 @@ module _ (s : Taking) (n : ℕ) (e : s.i.inlet.part ≡ Giver n) (free : (Books.
           granted = grants s n e (Waiter cont) waiter_is;
           released = releases s n e;
         })
-          where
-            fine : (i : Item) → (s.i ≡ i) ⊎ Contains (before ++ after) i
-                → Contains net.waiting i ⊎ ((m : ℕ) × ((i.inlet.part ≡ Giver m) ⊎ ((i.inlet.part ≡ Taker m) ⊎ (i.inlet.part ≡ Drainer m))))
-            fine i (inl q) = inr (n, inl (ap (λ (i : Item). i.inlet.part) (sym q) ∙ e))
-            fine i (inr h) = inl (rest_waits i h)
 
   -- WHAT WAITS for a credit is a turn
   pub served_follows : (x : Cont) → log.waiter ≡ Some x → Followed s

@@ -1,229 +1,244 @@
--- The manager's event: a frame is free and goes to the context for which it was asked, or none is and the request waits.
-use Rattle.std.proofs.Common.{◌≡◌, ℕ, ◌+◌, ◌*◌, ◌<◌, true, false, [], ◌∷◌, ◌++◌, map, refl, sym, ap, ◌∙◌, subst, inl, inr, ◌⊎◌, arith, true≢false, Option, Some}
-use Rattle.std.proofs.Common.{if◌then◌else◌}
-use Rattle.std.specs.Prelude.{IsPermutation, Contains, flat_map}
+-- The manager hands a frame out: it is that of one context more, and the net follows.
+use Rattle.std.proofs.Common.{◌≡◌, ℕ, ◌+◌, ◌<◌, ◌*◌, Bool, true, false, List, [], ◌∷◌, ◌++◌, map, refl, sym, ap, ◌∙◌, subst, inl, inr, ◌⊎◌, arith, true≢false}
+use Rattle.std.proofs.Common.{Option, Some, if◌then◌else◌}
+use Rattle.std.specs.Prelude.{Contains, flat_map}
 use Rattle.std.proofs.lemmas.Bool.{cases_eq}
-use Rattle.std.proofs.lemmas.List.{map-append}
-use Rattle.std.proofs.lemmas.List.Concat.{flat_map-append}
-use Rattle.std.proofs.lemmas.List.Elements.{Contains-append_left, Contains-append_right, Contains-append_cases}
-use Rattle.std.proofs.lemmas.List.Sorted.{IsPermutation-trans, IsPermutation-sym, IsPermutation-map, IsPermutation-append}
+use Rattle.std.proofs.lemmas.List.Elements.{Contains-append_left, Contains-append_right}
+use Rattle.std.proofs.lemmas.List.Sorted.{IsPermutation-trans, IsPermutation-append}
 use Rattle.lemmas.proofs.Permutations.{permutation_same}
-use Rattle.lemmas.proofs.Contains.{contains_cases, contains_head, contains_tail}
+use Rattle.lemmas.proofs.Contains.{contains_cases, contains_head}
 use Rattle.tags.specs.declared.token.Port.TheVariants.{Left}
 use Rattle.tags.specs.declared.token.Word.{Word}
-use Rattle.tags.specs.declared.token.Token.{Token}
-use Rattle.semantics.specs.Meaning.{Context}
-use Rattle.semantics.specs.Machine.{answer, with_out, with_requests}
+use Rattle.tags.specs.declared.token.To.{To}
+use Rattle.semantics.specs.Graph.{Flow}
+use Rattle.semantics.specs.Meaning.{Context, Main, Called, Turned}
+use Rattle.semantics.specs.Machine.{Store, answer, with_out, with_requests, put_at, value_in}
 use Rattle.semantics.specs.Handed.{handed_by}
-use Rattle.semantics.specs.Holders.{Holder}
-use Rattle.law_confluence.proofs.Orders.{shuffled, Part as Piece, ◌⊕◌, at_last, flat_map-IsPermutation}
-use Rattle.law_net.specs.ContextsParts.{Opener, Giver, Taker, Landing, Inlet, inlet, BackTo, Item, Firing}
-use Rattle.law_net.specs.ContextsBlocks.{is_loop}
-use Rattle.law_net.specs.Contexts.{block_in, code_in, wiring_in, IsContext}
-use Rattle.law_net.specs.ContextsFirings.{Config, takes, makes, frame_at, frames_of, frames_if}
-use Rattle.law_net.specs.ContextsStands.{frame_of, ip_of, token_of, only, is_held, is_instr, is_entry_part, is_item_at, items_at, granted_of, row_of, came}
-use Rattle.law_net.specs.ContextsStands.{is_cell_token, but_cells, events_taken, after, Past, Stepped, WasUsed, named_by}
-use Rattle.law_machine_refines_net.specs.MovesCases.{Taking, net_of, Followed}
-use Rattle.law_machine_refines_net.proofs.MovesLists.{contains_one, kept_append, kept_out, count_append, count_none, count_same, count_no}
-use Rattle.law_machine_refines_net.proofs.MovesWhole.{is_credit, calm_item}
-use Rattle.law_machine_refines_net.proofs.MovesSettled.{met_tokens, cells_out, told_other, nh}
-use Rattle.law_machine_refines_net.proofs.MovesFollowed.{used_later}
-use Rattle.law_machine_refines_net.proofs.MovesFitted.{framed, taken_here, among, instr_held}
-use Rattle.law_machine_refines_net.proofs.FramesWanted.{asked_calm}
-use Rattle.law_machine_refines_net.proofs.MovesLasting.{tokens_last, credits_last}
-use Rattle.law_machine_refines_net.proofs.MovesSingle.{alone_came, alone_here, alone_moves, others_there}
-use Rattle.law_machine_refines_net.proofs.FramesUnframed.{no_items, no_times}
-use Rattle.law_machine_refines_net.proofs.FramesManaged.{Hands, cont, requested, manager_free}
+use Rattle.semantics.specs.Rule.{token}
+use Rattle.semantics.proofs.Stores.{put_other}
+use Rattle.law_confluence.proofs.NetSlots.{put_same}
+use Rattle.law_confluence.proofs.Orders.{at_first, at_last}
+use Rattle.law_net.specs.ContextsParts.{Freed, inlet, FrameOf, Item, item, Firing, same_context}
+use Rattle.law_net.specs.Contexts.{or_zero}
+use Rattle.law_net.specs.ContextsFirings.{Config, takes, handed_to, frame_at, frame_if, frames_of, frames_if, HasFired}
+use Rattle.law_net.specs.ContextsLaws.{is_main}
+use Rattle.law_net.specs.ContextsStands.{frame_of, ip_of, word_of, token_of, only, is_held, but_cells, WasUsed, Stands}
+use Rattle.law_net.proofs.ContextsSames.{same_context-true, same_context-refl}
+use Rattle.law_machine_refines_net.specs.MovesCases.{Taking, IsCaused, net_of, Followed}
+use Rattle.law_machine_refines_net.proofs.MovesLists.{one_holds}
+use Rattle.law_machine_refines_net.proofs.MovesParts.{is_credit, is_lending}
+use Rattle.law_machine_refines_net.proofs.MovesStill.{to_instr}
+use Rattle.law_machine_refines_net.proofs.MovesAccount.{Account, Nothing, gone_alone, alone_fires, reordered}
+use Rattle.law_machine_refines_net.proofs.MovesLasting.{Lasts, item_word, tokens_last}
+use Rattle.law_machine_refines_net.proofs.MovesFramed.{Frames}
+use Rattle.law_machine_refines_net.proofs.MovesLoops.{unlent, unlent_loops}
+use Rattle.law_machine_refines_net.proofs.MovesBalanced.{Sound, balanced}
+use Rattle.law_machine_refines_net.proofs.MovesPlain.{is_silent, AreSilent, Recalled, good_stay, slots_stay, requests_stay, readers_stay, silent_seen}
+use Rattle.law_machine_refines_net.proofs.MovesPlain.{silent_ends, done_stays, fired_still, fired_before}
+use Rattle.law_machine_refines_net.proofs.MovesSettled.{rest_is, cells_out, told_other, nh}
+use Rattle.law_machine_refines_net.proofs.MovesFitted.{framed, taken_here, others_before, instr_held}
+use Rattle.law_machine_refines_net.proofs.Hosts.{frame_among}
+use Rattle.law_machine_refines_net.proofs.FramesUnframed.{no_firing}
+use Rattle.law_machine_refines_net.proofs.FramesManaged.{Hands, hand_out, cont, to_manager, requested, manager_free, asked_lends, asked_silent}
 use Rattle.law_machine_refines_net.proofs.FramesQueued.{queued_follows}
-use Rattle.law_machine_refines_net.proofs.FramesGrown.{given_by, given, grown, handed_now, not_handed, nobodys, grows, newer, frame_lasts, lasts, given_token}
-use Rattle.law_machine_refines_net.proofs.FramesGrown.{granted_same, ledger_same, grown_stands}
-use Rattle.law_net.proofs.WiredNets.{came_all}
+
+-- FRAMES after one was handed to d
+frame_now : (fl : Flow) (f : Firing) (fired : List Firing) (d : Context) → is_main d ≡ false → handed_to fl f.context f.part ≡ Some d
+    → frame_at fl (f ∷ fired) d ≡ Some f.frame
+frame_now fl f fired Main m e = absurd (true≢false m)
+frame_now fl f fired (Called c n) m e = ap (λ (o : Option Context). frame_if o (Called c n) f.frame (frame_at fl fired (Called c n))) e
+    ∙ ap (λ t. if t then Some f.frame else frame_at fl fired (Called c n)) (same_context-refl (Called c n))
+frame_now fl f fired (Turned c n i) m e = ap (λ (o : Option Context). frame_if o (Turned c n i) f.frame (frame_at fl fired (Turned c n i))) e
+    ∙ ap (λ t. if t then Some f.frame else frame_at fl fired (Turned c n i)) (same_context-refl (Turned c n i))
+
+frame_else : (fl : Flow) (f : Firing) (fired : List Firing) (d c : Context) → handed_to fl f.context f.part ≡ Some d → same_context d c ≡ false
+    → frame_at fl (f ∷ fired) c ≡ frame_at fl fired c
+frame_else fl f fired d Main e n = refl
+frame_else fl f fired d (Called c k) e n =
+    ap (λ (o : Option Context). frame_if o (Called c k) f.frame (frame_at fl fired (Called c k))) e
+    ∙ ap (λ t. if t then Some f.frame else frame_at fl fired (Called c k)) n
+frame_else fl f fired d (Turned c k i) e n =
+    ap (λ (o : Option Context). frame_if o (Turned c k i) f.frame (frame_at fl fired (Turned c k i))) e
+    ∙ ap (λ t. if t then Some f.frame else frame_at fl fired (Turned c k i)) n
 
 module _ (s : Taking) (k : Hands s) (g : ℕ) (made : s.event.made ≡ answer (cont s k) (Word.Frame g) ∷ [])
     (store : s.new.store ≡ with_out s.m.store g true) where
   abbrev net : Config
   net = net_of s
 
+  abbrev old : Stands s.fl s.p s.w s.m net
+  old = s.keeps.follows.stands
+
   abbrev c : Context
   c = s.i.context
 
   abbrev f : Firing
-  f = given_by s k g made store
+  f = hand_out s g
 
   abbrev one : Item
-  one = given s k g made store
+  one = item s.i.context (inlet k.answered Left 0) (FrameOf k.to)
 
-  abbrev new : Config
-  new = grown s k g made store
+  -- the frame is nobody's so far
+  handed_now : handed_by s.t.to s.event.made ≡ g ∷ []
+  handed_now = (λ t. handed_by (to_manager s k t) (made t))
 
-  abbrev old_tok : Item → Token
-  old_tok j = token_of s.fl s.p s.w net.fired j
+  not_handed : Contains (0 ∷ frames_of s.fl net.fired) g → ⊥
+  not_handed h = s.fresh g (subst (λ l. Contains l g) (sym handed_now) (contains_head g [])) (s.keeps.follows.handed g h)
 
-  abbrev tok : Item → Token
-  tok j = token_of s.fl s.p s.w new.fired j
+  nobodys : (d : Context) → frame_at s.fl net.fired d ≡ Some g → ⊥
+  nobodys d e = not_handed (frame_among s.fl net.fired d g e)
 
-  of_one : (P : Item → Type 0) → P one → (j : Item) → Contains (makes s.fl s.w f) j → P j
-  of_one P h j m = subst P (contains_one one j (subst (λ l. Contains l j) (k.makes_is g) m)) h
+  took : takes s.fl f ≡ s.i ∷ []
+  took = λ t. k.own g t ++ k.renews g t
 
-  came_back : IsPermutation (came s.fl new) (makes s.fl s.w f ++ came s.fl net)
-  came_back = alone_came s f (k.own g) (k.renews g)
+  abbrev grown : Config
+  grown = gone_alone s (Nothing s) f took (k.proper g not_handed)
 
-  -- ALL TOKENS so far
-  met : IsPermutation (but_cells (events_taken (s.q.events ++ (s.e, s.t) ∷ []) ++ s.new.pool)) (map tok (only (nh s) (came s.fl new)))
-  met =
-      let B = λ (t : Token). if is_cell_token t then [] else t ∷ [] in
-      let E = events_taken s.q.events in
-      let a = at_last (flat_map-IsPermutation B _ _ (met_tokens s)) (flat_map-append B (E ++ s.m.pool) s.event.made) in
-      let same = tokens_last s.fl s.p s.w net.fired new.fired (only (nh s) (came s.fl net))
-      (λ j h. lasts s k g made store j (came_all s.fl net j (kept_out (nh s) (came s.fl net) j h).0)) in
-      let b = at_last s.keeps.follows.met (sym same) in
-      let told = cells_out s.fl s.p s.w new.fired (makes s.fl s.w f)
-      (λ j h. told_other s.fl s.p s.w new.fired j (of_one (λ (j : Item). is_held j.inlet.part ≡ false) (instr_held k.answered k.is) j h)) in
-      let d = permutation_same _ _ (ap but_cells (given_token s k g made store) ∙ told) in
-      let h = at_last (flat_map-IsPermutation (λ (i : Item). if nh s i then i ∷ [] else []) _ _ came_back)
-      (kept_append (nh s) (makes s.fl s.w f) (came s.fl net)) in
-      let l = at_last (IsPermutation-map tok _ _ h) (map-append tok (only (nh s) (makes s.fl s.w f)) (only (nh s) (came s.fl net))) in
-      IsPermutation-trans _ _ _ a (IsPermutation-trans _ _ _ (IsPermutation-append _ _ _ _ b d) (IsPermutation-trans _ _ _
-      (shuffled (map tok (only (nh s) (came s.fl net)) ∷ map tok (only (nh s) (makes s.fl s.w f)) ∷ []) (Piece 0 ⊕ Piece 1) (Piece 1 ⊕ Piece 0) refl)
-      (IsPermutation-sym _ _ l)))
+  account : Account s (Nothing s) grown (f ∷ []) (one ∷ [])
+  account = reordered (alone_fires s (Nothing s) f took (k.proper g not_handed)) (one ∷ []) (permutation_same _ _ (k.makes_is g))
 
-  abbrev past : Past
-  past = after s.p s.q s.e s.t s.m.store s.event.made s.new
+  -- THE FRAMES
+  at_to : frame_at s.fl grown.fired k.to ≡ Some g
+  at_to = frame_now s.fl f net.fired k.to k.not_main k.hands
 
-  abbrev step : Stepped
-  step = record { taken = s.t; made = s.event.made; left = s.new }
-
-  later : (h ip : ℕ) (x : Inlet) → WasUsed s.p s.q.steps h ip x.port → WasUsed s.p past.steps h ip x.port
-  later h ip x u = used_later s.p s.q.steps step h ip x.port u
-
-  -- frames that were handed out
-  all_handed : (h : ℕ) → Contains (0 ∷ frames_of s.fl new.fired) h → Contains past.handed h
-  all_handed h i =
-      pick (contains_cases 0 (g ∷ frames_of s.fl net.fired) h
-      (subst (λ (o : Option Context). Contains (0 ∷ (frames_if o g ++ frames_of s.fl net.fired)) h) k.hands i))
+  grows : (d : Context) (n : ℕ) → frame_at s.fl net.fired d ≡ Some n → frame_at s.fl grown.fired d ≡ Some n
+  grows d n e = go (same_context k.to d) refl
     where
-      before : Contains (0 ∷ frames_of s.fl net.fired) h → Contains past.handed h
-      before i = Contains-append_left s.q.handed (handed_by s.t.to s.event.made) h (s.keeps.follows.handed h i)
+      go : (t : Bool) → same_context k.to d ≡ t → frame_at s.fl grown.fired d ≡ Some n
+      go true x = absurd (k.unframed n (ap (frame_at s.fl net.fired) (same_context-true k.to d x) ∙ e))
+      go false x = frame_else s.fl f net.fired k.to d k.hands x ∙ e
 
-      this : g ≡ h → Contains past.handed h
-      this e =
-          Contains-append_right s.q.handed (handed_by s.t.to s.event.made) h
-          (subst (λ l. Contains l h) (sym (handed_now s k g made store)) (subst (λ h. Contains (g ∷ []) h) e (contains_head g [])))
+  newer : (d : Context) (n : ℕ) → frame_at s.fl grown.fired d ≡ Some n → (frame_at s.fl net.fired d ≡ Some n) ⊎ ((d ≡ k.to) × (n ≡ g))
+  newer d n e = go (same_context k.to d) refl
+    where
+      go : (t : Bool) → same_context k.to d ≡ t → (frame_at s.fl net.fired d ≡ Some n) ⊎ ((d ≡ k.to) × (n ≡ g))
+      go true x = let same = sym (same_context-true k.to d x) in let z : Some n ≡ Some g = sym e ∙ ap (frame_at s.fl grown.fired) same ∙ at_to in inr (same, cc)
+      go false x = inl (sym (frame_else s.fl f net.fired k.to d k.hands x) ∙ e)
 
-      next : (g ≡ h) ⊎ Contains (frames_of s.fl net.fired) h → Contains past.handed h
-      next (inl e) = this e
-      next (inr i) = before (contains_tail 0 (frames_of s.fl net.fired) h i)
+  frames : Frames s grown
+  frames = record {
+    gave = Some (k.to, g);
+    grows = grows;
+    newer = newer;
+    fresh = λ d n e. (
+      λ h x. k.unframed h (ap (frame_at s.fl net.fired) (sym e.0) ∙ x),
+      λ x y. nobodys x (y ∙ ap (λ n. Some n) e.1),
+    );
+    handed = λ h i.
+        pick h (contains_cases g (frames_of s.fl net.fired) h
+        (subst (λ (o : Option Context). Contains (frames_if o g ++ frames_of s.fl net.fired) h) k.hands i));
+  }
+    where
+      pick : (h : ℕ) → (g ≡ h) ⊎ Contains (frames_of s.fl net.fired) h → Contains (frames_of s.fl net.fired) h ⊎ Contains (handed_by s.t.to s.event.made) h
+      pick h (inl e) = inr (subst (λ l. Contains l h) (sym handed_now) (subst (λ h. Contains (g ∷ []) h) e (contains_head g [])))
+      pick h (inr i) = inl i
 
-      pick : (0 ≡ h) ⊎ Contains (g ∷ frames_of s.fl net.fired) h → Contains past.handed h
-      pick (inl e) = before (subst (λ h. Contains (0 ∷ frames_of s.fl net.fired) h) e (contains_head 0 (frames_of s.fl net.fired)))
-      pick (inr i) = next (contains_cases g (frames_of s.fl net.fired) h i)
+  lasts : (j : Item) → Contains (net.pending ++ (net.waiting ++ flat_map (takes s.fl) net.fired)) j → Lasts s.fl s.p s.w net.fired grown.fired j
+  lasts j h = record { own = frame_lasts j.context (old.known j h); named = λ d e. frame_lasts d (old.named j d h e) }
+    where
+      frame_lasts : (d : Context) → (n : ℕ) × (frame_at s.fl net.fired d ≡ Some n) → frame_of s.fl grown.fired d ≡ frame_of s.fl net.fired d
+      frame_lasts d e = ap or_zero (grows d e.0 e.1 ∙ sym e.1)
 
-  -- the arc of the answer was used when the frame was asked for
-  answered_arc : WasUsed s.p past.steps (frame_of s.fl new.fired c) (ip_of s.fl s.p s.w c k.answered) Left
+  words : (j : Item) → Contains net.waiting j → word_of s.fl s.p s.w grown.fired j.word ≡ word_of s.fl s.p s.w net.fired j.word
+  words j h =
+      item_word s.fl s.p s.w net.fired grown.fired j (lasts j (Contains-append_right net.pending (net.waiting ++ flat_map (takes s.fl) net.fired) j
+      (Contains-append_left net.waiting (flat_map (takes s.fl) net.fired) j h)))
+
+  -- THE TOKEN
+  given_token : s.event.made ≡ map (token_of s.fl s.p s.w grown.fired) (one ∷ [])
+  given_token =
+      let to = to_instr s.fl s.p s.w grown.fired one k.answered k.is in
+      let e = framed s s.i (taken_here s) in
+      let own : frame_of s.fl grown.fired c ≡ frame_of s.fl net.fired c = ap or_zero (grows c e.0 e.1 ∙ sym e.1) in
+      let name = ap or_zero at_to in
+      made ∙ (λ t. token (To.Instr (sym own t) (ip_of s.fl s.p s.w c k.answered) Left) (Word.Frame (sym name t)) ∷ [])
+      ∙ (λ t. token (sym to t) (word_of s.fl s.p s.w grown.fired (FrameOf k.to)) ∷ [])
+
+  sound : Sound s grown one
+  sound = record { known = framed s s.i (taken_here s); named = λ d e. at_named d e; asked = λ d x e. absurd (cc) }
+    where
+      at_named : (d : Context) → Some k.to ≡ Some d → (n : ℕ) × (frame_at s.fl grown.fired d ≡ Some n)
+      at_named d e = let z : k.to ≡ d = cc in (g, sym (ap (frame_at s.fl grown.fired) z) ∙ at_to)
+
+  -- its arc was used when the frame was asked for
+  answered_arc : IsCaused s one
   answered_arc =
       let row = k.row in
       let u = s.keeps.follows.asked s.i c (inlet k.answered Left 0) 0 (taken_here s) k.word (omega (arith, row)) in
       let z : ip_of s.fl s.p s.w c k.answered + 0 ≡ ip_of s.fl s.p s.w c k.answered = omega arith in
-      subst (λ n. WasUsed s.p past.steps n (ip_of s.fl s.p s.w c k.answered) Left) (sym (frame_lasts s k g made store c (framed s s.i (taken_here s))))
-      (subst (λ ip. WasUsed s.p past.steps (frame_of s.fl net.fired c) ip Left) z
-      (later (frame_of s.fl net.fired c) (ip_of s.fl s.p s.w c k.answered + 0) (inlet k.answered Left 0) u))
+      inr (subst (λ ip. WasUsed s.p s.q.steps (frame_of s.fl net.fired c) ip Left) z u)
 
-  -- COUNTS of loops' items
-  takers : (d : Context) (n : ℕ) → items_at d (Taker n) (new.pending ++ new.waiting) ≡ items_at d (Taker n) (net.pending ++ net.waiting)
-  takers d n =
-      let test = is_item_at d (Taker n) in
-      let a = count_append test (makes s.fl s.w f ++ s.others) net.waiting in let b = count_append test (makes s.fl s.w f) s.others in
-      let e = count_none test (makes s.fl s.w f) (of_one (λ (j : Item). test j ≡ false) (calm_item d (Taker n) refl one k.calm)) in
-      let h = count_append test net.pending net.waiting in let i = count_same test net.pending (s.i ∷ s.others) s.perm in
-      let l = count_no test s.i s.others (calm_item d (Taker n) refl s.i (asked_calm s.i.inlet.part k.asks)) in omega (arith, a, b, e, h, i, l)
+  not_held : (j : Item) → Contains (one ∷ []) j → is_held j.inlet.part ≡ false
+  not_held = one_holds (λ (j : Item). is_held j.inlet.part ≡ false) one (instr_held k.answered k.is)
 
-  givers : (d : Context) (n : ℕ) → items_at d (Giver n) (came s.fl new) ≡ items_at d (Giver n) (came s.fl net)
-  givers d n =
-      let test = is_item_at d (Giver n) in
-      let a = count_same test (came s.fl new) (makes s.fl s.w f ++ came s.fl net) came_back in let b = count_append test (makes s.fl s.w f) (came s.fl net) in
-      let e = count_none test (makes s.fl s.w f) (of_one (λ (j : Item). test j ≡ false) (calm_item d (Giver n) refl one k.calm)) in omega (arith, a, b, e)
+  -- THE STORE
+  silent : AreSilent (f ∷ [])
+  silent = one_holds (λ (h : Firing). is_silent h.part ≡ true) f (asked_silent s.i.inlet.part k.asks)
 
-  none_granted : (h : Holder) → s.q.granted g h ≡ 0
-  none_granted h = pick (cases_eq (s.q.granted g h) 0)
-    where
-      pick : (s.q.granted g h ≡ 0) ⊎ (s.q.granted g h ≡ 0 → ⊥) → s.q.granted g h ≡ 0
-      pick (inl e) = e
-      pick (inr n) = let x = s.keeps.follows.no_other g h (omega (arith, n)) in absurd (nobodys s k g made store x.0 x.4)
+  seen_before : Recalled s
+  seen_before = record {
+    outputs = λ j. ap (λ (x : Store). x.outputs j) store;
+    cells = λ y. ap (λ (x : Store). value_in (x.cells y)) store;
+    done = ap (λ (x : Store). x.done) store;
+  }
 
-  none_back : (base : ℕ) → s.q.released g base ≡ 0
-  none_back base = pick (cases_eq (s.q.released g base) 0)
-    where
-      pick : (s.q.released g base ≡ 0) ⊎ (s.q.released g base ≡ 0 → ⊥) → s.q.released g base ≡ 0
-      pick (inl e) = e
-      pick (inr n) = let x = s.keeps.follows.none_released g base (omega (arith, n)) in absurd (nobodys s k g made store x.0 x.1)
+  out_is : (n : ℕ) → s.new.store.out n ≡ put_at s.m.store.out g true n
+  out_is n = ap (λ (x : Store). x.out n) store
 
   pub handed_follows : Followed s
-  handed_follows = record {
-    net = new;
-    moves = alone_moves s f (k.own g) (k.renews g) (k.proper g (not_handed s k g made store));
-    stands = grown_stands s k g made store;
-    met = met;
-    handed = all_handed;
-    caused = λ j h i e. caused j i e (Contains-append_cases (makes s.fl s.w f) s.others j h);
-    asked = λ j d x n h e l. asked j d x n e l (alone_here s f (k.own g) (k.renews g) j h);
-    credits =
-        λ d n h l. credits_last s.fl s.p s.w net new d n (ledger_same s k g made store d n) (granted_same s k g made store d n)
-        (λ j e h. there j e (alone_here s f (k.own g) (k.renews g) j h)) (takers d n) (s.keeps.follows.credits d n h l);
-    granted = λ d n h a l e. granted d n h a l (newer s k g made store d h e);
-    no_other = λ h x l. let z = (manager_free s k).granted h x in let b = s.keeps.follows.no_other h x (omega (arith, l, z)) in
-        (b.0, b.1, b.2, b.3, grows s k g made store b.0 h b.4, b.5);
-    released = λ d n h a l e. released d n h a l (newer s k g made store d h e);
-    none_released = λ h base l. let z = (manager_free s k).released h base in let b = s.keeps.follows.none_released h base (omega (arith, l, z)) in
-        (b.0, grows s k g made store b.0 h b.1);
-  }
+  handed_follows = balanced {T = Nothing s} {d = grown} {new = f ∷ []} {made = one ∷ []} (record {
+    account = account;
+    frames = frames;
+    base = old.base;
+    loops = unlent_loops account frames words (unlent s (Nothing s) grown (f ∷ []) (one ∷ []) (manager_free s k)
+        (one_holds (λ (h : Firing). is_lending h.part ≡ false) f (asked_lends s.i.inlet.part k.asks)) (λ j t. absurd t)
+        (one_holds (λ (j : Item). is_credit j.inlet.part ≡ false) one k.calm));
+    words = words;
+    sound = one_holds (Sound s grown) one sound;
+    pool =
+        at_last (IsPermutation-trans _ _ _ s.event.leaves
+        (IsPermutation-append _ _ _ _ (permutation_same _ _ given_token)
+        (at_last (rest_is s) (sym (tokens_last s.fl s.p s.w net.fired grown.fired s.others
+        (λ j h. lasts j (Contains-append_left net.pending (net.waiting ++ flat_map (takes s.fl) net.fired) j (others_before s j h))))))))
+        (sym (ap (λ l. map (token_of s.fl s.p s.w grown.fired) (l ++ s.others)) (k.makes_is g)));
+    tokens =
+        at_first (ap (λ l. map (token_of s.fl s.p s.w grown.fired) (only (nh s) (l ++ [])) ++ but_cells s.event.made) (k.renews g))
+        (permutation_same _ _ (ap but_cells given_token
+        ∙ cells_out s.fl s.p s.w grown.fired (one ∷ []) (λ j h. told_other s.fl s.p s.w grown.fired j (not_held j h))));
+    caused = λ j h i e. caused j (contains_cases one s.others j (subst (λ l. Contains (l ++ s.others) j) (k.makes_is g) h));
+    good = good_stay account not_held;
+    waits = λ j t. absurd t;
+    slots = slots_stay account (ap (λ (x : Store). x.slots) store) (λ j t. absurd t);
+    requests = requests_stay account (ap (λ (x : Store). x.requests) store) (λ j t. absurd t);
+    readers = λ x. readers_stay account x (ap (λ (y : Store). y.cells x) store) (λ j t. absurd t);
+    memory = record {
+      seen = silent_seen account silent seen_before;
+      done = done_stays account (silent_ends (f ∷ []) silent) seen_before.done;
+      out = λ d n e. out d n (newer d n e);
+      not_out = λ n o. not_out n (cases_eq g n) (sym (out_is n) ∙ o);
+    };
+  })
     where
-      caused : (j : Item) → (is_instr j.inlet.part ≡ true) → (is_entry_part (block_in s.fl j.context) j.inlet.part ≡ false)
-          → Contains (makes s.fl s.w f) j ⊎ Contains s.others j
-          → WasUsed s.p past.steps (frame_of s.fl new.fired j.context) (ip_of s.fl s.p s.w j.context j.inlet.part) j.inlet.port
-      caused j i e (inl h) =
-          of_one (λ (j : Item). WasUsed s.p past.steps (frame_of s.fl new.fired j.context) (ip_of s.fl s.p s.w j.context j.inlet.part) j.inlet.port)
-          answered_arc j h
-      caused j i e (inr h) =
-          let there = others_there s f (k.own g) (k.renews g) j h in
-          let here = (lasts s k g made store j (Contains-append_left net.pending (net.waiting ++ flat_map (takes s.fl) net.fired) j there)).own in
-          subst (λ n. WasUsed s.p past.steps n (ip_of s.fl s.p s.w j.context j.inlet.part) j.inlet.port) (sym here)
-          (later (frame_of s.fl net.fired j.context) (ip_of s.fl s.p s.w j.context j.inlet.part) j.inlet (s.keeps.follows.caused j there i e))
+      caused : (j : Item) → (one ≡ j) ⊎ Contains s.others j → Contains net.pending j ⊎ IsCaused s j
+      caused j (inl e) = inr (subst (IsCaused s) e answered_arc)
+      caused j (inr h) = inl (others_before s j h)
 
-      asked : (j : Item) (d : Context) (x : Inlet) (n : ℕ) → j.word ≡ BackTo d x → n < row_of s.fl s.p s.w d x.part
-          → Contains (makes s.fl s.w f) j ⊎ Contains (net.pending ++ net.waiting) j
-          → WasUsed s.p past.steps (frame_of s.fl new.fired d) (ip_of s.fl s.p s.w d x.part + n) x.port
-      asked j d x n e l (inl h) = absurd (of_one (λ (j : Item). j.word ≡ BackTo d x → ⊥) (λ z. absurd (cc)) j h e)
-      asked j d x n e l (inr h) =
-          let here = (lasts s k g made store j (among s j h)).named d (ap named_by e) in
-          subst (λ m. WasUsed s.p past.steps m (ip_of s.fl s.p s.w d x.part + n) x.port) (sym here)
-          (later (frame_of s.fl net.fired d) (ip_of s.fl s.p s.w d x.part + n) x (s.keeps.follows.asked j d x n h e l))
+      before : (d : Context) → HasFired d Freed grown.fired → HasFired d Freed net.fired
+      before d h = fired_before (f ∷ []) net.fired (silent_ends (f ∷ []) silent) d Freed refl h
 
-      there : (j : Item) → is_credit j.inlet.part ≡ true → Contains (makes s.fl s.w f) j ⊎ Contains (net.pending ++ net.waiting) j
-          → Contains (net.pending ++ net.waiting) j
-      there j e (inl h) = absurd (true≢false (sym e ∙ of_one (λ (j : Item). is_credit j.inlet.part ≡ false) k.calm j h))
-      there j e (inr h) = h
+      out : (d : Context) (n : ℕ) → (frame_at s.fl net.fired d ≡ Some n) ⊎ ((d ≡ k.to) × (n ≡ g))
+          → (s.new.store.out n ≡ false → HasFired d Freed grown.fired) × (HasFired d Freed grown.fired → s.new.store.out n ≡ false)
+      out d n (inl e) =
+          let same = out_is n ∙ put_other s.m.store.out g n true (λ x. nobodys d (e ∙ ap (λ n. Some n) (sym x))) in
+          (λ o. fired_still (f ∷ []) net.fired d Freed ((old.out d n e).0 (sym same ∙ o)), λ h. same ∙ (old.out d n e).1 (before d h))
+      out d n (inr e) = (
+        λ o. absurd (true≢false (sym (put_same s.m.store.out g true) ∙ ap (put_at s.m.store.out g true) (sym e.1) ∙ sym (out_is n) ∙ o)),
+        λ h. let b = before d h in absurd (no_firing s k.to k.unframed b.0 b.1 (b.2 ∙ e.0)),
+      )
 
-      granted : (d : Context) (n h : ℕ) → IsContext s.fl d → is_loop (block_in s.fl d) n ≡ true → (frame_at s.fl net.fired d ≡ Some h) ⊎ ((d ≡ k.to) × (h ≡ g))
-          → past.granted h (record { block = code_in s.fl s.w d; number = (wiring_in s.fl s.w d).slot (Opener n) }) ≡ granted_of new d n
-      granted d n h a l (inl e) =
-          let b = s.keeps.follows.granted d n h a l e in
-          let z = (manager_free s k).granted h (record { block = code_in s.fl s.w d; number = (wiring_in s.fl s.w d).slot (Opener n) }) in
-          let o = granted_same s k g made store d n in omega (arith, b, z, o)
-      granted d n h a l (inr e) =
-          let x : Holder = record { block = code_in s.fl s.w d; number = (wiring_in s.fl s.w d).slot (Opener n) } in
-          let b = ap (λ m. s.q.granted m x) e.1 ∙ none_granted x in let z = (manager_free s k).granted h x in let o = granted_same s k g made store d n in
-          let u = ap (λ (d : Context). granted_of net d n) e.0 in let v = no_times s k.to k.unframed (Opener n) in
-          let w = no_times s k.to k.unframed (Taker n) in omega (arith, b, z, o, u, v, w)
-
-      released : (d : Context) (n h : ℕ) → IsContext s.fl d → is_loop (block_in s.fl d) n ≡ true → (frame_at s.fl net.fired d ≡ Some h) ⊎ ((d ≡ k.to) × (h ≡ g))
-          → past.released h (ip_of s.fl s.p s.w d (Landing n 0)) ≡ items_at d (Giver n) (came s.fl new)
-      released d n h a l (inl e) =
-          let b = s.keeps.follows.released d n h a l e in let z = (manager_free s k).released h (ip_of s.fl s.p s.w d (Landing n 0)) in let o = givers d n in
-          omega (arith, b, z, o)
-      released d n h a l (inr e) =
-          let base = ip_of s.fl s.p s.w d (Landing n 0) in
-          let b = ap (λ m. s.q.released m base) e.1 ∙ none_back base in let z = (manager_free s k).released h base in let o = givers d n in
-          let u = ap (λ (d : Context). items_at d (Giver n) (came s.fl net)) e.0 in let v = no_items s k.to k.unframed (Giver n) in omega (arith, b, z, o, u, v)
+      not_out : (n : ℕ) → (g ≡ n) ⊎ (g ≡ n → ⊥) → put_at s.m.store.out g true n ≡ true → (d : Context) × (frame_at s.fl grown.fired d ≡ Some n)
+      not_out n (inl e) o = (k.to, at_to ∙ ap (λ n. Some n) e)
+      not_out n (inr x) o = let b = old.not_out n (sym (put_other s.m.store.out g n true x) ∙ o) in (b.0, grows b.0 n b.1)
 
 -- THE MANAGER'S EVENT
 pub hands_follow : (s : Taking) → Hands s → Followed s

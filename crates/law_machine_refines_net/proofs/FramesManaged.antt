@@ -1,25 +1,24 @@
 -- A request for a frame comes to the manager.
 use Rattle.std.proofs.Common.{◌≡◌, ℕ, ◌*◌, true, false, [], ◌∷◌, refl, sym, ap, ◌∙◌, subst, true≢false, Some}
-use Rattle.std.specs.Prelude.{Contains}
+use Rattle.std.specs.Prelude.{Contains, pos}
 use Rattle.tags.specs.declared.value.Value.TheVariants.{Int}
-use Rattle.std.specs.Prelude.{pos}
 use Rattle.tags.specs.declared.token.Port.TheVariants.{Left}
 use Rattle.tags.specs.declared.token.Cont.{Cont}
 use Rattle.tags.specs.declared.token.Word.{Word}
 use Rattle.tags.specs.declared.token.To.{To}
 use Rattle.tags.specs.declared.token.Token.{Token}
 use Rattle.semantics.specs.Graph.{Block, Flow}
-use Rattle.semantics.specs.Meaning.{Context, Memory}
+use Rattle.semantics.specs.Meaning.{Context}
 use Rattle.semantics.specs.Machine.{Happens, Requests}
 use Rattle.semantics.specs.Credits.{granted_at, released_at}
-use Rattle.law_net.specs.ContextsParts.{Part, Opener, Taker, Drained, Done, Freed, Asked, NextAsked, inlet, BackTo, FrameOf, signal, Item, item, Firing}
-use Rattle.law_net.specs.ContextsParts.{same_part}
+use Rattle.law_net.specs.ContextsParts.{Part, Asked, NextAsked, inlet, BackTo, FrameOf, signal, Item, item, Firing}
 use Rattle.law_net.specs.ContextsBlocks.{waits_in}
-use Rattle.law_net.specs.ContextsFirings.{frame_at, frames_of, handed_to, makes, own_takes, renewed, remembered, IsProper}
+use Rattle.law_net.specs.ContextsFirings.{frame_at, frames_of, handed_to, makes, own_takes, renewed, IsProper}
 use Rattle.law_net.specs.ContextsLaws.{is_main}
 use Rattle.law_net.specs.ContextsStands.{frame_of, ip_of, word_of, row_of, reads, is_asked, is_instr}
 use Rattle.law_machine_refines_net.specs.MovesCases.{Taking, net_of, IsFree}
-use Rattle.law_machine_refines_net.proofs.MovesWhole.{is_credit}
+use Rattle.law_machine_refines_net.proofs.MovesParts.{is_credit, is_lending}
+use Rattle.law_machine_refines_net.proofs.MovesPlain.{is_silent}
 use Rattle.law_machine_refines_net.proofs.FramesWanted.{asked_to}
 
 -- THE MANAGER'S PART is none of the others
@@ -33,31 +32,15 @@ asked_reads fl x i (Asked n) e = refl
 asked_reads fl x i NextAsked e = refl
 asked_reads fl x i r e = absurd (true≢false (sym e))
 
-pub asked_opens : (r : Part) (n : ℕ) → is_asked r ≡ true → same_part r (Opener n) ≡ false
-asked_opens (Asked m) n e = refl
-asked_opens NextAsked n e = refl
-asked_opens r n e = absurd (true≢false (sym e))
+pub asked_lends : (r : Part) → is_asked r ≡ true → is_lending r ≡ false
+asked_lends (Asked n) e = refl
+asked_lends NextAsked e = refl
+asked_lends r e = absurd (true≢false (sym e))
 
-pub asked_takes : (r : Part) (n : ℕ) → is_asked r ≡ true → same_part r (Taker n) ≡ false
-asked_takes (Asked m) n e = refl
-asked_takes NextAsked n e = refl
-asked_takes r n e = absurd (true≢false (sym e))
-
-pub asked_drains : (r : Part) (n : ℕ) → is_asked r ≡ true → same_part r (Drained n) ≡ false
-asked_drains (Asked m) n e = refl
-asked_drains NextAsked n e = refl
-asked_drains r n e = absurd (true≢false (sym e))
-
-pub asked_remembers : (fl : Flow) (f : Firing) (r : Part) (m : Memory) → is_asked r ≡ true → remembered fl f r m ≡ m
-asked_remembers fl f (Asked n) m e = refl
-asked_remembers fl f NextAsked m e = refl
-asked_remembers fl f r m e = absurd (true≢false (sym e))
-
-pub asked_done : (r : Part) → is_asked r ≡ true → r ≡ Done → ⊥
-asked_done r e d = true≢false (sym e ∙ ap is_asked d)
-
-pub asked_freed : (r : Part) → is_asked r ≡ true → r ≡ Freed → ⊥
-asked_freed r e d = true≢false (sym e ∙ ap is_asked d)
+pub asked_silent : (r : Part) → is_asked r ≡ true → is_silent r ≡ true
+asked_silent (Asked n) e = refl
+asked_silent NextAsked e = refl
+asked_silent r e = absurd (true≢false (sym e))
 
 -- the firing that hands frame g out
 abbrev pub hand_out : Taking → ℕ → Firing

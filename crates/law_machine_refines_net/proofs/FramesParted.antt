@@ -5,14 +5,11 @@ use Rattle.std.proofs.lemmas.List.Elements.{Contains-append_left, Contains-appen
 use Rattle.std.proofs.lemmas.List.Sorted.{IsPermutation-refl, IsPermutation-trans, IsPermutation-append_right, IsPermutation-middle, Contains-permutation}
 use Rattle.lemmas.proofs.Contains.{contains_cases, contains_head, contains_none, contains_tail}
 use Rattle.law_confluence.proofs.Orders.{at_first}
-use Rattle.law_confluence.proofs.Net.{Waits}
-use Rattle.semantics.specs.Graph.{Flow}
 use Rattle.law_net.specs.ContextsParts.{Item, Firing}
-use Rattle.law_net.specs.Contexts.{Wires}
-use Rattle.law_net.specs.ContextsFirings.{Config, ProperMoves}
 use Rattle.law_net.specs.ContextsStands.{only}
-use Rattle.law_machine_refines_net.proofs.MovesLists.{kept_no, kept_but, taken_out}
-use Rattle.law_machine_refines_net.proofs.MovesWhole.{one_more}
+use Rattle.law_machine_refines_net.specs.MovesCases.{Taking}
+use Rattle.law_machine_refines_net.proofs.MovesLists.{kept_but, taken_out}
+use Rattle.law_machine_refines_net.proofs.MovesAccount.{Account, item_waits}
 
 -- no item of the list is there twice
 abbrev pub Apart : List Item → Type 0
@@ -114,34 +111,26 @@ split (x ∷ xs) first second apart inside =
             Contains-append_right first (before ++ after) j (still_there x before after j (apart.0 j h) (subst (λ l. Contains l j) e d))
 
 -- ITEMS THAT WAIT, one after another
-pub record Waited (fl : Flow) (w : Wires) (from : Config) (items rest waiting : List Item) (fired : List Firing) : Type 0 where
+pub record Waited (s : Taking) (T : Item → Type 0) (new : List Firing) (made items rest waiting : List Item) (fired : List Firing) : Type 0 where
   pub now_pending : List Item
   pub now_waiting : List Item
-  pub moves : ProperMoves fl w from (record { pending = now_pending; waiting = now_waiting; fired = fired })
+  pub account : Account s T (record { pending = now_pending; waiting = now_waiting; fired = fired }) new made
   pub pending : IsPermutation now_pending rest
   pub waits : IsPermutation now_waiting (items ++ waiting)
-  pub same : (test : Item → Bool) → Skips test items → only test now_waiting ≡ only test waiting
 
-pub wait_each : (fl : Flow) (w : Wires) (from : Config) (items rest pending waiting : List Item) (fired : List Firing)
-    → ProperMoves fl w from (record { pending = pending; waiting = waiting; fired = fired }) → IsPermutation pending (items ++ rest)
-    → Waited fl w from items rest waiting fired
-wait_each fl w from [] rest pending waiting fired moves perm = record {
-  now_pending = pending;
-  now_waiting = waiting;
-  moves = moves;
-  pending = perm;
-  waits = IsPermutation-refl waiting;
-  same = λ test skips. refl;
-}
-wait_each fl w from (x ∷ xs) rest pending waiting fired moves perm =
-    let here : Config = record { pending = pending; waiting = waiting; fired = fired } in
-    let more = one_more fl w from here (record { pending = xs ++ rest; waiting = x ∷ waiting; fired = fired }) moves (Waits x (xs ++ rest) perm refl) tt in
-    let k = wait_each fl w from xs rest (xs ++ rest) (x ∷ waiting) fired more (IsPermutation-refl (xs ++ rest)) in
+pub wait_each : (s : Taking) (T : Item → Type 0) (new : List Firing) (made items rest pending waiting : List Item) (fired : List Firing)
+    → Account s T (record { pending = pending; waiting = waiting; fired = fired }) new made → IsPermutation pending (items ++ rest)
+    → ((j : Item) → Contains items j → T j) → Waited s T new made items rest waiting fired
+wait_each s T new made [] rest pending waiting fired account perm kind =
+    record { now_pending = pending; now_waiting = waiting; account = account; pending = perm; waits = IsPermutation-refl waiting }
+wait_each s T new made (x ∷ xs) rest pending waiting fired account perm kind =
+    let more = item_waits account x (xs ++ rest) perm (kind x (contains_head x xs)) in
+    let k = wait_each s T new made xs rest (xs ++ rest) (x ∷ waiting) fired more (IsPermutation-refl (xs ++ rest))
+    (λ j c. kind j (contains_tail x xs j c)) in
     record {
       now_pending = k.now_pending;
       now_waiting = k.now_waiting;
-      moves = k.moves;
+      account = k.account;
       pending = k.pending;
       waits = IsPermutation-trans _ _ _ k.waits (IsPermutation-middle xs x waiting);
-      same = λ test skips. k.same test (λ j c. skips j (contains_tail x xs j c)) ∙ kept_no test x waiting (skips x (contains_head x xs));
     }

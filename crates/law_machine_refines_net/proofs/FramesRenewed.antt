@@ -1,12 +1,13 @@
 -- A strict call asks for its frame: its arguments are taken, and made anew where they are.
-use Rattle.std.proofs.Common.{◌≡◌, ℕ, zero, suc, ◌+◌, ◌≤◌, Bool, true, false, List, [], ◌∷◌, ◌++◌, map, length, refl, sym, ap, ◌∙◌, subst, inl, inr, ◌⊎◌, arith}
-use Rattle.std.proofs.Common.{if◌then◌else◌}
-use Rattle.std.specs.Prelude.{IsPermutation, Contains, count_by, pos}
+use Rattle.std.proofs.Common.{◌≡◌, ℕ, zero, suc, ◌+◌, ◌≤◌, true, List, [], ◌∷◌, ◌++◌, map, length, refl, sym, ap, ◌∙◌, subst, inl, inr, ◌⊎◌, arith}
+use Rattle.std.proofs.Common.{if◌then◌else◌, append-nil}
+use Rattle.std.specs.Prelude.{IsPermutation, Contains, pos}
 use Rattle.std.proofs.lemmas.List.{map-append}
 use Rattle.std.proofs.lemmas.List.Elements.{Contains-append_left, Contains-append_right, Contains-append_cases}
 use Rattle.std.proofs.lemmas.List.Sorted.{IsPermutation-trans, IsPermutation-sym, IsPermutation-map, IsPermutation-append_left, IsPermutation-append_right}
 use Rattle.std.proofs.lemmas.List.Sorted.{Contains-permutation}
 use Rattle.lemmas.proofs.Contains.{contains_cases, contains_map, contains_mapped, contains_none, contains_tail}
+use Rattle.lemmas.proofs.Permutations.{permutation_same}
 use Rattle.tags.specs.declared.value.Value.{Value}
 use Rattle.tags.specs.declared.value.Value.TheVariants.{Int}
 use Rattle.tags.specs.declared.token.Port.TheVariants.{Left, Right}
@@ -15,20 +16,18 @@ use Rattle.semantics.specs.Meaning.{Context}
 use Rattle.semantics.specs.Plan.{Plan}
 use Rattle.semantics.specs.Rule.{token}
 use Rattle.law_confluence.proofs.Orders.{shuffled, Part as Piece, ◌⊕◌, at_first, at_last}
-use Rattle.law_confluence.proofs.Net.{Fires}
 use Rattle.law_net.specs.ContextsParts.{Part, Framer, Fanned, Sender, Asked, NextAsked, Held, Shown, Done, Freed, inlet, Datum, signal, Item, item, Firing}
-use Rattle.law_net.specs.ContextsBlocks.{source_count}
+use Rattle.law_net.specs.ContextsBlocks.{source_count, waits_in}
 use Rattle.law_net.specs.Contexts.{Wires, block_in, is_strict_in}
-use Rattle.law_net.specs.ContextsFirings.{Config, begin, takes, own_takes, makes, arguments_from, IsProper, ProperMoves}
-use Rattle.law_net.specs.ContextsStands.{word_of, to_of, token_of, only}
+use Rattle.law_net.specs.ContextsFirings.{Config, takes, makes, arguments_from, IsProper}
+use Rattle.law_net.specs.ContextsStands.{word_of, to_of, token_of, in_slot}
 use Rattle.law_machine_refines_net.specs.MovesCases.{Taking, net_of}
-use Rattle.law_machine_refines_net.proofs.MovesLists.{count_append, count_none, count_same, count_no}
-use Rattle.law_machine_refines_net.proofs.MovesWhole.{one_more}
+use Rattle.law_machine_refines_net.proofs.MovesAccount.{Account, no_move, part_fires, reordered}
 use Rattle.law_machine_refines_net.proofs.MovesFitted.{fits, bare, bare_item, taken_here, lone_port, plain_way}
 use Rattle.law_machine_refines_net.proofs.SendsInwards.{told_as}
 use Rattle.law_machine_refines_net.proofs.FramesWanted.{Wants, request}
 use Rattle.law_machine_refines_net.proofs.FramesArgued.{arguments_at, argument_here}
-use Rattle.law_machine_refines_net.proofs.FramesParted.{Apart, Skips, Split, split, Waited, wait_each}
+use Rattle.law_machine_refines_net.proofs.FramesParted.{Apart, Split, split, Waited, wait_each}
 
 -- AN ARGUMENT after its call fired
 abbrev pub up : Item → Item
@@ -152,9 +151,6 @@ module _ (s0 : Taking) (n : ℕ) (e : s0.i.inlet.part ≡ Framer n) (strict : is
         operands = gathered.0;
       }
 
-  pub own_is : own_takes s0.fl call call.part ≡ s.i ∷ []
-  own_is = λ t. framer_item t ∷ []
-
   pub takes_is : takes s0.fl call ≡ s.i ∷ args
   takes_is = λ t. framer_item t ∷ (if strict t then args else [])
 
@@ -167,31 +163,43 @@ module _ (s0 : Taking) (n : ℕ) (e : s0.i.inlet.part ≡ Framer n) (strict : is
   pub pending_is : IsPermutation net.pending (s.i ∷ (parted.now ++ parted.rest))
   pending_is = IsPermutation-trans _ _ _ s.perm (IsPermutation-append_right (s.i ∷ []) _ _ parted.first_is)
 
-  abbrev called : Config
-  called = record { pending = makes s0.fl s0.w call ++ parted.rest; waiting = parted.left; fired = call ∷ net.fired }
+  kept_arg : (x : Item) → Contains parted.kept x → Contains args x
+  kept_arg x h = Contains-permutation _ _ x parted.both (Contains-append_right parted.now parted.kept x h)
 
-  fires : ProperMoves s0.fl s0.w (begin s0.inputs) called
-  fires = one_more s0.fl s0.w (begin s0.inputs) net called s.keeps.follows.moves
-      (Fires call (s.i ∷ parted.now) parted.kept parted.rest parted.left pending_is parted.second_is
-      (at_last (IsPermutation-append_right (s.i ∷ []) _ _ parted.both) (sym takes_is)) refl) proper
+  -- what waits and is made anew meets another word
+  abbrev pub Kind : Item → Type 0
+  Kind j = in_slot s0.fl j ≡ true
+
+  sender_waits : (j : Item) (m : ℕ) → j.inlet.part ≡ Sender n m → Kind j
+  sender_waits j m h = ap (waits_in (block_in s0.fl j.context)) h
+
+  called : Account s Kind (record { pending = makes s0.fl s0.w call ++ parted.rest; waiting = parted.left; fired = call ∷ net.fired }) (call ∷ [])
+      (ask ∷ map up args)
+  called =
+      reordered (part_fires (no_move s Kind) call (s.i ∷ parted.now) parted.rest parted.kept parted.left pending_is parted.second_is
+      (at_last (IsPermutation-append_right (s.i ∷ []) _ _ parted.both) (sym takes_is)) proper
+      (λ test spares. parted.same test (λ j h. let k = arg_part j h in spares j (sender_waits j k.0 k.1)))) (ask ∷ map up args)
+      (permutation_same _ _ (append-nil (makes s0.fl s0.w call) ∙ makes_is))
 
   -- those that waited wait again
-  pub waited : Waited s0.fl s0.w (begin s0.inputs) (map up parted.kept) (ask ∷ (map up parted.now ++ parted.rest)) parted.left (call ∷ net.fired)
+  pub waited : Waited s Kind (call ∷ []) (ask ∷ map up args) (map up parted.kept) (ask ∷ (map up parted.now ++ parted.rest)) parted.left (call ∷ net.fired)
   waited =
-      wait_each s0.fl s0.w (begin s0.inputs) (map up parted.kept) (ask ∷ (map up parted.now ++ parted.rest)) (makes s0.fl s0.w call ++ parted.rest) parted.left
-      (call ∷ net.fired) fires
+      wait_each s Kind (call ∷ []) (ask ∷ map up args) (map up parted.kept) (ask ∷ (map up parted.now ++ parted.rest)) (makes s0.fl s0.w call ++ parted.rest)
+      parted.left (call ∷ net.fired) called
       (at_first (ap (λ l. l ++ parted.rest) makes_is) (IsPermutation-trans _ _ _
       (IsPermutation-append_left parted.rest _ _
       (IsPermutation-append_right (ask ∷ []) _ _
       (at_last (IsPermutation-map up _ _ (IsPermutation-sym _ _ parted.both)) (map-append up parted.now parted.kept))))
       (shuffled ((ask ∷ []) ∷ map up parted.now ∷ map up parted.kept ∷ parted.rest ∷ []) ((Piece 0 ⊕ (Piece 1 ⊕ Piece 2)) ⊕ Piece 3)
       (Piece 2 ⊕ (Piece 0 ⊕ (Piece 1 ⊕ Piece 3))) refl)))
+      (λ j h. let k = contains_mapped up parted.kept j h in let o = arg_part k.0 (kept_arg k.0 k.1) in
+      sender_waits j o.0 (ap (λ (i : Item). i.inlet.part) (sym k.2) ∙ o.1))
 
   abbrev pub renewed_net : Config
   renewed_net = record { pending = waited.now_pending; waiting = waited.now_waiting; fired = call ∷ net.fired }
 
-  pub renewed_moves : ProperMoves s0.fl s0.w (begin s0.inputs) renewed_net
-  renewed_moves = waited.moves
+  pub renewed_account : Account s Kind renewed_net (call ∷ []) (ask ∷ map up args)
+  renewed_account = waited.account
 
   pub pending_now : IsPermutation renewed_net.pending (ask ∷ (map up parted.now ++ parted.rest))
   pending_now = waited.pending
@@ -203,15 +211,8 @@ module _ (s0 : Taking) (n : ℕ) (e : s0.i.inlet.part ≡ Framer n) (strict : is
   abbrev pub From : Item → Item → Type 0
   From x j = (x ≡ j) ⊎ (Contains args x × (up x ≡ j))
 
-  pub of_from : (P : Item → Type 0) → ((x : Item) → P x → P (up x)) → (x j : Item) → From x j → P x → P j
-  of_from P u x j (inl d) h = subst P d h
-  of_from P u x j (inr d) h = subst P d.1 (u x h)
-
   now_arg : (x : Item) → Contains parted.now x → Contains args x
   now_arg x h = Contains-permutation _ _ x parted.both (Contains-append_left parted.now parted.kept x h)
-
-  kept_arg : (x : Item) → Contains parted.kept x → Contains args x
-  kept_arg x h = Contains-permutation _ _ x parted.both (Contains-append_right parted.now parted.kept x h)
 
   was_pending : (x : Item) → Contains (parted.now ++ parted.rest) x → Contains net.pending x
   was_pending x h = Contains-permutation _ _ x (IsPermutation-sym _ _ pending_is) (contains_tail s.i (parted.now ++ parted.rest) x h)
@@ -251,34 +252,3 @@ module _ (s0 : Taking) (n : ℕ) (e : s0.i.inlet.part ≡ Framer n) (strict : is
       pick (inl d) =
           (up x, here (up x) (Contains-append_left (map up parted.kept) parted.left (up x) (contains_map up parted.kept x d)), inr (kept_arg x d, refl))
       pick (inr d) = (x, here x (Contains-append_right (map up parted.kept) parted.left x d), inl refl)
-
-  -- COUNTS by tests that pass no argument
-  abbrev pub Passes : (Item → Bool) → Type 0
-  Passes test = (j : Item) (m : ℕ) → j.inlet.part ≡ Sender n m → test j ≡ false
-
-  no_arg : (test : Item → Bool) → Passes test → Skips test args
-  no_arg test none j h = let k = arg_part j h in none j k.0 k.1
-
-  no_up : (test : Item → Bool) → Passes test → (items : List Item) → ((x : Item) → Contains items x → Contains args x) → Skips test (map up items)
-  no_up test none items inside j h =
-      let k = contains_mapped up items j h in let o = arg_part k.0 (inside k.0 k.1) in none j o.0 (ap (λ (i : Item). i.inlet.part) (sym k.2) ∙ o.1)
-
-  pub only_renewed : (test : Item → Bool) → Passes test → only test renewed_net.waiting ≡ only test net.waiting
-  only_renewed test none = waited.same test (no_up test none parted.kept kept_arg) ∙ parted.same test (no_arg test none)
-
-  pub waiting_count : (test : Item → Bool) → Passes test → count_by test renewed_net.waiting ≡ count_by test net.waiting
-  waiting_count test none =
-      let a = count_same test renewed_net.waiting (map up parted.kept ++ parted.left) waiting_now in
-      let b = count_append test (map up parted.kept) parted.left in let d = count_none test (map up parted.kept) (no_up test none parted.kept kept_arg) in
-      let h = count_same test net.waiting (parted.kept ++ parted.left) parted.second_is in let i = count_append test parted.kept parted.left in
-      let l = count_none test parted.kept (λ j h. no_arg test none j (kept_arg j h)) in omega (arith, a, b, d, h, i, l)
-
-  -- but for the call's own item
-  pub pending_count : (test : Item → Bool) → Passes test → test ask ≡ false → test s.i ≡ false → count_by test renewed_net.pending ≡ count_by test net.pending
-  pending_count test none no_ask no_own =
-      let a = count_same test renewed_net.pending (ask ∷ (map up parted.now ++ parted.rest)) pending_now in
-      let b = count_no test ask (map up parted.now ++ parted.rest) no_ask in
-      let d = count_append test (map up parted.now) parted.rest in let g = count_none test (map up parted.now) (no_up test none parted.now now_arg) in
-      let h = count_same test net.pending (s.i ∷ (parted.now ++ parted.rest)) pending_is in let i = count_no test s.i (parted.now ++ parted.rest) no_own in
-      let l = count_append test parted.now parted.rest in let o = count_none test parted.now (λ j h. no_arg test none j (now_arg j h)) in
-      omega (arith, a, b, d, g, h, i, l, o)

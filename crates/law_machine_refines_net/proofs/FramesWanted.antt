@@ -32,10 +32,11 @@ use Rattle.law_net.specs.ContextsWires.{leads_to, stands_at, answered_at, has_no
 use Rattle.law_net.specs.ContextsFirings.{Config}
 use Rattle.law_net.specs.ContextsStands.{frame_of, ip_of, word_of, to_of, token_of, is_asked, is_held, is_instr, row_of}
 use Rattle.law_machine_refines_net.specs.MovesCases.{Taking, net_of, IsFree}
-use Rattle.law_machine_refines_net.proofs.MovesWhole.{UsedNow, is_credit}
-use Rattle.law_machine_refines_net.proofs.CellsAnswered.{one_image}
+use Rattle.law_machine_refines_net.proofs.MovesParts.{is_credit}
+use Rattle.law_machine_refines_net.proofs.MovesBalanced.{UsedNow}
 use Rattle.law_machine_refines_net.proofs.MovesFitted.{fits, code, taken_here, lone_port}
 use Rattle.law_machine_refines_net.proofs.SendsRules.{at, instr, stood, happens, goes_to, grants, releases, free_of}
+use Rattle.law_machine_refines_net.proofs.CellsAnswered.{one_image}
 
 -- THE MANAGER'S PART
 pub asked_calm : (r : Part) → is_asked r ≡ true → is_credit r ≡ false

@@ -3,7 +3,6 @@ use Rattle.std.proofs.Common.{◌≡◌, ℕ, ◌*◌, ◌<◌, Bool, true, fals
 use Rattle.std.proofs.Common.{Option, Some, None, nat_lt, ltb-true, if◌then◌else◌}
 use Rattle.std.specs.Prelude.{IsPermutation, Contains, slice_get}
 use Rattle.std.proofs.lemmas.Bool.{cases_eq}
-use Rattle.std.proofs.lemmas.List.Elements.{Contains-append_right}
 use Rattle.lemmas.proofs.Permutations.{permutation_same}
 use Rattle.lemmas.proofs.Contains.{contains_cases, contains_head, contains_none, contains_tail}
 use Rattle.lemmas.proofs.Bools.{first_of_and, second_of_and}
@@ -42,10 +41,6 @@ pub outputs_are : (fl : Flow) (p : Plan) (w : Wires) → IsGood fl p w → outpu
 outputs_are fl p w good =
     let k = coded fl p w good.wired Main good.main in
     ap (λ n. results_in (slice_get p.program.blocks n)) good.wired.main ∙ ap results_in k.there ∙ k.laid.outputs
-
--- a frame of a context was handed out
-among_more : (o : Option Context) (h g : ℕ) (gs : List ℕ) → Contains gs g → Contains (frames_if o h ++ gs) g
-among_more o h g gs c = Contains-append_right (frames_if o h) gs g c
 
 frame_given : (o : Option Context) (c : Context) (h g : ℕ) (other : Option ℕ) (gs : List ℕ) → (other ≡ Some g → Contains gs g) → frame_if o c h other ≡ Some g
     → Contains (frames_if o h ++ gs) g

@@ -22,21 +22,20 @@ use Rattle.law_net.specs.ContextsParts.{Result, End, Shown, Done, Freed, inlet, 
 use Rattle.law_net.specs.ContextsBlocks.{side}
 use Rattle.law_net.specs.Contexts.{block_in, wiring_in}
 use Rattle.law_net.specs.ContextsWires.{stands_at}
-use Rattle.law_net.specs.ContextsFirings.{frame_at}
-use Rattle.law_net.specs.ContextsStands.{frame_of, word_of, slot_of, named_by, is_held, is_instr}
-use Rattle.law_machine_refines_net.specs.MovesCases.{Taking, IsCaused, net_of, Followed, IsFree}
-use Rattle.law_machine_refines_net.proofs.MovesLists.{contains_one}
+use Rattle.law_net.specs.ContextsStands.{frame_of, word_of, slot_of, named_by, is_instr}
+use Rattle.law_machine_refines_net.specs.MovesCases.{Taking, net_of, Followed, IsFree}
+use Rattle.law_machine_refines_net.proofs.MovesLists.{contains_one, one_holds}
+use Rattle.law_machine_refines_net.proofs.MovesParts.{is_credit}
 use Rattle.law_machine_refines_net.proofs.MovesFitted.{code, taken_here}
 use Rattle.law_machine_refines_net.proofs.SendsRules.{at, instr, stood, dyadic_grants, free_from, free_of, releases}
 use Rattle.law_machine_refines_net.proofs.SendsPairs as Pairs
 use Rattle.law_machine_refines_net.proofs.SendsPairs.{Second, dyadic, left_here, right_here}
 use Rattle.law_machine_refines_net.proofs.Sends.{Wire}
 use Rattle.law_machine_refines_net.proofs.SendsAlong.{both, all_lead, pair_follows}
-use Rattle.law_machine_refines_net.proofs.MovesWhole.{WasThere, UsedNow, is_credit}
-use Rattle.law_machine_refines_net.proofs.OutwardsPassed.{calm_books, none_counted, none_released}
-use Rattle.law_machine_refines_net.proofs.OutwardsCrossing.{crosses_follow}
-use Rattle.law_machine_refines_net.proofs.Hosts.{outputs_are}
 use Rattle.law_machine_refines_net.proofs.SendsInwards.{told_at, carried}
+use Rattle.law_machine_refines_net.proofs.Hosts.{outputs_are}
+use Rattle.law_machine_refines_net.proofs.OutwardsPassed.{Sent, free_counted}
+use Rattle.law_machine_refines_net.proofs.OutwardsCrossing.{crosses_follow}
 
 -- A RESULT of main
 module _ (s : Taking) (j : ℕ) (in_main : s.i.context ≡ Main) (e : s.i.inlet.part ≡ Result j) where
@@ -60,31 +59,28 @@ module _ (s : Taking) (j : ℕ) (in_main : s.i.context ≡ Main) (e : s.i.inlet.
     out = item Main (inlet (Shown j) Left 0) sec.right ∷ [];
     out_made = token (To.Host (0 + j)) (Word.Val v) ∷ [];
     out_is = λ t. token (To.Host (zero-add j t)) (W (sym r t)) ∷ [];
-    out_held = λ x h. ap (λ (x : Item). is_held x.inlet.part) (sym (contains_one (item Main (inlet (Shown j) Left 0) sec.right) x h));
-    out_known = λ x h. (0, ap (λ (x : Item). frame_at s.fl (net_of s).fired x.context) (sym (contains_one (item Main (inlet (Shown j) Left 0) sec.right) x h)));
-    out_named = λ x d h n. absurd (unnamed x d (contains_one (item Main (inlet (Shown j) Left 0) sec.right) x h) n);
-    out_asked = λ x d y h n. absurd (unnamed x d (contains_one (item Main (inlet (Shown j) Left 0) sec.right) x h) (ap named_by n));
-    out_caused =
-        λ x h i k. absurd (true≢false (sym i
-        ∙ ap (λ (x : Item). is_instr x.inlet.part) (sym (contains_one (item Main (inlet (Shown j) Left 0) sec.right) x h))));
-    books = λ d n h k. calm_books l (item Main (inlet (Shown j) Left 0) sec.right ∷ []) calm d n;
+    out_sent = one_holds (Sent l) (item Main (inlet (Shown j) Left 0) sec.right) (record {
+      held = refl;
+      known = (0, refl);
+      named = λ d n. absurd (unnamed d n);
+      asked = λ d y n. absurd (unnamed d (ap named_by n));
+      caused = λ i k. absurd (true≢false (sym i));
+    });
+    counted =
+        free_counted l free (item Main (inlet (Shown j) Left 0) sec.right ∷ [])
+        (one_holds (λ (x : Item). is_credit x.inlet.part ≡ false) (item Main (inlet (Shown j) Left 0) sec.right) refl);
     dests = (instr l is_result).firsts ++ (instr l is_result).seconds;
     makes_is = refl;
     leads = all_lead l refl is_result refl refl;
     plain_dest = λ d h. subst (λ o. Contains (plain_dests (instr l is_result) o) d) (sym (stood l is_result).is.op) h;
     did = m;
-    released = λ d n g h k f. none_counted l free (item Main (inlet (Shown j) Left 0) sec.right ∷ []) calm d n g;
-    releases = none_released l free;
   })
     where
-      calm : (x : Item) → Contains (item Main (inlet (Shown j) Left 0) sec.right ∷ []) x → is_credit x.inlet.part ≡ false
-      calm x h = ap (λ (x : Item). is_credit x.inlet.part) (sym (contains_one (item Main (inlet (Shown j) Left 0) sec.right) x h))
-
       free : IsFree l
       free = free_of l is_result (dyadic_grants (instr l is_result).op (dyadic l refl refl)) (ap releases (stood l is_result).is.op)
 
-      unnamed : (x : Item) (d : Context) → item Main (inlet (Shown j) Left 0) sec.right ≡ x → named_by x.word ≡ Some d → ⊥
-      unnamed x d h n = let z : None ≡ Some d = ap named_by (sym r) ∙ ap (λ (x : Item). named_by x.word) h ∙ n in absurd (cc)
+      unnamed : (d : Context) → named_by sec.right ≡ Some d → ⊥
+      unnamed d n = let z : None ≡ Some d = ap named_by (sym r) ∙ n in absurd (cc)
 
   by_word : (sec : Second l refl refl) (k : Note) → sec.right ≡ k → Comes (Ops.Return j) (W ToHost) (W k) → Followed s
   by_word sec (Datum v) r m = sends_on sec v r m
@@ -141,23 +137,16 @@ module _ (s : Taking) (in_main : s.i.context ≡ Main) (e : s.i.inlet.part ≡ E
     out_is =
         λ t. token (To.Release (frame_of s.fl (net_of s).fired Main)) Rule.signal
         ∷ token (To.Host ((zero-add results ∙ sym (outputs_are s.fl s.p s.w s.good)) t)) Rule.signal ∷ [];
-    out_held = of_both (λ (x : Item). is_held x.inlet.part ≡ false) refl refl;
-    out_known = of_both (λ (x : Item). (n : ℕ) × (frame_at s.fl (net_of s).fired x.context ≡ Some n)) (0, refl) (0, refl);
-    out_named =
-        λ x d h. of_both (λ (x : Item). named_by x.word ≡ Some d → (n : ℕ) × (frame_at s.fl (net_of s).fired d ≡ Some n)) (λ n. absurd (cc))
-        (λ n. absurd (cc)) x h;
-    out_asked = λ x d y h. of_both (λ (x : Item). x.word ≡ BackTo d y → WasThere last x ⊎ UsedNow last d y) (λ n. absurd (cc)) (λ n. absurd (cc)) x h;
-    out_caused =
-        λ x h i k. of_both (λ (x : Item). (is_instr x.inlet.part ≡ true) → IsCaused last x) (λ i. absurd (true≢false (sym i)))
-        (λ i. absurd (true≢false (sym i))) x h i;
-    books = λ d n h k. calm_books last ending (of_both (λ (x : Item). is_credit x.inlet.part ≡ false) refl refl) d n;
+    out_sent =
+        of_both (Sent last)
+        (record { held = refl; known = (0, refl); named = λ d n. absurd (cc); asked = λ d y n. absurd (cc); caused = λ i k. absurd (true≢false (sym i)) })
+        (record { held = refl; known = (0, refl); named = λ d n. absurd (cc); asked = λ d y n. absurd (cc); caused = λ i k. absurd (true≢false (sym i)) });
+    counted = free_counted last (end_free m.0) ending (of_both (λ (x : Item). is_credit x.inlet.part ≡ false) refl refl);
     makes_is = ap (λ l. ending ++ each Main signal l) (sym no_wire);
     dests = [];
     leads = permutation_same _ _ (ap (map (stands_at (wiring_in s.fl s.w Main))) (sym no_wire));
     plain_dest = λ d h. absurd (contains_none d h);
     did = m;
-    released = λ d n g h k f. none_counted last (end_free m.0) ending (of_both (λ (x : Item). is_credit x.inlet.part ≡ false) refl refl) d n g;
-    releases = none_released last (end_free m.0);
   })
 
   pub end_follows : Followed s

@@ -3,6 +3,8 @@ use Rattle.std.proofs.Common.{◌≡◌, ℕ, ◌+◌, ◌<◌, ◌≤◌, Bool,
 use Rattle.std.proofs.Common.{true≢false, Option, Some, None, ℤ, nat_lt, lt-ltb, eq-eqb, eqb-true, append-nil}
 use Rattle.std.specs.Prelude.{Contains, slice_get}
 use Rattle.std.proofs.lemmas.List.Sorted.{IsPermutation-refl, IsPermutation-sym, IsPermutation-trans}
+use Rattle.lemmas.proofs.Permutations.{Each, each_append, each_within, within_from, permutation_same}
+use Rattle.lemmas.proofs.Contains.{contains_none}
 use Rattle.tags.specs.declared.value.Value.TheVariants.{Int}
 use Rattle.tags.specs.declared.token.Port.TheVariants.{Left}
 use Rattle.tags.specs.declared.token.Cont.{Cont}
@@ -17,8 +19,6 @@ use Rattle.semantics.specs.Plan.{Plan}
 use Rattle.semantics.specs.Program.{first_of}
 use Rattle.semantics.specs.Rule.{token}
 use Rattle.semantics.specs.Machine.{at_start, input_tokens}
-use Rattle.lemmas.proofs.Permutations.{Each, each_append, each_within, within_from, permutation_same}
-use Rattle.lemmas.proofs.Contains.{contains_none}
 use Rattle.law_confluence.proofs.Orders.{at_first, first_lifted}
 use Rattle.law_net.specs.ContextsParts.{Part, Entry, Line, Giver, Taker, Drainer, Item}
 use Rattle.law_net.specs.Contexts.{Wires, block_in, code_in, or_none}
@@ -28,8 +28,8 @@ use Rattle.law_net.specs.ContextsStands.{only, ip_of, token_of, is_held, is_entr
 use Rattle.law_net.specs.ContextsPackages.{InputsFit, Starts, TokensAreItems}
 use Rattle.law_machine_refines_net.proofs.MovesLists.{count_none}
 use Rattle.law_machine_refines_net.proofs.MovesSites.{Coded, coded}
+use Rattle.law_machine_refines_net.proofs.MovesParts.{is_credit, calm_item}
 use Rattle.law_machine_refines_net.proofs.MovesSettled.{cells_out, told_other}
-use Rattle.law_machine_refines_net.proofs.MovesWhole.{is_credit, calm_item}
 
 -- A TOKEN OF THE POOL
 pub tokens_are_items : TokensAreItems

@@ -1,18 +1,20 @@
 -- Moves
 pub mod MovesLists
 pub mod MovesSites
+pub mod MovesParts
 pub mod MovesStill
-pub mod MovesWhole
-pub mod MovesFollowed
-pub mod MovesReached
+pub mod MovesAccount
+pub mod MovesLasting
+pub mod MovesFramed
+pub mod MovesLoops
+pub mod MovesBalanced
+pub mod MovesPlain
 pub mod MovesSettled
 pub mod MovesHalts
 pub mod MovesGoes
 pub mod MovesBare
 pub mod MovesSpots
 pub mod MovesFitted
-pub mod MovesSingle
-pub mod MovesLasting
 pub mod MovesEvents
 -- Sends
 pub mod SendsRules
@@ -38,7 +40,6 @@ pub mod FramesRequested
 pub mod FramesUnframed
 pub mod FramesManaged
 pub mod FramesQueued
-pub mod FramesGrown
 pub mod FramesHanded
 pub mod FramesArgued
 pub mod FramesParted
@@ -66,7 +67,6 @@ pub mod Outwards
 -- Credits
 pub mod CreditsLenders
 pub mod CreditsLending
-pub mod CreditsLent
 pub mod CreditsBooks
 pub mod CreditsLedgers
 pub mod CreditsSignals

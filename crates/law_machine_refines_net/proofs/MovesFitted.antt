@@ -1,10 +1,9 @@
 -- What is known of each item of the net: where it stands, its instruction, and that its slot is its own.
-use Rattle.std.proofs.Common.{◌≡◌, ℕ, Bool, true, false, [], ◌++◌, refl, sym, ap, ◌∙◌, subst, inl, inr, ◌⊎◌, true≢false, Some}
-use Rattle.std.proofs.Common.{eqb-true}
+use Rattle.std.proofs.Common.{◌≡◌, ℕ, Bool, true, false, [], ◌++◌, refl, sym, ap, ◌∙◌, subst, inl, inr, ◌⊎◌, true≢false, Some, eqb-true}
 use Rattle.std.specs.Prelude.{Contains, flat_map}
 use Rattle.std.proofs.lemmas.List.Elements.{All-contains, Contains-append_left, Contains-append_right, Contains-append_cases}
 use Rattle.std.proofs.lemmas.List.Sorted.{IsPermutation-sym, Contains-permutation}
-use Rattle.lemmas.proofs.Contains.{contains_head}
+use Rattle.lemmas.proofs.Contains.{contains_head, contains_tail}
 use Rattle.tags.specs.declared.token.Port.{Port}
 use Rattle.tags.specs.declared.token.Port.TheVariants.{Left, Right}
 use Rattle.tags.specs.declared.slot.SlotState.TheVariants.{Empty}
@@ -80,6 +79,9 @@ module _ (s : Taking) where
 
   pub taken_here : IsHere s.i
   taken_here = Contains-append_left net.pending net.waiting s.i (Contains-permutation _ _ s.i (IsPermutation-sym _ _ s.perm) (contains_head s.i s.others))
+
+  pub others_before : (j : Item) → Contains s.others j → Contains net.pending j
+  others_before j h = Contains-permutation _ _ j (IsPermutation-sym _ _ s.perm) (contains_tail s.i s.others j h)
 
   pub waiting_here : (j : Item) → Contains net.waiting j → IsHere j
   waiting_here j c = Contains-append_right net.pending net.waiting j c

@@ -6,10 +6,10 @@ use Rattle.law_net.specs.ContextsParts.{Item}
 use Rattle.law_net.specs.ContextsFirings.{makes, frame_at}
 use Rattle.law_net.specs.ContextsStands.{named_by}
 use Rattle.law_machine_refines_net.specs.MovesCases.{net_of, GoesFollow}
-use Rattle.law_machine_refines_net.proofs.MovesWhole.{is_credit, quiet_calm}
+use Rattle.law_machine_refines_net.proofs.MovesParts.{is_credit, quiet_calm}
 use Rattle.law_machine_refines_net.proofs.MovesSettled.{quiet_held}
 use Rattle.law_machine_refines_net.proofs.MovesFitted.{among}
-use Rattle.law_machine_refines_net.proofs.OutwardsPassed.{calm_books, none_counted, none_released, taken_there, passes_follow}
+use Rattle.law_machine_refines_net.proofs.OutwardsPassed.{free_counted, taken_there, passes_follow}
 
 -- A PART THAT FIRES
 pub goes_follow : GoesFollow
@@ -22,16 +22,16 @@ goes_follow s f g = passes_follow s f (record {
   took = g.took;
   still = g.still;
   made = g.made;
-  none_held = λ j h. quiet_held j.inlet.part (g.quiet j h);
-  known = g.known;
-  named = named;
-  asked = λ j d x h e. let k = g.named j d h (ap named_by e) in inl (k.0, taken_there s g.before g.kept g.later g.waiting k.0 k.1, k.2);
-  caused = g.caused;
+  sent = λ j h. record {
+    held = quiet_held j.inlet.part (g.quiet j h);
+    known = g.known j h;
+    named = λ d e. named j d h e;
+    asked = λ d x e. let k = g.named j d h (ap named_by e) in inl (k.0, taken_there s g.before g.kept g.later g.waiting k.0 k.1, k.2);
+    caused = g.caused j h;
+  };
   store = g.store;
   granted = g.free.granted;
-  books = λ c n h l. calm_books s (makes s.fl s.w f) calm c n;
-  released = λ c n m h l e. none_counted s g.free (makes s.fl s.w f) calm c n m;
-  releases = none_released s g.free;
+  counted = free_counted s g.free (makes s.fl s.w f) calm;
 })
   where
     calm : (j : Item) → Contains (makes s.fl s.w f) j → is_credit j.inlet.part ≡ false

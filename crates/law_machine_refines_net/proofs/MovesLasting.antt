@@ -1,5 +1,5 @@
 -- Words and tokens are the same in two states of the net in which the frames are the same.
-use Rattle.std.proofs.Common.{◌≡◌, ℕ, ◌+◌, true, List, [], ◌∷◌, ◌++◌, map, refl, sym, ap, ◌∙◌, subst, inl, inr, ◌⊎◌, arith, Some, nat_lt, if◌then◌else◌}
+use Rattle.std.proofs.Common.{◌≡◌, ℕ, ◌+◌, List, [], ◌∷◌, ◌++◌, map, refl, sym, ap, ◌∙◌, inl, inr, ◌⊎◌, Some, nat_lt, if◌then◌else◌}
 use Rattle.std.specs.Prelude.{Contains}
 use Rattle.lemmas.proofs.Contains.{contains_head, contains_tail}
 use Rattle.tags.specs.declared.token.Word.{Word}
@@ -13,13 +13,9 @@ use Rattle.semantics.specs.Plan.{Plan}
 use Rattle.law_confluence.proofs.NetSlots.{InSlots, AtSlot}
 use Rattle.law_net.specs.ContextsParts.{Part, Opener, Giver, Taker, Drainer, Asked, NextAsked, Held, Drained, Shown, Done, Freed, Note, Datum, FrameOf, BackTo}
 use Rattle.law_net.specs.ContextsParts.{ToHost, Item, Firing}
-use Rattle.law_net.specs.ContextsBlocks.{bound_at}
-use Rattle.law_net.specs.Contexts.{Wires, block_in}
-use Rattle.law_net.specs.ContextsCredits.{CreditLaw}
+use Rattle.law_net.specs.Contexts.{Wires}
 use Rattle.law_net.specs.ContextsFirings.{Config, times}
-use Rattle.law_net.specs.ContextsStands.{frame_of, ip_of, word_of, to_of, token_of, conts_of, cont_in, only, is_item_at, items_at, first_cont, granted_of}
-use Rattle.law_net.specs.ContextsStands.{ledger, KeepsCredits, named_by}
-use Rattle.law_machine_refines_net.proofs.MovesWhole.{is_credit}
+use Rattle.law_net.specs.ContextsStands.{frame_of, ip_of, word_of, to_of, token_of, conts_of, cont_in, only, is_item_at, items_at, first_cont, ledger, named_by}
 
 module _ (fl : Flow) (p : Plan) (w : Wires) (a b : List Firing) where
   -- the item's frame, and that of the context that its word names
@@ -52,10 +48,12 @@ module _ (fl : Flow) (p : Plan) (w : Wires) (a b : List Firing) where
   tokens_last [] h = refl
   tokens_last (j ∷ js) h = let x = item_token j (h j (contains_head j js)) in let y = tokens_last js (λ i c. h i (contains_tail j js i c)) in λ t. x t ∷ y t
 
-  pub conts_last : (items : List Item) → ((j : Item) → Contains items j → Lasts j) → conts_of fl p w b items ≡ conts_of fl p w a items
-  conts_last [] h = refl
-  conts_last (j ∷ js) h =
-      let x = item_word j (h j (contains_head j js)) in let y = conts_last js (λ i c. h i (contains_tail j js i c)) in λ t. cont_in (x t) ++ y t
+  -- and continuations by words that last
+  pub conts_same : (items : List Item) → ((j : Item) → Contains items j → word_of fl p w b j.word ≡ word_of fl p w a j.word)
+      → conts_of fl p w b items ≡ conts_of fl p w a items
+  conts_same [] h = refl
+  conts_same (j ∷ js) h =
+      let x = h j (contains_head j js) in let y = conts_same js (λ i c. h i (contains_tail j js i c)) in λ t. cont_in (x t) ++ y t
 
 -- slots by frames and words that are the same where an item waits
 pub slots_last : (a b : Item → ℕ) (slot : Item → ℕ) (h k : Item → SlotState) (base : ℕ → ℕ → SlotState) (items : List Item) (slots : ℕ → ℕ → SlotState)
@@ -84,17 +82,4 @@ ledger_lasts fl p w a b c n o t d g r k = λ i. record {
   waiter = first_cont (k i);
   draining = nat_lt 0 (r i);
   over = nat_lt 0 (d i);
-}
-
--- a loop keeps to its credits where its ledger and its items stay
-pub credits_last : (fl : Flow) (p : Plan) (w : Wires) (a b : Config) (c : Context) (n : ℕ) → ledger fl p w b c n ≡ ledger fl p w a c n
-    → granted_of b c n ≡ granted_of a c n
-    → ((j : Item) → is_credit j.inlet.part ≡ true → Contains (b.pending ++ b.waiting) j → Contains (a.pending ++ a.waiting) j)
-    → items_at c (Taker n) (b.pending ++ b.waiting) ≡ items_at c (Taker n) (a.pending ++ a.waiting)
-    → KeepsCredits fl p w a c n → KeepsCredits fl p w b c n
-credits_last fl p w a b c n same granted there takers k = record {
-  law = subst (CreditLaw (bound_at (block_in fl c) n)) (sym same) k.law;
-  takes = λ j h e r. k.takes j (there j (ap is_credit r) h) e r ∙ sym granted;
-  drains = λ j h e r. let o = k.drains j (there j (ap is_credit r) h) e r in (o.0 ∙ sym granted, takers ∙ o.1);
-  gives = λ j h e r. let o = k.gives j (there j (ap is_credit r) h) e r in omega (arith, o, granted);
 }

@@ -27,11 +27,6 @@ module _ {X : Type 0} (test : X → Bool) where
   kept_none [] h = refl
   kept_none (x ∷ xs) h = kept_no x xs (h x (contains_head x xs)) ∙ kept_none xs (λ y c. h y (contains_tail x xs y c))
 
-  -- all of them pass
-  pub kept_all : (xs : List X) → ((x : X) → Contains xs x → test x ≡ true) → kept_by test xs ≡ xs
-  kept_all [] h = refl
-  kept_all (x ∷ xs) h = kept_yes x xs (h x (contains_head x xs)) ∙ ap (λ l. x ∷ l) (kept_all xs (λ y c. h y (contains_tail x xs y c)))
-
   -- some in the middle that do not pass may be left out
   pub kept_but : (before kept after : List X) → ((x : X) → Contains kept x → test x ≡ false)
       → kept_by test (before ++ (kept ++ after)) ≡ kept_by test (before ++ after)
@@ -120,3 +115,7 @@ module _ {X : Type 0} where
       pick : (x ≡ y) ⊎ Contains [] y → x ≡ y
       pick (inl e) = e
       pick (inr d) = absurd (contains_none y d)
+
+  -- what holds of the one element
+  pub one_holds : (P : X → Type 0) (x : X) → P x → (y : X) → Contains (x ∷ []) y → P y
+  one_holds P x p y c = subst P (contains_one x y c) p

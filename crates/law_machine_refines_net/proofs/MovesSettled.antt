@@ -2,7 +2,6 @@
 use Rattle.std.proofs.Common.{◌≡◌, ℕ, Bool, true, false, not, List, [], ◌∷◌, ◌++◌, map, refl, sym, ap, ◌∙◌, true≢false, Option, Some, None, if◌then◌else◌}
 use Rattle.std.specs.Prelude.{IsPermutation, Contains}
 use Rattle.std.proofs.lemmas.List.{map-append}
-use Rattle.std.proofs.lemmas.List.Concat.{flat_map-append}
 use Rattle.std.proofs.lemmas.List.Sorted.{IsPermutation-trans, IsPermutation-sym, IsPermutation-map, IsPermutation-append, IsPermutation-append_left}
 use Rattle.std.proofs.lemmas.List.Sorted.{IsPermutation-append_right}
 use Rattle.lemmas.proofs.Contains.{contains_head, contains_tail}
@@ -16,9 +15,9 @@ use Rattle.law_net.specs.ContextsParts.{Part, Held, Item, Firing}
 use Rattle.law_net.specs.Contexts.{Wires, block_in}
 use Rattle.law_net.specs.ContextsBlocks.{is_store}
 use Rattle.law_net.specs.ContextsFirings.{Config, cell_of, second_of}
-use Rattle.law_net.specs.ContextsStands.{word_of, to_of, cell_to, token_of, only, is_held, Stands, came, is_cell_token, but_cells, events_taken}
+use Rattle.law_net.specs.ContextsStands.{word_of, to_of, cell_to, token_of, only, is_held, Stands, is_cell_token, but_cells, events_taken}
 use Rattle.law_machine_refines_net.specs.MovesCases.{Taking, net_of, is_quiet}
-use Rattle.law_machine_refines_net.proofs.MovesLists.{kept_append, rest_same}
+use Rattle.law_machine_refines_net.proofs.MovesLists.{rest_same}
 
 -- no request of a cell
 pub no_cell_to : (fl : Flow) (p : Plan) (w : Wires) (fired : List Firing) (i : Item) (r : Part) (word : Word) → is_held r ≡ false
@@ -95,23 +94,6 @@ module _ (s : Taking) where
 
   abbrev pub nh : Item → Bool
   nh j = not (is_held j.inlet.part)
-
-  -- what came, with what is made
-  pub met_is : (made all : List Item) → IsPermutation (but_cells s.event.made) (map tok (only nh made)) → IsPermutation all (made ++ came s.fl net)
-      → IsPermutation (but_cells (events_taken (s.q.events ++ (s.e, s.t) ∷ []) ++ s.new.pool)) (map tok (only nh all))
-  met_is made all c perm =
-      let B = λ (t : Token). if is_cell_token t then [] else t ∷ [] in
-      let a = flat_map-IsPermutation B _ _ met_tokens in
-      let b : but_cells ((events_taken s.q.events ++ s.m.pool) ++ s.event.made) ≡ but_cells (events_taken s.q.events ++ s.m.pool) ++ but_cells s.event.made =
-      flat_map-append B (events_taken s.q.events ++ s.m.pool) s.event.made in
-      let d : IsPermutation (but_cells (events_taken s.q.events ++ s.m.pool) ++ but_cells s.event.made)
-      (map tok (only nh (came s.fl net)) ++ map tok (only nh made)) = IsPermutation-append _ _ _ _ s.keeps.follows.met c in
-      let g : IsPermutation (only nh all) (only nh made ++ only nh (came s.fl net)) =
-      at_last (flat_map-IsPermutation (λ (i : Item). if nh i then i ∷ [] else []) _ _ perm) (kept_append nh made (came s.fl net)) in
-      let h : IsPermutation (map tok (only nh all)) (map tok (only nh made) ++ map tok (only nh (came s.fl net))) =
-      at_last (IsPermutation-map tok _ _ g) (map-append tok (only nh made) (only nh (came s.fl net))) in
-      IsPermutation-trans _ _ _ (at_last a b) (IsPermutation-trans _ _ _ d (IsPermutation-trans _ _ _
-      (shuffled (map tok (only nh (came s.fl net)) ∷ map tok (only nh made) ∷ []) (Piece 0 ⊕ Piece 1) (Piece 1 ⊕ Piece 0) refl) (IsPermutation-sym _ _ h)))
 
   pub made_but : (made : List Item) → IsPermutation s.event.made (map tok made) → ((j : Item) → Contains made j → IsTold s.fl s.p s.w net.fired j)
       → IsPermutation (but_cells s.event.made) (map tok (only nh made))

@@ -1,35 +1,30 @@
 -- Two words meet, and what comes of them goes into another context.
-use Rattle.std.proofs.Common.{◌≡◌, ℕ, ◌<◌, true, false, List, [], ◌∷◌, ◌++◌, map, refl, sym, ap, ◌∙◌, subst, inl, true≢false, Some, ◌⊎◌}
+use Rattle.std.proofs.Common.{◌≡◌, true, false, List, [], ◌∷◌, ◌++◌, map, refl, sym, ap, ◌∙◌, subst, inl, true≢false}
 use Rattle.std.specs.Prelude.{IsPermutation, Contains}
 use Rattle.tags.specs.declared.token.Token.{Token}
 use Rattle.tags.specs.declared.slot.SlotState.TheVariants.{Empty}
 use Rattle.semantics.specs.declared.program.Dest.{Dest}
-use Rattle.semantics.specs.Meaning.{Context}
 use Rattle.semantics.specs.Rule.{to_each}
 use Rattle.semantics.specs.Rule as Rule
 use Rattle.semantics.specs.Machine.{Store, with_slot}
-use Rattle.semantics.specs.Credits.{released_at}
 use Rattle.law_confluence.proofs.NetSlots.{InSlots}
 use Rattle.law_confluence.proofs.Orders.{at_last}
 use Rattle.law_fresh_frames.specs.Alike.{plain_dests}
-use Rattle.law_net.specs.ContextsParts.{Giver, Landing, Inlet, BackTo, signal, Item, each, Firing}
-use Rattle.law_net.specs.ContextsBlocks.{is_loop}
-use Rattle.law_net.specs.Contexts.{block_in, wiring_in, IsContext}
+use Rattle.law_net.specs.ContextsParts.{signal, Item, each, Firing}
+use Rattle.law_net.specs.Contexts.{wiring_in}
 use Rattle.law_net.specs.ContextsWires.{leads_to, stands_at}
-use Rattle.law_net.specs.ContextsFirings.{Config, makes, frame_at}
-use Rattle.law_net.specs.ContextsStands.{frame_of, ip_of, word_of, token_of, on_side, in_slot, slot_of, only, items_at, named_by, is_held, is_instr}
-use Rattle.law_net.specs.ContextsStands.{is_entry_part, Stands}
-use Rattle.law_machine_refines_net.specs.MovesCases.{Taking, IsCaused, net_of, Followed, is_still}
+use Rattle.law_net.specs.ContextsFirings.{Config, makes}
+use Rattle.law_net.specs.ContextsStands.{frame_of, word_of, token_of, on_side, in_slot, slot_of, only, is_instr, Stands}
+use Rattle.law_machine_refines_net.specs.MovesCases.{Taking, net_of, Followed, is_still}
 use Rattle.law_machine_refines_net.proofs.MovesLists.{contains_one}
 use Rattle.law_machine_refines_net.proofs.MovesFitted.{is_plain_way}
-use Rattle.law_machine_refines_net.proofs.MovesWhole.{WasThere, UsedNow}
 use Rattle.law_machine_refines_net.proofs.SendsRules.{at, instr, grants, dyadic_grants, ungranted}
 use Rattle.law_machine_refines_net.proofs.SendsPairs as Pairs
 use Rattle.law_machine_refines_net.proofs.SendsPairs.{Second, dyadic}
 use Rattle.law_machine_refines_net.proofs.Sends.{firing_of, Wire, stays_with}
 use Rattle.law_machine_refines_net.proofs.SendsAlong.{takes_two}
-use Rattle.law_machine_refines_net.proofs.OutwardsPassed.{Books}
 use Rattle.law_machine_refines_net.proofs.OutwardsLeaving.{leaves_follow}
+use Rattle.law_machine_refines_net.proofs.OutwardsPassed.{Sent, Counted}
 
 module _ (s : Taking) (still : is_still s.i.inlet.part ≡ true) (two : in_slot s.fl s.i ≡ true)
     (plain : is_plain_way s.i.inlet.part ≡ true) where
@@ -50,13 +45,8 @@ module _ (s : Taking) (still : is_still s.i.inlet.part ≡ true) (two : in_slot 
     pub out : List Item
     pub out_made : List Token
     pub out_is : out_made ≡ map (token_of s.fl s.p s.w net.fired) out
-    pub out_held : (j : Item) → Contains out j → is_held j.inlet.part ≡ false
-    pub out_known : (j : Item) → Contains out j → (n : ℕ) × (frame_at s.fl net.fired j.context ≡ Some n)
-    pub out_named : (j : Item) (d : Context) → Contains out j → named_by j.word ≡ Some d → (n : ℕ) × (frame_at s.fl net.fired d ≡ Some n)
-    pub out_asked : (j : Item) (d : Context) (x : Inlet) → Contains out j → j.word ≡ BackTo d x → WasThere s j ⊎ UsedNow s d x
-    pub out_caused : (j : Item) → Contains out j → (is_instr j.inlet.part ≡ true) → (is_entry_part (block_in s.fl j.context) j.inlet.part ≡ false)
-        → IsCaused s j
-    pub books : (d : Context) (n : ℕ) → IsContext s.fl d → is_loop (block_in s.fl d) n ≡ true → Books s out d n
+    pub out_sent : (j : Item) → Contains out j → Sent s j
+    pub counted : Counted s out
     pub makes_is : makes s.fl s.w (f sec) ≡ out ++ each s.i.context signal (Wire s is false)
     pub dests : List Dest
     pub leads : IsPermutation (map (leads_to ((wiring_in s.fl s.w s.i.context).place s.i.inlet.part)) dests)
@@ -64,9 +54,6 @@ module _ (s : Taking) (still : is_still s.i.inlet.part ≡ true) (two : in_slot 
     pub plain_dest : (d : Dest) → Contains dests d → Contains (plain_dests (instr s is) (instr s is).op) d
     pub did : (s.event.made ≡ out_made ++ to_each (at s is) Rule.signal dests)
         × (s.new.store ≡ with_slot s.m.store (frame_of s.fl net.fired s.i.context) (slot_of s.fl s.w s.i) Empty)
-    pub released : (d : Context) (n g : ℕ) → IsContext s.fl d → is_loop (block_in s.fl d) n ≡ true → frame_at s.fl net.fired d ≡ Some g
-        → released_at s.p.program g (ip_of s.fl s.p s.w d (Landing n 0)) s.t.to s.event.made ≡ items_at d (Giver n) out
-    pub releases : (g base : ℕ) → 0 < released_at s.p.program g base s.t.to s.event.made → (d : Context) × (frame_at s.fl net.fired d ≡ Some g)
 
   pub crosses_follow : (sec : Second s two plain) → Crosses sec → Followed s
   crosses_follow sec g = leaves_follow s is (f sec) still (record {
@@ -80,12 +67,8 @@ module _ (s : Taking) (still : is_still s.i.inlet.part ≡ true) (two : in_slot 
     out = g.out;
     out_made = g.out_made;
     out_is = g.out_is;
-    out_held = g.out_held;
-    out_known = g.out_known;
-    out_named = g.out_named;
-    out_asked = g.out_asked;
-    out_caused = g.out_caused;
-    books = g.books;
+    out_sent = g.out_sent;
+    counted = g.counted;
     note = signal;
     second = false;
     from = inl refl;
@@ -100,7 +83,5 @@ module _ (s : Taking) (still : is_still s.i.inlet.part ≡ true) (two : in_slot 
         (sym g.did.1) sec.slots;
     stays = stays_with s (frame_of s.fl net.fired s.i.context) (slot_of s.fl s.w s.i) Empty g.did.1;
     granted = ungranted s is (dyadic_grants (instr s is).op (dyadic s two plain));
-    released = g.released;
-    releases = g.releases;
     no_give = λ n h. true≢false (sym (ap grants h) ∙ dyadic_grants (instr s is).op (dyadic s two plain));
   })

@@ -24,14 +24,14 @@ use Rattle.law_net.specs.ContextsBlocks.{side, is_call, is_loop, op_of, there_in
 use Rattle.law_net.specs.Contexts.{block_in, site_in, wiring_in, or_zero, IsContext, return_of}
 use Rattle.law_net.specs.ContextsWires.{stands_at}
 use Rattle.law_net.specs.ContextsFirings.{Config, frame_at, end_back}
-use Rattle.law_net.specs.ContextsStands.{frame_of, ip_of, word_of, slot_of, named_by, row_of, is_held, is_instr, is_entry_part, is_item_at, items_at, Stands}
-use Rattle.law_net.specs.ContextsStands.{WasUsed}
+use Rattle.law_net.specs.ContextsStands.{frame_of, ip_of, word_of, slot_of, named_by, row_of, is_held, is_instr, is_item_at, items_at, Stands, WasUsed}
 use Rattle.law_net.proofs.WiredInvoked.{call_invoked, loop_invoked, not_loop, code_at}
 use Rattle.law_net.proofs.WiredNets.{count_total}
-use Rattle.law_machine_refines_net.specs.MovesCases.{Taking, IsCaused, net_of, Followed}
+use Rattle.law_machine_refines_net.specs.MovesCases.{Taking, net_of, Followed}
 use Rattle.law_machine_refines_net.proofs.MovesLists.{contains_one}
+use Rattle.law_machine_refines_net.proofs.MovesParts.{is_credit}
 use Rattle.law_machine_refines_net.proofs.MovesStill.{to_instr}
-use Rattle.law_machine_refines_net.proofs.MovesWhole.{WasThere, UsedNow, is_credit}
+use Rattle.law_machine_refines_net.proofs.MovesLoops.{Books, calm_books}
 use Rattle.law_machine_refines_net.proofs.MovesFitted.{code, fits, framed, among, taken_here}
 use Rattle.law_machine_refines_net.proofs.SendsRules.{at, instr, stood, released_is}
 use Rattle.law_machine_refines_net.proofs.SendsPairs as Pairs
@@ -40,8 +40,8 @@ use Rattle.law_machine_refines_net.proofs.Sends.{Wire}
 use Rattle.law_machine_refines_net.proofs.SendsAlong.{both, pair_follows}
 use Rattle.law_machine_refines_net.proofs.SendsInwards.{told_at, carried}
 use Rattle.law_machine_refines_net.proofs.OutwardsReturned.{call_landing}
-use Rattle.law_machine_refines_net.proofs.OutwardsPassed.{Books, calm_books}
 use Rattle.law_machine_refines_net.proofs.OutwardsCrossing.{crosses_follow}
+use Rattle.law_machine_refines_net.proofs.OutwardsPassed.{Sent}
 
 -- a token at a place of a frame
 pub at_there : (f ip g jp : ℕ) → is_at f ip Left (To.Instr g jp Left) ≡ true → (g ≡ f) × (jp ≡ ip)
@@ -169,22 +169,22 @@ module _ (s : Taking) (c d : Context) (n o t : ℕ) (q : Part) (in_c : s.i.conte
       out_is =
           λ k. token (To.Release (F c)) Rule.signal
           ∷ token ((ap (λ (ip : ℕ). To.Instr (F d) ip Left) g.place ∙ sym (to_instr s.fl s.p s.w net.fired goes_back q g.is_q)) k) Rule.signal ∷ [];
-      out_held = of_both (λ (x : Item). is_held x.inlet.part ≡ false) refl g.q_held;
-      out_known = of_both (λ (x : Item). (h : ℕ) × (frame_at s.fl net.fired x.context ≡ Some h)) (framed last last.i (taken_here last)) has_frame;
-      out_named =
-          λ x y h. of_both (λ (x : Item). named_by x.word ≡ Some y → (h : ℕ) × (frame_at s.fl net.fired y ≡ Some h)) (λ k. absurd (cc)) (λ k. absurd (cc)) x h;
-      out_asked = λ x y z h. of_both (λ (x : Item). x.word ≡ BackTo y z → WasThere last x ⊎ UsedNow last y z) (λ k. absurd (cc)) (λ k. absurd (cc)) x h;
-      out_caused =
-          λ x h. of_both (λ (x : Item). is_instr x.inlet.part ≡ true → is_entry_part (block_in s.fl x.context) x.inlet.part ≡ false → IsCaused last x)
-          (λ i k. absurd (true≢false (sym i))) (λ i k. inr was_used) x h;
-      books = g.books;
+      out_sent =
+          of_both (Sent last)
+          (record {
+            held = refl;
+            known = framed last last.i (taken_here last);
+            named = λ y k. absurd (cc);
+            asked = λ y z k. absurd (cc);
+            caused = λ i k. absurd (true≢false (sym i));
+          })
+          (record { held = g.q_held; known = has_frame; named = λ y k. absurd (cc); asked = λ y z k. absurd (cc); caused = λ i k. inr was_used });
+      counted = record { books = g.books; released = released m.0; releases = releases m.0 };
       makes_is = ap (λ (l : List Item). item c (inlet Freed Left 0) signal ∷ l) g.ends ∙ ap (λ l. ending ++ each c signal l) (sym no_wire);
       dests = [];
       leads = permutation_same _ _ (ap (map (stands_at (wiring_in s.fl s.w c))) (sym no_wire));
       plain_dest = λ x h. absurd (contains_none x h);
       did = m;
-      released = released m.0;
-      releases = releases m.0;
     })
 
   pub ends_follow : EndsAt → Followed s

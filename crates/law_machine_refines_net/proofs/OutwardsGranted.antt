@@ -1,18 +1,13 @@
 -- What stands in a turn of a loop after the first comes after its credit was granted.
-use Rattle.std.proofs.Common.{◌≡◌, ℕ, zero, suc, ◌<◌, Bool, true, false, ℤ, List, [], ◌∷◌, ◌++◌, refl, sym, ap, ◌∙◌, subst, inl, inr, ◌⊎◌, arith, true≢false}
+use Rattle.std.proofs.Common.{◌≡◌, ℕ, zero, suc, ◌<◌, Bool, true, false, ℤ, List, refl, sym, ap, ◌∙◌, subst, inl, inr, ◌⊎◌, arith, true≢false}
 use Rattle.std.proofs.Common.{if◌then◌else◌}
-use Rattle.std.specs.Prelude.{Contains, flat_map, IsPermutation}
+use Rattle.std.specs.Prelude.{Contains}
 use Rattle.std.proofs.lemmas.Bool.{cases_eq}
-use Rattle.std.proofs.lemmas.List.Sorted.{IsPermutation-trans, IsPermutation-sym, IsPermutation-append, IsPermutation-append_left, Contains-permutation}
-use Rattle.std.proofs.lemmas.List.Elements.{Contains-append_left, Contains-append_right, Contains-append_cases}
-use Rattle.lemmas.proofs.Contains.{contains_head, contains_none, contains_tail}
 use Rattle.tags.specs.declared.token.Port.{Port}
 use Rattle.tags.specs.declared.token.Port.TheVariants.{Left}
 use Rattle.semantics.specs.Graph.{Flow}
 use Rattle.semantics.specs.Meaning.{Context, Main, Called, Turned}
 use Rattle.semantics.specs.Plan.{Plan}
-use Rattle.law_confluence.proofs.Orders.{shuffled, Part, ◌⊕◌}
-use Rattle.law_confluence.proofs.Net.{Waits, Fires}
 use Rattle.law_net.specs.ContextsParts as Parts
 use Rattle.law_net.specs.ContextsParts.{Entry, Line, Opener, Framer, Fanned, Linker, Sender, Landing, CallDone, Giver, Taker, Drainer, LoopDone, Result, Asker}
 use Rattle.law_net.specs.ContextsParts.{NextFramer, NextFanned, NextSender, LastReturn, DrainReturn, End, Asked, NextAsked, Held, Drained, Shown, Done, Freed}
@@ -20,16 +15,17 @@ use Rattle.law_net.specs.ContextsParts.{Inlet, inlet, Item, Firing, spot_of, Rol
 use Rattle.law_net.specs.ContextsBlocks.{is_loop, there_in}
 use Rattle.law_net.specs.Contexts.{Wires, block_in, site_in, wiring_in}
 use Rattle.law_net.specs.ContextsWires.{NextFrame, Carried, Suits, comes_at, goes_from, is_given}
-use Rattle.law_net.specs.ContextsFirings.{Config, Move, begin, begins, takes, makes, ProperMoves, Still, Then}
+use Rattle.law_net.specs.ContextsFirings.{Config, begin, takes, makes, ProperMoves}
 use Rattle.law_net.specs.ContextsLaws.{Fits, maker_of, way_fits}
 use Rattle.law_net.specs.ContextsTheorem.{IsGood}
 use Rattle.law_net.specs.ContextsPackages.{AllFit}
-use Rattle.law_net.proofs.WiredSends.{IsSent, sent_facts, first_taken, takes_first, first_context, in_context}
+use Rattle.law_net.proofs.WiredSends.{IsSent, sent_facts, first_taken, first_context, in_context}
 use Rattle.law_net.proofs.WiredInvoked.{lawful_at}
 use Rattle.law_net.proofs.WiredGifts.{Gift}
-use Rattle.law_net.proofs.WiredWords.{Begins, AtEntry, AtInput, begin_cases, gift_fits}
+use Rattle.law_net.proofs.WiredWords.{Begins, AtEntry, AtInput, gift_fits}
 use Rattle.law_net.proofs.WiredFed.{MadeAt, ByGift, ByWire, made_at, sent_there, giver_of, gift_role}
 use Rattle.law_net.proofs.WiredNets.{all_of}
+use Rattle.law_net.proofs.WiredTraced.{traced}
 use Rattle.law_net.proofs.CreditsOpened.{never_gift}
 
 -- in a turn after number t of the loop at node n of c, or in what such a turn invokes
@@ -186,88 +182,22 @@ module _ (fl : Flow) (p : Plan) (w : Wires) (good : IsGood fl p w) (c : Context)
         pick (ByGift g) = gift_near i g x
         pick (ByWire s) = inr (sent_near i s x)
 
-  -- ALONG MOVES
-  abbrev AllGranted : Config → Type 0
-  AllGranted d = (i : Item) → Contains (all_of fl d) i → Later c n t i → HasTaken c n (suc t) d.fired
+  -- at the beginning nothing came of it
+  in_main : (i : Item) (r : Parts.Part) → i.context ≡ Main → i.inlet.part ≡ r → (r ≡ Taker n → ⊥) → Later c n t i → ⊥
+  in_main i r m q none (LAfter a) = subst (After c n t) m a
+  in_main i r m q none (LTaker a g l) = none (sym q ∙ g)
+  in_main i r m q none (LFramer a g) = let x : Main ≡ Turned c n t = sym m ∙ a in absurd (cc)
+  in_main i r m q none (LAsked a g) = let x : Main ≡ Turned c n t = sym m ∙ a in absurd (cc)
+  in_main i r m q none (LFanned a g) = let x : Main ≡ Turned c n t = sym m ∙ a in absurd (cc)
+  in_main i r m q none (LSender j a g l) = let x : Main ≡ Turned c n t = sym m ∙ a in absurd (cc)
 
-  later_on : (f : Firing) (fired : List Firing) → HasTaken c n (suc t) fired → HasTaken c n (suc t) (f ∷ fired)
-  later_on f fired (h, a, b, e, o) = (h, contains_tail f fired h a, b, e, o)
-
-  fired_move : (a b : Config) → Move fl w a b → (h : Firing) → Contains a.fired h → Contains b.fired h
-  fired_move a b (Waits i rest x e) h d = subst (λ (b : Config). Contains b.fired h) (sym e) d
-  fired_move a b (Fires f now kept rest others x y both e) h d = subst (λ (b : Config). Contains b.fired h) (sym e) (contains_tail f a.fired h d)
-
-  fired_grow : (a b : Config) → ProperMoves fl w a b → (h : Firing) → Contains a.fired h → Contains b.fired h
-  fired_grow a b (Still e) h d = d
-  fired_grow a b (Then x mid y m proper more) h d = fired_grow mid b more h (fired_move a mid m h d)
-
-  granted_move : (a b : Config) → Move fl w a b → ((h : Firing) → Contains b.fired h → AllFit fl w (takes fl h)) → AllGranted a → AllGranted b
-  granted_move a b (Waits i rest x e) fit old = subst AllGranted (sym e) (λ j h. old j (Contains-permutation _ _ j (IsPermutation-sym _ _ perm) h))
-    where
-      perm : IsPermutation (a.pending ++ (a.waiting ++ flat_map (takes fl) a.fired)) (rest ++ ((i ∷ a.waiting) ++ flat_map (takes fl) a.fired))
-      perm = IsPermutation-trans _ _ _ (IsPermutation-append_left (a.waiting ++ flat_map (takes fl) a.fired) _ _ x)
-          (shuffled ((i ∷ []) ∷ rest ∷ a.waiting ∷ flat_map (takes fl) a.fired ∷ []) ((Part 0 ⊕ Part 1) ⊕ (Part 2 ⊕ Part 3))
-          (Part 1 ⊕ ((Part 0 ⊕ Part 2) ⊕ Part 3)) refl)
-  granted_move a b (Fires f now kept rest others x y both e) fit old =
-      let mine = fit f (subst (λ (b : Config). Contains b.fired f) (sym e) (contains_head f a.fired)) in
-      subst AllGranted (sym e) (λ j h near. pick mine j
-      (Contains-append_cases (makes fl w f) (rest ++ (others ++ (takes fl f ++ flat_map (takes fl) a.fired))) j (Contains-permutation _ _ j joined h)) near)
-    where
-      joined : IsPermutation ((makes fl w f ++ rest) ++ (others ++ (takes fl f ++ flat_map (takes fl) a.fired)))
-          (makes fl w f ++ (rest ++ (others ++ (takes fl f ++ flat_map (takes fl) a.fired))))
-      joined =
-          shuffled (makes fl w f ∷ rest ∷ others ∷ takes fl f ∷ flat_map (takes fl) a.fired ∷ []) ((Part 0 ⊕ Part 1) ⊕ (Part 2 ⊕ (Part 3 ⊕ Part 4)))
-          (Part 0 ⊕ (Part 1 ⊕ (Part 2 ⊕ (Part 3 ⊕ Part 4)))) refl
-
-      perm : IsPermutation (a.pending ++ (a.waiting ++ flat_map (takes fl) a.fired)) (rest ++ (others ++ (takes fl f ++ flat_map (takes fl) a.fired)))
-      perm = IsPermutation-trans _ _ _ (IsPermutation-append _ _ _ _ x (IsPermutation-append_left (flat_map (takes fl) a.fired) _ _ y))
-          (IsPermutation-trans _ _ _ (shuffled (now ∷ rest ∷ kept ∷ others ∷ flat_map (takes fl) a.fired ∷ [])
-          ((Part 0 ⊕ Part 1) ⊕ ((Part 2 ⊕ Part 3) ⊕ Part 4)) ((Part 0 ⊕ Part 2) ⊕ (Part 1 ⊕ (Part 3 ⊕ Part 4))) refl)
-          (IsPermutation-trans _ _ _ (IsPermutation-append_left (rest ++ (others ++ flat_map (takes fl) a.fired)) _ _ both)
-          (shuffled (takes fl f ∷ rest ∷ others ∷ flat_map (takes fl) a.fired ∷ []) (Part 0 ⊕ (Part 1 ⊕ (Part 2 ⊕ Part 3)))
-          (Part 1 ⊕ (Part 2 ⊕ (Part 0 ⊕ Part 3))) refl)))
-
-      old_item : (j : Item) → Contains (rest ++ (others ++ (takes fl f ++ flat_map (takes fl) a.fired))) j → Later c n t j → HasTaken c n (suc t) (f ∷ a.fired)
-      old_item j h near = later_on f a.fired (old j (Contains-permutation _ _ j (IsPermutation-sym _ _ perm) h) near)
-
-      taken_item : (j : Item) → Contains (takes fl f) j → Contains (rest ++ (others ++ (takes fl f ++ flat_map (takes fl) a.fired))) j
-      taken_item j h =
-          Contains-append_right rest (others ++ (takes fl f ++ flat_map (takes fl) a.fired)) j
-          (Contains-append_right others (takes fl f ++ flat_map (takes fl) a.fired) j (Contains-append_left (takes fl f) (flat_map (takes fl) a.fired) j h))
-
-      by_maker : ((f.context ≡ c) × (f.part ≡ Taker n) × (f.way ≡ suc t)) ⊎ Later c n t (first_taken fl w f f.part) → HasTaken c n (suc t) (f ∷ a.fired)
-      by_maker (inl (u, v, o)) = (f, contains_head f a.fired, u, v, o)
-      by_maker (inr near) = old_item (first_taken fl w f f.part) (taken_item (first_taken fl w f f.part) (takes_first fl w f)) near
-
-      pick : AllFit fl w (takes fl f) → (j : Item) → Contains (makes fl w f) j ⊎ Contains (rest ++ (others ++ (takes fl f ++ flat_map (takes fl) a.fired))) j
-          → Later c n t j → HasTaken c n (suc t) (f ∷ a.fired)
-      pick mine j (inl h) near = by_maker (made_near f mine j h near)
-      pick mine j (inr h) near = old_item j h near
-
-  granted_moves : (a b : Config) → ProperMoves fl w a b → ((h : Firing) → Contains b.fired h → AllFit fl w (takes fl h)) → AllGranted a → AllGranted b
-  granted_moves a b (Still e) fit old = old
-  granted_moves a b (Then x mid y m proper more) fit old = granted_moves mid b more fit (granted_move a mid m (λ h d. fit h (fired_grow mid b more h d)) old)
-
-  granted_first : (inputs : List ℤ) → AllGranted (begin inputs)
-  granted_first inputs i h near = start (Contains-append_cases (begins inputs) [] i h)
-    where
-      in_main : (r : Parts.Part) → i.context ≡ Main → i.inlet.part ≡ r → (r ≡ Taker n → ⊥) → Later c n t i → ⊥
-      in_main r m q none (LAfter a) = subst (After c n t) m a
-      in_main r m q none (LTaker a g l) = none (sym q ∙ g)
-      in_main r m q none (LFramer a g) = let x : Main ≡ Turned c n t = sym m ∙ a in absurd (cc)
-      in_main r m q none (LAsked a g) = let x : Main ≡ Turned c n t = sym m ∙ a in absurd (cc)
-      in_main r m q none (LFanned a g) = let x : Main ≡ Turned c n t = sym m ∙ a in absurd (cc)
-      in_main r m q none (LSender j a g l) = let x : Main ≡ Turned c n t = sym m ∙ a in absurd (cc)
-
-      not_near : Begins inputs i → ⊥
-      not_near (AtEntry e) = in_main Entry (ap (λ (i : Item). i.context) e) (ap (λ (i : Item). i.inlet.part) e) (λ x. absurd (cc)) near
-      not_near (AtInput m z l e) = in_main (Line m) (ap (λ (i : Item). i.context) e) (ap (λ (i : Item). i.inlet.part) e) (λ x. absurd (cc)) near
-
-      start : Contains (begins inputs) i ⊎ Contains [] i → HasTaken c n (suc t) []
-      start (inl d) = absurd (not_near (begin_cases inputs i d))
-      start (inr d) = absurd (contains_none i d)
+  not_near : (inputs : List ℤ) (i : Item) → Begins inputs i → Later c n t i → ⊥
+  not_near inputs i (AtEntry e) near = in_main i Entry (ap (λ (i : Item). i.context) e) (ap (λ (i : Item). i.inlet.part) e) (λ x. absurd (cc)) near
+  not_near inputs i (AtInput m z l e) near = in_main i (Line m) (ap (λ (i : Item). i.context) e) (ap (λ (i : Item). i.inlet.part) e) (λ x. absurd (cc)) near
 
   -- SO, of any net that the moves get to
   pub all_granted : (inputs : List ℤ) (b : Config) → ProperMoves fl w (begin inputs) b → ((h : Firing) → Contains b.fired h → AllFit fl w (takes fl h))
       → (i : Item) → Contains (all_of fl b) i → Later c n t i → HasTaken c n (suc t) b.fired
-  all_granted inputs b moves fit = granted_moves (begin inputs) b moves fit (granted_first inputs)
+  all_granted inputs b moves fit i h later =
+      let o = traced fl w (Later c n t) (λ (f : Firing). (f.context ≡ c) × (f.part ≡ Taker n) × (f.way ≡ suc t)) made_near inputs b moves fit (not_near inputs)
+      i h later in (o.0, o.1, o.2.0, o.2.1, o.2.2)

@@ -11,10 +11,10 @@ use Rattle.law_net.specs.ContextsStands.{is_instr, is_item_at, items_at, granted
 use Rattle.law_net.proofs.WiredInvoked.{loop_invoked, code_at}
 use Rattle.law_machine_refines_net.specs.MovesCases.{Taking, net_of, Followed}
 use Rattle.law_machine_refines_net.proofs.MovesLists.{contains_one, count_none}
-use Rattle.law_machine_refines_net.proofs.MovesWhole.{is_credit}
+use Rattle.law_machine_refines_net.proofs.MovesParts.{is_credit}
+use Rattle.law_machine_refines_net.proofs.MovesLoops.{Books, calm_books}
 use Rattle.law_machine_refines_net.proofs.MovesFitted.{fits, there, taken_here}
 use Rattle.law_machine_refines_net.proofs.OutwardsChildren.{turn_landing}
-use Rattle.law_machine_refines_net.proofs.OutwardsPassed.{Books, calm_books}
 use Rattle.law_machine_refines_net.proofs.OutwardsTurning.{drains_granted, none_asked}
 use Rattle.law_machine_refines_net.proofs.OutwardsReturning.{back, returns_follow}
 

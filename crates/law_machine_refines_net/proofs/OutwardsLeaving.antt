@@ -1,6 +1,5 @@
 -- An instruction that sends a word along its wires, and may send items into another context.
-use Rattle.std.proofs.Common.{◌≡◌, ℕ, ◌+◌, ◌<◌, true, false, List, ◌∷◌, ◌++◌, map, refl, sym, ap, ◌∙◌, subst, inl, inr, ◌⊎◌, arith, true≢false, Some, None}
-use Rattle.std.proofs.Common.{Bool, []}
+use Rattle.std.proofs.Common.{◌≡◌, ℕ, ◌+◌, true, false, List, ◌∷◌, ◌++◌, map, refl, sym, ap, ◌∙◌, subst, inl, inr, ◌⊎◌, arith, true≢false, Some, None, Bool, []}
 use Rattle.std.specs.Prelude.{IsPermutation, Contains}
 use Rattle.std.proofs.lemmas.List.{map-append}
 use Rattle.std.proofs.lemmas.List.Elements.{Contains-append_right, Contains-append_cases}
@@ -12,38 +11,32 @@ use Rattle.tags.specs.declared.token.Word.{Word}
 use Rattle.tags.specs.declared.token.Token.{Token}
 use Rattle.semantics.specs.declared.program.Dest.{Dest}
 use Rattle.semantics.specs.declared.program.Op.TheVariants as Ops
-use Rattle.semantics.specs.Graph.{Block}
 use Rattle.semantics.specs.Meaning.{Context}
 use Rattle.semantics.specs.Program.{first_of}
 use Rattle.semantics.specs.Rule.{at_dest, to_each}
 use Rattle.semantics.specs.Arcs.{UsesArc}
 use Rattle.semantics.specs.Holders.{Holder}
-use Rattle.semantics.specs.Credits.{granted_at, released_at}
+use Rattle.semantics.specs.Credits.{granted_at}
 use Rattle.law_confluence.proofs.NetSlots.{InSlots}
 use Rattle.law_confluence.proofs.Orders.{at_first, at_last}
 use Rattle.law_fresh_frames.specs.Alike.{plain_dests}
 use Rattle.law_fresh_frames.proofs.FreshArcs.{uses_new}
-use Rattle.law_net.specs.ContextsParts.{Part, Giver, Taker, Drainer, Landing, Inlet, Note, BackTo, Item, item, each, Firing}
-use Rattle.law_net.specs.ContextsBlocks.{is_loop}
-use Rattle.law_net.specs.Contexts.{block_in, code_in, wiring_in, IsContext}
-use Rattle.law_net.specs.ContextsWires.{leads_to, stands_at, is_given}
+use Rattle.law_net.specs.ContextsParts.{Part, Giver, Taker, Drainer, Inlet, Note, BackTo, Item, item, each, Firing}
+use Rattle.law_net.specs.Contexts.{block_in, code_in, wiring_in}
+use Rattle.law_net.specs.ContextsWires.{leads_to, stands_at}
 use Rattle.law_net.specs.ContextsFirings.{Config, takes, makes, frame_at}
 use Rattle.law_net.specs.ContextsStands.{frame_of, ip_of, word_of, token_of, on_side, in_slot, slot_of, only, is_held, is_item_at, items_at, named_by, is_instr}
-use Rattle.law_net.specs.ContextsStands.{is_entry_part, Stands}
+use Rattle.law_net.specs.ContextsStands.{Stands}
 use Rattle.law_machine_refines_net.specs.MovesCases.{Taking, IsCaused, IsFree, net_of, Followed, is_still}
 use Rattle.law_machine_refines_net.proofs.MovesLists.{count_append, count_none}
+use Rattle.law_machine_refines_net.proofs.MovesParts.{is_credit, calm_item, given_calm}
+use Rattle.law_machine_refines_net.proofs.MovesLoops.{Books}
+use Rattle.law_machine_refines_net.proofs.MovesBalanced.{WasThere, UsedNow}
+use Rattle.law_machine_refines_net.proofs.MovesPlain.{Stays}
 use Rattle.law_machine_refines_net.proofs.MovesFitted.{framed, among, taken_here, instr_held}
-use Rattle.law_machine_refines_net.proofs.MovesWhole.{WasThere, UsedNow, is_credit, calm_item}
 use Rattle.law_machine_refines_net.proofs.SendsRules.{at, instr, stood, goes_to}
-use Rattle.law_machine_refines_net.proofs.Sends.{Stays, Wire, shows_stay, dests_sent, wired_to}
-use Rattle.law_machine_refines_net.proofs.OutwardsPassed.{Books, calm_books, none_counted, none_released, taken_there, passes_follow}
-
--- where a wire leads is nothing of a loop's credits, and no cell
-wired_calm : (b : Block ℕ) (r : Part) → is_given b r ≡ false → is_credit r ≡ false
-wired_calm b (Giver n) e = absurd (true≢false e)
-wired_calm b (Taker n) e = absurd (true≢false e)
-wired_calm b (Drainer n) e = absurd (true≢false e)
-wired_calm b r e = refl
+use Rattle.law_machine_refines_net.proofs.Sends.{Wire, shows_stay, dests_sent, wired_to}
+use Rattle.law_machine_refines_net.proofs.OutwardsPassed.{Sent, Counted, free_counted, taken_there, passes_follow}
 
 module _ (s : Taking) (is : is_instr s.i.inlet.part ≡ true) where
   abbrev net : Config
@@ -79,13 +72,8 @@ module _ (s : Taking) (is : is_instr s.i.inlet.part ≡ true) where
     pub out : List Item
     pub out_made : List Token
     pub out_is : out_made ≡ map tok out
-    pub out_held : (j : Item) → Contains out j → is_held j.inlet.part ≡ false
-    pub out_known : (j : Item) → Contains out j → (n : ℕ) × (frame_at s.fl net.fired j.context ≡ Some n)
-    pub out_named : (j : Item) (d : Context) → Contains out j → named_by j.word ≡ Some d → (n : ℕ) × (frame_at s.fl net.fired d ≡ Some n)
-    pub out_asked : (j : Item) (d : Context) (x : Inlet) → Contains out j → j.word ≡ BackTo d x → WasThere s j ⊎ UsedNow s d x
-    pub out_caused : (j : Item) → Contains out j → (is_instr j.inlet.part ≡ true) → (is_entry_part (block_in s.fl j.context) j.inlet.part ≡ false)
-        → IsCaused s j
-    pub books : (d : Context) (n : ℕ) → IsContext s.fl d → is_loop (block_in s.fl d) n ≡ true → Books s out d n
+    pub out_sent : (j : Item) → Contains out j → Sent s j
+    pub counted : Counted s out
     -- and the word that it sends along a side
     pub note : Note
     pub second : Bool
@@ -99,9 +87,6 @@ module _ (s : Taking) (is : is_instr s.i.inlet.part ≡ true) where
         (λ (i : Item). on_side i.inlet.port (word_of s.fl s.p s.w net.fired i.word)) old.base (only (in_slot s.fl) (before ++ later)) s.new.store.slots
     pub stays : Stays s
     pub granted : (g : ℕ) (h : Holder) → granted_at s.p s.p.program g h s.m.store s.t.to ≡ 0
-    pub released : (d : Context) (n g : ℕ) → IsContext s.fl d → is_loop (block_in s.fl d) n ≡ true → frame_at s.fl net.fired d ≡ Some g
-        → released_at s.p.program g (ip_of s.fl s.p s.w d (Landing n 0)) s.t.to s.event.made ≡ items_at d (Giver n) out
-    pub releases : (g base : ℕ) → 0 < released_at s.p.program g base s.t.to s.event.made → (d : Context) × (frame_at s.fl net.fired d ≡ Some g)
     pub no_give : (k : ℕ) → (instr s is).op ≡ Ops.Give k → ⊥
 
   -- an item along a wire
@@ -118,16 +103,14 @@ module _ (s : Taking) (is : is_instr s.i.inlet.part ≡ true) where
     took = g.took;
     still = ap is_still (sym g.same) ∙ still;
     made = made;
-    none_held = λ j h. held j (where_is j h);
-    known = λ j h. known j (where_is j h);
-    named = λ j d h e. named j d e (where_is j h);
-    asked = λ j d x h e. asked j d x e (where_is j h);
-    caused = λ j h i e. caused j i e (where_is j h);
+    sent = λ j h. sent j (where_is j h);
     store = shows_stay s is f (g.before ++ g.later) (ap is_instr (sym g.same) ∙ is) g.stays g.slots;
     granted = g.granted;
-    books = λ d n h l. books d n (g.books d n h l);
-    released = λ d n k h l e. g.released d n k h l e ∙ sym (counted d n (Giver n) refl);
-    releases = g.releases;
+    counted = record {
+      books = λ d n h l. books d n (g.counted.books d n h l);
+      released = λ d n k h l e. g.counted.released d n k h l e ∙ sym (counted d n (Giver n) refl);
+      releases = g.counted.releases;
+    };
   })
     where
       wires_are : (x : Inlet) → Contains (Wire s is g.second) x → is_instr x.part ≡ true
@@ -146,16 +129,8 @@ module _ (s : Taking) (is : is_instr s.i.inlet.part ≡ true) where
           pick (inl h) = inl h
           pick (inr h) = inr (contains_mapped (λ (x : Inlet). item c x g.note) (Wire s is g.second) j h)
 
-      held : (j : Item) → Contains g.out j ⊎ OnWire g.note g.second j → is_held j.inlet.part ≡ false
-      held j (inl h) = g.out_held j h
-      held j (inr (x, h, e)) = ap (λ (j : Item). is_held j.inlet.part) (sym e) ∙ instr_held x.part (wires_are x h)
-
       calm : (j : Item) → OnWire g.note g.second j → is_credit j.inlet.part ≡ false
-      calm j (x, h, e) = ap (λ (j : Item). is_credit j.inlet.part) (sym e) ∙ wired_calm (block_in s.fl c) x.part (wired_to s is g.second x h).1
-
-      known : (j : Item) → Contains g.out j ⊎ OnWire g.note g.second j → (n : ℕ) × (frame_at s.fl net.fired j.context ≡ Some n)
-      known j (inl h) = g.out_known j h
-      known j (inr (x, h, e)) = subst (λ (j : Item). (n : ℕ) × (frame_at s.fl net.fired j.context ≡ Some n)) e (framed s s.i (taken_here s))
+      calm j (x, h, e) = ap (λ (j : Item). is_credit j.inlet.part) (sym e) ∙ given_calm (block_in s.fl c) x.part (wired_to s is g.second x h).1
 
       -- a word along a wire names what it took
       names : (d : Context) → named_by g.note ≡ Some d → (named_by g.note ≡ None) ⊎ ((a : Item) × Contains (s.i ∷ g.kept) a × (a.word ≡ g.note))
@@ -168,18 +143,8 @@ module _ (s : Taking) (is : is_instr s.i.inlet.part ≡ true) where
       backs d x j e n (inl o) = let z : None ≡ Some d = sym o ∙ ap named_by (e ∙ n) in absurd (cc)
       backs d x j e n (inr (a, h, k)) = inl (a, taken_there s g.before g.kept g.later g.waiting a h, k ∙ e)
 
-      named : (j : Item) (d : Context) → named_by j.word ≡ Some d → Contains g.out j ⊎ OnWire g.note g.second j → (n : ℕ) × (frame_at s.fl net.fired d ≡ Some n)
-      named j d n (inl h) = g.out_named j d h n
-      named j d n (inr (x, h, e)) = names d (ap (λ (j : Item). named_by j.word) e ∙ n) g.from
-
-      asked : (j : Item) (d : Context) (x : Inlet) → j.word ≡ BackTo d x → Contains g.out j ⊎ OnWire g.note g.second j → WasThere s j ⊎ UsedNow s d x
-      asked j d x n (inl h) = g.out_asked j d x h n
-      asked j d x n (inr (y, h, e)) = backs d x j (ap (λ (j : Item). j.word) e) n g.from
-
-      caused : (j : Item) → is_instr j.inlet.part ≡ true → is_entry_part (block_in s.fl j.context) j.inlet.part ≡ false
-          → Contains g.out j ⊎ OnWire g.note g.second j → IsCaused s j
-      caused j i k (inl h) = g.out_caused j h i k
-      caused j i k (inr (x, h, e)) =
+      caused : (j : Item) → OnWire g.note g.second j → IsCaused s j
+      caused j (x, h, e) =
           let n = (wiring_in s.fl s.w c).place r in
           let d = contains_mapped (leads_to n) g.dests (stands_at (wiring_in s.fl s.w c) x)
           (Contains-permutation _ _ (stands_at (wiring_in s.fl s.w c) x) (IsPermutation-sym _ _ g.leads)
@@ -196,6 +161,16 @@ module _ (s : Taking) (is : is_instr s.i.inlet.part ≡ true) where
           (ip_of s.fl s.p s.w j.context j.inlet.part) j.inlet.port s.t s.event.made s.new) e
           (subst (λ q. UsesArc s.p (frame_of s.fl net.fired c) (base + (wiring_in s.fl s.w c).place x.part) q s.t s.event.made s.new) port
           (subst (λ n. UsesArc s.p (frame_of s.fl net.fired c) n d.0.port s.t s.event.made s.new) place one)))
+
+      sent : (j : Item) → Contains g.out j ⊎ OnWire g.note g.second j → Sent s j
+      sent j (inl h) = g.out_sent j h
+      sent j (inr (x, h, e)) = record {
+        held = ap (λ (j : Item). is_held j.inlet.part) (sym e) ∙ instr_held x.part (wires_are x h);
+        known = subst (λ (j : Item). (n : ℕ) × (frame_at s.fl net.fired j.context ≡ Some n)) e (framed s s.i (taken_here s));
+        named = λ d n. names d (ap (λ (j : Item). named_by j.word) e ∙ n) g.from;
+        asked = λ d y n. backs d y j (ap (λ (j : Item). j.word) e) n g.from;
+        caused = λ i k. caused j (x, h, e);
+      }
 
       -- only what is sent out counts for a loop
       counted : (d : Context) (n : ℕ) (q : Part) → is_credit q ≡ true → items_at d q (makes s.fl s.w f) ≡ items_at d q g.out
@@ -251,12 +226,8 @@ module _ (s : Taking) (is : is_instr s.i.inlet.part ≡ true) where
     out = [];
     out_made = [];
     out_is = refl;
-    out_held = λ j h. absurd (contains_none j h);
-    out_known = λ j h. absurd (contains_none j h);
-    out_named = λ j d h e. absurd (contains_none j h);
-    out_asked = λ j d x h e. absurd (contains_none j h);
-    out_caused = λ j h i k. absurd (contains_none j h);
-    books = λ d n h l. calm_books s [] (λ j h. absurd (contains_none j h)) d n;
+    out_sent = λ j h. absurd (contains_none j h);
+    counted = free_counted s g.free [] (λ j h. absurd (contains_none j h));
     note = g.note;
     second = g.second;
     from = g.from;
@@ -268,7 +239,5 @@ module _ (s : Taking) (is : is_instr s.i.inlet.part ≡ true) where
     slots = g.slots;
     stays = g.stays;
     granted = g.free.granted;
-    released = λ d n k h l e. none_counted s g.free [] (λ j h. absurd (contains_none j h)) d n k;
-    releases = none_released s g.free;
     no_give = g.no_give;
   })

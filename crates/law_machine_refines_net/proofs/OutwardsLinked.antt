@@ -32,19 +32,20 @@ use Rattle.law_net.specs.ContextsBlocks.{side, callee_code}
 use Rattle.law_net.specs.Contexts.{block_in, code_in, wiring_in, child}
 use Rattle.law_net.specs.ContextsWires.{leads_to, stands_at}
 use Rattle.law_net.specs.ContextsFirings.{Config, frame_at}
-use Rattle.law_net.specs.ContextsStands.{frame_of, ip_of, word_of, on_side, in_slot, slot_of, only, named_by, is_held, is_instr, is_entry_part, Stands}
+use Rattle.law_net.specs.ContextsStands.{frame_of, ip_of, word_of, on_side, in_slot, slot_of, only, named_by, is_instr, Stands}
 use Rattle.law_net.proofs.WiredInvoked.{child_cases, child_here}
 use Rattle.law_net.proofs.RunsLands.{one_dest}
-use Rattle.law_machine_refines_net.specs.MovesCases.{Taking, IsCaused, IsFree, net_of, Followed}
+use Rattle.law_machine_refines_net.specs.MovesCases.{Taking, IsFree, net_of, Followed}
 use Rattle.law_machine_refines_net.proofs.MovesLists.{contains_one}
+use Rattle.law_machine_refines_net.proofs.MovesParts.{is_credit}
+use Rattle.law_machine_refines_net.proofs.MovesBalanced.{UsedNow, WasThere}
 use Rattle.law_machine_refines_net.proofs.MovesFitted.{code, fits, there, among, taken_here}
 use Rattle.law_machine_refines_net.proofs.SendsRules.{at, instr, stood, goes_to, free_of, grants, releases}
 use Rattle.law_machine_refines_net.proofs.Sends.{Wire, firing_of, stays_same}
 use Rattle.law_machine_refines_net.proofs.SendsAlong.{takes_one, mine, does}
-use Rattle.law_machine_refines_net.proofs.MovesWhole.{UsedNow, WasThere, is_credit}
 use Rattle.law_machine_refines_net.proofs.SendsInwards.{told_as, carried}
 use Rattle.law_machine_refines_net.proofs.OutwardsChildren.{child_code, entry_at}
-use Rattle.law_machine_refines_net.proofs.OutwardsPassed.{calm_books, none_counted, none_released}
+use Rattle.law_machine_refines_net.proofs.OutwardsPassed.{Sent, free_counted}
 use Rattle.law_machine_refines_net.proofs.OutwardsLeaving.{leaves_follow}
 
 module _ (s : Taking) (n : ℕ) (e : s.i.inlet.part ≡ Linker n) where
@@ -190,13 +191,9 @@ module _ (s : Taking) (n : ℕ) (e : s.i.inlet.part ≡ Linker n) where
     out = sent ∷ [];
     out_made = sent_token ∷ [];
     out_is = λ t. token (To.Instr (frame_of s.fl net.fired d) (goes_in t) Left) (Word.Back (lands_at t)) ∷ [];
-    out_held = of_sent (λ (j : Item). is_held j.inlet.part ≡ false) refl;
-    out_known = of_sent (λ (j : Item). (g : ℕ) × (frame_at s.fl net.fired j.context ≡ Some g)) has_frame;
-    out_named = λ j x h k. of_sent (λ (j : Item). named_by j.word ≡ Some x → (g : ℕ) × (frame_at s.fl net.fired x ≡ Some g)) (named_now x) j h k;
-    out_asked = λ j x y h k. of_sent (λ (j : Item). j.word ≡ BackTo x y → WasThere l j ⊎ UsedNow l x y) (asked_now x y) j h k;
-    out_caused =
-        λ j h i k. of_sent (λ (j : Item). is_entry_part (block_in s.fl j.context) j.inlet.part ≡ false → IsCaused l j) (λ k. absurd (true≢false k)) j h k;
-    books = λ x m a b. calm_books l (sent ∷ []) calm x m;
+    out_sent =
+        of_sent (Sent l) (record { held = refl; known = has_frame; named = named_now; asked = asked_now; caused = λ i k. absurd (true≢false k) });
+    counted = free_counted l free (sent ∷ []) calm;
     note = signal;
     second = false;
     from = inl refl;
@@ -210,7 +207,5 @@ module _ (s : Taking) (n : ℕ) (e : s.i.inlet.part ≡ Linker n) where
         (λ (i : Item). on_side i.inlet.port (word_of s.fl s.p s.w net.fired i.word)) old.base (only (in_slot s.fl) net.waiting) x.slots) (sym did.1) old.slots;
     stays = stays_same l did.1;
     granted = free.granted;
-    released = λ x m g a b k. none_counted l free (sent ∷ []) calm x m g;
-    releases = none_released l free;
     no_give = λ k h. let z : Ops.Link callee ≡ Ops.Give k = sym (stood l is_link).is.op ∙ h in absurd (cc);
   })

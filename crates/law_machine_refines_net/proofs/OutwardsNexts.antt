@@ -34,10 +34,12 @@ use Rattle.law_net.specs.ContextsStands.{frame_of, ip_of, word_of, token_of, slo
 use Rattle.law_net.specs.ContextsStands.{granted_of, WasUsed}
 use Rattle.law_net.proofs.WiredInvoked.{loop_invoked, is_turned, code_at}
 use Rattle.law_net.proofs.RunsLands.{one_dest}
-use Rattle.law_machine_refines_net.specs.MovesCases.{Taking, IsCaused, IsFree, net_of, Followed}
+use Rattle.law_machine_refines_net.specs.MovesCases.{Taking, IsFree, net_of, Followed}
 use Rattle.law_machine_refines_net.proofs.MovesLists.{contains_one, count_none}
+use Rattle.law_machine_refines_net.proofs.MovesParts.{is_credit}
 use Rattle.law_machine_refines_net.proofs.MovesStill.{to_instr}
-use Rattle.law_machine_refines_net.proofs.MovesWhole.{WasThere, UsedNow, is_credit}
+use Rattle.law_machine_refines_net.proofs.MovesLoops.{Books}
+use Rattle.law_machine_refines_net.proofs.MovesBalanced.{WasThere, UsedNow}
 use Rattle.law_machine_refines_net.proofs.MovesFitted.{code, fits, framed, there, among, taken_here}
 use Rattle.law_machine_refines_net.proofs.SendsRules.{at, instr, stood, goes_to, free_of, grants, releases}
 use Rattle.law_machine_refines_net.proofs.SendsPairs as Pairs
@@ -46,7 +48,7 @@ use Rattle.law_machine_refines_net.proofs.Sends.{Wire}
 use Rattle.law_machine_refines_net.proofs.SendsAlong.{both, all_lead, pair_follows}
 use Rattle.law_machine_refines_net.proofs.SendsInwards.{told_at, carried}
 use Rattle.law_machine_refines_net.proofs.OutwardsChildren.{turn_landing, entry_at, line_at}
-use Rattle.law_machine_refines_net.proofs.OutwardsPassed.{Books, calm_books, none_counted, none_released}
+use Rattle.law_machine_refines_net.proofs.OutwardsPassed.{Sent, free_counted, none_released}
 use Rattle.law_machine_refines_net.proofs.OutwardsCrossing.{crosses_follow}
 use Rattle.law_machine_refines_net.proofs.OutwardsTurning.{asks_granted, none_drains}
 
@@ -157,24 +159,19 @@ module _ (s : Taking) (d : Context) (n i : ℕ) (in_turn : s.i.context ≡ Turne
         out = sent ∷ [];
         out_made = sent_token ∷ [];
         out_is = λ t. token_is t ∷ [];
-        out_held = of_sent (λ (x : Item). is_held x.inlet.part ≡ false) (next_held j);
-        out_known = of_sent (λ (x : Item). (g : ℕ) × (frame_at s.fl net.fired x.context ≡ Some g)) has_frame;
-        out_named =
-            λ x y h. of_sent (λ (x : Item). named_by x.word ≡ Some y → (g : ℕ) × (frame_at s.fl net.fired y ≡ Some g))
-            (λ k. s.keeps.follows.stands.named right_item y (among l right_item (right_here l refl refl sec)) k) x h;
-        out_asked =
-            λ x y z h. of_sent (λ (x : Item). x.word ≡ BackTo y z → WasThere l x ⊎ UsedNow l y z) (λ k. inl (right_item, right_here l refl refl sec, refl)) x h;
-        out_caused =
-            λ x h a k. of_sent (λ (x : Item). is_entry_part (block_in s.fl x.context) x.inlet.part ≡ false → IsCaused l x)
-            (λ k. absurd (true≢false (sym (goes_at j within).1 ∙ k))) x h k;
-        books = λ x m a b. calm_books l (sent ∷ []) calm x m;
+        out_sent = of_sent (Sent l) (record {
+          held = next_held j;
+          known = has_frame;
+          named = λ y k. s.keeps.follows.stands.named right_item y (among l right_item (right_here l refl refl sec)) k;
+          asked = λ y z k. inl (right_item, right_here l refl refl sec, refl);
+          caused = λ a k. absurd (true≢false (sym (goes_at j within).1 ∙ k));
+        });
+        counted = free_counted l free (sent ∷ []) calm;
         makes_is = refl;
         dests = ins.firsts ++ ins.seconds;
         leads = all_lead l refl is_sender refl refl;
         plain_dest = λ x h. subst (λ (o : Op). Contains (plain_dests ins o) x) (sym (stood l is_sender).is.op) h;
         did = did;
-        released = λ x m g a b k. none_counted l free (sent ∷ []) calm x m g;
-        releases = none_released l free;
       })
 
     pub next_sends : Followed s
@@ -302,21 +299,18 @@ module _ (s : Taking) (d : Context) (n i : ℕ) (in_turn : s.i.context ≡ Turne
         out = asked ∷ [];
         out_made = asked_token ∷ [];
         out_is = λ t. token (To.Instr (F d) (taker_at t) Left) (Word.Back (answers_at t)) ∷ [];
-        out_held = of_asked (λ (x : Item). is_held x.inlet.part ≡ false) refl;
-        out_known = of_asked (λ (x : Item). (g : ℕ) × (frame_at s.fl net.fired x.context ≡ Some g)) owner_frame;
-        out_named = λ x y h. of_asked (λ (x : Item). named_by x.word ≡ Some y → (g : ℕ) × (frame_at s.fl net.fired y ≡ Some g)) (named_now y) x h;
-        out_asked = λ x y z h. of_asked (λ (x : Item). x.word ≡ BackTo y z → WasThere a x ⊎ UsedNow a y z) (asked_now y z) x h;
-        out_caused =
-            λ x h. of_asked (λ (x : Item). is_instr x.inlet.part ≡ true → is_entry_part (block_in s.fl x.context) x.inlet.part ≡ false → IsCaused a x)
-            (λ b k. inr was_used) x h;
-        books = λ x m b g. asker_books x m;
+        out_sent =
+            of_asked (Sent a) (record { held = refl; known = owner_frame; named = named_now; asked = asked_now; caused = λ b k. inr was_used });
+        counted = record {
+          books = λ x m b g. asker_books x m;
+          released = λ x m g b h f. asker_free.released g (ip_of s.fl s.p s.w x (Landing m 0)) ∙ sym (no_turn x m);
+          releases = none_released a asker_free;
+        };
         makes_is = ap (λ ws. asked ∷ each c signal ws) (sym asker_wire);
         dests = [];
         leads = permutation_same _ _ (ap (map (stands_at (wiring_in s.fl s.w c))) (sym asker_wire));
         plain_dest = λ x h. absurd (contains_none x h);
         did = asks;
-        released = λ x m g b h f. asker_free.released g (ip_of s.fl s.p s.w x (Landing m 0)) ∙ sym (no_turn x m);
-        releases = none_released a asker_free;
       })
 
     pub asker_follows : Followed s

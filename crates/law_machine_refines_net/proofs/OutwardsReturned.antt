@@ -18,11 +18,11 @@ use Rattle.law_net.proofs.ContextsBlocks.{has_block}
 use Rattle.law_machine_refines_net.specs.MovesCases.{Taking, Followed}
 use Rattle.law_machine_refines_net.proofs.MovesLists.{contains_one}
 use Rattle.law_machine_refines_net.proofs.MovesSites.{coded}
+use Rattle.law_machine_refines_net.proofs.MovesParts.{is_credit}
+use Rattle.law_machine_refines_net.proofs.MovesLoops.{calm_books}
 use Rattle.law_machine_refines_net.proofs.MovesFitted.{fits, there, taken_here}
 use Rattle.law_machine_refines_net.proofs.SendsRules.{at}
 use Rattle.law_machine_refines_net.proofs.SendsInwards.{told_at}
-use Rattle.law_machine_refines_net.proofs.MovesWhole.{is_credit}
-use Rattle.law_machine_refines_net.proofs.OutwardsPassed.{calm_books}
 use Rattle.law_machine_refines_net.proofs.OutwardsReturning.{back, returns_follow}
 
 -- THE BLOCK THAT A CALL RUNS

@@ -1,5 +1,5 @@
 -- What was invoked returns a value to the landing of where it was made.
-use Rattle.std.proofs.Common.{◌≡◌, ℕ, ◌+◌, ◌<◌, Bool, true, false, ◌&&◌, [], ◌∷◌, ◌++◌, sym, ap, ◌∙◌, subst, inr, ◌⊎◌, Some, None}
+use Rattle.std.proofs.Common.{◌≡◌, ℕ, ◌+◌, ◌<◌, Bool, true, false, ◌&&◌, [], ◌∷◌, ◌++◌, sym, ap, ◌∙◌, subst, inr, Some, None}
 use Rattle.std.specs.Prelude.{Contains}
 use Rattle.lemmas.proofs.Bools.{and_false}
 use Rattle.tags.specs.declared.value.Value.{Value}
@@ -19,11 +19,11 @@ use Rattle.law_net.specs.Contexts.{block_in, site_in}
 use Rattle.law_net.specs.ContextsWires.{answered_at}
 use Rattle.law_net.specs.ContextsFirings.{Config, makes, frame_at}
 use Rattle.law_net.specs.ContextsLaws.{WordFits}
-use Rattle.law_net.specs.ContextsStands.{frame_of, ip_of, word_of, slot_of, named_by, row_of, is_held, is_instr, is_entry_part, is_item_at, items_at, WasUsed}
-use Rattle.law_machine_refines_net.specs.MovesCases.{Taking, IsCaused, IsFree, net_of, Followed, is_still}
+use Rattle.law_net.specs.ContextsStands.{frame_of, ip_of, word_of, slot_of, named_by, row_of, is_held, is_instr, is_item_at, items_at, WasUsed}
+use Rattle.law_machine_refines_net.specs.MovesCases.{Taking, IsFree, net_of, Followed, is_still}
 use Rattle.law_machine_refines_net.proofs.MovesLists.{contains_one, count_none}
 use Rattle.law_machine_refines_net.proofs.MovesStill.{to_instr}
-use Rattle.law_machine_refines_net.proofs.MovesWhole.{WasThere, UsedNow}
+use Rattle.law_machine_refines_net.proofs.MovesLoops.{Books}
 use Rattle.law_machine_refines_net.proofs.MovesFitted.{among, is_plain_way}
 use Rattle.law_machine_refines_net.proofs.SendsRules.{at, instr, stood, free_of, dyadic_grants, releases}
 use Rattle.law_machine_refines_net.proofs.SendsPairs as Pairs
@@ -31,7 +31,7 @@ use Rattle.law_machine_refines_net.proofs.SendsPairs.{Second, dyadic, left_here,
 use Rattle.law_machine_refines_net.proofs.Sends.{Wire, firing_of}
 use Rattle.law_machine_refines_net.proofs.SendsAlong.{both, all_lead, pair_follows}
 use Rattle.law_machine_refines_net.proofs.SendsInwards.{told_at, carried}
-use Rattle.law_machine_refines_net.proofs.OutwardsPassed.{Books, none_released}
+use Rattle.law_machine_refines_net.proofs.OutwardsPassed.{Sent, none_released}
 use Rattle.law_machine_refines_net.proofs.OutwardsCrossing.{crosses_follow}
 
 -- A RETURN, told of: to which part it goes back, at which offset
@@ -116,21 +116,25 @@ module _ (s : Taking) (r : Part) (c d : Context) (n o t : ℕ) (q : Part) (in_c 
       out_is =
           λ i. token ((ap (λ (ip : ℕ). To.Instr (F d) ip Left) g.place ∙ sym (to_instr s.fl s.p s.w net.fired (sent_back sec.right) q g.is_q)) i) (W (sym k i))
           ∷ [];
-      out_held = of_one (λ (x : Item). is_held x.inlet.part ≡ false) g.q_held;
-      out_known = of_one (λ (x : Item). (h : ℕ) × (frame_at s.fl net.fired x.context ≡ Some h)) has_frame;
-      out_named = λ x y h. of_one (λ (x : Item). named_by x.word ≡ Some y → (h : ℕ) × (frame_at s.fl net.fired y ≡ Some h)) (λ k. absurd (unnamed y k)) x h;
-      out_asked = λ x y z h. of_one (λ (x : Item). x.word ≡ BackTo y z → WasThere back x ⊎ UsedNow back y z) (λ k. absurd (unnamed y (ap named_by k))) x h;
-      out_caused =
-          λ x h. of_one (λ (x : Item). is_instr x.inlet.part ≡ true → is_entry_part (block_in s.fl x.context) x.inlet.part ≡ false → IsCaused back x)
-          (λ i k. inr was_used) x h;
-      books = λ x m a l. g.books sec.right x m;
+      out_sent =
+          of_one (Sent back)
+          (record {
+            held = g.q_held;
+            known = has_frame;
+            named = λ y k. absurd (unnamed y k);
+            asked = λ y z k. absurd (unnamed y (ap named_by k));
+            caused = λ i k. inr was_used;
+          });
+      counted = record {
+        books = λ x m a l. g.books sec.right x m;
+        released = λ x m h a l f. free.released h (ip_of s.fl s.p s.w x (Landing m 0)) ∙ sym (no_turn x m);
+        releases = none_released back free;
+      };
       makes_is = g.makes_is sec.left sec.right;
       dests = (instr back is_return).firsts ++ (instr back is_return).seconds;
       leads = all_lead back still is_return g.none g.single;
       plain_dest = λ x h. subst (λ (op : Op). Contains (plain_dests (instr back is_return) op) x) (sym ((stood back is_return).is.op ∙ g.op_is)) h;
       did = m;
-      released = λ x m h a l f. free.released h (ip_of s.fl s.p s.w x (Landing m 0)) ∙ sym (no_turn x m);
-      releases = none_released back free;
     })
 
   pub returns_follow : ReturnsAt → Followed s

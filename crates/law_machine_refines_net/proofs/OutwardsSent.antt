@@ -22,19 +22,19 @@ use Rattle.law_net.specs.ContextsParts.{Line, Sender, inlet, Note, Datum, FrameO
 use Rattle.law_net.specs.ContextsBlocks.{callee_code, invokes, source_count}
 use Rattle.law_net.specs.Contexts.{block_in, child, IsContext}
 use Rattle.law_net.specs.ContextsFirings.{Config, right_way, frame_at}
-use Rattle.law_net.specs.ContextsStands.{frame_of, ip_of, word_of, on_side, in_slot, slot_of, only, named_by, is_held, is_instr, is_entry_part, Stands}
+use Rattle.law_net.specs.ContextsStands.{frame_of, ip_of, word_of, on_side, in_slot, slot_of, only, named_by, is_instr, Stands}
 use Rattle.law_net.proofs.WiredInvoked.{Invoked, child_cases, child_here}
-use Rattle.law_machine_refines_net.specs.MovesCases.{Taking, IsCaused, IsFree, net_of, Followed, Halts}
+use Rattle.law_machine_refines_net.specs.MovesCases.{Taking, IsFree, net_of, Followed, Halts}
 use Rattle.law_machine_refines_net.proofs.MovesLists.{contains_one}
+use Rattle.law_machine_refines_net.proofs.MovesParts.{is_credit}
 use Rattle.law_machine_refines_net.proofs.MovesFitted.{fits, there, among, taken_here, pair_instr}
+use Rattle.law_machine_refines_net.proofs.MovesHalts.{halts_follow}
 use Rattle.law_machine_refines_net.proofs.SendsRules.{at, instr, stood, free_of, grants, releases}
 use Rattle.law_machine_refines_net.proofs.Sends.{firing_of, stays_with}
 use Rattle.law_machine_refines_net.proofs.SendsAlong.{all_lead}
-use Rattle.law_machine_refines_net.proofs.MovesWhole.{UsedNow, WasThere, is_credit}
-use Rattle.law_machine_refines_net.proofs.MovesHalts.{halts_follow}
 use Rattle.law_machine_refines_net.proofs.SendsInwards.{told_as, carried}
 use Rattle.law_machine_refines_net.proofs.OutwardsChildren.{child_code, line_at}
-use Rattle.law_machine_refines_net.proofs.OutwardsPassed.{calm_books, none_counted, none_released}
+use Rattle.law_machine_refines_net.proofs.OutwardsPassed.{Sent, free_counted}
 use Rattle.law_machine_refines_net.proofs.OutwardsLeaving.{leaves_follow}
 use Rattle.law_machine_refines_net.proofs.OutwardsMeeting.{Ways, Both, both_cases, left_here, right_here}
 use Rattle.law_machine_refines_net.proofs.OutwardsArguments.{sender_ways}
@@ -145,15 +145,14 @@ module _ (s : Taking) (n i : ℕ) (e : s.i.inlet.part ≡ Sender n i) where
       out = sent ∷ [];
       out_made = sent_token ∷ [];
       out_is = λ t. token (To.Instr (frame_of s.fl net.fired d) (goes_in t) Left) (W sec.right) ∷ [];
-      out_held = of_sent (λ (j : Item). is_held j.inlet.part ≡ false) refl;
-      out_known = of_sent (λ (j : Item). (g : ℕ) × (frame_at s.fl net.fired j.context ≡ Some g)) has_frame;
-      out_named =
-          λ j x h k. of_sent (λ (j : Item). named_by j.word ≡ Some x → (g : ℕ) × (frame_at s.fl net.fired x ≡ Some g)) (λ k. absurd (unnamed x k)) j h k;
-      out_asked = λ j x y h k. of_sent (λ (j : Item). j.word ≡ BackTo x y → WasThere l j ⊎ UsedNow l x y) (λ k. absurd (no_back x y k)) j h k;
-      out_caused =
-          λ j h a k. of_sent (λ (j : Item). is_entry_part (block_in s.fl j.context) j.inlet.part ≡ false → IsCaused l j)
-          (λ k. absurd (true≢false (sym (lt-ltb i (block_in s.fl d).inputs within) ∙ k))) j h k;
-      books = λ x m a b. calm_books l (sent ∷ []) calm x m;
+      out_sent = of_sent (Sent l) (record {
+        held = refl;
+        known = has_frame;
+        named = λ x k. absurd (unnamed x k);
+        asked = λ x y k. absurd (no_back x y k);
+        caused = λ a k. absurd (true≢false (sym (lt-ltb i (block_in s.fl d).inputs within) ∙ k));
+      });
+      counted = free_counted l free (sent ∷ []) calm;
       note = signal;
       second = false;
       from = inl refl;
@@ -168,8 +167,6 @@ module _ (s : Taking) (n i : ℕ) (e : s.i.inlet.part ≡ Sender n i) where
           (sym did.1) sec.slots;
       stays = stays_with l (frame_of s.fl net.fired c) (slot_of s.fl s.w l.i) Empty did.1;
       granted = free.granted;
-      released = λ x m g a b k. none_counted l free (sent ∷ []) calm x m g;
-      releases = none_released l free;
       no_give = λ k h. let z : Ops.Send callee (i + 1) ≡ Ops.Give k = sym (stood l is_sender).is.op ∙ h in absurd (cc);
     })
 

@@ -12,8 +12,8 @@ use Rattle.law_net.specs.ContextsStands.{frame_of, ip_of, is_item_at, granted_of
 use Rattle.law_net.proofs.WiredInvoked.{loop_invoked, code_at}
 use Rattle.law_net.proofs.RunsPigeons.{item_there, item_here}
 use Rattle.law_machine_refines_net.specs.MovesCases.{Taking, net_of, Followed}
+use Rattle.law_machine_refines_net.proofs.MovesLoops.{Books}
 use Rattle.law_machine_refines_net.proofs.OutwardsChildren.{turn_landing}
-use Rattle.law_machine_refines_net.proofs.OutwardsPassed.{Books}
 use Rattle.law_machine_refines_net.proofs.OutwardsEnded.{at_here, bool_same, context, last, ending, of_both, ends_follow, one_landing, loop_lands}
 use Rattle.law_machine_refines_net.proofs.OutwardsTurning.{gives_granted}
 

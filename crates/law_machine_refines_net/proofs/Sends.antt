@@ -24,8 +24,9 @@ use Rattle.law_net.specs.ContextsWires.{leads_to, stands_at, is_given}
 use Rattle.law_net.specs.ContextsFirings.{Config, memory_of, remembered, HasFired}
 use Rattle.law_net.specs.ContextsStands.{frame_of, word_of, token_of, on_side, in_slot, slot_of, only, is_instr, Stands}
 use Rattle.law_machine_refines_net.specs.MovesCases.{Taking, net_of, Shows}
-use Rattle.law_machine_refines_net.proofs.MovesStill.{to_instr}
 use Rattle.law_machine_refines_net.proofs.MovesSites.{there_instr}
+use Rattle.law_machine_refines_net.proofs.MovesStill.{to_instr}
+use Rattle.law_machine_refines_net.proofs.MovesPlain.{Stays}
 use Rattle.law_machine_refines_net.proofs.MovesFitted.{code, there, taken_here}
 use Rattle.law_machine_refines_net.proofs.SendsRules.{at}
 
@@ -33,14 +34,6 @@ use Rattle.law_machine_refines_net.proofs.SendsRules.{at}
 abbrev pub firing_of : Taking → ℕ → Note → Note → Firing
 firing_of s t l k =
     record { context = s.i.context; part = s.i.inlet.part; way = t; left = l; right = k; frame = 0; answer = Int (pos 0); turns = 0; operands = [] }
-
--- it leaves the rest of the store alone
-pub record Stays (s : Taking) : Type 0 where
-  pub requests : s.new.store.requests ≡ s.m.store.requests
-  pub cells : (x : ℕ) → s.new.store.cells x ≡ s.m.store.cells x
-  pub outputs : (j : ℕ) → s.new.store.outputs j ≡ s.m.store.outputs j
-  pub done : s.new.store.done ≡ s.m.store.done
-  pub out : (g : ℕ) → s.new.store.out g ≡ s.m.store.out g
 
 pub stays_with : (s : Taking) (f q : ℕ) (v : SlotState) → s.new.store ≡ with_slot s.m.store f q v → Stays s
 stays_with s f q v e = record {

@@ -30,7 +30,7 @@ use Rattle.law_net.specs.ContextsLaws.{way_fits}
 use Rattle.law_net.specs.ContextsStands.{frame_of, word_of, on_side, in_slot, slot_of, only, named_by, is_instr, Stands}
 use Rattle.law_machine_refines_net.specs.MovesCases.{Taking, net_of, Followed, Halts, is_still}
 use Rattle.law_machine_refines_net.proofs.MovesLists.{contains_one}
-use Rattle.law_machine_refines_net.proofs.MovesStill.{still_renews, still_steady}
+use Rattle.law_machine_refines_net.proofs.MovesStill.{still_renews}
 use Rattle.law_machine_refines_net.proofs.MovesHalts.{halts_follow}
 use Rattle.law_machine_refines_net.proofs.MovesFitted.{fits, code, bare, bare_item, taken_here, instr_held, lone_port, plain_way, is_plain_way}
 use Rattle.law_machine_refines_net.proofs.SendsRules.{at, instr, stood, happens, grants, releases, free_of, dyadic_grants}
@@ -87,14 +87,14 @@ module _ (s : Taking) (still : is_still s.i.inlet.part ≡ true) where
   pub takes_two : in_slot s.fl s.i ≡ true → is_plain_way r ≡ true → (l k : Note)
       → takes s.fl (firing_of s 0 l k) ≡ item c (inlet r Left 0) l ∷ item c (inlet r Right 0) k ∷ []
   takes_two two plain l k =
-      ap (λ x. own_takes s.fl (firing_of s 0 l k) r ++ x) (still_renews s.fl (firing_of s 0 l k) r (still_steady r still))
+      ap (λ x. own_takes s.fl (firing_of s 0 l k) r ++ x) (still_renews s.fl (firing_of s 0 l k) r still)
       ∙ append-nil (own_takes s.fl (firing_of s 0 l k) r) ∙ own_still s.fl (firing_of s 0 l k) r still
       ∙ ap (λ t. item c (inlet r Left (left_way r 0)) l ∷ (if t then item c (inlet r Right (right_way s.fl c r)) k ∷ [] else [])) two
       ∙ (λ t. item c (inlet r Left (left_zero r t)) l ∷ item c (inlet r Right (right_zero s.fl c r plain t)) k ∷ [])
 
   pub takes_one : waits_in (block_in s.fl c) r ≡ false → (l k : Note) (t : ℕ) → takes s.fl (firing_of s t l k) ≡ item c (inlet r Left (left_way r t)) l ∷ []
   takes_one one l k t =
-      ap (λ x. own_takes s.fl (firing_of s t l k) r ++ x) (still_renews s.fl (firing_of s t l k) r (still_steady r still))
+      ap (λ x. own_takes s.fl (firing_of s t l k) r ++ x) (still_renews s.fl (firing_of s t l k) r still)
       ∙ append-nil (own_takes s.fl (firing_of s t l k) r) ∙ own_still s.fl (firing_of s t l k) r still
       ∙ ap (λ x. item c (inlet r Left (left_way r t)) l ∷ (if x then item c (inlet r Right (right_way s.fl c r)) k ∷ [] else [])) one
 

@@ -1,5 +1,5 @@
 -- Where two words meet at a part each of whose ways is 0.
-use Rattle.std.proofs.Common.{◌≡◌, ℕ, true, ap, ◌∙◌, sym, ◌⊎◌}
+use Rattle.std.proofs.Common.{◌≡◌, true, ap, ◌∙◌, sym, ◌⊎◌}
 use Rattle.tags.specs.declared.token.Port.TheVariants.{Left, Right}
 use Rattle.semantics.specs.Wired.{is_dyadic}
 use Rattle.law_net.specs.ContextsParts.{inlet, Item, item}

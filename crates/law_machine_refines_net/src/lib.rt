@@ -8,17 +8,20 @@
 //!    (`SendsRules`).
 //! 2. A first word waits in its slot, which is its own (`MovesHalts`); a second one finds it, and the part fires (`MovesGoes`).
 //! 3. What an instruction sends goes along the wires of its part: so what the event makes is what the firing makes (`Sends`).
-//! 4. From what changes of the net, pool, slots, cells, requests and frames follow alike (`MovesFollowed`, `MovesWhole`).
+//! 4. Whatever its kind, an event shows one thing: that its account balances. The account (`MovesAccount`) says which parts fire, what that takes and
+//!    makes, and what begins or ceases to wait. It balances (`MovesBalanced`) where the machine has changed by that and by nothing else: its tokens, its
+//!    frames (`MovesFramed`), the slots and counts of its loops (`MovesLoops`), its other slots, its requests, its cells and its memory. Of what stays as
+//!    it was each event says so by the same few lemmas (`MovesPlain`).
 //! 5. A fetch or a store at its node asks its cell, or answers at once; a store answers each reader that waits, a move for each (`Cells`).
-//! 6. A frame that is handed out is that of one context more, and the net stands for the machine as before (`FramesGrown`, `FramesHanded`); a strict
+//! 6. A frame that is handed out is that of one context more, and the net stands for the machine as before (`FramesHanded`); a strict
 //!    call's arguments are taken and made anew (`FramesStrict`).
 //! 7. Words that go into another context go to its entry, its inputs, or the landing that its continuation names (`Outwards`).
-//! 8. A loop's slot is what its ledger says before and after each of the four instructions of its credits (`CreditsLedgers`, `Credits`); the last
+//! 8. A loop's slot is what its ledger says before and after each of the four instructions of its credits (`CreditsLedgers`, `CreditsLending`); the last
 //!    credit that comes back ends a drain.
 //! 9. What comes to the host, and a frame that comes back, are items on their way like others (`Hosts`).
 //!
 //! **The files**, by chapter.
-//! - `Moves`: the statements, from what an event changes to what follows, and `MovesEvents`: each event.
+//! - `Moves`: accounts, that they balance and what follows; `MovesHalts` and `MovesGoes`; and `MovesEvents`: each event.
 //! - `Sends`: along wires; `Cells`: fetches and stores; `Hosts`: what leaves main, and frames that come back.
 //! - `Frames`: requests for frames and the manager's answers; `Outwards`: into another context; `Credits`: the credits of loops.
 #![tactic(auto)]

@@ -1,18 +1,13 @@
 -- What stands in a turn of a loop, or asks for one, comes after the loop was opened.
-use Rattle.std.proofs.Common.{◌≡◌, ℕ, zero, suc, Bool, true, false, ℤ, List, [], ◌∷◌, ◌++◌, refl, sym, ap, ◌∙◌, subst, inl, inr, ◌⊎◌, arith, true≢false}
+use Rattle.std.proofs.Common.{◌≡◌, ℕ, zero, suc, Bool, true, false, ℤ, List, refl, sym, ap, ◌∙◌, subst, inl, inr, ◌⊎◌, arith, true≢false}
 use Rattle.std.proofs.Common.{ltb-true, nat_lt, if◌then◌else◌}
-use Rattle.std.specs.Prelude.{Contains, flat_map, IsPermutation}
-use Rattle.std.proofs.lemmas.List.Sorted.{IsPermutation-trans, IsPermutation-sym, IsPermutation-append, IsPermutation-append_left, Contains-permutation}
-use Rattle.std.proofs.lemmas.List.Elements.{Contains-append_left, Contains-append_right, Contains-append_cases}
-use Rattle.lemmas.proofs.Contains.{contains_head, contains_none, contains_tail}
+use Rattle.std.specs.Prelude.{Contains}
 use Rattle.tags.specs.declared.token.Port.{Port}
 use Rattle.tags.specs.declared.token.Port.TheVariants.{Left}
 use Rattle.semantics.specs.Graph.{Flow}
 use Rattle.semantics.specs.Meaning.{Context, Main, Called, Turned}
 use Rattle.semantics.specs.Plan.{Plan}
 use Rattle.semantics.specs.Machine.{Machine}
-use Rattle.law_confluence.proofs.Orders.{shuffled, Part, ◌⊕◌}
-use Rattle.law_confluence.proofs.Net.{Waits, Fires}
 use Rattle.law_net.specs.ContextsParts as Parts
 use Rattle.law_net.specs.ContextsParts.{Entry, Line, Opener, Framer, Fanned, Linker, Sender, Landing, CallDone, Giver, Taker, Drainer, LoopDone, Result, Asker}
 use Rattle.law_net.specs.ContextsParts.{NextFramer, NextFanned, NextSender, LastReturn, DrainReturn, End, Asked, NextAsked, Held, Drained, Shown, Done, Freed}
@@ -20,17 +15,17 @@ use Rattle.law_net.specs.ContextsParts.{Inlet, inlet, Item, Firing, spot_of, Rol
 use Rattle.law_net.specs.ContextsBlocks.{is_loop, there_in}
 use Rattle.law_net.specs.Contexts.{Wires, block_in, site_in, wiring_in}
 use Rattle.law_net.specs.ContextsWires.{ChildFrame, Carried, Suits, comes_at, goes_from, is_given, wired_way}
-use Rattle.law_net.specs.ContextsFirings.{Config, Move, begin, begins, takes, makes, HasFired, ProperMoves, Still, Then}
+use Rattle.law_net.specs.ContextsFirings.{Config, takes, makes, HasFired}
 use Rattle.law_net.specs.ContextsLaws.{Fits, maker_of, spot_there, way_fits}
 use Rattle.law_net.specs.ContextsStands.{Past}
 use Rattle.law_net.specs.ContextsTheorem.{IsGood}
 use Rattle.law_net.specs.ContextsPackages.{AllFit, Keeps}
-use Rattle.law_net.proofs.WiredSends.{IsSent, sent_facts, first_taken, takes_first, first_context, in_context}
+use Rattle.law_net.proofs.WiredSends.{IsSent, sent_facts, first_taken, first_context, in_context}
 use Rattle.law_net.proofs.WiredInvoked.{lawful_at}
 use Rattle.law_net.proofs.WiredGifts.{Gift}
-use Rattle.law_net.proofs.WiredWords.{Begins, AtEntry, AtInput, begin_cases, gift_fits}
+use Rattle.law_net.proofs.WiredWords.{Begins, AtEntry, AtInput, gift_fits}
 use Rattle.law_net.proofs.WiredFed.{MadeAt, ByGift, ByWire, made_at, sent_there, giver_of, gift_role, gift_unwired, Unwired, UGiven, UNot, UWay}
-use Rattle.law_net.proofs.WiredNets.{all_of}
+use Rattle.law_net.proofs.WiredTraced.{traced}
 use Rattle.law_net.proofs.RunsComes.{net, all_here, fired_fit}
 
 -- in a turn of the loop at node n of c, or in what a turn invokes
@@ -189,88 +184,20 @@ module _ (fl : Flow) (p : Plan) (w : Wires) (good : IsGood fl p w) (c : Context)
         pick (ByGift g) = gift_near i g x
         pick (ByWire s) = inr (sent_near i s x)
 
-  -- ALONG MOVES
-  abbrev Framed : Config → Type 0
-  Framed d = (i : Item) → Contains (all_of fl d) i → Near c n i → HasFired c (Framer n) d.fired
-
-  framed_later : (f : Firing) (fired : List Firing) → HasFired c (Framer n) fired → HasFired c (Framer n) (f ∷ fired)
-  framed_later f fired (h, a, b, e) = (h, contains_tail f fired h a, b, e)
-
-  fired_move : (a b : Config) → Move fl w a b → (h : Firing) → Contains a.fired h → Contains b.fired h
-  fired_move a b (Waits i rest x e) h d = subst (λ (b : Config). Contains b.fired h) (sym e) d
-  fired_move a b (Fires f now kept rest others x y both e) h d = subst (λ (b : Config). Contains b.fired h) (sym e) (contains_tail f a.fired h d)
-
-  fired_grow : (a b : Config) → ProperMoves fl w a b → (h : Firing) → Contains a.fired h → Contains b.fired h
-  fired_grow a b (Still e) h d = d
-  fired_grow a b (Then x mid y m proper more) h d = fired_grow mid b more h (fired_move a mid m h d)
-
-  framed_move : (a b : Config) → Move fl w a b → ((h : Firing) → Contains b.fired h → AllFit fl w (takes fl h)) → Framed a → Framed b
-  framed_move a b (Waits i rest x e) fit old = subst Framed (sym e) (λ j h. old j (Contains-permutation _ _ j (IsPermutation-sym _ _ perm) h))
-    where
-      perm : IsPermutation (a.pending ++ (a.waiting ++ flat_map (takes fl) a.fired)) (rest ++ ((i ∷ a.waiting) ++ flat_map (takes fl) a.fired))
-      perm = IsPermutation-trans _ _ _ (IsPermutation-append_left (a.waiting ++ flat_map (takes fl) a.fired) _ _ x)
-          (shuffled ((i ∷ []) ∷ rest ∷ a.waiting ∷ flat_map (takes fl) a.fired ∷ []) ((Part 0 ⊕ Part 1) ⊕ (Part 2 ⊕ Part 3))
-          (Part 1 ⊕ ((Part 0 ⊕ Part 2) ⊕ Part 3)) refl)
-  framed_move a b (Fires f now kept rest others x y both e) fit old =
-      let mine = fit f (subst (λ (b : Config). Contains b.fired f) (sym e) (contains_head f a.fired)) in
-      subst Framed (sym e) (λ j h near. pick mine j
-      (Contains-append_cases (makes fl w f) (rest ++ (others ++ (takes fl f ++ flat_map (takes fl) a.fired))) j (Contains-permutation _ _ j joined h)) near)
-    where
-      joined : IsPermutation ((makes fl w f ++ rest) ++ (others ++ (takes fl f ++ flat_map (takes fl) a.fired)))
-          (makes fl w f ++ (rest ++ (others ++ (takes fl f ++ flat_map (takes fl) a.fired))))
-      joined =
-          shuffled (makes fl w f ∷ rest ∷ others ∷ takes fl f ∷ flat_map (takes fl) a.fired ∷ []) ((Part 0 ⊕ Part 1) ⊕ (Part 2 ⊕ (Part 3 ⊕ Part 4)))
-          (Part 0 ⊕ (Part 1 ⊕ (Part 2 ⊕ (Part 3 ⊕ Part 4)))) refl
-
-      perm : IsPermutation (a.pending ++ (a.waiting ++ flat_map (takes fl) a.fired)) (rest ++ (others ++ (takes fl f ++ flat_map (takes fl) a.fired)))
-      perm = IsPermutation-trans _ _ _ (IsPermutation-append _ _ _ _ x (IsPermutation-append_left (flat_map (takes fl) a.fired) _ _ y))
-          (IsPermutation-trans _ _ _ (shuffled (now ∷ rest ∷ kept ∷ others ∷ flat_map (takes fl) a.fired ∷ [])
-          ((Part 0 ⊕ Part 1) ⊕ ((Part 2 ⊕ Part 3) ⊕ Part 4)) ((Part 0 ⊕ Part 2) ⊕ (Part 1 ⊕ (Part 3 ⊕ Part 4))) refl)
-          (IsPermutation-trans _ _ _ (IsPermutation-append_left (rest ++ (others ++ flat_map (takes fl) a.fired)) _ _ both)
-          (shuffled (takes fl f ∷ rest ∷ others ∷ flat_map (takes fl) a.fired ∷ []) (Part 0 ⊕ (Part 1 ⊕ (Part 2 ⊕ Part 3)))
-          (Part 1 ⊕ (Part 2 ⊕ (Part 0 ⊕ Part 3))) refl)))
-
-      old_item : (j : Item) → Contains (rest ++ (others ++ (takes fl f ++ flat_map (takes fl) a.fired))) j → Near c n j → HasFired c (Framer n) (f ∷ a.fired)
-      old_item j h near = framed_later f a.fired (old j (Contains-permutation _ _ j (IsPermutation-sym _ _ perm) h) near)
-
-      taken_item : (j : Item) → Contains (takes fl f) j → Contains (rest ++ (others ++ (takes fl f ++ flat_map (takes fl) a.fired))) j
-      taken_item j h =
-          Contains-append_right rest (others ++ (takes fl f ++ flat_map (takes fl) a.fired)) j
-          (Contains-append_right others (takes fl f ++ flat_map (takes fl) a.fired) j (Contains-append_left (takes fl f) (flat_map (takes fl) a.fired) j h))
-
-      by_maker : ((f.context ≡ c) × (f.part ≡ Framer n)) ⊎ Near c n (first_taken fl w f f.part) → HasFired c (Framer n) (f ∷ a.fired)
-      by_maker (inl (u, v)) = (f, contains_head f a.fired, u, v)
-      by_maker (inr near) = old_item (first_taken fl w f f.part) (taken_item (first_taken fl w f f.part) (takes_first fl w f)) near
-
-      pick : AllFit fl w (takes fl f) → (j : Item) → Contains (makes fl w f) j ⊎ Contains (rest ++ (others ++ (takes fl f ++ flat_map (takes fl) a.fired))) j
-          → Near c n j → HasFired c (Framer n) (f ∷ a.fired)
-      pick mine j (inl h) near = by_maker (made_near f mine j h near)
-      pick mine j (inr h) near = old_item j h near
-
-  framed_moves : (a b : Config) → ProperMoves fl w a b → ((h : Firing) → Contains b.fired h → AllFit fl w (takes fl h)) → Framed a → Framed b
-  framed_moves a b (Still e) fit old = old
-  framed_moves a b (Then x mid y m proper more) fit old = framed_moves mid b more fit (framed_move a mid m (λ h d. fit h (fired_grow mid b more h d)) old)
-
-  framed_first : (inputs : List ℤ) → Framed (begin inputs)
-  framed_first inputs i h near = start (Contains-append_cases (begins inputs) [] i h)
-    where
-      not_near : Begins inputs i → Near c n i → ⊥
-      not_near (AtEntry e) (NUnder u) = subst (Under c n) (ap (λ (i : Item). i.context) e) u
-      not_near (AtEntry e) (NAsked a g) = let x = sym (ap (λ (i : Item). i.inlet.part) e) ∙ g in absurd (cc)
-      not_near (AtEntry e) (NFanned a g) = let x = sym (ap (λ (i : Item). i.inlet.part) e) ∙ g in absurd (cc)
-      not_near (AtEntry e) (NLinker a g) = let x = sym (ap (λ (i : Item). i.inlet.part) e) ∙ g in absurd (cc)
-      not_near (AtEntry e) (NSender m a g q) = let x = sym (ap (λ (i : Item). i.inlet.part) e) ∙ g in absurd (cc)
-      not_near (AtEntry e) (NTaker a g) = let x = sym (ap (λ (i : Item). i.inlet.part) e) ∙ g in absurd (cc)
-      not_near (AtInput m z l e) (NUnder u) = subst (Under c n) (ap (λ (i : Item). i.context) e) u
-      not_near (AtInput m z l e) (NAsked a g) = let x = sym (ap (λ (i : Item). i.inlet.part) e) ∙ g in absurd (cc)
-      not_near (AtInput m z l e) (NFanned a g) = let x = sym (ap (λ (i : Item). i.inlet.part) e) ∙ g in absurd (cc)
-      not_near (AtInput m z l e) (NLinker a g) = let x = sym (ap (λ (i : Item). i.inlet.part) e) ∙ g in absurd (cc)
-      not_near (AtInput m z l e) (NSender s a g q) = let x = sym (ap (λ (i : Item). i.inlet.part) e) ∙ g in absurd (cc)
-      not_near (AtInput m z l e) (NTaker a g) = let x = sym (ap (λ (i : Item). i.inlet.part) e) ∙ g in absurd (cc)
-
-      start : Contains (begins inputs) i ⊎ Contains [] i → HasFired c (Framer n) []
-      start (inl d) = absurd (not_near (begin_cases inputs i d) near)
-      start (inr d) = absurd (contains_none i d)
+  -- at the beginning nothing is
+  not_near : (inputs : List ℤ) (i : Item) → Begins inputs i → Near c n i → ⊥
+  not_near inputs i (AtEntry e) (NUnder u) = subst (Under c n) (ap (λ (i : Item). i.context) e) u
+  not_near inputs i (AtEntry e) (NAsked a g) = let x = sym (ap (λ (i : Item). i.inlet.part) e) ∙ g in absurd (cc)
+  not_near inputs i (AtEntry e) (NFanned a g) = let x = sym (ap (λ (i : Item). i.inlet.part) e) ∙ g in absurd (cc)
+  not_near inputs i (AtEntry e) (NLinker a g) = let x = sym (ap (λ (i : Item). i.inlet.part) e) ∙ g in absurd (cc)
+  not_near inputs i (AtEntry e) (NSender m a g q) = let x = sym (ap (λ (i : Item). i.inlet.part) e) ∙ g in absurd (cc)
+  not_near inputs i (AtEntry e) (NTaker a g) = let x = sym (ap (λ (i : Item). i.inlet.part) e) ∙ g in absurd (cc)
+  not_near inputs i (AtInput m z l e) (NUnder u) = subst (Under c n) (ap (λ (i : Item). i.context) e) u
+  not_near inputs i (AtInput m z l e) (NAsked a g) = let x = sym (ap (λ (i : Item). i.inlet.part) e) ∙ g in absurd (cc)
+  not_near inputs i (AtInput m z l e) (NFanned a g) = let x = sym (ap (λ (i : Item). i.inlet.part) e) ∙ g in absurd (cc)
+  not_near inputs i (AtInput m z l e) (NLinker a g) = let x = sym (ap (λ (i : Item). i.inlet.part) e) ∙ g in absurd (cc)
+  not_near inputs i (AtInput m z l e) (NSender s a g q) = let x = sym (ap (λ (i : Item). i.inlet.part) e) ∙ g in absurd (cc)
+  not_near inputs i (AtInput m z l e) (NTaker a g) = let x = sym (ap (λ (i : Item). i.inlet.part) e) ∙ g in absurd (cc)
 
 -- ALONG A RUN
 module _ (fl : Flow) (p : Plan) (w : Wires) (inputs : List ℤ) (q : Past) (m : Machine) (good : IsGood fl p w) (k : Keeps fl p w inputs q m)
@@ -279,6 +206,6 @@ module _ (fl : Flow) (p : Plan) (w : Wires) (inputs : List ℤ) (q : Past) (m : 
   here = net fl p w inputs q m good k
 
   pub framed : (i : Item) → Contains (all_here fl p w inputs q m good k) i → Near c n i → HasFired c (Framer n) here.fired
-  framed =
-      framed_moves fl p w good c n (begin inputs) here k.follows.moves (fired_fit fl p w inputs q m good k)
-      (framed_first fl p w good c n inputs)
+  framed i h near =
+      let o = traced fl w (Near c n) (λ (f : Firing). (f.context ≡ c) × (f.part ≡ Framer n)) (made_near fl p w good c n) inputs here k.follows.moves
+      (fired_fit fl p w inputs q m good k) (not_near fl p w good c n inputs) i h near in (o.0, o.1, o.2.0, o.2.1)

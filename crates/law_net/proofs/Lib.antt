@@ -26,6 +26,7 @@ pub mod WiredFed
 pub mod WiredRounds
 pub mod WiredEntered
 pub mod WiredRivals
+pub mod WiredTraced
 -- Credits
 pub mod CreditsTurns
 pub mod CreditsOpened
