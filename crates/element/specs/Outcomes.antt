@@ -8,7 +8,7 @@ use Rattle.element.specs.declared.firing.two_inputs.Meeting.{Meeting}
 use Rattle.element.specs.declared.firing.two_inputs.Meeting.TheVariants.{Both, Apart}
 use Rattle.element.specs.declared.firing.two_inputs.Meeting.TheVariants as meeting
 use Rattle.element.specs.declared.firing.credits.Credit.{Credit}
-use Rattle.element.specs.declared.firing.credits.Credit.TheVariants.{Kept, Answered, Untold}
+use Rattle.element.specs.declared.firing.credits.Credit.TheVariants.{Kept, Answered, Later}
 
 -- what a token meets, as the outcome of an instruction with two inputs
 abbrev pub MeetingIs : Program → rule.Seat → Instr → rule.Outcome → Meeting → Type 0
@@ -24,4 +24,4 @@ LeftHasRoom m = ⊤
 abbrev pub CreditIs : rule.Outcome → Credit → Type 0
 CreditIs o (Kept v) = o ≡ rule.Becomes v []
 CreditIs o (Answered v t) = o ≡ rule.Becomes v (t ∷ [])
-CreditIs o Untold = ⊤
+CreditIs o Later = ⊤

@@ -20,7 +20,7 @@ mod two_inputs;
 
 use crate::instructions::{Instruction, Instructions};
 pub use continuations::answer;
-pub use credits::{Credit, credit_told};
+pub use credits::{Credit, credit_at_once};
 use credits::{drains, gives, opens, takes};
 pub use leaving::Leaving;
 pub use made::{Made, NONE, SIGNAL, Seat};

@@ -14,7 +14,7 @@ use Rattle.tags.specs.declared.slot.SlotState.{SlotState}
 use Rattle.tags.specs.declared.slot.SlotState.TheVariants as slot
 use Rattle.tags.specs.Addresses.{element_of}
 use Rattle.semantics.specs.declared.report.End.{End}
-use Rattle.semantics.specs.Machine.{Machine, Store, Size, Events, Wants, stuck_rule, at_start}
+use Rattle.semantics.specs.Machine.{Machine, Size, Events, Wants, at_start}
 use Rattle.semantics.specs.Program.{Program}
 use Rattle.semantics.specs.Report.{Report, IsPicture, Shows, HasEnd, HasTokenFor, sum_below, waiters}
 use Rattle.semantics.specs.Faithful.{HasStoreOfFull}

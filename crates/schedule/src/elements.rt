@@ -87,6 +87,23 @@ impl<'m, C: MainCode, A: Allocator> Elements<'m, C, A> {
         Some(Stepped::Memory)
     }
 
+    // Lets the tokens that are on their way come, makes room to note an event, and answers whether there was memory for both.
+    #[inline(always)]
+    fn is_ready<L: Log>(&mut self, log: &mut EventLog<A, L>) -> bool
+        requires { IsWell C.program C.width self.old }
+        ensures well { IsWell C.program C.width self.new }
+        ensures same { state_of C.program C.width self.new ≡ state_of C.program C.width self.old }
+        ensures events { log.new.events.items ≡ log.old.events.items }
+        ensures sent { result ≡ true → self.new.sent.items ≡ [] }
+        ensures come { result ≡ true → self.new.come ≡ 0 }
+        ensures room { result ≡ true → L.LISTS ≡ true → vec_len log.new.events < vec_capacity log.new.events }
+    {
+        if self.settle().is_err() {
+            return false;
+        }
+        log.make_room().is_ok()
+    }
+
     // A step with no token on its way, where there is room to note an event.
     #[inline(always)]
     fn step_lane<L: Log, Site>(
@@ -130,7 +147,7 @@ impl<'m, C: MainCode, A: Allocator> Elements<'m, C, A> {
         ensures well { IsWell C.program C.width self.new }
         ensures exact { (events : Events) × Steps (state_of C.program C.width self.old) element pick result (state_of C.program C.width self.new) events × (log.new.events.items ≡ logged L.LISTS log.old.events.items events) }
     {
-        if self.settle().is_err() || log.make_room().is_err() {
+        if !self.is_ready(log) {
             return self.refused(element);
         }
         self.step_lane::<L, Site>(element, pick, log)
@@ -151,7 +168,7 @@ impl<'m, C: MainCode, A: Allocator> Elements<'m, C, A> {
     }
 
     // Makes one step of a run, and answers whether the run halts there. A run over a list passes over an element that has
-    // made all its events.
+    // made all its events. Each answer of the step goes its own way, so that after an event nothing is asked.
     #[inline(always)]
     fn advance<L: Log, Site>(
         &mut self,
@@ -167,9 +184,14 @@ impl<'m, C: MainCode, A: Allocator> Elements<'m, C, A> {
         ensures well { IsWell C.program C.width self.new }
         ensures exact { (events : Events) × Advances listed (state_of C.program C.width self.old) element pick (state_of C.program C.width self.new) events result × (log.new.events.items ≡ logged L.LISTS log.old.events.items events) }
     {
-        match self.step::<L, Site>(element, pick, log) {
+        if !self.is_ready(log) {
+            let refused = self.refused(element);
+            return self.halts(listed, refused);
+        }
+        match self.step_lane::<L, Site>(element, pick, log) {
+            None => self.halts(listed, None),
             Some(Stepped::Did) => None,
-            other => self.halts(listed, other),
+            Some(other) => self.halts(listed, Some(other)),
         }
     }
 
@@ -222,7 +244,8 @@ impl<'m, C: MainCode, A: Allocator> Elements<'m, C, A> {
         }
     }
 
-    // The same as `play_in_turn`, of one element, which is always in turn.
+    // The same as `play_in_turn`, of one element, which is always in turn. After as many steps as there may be events it goes on
+    // as with any number of elements. That steps are counted lets each way through an event lead straight on to the next one.
     #[inline(never)]
     fn play_alone<L: Log>(&mut self, log: &mut EventLog<A, L>) -> Halt
     where
@@ -232,10 +255,31 @@ impl<'m, C: MainCode, A: Allocator> Elements<'m, C, A> {
         ensures well { IsWell C.program C.width self.new }
         ensures exact { (rounds : ℕ) × (events : Events) × Plays false (rounds_of rounds self.old.shape.elements) (state_of C.program C.width self.old) (state_of C.program C.width self.new) result events × (log.new.events.items ≡ logged L.LISTS log.old.events.items events) }
     {
-        'events: loop {
+        let mut left = self.shape.steps;
+        'events: while left != 0 {
             match self.advance::<L, Alone<L>>(false, 0, 0, log) {
                 None => {}
                 Some(halt) => return halt,
+            }
+            left -= 1;
+        }
+        self.play_passes(log)
+    }
+
+    // The same as `play_in_turn`, of any number of elements.
+    fn play_passes<L: Log>(&mut self, log: &mut EventLog<A, L>) -> Halt
+    where
+        A: Clone,
+        requires { IsWell C.program C.width self.old }
+        ensures well { IsWell C.program C.width self.new }
+        ensures exact { (rounds : ℕ) × (events : Events) × Plays false (rounds_of rounds self.old.shape.elements) (state_of C.program C.width self.old) (state_of C.program C.width self.new) result events × (log.new.events.items ≡ logged L.LISTS log.old.events.items events) }
+    {
+        'passes: loop {
+            for element in 0..self.shape.elements {
+                match self.advance::<L, ()>(false, element, 0, log) {
+                    None => {}
+                    Some(halt) => return halt,
+                }
             }
         }
     }
@@ -250,15 +294,9 @@ impl<'m, C: MainCode, A: Allocator> Elements<'m, C, A> {
         ensures exact { (rounds : ℕ) × (events : Events) × Plays false (rounds_of rounds self.old.shape.elements) (state_of C.program C.width self.old) (state_of C.program C.width self.new) result events × (log.new.events.items ≡ logged L.LISTS log.old.events.items events) }
     {
         if self.shape.elements == 1 {
-            return self.play_alone(log);
-        }
-        'passes: loop {
-            for element in 0..self.shape.elements {
-                match self.advance::<L, ()>(false, element, 0, log) {
-                    None => {}
-                    Some(halt) => return halt,
-                }
-            }
+            self.play_alone(log)
+        } else {
+            self.play_passes(log)
         }
     }
 

@@ -9,8 +9,9 @@ abbrev pub IsPower : ℕ → Type 0
 IsPower n = (k : ℕ) × (n ≡ 2 ^ k)
 
 -- `places` places, of which `count` from `head` on have a token
-pub record IsRing (places head count : ℕ) : Type 0 where
+pub record IsRing (places mask head count : ℕ) : Type 0 where
   pub power : (places ≡ 0) ⊎ IsPower places
   pub few : places ≤ 2 ^ 63
+  pub masked : mask ≡ places - 1
   pub starts : head ≤ places - 1
   pub fits : count ≤ places

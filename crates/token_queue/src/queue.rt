@@ -1,6 +1,6 @@
 //! Packed tokens in a ring of places.
 
-ghost use Rattle.std.specs.Prelude.{◌≡◌, ◌+◌, ◌*◌, ◌%◌, ◌^◌, ◌<◌, ◌≤◌, ◌⊎◌, true, false, [], ◌∷◌, ◌++◌, length, OnOk, OnErr, slice_index_or, remove};
+ghost use Rattle.std.specs.Prelude.{◌≡◌, ◌+◌, ◌-◌, ◌*◌, ◌%◌, ◌^◌, ◌<◌, ◌≤◌, ◌⊎◌, true, false, [], ◌∷◌, ◌++◌, length, OnOk, OnErr, slice_index_or, remove};
 ghost use Rattle.token_queue.specs.Ring.{IsPower};
 
 use packed::token::PackedToken;
@@ -23,6 +23,8 @@ const FEWEST: usize = 4;
 #[derive(Drop)]
 pub struct TokenQueue<A: Allocator> {
     places: Vec<PackedToken, A>,
+    /// One less than the number of places; 0 where there are none.
+    mask: usize,
     head: usize,
     count: usize,
 }
@@ -36,20 +38,21 @@ impl<A: Allocator> Model for TokenQueue<A> {
 
     ghost view = { λ q. record { items = ring q.head q.count q.places.items; room = length q.places.items } };
 
-    ghost invariant = { λ q. IsRing (length q.places.items) q.head q.count };
+    ghost invariant = { λ q. IsRing (length q.places.items) q.mask q.head q.count };
 }
 
 /// The place of the token of this number, the oldest being 0.
 #[inline(always)]
-fn place(places: usize, head: usize, at: usize) -> usize
-    requires power { IsPower places }
-    requires few { places ≤ 2 ^ 63 }
-    requires head { head < places }
-    requires at { at ≤ places }
-    ensures exact { result ≡ (head + at) % places }
-    ensures within { result < places }
+fn place(_places: usize, mask: usize, head: usize, at: usize) -> usize
+    requires power { IsPower _places }
+    requires few { _places ≤ 2 ^ 63 }
+    requires mask { mask ≡ _places - 1 }
+    requires head { head < _places }
+    requires at { at ≤ _places }
+    ensures exact { result ≡ (head + at) % _places }
+    ensures within { result < _places }
 {
-    (head + at) & (places - 1)
+    (head + at) & mask
 }
 
 impl<A: Allocator> TokenQueue<A> {
@@ -60,6 +63,7 @@ impl<A: Allocator> TokenQueue<A> {
     {
         TokenQueue {
             places: Vec::new(alloc),
+            mask: 0,
             head: 0,
             count: 0,
         }
@@ -115,7 +119,9 @@ impl<A: Allocator> TokenQueue<A> {
             .ok_or(AllocError)?;
         self.places.rotate_left(self.head);
         self.head = 0;
-        self.places.resize(places, PackedToken::pack(FILLER))
+        self.places.resize(places, PackedToken::pack(FILLER))?;
+        self.mask = places - 1;
+        Ok(())
     }
 
     /// Puts a token last, where there is room.
@@ -137,7 +143,7 @@ impl<A: Allocator> TokenQueue<A> {
         ensures len { length self.new.items ≡ length self.old.items + 1 }
         ensures room { self.new.room ≡ self.old.room }
     {
-        let at = place(self.places.len(), self.head, self.count);
+        let at = place(self.places.len(), self.mask, self.head, self.count);
         self.places[at] = token;
         self.count += 1;
     }
@@ -157,7 +163,7 @@ impl<A: Allocator> TokenQueue<A> {
         requires { at < length self.now.items }
         ensures { result ≡ slice_index_or self.now.items at result }
     {
-        self.places[place(self.places.len(), self.head, at)]
+        self.places[place(self.places.len(), self.mask, self.head, at)]
     }
 
     /// Takes the oldest token out.
@@ -168,7 +174,7 @@ impl<A: Allocator> TokenQueue<A> {
         ensures len { length self.new.items + 1 ≡ length self.old.items }
         ensures room { self.new.room ≡ self.old.room }
     {
-        self.head = place(self.places.len(), self.head, 1);
+        self.head = place(self.places.len(), self.mask, self.head, 1);
         self.count -= 1;
     }
 
@@ -183,8 +189,8 @@ impl<A: Allocator> TokenQueue<A> {
         let places = self.places.len();
         let last = self.count - 1;
         for before in at..last {
-            let next = self.places[place(places, self.head, before + 1)];
-            self.places[place(places, self.head, before)] = next;
+            let next = self.places[place(places, self.mask, self.head, before + 1)];
+            self.places[place(places, self.mask, self.head, before)] = next;
         }
         self.count = last;
     }

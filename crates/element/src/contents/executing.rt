@@ -1,6 +1,7 @@
 //! What an element does with a token for an instruction.
 
 ghost use Rattle.std.specs.Prelude.{◌≡◌, ◌%◌, ◌<◌, ◌^◌, true, false, List, [], ◌∷◌, length, IfSome, Some};
+ghost use Rattle.tags.specs.declared.token.Port.TheVariants.{Left, Right};
 ghost use Rattle.tags.specs.declared.token.To.{To};
 ghost use Rattle.semantics.specs.declared.program.Op.{Op};
 ghost use Rattle.element.specs.Held.{held_in, part_of, taken, with_part};
@@ -19,7 +20,8 @@ ghost use Rattle.tags.specs.declared.token.Token.{Token};
 use super::Contents;
 use crate::firing::{
     Asks, Credit, Leaving, Meeting, NONE, Operates, Outcome, Pair, Passed, Releases, Returns,
-    SIGNAL, Seat, Sends, Stores, Switches, Syncs, credit_told, fire, frame_request, meet, pass_one,
+    SIGNAL, Seat, Sends, Stores, Switches, Syncs, credit_at_once, fire, frame_request, meet,
+    pass_one,
 };
 use crate::instructions::{Instruction, Instructions};
 use crate::lane::Stepped;
@@ -30,10 +32,15 @@ use semantics::program::Op;
 use std::alloc::Allocator;
 use tags::token::{FrameId, Port, To, Token};
 
+/// The way of a token on the left port.
+pub struct OnLeft;
+
+/// The way of a token on the right port.
+pub struct OnRight;
+
 impl<'m, A: Allocator> Contents<'m, A> {
     // What a token does at once, and whether it does: most that need no more than the words as they lie, a slot and room for a
-    // few tokens here. Else all stands as before. Arms that say the same let each operation go straight on to its end. Each
-    // site of the call has code of its own.
+    // few tokens here. Else all stands as before. Each port has a way of its own, and each site of the call code of its own.
     #[inline(always)]
     pub(super) fn acts_at_once<C: Instructions, Site>(
         &mut self,
@@ -48,44 +55,97 @@ impl<'m, A: Allocator> Contents<'m, A> {
         let Some(input) = token.input() else {
             return false;
         };
-        let Some(instr) = code.instr(input.ip) else {
-            return false;
-        };
         let seat = Seat {
             frame: input.frame,
             ip: input.ip,
         };
+        match input.port {
+            Port::Left => self.acts_left::<C, (Site, OnLeft)>(code, at, token, seat),
+            Port::Right => self.acts_right::<C, (Site, OnRight)>(code, at, token, seat),
+        }
+    }
+
+    // The same on the left port. Arms that say the same let each operation go straight on to its end.
+    #[inline(always)]
+    fn acts_left<C: Instructions, Site>(
+        &mut self,
+        code: &C,
+        at: usize,
+        token: &PackedToken,
+        seat: Seat,
+    ) -> bool
+        requires can { CanAct (C.program code.now) (C.width code.now) (held_in self.old) at token.now }
+        requires address { token.now.to ≡ To.Instr seat.frame seat.ip Left }
+        ensures did { result ≡ true → (before : List Token) → ActsAs (C.program code.now) (held_in self.old) at token.now before Did (held_in self.new) before }
+        ensures not { result ≡ false → held_in self.new ≡ held_in self.old }
+    {
+        let Some(instr) = code.instr(seat.ip) else {
+            return false;
+        };
+        let port = Port::Left;
         match instr.op {
-            Op::Apply2 { .. } => self.at_pair::<C, Operates, Site>(
-                code, at, token, seat, &instr, input.port,
-            ),
-            Op::Sync => self.at_pair::<C, Syncs, Site>(code, at, token, seat, &instr, input.port),
-            Op::Switch => self.at_pair::<C, Switches, Site>(
-                code, at, token, seat, &instr, input.port,
-            ),
-            Op::Send { .. } => self.at_pair::<C, Sends, Site>(
-                code, at, token, seat, &instr, input.port,
-            ),
-            Op::Return { .. } => self.at_pair::<C, Returns, Site>(
-                code, at, token, seat, &instr, input.port,
-            ),
-            Op::Ask { .. } => self.at_pair::<C, Asks, Site>(
-                code, at, token, seat, &instr, input.port,
-            ),
-            Op::Store { .. } => self.at_pair::<C, Stores, Site>(
-                code, at, token, seat, &instr, input.port,
-            ),
-            Op::Release { .. } => self.at_pair::<C, Releases, Site>(
-                code, at, token, seat, &instr, input.port,
-            ),
-            Op::Apply1 { .. } => self.at_lone(code, at, token, seat, &instr, input.port),
-            Op::Apply2Right { .. } => self.at_lone(code, at, token, seat, &instr, input.port),
-            Op::Apply2Left { .. } => self.at_lone(code, at, token, seat, &instr, input.port),
-            Op::Lit { .. } => self.at_lone(code, at, token, seat, &instr, input.port),
-            Op::Copy => self.at_lone(code, at, token, seat, &instr, input.port),
-            Op::Take { .. } => self.at_credit(code, at, token, seat, &instr, input.port),
-            Op::Give { .. } => self.at_credit(code, at, token, seat, &instr, input.port),
-            Op::Frame => self.at_frame(code, at, token, seat, &instr, input.port),
+            Op::Apply2 { .. } => {
+                self.at_pair::<C, Operates, Site>(code, at, token, seat, &instr, port)
+            }
+            Op::Sync => self.at_pair::<C, Syncs, Site>(code, at, token, seat, &instr, port),
+            Op::Switch => self.at_pair::<C, Switches, Site>(code, at, token, seat, &instr, port),
+            Op::Send { .. } => self.at_pair::<C, Sends, Site>(code, at, token, seat, &instr, port),
+            Op::Return { .. } => {
+                self.at_pair::<C, Returns, Site>(code, at, token, seat, &instr, port)
+            }
+            Op::Ask { .. } => self.at_pair::<C, Asks, Site>(code, at, token, seat, &instr, port),
+            Op::Store { .. } => {
+                self.at_pair::<C, Stores, Site>(code, at, token, seat, &instr, port)
+            }
+            Op::Release { .. } => {
+                self.at_pair::<C, Releases, Site>(code, at, token, seat, &instr, port)
+            }
+            Op::Apply1 { .. } => self.at_lone(code, at, token, seat, &instr, port),
+            Op::Apply2Right { .. } => self.at_lone(code, at, token, seat, &instr, port),
+            Op::Apply2Left { .. } => self.at_lone(code, at, token, seat, &instr, port),
+            Op::Lit { .. } => self.at_lone(code, at, token, seat, &instr, port),
+            Op::Copy => self.at_lone(code, at, token, seat, &instr, port),
+            Op::Take { .. } => self.at_credit(code, at, token, seat, &instr, port),
+            Op::Give { .. } => self.at_credit(code, at, token, seat, &instr, port),
+            Op::Frame => self.at_frame(code, at, token, seat, &instr, port),
+            _ => false,
+        }
+    }
+
+    // The same on the right port, which only an instruction with two inputs has.
+    fn acts_right<C: Instructions, Site>(
+        &mut self,
+        code: &C,
+        at: usize,
+        token: &PackedToken,
+        seat: Seat,
+    ) -> bool
+        requires can { CanAct (C.program code.now) (C.width code.now) (held_in self.old) at token.now }
+        requires address { token.now.to ≡ To.Instr seat.frame seat.ip Right }
+        ensures did { result ≡ true → (before : List Token) → ActsAs (C.program code.now) (held_in self.old) at token.now before Did (held_in self.new) before }
+        ensures not { result ≡ false → held_in self.new ≡ held_in self.old }
+    {
+        let Some(instr) = code.instr(seat.ip) else {
+            return false;
+        };
+        let port = Port::Right;
+        match instr.op {
+            Op::Apply2 { .. } => {
+                self.at_pair::<C, Operates, Site>(code, at, token, seat, &instr, port)
+            }
+            Op::Sync => self.at_pair::<C, Syncs, Site>(code, at, token, seat, &instr, port),
+            Op::Switch => self.at_pair::<C, Switches, Site>(code, at, token, seat, &instr, port),
+            Op::Send { .. } => self.at_pair::<C, Sends, Site>(code, at, token, seat, &instr, port),
+            Op::Return { .. } => {
+                self.at_pair::<C, Returns, Site>(code, at, token, seat, &instr, port)
+            }
+            Op::Ask { .. } => self.at_pair::<C, Asks, Site>(code, at, token, seat, &instr, port),
+            Op::Store { .. } => {
+                self.at_pair::<C, Stores, Site>(code, at, token, seat, &instr, port)
+            }
+            Op::Release { .. } => {
+                self.at_pair::<C, Releases, Site>(code, at, token, seat, &instr, port)
+            }
             _ => false,
         }
     }
@@ -172,8 +232,8 @@ impl<'m, A: Allocator> Contents<'m, A> {
     {
         let place = self.place_of_slot(seat.frame, instr.slot);
         let held = self.slot_at(place);
-        match credit_told(instr, &held, &token.word()) {
-            Credit::Untold => false,
+        match credit_at_once(instr, &held, &token.word()) {
+            Credit::Later => false,
             Credit::Kept { slot } => match port {
                 Port::Right => false,
                 Port::Left => self.wait(at, place, slot),
@@ -242,8 +302,8 @@ impl<'m, A: Allocator> Contents<'m, A> {
         if !self.keeps(&token) || !self.queue.has_room(1) {
             return false;
         }
-        self.put_at(place, held);
         self.take(at);
+        self.put_at(place, held);
         self.send_here(token);
         true
     }
@@ -257,8 +317,8 @@ impl<'m, A: Allocator> Contents<'m, A> {
         ensures held { held_in self.new ≡ taken (with_part (held_in self.old) (with_state (part_of self.old) place held)) at }
         ensures did { result ≡ true }
     {
-        self.put_at(place, held);
         self.take(at);
+        self.put_at(place, held);
         true
     }
 
@@ -311,10 +371,10 @@ impl<'m, A: Allocator> Contents<'m, A> {
         if !self.queue.has_room(2) {
             return false;
         }
+        self.take(at);
         if let Some(place) = cleared {
             self.put_at(place, Slot::empty());
         }
-        self.take(at);
         self.send_near(seat, &passed.word, passed.first);
         self.send_near(seat, &passed.word, passed.second);
         true
@@ -336,8 +396,8 @@ impl<'m, A: Allocator> Contents<'m, A> {
         if !self.keeps(&leaving.token) || !self.queue.has_room(3) {
             return false;
         }
-        self.put_at(place, Slot::empty());
         self.take(at);
+        self.put_at(place, Slot::empty());
         self.send_here(leaving.token);
         let signal = PackedWord::int(0);
         self.send_near(seat, &signal, leaving.first);
@@ -359,8 +419,8 @@ impl<'m, A: Allocator> Contents<'m, A> {
         if self.element != 0 || !self.keeps(&after) || !self.queue.has_room(2) {
             return false;
         }
-        self.put_at(place, Slot::empty());
         self.take(at);
+        self.put_at(place, Slot::empty());
         let to = To::Release { frame };
         self.send_here(PackedToken::pack(Token { to, word: SIGNAL }));
         self.send_here(after);

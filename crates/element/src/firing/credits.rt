@@ -26,8 +26,8 @@ pub enum Credit {
     Kept { slot: Slot },
     /// The slot is this one then, and a token is made.
     Answered { slot: Slot, token: PackedToken },
-    /// It is not told at once.
-    Untold,
+    /// Nothing comes of it at once.
+    Later,
 }
 
 // A slot of this state.
@@ -53,7 +53,7 @@ fn taken(slot: SlotState, word: Word) -> Credit
             slot: holding(SlotState::Credits(credits - 1)),
             token: PackedToken::pack(answer(cont, SIGNAL)),
         },
-        _ => Credit::Untold,
+        _ => Credit::Later,
     }
 }
 
@@ -69,26 +69,26 @@ fn given(slot: SlotState, bound: u8) -> Credit
                     slot: holding(SlotState::Credits(credits + 1)),
                 }
             } else {
-                Credit::Untold
+                Credit::Later
             }
         }
         SlotState::Waiter(cont) => Credit::Answered {
             slot: holding(SlotState::Credits(0)),
             token: PackedToken::pack(answer(cont, SIGNAL)),
         },
-        _ => Credit::Untold,
+        _ => Credit::Later,
     }
 }
 
 /// What comes at once of a left token at an instruction that takes or gives a credit.
 #[inline(always)]
-pub fn credit_told(instr: &Instruction, held: &Slot, word: &PackedWord) -> Credit
+pub fn credit_at_once(instr: &Instruction, held: &Slot, word: &PackedWord) -> Credit
     ensures { (p : Program) (s : Rule.Seat) → CreditIs (Rule.outcome_of p s (instr_of instr.now) instr.now.op held.now Left word.now) result }
 {
     match instr.op {
         Op::Take { .. } => taken(held.state(), word.unpack()),
         Op::Give { bound } => given(held.state(), bound),
-        _ => Credit::Untold,
+        _ => Credit::Later,
     }
 }
 

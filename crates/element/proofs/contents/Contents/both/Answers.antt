@@ -1,4 +1,4 @@
-use Rattle.std.proofs.Common.{sym, subst, Option, Some, List}
+use Rattle.std.proofs.Common.{sym, subst, Option, List}
 use Rattle.tags.specs.declared.token.Token.{Token}
 use Rattle.tags.specs.declared.slot.SlotState.TheVariants.{Empty}
 use Rattle.element.specs.Fired.{seat_of}

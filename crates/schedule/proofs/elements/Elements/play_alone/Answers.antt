@@ -1,9 +1,9 @@
-use Rattle.std.proofs.Common.{◌≡◌, refl, ◌∙◌, sym, ap, subst, false, ℕ, suc, ◌+◌, ◌-◌, ◌<◌, [], ◌++◌, length, inr, arith, append_assoc}
+use Rattle.std.proofs.Common.{◌≡◌, refl, ◌∙◌, sym, ap, subst, false, ℕ, suc, ◌+◌, ◌-◌, ◌<◌, [], ◌++◌, arith, append_assoc}
 use Rattle.semantics.specs.Machine.{Events}
 use Rattle.schedule.specs.Setting.{Setting}
 use Rattle.schedule.specs.State.{state_of}
 use Rattle.schedule.specs.Runs.{Plays, in_turn, rounds_of}
-use Rattle.schedule.proofs.Playing.{Passes, logged_more, logged_none, setting_stays, turn_last, turn_on, turn_done, passes_more, passes_all}
+use Rattle.schedule.proofs.Playing.{logged_more, logged_none, setting_stays, turn_last, turn_on, turn_done}
 use Rattle.schedule.proofs.elements.Elements.play_alone.Goals as goal
 
 pub events-init : goal.events-init
@@ -12,18 +12,6 @@ events-init g c = record {
   elements = refl;
   played = ([], (λ rounds last halt later p. (rounds, p)), logged_none g.L.Log.LISTS c.args.log.now.events.items);
 }
-
-pub events-smaller : goal.events-smaller
-events-smaller g c =
-    let s = state_of g.C.Instructions.program g.C.Instructions.width c.events.self in
-    let next = state_of g.C.Instructions.program g.C.Instructions.width c.advance.new.self in
-    let x = c.in-None.ensures.exact in
-    let stays : next.setting.elements ≡ s.setting.elements = ap (λ (z : Setting). z.elements) (setting_stays s next _ _ x.1.answer x.0 x.1.step) in
-    let count = c.in-None.ensures.well.sound.count in
-    let a = c.events.invariant.elements in
-    let b = c.requires.one in
-    let all : 0 + 1 ≡ length next.lanes = omega arith in
-    passes_all s next (omega arith) (subst (λ (k : ℕ). Passes s k next) all (passes_more s s next 0 x.0 (inr (refl, (λ i h low e. absurd (omega arith)), (λ l. absurd (omega arith)))) x.1))
 
 pub returns-in-Some-clause-exact : goal.returns-in-Some-clause-exact
 returns-in-Some-clause-exact g c =
@@ -61,3 +49,14 @@ events-preserved g c =
         logged_more g.L.Log.LISTS c.args.log.now.events.items c.events.log.events.items c.advance.new.log.events.items played.0 x.0 played.2 x.2,
       );
     }
+
+pub returns-clause-exact : goal.returns-clause-exact
+returns-clause-exact g c =
+    let played = c.events.invariant.played in
+    let n = c.args.self.now.shape.elements in
+    let rest = c.play_passes.ensures.exact in
+    let last = state_of g.C.Instructions.program g.C.Instructions.width c.play_passes.new.self in
+    let s = state_of g.C.Instructions.program g.C.Instructions.width c.events.self in
+    let plays = subst (λ (m : ℕ). Plays false (rounds_of rest.0 m) s last c.play_passes.result rest.1) c.events.invariant.elements rest.2 in
+    let all = played.1 rest.0 last c.play_passes.result rest.1 plays in
+    (all.0, played.0 ++ rest.1, all.1, logged_more g.L.Log.LISTS c.args.log.now.events.items c.events.log.events.items c.play_passes.new.log.events.items played.0 rest.1 played.2 rest.3)

@@ -3,7 +3,7 @@ use Rattle.semantics.specs.Machine.{Events}
 use Rattle.schedule.specs.declared.halt.Halt.{Halt}
 use Rattle.schedule.specs.State.{State, state_of, IsWell}
 use Rattle.schedule.specs.Steps.{logged}
-use Rattle.schedule.specs.Runs.{Plays, rounds_of, left_over}
+use Rattle.schedule.specs.Runs.{Plays, rounds_of}
 use Rattle.schedule.proofs.elements.Elements.play_alone.Given as goal
 
 abbrev pub invariant-events : goal.invariant-events
@@ -17,4 +17,4 @@ invariant-events g l = record {
 }
 
 abbrev pub decreases-events : goal.decreases-events
-decreases-events g l = left_over (state_of g.C.Instructions.program g.C.Instructions.width l.self)
+decreases-events g l = l.left

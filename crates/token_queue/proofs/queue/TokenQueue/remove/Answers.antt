@@ -17,6 +17,7 @@ loop-before-preserved g c =
     let within = c.loop-before-test.true in
     record {
       places = length-set ys c.place-in-loop-before.result c.index-next.result.now ∙ inv.places;
+      mask = inv.mask;
       head = inv.head;
       count = inv.count;
       items =

@@ -6,6 +6,7 @@ use Rattle.token_queue.proofs.queue.TokenQueue.remove.Given as goal
 abbrev pub invariant-loop-before : goal.invariant-loop-before
 invariant-loop-before g l = record {
   places : length l.self-inside.places.items ≡ length l.initial.self-inside.places.items;
+  mask : l.self-inside.mask ≡ l.initial.self-inside.mask;
   head : l.self-inside.head ≡ l.initial.self-inside.head;
   count : l.self-inside.count ≡ l.initial.self-inside.count;
   items : ring l.self-inside.head l.self-inside.count l.self-inside.places.items ≡ closing l.fn.self.items l.at l.before;

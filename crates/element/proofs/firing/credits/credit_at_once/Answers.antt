@@ -5,7 +5,7 @@ use Rattle.semantics.specs.declared.program.Op.{Op}
 use Rattle.semantics.specs.Rule.{gives, outcome_of}
 use Rattle.element.specs.Decoded.{instr_of}
 use Rattle.element.specs.Outcomes.{CreditIs}
-use Rattle.element.proofs.firing.credits.credit_told.Goals as goal
+use Rattle.element.proofs.firing.credits.credit_at_once.Goals as goal
 
 pub returns-in-Give : goal.returns-in-Give
 returns-in-Give c = λ p s.

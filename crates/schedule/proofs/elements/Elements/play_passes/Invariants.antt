@@ -5,7 +5,7 @@ use Rattle.schedule.specs.State.{State, state_of, IsWell}
 use Rattle.schedule.specs.Steps.{logged}
 use Rattle.schedule.specs.Runs.{Plays, in_turn, rounds_of, left_over}
 use Rattle.schedule.proofs.Playing.{Passes}
-use Rattle.schedule.proofs.elements.Elements.play_in_turn.Given as goal
+use Rattle.schedule.proofs.elements.Elements.play_passes.Given as goal
 
 abbrev pub invariant-passes : goal.invariant-passes
 invariant-passes g l = record {

@@ -4,7 +4,7 @@ use Rattle.schedule.specs.Setting.{Setting}
 use Rattle.schedule.specs.State.{state_of}
 use Rattle.schedule.specs.Runs.{Plays, in_turn, rounds_of}
 use Rattle.schedule.proofs.Playing.{Passes, logged_more, logged_none, setting_stays, turn_last, turn_on, turn_done, passes_more, passes_all}
-use Rattle.schedule.proofs.elements.Elements.play_in_turn.Goals as goal
+use Rattle.schedule.proofs.elements.Elements.play_passes.Goals as goal
 
 pub passes-init : goal.passes-init
 passes-init g c = record {
