@@ -3,9 +3,10 @@
 use source::token::{Keyword, Sign, Token, TokenKind};
 use std::alloc::{AllocError, Allocator};
 
-/// Whose block stands between braces.
+/// What is open, from its first token on.
 #[derive(Clone, Copy)]
-pub enum Owner {
+pub enum Part {
+    /// The body of a function.
     Function,
     /// The arm of an `if` before its `else`.
     Then,
@@ -14,12 +15,6 @@ pub enum Owner {
     Turn,
     /// The turn of a loop that tests behind its body.
     FirstTurn,
-}
-
-/// What is open, from its first token on.
-#[derive(Clone, Copy)]
-pub enum Part {
-    Block(Owner),
     /// The values of a `let`, up to its `;`.
     Let,
     Group,
@@ -42,39 +37,32 @@ pub struct Opened {
     pub at: usize,
 }
 
+/// What has a form of its own, of which each token but the last leaves it open how it goes on.
+#[derive(Clone, Copy)]
+pub enum Form {
+    Item,
+    Array,
+    /// The head of a function, up to the brace behind it.
+    Function,
+    /// The names of a `let`, up to its `=`.
+    Let,
+    /// The head of a loop, up to a first value or to the brace or the `while` behind it.
+    Loop,
+    /// What follows the body of a loop that tests behind it, up to the bracket of its test.
+    LastTest,
+    /// What follows the first arm of an `if`, up to the brace of the other one, or another `if`.
+    Else,
+    StrictCall,
+}
+
 /// What comes next.
 #[derive(Clone, Copy)]
 pub enum Next {
-    Item,
-    ArrayName,
-    ArrayOpen,
-    ArrayLength,
-    ArrayClose,
-    ArrayEnd,
-    FunctionName,
-    ParametersOpen,
-    Parameter,
-    AfterParameter,
-    AfterParameters,
-    ResultCount,
-    FunctionBody,
+    Form(Form),
     /// A `let`, or an expression.
     Step,
-    Target,
-    AfterTarget,
     Expression,
     AfterOperand,
-    Callee,
-    CalleeOpen,
-    Bound,
-    NamesOpen,
-    LoopName,
-    LoopEquals,
-    AfterNames,
-    While,
-    LastTestOpen,
-    Else,
-    Otherwise,
 }
 
 /// How far the tokens have come.
@@ -84,62 +72,25 @@ pub struct Going<A: Allocator> {
     open: Vec<Opened, A>,
 }
 
-fn after_number(next: Next) -> Next {
-    match next {
-        Next::ArrayLength => Next::ArrayClose,
-        Next::ResultCount => Next::FunctionBody,
-        Next::Bound => Next::NamesOpen,
-        _ => Next::AfterOperand,
+impl Part {
+    /// Whether it is a block.
+    pub fn is_block(self) -> bool {
+        matches!(
+            self,
+            Part::Function | Part::Then | Part::Else | Part::Turn | Part::FirstTurn
+        )
     }
-}
 
-fn after_name(next: Next) -> Next {
-    match next {
-        Next::ArrayName => Next::ArrayOpen,
-        Next::FunctionName => Next::ParametersOpen,
-        Next::Parameter => Next::AfterParameter,
-        Next::Target => Next::AfterTarget,
-        Next::Callee => Next::CalleeOpen,
-        Next::LoopName => Next::LoopEquals,
-        _ => Next::AfterOperand,
-    }
-}
-
-/// What comes behind the brace that closes this.
-fn after_block(closed: Option<Opened>) -> Next {
-    match closed {
-        Some(
-            Opened {
-                part: Part::Block(Owner::Function),
-                ..
-            },
-        ) => Next::Item,
-        Some(
-            Opened {
-                part: Part::Block(Owner::Then),
-                ..
-            },
-        ) => Next::Else,
-        Some(
-            Opened {
-                part: Part::Block(Owner::FirstTurn),
-                ..
-            },
-        ) => Next::While,
-        _ => Next::AfterOperand,
-    }
-}
-
-/// What comes behind the bracket that closes this.
-fn after_bracket(closed: Option<Opened>) -> Next {
-    match closed {
-        Some(
-            Opened {
-                part: Part::FirstValue,
-                ..
-            },
-        ) => Next::AfterNames,
-        _ => Next::AfterOperand,
+    /// What comes behind it.
+    fn after(self) -> Next {
+        match self {
+            Part::Function => Next::Form(Form::Item),
+            Part::Then => Next::Form(Form::Else),
+            Part::FirstTurn => Next::Form(Form::LastTest),
+            Part::FirstValue => Next::Form(Form::Loop),
+            Part::Let => Next::Step,
+            _ => Next::AfterOperand,
+        }
     }
 }
 
@@ -147,7 +98,7 @@ impl<A: Allocator> Going<A> {
     /// Before the first token.
     pub fn new(alloc: A) -> Going<A> {
         Going {
-            next: Next::Item,
+            next: Next::Form(Form::Item),
             open: Vec::new(alloc),
         }
     }
@@ -157,149 +108,94 @@ impl<A: Allocator> Going<A> {
         self.open.last().copied()
     }
 
-    fn push(&mut self, part: Part, at: usize, next: Next) -> Result<(), AllocError> {
-        self.next = next;
+    fn push(&mut self, part: Part, at: usize) -> Result<(), AllocError> {
+        self.next = if part.is_block() {
+            Next::Step
+        } else {
+            Next::Expression
+        };
         Ok(self.open.push(Opened { part, at })?)
+    }
+
+    /// Closes what was opened last.
+    fn pop(&mut self) {
+        self.next = match self.open.pop() {
+            Some(closed) => closed.part.after(),
+            None => Next::AfterOperand,
+        };
     }
 
     /// Goes on by a token.
     pub fn take(&mut self, token: Token) -> Result<(), AllocError> {
-        match token.kind {
-            TokenKind::Number { .. } => self.next = after_number(self.next),
-            TokenKind::Name { .. } => self.next = after_name(self.next),
-            TokenKind::Word { keyword } => return self.take_word(keyword, token.at),
-            TokenKind::Mark { sign } => return self.take_sign(sign, token.at),
+        match (self.next, token.kind) {
+            (_, TokenKind::Word { keyword }) => self.take_word(keyword, token.at),
+            (Next::Form(form), TokenKind::Mark { sign }) => self.take_in(form, sign, token.at),
+            (_, TokenKind::Mark { sign }) => self.take_sign(sign, token.at),
+            (Next::Form(_), _) => Ok(()),
+            _ => {
+                self.next = Next::AfterOperand;
+                Ok(())
+            }
         }
-        Ok(())
     }
 
     fn take_word(&mut self, keyword: Keyword, at: usize) -> Result<(), AllocError> {
-        match keyword {
-            Keyword::Array => self.next = Next::ArrayName,
-            Keyword::Fn => self.next = Next::FunctionName,
-            Keyword::Let => self.next = Next::Target,
-            Keyword::Strict => self.next = Next::Callee,
-            Keyword::Loop => self.next = Next::Bound,
-            Keyword::Else => self.next = Next::Otherwise,
-            Keyword::If => return self.push(Part::Test, at, Next::Expression),
-            Keyword::While if matches!(self.next, Next::While) => self.next = Next::LastTestOpen,
-            Keyword::While => return self.push(Part::WhileTest, at, Next::Expression),
-            Keyword::Inputs => (),
-        }
+        let form = match (keyword, self.next) {
+            (Keyword::Array, _) => Form::Array,
+            (Keyword::Fn, _) => Form::Function,
+            (Keyword::Let, _) => Form::Let,
+            (Keyword::Strict, _) => Form::StrictCall,
+            (Keyword::Loop, _) => Form::Loop,
+            (Keyword::Else, _) => Form::Else,
+            (Keyword::If, _) => return self.push(Part::Test, at),
+            (Keyword::While, Next::Form(Form::LastTest)) => Form::LastTest,
+            (Keyword::While, _) => return self.push(Part::WhileTest, at),
+            (Keyword::Inputs, _) => return Ok(()),
+        };
+        self.next = Next::Form(form);
         Ok(())
     }
 
-    fn take_sign(&mut self, sign: Sign, at: usize) -> Result<(), AllocError> {
-        match sign {
-            Sign::OpenParen => return self.open_bracket(at),
-            Sign::CloseParen => self.close_bracket(),
-            Sign::OpenBracket => return self.open_index(at),
-            Sign::CloseBracket => self.close_index(),
-            Sign::OpenBrace => return self.open_block(at),
-            Sign::CloseBrace => self.next = after_block(self.open.pop()),
-            Sign::Comma => self.part(),
-            Sign::Semicolon => self.end_step(),
-            Sign::Equals if matches!(self.next, Next::LoopEquals) => {
-                return self.push(Part::FirstValue, at, Next::Expression);
+    /// Goes on by a sign in this form.
+    fn take_in(&mut self, form: Form, sign: Sign, at: usize) -> Result<(), AllocError> {
+        let part = match (form, sign) {
+            (Form::Function, Sign::OpenBrace) => Part::Function,
+            (Form::Let, Sign::Equals) => Part::Let,
+            (Form::Loop, Sign::Equals) => Part::FirstValue,
+            (Form::Loop, Sign::OpenBrace) => Part::FirstTurn,
+            (Form::LastTest, Sign::OpenParen) => Part::LastTest,
+            (Form::Else, Sign::OpenBrace) => Part::Else,
+            (Form::StrictCall, Sign::OpenParen) => Part::Arguments,
+            (Form::Array, Sign::Semicolon) => {
+                self.next = Next::Form(Form::Item);
+                return Ok(());
             }
-            Sign::Equals => return self.push(Part::Let, at, Next::Expression),
-            Sign::Underscore => self.next = Next::AfterTarget,
-            Sign::Arrow => self.next = Next::ResultCount,
+            _ => return Ok(()),
+        };
+        self.push(part, at)
+    }
+
+    /// Goes on by a sign outside forms.
+    fn take_sign(&mut self, sign: Sign, at: usize) -> Result<(), AllocError> {
+        let innermost = self.innermost().map(|opened| opened.part);
+        match (sign, self.next, innermost) {
+            (Sign::OpenParen, Next::AfterOperand, _) => return self.push(Part::Arguments, at),
+            (Sign::OpenParen, _, _) => return self.push(Part::Group, at),
+            (Sign::OpenBracket, _, _) => return self.push(Part::Index, at),
+            (Sign::OpenBrace, _, Some(Part::WhileTest)) => {
+                self.pop();
+                return self.push(Part::Turn, at);
+            }
+            (Sign::OpenBrace, _, _) => {
+                self.pop();
+                return self.push(Part::Then, at);
+            }
+            (Sign::CloseParen | Sign::CloseBracket | Sign::CloseBrace, _, _)
+            | (Sign::Comma, _, Some(Part::FirstValue))
+            | (Sign::Semicolon, _, Some(Part::Let)) => self.pop(),
+            (Sign::Semicolon, _, _) => self.next = Next::Step,
             _ => self.next = Next::Expression,
         }
         Ok(())
-    }
-
-    fn open_bracket(&mut self, at: usize) -> Result<(), AllocError> {
-        match self.next {
-            Next::ParametersOpen => self.next = Next::Parameter,
-            Next::NamesOpen => self.next = Next::LoopName,
-            Next::LastTestOpen => return self.push(Part::LastTest, at, Next::Expression),
-            Next::CalleeOpen | Next::AfterOperand => {
-                return self.push(Part::Arguments, at, Next::Expression);
-            }
-            _ => return self.push(Part::Group, at, Next::Expression),
-        }
-        Ok(())
-    }
-
-    fn close_bracket(&mut self) {
-        self.next = match self.next {
-            Next::AfterParameter => Next::AfterParameters,
-            _ => after_bracket(self.open.pop()),
-        };
-    }
-
-    fn open_index(&mut self, at: usize) -> Result<(), AllocError> {
-        if matches!(self.next, Next::ArrayOpen) {
-            self.next = Next::ArrayLength;
-            return Ok(());
-        }
-        self.push(Part::Index, at, Next::Expression)
-    }
-
-    fn close_index(&mut self) {
-        if matches!(self.next, Next::ArrayClose) {
-            self.next = Next::ArrayEnd;
-        } else {
-            self.open.pop();
-            self.next = Next::AfterOperand;
-        }
-    }
-
-    fn open_block(&mut self, at: usize) -> Result<(), AllocError> {
-        let owner = match self.next {
-            Next::AfterNames => Owner::FirstTurn,
-            Next::Otherwise => Owner::Else,
-            Next::AfterOperand => match self.open.pop() {
-                Some(
-                    Opened {
-                        part: Part::WhileTest,
-                        ..
-                    },
-                ) => Owner::Turn,
-                _ => Owner::Then,
-            },
-            _ => Owner::Function,
-        };
-        self.push(Part::Block(owner), at, Next::Step)
-    }
-
-    /// Behind a comma.
-    fn part(&mut self) {
-        self.next = match self.next {
-            Next::AfterParameter => Next::Parameter,
-            Next::AfterTarget => Next::Target,
-            _ => match self.innermost() {
-                Some(
-                    Opened {
-                        part: Part::FirstValue,
-                        ..
-                    },
-                ) => {
-                    self.open.pop();
-                    Next::LoopName
-                }
-                _ => Next::Expression,
-            },
-        };
-    }
-
-    /// Behind a semicolon.
-    fn end_step(&mut self) {
-        if matches!(self.next, Next::ArrayEnd) {
-            self.next = Next::Item;
-            return;
-        }
-        if let Some(
-            Opened {
-                part: Part::Let,
-                ..
-            },
-        ) = self.innermost()
-        {
-            self.open.pop();
-        }
-        self.next = Next::Step;
     }
 }

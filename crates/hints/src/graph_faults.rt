@@ -1,193 +1,153 @@
 //! What is wrong with a graph that is not well formed, or that has no code.
 
-use crate::cause::{CallCause, Cause, GraphCause, NodeCause, RegionCause};
-use crate::found::Found;
 use crate::graphs::{
-    block_line, block_named, coded_block, is_earlier_cond, node_at, node_count, ports_of,
-    region_of, wanted_region,
+    block_line, block_named, coded_block, is_earlier_cond, node_at, ports_of, region_of,
+    wanted_region,
 };
 use crate::lines::line_at;
-use crate::place::Place;
-use crate::shown::{Lying, Many, Shown, Spelled};
+use crate::message::Piece::{Bytes, Count, Lies, Names, Number};
+use crate::message::{Message, four, one, say, three, two};
+use crate::place::{Found, at, at_line};
 use graph::{Block, Graph, Name, Node};
-use graph_check::CheckFaultKind;
+use graph_check::{CheckFault, CheckFaultKind};
 use graph_file::read;
 use semantics::graph::{Kind, Region, Source};
 use std::alloc::Allocator;
-
-fn shown<'a>(name: &Name<'a>) -> Shown<'a> {
-    Shown { bytes: name.bytes }
-}
-
-fn many(count: u64, noun: &'static str) -> Many {
-    Many { count, noun }
-}
 
 /// The cause for node `number`, whose region is bad, or which may not lie in its region.
 fn region_cause<'a, A: Allocator>(
     block: &Block<'a, A>,
     number: u64,
     node: &Node<'a, A>,
-) -> Option<RegionCause> {
-    match (node.region, &node.kind) {
-        (Region::Arm { cond, .. }, _) if !is_earlier_cond(block, number, cond) => {
-            Some(RegionCause::NoCond { node: cond })
+) -> Option<Message<'a>> {
+    let cond = match (node.region, &node.kind) {
+        (Region::Arm { cond, .. }, _) if !is_earlier_cond(block, number, cond) => cond,
+        (_, Kind::Enter) => {
+            return Some(say("`enter` stands in an arm, `K+` or `K-`, and not in the root"));
         }
-        (_, Kind::Enter) => Some(RegionCause::EnterInRoot),
-        (region, Kind::Merge { cond }) => {
-            let cond = *cond;
-            if is_earlier_cond(block, number, cond) {
-                Some(RegionCause::MergeElsewhere {
-                    node: cond,
-                    lies: Lying {
-                        region: region_of(block, cond),
-                    },
-                    here: Lying { region },
-                })
-            } else {
-                Some(RegionCause::NoCond { node: cond })
-            }
+        (_, Kind::Merge { cond }) => *cond,
+        _ => return None,
+    };
+    let of_cond = Number(u64::from(cond));
+    if !is_earlier_cond(block, number, cond) {
+        let text = "node {} is no `cond` before this line, so it has no arms";
+        return Some(one(text, of_cond));
+    }
+    let text = "a merge lies where its `cond` lies: node {} lies in {}, this line in {}";
+    let lies = Lies(region_of(block, cond));
+    Some(three(text, of_cond, lies, Lies(node.region)))
+}
+
+fn name_cause<'a>(kind: &Kind<Name<'a>>) -> Option<Message<'a>> {
+    match kind {
+        Kind::Fetch { array } | Kind::Store { array } => {
+            Some(one("there is no array {}", Bytes(array.bytes)))
+        }
+        Kind::Call { block } | Kind::StrictCall { block } | Kind::Loop { block, .. } => {
+            Some(one("there is no block {}", Bytes(block.bytes)))
         }
         _ => None,
     }
 }
 
-fn name_cause<'a>(kind: &Kind<Name<'a>>) -> Option<GraphCause<'a>> {
-    match kind {
-        Kind::Fetch { array } | Kind::Store { array } => {
-            Some(GraphCause::NoArray { name: shown(array) })
-        }
-        Kind::Call { block } | Kind::StrictCall { block } | Kind::Loop { block, .. } => {
-            Some(GraphCause::NoBlock { name: shown(block) })
-        }
-        _ => None,
-    }
+/// The cause for a line that has this number of sources, where the block has this number of inputs or outputs.
+fn sources_cause<'a>(name: &Name<'a>, wants: u32, noun: &'static str, has: usize) -> Message<'a> {
+    three(
+        "block {} has {}, this line has {}",
+        Bytes(name.bytes),
+        Count(u64::from(wants), noun),
+        Count(has as u64, "source"),
+    )
 }
 
 /// The cause for a node with a wrong number of sources, or with a looped block whose inputs and outputs do not fit.
-fn arity_cause<'a, A: Allocator>(
-    graph: &Graph<'a, A>,
-    node: &Node<'a, A>,
-) -> Option<CallCause<'a>> {
+fn arity_cause<'a, A: Allocator>(graph: &Graph<'a, A>, node: &Node<'a, A>) -> Option<Message<'a>> {
     let (Kind::Call { block } | Kind::StrictCall { block } | Kind::Loop { block, .. }) = &node.kind
     else {
         return None;
     };
     let named = block_named(graph, block)?;
-    let name = shown(block);
-    let has = node.sources.len() as u64;
-    if has == u64::from(named.inputs) {
-        Some(CallCause::LoopShape {
-            name,
-            inputs: many(has, "input"),
-            outputs: many(u64::from(named.outputs), "output"),
-        })
-    } else {
-        Some(CallCause::BlockSources {
-            name,
-            wants: many(u64::from(named.inputs), "input"),
-            has: many(has, "source"),
-        })
+    let has = node.sources.len();
+    if has as u64 != u64::from(named.inputs) {
+        return Some(sources_cause(block, named.inputs, "input", has));
     }
+    let text = "a block that is looped has one output more than inputs: {} has {} and {}";
+    Some(three(
+        text,
+        Bytes(block.bytes),
+        Count(has as u64, "input"),
+        Count(u64::from(named.outputs), "output"),
+    ))
 }
 
-/// The first source whose node is not earlier than node `number`.
-fn late_source<'a>(sources: &[Source], number: u64) -> Option<NodeCause<'a>> {
+/// The first source whose node is not before node `number`.
+fn late_source(sources: &[Source], number: u64) -> Option<Source> {
     for source in sources {
         if u64::from(source.node) >= number {
-            return Some(NodeCause::NotEarlier {
-                source: Spelled { source: *source },
-                node: number,
-            });
+            return Some(*source);
         }
     }
     None
 }
 
-/// The first result whose node is none of the block's.
-fn nodeless_result<'a, A: Allocator>(block: &Block<'a, A>) -> Option<NodeCause<'a>> {
-    let count = node_count(block);
-    for source in &block.results {
-        if u64::from(source.node) >= count {
-            return Some(NodeCause::NoNode {
-                source: Spelled { source: *source },
-                block: shown(&block.name),
-                nodes: many(count, "node"),
-            });
-        }
-    }
-    None
-}
-
-/// The first source whose node does not have the port that it names.
-fn portless_source<'a, A: Allocator>(
+/// The cause for the first source whose node does not have the port that it names.
+fn port_cause<'a, A: Allocator>(
     graph: &Graph<'a, A>,
     block: &Block<'a, A>,
     sources: &[Source],
-) -> Option<NodeCause<'a>> {
+) -> Option<Message<'a>> {
     for source in sources {
         let ports = ports_of(graph, block, *source);
         if u64::from(source.port) >= ports {
-            return Some(NodeCause::NoSuchPort {
-                port: source.port,
-                node: source.node,
-                ports: many(ports, "output port"),
-            });
+            return Some(three(
+                "a port {} of node {}, which has {}",
+                Number(u64::from(source.port)),
+                Number(u64::from(source.node)),
+                Count(ports, "output port"),
+            ));
         }
     }
     None
 }
 
-/// The first source of the node that lies in another region than it has to.
-fn crossing_source<'a, A: Allocator>(
+/// The cause for the first source of the node that lies in another region than it has to.
+fn crossing_cause<'a, A: Allocator>(
     block: &Block<'a, A>,
     node: &Node<'a, A>,
-) -> Option<NodeCause<'a>> {
+) -> Option<Message<'a>> {
     for (place, source) in node.sources.iter().enumerate() {
         let wanted = wanted_region(block, node, place);
         let lies = region_of(block, source.node);
         if lies != wanted {
-            return Some(NodeCause::Crosses {
-                source: Spelled { source: *source },
-                lies: Lying { region: lies },
-                wanted: Lying { region: wanted },
-            });
+            let text =
+                "`{}` lies in {}, and a source here lies in {}: `enter` leads into an arm, `merge` out of it";
+            return Some(three(text, Names(*source), Lies(lies), Lies(wanted)));
         }
     }
     None
 }
 
-/// The first result whose node lies in an arm.
-fn unrooted_result<'a, A: Allocator>(block: &Block<'a, A>) -> Option<NodeCause<'a>> {
+/// The cause for the first result whose node lies in an arm.
+fn result_cause<'a, A: Allocator>(block: &Block<'a, A>) -> Option<Message<'a>> {
     for source in &block.results {
-        let region = region_of(block, source.node);
-        if region != Region::Root {
-            return Some(NodeCause::OutNotRoot {
-                source: Spelled { source: *source },
-                lies: Lying { region },
-            });
+        let lies = region_of(block, source.node);
+        if lies != Region::Root {
+            let text =
+                "`{}` lies in {}, and a result lies in the root: `merge` leads out of an arm";
+            return Some(two(text, Names(*source), Lies(lies)));
         }
     }
     None
 }
 
-fn bound_cause<'a>(kind: &Kind<Name<'a>>) -> Option<CallCause<'a>> {
-    match kind {
-        Kind::Loop { bound, .. } => Some(CallCause::Bound { bound: *bound }),
-        _ => None,
-    }
-}
-
-fn of_call<'a>(cause: Option<CallCause<'a>>) -> Option<Cause<'a>> {
-    Some(Cause::Graph(GraphCause::Call(cause?)))
-}
-
-fn of_region<'a>(cause: Option<RegionCause>) -> Option<Cause<'a>> {
-    Some(Cause::Node(NodeCause::Region(cause?)))
-}
-
-fn of_node<'a>(cause: Option<NodeCause<'a>>) -> Option<Cause<'a>> {
-    Some(Cause::Node(cause?))
+fn bound_cause<'a>(kind: &Kind<Name<'a>>) -> Option<Message<'a>> {
+    let Kind::Loop { bound, .. } = kind else {
+        return None;
+    };
+    Some(one(
+        "a loop's bound k is 2 to 64, and not {}",
+        Number(u64::from(*bound)),
+    ))
 }
 
 /// The cause of a fault of kind `kind` at node `number`.
@@ -197,34 +157,47 @@ fn node_cause<'a, A: Allocator>(
     number: u64,
     node: &Node<'a, A>,
     kind: CheckFaultKind,
-) -> Option<Cause<'a>> {
+) -> Option<Message<'a>> {
+    if matches!(kind, CheckFaultKind::SourceNotEarlier) {
+        let source = late_source(&node.sources, number)?;
+        let text =
+            "`{}` is of no earlier node: a source names a node whose number is lower than this one's, {}";
+        return Some(two(text, Names(source), Number(number)));
+    }
     match kind {
-        CheckFaultKind::BadRegion => of_region(region_cause(block, number, node)),
-        CheckFaultKind::NoSuchName => Some(Cause::Graph(name_cause(&node.kind)?)),
-        CheckFaultKind::Arity => of_call(arity_cause(graph, node)),
-        CheckFaultKind::BadBound => of_call(bound_cause(&node.kind)),
-        CheckFaultKind::SourceNotEarlier => of_node(late_source(&node.sources, number)),
-        CheckFaultKind::NoSuchPort => of_node(portless_source(graph, block, &node.sources)),
-        CheckFaultKind::CrossesRegion => of_node(crossing_source(block, node)),
+        CheckFaultKind::BadRegion => region_cause(block, number, node),
+        CheckFaultKind::NoSuchName => name_cause(&node.kind),
+        CheckFaultKind::Arity => arity_cause(graph, node),
+        CheckFaultKind::BadBound => bound_cause(&node.kind),
+        CheckFaultKind::NoSuchPort => port_cause(graph, block, &node.sources),
+        CheckFaultKind::CrossesRegion => crossing_cause(block, node),
         _ => None,
     }
 }
 
-/// The cause of a fault of kind `kind` at the line of results.
+/// The cause of a fault of kind `kind` at the line of results. The block has so many nodes, its inputs included.
 fn results_cause<'a, A: Allocator>(
     graph: &Graph<'a, A>,
     block: &Block<'a, A>,
+    nodes: u64,
     kind: CheckFaultKind,
-) -> Option<Cause<'a>> {
+) -> Option<Message<'a>> {
+    let results = &block.results;
     match kind {
-        CheckFaultKind::Arity => of_call(Some(CallCause::BlockSources {
-            name: shown(&block.name),
-            wants: many(u64::from(block.outputs), "output"),
-            has: many(block.results.len() as u64, "source"),
-        })),
-        CheckFaultKind::SourceNotEarlier => of_node(nodeless_result(block)),
-        CheckFaultKind::NoSuchPort => of_node(portless_source(graph, block, &block.results)),
-        CheckFaultKind::OutNotRoot => of_node(unrooted_result(block)),
+        CheckFaultKind::Arity => {
+            Some(sources_cause(&block.name, block.outputs, "output", results.len()))
+        }
+        CheckFaultKind::SourceNotEarlier => {
+            let source = Names(late_source(results, nodes)?);
+            Some(three(
+                "`{}` is of no node: block {} has {}, from 0 on",
+                source,
+                Bytes(block.name.bytes),
+                Count(nodes, "node"),
+            ))
+        }
+        CheckFaultKind::NoSuchPort => port_cause(graph, block, results),
+        CheckFaultKind::OutNotRoot => result_cause(block),
         _ => None,
     }
 }
@@ -233,68 +206,22 @@ fn results_cause<'a, A: Allocator>(
 fn block_cause<'a, A: Allocator>(
     block: &Block<'a, A>,
     kind: CheckFaultKind,
-) -> Option<GraphCause<'a>> {
+) -> Option<Message<'a>> {
     match kind {
-        CheckFaultKind::SameName => Some(GraphCause::SameBlock {
-            name: shown(&block.name),
-        }),
-        CheckFaultKind::NoInput => Some(GraphCause::NoInput),
-        CheckFaultKind::NoOutput => Some(GraphCause::NoOutput),
+        CheckFaultKind::SameName => {
+            Some(one(
+                "a block before it is called {}, too",
+                Bytes(block.name.bytes),
+            ))
+        }
+        CheckFaultKind::NoInput => Some(say("a block has at least one input")),
+        CheckFaultKind::NoOutput => Some(say("a block has at least one output")),
         _ => None,
     }
 }
 
-/// A fault at node `number`, or at the line of results where there is no such node. `line` is the number of the faulty line in
-/// the text.
-fn in_line<'a, A: Allocator>(
-    graph: &Graph<'a, A>,
-    block: &Block<'a, A>,
-    kind: CheckFaultKind,
-    number: u64,
-    line: u64,
-    text: Shown<'a>,
-) -> Option<Found<'a>> {
-    let name = shown(&block.name);
-    match node_at(block, number) {
-        Some(node) => {
-            let cause = node_cause(graph, block, number, node, kind)?;
-            Some(at_node(name, number, line, text, cause))
-        }
-        None => {
-            let cause = results_cause(graph, block, kind)?;
-            let block = name;
-            Some(Found::at(Place::Block { block, line, text }, cause))
-        }
-    }
-}
-
-fn at_node<'a>(
-    block: Shown<'a>,
-    node: u64,
-    line: u64,
-    text: Shown<'a>,
-    cause: Cause<'a>,
-) -> Found<'a> {
-    let place = Place::Node {
-        block,
-        node,
-        line,
-        text,
-    };
-    Found::at(place, cause)
-}
-
-fn at_line<'a>(line: u64, bytes: &'a [u8], cause: GraphCause<'a>) -> Found<'a> {
-    let text = Shown { bytes };
-    let place = Place::Line {
-        line,
-        text,
-        column: 1,
-    };
-    Found::at(place, Cause::Graph(cause))
-}
-
-/// A fault in block number `place`: at a node, at the line of results, or at the line of the block itself.
+/// A fault in block number `place`: at a node, at the line of results, which has the number of nodes, or at the line of the block
+/// itself.
 fn in_block<'a, A: Allocator>(
     graph: &Graph<'a, A>,
     text: &'a [u8],
@@ -305,25 +232,37 @@ fn in_block<'a, A: Allocator>(
     let block = graph.blocks.get(place as usize)?;
     let first = block_line(graph, place);
     let Some(number) = node else {
-        let cause = block_cause(block, kind)?;
-        return Some(at_line(first, line_at(text, first), cause));
+        return Some(at_line(first, line_at(text, first), block_cause(block, kind)?));
     };
     let behind = number.saturating_sub(u64::from(block.inputs));
     let line = first.saturating_add(behind).saturating_add(1);
+    let name = block.name.bytes;
     let bytes = line_at(text, line);
-    in_line(graph, block, kind, number, line, Shown { bytes })
+    let Some(node) = node_at(block, number) else {
+        let cause = results_cause(graph, block, number, kind)?;
+        let text = "in block {}, line {} is `{}`";
+        return Some(at(three(text, Bytes(name), Number(line), Bytes(bytes)), cause));
+    };
+    let cause = node_cause(graph, block, number, node, kind)?;
+    let text = "node {} of block {}, line {}, is `{}`";
+    Some(at(
+        four(
+            text,
+            Number(number),
+            Bytes(name),
+            Number(line),
+            Bytes(bytes),
+        ),
+        cause,
+    ))
 }
 
-/// The first array that has the name of an array before it.
-fn same_array<'a, A: Allocator>(graph: &Graph<'a, A>) -> Option<(u64, GraphCause<'a>)> {
+/// The line and the name of the first array that has the name of an array before it.
+fn same_array<'a, A: Allocator>(graph: &Graph<'a, A>) -> Option<(u64, &'a [u8])> {
     for (place, array) in graph.arrays.iter().enumerate() {
         let mut before = graph.arrays.iter().take(place);
         if before.any(|other| other.name.bytes == array.name.bytes) {
-            let name = shown(&array.name);
-            return Some((
-                (place as u64).saturating_add(2),
-                GraphCause::SameArray { name },
-            ));
+            return Some(((place as u64).saturating_add(2), array.name.bytes));
         }
     }
     None
@@ -337,54 +276,48 @@ fn outside<'a, A: Allocator>(
 ) -> Option<Found<'a>> {
     match kind {
         CheckFaultKind::SameName => {
-            let (line, cause) = same_array(graph)?;
+            let (line, name) = same_array(graph)?;
+            let cause = one("an array before it is called {}, too", Bytes(name));
             Some(at_line(line, line_at(text, line), cause))
         }
         CheckFaultKind::NoSuchName => {
-            let name = shown(&graph.main);
             let line = block_line(graph, graph.blocks.len() as u64);
-            let cause = GraphCause::NoMainBlock { name };
+            let cause = one("there is no block {} to be run", Bytes(graph.main.bytes));
             Some(at_line(line, line_at(text, line), cause))
         }
         _ => None,
     }
 }
 
-/// The graph of the text, where memory allows it.
-fn read_again<'a, A: Allocator + Clone>(alloc: &A, text: &'a [u8]) -> Option<Graph<'a, A>> {
-    let own = alloc.clone().ok()?;
-    read(own, text).ok()
-}
-
-/// Why the graph of the text is not well formed: a fault of kind `kind` at block `block` and node `node`. `None` also where
-/// memory is refused.
+/// Why the graph of the text is not well formed. `None` also where memory is refused.
 pub fn graph_fault<'a, A: Allocator + Clone>(
     alloc: &A,
     text: &'a [u8],
-    kind: CheckFaultKind,
-    block: Option<u64>,
-    node: Option<u64>,
+    fault: CheckFault,
 ) -> Option<Found<'a>> {
-    let graph = read_again(alloc, text)?;
-    match block {
-        Some(place) => in_block(&graph, text, kind, place, node),
-        None => outside(&graph, text, kind),
+    let graph = read(alloc.clone().ok()?, text).ok()?;
+    match fault.block {
+        Some(place) => in_block(&graph, text, fault.kind, place, fault.node),
+        None => outside(&graph, text, fault.kind),
     }
 }
 
-/// Why the graph of the text has no code: `cause`, at code block `number`.
+/// Why the graph of the text has no code, at code block `number`. `None` also where memory is refused.
 pub fn code_fault<'a, A: Allocator + Clone>(
     alloc: &A,
     text: &'a [u8],
     number: u64,
-    cause: GraphCause<'a>,
+    cause: &'static str,
 ) -> Option<Found<'a>> {
-    let graph = read_again(alloc, text)?;
-    let (block, iterations) = coded_block(&graph, number)?;
-    let place = Place::Code {
-        number,
-        block: shown(&block.name),
-        iterations,
+    let graph = read(alloc.clone().ok()?, text).ok()?;
+    let (block, is_looped) = coded_block(&graph, number)?;
+    let place = if is_looped {
+        "code block {} is that of the iterations of block {}"
+    } else {
+        "code block {} is that of block {}"
     };
-    Some(Found::at(place, Cause::Graph(cause)))
+    Some(at(
+        two(place, Number(number), Bytes(block.name.bytes)),
+        say(cause),
+    ))
 }

@@ -28,11 +28,6 @@ pub fn block_line<A: Allocator>(graph: &Graph<'_, A>, place: u64) -> u64 {
     line
 }
 
-/// How many nodes a block has, its inputs included.
-pub fn node_count<A: Allocator>(block: &Block<'_, A>) -> u64 {
-    u64::from(block.inputs).saturating_add(block.nodes.len() as u64)
-}
-
 /// The node line with this number; `None` where the number is that of an input or of nothing.
 pub fn node_at<'g, 'a, A: Allocator>(
     block: &'g Block<'a, A>,

@@ -6,48 +6,55 @@
 ghost use Rattle.std.specs.Prelude.{◌≡◌, IfOk, is_some};
 ghost use Rattle.hints.specs.Hints.{wants_hint};
 
-mod cause;
-mod field_faults;
-mod found;
+mod fields;
 mod going;
 mod graph_faults;
 mod graphs;
 mod kinds;
 mod line;
-mod line_faults;
 mod lines;
 mod listing_faults;
 mod listing_lines;
 mod message;
-mod mistakes;
 mod object_faults;
 mod object_words;
 mod operands;
+mod others;
 mod place;
 mod programs;
-mod rules;
 mod runs;
-mod shown;
-mod text_faults;
+mod texts;
 mod words;
 
-use cause::{Cause, GraphCause, ProgramCause, RunCause};
 use command_line::{Asked, Request, read_words};
-use found::Found;
 use graph_faults::{code_fault, graph_fault};
 pub use line::{Hint, Line};
 use lines::split_graph;
-use listing_faults::{listing_fault, unknown_listing};
-use message::Message;
+use listing_faults::listing_fault;
+use message::Piece::{Checking, Reading};
+use message::{Message, one, say};
 use object_faults::object_fault;
 use outcomes::{Outcome, Refusal};
-use programs::program_fault;
-use runs::{
-    end_fault, given_fault, input_fault, memory_cause, orders_fault, page_fault, start_fault,
-};
+use place::{Found, nowhere, unknown};
+use programs::{kind_message, program_fault};
+use runs::{end_fault, given_fault, input_fault, memory_cause, page_fault, start_fault};
 use std::alloc::{AllocError, Allocator};
 use std::convert::AsStr;
-use text_faults::text_fault;
+use texts::text_fault;
+
+/// Why nothing was read.
+const UNREAD: &str =
+    "standard input is longer than 67108864 bytes, or could not be read, as a folder cannot";
+/// Why a code block has no slots.
+const TOO_MANY_SLOTS: &str =
+    "one of its loops, or of its places where two words meet, finds none of the 512 slots of a frame open: move some nodes into a block of their own, and call that";
+/// Why a code block does not fit into an object.
+const TOO_FAR: &str =
+    "it has more than 32768 instructions, so move some nodes into a block of their own, and call that; or the object has more than 65536 different literals";
+
+/// Why two orders have different reports.
+const ORDERS_DIFFER: &str =
+    "reports differ only where a second store comes to a cell, frames or credits are wanted, steps or memory run out, or readers wait at the end: compare the lines `deferred` and `end` of both";
 
 /// The part of the input that is the graph's text. Commands that run the graph read the inputs of the run after it.
 fn graph_text<'a>(request: &Request, input: &'a [u8]) -> &'a [u8] {
@@ -81,72 +88,51 @@ fn command_of(request: &Request) -> &'static str {
     }
 }
 
-/// The cause of a refusal whose place is in the input.
-fn located_cause<'a, A: Allocator + Clone>(
-    alloc: &A,
-    request: &Request,
-    input: &'a [u8],
-    refusal: Refusal,
-) -> Option<Found<'a>> {
-    let command: &'a str = command_of(request);
-    let text = graph_text(request, input);
-    match refusal {
-        Refusal::Read(fault) => Some(text_fault(fault.kind, text, fault.line, command)),
-        Refusal::Check(fault) => graph_fault(alloc, text, fault.kind, fault.block, fault.node),
-        Refusal::TooManySlots(block) => code_fault(alloc, text, block, GraphCause::TooManySlots),
-        Refusal::TooFar(block) => code_fault(alloc, text, block, GraphCause::TooFar),
-        Refusal::Object(fault) => object_fault(fault, input, command),
-        Refusal::Asm(fault) => Some(listing_fault(fault.kind, input, fault.line)),
-        Refusal::Program(fault) => Some(program_fault(alloc, input, fault)),
-        Refusal::Input | Refusal::InputLine(_) | Refusal::Start(_) | Refusal::Memory => None,
-    }
-}
-
-/// The cause for an input that is not an integer: a word of the command line, or a line behind the graph.
-fn line_fault<'a, S: AsStr>(
-    request: &Request,
-    words: &'a [S],
-    input: Option<&'a [u8]>,
-    number: u64,
-) -> Option<Found<'a>> {
-    if matches!(request, Request::Exec { .. }) {
-        return given_fault(after_command(words), number);
-    }
-    Some(input_fault(input?, number))
-}
-
 /// Why this request, which these words are, was refused. `None` where the place cannot be found, because the input was not kept or
 /// memory was refused.
-fn refusal_cause<'a, S: AsStr, A: Allocator + Clone>(
+fn refusal_fault<'a, S: AsStr, A: Allocator + Clone>(
     alloc: A,
     request: &Request,
     words: &'a [S],
     input: Option<&'a [u8]>,
     refusal: Refusal,
 ) -> Option<Found<'a>> {
-    if let Refusal::Start(fault) = refusal {
-        return start_fault(request, input, fault);
+    match (refusal, request) {
+        (Refusal::Start(fault), _) => return start_fault(&alloc, request, input, fault),
+        (Refusal::InputLine(number), Request::Exec { .. }) => {
+            return given_fault(after_first(words), number);
+        }
+        _ => (),
     }
-    if let Refusal::InputLine(line) = refusal {
-        return line_fault(request, words, input, line);
+    let input = input?;
+    let command: &'a str = command_of(request);
+    let text = graph_text(request, input);
+    match refusal {
+        Refusal::Read(fault) => Some(text_fault(fault, text, command)),
+        Refusal::Check(fault) => graph_fault(&alloc, text, fault),
+        Refusal::TooManySlots(block) => code_fault(&alloc, text, block, TOO_MANY_SLOTS),
+        Refusal::TooFar(block) => code_fault(&alloc, text, block, TOO_FAR),
+        Refusal::Object(fault) => object_fault(fault, input, command),
+        Refusal::Asm(fault) => Some(listing_fault(fault, input)),
+        Refusal::Program(fault) => Some(program_fault(&alloc, input, fault)),
+        Refusal::InputLine(number) => Some(input_fault(input, number)),
+        Refusal::Input | Refusal::Start(_) | Refusal::Memory => None,
     }
-    located_cause(&alloc, request, input?, refusal)
 }
 
 /// What is told of a refusal whose place is nowhere, or cannot be found.
-fn unlocated<'a>(asked: &Asked, refusal: Refusal) -> Cause<'a> {
-    match refusal {
-        Refusal::Input => Cause::Run(RunCause::Unread),
-        Refusal::Memory => Cause::Run(memory_cause(asked)),
-        Refusal::Read(fault) => Cause::Reading(fault.kind),
-        Refusal::Check(fault) => Cause::Checking(fault.kind),
-        Refusal::Asm(_fault) => unknown_listing(),
-        Refusal::Program(fault) => Cause::Program(ProgramCause::Kind(fault.kind)),
-        Refusal::Object(_fault) => Cause::Run(RunCause::Unknown {
-            part: "Refusals of an object",
-        }),
-        _ => Cause::Run(RunCause::Unknown { part: "Refusals" }),
-    }
+fn unlocated<'a>(asked: &Asked, refusal: Refusal) -> Message<'a> {
+    let part = match refusal {
+        Refusal::Input => return say(UNREAD),
+        Refusal::Memory => return memory_cause(asked),
+        Refusal::Read(fault) => return one("{}", Reading(fault.kind)),
+        Refusal::Check(fault) => return one("{}", Checking(fault.kind)),
+        Refusal::Program(fault) => return kind_message(fault.kind),
+        Refusal::Asm(_fault) => "Faults of assembling",
+        Refusal::Object(_fault) => "Refusals of an object",
+        _ => "Refusals",
+    };
+    unknown(part)
 }
 
 /// Why what these words ask for was refused.
@@ -158,24 +144,16 @@ fn refusal_found<'a, S: AsStr, A: Allocator + Clone>(
     refusal: Refusal,
 ) -> Found<'a> {
     let found = match asked {
-        Asked::Request(request) => refusal_cause(alloc, request, words, input, refusal),
+        Asked::Request(request) => refusal_fault(alloc, request, words, input, refusal),
         _ => None,
     };
-    found.unwrap_or(Found::nowhere(unlocated(asked, refusal)))
+    found.unwrap_or(nowhere(unlocated(asked, refusal)))
 }
 
-/// The words without the program's name.
-fn arguments_of<S>(words: &[S]) -> &[S] {
+/// The words after the first one, which is the program's name or that of the command.
+fn after_first<S>(words: &[S]) -> &[S] {
     match words.split_first() {
-        Some((_program, arguments)) => arguments,
-        None => words,
-    }
-}
-
-/// The words after the first one, which names the command.
-fn after_command<S>(words: &[S]) -> &[S] {
-    match words.split_first() {
-        Some((_command, rest)) => rest,
+        Some((_first, rest)) => rest,
         None => words,
     }
 }
@@ -191,16 +169,17 @@ fn cause_of<'a, S: AsStr, A: Allocator + Clone>(
 {
     let asked = read_words(words);
     let Some(outcome) = outcome else {
-        return Some(Found::nowhere(Cause::Run(RunCause::Unwritten)));
+        let text = "a write failed, and what was to be printed was not written whole";
+        return Some(nowhere(say(text)));
     };
     match outcome {
         Outcome::Done => None,
-        Outcome::Mistake => Some(Found::nowhere(Cause::Word(mistakes::mistake(words)))),
+        Outcome::Mistake => Some(nowhere(words::mistake(words))),
         Outcome::Refused(refusal) => Some(refusal_found(alloc, &asked, words, input, refusal)),
         Outcome::Reported(ending) => end_fault(&asked, input, ending),
         Outcome::Drawn(_ending) => None,
         Outcome::Paged { events, .. } => page_fault(events),
-        Outcome::Differed => Some(orders_fault()),
+        Outcome::Differed => Some(nowhere(say(ORDERS_DIFFER))),
     }
 }
 
@@ -213,10 +192,10 @@ fn line_of<A: Allocator + Clone>(alloc: A, message: &Message<'_>) -> Result<Line
 /// The hint that tells this cause.
 fn hint_of<A: Allocator + Clone>(alloc: A, found: &Found<'_>) -> Result<Hint<A>, AllocError> {
     let place = match found.place {
-        Some(place) => Some(line_of(alloc.clone()?, &place.message())?),
+        Some(place) => Some(line_of(alloc.clone()?, &place)?),
         None => None,
     };
-    let cause = line_of(alloc, &found.cause.message())?;
+    let cause = line_of(alloc, &found.cause)?;
     Ok(Hint { place, cause })
 }
 
@@ -231,7 +210,7 @@ pub fn explain<S: AsStr, A: Allocator + Clone>(
 ) -> Result<Option<Hint<A>>, AllocError>
     ensures { IfOk result (λ hint. is_some hint ≡ wants_hint outcome) }
 {
-    match cause_of(alloc.clone()?, arguments_of(words), input, outcome) {
+    match cause_of(alloc.clone()?, after_first(words), input, outcome) {
         Some(found) => Ok(Some(hint_of(alloc, &found)?)),
         None => Ok(None),
     }

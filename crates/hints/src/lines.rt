@@ -19,14 +19,14 @@ pub fn field_at(line: &[u8], place: usize) -> Option<&[u8]> {
     line.split(|byte| *byte == SPACE).nth(place)
 }
 
-/// The field at `place` in a line, where that is text.
-pub fn text_at(line: &[u8], place: usize) -> Option<&str> {
-    str::from_utf8(field_at(line, place)?).ok()
+/// The field at `place` in a line, where that is text; empty where it is not.
+pub fn text_at(line: &[u8], place: usize) -> &str {
+    str::from_utf8(field_at(line, place).unwrap_or(b"")).unwrap_or("")
 }
 
-/// How many fields a line has.
-pub fn field_count(line: &[u8]) -> u64 {
-    line.split(|byte| *byte == SPACE).count() as u64
+/// How many fields a line has behind the first ones.
+pub fn fields_behind(line: &[u8], first: u64) -> u64 {
+    (line.split(|byte| *byte == SPACE).count() as u64).saturating_sub(first)
 }
 
 /// Splits the input in two: the graph's text, up to the end of the first line that begins with `main `, and what follows it.
@@ -70,28 +70,18 @@ pub struct Context<'a> {
 }
 
 impl<'a> Context<'a> {
-    /// The context after this line as well.
-    fn behind(self, line: &'a [u8]) -> Context<'a> {
-        match (self.spot, text_at(line, 0).unwrap_or("")) {
-            (Spot::Arrays, "array") => Context {
-                arrays: self.arrays.saturating_add(1),
-                ..self
-            },
-            (Spot::Arrays | Spot::Blocks, "block") => Context {
-                spot: Spot::Nodes,
-                block: field_at(line, 1).unwrap_or(b""),
-                blocks: self.blocks.saturating_add(1),
-                ..self
-            },
-            (Spot::Nodes, "out") => Context {
-                spot: Spot::Closing,
-                ..self
-            },
-            (Spot::Closing, "end") => Context {
-                spot: Spot::Blocks,
-                ..self
-            },
-            _ => self,
+    /// Goes on by this line.
+    fn take(&mut self, line: &'a [u8]) {
+        match (self.spot, text_at(line, 0)) {
+            (Spot::Arrays, "array") => self.arrays = self.arrays.saturating_add(1),
+            (Spot::Arrays | Spot::Blocks, "block") => {
+                self.spot = Spot::Nodes;
+                self.block = field_at(line, 1).unwrap_or(b"");
+                self.blocks = self.blocks.saturating_add(1);
+            }
+            (Spot::Nodes, "out") => self.spot = Spot::Closing,
+            (Spot::Closing, "end") => self.spot = Spot::Blocks,
+            _ => (),
         }
     }
 
@@ -105,7 +95,7 @@ impl<'a> Context<'a> {
         };
         let count = number.saturating_sub(1) as usize;
         for line in text.split(|byte| *byte == LINE_FEED).take(count).skip(1) {
-            context = context.behind(line);
+            context.take(line);
         }
         context
     }

@@ -69,30 +69,17 @@ impl Before {
         }
     }
 
-    /// These lines, and this one.
-    fn with(self, line: &[u8]) -> Before {
+    /// Goes on by this line.
+    fn take(&mut self, line: &[u8]) {
         match self.subject(line) {
-            Subject::Head => Before {
-                heads: self.heads.saturating_add(1),
-                ..self
-            },
-            Subject::Block => Before {
-                blocks: self.blocks.saturating_add(1),
-                instrs: 0,
-                ..self
-            },
-            Subject::Instr => Before {
-                instrs: self.instrs.saturating_add(1),
-                ..self
-            },
-            Subject::Array => Before {
-                arrays: self.arrays.saturating_add(1),
-                ..self
-            },
-            Subject::Literal => Before {
-                literals: self.literals.saturating_add(1),
-                ..self
-            },
+            Subject::Head => self.heads = self.heads.saturating_add(1),
+            Subject::Block => {
+                self.blocks = self.blocks.saturating_add(1);
+                self.instrs = 0;
+            }
+            Subject::Instr => self.instrs = self.instrs.saturating_add(1),
+            Subject::Array => self.arrays = self.arrays.saturating_add(1),
+            Subject::Literal => self.literals = self.literals.saturating_add(1),
         }
     }
 
@@ -108,7 +95,7 @@ impl Before {
         let count = number.saturating_sub(1) as usize;
         for line in text.split(|byte| *byte == LINE_FEED).take(count) {
             if word_count(line) > 0 {
-                before = before.with(line);
+                before.take(line);
             }
         }
         before

@@ -21,28 +21,6 @@ pub fn word_at(bytes: &[u8], place: u64) -> u64 {
     word
 }
 
-/// What the header says.
-#[derive(Clone, Copy)]
-pub struct Header {
-    pub version: u64,
-    pub blocks: u64,
-    pub literals: u64,
-    pub arrays: u64,
-    pub main: u64,
-}
-
-impl Header {
-    pub fn of(bytes: &[u8]) -> Header {
-        Header {
-            version: word_at(bytes, 1),
-            blocks: word_at(bytes, 2),
-            literals: word_at(bytes, 3),
-            arrays: word_at(bytes, 4),
-            main: word_at(bytes, 5),
-        }
-    }
-}
-
 /// An entry of the block table.
 #[derive(Clone, Copy)]
 pub struct Entry {

@@ -3,7 +3,7 @@
 use semantics::opcode::Opcode;
 
 /// How the operand of the operation with this name is written.
-pub fn form_of(name: &[u8]) -> &'static str {
+pub fn operand_form(name: &[u8]) -> &'static str {
     match Opcode::of_word(name) {
         Some(Opcode::Lit) => "`#V`, a literal of 64 bits",
         Some(Opcode::Fetch | Opcode::Store) => "`aN`, an array that there is",

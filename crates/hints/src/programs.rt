@@ -1,15 +1,16 @@
 //! What is wrong with the program of a text, for each kind of fault.
 
-use crate::cause::{Cause, Count, Form, Missing, ProgramCause, Wanted, Within, Wrong};
-use crate::found::Found;
-use crate::going::{Going, Next, Opened, Part};
+use crate::going::{Form, Going, Next, Opened, Part};
 use crate::lines::line_at;
-use crate::place::Place;
-use crate::shown::Shown;
+use crate::message::Piece::{Bytes, Count, Line, Number, Programming, Word};
+use crate::message::{Message, four, one, say, three, two};
+use crate::others::other_input;
+use crate::place::{Found, at, nowhere};
 use source::fault::{FaultKind, ProgramFault};
 use source::token::{Keyword, Sign, Token, TokenKind};
-use source_tokens::{lex, split};
+use source_tokens::{lex, position, split};
 use std::alloc::Allocator;
+use std::str;
 
 fn is_run_byte(byte: u8) -> bool {
     byte.is_ascii_alphanumeric() || byte == b'_'
@@ -17,21 +18,16 @@ fn is_run_byte(byte: u8) -> bool {
 
 /// Whether a sign of two bytes begins with these.
 fn is_double(first: u8, second: u8) -> bool {
-    matches!(
-        (first, second),
-        (b'-', b'>')
-            | (b':', b'=')
-            | (b'<', b'<')
-            | (b'>', b'>')
-            | (b'=', b'=')
-            | (b'!', b'=')
-            | (b'<', b'=')
-            | (b'>', b'=')
-    )
+    match second {
+        b'=' => matches!(first, b':' | b'=' | b'!' | b'<' | b'>'),
+        b'>' => matches!(first, b'-' | b'>'),
+        _ => second == b'<' && first == b'<',
+    }
 }
 
-/// The bytes of the token, or of the bad token, that begins here: a run of letters, digits and `_`, or a sign.
-fn token_of(bytes: &[u8]) -> &[u8] {
+/// The token, or the bad token, that begins at this place: a run of letters, digits and `_`, or a sign. Empty at the end.
+fn token_at(text: &[u8], at: usize) -> &[u8] {
+    let bytes = text.get(at..).unwrap_or(b"");
     let run = bytes.iter().take_while(|byte| is_run_byte(**byte)).count();
     let len = match bytes {
         _ if run > 0 => run,
@@ -39,11 +35,6 @@ fn token_of(bytes: &[u8]) -> &[u8] {
         _ => 1,
     };
     bytes.get(..len).unwrap_or(bytes)
-}
-
-/// What follows the place `at` of the text.
-fn from(text: &[u8], at: usize) -> &[u8] {
-    text.get(at..).unwrap_or(b"")
 }
 
 /// How many bytes stand before this line and column.
@@ -59,7 +50,8 @@ fn offset_of(text: &[u8], place: ProgramFault) -> usize {
 /// What is seen at the place of a fault: the token that stands there and the one before it, if there are any; what comes next after that;
 /// and what was opened last, and is open.
 #[derive(Clone, Copy)]
-struct Seen {
+struct Seen<'a> {
+    text: &'a [u8],
     stands: Option<Token>,
     before: Option<Token>,
     next: Next,
@@ -67,7 +59,7 @@ struct Seen {
 }
 
 /// What is seen at the place `at` of the text. None where memory is refused.
-fn look<A: Allocator + Clone>(alloc: &A, text: &[u8], at: usize) -> Option<Seen> {
+fn look<'a, A: Allocator + Clone>(alloc: &A, text: &'a [u8], at: usize) -> Option<Seen<'a>> {
     let tokens = lex(alloc.clone().ok()?, text).ok()?;
     let mut going = Going::new(alloc.clone().ok()?);
     let mut before = None;
@@ -81,6 +73,7 @@ fn look<A: Allocator + Clone>(alloc: &A, text: &[u8], at: usize) -> Option<Seen>
         before = Some(*token);
     }
     Some(Seen {
+        text,
         stands,
         before,
         next: going.next,
@@ -95,242 +88,215 @@ fn sign_of(token: Option<Token>) -> Option<Sign> {
     }
 }
 
-/// The bytes of this token; of none where there is none.
-fn shown<'a>(text: &'a [u8], token: Option<Token>) -> Shown<'a> {
-    match token {
-        Some(token) => Shown {
-            bytes: token_of(from(text, token.at)),
-        },
-        None => Shown { bytes: b"" },
+fn keyword_of(token: Option<Token>) -> Option<Keyword> {
+    match token?.kind {
+        TokenKind::Word { keyword } => Some(keyword),
+        _ => None,
     }
 }
 
-/// In which line the place stands, counted from 1.
-fn line_of(text: &[u8], at: usize) -> u64 {
-    let before = text.get(..at).unwrap_or(text);
-    let feeds = before.iter().filter(|byte| **byte == b'\n').count();
-    (feeds as u64).saturating_add(1)
+/// How a part of a program is written.
+fn form_text(form: Form) -> &'static str {
+    match form {
+        Form::Item =>
+            "a program has items: `array NAME[CELLS];` and `fn NAME(PARAMETERS) { BODY }`, with `-> N` before the body where there are N results",
+        Form::Array => "an array is written `array A[8];`, with a number of cells",
+        Form::Function =>
+            "a function is written `fn f(x, y) { BODY }`, or with two results `fn f(x, y) -> 2 { BODY }`, and has at least one parameter",
+        Form::Let =>
+            "`let` is written `let x = VALUE;`, or `let x, _ = VALUES;` where `_` drops a value",
+        Form::Loop =>
+            "a loop is written `loop 4 (i = 0, s = 0) while i < n { BODY }`, or `loop 4 (i = 0, s = 0) { BODY } while (i < n)`",
+        Form::LastTest =>
+            "a loop with its test behind the body is written `loop 4 (i = 0) { BODY } while (i < n)`, with the brackets",
+        Form::Else =>
+            "each `if` has an `else`: `if p { a } else { b }`, or `if p { a } else if q { b } else { c }`",
+        Form::StrictCall => "after `strict` stands a call: `strict f(x)`",
+    }
 }
 
-/// What was opened last, where a bracket or a brace opened it.
-fn bracket(innermost: Option<Opened>) -> Option<Opened> {
-    let opened = innermost?;
-    match opened.part {
-        Part::Block(_) | Part::Group | Part::Arguments | Part::Index | Part::LastTest => {
-            Some(opened)
+/// What could stand after an operand besides an operator.
+fn rest_after(innermost: Option<Part>) -> &'static str {
+    match innermost {
+        Some(Part::Let) => ", `,`, or the `;` that ends the `let`",
+        Some(Part::Group | Part::LastTest) => ", or the `)` that closes the bracket",
+        Some(Part::Arguments) => ", `,`, or the `)` that ends the call",
+        Some(Part::Index) => ", or the `]` that ends the index",
+        Some(Part::Test) => ", or the `{` of the arm",
+        Some(Part::WhileTest) => ", or the `{` of the loop's body",
+        Some(Part::FirstValue) => ", `,`, or the `)` that ends the loop's names",
+        _ => ", `,`, `;`, or the `}` that ends the block",
+    }
+}
+
+impl<'a> Seen<'a> {
+    /// The bytes of this token; of none where there is none.
+    fn shown(&self, token: Option<Token>) -> &'a [u8] {
+        match token {
+            Some(token) => token_at(self.text, token.at),
+            None => b"",
         }
-        Part::Let | Part::Test | Part::WhileTest | Part::FirstValue => None,
     }
-}
 
-/// That what was opened last is not closed, where a bracket or a brace opened it.
-fn unclosed<'a>(text: &'a [u8], innermost: Option<Opened>) -> Option<Wanted<'a>> {
-    let at = bracket(innermost)?.at;
-    Some(Wanted::Unclosed {
-        opening: Shown {
-            bytes: token_of(from(text, at)),
-        },
-        line: line_of(text, at),
-    })
-}
+    fn part(&self) -> Option<Part> {
+        Some(self.innermost?.part)
+    }
 
-/// Whether a name comes next.
-fn wants_name(next: Next) -> bool {
-    matches!(
-        next,
-        Next::ArrayName
-            | Next::FunctionName
-            | Next::Parameter
-            | Next::Target
-            | Next::Callee
-            | Next::LoopName
-    )
-}
+    /// That what was opened last is not closed, where a bracket or a brace opened it.
+    fn unclosed(&self) -> Option<Message<'a>> {
+        let Opened { part, at } = self.innermost?;
+        if matches!(
+            part,
+            Part::Let | Part::Test | Part::WhileTest | Part::FirstValue
+        ) {
+            return None;
+        }
+        let line = position(self.text, at).line as u64;
+        let opening = Bytes(token_at(self.text, at));
+        Some(two("the `{}` of line {} is not closed", opening, Number(line)))
+    }
 
-/// Whether an expression comes next.
-fn wants_operand(next: Next) -> bool {
-    matches!(next, Next::Step | Next::Expression)
-}
+    /// Whether a name comes next.
+    fn wants_name(&self) -> bool {
+        let is_begun = matches!(
+            keyword_of(self.before),
+            Some(Keyword::Array | Keyword::Fn | Keyword::Let | Keyword::Strict)
+        );
+        let is_listed = matches!(sign_of(self.before), Some(Sign::OpenParen | Sign::Comma));
+        matches!(self.next, Next::Form(_)) && (is_begun || is_listed)
+    }
 
-/// What is wrong with a word here, where something is known.
-fn wrong_word<'a>(text: &'a [u8], seen: Seen, keyword: Keyword) -> Option<Wanted<'a>> {
-    match keyword {
-        Keyword::Inputs => Some(Wanted::Wrong(Wrong::Inputs)),
-        _ if wants_name(seen.next) => Some(Wanted::Word {
-            word: shown(text, seen.stands),
-        }),
-        Keyword::Fn | Keyword::Array => unclosed(text, seen.innermost),
-        Keyword::While if wants_operand(seen.next) => Some(Wanted::Form(Form::Loop)),
-        Keyword::Else if wants_operand(seen.next) => Some(Wanted::Form(Form::Else)),
-        Keyword::Let => match (seen.next, seen.innermost) {
+    /// What is wrong with a word here, where something is known.
+    fn wrong_word(&self, keyword: Keyword) -> Option<Message<'a>> {
+        let stands = Bytes(self.shown(self.stands));
+        match (keyword, self.next, self.part()) {
+            (Keyword::Inputs, _, _) => Some(say(
+                "`inputs` ends the program where it stands alone in its line, with no space before or after it",
+            )),
+            _ if self.wants_name() => Some(one(
+                "`{}` is a word of the language, and no name",
+                stands,
+            )),
+            (Keyword::Fn | Keyword::Array, _, _) => self.unclosed(),
+            (Keyword::While, Next::Step | Next::Expression, _) => Some(say(form_text(Form::Loop))),
+            (Keyword::Else, Next::Step | Next::Expression, _) => Some(say(form_text(Form::Else))),
+            (Keyword::Let, Next::AfterOperand, Some(part))
+                if part.is_block() || matches!(part, Part::Let) => {
+                Some(say("before `let` a `;` is missing"))
+            }
+            _ => None,
+        }
+    }
+
+    /// What is wrong with a sign that stands behind the operand before it, or behind an item.
+    fn wrong_behind(&self, sign: Sign) -> Option<&'static str> {
+        match (self.next, sign) {
+            (Next::Form(Form::Item), Sign::CloseBrace) => Some(
+                "no block is open that this `}` could close",
+            ),
+            (Next::Form(Form::Item), Sign::Semicolon) => Some(
+                "no `;` stands behind the body of a function",
+            ),
             (
                 Next::AfterOperand,
-                Some(
-                    Opened {
-                        part: Part::Block(_) | Part::Let,
-                        ..
-                    },
-                ),
-            ) => Some(Wanted::NoSemicolon),
+                Sign::EqualTo
+                | Sign::NotEqualTo
+                | Sign::Less
+                | Sign::AtMost
+                | Sign::Greater
+                | Sign::AtLeast,
+            ) => Some("comparisons do not chain: `a < b < c` is written `(a < b) & (b < c)`"),
+            (Next::AfterOperand, Sign::OpenParen) => Some(
+                "only the name of a function stands before the bracket of a call",
+            ),
+            (Next::AfterOperand, Sign::OpenBracket) => Some(
+                "only the name of an array stands before `[`",
+            ),
+            (Next::AfterOperand | Next::Step | Next::Expression, Sign::Equals) => Some(
+                "`=` stands in `let x = ..` and in the head of a loop; a comparison is `==`, and a cell is filled by `A[i] := v`",
+            ),
             _ => None,
-        },
-        _ => None,
-    }
-}
-
-/// What is wrong with a sign that closes something, where a value or a step comes next.
-fn wrong_end(before: Option<Sign>, sign: Sign, part: Option<Part>) -> Option<Wrong> {
-    match (before, sign, part) {
-        (Some(Sign::Semicolon), Sign::CloseBrace, _) => Some(Wrong::Semicolon),
-        (Some(Sign::OpenBrace), Sign::CloseBrace, _) => Some(Wrong::EmptyBlock),
-        (
-            Some(Sign::Comma),
-            Sign::CloseBrace | Sign::CloseParen | Sign::CloseBracket | Sign::Semicolon,
-            _,
-        ) => Some(Wrong::TrailingComma),
-        (Some(Sign::OpenParen), Sign::CloseParen, Some(Part::Arguments)) => {
-            Some(Wrong::NoArguments)
         }
-        (Some(Sign::Ampersand), Sign::Ampersand, _) | (Some(Sign::Bar), Sign::Bar, _) => {
-            Some(Wrong::Doubled)
+    }
+
+    /// What is wrong with a sign here, where something is known.
+    fn wrong_sign(&self, sign: Sign) -> Option<&'static str> {
+        if matches!(self.next, Next::Form(_) | Next::AfterOperand) {
+            return self.wrong_behind(sign);
         }
-        (_, Sign::Equals, _) => Some(Wrong::Equals),
-        _ => None,
-    }
-}
-
-/// What is wrong with a sign behind an operand.
-fn wrong_behind(sign: Sign) -> Option<Wrong> {
-    match sign {
-        Sign::Equals => Some(Wrong::Equals),
-        Sign::EqualTo
-        | Sign::NotEqualTo
-        | Sign::Less
-        | Sign::AtMost
-        | Sign::Greater
-        | Sign::AtLeast => Some(Wrong::Chain),
-        Sign::OpenParen => Some(Wrong::NoFunction),
-        Sign::OpenBracket => Some(Wrong::NoArray),
-        _ => None,
-    }
-}
-
-/// What is wrong with a sign here, where something is known.
-fn wrong_sign(seen: Seen, sign: Sign) -> Option<Wrong> {
-    match seen.next {
-        Next::Item => match sign {
-            Sign::CloseBrace => Some(Wrong::NothingOpen),
-            Sign::Semicolon => Some(Wrong::BehindFunction),
-            _ => None,
-        },
-        Next::Step | Next::Expression => {
-            let part = seen.innermost.map(|opened| opened.part);
-            wrong_end(sign_of(seen.before), sign, part)
+        match (sign_of(self.before), sign) {
+            (Some(Sign::Semicolon), Sign::CloseBrace) => Some(
+                "a block ends with its values, and no `;` stands after them",
+            ),
+            (Some(Sign::OpenBrace), Sign::CloseBrace) => Some(
+                "a block is not empty: it ends with its values",
+            ),
+            (
+                Some(Sign::Comma),
+                Sign::CloseBrace | Sign::CloseParen | Sign::CloseBracket | Sign::Semicolon,
+            ) => Some("after `,` another value stands: no list ends with a `,`"),
+            (Some(Sign::OpenParen), Sign::CloseParen)
+                if matches!(self.part(), Some(Part::Arguments)) => Some(
+                "a call has at least one argument, as a function has at least one parameter",
+            ),
+            (Some(Sign::Ampersand), Sign::Ampersand) | (Some(Sign::Bar), Sign::Bar) => Some(
+                "`&` and `|` stand once, and work on bits, so that `1 & 2` is 0: two tests are joined as `(a != 0) & (b < c)`",
+            ),
+            _ => self.wrong_behind(sign),
         }
-        Next::AfterOperand => wrong_behind(sign),
-        _ => None,
     }
-}
 
-/// What is wrong here, where something is known of what stands here.
-fn wrong<'a>(text: &'a [u8], seen: Seen) -> Option<Wanted<'a>> {
-    match seen.stands?.kind {
-        TokenKind::Word { keyword } => wrong_word(text, seen, keyword),
-        TokenKind::Mark { sign } => Some(Wanted::Wrong(wrong_sign(seen, sign)?)),
-        TokenKind::Number { .. } | TokenKind::Name { .. } => None,
-    }
-}
-
-/// What is open round an operand.
-fn within(innermost: Option<Opened>) -> Within {
-    let Some(opened) = innermost else {
-        return Within::Block;
-    };
-    match opened.part {
-        Part::Block(_) => Within::Block,
-        Part::Let => Within::Let,
-        Part::Group | Part::LastTest => Within::Brackets,
-        Part::Arguments => Within::Arguments,
-        Part::Index => Within::Index,
-        Part::Test => Within::Test,
-        Part::WhileTest => Within::WhileTest,
-        Part::FirstValue => Within::Names,
-    }
-}
-
-/// What could stand here.
-fn wanted_next<'a>(text: &'a [u8], seen: Seen) -> Wanted<'a> {
-    let before = shown(text, seen.before);
-    let form = match seen.next {
-        Next::Step => return Wanted::Step { before },
-        Next::Expression => return Wanted::Expression { before },
-        Next::AfterOperand => {
-            let within = within(seen.innermost);
-            return Wanted::AfterOperand { before, within };
+    /// What is wrong here, where something is known of what stands here.
+    fn wrong(&self) -> Option<Message<'a>> {
+        match self.stands?.kind {
+            TokenKind::Word { keyword } => self.wrong_word(keyword),
+            TokenKind::Mark { sign } => Some(say(self.wrong_sign(sign)?)),
+            TokenKind::Number { .. } | TokenKind::Name { .. } => None,
         }
-        Next::Item => Form::Item,
-        Next::ArrayName | Next::ArrayOpen | Next::ArrayLength | Next::ArrayClose | Next::ArrayEnd =>
-            Form::Array,
-        Next::FunctionName
-        | Next::ParametersOpen
-        | Next::Parameter
-        | Next::AfterParameter
-        | Next::AfterParameters
-        | Next::ResultCount
-        | Next::FunctionBody => Form::Function,
-        Next::Target | Next::AfterTarget => Form::Let,
-        Next::Callee | Next::CalleeOpen => Form::StrictCall,
-        Next::Bound | Next::NamesOpen | Next::LoopName | Next::LoopEquals | Next::AfterNames => {
-            Form::Loop
-        }
-        Next::While | Next::LastTestOpen => Form::LastTest,
-        Next::Else | Next::Otherwise => Form::Else,
-    };
-    Wanted::Form(form)
-}
+    }
 
-/// What could stand at this place, where something else stands. An item where memory is refused.
-fn wanted<'a, A: Allocator + Clone>(alloc: &A, text: &'a [u8], at: usize) -> Wanted<'a> {
-    let Some(seen) = look(alloc, text, at) else {
-        return Wanted::Form(Form::Item);
-    };
-    match wrong(text, seen) {
-        Some(wanted) => wanted,
-        None => wanted_next(text, seen),
+    /// What could stand here.
+    fn wanted(&self) -> Message<'a> {
+        let text = match self.next {
+            Next::Form(form) => form_text(form),
+            Next::Step =>
+                "after `{}` stands a `let`, or an expression begins: with a number, a name, `(`, `-`, `~`, `if`, `loop` or `strict`",
+            Next::Expression =>
+                "after `{}` an expression begins: with a number, a name, `(`, `-`, `~`, `if`, `loop` or `strict`",
+            Next::AfterOperand => "after `{}` could stand an operator{}",
+        };
+        two(
+            text,
+            Bytes(self.shown(self.before)),
+            Word(rest_after(self.part())),
+        )
     }
 }
 
 /// What is missing at the end of the text.
-fn missing_at_end<'a, A: Allocator + Clone>(alloc: &A, text: &'a [u8]) -> ProgramCause<'a> {
+fn missing_at_end<'a, A: Allocator + Clone>(alloc: &A, text: &'a [u8]) -> Message<'a> {
     let Some(seen) = look(alloc, text, text.len()) else {
-        return ProgramCause::Kind(FaultKind::Unended);
+        return say(kind_text(FaultKind::Unended));
     };
-    let open = match seen.next {
-        Next::Step | Next::Expression | Next::AfterOperand => unclosed(text, seen.innermost),
-        _ => None,
-    };
-    ProgramCause::Unexpected(match open {
-        Some(wanted) => wanted,
-        None => wanted_next(text, seen),
-    })
-}
-
-/// The byte that follows a token, and the spaces after that.
-fn byte_after(bytes: &[u8], len: usize) -> Option<u8> {
-    let rest = bytes.get(len..)?;
-    rest.iter()
-        .copied()
-        .find(|byte| !matches!(*byte, b' ' | b'\t' | b'\r' | b'\n'))
-}
-
-/// What there is none of: a function before `(`, an array before `[`, and else a value.
-fn missing<'a>(bytes: &[u8], stands: &'a [u8]) -> Missing<'a> {
-    let name = Shown { bytes: stands };
-    match byte_after(bytes, stands.len()) {
-        Some(b'(') => Missing::Function { name },
-        Some(b'[') => Missing::Array { name },
-        _ => Missing::Value { name },
+    match seen.next {
+        Next::Form(_) => seen.wanted(),
+        _ => seen.unclosed().unwrap_or(seen.wanted()),
     }
+}
+
+/// What is wrong at the place `at` of the text, or could stand there. An item where memory is refused.
+fn unexpected<'a, A: Allocator + Clone>(alloc: &A, text: &'a [u8], at: usize) -> Message<'a> {
+    let Some(seen) = look(alloc, text, at) else {
+        return say(form_text(Form::Item));
+    };
+    seen.wrong().unwrap_or(seen.wanted())
+}
+
+/// The byte that follows the token at this place, and the spaces after that.
+fn byte_after(text: &[u8], at: usize) -> Option<u8> {
+    let rest = text.get(at.saturating_add(token_at(text, at).len())..)?;
+    let mut bytes = rest.iter().copied();
+    bytes.find(|byte| !matches!(*byte, b' ' | b'\t' | b'\r' | b'\n'))
 }
 
 /// How many parameters and results a function has.
@@ -351,82 +317,38 @@ enum Spot {
     Behind,
 }
 
-impl Head {
-    /// Goes on by a token, where the function has this name. None where its head is over.
-    fn take(&mut self, spot: Spot, text: &[u8], name: &[u8], token: Token) -> Option<Spot> {
-        match (spot, token.kind) {
-            (
-                Spot::Outside,
-                TokenKind::Word {
-                    keyword: Keyword::Fn,
-                },
-            ) => Some(Spot::Named),
-            (Spot::Outside, _) => Some(Spot::Outside),
-            (Spot::Named, _) if token_of(from(text, token.at)) == name => Some(Spot::Parameters),
-            (Spot::Named, _) => Some(Spot::Outside),
-            (Spot::Parameters, TokenKind::Name { .. }) => {
-                self.parameters = self.parameters.saturating_add(1);
-                Some(Spot::Parameters)
-            }
-            (
-                Spot::Parameters,
-                TokenKind::Mark {
-                    sign: Sign::CloseParen,
-                },
-            ) => Some(Spot::Behind),
-            (Spot::Parameters, _) => Some(Spot::Parameters),
-            (Spot::Behind, TokenKind::Mark { sign: Sign::Arrow }) => Some(Spot::Behind),
-            (Spot::Behind, TokenKind::Number { number }) => {
-                self.results = number;
-                None
-            }
-            (Spot::Behind, _) => None,
-        }
-    }
-}
-
 /// How many parameters and results the function of this name has. None where there is no such function, or memory is refused.
 fn head_of<A: Allocator + Clone>(alloc: &A, text: &[u8], name: &[u8]) -> Option<Head> {
-    let tokens = lex(alloc.clone().ok()?, text).ok()?;
-    let mut head = Head {
-        parameters: 0,
-        results: 1,
-    };
+    let mut parameters = 0u64;
     let mut spot = Spot::Outside;
+    let tokens = lex(alloc.clone().ok()?, text).ok()?;
     for token in &tokens {
-        match head.take(spot, text, name, *token) {
-            Some(next) => spot = next,
-            None => return Some(head),
+        match (spot, token.kind) {
+            (Spot::Outside, TokenKind::Word { keyword }) if keyword == Keyword::Fn => {
+                spot = Spot::Named;
+            }
+            (Spot::Named, _) if token_at(text, token.at) == name => spot = Spot::Parameters,
+            (Spot::Named, _) => spot = Spot::Outside,
+            (Spot::Parameters, TokenKind::Name { .. }) => parameters = parameters.saturating_add(1),
+            (Spot::Parameters, TokenKind::Mark { sign }) if matches!(sign, Sign::CloseParen) => {
+                spot = Spot::Behind;
+            }
+            (Spot::Behind, TokenKind::Mark { sign }) if matches!(sign, Sign::Arrow) => (),
+            (Spot::Behind, TokenKind::Number { number }) => {
+                let results = number;
+                return Some(Head {
+                    parameters,
+                    results,
+                });
+            }
+            (Spot::Behind, _) => return Some(Head {
+                parameters,
+                results: 1,
+            }),
+            _ => (),
         }
     }
     None
-}
-
-/// What is wrong with a call of a function of this name.
-fn call_count<'a, A: Allocator + Clone>(alloc: &A, text: &[u8], name: &'a [u8]) -> Count<'a> {
-    let function = Shown { bytes: name };
-    match head_of(alloc, text, name) {
-        Some(
-            Head {
-                parameters,
-                results: 1,
-            },
-        ) => Count::Arguments {
-            function,
-            parameters,
-        },
-        Some(
-            Head {
-                parameters,
-                results,
-            },
-        ) => Count::Call {
-            function,
-            parameters,
-            results,
-        },
-        None => Count::One,
-    }
 }
 
 /// Which number of values is wrong at the place `at` of the program, where this token stands.
@@ -435,33 +357,75 @@ fn count<'a, A: Allocator + Clone>(
     program: &'a [u8],
     at: usize,
     stands: &'a [u8],
-) -> Count<'a> {
-    match stands {
-        b"let" => Count::Targets,
-        b"{" => Count::Results,
-        b"if" => Count::Arms,
-        b"loop" => Count::Turn,
-        [first, ..]
-            if first.is_ascii_alphabetic()
-                && byte_after(from(program, at), stands.len()) == Some(b'(') => {
-            call_count(alloc, program, stands)
-        }
-        _ => Count::One,
+) -> Message<'a> {
+    let text = match str::from_utf8(stands).unwrap_or("") {
+        "let" => "after `=` stand more or fewer values than `let` has names; `_` drops one",
+        "{" =>
+            "the function's body gives another number of values than its head says: N after `-> N`, and one where that is left out",
+        "if" =>
+            "the arms of this `if` give different numbers of values, or it stands where one value has to be, and gives more",
+        "loop" =>
+            "a turn of this loop gives more or fewer values than the loop has names, or it stands where one value has to be, and has more names",
+        _ =>
+            "one value has to stand here: an operand, an index, what is stored, a test or a loop's first value",
+    };
+    if !stands
+        .first()
+        .copied()
+        .unwrap_or(b' ')
+        .is_ascii_alphabetic()
+        || byte_after(program, at) != Some(b'(')
+    {
+        return say(text);
+    }
+    let Some(head) = head_of(alloc, program, stands) else {
+        return say(text);
+    };
+    let text = if head.results == 1 {
+        "`{}` has {}, and this call gives more or fewer values"
+    } else {
+        "`{}` has {} and {}: the call gives more or fewer values, or stands where one value has to be"
+    };
+    three(
+        text,
+        Bytes(stands),
+        Count(head.parameters, "parameter"),
+        Count(head.results, "result"),
+    )
+}
+
+/// What a person is told of a fault of which the kind says all.
+fn kind_text(kind: FaultKind) -> &'static str {
+    match kind {
+        FaultKind::BadByte =>
+            "no token begins so: other bytes stand only in comments, from `//` to the end of the line",
+        FaultKind::BadNumber =>
+            "a number is decimal, without leading zeros, at most 9223372036854775807; directly after `-` also 9223372036854775808",
+        FaultKind::Unended =>
+            "the program ends before all that was begun is closed: look for a `}`, `)`, `]` or `;` that is missing",
+        FaultKind::TooDeep =>
+            "more than 200 expressions, signs and `if`s are open here: give a part a name by `let`, or put it into a function",
+        FaultKind::NotACell =>
+            "only a cell is filled, and only as a whole expression: `A[i] := v`; within another expression it stands in brackets",
+        FaultKind::BadBound => "a loop's bound, how many turns are under way at once, is 2 to 64",
+        FaultKind::BadCount => "an array has 1 to 65536 cells, and a function 1 to 16 results",
+        FaultKind::TooMany =>
+            "a program has at most 64 arrays with 65536 cells together, and a function at most 16 parameters",
+        FaultKind::TooWide =>
+            "a turn carries at most 15 values: the loop's names, and the names from outside that it uses",
+        FaultKind::TooBig =>
+            "a function or a loop makes at most 1024 nodes, and a program at most 256 functions and loops: put a part into a function",
+        FaultKind::NoMain =>
+            "a program has a function `main`: its parameters are the inputs, and its results the outputs",
+        _ => "",
     }
 }
 
-/// What else the text is, where it is no program at all.
-fn no_program<'a>(text: &[u8]) -> Option<ProgramCause<'a>> {
-    if text.is_empty() {
-        Some(ProgramCause::Empty)
-    } else if text.starts_with(b"etsgraph ") {
-        Some(ProgramCause::AGraph)
-    } else if text.starts_with(b"ETSOBJCT") {
-        Some(ProgramCause::AnObject)
-    } else if text.starts_with(b"ets ") {
-        Some(ProgramCause::AListing)
-    } else {
-        None
+/// What is told of a fault of this kind in a program of which no more is known.
+pub fn kind_message<'a>(kind: FaultKind) -> Message<'a> {
+    match kind_text(kind) {
+        "" => one("{}", Programming(kind)),
+        text => say(text),
     }
 }
 
@@ -471,53 +435,52 @@ fn cause_at<'a, A: Allocator + Clone>(
     program: &'a [u8],
     kind: FaultKind,
     at: usize,
-) -> ProgramCause<'a> {
-    let bytes = from(program, at);
-    let stands = token_of(bytes);
-    let name = Shown { bytes: stands };
-    match kind {
-        FaultKind::BadNumber => ProgramCause::BadNumber,
-        FaultKind::BadName => ProgramCause::BadName { name },
-        FaultKind::Unexpected => ProgramCause::Unexpected(wanted(alloc, program, at)),
-        FaultKind::Unended => missing_at_end(alloc, program),
-        FaultKind::SameName => ProgramCause::SameName { name },
-        FaultKind::NoSuchName => ProgramCause::NoSuchName(missing(bytes, stands)),
-        FaultKind::Arity => ProgramCause::Arity(count(alloc, program, at, stands)),
-        kind => ProgramCause::Kind(kind),
-    }
-}
-
-/// The place in a program, with what stands there.
-fn place_of<'a>(program: &'a [u8], place: ProgramFault, at: usize) -> Place<'a> {
-    let line = place.line as u64;
-    let column = place.column as u64;
-    let bytes = from(program, at);
-    if bytes.is_empty() {
-        return Place::ProgramEnd { line, column };
-    }
-    Place::Program {
-        line,
-        text: Shown {
-            bytes: line_at(program, line),
-        },
-        column,
-        token: Shown {
-            bytes: token_of(bytes),
-        },
-    }
+) -> Message<'a> {
+    let stands = token_at(program, at);
+    let text = match (kind, byte_after(program, at)) {
+        (FaultKind::Unexpected, _) => return unexpected(alloc, program, at),
+        (FaultKind::Unended, _) => return missing_at_end(alloc, program),
+        (FaultKind::Arity, _) => return count(alloc, program, at, stands),
+        (FaultKind::BadName, _) =>
+            "`{}` is no name: one has at most 24 letters, digits and `_`, begins with a letter, has no `__`, and is no word that is kept for later",
+        (FaultKind::SameName, _) =>
+            "`{}` stands for an array or a function, or stands before in this list: take another name",
+        (FaultKind::NoSuchName, Some(b'(')) => "there is no function `{}`",
+        (FaultKind::NoSuchName, Some(b'[')) => "there is no array `{}`",
+        (FaultKind::NoSuchName, _) =>
+            "no value is called `{}` here: a `let` comes before, in this block or around it; a loop's name stands only in the loop",
+        _ => return kind_message(kind),
+    };
+    one(text, Bytes(stands))
 }
 
 /// Why the text has no program that is lowered.
 pub fn program_fault<'a, A: Allocator + Clone>(
     alloc: &A,
     text: &'a [u8],
-    place: ProgramFault,
+    fault: ProgramFault,
 ) -> Found<'a> {
-    if let Some(cause) = no_program(text) {
-        return Found::nowhere(Cause::Program(cause));
+    if let Some(cause) = other_input(text, "lower") {
+        return nowhere(cause);
     }
     let program = split(text).program;
-    let at = offset_of(program, place);
-    let cause = cause_at(alloc, program, place.kind, at);
-    Found::at(place_of(program, place, at), Cause::Program(cause))
+    let offset = offset_of(program, fault);
+    let stands = token_at(program, offset);
+    let (line, column) = (fault.line as u64, fault.column as u64);
+    let place = if stands.is_empty() {
+        two(
+            "the program ends at line {}, column {}",
+            Number(line),
+            Number(column),
+        )
+    } else {
+        four(
+            "line {} is `{}`; at column {} stands `{}`",
+            Number(line),
+            Line(line_at(program, line), column),
+            Number(column),
+            Bytes(stands),
+        )
+    };
+    at(place, cause_at(alloc, program, fault.kind, offset))
 }

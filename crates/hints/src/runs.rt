@@ -3,21 +3,21 @@
 ghost use Rattle.std.specs.Prelude.{◌≡◌, ◌==◌, is_some, nat_lt, not};
 ghost use Rattle.outcomes.specs.Outcomes.{ending_status, exit_status, meaning_status};
 
-use crate::cause::{Cause, EndCause, OptionCause, RunCause, StepsCause};
-use crate::found::Found;
+use crate::fields::literal_fault;
+use crate::graphs::block_named;
 use crate::lines::{LINE_FEED, field_at, line_at, split_graph};
-use crate::message::Piece;
-use crate::object_words::{Entry, Header};
-use crate::place::Place;
-use crate::rules::Rule;
-use crate::shown::{Many, Shown};
+use crate::message::Piece::{Bytes, Count, Number, Word};
+use crate::message::{Message, four, one, say, three, two};
+use crate::object_words::{Entry, word_at};
+use crate::place::{CARRIAGE_RETURN, Found, at, nowhere};
 use crate::words::input_in;
 use command_line::{Asked, Inputs, Request, RunOptions};
-use graph_file::literal;
+use graph_file::read;
 use oracle::MeanEnd;
 use outcomes::Ending;
 use schedule::config::StartFault;
 use semantics::report::End;
+use std::alloc::Allocator;
 use std::convert::AsStr;
 
 /// The most steps of an element.
@@ -27,37 +27,30 @@ const PICKS: u64 = 4_194_304;
 /// The most events of a page that is quick to open.
 const PAGE: u64 = 200_000;
 
-fn many(count: u64, noun: &'static str) -> Many {
-    Many { count, noun }
-}
-
 /// The cause for line `number` of the inputs, which is not an integer.
 pub fn input_fault(input: &[u8], number: u64) -> Found<'_> {
-    let (_graph, lines) = split_graph(input);
-    let line = line_at(lines, number);
-    let text = Shown { bytes: line };
-    let cause = if line.ends_with(b"\r") {
-        Cause::Run(RunCause::CarriageReturn)
-    } else if line.is_empty() {
-        Cause::Run(RunCause::EmptyLine)
+    let line = line_at(split_graph(input).1, number);
+    let place = if line.is_empty() {
+        "line {} of the inputs is empty"
     } else {
-        literal_cause(line)
+        "line {} of the inputs is `{}`"
     };
-    Found::at(Place::Input { line: number, text }, cause)
-}
-
-fn literal_cause(line: &[u8]) -> Cause<'_> {
-    match crate::field_faults::literal_fault(line) {
-        Some(cause) => Cause::Field(cause),
-        None => Cause::Run(RunCause::EmptyLine),
-    }
+    let cause = match literal_fault(line) {
+        Some(_cause) if line.ends_with(b"\r") => one(CARRIAGE_RETURN, Word("inputs")),
+        Some(cause) if !line.is_empty() => cause,
+        _ => say("inputs are integers, one a line, and no empty lines"),
+    };
+    at(two(place, Number(number), Bytes(line)), cause)
 }
 
 /// The cause for input `number` of the words after `exec`, which is not an integer.
 pub fn given_fault<'a, S: AsStr>(words: &'a [S], number: u64) -> Option<Found<'a>> {
-    let bytes = input_in(words, number)?.as_bytes();
-    let text = Shown { bytes };
-    Some(Found::at(Place::Given { number, text }, literal_cause(bytes)))
+    let input = input_in(words, number)?.as_bytes();
+    let text = "input {} of the command line is `{}`";
+    Some(at(
+        two(text, Number(number), Bytes(input)),
+        literal_fault(input)?,
+    ))
 }
 
 /// How many lines there are; the last one may lack its line feed.
@@ -70,99 +63,80 @@ fn line_count(lines: &[u8]) -> u64 {
     }
 }
 
-/// The first line of the graph's text that begins with these fields.
-fn line_with<'a>(text: &'a [u8], first: &[u8], second: &[u8]) -> Option<&'a [u8]> {
-    for line in text.split(|byte| *byte == LINE_FEED) {
-        if field_at(line, 0) == Some(first) && field_at(line, 1) == Some(second) {
-            return Some(line);
-        }
-    }
-    None
-}
-
-/// The cause for a run of this graph that was given another number of inputs than main has.
-fn inputs_cause(input: &[u8]) -> Option<RunCause<'_>> {
+/// The cause for a run of this graph that was given another number of inputs than main has. None where memory is refused.
+fn inputs_cause<'a, A: Allocator + Clone>(alloc: &A, input: &'a [u8]) -> Option<Message<'a>> {
     let (text, lines) = split_graph(input);
-    let whole = text.strip_suffix(b"\n".as_slice()).unwrap_or(text);
-    let main = field_at(whole.rsplit(|byte| *byte == LINE_FEED).next()?, 1)?;
-    let block = line_with(text, b"block", main)?;
-    let count = u64::try_from(literal(field_at(block, 2)?)?).ok()?;
-    Some(RunCause::Inputs {
-        main: Shown { bytes: main },
-        wants: many(count, "input"),
-        has: many(line_count(lines), "integer"),
-    })
-}
-
-/// Why a run of the graph that was read is given another number of inputs than main has.
-fn inputs_fault<'a>(input: &'a [u8]) -> Option<Found<'a>> {
-    let cause = inputs_cause(input)?;
-    Some(Found::nowhere(Cause::Run(cause)))
-}
-
-/// Why a run of this object is given another number of inputs than its main block has.
-fn object_inputs_fault<'a>(object: &[u8], inputs: &Inputs) -> Option<Found<'a>> {
-    let cause = object_inputs_cause(object, inputs)?;
-    Some(Found::nowhere(Cause::Run(cause)))
+    let graph = read(alloc.clone().ok()?, text).ok()?;
+    let main = block_named(&graph, &graph.main)?;
+    let text = "block {} has {}, and the lines behind the graph have {}";
+    let wants = Count(u64::from(main.inputs), "input");
+    Some(three(
+        text,
+        Bytes(main.name.bytes),
+        wants,
+        Count(line_count(lines), "integer"),
+    ))
 }
 
 /// The cause for a run of an object that was given these inputs, where its main block wants another number.
-fn object_inputs_cause<'a>(object: &[u8], inputs: &Inputs) -> Option<RunCause<'a>> {
-    let main = Header::of(object).main;
+fn object_inputs_cause<'a>(object: &[u8], inputs: &Inputs) -> Option<Message<'a>> {
+    let main = word_at(object, 5);
     match inputs {
-        Inputs::Integers(integers) => Some(RunCause::ObjectInputs {
-            main,
-            wants: many(Entry::of(object, main).inputs, "input"),
-            has: many(integers.len() as u64, "integer"),
-        }),
-        Inputs::TooMany => Some(RunCause::TooManyInputs),
+        Inputs::Integers(integers) => {
+            let text = "code block {}, which is run, has {}, and the command line has {}";
+            let wants = Count(Entry::of(object, main).inputs, "input");
+            Some(three(
+                text,
+                Number(main),
+                wants,
+                Count(integers.len() as u64, "integer"),
+            ))
+        }
+        Inputs::TooMany => Some(say(
+            "the command line has more than 16 inputs, and no object takes more than 16",
+        )),
         Inputs::NoInteger(_) => None,
     }
 }
 
-fn range(option: &'static str, value: u64, least: u64, most: u64) -> Option<OptionCause> {
+fn range<'a>(option: &'static str, value: u64, least: u64, most: u64) -> Option<Message<'a>> {
     if least <= value && value <= most {
-        None
-    } else {
-        Some(OptionCause::Range {
-            option,
-            least,
-            most,
-            value,
-        })
+        return None;
     }
+    Some(four(
+        "--{} is {} to {}, and not {}",
+        Word(option),
+        Number(least),
+        Number(most),
+        Number(value),
+    ))
 }
 
-fn elements_cause(elements: u64) -> Option<OptionCause> {
+fn elements_cause<'a>(elements: u64) -> Option<Message<'a>> {
     range("elements", elements, 1, 16)
 }
 
-fn frames_cause(options: &RunOptions) -> Option<OptionCause> {
+fn frames_cause<'a>(options: &RunOptions) -> Option<Message<'a>> {
     range("frames", options.frames, 1, 1_024)
 }
 
-/// The first of the numbers of elements of a profile that is outside its limits.
-fn sizes_cause(request: &Request) -> Option<OptionCause> {
-    let Request::Profile { sizes, .. } = request else {
-        return None;
-    };
-    for elements in 0..63u64 {
-        if sizes.has(elements) {
-            if let Some(cause) = elements_cause(elements) {
-                return Some(cause);
+/// What is wrong with what this request alone has: the numbers of elements of a profile, or how many orders there are to be.
+fn own_cause<'a>(request: &Request) -> Option<Message<'a>> {
+    match request {
+        Request::Profile { sizes, .. } => {
+            for elements in 0..63u64 {
+                let cause = elements_cause(elements);
+                if sizes.has(elements) && cause.is_some() {
+                    return cause;
+                }
+            }
+            if sizes.has(63) {
+                Some(say("--elements is 1 to 16, and not above 62"))
+            } else {
+                None
             }
         }
-    }
-    if sizes.has(63) {
-        Some(OptionCause::ManyElements)
-    } else {
-        None
-    }
-}
-
-fn count_cause(request: &Request) -> Option<OptionCause> {
-    match request {
-        Request::Orders { count: 0, .. } => Some(OptionCause::NoOrder),
+        Request::Orders { count: 0, .. } => Some(say("--count is at least 1, and not 0")),
         _ => None,
     }
 }
@@ -180,157 +154,141 @@ fn options_of(request: &Request) -> Option<&RunOptions> {
 }
 
 /// The first option whose value is outside its limits.
-fn option_cause(request: &Request) -> Option<OptionCause> {
+fn option_cause<'a>(request: &Request) -> Option<Message<'a>> {
     let options = options_of(request)?;
     let cause = elements_cause(options.elements)
         .or(frames_cause(options))
         .or(range("steps", options.steps, 0, STEPS))
-        .or(sizes_cause(request))
-        .or(count_cause(request))
-        .unwrap_or(OptionCause::Mode);
+        .or(own_cause(request))
+        .unwrap_or(say("--mode is `one`, `rounds` or `free`"));
     Some(cause)
 }
 
-/// Why a run that was given a wrong number of inputs does not start. `None` also where the input was not kept.
-fn wrong_inputs<'a>(request: &Request, input: Option<&'a [u8]>) -> Option<Found<'a>> {
-    let input = input?;
-    match request {
-        Request::Exec { inputs, .. } => object_inputs_fault(input, inputs),
-        _ => inputs_fault(input),
-    }
-}
-
-/// Which option a run of this request does not start with.
-fn start_cause(request: &Request, fault: StartFault) -> Option<OptionCause> {
-    match fault {
-        StartFault::NoFrames => frames_cause(options_of(request)?),
-        StartFault::BadConfig => option_cause(request),
-        StartFault::WrongInputs | StartFault::Memory => None,
-    }
-}
-
-/// Why a run of this request does not start, because of an option.
-fn option_fault<'a>(request: &Request, fault: StartFault) -> Option<Found<'a>> {
-    let cause = start_cause(request, fault)?;
-    Some(Found::nowhere(Cause::Run(RunCause::Option(cause))))
-}
-
 /// Why a run of this request does not start. `None` where that is not known, as where the input was not kept.
-pub fn start_fault<'a>(
+pub fn start_fault<'a, A: Allocator + Clone>(
+    alloc: &A,
     request: &Request,
     input: Option<&'a [u8]>,
     fault: StartFault,
 ) -> Option<Found<'a>> {
     match fault {
-        StartFault::WrongInputs => wrong_inputs(request, input),
-        _ => option_fault(request, fault),
+        StartFault::NoFrames => {
+            return Some(nowhere(frames_cause(options_of(request)?)?));
+        }
+        StartFault::BadConfig => return Some(nowhere(option_cause(request)?)),
+        StartFault::Memory => return None,
+        StartFault::WrongInputs => (),
     }
+    let input = input?;
+    if let Request::Exec { inputs, .. } = request {
+        return Some(nowhere(object_inputs_cause(input, inputs)?));
+    }
+    Some(nowhere(inputs_cause(alloc, input)?))
 }
 
 /// What is said where memory is refused.
-pub fn memory_cause<'a>(asked: &Asked) -> RunCause<'a> {
-    match asked {
-        Asked::Request(Request::Run(_) | Request::Exec { .. }) => RunCause::MachineMemory,
+pub fn memory_cause<'a>(asked: &Asked) -> Message<'a> {
+    say(match asked {
+        Asked::Request(Request::Run(_) | Request::Exec { .. }) => {
+            "memory was refused: fewer --elements and --frames take less of it"
+        }
         Asked::Request(
             Request::Trace { .. } | Request::Orders { .. } | Request::Profile { svg: false, .. },
-        ) => RunCause::EventMemory,
-        _ => RunCause::Memory,
-    }
+        ) => "memory was refused: fewer --elements, --frames and --steps take less of it",
+        _ => "memory was refused: this input wants more than there is",
+    })
 }
 
-fn element_cause(options: &RunOptions, most: u64) -> StepsCause {
-    StepsCause::Element {
-        steps: many(options.steps, "step"),
-        most,
-    }
+/// What ran out where an element's steps, of which this many are the most, are the limit.
+fn element_cause<'a>(options: &RunOptions, most: u64) -> Message<'a> {
+    let text =
+        "an element made its {}, and had more to do: raise --steps ({} at most), if the run ends at all";
+    two(text, Count(options.steps, "step"), Number(most))
 }
 
 /// What ran out in an order. With one element each pick is an event, and with more no element makes more events than there are picks.
-fn order_cause(options: &RunOptions) -> StepsCause {
+fn order_cause<'a>(options: &RunOptions) -> Message<'a> {
     if options.steps >= PICKS {
-        StepsCause::Picks { most: PICKS }
-    } else if options.elements == 1 {
-        element_cause(options, PICKS)
-    } else {
-        StepsCause::ElementOrPicks {
-            steps: many(options.steps, "step"),
-            most: PICKS,
-        }
+        let text =
+            "an order has {} picks at most, and more was to be done behind them: smaller inputs take fewer, and fewer --elements waste fewer on elements without a token";
+        return one(text, Number(PICKS));
     }
+    if options.elements == 1 {
+        return element_cause(options, PICKS);
+    }
+    let text =
+        "an element made its {}, or the {} picks of an order ran out: raise --steps ({} at most); else smaller inputs, or fewer --elements, take fewer picks";
+    three(
+        text,
+        Count(options.steps, "step"),
+        Number(PICKS),
+        Number(PICKS),
+    )
 }
 
-/// What ran out, where a machine ran.
-fn steps_cause(asked: &Asked) -> StepsCause {
-    match asked {
+/// What ran out.
+fn steps_cause<'a>(asked: &Asked) -> Message<'a> {
+    let steps = match asked {
         Asked::Request(
             Request::Run(options) | Request::Exec { options, .. } | Request::Trace { options, .. },
-        ) => element_cause(options, STEPS),
-        Asked::Request(Request::Orders { options, .. }) => order_cause(options),
-        _ => StepsCause::Activities { steps: 0 },
-    }
-}
-
-/// What ran out, where the meaning ran.
-fn activities_cause(asked: &Asked) -> StepsCause {
-    match asked {
-        Asked::Request(Request::Mean { steps }) => StepsCause::Activities { steps: *steps },
-        Asked::Request(Request::Profile { options, .. }) => StepsCause::Wave {
-            steps: options.steps,
-            most: STEPS,
-        },
-        _ => StepsCause::Activities { steps: 0 },
-    }
-}
-
-/// What helps where credits are wanted.
-fn credit_advice(asked: &Asked) -> &'static str {
-    match asked {
-        Asked::Request(Request::Exec { .. }) => {
-            "raise the bound k of `open`, `take`, `give` and `drain`, unless the code gives no credit back"
+        ) => return element_cause(options, STEPS),
+        Asked::Request(Request::Orders { options, .. }) => return order_cause(options),
+        Asked::Request(Request::Profile { options, .. }) => {
+            let text =
+                "--steps {} does not allow all activities of the next wave: raise it ({} at most), if the graph ends at all";
+            return two(text, Number(options.steps), Number(STEPS));
         }
-        _ => "raise the loop's bound k, the number in its line `loop F k ..`",
-    }
+        Asked::Request(Request::Mean { steps }) => *steps,
+        _ => 0,
+    };
+    let text =
+        "--steps {} allows no further activity, and there is one: raise it, if the graph ends at all";
+    one(text, Number(steps))
 }
 
-fn starved_cause<'a>(advice: &'static str, frames: u64, credits: u64) -> EndCause<'a> {
-    let waiting_frames = many(frames, "request");
-    let waiting_credits = many(credits, "request");
+/// Why this many requests for frames and for credits wait.
+fn starved_cause<'a>(asked: &Asked, frames: u64, credits: u64) -> Message<'a> {
+    let waiting_frames = Count(frames, "request");
+    let waiting_credits = Count(credits, "request");
     if credits == 0 {
-        EndCause::StarvedOfFrames {
-            frames: waiting_frames,
-        }
+        let text =
+            "{} for a frame at the end, where no frame was free: raise --frames (1024 at most), or --elements (16 at most)";
+        one(text, waiting_frames)
     } else if frames == 0 {
-        EndCause::StarvedOfCredits {
-            credits: waiting_credits,
-            advice,
-        }
+        let advice = match asked {
+            Asked::Request(Request::Exec { .. }) =>
+                "raise the bound k of `open`, `take`, `give` and `drain`, unless the code gives no credit back",
+            _ => "raise the loop's bound k, the number in its line `loop F k ..`",
+        };
+        let text = "{} for a loop's credit at the end, where no iteration could end: {}";
+        two(text, waiting_credits, Word(advice))
     } else {
-        EndCause::Starved {
-            frames: waiting_frames,
-            credits: waiting_credits,
-        }
+        let text =
+            "{} for a frame and {} for a loop's credit at the end: raise --frames (1024 at most), or --elements (16 at most), and the bound k of the loops";
+        two(text, waiting_frames, waiting_credits)
     }
 }
 
 /// Whose fault it is that a rule excludes a token.
-fn stuck_cause<'a>(asked: &Asked) -> EndCause<'a> {
-    match asked {
-        Asked::Request(Request::Exec { .. }) => EndCause::FaultOfObject,
-        _ => EndCause::FaultOfProgram,
-    }
+fn stuck_cause<'a>(asked: &Asked) -> Message<'a> {
+    say(match asked {
+        Asked::Request(Request::Exec { .. }) =>
+            "the object is at fault, as no object of `ets compile` is, and the report does not tell the token: `ets dis` lists the code, and docs/DEFINITIONS.md has the rules, in part 4",
+        _ => "compiled code never makes such a token: this is a fault of ets",
+    })
 }
 
-/// Array number `array`: its name, where a graph was read that was kept.
-fn array_piece<'a>(asked: &Asked, input: Option<&'a [u8]>, array: u64) -> Piece<'a> {
-    match (asked, input) {
-        (Asked::Request(Request::Exec { .. }), _) | (_, None) => Piece::Number(array),
+/// Why a run clashed: at this cell of array number `array`, of which the name is told where a graph was read that was kept.
+fn clash_cause<'a>(asked: &Asked, input: Option<&'a [u8]>, array: u64, index: u32) -> Message<'a> {
+    let piece = match (asked, input) {
+        (Asked::Request(Request::Exec { .. }), _) | (_, None) => Number(array),
         (_, Some(text)) => {
             let line = line_at(text, array.saturating_add(2));
-            Piece::Bytes(Shown {
-                bytes: field_at(line, 1).unwrap_or(b""),
-            })
+            Bytes(field_at(line, 1).unwrap_or(b""))
         }
-    }
+    };
+    let text = "a second store came to cell {} of array {}: a cell takes one store in a run";
+    two(text, Number(u64::from(index)), piece)
 }
 
 /// Why a run did not end at rest, of which so many requests for frames and for credits wait.
@@ -340,45 +298,50 @@ fn run_cause<'a>(
     end: End,
     frames: u64,
     credits: u64,
-) -> Option<RunCause<'a>>
+) -> Option<Message<'a>>
     ensures { is_some result ≡ not (exit_status end == 0) }
 {
     match end {
         End::Rest | End::Stop => None,
         End::Memory => Some(memory_cause(asked)),
-        End::Starved => {
-            let advice = credit_advice(asked);
-            Some(RunCause::Ended(starved_cause(advice, frames, credits)))
-        }
-        End::Clash { array, index } => Some(RunCause::Ended(EndCause::Clash {
-            array: array_piece(asked, input, u64::from(array)),
-            index: u64::from(index),
-        })),
-        End::Steps => Some(RunCause::Ended(EndCause::Steps(steps_cause(asked)))),
-        End::Stuck { .. } => Some(RunCause::Ended(stuck_cause(asked))),
+        End::Starved => Some(starved_cause(asked, frames, credits)),
+        End::Clash { array, index } => Some(clash_cause(asked, input, u64::from(array), index)),
+        End::Steps => Some(steps_cause(asked)),
+        End::Stuck { .. } => Some(stuck_cause(asked)),
     }
 }
 
 /// Why a run of the meaning did not end at rest.
-fn meaning_cause<'a>(asked: &Asked, input: Option<&'a [u8]>, end: MeanEnd) -> Option<RunCause<'a>>
+fn meaning_cause<'a>(asked: &Asked, input: Option<&'a [u8]>, end: MeanEnd) -> Option<Message<'a>>
     ensures { is_some result ≡ not (meaning_status end == 0) }
 {
     match end {
         MeanEnd::Rest => None,
-        MeanEnd::Clash { array, index } => Some(RunCause::Ended(EndCause::Clash {
-            array: array_piece(asked, input, array as u64),
-            index: u64::from(index),
-        })),
-        MeanEnd::Steps => Some(RunCause::Ended(EndCause::Steps(activities_cause(asked)))),
+        MeanEnd::Clash { array, index } => Some(clash_cause(asked, input, array as u64, index)),
+        MeanEnd::Steps => Some(steps_cause(asked)),
     }
 }
 
 /// The rule that excludes a token, where that is the end.
-fn end_place<'a>(end: End) -> Option<Place<'a>> {
-    match end {
-        End::Stuck { rule } => Some(Place::Rule(Rule::of(u64::from(rule))?)),
-        _ => None,
-    }
+fn end_place<'a>(end: End) -> Option<Message<'a>> {
+    let End::Stuck { rule } = end else {
+        return None;
+    };
+    let text = match rule {
+        1 => "it goes to an instruction that is not there",
+        2 => "it goes to the right port of an instruction that takes one token",
+        3 => "the slot of its instruction is in a state in which the instruction does not take it",
+        4 =>
+            "its word, or the one that it meets, is of a kind that is not taken there: a value, a frame or a continuation",
+        5 => "it gives back a frame that is not out",
+        6 => "it goes to an output of main that has its value, or that is not there",
+        _ => return None,
+    };
+    Some(two(
+        "rule {} excludes a token: {}",
+        Number(u64::from(rule)),
+        Word(text),
+    ))
 }
 
 /// Why a run did not end at rest, and which rule excludes a token.
@@ -393,12 +356,12 @@ pub fn end_fault<'a>(asked: &Asked, input: Option<&'a [u8]>, ending: Ending) -> 
         } => match run_cause(asked, input, end, frames, credits) {
             Some(cause) => Some(Found {
                 place: end_place(end),
-                cause: Cause::Run(cause),
+                cause,
             }),
             None => None,
         },
         Ending::Meaning(end) => match meaning_cause(asked, input, end) {
-            Some(cause) => Some(Found::nowhere(Cause::Run(cause))),
+            Some(cause) => Some(nowhere(cause)),
             None => None,
         },
     }
@@ -409,13 +372,10 @@ pub fn page_fault<'a>(events: u64) -> Option<Found<'a>>
     ensures { is_some result ≡ nat_lt 200000 events }
 {
     if events > PAGE {
-        Some(Found::nowhere(Cause::Run(RunCause::LargePage)))
+        let text =
+            "a page of more than 200000 events is slow to open: --last K makes one of the last K events";
+        Some(nowhere(say(text)))
     } else {
         None
     }
-}
-
-/// Why two orders have different reports.
-pub fn orders_fault<'a>() -> Found<'a> {
-    Found::nowhere(Cause::Run(RunCause::Ended(EndCause::OrdersDiffer)))
 }
