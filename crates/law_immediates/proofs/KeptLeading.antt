@@ -16,7 +16,7 @@ use Rattle.tags.specs.declared.token.To.{To}
 use Rattle.tags.specs.declared.token.Token.{Token}
 use Rattle.semantics.specs.declared.program.Dest.{Dest}
 use Rattle.semantics.specs.Program.{CodeBlock, Program}
-use Rattle.semantics.specs.Rule.{token, at_dest, to_each}
+use Rattle.semantics.specs.Rule.{token, at_dest, to_each, to_all}
 use Rattle.semantics.specs.Plan.{Plan}
 use Rattle.law_confluence.proofs.Orders.{shuffled, Part, ◌⊕◌}
 use Rattle.folding.specs.Places.{layout_of, new_place}
@@ -25,7 +25,7 @@ use Rattle.folding.proofs.Pairs.{closed_one, closed_in, closed_uses, given, want
 use Rattle.folding.proofs.Cases.{port_at, value_at}
 use Rattle.law_simulation.specs.Simulates.{StandsBy, StandAllBy}
 use Rattle.law_simulation.specs.Places.{ip_word}
-use Rattle.law_simulation.specs.Simulates.{Sends, Settles, fired, fires_lit, settled, stand_more, stand_none}
+use Rattle.law_simulation.specs.Simulates.{Sends, Settles, fired, settled, stand_more, stand_none}
 use Rattle.law_simulation.proofs.SimulationRules.{sends_grow, settles_after, settles_map, settles_perm, settles_then}
 
 module _ (kind : Word → Type 0) (P Q : Program) (g h : ℕ → ℕ) where
@@ -44,10 +44,10 @@ module _ (kind : Word → Type 0) (P Q : Program) (g h : ℕ → ℕ) where
   pub settles_join : (R : ℕ → ℕ → Type 0) (xs ys us vs : List Token) → Settles R P xs us → Settles R P ys vs → Settles R P (xs ++ ys) (us ++ vs)
   settles_join R xs ys us vs (settled some others e) k =
       settles_perm R P (xs ++ ys) (us ++ ys) (us ++ vs) (IsPermutation-append_left ys xs us e) (settles_after R P ys vs us k)
-  settles_join R xs ys us vs (fired some others f a w z i rest e at is more may) k =
-      fired (xs ++ ys) (us ++ vs) f a w z i (rest ++ ys) (IsPermutation-append_left ys xs (token (To.Instr f a Left) w ∷ rest) e) at is
-      (subst (λ (l : List Token). Settles R P l (us ++ vs)) (append_assoc (fires_lit f a z i) rest ys)
-      (settles_join R (fires_lit f a z i ++ rest) ys us vs more k)) may
+  settles_join R xs ys us vs (fired some others f a w v i rest e at is more may) k =
+      fired (xs ++ ys) (us ++ vs) f a w v i (rest ++ ys) (IsPermutation-append_left ys xs (token (To.Instr f a Left) w ∷ rest) e) at is
+      (subst (λ (l : List Token). Settles R P l (us ++ vs)) (append_assoc (to_all record { frame = f; ip = a } v i) rest ys)
+      (settles_join R (to_all record { frame = f; ip = a } v i ++ rest) ys us vs more k)) may
 
   module _ (p : Plan) (c : CodeBlock) (F E : ℕ) where
     abbrev place : ℕ → ℕ

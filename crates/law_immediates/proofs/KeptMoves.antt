@@ -56,7 +56,7 @@ use Rattle.std.proofs.Common.{◌||◌}
 use Rattle.law_immediates.proofs.KeptUses.{moved_has}
 use Rattle.law_simulation.specs.Simulates.{Way}
 use Rattle.law_simulation.specs.Places.{ip_word, is_answered}
-use Rattle.law_simulation.specs.Simulates.{Clumped, Enters, IsMoved, IsPair, IsValue, Leads, Pairs, Plain, Ready, Sends, Settles}
+use Rattle.law_simulation.specs.Simulates.{Clumped, Enters, IsMoved, IsPair, IsValue, Leads, Pairs, Plain, Ready, Sends, Settles, hands_on}
 use Rattle.law_simulation.proofs.SimulationPorts.{two_out}
 use Rattle.law_simulation.proofs.SimulationRules.{settles_keeps, settles_map, settles_then}
 
@@ -139,9 +139,6 @@ module _ (p : Plan) (s : IsSound p) (b : ℕ) (c : CodeBlock) (at_b : slice_get 
         contains_none x (subst (λ (l : List ℕ). Contains l x) e
         (Contains-permutation _ _ x (pairs_match p c (spares p s b c at_b) (inside p s b c at_b) n i t at) k))
 
-    apart_ops : (o : Binary) (z : ℤ) → Apply2 o ≡ Lit z → ⊥
-    apart_ops o z e = cc
-
     same_ip : (f a x : ℕ) (r t : Port) (v w : Word) → token (To.Instr f a r) v ≡ token (To.Instr f x t) w → (a ≡ x) × (r ≡ t)
     same_ip f a x r t v w e = let d = ap (λ (t : Token). t.to) e in (cc, cc)
 
@@ -183,7 +180,7 @@ module _ (p : Plan) (s : IsSound p) (b : ℕ) (c : CodeBlock) (at_b : slice_get 
             let port : port_at p c x ≡ other_port N.d.port = ap (port_at p c) (sym N.to) ∙ D.closed ∙ other_of N.d.port qc (sym (D.shut N.d.port) ∙ N.still) in
             let spot : F + x ≡ F + n + N.d.ahead = (let e = N.to in omega (arith, e)) in
             let first : Contains W.meant one =
-            settles_keeps (λ f l. ⊤) P (Old t f w) W.meant settles one (λ f2 a w2 z i2 may e at2 op. no_lit D old f2 a w2 z i2 e at2 op)
+            settles_keeps (λ f l. ⊤) P (Old t f w) W.meant settles one (λ f2 a w2 i2 may e at2 op. no_hand D old f2 a w2 i2 e at2 op)
             (contains_map (at_dest record { frame = f; ip = F + n } w) (dests_of i t) N.d (get_contains (dests_of i t) N.k N.d N.named)) in
             let second : Contains W.meant two = subst (Contains W.meant) (λ k. token (To.Instr f (spot k) (port k)) (Word.Val (Int (value_at p c x)))) gets in
             let r = two_out W.meant one two first second
@@ -202,13 +199,13 @@ module _ (p : Plan) (s : IsSound p) (b : ℕ) (c : CodeBlock) (at_b : slice_get 
               settles = settles_then (λ f l. ⊤) P (Old t f w) W.meant (one ∷ two ∷ r.0) settles r.1;
             }
           where
-            no_lit : (D : FoldedAt p c (n + N.d.ahead) qc) → instr_at P (F + n + N.d.ahead) ≡ Some D.i → (f2 a : ℕ) (w2 : Word) (z : ℤ) (i2 : Instr)
+            no_hand : (D : FoldedAt p c (n + N.d.ahead) qc) → instr_at P (F + n + N.d.ahead) ≡ Some D.i → (f2 a : ℕ) (w2 : Word) (i2 : Instr)
                 → token (To.Instr f (F + n + N.d.ahead) N.d.port) w ≡ token (To.Instr f2 a Left) w2
-                → instr_at P a ≡ Some i2 → i2.op ≡ Lit z → ⊥
-            no_lit D old f2 a w2 z i2 e at2 op =
+                → instr_at P a ≡ Some i2 → hands_on i2.op ≡ true → ⊥
+            no_hand D old f2 a w2 i2 e at2 op =
                 let same : a ≡ F + n + N.d.ahead = (let d = ap (λ (t : Token). t.to) e in cc) in
                 let j : i2 ≡ D.i = same_Some i2 D.i (sym at2 ∙ ap (instr_at P) same ∙ old) in
-                apart_ops D.o z (sym D.was ∙ sym (ap (λ (i : Instr). i.op) j) ∙ op)
+                true≢false (sym op ∙ ap (λ (i : Instr). hands_on i.op) j ∙ ap hands_on D.was)
 
         by_case : FoldCase p c (n + N.d.ahead) → Pairs P (Old t f w) w
         by_case (is_kept K) = absurd (true≢false (sym N.folded ∙ K.folded))

@@ -39,9 +39,9 @@ use Rattle.law_immediates.proofs.KeptNumbering.{is_nil, plain_at}
 use Rattle.law_immediates.proofs.KeptLeading.{stand_one, operand, operands, news, Made, all_made, Whole, whole_made, whole_both}
 use Rattle.law_simulation.specs.Simulates.{StandsBy, StandAllBy}
 use Rattle.law_simulation.specs.Places.{ip_token, ip_word}
-use Rattle.law_simulation.specs.Simulates.{Fresh, HandsOn, Plain, Sends, Settles, fired, fires_lit, hands_on, itself, left, moved, right, settled}
+use Rattle.law_simulation.specs.Simulates.{Fresh, HandsOn, Plain, Sends, Settles, fires_lit, hands_on, itself, left, moved, right, settled}
 use Rattle.law_simulation.specs.Simulates.{stand_none, through, top}
-use Rattle.law_simulation.proofs.SimulationRules.{nodes_behind, sends_with, settles_map}
+use Rattle.law_simulation.proofs.SimulationRules.{lit_fired, nodes_behind, sends_with, settles_map}
 
 module _ (kind : Word → Type 0) (of_value : (z : ℤ) → kind (Word.Val (Int z))) (P Q : Program) (g h : ℕ → ℕ) (p : Plan) (c : CodeBlock) (F E : ℕ)
     (spares : SparesLiterals c)
@@ -194,7 +194,7 @@ module _ (kind : Word → Type 0) (of_value : (z : ℤ) → kind (Word.Val (Int 
             → ((k l : ℕ) → Sends P Q h (news kind P Q g h p c F E f m (Word.Val (Int z)) (j.firsts ++ j.seconds)) k l → R k l)
             → Settles R P (old_token ∷ []) (Ops f [] ++ (Ops f (closed_in p c m (j.firsts ++ j.seconds)) ++ W.meant))
         settles R may turn =
-            fired (old_token ∷ []) (Ops f (closed_in p c m (j.firsts ++ j.seconds)) ++ W.meant) f (F + m) w z j []
+            lit_fired R P (old_token ∷ []) (Ops f (closed_in p c m (j.firsts ++ j.seconds)) ++ W.meant) f (F + m) w z j []
             (same_perm (old_token ∷ []) (token (To.Instr f (F + m) Left) w ∷ [])
             (ap (λ (t : Token). t ∷ []) (old_at ∙ ap (λ (q : Port). token (To.Instr f (F + m) q) w) port))) (there_old m j at_m) op
             (subst (λ (l : List Token). Settles R P l (Ops f (closed_in p c m (j.firsts ++ j.seconds)) ++ W.meant)) (sym (append-nil (fires_lit f (F + m) z j)))

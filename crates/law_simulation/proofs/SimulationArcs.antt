@@ -1,5 +1,5 @@
 -- The arcs that events of the old run use.
-use Rattle.std.proofs.Common.{◌≡◌, refl, sym, ap, ◌∙◌, subst, ℕ, ℤ, suc, ◌+◌, ◌⊎◌, inl, inr, Bool, true, false, List, [], ◌∷◌, ◌++◌, Option, Some, None}
+use Rattle.std.proofs.Common.{◌≡◌, refl, sym, ap, ◌∙◌, subst, ℕ, suc, ◌+◌, ◌⊎◌, inl, inr, Bool, true, false, true≢false, List, [], ◌∷◌, ◌++◌, Option, Some, None}
 use Rattle.std.proofs.Common.{Contains, arith}
 use Rattle.std.specs.Prelude.{slice_get}
 use Rattle.std.proofs.lemmas.Option.{slice_get_within, same_Some}
@@ -12,7 +12,7 @@ use Rattle.tags.specs.declared.token.To.{To}
 use Rattle.tags.specs.declared.token.Token.{Token}
 use Rattle.semantics.specs.declared.program.Dest.{Dest}
 use Rattle.semantics.specs.declared.program.Op.{Op}
-use Rattle.semantics.specs.declared.program.Op.TheVariants.{Lit}
+use Rattle.semantics.specs.declared.program.Op.TheVariants.{Lit, Copy}
 use Rattle.semantics.specs.Program.{Instr, CodeBlock, Program, first_of, instr_at}
 use Rattle.semantics.specs.Rule.{token}
 use Rattle.semantics.specs.Machine.{Machine}
@@ -21,7 +21,7 @@ use Rattle.semantics.specs.Sharing.{Arc, arc, inlet, arcs_to, arcs_from, arcs_of
 use Rattle.semantics.specs.Arcs.{UsesBy, UsesArc}
 use Rattle.semantics.proofs.ArcEnds.{arcs_from_from}
 use Rattle.law_reuse.proofs.SlotsStands.{instr_in}
-use Rattle.law_simulation.specs.Simulates.{Pend, Plain, Sends}
+use Rattle.law_simulation.specs.Simulates.{Pend, Plain, Sends, hands_on}
 
 -- ---- WHERE AN ARC STARTS
 record Starts (p : Plan) (m : ℕ) (is : List Instr) (x : Arc) : Type 0 where
@@ -97,6 +97,11 @@ use_at p f a r taken made new U = go (slice_get p.program.blocks U.b) refl
 pub same_to : {a b x y : ℕ} {r s : Port} → To.Instr a x r ≡ To.Instr b y s → (a ≡ b) × (x ≡ y) × (r ≡ s)
 same_to e = (cc, cc, cc)
 
+hand_arcs : (p : Plan) (n : ℕ) (i : Instr) (op : Op) → hands_on op ≡ true → arcs_from p n i op ≡ arcs_to n false i.firsts ++ arcs_to n true i.seconds
+hand_arcs p n i (Lit z) e = refl
+hand_arcs p n i Copy e = refl
+hand_arcs p n i op e = absurd (true≢false (sym e))
+
 module _ (p q : Plan) (g h : ℕ → ℕ) where
   abbrev P : Program
   P = p.program
@@ -104,10 +109,10 @@ module _ (p q : Plan) (g h : ℕ → ℕ) where
   abbrev Q : Program
   Q = q.program
 
-  -- An arc that a literal uses leads to what is on its way.
-  pub lit_use : (new : List Token) (f l : ℕ) (w : Word) (i : Instr) (z : ℤ) → Sends P Q h new f l → instr_at P l ≡ Some i → i.op ≡ Lit z → (k b : ℕ) (t : Port)
+  -- An arc that one uses that hands on leads to what is on its way.
+  pub hand_use : (new : List Token) (f l : ℕ) (w : Word) (i : Instr) → Sends P Q h new f l → instr_at P l ≡ Some i → hands_on i.op ≡ true → (k b : ℕ) (t : Port)
       → Plain P Q h b → (made : List Token) (m : Machine) → UsesArc p k b t (token (To.Instr f l Left) w) made m → Pend P Q h k b t new
-  lit_use new f l w i z N at op k b t K made m U0 = by_arc (Contains-append_cases (arcs_to U.n false i.firsts) (arcs_to U.n true i.seconds) U.x arcs)
+  hand_use new f l w i N at op k b t K made m U0 = by_arc (Contains-append_cases (arcs_to U.n false i.firsts) (arcs_to U.n true i.seconds) U.x arcs)
     where
       U : UseAt p k b t (token (To.Instr f l Left) w) made m
       U = use_at p k b t (token (To.Instr f l Left) w) made m U0
@@ -119,7 +124,7 @@ module _ (p q : Plan) (g h : ℕ → ℕ) where
       same = same_Some U.i i (sym U.at ∙ ap (instr_at P) (sym spot.1) ∙ at)
 
       arcs : Contains (arcs_to U.n false i.firsts ++ arcs_to U.n true i.seconds) U.x
-      arcs = subst (λ (op : Op). Contains (arcs_from p U.n i op) U.x) op (subst (λ (i : Instr). Contains (arcs_from p U.n i i.op) U.x) same U.here)
+      arcs = subst (λ (l : List Arc). Contains l U.x) (hand_arcs p U.n i i.op op) (subst (λ (i : Instr). Contains (arcs_from p U.n i i.op) U.x) same U.here)
 
       by_dest : (side : Bool) (d : Dest) → Contains (i.firsts ++ i.seconds) d → arc U.n side (inlet (U.n + d.ahead) d.port) ≡ U.x → Pend P Q h k b t new
       by_dest side d named e =

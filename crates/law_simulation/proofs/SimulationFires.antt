@@ -19,17 +19,25 @@ use Rattle.operators.specs.declared.Binary.{Binary}
 use Rattle.operators.specs.Values.{apply2}
 use Rattle.semantics.specs.declared.program.Op.TheVariants.{Copy}
 use Rattle.std.proofs.Common.{true}
-use Rattle.law_simulation.specs.Simulates.{HandsOn, fires_lit, hands_on}
-
--- a literal's event
-pub lit_fires : (p : Program) (f a : ℕ) (w : Word) (z : ℤ) (i : Instr) (s : MStore) → i.op ≡ Lit z
-    → Fires s f (slot_of i i.op) (outcome_of p record { frame = f; ip = a } i i.op (slot_in s f (slot_of i i.op)) Left w) (fires_lit f a z i) s
-lit_fires p f a w z i s e =
-    subst (λ (op : Op). Fires s f (slot_of i op) (outcome_of p record { frame = f; ip = a } i op (slot_in s f (slot_of i op)) Left w) (fires_lit f a z i) s)
-    (sym e)
-    (subst (λ (op : Op). Fires s f None (fires Empty (fire_one p record { frame = f; ip = a } i op w)) (fires_lit f a z i) s) (sym e) (refl, refl))
+use Rattle.law_simulation.specs.Simulates.{HandsOn, hands_on}
 
 -- the event of what hands on
+pub hands_fires : (kind : Word → Type 0) (p : Program) (f a : ℕ) (w v : Word) (i : Instr) (s : MStore) → HandsOn kind i.op w v
+    → Fires s f (slot_of i i.op) (outcome_of p record { frame = f; ip = a } i i.op (slot_in s f (slot_of i i.op)) Left w)
+    (to_all record { frame = f; ip = a } v i) s
+hands_fires kind p f a w v i s e = go i.op refl e
+  where
+    seat : Seat
+    seat = record { frame = f; ip = a }
+
+    go : (op : Op) → i.op ≡ op → HandsOn kind op w v → Fires s f (slot_of i op) (outcome_of p seat i op (slot_in s f (slot_of i op)) Left w) (to_all seat v i) s
+    go (Lit z) is e =
+        subst (λ (x : Op). Fires s f None (fires Empty (fire_one p seat i x w)) (to_all seat v i) s) (sym is)
+        (ap (λ (v : Word). to_all seat v i) e.0, refl)
+    go Copy is e =
+        subst (λ (x : Op). Fires s f None (fires Empty (fire_one p seat i x w)) (to_all seat v i) s) (sym is) (ap (λ (v : Word). to_all seat v i) e, refl)
+    go op is e = absurd e
+
 pub hands_op : (kind : Word → Type 0) (op : Op) (w v : Word) → HandsOn kind op w v → hands_on op ≡ true
 hands_op kind (Lit z) w v e = refl
 hands_op kind Copy w v e = refl

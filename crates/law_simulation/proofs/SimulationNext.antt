@@ -50,7 +50,7 @@ use Rattle.law_simulation.proofs.SimulationPorts.{ones}
 use Rattle.law_simulation.proofs.SimulationState.{Explained, Sim, arrives_old, counted_of, explained_last, explained_later, new_counter, not_instr}
 use Rattle.law_simulation.proofs.SimulationState.{past_of, same_credit, slot_fits, taken_more}
 use Rattle.law_simulation.proofs.SimulationSteps.{same_grant, same_release}
-use Rattle.law_simulation.proofs.SimulationTold.{KeepsArcs, Told, came_next, moved_apart, pair_apart, told_lit, told_next, told_now, told_through}
+use Rattle.law_simulation.proofs.SimulationTold.{KeepsArcs, Told, came_next, moved_apart, pair_apart, told_hand, told_next, told_now, told_through}
 use Rattle.law_simulation.proofs.SimulationTraces.{Step, step}
 use Rattle.law_simulation.proofs.SimulationUses.{moved_used, pair_used}
 
@@ -250,7 +250,7 @@ module _ (p q : Plan) (S : Relates p q) (wired : IsWired p) (orderly : Orderly p
       made_next others rest stored us made X N store E K new =
           let fired : Past stored (X.meant ++ meant_in others) (sums_after us) =
           settle p q g h S.answers wired orderly inputs z start (Sends P Q h ev.made) made X.meant X.settles stored (meant_in others) (sums_after us)
-          (told_lit p q S ss m.store t m.pool ev.made ev.rest after ev.takes ev.leaves) N once_after in
+          (told_hand p q S ss m.store t m.pool ev.made ev.rest after ev.takes ev.leaves) N once_after in
           let cl = clumps_of P Q g h ev.made X.meant X.stand in
           let means : meant_in (cl.0 ++ others) ≡ X.meant ++ meant_in others = meant_join P Q g h cl.0 others
           ∙ ap (λ (l : List Token). l ++ meant_in others) cl.2 in

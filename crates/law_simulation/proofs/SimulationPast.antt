@@ -1,4 +1,4 @@
--- The run of the old code, in which literals fire at once.
+-- The run of the old code, in which literals and copies that may fire at once.
 use Rattle.std.proofs.Common.{◌≡◌, refl, sym, ap, ◌∙◌, subst, ℕ, ◌+◌, ◌*◌, ◌≤◌, ◌⊎◌, inl, inr, Bool, true, false, ℤ, List, [], ◌∷◌, ◌++◌, Option, Some, None}
 use Rattle.std.proofs.Common.{IsPermutation, Contains, append_assoc, append-nil, arith}
 use Rattle.std.specs.Prelude.{if◌then◌else◌}
@@ -17,9 +17,9 @@ use Rattle.tags.specs.declared.slot.SlotState.TheVariants.{Empty}
 use Rattle.tags.specs.Addresses.{element_of}
 use Rattle.semantics.specs.declared.program.Dest.{Dest}
 use Rattle.semantics.specs.declared.program.Op.{Op}
-use Rattle.semantics.specs.declared.program.Op.TheVariants.{Apply2, Lit}
+use Rattle.semantics.specs.declared.program.Op.TheVariants.{Apply2}
 use Rattle.semantics.specs.Program.{Instr, Program, instr_at}
-use Rattle.semantics.specs.Rule.{token, Seat, Outcome, Becomes, fires, fire_two, meets, outcome_of, rule_at, slot_of}
+use Rattle.semantics.specs.Rule.{token, Seat, Outcome, Becomes, fires, fire_two, meets, outcome_of, rule_at, slot_of, to_all}
 use Rattle.semantics.specs.Machine.{Machine, Store as MStore, Size, Event, Events, Run, at_start, put_at, with_slot, slot_in, slot_used, Fires, Happens}
 use Rattle.semantics.specs.Machine.{excluded_by, stuck_rule}
 use Rattle.operators.specs.declared.Binary.{Binary}
@@ -42,9 +42,9 @@ use Rattle.lemmas.proofs.Contains.{contains_cases, contains_head, contains_none,
 use Rattle.lemmas.proofs.Lists.{map_append}
 use Rattle.tags.specs.declared.token.Port.{Port}
 use Rattle.law_simulation.specs.Places.{is_answered}
-use Rattle.law_simulation.specs.Simulates.{Clumped, FitsWord, IsValue, Pairs, Plain, Settles, counts_none, fired, fires_lit, settled}
-use Rattle.law_simulation.proofs.SimulationFires.{both_wait, lit_fires}
-use Rattle.law_simulation.proofs.SimulationParts.{Fair, Says, Sums, count_none, no_seek, unit_of, with_spent}
+use Rattle.law_simulation.specs.Simulates.{Clumped, FitsWord, IsValue, Pairs, Plain, Settles, counts_none, fired, hands_on, settled}
+use Rattle.law_simulation.proofs.SimulationFires.{both_wait, hands_fires, hands_op}
+use Rattle.law_simulation.proofs.SimulationParts.{Fair, Says, Sums, count_none, hands_none, no_seek, none_seeks, unit_of, with_spent}
 use Rattle.law_simulation.proofs.SimulationPorts.{ones}
 use Rattle.law_simulation.proofs.SimulationRules.{Made}
 use Rattle.law_simulation.proofs.SimulationWords.{AllFit, Worded, happens_fits}
@@ -210,28 +210,30 @@ module _ (p q : Plan) (g h : ℕ → ℕ) (answers : (a : ℕ) (i : Instr) → i
       taken_in k b t K (inl e) = e
       taken_in k b t K (inr e) = uses k b t K e
 
-  -- the arcs of literals that may fire are told already
+  -- the arcs of what may hand on are told already
   abbrev pub Absorbs : (ℕ → ℕ → Type 0) → Sums → Type 0
-  Absorbs may T = (f l : ℕ) → may f l → (w : Word) (i : Instr) (n : ℤ) → instr_at P l ≡ Some i → i.op ≡ Lit n → (k b : ℕ) (t : Port) → Plain P Q h b
-      → (m : Machine) → UsesArc p k b t (token (To.Instr f l Left) w) (fires_lit f l n i) m → T.arcs k b t
+  Absorbs may T = (f l : ℕ) → may f l → (w v : Word) (i : Instr) → instr_at P l ≡ Some i → hands_on i.op ≡ true → (k b : ℕ) (t : Port) → Plain P Q h b
+      → (m : Machine) → UsesArc p k b t (token (To.Instr f l Left) w) (to_all record { frame = f; ip = l } v i) m → T.arcs k b t
 
-  -- literals fire
+  -- what hands on does so
   pub settle : (may : ℕ → ℕ → Type 0) (xs ys : List Token) → Settles may P xs ys → (s : MStore) (rest : List Token) (T : Sums) → Absorbs may T
       → Reached s (xs ++ rest) T → Once T → Reached s (ys ++ rest) T
   settle may xs ys (settled us vs e) s rest T told R once = again s (xs ++ rest) (ys ++ rest) T T R (IsPermutation-append_left rest xs ys e) (same_sums T)
-  settle may xs ys (fired us vs f a w n i beside e at is k does) s rest T told R once =
+  settle may xs ys (fired us vs f a w v i beside e at is k does) s rest T told R once =
       let takes : IsPermutation (xs ++ rest) (token (To.Instr f a Left) w ∷ (beside ++ rest)) =
       IsPermutation-append_left rest xs (token (To.Instr f a Left) w ∷ beside) e in
-      let happens : Happens P total s (To.Instr f a Left) w (fires_lit f a n i) s =
-      subst (λ (o : Option Instr). Fires s f (slot_used o) (rule_at P record { frame = f; ip = a } o (slot_in s f (slot_used o)) Left w) (fires_lit f a n i) s)
-      (sym at) (lit_fires P f a w n i s is) in
-      let fired_one : Reached s (fires_lit f a n i ++ (beside ++ rest)) (with_spent T (token (To.Instr f a Left) w ∷ [])) =
-      quiet s s (xs ++ rest) (fires_lit f a n i) (beside ++ rest) T R once f a Left w i takes happens at (ap counts_none is)
-      (no_seek (instr_at P a) i (Lit n) at is refl)
-      (λ k b t K U. told f a does w i n at is k b t K record { store = s; pool = fires_lit f a n i ++ (beside ++ rest) } U) in
-      let regrouped : Reached s ((fires_lit f a n i ++ beside) ++ rest) T =
-      again s (fires_lit f a n i ++ (beside ++ rest)) ((fires_lit f a n i ++ beside) ++ rest) (with_spent T (token (To.Instr f a Left) w ∷ [])) T fired_one
-      (subst (IsPermutation (fires_lit f a n i ++ (beside ++ rest))) (sym (append_assoc (fires_lit f a n i) beside rest)) (IsPermutation-refl _)) record {
+      let happens : Happens P total s (To.Instr f a Left) w (to_all record { frame = f; ip = a } v i) s =
+      subst (λ (o : Option Instr). Fires s f (slot_used o) (rule_at P record { frame = f; ip = a } o (slot_in s f (slot_used o)) Left w) (to_all record { frame = f; ip = a } v i) s)
+      (sym at) (hands_fires (λ w. ⊤) P f a w v i s is) in
+      let on = hands_op (λ w. ⊤) i.op w v is in
+      let none = hands_none i.op on in
+      let fired_one : Reached s (to_all record { frame = f; ip = a } v i ++ (beside ++ rest)) (with_spent T (token (To.Instr f a Left) w ∷ [])) =
+      quiet s s (xs ++ rest) (to_all record { frame = f; ip = a } v i) (beside ++ rest) T R once f a Left w i takes happens at none
+      (no_seek (instr_at P a) i i.op at refl (none_seeks i.op none))
+      (λ k b t K U. told f a does w v i at on k b t K record { store = s; pool = to_all record { frame = f; ip = a } v i ++ (beside ++ rest) } U) in
+      let regrouped : Reached s ((to_all record { frame = f; ip = a } v i ++ beside) ++ rest) T =
+      again s (to_all record { frame = f; ip = a } v i ++ (beside ++ rest)) ((to_all record { frame = f; ip = a } v i ++ beside) ++ rest) (with_spent T (token (To.Instr f a Left) w ∷ [])) T fired_one
+      (subst (IsPermutation (to_all record { frame = f; ip = a } v i ++ (beside ++ rest))) (sym (append_assoc (to_all record { frame = f; ip = a } v i) beside rest)) (IsPermutation-refl _)) record {
         gone = refl;
         asked = refl;
         credited = refl;
@@ -240,7 +242,7 @@ module _ (p q : Plan) (g h : ℕ → ℕ) (answers : (a : ℕ) (i : Instr) → i
         counts = λ x k fair. refl;
         arcs = λ k b r K e. e;
       } in
-      settle may (fires_lit f a n i ++ beside) ys k s rest T told regrouped once
+      settle may (to_all record { frame = f; ip = a } v i ++ beside) ys k s rest T told regrouped once
 
   -- ---- VALUES
   some_none : (n : ℕ) → Some n ≡ None → ⊥
@@ -347,4 +349,4 @@ module _ (p q : Plan) (g h : ℕ → ℕ) (answers : (a : ℕ) (i : Instr) → i
             arcs = λ f a r K k. tt;
           } in
           M.value (value_of A.frame A.a A.i A.o A.at A.op s (A.rest ++ rest) (any_arcs T) A.r w A.v
-          (settle (λ f l. ⊤) old pair A.settles s rest (any_arcs T) (λ f l k w i n at is x b t K m U. tt) any_told once) once)
+          (settle (λ f l. ⊤) old pair A.settles s rest (any_arcs T) (λ f l k w v i at is x b t K m U. tt) any_told once) once)

@@ -10,7 +10,10 @@ use Rattle.tags.specs.declared.token.Cont.{Cont}
 use Rattle.tags.specs.declared.token.Word.{Word}
 use Rattle.tags.specs.declared.token.To.{To}
 use Rattle.tags.specs.declared.token.Token.{Token}
-use Rattle.semantics.specs.declared.program.Op.TheVariants.{Lit}
+use Rattle.semantics.specs.declared.program.Op.{Op}
+use Rattle.semantics.specs.declared.program.Op.TheVariants.{Lit, Copy}
+use Rattle.tags.specs.declared.value.Value.TheVariants.{Int}
+use Rattle.law_simulation.proofs.SimulationFires.{hands_op}
 use Rattle.semantics.specs.Program.{Instr, Program, instr_at}
 use Rattle.semantics.specs.Rule.{token, signal, at_dest, to_all, back_to, Outcome, Becomes, Excluded}
 use Rattle.law_confluence.proofs.Orders.{shuffled, Part, ◌⊕◌}
@@ -18,49 +21,63 @@ use Rattle.std.proofs.lemmas.List.Sorted.{Contains-permutation}
 use Rattle.lemmas.proofs.Contains.{contains_cases}
 use Rattle.std.proofs.lemmas.List.Elements.{Contains-append_right}
 use Rattle.law_simulation.specs.Places.{ip_cont, ip_slot, ip_token, ip_word}
-use Rattle.law_simulation.specs.Simulates.{Clumped, Fits, Fresh, Node, Pairs, Pend, Ready, Sends, Settles, fired, fires_lit, hands_on, moved, next}
+use Rattle.law_simulation.specs.Simulates.{Clumped, Fits, Fresh, HandsOn, Node, Pairs, Pend, Ready, Sends, Settles, fired, fires_lit, hands_on, moved, next}
 use Rattle.law_simulation.specs.Simulates.{settled, stand_more, stand_none, top}
 
 -- ---- WHAT COMES OF TOKENS
 pub settles_map : (R T : ℕ → ℕ → Type 0) → ((f l : ℕ) → R f l → T f l) → (p : Program) (xs ys : List Token) → Settles R p xs ys → Settles T p xs ys
 settles_map R T turn p xs ys (settled us vs e) = settled xs ys e
-settles_map R T turn p xs ys (fired us vs f a w z i rest d at is k may) =
-    fired xs ys f a w z i rest d at is (settles_map R T turn p (fires_lit f a z i ++ rest) ys k) (turn f a may)
+settles_map R T turn p xs ys (fired us vs f a w v i rest d at is k may) =
+    fired xs ys f a w v i rest d at is (settles_map R T turn p (to_all record { frame = f; ip = a } v i ++ rest) ys k) (turn f a may)
 
 pub settles_perm : (R : ℕ → ℕ → Type 0) (p : Program) (zs xs ys : List Token) → IsPermutation zs xs → Settles R p xs ys → Settles R p zs ys
 settles_perm R p zs xs ys e (settled us vs d) = settled zs ys (IsPermutation-trans _ _ _ e d)
-settles_perm R p zs xs ys e (fired us vs f a w z i rest d at is k may) = fired zs ys f a w z i rest (IsPermutation-trans _ _ _ e d) at is k may
+settles_perm R p zs xs ys e (fired us vs f a w v i rest d at is k may) = fired zs ys f a w v i rest (IsPermutation-trans _ _ _ e d) at is k may
 
 -- beside others
 pub settles_beside : (R : ℕ → ℕ → Type 0) (p : Program) (xs ys zs : List Token) → Settles R p xs ys → Settles R p (xs ++ zs) (ys ++ zs)
 settles_beside R p xs ys zs (settled us vs d) = settled (xs ++ zs) (ys ++ zs) (IsPermutation-append_left zs xs ys d)
-settles_beside R p xs ys zs (fired us vs f a w z i rest d at is k may) =
-    fired (xs ++ zs) (ys ++ zs) f a w z i (rest ++ zs) (IsPermutation-append_left zs xs (token (To.Instr f a Left) w ∷ rest) d) at is
-    (subst (λ (l : List Token). Settles R p l (ys ++ zs)) (append_assoc (fires_lit f a z i) rest zs) (settles_beside R p (fires_lit f a z i ++ rest) ys zs k))
+settles_beside R p xs ys zs (fired us vs f a w v i rest d at is k may) =
+    fired (xs ++ zs) (ys ++ zs) f a w v i (rest ++ zs) (IsPermutation-append_left zs xs (token (To.Instr f a Left) w ∷ rest) d) at is
+    (subst (λ (l : List Token). Settles R p l (ys ++ zs)) (append_assoc (to_all record { frame = f; ip = a } v i) rest zs) (settles_beside R p (to_all record { frame = f; ip = a } v i ++ rest) ys zs k))
     may
 
 pub settles_then : (R : ℕ → ℕ → Type 0) (p : Program) (xs ys zs : List Token) → Settles R p xs ys → IsPermutation ys zs → Settles R p xs zs
 settles_then R p xs ys zs (settled us vs d) e = settled xs zs (IsPermutation-trans _ _ _ d e)
-settles_then R p xs ys zs (fired us vs f a w z i rest d at is k may) e =
-    fired xs zs f a w z i rest d at is (settles_then R p (fires_lit f a z i ++ rest) ys zs k e) may
+settles_then R p xs ys zs (fired us vs f a w v i rest d at is k may) e =
+    fired xs zs f a w v i rest d at is (settles_then R p (to_all record { frame = f; ip = a } v i ++ rest) ys zs k e) may
 
 pub settles_after : (R : ℕ → ℕ → Type 0) (p : Program) (xs ys zs : List Token) → Settles R p xs ys → Settles R p (zs ++ xs) (zs ++ ys)
 settles_after R p xs ys zs k =
     settles_perm R p (zs ++ xs) (xs ++ zs) (zs ++ ys) (IsPermutation-append_comm zs xs)
     (settles_then R p (xs ++ zs) (ys ++ zs) (zs ++ ys) (settles_beside R p xs ys zs k) (IsPermutation-append_comm ys zs))
 
--- what is at no literal is there still
+-- a literal fires
+pub lit_fired : (R : ℕ → ℕ → Type 0) (p : Program) (xs ys : List Token) (f a : ℕ) (w : Word) (z : ℤ) (i : Instr) (rest : List Token)
+    → IsPermutation xs (token (To.Instr f a Left) w ∷ rest) → instr_at p a ≡ Some i → i.op ≡ Lit z → Settles R p (fires_lit f a z i ++ rest) ys → R f a
+    → Settles R p xs ys
+lit_fired R p xs ys f a w z i rest e at is k may =
+    fired xs ys f a w (Word.Val (Int z)) i rest e at (subst (λ (op : Op). HandsOn (λ w. ⊤) op w (Word.Val (Int z))) (sym is) (refl, tt)) k may
+
+-- and a copy
+pub copy_fired : (R : ℕ → ℕ → Type 0) (p : Program) (xs ys : List Token) (f a : ℕ) (w : Word) (i : Instr) (rest : List Token)
+    → IsPermutation xs (token (To.Instr f a Left) w ∷ rest) → instr_at p a ≡ Some i → i.op ≡ Copy
+    → Settles R p (to_all record { frame = f; ip = a } w i ++ rest) ys → R f a → Settles R p xs ys
+copy_fired R p xs ys f a w i rest e at is k may =
+    fired xs ys f a w w i rest e at (subst (λ (op : Op). HandsOn (λ w. ⊤) op w w) (sym is) refl) k may
+
+-- what is at none that hands on is there still
 pub settles_keeps : (R : ℕ → ℕ → Type 0) (p : Program) (xs ys : List Token) → Settles R p xs ys → (t : Token)
-    → ((f a : ℕ) (w : Word) (z : ℤ) (i : Instr) → R f a → t ≡ token (To.Instr f a Left) w → instr_at p a ≡ Some i → i.op ≡ Lit z → ⊥) → Contains xs t
+    → ((f a : ℕ) (w : Word) (i : Instr) → R f a → t ≡ token (To.Instr f a Left) w → instr_at p a ≡ Some i → hands_on i.op ≡ true → ⊥) → Contains xs t
     → Contains ys t
 settles_keeps R p xs ys (settled us vs e) t other inside = Contains-permutation _ _ t e inside
-settles_keeps R p xs ys (fired us vs f a w z i rest e at op more may) t other inside =
-    settles_keeps R p (fires_lit f a z i ++ rest) ys more t other
+settles_keeps R p xs ys (fired us vs f a w v i rest e at op more may) t other inside =
+    settles_keeps R p (to_all record { frame = f; ip = a } v i ++ rest) ys more t other
     (go (contains_cases (token (To.Instr f a Left) w) rest t (Contains-permutation _ _ t e inside)))
   where
-    go : (token (To.Instr f a Left) w ≡ t) ⊎ Contains rest t → Contains (fires_lit f a z i ++ rest) t
-    go (inl same) = absurd (other f a w z i may (sym same) at op)
-    go (inr c) = Contains-append_right (fires_lit f a z i) rest t c
+    go : (token (To.Instr f a Left) w ≡ t) ⊎ Contains rest t → Contains (to_all record { frame = f; ip = a } v i ++ rest) t
+    go (inl same) = absurd (other f a w i may (sym same) at (hands_op (λ w. ⊤) i.op w v op))
+    go (inr c) = Contains-append_right (to_all record { frame = f; ip = a } v i) rest t c
 
 -- ---- LITERALS ON THEIR WAY
 module _ (p q : Program) (h : ℕ → ℕ) where

@@ -11,7 +11,7 @@ use Rattle.tags.specs.declared.token.Word.{Word}
 use Rattle.tags.specs.declared.token.To.{To}
 use Rattle.tags.specs.declared.token.Token.{Token}
 use Rattle.semantics.specs.Program.{Program, first_of}
-use Rattle.semantics.specs.Rule.{token}
+use Rattle.semantics.specs.Rule.{token, to_all}
 use Rattle.semantics.specs.Machine.{Machine, Store as MStore, Size, Events, Run, input_tokens, at_start}
 use Rattle.semantics.specs.Cause.{request_count, credit_count}
 use Rattle.semantics.specs.Handed.{handed_by, handed, EachOnce, UsesEachOnce}
@@ -21,8 +21,8 @@ use Rattle.semantics.specs.Orderly.{Orderly, IsStart}
 use Rattle.law_reuse.proofs.SlotsHistory.{kept_start}
 use Rattle.law_reuse.proofs.SlotsRuns.{once_before}
 use Rattle.law_fresh_frames.specs.Alike.{LandsRightly}
-use Rattle.law_simulation.specs.Simulates.{Clumped, Fresh, Plain, Relates, Sends, fires_lit}
-use Rattle.law_simulation.proofs.SimulationArcs.{lit_use}
+use Rattle.law_simulation.specs.Simulates.{Clumped, Fresh, Plain, Relates, Sends}
+use Rattle.law_simulation.proofs.SimulationArcs.{hand_use}
 use Rattle.law_simulation.proofs.SimulationNext.{sim_next}
 use Rattle.law_simulation.proofs.SimulationParts.{Clump, Sums, clumps_of, meant_of, seen_of}
 use Rattle.law_simulation.proofs.SimulationPast.{Reached, ready, settle}
@@ -209,7 +209,8 @@ module _ (p q : Plan) (S : Relates p q) (wired : IsWired p) (orderly : Orderly p
       let fired : Past first.store (X.meant ++ []) (sums [] [] [] (at_start Q inputs).pool [] []) =
       settle p q g h S.answers wired orderly inputs z start (Sends P Q h (at_start Q inputs).pool) first.pool X.meant X.settles first.store []
       (sums [] [] [] (at_start Q inputs).pool [] [])
-      (λ f l sends w i n at is k b r K m U F. inr (lit_use p q g h (at_start Q inputs).pool f l w i n sends at is k b r K (fires_lit f l n i) m U)) begun
+      (λ f l sends w v i at is k b r K m U F. inr (hand_use p q g h (at_start Q inputs).pool f l w i sends at is k b r K (to_all record { frame = f; ip = l } v i) m U))
+      begun
       single in
       let cl = clumps_of P Q g h (at_start Q inputs).pool X.meant X.stand in
       record {

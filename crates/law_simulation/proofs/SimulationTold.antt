@@ -1,5 +1,5 @@
 -- What is told of the arcs of the new run: those that the old run used, and those by which tokens came.
-use Rattle.std.proofs.Common.{◌≡◌, sym, ap, ◌∙◌, subst, ℕ, ◌+◌, ◌⊎◌, inl, inr, ℤ, List, [], ◌∷◌, ◌++◌, Some, IsPermutation, Contains}
+use Rattle.std.proofs.Common.{◌≡◌, sym, ap, ◌∙◌, subst, ℕ, ◌+◌, ◌⊎◌, inl, inr, List, [], ◌∷◌, ◌++◌, Some, IsPermutation, Contains}
 use Rattle.std.proofs.lemmas.List.Elements.{Contains-append_left, Contains-append_right, Contains-append_cases}
 use Rattle.std.proofs.lemmas.List.Sorted.{Contains-permutation, IsPermutation-sym}
 use Rattle.std.proofs.lemmas.Option.{same_Some}
@@ -9,7 +9,6 @@ use Rattle.tags.specs.declared.token.Port.TheVariants.{Left}
 use Rattle.tags.specs.declared.token.Word.{Word}
 use Rattle.tags.specs.declared.token.To.{To}
 use Rattle.tags.specs.declared.token.Token.{Token}
-use Rattle.semantics.specs.declared.program.Op.TheVariants.{Lit}
 use Rattle.semantics.specs.Program.{Instr, Program, instr_at}
 use Rattle.semantics.specs.Rule.{token, at_dest}
 use Rattle.semantics.specs.Machine.{Machine, Store as MStore}
@@ -21,8 +20,8 @@ use Rattle.std.proofs.Common.{◌<◌}
 use Rattle.semantics.specs.Plan.{landing}
 use Rattle.semantics.specs.Credits.{IsLink}
 use Rattle.law_simulation.specs.Places.{ip_to, ip_token}
-use Rattle.law_simulation.specs.Simulates.{Fits, Fresh, Node, Pend, Plain, Relates, Sends, fires_lit, hands_on, is_pair}
-use Rattle.law_simulation.proofs.SimulationArcs.{lit_use}
+use Rattle.law_simulation.specs.Simulates.{Fits, Fresh, Node, Pend, Plain, Relates, Sends, hands_on, is_pair}
+use Rattle.law_simulation.proofs.SimulationArcs.{hand_use}
 use Rattle.law_simulation.proofs.SimulationHas.{node_rest, node_step, sent_arc}
 use Rattle.law_simulation.proofs.SimulationParts.{hands_no_pair, hands_none}
 use Rattle.law_simulation.proofs.SimulationRules.{node_grows, pend_with}
@@ -95,10 +94,12 @@ module _ (p q : Plan) (S : Relates p q) where
         go (inl k) = inl (step_last (UsesArc q f (h a) r) ss this k)
         go (inr n) = inr (pend_made f a r n)
 
-    -- by a literal of the old code that fires after it,
-    pub told_lit : (f l : ℕ) → Sends P Q h made f l → (w : Word) (i : Instr) (n : ℤ) → instr_at P l ≡ Some i → i.op ≡ Lit n → (k b : ℕ) (r : Port)
-        → Plain P Q h b → (m : Machine) → UsesArc p k b r (token (To.Instr f l Left) w) (fires_lit f l n i) m → Told (ss ++ this ∷ []) m1.pool k b r
-    told_lit f l sends w i n at is k b r K m U F = inr (pend_made k b r (lit_use p q S.g h made f l w i n sends at is k b r K (fires_lit f l n i) m U))
+    -- by one of the old code that hands on after it,
+    pub told_hand : (f l : ℕ) → Sends P Q h made f l → (w v : Word) (i : Instr) → instr_at P l ≡ Some i → hands_on i.op ≡ true → (k b : ℕ) (r : Port)
+        → Plain P Q h b → (m : Machine) → UsesArc p k b r (token (To.Instr f l Left) w) (to_all record { frame = f; ip = l } v i) m
+        → Told (ss ++ this ∷ []) m1.pool k b r
+    told_hand f l sends w v i at is k b r K m U F =
+        inr (pend_made k b r (hand_use p q S.g h made f l w i sends at is k b r K (to_all record { frame = f; ip = l } v i) m U))
 
     -- before it, if its token is at none that hands on,
     pub told_next : ((k ip : ℕ) (j : Instr) → t.to ≡ To.Instr k ip Left → instr_at Q ip ≡ Some j → hands_on j.op ≡ true → Fresh P Q h ip → ⊥)

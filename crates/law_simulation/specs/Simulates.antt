@@ -57,7 +57,7 @@ HandsOn kind (Lit z) w v = (v ≡ Word.Val (Int z)) × kind w
 HandsOn kind Copy w v = v ≡ w
 HandsOn kind op w v = ⊥
 
--- An instruction that hands on and stands for no old one, or for a literal that fired already in the old code: a token is at it, or at such a one that
+-- An instruction that hands on and stands for no old one, or for one that fired already in the old code: a token is at it, or at such a one that
 -- leads to it.
 pub data Node (p q : Program) (h : ℕ → ℕ) (f : ℕ) (seen : List Token) : ℕ → Type 0 where
   top : (ip : ℕ) (t : Token) (j : Instr) → Contains seen t → t.to ≡ To.Instr f ip Left → instr_at q ip ≡ Some j → hands_on j.op ≡ true → Fresh p q h ip
@@ -77,7 +77,7 @@ pub record Pend (p q : Program) (h : ℕ → ℕ) (f a : ℕ) (r : Port) (seen :
   pub place : ip + d.ahead ≡ h a
   pub port : d.port ≡ r
 
--- what comes of the literal of that number, in frame f, is on its way
+-- what comes of the one of that number that hands on, in frame f, is on its way
 abbrev pub Sends : Program → Program → (ℕ → ℕ) → List Token → ℕ → ℕ → Type 0
 Sends p q h new f l =
     (Plain p q h l → ⊥) × ((i : Instr) (d : Dest) → instr_at p l ≡ Some i → Contains (i.firsts ++ i.seconds) d → Plain p q h (l + d.ahead)
@@ -118,12 +118,12 @@ Stands p q g h = StandsBy IsValue p q g h
 abbrev pub StandAll : Program → Program → (ℕ → ℕ) → (ℕ → ℕ) → List Token → List Token → Type 0
 StandAll p q g h = StandAllBy IsValue p q g h
 
--- what comes of tokens as literals among those which they trigger fire that may
+-- what comes of tokens as those that hand on fire among the ones at which they are, if they may
 pub data Settles (may : ℕ → ℕ → Type 0) (p : Program) : List Token → List Token → Type 0 where
   settled : (xs ys : List Token) → IsPermutation xs ys → Settles may p xs ys
-  fired : (xs ys : List Token) (f a : ℕ) (w : Word) (z : ℤ) (i : Instr) (rest : List Token) → IsPermutation xs (token (To.Instr f a Left) w ∷ rest)
-      → instr_at p a ≡ Some i → i.op ≡ Lit z
-      → Settles may p (fires_lit f a z i ++ rest) ys → may f a → Settles may p xs ys
+  fired : (xs ys : List Token) (f a : ℕ) (w v : Word) (i : Instr) (rest : List Token) → IsPermutation xs (token (To.Instr f a Left) w ∷ rest)
+      → instr_at p a ≡ Some i → HandsOn (λ w. ⊤) i.op w v
+      → Settles may p (to_all record { frame = f; ip = a } v i ++ rest) ys → may f a → Settles may p xs ys
 
 -- tokens of the new code stand for what comes of those of the old one
 pub record Clumped (p q : Program) (g h : ℕ → ℕ) (new old : List Token) : Type 0 where
