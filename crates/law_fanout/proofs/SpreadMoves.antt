@@ -124,6 +124,7 @@ module _ (p q : Plan) (S : Spreads p q) where
     ways = λ e inside K.
         (let D = leads_pick Q h ip a ds es L e inside in
         record { d = D.d; named = D.named; leads = ends (ip + D.d.ahead) D.d.port D.xs (a + e.ahead, e.port) D.stands D.among });
+    overs = λ e inside K. absurd (K.apart (plain (a + e.ahead)));
   }
     where
       made : (f : ℕ) (w : Word) → Clumped P Q h h (to_each record { frame = f; ip = ip } (ip_word h w) ds) (to_each record { frame = f; ip = a } w es)

@@ -133,6 +133,7 @@ module _ (p q : Plan) (S : Spreads p q) where
     rows = λ ip callee base o L low.
         subst (λ (n : ℕ). h (n + o) ≡ h n + o) (sym L.begins) (S.rows ip callee o L.instr L.dest L.is_at L.does L.lands low);
     lands = landing_moved p q S;
+    unskipped = λ ip callee base o L low K. K.apart (plain p q S (base + o));
     marks = λ a m K. S.marks a m;
     blocks = λ ip jp r t x y lx ly.
         (let X = leaf_among ip r x lx in let Y = leaf_among jp t y ly in S.blocks ip jp r t X.0 Y.0 x y X.1 Y.1 X.2 Y.2);

@@ -1,12 +1,12 @@
 -- What folding keeps where each instruction has the slot that it had.
-use Rattle.std.proofs.Common.{refl, ℕ, ◌<◌, arith}
+use Rattle.std.proofs.Common.{refl, ℕ, ◌+◌, ◌<◌, arith}
 use Rattle.semantics.specs.Credits.{IsLink}
 use Rattle.semantics.specs.Plan.{Plan, landing}
 use Rattle.code.specs.Sound.{IsSound}
 use Rattle.law_reuse.proofs.SlotsStands.{Found, found}
 use Rattle.law_fresh_frames.specs.Alike.{HasLanding, IsTidy}
 use Rattle.law_immediates.specs.Kept.{kept_slots, KeptSlotsTidy, KeptSlotsLands, KeptSlotsKeepBounds, KeptSlotsOrderly, KeptSlotsKeep}
-use Rattle.law_immediates.proofs.KeptMoves.{kept_slots_folds}
+use Rattle.law_immediates.proofs.KeptMoves.{kept_slots_folds, no_skips}
 use Rattle.law_immediates.proofs.KeptEntries.{entries_kept}
 use Rattle.law_immediates.proofs.KeptStatic.{stays_for, comes_back, marks_kept, blocks_kept, same_landings, landings_moved, lone_leaf, kept_tidy}
 use Rattle.law_simulation.specs.Simulates.{Relates, Simulates}
@@ -46,6 +46,7 @@ kept_slots_simulate p s tidy =
       sizes = same_landings p s;
       rows = λ ip callee base o L low. (S.landings base o (link_landing p tidy ip callee base o L low)).0;
       lands = landings_moved p s;
+      unskipped = λ ip callee base o L low K. no_skips p s (base + o) K;
       marks = marks_kept p s;
       blocks = blocks_kept p s;
       lone = lone_leaf p s tidy;

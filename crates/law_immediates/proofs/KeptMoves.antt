@@ -15,7 +15,7 @@ use Rattle.tags.specs.declared.token.Word.{Word}
 use Rattle.operators.specs.declared.Binary.{Binary}
 use Rattle.semantics.specs.declared.program.Dest.{Dest}
 use Rattle.semantics.specs.declared.program.Op.{Op}
-use Rattle.semantics.specs.declared.program.Op.TheVariants.{Apply2, Lit, Fetch, Store, Frame, Ask, Link, Send}
+use Rattle.semantics.specs.declared.program.Op.TheVariants.{Apply2, Copy, Lit, Fetch, Store, Frame, Ask, Link, Send}
 use Rattle.semantics.specs.Program.{Instr, CodeBlock, Program, first_of, instr_at}
 use Rattle.semantics.specs.Machine.{results_in}
 use Rattle.semantics.specs.Plan.{Plan, HasShape}
@@ -56,7 +56,7 @@ use Rattle.std.proofs.Common.{◌||◌}
 use Rattle.law_immediates.proofs.KeptUses.{moved_has}
 use Rattle.law_simulation.specs.Simulates.{Way}
 use Rattle.law_simulation.specs.Places.{ip_word, is_answered}
-use Rattle.law_simulation.specs.Simulates.{Clumped, Enters, IsMoved, IsPair, IsValue, Leads, Pairs, Plain, Ready, Sends, Settles, hands_on}
+use Rattle.law_simulation.specs.Simulates.{Clumped, Enters, IsMoved, IsPair, IsValue, Leads, Pairs, Plain, Ready, Sends, Settles, Skips, hands_on}
 use Rattle.law_simulation.proofs.SimulationPorts.{two_out}
 use Rattle.law_simulation.proofs.SimulationRules.{settles_keeps, settles_map, settles_then}
 
@@ -71,6 +71,33 @@ shape_one Frame m n e h = h.0
 shape_one (Ask o) m n e h = h.0
 shape_one (Link x) m n e h = h
 shape_one op m n e h = absurd (true≢false (sym e))
+
+-- A copy stands for itself, so none is left out.
+pub no_skips : (p : Plan) (s : IsSound p) (a : ℕ) → Skips p.program (kept_slots p).program (word_ip p) a → ⊥
+no_skips p s a K = go (found p.program a K.i K.at)
+  where
+    by : (N : Found p.program a K.i) → PlainAt p N.stands.code N.n → ⊥
+    by N M =
+        K.apart (subst (Plain p.program (kept_slots p).program (word_ip p)) (sym N.place)
+        (plain_here p s N.b N.stands.code N.stands.block N.n K.i N.stands.instr M))
+
+    no_lit : (z : ℤ) → Copy ≡ Lit z → ⊥
+    no_lit z e = cc
+
+    no_apply : (o : Binary) → Copy ≡ Apply2 o → ⊥
+    no_apply o e = cc
+
+    go : Found p.program a K.i → ⊥
+    go N = pick (lit_or p N.stands.code N.n K.i N.stands.instr) (fold_cases p N.stands.code N.n)
+      where
+        was : (j : Instr) (o : Binary) → slice_get N.stands.code.instrs N.n ≡ Some j → j.op ≡ Apply2 o → ⊥
+        was j o at_j e = no_apply o (sym K.op ∙ ap (λ (i : Instr). i.op) (same_Some K.i j (sym N.stands.instr ∙ at_j)) ∙ e)
+
+        pick : (closed_uses p N.stands.code N.n ≡ []) ⊎ ((z : ℤ) × (K.i.op ≡ Lit z)) → FoldCase p N.stands.code N.n → ⊥
+        pick (inr l) o = no_lit l.0 (sym K.op ∙ l.1)
+        pick (inl none) (is_kept M) = by N record { folded = M.folded; unused = none }
+        pick (inl none) (is_right (D, op)) = was D.i D.o D.there D.was
+        pick (inl none) (is_left (D, op)) = was D.i D.o D.there D.was
 
 pub answers_no_lit : (op : Op) → is_answered op ≡ true → (z : ℤ) → op ≡ Lit z → ⊥
 answers_no_lit op e z l = true≢false (sym e ∙ ap is_answered l)
@@ -264,7 +291,7 @@ module _ (p : Plan) (s : IsSound p) (b : ℕ) (c : CodeBlock) (at_b : slice_get 
             }
 
     pub leads_side : (t : Bool) → Leads P Q g h (E + place n) (moved_dests (layout_of p c) n (dests_of i t)) (F + n) (dests_of i t)
-    leads_side t = record { made = ready_side t; ways = way_side t }
+    leads_side t = record { made = ready_side t; ways = way_side t; overs = λ e inside K. absurd (no_skips p s (F + n + e.ahead) K) }
 
     ready_all : (f : ℕ) (w : Word)
         → Ready P Q g h w (to_each record { frame = f; ip = E + place n } (ip_word h w)
@@ -280,7 +307,7 @@ module _ (p : Plan) (s : IsSound p) (b : ℕ) (c : CodeBlock) (at_b : slice_get 
 
     pub leads_all : Leads P Q g h (E + place n) (moved_dests (layout_of p c) n i.firsts ++ moved_dests (layout_of p c) n i.seconds) (F + n)
         (i.firsts ++ i.seconds)
-    leads_all = record { made = ready_all; ways = way_all }
+    leads_all = record { made = ready_all; ways = way_all; overs = λ e inside K. absurd (no_skips p s (F + n + e.ahead) K) }
 
   -- ---- AN INSTRUCTION THAT STANDS FOR ITSELF
   module _ (n : ℕ) (i : Instr) (at : slice_get c.instrs n ≡ Some i) (K : PlainAt p c n) where

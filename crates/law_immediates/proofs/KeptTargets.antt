@@ -223,7 +223,7 @@ module _ (kind : Word → Type 0) (of_value : (z : ℤ) → kind (Word.Val (Int 
             plain_of p c (m + u.ahead) (plain_only (m + u.ahead) (inside m v j t u at_m named) (subst (Plain P Q h) e L))
 
         gone_sends : gone_at (layout_of p c) m ≡ true → (new : List Token) → Sends P Q h new f (F + m)
-        gone_sends gone new = (
+        gone_sends gone new = inl (
           not_itself,
           λ i2 u at2 k L.
               (let r = use_of i2 u at2 k in let M = use_plain r.0 r.1 u r.2 L in
@@ -232,7 +232,7 @@ module _ (kind : Word → Type 0) (of_value : (z : ℤ) → kind (Word.Val (Int 
 
         kept_sends : gone_at (layout_of p c) m ≡ false → (seen : Token) → seen.to ≡ To.Instr f (E + new_place (layout_of p c) m) Left
             → Sends P Q h (seen ∷ []) f (F + m)
-        kept_sends stays seen to = (
+        kept_sends stays seen to = inl (
           not_itself,
           λ i2 u at2 k L.
               (let r = use_of i2 u at2 k in

@@ -21,7 +21,7 @@ use Rattle.semantics.specs.Sharing.{Arc, arc, inlet, arcs_to, arcs_from, arcs_of
 use Rattle.semantics.specs.Arcs.{UsesBy, UsesArc}
 use Rattle.semantics.proofs.ArcEnds.{arcs_from_from}
 use Rattle.law_reuse.proofs.SlotsStands.{instr_in}
-use Rattle.law_simulation.specs.Simulates.{Pend, Plain, Sends, hands_on}
+use Rattle.law_simulation.specs.Simulates.{hands_on}
 
 -- ---- WHERE AN ARC STARTS
 record Starts (p : Plan) (m : ℕ) (is : List Instr) (x : Arc) : Type 0 where
@@ -109,10 +109,11 @@ module _ (p q : Plan) (g h : ℕ → ℕ) where
   abbrev Q : Program
   Q = q.program
 
-  -- An arc that one uses that hands on leads to what is on its way.
-  pub hand_use : (new : List Token) (f l : ℕ) (w : Word) (i : Instr) → Sends P Q h new f l → instr_at P l ≡ Some i → hands_on i.op ≡ true → (k b : ℕ) (t : Port)
-      → Plain P Q h b → (made : List Token) (m : Machine) → UsesArc p k b t (token (To.Instr f l Left) w) made m → Pend P Q h k b t new
-  hand_use new f l w i N at op k b t K made m U0 = by_arc (Contains-append_cases (arcs_to U.n false i.firsts) (arcs_to U.n true i.seconds) U.x arcs)
+  -- An arc that one uses that hands on leads to a destination of it.
+  pub hand_use : (f l : ℕ) (w : Word) (i : Instr) → instr_at P l ≡ Some i → hands_on i.op ≡ true → (k b : ℕ) (t : Port) → (made : List Token) (m : Machine)
+      → UsesArc p k b t (token (To.Instr f l Left) w) made m
+      → (d : Dest) × Contains (i.firsts ++ i.seconds) d × (f ≡ k) × (b ≡ l + d.ahead) × (d.port ≡ t)
+  hand_use f l w i at op k b t made m U0 = by_arc (Contains-append_cases (arcs_to U.n false i.firsts) (arcs_to U.n true i.seconds) U.x arcs)
     where
       U : UseAt p k b t (token (To.Instr f l Left) w) made m
       U = use_at p k b t (token (To.Instr f l Left) w) made m U0
@@ -126,16 +127,15 @@ module _ (p q : Plan) (g h : ℕ → ℕ) where
       arcs : Contains (arcs_to U.n false i.firsts ++ arcs_to U.n true i.seconds) U.x
       arcs = subst (λ (l : List Arc). Contains l U.x) (hand_arcs p U.n i i.op op) (subst (λ (i : Instr). Contains (arcs_from p U.n i i.op) U.x) same U.here)
 
-      by_dest : (side : Bool) (d : Dest) → Contains (i.firsts ++ i.seconds) d → arc U.n side (inlet (U.n + d.ahead) d.port) ≡ U.x → Pend P Q h k b t new
+      Goal : Type 0
+      Goal = (d : Dest) × Contains (i.firsts ++ i.seconds) d × (f ≡ k) × (b ≡ l + d.ahead) × (d.port ≡ t)
+
+      by_dest : (side : Bool) (d : Dest) → Contains (i.firsts ++ i.seconds) d → arc U.n side (inlet (U.n + d.ahead) d.port) ≡ U.x → Goal
       by_dest side d named e =
           let place = U.place in let s1 = spot.1 in let to = ap (λ (x : Arc). x.to.place) e in
-          let is : b ≡ l + d.ahead = omega (arith, place, s1, to) in
-          let port : d.port ≡ t = ap (λ (x : Arc). x.to.port) e ∙ sym U.port in
-          let P0 : Pend P Q h f (l + d.ahead) d.port new = N.1 i d at named (subst (Plain P Q h) is K) in
-          subst (λ (k : ℕ). Pend P Q h k b t new) spot.0
-          (subst (λ (b : ℕ). Pend P Q h f b t new) (sym is) (subst (λ (r : Port). Pend P Q h f (l + d.ahead) r new) port P0))
+          (d, named, spot.0, omega (arith, place, s1, to), ap (λ (x : Arc). x.to.port) e ∙ sym U.port)
 
-      by_arc : Contains (arcs_to U.n false i.firsts) U.x ⊎ Contains (arcs_to U.n true i.seconds) U.x → Pend P Q h k b t new
+      by_arc : Contains (arcs_to U.n false i.firsts) U.x ⊎ Contains (arcs_to U.n true i.seconds) U.x → Goal
       by_arc (inl c) =
           let d = contains_mapped (λ (d : Dest). arc U.n false (inlet (U.n + d.ahead) d.port)) i.firsts U.x c in
           by_dest false d.0 (Contains-append_left i.firsts i.seconds d.0 d.1) d.2

@@ -22,7 +22,7 @@ use Rattle.law_fresh_frames.specs.Alike.{LandsRightly}
 use Rattle.law_fresh_frames.proofs.BoundedWeights.{tot_append, tot_perm}
 use Rattle.law_fresh_frames.proofs.BoundedRows.{unit, count_tot}
 use Rattle.law_simulation.specs.Places.{Spot, ip_to}
-use Rattle.law_simulation.specs.Simulates.{Fits, Fresh, Leaf, Node, Pend, Plain, Relates, Stands, at_moved, behind, hands_on, left, moved, next, right}
+use Rattle.law_simulation.specs.Simulates.{Fits, Fresh, Leaf, Node, Pend, Plain, Relates, Stands, at_moved, behind, hands_on, left, moved, next, right, straight}
 use Rattle.law_simulation.specs.Simulates.{through, top}
 use Rattle.law_simulation.proofs.SimulationAgree.{Lone}
 use Rattle.law_simulation.proofs.SimulationArcs.{same_to}
@@ -124,7 +124,7 @@ module _ (p q : Plan) (S : Relates p q) (wired : IsWired p) (orderly : Orderly p
 
         go : (is_entry P.blocks a ≡ true) ⊎ (is_entry P.blocks a ≡ false) → used f (h a) r
         go (inl e) = absurd (true≢false (sym (entries a e) ∙ none))
-        go (inr e) = done (V.part.arcs f a r K (order.caused f a r w e was) F)
+        go (inr e) = done (V.part.arcs f a r (order.caused f a r w e was) F (a, r) (straight K refl))
 
     pub caused_kept : (f ip : ℕ) (r : Port) (w : Word) → is_entry Q.blocks ip ≡ false → Contains m.pool (token (To.Instr f ip r) w) → used f ip r
     caused_kept f ip r w none inside =

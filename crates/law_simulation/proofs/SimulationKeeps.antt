@@ -29,7 +29,7 @@ orderly_kept p q K wired orderly lands inputs z events m start run once =
     let gone : List ℕ = handed Q z (at_start Q inputs) events m run in
     let ss : List Step = steps_of Q z (at_start Q inputs) events m run in
     let V : Sim p q S wired orderly lands inputs z st events m gone ss = simulated p q S wired orderly lands inputs z st events m run once in
-    let arcs : KeepsArcs p q S = record { sizes = K.sizes; rows = K.rows } in
+    let arcs : KeepsArcs p q S = record { sizes = K.sizes; rows = K.rows; unskipped = K.unskipped } in
     record {
       once = once_kept p q S wired orderly lands inputs z st events m gone ss V once K.lone;
       caused = λ f ip r w e inside. some_event (UsesArc q f ip r) Q z (at_start Q inputs) events m run

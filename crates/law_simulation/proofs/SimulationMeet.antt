@@ -71,7 +71,7 @@ module _ (p q : Plan) (g h : ℕ → ℕ) (answers : (a : ℕ) (i : Instr) → i
       → (first_port second_port : Port) (first_word second_word : Word) (x : SlotState) (made : List Token)
       → IsPermutation ts (token (To.Instr f a first_port) first_word ∷ token (To.Instr f a second_port) second_word ∷ rest) → s.slots f i.slot ≡ Empty
       → meets P seat i Empty first_port first_word ≡ Becomes x [] → meets P seat i x second_port second_word ≡ Becomes Empty made
-      → ((k b : ℕ) (r : Port) → Plain P q.program h b → (last : Machine) → UsesArc p k b r (token (To.Instr f a second_port) second_word) made last
+      → ((k b : ℕ) (r : Port) → (last : Machine) → UsesArc p k b r (token (To.Instr f a second_port) second_word) made last
       → T.arcs k b r)
       → Past s (made ++ rest) (with_spent T (token (To.Instr f a first_port) first_word ∷ token (To.Instr f a second_port) second_word ∷ []))
   both_meet s ts rest T R once first_port second_port first_word second_word x made takes free waits joins uses =
@@ -86,7 +86,7 @@ module _ (p q : Plan) (g h : ℕ → ℕ) (answers : (a : ℕ) (i : Instr) → i
       (with_spent T (first_token ∷ [])) waited once f a second_port second_word i (IsPermutation-refl _)
       (fires_second between second_port second_word x made (slot_now p q g h answers wired orderly inputs z start f a i o at op s x) joins) at
       (ap counts_none op) (no_seek (instr_at P a) i (Apply2 o) at op refl)
-      (λ k b r K U. uses k b r K record { store = joined; pool = made ++ rest } U) in
+      (λ k b r U. uses k b r record { store = joined; pool = made ++ rest } U) in
       again p q g h answers wired orderly inputs z start s _ _ (with_spent (with_spent T (first_token ∷ [])) (second_token ∷ []))
       (with_spent T (first_token ∷ second_token ∷ []))
       (subst (λ (s : MStore). Past s (made ++ rest) (with_spent (with_spent T (first_token ∷ [])) (second_token ∷ []))) (undone s f i.slot x free) fired)
@@ -97,5 +97,5 @@ module _ (p q : Plan) (g h : ℕ → ℕ) (answers : (a : ℕ) (i : Instr) → i
         olds = λ y k. k;
         spent = λ k b r. (let e = ap (ones k b r) (append_assoc T.spent (first_token ∷ []) (second_token ∷ [])) in omega (arith, e));
         counts = λ y k fair. refl;
-        arcs = λ k b r K e. e;
+        arcs = λ k b r e. e;
       }

@@ -34,8 +34,8 @@ use Rattle.law_confluence.proofs.Orders.{first_lifted, flat_map-IsPermutation}
 use Rattle.law_reuse.proofs.BoundsTallies.{Counter, Grants, Releases, count_at, count_apart}
 use Rattle.law_fresh_frames.proofs.BoundedWeights.{tot_append}
 use Rattle.semantics.specs.Credits.{granted_at, released_at}
-use Rattle.law_simulation.specs.Places.{ip_store, ip_to, ip_token, ip_word}
-use Rattle.law_simulation.specs.Simulates.{Arrives, Clumped, Fits, FitsSlot, FitsWord, Fresh, HandsOn, IsMoved, IsPair, IsValue, Pend, Plain, Relates}
+use Rattle.law_simulation.specs.Places.{Spot, ip_store, ip_to, ip_token, ip_word}
+use Rattle.law_simulation.specs.Simulates.{Arrives, Clumped, Fits, FitsSlot, FitsWord, Fresh, HandsOn, IsMoved, IsPair, IsValue, Pend, Plain, Reaches, Relates}
 use Rattle.law_simulation.specs.Simulates.{Sends, StandAll, Stands, counts_none, empty, hands_on, is_pair, itself, left, moved, right, through}
 use Rattle.law_simulation.proofs.SimulationCame.{moved_came, other_stale}
 use Rattle.law_simulation.proofs.SimulationCounts.{Counted, counted_event, counted_more, counted_perm, counted_through, made_behind, made_instrs}
@@ -165,7 +165,7 @@ module _ (p q : Plan) (S : Relates p q) (wired : IsWired p) (orderly : Orderly p
             olds = λ x k. k;
             spent = λ f a r. omega arith;
             counts = λ x f fair. refl;
-            arcs = λ k a r K e. tells k a r e;
+            arcs = λ k a r e. tells k a r e;
           }
 
       -- where the token is at none that hands on
@@ -240,7 +240,7 @@ module _ (p q : Plan) (S : Relates p q) (wired : IsWired p) (orderly : Orderly p
         counts = λ x k fair.
             (let a = steps_count x k in let b = ap (λ (t : Token). count_at q Q (new_counter h x) k m.store t.to ev.made) is in
             let c = count_none q (new_counter h x) k f ip Left m.store ev.made j at none in omega (arith, a, b, c));
-        arcs = λ k a r K e. e;
+        arcs = λ k a r e. e;
       }
 
       -- what becomes of the clumps
@@ -263,8 +263,9 @@ module _ (p q : Plan) (S : Relates p q) (wired : IsWired p) (orderly : Orderly p
           → c.meant ≡ u ∷ [] → Fits P Q h u.to → t ≡ ip_token h u → IsPermutation (meant_in V.clumps) (u ∷ meant_in others)
           → (A : Answered P Q g h S.arrays S.outputs total V.old u.to u.word ev.made after.store) → is_credit_event Q t.to ≡ is_credit_event P u.to
           → ((x : Counter) (f : ℕ) → Fair P Q h x → counts_now x f ≡ count_at p P x f V.old u.to A.tokens)
-          → (KeepsArcs p q S → Clumped P Q g h ev.made A.tokens → (k a : ℕ) (r : Port) → Plain P Q h a → (last : Machine) → last.store ≡ A.after
-          → UsesArc p k a r u A.tokens last → UsesArc q k (h a) r t ev.made after ⊎ Pend P Q h k a r ev.made) → AllCame → Next
+          → (KeepsArcs p q S → Clumped P Q g h ev.made A.tokens → (k a : ℕ) (r : Port) → (last : Machine) → last.store ≡ A.after
+          → UsesArc p k a r u A.tokens last → (x : Spot) → Reaches P Q h a r x → UsesArc q k (h x.0) x.1 t ev.made after ⊎ Pend P Q h k x.0 x.1 ev.made)
+          → AllCame → Next
       both c same others K rest u one fits is takes A credit counts uses new =
           let stepped : Past A.after (A.tokens ++ meant_in others)
           (after_event p q g h S.answers wired orderly inputs z start turned V.old A.after u A.tokens (meant_in others)) =
@@ -285,7 +286,7 @@ module _ (p q : Plan) (S : Relates p q) (wired : IsWired p) (orderly : Orderly p
             olds = λ x k. k;
             spent = λ f a r. omega arith;
             counts = λ x f fair. (let a = steps_count x f in let b = counts x f fair in omega (arith, a, b));
-            arcs = λ f a r K e. told_both X f a r K e;
+            arcs = λ f a r e. told_both X f a r e;
           } in
           made_next others rest A.after (u ∷ []) A.tokens X reached A.same record {
             tokens = u ∷ [];
@@ -294,13 +295,12 @@ module _ (p q : Plan) (S : Relates p q) (wired : IsWired p) (orderly : Orderly p
           } (λ cl. subst (λ (l : List Token). Known (taken events ++ t ∷ []) (taken V.part.done ++ l) (cl ++ others)) one
           (counted_event P Q g h S.apart S.pairs_apart (taken events) (taken V.part.done) c cl others t same K)) new
         where
-          told_both : Clumped P Q g h ev.made A.tokens → (k a : ℕ) (r : Port) → Plain P Q h a
-              → Told p q S steps_after after.pool k a r ⊎ UsesArc p k a r u A.tokens record { store = A.after; pool = A.tokens ++ meant_in others }
+          told_both : Clumped P Q g h ev.made A.tokens → (k a : ℕ) (r : Port) → Told p q S steps_after after.pool k a r ⊎ UsesArc p k a r u A.tokens record { store = A.after; pool = A.tokens ++ meant_in others }
               → Told p q S steps_after after.pool k a r
-          told_both X k a r K (inl e) = e
-          told_both X k a r K (inr U) =
+          told_both X k a r (inl e) = e
+          told_both X k a r (inr U) =
               told_now p q S ss m.store t m.pool ev.made ev.rest after ev.takes ev.leaves k a r
-              (λ F. uses F X k a r K record { store = A.after; pool = A.tokens ++ meant_in others } refl U)
+              (λ F x W. uses F X k a r record { store = A.after; pool = A.tokens ++ meant_in others } refl U x W)
 
       -- the event of an instruction's token
       at_instr : (c : C) → c.seen ≡ t → (others : List C) → Known (taken events) (taken V.part.done) (c ∷ others) → seen_in others ≡ ev.rest
@@ -328,9 +328,9 @@ module _ (p q : Plan) (S : Relates p q) (wired : IsWired p) (orderly : Orderly p
               both c same others K rest (token (To.Instr f a r) w) one fits is takes A
               (ap (λ (t : Token). is_credit_event Q t.to) is ∙ ap seeks_credit M.there ∙ seeks_op i M.j M.op ∙ ap seeks_credit (sym at))
               (λ x k fair. same_count i at M A x k fair)
-              (λ F X k b s K last stores U. moved_used p q S F.sizes F.rows wired total V.old f a r w i at M ev.made A.tokens after last t
+              (λ F X k b s last stores U x W. moved_used p q S F.sizes F.rows F.unskipped wired total V.old f a r w i at M ev.made A.tokens after last t
               (ap (λ (t : Token). t.to) is) happens (subst (λ (n : MStore). Happens P total V.old (To.Instr f a r) w A.tokens n) (sym stores) A.happens)
-              (A.same ∙ ap (ip_store h) (sym stores)) (arrived f a r w i at inside) (fits_slot f (slot_of i i.op)) word_fits k b s K U)
+              (A.same ∙ ap (ip_store h) (sym stores)) (arrived f a r w i at inside) (fits_slot f (slot_of i i.op)) word_fits k b s x W U)
               (moved_came p q g h total V.old f a r w i M ev.made after.store happens S.arrays (arrived f a r w i at inside)
               (fits_slot f (slot_of i i.op)) word_fits after refl t (ap (λ (t : Token). t.to) is))
             where
@@ -369,7 +369,7 @@ module _ (p q : Plan) (S : Relates p q) (wired : IsWired p) (orderly : Orderly p
           both c same others K rest u one fits is takes A (ap (λ (t : Token). is_credit_event Q t.to) is ∙ same_credit P Q h u.to apart)
           (λ x k fair. ap (λ (t : Token). count_at q Q (new_counter h x) k m.store t.to ev.made) is
           ∙ count_apart q Q (new_counter h x) k m.store (ip_to h u.to) ev.made (not_instr h u.to apart) ∙ sym (count_apart p P x k V.old u.to A.tokens apart))
-          (λ F X k b r K last stores U. absurd (apart k _ U.side U.taken_at))
+          (λ F X k b r last stores U x W. absurd (apart k _ U.side U.taken_at))
           (λ v made k ip r to fresh. absurd (other_stale p q g h total V.old cells asks ev.made after.store u.to u.word apart
           (V.part.words.0 u inside) happens v made k ip r to fresh))
 
@@ -457,9 +457,9 @@ module _ (p q : Plan) (S : Relates p q) (wired : IsWired p) (orderly : Orderly p
           (sums_after (first_token ∷ second_token ∷ []))
           (both_meet p q g h S.answers wired orderly inputs z start f a i o at op V.old (meant_in V.clumps) (meant_in others) turned
           (turn_by (pair_apart p q S t f a u j is to two)) once first_port second_port first_word second_word x old_made takes free waits joins
-          (λ k b r K last U. told_now p q S ss m.store t m.pool ev.made ev.rest after ev.takes ev.leaves k b r
-          (λ F. pair_used p q S f a second_port second_word (ip_word h v) i j o ev.made old_made after last t at op to two
-          (ap (λ (t : Token). t.to) is) makes pair.all k b r K U)))
+          (λ k b r last U. told_now p q S ss m.store t m.pool ev.made ev.rest after ev.takes ev.leaves k b r
+          (λ F x W. pair_used p q S f a second_port second_word (ip_word h v) i j o ev.made old_made after last t at op to two
+          (ap (λ (t : Token). t.to) is) makes pair.all k b r x W U)))
           (IsPermutation-refl _) (quiet_sums f (g a) u j (first_token ∷ second_token ∷ []) is to none off) in
           made_next others rest V.old (first_token ∷ second_token ∷ []) old_made stood reached (stays ∙ V.store) record {
             tokens = first_token ∷ second_token ∷ [];

@@ -156,7 +156,7 @@ pub record Says (P Q : Program) (h : ℕ → ℕ) (T U : Sums) : Type 0 where
   pub olds : (x : Token) → Contains U.olds x → Contains T.olds x
   pub spent : (f a : ℕ) (r : Port) → ones f a r U.spent ≤ ones f a r T.spent
   pub counts : (x : Counter) (f : ℕ) → Fair P Q h x → T.counts x f ≡ U.counts x f
-  pub arcs : (f a : ℕ) (r : Port) → Plain P Q h a → T.arcs f a r → U.arcs f a r
+  pub arcs : (f a : ℕ) (r : Port) → T.arcs f a r → U.arcs f a r
 
 abbrev pub with_spent : Sums → List Token → Sums
 with_spent T us = record { gone = T.gone; asked = T.asked; credited = T.credited; olds = T.olds; spent = T.spent ++ us; counts = T.counts; arcs = T.arcs }

@@ -32,7 +32,7 @@ use Rattle.law_reuse.proofs.FramesSnoc.{run_snoc, handed_snoc, tally, tally_snoc
 use Rattle.law_reuse.proofs.FramesCounts.{requests_more, credits_more}
 use Rattle.law_reuse.proofs.SlotsHistory.{taken, Kept, kept_next}
 use Rattle.law_reuse.proofs.BoundsTallies.{Counter, count_at}
-use Rattle.semantics.specs.Orderly.{is_at}
+use Rattle.semantics.specs.Orderly.{is_at, is_entry}
 use Rattle.law_fresh_frames.proofs.BoundedWeights.{tot_append}
 use Rattle.law_fresh_frames.proofs.BoundedRows.{unit}
 use Rattle.folding.specs.Laws.{other_port}
@@ -80,7 +80,7 @@ module _ (p q : Plan) (g h : ℕ → ℕ) (answers : (a : ℕ) (i : Instr) → i
     pub took : (f a : ℕ) (r : Port) → ones f a r T.spent ≤ ones f a r (taken done)
     pub counts : (x : Counter) (f : ℕ) → Fair P Q h x → tally (count_at p P x f) P z first done last run ≡ T.counts x f
     pub words : AllFit P Q g h last.pool × Worded P Q g h last.store
-    pub arcs : (f a : ℕ) (r : Port) → Plain P Q h a → SomeEvent (UsesArc p f a r) P z first done last run → T.arcs f a r
+    pub arcs : (f a : ℕ) (r : Port) → SomeEvent (UsesArc p f a r) P z first done last run → T.arcs f a r
 
   -- the same in other words
   pub again : (s : MStore) (ts us : List Token) (T U : Sums) → Reached s ts T → IsPermutation ts us → Says P Q h T U → Reached s us U
@@ -98,12 +98,12 @@ module _ (p q : Plan) (g h : ℕ → ℕ) (answers : (a : ℕ) (i : Instr) → i
     took = λ f a r. (let l = R.took f a r in let m = S.spent f a r in omega (arith, l, m));
     counts = λ x f fair. R.counts x f fair ∙ S.counts x f fair;
     words = R.words;
-    arcs = λ f a r K k. S.arcs f a r K (R.arcs f a r K k);
+    arcs = λ f a r k. S.arcs f a r (R.arcs f a r k);
   }
 
   pub same_sums : (T : Sums) → Says P Q h T T
   same_sums T =
-      record { gone = refl; asked = refl; credited = refl; olds = λ x k. k; spent = λ f a r. omega arith; counts = λ x f fair. refl; arcs = λ f a r K k. k }
+      record { gone = refl; asked = refl; credited = refl; olds = λ x k. k; spent = λ f a r. omega arith; counts = λ x f fair. refl; arcs = λ f a r k. k }
 
   abbrev pub Once : Sums → Type 0
   Once T = EachOnce (0 ∷ T.gone)
@@ -170,15 +170,14 @@ module _ (p q : Plan) (g h : ℕ → ℕ) (answers : (a : ℕ) (i : Instr) → i
         counts = λ x f fair.
             (let l = tally_snoc (count_at p P x f) P z first R.last now R.done e u R.run evp in let m = R.counts x f fair in
             let n = ap (λ (s : MStore). count_at p P x f s u.to made) R.same in omega (arith, l, m, n));
-        arcs = λ f a r K k. uses f a r K (some_snoc (UsesArc p f a r) P z first R.last now R.done e u R.run evp k);
+        arcs = λ f a r k. uses f a r (some_snoc (UsesArc p f a r) P z first R.last now R.done e u R.run evp k);
         words = (joined made rest fit.0 (λ t k. R.words.0 t (Contains-permutation _ _ t (IsPermutation-sym _ _ there) (contains_tail u rest t k))), fit.1);
       }
     where
-      uses : (f a : ℕ) (r : Port) → Plain P Q h a
-          → SomeEvent (UsesArc p f a r) P z first R.done R.last R.run ⊎ UsesArc p f a r u made record { store = after; pool = made ++ rest }
+      uses : (f a : ℕ) (r : Port) → SomeEvent (UsesArc p f a r) P z first R.done R.last R.run ⊎ UsesArc p f a r u made record { store = after; pool = made ++ rest }
           → T.arcs f a r ⊎ UsesArc p f a r u made record { store = after; pool = made ++ rest }
-      uses f a r K (inl k) = inl (R.arcs f a r K k)
-      uses f a r K (inr k) = inr k
+      uses f a r (inl k) = inl (R.arcs f a r k)
+      uses f a r (inr k) = inr k
 
       joined : (made rest : List Token) → AllFit P Q g h made → AllFit P Q g h rest → AllFit P Q g h (made ++ rest)
       joined made rest a b t k = go (Contains-append_cases made rest t k)
@@ -191,7 +190,7 @@ module _ (p q : Plan) (g h : ℕ → ℕ) (answers : (a : ℕ) (i : Instr) → i
   pub quiet : (s after : MStore) (ts made rest : List Token) (T : Sums) → Reached s ts T → Once T → (f a : ℕ) (r : Port) (w : Word) (i : Instr)
       → IsPermutation ts (token (To.Instr f a r) w ∷ rest) → Happens P total s (To.Instr f a r) w made after
       → instr_at P a ≡ Some i → counts_none i.op ≡ true → seeks_credit (instr_at P a) ≡ false
-      → ((k b : ℕ) (t : Port) → Plain P Q h b → UsesArc p k b t (token (To.Instr f a r) w) made record { store = after; pool = made ++ rest } → T.arcs k b t)
+      → ((k b : ℕ) (t : Port) → UsesArc p k b t (token (To.Instr f a r) w) made record { store = after; pool = made ++ rest } → T.arcs k b t)
       → Reached after (made ++ rest) (with_spent T (token (To.Instr f a r) w ∷ []))
   quiet s after ts made rest T R once f a r w i takes happens at none off uses =
       again after (made ++ rest) (made ++ rest) (after_event T s after (token (To.Instr f a r) w) made rest) (with_spent T (token (To.Instr f a r) w ∷ []))
@@ -202,18 +201,17 @@ module _ (p q : Plan) (g h : ℕ → ℕ) (answers : (a : ℕ) (i : Instr) → i
         olds = λ x k. k;
         spent = λ f a r. omega arith;
         counts = λ x k fair. (let c = count_none p x k f a r s made i at none in omega (arith, c));
-        arcs = λ k b t K e. taken_in k b t K e;
+        arcs = λ k b t e. taken_in k b t e;
       }
     where
-      taken_in : (k b : ℕ) (t : Port) → Plain P Q h b
-          → T.arcs k b t ⊎ UsesArc p k b t (token (To.Instr f a r) w) made record { store = after; pool = made ++ rest } → T.arcs k b t
-      taken_in k b t K (inl e) = e
-      taken_in k b t K (inr e) = uses k b t K e
+      taken_in : (k b : ℕ) (t : Port) → T.arcs k b t ⊎ UsesArc p k b t (token (To.Instr f a r) w) made record { store = after; pool = made ++ rest } → T.arcs k b t
+      taken_in k b t (inl e) = e
+      taken_in k b t (inr e) = uses k b t e
 
   -- the arcs of what may hand on are told already
   abbrev pub Absorbs : (ℕ → ℕ → Type 0) → Sums → Type 0
-  Absorbs may T = (f l : ℕ) → may f l → (w v : Word) (i : Instr) → instr_at P l ≡ Some i → hands_on i.op ≡ true → (k b : ℕ) (t : Port) → Plain P Q h b
-      → (m : Machine) → UsesArc p k b t (token (To.Instr f l Left) w) (to_all record { frame = f; ip = l } v i) m → T.arcs k b t
+  Absorbs may T = (f l : ℕ) → may f l → (is_entry P.blocks l ≡ false → T.arcs f l Left) → (w v : Word) (i : Instr) → instr_at P l ≡ Some i
+      → hands_on i.op ≡ true → (k b : ℕ) (t : Port) → (m : Machine) → UsesArc p k b t (token (To.Instr f l Left) w) (to_all record { frame = f; ip = l } v i) m → T.arcs k b t
 
   -- what hands on does so
   pub settle : (may : ℕ → ℕ → Type 0) (xs ys : List Token) → Settles may P xs ys → (s : MStore) (rest : List Token) (T : Sums) → Absorbs may T
@@ -225,12 +223,16 @@ module _ (p q : Plan) (g h : ℕ → ℕ) (answers : (a : ℕ) (i : Instr) → i
       let happens : Happens P total s (To.Instr f a Left) w (to_all record { frame = f; ip = a } v i) s =
       subst (λ (o : Option Instr). Fires s f (slot_used o) (rule_at P record { frame = f; ip = a } o (slot_in s f (slot_used o)) Left w) (to_all record { frame = f; ip = a } v i) s)
       (sym at) (hands_fires (λ w. ⊤) P f a w v i s is) in
+      let inside : Contains R.last.pool (token (To.Instr f a Left) w) = Contains-permutation _ _ _ (IsPermutation-sym _ _ R.pool)
+      (Contains-permutation _ _ _ (IsPermutation-sym _ _ takes) (contains_head (token (To.Instr f a Left) w) (beside ++ rest))) in
+      let arrived : is_entry P.blocks a ≡ false → T.arcs f a Left =
+      λ none. R.arcs f a Left ((order_of s (xs ++ rest) T R once).caused f a Left w none inside) in
       let on = hands_op (λ w. ⊤) i.op w v is in
       let none = hands_none i.op on in
       let fired_one : Reached s (to_all record { frame = f; ip = a } v i ++ (beside ++ rest)) (with_spent T (token (To.Instr f a Left) w ∷ [])) =
       quiet s s (xs ++ rest) (to_all record { frame = f; ip = a } v i) (beside ++ rest) T R once f a Left w i takes happens at none
       (no_seek (instr_at P a) i i.op at refl (none_seeks i.op none))
-      (λ k b t K U. told f a does w v i at on k b t K record { store = s; pool = to_all record { frame = f; ip = a } v i ++ (beside ++ rest) } U) in
+      (λ k b t U. told f a does arrived w v i at on k b t record { store = s; pool = to_all record { frame = f; ip = a } v i ++ (beside ++ rest) } U) in
       let regrouped : Reached s ((to_all record { frame = f; ip = a } v i ++ beside) ++ rest) T =
       again s (to_all record { frame = f; ip = a } v i ++ (beside ++ rest)) ((to_all record { frame = f; ip = a } v i ++ beside) ++ rest) (with_spent T (token (To.Instr f a Left) w ∷ [])) T fired_one
       (subst (IsPermutation (to_all record { frame = f; ip = a } v i ++ (beside ++ rest))) (sym (append_assoc (to_all record { frame = f; ip = a } v i) beside rest)) (IsPermutation-refl _)) record {
@@ -240,7 +242,7 @@ module _ (p q : Plan) (g h : ℕ → ℕ) (answers : (a : ℕ) (i : Instr) → i
         olds = λ x k. k;
         spent = λ k b r. (let l = tot_append (λ (t : Token). unit (is_at k b r t.to)) T.spent (token (To.Instr f a Left) w ∷ []) in omega (arith, l));
         counts = λ x k fair. refl;
-        arcs = λ k b r K e. e;
+        arcs = λ k b r e. e;
       } in
       settle may (to_all record { frame = f; ip = a } v i ++ beside) ys k s rest T told regrouped once
 
@@ -301,7 +303,7 @@ module _ (p q : Plan) (g h : ℕ → ℕ) (answers : (a : ℕ) (i : Instr) → i
     one_waits s ts rest T R once r w x takes free becomes =
         quiet s (with_slot s f i.slot x) ts [] rest T R once f a r w i takes (waits s r w x free becomes) at (ap counts_none op)
         (no_seek (instr_at P a) i (Apply2 o) at op refl)
-        (λ k b t K U. absurd (contains_none U.t U.is_made))
+        (λ k b t U. absurd (contains_none U.t U.is_made))
 
     pub value_of : (s : MStore) (rest : List Token) (T : Sums) (r : Port) (w : Word) (v : Value)
         → Reached s (token (To.Instr f a r) w ∷ token (To.Instr f a (other_port r)) (Word.Val v) ∷ rest) T → Once T → IsValue w
@@ -346,7 +348,7 @@ module _ (p q : Plan) (g h : ℕ → ℕ) (answers : (a : ℕ) (i : Instr) → i
             olds = λ x k. k;
             spent = λ f a r. omega arith;
             counts = λ x f fair. refl;
-            arcs = λ f a r K k. tt;
+            arcs = λ f a r k. tt;
           } in
           M.value (value_of A.frame A.a A.i A.o A.at A.op s (A.rest ++ rest) (any_arcs T) A.r w A.v
-          (settle (λ f l. ⊤) old pair A.settles s rest (any_arcs T) (λ f l k w v i at is x b t K m U. tt) any_told once) once)
+          (settle (λ f l. ⊤) old pair A.settles s rest (any_arcs T) (λ f l k came w v i at is x b t m U. tt) any_told once) once)

@@ -91,7 +91,8 @@ module _ (p q : Program) (h : ℕ → ℕ) where
       record { ip = N.ip; j = N.j; d = N.d; node = turn N.ip N.node; at = N.at; op = N.op; named = N.named; place = N.place; port = N.port }
 
   pub sends_with : (xs ys : List Token) → ((f ip : ℕ) → Node p q h f xs ip → Node p q h f ys ip) → (f l : ℕ) → Sends p q h xs f l → Sends p q h ys f l
-  sends_with xs ys turn f l N = (N.0, λ i d at c plain. pend_with f (l + d.ahead) d.port xs ys (turn f) (N.1 i d at c plain))
+  sends_with xs ys turn f l (inl N) = inl (N.0, λ i d at c plain. pend_with f (l + d.ahead) d.port xs ys (turn f) (N.1 i d at c plain))
+  sends_with xs ys turn f l (inr K) = inr K
 
   pub sends_grow : (xs ys : List Token) → ((t : Token) → Contains xs t → Contains ys t) → (f l : ℕ) → Sends p q h xs f l → Sends p q h ys f l
   sends_grow xs ys grows = sends_with xs ys (λ f ip. node_grows f xs ys grows ip)

@@ -22,13 +22,12 @@ use Rattle.law_reuse.proofs.SlotsHistory.{kept_start}
 use Rattle.law_reuse.proofs.SlotsRuns.{once_before}
 use Rattle.law_fresh_frames.specs.Alike.{LandsRightly}
 use Rattle.law_simulation.specs.Simulates.{Clumped, Fresh, Plain, Relates, Sends}
-use Rattle.law_simulation.proofs.SimulationArcs.{hand_use}
 use Rattle.law_simulation.proofs.SimulationNext.{sim_next}
 use Rattle.law_simulation.proofs.SimulationParts.{Clump, Sums, clumps_of, meant_of, seen_of}
 use Rattle.law_simulation.proofs.SimulationPast.{Reached, ready, settle}
 use Rattle.law_simulation.proofs.SimulationRules.{Made, cons_clumped, none_clumped}
 use Rattle.law_simulation.proofs.SimulationState.{Sim, counted_of}
-use Rattle.law_simulation.proofs.SimulationTold.{Told, came_perm, told_perm}
+use Rattle.law_simulation.proofs.SimulationTold.{Told, came_perm, told_perm, told_behind}
 use Rattle.law_simulation.proofs.SimulationTraces.{Step, step, steps_of}
 use Rattle.law_simulation.proofs.SimulationWords.{start_fits}
 
@@ -143,7 +142,7 @@ module _ (p q : Plan) (S : Relates p q) (wired : IsWired p) (orderly : Orderly p
           took = V.part.took;
           counts = V.part.counts;
           words = V.part.words;
-          arcs = λ f a k K e. told_perm p q S ss m.pool c.pool r.0 f a k (V.part.arcs f a k K e);
+          arcs = λ f a k e. told_perm p q S ss m.pool c.pool r.0 f a k (V.part.arcs f a k e);
         };
         seen = IsPermutation-trans _ _ _ (IsPermutation-sym _ _ r.0) V.seen;
         store = r.1 ∙ V.store;
@@ -201,7 +200,7 @@ module _ (p q : Plan) (S : Relates p q) (wired : IsWired p) (orderly : Orderly p
         took = λ f a r. omega arith;
         counts = λ x f fair. refl;
         words = start_fits P Q g h inputs;
-        arcs = λ f a r K e. absurd e;
+        arcs = λ f a r e. absurd e;
       } in
       let X : Clumped P Q g h (at_start Q inputs).pool first.pool =
       ready p q g h S.answers wired orderly inputs z start first.store [] (sums [] [] [] (at_start Q inputs).pool [] [])
@@ -209,7 +208,7 @@ module _ (p q : Plan) (S : Relates p q) (wired : IsWired p) (orderly : Orderly p
       let fired : Past first.store (X.meant ++ []) (sums [] [] [] (at_start Q inputs).pool [] []) =
       settle p q g h S.answers wired orderly inputs z start (Sends P Q h (at_start Q inputs).pool) first.pool X.meant X.settles first.store []
       (sums [] [] [] (at_start Q inputs).pool [] [])
-      (λ f l sends w v i at is k b r K m U F. inr (hand_use p q g h (at_start Q inputs).pool f l w i sends at is k b r K (to_all record { frame = f; ip = l } v i) m U))
+      (λ f l sends came w v i at is k b r m U. told_behind p q S [] (at_start Q inputs).pool f l sends came w i at is k b r (to_all record { frame = f; ip = l } v i) m U)
       begun
       single in
       let cl = clumps_of P Q g h (at_start Q inputs).pool X.meant X.stand in

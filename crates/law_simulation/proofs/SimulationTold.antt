@@ -3,7 +3,7 @@ use Rattle.std.proofs.Common.{◌≡◌, sym, ap, ◌∙◌, subst, ℕ, ◌+◌
 use Rattle.std.proofs.lemmas.List.Elements.{Contains-append_left, Contains-append_right, Contains-append_cases}
 use Rattle.std.proofs.lemmas.List.Sorted.{Contains-permutation, IsPermutation-sym}
 use Rattle.std.proofs.lemmas.Option.{same_Some}
-use Rattle.lemmas.proofs.Contains.{contains_map, contains_tail}
+use Rattle.lemmas.proofs.Contains.{contains_cases, contains_map, contains_none, contains_tail}
 use Rattle.tags.specs.declared.token.Port.{Port}
 use Rattle.tags.specs.declared.token.Port.TheVariants.{Left}
 use Rattle.tags.specs.declared.token.Word.{Word}
@@ -14,23 +14,35 @@ use Rattle.semantics.specs.Rule.{token, at_dest}
 use Rattle.semantics.specs.Machine.{Machine, Store as MStore}
 use Rattle.semantics.specs.Plan.{Plan}
 use Rattle.semantics.specs.Arcs.{UsesArc}
+use Rattle.semantics.specs.declared.program.Dest.{Dest}
+use Rattle.semantics.specs.Orderly.{is_entry}
 use Rattle.semantics.specs.Rule.{to_all}
-use Rattle.std.proofs.Common.{true, true≢false}
+use Rattle.std.proofs.Common.{true, false, true≢false, refl}
+use Rattle.law_simulation.specs.Places.{Spot}
 use Rattle.std.proofs.Common.{◌<◌}
 use Rattle.semantics.specs.Plan.{landing}
 use Rattle.semantics.specs.Credits.{IsLink}
 use Rattle.law_simulation.specs.Places.{ip_to, ip_token}
-use Rattle.law_simulation.specs.Simulates.{Fits, Fresh, Node, Pend, Plain, Relates, Sends, hands_on, is_pair}
+use Rattle.law_simulation.specs.Simulates.{Fits, Fresh, Node, Pend, Plain, Reaches, Relates, Sends, Skips, hands_on, over, straight, is_pair}
 use Rattle.law_simulation.proofs.SimulationArcs.{hand_use}
 use Rattle.law_simulation.proofs.SimulationHas.{node_rest, node_step, sent_arc}
 use Rattle.law_simulation.proofs.SimulationParts.{hands_no_pair, hands_none}
-use Rattle.law_simulation.proofs.SimulationRules.{node_grows, pend_with}
+use Rattle.law_simulation.proofs.SimulationRules.{node_grows, pend_with, sends_grow}
 use Rattle.law_simulation.proofs.SimulationTraces.{HasStep, Step, step, step_before, step_last}
+
+-- the one of a list of one
+only : (x d : Dest) → Contains (x ∷ []) d → x ≡ d
+only x d c = go (contains_cases x [] d c)
+  where
+    go : (x ≡ d) ⊎ Contains [] d → x ≡ d
+    go (inl e) = e
+    go (inr k) = absurd (contains_none d k)
 
 -- Landings are as long as they were, and stay rows. Then events of the new code use the arcs that those of the old one used.
 pub record KeepsArcs (p q : Plan) (S : Relates p q) : Type 0 where
   pub sizes : (b : ℕ) → landing q b ≡ landing p b
   pub rows : (ip callee base o : ℕ) → IsLink p.program ip callee base → o < landing p callee → S.h (base + o) ≡ S.h base + o
+  pub unskipped : (ip callee base o : ℕ) → IsLink p.program ip callee base → o < landing p callee → Skips p.program q.program S.h (base + o) → ⊥
 
 module _ (p q : Plan) (S : Relates p q) where
   abbrev P : Program
@@ -42,9 +54,9 @@ module _ (p q : Plan) (S : Relates p q) where
   abbrev h : ℕ → ℕ
   h = S.h
 
-  -- an arc into the port in its new place was used, or what comes of one is on its way
+  -- an arc into the port at which it arrives was used, or what comes of one is on its way
   abbrev pub Told : List Step → List Token → ℕ → ℕ → Port → Type 0
-  Told ss pool f a r = KeepsArcs p q S → HasStep (UsesArc q f (h a) r) ss ⊎ Pend P Q h f a r pool
+  Told ss pool f a r = KeepsArcs p q S → (x : Spot) → Reaches P Q h a r x → HasStep (UsesArc q f (h x.0) x.1) ss ⊎ Pend P Q h f x.0 x.1 pool
 
   -- a token where nothing stands for itself came by an arc
   abbrev pub Came : List Step → List Token → Type 0
@@ -55,14 +67,39 @@ module _ (p q : Plan) (S : Relates p q) where
 
   -- the same tokens in another order
   pub told_perm : (ss : List Step) (xs ys : List Token) → IsPermutation xs ys → (f a : ℕ) (r : Port) → Told ss xs f a r → Told ss ys f a r
-  told_perm ss xs ys e f a r T F = go (T F)
+  told_perm ss xs ys e f a r T F x A = go (T F x A)
     where
-      go : HasStep (UsesArc q f (h a) r) ss ⊎ Pend P Q h f a r xs → HasStep (UsesArc q f (h a) r) ss ⊎ Pend P Q h f a r ys
+      go : HasStep (UsesArc q f (h x.0) x.1) ss ⊎ Pend P Q h f x.0 x.1 xs → HasStep (UsesArc q f (h x.0) x.1) ss ⊎ Pend P Q h f x.0 x.1 ys
       go (inl k) = inl k
-      go (inr n) = inr (pend_grows f a r xs ys (λ t c. Contains-permutation _ _ t e c) n)
+      go (inr n) = inr (pend_grows f x.0 x.1 xs ys (λ t c. Contains-permutation _ _ t e c) n)
 
   pub came_perm : (ss : List Step) (xs ys : List Token) → IsPermutation xs ys → Came ss xs → Came ss ys
   came_perm ss xs ys e K t c = K t (Contains-permutation _ _ t (IsPermutation-sym _ _ e) c)
+
+  -- what one that hands on ahead of the new code leads to is told: it is on its way, or was told when its token came
+  pub told_behind : (ss : List Step) (pool : List Token) (f l : ℕ) → Sends P Q h pool f l → (is_entry P.blocks l ≡ false → Told ss pool f l Left) → (w : Word)
+      (i : Instr) → instr_at P l ≡ Some i → hands_on i.op ≡ true → (k b : ℕ) (r : Port) → (made : List Token) (m : Machine)
+      → UsesArc p k b r (token (To.Instr f l Left) w) made m → Told ss pool k b r
+  told_behind ss pool f l sends came w i at op k b r made m U F x A = go (hand_use p q S.g h f l w i at op k b r made m U) sends A
+    where
+      Goal : ℕ → Spot → Type 0
+      Goal k x = HasStep (UsesArc q k (h x.0) x.1) ss ⊎ Pend P Q h k x.0 x.1 pool
+
+      go : (d : Dest) × Contains (i.firsts ++ i.seconds) d × (f ≡ k) × (b ≡ l + d.ahead) × (d.port ≡ r) → Sends P Q h pool f l → Reaches P Q h b r x
+          → Goal k x
+      go (d, named, frame, place, port) (inl N) (straight K e) =
+          subst (λ (k : ℕ). Goal k x) frame (subst (Goal f) ((λ v. (sym place v, port v)) ∙ sym e) (inr (N.1 i d at named (subst (Plain P Q h) place K))))
+      go (d, named, frame, place, port) (inl N) (over K e) = absurd (N.0 (K.before l i d at op named (sym place)))
+      go (d, named, frame, place, port) (inr K) (straight L e) =
+          let same : K.i ≡ i = same_Some K.i i (sym K.at ∙ at) in
+          let one : K.d ≡ d = only K.d d (subst (λ (ds : List Dest). Contains ds d) (sym (ap (λ (i : Instr). i.firsts ++ i.seconds) same) ∙ K.dests) named) in
+          subst (λ (k : ℕ). Goal k x) frame
+          (subst (Goal f) ((λ v. (l + (one v).ahead, (one v).port)) ∙ (λ v. (sym place v, port v)) ∙ sym e)
+          (came K.entry F (l + (K.d).ahead, (K.d).port) (over K refl)))
+      go (d, named, frame, place, port) (inr K) (over L e) =
+          let same : K.i ≡ i = same_Some K.i i (sym K.at ∙ at) in
+          let one : K.d ≡ d = only K.d d (subst (λ (ds : List Dest). Contains ds d) (sym (ap (λ (i : Instr). i.firsts ++ i.seconds) same) ∙ K.dests) named) in
+          absurd (L.apart (subst (Plain P Q h) (ap (λ (d : Dest). l + d.ahead) one ∙ sym place) K.behind))
 
   -- ---- ONE MORE EVENT
   module _ (ss : List Step) (store : MStore) (t : Token) (pool made rest : List Token) (m1 : Machine) (takes : IsPermutation pool (t ∷ rest))
@@ -87,37 +124,51 @@ module _ (p q : Plan) (S : Relates p q) where
             (K u (Contains-permutation _ _ u (IsPermutation-sym _ _ takes) (contains_tail t rest u c)) f ip r to fresh)
 
     -- by the event,
-    pub told_now : (f a : ℕ) (r : Port) → (KeepsArcs p q S → UsesArc q f (h a) r t made m1 ⊎ Pend P Q h f a r made) → Told (ss ++ this ∷ []) m1.pool f a r
-    told_now f a r T F = go (T F)
+    pub told_now : (f a : ℕ) (r : Port)
+        → (KeepsArcs p q S → (x : Spot) → Reaches P Q h a r x → UsesArc q f (h x.0) x.1 t made m1 ⊎ Pend P Q h f x.0 x.1 made)
+        → Told (ss ++ this ∷ []) m1.pool f a r
+    told_now f a r T F x A = go (T F x A)
       where
-        go : UsesArc q f (h a) r t made m1 ⊎ Pend P Q h f a r made → HasStep (UsesArc q f (h a) r) (ss ++ this ∷ []) ⊎ Pend P Q h f a r m1.pool
-        go (inl k) = inl (step_last (UsesArc q f (h a) r) ss this k)
-        go (inr n) = inr (pend_made f a r n)
+        go : UsesArc q f (h x.0) x.1 t made m1 ⊎ Pend P Q h f x.0 x.1 made
+            → HasStep (UsesArc q f (h x.0) x.1) (ss ++ this ∷ []) ⊎ Pend P Q h f x.0 x.1 m1.pool
+        go (inl k) = inl (step_last (UsesArc q f (h x.0) x.1) ss this k)
+        go (inr n) = inr (pend_made f x.0 x.1 n)
 
     -- by one of the old code that hands on after it,
-    pub told_hand : (f l : ℕ) → Sends P Q h made f l → (w v : Word) (i : Instr) → instr_at P l ≡ Some i → hands_on i.op ≡ true → (k b : ℕ) (r : Port)
-        → Plain P Q h b → (m : Machine) → UsesArc p k b r (token (To.Instr f l Left) w) (to_all record { frame = f; ip = l } v i) m
+    pub told_hand : (f l : ℕ) → Sends P Q h made f l → (is_entry P.blocks l ≡ false → Told (ss ++ this ∷ []) m1.pool f l Left) → (w v : Word) (i : Instr)
+        → instr_at P l ≡ Some i → hands_on i.op ≡ true → (k b : ℕ) (r : Port)
+        → (m : Machine) → UsesArc p k b r (token (To.Instr f l Left) w) (to_all record { frame = f; ip = l } v i) m
         → Told (ss ++ this ∷ []) m1.pool k b r
-    told_hand f l sends w v i at is k b r K m U F =
-        inr (pend_made k b r (hand_use p q S.g h made f l w i sends at is k b r K (to_all record { frame = f; ip = l } v i) m U))
+    told_hand f l sends came w v i at is k b r m U =
+        told_behind (ss ++ this ∷ []) m1.pool f l (pends sends) came w i at is k b r (to_all record { frame = f; ip = l } v i) m U
+      where
+        pends : Sends P Q h made f l → Sends P Q h m1.pool f l
+        pends N = sends_grow P Q h made m1.pool (λ u c. back_in u (Contains-append_left made rest u c)) f l N
 
     -- before it, if its token is at none that hands on,
     pub told_next : ((k ip : ℕ) (j : Instr) → t.to ≡ To.Instr k ip Left → instr_at Q ip ≡ Some j → hands_on j.op ≡ true → Fresh P Q h ip → ⊥)
         → (f a : ℕ) (r : Port) → Told ss pool f a r → Told (ss ++ this ∷ []) m1.pool f a r
-    told_next off f a r T F = go (T F)
+    told_next off f a r T F x A = go (T F x A)
       where
-        go : HasStep (UsesArc q f (h a) r) ss ⊎ Pend P Q h f a r pool → HasStep (UsesArc q f (h a) r) (ss ++ this ∷ []) ⊎ Pend P Q h f a r m1.pool
-        go (inl k) = inl (step_before (UsesArc q f (h a) r) ss (this ∷ []) k)
+        go : HasStep (UsesArc q f (h x.0) x.1) ss ⊎ Pend P Q h f x.0 x.1 pool
+            → HasStep (UsesArc q f (h x.0) x.1) (ss ++ this ∷ []) ⊎ Pend P Q h f x.0 x.1 m1.pool
+        go (inl k) = inl (step_before (UsesArc q f (h x.0) x.1) ss (this ∷ []) k)
         go (inr n) =
-            inr (pend_grows f a r rest m1.pool (λ u c. back_in u (Contains-append_right made rest u c))
-            (pend_with P Q h f a r pool rest (λ ip. node_rest P Q h f t pool rest takes off ip) n))
+            inr (pend_grows f x.0 x.1 rest m1.pool (λ u c. back_in u (Contains-append_right made rest u c))
+            (pend_with P Q h f x.0 x.1 pool rest (λ ip. node_rest P Q h f t pool rest takes off ip) n))
 
     -- and if it is.
     pub told_through : (k n : ℕ) (v : Word) (j : Instr) → t.to ≡ To.Instr k n Left → instr_at Q n ≡ Some j → hands_on j.op ≡ true
         → made ≡ to_all record { frame = k; ip = n } v j
         → (f a : ℕ) (r : Port) → Told ss pool f a r → Told (ss ++ this ∷ []) m1.pool f a r
-    told_through k n v j to at op is f a r T F = go (T F)
+    told_through k n v j to at op is f b s T F x A = go (T F x A)
       where
+        a : ℕ
+        a = x.0
+
+        r : Port
+        r = x.1
+
         by_node : (N : Pend P Q h f a r pool) → ((f ≡ k) × (N.ip ≡ n)) ⊎ Node P Q h f (made ++ rest) N.ip
             → HasStep (UsesArc q f (h a) r) (ss ++ this ∷ []) ⊎ Pend P Q h f a r m1.pool
         by_node N (inr node) =

@@ -42,8 +42,8 @@ use Rattle.law_fresh_frames.proofs.FreshArcs.{uses_new}
 use Rattle.lemmas.proofs.Contains.{contains_map}
 use Rattle.semantics.specs.Rule.{to_all}
 use Rattle.law_simulation.specs.Places.{Spot, ip_slot, ip_store, ip_to, ip_token, ip_word, is_answered}
-use Rattle.law_simulation.specs.Simulates.{Arrives, FitsSlot, FitsWord, Fresh, IsMoved, Leads, Node, Path, Pend, Plain, Relates, Way, at_end, hands_on}
-use Rattle.law_simulation.specs.Simulates.{is_pair, next, onward, top}
+use Rattle.law_simulation.specs.Simulates.{Arrives, FitsSlot, FitsWord, Fresh, IsMoved, Leads, Node, Path, Pend, Plain, Reaches, Relates, Skips, Way, at_end, hands_on}
+use Rattle.law_simulation.specs.Simulates.{is_pair, next, onward, over, straight, top}
 use Rattle.law_simulation.proofs.SimulationArcs.{UseAt, use_at}
 use Rattle.law_simulation.proofs.SimulationCame.{sent_by}
 use Rattle.law_simulation.proofs.SimulationSent.{AsksOne, SendsAll, SendsNone, Sent, asks, links, quiet, sends, sends_give, sends_plain, skips, turns}
@@ -108,6 +108,12 @@ module _ (p q : Program) (h : ℕ → ℕ) where
       let B = begins (ip + d.ahead) x path in
       path_pends f (ip + d.ahead) x seen (next (ip + d.ahead) ip j B.j d N at on named refl left B.at B.on B.fresh) path
 
+-- a destination leads to where what is sent to it arrives
+way_of : (p q : Program) (g h : ℕ → ℕ) (ip : ℕ) (ds : List Dest) (a : ℕ) (es : List Dest) → Leads p q g h ip ds a es → (e : Dest) → Contains es e → (x : Spot)
+    → Reaches p q h (a + e.ahead) e.port x → Way p q h ip ds x
+way_of p q g h ip ds a es L e inside x (straight K same) = subst (Way p q h ip ds) (sym same) (L.ways e inside K)
+way_of p q g h ip ds a es L e inside x (over K same) = subst (Way p q h ip ds) (sym same) (L.overs e inside K)
+
 -- where its destinations lead to a port, an instruction uses an arc into it, or sends what is on its way there
 led_used : (p q : Plan) (h : ℕ → ℕ) (f n : ℕ) (r : Port) (j : Instr) → instr_at q.program n ≡ Some j → (taken : Token) (made : List Token) (m : Machine)
     → taken.to ≡ To.Instr f n r → ((k : ℕ) → j.op ≡ Give k → m.store.slots f j.slot ≡ Empty)
@@ -135,6 +141,7 @@ led_used p q h f n r j at taken made m from give w ds plain sent x W = go W.lead
 -- ---- AN INSTRUCTION THAT STANDS FOR ITSELF
 module _ (p q : Plan) (S : Relates p q) (sizes : (b : ℕ) → landing q b ≡ landing p b)
     (rows : (ip callee base o : ℕ) → IsLink p.program ip callee base → o < landing p callee → S.h (base + o) ≡ S.h base + o)
+    (unskipped : (ip callee base o : ℕ) → IsLink p.program ip callee base → o < landing p callee → Skips p.program q.program S.h (base + o) → ⊥)
     (f a : ℕ) (i : Instr) (at : instr_at p.program a ≡ Some i) (M : IsMoved p.program q.program S.g S.h a i) where
   abbrev P : Program
   P = p.program
@@ -194,7 +201,12 @@ module _ (p q : Plan) (S : Relates p q) (sizes : (b : ℕ) → landing q b ≡ l
       (last m : Machine) (old_slot : (k : ℕ) → i.op ≡ Give k → last.store.slots f i.slot ≡ v)
       (new_slot : (k : ℕ) → i.op ≡ Give k → m.store.slots f j.slot ≡ ip_slot h v) where
     abbrev Goal : ℕ → ℕ → Port → Type 0
-    Goal g b r = UsesArc q g (h b) r t new m ⊎ Pend P Q h g b r new
+    Goal g b r = (x : Spot) → Reaches P Q h b r x → UsesArc q g (h x.0) x.1 t new m ⊎ Pend P Q h g x.0 x.1 new
+
+    -- at a port that is not left out
+    straight_goal : (g b : ℕ) (r : Port) → (Skips P Q h b → ⊥) → UsesArc q g (h b) r t new m → Goal g b r
+    straight_goal g b r none U x (straight K e) = inl (subst (λ (x : Spot). UsesArc q g (h x.0) x.1 t new m) (sym e) U)
+    straight_goal g b r none U x (over K e) = absurd (none K)
 
     place_port : (x : Arc) (n : ℕ) (r : Port) → x.to ≡ inlet n r → (x.to.place ≡ n) × (x.to.port ≡ r)
     place_port x n r e = (ap (λ (y : Inlet). y.place) e, ap (λ (y : Inlet). y.port) e)
@@ -205,9 +217,9 @@ module _ (p q : Plan) (S : Relates p q) (sizes : (b : ℕ) → landing q b ≡ l
     -- to a destination that the new instruction's destinations lead to
     by_lead : (w : Word) (ds es : List Dest) → Leads P Q S.g h (h a) ds a es → ((d : Dest) → Contains ds d → Contains (plain_dests j j.op) d)
         → ((y : Token) → Contains (to_each s2 w ds) y → Contains new y) → ((k : ℕ) → j.op ≡ Give k → m.store.slots f j.slot ≡ Empty)
-        → (d : Dest) → Contains es d → Plain P Q h (a + d.ahead) → Goal f (a + d.ahead) d.port
-    by_lead w ds es L plain among empty d inside K =
-        led_used p q h f (h a) side j M.there t new m is empty w ds plain among (a + d.ahead, d.port) (L.ways d inside K)
+        → (d : Dest) → Contains es d → Goal f (a + d.ahead) d.port
+    by_lead w ds es L plain among empty d inside x A =
+        led_used p q h f (h a) side j M.there t new m is empty w ds plain among x (way_of P Q S.g h (h a) ds a es L d inside x A)
 
     no_give : (op : Op) → i.op ≡ op → ((k : ℕ) → op ≡ Give k → ⊥) → (k : ℕ) → j.op ≡ Give k → m.store.slots f j.slot ≡ Empty
     no_give op e none k g = absurd (none k (sym e ∙ sym M.op ∙ g))
@@ -291,7 +303,7 @@ module _ (p q : Plan) (S : Relates p q) (sizes : (b : ℕ) → landing q b ≡ l
         let arc : UsesArc q f (h a + an.1.ahead) an.1.port t new m =
         arc_used q f (h a) side j M.there an.1 plain t new m (ip_token h y) is
         (subst (λ (l : List Token). Contains l (ip_token h y)) (sym en) (contains_head (ip_token h y) [])) uses2 in
-        inl
+        straight_goal g b r (λ K. K.apart (subst (Plain P Q h) (sym eb) an.6))
         (subst (λ (g : ℕ). UsesArc q g (h b) r t new m) (sym T.frame)
         (subst (λ (r : Port). UsesArc q f (h b) r t new m) (sym er) (subst (λ (n : ℕ). UsesArc q f n an.1.port t new m) (sym (ap h eb ∙ an.4)) arc)))
       where
@@ -300,9 +312,8 @@ module _ (p q : Plan) (S : Relates p q) (sizes : (b : ℕ) → landing q b ≡ l
         pick T (inr c) = absurd (contains_none T.t c)
 
     by_sends : (w : Word) (pre : List Token) → SendsAll i.op v
-        → new ≡ map (ip_token h) pre ++ to_each s2 (ip_word h w) (j.firsts ++ j.seconds) → (g b : ℕ) (r : Port) → Taken g b r old last
-        → Plain P Q h b → Goal g b r
-    by_sends w pre G en g b r T K =
+        → new ≡ map (ip_token h) pre ++ to_each s2 (ip_word h w) (j.firsts ++ j.seconds) → (g b : ℕ) (r : Port) → Taken g b r old last → Goal g b r
+    by_sends w pre G en g b r T =
         let k = plain_arc p T.n i i.op T.x (sends_link i.op G) T.from in
         let at_x = place_port T.x (T.n + k.0.ahead) k.0.port k.2 in
         let place = T.place in let number = T.number in let x_place = at_x.0 in
@@ -313,7 +324,7 @@ module _ (p q : Plan) (S : Relates p q) (sizes : (b : ℕ) → landing q b ≡ l
         (λ y c. subst (λ (l : List Token). Contains l y) (sym en)
         (Contains-append_right (map (ip_token h) pre) (to_each s2 (ip_word h w) (j.firsts ++ j.seconds)) y c))
         (λ n x. new_slot n (sym M.op ∙ x) ∙ ap (ip_slot h) (sends_give P Q S.g h S.arrays f a i M i.op v G n (sym M.op ∙ x)))
-        k.0 k.1 (subst (Plain P Q h) eb K))
+        k.0 k.1)
 
     -- a token of those goes to one of the destinations
     sent_dest : (w : Word) (ds : List Dest) (b : ℕ) (r : Port) (y : Token) → Contains (to_each s w ds) y → GoesTo f b r y
@@ -323,8 +334,8 @@ module _ (p q : Plan) (S : Relates p q) (sizes : (b : ℕ) → landing q b ≡ l
         let e = instr_parts f b f (a + d.0.ahead) r d.0.port (sym goes ∙ sym (ap (λ (t : Token). t.to) d.2)) in (d.0, d.1, e.1, e.2)
 
     by_turns : (bb : Bool) (w : Word) → i.op ≡ Switch → old ≡ to_each s w (if bb then i.firsts else i.seconds)
-        → new ≡ to_each s2 (ip_word h w) (if bb then j.firsts else j.seconds) → (g b : ℕ) (r : Port) → Taken g b r old last → Plain P Q h b → Goal g b r
-    by_turns bb w e eo en g b r T K = go bb eo en
+        → new ≡ to_each s2 (ip_word h w) (if bb then j.firsts else j.seconds) → (g b : ℕ) (r : Port) → Taken g b r old last → Goal g b r
+    by_turns bb w e eo en g b r T = go bb eo en
       where
         goes : GoesTo f b r T.t
         goes = subst (λ (op : Op). UsesBy p f b r i op T.t last) e T.uses
@@ -338,12 +349,12 @@ module _ (p q : Plan) (S : Relates p q) (sizes : (b : ℕ) → landing q b ≡ l
             let d = sent_dest w i.firsts b r T.t (subst (λ (l : List Token). Contains l T.t) eo T.made) goes in
             to_goal g b (a + d.0.ahead) r d.0.port T.frame d.2 d.3
             (by_lead (ip_word h w) j.firsts i.firsts (M.firsts e) (λ x c. plain x (Contains-append_left j.firsts j.seconds x c))
-            (λ y c. subst (λ (l : List Token). Contains l y) (sym en) c) (no_give Switch e switch_give) d.0 d.1 (subst (Plain P Q h) d.2 K))
+            (λ y c. subst (λ (l : List Token). Contains l y) (sym en) c) (no_give Switch e switch_give) d.0 d.1)
         go false eo en =
             let d = sent_dest w i.seconds b r T.t (subst (λ (l : List Token). Contains l T.t) eo T.made) goes in
             to_goal g b (a + d.0.ahead) r d.0.port T.frame d.2 d.3
             (by_lead (ip_word h w) j.seconds i.seconds (M.seconds.0 e) (λ x c. plain x (Contains-append_right j.firsts j.seconds x c))
-            (λ y c. subst (λ (l : List Token). Contains l y) (sym en) c) (no_give Switch e switch_give) d.0 d.1 (subst (Plain P Q h) d.2 K))
+            (λ y c. subst (λ (l : List Token). Contains l y) (sym en) c) (no_give Switch e switch_give) d.0 d.1)
 
     no_dest : (n : ℕ) (x : Arc) → length i.firsts ≡ 0 → length i.seconds ≡ 0 → Contains (arcs_to n false i.firsts ++ arcs_to n true i.seconds) x → ⊥
     no_dest n x z y c = go (Contains-append_cases (arcs_to n false i.firsts) (arcs_to n true i.seconds) x c)
@@ -368,7 +379,7 @@ module _ (p q : Plan) (S : Relates p q) (sizes : (b : ℕ) → landing q b ≡ l
     -- LINKS
     module _ (c k : ℕ) (e : i.op ≡ Link c) (eo : old ≡ token (To.Instr k (first_of P c) Left) (Word.Back (landing_at s i.firsts)) ∷ to_each s signal i.seconds)
         (en : new ≡ ip_token h (token (To.Instr k (first_of P c) Left) (Word.Back (landing_at s i.firsts))) ∷ to_each s2 signal j.seconds) (g b : ℕ) (r : Port)
-        (T : Taken g b r old last) (K : Plain P Q h b) where
+        (T : Taken g b r old last) where
       A : (d : Dest) × (d2 : Dest) × (i.firsts ≡ d ∷ []) × (j.firsts ≡ d2 ∷ []) × (h (a + d.ahead) ≡ h a + d2.ahead) × (d2.port ≡ d.port)
           × Plain P Q h (a + d.ahead)
       A = M.answered (ap is_answered e)
@@ -385,7 +396,7 @@ module _ (p q : Plan) (S : Relates p q) (sizes : (b : ℕ) → landing q b ≡ l
           to_goal g b (a + d.ahead) r d.port T.frame eb er
           (by_lead signal j.seconds i.seconds (M.seconds.1 c e) plain
           (λ y x. subst (λ (l : List Token). Contains l y) (sym en) (contains_tail (ip_token h own) (to_each s2 signal j.seconds) y x))
-          (no_give (Link c) e (link_give c)) d inside (subst (Plain P Q h) eb K))
+          (no_give (Link c) e (link_give c)) d inside)
 
       no_back : (x : Cont) → signal ≡ Word.Back x → ⊥
       no_back x d = cc
@@ -435,7 +446,8 @@ module _ (p q : Plan) (S : Relates p q) (sizes : (b : ℕ) → landing q b ≡ l
               is_made = subst (λ (l : List Token). Contains l (ip_token h own)) (sym en) (contains_head (ip_token h own) (to_each s2 signal j.seconds));
               uses = subst (λ (op : Op). UsesBy q f (h b) r j op (ip_token h own) m) (sym (M.op ∙ e)) (lands_there uses);
             } in
-            inl (subst (λ (g : ℕ). UsesArc q g (h b) r t new m) (sym T.frame) made)
+            straight_goal g b r (λ K. unskipped a c (a + A.0.ahead) o record { instr = i; dest = A.0; is_at = at; does = e; lands = A.2; begins = refl } low
+            (subst (Skips P Q h) eb K)) (subst (λ (g : ℕ). UsesArc q g (h b) r t new m) (sym T.frame) made)
 
         by_signal : Contains (to_each s signal i.seconds) T.t → GoesTo f b r T.t ⊎ Lands (landing p c) f b r T.t → Goal g b r
         by_signal inside (inl x) = let d = sent_dest signal i.seconds b r T.t inside x in by_second d.0 d.1 d.2 d.3
@@ -462,15 +474,15 @@ module _ (p q : Plan) (S : Relates p q) (sizes : (b : ℕ) → landing q b ≡ l
       by_links = by_arc (link_arc p T.n c i A.0 T.x A.2 (subst (λ (op : Op). Contains (arcs_from p T.n i op) T.x) e T.from))
 
     -- an arc that the old event used
-    spent_by : (g b : ℕ) (r : Port) → Plain P Q h b → UsesArc p g b r u old last → UsesArc q g (h b) r t new m ⊎ Pend P Q h g b r new
-    spent_by g b r K U = go sent (arc_taken g b r side u old last was U)
+    spent_by : (g b : ℕ) (r : Port) → UsesArc p g b r u old last → Goal g b r
+    spent_by g b r U = go sent (arc_taken g b r side u old last was U)
       where
         go : Sent P Q S.g h S.arrays f a i M v old new → Taken g b r old last → Goal g b r
         go (quiet eo en) T = absurd (contains_none T.t (subst (λ (l : List Token). Contains l T.t) eo T.made))
-        go (sends w pre F G eo en) T = by_sends w pre G en g b r T K
-        go (turns bb w e eo en) T = by_turns bb w e eo en g b r T K
+        go (sends w pre F G eo en) T = by_sends w pre G en g b r T
+        go (turns bb w e eo en) T = by_turns bb w e eo en g b r T
         go (asks y F A eo en) T = by_asks y A eo en g b r T
-        go (links c k e eo en) T = by_links c k e eo en g b r T K
+        go (links c k e eo en) T = by_links c k e eo en g b r T
         go (skips F G en) T = by_skips i.op refl G shape g b r T
 
 -- ---- EVENTS
@@ -482,7 +494,8 @@ shape_of p wired a i at =
 
 -- Where the event of an instruction used an arc, its new event uses it, or what comes of it is on its way.
 pub moved_used : (p q : Plan) (S : Relates p q) (sizes : (b : ℕ) → landing q b ≡ landing p b)
-    (rows : (ip callee base o : ℕ) → IsLink p.program ip callee base → o < landing p callee → S.h (base + o) ≡ S.h base + o) → IsWired p
+    (rows : (ip callee base o : ℕ) → IsLink p.program ip callee base → o < landing p callee → S.h (base + o) ≡ S.h base + o)
+    (unskipped : (ip callee base o : ℕ) → IsLink p.program ip callee base → o < landing p callee → Skips p.program q.program S.h (base + o) → ⊥) → IsWired p
     → (total : ℕ) (before : MStore) (f a : ℕ) (r : Port) (w : Word) (i : Instr) (at : instr_at p.program a ≡ Some i)
     (M : IsMoved p.program q.program S.g S.h a i)
     (made old_made : List Token) (new old : Machine) (taken : Token) → taken.to ≡ To.Instr f (S.h a) r
@@ -490,27 +503,28 @@ pub moved_used : (p q : Plan) (S : Relates p q) (sizes : (b : ℕ) → landing q
     → Happens p.program total before (To.Instr f a r) w old_made old.store → new.store ≡ ip_store S.h old.store
     → Arrives p.program q.program S.h i.op (slot_in before f (slot_of i i.op)) r w
     → FitsSlot p.program q.program S.h (slot_in before f (slot_of i i.op)) → FitsWord p.program q.program S.h w
-    → (k b : ℕ) (t : Port) → Plain p.program q.program S.h b → UsesArc p k b t (token (To.Instr f a r) w) old_made old
-    → UsesArc q k (S.h b) t taken made new ⊎ Pend p.program q.program S.h k b t made
-moved_used p q S sizes rows wired total before f a r w i at M made old_made new old taken to happens was same arrives fits_slot fits_word k b t K U =
+    → (k b : ℕ) (t : Port) (x : Spot) → Reaches p.program q.program S.h b t x → UsesArc p k b t (token (To.Instr f a r) w) old_made old
+    → UsesArc q k (S.h x.0) x.1 taken made new ⊎ Pend p.program q.program S.h k x.0 x.1 made
+moved_used p q S sizes rows unskipped wired total before f a r w i at M made old_made new old taken to happens was same arrives fits_slot fits_word k b t x W U =
     let T = sent_by p q S.g S.h total before f a r w i M made new.store happens S.arrays at arrives fits_slot fits_word old_made old.store was in
     let old_slot : (n : ℕ) → i.op ≡ Give n → old.store.slots f i.slot ≡ T.v = λ (n : ℕ) (e : i.op ≡ Give n).
     give_leaves i f n before old.store T.v e T.leaves in
-    spent_by p q S sizes rows f a i at M (shape_of p wired a i at) T.v old_made made T.sent r (token (To.Instr f a r) w) taken refl to old new old_slot
-    (λ n e. ap (λ (m : MStore). m.slots f M.j.slot) same ∙ ap (λ (x : ℕ). ip_slot S.h (old.store.slots f x)) M.slot ∙ ap (ip_slot S.h) (old_slot n e)) k b t K U
+    spent_by p q S sizes rows unskipped f a i at M (shape_of p wired a i at) T.v old_made made T.sent r (token (To.Instr f a r) w) taken refl to old new old_slot
+    (λ n e. ap (λ (m : MStore). m.slots f M.j.slot) same ∙ ap (λ (x : ℕ). ip_slot S.h (old.store.slots f x)) M.slot ∙ ap (ip_slot S.h) (old_slot n e)) k b t U x W
 
 -- And so does that of an operator with a literal operand.
 pub pair_used : (p q : Plan) (S : Relates p q) (f a : ℕ) (r : Port) (w v : Word) (i j : Instr) (o : Binary) (made old_made : List Token) (new old : Machine)
     (taken : Token) → instr_at p.program a ≡ Some i → i.op ≡ Apply2 o → instr_at q.program (S.g a) ≡ Some j → is_pair j.op ≡ true
     → taken.to ≡ To.Instr f (S.g a) Left → made ≡ to_all record { frame = f; ip = S.g a } v j
     → Leads p.program q.program S.g S.h (S.g a) (j.firsts ++ j.seconds) a (i.firsts ++ i.seconds)
-    → (k b : ℕ) (t : Port) → Plain p.program q.program S.h b → UsesArc p k b t (token (To.Instr f a r) w) old_made old
-    → UsesArc q k (S.h b) t taken made new ⊎ Pend p.program q.program S.h k b t made
-pair_used p q S f a r w v i j o made old_made new old taken at op there pair to makes leads k b t K U0 =
-    subst (λ (k : ℕ). Used k b t) spot.0 (subst (λ (b : ℕ). Used f b t) (sym to_dest) (subst (λ (t : Port). Used f (a + d.0.ahead) t) (sym port_dest) one))
+    → (k b : ℕ) (t : Port) (x : Spot) → Reaches p.program q.program S.h b t x → UsesArc p k b t (token (To.Instr f a r) w) old_made old
+    → UsesArc q k (S.h x.0) x.1 taken made new ⊎ Pend p.program q.program S.h k x.0 x.1 made
+pair_used p q S f a r w v i j o made old_made new old taken at op there pair to makes leads k b t x W U0 =
+    subst (λ (k : ℕ). Used k) spot.0 (one (subst (λ (b : ℕ). Reaches p.program q.program S.h b d.0.port x) to_dest
+    (subst (λ (t : Port). Reaches p.program q.program S.h b t x) port_dest W)))
   where
-    Used : ℕ → ℕ → Port → Type 0
-    Used k b t = UsesArc q k (S.h b) t taken made new ⊎ Pend p.program q.program S.h k b t made
+    Used : ℕ → Type 0
+    Used k = UsesArc q k (S.h x.0) x.1 taken made new ⊎ Pend p.program q.program S.h k x.0 x.1 made
 
     U : UseAt p k b t (token (To.Instr f a r) w) old_made old
     U = use_at p k b t (token (To.Instr f a r) w) old_made old U0
@@ -541,8 +555,8 @@ pair_used p q S f a r w v i j o made old_made new old taken at op there pair to 
     pair_plain (Link c) e y k = absurd (true≢false (sym e))
     pair_plain op e y k = k
 
-    one : Used f (a + d.0.ahead) d.0.port
-    one =
+    one : Reaches p.program q.program S.h (a + d.0.ahead) d.0.port x → Used f
+    one A =
         led_used p q S.h f (S.g a) Left j there taken made new to (λ n g. absurd (no_give j.op pair n g)) v (j.firsts ++ j.seconds) (pair_plain j.op pair)
-        (λ y c. subst (λ (l : List Token). Contains l y) (sym makes) c) (a + d.0.ahead, d.0.port)
-        (leads.ways d.0 d.1 (subst (Plain p.program q.program S.h) to_dest K))
+        (λ y c. subst (λ (l : List Token). Contains l y) (sym makes) c) x
+        (way_of p.program q.program S.g S.h (S.g a) (j.firsts ++ j.seconds) a (i.firsts ++ i.seconds) leads d.0 d.1 x A)

@@ -45,11 +45,32 @@ Fits p q h to = ⊤
 abbrev pub Fresh : Program → Program → (ℕ → ℕ) → ℕ → Type 0
 Fresh p q h ip = (b : ℕ) → Plain p q h b → ip ≡ h b → ⊥
 
--- HANDING ON. A copy hands on the word that comes, and a literal its number.
+-- what hands on
 abbrev pub hands_on : Op → Bool
 hands_on (Lit z) = true
 hands_on Copy = true
 hands_on op = false
+
+-- A copy that is left out: it has one destination, which stands for itself, and each token that came to it goes there at once. It is no entry, and what
+-- leads to it is none that hands on and is left out as well.
+pub record Skips (p q : Program) (h : ℕ → ℕ) (a : ℕ) : Type 0 where
+  pub i : Instr
+  pub d : Dest
+  pub at : instr_at p a ≡ Some i
+  pub op : i.op ≡ Copy
+  pub dests : i.firsts ++ i.seconds ≡ d ∷ []
+  pub entry : is_entry p.blocks a ≡ false
+  pub apart : Plain p q h a → ⊥
+  pub behind : Plain p q h (a + d.ahead)
+  pub before : (b : ℕ) (k : Instr) (e : Dest) → instr_at p b ≡ Some k → hands_on k.op ≡ true → Contains (k.firsts ++ k.seconds) e → b + e.ahead ≡ a
+      → Plain p q h b
+
+-- The port that stands for itself at which what is sent to that one arrives: it, or the one behind a copy that is left out
+pub data Reaches (p q : Program) (h : ℕ → ℕ) (a : ℕ) (r : Port) (x : Spot) : Type 0 where
+  straight : Plain p q h a → x ≡ (a, r) → Reaches p q h a r x
+  over : (K : Skips p q h a) → x ≡ (a + K.d.ahead, K.d.port) → Reaches p q h a r x
+
+-- HANDING ON. A copy hands on the word that comes, and a literal its number.
 
 -- that it hands on v for w, if the words that trigger literals are of that kind
 abbrev pub HandsOn : (Word → Type 0) → Op → Word → Word → Type 0
@@ -78,10 +99,14 @@ pub record Pend (p q : Program) (h : ℕ → ℕ) (f a : ℕ) (r : Port) (seen :
   pub port : d.port ≡ r
 
 -- what comes of the one of that number that hands on, in frame f, is on its way
-abbrev pub Sends : Program → Program → (ℕ → ℕ) → List Token → ℕ → ℕ → Type 0
-Sends p q h new f l =
+abbrev pub Pends : Program → Program → (ℕ → ℕ) → List Token → ℕ → ℕ → Type 0
+Pends p q h new f l =
     (Plain p q h l → ⊥) × ((i : Instr) (d : Dest) → instr_at p l ≡ Some i → Contains (i.firsts ++ i.seconds) d → Plain p q h (l + d.ahead)
     → Pend p q h f (l + d.ahead) d.port new)
+
+-- or it is left out
+abbrev pub Sends : Program → Program → (ℕ → ℕ) → List Token → ℕ → ℕ → Type 0
+Sends p q h new f l = Pends p q h new f l ⊎ Skips p q h l
 
 abbrev pub IsValue : Word → Type 0
 IsValue w = (v : Value) × (w ≡ Word.Val v)
@@ -168,6 +193,7 @@ pub record Leads (p q : Program) (g h : ℕ → ℕ) (ip : ℕ) (ds : List Dest)
   pub made : (f : ℕ) (w : Word)
       → Ready p q g h w (to_each record { frame = f; ip = ip } (ip_word h w) ds) (to_each record { frame = f; ip = a } w es)
   pub ways : (e : Dest) → Contains es e → Plain p q h (a + e.ahead) → Way p q h ip ds (a + e.ahead, e.port)
+  pub overs : (e : Dest) → Contains es e → (K : Skips p q h (a + e.ahead)) → Way p q h ip ds (a + e.ahead + K.d.ahead, K.d.port)
 
 -- what it enters stands where it stood
 abbrev pub Enters : Program → Program → (ℕ → ℕ) → Op → Type 0
@@ -280,6 +306,8 @@ pub record Simulates (p q : Plan) : Type 0 where
   pub sizes : (b : ℕ) → landing q b ≡ landing p b
   pub rows : (ip callee base o : ℕ) → IsLink p.program ip callee base → o < landing p callee → relates.h (base + o) ≡ relates.h base + o
   pub lands : (base o : ℕ) → HasLanding p base o → HasLanding q (relates.h base) o
+  -- and no copy of them is left out
+  pub unskipped : (ip callee base o : ℕ) → IsLink p.program ip callee base → o < landing p callee → Skips p.program q.program relates.h (base + o) → ⊥
   -- marks, blocks, ports with one token, and entries
   pub marks : (a : ℕ) (m : Mark) → Plain p.program q.program relates.h a → IsMarked q (relates.h a) m → IsMarked p a m
   pub blocks : (ip jp : ℕ) (r t : Port) (x y : Spot) → Leaf p.program q.program relates.g relates.h ip r x

@@ -5,15 +5,15 @@
 //! rightly and keeps bounds if the old one does (`Simulates`, `SimulationKeeps`).
 //!
 //! **Why it holds.**
-//! 1. Beside a run of the new code goes one of the old, in which literals fire as soon as they are triggered (`SimulationPast`); its tokens are those
-//!    for which the new ones stand (`SimulationState`).
+//! 1. Beside a run of the new code goes one of the old, in which literals, and copies that the new code leaves out, fire as soon as a token comes to
+//!    them (`SimulationPast`); its tokens are those for which the new ones stand (`SimulationState`).
 //! 2. An event of the new run is none, one or more of the old run (`SimulationNext`): none at what hands on, one at what stands for itself, which sends
 //!    to its new destinations what it sent to its old ones (`SimulationSent`, `SimulationEvents`), two at an operator with a literal operand
 //!    (`SimulationMeet`). What is seen of both is the same (`SimulationSeen`).
 //! 3. A port gets no more tokens than a port of the old code for which it stands (`SimulationCounts`, `SimulationAgree`), and no token is excluded
 //!    (`SimulationMatching`).
 //! 4. A token comes after an arc was used: where the old event used one, the new event uses it, or what comes of it is on its way through what hands
-//!    on (`SimulationUses`, `SimulationTold`, `SimulationCaused`).
+//!    on (`SimulationUses`, `SimulationTold`, `SimulationCaused`). An arc into a copy that is left out counts as one into the port behind it.
 //! 5. Words, marks, blocks, releases and landings: what a new token carries and names, an old one did (`SimulationWords`, `SimulationOrder`,
 //!    `SimulationLands`); what is counted of credits is the same (`SimulationSteps`, `SimulationBounds`).
 //!
