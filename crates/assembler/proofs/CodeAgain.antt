@@ -94,12 +94,12 @@ no_lines : (p : Part) (f : Found) → steps f p ([]) ≡ end_from f p
 no_lines p f = refl
 
 abbrev body_lines : Bool → Code → Lines
-body_lines told c = numbered_lines array_words 0 c.program.arrays ++ table_lines told c.literals
+body_lines reread c = numbered_lines array_words 0 c.program.arrays ++ table_lines reread c.literals
 
 -- once the blocks were read
-told_rest : (v : ℕ) (c : Code) (f : Found) → IsCode v c → f.version ≡ v → f.main ≡ c.program.main → all_blocks f ≡ c.program.blocks → f.arrays ≡ [] → f.literals ≡ [] → 0 < length c.literals
+reread_rest : (v : ℕ) (c : Code) (f : Found) → IsCode v c → f.version ≡ v → f.main ≡ c.program.main → all_blocks f ≡ c.program.blocks → f.arrays ≡ [] → f.literals ≡ [] → 0 < length c.literals
     → steps f Blocks (body_lines true c) ≡ Ok (v, c)
-told_rest v c f is a b e g h some =
+reread_rest v c f is a b e g h some =
     let few : 0 + length c.program.arrays < 2 ^ 32 = let k = is.few_arrays in omega arith in
     let few_ones : 0 + length c.literals < 2 ^ 32 = let k = is.few_literals in omega arith in
     let table : Lines = numbered_lines literal_words 0 c.literals in
@@ -130,25 +130,25 @@ pub version_few : (v : ℕ) → (v ≡ 1) ⊎ (v ≡ 2) → v < 2 ^ 32
 version_few v (inl e) = omega (arith, e)
 version_few v (inr e) = omega (arith, e)
 
-rest : (told : Bool) (v : ℕ) (c : Code) (b : CodeBlock) (bs : List CodeBlock) → IsCode v c → c.program.blocks ≡ b ∷ bs → Fits told c → steps (all_read v c.program.main b bs) Blocks (body_lines told c) ≡ Ok (v, c)
+rest : (reread : Bool) (v : ℕ) (c : Code) (b : CodeBlock) (bs : List CodeBlock) → IsCode v c → c.program.blocks ≡ b ∷ bs → Fits reread c → steps (all_read v c.program.main b bs) Blocks (body_lines reread c) ≡ Ok (v, c)
 unfolding all_read
 rest true v c b bs is at fits =
     let f = first_read v c.program.main b in
-    told_rest v c (blocks_read f bs) is (read_version f bs) (read_main f bs) (read_blocks f bs ∙ sym at) (read_arrays f bs) (read_literals f bs) fits
+    reread_rest v c (blocks_read f bs) is (read_version f bs) (read_main f bs) (read_blocks f bs ∙ sym at) (read_arrays f bs) (read_literals f bs) fits
 rest false v c b bs is at fits =
     let f = first_read v c.program.main b in
     let used : used_in bs (used_by b.instrs []) ≡ c.literals = (unfold used_in in sym (fits ∙ ap (λ (cs : List CodeBlock). used_in cs []) at)) in
     used_rest v c (blocks_read f bs) is (read_version f bs) (read_main f bs) (read_blocks f bs ∙ sym at) (read_arrays f bs) (read_used f bs ∙ used)
 
-code_again : (told : Bool) (v : ℕ) (c : Code) (bs : List CodeBlock) → IsCode v c → c.program.blocks ≡ bs → Fits told c → steps nothing Head (code_lines told v c) ≡ Ok (v, c)
-code_again told v c [] is at fits = absurd (let some = is.some_block.0 in let e = ap (λ (cs : List CodeBlock). length cs) at in omega (arith, e))
-code_again told v c (b ∷ bs) is at fits =
+code_again : (reread : Bool) (v : ℕ) (c : Code) (bs : List CodeBlock) → IsCode v c → c.program.blocks ≡ bs → Fits reread c → steps nothing Head (code_lines reread v c) ≡ Ok (v, c)
+code_again reread v c [] is at fits = absurd (let some = is.some_block.0 in let e = ap (λ (cs : List CodeBlock). length cs) at in omega (arith, e))
+code_again reread v c (b ∷ bs) is at fits =
     let size : length c.program.blocks ≡ 1 + length bs = ap (λ (cs : List CodeBlock). length cs) at ∙ omega arith in
     let main-few : c.program.main < 2 ^ 32 = let h = is.main in let k = is.some_block.1 in omega arith in
     let few : 1 + length bs < 2 ^ 32 = let k = is.some_block.1 in omega (arith, size) in
-    ap (λ (cs : List CodeBlock). steps nothing Head (head_words v c.program.main ∷ (block_lines 0 cs ++ body_lines told c))) at
-    ∙ first_lines v c.program.main b bs (body_lines told c) (version_few v is.version_known) main-few few (subst (λ (cs : List CodeBlock). All HasLines cs) at (all_lines v c is))
-    ∙ rest told v c b bs is at fits
+    ap (λ (cs : List CodeBlock). steps nothing Head (head_words v c.program.main ∷ (block_lines 0 cs ++ body_lines reread c))) at
+    ∙ first_lines v c.program.main b bs (body_lines reread c) (version_few v is.version_known) main-few few (subst (λ (cs : List CodeBlock). All HasLines cs) at (all_lines v c is))
+    ∙ rest reread v c b bs is at fits
 
 pub listing_again : (text : List ℕ) (v : ℕ) (c : Code) → IsListingOf text v c → IsCode v c → steps nothing Head (lines_in text) ≡ Ok (v, c)
 listing_again text v c (inl h) is = ap (steps nothing Head) h.1 ∙ code_again true v c c.program.blocks is refl h.0

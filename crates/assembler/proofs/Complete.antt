@@ -11,14 +11,14 @@ use Rattle.assembler.specs.declared.fault.AsmFault.{AsmFault}
 use Rattle.assembler.specs.declared.fault.AsmFaultKind.TheVariants.{Memory}
 use Rattle.assembler.specs.Grammar.{head_words, array_words, numbered_lines, block_lines, table_lines, IsListingOf, IsOperand, AllOperands, with_operands}
 use Rattle.assembler.specs.Assembling.{IsFirstFault, assembled}
-use Rattle.assembler.specs.Laws.{IsExact, IsUnique, AllListed, ComesBack, RoundTrips}
+use Rattle.assembler.specs.Laws.{IsExact, IsUnique, AllHaveListings, Reassembles, RoundTrips}
 use Rattle.assembler.proofs.Placed.{given}
 use Rattle.assembler.proofs.Steps.{text_restored}
 use Rattle.assembler.proofs.CodeAgain.{listing_again}
 use Rattle.assembler.proofs.Lawful.{lawful_passes}
 use Rattle.assembler.proofs.Signed.{all_sound}
-use Rattle.assembler.proofs.Listed.{lines_listed, lines_with_literals}
-use Rattle.assembler.proofs.Table.{table_told, told_itself, code_told}
+use Rattle.assembler.proofs.Listings.{lines_has_listing, lines_with_literals}
+use Rattle.assembler.proofs.Table.{table_reread, reread_itself, code_reread}
 
 all_assembled : (text : List ℕ) (version : ℕ) (c : Code) → IsListingOf text version c → IsCode version c → assembled text ≡ Ok (version, c)
 all_assembled text version c is has = given text (version, c) (text_restored text (version, c) (listing_again text version c is has)) (lawful_passes version c has)
@@ -26,36 +26,36 @@ all_assembled text version c is has = given text (version, c) (text_restored tex
 pub exact : IsExact
 exact text version c = (λ e. all_sound text version c e, λ h. all_assembled text version c h.0 h.1)
 
-whole_listed : (version : ℕ) (c : Code) → IsCode version c → IsListingOf (listing_with_literals version c) version c
+whole_has_listing : (version : ℕ) (c : Code) → IsCode version c → IsListingOf (listing_with_literals version c) version c
 unfolding numbered_lines
-whole_listed version c is = go c.literals refl
+whole_has_listing version c is = go c.literals refl
   where
     none : [] ≡ c.literals → AllOperands c
     none e = subst (λ (zs : List ℤ). All (IsOperand c.program.blocks) zs) e (λ k d lt. absurd (omega arith))
 
     go : (table : List ℤ) → c.literals ≡ table → IsListingOf (listing_with_literals version c) version c
-    go [] e = inr (table_told version c is (none (sym e)), lines_with_literals version c is ∙ ap (λ (zs : List ℤ). head_words version c.program.main ∷ (block_lines 0 c.program.blocks ++ (numbered_lines array_words 0 c.program.arrays ++ table_lines true zs))) e)
+    go [] e = inr (table_reread version c is (none (sym e)), lines_with_literals version c is ∙ ap (λ (zs : List ℤ). head_words version c.program.main ∷ (block_lines 0 c.program.blocks ++ (numbered_lines array_words 0 c.program.arrays ++ table_lines true zs))) e)
     go (z ∷ zs) e = inl (subst (λ (t : List ℤ). 0 < length t) (sym e) (omega arith), lines_with_literals version c is)
 
 same_code : (version : ℕ) (c : Code) → IsCode version c → AllOperands c → with_operands c ≡ c
-same_code version c is told = ap (λ (table : List ℤ). record c { literals = table }) (sym (table_told version c is told))
+same_code version c is reread = ap (λ (table : List ℤ). record c { literals = table }) (sym (table_reread version c is reread))
 
-pub all_listed : AllListed
-all_listed version c is = record {
-  whole = whole_listed version c is;
-  program = inr (refl, lines_listed version c is);
-  object = code_told version c is;
-  same = (λ e. subst AllOperands e (told_itself c), same_code version c is);
+pub all_has_listing : AllHaveListings
+all_has_listing version c is = record {
+  whole = whole_has_listing version c is;
+  program = inr (refl, lines_has_listing version c is);
+  object = code_reread version c is;
+  same = (λ e. subst AllOperands e (reread_itself c), same_code version c is);
 }
 
 pub round_trips : RoundTrips
 round_trips bytes version c is =
-    let listed = all_listed version c is.1 in
+    let listing_is_whole = all_has_listing version c is.1 in
     let text = listing version c.program in
-    let program = all_assembled text version (with_operands c) listed.program listed.object in
+    let program = all_assembled text version (with_operands c) listing_is_whole.program listing_is_whole.object in
     record {
-      whole = all_assembled (listing_with_literals version c) version c listed.whole is.1;
-      told = λ told. program ∙ ap (λ (d : Code). Ok (version, d)) (same_code version c is.1 told);
+      whole = all_assembled (listing_with_literals version c) version c listing_is_whole.whole is.1;
+      reread = λ reread. program ∙ ap (λ (d : Code). Ok (version, d)) (same_code version c is.1 reread);
       program = program;
       spelling = sym is.0;
     }
@@ -84,8 +84,8 @@ only_memory text w d f (inr e) h k = differ (sym (all_assembled text w d h k) �
 
 -- what opened the bytes says that they are an object
 pub opened_back : (bytes : List ℕ) (r : Result Opened ObjectFault) → MatchResult r (λ o. first_refusal bytes ≡ None) (λ e. first_refusal bytes ≡ Some e) → IfOk r (λ o. o ≡ opened bytes) → IfOk r (λ o. IsObject bytes o.version o.code)
-    → first_refusal bytes ≡ None → ComesBack bytes (opened bytes).version (opened bytes).code
-opened_back bytes (Ok o) refused same is e = subst (λ (p : Opened). ComesBack bytes p.version p.code) same (round_trips bytes o.version o.code is)
+    → first_refusal bytes ≡ None → Reassembles bytes (opened bytes).version (opened bytes).code
+opened_back bytes (Ok o) refused same is e = subst (λ (p : Opened). Reassembles bytes p.version p.code) same (round_trips bytes o.version o.code is)
 opened_back bytes (Err f) refused same is e = absurd (differ (sym refused ∙ e))
   where
     differ : Some f ≡ None → ⊥

@@ -18,7 +18,7 @@ use Rattle.semantics.specs.Program.{Instr, CodeBlock, Code}
 use Rattle.semantics.specs.Rule.{slot_of}
 use Rattle.semantics.specs.Bytes.{is_dyadic, IsDest, HasOperand, HasDests, IsOrigin, IsSlot, IsInstr, IsCodeBlock, IsCode}
 use Rattle.semantics.specs.Opcodes.{may_fault}
-use Rattle.graph_file.specs.Given.{◌>>=◌}
+use Rattle.graph_file.specs.Giving.{◌>>=◌}
 use Rattle.graph_file.proofs.Binds.{bind_ok}
 use Rattle.assembler.specs.declared.fault.AsmFaultKind.{AsmFaultKind}
 use Rattle.assembler.specs.declared.fault.AsmFaultKind.TheVariants.{BadVersion, BadTable, BadLiteral, BadOperand, BadSlot, BadDestination, BadOrigin}
@@ -28,7 +28,7 @@ unless_ok : (b : Bool) (kind : AsmFaultKind) (n : ℕ) (x : ⊤) → unless b ki
 unless_ok true kind n x e = refl
 unless_ok false kind n x e = absurd cc
 
--- one check of several, and those behind it
+-- one check of several, and those after it
 then_ok : (b : Bool) (kind : AsmFaultKind) (n : ℕ) (next : ⊤ → Checked) (x : ⊤) → (unless b kind n >>= next) ≡ Ok x → (b ≡ true) × (next tt ≡ Ok x)
 then_ok true kind n next x e = (refl, e)
 then_ok false kind n next x e = absurd cc

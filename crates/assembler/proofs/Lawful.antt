@@ -17,12 +17,12 @@ use Rattle.semantics.specs.Program.{Instr, CodeBlock, Code}
 use Rattle.semantics.specs.Rule.{slot_of}
 use Rattle.semantics.specs.Bytes.{is_dyadic, IsDest, HasOperand, HasDests, IsOrigin, IsSlot, IsInstr, IsCodeBlock, IsCode}
 use Rattle.semantics.specs.Opcodes.{may_fault}
-use Rattle.graph_file.specs.Given.{◌>>=◌}
+use Rattle.graph_file.specs.Giving.{◌>>=◌}
 use Rattle.assembler.specs.declared.fault.AsmFaultKind.{AsmFaultKind}
 use Rattle.assembler.specs.declared.fault.AsmFaultKind.TheVariants.{BadVersion, BadTable, BadLiteral}
 use Rattle.assembler.specs.Checks.{Checked, unless, each, is_same, has_literal, is_bound, enters, literal_fits, operand_fits, slot_fits, is_left, shape_fits, dest_fits, origin_fits, instr_checked, entry_fits, block_checked, lines_before, arrays_checked, literals_checked, counts_fit, head_checked, blocks_checked, code_checked}
 
--- one check that is passed, and those behind it
+-- one check that is passed, and those after it
 passes : (b : Bool) (kind : AsmFaultKind) (n : ℕ) → b ≡ true → unless b kind n ≡ Ok tt
 passes b kind n e = ap (λ (t : Bool). unless t kind n) e
 

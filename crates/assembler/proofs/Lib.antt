@@ -12,8 +12,8 @@ pub mod StepsAgain
 pub mod Room
 pub mod CodeAgain
 pub mod Lawful
-pub mod Told
-pub mod Listed
+pub mod Reread
+pub mod Listings
 pub mod Ascents
 pub mod Table
 pub mod Signed

@@ -16,7 +16,7 @@ use Rattle.semantics.specs.Text.{literal}
 use Rattle.semantics.specs.Bytes.{IsSlot}
 use Rattle.disassembler.specs.Listing.{slot_text, dest_text, operand_text}
 use Rattle.disassembler.specs.Listing as Listing
-use Rattle.graph_file.specs.Given.{◌>>=◌}
+use Rattle.graph_file.specs.Giving.{◌>>=◌}
 use Rattle.graph_file.specs.Fields.{number_of, literal_of}
 use Rattle.graph_file.proofs.Marks.{number_again, literal_again}
 use Rattle.assembler.specs.declared.fault.AsmFaultKind.{AsmFaultKind}

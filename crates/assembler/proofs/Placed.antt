@@ -2,7 +2,7 @@
 use Rattle.std.proofs.Common.{◌≡◌, ℕ, ◌+◌, ◌-◌, ◌≤◌, eqb, true, false, cond, List, [], ◌∷◌, length, Result, Ok, Err, refl, sym, ap, ◌∙◌, arith, inl, inr, ◌<◌, ℤ}
 use Rattle.std.specs.Prelude.{◌⊎◌}
 use Rattle.semantics.specs.Program.{Code}
-use Rattle.graph_file.specs.Given.{◌>>=◌}
+use Rattle.graph_file.specs.Giving.{◌>>=◌}
 use Rattle.assembler.specs.declared.fault.AsmFault.{AsmFault}
 use Rattle.assembler.specs.declared.fault.AsmFaultKind.{AsmFaultKind}
 use Rattle.assembler.specs.declared.fault.AsmFaultKind.TheVariants.{Memory}

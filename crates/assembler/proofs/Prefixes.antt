@@ -7,14 +7,14 @@ use Rattle.std.proofs.lemmas.Slice.Eq.{bytes_eq-Decides}
 use Rattle.lemmas.proofs.Bools.{cond_cases}
 use Rattle.semantics.specs.Program.{Instr, CodeBlock, Code}
 use Rattle.disassembler.specs.Listing.{literal_of}
-use Rattle.graph_file.specs.Given.{◌>>=◌}
+use Rattle.graph_file.specs.Giving.{◌>>=◌}
 use Rattle.graph_file.proofs.Binds.{bind_ok}
 use Rattle.assembler.specs.declared.fault.AsmFaultKind.{AsmFaultKind}
 use Rattle.assembler.specs.declared.fault.AsmFaultKind.TheVariants.{BadLine}
 use Rattle.assembler.specs.declared.found.Part.{Part}
 use Rattle.assembler.specs.declared.found.Part.TheVariants.{Head, Start, Blocks, Arrays, Literals}
 use Rattle.assembler.specs.Words.{Word}
-use Rattle.assembler.specs.Given.{must}
+use Rattle.assembler.specs.Giving.{must}
 use Rattle.assembler.specs.Grammar.{head_words, block_words, instr_words, array_words, literal_words, numbered_lines, block_lines, code_lines, with_literal, used_by, used_in, table_of}
 use Rattle.assembler.specs.Found.{Found}
 use Rattle.assembler.specs.Lines.{word_from, head_from, block_from, array_from, literal_from, instr_from}
@@ -69,15 +69,15 @@ said f Literals = body f
 abbrev pub IsEmpty : Found → Type 0
 IsEmpty f = (f.blocks ≡ []) × (f.arrays ≡ []) × (f.literals ≡ []) × (f.used ≡ [])
 
-abbrev pub IsTold : Found → Type 0
-IsTold f = f.used ≡ table_of (all_blocks f)
+abbrev pub IsReread : Found → Type 0
+IsReread f = f.used ≡ table_of (all_blocks f)
 
 abbrev pub IsState : Found → Part → Type 0
 IsState f Head = IsEmpty f
 IsState f Start = IsEmpty f
-IsState f Blocks = IsTold f × (f.arrays ≡ []) × (f.literals ≡ [])
-IsState f Arrays = IsTold f × (f.literals ≡ [])
-IsState f Literals = IsTold f × (0 < length f.literals)
+IsState f Blocks = IsReread f × (f.arrays ≡ []) × (f.literals ≡ [])
+IsState f Arrays = IsReread f × (f.literals ≡ [])
+IsState f Literals = IsReread f × (0 < length f.literals)
 
 abbrev Leads : Lines → List Word → Found × Part → Type 0
 Leads before ws s = IsState s.0 s.1 × (said s.0 s.1 ≡ before ++ ws ∷ [])
@@ -121,8 +121,8 @@ first_leads f ws s e h =
     let g : Found = record f { last = b.0 } in
     let zero-is : 0 + length f.blocks ≡ 0 = let k = ap (λ (bs : List CodeBlock). length bs) h.0 in omega (arith, k) in
     let lines : block_lines 0 (all_blocks g) ≡ block_words 0 b.0 ∷ [] = blocks_push 0 f.blocks b.0 ∙ ap (λ (ls : Lines). ls ++ of_block (0 + length f.blocks) b.0) (no_blocks f.blocks h.0) ∙ ap (λ (k : ℕ). of_block k b.0) zero-is ∙ no_instrs 0 b.0 t.1 in
-    let told : IsTold g = h.3 ∙ sym (used_in_push f.blocks b.0 [] ∙ nothing_used b.0 (used_in f.blocks []) t.1 ∙ none_used f.blocks h.0) in
-    let made : Leads (said f Start) (codes "block" ∷ ws) (g, Blocks) = ((told, h.1, h.2), body_bare g h.1 h.2 ∙ ap (λ (ls : Lines). head_words f.version f.main ∷ ls) (lines ∙ ap (λ (l : List Word). l ∷ []) (sym t.0))) in
+    let reread : IsReread g = h.3 ∙ sym (used_in_push f.blocks b.0 [] ∙ nothing_used b.0 (used_in f.blocks []) t.1 ∙ none_used f.blocks h.0) in
+    let made : Leads (said f Start) (codes "block" ∷ ws) (g, Blocks) = ((reread, h.1, h.2), body_bare g h.1 h.2 ∙ ap (λ (ls : Lines). head_words f.version f.main ∷ ls) (lines ∙ ap (λ (l : List Word). l ∷ []) (sym t.0))) in
     subst (Leads (said f Start) (codes "block" ∷ ws)) (ok_is (g, Blocks) s b.2) made
 
 next_leads : (f : Found) (ws : List Word) (s : Found × Part) → next_block f ws ≡ Ok s → IsState f Blocks → Leads (body f) (codes "block" ∷ ws) s
@@ -133,9 +133,9 @@ next_leads f ws s e h =
     let g : Found = record f { blocks = all_blocks f; last = b.0 } in
     let count : 0 + length (all_blocks f) ≡ length f.blocks + 1 = omega (arith, length-append f.blocks (f.last ∷ [])) in
     let lines : block_lines 0 (all_blocks g) ≡ block_lines 0 (all_blocks f) ++ block_words (length f.blocks + 1) b.0 ∷ [] = blocks_push 0 (all_blocks f) b.0 ∙ ap (λ (k : ℕ). block_lines 0 (all_blocks f) ++ of_block k b.0) count ∙ ap (λ (ls : Lines). block_lines 0 (all_blocks f) ++ ls) (no_instrs (length f.blocks + 1) b.0 t.1) in
-    let told : IsTold g = h.0 ∙ sym (used_in_push (all_blocks f) b.0 [] ∙ nothing_used b.0 (table_of (all_blocks f)) t.1) in
+    let reread : IsReread g = h.0 ∙ sym (used_in_push (all_blocks f) b.0 [] ∙ nothing_used b.0 (table_of (all_blocks f)) t.1) in
     let text : bare g ≡ bare f ++ (codes "block" ∷ ws) ∷ [] = ap (λ (ls : Lines). head_words f.version f.main ∷ ls) (lines ∙ ap (λ (l : List Word). block_lines 0 (all_blocks f) ++ l ∷ []) (sym t.0)) in
-    let made : Leads (body f) (codes "block" ∷ ws) (g, Blocks) = ((told, h.1, h.2), body_bare g h.1 h.2 ∙ text ∙ ap (λ (ls : Lines). ls ++ (codes "block" ∷ ws) ∷ []) (sym (body_bare f h.1 h.2))) in
+    let made : Leads (body f) (codes "block" ∷ ws) (g, Blocks) = ((reread, h.1, h.2), body_bare g h.1 h.2 ∙ text ∙ ap (λ (ls : Lines). ls ++ (codes "block" ∷ ws) ∷ []) (sym (body_bare f h.1 h.2))) in
     subst (Leads (body f) (codes "block" ∷ ws)) (ok_is (g, Blocks) s b.2) made
 
 instr_leads : (f : Found) (ws : List Word) (s : Found × Part) → instr_line f ws ≡ Ok s → IsState f Blocks → Leads (body f) ws s
@@ -149,16 +149,16 @@ instr_leads f ws s e h =
     let zero-is : 0 + length f.last.instrs ≡ length f.last.instrs = omega arith in
     let more : of_block n (with_instr f.last i) ≡ of_block n f.last ++ ws ∷ [] = ap (λ (ls : Lines). block_words n f.last ∷ ls) (numbered_push instr_words 0 f.last.instrs i ∙ ap (λ (k : ℕ). numbered_lines instr_words 0 f.last.instrs ++ instr_words k i ∷ []) zero-is ∙ ap (λ (l : List Word). numbered_lines instr_words 0 f.last.instrs ++ l ∷ []) (sym t)) in
     let lines : block_lines 0 (all_blocks g) ≡ block_lines 0 (all_blocks f) ++ ws ∷ [] = blocks_push 0 f.blocks (with_instr f.last i) ∙ ap (λ (ls : Lines). block_lines 0 f.blocks ++ ls) more ∙ sym (append_assoc (block_lines 0 f.blocks) (of_block n f.last) (ws ∷ [])) ∙ ap (λ (ls : Lines). ls ++ ws ∷ []) (sym (blocks_push 0 f.blocks f.last)) in
-    let told : IsTold g = ap (λ (t : List ℤ). with_literal (literal_of i.op) t) (h.0 ∙ used_in_push f.blocks f.last []) ∙ sym (used_by_push f.last.instrs i (used_in f.blocks [])) ∙ sym (used_in_push f.blocks (with_instr f.last i) []) in
-    let made : Leads (body f) ws (g, Blocks) = ((told, h.1, h.2), body_bare g h.1 h.2 ∙ ap (λ (ls : Lines). head_words f.version f.main ∷ ls) lines ∙ ap (λ (ls : Lines). ls ++ ws ∷ []) (sym (body_bare f h.1 h.2))) in
+    let reread : IsReread g = ap (λ (t : List ℤ). with_literal (literal_of i.op) t) (h.0 ∙ used_in_push f.blocks f.last []) ∙ sym (used_by_push f.last.instrs i (used_in f.blocks [])) ∙ sym (used_in_push f.blocks (with_instr f.last i) []) in
+    let made : Leads (body f) ws (g, Blocks) = ((reread, h.1, h.2), body_bare g h.1 h.2 ∙ ap (λ (ls : Lines). head_words f.version f.main ∷ ls) lines ∙ ap (λ (ls : Lines). ls ++ ws ∷ []) (sym (body_bare f h.1 h.2))) in
     subst (Leads (body f) ws) (ok_is (g, Blocks) s b.2) made
 
 three : (b a l : Lines) (w : List Word) → b ++ (a ++ (l ++ w ∷ [])) ≡ (b ++ (a ++ l)) ++ w ∷ []
 three b a l w = ap (λ (ls : Lines). b ++ ls) (sym (append_assoc a l (w ∷ []))) ∙ sym (append_assoc b (a ++ l) (w ∷ []))
 
-array_leads : (f : Found) (ws : List Word) (s : Found × Part) → array_line f ws ≡ Ok s → IsTold f → f.literals ≡ [] → Leads (body f) (codes "array" ∷ ws) s
+array_leads : (f : Found) (ws : List Word) (s : Found × Part) → array_line f ws ≡ Ok s → IsReread f → f.literals ≡ [] → Leads (body f) (codes "array" ∷ ws) s
 unfolding array_line
-array_leads f ws s e told none =
+array_leads f ws s e reread none =
     let b = bind_ok (array_from (length f.arrays) ws) (λ len. Ok (record f { arrays = f.arrays ++ len ∷ [] }, Arrays)) s e in
     let t = array_takes (length f.arrays) ws b.0 b.1 in
     let g : Found = record f { arrays = f.arrays ++ b.0 ∷ [] } in
@@ -170,12 +170,12 @@ array_leads f ws s e told none =
     let no_table : numbered_lines literal_words 0 f.literals ≡ [] = nothing_numbered literal_words f.literals none in
     let left : bl ++ (numbered_lines array_words 0 g.arrays ++ numbered_lines literal_words 0 f.literals) ≡ bl ++ (al ++ w ∷ []) = ap (λ (ls : Lines). bl ++ (numbered_lines array_words 0 g.arrays ++ ls)) no_table ∙ ap (λ (ls : Lines). bl ++ ls) (append-nil (numbered_lines array_words 0 g.arrays) ∙ more) in
     let right : bl ++ (al ++ w ∷ []) ≡ (bl ++ (al ++ numbered_lines literal_words 0 f.literals)) ++ w ∷ [] = three bl al [] w ∙ ap (λ (ls : Lines). (bl ++ (al ++ ls)) ++ w ∷ []) (sym no_table) in
-    let made : Leads (body f) w (g, Arrays) = ((told, none), ap (λ (ls : Lines). head_words f.version f.main ∷ ls) (left ∙ right)) in
+    let made : Leads (body f) w (g, Arrays) = ((reread, none), ap (λ (ls : Lines). head_words f.version f.main ∷ ls) (left ∙ right)) in
     subst (Leads (body f) w) (ok_is (g, Arrays) s b.2) made
 
-literal_leads : (f : Found) (ws : List Word) (s : Found × Part) → literal_line f ws ≡ Ok s → IsTold f → Leads (body f) (codes "literal" ∷ ws) s
+literal_leads : (f : Found) (ws : List Word) (s : Found × Part) → literal_line f ws ≡ Ok s → IsReread f → Leads (body f) (codes "literal" ∷ ws) s
 unfolding literal_line
-literal_leads f ws s e told =
+literal_leads f ws s e reread =
     let b = bind_ok (literal_from (length f.literals) ws) (λ z. Ok (record f { literals = f.literals ++ z ∷ [] }, Literals)) s e in
     let t = literal_takes (length f.literals) ws b.0 b.1 in
     let g : Found = record f { literals = f.literals ++ b.0 ∷ [] } in
@@ -185,7 +185,7 @@ literal_leads f ws s e told =
     let w : List Word = codes "literal" ∷ ws in
     let zero-is : 0 + length f.literals ≡ length f.literals = omega arith in
     let more : numbered_lines literal_words 0 g.literals ≡ ll ++ w ∷ [] = numbered_push literal_words 0 f.literals b.0 ∙ ap (λ (k : ℕ). ll ++ literal_words k b.0 ∷ []) zero-is ∙ ap (λ (l : List Word). ll ++ l ∷ []) (sym t) in
-    let made : Leads (body f) w (g, Literals) = ((told, omega (arith, length-append f.literals (b.0 ∷ []))), ap (λ (ls : Lines). head_words f.version f.main ∷ (bl ++ (al ++ ls))) more ∙ ap (λ (ls : Lines). head_words f.version f.main ∷ ls) (three bl al ll w)) in
+    let made : Leads (body f) w (g, Literals) = ((reread, omega (arith, length-append f.literals (b.0 ∷ []))), ap (λ (ls : Lines). head_words f.version f.main ∷ (bl ++ (al ++ ls))) more ∙ ap (λ (ls : Lines). head_words f.version f.main ∷ ls) (three bl al ll w)) in
     subst (Leads (body f) w) (ok_is (g, Literals) s b.2) made
 
 -- ---- any line
@@ -261,10 +261,10 @@ Fits true c = 0 < length c.literals
 Fits false c = c.literals ≡ table_of c.program.blocks
 
 abbrev pub Says : Lines → ℕ × Code → Type 0
-Says wss r = (told : Bool) × Fits told r.1 × (wss ≡ code_lines told r.0 r.1)
+Says wss r = (reread : Bool) × Fits reread r.1 × (wss ≡ code_lines reread r.0 r.1)
 
-with_used : (f : Found) → IsTold f → f.literals ≡ [] → Says (body f) (code_with f f.used)
-with_used f told none = (false, told, ap (λ (ls : Lines). head_words f.version f.main ∷ (block_lines 0 (all_blocks f) ++ (numbered_lines array_words 0 f.arrays ++ ls))) (nothing_numbered literal_words f.literals none))
+with_used : (f : Found) → IsReread f → f.literals ≡ [] → Says (body f) (code_with f f.used)
+with_used f reread none = (false, reread, ap (λ (ls : Lines). head_words f.version f.main ∷ (block_lines 0 (all_blocks f) ++ (numbered_lines array_words 0 f.arrays ++ ls))) (nothing_numbered literal_words f.literals none))
 
 end_says : (f : Found) (p : Part) (r : ℕ × Code) → end_from f p ≡ Ok r → IsState f p → Says (said f p) r
 unfolding end_from

@@ -14,7 +14,7 @@ use Rattle.semantics.specs.declared.program.Op.TheVariants as ops
 use Rattle.semantics.specs.Program.{Instr, Code, uses_slot}
 use Rattle.semantics.specs.Bytes.{IsCode}
 use Rattle.disassembler.specs.Listing as Listing
-use Rattle.graph_file.specs.Given.{◌>>=◌}
+use Rattle.graph_file.specs.Giving.{◌>>=◌}
 use Rattle.graph_file.specs.Fields.{literal_of}
 use Rattle.graph_file.proofs.Binds.{bind_ok}
 use Rattle.graph_file.proofs.Marks.{literal_is}
@@ -24,7 +24,7 @@ use Rattle.assembler.specs.declared.found.Part.TheVariants.{Head, Start, Blocks,
 use Rattle.semantics.specs.declared.opcode.Opcode.{Opcode}
 use Rattle.semantics.specs.declared.opcode.Opcode.TheVariants.{Apply1, Apply2, Apply2Right, Apply2Left, Lit, Copy, Sync, Switch, Fetch, Store, Frame, Link, Send, Return, Ask, Open, Take, Give, Drain, Release}
 use Rattle.assembler.specs.Words.{Word, lines_in}
-use Rattle.assembler.specs.Given.{must}
+use Rattle.assembler.specs.Giving.{must}
 use Rattle.assembler.specs.Grammar.{with_literal, IsListingOf}
 use Rattle.assembler.specs.Found.{Found}
 use Rattle.semantics.specs.Opcodes.{opcode_named}

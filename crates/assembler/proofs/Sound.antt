@@ -15,7 +15,7 @@ use Rattle.assembler.proofs.Fitting.{has_object}
 
 listing_from : (text : List ℕ) (r : ℕ × Code) → Says (lines_in text) r → IsListingOf text r.0 r.1
 listing_from text r (true, some, e) = inl (some, e)
-listing_from text r (false, told, e) = inr (told, e)
+listing_from text r (false, reread, e) = inr (reread, e)
 
 pub is_listing : (text : List ℕ) (r : ℕ × Code) → text_from text ≡ Ok r → IsListingOf text r.0 r.1
 is_listing text r e = listing_from text r (steps_say nothing Head (lines_in text) r (text_stripped text r e) (refl, refl, refl, refl))

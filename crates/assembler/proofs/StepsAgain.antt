@@ -12,7 +12,7 @@ use Rattle.std.proofs.lemmas.List.Elements.{All-head, All-tail}
 use Rattle.semantics.specs.Program.{Instr, CodeBlock}
 use Rattle.semantics.specs.Text.{literal}
 use Rattle.disassembler.specs.Listing.{literal_of}
-use Rattle.graph_file.specs.Given.{◌>>=◌}
+use Rattle.graph_file.specs.Giving.{◌>>=◌}
 use Rattle.graph_file.specs.Fields.{is_numeral}
 use Rattle.graph_file.proofs.Numbers.{is_numeral_means}
 use Rattle.graph_file.proofs.Marks.{decimal_is_numeral}
@@ -21,7 +21,7 @@ use Rattle.assembler.specs.declared.fault.AsmFaultKind.TheVariants.{BadLine}
 use Rattle.assembler.specs.declared.found.Part.{Part}
 use Rattle.assembler.specs.declared.found.Part.TheVariants.{Head, Start, Blocks, Arrays, Literals}
 use Rattle.assembler.specs.Words.{Word}
-use Rattle.assembler.specs.Given.{must}
+use Rattle.assembler.specs.Giving.{must}
 use Rattle.assembler.specs.Grammar.{head_words, block_words, instr_words, array_words, literal_words, numbered_lines, block_lines, with_literal, used_by}
 use Rattle.assembler.specs.Found.{Found}
 use Rattle.assembler.specs.Lines.{head_from, block_from, array_from, literal_from, instr_from}
@@ -100,7 +100,7 @@ instr_step f b n i is few h =
     ∙ ap (λ (k : ℕ). instr_from k (instr_words n i) >>= λ x. Ok (put f x, Blocks)) (sym is)
     ∙ then_gives (instr_from n (instr_words n i)) i (λ x. Ok (put f x, Blocks)) (Ok (put f i, Blocks)) (instr_gives b n i few h) refl
 
--- the instructions of a block behind those that were read
+-- the instructions of a block after those that were read
 abbrev with_instrs : CodeBlock → List Instr → CodeBlock
 with_instrs b is = record b { instrs = b.instrs ++ is }
 
@@ -130,7 +130,7 @@ pub record HasLines (b : CodeBlock) : Type 0 where
   pub few : length b.instrs < 2 ^ 32
   pub instrs : All (HasLine b) b.instrs
 
--- what was read, and behind it these blocks
+-- what was read, and after it these blocks
 abbrev pub blocks_read : Found → List CodeBlock → Found
 blocks_read f [] = f
 blocks_read f (b ∷ bs) = blocks_read (record f { blocks = all_blocks f; last = b; used = used_by b.instrs f.used }) bs

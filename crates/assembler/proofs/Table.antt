@@ -160,60 +160,60 @@ operand_from : (z : ℤ) (bs : List CodeBlock) → UsedIn z bs → IsOperand bs 
 operand_from z bs u = let b = block_of z bs u in (b.0, b.1, b.2, instr_of z b.1.instrs b.3)
 
 -- ---- the table that the instructions tell
-told_used : (z : ℤ) (bs : List CodeBlock) → In z (table_of bs) → UsedIn z bs
-told_used z bs i = go (in_has z bs [] i)
+reread_used : (z : ℤ) (bs : List CodeBlock) → In z (table_of bs) → UsedIn z bs
+reread_used z bs i = go (in_has z bs [] i)
   where
     go : UsedIn z bs ⊎ In z [] → UsedIn z bs
     go (inl u) = u
     go (inr j) = absurd j
 
-told_contained : (v : ℕ) (c : Code) (z : ℤ) → IsCode v c → In z (table_of c.program.blocks) → Contains c.literals z
-told_contained v c z is i = used_contained v c z is (told_used z c.program.blocks i)
+reread_contained : (v : ℕ) (c : Code) (z : ℤ) → IsCode v c → In z (table_of c.program.blocks) → Contains c.literals z
+reread_contained v c z is i = used_contained v c z is (reread_used z c.program.blocks i)
 
-told_in : (v : ℕ) (c : Code) (z : ℤ) → IsCode v c → In z (table_of c.program.blocks) → In z c.literals
-told_in v c z is i = let h = told_contained v c z is i in in_from z c.literals h.0 h.1 h.2
+reread_in : (v : ℕ) (c : Code) (z : ℤ) → IsCode v c → In z (table_of c.program.blocks) → In z c.literals
+reread_in v c z is i = let h = reread_contained v c z is i in in_from z c.literals h.0 h.1 h.2
 
-told_ascends : (c : Code) → Ascends (table_of c.program.blocks)
-told_ascends c = ascends_in c.program.blocks [] tt
+reread_ascends : (c : Code) → Ascends (table_of c.program.blocks)
+reread_ascends c = ascends_in c.program.blocks [] tt
 
-pub table_told : (v : ℕ) (c : Code) → IsCode v c → AllOperands c → c.literals ≡ table_of c.program.blocks
-table_told v c is told =
-    same_members c.literals (table_of c.program.blocks) (ascends_from c.literals is.ascend) (told_ascends c)
-    (λ z i. let p = place_of z c.literals i in in_new z c.program.blocks [] (used_from z c.program.blocks (all_at (IsOperand c.program.blocks) c.literals p.0 z told p.2)))
-    (λ z i. told_in v c z is i)
+pub table_reread : (v : ℕ) (c : Code) → IsCode v c → AllOperands c → c.literals ≡ table_of c.program.blocks
+table_reread v c is reread =
+    same_members c.literals (table_of c.program.blocks) (ascends_from c.literals is.ascend) (reread_ascends c)
+    (λ z i. let p = place_of z c.literals i in in_new z c.program.blocks [] (used_from z c.program.blocks (all_at (IsOperand c.program.blocks) c.literals p.0 z reread p.2)))
+    (λ z i. reread_in v c z is i)
 
-pub told_itself : (c : Code) → AllOperands (with_operands c)
-told_itself c = all_from (IsOperand c.program.blocks) (table_of c.program.blocks) (λ k z at. operand_from z c.program.blocks (told_used z c.program.blocks (in_at z (table_of c.program.blocks) k at)))
+pub reread_itself : (c : Code) → AllOperands (with_operands c)
+reread_itself c = all_from (IsOperand c.program.blocks) (table_of c.program.blocks) (λ k z at. operand_from z c.program.blocks (reread_used z c.program.blocks (in_at z (table_of c.program.blocks) k at)))
 
 -- ---- with that table a program has an object, too
 contains_from : (z : ℤ) (zs : List ℤ) → In z zs → Contains zs z
 contains_from z zs i = let p = place_of z zs i in (p.0, p.1, get_or_from_slice_get zs p.0 z z p.2)
 
-operand_told : (c : Code) (op : Op) → ((z : ℤ) → literal_of op ≡ Some z → Contains (table_of c.program.blocks) z) → HasOperand c op → HasOperand (with_operands c) op
-operand_told c (Apply1 op) u h = tt
-operand_told c (Apply2 op) u h = tt
-operand_told c (Apply2Right op z) u h = u z refl
-operand_told c (Apply2Left op z) u h = u z refl
-operand_told c (Lit z) u h = u z refl
-operand_told c Copy u h = tt
-operand_told c Sync u h = tt
-operand_told c Switch u h = tt
-operand_told c (Fetch a) u h = h
-operand_told c (Store a) u h = h
-operand_told c Frame u h = tt
-operand_told c (Link b) u h = h
-operand_told c (Send b x) u h = h
-operand_told c (Return o) u h = h
-operand_told c (Ask o) u h = h
-operand_told c (Open k) u h = h
-operand_told c (Take k) u h = h
-operand_told c (Give k) u h = h
-operand_told c (Drain k) u h = h
-operand_told c (Release o) u h = h
+operand_reread : (c : Code) (op : Op) → ((z : ℤ) → literal_of op ≡ Some z → Contains (table_of c.program.blocks) z) → HasOperand c op → HasOperand (with_operands c) op
+operand_reread c (Apply1 op) u h = tt
+operand_reread c (Apply2 op) u h = tt
+operand_reread c (Apply2Right op z) u h = u z refl
+operand_reread c (Apply2Left op z) u h = u z refl
+operand_reread c (Lit z) u h = u z refl
+operand_reread c Copy u h = tt
+operand_reread c Sync u h = tt
+operand_reread c Switch u h = tt
+operand_reread c (Fetch a) u h = h
+operand_reread c (Store a) u h = h
+operand_reread c Frame u h = tt
+operand_reread c (Link b) u h = h
+operand_reread c (Send b x) u h = h
+operand_reread c (Return o) u h = h
+operand_reread c (Ask o) u h = h
+operand_reread c (Open k) u h = h
+operand_reread c (Take k) u h = h
+operand_reread c (Give k) u h = h
+operand_reread c (Drain k) u h = h
+operand_reread c (Release o) u h = h
 
-instr_told : (v : ℕ) (c : Code) (k : ℕ) (b : CodeBlock) (n : ℕ) (i : Instr) → slice_get c.program.blocks k ≡ Some b → slice_get b.instrs n ≡ Some i → IsInstr v c b n i → IsInstr v (with_operands c) b n i
-instr_told v c k b n i at here is = record {
-  operand = operand_told c i.op (λ z e. contains_from z (table_of c.program.blocks) (in_new z c.program.blocks [] (by_block z c.program.blocks k b at (by_instr z b.instrs n i here e)))) is.operand;
+instr_reread : (v : ℕ) (c : Code) (k : ℕ) (b : CodeBlock) (n : ℕ) (i : Instr) → slice_get c.program.blocks k ≡ Some b → slice_get b.instrs n ≡ Some i → IsInstr v c b n i → IsInstr v (with_operands c) b n i
+instr_reread v c k b n i at here is = record {
+  operand = operand_reread c i.op (λ z e. contains_from z (table_of c.program.blocks) (in_new z c.program.blocks [] (by_block z c.program.blocks k b at (by_instr z b.instrs n i here e)))) is.operand;
   origin = is.origin;
   slot = is.slot;
   dests = is.dests;
@@ -221,28 +221,28 @@ instr_told v c k b n i at here is = record {
   seconds = is.seconds;
 }
 
-block_told : (v : ℕ) (c : Code) (k : ℕ) (b : CodeBlock) → slice_get c.program.blocks k ≡ Some b → IsCodeBlock v c b → IsCodeBlock v (with_operands c) b
-block_told v c k b at is = record {
+block_reread : (v : ℕ) (c : Code) (k : ℕ) (b : CodeBlock) → slice_get c.program.blocks k ≡ Some b → IsCodeBlock v c b → IsCodeBlock v (with_operands c) b
+block_reread v c k b at is = record {
   inputs = is.inputs;
   outputs = is.outputs;
   size = is.size;
   slots = is.slots;
-  instrs = λ n i here. instr_told v c k b n i at here (is.instrs n i here);
+  instrs = λ n i here. instr_reread v c k b n i at here (is.instrs n i here);
 }
 
-pub code_told : (v : ℕ) (c : Code) → IsCode v c → IsCode v (with_operands c)
-code_told v c is =
+pub code_reread : (v : ℕ) (c : Code) → IsCode v c → IsCode v (with_operands c)
+code_reread v c is =
     let table = table_of c.program.blocks in
-    let few = no_more c.literals table (told_ascends c) (ascends_from c.literals is.ascend) (λ z i. told_in v c z is i) in
+    let few = no_more c.literals table (reread_ascends c) (ascends_from c.literals is.ascend) (λ z i. reread_in v c z is i) in
     record {
       version_known = is.version_known;
       some_block = is.some_block;
       main = is.main;
       few_literals = (let most = is.few_literals in omega (arith, few, most));
-      literals = all_from (λ (z : ℤ). FitsSigned w64 z) table (λ k z at. All-contains (λ (y : ℤ). FitsSigned w64 y) c.literals z is.literals (told_contained v c z is (in_at z table k at)));
-      ascend = steps_up table (told_ascends c);
+      literals = all_from (λ (z : ℤ). FitsSigned w64 z) table (λ k z at. All-contains (λ (y : ℤ). FitsSigned w64 y) c.literals z is.literals (reread_contained v c z is (in_at z table k at)));
+      ascend = steps_up table (reread_ascends c);
       few_arrays = is.few_arrays;
       arrays = is.arrays;
       cells = is.cells;
-      blocks = all_from (IsCodeBlock v (with_operands c)) c.program.blocks (λ k b at. block_told v c k b at (all_at (IsCodeBlock v c) c.program.blocks k b is.blocks at));
+      blocks = all_from (IsCodeBlock v (with_operands c)) c.program.blocks (λ k b at. block_reread v c k b at (all_at (IsCodeBlock v c) c.program.blocks k b is.blocks at));
     }

@@ -14,7 +14,7 @@ use Rattle.semantics.specs.Rule.{slot_of}
 use Rattle.semantics.specs.Text.{literal}
 use Rattle.disassembler.specs.Listing.{slot_text, dest_text, operand_text}
 use Rattle.disassembler.specs.Listing as Listing
-use Rattle.graph_file.specs.Given.{◌>>=◌}
+use Rattle.graph_file.specs.Giving.{◌>>=◌}
 use Rattle.graph_file.specs.Fields.{number_of, literal_of}
 use Rattle.graph_file.proofs.Binds.{bind_ok}
 use Rattle.graph_file.proofs.Marks.{number_is, literal_is}

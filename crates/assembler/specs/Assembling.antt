@@ -1,7 +1,7 @@
 -- THE OBJECT THAT A LISTING IS OF, or the listing's first fault: first what is no listing of any code, then what no object has.
 use Rattle.std.specs.Prelude.{◌≡◌, ◌⊎◌, ℕ, ◌+◌, ◌-◌, ◌==◌, List, [], ◌∷◌, Result, Ok, Err, if◌then◌else◌}
 use Rattle.semantics.specs.Program.{Code}
-use Rattle.graph_file.specs.Given.{◌>>=◌}
+use Rattle.graph_file.specs.Giving.{◌>>=◌}
 use Rattle.graph_file.specs.Lines.{parts}
 use Rattle.assembler.specs.declared.fault.AsmFault.{AsmFault}
 use Rattle.assembler.specs.declared.fault.AsmFaultKind.TheVariants.{Memory}
@@ -10,7 +10,7 @@ use Rattle.assembler.specs.Words.{words_of, has_words}
 use Rattle.assembler.specs.Reading.{text_from}
 use Rattle.assembler.specs.Checks.{Checked, code_checked}
 
--- the number of the line with words that has this index, of the lines behind the first n ones
+-- the number of the line with words that has this index, of the lines after the first n ones
 unfoldable pub line_at : ℕ → ℕ → List (List ℕ) → ℕ
 line_at n index [] = n
 line_at n index (line ∷ lines) =

@@ -15,7 +15,7 @@ use Rattle.semantics.specs.Program.{Instr, CodeBlock, Code}
 use Rattle.semantics.specs.Rule.{slot_of}
 use Rattle.semantics.specs.Bytes.{is_dyadic}
 use Rattle.semantics.specs.Opcodes.{may_fault}
-use Rattle.graph_file.specs.Given.{◌>>=◌}
+use Rattle.graph_file.specs.Giving.{◌>>=◌}
 use Rattle.assembler.specs.declared.fault.AsmFaultKind.{AsmFaultKind}
 use Rattle.assembler.specs.declared.fault.AsmFaultKind.TheVariants.{BadVersion, BadTable, BadLiteral, BadOperand, BadSlot, BadDestination, BadOrigin}
 use Rattle.assembler.specs.declared.checks.Refusal.{Refusal}
@@ -116,7 +116,7 @@ block_checked version c index b = do
   entry ← unless (entry_fits b) BadTable index
   each (instr_checked version c b (index + 1)) 0 b.instrs
 
--- how many lines stand before the block of that number, or behind the last one
+-- how many lines stand before the block of that number, or after the last one
 abbrev pub lines_before : List CodeBlock → ℕ → ℕ
 lines_before bs n = 1 + sum (map (λ (b : CodeBlock). 1 + length b.instrs) (take n bs))
 

@@ -19,7 +19,7 @@ abbrev pub then_some : {A B : Type 0} → Option A → (A → Option B) → Opti
 then_some None f = None
 then_some (Some x) f = f x
 
--- what stands behind a byte at the front
+-- what stands after a byte at the front
 unfoldable pub tagged : ℕ → List ℕ → Option (List ℕ)
 tagged tag [] = None
 tagged tag (b ∷ bs) = if b == tag then Some bs else None
@@ -40,11 +40,11 @@ small_behind tag w = then_some (tagged tag w) small_of
 unfoldable pub wide_behind : ℕ → List ℕ → Option ℕ
 wide_behind tag w = then_some (tagged tag w) wide_of
 
--- a literal behind `#`
+-- a literal after `#`
 unfoldable pub literal_behind : List ℕ → Option ℤ
 literal_behind w = then_some (tagged 35 w) literal_of
 
--- a literal behind `r#` or `l#`
+-- a literal after `r#` or `l#`
 unfoldable pub side_behind : ℕ → List ℕ → Option ℤ
 side_behind tag w = then_some (tagged tag w) literal_behind
 
@@ -116,7 +116,7 @@ dest_to port (Some n) = Some (Some record { ahead = n; port = port })
 abbrev pub dest_parts : List ℕ → ℕ → Option (Option Dest)
 dest_parts digits last = if last == 108 then dest_to Left (number_of digits) else if last == 114 then dest_to Right (number_of digits) else None
 
--- behind the `+`
+-- after the `+`
 unfoldable pub dest_behind : List ℕ → Option (Option Dest)
 dest_behind w = dest_parts (take (length w - 1) w) (slice_index w (length w - 1))
 

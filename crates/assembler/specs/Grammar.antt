@@ -47,7 +47,7 @@ table_lines true table = numbered_lines literal_words 0 table
 table_lines false table = []
 
 abbrev pub code_lines : Bool → ℕ → Code → List (List Word)
-code_lines told version c = head_words version c.program.main ∷ (block_lines 0 c.program.blocks ++ (numbered_lines array_words 0 c.program.arrays ++ table_lines told c.literals))
+code_lines reread version c = head_words version c.program.main ∷ (block_lines 0 c.program.blocks ++ (numbered_lines array_words 0 c.program.arrays ++ table_lines reread c.literals))
 
 -- WHAT THE INSTRUCTIONS TELL OF THE TABLE: each literal that one of them has, once, in ascending order
 abbrev pub with_literal : Option ℤ → List ℤ → List ℤ

@@ -17,23 +17,23 @@ IsUnique = (text : List ℕ) (v w : ℕ) (c d : Code) → IsListingOf text v c �
 
 -- What is written of an object with its literals is a listing of it; without them, of the same program with the table that its
 -- instructions tell, which is the object's own exactly where they tell all of it.
-pub record IsListed (version : ℕ) (c : Code) : Type 0 where
+pub record HasListing (version : ℕ) (c : Code) : Type 0 where
   pub whole : IsListingOf (listing_with_literals version c) version c
   pub program : IsListingOf (listing version c.program) version (with_operands c)
   pub object : IsCode version (with_operands c)
   pub same : (with_operands c ≡ c) ↔ AllOperands c
 
-abbrev pub AllListed : Type 0
-AllListed = (version : ℕ) (c : Code) → IsCode version c → IsListed version c
+abbrev pub AllHaveListings : Type 0
+AllHaveListings = (version : ℕ) (c : Code) → IsCode version c → HasListing version c
 
 -- The bytes of a version and a code are the given ones. The listing with the literals is assembled as these; the listing
 -- without them, where the instructions tell the table; and else as the same program with the table that they tell.
-pub record ComesBack (bytes : List ℕ) (version : ℕ) (c : Code) : Type 0 where
+pub record Reassembles (bytes : List ℕ) (version : ℕ) (c : Code) : Type 0 where
   pub whole : assembled (listing_with_literals version c) ≡ Ok (version, c)
-  pub told : AllOperands c → assembled (listing version c.program) ≡ Ok (version, c)
+  pub reread : AllOperands c → assembled (listing version c.program) ≡ Ok (version, c)
   pub program : assembled (listing version c.program) ≡ Ok (version, with_operands c)
   pub spelling : bytes_of version c ≡ bytes
 
 -- each object comes back
 abbrev pub RoundTrips : Type 0
-RoundTrips = (bytes : List ℕ) (version : ℕ) (c : Code) → IsObject bytes version c → ComesBack bytes version c
+RoundTrips = (bytes : List ℕ) (version : ℕ) (c : Code) → IsObject bytes version c → Reassembles bytes version c

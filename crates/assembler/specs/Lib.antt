@@ -1,6 +1,6 @@
 pub mod Words
 pub mod Grammar
-pub mod Given
+pub mod Giving
 pub mod Fields
 pub mod Lines
 pub mod Found

@@ -5,7 +5,7 @@ use Rattle.tags.specs.declared.value.Origin.{Origin}
 use Rattle.tags.specs.declared.value.Origin.TheVariants.{Untold}
 use Rattle.semantics.specs.declared.program.Op.{Op}
 use Rattle.semantics.specs.Program.{Instr, CodeBlock, uses_slot}
-use Rattle.graph_file.specs.Given.{◌>>=◌}
+use Rattle.graph_file.specs.Giving.{◌>>=◌}
 use Rattle.graph_file.specs.Fields.{number_of, literal_of}
 use Rattle.assembler.specs.declared.fault.AsmFaultKind.{AsmFaultKind}
 use Rattle.assembler.specs.declared.fault.AsmFaultKind.TheVariants.{BadLine, BadNumber, BadName, BadSlot, BadDestination, BadOperand, BadOrigin}
@@ -54,7 +54,7 @@ head_from ws = do
   none ← none_from m.1
   Ok (v.0, m.0)
 
--- behind `block`: `N inputs I outputs O slots S`
+-- after `block`: `N inputs I outputs O slots S`
 unfoldable pub block_from : ℕ → List Word → Result CodeBlock AsmFaultKind
 block_from n ws = do
   rest ← count_from n ws
@@ -64,7 +64,7 @@ block_from n ws = do
   none ← none_from s.1
   Ok record { inputs = i.0; outputs = o.0; slots = s.0; instrs = [] }
 
--- behind `array`: `N LEN`
+-- after `array`: `N LEN`
 unfoldable pub array_from : ℕ → List Word → Result ℕ AsmFaultKind
 array_from n ws = do
   rest ← count_from n ws
@@ -72,7 +72,7 @@ array_from n ws = do
   none ← none_from len.1
   Ok len.0
 
--- behind `literal`: `N V`
+-- after `literal`: `N V`
 unfoldable pub literal_from : ℕ → List Word → Result ℤ AsmFaultKind
 literal_from n ws = do
   rest ← count_from n ws
@@ -87,7 +87,7 @@ origin_from [] = Ok Untold
 origin_from (w ∷ []) = ok_or (origin_of w) BadOrigin
 origin_from (w ∷ x ∷ ws) = Err BadLine
 
--- The words behind the name of an instruction. The operand says what the operation is, so it is looked at before the slot.
+-- The words after the name of an instruction. The operand says what the operation is, so it is looked at before the slot.
 unfoldable pub op_from : Word → Word → Result Op AsmFaultKind
 op_from name operand = do
   n ← ok_or (opcode_named name) BadName
@@ -105,7 +105,7 @@ tail_from ws = do
   o ← word_from e.1
   Ok (s.0, d.0, e.0, o.0, o.1)
 
--- the name of an instruction, and what stands behind it
+-- the name of an instruction, and what stands after it
 unfoldable pub named_from : Word → Tail → Result Instr AsmFaultKind
 named_from name t = do
   op ← op_from name t.3

@@ -4,7 +4,7 @@ use Rattle.std.specs.Prelude.{ℕ, ◌+◌, Bool, true, false, ℤ, List, [], �
 use Rattle.std.specs.Str.{bytes_eq}
 use Rattle.semantics.specs.Program.{Instr, CodeBlock, Code}
 use Rattle.disassembler.specs.Listing.{literal_of}
-use Rattle.graph_file.specs.Given.{◌>>=◌}
+use Rattle.graph_file.specs.Giving.{◌>>=◌}
 use Rattle.graph_file.specs.Lines.{parts}
 use Rattle.assembler.specs.declared.fault.AsmFault.{AsmFault}
 use Rattle.assembler.specs.declared.fault.AsmFaultKind.{AsmFaultKind}
@@ -13,7 +13,7 @@ use Rattle.assembler.specs.declared.found.Part.{Part}
 use Rattle.assembler.specs.declared.found.Part.TheVariants.{Head, Start, Blocks, Arrays, Literals}
 use Rattle.assembler.specs.Words.{Word, words_of}
 use Rattle.assembler.specs.Grammar.{with_literal}
-use Rattle.assembler.specs.Given.{must}
+use Rattle.assembler.specs.Giving.{must}
 use Rattle.assembler.specs.Found.{Found}
 use Rattle.assembler.specs.Lines.{word_from, head_from, block_from, array_from, literal_from, instr_from}
 
@@ -37,13 +37,13 @@ head_line f ws = do
 abbrev pub all_blocks : Found → List CodeBlock
 all_blocks f = f.blocks ++ f.last ∷ []
 
--- behind `block`, the first one
+-- after `block`, the first one
 unfoldable pub first_block : Found → List Word → Step
 first_block f ws = do
   b ← block_from 0 ws
   Ok (record f { last = b }, Blocks)
 
--- behind `block`, a later one
+-- after `block`, a later one
 unfoldable pub next_block : Found → List Word → Step
 next_block f ws = do
   b ← block_from (length f.blocks + 1) ws
@@ -67,7 +67,7 @@ instr_line f ws = do
   i ← instr_from (length f.last.instrs) ws
   Ok (record f { last = with_instr f.last i; used = with_literal (literal_of i.op) f.used }, Blocks)
 
--- which lines may stand behind a line of that part
+-- which lines may stand after a line of that part
 abbrev pub takes_array : Part → Bool
 takes_array Blocks = true
 takes_array Arrays = true
@@ -117,7 +117,7 @@ abbrev pub at_line : {A : Type 0} → ℕ → Result A AsmFaultKind → Result A
 at_line n (Ok x) = Ok x
 at_line n (Err kind) = Err record { kind = kind; line = n }
 
--- the lines behind the first n ones
+-- the lines after the first n ones
 unfoldable pub lines_from : ℕ → Found → Part → List (List ℕ) → Result (ℕ × Code) AsmFault
 lines_from n f part [] = at_line n (end_from f part)
 lines_from n f part (line ∷ lines) = at_line (n + 1) (line_from f part (words_of line)) >>= λ s. lines_from (n + 1) s.0 s.1 lines

@@ -16,7 +16,7 @@ abbrev pub front : List (List ℕ) → List ℕ
 front [] = []
 front (p ∷ ps) = p
 
--- The words of a line are parted by spaces, as many as one likes. What stands behind a `;` is not looked at.
+-- The words of a line are parted by spaces, as many as one likes. What stands after a `;` is not looked at.
 unfoldable pub words_of : List ℕ → List Word
 words_of line = kept (parts 32 (front (parts 59 line)))
 

@@ -8,7 +8,7 @@ ghost use Rattle.semantics.specs.Program as Program;
 ghost use Rattle.semantics.specs.Bytes.{IsCode};
 ghost use Rattle.assembler.specs.Grammar.{IsListingOf};
 ghost use Rattle.assembler.specs.Assembling as Assembling;
-ghost use Rattle.assembler.specs.Laws.{IsExact, IsUnique, AllListed, RoundTrips, ComesBack};
+ghost use Rattle.assembler.specs.Laws.{IsExact, IsUnique, AllHaveListings, RoundTrips, Reassembles};
 ghost use Rattle.assembler.specs.declared.fault.AsmFaultKind.TheVariants.{Memory};
 
 use crate::checks::check_code;
@@ -70,14 +70,14 @@ pub fn assemble<A: Allocator + Clone>(alloc: A, text: &[u8]) -> Result<Assembled
 pub fn one_object()
     ensures exact { IsExact }
     ensures unique { IsUnique }
-    ensures listed { AllListed }
+    ensures listing_is_whole { AllHaveListings }
     ensures round_trip { RoundTrips }
 {}
 
 /// What is listed of an object that is opened is assembled as this object: with its literals always, and without them where each
 /// of them is an operand.
-pub fn comes_back(bytes: &[u8])
-    ensures { first_refusal bytes.now ≡ None → ComesBack bytes.now (opened bytes.now).version (opened bytes.now).code }
+pub fn reassembles(bytes: &[u8])
+    ensures { first_refusal bytes.now ≡ None → Reassembles bytes.now (opened bytes.now).version (opened bytes.now).code }
 {
     let _object = Object::open(bytes);
 }

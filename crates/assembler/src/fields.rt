@@ -10,7 +10,7 @@ use semantics::program::{Dest, Op};
 use tags::token::Port;
 use tags::value::{NodeNumber, Origin};
 
-/// What stands behind a byte at the front.
+/// What stands after a byte at the front.
 #[tactic(auto, unfolding(crate::specs::Fields::tagged))]
 fn tagged(bytes: &[u8], tag: u8) -> Option<&[u8]>
     ensures { option_map (λ x. x.now) result ≡ Fields.tagged tag bytes.now }
@@ -39,7 +39,7 @@ fn wide(bytes: &[u8]) -> Option<u16>
     if n < 65_536 { Some(n as u16) } else { None }
 }
 
-/// A number below 256 behind that byte.
+/// A number below 256 after that byte.
 #[tactic(auto, unfolding(crate::specs::Fields::small_behind))]
 fn small_behind(bytes: &[u8], tag: u8) -> Option<u8>
     ensures { result ≡ Fields.small_behind tag bytes.now }
@@ -47,7 +47,7 @@ fn small_behind(bytes: &[u8], tag: u8) -> Option<u8>
     small(tagged(bytes, tag)?)
 }
 
-/// A number below 65,536 behind that byte.
+/// A number below 65,536 after that byte.
 #[tactic(auto, unfolding(crate::specs::Fields::wide_behind))]
 fn wide_behind(bytes: &[u8], tag: u8) -> Option<u16>
     ensures { result ≡ Fields.wide_behind tag bytes.now }
@@ -55,7 +55,7 @@ fn wide_behind(bytes: &[u8], tag: u8) -> Option<u16>
     wide(tagged(bytes, tag)?)
 }
 
-/// A literal behind `#`.
+/// A literal after `#`.
 #[tactic(auto, unfolding(crate::specs::Fields::literal_behind))]
 fn literal_behind(bytes: &[u8]) -> Option<i64>
     ensures { result ≡ Fields.literal_behind bytes.now }
@@ -63,7 +63,7 @@ fn literal_behind(bytes: &[u8]) -> Option<i64>
     literal(tagged(bytes, b'#')?)
 }
 
-/// A literal behind that byte and `#`.
+/// A literal after that byte and `#`.
 #[tactic(auto, unfolding(crate::specs::Fields::side_behind))]
 fn side_behind(bytes: &[u8], tag: u8) -> Option<i64>
     ensures { result ≡ Fields.side_behind tag bytes.now }
@@ -111,7 +111,7 @@ fn entry(bytes: &[u8]) -> Option<(u16, u16)>
     Some((wide(block)?, wide(entry)?))
 }
 
-/// A block and an entry behind `b`.
+/// A block and an entry after `b`.
 #[tactic(auto, unfolding(crate::specs::Fields::entry_behind))]
 fn entry_behind(bytes: &[u8]) -> Option<(u16, u16)>
     ensures { result ≡ Fields.entry_behind bytes.now }

@@ -1,7 +1,7 @@
 //! What was read of a listing so far.
 
 ghost use Rattle.std.specs.Prelude.{◌≡◌, Ok};
-ghost use Rattle.assembler.specs.Given.{Gives};
+ghost use Rattle.assembler.specs.Giving.{Gives};
 ghost use Rattle.assembler.specs.Grammar.{with_literal};
 ghost use Rattle.assembler.specs.Reading as Lines;
 

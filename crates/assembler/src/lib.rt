@@ -11,5 +11,5 @@ mod lines;
 mod reading;
 mod words;
 
-pub use assembling::{Assembled, assemble, comes_back, one_object};
+pub use assembling::{Assembled, assemble, one_object, reassembles};
 pub use fault::{AsmFault, AsmFaultKind};

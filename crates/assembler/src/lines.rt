@@ -1,7 +1,7 @@
 //! What the words of a line say.
 
 ghost use Rattle.std.specs.Prelude.{Ok, option_to_list};
-ghost use Rattle.assembler.specs.Given.{Gives};
+ghost use Rattle.assembler.specs.Giving.{Gives};
 ghost use Rattle.assembler.specs.Lines as Lines;
 
 use crate::fault::AsmFaultKind;
@@ -69,7 +69,7 @@ fn count_from<'a>(n: u64, words: Words<'a>) -> Result<Words<'a>, AsmFaultKind>
     }
 }
 
-/// A number behind this word, and the words after it.
+/// A number after this word, and the words after it.
 #[tactic(auto, unfolding(crate::specs::Lines::keyed_from))]
 fn keyed_from<'a>(key: &[u8], words: Words<'a>) -> Result<(u32, Words<'a>), AsmFaultKind>
     ensures { Gives (λ x. (x.0, x.1)) result (Lines.keyed_from key.now words.entry) }
@@ -88,7 +88,7 @@ pub(crate) fn head_from(words: Words<'_>) -> Result<(u32, u32), AsmFaultKind>
     Ok((version, main))
 }
 
-/// The block of that number, without instructions, of its line behind `block`.
+/// The block of that number, without instructions, of its line after `block`.
 #[tactic(auto, unfolding(crate::specs::Lines::block_from))]
 pub(crate) fn block_from<A: Allocator>(
     alloc: A,
@@ -110,7 +110,7 @@ pub(crate) fn block_from<A: Allocator>(
     })
 }
 
-/// The length of the array of that number, of its line behind `array`.
+/// The length of the array of that number, of its line after `array`.
 #[tactic(auto, unfolding(crate::specs::Lines::array_from))]
 pub(crate) fn array_from(n: u64, words: Words<'_>) -> Result<u32, AsmFaultKind>
     ensures { Gives (λ x. x) result (Lines.array_from n words.entry) }
@@ -121,7 +121,7 @@ pub(crate) fn array_from(n: u64, words: Words<'_>) -> Result<u32, AsmFaultKind>
     Ok(len)
 }
 
-/// The literal of that number, of its line behind `literal`.
+/// The literal of that number, of its line after `literal`.
 #[tactic(auto, unfolding(crate::specs::Lines::literal_from))]
 pub(crate) fn literal_from(n: u64, words: Words<'_>) -> Result<i64, AsmFaultKind>
     ensures { Gives (λ x. x) result (Lines.literal_from n words.entry) }
@@ -156,7 +156,7 @@ fn op_from(name: &[u8], operand: &[u8]) -> Result<Op, AsmFaultKind>
     op_of(name, operand).ok_or(AsmFaultKind::BadOperand)
 }
 
-/// What stands behind the name of an instruction: slot, both destinations, operand, and the words that are left.
+/// What stands after the name of an instruction: slot, both destinations, operand, and the words that are left.
 #[derive(Drop)]
 struct Tail<'a> {
     slot: &'a [u8],
@@ -194,7 +194,7 @@ fn dests_of<A: Allocator>(alloc: A, dest: Option<Dest>) -> Result<Vec<Dest, A>, 
     Ok(dests)
 }
 
-/// The instruction of that name, with what stands behind it.
+/// The instruction of that name, with what stands after it.
 #[tactic(auto, unfolding(crate::specs::Lines::named_from))]
 fn named_from<A: Allocator + Clone>(
     alloc: A,

@@ -9,7 +9,7 @@ use Rattle.semantics.specs.declared.program.Op.TheVariants.{Fetch, Store, Link, 
 use Rattle.semantics.specs.Program.{Instr, CodeBlock, Program}
 use Rattle.semantics.specs.Plan.{Plan, HasShape, landing}
 use Rattle.semantics.specs.Bytes.{IsDest}
-use Rattle.semantics.specs.Wired.{StandsAt, IsWired}
+use Rattle.semantics.specs.Wired.{IsInstrAt, IsWired}
 
 -- INSTRUCTIONS. What the operand names is there, and is within its range; any literal may stand.
 abbrev pub NamesRightly : Program → Op → Type 0
@@ -47,7 +47,7 @@ pub record IsSoundBlock (p : Program) (c : CodeBlock) : Type 0 where
   pub inputs : (1 ≤ c.inputs) × (c.inputs ≤ 16)
   pub outputs : (1 ≤ c.outputs) × (c.outputs ≤ 16)
   pub size : c.inputs + 1 ≤ length c.instrs
-  pub instrs : (n : ℕ) (i : Instr) → StandsAt c n i → IsSoundInstr p i
+  pub instrs : (n : ℕ) (i : Instr) → IsInstrAt c n i → IsSoundInstr p i
 
 pub record IsSoundProgram (p : Program) : Type 0 where
   pub some_block : (1 ≤ length p.blocks) × (length p.blocks ≤ 512)
@@ -61,13 +61,13 @@ pub record IsSoundProgram (p : Program) : Type 0 where
 pub record NamesDest (p : Plan) (b n : ℕ) (c : CodeBlock) (d : Dest) : Type 0 where
   pub i : Instr
   pub block : slice_get p.program.blocks b ≡ Some c
-  pub there : StandsAt c n i
+  pub there : IsInstrAt c n i
   pub named : Contains (i.firsts ++ i.seconds) d
 
 -- The instruction at place n stands in the landing of the link at place m, and is not its last one.
 pub record IsInLanding (p : Plan) (c : CodeBlock) (m n : ℕ) : Type 0 where
   pub link : Instr
-  pub there : StandsAt c m link
+  pub there : IsInstrAt c m link
   pub block : ℕ
   pub links : link.op ≡ Link block
   pub dest : Dest

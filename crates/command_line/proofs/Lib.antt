@@ -1,3 +1,3 @@
 pub mod WordForms
 pub mod Walks
-pub mod Listed
+pub mod Included

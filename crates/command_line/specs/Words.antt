@@ -17,7 +17,7 @@ use Rattle.command_line.specs.declared.Request.{Request}
 use Rattle.command_line.specs.declared.RunOptions.{RunOptions}
 use Rattle.command_line.specs.declared.Topic.{Topic}
 use Rattle.command_line.specs.declared.inputs.Inputs.{Inputs}
-use Rattle.command_line.specs.declared.options.Given.{Given}
+use Rattle.command_line.specs.declared.options.Collected.{Collected}
 use Rattle.command_line.specs.declared.options.OptionName.{OptionName}
 use Rattle.command_line.specs.declared.options.Step.{Step}
 use Rattle.command_line.specs.declared.sizes.Sizes.{Sizes}
@@ -99,7 +99,7 @@ takes_inputs Command.Exec = true
 takes_inputs c = false
 
 -- how to run: what was not given has its default
-abbrev pub run_options : Given → RunOptions
+abbrev pub run_options : Collected → RunOptions
 run_options g = record {
   elements = unwrap_or g.elements 1;
   frames = unwrap_or g.frames 256;
@@ -112,7 +112,7 @@ abbrev pub usual_sizes : Sizes
 usual_sizes = record { bits = 65814 }
 
 -- the request of a command with these options and inputs
-abbrev pub request_of : Command → Given → Inputs → Request
+abbrev pub request_of : Command → Collected → Inputs → Request
 request_of Command.Run g ins = Request.Run (run_options g)
 request_of Command.Mean g ins = Request.Mean (unwrap_or g.steps 1000000)
 request_of Command.Check g ins = Request.Check
@@ -127,7 +127,7 @@ request_of Command.Profile g ins = Request.Profile (run_options g) (unwrap_or g.
 request_of Command.Orders g ins = Request.Orders (run_options g) (unwrap_or g.count 100) (unwrap_or g.seed 1)
 request_of Command.Lower g ins = Request.Lower g.lowering
 
--- what stands before the first c, and what stands behind it, if there is one
+-- what stands before the first c, and what stands after it, if there is one
 abbrev pub parts_at : ℕ → Text → Text × Option Text
 parts_at c text = (
   before_first (λ x. x == c) text,
@@ -193,7 +193,7 @@ abbrev pub first_sizes : Option Sizes → Text → Option Sizes
 first_sizes (Some before) value = None
 first_sizes None value = sizes_from (record { bits = 0 }) 64 value
 
-abbrev pub with_option : Given → OptionName → Text → Option Given
+abbrev pub with_option : Collected → OptionName → Text → Option Collected
 with_option g OptionName.Elements value = option_map (λ n. record g { elements = Some n }) (first_number g.elements value)
 with_option g OptionName.Frames value = option_map (λ n. record g { frames = Some n }) (first_number g.frames value)
 with_option g OptionName.Steps value = option_map (λ n. record g { steps = Some n }) (first_number g.steps value)
@@ -245,31 +245,31 @@ abbrev pub long_of : Text → Option (Text × Option Text)
 long_of word = option_map (parts_at 61) (option_and_then (after 45) (after 45 word))
 
 -- ONE WORD AFTER A COMMAND, where this was given before it
-abbrev pub valued : Given → OptionName → Text → Step
+abbrev pub valued : Collected → OptionName → Text → Step
 valued g o value = option_map_or (λ more. Step.Next more None) (with_option g o value) Step.Mistake
 
 -- `literals`, `code`, `svg` and `map` have no value, and may be given once; each other option waits for the next word
-abbrev pub literals_listed : Given → Literals → Step
-literals_listed g Literals.Listed = Step.Mistake
-literals_listed g Literals.LeftOut = Step.Next (record g { literals = Literals.Listed }) None
+abbrev pub literals_included : Collected → Literals → Step
+literals_included g Literals.Included = Step.Mistake
+literals_included g Literals.Omitted = Step.Next (record g { literals = Literals.Included }) None
 
-abbrev pub map_asked : Given → Lowering → Step
+abbrev pub map_asked : Collected → Lowering → Step
 map_asked g Lowering.Map = Step.Mistake
 map_asked g Lowering.Graph = Step.Next (record g { lowering = Lowering.Map }) None
 
-abbrev pub without_value : Given → OptionName → Step
-without_value g OptionName.Literals = literals_listed g g.literals
+abbrev pub without_value : Collected → OptionName → Step
+without_value g OptionName.Literals = literals_included g g.literals
 without_value g OptionName.Code = if g.code then Step.Mistake else Step.Next (record g { code = true }) None
 without_value g OptionName.Svg = if g.svg then Step.Mistake else Step.Next (record g { svg = true }) None
 without_value g OptionName.Map = map_asked g g.lowering
 without_value g o = Step.Next g (Some o)
 
--- the option has its value behind `=`, or none there
-abbrev pub named : Given → OptionName → Option Text → Step
+-- the option has its value after `=`, or none there
+abbrev pub named : Collected → OptionName → Option Text → Step
 named g o (Some value) = valued g o value
 named g o None = without_value g o
 
-abbrev pub option_met : Command → Given → Text → Option Text → Step
+abbrev pub option_met : Command → Collected → Text → Option Text → Step
 option_met c g name value =
     option_map_or (λ o. if takes c (option_of c o) then named g (option_of c o) value else Step.Mistake) (option_named name) Step.Mistake
 
@@ -277,20 +277,20 @@ option_met c g name value =
 abbrev pub plain_met : Command → Text → Step
 plain_met c word = if is_flag word then Step.Mistake else (if takes_inputs c then Step.Input else Step.Mistake)
 
-abbrev pub flag_met : Command → Given → Text → Step
+abbrev pub flag_met : Command → Collected → Text → Step
 flag_met c g word =
     if bytes_eq word (codes "--") then Step.End
     else (if asks_help word then Step.Help
     else option_map_or (λ p. option_met c g p.0 p.1) (long_of word) (plain_met c word))
 
 -- the value of an option that waits is no flag
-abbrev pub word_met : Command → Given → Option OptionName → Text → Step
+abbrev pub word_met : Command → Collected → Option OptionName → Text → Step
 word_met c g None word = flag_met c g word
 word_met c g (Some o) word = if is_flag word then Step.Mistake else valued g o word
 
 -- ALL WORDS AFTER A COMMAND
 -- no word is left: a request, unless an option waits
-abbrev pub ended : Command → Given → Inputs → Option OptionName → Asked
+abbrev pub ended : Command → Collected → Inputs → Option OptionName → Asked
 ended c g ins None = Asked.Request (request_of c g ins)
 ended c g ins (Some o) = Asked.Mistake
 
@@ -299,12 +299,12 @@ unfoldable pub with_inputs : Inputs → List Text → Inputs
 with_inputs ins [] = ins
 with_inputs ins (word ∷ rest) = with_inputs (with_input ins word) rest
 
--- behind `--` stands nothing but inputs
-abbrev pub after_end : Command → Given → Inputs → List Text → Asked
+-- after `--` stands nothing but inputs
+abbrev pub after_end : Command → Collected → Inputs → List Text → Asked
 after_end c g ins [] = Asked.Request (request_of c g ins)
 after_end c g ins (word ∷ rest) = if takes_inputs c then Asked.Request (request_of c g (with_inputs ins (word ∷ rest))) else Asked.Mistake
 
-abbrev pub after_step : Command → Given → Inputs → Step → Text → List Text → (Given → Inputs → Option OptionName → Asked) → Asked
+abbrev pub after_step : Command → Collected → Inputs → Step → Text → List Text → (Collected → Inputs → Option OptionName → Asked) → Asked
 after_step c g ins (Step.Next more waiting) word rest go = go more ins waiting
 after_step c g ins Step.Input word rest go = go g (with_input ins word) None
 after_step c g ins Step.Help word rest go = Asked.Help (Topic.Of c)
@@ -312,18 +312,18 @@ after_step c g ins Step.End word rest go = after_end c g ins rest
 after_step c g ins Step.Mistake word rest go = Asked.Mistake
 
 -- the options and the inputs so far, and the option that waits for its value
-unfoldable pub asked_of : Command → Given → Inputs → Option OptionName → List Text → Asked
+unfoldable pub asked_of : Command → Collected → Inputs → Option OptionName → List Text → Asked
 asked_of c g ins waiting [] = ended c g ins waiting
 asked_of c g ins waiting (word ∷ rest) =
     after_step c g ins (word_met c g waiting word) word rest (λ more all waits. asked_of c more all waits rest)
 
-abbrev pub nothing : Given
+abbrev pub nothing : Collected
 nothing = record {
   elements = None;
   frames = None;
   steps = None;
   mode = None;
-  literals = Literals.LeftOut;
+  literals = Literals.Omitted;
   code = false;
   last = None;
   format = None;
@@ -360,4 +360,4 @@ asked (word ∷ rest) =
 
 -- what `--version` prints: the version, and the kit that the program is made with
 abbrev pub version_line : Text
-version_line = codes "ets 0.2.0 (rattle-kit-13f)" ++ 10 ∷ []
+version_line = codes "ets 0.3.0 (rattle-kit-13f)" ++ 10 ∷ []

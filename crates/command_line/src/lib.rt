@@ -10,7 +10,7 @@ mod sizes;
 
 pub use inputs::Inputs;
 use options::{
-    Given, OptionName, Step, asks_help, asks_version, request_of, takes_inputs, word_met,
+    Collected, OptionName, Step, asks_help, asks_version, request_of, takes_inputs, word_met,
 };
 pub use sizes::Sizes;
 use std::convert::AsStr;
@@ -76,11 +76,11 @@ pub enum Lowering {
     Map,
 }
 
-/// Whether the table of literals stands behind a listing.
+/// Whether the table of literals stands after a listing.
 #[derive(Clone, Copy, Debug, PartialEq, Eq)]
 pub enum Literals {
-    LeftOut,
-    Listed,
+    Omitted,
+    Included,
 }
 
 /// How a trace is written.
@@ -194,11 +194,16 @@ fn command_named(word: &str) -> Option<Command>
 }
 
 /// What is asked for where no word is left.
-fn ended(command: Command, given: Given, inputs: Inputs, waiting: Option<OptionName>) -> Asked
-    ensures { result ≡ ended command given inputs waiting }
+fn ended(
+    command: Command,
+    collected: Collected,
+    inputs: Inputs,
+    waiting: Option<OptionName>,
+) -> Asked
+    ensures { result ≡ ended command collected inputs waiting }
 {
     match waiting {
-        None => Asked::Request(request_of(command, given, inputs)),
+        None => Asked::Request(request_of(command, collected, inputs)),
         Some(_option) => Asked::Mistake,
     }
 }
@@ -214,15 +219,15 @@ fn with_inputs<S: AsStr>(inputs: Inputs, words: &[S]) -> Inputs
     all
 }
 
-/// What is asked for where these words stand behind `--`.
-fn after_end<S: AsStr>(command: Command, given: Given, inputs: Inputs, words: &[S]) -> Asked
-    ensures { result ≡ after_end command given inputs (map S.text words.now) }
+/// What is asked for where these words stand after `--`.
+fn after_end<S: AsStr>(command: Command, collected: Collected, inputs: Inputs, words: &[S]) -> Asked
+    ensures { result ≡ after_end command collected inputs (map S.text words.now) }
 {
     if words.is_empty() {
-        Asked::Request(request_of(command, given, inputs))
+        Asked::Request(request_of(command, collected, inputs))
     } else if takes_inputs(command) {
         let inputs = with_inputs(inputs, words);
-        Asked::Request(request_of(command, given, inputs))
+        Asked::Request(request_of(command, collected, inputs))
     } else {
         Asked::Mistake
     }
@@ -232,13 +237,13 @@ fn after_end<S: AsStr>(command: Command, given: Given, inputs: Inputs, words: &[
 fn read_options<S: AsStr>(command: Command, words: &[S]) -> Asked
     ensures { result ≡ asked_of command nothing no_inputs None (map S.text words.now) }
 {
-    let mut given = Given::nothing();
+    let mut collected = Collected::nothing();
     let mut inputs = Inputs::none();
     let mut waiting = None;
     for (i, word) in words.iter().enumerate() {
-        match word_met(command, given, waiting, word.as_str()) {
+        match word_met(command, collected, waiting, word.as_str()) {
             Step::Next(more, waits) => {
-                given = more;
+                collected = more;
                 waiting = waits;
             }
             Step::Input => {
@@ -246,11 +251,11 @@ fn read_options<S: AsStr>(command: Command, words: &[S]) -> Asked
                 waiting = None;
             }
             Step::Help => return Asked::Help(Topic::Of(command)),
-            Step::End => return after_end(command, given, inputs, &words[i + 1..]),
+            Step::End => return after_end(command, collected, inputs, &words[i + 1..]),
             Step::Mistake => return Asked::Mistake,
         }
     }
-    ended(command, given, inputs, waiting)
+    ended(command, collected, inputs, waiting)
 }
 
 fn topic_named(word: &str) -> Asked
@@ -308,5 +313,5 @@ pub fn read_words<S: AsStr>(words: &[S]) -> Asked
 pub fn version_line() -> &'static [u8]
     ensures { result.now ≡ version_line }
 {
-    b"ets 0.2.0 (rattle-kit-13f)\n"
+    b"ets 0.3.0 (rattle-kit-13f)\n"
 }

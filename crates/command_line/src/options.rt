@@ -1,7 +1,7 @@
 //! The options of a command, and what one word after it says.
 
 ghost use Rattle.std.specs.Prelude.{◌≡◌, ◌<◌, option_map};
-ghost use Rattle.command_line.specs.Words.{after, asks_help, asks_version, first_mode, first_format, first_number, first_sizes, flag_met, format_named, is_flag, is_short, literals_listed, long_of, map_asked, mode_named, named, nothing, number_of, option_met, option_named, option_of, parts_at, plain_met, request_of, run_options, says_how_to_run, sizes_from, takes, takes_inputs, usual_sizes, valued, with_option, without_value, word_met};
+ghost use Rattle.command_line.specs.Words.{after, asks_help, asks_version, first_mode, first_format, first_number, first_sizes, flag_met, format_named, is_flag, is_short, literals_included, long_of, map_asked, mode_named, named, nothing, number_of, option_met, option_named, option_of, parts_at, plain_met, request_of, run_options, says_how_to_run, sizes_from, takes, takes_inputs, usual_sizes, valued, with_option, without_value, word_met};
 
 use crate::{
     Command, EventFormat, Format, Inputs, Literals, Lowering, Mode, Request, RunOptions, Sizes,
@@ -32,7 +32,7 @@ pub(crate) enum OptionName {
 
 /// The options that were given so far.
 #[derive(Clone, Copy, Debug)]
-pub(crate) struct Given {
+pub(crate) struct Collected {
     pub(crate) elements: Option<u64>,
     pub(crate) frames: Option<u64>,
     pub(crate) steps: Option<u64>,
@@ -53,7 +53,7 @@ pub(crate) struct Given {
 #[derive(Clone, Copy, Debug)]
 pub(crate) enum Step {
     /// The options with this word, and the option that waits for its value.
-    Next(Given, Option<OptionName>),
+    Next(Collected, Option<OptionName>),
     /// The word is an input.
     Input,
     Help,
@@ -62,16 +62,16 @@ pub(crate) enum Step {
     Mistake,
 }
 
-impl Given {
-    pub(crate) fn nothing() -> Given
+impl Collected {
+    pub(crate) fn nothing() -> Collected
         ensures { result ≡ nothing }
     {
-        Given {
+        Collected {
             elements: None,
             frames: None,
             steps: None,
             mode: None,
-            literals: Literals::LeftOut,
+            literals: Literals::Omitted,
             code: false,
             last: None,
             format: None,
@@ -84,43 +84,43 @@ impl Given {
     }
 
     /// With the option too, unless the value is no value of it or it was given before.
-    fn with_option(self, option: OptionName, value: &str) -> Option<Given>
+    fn with_option(self, option: OptionName, value: &str) -> Option<Collected>
         ensures { result ≡ with_option self option value.now }
     {
         match option {
-            OptionName::Elements => Some(Given {
+            OptionName::Elements => Some(Collected {
                 elements: Some(first_number(self.elements, value)?),
                 ..self
             }),
-            OptionName::Frames => Some(Given {
+            OptionName::Frames => Some(Collected {
                 frames: Some(first_number(self.frames, value)?),
                 ..self
             }),
-            OptionName::Steps => Some(Given {
+            OptionName::Steps => Some(Collected {
                 steps: Some(first_number(self.steps, value)?),
                 ..self
             }),
-            OptionName::Mode => Some(Given {
+            OptionName::Mode => Some(Collected {
                 mode: Some(first_mode(self.mode, value)?),
                 ..self
             }),
-            OptionName::Last => Some(Given {
+            OptionName::Last => Some(Collected {
                 last: Some(first_number(self.last, value)?),
                 ..self
             }),
-            OptionName::Count => Some(Given {
+            OptionName::Count => Some(Collected {
                 count: Some(first_number(self.count, value)?),
                 ..self
             }),
-            OptionName::Seed => Some(Given {
+            OptionName::Seed => Some(Collected {
                 seed: Some(first_number(self.seed, value)?),
                 ..self
             }),
-            OptionName::Format => Some(Given {
+            OptionName::Format => Some(Collected {
                 format: Some(first_format(self.format, value)?),
                 ..self
             }),
-            OptionName::Sizes => Some(Given {
+            OptionName::Sizes => Some(Collected {
                 sizes: Some(first_sizes(self.sizes, value)?),
                 ..self
             }),
@@ -308,54 +308,58 @@ pub(crate) fn takes_inputs(command: Command) -> bool
 }
 
 /// How to run: what was not given has its default.
-fn run_options(given: Given) -> RunOptions
-    ensures { result ≡ run_options given }
+fn run_options(collected: Collected) -> RunOptions
+    ensures { result ≡ run_options collected }
 {
     RunOptions {
-        elements: given.elements.unwrap_or(1),
-        frames: given.frames.unwrap_or(256),
-        steps: given.steps.unwrap_or(1_000_000),
-        mode: given.mode.unwrap_or(Some(Mode::One)),
+        elements: collected.elements.unwrap_or(1),
+        frames: collected.frames.unwrap_or(256),
+        steps: collected.steps.unwrap_or(1_000_000),
+        mode: collected.mode.unwrap_or(Some(Mode::One)),
     }
 }
 
 /// The request of the command with these options and inputs: what was not given has its default.
-pub(crate) fn request_of(command: Command, given: Given, inputs: Inputs) -> Request
-    ensures { result ≡ request_of command given inputs }
+pub(crate) fn request_of(command: Command, collected: Collected, inputs: Inputs) -> Request
+    ensures { result ≡ request_of command collected inputs }
 {
     match command {
-        Command::Run => Request::Run(run_options(given)),
+        Command::Run => Request::Run(run_options(collected)),
         Command::Mean => Request::Mean {
-            steps: given.steps.unwrap_or(1_000_000),
+            steps: collected.steps.unwrap_or(1_000_000),
         },
         Command::Check => Request::Check,
         Command::Compile => Request::Compile,
         Command::Dis => Request::Dis {
-            literals: given.literals,
+            literals: collected.literals,
         },
         Command::Upgrade => Request::Upgrade,
-        Command::Dot => Request::Dot { code: given.code },
+        Command::Dot => Request::Dot {
+            code: collected.code,
+        },
         Command::Exec => Request::Exec {
-            options: run_options(given),
+            options: run_options(collected),
             inputs,
         },
         Command::Asm => Request::Asm,
         Command::Trace => Request::Trace {
-            options: run_options(given),
-            last: given.last,
-            format: given.format.unwrap_or(Format::Events(EventFormat::Lines)),
+            options: run_options(collected),
+            last: collected.last,
+            format: collected
+                .format
+                .unwrap_or(Format::Events(EventFormat::Lines)),
         },
         Command::Profile => Request::Profile {
-            options: run_options(given),
-            sizes: given.sizes.unwrap_or(Sizes::usual()),
-            svg: given.svg,
+            options: run_options(collected),
+            sizes: collected.sizes.unwrap_or(Sizes::usual()),
+            svg: collected.svg,
         },
         Command::Orders => Request::Orders {
-            options: run_options(given),
-            count: given.count.unwrap_or(100),
-            seed: given.seed.unwrap_or(1),
+            options: run_options(collected),
+            count: collected.count.unwrap_or(100),
+            seed: collected.seed.unwrap_or(1),
         },
-        Command::Lower => Request::Lower(given.lowering),
+        Command::Lower => Request::Lower(collected.lowering),
     }
 }
 
@@ -419,25 +423,25 @@ fn long_of(word: &str) -> Option<(&str, Option<&str>)>
     Some(parts_at('=', rest))
 }
 
-fn valued(given: Given, option: OptionName, value: &str) -> Step
-    ensures { result ≡ valued given option value.now }
+fn valued(collected: Collected, option: OptionName, value: &str) -> Step
+    ensures { result ≡ valued collected option value.now }
 {
-    match given.with_option(option, value) {
+    match collected.with_option(option, value) {
         Some(more) => Step::Next(more, None),
         None => Step::Mistake,
     }
 }
 
 /// The option `--literals`, which may be given once.
-fn literals_listed(given: Given) -> Step
-    ensures { result ≡ literals_listed given given.literals }
+fn literals_included(collected: Collected) -> Step
+    ensures { result ≡ literals_included collected collected.literals }
 {
-    match given.literals {
-        Literals::Listed => Step::Mistake,
-        Literals::LeftOut => Step::Next(
-            Given {
-                literals: Literals::Listed,
-                ..given
+    match collected.literals {
+        Literals::Included => Step::Mistake,
+        Literals::Omitted => Step::Next(
+            Collected {
+                literals: Literals::Included,
+                ..collected
             },
             None,
         ),
@@ -445,15 +449,15 @@ fn literals_listed(given: Given) -> Step
 }
 
 /// The option `--map`, which may be given once.
-fn map_asked(given: Given) -> Step
-    ensures { result ≡ map_asked given given.lowering }
+fn map_asked(collected: Collected) -> Step
+    ensures { result ≡ map_asked collected collected.lowering }
 {
-    match given.lowering {
+    match collected.lowering {
         Lowering::Map => Step::Mistake,
         Lowering::Graph => Step::Next(
-            Given {
+            Collected {
                 lowering: Lowering::Map,
-                ..given
+                ..collected
             },
             None,
         ),
@@ -461,41 +465,47 @@ fn map_asked(given: Given) -> Step
 }
 
 /// The option where no `=` follows its name.
-fn without_value(given: Given, option: OptionName) -> Step
-    ensures { result ≡ without_value given option }
+fn without_value(collected: Collected, option: OptionName) -> Step
+    ensures { result ≡ without_value collected option }
 {
     match option {
-        OptionName::Literals => literals_listed(given),
-        OptionName::Code if given.code => Step::Mistake,
+        OptionName::Literals => literals_included(collected),
+        OptionName::Code if collected.code => Step::Mistake,
         OptionName::Code => Step::Next(
-            Given {
+            Collected {
                 code: true,
-                ..given
+                ..collected
             },
             None,
         ),
-        OptionName::Svg if given.svg => Step::Mistake,
-        OptionName::Svg => Step::Next(Given { svg: true, ..given }, None),
-        OptionName::Map => map_asked(given),
-        option => Step::Next(given, Some(option)),
+        OptionName::Svg if collected.svg => Step::Mistake,
+        OptionName::Svg => Step::Next(
+            Collected {
+                svg: true,
+                ..collected
+            },
+            None,
+        ),
+        OptionName::Map => map_asked(collected),
+        option => Step::Next(collected, Some(option)),
     }
 }
 
-fn named(given: Given, option: OptionName, value: Option<&str>) -> Step
-    ensures { result ≡ named given option (option_map (λ s. s.now) value.entry) }
+fn named(collected: Collected, option: OptionName, value: Option<&str>) -> Step
+    ensures { result ≡ named collected option (option_map (λ s. s.now) value.entry) }
 {
     match value {
-        Some(value) => valued(given, option, value),
-        None => without_value(given, option),
+        Some(value) => valued(collected, option, value),
+        None => without_value(collected, option),
     }
 }
 
-fn option_met(command: Command, given: Given, name: &str, value: Option<&str>) -> Step
-    ensures { result ≡ option_met command given name.now (option_map (λ s. s.now) value.entry) }
+fn option_met(command: Command, collected: Collected, name: &str, value: Option<&str>) -> Step
+    ensures { result ≡ option_met command collected name.now (option_map (λ s. s.now) value.entry) }
 {
     match option_named(name) {
         Some(option) if takes(command, option_of(command, option)) => {
-            named(given, option_of(command, option), value)
+            named(collected, option_of(command, option), value)
         }
         _ => Step::Mistake,
     }
@@ -513,8 +523,8 @@ fn plain_met(command: Command, word: &str) -> Step
 }
 
 /// A word where no option waits for its value.
-fn flag_met(command: Command, given: Given, word: &str) -> Step
-    ensures { result ≡ flag_met command given word.now }
+fn flag_met(command: Command, collected: Collected, word: &str) -> Step
+    ensures { result ≡ flag_met command collected word.now }
 {
     if word == "--" {
         return Step::End;
@@ -523,7 +533,7 @@ fn flag_met(command: Command, given: Given, word: &str) -> Step
         return Step::Help;
     }
     match long_of(word) {
-        Some((name, value)) => option_met(command, given, name, value),
+        Some((name, value)) => option_met(command, collected, name, value),
         None => plain_met(command, word),
     }
 }
@@ -531,15 +541,15 @@ fn flag_met(command: Command, given: Given, word: &str) -> Step
 /// What the next word says. The value of an option that waits is no flag.
 pub(crate) fn word_met(
     command: Command,
-    given: Given,
+    collected: Collected,
     waiting: Option<OptionName>,
     word: &str,
 ) -> Step
-    ensures { result ≡ word_met command given waiting word.now }
+    ensures { result ≡ word_met command collected waiting word.now }
 {
     match waiting {
-        None => flag_met(command, given, word),
+        None => flag_met(command, collected, word),
         Some(_option) if is_flag(word) => Step::Mistake,
-        Some(option) => valued(given, option, word),
+        Some(option) => valued(collected, option, word),
     }
 }

@@ -4,6 +4,6 @@ mod Drawn
 mod PlayedOn
 mod OrderRuns
 mod Decided
-mod Givens
+mod Feeds
 mod Agreeing
 mod Rowed

@@ -5,7 +5,7 @@ use Rattle.element.specs.declared.lane.Stepped.{Stepped}
 use Rattle.element.specs.declared.lane.Stepped.TheVariants.{Idle, Did, Clash, Stuck, Memory}
 use Rattle.schedule.specs.declared.halt.Halt.{Halt}
 use Rattle.schedule.specs.State.{State}
-use Rattle.schedule.specs.Runs.{Kept, Advances, IsHalt, NamesCell, Plays, Then}
+use Rattle.schedule.specs.Runs.{SoFar, Advances, IsHalt, NamesCell, Plays, Then}
 use Rattle.commands.specs.Agreed.{most_picks}
 use Rattle.commands.specs.Ordered.{number_after, picks_from}
 use Rattle.commands.specs.Played.{PlaysDrawn}
@@ -32,18 +32,18 @@ plays_on (a ∷ p) q s mid last halt first later (next, now, after, why, advance
     by (Some w) x then_on go = absurd (never_used_up x.answer next w x.halts (sym then_on.1))
 
 -- What was played so far, by that many times 4096 picks: what is played from there on is played from the start.
-pub record PlayedSo (elements first time : ℕ) (old now : Kept) : Type 0 where
+pub record PlayedSo (elements first time : ℕ) (old now : SoFar) : Type 0 where
   pub made : Events
   pub events : now.events ≡ old.events ++ made
   pub on : (q : List (ℕ × ℕ)) (last : State) (halt : Halt) (later : Events) → Plays true q now.state last halt later → Plays true (picks_from elements (4096 * time) first ++ q) old.state last halt (made ++ later)
   pub setting : now.state.setting ≡ old.state.setting
 
-module _ (elements first : ℕ) (old : Kept) where
+module _ (elements first : ℕ) (old : SoFar) where
   pub begin : PlayedSo elements first 0 old old
   unfolding picks_from
   begin = record { made = []; events = sym (append-nil old.events); on = λ q last halt later h. h; setting = refl }
 
-  module _ (time number : ℕ) (now new : Kept) (so : PlayedSo elements first time old now) (at : number ≡ number_after (4096 * time) first)
+  module _ (time number : ℕ) (now new : SoFar) (so : PlayedSo elements first time old now) (at : number ≡ number_after (4096 * time) first)
       (picks : List (ℕ × ℕ)) (drawn : picks ≡ picks_from elements 4096 number) (made : Events) (events : new.events ≡ now.events ++ made) where
     joined : picks_from elements (4096 * time) first ++ picks ≡ picks_from elements (4096 * time + 4096) first
     joined = ap (λ (l : List (ℕ × ℕ)). picks_from elements (4096 * time) first ++ l) (drawn ∙ ap (λ (n : ℕ). picks_from elements 4096 n) at) ∙ sym (picks_joined elements (4096 * time) 4096 first)
@@ -88,7 +88,7 @@ module _ (elements first : ℕ) (old : Kept) where
       is ∙ ap (λ (n : ℕ). number_after 4096 n) at ∙ sym (after_joined (4096 * time) 4096 first) ∙ ap (λ (n : ℕ). number_after n first) more
 
   -- all that can be drawn were drawn
-  pub used_up : (time : ℕ) (now new : Kept) → PlayedSo elements first time old now → 4096 * time ≡ most_picks → (halt : Halt) (picks : List (ℕ × ℕ)) → picks ≡ [] → (made : Events) → new.events ≡ now.events ++ made
+  pub used_up : (time : ℕ) (now new : SoFar) → PlayedSo elements first time old now → 4096 * time ≡ most_picks → (halt : Halt) (picks : List (ℕ × ℕ)) → picks ≡ [] → (made : Events) → new.events ≡ now.events ++ made
       → Plays true picks now.state new.state halt made → NamesCell new.state.setting.program halt → PlaysDrawn elements first old new halt
   used_up time now new so all halt picks none made events plays cell = record {
     count = 4096 * time;

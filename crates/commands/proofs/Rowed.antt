@@ -12,7 +12,7 @@ use Rattle.driver.specs.Refused.{IsGoodText}
 use Rattle.driver.proofs.TextObjects.{too_large_to_run}
 use Rattle.outcomes.specs.declared.refusal.Refusal.{Refusal}
 use Rattle.commands.specs.Profiled.{AreRows, IsChosen, IsNoRow, IsRow, config_with, sizes_below}
-use Rattle.commands.specs.Refusals.{told_as}
+use Rattle.commands.specs.Refusals.{refused_as}
 
 with_row : (text : List ℕ) (inputs : List ℤ) (o : RunOptions) (ns : List ℕ) (rows : List MachineRow) (n : ℕ) (row : MachineRow) → AreRows text inputs o ns rows → IsRow text inputs o n row
     → AreRows text inputs o (ns ++ n ∷ []) (rows ++ row ∷ [])
@@ -23,11 +23,11 @@ with_row text inputs o (m ∷ ns) (x ∷ rows) n row so_far is = (so_far.0, with
 
 there : (z : Sizes) (n : ℕ) (has : Bool) → has ≡ has_size z n → has ≡ true → sizes_below z (suc n) ≡ sizes_below z n ++ n ∷ []
 unfolding sizes_below
-there z n has tells is = ap (λ (b : Bool). sizes_below z n ++ (if b then n ∷ [] else [])) (sym tells ∙ is)
+there z n has truth is = ap (λ (b : Bool). sizes_below z n ++ (if b then n ∷ [] else [])) (sym truth ∙ is)
 
 absent : (z : Sizes) (n : ℕ) (has : Bool) → has ≡ has_size z n → has ≡ false → sizes_below z (suc n) ≡ sizes_below z n
 unfolding sizes_below
-absent z n has tells is = ap (λ (b : Bool). sizes_below z n ++ (if b then n ∷ [] else [])) (sym tells ∙ is) ∙ append-nil (sizes_below z n)
+absent z n has truth is = ap (λ (b : Bool). sizes_below z n ++ (if b then n ∷ [] else [])) (sym truth ∙ is) ∙ append-nil (sizes_below z n)
 
 module _ (text : List ℕ) (inputs : List ℤ) (o : RunOptions) (z : Sizes) where
   pub no_rows : (rows : List MachineRow) → rows ≡ [] → AreRows text inputs o (sizes_below z 0) rows
@@ -36,15 +36,15 @@ module _ (text : List ℕ) (inputs : List ℤ) (o : RunOptions) (z : Sizes) wher
 
   pub row_more : (n : ℕ) (rows all : List MachineRow) (row : MachineRow) (has : Bool) → has ≡ has_size z n → has ≡ true → AreRows text inputs o (sizes_below z n) rows → IsRow text inputs o n row
       → all ≡ rows ++ row ∷ [] → AreRows text inputs o (sizes_below z (n + 1)) all
-  row_more n rows all row has tells has_it so_far is pushed =
+  row_more n rows all row has truth has_it so_far is pushed =
       subst (λ (l : List MachineRow). AreRows text inputs o (sizes_below z (n + 1)) l) (sym pushed)
-      (subst (λ (ns : List ℕ). AreRows text inputs o ns (rows ++ row ∷ [])) (sym (ap (λ (m : ℕ). sizes_below z m) (add-one n) ∙ there z n has tells has_it)) (with_row text inputs o (sizes_below z n) rows n row so_far is))
+      (subst (λ (ns : List ℕ). AreRows text inputs o ns (rows ++ row ∷ [])) (sym (ap (λ (m : ℕ). sizes_below z m) (add-one n) ∙ there z n has truth has_it)) (with_row text inputs o (sizes_below z n) rows n row so_far is))
 
   pub no_row_more : (n : ℕ) (rows all : List MachineRow) (has : Bool) → has ≡ has_size z n → has ≡ false → AreRows text inputs o (sizes_below z n) rows → all ≡ rows
       → AreRows text inputs o (sizes_below z (n + 1)) all
-  no_row_more n rows all has tells has_none so_far same =
+  no_row_more n rows all has truth has_none so_far same =
       subst (λ (l : List MachineRow). AreRows text inputs o (sizes_below z (n + 1)) l) (sym same)
-      (subst (λ (ns : List ℕ). AreRows text inputs o ns rows) (sym (ap (λ (m : ℕ). sizes_below z m) (add-one n) ∙ absent z n has tells has_none)) so_far)
+      (subst (λ (ns : List ℕ). AreRows text inputs o ns rows) (sym (ap (λ (m : ℕ). sizes_below z m) (add-one n) ∙ absent z n has truth has_none)) so_far)
 
 -- NO ROW
 pub none_below : (z : Sizes) → sizes_below z 0 ≡ []
@@ -52,7 +52,7 @@ unfolding sizes_below
 none_below z = refl
 
 pub none_more : (z : Sizes) (n : ℕ) (has : Bool) → has ≡ has_size z n → has ≡ false → sizes_below z n ≡ [] → sizes_below z (n + 1) ≡ []
-none_more z n has tells has_none none = ap (λ (m : ℕ). sizes_below z m) (add-one n) ∙ absent z n has tells has_none ∙ none
+none_more z n has truth has_none none = ap (λ (m : ℕ). sizes_below z m) (add-one n) ∙ absent z n has truth has_none ∙ none
 
 pub none_in_all : (z : Sizes) (n : ℕ) → 64 ≤ n → n ≤ 64 → sizes_below z n ≡ [] → sizes_below z 64 ≡ []
 none_in_all z n enough few none = let e : 64 ≡ n = omega (arith, enough, few) in ap (λ (m : ℕ). sizes_below z m) e ∙ none
@@ -63,12 +63,12 @@ rows_of_none text inputs o z rows none empty =
     subst (λ (ns : List ℕ). AreRows text inputs o ns rows) (sym none) (subst (λ (l : List MachineRow). AreRows text inputs o [] l) (sym empty) tt)
 
 -- a graph that has no object has no row of the first number
-pub no_row_of : (text : List ℕ) (inputs : List ℤ) (o : RunOptions) (z : Sizes) (g : Graph) → IsGoodText text g → IsChosen z → (fault : Fault) → IsTooLarge g fault → (f : Refusal) → f ≡ told_as fault → IsNoRow text inputs o z f
-no_row_of text inputs o z g good chosen fault large f told = record {
+pub no_row_of : (text : List ℕ) (inputs : List ℤ) (o : RunOptions) (z : Sizes) (g : Graph) → IsGoodText text g → IsChosen z → (fault : Fault) → IsTooLarge g fault → (f : Refusal) → f ≡ refused_as fault → IsNoRow text inputs o z f
+no_row_of text inputs o z g good chosen fault large f reported = record {
   elements = chosen.0;
   low = chosen.1;
   chosen = chosen.2;
-  refused = (fault, too_large_to_run text g good inputs (config_with o chosen.0) fault large, told);
+  refused = (fault, too_large_to_run text g good inputs (config_with o chosen.0) fault large, reported);
   rows = [];
   earlier = subst (λ (ns : List ℕ). AreRows text inputs o ns []) (sym chosen.3) tt;
 }

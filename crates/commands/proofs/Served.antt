@@ -22,7 +22,7 @@ use Rattle.outcomes.specs.declared.outcome.Outcome.{Outcome}
 use Rattle.commands.specs.Input.{graph_length, integers_of, IsBadInput}
 use Rattle.driver.specs.Objects.{ShowsObjectIn}
 use Rattle.driver.specs.Refused.{IsGoodText, IsReady, IsReadyObject, IsBadText, IsNoObject, IsRefused, IsRefusedMeaning, IsRefusedObject}
-use Rattle.commands.specs.Refusals.{told_as}
+use Rattle.commands.specs.Refusals.{refused_as}
 use Rattle.commands.specs.Served.{Prints, Parts, config_of, IsRefusedLine, IsNoRunOf, WhyNoRun, IsMeaningOf, IsNoMeaningOf, WhyNoMeaning, IsExecOf, IsNoExecOf}
 
 -- WHAT IS PRINTED
@@ -50,21 +50,21 @@ executed bytes o inputs r mode named c same may_stop never shows = record {
 }
 
 pub refused_exec : (bytes : List ℕ) (o : RunOptions) (inputs : List ℤ) (c : Config) → c ≡ config_of o → (fault : Fault) → IsRefusedObject bytes inputs c fault
-    → (f : Refusal) → f ≡ told_as fault → IsNoExecOf bytes o (Inputs.Integers (record { items = inputs })) f
-refused_exec bytes o inputs c same fault refused f told = inr (inr (inl (fault, subst (λ (d : Config). IsRefusedObject bytes inputs d fault) same refused, told)))
+    → (f : Refusal) → f ≡ refused_as fault → IsNoExecOf bytes o (Inputs.Integers (record { items = inputs })) f
+refused_exec bytes o inputs c same fault refused f reported = inr (inr (inl (fault, subst (λ (d : Config). IsRefusedObject bytes inputs d fault) same refused, reported)))
 
 pub no_mode_to_exec : (bytes : List ℕ) (o : RunOptions) (inputs : List ℤ) (c : Config) → c ≡ config_of o → IsReadyObject bytes inputs c → o.mode ≡ None
     → IsNoExecOf bytes o (Inputs.Integers (record { items = inputs })) (Refusal.Start StartFault.BadConfig)
 no_mode_to_exec bytes o inputs c same ready mode = inr (inr (inr (subst (λ (d : Config). IsReadyObject bytes inputs d) same ready, mode, refl)))
 
-pub unopened_exec : (bytes : List ℕ) (o : RunOptions) (ins : Inputs) (fault : Fault) → IsNoObject bytes fault → (f : Refusal) → f ≡ told_as fault → IsNoExecOf bytes o ins f
-unopened_exec bytes o ins (Fault.Read x) none f told = absurd none
-unopened_exec bytes o ins (Fault.Check x) none f told = absurd none
-unopened_exec bytes o ins (Fault.TooManySlots b) none f told = absurd none
-unopened_exec bytes o ins (Fault.TooFar b) none f told = absurd none
-unopened_exec bytes o ins (Fault.Object x) none f told = inr (inl (x, none.0, told))
-unopened_exec bytes o ins (Fault.Start x) none f told = absurd none
-unopened_exec bytes o ins Fault.Memory none f told = inl told
+pub unopened_exec : (bytes : List ℕ) (o : RunOptions) (ins : Inputs) (fault : Fault) → IsNoObject bytes fault → (f : Refusal) → f ≡ refused_as fault → IsNoExecOf bytes o ins f
+unopened_exec bytes o ins (Fault.Read x) none f reported = absurd none
+unopened_exec bytes o ins (Fault.Check x) none f reported = absurd none
+unopened_exec bytes o ins (Fault.TooManySlots b) none f reported = absurd none
+unopened_exec bytes o ins (Fault.TooFar b) none f reported = absurd none
+unopened_exec bytes o ins (Fault.Object x) none f reported = inr (inl (x, none.0, reported))
+unopened_exec bytes o ins (Fault.Start x) none f reported = absurd none
+unopened_exec bytes o ins Fault.Memory none f reported = inl reported
 
 module _ (input text lines : List ℕ) (whole : text ++ lines ≡ input) (end : length text ≡ graph_length input) where
   abbrev parts : Parts input
@@ -75,10 +75,10 @@ module _ (input text lines : List ℕ) (whole : text ++ lines ≡ input) (end : 
   no_memory o = record { parts = parts; why = inl refl }
 
   pub refused_run : (o : RunOptions) (inputs : List ℤ) → integers_of lines ≡ Ok inputs → (c : Config) → c ≡ config_of o → (fault : Fault) → IsRefused text inputs c fault
-      → (f : Refusal) → f ≡ told_as fault → IsNoRunOf input o f
-  refused_run o inputs integers c same fault refused f told = record {
+      → (f : Refusal) → f ≡ refused_as fault → IsNoRunOf input o f
+  refused_run o inputs integers c same fault refused f reported = record {
     parts = parts;
-    why = inr (subst (λ (z : Result (List ℤ) ℕ). WhyNoRun z text o f) (sym integers) (inl (fault, subst (λ (d : Config). IsRefused text inputs d fault) same refused, told)));
+    why = inr (subst (λ (z : Result (List ℤ) ℕ). WhyNoRun z text o f) (sym integers) (inl (fault, subst (λ (d : Config). IsRefused text inputs d fault) same refused, reported)));
   }
 
   pub no_mode : (o : RunOptions) (inputs : List ℤ) → integers_of lines ≡ Ok inputs → (c : Config) → c ≡ config_of o → IsReady text inputs c → o.mode ≡ None
@@ -102,16 +102,16 @@ module _ (input text lines : List ℕ) (whole : text ++ lines ≡ input) (end : 
   pub no_memory_to_mean : IsNoMeaningOf input Refusal.Memory
   no_memory_to_mean = record { parts = parts; why = inl refl }
 
-  pub refused_meaning : (inputs : List ℤ) → integers_of lines ≡ Ok inputs → (fault : Fault) → IsRefusedMeaning text inputs fault → (f : Refusal) → f ≡ told_as fault → IsNoMeaningOf input f
-  refused_meaning inputs integers fault refused f told = record {
+  pub refused_meaning : (inputs : List ℤ) → integers_of lines ≡ Ok inputs → (fault : Fault) → IsRefusedMeaning text inputs fault → (f : Refusal) → f ≡ refused_as fault → IsNoMeaningOf input f
+  refused_meaning inputs integers fault refused f reported = record {
     parts = parts;
-    why = inr (subst (λ (z : Result (List ℤ) ℕ). WhyNoMeaning z text f) (sym integers) (fault, refused, told));
+    why = inr (subst (λ (z : Result (List ℤ) ℕ). WhyNoMeaning z text f) (sym integers) (fault, refused, reported));
   }
 
-  pub bad_text : (n : ℕ) → integers_of lines ≡ Err n → (fault : Fault) → IsBadText text fault → (f : Refusal) → f ≡ told_as fault → IsNoMeaningOf input f
-  bad_text n integers fault bad f told = record {
+  pub bad_text : (n : ℕ) → integers_of lines ≡ Err n → (fault : Fault) → IsBadText text fault → (f : Refusal) → f ≡ refused_as fault → IsNoMeaningOf input f
+  bad_text n integers fault bad f reported = record {
     parts = parts;
-    why = inr (subst (λ (z : Result (List ℤ) ℕ). WhyNoMeaning z text f) (sym integers) (inl (fault, bad, told)));
+    why = inr (subst (λ (z : Result (List ℤ) ℕ). WhyNoMeaning z text f) (sym integers) (inl (fault, bad, reported)));
   }
 
   pub bad_line_to_mean : (n : ℕ) (g : Graph) → integers_of lines ≡ Err n → IsGoodText text g → IsNoMeaningOf input (Refusal.InputLine n)

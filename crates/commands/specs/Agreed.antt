@@ -8,15 +8,15 @@ use Rattle.schedule.specs.declared.config.Config.{Config}
 use Rattle.schedule.specs.declared.config.StartFault.{StartFault}
 use Rattle.report_text.specs.ReportText.{report_text}
 use Rattle.command_line.specs.declared.RunOptions.{RunOptions}
-use Rattle.driver.specs.Headline.{TellsTruthListed}
+use Rattle.driver.specs.Headline.{ReportsTruthByList}
 use Rattle.driver.specs.Refused.{IsReady, IsRefused}
 use Rattle.outcomes.specs.declared.refusal.Refusal.{Refusal}
 use Rattle.commands.specs.Input.{integers_of}
 use Rattle.commands.specs.Ordered.{first_number, picks_from}
-use Rattle.commands.specs.Served.{Parts, Prints, Refuses, IsTold, IsRefusedLine, config_of}
+use Rattle.commands.specs.Served.{Parts, Prints, Refuses, IsReportedAs, IsRefusedLine, config_of}
 use Rattle.outcomes.specs.declared.outcome.Outcome.{Outcome}
 use Rattle.outcomes.specs.Outcomes.{ending_of}
-use Rattle.commands.specs.Given.{IsGiven}
+use Rattle.commands.specs.Feed.{IsFeed}
 
 -- the most picks that are drawn for an order
 abbrev pub most_picks : ℕ
@@ -26,7 +26,7 @@ most_picks = 4194304
 -- number. No run is cut short while more picks can be drawn.
 pub record IsOrder (text : List ℕ) (inputs : List ℤ) (c : Config) (seed order : ℕ) (g : Graph) (r : Report) : Type 0 where
   pub count : ℕ
-  pub tells : TellsTruthListed text g inputs c (picks_from c.elements count (first_number seed order)) r
+  pub truth : ReportsTruthByList text g inputs c (picks_from c.elements count (first_number seed order)) r
   pub enough : r.end ≡ Steps → count ≡ most_picks
 
 -- The reports are the same, except perhaps in their events.
@@ -56,7 +56,7 @@ pub record IsFirstOther (text : List ℕ) (inputs : List ℤ) (c : Config) (seed
 pub record Agree (input : List ℕ) (o : RunOptions) (count seed : ℕ) (g : Graph) (r : Report) : Type 0 where
   pub text : List ℕ
   pub inputs : List ℤ
-  pub given : IsGiven input text inputs
+  pub feed : IsFeed input text inputs
   pub some : 0 < count
   pub all : AllAgree text inputs (config_of o) seed count g r
 
@@ -64,13 +64,13 @@ pub record Agree (input : List ℕ) (o : RunOptions) (count seed : ℕ) (g : Gra
 pub record Differ (input : List ℕ) (o : RunOptions) (count seed : ℕ) (g : Graph) (a : Report) (k : ℕ) (h : Graph) (b : Report) : Type 0 where
   pub text : List ℕ
   pub inputs : List ℤ
-  pub given : IsGiven input text inputs
+  pub feed : IsFeed input text inputs
   pub first_other : IsFirstOther text inputs (config_of o) seed count g a k h b
 
 -- Why nothing is told of any order: the first cause in the order of the work. That no order was asked for is told only where a run is
 -- ready.
 abbrev pub WhyNoOrder : Result (List ℤ) ℕ → List ℕ → RunOptions → ℕ → Refusal → Type 0
-WhyNoOrder (Ok inputs) text o count f = IsTold (IsRefused text inputs (config_of o)) f ⊎ (IsReady text inputs (config_of o) × (count ≡ 0) × (f ≡ Refusal.Start StartFault.BadConfig))
+WhyNoOrder (Ok inputs) text o count f = IsReportedAs (IsRefused text inputs (config_of o)) f ⊎ (IsReady text inputs (config_of o) × (count ≡ 0) × (f ≡ Refusal.Start StartFault.BadConfig))
 WhyNoOrder (Err n) text o count f = IsRefusedLine text n f
 
 pub record IsNoOrderOf (input : List ℕ) (o : RunOptions) (count : ℕ) (f : Refusal) : Type 0 where

@@ -25,8 +25,8 @@ abbrev pub Answers : {E : Type 0} → Result Outcome E → Option (List ℕ) →
 Answers result old new input Request.Check = PrintsCheck result old new input
 Answers result old new input Request.Compile = PrintsObject result old new input
 Answers result old new input (Request.Run o) = PrintsRun result old new input o
-Answers result old new input (Request.Dis Literals.LeftOut) = PrintsOf listing_of result old new input
-Answers result old new input (Request.Dis Literals.Listed) = PrintsOf listing_with_literals_of result old new input
+Answers result old new input (Request.Dis Literals.Omitted) = PrintsOf listing_of result old new input
+Answers result old new input (Request.Dis Literals.ReportedRun) = PrintsOf listing_with_literals_of result old new input
 Answers result old new input Request.Upgrade = PrintsOf upgrade_of result old new input
 Answers result old new input (Request.Mean steps) = PrintsMeaning result old new input steps
 Answers result old new input (Request.Dot code) = PrintsDot result old new input code

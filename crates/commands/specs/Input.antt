@@ -25,7 +25,7 @@ without_end bytes = if slice_index bytes (length bytes - 1) == 10 then take (len
 abbrev pub input_lines : List ℕ → List (List ℕ)
 input_lines bytes = if length bytes == 0 then [] else parts 10 (without_end bytes)
 
--- the integer of line n, followed by those of the later lines; the first line that has none is told
+-- the integer of line n, followed by those of the later lines; the first line that has none is reported
 abbrev pub with_first : Option ℤ → ℕ → Result (List ℤ) ℕ → Result (List ℤ) ℕ
 with_first None n later = Err n
 with_first (Some z) n (Ok zs) = Ok (z ∷ zs)

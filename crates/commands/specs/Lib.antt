@@ -1,7 +1,7 @@
 pub mod Input
 pub mod Refusals
 pub mod Served
-pub mod Given
+pub mod Feed
 pub mod Ordered
 pub mod Played
 pub mod Agreed

@@ -5,7 +5,7 @@ use Rattle.semantics.specs.declared.report.End.{End}
 use Rattle.semantics.specs.Report.{Report}
 use Rattle.schedule.specs.declared.config.Config.{Config}
 use Rattle.oracle.specs.declared.report.MeanEnd.{MeanEnd}
-use Rattle.oracle.specs.Gathering.{waves_told}
+use Rattle.oracle.specs.Gathering.{wave_counts}
 use Rattle.oracle.specs.Waves.{AreWavesOf}
 use Rattle.replay.specs.declared.moment.Moment.{Moment}
 use Rattle.profile_text.specs.declared.lines.MachineRow.{MachineRow}
@@ -15,27 +15,27 @@ use Rattle.command_line.specs.declared.Mode.{Mode}
 use Rattle.command_line.specs.declared.RunOptions.{RunOptions}
 use Rattle.command_line.specs.declared.sizes.Sizes.{Sizes}
 use Rattle.command_line.specs.Words.{has_size}
-use Rattle.driver.specs.Listed.{IsWatched}
+use Rattle.driver.specs.ListedEvents.{IsWatched}
 use Rattle.driver.specs.Objects.{RunsObject}
-use Rattle.driver.specs.Orders.{FollowsRounds}
+use Rattle.driver.specs.Orders.{RunsByRounds}
 use Rattle.driver.specs.Refused.{IsGoodText, IsRefused, IsRefusedMeaning}
-use Rattle.commands.specs.declared.profiling.Held.{Held}
+use Rattle.commands.specs.declared.profiling.Measure.{Measure}
 use Rattle.outcomes.specs.declared.refusal.Refusal.{Refusal}
 use Rattle.commands.specs.Input.{integers_of}
-use Rattle.commands.specs.Served.{Parts, Prints, Refuses, IsTold, IsRefusedLine}
+use Rattle.commands.specs.Served.{Parts, Prints, Refuses, IsReportedAs, IsRefusedLine}
 use Rattle.outcomes.specs.declared.outcome.Ending.{Ending}
 use Rattle.outcomes.specs.declared.outcome.Outcome.{Outcome}
-use Rattle.commands.specs.Given.{IsGiven}
+use Rattle.commands.specs.Feed.{IsFeed}
 
 -- ROWS. What the machine is set to for a row: each turn has one event.
 abbrev pub config_with : RunOptions → ℕ → Config
 config_with o elements = record { elements = elements; frames = o.frames; steps = o.steps; turn = 1 }
 
 -- what is counted in a moment
-abbrev pub held_in : Held → Moment → ℕ
-held_in Held.Tokens x = x.tokens
-held_in Held.Slots x = x.full_slots
-held_in Held.Frames x = x.frames_out
+abbrev pub measure_in : Measure → Moment → ℕ
+measure_in Measure.Tokens x = x.tokens
+measure_in Measure.Slots x = x.full_slots
+measure_in Measure.Frames x = x.frames_out
 
 -- What a run on that number of elements took: it is a run in rounds, in each of which every element makes one event if it has a token; these are exactly its
 -- rounds, and the tokens, the full slots and the frames out are the most that there were at any moment. At the start there are a token
@@ -49,10 +49,10 @@ pub record IsRow (text : List ℕ) (inputs : List ℤ) (o : RunOptions) (element
   -- a run that was refused memory has no row
   pub kept : report.end ≢ End.Memory
   pub number : row.elements ≡ elements
-  pub rounds : RunsObject bytes inputs (config_with o elements) (FollowsRounds false row.rounds) report
-  pub tokens : row.tokens ≡ greatest_from (length inputs + 1) (map (held_in Held.Tokens) moments)
-  pub slots : row.slots ≡ greatest_from 0 (map (held_in Held.Slots) moments)
-  pub frames : row.frames ≡ greatest_from 1 (map (held_in Held.Frames) moments)
+  pub rounds : RunsObject bytes inputs (config_with o elements) (RunsByRounds false row.rounds) report
+  pub tokens : row.tokens ≡ greatest_from (length inputs + 1) (map (measure_in Measure.Tokens) moments)
+  pub slots : row.slots ≡ greatest_from 0 (map (measure_in Measure.Slots) moments)
+  pub frames : row.frames ≡ greatest_from 1 (map (measure_in Measure.Frames) moments)
 
 -- a row for each of these numbers of elements, in order
 abbrev pub AreRows : List ℕ → List ℤ → RunOptions → List ℕ → List MachineRow → Type 0
@@ -74,7 +74,7 @@ pub record IsNoRow (text : List ℕ) (inputs : List ℤ) (o : RunOptions) (z : S
   pub elements : ℕ
   pub low : elements < 64
   pub chosen : has_size z elements ≡ true
-  pub refused : IsTold (IsRefused text inputs (config_with o elements)) f
+  pub refused : IsReportedAs (IsRefused text inputs (config_with o elements)) f
   pub rows : List MachineRow
   pub earlier : AreRows text inputs o (sizes_below z elements) rows
 
@@ -83,17 +83,17 @@ pub record IsNoRow (text : List ℕ) (inputs : List ℤ) (o : RunOptions) (z : S
 pub record IsProfileOf (input : List ℕ) (o : RunOptions) (z : Sizes) (svg : Bool) (g : Graph) (end : MeanEnd) (counts : List ℕ) (rows : List MachineRow) : Type 0 where
   pub text : List ℕ
   pub inputs : List ℤ
-  pub given : IsGiven input text inputs
+  pub feed : IsFeed input text inputs
   pub good : IsGoodText text g
   pub waves : AreWavesOf g inputs o.steps end counts
   -- and they are the ones that the definition comes to, which looks for all that is enabled and then does it
-  pub told : waves_told g inputs o.steps ≡ Some (end, counts)
+  pub reported : wave_counts g inputs o.steps ≡ Some (end, counts)
   pub machine : svg ≡ false → AreRows text inputs o (sizes_below z 64) rows
 
 -- Why there is no profile: the first cause in the order of the work.
 abbrev pub WhyNoProfile : Result (List ℤ) ℕ → List ℕ → RunOptions → Sizes → Bool → Refusal → Type 0
 WhyNoProfile (Ok inputs) text o z svg f =
-    IsTold (IsRefusedMeaning text inputs) f
+    IsReportedAs (IsRefusedMeaning text inputs) f
     ⊎ (((g : Graph) × (end : MeanEnd) × (counts : List ℕ) × IsGoodText text g × AreWavesOf g inputs o.steps end counts) × (svg ≡ false) × IsNoRow text inputs o z f)
 WhyNoProfile (Err n) text o z svg f = IsRefusedLine text n f
 

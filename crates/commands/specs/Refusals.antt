@@ -1,4 +1,4 @@
--- The line of a refusal, and the refusal that each fault is told as.
+-- The line of a refusal, and the refusal that each fault is reported as.
 use Rattle.std.specs.Prelude.{ℕ, Option, Some, None, List, ◌++◌, decimal, codes}
 use Rattle.semantics.specs.Text.{line}
 use Rattle.graph_file.specs.declared.fault.ReadFaultKind.{ReadFaultKind}
@@ -109,22 +109,22 @@ cause_text Refusal.Memory = codes "memory"
 abbrev pub refusal_line : Refusal → List ℕ
 refusal_line f = line (codes "refused: " ++ cause_text f)
 
--- the refusal that a fault is told as
-abbrev pub told_as : Fault → Refusal
-told_as (Fault.Read f) = Refusal.Read f
-told_as (Fault.Check f) = Refusal.Check f
-told_as (Fault.TooManySlots b) = Refusal.TooManySlots b
-told_as (Fault.TooFar b) = Refusal.TooFar b
-told_as (Fault.Object f) = Refusal.Object f
-told_as (Fault.Start f) = Refusal.Start f
-told_as Fault.Memory = Refusal.Memory
+-- the refusal that a fault is reported as
+abbrev pub refused_as : Fault → Refusal
+refused_as (Fault.Read f) = Refusal.Read f
+refused_as (Fault.Check f) = Refusal.Check f
+refused_as (Fault.TooManySlots b) = Refusal.TooManySlots b
+refused_as (Fault.TooFar b) = Refusal.TooFar b
+refused_as (Fault.Object f) = Refusal.Object f
+refused_as (Fault.Start f) = Refusal.Start f
+refused_as Fault.Memory = Refusal.Memory
 
--- the refusal that a program's fault is told as
+-- the refusal that a program's fault is reported as
 abbrev pub unlowered_as : LowerFault → Refusal
 unlowered_as (LowerFault.Program f) = Refusal.Program f
 unlowered_as LowerFault.Memory = Refusal.Memory
 
--- the refusal that a missing input is told as
+-- the refusal that a missing input is reported as
 abbrev pub unread_as : InputFault → Refusal
 unread_as InputFault.Input = Refusal.Input
 unread_as InputFault.Memory = Refusal.Memory

@@ -22,11 +22,11 @@ use Rattle.command_line.specs.declared.inputs.Inputs.{Inputs}
 use Rattle.driver.specs.declared.fault.Fault.{Fault}
 use Rattle.outcomes.specs.declared.refusal.Refusal.{Refusal}
 use Rattle.driver.specs.Disassembled.{IsOpened, IsUnopened, picture_of}
-use Rattle.driver.specs.Headline.{TellsQuietly}
+use Rattle.driver.specs.Headline.{ReportsQuietly}
 use Rattle.commands.specs.Input.{graph_length, integers_of}
 use Rattle.driver.specs.Objects.{ShowsObjectIn}
 use Rattle.driver.specs.Refused.{IsGoodText, IsCompiled, IsReady, IsReadyObject, IsBadText, IsRefusedText, IsRefused, IsRefusedMeaning, IsRefusedObject}
-use Rattle.commands.specs.Refusals.{refusal_line, told_as}
+use Rattle.commands.specs.Refusals.{refusal_line, refused_as}
 use Rattle.outcomes.specs.declared.outcome.Ending.{Ending}
 use Rattle.outcomes.specs.declared.outcome.Outcome.{Outcome}
 use Rattle.outcomes.specs.Outcomes.{ending_of}
@@ -41,8 +41,8 @@ abbrev pub Refuses : {E : Type 0} → Result Outcome E → Option (List ℕ) →
 Refuses result old new f = Prints result old new (refusal_line f) (Outcome.Refused f)
 
 -- the refusal tells a fault that has this cause
-abbrev pub IsTold : (Fault → Type 0) → Refusal → Type 0
-IsTold Cause f = (fault : Fault) × Cause fault × (f ≡ told_as fault)
+abbrev pub IsReportedAs : (Fault → Type 0) → Refusal → Type 0
+IsReportedAs Cause f = (fault : Fault) × Cause fault × (f ≡ refused_as fault)
 
 -- the text of a graph, and what follows it
 pub record Parts (input : List ℕ) : Type 0 where
@@ -62,15 +62,15 @@ pub record IsRunOf (input : List ℕ) (o : RunOptions) (g : Graph) (r : Report) 
   pub integers : integers_of parts.lines ≡ Ok inputs
   pub mode : Mode
   pub named : o.mode ≡ Some mode
-  pub tells : TellsQuietly mode parts.text g inputs (config_of o) false r
+  pub truth : ReportsQuietly mode parts.text g inputs (config_of o) false r
 
 -- Why there is no report: the first cause in the order of the work. A line that is not an integer is told only of a graph that
 -- has an object, and a mode that does not exist only where a run is ready.
 abbrev pub IsRefusedLine : List ℕ → ℕ → Refusal → Type 0
-IsRefusedLine text n f = IsTold (IsRefusedText text) f ⊎ (((g : Graph) × (bytes : List ℕ) × IsCompiled text g bytes) × (f ≡ Refusal.InputLine n))
+IsRefusedLine text n f = IsReportedAs (IsRefusedText text) f ⊎ (((g : Graph) × (bytes : List ℕ) × IsCompiled text g bytes) × (f ≡ Refusal.InputLine n))
 
 abbrev pub WhyNoRun : Result (List ℤ) ℕ → List ℕ → RunOptions → Refusal → Type 0
-WhyNoRun (Ok inputs) text o f = IsTold (IsRefused text inputs (config_of o)) f ⊎ (IsReady text inputs (config_of o) × (o.mode ≡ None) × (f ≡ Refusal.Start StartFault.BadConfig))
+WhyNoRun (Ok inputs) text o f = IsReportedAs (IsRefused text inputs (config_of o)) f ⊎ (IsReady text inputs (config_of o) × (o.mode ≡ None) × (f ≡ Refusal.Start StartFault.BadConfig))
 WhyNoRun (Err n) text o f = IsRefusedLine text n f
 
 pub record IsNoRunOf (input : List ℕ) (o : RunOptions) (f : Refusal) : Type 0 where
@@ -91,8 +91,8 @@ pub record IsMeaningOf (input : List ℕ) (steps : ℕ) (g : Graph) (end : MeanE
   pub meant : IsMeant g inputs steps end outputs cells
 
 abbrev pub WhyNoMeaning : Result (List ℤ) ℕ → List ℕ → Refusal → Type 0
-WhyNoMeaning (Ok inputs) text f = IsTold (IsRefusedMeaning text inputs) f
-WhyNoMeaning (Err n) text f = IsTold (IsBadText text) f ⊎ (((g : Graph) × IsGoodText text g) × (f ≡ Refusal.InputLine n))
+WhyNoMeaning (Ok inputs) text f = IsReportedAs (IsRefusedMeaning text inputs) f
+WhyNoMeaning (Err n) text f = IsReportedAs (IsBadText text) f ⊎ (((g : Graph) × IsGoodText text g) × (f ≡ Refusal.InputLine n))
 
 pub record IsNoMeaningOf (input : List ℕ) (f : Refusal) : Type 0 where
   pub parts : Parts input
@@ -108,12 +108,12 @@ PrintsMeaning result old new input steps =
 abbrev pub PrintsCheck : {E : Type 0} → Result Outcome E → Option (List ℕ) → Option (List ℕ) → List ℕ → Type 0
 PrintsCheck result old new text =
     ((g : Graph) × IsGoodText text g × Prints result old new (line (codes "ok")) Outcome.Done)
-    ⊎ ((f : Refusal) × IsTold (IsBadText text) f × Refuses result old new f)
+    ⊎ ((f : Refusal) × IsReportedAs (IsBadText text) f × Refuses result old new f)
 
 abbrev pub PrintsObject : {E : Type 0} → Result Outcome E → Option (List ℕ) → Option (List ℕ) → List ℕ → Type 0
 PrintsObject result old new text =
     ((g : Graph) × (bytes : List ℕ) × IsCompiled text g bytes × Prints result old new bytes Outcome.Done)
-    ⊎ ((f : Refusal) × IsTold (IsRefusedText text) f × Refuses result old new f)
+    ⊎ ((f : Refusal) × IsReportedAs (IsRefusedText text) f × Refuses result old new f)
 
 -- DIS AND UPGRADE
 abbrev pub PrintsOf : {E : Type 0} → (List ℕ → List ℕ) → Result Outcome E → Option (List ℕ) → Option (List ℕ) → List ℕ → Type 0
@@ -125,7 +125,7 @@ PrintsOf text result old new bytes =
 abbrev pub PrintsPicture : {E : Type 0} → Result Outcome E → Option (List ℕ) → Option (List ℕ) → List ℕ → Type 0
 PrintsPicture result old new text =
     ((g : Graph) × IsGoodText text g × Prints result old new (graph_dot g) Outcome.Done)
-    ⊎ ((f : Refusal) × IsTold (IsBadText text) f × Refuses result old new f)
+    ⊎ ((f : Refusal) × IsReportedAs (IsBadText text) f × Refuses result old new f)
 
 abbrev pub PrintsDot : {E : Type 0} → Result Outcome E → Option (List ℕ) → Option (List ℕ) → List ℕ → Bool → Type 0
 PrintsDot result old new input true = PrintsOf picture_of result old new input
@@ -143,7 +143,7 @@ pub record IsExecOf (bytes : List ℕ) (o : RunOptions) (ins : Inputs) (r : Repo
 -- exist. Of more than 16 inputs no more is said: no object takes more than 16.
 abbrev pub WhyNoExec : Inputs → List ℕ → RunOptions → Refusal → Type 0
 WhyNoExec (Inputs.Integers inputs) bytes o f =
-    IsTold (IsRefusedObject bytes inputs.items (config_of o)) f ⊎ (IsReadyObject bytes inputs.items (config_of o) × (o.mode ≡ None) × (f ≡ Refusal.Start StartFault.BadConfig))
+    IsReportedAs (IsRefusedObject bytes inputs.items (config_of o)) f ⊎ (IsReadyObject bytes inputs.items (config_of o) × (o.mode ≡ None) × (f ≡ Refusal.Start StartFault.BadConfig))
 WhyNoExec (Inputs.NoInteger n) bytes o f = (first_refusal bytes ≡ None) × (f ≡ Refusal.InputLine n)
 WhyNoExec Inputs.TooMany bytes o f = (first_refusal bytes ≡ None) × (f ≡ Refusal.Start StartFault.WrongInputs)
 

@@ -12,21 +12,21 @@ use Rattle.command_line.specs.declared.Format.{Format}
 use Rattle.command_line.specs.declared.Mode.{Mode}
 use Rattle.command_line.specs.declared.RunOptions.{RunOptions}
 use Rattle.driver.specs.Disassembled.{listing_of}
-use Rattle.driver.specs.Listed.{IsListed, IsWatched, HasBooks}
+use Rattle.driver.specs.ListedEvents.{ListsEvents, IsWatched, HasBooks}
 use Rattle.html_text.specs.DataText.{data_text}
 use Rattle.html_text.specs.PageText.{html_text}
 use Rattle.outcomes.specs.declared.refusal.Refusal.{Refusal}
 use Rattle.commands.specs.Served.{Prints, Refuses, IsNoRunOf, config_of}
 use Rattle.outcomes.specs.declared.outcome.Outcome.{Outcome}
 use Rattle.outcomes.specs.Outcomes.{ending_of}
-use Rattle.commands.specs.Given.{IsGiven}
+use Rattle.commands.specs.Feed.{IsFeed}
 
 -- A run of the graph that the input has, on the integers that follow it: its object, its true report, which lists the events, and what
 -- each of them did.
 pub record IsTraceOf (input : List ℕ) (o : RunOptions) (g : Graph) (bytes : List ℕ) (r : Report) (moments : List Moment) : Type 0 where
   pub text : List ℕ
   pub inputs : List ℤ
-  pub given : IsGiven input text inputs
+  pub feed : IsFeed input text inputs
   pub mode : Mode
   pub named : o.mode ≡ Some mode
   pub watched : IsWatched mode text g bytes inputs (config_of o) false r moments
@@ -36,7 +36,7 @@ abbrev pub first_of : ℕ → Option ℕ → ℕ
 first_of count None = 0
 first_of count (Some last) = count - last
 
--- the events from number `first` on; as lines, behind which stands the report, or as JSON
+-- the events from number `first` on; as lines, after which stands the report, or as JSON
 abbrev pub events_text : EventFormat → ℕ → ℕ → Graph → List ℕ → Report → List Moment → List ℕ
 events_text EventFormat.Lines first elements g bytes r moments =
     trace_text (opened bytes).code.program first (drop first r.events) (drop first moments) ++ report_text g.arrays r
@@ -69,10 +69,10 @@ paged first r = Outcome.Paged (ending_of r) (length r.events - first)
 pub record IsPageOf (input : List ℕ) (o : RunOptions) (first : ℕ) (g : Graph) (bytes : List ℕ) (r : Report) (books : BooksView) : Type 0 where
   pub text : List ℕ
   pub inputs : List ℤ
-  pub given : IsGiven input text inputs
+  pub feed : IsFeed input text inputs
   pub mode : Mode
   pub named : o.mode ≡ Some mode
-  pub listed : IsListed mode text g bytes inputs (config_of o) false r
+  pub lists : ListsEvents mode text g bytes inputs (config_of o) false r
   pub kept : HasBooks bytes inputs (config_of o) first r books
 
 -- where there is no page, it tells the cause for which `run` has no report

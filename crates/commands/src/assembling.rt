@@ -11,7 +11,7 @@ use outcomes::{Outcome, Refusal};
 use std::alloc::Allocator;
 use std::io::{self, Write};
 
-/// The refusal that a fault is told as.
+/// The refusal that a fault is reported as.
 fn asm_refusal(fault: AsmFault) -> Refusal
     ensures { result ≡ unassembled_as fault }
 {

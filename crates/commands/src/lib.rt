@@ -5,7 +5,7 @@
 pub mod assembling;
 mod comparing;
 mod drawing;
-pub mod given;
+pub mod feed;
 pub mod input;
 pub mod lowered;
 pub mod orders;

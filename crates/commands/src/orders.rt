@@ -9,7 +9,7 @@ ghost use Rattle.commands.specs.Played.{PlaysDrawn};
 
 use crate::comparing::are_same;
 use crate::drawing::{draw, first_number};
-use crate::given::{option_refusal, read_given};
+use crate::feed::{option_refusal, read_feed};
 use crate::refusal::fault_refusal;
 use crate::refusal_text::write_numbered;
 use crate::serving::{config_of, refuse};
@@ -169,15 +169,15 @@ fn make_orders<'a, A: Allocator + Clone>(
     ensures other { IfOk result (λ o. IfSome o.reports.other (λ x. Differ input.now options.now count seed o.checked o.reports.first x.number o.checked x.report)) }
     ensures refused { IfErr result (IsNoOrderOf input.now options.now count) }
 {
-    let given = match read_given(&alloc, input) {
-        Ok(given) => given,
+    let feed = match read_feed(&alloc, input) {
+        Ok(feed) => feed,
         Err(refusal) => return Err(refusal),
     };
     let config = config_of(options);
     if count == 0 || config.elements == 0 {
-        return Err(option_refusal(alloc, given.text, &given.integers, config));
+        return Err(option_refusal(alloc, feed.text, &feed.integers, config));
     }
-    match run_orders(alloc, given.text, &given.integers, config, count, seed) {
+    match run_orders(alloc, feed.text, &feed.integers, config, count, seed) {
         Ok(orders) => Ok(orders),
         Err(fault) => Err(fault_refusal(fault)),
     }

@@ -7,13 +7,13 @@ ghost use Rattle.html_text.specs.declared.page.Part.TheVariants.{Top, ToListing,
 ghost use Rattle.disassembler.specs.Listing.{listing};
 ghost use Rattle.report_text.specs.ReportText.{report_text};
 ghost use Rattle.driver.specs.Disassembled.{listing_of};
-ghost use Rattle.driver.specs.Listed.{IsListed};
+ghost use Rattle.driver.specs.ListedEvents.{ListsEvents};
 ghost use Rattle.driver.specs.Refused.{IsRefused};
 ghost use Rattle.sink.specs.Sends.{Sends};
 ghost use Rattle.commands.specs.Served.{IsNoRunOf};
 ghost use Rattle.commands.specs.Traced.{IsPageOf, PrintsPage, first_of, page_text, paged};
 
-use crate::given::{option_refusal, read_given};
+use crate::feed::{option_refusal, read_feed};
 use crate::refusal::fault_refusal;
 use crate::serving::{config_of, refuse};
 use crate::tracing::{events_from, first_of_last};
@@ -128,7 +128,7 @@ fn write_page<'a, A: Allocator, W: Write>(
 
 /// A run of a text's graph whose report lists the events.
 #[derive(Drop)]
-struct Listed<'a, A: Allocator> {
+struct ReportedRun<'a, A: Allocator> {
     compiled: Compiled<'a, A>,
     report: Report<A>,
 }
@@ -142,15 +142,15 @@ fn list_text<'a, R: Threads + Wait + Sync, A: Allocator + Clone + Send + Sync, G
     mode: Mode,
     rt: &R,
     gate: &G,
-) -> Result<Listed<'a, A>, Fault>
+) -> Result<ReportedRun<'a, A>, Fault>
     ensures { MatchResult result
-        (λ l. IsListed mode text.now l.compiled.checked l.compiled.object.bytes inputs.now config G.may_stop l.report)
+        (λ l. ListsEvents mode text.now l.compiled.checked l.compiled.object.bytes inputs.now config G.may_stop l.report)
         (IsRefused text.now inputs.now config) }
 {
     let compiled = compile(alloc.clone()?, text)?;
     let bytes = compiled.object.bytes();
     let report = emulate_object(alloc, bytes, inputs, config, mode, rt, gate)?;
-    Ok(Listed { compiled, report })
+    Ok(ReportedRun { compiled, report })
 }
 
 /// Runs the graph of the input on the integers after it, and keeps the books of its events, or of the last ones.
@@ -168,28 +168,28 @@ fn page_input<'a, R: Threads + Wait + Sync, A: Allocator + Clone + Send + Sync, 
         (IsNoRunOf input.now options.now) }
     ensures first { IfOk result (λ p. p.first ≡ first_of (length p.report.events) last) }
 {
-    let given = match read_given(&alloc, input) {
-        Ok(given) => given,
+    let feed = match read_feed(&alloc, input) {
+        Ok(feed) => feed,
         Err(refusal) => return Err(refusal),
     };
     let config = config_of(options);
     let Some(mode) = options.mode else {
-        return Err(option_refusal(alloc, given.text, &given.integers, config));
+        return Err(option_refusal(alloc, feed.text, &feed.integers, config));
     };
     let Ok(room) = alloc.clone() else {
         return Err(Refusal::Memory);
     };
-    let listed = match list_text(room, given.text, &given.integers, config, mode, rt, gate) {
-        Ok(listed) => listed,
+    let reported_run = match list_text(room, feed.text, &feed.integers, config, mode, rt, gate) {
+        Ok(reported_run) => reported_run,
         Err(fault) => return Err(fault_refusal(fault)),
     };
-    let Listed { compiled, report } = listed;
+    let ReportedRun { compiled, report } = reported_run;
     let events: &[(u32, Token)] = &report.events;
     let first = first_of_last(events.len(), last);
     match books_of(
         alloc,
         &compiled.object,
-        &given.integers,
+        &feed.integers,
         config,
         &report,
         first,

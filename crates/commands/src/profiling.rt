@@ -5,12 +5,12 @@ ghost use Rattle.semantics.specs.Graph.{Graph};
 ghost use Rattle.profile_text.specs.Picture.{greatest_from};
 ghost use Rattle.semantics.specs.declared.report.End.{End};
 ghost use Rattle.sink.specs.Sends.{Sends};
-ghost use Rattle.outcomes.specs.declared.refusal.Refusal.{Refusal as Told};
+ghost use Rattle.outcomes.specs.declared.refusal.Refusal.{Refusal as AsRefusal};
 ghost use Rattle.driver.specs.Refused.{IsCompiled, IsGoodText, IsRefused};
-ghost use Rattle.commands.specs.Served.{IsTold};
-ghost use Rattle.commands.specs.Profiled.{AreRows, IsChosen, IsNoProfileOf, IsNoRow, IsProfileOf, IsRow, PrintsProfile, config_with, held_in, profiled, sizes_below, text_of};
+ghost use Rattle.commands.specs.Served.{IsReportedAs};
+ghost use Rattle.commands.specs.Profiled.{AreRows, IsChosen, IsNoProfileOf, IsNoRow, IsProfileOf, IsRow, PrintsProfile, config_with, measure_in, profiled, sizes_below, text_of};
 
-use crate::given::read_given;
+use crate::feed::read_feed;
 use crate::refusal::fault_refusal;
 use crate::serving::refuse;
 use command_line::{RunOptions, Sizes};
@@ -49,30 +49,30 @@ fn config_with(options: &RunOptions, elements: u64) -> Config
 
 /// What a machine holds, and a moment counts.
 #[derive(Clone, Copy)]
-enum Held {
+enum Measure {
     Tokens,
     Slots,
     Frames,
 }
 
 /// How much of it there is after an event.
-fn held_in(held: Held, moment: &Moment) -> u64
-    ensures { result ≡ held_in held moment.now }
+fn measure_in(held: Measure, moment: &Moment) -> u64
+    ensures { result ≡ measure_in held moment.now }
 {
     match held {
-        Held::Tokens => moment.tokens,
-        Held::Slots => moment.full_slots,
-        Held::Frames => moment.frames_out,
+        Measure::Tokens => moment.tokens,
+        Measure::Slots => moment.full_slots,
+        Measure::Frames => moment.frames_out,
     }
 }
 
 /// The most of it that there is at any time, where there was so much at first.
-fn most_held(held: Held, first: u64, moments: &[Moment]) -> u64
-    ensures { result ≡ greatest_from first (map (held_in held) moments.now) }
+fn most_of(held: Measure, first: u64, moments: &[Moment]) -> u64
+    ensures { result ≡ greatest_from first (map (measure_in held) moments.now) }
 {
     let mut most = first;
     for moment in moments {
-        let number = held_in(held, moment);
+        let number = measure_in(held, moment);
         if most < number {
             most = number;
         }
@@ -84,16 +84,16 @@ fn most_held(held: Held, first: u64, moments: &[Moment]) -> u64
 fn row_of(elements: u64, inputs: &[i64], rounds: u64, moments: &[Moment]) -> MachineRow
     ensures number { result.elements ≡ elements }
     ensures rounds { result.rounds ≡ rounds }
-    ensures tokens { result.tokens ≡ greatest_from (length inputs.now + 1) (map (held_in Held.Tokens) moments.now) }
-    ensures slots { result.slots ≡ greatest_from 0 (map (held_in Held.Slots) moments.now) }
-    ensures frames { result.frames ≡ greatest_from 1 (map (held_in Held.Frames) moments.now) }
+    ensures tokens { result.tokens ≡ greatest_from (length inputs.now + 1) (map (measure_in Measure.Tokens) moments.now) }
+    ensures slots { result.slots ≡ greatest_from 0 (map (measure_in Measure.Slots) moments.now) }
+    ensures frames { result.frames ≡ greatest_from 1 (map (measure_in Measure.Frames) moments.now) }
 {
     MachineRow {
         elements,
         rounds,
-        tokens: most_held(Held::Tokens, inputs.len() as u64 + 1, moments),
-        slots: most_held(Held::Slots, 0, moments),
-        frames: most_held(Held::Frames, 1, moments),
+        tokens: most_of(Measure::Tokens, inputs.len() as u64 + 1, moments),
+        slots: most_of(Measure::Slots, 0, moments),
+        frames: most_of(Measure::Frames, 1, moments),
     }
 }
 
@@ -113,7 +113,7 @@ fn measure<R: Threads + Wait + Sync, A: Allocator + Clone + Send + Sync>(
     elements: u64,
     rt: &R,
 ) -> Result<MachineRow, Refusal>
-    ensures { (text : List ℕ) (g : Graph) → IsCompiled text g code.now.bytes → MatchResult result (IsRow text inputs.now options.now elements) (IsTold (IsRefused text inputs.now (config_with options.now elements))) }
+    ensures { (text : List ℕ) (g : Graph) → IsCompiled text g code.now.bytes → MatchResult result (IsRow text inputs.now options.now elements) (IsReportedAs (IsRefused text inputs.now (config_with options.now elements))) }
 {
     let config = config_with(options, elements);
     let WatchedRounds { watched, rounds } = match watch_rounds(
@@ -139,7 +139,7 @@ fn rows_of<R: Threads + Wait + Sync, A: Allocator + Clone + Send + Sync>(
 ) -> Result<Vec<MachineRow, A>, Refusal>
     ensures { (text : List ℕ) (g : Graph) → IsCompiled text g code.now.bytes → MatchResult result
         (λ v. AreRows text inputs.now options.now (sizes_below sizes 64) v.items)
-        (λ f. (f ≡ Told.Memory) ⊎ IsNoRow text inputs.now options.now sizes f) }
+        (λ f. (f ≡ AsRefusal.Memory) ⊎ IsNoRow text inputs.now options.now sizes f) }
 {
     let Ok(room) = alloc.clone() else {
         return Err(Refusal::Memory);
@@ -186,7 +186,7 @@ fn rows_of_graph<'a, R: Threads + Wait + Sync, A: Allocator + Clone + Send + Syn
 ) -> Result<Vec<MachineRow, A>, Refusal>
     ensures { (text : List ℕ) → IsGoodText text checked.now → MatchResult result
         (λ v. AreRows text inputs.now options.now (sizes_below sizes 64) v.items)
-        (λ f. (f ≡ Told.Memory) ⊎ IsNoRow text inputs.now options.now sizes f) }
+        (λ f. (f ≡ AsRefusal.Memory) ⊎ IsNoRow text inputs.now options.now sizes f) }
 {
     if has_none(sizes) {
         return Ok(Vec::new(alloc));
@@ -219,7 +219,7 @@ fn rows_beside<'a, R: Threads + Wait + Sync, A: Allocator + Clone + Send + Sync>
 ) -> Result<Vec<MachineRow, A>, Refusal>
     ensures { (text : List ℕ) → IsGoodText text checked.now → MatchResult result
         (λ v. svg ≡ false → AreRows text inputs.now options.now (sizes_below sizes 64) v.items)
-        (λ f. (f ≡ Told.Memory) ⊎ ((svg ≡ false) × IsNoRow text inputs.now options.now sizes f)) }
+        (λ f. (f ≡ AsRefusal.Memory) ⊎ ((svg ≡ false) × IsNoRow text inputs.now options.now sizes f)) }
 {
     if svg {
         return Ok(Vec::new(alloc));
@@ -250,18 +250,18 @@ fn make_profile<'a, R: Threads + Wait + Sync, A: Allocator + Clone + Send + Sync
         (λ p. IsProfileOf input.now options.now sizes svg p.waves.checked p.waves.report.end p.waves.report.counts.items p.rows.items)
         (IsNoProfileOf input.now options.now sizes svg) }
 {
-    let given = match read_given(&alloc, input) {
-        Ok(given) => given,
+    let feed = match read_feed(&alloc, input) {
+        Ok(feed) => feed,
         Err(refusal) => return Err(refusal),
     };
     let Ok(room) = alloc.clone() else {
         return Err(Refusal::Memory);
     };
-    let waves = match waves_text(room, given.text, &given.integers, options.steps) {
+    let waves = match waves_text(room, feed.text, &feed.integers, options.steps) {
         Ok(waves) => waves,
         Err(fault) => return Err(fault_refusal(fault)),
     };
-    let inputs = &given.integers;
+    let inputs = &feed.integers;
     match rows_beside(alloc, &waves.checked, inputs, options, sizes, svg, rt) {
         Ok(rows) => Ok(Profile { waves, rows }),
         Err(refusal) => Err(refusal),

@@ -1,7 +1,7 @@
-//! The refusal that each fault is told as.
+//! The refusal that each fault is reported as.
 
 ghost use Rattle.std.specs.Prelude.{◌≡◌};
-ghost use Rattle.commands.specs.Refusals.{told_as, unlowered_as, unread_as};
+ghost use Rattle.commands.specs.Refusals.{refused_as, unlowered_as, unread_as};
 
 use crate::input::InputFault;
 use driver::fault::Fault;
@@ -20,7 +20,7 @@ pub(crate) fn input_refusal(fault: InputFault) -> Refusal
 
 /// The refusal of a text or an object that has no report.
 pub(crate) fn fault_refusal(fault: Fault) -> Refusal
-    ensures { result ≡ told_as fault }
+    ensures { result ≡ refused_as fault }
 {
     match fault {
         Fault::Read(fault) => Refusal::Read(fault),

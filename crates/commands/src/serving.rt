@@ -7,7 +7,7 @@ ghost use Rattle.commands.specs.Served.{config_of, IsRunOf, IsNoRunOf, IsMeaning
 ghost use Rattle.commands.specs.Answered.{Answers, ServesRequest, Says, ServesAsked, ServesWords, Serves};
 
 use crate::assembling::print_assembled;
-use crate::given::{option_refusal, read_given};
+use crate::feed::{option_refusal, read_feed};
 use crate::input::{LinesFault, parse_integers, read_input, split_at_main};
 use crate::lowered::{print_lowered, print_map};
 use crate::orders::print_orders;
@@ -70,15 +70,15 @@ fn run_input<'a, R: Threads + Wait + Sync, A: Allocator + Clone + Send + Sync, G
     requires { G.may_stop ≡ false }
     ensures { MatchResult result (λ e. IsRunOf input.now options.now e.checked e.report) (IsNoRunOf input.now options.now) }
 {
-    let given = match read_given(&alloc, input) {
-        Ok(given) => given,
+    let feed = match read_feed(&alloc, input) {
+        Ok(feed) => feed,
         Err(refusal) => return Err(refusal),
     };
     let config = config_of(options);
     let Some(mode) = options.mode else {
-        return Err(option_refusal(alloc, given.text, &given.integers, config));
+        return Err(option_refusal(alloc, feed.text, &feed.integers, config));
     };
-    match run_text(alloc, given.text, &given.integers, config, mode, rt, gate) {
+    match run_text(alloc, feed.text, &feed.integers, config, mode, rt, gate) {
         Ok(emulated) => Ok(emulated),
         Err(fault) => Err(fault_refusal(fault)),
     }
@@ -358,10 +358,10 @@ fn answer<R: Threads + Wait + Sync, A: Allocator + Clone + Send + Sync, G: Gate 
         Request::Check => print_check(alloc, input, writer),
         Request::Compile => print_object(alloc, input, writer),
         Request::Dis {
-            literals: Literals::LeftOut,
+            literals: Literals::Omitted,
         } => print_listing(input, writer),
         Request::Dis {
-            literals: Literals::Listed,
+            literals: Literals::ReportedRun,
         } => print_listing_with_literals(input, writer),
         Request::Asm => print_assembled(alloc, input, writer),
         Request::Lower(Lowering::Graph) => print_lowered(alloc, input, writer),

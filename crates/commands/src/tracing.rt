@@ -1,7 +1,7 @@
 //! The events of a run.
 
 ghost use Rattle.std.specs.Prelude.{◌≡◌, ◌≤◌, ◌++◌, drop, false, length, MatchResult};
-ghost use Rattle.driver.specs.Listed.{IsWatched};
+ghost use Rattle.driver.specs.ListedEvents.{IsWatched};
 ghost use Rattle.driver.specs.Refused.{IsRefused};
 ghost use Rattle.sink.specs.Sends.{Sends};
 ghost use Rattle.trace_text.specs.TraceText.{trace_text};
@@ -9,7 +9,7 @@ ghost use Rattle.report_text.specs.ReportText.{report_text};
 ghost use Rattle.commands.specs.Served.{IsNoRunOf};
 ghost use Rattle.commands.specs.Traced.{IsTraceOf, PrintsEvents, PrintsTrace, events_text, first_of, traced};
 
-use crate::given::{option_refusal, read_given};
+use crate::feed::{option_refusal, read_feed};
 use crate::paging::print_page;
 use crate::refusal::fault_refusal;
 use crate::serving::{config_of, refuse};
@@ -64,7 +64,7 @@ fn moments_from(moments: &[Moment], first: usize) -> &[Moment]
     }
 }
 
-/// Writes lines of events, and behind them the report.
+/// Writes lines of events, and after them the report.
 fn write_lines<'a, A: Allocator, W: Write>(
     writer: &mut W,
     object: &Object<'_>,
@@ -80,7 +80,7 @@ fn write_lines<'a, A: Allocator, W: Write>(
     write_report(writer, graph, report)
 }
 
-/// Writes the events from number `first` on in the format, and behind lines the report.
+/// Writes the events from number `first` on in the format, and after lines the report.
 fn write_trace<'a, A: Allocator, W: Write>(
     writer: &mut W,
     object: &Object<'_>,
@@ -160,21 +160,21 @@ fn watch_input<'a, R: Threads + Wait + Sync, A: Allocator + Clone + Send + Sync,
         (λ t. IsTraceOf input.now options.now t.compiled.checked t.compiled.object.bytes t.watched.report t.watched.moments.items)
         (IsNoRunOf input.now options.now) }
 {
-    let given = match read_given(&alloc, input) {
-        Ok(given) => given,
+    let feed = match read_feed(&alloc, input) {
+        Ok(feed) => feed,
         Err(refusal) => return Err(refusal),
     };
     let config = config_of(options);
     let Some(mode) = options.mode else {
-        return Err(option_refusal(alloc, given.text, &given.integers, config));
+        return Err(option_refusal(alloc, feed.text, &feed.integers, config));
     };
-    match watch_text(alloc, given.text, &given.integers, config, mode, rt, gate) {
+    match watch_text(alloc, feed.text, &feed.integers, config, mode, rt, gate) {
         Ok(traced) => Ok(traced),
         Err(fault) => Err(fault_refusal(fault)),
     }
 }
 
-/// What came of a run whose events were printed in this format. Only behind lines stands the report.
+/// What came of a run whose events were printed in this format. Only after lines stands the report.
 fn outcome_of<A: Allocator>(format: EventFormat, report: &Report<A>) -> Outcome
     ensures { result ≡ traced format report.now }
 {
@@ -184,7 +184,7 @@ fn outcome_of<A: Allocator>(format: EventFormat, report: &Report<A>) -> Outcome
     }
 }
 
-/// Runs the graph of the input on the integers after it, and prints its events, or only the last ones: as lines, behind which stands the
+/// Runs the graph of the input on the integers after it, and prints its events, or only the last ones: as lines, after which stands the
 /// report, or as JSON; or why there are none. Gives what came of it.
 fn print_events<
     R: Threads + Wait + Sync,

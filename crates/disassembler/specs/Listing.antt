@@ -18,7 +18,7 @@ abbrev pub spaces : ℕ → List ℕ
 spaces zero = []
 spaces (suc n) = 32 ∷ spaces n
 
--- spaces behind a text of length n, up to the width of the column
+-- spaces after a text of length n, up to the width of the column
 abbrev pub gap : ℕ → ℕ → List ℕ
 gap width n = spaces (width - n)
 
@@ -60,7 +60,7 @@ operand_text (Give k) = codes "k" ++ decimal k
 operand_text (Drain k) = codes "k" ++ decimal k
 operand_text op = codes "-"
 
--- where a fault of the instruction is said to be made, if it is told
+-- where a fault of the instruction is said to be made, if it is reported
 abbrev pub origin_text : Origin → List ℕ
 origin_text Untold = []
 origin_text (At b n) = codes " @" ++ decimal b ++ codes "." ++ decimal n
@@ -98,6 +98,6 @@ head_line version main = line (codes "ets " ++ decimal version ++ codes " main "
 abbrev pub listing : ℕ → Program → List ℕ
 listing version p = head_line version p.main ++ numbered block_lines 0 p.blocks ++ numbered array_line 0 p.arrays
 
--- with the whole table of literals behind it
+-- with the whole table of literals after it
 abbrev pub listing_with_literals : ℕ → Code → List ℕ
 listing_with_literals version c = listing version c.program ++ numbered literal_line 0 c.literals

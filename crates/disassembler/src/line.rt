@@ -115,7 +115,7 @@ pub fn list_operand<W: Write>(writer: &mut W, op: Op) -> io::Result<()>
     }
 }
 
-/// An origin, if it is told.
+/// An origin, if it is reported.
 fn list_origin<W: Write>(writer: &mut W, origin: Origin) -> io::Result<()>
     ensures { Sends result (W.contents writer.old) (W.contents writer.new) (origin_text origin) }
 {

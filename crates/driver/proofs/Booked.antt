@@ -11,13 +11,13 @@ use Rattle.object_view.specs.Reading.{Opened, opened}
 use Rattle.replay.specs.declared.extent.Extent.{Extent}
 use Rattle.replay.specs.Views.{BooksView}
 use Rattle.replay.specs.Books.{KeepsBooks}
-use Rattle.replay.specs.declared.fault.ReplayFault.{ReplayFault}
-use Rattle.replay.specs.declared.fault.ReplayFault.TheVariants.{NotARun}
+use Rattle.replay.specs.declared.fault.ReplayRefusal.{ReplayRefusal}
+use Rattle.replay.specs.declared.fault.ReplayRefusal.TheVariants.{NotARun}
 use Rattle.replay.specs.Entering.{IsExtent, AreBooks, Says, HasNoRun}
 use Rattle.frame_order.specs.InOrder.{IsOrdered}
 use Rattle.schedule.specs.declared.config.Config.{Config}
 use Rattle.schedule.specs.Setting.{inputs_of}
-use Rattle.driver.specs.Listed.{HasBooks}
+use Rattle.driver.specs.ListedEvents.{HasBooks}
 use Rattle.driver.specs.Objects.{ShowsObject}
 use Rattle.driver.specs.Orders.{size_of}
 use Rattle.driver.proofs.Watched.{fit, same}
@@ -57,14 +57,14 @@ module _ (bytes : List ℕ) (inputs : List ℤ) (c : Config) (may_stop : Bool) (
 pub fitting : (bytes : List ℕ) (inputs : List ℤ) (c : Config) (may_stop : Bool) (r : Report) (o : Opened) → opened bytes ≡ o
     → (object : IsObject bytes o.version o.code) → (shows : ShowsObject bytes inputs c false may_stop r) → (x : Extent) → x.elements ≡ c.elements
     → x.frames ≡ c.elements * c.frames → (first : ℕ) (earlier events : Events) → earlier ≡ take first r.events → events ≡ drop first r.events
-    → (f : ReplayFault) → f ≡ NotARun → Says f (HasNoRun o.code.program x inputs (earlier ++ events)) → ⊥
+    → (f : ReplayRefusal) → f ≡ NotARun → Says f (HasNoRun o.code.program x inputs (earlier ++ events)) → ⊥
 fitting bytes inputs c may_stop r o is object shows x elements frames first earlier events front rest f never none =
     let p : Program = o.code.program in
     let all : earlier ++ events ≡ r.events = ap (λ (es : Events). es ++ events) front ∙ ap (λ (es : Events). take first r.events ++ es) rest ∙ take-append-drop first r.events in
     let code : IsOrdered p (size_of c) inputs r.events = subst (λ (q : Program). IsOrdered q (size_of c) inputs r.events)
     (same bytes inputs c may_stop r o is object shows) shows.in_order in
     let run : IsOrdered p (size_of c) inputs (earlier ++ events) = subst (λ (es : Events). IsOrdered p (size_of c) inputs es) (sym all) code in
-    let fault : HasNoRun p x inputs (earlier ++ events) = subst (λ (g : ReplayFault). Says g (HasNoRun p x inputs (earlier ++ events))) never none in
+    let fault : HasNoRun p x inputs (earlier ++ events) = subst (λ (g : ReplayRefusal). Says g (HasNoRun p x inputs (earlier ++ events))) never none in
     fault (size_of c) (sym elements) (sym frames) run
 
 -- the books of the machine's extent are those of the report

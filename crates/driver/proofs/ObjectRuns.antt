@@ -9,15 +9,15 @@ use Rattle.object_view.specs.Reading.{Opened, opened}
 use Rattle.schedule.specs.declared.config.Config.{Config}
 use Rattle.schedule.specs.Setting.{Setting, size}
 use Rattle.schedule.specs.declared.halt.Halt.{Halt}
-use Rattle.schedule.specs.Runs.{Kept, Began, Plays, rounds_of}
-use Rattle.schedule.specs.Told.{IsReportOf}
+use Rattle.schedule.specs.Runs.{SoFar, Began, Plays, rounds_of}
+use Rattle.schedule.specs.Reported.{IsReportOf}
 use Rattle.schedule.specs.Unlisted.{with_events, ShowsQuietly, Quietly, RunsInTurn}
 use Rattle.schedule.proofs.Showing.{shown}
 use Rattle.command_line.specs.declared.Mode.{Mode}
-use Rattle.rounds.specs.Counted.{TellsRounds}
+use Rattle.rounds.specs.Counted.{ReportsRounds}
 use Rattle.driver.specs.Headline.{stops_in}
 use Rattle.driver.specs.Objects.{ShowsObject, ShowsObjectIn, RunsObject, StartsObject}
-use Rattle.driver.specs.Orders.{size_of, Follows, FollowsTurns, FollowsList, FollowsRounds}
+use Rattle.driver.specs.Orders.{size_of, RunsBy, RunsByTurns, RunsByList, RunsByRounds}
 
 -- WHAT THE BYTES OF AN OBJECT TELL, of the code that was made of the object
 module _ (slice : List ℕ) (o code : Opened) (same : slice ≡ o.bytes) (is : o ≡ code) where
@@ -36,16 +36,16 @@ module _ (slice : List ℕ) (o code : Opened) (same : slice ≡ o.bytes) (is : o
   unfolding here
   opened_of e = sym (ap opened here) ∙ sym e ∙ is
 
-module _ (bytes : List ℕ) (inputs : List ℤ) (c : Config) (k : Kept) (s : StartsObject bytes inputs c k) where
+module _ (bytes : List ℕ) (inputs : List ℤ) (c : Config) (k : SoFar) (s : StartsObject bytes inputs c k) where
   pub elements_of : k.state.setting.elements ≡ c.elements
   elements_of = ap (λ (g : Setting). g.elements) s.opens.setting
 
   -- the report shows a run on these inputs
-  shown_object : (listed may_stop : Bool) (r : Report) → ShowsInOrder k.state.setting.program (size k.state.setting) inputs k.state.setting.steps listed may_stop r
-      → ShowsObject bytes inputs c listed may_stop r
-  shown_object listed may_stop r shows =
-      let here : ShowsInOrder s.code.program (size_of c) inputs c.steps listed may_stop r
-      = subst (λ (g : Setting). ShowsInOrder g.program (size g) inputs g.steps listed may_stop r) s.opens.setting shows in
+  shown_object : (by_list may_stop : Bool) (r : Report) → ShowsInOrder k.state.setting.program (size k.state.setting) inputs k.state.setting.steps by_list may_stop r
+      → ShowsObject bytes inputs c by_list may_stop r
+  shown_object by_list may_stop r shows =
+      let here : ShowsInOrder s.code.program (size_of c) inputs c.steps by_list may_stop r
+      = subst (λ (g : Setting). ShowsInOrder g.program (size g) inputs g.steps by_list may_stop r) s.opens.setting shows in
       record {
         version = s.version;
         code = s.code;
@@ -54,25 +54,25 @@ module _ (bytes : List ℕ) (inputs : List ℤ) (c : Config) (k : Kept) (s : Sta
         inputs_fit = s.opens.arity;
         good = s.opens.good;
         some_frame = s.opens.some_frame;
-        shows = shown s.code.program (size_of c) inputs c.steps listed may_stop r here;
+        shows = shown s.code.program (size_of c) inputs c.steps by_list may_stop r here;
         in_order = (here.last, here.run);
       }
 
-  pub shows_object : (listed may_stop : Bool) (r : Report)
-      → ((ins : List ℤ) → Began ins k.state k.events → ShowsInOrder k.state.setting.program (size k.state.setting) ins k.state.setting.steps listed may_stop r) → ShowsObject bytes inputs c listed may_stop r
-  shows_object listed may_stop r shows = shown_object listed may_stop r (shows inputs s.opens.began)
+  pub shows_object : (by_list may_stop : Bool) (r : Report)
+      → ((ins : List ℤ) → Began ins k.state k.events → ShowsInOrder k.state.setting.program (size k.state.setting) ins k.state.setting.steps by_list may_stop r) → ShowsObject bytes inputs c by_list may_stop r
+  shows_object by_list may_stop r shows = shown_object by_list may_stop r (shows inputs s.opens.began)
 
-  shows_object_quietly : (listed may_stop : Bool) (r : Report)
-      → ((ins : List ℤ) → Began ins k.state k.events → ShowsQuietly k.state.setting.program (size k.state.setting) ins k.state.setting.steps listed may_stop r)
-      → Quietly (ShowsObject bytes inputs c listed may_stop) r
-  shows_object_quietly listed may_stop r shows =
+  shows_object_quietly : (by_list may_stop : Bool) (r : Report)
+      → ((ins : List ℤ) → Began ins k.state k.events → ShowsQuietly k.state.setting.program (size k.state.setting) ins k.state.setting.steps by_list may_stop r)
+      → Quietly (ShowsObject bytes inputs c by_list may_stop) r
+  shows_object_quietly by_list may_stop r shows =
       let q = shows inputs s.opens.began in
-      (q.unlisted, q.events, shown_object listed may_stop (with_events r q.events) q.shows)
+      (q.unlisted, q.events, shown_object by_list may_stop (with_events r q.events) q.shows)
 
   -- ORDER. What is played from the start on is what the report tells.
-  follows : (listed : Bool) (picks : List (ℕ × ℕ)) (r : Report) (last : Kept) (halt : Halt) (made : Events)
-      → Plays listed picks k.state last.state halt made → last.events ≡ k.events ++ made → IsReportOf last halt r → Follows s.code.program c inputs listed picks r
-  follows listed picks r last halt made plays events told = record {
+  follows : (by_list : Bool) (picks : List (ℕ × ℕ)) (r : Report) (last : SoFar) (halt : Halt) (made : Events)
+      → Plays by_list picks k.state last.state halt made → last.events ≡ k.events ++ made → IsReportOf last halt r → RunsBy s.code.program c inputs by_list picks r
+  follows by_list picks r last halt made plays events reported = record {
     width = s.width;
     start = k;
     opens = s.opens;
@@ -81,28 +81,28 @@ module _ (bytes : List ℕ) (inputs : List ℤ) (c : Config) (k : Kept) (s : Sta
     made = made;
     plays = plays;
     events = events ∙ ap (λ (evs : Events). evs ++ made) s.opens.events;
-    told = told;
+    reported = reported;
   }
 
   runs : (Ordered : Program → Config → List ℤ → Report → Type 0) (r : Report) → Ordered s.code.program c inputs r → RunsObject bytes inputs c Ordered r
   runs Ordered r ordered = record { version = s.version; code = s.code; object = s.object; ordered = ordered }
 
-  pub follows_list : (picks : List (ℕ × ℕ)) (r : Report)
-      → (last : Kept) × (halt : Halt) × (made : Events) × Plays true picks k.state last.state halt made × (last.events ≡ k.events ++ made) × IsReportOf last halt r
-      → RunsObject bytes inputs c (FollowsList picks) r
-  follows_list picks r h = runs (FollowsList picks) r (follows true picks r h.0 h.1 h.2 h.3 h.4 h.5)
+  pub runs_by_list : (picks : List (ℕ × ℕ)) (r : Report)
+      → (last : SoFar) × (halt : Halt) × (made : Events) × Plays true picks k.state last.state halt made × (last.events ≡ k.events ++ made) × IsReportOf last halt r
+      → RunsObject bytes inputs c (RunsByList picks) r
+  runs_by_list picks r h = runs (RunsByList picks) r (follows true picks r h.0 h.1 h.2 h.3 h.4 h.5)
 
-  pub follows_turns : (r : Report)
-      → (last : Kept) × (halt : Halt) × (rounds : ℕ) × (made : Events) × Plays false (rounds_of rounds k.state.setting.elements) k.state last.state halt made × (last.events ≡ k.events ++ made) × IsReportOf last halt r
-      → RunsObject bytes inputs c FollowsTurns r
+  pub runs_by_turns : (r : Report)
+      → (last : SoFar) × (halt : Halt) × (rounds : ℕ) × (made : Events) × Plays false (rounds_of rounds k.state.setting.elements) k.state last.state halt made × (last.events ≡ k.events ++ made) × IsReportOf last halt r
+      → RunsObject bytes inputs c RunsByTurns r
   unfolding elements_of
-  follows_turns r h =
+  runs_by_turns r h =
       let P : ℕ → Type 0 = λ n. Plays false (rounds_of h.2 n) k.state (h.0).state h.1 h.3 in
       let plays = subst P elements_of h.4 in
-      runs FollowsTurns r (h.2, follows false (rounds_of h.2 c.elements) r h.0 h.1 h.3 plays h.5 h.6)
+      runs RunsByTurns r (h.2, follows false (rounds_of h.2 c.elements) r h.0 h.1 h.3 plays h.5 h.6)
 
-  pub follows_rounds : (may_stop : Bool) (rounds : ℕ) (r : Report) → TellsRounds true may_stop k rounds r → RunsObject bytes inputs c (FollowsRounds may_stop rounds) r
-  follows_rounds may_stop rounds r tells = runs (FollowsRounds may_stop rounds) r (record { width = s.width; start = k; opens = s.opens; tells = tells })
+  pub runs_by_rounds : (may_stop : Bool) (rounds : ℕ) (r : Report) → ReportsRounds true may_stop k rounds r → RunsObject bytes inputs c (RunsByRounds may_stop rounds) r
+  runs_by_rounds may_stop rounds r truth = runs (RunsByRounds may_stop rounds) r (record { width = s.width; start = k; opens = s.opens; truth = truth })
 
   -- QUIETLY. In each mode: the run in turns that is shown is the one that is followed.
   pub shows_in_quietly : (mode : Mode) (may_stop : Bool) (r : Report)
@@ -112,6 +112,6 @@ module _ (bytes : List ℕ) (inputs : List ℤ) (c : Config) (k : Kept) (s : Sta
       let q = turns refl in
       let x : Report = with_events r q.1 in
       let t : RunsInTurn k x = q.2 in
-      (q.0, q.1, (shown_object false false x (t.shows inputs s.opens.began), follows_turns x (t.last, t.halt, t.rounds, t.made, t.plays, t.events, t.told)))
+      (q.0, q.1, (shown_object false false x (t.shows inputs s.opens.began), runs_by_turns x (t.last, t.halt, t.rounds, t.made, t.plays, t.events, t.reported)))
   shows_in_quietly Mode.Rounds may_stop r shows turns = shows_object_quietly false may_stop r shows
   shows_in_quietly Mode.Free may_stop r shows turns = shows_object_quietly false may_stop r shows

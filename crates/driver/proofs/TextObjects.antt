@@ -10,7 +10,7 @@ use Rattle.schedule.specs.declared.config.Config.{Config}
 use Rattle.schedule.specs.declared.config.StartFault.{StartFault}
 use Rattle.schedule.specs.Setting.{inputs_of}
 use Rattle.schedule.specs.Starts.{IsCause}
-use Rattle.schedule.specs.Runs.{Kept}
+use Rattle.schedule.specs.Runs.{SoFar}
 use Rattle.driver.specs.declared.fault.Fault.{Fault}
 use Rattle.driver.specs.Compiled.{IsCodeFor, IsObjectOf, IsTooLarge}
 use Rattle.driver.specs.Objects.{StartsObject}
@@ -112,7 +112,7 @@ unopened_refused bytes inputs c (Fault.Start f) h = absurd h
 unopened_refused bytes inputs c Fault.Memory h = tt
 
 -- A RUN OF AN OBJECT that can start
-pub object_is_ready : (bytes : List ℕ) (inputs : List ℤ) (c : Config) (m : Kept) → StartsObject bytes inputs c m → IsReadyObject bytes inputs c
+pub object_is_ready : (bytes : List ℕ) (inputs : List ℤ) (c : Config) (m : SoFar) → StartsObject bytes inputs c m → IsReadyObject bytes inputs c
 object_is_ready bytes inputs c m s = record {
   version = s.version;
   code = s.code;

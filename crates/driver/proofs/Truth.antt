@@ -16,10 +16,11 @@ use Rattle.semantics.specs.Report.{Report, IsPicture, HasEnd, Shows}
 use Rattle.schedule.specs.declared.config.Config.{Config}
 use Rattle.schedule.specs.Setting.{inputs_of as inputs_of_program}
 use Rattle.schedule.specs.Unlisted.{with_events, Quietly}
-use Rattle.driver.specs.Headline.{ShowsMemory, IsBoundedByMeaning, TellsMeaning, TellsOf, TellsTruth, TellsTruthListed, TellsTruthIn, stops_in, TellsQuietly}
+use Rattle.driver.specs.Headline.{ShowsMemory, IsBoundedByMeaning, ReportsMeaning, ReportsOf, ReportsTruth, ReportsTruthByList, ReportsTruthIn}
+use Rattle.driver.specs.Headline.{stops_in, ReportsQuietly}
 use Rattle.replay.specs.declared.moment.Moment.{Moment}
-use Rattle.driver.specs.Listed.{AreMoments, IsWatched}
-use Rattle.driver.specs.Orders.{FollowsTurns, FollowsList, size_of}
+use Rattle.driver.specs.ListedEvents.{AreMoments, IsWatched}
+use Rattle.driver.specs.Orders.{RunsByTurns, RunsByList, size_of}
 use Rattle.driver.specs.Objects.{ShowsObject, ShowsObjectIn, RunsObject}
 use Rattle.driver.proofs.Waiting.{deferred_are, no_frame_is_out}
 use Rattle.command_line.specs.declared.Mode.{Mode}
@@ -44,9 +45,9 @@ shown p z m r s pic same = record {
   );
 }
 
-ends_at : (p : Program) (z : Size) (steps : ℕ) (listed may_stop : Bool) (events : Events) (m : Machine) (e d : End) → e ≡ d
-    → HasEnd p z steps listed may_stop events m e → HasEnd p z steps listed may_stop events m d
-ends_at p z steps listed may_stop events m e d eq h = let P : End → Type 0 = λ x. HasEnd p z steps listed may_stop events m x in subst P eq h
+ends_at : (p : Program) (z : Size) (steps : ℕ) (by_list may_stop : Bool) (events : Events) (m : Machine) (e d : End) → e ≡ d
+    → HasEnd p z steps by_list may_stop events m e → HasEnd p z steps by_list may_stop events m d
+ends_at p z steps by_list may_stop events m e d eq h = let P : End → Type 0 = λ x. HasEnd p z steps by_list may_stop events m x in subst P eq h
 
 never_both : (o : Option ℕ) (n : ℕ) → o ≡ None → o ≡ Some n → ⊥
 never_both o n a b = cc
@@ -68,17 +69,17 @@ bounded_by fl inputs p z m r pic cause bound = record {
       omega (arith, bound, times);
 }
 
-pub tells_meaning : (inputs : List ℤ) (z : Size) (steps : ℕ) (listed may_stop : Bool) (r : Report) (fl : Flow) (p : Program)
+pub reports_meaning : (inputs : List ℤ) (z : Size) (steps : ℕ) (by_list may_stop : Bool) (r : Report) (fl : Flow) (p : Program)
     → length inputs ≡ inputs_of fl → 0 < z.elements → 0 < z.frames
-    → Faithful fl p → Shows p z inputs steps listed may_stop r → TellsMeaning fl inputs p r
-tells_meaning inputs z steps listed may_stop r fl p fit elements frames faithful shows =
+    → Faithful fl p → Shows p z inputs steps by_list may_stop r → ReportsMeaning fl inputs p r
+reports_meaning inputs z steps by_list may_stop r fl p fit elements frames faithful shows =
     let m : Machine = shows.last in
     let run : IsRun fl p inputs z r.events m = record { inputs_fit = fit; some_element = elements; some_frame = frames; run = shows.run } in
     let reached = faithful.reachable inputs z r.events m run in
     record {
       faithful = faithful;
       reached = (reached.0, reached.1, shown p z m r reached.0 shows.picture reached.2);
-      rest = λ e. let ended = ends_at p z steps listed may_stop r.events m r.end Rest e shows.ends in
+      rest = λ e. let ended = ends_at p z steps by_list may_stop r.events m r.end Rest e shows.ends in
           let exact = faithful.exact inputs z r.events m run ended.0 ended.1 in
           record {
             state = exact.state;
@@ -90,23 +91,23 @@ tells_meaning inputs z steps listed may_stop r fl p fit elements frames faithful
             deferred = deferred_are fl p z m r exact.state faithful.arrays shows.picture exact.readers;
             frames = no_frame_is_out fl p z m r exact.state faithful.arrays shows.picture exact.readers (faithful.clean inputs z r.events m run ended.0 ended.1);
           };
-      second_store = λ a i e. let ended = ends_at p z steps listed may_stop r.events m r.end (Clash a i) e shows.ends in
+      second_store = λ a i e. let ended = ends_at p z steps by_list may_stop r.events m r.end (Clash a i) e shows.ends in
           let same : array_base p a + i ≡ first_cell fl a + i = ap (λ ls. sum (take a ls) + i) faithful.arrays in
           let P : ℕ → Type 0 = λ x. IsSecondStore fl inputs x in
           subst P same (faithful.second_store inputs z r.events m (array_base p a + i) run ended.2);
-      matching = λ n e. let ended = ends_at p z steps listed may_stop r.events m r.end (Stuck n) e shows.ends in
+      matching = λ n e. let ended = ends_at p z steps by_list may_stop r.events m r.end (Stuck n) e shows.ends in
           never_both (stuck_rule p m.store ended.0.to ended.0.word) n (faithful.matching inputs z r.events m ended.0 run ended.1) ended.2;
       bounded = bounded_by fl inputs p z m r shows.picture (faithful.cause inputs z r.events m run) (faithful.bound inputs z r.events m run);
     }
 
 -- A report of a run of the graph's object tells the truth: the object has one code.
-pub tells_truth : (text : List ℕ) (g : Graph) (bytes : List ℕ) (inputs : List ℤ) (c : Config) (listed may_stop : Bool) (r : Report)
-    → IsCompiled text g bytes → ShowsObject bytes inputs c listed may_stop r → TellsOf text g inputs (size_of c) c.steps listed may_stop r
-tells_truth text g bytes inputs c listed may_stop r compiled shown =
+pub reports_truth : (text : List ℕ) (g : Graph) (bytes : List ℕ) (inputs : List ℤ) (c : Config) (by_list may_stop : Bool) (r : Report)
+    → IsCompiled text g bytes → ShowsObject bytes inputs c by_list may_stop r → ReportsOf text g inputs (size_of c) c.steps by_list may_stop r
+reports_truth text g bytes inputs c by_list may_stop r compiled shown =
     let made = compiled.object.made in
     let code : Code = compiled.object.code in
     let same : shown.code ≡ code = shown.only g.version code compiled.object.object in
-    let S : Code → Type 0 = λ x. Shows x.program (size_of c) inputs c.steps listed may_stop r in
+    let S : Code → Type 0 = λ x. Shows x.program (size_of c) inputs c.steps by_list may_stop r in
     let F : Code → Type 0 = λ x. length inputs ≡ inputs_of_program x.program in
     let fit : length inputs ≡ inputs_of (flow_of g) = subst F same shown.inputs_fit ∙ made.inputs in
     let shows = subst S same shown.shows in
@@ -119,52 +120,52 @@ tells_truth text g bytes inputs c listed may_stop r compiled shown =
       code = code;
       made = made;
       shows = shows;
-      tells =
+      truth =
           let P : Program → Type 0 = λ q. Faithful (flow_of g) q in
-          tells_meaning inputs (size_of c) c.steps listed may_stop r (flow_of g) code.program fit some_element shown.some_frame (subst P (sym made.program) made.promises.faithful) shows;
+          reports_meaning inputs (size_of c) c.steps by_list may_stop r (flow_of g) code.program fit some_element shown.some_frame (subst P (sym made.program) made.promises.faithful) shows;
     }
 
 -- The order of a run of the object's code is that of a run of the graph's code.
-ordered : (text : List ℕ) (g : Graph) (bytes : List ℕ) (inputs : List ℤ) (c : Config) (listed may_stop : Bool) (r : Report) (Ordered : Program → Config → List ℤ → Report → Type 0)
-    → (compiled : IsCompiled text g bytes) → ShowsObject bytes inputs c listed may_stop r → RunsObject bytes inputs c Ordered r → Ordered compiled.object.code.program c inputs r
-ordered text g bytes inputs c listed may_stop r Ordered compiled shown runs =
+ordered : (text : List ℕ) (g : Graph) (bytes : List ℕ) (inputs : List ℤ) (c : Config) (by_list may_stop : Bool) (r : Report) (Ordered : Program → Config → List ℤ → Report → Type 0)
+    → (compiled : IsCompiled text g bytes) → ShowsObject bytes inputs c by_list may_stop r → RunsObject bytes inputs c Ordered r → Ordered compiled.object.code.program c inputs r
+ordered text g bytes inputs c by_list may_stop r Ordered compiled shown runs =
     let O : Code → Type 0 = λ x. Ordered x.program c inputs r in
     subst O (sym (shown.only runs.version runs.code runs.object) ∙ shown.only g.version compiled.object.code compiled.object.object) runs.ordered
 
-pub tells_in_turn : (text : List ℕ) (g : Graph) (bytes : List ℕ) (inputs : List ℤ) (c : Config) (r : Report)
-    → IsCompiled text g bytes → ShowsObject bytes inputs c false false r → RunsObject bytes inputs c FollowsTurns r → TellsTruth text g inputs c r
-unfolding tells_truth
-tells_in_turn text g bytes inputs c r compiled shown runs = (tells_truth text g bytes inputs c false false r compiled shown, ordered text g bytes inputs c false false r FollowsTurns compiled shown runs)
+pub reports_in_turn : (text : List ℕ) (g : Graph) (bytes : List ℕ) (inputs : List ℤ) (c : Config) (r : Report)
+    → IsCompiled text g bytes → ShowsObject bytes inputs c false false r → RunsObject bytes inputs c RunsByTurns r → ReportsTruth text g inputs c r
+unfolding reports_truth
+reports_in_turn text g bytes inputs c r compiled shown runs = (reports_truth text g bytes inputs c false false r compiled shown, ordered text g bytes inputs c false false r RunsByTurns compiled shown runs)
 
-pub tells_listed : (text : List ℕ) (g : Graph) (bytes : List ℕ) (inputs : List ℤ) (c : Config) (picks : List (ℕ × ℕ)) (r : Report)
-    → IsCompiled text g bytes → ShowsObject bytes inputs c true false r → RunsObject bytes inputs c (FollowsList picks) r → TellsTruthListed text g inputs c picks r
-unfolding tells_truth
-tells_listed text g bytes inputs c picks r compiled shown runs =
-    (tells_truth text g bytes inputs c true false r compiled shown, ordered text g bytes inputs c true false r (FollowsList picks) compiled shown runs)
+pub reports_by_list : (text : List ℕ) (g : Graph) (bytes : List ℕ) (inputs : List ℤ) (c : Config) (picks : List (ℕ × ℕ)) (r : Report)
+    → IsCompiled text g bytes → ShowsObject bytes inputs c true false r → RunsObject bytes inputs c (RunsByList picks) r → ReportsTruthByList text g inputs c picks r
+unfolding reports_truth
+reports_by_list text g bytes inputs c picks r compiled shown runs =
+    (reports_truth text g bytes inputs c true false r compiled shown, ordered text g bytes inputs c true false r (RunsByList picks) compiled shown runs)
 
 -- In each mode: only where the elements take turns on one thread is the order known.
-pub tells_in : (mode : Mode) (text : List ℕ) (g : Graph) (bytes : List ℕ) (inputs : List ℤ) (c : Config) (may_stop : Bool) (r : Report)
-    → IsCompiled text g bytes → ShowsObject bytes inputs c false (stops_in mode may_stop) r → (mode ≡ Mode.One → RunsObject bytes inputs c FollowsTurns r) → TellsTruthIn mode text g inputs c may_stop r
-tells_in Mode.One text g bytes inputs c may_stop r compiled shown runs = tells_in_turn text g bytes inputs c r compiled shown (runs refl)
-tells_in Mode.Rounds text g bytes inputs c may_stop r compiled shown runs = tells_truth text g bytes inputs c false may_stop r compiled shown
-tells_in Mode.Free text g bytes inputs c may_stop r compiled shown runs = tells_truth text g bytes inputs c false may_stop r compiled shown
+pub reports_in : (mode : Mode) (text : List ℕ) (g : Graph) (bytes : List ℕ) (inputs : List ℤ) (c : Config) (may_stop : Bool) (r : Report)
+    → IsCompiled text g bytes → ShowsObject bytes inputs c false (stops_in mode may_stop) r → (mode ≡ Mode.One → RunsObject bytes inputs c RunsByTurns r) → ReportsTruthIn mode text g inputs c may_stop r
+reports_in Mode.One text g bytes inputs c may_stop r compiled shown runs = reports_in_turn text g bytes inputs c r compiled shown (runs refl)
+reports_in Mode.Rounds text g bytes inputs c may_stop r compiled shown runs = reports_truth text g bytes inputs c false may_stop r compiled shown
+reports_in Mode.Free text g bytes inputs c may_stop r compiled shown runs = reports_truth text g bytes inputs c false may_stop r compiled shown
 
 -- So does a report that lists no events.
-pub tells_quietly : (mode : Mode) (text : List ℕ) (g : Graph) (bytes : List ℕ) (inputs : List ℤ) (c : Config) (may_stop : Bool) (r : Report)
-    → IsCompiled text g bytes → Quietly (ShowsObjectIn mode bytes inputs c may_stop) r → TellsQuietly mode text g inputs c may_stop r
-tells_quietly Mode.One text g bytes inputs c may_stop r compiled (none, events, shown) =
-    ((shown.0).good, (shown.0).some_frame, (none, events, tells_in_turn text g bytes inputs c (with_events r events) compiled shown.0 shown.1))
-tells_quietly Mode.Rounds text g bytes inputs c may_stop r compiled (none, events, shown) =
-    (shown.good, shown.some_frame, (none, events, tells_truth text g bytes inputs c false may_stop (with_events r events) compiled shown))
-tells_quietly Mode.Free text g bytes inputs c may_stop r compiled (none, events, shown) =
-    (shown.good, shown.some_frame, (none, events, tells_truth text g bytes inputs c false may_stop (with_events r events) compiled shown))
+pub reports_quietly : (mode : Mode) (text : List ℕ) (g : Graph) (bytes : List ℕ) (inputs : List ℤ) (c : Config) (may_stop : Bool) (r : Report)
+    → IsCompiled text g bytes → Quietly (ShowsObjectIn mode bytes inputs c may_stop) r → ReportsQuietly mode text g inputs c may_stop r
+reports_quietly Mode.One text g bytes inputs c may_stop r compiled (none, events, shown) =
+    ((shown.0).good, (shown.0).some_frame, (none, events, reports_in_turn text g bytes inputs c (with_events r events) compiled shown.0 shown.1))
+reports_quietly Mode.Rounds text g bytes inputs c may_stop r compiled (none, events, shown) =
+    (shown.good, shown.some_frame, (none, events, reports_truth text g bytes inputs c false may_stop (with_events r events) compiled shown))
+reports_quietly Mode.Free text g bytes inputs c may_stop r compiled (none, events, shown) =
+    (shown.good, shown.some_frame, (none, events, reports_truth text g bytes inputs c false may_stop (with_events r events) compiled shown))
 
 -- and a run of the graph's object with the moments of its events
 pub is_watched : (mode : Mode) (text : List ℕ) (g : Graph) (bytes : List ℕ) (inputs : List ℤ) (c : Config) (may_stop : Bool) (r : Report) (moments : List Moment)
-    → IsCompiled text g bytes → ShowsObject bytes inputs c false (stops_in mode may_stop) r → (mode ≡ Mode.One → RunsObject bytes inputs c FollowsTurns r)
+    → IsCompiled text g bytes → ShowsObject bytes inputs c false (stops_in mode may_stop) r → (mode ≡ Mode.One → RunsObject bytes inputs c RunsByTurns r)
     → AreMoments bytes inputs c r moments → IsWatched mode text g bytes inputs c may_stop r moments
 is_watched mode text g bytes inputs c may_stop r moments compiled shown runs seen = record {
-  listed = record { compiled = compiled; tells = tells_in mode text g bytes inputs c may_stop r compiled shown runs; shows = shown };
+  lists = record { compiled = compiled; truth = reports_in mode text g bytes inputs c may_stop r compiled shown runs; shows = shown };
   seen = seen;
 }
 

@@ -8,14 +8,14 @@ use Rattle.schedule.specs.declared.config.Config.{Config}
 use Rattle.schedule.specs.Unlisted.{with_events}
 use Rattle.command_line.specs.declared.Mode.{Mode}
 use Rattle.law_confluence.proofs.Equations.{runs_at_rest}
-use Rattle.driver.specs.Headline.{TellsOf, TellsTruthIn, TellsQuietly}
-use Rattle.driver.specs.Values.{TellsValues}
+use Rattle.driver.specs.Headline.{ReportsOf, ReportsTruthIn, ReportsQuietly}
+use Rattle.driver.specs.Values.{ReportsValues}
 use Rattle.driver.proofs.Waiting.{none_waits}
 
-pub tells_values : (text : List ℕ) (g : Graph) (inputs : List ℤ) (z : Size) (steps : ℕ) (listed may_stop : Bool) (r : Report)
-    → TellsOf text g inputs z steps listed may_stop r → r.end ≡ Rest → r.deferred ≡ 0 → TellsValues (flow_of g) inputs r
-tells_values text g inputs z steps listed may_stop r t rest none =
-    let o = t.tells.rest rest in
+pub reports_values : (text : List ℕ) (g : Graph) (inputs : List ℤ) (z : Size) (steps : ℕ) (by_list may_stop : Bool) (r : Report)
+    → ReportsOf text g inputs z steps by_list may_stop r → r.end ≡ Rest → r.deferred ≡ 0 → ReportsValues (flow_of g) inputs r
+reports_values text g inputs z steps by_list may_stop r t rest none =
+    let o = t.truth.rest rest in
     record {
       run = o.reached.run;
       state = o.state;
@@ -24,15 +24,15 @@ tells_values text g inputs z steps listed may_stop r t rest none =
       settled = runs_at_rest g inputs t.well_formed t.inputs_fit o.reached.run o.state o.reached.is_run o.at_rest (λ x. o.no_clash o.state x o.reached) (none_waits (flow_of g) o.state.tokens (sym o.deferred ∙ none));
     }
 
-pub modes_tell : (mode : Mode) (text : List ℕ) (g : Graph) (inputs : List ℤ) (c : Config) (may_stop : Bool) (r : Report)
-    → TellsTruthIn mode text g inputs c may_stop r → r.end ≡ Rest → r.deferred ≡ 0 → TellsValues (flow_of g) inputs r
-modes_tell Mode.One text g inputs c may_stop r t = tells_values text g inputs _ _ _ _ r t.0
-modes_tell Mode.Rounds text g inputs c may_stop r t = tells_values text g inputs _ _ _ _ r t
-modes_tell Mode.Free text g inputs c may_stop r t = tells_values text g inputs _ _ _ _ r t
+pub modes_have : (mode : Mode) (text : List ℕ) (g : Graph) (inputs : List ℤ) (c : Config) (may_stop : Bool) (r : Report)
+    → ReportsTruthIn mode text g inputs c may_stop r → r.end ≡ Rest → r.deferred ≡ 0 → ReportsValues (flow_of g) inputs r
+modes_have Mode.One text g inputs c may_stop r t = reports_values text g inputs _ _ _ _ r t.0
+modes_have Mode.Rounds text g inputs c may_stop r t = reports_values text g inputs _ _ _ _ r t
+modes_have Mode.Free text g inputs c may_stop r t = reports_values text g inputs _ _ _ _ r t
 
 -- the events of a report have no part in it
-pub quiet_tells : (mode : Mode) (text : List ℕ) (g : Graph) (inputs : List ℤ) (c : Config) (may_stop : Bool) (r : Report)
-    → TellsQuietly mode text g inputs c may_stop r → r.end ≡ Rest → r.deferred ≡ 0 → TellsValues (flow_of g) inputs r
-quiet_tells mode text g inputs c may_stop r t rest none =
-    let v = modes_tell mode text g inputs c may_stop (with_events r t.2.1) t.2.2 rest none in
+pub quiet_reports : (mode : Mode) (text : List ℕ) (g : Graph) (inputs : List ℤ) (c : Config) (may_stop : Bool) (r : Report)
+    → ReportsQuietly mode text g inputs c may_stop r → r.end ≡ Rest → r.deferred ≡ 0 → ReportsValues (flow_of g) inputs r
+quiet_reports mode text g inputs c may_stop r t rest none =
+    let v = modes_have mode text g inputs c may_stop (with_events r t.2.1) t.2.2 rest none in
     record { run = v.run; state = v.state; is_run = v.is_run; shown = record { outputs = v.shown.outputs; cells = v.shown.cells }; settled = v.settled }

@@ -5,14 +5,14 @@ use Rattle.semantics.specs.Machine.{Run, at_start}
 use Rattle.semantics.specs.Program.{Code, Program}
 use Rattle.semantics.specs.Report.{Report}
 use Rattle.object_view.specs.Reading.{Opened, opened}
-use Rattle.replay.specs.declared.fault.ReplayFault.{ReplayFault}
-use Rattle.replay.specs.declared.fault.ReplayFault.TheVariants.{NotARun}
+use Rattle.replay.specs.declared.fault.ReplayRefusal.{ReplayRefusal}
+use Rattle.replay.specs.declared.fault.ReplayRefusal.TheVariants.{NotARun}
 use Rattle.replay.specs.declared.moment.Moment.{Moment}
-use Rattle.replay.specs.Follows.{IsReplay, OfRun}
+use Rattle.replay.specs.DoesAs.{IsReplay, OfRun}
 use Rattle.replay.specs.Moments.{Watches}
 use Rattle.schedule.specs.declared.config.Config.{Config}
 use Rattle.schedule.specs.Setting.{inputs_of}
-use Rattle.driver.specs.Listed.{AreMoments}
+use Rattle.driver.specs.ListedEvents.{AreMoments}
 use Rattle.driver.specs.Objects.{ShowsObject}
 use Rattle.driver.specs.Orders.{size_of}
 
@@ -36,7 +36,7 @@ module _ (bytes : List ℕ) (inputs : List ℤ) (c : Config) (may_stop : Bool) (
         (replay (size_of c) inputs shows.shows.last all (fit ∙ ins) run),
   )
 
-  pub is_a_run : (frames count : ℕ) (f : ReplayFault) → c.elements * c.frames ≡ frames → inputs_of o.code.program ≡ count → f ≡ NotARun → IsReplay o.code.program frames count r.events (Err f) → ⊥
+  pub is_a_run : (frames count : ℕ) (f : ReplayRefusal) → c.elements * c.frames ≡ frames → inputs_of o.code.program ≡ count → f ≡ NotARun → IsReplay o.code.program frames count r.events (Err f) → ⊥
   is_a_run frames count f all ins never replay =
-      subst (λ (e : ReplayFault). OfRun (Err e) (λ moments. Watches o.code.program (size_of c) (at_start o.code.program inputs) r.events moments shows.shows.last)) never
+      subst (λ (e : ReplayRefusal). OfRun (Err e) (λ moments. Watches o.code.program (size_of c) (at_start o.code.program inputs) r.events moments shows.shows.last)) never
       (replay (size_of c) inputs shows.shows.last all (fit ∙ ins) run)

@@ -17,7 +17,7 @@ use Rattle.schedule.specs.Starts.{IsGood}
 use Rattle.schedule.specs.Unlisted.{Quietly}
 use Rattle.command_line.specs.declared.Mode.{Mode}
 use Rattle.driver.specs.Compiled.{IsCodeFor}
-use Rattle.driver.specs.Orders.{size_of, FollowsTurns, FollowsList}
+use Rattle.driver.specs.Orders.{size_of, RunsByTurns, RunsByList}
 
 -- The report has exactly the outputs and the full cells of a memory of the meaning.
 pub record ShowsMemory (r : Report) (m : Meaning.Memory) : Type 0 where
@@ -52,7 +52,7 @@ pub record IsBoundedByMeaning (fl : Flow) (inputs : List ℤ) (p : Program) (r :
   pub events : length r.events ≤ 6 * (largest p.blocks + 1) * (1 + length contexts)
 
 -- What the report of a run of faithful code tells of the meaning.
-pub record TellsMeaning (fl : Flow) (inputs : List ℤ) (p : Program) (r : Report) : Type 0 where
+pub record ReportsMeaning (fl : Flow) (inputs : List ℤ) (p : Program) (r : Report) : Type 0 where
   pub faithful : Faithful fl p
   -- whatever its end, its outputs and cells are those of a state that the meaning reaches
   pub reached : (s : State) × Reached fl inputs s × ShowsMemory r s.memory
@@ -65,34 +65,34 @@ pub record TellsMeaning (fl : Flow) (inputs : List ℤ) (p : Program) (r : Repor
   -- and the run is no longer than the meaning's invocations allow
   pub bounded : IsBoundedByMeaning fl inputs p r
 
--- The report is of a run of the compiler's code for the graph that the text has, and it tells of the meaning. `listed`: the order of the run was
+-- The report is of a run of the compiler's code for the graph that the text has, and it tells of the meaning. `by_list`: the order of the run was
 -- a list. `may_stop`: a gate may have stopped it.
-pub record TellsOf (text : List ℕ) (g : Graph) (inputs : List ℤ) (z : Size) (steps : ℕ) (listed may_stop : Bool) (r : Report) : Type 0 where
+pub record ReportsOf (text : List ℕ) (g : Graph) (inputs : List ℤ) (z : Size) (steps : ℕ) (by_list may_stop : Bool) (r : Report) : Type 0 where
   pub is_text : IsText text g
   pub well_formed : WellFormed g
   pub inputs_fit : length inputs ≡ inputs_of (flow_of g)
   pub code : Code
   pub made : IsCodeFor g code
-  pub shows : Shows code.program z inputs steps listed may_stop r
-  pub tells : TellsMeaning (flow_of g) inputs code.program r
+  pub shows : Shows code.program z inputs steps by_list may_stop r
+  pub truth : ReportsMeaning (flow_of g) inputs code.program r
 
 -- THE HEADLINE, of a run in which each element in turn takes its oldest token
-abbrev pub TellsTruth : List ℕ → Graph → List ℤ → Config → Report → Type 0
-TellsTruth text g inputs c r = (tells : TellsOf text g inputs (size_of c) c.steps false false r) × FollowsTurns tells.code.program c inputs r
+abbrev pub ReportsTruth : List ℕ → Graph → List ℤ → Config → Report → Type 0
+ReportsTruth text g inputs c r = (truth : ReportsOf text g inputs (size_of c) c.steps false false r) × RunsByTurns truth.code.program c inputs r
 
 -- and of a run in the order of a list of elements and picks
-abbrev pub TellsTruthListed : List ℕ → Graph → List ℤ → Config → List (ℕ × ℕ) → Report → Type 0
-TellsTruthListed text g inputs c picks r = (tells : TellsOf text g inputs (size_of c) c.steps true false r) × FollowsList picks tells.code.program c inputs r
+abbrev pub ReportsTruthByList : List ℕ → Graph → List ℤ → Config → List (ℕ × ℕ) → Report → Type 0
+ReportsTruthByList text g inputs c picks r = (truth : ReportsOf text g inputs (size_of c) c.steps true false r) × RunsByList picks truth.code.program c inputs r
 
 -- and of a run whose elements are threads, in rounds or free, and ask a gate: the order of their steps is any
-abbrev pub TellsTruthInThreads : List ℕ → Graph → List ℤ → Config → Bool → Report → Type 0
-TellsTruthInThreads text g inputs c may_stop r = TellsOf text g inputs (size_of c) c.steps false may_stop r
+abbrev pub ReportsTruthInThreads : List ℕ → Graph → List ℤ → Config → Bool → Report → Type 0
+ReportsTruthInThreads text g inputs c may_stop r = ReportsOf text g inputs (size_of c) c.steps false may_stop r
 
 -- in each mode
-abbrev pub TellsTruthIn : Mode → List ℕ → Graph → List ℤ → Config → Bool → Report → Type 0
-TellsTruthIn Mode.One text g inputs c may_stop r = TellsTruth text g inputs c r
-TellsTruthIn Mode.Rounds text g inputs c may_stop r = TellsTruthInThreads text g inputs c may_stop r
-TellsTruthIn Mode.Free text g inputs c may_stop r = TellsTruthInThreads text g inputs c may_stop r
+abbrev pub ReportsTruthIn : Mode → List ℕ → Graph → List ℤ → Config → Bool → Report → Type 0
+ReportsTruthIn Mode.One text g inputs c may_stop r = ReportsTruth text g inputs c r
+ReportsTruthIn Mode.Rounds text g inputs c may_stop r = ReportsTruthInThreads text g inputs c may_stop r
+ReportsTruthIn Mode.Free text g inputs c may_stop r = ReportsTruthInThreads text g inputs c may_stop r
 
 -- only threads ask the gate
 abbrev pub stops_in : Mode → Bool → Bool
@@ -101,5 +101,5 @@ stops_in Mode.Rounds may_stop = may_stop
 stops_in Mode.Free may_stop = may_stop
 
 -- RUNS OF ANY LENGTH, whose report lists no events: with those of some run it tells what a report that lists them tells in this mode.
-abbrev pub TellsQuietly : Mode → List ℕ → Graph → List ℤ → Config → Bool → Report → Type 0
-TellsQuietly mode text g inputs c may_stop r = IsGood c × (0 < c.frames) × Quietly (TellsTruthIn mode text g inputs c may_stop) r
+abbrev pub ReportsQuietly : Mode → List ℕ → Graph → List ℤ → Config → Bool → Report → Type 0
+ReportsQuietly mode text g inputs c may_stop r = IsGood c × (0 < c.frames) × Quietly (ReportsTruthIn mode text g inputs c may_stop) r

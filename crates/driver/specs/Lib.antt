@@ -4,7 +4,7 @@ pub mod Objects
 pub mod Compiled
 pub mod Written
 pub mod Refused
-pub mod Told
+pub mod Reported
 pub mod Disassembled
-pub mod Listed
+pub mod ListedEvents
 pub mod Values

@@ -6,13 +6,13 @@ use Rattle.semantics.specs.Report.{Report, Shows}
 use Rattle.frame_order.specs.InOrder.{IsOrdered}
 use Rattle.schedule.specs.declared.config.Config.{Config}
 use Rattle.schedule.specs.Setting.{inputs_of as inputs_in_code}
-use Rattle.schedule.specs.Runs.{Kept}
+use Rattle.schedule.specs.Runs.{SoFar}
 use Rattle.schedule.specs.Starts.{IsGood, Opens}
 use Rattle.command_line.specs.declared.Mode.{Mode}
-use Rattle.driver.specs.Orders.{size_of, FollowsTurns}
+use Rattle.driver.specs.Orders.{size_of, RunsByTurns}
 
 -- The bytes are an object, and the machine is at its start on the code of it.
-pub record StartsObject (bytes : List ℕ) (inputs : List ℤ) (c : Config) (m : Kept) : Type 0 where
+pub record StartsObject (bytes : List ℕ) (inputs : List ℤ) (c : Config) (m : SoFar) : Type 0 where
   pub version : ℕ
   pub code : Code
   pub object : IsObject bytes version code
@@ -22,7 +22,7 @@ pub record StartsObject (bytes : List ℕ) (inputs : List ℤ) (c : Config) (m :
   pub opens : Opens code.program width c inputs m
 
 -- The bytes are an object, and the report is of a run of its code.
-pub record ShowsObject (bytes : List ℕ) (inputs : List ℤ) (c : Config) (listed may_stop : Bool) (r : Report) : Type 0 where
+pub record ShowsObject (bytes : List ℕ) (inputs : List ℤ) (c : Config) (by_list may_stop : Bool) (r : Report) : Type 0 where
   pub version : ℕ
   pub code : Code
   pub object : IsObject bytes version code
@@ -32,7 +32,7 @@ pub record ShowsObject (bytes : List ℕ) (inputs : List ℤ) (c : Config) (list
   -- the configuration is one that the machine takes
   pub good : IsGood c
   pub some_frame : 0 < c.frames
-  pub shows : Shows code.program (size_of c) inputs c.steps listed may_stop r
+  pub shows : Shows code.program (size_of c) inputs c.steps by_list may_stop r
   -- its events are those of a run in which the free frame of least number goes out, and a frame that comes back goes to the request that has waited longest
   pub in_order : IsOrdered code.program (size_of c) inputs r.events
 
@@ -46,6 +46,6 @@ pub record RunsObject (bytes : List ℕ) (inputs : List ℤ) (c : Config) (Order
 -- The report is of a run of the object in this mode: only where the elements take turns on one thread is the order promised, and no
 -- gate asked.
 abbrev pub ShowsObjectIn : Mode → List ℕ → List ℤ → Config → Bool → Report → Type 0
-ShowsObjectIn Mode.One bytes inputs c may_stop r = ShowsObject bytes inputs c false false r × RunsObject bytes inputs c FollowsTurns r
+ShowsObjectIn Mode.One bytes inputs c may_stop r = ShowsObject bytes inputs c false false r × RunsObject bytes inputs c RunsByTurns r
 ShowsObjectIn Mode.Rounds bytes inputs c may_stop r = ShowsObject bytes inputs c false may_stop r
 ShowsObjectIn Mode.Free bytes inputs c may_stop r = ShowsObject bytes inputs c false may_stop r

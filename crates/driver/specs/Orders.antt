@@ -6,9 +6,9 @@ use Rattle.semantics.specs.Report.{Report}
 use Rattle.schedule.specs.declared.config.Config.{Config}
 use Rattle.schedule.specs.declared.halt.Halt.{Halt}
 use Rattle.schedule.specs.Starts.{Opens}
-use Rattle.schedule.specs.Runs.{Kept, Plays, rounds_of}
-use Rattle.schedule.specs.Told.{IsReportOf}
-use Rattle.rounds.specs.Counted.{TellsRounds}
+use Rattle.schedule.specs.Runs.{SoFar, Plays, rounds_of}
+use Rattle.schedule.specs.Reported.{IsReportOf}
+use Rattle.rounds.specs.Counted.{ReportsRounds}
 
 -- the machine that a configuration asks for: its elements, each with its frames
 abbrev pub size_of : Config → Size
@@ -17,28 +17,28 @@ size_of c = record { elements = c.elements; frames = c.frames }
 -- ORDER. The events are the steps that a list names, in its order: an entry is an element and a pick among its tokens, and
 -- makes an event where the element then has a token and may make one. The report is of the machine where the run halts, and
 -- tells what its lanes hold, or of the machine at the start where its own lists are refused.
-pub record Follows (p : Program) (c : Config) (inputs : List ℤ) (listed : Bool) (picks : List (ℕ × ℕ)) (r : Report) : Type 0 where
+pub record RunsBy (p : Program) (c : Config) (inputs : List ℤ) (by_list : Bool) (picks : List (ℕ × ℕ)) (r : Report) : Type 0 where
   pub width : ℕ
-  pub start : Kept
+  pub start : SoFar
   pub opens : Opens p width c inputs start
-  pub last : Kept
+  pub last : SoFar
   pub halt : Halt
   pub made : Events
-  pub plays : Plays listed picks start.state last.state halt made
+  pub plays : Plays by_list picks start.state last.state halt made
   pub events : last.events ≡ made
-  pub told : IsReportOf last halt r
+  pub reported : IsReportOf last halt r
 
 -- the elements take turns, each with its oldest token
-abbrev pub FollowsTurns : Program → Config → List ℤ → Report → Type 0
-FollowsTurns p c inputs r = (rounds : ℕ) × Follows p c inputs false (rounds_of rounds c.elements) r
+abbrev pub RunsByTurns : Program → Config → List ℤ → Report → Type 0
+RunsByTurns p c inputs r = (rounds : ℕ) × RunsBy p c inputs false (rounds_of rounds c.elements) r
 
 -- the steps are taken in the order of this list
-abbrev pub FollowsList : List (ℕ × ℕ) → Program → Config → List ℤ → Report → Type 0
-FollowsList picks p c inputs r = Follows p c inputs true picks r
+abbrev pub RunsByList : List (ℕ × ℕ) → Program → Config → List ℤ → Report → Type 0
+RunsByList picks p c inputs r = RunsBy p c inputs true picks r
 
 -- the run makes exactly this number of rounds: in each every element makes a turn of the events that the configuration says
-pub record FollowsRounds (may_stop : Bool) (rounds : ℕ) (p : Program) (c : Config) (inputs : List ℤ) (r : Report) : Type 0 where
+pub record RunsByRounds (may_stop : Bool) (rounds : ℕ) (p : Program) (c : Config) (inputs : List ℤ) (r : Report) : Type 0 where
   pub width : ℕ
-  pub start : Kept
+  pub start : SoFar
   pub opens : Opens p width c inputs start
-  pub tells : TellsRounds true may_stop start rounds r
+  pub truth : ReportsRounds true may_stop start rounds r

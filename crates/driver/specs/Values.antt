@@ -8,10 +8,10 @@ use Rattle.semantics.specs.Report.{Report}
 use Rattle.schedule.specs.declared.config.Config.{Config}
 use Rattle.command_line.specs.declared.Mode.{Mode}
 use Rattle.law_confluence.specs.EquationsSettled.{Settled}
-use Rattle.driver.specs.Headline.{ShowsMemory, TellsOf, TellsTruthIn, TellsQuietly}
+use Rattle.driver.specs.Headline.{ShowsMemory, ReportsOf, ReportsTruthIn, ReportsQuietly}
 
 -- The report's outputs and cells are those of a run of the meaning whose values satisfy the equations of the nodes.
-pub record TellsValues (fl : Flow) (inputs : List ℤ) (r : Report) : Type 0 where
+pub record ReportsValues (fl : Flow) (inputs : List ℤ) (r : Report) : Type 0 where
   pub run : List Activity
   pub state : State
   pub is_run : Run fl (start inputs) run state
@@ -19,16 +19,16 @@ pub record TellsValues (fl : Flow) (inputs : List ℤ) (r : Report) : Type 0 whe
   pub settled : Settled fl inputs run state is_run
 
 -- So it is where a report of which the headline holds ends at rest, with no deferred reader: of a run in any order,
-abbrev pub ReportsTellValues : Type 0
-ReportsTellValues = (text : List ℕ) (g : Graph) (inputs : List ℤ) (z : Size) (steps : ℕ) (listed may_stop : Bool) (r : Report)
-    → TellsOf text g inputs z steps listed may_stop r → r.end ≡ Rest → r.deferred ≡ 0 → TellsValues (flow_of g) inputs r
+abbrev pub ReportsHaveValues : Type 0
+ReportsHaveValues = (text : List ℕ) (g : Graph) (inputs : List ℤ) (z : Size) (steps : ℕ) (by_list may_stop : Bool) (r : Report)
+    → ReportsOf text g inputs z steps by_list may_stop r → r.end ≡ Rest → r.deferred ≡ 0 → ReportsValues (flow_of g) inputs r
 
 -- in each mode,
-abbrev pub ModesTellValues : Type 0
-ModesTellValues = (mode : Mode) (text : List ℕ) (g : Graph) (inputs : List ℤ) (c : Config) (may_stop : Bool) (r : Report)
-    → TellsTruthIn mode text g inputs c may_stop r → r.end ≡ Rest → r.deferred ≡ 0 → TellsValues (flow_of g) inputs r
+abbrev pub ModesHaveValues : Type 0
+ModesHaveValues = (mode : Mode) (text : List ℕ) (g : Graph) (inputs : List ℤ) (c : Config) (may_stop : Bool) (r : Report)
+    → ReportsTruthIn mode text g inputs c may_stop r → r.end ≡ Rest → r.deferred ≡ 0 → ReportsValues (flow_of g) inputs r
 
 -- and where the report lists no events.
-abbrev pub QuietReportsTellValues : Type 0
-QuietReportsTellValues = (mode : Mode) (text : List ℕ) (g : Graph) (inputs : List ℤ) (c : Config) (may_stop : Bool) (r : Report)
-    → TellsQuietly mode text g inputs c may_stop r → r.end ≡ Rest → r.deferred ≡ 0 → TellsValues (flow_of g) inputs r
+abbrev pub QuietReportsHaveValues : Type 0
+QuietReportsHaveValues = (mode : Mode) (text : List ℕ) (g : Graph) (inputs : List ℤ) (c : Config) (may_stop : Bool) (r : Report)
+    → ReportsQuietly mode text g inputs c may_stop r → r.end ≡ Rest → r.deferred ≡ 0 → ReportsValues (flow_of g) inputs r

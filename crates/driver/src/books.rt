@@ -1,12 +1,12 @@
 //! The books of a run of an object.
 
 ghost use Rattle.std.specs.Prelude.{◌≤◌, Bool, false, IfOk, length};
-ghost use Rattle.driver.specs.Listed.{HasBooks};
+ghost use Rattle.driver.specs.ListedEvents.{HasBooks};
 ghost use Rattle.driver.specs.Objects.{ShowsObject};
 
 use loaded::Loaded;
 use object_view::OwnedObject;
-use replay::{Books, Extent, ReplayFault, keep_books};
+use replay::{Books, Extent, ReplayRefusal, keep_books};
 use schedule::config::Config;
 use schedule::main_code::MainCode;
 use schedule::report::Report;
@@ -41,7 +41,7 @@ pub fn books_of<A: Allocator + Clone>(
     let (earlier, events) = report.events.split_at(first);
     match keep_books(alloc, &code, extent, inputs, earlier, events) {
         Ok(books) => Ok(books),
-        Err(ReplayFault::Memory) => Err(AllocError),
-        Err(ReplayFault::NotARun) => unreachable!(),
+        Err(ReplayRefusal::Memory) => Err(AllocError),
+        Err(ReplayRefusal::NotARun) => unreachable!(),
     }
 }

@@ -4,10 +4,10 @@ ghost use Rattle.std.specs.Prelude.{◌≡◌, ◌<◌, All, IfOk, MatchResult, 
 ghost use Rattle.semantics.specs.Graph as Graphs;
 ghost use Rattle.driver.specs.Refused.{IsReady, IsRefused, IsRefusedObject};
 ghost use Rattle.command_line.specs.declared.Mode.{Mode};
-ghost use Rattle.driver.specs.Headline.{TellsTruthIn, TellsTruthListed, TellsQuietly, stops_in};
+ghost use Rattle.driver.specs.Headline.{ReportsTruthIn, ReportsTruthByList, ReportsQuietly, stops_in};
 ghost use Rattle.schedule.specs.Unlisted.{Quietly};
 ghost use Rattle.driver.specs.Objects.{ShowsObject, ShowsObjectIn, RunsObject};
-ghost use Rattle.driver.specs.Orders.{FollowsTurns, FollowsList};
+ghost use Rattle.driver.specs.Orders.{RunsByTurns, RunsByList};
 
 use crate::compiling::{Compiled, compile};
 use crate::fault::Fault;
@@ -41,7 +41,7 @@ pub fn emulate_object<R: Threads + Wait + Sync, A: Allocator + Clone + Send + Sy
     gate: &G,
 ) -> Result<Report<A>, Fault>
     ensures shows { MatchResult result (ShowsObject bytes.now inputs.now config false (stops_in mode G.may_stop)) (IsRefusedObject bytes.now inputs.now config) }
-    ensures turns { mode ≡ Mode.One → IfOk result (RunsObject bytes.now inputs.now config FollowsTurns) }
+    ensures turns { mode ≡ Mode.One → IfOk result (RunsObject bytes.now inputs.now config RunsByTurns) }
 {
     let code = open_code(&alloc, bytes)?;
     run_code(alloc, &code, inputs, config, mode, rt, gate)
@@ -79,7 +79,7 @@ pub fn emulate_object_picks<A: Allocator + Clone>(
 ) -> Result<Report<A>, Fault>
     requires { All (λ pick. pick.0 < config.elements) picks.now }
     ensures shows { MatchResult result (ShowsObject bytes.now inputs.now config true false) (IsRefusedObject bytes.now inputs.now config) }
-    ensures list { IfOk result (RunsObject bytes.now inputs.now config (FollowsList picks.now)) }
+    ensures list { IfOk result (RunsObject bytes.now inputs.now config (RunsByList picks.now)) }
 {
     let code = open_code(&alloc, bytes)?;
     run_code_picks(alloc, &code, inputs, config, picks)
@@ -111,7 +111,7 @@ pub fn run_text<'a, R: Threads + Wait + Sync, A: Allocator + Clone + Send + Sync
     rt: &R,
     gate: &G,
 ) -> Result<Emulated<'a, A>, Fault>
-    ensures { MatchResult result (λ e. TellsQuietly mode text.now e.checked inputs.now config G.may_stop e.report) (IsRefused text.now inputs.now config) }
+    ensures { MatchResult result (λ e. ReportsQuietly mode text.now e.checked inputs.now config G.may_stop e.report) (IsRefused text.now inputs.now config) }
 {
     let Compiled { checked, object } = compile(alloc.clone()?, text)?;
     let code = Loaded::new(alloc.clone()?, object.as_object())?;
@@ -130,7 +130,7 @@ pub fn emulate<R: Threads + Wait + Sync, A: Allocator + Clone + Send + Sync, G: 
     rt: &R,
     gate: &G,
 ) -> Result<Report<A>, Fault>
-    ensures { MatchResult result (λ report. (g : Graphs.Graph) × TellsTruthIn mode text.now g inputs.now config G.may_stop report) (IsRefused text.now inputs.now config) }
+    ensures { MatchResult result (λ report. (g : Graphs.Graph) × ReportsTruthIn mode text.now g inputs.now config G.may_stop report) (IsRefused text.now inputs.now config) }
 {
     let compiled = compile(alloc.clone()?, text)?;
     let bytes = compiled.object.bytes();
@@ -148,7 +148,7 @@ pub fn emulate_picks<A: Allocator + Clone>(
     picks: &[(u32, u64)],
 ) -> Result<Report<A>, Fault>
     requires { All (λ pick. pick.0 < config.elements) picks.now }
-    ensures { MatchResult result (λ report. (g : Graphs.Graph) × TellsTruthListed text.now g inputs.now config picks.now report) (IsRefused text.now inputs.now config) }
+    ensures { MatchResult result (λ report. (g : Graphs.Graph) × ReportsTruthByList text.now g inputs.now config picks.now report) (IsRefused text.now inputs.now config) }
 {
     let compiled = compile(alloc.clone()?, text)?;
     let bytes = compiled.object.bytes();

@@ -2,7 +2,7 @@
 
 ghost use Rattle.std.specs.Prelude.{◌≡◌};
 ghost use Rattle.driver.specs.Refused.{refusal_of};
-ghost use Rattle.driver.specs.Told.{IsUnread, IsUnchecked, unassigned_as, unemitted_as, unmeant_as};
+ghost use Rattle.driver.specs.Reported.{IsUnread, IsUnchecked, unassigned_as, unemitted_as, unmeant_as};
 ghost use Rattle.driver.specs.declared.fault.Fault.TheVariants.{Memory, Object};
 
 use graph_check::{CheckFault, CheckFaultKind};
@@ -34,7 +34,7 @@ pub enum Fault {
 }
 
 impl From<AllocError> for Fault {
-    ghost from_gives = { λ _ told. told ≡ Memory };
+    ghost from_gives = { λ _ reported. reported ≡ Memory };
 
     fn from(_error: AllocError) -> Fault {
         Fault::Memory
@@ -42,7 +42,7 @@ impl From<AllocError> for Fault {
 }
 
 impl From<ReadFault> for Fault {
-    ghost from_gives = { λ fault told. IsUnread fault told };
+    ghost from_gives = { λ fault reported. IsUnread fault reported };
 
     fn from(fault: ReadFault) -> Fault {
         match fault.kind {
@@ -53,7 +53,7 @@ impl From<ReadFault> for Fault {
 }
 
 impl From<CheckFault> for Fault {
-    ghost from_gives = { λ fault told. IsUnchecked fault told };
+    ghost from_gives = { λ fault reported. IsUnchecked fault reported };
 
     fn from(fault: CheckFault) -> Fault {
         match fault.kind {
@@ -64,7 +64,7 @@ impl From<CheckFault> for Fault {
 }
 
 impl From<AssignFault> for Fault {
-    ghost from_gives = { λ fault told. told ≡ unassigned_as fault };
+    ghost from_gives = { λ fault reported. reported ≡ unassigned_as fault };
 
     fn from(fault: AssignFault) -> Fault {
         match fault {
@@ -75,7 +75,7 @@ impl From<AssignFault> for Fault {
 }
 
 impl From<EmitFault> for Fault {
-    ghost from_gives = { λ fault told. told ≡ unemitted_as fault };
+    ghost from_gives = { λ fault reported. reported ≡ unemitted_as fault };
 
     fn from(fault: EmitFault) -> Fault {
         match fault {
@@ -86,7 +86,7 @@ impl From<EmitFault> for Fault {
 }
 
 impl From<MeanFault> for Fault {
-    ghost from_gives = { λ fault told. told ≡ unmeant_as fault };
+    ghost from_gives = { λ fault reported. reported ≡ unmeant_as fault };
 
     fn from(fault: MeanFault) -> Fault {
         match fault {
@@ -97,7 +97,7 @@ impl From<MeanFault> for Fault {
 }
 
 impl From<ObjectFault> for Fault {
-    ghost from_gives = { λ fault told. told ≡ Object fault };
+    ghost from_gives = { λ fault reported. reported ≡ Object fault };
 
     fn from(fault: ObjectFault) -> Fault {
         Fault::Object(fault)
@@ -105,7 +105,7 @@ impl From<ObjectFault> for Fault {
 }
 
 impl From<StartFault> for Fault {
-    ghost from_gives = { λ fault told. told ≡ refusal_of fault };
+    ghost from_gives = { λ fault reported. reported ≡ refusal_of fault };
 
     fn from(fault: StartFault) -> Fault {
         match fault {

@@ -2,7 +2,7 @@
 
 ghost use Rattle.std.specs.Prelude.{◌≡◌, IfErr, IfOk, Some};
 ghost use Rattle.driver.specs.Refused.{IsGoodText, IsRefusedMeaning};
-ghost use Rattle.oracle.specs.Gathering.{waves_told};
+ghost use Rattle.oracle.specs.Gathering.{wave_counts};
 ghost use Rattle.oracle.specs.Reporting.{IsMeant};
 ghost use Rattle.oracle.specs.Waves.{AreWavesOf};
 
@@ -52,7 +52,7 @@ pub fn waves_text<'a, A: Allocator + Clone>(
 ) -> Result<Waved<'a, A>, Fault>
     ensures good { IfOk result (λ w. IsGoodText text.now w.checked) }
     ensures waves { IfOk result (λ w. AreWavesOf w.checked inputs.now steps w.report.end w.report.counts.items) }
-    ensures told { IfOk result (λ w. waves_told w.checked inputs.now steps ≡ Some (w.report.end, w.report.counts.items)) }
+    ensures reported { IfOk result (λ w. wave_counts w.checked inputs.now steps ≡ Some (w.report.end, w.report.counts.items)) }
     ensures refused { IfErr result (IsRefusedMeaning text.now inputs.now) }
 {
     let checked = check_text(alloc.clone()?, text)?;

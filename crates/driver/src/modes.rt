@@ -6,8 +6,8 @@ ghost use Rattle.schedule.specs.Shown.{ShowsInOrder};
 ghost use Rattle.command_line.specs.declared.Mode.{Mode};
 ghost use Rattle.schedule.specs.declared.halt.Halt.{Halt};
 ghost use Rattle.schedule.specs.Setting.{size};
-ghost use Rattle.schedule.specs.Runs.{Kept, Began, Plays, rounds_of};
-ghost use Rattle.schedule.specs.Told.{IsReportOf};
+ghost use Rattle.schedule.specs.Runs.{SoFar, Began, Plays, rounds_of};
+ghost use Rattle.schedule.specs.Reported.{IsReportOf};
 ghost use Rattle.schedule.specs.Unlisted.{ShowsQuietly, Quietly, RunsInTurn};
 ghost use Rattle.driver.specs.Headline.{stops_in};
 
@@ -29,7 +29,7 @@ pub fn run_in<
     G: Gate + Sync,
 >(machine: Machine<'_, C, A>, mode: Mode, rt: &R, gate: &G) -> Report<A>
     ensures shows { (inputs : List ℤ) → Began inputs machine.entry.state machine.entry.events → ShowsInOrder machine.entry.state.setting.program (size machine.entry.state.setting) inputs machine.entry.state.setting.steps false (stops_in mode G.may_stop) result }
-    ensures plays { mode ≡ Mode.One → (last : Kept) × (halt : Halt) × (rounds : ℕ) × (made : Events) × Plays false (rounds_of rounds machine.entry.state.setting.elements) machine.entry.state last.state halt made × (last.events ≡ machine.entry.events ++ made) × IsReportOf last halt result }
+    ensures plays { mode ≡ Mode.One → (last : SoFar) × (halt : Halt) × (rounds : ℕ) × (made : Events) × Plays false (rounds_of rounds machine.entry.state.setting.elements) machine.entry.state last.state halt made × (last.events ≡ machine.entry.events ++ made) × IsReportOf last halt result }
 {
     match mode {
         Mode::One => machine.run_one(),

@@ -19,7 +19,7 @@ pub enum ObjectRefusal {
 }
 
 impl From<ObjectFault> for ObjectRefusal {
-    ghost from_gives = { λ fault told. told ≡ Object fault };
+    ghost from_gives = { λ fault reported. reported ≡ Object fault };
 
     fn from(fault: ObjectFault) -> ObjectRefusal {
         ObjectRefusal::Object(fault)
@@ -27,7 +27,7 @@ impl From<ObjectFault> for ObjectRefusal {
 }
 
 impl From<io::Error> for ObjectRefusal {
-    ghost from_gives = { λ fault told. told ≡ Write fault };
+    ghost from_gives = { λ fault reported. reported ≡ Write fault };
 
     fn from(fault: io::Error) -> ObjectRefusal {
         ObjectRefusal::Write(fault)

@@ -7,7 +7,7 @@ ghost use Rattle.schedule.specs.Unlisted.{Quietly};
 ghost use Rattle.driver.specs.Disassembled.{IsOpened};
 ghost use Rattle.driver.specs.Headline.{stops_in};
 ghost use Rattle.driver.specs.Objects.{ShowsObject, ShowsObjectIn, RunsObject, StartsObject};
-ghost use Rattle.driver.specs.Orders.{FollowsTurns, FollowsList, FollowsRounds};
+ghost use Rattle.driver.specs.Orders.{RunsByTurns, RunsByList, RunsByRounds};
 ghost use Rattle.driver.specs.Refused.{IsNoObject, IsReadyObject, IsRefusedObject};
 
 use crate::fault::Fault;
@@ -79,7 +79,7 @@ pub fn run_code<R: Threads + Wait + Sync, A: Allocator + Clone + Send + Sync, G:
     gate: &G,
 ) -> Result<Report<A>, Fault>
     ensures shows { MatchResult result (ShowsObject code.now.bytes inputs.now config false (stops_in mode G.may_stop)) (IsRefusedObject code.now.bytes inputs.now config) }
-    ensures turns { mode ≡ Mode.One → IfOk result (RunsObject code.now.bytes inputs.now config FollowsTurns) }
+    ensures turns { mode ≡ Mode.One → IfOk result (RunsObject code.now.bytes inputs.now config RunsByTurns) }
 {
     let mut store = None;
     let machine = start_code(alloc, &mut store, code, inputs, config)?;
@@ -119,7 +119,7 @@ pub fn run_code_picks<A: Allocator + Clone>(
 ) -> Result<Report<A>, Fault>
     requires { All (λ pick. pick.0 < config.elements) picks.now }
     ensures shows { MatchResult result (ShowsObject code.now.bytes inputs.now config true false) (IsRefusedObject code.now.bytes inputs.now config) }
-    ensures list { IfOk result (RunsObject code.now.bytes inputs.now config (FollowsList picks.now)) }
+    ensures list { IfOk result (RunsObject code.now.bytes inputs.now config (RunsByList picks.now)) }
 {
     let mut store = None;
     let machine = start_code(alloc, &mut store, code, inputs, config)?;
@@ -140,7 +140,7 @@ pub fn run_code_counted<
     gate: &G,
 ) -> Result<Counted<A>, Fault>
     ensures shows { MatchResult result (λ c. ShowsObject code.now.bytes inputs.now config false G.may_stop c.report) (IsRefusedObject code.now.bytes inputs.now config) }
-    ensures rounds { IfOk result (λ c. RunsObject code.now.bytes inputs.now config (FollowsRounds G.may_stop c.rounds) c.report) }
+    ensures rounds { IfOk result (λ c. RunsObject code.now.bytes inputs.now config (RunsByRounds G.may_stop c.rounds) c.report) }
 {
     let mut store = None;
     let machine = start_code(alloc, &mut store, code, inputs, config)?;

@@ -1,14 +1,14 @@
 //! What a report says of the values of a graph's ports.
 
-ghost use Rattle.driver.specs.Values.{ReportsTellValues, ModesTellValues, QuietReportsTellValues};
+ghost use Rattle.driver.specs.Values.{ReportsHaveValues, ModesHaveValues, QuietReportsHaveValues};
 
 /// What a report says, without tokens, to whoever builds on the compiler.
 ///
 /// Where a report of which the headline holds ends at rest with no deferred reader, its outputs and cells are those of a run of
 /// the meaning in which each port has one value, and the values satisfy the equations of the nodes: in any order of the events,
 /// in each mode, and where the report lists no events.
-pub fn reports_tell_values()
-    ensures values { ReportsTellValues }
-    ensures modes { ModesTellValues }
-    ensures quiet { QuietReportsTellValues }
+pub fn reports_have_values()
+    ensures values { ReportsHaveValues }
+    ensures modes { ModesHaveValues }
+    ensures quiet { QuietReportsHaveValues }
 {}

@@ -3,9 +3,9 @@
 ghost use Rattle.std.specs.Prelude.{◌≡◌, Bool, false, IfOk, MatchResult};
 ghost use Rattle.command_line.specs.declared.Mode.{Mode};
 ghost use Rattle.driver.specs.Headline.{stops_in};
-ghost use Rattle.driver.specs.Listed.{AreMoments};
+ghost use Rattle.driver.specs.ListedEvents.{AreMoments};
 ghost use Rattle.driver.specs.Objects.{ShowsObject, RunsObject};
-ghost use Rattle.driver.specs.Orders.{FollowsTurns, FollowsRounds};
+ghost use Rattle.driver.specs.Orders.{RunsByTurns, RunsByRounds};
 ghost use Rattle.driver.specs.Refused.{IsRefusedObject};
 
 use crate::fault::Fault;
@@ -13,7 +13,7 @@ use crate::running::{run_code, run_code_counted};
 use command_line::Mode;
 use loaded::Loaded;
 use object_view::OwnedObject;
-use replay::{Moment, ReplayFault, replay};
+use replay::{Moment, ReplayRefusal, replay};
 use rounds::{Counted, Gate};
 use schedule::config::Config;
 use schedule::main_code::MainCode;
@@ -48,8 +48,8 @@ fn moments_of<A: Allocator + Clone>(
     let frames = (config.elements * config.frames) as u32;
     match replay(alloc, code, frames, count, &report.events) {
         Ok(moments) => Ok(moments),
-        Err(ReplayFault::Memory) => Err(AllocError),
-        Err(ReplayFault::NotARun) => unreachable!(),
+        Err(ReplayRefusal::Memory) => Err(AllocError),
+        Err(ReplayRefusal::NotARun) => unreachable!(),
     }
 }
 
@@ -65,7 +65,7 @@ pub fn watch_code<R: Threads + Wait + Sync, A: Allocator + Clone + Send + Sync, 
     gate: &G,
 ) -> Result<Watched<A>, Fault>
     ensures shows { MatchResult result (λ w. ShowsObject code.now.bytes inputs.now config false (stops_in mode G.may_stop) w.report) (IsRefusedObject code.now.bytes inputs.now config) }
-    ensures turns { mode ≡ Mode.One → IfOk result (λ w. RunsObject code.now.bytes inputs.now config FollowsTurns w.report) }
+    ensures turns { mode ≡ Mode.One → IfOk result (λ w. RunsObject code.now.bytes inputs.now config RunsByTurns w.report) }
     ensures moments { IfOk result (λ w. AreMoments code.now.bytes inputs.now config w.report w.moments.items) }
 {
     let report = run_code(alloc.clone()?, code, inputs, config, mode, rt, gate)?;
@@ -84,7 +84,7 @@ pub fn watch_object<R: Threads + Wait + Sync, A: Allocator + Clone + Send + Sync
     gate: &G,
 ) -> Result<Watched<A>, Fault>
     ensures shows { MatchResult result (λ w. ShowsObject object.now.bytes inputs.now config false (stops_in mode G.may_stop) w.report) (IsRefusedObject object.now.bytes inputs.now config) }
-    ensures turns { mode ≡ Mode.One → IfOk result (λ w. RunsObject object.now.bytes inputs.now config FollowsTurns w.report) }
+    ensures turns { mode ≡ Mode.One → IfOk result (λ w. RunsObject object.now.bytes inputs.now config RunsByTurns w.report) }
     ensures moments { IfOk result (λ w. AreMoments object.now.bytes inputs.now config w.report w.moments.items) }
 {
     let code = Loaded::new(alloc.clone()?, object.as_object())?;
@@ -109,7 +109,7 @@ pub fn watch_rounds<R: Threads + Wait + Sync, A: Allocator + Clone + Send + Sync
     gate: &G,
 ) -> Result<WatchedRounds<A>, Fault>
     ensures shows { MatchResult result (λ w. ShowsObject code.now.bytes inputs.now config false G.may_stop w.watched.report) (IsRefusedObject code.now.bytes inputs.now config) }
-    ensures rounds { IfOk result (λ w. RunsObject code.now.bytes inputs.now config (FollowsRounds G.may_stop w.rounds) w.watched.report) }
+    ensures rounds { IfOk result (λ w. RunsObject code.now.bytes inputs.now config (RunsByRounds G.may_stop w.rounds) w.watched.report) }
     ensures moments { IfOk result (λ w. AreMoments code.now.bytes inputs.now config w.watched.report w.watched.moments.items) }
 {
     let counted = run_code_counted(alloc.clone()?, code, inputs, config, rt, gate)?;

@@ -11,7 +11,7 @@ use Rattle.tags.specs.declared.token.To.{To}
 use Rattle.tags.specs.declared.token.Token.{Token}
 use Rattle.tags.specs.declared.slot.SlotState.{SlotState}
 use Rattle.semantics.specs.Program.{Instr, Program, instr_at}
-use Rattle.semantics.specs.Rule.{back_to, Seat, Outcome, Becomes, rule_at, outcome_of, slot_of}
+use Rattle.semantics.specs.Rule.{back_to, Point, Outcome, Becomes, rule_at, outcome_of, slot_of}
 use Rattle.semantics.specs.Machine.{Store, CellState, Vacant, Full, Deferred, Happens, Fires, Stores, Requests, slot_in, slot_used, with_slot_in, answer, answers, outputs_of, put_at, with_output, with_done}
 use Rattle.semantics.proofs.Stores.{put_other}
 use Rattle.istructure.specs.declared.FetchAnswer.{FetchAnswer}
@@ -32,8 +32,8 @@ use Rattle.element.proofs.Only.{fetch_only, store_only, request_only, release_on
 use Rattle.element.proofs.Nearness.{back_near, one_near}
 use Rattle.element.proofs.Places.{set_at, slot_then, agree}
 
-abbrev seat : ℕ → ℕ → Seat
-seat f ip = record { frame = f; ip = ip }
+abbrev point : ℕ → ℕ → Point
+point f ip = record { frame = f; ip = ip }
 
 -- AN INSTRUCTION
 abbrev pub IsLow : ℕ → Option ℕ → Type 0
@@ -91,7 +91,7 @@ module _ (p : Program) (h : Part) (f : ℕ) (v : SlotState) (sound : IsSound p h
   slot_same (Some r) s low part = part.slots f r ours there low
 
   pub instr_changes : (t : Token) (ip : ℕ) (port : Port) (i : Instr) (made : List Token) → t.to ≡ To.Instr f ip port → instr_at p ip ≡ Some i → IsLow h.shape.width (slot_of i i.op)
-      → outcome_of p (seat f ip) i i.op (state_in h f (slot_of i i.op)) port t.word ≡ Becomes v made → IsNearSlot (bounds p h.shape) v → All (IsNearToken (bounds p h.shape)) made
+      → outcome_of p (point f ip) i i.op (state_in h f (slot_of i i.op)) port t.word ≡ Becomes v made → IsNearSlot (bounds p h.shape) v → All (IsNearToken (bounds p h.shape)) made
       → Changes p h t made (with_state_in h f (slot_of i i.op) v)
   instr_changes t ip port i made to_is found low comes near all_near = record {
     shape = slot_shape (slot_of i i.op);
@@ -104,10 +104,10 @@ module _ (p : Program) (h : Part) (f : ℕ) (v : SlotState) (sound : IsSound p h
       happens : (s : Store) → IsPart h s → Happens p (h.shape.elements * h.shape.frames) s t.to t.word made (with_slot_in s f (slot_of i i.op) v)
       happens s part =
           let n : Store = with_slot_in s f (slot_of i i.op) v in
-          let at_slot = subst (λ (x : SlotState). outcome_of p (seat f ip) i i.op x port t.word ≡ Becomes v made) (sym (slot_same (slot_of i i.op) s low part)) comes in
-          let fired : Fires s f (slot_of i i.op) (outcome_of p (seat f ip) i i.op (slot_in s f (slot_of i i.op)) port t.word) made n = subst (λ (o : Outcome). Fires s f (slot_of i i.op) o made n) (sym at_slot) (refl, refl) in
+          let at_slot = subst (λ (x : SlotState). outcome_of p (point f ip) i i.op x port t.word ≡ Becomes v made) (sym (slot_same (slot_of i i.op) s low part)) comes in
+          let fired : Fires s f (slot_of i i.op) (outcome_of p (point f ip) i i.op (slot_in s f (slot_of i i.op)) port t.word) made n = subst (λ (o : Outcome). Fires s f (slot_of i i.op) o made n) (sym at_slot) (refl, refl) in
           let here : Happens p (h.shape.elements * h.shape.frames) s (To.Instr f ip port) t.word made n
-          = subst (λ (x : Option Instr). Fires s f (slot_used x) (rule_at p (seat f ip) x (slot_in s f (slot_used x)) port t.word) made n) (sym found) fired in
+          = subst (λ (x : Option Instr). Fires s f (slot_used x) (rule_at p (point f ip) x (slot_in s f (slot_used x)) port t.word) made n) (sym found) fired in
           subst (λ (to : To). Happens p (h.shape.elements * h.shape.frames) s to t.word made n) (sym to_is) here
 
 -- CELLS

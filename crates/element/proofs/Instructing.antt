@@ -26,7 +26,7 @@ use Rattle.element.specs.Near.{Bounds, IsNearCont, IsNearWord, IsNearTo, IsNearT
 use Rattle.element.specs.Parts.{Part, IsSound, bounds, slot_place}
 use Rattle.element.specs.Changed.{state_in, with_state_in}
 use Rattle.element.specs.Acts.{Changes}
-use Rattle.element.proofs.Nearness.{IsNearSeat, NearOutcome, outcome_near}
+use Rattle.element.proofs.Nearness.{IsNearPoint, NearOutcome, outcome_near}
 use Rattle.element.proofs.Changing.{IsLow, instr_changes}
 
 room_cont : (b : Bounds) (c : Cont) → IsNearCont b c → HasRoom c
@@ -102,8 +102,8 @@ instructed p width h t f ip port i v made slot sound wide to_is near addressed s
     at_slot : outcome_of p record { frame = f; ip = ip } (instr_of i) i.op (state_in h f (slot_of (instr_of i) i.op)) port t.word ≡ Becomes v made
     at_slot = subst (λ (s : SlotState). outcome_of p record { frame = f; ip = ip } (instr_of i) i.op s port t.word ≡ Becomes v made) slot_is comes
 
-    at_seat : IsNearSeat p b record { frame = f; ip = ip } (instr_of i)
-    at_seat = record { frame = there; back = answer_near b f ip (dest_in i.first) there short.near short.first; land = landing_near b f ip (dest_in i.first) there short.near short.first; cells = λ a x l. cell_there p.arrays a x l }
+    at_point : IsNearPoint p b record { frame = f; ip = ip } (instr_of i)
+    at_point = record { frame = there; back = answer_near b f ip (dest_in i.first) there short.near short.first; land = landing_near b f ip (dest_in i.first) there short.near short.first; cells = λ a x l. cell_there p.arrays a x l }
 
     after : NearOutcome b (Becomes v made)
-    after = subst (λ (o : Outcome). NearOutcome b o) at_slot (outcome_near p b record { frame = f; ip = ip } (instr_of i) at_seat i.op (state_in h f (slot_of (instr_of i) i.op)) port t.word (state_near p h f (slot_of (instr_of i) i.op) sound) near.word)
+    after = subst (λ (o : Outcome). NearOutcome b o) at_slot (outcome_near p b record { frame = f; ip = ip } (instr_of i) at_point i.op (state_in h f (slot_of (instr_of i) i.op)) port t.word (state_near p h f (slot_of (instr_of i) i.op) sound) near.word)

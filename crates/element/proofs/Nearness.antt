@@ -20,7 +20,7 @@ use Rattle.semantics.specs.declared.program.Dest.{Dest}
 use Rattle.semantics.specs.declared.program.Op.{Op}
 use Rattle.semantics.specs.declared.program.Op.TheVariants.{Apply1, Apply2, Apply2Right, Apply2Left, Lit, Copy, Sync, Switch, Fetch, Store, Frame, Link, Send, Return, Ask, Open, Take, Give, Drain, Release}
 use Rattle.semantics.specs.Program.{Instr, Program, first_of}
-use Rattle.semantics.specs.Rule.{Seat, Outcome, Becomes, Excluded, token, signal, at_dest, to_each, to_all, beyond, back_to, answer_to, landing_at, fires, array_base, array_len, asks_for, puts, fire_one, fire_two, meets, opens, takes, gives, drains, alone, outcome_of}
+use Rattle.semantics.specs.Rule.{Point, Outcome, Becomes, Excluded, token, signal, at_dest, to_each, to_all, beyond, back_to, answer_to, landing_at, fires, array_base, array_len, asks_for, puts, fire_one, fire_two, meets, opens, takes, gives, drains, alone, outcome_of}
 use Rattle.element.specs.Near.{Bounds, IsNearCont, IsNearWord, IsNearTo, IsNearToken, IsNearSlot}
 
 abbrev pub NearMade : Bounds → Option (List Token) → Type 0
@@ -49,13 +49,13 @@ fired_near : (b : Bounds) (v : SlotState) (o : Option (List Token)) → IsNearSl
 fired_near b v None n h = tt
 fired_near b v (Some made) n h = (n, h)
 
-pub record IsNearSeat (p : Program) (b : Bounds) (s : Seat) (i : Instr) : Type 0 where
+pub record IsNearPoint (p : Program) (b : Bounds) (s : Point) (i : Instr) : Type 0 where
   pub frame : s.frame < b.frames
   pub back : IsNearCont b (answer_to s i.firsts)
   pub land : IsNearCont b (landing_at s i.firsts)
   pub cells : (a x : ℕ) → x < array_len p a → array_base p a + x < b.cells
 
-module _ (p : Program) (b : Bounds) (s : Seat) (i : Instr) (at : IsNearSeat p b s i) where
+module _ (p : Program) (b : Bounds) (s : Point) (i : Instr) (at : IsNearPoint p b s i) where
   each_near : (w : Word) (ds : List Dest) → IsNearWord b w → All (IsNearToken b) (to_each s w ds)
   each_near w ds n = All-map (IsNearToken b) (at_dest s w) ds (λ k d low. record { to = at.frame; word = n })
 

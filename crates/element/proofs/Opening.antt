@@ -20,7 +20,7 @@ use Rattle.istructure.proofs.Places.{place_from_state, place_is}
 use Rattle.frame_manager.specs.Managed.{Managed, is_out, at_first}
 use Rattle.element.specs.Near.{Bounds, IsNearCont, IsNearToken, IsNearSlot, IsNearCell}
 use Rattle.element.specs.Parts.{Shape, Part, Manages, IsSound, IsSoundManager, bounds}
-use Rattle.element.specs.Held.{Held, with_queue, IsSoundLane}
+use Rattle.element.specs.Holding.{Holding, with_queue, IsSoundLane}
 use Rattle.element.specs.Openings.{IsOpening, StartsAs, OthersStay}
 use Rattle.element.proofs.Only.{manages_as}
 
@@ -43,7 +43,7 @@ others_stay p z h old new same elements ne own_element own_elements part = recor
     cell_ours x state e = let w = place_from_state h.cells x state e in let q = place_is h.cells x w.0 w.1 in subst (λ (n : ℕ). x % n ≡ h.shape.element) own_elements (q.ours ∙ own_element)
 
 -- a received token
-pub received_sound : (p : Program) (h : Held) (t : Token) → IsSoundLane p h → IsNearToken (bounds p h.part.shape) t → element_of h.part.shape.elements t.to ≡ h.part.shape.element → IsSoundLane p (with_queue h (h.queue ++ t ∷ []))
+pub received_sound : (p : Program) (h : Holding) (t : Token) → IsSoundLane p h → IsNearToken (bounds p h.part.shape) t → element_of h.part.shape.elements t.to ≡ h.part.shape.element → IsSoundLane p (with_queue h (h.queue ++ t ∷ []))
 received_sound p h t sound near ours = record {
   part = sound.part;
   near = All-push (IsNearToken (bounds p h.part.shape)) h.queue t sound.near near;
@@ -101,7 +101,7 @@ opening_part p h o inputs = record {
   done = λ first. sym o.done;
 }
 
-pub lane_opens : (p : Program) (h : Held) → h.queue ≡ [] → h.answered ≡ [] → IsOpening p h.part → IsSoundLane p h × StartsAs p h.part
+pub lane_opens : (p : Program) (h : Holding) → h.queue ≡ [] → h.answered ≡ [] → IsOpening p h.part → IsSoundLane p h × StartsAs p h.part
 lane_opens p h queue answered o = (
   record {
     part = opening_sound p h.part o;

@@ -14,7 +14,7 @@ use Rattle.element.specs.declared.lane.Stepped.{Stepped}
 use Rattle.element.specs.declared.lane.Stepped.TheVariants.{Idle, Did, Clash, Stuck, Memory}
 use Rattle.element.specs.Near.{Bounds, IsNearToken}
 use Rattle.element.specs.Parts.{Shape, Part, IsPart, bounds}
-use Rattle.element.specs.Held.{Held, is_here, here, elsewhere, queued, taken, with_part, IsSoundLane}
+use Rattle.element.specs.Holding.{Holding, is_here, here, elsewhere, queued, taken, with_part, IsSoundLane}
 use Rattle.element.specs.Acts.{Changes, Acts, ActsAs, ServesFirst}
 use Rattle.element.specs.Steps.{place_of, Picks, HoldsTokens, IsAfter, Does, Steps}
 
@@ -23,7 +23,7 @@ module _ (z : Shape) (made : List Token) where
   parted : IsPermutation made (here z made ++ elsewhere z made)
   parted = IsPermutation-filter_both (is_here z) (λ (t : Token). not (is_here z t)) (λ t. refl) made
 
-  -- what was made goes behind the queue and behind those for others
+  -- what was made goes after the queue and after those for others
   pub placed : (q before others : List Token) → IsPermutation (made ++ (q ++ (before ++ others))) ((q ++ here z made) ++ ((before ++ elsewhere z made) ++ others))
   placed q before others =
       IsPermutation-trans _ _ _ (IsPermutation-append_left (q ++ (before ++ others)) made (here z made ++ elsewhere z made) parted) by_parts
@@ -50,7 +50,7 @@ module _ (z : Shape) (made : List Token) where
           (subst (λ (l : List Token). IsPermutation l ((q ++ h) ++ ((before ++ e) ++ others))) (append_assoc h q ((before ++ e) ++ others))
           (IsPermutation-append_left ((before ++ e) ++ others) (h ++ q) (q ++ h) (IsPermutation-append_comm h q))))
 
-module _ (p : Program) (old : Held) (pick : ℕ) (t : Token) (before : List Token) (sound : IsSoundLane p old) (some : 0 < length old.queue) (is : t ≡ get_or old.queue (place_of old pick) t) where
+module _ (p : Program) (old : Holding) (pick : ℕ) (t : Token) (before : List Token) (sound : IsSoundLane p old) (some : 0 < length old.queue) (is : t ≡ get_or old.queue (place_of old pick) t) where
   abbrev z : Shape
   z = old.part.shape
 
@@ -69,14 +69,14 @@ module _ (p : Program) (old : Held) (pick : ℕ) (t : Token) (before : List Toke
   addressed : element_of z.elements t.to ≡ z.element
   addressed = subst (λ (x : Token). element_of z.elements x.to ≡ z.element) (sym is) (sound.addressed (place_of old pick) t within)
 
-  after_event : (new : Held) (after : List Token) (acts : Acts p old (place_of old pick) t before new after) (m : Machine) (others : List Token) → IsPart old.part m.store → HoldsTokens old before others m
+  after_event : (new : Holding) (after : List Token) (acts : Acts p old (place_of old pick) t before new after) (m : Machine) (others : List Token) → IsPart old.part m.store → HoldsTokens old before others m
       → IsAfter p old t new after others acts.made m
   after_event new after acts m others part pool =
       let e = acts.changes.event m.store part in
       let next : Machine = record { store = e.0; pool = acts.made ++ (rest ++ (before ++ others)) } in
-      let held_part : new.part ≡ acts.part = ap (λ (h : Held). h.part) acts.held in
+      let held_part : new.part ≡ acts.part = ap (λ (h : Holding). h.part) acts.held in
       let z_same : acts.part.shape ≡ z = acts.changes.shape in
-      let queue_is : new.queue ≡ rest ++ here z acts.made = ap (λ (h : Held). h.queue) acts.held ∙ ap (λ (s : Shape). rest ++ here s acts.made) z_same in
+      let queue_is : new.queue ≡ rest ++ here z acts.made = ap (λ (h : Holding). h.queue) acts.held ∙ ap (λ (s : Shape). rest ++ here s acts.made) z_same in
       record {
         next = next;
         event = record {
@@ -94,21 +94,21 @@ module _ (p : Program) (old : Held) (pick : ℕ) (t : Token) (before : List Toke
             (subst (λ (a : List Token). IsPermutation next.pool ((rest ++ here z acts.made) ++ (a ++ others))) (sym acts.sent) (placed z acts.made rest before others));
       }
 
-  does : (new : Held) (after : List Token) → Acts p old (place_of old pick) t before new after → Does p old pick before new after
+  does : (new : Holding) (after : List Token) → Acts p old (place_of old pick) t before new after → Does p old pick before new after
   does new after acts = record {
     token = t;
     picks = picks;
     made = acts.made;
-    queue = ap (λ (h : Held). h.queue) acts.held ∙ ap (λ (s : Shape). rest ++ here s acts.made) acts.changes.shape;
+    queue = ap (λ (h : Holding). h.queue) acts.held ∙ ap (λ (s : Shape). rest ++ here s acts.made) acts.changes.shape;
     sent = acts.sent;
     near = acts.changes.near;
-    first = subst (λ (k : Part). ServesFirst old.part t.to t.word acts.made k) (sym (ap (λ (h : Held). h.part) acts.held)) acts.changes.first;
-    count = ap (λ (h : Held). h.made) acts.held;
-    shape = ap (λ (h : Held). h.part.shape) acts.held ∙ acts.changes.shape;
+    first = subst (λ (k : Part). ServesFirst old.part t.to t.word acts.made k) (sym (ap (λ (h : Holding). h.part) acts.held)) acts.changes.first;
+    count = ap (λ (h : Holding). h.made) acts.held;
+    shape = ap (λ (h : Holding). h.part.shape) acts.held ∙ acts.changes.shape;
     event = λ m others part pool. after_event new after acts m others part pool;
   }
 
-  pub steps_as : (result : Stepped) (new : Held) (after : List Token) → ActsAs p old (place_of old pick) t before result new after → Steps p old pick before result new after
+  pub steps_as : (result : Stepped) (new : Holding) (after : List Token) → ActsAs p old (place_of old pick) t before result new after → Steps p old pick before result new after
   steps_as Idle new after acts = absurd acts
   steps_as Did new after acts = does new after acts
   steps_as (Clash cell) new after acts = (record { token = t; picks = picks; second = acts.0 }, record { held = acts.1.0; sent = acts.1.1 })
@@ -141,23 +141,23 @@ module _ (p : Program) (old : Held) (pick : ℕ) (t : Token) (before : List Toke
       here_ours : All IsOurs (here part.shape made)
       here_ours = All-weaker (λ (x : Token). is_here part.shape x ≡ true) IsOurs (λ x e. eqb-true (element_of part.shape.elements x.to) part.shape.element e) (here part.shape made) (filter_passes (is_here part.shape) made)
 
-  pub sound_as : (result : Stepped) (new : Held) (after : List Token) → ActsAs p old (place_of old pick) t before result new after → IsSoundLane p new
+  pub sound_as : (result : Stepped) (new : Holding) (after : List Token) → ActsAs p old (place_of old pick) t before result new after → IsSoundLane p new
   sound_as Idle new after acts = absurd acts
-  sound_as Did new after acts = subst (λ (h : Held). IsSoundLane p h) (sym acts.held) (sound_after acts.part acts.made acts.changes)
-  sound_as (Clash cell) new after acts = subst (λ (h : Held). IsSoundLane p h) (sym acts.1.0) sound
-  sound_as (Stuck rule) new after acts = subst (λ (h : Held). IsSoundLane p h) (sym acts.1.0) sound
-  sound_as Memory new after acts = subst (λ (h : Held). IsSoundLane p h) (sym acts.0) sound
+  sound_as Did new after acts = subst (λ (h : Holding). IsSoundLane p h) (sym acts.held) (sound_after acts.part acts.made acts.changes)
+  sound_as (Clash cell) new after acts = subst (λ (h : Holding). IsSoundLane p h) (sym acts.1.0) sound
+  sound_as (Stuck rule) new after acts = subst (λ (h : Holding). IsSoundLane p h) (sym acts.1.0) sound
+  sound_as Memory new after acts = subst (λ (h : Holding). IsSoundLane p h) (sym acts.0) sound
 
-  pub shape_as : (result : Stepped) (new : Held) (after : List Token) → ActsAs p old (place_of old pick) t before result new after → new.part.shape ≡ old.part.shape
+  pub shape_as : (result : Stepped) (new : Holding) (after : List Token) → ActsAs p old (place_of old pick) t before result new after → new.part.shape ≡ old.part.shape
   shape_as Idle new after acts = absurd acts
-  shape_as Did new after acts = ap (λ (h : Held). h.part.shape) acts.held ∙ acts.changes.shape
-  shape_as (Clash cell) new after acts = ap (λ (h : Held). h.part.shape) acts.1.0
-  shape_as (Stuck rule) new after acts = ap (λ (h : Held). h.part.shape) acts.1.0
-  shape_as Memory new after acts = ap (λ (h : Held). h.part.shape) acts.0
+  shape_as Did new after acts = ap (λ (h : Holding). h.part.shape) acts.held ∙ acts.changes.shape
+  shape_as (Clash cell) new after acts = ap (λ (h : Holding). h.part.shape) acts.1.0
+  shape_as (Stuck rule) new after acts = ap (λ (h : Holding). h.part.shape) acts.1.0
+  shape_as Memory new after acts = ap (λ (h : Holding). h.part.shape) acts.0
 
-  pub made_as : (result : Stepped) (new : Held) (after : List Token) → ActsAs p old (place_of old pick) t before result new after → new.made ≤ old.made + 1
+  pub made_as : (result : Stepped) (new : Holding) (after : List Token) → ActsAs p old (place_of old pick) t before result new after → new.made ≤ old.made + 1
   made_as Idle new after acts = absurd acts
-  made_as Did new after acts = let e : new.made ≡ old.made + 1 = ap (λ (h : Held). h.made) acts.held in omega arith
-  made_as (Clash cell) new after acts = let e : new.made ≡ old.made = ap (λ (h : Held). h.made) acts.1.0 in omega arith
-  made_as (Stuck rule) new after acts = let e : new.made ≡ old.made = ap (λ (h : Held). h.made) acts.1.0 in omega arith
-  made_as Memory new after acts = let e : new.made ≡ old.made = ap (λ (h : Held). h.made) acts.0 in omega arith
+  made_as Did new after acts = let e : new.made ≡ old.made + 1 = ap (λ (h : Holding). h.made) acts.held in omega arith
+  made_as (Clash cell) new after acts = let e : new.made ≡ old.made = ap (λ (h : Holding). h.made) acts.1.0 in omega arith
+  made_as (Stuck rule) new after acts = let e : new.made ≡ old.made = ap (λ (h : Holding). h.made) acts.1.0 in omega arith
+  made_as Memory new after acts = let e : new.made ≡ old.made = ap (λ (h : Holding). h.made) acts.0 in omega arith

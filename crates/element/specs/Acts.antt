@@ -14,10 +14,10 @@ use Rattle.element.specs.Near.{IsNearToken}
 use Rattle.element.specs.Parts.{Part, IsPart, SameElsewhere, IsSound, bounds}
 use Rattle.frame_manager.specs.Answered.{request_tokens, release_tokens}
 use Rattle.element.specs.Changed.{IsRequested, IsReleased}
-use Rattle.element.specs.Held.{Held, IsSoundLane, taken, queued, with_part, elsewhere}
+use Rattle.element.specs.Holding.{Holding, IsSoundLane, taken, queued, with_part, elsewhere}
 
 -- The element can let a token act that stands at a place of its queue, under code that names slots below a width.
-pub record CanAct (p : Program) (slots : ℕ) (h : Held) (at : ℕ) (t : Token) : Type 0 where
+pub record CanAct (p : Program) (slots : ℕ) (h : Holding) (at : ℕ) (t : Token) : Type 0 where
   pub sound : IsSoundLane p h
   pub width : slots ≤ h.part.shape.width
   pub there : at < length h.queue
@@ -41,7 +41,7 @@ pub record Changes (p : Program) (old : Part) (t : Token) (made : List Token) (n
   pub event : (s : Store) → IsPart old s → (n : Store) × Happens p (old.shape.elements * old.shape.frames) s t.to t.word made n × IsPart new n × SameElsewhere old.shape s n
 
 -- The token is taken out of the queue. What it makes goes last: into the queue, or to the others.
-pub record Acts (p : Program) (old : Held) (at : ℕ) (t : Token) (before : List Token) (new : Held) (after : List Token) : Type 0 where
+pub record Acts (p : Program) (old : Holding) (at : ℕ) (t : Token) (before : List Token) (new : Holding) (after : List Token) : Type 0 where
   pub made : List Token
   pub part : Part
   pub changes : Changes p old.part t made part
@@ -58,10 +58,10 @@ pub record IsSecond (h : Part) (t : Token) (cell : ℕ) : Type 0 where
   pub to : t.to ≡ To.Store cell value
   pub full : (s : Store) → IsPart h s → (w : Value) × (s.cells cell ≡ Full w)
 
-abbrev pub Still : Held → List Token → Held → List Token → Type 0
+abbrev pub Still : Holding → List Token → Holding → List Token → Type 0
 Still old before new after = (new ≡ old) × (after ≡ before)
 
-abbrev pub ActsAs : Program → Held → ℕ → Token → List Token → Stepped → Held → List Token → Type 0
+abbrev pub ActsAs : Program → Holding → ℕ → Token → List Token → Stepped → Holding → List Token → Type 0
 ActsAs p old at t before Idle new after = ⊥
 ActsAs p old at t before Did new after = Acts p old at t before new after
 ActsAs p old at t before (Clash cell) new after = IsSecond old.part t cell × Still old before new after
@@ -69,7 +69,7 @@ ActsAs p old at t before (Stuck rule) new after = IsStuck p old.part t rule × S
 ActsAs p old at t before Memory new after = Still old before new after
 
 -- What comes of a token where these tokens are made, if any, and the part is this then.
-abbrev pub FiresAs : Option (List Token) → Part → Held → ℕ → List Token → Stepped → Held → List Token → Type 0
+abbrev pub FiresAs : Option (List Token) → Part → Holding → ℕ → List Token → Stepped → Holding → List Token → Type 0
 FiresAs fired part old at before Did new after = (made : List Token) × (fired ≡ Some made) × (new ≡ queued (taken (with_part old part) at) made) × (after ≡ before ++ elsewhere old.part.shape made)
 FiresAs fired part old at before (Stuck rule) new after = (fired ≡ None) × (rule ≡ 4) × Still old before new after
 FiresAs fired part old at before Memory new after = Still old before new after

@@ -11,7 +11,7 @@ use Rattle.semantics.specs.declared.program.Op.TheVariants.{Apply2, Sync, Switch
 use Rattle.operators.specs.Values as values
 use Rattle.semantics.specs.Rule as rule
 use Rattle.element.specs.Decoded.{dest_in}
-use Rattle.element.specs.declared.firing.made.Seat.{Seat}
+use Rattle.element.specs.declared.firing.made.Point.{Point}
 use Rattle.element.specs.declared.firing.made.Made.{Made}
 use Rattle.element.specs.declared.firing.passing.Passed.{Passed}
 use Rattle.element.specs.declared.firing.leaving.Leaving.{Leaving}
@@ -20,11 +20,11 @@ use Rattle.element.specs.declared.firing.arrays.Indexed.TheVariants.{Place, Outs
 use Rattle.element.specs.declared.firing.outcomes.Outcome.{Outcome}
 use Rattle.element.specs.declared.firing.outcomes.Outcome.TheVariants.{Becomes, Excluded}
 
-abbrev pub seat_of : Seat → rule.Seat
-seat_of s = record { frame = s.frame; ip = s.ip }
+abbrev pub point_of : Point → rule.Point
+point_of s = record { frame = s.frame; ip = s.ip }
 
 -- a word to the destination in a half word, if it has one
-abbrev pub to_half : rule.Seat → Word → ℕ → List Token
+abbrev pub to_half : rule.Point → Word → ℕ → List Token
 to_half s w h = rule.to_each s w (option_to_list (dest_in h))
 
 -- the release of a frame, if there is one
@@ -37,15 +37,15 @@ abbrev pub outside_of : Made → List Token
 outside_of m = released_of m.released ++ option_to_list m.outside
 
 -- the tokens that are made at a seat, in order
-abbrev pub tokens_of : rule.Seat → Made → List Token
+abbrev pub tokens_of : rule.Point → Made → List Token
 tokens_of s m = outside_of m ++ (to_half s m.word m.first ++ to_half s m.word m.second)
 
 -- and those that pass a word on
-abbrev pub passed_on : rule.Seat → Passed → List Token
+abbrev pub passed_on : rule.Point → Passed → List Token
 passed_on s x = to_half s x.word x.first ++ to_half s x.word x.second
 
 -- and those of which the first one leaves the frame
-abbrev pub left_on : rule.Seat → Leaving → List Token
+abbrev pub left_on : rule.Point → Leaving → List Token
 left_on s x = x.token ∷ (to_half s rule.signal x.first ++ to_half s rule.signal x.second)
 
 abbrev pub indexed_of : Indexed → values.Indexed

@@ -2,7 +2,7 @@ pub mod Decoded
 pub mod Fired
 pub mod Near
 pub mod Parts
-pub mod Held
+pub mod Holding
 pub mod Changed
 pub mod Acts
 pub mod Steps

@@ -9,12 +9,12 @@ use Rattle.istructure.specs.OwnCells.{OwnCells, all_vacant}
 use Rattle.frame_manager.specs.Managed.{Managed, at_first}
 use Rattle.frame_store.specs.declared.bank.BankMut.{BankMut}
 use Rattle.element.specs.Parts.{Shape, Part, IsPart, SameElsewhere}
-use Rattle.element.specs.Held.{Held}
+use Rattle.element.specs.Holding.{Holding}
 
 abbrev pub shape_at : ℕ → ℕ → BankMut → Shape
 shape_at element elements b = record { element = element; elements = elements; start = b.start; frames = b.frames; width = b.width }
 
-abbrev pub opened : Shape → List SlotState → OwnCells → Option Managed → ℕ → Held
+abbrev pub opened : Shape → List SlotState → OwnCells → Option Managed → ℕ → Holding
 opened z states cells manager outputs = record { part = record { shape = z; states = states; cells = cells; manager = manager; outputs = replicate outputs None; done = false }; queue = []; made = 0; answered = [] }
 
 -- All is empty, and on element 0 frame 0 is out.

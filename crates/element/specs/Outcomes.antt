@@ -8,10 +8,10 @@ use Rattle.element.specs.declared.firing.two_inputs.Meeting.{Meeting}
 use Rattle.element.specs.declared.firing.two_inputs.Meeting.TheVariants.{Both, Apart}
 use Rattle.element.specs.declared.firing.two_inputs.Meeting.TheVariants as meeting
 use Rattle.element.specs.declared.firing.credits.Credit.{Credit}
-use Rattle.element.specs.declared.firing.credits.Credit.TheVariants.{Kept, Answered, Later}
+use Rattle.element.specs.declared.firing.credits.Credit.TheVariants.{SlotOnly, Answered, Later}
 
 -- what a token meets, as the outcome of an instruction with two inputs
-abbrev pub MeetingIs : Program → rule.Seat → Instr → rule.Outcome → Meeting → Type 0
+abbrev pub MeetingIs : Program → rule.Point → Instr → rule.Outcome → Meeting → Type 0
 MeetingIs p s i o (Both l r) = o ≡ rule.fires Empty (rule.fire_two p s i i.op l r)
 MeetingIs p s i o (meeting.Waits v) = o ≡ rule.Becomes v []
 MeetingIs p s i o Apart = o ≡ rule.Excluded 3
@@ -22,6 +22,6 @@ LeftHasRoom m = ⊤
 
 -- what comes of a credit, as the outcome of its instruction
 abbrev pub CreditIs : rule.Outcome → Credit → Type 0
-CreditIs o (Kept v) = o ≡ rule.Becomes v []
+CreditIs o (SlotOnly v) = o ≡ rule.Becomes v []
 CreditIs o (Answered v t) = o ≡ rule.Becomes v (t ∷ [])
 CreditIs o Later = ⊤

@@ -7,27 +7,27 @@ use Rattle.element.specs.declared.lane.Stepped.{Stepped}
 use Rattle.element.specs.declared.lane.Stepped.TheVariants.{Idle, Did, Clash, Stuck, Memory}
 use Rattle.element.specs.Near.{IsNearToken}
 use Rattle.element.specs.Parts.{Shape, IsPart, SameElsewhere, bounds}
-use Rattle.element.specs.Held.{Held, here, elsewhere}
+use Rattle.element.specs.Holding.{Holding, here, elsewhere}
 use Rattle.element.specs.Acts.{ServesFirst, IsStuck, IsSecond}
 
 abbrev pub size_of : Shape → Size
 size_of z = record { elements = z.elements; frames = z.frames }
 
-abbrev pub place_of : Held → ℕ → ℕ
+abbrev pub place_of : Holding → ℕ → ℕ
 place_of h pick = pick % length h.queue
 
 -- the token that a pick names
-pub record Picks (h : Held) (pick : ℕ) (t : Token) : Type 0 where
+pub record Picks (h : Holding) (pick : ℕ) (t : Token) : Type 0 where
   pub some : 0 < length h.queue
   pub token : slice_get h.queue (place_of h pick) ≡ Some t
 
 -- the lane holds these tokens of the machine, the list for others has those, and the rest are elsewhere
-abbrev pub HoldsTokens : Held → List Token → List Token → Machine → Type 0
+abbrev pub HoldsTokens : Holding → List Token → List Token → Machine → Type 0
 HoldsTokens h sent others m = IsPermutation m.pool (h.queue ++ (sent ++ others))
 
 -- In the machine that it came to, the lane is the element's part, all that lies on other elements is as it was, and the
 -- tokens are those of the lane, those for others, and the rest.
-pub record IsAfter (p : Program) (old : Held) (t : Token) (new : Held) (after others made : List Token) (m : Machine) : Type 0 where
+pub record IsAfter (p : Program) (old : Holding) (t : Token) (new : Holding) (after others made : List Token) (m : Machine) : Type 0 where
   pub next : Machine
   pub event : Event p (size_of old.part.shape) old.part.shape.element t m next
   pub makes : event.made ≡ made
@@ -36,7 +36,7 @@ pub record IsAfter (p : Program) (old : Held) (t : Token) (new : Held) (after ot
   pub tokens : HoldsTokens new after others next
 
 -- One event of the machine that takes the token, in any machine of which the lane is the part for its element.
-pub record Does (p : Program) (old : Held) (pick : ℕ) (before : List Token) (new : Held) (after : List Token) : Type 0 where
+pub record Does (p : Program) (old : Holding) (pick : ℕ) (before : List Token) (new : Holding) (after : List Token) : Type 0 where
   pub token : Token
   pub picks : Picks old pick token
   -- the tokens that the event makes, in order
@@ -50,21 +50,21 @@ pub record Does (p : Program) (old : Held) (pick : ℕ) (before : List Token) (n
   pub event : (m : Machine) (others : List Token) → IsPart old.part m.store → HoldsTokens old before others m → IsAfter p old token new after others made m
 
 -- all stands as before
-pub record Stays (old : Held) (before : List Token) (new : Held) (after : List Token) : Type 0 where
+pub record Stays (old : Holding) (before : List Token) (new : Holding) (after : List Token) : Type 0 where
   pub held : new ≡ old
   pub sent : after ≡ before
 
-pub record Excludes (p : Program) (h : Held) (pick rule : ℕ) : Type 0 where
+pub record Excludes (p : Program) (h : Holding) (pick rule : ℕ) : Type 0 where
   pub token : Token
   pub picks : Picks h pick token
   pub excluded : IsStuck p h.part token rule
 
-pub record Clashes (h : Held) (pick cell : ℕ) : Type 0 where
+pub record Clashes (h : Holding) (pick cell : ℕ) : Type 0 where
   pub token : Token
   pub picks : Picks h pick token
   pub second : IsSecond h.part token cell
 
-abbrev pub Steps : Program → Held → ℕ → List Token → Stepped → Held → List Token → Type 0
+abbrev pub Steps : Program → Holding → ℕ → List Token → Stepped → Holding → List Token → Type 0
 Steps p old pick before Idle new after = (old.queue ≡ []) × Stays old before new after
 Steps p old pick before Did new after = Does p old pick before new after
 Steps p old pick before (Clash cell) new after = Clashes old pick cell × Stays old before new after

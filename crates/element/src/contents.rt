@@ -1,14 +1,14 @@
 //! What an element holds, and what it does with a token. In the midst of an event it is not sound.
 
 ghost use Rattle.std.specs.Prelude.{◌≡◌, ◌+◌, ◌%◌, ◌<◌, ◌≤◌, ◌^◌, [], ◌∷◌, ◌++◌, OnOk, OnErr, IfOk, IfSome, IfNone, None, replicate};
-ghost use Rattle.element.specs.Held.{held_in, part_of, shape_of, with_queue, IsSoundLane};
+ghost use Rattle.element.specs.Holding.{held_in, part_of, shape_of, with_queue, IsSoundLane};
 ghost use Rattle.frame_store.specs.BankViews.{bank_states};
 ghost use Rattle.semantics.specs.Program.{Program};
 ghost use Rattle.element.specs.Acts.{CanAct, ActsAs};
 ghost use Rattle.element.specs.Steps.{Steps, Picks};
 ghost use Rattle.element.specs.Openings.{opened, shape_at, IsOpening, StartsAs};
 
-use crate::firing::Seat;
+use crate::firing::Point;
 use crate::instructions::Instructions;
 use crate::lane::Stepped;
 use arrayvec::ArrayVec;
@@ -213,7 +213,7 @@ impl<'m, A: Allocator> Contents<'m, A> {
         let to = token.to;
         match to {
             To::Instr { frame, ip, port } => {
-                self.read_again(code, at, token, Seat { frame, ip }, port, sent)
+                self.read_again(code, at, token, Point { frame, ip }, port, sent)
             }
             To::Fetch { cell } => self.at_fetch(at, *token, cell, sent),
             To::Store { cell, value } => self.at_store(at, *token, cell, &value, sent),

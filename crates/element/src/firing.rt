@@ -5,7 +5,7 @@ ghost use Rattle.std.specs.Prelude.{◌≡◌};
 ghost use Rattle.tags.specs.declared.token.Port.TheVariants.{Left};
 ghost use Rattle.semantics.specs.Rule as Rule;
 ghost use Rattle.element.specs.Decoded.{instr_of, IsShort};
-ghost use Rattle.element.specs.Fired.{seat_of, tokens_of, outcome_by, HasRoomInWord, HasRoomInSlot, TakesLeftAlone};
+ghost use Rattle.element.specs.Fired.{point_of, tokens_of, outcome_by, HasRoomInWord, HasRoomInSlot, TakesLeftAlone};
 
 mod arrays;
 mod continuations;
@@ -23,7 +23,7 @@ pub use continuations::answer;
 pub use credits::{Credit, credit_at_once};
 use credits::{drains, gives, opens, takes};
 pub use leaving::Leaving;
-pub use made::{Made, NONE, SIGNAL, Seat};
+pub use made::{Made, NONE, Point, SIGNAL};
 use one_input::fire_one;
 pub use one_input::frame_request;
 pub use outcomes::Outcome;
@@ -40,17 +40,17 @@ pub use two_inputs::{Meeting, fire_two, meet};
 /// as it is.
 pub fn fire<C: Instructions>(
     code: &C,
-    seat: Seat,
+    point: Point,
     instr: &Instruction,
     slot: SlotState,
     port: Port,
     word: Word,
     made: &mut Made,
 ) -> Outcome
-    requires short { IsShort (C.width code.now) seat.ip instr.now }
+    requires short { IsShort (C.width code.now) point.ip instr.now }
     requires slot_room { HasRoomInSlot slot }
     requires word_room { HasRoomInWord word }
-    ensures { outcome_by result (tokens_of (seat_of seat) made.new) ≡ Rule.outcome_of (C.program code.now) (seat_of seat) (instr_of instr.now) instr.now.op slot port word }
+    ensures { outcome_by result (tokens_of (point_of point) made.new) ≡ Rule.outcome_of (C.program code.now) (point_of point) (instr_of instr.now) instr.now.op slot port word }
 {
     match instr.op {
         Op::Apply2 { .. }
@@ -60,9 +60,9 @@ pub fn fire<C: Instructions>(
         | Op::Send { .. }
         | Op::Return { .. }
         | Op::Ask { .. }
-        | Op::Release { .. } => meets(code, seat, instr, slot, port, word, made),
+        | Op::Release { .. } => meets(code, point, instr, slot, port, word, made),
         _ => match port {
-            Port::Left => fire_left(code, seat, instr, slot, word, made),
+            Port::Left => fire_left(code, point, instr, slot, word, made),
             Port::Right => excluded(2),
         },
     }
@@ -71,23 +71,23 @@ pub fn fire<C: Instructions>(
 // An instruction that takes left tokens alone.
 fn fire_left<C: Instructions>(
     code: &C,
-    seat: Seat,
+    point: Point,
     instr: &Instruction,
     slot: SlotState,
     word: Word,
     made: &mut Made,
 ) -> Outcome
-    requires short { IsShort (C.width code.now) seat.ip instr.now }
+    requires short { IsShort (C.width code.now) point.ip instr.now }
     requires slot_room { HasRoomInSlot slot }
     requires word_room { HasRoomInWord word }
     requires left { TakesLeftAlone instr.now.op }
-    ensures { outcome_by result (tokens_of (seat_of seat) made.new) ≡ Rule.outcome_of (C.program code.now) (seat_of seat) (instr_of instr.now) instr.now.op slot Left word }
+    ensures { outcome_by result (tokens_of (point_of point) made.new) ≡ Rule.outcome_of (C.program code.now) (point_of point) (instr_of instr.now) instr.now.op slot Left word }
 {
     match instr.op {
-        Op::Open { bound } => opens(seat, instr, bound, slot, made),
+        Op::Open { bound } => opens(point, instr, bound, slot, made),
         Op::Take { .. } => takes(slot, word, made),
-        Op::Give { bound } => gives(seat, instr, bound, slot, made),
-        Op::Drain { bound } => drains(seat, instr, bound, slot, made),
+        Op::Give { bound } => gives(point, instr, bound, slot, made),
+        Op::Drain { bound } => drains(point, instr, bound, slot, made),
         Op::Apply1 { .. }
         | Op::Apply2Right { .. }
         | Op::Apply2Left { .. }
@@ -96,7 +96,7 @@ fn fire_left<C: Instructions>(
         | Op::Fetch { .. }
         | Op::Frame
         | Op::Link { .. } => {
-            let fired = fire_one(code, seat, instr, word, made);
+            let fired = fire_one(code, point, instr, word, made);
             fires(slot, fired)
         }
         _ => unreachable!(),

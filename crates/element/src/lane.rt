@@ -4,7 +4,7 @@ ghost use Rattle.std.specs.Prelude.{◌≡◌, ◌<◌, ◌≤◌, ◌*◌, ◌^
 ghost use Rattle.tags.specs.declared.slot.SlotState.TheVariants.{Empty};
 ghost use Rattle.frame_store.specs.BankViews.{bank_states};
 ghost use Rattle.element.specs.Parts.{slot_place};
-ghost use Rattle.element.specs.Held.{fixed_of, with_more, IsFor, IsSpent, IsSoundLane};
+ghost use Rattle.element.specs.Holding.{fixed_of, with_more, IsFor, IsSpent, IsSoundLane};
 ghost use Rattle.element.specs.Steps.{Steps, Stays, Picks};
 ghost use Rattle.element.specs.Openings.{opened, shape_at, IsOpening, StartsAs};
 
@@ -47,7 +47,7 @@ pub struct Lane<'m, C: Instructions, A: Allocator> {
 }
 
 impl<'m, C: Instructions, A: Allocator> Model for Lane<'m, C, A> {
-    ghost use Rattle.element.specs.Held.{LaneView, held_in, IsRunnable};
+    ghost use Rattle.element.specs.Holding.{LaneView, held_in, IsRunnable};
 
     ghost Value = { LaneView };
 

@@ -1,8 +1,8 @@
 //! One element of the explicit token store machine: what it holds, and a step of it.
 #![tactic(auto)]
 
+pub mod bundled;
 mod contents;
-pub mod dealt;
 pub mod firing;
 pub mod instructions;
 pub mod lane;

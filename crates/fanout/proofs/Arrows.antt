@@ -80,7 +80,7 @@ module _ (p : Plan) (c : CodeBlock) (v : ℕ) (i : Instr) (here : slice_get (is 
       let s = sized (l p c) v (parted i) in let k = get_some (copies_of (l p c) v (parted i)) q (omega (arith, h, s)) in
       slice_get_within made (root + q) k.0 (copy_stands (ts p c) (is p c) (all p c) v q (parted i) k.0 here k.1)
 
-  -- the destination's place is behind the copies
+  -- the destination's place is after the copies
   pub past : (d : Dest) → Contains (i.firsts ++ i.seconds) d → root + count ≤ place_of (l p c) (v + d.ahead)
   past d h =
       let t = v + d.ahead in

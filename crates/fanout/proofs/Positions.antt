@@ -78,7 +78,7 @@ place_base ts n before copied (i ∷ is) (suc v) m k h e f all = elim (is_tied t
   | false ↦ λ e. place_base ts (n + 1) (copied + size i) (copied + size i) is v m k (omega arith) e f (omega (arith, all))
 ] e
 
--- where a row ends before an instruction, that one stands behind the copies of the first one
+-- where a row ends before an instruction, that one stands after the copies of the first one
 past_first : (ts : List Bool) (n before copied : ℕ) (i : Instr) (is : List Instr) (w m' k : ℕ) → before ≤ copied → length ts ≡ n + length (i ∷ is)
     → slice_get (places_from ts n before copied (i ∷ is)) w ≡ Some m' → k < w → is_tied ts (n + k) ≡ false → n + run (drop n ts) + copied + size i ≤ m'
 past_first ts n before copied i is zero m' k h all e l free = absurd (not-suc-le-zero l)
@@ -138,7 +138,7 @@ module _ {X : Type 0} (ts : List Bool) (one : ℕ → Instr → X) (more : ℕ �
   abbrev next : ℕ → List X → Instr → List Instr → Bool → List X
   next n waiting i is t = released t (waiting ++ more n i) ++ spread_of ts one more (n + 1) (held t (waiting ++ more n i)) is
 
-  -- what waits stands behind the row
+  -- what waits stands after the row
   waiting_at : (n : ℕ) (waiting : List X) (is : List Instr) (u : ℕ) → length ts ≡ n + length is → u < length waiting
       → slice_get (spread_of ts one more n waiting is) (run (drop n ts) + u) ≡ slice_get waiting u
   waiting_at n waiting [] u all l = let r = run_none ts n (omega (arith, all)) in let z : run (drop n ts) + u ≡ u = omega (arith, r) in ap (slice_get waiting) z
@@ -316,7 +316,7 @@ module _ {X : Type 0} (ts : List Bool) (one : ℕ → Instr → X) (more : ℕ �
     what = h.what;
   }
 
-  -- what waits behind an instruction waited before it, or is a copy of it
+  -- what waits after an instruction waited before it, or is a copy of it
   waited_here : (n before copied : ℕ) (waiting : List X) (i : Instr) (is : List Instr) (x u : ℕ) (y : X) → before + length waiting ≡ copied → slice_get (waiting ++ more n i) u ≡ Some y → x ≡ run (drop n ts) + u
       → Comes n before copied waiting (i ∷ is) x y
   waited_here n before copied waiting i is x u y h e f = pick (get_append_cases waiting (more n i) u y e)

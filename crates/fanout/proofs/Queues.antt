@@ -32,7 +32,7 @@ module _ (l : Layout) (n : ℕ) where
   abbrev pub to : Dest → Address
   to d = (place_of l (n + d.ahead), d.port)
 
-  -- they stand behind that place
+  -- they stand after that place
   abbrev pub Reaches : ℕ → List Dest → Type 0
   Reaches at ds = (k : ℕ) (d : Dest) → slice_get ds k ≡ Some d → at ≤ place_of l (n + d.ahead)
 

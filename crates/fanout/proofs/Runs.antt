@@ -5,7 +5,7 @@ use Rattle.semantics.specs.Program.{Instr}
 use Rattle.fanout.specs.Rows.{run}
 use Rattle.fanout.specs.Places.{size, bases_from}
 
--- a row is over behind its instruction, or goes on
+-- a row is over after its instruction, or goes on
 pub run_next : (ts : List Bool) (n : ℕ) → n < length ts → ((n + 1 ≡ n + run (drop n ts)) ⊎ (n + run (drop n ts) ≡ n + 1 + run (drop (n + 1) ts)))
 run_next [] n h = absurd (not-suc-le-zero h)
 run_next (true ∷ ts) zero h = inr (omega arith)

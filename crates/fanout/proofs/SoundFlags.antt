@@ -15,7 +15,7 @@ use Rattle.fanout.specs.Sides.{parted, parting_of, firsts_of}
 use Rattle.fanout.specs.Rows.{tie, tie_landings, tie_instr, tie_all, is_tied}
 use Rattle.fanout.specs.Narrowed.{parts_of, layout_of}
 use Rattle.fanout.specs.Laws.{AreApart, Names}
-use Rattle.fanout.specs.Sound.{SoundStandsClear}
+use Rattle.fanout.specs.Sound.{SoundKeepsClear}
 
 -- WHERE A FLAG COMES FROM
 none_tied : (n k : ℕ) → is_tied (replicate n false) k ≡ false
@@ -130,8 +130,8 @@ are_apart p c n m (k, low, high, free) = (k, low, high, flag_free p c k free)
 named_so : (p : Plan) (b n : ℕ) (c : CodeBlock) (d : Dest) → Names p b n c d → NamesDest p b n c d
 named_so p b n c d h = record { i = h.i; block = h.block; there = h.there; named = h.named }
 
-pub sound_stands_clear : SoundStandsClear
-sound_stands_clear p s = record {
+pub sound_keeps_clear : SoundKeepsClear
+sound_keeps_clear p s = record {
   rows = λ b n c d h. are_apart p c n (n + d.ahead) (s.dests b n c d (named_so p b n c d h)).apart;
   dests = λ b n c d h. (s.dests b n c d (named_so p b n c d h)).dest;
   entries = λ b n c d h. (s.dests b n c d (named_so p b n c d h)).past;

@@ -12,14 +12,14 @@ use Rattle.semantics.specs.declared.program.Op.TheVariants.{Fetch, Store, Frame,
 use Rattle.semantics.specs.Program.{Instr, CodeBlock}
 use Rattle.semantics.specs.Plan.{Plan, HasShape}
 use Rattle.semantics.specs.Bytes.{HasDests, IsDest}
-use Rattle.semantics.specs.Wired.{StandsAt}
+use Rattle.semantics.specs.Wired.{IsInstrAt}
 use Rattle.code.specs.Sound as Sound
 use Rattle.code.specs.Sound.{NamesRightly, IsPlace, IsSoundInstr, IsSoundBlock, IsSoundDest, IsSound}
 use Rattle.fanout.specs.Places.{place_of}
 use Rattle.fanout.specs.Trees.{moved}
 use Rattle.fanout.specs.Sides.{parted}
 use Rattle.fanout.specs.Narrowed.{narrowed, narrowed_block}
-use Rattle.fanout.specs.Laws.{LandsLeft, IsShaped, HasItsDests, StandsClear}
+use Rattle.fanout.specs.Laws.{LandsLeft, IsShaped, HasItsDests, KeepsClear}
 use Rattle.fanout.specs.Sound.{StaysSound, SoundHasDests}
 use Rattle.fanout.proofs.Positions.{place_low}
 use Rattle.fanout.proofs.Spots.{place_is}
@@ -27,7 +27,7 @@ use Rattle.fanout.proofs.Shapes.{block_all, narrowed_dests}
 use Rattle.fanout.proofs.Plans.{is, ts, l, all, at_place}
 use Rattle.fanout.proofs.Arrows.{in_parts, dests_stay}
 use Rattle.fanout.proofs.Wires.{past_entries, stays_wired}
-use Rattle.fanout.proofs.SoundFlags.{sound_stands_clear}
+use Rattle.fanout.proofs.SoundFlags.{sound_keeps_clear}
 use Rattle.fanout.proofs.SoundRows.{stand_apart}
 
 -- DESTINATIONS, as many as each kind has
@@ -62,29 +62,29 @@ named_still p (Send b e) h = (narrowed_block p h.0, slice_get-map (narrowed_bloc
 named_still p op h = h
 
 -- what a narrowed plan says of an instruction, but for its destinations
-abbrev Told : Plan → Instr → Type 0
-Told p i = NamesRightly (narrowed p).program i.op × IsPlace i.origin
+abbrev NamesWell : Plan → Instr → Type 0
+NamesWell p i = NamesRightly (narrowed p).program i.op × IsPlace i.origin
 
 module _ (p : Plan) (s : IsSound p) (b : ℕ) (c : CodeBlock) (at : slice_get p.program.blocks b ≡ Some c) where
   old : IsSoundBlock p.program c
   old = s.program.blocks b c at
 
-  clear : StandsClear p
-  clear = sound_stands_clear p s
+  clear : KeepsClear p
+  clear = sound_keeps_clear p s
 
   at_new : slice_get (narrowed p).program.blocks b ≡ Some (narrowed_block p c)
   at_new = slice_get-map (narrowed_block p) p.program.blocks b ∙ ap (option_map (narrowed_block p)) at
 
-  told : All (Told p) (narrowed_block p c).instrs
-  told = block_all (Told p) (Told p) (Told p) (λ l n i h. h) (λ l n at j ds. (tt, tt)) (λ i h. h) p c
-      (all_from (Told p) c.instrs (λ n i e. let h = old.instrs n i e in (named_still p i.op h.operand, h.origin)))
+  names_well : All (NamesWell p) (narrowed_block p c).instrs
+  names_well = block_all (NamesWell p) (NamesWell p) (NamesWell p) (λ l n i h. h) (λ l n at j ds. (tt, tt)) (λ i h. h) p c
+      (all_from (NamesWell p) c.instrs (λ n i e. let h = old.instrs n i e in (named_still p i.op h.operand, h.origin)))
 
   with_dests : All HasItsDests (narrowed_block p c).instrs
   with_dests = all_at (λ (c : CodeBlock). All HasItsDests c.instrs) (narrowed p).program.blocks b (narrowed_block p c) (sound_has_dests p s) at_new
 
-  sound_instr : (n : ℕ) (i : Instr) → StandsAt (narrowed_block p c) n i → IsSoundInstr (narrowed p).program i
+  sound_instr : (n : ℕ) (i : Instr) → IsInstrAt (narrowed_block p c) n i → IsSoundInstr (narrowed p).program i
   sound_instr n i e =
-      let h = all_at (Told p) (narrowed_block p c).instrs n i told e in
+      let h = all_at (NamesWell p) (narrowed_block p c).instrs n i names_well e in
       let k = all_at HasItsDests (narrowed_block p c).instrs n i with_dests e in
       record { operand = h.0; origin = h.1; shape = has_shape i.op i.firsts i.seconds k; lands = has_landing i.op i.firsts i.seconds k }
 
@@ -99,7 +99,7 @@ module _ (p : Plan) (s : IsSound p) (b : ℕ) (c : CodeBlock) (at : slice_get p.
   pub sound_block : IsSoundBlock (narrowed p).program (narrowed_block p c)
   sound_block = record { inputs = old.inputs; outputs = old.outputs; size = still_there; instrs = sound_instr }
 
-  pub sound_dest : (n : ℕ) (i : Instr) (d : Dest) → StandsAt (narrowed_block p c) n i → Contains (i.firsts ++ i.seconds) d → IsSoundDest (narrowed p) (narrowed_block p c) n d
+  pub sound_dest : (n : ℕ) (i : Instr) (d : Dest) → IsInstrAt (narrowed_block p c) n i → Contains (i.firsts ++ i.seconds) d → IsSoundDest (narrowed p) (narrowed_block p c) n d
   sound_dest n i d e h =
       let is_dest : IsDest (narrowed_block p c) n d = dests_stay p clear.rows clear.dests b n (narrowed_block p c) d (record { i = i; block = at_new; there = e; named = h }) in
       record { dest = is_dest; past = past_entries p clear b c at n i d e h; apart = stand_apart p s b c at n i d e h is_dest.later }
@@ -117,5 +117,5 @@ stays_sound p s = record {
   dests = λ b n c d h.
       let o = map_get_back (narrowed_block p) p.program.blocks b c h.block in
       subst (λ c. IsSoundDest (narrowed p) c n d) o.2 (sound_dest p s b o.0 o.1 n h.i d (ap (λ (c : CodeBlock). slice_get c.instrs n) o.2 ∙ h.there) h.named);
-  wired = stays_wired p (sound_stands_clear p s) s.wired;
+  wired = stays_wired p (sound_keeps_clear p s) s.wired;
 }

@@ -15,7 +15,7 @@ use Rattle.semantics.specs.declared.program.Op.TheVariants as Program
 use Rattle.semantics.specs.declared.program.Op.TheVariants.{Link}
 use Rattle.semantics.specs.Program.{Instr, CodeBlock}
 use Rattle.semantics.specs.Plan.{Plan, HasShape, landing, landing_in}
-use Rattle.semantics.specs.Wired.{StandsAt}
+use Rattle.semantics.specs.Wired.{IsInstrAt}
 use Rattle.code.specs.Sound.{IsInLanding, IsTied, StandApart, IsSoundDest, IsSound}
 use Rattle.fanout.specs.Sides.{copies, parted, parting_of, firsts_of}
 use Rattle.fanout.specs.Rows.{is_tied}
@@ -82,38 +82,38 @@ module _ (p : Plan) (s : IsSound p) (b : ℕ) (c : CodeBlock) (at_b : slice_get 
   abbrev base : ℕ → ℕ
   base n = base_of (l p c) n
 
-  here : (n : ℕ) (i : Instr) → StandsAt c n i → slice_get (is p c) n ≡ Some (parted i)
+  here : (n : ℕ) (i : Instr) → IsInstrAt c n i → slice_get (is p c) n ≡ Some (parted i)
   here n i e = in_parts c n i e
 
-  dest_of : (n : ℕ) (i : Instr) (d : Dest) → StandsAt c n i → Contains (i.firsts ++ i.seconds) d → IsSoundDest p c n d
+  dest_of : (n : ℕ) (i : Instr) (d : Dest) → IsInstrAt c n i → Contains (i.firsts ++ i.seconds) d → IsSoundDest p c n d
   dest_of n i d e h = s.dests b n c d (record { i = i; block = at_b; there = e; named = h })
 
   -- ORDER
-  low : (n : ℕ) (i : Instr) → StandsAt c n i → n ≤ place n
+  low : (n : ℕ) (i : Instr) → IsInstrAt c n i → n ≤ place n
   low n i e = let k = place_low (ts p c) 0 0 0 (is p c) n (place n) (omega arith) (place_is (ts p c) (is p c) (all p c) n (parted i) (here n i e)) in omega (arith, k)
 
-  ordered : (m n : ℕ) (i j : Instr) → StandsAt c m i → StandsAt c n j → m < n → place m < place n
+  ordered : (m n : ℕ) (i j : Instr) → IsInstrAt c m i → IsInstrAt c n j → m < n → place m < place n
   ordered m n i j e f h = in_order (ts p c) (is p c) (all p c) m n (parted i) (parted j) (here m i e) (here n j f) h
 
-  rises : (m n : ℕ) (i j : Instr) → StandsAt c m i → StandsAt c n j → m ≤ n → place m ≤ place n
+  rises : (m n : ℕ) (i j : Instr) → IsInstrAt c m i → IsInstrAt c n j → m ≤ n → place m ≤ place n
   rises m n i j e f h = pick (cases_lt m n)
     where
       pick : (m < n) ⊎ (n ≤ m) → place m ≤ place n
       pick (inl k) = let o = ordered m n i j e f k in omega (arith, o)
       pick (inr k) = let z : m ≡ n = omega (arith, h, k) in let o = ap (λ n. place n) z in omega (arith, o)
 
-  apart_copy : (m n q : ℕ) (i j : Instr) → StandsAt c m i → StandsAt c n j → q < size (parted j) → place m ≡ base n + q → ⊥
+  apart_copy : (m n q : ℕ) (i j : Instr) → IsInstrAt c m i → IsInstrAt c n j → q < size (parted j) → place m ≡ base n + q → ⊥
   apart_copy m n q i j e f h z = copy_apart (ts p c) (is p c) (all p c) m n q (parted i) (parted j) (here m i e) (here n j f) h z
 
   -- NO COPY STANDS IN A ROW: not among the entries,
-  entry_stays : (k : ℕ) (i : Instr) → StandsAt c k i → k ≤ c.inputs → place k ≡ k
+  entry_stays : (k : ℕ) (i : Instr) → IsInstrAt c k i → k ≤ c.inputs → place k ≡ k
   entry_stays k i e h =
       let within = slice_get_within (is p c) k (parted i) (here k i e) in
       let m = place_tied (ts p c) 0 0 0 (is p c) k (place k) (λ j u. let z : 0 + j ≡ j = omega arith in ap (is_tied (ts p c)) z ∙ entries_tied p c.inputs (is p c) j (omega (arith, h, u)) (omega (arith, within, u)))
       (place_is (ts p c) (is p c) (all p c) k (parted i) (here k i e)) in
       omega (arith, m)
 
-  copy_past : (v q : ℕ) (i : Instr) → StandsAt c v i → q < size (parted i) → c.inputs < base v + q
+  copy_past : (v q : ℕ) (i : Instr) → IsInstrAt c v i → q < size (parted i) → c.inputs < base v + q
   copy_past v q i e h = pick (cases_lt c.inputs (base v + q))
     where
       pick : (c.inputs < base v + q) ⊎ (base v + q ≤ c.inputs) → c.inputs < base v + q
@@ -124,7 +124,7 @@ module _ (p : Plan) (s : IsSound p) (b : ℕ) (c : CodeBlock) (at_b : slice_get 
           absurd (apart_copy (base v + q) v q x.0 i x.1 e h (entry_stays (base v + q) x.0 x.1 k))
 
   -- nor in a landing, also where the block ends before the landing does
-  module _ (v q u t : ℕ) (i j : Instr) (d : Dest) (at_v : StandsAt c v i) (copy : q < size (parted i)) (at_u : StandsAt c u j) (links : j.op ≡ Link t) (lands : Contains j.firsts d) where
+  module _ (v q u t : ℕ) (i j : Instr) (d : Dest) (at_v : IsInstrAt c v i) (copy : q < size (parted i)) (at_u : IsInstrAt c u j) (links : j.op ≡ Link t) (lands : Contains j.firsts d) where
     beyond : place (u + d.ahead) ≤ base v + q → length c.instrs < u + d.ahead + landing p t → ⊥
     beyond from short =
         let a = a_dest i (omega (arith, copy)) in
@@ -155,7 +155,7 @@ module _ (p : Plan) (s : IsSound p) (b : ℕ) (c : CodeBlock) (at_b : slice_get 
     pub t : ℕ
     pub j : Instr
     pub d : Dest
-    pub there : StandsAt c u j
+    pub there : IsInstrAt c u j
     pub links : j.op ≡ Link t
     pub lands : Contains j.firsts d
     pub inside : u + d.ahead < length c.instrs
@@ -165,7 +165,7 @@ module _ (p : Plan) (s : IsSound p) (b : ℕ) (c : CodeBlock) (at_b : slice_get 
   old_landing : (m k : ℕ) → IsInLanding (narrowed p) new m k → IsOldLanding k
   old_landing m k h = by (comes_here (ts p c) (is p c) (all p c) m h.link h.there)
     where
-      of_old : (v : ℕ) (j : Instr) → StandsAt c v j → m ≡ place v → moved (l p c) v (parted j) ≡ h.link → IsOldLanding k
+      of_old : (v : ℕ) (j : Instr) → IsInstrAt c v j → m ≡ place v → moved (l p c) v (parted j) ≡ h.link → IsOldLanding k
       of_old v j e at what = pick (side_names (l p c) v (place v) (base v) j.firsts h.dest (subst (λ ds. Contains (side (l p c) v (place v) (base v) ds) h.dest) firsts (subst (λ (y : Instr). Contains y.firsts h.dest) (sym what) h.named)))
         where
           links : j.op ≡ Link h.block
@@ -207,21 +207,21 @@ module _ (p : Plan) (s : IsSound p) (b : ℕ) (c : CodeBlock) (at_b : slice_get 
           absurd (no_link h.block (sym copied ∙ h.links))
 
   -- WHAT IS FREE: a copy,
-  copy_free : (v q : ℕ) (i : Instr) → StandsAt c v i → q < size (parted i) → IsTied (narrowed p) new (base v + q) → ⊥
+  copy_free : (v q : ℕ) (i : Instr) → IsInstrAt c v i → q < size (parted i) → IsTied (narrowed p) new (base v + q) → ⊥
   copy_free v q i e h (inl k) = let past = copy_past v q i e h in omega (arith, past, k)
   copy_free v q i e h (inr (m, k)) =
       let o = old_landing m (base v + q) k in let to = o.to in
       in_no_landing v q o.u o.t i o.j o.d e h o.there o.links o.lands o.from (omega (arith, to))
 
   -- the place before one,
-  before_free : (v q k : ℕ) (i : Instr) → StandsAt c v i → q < size (parted i) → k + 1 ≡ base v + q → IsTied (narrowed p) new k → ⊥
+  before_free : (v q k : ℕ) (i : Instr) → IsInstrAt c v i → q < size (parted i) → k + 1 ≡ base v + q → IsTied (narrowed p) new k → ⊥
   before_free v q k i e h z (inl n) = let past = copy_past v q i e h in omega (arith, past, n, z)
   before_free v q k i e h z (inr (m, n)) =
       let o = old_landing m k n in let from = o.from in let to = o.to in
       in_no_landing v q o.u o.t i o.j o.d e h o.there o.links o.lands (omega (arith, from, z)) (omega (arith, to, z))
 
   -- and what was free before
-  old_free : (k : ℕ) (i : Instr) → StandsAt c k i → (IsTied p c k → ⊥) → IsTied (narrowed p) new (place k) → ⊥
+  old_free : (k : ℕ) (i : Instr) → IsInstrAt c k i → (IsTied p c k → ⊥) → IsTied (narrowed p) new (place k) → ⊥
   old_free k i e free (inl n) = let up = low k i e in free (inl (omega (arith, n, up)))
   old_free k i e free (inr (m, n)) = by (old_landing m (place k) n)
     where
@@ -242,7 +242,7 @@ module _ (p : Plan) (s : IsSound p) (b : ℕ) (c : CodeBlock) (at_b : slice_get 
               omega (arith, last, up, to)
 
   -- WHAT IS NAMED stands apart from what names it
-  module _ (v : ℕ) (i : Instr) (at_v : StandsAt c v i) where
+  module _ (v : ℕ) (i : Instr) (at_v : IsInstrAt c v i) where
     to_copy : (q : ℕ) (d : Dest) → q < size (parted i) → dest_at (place v) (base v + q) Left ≡ d → StandApart (narrowed p) new (place v) (place v + d.ahead)
     to_copy q d h e =
         let first = before_copies (ts p c) (is p c) (all p c) v (parted i) (here v i at_v) in

@@ -9,7 +9,7 @@ use Rattle.semantics.specs.declared.program.Dest.{Dest}
 use Rattle.semantics.specs.declared.program.Op.TheVariants.{Link}
 use Rattle.semantics.specs.Program.{Instr, CodeBlock}
 use Rattle.semantics.specs.Plan.{Plan, landing}
-use Rattle.semantics.specs.Wired.{StandsAt}
+use Rattle.semantics.specs.Wired.{IsInstrAt}
 use Rattle.fanout.specs.Sides.{parted, firsts_of, parting_of}
 use Rattle.fanout.specs.Rows.{tie, tie_landings, tie_instr, tie_all, is_tied}
 use Rattle.fanout.specs.Places.{size, places_from, place_of}
@@ -19,7 +19,7 @@ use Rattle.fanout.proofs.Flags.{tie_length, tie_these, landings_keep, all_keeps,
 use Rattle.fanout.proofs.Plans.{is, ts, l, all, at_place}
 use Rattle.fanout.proofs.Arrows.{in_parts}
 
--- the next instruction stands directly behind one that is tied to it
+-- the next instruction stands directly after one that is tied to it
 place_next : (ts : List Bool) (n before copied : ℕ) (is : List Instr) (v m m' : ℕ) → slice_get (places_from ts n before copied is) v ≡ Some m → slice_get (places_from ts n before copied is) (suc v) ≡ Some m' → is_tied ts (n + v) ≡ true → m' ≡ m + 1
 place_next ts n before copied [] v m m' e f t = absurd (cc)
 place_next ts n before copied (i ∷ []) zero m m' e f t = absurd (cc)
@@ -65,7 +65,7 @@ all_tie p ts from (j ∷ is) (suc v) n t i d k at e o h low within =
     let len = instr_length p ts from j j.op in
     all_tie p (tie_instr p ts from j j.op) (from + 1) is v n t i d k at (omega (arith, e)) o h low (omega (arith, within, len))
 
-module _ (p : Plan) (c : CodeBlock) (n t : ℕ) (i : Instr) (d : Dest) (there_i : StandsAt c n i) (link : i.op ≡ Link t) (lands : Contains i.firsts d) where
+module _ (p : Plan) (c : CodeBlock) (n t : ℕ) (i : Instr) (d : Dest) (there_i : IsInstrAt c n i) (link : i.op ≡ Link t) (lands : Contains i.firsts d) where
   tied_here : (k : ℕ) → k + 1 < landing p t → n + d.ahead + k < length (is p c) → is_tied (ts p c) (n + d.ahead + k) ≡ true
   tied_here k low within =
       let size = tie_length (replicate (length (is p c)) false) 0 c.inputs in
@@ -73,7 +73,7 @@ module _ (p : Plan) (c : CodeBlock) (n t : ℕ) (i : Instr) (d : Dest) (there_i 
       all_tie p (tie (replicate (length (is p c)) false) 0 c.inputs) 0 (is p c) n n t (parted i) d k (in_parts c n i there_i) (omega arith) link
       (subst (λ ds. Contains ds d) (sym (ap (λ op. firsts_of (parting_of op) i.firsts i.seconds) link)) lands) low (omega (arith, within, size, len))
 
-  stays : (k : ℕ) (j : Instr) → k < landing p t → StandsAt c (n + d.ahead + k) j → place_of (l p c) (n + d.ahead + k) ≡ place_of (l p c) (n + d.ahead) + k
+  stays : (k : ℕ) (j : Instr) → k < landing p t → IsInstrAt c (n + d.ahead + k) j → place_of (l p c) (n + d.ahead + k) ≡ place_of (l p c) (n + d.ahead) + k
   stays zero j low at = let z : n + d.ahead + 0 ≡ n + d.ahead = omega arith in let e = ap (place_of (l p c)) z in omega (arith, e)
   stays (suc k) j low at =
       let within = slice_get_within c.instrs (n + d.ahead + suc k) j at in

@@ -14,7 +14,7 @@ use Rattle.semantics.specs.Program.{Instr, CodeBlock}
 use Rattle.semantics.specs.Rule.{slot_of}
 use Rattle.semantics.specs.Plan.{Plan, landing, is_credit}
 use Rattle.semantics.specs.Sharing.{Arc, Inlet, inlet, arc, arcs_from, arcs_of}
-use Rattle.semantics.specs.Wired.{StandsAt}
+use Rattle.semantics.specs.Wired.{IsInstrAt}
 use Rattle.semantics.specs.Wired as Wired
 use Rattle.semantics.specs.Bytes as Bytes
 use Rattle.semantics.proofs.ArcEnds.{Leads, arcs_from_lead}
@@ -23,7 +23,7 @@ use Rattle.fanout.specs.Rows.{is_tied}
 use Rattle.fanout.specs.Places.{size, place_of, base_of}
 use Rattle.fanout.specs.Trees.{leaf}
 use Rattle.fanout.specs.Narrowed.{narrowed, narrowed_block}
-use Rattle.fanout.specs.Laws.{Names, StandsClear, StaysWired}
+use Rattle.fanout.specs.Laws.{Names, KeepsClear, StaysWired}
 use Rattle.fanout.proofs.Positions.{place_low}
 use Rattle.fanout.proofs.Spots.{place_is, copy_apart}
 use Rattle.fanout.proofs.Flags.{entries_tied, place_tied}
@@ -35,7 +35,7 @@ pub record FromDest (c : CodeBlock) (x : Arc) : Type 0 where
   pub n : ℕ
   pub i : Instr
   pub d : Dest
-  pub there : StandsAt c n i
+  pub there : IsInstrAt c n i
   pub named : Contains (i.firsts ++ i.seconds) d
   pub to : (x.to ≡ inlet (n + d.ahead) d.port) ⊎ ((x.to.port ≡ Left) × (n + d.ahead ≤ x.to.place))
 
@@ -66,15 +66,15 @@ dyadic_op i (Ask o) h = refl
 dyadic_op i (Release o) h = refl
 dyadic_op i op h = absurd (true≢false (sym h))
 
-right_there : (c : CodeBlock) (m : ℕ) → Bytes.is_dyadic (slice_get c.instrs m) ≡ true → (i : Instr) × StandsAt c m i × (Wired.is_dyadic i.op ≡ true)
+right_there : (c : CodeBlock) (m : ℕ) → Bytes.is_dyadic (slice_get c.instrs m) ≡ true → (i : Instr) × IsInstrAt c m i × (Wired.is_dyadic i.op ≡ true)
 right_there c m h = pick (slice_get c.instrs m) refl h
   where
-    pick : (o : Option Instr) → slice_get c.instrs m ≡ o → Bytes.is_dyadic o ≡ true → (i : Instr) × StandsAt c m i × (Wired.is_dyadic i.op ≡ true)
+    pick : (o : Option Instr) → slice_get c.instrs m ≡ o → Bytes.is_dyadic o ≡ true → (i : Instr) × IsInstrAt c m i × (Wired.is_dyadic i.op ≡ true)
     pick None e h = absurd (true≢false (sym h))
     pick (Some i) e h = (i, e, dyadic_op i i.op h)
 
 -- NO DESTINATION IS AN ENTRY
-module _ (p : Plan) (clear : StandsClear p) (b : ℕ) (c : CodeBlock) (at_b : slice_get p.program.blocks b ≡ Some c) where
+module _ (p : Plan) (clear : KeepsClear p) (b : ℕ) (c : CodeBlock) (at_b : slice_get p.program.blocks b ≡ Some c) where
   abbrev Past : ℕ → Dest → Type 0
   Past at d = c.inputs < at + d.ahead
 
@@ -134,7 +134,7 @@ stays_wired p clear w = record {
         by_to k (inr (e, z)) = omega (arith, k, z)
 
     right : (b : ℕ) (c : CodeBlock) (x : Arc) → slice_get (narrowed p).program.blocks b ≡ Some c → (f : FromDest c x) → x.to.port ≡ Right
-        → (x.to ≡ inlet (f.n + f.d.ahead) f.d.port) ⊎ ((x.to.port ≡ Left) × (f.n + f.d.ahead ≤ x.to.place)) → (i : Instr) × StandsAt c x.to.place i × (Wired.is_dyadic i.op ≡ true)
+        → (x.to ≡ inlet (f.n + f.d.ahead) f.d.port) ⊎ ((x.to.port ≡ Left) × (f.n + f.d.ahead ≤ x.to.place)) → (i : Instr) × IsInstrAt c x.to.place i × (Wired.is_dyadic i.op ≡ true)
     right b c x e f r (inl z) =
         let d = dests_stay p clear.rows clear.dests b f.n c f.d (record { i = f.i; block = e; there = f.there; named = f.named }) in
         right_there c x.to.place (ap (λ (x : Inlet). Bytes.is_dyadic (slice_get c.instrs x.place)) z ∙ d.right (sym (ap (λ (x : Inlet). x.port) z) ∙ r))

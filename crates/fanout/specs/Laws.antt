@@ -8,7 +8,7 @@ use Rattle.semantics.specs.declared.program.Op.TheVariants.{Link, Switch}
 use Rattle.semantics.specs.declared.program.Mark.TheVariants.{Unmarked}
 use Rattle.semantics.specs.Program.{Instr, CodeBlock, Program}
 use Rattle.semantics.specs.Plan.{Plan, HasShape, mark_at, landing, IsPlan}
-use Rattle.semantics.specs.Wired.{StandsAt, LoopsAgree, IsWired}
+use Rattle.semantics.specs.Wired.{IsInstrAt, LoopsAgree, IsWired}
 use Rattle.fanout.specs.Sides.{parted}
 use Rattle.fanout.specs.Rows.{is_tied}
 use Rattle.fanout.specs.Places.{place_of}
@@ -17,7 +17,7 @@ use Rattle.fanout.specs.Narrowed.{narrowed, narrowed_block, layout_of}
 
 -- Nothing but a switch is marked.
 abbrev pub MarksSwitches : Plan → Type 0
-MarksSwitches p = (b n : ℕ) (c : CodeBlock) (i : Instr) → slice_get p.program.blocks b ≡ Some c → StandsAt c n i → mark_at p b n ≢ Unmarked → i.op ≡ Switch
+MarksSwitches p = (b n : ℕ) (c : CodeBlock) (i : Instr) → slice_get p.program.blocks b ≡ Some c → IsInstrAt c n i → mark_at p b n ≢ Unmarked → i.op ≡ Switch
 
 abbrev pub AllLoops : Plan → Type 0
 AllLoops p = (b : ℕ) (c : CodeBlock) → slice_get p.program.blocks b ≡ Some c → LoopsAgree c
@@ -36,10 +36,10 @@ LoopsStay = (p : Plan) → AllLoops p → AllLoops (narrowed p)
 -- WHERE THEY STAND. Each instruction is in its place, with its operation, origin and slot; and a link's landing stays in a
 -- row.
 abbrev pub InstrsStay : Type 0
-InstrsStay = (p : Plan) (c : CodeBlock) (n : ℕ) (i : Instr) → StandsAt c n i → StandsAt (narrowed_block p c) (place_of (layout_of p c) n) (moved (layout_of p c) n (parted i))
+InstrsStay = (p : Plan) (c : CodeBlock) (n : ℕ) (i : Instr) → IsInstrAt c n i → IsInstrAt (narrowed_block p c) (place_of (layout_of p c) n) (moved (layout_of p c) n (parted i))
 
 abbrev pub LandingsStay : Type 0
-LandingsStay = (p : Plan) (n t k : ℕ) (c : CodeBlock) (i j : Instr) (d : Dest) → StandsAt c n i → i.op ≡ Link t → Contains i.firsts d → k < landing p t → StandsAt c (n + d.ahead + k) j
+LandingsStay = (p : Plan) (n t k : ℕ) (c : CodeBlock) (i j : Instr) (d : Dest) → IsInstrAt c n i → i.op ≡ Link t → Contains i.firsts d → k < landing p t → IsInstrAt c (n + d.ahead + k) j
     → place_of (layout_of p c) (n + d.ahead + k) ≡ place_of (layout_of p c) (n + d.ahead) + k
 
 -- ROWS. Between the two places an instruction is free of the next one, so they are not of one row.
@@ -50,7 +50,7 @@ AreApart ts n m = (k : ℕ) × (n ≤ k) × (k < m) × (is_tied ts k ≡ false)
 pub record Names (p : Plan) (b n : ℕ) (c : CodeBlock) (d : Dest) : Type 0 where
   pub i : Instr
   pub block : slice_get p.program.blocks b ≡ Some c
-  pub there : StandsAt c n i
+  pub there : IsInstrAt c n i
   pub named : Contains (i.firsts ++ i.seconds) d
 
 -- each destination leaves the row of the instruction that names it
@@ -65,14 +65,14 @@ abbrev pub DestsStay : Type 0
 DestsStay = (p : Plan) → LeavesRows p → AreDests p → AreDests (narrowed p)
 
 -- WIRED PLANS. What a plan keeps to whose copies are wired as well: a destination is no entry, and the entries are there.
-pub record StandsClear (p : Plan) : Type 0 where
+pub record KeepsClear (p : Plan) : Type 0 where
   pub rows : LeavesRows p
   pub dests : AreDests p
   pub entries : (b n : ℕ) (c : CodeBlock) (d : Dest) → Names p b n c d → c.inputs < n + d.ahead
   pub there : (b : ℕ) (c : CodeBlock) → slice_get p.program.blocks b ≡ Some c → c.inputs < length c.instrs
 
 abbrev pub StaysWired : Type 0
-StaysWired = (p : Plan) → StandsClear p → IsWired p → IsWired (narrowed p)
+StaysWired = (p : Plan) → KeepsClear p → IsWired p → IsWired (narrowed p)
 
 -- FEW DESTINATIONS
 -- what holds of each instruction

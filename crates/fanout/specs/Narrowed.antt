@@ -10,7 +10,7 @@ use Rattle.fanout.specs.Rows.{is_tied}
 use Rattle.fanout.specs.Places.{Layout, size, layout_in}
 use Rattle.fanout.specs.Trees.{moved, copies_of}
 
--- What waits for the end of a row is held while an instruction is tied to the next one, and released behind it else.
+-- What waits for the end of a row is held while an instruction is tied to the next one, and released after it else.
 abbrev pub held : {X : Type 0} → Bool → List X → List X
 held true xs = xs
 held false xs = []

@@ -1,4 +1,4 @@
--- Where the instructions of a block stand when the copies of each stand directly behind it, or behind its row.
+-- Where the instructions of a block stand when the copies of each stand directly after it, or after its row.
 use Rattle.std.specs.Prelude.{ℕ, ◌+◌, Bool, List, ◌∷◌, drop, slice_index_or, if◌then◌else◌, []}
 use Rattle.semantics.specs.Program.{Instr}
 use Rattle.semantics.specs.Plan.{Plan}
@@ -31,7 +31,7 @@ layout_with ts is = record { tied = ts; places = places_from ts 0 0 0 is; bases 
 abbrev pub layout_in : Plan → ℕ → List Instr → Layout
 layout_in p inputs is = layout_with (tied_in p inputs is) is
 
--- the place of an instruction; a place behind the block stays
+-- the place of an instruction; a place after the block stays
 abbrev pub place_of : Layout → ℕ → ℕ
 place_of l n = slice_index_or l.places n n
 

@@ -2,11 +2,11 @@
 use Rattle.semantics.specs.Plan.{Plan}
 use Rattle.code.specs.Sound.{IsSound}
 use Rattle.fanout.specs.Narrowed.{narrowed}
-use Rattle.fanout.specs.Laws.{StandsClear, AllInstrs, HasItsDests}
+use Rattle.fanout.specs.Laws.{KeepsClear, AllInstrs, HasItsDests}
 
 -- Each destination leaves its row, by the flags that the rows are told by, and is no entry.
-abbrev pub SoundStandsClear : Type 0
-SoundStandsClear = (p : Plan) → IsSound p → StandsClear p
+abbrev pub SoundKeepsClear : Type 0
+SoundKeepsClear = (p : Plan) → IsSound p → KeepsClear p
 
 -- The narrowed plan is sound as well,
 abbrev pub StaysSound : Type 0

@@ -1,4 +1,4 @@
-//! Where the instructions of a block stand when their copies stand behind them.
+//! Where the instructions of a block stand when their copies stand after them.
 
 ghost use Rattle.std.specs.Prelude.{◌≡◌, ◌⊎◌, ◌+◌, ◌<◌, ◌≤◌, IfOk, length, drop};
 ghost use Rattle.fanout.specs.Rows as of_rows;

@@ -1,8 +1,8 @@
 //! From a plan to one in which no instruction has more than two destinations: a tree of `copy` leads to the others, as
 //! deep as the logarithm of their number.
 //!
-//! The copies of an instruction stand directly behind it, or, where it stands in a row that must not be cut, directly
-//! behind the row: the entries of a block, or the landing of a link.
+//! The copies of an instruction stand directly after it, or, where it stands in a row that must not be cut, directly
+//! after the row: the entries of a block, or the landing of a link.
 #![tactic(auto)]
 
 ghost use Rattle.std.specs.Prelude.{◌≡◌, IfOk};

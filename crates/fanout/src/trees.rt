@@ -35,7 +35,7 @@ fn leaf<A: Allocator>(
     dest_at(at, to, dest.port)
 }
 
-/// A child of a copy of that number, which stands at a place. The children are numbered on behind those of the copies
+/// A child of a copy of that number, which stands at a place. The children are numbered on after those of the copies
 /// before it: the first ones are copies, and the others the destinations in their order.
 fn child<A: Allocator>(
     layout: &Layout<A>,

@@ -11,7 +11,7 @@ use Rattle.semantics.specs.Program.{Instr, CodeBlock}
 use Rattle.semantics.specs.Plan.{Plan}
 use Rattle.semantics.specs.Orderly.{eq_port}
 use Rattle.folding.specs.declared.folds.Fold.{Fold}
-use Rattle.folding.specs.declared.folds.Fold.TheVariants.{Kept, OnRight, OnLeft}
+use Rattle.folding.specs.declared.folds.Fold.TheVariants.{Unchanged, OnRight, LeftLiteral}
 use Rattle.folding.specs.Namers.{namer_of, namers_of}
 use Rattle.folding.specs.Folds.{is_folded, is_closed, new_port, new_op}
 use Rattle.folding.specs.Places.{layout_of, folds_at}
@@ -24,13 +24,13 @@ use Rattle.folding.proofs.Named.{same_number}
 
 -- the port of the operand that is in the code, and the operand
 abbrev port_in : Fold → Port
-port_in (OnLeft z) = Left
+port_in (LeftLiteral z) = Left
 port_in f = Right
 
 abbrev value_in : Fold → ℤ
 value_in (OnRight z) = z
-value_in (OnLeft z) = z
-value_in Kept = pos 0
+value_in (LeftLiteral z) = z
+value_in Unchanged = pos 0
 
 module _ (p : Plan) (c : CodeBlock) where
   abbrev pub port_at : ℕ → Port
@@ -73,12 +73,12 @@ module _ (p : Plan) (c : CodeBlock) where
       right_shut z Left = refl
       right_shut z Right = refl
 
-      left_shut : (z : ℤ) (q : Port) → is_closed (OnLeft z) q ≡ eq_port q Left
+      left_shut : (z : ℤ) (q : Port) → is_closed (LeftLiteral z) q ≡ eq_port q Left
       left_shut z Left = refl
       left_shut z Right = refl
 
       go : (f : Fold) → folds_at (layout_of p c) m ≡ f → FoldCase m
-      go Kept e = is_kept record { folded = ap is_folded e; port = λ q. ap (λ (f : Fold). new_port f q) e; op = λ op. ap (λ (f : Fold). new_op f op) e; shut = λ q. ap (λ (f : Fold). is_closed f q) e }
+      go Unchanged e = is_kept record { folded = ap is_folded e; port = λ q. ap (λ (f : Fold). new_port f q) e; op = λ op. ap (λ (f : Fold). new_op f op) e; shut = λ q. ap (λ (f : Fold). is_closed f q) e }
       go (OnRight z) e =
           let T = folds_on_right p c m z e in
           is_right (
@@ -94,7 +94,7 @@ module _ (p : Plan) (c : CodeBlock) where
             },
             λ o. ap (λ (f : Fold). new_op f (Apply2 o)) e ∙ ap (λ (f : Fold). Apply2Right o (value_in f)) (sym e),
           )
-      go (OnLeft z) e =
+      go (LeftLiteral z) e =
           let T = folds_on_left p c m z e in
           is_left (
             record {
@@ -130,7 +130,7 @@ module _ (p : Plan) (c : CodeBlock) where
 
       go : (f : Fold) (q : Port) → folds_at (layout_of p c) (k + d.ahead) ≡ f → d.port ≡ q → is_closed f q ≡ true → (i.op ≡ Lit (value_at (k + d.ahead))) × (d.port ≡ port_at (k + d.ahead))
       go (OnRight z) Right e f h = (by Right z f (folds_on_right p c (k + d.ahead) z e) ∙ ap (λ (y : Fold). Lit (value_in y)) (sym e), f ∙ sym (ap port_in e))
-      go (OnLeft z) Left e f h = (by Left z f (folds_on_left p c (k + d.ahead) z e) ∙ ap (λ (y : Fold). Lit (value_in y)) (sym e), f ∙ sym (ap port_in e))
+      go (LeftLiteral z) Left e f h = (by Left z f (folds_on_left p c (k + d.ahead) z e) ∙ ap (λ (y : Fold). Lit (value_in y)) (sym e), f ∙ sym (ap port_in e))
       go (OnRight z) Left e f h = absurd (true≢false (sym h))
-      go (OnLeft z) Right e f h = absurd (true≢false (sym h))
-      go Kept q e f h = absurd (true≢false (sym h))
+      go (LeftLiteral z) Right e f h = absurd (true≢false (sym h))
+      go Unchanged q e f h = absurd (true≢false (sym h))

@@ -12,9 +12,9 @@ use Rattle.semantics.specs.Program.{Instr, CodeBlock}
 use Rattle.semantics.specs.Rule.{slot_of}
 use Rattle.semantics.specs.Plan.{Plan, OneHolder, is_credit, is_open}
 use Rattle.folding.specs.declared.folds.Fold.{Fold}
-use Rattle.folding.specs.declared.folds.Fold.TheVariants.{Kept, OnRight, OnLeft}
+use Rattle.folding.specs.declared.folds.Fold.TheVariants.{Unchanged, OnRight, LeftLiteral}
 use Rattle.folding.specs.Folds.{folds_of, fold_at, is_folded, new_op}
-use Rattle.folding.specs.Places.{freed_from, left_of, layout_of, new_place, new_holder, gone_at, folds_at}
+use Rattle.folding.specs.Places.{freed_from, remaining_of, layout_of, new_place, new_holder, gone_at, folds_at}
 use Rattle.folding.specs.Moved.{moved}
 use Rattle.folding.specs.Folded.{folded_block}
 use Rattle.folding.specs.Laws.{IsBelow, KeepsHolders, KeepsBelow}
@@ -65,12 +65,12 @@ slot_any i j (Give k) h e = let s : h ≡ j.slot = cc in (s, refl)
 slot_any i j (Drain k) h e = let s : h ≡ j.slot = cc in (s, refl)
 slot_any i j op h e = absurd (cc)
 
-left_is : (gs : List Bool) → left_of gs ≡ before gs (length gs)
+left_is : (gs : List Bool) → remaining_of gs ≡ before gs (length gs)
 left_is [] = refl
 left_is (true ∷ gs) = left_is gs
 left_is (false ∷ gs) = let e = left_is gs in omega (arith, e)
 
-before_within : (gs : List Bool) (h : ℕ) → h < length gs → slice_index_or gs h false ≡ false → before gs h < left_of gs
+before_within : (gs : List Bool) (h : ℕ) → h < length gs → slice_index_or gs h false ≡ false → before gs h < remaining_of gs
 before_within gs h l stay = let e = left_is gs in let k = before_grows gs h (length gs) l l stay in omega (arith, e, k)
 
 pub before_apart : (gs : List Bool) (g h : ℕ) → g < length gs → h < length gs → slice_index_or gs g false ≡ false → slice_index_or gs h false ≡ false → before gs g ≡ before gs h → g ≡ h
@@ -85,9 +85,9 @@ pub folded_is : (p : Plan) (c : CodeBlock) (n : ℕ) → is_folded (folds_at (la
 folded_is p c n e = by_fold (folds_at (layout_of p c) n) refl e
   where
     by_fold : (f : Fold) → folds_at (layout_of p c) n ≡ f → is_folded f ≡ true → (i : Instr) × (o : Binary) × (slice_get c.instrs n ≡ Some i) × (i.op ≡ Apply2 o)
-    by_fold Kept f e = absurd (true≢false (sym e))
+    by_fold Unchanged f e = absurd (true≢false (sym e))
     by_fold (OnRight z) f e = (folds_on_right p c n z f).operator
-    by_fold (OnLeft z) f e = (folds_on_left p c n z f).operator
+    by_fold (LeftLiteral z) f e = (folds_on_left p c n z f).operator
 
 module _ (p : Plan) (c : CodeBlock) (one : OneHolder c) (below : IsBelow c) where
   abbrev freed : List Bool
@@ -98,7 +98,7 @@ module _ (p : Plan) (c : CodeBlock) (one : OneHolder c) (below : IsBelow c) wher
 
   -- an instruction of a holder that is not folded
   abbrev Holding : ℕ → Instr → Type 0
-  Holding n i = (slice_get c.instrs n ≡ Some i) × (slot_of i i.op ≡ Some i.slot) × (folds_at (layout_of p c) n ≡ Kept)
+  Holding n i = (slice_get c.instrs n ≡ Some i) × (slot_of i i.op ≡ Some i.slot) × (folds_at (layout_of p c) n ≡ Unchanged)
 
   not_freed : (n : ℕ) (i : Instr) → Holding n i → slice_index_or freed i.slot false ≡ false
   not_freed n i (at, held, kept) = pick (slice_index_or freed i.slot false) refl
@@ -137,7 +137,7 @@ module _ (p : Plan) (c : CodeBlock) (one : OneHolder c) (below : IsBelow c) wher
   from : (m h : ℕ) (j : Instr) → slice_get (folded_block p c).instrs m ≡ Some j → slot_of j j.op ≡ Some h → From m h j
   from m h j at held = found (has_no_others p c m j at)
     where
-      kept : (n : ℕ) (i : Instr) → slice_get c.instrs n ≡ Some i → new_place (layout_of p c) n ≡ m → j ≡ moved (layout_of p c) n i → folds_at (layout_of p c) n ≡ Kept → From m h j
+      kept : (n : ℕ) (i : Instr) → slice_get c.instrs n ≡ Some i → new_place (layout_of p c) n ≡ m → j ≡ moved (layout_of p c) n i → folds_at (layout_of p c) n ≡ Unchanged → From m h j
       kept n i there place same f =
           let op : j.op ≡ i.op = ap (λ (x : Instr). x.op) same ∙ ap (λ f. new_op f i.op) f in
           let slots = slot_any i j i.op h (sym (ap (slot_of j) op) ∙ held) in
@@ -151,14 +151,14 @@ module _ (p : Plan) (c : CodeBlock) (one : OneHolder c) (below : IsBelow c) wher
           is = let s : x ≡ i = cc in sym (ap (λ (y : Instr). y.op) s) ∙ op
 
           gone : (f : Fold) → folds_at (layout_of p c) n ≡ f → is_folded f ≡ true → ⊥
-          gone Kept e folded = absurd (true≢false (sym folded))
+          gone Unchanged e folded = absurd (true≢false (sym folded))
           gone (OnRight z) e folded = let new : j.op ≡ Apply2Right o z = ap (λ (x : Instr). x.op) same ∙ (λ k. new_op (e k) (is k)) in let w : slot_of j (Apply2Right o z) ≡ Some h = sym (ap (slot_of j) new) ∙ held in absurd (cc)
-          gone (OnLeft z) e folded = let new : j.op ≡ Apply2Left o z = ap (λ (x : Instr). x.op) same ∙ (λ k. new_op (e k) (is k)) in let w : slot_of j (Apply2Left o z) ≡ Some h = sym (ap (slot_of j) new) ∙ held in absurd (cc)
+          gone (LeftLiteral z) e folded = let new : j.op ≡ Apply2Left o z = ap (λ (x : Instr). x.op) same ∙ (λ k. new_op (e k) (is k)) in let w : slot_of j (Apply2Left o z) ≡ Some h = sym (ap (slot_of j) new) ∙ held in absurd (cc)
 
       by_fold : (n : ℕ) (i : Instr) → slice_get c.instrs n ≡ Some i → new_place (layout_of p c) n ≡ m → j ≡ moved (layout_of p c) n i → (f : Fold) → folds_at (layout_of p c) n ≡ f → From m h j
-      by_fold n i there place same Kept e = kept n i there place same e
+      by_fold n i there place same Unchanged e = kept n i there place same e
       by_fold n i there place same (OnRight z) e = absurd (none n i (OnRight z) same there e (folds_on_right p c n z e).operator refl)
-      by_fold n i there place same (OnLeft z) e = absurd (none n i (OnLeft z) same there e (folds_on_left p c n z e).operator refl)
+      by_fold n i there place same (LeftLiteral z) e = absurd (none n i (LeftLiteral z) same there e (folds_on_left p c n z e).operator refl)
 
       found : (n : ℕ) × (i : Instr) × (slice_get c.instrs n ≡ Some i) × (gone_at (layout_of p c) n ≡ false) × (new_place (layout_of p c) n ≡ m) × (j ≡ moved (layout_of p c) n i) → From m h j
       found (n, i, there, stay, place, same) = by_fold n i there place same (folds_at (layout_of p c) n) refl
@@ -169,7 +169,7 @@ module _ (p : Plan) (c : CodeBlock) (one : OneHolder c) (below : IsBelow c) wher
   still_below : IsBelow (folded_block p c)
   still_below m h j at held = found (from m h j at held)
     where
-      found : From m h j → h < left_of freed
+      found : From m h j → h < remaining_of freed
       found (n, i, holding, place, op, e) = let k = before_within freed i.slot (slot_within n i holding) (not_freed n i holding) in omega (arith, k, e)
 
   still_one : OneHolder (folded_block p c)

@@ -8,7 +8,7 @@ use Rattle.semantics.specs.Program.{Instr, CodeBlock}
 use Rattle.semantics.specs.Plan.{Plan}
 use Rattle.semantics.specs.Cause.{opened_by, open_bounds, loop_bounds}
 use Rattle.folding.specs.declared.folds.Fold.{Fold}
-use Rattle.folding.specs.declared.folds.Fold.TheVariants.{OnRight, OnLeft}
+use Rattle.folding.specs.declared.folds.Fold.TheVariants.{OnRight, LeftLiteral}
 use Rattle.folding.specs.Folds.{new_op}
 use Rattle.folding.specs.Places.{Layout, layout_of, gone_at, folds_at}
 use Rattle.folding.specs.Moved.{moved}
@@ -23,7 +23,7 @@ opens is = flat_map (λ (i : Instr). opened_by i.op) is
 -- an operator with a literal operand opens no loop, as it did before
 opened_same : (f : Fold) (op : Op) → opened_by (new_op f op) ≡ opened_by op
 opened_same (OnRight z) (Apply2 op) = refl
-opened_same (OnLeft z) (Apply2 op) = refl
+opened_same (LeftLiteral z) (Apply2 op) = refl
 opened_same f op = refl
 
 -- what is left out from the n-th instruction on opens no loop

@@ -10,7 +10,7 @@ use Rattle.semantics.specs.Program.{Instr, CodeBlock}
 use Rattle.semantics.specs.Plan.{Plan, mark_in, mark_at}
 use Rattle.code.specs.Marks.{marks_in}
 use Rattle.folding.specs.declared.folds.Fold.{Fold}
-use Rattle.folding.specs.declared.folds.Fold.TheVariants.{Kept, OnRight, OnLeft}
+use Rattle.folding.specs.declared.folds.Fold.TheVariants.{Unchanged, OnRight, LeftLiteral}
 use Rattle.folding.specs.Folds.{new_op}
 use Rattle.folding.specs.Places.{layout_of, new_place, gone_at, folds_at}
 use Rattle.folding.specs.Moved.{moved}
@@ -39,13 +39,13 @@ keeps_marks p b c n i at there stay =
     ∙ mark_there (slice_get p.marks b) n
 
 switch_after : (f : Fold) → new_op f Switch ≡ Switch
-switch_after Kept = refl
+switch_after Unchanged = refl
 switch_after (OnRight z) = refl
-switch_after (OnLeft z) = refl
+switch_after (LeftLiteral z) = refl
 
 switch_before : (f : Fold) (op : Op) → new_op f op ≡ Switch → op ≡ Switch
 switch_before (OnRight z) (Apply2 op) e = absurd (cc)
-switch_before (OnLeft z) (Apply2 op) e = absurd (cc)
+switch_before (LeftLiteral z) (Apply2 op) e = absurd (cc)
 switch_before f op e = e
 
 -- an instruction of the folded plan is one of the plan, with its mark

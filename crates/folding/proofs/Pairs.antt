@@ -13,7 +13,7 @@ use Rattle.semantics.specs.Wired.{is_dyadic}
 use Rattle.semantics.specs.Orderly.{eq_port}
 use Rattle.folding.specs.declared.namers.Namer.TheVariants.{One}
 use Rattle.folding.specs.declared.folds.Fold.{Fold}
-use Rattle.folding.specs.declared.folds.Fold.TheVariants.{Kept, OnRight, OnLeft}
+use Rattle.folding.specs.declared.folds.Fold.TheVariants.{Unchanged, OnRight, LeftLiteral}
 use Rattle.folding.specs.Namers.{namer_of, namers_of}
 use Rattle.folding.specs.Folds.{is_folded, is_closed}
 use Rattle.folding.specs.Places.{layout_of, folds_at}
@@ -260,11 +260,11 @@ module _ (p : Plan) (c : CodeBlock) where
       right_shut z Left = refl
       right_shut z Right = refl
 
-      left_shut : (z : ℤ) (q : Port) → is_closed (OnLeft z) q ≡ eq_port q Left
+      left_shut : (z : ℤ) (q : Port) → is_closed (LeftLiteral z) q ≡ eq_port q Left
       left_shut z Left = refl
       left_shut z Right = refl
 
       go : (x : ℕ) (f : Fold) → folds_at (layout_of p c) x ≡ f → cnt x (given n (dests_of i s)) ≡ cnt x (wanted n (dests_of i s))
-      go x Kept e = none_given x n (dests_of i s) (λ q. ap (λ (f : Fold). is_closed f q) e) ∙ sym (none_wanted x n (dests_of i s) (ap is_folded e))
+      go x Unchanged e = none_given x n (dests_of i s) (λ q. ap (λ (f : Fold). is_closed f q) e) ∙ sym (none_wanted x n (dests_of i s) (ap is_folded e))
       go x (OnRight z) e = counts_agree x Right (λ q. ap (λ (f : Fold). is_closed f q) e ∙ right_shut z q) (ap is_folded e) z (folds_on_right p c x z e) spares inside n i s at
-      go x (OnLeft z) e = counts_agree x Left (λ q. ap (λ (f : Fold). is_closed f q) e ∙ left_shut z q) (ap is_folded e) z (folds_on_left p c x z e) spares inside n i s at
+      go x (LeftLiteral z) e = counts_agree x Left (λ q. ap (λ (f : Fold). is_closed f q) e ∙ left_shut z q) (ap is_folded e) z (folds_on_left p c x z e) spares inside n i s at

@@ -15,7 +15,7 @@ use Rattle.semantics.specs.Plan.{Plan, landing}
 use Rattle.semantics.specs.Wired.{is_dyadic}
 use Rattle.folding.specs.declared.namers.Namer.TheVariants.{One, Many}
 use Rattle.folding.specs.declared.folds.Fold.{Fold}
-use Rattle.folding.specs.declared.folds.Fold.TheVariants.{Kept, OnRight, OnLeft}
+use Rattle.folding.specs.declared.folds.Fold.TheVariants.{Unchanged, OnRight, LeftLiteral}
 use Rattle.folding.specs.Namers.{namer_of, namer_at, namers_of, entries_noted}
 use Rattle.folding.specs.Folds.{folds_of, is_folded, is_closed, closed_to, all_closed, is_used, is_lit, is_gone}
 use Rattle.folding.specs.Places.{layout_of, folds_at, gone_at}
@@ -75,9 +75,9 @@ module _ (p : Plan) (c : CodeBlock) where
       by_uses f (inl a) (inr r) = inr (by_use m r.0 j true r.1 at r.2 r.3)
 
       by_fold : (f : Fold) → folds_at (layout_of p c) m ≡ f → PlainAt m ⊎ Paired m
-      by_fold Kept e = by_uses (ap is_folded e) (used_or m j.firsts) (used_or m j.seconds)
+      by_fold Unchanged e = by_uses (ap is_folded e) (used_or m j.firsts) (used_or m j.seconds)
       by_fold (OnRight z) e = inr record { x = m; q = Right; z = z; takes = folds_on_right p c m z e; which = inl refl }
-      by_fold (OnLeft z) e = inr record { x = m; q = Left; z = z; takes = folds_on_left p c m z e; which = inl refl }
+      by_fold (LeftLiteral z) e = inr record { x = m; q = Left; z = z; takes = folds_on_left p c m z e; which = inl refl }
 
   -- ---- WORDS FROM ELSEWHERE
   one_many : (n : ℕ) (s : Bool) → One n s ≡ Many → ⊥

@@ -19,7 +19,7 @@ use Rattle.folding.specs.Namers.{namer_of, namers_of}
 use Rattle.folding.specs.Folds.{is_closed}
 use Rattle.folding.specs.Places.{layout_of, gone_at, folds_at}
 use Rattle.folding.specs.Moved.{is_shut, moved_dests, new_dest}
-use Rattle.folding.specs.Laws.{dests_of, NamedBy, other_port, TakesLiteral, IsLeftOut, SparesLiterals, KeepsSole}
+use Rattle.folding.specs.Laws.{dests_of, NamedBy, other_port, TakesLiteral, IsDropped, SparesLiterals, KeepsSole}
 use Rattle.folding.proofs.Standing.{all}
 use Rattle.folding.proofs.Naming.{knows_namers}
 use Rattle.folding.proofs.Named.{namers_name, same_number}
@@ -51,7 +51,7 @@ module _ (p : Plan) (c : CodeBlock) (spares : SparesLiterals c) (n : ℕ) (i : I
       by_literal (j, stands, op) = let e : slice_get c.instrs n ≡ Some j = ap (slice_get c.instrs) same ∙ stands in let f : j ≡ i = cc in other z (sym (ap (λ (x : Instr). x.op) f) ∙ op)
 
   -- where it leads, nothing is left out: else it would lead to the operator, too
-  not_gone : (j : Instr) → slice_get c.instrs to ≡ Some j → IsLeftOut p c to j → ⊥
+  not_gone : (j : Instr) → slice_get c.instrs to ≡ Some j → IsDropped p c to j → ⊥
   not_gone j stands out = by_port d.port refl
     where
       lit_port : d.port ≡ Right → (z : ℤ) × (j.op ≡ Lit z) → ⊥

@@ -9,7 +9,7 @@ use Rattle.semantics.specs.declared.program.Dest.{Dest}
 use Rattle.semantics.specs.Program.{Instr, CodeBlock}
 use Rattle.semantics.specs.Plan.{Plan, landing}
 use Rattle.semantics.specs.Sharing.{Arc, Inlet, inlet, arc, arcs_from, arcs_of}
-use Rattle.semantics.specs.Wired.{StandsAt}
+use Rattle.semantics.specs.Wired.{IsInstrAt}
 use Rattle.semantics.specs.Wired as Wired
 use Rattle.semantics.specs.Bytes as Bytes
 use Rattle.semantics.proofs.ArcEnds.{Leads, arcs_from_lead}
@@ -55,13 +55,13 @@ module _ (q : Plan) (sound : DestsAreSound q) (b : ℕ) (c : CodeBlock) (at_b : 
       pick (inr (left, low)) = let s = sound_arc.sound.past in omega (arith, s, low)
 
   -- and a right port is one of an instruction with two operands.
-  pub right_dyadic : x.to.port ≡ Right → (i : Instr) × StandsAt c x.to.place i × (Wired.is_dyadic i.op ≡ true)
+  pub right_dyadic : x.to.port ≡ Right → (i : Instr) × IsInstrAt c x.to.place i × (Wired.is_dyadic i.op ≡ true)
   right_dyadic right = pick sound_arc.to
     where
       target : (j : Instr) × (slice_get c.instrs (sound_arc.n + sound_arc.d.ahead) ≡ Some j)
       target = get_some c.instrs (sound_arc.n + sound_arc.d.ahead) sound_arc.sound.dest.inside
 
-      pick : LeadsBy sound_arc.n sound_arc.d x → (i : Instr) × StandsAt c x.to.place i × (Wired.is_dyadic i.op ≡ true)
+      pick : LeadsBy sound_arc.n sound_arc.d x → (i : Instr) × IsInstrAt c x.to.place i × (Wired.is_dyadic i.op ≡ true)
       pick (inl e) = (
         target.0,
         ap (λ (y : Inlet). slice_get c.instrs y.place) e ∙ target.1,

@@ -16,7 +16,7 @@ use Rattle.semantics.specs.Bytes as Bytes
 use Rattle.semantics.specs.Wired as Wired
 use Rattle.code.specs.Sound.{StandApart, IsSoundDest, DestsAreSound}
 use Rattle.folding.specs.declared.folds.Fold.{Fold}
-use Rattle.folding.specs.declared.folds.Fold.TheVariants.{Kept, OnRight, OnLeft}
+use Rattle.folding.specs.declared.folds.Fold.TheVariants.{Unchanged, OnRight, LeftLiteral}
 use Rattle.folding.specs.Folds.{new_op, new_port}
 use Rattle.folding.specs.Places.{Layout, layout_of, new_place, gone_at, folds_at}
 use Rattle.folding.specs.Moved.{is_shut, moved, moved_dests, new_dest}
@@ -46,10 +46,10 @@ pub dyadic_is : (i : Instr) → Bytes.is_dyadic (Some i) ≡ Wired.is_dyadic i.o
 dyadic_is i = dyadic_op i i.op
 
 -- The operand that an operator still takes from outside comes at the left port.
-right_port : (f : Fold) (q : Port) → new_port f q ≡ Right → (f ≡ Kept) × (q ≡ Right)
-right_port Kept q e = (refl, e)
+right_port : (f : Fold) (q : Port) → new_port f q ≡ Right → (f ≡ Unchanged) × (q ≡ Right)
+right_port Unchanged q e = (refl, e)
 right_port (OnRight z) q e = absurd (cc)
-right_port (OnLeft z) q e = absurd (cc)
+right_port (LeftLiteral z) q e = absurd (cc)
 
 module _ (p : Plan) (sound : DestsAreSound p) (b : ℕ) (c : CodeBlock) (at_b : slice_get p.program.blocks b ≡ Some c) (size : c.inputs + 1 ≤ length c.instrs) where
   abbrev l : Layout

@@ -17,7 +17,7 @@ use Rattle.semantics.specs.Plan.{Plan, HasShape}
 use Rattle.semantics.specs.Bytes as Bytes
 use Rattle.code.specs.Sound.{NamesRightly, LandsLeft, IsSoundInstr, IsSoundBlock, IsSoundProgram, IsSound}
 use Rattle.folding.specs.declared.folds.Fold.{Fold}
-use Rattle.folding.specs.declared.folds.Fold.TheVariants.{Kept, OnRight, OnLeft}
+use Rattle.folding.specs.declared.folds.Fold.TheVariants.{Unchanged, OnRight, LeftLiteral}
 use Rattle.folding.specs.Folds.{is_lit, new_op, new_port}
 use Rattle.folding.specs.Places.{Layout, layout_of, new_place, folds_at}
 use Rattle.folding.specs.Moved.{moved, moved_dests}
@@ -38,13 +38,13 @@ names_same p op h = h
 
 names_new : (p : Plan) (f : Fold) (op : Op) → NamesRightly p.program op → NamesRightly (folded p).program (new_op f op)
 names_new p (OnRight z) (Apply2 op) h = h
-names_new p (OnLeft z) (Apply2 op) h = h
+names_new p (LeftLiteral z) (Apply2 op) h = h
 names_new p f op h = names_same p op h
 
 -- SHAPES
 shape_new : (f : Fold) (op : Op) (m n : ℕ) → HasShape op m n → HasShape (new_op f op) m n
 shape_new (OnRight z) (Apply2 op) m n h = h
-shape_new (OnLeft z) (Apply2 op) m n h = h
+shape_new (LeftLiteral z) (Apply2 op) m n h = h
 shape_new f op m n h = h
 
 none_stay : (l : Layout) (n : ℕ) (ds : List Dest) → length ds ≡ 0 → length (moved_dests l n ds) ≡ 0
@@ -56,9 +56,9 @@ not_lit i op e f z lit = true≢false (sym (ap is_lit lit) ∙ ap is_lit e ∙ f
 
 -- LANDINGS
 left_stays : (f : Fold) (q : Port) → q ≡ Left → new_port f q ≡ Left
-left_stays Kept q e = e
+left_stays Unchanged q e = e
 left_stays (OnRight z) q e = refl
-left_stays (OnLeft z) q e = refl
+left_stays (LeftLiteral z) q e = refl
 
 lands_same : (l : Layout) (n : ℕ) (op : Op) (ds : List Dest) → LandsLeft op ds → LandsLeft op (moved_dests l n ds)
 lands_same l n (Link b) ds h = all_from (λ (d : Dest). d.port ≡ Left) (moved_dests l n ds) (λ k x e. by_old x (moved_back l n ds x (get_contains (moved_dests l n ds) k x e)))
@@ -69,7 +69,7 @@ lands_same l n op ds h = h
 
 lands_new : (f : Fold) (op : Op) (ds : List Dest) → LandsLeft op ds → LandsLeft (new_op f op) ds
 lands_new (OnRight z) (Apply2 op) ds h = h
-lands_new (OnLeft z) (Apply2 op) ds h = h
+lands_new (LeftLiteral z) (Apply2 op) ds h = h
 lands_new f op ds h = h
 
 in_either : (i : Instr) (s : Bool) (k : ℕ) (d : Dest) → slice_get (dests_of i s) k ≡ Some d → Contains (i.firsts ++ i.seconds) d

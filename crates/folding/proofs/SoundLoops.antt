@@ -11,7 +11,7 @@ use Rattle.semantics.specs.Rule.{slot_of}
 use Rattle.semantics.specs.Plan.{Plan, OneHolder, IsFirst, is_credit, is_open}
 use Rattle.semantics.specs.Wired.{bound_of, part_of, LoopsAgree}
 use Rattle.folding.specs.declared.folds.Fold.{Fold}
-use Rattle.folding.specs.declared.folds.Fold.TheVariants.{OnRight, OnLeft}
+use Rattle.folding.specs.declared.folds.Fold.TheVariants.{OnRight, LeftLiteral}
 use Rattle.folding.specs.Folds.{is_folded, new_op}
 use Rattle.folding.specs.Places.{Layout, layout_of, new_place, new_holder, gone_at, folds_at}
 use Rattle.folding.specs.Moved.{moved}
@@ -24,13 +24,13 @@ use Rattle.folding.proofs.Held.{slot_any, folded_is, keeps_holders}
 -- CREDITS. An instruction of a loop has no literal operand,
 credit_op : (f : Fold) (op : Op) → is_credit op ≡ true → new_op f op ≡ op
 credit_op (OnRight z) (Apply2 o) h = absurd (true≢false (sym h))
-credit_op (OnLeft z) (Apply2 o) h = absurd (true≢false (sym h))
+credit_op (LeftLiteral z) (Apply2 o) h = absurd (true≢false (sym h))
 credit_op f op h = refl
 
 -- neither before nor after.
 credit_before : (f : Fold) (op : Op) → is_credit (new_op f op) ≡ true → is_credit op ≡ true
 credit_before (OnRight z) (Apply2 o) h = absurd (true≢false (sym h))
-credit_before (OnLeft z) (Apply2 o) h = absurd (true≢false (sym h))
+credit_before (LeftLiteral z) (Apply2 o) h = absurd (true≢false (sym h))
 credit_before f op h = h
 
 first_opens : (op : Op) → is_credit op ≡ true → IsFirst op → is_open op ≡ true

@@ -12,7 +12,7 @@ use Rattle.semantics.specs.Program.{Instr, CodeBlock}
 use Rattle.semantics.specs.Plan.{Plan, landing}
 use Rattle.code.specs.Sound.{IsInLanding, IsTied, StandApart, IsSoundDest, DestsAreSound}
 use Rattle.folding.specs.declared.folds.Fold.{Fold}
-use Rattle.folding.specs.declared.folds.Fold.TheVariants.{OnRight, OnLeft}
+use Rattle.folding.specs.declared.folds.Fold.TheVariants.{OnRight, LeftLiteral}
 use Rattle.folding.specs.Folds.{is_closed, new_op}
 use Rattle.folding.specs.Places.{Layout, layout_of, new_place, gone_at, folds_at}
 use Rattle.folding.specs.Moved.{is_shut, moved}
@@ -25,7 +25,7 @@ use Rattle.folding.proofs.SoundLists.{Stood, moved_back, landing_same}
 -- what no literal operand makes was there before
 pub link_before : (f : Fold) (op : Op) (b : ℕ) → new_op f op ≡ Link b → op ≡ Link b
 link_before (OnRight z) (Apply2 op) b e = absurd (cc)
-link_before (OnLeft z) (Apply2 op) b e = absurd (cc)
+link_before (LeftLiteral z) (Apply2 op) b e = absurd (cc)
 link_before f op b e = e
 
 -- where words still come, the instruction stands
@@ -54,7 +54,7 @@ module _ (p : Plan) (sound : DestsAreSound p) (b : ℕ) (c : CodeBlock) (at_b : 
   inputs_stay : (gone_at l c.inputs ≡ false) × (new_place l c.inputs ≡ c.inputs)
   inputs_stay = keeps_entries p c c.inputs (omega arith) (omega (arith, size))
 
-  -- what has to stand directly behind something else stays
+  -- what has to stand directly after something else stays
   tied_stays : (k : ℕ) → k + 1 < length c.instrs → IsTied p c k → gone_at l (k + 1) ≡ false
   tied_stays k h (inl e) = (keeps_entries p c (k + 1) (omega (arith, e)) h).0
   tied_stays k h (inr (m, t)) =

@@ -8,7 +8,7 @@ use Rattle.folding.specs.declared.folds.Fold.{Fold}
 use Rattle.folding.specs.Folds.{gone_from, folds_of}
 use Rattle.folding.specs.Places.{Layout, numbers_from, layout_of, new_place, gone_at}
 use Rattle.folding.specs.Moved.{moved}
-use Rattle.folding.specs.Folded.{left_from}
+use Rattle.folding.specs.Folded.{remaining_from}
 use Rattle.folding.specs.Laws.{KeepsInstrs, HasNoOthers, KeepsOrder}
 
 -- how many of the first n are left
@@ -43,20 +43,21 @@ flags_next : (l : Layout) (n : ℕ) (g : Bool) (gs : List Bool) → Flags l n (g
 flags_next l n g gs flags j = let z : n + 1 + j ≡ n + suc j = omega arith in ap (gone_at l) z ∙ flags (suc j)
 
 stands : {X : Type 0} (l : Layout) (one : ℕ → Instr → X) (n : ℕ) (gs : List Bool) (is : List Instr) (k : ℕ) (i : Instr) → length gs ≡ length is → Flags l n gs
-    → slice_get is k ≡ Some i → slice_index_or gs k false ≡ false → slice_get (left_from l one n is) (before gs k) ≡ Some (one (n + k) i)
+    → slice_get is k ≡ Some i → slice_index_or gs k false ≡ false → slice_get (remaining_from l one n is) (before gs k) ≡ Some (one (n + k) i)
 stands l one n gs [] k i all flags at stay = absurd (cc)
 stands l one n [] (j ∷ is) k i all flags at stay = absurd (omega (arith, all))
 stands l one n (true ∷ gs) (j ∷ is) zero i all flags at stay = absurd (true≢false stay)
 stands l one n (false ∷ gs) (j ∷ is) zero i all flags at stay =
     let e : j ≡ i = cc in let z : n ≡ n + 0 = omega arith in
-    ap (λ t. slice_get (if t then left_from l one (n + 1) is else one n j ∷ left_from l one (n + 1) is) 0) (flag_here l n false gs flags) ∙ (λ k. Some (one (z k) (e k)))
+    ap (λ t. slice_get (if t then remaining_from l one (n + 1) is else one n j ∷ remaining_from l one (n + 1) is) 0) (flag_here l n false gs flags) ∙ (λ k. Some (one (z k) (e k)))
 stands l one n (true ∷ gs) (j ∷ is) (suc k) i all flags at stay =
     let z : n + 1 + k ≡ n + suc k = omega arith in
-    ap (λ t. slice_get (if t then left_from l one (n + 1) is else one n j ∷ left_from l one (n + 1) is) (before gs k)) (flag_here l n true gs flags)
+    ap (λ t. slice_get (if t then remaining_from l one (n + 1) is else one n j ∷ remaining_from l one (n + 1) is) (before gs k)) (flag_here l n true gs flags)
     ∙ stands l one (n + 1) gs is k i (omega (arith, all)) (flags_next l n true gs flags) at stay ∙ ap (λ m. Some (one m i)) z
 stands l one n (false ∷ gs) (j ∷ is) (suc k) i all flags at stay =
     let z : n + 1 + k ≡ n + suc k = omega arith in
-    ap (λ t. slice_get (if t then left_from l one (n + 1) is else one n j ∷ left_from l one (n + 1) is) (suc (before gs k))) (flag_here l n false gs flags)
+    ap (λ t. slice_get (if t then remaining_from l one (n + 1) is else one n j ∷ remaining_from l one (n + 1) is) (suc (before gs k)))
+    (flag_here l n false gs flags)
     ∙ stands l one (n + 1) gs is k i (omega (arith, all)) (flags_next l n false gs flags) at stay ∙ ap (λ m. Some (one m i)) z
 
 -- the instruction that something in the new order stands for
@@ -70,19 +71,20 @@ source_next : {X : Type 0} (one : ℕ → Instr → X) (n : ℕ) (gs : List Bool
 source_next one n gs is m x j (k, i, at, stay, e, y) = let z : n + 1 + k ≡ n + suc k = omega arith in (suc k, i, at, stay, ap suc e, y ∙ ap (λ m. one m i) z)
 
 comes : {X : Type 0} (l : Layout) (one : ℕ → Instr → X) (n : ℕ) (gs : List Bool) (is : List Instr) (m : ℕ) (x : X) → length gs ≡ length is → Flags l n gs
-    → slice_get (left_from l one n is) m ≡ Some x → Source one n gs is m x
+    → slice_get (remaining_from l one n is) m ≡ Some x → Source one n gs is m x
 comes l one n gs [] m x all flags at = absurd (cc)
 comes l one n [] (j ∷ is) m x all flags at = absurd (omega (arith, all))
 comes l one n (true ∷ gs) (j ∷ is) m x all flags at =
     source_past one n gs is m x j (comes l one (n + 1) gs is m x (omega (arith, all)) (flags_next l n true gs flags)
-    (sym (ap (λ t. slice_get (if t then left_from l one (n + 1) is else one n j ∷ left_from l one (n + 1) is) m) (flag_here l n true gs flags)) ∙ at))
+    (sym (ap (λ t. slice_get (if t then remaining_from l one (n + 1) is else one n j ∷ remaining_from l one (n + 1) is) m) (flag_here l n true gs flags)) ∙ at))
 comes l one n (false ∷ gs) (j ∷ is) zero x all flags at =
-    let here : slice_get (one n j ∷ left_from l one (n + 1) is) 0 ≡ Some x = sym (ap (λ t. slice_get (if t then left_from l one (n + 1) is else one n j ∷ left_from l one (n + 1) is) 0) (flag_here l n false gs flags)) ∙ at in
+    let here : slice_get (one n j ∷ remaining_from l one (n + 1) is) 0 ≡ Some x = sym (ap (λ t. slice_get (if t then remaining_from l one (n + 1) is else one n j ∷ remaining_from l one (n + 1) is) 0) (flag_here l n false gs flags)) ∙ at in
     let e : x ≡ one n j = cc in let z : n ≡ n + 0 = omega arith in
     (0, j, refl, refl, refl, e ∙ ap (λ m. one m j) z)
 comes l one n (false ∷ gs) (j ∷ is) (suc m) x all flags at =
     source_next one n gs is m x j (comes l one (n + 1) gs is m x (omega (arith, all)) (flags_next l n false gs flags)
-    (sym (ap (λ t. slice_get (if t then left_from l one (n + 1) is else one n j ∷ left_from l one (n + 1) is) (suc m)) (flag_here l n false gs flags)) ∙ at))
+    (sym (ap (λ t. slice_get (if t then remaining_from l one (n + 1) is else one n j ∷ remaining_from l one (n + 1) is) (suc m))
+    (flag_here l n false gs flags)) ∙ at))
 
 gone_length : (fs : List Fold) (n : ℕ) (is : List Instr) → length (gone_from fs n is) ≡ length is
 gone_length fs n [] = refl
@@ -104,12 +106,12 @@ module _ (p : Plan) (c : CodeBlock) where
       get_or_from_slice_get l.places n (0 + before l.gone n) n (number_is 0 l.gone n (omega (arith, h, e))) ∙ z
 
   -- what an instruction that is not left out stands for
-  pub stands_at : {X : Type 0} (one : ℕ → Instr → X) (n : ℕ) (i : Instr) → slice_get c.instrs n ≡ Some i → gone_at l n ≡ false → slice_get (left_from l one 0 c.instrs) (new_place l n) ≡ Some (one n i)
+  pub stands_at : {X : Type 0} (one : ℕ → Instr → X) (n : ℕ) (i : Instr) → slice_get c.instrs n ≡ Some i → gone_at l n ≡ false → slice_get (remaining_from l one 0 c.instrs) (new_place l n) ≡ Some (one n i)
   stands_at one n i at stay =
       let z : 0 + n ≡ n = omega arith in
-      ap (slice_get (left_from l one 0 c.instrs)) (place_is n (slice_get_within c.instrs n i at)) ∙ stands l one 0 l.gone c.instrs n i all flags at stay ∙ ap (λ m. Some (one m i)) z
+      ap (slice_get (remaining_from l one 0 c.instrs)) (place_is n (slice_get_within c.instrs n i at)) ∙ stands l one 0 l.gone c.instrs n i all flags at stay ∙ ap (λ m. Some (one m i)) z
 
-  pub comes_from : {X : Type 0} (one : ℕ → Instr → X) (m : ℕ) (x : X) → slice_get (left_from l one 0 c.instrs) m ≡ Some x
+  pub comes_from : {X : Type 0} (one : ℕ → Instr → X) (m : ℕ) (x : X) → slice_get (remaining_from l one 0 c.instrs) m ≡ Some x
       → (n : ℕ) × (i : Instr) × (slice_get c.instrs n ≡ Some i) × (gone_at l n ≡ false) × (new_place l n ≡ m) × (x ≡ one n i)
   comes_from one m x at = found (comes l one 0 l.gone c.instrs m x all flags at)
     where

@@ -16,7 +16,7 @@ use Rattle.semantics.specs.Plan.{Plan}
 use Rattle.folding.specs.declared.namers.Namer.{Namer}
 use Rattle.folding.specs.declared.namers.Namer.TheVariants.{Nobody, One, Many}
 use Rattle.folding.specs.declared.folds.Fold.{Fold}
-use Rattle.folding.specs.declared.folds.Fold.TheVariants.{Kept, OnRight, OnLeft}
+use Rattle.folding.specs.declared.folds.Fold.TheVariants.{Unchanged, OnRight, LeftLiteral}
 use Rattle.folding.specs.Namers.{Namers, namer_at, namer_of, note_row, nobody, entries_noted, namers_of}
 use Rattle.folding.specs.Folds.{literal_in, literal_at, same_side, same_source, literal_by, fold_by, fold_of, folds_from, folds_of, fold_at, is_closed, closed_to, all_closed, is_used, is_lit, is_gone, gone_from}
 use Rattle.folding.specs.Places.{layout_of, gone_at, folds_at}
@@ -26,7 +26,7 @@ use Rattle.folding.proofs.Naming.{all_grow, row_length, entries_sized, knows_nam
 
 -- THE FOLD OF AN INSTRUCTION
 abbrev FoldFrom : Namers → List Instr → ℕ → List Instr → ℕ → Fold → Type 0
-FoldFrom ns every m is k f = (f ≡ Kept) ⊎ ((i : Instr) × (slice_get is k ≡ Some i) × (f ≡ fold_of ns every m i.op))
+FoldFrom ns every m is k f = (f ≡ Unchanged) ⊎ ((i : Instr) × (slice_get is k ≡ Some i) × (f ≡ fold_of ns every m i.op))
 
 fold_from : (ns : Namers) (every : List Instr) (n : ℕ) (is : List Instr) (k : ℕ) → FoldFrom ns every (n + k) is k (fold_at (folds_from ns every n is) k)
 fold_from ns every n [] k = inl refl
@@ -40,10 +40,10 @@ right_of l (Some y) z e = cc
 right_of (Some y) None z e = absurd (cc)
 right_of None None z e = absurd (cc)
 
-left_of : (l r : Option ℤ) (z : ℤ) → fold_by l r ≡ OnLeft z → l ≡ Some z
-left_of l (Some y) z e = absurd (cc)
-left_of (Some y) None z e = cc
-left_of None None z e = absurd (cc)
+remaining_of : (l r : Option ℤ) (z : ℤ) → fold_by l r ≡ LeftLiteral z → l ≡ Some z
+remaining_of l (Some y) z e = absurd (cc)
+remaining_of (Some y) None z e = cc
+remaining_of None None z e = absurd (cc)
 
 -- the literal of a port
 abbrev Literal : List Namer → List Instr → Namer → Namer → ℤ → Type 0
@@ -93,12 +93,12 @@ by_right ns every n (Apply2 o) z e = (
 )
 by_right ns every n op z e = absurd (cc)
 
-by_left : (ns : Namers) (every : List Instr) (n : ℕ) (op : Op) (z : ℤ) → fold_of ns every n op ≡ OnLeft z → (o : Binary) × (op ≡ Apply2 o) × Literal ns.lefts every (namer_at ns.lefts n) (namer_at ns.rights n) z
+by_left : (ns : Namers) (every : List Instr) (n : ℕ) (op : Op) (z : ℤ) → fold_of ns every n op ≡ LeftLiteral z → (o : Binary) × (op ≡ Apply2 o) × Literal ns.lefts every (namer_at ns.lefts n) (namer_at ns.rights n) z
 by_left ns every n (Apply2 o) z e = (
   o,
   refl,
   literal_is ns.lefts every (namer_at ns.lefts n) (namer_at ns.rights n) z
-      (left_of (literal_by ns.lefts every (namer_at ns.lefts n) (namer_at ns.rights n)) (literal_by ns.lefts every (namer_at ns.rights n) (namer_at ns.lefts n)) z e),
+      (remaining_of (literal_by ns.lefts every (namer_at ns.lefts n) (namer_at ns.rights n)) (literal_by ns.lefts every (namer_at ns.rights n) (namer_at ns.lefts n)) z e),
 )
 by_left ns every n op z e = absurd (cc)
 
@@ -144,10 +144,10 @@ closed_takes p c n q e = by_fold (folds_at (layout_of p c) n) q refl e
   where
     by_fold : (f : Fold) (q : Port) → folds_at (layout_of p c) n ≡ f → is_closed f q ≡ true → (z : ℤ) × TakesLiteral p c n q z
     by_fold (OnRight z) Right f e = (z, folds_on_right p c n z f)
-    by_fold (OnLeft z) Left f e = (z, folds_on_left p c n z f)
+    by_fold (LeftLiteral z) Left f e = (z, folds_on_left p c n z f)
     by_fold (OnRight z) Left f e = absurd (true≢false (sym e))
-    by_fold (OnLeft z) Right f e = absurd (true≢false (sym e))
-    by_fold Kept q f e = absurd (true≢false (sym e))
+    by_fold (LeftLiteral z) Right f e = absurd (true≢false (sym e))
+    by_fold Unchanged q f e = absurd (true≢false (sym e))
 
 -- WHAT IS LEFT OUT
 pub gone_is : (fs : List Fold) (n : ℕ) (is : List Instr) (k : ℕ) (i : Instr) → slice_get is k ≡ Some i → slice_index_or (gone_from fs n is) k false ≡ is_gone fs (n + k) i

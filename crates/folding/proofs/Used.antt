@@ -9,9 +9,9 @@ use Rattle.semantics.specs.Program.{Instr, CodeBlock}
 use Rattle.semantics.specs.Rule.{slot_of}
 use Rattle.semantics.specs.Plan.{Plan, IsFirst}
 use Rattle.folding.specs.declared.folds.Fold.{Fold}
-use Rattle.folding.specs.declared.folds.Fold.TheVariants.{Kept, OnRight, OnLeft}
+use Rattle.folding.specs.declared.folds.Fold.TheVariants.{Unchanged, OnRight, LeftLiteral}
 use Rattle.folding.specs.Folds.{folds_of, fold_at, is_folded, new_op}
-use Rattle.folding.specs.Places.{Layout, freed_from, left_of, layout_of, new_place, new_holder, gone_at, folds_at}
+use Rattle.folding.specs.Places.{Layout, freed_from, remaining_of, layout_of, new_place, new_holder, gone_at, folds_at}
 use Rattle.folding.specs.Moved.{moved}
 use Rattle.folding.specs.Folded.{folded_block}
 use Rattle.folding.specs.Laws.{IsUsed, KeepsUsed}
@@ -60,7 +60,7 @@ freed_there fs hs n (j ∷ is) (suc k) i at f l =
 abbrev Numbered : List Bool → ℕ → Type 0
 Numbered gs m = (g : ℕ) × (g < length gs) × (slice_index_or gs g false ≡ false) × (before gs g ≡ m)
 
-numbered : (gs : List Bool) (m : ℕ) → m < left_of gs → Numbered gs m
+numbered : (gs : List Bool) (m : ℕ) → m < remaining_of gs → Numbered gs m
 numbered [] m h = absurd (not-suc-le-zero h)
 numbered (true ∷ gs) m h = later (numbered gs m h)
   where
@@ -99,10 +99,10 @@ module _ (p : Plan) (c : CodeBlock) (used : IsUsed c) where
               slot : (g ≡ i.slot) × (slot_of (moved l n i) i.op ≡ Some (moved l n i).slot)
               slot = slot_any (moved l n i) i i.op g held
 
-              kept : (f : Fold) → is_folded f ≡ false → f ≡ Kept
-              kept Kept e = refl
+              kept : (f : Fold) → is_folded f ≡ false → f ≡ Unchanged
+              kept Unchanged e = refl
               kept (OnRight z) e = absurd (true≢false e)
-              kept (OnLeft z) e = absurd (true≢false e)
+              kept (LeftLiteral z) e = absurd (true≢false e)
 
               here : is_folded (folds_at l n) ≡ false → gone_at l n ≡ false → Use m
               here f stay =

@@ -10,7 +10,7 @@ use Rattle.semantics.specs.Plan.{Plan}
 use Rattle.folding.specs.declared.namers.Namer.{Namer}
 use Rattle.folding.specs.declared.namers.Namer.TheVariants.{One}
 use Rattle.folding.specs.declared.folds.Fold.{Fold}
-use Rattle.folding.specs.declared.folds.Fold.TheVariants.{Kept, OnRight, OnLeft}
+use Rattle.folding.specs.declared.folds.Fold.TheVariants.{Unchanged, OnRight, LeftLiteral}
 use Rattle.folding.specs.Namers.{Namers, namer_at, namers_of}
 
 abbrev pub literal_in : Op → Option ℤ
@@ -40,13 +40,13 @@ literal_by lefts is x other = None
 -- by the literal of the left port, and by that of the right one
 abbrev pub fold_by : Option ℤ → Option ℤ → Fold
 fold_by l (Some z) = OnRight z
-fold_by (Some z) None = OnLeft z
-fold_by None None = Kept
+fold_by (Some z) None = LeftLiteral z
+fold_by None None = Unchanged
 
 -- what the n-th instruction takes from the code
 abbrev pub fold_of : Namers → List Instr → ℕ → Op → Fold
 fold_of ns is n (Apply2 op) = fold_by (literal_by ns.lefts is (namer_at ns.lefts n) (namer_at ns.rights n)) (literal_by ns.lefts is (namer_at ns.rights n) (namer_at ns.lefts n))
-fold_of ns is n op = Kept
+fold_of ns is n op = Unchanged
 
 -- the instructions from the n-th on
 abbrev pub folds_from : Namers → List Instr → ℕ → List Instr → List Fold
@@ -57,26 +57,26 @@ abbrev pub folds_of : Plan → CodeBlock → List Fold
 folds_of p c = folds_from (namers_of p c) c.instrs 0 c.instrs
 
 abbrev pub fold_at : List Fold → ℕ → Fold
-fold_at fs n = slice_index_or fs n Kept
+fold_at fs n = slice_index_or fs n Unchanged
 
 abbrev pub is_folded : Fold → Bool
-is_folded Kept = false
+is_folded Unchanged = false
 is_folded f = true
 
 -- the port at which no word comes any more
 abbrev pub is_closed : Fold → Port → Bool
 is_closed (OnRight z) Right = true
-is_closed (OnLeft z) Left = true
+is_closed (LeftLiteral z) Left = true
 is_closed f q = false
 
 -- the other operand comes at the left port
 abbrev pub new_port : Fold → Port → Port
-new_port Kept q = q
+new_port Unchanged q = q
 new_port f q = Left
 
 abbrev pub new_op : Fold → Op → Op
 new_op (OnRight z) (Apply2 op) = Apply2Right op z
-new_op (OnLeft z) (Apply2 op) = Apply2Left op z
+new_op (LeftLiteral z) (Apply2 op) = Apply2Left op z
 new_op f op = op
 
 -- a destination of the n-th instruction is a port at which no word comes any more

@@ -13,7 +13,7 @@ use Rattle.semantics.specs.Plan.{Plan, mark_at, OneHolder, IsFirst, landing}
 use Rattle.folding.specs.declared.namers.Namer.{Namer}
 use Rattle.folding.specs.declared.namers.Namer.TheVariants.{One, Many}
 use Rattle.folding.specs.Namers.{namers_of, namer_of}
-use Rattle.folding.specs.declared.folds.Fold.TheVariants.{OnRight, OnLeft}
+use Rattle.folding.specs.declared.folds.Fold.TheVariants.{OnRight, LeftLiteral}
 use Rattle.folding.specs.Folds.{is_closed}
 use Rattle.folding.specs.Places.{layout_of, new_place, gone_at, folds_at}
 use Rattle.folding.specs.Moved.{moved, new_dest}
@@ -29,7 +29,7 @@ abbrev pub HasNoOthers : Type 0
 HasNoOthers = (p : Plan) (c : CodeBlock) (m : ℕ) (j : Instr) → slice_get (folded_block p c).instrs m ≡ Some j
     → (n : ℕ) × (i : Instr) × (slice_get c.instrs n ≡ Some i) × (gone_at (layout_of p c) n ≡ false) × (new_place (layout_of p c) n ≡ m) × (j ≡ moved (layout_of p c) n i)
 
--- and what stood behind it stands behind it: arcs go forward as they did.
+-- and what stood after it stands after it: arcs go forward as they did.
 abbrev pub KeepsOrder : Type 0
 KeepsOrder = (p : Plan) (c : CodeBlock) (m n : ℕ) → m < n → n < length c.instrs → gone_at (layout_of p c) m ≡ false → new_place (layout_of p c) m < new_place (layout_of p c) n
 
@@ -81,10 +81,10 @@ abbrev pub FoldsOnRight : Type 0
 FoldsOnRight = (p : Plan) (c : CodeBlock) (n : ℕ) (z : ℤ) → folds_at (layout_of p c) n ≡ OnRight z → TakesLiteral p c n Right z
 
 abbrev pub FoldsOnLeft : Type 0
-FoldsOnLeft = (p : Plan) (c : CodeBlock) (n : ℕ) (z : ℤ) → folds_at (layout_of p c) n ≡ OnLeft z → TakesLiteral p c n Left z
+FoldsOnLeft = (p : Plan) (c : CodeBlock) (n : ℕ) (z : ℤ) → folds_at (layout_of p c) n ≡ LeftLiteral z → TakesLiteral p c n Left z
 
 -- What is left out is a `lit` that one list of destinations names, and it sends only to ports whose operands are in the code.
-pub record IsLeftOut (p : Plan) (c : CodeBlock) (n : ℕ) (i : Instr) : Type 0 where
+pub record IsDropped (p : Plan) (c : CodeBlock) (n : ℕ) (i : Instr) : Type 0 where
   pub literal : (z : ℤ) × (i.op ≡ Lit z)
   pub source : (m : ℕ) × (s : Bool) × (namer_of (namers_of p c) n Left ≡ One m s)
   -- it sends to one at least
@@ -92,7 +92,7 @@ pub record IsLeftOut (p : Plan) (c : CodeBlock) (n : ℕ) (i : Instr) : Type 0 w
   pub closed : (s : Bool) (k : ℕ) (d : Dest) → slice_get (dests_of i s) k ≡ Some d → is_closed (folds_at (layout_of p c) (n + d.ahead)) d.port ≡ true
 
 abbrev pub LeavesOut : Type 0
-LeavesOut = (p : Plan) (c : CodeBlock) (n : ℕ) (i : Instr) → slice_get c.instrs n ≡ Some i → gone_at (layout_of p c) n ≡ true → IsLeftOut p c n i
+LeavesOut = (p : Plan) (c : CodeBlock) (n : ℕ) (i : Instr) → slice_get c.instrs n ≡ Some i → gone_at (layout_of p c) n ≡ true → IsDropped p c n i
 
 -- SHAPES. Where right ports are those of dyadic instructions, an instruction with one destination keeps it, if it is no `lit`.
 abbrev pub SparesLiterals : CodeBlock → Type 0

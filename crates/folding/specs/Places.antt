@@ -19,9 +19,9 @@ abbrev pub numbers_from : ℕ → List Bool → List ℕ
 numbers_from at [] = []
 numbers_from at (g ∷ gs) = at ∷ numbers_from (if g then at else at + 1) gs
 
-abbrev pub left_of : List Bool → ℕ
-left_of [] = 0
-left_of (g ∷ gs) = if g then left_of gs else left_of gs + 1
+abbrev pub remaining_of : List Bool → ℕ
+remaining_of [] = 0
+remaining_of (g ∷ gs) = if g then remaining_of gs else remaining_of gs + 1
 
 -- the holders of the folded ones of the instructions from the n-th on
 abbrev pub freed_from : List Fold → List Bool → ℕ → List Instr → List Bool
@@ -43,7 +43,7 @@ layout_with fs c = record {
 abbrev pub layout_of : Plan → CodeBlock → Layout
 layout_of p c = layout_with (folds_of p c) c
 
--- the new place of an instruction; a place behind the block stays
+-- the new place of an instruction; a place after the block stays
 abbrev pub new_place : Layout → ℕ → ℕ
 new_place l n = slice_index_or l.places n n
 

@@ -13,18 +13,18 @@ use tags::token::Port;
 #[derive(Clone, Copy)]
 pub(crate) enum Fold {
     /// The instruction is as it was.
-    Kept,
+    Unchanged,
     /// It is an operator with this right operand.
     OnRight { literal: i64 },
     /// It is an operator with this left operand.
-    OnLeft { literal: i64 },
+    LeftLiteral { literal: i64 },
 }
 
 impl Fold {
     pub fn is_folded(self) -> bool
         ensures { result ≡ of_folds.is_folded self }
     {
-        !matches!(self, Fold::Kept)
+        !matches!(self, Fold::Unchanged)
     }
 
     /// Whether no word comes to that port any more.
@@ -33,7 +33,7 @@ impl Fold {
     {
         match (self, port) {
             (Fold::OnRight { .. }, Port::Right) => true,
-            (Fold::OnLeft { .. }, Port::Left) => true,
+            (Fold::LeftLiteral { .. }, Port::Left) => true,
             _ => false,
         }
     }
@@ -43,7 +43,7 @@ impl Fold {
         ensures { result ≡ of_folds.new_port self port }
     {
         match self {
-            Fold::Kept => port,
+            Fold::Unchanged => port,
             _ => Port::Left,
         }
     }
@@ -54,7 +54,7 @@ impl Fold {
     {
         match (self, op) {
             (Fold::OnRight { literal }, Op::Apply2 { op }) => Op::Apply2Right { op, literal },
-            (Fold::OnLeft { literal }, Op::Apply2 { op }) => Op::Apply2Left { op, literal },
+            (Fold::LeftLiteral { literal }, Op::Apply2 { op }) => Op::Apply2Left { op, literal },
             _ => op,
         }
     }
@@ -108,8 +108,8 @@ fn fold_by(left: Option<i64>, right: Option<i64>) -> Fold
 {
     match (left, right) {
         (_, Some(literal)) => Fold::OnRight { literal },
-        (Some(literal), None) => Fold::OnLeft { literal },
-        (None, None) => Fold::Kept,
+        (Some(literal), None) => Fold::LeftLiteral { literal },
+        (None, None) => Fold::Unchanged,
     }
 }
 
@@ -118,7 +118,7 @@ fn fold_of<A: Allocator>(namers: &Namers<A>, instrs: &[Instr<A>], number: usize,
     ensures { result ≡ of_folds.fold_of namers.now instrs.now number op }
 {
     if !matches!(op, Op::Apply2 { .. }) {
-        return Fold::Kept;
+        return Fold::Unchanged;
     }
     let left = namer_at(&namers.lefts, number);
     let right = namer_at(&namers.rights, number);
@@ -160,7 +160,7 @@ pub(crate) fn fold_at(folds: &[Fold], place: usize) -> Fold
 {
     match folds.get(place) {
         Some(fold) => *fold,
-        None => Fold::Kept,
+        None => Fold::Unchanged,
     }
 }
 

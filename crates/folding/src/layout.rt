@@ -45,8 +45,8 @@ fn numbers_of<A: Allocator>(alloc: A, gone: &[bool]) -> Result<Vec<usize, A>, Al
 }
 
 /// How many are not left out.
-fn left_of(gone: &[bool]) -> usize
-    ensures exact { result ≡ of_places.left_of gone.now }
+fn remaining_of(gone: &[bool]) -> usize
+    ensures exact { result ≡ of_places.remaining_of gone.now }
     ensures within { result ≤ length gone.now }
 {
     let mut left = 0;
@@ -101,7 +101,7 @@ impl<A: Allocator + Clone> Layout<A> {
 }
 
 impl<A: Allocator> Layout<A> {
-    /// The new place of that instruction; a place behind the block stays.
+    /// The new place of that instruction; a place after the block stays.
     pub fn place(&self, number: usize) -> usize
         ensures { result ≡ of_places.new_place self.now number }
     {
@@ -123,9 +123,9 @@ impl<A: Allocator> Layout<A> {
 
     /// How many holders are left.
     pub fn slots(&self) -> usize
-        ensures { result ≡ of_places.left_of self.now.freed }
+        ensures { result ≡ of_places.remaining_of self.now.freed }
     {
-        left_of(&self.freed)
+        remaining_of(&self.freed)
     }
 
     /// Whether that instruction is left out.

@@ -9,7 +9,7 @@ use Rattle.frame_manager.specs.declared.NotOut.{NotOut}
 use Rattle.frame_manager.specs.Flags.{IsLeastFree}
 use Rattle.frame_manager.specs.Managed.{Managed, is_out, NoneFree}
 
--- A REQUEST gets the free frame of least number. It waits, behind those that wait, only where no frame is free.
+-- A REQUEST gets the free frame of least number. It waits, after those that wait, only where no frame is free.
 abbrev pub Requested : Managed → Cont → Result (Option ℕ) AllocError → Managed → Type 0
 Requested old c (Ok (Some f)) new = IsLeastFree old.out f × (new ≡ record { out = slice_set old.out f true; requests = old.requests })
 Requested old c (Ok None) new = NoneFree old.out × (new ≡ record { out = old.out; requests = old.requests ++ c ∷ [] })

@@ -13,7 +13,7 @@ use Rattle.frame_manager.specs.Managed.{Managed}
 use Rattle.frame_manager.specs.Answered.{request_tokens, release_tokens}
 use Rattle.element.specs.Changed.{IsRequested, IsReleased}
 use Rattle.element.specs.Parts.{Shape, Part, IsPart, Manages}
-use Rattle.element.specs.Held.{Held}
+use Rattle.element.specs.Holding.{Holding}
 use Rattle.element.specs.Acts.{ServesFirst}
 use Rattle.element.specs.Steps.{Does, IsAfter, HoldsTokens, size_of}
 use Rattle.frame_order.specs.InOrder.{IsInOrder, OrderedEvent, OrderedRun}
@@ -57,7 +57,7 @@ part_in_order p total h k s n (To.Store x v) w made at same part after first hap
 part_in_order p total h k s n (To.Host j) w made at same part after first happens = tt
 
 -- A STEP of a lane, in any machine of which the lane is the part
-pub does_in_order : (p : Program) (old : Held) (pick : ℕ) (before : List Token) (new : Held) (after : List Token) (d : Does p old pick before new after)
+pub does_in_order : (p : Program) (old : Holding) (pick : ℕ) (before : List Token) (new : Holding) (after : List Token) (d : Does p old pick before new after)
     → (m : Machine) (others : List Token) (part : IsPart old.part m.store) (holds : HoldsTokens old before others m)
     → OrderedEvent p (size_of old.part.shape) old.part.shape.element d.token m (d.event m others part holds).next
 does_in_order p old pick before new after d m others part holds =

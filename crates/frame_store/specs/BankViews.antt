@@ -1,4 +1,4 @@
--- A bank that is lent: where its slots stand among those behind it.
+-- A bank that is lent: where its slots stand among those after it.
 use Rattle.std.specs.Prelude.{◌≡◌, ℕ, ◌+◌, ◌*◌, ◌≤◌, List, length}
 use Rattle.std.specs.Borrow.{GName}
 use Rattle.tags.specs.declared.slot.SlotState.{SlotState}
@@ -7,11 +7,11 @@ use Rattle.frame_store.specs.declared.bank.BankMut.{BankMut}
 abbrev pub bank_name : BankMut → GName
 bank_name b = b.slots.ghost_name
 
--- the states of the slots behind it
+-- the states of the slots after it
 abbrev pub bank_states : BankMut → List SlotState
 bank_states b = b.slots.now
 
--- all its frames are among the slots behind it
+-- all its frames are among the slots after it
 abbrev pub IsBank : BankMut → Type 0
 IsBank b = b.start + b.frames * b.width ≤ length b.slots.now
 

@@ -10,7 +10,7 @@ use tags::slot::SlotState;
 /// The slots of the frames of one element: a number of frames of `width` slots each, from some place of the slice on.
 #[derive(Drop)]
 pub struct BankMut<'a> {
-    /// The slots behind the bank. A function over `&mut [Slot]` lends one by `slots.slot(place)`, and whoever calls it with
+    /// The slots after the bank. A function over `&mut [Slot]` lends one by `slots.slot(place)`, and whoever calls it with
     /// `&mut *bank.slots` knows the bank afterwards.
     pub slots: &'a mut [Slot],
     start: usize,
@@ -65,7 +65,7 @@ impl<'a> BankMut<'a> {
             && self.frames <= (slots.len() - self.start) / self.width
     }
 
-    /// Where a slot of a frame stands among the slots behind the bank.
+    /// Where a slot of a frame stands among the slots after the bank.
     #[inline(always)]
     pub fn place(&self, frame: usize, slot: usize) -> usize
         requires bank { IsBank self.now }
@@ -141,12 +141,12 @@ pub struct Banks<'a> {
 }
 
 impl<'a> Banks<'a> {
-    ghost use Rattle.frame_store.specs.Banked.{left_of, size_of};
+    ghost use Rattle.frame_store.specs.Banked.{remaining_of, size_of};
 
     pub(crate) fn new(slots: &'a mut [Slot], frames: usize, width: usize) -> Banks<'a>
         requires some { 0 < frames * width }
         requires fits { frames * width ≤ length slots.old }
-        ensures left { left_of result ≡ slots.old }
+        ensures left { remaining_of result ≡ slots.old }
         ensures size { size_of result ≡ frames * width }
         ensures frames { result.frames ≡ frames }
         ensures width { result.width ≡ width }
@@ -163,7 +163,7 @@ impl<'a> Banks<'a> {
 impl<'a> Iterator for Banks<'a> {
     ghost use Rattle.std.specs.Prelude.{◌<◌, ◌/◌, length};
     ghost use Rattle.std.specs.Iterator.{at_most};
-    ghost use Rattle.frame_store.specs.Banked.{left_of, size_of, BankComes, KeepsShape};
+    ghost use Rattle.frame_store.specs.Banked.{remaining_of, size_of, BankComes, KeepsShape};
 
     type Item = BankMut<'a>;
 
@@ -171,7 +171,7 @@ impl<'a> Iterator for Banks<'a> {
 
     ghost next_gives = { λ s r t. BankComes s r t × KeepsShape s t };
 
-    ghost remaining = { λ s. at_most (length (left_of s) / size_of s) };
+    ghost remaining = { λ s. at_most (length (remaining_of s) / size_of s) };
 
     fn next(&mut self) -> Option<BankMut<'a>> {
         let slots = self.chunks.next()?;

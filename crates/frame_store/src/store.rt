@@ -33,7 +33,7 @@ impl<A: Allocator> Model for Store<A> {
 
 impl<A: Allocator> Store<A> {
     ghost use Rattle.frame_store.specs.Lends.{LendsSlotAt};
-    ghost use Rattle.frame_store.specs.Banked.{left_of, size_of};
+    ghost use Rattle.frame_store.specs.Banked.{remaining_of, size_of};
 
     /// Slots that are all empty, for the given numbers of elements, frames an element and slots a frame.
     pub fn new(
@@ -117,7 +117,7 @@ impl<A: Allocator> Store<A> {
     /// Hands out each bank once, all apart from one another.
     pub fn banks(&mut self) -> Banks<'_>
         requires { 0 < self.old.elements }
-        ensures left { left_of result ≡ self.old.states }
+        ensures left { remaining_of result ≡ self.old.states }
         ensures size { size_of result ≡ bank_size self.old }
         ensures some { 0 < size_of result }
         ensures frames { result.frames ≡ self.old.frames }

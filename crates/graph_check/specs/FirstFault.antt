@@ -229,7 +229,7 @@ out_of_memory = record { kind = Memory; block = None; node = None }
 abbrev pub IsRefusal : Graph → CheckFault → Type 0
 IsRefusal g e = (e ≡ out_of_memory) ⊎ ((first_fault g ≡ Some e) × (e.kind ≢ Memory) × ¬ WellFormed g)
 
--- names are looked up from now on, or the first one with a fault is told
+-- names are looked up from now on, or the first one with a fault is reported
 abbrev pub IsIndexed : (ℕ → List ℕ → Option CheckFault) → List (List ℕ) → Result (BTreeMap (Bor (List ℕ)) ℕ) CheckFault → Type 0
 IsIndexed f names r =
     MatchResult r (λ m. IsIndexOf m names × (first_in f 0 names ≡ None))

@@ -20,7 +20,7 @@ use Rattle.semantics.specs.declared.version.Version.{Version}
 use Rattle.semantics.specs.declared.version.Version.TheVariants.{One, Two}
 use Rattle.graph_file.specs.declared.lines.Place.{Place}
 use Rattle.graph_file.specs.declared.lines.Place.TheVariants.{Arrays, Blocks, Nodes, Closing, Done}
-use Rattle.graph_file.specs.Given.{◌>>=◌}
+use Rattle.graph_file.specs.Giving.{◌>>=◌}
 use Rattle.graph_file.specs.Lines.{parts}
 use Rattle.graph_file.specs.Found.{Found}
 use Rattle.graph_file.specs.Fields.{field_from, region_of}

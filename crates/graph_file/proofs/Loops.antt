@@ -10,7 +10,7 @@ use Rattle.graph_file.specs.declared.fault.ReadFaultKind.TheVariants.{NoMain}
 use Rattle.graph_file.specs.declared.fault.ReadFault.{ReadFault}
 use Rattle.graph_file.specs.declared.lines.Place.{Place}
 use Rattle.semantics.specs.Graph.{Graph}
-use Rattle.graph_file.specs.Given.{◌>>=◌, Fails}
+use Rattle.graph_file.specs.Giving.{◌>>=◌, Fails}
 use Rattle.graph_file.specs.Lines.{parts}
 use Rattle.graph_file.specs.Found.{Found}
 use Rattle.graph_file.specs.Reading.{Named, at_line, line_from, end_from, lines_from, IsFirstFault}

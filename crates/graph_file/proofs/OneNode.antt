@@ -13,7 +13,7 @@ use Rattle.semantics.specs.declared.version.Version.{Version}
 use Rattle.semantics.specs.declared.version.Version.TheVariants.{One, Two}
 use Rattle.graph_file.specs.declared.fault.ReadFaultKind.TheVariants.{BadLine, TooMany}
 use Rattle.graph_file.specs.declared.words.Word.{Word}
-use Rattle.graph_file.specs.Given.{◌>>=◌}
+use Rattle.graph_file.specs.Giving.{◌>>=◌}
 use Rattle.graph_file.specs.Fields.{region_of, field_from, sources_from}
 use Rattle.graph_file.specs.Words.{word_of, operand_count, has_form, has_room}
 use Rattle.graph_file.specs.Nodes.{kind_from, head_from, node_from}
@@ -38,7 +38,7 @@ operands_count (kinds.Call f) = refl
 operands_count (kinds.StrictCall f) = refl
 operands_count (kinds.Loop f k) = refl
 
--- the number of fields behind the word fits it
+-- the number of fields after the word fits it
 abbrev pub Fits : Kind (List ℕ) → ℕ → Type 0
 Fits k n = (has_form (word_kind k) (operand_count (word_kind k) + n) ≡ true) × (has_room (word_kind k) (operand_count (word_kind k) + n) ≡ true)
 

@@ -23,7 +23,7 @@ use Rattle.semantics.specs.declared.version.Version.TheVariants.{One, Two}
 use Rattle.graph_file.specs.declared.fault.ReadFaultKind.TheVariants.{BadNumber, BadName}
 use Rattle.graph_file.specs.declared.words.Word.{Word}
 use Rattle.graph_file.specs.declared.words.Word.TheVariants.{Lit, Apply1, Apply2, Cond, Enter, Merge, Fetch, Store, Call, StrictCall, Loop}
-use Rattle.graph_file.specs.Given.{◌>>=◌}
+use Rattle.graph_file.specs.Giving.{◌>>=◌}
 use Rattle.graph_file.specs.Fields.{number_of, literal_of, is_name, source_of, field_from, number_from, literal_from, name_from, sources_from}
 use Rattle.graph_file.specs.Words.{common_words, word_in, word_for, operator_of, common_of, word_of}
 use Rattle.graph_file.specs.Nodes.{kind_from}

@@ -24,7 +24,7 @@ use Rattle.graph_file.specs.declared.fault.ReadFaultKind.{ReadFaultKind}
 use Rattle.graph_file.specs.declared.fault.ReadFaultKind.TheVariants.{NoHeader, BadLine, BadNumber, TooMany}
 use Rattle.graph_file.specs.declared.lines.Place.{Place}
 use Rattle.graph_file.specs.declared.lines.Place.TheVariants.{Arrays, Blocks, Nodes, Closing, Done}
-use Rattle.graph_file.specs.Given.{◌>>=◌}
+use Rattle.graph_file.specs.Giving.{◌>>=◌}
 use Rattle.graph_file.specs.Lines.{parts}
 use Rattle.graph_file.specs.Found.{Found}
 use Rattle.graph_file.specs.Fields.{field_from, number_from, name_from, sources_from}

@@ -1,4 +1,4 @@
-pub mod Given
+pub mod Giving
 pub mod Lines
 pub mod Fields
 pub mod Words

@@ -9,7 +9,7 @@ use Rattle.graph_file.specs.declared.fault.ReadFaultKind.{ReadFaultKind}
 use Rattle.graph_file.specs.declared.fault.ReadFaultKind.TheVariants.{BadLine, TooMany}
 use Rattle.graph_file.specs.declared.words.Word.{Word}
 use Rattle.graph_file.specs.declared.words.Word.TheVariants.{Lit, Apply1, Apply2, Cond, Enter, Merge, Fetch, Store, Call, StrictCall, Loop}
-use Rattle.graph_file.specs.Given.{◌>>=◌}
+use Rattle.graph_file.specs.Giving.{◌>>=◌}
 use Rattle.graph_file.specs.Fields.{region_of, field_from, number_from, literal_from, name_from, sources_from}
 use Rattle.graph_file.specs.Words.{word_of, has_form, has_room}
 

@@ -12,7 +12,7 @@ use Rattle.graph_file.specs.declared.fault.ReadFaultKind.{ReadFaultKind}
 use Rattle.graph_file.specs.declared.fault.ReadFaultKind.TheVariants.{NoHeader, BadLine, BadNumber, Unended, NoMain, TooMany, TrailingText, Memory}
 use Rattle.graph_file.specs.declared.lines.Place.{Place}
 use Rattle.graph_file.specs.declared.lines.Place.TheVariants.{Arrays, Blocks, Nodes, Closing, Done}
-use Rattle.graph_file.specs.Given.{◌>>=◌}
+use Rattle.graph_file.specs.Giving.{◌>>=◌}
 use Rattle.graph_file.specs.Lines.{parts, is_well_spaced}
 use Rattle.graph_file.specs.Fields.{field_from, number_from, name_from, sources_from}
 use Rattle.graph_file.specs.Nodes.{node_from}
@@ -44,7 +44,7 @@ count_from fs = do
   few ← must (nat_le n.0 16) TooMany
   Ok (n.0, n.1)
 
--- behind `array`: NAME LEN
+-- after `array`: NAME LEN
 unfoldable pub array_line : Found → List (List ℕ) → Step
 array_line found fs = do
   form ← must (length fs == 2) BadLine
@@ -53,7 +53,7 @@ array_line found fs = do
   len ← len_from found.cells name.1
   Ok (record { version = found.version; arrays = found.arrays ++ (name.0, len.0) ∷ []; cells = found.cells + len.0; blocks = found.blocks }, Arrays)
 
--- behind `block`: NAME INPUTS OUTPUTS
+-- after `block`: NAME INPUTS OUTPUTS
 unfoldable pub block_line : Found → List (List ℕ) → Step
 block_line found fs = do
   form ← must (length fs == 3) BadLine
@@ -63,14 +63,14 @@ block_line found fs = do
   outputs ← count_from inputs.1
   Ok (found, Nodes (name.0, record { inputs = inputs.0; outputs = outputs.0; nodes = []; results = [] }))
 
--- behind `main`: NAME
+-- after `main`: NAME
 unfoldable pub main_line : Found → List (List ℕ) → Step
 main_line found fs = do
   form ← must (length fs == 1) BadLine
   name ← name_from fs
   Ok (found, Done name.0)
 
--- behind `out`: sources
+-- after `out`: sources
 unfoldable pub out_line : Found → Named → List (List ℕ) → Step
 out_line found b fs = do
   few ← must (nat_lt (length fs) 17) TooMany
@@ -97,7 +97,7 @@ inside found b fs = do
   word ← field_from fs
   if bytes_eq word.0 (codes "out") then out_line found b word.1 else node_line found b fs
 
--- the line behind the `out` line
+-- the line after the `out` line
 unfoldable pub closing : Found → Named → List (List ℕ) → Step
 closing found b fs = do
   word ← field_from fs
@@ -118,7 +118,7 @@ line_from found (Nodes b) line = fields_from line >>= inside found b
 line_from found (Closing b) line = fields_from line >>= closing found b
 line_from found (Done main) line = Err TrailingText
 
--- What stands behind the last line feed. A text that is whole has nothing there.
+-- What stands after the last line feed. A text that is whole has nothing there.
 unfoldable pub end_from : Found → Place Named (List ℕ) → List ℕ → Result Graph ReadFaultKind
 end_from found Arrays [] = Err NoMain
 end_from found Arrays (c ∷ cs) = Err Unended
@@ -134,7 +134,7 @@ abbrev pub at_line : {A : Type 0} → ℕ → Result A ReadFaultKind → Result 
 at_line n (Ok x) = Ok x
 at_line n (Err kind) = Err record { kind = kind; line = n }
 
--- The lines from the one of that number on. The last one is what stands behind the last line feed.
+-- The lines from the one of that number on. The last one is what stands after the last line feed.
 unfoldable pub lines_from : ℕ → Found → Place Named (List ℕ) → List (List ℕ) → Result Graph ReadFault
 lines_from n found place [] = Err record { kind = NoMain; line = n }
 lines_from n found place (line ∷ []) = at_line n (end_from found place line)

@@ -1,4 +1,4 @@
--- The words of node lines, and what stands behind each.
+-- The words of node lines, and what stands after each.
 use Rattle.std.specs.Prelude.{ℕ, ◌==◌, ◌+◌, nat_le, nat_lt, Bool, List, [], ◌∷◌, Option, Some, None, option_map, codes, if◌then◌else◌}
 use Rattle.std.specs.Str.{bytes_eq}
 use Rattle.semantics.specs.declared.words.Operator.{Operator}
@@ -67,7 +67,7 @@ abbrev pub is_count : Option ℕ → ℕ → ℕ → Bool
 is_count (Some k) before n = n == before + k
 is_count None before n = nat_le before n
 
--- a line may have n fields behind the word
+-- a line may have n fields after the word
 unfoldable pub has_form : Word → ℕ → Bool
 has_form w n = is_count (source_count w) (operand_count w) n
 

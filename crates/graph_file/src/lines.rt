@@ -1,7 +1,7 @@
 //! The lines of a text, one at a time.
 
 ghost use Rattle.std.specs.Prelude.{◌≡◌, ◌+◌, ◌≤◌, ℕ, List, [], Ok, IfOk, length};
-ghost use Rattle.graph_file.specs.Given.{Gives};
+ghost use Rattle.graph_file.specs.Giving.{Gives};
 ghost use Rattle.graph_file.specs.Reading.{len_from, count_from, array_line, block_line, main_line, out_line, node_line, outside, inside, closing, fields_from, line_from, end_from};
 
 use crate::fault::ReadFaultKind;
@@ -31,13 +31,13 @@ const PORTS: u32 = 16;
 pub(crate) enum Place<B, N> {
     /// Outside a block, before the first one.
     Arrays,
-    /// Outside a block, behind the first one.
+    /// Outside a block, after the first one.
     Blocks,
     /// In this block, before its `out` line.
     Nodes(B),
-    /// In this block, behind its `out` line.
+    /// In this block, after its `out` line.
     Closing(B),
-    /// Behind the `main` line, which has this name.
+    /// After the `main` line, which has this name.
     Done(N),
 }
 
@@ -234,7 +234,7 @@ impl<'a, A: Allocator + Clone> Found<'a, A> {
         Ok((self, Place::Nodes(block)))
     }
 
-    /// The line behind a block's `out` line.
+    /// The line after a block's `out` line.
     #[tactic(auto, unfolding(crate::specs::Reading::closing))]
     fn closing(mut self, block: Block<'a, A>, fields: Parts<'a>) -> Step<'a, A>
         ensures { Gives (λ x. (x.0, x.1)) result (closing self.entry block.entry fields.entry) }
@@ -247,7 +247,7 @@ impl<'a, A: Allocator + Clone> Found<'a, A> {
         Ok((self, Place::Blocks))
     }
 
-    /// What the text says, if it is whole: nothing stands behind the last line feed.
+    /// What the text says, if it is whole: nothing stands after the last line feed.
     #[tactic(auto, unfolding(crate::specs::Reading::end_from))]
     pub(crate) fn end(
         self,

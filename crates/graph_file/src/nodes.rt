@@ -1,7 +1,7 @@
 //! Node lines.
 
 ghost use Rattle.std.specs.Prelude.{◌≡◌, ℕ, List};
-ghost use Rattle.graph_file.specs.Given.{Gives};
+ghost use Rattle.graph_file.specs.Giving.{Gives};
 ghost use Rattle.graph_file.specs.Nodes.{kind_from, head_from, node_from};
 
 use crate::fault::ReadFaultKind;

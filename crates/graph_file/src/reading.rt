@@ -14,7 +14,7 @@ use graph::Graph;
 use semantics::version::Version;
 use std::alloc::Allocator;
 
-/// What the lines behind the header say.
+/// What the lines after the header say.
 fn read_body<'a, A: Allocator + Clone>(
     alloc: A,
     version: Version,

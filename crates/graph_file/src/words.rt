@@ -62,7 +62,7 @@ impl Word {
         }
     }
 
-    /// Whether a line may have these fields behind the word, as far as their number goes.
+    /// Whether a line may have these fields after the word, as far as their number goes.
     #[tactic(auto, unfolding(crate::specs::Words::has_form))]
     pub(crate) fn expects(self, fields: &Parts<'_>) -> bool
         ensures { result ≡ has_form self (length fields.now) }

@@ -13,20 +13,20 @@ pub enum Part {
     Else,
     /// The turn of a loop that tests before its body.
     Turn,
-    /// The turn of a loop that tests behind its body.
+    /// The turn of a loop that tests after its body.
     FirstTurn,
     /// The values of a `let`, up to its `;`.
     Let,
     Group,
     Arguments,
     Index,
-    /// The test of an `if`, up to the brace behind it.
+    /// The test of an `if`, up to the brace after it.
     Test,
-    /// The test of a loop before its body, up to the brace behind it.
+    /// The test of a loop before its body, up to the brace after it.
     WhileTest,
     /// A first value of a loop.
     FirstValue,
-    /// The test of a loop behind its body.
+    /// The test of a loop after its body.
     LastTest,
 }
 
@@ -42,13 +42,13 @@ pub struct Opened {
 pub enum Form {
     Item,
     Array,
-    /// The head of a function, up to the brace behind it.
+    /// The head of a function, up to the brace after it.
     Function,
     /// The names of a `let`, up to its `=`.
     Let,
-    /// The head of a loop, up to a first value or to the brace or the `while` behind it.
+    /// The head of a loop, up to a first value or to the brace or the `while` after it.
     Loop,
-    /// What follows the body of a loop that tests behind it, up to the bracket of its test.
+    /// What follows the body of a loop that tests after it, up to the bracket of its test.
     LastTest,
     /// What follows the first arm of an `if`, up to the brace of the other one, or another `if`.
     Else,
@@ -81,7 +81,7 @@ impl Part {
         )
     }
 
-    /// What comes behind it.
+    /// What comes after it.
     fn after(self) -> Next {
         match self {
             Part::Function => Next::Form(Form::Item),

@@ -100,10 +100,10 @@ fn port_cause<'a, A: Allocator>(
         let ports = ports_of(graph, block, *source);
         if u64::from(source.port) >= ports {
             return Some(three(
-                "a port {} of node {}, which has {}",
-                Number(u64::from(source.port)),
+                "node {} has {}, and no port {}",
                 Number(u64::from(source.node)),
                 Count(ports, "output port"),
+                Number(u64::from(source.port)),
             ));
         }
     }

@@ -24,7 +24,7 @@ pub fn text_at(line: &[u8], place: usize) -> &str {
     str::from_utf8(field_at(line, place).unwrap_or(b"")).unwrap_or("")
 }
 
-/// How many fields a line has behind the first ones.
+/// How many fields a line has after the first ones.
 pub fn fields_behind(line: &[u8], first: u64) -> u64 {
     (line.split(|byte| *byte == SPACE).count() as u64).saturating_sub(first)
 }

@@ -56,7 +56,7 @@ pub struct Before {
 }
 
 impl Before {
-    /// What this line is about, behind these.
+    /// What this line is about, after these.
     pub fn subject(&self, line: &[u8]) -> Subject {
         if self.heads == 0 {
             return Subject::Head;

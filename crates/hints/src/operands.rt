@@ -1,4 +1,4 @@
-//! What stands behind the name of an operation in a listing.
+//! What stands after the name of an operation in a listing.
 
 use semantics::opcode::Opcode;
 

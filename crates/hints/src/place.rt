@@ -7,7 +7,7 @@ use crate::message::{Message, one, two};
 pub const CARRIAGE_RETURN: &str =
     "lines end with CR LF here, and with LF alone in {}: `tr -d '\\r'` takes the CRs out";
 
-/// What a person is told: a cause, and its place if that is known.
+/// What a person is reported: a cause, and its place if that is known.
 #[derive(Clone, Copy)]
 pub struct Found<'a> {
     pub place: Option<Message<'a>>,
@@ -38,7 +38,7 @@ pub fn at_line<'a>(number: u64, line: &'a [u8], cause: Message<'a>) -> Found<'a>
     at(two(place, Number(number), Line(line, column)), cause)
 }
 
-/// What is told where no more is known than what the output says; this part of the formats explains that.
+/// What is reported where no more is known than what the output says; this part of the formats explains that.
 pub fn unknown<'a>(part: &'static str) -> Message<'a> {
     one(
         "docs/FORMATS.md says what that means, under `{}`",

@@ -188,7 +188,7 @@ impl<'a> Seen<'a> {
         }
     }
 
-    /// What is wrong with a sign that stands behind the operand before it, or behind an item.
+    /// What is wrong with a sign that stands after the operand before it, or after an item.
     fn wrong_behind(&self, sign: Sign) -> Option<&'static str> {
         match (self.next, sign) {
             (Next::Form(Form::Item), Sign::CloseBrace) => Some(
@@ -310,7 +310,7 @@ struct Head {
 #[derive(Clone, Copy)]
 enum Spot {
     Outside,
-    /// Behind the word `fn`.
+    /// After the word `fn`.
     Named,
     Parameters,
     /// Behind its parameters.

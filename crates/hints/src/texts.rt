@@ -63,7 +63,7 @@ fn spacing<'a>(line: &[u8]) -> Option<Message<'a>> {
     None
 }
 
-/// The cause for a line of this form, which begins with `word` and has another number of fields behind.
+/// The cause for a line of this form, which begins with `word` and has another number of fields after.
 fn bad_form<'a>(form: &'static str, word: &'a [u8], has: u64) -> Message<'a> {
     three(
         "the form is `{}`: this line has {} behind `{}`",
@@ -238,7 +238,7 @@ fn unended<'a>(text: &[u8], context: &Context<'a>) -> Message<'a> {
     two(text, Bytes(context.block), Word(wanted))
 }
 
-/// The cause for a line behind the `main` line.
+/// The cause for a line after the `main` line.
 fn trailing<'a>(line: &[u8], command: &'a str) -> Message<'a> {
     if literal(line).is_none() {
         return say("the `main` line is the last one of a graph");

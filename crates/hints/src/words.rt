@@ -6,7 +6,7 @@ use command_line::{Asked, read_words};
 use graph_file::literal;
 use std::convert::AsStr;
 
-/// What is told where no word is a command.
+/// What is reported where no word is a command.
 const NO_COMMAND: &str =
     "a command comes first; the most used are `ets lower < PROGRAM | ets run`, `ets run < GRAPH`, `ets mean`, `ets trace` and `ets profile`; `ets help` has all";
 

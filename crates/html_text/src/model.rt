@@ -1,6 +1,6 @@
 //! The page's script: what it reads, and the state after each event.
 
-/// Behind the data: the texts, the tokens, the states, and words for them.
+/// After the data: the texts, the tokens, the states, and words for them.
 pub(crate) const MODEL: &[u8] = br##"</script>
 <script>
 (function () {

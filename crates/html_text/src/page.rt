@@ -23,7 +23,7 @@ pub enum Part {
     ToReport,
     /// Between the report and the data.
     ToData,
-    /// Behind the data: the script.
+    /// After the data: the script.
     Script,
 }
 
@@ -63,7 +63,7 @@ fn large_mark(events: usize) -> &'static [u8]
     }
 }
 
-/// Writes what stands behind a page of so many events: a mark, if they are many. The writer is called until it has taken all of it; a call that
+/// Writes what stands after a page of so many events: a mark, if they are many. The writer is called until it has taken all of it; a call that
 /// takes no byte is a fault. After an `Err` a beginning of the text was written. Takes no memory.
 pub fn write_mark<W: Write>(writer: &mut W, events: usize) -> io::Result<()>
     ensures { Sends result (W.contents writer.old) (W.contents writer.new) (large_mark events) }

@@ -49,7 +49,7 @@ impl<A: Allocator + Clone> Cell<A> {
         }
     }
 
-    /// Fills the cell, and lists its readers behind the answers.
+    /// Fills the cell, and lists its readers after the answers.
     pub fn store<B: Allocator>(&mut self, value: Value, answers: &mut Vec<Cont, B>) -> StoreAnswer
         ensures { CellStored (state_of self.old) value (vec_capacity answers.old) answers.old.items result (state_of self.new) answers.new.items }
     {
@@ -87,7 +87,7 @@ impl<A: Allocator> Cell<A> {
         }
     }
 
-    /// Puts the readers that wait behind the answers.
+    /// Puts the readers that wait after the answers.
     fn list_readers<B: Allocator>(&self, answers: &mut Vec<Cont, B>) -> Result<(), AllocError>
         ensures ok { OnOk result (answers.new.items ≡ answers.old.items ++ readers_of (state_of self.now)) }
         ensures err { OnErr result (answers.new.items ≡ answers.old.items) }

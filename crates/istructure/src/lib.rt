@@ -96,7 +96,7 @@ impl<A: Allocator + Clone> Cells<A> {
         held.fetch(alloc, reader)
     }
 
-    /// Fills a cell, and lists the readers that waited behind the answers.
+    /// Fills a cell, and lists the readers that waited after the answers.
     pub fn store<B: Allocator>(
         &mut self,
         cell: u32,

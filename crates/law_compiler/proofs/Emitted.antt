@@ -16,7 +16,7 @@ use Rattle.semantics.specs.Placed.{placed_blocks, placed}
 use Rattle.semantics.specs.declared.version.Version.{Version}
 use Rattle.semantics.specs.declared.version.Version.TheVariants.{One, Two}
 use Rattle.semantics.specs.Versions.{version_number}
-use Rattle.select.specs.Emitted.{told, firsts_of, seconds_of, emitted, emitted_instrs, emitted_blocks, code_of}
+use Rattle.select.specs.Emitted.{stated, firsts_of, seconds_of, emitted, emitted_instrs, emitted_blocks, code_of}
 use Rattle.semantics.specs.Opcodes.{has_sides}
 use Rattle.law_compiler.specs.EmittedAlike.{is_split, AreAlikeInstrs, AllAlike, AllBlocksAlike, AreAlike}
 use Rattle.law_compiler.specs.EmittedSameRuns.{HasOrigins}
@@ -64,9 +64,9 @@ abbrev CanTell : Version → Instr → Type 0
 CanTell One i = i.origin ≡ Untold
 CanTell Two i = Unit {0}
 
-told_same : (version : Version) (i : Instr) → CanTell version i → may_fault i.op ≡ true → i.origin ≡ told (version_number version) (may_fault i.op) i.origin
-told_same One i h e = h ∙ ap (λ (b : Bool). told 1 b i.origin) (sym e)
-told_same Two i h e = ap (λ (b : Bool). told 2 b i.origin) (sym e)
+meant_same : (version : Version) (i : Instr) → CanTell version i → may_fault i.op ≡ true → i.origin ≡ stated (version_number version) (may_fault i.op) i.origin
+meant_same One i h e = h ∙ ap (λ (b : Bool). stated 1 b i.origin) (sym e)
+meant_same Two i h e = ap (λ (b : Bool). stated 2 b i.origin) (sym e)
 
 -- AN INSTRUCTION WITH ITS SLOT
 abbrev put : List ℕ → Instr → Instr
@@ -80,7 +80,7 @@ instr_alike version i shape tells = record {
   dests = whole_same (has_sides i.op) i.firsts i.seconds;
   firsts = firsts_same i.op i.firsts i.seconds shape;
   seconds = seconds_same i.op i.firsts i.seconds shape;
-  origin = told_same version i tells;
+  origin = meant_same version i tells;
 }
   where
     slot_kept : (x y : Instr) (op : Op) → x.slot ≡ y.slot → slot_of x op ≡ slot_of y op

@@ -11,7 +11,7 @@ use Rattle.tags.specs.declared.token.Token.{Token}
 use Rattle.tags.specs.declared.slot.SlotState.{SlotState}
 use Rattle.tags.specs.declared.slot.SlotState.TheVariants.{Empty}
 use Rattle.semantics.specs.Program.{Instr, CodeBlock, Program, first_of, instr_from, instr_at}
-use Rattle.semantics.specs.Rule.{Seat, token, Outcome, rule_at}
+use Rattle.semantics.specs.Rule.{Point, token, Outcome, rule_at}
 use Rattle.semantics.specs.Machine.{Machine, Store, Size, Vacant, Event, Events, Run, Fires, Hosts, Happens, at_start, input_tokens, slot_in, slot_used}
 use Rattle.semantics.specs.Machine.{excluded_by, host_rule, stuck_rule, results_in, outputs_of}
 use Rattle.semantics.specs.Opcodes.{may_fault}
@@ -138,7 +138,7 @@ module _ (p q : Program) (alike : AreAlike p q) where
     first = first_same;
   }
 
-  pub rules_same : (s : Seat) (ip : ℕ) (slot : SlotState) (port : Port) (w : Word)
+  pub rules_same : (s : Point) (ip : ℕ) (slot : SlotState) (port : Port) (w : Word)
       → rule_at p s (instr_at p ip) slot port w ≡ rule_at q s (instr_at q ip) slot port w
   rules_same s ip slot port w = by (instr_at p ip) (instr_at q ip) (instr_same ip)
     where

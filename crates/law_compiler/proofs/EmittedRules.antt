@@ -20,7 +20,8 @@ use Rattle.semantics.specs.declared.program.Op.{Op}
 use Rattle.semantics.specs.declared.program.Op.TheVariants.{Apply1, Apply2, Apply2Right, Apply2Left, Lit, Copy, Sync, Switch, Fetch, Store, Frame, Link, Send}
 use Rattle.semantics.specs.declared.program.Op.TheVariants.{Return, Ask, Open, Take, Give, Drain, Release}
 use Rattle.semantics.specs.Program.{Instr, Program, first_of}
-use Rattle.semantics.specs.Rule.{Seat, token, signal, to_each, to_all, answer_to, landing_at, beyond, Becomes, Excluded, fires, array_base, array_len, asks_for}
+use Rattle.semantics.specs.Rule.{Point, token, signal, to_each, to_all, answer_to, landing_at, beyond, Becomes, Excluded, fires, array_base}
+use Rattle.semantics.specs.Rule.{array_len, asks_for}
 use Rattle.semantics.specs.Rule.{puts, fire_one, fire_two, meets, opens, gives, drains, alone, on_left, outcome_of}
 use Rattle.semantics.specs.Opcodes.{may_fault}
 use Rattle.law_compiler.specs.EmittedAlike.{is_split}
@@ -58,18 +59,18 @@ left_faults Div z = refl
 left_faults Rem z = refl
 left_faults op z = refl
 
-all_same : (s : Seat) (v w : Word) (i j : Instr) → v ≡ w → i.firsts ++ i.seconds ≡ j.firsts ++ j.seconds → to_all s v i ≡ to_all s w j
+all_same : (s : Point) (v w : Word) (i j : Instr) → v ≡ w → i.firsts ++ i.seconds ≡ j.firsts ++ j.seconds → to_all s v i ≡ to_all s w j
 all_same s v w i j word dests = ap (λ (u : Word). to_each s u (i.firsts ++ i.seconds)) word ∙ ap (to_each s w) dests
 
-value_same : (s : Seat) (v w : Value) (i j : Instr) → v ≡ w → i.firsts ++ i.seconds ≡ j.firsts ++ j.seconds
+value_same : (s : Point) (v w : Value) (i j : Instr) → v ≡ w → i.firsts ++ i.seconds ≡ j.firsts ++ j.seconds
     → Some (to_all s (Word.Val v) i) ≡ Some (to_all s (Word.Val w) j)
 value_same s v w i j word dests = ap (λ (l : List Token). Some l) (all_same s (Word.Val v) (Word.Val w) i j (ap (λ (x : Value). Word.Val x) word) dests)
 
-word_same : (s : Seat) (w : Word) (i j : Instr) → i.firsts ++ i.seconds ≡ j.firsts ++ j.seconds → Some (to_all s w i) ≡ Some (to_all s w j)
+word_same : (s : Point) (w : Word) (i j : Instr) → i.firsts ++ i.seconds ≡ j.firsts ++ j.seconds → Some (to_all s w i) ≡ Some (to_all s w j)
 word_same s w i j dests = ap (λ (ds : List Dest). Some (to_each s w ds)) dests
 
 -- an instruction with the same parts that an event shows, in two programs
-module _ (p q : Program) (same : TellSame p q) (s : Seat) (i j : Instr) where
+module _ (p q : Program) (same : TellSame p q) (s : Point) (i j : Instr) where
   asks_same : (a : ℕ) (x y : Indexed) → x ≡ y → i.firsts ≡ j.firsts → asks_for p s i a x ≡ asks_for q s j a y
   asks_same a x y e f = ap (asks_for p s i a) e ∙ by y
     where

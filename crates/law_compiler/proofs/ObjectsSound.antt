@@ -18,12 +18,12 @@ use Rattle.fanout.specs.Laws.{AllInstrs, HasItsDests}
 use Rattle.fanout.proofs.SoundPlans.{stays_sound, sound_has_dests}
 use Rattle.select.specs.Emitted.{firsts_of, seconds_of}
 use Rattle.semantics.specs.Opcodes.{has_sides}
-use Rattle.select.specs.Literals.{literal_of, listed}
+use Rattle.select.specs.Literals.{literal_of, as_list}
 use Rattle.select.specs.Emittable.{with_table, IsEmittableInstr, IsEmittableBlock, IsEmittable}
 use Rattle.law_compiler.specs.ObjectsSound.{SoundHaveObjects}
 
 -- ONE INSTRUCTION, by its operation: any literal is in a table of its own
-operand : (p : Program) (op : Op) → NamesRightly p op → HasOperand (with_table p (listed (literal_of op))) op
+operand : (p : Program) (op : Op) → NamesRightly p op → HasOperand (with_table p (as_list (literal_of op))) op
 operand p (Apply2Right op z) h = (0, omega arith, refl)
 operand p (Apply2Left op z) h = (0, omega arith, refl)
 operand p (Lit z) h = (0, omega arith, refl)

@@ -27,7 +27,7 @@ use Rattle.folding.proofs.SoundRows.{link_before, shut_stays, place_low}
 use Rattle.folding.proofs.SoundDests.{dyadic_is}
 use Rattle.folding.proofs.Cases.{value_at, FoldCase, is_kept, is_right, is_left, fold_cases}
 use Rattle.semantics.specs.Bytes as Bytes
-use Rattle.law_reuse.proofs.SlotsStands.{instr_in}
+use Rattle.law_reuse.proofs.SlotsPlaced.{instr_in}
 use Rattle.law_fresh_frames.specs.Alike.{plain_dests, IsTidy}
 use Rattle.law_compiler.specs.Passes.{FoldedIsTidy}
 use Rattle.law_compiler.proofs.PassesTidy.{some_landing, one_only, often_op, all_named, PlainOr, plain_or}

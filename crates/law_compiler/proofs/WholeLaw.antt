@@ -2,12 +2,12 @@
 use Rattle.std.proofs.Common.{ℕ, ◌≤◌, arith}
 use Rattle.semantics.specs.declared.graph.Kind.{Kind}
 use Rattle.law_net.specs.ContextsPackages.{AllPackages}
-use Rattle.law_net_refines_meaning.proofs.Firings.{all_told}
+use Rattle.law_net_refines_meaning.proofs.Firings.{all_meant}
 use Rattle.law_net.proofs.WiredWords.{words_are_fit}
 use Rattle.law_net.proofs.WiredFed.{inlets_are_fed}
 use Rattle.law_net.proofs.WiredEntered.{arms_are_entered}
 use Rattle.law_net.proofs.WiredRivals.{rivals_are_apart}
-use Rattle.law_net.proofs.RunsComes.{is_once, is_of_one_block, is_caused}
+use Rattle.law_net.proofs.RunsArrives.{is_once, is_of_one_block, is_caused}
 use Rattle.law_net.proofs.RunsAgree.{agrees}
 use Rattle.law_net.proofs.RunsMatching.{is_matching}
 use Rattle.law_net.proofs.CreditsTaken.{credits_take_them}
@@ -30,7 +30,7 @@ packages = record {
   starts = starts;
   tokens = tokens_are_items;
   events = events_follow;
-  told = all_told;
+  meant = all_meant;
   words = λ fl p w inputs good fit. words_are_fit fl p w good inputs fit;
   fed = λ fl p w inputs good fit. inlets_are_fed fl p w good inputs fit;
   entered = λ fl p w inputs good fit. arms_are_entered fl p w good inputs fit;

@@ -17,13 +17,13 @@ use Rattle.semantics.specs.Program.{Instr, CodeBlock, instr_at, first_of}
 use Rattle.semantics.specs.Plan.{Plan}
 use Rattle.semantics.specs.Cause.{is_looped}
 use Rattle.semantics.specs.Orderly.{often}
-use Rattle.law_reuse.proofs.SlotsStands.{stands_at}
+use Rattle.law_reuse.proofs.SlotsPlaced.{stands_at}
 use Rattle.law_fresh_frames.specs.Alike.{plain_dests}
 use Rattle.law_net.specs.ContextsParts.{Part, Line, Giver, Taker, Drainer, LoopDone, Framer, Fanned, Linker, Asker, NextFramer, NextFanned, Inlet, inlet}
 use Rattle.law_net.specs.ContextsBlocks.{Site, Wiring, side, there_in, op_of, kind_op, line_op}
 use Rattle.law_net.specs.Contexts.{Wires}
 use Rattle.law_net.specs.ContextsWires as Wires
-use Rattle.law_net.specs.ContextsWires.{IsWiredCode, answered_at, is_given, leads_to}
+use Rattle.law_net.specs.ContextsWires.{IsWiredCode, answered_at, is_unwired, leads_to}
 use Rattle.law_net.specs.ContextsTheorem.{IsGood}
 use Rattle.law_net.proofs.ContextsCoded.{all_coded}
 use Rattle.law_compiler.specs.Graphs.{LeadsToNoneOften}
@@ -48,7 +48,7 @@ line_calm b n = go (node_at b n)
     go (Some line) = kind_calm line.kind
 
 -- what a wire may feed is neither
-calm : (variant : ℕ → ℕ) (s : Site) (q : Part) → is_given s.block q ≡ false → often_op (op_of variant s q) ≡ false
+calm : (variant : ℕ → ℕ) (s : Site) (q : Part) → is_unwired s.block q ≡ false → often_op (op_of variant s q) ≡ false
 calm variant s (Line n) e = line_calm s.block n
 calm variant s (Giver n) e = absurd (true≢false e)
 calm variant s (Taker n) e = absurd (true≢false e)
@@ -117,11 +117,11 @@ module _ (fl : Flow) (p : Plan) (variant : ℕ → ℕ) (Here : Context → Type
       by_dest : Contains i.seconds d ⊎ (Contains i.firsts d × ((b : ℕ) → i.op ≡ Link b → ⊥))
           → (j : Instr) × (slice_get k.code.instrs (n + d.ahead) ≡ Some j) × (often_op j.op ≡ false)
       by_dest (inl a) =
-          let x = contains_mapped (Wires.stands_at w) (w.wire (side r true)) (leads_to (w.place r) d)
+          let x = contains_mapped (Wires.ip_and_port w) (w.wire (side r true)) (leads_to (w.place r) d)
           (Contains-permutation _ _ _ instr.seconds (contains_map (leads_to (w.place r)) i.seconds d a)) in
           leads x.0 (wired true x.0 x.1) x.2
       by_dest (inr a) =
-          let x = contains_mapped (Wires.stands_at w) (answered_at r ++ w.wire (side r false)) (leads_to (w.place r) d)
+          let x = contains_mapped (Wires.ip_and_port w) (answered_at r ++ w.wire (side r false)) (leads_to (w.place r) d)
           (Contains-permutation _ _ _ instr.firsts (contains_map (leads_to (w.place r)) i.firsts d a.0)) in
           leads x.0 (by_inlet x.0 (Contains-append_cases (answered_at r) (w.wire (side r false)) x.0 x.1)) x.2
         where

@@ -7,7 +7,7 @@ use Rattle.tags.specs.declared.token.Token.{Token}
 use Rattle.tags.specs.declared.slot.SlotState.{SlotState}
 use Rattle.semantics.specs.Graph.{Flow}
 use Rattle.semantics.specs.Program.{Program, instr_at}
-use Rattle.semantics.specs.Rule.{Seat, rule_at}
+use Rattle.semantics.specs.Rule.{Point, rule_at}
 use Rattle.semantics.specs.Machine.{Machine, Store, Size, Event, Events, Run, Happens, at_start, slot_used, stuck_rule}
 use Rattle.semantics.specs.Faithful.{IsRun}
 use Rattle.semantics.specs.Plan.{Plan}
@@ -18,7 +18,7 @@ use Rattle.semantics.specs.Holders.{Holder, holder_at, holds}
 pub record HaveSameEvents (p q : Program) : Type 0 where
   pub starts : (inputs : List ℤ) → at_start p inputs ≡ at_start q inputs
   pub uses : (ip : ℕ) → slot_used (instr_at p ip) ≡ slot_used (instr_at q ip)
-  pub rules : (s : Seat) (ip : ℕ) (slot : SlotState) (port : Port) (w : Word)
+  pub rules : (s : Point) (ip : ℕ) (slot : SlotState) (port : Port) (w : Word)
       → rule_at p s (instr_at p ip) slot port w ≡ rule_at q s (instr_at q ip) slot port w
   pub happens : (total : ℕ) (old new : Store) (to : To) (w : Word) (made : List Token) → Happens p total old to w made new ↔ Happens q total old to w made new
   pub stuck : (s : Store) (to : To) (w : Word) → stuck_rule p s to w ≡ stuck_rule q s to w

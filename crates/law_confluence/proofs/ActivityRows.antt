@@ -10,14 +10,14 @@ use Rattle.semantics.specs.declared.graph.Region.TheVariants.{Root, Arm}
 use Rattle.semantics.specs.declared.graph.Kind.{Kind}
 use Rattle.semantics.specs.declared.graph.Kind.TheVariants.{Lit, Apply1, Apply2, Cond, Enter, Merge, Fetch, Store, Call, StrictCall, Loop}
 use Rattle.semantics.specs.Graph.{Node, Block, Flow, node_at, first_cell, array_len}
-use Rattle.semantics.specs.Meaning.{Context, Called, Turned, Activity, Fires, Gates, Passes, Returns, Turns, Outputs, taken, Message, Sends, Tells, Enters}
+use Rattle.semantics.specs.Meaning.{Context, Called, Turned, Activity, Fires, Gates, Passes, Returns, Turns, Outputs, taken, Message, Sends, Steers, Enters}
 use Rattle.semantics.specs.Meaning.{Nothing, Deed, Says, Reads, Fills, Puts, deed, fired, fired_in, fetched, stored, input_passed, gated, passed, on_node}
 use Rattle.semantics.specs.Meaning.{on_block, block_of, origin_at, same_side, arm_of}
 use Rattle.law_confluence.proofs.ActivityKeys.{Together, mode_at, fires_mode}
 
 pub data Class : Type 0 where
   Plain : Class
-  Telling : Class
+  Steering : Class
   Gate : Class
   Join : Class
   Calling : Class
@@ -26,7 +26,7 @@ pub data Class : Type 0 where
   Absent : Class
 
 abbrev pub class_of : Kind ℕ → Class
-class_of Cond = Telling
+class_of Cond = Steering
 class_of Enter = Gate
 class_of (Merge k) = Join
 class_of (Call f) = Calling
@@ -65,7 +65,7 @@ Speaks (Puts j v) m = m ≡ Nothing
 
 pub data Row (fl : Flow) (a : Activity) (m : Message) : Type 0 where
   RowFires : (c : Context) (n : ℕ) (vs : List Value) (v : Value) → a ≡ Fires c n vs → m ≡ Sends c n 0 v → class_at fl c n ≡ Plain → 0 < length vs → Row fl a m
-  RowTells : (c : Context) (n : ℕ) (v : Value) → a ≡ Fires c n (v ∷ []) → m ≡ Tells c n v → Row fl a m
+  RowSteers : (c : Context) (n : ℕ) (v : Value) → a ≡ Fires c n (v ∷ []) → m ≡ Steers c n v → Row fl a m
   RowGates : (c : Context) (n : ℕ) (v b : Value) (k : ℕ) → a ≡ Gates c n v b → m ≡ Sends c n 0 v → class_at fl c n ≡ Gate → region_at fl c n ≡ Arm k (truth b)
       → Row fl a m
   RowQuiet : 0 < length (taken a) → m ≡ Nothing → Row fl a m
@@ -108,7 +108,7 @@ module _ (fl : Flow) (c : Context) (n : ℕ) where
   fired_row (Apply2 op) (v ∷ w ∷ []) d m h k e s = plain_row (v ∷ w ∷ []) _ m h (omega arith) (speaks_of _ d m e s)
   fired_row (Apply2 op) (v ∷ w ∷ z ∷ vs) d m h k e s = cc
   fired_row Cond [] d m h k e s = cc
-  fired_row Cond (v ∷ []) d m h k e s = RowTells c n v refl (speaks_of _ d m e s)
+  fired_row Cond (v ∷ []) d m h k e s = RowSteers c n v refl (speaks_of _ d m e s)
   fired_row Cond (v ∷ w ∷ vs) d m h k e s = cc
   fired_row (Fetch a) [] d m h k e s = cc
   fired_row (Fetch a) (v ∷ []) d m h k e s =

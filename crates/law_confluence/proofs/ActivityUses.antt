@@ -11,7 +11,7 @@ use Rattle.semantics.specs.declared.graph.Kind.{Kind}
 use Rattle.semantics.specs.declared.graph.Kind.TheVariants.{Enter}
 use Rattle.semantics.specs.Graph.{Node, Block, Flow, node_at}
 use Rattle.semantics.specs.Meaning.{Context, Main, Called, Turned, Statement, AtNode, AtOut, AtTurn, Port, Operand, Predicate, Flag, Carried, Tagged, tagged}
-use Rattle.semantics.specs.Meaning.{positions, uses_at, turns_from, result_uses, uses_in, sent_in, block_of, entering, Message, Sends, Tells, Enters, Nothing}
+use Rattle.semantics.specs.Meaning.{positions, uses_at, turns_from, result_uses, uses_in, sent_in, block_of, entering, Message, Sends, Steers, Enters, Nothing}
 use Rattle.semantics.specs.Meaning.{tokens_of, predicates_from, predicates_in, is_enter_of}
 use Rattle.lemmas.proofs.Permutations.{Within, Each, Spread, put_first, put_later, each_weaker, each_from, each_append, each_map, each_flat_map, spread_append}
 use Rattle.lemmas.proofs.Permutations.{spread_map, spread_weaker, spread_flat_map, within_map, within_flat_map, within_right}
@@ -176,7 +176,7 @@ uses_spread b c n p =
 -- how a token belongs to a message
 abbrev pub Member : Flow → Message → Tagged → Type 0
 Member fl (Sends c n p v) t = (t.context ≡ c) × (t.value ≡ v) × ((b : Block ℕ) × (block_of fl c ≡ Some b) × UseOf b c n p t.statement t.port)
-Member fl (Tells c k v) t =
+Member fl (Steers c k v) t =
     (t.context ≡ c) × (t.value ≡ v) × (t.port ≡ Predicate)
     × ((b : Block ℕ) × (m : ℕ) × (node : Node ℕ) × (side : Bool) × (block_of fl c ≡ Some b) × (t.statement ≡ AtNode m) × (node_at b m ≡ Some node)
     × (node.region ≡ Arm k side))
@@ -245,10 +245,10 @@ sent_unique c n p v (Some b) =
     spread_map Differ (λ (u : Use). tagged c u.0 u.1 v) (uses_in b c n p)
     (spread_weaker UsesDiffer (λ u w. Differ (tagged c u.0 u.1 v) (tagged c w.0 w.1 v)) (λ u w h same. h same.1 same.2) (uses_in b c n p) (uses_spread b c n p))
 
-told_member : (fl : Flow) (c : Context) (k : ℕ) (v : Value) (o : Option (Block ℕ)) → block_of fl c ≡ o → Each (Member fl (Tells c k v)) (predicates_in o c k v)
+told_member : (fl : Flow) (c : Context) (k : ℕ) (v : Value) (o : Option (Block ℕ)) → block_of fl c ≡ o → Each (Member fl (Steers c k v)) (predicates_in o c k v)
 told_member fl c k v None e = tt
 told_member fl c k v (Some b) e =
-    predicates_each (Member fl (Tells c k v)) c k v b.inputs b.nodes
+    predicates_each (Member fl (Steers c k v)) c k v b.inputs b.nodes
     (λ i node f g. let side = enter_of k node.region node.kind g in (refl, refl, refl, (b, b.inputs + i, node, side.0, e, refl, line_at b i node f, side.1)))
 
 told_unique : (c : Context) (k : ℕ) (v : Value) (o : Option (Block ℕ)) → Unique (predicates_in o c k v)
@@ -257,13 +257,13 @@ told_unique c k v (Some b) = predicates_spread c k v b.inputs b.nodes
 
 pub tokens_member : (fl : Flow) (m : Message) → Each (Member fl m) (tokens_of fl m)
 tokens_member fl (Sends c n p v) = sent_member fl c n p v (block_of fl c) refl
-tokens_member fl (Tells c k v) = told_member fl c k v (block_of fl c) refl
+tokens_member fl (Steers c k v) = told_member fl c k v (block_of fl c) refl
 tokens_member fl (Enters c from vs) = entering_member fl c from vs
 tokens_member fl Nothing = tt
 
 pub tokens_unique : (fl : Flow) (m : Message) → Unique (tokens_of fl m)
 tokens_unique fl (Sends c n p v) = sent_unique c n p v (block_of fl c)
-tokens_unique fl (Tells c k v) = told_unique c k v (block_of fl c)
+tokens_unique fl (Steers c k v) = told_unique c k v (block_of fl c)
 tokens_unique fl (Enters c from vs) = entering_unique c from vs
 tokens_unique fl Nothing = tt
 

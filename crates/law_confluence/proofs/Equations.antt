@@ -17,7 +17,7 @@ use Rattle.law_confluence.proofs.HistoryLaws.{lawful_more}
 use Rattle.law_confluence.proofs.OutcomeResolved.{flow_well, fits}
 use Rattle.law_confluence.proofs.Outcome.{each_place_once, standing_due}
 use Rattle.law_confluence.specs.EquationsContexts.{depth}
-use Rattle.law_confluence.specs.EquationsGiven.{Gives, Stored, stores_of, result_in}
+use Rattle.law_confluence.specs.EquationsHave.{Gives, Stored, stores_of, result_in}
 use Rattle.law_confluence.specs.Equations.{IsDue}
 use Rattle.semantics.specs.Machine.{Machine}
 use Rattle.semantics.specs.Faithful.{IsExact, NoReader}

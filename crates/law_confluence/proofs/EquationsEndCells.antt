@@ -16,7 +16,7 @@ use Rattle.law_confluence.proofs.ActivityDeeds.{full_of, empty_of}
 use Rattle.law_confluence.proofs.ActivityDiamond.{deed_of, at_filled}
 use Rattle.law_confluence.proofs.HistoryRuns.{run_cells, step_cells, activity_once, placed_cases}
 use Rattle.law_confluence.proofs.ActivityShapes.{storing}
-use Rattle.law_confluence.specs.EquationsGiven.{Stored, stored_by, stores_of}
+use Rattle.law_confluence.specs.EquationsHave.{Stored, stored_by, stores_of}
 use Rattle.law_confluence.proofs.EquationsRunRested.{Rested}
 
 abbrev pub entry : Context → ℕ → ℕ → Value → Stored

@@ -11,7 +11,7 @@ use Rattle.semantics.specs.Meaning.{Context, Fires, Fills, Deed, start, block_of
 use Rattle.semantics.specs.Meaning.{stored}
 use Rattle.lemmas.proofs.Permutations.{Within, Each}
 use Rattle.law_confluence.proofs.ActivityShapes.{storing}
-use Rattle.law_confluence.specs.EquationsGiven.{Stored, stores_of}
+use Rattle.law_confluence.specs.EquationsHave.{Stored, stores_of}
 use Rattle.law_confluence.proofs.EquationsGraphForms.{line_past}
 use Rattle.law_confluence.proofs.EquationsEndCells.{stored_from}
 use Rattle.law_confluence.proofs.EquationsRunRested.{Rested, Came, GivesIn}

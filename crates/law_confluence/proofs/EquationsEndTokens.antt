@@ -19,16 +19,16 @@ use Rattle.law_confluence.proofs.ActivityKeys.{Differ}
 use Rattle.law_confluence.proofs.HistoryDue.{ever_stood}
 use Rattle.law_confluence.proofs.HistoryGrounds.{class_line}
 use Rattle.law_confluence.proofs.HistoryLaws.{ArmLaw, source_of}
-use Rattle.law_confluence.proofs.ActivityRows.{Telling, Gate, Join, class_of, class_in, class_at, region_node, region_is_arm}
+use Rattle.law_confluence.proofs.ActivityRows.{Steering, Gate, Join, class_of, class_in, class_at, region_node, region_is_arm}
 use Rattle.law_confluence.proofs.ActivityUses.{UseOf, AsOperand, AsResult, AsFlag, AsCarried, IsTurned}
 use Rattle.law_confluence.proofs.EquationsGraphForms.{HasForm, InRegion, line_past}
 use Rattle.law_confluence.proofs.EquationsRunRested.{Rested, Came, IsDueIn, RegionTaken}
 use Rattle.law_confluence.proofs.EquationsRunUses.{Ends, operand_came, carried_came, flag_came, operand_within}
-use Rattle.law_confluence.proofs.EquationsRunOrigins.{Used, Entering, Told, origin}
+use Rattle.law_confluence.proofs.EquationsRunOrigins.{Used, Entering, SteeredIn, origin}
 use Rattle.law_confluence.proofs.EquationsRunRegions.{block_shaped, taken_in, arm_taken, round_at}
 use Rattle.law_confluence.proofs.EquationsProgressNodes.{IsTogether, operands, operands_stand, line_fired, input_fires, passes_line}
-use Rattle.law_confluence.proofs.EquationsProgressInvocations.{AllGiven, result_given, all_given, predicate_came, gate_happens, invoked_block}
-use Rattle.law_confluence.proofs.EquationsProgressDues.{due_open, sources_given, line_in}
+use Rattle.law_confluence.proofs.EquationsProgressInvocations.{AllHave, result_given, all_have, predicate_came, gate_happens, invoked_block}
+use Rattle.law_confluence.proofs.EquationsProgressDues.{due_open, sources_have, line_in}
 use Rattle.law_confluence.proofs.EquationsValuesSilent.{operand_taken}
 
 -- an activity of the run takes a token at this place
@@ -54,7 +54,7 @@ module _ (z : Rested) where
   gate_consumes c b m k side line eb el er kind due round =
       let o = due_open z c due in
       let blocks = same_Some o.block b (sym o.is_block ∙ eb) in
-      let all = subst (λ b. AllGiven z c b) blocks (all_given z c o.block o.is_block due o.came) in
+      let all = subst (λ b. AllHave z c b) blocks (all_have z c o.block o.is_block due o.came) in
       let its = (block_shaped z c b eb).lines m line el in
       let form = subst (λ kind. HasForm z.flow b line.region kind line.sources) kind its.form in
       let cond = (its.round k side er).1 in
@@ -105,7 +105,7 @@ module _ (z : Rested) where
           let eo : node_at o.block m ≡ Some line = subst (λ b. node_at b m ≡ Some line) blocks el in
           let taken_here = operand_taken z c m i x.value came (λ f. gate (sym class ∙ f)) (λ f. join (sym class ∙ f)) in
           let region = subst (λ l. RegionTaken z c o.block (arm_of l)) eo (taken_in z c o.block o.is_block m taken_here) in
-          let ops = operands z c line.sources (sources_given z c due o m line eo (subst (λ b. InRegion b line.region line.sources) blocks lie) region) in
+          let ops = operands z c line.sources (sources_have z c due o m line eo (subst (λ b. InRegion b line.region line.sources) blocks lie) region) in
           let fired = line_fired z c b eb m line ops.values el is form ops.long (operands_stand z c b eb m line ops el) in
           let v = get_some ops.values i (omega (arith, ops.long, slice_get_within line.sources i s ei)) in
           let at : 0 + i ≡ i = omega arith in
@@ -145,11 +145,11 @@ module _ (z : Rested) where
       go (Call g) e f = alone (Says (Enters (Called c m) i (x.value ∷ []))) (ap (λ kind. passed c m i x.value kind) e)
       go (Loop g k) e f = alone (Says (Enters (Turned c m 0) i (x.value ∷ []))) (ap (λ kind. passed c m i x.value kind) e)
 
-  told_consumed : (x : Tagged) → Came z x → Told z x → Consumed z x
+  told_consumed : (x : Tagged) → Came z x → SteeredIn z x → Consumed z x
   told_consumed x h t =
       let c : Context = x.context in
       let cond = ((block_shaped z c t.block t.is_block).lines t.node t.line t.is_line).round t.cond t.side t.region in
-      let class : class_at z.flow c t.cond ≡ Telling = ap (λ o. class_in o t.cond) t.is_block ∙ class_line t.block t.cond cond.1.0 cond.1.1
+      let class : class_at z.flow c t.cond ≡ Steering = ap (λ o. class_in o t.cond) t.is_block ∙ class_line t.block t.cond cond.1.0 cond.1.1
       ∙ ap class_of cond.1.2 in
       let round = taken_in z c t.block t.is_block t.cond (operand_taken z c t.cond 0 x.value t.stood (λ e. cc) (λ e. cc)) in
       let ran = gate_consumes c t.block t.node t.cond t.side t.line t.is_block t.is_line t.region t.kind (z.due x h) round in
@@ -204,7 +204,7 @@ module _ (z : Rested) where
       let to = loop_block c n t due in
       let o = due_open z d due in
       let blocks = same_Some o.block to.0 (sym o.is_block ∙ to.1) in
-      let all = subst (λ b. AllGiven z d b) blocks (all_given z d o.block o.is_block due o.came) in
+      let all = subst (λ b. AllHave z d b) blocks (all_have z d o.block o.is_block due o.came) in
       let count = (block_shaped z d to.0 to.1).count in
       let most = high to.0 to.1 to.2 in
       let r = get_some to.0.results 0 (omega (arith, count, to.2)) in

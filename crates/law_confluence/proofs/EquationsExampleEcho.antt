@@ -9,7 +9,7 @@ use Rattle.tags.specs.declared.value.Value.TheVariants.{Int}
 use Rattle.semantics.specs.Graph.{Node, Flow}
 use Rattle.semantics.specs.Meaning.{Context, Main, Called, Turned, AtOut, Operand, tagged, State, Activity, Fires, Outputs, Deed, Says, Puts, Message, Sends}
 use Rattle.semantics.specs.Meaning.{deed, with_output, start, Step, Run, node_of}
-use Rattle.law_confluence.specs.EquationsGiven.{Gives, SaysIn, Stored, stores_of, ports_line, ports_at}
+use Rattle.law_confluence.specs.EquationsHave.{Gives, SaysIn, Stored, stores_of, ports_line, ports_at}
 use Rattle.law_confluence.specs.Equations.{IsDue, TakenAt, Equation, Result}
 use Rattle.law_confluence.specs.EquationsSettled.{Settled}
 use Rattle.law_confluence.proofs.EquationsExampleValues.{from, alone}

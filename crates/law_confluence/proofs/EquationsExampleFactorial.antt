@@ -10,7 +10,7 @@ use Rattle.semantics.specs.declared.graph.Region.TheVariants.{Root, Arm}
 use Rattle.semantics.specs.declared.graph.Kind.TheVariants.{Lit, Apply2, Cond, Enter, Merge, Call}
 use Rattle.semantics.specs.Graph.{Block, Flow}
 use Rattle.semantics.specs.Meaning.{Context, Main, Called, State, Activity, Run, start, block_of, node_in, origin_at}
-use Rattle.law_confluence.specs.EquationsGiven.{Gives, source_line, result_in}
+use Rattle.law_confluence.specs.EquationsHave.{Gives, source_line, result_in}
 use Rattle.law_confluence.specs.Equations.{HasSome, Argument, BlockEquation}
 use Rattle.law_confluence.specs.EquationsSettled.{Settled}
 use Rattle.law_confluence.proofs.EquationsExampleValues.{from, line, alone}
@@ -34,15 +34,15 @@ module _ (run : List Activity) (s : State) (r : Run fact (start (pos 2 ∷ [])) 
   abbrev Val : Context → ℕ → Value → Type 0
   Val c n v = Gives fact run s.memory c n 0 v
 
-  abbrev Told : Context → ℕ → Value → Option (Block ℕ) → Type 0
-  Told c n v o = BlockEquation fact (pos 2 ∷ []) run s r c n 0 v o
+  abbrev SteeredIn : Context → ℕ → Value → Option (Block ℕ) → Type 0
+  SteeredIn c n v o = BlockEquation fact (pos 2 ∷ []) run s r c n 0 v o
 
   abbrev Some_of : Context → Value → Type 0
   Some_of c x = (v : Value) → Val c 0 v → v ≡ x
 
   module _ (c : Context) (eb : block_of fact c ≡ Some body) where
-    at : (n : ℕ) (v : Value) → Val c n v → Told c n v (Some body)
-    at n v k = subst (λ o. Told c n v o) eb (h.equations c n 0 v k)
+    at : (n : ℕ) (v : Value) → Val c n v → SteeredIn c n v (Some body)
+    at n v k = subst (λ o. SteeredIn c n v o) eb (h.equations c n 0 v k)
 
     source : (n : ℕ) (v : Value) → Argument fact (pos 2 ∷ []) run s r c n 0 v → HasSome fact (pos 2 ∷ []) run s r c (source_line (node_in (Some body) n) 0) v
     source n v k = subst (λ o. HasSome fact (pos 2 ∷ []) run s r c (source_line (node_in o n) 0) v) eb k

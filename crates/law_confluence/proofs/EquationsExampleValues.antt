@@ -15,7 +15,7 @@ use Rattle.semantics.specs.declared.graph.Kind.{Kind}
 use Rattle.semantics.specs.declared.graph.Kind.TheVariants.{Apply1, Apply2, Cond, Enter, Merge, Fetch, Store, Call, Loop}
 use Rattle.semantics.specs.Graph.{Node, Block, Flow}
 use Rattle.semantics.specs.Meaning.{Main, Called, Turned, State, Activity, Fires, Run, start, origin_at}
-use Rattle.law_confluence.specs.EquationsGiven.{Gives, stores_of}
+use Rattle.law_confluence.specs.EquationsHave.{Gives, stores_of}
 use Rattle.law_confluence.specs.Equations.{Fetched, Storing}
 use Rattle.law_confluence.specs.EquationsSettled.{Settled}
 

@@ -16,7 +16,7 @@ use Rattle.semantics.specs.WellFormed.{NamesWell, IsNodeWell, IsBlockWell, WellF
 use Rattle.semantics.specs.Meaning.{Main, arm_of, block_of}
 use Rattle.semantics.specs.Faithful.{inputs_of, inputs_in}
 use Rattle.law_confluence.proofs.OutcomeResolved.{place_get, block_in, node_in, node_back, fits}
-use Rattle.law_confluence.specs.EquationsGiven.{outputs_in, ports_of, ports_line, ports_in}
+use Rattle.law_confluence.specs.EquationsHave.{outputs_in, ports_of, ports_line, ports_in}
 use Rattle.law_confluence.proofs.EquationsGraphForms.{line_below, ports_line_at, InRegion, IsCondAt, HasForm, IsLine, IsBlock, IsShaped}
 
 -- a node line of that number, where there are so many nodes

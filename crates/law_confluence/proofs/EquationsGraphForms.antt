@@ -10,7 +10,7 @@ use Rattle.semantics.specs.declared.graph.Kind.{Kind}
 use Rattle.semantics.specs.declared.graph.Kind.TheVariants.{Lit, Apply1, Apply2, Cond, Enter, Merge, Fetch, Store, Call, StrictCall, Loop}
 use Rattle.semantics.specs.Graph.{Node, Block, Flow, node_at, node_count}
 use Rattle.semantics.specs.Meaning.{arm_of}
-use Rattle.law_confluence.specs.EquationsGiven.{ports_of, ports_line, ports_in}
+use Rattle.law_confluence.specs.EquationsHave.{ports_of, ports_line, ports_in}
 
 -- these sources lie in a region
 abbrev pub InRegion : Block ℕ → Region → List Source → Type 0

@@ -11,13 +11,13 @@ use Rattle.semantics.specs.Meaning.{HadTrueFlag, arm_of, IsCall, IsLoop}
 use Rattle.lemmas.proofs.Permutations.{Within, within_to}
 use Rattle.lemmas.proofs.SliceGet.{get_some}
 use Rattle.law_confluence.proofs.History.{length_ints, stood_at}
-use Rattle.law_confluence.specs.EquationsGiven.{ports_in, ports_at}
+use Rattle.law_confluence.specs.EquationsHave.{ports_in, ports_at}
 use Rattle.law_confluence.proofs.EquationsGraphForms.{HasForm, InRegion}
 use Rattle.law_confluence.proofs.EquationsRunRested.{Rested, Came, IsDueIn, RegionTaken, one_at}
 use Rattle.law_confluence.proofs.EquationsRunUses.{entering_within}
 use Rattle.law_confluence.proofs.EquationsRunRegions.{TakenIn, block_shaped, taken_in}
 use Rattle.law_confluence.proofs.EquationsProgressNodes.{Given, input_fires}
-use Rattle.law_confluence.proofs.EquationsProgressInvocations.{InputsCame, SourcesGiven, all_given, progress, own_sources, invoked_block, call_came}
+use Rattle.law_confluence.proofs.EquationsProgressInvocations.{InputsCame, SourcesHave, all_have, progress, own_sources, invoked_block, call_came}
 use Rattle.law_confluence.proofs.EquationsProgressInvocations.{strict_came, loop_came, next_inputs, turn_flag}
 
 pub record Open (z : Rested) (c : Context) : Type 0 where
@@ -26,11 +26,11 @@ pub record Open (z : Rested) (c : Context) : Type 0 where
   pub came : InputsCame z c block
 
 -- the sources of a node in its own region have values
-pub sources_given : (z : Rested) (c : Context) → IsDueIn z c → (o : Open z c) (n : ℕ) (line : Node ℕ) → node_at o.block n ≡ Some line
-    → InRegion o.block line.region line.sources → RegionTaken z c o.block line.region → SourcesGiven z c line
-sources_given z c due o n line el lie h =
+pub sources_have : (z : Rested) (c : Context) → IsDueIn z c → (o : Open z c) (n : ℕ) (line : Node ℕ) → node_at o.block n ≡ Some line
+    → InRegion o.block line.region line.sources → RegionTaken z c o.block line.region → SourcesHave z c line
+sources_have z c due o n line el lie h =
     own_sources z (suc (length z.run)) (progress z (suc (length z.run))) c o.block o.is_block due (omega arith) o.came n line line.region el
-    (λ m p low t e. all_given z c o.block o.is_block due o.came m p t e) lie h
+    (λ m p low t e. all_have z c o.block o.is_block due o.came m p t e) lie h
 
 pub line_in : (z : Rested) (c : Context) (o : Open z c) (n : ℕ) (line : Node ℕ) → node_of z.flow c n ≡ Some line → node_at o.block n ≡ Some line
 line_in z c o n line e = sym (ap (λ b. node_in b n) o.is_block) ∙ e
@@ -48,13 +48,13 @@ module _ (z : Rested) (c : Context) (due : IsDueIn z c) (o : Open z c) (n : ℕ)
       record {
         block = form.0.0;
         is_block = invoked_block z.flow c o.block n f line form.0.0 o.is_block el (ap callee ek) form.0.1;
-        came = call_came z c o.block o.is_block n line el (sources_given z c due o n line el form.1 region) f form.0.0 ek form.0.2;
+        came = call_came z c o.block o.is_block n line el (sources_have z c due o n line el form.1 region) f form.0.0 ek form.0.2;
       }
   called (StrictCall f) ek h form =
       record {
         block = form.0.0;
         is_block = invoked_block z.flow c o.block n f line form.0.0 o.is_block el (ap callee ek) form.0.1;
-        came = (strict_came z c o.block o.is_block n line el (sources_given z c due o n line el form.1 region) f form.0.0 ek form.0.2).1;
+        came = (strict_came z c o.block o.is_block n line el (sources_have z c due o n line el form.1 region) f form.0.0 ek form.0.2).1;
       }
   called kind ek h form = absurd h
 
@@ -64,7 +64,7 @@ module _ (z : Rested) (c : Context) (due : IsDueIn z c) (o : Open z c) (n : ℕ)
       record {
         block = form.0.0;
         is_block = invoked_block z.flow c o.block n f line form.0.0 o.is_block el (ap callee ek) form.0.1;
-        came = loop_came z c o.block o.is_block n line el (sources_given z c due o n line el form.1 region) f k form.0.0 ek form.0.2;
+        came = loop_came z c o.block o.is_block n line el (sources_have z c due o n line el form.1 region) f k form.0.0 ek form.0.2;
       }
   turned (Loop f k) ek h form (suc t) turn =
       let earlier : IsDueIn z (Turned c n t) = (turn.0, turn.1, turn.2, λ j low. turn.3 j (omega (arith, low))) in
@@ -82,7 +82,7 @@ module _ (z : Rested) (c : Context) (due : IsDueIn z c) (o : Open z c) (n : ℕ)
       again t last turn flag e =
           let same : last.block ≡ to = let f = sym e ∙ is_to t in cc in
           let came : InputsCame z (Turned c n t) to = subst (λ b. InputsCame z (Turned c n t) b) same last.came in
-          let all = all_given z (Turned c n t) to (is_to t) turn came in
+          let all = all_have z (Turned c n t) to (is_to t) turn came in
           let q = turn_flag z (suc (length z.run)) (progress z (suc (length z.run))) c o.block o.is_block due
           (omega arith) o.came n f k line to el ek form.0.1 form.0.2 form.0.3 t all in
           let law = (z.lawful _ flag.2).1 in
@@ -123,7 +123,7 @@ due_open z (Turned c n t) due =
 pub taken_given : (z : Rested) (c : Context) (n p : ℕ) → IsDueIn z c → TakenIn z c n → p < ports_at z.flow c n → Given z c n p
 taken_given z c n p due taken low =
     let o = due_open z c due in
-    all_given z c o.block o.is_block due o.came n p (taken_in z c o.block o.is_block n taken) (subst (λ b. p < ports_in z.flow b n) o.is_block low)
+    all_have z c o.block o.is_block due o.came n p (taken_in z c o.block o.is_block n taken) (subst (λ b. p < ports_in z.flow b n) o.is_block low)
 
 -- and each has an activity, of its first input
 pub active : (z : Rested) (c : Context) → IsDueIn z c → (v : Value) × Contains z.run (Fires c 0 (v ∷ []))

@@ -11,13 +11,13 @@ use Rattle.semantics.specs.declared.graph.Kind.{Kind}
 use Rattle.semantics.specs.declared.graph.Kind.TheVariants.{Lit, Apply1, Apply2, Cond, Enter, Merge, Fetch, Store, Call, StrictCall, Loop}
 use Rattle.semantics.specs.Graph.{Node, Block, Flow, node_at, node_count}
 use Rattle.semantics.specs.Meaning.{Context, Called, Turned, AtNode, AtTurn, Operand, Predicate, Flag, Carried, tagged, Activity, Fires, Gates, Passes, Returns}
-use Rattle.semantics.specs.Meaning.{Turns, taken, Says, Message, Sends, Tells, Enters, Nothing, deed, fired, gated, passed, block_of, block_numbered, callee}
+use Rattle.semantics.specs.Meaning.{Turns, taken, Says, Message, Sends, Steers, Enters, Nothing, deed, fired, gated, passed, block_of, block_numbered, callee}
 use Rattle.semantics.specs.Meaning.{callee_in, callee_of, node_of, node_in, same_side, arm_of, arms_round, ArmsTaken, HadTrueFlag, StartsWhenStrict, IsCall}
 use Rattle.semantics.specs.Meaning.{IsLoop, entering}
 use Rattle.lemmas.proofs.Permutations.{Within, within_to}
 use Rattle.lemmas.proofs.SliceGet.{get_some}
 use Rattle.law_confluence.specs.EquationsContexts.{depth}
-use Rattle.law_confluence.specs.EquationsGiven.{ports_in, ports_line, ports_of, outputs_in}
+use Rattle.law_confluence.specs.EquationsHave.{ports_in, ports_line, ports_of, outputs_in}
 use Rattle.law_confluence.proofs.EquationsGraphForms.{HasForm, InRegion, IsCondAt, IsLine, line_below}
 use Rattle.law_confluence.proofs.EquationsRunRested.{Rested, Came, IsDueIn, RegionTaken}
 use Rattle.law_confluence.proofs.EquationsRunUses.{operand_came, result_came, carried_came, flag_came, said_came, predicate_told, entering_within}
@@ -31,12 +31,12 @@ use Rattle.law_confluence.proofs.EquationsProgressNodes.{gates_line, passes_line
 abbrev pub InputsCame : Rested → Context → Block ℕ → Type 0
 InputsCame z c b = (i : ℕ) → i < b.inputs → (v : Value) × Came z (tagged c (AtNode i) (Operand 0) v)
 
-abbrev pub AllGiven : Rested → Context → Block ℕ → Type 0
-AllGiven z c b = (n p : ℕ) → RegionTaken z c b (arm_of (node_at b n)) → p < ports_in z.flow (Some b) n → Given z c n p
+abbrev pub AllHave : Rested → Context → Block ℕ → Type 0
+AllHave z c b = (n p : ℕ) → RegionTaken z c b (arm_of (node_at b n)) → p < ports_in z.flow (Some b) n → Given z c n p
 
 -- for invocations that lie so deep that the run has fewer than `fuel` activities left
 abbrev pub Progress : Rested → ℕ → Type 0
-Progress z fuel = (c : Context) (b : Block ℕ) → block_of z.flow c ≡ Some b → IsDueIn z c → length z.run < depth c + fuel → InputsCame z c b → AllGiven z c b
+Progress z fuel = (c : Context) (b : Block ℕ) → block_of z.flow c ≡ Some b → IsDueIn z c → length z.run < depth c + fuel → InputsCame z c b → AllHave z c b
 
 pub root_taken : (z : Rested) (c : Context) (b : Block ℕ) → RegionTaken z c b Root
 root_taken z c b = go (node_count b)
@@ -45,7 +45,7 @@ root_taken z c b = go (node_count b)
     go zero = tt
     go (suc d) = tt
 
-pub result_given : (z : Rested) (c : Context) (b : Block ℕ) → block_of z.flow c ≡ Some b → AllGiven z c b → (j : ℕ) (s : Source)
+pub result_given : (z : Rested) (c : Context) (b : Block ℕ) → block_of z.flow c ≡ Some b → AllHave z c b → (j : ℕ) (s : Source)
     → slice_get b.results j ≡ Some s → Given z c s.node s.port
 result_given z c b eb all j s e =
     let r = (block_shaped z c b eb).results j s e in
@@ -59,11 +59,11 @@ side_same false = refl
 
 module _ (z : Rested) (c : Context) (b : Block ℕ) (eb : block_of z.flow c ≡ Some b) where
   pub cond_fires : (k : ℕ) (line : Node ℕ) (q : Value) → node_at b k ≡ Some line → line.kind ≡ Cond → Came z (tagged c (AtNode k) (Operand 0) q)
-      → Within (Fires c k (q ∷ [])) z.run × (deed z.flow (Fires c k (q ∷ [])) ≡ Some (Says (Tells c k q)))
+      → Within (Fires c k (q ∷ [])) z.run × (deed z.flow (Fires c k (q ∷ [])) ≡ Some (Says (Steers c k q)))
   cond_fires k line q el kind h =
       let form = subst (λ kind. HasForm z.flow b line.region kind line.sources) kind ((block_shaped z c b eb).lines k line el).form in
       let e = fires_line z.flow c b eb k line (q ∷ []) el (omega (arith, form.0)) ∙ ap (λ kind. fired z.flow c k kind (q ∷ [])) kind in
-      (z.happens (Fires c k (q ∷ [])) (Says (Tells c k q)) e (h, tt), e)
+      (z.happens (Fires c k (q ∷ [])) (Says (Steers c k q)) e (h, tt), e)
 
   -- an `enter` gets the predicate
   pub predicate_came : (k : ℕ) (cond : Node ℕ) (q : Value) (n : ℕ) (side : Bool) (line : Node ℕ) → node_at b k ≡ Some cond → cond.kind ≡ Cond
@@ -71,7 +71,7 @@ module _ (z : Rested) (c : Context) (b : Block ℕ) (eb : block_of z.flow c ≡ 
       → node_at b n ≡ Some line → line.region ≡ Arm k side → line.kind ≡ Enter → Came z (tagged c (AtNode n) Predicate q)
   predicate_came k cond q n side line ek kc h el er kind =
       let f = cond_fires k cond q ek kc h in
-      said_came z (Fires c k (q ∷ [])) (Says (Tells c k q)) (Tells c k q) f.0 f.1 refl _ (predicate_told z.flow c b k n side line q eb el er kind)
+      said_came z (Fires c k (q ∷ [])) (Says (Steers c k q)) (Steers c k q) f.0 f.1 refl _ (predicate_told z.flow c b k n side line q eb el er kind)
 
   pub gate_happens : (n k : ℕ) (side : Bool) (line : Node ℕ) (v q : Value) → node_at b n ≡ Some line → line.region ≡ Arm k side → line.kind ≡ Enter
       → Came z (tagged c (AtNode n) (Operand 0) v) → Came z (tagged c (AtNode n) Predicate q)
@@ -107,11 +107,11 @@ invoked_block fl c b n f line to eb el ek e =
 
 -- WHERE THE SOURCES OF A NODE HAVE VALUES, the inputs of what it invokes come
 
-abbrev pub SourcesGiven : Rested → Context → Node ℕ → Type 0
-SourcesGiven z c line = (i : ℕ) (s : Source) → slice_get line.sources i ≡ Some s → Given z c s.node s.port
+abbrev pub SourcesHave : Rested → Context → Node ℕ → Type 0
+SourcesHave z c line = (i : ℕ) (s : Source) → slice_get line.sources i ≡ Some s → Given z c s.node s.port
 
 module _ (z : Rested) (c : Context) (b : Block ℕ) (eb : block_of z.flow c ≡ Some b) (n : ℕ) (line : Node ℕ) (el : node_at b n ≡ Some line)
-    (sources : SourcesGiven z c line) where
+    (sources : SourcesHave z c line) where
   -- the token of an operand
   pub operand_token : (i : ℕ) → i < length line.sources → (v : Value) × Came z (tagged c (AtNode n) (Operand i) v)
   operand_token i low =
@@ -166,7 +166,7 @@ module _ (z : Rested) (fuel : ℕ) (ih : Progress z fuel) (c : Context) (b : Blo
   its_line n line el = (block_shaped z c b eb).lines n line el
 
   pub own_sources : (n : ℕ) (line : Node ℕ) (r : Region) → node_at b n ≡ Some line → Before n → InRegion b r line.sources → RegionTaken z c b r
-      → SourcesGiven z c line
+      → SourcesHave z c line
   own_sources n line r el before lie h i s e =
       let early = (its_line n line el).earlier i s e in
       before s.node s.port early.0 (subst (λ r. RegionTaken z c b r) (sym (lie i s e)) h) early.1
@@ -233,7 +233,7 @@ module _ (z : Rested) (fuel : ℕ) (ih : Progress z fuel) (c : Context) (b : Blo
     turn_block t = invoked_block z.flow c b n f line to eb el (ap callee kind) et
 
     -- what a turn does once its results are there
-    pub turn_goes : (t : ℕ) → IsDueIn z (Turned c n t) → AllGiven z (Turned c n t) to → (q : Value)
+    pub turn_goes : (t : ℕ) → IsDueIn z (Turned c n t) → AllHave z (Turned c n t) to → (q : Value)
         → ((j : ℕ) → 1 ≤ j → j ≤ to.inputs → Came z (tagged (Turned c n t) (AtTurn j) Flag q))
         → (j : ℕ) → j < to.inputs → (v : Value) × Came z (tagged (Turned c n t) (AtTurn (suc j)) Flag q)
         × Came z (tagged (Turned c n t) (AtTurn (suc j)) Carried v)
@@ -244,7 +244,7 @@ module _ (z : Rested) (fuel : ℕ) (ih : Progress z fuel) (c : Context) (b : Blo
         let g = result_given z d to (turn_block t) all (suc j) s.0 s.1 in
         (g.0, flags (suc j) (omega arith) (omega (arith, low)), carried_came z c n t to j s.0 g.0 (turn_block t) s.1 g.1)
 
-    pub turn_flag : (t : ℕ) → AllGiven z (Turned c n t) to → (q : Value) × ((j : ℕ) → 1 ≤ j → j ≤ to.inputs → Came z (tagged (Turned c n t) (AtTurn j) Flag q))
+    pub turn_flag : (t : ℕ) → AllHave z (Turned c n t) to → (q : Value) × ((j : ℕ) → 1 ≤ j → j ≤ to.inputs → Came z (tagged (Turned c n t) (AtTurn j) Flag q))
     turn_flag t all =
         let d : Context = Turned c n t in
         let count = (block_shaped z d to (turn_block t)).count in
@@ -256,7 +256,7 @@ module _ (z : Rested) (fuel : ℕ) (ih : Progress z fuel) (c : Context) (b : Blo
         → deed z.flow (Turns c n t (suc j) q v) ≡ Some (Says (if on then Enters (Turned c n (t + 1)) (suc j - 1) (v ∷ []) else Sends c n (suc j - 1) v))
     turn_deed t j q v on e = ap (λ (on : Bool). Some (Says (if on then Enters (Turned c n (t + 1)) (suc j - 1) (v ∷ []) else Sends c n (suc j - 1) v))) e
 
-    pub next_inputs : (t : ℕ) → IsDueIn z (Turned c n t) → AllGiven z (Turned c n t) to → (q : Value)
+    pub next_inputs : (t : ℕ) → IsDueIn z (Turned c n t) → AllHave z (Turned c n t) to → (q : Value)
         → ((j : ℕ) → 1 ≤ j → j ≤ to.inputs → Came z (tagged (Turned c n t) (AtTurn j) Flag q)) → truth q ≡ true → InputsCame z (Turned c n (t + 1)) to
     next_inputs t turned all q flags on j low =
         let g = turn_goes t turned all q flags j low in
@@ -270,7 +270,7 @@ module _ (z : Rested) (fuel : ℕ) (ih : Progress z fuel) (c : Context) (b : Blo
               (entering_within (Turned c n (t + 1)) (suc j - 1) (g.0 ∷ []) 0 g.0 refl)),
         )
 
-    last_given : (t : ℕ) → IsDueIn z (Turned c n t) → AllGiven z (Turned c n t) to → (q : Value)
+    last_given : (t : ℕ) → IsDueIn z (Turned c n t) → AllHave z (Turned c n t) to → (q : Value)
         → ((j : ℕ) → 1 ≤ j → j ≤ to.inputs → Came z (tagged (Turned c n t) (AtTurn j) Flag q)) → truth q ≡ false → (p : ℕ) → p < length line.sources
         → Given z c n p
     last_given t turned all q flags off p low =
@@ -299,7 +299,7 @@ module _ (z : Rested) (fuel : ℕ) (ih : Progress z fuel) (c : Context) (b : Blo
         let q = turn_flag t all in
         go all q.0 q.1 (truth q.0) refl (λ next came. loop_from left (t + 1) next (omega (arith, low)) came p less)
       where
-        go : AllGiven z (Turned c n t) to → (q : Value) → ((j : ℕ) → 1 ≤ j → j ≤ to.inputs → Came z (tagged (Turned c n t) (AtTurn j) Flag q)) → (on : Bool)
+        go : AllHave z (Turned c n t) to → (q : Value) → ((j : ℕ) → 1 ≤ j → j ≤ to.inputs → Came z (tagged (Turned c n t) (AtTurn j) Flag q)) → (on : Bool)
             → truth q ≡ on
             → (IsDueIn z (Turned c n (t + 1)) → InputsCame z (Turned c n (t + 1)) to → Given z c n p) → Given z c n p
         go all q flags true on more =
@@ -321,7 +321,7 @@ module _ (z : Rested) (fuel : ℕ) (ih : Progress z fuel) (c : Context) (b : Blo
   zeroth p low h = let same : 0 ≡ p = omega (arith, low) in subst (λ p. Given z c n p) same h
 
   call_step : (f : ℕ) (line : Node ℕ) → node_at b n ≡ Some line → line.kind ≡ Call f → (to : Block ℕ) → slice_get z.flow.blocks f ≡ Some to
-      → to.inputs ≡ length line.sources → SourcesGiven z c line → TakenIn z c n
+      → to.inputs ≡ length line.sources → SourcesHave z c line → TakenIn z c n
       → (p : ℕ) → p < to.outputs → Given z c n p
   call_step f line el kind to et ins sources taken p low =
       call_results z fuel ih c b eb due bound inputs n f line to el (ap callee kind) et
@@ -329,7 +329,7 @@ module _ (z : Rested) (fuel : ℕ) (ih : Progress z fuel) (c : Context) (b : Blo
       (call_came z c b eb n line el sources f to kind ins) p low
 
   strict_step : (f : ℕ) (line : Node ℕ) → node_at b n ≡ Some line → line.kind ≡ StrictCall f → (to : Block ℕ) → slice_get z.flow.blocks f ≡ Some to
-      → to.inputs ≡ length line.sources → SourcesGiven z c line → TakenIn z c n
+      → to.inputs ≡ length line.sources → SourcesHave z c line → TakenIn z c n
       → (p : ℕ) → p < to.outputs → Given z c n p
   strict_step f line el kind to et ins sources taken p low =
       let came = strict_came z c b eb n line el sources f to kind ins in
@@ -339,7 +339,7 @@ module _ (z : Rested) (fuel : ℕ) (ih : Progress z fuel) (c : Context) (b : Blo
 
   loop_step : (f k : ℕ) (line : Node ℕ) → node_at b n ≡ Some line → line.kind ≡ Loop f k → (to : Block ℕ) → slice_get z.flow.blocks f ≡ Some to
       → to.inputs ≡ length line.sources → to.outputs ≡ length line.sources + 1
-      → SourcesGiven z c line → TakenIn z c n → (p : ℕ) → p < length line.sources → Given z c n p
+      → SourcesHave z c line → TakenIn z c n → (p : ℕ) → p < length line.sources → Given z c n p
   loop_step f k line el kind to et ins outs sources taken p low =
       loop_from z fuel ih c b eb due bound inputs n f k line to el kind et ins outs (suc fuel) 0
       (due, (line, node_is line el, subst IsLoop (sym kind) tt), taken, λ j less. absurd (omega (arith, less)))
@@ -407,5 +407,5 @@ progress z zero c b eb due bound inputs n p h low =
     absurd (omega (arith, bound, s))
 progress z (suc fuel) c b eb due bound inputs n p h low = below z fuel (progress z fuel) c b eb due bound inputs (suc n) n p (omega arith) h low
 
-pub all_given : (z : Rested) (c : Context) (b : Block ℕ) → block_of z.flow c ≡ Some b → IsDueIn z c → InputsCame z c b → AllGiven z c b
-all_given z c b eb due inputs = progress z (suc (length z.run)) c b eb due (omega arith) inputs
+pub all_have : (z : Rested) (c : Context) (b : Block ℕ) → block_of z.flow c ≡ Some b → IsDueIn z c → InputsCame z c b → AllHave z c b
+all_have z c b eb due inputs = progress z (suc (length z.run)) c b eb due (omega arith) inputs

@@ -13,7 +13,7 @@ use Rattle.semantics.specs.Meaning.{Context, AtNode, Operand, tagged, Memory, Ac
 use Rattle.semantics.specs.Meaning.{deed, fired, fired_in, fetched, stored, input_passed, gated, passed, on_node, on_block, block_of, origin_at}
 use Rattle.lemmas.proofs.Permutations.{Within, Each, within_to}
 use Rattle.law_confluence.proofs.ActivityShapes.{showing}
-use Rattle.law_confluence.specs.EquationsGiven.{SaysIn}
+use Rattle.law_confluence.specs.EquationsHave.{SaysIn}
 use Rattle.law_confluence.proofs.EquationsGraphForms.{HasForm}
 use Rattle.law_confluence.proofs.EquationsRunRested.{Rested, Came, GivesIn, tells}
 use Rattle.law_confluence.proofs.EquationsRunUses.{operands_each, operand_came}

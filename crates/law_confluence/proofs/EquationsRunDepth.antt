@@ -9,7 +9,7 @@ use Rattle.lemmas.proofs.Permutations.{Within, Each, each_within, each_weaker, w
 use Rattle.law_confluence.proofs.ActivityDiamond.{deed_of, held_from}
 use Rattle.law_confluence.proofs.History.{spoken}
 use Rattle.law_confluence.proofs.ActivityUses.{Member, tokens_member, entering_member}
-use Rattle.law_confluence.proofs.ActivityRows.{Row, RowFires, RowTells, RowGates, RowQuiet, RowMerges, RowCalls, RowStrict, RowLoops, RowReturns, RowAgain}
+use Rattle.law_confluence.proofs.ActivityRows.{Row, RowFires, RowSteers, RowGates, RowQuiet, RowMerges, RowCalls, RowStrict, RowLoops, RowReturns, RowAgain}
 use Rattle.law_confluence.proofs.ActivityRows.{RowLeaves, rows}
 use Rattle.law_confluence.proofs.HistoryLaws.{IsFlowWell}
 use Rattle.law_confluence.proofs.HistoryGrounds.{strict_inputs}
@@ -32,7 +32,7 @@ module _ (fl : Flow) (w : IsFlowWell fl) (most : ℕ) where
   near a m (RowFires c n vs v ea em class l) h x k =
       let low = first c n vs l (subst (λ a. Each Shallow (taken a)) ea h) in
       let same = ap depth (subst (λ m. Member fl m x) em k).0 in omega arith
-  near a m (RowTells c n v ea em) h x k =
+  near a m (RowSteers c n v ea em) h x k =
       let low = (subst (λ a. Each Shallow (taken a)) ea h).0 in
       let same = ap depth (subst (λ m. Member fl m x) em k).0 in omega arith
   near a m (RowGates c n v b k' ea em class region) h x k =

@@ -10,18 +10,18 @@ use Rattle.semantics.specs.declared.graph.Region.TheVariants.{Arm}
 use Rattle.semantics.specs.declared.graph.Kind.TheVariants.{Enter}
 use Rattle.semantics.specs.Graph.{Node, Block, node_at}
 use Rattle.semantics.specs.Meaning.{Context, Main, Called, Turned, AtNode, AtOut, AtTurn, Operand, Predicate, Flag, Carried, Tagged, tagged, Memory, Activity}
-use Rattle.semantics.specs.Meaning.{Fires, taken, Deed, Says, Reads, Fills, Puts, Message, Sends, Tells, Enters, Nothing, tokens_of, block_of, node_in, start}
+use Rattle.semantics.specs.Meaning.{Fires, taken, Deed, Says, Reads, Fills, Puts, Message, Sends, Steers, Enters, Nothing, tokens_of, block_of, node_in, start}
 use Rattle.semantics.specs.Meaning.{entering}
 use Rattle.lemmas.proofs.Permutations.{Within, Each, each_from, each_within, within_from, within_to}
 use Rattle.law_confluence.proofs.ActivityUses.{UseOf, AsOperand, AsResult, AsFlag, AsCarried, Member, IsTurned, tokens_member}
 use Rattle.law_confluence.proofs.HistoryGrounds.{row_grounded, found_line}
 use Rattle.law_confluence.proofs.HistoryLaws.{Grounded, IsInvoking, source_of}
-use Rattle.law_confluence.proofs.ActivityRows.{Class, Calling, Strict, Looping, class_at, Speaks, Row, RowFires, RowTells, RowGates, RowQuiet, RowMerges}
+use Rattle.law_confluence.proofs.ActivityRows.{Class, Calling, Strict, Looping, class_at, Speaks, Row, RowFires, RowSteers, RowGates, RowQuiet, RowMerges}
 use Rattle.law_confluence.proofs.ActivityRows.{RowCalls, RowStrict, RowLoops, RowReturns, RowAgain, RowLeaves, rows}
-use Rattle.law_confluence.specs.EquationsGiven.{SaysIn, source_line, source_at, result_in, result_at}
+use Rattle.law_confluence.specs.EquationsHave.{SaysIn, source_line, source_at, result_in, result_at}
 use Rattle.law_confluence.specs.Equations.{HasSome, Argument, Result, InputEquation}
 use Rattle.law_confluence.proofs.EquationsRunRested.{Rested, Came, GivesIn, SaidIn, from, took}
-use Rattle.law_confluence.proofs.EquationsRunUses.{Ends, IsTold, predicates_told, entering_back, sent_ends, operand_within}
+use Rattle.law_confluence.proofs.EquationsRunUses.{Ends, IsSteered, predicates_steered, entering_back, sent_ends, operand_within}
 use Rattle.law_confluence.proofs.EquationsGraphForms.{line_past}
 
 abbrev pub HasSomeIn : Rested → Context → Option Source → Value → Type 0
@@ -80,7 +80,7 @@ pub record Entering (z : Rested) (x : Tagged) : Type 0 where
   pub port : x.port ≡ Operand 0
   pub entered : Entered z x.context input x.value
 
-pub record Told (z : Rested) (x : Tagged) : Type 0 where
+pub record SteeredIn (z : Rested) (x : Tagged) : Type 0 where
   pub cond : ℕ
   pub node : ℕ
   pub block : Block ℕ
@@ -150,19 +150,19 @@ module _ (z : Rested) where
       let turn : t + 1 ≡ suc t = omega arith in
       ByTurn c n t (cs ∙ ap (λ t. Turned c n t) turn) (subst₂ (λ j v. Came z (tagged (Turned c n t) (AtTurn j) Carried v)) at (sym ones.1) both.1.0)
   entered a m d from vs (RowFires c n ws w ea em class l) h e i v f = absurd (cc)
-  entered a m d from vs (RowTells c n w ea em) h e i v f = absurd (cc)
+  entered a m d from vs (RowSteers c n w ea em) h e i v f = absurd (cc)
   entered a m d from vs (RowGates c n w b k ea em class region) h e i v f = absurd (cc)
   entered a m d from vs (RowQuiet some em) h e i v f = absurd (cc)
   entered a m d from vs (RowMerges c n j w ea em class) h e i v f = absurd (cc)
   entered a m d from vs (RowReturns c n j w ea em) h e i v f = absurd (cc)
   entered a m d from vs (RowLeaves c n t j b w ea em off) h e i v f = absurd (cc)
 
-  said_used : (x : Tagged) (h : SaidIn z x) → Used z x ⊎ Entering z x ⊎ Told z x
+  said_used : (x : Tagged) (h : SaidIn z x) → Used z x ⊎ Entering z x ⊎ SteeredIn z x
   said_used x h =
       go h.message refl (each_within (Member z.flow h.message) x (tokens_of z.flow h.message) h.inside (tokens_member z.flow h.message))
       (row_grounded z.flow z.well (Came z) z.lawful h.activity h.message (row_of x h) (took_all h.activity h.in_run))
     where
-      go : (y : Message) → h.message ≡ y → Member z.flow y x → Grounded z.flow (Came z) y → Used z x ⊎ Entering z x ⊎ Told z x
+      go : (y : Message) → h.message ≡ y → Member z.flow y x → Grounded z.flow (Came z) y → Used z x ⊎ Entering z x ⊎ SteeredIn z x
       go (Sends c n p v) e k g =
           let gives : GivesIn z c n p v = (h.activity, h.does, within_to h.activity z.run h.in_run, h.is_deed, subst (SaysIn z.state.memory h.does) e h.says) in
           let inside : Within x (tokens_of z.flow (Sends c n p v)) = subst (λ y. Within x (tokens_of z.flow y)) e h.inside in
@@ -177,9 +177,9 @@ module _ (z : Rested) where
             using_it = subst (λ c. UseOf k.2.0 c n p x.statement x.port) (sym k.0) k.2.2;
             ends = subst (λ c. Ends c x.statement) (sym k.0) ends;
           }
-      go (Tells c k v) e m g =
-          let inside : Within x (tokens_of z.flow (Tells c k v)) = subst (λ y. Within x (tokens_of z.flow y)) e h.inside in
-          let t = each_within (IsTold z.flow c k v) x (tokens_of z.flow (Tells c k v)) inside (predicates_told z.flow c k v (block_of z.flow c) refl) in
+      go (Steers c k v) e m g =
+          let inside : Within x (tokens_of z.flow (Steers c k v)) = subst (λ y. Within x (tokens_of z.flow y)) e h.inside in
+          let t = each_within (IsSteered z.flow c k v) x (tokens_of z.flow (Steers c k v)) inside (predicates_steered z.flow c k v (block_of z.flow c) refl) in
           let same = t.5 in
           inr (inr record {
             cond = k;
@@ -215,7 +215,7 @@ module _ (z : Rested) where
       go Nothing e k g = absurd k
 
   -- where a token came from
-  pub origin : (x : Tagged) → Came z x → Used z x ⊎ Entering z x ⊎ Told z x
+  pub origin : (x : Tagged) → Came z x → Used z x ⊎ Entering z x ⊎ SteeredIn z x
   origin x h =
       ⊎_elim (λ k.
       let back = entering_back Main 0 (map (λ (w : ℤ). Int w) z.inputs) x (within_from x (start z.inputs).tokens k) in

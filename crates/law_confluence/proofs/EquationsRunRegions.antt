@@ -8,7 +8,7 @@ use Rattle.semantics.specs.Graph.{Node, Block, node_at, node_count}
 use Rattle.semantics.specs.Meaning.{Context, AtNode, Operand, tagged, ArmsTaken, arm_of, arms_round, arms_at, block_of, block_number, block_numbered}
 use Rattle.law_confluence.proofs.HistoryGrounds.{own_arm, node_class}
 use Rattle.law_confluence.proofs.HistoryLaws.{ArmLaw}
-use Rattle.law_confluence.proofs.ActivityRows.{Telling, class_of, class_node, class_in, class_at, region_in, region_at, region_is_arm}
+use Rattle.law_confluence.proofs.ActivityRows.{Steering, class_of, class_node, class_in, class_at, region_in, region_at, region_is_arm}
 use Rattle.law_confluence.specs.Equations.{TakenAt}
 use Rattle.law_confluence.proofs.EquationsGraphForms.{IsBlock, IsCondAt}
 use Rattle.law_confluence.proofs.EquationsRunRested.{Rested, Came, RegionTaken}
@@ -63,7 +63,7 @@ module _ (z : Rested) (c : Context) (b : Block ℕ) (eb : block_of z.flow c ≡ 
       → RegionTaken z c b (Arm k side)
   inside k side v h e arms = one_more (Came z) c b (node_count b) k side v h e arms
 
-  cond_class : (k : ℕ) → IsCondAt b k → class_node (node_at b k) ≡ Telling
+  cond_class : (k : ℕ) → IsCondAt b k → class_node (node_at b k) ≡ Steering
   cond_class k h = ap class_node h.1 ∙ ap class_of h.2
 
   -- where the law of the innermost arm holds, all arms round it are taken
@@ -72,7 +72,7 @@ module _ (z : Rested) (c : Context) (b : Block ℕ) (eb : block_of z.flow c ≡ 
   arm_taken zero r cond law = tt
   arm_taken (suc depth) Root cond law = tt
   arm_taken (suc depth) (Arm k side) cond law =
-      let class : class_at z.flow c k ≡ Telling = ap (λ o. class_in o k) eb ∙ node_class b k (cond_class k (cond k side refl)) in
+      let class : class_at z.flow c k ≡ Steering = ap (λ o. class_in o k) eb ∙ node_class b k (cond_class k (cond k side refl)) in
       let own = own_arm z.flow z.well (Came z) z.lawful c k 0 law.0 law.1 (λ e. cc) (λ e. cc) in
       let here : ArmLaw (Came z) c (arm_of (node_at b k)) = subst (λ r. ArmLaw (Came z) c r) (ap (λ o. region_in o k) eb ∙ region_is_arm (node_at b k)) own in
       ((law.0, law.1, law.2), arm_taken depth (arm_of (node_at b k)) (λ j s e. (round_at k j s e).1) here)

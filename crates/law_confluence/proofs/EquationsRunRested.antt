@@ -18,7 +18,7 @@ use Rattle.law_confluence.proofs.HistoryRuns.{run_cells}
 use Rattle.law_confluence.proofs.HistoryLaws.{IsFlowWell, Lawful}
 use Rattle.law_confluence.proofs.History.{stood_ever}
 use Rattle.law_confluence.proofs.HistoryDue.{ever_stood}
-use Rattle.law_confluence.specs.EquationsGiven.{SaysIn, Gives}
+use Rattle.law_confluence.specs.EquationsHave.{SaysIn, Gives}
 use Rattle.law_confluence.proofs.EquationsGraphForms.{IsShaped}
 use Rattle.law_confluence.proofs.EquationsRunSaid.{added}
 
@@ -66,15 +66,15 @@ abbrev pub SaidIn : Rested → Tagged → Type 0
 SaidIn z x = Said z.flow z.run z.state.memory x
 
 -- a deed that is done says a message, or puts an output
-pub told : (fl : Flow) (m n : Memory) (d : Deed) (E : Effect) → CellsKept m n → done fl m d ≡ Some E
+pub meant : (fl : Flow) (m n : Memory) (d : Deed) (E : Effect) → CellsKept m n → done fl m d ≡ Some E
     → ((y : Message) × SaysIn n d y × (E.added ≡ tokens_of fl y)) ⊎ ((j : ℕ) × (v : Value) × (d ≡ Puts j v) × (E.added ≡ []))
-told fl m n (Says y) E keeps e = inl (y, refl, added fl m n (Says y) E y keeps e refl)
-told fl m n (Reads c k x) E keeps e =
+meant fl m n (Says y) E keeps e = inl (y, refl, added fl m n (Says y) E y keeps e refl)
+meant fl m n (Reads c k x) E keeps e =
     let f = full_of (m.cells x) (λ v. adds (tokens_of fl (Sends c k 0 v)) m) E e in
     let says : SaysIn n (Reads c k x) (Sends c k 0 f.0) = (f.0, keeps x f.0 f.1, refl) in
     inl (Sends c k 0 f.0, says, added fl m n (Reads c k x) E (Sends c k 0 f.0) keeps e says)
-told fl m n (Fills c k x v) E keeps e = inl (Sends c k 0 v, refl, added fl m n (Fills c k x v) E (Sends c k 0 v) keeps e refl)
-told fl m n (Puts j v) E keeps e = inr (j, v, refl, ap (λ (E : Effect). E.added) (sym (same_Some _ E e)))
+meant fl m n (Fills c k x v) E keeps e = inl (Sends c k 0 v, refl, added fl m n (Fills c k x v) E (Sends c k 0 v) keeps e refl)
+meant fl m n (Puts j v) E keeps e = inr (j, v, refl, ap (λ (E : Effect). E.added) (sym (same_Some _ E e)))
 
 later_said : (fl : Flow) (a : Activity) (run : List Activity) (m : Memory) (x : Tagged) → Said fl run m x → Said fl (a ∷ run) m x
 later_said fl a run m x h = record {
@@ -103,7 +103,7 @@ step_from fl s t u a run q keeps x k =
       inside = subst (λ l. Within x l) y.2 l;
     })
     (λ none. absurd ((subst (λ l. Within x l) none.3 l).1))
-    (told fl s.memory u.memory d.0 q.does keeps d.2))
+    (meant fl s.memory u.memory d.0 q.does keeps d.2))
     (λ l. inl (within_to x s.tokens (within_permutation x (taken a ++ q.rest) s.tokens (IsPermutation-sym _ _ q.takes) (within_right x (taken a) q.rest l))))
     (within_append x q.does.added q.rest there)
 
@@ -125,7 +125,7 @@ run_told fl s t (b ∷ run) r a (zs, inl h) d e =
     let its = deed_of fl s.memory b r.1.does r.1.allowed in
     let same : its.0 ≡ d = same_Some its.0 d (sym its.1 ∙ ap (λ a. deed fl a) (sym h.0) ∙ e) in
     ⊎_elim (λ y. inl (y.0, y.1)) (λ p. inr (p.0, p.1, p.2))
-    (told fl s.memory t.memory d r.1.does (run_cells fl s t (b ∷ run) r) (subst (λ d. done fl s.memory d ≡ Some r.1.does) same its.2))
+    (meant fl s.memory t.memory d r.1.does (run_cells fl s t (b ∷ run) r) (subst (λ d. done fl s.memory d ≡ Some r.1.does) same its.2))
 run_told fl s t (b ∷ run) r a (zs, inr h) d e = run_told fl r.0 t run r.2 a (h.0, h.2) d e
 
 module _ (z : Rested) where

@@ -11,7 +11,7 @@ use Rattle.law_confluence.proofs.ActivityDeeds.{CellsKept, full_of, empty_of}
 use Rattle.law_confluence.proofs.ActivityDiamond.{deed_of}
 use Rattle.law_confluence.proofs.HistoryRuns.{run_cells}
 use Rattle.law_confluence.proofs.History.{stood_at}
-use Rattle.law_confluence.specs.EquationsGiven.{SaysIn}
+use Rattle.law_confluence.specs.EquationsHave.{SaysIn}
 
 -- what is added is what is said at the end, where the cells that were full stayed as they were
 pub added : (fl : Flow) (m n : Memory) (d : Deed) (E : Effect) (y : Message) → CellsKept m n → done fl m d ≡ Some E → SaysIn n d y → E.added ≡ tokens_of fl y

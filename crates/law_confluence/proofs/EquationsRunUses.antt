@@ -10,14 +10,14 @@ use Rattle.semantics.specs.declared.graph.Kind.{Kind}
 use Rattle.semantics.specs.declared.graph.Kind.TheVariants.{Enter}
 use Rattle.semantics.specs.Graph.{Node, Block, Flow, node_at}
 use Rattle.semantics.specs.Meaning.{Context, Main, Called, Turned, Statement, AtNode, AtOut, AtTurn, Operand, Predicate, Flag, Carried, Tagged, tagged}
-use Rattle.semantics.specs.Meaning.{Activity, Deed, Message, Sends, Tells, deed, tokens_of, positions, uses_at, uses_in, result_uses, turns_from, sent_in}
+use Rattle.semantics.specs.Meaning.{Activity, Deed, Message, Sends, Steers, deed, tokens_of, positions, uses_at, uses_in, result_uses, turns_from, sent_in}
 use Rattle.semantics.specs.Meaning.{block_of, entering, is_enter_of, predicates_from, predicates_in, operands_from}
 use Rattle.lemmas.proofs.Permutations.{Within, Each, put_first, put_later, within_map, within_flat_map, within_left, within_right, within_from, within_to}
 use Rattle.lemmas.proofs.Permutations.{each_from, each_append, each_map, each_flat_map}
 use Rattle.lemmas.proofs.Contains.{contains_get}
 use Rattle.semantics.proofs.Lines.{line_at}
 use Rattle.law_confluence.proofs.ActivityUses.{IsSource, Use, IsTurned, flags_sent, predicates_each}
-use Rattle.law_confluence.specs.EquationsGiven.{SaysIn}
+use Rattle.law_confluence.specs.EquationsHave.{SaysIn}
 use Rattle.law_confluence.proofs.EquationsRunRested.{Rested, Came, GivesIn}
 use Rattle.law_confluence.proofs.EquationsRunSaid.{said_stood}
 use Rattle.law_confluence.proofs.EquationsGraphForms.{line_past}
@@ -190,7 +190,7 @@ predicates_within c k v m (x ∷ nodes) (suc i) line e h =
 
 pub predicate_told : (fl : Flow) (c : Context) (b : Block ℕ) (k m : ℕ) (side : Bool) (line : Node ℕ) (v : Value) → block_of fl c ≡ Some b
     → node_at b m ≡ Some line → line.region ≡ Arm k side → line.kind ≡ Enter
-    → Within (tagged c (AtNode m) Predicate v) (tokens_of fl (Tells c k v))
+    → Within (tagged c (AtNode m) Predicate v) (tokens_of fl (Steers c k v))
 predicate_told fl c b k m side line v eb el er ek =
     let past = line_past b m line el in
     let at : b.inputs + (m - b.inputs) ≡ m = omega (arith, past.0) in
@@ -199,8 +199,8 @@ predicate_told fl c b k m side line v eb el er ek =
     (predicates_within c k v b.inputs b.nodes (m - b.inputs) line past.1 (enter_test k line.region side line.kind er ek)))
 
 -- and nothing else does
-abbrev pub IsTold : Flow → Context → ℕ → Value → Tagged → Type 0
-IsTold fl c k v x =
+abbrev pub IsSteered : Flow → Context → ℕ → Value → Tagged → Type 0
+IsSteered fl c k v x =
     (b : Block ℕ) × (m : ℕ) × (line : Node ℕ) × (side : Bool) × (block_of fl c ≡ Some b) × (x ≡ tagged c (AtNode m) Predicate v) × (node_at b m ≡ Some line)
     × (line.region ≡ Arm k side) × (line.kind ≡ Enter)
 
@@ -209,10 +209,11 @@ enter_is k (Arm c side) Enter e = let same = eqb-true c k e in (side, cc, refl)
 enter_is k Root kind e = cc
 enter_is k r kind e = cc
 
-pub predicates_told : (fl : Flow) (c : Context) (k : ℕ) (v : Value) (o : Option (Block ℕ)) → block_of fl c ≡ o → Each (IsTold fl c k v) (predicates_in o c k v)
-predicates_told fl c k v None e = tt
-predicates_told fl c k v (Some b) e =
-    predicates_each (IsTold fl c k v) c k v b.inputs b.nodes
+pub predicates_steered : (fl : Flow) (c : Context) (k : ℕ) (v : Value) (o : Option (Block ℕ)) → block_of fl c ≡ o
+    → Each (IsSteered fl c k v) (predicates_in o c k v)
+predicates_steered fl c k v None e = tt
+predicates_steered fl c k v (Some b) e =
+    predicates_each (IsSteered fl c k v) c k v b.inputs b.nodes
     (λ i line f g. let t = enter_is k line.region line.kind g in (b, b.inputs + i, line, t.0, e, refl, line_at b i line f, t.1, t.2))
 
 -- INPUTS OF AN INVOCATION

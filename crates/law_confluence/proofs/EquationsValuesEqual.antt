@@ -18,7 +18,7 @@ use Rattle.lemmas.proofs.Lists.{one_element}
 use Rattle.law_confluence.proofs.ActivityKeys.{Together, mode_of, mode_node, mode_in, fires_mode}
 use Rattle.law_confluence.proofs.HistoryGrounds.{mode_line}
 use Rattle.law_confluence.proofs.ActivityRows.{Plain, Gate, Join, Looping, class_of, class_node, class_in}
-use Rattle.law_confluence.specs.EquationsGiven.{SaysIn, stores_of}
+use Rattle.law_confluence.specs.EquationsHave.{SaysIn, stores_of}
 use Rattle.law_confluence.specs.Equations.{Loops, Fetched, Storing, LineEquation, InputEquation, NodeEquation, BlockEquation, Equation}
 use Rattle.law_confluence.proofs.EquationsGraphForms.{HasForm}
 use Rattle.law_confluence.proofs.EquationsRunRested.{Rested, Came, GivesIn, IsDueIn}

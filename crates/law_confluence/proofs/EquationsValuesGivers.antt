@@ -15,10 +15,10 @@ use Rattle.semantics.specs.Meaning.{Passes, Returns, Turns, taken, Deed, Says, R
 use Rattle.law_confluence.specs.Outcome.{SameTag}
 use Rattle.lemmas.proofs.Permutations.{Within, Each, each_from, within_left, within_flat_map, within_from, put_first}
 use Rattle.law_confluence.proofs.ActivityKeys.{same_activity}
-use Rattle.law_confluence.proofs.ActivityRows.{Class, Plain, Telling, Gate, Join, Calling, Strict, Looping, Absent, class_of, class_node, class_in, class_at}
-use Rattle.law_confluence.proofs.ActivityRows.{region_node, region_at, Row, RowFires, RowTells, RowGates, RowQuiet, RowMerges, RowCalls, RowStrict, RowLoops}
+use Rattle.law_confluence.proofs.ActivityRows.{Class, Plain, Steering, Gate, Join, Calling, Strict, Looping, Absent, class_of, class_node, class_in, class_at}
+use Rattle.law_confluence.proofs.ActivityRows.{region_node, region_at, Row, RowFires, RowSteers, RowGates, RowQuiet, RowMerges, RowCalls, RowStrict, RowLoops}
 use Rattle.law_confluence.proofs.ActivityRows.{RowReturns, RowAgain, RowLeaves, rows, region_is_arm}
-use Rattle.law_confluence.specs.EquationsGiven.{SaysIn}
+use Rattle.law_confluence.specs.EquationsHave.{SaysIn}
 use Rattle.law_confluence.proofs.EquationsGraphForms.{IsCondAt, HasForm, line_past}
 use Rattle.law_confluence.proofs.EquationsRunRested.{Rested, Came, GivesIn, IsDueIn, took, one, one_at}
 use Rattle.law_confluence.proofs.HistoryLaws.{ArmLaw}
@@ -35,7 +35,7 @@ Gave z c n p v Join = (i : ℕ) × Within (Passes c n i v) z.run × (p ≡ 0)
 Gave z c n p v Calling = Within (Returns c n p v) z.run
 Gave z c n p v Strict = Within (Returns c n p v) z.run
 Gave z c n p v Looping = (t : ℕ) × (q : Value) × Within (Turns c n t (p + 1) q v) z.run × (truth q ≡ false)
-Gave z c n p v Telling = ⊥
+Gave z c n p v Steering = ⊥
 Gave z c n p v Absent = ⊥
 
 says_one : (m : Memory) (d : Deed) (x y : Message) → SaysIn m d x → SaysIn m d y → x ≡ y
@@ -125,7 +125,7 @@ module _ (z : Rested) where
       let low = law.1.2 in
       let js : j ≡ p + 1 = omega (arith, ps, low) in
       subst (λ k. Gave z c n p v k) (sym law.0.1) (t, q, subst (λ j. Within (Turns c n t j q v) z.run) js mine, off)
-  giver a d m c n p v h e says (RowTells c' n' v' ea em) es = absurd (cc)
+  giver a d m c n p v h e says (RowSteers c' n' v' ea em) es = absurd (cc)
   giver a d m c n p v h e says (RowQuiet some em) es = absurd (cc)
   giver a d m c n p v h e says (RowCalls c' n' i v' ea em class) es = absurd (cc)
   giver a d m c n p v h e says (RowStrict c' n' vs ea em class mode) es = absurd (cc)
@@ -248,7 +248,7 @@ module _ (z : Rested) where
       let y = in_turns c n g.0 (p + 1) g.1 w g.2 in
       let same = last_turn c n h.0 g.0 (p + 1) (p + 1) h.1 g.1 x.0 y.0 h.3 g.3 in
       one_at z (Turned c n g.0) (AtTurn (p + 1)) Carried v w (subst (λ t. Came z (tagged (Turned c n t) (AtTurn (p + 1)) Carried v)) same x.1) y.1
-  same_gave c n p v w Telling e h g = absurd h
+  same_gave c n p v w Steering e h g = absurd h
   same_gave c n p v w Absent e h g = absurd h
 
   pub one_value : (c : Context) (n p : ℕ) (v w : Value) → GivesIn z c n p v → GivesIn z c n p w → v ≡ w

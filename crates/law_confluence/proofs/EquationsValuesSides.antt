@@ -9,7 +9,7 @@ use Rattle.semantics.specs.declared.graph.Kind.TheVariants.{Cond}
 use Rattle.semantics.specs.Graph.{Node, Block, Flow, node_at, node_count}
 use Rattle.semantics.specs.Meaning.{Context, AtNode, Operand, Tagged, tagged, State, Activity, Run, Stood, ArmsTaken, arm_of, arms_round, arms_at, block_of}
 use Rattle.semantics.specs.Meaning.{node_of, start}
-use Rattle.law_confluence.specs.EquationsGiven.{source_at}
+use Rattle.law_confluence.specs.EquationsHave.{source_at}
 use Rattle.law_confluence.specs.Equations.{IsDue, TakenAt, HasSome, Argument}
 use Rattle.law_confluence.specs.EquationsSettled.{Settled}
 

@@ -13,9 +13,9 @@ use Rattle.lemmas.proofs.Permutations.{Within}
 use Rattle.lemmas.proofs.SliceGet.{get_some}
 use Rattle.law_confluence.proofs.HistoryGrounds.{own_arm, node_class}
 use Rattle.law_confluence.proofs.HistoryLaws.{ArmLaw}
-use Rattle.law_confluence.proofs.ActivityRows.{Class, Plain, Telling, Gate, Join, Calling, Strict, Looping, Absent, class_of, class_node, class_in, class_at}
+use Rattle.law_confluence.proofs.ActivityRows.{Class, Plain, Steering, Gate, Join, Calling, Strict, Looping, Absent, class_of, class_node, class_in, class_at}
 use Rattle.law_confluence.proofs.ActivityRows.{region_node, region_in, region_at}
-use Rattle.law_confluence.specs.EquationsGiven.{result_in, ports_of, ports_line, ports_in, ports_at, outputs_in}
+use Rattle.law_confluence.specs.EquationsHave.{result_in, ports_of, ports_line, ports_in, ports_at, outputs_in}
 use Rattle.law_confluence.specs.EquationsSettled.{Decides}
 use Rattle.law_confluence.proofs.EquationsGraphForms.{HasForm, ports_line_at}
 use Rattle.law_confluence.proofs.EquationsRunRested.{Rested, Came, GivesIn, IsDueIn, RegionTaken, one_at}
@@ -23,7 +23,7 @@ use Rattle.law_confluence.proofs.EquationsRunUses.{operand_came}
 use Rattle.law_confluence.proofs.EquationsRunOrigins.{HasSomeIn, ResultIn, took_all, result_from, has_some, argument_is}
 use Rattle.law_confluence.proofs.EquationsRunRegions.{TakenIn, block_shaped, taken_in, in_taken, lawful_taken}
 use Rattle.law_confluence.proofs.EquationsProgressInvocations.{invoked_block, merge_form}
-use Rattle.law_confluence.proofs.EquationsProgressDues.{due_open, sources_given, line_in}
+use Rattle.law_confluence.proofs.EquationsProgressDues.{due_open, sources_have, line_in}
 use Rattle.law_confluence.proofs.EquationsValuesGivers.{Gave, gave, in_turns, merge_side, class_found, joined_line}
 
 module _ (z : Rested) where
@@ -38,7 +38,7 @@ module _ (z : Rested) where
   due_by c n p v Calling h = let due : IsDueIn z (Called c n) = z.due _ (took_all z (Returns c n p v) h).0 in due.0
   due_by c n p v Strict h = let due : IsDueIn z (Called c n) = z.due _ (took_all z (Returns c n p v) h).0 in due.0
   due_by c n p v Looping h = let due : IsDueIn z (Turned c n h.0) = z.due _ (in_turns z c n h.0 (p + 1) h.1 v h.2).0 in due.0
-  due_by c n p v Telling h = absurd h
+  due_by c n p v Steering h = absurd h
   due_by c n p v Absent h = absurd h
 
   pub silent_invocations : (c : Context) (n p : ℕ) (v : Value) → GivesIn z c n p v → IsDueIn z c
@@ -72,14 +72,14 @@ module _ (z : Rested) where
       let form = subst (λ kind. HasForm z.flow l.block l.line.region kind l.line.sources) l.kind
       ((block_shaped z c l.block l.is_block).lines n l.line l.is_line).form in
       let f = merge_form z.flow l.block l.line.region l.cond l.line.sources form in
-      let class : class_at z.flow c l.cond ≡ Telling = ap (λ o. class_in o l.cond) l.is_block
+      let class : class_at z.flow c l.cond ≡ Steering = ap (λ o. class_in o l.cond) l.is_block
       ∙ node_class l.block l.cond (ap class_node side.3.1 ∙ ap class_of side.3.2) in
       let round = taken_in z c l.block l.is_block l.cond (operand_taken c l.cond 0 side.0 side.1 (λ e. cc) (λ e. cc)) in
       in_taken z c l.block l.is_block n (subst (λ r. RegionTaken z c l.block r) (f.4 ∙ ap arm_of (sym l.is_line)) round)
   taken_by c n p v Calling e h = let due : IsDueIn z (Called c n) = z.due _ (took_all z (Returns c n p v) h).0 in due.2
   taken_by c n p v Strict e h = let due : IsDueIn z (Called c n) = z.due _ (took_all z (Returns c n p v) h).0 in due.2
   taken_by c n p v Looping e h = let due : IsDueIn z (Turned c n h.0) = z.due _ (in_turns z c n h.0 (p + 1) h.1 v h.2).0 in due.2
-  taken_by c n p v Telling e h = absurd h
+  taken_by c n p v Steering e h = absurd h
   taken_by c n p v Absent e h = absurd h
 
   pub silent_arms : (c : Context) (n p : ℕ) (v : Value) → GivesIn z c n p v → TakenIn z c n
@@ -173,7 +173,7 @@ module _ (z : Rested) where
   port_by c n p v Calling e h = called_port c n p v Calling e (inl refl) h
   port_by c n p v Strict e h = called_port c n p v Strict e (inr refl) h
   port_by c n p v Looping e h = loop_port c n p v e h
-  port_by c n p v Telling e h = absurd h
+  port_by c n p v Steering e h = absurd h
   port_by c n p v Absent e h = absurd h
 
   pub silent_ports : (c : Context) (n p : ℕ) (v : Value) → GivesIn z c n p v → p < ports_at z.flow c n
@@ -188,7 +188,7 @@ module _ (z : Rested) where
       let form = subst (λ kind. HasForm z.flow o.block line.region kind line.sources) kind ((block_shaped z c o.block o.is_block).lines k line el).form in
       let region = subst (λ l. RegionTaken z c o.block (arm_of l)) el (taken_in z c o.block o.is_block k taken) in
       let s = get_some line.sources 0 (omega (arith, form.0)) in
-      let g = sources_given z c due o k line el form.1 region 0 s.0 s.1 in
+      let g = sources_have z c due o k line el form.1 region 0 s.0 s.1 in
       let came = operand_came z c o.block k 0 line s.0 g.0 o.is_block el s.1 g.1 in
       record {
         value = g.0;

@@ -7,7 +7,7 @@ use Rattle.std.proofs.lemmas.Option.{same_Some}
 use Rattle.tags.specs.declared.value.Value.TheVariants.{Int}
 use Rattle.semantics.specs.Graph.{Block, Flow}
 use Rattle.semantics.specs.Meaning.{Main, Tagged, State, Memory, Effect, Activity, taken, Deed, Says, Reads, Fills, Puts, done, adds, with_cell, Message, Sends}
-use Rattle.semantics.specs.Meaning.{Tells, Enters, Nothing, tokens_of, block_of, Step, Same, Run, Stood, Reached, AtRest, start}
+use Rattle.semantics.specs.Meaning.{Steers, Enters, Nothing, tokens_of, block_of, Step, Same, Run, Stood, Reached, AtRest, start}
 use Rattle.lemmas.proofs.Permutations.{Within, Each, each_from, each_within, each_weaker, spread_append, spread_append_back, spread_permutation}
 use Rattle.lemmas.proofs.Permutations.{within_permutation, within_append, within_left, within_right, within_from, within_to, permutation_exchange}
 use Rattle.law_confluence.proofs.ActivityKeys.{Differ, Unique, Held, differ_turn, unique_same}
@@ -79,7 +79,7 @@ spoken fl m (Puts j v) E e = (Nothing, refl, ap (λ (E : Effect). E.added) (sym 
 
 grounded_more : (fl : Flow) (E F : Tokens) → ((t : Tagged) → E t → F t) → (m : Message) → Grounded fl E m → Grounded fl F m
 grounded_more fl E F more (Sends c n p v) g = (context_more fl E F more c g.0, arm_more fl E F more c _ g.1)
-grounded_more fl E F more (Tells c k v) g = (context_more fl E F more c g.0, more _ g.1)
+grounded_more fl E F more (Steers c k v) g = (context_more fl E F more c g.0, more _ g.1)
 grounded_more fl E F more (Enters c from vs) g = ((λ l. context_more fl E F more c (g.0 l)), g.1)
 grounded_more fl E F more Nothing g = tt
 

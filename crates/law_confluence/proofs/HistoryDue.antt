@@ -21,8 +21,8 @@ use Rattle.law_confluence.proofs.ActivityKeys.{unique_same}
 use Rattle.law_confluence.proofs.ActivityDiamond.{held_from, deed_of}
 use Rattle.law_confluence.proofs.History.{HistoryOf, Fits, at_start, spoken, history_moved, step_history, start_history, once, run_lawful, stood_ever}
 use Rattle.law_confluence.proofs.ActivityUses.{Member, tokens_member, entering_member}
-use Rattle.law_confluence.proofs.ActivityRows.{Class, Telling, Calling, Strict, Looping, class_of, class_node, class_in, class_at, region_node, region_in}
-use Rattle.law_confluence.proofs.ActivityRows.{region_at, Row, RowFires, RowTells, RowGates, RowQuiet, RowMerges, RowCalls, RowStrict, RowLoops, RowReturns}
+use Rattle.law_confluence.proofs.ActivityRows.{Class, Steering, Calling, Strict, Looping, class_of, class_node, class_in, class_at, region_node, region_in}
+use Rattle.law_confluence.proofs.ActivityRows.{region_at, Row, RowFires, RowSteers, RowGates, RowQuiet, RowMerges, RowCalls, RowStrict, RowLoops, RowReturns}
 use Rattle.law_confluence.proofs.ActivityRows.{RowAgain, RowLeaves, rows}
 use Rattle.law_confluence.proofs.HistoryLaws.{IsFlowWell, IsInvoking, well_at, Tokens, HasArgument, ContextLaw, ArmLaw, Lawful}
 use Rattle.law_confluence.proofs.HistoryGrounds.{own_arm, called_arm, found_line, node_class}
@@ -61,7 +61,7 @@ module _ (fl : Flow) (E : Tokens) (all : (t : Tagged) → E t → Lawful fl E t)
   row_strict a m (RowFires c n [] v ea em class l) own h x k = absurd (omega arith)
   row_strict a m (RowFires c n (v' ∷ vs) v ea em class l) own h x k =
       sends_strict c n 0 v x (strict _ (subst (λ a. Each E (taken a)) ea h).0) (subst (λ m. Member fl m x) em k)
-  row_strict a m (RowTells c n v ea em) own h x k =
+  row_strict a m (RowSteers c n v ea em) own h x k =
       let y = subst (λ m. Member fl m x) em k in
       subst (StrictDone fl A) (sym y.0) (strict _ (subst (λ a. Each E (taken a)) ea h).0)
   row_strict a m (RowGates c n v b k' ea em class region) own h x k =
@@ -154,10 +154,10 @@ module _ (fl : Flow) (w : IsFlowWell fl) (E : Tokens) (all : (t : Tagged) → E 
     (run : List Activity) (stood : Tagged → Type 0) (to : (t : Tagged) → E t → stood t)
     (strict : (t : Tagged) → E t → StrictDone fl (λ a. Contains run a) t.context) where
   region_cond : (c : Context) (b : Block ℕ) → block_of fl c ≡ Some b → (m k : ℕ) (side : Bool) → region_node (node_at b m) ≡ Arm k side
-      → class_node (node_at b k) ≡ Telling
+      → class_node (node_at b k) ≡ Steering
   region_cond c b eb m k side e = go (node_at b m) refl e
     where
-      go : (o : Option (Node ℕ)) → node_at b m ≡ o → region_node o ≡ Arm k side → class_node (node_at b k) ≡ Telling
+      go : (o : Option (Node ℕ)) → node_at b m ≡ o → region_node o ≡ Arm k side → class_node (node_at b k) ≡ Steering
       go None f g = cc
       go (Some node) f g = (well_at fl w c b eb m node f).round k side g
 
@@ -166,7 +166,7 @@ module _ (fl : Flow) (w : IsFlowWell fl) (E : Tokens) (all : (t : Tagged) → E 
       → (r : Region) → region_node (node_at b m) ≡ r → ArmLaw E c r → ArmsTaken stood c (arms_round (suc depth) b r)
   one_arm c b eb depth m next Root e law = tt
   one_arm c b eb depth m next (Arm k side) e law =
-      let telling : class_at fl c k ≡ Telling = ap (λ o. class_in o k) eb ∙ node_class b k (region_cond c b eb m k side e) in
+      let steering : class_at fl c k ≡ Steering = ap (λ o. class_in o k) eb ∙ node_class b k (region_cond c b eb m k side e) in
       ((law.0, to _ law.1, law.2), next k (subst (λ r. ArmLaw E c r) (ap (λ o. region_in o k) eb) (own_arm fl w E all c k 0 law.0 law.1 (λ e. cc) (λ e. cc))))
 
   arms : (depth : ℕ) (c : Context) (b : Block ℕ) → block_of fl c ≡ Some b → (m : ℕ) → ArmLaw E c (region_node (node_at b m))

@@ -13,8 +13,8 @@ use Rattle.semantics.specs.Meaning.{Context, Turned, AtNode, AtTurn, Operand, Pr
 use Rattle.semantics.specs.Meaning.{callee_of, callee_in, block_numbered, block_of, Message}
 use Rattle.lemmas.proofs.Permutations.{Each}
 use Rattle.law_confluence.proofs.ActivityKeys.{Together, mode_of, mode_node, mode_in, mode_at}
-use Rattle.law_confluence.proofs.ActivityRows.{Class, Plain, Telling, Gate, Join, Calling, Strict, Looping, class_of, class_node, class_in, class_at}
-use Rattle.law_confluence.proofs.ActivityRows.{region_node, region_in, region_at, Row, RowFires, RowTells, RowGates, RowQuiet, RowMerges, RowCalls, RowStrict}
+use Rattle.law_confluence.proofs.ActivityRows.{Class, Plain, Steering, Gate, Join, Calling, Strict, Looping, class_of, class_node, class_in, class_at}
+use Rattle.law_confluence.proofs.ActivityRows.{region_node, region_in, region_at, Row, RowFires, RowSteers, RowGates, RowQuiet, RowMerges, RowCalls, RowStrict}
 use Rattle.law_confluence.proofs.ActivityRows.{RowLoops, RowReturns, RowAgain, RowLeaves}
 use Rattle.law_confluence.proofs.HistoryLaws.{IsFlowWell, IsInvoking, well_at, Tokens, HasArgument, HasFlag, ContextLaw, ArmLaw, LineLaw, Lawful, Grounded}
 
@@ -39,10 +39,10 @@ input_class b n h = ap (λ (t : Bool). if t then Plain else class_node (node_at 
 input_region : (b : Block ℕ) (n : ℕ) → n < b.inputs → region_in (Some b) n ≡ Root
 input_region b n h = ap (λ (t : Bool). region_node (if t then None else slice_get b.nodes (n - b.inputs))) (lt-ltb n b.inputs h)
 
-pub node_class : (b : Block ℕ) (n : ℕ) → class_node (node_at b n) ≡ Telling → class_in (Some b) n ≡ Telling
+pub node_class : (b : Block ℕ) (n : ℕ) → class_node (node_at b n) ≡ Steering → class_in (Some b) n ≡ Steering
 node_class b n e = go (nat_lt n b.inputs) (slice_get b.nodes (n - b.inputs)) e
   where
-    go : (t : Bool) (x : Option (Node ℕ)) → class_node (if t then None else x) ≡ Telling → (if t then Plain else class_node (if t then None else x)) ≡ Telling
+    go : (t : Bool) (x : Option (Node ℕ)) → class_node (if t then None else x) ≡ Steering → (if t then Plain else class_node (if t then None else x)) ≡ Steering
     go true x e = cc
     go false x e = e
 
@@ -132,7 +132,7 @@ module _ (fl : Flow) (w : IsFlowWell fl) (E : Tokens) (all : (t : Tagged) → E 
       let l = x.5 in
       let same : l.0 ≡ x.1 = let p = sym l.2 ∙ x.3 in cc in
       let get = subst (λ (node : Node ℕ). slice_get node.sources i ≡ Some l.1) same l.3 in
-      let telling : class_at fl c k ≡ Telling = ap (λ o. class_in o k) x.2 ∙ node_class b k line.1 in
+      let steering : class_at fl c k ≡ Steering = ap (λ o. class_in o k) x.2 ∙ node_class b k line.1 in
       let from : (side : Bool) → region_node (node_at b l.1.node) ≡ Arm k side → ArmLaw E c (region_at fl c n) =
       λ side e.
       let arm : ArmLaw E c (Arm k side) = subst (λ r. ArmLaw E c r) e l.4 in
@@ -181,7 +181,7 @@ module _ (fl : Flow) (w : IsFlowWell fl) (E : Tokens) (all : (t : Tagged) → E 
   row_grounded a m (RowFires c n vs v ea em class l) h =
       let one = first_operand c n vs l (subst (λ a. Each E (taken a)) ea h) in
       subst (λ m. Grounded fl E m) (sym em) ((all _ one.1).0, own_arm c n 0 one.0 one.1 (λ e. cc) (λ e. cc))
-  row_grounded a m (RowTells c n v ea em) h =
+  row_grounded a m (RowSteers c n v ea em) h =
       let one = (subst (λ a. Each E (taken a)) ea h).0 in
       subst (λ m. Grounded fl E m) (sym em) ((all _ one).0, one)
   row_grounded a m (RowGates c n v b k ea em class region) h =

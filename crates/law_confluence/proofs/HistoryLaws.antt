@@ -10,10 +10,10 @@ use Rattle.semantics.specs.declared.graph.Source.{Source}
 use Rattle.semantics.specs.declared.graph.Kind.TheVariants.{Store}
 use Rattle.semantics.specs.Graph.{Node, Block, Flow, node_at}
 use Rattle.semantics.specs.Meaning.{Context, Main, Called, Turned, Statement, AtNode, AtTurn, Port, Operand, Predicate, Flag, Tagged, tagged, callee}
-use Rattle.semantics.specs.Meaning.{block_numbered, block_number, block_of, Message, Sends, Tells, Enters, Nothing, tokens_of}
+use Rattle.semantics.specs.Meaning.{block_numbered, block_number, block_of, Message, Sends, Steers, Enters, Nothing, tokens_of}
 use Rattle.lemmas.proofs.Permutations.{Within}
 use Rattle.law_confluence.proofs.ActivityUses.{IsSource, UseOf, AsOperand, AsResult, AsFlag, AsCarried, Member, flags_sent}
-use Rattle.law_confluence.proofs.ActivityRows.{Class, Telling, Gate, Join, Calling, Strict, Looping, class_of, class_node, class_at, region_node, region_in}
+use Rattle.law_confluence.proofs.ActivityRows.{Class, Steering, Gate, Join, Calling, Strict, Looping, class_of, class_node, class_at, region_node, region_in}
 use Rattle.law_confluence.proofs.ActivityRows.{region_at}
 
 -- WELL-FORMED FLOWS: what the graph's conditions leave to a flow
@@ -25,11 +25,11 @@ IsInvoking k = ⊥
 
 pub record IsLineWell (fl : Flow) (b : Block ℕ) (node : Node ℕ) : Type 0 where
   -- it lies in the root, or in an arm of a conditional
-  pub round : (k : ℕ) (side : Bool) → node.region ≡ Arm k side → class_node (node_at b k) ≡ Telling
+  pub round : (k : ℕ) (side : Bool) → node.region ≡ Arm k side → class_node (node_at b k) ≡ Steering
   pub plain : (class_of node.kind ≡ Gate → ⊥) → (class_of node.kind ≡ Join → ⊥) → (i : ℕ) (s : Source) → slice_get node.sources i ≡ Some s
       → region_node (node_at b s.node) ≡ node.region
   pub stores : (a : ℕ) → node.kind ≡ Store a → length node.sources ≡ 2
-  pub joins : class_of node.kind ≡ Join → (k : ℕ) × (class_node (node_at b k) ≡ Telling) × (region_node (node_at b k) ≡ node.region)
+  pub joins : class_of node.kind ≡ Join → (k : ℕ) × (class_node (node_at b k) ≡ Steering) × (region_node (node_at b k) ≡ node.region)
       × ((i : ℕ) (s : Source) → slice_get node.sources i ≡ Some s
       → ((i ≡ 0) × (region_node (node_at b s.node) ≡ Arm k true)) ⊎ ((i ≡ 1) × (region_node (node_at b s.node) ≡ Arm k false)))
   pub invokes : (f : ℕ) → callee node.kind ≡ Some f → (b' : Block ℕ) × (slice_get fl.blocks f ≡ Some b') × (b'.inputs ≡ length node.sources) × (0 < b'.inputs)
@@ -110,7 +110,7 @@ module _ (fl : Flow) (E F : Tokens) (more : (t : Tagged) → E t → F t) where
 
 abbrev pub Grounded : Flow → Tokens → Message → Type 0
 Grounded fl E (Sends c n p v) = ContextLaw fl E c × ArmLaw E c (region_at fl c n)
-Grounded fl E (Tells c k v) = ContextLaw fl E c × E (tagged c (AtNode k) (Operand 0) v)
+Grounded fl E (Steers c k v) = ContextLaw fl E c × E (tagged c (AtNode k) (Operand 0) v)
 Grounded fl E (Enters c from vs) = (0 < length vs → ContextLaw fl E c) × ((b : Block ℕ) × (block_of fl c ≡ Some b) × (from + length vs ≤ b.inputs))
 Grounded fl E Nothing = ⊤
 
@@ -140,7 +140,7 @@ module _ (fl : Flow) (E : Tokens) where
   member_lawful (Sends c n p v) g there t h =
       subst (λ t. Lawful fl E t) (tagged_is t c t.statement t.port v (sym h.0) refl refl (sym h.1))
       (g.0, sends_lawful c n p v h.2.0 t.statement t.port g there h.2.1 h.2.2)
-  member_lawful (Tells c k v) g there t h =
+  member_lawful (Steers c k v) g there t h =
       let x = h.3 in
       subst (λ t. Lawful fl E t) (tagged_is t c (AtNode x.1) Predicate v (sym h.0) (sym x.5) (sym h.2) (sym h.1)) (g.0, (x.0, x.2, k, x.3, x.4, x.6, x.7, g.1))
   member_lawful (Enters c from vs) g there t h =

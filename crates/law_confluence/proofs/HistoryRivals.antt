@@ -5,7 +5,7 @@ use Rattle.std.proofs.lemmas.Option.{same_Some}
 use Rattle.tags.specs.declared.value.Value.{Value}
 use Rattle.semantics.specs.declared.graph.Source.{Source}
 use Rattle.semantics.specs.Graph.{Node, Block, Flow, node_at}
-use Rattle.semantics.specs.Meaning.{Context, Statement, AtNode, Port, Predicate, Tagged, block_of, Message, Sends, Tells, Enters, Nothing}
+use Rattle.semantics.specs.Meaning.{Context, Statement, AtNode, Port, Predicate, Tagged, block_of, Message, Sends, Steers, Enters, Nothing}
 use Rattle.law_confluence.proofs.ActivityUses.{IsSource, UseOf, AsOperand, AsResult, AsFlag, AsCarried, Member}
 use Rattle.law_confluence.proofs.HistoryLaws.{Tokens, Grounded}
 use Rattle.law_confluence.specs.Outcome.{SameTag}
@@ -14,7 +14,7 @@ use Rattle.law_confluence.specs.Outcome.{SameTag}
 
 pub data Rival (m m' : Message) : Type 0 where
   BothSend : (c : Context) (n p : ℕ) (v v' : Value) → m ≡ Sends c n p v → m' ≡ Sends c n p v' → Rival m m'
-  BothTell : (c : Context) (k : ℕ) (v v' : Value) → m ≡ Tells c k v → m' ≡ Tells c k v' → Rival m m'
+  BothTell : (c : Context) (k : ℕ) (v v' : Value) → m ≡ Steers c k v → m' ≡ Steers c k v' → Rival m m'
   BothEnter : (c : Context) (from from' : ℕ) (vs vs' : List Value) (i i' : ℕ) → m ≡ Enters c from vs → m' ≡ Enters c from' vs' → i < length vs → i' < length vs'
       → from + i ≡ from' + i' → Rival m m'
 
@@ -89,10 +89,10 @@ module _ (fl : Flow) where
       let nodes = use_same x.0 c c' n p n' p' t.statement u.statement t.port u.port x.2
       (subst (λ b. UseOf b c' n' p' u.statement u.port) (sym blocks) y.2) same.1 same.2 in
       BothSend c n p v v' refl (let a = nodes.0 in let b = nodes.1 in cc)
-  member_rivals E (Sends c n p v) (Tells c' k v') t u h l same g g' = absurd (use_no_predicate h.2.0 c n p t.statement t.port h.2.2 (same.2 ∙ l.2))
+  member_rivals E (Sends c n p v) (Steers c' k v') t u h l same g g' = absurd (use_no_predicate h.2.0 c n p t.statement t.port h.2.2 (same.2 ∙ l.2))
   member_rivals E (Sends c n p v) (Enters c' from vs) t u h k same g g' = absurd (sends_enters E c c' n p from v vs t u h k same g')
-  member_rivals E (Tells c k v) (Sends c' n p v') t u h l same g g' = absurd (use_no_predicate l.2.0 c' n p u.statement u.port l.2.2 (sym same.2 ∙ h.2))
-  member_rivals E (Tells c k v) (Tells c' k' v') t u h l same g g' =
+  member_rivals E (Steers c k v) (Sends c' n p v') t u h l same g g' = absurd (use_no_predicate l.2.0 c' n p u.statement u.port l.2.2 (sym same.2 ∙ h.2))
+  member_rivals E (Steers c k v) (Steers c' k' v') t u h l same g g' =
       let contexts : c ≡ c' = sym h.0 ∙ same.0 ∙ l.0 in
       let x = h.3 in
       let y = l.3 in
@@ -102,10 +102,10 @@ module _ (fl : Flow) where
       let nodes = same_Some x.2 y.2 (sym x.6 ∙ ap₂ (λ (b : Block ℕ) m. node_at b m) blocks ms ∙ y.6) in
       let regions = sym x.7 ∙ ap (λ (n : Node ℕ). n.region) nodes ∙ y.7 in
       BothTell c k v v' refl (cc)
-  member_rivals E (Tells c k v) (Enters c' from vs) t u h l same g g' = let ports = sym h.2 ∙ same.2 ∙ l.1 in absurd (cc)
+  member_rivals E (Steers c k v) (Enters c' from vs) t u h l same g g' = let ports = sym h.2 ∙ same.2 ∙ l.1 in absurd (cc)
   member_rivals E (Enters c from vs) (Sends c' n p v) t u h k same g g' =
       absurd (sends_enters E c' c n p from v vs u t k h (sym same.0, sym same.1, sym same.2) g)
-  member_rivals E (Enters c from vs) (Tells c' k v) t u h l same g g' = let ports = sym h.1 ∙ same.2 ∙ l.2 in absurd (cc)
+  member_rivals E (Enters c from vs) (Steers c' k v) t u h l same g g' = let ports = sym h.1 ∙ same.2 ∙ l.2 in absurd (cc)
   member_rivals E (Enters c from vs) (Enters c' from' vs') t u h k same g g' =
       let contexts : c ≡ c' = sym h.0 ∙ same.0 ∙ k.0 in
       let x = h.2 in

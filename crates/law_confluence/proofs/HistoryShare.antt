@@ -9,10 +9,10 @@ use Rattle.semantics.specs.declared.graph.Region.TheVariants.{Arm}
 use Rattle.semantics.specs.declared.graph.Source.{Source}
 use Rattle.semantics.specs.Graph.{Node, Block, Flow, node_at}
 use Rattle.semantics.specs.Meaning.{Context, Main, Called, Turned, Statement, AtNode, AtOut, AtTurn, Port, Operand, Flag, Tagged, tagged, Activity, Fires}
-use Rattle.semantics.specs.Meaning.{Gates, Passes, Returns, Turns, taken, block_of, Message, Sends, Tells, Enters}
+use Rattle.semantics.specs.Meaning.{Gates, Passes, Returns, Turns, taken, block_of, Message, Sends, Steers, Enters}
 use Rattle.lemmas.proofs.Permutations.{Within, Each, put_first}
 use Rattle.law_confluence.proofs.ActivityUses.{Member}
-use Rattle.law_confluence.proofs.ActivityRows.{Class, Plain, Gate, Join, Calling, Strict, Looping, class_of, class_at, region_node, Row, RowFires, RowTells}
+use Rattle.law_confluence.proofs.ActivityRows.{Class, Plain, Gate, Join, Calling, Strict, Looping, class_of, class_at, region_node, Row, RowFires, RowSteers}
 use Rattle.law_confluence.proofs.ActivityRows.{RowGates, RowQuiet, RowMerges, RowCalls, RowStrict, RowLoops, RowReturns, RowAgain, RowLeaves}
 use Rattle.law_confluence.proofs.HistoryLaws.{IsFlowWell, well_at, Tokens, ContextLaw, ArmLaw, Lawful, Grounded}
 use Rattle.law_confluence.proofs.HistoryGrounds.{joined_arm, row_grounded}
@@ -137,7 +137,7 @@ module _ (fl : Flow) (w : IsFlowWell fl) (E : Tokens) (all : (t : Tagged) → E 
   sender_of a c n p v m (RowFires c' n' vs v' ea em class l) h e =
       let eq = sym em ∙ e in let cs : c' ≡ c = cc in let ns : n' ≡ n = cc in
       SFire vs (cc) (class_group c' c n' n Plain cs ns class) l
-  sender_of a c n p v m (RowTells c' n' v' ea em) h e = absurd (cc)
+  sender_of a c n p v m (RowSteers c' n' v' ea em) h e = absurd (cc)
   sender_of a c n p v m (RowGates c' n' v' b k ea em class region) h e =
       let eq = sym em ∙ e in let cs : c' ≡ c = cc in let ns : n' ≡ n = cc in
       SGate v' b (cc) (class_group c' c n' n Gate cs ns class)
@@ -208,7 +208,7 @@ module _ (fl : Flow) (w : IsFlowWell fl) (E : Tokens) (all : (t : Tagged) → E 
   enterer_of : (a : Activity) (d : Context) (from : ℕ) (vs : List Value) (m : Message) → Row fl a m → Each E (taken a) → m ≡ Enters d from vs
       → Enterer fl a d from vs
   enterer_of a d from vs m (RowFires c n ws v ea em class l) h e = absurd (cc)
-  enterer_of a d from vs m (RowTells c n v ea em) h e = absurd (cc)
+  enterer_of a d from vs m (RowSteers c n v ea em) h e = absurd (cc)
   enterer_of a d from vs m (RowGates c n v b k ea em class region) h e = absurd (cc)
   enterer_of a d from vs m (RowQuiet some em) h e = absurd (cc)
   enterer_of a d from vs m (RowMerges c n i v ea em class) h e = absurd (cc)
@@ -280,9 +280,9 @@ module _ (fl : Flow) (w : IsFlowWell fl) (E : Tokens) (all : (t : Tagged) → E 
   share_enter a a' d from from' i i' vs vs' (EAgain c n t j b v ea ed ef ev low) (ECall c' n' x' v' eb ed' ef' ev' k') l l' at = absurd (cc)
   share_enter a a' d from from' i i' vs vs' (EAgain c n t j b v ea ed ef ev low) (EStrict c' n' eb ed' ef' k') l l' at = absurd (cc)
 
-  teller_of : (a : Activity) (c : Context) (k : ℕ) (v : Value) (m : Message) → Row fl a m → m ≡ Tells c k v → a ≡ Fires c k (v ∷ [])
+  teller_of : (a : Activity) (c : Context) (k : ℕ) (v : Value) (m : Message) → Row fl a m → m ≡ Steers c k v → a ≡ Fires c k (v ∷ [])
   teller_of a c k v m (RowFires c' n ws x ea em class l) e = absurd (cc)
-  teller_of a c k v m (RowTells c' n x ea em) e = let eq = sym em ∙ e in let cs : c' ≡ c = cc in let ns : n ≡ k = cc in let vs : x ≡ v = cc in cc
+  teller_of a c k v m (RowSteers c' n x ea em) e = let eq = sym em ∙ e in let cs : c' ≡ c = cc in let ns : n ≡ k = cc in let vs : x ≡ v = cc in cc
   teller_of a c k v m (RowGates c' n x b k' ea em class region) e = absurd (cc)
   teller_of a c k v m (RowQuiet some em) e = absurd (cc)
   teller_of a c k v m (RowMerges c' n i x ea em class) e = absurd (cc)

@@ -54,7 +54,7 @@ pub mod OrdersTotals
 pub mod Orders
 -- Net
 pub mod Net
-pub mod NetFollows
+pub mod NetMeans
 pub mod NetSlots
 pub mod NetChains
 pub mod NetArms

@@ -55,7 +55,7 @@ module _ {X Y : Type 0} (f : X → Y) where
     map-apply_swaps xs p.moves ∙ sym p.is,
   )
 
-  -- the element behind the first of an image, and the others
+  -- the element after the first of an image, and the others
   pub first_lifted : (xs : List X) (y : Y) (ys : List Y) → IsPermutation (map f xs) (y ∷ ys)
       → (x : X) × (zs : List X) × IsPermutation xs (x ∷ zs) × (f x ≡ y) × (map f zs ≡ ys)
   first_lifted xs y ys p = go (lifted xs (y ∷ ys) p).0 (lifted xs (y ∷ ys) p).1 (lifted xs (y ∷ ys) p).2

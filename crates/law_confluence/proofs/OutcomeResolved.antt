@@ -18,7 +18,7 @@ use Rattle.semantics.specs.WellFormed.{IsBlockWell, WellFormed}
 use Rattle.semantics.specs.Meaning.{callee}
 use Rattle.semantics.specs.Faithful.{inputs_in, inputs_of}
 use Rattle.semantics.proofs.Lines.{same_name_is, same_name_itself}
-use Rattle.law_confluence.proofs.ActivityRows.{Gate, Join, Telling, class_of, class_node, region_node}
+use Rattle.law_confluence.proofs.ActivityRows.{Gate, Join, Steering, class_of, class_node, region_node}
 use Rattle.law_confluence.proofs.HistoryLaws.{IsFlowWell, IsLineWell}
 use Rattle.law_confluence.proofs.History.{Fits}
 
@@ -88,16 +88,16 @@ module _ (g : Graph) where
       go true = refl
       go false = region_line b.nodes (k - b.inputs)
 
-  cond_line : (nodes : List (Node (List ℕ))) (i : ℕ) → IsCondNode (slice_get nodes i) → class_node (slice_get (map node_in nodes) i) ≡ Telling
+  cond_line : (nodes : List (Node (List ℕ))) (i : ℕ) → IsCondNode (slice_get nodes i) → class_node (slice_get (map node_in nodes) i) ≡ Steering
   cond_line [] i h = absurd h
   cond_line (n ∷ ns) zero h = ap (λ k. class_of (resolved_kind (array_names g) (block_names g) k)) h
   cond_line (n ∷ ns) (suc i) h = cond_line ns i h
 
-  cond_same : (b : Block (List ℕ)) (k : ℕ) → IsCond b k → class_node (node_at (block_in b) k) ≡ Telling
+  cond_same : (b : Block (List ℕ)) (k : ℕ) → IsCond b k → class_node (node_at (block_in b) k) ≡ Steering
   cond_same b k h = go (nat_lt k b.inputs) h
     where
       go : (t : Bool) → IsCondNode (if t then None else slice_get b.nodes (k - b.inputs))
-          → class_node (if t then None else slice_get (map node_in b.nodes) (k - b.inputs)) ≡ Telling
+          → class_node (if t then None else slice_get (map node_in b.nodes) (k - b.inputs)) ≡ Steering
       go true f = absurd f
       go false f = cond_line b.nodes (k - b.inputs) f
 
@@ -119,7 +119,7 @@ module _ (g : Graph) where
   lies_plain b n r (Loop f k) ss h gate join = h
 
   abbrev Joins : Block (List ℕ) → Region → List Source → Type 0
-  Joins b r ss = (k : ℕ) × (class_node (node_at (block_in b) k) ≡ Telling) × (region_node (node_at (block_in b) k) ≡ r)
+  Joins b r ss = (k : ℕ) × (class_node (node_at (block_in b) k) ≡ Steering) × (region_node (node_at (block_in b) k) ≡ r)
       × ((i : ℕ) (s : Source) → slice_get ss i ≡ Some s
       → ((i ≡ 0) × (region_node (node_at (block_in b) s.node) ≡ Arm k true)) ⊎ ((i ≡ 1) × (region_node (node_at (block_in b) s.node) ≡ Arm k false)))
 
@@ -157,7 +157,8 @@ module _ (g : Graph) where
   names_invokes well (Loop name k) n f h e = shape_found well name n (n + 1) f h.0 e
   names_invokes well kind n f h e = absurd (cc)
 
-  round_cond : (b : Block (List ℕ)) (n : ℕ) (r : Region) (k : ℕ) (side : Bool) → IsRegion b n r → r ≡ Arm k side → class_node (node_at (block_in b) k) ≡ Telling
+  round_cond : (b : Block (List ℕ)) (n : ℕ) (r : Region) (k : ℕ) (side : Bool) → IsRegion b n r → r ≡ Arm k side
+      → class_node (node_at (block_in b) k) ≡ Steering
   round_cond b n Root k side h e = cc
   round_cond b n (Arm j s) k side h e = let same : j ≡ k = cc in cond_same b k (subst (λ k. IsCond b k) same h.1)
 

@@ -11,7 +11,7 @@ use Rattle.semantics.specs.Meaning.{Tagged, Effect, effect}
 use Rattle.lemmas.proofs.Permutations.{Within, put_first, each_within}
 use Rattle.law_confluence.proofs.ActivityKeys.{Held}
 use Rattle.law_confluence.proofs.ActivityDiamond.{deed_of, held_from}
-use Rattle.law_confluence.proofs.ActivityRows.{Speaks, Row, RowFires, RowTells, RowGates, RowQuiet, RowMerges, RowCalls, RowStrict, RowLoops, RowReturns}
+use Rattle.law_confluence.proofs.ActivityRows.{Speaks, Row, RowFires, RowSteers, RowGates, RowQuiet, RowMerges, RowCalls, RowStrict, RowLoops, RowReturns}
 use Rattle.law_confluence.proofs.ActivityRows.{RowAgain, RowLeaves, rows}
 use Rattle.law_confluence.proofs.HistoryLaws.{IsFlowWell}
 use Rattle.law_confluence.proofs.HistoryGrounds.{strict_inputs}
@@ -28,7 +28,7 @@ operands_count c s k (v ∷ vs) = let ih = operands_count c s (k + 1) vs in omeg
 
 row_takes : (fl : Flow) → IsFlowWell fl → (a : Activity) (m : Message) → Row fl a m → 0 < length (taken a)
 row_takes fl w a m (RowFires c n vs v ea em class l) = subst (λ a. 0 < length (taken a)) (sym ea) (omega (arith, operands_count c (AtNode n) 0 vs))
-row_takes fl w a m (RowTells c n v ea em) = subst (λ a. 0 < length (taken a)) (sym ea) (omega arith)
+row_takes fl w a m (RowSteers c n v ea em) = subst (λ a. 0 < length (taken a)) (sym ea) (omega arith)
 row_takes fl w a m (RowGates c n v b k ea em class region) = subst (λ a. 0 < length (taken a)) (sym ea) (omega arith)
 row_takes fl w a m (RowQuiet some em) = some
 row_takes fl w a m (RowMerges c n i v ea em class) = subst (λ a. 0 < length (taken a)) (sym ea) (omega arith)

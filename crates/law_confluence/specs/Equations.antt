@@ -9,7 +9,7 @@ use Rattle.semantics.specs.declared.graph.Kind.{Kind}
 use Rattle.semantics.specs.declared.graph.Kind.TheVariants.{Lit, Apply1, Apply2, Enter, Merge, Fetch, Store, Call, StrictCall, Loop}
 use Rattle.semantics.specs.Graph.{Node, Block, Flow, node_at, first_cell, array_len}
 use Rattle.semantics.specs.Meaning.{Context, Main, Called, Turned, State, Activity, Run, Stood, Due, ArmsTaken, arms_at, start, block_of, origin_at}
-use Rattle.law_confluence.specs.EquationsGiven.{Gives, stores_of, source_at, result_at}
+use Rattle.law_confluence.specs.EquationsHave.{Gives, stores_of, source_at, result_at}
 
 module _ (fl : Flow) (inputs : List ℤ) (run : List Activity) (s : State) (r : Run fl (start inputs) run s) where
   -- the run calls for this invocation

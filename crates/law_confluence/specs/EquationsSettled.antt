@@ -6,7 +6,7 @@ use Rattle.semantics.specs.Graph.{Node, Graph, Flow, flow_of}
 use Rattle.semantics.specs.WellFormed.{WellFormed}
 use Rattle.semantics.specs.Meaning.{Context, Main, AtNode, Operand, tagged, State, Activity, Fires, Run, Stood, AtRest, start, node_of, fetch_count}
 use Rattle.law_confluence.specs.Outcome.{AreInputsOf, NoClash}
-use Rattle.law_confluence.specs.EquationsGiven.{Gives, Stored, stores_of, ports_at}
+use Rattle.law_confluence.specs.EquationsHave.{Gives, Stored, stores_of, ports_at}
 use Rattle.law_confluence.specs.Equations.{IsDue, TakenAt, Argument, Result, Equation}
 
 -- what a conditional took is the value of its source, and nothing else

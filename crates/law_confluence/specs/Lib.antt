@@ -2,7 +2,7 @@
 pub mod Outcome
 -- Equations
 pub mod EquationsContexts
-pub mod EquationsGiven
+pub mod EquationsHave
 pub mod Equations
 pub mod EquationsSettled
 pub mod EquationsShown

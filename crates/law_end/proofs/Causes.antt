@@ -16,7 +16,7 @@ use Rattle.law_net.specs.ContextsBlocks.{is_loop}
 use Rattle.law_net.specs.Contexts.{Wires, block_in, child, next}
 use Rattle.law_net.specs.ContextsLaws.{spot_there, way_fits, port_fits}
 use Rattle.law_net.specs.ContextsFirings.{HasFired, is_firing}
-use Rattle.law_net.specs.ContextsStands.{Past}
+use Rattle.law_net.specs.ContextsMirror.{Past}
 use Rattle.law_net.specs.ContextsTheorem.{IsGood}
 use Rattle.law_net.specs.ContextsPackages.{Keeps, InputsFit}
 use Rattle.law_net.proofs.WiredSends.{all_from, first_taken, takes_first}
@@ -26,7 +26,7 @@ use Rattle.law_net.proofs.RunsPigeons.{firing_there}
 use Rattle.law_net.proofs.CreditsOpened.{NAsked}
 use Rattle.law_net.proofs.Credits.{near_opened}
 use Rattle.law_net.proofs.WiredFed.{UNot}
-use Rattle.law_end.proofs.OverMade.{Stands, is_first, fits, taken_stands, given_by, taker_by}
+use Rattle.law_end.proofs.OverMade.{Mirrors, is_first, fits, taken_stands, given_by, taker_by}
 use Rattle.law_end.specs.CausesCounted.{frame_for, credit_for, frames, credits}
 use Rattle.law_end.specs.Rest.{AllCausedByMeaning}
 use Rattle.law_end.proofs.RestStory.{story}
@@ -50,10 +50,10 @@ called_not_main c n e = cc
 module _ (fl : Flow) (p : Plan) (w : Wires) (inputs : List ℤ) (past : Past) (m : Machine) (good : IsGood fl p w) (fit : InputsFit fl inputs)
     (kept : Keeps fl p w inputs past m) where
   abbrev fired : List Firing
-  fired = kept.follows.net.fired
+  fired = kept.tracks.net.fired
 
   abbrev Stood : Item → Type 0
-  Stood i = Stands fl p w inputs past m good fit kept i
+  Stood i = Mirrors fl p w inputs past m good fit kept i
 
   abbrev DueHere : Context → Type 0
   DueHere c = IsDue fl p w inputs past m good fit kept good.earlier c × (c ≢ Main)
@@ -167,14 +167,14 @@ module _ (fl : Flow) (p : Plan) (w : Wires) (inputs : List ℤ) (past : Past) (m
   pub has_cause : HasCause fl p.program inputs past.events m
   has_cause =
       let asked = counts fl p w inputs past m good kept in
-      let told = story fl p w inputs past m good fit kept in
+      let meant = story fl p w inputs past m good fit kept in
       record {
-        run = told.run;
-        state = told.state;
-        is_run = told.is_run;
-        seen = subst (λ (s : Meaning.Memory). SameSeen m.store s) (sym told.memory_is) kept.follows.stands.seen;
+        run = meant.run;
+        state = meant.state;
+        is_run = meant.is_run;
+        seen = subst (λ (s : Meaning.Memory). SameSeen m.store s) (sym meant.memory_is) kept.tracks.stands.seen;
         due = asked.due;
-        are_due = (all_from DueHere asked.due (λ c h. let i = asked.comes c h in by_item c i.0 i.1 i.2), asked.apart);
+        are_due = (all_from DueHere asked.due (λ c h. let i = asked.arrives c h in by_item c i.0 i.1 i.2), asked.apart);
         enough = asked.enough;
         credits = asked.turns;
       }

@@ -20,17 +20,17 @@ use Rattle.semantics.specs.Cause.{is_request, seeks_credit, is_credit_event, is_
 use Rattle.law_confluence.specs.OrdersTotals.{one, total}
 use Rattle.law_confluence.proofs.Orders.{total-append, total-map, total-IsPermutation}
 use Rattle.law_net.specs.ContextsParts as Parts
-use Rattle.law_net.specs.ContextsParts.{Part, Line, Opener, Taker, Asked, NextAsked, Held, Item, Spot, spot_of, same_spot, same_context}
+use Rattle.law_net.specs.ContextsParts.{Part, Line, Opener, Taker, Asked, NextAsked, InCell, Item, Spot, spot_of, same_spot, same_context}
 use Rattle.law_net.specs.ContextsBlocks.{Site, there_in, op_of, kind_op, line_op, is_loop}
 use Rattle.law_net.specs.Contexts.{Wires, block_in, site_in, wiring_in, child, next}
 use Rattle.law_net.specs.ContextsLaws.{Fits, spot_there, way_fits, port_fits}
 use Rattle.law_net.specs.ContextsFirings.{Config}
-use Rattle.law_net.specs.ContextsStands.{Past, ip_of, to_of, token_of, is_held, is_cell_token, but_cells, events_taken, only, came}
+use Rattle.law_net.specs.ContextsMirror.{Past, ip_of, to_of, token_of, is_in_cell, is_cell_token, but_cells, events_taken, only, came}
 use Rattle.law_net.specs.ContextsTheorem.{IsGood}
 use Rattle.law_net.specs.ContextsPackages.{Keeps}
 use Rattle.law_net.proofs.ContextsSames.{hits_at, same_context-true}
 use Rattle.law_net.proofs.WiredNets.{all_of, count_total, came_all, came_total, cells_apart, only_contains, only_total, one_passes, once_all, total_below}
-use Rattle.law_net.proofs.RunsComes.{laid, instr_here, fits_in}
+use Rattle.law_net.proofs.RunsArrives.{laid, instr_here, fits_in}
 use Rattle.law_end.specs.CausesCounted.{frame_for, credit_for, frames, credits, IsCounted}
 use Rattle.law_end.proofs.CausesApart.{often, Apart, has, each_once, once_contains, once_back, once_apart, places_apart, fit_in}
 
@@ -127,7 +127,7 @@ at_node c = 0
 module _ (fl : Flow) (p : Plan) (w : Wires) (inputs : List ℤ) (q : Past) (m : Machine) (good : IsGood fl p w)
     (k : Keeps fl p w inputs q m) where
   abbrev net : Config
-  net = k.follows.net
+  net = k.tracks.net
 
   fits : (i : Item) → Contains (came fl net) i → Fits fl w (spot_of i)
   fits i c = fits_in fl p w inputs q m good k i (came_all fl net i c)
@@ -254,7 +254,7 @@ module _ (fl : Flow) (p : Plan) (w : Wires) (inputs : List ℤ) (q : Past) (m : 
 
   -- EVENTS. What takes no cell's token is counted by the items that came.
   abbrev kept : List Item
-  kept = only (λ (i : Item). not (is_held i.inlet.part)) (came fl net)
+  kept = only (λ (i : Item). not (is_in_cell i.inlet.part)) (came fl net)
 
   counted : (test : To → Bool) (g : Item → ℕ) → ((t : Token) → is_cell_token t ≡ true → test t.to ≡ false)
       → ((i : Item) → Contains kept i → one (test (to_of fl p w net.fired i i.inlet.part)) ≤ g i)
@@ -266,35 +266,35 @@ module _ (fl : Flow) (p : Plan) (w : Wires) (inputs : List ℤ) (q : Past) (m : 
       let b = total-map (λ (ev : ℕ × Token). ev.1) on q.events in
       let c = total-append on (events_taken q.events) m.pool in
       let d = cells_apart (λ (t : Token). test t.to) cells ts in
-      let e = total-IsPermutation on (but_cells ts) (map (token_of fl p w net.fired) kept) k.follows.met in
+      let e = total-IsPermutation on (but_cells ts) (map (token_of fl p w net.fired) kept) k.tracks.met in
       let f = total-map (token_of fl p w net.fired) on kept in
       let h = total_below (λ (i : Item). one (test (to_of fl p w net.fired i i.inlet.part))) g kept less in
-      let o = only_total (λ (i : Item). not (is_held i.inlet.part)) g (came fl net) in
+      let o = only_total (λ (i : Item). not (is_in_cell i.inlet.part)) g (came fl net) in
       omega (arith, a, b, c, d, e, f, h, o)
 
-  not_held : (i : Item) → Contains kept i → is_held i.inlet.part ≡ false
-  not_held i h = go (is_held i.inlet.part) (only_contains (λ (i : Item). not (is_held i.inlet.part)) (came fl net) i h).1
+  not_held : (i : Item) → Contains kept i → is_in_cell i.inlet.part ≡ false
+  not_held i h = go (is_in_cell i.inlet.part) (only_contains (λ (i : Item). not (is_in_cell i.inlet.part)) (came fl net) i h).1
     where
       go : (t : Bool) → not t ≡ true → t ≡ false
       go true e = absurd (true≢false (sym e))
       go false e = refl
 
   came_kept : (i : Item) → Contains kept i → Contains (came fl net) i
-  came_kept i h = (only_contains (λ (i : Item). not (is_held i.inlet.part)) (came fl net) i h).0
+  came_kept i h = (only_contains (λ (i : Item). not (is_in_cell i.inlet.part)) (came fl net) i h).0
 
   -- a request is of an item that asks for a frame
-  request_by : (i : Item) (r : Part) → is_held r ≡ false → one (is_request (to_of fl p w net.fired i r)) ≤ length (frame_for fl i.context r)
+  request_by : (i : Item) (r : Part) → is_in_cell r ≡ false → one (is_request (to_of fl p w net.fired i r)) ≤ length (frame_for fl i.context r)
   request_by i (Asked n) e = omega arith
   request_by i NextAsked e = omega arith
-  request_by i (Held n) e = absurd (true≢false e)
+  request_by i (InCell n) e = absurd (true≢false e)
   request_by i r e = omega arith
 
   -- and a credit is sought by one that asks for it
-  credit_by : (i : Item) (r : Part) → Contains (came fl net) i → i.inlet.part ≡ r → is_held r ≡ false
+  credit_by : (i : Item) (r : Part) → Contains (came fl net) i → i.inlet.part ≡ r → is_in_cell r ≡ false
       → one (is_credit_event p.program (to_of fl p w net.fired i r)) ≤ length (credit_for i.context r i.inlet.way)
   credit_by i (Opener n) h g e = one_less _
   credit_by i (Taker n) h g e = one_less _
-  credit_by i (Held n) h g e = absurd (true≢false e)
+  credit_by i (InCell n) h g e = absurd (true≢false e)
   credit_by i (Asked n) h g e = omega arith
   credit_by i NextAsked h g e = omega arith
   credit_by i (Parts.Shown j) h g e = omega arith
@@ -328,7 +328,7 @@ module _ (fl : Flow) (p : Plan) (w : Wires) (inputs : List ℤ) (q : Past) (m : 
       (λ i h. credit_by i i.inlet.part (came_kept i h) refl (not_held i h)) in
       record {
         due = each_once both;
-        comes = λ c h. comes c (Contains-append_cases all_frames all_credits c (once_back both c h));
+        arrives = λ c h. arrives c (Contains-append_cases all_frames all_credits c (once_back both c h));
         apart = places_apart (each_once both) (once_apart both);
         enough = omega (arith, asked, a, all, requests);
         turns = omega (arith, turns, b, sought);
@@ -337,10 +337,10 @@ module _ (fl : Flow) (p : Plan) (w : Wires) (inputs : List ℤ) (q : Past) (m : 
       turn : (c : Context) → Contains all_credits c → is_turn c ≡ true
       turn c h = let i = contains_flat_mapped credits (came fl net) c h in credits_turn c i.0.context i.0.inlet.part i.0.inlet.way i.2
 
-      comes : (c : Context) → Contains all_frames c ⊎ Contains all_credits c
+      arrives : (c : Context) → Contains all_frames c ⊎ Contains all_credits c
           → (i : Item) × Contains (all_of fl net) i × (Contains (frames fl i) c ⊎ Contains (credits i) c)
-      comes c (inl h) = let i = contains_flat_mapped (frames fl) (came fl net) c h in (i.0, came_all fl net i.0 i.1, inl i.2)
-      comes c (inr h) = let i = contains_flat_mapped credits (came fl net) c h in (i.0, came_all fl net i.0 i.1, inr i.2)
+      arrives c (inl h) = let i = contains_flat_mapped (frames fl) (came fl net) c h in (i.0, came_all fl net i.0 i.1, inl i.2)
+      arrives c (inr h) = let i = contains_flat_mapped credits (came fl net) c h in (i.0, came_all fl net i.0 i.1, inr i.2)
 
       request_cells : (t : Token) → is_cell_token t ≡ true → is_request t.to ≡ false
       request_cells t e = go t.to e

@@ -11,13 +11,13 @@ use Rattle.law_net.specs.Contexts.{Wires, block_in, IsContext}
 use Rattle.law_net.specs.ContextsAround.{Way}
 use Rattle.law_net.specs.ContextsFirings.{HasFired}
 use Rattle.law_net.specs.ContextsLaws.{spot_there, arms_of}
-use Rattle.law_net.specs.ContextsStands.{Past}
+use Rattle.law_net.specs.ContextsMirror.{Past}
 use Rattle.law_net.specs.ContextsTheorem.{IsGood}
 use Rattle.law_net.specs.ContextsPackages.{Keeps, InputsFit}
 use Rattle.law_net.proofs.WiredInvoked.{is_turned}
 use Rattle.law_net.proofs.WiredRounds.{root_region, round_node, round_next}
 use Rattle.law_end.specs.Over.{IsOpen}
-use Rattle.law_end.proofs.OverMade.{Stands, fits, allowed}
+use Rattle.law_end.proofs.OverMade.{Mirrors, fits, allowed}
 use Rattle.law_end.proofs.OverOpen.{stands_open, root_open}
 use Rattle.law_net.specs.ContextsOperands.{SourcesAreEarlier}
 use Rattle.law_end.proofs.CausesDues.{IsDue, call_due, turn_due}
@@ -29,29 +29,29 @@ module _ (fl : Flow) (p : Plan) (w : Wires) (inputs : List ℤ) (past : Past) (m
   abbrev pub DueHere : Context → Type 0
   DueHere c = IsDue fl p w inputs past m good fit kept earlier c
 
-  module _ (i : Item) (stood : Stands fl p w inputs past m good fit kept i) where
+  module _ (i : Item) (stood : Mirrors fl p w inputs past m good fit kept i) where
     con : IsContext fl i.context
     con = (fits fl p w inputs past m good fit kept i stood).is_context
 
     there : (r : Part) → i.inlet.part ≡ r → spot_there fl w i.context r ≡ true
     there r e = ap (spot_there fl w i.context) (sym e) ∙ (fits fl p w inputs past m good fit kept i stood).there
 
-    opened : (r : Part) → i.inlet.part ≡ r → IsOpen fl w kept.follows.net.fired i.context (entered (block_in fl i.context) r i.inlet.way)
+    opened : (r : Part) → i.inlet.part ≡ r → IsOpen fl w kept.tracks.net.fired i.context (entered (block_in fl i.context) r i.inlet.way)
     opened r e =
-        subst (λ (r : Part). IsOpen fl w kept.follows.net.fired i.context (entered (block_in fl i.context) r i.inlet.way)) e
+        subst (λ (r : Part). IsOpen fl w kept.tracks.net.fired i.context (entered (block_in fl i.context) r i.inlet.way)) e
         (stands_open fl p w inputs past m good fit kept i.context con i stood refl)
 
     -- where anything stands
     pub context_due : DueHere i.context
     context_due =
         known_due fl p w inputs past m good fit kept earlier (strict_fired fl p w inputs past m good fit kept earlier) i.context con
-        (kept.follows.stands.known i stood)
+        (kept.tracks.stands.known i stood)
         (λ x d. root_open fl p w inputs past m good fit kept i.context con (entered (block_in fl i.context) i.inlet.part i.inlet.way)
         (stands_open fl p w inputs past m good fit kept i.context con i stood refl) x
         (subst (λ (l : List Way). Contains l x) (sym (root_region fl i.context)) d))
 
     -- a call's request for a frame
-    pub asked_due : (n : ℕ) → i.inlet.part ≡ Asked n → is_call (block_in fl i.context) n ≡ true → HasFired i.context (Framer n) kept.follows.net.fired
+    pub asked_due : (n : ℕ) → i.inlet.part ≡ Asked n → is_call (block_in fl i.context) n ≡ true → HasFired i.context (Framer n) kept.tracks.net.fired
         → DueHere (Called i.context n)
     asked_due n e call f =
         call_due fl p w inputs past m good fit kept earlier i.context n con call context_due (opened (Asked n) e)

@@ -11,13 +11,13 @@ use Rattle.semantics.specs.Graph.{Node, Block, Flow, node_at, node_count}
 use Rattle.semantics.specs.Plan.{Plan}
 use Rattle.semantics.specs.Meaning.{Context, block_of, block_number, block_numbered, arm_of, arms_round, arms_at, ArmsTaken, callee}
 use Rattle.semantics.specs.Machine.{Machine}
-use Rattle.law_confluence.proofs.ActivityRows.{Gate, Join, Telling, class_of, class_node, class_in, class_at, region_node, region_in, region_is_arm}
+use Rattle.law_confluence.proofs.ActivityRows.{Gate, Join, Steering, class_of, class_node, class_in, class_at, region_node, region_in, region_is_arm}
 use Rattle.law_confluence.proofs.HistoryLaws.{ArmLaw, IsLineWell, well_at}
 use Rattle.law_confluence.proofs.HistoryGrounds.{own_arm, node_class}
 use Rattle.law_net.specs.ContextsBlocks.{is_kind, enter_kind, lies_in}
 use Rattle.law_net.specs.Contexts.{Wires, block_in, IsContext}
 use Rattle.law_net.specs.ContextsOperands.{HasOperands, SourcesAreEarlier}
-use Rattle.law_net.specs.ContextsStands.{Past}
+use Rattle.law_net.specs.ContextsMirror.{Past}
 use Rattle.law_net.specs.ContextsTheorem.{IsGood}
 use Rattle.law_net.specs.ContextsPackages.{Keeps, InputsFit}
 use Rattle.law_net_refines_meaning.proofs.FiringsNodes.{kind_of}
@@ -29,7 +29,7 @@ use Rattle.law_end.proofs.OverOpen.{arm_decided, arm_round}
 use Rattle.law_end.proofs.RestArms.{Ever, Stood', stood_of, lawful, enter_stood}
 use Rattle.law_end.proofs.RestReached.{root_arm}
 
-telling_cond : (k : Kind ℕ) → class_of k ≡ Telling → k ≡ Cond
+telling_cond : (k : Kind ℕ) → class_of k ≡ Steering → k ≡ Cond
 telling_cond Cond e = refl
 telling_cond k e = absurd (cc)
 
@@ -105,11 +105,11 @@ module _ (fl : Flow) (p : Plan) (w : Wires) (inputs : List ℤ) (past : Past) (m
         well : IsLineWell fl b line
         well = well_at fl good.well c b eb n line e
 
-        by_sides : (j : ℕ) → class_node (node_at b j) ≡ Telling → region_node (node_at b j) ≡ line.region → (s : Source) → s.node < n
+        by_sides : (j : ℕ) → class_node (node_at b j) ≡ Steering → region_node (node_at b j) ≡ line.region → (s : Source) → s.node < n
             → ((◌≡◌ {A = ℕ} 0 0) × (region_node (node_at b s.node) ≡ Arm j true)) ⊎ ((◌≡◌ {A = ℕ} 0 1) × (region_node (node_at b s.node) ≡ Arm j false))
             → ((n k : ℕ) (t : Bool) (line : Node ℕ) → n < fuel → node_at b n ≡ Some line → line.region ≡ Arm k t → EnterIn k t) → EnterIn k t
-        by_sides j telling region s s_low (inr (z, x)) more = absurd (omega (arith, z))
-        by_sides j telling region s s_low (inl (z, x)) more =
+        by_sides j group region s s_low (inr (z, x)) more = absurd (omega (arith, z))
+        by_sides j group region s s_low (inl (z, x)) more =
             let j_low = ((laws fl p w good c con).arms.rounds s.node j true (sym (region_is_arm (node_at b s.node)) ∙ x)).0 in
             let (other, at, lies) = node_there j k t (sym (region_is_arm (node_at b j)) ∙ region ∙ r) in
             more j k t other (omega (arith, low, s_low, j_low)) at lies
@@ -118,9 +118,9 @@ module _ (fl : Flow) (p : Plan) (w : Wires) (inputs : List ℤ) (past : Past) (m
             → EnterIn k t
         by_class (IsGate g) more = (n, kind_of b enter_kind n line e ∙ gate_enter line.kind g, ap arm_of e ∙ r)
         by_class (IsJoin g) more =
-            let (j, telling, region, sides) = well.joins g in
+            let (j, group, region, sides) = well.joins g in
             let (s, first) = first_there line.sources (sourced n line e) in
-            by_sides j telling region s (source_low n 0 line s e first) (sides 0 s first) more
+            by_sides j group region s (source_low n 0 line s e first) (sides 0 s first) more
         by_class (IsOther g j) more =
             let (s, first) = first_there line.sources (sourced n line e) in
             let s_low = source_low n 0 line s e first in
@@ -128,7 +128,7 @@ module _ (fl : Flow) (p : Plan) (w : Wires) (inputs : List ℤ) (past : Past) (m
             more s.node k t other (omega (arith, low, s_low)) at lies
 
     -- THE ARMS round a node with a source were taken
-    pub arm_law : (n : ℕ) (line : Node ℕ) → node_at b n ≡ Some line → IsOpen fl w kept.follows.net.fired c (lies_in b n)
+    pub arm_law : (n : ℕ) (line : Node ℕ) → node_at b n ≡ Some line → IsOpen fl w kept.tracks.net.fired c (lies_in b n)
         → ArmLaw (Ever fl p w inputs past m good fit kept) c (lies_in b n)
     arm_law n line e o = go (lies_in b n) refl
       where
@@ -136,29 +136,29 @@ module _ (fl : Flow) (p : Plan) (w : Wires) (inputs : List ℤ) (past : Past) (m
         go Root g = tt
         go (Arm k t) g =
             let cond = ((laws fl p w good c con).arms.rounds n k t g).1 in
-            let mine = subst (IsOpen fl w kept.follows.net.fired c) g o in
+            let mine = subst (IsOpen fl w kept.tracks.net.fired c) g o in
             let (en, here, lies) = enter_from (suc n) n k t line (omega arith) e (ap arm_of (sym e) ∙ g) in
             enter_stood fl p w inputs past m good fit kept c con en k t t here lies
             (arm_decided fl p w inputs past m good fit kept c con k t (inl cond) mine)
             (arm_round fl p w inputs past m good fit kept c con k t (inl cond) mine)
 
     -- and all further out
-    taken_from : (depth : ℕ) (r : Region) → ((k : ℕ) (t : Bool) → r ≡ Arm k t → class_node (node_at b k) ≡ Telling)
+    taken_from : (depth : ℕ) (r : Region) → ((k : ℕ) (t : Bool) → r ≡ Arm k t → class_node (node_at b k) ≡ Steering)
         → ArmLaw (Ever fl p w inputs past m good fit kept) c r → ArmsTaken (Stood' fl p w inputs past m good fit kept) c (arms_round depth b r)
     taken_from zero r tells law = tt
     taken_from (suc depth) Root tells law = tt
     taken_from (suc depth) (Arm k t) tells law =
-        let telling : class_at fl c k ≡ Telling = ap (λ o. class_in o k) eb ∙ node_class b k (tells k t refl) in
+        let group : class_at fl c k ≡ Steering = ap (λ o. class_in o k) eb ∙ node_class b k (tells k t refl) in
         let out : ArmLaw (Ever fl p w inputs past m good fit kept) c (arm_of (node_at b k)) =
         subst (ArmLaw (Ever fl p w inputs past m good fit kept) c) (ap (λ o. region_in o k) eb ∙ region_is_arm (node_at b k))
         (own_arm fl good.well (Ever fl p w inputs past m good fit kept) (lawful fl p w inputs past m good fit kept) c k 0 law.0 law.1
         (λ e. absurd (cc)) (λ e. absurd (cc))) in
         ((law.0, stood_of fl p w inputs past m good fit kept _ law.1, law.2), taken_from depth (arm_of (node_at b k)) (λ j s e. round k j s e) out)
       where
-        round : (n j : ℕ) (s : Bool) → arm_of (node_at b n) ≡ Arm j s → class_node (node_at b j) ≡ Telling
+        round : (n j : ℕ) (s : Bool) → arm_of (node_at b n) ≡ Arm j s → class_node (node_at b j) ≡ Steering
         round n j s e = let (line, at, region) = node_there n j s e in (well_at fl good.well c b eb n line at).round j s region
 
-    pub arms_taken : (n : ℕ) (line : Node ℕ) → node_at b n ≡ Some line → IsOpen fl w kept.follows.net.fired c (lies_in b n)
+    pub arms_taken : (n : ℕ) (line : Node ℕ) → node_at b n ≡ Some line → IsOpen fl w kept.tracks.net.fired c (lies_in b n)
         → ArmsTaken (Stood' fl p w inputs past m good fit kept) c (arms_at (block_of fl c) n)
     arms_taken n line e o =
         subst (λ (x : Option (Block ℕ)). ArmsTaken (Stood' fl p w inputs past m good fit kept) c (arms_at x n)) (sym eb)

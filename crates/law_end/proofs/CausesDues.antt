@@ -14,7 +14,7 @@ use Rattle.law_net.specs.ContextsParts.{Firing}
 use Rattle.law_net.specs.ContextsBlocks.{call_kind, loop_kind, is_call, is_loop, lies_in, flag}
 use Rattle.law_net.specs.Contexts.{Wires, block_in, IsContext}
 use Rattle.law_net.specs.ContextsAround.{Way, way, ways_round, earlier_turns, flag_of, own_ways}
-use Rattle.law_net.specs.ContextsStands.{Past}
+use Rattle.law_net.specs.ContextsMirror.{Past}
 use Rattle.law_net.specs.ContextsTheorem.{IsGood}
 use Rattle.law_net.specs.ContextsPackages.{Keeps, InputsFit}
 use Rattle.law_net_refines_meaning.proofs.FiringsNodes.{kind_is}
@@ -57,14 +57,14 @@ less_round fl c n j t x low d = pick (Contains-append_cases (earlier_turns fl c 
 module _ (fl : Flow) (p : Plan) (w : Wires) (inputs : List ℤ) (past : Past) (m : Machine) (good : IsGood fl p w) (fit : InputsFit fl inputs)
     (kept : Keeps fl p w inputs past m) (earlier : SourcesAreEarlier fl) where
   abbrev done : List Firing
-  done = kept.follows.net.fired
+  done = kept.tracks.net.fired
 
   abbrev pub IsDue : Context → Type 0
   IsDue c = Due fl (story fl p w inputs past m good fit kept).run (Stood' fl p w inputs past m good fit kept) c
 
   -- all that lies round the context was decided for it
   abbrev pub IsRounded : Context → Type 0
-  IsRounded c = (x : Way) → Contains (ways_round fl c) x → IsDecided fl w kept.follows.net.fired x.choice x.side
+  IsRounded c = (x : Way) → Contains (ways_round fl c) x → IsDecided fl w kept.tracks.net.fired x.choice x.side
 
   pub rounded_open : (c : Context) → IsRounded c → IsOpen fl w done c Root
   rounded_open c r x d = r x (subst (λ (l : List Way). Contains l x) (root_region fl c) d)

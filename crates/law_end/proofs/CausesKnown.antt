@@ -14,7 +14,7 @@ use Rattle.law_net.specs.Contexts.{Wires, block_in, IsContext, child, next}
 use Rattle.law_net.specs.ContextsAround.{ways_round, own_ways, earlier_turns}
 use Rattle.law_net.specs.ContextsFirings.{handed_to, frame_at, HasFired}
 use Rattle.law_net.specs.ContextsLaws.{spot_there}
-use Rattle.law_net.specs.ContextsStands.{Past}
+use Rattle.law_net.specs.ContextsMirror.{Past}
 use Rattle.law_net.specs.ContextsTheorem.{IsGood}
 use Rattle.law_net.specs.ContextsPackages.{Keeps, InputsFit}
 use Rattle.law_net.proofs.WiredSends.{first_taken, takes_first, first_context, part_there}
@@ -42,21 +42,21 @@ child_turn fl d c k n t e = go (is_loop (block_in fl d) k) e
 module _ (fl : Flow) (p : Plan) (w : Wires) (inputs : List ℤ) (past : Past) (m : Machine) (good : IsGood fl p w) (fit : InputsFit fl inputs)
     (kept : Keeps fl p w inputs past m) (earlier : SourcesAreEarlier fl) where
   abbrev done : List Firing
-  done = kept.follows.net.fired
+  done = kept.tracks.net.fired
 
   -- a strict call that asked for its frame has fired in the meaning
   abbrev pub StrictFired : Type 0
-  StrictFired = (c : Context) (n : ℕ) → HasFired c (Framer n) kept.follows.net.fired → (line : Node ℕ) → node_of fl c n ≡ Some line
+  StrictFired = (c : Context) (n : ℕ) → HasFired c (Framer n) kept.tracks.net.fired → (line : Node ℕ) → node_of fl c n ≡ Some line
       → StartsWhenStrict (story fl p w inputs past m good fit kept).run c n line.kind
 
   abbrev pub HasFrame : Context → Type 0
-  HasFrame c = (g : ℕ) × (frame_at fl kept.follows.net.fired c ≡ Some g)
+  HasFrame c = (g : ℕ) × (frame_at fl kept.tracks.net.fired c ≡ Some g)
 
   -- what fires does so in a context with a frame
   pub framed : (h : Firing) → Contains done h → HasFrame h.context
   framed h d =
       let i = first_taken fl w h h.part in
-      let (g, e) = kept.follows.stands.known i (taken_stands fl p w inputs past m good fit kept i (taken_in fl done h i d (takes_first fl w h))) in
+      let (g, e) = kept.tracks.stands.known i (taken_stands fl p w inputs past m good fit kept i (taken_in fl done h i d (takes_first fl w h))) in
       (g, ap (frame_at fl done) (sym (first_context fl w h h.part)) ∙ e)
 
   turning : (h : Firing) → Contains done h → h.part ≡ NextAsked → is_turn h.context ≡ true

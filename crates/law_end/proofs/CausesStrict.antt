@@ -15,22 +15,22 @@ use Rattle.law_confluence.proofs.Net.{Waits, Fires}
 use Rattle.law_net.specs.ContextsParts.{Part, Framer, Fanned, Asked, Sender, Inlet, inlet, Datum, BackTo, Item, item, Firing, Spot}
 use Rattle.law_net.specs.ContextsBlocks.{strict_kind, is_strict, source_count}
 use Rattle.law_net.specs.Contexts.{Wires, block_in, is_strict_in}
-use Rattle.law_net.specs.ContextsWires.{AValue, comes_at}
-use Rattle.law_net.specs.ContextsTold.{told, told_by}
+use Rattle.law_net.specs.ContextsWires.{AValue, arrives_at}
+use Rattle.law_net.specs.ContextsMeant.{meant, meant_by}
 use Rattle.law_net.specs.ContextsFirings.{Config, Move, begin, arguments_from, IsProper, IsProperMove, ProperAt, ProperMoves, Still, Then, HasFired}
 use Rattle.law_net.specs.ContextsLaws.{Carries}
-use Rattle.law_net.specs.ContextsStands.{Past}
+use Rattle.law_net.specs.ContextsMirror.{Past}
 use Rattle.law_net.specs.ContextsTheorem.{IsGood}
 use Rattle.law_net.specs.ContextsPackages.{Keeps, InputsFit}
 use Rattle.law_net_refines_meaning.proofs.FiringsNodes.{kind_of}
 use Rattle.law_net.proofs.WiredInvoked.{block_here, strict_call, call_invoked}
-use Rattle.law_end.proofs.OverMade.{Stands}
+use Rattle.law_end.proofs.OverMade.{Mirrors}
 use Rattle.law_end.proofs.OverBack.{context_of}
 use Rattle.law_net.specs.ContextsOperands.{SourcesAreEarlier}
 use Rattle.law_end.proofs.RestStores.{fits_main}
 use Rattle.law_end.proofs.RestWaits.{carries}
 use Rattle.law_end.proofs.RestForward.{gift_stands}
-use Rattle.law_end.proofs.RestStory.{story, ever_told}
+use Rattle.law_end.proofs.RestStory.{story, ever_meant}
 use Rattle.law_end.proofs.RestArms.{stood_of}
 use Rattle.law_end.proofs.CausesKnown.{StrictFired}
 
@@ -60,13 +60,13 @@ first_argument c n (v ∷ vs) h = (v, contains_head (item c (inlet (Sender n 0) 
 
 module _ (fl : Flow) (p : Plan) (w : Wires) (inputs : List ℤ) (past : Past) (m : Machine) (good : IsGood fl p w) (fit : InputsFit fl inputs)
     (kept : Keeps fl p w inputs past m) (earlier : SourcesAreEarlier fl) where
-  strict_starts : (c : Context) (n : ℕ) → HasFired c (Framer n) kept.follows.net.fired → is_strict (block_in fl c) n ≡ true → (line : Node ℕ)
+  strict_starts : (c : Context) (n : ℕ) → HasFired c (Framer n) kept.tracks.net.fired → is_strict (block_in fl c) n ≡ true → (line : Node ℕ)
       → node_of fl c n ≡ Some line → StartsWhenStrict (story fl p w inputs past m good fit kept).run c n line.kind
   strict_starts c n (h, d, a, e) strict line node =
       let con = context_of fl p w inputs past m good fit kept c (Framer n) (h, d, a, e) in
       let there : is_strict_in fl h.context n ≡ true = ap (λ (c : Context). is_strict_in fl c n) a ∙ strict in
       let invoked = (call_invoked fl p w good c n con (strict_call (block_in fl c) n strict)).0 in
-      let count = long_then fl w (begin inputs) kept.follows.net kept.follows.moves (λ h n x g. absurd (contains_none h x)) h n d e
+      let count = long_then fl w (begin inputs) kept.tracks.net kept.tracks.moves (λ h n x g. absurd (contains_none h x)) h n d e
       ∙ ap (λ (t : Bool). if t then source_count (block_in fl h.context) n else 0) there ∙ ap (λ (c : Context). source_count (block_in fl c) n) a in
       let some = invoked.some_input in let inputs' = invoked.inputs in
       let (v, one) = first_argument h.context n h.operands (omega (arith, count, some, inputs')) in
@@ -76,20 +76,20 @@ module _ (fl : Flow) (p : Plan) (w : Wires) (inputs : List ℤ) (past : Past) (m
       (contains_tail asks _ gift (subst (λ (t : Bool). Contains (if t then arguments_from h.context n 1 0 h.operands else []) gift) (sym there) one)) in
       by_item j stood (ap (λ (x : Spot). x.context) same ∙ a) (ap (λ (x : Spot). x.inlet) same)
     where
-      by_item : (j : Item) → Stands fl p w inputs past m good fit kept j → j.context ≡ c → j.inlet ≡ inlet (Sender n 0) Right 1
+      by_item : (j : Item) → Mirrors fl p w inputs past m good fit kept j → j.context ≡ c → j.inlet ≡ inlet (Sender n 0) Right 1
           → StartsWhenStrict (story fl p w inputs past m good fit kept).run c n line.kind
       by_item j stood jc jx =
           let (v, word) : Carries fl w c 1 AValue j.word =
-          subst (λ (y : Inlet). Carries fl w c y.way (comes_at y.part y.port) j.word) jx
-          (subst (λ (d : Context). Carries fl w d j.inlet.way (comes_at j.inlet.part j.inlet.port) j.word) jc
+          subst (λ (y : Inlet). Carries fl w c y.way (arrives_at y.part y.port) j.word) jx
+          (subst (λ (d : Context). Carries fl w d j.inlet.way (arrives_at j.inlet.part j.inlet.port) j.word) jc
           (carries fl p w inputs past m good fit kept j stood)) in
           let t = tagged (Called c n) (AtNode 0) (Operand 0) v in
-          let tells : told fl j ≡ t ∷ [] = (λ k. told_by fl (record { context = jc k; inlet = jx k; word = word k; held = j.held }) (jx k).part) in
-          let come = ever_told fl p w inputs past m good fit kept j stood t
+          let tells : meant fl j ≡ t ∷ [] = (λ k. meant_by fl (record { context = jc k; inlet = jx k; word = word k; held = j.held }) (jx k).part) in
+          let arrive = ever_meant fl p w inputs past m good fit kept j stood t
           (subst (λ (l : List Tagged). Contains l t) (sym tells) (contains_head t [])) in
           let s = story fl p w inputs past m good fit kept in
           let due = stood_due fl good.well inputs (fits_main fl p w inputs past m good fit kept) s.state s.run s.is_run t
-          (stood_of fl p w inputs past m good fit kept t come) in
+          (stood_of fl p w inputs past m good fit kept t arrive) in
           let (other, at, call, starts) = due.1 in
           subst (λ (l : Node ℕ). StartsWhenStrict s.run c n l.kind) (same_Some other line (sym at ∙ node)) starts
 

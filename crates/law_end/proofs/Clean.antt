@@ -9,7 +9,7 @@ use Rattle.law_net.specs.ContextsParts.{Opener, Item}
 use Rattle.law_net.specs.ContextsBlocks.{is_loop}
 use Rattle.law_net.specs.Contexts.{or_zero, block_in, wiring_in, IsContext}
 use Rattle.law_net.specs.ContextsFirings.{frame_at}
-use Rattle.law_net.specs.ContextsStands.{frame_of, word_of, only, in_slot, slot_of, on_side}
+use Rattle.law_net.specs.ContextsMirror.{frame_of, word_of, only, in_slot, slot_of, on_side}
 use Rattle.law_net.proofs.WiredNets.{only_contains}
 use Rattle.law_end.proofs.OverLast as Last
 use Rattle.law_net.specs.ContextsPackages.{OfRuns, CleanAtRest}
@@ -23,30 +23,30 @@ module _ (u : AtRest) where
     where
       pick : (u.m.store.out f ≡ true) ⊎ (u.m.store.out f ≡ false) → u.m.store.out f ≡ false
       pick (inr e) = e
-      pick (inl e) = let (c, at) = u.kept.follows.stands.not_out f e in (u.kept.follows.stands.out c f at).1 (freed u c f at)
+      pick (inl e) = let (c, at) = u.kept.tracks.stands.not_out f e in (u.kept.tracks.stands.out c f at).1 (freed u c f at)
 
   -- a frame's slots, where a context has it
-  of_context : (c : Context) (f : ℕ) → frame_at u.fl u.kept.follows.net.fired c ≡ Some f → (r : ℕ) → u.m.store.slots f r ≡ Empty
+  of_context : (c : Context) (f : ℕ) → frame_at u.fl u.kept.tracks.net.fired c ≡ Some f → (r : ℕ) → u.m.store.slots f r ≡ Empty
   of_context c f at r = Last.slots_empty u.fl u.p u.w u.inputs u.past u.m u.good u.fit u.kept c f at (ended u c f at) r
 
   slots_empty : (f r : ℕ) → u.m.store.slots f r ≡ Empty
-  slots_empty f r = pick (u.kept.follows.stands.slots.empty f r)
+  slots_empty f r = pick (u.kept.tracks.stands.slots.empty f r)
     where
-      by_base : (u.kept.follows.stands.base f r ≡ Empty)
-          ⊎ ((c : Context) × (n : ℕ) × IsContext u.fl c × (is_loop (block_in u.fl c) n ≡ true) × (frame_at u.fl u.kept.follows.net.fired c ≡ Some f)
+      by_base : (u.kept.tracks.stands.base f r ≡ Empty)
+          ⊎ ((c : Context) × (n : ℕ) × IsContext u.fl c × (is_loop (block_in u.fl c) n ≡ true) × (frame_at u.fl u.kept.tracks.net.fired c ≡ Some f)
           × ((wiring_in u.fl u.w c).slot (Opener n) ≡ r))
-          → u.m.store.slots f r ≡ u.kept.follows.stands.base f r → u.m.store.slots f r ≡ Empty
+          → u.m.store.slots f r ≡ u.kept.tracks.stands.base f r → u.m.store.slots f r ≡ Empty
       by_base (inl e) same = same ∙ e
       by_base (inr (c, n, x, l, at, o)) same = of_context c f at r
 
-      pick : (u.m.store.slots f r ≡ u.kept.follows.stands.base f r)
-          ⊎ AtSlot (λ (i : Item). frame_of u.fl u.kept.follows.net.fired i.context) (slot_of u.fl u.w)
-          (λ (i : Item). on_side i.inlet.port (word_of u.fl u.p u.w u.kept.follows.net.fired i.word)) u.kept.follows.stands.base
-          (only (in_slot u.fl) u.kept.follows.net.waiting) f r → u.m.store.slots f r ≡ Empty
-      pick (inl e) = by_base (u.kept.follows.stands.others f r) e
+      pick : (u.m.store.slots f r ≡ u.kept.tracks.stands.base f r)
+          ⊎ AtSlot (λ (i : Item). frame_of u.fl u.kept.tracks.net.fired i.context) (slot_of u.fl u.w)
+          (λ (i : Item). on_side i.inlet.port (word_of u.fl u.p u.w u.kept.tracks.net.fired i.word)) u.kept.tracks.stands.base
+          (only (in_slot u.fl) u.kept.tracks.net.waiting) f r → u.m.store.slots f r ≡ Empty
+      pick (inl e) = by_base (u.kept.tracks.stands.others f r) e
       pick (inr (i, d, a, e)) =
-          let waits = (only_contains (in_slot u.fl) u.kept.follows.net.waiting i d).0 in
-          let (g, at) = u.kept.follows.stands.known i (waiting_stands u i waits) in
+          let waits = (only_contains (in_slot u.fl) u.kept.tracks.net.waiting i d).0 in
+          let (g, at) = u.kept.tracks.stands.known i (waiting_stands u i waits) in
           of_context i.context f (at ∙ ap Some (sym (ap or_zero at) ∙ a)) r
 
   pub clean : IsClean u.m

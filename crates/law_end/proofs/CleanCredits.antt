@@ -19,7 +19,7 @@ use Rattle.law_net.specs.Contexts.{Wires, block_in, wiring_in, IsContext}
 use Rattle.law_net.specs.ContextsCredits.{Ledger, waits_or}
 use Rattle.law_net.specs.ContextsFirings.{Config, Move, begin, takes, own_takes, renewed, frame_at, left_item, times, turn_before, ProperAt, IsProperMove}
 use Rattle.law_net.specs.ContextsFirings.{ProperMoves, Still, Then}
-use Rattle.law_net.specs.ContextsStands.{conts_of, only, is_item_at, items_at, is_over, granted_of}
+use Rattle.law_net.specs.ContextsMirror.{conts_of, only, is_item_at, items_at, is_over, granted_of}
 use Rattle.law_net.proofs.ContextsSames.{spot_is}
 use Rattle.law_net.proofs.ContextsBlocks.{first_cont_some}
 use Rattle.law_net.proofs.CreditsOpened.{NTaker}
@@ -28,7 +28,7 @@ use Rattle.law_net.proofs.CreditsTurns.{no_later}
 use Rattle.law_net.proofs.RunsPigeons.{items_total, item_here, some_item}
 use Rattle.law_end.proofs.OverMade.{credit_gone, twice}
 use Rattle.law_end.proofs.OverBack.{turn_ended, turn_asked}
-use Rattle.law_end.proofs.CleanStill.{AtRest, Stood, Comes, Fired}
+use Rattle.law_end.proofs.CleanStill.{AtRest, Stood, Arrives, Fired}
 use Rattle.law_end.proofs.CleanFires.{TookBy, Own, Back, Renewed, took_by, goes_back, waits_or_taken, waiting_stands, carried, cont_waits}
 
 -- MANY items at one part, each with its way
@@ -114,7 +114,7 @@ module _ (u : AtRest) (c : Context) (con : IsContext u.fl c) (n : ℕ) (l : is_l
       pick (inr k) = absurd (contains_none i k)
 
   -- NO TAKE WAITS
-  module _ (t : ℕ) (i : Item) (waits : Contains u.kept.follows.net.waiting i) (a : i.context ≡ c) (e : i.inlet ≡ inlet (Taker n) Left (suc t)) where
+  module _ (t : ℕ) (i : Item) (waits : Contains u.kept.tracks.net.waiting i) (a : i.context ≡ c) (e : i.inlet ≡ inlet (Taker n) Left (suc t)) where
     part : i.inlet.part ≡ Taker n
     part = ap (λ (x : Inlet). x.part) e
 
@@ -124,50 +124,50 @@ module _ (u : AtRest) (c : Context) (con : IsContext u.fl c) (n : ℕ) (l : is_l
     stood : Stood u i
     stood = waiting_stands u i waits
 
-    over_not : (b : Bool) → is_over u.kept.follows.net c n ≡ b → is_over u.kept.follows.net c n ≡ false
+    over_not : (b : Bool) → is_over u.kept.tracks.net c n ≡ b → is_over u.kept.tracks.net c n ≡ false
     over_not false g = g
     over_not true g =
-        let (h, d, x, y) = firing_of c (Drained n) u.kept.follows.net.fired (ltb-true 0 (times c (Drained n) u.kept.follows.net.fired) g) in
+        let (h, d, x, y) = firing_of c (Drained n) u.kept.tracks.net.fired (ltb-true 0 (times c (Drained n) u.kept.tracks.net.fired) g) in
         let low = no_later u.fl u.p u.w u.inputs u.past u.m u.good u.kept c con n l h d x y i stood a part in
         let asked = turn_asked u.fl u.p u.w u.inputs u.past u.m u.good u.fit u.kept c con n l t
         (turn_ended u.fl u.p u.w u.inputs u.past u.m u.good u.fit u.kept c con n l h d x y (suc t) (let z = way in omega (arith, low, z))) in
         let (j, o, b, z) = credit_gone u.fl u.p u.w u.inputs u.past u.m u.good u.fit u.kept c n t asked in
         absurd (twice u.fl u.p u.w u.inputs u.past u.m u.good u.fit u.kept i j
-        (Contains-append_right u.kept.follows.net.pending u.kept.follows.net.waiting i waits) o
+        (Contains-append_right u.kept.tracks.net.pending u.kept.tracks.net.waiting i waits) o
         (spot_is (record { context = j.context; inlet = j.inlet }) (record { context = i.context; inlet = i.inlet }) (b ∙ sym a) (z ∙ sym e)))
 
     no_take_waits : ⊥
     no_take_waits =
-        let opened = lt-ltb 0 (times c (Opener n) u.kept.follows.net.fired)
+        let opened = lt-ltb 0 (times c (Opener n) u.kept.tracks.net.fired)
         (near_opened u.fl u.p u.w u.inputs u.past u.m u.good u.kept c con n l i stood (NTaker a part)) in
         let (k, o) = cont_waits u (is_item_at c (Taker n)) i waits (item_here c (Taker n) i a part) (turn_before i.context n i.inlet.way)
         (inlet NextFramer Left 0) (carried u i stood (Taker n) part) in
-        let (b, some) = first_cont_some (conts_of u.fl u.p u.w u.kept.follows.net.fired (only (is_item_at c (Taker n)) u.kept.follows.net.waiting)) k o in
-        let (g, at) = u.kept.follows.stands.known i stood in
+        let (b, some) = first_cont_some (conts_of u.fl u.p u.w u.kept.tracks.net.fired (only (is_item_at c (Taker n)) u.kept.tracks.net.waiting)) k o in
+        let (g, at) = u.kept.tracks.stands.known i stood in
         let drains = ((keeps u.fl u.p u.w u.inputs u.past u.m u.good u.kept c con n l).law.waits b some).1 in
-        let slot = slot_is u.fl u.p u.w u.inputs u.past u.m u.good u.kept c con n l g (ap (frame_at u.fl u.kept.follows.net.fired) (sym a) ∙ at)
-        ∙ open_form u.fl u.p u.w u.inputs u.past u.m u.good u.kept c con n l opened (over_not (is_over u.kept.follows.net c n) refl)
+        let slot = slot_is u.fl u.p u.w u.inputs u.past u.m u.good u.kept c con n l g (ap (frame_at u.fl u.kept.tracks.net.fired) (sym a) ∙ at)
+        ∙ open_form u.fl u.p u.w u.inputs u.past u.m u.good u.kept c con n l opened (over_not (is_over u.kept.tracks.net c n) refl)
         ∙ ap (λ (t : Bool). if t then Slot.Draining (log.granted - log.given) else waits_or log.waiter (Slot.Credits (most - (log.granted - log.given)))) drains
         ∙ ap (λ (w : Option Cont). waits_or w (Slot.Credits (most - (log.granted - log.given)))) some in
         u.wants (inr (g, (wiring_in u.fl u.w c).slot (Opener n), b, slot))
 
   -- A CREDIT that was asked for was taken
-  pub taker_fires : (t : ℕ) → Comes u c (inlet (Taker n) Left (suc t))
-      → (h : Firing) × Contains u.kept.follows.net.fired h × (h.context ≡ c) × (h.part ≡ Taker n) × (h.way ≡ suc t)
+  pub taker_fires : (t : ℕ) → Arrives u c (inlet (Taker n) Left (suc t))
+      → (h : Firing) × Contains u.kept.tracks.net.fired h × (h.context ≡ c) × (h.part ≡ Taker n) × (h.way ≡ suc t)
   taker_fires t (i, s, a, e) = pick (waits_or_taken u i s)
     where
       is_part : i.inlet.part ≡ Taker n
       is_part = ap (λ (x : Inlet). x.part) e
 
-      by : (h : Firing) → Contains u.kept.follows.net.fired h → Contains (takes u.fl h) i → i.context ≡ h.context → TookBy u.fl h i
-          → (h : Firing) × Contains u.kept.follows.net.fired h × (h.context ≡ c) × (h.part ≡ Taker n) × (h.way ≡ suc t)
+      by : (h : Firing) → Contains u.kept.tracks.net.fired h → Contains (takes u.fl h) i → i.context ≡ h.context → TookBy u.fl h i
+          → (h : Firing) × Contains u.kept.tracks.net.fired h × (h.context ≡ c) × (h.part ≡ Taker n) × (h.way ≡ suc t)
       by h d o same (Own g) = (h, d, sym same ∙ a, g ∙ is_part, sym (take_way h i (g ∙ is_part) o) ∙ ap (λ (x : Inlet). x.way) e)
       by h d o same (Back k g (inl x)) = let z = sym x ∙ is_part in absurd (cc)
       by h d o same (Back k g (inr x)) = let z = sym x ∙ is_part in absurd (cc)
       by h d o same (Renewed k j g x) = let z = sym (ap (λ (x : Inlet). x.part) x) ∙ is_part in absurd (cc)
 
-      pick : Contains u.kept.follows.net.waiting i ⊎ ((h : Firing) × Contains u.kept.follows.net.fired h × Contains (takes u.fl h) i)
-          → (h : Firing) × Contains u.kept.follows.net.fired h × (h.context ≡ c) × (h.part ≡ Taker n) × (h.way ≡ suc t)
+      pick : Contains u.kept.tracks.net.waiting i ⊎ ((h : Firing) × Contains u.kept.tracks.net.fired h × Contains (takes u.fl h) i)
+          → (h : Firing) × Contains u.kept.tracks.net.fired h × (h.context ≡ c) × (h.part ≡ Taker n) × (h.way ≡ suc t)
       pick (inl d) = absurd (no_take_waits t i d a e)
       pick (inr (h, d, o)) = let (same, took) = took_by u.fl h i o in by h d o same took
 
@@ -177,35 +177,35 @@ module _ (u : AtRest) (c : Context) (con : IsContext u.fl c) (n : ℕ) (l : is_l
   loop_of (Drainer k) = k
   loop_of r = 0
 
-  back_waits : (r : Part) (t : ℕ) → goes_back r ≡ true → loop_of r ≡ n → (f : Comes u c (inlet r Left t))
-      → Contains u.kept.follows.net.waiting f.0 ⊎ Fired u c (Drained n)
+  back_waits : (r : Part) (t : ℕ) → goes_back r ≡ true → loop_of r ≡ n → (f : Arrives u c (inlet r Left t))
+      → Contains u.kept.tracks.net.waiting f.0 ⊎ Fired u c (Drained n)
   back_waits r t back mine (i, s, a, e) = pick (waits_or_taken u i s)
     where
-      by : (h : Firing) → Contains u.kept.follows.net.fired h → i.context ≡ h.context → TookBy u.fl h i → Fired u c (Drained n)
+      by : (h : Firing) → Contains u.kept.tracks.net.fired h → i.context ≡ h.context → TookBy u.fl h i → Fired u c (Drained n)
       by h d same (Own g) =
-          absurd (no_credit_fires u.fl u.w (begin u.inputs) u.kept.follows.net u.kept.follows.moves (λ h x y. contains_none h x) h d
+          absurd (no_credit_fires u.fl u.w (begin u.inputs) u.kept.tracks.net u.kept.tracks.moves (λ h x y. contains_none h x) h d
           (ap goes_back (g ∙ ap (λ (x : Inlet). x.part) e) ∙ back))
       by h d same (Back k g (inl x)) = (h, d, sym same ∙ a, g ∙ ap Drained (ap loop_of (sym x ∙ ap (λ (x : Inlet). x.part) e) ∙ mine))
       by h d same (Back k g (inr x)) = (h, d, sym same ∙ a, g ∙ ap Drained (ap loop_of (sym x ∙ ap (λ (x : Inlet). x.part) e) ∙ mine))
       by h d same (Renewed k j g x) = absurd (true≢false (sym back ∙ ap goes_back (sym (ap (λ (x : Inlet). x.part) e) ∙ ap (λ (x : Inlet). x.part) x)))
 
-      pick : Contains u.kept.follows.net.waiting i ⊎ ((h : Firing) × Contains u.kept.follows.net.fired h × Contains (takes u.fl h) i)
-          → Contains u.kept.follows.net.waiting i ⊎ Fired u c (Drained n)
+      pick : Contains u.kept.tracks.net.waiting i ⊎ ((h : Firing) × Contains u.kept.tracks.net.fired h × Contains (takes u.fl h) i)
+          → Contains u.kept.tracks.net.waiting i ⊎ Fired u c (Drained n)
       pick (inl d) = inl d
       pick (inr (h, d, o)) = let (same, took) = took_by u.fl h i o in inr (by h d same took)
 
-  pub drained_fires : (t : ℕ) → Comes u c (inlet (Drainer n) Left t) → ((s : ℕ) → s ≤ t → Comes u c (inlet (Giver n) Left s)) → Fired u c (Drained n)
-  drained_fires t drain gives = by_over (is_over u.kept.follows.net c n) refl
+  pub drained_fires : (t : ℕ) → Arrives u c (inlet (Drainer n) Left t) → ((s : ℕ) → s ≤ t → Arrives u c (inlet (Giver n) Left s)) → Fired u c (Drained n)
+  drained_fires t drain gives = by_over (is_over u.kept.tracks.net c n) refl
     where
-      unless : is_over u.kept.follows.net c n ≡ false → (i : Item) → Contains u.kept.follows.net.waiting i ⊎ Fired u c (Drained n)
-          → Contains u.kept.follows.net.waiting i
+      unless : is_over u.kept.tracks.net c n ≡ false → (i : Item) → Contains u.kept.tracks.net.waiting i ⊎ Fired u c (Drained n)
+          → Contains u.kept.tracks.net.waiting i
       unless none i (inl d) = d
       unless none i (inr (h, d, x, y)) =
-          absurd (true≢false (sym (lt-ltb 0 (times c (Drained n) u.kept.follows.net.fired) (some_firing c (Drained n) u.kept.follows.net.fired h d x y))
+          absurd (true≢false (sym (lt-ltb 0 (times c (Drained n) u.kept.tracks.net.fired) (some_firing c (Drained n) u.kept.tracks.net.fired h d x y))
           ∙ none))
 
-      gave : is_over u.kept.follows.net c n ≡ false → (s : ℕ) → s ≤ t
-          → (i : Item) × Contains u.kept.follows.net.waiting i × (is_item_at c (Giver n) i ≡ true) × (i.inlet.way ≡ s)
+      gave : is_over u.kept.tracks.net c n ≡ false → (s : ℕ) → s ≤ t
+          → (i : Item) × Contains u.kept.tracks.net.waiting i × (is_item_at c (Giver n) i ≡ true) × (i.inlet.way ≡ s)
       gave none s low = let f = gives s low in (
         f.0,
         unless none f.0 (back_waits (Giver n) s refl refl f),
@@ -213,20 +213,20 @@ module _ (u : AtRest) (c : Context) (con : IsContext u.fl c) (n : ℕ) (l : is_l
         ap (λ (x : Inlet). x.way) f.3,
       )
 
-      by_over : (b : Bool) → is_over u.kept.follows.net c n ≡ b → Fired u c (Drained n)
-      by_over true g = firing_of c (Drained n) u.kept.follows.net.fired (ltb-true 0 (times c (Drained n) u.kept.follows.net.fired) g)
+      by_over : (b : Bool) → is_over u.kept.tracks.net c n ≡ b → Fired u c (Drained n)
+      by_over true g = firing_of c (Drained n) u.kept.tracks.net.fired (ltb-true 0 (times c (Drained n) u.kept.tracks.net.fired) g)
       by_over false g =
           let i = drain.0 in let waits = unless g i (back_waits (Drainer n) t refl refl drain) in
           let part : i.inlet.part ≡ Drainer n = ap (λ (x : Inlet). x.part) drain.3 in
           let way : i.inlet.way ≡ t = ap (λ (x : Inlet). x.way) drain.3 in
           let law = keeps u.fl u.p u.w u.inputs u.past u.m u.good u.kept c con n l in
-          let last = (law.drains i (Contains-append_right u.kept.follows.net.pending u.kept.follows.net.waiting i waits) drain.2 part).0 in
-          let some = some_item c (Drainer n) u.kept.follows.net.waiting i waits drain.2 part in
-          let sum = items_total c (Drainer n) u.kept.follows.net.waiting in
-          let less = law.law.drains (lt-ltb 0 (items_at c (Drainer n) u.kept.follows.net.waiting) (omega (arith, some, sum))) g in
-          let given : log.given ≡ items_at c (Giver n) u.kept.follows.net.waiting =
-          ap (λ (t : Bool). if t then granted_of u.kept.follows.net c n else items_at c (Giver n) u.kept.follows.net.waiting) g in
-          let enough = many (is_item_at c (Giver n)) u.kept.follows.net.waiting (suc t) (λ s low. gave g s (omega (arith, low))) in
-          let below = total_less (is_item_at c (Giver n)) (suc t) u.kept.follows.net.waiting in
-          let all = items_total c (Giver n) u.kept.follows.net.waiting in
+          let last = (law.drains i (Contains-append_right u.kept.tracks.net.pending u.kept.tracks.net.waiting i waits) drain.2 part).0 in
+          let some = some_item c (Drainer n) u.kept.tracks.net.waiting i waits drain.2 part in
+          let sum = items_total c (Drainer n) u.kept.tracks.net.waiting in
+          let less = law.law.drains (lt-ltb 0 (items_at c (Drainer n) u.kept.tracks.net.waiting) (omega (arith, some, sum))) g in
+          let given : log.given ≡ items_at c (Giver n) u.kept.tracks.net.waiting =
+          ap (λ (t : Bool). if t then granted_of u.kept.tracks.net c n else items_at c (Giver n) u.kept.tracks.net.waiting) g in
+          let enough = many (is_item_at c (Giver n)) u.kept.tracks.net.waiting (suc t) (λ s low. gave g s (omega (arith, low))) in
+          let below = total_less (is_item_at c (Giver n)) (suc t) u.kept.tracks.net.waiting in
+          let all = items_total c (Giver n) u.kept.tracks.net.waiting in
           absurd (omega (arith, way, last, less, given, enough, below, all))

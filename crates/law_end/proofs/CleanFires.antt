@@ -16,22 +16,22 @@ use Rattle.semantics.specs.Graph.{Flow}
 use Rattle.semantics.specs.Meaning.{Context}
 use Rattle.semantics.specs.Machine.{CellState, Vacant, Full, Deferred, reader_count}
 use Rattle.semantics.specs.Orderly.{readers_of}
-use Rattle.law_net.specs.ContextsParts.{Part, Line, Framer, Fanned, Sender, Giver, Taker, Drainer, NextFanned, Asked, NextAsked, Held, Drained, Inlet, inlet}
+use Rattle.law_net.specs.ContextsParts.{Part, Line, Framer, Fanned, Sender, Giver, Taker, Drainer, NextFanned, Asked, NextAsked, InCell, Drained, Inlet, inlet}
 use Rattle.law_net.specs.ContextsParts.{Note, Datum, BackTo, signal, Item, item, Firing, spot_of}
 use Rattle.law_net.specs.ContextsBlocks.{side, waits_in, is_cell}
 use Rattle.law_net.specs.Contexts.{block_in, wiring_in, is_strict_in}
-use Rattle.law_net.specs.ContextsWires.{comes_at}
+use Rattle.law_net.specs.ContextsWires.{arrives_at}
 use Rattle.law_net.specs.ContextsFirings.{left_item, right_way, arguments_from, given_back, request_of, takes, own_takes, renewed, back_from}
 use Rattle.law_net.specs.ContextsLaws.{Fits, Carries, spot_there, port_fits}
-use Rattle.law_net.specs.ContextsStands.{frame_of, ip_of, word_of, cont_in, conts_of, only, in_slot, slot_of, on_side, is_asked, is_held, reads, reads_cell}
-use Rattle.law_net.specs.ContextsStands.{token_of}
+use Rattle.law_net.specs.ContextsMirror.{frame_of, ip_of, word_of, cont_in, conts_of, only, in_slot, slot_of, on_side, is_asked, is_in_cell, reads, reads_cell}
+use Rattle.law_net.specs.ContextsMirror.{token_of}
 use Rattle.law_net.proofs.ContextsWords.{carries_of}
 use Rattle.law_net.proofs.WiredNets.{only_has, flat_contains}
 use Rattle.law_net.proofs.WiredSends.{cell_plain}
 use Rattle.law_end.specs.Over.{is_turning}
 use Rattle.law_end.proofs.OverMade.{fits, word, left_stands}
 use Rattle.law_end.proofs.OverPaths.{Wire, next}
-use Rattle.law_end.proofs.CleanStill.{AtRest, Stood, Comes, Fired}
+use Rattle.law_end.proofs.CleanStill.{AtRest, Stood, Arrives, Fired}
 
 none_left : {X : Type 0} (xs : List X) → length xs ≡ 0 → (x : X) → Contains xs x → ⊥
 none_left [] e x c = contains_none x c
@@ -86,7 +86,7 @@ module _ (fl : Flow) (h : Firing) (i : Item) where
       pick (inr k) more = more k
 
   own_taken : (r : Part) → h.part ≡ r → Contains (own_takes fl h r) i → Took
-  own_taken (Held n) e d = pick (contains_cases (request_of h) [] i d)
+  own_taken (InCell n) e d = pick (contains_cases (request_of h) [] i d)
     where
       pick : (request_of h ≡ i) ⊎ Contains [] i → Took
       pick (inl g) = (ap (λ (i : Item). i.context) (sym g), Own (ap (λ (i : Item). i.inlet.part) g))
@@ -133,80 +133,80 @@ goes_back (Drainer n) = true
 goes_back r = false
 
 module _ (u : AtRest) where
-  pub waiting_stands : (i : Item) → Contains u.kept.follows.net.waiting i → Stood u i
+  pub waiting_stands : (i : Item) → Contains u.kept.tracks.net.waiting i → Stood u i
   waiting_stands i d =
       left_stands u.fl u.p u.w u.inputs u.past u.m u.good u.fit u.kept i
-      (Contains-append_right u.kept.follows.net.pending u.kept.follows.net.waiting i d)
+      (Contains-append_right u.kept.tracks.net.pending u.kept.tracks.net.waiting i d)
 
   pub fits_at : (i : Item) → Stood u i → Fits u.fl u.w (spot_of i)
   fits_at i s = fits u.fl u.p u.w u.inputs u.past u.m u.good u.fit u.kept i s
 
-  pub none_pending : (i : Item) → Contains u.kept.follows.net.pending i → ⊥
+  pub none_pending : (i : Item) → Contains u.kept.tracks.net.pending i → ⊥
   none_pending i d =
-      image_none (token_of u.fl u.p u.w u.kept.follows.net.fired) u.kept.follows.net.pending i d
-      (subst (λ (ts : List Token). IsPermutation ts (map (token_of u.fl u.p u.w u.kept.follows.net.fired) u.kept.follows.net.pending)) u.rests
-      u.kept.follows.stands.pool)
+      image_none (token_of u.fl u.p u.w u.kept.tracks.net.fired) u.kept.tracks.net.pending i d
+      (subst (λ (ts : List Token). IsPermutation ts (map (token_of u.fl u.p u.w u.kept.tracks.net.fired) u.kept.tracks.net.pending)) u.rests
+      u.kept.tracks.stands.pool)
 
   -- WHAT CAME waits or was taken
   pub waits_or_taken : (i : Item) → Stood u i
-      → Contains u.kept.follows.net.waiting i ⊎ ((h : Firing) × Contains u.kept.follows.net.fired h × Contains (takes u.fl h) i)
+      → Contains u.kept.tracks.net.waiting i ⊎ ((h : Firing) × Contains u.kept.tracks.net.fired h × Contains (takes u.fl h) i)
   waits_or_taken i s =
-      first (Contains-append_cases u.kept.follows.net.pending (u.kept.follows.net.waiting ++ flat_map (takes u.fl) u.kept.follows.net.fired) i s)
+      first (Contains-append_cases u.kept.tracks.net.pending (u.kept.tracks.net.waiting ++ flat_map (takes u.fl) u.kept.tracks.net.fired) i s)
     where
-      second : Contains u.kept.follows.net.waiting i ⊎ Contains (flat_map (takes u.fl) u.kept.follows.net.fired) i
-          → Contains u.kept.follows.net.waiting i ⊎ ((h : Firing) × Contains u.kept.follows.net.fired h × Contains (takes u.fl h) i)
+      second : Contains u.kept.tracks.net.waiting i ⊎ Contains (flat_map (takes u.fl) u.kept.tracks.net.fired) i
+          → Contains u.kept.tracks.net.waiting i ⊎ ((h : Firing) × Contains u.kept.tracks.net.fired h × Contains (takes u.fl h) i)
       second (inl d) = inl d
-      second (inr d) = inr (contains_flat_mapped (takes u.fl) u.kept.follows.net.fired i d)
+      second (inr d) = inr (contains_flat_mapped (takes u.fl) u.kept.tracks.net.fired i d)
 
-      first : Contains u.kept.follows.net.pending i ⊎ Contains (u.kept.follows.net.waiting ++ flat_map (takes u.fl) u.kept.follows.net.fired) i
-          → Contains u.kept.follows.net.waiting i ⊎ ((h : Firing) × Contains u.kept.follows.net.fired h × Contains (takes u.fl h) i)
+      first : Contains u.kept.tracks.net.pending i ⊎ Contains (u.kept.tracks.net.waiting ++ flat_map (takes u.fl) u.kept.tracks.net.fired) i
+          → Contains u.kept.tracks.net.waiting i ⊎ ((h : Firing) × Contains u.kept.tracks.net.fired h × Contains (takes u.fl h) i)
       first (inl d) = absurd (none_pending i d)
-      first (inr d) = second (Contains-append_cases u.kept.follows.net.waiting (flat_map (takes u.fl) u.kept.follows.net.fired) i d)
+      first (inr d) = second (Contains-append_cases u.kept.tracks.net.waiting (flat_map (takes u.fl) u.kept.tracks.net.fired) i d)
 
   -- by its own part
   pub came_fired : (c : Context) (x : Inlet) (i : Item) → Stood u i → i.context ≡ c → i.inlet ≡ x → goes_back x.part ≡ false
-      → ((n l : ℕ) → is_strict_in u.fl c n ≡ true → x ≡ inlet (Sender n l) Right 0 → ⊥) → Contains u.kept.follows.net.waiting i ⊎ Fired u c x.part
+      → ((n l : ℕ) → is_strict_in u.fl c n ≡ true → x ≡ inlet (Sender n l) Right 0 → ⊥) → Contains u.kept.tracks.net.waiting i ⊎ Fired u c x.part
   came_fired c x i s a e back renews = pick (waits_or_taken i s)
     where
-      by : (h : Firing) → Contains u.kept.follows.net.fired h → i.context ≡ h.context → TookBy u.fl h i → Fired u c x.part
+      by : (h : Firing) → Contains u.kept.tracks.net.fired h → i.context ≡ h.context → TookBy u.fl h i → Fired u c x.part
       by h d same (Own g) = (h, d, sym same ∙ a, g ∙ ap (λ (x : Inlet). x.part) e)
       by h d same (Back n g (inl o)) = absurd (true≢false (sym (ap goes_back (sym (ap (λ (x : Inlet). x.part) e) ∙ o)) ∙ back))
       by h d same (Back n g (inr o)) = absurd (true≢false (sym (ap goes_back (sym (ap (λ (x : Inlet). x.part) e) ∙ o)) ∙ back))
       by h d same (Renewed n l strict g) = absurd (renews n l (ap (λ (c : Context). is_strict_in u.fl c n) (sym a ∙ same) ∙ strict) (sym e ∙ g))
 
-      pick : Contains u.kept.follows.net.waiting i ⊎ ((h : Firing) × Contains u.kept.follows.net.fired h × Contains (takes u.fl h) i)
-          → Contains u.kept.follows.net.waiting i ⊎ Fired u c x.part
+      pick : Contains u.kept.tracks.net.waiting i ⊎ ((h : Firing) × Contains u.kept.tracks.net.fired h × Contains (takes u.fl h) i)
+          → Contains u.kept.tracks.net.waiting i ⊎ Fired u c x.part
       pick (inl d) = inl d
       pick (inr (h, d, t)) = let (same, took) = took_by u.fl h i t in inr (by h d same took)
 
   -- WHAT WAITS: no request, and no reader
-  pub carried : (i : Item) → Stood u i → (r : Part) → i.inlet.part ≡ r → Carries u.fl u.w i.context i.inlet.way (comes_at r i.inlet.port) i.word
-  carried i s r e = subst (λ (r : Part). Carries u.fl u.w i.context i.inlet.way (comes_at r i.inlet.port) i.word) e
+  pub carried : (i : Item) → Stood u i → (r : Part) → i.inlet.part ≡ r → Carries u.fl u.w i.context i.inlet.way (arrives_at r i.inlet.port) i.word
+  carried i s r e = subst (λ (r : Part). Carries u.fl u.w i.context i.inlet.way (arrives_at r i.inlet.port) i.word) e
       (carries_of u.fl u.w i (word u.fl u.p u.w u.inputs u.past u.m u.good u.fit u.kept i s))
 
-  pub cont_waits : (test : Item → Bool) (i : Item) → Contains u.kept.follows.net.waiting i → test i ≡ true → (d : Context) (x : Inlet) → i.word ≡ BackTo d x
-      → (k : Cont) × Contains (conts_of u.fl u.p u.w u.kept.follows.net.fired (only test u.kept.follows.net.waiting)) k
+  pub cont_waits : (test : Item → Bool) (i : Item) → Contains u.kept.tracks.net.waiting i → test i ≡ true → (d : Context) (x : Inlet) → i.word ≡ BackTo d x
+      → (k : Cont) × Contains (conts_of u.fl u.p u.w u.kept.tracks.net.fired (only test u.kept.tracks.net.waiting)) k
   cont_waits test i c e d x g =
-      let k = Cont.Frame (frame_of u.fl u.kept.follows.net.fired d) (ip_of u.fl u.p u.w d x.part) x.port in (
+      let k = Cont.Frame (frame_of u.fl u.kept.tracks.net.fired d) (ip_of u.fl u.p u.w d x.part) x.port in (
         k,
-        flat_contains (λ (i : Item). cont_in (word_of u.fl u.p u.w u.kept.follows.net.fired i.word)) (only test u.kept.follows.net.waiting) i k
-            (only_has test u.kept.follows.net.waiting i c e)
-            (subst (λ (n : Note). Contains (cont_in (word_of u.fl u.p u.w u.kept.follows.net.fired n)) k) (sym g) (contains_head k [])),
+        flat_contains (λ (i : Item). cont_in (word_of u.fl u.p u.w u.kept.tracks.net.fired i.word)) (only test u.kept.tracks.net.waiting) i k
+            (only_has test u.kept.tracks.net.waiting i c e)
+            (subst (λ (n : Note). Contains (cont_in (word_of u.fl u.p u.w u.kept.tracks.net.fired n)) k) (sym g) (contains_head k [])),
       )
 
-  no_requests : (i : Item) → Contains u.kept.follows.net.waiting i → is_asked i.inlet.part ≡ true → (d : Context) (x : Inlet) → i.word ≡ BackTo d x → ⊥
+  no_requests : (i : Item) → Contains u.kept.tracks.net.waiting i → is_asked i.inlet.part ≡ true → (d : Context) (x : Inlet) → i.word ≡ BackTo d x → ⊥
   no_requests i c e d x g =
       let (k, o) = cont_waits (λ (i : Item). is_asked i.inlet.part) i c e d x g in
-      let there = Contains-permutation _ _ k (IsPermutation-sym _ _ u.kept.follows.stands.requests) o in
+      let there = Contains-permutation _ _ k (IsPermutation-sym _ _ u.kept.tracks.stands.requests) o in
       u.wants (inl (λ none. contains_none k (subst (λ (l : List Cont). Contains l k) none there)))
 
-  none_asked : (i : Item) → Contains u.kept.follows.net.waiting i → (r : Part) → i.inlet.part ≡ r → is_asked r ≡ true → ⊥
+  none_asked : (i : Item) → Contains u.kept.tracks.net.waiting i → (r : Part) → i.inlet.part ≡ r → is_asked r ≡ true → ⊥
   none_asked i c (Asked n) e h = no_requests i c (ap is_asked e) i.context (inlet (Fanned n) Left 0) (carried i (waiting_stands i c) (Asked n) e)
   none_asked i c NextAsked e h = no_requests i c (ap is_asked e) i.context (inlet NextFanned Left 0) (carried i (waiting_stands i c) NextAsked e)
   none_asked i c r e h = true≢false (sym h)
 
-  none_held : (i : Item) → Contains u.kept.follows.net.waiting i → (r : Part) → i.inlet.part ≡ r → is_held r ≡ true → ⊥
-  none_held i c (Held n) e h = go ((wiring_in u.fl u.w i.context).wire (side (Line n) false)) wired.1.goes (carried i (waiting_stands i c) (Held n) e)
+  none_held : (i : Item) → Contains u.kept.tracks.net.waiting i → (r : Part) → i.inlet.part ≡ r → is_in_cell r ≡ true → ⊥
+  none_held i c (InCell n) e h = go ((wiring_in u.fl u.w i.context).wire (side (Line n) false)) wired.1.goes (carried i (waiting_stands i c) (InCell n) e)
     where
       spot : Fits u.fl u.w (spot_of i)
       spot = fits_at i (waiting_stands i c)
@@ -220,10 +220,10 @@ module _ (u : AtRest) where
       go : (xs : List Inlet) → Contains xs wired.0 → i.word ≡ back_from i.context xs → ⊥
       go [] d g = contains_none wired.0 d
       go (x ∷ xs) d g =
-          let (y, at) = u.kept.follows.stands.good i n (Contains-append_right u.kept.follows.net.pending u.kept.follows.net.waiting i c) e in
+          let (y, at) = u.kept.tracks.stands.good i n (Contains-append_right u.kept.tracks.net.pending u.kept.tracks.net.waiting i c) e in
           let yes' : reads u.fl y i i.inlet.part ≡ true = ap (reads u.fl y i) e ∙ ap (reads_cell y) at ∙ eq-eqb y y refl in
           let (k, o) = cont_waits (λ (i : Item). reads u.fl y i i.inlet.part) i c yes' i.context x g in
-          let there = Contains-permutation _ _ k (IsPermutation-sym _ _ (u.kept.follows.stands.readers y)) o in
+          let there = Contains-permutation _ _ k (IsPermutation-sym _ _ (u.kept.tracks.stands.readers y)) o in
           none_left (readers_of (u.m.store.cells y)) (readers_length (u.m.store.cells y) ∙ u.unread y) k there
   none_held i c r e h = true≢false (sym h)
 
@@ -232,11 +232,11 @@ module _ (u : AtRest) where
     InSlot : waits_in (block_in u.fl i.context) i.inlet.part ≡ true → Waits i
     OfLoop : (n : ℕ) → (i.inlet.part ≡ Giver n) ⊎ ((i.inlet.part ≡ Taker n) ⊎ (i.inlet.part ≡ Drainer n)) → Waits i
 
-  pub waits_as : (i : Item) → Contains u.kept.follows.net.waiting i → Waits i
-  waits_as i c = pick (u.kept.follows.stands.waits i c)
+  pub waits_as : (i : Item) → Contains u.kept.tracks.net.waiting i → Waits i
+  waits_as i c = pick (u.kept.tracks.stands.waits i c)
     where
       pick : (in_slot u.fl i ≡ true) ⊎ ((is_asked i.inlet.part ≡ true)
-          ⊎ ((is_held i.inlet.part ≡ true) ⊎ ((n : ℕ) × ((i.inlet.part ≡ Giver n) ⊎ ((i.inlet.part ≡ Taker n) ⊎ (i.inlet.part ≡ Drainer n)))))) → Waits i
+          ⊎ ((is_in_cell i.inlet.part ≡ true) ⊎ ((n : ℕ) × ((i.inlet.part ≡ Giver n) ⊎ ((i.inlet.part ≡ Taker n) ⊎ (i.inlet.part ≡ Drainer n)))))) → Waits i
       pick (inl e) = InSlot e
       pick (inr (inl e)) = absurd (none_asked i c i.inlet.part refl e)
       pick (inr (inr (inl e))) = absurd (none_held i c i.inlet.part refl e)
@@ -244,22 +244,22 @@ module _ (u : AtRest) where
 
   -- and two words of one part do not wait
   abbrev held : Item → SlotState
-  held i = on_side i.inlet.port (word_of u.fl u.p u.w u.kept.follows.net.fired i.word)
+  held i = on_side i.inlet.port (word_of u.fl u.p u.w u.kept.tracks.net.fired i.word)
 
-  pub apart : (i j : Item) → Contains u.kept.follows.net.waiting i → Contains u.kept.follows.net.waiting j → i.context ≡ j.context → i.inlet.part ≡ j.inlet.part
+  pub apart : (i j : Item) → Contains u.kept.tracks.net.waiting i → Contains u.kept.tracks.net.waiting j → i.context ≡ j.context → i.inlet.part ≡ j.inlet.part
       → i.inlet.port ≡ Left → j.inlet.port ≡ Right → ⊥
   apart i j c d same part left right =
       let theirs : waits_in (block_in u.fl j.context) j.inlet.part ≡ true = ap (port_fits u.fl j.context j.inlet.part) (sym right)
       ∙ (fits_at j (waiting_stands j d)).port in
       let mine : waits_in (block_in u.fl i.context) i.inlet.part ≡ true = (λ t. waits_in (block_in u.fl (same t)) (part t)) ∙ theirs in
-      let a = u.kept.follows.stands.slots.waits i (only_has (in_slot u.fl) u.kept.follows.net.waiting i c mine) in
-      let e = u.kept.follows.stands.slots.waits j (only_has (in_slot u.fl) u.kept.follows.net.waiting j d theirs) in
-      let place : u.m.store.slots (frame_of u.fl u.kept.follows.net.fired i.context) (slot_of u.fl u.w i)
-      ≡ u.m.store.slots (frame_of u.fl u.kept.follows.net.fired j.context) (slot_of u.fl u.w j) =
-      (λ t. u.m.store.slots (frame_of u.fl u.kept.follows.net.fired (same t)) ((wiring_in u.fl u.w (same t)).slot (part t))) in
-      let both : Slot.Left (word_of u.fl u.p u.w u.kept.follows.net.fired i.word) ≡ Slot.Right (word_of u.fl u.p u.w u.kept.follows.net.fired j.word) =
-      ap (λ (r : Port). on_side r (word_of u.fl u.p u.w u.kept.follows.net.fired i.word)) (sym left) ∙ sym a ∙ place ∙ e
-      ∙ ap (λ (r : Port). on_side r (word_of u.fl u.p u.w u.kept.follows.net.fired j.word)) right in
+      let a = u.kept.tracks.stands.slots.waits i (only_has (in_slot u.fl) u.kept.tracks.net.waiting i c mine) in
+      let e = u.kept.tracks.stands.slots.waits j (only_has (in_slot u.fl) u.kept.tracks.net.waiting j d theirs) in
+      let place : u.m.store.slots (frame_of u.fl u.kept.tracks.net.fired i.context) (slot_of u.fl u.w i)
+      ≡ u.m.store.slots (frame_of u.fl u.kept.tracks.net.fired j.context) (slot_of u.fl u.w j) =
+      (λ t. u.m.store.slots (frame_of u.fl u.kept.tracks.net.fired (same t)) ((wiring_in u.fl u.w (same t)).slot (part t))) in
+      let both : Slot.Left (word_of u.fl u.p u.w u.kept.tracks.net.fired i.word) ≡ Slot.Right (word_of u.fl u.p u.w u.kept.tracks.net.fired j.word) =
+      ap (λ (r : Port). on_side r (word_of u.fl u.p u.w u.kept.tracks.net.fired i.word)) (sym left) ∙ sym a ∙ place ∙ e
+      ∙ ap (λ (r : Port). on_side r (word_of u.fl u.p u.w u.kept.tracks.net.fired j.word)) right in
       absurd (cc)
 
   -- A PART FIRES: one that takes one word
@@ -272,7 +272,7 @@ module _ (u : AtRest) where
   left_renews c r t n l s e = let same : Left ≡ Right = ap (λ (x : Inlet). x.port) e in absurd (cc)
 
   -- what waits there waits for another word
-  waits_two : (c : Context) (x : Inlet) (i : Item) → Contains u.kept.follows.net.waiting i → i.context ≡ c → i.inlet ≡ x → is_turning x.part ≡ false
+  waits_two : (c : Context) (x : Inlet) (i : Item) → Contains u.kept.tracks.net.waiting i → i.context ≡ c → i.inlet ≡ x → is_turning x.part ≡ false
       → waits_in (block_in u.fl c) x.part ≡ true
   waits_two c x i d a e apart' = pick (waits_as i d)
     where
@@ -285,10 +285,10 @@ module _ (u : AtRest) where
       pick (OfLoop n (inr (inl g))) = absurd (loop_not (Taker n) g refl)
       pick (OfLoop n (inr (inr g))) = absurd (loop_not (Drainer n) g refl)
 
-  pub fires_one : (c : Context) (r : Part) (t : ℕ) → is_turning r ≡ false → waits_in (block_in u.fl c) r ≡ false → Comes u c (inlet r Left t) → Fired u c r
+  pub fires_one : (c : Context) (r : Part) (t : ℕ) → is_turning r ≡ false → waits_in (block_in u.fl c) r ≡ false → Arrives u c (inlet r Left t) → Fired u c r
   fires_one c r t loop one (i, s, a, e) = pick (came_fired c (inlet r Left t) i s a e (not_back r loop) (left_renews c r t))
     where
-      pick : Contains u.kept.follows.net.waiting i ⊎ Fired u c r → Fired u c r
+      pick : Contains u.kept.tracks.net.waiting i ⊎ Fired u c r → Fired u c r
       pick (inl d) = absurd (true≢false (sym (waits_two c (inlet r Left t) i d a e loop) ∙ one))
       pick (inr f) = f
 
@@ -300,16 +300,16 @@ module _ (u : AtRest) where
       let one' : right_way u.fl c r ≡ 1 = ap (right_way u.fl c) part ∙ ap (λ (t : Bool). if t then 1 else 0) s in
       omega (arith, way, one')
 
-  pub fires_two : (c : Context) (r : Part) (t : ℕ) → is_turning r ≡ false → Comes u c (inlet r Left t) → Comes u c (inlet r Right (right_way u.fl c r))
+  pub fires_two : (c : Context) (r : Part) (t : ℕ) → is_turning r ≡ false → Arrives u c (inlet r Left t) → Arrives u c (inlet r Right (right_way u.fl c r))
       → Fired u c r
   fires_two c r t loop (i, s, a, e) (j, z, b, g) = first (came_fired c (inlet r Left t) i s a e (not_back r loop) (left_renews c r t))
     where
-      second : Contains u.kept.follows.net.waiting i → Contains u.kept.follows.net.waiting j ⊎ Fired u c r → Fired u c r
+      second : Contains u.kept.tracks.net.waiting i → Contains u.kept.tracks.net.waiting j ⊎ Fired u c r → Fired u c r
       second d (inr f) = f
       second d (inl o) =
           absurd (apart i j d o (a ∙ sym b) (ap (λ (x : Inlet). x.part) e ∙ sym (ap (λ (x : Inlet). x.part) g)) (ap (λ (x : Inlet). x.port) e)
           (ap (λ (x : Inlet). x.port) g))
 
-      first : Contains u.kept.follows.net.waiting i ⊎ Fired u c r → Fired u c r
+      first : Contains u.kept.tracks.net.waiting i ⊎ Fired u c r → Fired u c r
       first (inr f) = f
       first (inl d) = second d (came_fired c (inlet r Right (right_way u.fl c r)) j z b g (not_back r loop) (renews_not c r))

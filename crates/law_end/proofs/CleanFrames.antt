@@ -20,7 +20,7 @@ use Rattle.law_end.proofs.OverMade.{first_in, taken_stands}
 use Rattle.law_end.proofs.OverOpen.{stands_open}
 use Rattle.law_end.proofs.OverBack.{context_of}
 use Rattle.law_end.proofs.OverLeft.{there_here}
-use Rattle.law_end.proofs.CleanStill.{AtRest, Fired, freed_comes}
+use Rattle.law_end.proofs.CleanStill.{AtRest, Fired, freed_arrives}
 use Rattle.law_end.proofs.CleanFires.{fires_one}
 use Rattle.law_end.proofs.CleanSupplied.{size, AllFired, Supplied, AllSent, main_supplied, call_supplied, loop_supplied, next_supplied, deep}
 use Rattle.law_end.proofs.CleanWhole.{all_fired}
@@ -71,40 +71,40 @@ turn_main c n t e = absurd (cc)
 
 module _ (u : AtRest) where
   -- ALL THAT IS SUPPLIED fires: contexts are not deeper than those in which something fired
-  whole : (k : ℕ) (c : Context) → total (λ (f : Firing). size f.context) u.kept.follows.net.fired < size c + k → Supplied u c → AllFired u c
+  whole : (k : ℕ) (c : Context) → total (λ (f : Firing). size f.context) u.kept.tracks.net.fired < size c + k → Supplied u c → AllFired u c
   whole zero c far s = let low = deep u c Entry (fires_one u c Entry 0 refl refl s.entry) in absurd (omega (arith, far, low))
   whole (suc k) c far s = all_fired u c s (λ d e more. whole k d (omega (arith, far, e)) more)
 
   pub over : (c : Context) → Supplied u c → AllFired u c
-  over c s = whole (suc (total (λ (f : Firing). size f.context) u.kept.follows.net.fired)) c (omega arith) s
+  over c s = whole (suc (total (λ (f : Firing). size f.context) u.kept.tracks.net.fired)) c (omega arith) s
 
   -- WHAT FIRED has a frame
-  known_of : (c : Context) (r : Part) → Fired u c r → (g : ℕ) × (frame_at u.fl u.kept.follows.net.fired c ≡ Some g)
+  known_of : (c : Context) (r : Part) → Fired u c r → (g : ℕ) × (frame_at u.fl u.kept.tracks.net.fired c ≡ Some g)
   known_of c r f =
       let (i, d, a, e) = first_in u.fl u.p u.w u.inputs u.past u.m u.good u.fit u.kept c r f in
-      let (g, at) = u.kept.follows.stands.known i (taken_stands u.fl u.p u.w u.inputs u.past u.m u.good u.fit u.kept i d) in
-      (g, ap (frame_at u.fl u.kept.follows.net.fired) (sym a) ∙ at)
+      let (g, at) = u.kept.tracks.stands.known i (taken_stands u.fl u.p u.w u.inputs u.past u.m u.good u.fit u.kept i d) in
+      (g, ap (frame_at u.fl u.kept.tracks.net.fired) (sym a) ∙ at)
 
   -- and where it asks is open and there
   asked_there : (c : Context) (n : ℕ) → Fired u c (Asked n)
-      → (invokes (block_in u.fl c) n ≡ true) × IsOpen u.fl u.w u.kept.follows.net.fired c (lies_in (block_in u.fl c) n)
+      → (invokes (block_in u.fl c) n ≡ true) × IsOpen u.fl u.w u.kept.tracks.net.fired c (lies_in (block_in u.fl c) n)
   asked_there c n f =
       let (i, d, a, e) = first_in u.fl u.p u.w u.inputs u.past u.m u.good u.fit u.kept c (Asked n) f in
       let s = taken_stands u.fl u.p u.w u.inputs u.past u.m u.good u.fit u.kept i d in
       let con = context_of u.fl u.p u.w u.inputs u.past u.m u.good u.fit u.kept c (Asked n) f in
       let open' = stands_open u.fl u.p u.w u.inputs u.past u.m u.good u.fit u.kept c con i s a in (
         there_here u.fl u.p u.w u.inputs u.past u.m u.good u.fit u.kept c i s a (Asked n) (ap (λ (x : Inlet). x.part) e),
-        subst (λ (x : Inlet). IsOpen u.fl u.w u.kept.follows.net.fired c (entered (block_in u.fl c) x.part x.way)) e open',
+        subst (λ (x : Inlet). IsOpen u.fl u.w u.kept.tracks.net.fired c (entered (block_in u.fl c) x.part x.way)) e open',
       )
 
-  next_there : (c : Context) → Fired u c NextAsked → (is_turn c ≡ true) × IsOpen u.fl u.w u.kept.follows.net.fired c (Arm (flag (block_in u.fl c)) true)
+  next_there : (c : Context) → Fired u c NextAsked → (is_turn c ≡ true) × IsOpen u.fl u.w u.kept.tracks.net.fired c (Arm (flag (block_in u.fl c)) true)
   next_there c f =
       let (i, d, a, e) = first_in u.fl u.p u.w u.inputs u.past u.m u.good u.fit u.kept c NextAsked f in
       let s = taken_stands u.fl u.p u.w u.inputs u.past u.m u.good u.fit u.kept i d in
       let con = context_of u.fl u.p u.w u.inputs u.past u.m u.good u.fit u.kept c NextAsked f in
       let open' = stands_open u.fl u.p u.w u.inputs u.past u.m u.good u.fit u.kept c con i s a in (
         there_here u.fl u.p u.w u.inputs u.past u.m u.good u.fit u.kept c i s a NextAsked (ap (λ (x : Inlet). x.part) e),
-        subst (λ (x : Inlet). IsOpen u.fl u.w u.kept.follows.net.fired c (entered (block_in u.fl c) x.part x.way)) e open',
+        subst (λ (x : Inlet). IsOpen u.fl u.w u.kept.tracks.net.fired c (entered (block_in u.fl c) x.part x.way)) e open',
       )
 
   sent_in : (c : Context) (n : ℕ) → Fired u c (Asked n) → Supplied u c → AllSent u c n
@@ -115,7 +115,7 @@ module _ (u : AtRest) where
   }
 
   abbrev HasFrame : Context → Type 0
-  HasFrame c = (g : ℕ) × (frame_at u.fl u.kept.follows.net.fired c ≡ Some g)
+  HasFrame c = (g : ℕ) × (frame_at u.fl u.kept.tracks.net.fired c ≡ Some g)
 
   -- WHO ASKED for a frame
   data AskedFor (c : Context) : Type 0 where
@@ -141,9 +141,9 @@ module _ (u : AtRest) where
   asker_of c d r f e = absurd (none_is c e)
 
   asked_for : (c : Context) → HasFrame c → (c ≡ Main → ⊥) → AskedFor c
-  asked_for c (g, at) inner = go (handed_out u.fl u.kept.follows.net.fired c g at inner)
+  asked_for c (g, at) inner = go (handed_out u.fl u.kept.tracks.net.fired c g at inner)
     where
-      go : HandedOut u.fl u.kept.follows.net.fired c → AskedFor c
+      go : HandedOut u.fl u.kept.tracks.net.fired c → AskedFor c
       go (By f d e) = asker_of c f.context f.part (f, d, refl, refl) e
 
   -- EACH CONTEXT that has a frame was supplied
@@ -188,8 +188,8 @@ module _ (u : AtRest) where
   supplied (Turned d n t) has = turned_for d n (supplied d) t has
 
   -- IT IS OVER, and its frame came back
-  pub ended : (c : Context) (g : ℕ) → frame_at u.fl u.kept.follows.net.fired c ≡ Some g → Fired u c End
+  pub ended : (c : Context) (g : ℕ) → frame_at u.fl u.kept.tracks.net.fired c ≡ Some g → Fired u c End
   ended c g at = let s = supplied c (g, at) in over c s End refl refl s.opened
 
-  pub freed : (c : Context) (g : ℕ) → frame_at u.fl u.kept.follows.net.fired c ≡ Some g → Fired u c Freed
-  freed c g at = fires_one u c Freed 0 refl refl (freed_comes u c (ended c g at))
+  pub freed : (c : Context) (g : ℕ) → frame_at u.fl u.kept.tracks.net.fired c ≡ Some g → Fired u c Freed
+  freed c g at = fires_one u c Freed 0 refl refl (freed_arrives u c (ended c g at))

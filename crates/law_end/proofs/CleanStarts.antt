@@ -17,7 +17,7 @@ use Rattle.law_net.specs.ContextsParts.{Part, Entry, Line, Trigger, Gate, Framer
 use Rattle.law_net.specs.ContextsParts.{TurnFlag, TurnValue, Asker, NextFramer, NextFanned, Inlet, inlet, Datum, Firing}
 use Rattle.law_net.specs.ContextsBlocks.{Side, side, waits_in, invokes, is_call, is_loop, is_switch, region_of, entered, leaves_in, arm_round, lies_in, flag}
 use Rattle.law_net.specs.Contexts.{block_in, site_in, wiring_in, IsContext}
-use Rattle.law_net.specs.ContextsWires.{AValue, comes_at, IsLaidOut, answered_at, has_no_wire, is_given, wired_way, wired_port, is_side, predicate_at}
+use Rattle.law_net.specs.ContextsWires.{AValue, arrives_at, IsLaidOut, answered_at, has_no_wire, is_unwired, wired_way, wired_port, is_side, predicate_at}
 use Rattle.law_net.specs.ContextsWires.{right_only, cond_round, decider}
 use Rattle.law_net.specs.ContextsFirings.{right_way}
 use Rattle.law_net.specs.ContextsLaws.{maker_of}
@@ -33,9 +33,9 @@ use Rattle.law_end.proofs.CleanStill.{AtRest}
 -- WHAT SWITCHES share
 pub record Chooser (b : Block ℕ) (r : Part) : Type 0 where
   pub waits : waits_in b r ≡ true
-  pub given : is_given b r ≡ false
+  pub given : is_unwired b r ≡ false
   pub way : wired_way r 0 ≡ true
-  pub value : comes_at r Right ≡ AValue
+  pub value : arrives_at r Right ≡ AValue
   pub maker : maker_of b r ≡ r
   pub right : (fl : Flow) (c : Context) → right_way fl c r ≡ 0
   pub sends : (fl : Flow) (h : Firing) (v : Value) → h.right ≡ Datum v → side_by fl h r ≡ Some (side r (not (truth v)))
@@ -101,7 +101,7 @@ module _ (u : AtRest) (c : Context) (con : IsContext u.fl c) where
   sends_none s x e d = contains_none x (subst (λ (l : List Inlet). Contains l x) ((laws u.fl u.p u.w u.good c con).fed.sides s (inr e)) d)
 
   pub feeder : (x : Inlet) → Here x.part → wired_way x.part x.way ≡ true → wired_port (block_in u.fl c) x.part x.port ≡ true
-      → is_given (block_in u.fl c) x.part ≡ false → Feeder x
+      → is_unwired (block_in u.fl c) x.part ≡ false → Feeder x
   feeder x h way port given =
       let f = (laws u.fl u.p u.w u.good c con).fed.fed x h way port given in
       let o = inlet_found x ((wiring_in u.fl u.w c).wire f.0) (let one = f.3 in omega (arith, one)) in
@@ -159,7 +159,7 @@ module _ (u : AtRest) (c : Context) (con : IsContext u.fl c) where
       let up = link_first n h in record { from = Linker n; here = h; turning = refl; region = e; leaves = refl; rises = omega (arith, up, later) }
 
   -- or it lies in the root
-  pub behind : (r : Part) → Here r → is_turning r ≡ false → is_given (block_in u.fl c) r ≡ true → (region_of (block_in u.fl c) r ≡ Root) ⊎ Behind r
+  pub behind : (r : Part) → Here r → is_turning r ≡ false → is_unwired (block_in u.fl c) r ≡ true → (region_of (block_in u.fl c) r ≡ Root) ⊎ Behind r
   behind Entry h t g = inl refl
   behind (Line n) h t g = inl (input_root (block_in u.fl c) n (ltb-true n (block_in u.fl c).inputs g))
   behind (Landing n j) h t g = let row = landing_at n j h in inr (behind_link n (Landing n j) (and_parts _ _ h).0 refl (omega (arith, row)))
@@ -222,14 +222,14 @@ module _ (u : AtRest) (c : Context) (con : IsContext u.fl c) where
       start_early k (place f.from.part) (place x.part) (omega (arith, up))
       (below f.from f.wire.from f.turning f.is_side (omega (arith, up, near)) k t (sym f.wire.region ∙ e))
 
-  pub zero_way : (r : Part) → Here r → is_given (block_in u.fl c) r ≡ false → wired_way r 0 ≡ true
+  pub zero_way : (r : Part) → Here r → is_unwired (block_in u.fl c) r ≡ false → wired_way r 0 ≡ true
   zero_way r h g = go (taking u.fl u.p u.w u.good c con r h g)
     where
       go : Taking u.fl u.p u.w u.good c con r → wired_way r 0 ≡ true
       go (ByArm j join) = join.way 0
       go (ByOne zeros one) = one 0
 
-  pub left_feeder : (r : Part) → Here r → is_given (block_in u.fl c) r ≡ false → Feeder (inlet r Left 0)
+  pub left_feeder : (r : Part) → Here r → is_unwired (block_in u.fl c) r ≡ false → Feeder (inlet r Left 0)
   left_feeder r h g = feeder (inlet r Left 0) h (zero_way r h g) refl g
 
   arm_starts : (n : ℕ) → StartsBelow n
@@ -251,7 +251,7 @@ module _ (u : AtRest) (c : Context) (con : IsContext u.fl c) where
           (below (side b.from false) b.here b.turning refl (omega (arith, up, low)) k t (b.leaves ∙ b.region ∙ out))
 
       by_given : Other u.fl u.p u.w u.good c con s.part → region_of (block_in u.fl c) s.part ≡ Arm k t → StartsBelow n → (g : Bool)
-          → is_given (block_in u.fl c) s.part ≡ g → ArmStart k (place s.part)
+          → is_unwired (block_in u.fl c) s.part ≡ g → ArmStart k (place s.part)
       by_given other out below true g = by_behind below out (behind s.part h turns g)
       by_given other out below false g = from_feeder n below (inlet s.part Left 0) (left_feeder s.part h g) low k t (other.enters 0 ∙ out)
 
@@ -261,7 +261,7 @@ module _ (u : AtRest) (c : Context) (con : IsContext u.fl c) where
       by_sort (Switches j switch) below =
           let same : j ≡ k = same_arm j k (not s.second) t (sym (switch.leaves s.second) ∙ leaves) in
           record { part = s.part; here = h; switch = subst (λ (j : ℕ). Switched u.fl u.p u.w u.good c con j s.part) same switch; early = omega arith }
-      by_sort (Others other) below = by_given other (out_of other.quiet) below (is_given (block_in u.fl c) s.part) refl
+      by_sort (Others other) below = by_given other (out_of other.quiet) below (is_unwired (block_in u.fl c) s.part) refl
       by_sort (Joins j join) below =
           let inner = from_feeder n below (inlet s.part Left 0) (left_feeder s.part h join.given) low j true (join.enters 0) in
           let early = inner.early in let o = chooser (block_in u.fl c) inner.part inner.switch.switch in

@@ -16,13 +16,14 @@ use Rattle.law_confluence.specs.OrdersTotals.{one, total}
 use Rattle.law_confluence.proofs.Net.{weigh, Waits, Fires}
 use Rattle.law_confluence.proofs.Orders.{total-append, total_there}
 use Rattle.law_net.specs.ContextsParts.{Part, Entry, Line, Framer, Fanned, Linker, Sender, Landing, CallDone, Giver, Taker, Drainer, LoopDone, Result, Asker}
-use Rattle.law_net.specs.ContextsParts.{NextFramer, NextFanned, NextSender, LastReturn, DrainReturn, End, Asked, NextAsked, Held, Drained, Freed, Inlet, inlet}
+use Rattle.law_net.specs.ContextsParts.{NextFramer, NextFanned, NextSender, LastReturn, DrainReturn, End, Asked, NextAsked, InCell, Drained, Freed}
+use Rattle.law_net.specs.ContextsParts.{Inlet, inlet}
 use Rattle.law_net.specs.ContextsParts.{Note, Datum, FrameOf, BackTo, ToHost, signal, Item, item, Firing, Spot, spot_of, same_spot}
 use Rattle.law_net.specs.ContextsBlocks.{Side, is_cell, source_count}
 use Rattle.law_net.specs.Contexts.{Wires, block_in, wiring_in, child, next, is_strict_in}
 use Rattle.law_net.specs.ContextsFirings.{Config, Move, begin, begins, input_items, takes, makes, arguments_from, arguments, result_back, drain_back, end_back}
 use Rattle.law_net.specs.ContextsFirings.{credit_asked, turn_before, next_entry, sent_word, HasFired, IsProperMove, ProperAt, ProperMoves, Still, Then}
-use Rattle.law_net.specs.ContextsStands.{Past}
+use Rattle.law_net.specs.ContextsMirror.{Past}
 use Rattle.law_net.specs.ContextsTheorem.{IsGood}
 use Rattle.law_net.specs.ContextsPackages.{InputsFit, Keeps}
 use Rattle.law_net.proofs.ContextsSames.{hits_at, hit_found, hit_counted}
@@ -99,64 +100,64 @@ framers_fit fl w c d (Then a mid b m proper more) old = framers_fit fl w mid d m
 
 module _ (u : AtRest) where
   abbrev pub net : Config
-  net = u.kept.follows.net
+  net = u.kept.tracks.net
 
   abbrev pub done : List Firing
-  done = u.kept.follows.net.fired
+  done = u.kept.tracks.net.fired
 
   abbrev pub Stood : Item → Type 0
-  Stood i = Contains (all_of u.fl u.kept.follows.net) i
+  Stood i = Contains (all_of u.fl u.kept.tracks.net) i
 
   -- WHAT CAME to an inlet of a context
-  abbrev pub Comes : Context → Inlet → Type 0
-  Comes c x = (i : Item) × Contains (all_of u.fl u.kept.follows.net) i × (i.context ≡ c) × (i.inlet ≡ x)
+  abbrev pub Arrives : Context → Inlet → Type 0
+  Arrives c x = (i : Item) × Contains (all_of u.fl u.kept.tracks.net) i × (i.context ≡ c) × (i.inlet ≡ x)
 
   abbrev pub Fired : Context → Part → Type 0
-  Fired c r = HasFired c r u.kept.follows.net.fired
+  Fired c r = HasFired c r u.kept.tracks.net.fired
 
-  came_of : (x : Spot) → 0 < hits_at x (begins u.inputs) + weigh (makes u.fl u.w) (λ (i : Item). one (same_spot x (spot_of i))) u.kept.follows.net.fired
-      → Comes x.context x.inlet
+  came_of : (x : Spot) → 0 < hits_at x (begins u.inputs) + weigh (makes u.fl u.w) (λ (i : Item). one (same_spot x (spot_of i))) u.kept.tracks.net.fired
+      → Arrives x.context x.inlet
   came_of x h =
       let g : Item → ℕ = λ (i : Item). one (same_spot x (spot_of i)) in
       let n = u.kept.sound.marked g in
-      let first = total-append g u.kept.follows.net.pending (u.kept.follows.net.waiting ++ flat_map (takes u.fl) u.kept.follows.net.fired) in
-      let second = total-append g u.kept.follows.net.waiting (flat_map (takes u.fl) u.kept.follows.net.fired) in
-      let third = total_flat g (takes u.fl) u.kept.follows.net.fired in
-      let (i, d, e) = hit_found x (all_of u.fl u.kept.follows.net) (omega (arith, h, n, first, second, third)) in
+      let first = total-append g u.kept.tracks.net.pending (u.kept.tracks.net.waiting ++ flat_map (takes u.fl) u.kept.tracks.net.fired) in
+      let second = total-append g u.kept.tracks.net.waiting (flat_map (takes u.fl) u.kept.tracks.net.fired) in
+      let third = total_flat g (takes u.fl) u.kept.tracks.net.fired in
+      let (i, d, e) = hit_found x (all_of u.fl u.kept.tracks.net) (omega (arith, h, n, first, second, third)) in
       (i, d, ap (λ (s : Spot). s.context) e, ap (λ (s : Spot). s.inlet) e)
 
-  begun : (i : Item) → Contains (begins u.inputs) i → Comes i.context i.inlet
+  begun : (i : Item) → Contains (begins u.inputs) i → Arrives i.context i.inlet
   begun i c = came_of (spot_of i) (let h = hit_counted (begins u.inputs) i c in omega (arith, h))
 
-  pub main_entry : Comes Main (inlet Entry Left 0)
+  pub main_entry : Arrives Main (inlet Entry Left 0)
   main_entry = begun (item Main (inlet Entry Left 0) ToHost) (contains_head (item Main (inlet Entry Left 0) ToHost) (input_items 0 u.inputs))
 
-  pub main_input : (l : ℕ) → l < length u.inputs → Comes Main (inlet (Line l) Left 0)
+  pub main_input : (l : ℕ) → l < length u.inputs → Arrives Main (inlet (Line l) Left 0)
   main_input l low =
       let (i, c, d, e) = input_has 0 u.inputs l low in let same : 0 + l ≡ l = omega arith in
       let (j, s, a, x) = begun i (contains_tail (item Main (inlet Entry Left 0) ToHost) (input_items 0 u.inputs) i c) in
       (j, s, a ∙ d, x ∙ e ∙ ap (λ (k : ℕ). inlet (Line k) Left 0) same)
 
-  pub made : (h : Firing) (i : Item) → Contains done h → Contains (makes u.fl u.w h) i → Comes i.context i.inlet
+  pub made : (h : Firing) (i : Item) → Contains done h → Contains (makes u.fl u.w h) i → Arrives i.context i.inlet
   made h i c d =
       let g : Item → ℕ = λ (j : Item). one (same_spot (spot_of i) (spot_of j)) in
       let k = hit_counted (makes u.fl u.w h) i d in
-      let more = total_there (λ (f : Firing). total g (makes u.fl u.w f)) u.kept.follows.net.fired h c in
+      let more = total_there (λ (f : Firing). total g (makes u.fl u.w f)) u.kept.tracks.net.fired h c in
       came_of (spot_of i) (omega (arith, k, more))
 
-  given : (h : Firing) → Contains done h → (r : Part) → h.part ≡ r → (i : Item) → Contains (gives_by u.fl u.w h r) i → Comes i.context i.inlet
+  given : (h : Firing) → Contains done h → (r : Part) → h.part ≡ r → (i : Item) → Contains (gives_by u.fl u.w h r) i → Arrives i.context i.inlet
   given h c r e i d = made h i c (subst (λ (l : List Item). Contains l i) (sym (splits u.fl u.w h))
       (Contains-append_left (gives_by u.fl u.w h h.part) (sent_along u.fl u.w h (side_by u.fl h h.part)) i
       (subst (λ (r : Part). Contains (gives_by u.fl u.w h r) i) (sym e) d)))
 
   -- what it gives in the context where it fires
   given_here : (c : Context) (r : Part) (f : Fired c r) (d : Context → Context) (x : Inlet) (k : Note)
-      → Contains (gives_by u.fl u.w f.0 r) (item (d f.0.context) x k) → Comes (d c) x
-  given_here c r (h, o, a, e) d x k has = subst (λ (c : Context). Comes (d c) x) a (given h o r e (item (d h.context) x k) has)
+      → Contains (gives_by u.fl u.w f.0 r) (item (d f.0.context) x k) → Arrives (d c) x
+  given_here c r (h, o, a, e) d x k has = subst (λ (c : Context). Arrives (d c) x) a (given h o r e (item (d h.context) x k) has)
 
   -- what is sent along a side
   pub sent : (h : Firing) (c : Context) (s : Side) (x : Inlet) → Contains done h → h.context ≡ c → side_by u.fl h h.part ≡ Some s
-      → Contains ((wiring_in u.fl u.w c).wire s) x → Comes c x
+      → Contains ((wiring_in u.fl u.w c).wire s) x → Arrives c x
   sent h c s x o a g goes =
       let there = subst (λ (d : Context). Contains ((wiring_in u.fl u.w d).wire s) x) (sym a) goes in
       let along : Contains (sent_along u.fl u.w h (Some s)) (item h.context x (sent_word u.fl h h.part)) =
@@ -164,17 +165,17 @@ module _ (u : AtRest) where
       let all = subst (λ (l : List Item). Contains l (item h.context x (sent_word u.fl h h.part))) (sym (splits u.fl u.w h))
       (Contains-append_right (gives_by u.fl u.w h h.part) (sent_along u.fl u.w h (side_by u.fl h h.part)) (item h.context x (sent_word u.fl h h.part))
       (subst (λ (t : Option Side). Contains (sent_along u.fl u.w h t) (item h.context x (sent_word u.fl h h.part))) (sym g) along)) in
-      subst (λ (d : Context). Comes d x) a (made h (item h.context x (sent_word u.fl h h.part)) o all)
+      subst (λ (d : Context). Arrives d x) a (made h (item h.context x (sent_word u.fl h h.part)) o all)
 
   -- WHAT EACH PART GIVES
-  pub asked_comes : (c : Context) (n : ℕ) → Fired c (Framer n) → Comes c (inlet (Asked n) Left 0)
-  asked_comes c n f = given_here c (Framer n) f (λ c. c) (inlet (Asked n) Left 0) (BackTo f.0.context (inlet (Fanned n) Left 0))
+  pub asked_arrives : (c : Context) (n : ℕ) → Fired c (Framer n) → Arrives c (inlet (Asked n) Left 0)
+  asked_arrives c n f = given_here c (Framer n) f (λ c. c) (inlet (Asked n) Left 0) (BackTo f.0.context (inlet (Fanned n) Left 0))
       (contains_head (item f.0.context (inlet (Asked n) Left 0) (BackTo f.0.context (inlet (Fanned n) Left 0))) (arguments u.fl f.0.context n 1 f.0.operands))
 
-  pub argument_comes : (c : Context) (n l : ℕ) → Fired c (Framer n) → is_strict_in u.fl c n ≡ true → l < source_count (block_in u.fl c) n
-      → Comes c (inlet (Sender n l) Right 1)
-  argument_comes c n l (h, o, a, e) strict low =
-      let fits = framers_fit u.fl u.w (begin u.inputs) u.kept.follows.net u.kept.follows.moves (λ h x. absurd (contains_none h x)) h o n e in
+  pub argument_arrives : (c : Context) (n l : ℕ) → Fired c (Framer n) → is_strict_in u.fl c n ≡ true → l < source_count (block_in u.fl c) n
+      → Arrives c (inlet (Sender n l) Right 1)
+  argument_arrives c n l (h, o, a, e) strict low =
+      let fits = framers_fit u.fl u.w (begin u.inputs) u.kept.tracks.net u.kept.tracks.moves (λ h x. absurd (contains_none h x)) h o n e in
       let s : is_strict_in u.fl h.context n ≡ true = ap (λ (c : Context). is_strict_in u.fl c n) a ∙ strict in
       let long : length h.operands ≡ source_count (block_in u.fl h.context) n = fits
       ∙ ap (λ (t : Bool). if t then source_count (block_in u.fl h.context) n else 0) s in
@@ -189,87 +190,87 @@ module _ (u : AtRest) where
       (contains_tail (item h.context (inlet (Asked n) Left 0) (BackTo h.context (inlet (Fanned n) Left 0))) (arguments u.fl h.context n 1 h.operands)
       (item h.context (inlet (Sender n l) Right 1) (Datum v)) has')
 
-  pub fanned_comes : (c : Context) (n : ℕ) → Fired c (Asked n) → Comes c (inlet (Fanned n) Left 0)
-  fanned_comes c n f =
+  pub fanned_arrives : (c : Context) (n : ℕ) → Fired c (Asked n) → Arrives c (inlet (Fanned n) Left 0)
+  fanned_arrives c n f =
       given_here c (Asked n) f (λ c. c) (inlet (Fanned n) Left 0) (FrameOf (child u.fl f.0.context n))
       (contains_head (item f.0.context (inlet (Fanned n) Left 0) (FrameOf (child u.fl f.0.context n))) [])
 
-  pub entry_comes : (c : Context) (n : ℕ) → Fired c (Linker n) → Comes (child u.fl c n) (inlet Entry Left 0)
-  entry_comes c n f = given_here c (Linker n) f (λ c. child u.fl c n) (inlet Entry Left 0) (BackTo f.0.context (inlet (Landing n 0) Left 0))
+  pub entry_arrives : (c : Context) (n : ℕ) → Fired c (Linker n) → Arrives (child u.fl c n) (inlet Entry Left 0)
+  entry_arrives c n f = given_here c (Linker n) f (λ c. child u.fl c n) (inlet Entry Left 0) (BackTo f.0.context (inlet (Landing n 0) Left 0))
       (contains_head (item (child u.fl f.0.context n) (inlet Entry Left 0) (BackTo f.0.context (inlet (Landing n 0) Left 0))) [])
 
-  pub input_comes : (c : Context) (n l : ℕ) → Fired c (Sender n l) → Comes (child u.fl c n) (inlet (Line l) Left 0)
-  input_comes c n l f =
+  pub input_arrives : (c : Context) (n l : ℕ) → Fired c (Sender n l) → Arrives (child u.fl c n) (inlet (Line l) Left 0)
+  input_arrives c n l f =
       given_here c (Sender n l) f (λ c. child u.fl c n) (inlet (Line l) Left 0) f.0.right
       (contains_head (item (child u.fl f.0.context n) (inlet (Line l) Left 0) f.0.right) [])
 
-  pub result_comes : (c : Context) (n j : ℕ) → Fired (Called c n) (Result j) → Comes c (inlet (Landing n j) Left 0)
-  result_comes c n j (h, o, a, e) = given h o (Result j) e (item c (inlet (Landing n j) Left 0) h.right)
+  pub result_arrives : (c : Context) (n j : ℕ) → Fired (Called c n) (Result j) → Arrives c (inlet (Landing n j) Left 0)
+  result_arrives c n j (h, o, a, e) = given h o (Result j) e (item c (inlet (Landing n j) Left 0) h.right)
       (subst (λ (d : Context). Contains (result_back d j h.right) (item c (inlet (Landing n j) Left 0) h.right)) (sym a)
       (contains_head (item c (inlet (Landing n j) Left 0) h.right) []))
 
-  pub last_comes : (c : Context) (n t j : ℕ) → Fired (Turned c n t) (LastReturn j) → Comes c (inlet (Landing n j) Left t)
-  last_comes c n t j (h, o, a, e) = given h o (LastReturn j) e (item c (inlet (Landing n j) Left t) h.right)
+  pub last_arrives : (c : Context) (n t j : ℕ) → Fired (Turned c n t) (LastReturn j) → Arrives c (inlet (Landing n j) Left t)
+  last_arrives c n t j (h, o, a, e) = given h o (LastReturn j) e (item c (inlet (Landing n j) Left t) h.right)
       (subst (λ (d : Context). Contains (result_back d j h.right) (item c (inlet (Landing n j) Left t) h.right)) (sym a)
       (contains_head (item c (inlet (Landing n j) Left t) h.right) []))
 
-  pub drain_comes : (c : Context) (n t : ℕ) → Fired (Turned c n t) DrainReturn → Comes c (inlet (Drainer n) Left t)
-  drain_comes c n t (h, o, a, e) = given h o DrainReturn e (item c (inlet (Drainer n) Left t) h.right)
+  pub drain_arrives : (c : Context) (n t : ℕ) → Fired (Turned c n t) DrainReturn → Arrives c (inlet (Drainer n) Left t)
+  drain_arrives c n t (h, o, a, e) = given h o DrainReturn e (item c (inlet (Drainer n) Left t) h.right)
       (subst (λ (d : Context). Contains (drain_back d h.right) (item c (inlet (Drainer n) Left t) h.right)) (sym a)
       (contains_head (item c (inlet (Drainer n) Left t) h.right) []))
 
-  pub freed_comes : (c : Context) → Fired c End → Comes c (inlet Freed Left 0)
-  freed_comes c f =
+  pub freed_arrives : (c : Context) → Fired c End → Arrives c (inlet Freed Left 0)
+  freed_arrives c f =
       given_here c End f (λ c. c) (inlet Freed Left 0) signal (contains_head (item f.0.context (inlet Freed Left 0) signal) (end_back f.0.context))
 
-  pub called_comes : (c : Context) (n : ℕ) → Fired (Called c n) End → Comes c (inlet (CallDone n) Left 0)
-  called_comes c n (h, o, a, e) = given h o End e (item c (inlet (CallDone n) Left 0) signal)
+  pub called_arrives : (c : Context) (n : ℕ) → Fired (Called c n) End → Arrives c (inlet (CallDone n) Left 0)
+  called_arrives c n (h, o, a, e) = given h o End e (item c (inlet (CallDone n) Left 0) signal)
       (contains_tail (item h.context (inlet Freed Left 0) signal) (end_back h.context) (item c (inlet (CallDone n) Left 0) signal)
       (subst (λ (d : Context). Contains (end_back d) (item c (inlet (CallDone n) Left 0) signal)) (sym a)
       (contains_head (item c (inlet (CallDone n) Left 0) signal) [])))
 
-  pub giver_comes : (c : Context) (n t : ℕ) → Fired (Turned c n t) End → Comes c (inlet (Giver n) Left t)
-  giver_comes c n t (h, o, a, e) = given h o End e (item c (inlet (Giver n) Left t) signal)
+  pub giver_arrives : (c : Context) (n t : ℕ) → Fired (Turned c n t) End → Arrives c (inlet (Giver n) Left t)
+  giver_arrives c n t (h, o, a, e) = given h o End e (item c (inlet (Giver n) Left t) signal)
       (contains_tail (item h.context (inlet Freed Left 0) signal) (end_back h.context) (item c (inlet (Giver n) Left t) signal)
       (subst (λ (d : Context). Contains (end_back d) (item c (inlet (Giver n) Left t) signal)) (sym a)
       (contains_head (item c (inlet (Giver n) Left t) signal) [])))
 
-  pub credit_comes : (c : Context) (n t : ℕ) → Fired (Turned c n t) Asker → Comes c (inlet (Taker n) Left (suc t))
-  credit_comes c n t (h, o, a, e) =
+  pub credit_arrives : (c : Context) (n t : ℕ) → Fired (Turned c n t) Asker → Arrives c (inlet (Taker n) Left (suc t))
+  credit_arrives c n t (h, o, a, e) =
       let up : t + 1 ≡ suc t = omega arith in let k = BackTo (Turned c n t) (inlet NextFramer Left 0) in
       given h o Asker e (item c (inlet (Taker n) Left (suc t)) k)
       (subst (λ (d : Context). Contains (credit_asked d) (item c (inlet (Taker n) Left (suc t)) k)) (sym a)
       (subst (λ (v : ℕ). Contains (item c (inlet (Taker n) Left v) k ∷ []) (item c (inlet (Taker n) Left (suc t)) k)) (sym up)
       (contains_head (item c (inlet (Taker n) Left (suc t)) k) [])))
 
-  pub framer_comes : (c : Context) (n t : ℕ) (h : Firing) → Contains done h → h.context ≡ c → h.part ≡ Taker n → h.way ≡ suc t
-      → Comes (Turned c n t) (inlet NextFramer Left 0)
-  framer_comes c n t h o a e way = given h o (Taker n) e (item (Turned c n t) (inlet NextFramer Left 0) signal)
+  pub framer_arrives : (c : Context) (n t : ℕ) (h : Firing) → Contains done h → h.context ≡ c → h.part ≡ Taker n → h.way ≡ suc t
+      → Arrives (Turned c n t) (inlet NextFramer Left 0)
+  framer_arrives c n t h o a e way = given h o (Taker n) e (item (Turned c n t) (inlet NextFramer Left 0) signal)
       (subst (λ (d : Context). Contains (item d (inlet NextFramer Left 0) signal ∷ []) (item (Turned c n t) (inlet NextFramer Left 0) signal))
       (λ k. turn_before (sym a k) n (sym way k)) (contains_head (item (Turned c n t) (inlet NextFramer Left 0) signal) []))
 
-  pub next_asked_comes : (c : Context) → Fired c NextFramer → Comes c (inlet NextAsked Left 0)
-  next_asked_comes c f =
+  pub next_asked_arrives : (c : Context) → Fired c NextFramer → Arrives c (inlet NextAsked Left 0)
+  next_asked_arrives c f =
       given_here c NextFramer f (λ c. c) (inlet NextAsked Left 0) (BackTo f.0.context (inlet NextFanned Left 0))
       (contains_head (item f.0.context (inlet NextAsked Left 0) (BackTo f.0.context (inlet NextFanned Left 0))) [])
 
-  pub next_fanned_comes : (c : Context) → Fired c NextAsked → Comes c (inlet NextFanned Left 0)
-  next_fanned_comes c f =
+  pub next_fanned_arrives : (c : Context) → Fired c NextAsked → Arrives c (inlet NextFanned Left 0)
+  next_fanned_arrives c f =
       given_here c NextAsked f (λ c. c) (inlet NextFanned Left 0) (FrameOf (next f.0.context))
       (contains_head (item f.0.context (inlet NextFanned Left 0) (FrameOf (next f.0.context))) [])
 
-  pub next_comes : (c : Context) (n t j : ℕ) → Fired (Turned c n t) (NextSender j) → Comes (Turned c n (suc t)) (next_entry j)
-  next_comes c n t j f = let up : t + 1 ≡ suc t = omega arith in
-      subst (λ (v : ℕ). Comes (Turned c n v) (next_entry j)) up
+  pub next_arrives : (c : Context) (n t j : ℕ) → Fired (Turned c n t) (NextSender j) → Arrives (Turned c n (suc t)) (next_entry j)
+  next_arrives c n t j f = let up : t + 1 ≡ suc t = omega arith in
+      subst (λ (v : ℕ). Arrives (Turned c n v) (next_entry j)) up
       (given_here (Turned c n t) (NextSender j) f next (next_entry j) f.0.right (contains_head (item (next f.0.context) (next_entry j) f.0.right) []))
 
-  pub loop_done_comes : (c : Context) (n : ℕ) → Fired c (Drained n) → Comes c (inlet (LoopDone n) Left 0)
-  loop_done_comes c n f =
+  pub loop_done_arrives : (c : Context) (n : ℕ) → Fired c (Drained n) → Arrives c (inlet (LoopDone n) Left 0)
+  loop_done_arrives c n f =
       given_here c (Drained n) f (λ c. c) (inlet (LoopDone n) Left 0) signal (contains_head (item f.0.context (inlet (LoopDone n) Left 0) signal) [])
 
-  pub held_comes : (c : Context) (n : ℕ) → is_cell (block_in u.fl c) n ≡ true → Fired c (Line n) → Comes c (inlet (Held n) Left 0)
-  held_comes c n cell (h, o, a, e) =
+  pub held_arrives : (c : Context) (n : ℕ) → is_cell (block_in u.fl c) n ≡ true → Fired c (Line n) → Arrives c (inlet (InCell n) Left 0)
+  held_arrives c n cell (h, o, a, e) =
       let asks = asks_cell u.fl u.w h n in
-      subst (λ (d : Context). Comes d (inlet (Held n) Left 0)) a (given h o (Line n) e asks
+      subst (λ (d : Context). Arrives d (inlet (InCell n) Left 0)) a (given h o (Line n) e asks
       (subst (λ (t : Bool). Contains (if t then asks ∷ [] else []) asks) (sym (ap (λ (d : Context). is_cell (block_in u.fl d) n) a ∙ cell))
       (contains_head asks [])))

@@ -16,7 +16,7 @@ use Rattle.law_net.specs.ContextsAround.{Way}
 use Rattle.law_net.proofs.WiredInvoked.{block_here, not_loop, call_invoked, loop_invoked, is_called, is_turned}
 use Rattle.law_net.proofs.WiredRounds.{root_region, round_node, round_next}
 use Rattle.law_end.specs.Over.{IsOpen, is_turning}
-use Rattle.law_end.proofs.CleanStill.{AtRest, Comes, Fired, main_entry, main_input, entry_comes, input_comes, next_comes}
+use Rattle.law_end.proofs.CleanStill.{AtRest, Arrives, Fired, main_entry, main_input, entry_arrives, input_arrives, next_arrives}
 
 -- HOW DEEP a context is, and which turn it is
 abbrev pub size : Context → ℕ
@@ -30,24 +30,24 @@ turn_of c = 0
 
 module _ (u : AtRest) where
   abbrev pub Opens : Context → Region → Type 0
-  Opens c r = IsOpen u.fl u.w u.kept.follows.net.fired c r
+  Opens c r = IsOpen u.fl u.w u.kept.tracks.net.fired c r
 
   -- all parts in open regions have fired
   abbrev pub AllFired : Context → Type 0
   AllFired c = (r : Part) → there_in u.fl (site_in u.fl u.w c) (wiring_in u.fl u.w c) r ≡ true → is_turning r ≡ false
-      → IsOpen u.fl u.w u.kept.follows.net.fired c (region_of (block_in u.fl c) r) → Fired u c r
+      → IsOpen u.fl u.w u.kept.tracks.net.fired c (region_of (block_in u.fl c) r) → Fired u c r
 
   pub record Supplied (c : Context) : Type 0 where
     pub is_context : IsContext u.fl c
-    pub entry : Comes u c (inlet Entry Left 0)
-    pub inputs : (l : ℕ) → l < (block_in u.fl c).inputs → Comes u c (inlet (Line l) Left 0)
-    pub opened : IsOpen u.fl u.w u.kept.follows.net.fired c Root
+    pub entry : Arrives u c (inlet Entry Left 0)
+    pub inputs : (l : ℕ) → l < (block_in u.fl c).inputs → Arrives u c (inlet (Line l) Left 0)
+    pub opened : IsOpen u.fl u.w u.kept.tracks.net.fired c Root
 
   -- what invokes sent all that it sends there
   pub record AllSent (c : Context) (n : ℕ) : Type 0 where
     pub linker : Fired u c (Linker n)
     pub senders : (l : ℕ) → l < source_count (block_in u.fl c) n → Fired u c (Sender n l)
-    pub opened : IsOpen u.fl u.w u.kept.follows.net.fired c (lies_in (block_in u.fl c) n)
+    pub opened : IsOpen u.fl u.w u.kept.tracks.net.fired c (lies_in (block_in u.fl c) n)
 
   pub main_supplied : Supplied Main
   main_supplied = record {
@@ -65,8 +65,8 @@ module _ (u : AtRest) where
       let same = (call_invoked u.fl u.p u.w u.good c n con e).0.inputs in
       record {
         is_context = is_called u.fl u.p u.w u.good c n con e;
-        entry = subst (λ (d : Context). Comes u d (inlet Entry Left 0)) first (entry_comes u c n s.linker);
-        inputs = λ l low. subst (λ (d : Context). Comes u d (inlet (Line l) Left 0)) first (input_comes u c n l (s.senders l (omega (arith, low, same))));
+        entry = subst (λ (d : Context). Arrives u d (inlet Entry Left 0)) first (entry_arrives u c n s.linker);
+        inputs = λ l low. subst (λ (d : Context). Arrives u d (inlet (Line l) Left 0)) first (input_arrives u c n l (s.senders l (omega (arith, low, same))));
         opened =
             λ x d. s.opened x (subst (λ (l : List Way). Contains l x) (sym (round_node u.fl u.p u.w u.good c n con))
             (subst (λ (l : List Way). Contains l x) (root_region u.fl (Called c n)) d));
@@ -78,20 +78,20 @@ module _ (u : AtRest) where
       let same = (loop_invoked u.fl u.p u.w u.good c n 0 con e).0.inputs in
       record {
         is_context = is_turned u.fl u.p u.w u.good c n 0 con e;
-        entry = subst (λ (d : Context). Comes u d (inlet Entry Left 0)) first (entry_comes u c n s.linker);
-        inputs = λ l low. subst (λ (d : Context). Comes u d (inlet (Line l) Left 0)) first (input_comes u c n l (s.senders l (omega (arith, low, same))));
+        entry = subst (λ (d : Context). Arrives u d (inlet Entry Left 0)) first (entry_arrives u c n s.linker);
+        inputs = λ l low. subst (λ (d : Context). Arrives u d (inlet (Line l) Left 0)) first (input_arrives u c n l (s.senders l (omega (arith, low, same))));
         opened =
             λ x d. s.opened x (subst (λ (l : List Way). Contains l x) (sym (round_node u.fl u.p u.w u.good c n con))
             (subst (λ (l : List Way). Contains l x) (root_region u.fl (Turned c n 0)) d));
       }
 
   pub next_supplied : (c : Context) (con : IsContext u.fl c) (n t : ℕ) → is_loop (block_in u.fl c) n ≡ true
-      → IsOpen u.fl u.w u.kept.follows.net.fired (Turned c n t) (Arm (flag (block_in u.fl (Turned c n t))) true)
+      → IsOpen u.fl u.w u.kept.tracks.net.fired (Turned c n t) (Arm (flag (block_in u.fl (Turned c n t))) true)
       → ((j : ℕ) → j < (block_in u.fl (Turned c n t)).inputs + 1 → Fired u (Turned c n t) (NextSender j)) → Supplied (Turned c n (suc t))
   next_supplied c con n t e open' sends = record {
     is_context = is_turned u.fl u.p u.w u.good c n (suc t) con e;
-    entry = next_comes u c n t 0 (sends 0 (omega arith));
-    inputs = λ l low. next_comes u c n t (suc l) (sends (suc l) (omega (arith, low)));
+    entry = next_arrives u c n t 0 (sends 0 (omega arith));
+    inputs = λ l low. next_arrives u c n t (suc l) (sends (suc l) (omega (arith, low)));
     opened =
         λ x d. open' x (round_next u.fl u.p u.w u.good c n t x (is_turned u.fl u.p u.w u.good c n t con e)
         (subst (λ (l : List Way). Contains l x) (root_region u.fl (Turned c n (suc t))) d));
@@ -99,14 +99,14 @@ module _ (u : AtRest) where
 
   -- BOUNDS: contexts in which something fired are so deep, and turns so late
   abbrev pub deepest : ℕ
-  deepest = total (λ (f : Firing). size f.context) u.kept.follows.net.fired
+  deepest = total (λ (f : Firing). size f.context) u.kept.tracks.net.fired
 
   abbrev pub latest : ℕ
-  latest = total (λ (f : Firing). turn_of f.context) u.kept.follows.net.fired
+  latest = total (λ (f : Firing). turn_of f.context) u.kept.tracks.net.fired
 
-  pub deep : (c : Context) (r : Part) → Fired u c r → size c ≤ total (λ (f : Firing). size f.context) u.kept.follows.net.fired
-  deep c r (h, d, a, e) = let o = total_there (λ (f : Firing). size f.context) u.kept.follows.net.fired h d in let same = ap size a in omega (arith, o, same)
+  pub deep : (c : Context) (r : Part) → Fired u c r → size c ≤ total (λ (f : Firing). size f.context) u.kept.tracks.net.fired
+  deep c r (h, d, a, e) = let o = total_there (λ (f : Firing). size f.context) u.kept.tracks.net.fired h d in let same = ap size a in omega (arith, o, same)
 
-  pub late : (c : Context) (r : Part) → Fired u c r → turn_of c ≤ total (λ (f : Firing). turn_of f.context) u.kept.follows.net.fired
+  pub late : (c : Context) (r : Part) → Fired u c r → turn_of c ≤ total (λ (f : Firing). turn_of f.context) u.kept.tracks.net.fired
   late c r (h, d, a, e) =
-      let o = total_there (λ (f : Firing). turn_of f.context) u.kept.follows.net.fired h d in let same = ap turn_of a in omega (arith, o, same)
+      let o = total_there (λ (f : Firing). turn_of f.context) u.kept.tracks.net.fired h d in let same = ap turn_of a in omega (arith, o, same)

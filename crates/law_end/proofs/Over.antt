@@ -13,7 +13,7 @@ use Rattle.law_net.specs.Contexts.{Wires, block_in, wiring_in, IsContext}
 use Rattle.law_net.specs.ContextsWires.{has_no_wire, is_side}
 use Rattle.law_net.specs.ContextsFirings.{HasFired}
 use Rattle.law_net.specs.ContextsLaws.{maker_of}
-use Rattle.law_net.specs.ContextsStands.{Past}
+use Rattle.law_net.specs.ContextsMirror.{Past}
 use Rattle.law_net.specs.ContextsTheorem.{IsGood}
 use Rattle.law_net.specs.ContextsPackages.{InputsFit, Keeps}
 use Rattle.law_end.specs.Over.{IsDecided, IsOpen, is_turning}

@@ -12,18 +12,18 @@ use Rattle.law_net.specs.ContextsParts.{Part, Entry, Fanned, Linker, Giver, Turn
 use Rattle.law_net.specs.ContextsParts.{signal, Item, item, Firing}
 use Rattle.law_net.specs.ContextsBlocks.{Side, there_in, is_loop, flag, leaves_in}
 use Rattle.law_net.specs.Contexts.{Wires, block_in, site_in, wiring_in, IsContext}
-use Rattle.law_net.specs.ContextsWires.{ItsReturn, ChildFrame, NextFrame, Suits, comes_at, goes_from, is_given, wired_way}
+use Rattle.law_net.specs.ContextsWires.{ItsReturn, ChildFrame, NextFrame, Suits, arrives_at, goes_from, is_unwired, wired_way}
 use Rattle.law_net.specs.ContextsFirings.{HasFired}
 use Rattle.law_net.specs.ContextsLaws.{maker_of}
-use Rattle.law_net.specs.ContextsStands.{Past}
+use Rattle.law_net.specs.ContextsMirror.{Past}
 use Rattle.law_net.specs.ContextsTheorem.{IsGood}
 use Rattle.law_net.specs.ContextsPackages.{InputsFit, Keeps}
 use Rattle.law_net.proofs.WiredSends.{in_context, sent_facts}
-use Rattle.law_net.proofs.WiredFed.{UGiven}
+use Rattle.law_net.proofs.WiredFed.{UUnwired}
 use Rattle.law_net.proofs.CreditsTurns.{credit_taken}
 use Rattle.law_end.proofs.OverSorts.{IsHere, laws, Hands, HFramer, HNextFramer, HAsker, HCall, HLoop}
 use Rattle.law_end.proofs.OverPaths.{Wire, wire_of}
-use Rattle.law_end.proofs.OverMade.{fired, Stands, taken_stands, fit_of, sent_by, given_by, asked_by, framer_by, next_asked_by, next_framer_by, taker_by}
+use Rattle.law_end.proofs.OverMade.{fired, Mirrors, taken_stands, fit_of, sent_by, given_by, asked_by, framer_by, next_asked_by, next_framer_by, taker_by}
 use Rattle.law_end.proofs.OverMade.{asker_by, call_by, drained_by, call_linked, loop_linked, turn_linked}
 use Rattle.law_end.proofs.OverOpen.{first_of}
 
@@ -55,7 +55,7 @@ module _ (fl : Flow) (p : Plan) (w : Wires) (inputs : List ℤ) (past : Past) (m
   done = fired fl p w inputs past m good fit kept
 
   abbrev Stood : Item → Type 0
-  Stood i = Stands fl p w inputs past m good fit kept i
+  Stood i = Mirrors fl p w inputs past m good fit kept i
 
   pub context_of : (c : Context) (r : Part) → HasFired c r done → IsContext fl c
   context_of c r (h, d, a, e) = subst (IsContext fl) a (in_context fl w h (fit_of fl p w inputs past m good fit kept h d))
@@ -66,14 +66,14 @@ module _ (fl : Flow) (p : Plan) (w : Wires) (inputs : List ℤ) (past : Past) (m
       pub from : Side
       pub wire : Wire fl p w good c con from x
       pub maker : HasFired c (maker_of (block_in fl c) from.part) (fired fl p w inputs past m good fit kept)
-      pub suits : Suits (comes_at x.part x.port) (goes_from from.part)
+      pub suits : Suits (arrives_at x.part x.port) (goes_from from.part)
 
     pub sender_of : (i : Item) → Stood i → i.context ≡ c → (x : Inlet) → i.inlet ≡ x → IsHere fl p w good c con x.part
-        → is_given (block_in fl c) x.part ≡ false → wired_way x.part x.way ≡ true → Sent x
+        → is_unwired (block_in fl c) x.part ≡ false → wired_way x.part x.way ≡ true → Sent x
     sender_of i stood a x e here given way =
         let there : there_in fl (site_in fl w i.context) (wiring_in fl w i.context) i.inlet.part ≡ true =
         (λ k. there_in fl (site_in fl w (a k)) (wiring_in fl w (a k)) (e k).part) ∙ here in
-        let (h, d, sent) = sent_by fl p w inputs past m good fit kept i stood there ((λ k. is_given (block_in fl (a k)) (e k).part) ∙ given)
+        let (h, d, sent) = sent_by fl p w inputs past m good fit kept i stood there ((λ k. is_unwired (block_in fl (a k)) (e k).part) ∙ given)
         (ap (λ (y : Inlet). wired_way y.part y.way) e ∙ way) in
         let at : h.context ≡ c = sym (ap (λ (i : Item). i.context) sent.is) ∙ a in
         let facts = sent_facts fl w h (fit_of fl p w inputs past m good fit kept h d) sent.from sent.along in
@@ -126,7 +126,7 @@ module _ (fl : Flow) (p : Plan) (w : Wires) (inputs : List ℤ) (past : Past) (m
     turn_ended h d a e t low =
         let i = item h.context (inlet (Giver n) Left t) signal in
         let stood = taken_stands fl p w inputs past m good fit kept i (credit_taken fl p w inputs past m good kept c con n l h d a e t low) in
-        let (g, b, x, y, u) = given_by fl p w inputs past m good fit kept c (inlet (Giver n) Left t) (UGiven refl) (λ q v. true≢false (sym v))
+        let (g, b, x, y, u) = given_by fl p w inputs past m good fit kept c (inlet (Giver n) Left t) (UUnwired refl) (λ q v. true≢false (sym v))
         (Turned c n t) End 0 refl i stood a refl in
         (g, b, x, y)
 

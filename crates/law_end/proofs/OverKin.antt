@@ -13,14 +13,14 @@ use Rattle.law_net.specs.ContextsBlocks.{lies_in, source_count, entered, is_kind
 use Rattle.law_net.specs.Contexts.{Wires, block_in, IsContext}
 use Rattle.law_net.specs.ContextsAround.{Way}
 use Rattle.law_net.specs.ContextsFirings.{HasFired}
-use Rattle.law_net.specs.ContextsStands.{Past}
+use Rattle.law_net.specs.ContextsMirror.{Past}
 use Rattle.law_net.specs.ContextsTheorem.{IsGood}
 use Rattle.law_net.specs.ContextsPackages.{InputsFit, Keeps}
-use Rattle.law_net.proofs.WiredFed.{giver_of, UGiven}
+use Rattle.law_net.proofs.WiredFed.{giver_of, UUnwired}
 use Rattle.law_net.proofs.WiredInvoked.{call_invoked, loop_invoked}
 use Rattle.law_net.proofs.WiredRounds.{round_node, round_turn, under, input_root}
 use Rattle.law_end.specs.Over.{IsOpen}
-use Rattle.law_end.proofs.OverMade.{fired, Stands, taken_stands, left_stands, fits, given_by, first_in, call_linked, loop_linked, turn_linked}
+use Rattle.law_end.proofs.OverMade.{fired, Mirrors, taken_stands, left_stands, fits, given_by, first_in, call_linked, loop_linked, turn_linked}
 use Rattle.law_end.proofs.OverOpen.{stands_open, root_open}
 use Rattle.law_end.proofs.OverBack.{context_of, entered_by}
 use Rattle.law_end.proofs.OverLeft.{ends_last, calls_over, loops_over}
@@ -31,9 +31,9 @@ module _ (fl : Flow) (p : Plan) (w : Wires) (inputs : List ℤ) (past : Past) (m
   done = fired fl p w inputs past m good fit kept
 
   abbrev Left' : Item → Type 0
-  Left' i = Contains (kept.follows.net.pending ++ kept.follows.net.waiting) i
+  Left' i = Contains (kept.tracks.net.pending ++ kept.tracks.net.waiting) i
 
-  stood : (i : Item) → Left' i → Stands fl p w inputs past m good fit kept i
+  stood : (i : Item) → Left' i → Mirrors fl p w inputs past m good fit kept i
   stood i d = left_stands fl p w inputs past m good fit kept i d
 
   -- WHAT IT INVOKED: where something is left of it, it was called for
@@ -68,7 +68,7 @@ module _ (fl : Flow) (p : Plan) (w : Wires) (inputs : List ℤ) (past : Past) (m
       let f = over.fired (Line l) (or_left (nat_lt l (block_in fl c).inputs) (is_kind plain_kind (block_in fl c) l) given) refl
       (subst (IsOpen fl w done c) (sym (input_root (block_in fl c) l low)) over.opened) in
       let (i, d', a, e) = first_in fl p w inputs past m good fit kept c (Line l) f in
-      let (h, b, x, y, u) = given_by fl p w inputs past m good fit kept c (inlet (Line l) Left 0) (UGiven given) (λ e g. inner e) d r 0 giver i
+      let (h, b, x, y, u) = given_by fl p w inputs past m good fit kept c (inlet (Line l) Left 0) (UUnwired given) (λ e g. inner e) d r 0 giver i
       (taken_stands fl p w inputs past m good fit kept i d') a e in
       (h, b, x, y)
 

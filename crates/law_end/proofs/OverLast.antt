@@ -23,15 +23,15 @@ use Rattle.semantics.specs.Orderly.{NamesCont, NamesWord, NamesTo, NamesSlot, Is
 use Rattle.law_confluence.specs.OrdersTotals.{one}
 use Rattle.law_confluence.proofs.NetSlots.{AtSlot}
 use Rattle.law_confluence.proofs.Orders.{first_lifted, total-IsPermutation, total-append}
-use Rattle.law_net.specs.ContextsParts.{Part, Opener, Drained, Taker, Asked, NextAsked, Held, Shown, Done, Freed, End, Inlet, inlet, Note, Datum, FrameOf}
+use Rattle.law_net.specs.ContextsParts.{Part, Opener, Drained, Taker, Asked, NextAsked, InCell, Shown, Done, Freed, End, Inlet, inlet, Note, Datum, FrameOf}
 use Rattle.law_net.specs.ContextsParts.{BackTo, ToHost, Item, Firing, Spot, spot_of, same_spot}
 use Rattle.law_net.specs.ContextsBlocks.{waits_in, is_store, is_loop, bound_at, entered}
 use Rattle.law_net.specs.Contexts.{Wires, or_zero, block_in, wiring_in, IsContext}
 use Rattle.law_net.specs.ContextsCredits.{Ledger, slot_for, waits_or}
 use Rattle.law_net.specs.ContextsFirings.{takes, cell_of, second_of, frame_at, times, HasFired}
 use Rattle.law_net.specs.ContextsLaws.{Fits, way_fits, port_fits}
-use Rattle.law_net.specs.ContextsStands.{Past, frame_of, to_of, token_of, word_of, cell_to, cont_in, conts_of, first_cont, only, in_slot, slot_of, on_side}
-use Rattle.law_net.specs.ContextsStands.{is_item_at, is_asked, reads, ledger, named_by}
+use Rattle.law_net.specs.ContextsMirror.{Past, frame_of, to_of, token_of, word_of, cell_to, cont_in, conts_of, first_cont, only, in_slot, slot_of, on_side}
+use Rattle.law_net.specs.ContextsMirror.{is_item_at, is_asked, reads, ledger, named_by}
 use Rattle.law_net.specs.ContextsTheorem.{IsGood}
 use Rattle.law_net.specs.ContextsPackages.{OfRuns, Keeps, InputsFit, ReleasesLast}
 use Rattle.law_net.proofs.ContextsSames.{hits_at, hit_counted, spot_is, inlet_is}
@@ -39,7 +39,7 @@ use Rattle.law_net.proofs.WiredNets.{once_all, only_contains}
 use Rattle.law_net.proofs.WiredFed.{UNot}
 use Rattle.law_net.proofs.Credits.{some_firing, firing_of}
 use Rattle.law_end.specs.Over.{IsOpen, is_leaving}
-use Rattle.law_end.proofs.OverMade.{fired, Stands, left_stands, taken_stands, fits, given_by, first_in}
+use Rattle.law_end.proofs.OverMade.{fired, Mirrors, left_stands, taken_stands, fits, given_by, first_in}
 use Rattle.law_end.proofs.OverOpen.{stands_open}
 use Rattle.law_end.proofs.OverLeft.{ends_last}
 use Rattle.law_end.proofs.OverNames.{nothing_names}
@@ -110,19 +110,19 @@ module _ (fl : Flow) (p : Plan) (w : Wires) (inputs : List ℤ) (past : Past) (m
   done = fired fl p w inputs past m good fit kept
 
   abbrev IsLeft : Item → Type 0
-  IsLeft i = Contains (kept.follows.net.pending ++ kept.follows.net.waiting) i
+  IsLeft i = Contains (kept.tracks.net.pending ++ kept.tracks.net.waiting) i
 
-  stood : (i : Item) → IsLeft i → Stands fl p w inputs past m good fit kept i
+  stood : (i : Item) → IsLeft i → Mirrors fl p w inputs past m good fit kept i
   stood i d = left_stands fl p w inputs past m good fit kept i d
 
-  pending_left : (i : Item) → Contains kept.follows.net.pending i → IsLeft i
-  pending_left i d = Contains-append_left kept.follows.net.pending kept.follows.net.waiting i d
+  pending_left : (i : Item) → Contains kept.tracks.net.pending i → IsLeft i
+  pending_left i d = Contains-append_left kept.tracks.net.pending kept.tracks.net.waiting i d
 
-  waiting_left : (i : Item) → Contains kept.follows.net.waiting i → IsLeft i
-  waiting_left i d = Contains-append_right kept.follows.net.pending kept.follows.net.waiting i d
+  waiting_left : (i : Item) → Contains kept.tracks.net.waiting i → IsLeft i
+  waiting_left i d = Contains-append_right kept.tracks.net.pending kept.tracks.net.waiting i d
 
   -- what is left, among what the frames are known of
-  known_left : (i : Item) → IsLeft i → Contains (kept.follows.net.pending ++ (kept.follows.net.waiting ++ flat_map (takes fl) kept.follows.net.fired)) i
+  known_left : (i : Item) → IsLeft i → Contains (kept.tracks.net.pending ++ (kept.tracks.net.waiting ++ flat_map (takes fl) kept.tracks.net.fired)) i
   known_left i d = stood i d
 
   -- THE FRAME on its way back
@@ -132,7 +132,7 @@ module _ (fl : Flow) (p : Plan) (w : Wires) (inputs : List ℤ) (past : Past) (m
   cell_release (Some x) false v f e = cc
 
   to_release : (i : Item) (r : Part) (f : ℕ) → to_of fl p w done i r ≡ To.Release f → (r ≡ Freed) × (frame_of fl done i.context ≡ f)
-  to_release i (Held n) f e = absurd (cell_release (cell_of fl i.context n i.held) (is_store (block_in fl i.context) n) (second_of i.held) f e)
+  to_release i (InCell n) f e = absurd (cell_release (cell_of fl i.context n i.held) (is_store (block_in fl i.context) n) (second_of i.held) f e)
   to_release i Freed f e = (refl, cc)
   to_release i r f e = absurd (cc)
 
@@ -145,7 +145,7 @@ module _ (fl : Flow) (p : Plan) (w : Wires) (inputs : List ℤ) (past : Past) (m
   to_names : (i : Item) (r : Part) (f : ℕ) → NamesTo f (to_of fl p w done i r) → (frame_of fl done i.context ≡ f) × ((is_leaving r ≡ false) ⊎ (r ≡ Freed))
   to_names i (Asked n) f h = absurd h
   to_names i NextAsked f h = absurd h
-  to_names i (Held n) f h = absurd (cell_names (cell_of fl i.context n i.held) (is_store (block_in fl i.context) n) (second_of i.held) f h)
+  to_names i (InCell n) f h = absurd (cell_names (cell_of fl i.context n i.held) (is_store (block_in fl i.context) n) (second_of i.held) f h)
   to_names i (Shown j) f h = absurd h
   to_names i Done f h = absurd h
   to_names i Freed f h = (h, inr refl)
@@ -155,11 +155,11 @@ module _ (fl : Flow) (p : Plan) (w : Wires) (inputs : List ℤ) (past : Past) (m
   frame_known d f g e h = e ∙ ap Some (sym (ap or_zero e) ∙ h)
 
   context_at : (i : Item) → IsLeft i → (f : ℕ) → frame_of fl done i.context ≡ f → frame_at fl done i.context ≡ Some f
-  context_at i d f h = let (g, e) = kept.follows.stands.known i (known_left i d) in frame_known i.context f g e h
+  context_at i d f h = let (g, e) = kept.tracks.stands.known i (known_left i d) in frame_known i.context f g e h
 
   module _ (c : Context) (f : ℕ) (at : frame_at fl done c ≡ Some f) (last : HasFired c End done) where
     own_frame : (i : Item) → IsLeft i → frame_of fl done i.context ≡ f → i.context ≡ c
-    own_frame i d h = kept.follows.stands.apart i.context c f (context_at i d f h) at
+    own_frame i d h = kept.tracks.stands.apart i.context c f (context_at i d f h) at
 
     named_in : (k : Note) → NamesWord f (word_of fl p w done k) → (d : Context) × (named_by k ≡ Some d) × (frame_of fl done d ≡ f)
     named_in (Datum v) h = absurd h
@@ -171,8 +171,8 @@ module _ (fl : Flow) (p : Plan) (w : Wires) (inputs : List ℤ) (past : Past) (m
     pub no_word : (i : Item) → IsLeft i → NamesWord f (word_of fl p w done i.word) → ⊥
     no_word i d h =
         let (e, names, frame) = named_in i.word h in
-        let (g, there) = kept.follows.stands.named i e (known_left i d) names in
-        let same = kept.follows.stands.apart e c f (frame_known e f g there frame) at in
+        let (g, there) = kept.tracks.stands.named i e (known_left i d) names in
+        let same = kept.tracks.stands.apart e c f (frame_known e f g there frame) at in
         nothing_names fl p w inputs past m good fit kept c last i d (names ∙ ap Some same)
 
     -- NOTHING that is left goes to it but what comes back
@@ -184,44 +184,44 @@ module _ (fl : Flow) (p : Plan) (w : Wires) (inputs : List ℤ) (past : Past) (m
         go (frame, inr e) = freed e (own_frame i d frame)
 
     -- nor does a continuation that waits
-    pub no_cont : (test : Item → Bool) (a : Cont) → Contains (conts_of fl p w done (only test kept.follows.net.waiting)) a → NamesCont f a → ⊥
+    pub no_cont : (test : Item → Bool) (a : Cont) → Contains (conts_of fl p w done (only test kept.tracks.net.waiting)) a → NamesCont f a → ⊥
     no_cont test a d h =
-        let (i, e, g) = contains_flat_mapped (λ (i : Item). cont_in (word_of fl p w done i.word)) (only test kept.follows.net.waiting) a d in
-        no_word i (waiting_left i (only_contains test kept.follows.net.waiting i e).0) (cont_names (word_of fl p w done i.word) a f g h)
+        let (i, e, g) = contains_flat_mapped (λ (i : Item). cont_in (word_of fl p w done i.word)) (only test kept.tracks.net.waiting) a d in
+        no_word i (waiting_left i (only_contains test kept.tracks.net.waiting i e).0) (cont_names (word_of fl p w done i.word) a f g h)
 
     -- SLOTS
     pub no_slot : (g r : ℕ) → NamesSlot f (m.store.slots g r) → ⊥
-    no_slot g r h = pick (kept.follows.stands.slots.empty g r)
+    no_slot g r h = pick (kept.tracks.stands.slots.empty g r)
       where
         by_loop : (d : Context) (n : ℕ) → IsContext fl d → is_loop (block_in fl d) n ≡ true → frame_at fl done d ≡ Some g
-            → (wiring_in fl w d).slot (Opener n) ≡ r → NamesSlot f (kept.follows.stands.base g r) → ⊥
+            → (wiring_in fl w d).slot (Opener n) ≡ r → NamesSlot f (kept.tracks.stands.base g r) → ⊥
         by_loop d n con l frame slot names =
-            let log = ledger fl p w kept.follows.net d n in
-            let at : kept.follows.stands.base g r ≡ slot_for (bound_at (block_in fl d) n) log = ap (kept.follows.stands.base g) (sym slot)
-            ∙ kept.follows.stands.loops d n g con l frame in
+            let log = ledger fl p w kept.tracks.net d n in
+            let at : kept.tracks.stands.base g r ≡ slot_for (bound_at (block_in fl d) n) log = ap (kept.tracks.stands.base g) (sym slot)
+            ∙ kept.tracks.stands.loops d n g con l frame in
             let (a, e, x) = slot_names f (bound_at (block_in fl d) n) log (subst (NamesSlot f) at names) in
-            no_cont (is_item_at d (Taker n)) a (first_there (conts_of fl p w done (only (is_item_at d (Taker n)) kept.follows.net.waiting)) a e) x
+            no_cont (is_item_at d (Taker n)) a (first_there (conts_of fl p w done (only (is_item_at d (Taker n)) kept.tracks.net.waiting)) a e) x
 
-        by_base : NamesSlot f (kept.follows.stands.base g r)
-            → (kept.follows.stands.base g r ≡ Empty)
+        by_base : NamesSlot f (kept.tracks.stands.base g r)
+            → (kept.tracks.stands.base g r ≡ Empty)
             ⊎ ((d : Context) × (n : ℕ) × IsContext fl d × (is_loop (block_in fl d) n ≡ true) × (frame_at fl done d ≡ Some g)
             × ((wiring_in fl w d).slot (Opener n) ≡ r)) → ⊥
         by_base names (inl e) = subst (NamesSlot f) e names
         by_base names (inr (d, n, con, l, frame, slot)) = by_loop d n con l frame slot names
 
-        pick : (m.store.slots g r ≡ kept.follows.stands.base g r)
+        pick : (m.store.slots g r ≡ kept.tracks.stands.base g r)
             ⊎ AtSlot (λ (i : Item). frame_of fl done i.context) (slot_of fl w)
-            (λ (i : Item). on_side i.inlet.port (word_of fl p w done i.word)) kept.follows.stands.base (only (in_slot fl) kept.follows.net.waiting) g r → ⊥
-        pick (inl e) = by_base (subst (NamesSlot f) e h) (kept.follows.stands.others g r)
+            (λ (i : Item). on_side i.inlet.port (word_of fl p w done i.word)) kept.tracks.stands.base (only (in_slot fl) kept.tracks.net.waiting) g r → ⊥
+        pick (inl e) = by_base (subst (NamesSlot f) e h) (kept.tracks.stands.others g r)
         pick (inr (i, d, a, e)) =
-            let held = kept.follows.stands.slots.waits i d in
+            let held = kept.tracks.stands.slots.waits i d in
             let same : m.store.slots g r ≡ on_side i.inlet.port (word_of fl p w done i.word) = (λ k. m.store.slots (sym a k) (sym e k)) ∙ held in
-            no_word i (waiting_left i (only_contains (in_slot fl) kept.follows.net.waiting i d).0)
+            no_word i (waiting_left i (only_contains (in_slot fl) kept.tracks.net.waiting i d).0)
             (side_names f i.inlet.port (word_of fl p w done i.word) (subst (NamesSlot f) same h))
 
     -- its own are empty: a loop that was opened is over
-    loop_over : (n : ℕ) → is_loop (block_in fl c) n ≡ true → IsContext fl c → (ledger fl p w kept.follows.net c n).opened ≡ true
-        → (ledger fl p w kept.follows.net c n).over ≡ true
+    loop_over : (n : ℕ) → is_loop (block_in fl c) n ≡ true → IsContext fl c → (ledger fl p w kept.tracks.net c n).opened ≡ true
+        → (ledger fl p w kept.tracks.net c n).over ≡ true
     loop_over n l con e =
         let (h, d, a, g) = firing_of c (Opener n) done (ltb-true 0 (times c (Opener n) done) e) in
         let (i, o, x, y) = first_in fl p w inputs past m good fit kept c (Opener n) (h, d, a, g) in
@@ -231,26 +231,26 @@ module _ (fl : Flow) (p : Plan) (w : Wires) (inputs : List ℤ) (past : Past) (m
         lt-ltb 0 (times c (Drained n) done) (some_firing c (Drained n) done over.0 over.1 over.2 over.3)
 
     pub slots_empty : (r : ℕ) → m.store.slots f r ≡ Empty
-    slots_empty r = pick (kept.follows.stands.slots.empty f r)
+    slots_empty r = pick (kept.tracks.stands.slots.empty f r)
       where
-        by_base : (kept.follows.stands.base f r ≡ Empty)
+        by_base : (kept.tracks.stands.base f r ≡ Empty)
             ⊎ ((d : Context) × (n : ℕ) × IsContext fl d × (is_loop (block_in fl d) n ≡ true) × (frame_at fl done d ≡ Some f)
-            × ((wiring_in fl w d).slot (Opener n) ≡ r)) → kept.follows.stands.base f r ≡ Empty
+            × ((wiring_in fl w d).slot (Opener n) ≡ r)) → kept.tracks.stands.base f r ≡ Empty
         by_base (inl e) = e
         by_base (inr (d, n, con, l, frame, slot)) =
-            let same : d ≡ c = kept.follows.stands.apart d c f frame at in
+            let same : d ≡ c = kept.tracks.stands.apart d c f frame at in
             let con' = subst (IsContext fl) same con in let l' = subst (λ (d : Context). is_loop (block_in fl d) n ≡ true) same l in
-            ap (kept.follows.stands.base f) (sym (ap (λ (d : Context). (wiring_in fl w d).slot (Opener n)) (sym same) ∙ slot))
-            ∙ kept.follows.stands.loops c n f con' l' at
-            ∙ slot_over (bound_at (block_in fl c) n) (ledger fl p w kept.follows.net c n) (loop_over n l' con')
+            ap (kept.tracks.stands.base f) (sym (ap (λ (d : Context). (wiring_in fl w d).slot (Opener n)) (sym same) ∙ slot))
+            ∙ kept.tracks.stands.loops c n f con' l' at
+            ∙ slot_over (bound_at (block_in fl c) n) (ledger fl p w kept.tracks.net c n) (loop_over n l' con')
 
-        pick : (m.store.slots f r ≡ kept.follows.stands.base f r)
+        pick : (m.store.slots f r ≡ kept.tracks.stands.base f r)
             ⊎ AtSlot (λ (i : Item). frame_of fl done i.context) (slot_of fl w)
-            (λ (i : Item). on_side i.inlet.port (word_of fl p w done i.word)) kept.follows.stands.base (only (in_slot fl) kept.follows.net.waiting) f r
+            (λ (i : Item). on_side i.inlet.port (word_of fl p w done i.word)) kept.tracks.stands.base (only (in_slot fl) kept.tracks.net.waiting) f r
             → m.store.slots f r ≡ Empty
-        pick (inl e) = e ∙ by_base (kept.follows.stands.others f r)
+        pick (inl e) = e ∙ by_base (kept.tracks.stands.others f r)
         pick (inr (i, d, a, e)) =
-            let k = only_contains (in_slot fl) kept.follows.net.waiting i d in
+            let k = only_contains (in_slot fl) kept.tracks.net.waiting i d in
             let l = waiting_left i k.0 in
             absurd ((ends_last fl p w inputs past m good fit kept c last).none_left i l (own_frame i l a)
             (waits_stay (block_in fl i.context) i.inlet.part k.1))
@@ -286,18 +286,18 @@ module _ (fl : Flow) (p : Plan) (w : Wires) (inputs : List ℤ) (past : Past) (m
         λ h. not_to c f at last j (later j e) (alone j e) (subst (NamesTo f) (sym (ap (λ (t : Token). t.to) g)) h),
         λ h. no_word c f at last j (later j e) (subst (NamesWord f) (sym (ap (λ (t : Token). t.word) g)) h),
       );
-      readers = λ x a d h. no_cont c f at last (λ (i : Item). reads fl x i i.inlet.part) a (Contains-permutation _ _ a (kept.follows.stands.readers x) d) h;
-      requests = λ a d h. no_cont c f at last (λ (i : Item). is_asked i.inlet.part) a (Contains-permutation _ _ a kept.follows.stands.requests d) h;
+      readers = λ x a d h. no_cont c f at last (λ (i : Item). reads fl x i i.inlet.part) a (Contains-permutation _ _ a (kept.tracks.stands.readers x) d) h;
+      requests = λ a d h. no_cont c f at last (λ (i : Item). is_asked i.inlet.part) a (Contains-permutation _ _ a kept.tracks.stands.requests d) h;
       words = λ g r h. no_slot c f at last g r h;
       slots = λ r. slots_empty c f at last r;
     },
   )
     where
-      first : (i : Item) × (others : List Item) × IsPermutation kept.follows.net.pending (i ∷ others)
-          × (token_of fl p w kept.follows.net.fired i ≡ token (To.Release f) back) × (map (token_of fl p w kept.follows.net.fired) others ≡ rest)
+      first : (i : Item) × (others : List Item) × IsPermutation kept.tracks.net.pending (i ∷ others)
+          × (token_of fl p w kept.tracks.net.fired i ≡ token (To.Release f) back) × (map (token_of fl p w kept.tracks.net.fired) others ≡ rest)
       first =
-          first_lifted (token_of fl p w kept.follows.net.fired) kept.follows.net.pending (token (To.Release f) back) rest
-          (IsPermutation-trans _ _ _ (IsPermutation-sym _ _ kept.follows.stands.pool) perm)
+          first_lifted (token_of fl p w kept.tracks.net.fired) kept.tracks.net.pending (token (To.Release f) back) rest
+          (IsPermutation-trans _ _ _ (IsPermutation-sym _ _ kept.tracks.stands.pool) perm)
 
       freed : (first.0.inlet.part ≡ Freed) × (frame_of fl done first.0.context ≡ f)
       freed = to_release first.0 first.0.inlet.part f (ap (λ (t : Token). t.to) first.3)
@@ -320,8 +320,8 @@ module _ (fl : Flow) (p : Plan) (w : Wires) (inputs : List ℤ) (past : Past) (m
       last : HasFired first.0.context End done
       last = ended first.0 mine (freed_inlet first.0 mine freed.0)
 
-      from_rest : (t : Token) → Contains rest t → (j : Item) × Contains first.1 j × (token_of fl p w kept.follows.net.fired j ≡ t)
-      from_rest t d = contains_mapped (token_of fl p w kept.follows.net.fired) first.1 t (subst (λ (ts : List Token). Contains ts t) (sym first.4) d)
+      from_rest : (t : Token) → Contains rest t → (j : Item) × Contains first.1 j × (token_of fl p w kept.tracks.net.fired j ≡ t)
+      from_rest t d = contains_mapped (token_of fl p w kept.tracks.net.fired) first.1 t (subst (λ (ts : List Token). Contains ts t) (sym first.4) d)
 
       -- it comes back once
       alone : (j : Item) → Contains first.1 j → j.inlet.part ≡ Freed → j.context ≡ first.0.context → ⊥
@@ -331,9 +331,9 @@ module _ (fl : Flow) (p : Plan) (w : Wires) (inputs : List ℤ) (past : Past) (m
           let spot : spot_of j ≡ x = spot_is (spot_of j) (spot_of first.0) same (freed_inlet j (later j d) e ∙ sym (freed_inlet first.0 mine freed.0)) in
           let here = hit_counted (first.0 ∷ []) first.0 (contains_head first.0 []) in
           let more = subst (λ (x : Spot). 0 < hits_at x first.1) spot (hit_counted first.1 j d) in
-          let all = total-IsPermutation g kept.follows.net.pending (first.0 ∷ first.1) first.2 in
-          let sum = total-append g kept.follows.net.pending (kept.follows.net.waiting ++ flat_map (takes fl) kept.follows.net.fired) in
-          let most = once_all fl w inputs kept.follows.net kept.sound x in
+          let all = total-IsPermutation g kept.tracks.net.pending (first.0 ∷ first.1) first.2 in
+          let sum = total-append g kept.tracks.net.pending (kept.tracks.net.waiting ++ flat_map (takes fl) kept.tracks.net.fired) in
+          let most = once_all fl w inputs kept.tracks.net kept.sound x in
           omega (arith, here, more, all, sum, most)
 
 pub releases_last : OfRuns ReleasesLast

@@ -10,26 +10,26 @@ use Rattle.semantics.specs.Meaning.{Context, Turned}
 use Rattle.semantics.specs.Cause.{is_turn}
 use Rattle.semantics.specs.Plan.{Plan}
 use Rattle.semantics.specs.Machine.{Machine}
-use Rattle.law_net.specs.ContextsParts.{Part, Line, Fanned, Sender, Giver, Taker, Drainer, LoopDone, NextFanned, End, Asked, NextAsked, Held, Drained, Shown}
+use Rattle.law_net.specs.ContextsParts.{Part, Line, Fanned, Sender, Giver, Taker, Drainer, LoopDone, NextFanned, End, Asked, NextAsked, InCell, Drained, Shown}
 use Rattle.law_net.specs.ContextsParts.{Done, Freed, Inlet, inlet, signal, Item, item, Firing, spot_of}
 use Rattle.law_net.specs.ContextsBlocks.{waits_in, invokes, is_cell, is_loop, lies_in, region_of, entered, flag}
 use Rattle.law_net.specs.Contexts.{Wires, block_in, IsContext, is_strict_in}
 use Rattle.law_net.specs.ContextsFirings.{right_way, HasFired}
 use Rattle.law_net.specs.ContextsAround.{Way, ways_round}
 use Rattle.law_net.specs.ContextsLaws.{spot_there, way_fits, port_fits, sender_way, arms_of, landing_arms}
-use Rattle.law_net.specs.ContextsStands.{Past}
+use Rattle.law_net.specs.ContextsMirror.{Past}
 use Rattle.law_net.specs.ContextsTheorem.{IsGood}
 use Rattle.law_net.specs.ContextsPackages.{InputsFit, Keeps}
 use Rattle.law_net.proofs.ContextsSames.{spot_is, inlet_is}
 use Rattle.law_net.proofs.WiredSends.{first_taken, cell_plain}
-use Rattle.law_net.proofs.RunsComes.{one_spot}
+use Rattle.law_net.proofs.RunsArrives.{one_spot}
 use Rattle.law_net.proofs.WiredInvoked.{is_turned}
 use Rattle.law_net.proofs.WiredRounds.{earlier_flag, under}
 use Rattle.law_net.proofs.WiredRivals.{flag_at, turn_last, Order, Same, Before, After, order}
 use Rattle.law_net.proofs.CreditsTurns.{credit_taken, drained_taken, no_later, taker_way, left_at, spot_at}
 use Rattle.law_end.specs.Over.{IsDecided, IsOpen, is_turning, is_leaving, EndIsLast, EndsAreLast, CallsAreOver, LoopsAreOver, OfNets}
 use Rattle.law_end.proofs.OverSorts.{IsHere}
-use Rattle.law_end.proofs.OverMade.{fired, taken, Stands, taken_stands, left_stands, fits, allowed, twice, first_in, asked_by, next_asked_by, credit_gone}
+use Rattle.law_end.proofs.OverMade.{fired, taken, Mirrors, taken_stands, left_stands, fits, allowed, twice, first_in, asked_by, next_asked_by, credit_gone}
 use Rattle.law_end.proofs.OverMade.{call_by, drained_by}
 use Rattle.law_end.proofs.OverOpen.{one_side, first_of, right_first, renewed_too, stands_open, root_open, region_open}
 use Rattle.law_end.proofs.OverBack.{context_of, turn_ended, turn_asked}
@@ -44,7 +44,7 @@ module _ (fl : Flow) (p : Plan) (w : Wires) (inputs : List ℤ) (past : Past) (m
   gone = taken fl p w inputs past m good fit kept
 
   abbrev Stood : Item → Type 0
-  Stood i = Stands fl p w inputs past m good fit kept i
+  Stood i = Mirrors fl p w inputs past m good fit kept i
 
   -- THE SAME SPOT was taken
   abbrev Taken : Item → Type 0
@@ -166,12 +166,12 @@ module _ (fl : Flow) (p : Plan) (w : Wires) (inputs : List ℤ) (past : Past) (m
           left Right g h = absurd (true≢false (sym h ∙ none))
 
       -- A LOOP whose credits are all back
-      module _ (n : ℕ) (l : is_loop (block_in fl c) n ≡ true) (h : Firing) (come : Contains done h) (hc : h.context ≡ c) (hp : h.part ≡ Drained n) where
+      module _ (n : ℕ) (l : is_loop (block_in fl c) n ≡ true) (h : Firing) (arrive : Contains done h) (hc : h.context ≡ c) (hp : h.part ≡ Drained n) where
         last_flag : IsDecided fl w done (flag_at fl p w good c con n h.turns) false
         last_flag =
             let i = item h.context (inlet (Drainer n) Left h.turns) h.left in
             (allowed fl p w inputs past m good fit kept i
-            (taken_stands fl p w inputs past m good fit kept i (drained_taken fl p w inputs past m good kept c con n l h come hc hp))).arms
+            (taken_stands fl p w inputs past m good fit kept i (drained_taken fl p w inputs past m good kept c con n l h arrive hc hp))).arms
             (flag_at fl p w good c con n h.turns) false
             (subst (λ (d : Context). Contains (landing_arms fl d n h.turns true) (record { choice = flag_at fl p w good c con n h.turns; side = false }))
             (sym hc) (turn_last fl p w good c con n h.turns l))
@@ -205,7 +205,7 @@ module _ (fl : Flow) (p : Plan) (w : Wires) (inputs : List ℤ) (past : Past) (m
         giver_taken i s a e =
             let j = item h.context (inlet (Giver n) Left i.inlet.way) signal in (
               j,
-              credit_taken fl p w inputs past m good kept c con n l h come hc hp i.inlet.way (giver_low i s a e),
+              credit_taken fl p w inputs past m good kept c con n l h arrive hc hp i.inlet.way (giver_low i s a e),
               ap (λ (c : Context). record { context = c; inlet = inlet (Giver n) Left i.inlet.way }) hc
                   ∙ sym (spot_at fl p w inputs past m good kept c con n l i s a (Giver n) e refl i.inlet.way refl),
             )
@@ -213,7 +213,7 @@ module _ (fl : Flow) (p : Plan) (w : Wires) (inputs : List ℤ) (past : Past) (m
         drainer_taken : (i : Item) → Stood i → i.context ≡ c → i.inlet.part ≡ Drainer n → Taken i
         drainer_taken i s a e =
             let j = item h.context (inlet (Drainer n) Left h.turns) h.left in
-            let d = drained_taken fl p w inputs past m good kept c con n l h come hc hp in (
+            let d = drained_taken fl p w inputs past m good kept c con n l h arrive hc hp in (
               j,
               d,
               same_spot_by j i (taken_stands fl p w inputs past m good fit kept j d) s (hc ∙ sym a) (sym e)
@@ -231,10 +231,10 @@ module _ (fl : Flow) (p : Plan) (w : Wires) (inputs : List ℤ) (past : Past) (m
 
             by_way : (t : ℕ) × (i.inlet.way ≡ suc t) → Taken i
             by_way (t, way) =
-                let low = no_later fl p w inputs past m good kept c con n l h come hc hp i s a e in
+                let low = no_later fl p w inputs past m good kept c con n l h arrive hc hp i s a e in
                 by_item t way (credit_gone fl p w inputs past m good fit kept c n t
                 (turn_asked fl p w inputs past m good fit kept c con n l t
-                (turn_ended fl p w inputs past m good fit kept c con n l h come hc hp (suc t) (omega (arith, low, way)))))
+                (turn_ended fl p w inputs past m good fit kept c con n l h arrive hc hp (suc t) (omega (arith, low, way)))))
 
       -- THE LAST PART has fired
       module _ (last : HasFired c End done) where
@@ -253,9 +253,9 @@ module _ (fl : Flow) (p : Plan) (w : Wires) (inputs : List ℤ) (past : Past) (m
         next_asked_over : is_turn c ≡ true → IsOpen fl w done c (Arm (flag (block_in fl c)) true) → HasFired c NextAsked done
         next_asked_over h a = next_asked_by fl p w inputs past m good fit kept c (over NextFanned h refl a)
 
-        held_over : (n : ℕ) → is_cell (block_in fl c) n ≡ true → IsOpen fl w done c (lies_in (block_in fl c) n) → HasFired c (Held n) done
+        held_over : (n : ℕ) → is_cell (block_in fl c) n ≡ true → IsOpen fl w done c (lies_in (block_in fl c) n) → HasFired c (InCell n) done
         held_over n h a =
-            subst (λ (t : Bool). HasFired c (if t then Held n else Line n) done) h
+            subst (λ (t : Bool). HasFired c (if t then InCell n else Line n) done) h
             (maker_over fl p w inputs past m good fit kept c con last (Line n) (cell_plain (block_in fl c) n h) refl refl refl a)
 
         drained_over : (n : ℕ) → is_loop (block_in fl c) n ≡ true → IsOpen fl w done c (lies_in (block_in fl c) n) → HasFired c (Drained n) done
@@ -274,8 +274,8 @@ module _ (fl : Flow) (p : Plan) (w : Wires) (inputs : List ℤ) (past : Past) (m
         all_taken : (r : Part) → is_leaving r ≡ false → spot_there fl w c r ≡ true → (i : Item) → Stood i → i.context ≡ c → i.inlet.part ≡ r → Taken i
         all_taken (Asked n) v h i s a e = answer_taken (Asked n) (asked_over n h (stands_here i s a (Asked n) e)) refl refl refl i s a e
         all_taken NextAsked v h i s a e = answer_taken NextAsked (next_asked_over h (stands_here i s a NextAsked e)) refl refl refl i s a e
-        all_taken (Held n) v h i s a e =
-            let f = held_over n h (stands_here i s a (Held n) e) in answer_taken (Held n) f (ap (λ (r : Part). inlet r Left 0) f.3) refl refl i s a e
+        all_taken (InCell n) v h i s a e =
+            let f = held_over n h (stands_here i s a (InCell n) e) in answer_taken (InCell n) f (ap (λ (r : Part). inlet r Left 0) f.3) refl refl i s a e
         all_taken (Giver n) v h i s a e = let f = drained_over n h (stands_here i s a (Giver n) e) in giver_taken n h f.0 f.1 f.2 f.3 i s a e
         all_taken (Taker n) v h i s a e = let f = drained_over n h (stands_here i s a (Taker n) e) in taker_taken n h f.0 f.1 f.2 f.3 i s a e
         all_taken (Drainer n) v h i s a e = let f = drained_over n h (stands_here i s a (Drainer n) e) in drainer_taken n h f.0 f.1 f.2 f.3 i s a e
@@ -285,7 +285,7 @@ module _ (fl : Flow) (p : Plan) (w : Wires) (inputs : List ℤ) (past : Past) (m
         all_taken Freed v h i s a e = absurd (true≢false v)
         all_taken r v h i s a e = code_taken r h refl i s a e
 
-        end_is_last : EndIsLast fl w kept.follows.net c
+        end_is_last : EndIsLast fl w kept.tracks.net c
         end_is_last = record {
           opened = end_open;
           fired = over;
@@ -299,13 +299,13 @@ module _ (fl : Flow) (p : Plan) (w : Wires) (inputs : List ℤ) (past : Past) (m
               twice fl p w inputs past m good fit kept i j d o e;
         }
 
-  pub ends_last : EndsAreLast fl w kept.follows.net
+  pub ends_last : EndsAreLast fl w kept.tracks.net
   ends_last c last = end_is_last c (context_of fl p w inputs past m good fit kept c End last) last
 
-  pub calls_over : CallsAreOver fl w kept.follows.net
+  pub calls_over : CallsAreOver fl w kept.tracks.net
   calls_over c n f = call_by fl p w inputs past m good fit kept c n f
 
-  pub loops_over : LoopsAreOver fl w kept.follows.net
+  pub loops_over : LoopsAreOver fl w kept.tracks.net
   loops_over c n f =
       let con = context_of fl p w inputs past m good fit kept c (LoopDone n) f in
       let (i, d, a, e) = first_in fl p w inputs past m good fit kept c (LoopDone n) f in

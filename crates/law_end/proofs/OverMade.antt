@@ -11,22 +11,22 @@ use Rattle.semantics.specs.Machine.{Machine}
 use Rattle.law_confluence.specs.OrdersTotals.{one}
 use Rattle.law_confluence.proofs.Orders.{total-append}
 use Rattle.law_net.specs.ContextsParts.{Part, Entry, Line, Framer, Fanned, Linker, CallDone, Taker, LoopDone, Asker, NextFramer, NextFanned, NextSender, End}
-use Rattle.law_net.specs.ContextsParts.{Asked, NextAsked, Held, Drained, Inlet, inlet, Item, Firing, Spot, spot_of, same_spot, Role, role, role_of, turn_in}
+use Rattle.law_net.specs.ContextsParts.{Asked, NextAsked, InCell, Drained, Inlet, inlet, Item, Firing, Spot, spot_of, same_spot, Role, role, role_of, turn_in}
 use Rattle.law_net.specs.ContextsBlocks.{there_in, is_cell}
 use Rattle.law_net.specs.Contexts.{Wires, block_in, site_in, wiring_in}
-use Rattle.law_net.specs.ContextsWires.{is_given, wired_way}
+use Rattle.law_net.specs.ContextsWires.{is_unwired, wired_way}
 use Rattle.law_net.specs.ContextsFirings.{Config, takes, HasFired}
 use Rattle.law_net.specs.ContextsLaws.{Fits, WordFits, Allowed, maker_of}
-use Rattle.law_net.specs.ContextsStands.{Past}
+use Rattle.law_net.specs.ContextsMirror.{Past}
 use Rattle.law_net.specs.ContextsTheorem.{IsGood}
 use Rattle.law_net.specs.ContextsPackages.{InputsFit, Keeps, AllFit}
 use Rattle.law_net.proofs.ContextsSames.{hits_at, hit_counted}
 use Rattle.law_net.proofs.WiredSends.{first_taken, takes_first, first_context, IsSent}
 use Rattle.law_net.proofs.WiredGifts.{Gift}
 use Rattle.law_net.proofs.WiredWords.{Begins, AtEntry, AtInput, begin_cases, input_below}
-use Rattle.law_net.proofs.WiredFed.{giver_of, MadeAt, ByGift, ByWire, made_at, sent_there, Unwired, UGiven, UNot, UWay, gift_unwired, gift_role}
+use Rattle.law_net.proofs.WiredFed.{giver_of, MadeAt, ByGift, ByWire, made_at, sent_there, Unwired, UUnwired, UNot, UWay, gift_unwired, gift_role}
 use Rattle.law_net.proofs.WiredNets.{all_of, all_born, Born, once_all, allowed_in, taken_in}
-use Rattle.law_net.proofs.RunsComes.{fits_in, fired_fit}
+use Rattle.law_net.proofs.RunsArrives.{fits_in, fired_fit}
 
 -- where a graph's first items come
 abbrev pub is_first : Part → Bool
@@ -37,34 +37,34 @@ is_first r = false
 module _ (fl : Flow) (p : Plan) (w : Wires) (inputs : List ℤ) (past : Past) (m : Machine) (good : IsGood fl p w) (fit : InputsFit fl inputs)
     (kept : Keeps fl p w inputs past m) where
   abbrev pub net : Config
-  net = kept.follows.net
+  net = kept.tracks.net
 
   abbrev pub fired : List Firing
-  fired = kept.follows.net.fired
+  fired = kept.tracks.net.fired
 
   abbrev pub taken : List Item
-  taken = flat_map (takes fl) kept.follows.net.fired
+  taken = flat_map (takes fl) kept.tracks.net.fired
 
-  abbrev pub Stands : Item → Type 0
-  Stands i = Contains (all_of fl kept.follows.net) i
+  abbrev pub Mirrors : Item → Type 0
+  Mirrors i = Contains (all_of fl kept.tracks.net) i
 
-  pub taken_stands : (i : Item) → Contains taken i → Stands i
+  pub taken_stands : (i : Item) → Contains taken i → Mirrors i
   taken_stands i d = Contains-append_right net.pending (net.waiting ++ taken) i (Contains-append_right net.waiting taken i d)
 
-  pub left_stands : (i : Item) → Contains (net.pending ++ net.waiting) i → Stands i
+  pub left_stands : (i : Item) → Contains (net.pending ++ net.waiting) i → Mirrors i
   left_stands i d = pick (Contains-append_cases net.pending net.waiting i d)
     where
-      pick : Contains net.pending i ⊎ Contains net.waiting i → Stands i
+      pick : Contains net.pending i ⊎ Contains net.waiting i → Mirrors i
       pick (inl e) = Contains-append_left net.pending (net.waiting ++ taken) i e
       pick (inr e) = Contains-append_right net.pending (net.waiting ++ taken) i (Contains-append_left net.waiting taken i e)
 
-  pub fits : (i : Item) → Stands i → Fits fl w (spot_of i)
+  pub fits : (i : Item) → Mirrors i → Fits fl w (spot_of i)
   fits i d = fits_in fl p w inputs past m good kept i d
 
-  pub allowed : (i : Item) → Stands i → Allowed fl w inputs fired i
+  pub allowed : (i : Item) → Mirrors i → Allowed fl w inputs fired i
   allowed i d = allowed_in fl w inputs net kept.sound i d
 
-  pub word : (i : Item) → Stands i → WordFits fl w i
+  pub word : (i : Item) → Mirrors i → WordFits fl w i
   word i d = All-contains (WordFits fl w) (all_of fl net) i kept.fits d
 
   pub fit_of : (h : Firing) → Contains fired h → AllFit fl w (takes fl h)
@@ -83,23 +83,23 @@ module _ (fl : Flow) (p : Plan) (w : Wires) (inputs : List ℤ) (past : Past) (m
       omega (arith, here, there, most, first, second, third)
 
   -- WHO MADE IT
-  begin_given : (i : Item) → Begins inputs i → (i.context ≡ Main) × (is_given (block_in fl Main) i.inlet.part ≡ true) × (is_first i.inlet.part ≡ true)
+  begin_given : (i : Item) → Begins inputs i → (i.context ≡ Main) × (is_unwired (block_in fl Main) i.inlet.part ≡ true) × (is_first i.inlet.part ≡ true)
   begin_given i (AtEntry e) =
-      (ap (λ (i : Item). i.context) e, ap (λ (i : Item). is_given (block_in fl Main) i.inlet.part) e, ap (λ (i : Item). is_first i.inlet.part) e)
+      (ap (λ (i : Item). i.context) e, ap (λ (i : Item). is_unwired (block_in fl Main) i.inlet.part) e, ap (λ (i : Item). is_first i.inlet.part) e)
   begin_given i (AtInput n z l e) = (
     ap (λ (i : Item). i.context) e,
-    ap (λ (i : Item). is_given (block_in fl Main) i.inlet.part) e ∙ lt-ltb n (block_in fl Main).inputs (input_below fl p w good inputs fit n l),
+    ap (λ (i : Item). is_unwired (block_in fl Main) i.inlet.part) e ∙ lt-ltb n (block_in fl Main).inputs (input_below fl p w good inputs fit n l),
     ap (λ (i : Item). is_first i.inlet.part) e,
   )
 
   -- what comes along a wire was sent
-  pub sent_by : (i : Item) → Stands i → there_in fl (site_in fl w i.context) (wiring_in fl w i.context) i.inlet.part ≡ true
-      → is_given (block_in fl i.context) i.inlet.part ≡ false → wired_way i.inlet.part i.inlet.way ≡ true
+  pub sent_by : (i : Item) → Mirrors i → there_in fl (site_in fl w i.context) (wiring_in fl w i.context) i.inlet.part ≡ true
+      → is_unwired (block_in fl i.context) i.inlet.part ≡ false → wired_way i.inlet.part i.inlet.way ≡ true
       → (h : Firing) × Contains fired h × IsSent fl w h i
-  sent_by i d here given way = by_born (all_born fl w inputs net kept.follows.moves i d)
+  sent_by i d here given way = by_born (all_born fl w inputs net kept.tracks.moves i d)
     where
       gift_not : (h : Firing) → Unwired fl p w good i.context i.inlet → (g : Firing) × Contains fired g × IsSent fl w g i
-      gift_not h (UGiven u) = absurd (true≢false (sym u ∙ given))
+      gift_not h (UUnwired u) = absurd (true≢false (sym u ∙ given))
       gift_not h (UNot u) = absurd (true≢false (sym here ∙ u))
       gift_not h (UWay u) = absurd (true≢false (sym way ∙ u))
 
@@ -110,16 +110,16 @@ module _ (fl : Flow) (p : Plan) (w : Wires) (inputs : List ℤ) (past : Past) (m
       by_born : Born fl w inputs fired i → (g : Firing) × Contains fired g × IsSent fl w g i
       by_born (inl b) =
           let k = begin_given i (begin_cases inputs i b) in
-          absurd (true≢false (sym (ap (λ (c : Context). is_given (block_in fl c) i.inlet.part) k.0 ∙ k.1) ∙ given))
+          absurd (true≢false (sym (ap (λ (c : Context). is_unwired (block_in fl c) i.inlet.part) k.0 ∙ k.1) ∙ given))
       by_born (inr (h, e, g)) = by_made h e (made_at fl p w good h i (fit_of h e) g)
 
   -- and what comes where none leads was given
-  pub gift_by : (i : Item) → Stands i → Unwired fl p w good i.context i.inlet → (i.context ≡ Main → is_first i.inlet.part ≡ true → ⊥)
+  pub gift_by : (i : Item) → Mirrors i → Unwired fl p w good i.context i.inlet → (i.context ≡ Main → is_first i.inlet.part ≡ true → ⊥)
       → (h : Firing) × Contains fired h × Gift fl w h i
-  gift_by i d none first = by_born (all_born fl w inputs net kept.follows.moves i d)
+  gift_by i d none first = by_born (all_born fl w inputs net kept.tracks.moves i d)
     where
       sent_not : (h : Firing) → Contains fired h → IsSent fl w h i → Unwired fl p w good i.context i.inlet → ⊥
-      sent_not h e s (UGiven u) = true≢false (sym u ∙ (sent_there fl p w good h i (fit_of h e) s).2)
+      sent_not h e s (UUnwired u) = true≢false (sym u ∙ (sent_there fl p w good h i (fit_of h e) s).2)
       sent_not h e s (UNot u) = true≢false (sym (sent_there fl p w good h i (fit_of h e) s).0 ∙ u)
       sent_not h e s (UWay u) = true≢false (sym (sent_there fl p w good h i (fit_of h e) s).1 ∙ u)
 
@@ -133,7 +133,7 @@ module _ (fl : Flow) (p : Plan) (w : Wires) (inputs : List ℤ) (past : Past) (m
 
   -- by the part that gives there
   pub given_by : (c : Context) (x : Inlet) → Unwired fl p w good c x → (c ≡ Main → is_first x.part ≡ true → ⊥) → (d : Context) (r : Part) (t : ℕ)
-      → giver_of fl c x.part x.way ≡ role d r t → (i : Item) → Stands i → i.context ≡ c → i.inlet ≡ x
+      → giver_of fl c x.part x.way ≡ role d r t → (i : Item) → Mirrors i → i.context ≡ c → i.inlet ≡ x
       → (h : Firing) × Contains fired h × (h.context ≡ d) × (h.part ≡ r) × (turn_in r h.way ≡ t)
   given_by c x none first d r t giver i s ic ix =
       let none' : Unwired fl p w good i.context i.inlet =
@@ -166,13 +166,13 @@ module _ (fl : Flow) (p : Plan) (w : Wires) (inputs : List ℤ) (past : Past) (m
   never r e c a g = true≢false (sym g ∙ e)
 
   pub asked_by : (c : Context) (n : ℕ) → HasFired c (Fanned n) fired → HasFired c (Asked n) fired
-  asked_by c n f = only c (Asked n) 0 (before c (Fanned n) (inlet (Fanned n) Left 0) f refl (UGiven refl) (never (Fanned n) refl c) c (Asked n) 0 refl)
+  asked_by c n f = only c (Asked n) 0 (before c (Fanned n) (inlet (Fanned n) Left 0) f refl (UUnwired refl) (never (Fanned n) refl c) c (Asked n) 0 refl)
 
   pub framer_by : (c : Context) (n : ℕ) → HasFired c (Asked n) fired → HasFired c (Framer n) fired
   framer_by c n f = only c (Framer n) 0 (before c (Asked n) (inlet (Asked n) Left 0) f refl (UNot refl) (never (Asked n) refl c) c (Framer n) 0 refl)
 
   pub next_asked_by : (c : Context) → HasFired c NextFanned fired → HasFired c NextAsked fired
-  next_asked_by c f = only c NextAsked 0 (before c NextFanned (inlet NextFanned Left 0) f refl (UGiven refl) (never NextFanned refl c) c NextAsked 0 refl)
+  next_asked_by c f = only c NextAsked 0 (before c NextFanned (inlet NextFanned Left 0) f refl (UUnwired refl) (never NextFanned refl c) c NextAsked 0 refl)
 
   pub next_framer_by : (c : Context) → HasFired c NextAsked fired → HasFired c NextFramer fired
   next_framer_by c f = only c NextFramer 0 (before c NextAsked (inlet NextAsked Left 0) f refl (UNot refl) (never NextAsked refl c) c NextFramer 0 refl)
@@ -180,7 +180,7 @@ module _ (fl : Flow) (p : Plan) (w : Wires) (inputs : List ℤ) (past : Past) (m
   pub taker_by : (d : Context) (n t : ℕ) → HasFired (Turned d n t) NextFramer fired
       → (h : Firing) × Contains fired h × (h.context ≡ d) × (h.part ≡ Taker n) × (h.way ≡ suc t)
   taker_by d n t f =
-      before (Turned d n t) NextFramer (inlet NextFramer Left 0) f refl (UGiven refl) (never NextFramer refl (Turned d n t)) d (Taker n) (suc t) refl
+      before (Turned d n t) NextFramer (inlet NextFramer Left 0) f refl (UUnwired refl) (never NextFramer refl (Turned d n t)) d (Taker n) (suc t) refl
 
   -- and the credit for the next turn was taken
   pub credit_gone : (d : Context) (n t : ℕ) → HasFired (Turned d n t) NextFramer fired
@@ -194,20 +194,20 @@ module _ (fl : Flow) (p : Plan) (w : Wires) (inputs : List ℤ) (past : Past) (m
   pub asker_by : (d : Context) (n t : ℕ) (h : Firing) → Contains fired h → h.context ≡ d → h.part ≡ Taker n → h.way ≡ suc t
       → HasFired (Turned d n t) Asker fired
   asker_by d n t h e a g u =
-      only (Turned d n t) Asker 0 (before d (Taker n) (inlet (Taker n) Left (suc t)) (h, e, a, g) (ap (inlet (Taker n) Left) u) (UGiven refl)
+      only (Turned d n t) Asker 0 (before d (Taker n) (inlet (Taker n) Left (suc t)) (h, e, a, g) (ap (inlet (Taker n) Left) u) (UUnwired refl)
       (never (Taker n) refl d) (Turned d n t) Asker 0 refl)
 
   pub call_by : (c : Context) (n : ℕ) → HasFired c (CallDone n) fired → HasFired (Called c n) End fired
   call_by c n f =
-      only (Called c n) End 0 (before c (CallDone n) (inlet (CallDone n) Left 0) f refl (UGiven refl) (never (CallDone n) refl c) (Called c n) End 0 refl)
+      only (Called c n) End 0 (before c (CallDone n) (inlet (CallDone n) Left 0) f refl (UUnwired refl) (never (CallDone n) refl c) (Called c n) End 0 refl)
 
   pub drained_by : (c : Context) (n : ℕ) → HasFired c (LoopDone n) fired → HasFired c (Drained n) fired
   drained_by c n f =
-      only c (Drained n) 0 (before c (LoopDone n) (inlet (LoopDone n) Left 0) f refl (UGiven refl) (never (LoopDone n) refl c) c (Drained n) 0 refl)
+      only c (Drained n) 0 (before c (LoopDone n) (inlet (LoopDone n) Left 0) f refl (UUnwired refl) (never (LoopDone n) refl c) c (Drained n) 0 refl)
 
-  pub line_by : (c : Context) (n : ℕ) → HasFired c (Held n) fired → HasFired c (Line n) fired
+  pub line_by : (c : Context) (n : ℕ) → HasFired c (InCell n) fired → HasFired c (Line n) fired
   line_by c n f =
-      only c (Line n) 0 (before c (Held n) (inlet (Held n) Left 0) f (ap (λ (r : Part). inlet r Left 0) f.3) (UNot refl) (never (Held n) refl c) c
+      only c (Line n) 0 (before c (InCell n) (inlet (InCell n) Left 0) f (ap (λ (r : Part). inlet r Left 0) f.3) (UNot refl) (never (InCell n) refl c) c
       (Line n) 0 refl)
 
   not_main : (c : Context) (n : ℕ) → Called c n ≡ Main → ⊥
@@ -217,22 +217,22 @@ module _ (fl : Flow) (p : Plan) (w : Wires) (inputs : List ℤ) (past : Past) (m
   turn_not_main c n t e = absurd (cc)
 
   pub call_linked : (c : Context) (n : ℕ) → HasFired (Called c n) Entry fired → HasFired c (Linker n) fired
-  call_linked c n f = only c (Linker n) 0 (before (Called c n) Entry (inlet Entry Left 0) f refl (UGiven refl) (λ a b. not_main c n a) c (Linker n) 0 refl)
+  call_linked c n f = only c (Linker n) 0 (before (Called c n) Entry (inlet Entry Left 0) f refl (UUnwired refl) (λ a b. not_main c n a) c (Linker n) 0 refl)
 
   pub loop_linked : (c : Context) (n : ℕ) → HasFired (Turned c n 0) Entry fired → HasFired c (Linker n) fired
   loop_linked c n f =
-      only c (Linker n) 0 (before (Turned c n 0) Entry (inlet Entry Left 0) f refl (UGiven refl) (λ a b. turn_not_main c n 0 a) c (Linker n) 0 refl)
+      only c (Linker n) 0 (before (Turned c n 0) Entry (inlet Entry Left 0) f refl (UUnwired refl) (λ a b. turn_not_main c n 0 a) c (Linker n) 0 refl)
 
   pub turn_linked : (c : Context) (n t : ℕ) → HasFired (Turned c n (suc t)) Entry fired → HasFired (Turned c n t) (NextSender 0) fired
   turn_linked c n t f =
       only (Turned c n t) (NextSender 0) 0
-      (before (Turned c n (suc t)) Entry (inlet Entry Left 0) f refl (UGiven refl) (λ a b. turn_not_main c n (suc t) a) (Turned c n t) (NextSender 0) 0 refl)
+      (before (Turned c n (suc t)) Entry (inlet Entry Left 0) f refl (UUnwired refl) (λ a b. turn_not_main c n (suc t) a) (Turned c n t) (NextSender 0) 0 refl)
 
   -- what makes the words of a part: a cell those of its line
   pub maker_fired : (c : Context) (r : Part) → HasFired c (maker_of (block_in fl c) r) fired → HasFired c r fired
   maker_fired c (Line n) f = go (is_cell (block_in fl c) n) f
     where
-      go : (t : Bool) → HasFired c (if t then Held n else Line n) fired → HasFired c (Line n) fired
+      go : (t : Bool) → HasFired c (if t then InCell n else Line n) fired → HasFired c (Line n) fired
       go true f = line_by c n f
       go false f = f
   maker_fired c r f = f

@@ -14,14 +14,15 @@ use Rattle.semantics.specs.Cause.{is_turn}
 use Rattle.semantics.specs.Plan.{Plan}
 use Rattle.semantics.specs.Machine.{Machine}
 use Rattle.law_net.specs.ContextsParts.{Part, Entry, Line, Opener, Framer, Fanned, Linker, Sender, Taker, Strict, Result, TurnCont, Asker, NextFramer}
-use Rattle.law_net.specs.ContextsParts.{NextFanned, NextSender, LastReturn, DrainReturn, Join, End, Asked, NextAsked, Held, Drained, Inlet, inlet, Note, Datum}
+use Rattle.law_net.specs.ContextsParts.{NextFanned, NextSender, LastReturn, DrainReturn, Join, End, Asked, NextAsked, InCell, Drained, Inlet, inlet}
+use Rattle.law_net.specs.ContextsParts.{Note, Datum}
 use Rattle.law_net.specs.ContextsParts.{signal, Item, Firing, spot_of}
 use Rattle.law_net.specs.ContextsBlocks.{there_in, Side, invokes, is_cell, source_count}
 use Rattle.law_net.specs.Contexts.{Wires, block_in, site_in, wiring_in, IsContext, child, next, return_of}
-use Rattle.law_net.specs.ContextsWires.{Carried, Anything, AValue, ItsReturn, Request, Reader, comes_at, goes_from, is_frame, Suits, is_given, wired_way}
+use Rattle.law_net.specs.ContextsWires.{Carried, Anything, AValue, ItsReturn, Request, Reader, arrives_at, goes_from, is_frame, Suits, is_unwired, wired_way}
 use Rattle.law_net.specs.ContextsFirings.{line_value, value_in, sent_word, turn_before, back_from, HasFired}
 use Rattle.law_net.specs.ContextsLaws.{Carries, WordFits, way_fits, port_fits, spot_there, maker_of, arms_of}
-use Rattle.law_net.specs.ContextsStands.{Past, named_by}
+use Rattle.law_net.specs.ContextsMirror.{Past, named_by}
 use Rattle.law_net.specs.ContextsTheorem.{IsGood}
 use Rattle.law_net.specs.ContextsPackages.{InputsFit, Keeps}
 use Rattle.law_net.proofs.ContextsWords.{carries_of}
@@ -29,12 +30,12 @@ use Rattle.law_net.proofs.ContextsSames.{spot_is, inlet_is}
 use Rattle.law_net.proofs.WiredSends.{side_by, first_taken, takes_first, sent_facts, in_context}
 use Rattle.law_net.proofs.WiredInvoked.{lawful_at, Child, ByCall, ByLoop, child_cases}
 use Rattle.law_net.proofs.WiredNets.{taken_in}
-use Rattle.law_net.proofs.WiredFed.{Unwired, UGiven}
+use Rattle.law_net.proofs.WiredFed.{Unwired, UUnwired}
 use Rattle.law_net.proofs.WiredGifts.{Gift, GHeld, GAsked, GArgument, GFanned, GEntry, GInput, GShown, GLanding, GLeaves, GDrains, GFreed, GDone, GCallDone}
 use Rattle.law_net.proofs.WiredGifts.{GGiver, GTaker, GNextFramer, GNextAsked, GNextFanned, GNextEntry, GNextInput, GLoopDone}
 use Rattle.law_end.specs.Over.{is_leaving, is_turning}
 use Rattle.law_end.proofs.OverSorts.{IsHere}
-use Rattle.law_end.proofs.OverMade.{is_first, fired, taken, Stands, taken_stands, left_stands, fits, allowed, word, fit_of, twice, sent_by, gift_by}
+use Rattle.law_end.proofs.OverMade.{is_first, fired, taken, Mirrors, taken_stands, left_stands, fits, allowed, word, fit_of, twice, sent_by, gift_by}
 use Rattle.law_end.proofs.OverMade.{credit_gone}
 use Rattle.law_end.proofs.OverBack.{context_of, fanned_by_linker, fanned_by_sender}
 use Rattle.law_end.proofs.OverLeft.{there_here, taken_at, ends_last}
@@ -42,18 +43,18 @@ use Rattle.law_end.proofs.OverKin.{called_over, turned_over, FrameUsed, call_sen
 
 -- WHICH WORD comes at an inlet
 pub data Bears (r : Part) (x : Port) : Type 0 where
-  BValue : comes_at r x ≡ AValue → Bears r x
-  BReturn : comes_at r x ≡ ItsReturn → is_leaving r ≡ false → Bears r x
+  BValue : arrives_at r x ≡ AValue → Bears r x
+  BReturn : arrives_at r x ≡ ItsReturn → is_leaving r ≡ false → Bears r x
   BFanned : (n : ℕ) → r ≡ Fanned n → Bears r x
   BLinker : (n : ℕ) → r ≡ Linker n → Bears r x
   BSender : (n l : ℕ) → r ≡ Sender n l → x ≡ Left → Bears r x
   BNextFanned : r ≡ NextFanned → Bears r x
   BNextSender : (j : ℕ) → r ≡ NextSender j → x ≡ Left → Bears r x
   BCredit : (n : ℕ) → r ≡ Taker n → Bears r x
-  BRequest : (q : Part) → comes_at r x ≡ Request q → is_leaving r ≡ false → Bears r x
-  BReader : (n : ℕ) → comes_at r x ≡ Reader n → is_leaving r ≡ false → Bears r x
+  BRequest : (q : Part) → arrives_at r x ≡ Request q → is_leaving r ≡ false → Bears r x
+  BReader : (n : ℕ) → arrives_at r x ≡ Reader n → is_leaving r ≡ false → Bears r x
   BAsk : r ≡ NextFramer → Bears r x
-  BAny : comes_at r x ≡ Anything → is_leaving r ≡ false → ((b : _) → is_given b r ≡ false)
+  BAny : arrives_at r x ≡ Anything → is_leaving r ≡ false → ((b : _) → is_unwired b r ≡ false)
       → ((fl : Flow) (w : Wires) (c : Context) → spot_there fl w c r ≡ there_in fl (site_in fl w c) (wiring_in fl w c) r)
       → ((fl : Flow) (c : Context) (t : ℕ) → way_fits fl c r x t ≡ wired_way r t) → Bears r x
 
@@ -84,7 +85,7 @@ bears End Right = BAny refl refl (λ b. refl) (λ fl w c. refl) (λ fl c t. refl
 bears (Taker n) x = BCredit n refl
 bears (Asked n) x = BRequest (Fanned n) refl refl
 bears NextAsked x = BRequest NextFanned refl refl
-bears (Held n) x = BReader n refl refl
+bears (InCell n) x = BReader n refl refl
 bears r x = BValue refl
 
 -- A CONTEXT THAT A WORD NAMES
@@ -145,21 +146,21 @@ module _ (fl : Flow) (p : Plan) (w : Wires) (inputs : List ℤ) (past : Past) (m
   done = fired fl p w inputs past m good fit kept
 
   abbrev IsLeft : Item → Type 0
-  IsLeft i = Contains (kept.follows.net.pending ++ kept.follows.net.waiting) i
+  IsLeft i = Contains (kept.tracks.net.pending ++ kept.tracks.net.waiting) i
 
-  stood : (i : Item) → IsLeft i → Stands fl p w inputs past m good fit kept i
+  stood : (i : Item) → IsLeft i → Mirrors fl p w inputs past m good fit kept i
   stood i d = left_stands fl p w inputs past m good fit kept i d
 
-  carries : (i : Item) → IsLeft i → Carries fl w i.context i.inlet.way (comes_at i.inlet.part i.inlet.port) i.word
+  carries : (i : Item) → IsLeft i → Carries fl w i.context i.inlet.way (arrives_at i.inlet.part i.inlet.port) i.word
   carries i d = carries_of fl w i (word fl p w inputs past m good fit kept i (stood i d))
 
   -- WHAT IS SENT along a wire is of the kind that goes from there
-  module _ (h : Firing) (come : Contains done h) where
+  module _ (h : Firing) (arrive : Contains done h) where
     first_carries : (r : Part) → r ≡ h.part → WordFits fl w (first_taken fl w h r)
     first_carries r e = subst (λ (r : Part). WordFits fl w (first_taken fl w h r)) (sym e)
         (word fl p w inputs past m good fit kept (first_taken fl w h h.part)
         (taken_stands fl p w inputs past m good fit kept (first_taken fl w h h.part)
-        (taken_in fl done h (first_taken fl w h h.part) come (takes_first fl w h))))
+        (taken_in fl done h (first_taken fl w h h.part) arrive (takes_first fl w h))))
 
     abbrev Sends : Part → Part → Type 0
     Sends q r = Carries fl w h.context 0 (goes_from q) (sent_word fl h r)
@@ -167,7 +168,7 @@ module _ (fl : Flow) (p : Plan) (w : Wires) (inputs : List ℤ) (past : Past) (m
     carries_from : (u : Side) (q : Part) → side_by fl h h.part ≡ Some u → maker_of (block_in fl h.context) q ≡ h.part → Sends q h.part
     carries_from u (Line n) s e = subst (Sends (Line n)) e (go (is_cell (block_in fl h.context) n))
       where
-        go : (x : Bool) → Sends (Line n) (if x then Held n else Line n)
+        go : (x : Bool) → Sends (Line n) (if x then InCell n else Line n)
         go true = (h.answer, refl)
         go false = (line_value fl h.context n (value_in h.left) (value_in h.right), refl)
     carries_from u (Opener n) s e = subst (Sends (Opener n)) e (Int (pos 0), refl)
@@ -179,7 +180,7 @@ module _ (fl : Flow) (p : Plan) (w : Wires) (inputs : List ℤ) (past : Past) (m
     carries_from u (Result j) s e = subst (Sends (Result j)) e (Int (pos 0), refl)
     carries_from u (LastReturn j) s e = subst (Sends (LastReturn j)) e (Int (pos 0), refl)
     carries_from u DrainReturn s e = subst (Sends DrainReturn) e (Int (pos 0), refl)
-    carries_from u (Held n) s e = subst (Sends (Held n)) e (h.answer, refl)
+    carries_from u (InCell n) s e = subst (Sends (InCell n)) e (h.answer, refl)
     carries_from u (Framer n) s e = let none = ap (side_by fl h) e in absurd (cc)
     carries_from u NextFramer s e = let none = ap (side_by fl h) e in absurd (cc)
     carries_from u Asker s e = let none = ap (side_by fl h) e in absurd (cc)
@@ -300,14 +301,14 @@ module _ (fl : Flow) (p : Plan) (w : Wires) (inputs : List ℤ) (past : Past) (m
             (spot_is (spot_of j) (spot_of i) a (z ∙ sym (inlet_is i.inlet (inlet (Taker n) Left (suc t)) g (left i.inlet.port refl) u)))
 
     -- A WORD OF NO KIND: a signal, or what goes along a wire
-    any_not : (i : Item) → IsLeft i → comes_at i.inlet.part i.inlet.port ≡ Anything → is_leaving i.inlet.part ≡ false
-        → is_given (block_in fl i.context) i.inlet.part ≡ false → there_in fl (site_in fl w i.context) (wiring_in fl w i.context) i.inlet.part ≡ true
+    any_not : (i : Item) → IsLeft i → arrives_at i.inlet.part i.inlet.port ≡ Anything → is_leaving i.inlet.part ≡ false
+        → is_unwired (block_in fl i.context) i.inlet.part ≡ false → there_in fl (site_in fl w i.context) (wiring_in fl w i.context) i.inlet.part ≡ true
         → wired_way i.inlet.part i.inlet.way ≡ true → named_by i.word ≡ Some c → ⊥
     any_not i d any stays given here way names =
-        let (h, come, sent) = sent_by fl p w inputs past m good fit kept i (stood i d) here given way in
-        let all = fit_of fl p w inputs past m good fit kept h come in
+        let (h, arrive, sent) = sent_by fl p w inputs past m good fit kept i (stood i d) here given way in
+        let all = fit_of fl p w inputs past m good fit kept h arrive in
         let facts = sent_facts fl w h all sent.from sent.along in
-        let bears = carries_from h come sent.from sent.from.part sent.along facts.maker in
+        let bears = carries_from h arrive sent.from sent.from.part sent.along facts.maker in
         let at : i.context ≡ h.context = ap (λ (i : Item). i.context) sent.is in
         let named : named_by (sent_word fl h h.part) ≡ Some c = ap (λ (i : Item). named_by i.word) (sym sent.is) ∙ names in
         go h sent.from (goes sent.from.part) bears named (in_context fl w h all) facts.there sent.wire at
@@ -326,8 +327,8 @@ module _ (fl : Flow) (p : Plan) (w : Wires) (inputs : List ℤ) (past : Past) (m
 
     ask_not : (i : Item) → IsLeft i → i.inlet.part ≡ NextFramer → named_by i.word ≡ Some c → ⊥
     ask_not i d g names =
-        let none : Unwired fl p w good i.context i.inlet = UGiven (ap (is_given (block_in fl i.context)) g) in
-        let (h, come, gift) = gift_by fl p w inputs past m good fit kept i (stood i d) none (λ x y. true≢false (sym y ∙ ap is_first g)) in
+        let none : Unwired fl p w good i.context i.inlet = UUnwired (ap (is_unwired (block_in fl i.context)) g) in
+        let (h, arrive, gift) = gift_by fl p w inputs past m good fit kept i (stood i d) none (λ x y. true≢false (sym y ∙ ap is_first g)) in
         none_some c (ap named_by (sym (gift_asks fl w h i gift g)) ∙ names)
 
     reader_not : (i : Item) → IsLeft i → is_leaving i.inlet.part ≡ false → (xs : List Inlet) → i.word ≡ back_from i.context xs → named_by i.word ≡ Some c → ⊥
@@ -338,13 +339,13 @@ module _ (fl : Flow) (p : Plan) (w : Wires) (inputs : List ℤ) (past : Past) (m
     pub nothing_names : (i : Item) → IsLeft i → named_by i.word ≡ Some c → ⊥
     nothing_names i d names = go (bears i.inlet.part i.inlet.port)
       where
-        as_part : (r : Part) → i.inlet.part ≡ r → Carries fl w i.context i.inlet.way (comes_at r i.inlet.port) i.word
-        as_part r g = subst (λ (r : Part). Carries fl w i.context i.inlet.way (comes_at r i.inlet.port) i.word) g (carries i d)
+        as_part : (r : Part) → i.inlet.part ≡ r → Carries fl w i.context i.inlet.way (arrives_at r i.inlet.port) i.word
+        as_part r g = subst (λ (r : Part). Carries fl w i.context i.inlet.way (arrives_at r i.inlet.port) i.word) g (carries i d)
 
-        as_left : (r : Part) → i.inlet.part ≡ r → i.inlet.port ≡ Left → Carries fl w i.context i.inlet.way (comes_at r Left) i.word
-        as_left r g x = subst (λ (x : Port). Carries fl w i.context i.inlet.way (comes_at r x) i.word) x (as_part r g)
+        as_left : (r : Part) → i.inlet.part ≡ r → i.inlet.port ≡ Left → Carries fl w i.context i.inlet.way (arrives_at r Left) i.word
+        as_left r g x = subst (λ (x : Port). Carries fl w i.context i.inlet.way (arrives_at r x) i.word) x (as_part r g)
 
-        as_kind : (k : Carried) → comes_at i.inlet.part i.inlet.port ≡ k → Carries fl w i.context i.inlet.way k i.word
+        as_kind : (k : Carried) → arrives_at i.inlet.part i.inlet.port ≡ k → Carries fl w i.context i.inlet.way k i.word
         as_kind k e = subst (λ (k : Carried). Carries fl w i.context i.inlet.way k i.word) e (carries i d)
 
         names_as : (e : Context) → named_by i.word ≡ Some e → e ≡ c

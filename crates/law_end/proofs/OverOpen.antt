@@ -15,11 +15,11 @@ use Rattle.semantics.specs.Machine.{Machine}
 use Rattle.law_net.specs.ContextsParts.{Part, Sender, Landing, Giver, Taker, Drainer, Inlet, inlet, Item, item, Firing}
 use Rattle.law_net.specs.ContextsBlocks.{Side, there_in, waits_in, is_loop, lies_in, region_of, entered}
 use Rattle.law_net.specs.Contexts.{Wires, block_in, site_in, wiring_in, IsContext, is_strict_in}
-use Rattle.law_net.specs.ContextsWires.{wired_way, wired_port, is_given}
+use Rattle.law_net.specs.ContextsWires.{wired_way, wired_port, is_unwired}
 use Rattle.law_net.specs.ContextsAround.{Choice, Way, way}
 use Rattle.law_net.specs.ContextsFirings.{own_takes, renewed, left_way, right_way, HasFired}
 use Rattle.law_net.specs.ContextsLaws.{in_region, arms_of, says, maker_of, way_fits, landing_arms, flag_arm}
-use Rattle.law_net.specs.ContextsStands.{Past}
+use Rattle.law_net.specs.ContextsMirror.{Past}
 use Rattle.law_net.specs.ContextsTheorem.{IsGood}
 use Rattle.law_net.specs.ContextsPackages.{InputsFit, Keeps}
 use Rattle.law_net.proofs.WiredSends.{first_taken, takes_first, takes_right, first_context, sent_facts}
@@ -31,7 +31,7 @@ use Rattle.law_net.proofs.WiredRounds.{IsChoice, choice_in, choice_round, choice
 use Rattle.law_end.specs.Over.{IsDecided, IsOpen, is_turning}
 use Rattle.law_end.proofs.OverSorts.{IsHere, Joined, Sort, Last, Joins, Switches, Others, sort, Taking, ByArm, ByOne, taking, first_item}
 use Rattle.law_end.proofs.OverPaths.{Wire}
-use Rattle.law_end.proofs.OverMade.{is_first, fired, taken, Stands, taken_stands, fits, allowed, fit_of, sent_by, gift_by}
+use Rattle.law_end.proofs.OverMade.{is_first, fired, taken, Mirrors, taken_stands, fits, allowed, fit_of, sent_by, gift_by}
 
 -- a strict call's argument that is sent was taken by the call as it fired
 gift_argument : (fl : Flow) (w : Wires) (h : Firing) (i : Item) → Gift fl w h i → (n l : ℕ) → i.inlet.part ≡ Sender n l
@@ -79,7 +79,7 @@ module _ (fl : Flow) (p : Plan) (w : Wires) (inputs : List ℤ) (past : Past) (m
   Here c con r = IsHere fl p w good c con r
 
   abbrev Stood : Item → Type 0
-  Stood i = Stands fl p w inputs past m good fit kept i
+  Stood i = Mirrors fl p w inputs past m good fit kept i
 
   abbrev gone : List Item
   gone = taken fl p w inputs past m good fit kept
@@ -170,7 +170,7 @@ module _ (fl : Flow) (p : Plan) (w : Wires) (inputs : List ℤ) (past : Past) (m
         )
 
     -- the first item's way is that of any open inlet
-    left_taken : (x : Inlet) → HasFired c x.part done → Here c con x.part → wired_way x.part x.way ≡ true → is_given (block_in fl c) x.part ≡ false
+    left_taken : (x : Inlet) → HasFired c x.part done → Here c con x.part → wired_way x.part x.way ≡ true → is_unwired (block_in fl c) x.part ≡ false
         → x.port ≡ Left → Opens (entered (block_in fl c) x.part x.way)
         → (i : Item) × Contains gone i × (i.context ≡ c) × (i.inlet ≡ x)
     left_taken x f here way given left open' = go (taking fl p w good c con x.part here given)
@@ -231,7 +231,7 @@ module _ (fl : Flow) (p : Plan) (w : Wires) (inputs : List ℤ) (past : Past) (m
         let j = argument h.context n l 0 v in
         (j, taken_in fl done h j b (Contains-append_right (own_takes fl h h.part) (renewed fl h h.part) j o), sym f ∙ a, refl)
 
-    right_taken : (x : Inlet) → HasFired c x.part done → Here c con x.part → wired_way x.part x.way ≡ true → is_given (block_in fl c) x.part ≡ false
+    right_taken : (x : Inlet) → HasFired c x.part done → Here c con x.part → wired_way x.part x.way ≡ true → is_unwired (block_in fl c) x.part ≡ false
         → x.port ≡ Right → waits_in (block_in fl c) x.part ≡ true
         → (i : Item) × Contains gone i × (i.context ≡ c) × (i.inlet ≡ x)
     right_taken x f here way given right two = go (taking fl p w good c con x.part here given) (right_zero x.part)
@@ -263,7 +263,7 @@ module _ (fl : Flow) (p : Plan) (w : Wires) (inputs : List ℤ) (past : Past) (m
     along_wire s x wire i stood a e =
         let here : there_in fl (site_in fl w i.context) (wiring_in fl w i.context) i.inlet.part ≡ true =
         (λ k. there_in fl (site_in fl w (a k)) (wiring_in fl w (a k)) (e k).part) ∙ wire.here in
-        let (h, d, sent) = sent_by fl p w inputs past m good fit kept i stood here ((λ k. is_given (block_in fl (a k)) (e k).part) ∙ wire.given)
+        let (h, d, sent) = sent_by fl p w inputs past m good fit kept i stood here ((λ k. is_unwired (block_in fl (a k)) (e k).part) ∙ wire.given)
         (ap (λ (y : Inlet). wired_way y.part y.way) e ∙ wire.way) in
         let at : h.context ≡ c = sym (ap (λ (i : Item). i.context) sent.is) ∙ a in
         let facts = sent_facts fl w h (fit_of fl p w inputs past m good fit kept h d) sent.from sent.along in

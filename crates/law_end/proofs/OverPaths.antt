@@ -10,7 +10,7 @@ use Rattle.semantics.specs.Meaning.{Context}
 use Rattle.law_net.specs.ContextsParts.{Part, End, Inlet}
 use Rattle.law_net.specs.ContextsBlocks.{Side, side, entered, leaves_in, is_switch, region_of}
 use Rattle.law_net.specs.Contexts.{Wires, block_in, wiring_in, IsContext}
-use Rattle.law_net.specs.ContextsWires.{answered_at, has_no_wire, wired_way, wired_port, is_given, is_side}
+use Rattle.law_net.specs.ContextsWires.{answered_at, has_no_wire, wired_way, wired_port, is_unwired, is_side}
 use Rattle.law_net.specs.ContextsTheorem.{IsGood}
 use Rattle.law_end.specs.Over.{is_turning}
 use Rattle.law_end.proofs.OverSorts.{IsHere, laws, given_turning, Handed, Quiet, Joined, Switched, Other, Sort, Last, Joins, Switches, Others, sort}
@@ -29,7 +29,7 @@ module _ (fl : Flow) (p : Plan) (w : Wires) (good : IsGood fl p w) (c : Context)
     pub here : IsHere fl p w good c con x.part
     pub way : wired_way x.part x.way ≡ true
     pub port : wired_port (block_in fl c) x.part x.port ≡ true
-    pub given : is_given (block_in fl c) x.part ≡ false
+    pub given : is_unwired (block_in fl c) x.part ≡ false
     pub turning : is_turning x.part ≡ false
     pub region : entered (block_in fl c) x.part x.way ≡ leaves_in (block_in fl c) s.part s.second
     pub rises : (wiring_in fl w c).place s.part < (wiring_in fl w c).place x.part
@@ -129,6 +129,6 @@ module _ (fl : Flow) (p : Plan) (w : Wires) (good : IsGood fl p w) (c : Context)
       by_sort (Switches i switch) later = by_wire later (next (side r u) h is switch.wires)
       by_sort (Others other) later = onward later other other.onward
 
-  -- a switch's arms are joined behind it
+  -- a switch's arms are joined after it
   pub arm_ends : (r : Part) (j : ℕ) → Here r → Switched fl p w good c con j r → ArmEnd j (place r)
   arm_ends r j h switch = ends_from (suc (place End)) r false h switch.turning refl (omega arith) j true (switch.leaves false)

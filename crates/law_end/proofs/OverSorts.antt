@@ -15,11 +15,11 @@ use Rattle.semantics.specs.Cause.{is_turn}
 use Rattle.std.specs.Prelude.{slice_get}
 use Rattle.lemmas.proofs.Contains.{contains_head}
 use Rattle.law_net.specs.ContextsParts.{Part, Trigger, Gate, Merge, Framer, Fanned, Linker, Landing, CallDone, Giver, Taker, Drainer, LoopDone, TurnCont}
-use Rattle.law_net.specs.ContextsParts.{TurnFlag, TurnValue, Asker, NextFramer, NextFanned, CondEnd, End, inlet, Firing, Held, Drained}
+use Rattle.law_net.specs.ContextsParts.{TurnFlag, TurnValue, Asker, NextFramer, NextFanned, CondEnd, End, inlet, Firing, InCell, Drained}
 use Rattle.law_net.specs.ContextsBlocks.{side, Wiring, there_in, waits_in, enter_kind, is_call, is_loop, merge_cond, lies_in, outside, region_of, entered}
 use Rattle.law_net.specs.ContextsBlocks.{arm_round, leaves_in, is_switch, flag}
 use Rattle.law_net.specs.Contexts.{Wires, block_in, site_in, wiring_in, IsContext}
-use Rattle.law_net.specs.ContextsWires.{AreLawful, IsLaidOut, answered_at, has_no_wire, is_given, wired_way}
+use Rattle.law_net.specs.ContextsWires.{AreLawful, IsLaidOut, answered_at, has_no_wire, is_unwired, wired_way}
 use Rattle.law_net.specs.ContextsFirings.{left_way, left_item}
 use Rattle.law_net.specs.ContextsLaws.{way_fits}
 use Rattle.law_net.specs.ContextsOperands.{HasOperands}
@@ -48,17 +48,17 @@ module _ (fl : Flow) (p : Plan) (w : Wires) (good : IsGood fl p w) (c : Context)
 
   -- WHAT ALL SHARE
   pub first_item : (f : Firing) (r : Part) → IsHere r → first_taken fl w f r ≡ left_item f.context r f.way f.left
-  first_item f (Held n) h = absurd (true≢false (sym h))
+  first_item f (InCell n) h = absurd (true≢false (sym h))
   first_item f (Drained n) h = absurd (true≢false (sym h))
   first_item f r h = refl
 
-  pub given_turning : (r : Part) → is_given b r ≡ false → is_turning r ≡ false
+  pub given_turning : (r : Part) → is_unwired b r ≡ false → is_turning r ≡ false
   given_turning (Giver n) g = absurd (true≢false g)
   given_turning (Taker n) g = absurd (true≢false g)
   given_turning (Drainer n) g = absurd (true≢false g)
   given_turning r g = refl
 
-  -- WHAT HANDS ON without a wire: the manager, a take, or what is invoked answers behind it
+  -- WHAT HANDS ON without a wire: the manager, a take, or what is invoked answers after it
   pub data Hands (r q : Part) : Type 0 where
     HFramer : (n : ℕ) → r ≡ Framer n → q ≡ Fanned n → Hands r q
     HNextFramer : r ≡ NextFramer → q ≡ NextFanned → Hands r q
@@ -108,7 +108,7 @@ module _ (fl : Flow) (p : Plan) (w : Wires) (good : IsGood fl p w) (c : Context)
     pub region : region_of b r ≡ lies_in b j
     pub quiet : Quiet r
     pub wires : has_no_wire r ≡ false
-    pub given : is_given b r ≡ false
+    pub given : is_unwired b r ≡ false
     pub waits : waits_in b r ≡ false
     pub left : (t : ℕ) → left_way r t ≡ t
     pub way : (t : ℕ) → wired_way r t ≡ nat_lt t 2
@@ -263,7 +263,7 @@ module _ (fl : Flow) (p : Plan) (w : Wires) (good : IsGood fl p w) (c : Context)
     ByArm : (j : ℕ) → Joined j r → Taking r
     ByOne : ((t : ℕ) → left_way r t ≡ 0) → ((t : ℕ) → wired_way r t ≡ (t == 0)) → Taking r
 
-  pub taking : (r : Part) → IsHere r → is_given b r ≡ false → Taking r
+  pub taking : (r : Part) → IsHere r → is_unwired b r ≡ false → Taking r
   taking (Merge n) h g = ByArm (merge_cond b n) (merge_joins n h)
   taking (CondEnd k) h g = ByArm k (end_joins k h)
   taking (Landing n j) h g = absurd (true≢false g)

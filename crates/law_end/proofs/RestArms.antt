@@ -20,27 +20,27 @@ use Rattle.law_confluence.proofs.HistoryLaws.{Tokens, Lawful}
 use Rattle.law_net.specs.ContextsParts.{Part, Gate, TurnValue, Inlet, inlet, Datum, Item, Firing}
 use Rattle.law_net.specs.ContextsBlocks.{is_kind, enter_kind, lies_in, outside, flag}
 use Rattle.law_net.specs.Contexts.{Wires, or_none, block_in, IsContext}
-use Rattle.law_net.specs.ContextsWires.{predicate_at, right_only, cond_round, AValue, comes_at}
-use Rattle.law_net.specs.ContextsTold.{told, told_by}
+use Rattle.law_net.specs.ContextsWires.{predicate_at, right_only, cond_round, AValue, arrives_at}
+use Rattle.law_net.specs.ContextsMeant.{meant, meant_by}
 use Rattle.law_net.specs.ContextsFirings.{truth_of}
 use Rattle.law_net.specs.ContextsLaws.{Carries}
-use Rattle.law_net.specs.ContextsStands.{Past}
+use Rattle.law_net.specs.ContextsMirror.{Past}
 use Rattle.law_net.specs.ContextsTheorem.{IsGood}
 use Rattle.law_net.specs.ContextsPackages.{Keeps, InputsFit}
 use Rattle.law_net.proofs.WiredInvoked.{block_here, loop_invoked}
 use Rattle.law_end.specs.Over.{IsDecided, IsOpen}
 use Rattle.law_end.proofs.OverSorts.{IsHere, laws}
-use Rattle.law_end.proofs.OverMade.{Stands, allowed}
+use Rattle.law_end.proofs.OverMade.{Mirrors, allowed}
 use Rattle.law_end.proofs.OverOpen.{one_side}
 use Rattle.law_end.proofs.RestStores.{fits_main}
 use Rattle.law_end.proofs.RestWaits.{carries}
-use Rattle.law_end.proofs.RestForward.{At, feeder, decided_comes}
-use Rattle.law_end.proofs.RestStory.{story, ever_told}
+use Rattle.law_end.proofs.RestForward.{At, feeder, decided_arrives}
+use Rattle.law_end.proofs.RestStory.{story, ever_meant}
 
 module _ (fl : Flow) (p : Plan) (w : Wires) (inputs : List ℤ) (past : Past) (m : Machine) (good : IsGood fl p w) (fit : InputsFit fl inputs)
     (kept : Keeps fl p w inputs past m) where
   abbrev done : List Firing
-  done = kept.follows.net.fired
+  done = kept.tracks.net.fired
 
   -- the tokens that stood in the run
   abbrev pub Ever : Tokens
@@ -66,15 +66,15 @@ module _ (fl : Flow) (p : Plan) (w : Wires) (inputs : List ℤ) (past : Past) (m
     b = block_in fl c
 
     -- what comes at a switch's right, by what decided it
-    predicate_value : (r : Part) (k : ℕ) (t : Bool) → predicate_at b r Right ≡ Some k → comes_at r Right ≡ AValue
+    predicate_value : (r : Part) (k : ℕ) (t : Bool) → predicate_at b r Right ≡ Some k → arrives_at r Right ≡ AValue
         → IsDecided fl w done (record { context = c; cond = k }) t → At fl p w inputs past m good fit kept c con (inlet r Right 0)
-        → (i : Item) × Stands fl p w inputs past m good fit kept i × (i.context ≡ c) × (i.inlet ≡ inlet r Right 0) × (v : Value) × (i.word ≡ Datum v)
+        → (i : Item) × Mirrors fl p w inputs past m good fit kept i × (i.context ≡ c) × (i.inlet ≡ inlet r Right 0) × (v : Value) × (i.word ≡ Datum v)
         × (truth v ≡ t)
     predicate_value r k t predicate value decided (i, s, a, x) =
         let word : Carries fl w c 0 AValue i.word =
         subst (λ (y : _). Carries fl w c 0 y i.word) value
-        (subst (λ (y : Inlet). Carries fl w c y.way (comes_at y.part y.port) i.word) x
-        (subst (λ (d : Context). Carries fl w d i.inlet.way (comes_at i.inlet.part i.inlet.port) i.word) a
+        (subst (λ (y : Inlet). Carries fl w c y.way (arrives_at y.part y.port) i.word) x
+        (subst (λ (d : Context). Carries fl w d i.inlet.way (arrives_at i.inlet.part i.inlet.port) i.word) a
         (carries fl p w inputs past m good fit kept i s))) in
         let says = (allowed fl p w inputs past m good fit kept i s).word (record { context = c; cond = k })
         (a, (λ j. predicate_at (block_in fl (a j)) (x j).part (x j).port) ∙ predicate) in (
@@ -94,15 +94,15 @@ module _ (fl : Flow) (p : Plan) (w : Wires) (inputs : List ℤ) (past : Past) (m
         let x = inlet (Gate e) Right 0 in
         let (from, wire) = feeder fl p w inputs past m good fit kept c con x here refl refl refl in
         let predicate : predicate_at b (Gate e) Right ≡ Some k = ap (λ (r : Region). right_only Right (cond_round r)) lies in
-        let at = decided_comes fl p w inputs past m good fit kept c con k t from x wire
+        let at = decided_arrives fl p w inputs past m good fit kept c con k t from x wire
         ((laws fl p w good c con).arms.agree from x k wire.from wire.goes predicate) decided
         (subst (IsOpen fl w done c) (sym (ap (outside b) lies) ∙ wire.region) o) in
         let (i, stood, a, g, v, word, true') = predicate_value (Gate e) k t predicate refl decided at in
-        let tells : told fl i ≡ tagged c (AtNode e) Predicate v ∷ [] =
-        (λ j. told_by fl (record { context = a j; inlet = g j; word = word j; held = i.held }) (g j).part) in
-        let come = ever_told fl p w inputs past m good fit kept i stood (tagged c (AtNode e) Predicate v)
+        let tells : meant fl i ≡ tagged c (AtNode e) Predicate v ∷ [] =
+        (λ j. meant_by fl (record { context = a j; inlet = g j; word = word j; held = i.held }) (g j).part) in
+        let arrive = ever_meant fl p w inputs past m good fit kept i stood (tagged c (AtNode e) Predicate v)
         (subst (λ (l : List Tagged). Contains l (tagged c (AtNode e) Predicate v)) (sym tells) (contains_head (tagged c (AtNode e) Predicate v) [])) in
-        let law = (lawful (tagged c (AtNode e) Predicate v) come).1 in
+        let law = (lawful (tagged c (AtNode e) Predicate v) arrive).1 in
         (v, cond_of v law, true')
       where
         cond_of : (v : Value) → (b' : Block ℕ) × (node : Node ℕ) × (k' : ℕ) × (side : Bool) × (block_of fl c ≡ Some b') × (node_at b' e ≡ Some node)
@@ -123,15 +123,15 @@ module _ (fl : Flow) (p : Plan) (w : Wires) (inputs : List ℤ) (past : Past) (m
       let here : IsHere fl p w good (Turned d n j) con (TurnValue 1) =
       (λ k. lt-ltb 0 1 (omega arith) k && lt-ltb 1 ((block_in fl (Turned d n j)).inputs + 1) (omega (arith, some)) k) in
       let (from, wire) = feeder fl p w inputs past m good fit kept (Turned d n j) con x here refl refl refl in
-      let at = decided_comes fl p w inputs past m good fit kept (Turned d n j) con (flag (block_in fl (Turned d n j))) true from x wire
+      let at = decided_arrives fl p w inputs past m good fit kept (Turned d n j) con (flag (block_in fl (Turned d n j))) true from x wire
       ((laws fl p w good (Turned d n j) con).arms.agree from x (flag (block_in fl (Turned d n j))) wire.from wire.goes refl) decided
       (subst (IsOpen fl w done (Turned d n j)) wire.region o) in
       let (i, stood, a, g, v, word, true') = predicate_value (Turned d n j) con (TurnValue 1) (flag (block_in fl (Turned d n j))) true refl refl decided at in
-      let tells : told fl i ≡ tagged (Turned d n j) (AtTurn 1) Flag v ∷ [] =
-      (λ k. told_by fl (record { context = a k; inlet = g k; word = word k; held = i.held }) (g k).part) in (
+      let tells : meant fl i ≡ tagged (Turned d n j) (AtTurn 1) Flag v ∷ [] =
+      (λ k. meant_by fl (record { context = a k; inlet = g k; word = word k; held = i.held }) (g k).part) in (
         1,
         v,
-        stood_of _ (ever_told fl p w inputs past m good fit kept i stood (tagged (Turned d n j) (AtTurn 1) Flag v)
+        stood_of _ (ever_meant fl p w inputs past m good fit kept i stood (tagged (Turned d n j) (AtTurn 1) Flag v)
             (subst (λ (l : List Tagged). Contains l (tagged (Turned d n j) (AtTurn 1) Flag v)) (sym tells) (contains_head _ []))),
         true',
       )

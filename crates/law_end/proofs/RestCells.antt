@@ -18,7 +18,7 @@ use Rattle.semantics.specs.Orderly.{readers_of}
 use Rattle.law_confluence.specs.OrdersTotals.{total}
 use Rattle.law_net.specs.ContextsBlocks.{cell_kind, store_kind}
 use Rattle.law_net.specs.ContextsFirings.{place_at}
-use Rattle.law_net.specs.ContextsStands.{reads_cell, cell_to}
+use Rattle.law_net.specs.ContextsMirror.{reads_cell, cell_to}
 
 -- LISTS
 pub one_of : {X : Type 0} (x y : X) → Contains (x ∷ []) y → y ≡ x

@@ -21,9 +21,9 @@ use Rattle.law_net.specs.ContextsParts as Parts
 use Rattle.law_net.specs.ContextsParts.{Part, Item}
 use Rattle.law_net.specs.ContextsBlocks.{waits_in, pair_kind, enter_kind, strict_kind, is_kind}
 use Rattle.law_net.specs.Contexts.{Wires, block_in, IsContext}
-use Rattle.law_net.specs.ContextsTold.{told}
+use Rattle.law_net.specs.ContextsMeant.{meant}
 use Rattle.law_net.specs.ContextsFirings.{place_at, cell_of}
-use Rattle.law_net.specs.ContextsStands.{Past, reads, reads_cell}
+use Rattle.law_net.specs.ContextsMirror.{Past, reads, reads_cell}
 use Rattle.law_net.specs.ContextsTheorem.{IsGood}
 use Rattle.law_net.specs.ContextsPackages.{Keeps, InputsFit}
 use Rattle.law_net_refines_meaning.proofs.FiringsNodes.{kind_is}
@@ -36,7 +36,7 @@ use Rattle.law_end.proofs.RestCells.{reader_length, same_cell, same_test, total_
 use Rattle.law_end.proofs.RestStores.{seen, fits_main}
 use Rattle.law_end.proofs.RestWaits.{is_credit, Waits, InSlot, AtCell, OfLoop, waits, rests_net}
 use Rattle.law_end.proofs.RestReaders.{readers_count}
-use Rattle.law_end.proofs.RestTokens.{Says, AtLeft, AtRight, GateLeft, GateRight, Reading, Argument, TurnLeft, TurnRight, says, con, reader, credit_told}
+use Rattle.law_end.proofs.RestTokens.{Says, AtLeft, AtRight, GateLeft, GateRight, Reading, Argument, TurnLeft, TurnRight, says, con, reader, credit_meant}
 use Rattle.law_end.proofs.RestHalts.{FetchAt, fetch_at, fetch_array, has_all, at_rest}
 
 pair_fetches : (fl : Flow) (v : Value) (k : Kind ℕ) → pair_kind k ≡ true → fetch_cell fl v k ≡ None
@@ -91,11 +91,11 @@ module _ (fl : Flow) (p : Plan) (w : Wires) (inputs : List ℤ) (past : Past) (m
   not_fetched x i t here two (Reading n v e cell store held g) = absurd (true≢false (sym two ∙ ap (waits_in (block_in fl i.context)) e))
 
   slot_reads : (x : ℕ) (i : Item) (r : Part) → waits_in (block_in fl i.context) r ≡ true → reads fl x i r ≡ false
-  slot_reads x i (Parts.Held n) e = absurd (true≢false (sym e))
+  slot_reads x i (Parts.InCell n) e = absurd (true≢false (sym e))
   slot_reads x i r e = refl
 
   credit_reads : (x : ℕ) (i : Item) (r : Part) → is_credit r ≡ true → reads fl x i r ≡ false
-  credit_reads x i (Parts.Held n) e = absurd (true≢false (sym e))
+  credit_reads x i (Parts.InCell n) e = absurd (true≢false (sym e))
   credit_reads x i r e = refl
 
   -- a reader is a fetch of its cell
@@ -108,22 +108,22 @@ module _ (fl : Flow) (p : Plan) (w : Wires) (inputs : List ℤ) (past : Past) (m
       (fetch_array fl p w inputs past m good fit kept rests wants starts c here n f)
       ∙ same_cell (array_len fl f.array) v (Meaning.origin_at fl c n) (first_cell fl f.array)))
 
-  told_reads : (x : ℕ) (i : Item) → Contains kept.follows.net.waiting i
-      → total (λ (t : Tagged). one (Fetches x t)) (told fl i) ≡ one (reads fl x i i.inlet.part)
-  told_reads x i c = pick (waits fl p w inputs past m good fit kept rests wants i c)
+  meant_reads : (x : ℕ) (i : Item) → Contains kept.tracks.net.waiting i
+      → total (λ (t : Tagged). one (Fetches x t)) (meant fl i) ≡ one (reads fl x i i.inlet.part)
+  meant_reads x i c = pick (waits fl p w inputs past m good fit kept rests wants i c)
     where
       here : IsContext fl i.context
       here = con fl p w inputs past m good fit kept rests wants starts i c
 
       pick : Waits fl p w inputs past m good fit kept rests wants i
-          → total (λ (t : Tagged). one (Fetches x t)) (told fl i) ≡ one (reads fl x i i.inlet.part)
+          → total (λ (t : Tagged). one (Fetches x t)) (meant fl i) ≡ one (reads fl x i i.inlet.part)
       pick (InSlot e) =
-          total_nothing (λ (t : Tagged). one (Fetches x t)) (told fl i)
+          total_nothing (λ (t : Tagged). one (Fetches x t)) (meant fl i)
           (λ t d. ap one (not_fetched x i t here e (says fl p w inputs past m good fit kept rests wants starts i c t d)))
           ∙ ap one (sym (slot_reads x i i.inlet.part e))
       pick (OfLoop e) =
-          total_nothing (λ (t : Tagged). one (Fetches x t)) (told fl i)
-          (λ t d. absurd (credit_told fl p w inputs past m good fit kept rests wants starts i c t i.inlet.part e d))
+          total_nothing (λ (t : Tagged). one (Fetches x t)) (meant fl i)
+          (λ t d. absurd (credit_meant fl p w inputs past m good fit kept rests wants starts i c t i.inlet.part e d))
           ∙ ap one (sym (credit_reads x i i.inlet.part e))
       pick (AtCell n e) =
           let r = reader fl p w inputs past m good fit kept rests wants starts i n c e in
@@ -132,31 +132,31 @@ module _ (fl : Flow) (p : Plan) (w : Wires) (inputs : List ℤ) (past : Past) (m
           ∙ sym (reader_fetches x i.context here n r.index
           (fetch_at fl p w inputs past m good fit kept rests wants starts i.context here n r.cell r.store)) in
           let o = ap one test in
-          let all = ap (total (λ (t : Tagged). one (Fetches x t))) r.told in
+          let all = ap (total (λ (t : Tagged). one (Fetches x t))) r.meant in
           omega (arith, o, all)
 
   readers : (x : ℕ) → reader_count (m.store.cells x) ≡ fetch_count fl x kept.state.tokens
   readers x =
       let a = reader_length (m.store.cells x) in
       let b = readers_count fl p w inputs past m good fit kept x in
-      let c = total_agree (λ (i : Item). total (λ (t : Tagged). one (Fetches x t)) (told fl i))
-      (λ (i : Item). one (reads fl x i i.inlet.part)) kept.follows.net.waiting (told_reads x) in
-      let d = total_flat (λ (t : Tagged). one (Fetches x t)) (told fl) kept.follows.net.waiting in
-      let e : total (λ (t : Tagged). one (Fetches x t)) (flat_map (told fl) (kept.follows.net.pending ++ kept.follows.net.waiting))
-      ≡ total (λ (t : Tagged). one (Fetches x t)) (flat_map (told fl) kept.follows.net.waiting) =
-      ap (λ (l : List Item). total (λ (t : Tagged). one (Fetches x t)) (flat_map (told fl) (l ++ kept.follows.net.waiting)))
+      let c = total_agree (λ (i : Item). total (λ (t : Tagged). one (Fetches x t)) (meant fl i))
+      (λ (i : Item). one (reads fl x i i.inlet.part)) kept.tracks.net.waiting (meant_reads x) in
+      let d = total_flat (λ (t : Tagged). one (Fetches x t)) (meant fl) kept.tracks.net.waiting in
+      let e : total (λ (t : Tagged). one (Fetches x t)) (flat_map (meant fl) (kept.tracks.net.pending ++ kept.tracks.net.waiting))
+      ≡ total (λ (t : Tagged). one (Fetches x t)) (flat_map (meant fl) kept.tracks.net.waiting) =
+      ap (λ (l : List Item). total (λ (t : Tagged). one (Fetches x t)) (flat_map (meant fl) (l ++ kept.tracks.net.waiting)))
       (rests_net fl p w inputs past m good fit kept rests wants) in
       let g = total-IsPermutation (λ (t : Tagged). one (Fetches x t)) kept.state.tokens
-      (flat_map (told fl) (kept.follows.net.pending ++ kept.follows.net.waiting)) kept.told.tokens in
+      (flat_map (meant fl) (kept.tracks.net.pending ++ kept.tracks.net.waiting)) kept.meant.tokens in
       let h = count_total (Fetches x) kept.state.tokens in
       omega (arith, a, b, c, d, e, g, h)
 
   pub exact : IsExact fl inputs m
   exact =
       let rest = at_rest fl p w inputs past m good fit kept rests wants starts in
-      let d = flow_determinate fl good.well inputs (fits_main fl p w inputs past m good fit kept) kept.state kept.told.reached rest no_clash in record {
+      let d = flow_determinate fl good.well inputs (fits_main fl p w inputs past m good fit kept) kept.state kept.meant.reached rest no_clash in record {
         state = kept.state;
-        reached = kept.told.reached;
+        reached = kept.meant.reached;
         seen = seen fl p w inputs past m good fit kept;
         at_rest = rest;
         only = d.leads;

@@ -18,15 +18,16 @@ use Rattle.law_confluence.specs.OrdersTotals.{one, total}
 use Rattle.law_confluence.proofs.Net.{weigh}
 use Rattle.law_confluence.proofs.Orders.{total-append, total_there}
 use Rattle.law_net.specs.ContextsParts.{Part, Line, Trigger, Gate, Framer, Linker, Giver, Taker, Drainer, TurnCont, TurnFlag, TurnValue, Asker, NextFramer, End}
-use Rattle.law_net.specs.ContextsParts.{Asked, NextAsked, Held, Drained, Shown, Done, Freed, Inlet, inlet, Datum, Item, item, Firing, Spot, spot_of, same_spot}
+use Rattle.law_net.specs.ContextsParts.{Asked, NextAsked, InCell, Drained, Shown, Done, Freed, Inlet, inlet, Datum, Item, item, Firing, Spot, spot_of}
+use Rattle.law_net.specs.ContextsParts.{same_spot}
 use Rattle.law_net.specs.ContextsParts.{Role}
 use Rattle.law_net.specs.ContextsBlocks.{Side, side, waits_in, is_cell, leaves_in, lies_in, arm_round, is_switch, flag}
 use Rattle.law_net.specs.Contexts.{Wires, block_in, wiring_in, IsContext}
-use Rattle.law_net.specs.ContextsWires.{Carried, AValue, has_no_wire, is_given, is_side, wired_way, wired_port, predicate_at, right_only, cond_round, decider}
-use Rattle.law_net.specs.ContextsWires.{comes_at}
+use Rattle.law_net.specs.ContextsWires.{Carried, AValue, has_no_wire, is_unwired, is_side, wired_way, wired_port, predicate_at, right_only, cond_round, decider}
+use Rattle.law_net.specs.ContextsWires.{arrives_at}
 use Rattle.law_net.specs.ContextsFirings.{begins, takes, makes, sent_word, right_way, truth_of, HasFired}
 use Rattle.law_net.specs.ContextsLaws.{maker_of, Carries}
-use Rattle.law_net.specs.ContextsStands.{Past}
+use Rattle.law_net.specs.ContextsMirror.{Past}
 use Rattle.law_net.specs.ContextsTheorem.{IsGood}
 use Rattle.law_net.specs.ContextsPackages.{Keeps, InputsFit}
 use Rattle.law_net.proofs.ContextsSames.{hits_at, hit_found, hit_counted, inlet_found}
@@ -35,7 +36,7 @@ use Rattle.law_net.proofs.WiredNets.{all_of, total_flat, taken_in}
 use Rattle.law_end.specs.Over.{is_turning, IsDecided, IsOpen}
 use Rattle.law_end.proofs.OverSorts.{IsHere, laws, Sort, Last, Joins, Switches, Others, sort, Switched}
 use Rattle.law_end.proofs.OverPaths.{Wire, wire_of}
-use Rattle.law_end.proofs.OverMade.{Stands, taken_stands, allowed}
+use Rattle.law_end.proofs.OverMade.{Mirrors, taken_stands, allowed}
 use Rattle.law_end.proofs.OverOpen.{one_side, arm_decided}
 use Rattle.law_end.proofs.RestWaits.{carries}
 
@@ -52,7 +53,7 @@ predicate_of b TurnFlag j e l = let z : Arm (flag b) true ≡ Arm j true = l fal
 predicate_of b (TurnValue v) j e l = let z : Arm (flag b) true ≡ Arm j true = l false in let same : flag b ≡ j = cc in ap Some same
 predicate_of b r j e l = absurd (true≢false (sym e))
 
-switch_value : (r : Part) → is_switch r ≡ true → comes_at r Right ≡ AValue
+switch_value : (r : Part) → is_switch r ≡ true → arrives_at r Right ≡ AValue
 switch_value (Trigger k) e = refl
 switch_value (Gate n) e = refl
 switch_value TurnCont e = refl
@@ -108,16 +109,16 @@ not_turning r e = go (cases_Bool (is_turning r))
 module _ (fl : Flow) (p : Plan) (w : Wires) (inputs : List ℤ) (past : Past) (m : Machine) (good : IsGood fl p w) (fit : InputsFit fl inputs)
     (kept : Keeps fl p w inputs past m) where
   abbrev done : List Firing
-  done = kept.follows.net.fired
+  done = kept.tracks.net.fired
 
   abbrev Stood : Item → Type 0
-  Stood i = Stands fl p w inputs past m good fit kept i
+  Stood i = Mirrors fl p w inputs past m good fit kept i
 
   -- WHAT WAS MADE STANDS
-  stands_of : (x : Spot) → 0 < hits_at x (begins inputs) + weigh (makes fl w) (λ (i : Item). one (same_spot x (spot_of i))) kept.follows.net.fired
+  stands_of : (x : Spot) → 0 < hits_at x (begins inputs) + weigh (makes fl w) (λ (i : Item). one (same_spot x (spot_of i))) kept.tracks.net.fired
       → (i : Item) × Stood i × (spot_of i ≡ x)
   stands_of x h =
-      let net = kept.follows.net in
+      let net = kept.tracks.net in
       let g : Item → ℕ = λ (i : Item). one (same_spot x (spot_of i)) in
       let m = kept.sound.marked g in
       let first = total-append g net.pending (net.waiting ++ flat_map (takes fl) net.fired) in
@@ -132,7 +133,7 @@ module _ (fl : Flow) (p : Plan) (w : Wires) (inputs : List ℤ) (past : Past) (m
   made_stands h i c d =
       let g : Item → ℕ = λ (j : Item). one (same_spot (spot_of i) (spot_of j)) in
       let k = hit_counted (makes fl w h) i d in
-      let more = total_there (λ (f : Firing). total g (makes fl w f)) kept.follows.net.fired h c in
+      let more = total_there (λ (f : Firing). total g (makes fl w f)) kept.tracks.net.fired h c in
       stands_of (spot_of i) (omega (arith, k, more))
 
   -- what was given besides
@@ -162,17 +163,17 @@ module _ (fl : Flow) (p : Plan) (w : Wires) (inputs : List ℤ) (past : Past) (m
     Here r = IsHere fl p w good c con r
 
     abbrev pub Opens : Region → Type 0
-    Opens r = IsOpen fl w kept.follows.net.fired c r
+    Opens r = IsOpen fl w kept.tracks.net.fired c r
 
     abbrev pub Fires : Part → Type 0
-    Fires r = HasFired c r kept.follows.net.fired
+    Fires r = HasFired c r kept.tracks.net.fired
 
     -- an item at an inlet
     abbrev pub At : Inlet → Type 0
-    At x = (i : Item) × Stands fl p w inputs past m good fit kept i × (i.context ≡ c) × (i.inlet ≡ x)
+    At x = (i : Item) × Mirrors fl p w inputs past m good fit kept i × (i.context ≡ c) × (i.inlet ≡ x)
 
     -- who feeds an inlet
-    pub feeder : (x : Inlet) → Here x.part → wired_way x.part x.way ≡ true → wired_port b x.part x.port ≡ true → is_given b x.part ≡ false
+    pub feeder : (x : Inlet) → Here x.part → wired_way x.part x.way ≡ true → wired_port b x.part x.port ≡ true → is_unwired b x.part ≡ false
         → (s : Side) × Wire fl p w good c con s x
     feeder x here way port given =
         let fed = (laws fl p w good c con).fed.fed x here way port given in
@@ -197,10 +198,10 @@ module _ (fl : Flow) (p : Plan) (w : Wires) (inputs : List ℤ) (past : Past) (m
         → side_by fl h (maker_of b r) ≡ Some (side r false)
     quiet_side h a (Line n) here s e = go (is_cell b n) refl
       where
-        go : (t : Bool) → is_cell b n ≡ t → side_by fl h (if t then Held n else Line n) ≡ Some (side (Line n) false)
+        go : (t : Bool) → is_cell b n ≡ t → side_by fl h (if t then InCell n else Line n) ≡ Some (side (Line n) false)
         go true g = refl
         go false g = ap (λ (t : Bool). if t then None else Some (side (Line n) false)) (ap (λ (d : Context). is_cell (block_in fl d) n) a ∙ g)
-    quiet_side h a (Held n) here s e = absurd (true≢false (sym here))
+    quiet_side h a (InCell n) here s e = absurd (true≢false (sym here))
     quiet_side h a (Asked n) here s e = absurd (true≢false (sym here))
     quiet_side h a NextAsked here s e = absurd (true≢false (sym here))
     quiet_side h a (Drained n) here s e = absurd (true≢false (sym here))
@@ -234,14 +235,14 @@ module _ (fl : Flow) (p : Plan) (w : Wires) (inputs : List ℤ) (past : Past) (m
         let same : i ≡ i' = (λ k. item (a k) (inlet (e k) Right (((λ l. right_way fl (a l) (e l)) ∙ switch_zero fl c r s) k)) h.right) in
         let took = taken_in fl done h i d (takes_right fl w h ((λ k. waits_in (block_in fl (a k)) (e k)) ∙ switch_waits b r s)) in
         let stood = subst Stood same (taken_stands fl p w inputs past m good fit kept i took) in
-        let value : Carries fl w c 0 (comes_at r Right) h.right = carries fl p w inputs past m good fit kept i' stood in
+        let value : Carries fl w c 0 (arrives_at r Right) h.right = carries fl p w inputs past m good fit kept i' stood in
         by_value (subst (λ (x : Carried). Carries fl w c 0 x h.right) (switch_value r s) value)
         ((allowed fl p w inputs past m good fit kept i' stood).word (record { context = c; cond = j }) (refl, predicate_of b r j s switch.leaves))
       where
         by_value : (v : Value) × (h.right ≡ Datum v) → IsDecided fl w done (record { context = c; cond = j }) (truth_of h.right)
             → side_by fl h h.part ≡ Some (side r second)
-        by_value (v, g) told =
-            let sides = one_side fl p w inputs past m good fit kept (record { context = c; cond = j }) (truth_of h.right) (not second) told
+        by_value (v, g) meant =
+            let sides = one_side fl p w inputs past m good fit kept (record { context = c; cond = j }) (truth_of h.right) (not second) meant
             (arm_decided fl p w inputs past m good fit kept c con j (not second) switch.choice open') in
             ap (side_by fl h) e ∙ switch_by fl h r s ∙ ap (switch_side r) g
             ∙ ap (λ (t : Bool). Some (side r t)) (twice_not (truth v) second (ap truth_of (sym g) ∙ sides))
@@ -276,7 +277,7 @@ module _ (fl : Flow) (p : Plan) (w : Wires) (inputs : List ℤ) (past : Past) (m
         (i, stood, at ∙ a, is)
 
     -- what comes from where a conditional is decided
-    pub decided_comes : (j : ℕ) (t : Bool) (s : Side) (x : Inlet) → Wire fl p w good c con s x → s ≡ decider b (wiring_in fl w c) j
+    pub decided_arrives : (j : ℕ) (t : Bool) (s : Side) (x : Inlet) → Wire fl p w good c con s x → s ≡ decider b (wiring_in fl w c) j
         → IsDecided fl w done (record { context = c; cond = j }) t → Opens (leaves_in b s.part s.second) → At x
-    decided_comes j t s x wire same (h, d, source, says) open' =
+    decided_arrives j t s x wire same (h, d, source, says) open' =
         along s x wire (h, d, ap (λ (r : Role). r.context) source, ap (λ (r : Role). r.part) source ∙ ap (λ (s : Side). maker_of b s.part) (sym same)) open'

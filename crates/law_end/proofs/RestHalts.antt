@@ -26,9 +26,9 @@ use Rattle.law_net.specs.ContextsParts.{Part, Line, Gate, Sender, TurnValue, Inl
 use Rattle.law_net.specs.ContextsBlocks.{is_pair, is_cell, is_store, is_strict, is_kind, pair_kind, cell_kind, store_kind, enter_kind, strict_kind}
 use Rattle.law_net.specs.ContextsBlocks.{source_count}
 use Rattle.law_net.specs.Contexts.{Wires, block_in, IsContext}
-use Rattle.law_net.specs.ContextsTold.{told}
+use Rattle.law_net.specs.ContextsMeant.{meant}
 use Rattle.law_net.specs.ContextsFirings.{array_in, array_at, index_of, cell_of}
-use Rattle.law_net.specs.ContextsStands.{Past}
+use Rattle.law_net.specs.ContextsMirror.{Past}
 use Rattle.law_net.specs.ContextsOperands.{HasOperands}
 use Rattle.law_net.specs.ContextsTheorem.{IsGood}
 use Rattle.law_net.specs.ContextsPackages.{Keeps, InputsFit}
@@ -170,17 +170,17 @@ module _ (fl : Flow) (p : Plan) (w : Wires) (inputs : List ℤ) (past : Past) (m
         ∙ ap (λ (a : ℕ). Some (fetched c n (first_cell fl a) (index_in (array_len fl a) v (origin_at fl c n)))) (sym (fetch_array f))
 
   -- a token of the state is told by what waits
-  abbrev pub Told : Tagged → Type 0
-  Told t = (i : Item) × Waiting fl p w inputs past m good fit kept i × Says fl p w inputs past m good fit kept rests wants starts i t
+  abbrev pub Meant : Tagged → Type 0
+  Meant t = (i : Item) × Waiting fl p w inputs past m good fit kept i × Says fl p w inputs past m good fit kept rests wants starts i t
 
-  pub from_state : (t : Tagged) → Within t kept.state.tokens → Told t
+  pub from_state : (t : Tagged) → Within t kept.state.tokens → Meant t
   from_state t h =
-      let (i, d, e) = contains_flat_mapped (told fl) (kept.follows.net.pending ++ kept.follows.net.waiting) t
-      (Contains-permutation _ _ t kept.told.tokens (within_to t kept.state.tokens h)) in
-      let c = pick i (Contains-append_cases kept.follows.net.pending kept.follows.net.waiting i d) in
+      let (i, d, e) = contains_flat_mapped (meant fl) (kept.tracks.net.pending ++ kept.tracks.net.waiting) t
+      (Contains-permutation _ _ t kept.meant.tokens (within_to t kept.state.tokens h)) in
+      let c = pick i (Contains-append_cases kept.tracks.net.pending kept.tracks.net.waiting i d) in
       (i, c, says fl p w inputs past m good fit kept rests wants starts i c t e)
     where
-      pick : (i : Item) → Contains kept.follows.net.pending i ⊎ Waits' i → Waits' i
+      pick : (i : Item) → Contains kept.tracks.net.pending i ⊎ Waits' i → Waits' i
       pick i (inl c) = absurd (contains_none i (subst (λ (l : List Item). Contains l i) (rests_net fl p w inputs past m good fit kept rests wants) c))
       pick i (inr c) = c
 
@@ -192,7 +192,7 @@ module _ (fl : Flow) (p : Plan) (w : Wires) (inputs : List ℤ) (past : Past) (m
     ByLeft : (i : Item) → Placed i c (Line n) → is_pair (block_in fl c) n ≡ true → i.inlet.port ≡ Left → l ≡ 0 → OperandAt c n l v
     ByRight : (i : Item) → Placed i c (Line n) → is_pair (block_in fl c) n ≡ true → i.inlet.port ≡ Right → l ≡ 1 → OperandAt c n l v
     ByEnter : (i : Item) → Placed i c (Gate n) → is_kind enter_kind (block_in fl c) n ≡ true → i.inlet.port ≡ Left → l ≡ 0 → OperandAt c n l v
-    ByReader : (i : Item) → Placed i c (Parts.Held n) → is_cell (block_in fl c) n ≡ true → is_store (block_in fl c) n ≡ false → i.held ≡ v ∷ [] → l ≡ 0
+    ByReader : (i : Item) → Placed i c (Parts.InCell n) → is_cell (block_in fl c) n ≡ true → is_store (block_in fl c) n ≡ false → i.held ≡ v ∷ [] → l ≡ 0
         → OperandAt c n l v
     ByArgument : (i : Item) → Placed i c (Sender n l) → is_strict (block_in fl c) n ≡ true → i.inlet ≡ inlet (Sender n l) Right 0 → OperandAt c n l v
 
@@ -213,7 +213,7 @@ module _ (fl : Flow) (p : Plan) (w : Wires) (inputs : List ℤ) (past : Past) (m
           (same_operand l 0 (ap (λ (t : Tagged). t.port) q))
       go i d (GateRight j u e two g q) = let z : Operand l ≡ Predicate = ap (λ (t : Tagged). t.port) q in absurd (cc)
       go i d (Reading j u e cell store held q) = let (a, z) = at_context i c n j (Operand l) (Operand 0) v u q in
-          ByReader i (d, a, e ∙ ap Parts.Held z) ((λ k. is_cell (block_in fl (sym a k)) (sym z k)) ∙ cell)
+          ByReader i (d, a, e ∙ ap Parts.InCell z) ((λ k. is_cell (block_in fl (sym a k)) (sym z k)) ∙ cell)
           ((λ k. is_store (block_in fl (sym a k)) (sym z k)) ∙ store) (held ∙ ap (λ (t : Tagged). t.value ∷ []) (sym q))
           (same_operand l 0 (ap (λ (t : Tagged). t.port) q))
       go i d (Argument j k u e strict at q) =
@@ -298,9 +298,9 @@ module _ (fl : Flow) (p : Plan) (w : Wires) (inputs : List ℤ) (past : Past) (m
   -- OF THOSE that take all operands only fetches have them all
   pub record Reads (c : Context) (n : ℕ) (v : Value) (us : List Value) : Type 0 where
     pub item : Item
-    pub waiting : Contains kept.follows.net.waiting item
+    pub waiting : Contains kept.tracks.net.waiting item
     pub context : item.context ≡ c
-    pub part : item.inlet.part ≡ Parts.Held n
+    pub part : item.inlet.part ≡ Parts.InCell n
     pub here : IsContext fl c
     pub fetch : FetchAt c here n
     pub held : item.held ≡ v ∷ []
@@ -354,7 +354,7 @@ module _ (fl : Flow) (p : Plan) (w : Wires) (inputs : List ℤ) (past : Past) (m
 
   reads_nothing : (c : Context) (n : ℕ) (v : Value) (us : List Value) → Reads c n v us → effect fl kept.state.memory (Fires c n (v ∷ us)) ≡ None
   reads_nothing c n v us r =
-      let (x, cell) = kept.follows.stands.good r.item n (Contains-append_right kept.follows.net.pending kept.follows.net.waiting r.item r.waiting) r.part in
+      let (x, cell) = kept.tracks.stands.good r.item n (Contains-append_right kept.tracks.net.pending kept.tracks.net.waiting r.item r.waiting) r.part in
       let here : cell_of fl c n (v ∷ []) ≡ Some x = (λ t. cell_of fl (sym r.context t) n (sym r.held t)) ∙ cell in
       ap (λ (us : List Value). effect fl kept.state.memory (Fires c n (v ∷ us))) r.none
       ∙ ap (done_if fl kept.state.memory) (fetch_deed c r.here n v r.fetch)

@@ -17,11 +17,11 @@ use Rattle.law_net.specs.ContextsParts.{NextSender, Result, LastReturn, Landing,
 use Rattle.law_net.specs.ContextsParts.{Firing, Spot, same_context}
 use Rattle.law_net.specs.ContextsBlocks.{Side, side, waits_in, invokes, is_call, is_loop, is_strict, lies_in, region_of, entered, leaves_in, flag}
 use Rattle.law_net.specs.Contexts.{Wires, block_in, wiring_in, IsContext, child, next}
-use Rattle.law_net.specs.ContextsWires.{ItsReturn, ChildFrame, goes_from, is_given, wired_way, wired_port, decider, predicate_at, comes_at, Carried, Suits}
+use Rattle.law_net.specs.ContextsWires.{ItsReturn, ChildFrame, goes_from, is_unwired, wired_way, wired_port, decider, predicate_at, arrives_at, Carried, Suits}
 use Rattle.law_net.specs.ContextsFirings.{input_items, takes, own_takes, renewed, credit_asked, left_item, left_way, turn_before, next_entry, handed_to}
 use Rattle.law_net.specs.ContextsFirings.{frame_if, frame_at, HasFired}
 use Rattle.law_net.specs.ContextsLaws.{spot_there, maker_of}
-use Rattle.law_net.specs.ContextsStands.{Past, is_held}
+use Rattle.law_net.specs.ContextsMirror.{Past, is_in_cell}
 use Rattle.law_net.specs.ContextsTheorem.{IsGood}
 use Rattle.law_net.specs.ContextsPackages.{Keeps, InputsFit}
 use Rattle.law_net.proofs.ContextsSames.{same_context-true}
@@ -30,7 +30,7 @@ use Rattle.law_net.proofs.WiredNets.{taken_in}
 use Rattle.law_end.specs.Over.{is_turning, IsDecided, IsOpen}
 use Rattle.law_end.proofs.OverSorts.{IsHere, laws}
 use Rattle.law_end.proofs.OverPaths.{Wire, wire_of}
-use Rattle.law_end.proofs.OverMade.{Stands, taken_stands, fits}
+use Rattle.law_end.proofs.OverMade.{Mirrors, taken_stands, fits}
 use Rattle.law_end.proofs.OverOpen.{arm_decided, arm_round, region_open, stands_open, first_of}
 use Rattle.law_end.proofs.OverBack.{frame_from, next_frame_from, return_from}
 use Rattle.law_end.specs.RestStarts.{AllStart}
@@ -38,7 +38,7 @@ use Rattle.law_net.specs.ContextsWires.{is_start}
 use Rattle.law_end.proofs.RestCells.{one_of}
 use Rattle.law_end.proofs.RestWaits.{Waiting, is_credit, taken_as, Takes, Own, OfCredits, Renewed, fires_alone, fires_both, waits_or_taken, taker_wants}
 use Rattle.law_end.proofs.RestWaits.{is_sender}
-use Rattle.law_end.proofs.RestForward.{begin_stands, gift_stands, feeder, along, decided_comes}
+use Rattle.law_end.proofs.RestForward.{begin_stands, gift_stands, feeder, along, decided_arrives}
 
 -- WHO HANDED a frame out
 by_frame : (fl : Flow) (f : Firing) (rest : List Firing) (c : Context) (g : ℕ) (o : Option Context) → handed_to fl f.context f.part ≡ o
@@ -100,21 +100,22 @@ root_arm k t e = absurd (cc)
 module _ (fl : Flow) (p : Plan) (w : Wires) (inputs : List ℤ) (past : Past) (m : Machine) (good : IsGood fl p w) (fit : InputsFit fl inputs)
     (kept : Keeps fl p w inputs past m) (rests : Resting m) (wants : Wants m → ⊥) where
   abbrev done : List Firing
-  done = kept.follows.net.fired
+  done = kept.tracks.net.fired
 
   abbrev Stood : Item → Type 0
-  Stood i = Stands fl p w inputs past m good fit kept i
+  Stood i = Mirrors fl p w inputs past m good fit kept i
 
   -- a part that takes one word, and what a firing gave it
-  alone_at : (c : Context) (r : Part) (i : Item) → Stood i → i.context ≡ c → i.inlet.part ≡ r → ((b : Block ℕ) → waits_in b r ≡ false) → is_held r ≡ false
+  alone_at : (c : Context) (r : Part) (i : Item) → Stood i → i.context ≡ c → i.inlet.part ≡ r → ((b : Block ℕ) → waits_in b r ≡ false) → is_in_cell r ≡ false
       → is_credit r ≡ false → HasFired c r done
   alone_at c r i s a e single cell credit =
       let (h, d, x, y) = fires_alone fl p w inputs past m good fit kept rests wants i s
-      (ap (waits_in (block_in fl i.context)) e ∙ single (block_in fl i.context)) (ap is_held e ∙ cell) (ap is_credit e ∙ credit) in
+      (ap (waits_in (block_in fl i.context)) e ∙ single (block_in fl i.context)) (ap is_in_cell e ∙ cell) (ap is_credit e ∙ credit) in
       (h, d, x ∙ a, y ∙ e)
 
   given_at : (h : Firing) (q : Part) → Contains done h → h.part ≡ q → (i : Item) → Contains (gives_by fl w h q) i
-      → ((b : Block ℕ) → waits_in b i.inlet.part ≡ false) → is_held i.inlet.part ≡ false → is_credit i.inlet.part ≡ false → HasFired i.context i.inlet.part done
+      → ((b : Block ℕ) → waits_in b i.inlet.part ≡ false) → is_in_cell i.inlet.part ≡ false → is_credit i.inlet.part ≡ false
+      → HasFired i.context i.inlet.part done
   given_at h q d e i g single cell credit =
       let (j, s, same) = gift_stands fl p w inputs past m good fit kept h q i d e g in
       alone_at i.context i.inlet.part j s (ap (λ (x : Spot). x.context) same) (ap (λ (x : Spot). x.inlet.part) same) single cell credit
@@ -175,13 +176,13 @@ module _ (fl : Flow) (p : Plan) (w : Wires) (inputs : List ℤ) (past : Past) (m
     Here r = IsHere fl p w good c con r
 
     abbrev Opens : Region → Type 0
-    Opens r = IsOpen fl w kept.follows.net.fired c r
+    Opens r = IsOpen fl w kept.tracks.net.fired c r
 
     abbrev Fires : Part → Type 0
-    Fires r = HasFired c r kept.follows.net.fired
+    Fires r = HasFired c r kept.tracks.net.fired
 
     abbrev pub At : Inlet → Type 0
-    At x = (i : Item) × Stands fl p w inputs past m good fit kept i × (i.context ≡ c) × (i.inlet ≡ x)
+    At x = (i : Item) × Mirrors fl p w inputs past m good fit kept i × (i.context ≡ c) × (i.inlet ≡ x)
 
     -- what has fired lies in open arms
     pub fired_open : (r : Part) → Here r → is_turning r ≡ false → Fires r → Opens (region_of b r)
@@ -209,19 +210,20 @@ module _ (fl : Flow) (p : Plan) (w : Wires) (inputs : List ℤ) (past : Past) (m
         no_sender r h = refl
 
     -- the words of a conditional or a flag
-    decided_right : (r : Part) (k : ℕ) (t : Bool) → Here r → is_given b r ≡ false → wired_way r 0 ≡ true → waits_in b r ≡ true → predicate_at b r Right ≡ Some k
+    decided_right : (r : Part) (k : ℕ) (t : Bool) → Here r → is_unwired b r ≡ false → wired_way r 0 ≡ true → waits_in b r ≡ true
+        → predicate_at b r Right ≡ Some k
         → IsDecided fl w done (record { context = c; cond = k }) t → Opens (entered b r 0) → At (inlet r Right 0)
     decided_right r k t here given way two predicate decided o =
         let (s, wire) = feeder fl p w inputs past m good fit kept c con (inlet r Right 0) here way two given in
-        decided_comes fl p w inputs past m good fit kept c con k t s (inlet r Right 0) wire
+        decided_arrives fl p w inputs past m good fit kept c con k t s (inlet r Right 0) wire
         ((laws fl p w good c con).arms.agree s (inlet r Right 0) k wire.from wire.goes predicate) decided (subst Opens wire.region o)
 
-    decided_left : (r : Part) (k : ℕ) (t : Bool) → Here r → is_given b r ≡ false → wired_way r 0 ≡ true
+    decided_left : (r : Part) (k : ℕ) (t : Bool) → Here r → is_unwired b r ≡ false → wired_way r 0 ≡ true
         → ((s : Side) → Wire fl p w good c con s (inlet r Left 0) → s ≡ decider b (wiring_in fl w c) k)
         → IsDecided fl w done (record { context = c; cond = k }) t → Opens (entered b r 0) → At (inlet r Left 0)
     decided_left r k t here given way from decided o =
         let (s, wire) = feeder fl p w inputs past m good fit kept c con (inlet r Left 0) here way refl given in
-        decided_comes fl p w inputs past m good fit kept c con k t s (inlet r Left 0) wire (from s wire) decided (subst Opens wire.region o)
+        decided_arrives fl p w inputs past m good fit kept c con k t s (inlet r Left 0) wire (from s wire) decided (subst Opens wire.region o)
 
     pub trigger_fires : (k : ℕ) (t : Bool) → Here (Trigger k) → IsDecided fl w done (record { context = c; cond = k }) t → Opens (lies_in b k)
         → Fires (Trigger k)
@@ -240,15 +242,15 @@ module _ (fl : Flow) (p : Plan) (w : Wires) (inputs : List ℤ) (past : Past) (m
       root = fired_open Entry refl refl entry
 
       -- a continuation comes from there, or from the turn's switch, into an arm of its flag
-      return_root : (x : Inlet) → Here x.part → wired_way x.part x.way ≡ true → wired_port b x.part x.port ≡ true → is_given b x.part ≡ false
-          → comes_at x.part x.port ≡ ItsReturn → entered b x.part x.way ≡ Root → At x
-      return_root x here way port given comes region =
+      return_root : (x : Inlet) → Here x.part → wired_way x.part x.way ≡ true → wired_port b x.part x.port ≡ true → is_unwired b x.part ≡ false
+          → arrives_at x.part x.port ≡ ItsReturn → entered b x.part x.way ≡ Root → At x
+      return_root x here way port given arrives region =
           let (s, wire) = feeder fl p w inputs past m good fit kept c con x here way port given in
-          pick s wire (return_from s.part (sym comes ∙ suits s wire))
+          pick s wire (return_from s.part (sym arrives ∙ suits s wire))
         where
-          suits : (s : Side) → Wire fl p w good c con s x → comes_at x.part x.port ≡ goes_from s.part
+          suits : (s : Side) → Wire fl p w good c con s x → arrives_at x.part x.port ≡ goes_from s.part
           suits s wire =
-              subst (λ (k : Carried). Suits k (goes_from s.part) → k ≡ goes_from s.part) (sym comes) (λ h. h)
+              subst (λ (k : Carried). Suits k (goes_from s.part) → k ≡ goes_from s.part) (sym arrives) (λ h. h)
               ((laws fl p w good c con).leads.suits s x wire.from wire.goes)
 
           pick : (s : Side) → Wire fl p w good c con s x → (s.part ≡ Entry) ⊎ (s.part ≡ TurnCont) → At x
@@ -261,14 +263,14 @@ module _ (fl : Flow) (p : Plan) (w : Wires) (inputs : List ℤ) (past : Past) (m
           (decided_right TurnCont (flag b) t here refl refl refl refl decided root)
 
       return_arm : (x : Inlet) (t : Bool) → is_turn c ≡ true → Here x.part → wired_way x.part x.way ≡ true → wired_port b x.part x.port ≡ true
-          → is_given b x.part ≡ false → comes_at x.part x.port ≡ ItsReturn → entered b x.part x.way ≡ Arm (flag b) t → Opens (Arm (flag b) t) → At x
-      return_arm x t turn here way port given comes region o =
+          → is_unwired b x.part ≡ false → arrives_at x.part x.port ≡ ItsReturn → entered b x.part x.way ≡ Arm (flag b) t → Opens (Arm (flag b) t) → At x
+      return_arm x t turn here way port given arrives region o =
           let (s, wire) = feeder fl p w inputs past m good fit kept c con x here way port given in
-          pick s wire (return_from s.part (sym comes ∙ suits s wire))
+          pick s wire (return_from s.part (sym arrives ∙ suits s wire))
         where
-          suits : (s : Side) → Wire fl p w good c con s x → comes_at x.part x.port ≡ goes_from s.part
+          suits : (s : Side) → Wire fl p w good c con s x → arrives_at x.part x.port ≡ goes_from s.part
           suits s wire =
-              subst (λ (k : Carried). Suits k (goes_from s.part) → k ≡ goes_from s.part) (sym comes) (λ h. h)
+              subst (λ (k : Carried). Suits k (goes_from s.part) → k ≡ goes_from s.part) (sym arrives) (λ h. h)
               ((laws fl p w good c con).leads.suits s x wire.from wire.goes)
 
           pick : (s : Side) → Wire fl p w good c con s x → (s.part ≡ Entry) ⊎ (s.part ≡ TurnCont) → At x
@@ -299,7 +301,7 @@ module _ (fl : Flow) (p : Plan) (w : Wires) (inputs : List ℤ) (past : Past) (m
           go r e g = absurd (true≢false (sym g))
 
       module _ (starts : AllStart fl w) where
-        alone_here : (r : Part) → At (inlet r Left 0) → ((b : Block ℕ) → waits_in b r ≡ false) → is_held r ≡ false → is_credit r ≡ false → Fires r
+        alone_here : (r : Part) → At (inlet r Left 0) → ((b : Block ℕ) → waits_in b r ≡ false) → is_in_cell r ≡ false → is_credit r ≡ false → Fires r
         alone_here r (i, s, a, x) single cell credit = alone_at c r i s a (ap (λ (x : Inlet). x.part) x) single cell credit
 
         pub loop_framed : (n : ℕ) → is_loop b n ≡ true → Opens (lies_in b n) → Fires (Framer n)
@@ -325,14 +327,14 @@ module _ (fl : Flow) (p : Plan) (w : Wires) (inputs : List ℤ) (past : Past) (m
             (from_part (inlet Asker Right 0) TurnFlag refl (s, wire, (starts c con).asks s wire.from wire.goes) (flag_fires true turn decided root) o)
 
     -- WHERE a frame was handed
-    child_left : (x : Inlet) (n : ℕ) → Here x.part → wired_way x.part x.way ≡ true → wired_port b x.part x.port ≡ true → is_given b x.part ≡ false
-        → comes_at x.part x.port ≡ ChildFrame n → Opens (entered b x.part x.way) → Fires (Fanned n) → At x
-    child_left x n here way port given comes o f =
+    child_left : (x : Inlet) (n : ℕ) → Here x.part → wired_way x.part x.way ≡ true → wired_port b x.part x.port ≡ true → is_unwired b x.part ≡ false
+        → arrives_at x.part x.port ≡ ChildFrame n → Opens (entered b x.part x.way) → Fires (Fanned n) → At x
+    child_left x n here way port given arrives o f =
         let (s, wire) = feeder fl p w inputs past m good fit kept c con x here way port given in
         from_part x (Fanned n) refl (
           s,
           wire,
-          frame_from n s.part (subst (λ (k : Carried). Suits k (goes_from s.part)) comes ((laws fl p w good c con).leads.suits s x wire.from wire.goes)),
+          frame_from n s.part (subst (λ (k : Carried). Suits k (goes_from s.part)) arrives ((laws fl p w good c con).leads.suits s x wire.from wire.goes)),
         ) f o
 
     pub sender_left : (n l : ℕ) → Here (Sender n l) → Opens (lies_in b n) → Fires (Fanned n) → At (inlet (Sender n l) Left 0)
@@ -388,7 +390,7 @@ module _ (fl : Flow) (p : Plan) (w : Wires) (inputs : List ℤ) (past : Past) (m
       let at : i.context ≡ c = first_context fl w h h.part ∙ a in
       let part : i.inlet.part ≡ NextAsked = ap (λ (r : Part). (first_taken fl w h r).inlet.part) e in
       let f = fits fl p w inputs past m good fit kept i s in
-      let (g, known) = kept.follows.stands.known i s in
+      let (g, known) = kept.tracks.stands.known i s in
       (subst (IsContext fl) at f.is_context, (λ k. spot_there fl w (sym at k) (sym part k)) ∙ f.there, g, ap (frame_at fl done) (sym at) ∙ known)
 
   by_call : (c : Context) → (h : Firing) → Contains done h → (n : ℕ) → h.part ≡ Asked n → child fl h.context n ≡ c → HasFired c Entry done
@@ -454,4 +456,4 @@ module _ (fl : Flow) (p : Plan) (w : Wires) (inputs : List ℤ) (past : Past) (m
   entered_of (Turned d n t) g e = turn_entered d n t g e
 
   pub entered_at : (i : Item) → Stood i → HasFired i.context Entry done
-  entered_at i s = let (g, e) = kept.follows.stands.known i s in entered_of i.context g e
+  entered_at i s = let (g, e) = kept.tracks.stands.known i s in entered_of i.context g e

@@ -14,18 +14,18 @@ use Rattle.lemmas.proofs.Permutations.{Within, within_permutation, within_append
 use Rattle.lemmas.proofs.Alls.{all_left, all_right}
 use Rattle.law_confluence.proofs.Orders.{at_last, shuffled, flat_map-IsPermutation, Part, ◌⊕◌}
 use Rattle.law_confluence.proofs.Net.{Waits, Fires, net_sound_moves, net_sound_begins, fires_allowed}
-use Rattle.law_confluence.proofs.NetFollows.{run_from, run_join, state_of, Simulates}
+use Rattle.law_confluence.proofs.NetMeans.{run_from, run_join, state_of, Simulates}
 use Rattle.law_confluence.proofs.NetArms.{arms_lawful}
 use Rattle.law_net.specs.ContextsParts.{Item, Firing, spot_of, same_spot, role_of}
 use Rattle.law_net.specs.Contexts.{Wires}
-use Rattle.law_net.specs.ContextsTold.{told}
+use Rattle.law_net.specs.ContextsMeant.{meant}
 use Rattle.law_net.specs.ContextsFirings.{Config, Move, begin, begins, takes, makes, memory_of, IsProperMove, ProperMoves, Still, Then}
 use Rattle.law_net.specs.ContextsLaws.{Fits, WordFits, IsPredicate, is_true, InArm, source, says, Allowed, NetHasArms, NetIsLawful, IsSoundNet, WordsFit}
-use Rattle.law_net.specs.ContextsStands.{Past}
+use Rattle.law_net.specs.ContextsMirror.{Past}
 use Rattle.law_net.specs.ContextsTheorem.{IsGood}
-use Rattle.law_net.specs.ContextsPackages.{InputsFit, Keeps, telling_of}
-use Rattle.law_net.proofs.ContextsComposition.{told_inputs}
-use Rattle.law_net_refines_meaning.proofs.Firings.{all_told}
+use Rattle.law_net.specs.ContextsPackages.{InputsFit, Keeps, group_of}
+use Rattle.law_net.proofs.ContextsComposition.{meant_inputs}
+use Rattle.law_net_refines_meaning.proofs.Firings.{all_meant}
 use Rattle.law_net.proofs.WiredWords.{words_are_fit}
 use Rattle.law_net.proofs.WiredFed.{inlets_are_fed}
 use Rattle.law_net.proofs.WiredEntered.{arms_are_entered}
@@ -66,18 +66,18 @@ module _ (fl : Flow) (p : Plan) (w : Wires) (inputs : List ℤ) (good : IsGood f
 
   -- all tokens that the item stands for stood
   abbrev pub Ever : List Tagged → Item → Type 0
-  Ever history i = (t : Tagged) → Contains (told fl i) t → Within t history
+  Ever history i = (t : Tagged) → Contains (meant fl i) t → Within t history
 
   abbrev pub History : List Activity → State → List Tagged
   History run s = flat_map taken run ++ s.tokens
 
-  pub record Told (c : Config) : Type 0 where
+  pub record Meant (c : Config) : Type 0 where
     pub sound : IsSoundNet fl w inputs c
     pub fits : WordsFit fl w inputs c
     pub state : State
     pub run : List Activity
     pub is_run : Meaning.Run fl (start inputs) run state
-    pub tokens : IsPermutation state.tokens (flat_map (told fl) (c.pending ++ c.waiting))
+    pub tokens : IsPermutation state.tokens (flat_map (meant fl) (c.pending ++ c.waiting))
     pub memory_is : state.memory ≡ memory_of fl c.fired
     pub ever : All (Ever (flat_map taken run ++ state.tokens)) (c.pending ++ (c.waiting ++ flat_map (takes fl) c.fired))
 
@@ -116,13 +116,13 @@ module _ (fl : Flow) (p : Plan) (w : Wires) (inputs : List ℤ) (good : IsGood f
   fits_of : (fired : List Firing) (items : List Item) → All (Allowed fl w inputs fired) items → All (λ (i : Item). Fits fl w (spot_of i)) items
   fits_of fired items all = All-weaker (Allowed fl w inputs fired) (λ (i : Item). Fits fl w (spot_of i)) (λ i k. k.fits) items all
 
-  told_in : (items : List Item) (history : List Tagged) → ((t : Tagged) → Within t (flat_map (told fl) items) → Within t history) → All (Ever history) items
-  told_in items history h =
-      All-weaker (Contains items) (Ever history) (λ i c t d. h t (within_from t (flat_map (told fl) items) (flat_contains (told fl) items i t c d))) items
+  meant_in : (items : List Item) (history : List Tagged) → ((t : Tagged) → Within t (flat_map (meant fl) items) → Within t history) → All (Ever history) items
+  meant_in items history h =
+      All-weaker (Contains items) (Ever history) (λ i c t d. h t (within_from t (flat_map (meant fl) items) (flat_contains (meant fl) items i t c d))) items
       (All-contains_itself items)
 
-  move_told : (c d : Config) (m : Move fl w c d) → IsProperMove fl w c.fired c d m → Told c → Told d
-  move_told c d (Waits i rest a e) proper k = subst Told (sym e) (record {
+  move_meant : (c d : Config) (m : Move fl w c d) → IsProperMove fl w c.fired c d m → Meant c → Meant d
+  move_meant c d (Waits i rest a e) proper k = subst Meant (sym e) (record {
     sound =
         subst (IsSoundNet fl w inputs) e (net_sound_moves spot_of same_spot (takes fl) (makes fl w) (begins inputs) role_of
         (Allowed fl w inputs) lawful c d k.sound (Waits i rest a e));
@@ -130,30 +130,30 @@ module _ (fl : Flow) (p : Plan) (w : Wires) (inputs : List ℤ) (good : IsGood f
     state = k.state;
     run = k.run;
     is_run = k.is_run;
-    tokens = IsPermutation-trans _ _ _ k.tokens (flat_map-IsPermutation (told fl) _ _ (IsPermutation-trans _ _ _ (IsPermutation-append_left c.waiting _ _ a)
+    tokens = IsPermutation-trans _ _ _ k.tokens (flat_map-IsPermutation (meant fl) _ _ (IsPermutation-trans _ _ _ (IsPermutation-append_left c.waiting _ _ a)
         (shuffled ((i ∷ []) ∷ rest ∷ c.waiting ∷ []) ((Part 0 ⊕ Part 1) ⊕ Part 2) (Part 1 ⊕ (Part 0 ⊕ Part 2)) refl)));
     memory_is = k.memory_is;
     ever = waits_all (Ever (flat_map taken k.run ++ k.state.tokens)) c i rest a k.ever;
   })
-  move_told c d (Fires f now kept rest others a b both e) proper k =
+  move_meant c d (Fires f now kept rest others a b both e) proper k =
       let allowed = fires_allowed spot_of same_spot (takes fl) (makes fl w) (begins inputs) role_of
       (Allowed fl w inputs) lawful c k.sound f now kept rest others a b both in
       let words = all_left (WordFits fl w) (takes fl f) (rest ++ (others ++ flat_map (takes fl) c.fired))
       (split (WordFits fl w) c f now kept rest others a b both k.fits) in
-      let sim : Simulates fl inputs (takes fl) (makes fl w) (told fl) (memory_of fl) f c.fired =
-      all_told (telling_of fl f.context f.part) fl p w inputs f c.fired good fit allowed words proper refl in
-      let frame = flat_map (told fl) (rest ++ others) in
+      let sim : Simulates fl inputs (takes fl) (makes fl w) (meant fl) (memory_of fl) f c.fired =
+      all_meant (group_of fl f.context f.part) fl p w inputs f c.fired good fit allowed words proper refl in
+      let frame = flat_map (meant fl) (rest ++ others) in
       let perm : IsPermutation (c.pending ++ c.waiting) (takes fl f ++ (rest ++ others)) =
       IsPermutation-trans _ _ _ (IsPermutation-append _ _ _ _ a b) (IsPermutation-trans _ _ _
       (shuffled (now ∷ rest ∷ kept ∷ others ∷ []) ((Part 0 ⊕ Part 1) ⊕ (Part 2 ⊕ Part 3)) ((Part 0 ⊕ Part 2) ⊕ (Part 1 ⊕ Part 3)) refl)
       (IsPermutation-append_left (rest ++ others) _ _ both)) in
-      let here : IsPermutation k.state.tokens (flat_map (told fl) (takes fl f) ++ frame) =
-      at_last (IsPermutation-trans _ _ _ k.tokens (flat_map-IsPermutation (told fl) _ _ perm)) (flat_map-append (told fl) (takes fl f) (rest ++ others)) in
+      let here : IsPermutation k.state.tokens (flat_map (meant fl) (takes fl f) ++ frame) =
+      at_last (IsPermutation-trans _ _ _ k.tokens (flat_map-IsPermutation (meant fl) _ _ perm)) (flat_map-append (meant fl) (takes fl f) (rest ++ others)) in
       let led = sim frame in
-      let t = state_of (flat_map (told fl) (makes fl w f) ++ frame) (memory_of fl (f ∷ c.fired)) in
-      let step = run_from fl led.0 k.state (state_of (flat_map (told fl) (takes fl f) ++ frame) (memory_of fl c.fired)) t (here, k.memory_is) led.1 in
+      let t = state_of (flat_map (meant fl) (makes fl w f) ++ frame) (memory_of fl (f ∷ c.fired)) in
+      let step = run_from fl led.0 k.state (state_of (flat_map (meant fl) (takes fl f) ++ frame) (memory_of fl c.fired)) t (here, k.memory_is) led.1 in
       let more = later k.run led.0 k.state t step in
-      subst Told (sym e) (record {
+      subst Meant (sym e) (record {
         sound =
             subst (IsSoundNet fl w inputs) e (net_sound_moves spot_of same_spot (takes fl) (makes fl w) (begins inputs) role_of
             (Allowed fl w inputs) lawful c d k.sound (Fires f now kept rest others a b both e));
@@ -164,12 +164,12 @@ module _ (fl : Flow) (p : Plan) (w : Wires) (inputs : List ℤ) (good : IsGood f
         run = k.run ++ led.0;
         is_run = run_join fl k.run led.0 (start inputs) k.state t k.is_run step;
         tokens =
-            same_tokens (sym (flat_map-append (told fl) (makes fl w f) (rest ++ others))
-            ∙ ap (flat_map (told fl)) (sym (append_assoc (makes fl w f) rest others)));
+            same_tokens (sym (flat_map-append (meant fl) (makes fl w f) (rest ++ others))
+            ∙ ap (flat_map (meant fl)) (sym (append_assoc (makes fl w f) rest others)));
         memory_is = refl;
         ever = fires_all (Ever (flat_map taken (k.run ++ led.0) ++ t.tokens)) c f now kept rest others a b both
-            (told_in (makes fl w f) (flat_map taken (k.run ++ led.0) ++ t.tokens)
-            (λ x h. within_right x (flat_map taken (k.run ++ led.0)) t.tokens (within_left x (flat_map (told fl) (makes fl w f)) frame h)))
+            (meant_in (makes fl w f) (flat_map taken (k.run ++ led.0) ++ t.tokens)
+            (λ x h. within_right x (flat_map taken (k.run ++ led.0)) t.tokens (within_left x (flat_map (meant fl) (makes fl w f)) frame h)))
             (All-weaker (Ever (flat_map taken k.run ++ k.state.tokens)) (Ever (flat_map taken (k.run ++ led.0) ++ t.tokens))
             (λ i h x q. more x (h x q)) _ k.ever);
       })
@@ -188,14 +188,14 @@ module _ (fl : Flow) (p : Plan) (w : Wires) (inputs : List ℤ) (good : IsGood f
           (λ k. within_right x (flat_map taken first) (flat_map taken second ++ t.tokens) (stays_in fl second s t r x k))
           (within_append x (flat_map taken first) s.tokens h))
 
-  pub moves_told : (c d : Config) → ProperMoves fl w c d → Told c → Told d
-  moves_told c d (Still e) k = k
-  moves_told c d (Then a mid b m proper more) k = moves_told mid b more (move_told a mid m proper k)
+  pub moves_meant : (c d : Config) → ProperMoves fl w c d → Meant c → Meant d
+  moves_meant c d (Still e) k = k
+  moves_meant c d (Then a mid b m proper more) k = moves_meant mid b more (move_meant a mid m proper k)
 
-  begin_told : Told (begin inputs)
-  begin_told =
-      let same : flat_map (told fl) (begins inputs ++ []) ≡ (start inputs).tokens = ap (flat_map (told fl)) (append-nil (begins inputs))
-      ∙ told_inputs fl 0 inputs in record {
+  begin_meant : Meant (begin inputs)
+  begin_meant =
+      let same : flat_map (meant fl) (begins inputs ++ []) ≡ (start inputs).tokens = ap (flat_map (meant fl)) (append-nil (begins inputs))
+      ∙ meant_inputs fl 0 inputs in record {
         sound = net_sound_begins spot_of same_spot (takes fl) (makes fl w) (begins inputs) role_of (Allowed fl w inputs) lawful;
         fits = All-append (WordFits fl w) (begins inputs) [] (words_are_fit fl p w good inputs fit).begin_words (All-nil (WordFits fl w));
         state = start inputs;
@@ -203,18 +203,18 @@ module _ (fl : Flow) (p : Plan) (w : Wires) (inputs : List ℤ) (good : IsGood f
         is_run = (IsPermutation-refl (start inputs).tokens, refl);
         tokens = subst (λ (l : List Tagged). IsPermutation (start inputs).tokens l) (sym same) (IsPermutation-refl (start inputs).tokens);
         memory_is = refl;
-        ever = told_in (begins inputs ++ []) (start inputs).tokens (λ x h. subst (λ (l : List Tagged). Within x l) same h);
+        ever = meant_in (begins inputs ++ []) (start inputs).tokens (λ x h. subst (λ (l : List Tagged). Within x l) same h);
       }
 
 -- OF EACH RUN
 module _ (fl : Flow) (p : Plan) (w : Wires) (inputs : List ℤ) (past : Past) (m : Machine) (good : IsGood fl p w) (fit : InputsFit fl inputs)
     (kept : Keeps fl p w inputs past m) where
-  pub story : Told fl p w inputs good fit kept.follows.net
-  story = moves_told fl p w inputs good fit (begin inputs) kept.follows.net kept.follows.moves (begin_told fl p w inputs good fit)
+  pub story : Meant fl p w inputs good fit kept.tracks.net
+  story = moves_meant fl p w inputs good fit (begin inputs) kept.tracks.net kept.tracks.moves (begin_meant fl p w inputs good fit)
 
   -- each token that an item stands for which came stood
-  pub ever_told : (i : Item) → Contains (all_of fl kept.follows.net) i → (t : Tagged) → Contains (told fl i) t
+  pub ever_meant : (i : Item) → Contains (all_of fl kept.tracks.net) i → (t : Tagged) → Contains (meant fl i) t
       → Within t (flat_map taken story.run ++ story.state.tokens)
-  ever_told i c =
-      All-contains (λ (i : Item). (t : Tagged) → Contains (told fl i) t → Within t (flat_map taken story.run ++ story.state.tokens))
-      (all_of fl kept.follows.net) i story.ever c
+  ever_meant i c =
+      All-contains (λ (i : Item). (t : Tagged) → Contains (meant fl i) t → Within t (flat_map taken story.run ++ story.state.tokens))
+      (all_of fl kept.tracks.net) i story.ever c

@@ -15,14 +15,14 @@ use Rattle.semantics.specs.Meaning.{Context, Main, Called, Turned, AtNode, AtTur
 use Rattle.semantics.specs.Cause.{is_turn}
 use Rattle.semantics.specs.Machine.{Machine, Resting, Wants}
 use Rattle.law_net.specs.ContextsParts.{Part, Entry, Line, Answer, Merge, Landing, Giver, Drainer, Shown, Gate, Framer, Sender, Strict, Asker, NextFramer}
-use Rattle.law_net.specs.ContextsParts.{NextFanned, NextSender, Result, TurnValue, LastReturn, Held, Inlet, inlet, Note, Datum, Item, item, Firing, spot_of}
+use Rattle.law_net.specs.ContextsParts.{NextFanned, NextSender, Result, TurnValue, LastReturn, InCell, Inlet, inlet, Note, Datum, Item, item, Firing, spot_of}
 use Rattle.law_net.specs.ContextsBlocks.{side, waits_in, is_pair, is_cell, is_store, is_strict, is_call, is_loop, is_kind, enter_kind, entered, lies_in}
 use Rattle.law_net.specs.ContextsBlocks.{source_count, there_in, invokes}
 use Rattle.law_net.specs.Contexts.{Wires, block_in, site_in, wiring_in, IsContext}
-use Rattle.law_net.specs.ContextsTold.{told, told_by, told_word}
+use Rattle.law_net.specs.ContextsMeant.{meant, meant_by, meant_word}
 use Rattle.law_net.specs.ContextsFirings.{takes, right_way, HasFired}
 use Rattle.law_net.specs.ContextsLaws.{spot_there, sender_way, way_fits}
-use Rattle.law_net.specs.ContextsStands.{Past, is_held}
+use Rattle.law_net.specs.ContextsMirror.{Past, is_in_cell}
 use Rattle.law_net.specs.ContextsTheorem.{IsGood}
 use Rattle.law_net.specs.ContextsPackages.{Keeps, InputsFit}
 use Rattle.law_net.proofs.ContextsWords.{holds_of}
@@ -33,7 +33,7 @@ use Rattle.law_net.proofs.WiredInvoked.{strict_call}
 use Rattle.law_net.proofs.WiredFed.{UWay}
 use Rattle.law_end.specs.Over.{IsOpen}
 use Rattle.law_end.proofs.OverPaths.{wire_of}
-use Rattle.law_end.proofs.OverMade.{Stands, fits, word, given_by, twice}
+use Rattle.law_end.proofs.OverMade.{Mirrors, fits, word, given_by, twice}
 use Rattle.law_end.proofs.OverOpen.{stands_open, renewed_too}
 use Rattle.law_end.proofs.OverBack.{sender_of}
 use Rattle.law_end.specs.RestStarts.{AllStart, join_after, join_of}
@@ -51,7 +51,7 @@ nil_for u = []
 module _ (fl : Flow) (p : Plan) (w : Wires) (inputs : List ℤ) (past : Past) (m : Machine) (good : IsGood fl p w) (fit : InputsFit fl inputs)
     (kept : Keeps fl p w inputs past m) (rests : Resting m) (wants : Wants m → ⊥) (starts : AllStart fl w) where
   abbrev done : List Firing
-  done = kept.follows.net.fired
+  done = kept.tracks.net.fired
 
   abbrev Waits' : Item → Type 0
   Waits' i = Waiting fl p w inputs past m good fit kept i
@@ -91,7 +91,7 @@ module _ (fl : Flow) (p : Plan) (w : Wires) (inputs : List ℤ) (past : Past) (m
       pick (inr (h, d, t)) = by_taking h d (taken_as fl h j t)
 
   module _ (i : Item) (c : Waits' i) where
-    pub stood : Stands fl p w inputs past m good fit kept i
+    pub stood : Mirrors fl p w inputs past m good fit kept i
     stood = stood_of fl p w inputs past m good fit kept i c
 
     pub con : IsContext fl i.context
@@ -195,7 +195,7 @@ module _ (fl : Flow) (p : Plan) (w : Wires) (inputs : List ℤ) (past : Past) (m
         → t ≡ tagged i.context (AtNode n) (Operand 0) v → Says i t
     GateRight : (n : ℕ) (v : Value) → i.inlet.part ≡ Gate n → is_kind enter_kind (block_in fl i.context) n ≡ true → i.inlet.port ≡ Right
         → t ≡ tagged i.context (AtNode n) Predicate v → Says i t
-    Reading : (n : ℕ) (v : Value) → i.inlet.part ≡ Held n → is_cell (block_in fl i.context) n ≡ true → is_store (block_in fl i.context) n ≡ false
+    Reading : (n : ℕ) (v : Value) → i.inlet.part ≡ InCell n → is_cell (block_in fl i.context) n ≡ true → is_store (block_in fl i.context) n ≡ false
         → i.held ≡ v ∷ [] → t ≡ tagged i.context (AtNode n) (Operand 0) v → Says i t
     Argument : (n l : ℕ) (v : Value) → i.inlet.part ≡ Sender n l → is_strict (block_in fl i.context) n ≡ true → i.inlet ≡ inlet (Sender n l) Right 0
         → t ≡ tagged i.context (AtNode n) (Operand l) v → Says i t
@@ -210,46 +210,46 @@ module _ (fl : Flow) (p : Plan) (w : Wires) (inputs : List ℤ) (past : Past) (m
     nothing (Datum v) h = absurd (contains_none t h)
     nothing u h = absurd (contains_none t h)
 
-    telling : (r : Part) → i.inlet.part ≡ r → waits_in (block_in fl i.context) r ≡ true → (x : Port) → i.inlet.port ≡ x → (y : ℕ) → i.inlet.way ≡ y → (u : Note)
-        → Contains (told_word fl i.context r x y u) t → Says i t
-    telling (Line n) e two Left g y z (Datum v) h = AtLeft n v e two g (one_of _ t h)
-    telling (Line n) e two Right g y z (Datum v) h = AtRight n v e two g (one_of _ t h)
-    telling (Gate n) e two Left g y z (Datum v) h = GateLeft n v e (there i c (Gate n) e) g (one_of _ t h)
-    telling (Gate n) e two Right g y z (Datum v) h = GateRight n v e (there i c (Gate n) e) g (one_of _ t h)
-    telling (TurnValue j) e two Left g y z (Datum v) h = TurnLeft j v e g (one_of _ t h)
-    telling (TurnValue j) e two Right g y z (Datum v) h = TurnRight j v e g (one_of _ t h)
-    telling (Result j) e two Right g y z (Datum v) h = absurd (result_not i c j e g)
-    telling (LastReturn j) e two Right g y z (Datum v) h = absurd (last_not i c j e g)
-    telling (NextSender j) e two Right g y z (Datum v) h = absurd (next_not i c j e g)
-    telling (NextSender zero) e two Left g y z (Datum v) h = absurd (contains_none t h)
-    telling (NextSender (suc j)) e two Left g y z (Datum v) h = absurd (contains_none t h)
-    telling (Sender n l) e two Right g zero z (Datum v) h =
+    group : (r : Part) → i.inlet.part ≡ r → waits_in (block_in fl i.context) r ≡ true → (x : Port) → i.inlet.port ≡ x → (y : ℕ) → i.inlet.way ≡ y → (u : Note)
+        → Contains (meant_word fl i.context r x y u) t → Says i t
+    group (Line n) e two Left g y z (Datum v) h = AtLeft n v e two g (one_of _ t h)
+    group (Line n) e two Right g y z (Datum v) h = AtRight n v e two g (one_of _ t h)
+    group (Gate n) e two Left g y z (Datum v) h = GateLeft n v e (there i c (Gate n) e) g (one_of _ t h)
+    group (Gate n) e two Right g y z (Datum v) h = GateRight n v e (there i c (Gate n) e) g (one_of _ t h)
+    group (TurnValue j) e two Left g y z (Datum v) h = TurnLeft j v e g (one_of _ t h)
+    group (TurnValue j) e two Right g y z (Datum v) h = TurnRight j v e g (one_of _ t h)
+    group (Result j) e two Right g y z (Datum v) h = absurd (result_not i c j e g)
+    group (LastReturn j) e two Right g y z (Datum v) h = absurd (last_not i c j e g)
+    group (NextSender j) e two Right g y z (Datum v) h = absurd (next_not i c j e g)
+    group (NextSender zero) e two Left g y z (Datum v) h = absurd (contains_none t h)
+    group (NextSender (suc j)) e two Left g y z (Datum v) h = absurd (contains_none t h)
+    group (Sender n l) e two Right g zero z (Datum v) h =
         let (s, o) = argument_of i c n l e g in Argument n l v e s (λ k. inlet (e k) (g k) (z k)) (one_of _ t h)
-    telling (Sender n l) e two Right g (suc y) z (Datum v) h =
+    group (Sender n l) e two Right g (suc y) z (Datum v) h =
         let (s, o) = argument_of i c n l e g in let q : suc y ≡ 0 = sym z ∙ o in absurd (omega (arith, q))
-    telling (Merge n) e two x g y z u h = absurd (true≢false (sym two))
-    telling (Answer n) e two x g y z u h = absurd (true≢false (sym two))
-    telling (Landing n j) e two x g y z u h = absurd (true≢false (sym two))
-    telling (Shown j) e two x g y z u h = absurd (true≢false (sym two))
-    telling r e two x g y z (Datum v) h = absurd (contains_none t h)
-    telling r e two x g y z u h = absurd (contains_none t h)
+    group (Merge n) e two x g y z u h = absurd (true≢false (sym two))
+    group (Answer n) e two x g y z u h = absurd (true≢false (sym two))
+    group (Landing n j) e two x g y z u h = absurd (true≢false (sym two))
+    group (Shown j) e two x g y z u h = absurd (true≢false (sym two))
+    group r e two x g y z (Datum v) h = absurd (contains_none t h)
+    group r e two x g y z u h = absurd (contains_none t h)
 
-    slot_word : (r : Part) → waits_in (block_in fl i.context) r ≡ true → told_by fl i r ≡ told_word fl i.context r i.inlet.port i.inlet.way i.word
-    slot_word (Held n) e = absurd (true≢false (sym e))
+    slot_word : (r : Part) → waits_in (block_in fl i.context) r ≡ true → meant_by fl i r ≡ meant_word fl i.context r i.inlet.port i.inlet.way i.word
+    slot_word (InCell n) e = absurd (true≢false (sym e))
     slot_word r e = refl
 
-    pub credit_told : (r : Part) → is_credit r ≡ true → Contains (told_by fl i r) t → ⊥
-    credit_told (Giver n) e h = go i.word h
+    pub credit_meant : (r : Part) → is_credit r ≡ true → Contains (meant_by fl i r) t → ⊥
+    credit_meant (Giver n) e h = go i.word h
       where
-        go : (u : Note) → Contains (told_word fl i.context (Giver n) i.inlet.port i.inlet.way u) t → ⊥
+        go : (u : Note) → Contains (meant_word fl i.context (Giver n) i.inlet.port i.inlet.way u) t → ⊥
         go (Datum v) h = contains_none t h
         go u h = contains_none t h
-    credit_told (Drainer n) e h = go i.word h
+    credit_meant (Drainer n) e h = go i.word h
       where
-        go : (u : Note) → Contains (told_word fl i.context (Drainer n) i.inlet.port i.inlet.way u) t → ⊥
+        go : (u : Note) → Contains (meant_word fl i.context (Drainer n) i.inlet.port i.inlet.way u) t → ⊥
         go (Datum v) h = contains_none t h
         go u h = contains_none t h
-    credit_told r e h = true≢false (sym e)
+    credit_meant r e h = true≢false (sym e)
 
   -- a reader carries its index
   pub record Reader (i : Item) (n : ℕ) : Type 0 where
@@ -257,24 +257,31 @@ module _ (fl : Flow) (p : Plan) (w : Wires) (inputs : List ℤ) (past : Past) (m
     pub store : is_store (block_in fl i.context) n ≡ false
     pub index : Value
     pub held : i.held ≡ index ∷ []
-    pub told : told fl i ≡ tagged i.context (AtNode n) (Operand 0) index ∷ []
+    pub meant : meant fl i ≡ tagged i.context (AtNode n) (Operand 0) index ∷ []
 
-  pub reader : (i : Item) (n : ℕ) → Waits' i → i.inlet.part ≡ Held n → Reader i n
+  pub reader : (i : Item) (n : ℕ) → Waits' i → i.inlet.part ≡ InCell n → Reader i n
   reader i n c e =
-      let store = kept.follows.stands.no_store i n c e in
+      let store = kept.tracks.stands.no_store i n c e in
       let long = holds_of fl w i n e (word fl p w inputs past m good fit kept i (stood i c)) in
       let (v, held) = one_element i.held (long ∙ ap (λ (t : Bool). if t then 2 else 1) store) in
-      record { cell = there i c (Held n) e; store = store; index = v; held = held; told = ap (told_by fl i) e ∙ ap (operands_from i.context (AtNode n) 0) held }
+      record {
+        cell = there i c (InCell n) e;
+        store = store;
+        index = v;
+        held = held;
+        meant = ap (meant_by fl i) e
+            ∙ ap (operands_from i.context (AtNode n) 0) held;
+      }
 
-  pub says : (i : Item) → Waits' i → (t : Tagged) → Contains (told fl i) t → Says i t
+  pub says : (i : Item) → Waits' i → (t : Tagged) → Contains (meant fl i) t → Says i t
   says i c t h = pick (waits fl p w inputs past m good fit kept rests wants i c)
     where
       pick : Waits fl p w inputs past m good fit kept rests wants i → Says i t
       pick (InSlot e) =
-          telling i c t i.inlet.part refl e i.inlet.port refl i.inlet.way refl i.word
+          group i c t i.inlet.part refl e i.inlet.port refl i.inlet.way refl i.word
           (subst (λ (l : List Tagged). Contains l t) (slot_word i c t i.inlet.part e) h)
-      pick (OfLoop e) = absurd (credit_told i c t i.inlet.part e h)
-      pick (AtCell n e) = let r = reader i n c e in Reading n r.index e r.cell r.store r.held (one_of _ t (subst (λ (l : List Tagged). Contains l t) r.told h))
+      pick (OfLoop e) = absurd (credit_meant i c t i.inlet.part e h)
+      pick (AtCell n e) = let r = reader i n c e in Reading n r.index e r.cell r.store r.held (one_of _ t (subst (λ (l : List Tagged). Contains l t) r.meant h))
 
   -- A STRICT CALL of which all arguments wait would have fired
   module _ (c : Context) (con' : IsContext fl c) (n : ℕ) (strict : is_strict (block_in fl c) n ≡ true) where
@@ -285,7 +292,7 @@ module _ (fl : Flow) (p : Plan) (w : Wires) (inputs : List ℤ) (past : Past) (m
     count = source_count (block_in fl c) n
 
     abbrev Fires : Part → Type 0
-    Fires r = HasFired c r kept.follows.net.fired
+    Fires r = HasFired c r kept.tracks.net.fired
 
     module _ (all : (l : ℕ) → l < source_count (block_in fl c) n → Argued l) (some : 0 < source_count (block_in fl c) n) where
       called : is_call (block_in fl c) n ≡ true
@@ -340,7 +347,7 @@ module _ (fl : Flow) (p : Plan) (w : Wires) (inputs : List ℤ) (past : Past) (m
           (ap (λ (t : Bool). if t then inlet (Framer n) Left 0 else inlet (Strict n (count - 1 + 1)) Left 0) (eq-eqb (count - 1 + 1) count last))
           (behind (count - 1) (omega (arith, some))) in
           let part : i.inlet.part ≡ Framer n = ap (λ (x : Inlet). x.part) x in
-          let (h, d, y, z) = fires_alone fl p w inputs past m good fit kept rests wants i s (ap (waits_in (block_in fl i.context)) part) (ap is_held part)
+          let (h, d, y, z) = fires_alone fl p w inputs past m good fit kept rests wants i s (ap (waits_in (block_in fl i.context)) part) (ap is_in_cell part)
           (ap is_credit part) in
           (h, d, y ∙ a, z ∙ part)
 

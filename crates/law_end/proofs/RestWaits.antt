@@ -18,16 +18,17 @@ use Rattle.semantics.specs.Plan.{Plan}
 use Rattle.semantics.specs.Meaning.{Context}
 use Rattle.semantics.specs.Machine.{Machine, Resting, Wants}
 use Rattle.law_confluence.proofs.Orders.{empty_list}
-use Rattle.law_net.specs.ContextsParts.{Part, Opener, Framer, NextFramer, Sender, Taker, Giver, Drainer, Asked, NextAsked, Held, Drained, inlet, Note, Datum}
+use Rattle.law_net.specs.ContextsParts.{Part, Opener, Framer, NextFramer, Sender, Taker, Giver, Drainer, Asked, NextAsked, InCell, Drained, inlet, Note, Datum}
 use Rattle.law_net.specs.ContextsParts.{BackTo, signal, Item, item, Firing}
 use Rattle.law_net.specs.ContextsBlocks.{waits_in, is_loop}
 use Rattle.law_net.specs.Contexts.{Wires, block_in, wiring_in, IsContext, is_strict_in}
-use Rattle.law_net.specs.ContextsWires.{comes_at}
+use Rattle.law_net.specs.ContextsWires.{arrives_at}
 use Rattle.law_net.specs.ContextsCredits.{waits_or}
 use Rattle.law_net.specs.ContextsFirings.{takes, own_takes, renewed, request_of, given_back, arguments_from, left_item, right_way, times, turn_before, HasFired}
 use Rattle.law_net.specs.ContextsLaws.{spot_there, port_fits, Carries}
-use Rattle.law_net.specs.ContextsStands.{Past, cont_in, frame_of, word_of, slot_of, in_slot, on_side, is_asked, is_held, only, conts_of, is_item_at, token_of}
-use Rattle.law_net.specs.ContextsStands.{granted_of}
+use Rattle.law_net.specs.ContextsMirror.{Past, cont_in, frame_of, word_of, slot_of, in_slot, on_side, is_asked, is_in_cell, only, conts_of}
+use Rattle.law_net.specs.ContextsMirror.{is_item_at, token_of}
+use Rattle.law_net.specs.ContextsMirror.{granted_of}
 use Rattle.law_net.specs.ContextsTheorem.{IsGood}
 use Rattle.law_net.specs.ContextsPackages.{Keeps, InputsFit}
 use Rattle.law_net.proofs.ContextsWords.{carries_of}
@@ -37,7 +38,7 @@ use Rattle.law_net.proofs.RunsPigeons.{item_here}
 use Rattle.law_net.proofs.CreditsOpened.{NTaker}
 use Rattle.law_net.proofs.CreditsTurns.{no_later, turns_now}
 use Rattle.law_net.proofs.Credits.{firing_of, near_opened, keeps, slot_is, open_form}
-use Rattle.law_end.proofs.OverMade.{fits, word, left_stands, Stands}
+use Rattle.law_end.proofs.OverMade.{fits, word, left_stands, Mirrors}
 use Rattle.law_end.proofs.RestCells.{one_of, map_empty}
 
 -- what a firing takes for another part than its own: credits, and the arguments of a strict call
@@ -87,7 +88,7 @@ module _ (fl : Flow) (h : Firing) (i : Item) where
       let g = one_of (left_item h.context r h.way h.left) i c in (ap (λ (i : Item). i.context) g, Own (ap (λ (i : Item). i.inlet.part) g ∙ sym e))
 
   owned : (r : Part) → h.part ≡ r → Contains (own_takes fl h r) i → (i.context ≡ h.context) × Takes h i
-  owned (Held n) e c = let g = one_of (request_of h) i c in (ap (λ (i : Item). i.context) g, Own (ap (λ (i : Item). i.inlet.part) g))
+  owned (InCell n) e c = let g = one_of (request_of h) i c in (ap (λ (i : Item). i.context) g, Own (ap (λ (i : Item). i.inlet.part) g))
   owned (Drained n) e c = pick (contains_cases (item h.context (inlet (Drainer n) Left h.turns) h.left) (given_back h.context n (h.turns + 1)) i c)
     where
       pick : (item h.context (inlet (Drainer n) Left h.turns) h.left ≡ i) ⊎ Contains (given_back h.context n (h.turns + 1)) i
@@ -118,21 +119,21 @@ in_waiter false D o d s e f = ap (λ (o : Option Cont). waits_or o s) f
 module _ (fl : Flow) (p : Plan) (w : Wires) (inputs : List ℤ) (past : Past) (m : Machine) (good : IsGood fl p w) (fit : InputsFit fl inputs)
     (kept : Keeps fl p w inputs past m) where
   abbrev pub Waiting : Item → Type 0
-  Waiting i = Contains kept.follows.net.waiting i
+  Waiting i = Contains kept.tracks.net.waiting i
 
   abbrev done : List Firing
-  done = kept.follows.net.fired
+  done = kept.tracks.net.fired
 
   abbrev Stood : Item → Type 0
-  Stood i = Stands fl p w inputs past m good fit kept i
+  Stood i = Mirrors fl p w inputs past m good fit kept i
 
-  pub left_of : (i : Item) → Waiting i → Contains (kept.follows.net.pending ++ kept.follows.net.waiting) i
-  left_of i c = Contains-append_right kept.follows.net.pending kept.follows.net.waiting i c
+  pub left_of : (i : Item) → Waiting i → Contains (kept.tracks.net.pending ++ kept.tracks.net.waiting) i
+  left_of i c = Contains-append_right kept.tracks.net.pending kept.tracks.net.waiting i c
 
   pub stood_of : (i : Item) → Waiting i → Stood i
   stood_of i c = left_stands fl p w inputs past m good fit kept i (left_of i c)
 
-  pub carries : (i : Item) → Stood i → Carries fl w i.context i.inlet.way (comes_at i.inlet.part i.inlet.port) i.word
+  pub carries : (i : Item) → Stood i → Carries fl w i.context i.inlet.way (arrives_at i.inlet.part i.inlet.port) i.word
   carries i c = carries_of fl w i (word fl p w inputs past m good fit kept i c)
 
   -- TWO WORDS of one part do not both wait
@@ -144,8 +145,8 @@ module _ (fl : Flow) (p : Plan) (w : Wires) (inputs : List ℤ) (past : Past) (m
       let theirs : waits_in (block_in fl j.context) j.inlet.part ≡ true = ap (port_fits fl j.context j.inlet.part) (sym right)
       ∙ (fits fl p w inputs past m good fit kept j (stood_of j d)).port in
       let mine : waits_in (block_in fl i.context) i.inlet.part ≡ true = (λ t. waits_in (block_in fl (at t)) (part t)) ∙ theirs in
-      let a = kept.follows.stands.slots.waits i (only_has (in_slot fl) kept.follows.net.waiting i c mine) in
-      let e = kept.follows.stands.slots.waits j (only_has (in_slot fl) kept.follows.net.waiting j d theirs) in
+      let a = kept.tracks.stands.slots.waits i (only_has (in_slot fl) kept.tracks.net.waiting i c mine) in
+      let e = kept.tracks.stands.slots.waits j (only_has (in_slot fl) kept.tracks.net.waiting j d theirs) in
       let place : m.store.slots (frame_of fl done i.context) (slot_of fl w i) ≡ m.store.slots (frame_of fl done j.context) (slot_of fl w j) =
       (λ t. m.store.slots (frame_of fl done (at t)) ((wiring_in fl w (at t)).slot (part t))) in
       let two : Slot.Left (word_of fl p w done i.word) ≡ Slot.Right (word_of fl p w done j.word) =
@@ -154,36 +155,36 @@ module _ (fl : Flow) (p : Plan) (w : Wires) (inputs : List ℤ) (past : Past) (m
       absurd (cc)
 
   -- WHAT WANTS: a request for a frame, and one for a credit
-  request_word : (c : Context) (t : ℕ) (r : Part) (x : Port) (k : Note) → is_asked r ≡ true → Carries fl w c t (comes_at r x) k
+  request_word : (c : Context) (t : ℕ) (r : Part) (x : Port) (k : Note) → is_asked r ≡ true → Carries fl w c t (arrives_at r x) k
       → (d : Cont) × (cont_in (word_of fl p w done k) ≡ d ∷ [])
   request_word c t (Asked n) x k e h = (_, ap (λ (k : Note). cont_in (word_of fl p w done k)) h)
   request_word c t NextAsked x k e h = (_, ap (λ (k : Note). cont_in (word_of fl p w done k)) h)
   request_word c t r x k e h = absurd (true≢false (sym e))
 
   conts_has : (test : Item → Bool) (i : Item) (d : Cont) → Waiting i → test i ≡ true → cont_in (word_of fl p w done i.word) ≡ d ∷ []
-      → Contains (conts_of fl p w done (only test kept.follows.net.waiting)) d
+      → Contains (conts_of fl p w done (only test kept.tracks.net.waiting)) d
   conts_has test i d c e g =
-      flat_contains (λ (i : Item). cont_in (word_of fl p w done i.word)) (only test kept.follows.net.waiting) i d (only_has test kept.follows.net.waiting i c e)
+      flat_contains (λ (i : Item). cont_in (word_of fl p w done i.word)) (only test kept.tracks.net.waiting) i d (only_has test kept.tracks.net.waiting i c e)
       (subst (λ (l : List Cont). Contains l d) (sym g) (contains_head d []))
 
   pub asked_wants : (i : Item) → Waiting i → is_asked i.inlet.part ≡ true → Wants m
   asked_wants i c e =
       let (d, g) = request_word i.context i.inlet.way i.inlet.part i.inlet.port i.word e (carries i (stood_of i c)) in
       inl (λ none. contains_none d (subst (λ (l : List Cont). Contains l d)
-      (empty_list (conts_of fl p w done (only (λ (i : Item). is_asked i.inlet.part) kept.follows.net.waiting)) m.store.requests
-      (IsPermutation-sym _ _ kept.follows.stands.requests) none) (conts_has (λ (i : Item). is_asked i.inlet.part) i d c e g)))
+      (empty_list (conts_of fl p w done (only (λ (i : Item). is_asked i.inlet.part) kept.tracks.net.waiting)) m.store.requests
+      (IsPermutation-sym _ _ kept.tracks.stands.requests) none) (conts_has (λ (i : Item). is_asked i.inlet.part) i d c e g)))
 
   pub taker_wants : (i : Item) (n : ℕ) → Waiting i → i.inlet.part ≡ Taker n → Wants m
   taker_wants i n c e =
       let con = (fits fl p w inputs past m good fit kept i (stood_of i c)).is_context in
       let loop : is_loop (block_in fl i.context) n ≡ true = ap (spot_there fl w i.context) (sym e)
       ∙ (fits fl p w inputs past m good fit kept i (stood_of i c)).there in
-      let (g, at) = kept.follows.stands.known i (stood_of i c) in
+      let (g, at) = kept.tracks.stands.known i (stood_of i c) in
       let opened = near_opened fl p w inputs past m good kept i.context con n loop i (stood_of i c) (NTaker refl e) in
       let law = keeps fl p w inputs past m good kept i.context con n loop in
       let back : i.word ≡ BackTo (turn_before i.context n i.inlet.way) (inlet NextFramer Left 0) =
-      subst (λ (r : Part). Carries fl w i.context i.inlet.way (comes_at r i.inlet.port) i.word) e (carries i (stood_of i c)) in
-      let (d, first) = first_cont_some (conts_of fl p w done (only (is_item_at i.context (Taker n)) kept.follows.net.waiting)) _
+      subst (λ (r : Part). Carries fl w i.context i.inlet.way (arrives_at r i.inlet.port) i.word) e (carries i (stood_of i c)) in
+      let (d, first) = first_cont_some (conts_of fl p w done (only (is_item_at i.context (Taker n)) kept.tracks.net.waiting)) _
       (conts_has (is_item_at i.context (Taker n)) i _ c (item_here i.context (Taker n) i refl e) (ap (λ (k : Note). cont_in (word_of fl p w done k)) back)) in
       let way = law.takes i (left_of i c) refl e in
       let over : nat_lt 0 (times i.context (Drained n) done) ≡ false =
@@ -199,50 +200,50 @@ module _ (fl : Flow) (p : Plan) (w : Wires) (inputs : List ℤ) (past : Past) (m
       )
     where
       none_over : (con : IsContext fl i.context) → is_loop (block_in fl i.context) n ≡ true → 0 < times i.context (Opener n) done
-          → i.inlet.way ≡ granted_of kept.follows.net i.context n → (times i.context (Drained n) done ≡ 0) ⊎ (times i.context (Drained n) done ≡ 0 → ⊥)
+          → i.inlet.way ≡ granted_of kept.tracks.net i.context n → (times i.context (Drained n) done ≡ 0) ⊎ (times i.context (Drained n) done ≡ 0 → ⊥)
           → times i.context (Drained n) done ≤ 0
       none_over con loop opened way (inl z) = omega (arith, z)
       none_over con loop opened way (inr x) =
-          let (h, come, a, b) = firing_of i.context (Drained n) done (omega (arith, x)) in
-          let low = no_later fl p w inputs past m good kept i.context con n loop h come a b i (stood_of i c) refl e in
-          let turns = subst (λ (c : Context). h.turns ≤ times c (Taker n) done) a (turns_now fl p w inputs past m good kept h n come b) in
+          let (h, arrive, a, b) = firing_of i.context (Drained n) done (omega (arith, x)) in
+          let low = no_later fl p w inputs past m good kept i.context con n loop h arrive a b i (stood_of i c) refl e in
+          let turns = subst (λ (c : Context). h.turns ≤ times c (Taker n) done) a (turns_now fl p w inputs past m good kept h n arrive b) in
           absurd (omega (arith, low, turns, opened, way))
 
   -- AT REST
   module _ (rests : Resting m) (wants : Wants m → ⊥) where
-    pub rests_net : kept.follows.net.pending ≡ []
+    pub rests_net : kept.tracks.net.pending ≡ []
     rests_net =
-        map_empty (token_of fl p w done) kept.follows.net.pending
-        (empty_list (map (token_of fl p w done) kept.follows.net.pending) m.pool (IsPermutation-sym _ _ kept.follows.stands.pool) rests)
+        map_empty (token_of fl p w done) kept.tracks.net.pending
+        (empty_list (map (token_of fl p w done) kept.tracks.net.pending) m.pool (IsPermutation-sym _ _ kept.tracks.stands.pool) rests)
 
     -- what stands waits, or was taken
-    pub waits_or_taken : (i : Item) → Stood i → Waiting i ⊎ ((h : Firing) × Contains kept.follows.net.fired h × Contains (takes fl h) i)
-    waits_or_taken i c = first (Contains-append_cases kept.follows.net.pending (kept.follows.net.waiting ++ flat_map (takes fl) done) i c)
+    pub waits_or_taken : (i : Item) → Stood i → Waiting i ⊎ ((h : Firing) × Contains kept.tracks.net.fired h × Contains (takes fl h) i)
+    waits_or_taken i c = first (Contains-append_cases kept.tracks.net.pending (kept.tracks.net.waiting ++ flat_map (takes fl) done) i c)
       where
         second : Waiting i ⊎ Contains (flat_map (takes fl) done) i → Waiting i ⊎ ((h : Firing) × Contains done h × Contains (takes fl h) i)
         second (inl d) = inl d
         second (inr d) = inr (contains_flat_mapped (takes fl) done i d)
 
-        first : Contains kept.follows.net.pending i ⊎ Contains (kept.follows.net.waiting ++ flat_map (takes fl) done) i
+        first : Contains kept.tracks.net.pending i ⊎ Contains (kept.tracks.net.waiting ++ flat_map (takes fl) done) i
             → Waiting i ⊎ ((h : Firing) × Contains done h × Contains (takes fl h) i)
         first (inl d) = absurd (contains_none i (subst (λ (l : List Item). Contains l i) rests_net d))
-        first (inr d) = second (Contains-append_cases kept.follows.net.waiting (flat_map (takes fl) done) i d)
+        first (inr d) = second (Contains-append_cases kept.tracks.net.waiting (flat_map (takes fl) done) i d)
 
     -- WHAT WAITS: for another word, at a cell, or a credit that was given back
     pub data Waits (i : Item) : Type 0 where
       InSlot : waits_in (block_in fl i.context) i.inlet.part ≡ true → Waits i
-      AtCell : (n : ℕ) → i.inlet.part ≡ Held n → Waits i
+      AtCell : (n : ℕ) → i.inlet.part ≡ InCell n → Waits i
       OfLoop : is_credit i.inlet.part ≡ true → Waits i
 
-    held_part : (r : Part) → is_held r ≡ true → (n : ℕ) × (r ≡ Held n)
-    held_part (Held n) e = (n, refl)
+    held_part : (r : Part) → is_in_cell r ≡ true → (n : ℕ) × (r ≡ InCell n)
+    held_part (InCell n) e = (n, refl)
     held_part r e = absurd (true≢false (sym e))
 
     pub waits : (i : Item) → Waiting i → Waits i
-    waits i c = pick (kept.follows.stands.waits i c)
+    waits i c = pick (kept.tracks.stands.waits i c)
       where
         pick : (in_slot fl i ≡ true) ⊎ ((is_asked i.inlet.part ≡ true)
-            ⊎ ((is_held i.inlet.part ≡ true) ⊎ ((n : ℕ) × ((i.inlet.part ≡ Giver n) ⊎ ((i.inlet.part ≡ Taker n) ⊎ (i.inlet.part ≡ Drainer n)))))) → Waits i
+            ⊎ ((is_in_cell i.inlet.part ≡ true) ⊎ ((n : ℕ) × ((i.inlet.part ≡ Giver n) ⊎ ((i.inlet.part ≡ Taker n) ⊎ (i.inlet.part ≡ Drainer n)))))) → Waits i
         pick (inl e) = InSlot e
         pick (inr (inl e)) = absurd (wants (asked_wants i c e))
         pick (inr (inr (inl e))) = let (n, g) = held_part i.inlet.part e in AtCell n g
@@ -251,13 +252,13 @@ module _ (fl : Flow) (p : Plan) (w : Wires) (inputs : List ℤ) (past : Past) (m
         pick (inr (inr (inr (n, inr (inr e))))) = OfLoop (ap is_credit e)
 
     -- A PART that takes one word: what came there was taken
-    pub fires_alone : (i : Item) → Stood i → waits_in (block_in fl i.context) i.inlet.part ≡ false → is_held i.inlet.part ≡ false
+    pub fires_alone : (i : Item) → Stood i → waits_in (block_in fl i.context) i.inlet.part ≡ false → is_in_cell i.inlet.part ≡ false
         → is_credit i.inlet.part ≡ false → HasFired i.context i.inlet.part done
     fires_alone i c single cell credit = pick (waits_or_taken i c)
       where
         no_wait : Waits i → ⊥
         no_wait (InSlot e) = true≢false (sym e ∙ single)
-        no_wait (AtCell n e) = true≢false (ap is_held (sym e) ∙ cell)
+        no_wait (AtCell n e) = true≢false (ap is_in_cell (sym e) ∙ cell)
         no_wait (OfLoop e) = true≢false (sym e ∙ credit)
 
         by_taking : (h : Firing) → Contains done h → (i.context ≡ h.context) × Takes h i → HasFired i.context i.inlet.part done

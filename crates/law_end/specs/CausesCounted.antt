@@ -7,7 +7,7 @@ use Rattle.semantics.specs.Cause.{request_count, credit_count, is_turn}
 use Rattle.law_net.specs.ContextsParts.{Part, Asked, NextAsked, Opener, Taker, Item}
 use Rattle.law_net.specs.Contexts.{child, next}
 use Rattle.law_net.specs.ContextsFirings.{Config}
-use Rattle.law_net.specs.ContextsStands.{Past}
+use Rattle.law_net.specs.ContextsMirror.{Past}
 use Rattle.law_net.proofs.WiredNets.{all_of}
 
 -- a frame is asked for this context
@@ -31,7 +31,7 @@ credits i = credit_for i.context i.inlet.part i.inlet.way
 -- each context once, and at least as many as requests; and as many turns as credits
 pub record IsCounted (fl : Flow) (p : Plan) (past : Past) (net : Config) : Type 0 where
   pub due : List Context
-  pub comes : (c : Context) → Contains due c → (i : Item) × Contains (all_of fl net) i × (Contains (frames fl i) c ⊎ Contains (credits i) c)
+  pub arrives : (c : Context) → Contains due c → (i : Item) × Contains (all_of fl net) i × (Contains (frames fl i) c ⊎ Contains (credits i) c)
   pub apart : (i j : ℕ) (c : Context) → slice_get due i ≡ Some c → slice_get due j ≡ Some c → i ≡ j
   pub enough : request_count past.events ≤ length due
   pub turns : credit_count p.program past.events ≤ count_by is_turn due

@@ -7,14 +7,15 @@ use Rattle.semantics.specs.Meaning.{Context, Called, Turned}
 use Rattle.semantics.specs.Cause.{is_turn}
 use Rattle.semantics.specs.Machine.{Machine}
 use Rattle.semantics.specs.Plan.{Plan}
-use Rattle.law_net.specs.ContextsParts.{Part, Giver, Taker, Drainer, Drained, Asked, NextAsked, Held, CallDone, LoopDone, End, Shown, Done, Freed, Item, Firing}
+use Rattle.law_net.specs.ContextsParts.{Part, Giver, Taker, Drainer, Drained, Asked, NextAsked, InCell, CallDone, LoopDone, End, Shown, Done, Freed}
+use Rattle.law_net.specs.ContextsParts.{Item, Firing}
 use Rattle.law_net.specs.ContextsParts.{role_of}
 use Rattle.law_net.specs.ContextsBlocks.{there_in, invokes, is_cell, is_loop, lies_in, region_of, flag}
 use Rattle.law_net.specs.Contexts.{Wires, block_in, site_in, wiring_in}
 use Rattle.law_net.specs.ContextsAround.{Choice, Way}
 use Rattle.law_net.specs.ContextsFirings.{Config, HasFired}
 use Rattle.law_net.specs.ContextsLaws.{in_region, source, says}
-use Rattle.law_net.specs.ContextsStands.{Past}
+use Rattle.law_net.specs.ContextsMirror.{Past}
 use Rattle.law_net.specs.ContextsTheorem.{IsGood}
 use Rattle.law_net.specs.ContextsPackages.{InputsFit, Keeps}
 
@@ -49,7 +50,7 @@ pub record EndIsLast (fl : Flow) (w : Wires) (net : Config) (c : Context) : Type
   -- the manager, and cells, have answered; all credits of a loop are back
   pub asked : (n : ℕ) → invokes (block_in fl c) n ≡ true → IsOpen fl w net.fired c (lies_in (block_in fl c) n) → HasFired c (Asked n) net.fired
   pub next_asked : is_turn c ≡ true → IsOpen fl w net.fired c (Arm (flag (block_in fl c)) true) → HasFired c NextAsked net.fired
-  pub held : (n : ℕ) → is_cell (block_in fl c) n ≡ true → IsOpen fl w net.fired c (lies_in (block_in fl c) n) → HasFired c (Held n) net.fired
+  pub held : (n : ℕ) → is_cell (block_in fl c) n ≡ true → IsOpen fl w net.fired c (lies_in (block_in fl c) n) → HasFired c (InCell n) net.fired
   pub drained : (n : ℕ) → is_loop (block_in fl c) n ≡ true → IsOpen fl w net.fired c (lies_in (block_in fl c) n) → HasFired c (Drained n) net.fired
   pub none_left : (i : Item) → Contains (net.pending ++ net.waiting) i → i.context ≡ c → is_leaving i.inlet.part ≡ false → ⊥
 
@@ -68,7 +69,7 @@ LoopIsOver fl net c n = HasFired c (LoopDone n) net.fired → TurnsAreOver fl ne
 -- ALONG A RUN
 abbrev pub OfNets : (Flow → Wires → Config → Type 0) → Type 0
 OfNets P = (fl : Flow) (p : Plan) (w : Wires) (inputs : List ℤ) (q : Past) (m : Machine) → IsGood fl p w → InputsFit fl inputs
-    → (k : Keeps fl p w inputs q m) → P fl w k.follows.net
+    → (k : Keeps fl p w inputs q m) → P fl w k.tracks.net
 
 abbrev pub EndsAreLast : Flow → Wires → Config → Type 0
 EndsAreLast fl w net = (c : Context) → HasFired c End net.fired → EndIsLast fl w net c

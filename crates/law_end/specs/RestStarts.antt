@@ -8,7 +8,7 @@ use Rattle.law_net.specs.ContextsBlocks.{Side, side, Wiring, Site, there_in, is_
 use Rattle.law_net.specs.ContextsWires.{is_start}
 use Rattle.law_net.specs.Contexts.{Wires, site_in, wiring_in, IsContext}
 
--- where the arguments of a strict call are joined: behind the l-th one there is the next join, or the request for the frame
+-- where the arguments of a strict call are joined: after the l-th one there is the next join, or the request for the frame
 abbrev pub join_after : Block ℕ → ℕ → ℕ → Inlet
 join_after b n l = if l + 1 == source_count b n then inlet (Framer n) Left 0 else inlet (Strict n (l + 1)) Left 0
 

@@ -12,6 +12,6 @@ pub fn ends_are_last()
 {}
 
 /// And so nothing names a frame any more when it can be taken back.
-pub fn frames_come_back()
+pub fn frames_return()
     ensures release { OfRuns ReleasesLast }
 {}

@@ -1,6 +1,6 @@
 //! When a context is over, what a run at rest shows, and what is left.
 //!
-//! **The statements.** `ends_are_last`, `frames_come_back` (`specs/Over`): when the last part of a context has fired, all has fired that lies in open
+//! **The statements.** `ends_are_last`, `frames_return` (`specs/Over`): when the last part of a context has fired, all has fired that lies in open
 //! arms, nothing of the context is left, what it invoked is over; so nothing names a frame when it can be taken back. `rest_holds` (`specs/Rest`): a
 //! store to a full cell is a second store of the meaning; at rest, with nothing wanted, the machine shows what the graph means; each request for a
 //! frame or a credit has its cause in the meaning. `nothing_is_left`: at rest, with nothing wanted and no reader waiting, no frame is out and every
@@ -30,5 +30,5 @@ mod last_parts;
 mod none_left;
 
 pub use at_rest::rest_holds;
-pub use last_parts::{ends_are_last, frames_come_back};
+pub use last_parts::{ends_are_last, frames_return};
 pub use none_left::nothing_is_left;

@@ -12,17 +12,17 @@ use Rattle.semantics.specs.Program.{Instr, CodeBlock, Program, first_of, instr_a
 use Rattle.semantics.specs.Plan.{Plan, landing, landing_in}
 use Rattle.semantics.specs.Orderly.{same_block, IsMarked}
 use Rattle.code.specs.Sound.{IsSound}
-use Rattle.law_reuse.proofs.SlotsStands.{one_block, stands_within, Found, found}
+use Rattle.law_reuse.proofs.SlotsPlaced.{one_block, stands_within, Found, found}
 use Rattle.fanout.specs.Places.{size, place_of}
 use Rattle.fanout.specs.Narrowed.{layout_of, narrowed, narrowed_block, narrowed_blocks}
-use Rattle.fanout.specs.Laws.{StandsClear}
+use Rattle.fanout.specs.Laws.{KeepsClear}
 use Rattle.fanout.specs.Trees.{moved}
 use Rattle.fanout.specs.Sides.{parted}
 use Rattle.fanout.proofs.Plans.{l, IsOld, IsNew, origin_of, mark_old}
 use Rattle.fanout.proofs.Arrows.{dests_stay}
-use Rattle.fanout.proofs.SoundFlags.{sound_stands_clear}
+use Rattle.fanout.proofs.SoundFlags.{sound_keeps_clear}
 use Rattle.law_fresh_frames.specs.Alike.{IsTidy}
-use Rattle.law_fanout.specs.Spreads.{StandsFor, here, fork}
+use Rattle.law_fanout.specs.Spreads.{Replaces, here, fork}
 use Rattle.std.specs.Option.{option_map}
 use Rattle.lemmas.proofs.Contains.{contains_cases, contains_none}
 use Rattle.lemmas.proofs.SliceGet.{map_get_back, get_some}
@@ -41,8 +41,8 @@ module _ (p : Plan) (s : IsSound p) (tidy : IsTidy p) where
   abbrev H : ℕ → ℕ
   H = new_ip p P.blocks
 
-  clear : StandsClear p
-  clear = sound_stands_clear p s
+  clear : KeepsClear p
+  clear = sound_keeps_clear p s
 
   -- the number lies in that block
   abbrev Inside : ℕ → ℕ → Type 0
@@ -74,7 +74,7 @@ module _ (p : Plan) (s : IsSound p) (tidy : IsTidy p) where
           here (x ∷ bs) zero e = let k : x ≡ c = cc in ap (λ (c : CodeBlock). Some (narrowed_block p c)) k
           here (x ∷ bs) (suc b) e = here bs b e
 
-  stands_inside : (b ip : ℕ) (r : Port) (xs : List Spot) (x : Spot) → StandsFor Q H ip r xs → Contains xs x → Inside b (H x.0) → Inside b ip
+  stands_inside : (b ip : ℕ) (r : Port) (xs : List Spot) (x : Spot) → Replaces Q H ip r xs → Contains xs x → Inside b (H x.0) → Inside b ip
   stands_inside b ip r xs x (here n t ys a at one) inside I = pick (contains_cases (a, r) [] x (subst (λ (l : List Spot). Contains l x) one inside))
     where
       pick : ((a, r) ≡ x) ⊎ Contains [] x → Inside b ip
@@ -91,7 +91,7 @@ module _ (p : Plan) (s : IsSound p) (tidy : IsTidy p) where
       go (inl c) f g = named_inside b ip K.i K.d K.there (subst (λ (l : List Dest). Contains l K.d) both (0, omega arith, refl)) (f c)
       go (inr c) f g = named_inside b ip K.i K.e K.there (subst (λ (l : List Dest). Contains l K.e) both (1, omega arith, refl)) (g c)
 
-  pub keeps_blocks : (ip jp : ℕ) (r t : Port) (xs ys : List Spot) (x y : Spot) → StandsFor Q H ip r xs → StandsFor Q H jp t ys → Contains xs x → Contains ys y
+  pub keeps_blocks : (ip jp : ℕ) (r t : Port) (xs ys : List Spot) (x y : Spot) → Replaces Q H ip r xs → Replaces Q H jp t ys → Contains xs x → Contains ys y
       → same_block P.blocks x.0 y.0 ≡ true → same_block Q.blocks ip jp ≡ true
   keeps_blocks ip jp r t xs ys x y sx sy cx cy e =
       let B = block_of P.blocks x.0 y.0 e in
@@ -123,14 +123,14 @@ module _ (p : Plan) (s : IsSound p) (tidy : IsTidy p) where
       go false (Some c) = refl
 
   -- each instruction of the new code stands for some of the old one
-  pub stands_for_some : (ip : ℕ) (j : Instr) → instr_at Q ip ≡ Some j → (zs : List Spot) × StandsFor Q H ip Left zs
+  pub stands_for_some : (ip : ℕ) (j : Instr) → instr_at Q ip ≡ Some j → (zs : List Spot) × Replaces Q H ip Left zs
   stands_for_some ip j at =
       let F : Found Q ip j = found Q ip j at in
       let o = map_get_back (narrowed_block p) P.blocks F.b F.stands.code F.stands.block in
       go F o.0 o.1 (origin_of p o.0 F.n j (ap (λ (c : CodeBlock). slice_get c.instrs F.n) o.2 ∙ F.stands.instr))
     where
       go : (F : Found Q ip j) (c : CodeBlock) → slice_get P.blocks F.b ≡ Some c → IsOld p c F.n j ⊎ IsNew p c F.n j
-          → (zs : List Spot) × StandsFor Q H ip Left zs
+          → (zs : List Spot) × Replaces Q H ip Left zs
       go F c e (inl K) =
           let k : H (first_of P F.b + K.v) ≡ first_in (narrowed_blocks p P.blocks) F.b + place_of (layout_of p c) K.v =
           ip_at p P.blocks F.b K.v c e (slice_get_within c.instrs K.v K.i K.there) in
@@ -139,4 +139,4 @@ module _ (p : Plan) (s : IsSound p) (tidy : IsTidy p) where
       go F c e (inr K) =
           let q = map_get_back parted c.instrs K.v K.i K.there in
           let x = copy_node p s tidy F.b c e K.v q.0 q.1 K.j (subst (λ (i : Instr). K.j < size i) (sym q.2) K.below) in
-          (x.0, subst (λ (n : ℕ). StandsFor Q H n Left x.0) (ap (λ (n : ℕ). first_of Q F.b + n) (sym K.at) ∙ sym F.place) x.1)
+          (x.0, subst (λ (n : ℕ). Replaces Q H n Left x.0) (ap (λ (n : ℕ). first_of Q F.b + n) (sym K.at) ∙ sym F.place) x.1)

@@ -10,11 +10,11 @@ use Rattle.semantics.specs.declared.program.Op.TheVariants.{Link, Send}
 use Rattle.semantics.specs.Program.{Instr, CodeBlock, first_of, instr_at}
 use Rattle.semantics.specs.Machine.{results_in}
 use Rattle.semantics.specs.Plan.{Plan, landing}
-use Rattle.semantics.specs.Wired.{StandsAt}
+use Rattle.semantics.specs.Wired.{IsInstrAt}
 use Rattle.semantics.specs.Orderly.{inputs_in}
 use Rattle.code.specs.Sound.{NamesRightly, IsSound}
 use Rattle.code.proofs.Mains.{main_block}
-use Rattle.law_reuse.proofs.SlotsStands.{Found, found}
+use Rattle.law_reuse.proofs.SlotsPlaced.{Found, found}
 use Rattle.fanout.specs.Sides.{parted, firsts_of, seconds_of, parting_of}
 use Rattle.fanout.specs.Places.{place_of}
 use Rattle.fanout.specs.Trees.{moved}
@@ -41,7 +41,7 @@ enters_at p s tidy (Send b n) h = entry_at p s tidy b h.0 h.1 n h.2
 enters_at p s tidy op h = tt
 
 is_moved : (p : Plan) (s : IsSound p) (tidy : IsTidy p) (b : ℕ) (c : CodeBlock) (at_b : slice_get p.program.blocks b ≡ Some c) (v : ℕ) (i : Instr)
-    (at_v : StandsAt c v i)
+    (at_v : IsInstrAt c v i)
     → IsMoved p.program (narrowed p).program (new_ip p p.program.blocks) (first_of p.program b + v) i
 is_moved p s tidy b c at_b v i at_v =
     let P = p.program in

@@ -15,24 +15,24 @@ use Rattle.semantics.specs.declared.program.Op.{Op}
 use Rattle.semantics.specs.declared.program.Op.TheVariants.{Link, Fetch, Store, Frame, Ask}
 use Rattle.semantics.specs.Program.{Instr, CodeBlock, Program, first_of, instr_at}
 use Rattle.semantics.specs.Plan.{Plan, HasShape}
-use Rattle.semantics.specs.Wired.{StandsAt}
+use Rattle.semantics.specs.Wired.{IsInstrAt}
 use Rattle.semantics.specs.Orderly.{often}
 use Rattle.code.specs.Sound.{IsSound, IsSoundDest}
 use Rattle.fanout.specs.Leading.{leads_to}
-use Rattle.law_reuse.proofs.SlotsStands.{instr_in}
+use Rattle.law_reuse.proofs.SlotsPlaced.{instr_in}
 use Rattle.fanout.specs.Sides.{copies, parted, firsts_of, seconds_of, parting_of}
 use Rattle.fanout.specs.Places.{size, place_of, base_of}
 use Rattle.fanout.specs.Trees.{child, leaf, side, copy_at, copies_of, moved}
 use Rattle.fanout.specs.Narrowed.{narrowed, narrowed_block}
-use Rattle.fanout.specs.Laws.{StandsClear}
+use Rattle.fanout.specs.Laws.{KeepsClear}
 use Rattle.fanout.proofs.Spots.{copy_apart, first_copy, second_copy, copy_stands, before_copies}
 use Rattle.fanout.proofs.Queues.{Address, to, Reaches, tip, window, queue, copy_goes, queue_last, queue_first, queue_all, side_goes}
 use Rattle.fanout.proofs.Parted.{parted_all}
 use Rattle.fanout.proofs.Standing.{instrs_stay}
 use Rattle.fanout.proofs.Plans.{is, ts, l, all}
 use Rattle.fanout.proofs.Arrows.{in_parts, past, dests_stay}
-use Rattle.fanout.proofs.SoundFlags.{sound_stands_clear}
-use Rattle.law_fanout.specs.Spreads.{StandsFor, IsCopyAt, here, fork, Lead, targets, Leads}
+use Rattle.fanout.proofs.SoundFlags.{sound_keeps_clear}
+use Rattle.law_fanout.specs.Spreads.{Replaces, IsCopyAt, here, fork, Lead, targets, Leads}
 use Rattle.law_fresh_frames.specs.Alike.{IsTidy, plain_dests}
 use Rattle.law_fanout.proofs.NarrowPlaces.{new_ip, ip_at, back_in}
 use Rattle.law_simulation.specs.Places.{Spot, is_answered}
@@ -47,8 +47,8 @@ module _ (p : Plan) (s : IsSound p) (tidy : IsTidy p) where
   abbrev H : ℕ → ℕ
   H = new_ip p P.blocks
 
-  clear : StandsClear p
-  clear = sound_stands_clear p s
+  clear : KeepsClear p
+  clear = sound_keeps_clear p s
 
   module _ (b : ℕ) (c : CodeBlock) (at_b : slice_get P.blocks b ≡ Some c) where
     abbrev F : ℕ
@@ -66,7 +66,7 @@ module _ (p : Plan) (s : IsSound p) (tidy : IsTidy p) where
     pub stands_new : (x : ℕ) (y : Instr) → slice_get (narrowed_block p c).instrs x ≡ Some y → instr_at Q (F + x) ≡ Some y
     stands_new x y e = instr_in Q.blocks b x (narrowed_block p c) new_block (slice_get_within (narrowed_block p c).instrs x y e) ∙ e
 
-    -- each of its destinations is behind it
+    -- each of its destinations is after it
     later_at : (x : ℕ) (y : Instr) → slice_get (narrowed_block p c).instrs x ≡ Some y → (d : Dest) → Contains (y.firsts ++ y.seconds) d → 0 < d.ahead
     later_at x y e d inside =
         (dests_stay p clear.rows clear.dests b x (narrowed_block p c) d record { i = y; block = new_block; there = e; named = inside }).later
@@ -82,7 +82,7 @@ module _ (p : Plan) (s : IsSound p) (tidy : IsTidy p) where
     -- what waits for a copy
     abbrev Waits : List Address → List Spot → Type 0
     Waits [] zs = zs ≡ []
-    Waits (a ∷ qs) zs = (xs : List Spot) × (ys : List Spot) × StandsFor Q H (F + a.0) a.1 xs × Waits qs ys × (zs ≡ xs ++ ys)
+    Waits (a ∷ qs) zs = (xs : List Spot) × (ys : List Spot) × Replaces Q H (F + a.0) a.1 xs × Waits qs ys × (zs ≡ xs ++ ys)
 
     waits_split : (qs bs : List Address) (zs : List Spot) → Waits (qs ++ bs) zs
         → (xs : List Spot) × (ys : List Spot) × Waits qs xs × Waits bs ys × (zs ≡ xs ++ ys)
@@ -95,13 +95,13 @@ module _ (p : Plan) (s : IsSound p) (tidy : IsTidy p) where
     lead_of at [] zs w = w
     lead_of at (d ∷ ds) zs w =
         let e : F + (at + d.ahead) ≡ F + at + d.ahead = omega arith in
-        (w.0, w.1, subst (λ (n : ℕ). StandsFor Q H n d.port w.0) e w.2, lead_of at ds w.1 w.3, w.4)
+        (w.0, w.1, subst (λ (n : ℕ). Replaces Q H n d.port w.0) e w.2, lead_of at ds w.1 w.3, w.4)
 
     lead_join : (ip : ℕ) (ds es : List Dest) (xs ys : List Spot) → Lead Q H ip ds xs → Lead Q H ip es ys → Lead Q H ip (ds ++ es) (xs ++ ys)
     lead_join ip [] es xs ys a k = subst (λ (l : List Spot). Lead Q H ip es (l ++ ys)) (sym a) k
     lead_join ip (d ∷ ds) es xs ys a k = (a.0, a.1 ++ ys, a.2, lead_join ip ds es a.1 ys a.3 k, ap (λ l. l ++ ys) a.4 ∙ append_assoc a.0 a.1 ys)
 
-    module _ (v : ℕ) (i : Instr) (at_v : StandsAt c v i) where
+    module _ (v : ℕ) (i : Instr) (at_v : IsInstrAt c v i) where
       abbrev a : ℕ
       a = first_of P b + v
 
@@ -153,11 +153,11 @@ module _ (p : Plan) (s : IsSound p) (tidy : IsTidy p) where
         addresses : (x1 x2 y1 y2 : Address) → x1 ∷ x2 ∷ [] ≡ y1 ∷ y2 ∷ [] → (x1 ≡ y1) × (x2 ≡ y2)
         addresses x1 x2 y1 y2 e = (cc, cc)
 
-        spot_at : (n : ℕ) (d : Dest) (t : Address) (xs : List Spot) → leads_to (root + n) d ≡ t → StandsFor Q H (F + t.0) t.1 xs
-            → StandsFor Q H (F + (root + n) + d.ahead) d.port xs
+        spot_at : (n : ℕ) (d : Dest) (t : Address) (xs : List Spot) → leads_to (root + n) d ≡ t → Replaces Q H (F + t.0) t.1 xs
+            → Replaces Q H (F + (root + n) + d.ahead) d.port xs
         spot_at n d t xs e w =
             let z : F + (root + n + d.ahead) ≡ F + (root + n) + d.ahead = omega arith in
-            subst (λ (x : ℕ). StandsFor Q H x d.port xs) z (subst (λ (t : Address). StandsFor Q H (F + t.0) t.1 xs) (sym e) w)
+            subst (λ (x : ℕ). Replaces Q H x d.port xs) z (subst (λ (t : Address). Replaces Q H (F + t.0) t.1 xs) (sym e) w)
 
         shift : (m : ℕ) → base_of (l p c) v + (root + m - base_of (l p c) v) ≡ root + m
         shift m = omega (arith, starts)
@@ -189,7 +189,7 @@ module _ (p : Plan) (s : IsSound p) (tidy : IsTidy p) where
                   lone (omega (arith, less)) x (Contains-permutation _ _ x (IsPermutation-sym _ _ S.2)
                   (subst (λ (l : List Spot). Contains l x) (sym (m2.4 ∙ ap (λ l. m2.0 ++ l) tail)) (Contains-append_right m2.0 (us ++ vs) x inside)));
             } in
-            let node : StandsFor Q H (F + (root + m)) Left (us ++ vs) =
+            let node : Replaces Q H (F + (root + m)) Left (us ++ vs) =
             fork (F + (root + m)) Left (us ++ vs) us vs is_copy refl (spot_at m _ _ us goes.0 m2.3.2) (spot_at m _ _ vs goes.1 m2.3.3.2) refl in (
               (us ++ vs) ++ m2.0,
               subst (λ (qs : List Address). Waits qs ((us ++ vs) ++ m2.0)) (sym (queue_first (l p c) v root ds m less)) (us ++ vs, m2.0, node, m2.2, refl),
@@ -223,7 +223,7 @@ module _ (p : Plan) (s : IsSound p) (tidy : IsTidy p) where
                 (S.0, lead_of at (side (l p c) v at root ds) S.0 (subst (λ (qs : List Address). Waits qs S.0) (sym same) S.1), S.2)
 
         -- each of its copies stands for some of its destinations
-        pub node_at : (m : ℕ) → m < copies ds → (zs : List Spot) × StandsFor Q H (F + (root + m)) Left zs
+        pub node_at : (m : ℕ) → m < copies ds → (zs : List Spot) × Replaces Q H (F + (root + m)) Left zs
         node_at m less =
             let some : 0 < length ds = omega (arith, less) in
             let S : Stage m = stage (copies ds - m) m (omega (arith, less)) some in
@@ -378,10 +378,10 @@ module _ (p : Plan) (s : IsSound p) (tidy : IsTidy p) where
           (d, leaf (l p c) v at d, o.1, ap (side (l p c) v at (base_of (l p c) v)) sides, omega (arith, f, k, x, y), refl)
 
       -- and so each of the instruction's copies
-      pub copy_node : (n : ℕ) → n < size (parted i) → (zs : List Spot) × StandsFor Q H (F + (base_of (l p c) v + n)) Left zs
+      pub copy_node : (n : ℕ) → n < size (parted i) → (zs : List Spot) × Replaces Q H (F + (base_of (l p c) v + n)) Left zs
       copy_node n low = go (nat_lt n (copies (parted i).firsts)) refl
         where
-          go : (t : Bool) → nat_lt n (copies (parted i).firsts) ≡ t → (zs : List Spot) × StandsFor Q H (F + (base_of (l p c) v + n)) Left zs
+          go : (t : Bool) → nat_lt n (copies (parted i).firsts) ≡ t → (zs : List Spot) × Replaces Q H (F + (base_of (l p c) v + n)) Left zs
           go true t =
               let k = before in node_at (parted i).firsts firsts_named (base_of (l p c) v) (omega (arith, k)) (omega arith) first_tree
               (omega arith) lone_firsts n (ltb-true n (copies (parted i).firsts) t)
@@ -391,4 +391,4 @@ module _ (p : Plan) (s : IsSound p) (tidy : IsTidy p) where
               let x = node_at (parted i).seconds seconds_named (base_of (l p c) v + copies (parted i).firsts) (omega (arith, k)) (omega arith) second_tree
               (omega arith) lone_seconds m (omega (arith, far, low)) in
               let e : F + (base_of (l p c) v + copies (parted i).firsts + m) ≡ F + (base_of (l p c) v + n) = omega (arith, far) in
-              (x.0, subst (λ (n : ℕ). StandsFor Q H n Left x.0) e x.1)
+              (x.0, subst (λ (n : ℕ). Replaces Q H n Left x.0) e x.1)

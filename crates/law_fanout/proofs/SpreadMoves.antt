@@ -14,7 +14,7 @@ use Rattle.semantics.specs.declared.program.Op.TheVariants.{Link, Send}
 use Rattle.semantics.specs.Program.{Instr, Program, instr_at}
 use Rattle.semantics.specs.Rule.{token, at_dest, to_each}
 use Rattle.semantics.specs.Plan.{Plan}
-use Rattle.law_fanout.specs.Spreads.{IsCopyAt, StandsFor, here, fork, Lead, targets, Leads, Enters, IsMoved, Spreads}
+use Rattle.law_fanout.specs.Spreads.{IsCopyAt, Replaces, here, fork, Lead, targets, Leads, Enters, IsMoved, Spreads}
 use Rattle.law_fanout.proofs.SpreadWays.{leads_pick}
 use Rattle.lemmas.proofs.Contains.{contains_cases, contains_none, contains_tail}
 use Rattle.std.proofs.Common.{◌⊎◌, inr}
@@ -64,7 +64,7 @@ module _ (p q : Plan) (S : Spreads p q) where
       stand_more _ _ (at_dest record { frame = f; ip = ip } (ip_word h w) d) (to_each record { frame = f; ip = ip } (ip_word h w) ds) (spots f w us)
       (spots f w vs) one more refl (ap (spots f w) all ∙ map_append (λ (x : Spot). token (To.Instr f x.0 x.1) w) us vs)
 
-  stands_for : (f : ℕ) (w : Word) (ip : ℕ) (r : Port) (xs : List Spot) → StandsFor Q h ip r xs → Means f ip r w xs
+  stands_for : (f : ℕ) (w : Word) (ip : ℕ) (r : Port) (xs : List Spot) → Replaces Q h ip r xs → Means f ip r w xs
   stands_for f w ip r xs (here n t zs a at one) =
       moved _ _ (token (To.Instr f a r) w) (λ k. token (To.Instr f (at k) r) (ip_word h w)) (ap (spots f w) one) (plain a)
   stands_for f w ip r xs (fork n t zs us vs K left su sv all) =
@@ -96,7 +96,7 @@ module _ (p q : Plan) (S : Spreads p q) where
   abbrev Ends : ℕ → Port → Spot → Type 0
   Ends ip r x = ((ip ≡ h x.0) × (r ≡ x.1)) ⊎ ((r ≡ Left) × Path P Q h ip x)
 
-  ends : (ip : ℕ) (r : Port) (xs : List Spot) (x : Spot) → StandsFor Q h ip r xs → Contains xs x → Ends ip r x
+  ends : (ip : ℕ) (r : Port) (xs : List Spot) (x : Spot) → Replaces Q h ip r xs → Contains xs x → Ends ip r x
   ends ip r xs x (here n t ys a at one) inside = pick (contains_cases (a, r) [] x (subst (λ (l : List Spot). Contains l x) one inside))
     where
       pick : ((a, r) ≡ x) ⊎ Contains [] x → Ends ip r x
@@ -120,7 +120,7 @@ module _ (p q : Plan) (S : Spreads p q) where
 
   pub leads_on : (ip a : ℕ) (ds es : List Dest) → Leads Q h ip ds a es → LeadsOn P Q h h ip ds a es
   leads_on ip a ds es L = record {
-    made = λ f w. record { value = λ v. made f w; tells = inl (made f w) };
+    made = λ f w. record { value = λ v. made f w; asserts = inl (made f w) };
     ways = λ e inside K.
         (let D = leads_pick Q h ip a ds es L e inside in
         record { d = D.d; named = D.named; leads = ends (ip + D.d.ahead) D.d.port D.xs (a + e.ahead, e.port) D.stands D.among });

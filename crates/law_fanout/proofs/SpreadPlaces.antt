@@ -12,10 +12,10 @@ use Rattle.semantics.specs.Program.{Instr, CodeBlock, Program, first_of, instr_a
 use Rattle.semantics.specs.Plan.{Plan}
 use Rattle.semantics.specs.Orderly.{same_block, often}
 use Rattle.semantics.proofs.BlockPlaces.{same_in}
-use Rattle.law_reuse.proofs.SlotsStands.{instr_in, Stands, stands_at, stands_block, stands_within, Found, found}
+use Rattle.law_reuse.proofs.SlotsPlaced.{instr_in, IsPlaced, stands_at, stands_block, stands_within, Found, found}
 use Rattle.law_fresh_frames.proofs.FreshParts.{one_part}
 use Rattle.law_fresh_frames.specs.Alike.{HasLanding}
-use Rattle.law_fanout.specs.Spreads.{StandsFor, here, fork, IsMoved, Spreads}
+use Rattle.law_fanout.specs.Spreads.{Replaces, here, fork, IsMoved, Spreads}
 use Rattle.law_simulation.specs.Places.{Spot, is_answered}
 
 -- what is beyond the beginning of a landing stays so far beyond it
@@ -55,7 +55,7 @@ module _ (p q : Plan) (S : Spreads p q) where
   pub comes_back : (ip : ℕ) (j : Instr) → instr_at Q ip ≡ Some j → (j.op ≡ Copy → ⊥) → (a : ℕ) × (ip ≡ h a)
   comes_back ip j at other = let k = S.all ip j at in go k.0 k.1
     where
-      go : (zs : List Spot) → StandsFor Q h ip Left zs → (a : ℕ) × (ip ≡ h a)
+      go : (zs : List Spot) → Replaces Q h ip Left zs → (a : ℕ) × (ip ≡ h a)
       go zs (here n r ys a e one) = (a, e)
       go zs (fork n r ys us vs K left su sv one) = absurd (other (ap (λ (i : Instr). i.op) (same_Some j K.i (sym at ∙ K.there)) ∙ K.copies))
 
@@ -67,7 +67,7 @@ module _ (p q : Plan) (S : Spreads p q) where
   link_at base o L = instr_in P.blocks L.b L.n L.c L.block (slice_get_within L.c.instrs L.n L.i L.instr) ∙ L.instr
 
   -- in its new place the link has its landing as far ahead, and in its block
-  pub landing_inside : (base o : ℕ) (L : HasLanding p base o) (b n : ℕ) (j : Instr) (e : Dest) (stands : Stands Q b n j)
+  pub landing_inside : (base o : ℕ) (L : HasLanding p base o) (b n : ℕ) (j : Instr) (e : Dest) (stands : IsPlaced Q b n j)
       → h (link_of base o L) ≡ first_of Q b + n → j.firsts ≡ e ∷ []
       → (h base ≡ h (link_of base o L) + e.ahead) × (n + e.ahead + o < length stands.code.instrs)
   landing_inside base o L b n j e stands at_link lands =

@@ -12,7 +12,7 @@ use Rattle.semantics.specs.declared.program.Op.TheVariants.{Apply2}
 use Rattle.semantics.specs.Program.{Instr, Program, instr_at}
 use Rattle.semantics.specs.Plan.{Plan}
 use Rattle.semantics.specs.Orderly.{often}
-use Rattle.law_fanout.specs.Spreads.{IsCopyAt, StandsFor, here, fork, Spreads}
+use Rattle.law_fanout.specs.Spreads.{IsCopyAt, Replaces, here, fork, Spreads}
 use Rattle.law_fanout.proofs.SpreadPlaces.{row_stays, often_moved, comes_back, landing_moved}
 use Rattle.law_fanout.proofs.SpreadWays.{stands_same}
 use Rattle.law_fanout.proofs.SpreadMoves.{plain, moves_to}
@@ -37,11 +37,11 @@ module _ (p q : Plan) (S : Spreads p q) where
       true≢false (sym pair ∙ ap (λ (i : Instr). is_pair i.op) same ∙ ap is_pair (M.op ∙ op))
 
   copy_at : (ip : ℕ) (j : Instr) → instr_at Q ip ≡ Some j → Fresh P Q h ip → (zs : List Spot) × (K : IsCopyAt Q h ip zs) × (K.i ≡ j)
-      × (us : List Spot) × (vs : List Spot) × StandsFor Q h (ip + K.d.ahead) K.d.port us × StandsFor Q h (ip + K.e.ahead) K.e.port vs × (zs ≡ us ++ vs)
+      × (us : List Spot) × (vs : List Spot) × Replaces Q h (ip + K.d.ahead) K.d.port us × Replaces Q h (ip + K.e.ahead) K.e.port vs × (zs ≡ us ++ vs)
   copy_at ip j at fresh = let k = S.all ip j at in go k.0 k.1
     where
-      go : (zs : List Spot) → StandsFor Q h ip Left zs → (zs : List Spot) × (K : IsCopyAt Q h ip zs) × (K.i ≡ j)
-          × (us : List Spot) × (vs : List Spot) × StandsFor Q h (ip + K.d.ahead) K.d.port us × StandsFor Q h (ip + K.e.ahead) K.e.port vs × (zs ≡ us ++ vs)
+      go : (zs : List Spot) → Replaces Q h ip Left zs → (zs : List Spot) × (K : IsCopyAt Q h ip zs) × (K.i ≡ j)
+          × (us : List Spot) × (vs : List Spot) × Replaces Q h (ip + K.d.ahead) K.d.port us × Replaces Q h (ip + K.e.ahead) K.e.port vs × (zs ≡ us ++ vs)
       go zs (here n t ys a at one) = absurd (fresh a (plain p q S a) at)
       go zs (fork n t ys us vs K left su sv all) = (zs, K, same_Some K.i j (sym K.there ∙ at), us, vs, su, sv, all)
 
@@ -87,7 +87,7 @@ module _ (p q : Plan) (S : Spreads p q) where
 
   -- ---- PORTS
   abbrev Among : ℕ → Port → Spot → Type 0
-  Among ip r x = (xs : List Spot) × StandsFor Q h ip r xs × Contains xs x
+  Among ip r x = (xs : List Spot) × Replaces Q h ip r xs × Contains xs x
 
   leaf_among : (ip : ℕ) (r : Port) (x : Spot) → Leaf P Q h h ip r x → Among ip r x
   leaf_among ip r x (at_moved n t y a e K is) = (x ∷ [], here ip r (x ∷ []) a e (ap (λ (x : Spot). x ∷ []) is), contains_head x [])
@@ -98,7 +98,7 @@ module _ (p q : Plan) (S : Spreads p q) where
       (C.0, fork ip r C.0 C.3 C.4 C.1 left C.5 C.6 C.7, go C m (copy_dest ip C.0 C.1 j C.2 d named))
     where
       go : (C : (zs : List Spot) × (K : IsCopyAt Q h ip zs) × (K.i ≡ j) × (us : List Spot) × (vs : List Spot)
-          × StandsFor Q h (ip + K.d.ahead) K.d.port us × StandsFor Q h (ip + K.e.ahead) K.e.port vs × (zs ≡ us ++ vs)) → Among (ip + d.ahead) d.port x
+          × Replaces Q h (ip + K.d.ahead) K.d.port us × Replaces Q h (ip + K.e.ahead) K.e.port vs × (zs ≡ us ++ vs)) → Among (ip + d.ahead) d.port x
           → (C.1.d ≡ d) ⊎ (C.1.e ≡ d) → Contains C.0 x
       go C m (inl e) =
           let same = stands_same Q h S.apart (ip + d.ahead) (ip + C.1.d.ahead) d.port C.1.d.port m.0 C.3 (λ k. ip + (sym e k).ahead) (λ k. (sym e k).port)
@@ -112,7 +112,7 @@ module _ (p q : Plan) (S : Spreads p q) where
   lone_leaf : (ip : ℕ) (r : Port) (x : Spot) → Leaf P Q h h ip r x → often (instr_at Q ip) ≡ false → often (instr_at P x.0) ≡ false
   lone_leaf ip r x L off = let m = leaf_among ip r x L in go m.0 m.1 m.2
     where
-      go : (xs : List Spot) → StandsFor Q h ip r xs → Contains xs x → often (instr_at P x.0) ≡ false
+      go : (xs : List Spot) → Replaces Q h ip r xs → Contains xs x → often (instr_at P x.0) ≡ false
       go xs (here n t ys a at one) inside = pick (contains_cases (a, r) [] x (subst (λ (l : List Spot). Contains l x) one inside))
         where
           pick : ((a, r) ≡ x) ⊎ Contains [] x → often (instr_at P x.0) ≡ false

@@ -16,9 +16,9 @@ use Rattle.semantics.specs.Program.{Instr, CodeBlock, Program, first_of, instr_a
 use Rattle.semantics.specs.Plan.{Plan, landing, landing_in}
 use Rattle.semantics.specs.Orderly.{often}
 use Rattle.code.specs.Sound.{NamesRightly, IsSound}
-use Rattle.law_reuse.proofs.SlotsStands.{Stands, stands_at, Found, found}
+use Rattle.law_reuse.proofs.SlotsPlaced.{IsPlaced, stands_at, Found, found}
 use Rattle.law_fresh_frames.specs.Alike.{plain_dests, HasLanding, IsTidy}
-use Rattle.law_fanout.specs.Spreads.{StandsFor, here, fork, Lead, targets, Leads, IsMoved, Spreads, SpreadPlansStayTidy}
+use Rattle.law_fanout.specs.Spreads.{Replaces, here, fork, Lead, targets, Leads, IsMoved, Spreads, SpreadPlansStayTidy}
 use Rattle.law_fanout.proofs.SpreadPlaces.{often_kept, landing_inside}
 use Rattle.law_simulation.specs.Places.{Spot, is_answered}
 
@@ -40,22 +40,22 @@ module _ (p q : Plan) (S : Spreads p q) where
   copy_lone i e = ap (λ (op : Op). elim op as (λ x. Bool) [ Give k ↦ true | Take k ↦ true | _ ↦ false ]) e
 
   -- a port that stands for such ones is such a one
-  stands_lone : (ip : ℕ) (r : Port) (xs : List Spot) → StandsFor Q h ip r xs → ((x : Spot) → Contains xs x → Lone (h x.0)) → Lone ip
+  stands_lone : (ip : ℕ) (r : Port) (xs : List Spot) → Replaces Q h ip r xs → ((x : Spot) → Contains xs x → Lone (h x.0)) → Lone ip
   stands_lone ip r xs (here n t ys a at one) lone =
       ap (λ (n : ℕ). often (instr_at Q n)) at ∙ lone (a, r) (subst (λ (l : List Spot). Contains l (a, r)) (sym one) (contains_head (a, r) []))
   stands_lone ip r xs (fork n t ys us vs K left su sv one) lone = ap often K.there ∙ copy_lone K.i K.copies
 
   -- a destination stands for some of those for which all do
   lead_some : (ip : ℕ) (ds : List Dest) (zs : List Spot) → Lead Q h ip ds zs → (d : Dest) → Contains ds d
-      → (xs : List Spot) × StandsFor Q h (ip + d.ahead) d.port xs × ((x : Spot) → Contains xs x → Contains zs x)
+      → (xs : List Spot) × Replaces Q h (ip + d.ahead) d.port xs × ((x : Spot) → Contains xs x → Contains zs x)
   lead_some ip [] zs L d inside = absurd (contains_none d inside)
   lead_some ip (e ∷ ds) zs L d inside = go (contains_cases e ds d inside) (lead_some ip ds L.1 L.3 d)
     where
-      go : (e ≡ d) ⊎ Contains ds d → (Contains ds d → (xs : List Spot) × StandsFor Q h (ip + d.ahead) d.port xs × ((x : Spot) → Contains xs x → Contains L.1 x))
-          → (xs : List Spot) × StandsFor Q h (ip + d.ahead) d.port xs × ((x : Spot) → Contains xs x → Contains zs x)
+      go : (e ≡ d) ⊎ Contains ds d → (Contains ds d → (xs : List Spot) × Replaces Q h (ip + d.ahead) d.port xs × ((x : Spot) → Contains xs x → Contains L.1 x))
+          → (xs : List Spot) × Replaces Q h (ip + d.ahead) d.port xs × ((x : Spot) → Contains xs x → Contains zs x)
       go (inl s) more = (
         L.0,
-        subst (λ (d : Dest). StandsFor Q h (ip + d.ahead) d.port L.0) s L.2,
+        subst (λ (d : Dest). Replaces Q h (ip + d.ahead) d.port L.0) s L.2,
         λ x c. subst (λ (l : List Spot). Contains l x) (sym L.4) (Contains-append_left L.0 L.1 x c),
       )
       go (inr c) more = let m = more c in (m.0, m.1, λ x k. subst (λ (l : List Spot). Contains l x) (sym L.4) (Contains-append_right L.0 L.1 x (m.2 x k)))
@@ -92,7 +92,7 @@ module _ (p q : Plan) (S : Spreads p q) where
     lone_from : (ip : ℕ) (i : Instr) → instr_at Q ip ≡ Some i → (d : Dest) → Contains (plain_dests i i.op) d → Lone (ip + d.ahead)
     lone_from ip i at d inside = let k = S.all ip i at in go k.0 k.1
       where
-        go : (zs : List Spot) → StandsFor Q h ip Left zs → Lone (ip + d.ahead)
+        go : (zs : List Spot) → Replaces Q h ip Left zs → Lone (ip + d.ahead)
         go zs (here n t ys a e one) =
             let o = S.alone a i (ap (instr_at Q) (sym e) ∙ at) in
             let same : i ≡ (S.instrs a o.0 o.1).j = same_Some i (S.instrs a o.0 o.1).j (sym at ∙ ap (instr_at Q) e ∙ (S.instrs a o.0 o.1).there) in
@@ -128,11 +128,11 @@ module _ (p q : Plan) (S : Spreads p q) where
     copy_link c e = cc
 
     -- the landing of a link is in its block
-    landing_fits : (b n : ℕ) (i : Instr) (d : Dest) (callee : ℕ) (st : Stands Q b n i) → i.op ≡ Link callee → i.firsts ≡ d ∷ []
+    landing_fits : (b n : ℕ) (i : Instr) (d : Dest) (callee : ℕ) (st : IsPlaced Q b n i) → i.op ≡ Link callee → i.firsts ≡ d ∷ []
         → n + d.ahead + landing q callee ≤ length st.code.instrs
     landing_fits b n i d callee st links lands = let k = S.all (first_of Q b + n) i (stands_at Q b n i st) in go k.0 k.1
       where
-        go : (zs : List Spot) → StandsFor Q h (first_of Q b + n) Left zs → n + d.ahead + landing q callee ≤ length st.code.instrs
+        go : (zs : List Spot) → Replaces Q h (first_of Q b + n) Left zs → n + d.ahead + landing q callee ≤ length st.code.instrs
         go zs (fork m t ys us vs K left su sv one) =
             absurd (copy_link callee (sym K.copies ∙ ap (λ (i : Instr). i.op) (same_Some K.i i (sym K.there ∙ stands_at Q b n i st)) ∙ links))
         go zs (here m t ys a at one) =

@@ -6,7 +6,7 @@ use Rattle.lemmas.proofs.Contains.{contains_head, contains_map, contains_none, c
 use Rattle.tags.specs.declared.token.Port.{Port}
 use Rattle.semantics.specs.declared.program.Dest.{Dest}
 use Rattle.semantics.specs.Program.{Program}
-use Rattle.law_fanout.specs.Spreads.{StandsFor, here, fork, Lead, targets, Leads}
+use Rattle.law_fanout.specs.Spreads.{Replaces, here, fork, Lead, targets, Leads}
 use Rattle.law_fresh_frames.proofs.FreshParts.{one_part}
 use Rattle.semantics.specs.Program.{Instr, instr_at}
 use Rattle.std.proofs.lemmas.Option.{same_Some}
@@ -18,7 +18,7 @@ module _ (q : Program) (h : ℕ → ℕ) where
     pub d : Dest
     pub xs : List Spot
     pub named : Contains ds d
-    pub stands : StandsFor q h (ip + d.ahead) d.port xs
+    pub stands : Replaces q h (ip + d.ahead) d.port xs
     pub among : Contains xs x
 
   pub lead_pick : (ip : ℕ) (ds : List Dest) (zs : List Spot) → Lead q h ip ds zs → (x : Spot) → Contains zs x → LeadsTo ip ds x
@@ -36,7 +36,7 @@ module _ (q : Program) (h : ℕ → ℕ) where
 
 module _ (Q : Program) (h : ℕ → ℕ) (apart : (a b : ℕ) → h a ≡ h b → a ≡ b) where
   -- a port stands for one list
-  pub stands_same : (ip jp : ℕ) (r t : Port) (xs ys : List Spot) → ip ≡ jp → r ≡ t → StandsFor Q h ip r xs → StandsFor Q h jp t ys → xs ≡ ys
+  pub stands_same : (ip jp : ℕ) (r t : Port) (xs ys : List Spot) → ip ≡ jp → r ≡ t → Replaces Q h ip r xs → Replaces Q h jp t ys → xs ≡ ys
   stands_same ip jp r t xs ys e g (here n1 r1 z1 a at one) (here n2 r2 z2 b to two) =
       let same = apart a b (sym at ∙ e ∙ to) in one ∙ (λ k. (same k, g k) ∷ []) ∙ sym two
   stands_same ip jp r t xs ys e g (here n1 r1 z1 a at one) (fork n2 r2 z2 us2 vs2 K left su sv two) = absurd (K.fresh a (sym e ∙ at))

@@ -17,7 +17,7 @@ use Rattle.code.specs.Sound.{IsSound}
 use Rattle.semantics.specs.Holders.{holder_at}
 use Rattle.law_simulation.specs.Places.{Spot, is_answered}
 
--- A copy that is none of the moved instructions: it leads on to what is behind it, and never to a `give` or a `take`.
+-- A copy that is none of the moved instructions: it leads on to what is after it, and never to a `give` or a `take`.
 pub record IsCopyAt (q : Program) (h : ℕ → ℕ) (ip : ℕ) (zs : List Spot) : Type 0 where
   pub i : Instr
   pub d : Dest
@@ -32,15 +32,15 @@ pub record IsCopyAt (q : Program) (h : ℕ → ℕ) (ip : ℕ) (zs : List Spot) 
 
 -- A port of the new code stands for these of the old: for that of the moved instruction, or, if it is a copy's, for those
 -- for which the copy's destinations stand.
-pub data StandsFor (q : Program) (h : ℕ → ℕ) : ℕ → Port → List Spot → Type 0 where
-  here : (ip : ℕ) (r : Port) (zs : List Spot) (a : ℕ) → ip ≡ h a → zs ≡ (a, r) ∷ [] → StandsFor q h ip r zs
-  fork : (ip : ℕ) (r : Port) (zs xs ys : List Spot) (K : IsCopyAt q h ip zs) → r ≡ Left → StandsFor q h (ip + K.d.ahead) K.d.port xs
-      → StandsFor q h (ip + K.e.ahead) K.e.port ys → zs ≡ xs ++ ys → StandsFor q h ip r zs
+pub data Replaces (q : Program) (h : ℕ → ℕ) : ℕ → Port → List Spot → Type 0 where
+  here : (ip : ℕ) (r : Port) (zs : List Spot) (a : ℕ) → ip ≡ h a → zs ≡ (a, r) ∷ [] → Replaces q h ip r zs
+  fork : (ip : ℕ) (r : Port) (zs xs ys : List Spot) (K : IsCopyAt q h ip zs) → r ≡ Left → Replaces q h (ip + K.d.ahead) K.d.port xs
+      → Replaces q h (ip + K.e.ahead) K.e.port ys → zs ≡ xs ++ ys → Replaces q h ip r zs
 
 -- the destinations of what stands at that number
 abbrev pub Lead : Program → (ℕ → ℕ) → ℕ → List Dest → List Spot → Type 0
 Lead q h ip [] zs = zs ≡ []
-Lead q h ip (d ∷ ds) zs = (xs : List Spot) × (ys : List Spot) × StandsFor q h (ip + d.ahead) d.port xs × Lead q h ip ds ys × (zs ≡ xs ++ ys)
+Lead q h ip (d ∷ ds) zs = (xs : List Spot) × (ys : List Spot) × Replaces q h (ip + d.ahead) d.port xs × Lead q h ip ds ys × (zs ≡ xs ++ ys)
 
 abbrev pub targets : ℕ → List Dest → List Spot
 targets ip ds = map (λ (d : Dest). (ip + d.ahead, d.port)) ds
@@ -87,9 +87,9 @@ pub record Spreads (p q : Plan) : Type 0 where
   pub apart : (a b : ℕ) → h a ≡ h b → a ≡ b
   pub alone : (a : ℕ) (j : Instr) → instr_at q.program (h a) ≡ Some j → (i : Instr) × (instr_at p.program a ≡ Some i)
   -- and whatever stands in the new code stands for some
-  pub all : (ip : ℕ) (j : Instr) → instr_at q.program ip ≡ Some j → (zs : List Spot) × StandsFor q.program h ip Left zs
+  pub all : (ip : ℕ) (j : Instr) → instr_at q.program ip ≡ Some j → (zs : List Spot) × Replaces q.program h ip Left zs
   -- ports stand for ports of the block in which they are
-  pub blocks : (ip jp : ℕ) (r t : Port) (xs ys : List Spot) (x y : Spot) → StandsFor q.program h ip r xs → StandsFor q.program h jp t ys → Contains xs x
+  pub blocks : (ip jp : ℕ) (r t : Port) (xs ys : List Spot) (x y : Spot) → Replaces q.program h ip r xs → Replaces q.program h jp t ys → Contains xs x
       → Contains ys y
       → same_block p.program.blocks x.0 y.0 ≡ true → same_block q.program.blocks ip jp ≡ true
   -- entries stay entries, and those of the main block are its first instructions

@@ -17,7 +17,7 @@ use Rattle.semantics.specs.Rule.{Outcome, Becomes, Excluded, outcome_of, rule_at
 use Rattle.semantics.specs.Machine.{CellState, Vacant, Full, Deferred, Machine, Store, Size, Events, Run, answer, answers, put_at, with_slot_in, slot_in}
 use Rattle.semantics.specs.Machine.{slot_used, outputs_of, reader_count, Fires, Fetches, Stores, Requests, Releases, Hosts, Happens}
 use Rattle.law_reuse.proofs.FramesFold.{put_same, put_other}
-use Rattle.law_reuse.proofs.SlotsStands.{Found, found}
+use Rattle.law_reuse.proofs.SlotsPlaced.{Found, found}
 use Rattle.law_fresh_frames.specs.Bounded.{HasFewDests}
 use Rattle.law_fresh_frames.proofs.BoundedWeights.{tot, tot_append, tot_perm, op_weight, instr_weight, to_weight, weight, weights, slot_weight, op_charge}
 use Rattle.law_fresh_frames.proofs.BoundedWeights.{instr_charge, charge, cost, outcome_cost, back_few}

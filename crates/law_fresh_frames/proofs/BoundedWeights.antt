@@ -21,7 +21,7 @@ use Rattle.semantics.specs.declared.program.Op.{Op}
 use Rattle.semantics.specs.declared.program.Op.TheVariants.{Apply1, Apply2, Apply2Right, Apply2Left, Lit, Copy, Sync, Switch, Fetch, Store, Frame, Link, Send}
 use Rattle.semantics.specs.declared.program.Op.TheVariants.{Return, Ask, Open, Take, Give, Drain, Release}
 use Rattle.semantics.specs.Program.{Instr, Program, first_of, instr_at}
-use Rattle.semantics.specs.Rule.{signal, Seat, to_each, to_all, beyond, back_to, answer_to, landing_at, Outcome, Becomes, Excluded, fires, asks_for, puts}
+use Rattle.semantics.specs.Rule.{signal, Point, to_each, to_all, beyond, back_to, answer_to, landing_at, Outcome, Becomes, Excluded, fires, asks_for, puts}
 use Rattle.semantics.specs.Rule.{fire_one, fire_two, meets, array_len, opens, takes, gives, drains, alone, outcome_of}
 
 -- ---- TOTALS
@@ -123,20 +123,20 @@ module _ (p : Program) where
   abbrev W : List Token → ℕ
   W ts = weights p ts
 
-  each_few : (s : Seat) (w : Word) (ds : List Dest) → length ds ≤ 1 → W (to_each s w ds) ≤ word_weight w
+  each_few : (s : Point) (w : Word) (ds : List Dest) → length ds ≤ 1 → W (to_each s w ds) ≤ word_weight w
   each_few s w [] h = omega arith
   each_few s w (d ∷ []) h = let k = instr_few (instr_at p (s.ip + d.ahead)) w in omega (arith, k)
   each_few s w (d ∷ e ∷ ds) h = absurd (omega (arith, h))
 
-  each_append : (s : Seat) (w : Word) (ds es : List Dest) → W (to_each s w (ds ++ es)) ≡ W (to_each s w ds) + W (to_each s w es)
+  each_append : (s : Point) (w : Word) (ds es : List Dest) → W (to_each s w (ds ++ es)) ≡ W (to_each s w ds) + W (to_each s w es)
   each_append s w [] es = omega arith
   each_append s w (d ∷ ds) es = let h = each_append s w ds es in omega (arith, h)
 
-  all_few : (s : Seat) (w : Word) (i : Instr) → length i.firsts ≤ 1 → length i.seconds ≤ 1 → W (to_all s w i) ≤ word_weight w + word_weight w
+  all_few : (s : Point) (w : Word) (i : Instr) → length i.firsts ≤ 1 → length i.seconds ≤ 1 → W (to_all s w i) ≤ word_weight w + word_weight w
   all_few s w i a b =
       let x = each_few s w i.firsts a in let y = each_few s w i.seconds b in let z = each_append s w i.firsts i.seconds in omega (arith, x, y, z)
 
-  first_few : (s : Seat) (w : Word) (ds : List Dest) → W (to_each s w (take 1 ds)) ≤ word_weight w
+  first_few : (s : Point) (w : Word) (ds : List Dest) → W (to_each s w (take 1 ds)) ≤ word_weight w
   first_few s w [] = omega arith
   first_few s w (d ∷ ds) = let k = instr_few (instr_at p (s.ip + d.ahead)) w in omega (arith, k)
 
@@ -148,11 +148,11 @@ module _ (p : Program) where
   back_few (Cont.Frame f ip q) w = instr_few (instr_at p ip) w
   back_few (Cont.Host j) w = some_word w
 
-  asks_few : (s : Seat) (i : Instr) (a : ℕ) (x : Indexed) → W (asks_for p s i a x) ≤ 2
+  asks_few : (s : Point) (i : Instr) (a : ℕ) (x : Indexed) → W (asks_for p s i a x) ≤ 2
   asks_few s i a (Outside v) = let k = first_few s (Word.Val v) i.firsts in omega (arith, k)
   asks_few s i a (Place x) = omega arith
 
-  puts_few : (s : Seat) (i : Instr) (a : ℕ) (v : Value) (x : Indexed) → W (puts p s i a v x) ≤ 2
+  puts_few : (s : Point) (i : Instr) (a : ℕ) (v : Value) (x : Indexed) → W (puts p s i a v x) ≤ 2
   puts_few s i a v (Outside w) = let k = first_few s (Word.Val w) i.firsts in omega (arith, k)
   puts_few s i a v (Place x) = omega arith
 
@@ -160,7 +160,7 @@ module _ (p : Program) where
   made_weight None = 0
   made_weight (Some ts) = W ts
 
-  one_few : (s : Seat) (i : Instr) → length i.firsts ≤ 1 → length i.seconds ≤ 1 → (op : Op) (w : Word) → made_weight (fire_one p s i op w) ≤ 5
+  one_few : (s : Point) (i : Instr) → length i.firsts ≤ 1 → length i.seconds ≤ 1 → (op : Op) (w : Word) → made_weight (fire_one p s i op w) ≤ 5
   one_few s i a b (Apply1 op) (Word.Val v) = let k = all_few s (Word.Val (apply1 op v)) i a b in omega (arith, k)
   one_few s i a b (Apply2Right op z) (Word.Val v) = let k = all_few s (Word.Val (apply2 op v (Int z) i.origin)) i a b in omega (arith, k)
   one_few s i a b (Apply2Left op z) (Word.Val v) = let k = all_few s (Word.Val (apply2 op (Int z) v i.origin)) i a b in omega (arith, k)
@@ -172,12 +172,12 @@ module _ (p : Program) where
       let k = each_few s signal i.seconds b in let l = instr_few (instr_at p (first_of p n)) (Word.Back (landing_at s i.firsts)) in omega (arith, k, l)
   one_few s i a b op w = omega arith
 
-  side_few : (s : Seat) (w : Word) (i : Instr) → length i.firsts ≤ 1 → length i.seconds ≤ 1 → (b : Bool)
+  side_few : (s : Point) (w : Word) (i : Instr) → length i.firsts ≤ 1 → length i.seconds ≤ 1 → (b : Bool)
       → W (to_each s w (if b then i.firsts else i.seconds)) ≤ word_weight w
   side_few s w i a b true = each_few s w i.firsts a
   side_few s w i a b false = each_few s w i.seconds b
 
-  two_few : (s : Seat) (i : Instr) → length i.firsts ≤ 1 → length i.seconds ≤ 1 → (op : Op) (l r : Word) → made_weight (fire_two p s i op l r) ≤ 4
+  two_few : (s : Point) (i : Instr) → length i.firsts ≤ 1 → length i.seconds ≤ 1 → (op : Op) (l r : Word) → made_weight (fire_two p s i op l r) ≤ 4
   two_few s i a b (Apply2 op) (Word.Val v) (Word.Val w) = let k = all_few s (Word.Val (apply2 op v w i.origin)) i a b in omega (arith, k)
   two_few s i a b Sync l r = let k = all_few s signal i a b in omega (arith, k)
   two_few s i a b Switch l (Word.Val v) = let k = side_few s l i a b (truth v) in let n = word_few l in omega (arith, k, n)
@@ -198,7 +198,7 @@ module _ (p : Program) where
   fires_cost v None n h = omega arith
   fires_cost v (Some ts) n h = omega (arith, h)
 
-  meets_cost : (s : Seat) (i : Instr) → length i.firsts ≤ 1 → length i.seconds ≤ 1 → (slot : SlotState) (q : Port) (w : Word)
+  meets_cost : (s : Point) (i : Instr) → length i.firsts ≤ 1 → length i.seconds ≤ 1 → (slot : SlotState) (q : Port) (w : Word)
       → cost (meets p s i slot q w) ≤ slot_weight slot + 3
   meets_cost s i a b Empty Left w = omega arith
   meets_cost s i a b Empty Right w = omega arith
@@ -206,7 +206,7 @@ module _ (p : Program) where
   meets_cost s i a b (Slot.Right r) Left l = let k = fires_cost Empty (fire_two p s i i.op l r) 4 (two_few s i a b i.op l r) in omega (arith, k)
   meets_cost s i a b slot q w = omega arith
 
-  open_cost : (s : Seat) (i : Instr) → length i.firsts ≤ 1 → length i.seconds ≤ 1 → (k : ℕ) (slot : SlotState) → cost (opens s i k slot) ≤ slot_weight slot + 6
+  open_cost : (s : Point) (i : Instr) → length i.firsts ≤ 1 → length i.seconds ≤ 1 → (k : ℕ) (slot : SlotState) → cost (opens s i k slot) ≤ slot_weight slot + 6
   open_cost s i a b k Empty = let n = all_few s signal i a b in omega (arith, n)
   open_cost s i a b k slot = omega arith
 
@@ -221,7 +221,7 @@ module _ (p : Program) where
   if_cost true x y n a b = a
   if_cost false x y n a b = b
 
-  give_cost : (s : Seat) (i : Instr) → length i.firsts ≤ 1 → length i.seconds ≤ 1 → (k : ℕ) (slot : SlotState) → cost (gives s i k slot) ≤ slot_weight slot + 1
+  give_cost : (s : Point) (i : Instr) → length i.firsts ≤ 1 → length i.seconds ≤ 1 → (k : ℕ) (slot : SlotState) → cost (gives s i k slot) ≤ slot_weight slot + 1
   give_cost s i a b k (Credits n) = if_cost (nat_lt n k) (Becomes (Credits (n + 1)) []) (Excluded 3) _ (omega arith) (omega arith)
   give_cost s i a b k (Waiter c) = let n = back_few c signal in omega (arith, n)
   give_cost s i a b k (Draining zero) = omega arith
@@ -229,7 +229,7 @@ module _ (p : Program) where
   give_cost s i a b k (Draining (suc (suc n))) = omega arith
   give_cost s i a b k slot = omega arith
 
-  drain_cost : (s : Seat) (i : Instr) → length i.firsts ≤ 1 → length i.seconds ≤ 1 → (k : ℕ) (slot : SlotState)
+  drain_cost : (s : Point) (i : Instr) → length i.firsts ≤ 1 → length i.seconds ≤ 1 → (k : ℕ) (slot : SlotState)
       → cost (drains s i k slot) ≤ slot_weight slot + 6
   drain_cost s i a b k (Credits n) =
       let h = all_few s signal i a b in
@@ -237,11 +237,11 @@ module _ (p : Program) where
       (if_cost (nat_lt n k) (Becomes (Draining (k - n)) []) (Excluded 3) _ (omega arith) (omega arith))
   drain_cost s i a b k slot = omega arith
 
-  alone_cost : (s : Seat) (i : Instr) → length i.firsts ≤ 1 → length i.seconds ≤ 1 → (slot : SlotState) (w : Word)
+  alone_cost : (s : Point) (i : Instr) → length i.firsts ≤ 1 → length i.seconds ≤ 1 → (slot : SlotState) (w : Word)
       → cost (alone p s i slot Left w) ≤ slot_weight slot + 6
   alone_cost s i a b slot w = let k = fires_cost slot (fire_one p s i i.op w) 5 (one_few s i a b i.op w) in omega (arith, k)
 
-  pub outcome_cost : (s : Seat) (i : Instr) → length i.firsts ≤ 1 → length i.seconds ≤ 1 → (op : Op) (slot : SlotState) (q : Port) (w : Word)
+  pub outcome_cost : (s : Point) (i : Instr) → length i.firsts ≤ 1 → length i.seconds ≤ 1 → (op : Op) (slot : SlotState) (q : Port) (w : Word)
       → cost (outcome_of p s i op slot q w) ≤ slot_weight slot + (op_weight op w + op_charge op q)
   outcome_cost s i a b (Apply2 op) slot q w = meets_cost s i a b slot q w
   outcome_cost s i a b Sync slot q w = meets_cost s i a b slot q w

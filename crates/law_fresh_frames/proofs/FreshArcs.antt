@@ -15,7 +15,7 @@ use Rattle.semantics.specs.Machine.{Machine}
 use Rattle.semantics.specs.Plan.{Plan, landing}
 use Rattle.semantics.specs.Sharing.{arc, inlet, arcs_to, row, arcs_from}
 use Rattle.semantics.specs.Arcs.{UsesBy, UsesArc}
-use Rattle.law_reuse.proofs.SlotsStands.{Found, found, stands_at}
+use Rattle.law_reuse.proofs.SlotsPlaced.{Found, found, stands_at}
 use Rattle.law_reuse.proofs.SlotsUsedArcs.{stands_arcs}
 use Rattle.law_fresh_frames.specs.Alike.{plain_dests}
 

@@ -10,7 +10,7 @@ use Rattle.semantics.specs.Plan.{Plan}
 use Rattle.folding.specs.Folds.{is_closed}
 use Rattle.folding.specs.Places.{layout_of, folds_at, gone_at}
 use Rattle.folding.specs.Moved.{is_shut, new_dest, moved_dests}
-use Rattle.folding.specs.Laws.{dests_of, IsLeftOut}
+use Rattle.folding.specs.Laws.{dests_of, IsDropped}
 use Rattle.folding.proofs.Taken.{leaves_out}
 use Rattle.folding.proofs.Pairs.{closed_one, closed_in, closed_uses, uses_in}
 use Rattle.folding.proofs.Cases.{value_at, closed_by}
@@ -66,7 +66,7 @@ module _ (p : Plan) (c : CodeBlock) where
   pub gone_some : (m : ℕ) (j : Instr) → slice_get c.instrs m ≡ Some j → gone_at (layout_of p c) m ≡ true → closed_uses p c m ≡ [] → ⊥
   gone_some m j at gone none = go (leaves_out p c m j at gone).used
     where
-      L : IsLeftOut p c m j
+      L : IsDropped p c m j
       L = leaves_out p c m j at gone
 
       both : closed_in p c m j.firsts ++ closed_in p c m j.seconds ≡ []

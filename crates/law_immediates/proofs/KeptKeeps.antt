@@ -3,7 +3,7 @@ use Rattle.std.proofs.Common.{refl, ℕ, ◌+◌, ◌<◌, arith}
 use Rattle.semantics.specs.Credits.{IsLink}
 use Rattle.semantics.specs.Plan.{Plan, landing}
 use Rattle.code.specs.Sound.{IsSound}
-use Rattle.law_reuse.proofs.SlotsStands.{Found, found}
+use Rattle.law_reuse.proofs.SlotsPlaced.{Found, found}
 use Rattle.law_fresh_frames.specs.Alike.{HasLanding, IsTidy}
 use Rattle.law_immediates.specs.Kept.{kept_slots, KeptSlotsTidy, KeptSlotsLands, KeptSlotsKeepBounds, KeptSlotsOrderly, KeptSlotsKeep}
 use Rattle.law_immediates.proofs.KeptMoves.{kept_slots_folds, no_skips}

@@ -21,7 +21,7 @@ use Rattle.semantics.specs.Machine.{results_in}
 use Rattle.semantics.specs.Plan.{Plan, HasShape}
 use Rattle.semantics.specs.Orderly.{eq_port, inputs_in}
 use Rattle.code.specs.Sound.{NamesRightly, IsSound}
-use Rattle.law_reuse.proofs.SlotsStands.{Found, found}
+use Rattle.law_reuse.proofs.SlotsPlaced.{Found, found}
 use Rattle.std.proofs.lemmas.List.Sorted.{Contains-permutation}
 use Rattle.lemmas.proofs.Contains.{contains_head, contains_map, contains_none, get_contains}
 use Rattle.lemmas.proofs.SliceGet.{get_some}
@@ -241,7 +241,11 @@ module _ (p : Plan) (s : IsSound p) (b : ℕ) (c : CodeBlock) (at_b : slice_get 
 
     ready_side : (t : Bool) (f : ℕ) (w : Word) → Ready P Q g h w (New t f w) (Old t f w)
     ready_side t f w =
-        record { value = λ v. clumped t f w (whole IsValue (λ z. (Int z, refl)) t f w (λ x k. value_moved w v)); tells = go (wanted p c n (dests_of i t)) refl }
+        record {
+          value = λ v. clumped t f w (whole IsValue (λ z. (Int z, refl)) t f w (λ x k. value_moved w v));
+          asserts =
+              go (wanted p c n (dests_of i t)) refl;
+        }
       where
         go : (ms : List ℕ) → wanted p c n (dests_of i t) ≡ ms → Clumped P Q g h (New t f w) (Old t f w) ⊎ Pairs P (Old t f w) w
         go [] e = inl (clumped t f w (whole IsValue (λ z. (Int z, refl)) t f w (λ x k. absurd (none_given t e x k))))

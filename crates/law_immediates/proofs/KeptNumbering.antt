@@ -82,7 +82,7 @@ none_at_end (c ∷ cs) =
     (le-ltb (length c.instrs + end_of cs) (length c.instrs) (omega arith))
     ∙ ap (instr_from cs) back ∙ none_at_end cs
 
--- behind the code nothing stands for itself, and all its places are one
+-- after the code nothing stands for itself, and all its places are one
 plain_past : (p : Plan) (bs : List CodeBlock) (k : ℕ) → plain_ip p bs (end_of bs + k) ≡ false
 plain_past p [] k = refl
 plain_past p (c ∷ bs) k =

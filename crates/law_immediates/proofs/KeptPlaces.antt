@@ -9,7 +9,7 @@ use Rattle.semantics.specs.Program.{Instr, CodeBlock, Program, first_of, instr_a
 use Rattle.semantics.specs.Bytes as Bytes
 use Rattle.semantics.specs.Plan.{Plan}
 use Rattle.code.specs.Sound.{IsSound, IsSoundDest}
-use Rattle.law_reuse.proofs.SlotsStands.{instr_in}
+use Rattle.law_reuse.proofs.SlotsPlaced.{instr_in}
 use Rattle.folding.specs.Folds.{is_folded}
 use Rattle.folding.specs.Places.{layout_of, folds_at, gone_at, new_place}
 use Rattle.folding.specs.Laws.{dests_of, SparesLiterals}

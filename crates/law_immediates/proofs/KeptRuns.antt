@@ -8,7 +8,7 @@ use Rattle.semantics.specs.Plan.{Plan}
 use Rattle.semantics.specs.Cause.{HasBounds, opened_by, open_bounds, loop_bounds}
 use Rattle.folding.specs.Places.{Layout, layout_of, gone_at}
 use Rattle.folding.specs.Moved.{moved}
-use Rattle.folding.specs.Folded.{left_from, moved_from}
+use Rattle.folding.specs.Folded.{remaining_from, moved_from}
 use Rattle.folding.proofs.LoopsStay.{block_opens}
 use Rattle.law_fresh_frames.proofs.Alike.{alike_is_faithful}
 use Rattle.law_immediates.specs.Fold.{Folds}
@@ -19,13 +19,14 @@ use Rattle.law_simulation.proofs.SimulationSeen.{related_runs_alike}
 
 -- the loops open with the bounds that they had
 same_opens : (l : Layout) (n : ℕ) (is : List Instr)
-    → flat_map (λ (i : Instr). opened_by i.op) (left_from l (slotted l) n is) ≡ flat_map (λ (i : Instr). opened_by i.op) (moved_from l n is)
+    → flat_map (λ (i : Instr). opened_by i.op) (remaining_from l (slotted l) n is) ≡ flat_map (λ (i : Instr). opened_by i.op) (moved_from l n is)
 same_opens l n [] = refl
 same_opens l n (i ∷ is) = go (gone_at l n) (same_opens l (n + 1) is)
   where
-    go : (t : Bool) → flat_map (λ (i : Instr). opened_by i.op) (left_from l (slotted l) (n + 1) is)
+    go : (t : Bool) → flat_map (λ (i : Instr). opened_by i.op) (remaining_from l (slotted l) (n + 1) is)
         ≡ flat_map (λ (i : Instr). opened_by i.op) (moved_from l (n + 1) is)
-        → flat_map (λ (i : Instr). opened_by i.op) (if t then left_from l (slotted l) (n + 1) is else slotted l n i ∷ left_from l (slotted l) (n + 1) is)
+        → flat_map (λ (i : Instr). opened_by i.op)
+        (if t then remaining_from l (slotted l) (n + 1) is else slotted l n i ∷ remaining_from l (slotted l) (n + 1) is)
         ≡ flat_map (λ (i : Instr). opened_by i.op) (if t then moved_from l (n + 1) is else moved l n i ∷ moved_from l (n + 1) is)
     go true e = e
     go false e = ap (λ xs. opened_by (slotted l n i).op ++ xs) e

@@ -10,8 +10,8 @@ use Rattle.semantics.specs.Program.{Instr, CodeBlock, Program, first_of, instr_a
 use Rattle.semantics.specs.Plan.{Plan}
 use Rattle.semantics.specs.Orderly.{same_block}
 use Rattle.code.specs.Sound.{IsSound}
-use Rattle.law_reuse.proofs.SlotsStands.{one_block, Found, found}
-use Rattle.law_reuse.proofs.SlotsStands as Places
+use Rattle.law_reuse.proofs.SlotsPlaced.{one_block, Found, found}
+use Rattle.law_reuse.proofs.SlotsPlaced as Places
 use Rattle.law_reuse.proofs.SlotsClaims.{holder_here}
 use Rattle.semantics.specs.Holders.{holder_of, holder_at}
 use Rattle.operators.specs.declared.Binary.{Binary}
@@ -218,8 +218,8 @@ module _ (p : Plan) (s : IsSound p) where
   plain_holders a K =
       let A : At a = at_of a K in
       let j : Instr = slotted (layout_of p A.c) A.n A.i in
-      let old : Places.Stands P A.b A.n A.i = record { code = A.c; block = A.block; instr = A.instr } in
-      let new : Places.Stands Q A.b (new_place (layout_of p A.c) A.n) j =
+      let old : Places.IsPlaced P A.b A.n A.i = record { code = A.c; block = A.block; instr = A.instr } in
+      let new : Places.IsPlaced Q A.b (new_place (layout_of p A.c) A.n) j =
       record {
         code = kept_block p A.c;
         block = new_block p s A.b A.c A.block;

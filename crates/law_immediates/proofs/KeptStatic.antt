@@ -19,7 +19,7 @@ use Rattle.semantics.specs.Plan.{Plan, mark_at, landing, landing_in}
 use Rattle.semantics.specs.Orderly.{same_block, often, IsMarked}
 use Rattle.semantics.proofs.BlockPlaces.{block_of, first_in, same_in}
 use Rattle.code.specs.Sound.{IsSound}
-use Rattle.law_reuse.proofs.SlotsStands.{one_block, instr_in, Found, found}
+use Rattle.law_reuse.proofs.SlotsPlaced.{one_block, instr_in, Found, found}
 use Rattle.folding.specs.Folds.{new_op}
 use Rattle.folding.specs.Places.{layout_of, folds_at, gone_at, new_place}
 use Rattle.folding.specs.Moved.{new_dest, moved_dests}

@@ -10,7 +10,7 @@ use Rattle.tags.specs.declared.token.Token.{Token}
 use Rattle.tags.specs.declared.slot.SlotState.{SlotState}
 use Rattle.tags.specs.declared.slot.SlotState.TheVariants.{Empty}
 use Rattle.semantics.specs.Program.{Instr, CodeBlock, Program, instr_at}
-use Rattle.semantics.specs.Rule.{Seat, Outcome, Becomes, Excluded, outcome_of, rule_at, slot_of}
+use Rattle.semantics.specs.Rule.{Point, Outcome, Becomes, Excluded, outcome_of, rule_at, slot_of}
 use Rattle.semantics.specs.Machine.{Store as MStore, put_at, with_slot, with_output, with_done, slot_in, slot_used, Fires, Hosts, Happens, outputs_of}
 use Rattle.semantics.specs.Plan.{Plan}
 use Rattle.law_reuse.proofs.FramesFold.{put_same, put_other}
@@ -124,7 +124,7 @@ module _ (p : Plan) (ds : List CodeBlock) (hold : ℕ → ℕ → ℕ) (R : Renu
   abbrev Q : Program
   Q = (with_blocks p ds).program
 
-  pub rule_same : (b : ℕ) (s : Seat) (i j : Instr) → IsRenumbered (hold b) i j → (slot : SlotState) (r : Port) (w : Word)
+  pub rule_same : (b : ℕ) (s : Point) (i j : Instr) → IsRenumbered (hold b) i j → (slot : SlotState) (r : Port) (w : Word)
       → outcome_of Q s j j.op slot r w ≡ outcome_of P s i i.op slot r w
   rule_same b s i j I slot r w =
       ap (λ (x : Instr). outcome_of Q s x x.op slot r w) (renumbered_is (hold b) i j I) ∙ outcome_same P ds s i j.slot (first_is p ds hold R) i.op slot r w
@@ -135,7 +135,7 @@ module _ (p : Plan) (ds : List CodeBlock) (hold : ℕ → ℕ → ℕ) (R : Renu
       → Agrees (hold b) c (m.slots f) (u.slots f)
       → Happens Q t m (To.Instr f ip r) w made new → Answered (hold b) c f (slot_of i i.op) m u new (λ after. Happens P t u (To.Instr f ip r) w made after)
   instr_answered b c d n i j there B I t m u new f ip r w made at_p at_q A happens =
-      let s : Seat = record { frame = f; ip = ip } in
+      let s : Point = record { frame = f; ip = ip } in
       let o : Option ℕ = slot_of i i.op in
       let of : (k : ℕ) → o ≡ Some k → HoldsIn c k = λ (k : ℕ) (e : o ≡ Some k). record { place = n; instr = i; there = there; holds = e } in
       let one : Fires m f (slot_of j j.op) (outcome_of Q s j j.op (slot_in m f (slot_of j j.op)) r w) made new =

@@ -15,7 +15,7 @@ use Rattle.code.specs.Sound.{IsSound}
 use Rattle.folding.specs.Folds.{is_folded, new_op}
 use Rattle.folding.specs.Places.{Layout, layout_of, new_holder, folds_at, gone_at}
 use Rattle.folding.specs.Moved.{moved}
-use Rattle.folding.specs.Folded.{left_from, folded_block, folded_blocks, folded}
+use Rattle.folding.specs.Folded.{remaining_from, folded_block, folded_blocks, folded}
 use Rattle.folding.proofs.Standing.{stands_at, comes_from}
 use Rattle.folding.proofs.Held.{slot_any}
 use Rattle.folding.proofs.Cases.{value_at, FoldCase, is_kept, is_right, is_left, fold_cases}
@@ -24,13 +24,13 @@ use Rattle.law_immediates.specs.Renumber.{IsRenumbered, HoldsIn, RenumbersBlock,
 use Rattle.law_immediates.proofs.RenumberHolders.{Keeps, holders_apart}
 
 length_left : {X Y : Type 0} (l : Layout) (f : ℕ → Instr → X) (g : ℕ → Instr → Y) (n : ℕ) (is : List Instr)
-    → length (left_from l f n is) ≡ length (left_from l g n is)
+    → length (remaining_from l f n is) ≡ length (remaining_from l g n is)
 length_left l f g n [] = refl
 length_left {X = X} {Y = Y} l f g n (i ∷ is) = go (gone_at l n) (length_left l f g (n + 1) is)
   where
-    go : (t : Bool) → length (left_from l f (n + 1) is) ≡ length (left_from l g (n + 1) is)
-        → length (if t then left_from l f (n + 1) is else f n i ∷ left_from l f (n + 1) is)
-        ≡ length (if t then left_from l g (n + 1) is else g n i ∷ left_from l g (n + 1) is)
+    go : (t : Bool) → length (remaining_from l f (n + 1) is) ≡ length (remaining_from l g (n + 1) is)
+        → length (if t then remaining_from l f (n + 1) is else f n i ∷ remaining_from l f (n + 1) is)
+        ≡ length (if t then remaining_from l g (n + 1) is else g n i ∷ remaining_from l g (n + 1) is)
     go true more = more
     go false more = ap suc more
 

@@ -25,7 +25,7 @@ use Rattle.semantics.specs.Handed.{handed_by, handed, EachOnce, UsesEachOnce}
 use Rattle.semantics.specs.Orderly.{Orderly, IsStart, IsOrderlyRun}
 use Rattle.law_reuse.proofs.FramesSnoc.{run_snoc, handed_snoc}
 use Rattle.law_reuse.proofs.SlotsOtherEvents.{Same, Carried}
-use Rattle.law_reuse.proofs.SlotsStands.{Stands}
+use Rattle.law_reuse.proofs.SlotsPlaced.{IsPlaced}
 use Rattle.law_reuse.proofs.SlotsFillings.{at_port, later_on}
 use Rattle.law_reuse.proofs.SlotsUsedArcs.{Ports, one_frame}
 use Rattle.law_reuse.proofs.SlotsHistory.{taken, ports_of}
@@ -90,8 +90,8 @@ pub frame_agrees : (p : Plan) (hold : ℕ → ℕ → ℕ) (ts pool : List Token
     → Agrees (hold b) c new old
 frame_agrees p hold ts pool P f b n c i r w new old at_b at_n inside (inl idle) = agrees_idle (hold b) c new old idle.0 idle.1
 frame_agrees p hold ts pool P f b n c i r w new old at_b at_n inside (inr B) =
-    let one : Stands p.program B.b B.n B.i = record { code = B.c; block = B.block; instr = B.instr } in
-    let two : Stands p.program b n i = record { code = c; block = at_b; instr = at_n } in
+    let one : IsPlaced p.program B.b B.n B.i = record { code = B.c; block = B.block; instr = B.instr } in
+    let two : IsPlaced p.program b n i = record { code = c; block = at_b; instr = at_n } in
     let same : B.b ≡ b = one_frame p ts pool P f B.b b B.n n B.i i B.r r B.w w one two
     (Contains-append_left ts pool (at_port p.program f B.b B.n B.r B.w) B.came) inside in
     let code : B.c ≡ c = same_Some B.c c (sym B.block ∙ ap (slice_get p.program.blocks) same ∙ at_b) in

@@ -10,7 +10,7 @@ use Rattle.code.specs.Sound.{IsSound}
 use Rattle.folding.specs.Folds.{new_op}
 use Rattle.folding.specs.Places.{Layout, layout_of, folds_at}
 use Rattle.folding.specs.Moved.{moved_dests}
-use Rattle.folding.specs.Folded.{left_from, all_marks}
+use Rattle.folding.specs.Folded.{remaining_from, all_marks}
 use Rattle.law_fresh_frames.specs.Fresh.{FaithfulOnce}
 use Rattle.law_fresh_frames.specs.Alike.{RunsAlike, LandsRightly, IsTidy, PassKeeps}
 use Rattle.law_immediates.specs.Fold.{Folds}
@@ -20,7 +20,7 @@ slotted l n i =
     record { op = new_op (folds_at l n) i.op; origin = i.origin; slot = i.slot; firsts = moved_dests l n i.firsts; seconds = moved_dests l n i.seconds }
 
 abbrev pub kept_block : Plan → CodeBlock → CodeBlock
-kept_block p c = record c { instrs = left_from (layout_of p c) (slotted (layout_of p c)) 0 c.instrs }
+kept_block p c = record c { instrs = remaining_from (layout_of p c) (slotted (layout_of p c)) 0 c.instrs }
 
 abbrev pub kept_blocks : Plan → List CodeBlock → List CodeBlock
 kept_blocks p cs = map (kept_block p) cs

@@ -11,7 +11,8 @@ use Rattle.source.specs.declared.token.Token.{Token}
 use Rattle.source.specs.declared.word.Word.TheVariants as word
 use Rattle.source.specs.Tree.{NameAt, NumberAt, Expr, Number, Named, Bracket, Prefix, Infix, Fetch, Store, Call, If, Loop, Exprs, One, More, Body, Let, Do}
 use Rattle.source.specs.Tree.{Give, Chain, Turn, Before, After as TestLast, Function, Item, Cells, Defines, Program}
-use Rattle.source.specs.Spelled.{TheWord, TheSign, TheNumber, TheName, Spelling, the_word, the_sign, sign_at, name_token, listed, result_tokens, body_tokens}
+use Rattle.source.specs.Spelled.{TheWord, TheSign, TheNumber, TheName, Spelling, the_word, the_sign, sign_at, name_token, with_commas, result_tokens}
+use Rattle.source.specs.Spelled.{body_tokens}
 use Rattle.source.specs.Spelled.{item_tokens, program_tokens}
 use Rattle.source.specs.Fits.{IsSmall, FitsItem, FitsProgram, item_depth, program_depth}
 use Rattle.source.specs.Words.{Words, result_words, body_words, item_words, program_words}
@@ -20,7 +21,7 @@ use Rattle.law_language.specs.declared.symbol.Symbol.TheVariants.{Sign as OneSig
 use Rattle.law_language.specs.declared.symbol.Symbol.TheVariants.{Results, ResultCount, FunctionBody, Steps}
 use Rattle.law_language.specs.GrammarAutomaton.{Stack, Placed, placed, Moved, advance, finish, run, parsed}
 use Rattle.law_language.proofs.GrammarYielded.{further}
-use Rattle.law_language.proofs.GrammarExplainLists.{listed_is}
+use Rattle.law_language.proofs.GrammarExplainLists.{with_commas_is}
 use Rattle.law_language.proofs.GrammarRuns.{Spells, spells, moved_by, advance_all, Ran, whole, unended, stopped, ran}
 use Rattle.law_language.proofs.GrammarLeads.{moved_nothing, small_is, advance_append, Leads, leads_as, leads_none, leads_settled, leads_append, Reads}
 use Rattle.law_language.proofs.GrammarReadOperands.{ExprReads, leads_step, leads_any, leads_sign, reads_number, reads_named, reads_bracket, reads_neg}
@@ -165,7 +166,7 @@ module _ (limit : ℕ) where
               leads = leads_as all (ap (λ t. the_word keyword.Fn ∷ name_token f.name ∷ the_sign sign.OpenParen ∷ t)
                   (function_tokens (name_token x) (further (map name_token xs)) R B (the_sign sign.CloseParen)
                   ∙ ap (λ t. (t ++ the_sign sign.CloseParen ∷ R) ++ B)
-                  (sym (listed_is (name_token x) (map name_token xs)) ∙ ap (λ ys. listed (map name_token ys)) (sym is)))) refl;
+                  (sym (with_commas_is (name_token x) (map name_token xs)) ∙ ap (λ ys. with_commas (map name_token ys)) (sym is)))) refl;
               settles = λ at l h. refl;
             };
             ends = refl;

@@ -14,7 +14,7 @@ use Rattle.law_language.specs.GrammarReady.{Ready}
 use Rattle.law_language.proofs.GrammarMeaning.{Yields, Explains, takes, refuses}
 use Rattle.law_language.proofs.GrammarGivens.{deep_max, explains_above}
 use Rattle.law_language.proofs.GrammarExplainOperands.{explains_operand}
-use Rattle.law_language.proofs.GrammarExplainLists.{listed_is}
+use Rattle.law_language.proofs.GrammarExplainLists.{with_commas_is}
 
 module _ (limit : ℕ) where
   -- BODIES
@@ -100,7 +100,8 @@ module _ (limit : ℕ) where
   explains_steps d at (TheWord keyword.Let) r = takes (Some at) refl (tt, (r, tt)) (λ ss₁ ws₁ y₁ ss₂ ws₂ y₂. record {
     b = Let at (y₁.t ∷ y₂.ts) y₂.es y₂.rest;
     ok = record { fits = (omega arith, y₂.ok.fits, y₂.rest_ok.fits); deep = deep_max d _ _ limit y₂.ok.deep y₂.rest_ok.deep };
-    spelled = rw (y₁.spelled, listed_is (target_token y₁.t) (map target_token y₂.ts)) (ap (λ t. word_at at keyword.Let ∷ target_token y₁.t ∷ t) y₂.spelled);
+    spelled = rw (y₁.spelled, with_commas_is (target_token y₁.t) (map target_token y₂.ts))
+        (ap (λ t. word_at at keyword.Let ∷ target_token y₁.t ∷ t) y₂.spelled);
     says = rw y₁.says (ap (λ t. word.Let at ∷ target_word y₁.t ∷ t) y₂.says);
   })
   explains_steps d at l r = explains_step d at l r

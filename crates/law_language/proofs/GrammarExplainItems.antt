@@ -27,7 +27,7 @@ use Rattle.law_language.proofs.GrammarGivens.{explains_if, explains_small}
 use Rattle.law_language.proofs.GrammarTerminals.{that_sign, that_word}
 use Rattle.law_language.proofs.GrammarExplainFollowing.{explains_after, explains_after_name, explains_after_index}
 use Rattle.law_language.proofs.GrammarExplainOperands.{explains_operand, explains_negated, explains_otherwise}
-use Rattle.law_language.proofs.GrammarExplainLists.{listed_is, explains_call_end, explains_let_end, explains_step_end, explains_callee, explains_start}
+use Rattle.law_language.proofs.GrammarExplainLists.{with_commas_is, explains_call_end, explains_let_end, explains_step_end, explains_callee, explains_start}
 use Rattle.law_language.proofs.GrammarExplainLists.{explains_starts, explains_turn, explains_bound}
 use Rattle.law_language.proofs.GrammarExplainBodies.{explains_target, explains_targets, explains_steps}
 
@@ -61,7 +61,7 @@ module _ (limit : ℕ) where
       let f : Function = record { name = y₁.x; params = y₃.x ∷ y₄.xs; results = y₅.results; body_at = y₅.at; body = y₅.b } in
       with_item (Defines f) (the_word keyword.Fn ∷ (((((ss₁ ++ ss₂) ++ ss₃) ++ ss₄) ++ ss₅) ++ ss₆)) ss₇ (((((ws₁ ++ ws₂) ++ ws₃) ++ ws₄) ++ ws₅) ++ ws₆) ws₇
       (omega arith, y₅.small, y₅.ok.fits) (let g = y₅.ok.deep in omega arith)
-      (rw (y₁.spelled, y₂.spelled, y₃.spelled, y₆.spelled, listed_is (name_token y₃.x) (map name_token y₄.xs))
+      (rw (y₁.spelled, y₂.spelled, y₃.spelled, y₆.spelled, with_commas_is (name_token y₃.x) (map name_token y₄.xs))
       (ap (λ t. the_word keyword.Fn ∷ name_token y₁.x ∷ the_sign sign.OpenParen ∷ name_token y₃.x ∷ t) (function_tokens _ _ _ ss₄ ss₅ _ y₄.spelled y₅.spelled)))
       (rw (y₁.says, y₂.says, y₃.says, y₆.says)
       (ap (λ t. word.Function y₁.x.at y₁.x.name ∷ word.Parameter y₃.x.at y₃.x.name ∷ t) (function_words _ _ _ _ ws₄ ws₅ y₄.says y₅.says)))

@@ -4,7 +4,8 @@ use Rattle.source.specs.declared.token.Keyword.TheVariants as keyword
 use Rattle.source.specs.declared.token.Sign.TheVariants as sign
 use Rattle.source.specs.declared.word.Word.TheVariants as word
 use Rattle.source.specs.Tree.{Name, Expr, Exprs, One, More, Before, After as TestLast}
-use Rattle.source.specs.Spelled.{Lexeme, TheWord, TheSign, TheNumber, TheName, Spelling, the_word, the_sign, number_at, name_at, name_token, listed, tokens}
+use Rattle.source.specs.Spelled.{Lexeme, TheWord, TheSign, TheNumber, TheName, Spelling, the_word, the_sign, number_at, name_at, name_token}
+use Rattle.source.specs.Spelled.{with_commas, tokens}
 use Rattle.source.specs.Spelled.{list_tokens, first_tokens, turn_tokens}
 use Rattle.source.specs.Words.{Words, words, part_words, first_words, body_words, turn_words}
 use Rattle.law_language.specs.declared.symbol.Symbol.TheVariants.{LetEnd, StepEnd, Callee, CallEnd, Bound, Start, Starts, Turn as OneTurn}
@@ -30,9 +31,9 @@ pub more_words : (e f : Expr) (es : Exprs) (end ws₁ ws₂ : Words) → part_wo
     → part_words (More e es) ++ end ≡ words e ++ word.Part ∷ (ws₁ ++ ws₂)
 more_words e f es end ws₁ ws₂ p q = append_assoc (words e) (word.Part ∷ part_words es) end ∙ ap (λ t. words e ++ word.Part ∷ t) (p ∙ ap (λ t. t ++ ws₂) q)
 
-pub listed_is : (s : Spelling) (ss : List Spelling) → listed (s ∷ ss) ≡ s ∷ further ss
-listed_is s [] = refl
-listed_is s (t ∷ ss) = ap (λ u. s ∷ the_sign sign.Comma ∷ u) (listed_is t ss)
+pub with_commas_is : (s : Spelling) (ss : List Spelling) → with_commas (s ∷ ss) ≡ s ∷ further ss
+with_commas_is s [] = refl
+with_commas_is s (t ∷ ss) = ap (λ u. s ∷ the_sign sign.Comma ∷ u) (with_commas_is t ss)
 
 pub test_first_tokens : {A : Type 0} (a b : List A) (x : A) → a ++ x ∷ b ≡ ((a ++ []) ++ x ∷ []) ++ b
 test_first_tokens a b x = simp (append_assoc, append-nil)

@@ -24,7 +24,7 @@ pub data Closes : Sign → Type 0 where
   close_brace : Closes sign.CloseBrace
   open_brace : Closes sign.OpenBrace
 
--- behind an operand of this level: what closes, and an operator that takes it to its left
+-- after an operand of this level: what closes, and an operator that takes it to its left
 pub data Stops (k : ℕ) : Lexeme → Type 0 where
   closes : {s : Sign} → Closes s → Stops k (TheSign s)
   operates : (s : InfixSign) → left_level s ≤ k → Stops k (TheSign (infix_sign s))

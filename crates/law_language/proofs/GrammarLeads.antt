@@ -1,4 +1,4 @@
--- HOW TOKENS LEAD FROM ONE STACK TO ANOTHER. Behind an expression words may be pending, and symbols that the next token passes:
+-- HOW TOKENS LEAD FROM ONE STACK TO ANOTHER. After an expression words may be pending, and symbols that the next token passes:
 -- the stack is then as good as another one for each token that may follow.
 use Rattle.std.proofs.Common.{◌≡◌, ℕ, ◌<◌, ◌≤◌, List, [], ◌∷◌, ◌++◌, Result, Ok, Err, refl, sym, ap, ◌∙◌, subst, append_assoc, append-nil, if◌then◌else◌}
 use Rattle.std.specs.Prelude.{◌^◌}

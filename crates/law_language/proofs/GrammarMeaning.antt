@@ -51,7 +51,7 @@ Yields limit (Starts d) ss ws = (x : NameAt) (e : Expr) → IsOperand limit 0 (d
     → Firsts limit d (name_token x ∷ the_sign sign.Equals ∷ tokens e ++ ss) (word.Start x.at x.name ∷ words e ++ ws)
 Yields limit (OneTurn d) ss ws = (xs : List NameAt) → Turns limit d xs ss ws
 
--- Whatever the symbols of a stack read behind these tokens and words, this holds of all of them.
+-- Whatever the symbols of a stack read after these tokens and words, this holds of all of them.
 abbrev pub Given : ℕ → Stack → (List Spelling → Words → Type 0) → List Spelling → Words → Type 0
 Given limit [] K ss ws = K ss ws
 Given limit (s ∷ S) K ss ws = (ts : List Spelling) (vs : Words) → Yields limit s ts vs → Given limit S K (ss ++ ts) (ws ++ vs)

@@ -18,7 +18,7 @@ use Rattle.law_language.specs.declared.symbol.Symbol.TheVariants.{StepEnd, Opera
 use Rattle.law_language.specs.GrammarAutomaton.{Stack, Outcome, Takes, Passes, Refuses, appending, above, operand, steps, conditional, moved_after, advance_by}
 use Rattle.law_language.specs.GrammarAutomaton.{advance}
 use Rattle.law_language.proofs.GrammarYielded.{AreAll, IsBody, IsTurn, further}
-use Rattle.law_language.proofs.GrammarExplainLists.{listed_is}
+use Rattle.law_language.proofs.GrammarExplainLists.{with_commas_is}
 use Rattle.law_language.proofs.GrammarExplainBodies.{operand_never_passes}
 use Rattle.law_language.proofs.GrammarLeads.{within_is, small_is, Leads, leads_as, leads_none, leads_settled, leads_append, advance_sign, advance_word, Reads}
 use Rattle.law_language.proofs.GrammarLeads.{reads_exactly, reads_as, reads_leads, leads_reads, reads_pass, leads_pass}
@@ -44,7 +44,7 @@ module _ (limit : ℕ) where
   emit_word : (w : Word Name) (k : Keyword) (S : Stack) → Leads limit (Emit w ∷ OneWord k ∷ S) (the_word k ∷ []) (w ∷ []) S
   emit_word w k S = one_token limit (Emit w ∷ OneWord k ∷ S) S (the_word k) (w ∷ []) (λ at p. ap (moved_after (w ∷ [])) (advance_word limit k S at))
 
-  -- WHAT IS TO BE SHOWN of a body: an `if` that is all of it stands behind `else`.
+  -- WHAT IS TO BE SHOWN of a body: an `if` that is all of it stands after `else`.
   abbrev pub BodyReads : Body → Type 0
   BodyReads (Chain e) = (d : ℕ) (S : Stack) → IsBody limit true d (Chain e) → Reads limit (Otherwise d ∷ S) (tokens e) (body_words (Chain e)) Any S
   BodyReads (Let at ts es rest) = (d : ℕ) (S : Stack) → IsBody limit false d (Let at ts es rest)
@@ -59,7 +59,7 @@ module _ (limit : ℕ) where
   body_leads (Give es) d S f ok = f d S ok
   body_leads (Chain e) d S f ok = absurd (let g = ok.fits.0 in cc)
 
-  -- behind an `else`
+  -- after an `else`
   braced_reads : (b : Body) (d : ℕ) (S : Stack) → Leads limit (Steps d ∷ S) (body_tokens b) (body_words b) S
       → Reads limit (Otherwise d ∷ S) (the_sign sign.OpenBrace ∷ body_tokens b) (body_words b) Any S
   braced_reads b d S l =
@@ -72,7 +72,7 @@ module _ (limit : ℕ) where
   branch_reads (Give es) d S f ok = braced_reads (Give es) d S (f d S (record { fits = ok.fits; deep = ok.deep }))
   branch_reads (Chain e) d S f ok = f d S ok
 
-  -- CONDITIONALS, behind their `if`
+  -- CONDITIONALS, after their `if`
   abbrev if_rest : Expr → Body → Body → List Spelling
   if_rest p l r = tokens p ++ the_sign sign.OpenBrace ∷ body_tokens l ++ the_word keyword.Else ∷ braced (is_chain r) (body_tokens r)
 
@@ -219,7 +219,7 @@ module _ (limit : ℕ) where
       (sym (let_tokens (target_token t) (further (map target_token ts)) (list_tokens es) (body_tokens rest) (the_sign sign.Equals)
       (the_sign sign.Semicolon))
       ∙ ap (λ u. (u ++ (the_sign sign.Equals ∷ list_tokens es)) ++ the_sign sign.Semicolon ∷ body_tokens rest)
-      (sym (listed_is (target_token t) (map target_token ts)))))
+      (sym (with_commas_is (target_token t) (map target_token ts)))))
       (ap (λ u. word.Let at ∷ u) (sym (let_tokens (target_word t) (map target_word ts) (part_words es) (body_words rest) word.List (word.EndLet at))))
 
   -- LOOPS

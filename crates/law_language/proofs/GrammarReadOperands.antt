@@ -22,7 +22,7 @@ use Rattle.law_language.proofs.GrammarLeads.{within_is, small_is, moved_nothing,
 use Rattle.law_language.proofs.GrammarLeads.{advance_takes, advance_sign, Reads, reads_exactly, reads_as, reads_leads, leads_reads, reads_pass, leads_pass}
 use Rattle.law_language.proofs.GrammarFollowed.{close_paren, Stops, closes, stops_more, stops_seven, pass_after, pass_end, pass_name}
 
--- what stands on the stack behind an expression
+-- what stands on the stack after an expression
 abbrev pub rest_of : Expr → ℕ → ℕ → Stack → Stack
 rest_of (Number at n) m d S = After m 9 d ∷ S
 rest_of (Named at x) m d S = After m 9 d ∷ S
@@ -125,7 +125,7 @@ module _ (limit : ℕ) where
       reads_as limit (leads_pass limit (Stops 9) (word.Bracket ∷ []) (λ at l h. refl) all) refl (ap (λ t. t ++ word.Bracket ∷ []) (append-nil (words e)))
 
   -- PREFIXES
-  -- what is behind the sign
+  -- what is after the sign
   prefixed : (at : ℕ) (op : Unary) (e : Expr) (m d k : ℕ) (S X : Stack) (ws : Words) → 8 ≤ k
       → Reads limit X (tokens e) (words e) (Stops k) (After 8 k (d + 1) ∷ Emit (word.Prefix at op) ∷ After m 8 d ∷ S)
       → Reads limit X (tokens e) (words e ++ word.Prefix at op ∷ []) (Stops 8) (After m 8 d ∷ S)
@@ -152,7 +152,7 @@ module _ (limit : ℕ) where
       not_least (inl h) = h
       not_least (inr h) = absurd h
 
-  -- behind a `-` that is no number
+  -- after a `-` that is no number
   negated_leads : (d : ℕ) (Z T : Stack) (s : Spelling) (ss : List Spelling) (ws : Words)
       → ((at : ℕ) → negated limit d at s.lexeme ≡ operand limit 8 (d + 1) at s.lexeme)
       → Leads limit (Operand 8 (d + 1) ∷ Z) (s ∷ ss) ws T → Leads limit (Negated d ∷ Z) (s ∷ ss) ws T

@@ -92,10 +92,10 @@ module _ (limit : ℕ) (K : List Spelling → Words → Type 0) (at : ℕ) (l : 
   advanced_by : (s : Symbol Name) (below : Stack) (ss : List Spelling) (ws : Words) → AllReady limit below → Given limit (s ∷ below) K ss ws
       → ((vs : Words) → Given limit below K ss (ws ++ vs) → Advanced limit K ss (ws ++ vs) at l (advance limit below at l))
       → (o : Outcome) → Explains limit s at l o → Advanced limit K ss ws at l (advance_by o below (advance limit below at l))
-  advanced_by s below ss ws b given further (Takes vs P) (takes place is ready comes) =
+  advanced_by s below ss ws b given further (Takes vs P) (takes place is ready delivers) =
       let x : Spelling = record { place = place; lexeme = l } in
       let together : Given limit (P ++ below) K ((ss ++ x ∷ []) ++ []) (ws ++ vs) =
-      given_then limit P below _ K (ss ++ x ∷ []) ws (λ ts us y. rw (append_assoc ss (x ∷ []) ts) (given (x ∷ ts) us y)) [] vs comes in
+      given_then limit P below _ K (ss ++ x ∷ []) ws (λ ts us y. rw (append_assoc ss (x ∷ []) ts) (given (x ∷ ts) us y)) [] vs delivers in
       moved place is (ready_append limit P below ready b) (subst (λ ts. Given limit (P ++ below) K ts (ws ++ vs)) (append-nil (ss ++ x ∷ [])) together)
   advanced_by s below ss ws b given further (Passes vs) (passes y) =
       moved_later ss ws vs (advance limit below at l) (further vs (subst (λ ts. Given limit below K ts (ws ++ vs)) (append-nil ss) (given [] vs y)))
@@ -143,5 +143,5 @@ module _ (limit : ℕ) (K : List Spelling → Words → Type 0) where
           → AdvancedAll limit K ts vs ps (advance_all limit stack ps))
           → (r : Result Moved FaultKind) → Advanced limit K ss ws p.at p.lexeme r
           → AdvancedAll limit K ss ws (p ∷ ps) (moved_by r (λ stack. advance_all limit stack ps))
-      go further (Ok m) (moved place is ready comes) = advanced_on p ps ss ws m.appended place is _ (further m.stack _ _ ready comes)
+      go further (Ok m) (moved place is ready delivers) = advanced_on p ps ss ws m.appended place is _ (further m.stack _ _ ready delivers)
       go further (Err kind) h = refused_all

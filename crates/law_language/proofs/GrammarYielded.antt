@@ -117,7 +117,7 @@ pub record OneOfTargets (ss : List Spelling) (ws : Words) : Type 0 where
   pub spelled : ss ≡ target_token t ∷ []
   pub says : ws ≡ target_word t ∷ []
 
--- further tokens of a list, each behind a comma
+-- further tokens of a list, each after a comma
 abbrev pub further : List Spelling → List Spelling
 further [] = []
 further (s ∷ ss) = the_sign sign.Comma ∷ s ∷ further ss

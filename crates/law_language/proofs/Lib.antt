@@ -48,8 +48,8 @@ pub mod LoweredTables
 pub mod MeansTheorem
 pub mod MeansHolding
 pub mod MeansHaving
-pub mod MeansMainComes
-pub mod MeansMainStands
+pub mod MeansMainDelivers
+pub mod MeansMainActive
 pub mod MeansNamesAgree
 pub mod MeansPlaced
 pub mod MeansRanges
@@ -78,7 +78,7 @@ pub mod MeansTurn
 pub mod MeansLoop
 pub mod MeansSteps
 pub mod MeansPlaceCounts
-pub mod MeansPartsTold
-pub mod MeansOriginsTold
+pub mod MeansPartsTraced
+pub mod MeansOriginsTraced
 pub mod MeansTexts
 pub mod MeansExample

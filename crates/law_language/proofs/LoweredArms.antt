@@ -13,7 +13,7 @@ use Rattle.source.specs.Tree.{Name}
 use Rattle.source.specs.Lowered.{Made, Lowered, Site, Spot, Scope, source_in, port, inputs_from, made, spot_after, enters, or_predicate, entered_names}
 use Rattle.source.specs.Lowered.{arm_site, arm_scope, arm, merges, chosen}
 use Rattle.source.proofs.CountedSources.{inputs_count}
-use Rattle.law_language.specs.LoweredWell.{HoldsMade, IsGoodSource, AreGood, AreKnown, IsLineWell, AreWell, IsSite, IsHeld, IsWell}
+use Rattle.law_language.specs.LoweredWell.{HoldsMade, IsGoodSource, AreGood, AreKnown, IsLineWell, AreWell, IsSite, IsIncluded, IsWell}
 use Rattle.law_language.proofs.LoweredSources.{all_of_each, made_split, region_later, goods_later, all_earlier, all_lie, line_source, well_append}
 use Rattle.law_language.proofs.LoweredSources.{followed_well, first_held, rest_held}
 use Rattle.law_language.proofs.LoweredEnding.{plain_node}
@@ -70,7 +70,7 @@ module _ (g : Graph) (b : Block Name) where
     enter_ports (s ∷ ss) = (record { region = is; port = refl }, enter_ports ss)
 
     pub enters_well : (spot : Spot) (ss : List Source) → IsCondIn r cond spot.next → AreGood g b r spot.next ss
-        → IsHeld g b here.function spot.next (enters here spot at ss) → IsWell g b here.function (Arm cond side) spot.next (enters here spot at ss)
+        → IsIncluded g b here.function spot.next (enters here spot at ss) → IsWell g b here.function (Arm cond side) spot.next (enters here spot at ss)
     enters_well spot ss c w h =
         let long : length (map enter ss) ≡ length ss = length-map ss enter in
         record {
@@ -105,13 +105,13 @@ module _ (g : Graph) (b : Block Name) where
     abbrev sources : List Source
     sources = or_predicate predicate (map (source_in scope) xs)
 
-    pub gates_well : IsHeld g b site.function spot.next gates → IsWell g b site.function (Arm cond side) spot.next gates
+    pub gates_well : IsIncluded g b site.function spot.next gates → IsWell g b site.function (Arm cond side) spot.next gates
     gates_well h =
         enters_well here cond side site.region at refl spot sources c
         (good_or_predicate site.region spot.next predicate (map (source_in scope) xs) predicate_good
         (each_source (λ s. IsGoodSource g b site.region spot.next s) scope xs known)) h
 
-    inner_site : IsHeld g b site.function spot.next gates → IsSite g b here (spot_after spot gates).next
+    inner_site : IsIncluded g b site.function spot.next gates → IsSite g b here (spot_after spot gates).next
     inner_site h =
         let some = some_source predicate (map (source_in scope) xs) in
         record {
@@ -119,7 +119,7 @@ module _ (g : Graph) (b : Block Name) where
           trigger = first_input (Arm cond side) (spot_after spot gates).next spot.next sources some.1 some.0 some.2 (gates_well h).sources;
         }
 
-    inner_known : (ys : List Name) → AreIn xs ys → IsHeld g b site.function spot.next gates
+    inner_known : (ys : List Name) → AreIn xs ys → IsIncluded g b site.function spot.next gates
         → AreKnown g b (Arm cond side) (spot_after spot gates).next (arm_scope gates xs) ys
     inner_known ys i h =
         let many = (some_source predicate (map (source_in scope) xs)).3 in
@@ -130,9 +130,9 @@ module _ (g : Graph) (b : Block Name) where
 
     pub arm_well : (ys : List Name) (body : Site → Spot → Scope → Lowered) → AreIn xs ys
         → (IsSite g b here (spot_after spot gates).next → AreKnown g b (Arm cond side) (spot_after spot gates).next (arm_scope gates xs) ys
-        → IsHeld g b site.function (spot_after spot gates).next (body here (spot_after spot gates) (arm_scope gates xs))
+        → IsIncluded g b site.function (spot_after spot gates).next (body here (spot_after spot gates) (arm_scope gates xs))
         → IsWell g b site.function (Arm cond side) (spot_after spot gates).next (body here (spot_after spot gates) (arm_scope gates xs)))
-        → IsHeld g b site.function spot.next (arm site cond side spot at scope predicate xs body)
+        → IsIncluded g b site.function spot.next (arm site cond side spot at scope predicate xs body)
         → IsWell g b site.function (Arm cond side) spot.next (arm site cond side spot at scope predicate xs body)
     arm_well ys body i inner h =
         let l : Lowered = body here (spot_after spot gates) (arm_scope gates xs) in
@@ -189,13 +189,13 @@ module _ (g : Graph) (b : Block Name) where
     abbrev cond_line : Node Name
     cond_line = record { region = site.region; kind = node.Cond; sources = predicate }
 
-    pub record AreHeld : Type 0 where
+    pub record AreIncluded : Type 0 where
       pub cond : node_at b spot.next ≡ Some cond_line
-      pub left : IsHeld g b site.function (spot.next + 1) l
-      pub right : IsHeld g b site.function (spot.next + 1 + length l.nodes) r
+      pub left : IsIncluded g b site.function (spot.next + 1) l
+      pub right : IsIncluded g b site.function (spot.next + 1 + length l.nodes) r
       pub merges : HoldsMade b (spot.next + 1 + length l.nodes + length r.nodes) joins
 
-    pub parts_held : IsHeld g b site.function spot.next whole → AreHeld
+    pub parts_held : IsIncluded g b site.function spot.next whole → AreIncluded
     parts_held h =
         let both = length-append l.nodes r.nodes in
         let lines = made_split b (spot.next + 1) (l.nodes ++ r.nodes) joins h.lines.1 in
@@ -209,10 +209,10 @@ module _ (g : Graph) (b : Block Name) where
           merges = subst (λ n. HoldsMade b n joins) behind lines.1;
         }
 
-    pub cond_is : AreHeld → IsCondIn site.region spot.next (spot.next + 1)
+    pub cond_is : AreIncluded → IsCondIn site.region spot.next (spot.next + 1)
     cond_is h = record { earlier = omega arith; is = subst IsCondNode (sym h.cond) refl; region = ap region_in h.cond }
 
-    pub chosen_well : IsRegion b spot.next site.region → AreGood g b site.region spot.next predicate → length predicate ≡ 1 → AreHeld
+    pub chosen_well : IsRegion b spot.next site.region → AreGood g b site.region spot.next predicate → length predicate ≡ 1 → AreIncluded
         → IsWell g b site.function (Arm spot.next true) (spot.next + 1) l
         → IsWell g b site.function (Arm spot.next false) (spot.next + 1 + length l.nodes) r
         → IsWell g b site.function site.region spot.next whole

@@ -155,25 +155,25 @@ same_stem (x ∷ f) (y ∷ h) u v fs hs other none e =
     ap (λ (a : ℕ). a ∷ f) first ∙ ap (λ (l : List ℕ). y ∷ l) rest
 
 -- names of blocks tell their functions
-function_told : (f h : Name) (j k : ℕ) → j ≤ 256 → k ≤ 256 → has_double f ≡ false → has_double h ≡ false → block_name f j ≡ block_name h k → f ≡ h
-function_told f h zero zero low few fs hs e = e
-function_told f h zero (suc k) low few fs hs e = let is = doubled h (decimal (suc k)) in let same = ap has_double e in absurd cc
-function_told f h (suc j) zero low few fs hs e = let is = doubled f (decimal (suc j)) in let same = ap has_double e in absurd cc
-function_told f h (suc j) (suc k) low few fs hs e =
+function_traced : (f h : Name) (j k : ℕ) → j ≤ 256 → k ≤ 256 → has_double f ≡ false → has_double h ≡ false → block_name f j ≡ block_name h k → f ≡ h
+function_traced f h zero zero low few fs hs e = e
+function_traced f h zero (suc k) low few fs hs e = let is = doubled h (decimal (suc k)) in let same = ap has_double e in absurd cc
+function_traced f h (suc j) zero low few fs hs e = let is = doubled f (decimal (suc j)) in let same = ap has_double e in absurd cc
+function_traced f h (suc j) (suc k) low few fs hs e =
     same_stem f h (decimal (suc j)) (decimal (suc k)) fs hs (λ w. no_mark j w (omega (arith, low))) (λ w. no_mark k w (omega (arith, few))) e
 
 -- and their loops
-loop_told : (f : Name) (j k : ℕ) → j ≤ 256 → k ≤ 256 → block_name f j ≡ block_name f k → j ≡ k
-loop_told f zero zero low few e = refl
-loop_told f zero (suc k) low few e =
+loop_traced : (f : Name) (j k : ℕ) → j ≤ 256 → k ≤ 256 → block_name f j ≡ block_name f k → j ≡ k
+loop_traced f zero zero low few e = refl
+loop_traced f zero (suc k) low few e =
     let a = length-append (f ++ codes "__") (decimal (suc k)) in
     let b : length (f ++ codes "__") ≡ length f + 2 = length-append f (codes "__") in
     let c = ap length e in absurd (omega (arith, a, b, c))
-loop_told f (suc j) zero low few e =
+loop_traced f (suc j) zero low few e =
     let a = length-append (f ++ codes "__") (decimal (suc j)) in
     let b : length (f ++ codes "__") ≡ length f + 2 = length-append f (codes "__") in
     let c = ap length e in absurd (omega (arith, a, b, c))
-loop_told f (suc j) (suc k) low few e =
+loop_traced f (suc j) (suc k) low few e =
     same_number (suc j) (suc k) (omega (arith, low)) (omega (arith, few)) (append_cancel_left (f ++ codes "__") (decimal (suc j)) (decimal (suc k)) e)
 
 -- OF ONE FUNCTION
@@ -194,7 +194,7 @@ loops_differ f n [] few h = tt
 loops_differ f n (b ∷ bs) few h =
     let first = h.0 in (
       each_weaker (IsBetween (n + 1)) (λ c. Differ (block_name f b.loop) (block_name f c.loop))
-          (λ c k. let low = k.0 in λ e. let same = loop_told f b.loop c.loop (omega (arith, first, few)) k.1 e in absurd (omega (arith, same, first, low))) bs
+          (λ c k. let low = k.0 in λ e. let same = loop_traced f b.loop c.loop (omega (arith, first, few)) k.1 e in absurd (omega (arith, same, first, low))) bs
           (between (n + 1) bs (omega (arith, few)) h.1),
       loops_differ f (n + 1) bs (omega (arith, few)) h.1,
     )
@@ -206,7 +206,7 @@ function_differ p h few =
     let l : List MadeBlock = (body_lowered p h).blocks in
     let numbered = blocks_numbered p h.body (turn_site f) (main_spot h) (function_scope h) in (
       each_weaker (IsBetween 0) (λ c. Differ f (block_name f c.loop))
-          (λ c k. let low = k.0 in λ e. let same = loop_told f 0 c.loop (omega arith) k.1 e in absurd (omega (arith, same, low))) l
+          (λ c k. let low = k.0 in λ e. let same = loop_traced f 0 c.loop (omega arith) k.1 e in absurd (omega (arith, same, low))) l
           (between 0 l (omega (arith, few)) numbered),
       loops_differ f 0 l (omega (arith, few)) numbered,
     )
@@ -270,7 +270,7 @@ across : (f : Name) (bs : List MadeBlock) (later : List Name) → has_double f �
 across f [] later single low others = tt
 across f (b ∷ bs) later single low others = (
   each_weaker (IsOf (IsOther f)) (Differ (block_name f b.loop))
-      (λ y o e. o.so.0 (function_told f o.function b.loop o.loop low.0 o.low single o.so.1 (e ∙ o.is))) later others,
+      (λ y o e. o.so.0 (function_traced f o.function b.loop o.loop low.0 o.low single o.so.1 (e ∙ o.is))) later others,
   across f bs later single low.1 others,
 )
 

@@ -7,7 +7,7 @@ use Rattle.semantics.specs.Graph.{Node, Block, Graph, node_at}
 use Rattle.semantics.specs.WellFormed.{IsRegion, HasPortOf, NamesWell, AllLieIn, LiesWell}
 use Rattle.source.specs.Tree.{Name}
 use Rattle.source.specs.Lowered.{Lowered, Site, Spot, ports_from, only, made, ended}
-use Rattle.law_language.specs.LoweredWell.{LiteralFits, AreGood, IsLineWell, IsHeld, IsWell}
+use Rattle.law_language.specs.LoweredWell.{LiteralFits, AreGood, IsLineWell, IsIncluded, IsWell}
 use Rattle.law_language.proofs.LoweredSources.{made_split, goods_later, all_earlier, all_lie, line_source, well_append}
 
 module _ (g : Graph) (b : Block Name) where
@@ -40,13 +40,13 @@ module _ (g : Graph) (b : Block Name) where
     abbrev own_line : Node Name
     own_line = record { region = site.region; kind = kind; sources = ss }
 
-    pub inner_held : IsHeld g b site.function spot.next own → IsHeld g b site.function spot.next l
+    pub inner_held : IsIncluded g b site.function spot.next own → IsIncluded g b site.function spot.next l
     inner_held h = record { lines = (made_split b spot.next l.nodes (made site at kind ss ∷ []) h.lines).0; blocks = h.blocks }
 
-    pub line_held : IsHeld g b site.function spot.next own → node_at b last ≡ Some own_line
+    pub line_held : IsIncluded g b site.function spot.next own → node_at b last ≡ Some own_line
     line_held h = (made_split b spot.next l.nodes (made site at kind ss ∷ []) h.lines).1.0
 
-    pub ended_well : (q : Region) → IsHeld g b site.function spot.next own → IsWell g b site.function q spot.next l → IsLineWell g b last own_line
+    pub ended_well : (q : Region) → IsIncluded g b site.function spot.next own → IsWell g b site.function q spot.next l → IsLineWell g b last own_line
         → ((k : ℕ) → k < values → HasPortOf g kind k ss) → IsWell g b site.function site.region spot.next own
     ended_well q held h line has =
         let long : length (l.nodes ++ made site at kind ss ∷ []) ≡ length l.nodes + 1 = length-append l.nodes (made site at kind ss ∷ []) in

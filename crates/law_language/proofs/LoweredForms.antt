@@ -20,7 +20,7 @@ use Rattle.source.specs.Tree.{Name, Expr, Number, Named, Bracket, Prefix, Infix,
 use Rattle.source.specs.Fits.{Fits, IsLeast}
 use Rattle.source.specs.Evaluates.{signed}
 use Rattle.source.specs.Lowered.{Lowered, Site, Spot, only, joined, ended, literal, prefixed, operands, operator_of, call_kind, first_of, chosen}
-use Rattle.law_language.specs.LoweredWell.{LiteralFits, IsGoodSource, AreGood, IsSite, IsHeld, IsWell}
+use Rattle.law_language.specs.LoweredWell.{LiteralFits, IsGoodSource, AreGood, IsSite, IsIncluded, IsWell}
 use Rattle.law_language.proofs.LoweredSources.{region_later, site_later, joined_well, first_held, rest_held}
 use Rattle.law_language.proofs.LoweredEnding.{only_well, plain_node, inner_held, ended_well}
 use Rattle.law_language.proofs.LoweredLiterals.{negated_fits}
@@ -82,9 +82,9 @@ sign_is site spot at Not e l h = inr (but_none h, refl)
 
 module _ (g : Graph) (b : Block Name) (site : Site) (spot : Spot) (at : ℕ) where
   abbrev Well : ℕ → Lowered → Type 0
-  Well n l = IsHeld g b site.function n l → IsWell g b site.function site.region n l
+  Well n l = IsIncluded g b site.function n l → IsWell g b site.function site.region n l
 
-  -- a node behind a part
+  -- a node after a part
   pub node_well : (l : Lowered) (kind : Kind Name) (ss : List Source) (values : ℕ) → IsSite g b site spot.next → NamesWell g kind (length ss)
       → (AllLieIn b site.region ss → LiesWell b (spot.next + length l.nodes) site.region kind ss) → LiteralFits kind →
       ((k : ℕ) → k < values → HasPortOf g kind k ss)
@@ -110,11 +110,11 @@ module _ (g : Graph) (b : Block Name) (site : Site) (spot : Spot) (at : ℕ) whe
       go : Signed site spot at op e l → IsWell g b site.function site.region spot.next (prefixed site spot at op e l)
       go (inl (k, is)) =
           subst (IsWell g b site.function site.region spot.next) (sym is)
-          (literal_well (on_int Neg (signed k)) (negated_fits k) here (subst (IsHeld g b site.function spot.next) is held))
+          (literal_well (on_int Neg (signed k)) (negated_fits k) here (subst (IsIncluded g b site.function spot.next) is held))
       go (inr (fits, is)) =
           subst (IsWell g b site.function site.region spot.next) (sym is)
           (node_well l (node.Apply1 op) l.sources 1 here one (λ h. h) tt (λ k h. omega (arith, h)) (inner fits) (λ w. w.sources)
-          (subst (IsHeld g b site.function spot.next) is held))
+          (subst (IsIncluded g b site.function spot.next) is held))
 
   pub both_well : (l r : Lowered) → Well spot.next l → Well (spot.next + length l.nodes) r → Well spot.next (joined l r)
   both_well l r x y held =
@@ -154,9 +154,9 @@ module _ (g : Graph) (b : Block Name) (site : Site) (spot : Spot) (at : ℕ) whe
 
   -- a conditional, from its arms
   pub chosen_from : (predicate : List Source) (l r : Lowered) → IsSite g b site spot.next → AreGood g b site.region spot.next predicate → length predicate ≡ 1
-      → (IsCondIn g b site.region spot.next (spot.next + 1) → IsHeld g b site.function (spot.next + 1) l → IsWell g b site.function (Arm spot.next true)
+      → (IsCondIn g b site.region spot.next (spot.next + 1) → IsIncluded g b site.function (spot.next + 1) l → IsWell g b site.function (Arm spot.next true)
       (spot.next + 1) l)
-      → (IsCondIn g b site.region spot.next (spot.next + 1 + length l.nodes) → IsHeld g b site.function (spot.next + 1 + length l.nodes) r
+      → (IsCondIn g b site.region spot.next (spot.next + 1 + length l.nodes) → IsIncluded g b site.function (spot.next + 1 + length l.nodes) r
       → IsWell g b site.function (Arm spot.next false) (spot.next + 1 + length l.nodes) r)
       → Well spot.next (chosen site spot at predicate l r)
   chosen_from predicate l r here good one x y held =

@@ -24,7 +24,7 @@ use Rattle.source.specs.Lowered.{arrays_of, graph_of}
 use Rattle.source.proofs.Steps.{then_ok, must_ok, ok_as}
 use Rattle.source.proofs.Kept.{test_ok}
 use Rattle.source.proofs.CountedSources.{inputs_count}
-use Rattle.law_language.specs.LoweredWell.{IsGoodSource, AreThere, AreBlocksWell, IsBlockGood, IsSite, IsHeld}
+use Rattle.law_language.specs.LoweredWell.{IsGoodSource, AreThere, AreBlocksWell, IsBlockGood, IsSite, IsIncluded}
 use Rattle.source.proofs.Holding.{holds_whole}
 use Rattle.source.proofs.Counting.{body_count}
 use Rattle.source.proofs.NamesUsed.{body_used}
@@ -175,7 +175,7 @@ module _ (p : Program) (g : Graph) (is : graph_of p ≡ g) (all : AreFunctionsGo
       let site : IsSite g b (turn_site f) n = record { region = tt; trigger = input_good g b 0 n (omega (arith, some)) (omega (arith, some)) } in
       let known = known_in (λ s. IsGoodSource g b Root n s) (bare h.params) (inputs_from 0 n) [] (inputs_good g b 0 n n (omega arith) (omega arith)) as_many
       (body_uses h.body) (body_used p (bare h.params) h.body (written_or_one h.results) good.values) in
-      let held : IsHeld g b f n l = record { lines = holds_whole b (map node_of l.nodes) refl; blocks = there.1 } in
+      let held : IsIncluded g b f n l = record { lines = holds_whole b (map node_of l.nodes) refl; blocks = there.1 } in
       let w = body_well p g called arrays h.body b (turn_site f) (main_spot h) (function_scope h) (bare h.params) (written_or_one h.results) false
       good.fits good.values site known held in
       let count : length l.sources ≡ written_or_one h.results = body_count p (turn_site f) (main_spot h) (function_scope h) h.body (bare h.params)

@@ -13,7 +13,7 @@ use Rattle.source.specs.Lowered.{MadeBlock, node_of, Lowered, Site, Spot, Scope,
 use Rattle.source.specs.Lowered.{looped}
 use Rattle.source.proofs.CountedSources.{inputs_count}
 use Rattle.source.proofs.Holding.{holds_whole}
-use Rattle.law_language.specs.LoweredWell.{IsGoodSource, AreGood, AreKnown, IsBlockGood, IsSite, IsHeld, IsWell}
+use Rattle.law_language.specs.LoweredWell.{IsGoodSource, AreGood, AreKnown, IsBlockGood, IsSite, IsIncluded, IsWell}
 use Rattle.law_language.proofs.LoweredSources.{known_later, region_later}
 use Rattle.law_language.proofs.LoweredNames.{each_source}
 use Rattle.law_language.proofs.LoweredEnding.{plain_node, inner_held, ended_well}
@@ -51,16 +51,16 @@ module _ (g : Graph) (b : Block Name) (site : Site) (spot : Spot) (scope : Scope
   whole = looped site spot scope at bound xs outs f t
 
   -- what holds all of it holds its parts
-  pub record AreHeld : Type 0 where
-    pub firsts : IsHeld g b site.function spot.next f
-    pub own : IsHeld g b site.function spot.next own
+  pub record AreIncluded : Type 0 where
+    pub firsts : IsIncluded g b site.function spot.next f
+    pub own : IsIncluded g b site.function spot.next own
     pub turn : Contains g.blocks (graph_block site.function turn)
-    pub inner : IsHeld g turn_is site.function (length xs + length outs) t
+    pub inner : IsIncluded g turn_is site.function (length xs + length outs) t
 
-  pub parts_held : IsHeld g b site.function spot.next whole → AreHeld
+  pub parts_held : IsIncluded g b site.function spot.next whole → AreIncluded
   parts_held h =
       let blocks = each_append_back (λ mb. Contains g.blocks (graph_block site.function mb)) f.blocks (turn ∷ t.blocks) h.blocks in
-      let mine : IsHeld g b site.function spot.next own = record { lines = h.lines; blocks = blocks.0 } in
+      let mine : IsIncluded g b site.function spot.next own = record { lines = h.lines; blocks = blocks.0 } in
       record {
         firsts = inner_held g b site spot f at (node.Loop (loop_name site.function number) bound) sources (length xs) mine;
         own = mine;
@@ -90,7 +90,7 @@ module _ (g : Graph) (b : Block Name) (site : Site) (spot : Spot) (scope : Scope
       let both = length-append f.sources (map (source_in scope) outs) in
       let outer = length-map outs (source_in scope) in omega (arith, both, outer, count)
 
-  shape : length f.sources ≡ length xs → length t.sources ≡ 1 + length xs → AreHeld
+  shape : length f.sources ≡ length xs → length t.sources ≡ 1 + length xs → AreIncluded
       → HasShape g (loop_name site.function number) (length sources) (length sources + 1)
   shape firsts count held =
       let name = is_loop_name site.function number (spot.loops + length f.blocks) refl in
@@ -100,7 +100,7 @@ module _ (g : Graph) (b : Block Name) (site : Site) (spot : Spot) (scope : Scope
 
   -- THE LOOP
   pub looped_well : IsSite g b site spot.next → IsCarried bound xs outs → AreKnown g b site.region spot.next scope outs
-      → length f.sources ≡ length xs → length t.sources ≡ 1 + length xs → AreHeld
+      → length f.sources ≡ length xs → length t.sources ≡ 1 + length xs → AreIncluded
       → IsWell g b site.function site.region spot.next f → IsWell g turn_is site.function Root (length xs + length outs) t
       → IsWell g b site.function site.region spot.next whole
   looped_well here c known firsts count held w v =

@@ -1,4 +1,4 @@
--- WHAT NAMES STAND FOR, behind what binds names: only the names that are used matter.
+-- WHAT NAMES STAND FOR, after what binds names: only the names that are used matter.
 use Rattle.std.proofs.Common.{◌≡◌, ◌≤◌, Bool, true, false, not, ◌||◌, List, [], ◌∷◌, ◌++◌, length, map, filter, if◌then◌else◌, refl, ap, ◌∙◌, arith}
 use Rattle.lemmas.proofs.Permutations.{Each}
 use Rattle.semantics.specs.declared.graph.Source.{Source}

@@ -25,7 +25,7 @@ use Rattle.source.proofs.Steps.{ok_as}
 use Rattle.source.proofs.CountedSources.{inputs_count}
 use Rattle.source.proofs.Kept.{in_prefix, in_infix, in_fetch, in_store, IsCalled, in_call, in_if, IsTurned, in_loop, in_more, in_first, in_firsts, in_let}
 use Rattle.source.proofs.Kept.{in_do, in_before, in_after}
-use Rattle.law_language.specs.LoweredWell.{IsGoodSource, AreGood, AreKnown, IsSite, IsHeld, IsWell, WellExpr, WellList, WellBody}
+use Rattle.law_language.specs.LoweredWell.{IsGoodSource, AreGood, AreKnown, IsSite, IsIncluded, IsWell, WellExpr, WellList, WellBody}
 use Rattle.law_language.proofs.LoweredSources.{good_later, known_later, site_later, joined_well, followed_well, first_held, rest_held}
 use Rattle.law_language.proofs.LoweredEnding.{only_well}
 use Rattle.law_language.proofs.LoweredLiterals.{signed_fits}
@@ -128,7 +128,7 @@ module _ (p : Program) (g : Graph)
   WellTurn turn = (b : Block Name) (f : Name) (spot : Spot) (at : ℕ) (scope : Scope) (names : List Name) (n : ℕ)
       → FitsTurn turn → turn_values p names turn ≡ Ok n → n ≡ length (names_of turn) → 0 < n
       → IsSite g b (turn_site f) spot.next → AreKnown g b Root spot.next scope (bare (names_of turn)) → AreKnown g b Root spot.next scope (inner_uses turn)
-      → IsHeld g b f spot.next (lower_turn p f spot at scope turn)
+      → IsIncluded g b f spot.next (lower_turn p f spot at scope turn)
       → IsWell g b f Root spot.next (lower_turn p f spot at scope turn)
 
   mutual
@@ -189,7 +189,7 @@ module _ (p : Program) (g : Graph)
         let d : Lowered = arm site s.next false o at scope (first_of c.sources) (outside_body r) (λ here inner names. lower_body p here inner names r) in
         let m : Lowered = chosen site s at c.sources a d in
         let one : length c.sources ≡ 1 = count_of p site spot scope q names 1 k.0.values in
-        let both : IsHeld g b site.function spot.next _ = record { lines = held.lines; blocks = held.blocks } in
+        let both : IsIncluded g b site.function spot.next _ = record { lines = held.lines; blocks = held.blocks } in
         let w = expr_well q b site spot scope names 1 fits.0 k.0.values here split.0 (first_held g b site.function site.region spot.next c m both) in
         let there : IsSite g b site s.next = site_later g b site spot.next s.next (omega arith) here in
         let predicate : IsGoodSource g b site.region s.next (first_of c.sources) = first_each (λ x. IsGoodSource g b site.region s.next x) c.sources one
@@ -264,7 +264,7 @@ module _ (p : Program) (g : Graph)
         let r : Spot = spot_after spot l in
         let inner : Scope = let_scoped targets l.sources scope in
         let m : Lowered = lower_body p site r inner rest in
-        let both : IsHeld g b site.function spot.next _ = record { lines = held.lines; blocks = held.blocks } in
+        let both : IsIncluded g b site.function spot.next _ = record { lines = held.lines; blocks = held.blocks } in
         let split = each_append_back (λ x. IsGoodSource g b site.region spot.next (source_in scope x)) (list_uses es)
         (without (bound_by targets) (body_uses rest)) known in
         let w = list_well es b site spot scope names (length targets) fits.1 k.1 here split.0 (first_held g b site.function site.region spot.next l m both) in
@@ -279,7 +279,7 @@ module _ (p : Program) (g : Graph)
         let l : Lowered = lower_list p site spot scope es in
         let r : Spot = spot_after spot l in
         let m : Lowered = lower_body p site r scope rest in
-        let both : IsHeld g b site.function spot.next _ = record { lines = held.lines; blocks = held.blocks } in
+        let both : IsIncluded g b site.function spot.next _ = record { lines = held.lines; blocks = held.blocks } in
         let split = each_append_back (λ x. IsGoodSource g b site.region spot.next (source_in scope x)) (list_uses es) (body_uses rest) known in
         followed_well g b site.function site.region spot.next l m site.region
         (list_well es b site spot scope names k.0 fits.0 k.1 here split.0 (first_held g b site.function site.region spot.next l m both))
@@ -326,7 +326,7 @@ module _ (p : Program) (g : Graph)
         let r : Spot = spot_after spot l in
         let inner : Scope = scoped (bare xs) l.sources scope in
         let m : Lowered = lower p site r inner q in
-        let both : IsHeld g b f spot.next _ = record { lines = held.lines; blocks = held.blocks } in
+        let both : IsIncluded g b f spot.next _ = record { lines = held.lines; blocks = held.blocks } in
         let w = body_well body b site spot scope names n false fits.0 k.0 here split.0 (first_held g b f Root spot.next l m both) in
         let outer = known_later g b Root spot.next r.next scope (uses q) (omega arith) split.1 in
         let v = expr_well q b site r inner names 1 fits.1 k.1.values (site_later g b site spot.next r.next (omega arith) here)

@@ -13,7 +13,7 @@ use Rattle.source.specs.Tree.{Name}
 use Rattle.source.specs.Holds.{Holds}
 use Rattle.source.proofs.Holding.{holds_split}
 use Rattle.source.specs.Lowered.{Made, Lowered, Site, Scope, source_in, node_of, port, joined, followed}
-use Rattle.law_language.specs.LoweredWell.{HoldsMade, IsGoodSource, AreGood, AreKnown, AreWell, IsSite, IsHeld, IsWell}
+use Rattle.law_language.specs.LoweredWell.{HoldsMade, IsGoodSource, AreGood, AreKnown, AreWell, IsSite, IsIncluded, IsWell}
 
 pub all_of_each : {X : Type 0} (P : X → Type 0) (xs : List X) → Each P xs → All P xs
 all_of_each P [] h = All-nil P
@@ -93,8 +93,8 @@ module _ (g : Graph) (b : Block Name) where
         }
 
     -- what holds both holds each
-    pub first_held : IsHeld g b f n (joined l m) → IsHeld g b f n l
+    pub first_held : IsIncluded g b f n (joined l m) → IsIncluded g b f n l
     first_held h = record { lines = (made_split b n l.nodes m.nodes h.lines).0; blocks = (each_append_back _ l.blocks m.blocks h.blocks).0 }
 
-    pub rest_held : IsHeld g b f n (joined l m) → IsHeld g b f (n + length l.nodes) m
+    pub rest_held : IsIncluded g b f n (joined l m) → IsIncluded g b f (n + length l.nodes) m
     rest_held h = record { lines = (made_split b n l.nodes m.nodes h.lines).1; blocks = (each_append_back _ l.blocks m.blocks h.blocks).1 }

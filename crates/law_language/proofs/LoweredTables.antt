@@ -107,7 +107,7 @@ module _ (names : List Name) (spelled : All IsSpelledName names) where
       let Known = λ (w : Word ℕ). All (λ n. n < length names) (numbers_of w) in
       (begins_spelled w (All-head Known w ws known), all_begin ws (All-tail Known w ws known))
 
--- the first word of an item, and those behind it
+-- the first word of an item, and those after it
 first_word : (i : Item) → Each BeginsSpelled (item_words i) → IsSpelledName (item_name i).name
 first_word (Cells x len) h = h.0
 first_word (Defines f) h = h.0

@@ -9,7 +9,7 @@ use Rattle.source.specs.Evaluates.{Stores, let_in, one, more, lets, does, gives,
 use Rattle.source.specs.Lowered.{Lowered, Site, Spot, Scope, spot_after, joined, followed, let_scoped, lower, lower_list, lower_body}
 use Rattle.source.proofs.Kept.{in_more, in_let, in_do}
 use Rattle.law_language.specs.MeansBelow.{stores_below}
-use Rattle.law_language.specs.Means.{Stands, MeansExpr, MeansList, MeansBody}
+use Rattle.law_language.specs.Means.{IsActive, MeansExpr, MeansList, MeansBody}
 use Rattle.law_language.proofs.MeansHaving.{have_both}
 use Rattle.law_language.proofs.MeansNamesAgree.{agrees_split, agrees_let}
 use Rattle.source.proofs.Counting.{list_count}
@@ -18,13 +18,13 @@ use Rattle.law_language.proofs.MeansParts.{first_part, rest_part}
 
 module _ (p : Program) (g : Graph) (origin : ℕ → Origin) (inputs : List ℤ) (run : List Activity) (s : State) (r : Run (flow_of g) (start inputs) run s)
     (c : Context) where
-  abbrev StandsIn : Site → Spot → Lowered → Type 0
-  StandsIn site spot l = Stands p g origin inputs run s r c site spot l
+  abbrev ActiveIn : Site → Spot → Lowered → Type 0
+  ActiveIn site spot l = IsActive p g origin inputs run s r c site spot l
 
   abbrev Makes : Stores → ℕ → ℕ → Type 0
   Makes ss lo hi = IsPermutation ss (stores_below (flow_of g) run c lo hi)
 
-  -- the stores of two parts, one behind the other
+  -- the stores of two parts, one after the other
   pub both_stored : (spot : Spot) (l k : Lowered) (ss us : Stores) → Makes ss spot.next (spot.next + length l.nodes)
       → Makes us (spot.next + length l.nodes) (spot.next + length l.nodes + length k.nodes)
       → Makes (ss ++ us) spot.next (spot.next + length (l.nodes ++ k.nodes))
@@ -47,8 +47,8 @@ module _ (p : Program) (g : Graph) (origin : ℕ → Origin) (inputs : List ℤ)
       let k : Lowered = lower_list p site (spot_after spot l) scope es in
       let rules = in_more p names e es n rule in
       let agree = agrees_split (flow_of g) inputs run s r c scope env (uses e) (list_uses es) known in
-      let before : StandsIn site spot l = first_part p g origin inputs run s r c site spot l (joined l k) k.nodes k.blocks refl refl h in
-      let behind : StandsIn site (spot_after spot l) k = rest_part p g origin inputs run s r c site spot l k (joined l k) refl refl h in
+      let before : ActiveIn site spot l = first_part p g origin inputs run s r c site spot l (joined l k) k.nodes k.blocks refl refl h in
+      let behind : ActiveIn site (spot_after spot l) k = rest_part p g origin inputs run s r c site spot l k (joined l k) refl refl h in
       let out = first site spot scope env names rules.0 fits.0 rules.2 before agree.0 in
       let later = others site (spot_after spot l) scope env names rules.1 fits.1 rules.3 behind agree.1 in
       record {
@@ -77,8 +77,8 @@ module _ (p : Program) (g : Graph) (origin : ℕ → Origin) (inputs : List ℤ)
       let k : Lowered = lower_body p site (spot_after spot l) scope rest in
       let rules = in_do p names es rest n rule in
       let agree = agrees_split (flow_of g) inputs run s r c scope env (list_uses es) (body_uses rest) known in
-      let before : StandsIn site spot l = first_part p g origin inputs run s r c site spot l (followed l k) k.nodes k.blocks refl refl h in
-      let behind : StandsIn site (spot_after spot l) k = rest_part p g origin inputs run s r c site spot l k (followed l k) refl refl h in
+      let before : ActiveIn site spot l = first_part p g origin inputs run s r c site spot l (followed l k) k.nodes k.blocks refl refl h in
+      let behind : ActiveIn site (spot_after spot l) k = rest_part p g origin inputs run s r c site spot l k (followed l k) refl refl h in
       let out = first site spot scope env names rules.0 fits.0 rules.1 before agree.0 in
       let later = means site (spot_after spot l) scope env names n false fits.1 rules.2 behind agree.1 in
       record {
@@ -98,8 +98,8 @@ module _ (p : Program) (g : Graph) (origin : ℕ → Origin) (inputs : List ℤ)
       let k : Lowered = lower_body p site (spot_after spot l) inner rest in
       let rules = in_let p names at targets es rest n rule in
       let agree = agrees_split (flow_of g) inputs run s r c scope env (list_uses es) (without (bound_by targets) (body_uses rest)) known in
-      let before : StandsIn site spot l = first_part p g origin inputs run s r c site spot l (followed l k) k.nodes k.blocks refl refl h in
-      let behind : StandsIn site (spot_after spot l) k = rest_part p g origin inputs run s r c site spot l k (followed l k) refl refl h in
+      let before : ActiveIn site spot l = first_part p g origin inputs run s r c site spot l (followed l k) k.nodes k.blocks refl refl h in
+      let behind : ActiveIn site (spot_after spot l) k = rest_part p g origin inputs run s r c site spot l k (followed l k) refl refl h in
       let out = first site spot scope env names (length targets) fits.1 rules.1 before agree.0 in
       let many : length targets ≡ length l.sources = sym (list_count p site spot scope es names (length targets) rules.1) in
       let bound = agrees_let (flow_of g) inputs run s r c targets l.sources out.vs scope env out.have many (body_uses rest) agree.1 in

@@ -15,7 +15,7 @@ use Rattle.lemmas.proofs.Alls.{all_at}
 use Rattle.lemmas.proofs.Permutations.{Within, each_from}
 use Rattle.lemmas.proofs.SliceGet.{map_get_back}
 use Rattle.law_confluence.specs.EquationsContexts.{depth}
-use Rattle.law_confluence.specs.EquationsGiven.{Stored, stores_of, outputs_in, ports_of, source_line, result_in}
+use Rattle.law_confluence.specs.EquationsHave.{Stored, stores_of, outputs_in, ports_of, source_line, result_in}
 use Rattle.law_confluence.specs.Equations.{LineEquation, Result, HasSome}
 use Rattle.law_confluence.proofs.EquationsGraphForms.{line_past, line_below}
 use Rattle.law_confluence.proofs.EquationsGraphFormed.{shaped}
@@ -40,11 +40,11 @@ use Rattle.law_language.proofs.MeansStoreLines.{IsStore, stored_at, within_one, 
 use Rattle.law_language.proofs.MeansStoredOnce.{store_call, within_itself}
 use Rattle.law_language.proofs.MeansParts.{first_part, rest_part, own_line, block_is, line_gives}
 use Rattle.law_language.proofs.MeansLeaves.{append_nothing}
-use Rattle.law_language.proofs.MeansMainComes.{within_true}
-use Rattle.law_language.proofs.MeansMainStands.{IsGoodFunction, function_named, main_spot, main_lowered, main_made}
+use Rattle.law_language.proofs.MeansMainDelivers.{within_true}
+use Rattle.law_language.proofs.MeansMainActive.{IsGoodFunction, function_named, main_spot, main_lowered, main_made}
 use Rattle.law_language.proofs.MeansInputs.{root_taken, input_gives, have_inputs_from, have_ports_from}
 use Rattle.law_language.proofs.MeansUnder.{AtIt, Itself, InCall, InTurn, under_cases, under_call, under_due, under_line}
-use Rattle.law_language.proofs.MeansScene.{Scene, PortsGive, flow, world_of, StoodIn, DueIn, HasIn, HaveIn, KnownIn, StoresIn, StandsIn, ComesIn, ExprIn}
+use Rattle.law_language.proofs.MeansScene.{Scene, PortsGive, flow, world_of, StoodIn, DueIn, HasIn, HaveIn, KnownIn, StoresIn, ActiveIn, DeliversIn, ExprIn}
 use Rattle.law_language.proofs.MeansScene.{ListIn, AllIn}
 
 -- A node of a block that stands lies among its lines.
@@ -151,7 +151,7 @@ module _ (z : Scene) (c : Context) (due : DueIn z c) (n : ℕ) (line : Node ℕ)
       let at : k ≡ 0 + k = omega arith in
       subst (λ i. HasIn z (Called c n) (port i 0) v) at (subst (λ v. HasIn z (Called c n) (port k 0) v) same w.1))
 
-  called_stands : StandsIn z (Called c n) (turn_site f.name.name) (main_spot f) own
+  called_stands : ActiveIn z (Called c n) (turn_site f.name.name) (main_spot f) own
   called_stands =
       let some = (shaped z.graph z.well (place_of f.name.name (block_names z.graph)) to placed.0.is_there).some_input in
       let first = input_gives (flow z) z.inputs z.run z.state z.is_run z.settled (Called c n) to to_is called_due 0 some in
@@ -165,7 +165,7 @@ module _ (z : Scene) (c : Context) (due : DueIn z c) (n : ℕ) (line : Node ℕ)
         trigger = first.0;
         triggered = first.1;
         lines = holds_whole to (map (resolved z.graph) own.nodes) (resolved_all z.graph own.nodes);
-        told = placed.0.told;
+        traced = placed.0.traced;
         loops = placed.1;
       }
 
@@ -176,16 +176,17 @@ module _ (z : Scene) (c : Context) (due : DueIn z c) (n : ℕ) (line : Node ℕ)
       (sym (inputs_count 0 (length f.params))) x e)
       (body_used z.program (bare f.params) f.body (written_or_one f.results) good.values)
 
-  abbrev CalledComes : Type 0
-  CalledComes = ComesIn z (Called c n) (Runs (world_of z) (entered f.params vs []) f.body) own.sources (length f.params) (length f.params + length own.nodes)
+  abbrev CalledDelivers : Type 0
+  CalledDelivers = DeliversIn z (Called c n) (Runs (world_of z) (entered f.params vs []) f.body) own.sources (length f.params)
+      (length f.params + length own.nodes)
 
-  called_comes : AllIn z (Called c n) → CalledComes
-  called_comes all =
+  called_delivers : AllIn z (Called c n) → CalledDelivers
+  called_delivers all =
       all.body f.body (turn_site f.name.name) (main_spot f) (function_scope f) (entered f.params vs []) (bare f.params) (written_or_one f.results) false
       good.fits good.values called_stands called_knows
 
   -- its ports have the values of the results
-  ports_have : (out : CalledComes) (count : ℕ) → length own.sources ≡ count → HaveIn z c (ports_from n 0 count) out.vs
+  ports_have : (out : CalledDelivers) (count : ℕ) → length own.sources ≡ count → HaveIn z c (ports_from n 0 count) out.vs
   ports_have out count e =
       let long = have_length (flow z) z.inputs z.run z.state z.is_run (Called c n) own.sources out.vs out.have in
       have_ports_from (flow z) z.inputs z.run z.state z.is_run c out.vs n 0 count (sym long ∙ e)
@@ -201,7 +202,7 @@ module _ (z : Scene) (c : Context) (due : DueIn z c) (n : ℕ) (line : Node ℕ)
       subst (λ i. HasIn z c (port n i) v) at (subst (λ v. HasIn z c (port n k) v) same w.1))
 
   -- and its stores are those of the body
-  its_stores : (out : CalledComes) → IsPermutation out.ss (StoresIn z c n (n + 1))
+  its_stores : (out : CalledDelivers) → IsPermutation out.ss (StoresIn z c n (n + 1))
   its_stores out =
       let long : node_count to ≡ length f.params + length own.nodes =
       ap (λ n. length f.params + n) (length-map (map line_node own.nodes) _ ∙ length-map own.nodes line_node) in
@@ -217,9 +218,9 @@ means_call z c at strict f es deeper means site spot scope env names n fits rule
     let m : Lowered = ended site spot l at (call_kind strict f) l.sources count in
     let tail : Lowered = record { nodes = m1 ∷ []; sources = []; blocks = [] } in
     let k : IsCalled z.program names f es n = in_call z.program names at strict f es n rule in
-    let before : StandsIn z c site spot l =
+    let before : ActiveIn z c site spot l =
     first_part z.program z.graph z.origin z.inputs z.run z.state z.is_run c site spot l m (m1 ∷ []) [] refl (sym (append_nothing l.blocks)) h in
-    let last : StandsIn z c site (spot_after spot l) tail =
+    let last : ActiveIn z c site (spot_after spot l) tail =
     rest_part z.program z.graph z.origin z.inputs z.run z.state z.is_run c site spot l tail m refl (sym (append_nothing l.blocks)) h in
     let out = means site spot scope env names (length k.function.params) fits k.arguments before known in
     let own : ℕ = spot.next + length l.nodes in
@@ -234,8 +235,8 @@ means_call z c at strict f es deeper means site spot scope env names n fits rule
     let gives : PortsGive z c own line = λ q low. line_gives (flow z) z.inputs z.run z.state z.is_run z.settled c last.block own q line eb last.due el
     last.taken low in
     let many : length l.sources ≡ length k.function.params = list_count z.program site spot scope es names (length k.function.params) k.arguments in
-    let body : CalledComes z c last.due own line last.block eb el k.function good placed it gives out.vs out.have many =
-    called_comes z c last.due own line last.block eb el k.function good placed it gives out.vs out.have many (deeper (Called c own) (omega arith)) in
+    let body : CalledDelivers z c last.due own line last.block eb el k.function good placed it gives out.vs out.have many =
+    called_delivers z c last.due own line last.block eb el k.function good placed it gives out.vs out.have many (deeper (Called c own) (omega arith)) in
     let counted : length (main_lowered z.program k.function).sources ≡ count =
     body_count z.program (turn_site k.function.name.name) (main_spot k.function) (function_scope k.function) k.function.body (bare k.function.params)
     (written_or_one k.function.results) good.values

@@ -18,11 +18,11 @@ use Rattle.source.specs.Rules.{array_in}
 use Rattle.source.specs.Evaluates.{Evaluates, fetch, counted_from, place_from, place_in, Reads}
 use Rattle.source.specs.Lowered.{Lowered, Site, Spot, made, ended, arrays_of, graph_of, lower}
 use Rattle.source.proofs.Kept.{in_fetch}
-use Rattle.law_language.specs.Means.{over, Stands, MeansExpr}
+use Rattle.law_language.specs.Means.{over, IsActive, MeansExpr}
 use Rattle.source.proofs.Counting.{count_of}
 use Rattle.law_language.proofs.MeansParts.{first_part}
-use Rattle.law_language.proofs.MeansLeaves.{append_nothing, last_gives, last_quiet, last_told}
-use Rattle.law_language.proofs.MeansOperators.{HasOneValue, one_each, same_value, told_at}
+use Rattle.law_language.proofs.MeansLeaves.{append_nothing, last_gives, last_quiet, last_traced}
+use Rattle.law_language.proofs.MeansOperators.{HasOneValue, one_each, same_value, traced_at}
 
 abbrev names_in : List Item → List Name
 names_in items = map (λ (a : Name × ℕ). a.0) (arrays_of items)
@@ -85,8 +85,8 @@ module _ (p : Program) (g : Graph) (origin : ℕ → Origin) (inputs : List ℤ)
   abbrev HasIt : Source → Value → Type 0
   HasIt x v = Has (flow_of g) inputs run s r c x v
 
-  abbrev StandsIn : Site → Spot → Lowered → Type 0
-  StandsIn site spot l = Stands p g origin inputs run s r c site spot l
+  abbrev ActiveIn : Site → Spot → Lowered → Type 0
+  ActiveIn site spot l = IsActive p g origin inputs run s r c site spot l
 
   pub two : g.version ≡ 2
   two = sym (ap (λ (g : Graph). g.version) is)
@@ -101,7 +101,7 @@ module _ (p : Program) (g : Graph) (origin : ℕ → Origin) (inputs : List ℤ)
       let l : Lowered = lower p site spot scope e in
       let m : Lowered = ended site spot l at (node.Fetch a) l.sources 1 in
       let rules = in_fetch p names at a e n rule in
-      let before : StandsIn site spot l = first_part p g origin inputs run s r c site spot l m (made site at (node.Fetch a) l.sources ∷ []) [] refl
+      let before : ActiveIn site spot l = first_part p g origin inputs run s r c site spot l m (made site at (node.Fetch a) l.sources ∷ []) [] refl
       (sym (append_nothing l.blocks)) h in
       let out = means site spot scope env names 1 fits rules.1.values before known in
       let x : HasOneValue p g origin inputs run s r st two c l.sources out.vs = one_each p g origin inputs run s r st two c l.sources out.vs out.have
@@ -110,8 +110,8 @@ module _ (p : Program) (g : Graph) (origin : ℕ → Origin) (inputs : List ℤ)
       let n' : ℕ = spot.next + length l.nodes in
       let array : ℕ = graph.place_of a (array_names g) in
       let eq = subst (λ ss. LineEquation (flow_of g) inputs run s r c n' 0 v.0 (node.Fetch array) ss) x.sources v.2 in
-      let told = last_told p g origin inputs run s r st c site spot l at (node.Fetch a) l.sources h in
-      let o : origin_at (flow_of g) c n' ≡ origin at = told_at p g origin inputs run s r st two c told.0 n' told.1 ∙ sym (told.2 tt) in
+      let traced = last_traced p g origin inputs run s r st c site spot l at (node.Fetch a) l.sources h in
+      let o : origin_at (flow_of g) c n' ≡ origin at = traced_at p g origin inputs run s r st two c traced.0 n' traced.1 ∙ sym (traced.2 tt) in
       let index : eq.0 ≡ x.value = same_value p g origin inputs run s r st two c x.source eq.0 x.value eq.1 x.has in
       let place : index_in (array_len (flow_of g) array) eq.0 (origin_at (flow_of g) c n') ≡ index_in (array_len (flow_of g) array) x.value (origin at) =
       ap₂ (λ i o. index_in (array_len (flow_of g) array) i o) index o in

@@ -12,7 +12,7 @@ use Rattle.semantics.specs.declared.graph.Kind.TheVariants as node
 use Rattle.semantics.specs.Graph.{Node, Block, node_at, node_count}
 use Rattle.semantics.specs.Meaning.{Context, AtNode, Operand, tagged, ArmsTaken, arm_of, arms_round, arms_at, block_of, node_in, node_of}
 use Rattle.lemmas.proofs.Permutations.{Each, each_map}
-use Rattle.law_confluence.specs.EquationsGiven.{source_line}
+use Rattle.law_confluence.specs.EquationsHave.{source_line}
 use Rattle.law_confluence.specs.Equations.{TakenAt, HasSome, Argument}
 use Rattle.law_confluence.specs.EquationsSettled.{Decides}
 use Rattle.law_confluence.proofs.EquationsGraphFormed.{shaped}
@@ -26,7 +26,7 @@ use Rattle.law_language.proofs.MeansNamesAgree.{Entered}
 use Rattle.law_language.proofs.MeansStoreLines.{IsQuiet, quiet}
 use Rattle.law_language.proofs.MeansParts.{own_line, block_is, line_gives}
 use Rattle.law_language.proofs.MeansLeaves.{append_nothing}
-use Rattle.law_language.proofs.MeansScene.{Scene, flow, StoodIn, DueIn, RegionIn, HasIn, HaveIn, KnownIn, StoresIn, StandsIn, ComesIn}
+use Rattle.law_language.proofs.MeansScene.{Scene, flow, StoodIn, DueIn, RegionIn, HasIn, HaveIn, KnownIn, StoresIn, ActiveIn, DeliversIn}
 use Rattle.law_language.proofs.MeansStanding.{first_in, rest_in, stands_at, MakesIn, makes_none, makes_both, makes_to, makes_same}
 use Rattle.law_language.proofs.MeansLies.{HoldsMade, made_split, LieIn, Inside}
 use Rattle.law_language.proofs.MeansSilent.{quiet_lines, silent_arm}
@@ -99,7 +99,7 @@ arm_trigger z c b eb due here here_taken at spot scope predicate xs h = go xs h
 -- THE CONDITIONAL, its arms and its merges
 module _ (z : Scene) (c : Context) (site : Site) (k : Spot) (at : ℕ) (ps : List Source) (a b : Lowered) (x : Source) (v : Value) (only : ps ≡ x ∷ [])
     (has : HasIn z c x v)
-    (h : StandsIn z c site k (chosen site k at ps a b)) where
+    (h : ActiveIn z c site k (chosen site k at ps a b)) where
   abbrev pub ms : List Made
   ms = merges site at k.next a.sources b.sources
 
@@ -147,22 +147,22 @@ module _ (z : Scene) (c : Context) (site : Site) (k : Spot) (at : ℕ) (ps : Lis
   abbrev both : Lowered
   both = record { nodes = a.nodes ++ b.nodes; sources = []; blocks = a.blocks ++ b.blocks }
 
-  rest_stands : StandsIn z c site (next_spot k) rest
+  rest_stands : ActiveIn z c site (next_spot k) rest
   rest_stands =
       let head : Lowered = record { nodes = cond ∷ []; sources = []; blocks = [] } in
       stands_at z c site (spot_after k head) (next_spot k) rest (omega arith) (rest_in z c site k head rest (chosen site k at ps a b) refl refl h)
 
-  both_stand : StandsIn z c site (next_spot k) both
+  both_stand : ActiveIn z c site (next_spot k) both
   both_stand = first_in z c site (next_spot k) both rest ms [] refl (sym (append_nothing both.blocks)) rest_stands
 
-  pub left_stands : StandsIn z c site (next_spot k) a
+  pub left_stands : ActiveIn z c site (next_spot k) a
   left_stands = first_in z c site (next_spot k) a both b.nodes b.blocks refl refl both_stand
 
-  pub right_stands : StandsIn z c site (spot_after (next_spot k) a) b
+  pub right_stands : ActiveIn z c site (spot_after (next_spot k) a) b
   right_stands = rest_in z c site (next_spot k) a b both refl refl both_stand
 
   -- the region of an arm that is taken, for whatever stands there
-  pub open_there : (side : Bool) → truth v ≡ side → (to : Site) (spot : Spot) (l : Lowered) (there : StandsIn z c to spot l)
+  pub open_there : (side : Bool) → truth v ≡ side → (to : Site) (spot : Spot) (l : Lowered) (there : ActiveIn z c to spot l)
       → RegionIn z c there.block (Arm k.next side)
   open_there side e to spot l there =
       let its = block_is z.program z.graph z.origin z.inputs z.run z.state z.is_run c to spot l there in
@@ -259,9 +259,9 @@ module _ (z : Scene) (c : Context) (site : Site) (k : Spot) (at : ℕ) (ps : Lis
   sources_at = let n = length-append a.nodes b.nodes in omega (arith, n)
 
   pub chosen_left : truth v ≡ true → length a.sources ≡ length b.sources → (gives : List Value → Stores → Type 0)
-      → ComesIn z c gives a.sources (k.next + 1) (k.next + 1 + length a.nodes)
+      → DeliversIn z c gives a.sources (k.next + 1) (k.next + 1 + length a.nodes)
       → (HoldsMade z.program z.graph h.block (k.next + 1 + length a.nodes) b.nodes → LieIn h.block (Arm k.next false) b.nodes)
-      → ComesIn z c gives (chosen site k at ps a b).sources k.next (k.next + length (chosen site k at ps a b).nodes)
+      → DeliversIn z c gives (chosen site k at ps a b).sources k.next (k.next + length (chosen site k at ps a b).nodes)
   chosen_left t same gives out lies =
       let none = makes_none z c (k.next + 1 + length a.nodes) (k.next + 1 + length a.nodes + length b.nodes)
       (other_silent false (λ e. cc) (k.next + 1 + length a.nodes) b.nodes arm_lines.1 (lies arm_lines.1)) in
@@ -276,9 +276,9 @@ module _ (z : Scene) (c : Context) (site : Site) (k : Spot) (at : ℕ) (ps : Lis
       }
 
   pub chosen_right : truth v ≡ false → length a.sources ≡ length b.sources → (gives : List Value → Stores → Type 0)
-      → ComesIn z c gives b.sources (k.next + 1 + length a.nodes) (k.next + 1 + length a.nodes + length b.nodes)
+      → DeliversIn z c gives b.sources (k.next + 1 + length a.nodes) (k.next + 1 + length a.nodes + length b.nodes)
       → (HoldsMade z.program z.graph h.block (k.next + 1) a.nodes → LieIn h.block (Arm k.next true) a.nodes)
-      → ComesIn z c gives (chosen site k at ps a b).sources k.next (k.next + length (chosen site k at ps a b).nodes)
+      → DeliversIn z c gives (chosen site k at ps a b).sources k.next (k.next + length (chosen site k at ps a b).nodes)
   chosen_right t same gives out lies =
       let none = makes_none z c (k.next + 1) (k.next + 1 + length a.nodes) (other_silent true (λ e. cc) (k.next + 1) a.nodes arm_lines.0 (lies arm_lines.0)) in
       record {

@@ -82,7 +82,7 @@ scoped_sources before (x ∷ xs) (s ∷ ss) scope h e =
         ap₂ (λ (y : Source) l. y ∷ l) (ap (λ (t : Bool). if t then s else source_in (scoped xs ss scope) y) (in_none (same_name y x) (is_in y before) k.0).0)
         (past ys k.1)
 
--- SCOPES one behind the other
+-- SCOPES one after the other
 pub scoped_both : (xs ys : List Name) (ss ts : List Source) (scope : Scope) → length xs ≡ length ss
     → scoped (xs ++ ys) (ss ++ ts) scope ≡ scoped xs ss (scoped ys ts scope)
 scoped_both [] ys [] ts scope e = refl

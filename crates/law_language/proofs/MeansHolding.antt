@@ -4,14 +4,14 @@ use Rattle.tags.specs.declared.value.Origin.{Origin}
 use Rattle.semantics.specs.Graph.{Graph}
 use Rattle.source.specs.Tree.{Name}
 use Rattle.source.specs.Lowered.{Made, MadeBlock, node_of}
-use Rattle.law_language.specs.MeansHolds.{resolved, AreTold, HasBlocks}
+use Rattle.law_language.specs.MeansHolds.{resolved, AreTraced, HasBlocks}
 use Rattle.law_confluence.proofs.OutcomeResolved.{node_in}
 
-pub told_split : (origin : ℕ → Origin) (i n : ℕ) (xs ys : List Made) → AreTold origin i n (xs ++ ys)
-    → AreTold origin i n xs × AreTold origin i (n + length xs) ys
-told_split origin i n [] ys h = (tt, subst (λ m. AreTold origin i m ys) (omega arith) h)
-told_split origin i n (x ∷ xs) ys h =
-    let later = told_split origin i (n + 1) xs ys h.1 in ((h.0, later.0), subst (λ m. AreTold origin i m ys) (omega arith) later.1)
+pub traced_split : (origin : ℕ → Origin) (i n : ℕ) (xs ys : List Made) → AreTraced origin i n (xs ++ ys)
+    → AreTraced origin i n xs × AreTraced origin i (n + length xs) ys
+traced_split origin i n [] ys h = (tt, subst (λ m. AreTraced origin i m ys) (omega arith) h)
+traced_split origin i n (x ∷ xs) ys h =
+    let later = traced_split origin i (n + 1) xs ys h.1 in ((h.0, later.0), subst (λ m. AreTraced origin i m ys) (omega arith) later.1)
 
 pub blocks_split : (g : Graph) (origin : ℕ → Origin) (f : Name) (xs ys : List MadeBlock) → HasBlocks g origin f (xs ++ ys)
     → HasBlocks g origin f xs × HasBlocks g origin f ys

@@ -20,7 +20,7 @@ use Rattle.source.proofs.Counting.{count_of, body_count}
 use Rattle.law_language.proofs.MeansParts.{block_is}
 use Rattle.law_language.proofs.MeansOperators.{HasOneValue, one_each}
 use Rattle.law_language.proofs.MeansCells.{two}
-use Rattle.law_language.proofs.MeansScene.{Scene, flow, world_of, RegionIn, HasIn, KnownIn, StandsIn, ComesIn, ExprIn, BodyIn}
+use Rattle.law_language.proofs.MeansScene.{Scene, flow, world_of, RegionIn, HasIn, KnownIn, ActiveIn, DeliversIn, ExprIn, BodyIn}
 use Rattle.law_language.proofs.MeansStanding.{first_in, rest_in, stands_in_arm, makes_none, makes_both, makes_to}
 use Rattle.law_language.proofs.MeansLies.{HoldsMade, made_split, lie_arm, body_lies}
 use Rattle.law_language.proofs.MeansConditionals.{arm_entered, arm_trigger, enters_quiet, open_there, left_stands, right_stands, chosen_left, chosen_right}
@@ -39,17 +39,17 @@ module _ (z : Scene) (c : Context) (site : Site) (cond : ℕ) (side : Bool) (spo
   abbrev inside : Lowered
   inside = lower_body z.program here (spot_after spot l) (arm_scope l (outside_body body)) body
 
-  pub arm_comes : (env : Env) (names : List Name) (n : ℕ) (behind_else : Bool) → FitsBody behind_else body → body_values z.program names body ≡ Ok n
+  pub arm_delivers : (env : Env) (names : List Name) (n : ℕ) (behind_else : Bool) → FitsBody behind_else body → body_values z.program names body ≡ Ok n
       → BodyIn z c body
-      → (h : StandsIn z c site spot armed) → RegionIn z c h.block (Arm cond side) → KnownIn z c scope env (body_uses body)
-      → ComesIn z c (Runs (world_of z) env body) armed.sources spot.next (spot.next + length armed.nodes)
-  arm_comes env names n behind_else fits rule means h taken known =
+      → (h : ActiveIn z c site spot armed) → RegionIn z c h.block (Arm cond side) → KnownIn z c scope env (body_uses body)
+      → DeliversIn z c (Runs (world_of z) env body) armed.sources spot.next (spot.next + length armed.nodes)
+  arm_delivers env names n behind_else fits rule means h taken known =
       let eb = block_is z.program z.graph z.origin z.inputs z.run z.state z.is_run c site spot armed h in
-      let before : StandsIn z c site spot l = first_in z c site spot l armed inside.nodes inside.blocks refl refl h in
+      let before : ActiveIn z c site spot l = first_in z c site spot l armed inside.nodes inside.blocks refl refl h in
       let lines = first_lines h in
       let some = arm_trigger z c h.block eb h.due here taken at spot scope predicate (outside_body body) lines in
-      let all : StandsIn z c here spot armed = stands_in_arm z c site spot armed cond side h taken some.0 some.1 in
-      let stands : StandsIn z c here (spot_after spot l) inside = rest_in z c here spot l inside armed refl refl all in
+      let all : ActiveIn z c here spot armed = stands_in_arm z c site spot armed cond side h taken some.0 some.1 in
+      let stands : ActiveIn z c here (spot_after spot l) inside = rest_in z c here spot l inside armed refl refl all in
       let outer = agrees_once (flow z) z.inputs z.run z.state z.is_run c scope env (body_uses body) known in
       let entered = arm_entered z c h.block eb h.due here taken at spot scope env predicate (outside_body body) outer lines in
       let knows = agrees_arm (flow z) z.inputs z.run z.state z.is_run c env (outside_body body) l.sources [] entered (body_uses body)
@@ -68,16 +68,17 @@ module _ (z : Scene) (c : Context) (site : Site) (cond : ℕ) (side : Bool) (spo
             (makes_both z c spot.next (length l.nodes) (length inside.nodes) [] out.ss none out.stored);
       }
     where
-      first_lines : (h : StandsIn z c site spot armed) → HoldsMade z.program z.graph h.block spot.next l.nodes
+      first_lines : (h : ActiveIn z c site spot armed) → HoldsMade z.program z.graph h.block spot.next l.nodes
       first_lines h = (made_split z.program z.graph h.block spot.next l.nodes inside.nodes h.lines).0
 
 -- what is evaluated otherwise comes out as that
-pub comes_as : (z : Scene) (c : Context) (gives others : List Value → Stores → Type 0) (xs : List Source) (lo hi : ℕ)
+pub delivers_as : (z : Scene) (c : Context) (gives others : List Value → Stores → Type 0) (xs : List Source) (lo hi : ℕ)
     → ((vs : List Value) (ss : Stores) → gives vs ss → others vs ss)
-    → ComesIn z c gives xs lo hi → ComesIn z c others xs lo hi
-comes_as z c gives others xs lo hi f out = record { vs = out.vs; ss = out.ss; evaluated = f out.vs out.ss out.evaluated; have = out.have; stored = out.stored }
+    → DeliversIn z c gives xs lo hi → DeliversIn z c others xs lo hi
+delivers_as z c gives others xs lo hi f out =
+    record { vs = out.vs; ss = out.ss; evaluated = f out.vs out.ss out.evaluated; have = out.have; stored = out.stored }
 
--- THE CONDITIONAL behind its predicate, whose value is v
+-- THE CONDITIONAL after its predicate, whose value is v
 module _ (z : Scene) (c : Context) (at : ℕ) (l r : Body) (left : BodyIn z c l) (right : BodyIn z c r) (site : Site) (k : Spot) (scope : Scope)
     (ps : List Source) where
   abbrev pub yes_arm : Lowered
@@ -102,46 +103,46 @@ module _ (z : Scene) (c : Context) (at : ℕ) (l r : Body) (left : BodyIn z c l)
       let e = entered_names h spot at scope (first_of ps) (outside_body r) in
       body_count z.program h (spot_after spot e) (arm_scope e (outside_body r)) r names n rule
 
-  module _ (x : Source) (v : Value) (only : ps ≡ x ∷ []) (has : HasIn z c x v) (h : StandsIn z c site k (chosen site k at ps yes_arm no_arm))
+  module _ (x : Source) (v : Value) (only : ps ≡ x ∷ []) (has : HasIn z c x v) (h : ActiveIn z c site k (chosen site k at ps yes_arm no_arm))
       (env : Env) (names : List Name) (n : ℕ) (fits_l : FitsBody false l) (fits_r : FitsBody true r) (rule_l : body_values z.program names l ≡ Ok n)
       (rule_r : body_values z.program names r ≡ Ok n)
       (known_l : KnownIn z c scope env (body_uses l)) (known_r : KnownIn z c scope env (body_uses r)) where
-    abbrev Comes : Type 0
-    Comes = ComesIn z c (Takes env v) (chosen site k at ps yes_arm no_arm).sources k.next (k.next + length (chosen site k at ps yes_arm no_arm).nodes)
+    abbrev Delivers : Type 0
+    Delivers = DeliversIn z c (Takes env v) (chosen site k at ps yes_arm no_arm).sources k.next (k.next + length (chosen site k at ps yes_arm no_arm).nodes)
 
     same : length yes_arm.sources ≡ length no_arm.sources
     same = yes_count names n rule_l ∙ sym (no_count names n rule_r)
 
-    yes : truth v ≡ true → Comes
+    yes : truth v ≡ true → Delivers
     yes t =
         let there = left_stands z c site k at ps yes_arm no_arm x v only has h in
         let taken = open_there z c site k at ps yes_arm no_arm x v only has h true t site (next_spot k) yes_arm there in
-        let out = arm_comes z c site k.next true (next_spot k) at scope (first_of ps) l env names n false fits_l rule_l left there taken known_l in
+        let out = arm_delivers z c site k.next true (next_spot k) at scope (first_of ps) l env names n false fits_l rule_l left there taken known_l in
         chosen_left z c site k at ps yes_arm no_arm x v only has h t same (Takes env v)
-        (comes_as z c (Runs (world_of z) env l) (Takes env v) yes_arm.sources (k.next + 1) (k.next + 1 + length yes_arm.nodes) (λ vs ss e. inl (t, e)) out)
+        (delivers_as z c (Runs (world_of z) env l) (Takes env v) yes_arm.sources (k.next + 1) (k.next + 1 + length yes_arm.nodes) (λ vs ss e. inl (t, e)) out)
         (λ lines.
         lie_arm z.program z.graph h.block site k.next false (spot_after (next_spot k) yes_arm) at scope (first_of ps) (outside_body r)
         (λ here inner names. lower_body z.program here inner names r)
         (λ inner names w. body_lies z.program z.graph h.block (arm_site site k.next false (spot_after (next_spot k) yes_arm)) inner names r w) lines)
 
-    no_ : truth v ≡ false → Comes
+    no_ : truth v ≡ false → Delivers
     no_ t =
         let there = right_stands z c site k at ps yes_arm no_arm x v only has h in
         let taken = open_there z c site k at ps yes_arm no_arm x v only has h false t site (spot_after (next_spot k) yes_arm) no_arm there in
-        let out = arm_comes z c site k.next false (spot_after (next_spot k) yes_arm) at scope
+        let out = arm_delivers z c site k.next false (spot_after (next_spot k) yes_arm) at scope
         (first_of ps) r env names n true fits_r rule_r right there taken known_r in
         chosen_right z c site k at ps yes_arm no_arm x v only has h t same (Takes env v)
-        (comes_as z c (Runs (world_of z) env r) (Takes env v) no_arm.sources (k.next + 1 + length yes_arm.nodes)
+        (delivers_as z c (Runs (world_of z) env r) (Takes env v) no_arm.sources (k.next + 1 + length yes_arm.nodes)
         (k.next + 1 + length yes_arm.nodes + length no_arm.nodes) (λ vs ss e. inr (t, e)) out)
         (λ lines.
         lie_arm z.program z.graph h.block site k.next true (next_spot k) at scope (first_of ps) (outside_body l)
         (λ here inner names. lower_body z.program here inner names l)
         (λ inner names w. body_lies z.program z.graph h.block (arm_site site k.next true (next_spot k)) inner names l w) lines)
 
-    pub takes_arm : Comes
+    pub takes_arm : Delivers
     takes_arm = by_truth (truth v) refl
       where
-        by_truth : (t : Bool) → truth v ≡ t → Comes
+        by_truth : (t : Bool) → truth v ≡ t → Delivers
         by_truth true e = yes e
         by_truth false e = no_ e
 
@@ -156,8 +157,8 @@ module _ (z : Scene) (c : Context) (at : ℕ) (q : Expr) (l r : Body) (test : Ex
       let rules = in_if z.program names at q l r n rule in
       let outer = agrees_split (flow z) z.inputs z.run z.state z.is_run c scope env (uses q ++ body_uses l) (body_uses r) known in
       let inner = agrees_split (flow z) z.inputs z.run z.state z.is_run c scope env (uses q) (body_uses l) outer.0 in
-      let before : StandsIn z c site spot p = first_in z c site spot p (followed p m) m.nodes m.blocks refl refl h in
-      let behind : StandsIn z c site k m = rest_in z c site spot p m (followed p m) refl refl h in
+      let before : ActiveIn z c site spot p = first_in z c site spot p (followed p m) m.nodes m.blocks refl refl h in
+      let behind : ActiveIn z c site k m = rest_in z c site spot p m (followed p m) refl refl h in
       let out = test site spot scope env names 1 fits.0 rules.0.values before inner.0 in
       let t = two z.program z.graph z.origin z.inputs z.run z.state z.is_run z.settled z.is_graph c in
       let x : HasOneValue z.program z.graph z.origin z.inputs z.run z.state z.is_run z.settled t c p.sources out.vs =

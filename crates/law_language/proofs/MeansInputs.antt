@@ -7,7 +7,7 @@ use Rattle.semantics.specs.declared.graph.Region.TheVariants.{Root}
 use Rattle.semantics.specs.declared.graph.Source.{Source}
 use Rattle.semantics.specs.Graph.{Node, Block, Flow, node_at, node_count}
 use Rattle.semantics.specs.Meaning.{Context, Tagged, State, Activity, Run, Stood, ArmsTaken, arm_of, arms_round, arms_at, block_of, start}
-use Rattle.law_confluence.specs.EquationsGiven.{ports_in, ports_line}
+use Rattle.law_confluence.specs.EquationsHave.{ports_in, ports_line}
 use Rattle.law_confluence.specs.Equations.{IsDue, Has, BlockEquation, NodeEquation, InputEquation, TakenAt}
 use Rattle.law_confluence.specs.EquationsSettled.{Settled}
 use Rattle.source.specs.Lowered.{inputs_from, ports_from, port}

@@ -10,7 +10,7 @@ use Rattle.semantics.specs.declared.graph.Kind.{Kind}
 use Rattle.semantics.specs.declared.graph.Kind.TheVariants as node
 use Rattle.semantics.specs.Graph.{Graph, flow_of}
 use Rattle.semantics.specs.Meaning.{Context, State, Activity, Run, start, node_in, node_of, block_number}
-use Rattle.law_confluence.specs.EquationsGiven.{ports_of}
+use Rattle.law_confluence.specs.EquationsHave.{ports_of}
 use Rattle.law_confluence.specs.Equations.{Has, LineEquation}
 use Rattle.law_confluence.specs.EquationsSettled.{Settled}
 use Rattle.source.specs.Tree.{Name, Expr, Number, Named, Bracket, Program}
@@ -18,7 +18,7 @@ use Rattle.source.specs.Evaluates.{Stores, number, named, bracket, signed}
 use Rattle.source.specs.Lowered.{Lowered, Site, Spot, made, only, ended, port, spot_after}
 use Rattle.law_language.specs.MeansHolds.{resolved, MayFail}
 use Rattle.law_language.specs.MeansBelow.{stores_below}
-use Rattle.law_language.specs.Means.{Stands, MeansExpr}
+use Rattle.law_language.specs.Means.{IsActive, MeansExpr}
 use Rattle.law_language.proofs.MeansRanges.{stores_none, stores_both}
 use Rattle.law_language.proofs.MeansStoreLines.{IsQuiet, quiet}
 use Rattle.law_language.proofs.MeansParts.{line_gives, rest_part, own_line, block_is}
@@ -32,19 +32,19 @@ module _ (p : Program) (g : Graph) (origin : ℕ → Origin) (inputs : List ℤ)
   abbrev HasIt : Source → Value → Type 0
   HasIt x v = Has (flow_of g) inputs run s r c x v
 
-  abbrev StandsIn : Site → Spot → Lowered → Type 0
-  StandsIn site spot l = Stands p g origin inputs run s r c site spot l
+  abbrev ActiveIn : Site → Spot → Lowered → Type 0
+  ActiveIn site spot l = IsActive p g origin inputs run s r c site spot l
 
   abbrev Equals : ℕ → Value → Kind ℕ → List Source → Type 0
   Equals n v kind ss = LineEquation (flow_of g) inputs run s r c n 0 v kind ss
 
   -- A PART THAT ENDS WITH ONE LINE MORE: the line's value, and its stores, if it is quiet
   module _ (site : Site) (spot : Spot) (l : Lowered) (at : ℕ) (kind : Kind Name) (ss : List Source)
-      (h : StandsIn site spot (ended site spot l at kind ss 1)) where
+      (h : ActiveIn site spot (ended site spot l at kind ss 1)) where
     abbrev pub own : ℕ
     own = spot.next + length l.nodes
 
-    last : StandsIn site (spot_after spot l) (record { nodes = made site at kind ss ∷ []; sources = []; blocks = [] })
+    last : ActiveIn site (spot_after spot l) (record { nodes = made site at kind ss ∷ []; sources = []; blocks = [] })
     last = rest_part p g origin inputs run s r c site spot l (record { nodes = made site at kind ss ∷ []; sources = []; blocks = [] })
         (ended site spot l at kind ss 1) refl (sym (append_nothing l.blocks)) h
 
@@ -64,8 +64,8 @@ module _ (p : Program) (g : Graph) (origin : ℕ → Origin) (inputs : List ℤ)
         ∙ (own_line p g origin inputs run s r c site (spot_after spot l) (record { nodes = made site at kind ss ∷ []; sources = []; blocks = [] })
         (made site at kind ss) [] refl last).0
 
-    pub last_told : (i : ℕ) × (block_number (flow_of g) c ≡ Some i) × (MayFail kind → origin at ≡ At i own)
-    last_told = (
+    pub last_traced : (i : ℕ) × (block_number (flow_of g) c ≡ Some i) × (MayFail kind → origin at ≡ At i own)
+    last_traced = (
       last.number,
       last.is_number,
       (own_line p g origin inputs run s r c site (spot_after spot l)

@@ -12,7 +12,7 @@ use Rattle.semantics.specs.declared.graph.Kind.TheVariants as node
 use Rattle.semantics.specs.Graph.{Node, Block, node_at, node_count, place_of, block_names}
 use Rattle.semantics.specs.Meaning.{Context, Turned, IsLoop, callee, callee_of, callee_in, block_number, block_numbered, block_of, node_in, node_of}
 use Rattle.law_confluence.specs.EquationsContexts.{depth}
-use Rattle.law_confluence.specs.EquationsGiven.{ports_of, source_line, result_in, result_at}
+use Rattle.law_confluence.specs.EquationsHave.{ports_of, source_line, result_in, result_at}
 use Rattle.law_confluence.specs.Equations.{HasSome, Result, Flagged, Loops, LineEquation}
 use Rattle.law_confluence.proofs.EquationsGraphForms.{HasForm}
 use Rattle.law_confluence.proofs.EquationsGraphFormed.{shaped}
@@ -40,7 +40,7 @@ use Rattle.law_language.proofs.MeansParts.{own_line, block_is, line_gives}
 use Rattle.law_language.proofs.MeansLeaves.{append_nothing}
 use Rattle.law_language.proofs.MeansTurnsGo.{last_turn, more_turns}
 use Rattle.law_language.proofs.MeansInputs.{root_taken, input_gives, have_inputs_from, have_ports_from}
-use Rattle.law_language.proofs.MeansScene.{Scene, PortsGive, flow, world_of, StoodIn, DueIn, HasIn, HaveIn, KnownIn, StoresIn, StandsIn, ComesIn, ExprIn}
+use Rattle.law_language.proofs.MeansScene.{Scene, PortsGive, flow, world_of, StoodIn, DueIn, HasIn, HaveIn, KnownIn, StoresIn, ActiveIn, DeliversIn, ExprIn}
 use Rattle.law_language.proofs.MeansScene.{ListIn, TurnIn, AllIn}
 use Rattle.law_language.proofs.MeansStanding.{first_in, rest_in, makes_both, makes_to}
 use Rattle.law_language.proofs.MeansFirsts.{firsts_list, Apart, firsts_apart, scoped_sources, scoped_both, inputs_both}
@@ -220,7 +220,7 @@ module _ (z : Scene) (c : Context) (turn : Turn) (env : Env) (vs : List Value) (
       subst₂ (λ (sc : Scope) ys. KnownIn z (here t) sc env ys) (sym scope_is) (sym u.1) knows
 
   -- ONE TURN
-  turn_stands : (t : ℕ) → DueIn z (here t) → StandsIn z (here t) (turn_site l.function) (turn_from turn l.k) tl
+  turn_stands : (t : ℕ) → DueIn z (here t) → ActiveIn z (here t) (turn_site l.function) (turn_from turn l.k) tl
   turn_stands t due =
       let some = l.some in let many = names_many in
       let trigger = input_gives (flow z) z.inputs z.run z.state z.is_run z.settled (here t) to (turn_is t) due 0 (omega (arith, some, many)) in
@@ -234,16 +234,16 @@ module _ (z : Scene) (c : Context) (turn : Turn) (env : Env) (vs : List Value) (
         trigger = trigger.0;
         triggered = trigger.1;
         lines = holds_whole to (map (resolved z.graph) tl.nodes) (resolved_all z.graph tl.nodes);
-        told = l.placed.told;
+        traced = l.placed.traced;
         loops = l.inner;
       }
 
-  abbrev TurnComes : ℕ → List Value → Type 0
-  TurnComes t us = ComesIn z (here t) (turn_gives z.program z.graph z.origin z.inputs z.run z.state z.is_run env turn us) tl.sources (nx + no_)
+  abbrev TurnDelivers : ℕ → List Value → Type 0
+  TurnDelivers t us = DeliversIn z (here t) (turn_gives z.program z.graph z.origin z.inputs z.run z.state z.is_run env turn us) tl.sources (nx + no_)
       (nx + no_ + length tl.nodes)
 
-  turn_comes : (t : ℕ) → t ≤ last → (us : List Value) → length us ≡ nx → InputsAt t (us ++ l.outer) → TurnComes t us
-  turn_comes t low us many h =
+  turn_delivers : (t : ℕ) → t ≤ last → (us : List Value) → length us ≡ nx → InputsAt t (us ++ l.outer) → TurnDelivers t us
+  turn_delivers t low us many h =
       let parts = inputs_split t us many h in
       means t l.function (turn_from turn l.k) l.at (turn_scope xs outs) env l.names us l.some l.fits l.rule (turn_stands t (first.2.due t low))
       (turn_names t us parts.0) (turn_knows t parts.1)
@@ -260,13 +260,13 @@ module _ (z : Scene) (c : Context) (turn : Turn) (env : Env) (vs : List Value) (
       let many = l.many in
       omega (arith, outputs, append, count, many)
 
-  results_have : (t : ℕ) (us : List Value) (out : TurnComes t us) → HaveIn z (here t) (inputs_from nx no_) l.outer
+  results_have : (t : ℕ) (us : List Value) (out : TurnDelivers t us) → HaveIn z (here t) (inputs_from nx no_) l.outer
       → HaveIn z (here t) to.results (out.evaluated.0 ∷ (out.evaluated.1 ++ l.outer))
   results_have t us out h =
       have_both (flow z) z.inputs z.run z.state z.is_run (here t) tl.sources (inputs_from nx no_) (out.evaluated.0 ∷ out.evaluated.1) l.outer
       (subst (λ us. HaveIn z (here t) tl.sources us) out.evaluated.2 out.have) h
 
-  next_many : (t : ℕ) (us : List Value) (out : TurnComes t us) → length out.evaluated.1 ≡ nx
+  next_many : (t : ℕ) (us : List Value) (out : TurnDelivers t us) → length out.evaluated.1 ≡ nx
   next_many t us out =
       let long = have_length (flow z) z.inputs z.run z.state z.is_run (here t) tl.sources (out.evaluated.0 ∷ out.evaluated.1)
       (subst (λ us. HaveIn z (here t) tl.sources us) out.evaluated.2 out.have) in
@@ -288,13 +288,13 @@ module _ (z : Scene) (c : Context) (turn : Turn) (env : Env) (vs : List Value) (
       let next : q + 1 ≡ suc q = omega arith in
       subst (λ o. SomeAt t o v) (sym (ap (λ j. result_at (flow z) (here t) j) next ∙ ap (λ o. result_in o (suc q)) (turn_is t) ∙ x.1)) x.2
 
-  its_stores : (t : ℕ) (us : List Value) (out : TurnComes t us) → IsPermutation out.ss (turn_stores z c l.own to t)
+  its_stores : (t : ℕ) (us : List Value) (out : TurnDelivers t us) → IsPermutation out.ss (turn_stores z c l.own to t)
   its_stores t us out =
       let long : nx + no_ + length tl.nodes ≡ node_count to =
       ap (λ n. nx + no_ + n) (sym (length-map (map line_node tl.nodes) _ ∙ length-map tl.nodes line_node)) in
       subst (λ hi. IsPermutation out.ss (StoresIn z (here t) (nx + no_) hi)) long out.stored
 
-  -- FROM A TURN ON, with so many turns behind it
+  -- FROM A TURN ON, with so many turns after it
   record Rest (t k : ℕ) (us : List Value) : Type 0 where
     pub rs : List Value
     pub qs : Stores
@@ -306,7 +306,7 @@ module _ (z : Scene) (c : Context) (turn : Turn) (env : Env) (vs : List Value) (
   rest_from : (k t : ℕ) → t + k ≡ last → (us : List Value) → length us ≡ nx → InputsAt t (us ++ l.outer) → Rest t k us
   rest_from zero t e us m h =
       let ends : t ≡ last = omega (arith, e) in
-      let out = turn_comes t (omega (arith, e)) us m h in
+      let out = turn_delivers t (omega (arith, e)) us m h in
       let results = results_have t us out (inputs_split t us m h).1 in
       let off = flag_is t out.evaluated.0 (out.evaluated.1 ++ l.outer) results false (subst
       (λ t. Flagged (flow z) z.inputs z.run z.state z.is_run (here t) false) (sym ends) first.2.off) in
@@ -320,7 +320,7 @@ module _ (z : Scene) (c : Context) (turn : Turn) (env : Env) (vs : List Value) (
         stored = subst (λ us. IsPermutation out.ss us) (sym (append_nothing (turn_stores z c l.own to t))) (its_stores t us out);
       }
   rest_from (suc k) t e us m h =
-      let out = turn_comes t (omega (arith, e)) us m h in
+      let out = turn_delivers t (omega (arith, e)) us m h in
       let before : t < last = omega (arith, e) in
       let results = results_have t us out (inputs_split t us m h).1 in
       let on = flag_is t out.evaluated.0 (out.evaluated.1 ++ l.outer) results true (first.2.on t before) in
@@ -387,8 +387,8 @@ means_loop z c at bound firsts turn deeper means site spot scope env names n fit
     let m1 : Made = made site at (node.Loop (loop_name site.function k) bound.number) ss in
     let m : Lowered = looped site spot scope at bound.number (loop_names turn) outs f tl in
     let tail : Lowered = record { nodes = m1 ∷ []; sources = []; blocks = tb ∷ tl.blocks } in
-    let before : StandsIn z c site spot f = first_in z c site spot f m (m1 ∷ []) (tb ∷ tl.blocks) refl refl h in
-    let last : StandsIn z c site (spot_after spot f) tail = rest_in z c site spot f tail m refl refl h in
+    let before : ActiveIn z c site spot f = first_in z c site spot f m (m1 ∷ []) (tb ∷ tl.blocks) refl refl h in
+    let last : ActiveIn z c site (spot_after spot f) tail = rest_in z c site spot f tail m refl refl h in
     let values = firsts_list z.program names [] (names_of turn) firsts t.begun in
     let agree = agrees_split (flow z) z.inputs z.run z.state z.is_run c scope env (list_uses firsts) (turn_uses turn) known in
     let out = means site spot scope env names (count firsts) fits.1 values before agree.0 in
@@ -398,7 +398,7 @@ means_loop z c at bound firsts turn deeper means site spot scope env names n fit
     let line : Node ℕ = resolved z.graph m1 in
     let eb = block_is z.program z.graph z.origin z.inputs z.run z.state z.is_run c site (spot_after spot f) tail last in
     let el = (own_line z.program z.graph z.origin z.inputs z.run z.state z.is_run c site (spot_after spot f) tail m1 [] refl last).0 in
-    let listed : length f.sources ≡ count firsts = list_count z.program site spot scope firsts names (count firsts) values in
+    let with_commas : length f.sources ≡ count firsts = list_count z.program site spot scope firsts names (count firsts) values in
     let long = have_length (flow z) z.inputs z.run z.state z.is_run c f.sources out.vs out.have in
     let bare_many : length (loop_names turn) ≡ length (names_of turn) = length-map (names_of turn) (λ (x : NameAt). x.name) in
     let both = length-append f.sources (map (source_in scope) outs) in
@@ -425,8 +425,8 @@ means_loop z c at bound firsts turn deeper means site spot scope env names n fit
       inner = last.loops.1;
       outer = outer.0;
       have = have_both (flow z) z.inputs z.run z.state z.is_run c f.sources (map (source_in scope) outs) out.vs outer.0 out.have outer.2;
-      many = omega (arith, listed, bare_many, both, mapped, counted);
-      first = omega (arith, long, listed, bare_many, counted);
+      many = omega (arith, with_commas, bare_many, both, mapped, counted);
+      first = omega (arith, long, with_commas, bare_many, counted);
       bounds = outer.1;
       apart = firsts_apart z.program names [] (names_of turn) firsts t.begun fits.2;
       some = omega (arith, some, counted);

@@ -1,4 +1,4 @@
--- THE STORES OF A LOOP are those of its turns, one behind the other.
+-- THE STORES OF A LOOP are those of its turns, one after the other.
 use Rattle.std.proofs.Common.{◌≡◌, ℕ, zero, suc, ◌+◌, ◌<◌, ◌≤◌, ◌&&◌, ◌||◌, Bool, true, false, List, [], ◌++◌, map, filter, Some, IsPermutation, refl, sym, ap}
 use Rattle.std.proofs.Common.{ap₂, ◌∙◌, subst, arith, ltb-true, ltb-false}
 use Rattle.std.specs.Prelude.{nat_lt}
@@ -9,7 +9,7 @@ use Rattle.semantics.specs.Meaning.{Context, Called, Turned, IsCall, IsLoop, blo
 use Rattle.lemmas.proofs.Bools.{first_of_and, second_of_and, or_true}
 use Rattle.lemmas.proofs.Lists.{map_append}
 use Rattle.lemmas.proofs.Permutations.{Within, each_from, perm_to}
-use Rattle.law_confluence.specs.EquationsGiven.{Stored, stores_of}
+use Rattle.law_confluence.specs.EquationsHave.{Stored, stores_of}
 use Rattle.source.specs.Evaluates.{Stores}
 use Rattle.law_language.specs.MeansBelow.{node_under, is_within, is_below, cell_and_value}
 use Rattle.law_language.proofs.MeansRanges.{perm_filters, none_kept}
@@ -91,7 +91,7 @@ module _ (z : Scene) (c : Context) (n : ℕ) (b : Block ℕ) where
       (IsPermutation-append (turn_stores t) (map cell_and_value (filter f us)) (stores_from (suc t) count) (map cell_and_value (filter g us))
       (IsPermutation-refl (turn_stores t)) (turns_kept (suc t) count)) split
 
-  -- ALL OF THEM, where no turn is due behind the last
+  -- ALL OF THEM, where no turn is due after the last
   module _ (line : Node ℕ) (el : node_of (flow z) c n ≡ Some line) (kind : IsLoop line.kind) (eb : (t : ℕ) → block_of (flow z) (Turned c n t) ≡ Some b)
       (last : ℕ) (ends : (t : ℕ) → DueIn z (Turned c n t) → t ≤ last) where
     turned : (w : Stored) → Within w (stores_of (flow z) z.run) → AtIt c n w.context w.node → in_turns 0 (suc last) w ≡ true

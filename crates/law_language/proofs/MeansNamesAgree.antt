@@ -1,4 +1,4 @@
--- Where scope and names agree, they agree behind what binds names: a list of names, a `let`, and the enters of an arm. Only
+-- Where scope and names agree, they agree after what binds names: a list of names, a `let`, and the enters of an arm. Only
 -- the names that are used matter.
 use Rattle.std.proofs.Common.{◌≡◌, ℤ, Bool, true, false, not, ◌||◌, List, [], ◌∷◌, ◌++◌, length, filter, Some, if◌then◌else◌, refl, ap, ◌∙◌, arith}
 use Rattle.std.specs.Prelude.{⊤}

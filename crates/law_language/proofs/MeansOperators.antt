@@ -23,12 +23,12 @@ use Rattle.source.specs.Evaluates.{Evaluates, number, prefix, infix_, signed, op
 use Rattle.source.specs.Lowered.{Lowered, Site, Spot, made, only, joined, ended, operator_of, operands, prefixed, lower, port, spot_after}
 use Rattle.source.proofs.Kept.{in_prefix, in_infix}
 use Rattle.law_language.specs.MeansAgrees.{Have}
-use Rattle.law_language.specs.Means.{over, Stands, Comes, MeansExpr}
+use Rattle.law_language.specs.Means.{over, IsActive, Delivers, MeansExpr}
 use Rattle.law_language.proofs.MeansNamesAgree.{agrees_split}
 use Rattle.source.proofs.Counting.{count_of}
 use Rattle.law_language.proofs.MeansParts.{first_part, rest_part}
 use Rattle.law_language.proofs.MeansBodies.{both_stored}
-use Rattle.law_language.proofs.MeansLeaves.{append_nothing, last_gives, last_quiet, last_told, no_stores}
+use Rattle.law_language.proofs.MeansLeaves.{append_nothing, last_gives, last_quiet, last_traced, no_stores}
 
 module _ (p : Program) (g : Graph) (origin : ℕ → Origin) (inputs : List ℤ) (run : List Activity) (s : State)
     (r : Run (flow_of g) (start inputs) run s) (st : Settled (flow_of g) inputs run s r) (two : g.version ≡ 2) (c : Context) where
@@ -38,8 +38,8 @@ module _ (p : Program) (g : Graph) (origin : ℕ → Origin) (inputs : List ℤ)
   abbrev HaveIt : List Source → List Value → Type 0
   HaveIt xs vs = Have (flow_of g) inputs run s r c xs vs
 
-  abbrev StandsIn : Site → Spot → Lowered → Type 0
-  StandsIn site spot l = Stands p g origin inputs run s r c site spot l
+  abbrev ActiveIn : Site → Spot → Lowered → Type 0
+  ActiveIn site spot l = IsActive p g origin inputs run s r c site spot l
 
   -- the one source and the one value of an operand
   pub record HasOneValue (xs : List Source) (vs : List Value) : Type 0 where
@@ -60,8 +60,8 @@ module _ (p : Program) (g : Graph) (origin : ℕ → Origin) (inputs : List ℤ)
   same_value x v w h k = st.one_value c x.node x.port v w h k
 
   -- the origin of a fault, as the block of c tells it
-  pub told_at : (i n : ℕ) → block_number (flow_of g) c ≡ Some i → origin_at (flow_of g) c n ≡ At i n
-  told_at i n e = ap₂ (λ v o. origin_in v o n) two e
+  pub traced_at : (i n : ℕ) → block_number (flow_of g) c ≡ Some i → origin_at (flow_of g) c n ≡ At i n
+  traced_at i n e = ap₂ (λ v o. origin_in v o n) two e
 
   -- PREFIXES
   negated_number : (at u k : ℕ) → MeansExpr p g origin inputs run s r c (Prefix at Neg (Number u k))
@@ -84,8 +84,8 @@ module _ (p : Program) (g : Graph) (origin : ℕ → Origin) (inputs : List ℤ)
       let m : Lowered = ended site spot l at (node.Apply1 op) l.sources 1 in
       let rules = in_prefix p names at op e n rule in
       let same : prefixed site spot at op e l ≡ m = is site spot l in
-      let here : StandsIn site spot m = subst (λ m. StandsIn site spot m) same h in
-      let before : StandsIn site spot l = first_part p g origin inputs run s r c site spot l m (made site at (node.Apply1 op) l.sources ∷ []) [] refl
+      let here : ActiveIn site spot m = subst (λ m. ActiveIn site spot m) same h in
+      let before : ActiveIn site spot l = first_part p g origin inputs run s r c site spot l m (made site at (node.Apply1 op) l.sources ∷ []) [] refl
       (sym (append_nothing l.blocks)) here in
       let out = means site spot scope env names 1 (fit fits.1) rules.0.values before known in
       let x : HasOneValue l.sources out.vs = one_each l.sources out.vs out.have (count_of p site spot scope e names 1 rules.0.values) in
@@ -93,7 +93,7 @@ module _ (p : Program) (g : Graph) (origin : ℕ → Origin) (inputs : List ℤ)
       let n' : ℕ = spot.next + length l.nodes in
       let eq = subst (λ ss. LineEquation (flow_of g) inputs run s r c n' 0 v.0 (node.Apply1 op) ss) x.sources v.2 in
       let value : v.0 ≡ apply1 op x.value = eq.2 ∙ ap (apply1 op) (same_value x.source eq.0 x.value eq.1 x.has) in
-      subst (λ m. Comes p g origin inputs run s r c (Evaluates (over p g origin inputs run s r) env (Prefix at op e)) m.sources spot.next
+      subst (λ m. Delivers p g origin inputs run s r c (Evaluates (over p g origin inputs run s r) env (Prefix at op e)) m.sources spot.next
       (spot.next + length m.nodes)) (sym same)
       (record {
         vs = apply1 op x.value ∷ [];
@@ -139,11 +139,11 @@ module _ (p : Program) (g : Graph) (origin : ℕ → Origin) (inputs : List ℤ)
       let m : Lowered = ended site spot (joined l k) at (node.Apply2 (operator_of sign)) ss 1 in
       let rules = in_infix p names at sign e d n rule in
       let agree = agrees_split (flow_of g) inputs run s r c scope env (uses e) (uses d) known in
-      let both : StandsIn site spot (joined l k) =
+      let both : ActiveIn site spot (joined l k) =
       first_part p g origin inputs run s r c site spot (joined l k) m (made site at (node.Apply2 (operator_of sign)) ss ∷ []) [] refl
       (sym (append_nothing (joined l k).blocks)) h in
-      let before : StandsIn site spot l = first_part p g origin inputs run s r c site spot l (joined l k) k.nodes k.blocks refl refl both in
-      let behind : StandsIn site (spot_after spot l) k = rest_part p g origin inputs run s r c site spot l k (joined l k) refl refl both in
+      let before : ActiveIn site spot l = first_part p g origin inputs run s r c site spot l (joined l k) k.nodes k.blocks refl refl both in
+      let behind : ActiveIn site (spot_after spot l) k = rest_part p g origin inputs run s r c site spot l k (joined l k) refl refl both in
       let out = left site spot scope env names 1 fits.0 rules.0.values before agree.0 in
       let later = right site (spot_after spot l) scope env names 1 fits.2 rules.1.values behind agree.1 in
       let x : HasOneValue l.sources out.vs = one_each l.sources out.vs out.have (count_of p site spot scope e names 1 rules.0.values) in
@@ -152,8 +152,8 @@ module _ (p : Program) (g : Graph) (origin : ℕ → Origin) (inputs : List ℤ)
       let n' : ℕ = spot.next + length (joined l k).nodes in
       let list : l.sources ++ k.sources ≡ x.source ∷ y.source ∷ [] = ap₂ (λ (a b : List Source). a ++ b) x.sources y.sources in
       let eq = subst (λ ss. LineEquation (flow_of g) inputs run s r c n' 0 v.0 (node.Apply2 (operator_of sign)) (operands sign ss)) list v.2 in
-      let told = last_told p g origin inputs run s r st c site spot (joined l k) at (node.Apply2 (operator_of sign)) ss h in
-      let o : origin_at (flow_of g) c n' ≡ origin at = told_at told.0 n' told.1 ∙ sym (told.2 tt) in
+      let traced = last_traced p g origin inputs run s r st c site spot (joined l k) at (node.Apply2 (operator_of sign)) ss h in
+      let o : origin_at (flow_of g) c n' ≡ origin at = traced_at traced.0 n' traced.1 ∙ sym (traced.2 tt) in
       let value : v.0 ≡ operated sign x.value y.value (origin at) = operated_is n' sign x.source y.source x.value y.value v.0 (origin at) x.has y.has o eq in
       record {
         vs = operated sign x.value y.value (origin at) ∷ [];

@@ -6,17 +6,17 @@ use Rattle.tags.specs.declared.value.Origin.{Origin}
 use Rattle.tags.specs.declared.value.Origin.TheVariants.{At}
 use Rattle.semantics.specs.Graph.{Node, Block, Graph, Flow, node_at, node_count, flow_of}
 use Rattle.semantics.specs.Meaning.{Context, State, Activity, Run, Stood, ArmsTaken, arm_of, arms_round, arms_at, block_of, block_numbered, start}
-use Rattle.law_confluence.specs.EquationsGiven.{Gives, ports_of, ports_in}
+use Rattle.law_confluence.specs.EquationsHave.{Gives, ports_of, ports_in}
 use Rattle.law_confluence.specs.Equations.{IsDue, TakenAt, BlockEquation, NodeEquation, LineEquation}
 use Rattle.law_confluence.specs.EquationsSettled.{Settled}
 use Rattle.law_confluence.proofs.EquationsGraphForms.{line_past, ports_line_at}
 use Rattle.source.specs.Tree.{Program}
 use Rattle.source.specs.Lowered.{Made, MadeBlock, Lowered, Site, Spot, spot_after}
 use Rattle.source.specs.Holds.{Holds}
-use Rattle.law_language.specs.MeansHolds.{resolved, MayFail, AreTold, HasBlocks}
-use Rattle.law_language.specs.Means.{Stands}
+use Rattle.law_language.specs.MeansHolds.{resolved, MayFail, AreTraced, HasBlocks}
+use Rattle.law_language.specs.Means.{IsActive}
 use Rattle.source.proofs.Holding.{holds_split}
-use Rattle.law_language.proofs.MeansHolding.{told_split, blocks_split, resolved_append}
+use Rattle.law_language.proofs.MeansHolding.{traced_split, blocks_split, resolved_append}
 
 -- A LINE of an invocation that is due, where its region is taken: each port has a value, which satisfies its equation.
 module _ (fl : Flow) (inputs : List ℤ) (run : List Activity) (s : State) (r : Run fl (start inputs) run s) (st : Settled fl inputs run s r) where
@@ -36,12 +36,12 @@ module _ (fl : Flow) (inputs : List ℤ) (run : List Activity) (s : State) (r : 
 
 module _ (p : Program) (g : Graph) (origin : ℕ → Origin) (inputs : List ℤ) (run : List Activity) (s : State)
     (r : Run (flow_of g) (start inputs) run s) (c : Context) (site : Site) (spot : Spot) where
-  abbrev StandsHere : Spot → Lowered → Type 0
-  StandsHere at l = Stands p g origin inputs run s r c site at l
+  abbrev ActiveHere : Spot → Lowered → Type 0
+  ActiveHere at l = IsActive p g origin inputs run s r c site at l
 
   -- what stands before the rest
-  pub first_part : (l m : Lowered) (ns : List Made) (bs : List MadeBlock) → m.nodes ≡ l.nodes ++ ns → m.blocks ≡ l.blocks ++ bs → StandsHere spot m
-      → StandsHere spot l
+  pub first_part : (l m : Lowered) (ns : List Made) (bs : List MadeBlock) → m.nodes ≡ l.nodes ++ ns → m.blocks ≡ l.blocks ++ bs → ActiveHere spot m
+      → ActiveHere spot l
   first_part l m ns bs en eb h =
       record {
         number = h.number;
@@ -54,12 +54,12 @@ module _ (p : Program) (g : Graph) (origin : ℕ → Origin) (inputs : List ℤ)
         triggered = h.triggered;
         lines = (holds_split h.block spot.next (map (resolved g) l.nodes) (map (resolved g) ns)
             (subst (λ ls. Holds h.block spot.next ls) (ap (λ ms. map (resolved g) ms) en ∙ resolved_append g l.nodes ns) h.lines)).0;
-        told = (told_split origin h.number spot.next l.nodes ns (subst (λ ms. AreTold origin h.number spot.next ms) en h.told)).0;
+        traced = (traced_split origin h.number spot.next l.nodes ns (subst (λ ms. AreTraced origin h.number spot.next ms) en h.traced)).0;
         loops = (blocks_split g origin site.function l.blocks bs (subst (λ bs. HasBlocks g origin site.function bs) eb h.loops)).0;
       }
 
-  -- and the rest behind it
-  pub rest_part : (l r' m : Lowered) → m.nodes ≡ l.nodes ++ r'.nodes → m.blocks ≡ l.blocks ++ r'.blocks → StandsHere spot m → StandsHere (spot_after spot l) r'
+  -- and the rest after it
+  pub rest_part : (l r' m : Lowered) → m.nodes ≡ l.nodes ++ r'.nodes → m.blocks ≡ l.blocks ++ r'.blocks → ActiveHere spot m → ActiveHere (spot_after spot l) r'
   rest_part l r' m en eb h =
       let long : length (map (resolved g) l.nodes) ≡ length l.nodes = length-map l.nodes (resolved g) in
       record {
@@ -74,15 +74,15 @@ module _ (p : Program) (g : Graph) (origin : ℕ → Origin) (inputs : List ℤ)
         lines = subst (λ n. Holds h.block (spot.next + n) (map (resolved g) r'.nodes)) long
             (holds_split h.block spot.next (map (resolved g) l.nodes) (map (resolved g) r'.nodes)
             (subst (λ ls. Holds h.block spot.next ls) (ap (λ ms. map (resolved g) ms) en ∙ resolved_append g l.nodes r'.nodes) h.lines)).1;
-        told = (told_split origin h.number spot.next l.nodes r'.nodes (subst (λ ms. AreTold origin h.number spot.next ms) en h.told)).1;
+        traced = (traced_split origin h.number spot.next l.nodes r'.nodes (subst (λ ms. AreTraced origin h.number spot.next ms) en h.traced)).1;
         loops = (blocks_split g origin site.function l.blocks r'.blocks (subst (λ bs. HasBlocks g origin site.function bs) eb h.loops)).1;
       }
 
   -- the first line
-  pub own_line : (l : Lowered) (m : Made) (ms : List Made) → l.nodes ≡ m ∷ ms → (h : StandsHere spot l)
+  pub own_line : (l : Lowered) (m : Made) (ms : List Made) → l.nodes ≡ m ∷ ms → (h : ActiveHere spot l)
       → (node_at h.block spot.next ≡ Some (resolved g m)) × (MayFail m.node.kind → origin m.at ≡ At h.number spot.next)
   own_line l m ms e h =
-      ((subst (λ ms. Holds h.block spot.next (map (resolved g) ms)) e h.lines).0, (subst (λ ms. AreTold origin h.number spot.next ms) e h.told).0)
+      ((subst (λ ms. Holds h.block spot.next (map (resolved g) ms)) e h.lines).0, (subst (λ ms. AreTraced origin h.number spot.next ms) e h.traced).0)
 
-  pub block_is : (l : Lowered) (h : StandsHere spot l) → block_of (flow_of g) c ≡ Some h.block
+  pub block_is : (l : Lowered) (h : ActiveHere spot l) → block_of (flow_of g) c ≡ Some h.block
   block_is l h = ap (λ o. block_numbered (flow_of g) o) h.is_number ∙ h.is_block

@@ -86,27 +86,27 @@ spelled_append x (t ∷ ts) us = go t.place (spelled_append x ts us)
 
 -- WHAT IS TOLD of so many lines, of which so many make faults, by so many tokens: where there is no token, there is no line;
 -- and where there is one at most, and a line that makes faults, that is the only one.
-pub record Told (lines faulty tokens : ℕ) : Type 0 where
+pub record Traced (lines faulty tokens : ℕ) : Type 0 where
   pub few : faulty ≤ lines
   pub none : tokens ≡ 0 → lines ≡ 0
   pub one : tokens ≤ 1 → 0 < faulty → lines ≤ 1
 
-pub told_as : (n f t m g u : ℕ) → Told n f t → m ≡ n → g ≡ f → t ≤ u → Told m g u
-told_as n f t m g u h em eg low =
+pub traced_as : (n f t m g u : ℕ) → Traced n f t → m ≡ n → g ≡ f → t ≤ u → Traced m g u
+traced_as n f t m g u h em eg low =
     let few = h.few in record {
       few = omega (arith, few, em, eg);
       none = λ e. let k = h.none (omega (arith, e, low)) in omega (arith, k, em);
       one = λ e some. let k = h.one (omega (arith, e, low)) (omega (arith, some, eg)) in omega (arith, k, em);
     }
 
-pub told_both : (n f t m g u : ℕ) → Told n f t → Told m g u → Told (n + m) (f + g) (t + u)
-told_both n f zero m g u h k =
+pub traced_both : (n f t m g u : ℕ) → Traced n f t → Traced m g u → Traced (n + m) (f + g) (t + u)
+traced_both n f zero m g u h k =
     let none = h.none refl in let few = h.few in let more = k.few in record {
       few = omega (arith, few, more);
       none = λ e. let l = k.none (omega (arith, e)) in omega (arith, none, l);
       one = λ e some. let l = k.one (omega (arith, e)) (omega (arith, some, few, none)) in omega (arith, l, none);
     }
-told_both n f (suc t) m g u h k =
+traced_both n f (suc t) m g u h k =
     let few = h.few in let more = k.few in record {
       few = omega (arith, few, more);
       none = λ e. absurd (omega (arith, e));
@@ -115,19 +115,19 @@ told_both n f (suc t) m g u h k =
           let i = h.one (omega (arith, e)) (omega (arith, some, l, more)) in omega (arith, l, i);
     }
 
-pub told_none : Told 0 0 0
-told_none = record { few = omega arith; none = λ e. refl; one = λ e some. omega arith }
+pub traced_none : Traced 0 0 0
+traced_none = record { few = omega arith; none = λ e. refl; one = λ e some. omega arith }
 
 -- lines of one token, none of which makes faults
-pub told_group : (n : ℕ) (t : Bool) → (t ≡ false → n ≡ 0) → Told n 0 (one_if t)
-told_group n true h = record { few = omega arith; none = λ e. absurd (omega (arith, e)); one = λ e some. absurd (omega (arith, some)) }
-told_group n false h = let none = h refl in record { few = omega arith; none = λ e. none; one = λ e some. absurd (omega (arith, some)) }
+pub traced_group : (n : ℕ) (t : Bool) → (t ≡ false → n ≡ 0) → Traced n 0 (one_if t)
+traced_group n true h = record { few = omega arith; none = λ e. absurd (omega (arith, e)); one = λ e some. absurd (omega (arith, some)) }
+traced_group n false h = let none = h refl in record { few = omega arith; none = λ e. none; one = λ e some. absurd (omega (arith, some)) }
 
 -- and one line of its own token
-pub told_line : (t u : Bool) → Told (one_if t) (one_if (t && u)) (one_if t)
-told_line true true = record { few = omega arith; none = λ e. e; one = λ e some. omega arith }
-told_line true false = record { few = omega arith; none = λ e. e; one = λ e some. omega arith }
-told_line false u = told_none
+pub traced_line : (t u : Bool) → Traced (one_if t) (one_if (t && u)) (one_if t)
+traced_line true true = record { few = omega arith; none = λ e. e; one = λ e some. omega arith }
+traced_line true false = record { few = omega arith; none = λ e. e; one = λ e some. omega arith }
+traced_line false u = traced_none
 
 -- GROUPS: lines of one place, none of which makes faults
 abbrev pub IsAt : ℕ → Made → Type 0

@@ -11,9 +11,9 @@ use Rattle.law_confluence.proofs.OutcomeResolved.{place_get}
 use Rattle.source.specs.Tree.{Name, Function, Item, Cells, Defines, Program}
 use Rattle.source.specs.Rules.{function_in}
 use Rattle.source.specs.Lowered.{MadeBlock, block_name, graph_block, function_blocks, blocks_of, made_blocks, graph_of}
-use Rattle.law_language.specs.MeansHolds.{AreTold, HasBlock, HasBlocks, block_place, block_in}
+use Rattle.law_language.specs.MeansHolds.{AreTraced, HasBlock, HasBlocks, block_place, block_in}
 use Rattle.law_language.specs.MeansTheorem.{PlacesFromOrigins}
-use Rattle.law_language.proofs.MeansMainStands.{graph_is}
+use Rattle.law_language.proofs.MeansMainActive.{graph_is}
 
 pub get_left : {X : Type 0} (xs ys : List X) (i : ℕ) (x : X) → slice_get xs i ≡ Some x → slice_get (xs ++ ys) i ≡ Some x
 get_left [] ys i x e = cc
@@ -74,7 +74,7 @@ each_has g origin f [] h = tt
 each_has g origin f (b ∷ bs) h = (h 0 b refl, each_has g origin f bs (λ j b e. h (suc j) b e))
 
 module _ (p : Program) (g : Graph) (origin : ℕ → Origin) (is : graph_of p ≡ g) (well : WellFormed g)
-    (told : (i : ℕ) (b : MadeBlock) → slice_get (made_blocks p p) i ≡ Some b → AreTold origin i b.inputs b.nodes)
+    (traced : (i : ℕ) (b : MadeBlock) → slice_get (made_blocks p p) i ≡ Some b → AreTraced origin i b.inputs b.nodes)
     (h : Function) (at : StandsAt p p h) where
   has : (j : ℕ) (b : MadeBlock) → slice_get (function_blocks p h) j ≡ Some b → HasBlock g origin h.name.name b
   has j b e =
@@ -86,12 +86,12 @@ module _ (p : Program) (g : Graph) (origin : ℕ → Origin) (is : graph_of p �
       let same : i ≡ block_place g h.name.name b = well.blocks_differ i (place_of name (block_names g)) name named (place_get name (block_names g) i named) in
       record {
         is_there = subst (λ i. slice_get (flow_of g).blocks i ≡ Some (block_in g h.name.name b)) same (map_get _ g.blocks i (graph_block h.name.name b) got);
-        told = subst (λ i. AreTold origin i b.inputs b.nodes) same (told i b (at.made j b e));
+        traced = subst (λ i. AreTraced origin i b.inputs b.nodes) same (traced i b (at.made j b e));
       }
 
   pub all_placed : HasBlocks g origin h.name.name (function_blocks p h)
   all_placed = each_has g origin h.name.name (function_blocks p h) has
 
 pub places_from_origins : PlacesFromOrigins
-places_from_origins told p g origin low well f h e =
-    all_placed p g origin (graph_is p g low.lowered.graph) well (told p g origin low) h (stands_at p p f h e)
+places_from_origins traced p g origin low well f h e =
+    all_placed p g origin (graph_is p g low.lowered.graph) well (traced p g origin low) h (stands_at p p f h e)

@@ -6,7 +6,7 @@ use Rattle.semantics.specs.Graph.{Flow}
 use Rattle.semantics.specs.Meaning.{Context, Activity}
 use Rattle.lemmas.proofs.Permutations.{Perm, perm_to, perm_cons, put_first, Put, put_later}
 use Rattle.lemmas.proofs.Lists.{map_append}
-use Rattle.law_confluence.specs.EquationsGiven.{Stored, stores_of}
+use Rattle.law_confluence.specs.EquationsHave.{Stored, stores_of}
 use Rattle.source.specs.Evaluates.{Stores}
 use Rattle.law_language.specs.MeansBelow.{node_under, is_within, is_below, cell_and_value, stores_below}
 

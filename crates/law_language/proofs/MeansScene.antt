@@ -7,7 +7,7 @@ use Rattle.semantics.specs.declared.graph.Source.{Source}
 use Rattle.semantics.specs.Graph.{Node, Block, Graph, Flow, flow_of, node_count}
 use Rattle.semantics.specs.WellFormed.{WellFormed}
 use Rattle.semantics.specs.Meaning.{Context, Tagged, State, Activity, Run, Stood, ArmsTaken, arms_round, start}
-use Rattle.law_confluence.specs.EquationsGiven.{ports_of}
+use Rattle.law_confluence.specs.EquationsHave.{ports_of}
 use Rattle.law_confluence.specs.Equations.{IsDue, Has, LineEquation}
 use Rattle.law_confluence.specs.EquationsSettled.{Settled}
 use Rattle.source.specs.Tree.{Name, Expr, Exprs, Body, Turn, Function, Program}
@@ -17,8 +17,8 @@ use Rattle.source.specs.Lowered.{Lowered, Site, Spot, Scope, function_blocks, gr
 use Rattle.law_language.specs.MeansHolds.{HasBlocks}
 use Rattle.law_language.specs.MeansAgrees.{Agrees, Have}
 use Rattle.law_language.specs.MeansBelow.{stores_below}
-use Rattle.law_language.specs.Means.{over, Stands, Comes, MeansExpr, MeansList, MeansBody, MeansTurn, MeansIn}
-use Rattle.law_language.proofs.MeansMainStands.{IsGoodFunction}
+use Rattle.law_language.specs.Means.{over, IsActive, Delivers, MeansExpr, MeansList, MeansBody, MeansTurn, MeansIn}
+use Rattle.law_language.proofs.MeansMainActive.{IsGoodFunction}
 use Rattle.law_language.proofs.MeansStore.{IndexesAreGood}
 
 pub record Scene : Type 0 where
@@ -64,11 +64,11 @@ KnownIn z c scope env xs = Agrees (flow z) z.inputs z.run z.state z.is_run c sco
 abbrev pub StoresIn : Scene → Context → ℕ → ℕ → Stores
 StoresIn z c lo hi = stores_below (flow z) z.run c lo hi
 
-abbrev pub StandsIn : Scene → Context → Site → Spot → Lowered → Type 0
-StandsIn z c site spot l = Stands z.program z.graph z.origin z.inputs z.run z.state z.is_run c site spot l
+abbrev pub ActiveIn : Scene → Context → Site → Spot → Lowered → Type 0
+ActiveIn z c site spot l = IsActive z.program z.graph z.origin z.inputs z.run z.state z.is_run c site spot l
 
-abbrev pub ComesIn : Scene → Context → (List Value → Stores → Type 0) → List Source → ℕ → ℕ → Type 0
-ComesIn z c gives xs lo hi = Comes z.program z.graph z.origin z.inputs z.run z.state z.is_run c gives xs lo hi
+abbrev pub DeliversIn : Scene → Context → (List Value → Stores → Type 0) → List Source → ℕ → ℕ → Type 0
+DeliversIn z c gives xs lo hi = Delivers z.program z.graph z.origin z.inputs z.run z.state z.is_run c gives xs lo hi
 
 abbrev pub ExprIn : Scene → Context → Expr → Type 0
 ExprIn z c e = MeansExpr z.program z.graph z.origin z.inputs z.run z.state z.is_run c e

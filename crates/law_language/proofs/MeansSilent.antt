@@ -10,7 +10,7 @@ use Rattle.semantics.specs.Graph.{Node, Block, node_at, node_count}
 use Rattle.semantics.specs.Meaning.{Context, Called, Turned, AtNode, Operand, tagged, ArmsTaken, Fills, arm_of, arms_round, arms_at, block_of, node_in, start}
 use Rattle.lemmas.proofs.Bools.{first_of_and, second_of_and}
 use Rattle.lemmas.proofs.Permutations.{Within, Each, each_from, within_to}
-use Rattle.law_confluence.specs.EquationsGiven.{Gives, Stored, stores_of}
+use Rattle.law_confluence.specs.EquationsHave.{Gives, Stored, stores_of}
 use Rattle.law_confluence.specs.Equations.{TakenAt}
 use Rattle.law_confluence.proofs.EquationsGraphForms.{IsBlock, line_below}
 use Rattle.law_confluence.proofs.EquationsEndCells.{stored_from}

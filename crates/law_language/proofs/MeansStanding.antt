@@ -1,4 +1,4 @@
--- Parts that stand, in a scene: what stands before and behind, at another spot of the same number, and in an arm.
+-- Parts that stand, in a scene: what stands before and after, at another spot of the same number, and in an arm.
 use Rattle.std.proofs.Common.{◌≡◌, ℕ, ◌+◌, Bool, List, [], ◌++◌, map, IsPermutation, sym, subst, arith}
 use Rattle.std.proofs.lemmas.List.Sorted.{IsPermutation-refl}
 use Rattle.tags.specs.declared.value.Value.{Value}
@@ -7,22 +7,22 @@ use Rattle.semantics.specs.Meaning.{Context}
 use Rattle.source.specs.Evaluates.{Stores}
 use Rattle.source.specs.Lowered.{Made, MadeBlock, Lowered, Site, Spot, spot_after, arm_site, port}
 use Rattle.source.specs.Holds.{Holds}
-use Rattle.law_language.specs.MeansHolds.{resolved, AreTold}
+use Rattle.law_language.specs.MeansHolds.{resolved, AreTraced}
 use Rattle.law_language.proofs.MeansRanges.{stores_both}
 use Rattle.law_language.proofs.MeansParts.{first_part, rest_part}
-use Rattle.law_language.proofs.MeansScene.{Scene, flow, RegionIn, HasIn, StoresIn, StandsIn}
+use Rattle.law_language.proofs.MeansScene.{Scene, flow, RegionIn, HasIn, StoresIn, ActiveIn}
 
 module _ (z : Scene) (c : Context) where
   pub first_in : (site : Site) (spot : Spot) (l m : Lowered) (ns : List Made) (bs : List MadeBlock) → m.nodes ≡ l.nodes ++ ns → m.blocks ≡ l.blocks ++ bs
-      → StandsIn z c site spot m → StandsIn z c site spot l
+      → ActiveIn z c site spot m → ActiveIn z c site spot l
   first_in site spot l m ns bs en eb h = first_part z.program z.graph z.origin z.inputs z.run z.state z.is_run c site spot l m ns bs en eb h
 
-  pub rest_in : (site : Site) (spot : Spot) (l k m : Lowered) → m.nodes ≡ l.nodes ++ k.nodes → m.blocks ≡ l.blocks ++ k.blocks → StandsIn z c site spot m
-      → StandsIn z c site (spot_after spot l) k
+  pub rest_in : (site : Site) (spot : Spot) (l k m : Lowered) → m.nodes ≡ l.nodes ++ k.nodes → m.blocks ≡ l.blocks ++ k.blocks → ActiveIn z c site spot m
+      → ActiveIn z c site (spot_after spot l) k
   rest_in site spot l k m en eb h = rest_part z.program z.graph z.origin z.inputs z.run z.state z.is_run c site spot l k m en eb h
 
   -- how many loops were met says nothing of what stands
-  pub stands_at : (site : Site) (spot to : Spot) (l : Lowered) → spot.next ≡ to.next → StandsIn z c site spot l → StandsIn z c site to l
+  pub stands_at : (site : Site) (spot to : Spot) (l : Lowered) → spot.next ≡ to.next → ActiveIn z c site spot l → ActiveIn z c site to l
   stands_at site spot to l e h = record {
     number = h.number;
     block = h.block;
@@ -33,13 +33,13 @@ module _ (z : Scene) (c : Context) where
     trigger = h.trigger;
     triggered = h.triggered;
     lines = subst (λ n. Holds h.block n (map (resolved z.graph) l.nodes)) e h.lines;
-    told = subst (λ n. AreTold z.origin h.number n l.nodes) e h.told;
+    traced = subst (λ n. AreTraced z.origin h.number n l.nodes) e h.traced;
     loops = h.loops;
   }
 
   -- what stands at an arm that is taken, whose first enter has a value, stands in it
-  pub stands_in_arm : (site : Site) (spot : Spot) (l : Lowered) (cond : ℕ) (side : Bool) (h : StandsIn z c site spot l) → RegionIn z c h.block (Arm cond side)
-      → (v : Value) → HasIn z c (port spot.next 0) v → StandsIn z c (arm_site site cond side spot) spot l
+  pub stands_in_arm : (site : Site) (spot : Spot) (l : Lowered) (cond : ℕ) (side : Bool) (h : ActiveIn z c site spot l) → RegionIn z c h.block (Arm cond side)
+      → (v : Value) → HasIn z c (port spot.next 0) v → ActiveIn z c (arm_site site cond side spot) spot l
   stands_in_arm site spot l cond side h here_taken v has = record {
     number = h.number;
     block = h.block;
@@ -50,7 +50,7 @@ module _ (z : Scene) (c : Context) where
     trigger = v;
     triggered = has;
     lines = h.lines;
-    told = h.told;
+    traced = h.traced;
     loops = h.loops;
   }
 

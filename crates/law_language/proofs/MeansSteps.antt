@@ -7,7 +7,7 @@ use Rattle.source.specs.Tree.{Expr, Number, Named, Bracket, Prefix, Infix, Fetch
 use Rattle.source.specs.Tree.{Before, After}
 use Rattle.law_language.specs.Means.{MeansStep}
 use Rattle.law_language.specs.MeansTheorem.{PartsFromPlaces}
-use Rattle.law_language.proofs.MeansMainStands.{graph_is, each_function_good}
+use Rattle.law_language.proofs.MeansMainActive.{graph_is, each_function_good}
 use Rattle.law_language.proofs.MeansLeaves.{means_number, means_named, means_bracket}
 use Rattle.law_language.proofs.MeansOperators.{means_prefix, means_infix}
 use Rattle.law_language.proofs.MeansCells.{two, means_fetch}

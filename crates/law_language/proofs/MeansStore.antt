@@ -11,7 +11,7 @@ use Rattle.semantics.specs.Graph as graph
 use Rattle.semantics.specs.Graph.{Node, Graph, Flow, flow_of, array_names, first_cell, array_len}
 use Rattle.semantics.specs.Meaning.{Context, State, Activity, Run, start, node_of, origin_at}
 use Rattle.lemmas.proofs.Permutations.{Within}
-use Rattle.law_confluence.specs.EquationsGiven.{Stored, stores_of}
+use Rattle.law_confluence.specs.EquationsHave.{Stored, stores_of}
 use Rattle.law_confluence.specs.Equations.{Has, LineEquation, Storing}
 use Rattle.law_confluence.specs.EquationsSettled.{Settled}
 use Rattle.source.specs.Tree.{Name, Expr, Store, Program}
@@ -22,7 +22,7 @@ use Rattle.source.specs.Lowered.{Lowered, Site, Spot, made, joined, ended, graph
 use Rattle.source.proofs.Kept.{in_store}
 use Rattle.law_language.specs.MeansHolds.{resolved}
 use Rattle.law_language.specs.MeansBelow.{stores_below}
-use Rattle.law_language.specs.Means.{over, Stands, MeansExpr}
+use Rattle.law_language.specs.Means.{over, IsActive, MeansExpr}
 use Rattle.law_language.proofs.MeansNamesAgree.{agrees_split}
 use Rattle.source.proofs.Counting.{count_of}
 use Rattle.law_language.proofs.MeansRanges.{stores_both}
@@ -30,8 +30,8 @@ use Rattle.law_language.proofs.MeansStoreLines.{IsStore}
 use Rattle.law_language.proofs.MeansStoredOnce.{one_store, no_store}
 use Rattle.law_language.proofs.MeansParts.{first_part, rest_part}
 use Rattle.law_language.proofs.MeansBodies.{both_stored}
-use Rattle.law_language.proofs.MeansLeaves.{append_nothing, last_gives, last_node, last_told}
-use Rattle.law_language.proofs.MeansOperators.{HasOneValue, one_each, same_value, told_at}
+use Rattle.law_language.proofs.MeansLeaves.{append_nothing, last_gives, last_node, last_traced}
+use Rattle.law_language.proofs.MeansOperators.{HasOneValue, one_each, same_value, traced_at}
 use Rattle.law_language.proofs.MeansCells.{cell_named, two}
 
 index_so : (len : ℕ) (i j : Value) (o : Origin) (fault : Value) → i ≡ j → index_in len j o ≡ Outside fault → index_in len i o ≡ Outside fault
@@ -42,8 +42,8 @@ module _ (p : Program) (g : Graph) (origin : ℕ → Origin) (inputs : List ℤ)
   abbrev HasIt : Source → Value → Type 0
   HasIt x v = Has (flow_of g) inputs run s r c x v
 
-  abbrev StandsIn : Site → Spot → Lowered → Type 0
-  StandsIn site spot l = Stands p g origin inputs run s r c site spot l
+  abbrev ActiveIn : Site → Spot → Lowered → Type 0
+  ActiveIn site spot l = IsActive p g origin inputs run s r c site spot l
 
   -- each store of the run took an index that its first source has, and that names a cell
   abbrev pub IndexesAreGood : Type 0
@@ -78,10 +78,10 @@ module _ (p : Program) (g : Graph) (origin : ℕ → Origin) (inputs : List ℤ)
         let m : Lowered = ended site spot both at (node.Store a) both.sources 1 in
         let rules = in_store p names at a e d n rule in
         let agree = agrees_split (flow_of g) inputs run s r c scope env (uses e) (uses d) known in
-        let all : StandsIn site spot both = first_part p g origin inputs run s r c site spot both m (made site at (node.Store a) both.sources ∷ []) [] refl
+        let all : ActiveIn site spot both = first_part p g origin inputs run s r c site spot both m (made site at (node.Store a) both.sources ∷ []) [] refl
         (sym (append_nothing both.blocks)) h in
-        let before : StandsIn site spot l = first_part p g origin inputs run s r c site spot l both k.nodes k.blocks refl refl all in
-        let behind : StandsIn site (spot_after spot l) k = rest_part p g origin inputs run s r c site spot l k both refl refl all in
+        let before : ActiveIn site spot l = first_part p g origin inputs run s r c site spot l both k.nodes k.blocks refl refl all in
+        let behind : ActiveIn site (spot_after spot l) k = rest_part p g origin inputs run s r c site spot l k both refl refl all in
         let out = left site spot scope env names 1 fits.0 rules.1.values before agree.0 in
         let later = right site (spot_after spot l) scope env names 1 fits.1 rules.2.values behind agree.1 in
         let t = two p g origin inputs run s r st is c in
@@ -95,8 +95,8 @@ module _ (p : Program) (g : Graph) (origin : ℕ → Origin) (inputs : List ℤ)
         let base : ℕ = first_cell (flow_of g) array in
         let list : both.sources ≡ x.source ∷ y.source ∷ [] = ap₂ (λ (a b : List Source). a ++ b) x.sources y.sources in
         let eq = subst (λ ss. LineEquation (flow_of g) inputs run s r c n' 0 v.0 (node.Store array) ss) list v.2 in
-        let told = last_told p g origin inputs run s r st c site spot both at (node.Store a) both.sources h in
-        let o : origin_at (flow_of g) c n' ≡ origin at = told_at p g origin inputs run s r st t c told.0 n' told.1 ∙ sym (told.2 tt) in
+        let traced = last_traced p g origin inputs run s r st c site spot both at (node.Store a) both.sources h in
+        let o : origin_at (flow_of g) c n' ≡ origin at = traced_at p g origin inputs run s r st t c traced.0 n' traced.1 ∙ sym (traced.2 tt) in
         let index : eq.0 ≡ x.value = same_value p g origin inputs run s r st t c x.source eq.0 x.value eq.2 x.has in
         let value : eq.1 ≡ y.value = same_value p g origin inputs run s r st t c y.source eq.1 y.value eq.3 y.has in
         let ix : Indexed = index_in (array_len (flow_of g) array) x.value (origin at) in

@@ -14,7 +14,7 @@ use Rattle.lemmas.proofs.Bools.{first_of_and, second_of_and}
 use Rattle.law_confluence.proofs.ActivityShapes.{storing}
 use Rattle.law_confluence.specs.EquationsContexts.{same_context}
 use Rattle.law_confluence.proofs.EquationsContexts.{same_context_is}
-use Rattle.law_confluence.specs.EquationsGiven.{Gives, Stored, stores_of}
+use Rattle.law_confluence.specs.EquationsHave.{Gives, Stored, stores_of}
 use Rattle.law_confluence.specs.Equations.{IsDue}
 use Rattle.law_confluence.specs.EquationsSettled.{Settled}
 use Rattle.law_confluence.proofs.EquationsEndCells.{stored_from}

@@ -11,7 +11,7 @@ use Rattle.semantics.specs.Meaning.{Context, Main, Called, Turned, State, Activi
 use Rattle.lemmas.proofs.Permutations.{Within, each_from, get_within, within_to}
 use Rattle.lemmas.proofs.Contains.{contains_get}
 use Rattle.law_confluence.proofs.EquationsContexts.{same_itself}
-use Rattle.law_confluence.specs.EquationsGiven.{Stored, stores_of}
+use Rattle.law_confluence.specs.EquationsHave.{Stored, stores_of}
 use Rattle.law_confluence.specs.EquationsSettled.{Settled}
 use Rattle.law_language.specs.MeansBelow.{node_under, is_within, is_below, cell_and_value, stores_below}
 use Rattle.law_language.proofs.MeansStoreLines.{IsStore, stored_at, under, kept_none, false_by, within_one}

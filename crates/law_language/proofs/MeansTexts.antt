@@ -8,7 +8,7 @@ use Rattle.source.specs.Spelled.{Spelling, IsPlace, AreSpelled, program_tokens}
 use Rattle.source.specs.Tokens.{Beginning, Skipped, Read, Refused, beginning, preceded, lexed_then, lexed_from}
 use Rattle.law_language.specs.MeansTheorem.{and_place, places, Rise, TokensRise, SpellingsDiffer}
 
--- tokens from a place on, each behind those before
+-- tokens from a place on, each after those before
 abbrev Rises : ℕ → List Token → Type 0
 Rises n [] = ⊤
 Rises n (t ∷ ts) = (n ≤ t.at) × Rises (t.at + 1) ts

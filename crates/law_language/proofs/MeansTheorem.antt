@@ -17,12 +17,12 @@ use Rattle.law_language.specs.Means.{MeansIn}
 use Rattle.law_language.specs.MeansTheorem.{FunctionsArePlaced, PartsKeepMeaning, MeaningFromParts, LoweringKeepsMeaning, TextsKeepMeaning}
 use Rattle.law_language.specs.MeansTheorem.{MachinesShowPrograms}
 use Rattle.law_confluence.proofs.EquationsNoneWaits.{none_waits}
-use Rattle.law_language.proofs.MeansMainComes.{outputs_shown, cells_filled, cells_filled_once}
+use Rattle.law_language.proofs.MeansMainDelivers.{outputs_shown, cells_filled, cells_filled_once}
 use Rattle.law_language.proofs.MeansPlaced.{places_from_origins}
-use Rattle.law_language.proofs.MeansOriginsTold.{origins_are_told}
+use Rattle.law_language.proofs.MeansOriginsTraced.{origins_are_traced}
 use Rattle.law_language.proofs.MeansSteps.{parts_from_places}
 use Rattle.law_language.proofs.MeansTexts.{tokens_rise, spellings_differ}
-use Rattle.law_language.proofs.MeansMainStands.{main_function, each_function_good, graph_is, main_spot, main_lowered, main_is, main_stands, main_agrees, block}
+use Rattle.law_language.proofs.MeansMainActive.{main_function, each_function_good, graph_is, main_spot, main_lowered, main_is, main_stands, main_agrees, block}
 
 pub meaning_from_parts : MeaningFromParts
 meaning_from_parts placed parts p g origin low well inputs count s rests =
@@ -56,7 +56,7 @@ meaning_from_parts placed parts p g origin low well inputs count s rests =
 
 -- ALL OF IT
 functions_are_placed : FunctionsArePlaced
-functions_are_placed = places_from_origins origins_are_told
+functions_are_placed = places_from_origins origins_are_traced
 
 parts_keep_meaning : PartsKeepMeaning
 parts_keep_meaning = parts_from_places functions_are_placed

@@ -23,11 +23,11 @@ use Rattle.law_language.proofs.MeansParts.{block_is}
 use Rattle.law_language.proofs.MeansLeaves.{append_nothing}
 use Rattle.law_language.proofs.MeansOperators.{HasOneValue, one_each}
 use Rattle.law_language.proofs.MeansCells.{two}
-use Rattle.law_language.proofs.MeansScene.{Scene, flow, world_of, HasIn, HaveIn, KnownIn, StandsIn, ComesIn, ExprIn, BodyIn, TurnIn}
+use Rattle.law_language.proofs.MeansScene.{Scene, flow, world_of, HasIn, HaveIn, KnownIn, ActiveIn, DeliversIn, ExprIn, BodyIn, TurnIn}
 use Rattle.law_language.proofs.MeansStanding.{first_in, rest_in, makes_none, makes_both, makes_to}
 use Rattle.law_language.proofs.MeansLies.{lie_arm, lie_enters, body_lies}
 use Rattle.law_language.proofs.MeansConditionals.{enters_have, enters_quiet, open_there, left_stands, right_stands, chosen_left, chosen_right}
-use Rattle.law_language.proofs.MeansIf.{armed, arm_comes, comes_as}
+use Rattle.law_language.proofs.MeansIf.{armed, arm_delivers, delivers_as}
 use Rattle.law_language.proofs.MeansTurnNames.{agrees_named, without_split}
 
 -- THE TEST BEHIND THE BODY is on the values that the turn gives.
@@ -41,8 +41,8 @@ means_after z c xs body q means test f spot at scope env names vs some fits rule
     let rules = in_after z.program names xs body q (length xs) rule in
     let parts = without_split (flow z) z.inputs z.run z.state z.is_run c scope env (bare xs) (body_uses body) (uses q) known in
     let knows = agrees_named (flow z) z.inputs z.run z.state z.is_run c scope env xs vs have (body_uses body) parts.0 in
-    let before : StandsIn z c site spot b = first_in z c site spot b m k.nodes k.blocks refl refl h in
-    let behind : StandsIn z c site (spot_after spot b) k = rest_in z c site spot b k m refl refl h in
+    let before : ActiveIn z c site spot b = first_in z c site spot b m k.nodes k.blocks refl refl h in
+    let behind : ActiveIn z c site (spot_after spot b) k = rest_in z c site spot b k m refl refl h in
     let out = means site spot scope (entered xs vs env) names (length xs) false fits.0 rules.0 before knows in
     let many : length xs ≡ length b.sources = sym (body_count z.program site spot scope body names (length xs) rules.0) in
     let after = agrees_entered (flow z) z.inputs z.run z.state z.is_run c xs b.sources out.vs scope env out.have many (uses q) parts.1 in
@@ -92,12 +92,13 @@ module _ (z : Scene) (c : Context) (at : ℕ) (xs : List NameAt) (body : Body) (
       go [] some = absurd (omega (arith, some))
       go (x ∷ xs) some = refl
 
-  module _ (x : Source) (v : Value) (only : ps ≡ x ∷ []) (has : HasIn z c x v) (h : StandsIn z c site k (chosen site k at ps go_arm stay_arm))
+  module _ (x : Source) (v : Value) (only : ps ≡ x ∷ []) (has : HasIn z c x v) (h : ActiveIn z c site k (chosen site k at ps go_arm stay_arm))
       (env : Env) (names : List Name) (vs : List Value) (some : 0 < length xs) (fits : FitsBody false body)
       (rule : body_values z.program names body ≡ Ok (length xs))
       (have : HaveIn z c (map (source_in scope) (bare xs)) vs) (known : KnownIn z c scope (entered xs vs env) (body_uses body)) where
-    abbrev Comes : Type 0
-    Comes = ComesIn z c (Steps env vs v) (chosen site k at ps go_arm stay_arm).sources k.next (k.next + length (chosen site k at ps go_arm stay_arm).nodes)
+    abbrev Delivers : Type 0
+    Delivers = DeliversIn z c (Steps env vs v) (chosen site k at ps go_arm stay_arm).sources k.next
+        (k.next + length (chosen site k at ps go_arm stay_arm).nodes)
 
     same : length go_arm.sources ≡ length stay_arm.sources
     same =
@@ -107,25 +108,26 @@ module _ (z : Scene) (c : Context) (at : ℕ) (xs : List NameAt) (body : Body) (
         ∙ sym (inputs_count stay_spot.next (length stays_at) ∙ ap length (sym (all_stay some)) ∙ length-map (bare xs) (source_in scope)
         ∙ length-map xs (λ (x : NameAt). x.name))
 
-    goes : truth v ≡ true → Comes
+    goes : truth v ≡ true → Delivers
     goes t =
         let there = left_stands z c site k at ps go_arm stay_arm x v only has h in
         let taken = open_there z c site k at ps go_arm stay_arm x v only has h true t site (next_spot k) go_arm there in
-        let out = arm_comes z c site k.next true (next_spot k) at scope (first_of ps) body (entered xs vs env) names
+        let out = arm_delivers z c site k.next true (next_spot k) at scope (first_of ps) body (entered xs vs env) names
         (length xs) false fits rule means there taken known in
         chosen_left z c site k at ps go_arm stay_arm x v only has h t same (Steps env vs v)
-        (comes_as z c (Runs (world_of z) (entered xs vs env) body) (Steps env vs v) go_arm.sources (k.next + 1) (k.next + 1 + length go_arm.nodes)
+        (delivers_as z c (Runs (world_of z) (entered xs vs env) body) (Steps env vs v) go_arm.sources (k.next + 1) (k.next + 1 + length go_arm.nodes)
         (λ us ss e. inl (t, e)) out)
         (λ lines. lie_enters z.program z.graph h.block (arm_site site k.next false stay_spot) stay_spot at stays_at)
 
-    stops : truth v ≡ false → Comes
+    stops : truth v ≡ false → Delivers
     stops t =
         let here = arm_site site k.next false stay_spot in
         let there = right_stands z c site k at ps go_arm stay_arm x v only has h in
         let taken = open_there z c site k at ps go_arm stay_arm x v only has h false t site stay_spot stay_arm there in
         let eb = block_is z.program z.graph z.origin z.inputs z.run z.state z.is_run c site stay_spot stay_arm there in
         let its = subst (λ ss. HaveIn z c ss vs) (all_stay some) have in
-        let out : ComesIn z c (Steps env vs v) stay_arm.sources (k.next + 1 + length go_arm.nodes) (k.next + 1 + length go_arm.nodes + length stay_arm.nodes) =
+        let out : DeliversIn z c (Steps env vs v) stay_arm.sources (k.next + 1 + length go_arm.nodes)
+        (k.next + 1 + length go_arm.nodes + length stay_arm.nodes) =
         record {
           vs = vs;
           ss = [];
@@ -140,10 +142,10 @@ module _ (z : Scene) (c : Context) (at : ℕ) (xs : List NameAt) (body : Body) (
         (λ here inner names. lower_body z.program here inner names body)
         (λ inner names w. body_lies z.program z.graph h.block (arm_site site k.next true (next_spot k)) inner names body w) lines)
 
-    pub steps : Comes
+    pub steps : Delivers
     steps = by_truth (truth v) refl
       where
-        by_truth : (t : Bool) → truth v ≡ t → Comes
+        by_truth : (t : Bool) → truth v ≡ t → Delivers
         by_truth true e = goes e
         by_truth false e = stops e
 
@@ -159,8 +161,8 @@ means_before z c xs q body test means f spot at scope env names vs some fits rul
     let parts = without_split (flow z) z.inputs z.run z.state z.is_run c scope env (bare xs) (uses q) (body_uses body) known in
     let tests = agrees_named (flow z) z.inputs z.run z.state z.is_run c scope env xs vs have (uses q) parts.0 in
     let knows = agrees_named (flow z) z.inputs z.run z.state z.is_run c scope env xs vs have (body_uses body) parts.1 in
-    let before : StandsIn z c site spot p = first_in z c site spot p (joined p m) m.nodes m.blocks refl refl h in
-    let behind : StandsIn z c site k m = rest_in z c site spot p m (joined p m) refl refl h in
+    let before : ActiveIn z c site spot p = first_in z c site spot p (joined p m) m.nodes m.blocks refl refl h in
+    let behind : ActiveIn z c site k m = rest_in z c site spot p m (joined p m) refl refl h in
     let out = test site spot scope (entered xs vs env) names 1 fits.0 rules.0.values before tests in
     let t = two z.program z.graph z.origin z.inputs z.run z.state z.is_run z.settled z.is_graph c in
     let x : HasOneValue z.program z.graph z.origin z.inputs z.run z.state z.is_run z.settled t c p.sources out.vs =

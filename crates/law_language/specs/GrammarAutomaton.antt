@@ -204,7 +204,7 @@ call_end called strict f depth (TheSign sign.Comma) = Takes (word.Part ∷ []) (
 call_end called strict f depth (TheSign sign.CloseParen) = Takes (word.Part ∷ word.Call called strict f ∷ []) []
 call_end called strict f depth l = Refuses Unexpected
 
--- Behind an `else` stands an `if` or a block.
+-- After an `else` stands an `if` or a block.
 abbrev pub otherwise : ℕ → ℕ → ℕ → Lexeme → Outcome
 otherwise limit depth at (TheSign sign.OpenBrace) = Takes [] (Steps depth ∷ [])
 otherwise limit depth at (TheWord keyword.If) = within limit (depth + 2) (Takes [] (conditional at depth ++ Emit word.Chain ∷ []))

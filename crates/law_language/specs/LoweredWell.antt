@@ -75,7 +75,7 @@ module _ (g : Graph) where
     pub trigger : IsGoodSource b site.region n site.trigger
 
   -- The block has the part's lines, and the graph the blocks of its loops.
-  pub record IsHeld (b : Block Name) (f : Name) (n : ℕ) (l : Lowered) : Type 0 where
+  pub record IsIncluded (b : Block Name) (f : Name) (n : ℕ) (l : Lowered) : Type 0 where
     pub lines : HoldsMade b n l.nodes
     pub blocks : AreThere f l.blocks
 
@@ -91,19 +91,19 @@ module _ (g : Graph) where
     WellExpr e = (b : Block Name) (site : Site) (spot : Spot) (scope : Scope) (names : List Name) (n : ℕ)
         → Fits e → values p names e ≡ Ok n
         → IsSite b site spot.next → AreKnown b site.region spot.next scope (uses e)
-        → IsHeld b site.function spot.next (lower p site spot scope e)
+        → IsIncluded b site.function spot.next (lower p site spot scope e)
         → IsWell b site.function site.region spot.next (lower p site spot scope e)
 
     abbrev pub WellList : Exprs → Type 0
     WellList es = (b : Block Name) (site : Site) (spot : Spot) (scope : Scope) (names : List Name) (n : ℕ)
         → FitsAll es → list_values p names es ≡ Ok n
         → IsSite b site spot.next → AreKnown b site.region spot.next scope (list_uses es)
-        → IsHeld b site.function spot.next (lower_list p site spot scope es)
+        → IsIncluded b site.function spot.next (lower_list p site spot scope es)
         → IsWell b site.function site.region spot.next (lower_list p site spot scope es)
 
     abbrev pub WellBody : Body → Type 0
     WellBody body = (b : Block Name) (site : Site) (spot : Spot) (scope : Scope) (names : List Name) (n : ℕ) (behind_else : Bool)
         → FitsBody behind_else body → body_values p names body ≡ Ok n
         → IsSite b site spot.next → AreKnown b site.region spot.next scope (body_uses body)
-        → IsHeld b site.function spot.next (lower_body p site spot scope body)
+        → IsIncluded b site.function spot.next (lower_body p site spot scope body)
         → IsWell b site.function site.region spot.next (lower_body p site spot scope body)

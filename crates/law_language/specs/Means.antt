@@ -17,7 +17,7 @@ use Rattle.source.specs.Evaluates.{World, Env, Stores, entered, Evaluates, Evalu
 use Rattle.source.specs.Lowered.{Lowered, Site, Spot, Scope, source_in, turn_site, lower, lower_list, lower_body, lower_turn}
 use Rattle.source.specs.Theorem.{world}
 use Rattle.source.specs.Holds.{Holds}
-use Rattle.law_language.specs.MeansHolds.{resolved, AreTold, HasBlocks}
+use Rattle.law_language.specs.MeansHolds.{resolved, AreTraced, HasBlocks}
 use Rattle.law_language.specs.MeansAgrees.{Agrees, Have}
 use Rattle.law_language.specs.MeansBelow.{stores_below}
 
@@ -38,7 +38,7 @@ module _ (p : Program) (g : Graph) (origin : ℕ → Origin) (inputs : List ℤ)
   over = world p origin s.memory.cells
 
   -- THE PART STANDS in c: its lines from the spot on, in a region that is taken, with a trigger that has a value.
-  pub record Stands (c : Context) (site : Site) (spot : Spot) (l : Lowered) : Type 0 where
+  pub record IsActive (c : Context) (site : Site) (spot : Spot) (l : Lowered) : Type 0 where
     pub number : ℕ
     pub block : Block ℕ
     pub is_number : block_number (flow_of g) c ≡ Some number
@@ -48,19 +48,19 @@ module _ (p : Program) (g : Graph) (origin : ℕ → Origin) (inputs : List ℤ)
     pub trigger : Value
     pub triggered : Has (flow_of g) inputs run s r c site.trigger trigger
     pub lines : Holds block spot.next (map (resolved g) l.nodes)
-    pub told : AreTold origin number spot.next l.nodes
+    pub traced : AreTraced origin number spot.next l.nodes
     pub loops : HasBlocks g origin site.function l.blocks
 
   -- IT COMES OUT AS IT IS EVALUATED: to the values of these sources, and to the stores of the nodes from lo on and below hi.
-  pub record Comes (c : Context) (gives : List Value → Stores → Type 0) (sources : List Source) (lo hi : ℕ) : Type 0 where
+  pub record Delivers (c : Context) (gives : List Value → Stores → Type 0) (sources : List Source) (lo hi : ℕ) : Type 0 where
     pub vs : List Value
     pub ss : Stores
     pub evaluated : gives vs ss
     pub have : Have (flow_of g) inputs run s r c sources vs
     pub stored : IsPermutation ss (stores_below (flow_of g) run c lo hi)
 
-  abbrev pub ComesOf : Context → (List Value → Stores → Type 0) → Spot → Lowered → Type 0
-  ComesOf c gives spot l = Comes c gives l.sources spot.next (spot.next + length l.nodes)
+  abbrev pub DeliversOf : Context → (List Value → Stores → Type 0) → Spot → Lowered → Type 0
+  DeliversOf c gives spot l = Delivers c gives l.sources spot.next (spot.next + length l.nodes)
 
   abbrev pub Known : Context → Scope → Env → List Name → Type 0
   Known c scope env xs = Agrees (flow_of g) inputs run s r c scope env xs
@@ -69,20 +69,20 @@ module _ (p : Program) (g : Graph) (origin : ℕ → Origin) (inputs : List ℤ)
   abbrev pub MeansExpr : Context → Expr → Type 0
   MeansExpr c e = (site : Site) (spot : Spot) (scope : Scope) (env : Env) (names : List Name) (n : ℕ)
       → Fits e → values p names e ≡ Ok n
-      → Stands c site spot (lower p site spot scope e) → Known c scope env (uses e)
-      → ComesOf c (Evaluates over env e) spot (lower p site spot scope e)
+      → IsActive c site spot (lower p site spot scope e) → Known c scope env (uses e)
+      → DeliversOf c (Evaluates over env e) spot (lower p site spot scope e)
 
   abbrev pub MeansList : Context → Exprs → Type 0
   MeansList c es = (site : Site) (spot : Spot) (scope : Scope) (env : Env) (names : List Name) (n : ℕ)
       → FitsAll es → list_values p names es ≡ Ok n
-      → Stands c site spot (lower_list p site spot scope es) → Known c scope env (list_uses es)
-      → ComesOf c (EvaluatesAll over env es) spot (lower_list p site spot scope es)
+      → IsActive c site spot (lower_list p site spot scope es) → Known c scope env (list_uses es)
+      → DeliversOf c (EvaluatesAll over env es) spot (lower_list p site spot scope es)
 
   abbrev pub MeansBody : Context → Body → Type 0
   MeansBody c body = (site : Site) (spot : Spot) (scope : Scope) (env : Env) (names : List Name) (n : ℕ) (behind_else : Bool)
       → FitsBody behind_else body → body_values p names body ≡ Ok n
-      → Stands c site spot (lower_body p site spot scope body) → Known c scope env (body_uses body)
-      → ComesOf c (Runs over env body) spot (lower_body p site spot scope body)
+      → IsActive c site spot (lower_body p site spot scope body) → Known c scope env (body_uses body)
+      → DeliversOf c (Runs over env body) spot (lower_body p site spot scope body)
 
   -- one turn in the invocation of its block: its first source is the flag
   abbrev pub turn_gives : Env → Turn → List Value → List Value → Stores → Type 0
@@ -91,9 +91,9 @@ module _ (p : Program) (g : Graph) (origin : ℕ → Origin) (inputs : List ℤ)
   abbrev pub MeansTurn : Context → Turn → Type 0
   MeansTurn c turn = (f : Name) (spot : Spot) (at : ℕ) (scope : Scope) (env : Env) (names : List Name) (vs : List Value)
       → 0 < length (names_of turn) → FitsTurn turn → turn_values p names turn ≡ Ok (length (names_of turn))
-      → Stands c (turn_site f) spot (lower_turn p f spot at scope turn)
+      → IsActive c (turn_site f) spot (lower_turn p f spot at scope turn)
       → Have (flow_of g) inputs run s r c (map (source_in scope) (bare (names_of turn))) vs → Known c scope env (turn_uses turn)
-      → ComesOf c (turn_gives env turn vs) spot (lower_turn p f spot at scope turn)
+      → DeliversOf c (turn_gives env turn vs) spot (lower_turn p f spot at scope turn)
 
   -- all of it in one invocation
   pub record MeansIn (c : Context) : Type 0 where

@@ -20,9 +20,9 @@ MayFail (Store a) = ⊤
 MayFail kind = ⊥
 
 -- The faults of these lines of block i, from node n on, have the origins that are told of their tokens.
-abbrev pub AreTold : (ℕ → Origin) → ℕ → ℕ → List Made → Type 0
-AreTold origin i n [] = ⊤
-AreTold origin i n (m ∷ ms) = (MayFail m.node.kind → origin m.at ≡ At i n) × AreTold origin i (n + 1) ms
+abbrev pub AreTraced : (ℕ → Origin) → ℕ → ℕ → List Made → Type 0
+AreTraced origin i n [] = ⊤
+AreTraced origin i n (m ∷ ms) = (MayFail m.node.kind → origin m.at ≡ At i n) × AreTraced origin i (n + 1) ms
 
 -- the place of a block of function f
 abbrev pub block_place : Graph → Name → MadeBlock → ℕ
@@ -34,7 +34,7 @@ block_in g f b = resolved_block (array_names g) (block_names g) (graph_block f b
 -- The graph has this block of f at the place of its name.
 pub record HasBlock (g : Graph) (origin : ℕ → Origin) (f : Name) (b : MadeBlock) : Type 0 where
   pub is_there : slice_get (flow_of g).blocks (block_place g f b) ≡ Some (block_in g f b)
-  pub told : AreTold origin (block_place g f b) b.inputs b.nodes
+  pub traced : AreTraced origin (block_place g f b) b.inputs b.nodes
 
 abbrev pub HasBlocks : Graph → (ℕ → Origin) → Name → List MadeBlock → Type 0
 HasBlocks g origin f [] = ⊤

@@ -17,7 +17,7 @@ use Rattle.source.specs.Spelled.{Spelling, program_tokens, AreSpelled}
 use Rattle.source.specs.Rules.{function_in}
 use Rattle.source.specs.Lowered.{MadeBlock, function_blocks, made_blocks}
 use Rattle.source.specs.Theorem.{Computes, IsLowered, MeansTheSame}
-use Rattle.law_language.specs.MeansHolds.{AreTold, HasBlocks}
+use Rattle.law_language.specs.MeansHolds.{AreTraced, HasBlocks}
 use Rattle.law_language.specs.Means.{MeansIn}
 
 -- PLACES. No two tokens of the program have one place. So it is with each tree that a text has; of other trees an origin
@@ -40,7 +40,7 @@ pub record IsLoweredApart (p : Program) (g : Graph) (origin : ℕ → Origin) : 
 abbrev pub LoweringKeepsMeaning : Type 0
 LoweringKeepsMeaning = MeansTheSame IsLoweredApart
 
--- TEXTS. The tokens of a text stand one behind the other, so no two tokens of its tree have one place.
+-- TEXTS. The tokens of a text stand one after the other, so no two tokens of its tree have one place.
 abbrev pub Rise : List Token → Type 0
 Rise ts = (i j : ℕ) (t u : Token) → slice_get ts i ≡ Some t → slice_get ts j ≡ Some u → i < j → t.at < u.at
 
@@ -78,12 +78,12 @@ FunctionsArePlaced = (p : Program) (g : Graph) (origin : ℕ → Origin) → IsL
     → (f : Name) (h : Function) → function_in p f ≡ Some h → HasBlocks g origin h.name.name (function_blocks p h)
 
 -- The faults of each block's lines have the origins that are told of their tokens.
-abbrev pub OriginsAreTold : Type 0
-OriginsAreTold = (p : Program) (g : Graph) (origin : ℕ → Origin) → IsLoweredApart p g origin
-    → (i : ℕ) (b : MadeBlock) → slice_get (made_blocks p p) i ≡ Some b → AreTold origin i b.inputs b.nodes
+abbrev pub OriginsAreTraced : Type 0
+OriginsAreTraced = (p : Program) (g : Graph) (origin : ℕ → Origin) → IsLoweredApart p g origin
+    → (i : ℕ) (b : MadeBlock) → slice_get (made_blocks p p) i ≡ Some b → AreTraced origin i b.inputs b.nodes
 
 abbrev pub PlacesFromOrigins : Type 0
-PlacesFromOrigins = OriginsAreTold → FunctionsArePlaced
+PlacesFromOrigins = OriginsAreTraced → FunctionsArePlaced
 
 -- Each part means what it is lowered to, in each invocation of a run at rest.
 abbrev pub PartsKeepMeaning : Type 0

@@ -26,7 +26,7 @@ pub enum Symbol<N> {
     ArrayLength,
     FunctionName,
     Parameter,
-    /// Further parameters, and the bracket behind them.
+    /// Further parameters, and the bracket after them.
     Parameters,
     /// The number of results, where it is written, and the body.
     Results,
@@ -84,11 +84,11 @@ pub enum Symbol<N> {
         level: u8,
         depth: u8,
     },
-    /// The function behind `strict`, with its arguments.
+    /// The function after `strict`, with its arguments.
     Callee {
         depth: u8,
     },
-    /// Further arguments, and the bracket behind them.
+    /// Further arguments, and the bracket after them.
     CallEnd {
         at: usize,
         strict: bool,

@@ -7,7 +7,7 @@ use lib.ListN.{get_elem?}
 use Rattle.tags.specs.declared.token.Token.{Token}
 use Rattle.mesh.specs.Deeds.{Bundle}
 use Rattle.mesh.specs.Seats.{Account}
-use Rattle.element.specs.Held.{Held}
+use Rattle.element.specs.Holding.{Holding}
 use Rattle.schedule.specs.State.{tokens_in}
 use Rattle.law_linearization.specs.HistoryLaws.{joined, all_of}
 
@@ -27,7 +27,7 @@ all_first zero f = sym (append-nil (f 0))
 all_first (suc n) f = ap (λ (l : List Token). l ++ f (suc n)) (all_first n f) ∙ append_assoc (f 0) (all_of n (λ e. f (suc e))) (f (suc n))
 
 -- the tokens of lanes are those of each place
-pub tokens_by : (d : Held) (lanes : List Held) → tokens_in lanes ≡ all_of (length lanes) (λ e. (get_or lanes e d).queue)
+pub tokens_by : (d : Holding) (lanes : List Holding) → tokens_in lanes ≡ all_of (length lanes) (λ e. (get_or lanes e d).queue)
 tokens_by d [] = refl
 tokens_by d (h ∷ hs) = ap (λ (l : List Token). h.queue ++ l) (tokens_by d hs) ∙ sym (all_first (length hs) (λ e. (get_or (h ∷ hs) e d).queue))
 

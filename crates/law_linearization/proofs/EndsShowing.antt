@@ -8,11 +8,11 @@ use Rattle.lemmas.proofs.SliceGet.{get_some}
 use Rattle.tags.specs.declared.token.Token.{Token}
 use Rattle.semantics.specs.Machine.{Machine, Events, at_start}
 use Rattle.element.specs.Parts.{Part, IsPart}
-use Rattle.element.specs.Held.{Held, queued}
+use Rattle.element.specs.Holding.{Holding, queued}
 use Rattle.schedule.specs.State.{AllFrom, tokens_in}
 use Rattle.schedule.proofs.Places.{from_map}
 use Rattle.schedule.proofs.Reports.{shows_lanes, stopped_lanes}
-use Rattle.rounds.specs.Turns.{coming}
+use Rattle.rounds.specs.Turns.{arriving}
 use Rattle.law_linearization.specs.History.{Act, Block, by_element, events_in, blocks_by, Begins, count_acts}
 use Rattle.law_linearization.specs.HistoryLaws.{Came, BeganFreely, ShowsFreely, StopsFreely}
 use Rattle.law_linearization.proofs.HistoryRunning.{run_of_history}
@@ -74,7 +74,7 @@ count_events i [] = refl
 count_events i (b ∷ later) = count_block i b later (b.element == i) refl (count_events i later)
 
 -- THE LANES
-abbrev held_or : Held → Option Held → Held
+abbrev held_or : Holding → Option Holding → Holding
 held_or d None = d
 held_or d (Some h) = h
 
@@ -82,32 +82,32 @@ pub began_freely : BeganFreely
 began_freely g good inputs [] log last tokens count placed near bounded below leaves begins rest =
     absurd (let some : 0 < g.elements = good.some in let no : ⊥ = omega (arith, some, count) in no)
 began_freely g good inputs (first ∷ others) log last tokens count placed near bounded below leaves begins rest =
-    let lanes : List Held = first ∷ others in
+    let lanes : List Holding = first ∷ others in
     let start : Machine = at_start g.program inputs in
     let parts : ℕ → Part = λ e. (held_or first (slice_get (first ∷ others) e)).part in
     let begun : (e : ℕ) → e < g.elements → Begins g start log (parts e) e
     = λ e low. let x = get_some (first ∷ others) e (subst (λ (n : ℕ). e < n) (sym count) low) in
-    subst (λ (o : Option Held). Begins g start log (held_or first o).part e) (sym x.1) (begins e x.0 x.1).0 in
+    subst (λ (o : Option Holding). Begins g start log (held_or first o).part e) (sym x.1) (begins e x.0 x.1).0 in
     let came : Came g start log last parts = run_of_history g good log start last parts near bounded below leaves begun in
-    let is : AllFrom (λ (i : ℕ) (h : Held). IsPart h.part came.machine.store) 0 (first ∷ others)
-    = at_all (λ (i : ℕ) (h : Held). IsPart h.part came.machine.store) (first ∷ others)
-    (λ i h e. subst (λ (o : Option Held). IsPart (held_or first o).part came.machine.store) e
+    let is : AllFrom (λ (i : ℕ) (h : Holding). IsPart h.part came.machine.store) 0 (first ∷ others)
+    = at_all (λ (i : ℕ) (h : Holding). IsPart h.part came.machine.store) (first ∷ others)
+    (λ i h e. subst (λ (o : Option Holding). IsPart (held_or first o).part came.machine.store) e
     (came.is i (subst (λ (n : ℕ). i < n) count (slice_get_within (first ∷ others) i h e))).1) in
-    let counts : AllFrom (λ (i : ℕ) (h : Held). h.made ≡ made_by i (events_in log)) 0 (first ∷ others)
-    = at_all (λ (i : ℕ) (h : Held). h.made ≡ made_by i (events_in log)) (first ∷ others) (λ i h e. (begins i h e).1 ∙ sym (count_events i log)) in
+    let counts : AllFrom (λ (i : ℕ) (h : Holding). h.made ≡ made_by i (events_in log)) 0 (first ∷ others)
+    = at_all (λ (i : ℕ) (h : Holding). h.made ≡ made_by i (events_in log)) (first ∷ others) (λ i h e. (begins i h e).1 ∙ sym (count_events i log)) in
     record {
       machine = came.machine;
       run = came.run;
       stands = record {
         parts =
-            from_map (λ (i : ℕ) (h : Held). IsPart h.part came.machine.store) (λ (i : ℕ) (h : Held). IsPart h.part came.machine.store)
-            (λ (h : Held). queued h tokens) (λ (i : ℕ) (h : Held) p. p) 0 (first ∷ others) is;
-        tokens = IsPermutation-trans came.machine.pool last (tokens_in (coming g (first ∷ others) tokens).lanes) came.pool rest;
+            from_map (λ (i : ℕ) (h : Holding). IsPart h.part came.machine.store) (λ (i : ℕ) (h : Holding). IsPart h.part came.machine.store)
+            (λ (h : Holding). queued h tokens) (λ (i : ℕ) (h : Holding) p. p) 0 (first ∷ others) is;
+        tokens = IsPermutation-trans came.machine.pool last (tokens_in (arriving g (first ∷ others) tokens).lanes) came.pool rest;
         bounded = came.bounded;
       };
       counts =
-          from_map (λ (i : ℕ) (h : Held). h.made ≡ made_by i (events_in log)) (λ (i : ℕ) (h : Held). h.made ≡ made_by i (events_in log))
-          (λ (h : Held). queued h tokens) (λ (i : ℕ) (h : Held) c. c) 0 (first ∷ others) counts;
+          from_map (λ (i : ℕ) (h : Holding). h.made ≡ made_by i (events_in log)) (λ (i : ℕ) (h : Holding). h.made ≡ made_by i (events_in log))
+          (λ (h : Holding). queued h tokens) (λ (i : ℕ) (h : Holding) c. c) 0 (first ∷ others) counts;
     }
 
 pub shows_freely : ShowsFreely

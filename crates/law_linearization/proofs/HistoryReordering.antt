@@ -12,7 +12,7 @@ use Rattle.law_linearization.specs.History.{Block, blocks_by, if_by, entry_of, L
 use Rattle.law_linearization.specs.HistoryLaws.{TakesFirst}
 use Rattle.law_linearization.proofs.HistoryRunning.{leaves_same, by_same, by_other}
 
--- a list behind another one may be in another order
+-- a list after another one may be in another order
 pub behind : (as' bs cs : List Token) → IsPermutation bs cs → IsPermutation (as' ++ bs) (as' ++ cs)
 behind as' bs cs p = IsPermutation-append as' as' bs cs (IsPermutation-refl as') p
 

@@ -14,20 +14,20 @@ use Rattle.mesh.specs.Seats.{Account}
 use Rattle.element.specs.Near.{IsNearToken}
 use Rattle.element.specs.Parts.{Part, IsPart, SameElsewhere}
 use Rattle.frame_order.specs.InOrder.{OrderedRun}
-use Rattle.element.specs.Held.{Held}
+use Rattle.element.specs.Holding.{Holding}
 use Rattle.element.specs.Steps.{Does}
 use Rattle.schedule.specs.Setting.{Setting, size, IsGoodSetting}
 use Rattle.schedule.specs.State.{AllFrom, IsBounded, IsSoundState, IsPlaced, tokens_in}
 use Rattle.schedule.specs.Runs.{Began, HaltsAs}
-use Rattle.schedule.specs.Told.{ReportsLanes}
+use Rattle.schedule.specs.Reported.{ReportsLanes}
 use Rattle.schedule.specs.Unlisted.{with_events}
 use Rattle.schedule.specs.declared.halt.Halt.{Halt}
-use Rattle.rounds.specs.Turns.{coming}
+use Rattle.rounds.specs.Turns.{arriving}
 use Rattle.law_linearization.specs.History.{Block, events_in, blocks_by, LeavesTokens, AreBelow, bounds_of, IsOwn, Acts, Begins, count_acts}
 
 -- A step of a lane obeys the law of one event.
 abbrev pub StepsAct : Type 0
-StepsAct = (p : Program) (old new : Held) (pick : ℕ) (before after : List Token) (step : Does p old pick before new after)
+StepsAct = (p : Program) (old new : Holding) (pick : ℕ) (before after : List Token) (step : Does p old pick before new after)
     → Acts p old.part step.token step.made new.part
 
 -- An event of element e leaves the part of another element as it is.
@@ -110,36 +110,36 @@ WhatIsLeft =
 -- What a lane holds at the end is known of the run: the form that a report wants.
 abbrev pub BeganFreely : Type 0
 BeganFreely =
-    (g : Setting) (good : IsGoodSetting g) (inputs : List ℤ) (lanes : List Held) (log : List Block) (last tokens : List Token)
+    (g : Setting) (good : IsGoodSetting g) (inputs : List ℤ) (lanes : List Holding) (log : List Block) (last tokens : List Token)
     → length lanes ≡ g.elements → AllFrom (IsPlaced g) 0 lanes
     → All (IsNearToken (bounds_of g)) (at_start g.program inputs).pool → IsBounded g (at_start g.program inputs).store
     → AreBelow g.elements log → LeavesTokens g.elements (at_start g.program inputs).pool log last
-    → ((e : ℕ) (h : Held) → slice_get lanes e ≡ Some h → Begins g (at_start g.program inputs) log h.part e × (h.made ≡ count_acts (blocks_by e log)))
-    → IsPermutation last (tokens_in (coming g lanes tokens).lanes)
-    → Began inputs (coming g lanes tokens) (events_in log)
+    → ((e : ℕ) (h : Holding) → slice_get lanes e ≡ Some h → Begins g (at_start g.program inputs) log h.part e × (h.made ≡ count_acts (blocks_by e log)))
+    → IsPermutation last (tokens_in (arriving g lanes tokens).lanes)
+    → Began inputs (arriving g lanes tokens) (events_in log)
 
 -- The report of lanes that ran freely shows a run: with the events of a legal history of their blocks it lists them, and with
 -- none it shows that run but for its events.
 abbrev pub ShowsFreely : Type 0
 ShowsFreely =
-    (g : Setting) (good : IsGoodSetting g) (inputs : List ℤ) (lanes : List Held) (log : List Block) (last tokens : List Token) (list : Events) (halt : Halt)
+    (g : Setting) (good : IsGoodSetting g) (inputs : List ℤ) (lanes : List Holding) (log : List Block) (last tokens : List Token) (list : Events) (halt : Halt)
     (r : Report)
-    → IsSoundState (coming g lanes tokens) → length lanes ≡ g.elements → AllFrom (IsPlaced g) 0 lanes
+    → IsSoundState (arriving g lanes tokens) → length lanes ≡ g.elements → AllFrom (IsPlaced g) 0 lanes
     → All (IsNearToken (bounds_of g)) (at_start g.program inputs).pool → IsBounded g (at_start g.program inputs).store
     → AreBelow g.elements log → LeavesTokens g.elements (at_start g.program inputs).pool log last
-    → ((e : ℕ) (h : Held) → slice_get lanes e ≡ Some h → Begins g (at_start g.program inputs) log h.part e × (h.made ≡ count_acts (blocks_by e log)))
-    → IsPermutation last (tokens_in (coming g lanes tokens).lanes)
-    → ReportsLanes g lanes list halt r → HaltsAs (coming g lanes tokens) false halt
+    → ((e : ℕ) (h : Holding) → slice_get lanes e ≡ Some h → Begins g (at_start g.program inputs) log h.part e × (h.made ≡ count_acts (blocks_by e log)))
+    → IsPermutation last (tokens_in (arriving g lanes tokens).lanes)
+    → ReportsLanes g lanes list halt r → HaltsAs (arriving g lanes tokens) false halt
     → (shown : Events) × ShowsInOrder g.program (size g) inputs g.steps false false (with_events r shown) × (list ≡ events_in log → r.events ≡ shown)
 
 -- The same of lanes that were stopped.
 abbrev pub StopsFreely : Type 0
 StopsFreely =
-    (g : Setting) (good : IsGoodSetting g) (inputs : List ℤ) (lanes : List Held) (log : List Block) (last tokens : List Token) (list : Events) (r : Report)
-    → IsSoundState (coming g lanes tokens) → length lanes ≡ g.elements → AllFrom (IsPlaced g) 0 lanes
+    (g : Setting) (good : IsGoodSetting g) (inputs : List ℤ) (lanes : List Holding) (log : List Block) (last tokens : List Token) (list : Events) (r : Report)
+    → IsSoundState (arriving g lanes tokens) → length lanes ≡ g.elements → AllFrom (IsPlaced g) 0 lanes
     → All (IsNearToken (bounds_of g)) (at_start g.program inputs).pool → IsBounded g (at_start g.program inputs).store
     → AreBelow g.elements log → LeavesTokens g.elements (at_start g.program inputs).pool log last
-    → ((e : ℕ) (h : Held) → slice_get lanes e ≡ Some h → Begins g (at_start g.program inputs) log h.part e × (h.made ≡ count_acts (blocks_by e log)))
-    → IsPermutation last (tokens_in (coming g lanes tokens).lanes)
+    → ((e : ℕ) (h : Holding) → slice_get lanes e ≡ Some h → Begins g (at_start g.program inputs) log h.part e × (h.made ≡ count_acts (blocks_by e log)))
+    → IsPermutation last (tokens_in (arriving g lanes tokens).lanes)
     → ReportsLanes g lanes list Halt.Stop r
     → (shown : Events) × ShowsInOrder g.program (size g) inputs g.steps false true (with_events r shown) × (list ≡ events_in log → r.events ≡ shown)

@@ -21,7 +21,7 @@ use Rattle.semantics.specs.Graph.{Node, Block, Flow, node_at, first_cell}
 use Rattle.semantics.specs.Graph as Graph
 use Rattle.semantics.specs.Meaning.{Context, origin_at}
 use Rattle.semantics.specs.Program.{Instr}
-use Rattle.semantics.specs.Rule.{Seat, token, to_each, answer_to, asks_for, puts, fires, fire_one, fire_two, array_base, array_len}
+use Rattle.semantics.specs.Rule.{Point, token, to_each, answer_to, asks_for, puts, fires, fire_one, fire_two, array_base, array_len}
 use Rattle.semantics.specs.Machine.{Store, Fires, with_slot}
 use Rattle.law_confluence.proofs.NetSlots.{InSlots}
 use Rattle.law_confluence.proofs.Orders.{at_last}
@@ -30,7 +30,7 @@ use Rattle.law_net.specs.ContextsParts.{Line, Note, Datum, FrameOf, BackTo, ToHo
 use Rattle.law_net.specs.ContextsBlocks.{waits_in, is_cell, is_store, cell_kind, pair_kind, store_kind, kind_op, op_of}
 use Rattle.law_net.specs.Contexts.{block_in, site_in, HasBlock}
 use Rattle.law_net.specs.ContextsFirings.{Config, value_in, array_at, array_in, index_of, cell_of, place_at, second_of, first_of}
-use Rattle.law_net.specs.ContextsStands.{frame_of, ip_of, word_of, cell_to, on_side, in_slot, slot_of, only, Stands, is_instr}
+use Rattle.law_net.specs.ContextsMirror.{frame_of, ip_of, word_of, cell_to, on_side, in_slot, slot_of, only, Mirrors, is_instr}
 use Rattle.law_machine_refines_net.specs.MovesCases.{Taking, net_of, Followed}
 use Rattle.law_machine_refines_net.proofs.MovesLists.{contains_one}
 use Rattle.law_machine_refines_net.proofs.MovesFitted.{fits, taken_here}
@@ -39,7 +39,7 @@ use Rattle.law_machine_refines_net.proofs.SendsPairs as Pairs
 use Rattle.law_machine_refines_net.proofs.SendsPairs.{Second, dyadic}
 use Rattle.law_machine_refines_net.proofs.Sends.{firing_of, stays_same, stays_with}
 use Rattle.law_machine_refines_net.proofs.SendsAlong.{does, both, mine, takes_one, takes_two, pair_follows}
-use Rattle.law_machine_refines_net.proofs.SendsInwards.{told_as, carried, kept_node, origin_is}
+use Rattle.law_machine_refines_net.proofs.SendsInwards.{carried_as, carried, kept_node, origin_is}
 use Rattle.law_machine_refines_net.proofs.CellsAnswered.{Answered}
 use Rattle.law_machine_refines_net.proofs.CellsRequests.{ans, Asks, back_is, asks_arc, sent_arc, asks_cell, answers_at_once}
 use Rattle.semantics.specs.Arcs.{UsesBy}
@@ -57,13 +57,13 @@ op_for x = elim x as (λ y. Op) [ None ↦ Op.Copy | Some line ↦ kind_op line.
 
 module _ (s : Taking) (n : ℕ) (e : s.i.inlet.part ≡ Line n) (cell : is_cell (block_in s.fl s.i.context) n ≡ true) where
   abbrev l : Taking
-  l = told_as s (Line n) e
+  l = carried_as s (Line n) e
 
   abbrev net : Config
   net = net_of s
 
-  abbrev old : Stands s.fl s.p s.w s.m net
-  old = s.keeps.follows.stands
+  abbrev old : Mirrors s.fl s.p s.w s.m net
+  old = s.keeps.tracks.stands
 
   abbrev c : Context
   c = s.i.context
@@ -83,16 +83,16 @@ module _ (s : Taking) (n : ℕ) (e : s.i.inlet.part ≡ Line n) (cell : is_cell 
   abbrev here : ℕ
   here = ip_of s.fl s.p s.w c (Line n)
 
-  abbrev seat : Seat
-  seat = record { frame = frame; ip = here }
+  abbrev point : Point
+  point = record { frame = frame; ip = here }
 
   block : HasBlock s.fl c
   block = has_block s.fl c (fits l l.i (taken_here l)).is_context
 
   -- what a good or a bad index makes
-  abbrev told_by : ℕ → Bool → Value → Indexed → List Token
-  told_by base t u (Place y) = token (cell_to (Some (base + y)) t u) (Word.Back (Cont.Frame frame (here + A.dest.ahead) A.dest.port)) ∷ []
-  told_by base t u (Outside w) = token (To.Instr frame (here + A.dest.ahead) A.dest.port) (Word.Val w) ∷ []
+  abbrev meant_by : ℕ → Bool → Value → Indexed → List Token
+  meant_by base t u (Place y) = token (cell_to (Some (base + y)) t u) (Word.Back (Cont.Frame frame (here + A.dest.ahead) A.dest.port)) ∷ []
+  meant_by base t u (Outside w) = token (To.Instr frame (here + A.dest.ahead) A.dest.port) (Word.Val w) ∷ []
 
   -- where the answer comes
   answer_word : Word.Back (Cont.Frame frame (here + A.dest.ahead) A.dest.port) ≡ W (BackTo c A.inlet)
@@ -100,12 +100,12 @@ module _ (s : Taking) (n : ℕ) (e : s.i.inlet.part ≡ Line n) (cell : is_cell 
       let k = A.far in let far : here + A.dest.ahead ≡ ip_of s.fl s.p s.w c A.inlet.part = omega (arith, k) in
       (λ t. Word.Back (Cont.Frame frame (far t) (A.port t)))
 
-  module _ (op : Op) (op_is : A.seat.instr.op ≡ op) (plain : plain_dests A.seat.instr op ≡ A.seat.instr.firsts ++ A.seat.instr.seconds)
+  module _ (op : Op) (op_is : A.point.instr.op ≡ op) (plain : plain_dests A.point.instr op ≡ A.point.instr.firsts ++ A.point.instr.seconds)
       (no_give : (k : ℕ) → op ≡ Ops.Give k → ⊥)
       (asks : (t : Token) → t.word ≡ Word.Back (Cont.Frame frame (ip_of s.fl s.p s.w c A.inlet.part) A.inlet.port)
-      → UsesBy s.p frame (ip_of s.fl s.p s.w c A.inlet.part) A.inlet.port A.seat.instr op t s.new) (g : Asks l n refl cell) where
+      → UsesBy s.p frame (ip_of s.fl s.p s.w c A.inlet.part) A.inlet.port A.point.instr op t s.new) (g : Asks l n refl cell) where
     -- either way
-    finish : (X : Indexed) → index_of s.fl c n g.held ≡ X → s.event.made ≡ told_by (first_cell s.fl (array_at s.fl c n)) (is_store b n) (second_of g.held) X
+    finish : (X : Indexed) → index_of s.fl c n g.held ≡ X → s.event.made ≡ meant_by (first_cell s.fl (array_at s.fl c n)) (is_store b n) (second_of g.held) X
         → Followed s
     finish (Place y) is made =
         let base = first_cell s.fl (array_at s.fl c n) in
@@ -155,8 +155,8 @@ module _ (s : Taking) (n : ℕ) (e : s.i.inlet.part ≡ Line n) (cell : is_cell 
     abbrev ins : Instr
     ins = instr l refl
 
-    same_ins : ins ≡ A.seat.instr
-    same_ins = same_Some ins A.seat.instr (sym (stood l refl).at ∙ A.seat.at)
+    same_ins : ins ≡ A.point.instr
+    same_ins = same_Some ins A.point.instr (sym (stood l refl).at ∙ A.point.at)
 
     value : (v : Value) × (s.i.word ≡ Datum v)
     value = carried l l.i (taken_here l)
@@ -167,9 +167,9 @@ module _ (s : Taking) (n : ℕ) (e : s.i.inlet.part ≡ Line n) (cell : is_cell 
     abbrev X : Indexed
     X = index_in (array_len s.p.program a) v ins.origin
 
-    did : (s.event.made ≡ asks_for s.p.program seat ins a X) × (s.new.store ≡ s.m.store)
-    did = subst (λ q. Fires s.m.store frame None (fires Empty (fire_one s.p.program seat ins (Ops.Fetch a) (W q))) s.event.made s.new.store) value.1
-        (subst (λ o. Fires s.m.store frame None (fires Empty (fire_one s.p.program seat ins o (W s.i.word))) s.event.made s.new.store)
+    did : (s.event.made ≡ asks_for s.p.program point ins a X) × (s.new.store ≡ s.m.store)
+    did = subst (λ q. Fires s.m.store frame None (fires Empty (fire_one s.p.program point ins (Ops.Fetch a) (W q))) s.event.made s.new.store) value.1
+        (subst (λ o. Fires s.m.store frame None (fires Empty (fire_one s.p.program point ins o (W s.i.word))) s.event.made s.new.store)
         ((stood l refl).is.op ∙ op_fetch) (does l refl one refl (Ops.Fetch a) op_fetch))
 
     abbrev f : Firing
@@ -198,12 +198,12 @@ module _ (s : Taking) (n : ℕ) (e : s.i.inlet.part ≡ Line n) (cell : is_cell 
       free = free_of l refl (ap grants ((stood l refl).is.op ∙ op_fetch)) (ap releases ((stood l refl).is.op ∙ op_fetch));
     }
 
-    made_is : (y : Indexed) → asks_for s.p.program seat ins a y ≡ told_by (first_cell s.fl (array_at s.fl c n)) (is_store b n) (second_of held) y
+    made_is : (y : Indexed) → asks_for s.p.program point ins a y ≡ meant_by (first_cell s.fl (array_at s.fl c n)) (is_store b n) (second_of held) y
     made_is (Place y) =
-        ap (λ ds. token (To.Fetch (array_base s.p.program a + y)) (Word.Back (answer_to seat ds)) ∷ []) (ap (λ (i : Instr). i.firsts) same_ins ∙ A.firsts)
+        ap (λ ds. token (To.Fetch (array_base s.p.program a + y)) (Word.Back (answer_to point ds)) ∷ []) (ap (λ (i : Instr). i.firsts) same_ins ∙ A.firsts)
         ∙ (λ t. token (cell_to (Some (base_same a (inl k) t + y)) (sym (store_is ∙ ap store_kind k) t) (second_of held))
         (Word.Back (Cont.Frame frame (here + A.dest.ahead) A.dest.port)) ∷ [])
-    made_is (Outside w) = ap (λ ds. to_each seat (Word.Val w) (take 1 ds)) (ap (λ (i : Instr). i.firsts) same_ins ∙ A.firsts)
+    made_is (Outside w) = ap (λ ds. to_each point (Word.Val w) (take 1 ds)) (ap (λ (i : Instr). i.firsts) same_ins ∙ A.firsts)
 
     fetch_asks : Followed s
     unfolding asks
@@ -225,11 +225,11 @@ module _ (s : Taking) (n : ℕ) (e : s.i.inlet.part ≡ Line n) (cell : is_cell 
     abbrev pair : Instr
     pair = instr l is
 
-    same_pair : pair ≡ A.seat.instr
-    same_pair = same_Some pair A.seat.instr (sym (stood l is).at ∙ A.seat.at)
+    same_pair : pair ≡ A.point.instr
+    same_pair = same_Some pair A.point.instr (sym (stood l is).at ∙ A.point.at)
 
     module _ (sec : Second l two refl) (v u : Value) (left : sec.left ≡ Datum v) (right : sec.right ≡ Datum u)
-        (did : (s.event.made ≡ puts s.p.program seat pair a u (index_in (array_len s.p.program a) v pair.origin))
+        (did : (s.event.made ≡ puts s.p.program point pair a u (index_in (array_len s.p.program a) v pair.origin))
         × (s.new.store ≡ with_slot s.m.store frame (slot_of s.fl s.w l.i) Empty)) where
       abbrev stored : List Value
       stored = value_in sec.left ∷ (if is_store b n then value_in sec.right ∷ [] else [])
@@ -257,12 +257,12 @@ module _ (s : Taking) (n : ℕ) (e : s.i.inlet.part ≡ Line n) (cell : is_cell 
         free = free_of l is (dyadic_grants pair.op (dyadic l two refl)) (ap releases ((stood l is).is.op ∙ op_store));
       }
 
-      puts_is : (y : Indexed) → puts s.p.program seat pair a u y ≡ told_by (first_cell s.fl (array_at s.fl c n)) (is_store b n) (second_of stored) y
+      puts_is : (y : Indexed) → puts s.p.program point pair a u y ≡ meant_by (first_cell s.fl (array_at s.fl c n)) (is_store b n) (second_of stored) y
       puts_is (Place y) =
-          ap (λ ds. token (To.Store (array_base s.p.program a + y) u) (Word.Back (answer_to seat ds)) ∷ []) (ap (λ (i : Instr). i.firsts) same_pair ∙ A.firsts)
+          ap (λ ds. token (To.Store (array_base s.p.program a + y) u) (Word.Back (answer_to point ds)) ∷ []) (ap (λ (i : Instr). i.firsts) same_pair ∙ A.firsts)
           ∙ (λ t. token (cell_to (Some (base_same a (inr k) t + y)) (sym (store_is ∙ ap store_kind k) t) (sym second_is t))
           (Word.Back (Cont.Frame frame (here + A.dest.ahead) A.dest.port)) ∷ [])
-      puts_is (Outside w) = ap (λ ds. to_each seat (Word.Val w) (take 1 ds)) (ap (λ (i : Instr). i.firsts) same_pair ∙ A.firsts)
+      puts_is (Outside w) = ap (λ ds. to_each point (Word.Val w) (take 1 ds)) (ap (λ (i : Instr). i.firsts) same_pair ∙ A.firsts)
 
       store_puts : Followed s
       unfolding puts_asks
@@ -272,7 +272,7 @@ module _ (s : Taking) (n : ℕ) (e : s.i.inlet.part ≡ Line n) (cell : is_cell 
           (index_same a v stored pair.origin (inr k) (ap value_in left) ((stood l is).is.origin ∙ origin_is s.fl c n block)) (did.0 ∙ puts_is X)
 
     by_words : (sec : Second l two refl) (x y : Note) → sec.left ≡ x → sec.right ≡ y
-        → Fires s.m.store frame (Some (slot_of s.fl s.w l.i)) (fires Empty (fire_two s.p.program seat pair (Ops.Store a) (W x) (W y))) s.event.made s.new.store
+        → Fires s.m.store frame (Some (slot_of s.fl s.w l.i)) (fires Empty (fire_two s.p.program point pair (Ops.Store a) (W x) (W y))) s.event.made s.new.store
         → Followed s
     by_words sec (Datum v) (Datum u) x y m = store_puts sec v u x y m
     by_words sec (Datum v) (FrameOf q) x y m = absurd m

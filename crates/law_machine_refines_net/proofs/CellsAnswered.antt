@@ -20,8 +20,8 @@ use Rattle.semantics.specs.Plan.{Plan, HasShape, IsPlanBlock}
 use Rattle.law_net.specs.ContextsParts.{Part, Line, Landing, Inlet}
 use Rattle.law_net.specs.ContextsBlocks.{side, is_cell, cell_kind, plain_kind, kind_op, there_in}
 use Rattle.law_net.specs.Contexts.{Wires, block_in, code_in, site_in, wiring_in, IsContext}
-use Rattle.law_net.specs.ContextsWires.{leads_to, stands_at, is_given}
-use Rattle.law_net.specs.ContextsStands.{row_of, is_instr}
+use Rattle.law_net.specs.ContextsWires.{leads_to, ip_and_port, is_unwired}
+use Rattle.law_net.specs.ContextsMirror.{row_of, is_instr}
 use Rattle.law_net.specs.ContextsTheorem.{IsGood}
 use Rattle.law_machine_refines_net.proofs.MovesLists.{contains_one}
 use Rattle.law_machine_refines_net.proofs.MovesSites.{coded, Seated, seated, there_instr}
@@ -44,7 +44,7 @@ shaped k m n e h = absurd (true≢false (sym e))
 abbrev test_of : (Kind ℕ → Bool) → Option (Node ℕ) → Bool
 test_of test x = elim x as (λ y. Bool) [ None ↦ false | Some line ↦ test line.kind ]
 
-no_landing : (fl : Flow) (p : Plan) (w : Wires) (c : Context) (b : Block ℕ) (r : Part) → is_given b r ≡ false → row_of fl p w c r ≡ 1
+no_landing : (fl : Flow) (p : Plan) (w : Wires) (c : Context) (b : Block ℕ) (r : Part) → is_unwired b r ≡ false → row_of fl p w c r ≡ 1
 no_landing fl p w c b (Landing n j) e = absurd (true≢false e)
 no_landing fl p w c b r e = refl
 
@@ -74,19 +74,19 @@ module _ (fl : Flow) (p : Plan) (w : Wires) (good : IsGood fl p w) (c : Context)
 
   -- its one destination and its one wire
   pub record Answered : Type 0 where
-    pub seat : Seated fl p w good.wired c (Line n)
+    pub point : Seated fl p w good.wired c (Line n)
     pub line : Node ℕ
     pub at : node_at (block_in fl c) n ≡ Some line
-    pub op_is : seat.instr.op ≡ kind_op line.kind
+    pub op_is : point.instr.op ≡ kind_op line.kind
     pub dest : Dest
-    pub firsts : seat.instr.firsts ≡ dest ∷ []
-    pub seconds : seat.instr.seconds ≡ []
+    pub firsts : point.instr.firsts ≡ dest ∷ []
+    pub seconds : point.instr.seconds ≡ []
     pub inlet : Inlet
     pub wire : (wiring_in fl w c).wire (side (Line n) false) ≡ inlet ∷ []
     pub far : (wiring_in fl w c).place (Line n) + dest.ahead ≡ (wiring_in fl w c).place inlet.part
     pub port : dest.port ≡ inlet.port
     pub is_instr : is_instr inlet.part ≡ true
-    pub given : is_given (block_in fl c) inlet.part ≡ false
+    pub given : is_unwired (block_in fl c) inlet.part ≡ false
     pub row : row_of fl p w c inlet.part ≡ 1
 
   pub answered : Answered
@@ -103,13 +103,13 @@ module _ (fl : Flow) (p : Plan) (w : Wires) (good : IsGood fl p w) (c : Context)
       (subst (λ o. HasShape o (length s.instr.firsts) (length s.instr.seconds)) op shape) in
       let one = one_element s.instr.firsts lengths.0 in
       let perm = subst (λ l. IsPermutation (map (leads_to ((wiring_in fl w c).place (Line n))) l)
-      (map (stands_at (wiring_in fl w c)) ((wiring_in fl w c).wire (side (Line n) false)))) one.1 s.is.firsts in
-      let image = one_image (stands_at (wiring_in fl w c)) (leads_to ((wiring_in fl w c).place (Line n)) one.0)
+      (map (ip_and_port (wiring_in fl w c)) ((wiring_in fl w c).wire (side (Line n) false)))) one.1 s.is.firsts in
+      let image = one_image (ip_and_port (wiring_in fl w c)) (leads_to ((wiring_in fl w c).place (Line n)) one.0)
       ((wiring_in fl w c).wire (side (Line n) false)) perm in
       let inside : Contains ((wiring_in fl w c).wire (side (Line n) false)) image.0 =
       subst (λ l. Contains l image.0) (sym image.1) (contains_head image.0 []) in
       let leads = k.lawful.fed.inlets (side (Line n) false) image.0 cell_there inside in record {
-        seat = s;
+        point = s;
         line = r.line;
         at = r.at;
         op_is = op;

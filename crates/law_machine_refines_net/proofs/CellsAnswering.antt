@@ -14,11 +14,11 @@ use Rattle.semantics.specs.Graph.{Flow}
 use Rattle.semantics.specs.Meaning.{Memory}
 use Rattle.semantics.specs.Machine.{answer, answers}
 use Rattle.law_confluence.proofs.Orders.{shuffled, Part as Piece, ◌⊕◌, at_last}
-use Rattle.law_net.specs.ContextsParts.{Part, Held, Item, Firing}
+use Rattle.law_net.specs.ContextsParts.{Part, InCell, Item, Firing}
 use Rattle.law_net.specs.ContextsBlocks.{is_store}
 use Rattle.law_net.specs.Contexts.{block_in}
 use Rattle.law_net.specs.ContextsFirings.{Config, cell_of, makes, memory_of, ARead, ProperAt}
-use Rattle.law_net.specs.ContextsStands.{token_of, only, is_held, reads, cont_in, conts_of, Stands}
+use Rattle.law_net.specs.ContextsMirror.{token_of, only, is_in_cell, reads, cont_in, conts_of, Mirrors}
 use Rattle.law_machine_refines_net.specs.MovesCases.{Taking, net_of}
 use Rattle.law_machine_refines_net.proofs.MovesLists.{kept_by, kept_no, kept_yes, contains_one, one_holds}
 use Rattle.law_machine_refines_net.proofs.MovesAccount.{Account, kept_fires, reordered}
@@ -27,8 +27,8 @@ use Rattle.law_machine_refines_net.proofs.CellsHeld.{held_firing, answer_items, 
 use Rattle.law_machine_refines_net.proofs.CellsFetched.{IsFetch, held_remembers}
 
 -- what reads a cell is a request
-pub reads_held : (fl : Flow) (x : ℕ) (j : Item) (r : Part) → reads fl x j r ≡ true → (n : ℕ) × (r ≡ Held n)
-reads_held fl x j (Held n) e = (n, refl)
+pub reads_held : (fl : Flow) (x : ℕ) (j : Item) (r : Part) → reads fl x j r ≡ true → (n : ℕ) × (r ≡ InCell n)
+reads_held fl x j (InCell n) e = (n, refl)
 reads_held fl x j r e = absurd (true≢false (sym e))
 
 -- what does not pass one test is all that passes another
@@ -52,8 +52,8 @@ module _ (s : Taking) (x : ℕ) (u : Value) where
   abbrev net : Config
   net = net_of s
 
-  abbrev old : Stands s.fl s.p s.w s.m net
-  old = s.keeps.follows.stands
+  abbrev old : Mirrors s.fl s.p s.w s.m net
+  old = s.keeps.tracks.stands
 
   abbrev tok : Item → Token
   tok i = token_of s.fl s.p s.w net.fired i
@@ -71,7 +71,7 @@ module _ (s : Taking) (x : ℕ) (u : Value) where
     pub to : Config
     pub new : List Firing
     pub account : Account s (IsFetch s) to new (alongs todo ++ made)
-    pub held : (f : Firing) → Contains new f → is_held f.part ≡ true
+    pub held : (f : Firing) → Contains new f → is_in_cell f.part ≡ true
     pub waiting : to.waiting ≡ done ++ unread todo
     pub pending : IsPermutation to.pending (alongs todo ++ d.pending)
     pub memory : memory_of s.fl to.fired ≡ memory_of s.fl d.fired
@@ -92,8 +92,8 @@ module _ (s : Taking) (x : ℕ) (u : Value) where
 
   -- and one that reads is answered
   module _ (d : Config) (new : List Firing) (made : List Item) (l : Account s (IsFetch s) d new made)
-      (held : (f : Firing) → Contains new f → is_held f.part ≡ true) (done : List Item) (j : Item) (js : List Item) (waiting : d.waiting ≡ done ++ (j ∷ js))
-      (inside : Contains net.waiting j) (n : ℕ) (e : j.inlet.part ≡ Held n) (yes : test j ≡ true)
+      (held : (f : Firing) → Contains new f → is_in_cell f.part ≡ true) (done : List Item) (j : Item) (js : List Item) (waiting : d.waiting ≡ done ++ (j ∷ js))
+      (inside : Contains net.waiting j) (n : ℕ) (e : j.inlet.part ≡ InCell n) (yes : test j ≡ true)
       (full : (memory_of s.fl d.fired).cells x ≡ Some u) where
     abbrev f : Firing
     f = held_firing j u
@@ -117,11 +117,11 @@ module _ (s : Taking) (x : ℕ) (u : Value) where
         kept_fires l f [] d.pending done (j ∷ []) js (IsPermutation-refl d.pending) waiting (one_holds (IsFetch s) j (n, e, fetch))
         (permutation_same _ _ (sym (takes_is s j (waiting_here s j inside) n e u))) proper
 
-    next_held : (h : Firing) → Contains (f ∷ new) h → is_held h.part ≡ true
+    next_held : (h : Firing) → Contains (f ∷ new) h → is_in_cell h.part ≡ true
     next_held h c = pick (contains_cases f new h c)
       where
-        pick : (f ≡ h) ⊎ Contains new h → is_held h.part ≡ true
-        pick (inl q) = ap (λ (y : Firing). is_held y.part) (sym q) ∙ ap is_held e
+        pick : (f ≡ h) ⊎ Contains new h → is_in_cell h.part ≡ true
+        pick (inl q) = ap (λ (y : Firing). is_in_cell y.part) (sym q) ∙ ap is_in_cell e
         pick (inr c) = held h c
 
     next_memory : memory_of s.fl next.fired ≡ memory_of s.fl d.fired
@@ -150,7 +150,7 @@ module _ (s : Taking) (x : ℕ) (u : Value) where
   -- ALL OF THEM
   abbrev Answers_all : List Item → Type 0
   Answers_all todo = (d : Config) (new : List Firing) (made : List Item) → Account s (IsFetch s) d new made
-      → ((f : Firing) → Contains new f → is_held f.part ≡ true) → (done : List Item) → d.waiting ≡ done ++ todo
+      → ((f : Firing) → Contains new f → is_in_cell f.part ≡ true) → (done : List Item) → d.waiting ≡ done ++ todo
       → (memory_of s.fl d.fired).cells x ≡ Some u → Answering d made done todo
 
   pub all_answered : (todo : List Item) → ((j : Item) → Contains todo j → Contains net.waiting j) → Answers_all todo
@@ -187,7 +187,8 @@ module _ (s : Taking) (x : ℕ) (u : Value) where
           ∙ ap (λ l. answers (conts_of s.fl s.p s.w net.fired l) u) (sym (kept_yes test j js e))
 
   -- each of them is no request, and its arc was used
-  pub along_all : (P : Item → Type 0) → ((j : Item) (c : Contains net.waiting j) (n : ℕ) (e : j.inlet.part ≡ Held n) → P (reply s j (waiting_here s j c) n e u))
+  pub along_all : (P : Item → Type 0)
+      → ((j : Item) (c : Contains net.waiting j) (n : ℕ) (e : j.inlet.part ≡ InCell n) → P (reply s j (waiting_here s j c) n e u))
       → (items : List Item) → ((j : Item) → Contains items j → Contains net.waiting j) → (i : Item) → Contains (alongs items) i → P i
   along_all P one [] h i c = absurd (contains_none i c)
   along_all P one (j ∷ js) h i c = go (test j) refl (λ c. along_all P one js (λ i c. h i (contains_tail j js i c)) i c)
@@ -200,7 +201,7 @@ module _ (s : Taking) (x : ℕ) (u : Value) where
           (subst (λ l. Contains l i) (ap (flat_map (λ (j : Item). answer_items s.fl s.w u j j.inlet.part)) (kept_yes test j js e)
           ∙ ap (λ l. l ++ alongs js) (items_is s j (waiting_here s j b) k.0 k.1 u)) c)) more
         where
-          pick : (k : (n : ℕ) × (j.inlet.part ≡ Held n)) (b : Contains net.waiting j)
+          pick : (k : (n : ℕ) × (j.inlet.part ≡ InCell n)) (b : Contains net.waiting j)
               → Contains (reply s j (waiting_here s j b) k.0 k.1 u ∷ []) i ⊎ Contains (alongs js) i → (Contains (alongs js) i → P i) → P i
           pick k b (inl c) more = subst P (contains_one (reply s j (waiting_here s j b) k.0 k.1 u) i c) (one j b k.0 k.1)
           pick k b (inr c) more = more c

@@ -20,11 +20,11 @@ use Rattle.semantics.specs.Graph.{Flow}
 use Rattle.semantics.proofs.Stores.{put_other}
 use Rattle.law_confluence.proofs.NetSlots.{put_same}
 use Rattle.law_confluence.proofs.Orders.{at_first, at_last}
-use Rattle.law_net.specs.ContextsParts.{Part, Held, Item, Firing}
+use Rattle.law_net.specs.ContextsParts.{Part, InCell, Item, Firing}
 use Rattle.law_net.specs.ContextsBlocks.{is_store, waits_in}
 use Rattle.law_net.specs.Contexts.{block_in}
 use Rattle.law_net.specs.ContextsFirings.{Config, makes, cell_of, second_of, memory_of, remembered, stored_at, Answers, ARead, handed_to, renewed, ProperAt}
-use Rattle.law_net.specs.ContextsStands.{token_of, to_of, cell_to, only, is_held, reads, cont_in, conts_of, Stands, is_asked, named_by}
+use Rattle.law_net.specs.ContextsMirror.{token_of, to_of, cell_to, only, is_in_cell, reads, cont_in, conts_of, Mirrors, is_asked, named_by}
 use Rattle.law_machine_refines_net.specs.MovesCases.{Taking, IsCaused, net_of, Followed, IsFree}
 use Rattle.law_machine_refines_net.proofs.MovesLists.{kept_no, kept_yes, one_holds}
 use Rattle.law_machine_refines_net.proofs.MovesParts.{is_credit, is_lending}
@@ -33,15 +33,15 @@ use Rattle.law_machine_refines_net.proofs.MovesFramed.{HandNone, frames_stay}
 use Rattle.law_machine_refines_net.proofs.MovesLoops.{unlent, unlent_loops}
 use Rattle.law_machine_refines_net.proofs.MovesBalanced.{balanced}
 use Rattle.law_machine_refines_net.proofs.MovesPlain.{is_end, words_stay, pool_of, tokens_of, sound_of, good_stay, slots_stay, requests_stay, memory_by}
-use Rattle.law_machine_refines_net.proofs.MovesSettled.{made_but, told_other}
+use Rattle.law_machine_refines_net.proofs.MovesSettled.{made_but, meant_other}
 use Rattle.law_machine_refines_net.proofs.MovesFitted.{taken_here, instr_held, others_before}
 use Rattle.law_machine_refines_net.proofs.CellsHeld.{IsReply, held_firing, cont, cont_is, place, takes_is, makes_is, reply, reply_is, reply_token, reads_is}
 
 -- a fetch at its cell
 abbrev pub IsFetch : Taking → Item → Type 0
-IsFetch s i = (n : ℕ) × (i.inlet.part ≡ Held n) × (is_store (block_in s.fl i.context) n ≡ false)
+IsFetch s i = (n : ℕ) × (i.inlet.part ≡ InCell n) × (is_store (block_in s.fl i.context) n ≡ false)
 
-held_outputs : (fl : Flow) (fs fired : List Firing) → ((f : Firing) → Contains fs f → is_held f.part ≡ true) → (i : ℕ)
+held_outputs : (fl : Flow) (fs fired : List Firing) → ((f : Firing) → Contains fs f → is_in_cell f.part ≡ true) → (i : ℕ)
     → (memory_of fl (fs ++ fired)).outputs i ≡ (memory_of fl fired).outputs i
 held_outputs fl [] fired held i = refl
 held_outputs fl (f ∷ fs) fired held i =
@@ -56,20 +56,20 @@ held_outputs fl (f ∷ fs) fired held i =
     either n m true = stored (cell_of fl f.context n f.operands) (second_of f.operands) m
     either n m false = refl
 
-    of_part : (r : Part) (m : Memory) → is_held r ≡ true → (remembered fl f r m).outputs i ≡ m.outputs i
-    of_part (Held n) m e = either n m (is_store (block_in fl f.context) n)
+    of_part : (r : Part) (m : Memory) → is_in_cell r ≡ true → (remembered fl f r m).outputs i ≡ m.outputs i
+    of_part (InCell n) m e = either n m (is_store (block_in fl f.context) n)
     of_part r m e = absurd (true≢false (sym e))
 
-held_part : (r : Part) → is_held r ≡ true → (is_end r ≡ false) × (is_lending r ≡ false)
-held_part (Held n) e = (refl, refl)
+held_part : (r : Part) → is_in_cell r ≡ true → (is_end r ≡ false) × (is_lending r ≡ false)
+held_part (InCell n) e = (refl, refl)
 held_part r e = absurd (true≢false (sym e))
 
-held_hands : (fl : Flow) (c : Context) (r : Part) → is_held r ≡ true → handed_to fl c r ≡ None
-held_hands fl c (Held n) e = refl
+held_hands : (fl : Flow) (c : Context) (r : Part) → is_in_cell r ≡ true → handed_to fl c r ≡ None
+held_hands fl c (InCell n) e = refl
 held_hands fl c r e = absurd (true≢false (sym e))
 
-held_renews : (fl : Flow) (f : Firing) (r : Part) → is_held r ≡ true → renewed fl f r ≡ []
-held_renews fl f (Held n) e = refl
+held_renews : (fl : Flow) (f : Firing) (r : Part) → is_in_cell r ≡ true → renewed fl f r ≡ []
+held_renews fl f (InCell n) e = refl
 held_renews fl f r e = absurd (true≢false (sym e))
 
 -- A CHANGE OF CELLS ALONE
@@ -77,8 +77,8 @@ module _ (s : Taking) where
   abbrev net : Config
   net = net_of s
 
-  abbrev old : Stands s.fl s.p s.w s.m net
-  old = s.keeps.follows.stands
+  abbrev old : Mirrors s.fl s.p s.w s.m net
+  old = s.keeps.tracks.stands
 
   abbrev tok : Item → Token
   tok i = token_of s.fl s.p s.w net.fired i
@@ -86,7 +86,7 @@ module _ (s : Taking) where
   -- requests fire, and what they make are answers
   pub record CellMoved (d : Config) (new : List Firing) (made : List Item) : Type 0 where
     pub account : Account s (IsFetch s) d new made
-    pub held : (f : Firing) → Contains new f → is_held f.part ≡ true
+    pub held : (f : Firing) → Contains new f → is_in_cell f.part ≡ true
     pub replies : (i : Item) → Contains made i → IsReply s i
     pub pending : IsPermutation d.pending (made ++ s.others)
     pub event : IsPermutation s.event.made (map tok made)
@@ -110,7 +110,7 @@ module _ (s : Taking) where
     pool = pool_of g.account none made g.event g.pending;
     tokens =
         tokens_of g.account none (none_renewed s.fl new (λ f h. held_renews s.fl f f.part (g.held f h)))
-        (made_but s made g.event (λ i h. told_other s.fl s.p s.w net.fired i (not_held i h)));
+        (made_but s made g.event (λ i h. meant_other s.fl s.p s.w net.fired i (not_held i h)));
     caused = λ i h a e. caused i (Contains-append_cases made s.others i (Contains-permutation _ _ i g.pending h));
     good = good_stay g.account not_held;
     waits = λ i t. inr (inr (inl t));
@@ -127,7 +127,7 @@ module _ (s : Taking) where
       none : HandNone s.fl new
       none f h = held_hands s.fl f.context f.part (g.held f h)
 
-      not_held : (i : Item) → Contains made i → is_held i.inlet.part ≡ false
+      not_held : (i : Item) → Contains made i → is_in_cell i.inlet.part ≡ false
       not_held i h = instr_held i.inlet.part (g.replies i h).instr
 
       caused : (i : Item) → Contains made i ⊎ Contains s.others i → Contains net.pending i ⊎ IsCaused s i
@@ -147,12 +147,12 @@ module _ (s : Taking) where
     released = λ g base. subst (λ (x : To). released_at s.p.program g base x s.event.made ≡ 0) (sym e) refl;
   }
 
-  pub held_remembers : (f : Firing) (n : ℕ) (r : Part) (m : Memory) → r ≡ Held n → is_store (block_in s.fl f.context) n ≡ false → remembered s.fl f r m ≡ m
+  pub held_remembers : (f : Firing) (n : ℕ) (r : Part) (m : Memory) → r ≡ InCell n → is_store (block_in s.fl f.context) n ≡ false → remembered s.fl f r m ≡ m
   held_remembers f n r m e k =
       ap (λ r. remembered s.fl f r m) e ∙ ap (λ (t : Bool). if t then stored_at (cell_of s.fl f.context n f.operands) (second_of f.operands) m else m) k
 
   -- ---- A FETCH
-  module _ (n : ℕ) (e : s.i.inlet.part ≡ Held n) (fetch : is_store (block_in s.fl s.i.context) n ≡ false) where
+  module _ (n : ℕ) (e : s.i.inlet.part ≡ InCell n) (fetch : is_store (block_in s.fl s.i.context) n ≡ false) where
     abbrev x : ℕ
     x = (place s s.i (taken_here s) n e).0
 
@@ -195,7 +195,7 @@ module _ (s : Taking) where
         account =
             reordered (alone_fires s (IsFetch s) f (takes_is s s.i (taken_here s) n e v)
             (subst (λ (r : Part). ProperAt s.fl net.fired f r) (sym e) proper)) (answered ∷ []) (permutation_same _ _ makes_one);
-        held = one_holds (λ (h : Firing). is_held h.part ≡ true) f (ap is_held e);
+        held = one_holds (λ (h : Firing). is_in_cell h.part ≡ true) f (ap is_in_cell e);
         replies = one_holds (IsReply s) answered (reply_is s s.i (taken_here s) n e v);
         pending = permutation_same _ _ (ap (λ l. l ++ s.others) makes_one);
         event = permutation_same _ _ (made ∙ sym (ap (λ t. t ∷ []) (reply_token s s.i (taken_here s) n e v)));

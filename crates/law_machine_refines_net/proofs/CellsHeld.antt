@@ -7,13 +7,13 @@ use Rattle.tags.specs.declared.token.To.{To}
 use Rattle.semantics.specs.Rule.{token}
 use Rattle.semantics.specs.Graph.{Flow}
 use Rattle.semantics.specs.Machine.{answer}
-use Rattle.law_net.specs.ContextsParts.{Part, Line, Held, Datum, BackTo, signal, Item, item, each, Firing}
+use Rattle.law_net.specs.ContextsParts.{Part, Line, InCell, Datum, BackTo, signal, Item, item, each, Firing}
 use Rattle.law_net.specs.ContextsBlocks.{side, is_cell}
 use Rattle.law_net.specs.Contexts.{Wires, block_in, wiring_in, IsContext}
 use Rattle.law_net.specs.ContextsFirings.{Config, takes, makes, frame_at, cell_of, back_from, makes_by, own_takes, renewed, request_of, sent_word}
-use Rattle.law_net.specs.ContextsStands.{frame_of, ip_of, word_of, token_of, reads, named_by, WasUsed, Stands, reads_cell, is_instr}
+use Rattle.law_net.specs.ContextsMirror.{frame_of, ip_of, word_of, token_of, reads, named_by, WasUsed, Mirrors, reads_cell, is_instr}
 use Rattle.law_net.specs.ContextsLaws.{Carries, port_fits, spot_there, way_fits}
-use Rattle.law_net.specs.ContextsWires.{comes_at}
+use Rattle.law_net.specs.ContextsWires.{arrives_at}
 use Rattle.law_net.proofs.ContextsWords.{carries_of}
 use Rattle.law_machine_refines_net.specs.MovesCases.{Taking, IsCaused, net_of}
 use Rattle.law_machine_refines_net.proofs.MovesParts.{is_credit, given_calm}
@@ -24,7 +24,7 @@ use Rattle.law_machine_refines_net.proofs.CellsAnswered.{Answered, answered}
 
 -- a cell's answer, as items
 abbrev pub answer_items : Flow → Wires → Value → Item → Part → List Item
-answer_items fl w v j (Held n) = each j.context (Datum v) ((wiring_in fl w j.context).wire (side (Line n) false))
+answer_items fl w v j (InCell n) = each j.context (Datum v) ((wiring_in fl w j.context).wire (side (Line n) false))
 answer_items fl w v j r = []
 
 -- what a request fires
@@ -40,12 +40,12 @@ pub record IsReply (s : Taking) (i : Item) : Type 0 where
   pub calm : is_credit i.inlet.part ≡ false
   pub caused : IsCaused s i
 
-module _ (s : Taking) (j : Item) (h : IsHere s j) (n : ℕ) (e : j.inlet.part ≡ Held n) where
+module _ (s : Taking) (j : Item) (h : IsHere s j) (n : ℕ) (e : j.inlet.part ≡ InCell n) where
   abbrev net : Config
   net = net_of s
 
-  abbrev old : Stands s.fl s.p s.w s.m net
-  old = s.keeps.follows.stands
+  abbrev old : Mirrors s.fl s.p s.w s.m net
+  old = s.keeps.tracks.stands
 
   pub is_context : IsContext s.fl j.context
   is_context = (fits s j h).is_context
@@ -61,7 +61,7 @@ module _ (s : Taking) (j : Item) (h : IsHere s j) (n : ℕ) (e : j.inlet.part �
   word_is =
       let k = carries_of s.fl s.w j (carried s j h) in
       let r : j.word ≡ back_from j.context ((wiring_in s.fl s.w j.context).wire (side (Line n) false)) =
-      subst (λ (r : Part). Carries s.fl s.w j.context j.inlet.way (comes_at r j.inlet.port) j.word) e k in
+      subst (λ (r : Part). Carries s.fl s.w j.context j.inlet.way (arrives_at r j.inlet.port) j.word) e k in
       r ∙ ap (back_from j.context) ans.wire
 
   abbrev pub cont : Cont
@@ -76,13 +76,13 @@ module _ (s : Taking) (j : Item) (h : IsHere s j) (n : ℕ) (e : j.inlet.part �
   pub takes_is : (v : Value) → takes s.fl (held_firing j v) ≡ j ∷ []
   takes_is v =
       let f = fits s j h in
-      let left = lone_port s.fl j.context (Held n) j.inlet.port refl (subst (λ (r : Part). port_fits s.fl j.context r j.inlet.port ≡ true) e f.port) in
-      let way = plain_way s.fl j.context (Held n) j.inlet.port j.inlet.way refl
+      let left = lone_port s.fl j.context (InCell n) j.inlet.port refl (subst (λ (r : Part). port_fits s.fl j.context r j.inlet.port ≡ true) e f.port) in
+      let way = plain_way s.fl j.context (InCell n) j.inlet.port j.inlet.way refl
       (subst (λ (r : Part). way_fits s.fl j.context r j.inlet.port j.inlet.way ≡ true) e f.way) in
       own (held_firing j v) e
       ∙ (λ t. record { context = j.context; inlet = record { part = j.inlet.part; port = sym left t; way = sym way t }; word = j.word; held = j.held } ∷ [])
     where
-      own : (f : Firing) → f.part ≡ Held n → takes s.fl f ≡ request_of f ∷ []
+      own : (f : Firing) → f.part ≡ InCell n → takes s.fl f ≡ request_of f ∷ []
       own f e = ap (λ (r : Part). own_takes s.fl f r ++ renewed s.fl f r) e
 
   abbrev pub reply : Value → Item
@@ -106,7 +106,7 @@ module _ (s : Taking) (j : Item) (h : IsHere s j) (n : ℕ) (e : j.inlet.part �
   was_asked =
       let r = ans.row in let zero : ip_of s.fl s.p s.w j.context ans.inlet.part + 0 ≡ ip_of s.fl s.p s.w j.context ans.inlet.part = omega arith in
       subst (λ ip. WasUsed s.p s.q.steps (frame_of s.fl net.fired j.context) ip ans.inlet.port) zero
-      (s.keeps.follows.asked j j.context ans.inlet 0 h word_is (omega (arith, r)))
+      (s.keeps.tracks.asked j j.context ans.inlet 0 h word_is (omega (arith, r)))
 
   pub reply_is : (u : Value) → IsReply s (reply u)
   reply_is u = record {

@@ -27,12 +27,12 @@ use Rattle.law_confluence.proofs.Orders.{shuffled, Part as Piece, ◌⊕◌}
 use Rattle.law_reuse.proofs.SlotsUsedArcs.{stands_arcs}
 use Rattle.law_fresh_frames.specs.Alike.{plain_dests}
 use Rattle.law_fresh_frames.proofs.FreshArcs.{dest_arc, uses_new}
-use Rattle.law_net.specs.ContextsParts.{Part, Line, Held, Inlet, inlet, Datum, BackTo, Item, item, each, Firing}
+use Rattle.law_net.specs.ContextsParts.{Part, Line, InCell, Inlet, inlet, Datum, BackTo, Item, item, each, Firing}
 use Rattle.law_net.specs.ContextsBlocks.{side, is_cell, is_store}
 use Rattle.law_net.specs.Contexts.{block_in, code_in, wiring_in}
 use Rattle.law_net.specs.ContextsFirings.{Config, takes, makes, frame_at, cell_of, index_of, place_at, second_of, stored_at, memory_of, back_from, AFault}
 use Rattle.law_net.specs.ContextsFirings.{ProperAt, array_at, handed_to, renewed}
-use Rattle.law_net.specs.ContextsStands.{frame_of, ip_of, word_of, token_of, on_side, in_slot, slot_of, only, is_held, is_instr, named_by, Stands}
+use Rattle.law_net.specs.ContextsMirror.{frame_of, ip_of, word_of, token_of, on_side, in_slot, slot_of, only, is_in_cell, is_instr, named_by, Mirrors}
 use Rattle.law_machine_refines_net.specs.MovesCases.{Taking, IsCaused, net_of, Followed, IsFree}
 use Rattle.law_machine_refines_net.proofs.MovesLists.{contains_one, one_holds}
 use Rattle.law_machine_refines_net.proofs.MovesParts.{is_credit, pair_reads, is_lending, pair_asked, pair_quiet, quiet_calm, given_calm}
@@ -43,7 +43,7 @@ use Rattle.law_machine_refines_net.proofs.MovesLoops.{unlent, unlent_loops}
 use Rattle.law_machine_refines_net.proofs.MovesBalanced.{WasThere, UsedNow, Sound, balanced}
 use Rattle.law_machine_refines_net.proofs.MovesPlain.{Stays, is_silent, is_end, words_stay, pool_of, tokens_of, sound_of, requests_stay, readers_stay}
 use Rattle.law_machine_refines_net.proofs.MovesPlain.{memory_by, memory_of_silent, recalls, silent_seen}
-use Rattle.law_machine_refines_net.proofs.MovesSettled.{made_but, told_other, told_held, IsTold}
+use Rattle.law_machine_refines_net.proofs.MovesSettled.{made_but, meant_other, meant_held, IsMeant}
 use Rattle.law_machine_refines_net.proofs.MovesFitted.{fits, framed, taken_here, instr_held, others_before}
 use Rattle.law_machine_refines_net.proofs.SendsRules.{goes_to}
 use Rattle.law_machine_refines_net.proofs.CellsAnswered.{Answered, answered}
@@ -54,8 +54,8 @@ module _ (s : Taking) (n : ℕ) (e : s.i.inlet.part ≡ Line n) (cell : is_cell 
   abbrev net : Config
   net = net_of s
 
-  abbrev old : Stands s.fl s.p s.w s.m net
-  old = s.keeps.follows.stands
+  abbrev old : Mirrors s.fl s.p s.w s.m net
+  old = s.keeps.tracks.stands
 
   abbrev tok : Item → Token
   tok j = token_of s.fl s.p s.w net.fired j
@@ -76,7 +76,7 @@ module _ (s : Taking) (n : ℕ) (e : s.i.inlet.part ≡ Line n) (cell : is_cell 
   here = ip_of s.fl s.p s.w c (Line n)
 
   abbrev pub ins : Instr
-  ins = ans.seat.instr
+  ins = ans.point.instr
 
   abbrev pub target : ℕ
   target = ip_of s.fl s.p s.w c ans.inlet.part
@@ -110,11 +110,11 @@ module _ (s : Taking) (n : ℕ) (e : s.i.inlet.part ≡ Line n) (cell : is_cell 
         side = s.i.inlet.port;
         i = ins;
         t = t;
-        is_arc = stands_arcs s.p (code_in s.fl s.w c) place ins (arc place k.0 (port_at (place + d.ahead) d.port)) ans.seat.stands k.1;
+        is_arc = stands_arcs s.p (code_in s.fl s.w c) place ins (arc place k.0 (port_at (place + d.ahead) d.port)) ans.point.stands k.1;
         place = omega (arith, f);
         port = sym ans.port;
         taken_at = came_to s.i.inlet.port refl;
-        fired = ans.seat.at;
+        fired = ans.point.at;
         is_made = inside;
         uses = subst (λ o. UsesBy s.p frame target ans.inlet.port ins o t s.new) (sym o) by;
       }
@@ -124,7 +124,7 @@ module _ (s : Taking) (n : ℕ) (e : s.i.inlet.part ≡ Line n) (cell : is_cell 
       → s.event.made ≡ token (To.Instr frame (here + ans.dest.ahead) ans.dest.port) (Word.Val w) ∷ [] → Used
   sent_arc op o plain no_give w made =
       let t = token (To.Instr frame (here + ans.dest.ahead) ans.dest.port) (Word.Val w) in
-      let u = uses_new s.p frame here s.i.inlet.port ins ans.seat.at ans.dest
+      let u = uses_new s.p frame here s.i.inlet.port ins ans.point.at ans.dest
       (subst (λ o. Contains (plain_dests ins o) ans.dest) (sym o) (one_dest op plain)) s.t s.event.made s.new t (came_to s.i.inlet.port refl)
       (subst (λ l. Contains l t) (sym made) (contains_head t [])) refl (λ k h. absurd (no_give k (sym o ∙ h))) in
       subst (λ q. UsesArc s.p frame target q s.t s.event.made s.new) ans.port (subst (λ ip. UsesArc s.p frame ip ans.dest.port s.t s.event.made s.new) far u)
@@ -145,7 +145,7 @@ module _ (s : Taking) (n : ℕ) (e : s.i.inlet.part ≡ Line n) (cell : is_cell 
     pub part : f.part ≡ Line n
     pub held : List Value
     pub makes_is : makes s.fl s.w f
-        ≡ record { context = c; inlet = inlet (Held n) Left 0; word = back_from c ((wiring_in s.fl s.w c).wire (side (Line n) false)); held = held } ∷ []
+        ≡ record { context = c; inlet = inlet (InCell n) Left 0; word = back_from c ((wiring_in s.fl s.w c).wire (side (Line n) false)); held = held } ∷ []
     pub slots : InSlots (λ (i : Item). frame_of s.fl net.fired i.context) (slot_of s.fl s.w)
         (λ (i : Item). on_side i.inlet.port (word_of s.fl s.p s.w net.fired i.word)) old.base (only (in_slot s.fl) (before ++ later)) s.new.store.slots
     pub stays : Stays s
@@ -153,7 +153,7 @@ module _ (s : Taking) (n : ℕ) (e : s.i.inlet.part ≡ Line n) (cell : is_cell 
 
   module _ (g : Asks) (used : Used) where
     abbrev pub request : Item
-    request = record { context = c; inlet = inlet (Held n) Left 0; word = back_from c ((wiring_in s.fl s.w c).wire (side (Line n) false)); held = g.held }
+    request = record { context = c; inlet = inlet (InCell n) Left 0; word = back_from c ((wiring_in s.fl s.w c).wire (side (Line n) false)); held = g.held }
 
     abbrev Kind : Item → Type 0
     Kind i = in_slot s.fl i ≡ true
@@ -204,7 +204,7 @@ module _ (s : Taking) (n : ℕ) (e : s.i.inlet.part ≡ Line n) (cell : is_cell 
       tokens =
           tokens_of account none (ap (λ l. l ++ []) not_renewed)
           (made_but s (request ∷ []) made_is
-          (one_holds (λ (i : Item). IsTold s.fl s.p s.w net.fired i) request (told_held s.fl s.p s.w net.fired request n x refl good)));
+          (one_holds (λ (i : Item). IsMeant s.fl s.p s.w net.fired i) request (meant_held s.fl s.p s.w net.fired request n x refl good)));
       caused = λ i h k l. caused i k (Contains-append_cases (makes s.fl s.w g.f) s.others i h);
       good = λ i m h k. good_at i m k (where_is account i h);
       waits = λ i t. inl t;
@@ -217,11 +217,11 @@ module _ (s : Taking) (n : ℕ) (e : s.i.inlet.part ≡ Line n) (cell : is_cell 
         made_is : IsPermutation s.event.made (map tok (request ∷ []))
         made_is = permutation_same _ _ made
 
-        good_at : (i : Item) (m : ℕ) → i.inlet.part ≡ Held m → Contains (request ∷ []) i ⊎ Contains (net.pending ++ net.waiting) i
+        good_at : (i : Item) (m : ℕ) → i.inlet.part ≡ InCell m → Contains (request ∷ []) i ⊎ Contains (net.pending ++ net.waiting) i
             → (y : ℕ) × (cell_of s.fl i.context m i.held ≡ Some y)
         good_at i m k (inr h) = old.good i m h k
         good_at i m k (inl h) =
-            one_holds (λ (i : Item). i.inlet.part ≡ Held m → (y : ℕ) × (cell_of s.fl i.context m i.held ≡ Some y)) request
+            one_holds (λ (i : Item). i.inlet.part ≡ InCell m → (y : ℕ) × (cell_of s.fl i.context m i.held ≡ Some y)) request
             (λ q. let z : n ≡ m = cc in (x, subst (λ m. cell_of s.fl c m g.held ≡ Some x) z good)) i h k
 
         caused : (i : Item) → is_instr i.inlet.part ≡ true → Contains (makes s.fl s.w g.f) i ⊎ Contains s.others i → Contains net.pending i ⊎ IsCaused s i
@@ -275,8 +275,8 @@ module _ (s : Taking) (n : ℕ) (e : s.i.inlet.part ≡ Line n) (cell : is_cell 
       made_is : IsPermutation s.event.made (map tok (reply ∷ []))
       made_is = permutation_same _ _ (made ∙ sym (ap (λ t. t ∷ []) reply_token))
 
-      not_held : (i : Item) → Contains (reply ∷ []) i → is_held i.inlet.part ≡ false
-      not_held = one_holds (λ (i : Item). is_held i.inlet.part ≡ false) reply (instr_held ans.inlet.part ans.is_instr)
+      not_held : (i : Item) → Contains (reply ∷ []) i → is_in_cell i.inlet.part ≡ false
+      not_held = one_holds (λ (i : Item). is_in_cell i.inlet.part ≡ false) reply (instr_held ans.inlet.part ans.is_instr)
 
       memory : memory_of s.fl answered_it.fired ≡ memory_of s.fl (g.f ∷ net.fired)
       memory =
@@ -306,7 +306,7 @@ module _ (s : Taking) (n : ℕ) (e : s.i.inlet.part ≡ Line n) (cell : is_cell 
         pool = pool_of both none_both (reply ∷ []) made_is (permutation_same _ _ (ap (λ l. l ++ s.others) replies_is));
         tokens =
             tokens_of both none_both (ap (λ l. l ++ []) not_renewed)
-            (made_but s (reply ∷ []) made_is (λ i k. told_other s.fl s.p s.w net.fired i (not_held i k)));
+            (made_but s (reply ∷ []) made_is (λ i k. meant_other s.fl s.p s.w net.fired i (not_held i k)));
         caused = λ i k l m. caused i (Contains-append_cases (makes s.fl s.w h) s.others i k);
         good = λ i m k l. good_at i m l (Contains-append_cases (makes s.fl s.w h ++ s.others) (g.before ++ g.later) i k);
         waits = λ i t. inl t;
@@ -328,13 +328,13 @@ module _ (s : Taking) (n : ℕ) (e : s.i.inlet.part ≡ Line n) (cell : is_cell 
               (Contains-permutation _ _ i (shuffled (g.before ∷ g.later ∷ g.kept ∷ []) ((Piece 0 ⊕ Piece 1) ⊕ Piece 2) (Piece 0 ⊕ (Piece 2 ⊕ Piece 1)) refl)
               (Contains-append_left (g.before ++ g.later) g.kept i k))
 
-          good_at : (i : Item) (m : ℕ) → i.inlet.part ≡ Held m → Contains (makes s.fl s.w h ++ s.others) i ⊎ Contains (g.before ++ g.later) i
+          good_at : (i : Item) (m : ℕ) → i.inlet.part ≡ InCell m → Contains (makes s.fl s.w h ++ s.others) i ⊎ Contains (g.before ++ g.later) i
               → (y : ℕ) × (cell_of s.fl i.context m i.held ≡ Some y)
           good_at i m k (inr l) = old.good i m (Contains-append_right net.pending net.waiting i (still_waits i l)) k
           good_at i m k (inl l) = pick (Contains-append_cases (makes s.fl s.w h) s.others i l)
             where
               pick : Contains (makes s.fl s.w h) i ⊎ Contains s.others i → (y : ℕ) × (cell_of s.fl i.context m i.held ≡ Some y)
-              pick (inl l) = absurd (true≢false (sym (ap is_held k) ∙ not_held i (subst (λ l. Contains l i) replies_is l)))
+              pick (inl l) = absurd (true≢false (sym (ap is_in_cell k) ∙ not_held i (subst (λ l. Contains l i) replies_is l)))
               pick (inr l) = old.good i m (Contains-append_left net.pending net.waiting i (others_before s i l)) k
 
           caused : (i : Item) → Contains (makes s.fl s.w h) i ⊎ Contains s.others i → Contains net.pending i ⊎ IsCaused s i

@@ -18,12 +18,12 @@ use Rattle.semantics.specs.Machine.{Store, CellState, Vacant, Full, Deferred, Ha
 use Rattle.semantics.proofs.Stores.{put_other}
 use Rattle.law_confluence.proofs.NetSlots.{put_same}
 use Rattle.law_confluence.proofs.Orders.{at_first, at_last}
-use Rattle.law_net.specs.ContextsParts.{Part, Held, Item, Firing}
+use Rattle.law_net.specs.ContextsParts.{Part, InCell, Item, Firing}
 use Rattle.law_net.specs.ContextsBlocks.{is_store}
 use Rattle.law_net.specs.Contexts.{block_in}
 use Rattle.law_net.specs.ContextsFirings.{Config, makes, cell_of, second_of, stored_at, memory_of, remembered, Answers, AFill, ProperAt}
-use Rattle.law_net.specs.ContextsStands.{token_of, to_of, cell_to, in_slot, only, is_held, reads, conts_of, came, Stands}
-use Rattle.law_net.specs.ContextsStands as Named
+use Rattle.law_net.specs.ContextsMirror.{token_of, to_of, cell_to, in_slot, only, is_in_cell, reads, conts_of, came, Mirrors}
+use Rattle.law_net.specs.ContextsMirror as Named
 use Rattle.law_machine_refines_net.specs.MovesCases.{Taking, net_of, Followed}
 use Rattle.law_machine_refines_net.proofs.MovesLists.{contains_one, one_holds}
 use Rattle.law_machine_refines_net.proofs.MovesAccount.{Account, alone_fires}
@@ -32,12 +32,12 @@ use Rattle.law_machine_refines_net.proofs.CellsHeld.{IsReply, held_firing, cont,
 use Rattle.law_machine_refines_net.proofs.CellsFetched.{IsFetch, cells_follow, free_store}
 use Rattle.law_machine_refines_net.proofs.CellsAnswering.{Answering, all_answered, along_tokens, along_all, alongs, unread, test, kept_apart, kept_neither}
 
-module _ (s : Taking) (n : ℕ) (e : s.i.inlet.part ≡ Held n) (store : is_store (block_in s.fl s.i.context) n ≡ true) where
+module _ (s : Taking) (n : ℕ) (e : s.i.inlet.part ≡ InCell n) (store : is_store (block_in s.fl s.i.context) n ≡ true) where
   abbrev net : Config
   net = net_of s
 
-  abbrev old : Stands s.fl s.p s.w s.m net
-  old = s.keeps.follows.stands
+  abbrev old : Mirrors s.fl s.p s.w s.m net
+  old = s.keeps.tracks.stands
 
   abbrev tok : Item → Token
   tok i = token_of s.fl s.p s.w net.fired i
@@ -82,7 +82,7 @@ module _ (s : Taking) (n : ℕ) (e : s.i.inlet.part ≡ Held n) (store : is_stor
         alone_fires s (IsFetch s) f (takes_is s s.i (taken_here s) n e u) (subst (λ (r : Part). ProperAt s.fl net.fired f r) (sym e) proper)
 
     -- the memory with it
-    fills : (r : Part) (m : Memory) → r ≡ Held n → remembered s.fl f r m ≡ stored_at (Some x) u m
+    fills : (r : Part) (m : Memory) → r ≡ InCell n → remembered s.fl f r m ≡ stored_at (Some x) u m
     fills r m h =
         ap (λ r. remembered s.fl f r m) h ∙ ap (λ (t : Bool). if t then stored_at (cell_of s.fl s.i.context n s.i.held) (second_of s.i.held) m else m) store
         ∙ ap (λ o. stored_at o u m) (place s s.i (taken_here s) n e).1
@@ -96,7 +96,7 @@ module _ (s : Taking) (n : ℕ) (e : s.i.inlet.part ≡ Held n) (store : is_stor
     abbrev answering : Answering s x u filled (makes s.fl s.w f) [] net.waiting
     answering =
         all_answered s x u net.waiting (λ j c. c) filled (f ∷ []) (makes s.fl s.w f) filled_account
-        (one_holds (λ (h : Firing). is_held h.part ≡ true) f (ap is_held e)) [] refl full
+        (one_holds (λ (h : Firing). is_in_cell h.part ≡ true) f (ap is_in_cell e)) [] refl full
 
     abbrev d : Config
     d = answering.to
@@ -122,7 +122,7 @@ module _ (s : Taking) (n : ℕ) (e : s.i.inlet.part ≡ Held n) (store : is_stor
         (at_last (IsPermutation-append _ _ _ _ a (permutation_same _ _ b)) (sym (map-append tok replies (makes s.fl s.w f))))
 
     -- what holds of all that is sent
-    of_made : (P : Item → Type 0) → ((j : Item) (c : Contains net.waiting j) (m : ℕ) (h : j.inlet.part ≡ Held m) → P (reply s j (waiting_here s j c) m h u))
+    of_made : (P : Item → Type 0) → ((j : Item) (c : Contains net.waiting j) (m : ℕ) (h : j.inlet.part ≡ InCell m) → P (reply s j (waiting_here s j c) m h u))
         → P (reply s s.i (taken_here s) n e u) → (i : Item) → Contains all_made i → P i
     of_made P one own i c = pick (Contains-append_cases replies (makes s.fl s.w f) i c)
       where
@@ -156,7 +156,7 @@ module _ (s : Taking) (n : ℕ) (e : s.i.inlet.part ≡ Held n) (store : is_stor
 
     -- one cell is read
     one_cell : (y : ℕ) → (x ≡ y → ⊥) → (i : Item) (r : Part) → reads s.fl x i r ≡ true → reads s.fl y i r ≡ false
-    one_cell y q i (Held m) h = by_place (cell_of s.fl i.context m i.held) h
+    one_cell y q i (InCell m) h = by_place (cell_of s.fl i.context m i.held) h
       where
         by_place : (o : Option ℕ) → Named.reads_cell x o ≡ true → Named.reads_cell y o ≡ false
         by_place None h = refl

@@ -24,14 +24,14 @@ use Rattle.law_net.specs.ContextsBlocks.{is_loop, waits_in, bound_at, op_of}
 use Rattle.law_net.specs.Contexts.{block_in, code_in, site_in, wiring_in, or_zero, IsContext}
 use Rattle.law_net.specs.ContextsCredits.{Ledger, slot_for}
 use Rattle.law_net.specs.ContextsFirings.{Config, takes, makes, frame_at, IsProper}
-use Rattle.law_net.specs.ContextsStands.{frame_of, word_of, only, ledger, KeepsCredits, is_instr}
+use Rattle.law_net.specs.ContextsMirror.{frame_of, word_of, only, ledger, KeepsCredits, is_instr}
 use Rattle.law_net.proofs.Credits as Credits
 use Rattle.law_machine_refines_net.specs.MovesCases.{Taking, net_of, Followed}
 use Rattle.law_machine_refines_net.proofs.MovesLists.{one_holds}
 use Rattle.law_machine_refines_net.proofs.MovesAccount.{Account, Spares, no_move, item_waits, part_fires, reordered}
 use Rattle.law_machine_refines_net.proofs.MovesFitted.{fits, framed, taken_here, lone_port}
 use Rattle.law_machine_refines_net.proofs.SendsRules as Rules
-use Rattle.law_machine_refines_net.proofs.SendsInwards.{told_as}
+use Rattle.law_machine_refines_net.proofs.SendsInwards.{carried_as}
 use Rattle.law_machine_refines_net.proofs.CreditsLenders.{IsLender, IsLoops}
 use Rattle.law_machine_refines_net.proofs.CreditsLending.{Kind, Lends, lends_follow}
 
@@ -68,7 +68,7 @@ module _ (s : Taking) (n : ℕ) (l : is_loop (block_in s.fl s.i.context) n ≡ t
   module _ (r : Part) (e : s.i.inlet.part ≡ r) (is : is_instr r ≡ true) (lone : waits_in (block_in s.fl c) r ≡ false)
       (mine : (wiring_in s.fl s.w c).slot r ≡ own) where
     abbrev pub t : Taking
-    t = told_as s r e
+    t = carried_as s r e
 
     abbrev pub ins : Instr
     ins = Rules.instr t is

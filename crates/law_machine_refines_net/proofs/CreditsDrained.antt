@@ -19,7 +19,7 @@ use Rattle.law_net.specs.ContextsBlocks.{is_loop}
 use Rattle.law_net.specs.Contexts.{block_in}
 use Rattle.law_net.specs.ContextsCredits.{Ledger}
 use Rattle.law_net.specs.ContextsFirings.{Config, takes, makes, times, given_back, frame_at}
-use Rattle.law_net.specs.ContextsStands.{only, token_of, is_item_at, items_at, conts_of, first_cont, ledger, granted_of, KeepsCredits, is_held}
+use Rattle.law_net.specs.ContextsMirror.{only, token_of, is_item_at, items_at, conts_of, first_cont, ledger, granted_of, KeepsCredits, is_in_cell}
 use Rattle.law_net.proofs.ContextsSames.{hits_at}
 use Rattle.law_net.proofs.WiredNets.{only_total, only_contains, only_has}
 use Rattle.law_net.proofs.RunsPigeons.{items_total, item_here, item_there, some_item}
@@ -54,7 +54,7 @@ module _ (s : Taking) (n : ℕ) (l : is_loop (block_in s.fl s.i.context) n ≡ t
   all = s.i ∷ net.waiting
 
   kept : KeepsCredits s.fl s.p s.w net c n
-  kept = s.keeps.follows.credits c n (Books.con s n l) l
+  kept = s.keeps.tracks.credits c n (Books.con s n l) l
 
   here : (j : Item) → Contains all j → IsHere s j
   here j h = waited_there s j (Contains-append_right s.others all j h)
@@ -89,7 +89,7 @@ module _ (s : Taking) (n : ℕ) (l : is_loop (block_in s.fl s.i.context) n ≡ t
     x_is : x ≡ item c (inlet (Drainer n) Left last) x.word
     x_is =
         let port = left_at s.fl s.p s.w s.inputs s.q s.m s.good s.keeps c (Books.con s n l) n l x (among s x (here x there)) xc (Drainer n) xp refl in
-        bare_item x (bare s x (here x there) (ap is_held xp)) (Drainer n) Left last xp port way_is ∙ (λ t. item (xc t) (inlet (Drainer n) Left last) x.word)
+        bare_item x (bare s x (here x there) (ap is_in_cell xp)) (Drainer n) Left last xp port way_is ∙ (λ t. item (xc t) (inlet (Drainer n) Left last) x.word)
 
     -- one drain
     same_drain : (j : Item) → IsHere s j → j.context ≡ c → j.inlet.part ≡ Drainer n → spot_of j ≡ spot_of x

@@ -21,13 +21,13 @@ use Rattle.law_net.specs.Contexts.{block_in, wiring_in}
 use Rattle.law_net.specs.ContextsCredits.{Ledger, slot_for}
 use Rattle.law_net.specs.ContextsFirings.{Config, times}
 use Rattle.law_net.specs.ContextsLaws.{spot_there}
-use Rattle.law_net.specs.ContextsStands.{token_of, is_item_at, items_at, conts_of, first_cont, ledger, granted_of, KeepsCredits, is_instr}
+use Rattle.law_net.specs.ContextsMirror.{token_of, is_item_at, items_at, conts_of, first_cont, ledger, granted_of, KeepsCredits, is_instr}
 use Rattle.law_net.proofs.CreditsTaken as Taken
 use Rattle.law_machine_refines_net.specs.MovesCases.{Taking, IsCaused, net_of, Followed}
 use Rattle.law_machine_refines_net.proofs.MovesLists.{kept_no, count_same, contains_one}
 use Rattle.law_machine_refines_net.proofs.MovesFitted.{fits, code, taken_here}
 use Rattle.law_machine_refines_net.proofs.SendsRules as Rules
-use Rattle.law_machine_refines_net.proofs.SendsInwards.{told_as}
+use Rattle.law_machine_refines_net.proofs.SendsInwards.{carried_as}
 use Rattle.law_machine_refines_net.proofs.CreditsLenders.{LDrainer}
 use Rattle.law_machine_refines_net.proofs.CreditsBooks as Books
 use Rattle.law_machine_refines_net.proofs.CreditsBooks.{waited, waits_follow}
@@ -47,7 +47,7 @@ module _ (s : Taking) (n : ℕ) (e : s.i.inlet.part ≡ Drainer n) where
   c = s.i.context
 
   abbrev t : Taking
-  t = told_as s (Drainer n) e
+  t = carried_as s (Drainer n) e
 
   abbrev k : ℕ
   k = Books.bound s n l
@@ -78,7 +78,7 @@ module _ (s : Taking) (n : ℕ) (e : s.i.inlet.part ≡ Drainer n) where
   given_is = ap (λ (o : Bool). if o then granted_of net c n else items_at c (Giver n) net.waiting) over_is
 
   kept : KeepsCredits s.fl s.p s.w net c n
-  kept = s.keeps.follows.credits c n (Books.con s n l) l
+  kept = s.keeps.tracks.credits c n (Books.con s n l) l
 
   abbrev left : ℕ
   left = k - (log.granted - log.given)
@@ -93,17 +93,17 @@ module _ (s : Taking) (n : ℕ) (e : s.i.inlet.part ≡ Drainer n) where
   not_taker h = let z : Drainer n ≡ Taker n = sym e ∙ h in absurd (cc)
 
   -- WHAT THE MACHINE DOES
-  abbrev Comes : Outcome → Type 0
-  Comes o = Happening s.m.store (Books.g s n l) (Some (Books.own s n l)) o s.event.made s.new.store
+  abbrev Arrives : Outcome → Type 0
+  Arrives o = Happening s.m.store (Books.g s n l) (Some (Books.own s n l)) o s.event.made s.new.store
 
   abbrev Counts : ℕ → Type 0
   Counts x =
       (f : ℕ) (h : Holder) → granted_at s.p s.p.program f h s.m.store s.t.to
       ≡ (if (Books.g s n l == f) && same_holder h (Some (Books.whose s n l)) then x else 0)
 
-  did : Comes (drains (Rules.at t refl) (Rules.instr t refl) k (Slot.Credits left))
+  did : Arrives (drains (Rules.at t refl) (Rules.instr t refl) k (Slot.Credits left))
   did =
-      subst (λ (x : SlotState). Comes (drains (Rules.at t refl) (Rules.instr t refl) k x)) free
+      subst (λ (x : SlotState). Arrives (drains (Rules.at t refl) (Rules.instr t refl) k x)) free
       (Books.does s n l (Drainer n) e refl refl mine (Ops.Drain k) refl (λ y. refl))
 
   grants : Counts 0
@@ -115,9 +115,9 @@ module _ (s : Taking) (n : ℕ) (e : s.i.inlet.part ≡ Drainer n) where
       all_back s n l s.i (contains_head s.i net.waiting) refl e (LDrainer e) count event caused m.1 grants
       (Books.released s n l (Drainer n) e refl refl mine (Ops.Drain k) refl (λ y. refl) (λ f base made. refl))
     where
-      m : Comes (Becomes Empty (to_all (Rules.at t refl) word (Rules.instr t refl)))
+      m : Arrives (Becomes Empty (to_all (Rules.at t refl) word (Rules.instr t refl)))
       m =
-          subst (λ (b : Bool). Comes (if b then Becomes Empty (to_all (Rules.at t refl) word (Rules.instr t refl)) else if nat_lt left k
+          subst (λ (b : Bool). Arrives (if b then Becomes Empty (to_all (Rules.at t refl) word (Rules.instr t refl)) else if nat_lt left k
           then Becomes (Draining (k - left)) [] else Excluded 3)) (eq-eqb left k full) did
 
       count : items_at c (Giver n) (s.i ∷ net.waiting) ≡ granted_of net c n
@@ -189,9 +189,9 @@ module _ (s : Taking) (n : ℕ) (e : s.i.inlet.part ≡ Drainer n) where
         ∙ sym (drain_slot k later open_is over_is draining_now))
         keeps grants (Books.released s n l (Drainer n) e refl refl mine (Ops.Drain k) refl (λ y. refl) (λ f base made. refl))
       where
-        m : Comes (Becomes (Draining (k - left)) [])
-        m = subst (λ (b : Bool). Comes (if b then Becomes (Draining (k - left)) [] else Excluded 3)) (lt-ltb left k below)
-            (subst (λ (b : Bool). Comes (if b then Becomes Empty (to_all (Rules.at t refl) word (Rules.instr t refl)) else if nat_lt left k
+        m : Arrives (Becomes (Draining (k - left)) [])
+        m = subst (λ (b : Bool). Arrives (if b then Becomes (Draining (k - left)) [] else Excluded 3)) (lt-ltb left k below)
+            (subst (λ (b : Bool). Arrives (if b then Becomes Empty (to_all (Rules.at t refl) word (Rules.instr t refl)) else if nat_lt left k
             then Becomes (Draining (k - left)) [] else Excluded 3)) (ne_eqb left k some) did)
 
   -- A DRAIN

@@ -22,7 +22,7 @@ use Rattle.law_net.specs.Contexts.{block_in, wiring_in}
 use Rattle.law_net.specs.ContextsCredits.{Ledger, slot_for}
 use Rattle.law_net.specs.ContextsFirings.{Config, times}
 use Rattle.law_net.specs.ContextsLaws.{spot_there}
-use Rattle.law_net.specs.ContextsStands.{token_of, is_item_at, items_at, conts_of, first_cont, ledger, granted_of, KeepsCredits, is_instr}
+use Rattle.law_net.specs.ContextsMirror.{token_of, is_item_at, items_at, conts_of, first_cont, ledger, granted_of, KeepsCredits, is_instr}
 use Rattle.law_net.proofs.WiredNets.{some_of}
 use Rattle.law_net.proofs.RunsPigeons.{items_total, item_there}
 use Rattle.law_net.proofs.CreditsTaken as Taken
@@ -30,7 +30,7 @@ use Rattle.law_machine_refines_net.specs.MovesCases.{Taking, IsCaused, net_of, F
 use Rattle.law_machine_refines_net.proofs.MovesLists.{kept_no, count_same, contains_one}
 use Rattle.law_machine_refines_net.proofs.MovesFitted.{fits, code, taken_here}
 use Rattle.law_machine_refines_net.proofs.SendsRules as Rules
-use Rattle.law_machine_refines_net.proofs.SendsInwards.{told_as}
+use Rattle.law_machine_refines_net.proofs.SendsInwards.{carried_as}
 use Rattle.law_machine_refines_net.proofs.CreditsLenders.{LGiver}
 use Rattle.law_machine_refines_net.proofs.CreditsBooks as Books
 use Rattle.law_machine_refines_net.proofs.CreditsBooks.{waited, waits_follow}
@@ -50,7 +50,7 @@ module _ (s : Taking) (n : ℕ) (e : s.i.inlet.part ≡ Giver n) where
   c = s.i.context
 
   abbrev t : Taking
-  t = told_as s (Giver n) e
+  t = carried_as s (Giver n) e
 
   abbrev k : ℕ
   k = Books.bound s n l
@@ -78,7 +78,7 @@ module _ (s : Taking) (n : ℕ) (e : s.i.inlet.part ≡ Giver n) where
   few = Taken.giver_counted s.fl s.p s.w s.inputs s.q s.m s.good s.keeps c (Books.con s n l) n l s.i (taken_there s) refl e
 
   pub kept : KeepsCredits s.fl s.p s.w net c n
-  kept = s.keeps.follows.credits c n (Books.con s n l) l
+  kept = s.keeps.tracks.credits c n (Books.con s n l) l
 
   pub not_drainer : s.i.inlet.part ≡ Drainer n → ⊥
   not_drainer h = let z : Giver n ≡ Drainer n = sym e ∙ h in absurd (cc)
@@ -87,11 +87,11 @@ module _ (s : Taking) (n : ℕ) (e : s.i.inlet.part ≡ Giver n) where
   not_taker h = let z : Giver n ≡ Taker n = sym e ∙ h in absurd (cc)
 
   -- WHAT THE MACHINE DOES
-  abbrev pub Comes : Outcome → Type 0
-  Comes o = Happening s.m.store (Books.g s n l) (Some (Books.own s n l)) o s.event.made s.new.store
+  abbrev pub Arrives : Outcome → Type 0
+  Arrives o = Happening s.m.store (Books.g s n l) (Some (Books.own s n l)) o s.event.made s.new.store
 
   abbrev pub Gives : SlotState → Type 0
-  Gives x = Comes (gives (Rules.at t refl) (Rules.instr t refl) k x)
+  Gives x = Arrives (gives (Rules.at t refl) (Rules.instr t refl) k x)
 
   abbrev pub Counts : SlotState → Type 0
   Counts x =
@@ -223,8 +223,8 @@ module _ (s : Taking) (n : ℕ) (e : s.i.inlet.part ≡ Giver n) where
     below : left < k
     below = let a = kept.law.bound in let b = given_is in let o = few in omega (arith, a, b, o)
 
-    m : Comes (Becomes (Slot.Credits (left + 1)) [])
-    m = subst (λ (b : Bool). Comes (if b then Becomes (Slot.Credits (left + 1)) [] else Excluded 3)) (lt-ltb left k below) (did (Slot.Credits left) free_is)
+    m : Arrives (Becomes (Slot.Credits (left + 1)) [])
+    m = subst (λ (b : Bool). Arrives (if b then Becomes (Slot.Credits (left + 1)) [] else Excluded 3)) (lt-ltb left k below) (did (Slot.Credits left) free_is)
 
     pub kept_follows : Followed s
     kept_follows = waits (Slot.Credits (left + 1)) m.0 m.1

@@ -23,8 +23,8 @@ use Rattle.law_net.specs.Contexts.{block_in, wiring_in}
 use Rattle.law_net.specs.ContextsCredits.{Ledger, slot_for}
 use Rattle.law_net.specs.ContextsFirings.{Config, takes, makes, times, frame_at, turn_before}
 use Rattle.law_net.specs.ContextsLaws.{spot_there}
-use Rattle.law_net.specs.ContextsStands.{only, named_by, frame_of, ip_of, word_of, is_item_at, items_at, cont_in, conts_of, first_cont, ledger, granted_of}
-use Rattle.law_net.specs.ContextsStands.{KeepsCredits, WasUsed}
+use Rattle.law_net.specs.ContextsMirror.{only, named_by, frame_of, ip_of, word_of, is_item_at, items_at, cont_in, conts_of, first_cont, ledger, granted_of}
+use Rattle.law_net.specs.ContextsMirror.{KeepsCredits, WasUsed}
 use Rattle.law_net.proofs.CreditsTaken as Taken
 use Rattle.law_net.proofs.Credits as Credits
 use Rattle.law_net.proofs.Credits.{none_passes}
@@ -36,7 +36,7 @@ use Rattle.law_machine_refines_net.proofs.MovesStill.{times_no}
 use Rattle.law_machine_refines_net.proofs.MovesAccount.{alone_fires}
 use Rattle.law_machine_refines_net.proofs.MovesFitted.{fits, code, bare, bare_item, taken_here, among, IsHere}
 use Rattle.law_machine_refines_net.proofs.Sends.{firing_of}
-use Rattle.law_machine_refines_net.proofs.SendsInwards.{told_as}
+use Rattle.law_machine_refines_net.proofs.SendsInwards.{carried_as}
 use Rattle.law_machine_refines_net.proofs.CreditsLenders.{ATaker, LTaker}
 use Rattle.law_machine_refines_net.proofs.CreditsBooks as Books
 use Rattle.law_machine_refines_net.proofs.CreditsBooks.{waited, waits_follow, gone, one_lends, fires_follow}
@@ -54,7 +54,7 @@ module _ (s : Taking) (n : ℕ) (e : s.i.inlet.part ≡ Taker n) where
   c = s.i.context
 
   abbrev t : Taking
-  t = told_as s (Taker n) e
+  t = carried_as s (Taker n) e
 
   abbrev k : ℕ
   k = Books.bound s n l
@@ -103,7 +103,7 @@ module _ (s : Taking) (n : ℕ) (e : s.i.inlet.part ≡ Taker n) where
   given_is = ap (λ (o : Bool). if o then granted_of net c n else items_at c (Giver n) net.waiting) over_is
 
   kept : KeepsCredits s.fl s.p s.w net c n
-  kept = s.keeps.follows.credits c n (Books.con s n l) l
+  kept = s.keeps.tracks.credits c n (Books.con s n l) l
 
   free : slot_for k log ≡ Slot.Credits (k - (log.granted - log.given))
   free = free_slot k log open_is over_is draining_is waiter_is
@@ -240,7 +240,7 @@ module _ (s : Taking) (n : ℕ) (e : s.i.inlet.part ≡ Taker n) where
     was_asked =
         let zero_is : ip_of s.fl s.p s.w turn NextFramer + 0 ≡ ip_of s.fl s.p s.w turn NextFramer = omega arith in
         subst (λ ip. WasUsed s.p s.q.steps (frame_of s.fl net.fired turn) ip Left) zero_is
-        (s.keeps.follows.asked s.i turn (inlet NextFramer Left 0) 0 (taken_here s) word_is (omega arith))
+        (s.keeps.tracks.asked s.i turn (inlet NextFramer Left 0) 0 (taken_here s) word_is (omega arith))
 
     before : (j : Item) → is_quiet j.inlet.part ≡ false → Contains (d.pending ++ d.waiting) j → Contains (s.others ++ net.waiting) j
     before j o h = was_there s (makes s.fl s.w f) net.waiting (of_made (λ (j : Item). is_quiet j.inlet.part ≡ true) refl) j o h
@@ -267,7 +267,7 @@ module _ (s : Taking) (n : ℕ) (e : s.i.inlet.part ≡ Taker n) where
       signals = of_made (λ (j : Item). j.word ≡ signal) refl;
       known =
           of_made (λ (j : Item). (g : ℕ) × (frame_at s.fl net.fired j.context ≡ Some g))
-          (s.keeps.follows.stands.named s.i turn (among s s.i (taken_here s)) (ap named_by word_is));
+          (s.keeps.tracks.stands.named s.i turn (among s s.i (taken_here s)) (ap named_by word_is));
       caused = λ j h i o. of_made (IsCaused s) (inr was_asked) j h;
       event = permutation_same _ _ m.0;
       state = Slot.Credits x;

@@ -10,7 +10,7 @@ use Rattle.semantics.specs.Meaning.{Context}
 use Rattle.law_net.specs.ContextsParts.{Part, Item, Firing}
 use Rattle.law_net.specs.ContextsCredits.{Ledger, slot_for, waits_or}
 use Rattle.law_net.specs.ContextsFirings.{times, is_firing}
-use Rattle.law_net.specs.ContextsStands.{is_item_at, items_at}
+use Rattle.law_net.specs.ContextsMirror.{is_item_at, items_at}
 use Rattle.law_net.proofs.RunsPigeons.{firing_here, item_here, item_there}
 use Rattle.law_machine_refines_net.proofs.MovesLists.{count_yes, count_no, count_none}
 

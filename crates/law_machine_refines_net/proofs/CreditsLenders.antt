@@ -5,7 +5,7 @@ use Rattle.semantics.specs.Graph.{Flow}
 use Rattle.semantics.specs.Meaning.{Context}
 use Rattle.law_net.specs.ContextsParts.{Part, Opener, Giver, Taker, Drainer, Drained, Firing}
 use Rattle.law_net.specs.ContextsFirings.{handed_to, renewed, is_firing}
-use Rattle.law_net.specs.ContextsStands.{is_asked}
+use Rattle.law_net.specs.ContextsMirror.{is_asked}
 use Rattle.law_net.proofs.RunsPigeons.{firing_there}
 use Rattle.law_machine_refines_net.proofs.MovesPlain.{is_silent}
 

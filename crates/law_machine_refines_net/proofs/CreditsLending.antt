@@ -19,8 +19,9 @@ use Rattle.law_net.specs.ContextsBlocks.{is_loop, waits_in, bound_at}
 use Rattle.law_net.specs.Contexts.{block_in, code_in, wiring_in, or_zero, IsContext}
 use Rattle.law_net.specs.ContextsCredits.{slot_for}
 use Rattle.law_net.specs.ContextsFirings.{Config, frame_at}
-use Rattle.law_net.specs.ContextsStands.{frame_of, ip_of, word_of, token_of, on_side, in_slot, slot_of, only, is_held, reads, is_item_at, items_at, granted_of}
-use Rattle.law_net.specs.ContextsStands.{ledger, KeepsCredits, Stands, named_by, is_instr, is_entry_part}
+use Rattle.law_net.specs.ContextsMirror.{frame_of, ip_of, word_of, token_of, on_side, in_slot, slot_of, only, is_in_cell, reads, is_item_at, items_at}
+use Rattle.law_net.specs.ContextsMirror.{granted_of}
+use Rattle.law_net.specs.ContextsMirror.{ledger, KeepsCredits, Mirrors, named_by, is_instr, is_entry_part}
 use Rattle.law_net.proofs.ContextsSames.{same_context-true, same_context-refl}
 use Rattle.law_net.proofs.RunsPigeons.{item_there}
 use Rattle.law_net.proofs.RunsMatching.{wait_holds}
@@ -34,7 +35,7 @@ use Rattle.law_machine_refines_net.proofs.MovesLoops.{Loop, Loops, IsLoopSlot, c
 use Rattle.law_machine_refines_net.proofs.MovesBalanced.{balanced}
 use Rattle.law_machine_refines_net.proofs.MovesPlain.{words_stay, pool_of, tokens_of, sound_of, good_stay, requests_stay, readers_stay, memory_of_silent, Stays}
 use Rattle.law_machine_refines_net.proofs.MovesPlain.{recalls}
-use Rattle.law_machine_refines_net.proofs.MovesSettled.{made_but, told_other, quiet_held}
+use Rattle.law_machine_refines_net.proofs.MovesSettled.{made_but, meant_other, quiet_held}
 use Rattle.law_machine_refines_net.proofs.MovesFitted.{code, there, framed, waiting_here, others_before, pair_instr}
 use Rattle.law_machine_refines_net.proofs.Sends.{stays_with}
 use Rattle.law_machine_refines_net.proofs.CreditsLenders.{IsLender, IsLoops, LGiver, LTaker, LDrainer, loops_asked, lender_hands, lender_renews, lender_silent}
@@ -52,8 +53,8 @@ module _ (s : Taking) (c : Context) (con : IsContext s.fl c) (n : ℕ) (l : is_l
   abbrev net : Config
   net = net_of s
 
-  abbrev old : Stands s.fl s.p s.w s.m net
-  old = s.keeps.follows.stands
+  abbrev old : Mirrors s.fl s.p s.w s.m net
+  old = s.keeps.tracks.stands
 
   abbrev slot : ℕ
   slot = (wiring_in s.fl s.w c).slot (Opener n)
@@ -169,7 +170,7 @@ module _ (s : Taking) (c : Context) (con : IsContext s.fl c) (n : ℕ) (l : is_l
     calm : (j : Item) → Contains made j → is_credit j.inlet.part ≡ false
     calm j h = quiet_calm j.inlet.part (v.quiet j h)
 
-    not_held : (j : Item) → Contains made j → is_held j.inlet.part ≡ false
+    not_held : (j : Item) → Contains made j → is_in_cell j.inlet.part ≡ false
     not_held j h = quiet_held j.inlet.part (v.quiet j h)
 
     -- credits of this loop, and of another
@@ -236,7 +237,7 @@ module _ (s : Taking) (c : Context) (con : IsContext s.fl c) (n : ℕ) (l : is_l
       where
         counted : s.q.granted g (place c n) + granted_at s.p s.p.program g (place c n) s.m.store s.t.to ≡ granted_of d c n
         counted =
-            let a = s.keeps.follows.granted c n g con l at in let b = v.granted g (place c n) in let o = given_here in let y = v.granted_now in
+            let a = s.keeps.tracks.granted c n g con l at in let b = v.granted g (place c n) in let o = given_here in let y = v.granted_now in
             omega (arith, a, b, o, y)
 
     another : (x : Context) (m : ℕ) → IsContext s.fl x → is_loop (block_in s.fl x) m ≡ true → (x ≡ c → m ≡ n → ⊥) → Loop s d made base x m
@@ -294,7 +295,7 @@ module _ (s : Taking) (c : Context) (con : IsContext s.fl c) (n : ℕ) (l : is_l
       pool = pool_of v.account none made v.event v.pending;
       tokens =
           tokens_of v.account none (none_renewed s.fl new (λ f h. lender_renews s.fl f n f.part (v.lenders f h).1))
-          (made_but s made v.event (λ j h. told_other s.fl s.p s.w net.fired j (not_held j h)));
+          (made_but s made v.event (λ j h. meant_other s.fl s.p s.w net.fired j (not_held j h)));
       caused = λ j h i e. caused j i e (Contains-append_cases made s.others j (Contains-permutation _ _ j v.pending h));
       good = good_stay v.account not_held;
       waits = λ j t. inr (inr (inr (credit_waits j t)));

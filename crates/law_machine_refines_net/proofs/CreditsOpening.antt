@@ -21,7 +21,7 @@ use Rattle.law_net.specs.Contexts.{block_in, site_in, wiring_in}
 use Rattle.law_net.specs.ContextsCredits.{Ledger, slot_for}
 use Rattle.law_net.specs.ContextsFirings.{Config, takes, makes, times, frame_at}
 use Rattle.law_net.specs.ContextsLaws.{spot_there}
-use Rattle.law_net.specs.ContextsStands.{is_item_at, items_at, conts_of, first_cont, ledger, granted_of, KeepsCredits, is_instr}
+use Rattle.law_net.specs.ContextsMirror.{is_item_at, items_at, conts_of, first_cont, ledger, granted_of, KeepsCredits, is_instr}
 use Rattle.law_net.proofs.CreditsTaken as Taken
 use Rattle.law_net.proofs.Credits.{none_passes}
 use Rattle.law_net.proofs.RunsPigeons.{item_there}
@@ -32,7 +32,7 @@ use Rattle.law_machine_refines_net.proofs.MovesAccount.{alone_fires}
 use Rattle.law_machine_refines_net.proofs.MovesFitted.{fits, code, framed, bare, bare_item, taken_here, IsHere, plain_way}
 use Rattle.law_machine_refines_net.proofs.SendsRules as Rules
 use Rattle.law_machine_refines_net.proofs.Sends.{firing_of}
-use Rattle.law_machine_refines_net.proofs.SendsInwards.{told_as}
+use Rattle.law_machine_refines_net.proofs.SendsInwards.{carried_as}
 use Rattle.law_machine_refines_net.proofs.CreditsLenders.{AnOpener}
 use Rattle.law_machine_refines_net.proofs.CreditsBooks as Books
 use Rattle.law_machine_refines_net.proofs.CreditsBooks.{gone, Fired, one_lends, fires_follow}
@@ -49,7 +49,7 @@ module _ (s : Taking) (n : ℕ) (e : s.i.inlet.part ≡ Opener n) where
   net = net_of s
 
   abbrev t : Taking
-  t = told_as s (Opener n) e
+  t = carried_as s (Opener n) e
 
   abbrev k : ℕ
   k = Books.bound s n l

@@ -14,9 +14,9 @@ use Rattle.law_confluence.proofs.Orders.{total-IsPermutation, shuffled, Part as 
 use Rattle.law_net.specs.ContextsParts.{Part, Giver, inlet, signal, Item, item, Firing, Spot, spot_of, same_spot}
 use Rattle.law_net.specs.ContextsBlocks.{is_loop}
 use Rattle.law_net.specs.Contexts.{Wires, block_in}
-use Rattle.law_net.specs.ContextsWires.{is_given}
+use Rattle.law_net.specs.ContextsWires.{is_unwired}
 use Rattle.law_net.specs.ContextsFirings.{begins, takes, makes, given_back}
-use Rattle.law_net.specs.ContextsStands.{is_held}
+use Rattle.law_net.specs.ContextsMirror.{is_in_cell}
 use Rattle.law_net.specs.ContextsPackages.{AllFit}
 use Rattle.law_net.proofs.ContextsSames.{hits_at, hit_found, hit_counted, same_spot-refl}
 use Rattle.law_net.proofs.WiredGifts.{Gift, GHeld, GAsked, GArgument, GFanned, GEntry, GInput, GShown, GLanding, GLeaves, GDrains, GFreed, GDone, GCallDone}
@@ -24,7 +24,7 @@ use Rattle.law_net.proofs.WiredGifts.{GGiver, GTaker, GNextFramer, GNextAsked, G
 use Rattle.law_net.proofs.WiredWords.{Begins, AtEntry, AtInput, begin_cases}
 use Rattle.law_net.proofs.WiredFed.{MadeAt, ByGift, ByWire, made_at, sent_there}
 use Rattle.law_net.proofs.WiredNets.{all_born}
-use Rattle.law_net.proofs.RunsComes.{fired_fit}
+use Rattle.law_net.proofs.RunsArrives.{fired_fit}
 use Rattle.law_net.proofs.RunsPigeons.{few_pigeons}
 use Rattle.law_net.proofs.CreditsTurns.{left_at}
 use Rattle.law_machine_refines_net.specs.MovesCases.{Taking, net_of}
@@ -68,7 +68,7 @@ gift_signal fl w f i n g e = go g
 
 module _ (s : Taking) (n : ℕ) (l : is_loop (block_in s.fl s.i.context) n ≡ true) where
   pub give_signal : (j : Item) → IsHere s j → j.inlet.part ≡ Giver n → j.word ≡ signal
-  give_signal j h e = born (all_born s.fl s.w s.inputs (net_of s) s.keeps.follows.moves j (among s j h))
+  give_signal j h e = born (all_born s.fl s.w s.inputs (net_of s) s.keeps.tracks.moves j (among s j h))
     where
       begun : Begins s.inputs j → j.word ≡ signal
       begun (AtEntry q) = absurd (true≢false (sym (ap is_giver e) ∙ ap (λ (i : Item). is_giver i.inlet.part) q))
@@ -77,7 +77,7 @@ module _ (s : Taking) (n : ℕ) (l : is_loop (block_in s.fl s.i.context) n ≡ t
       made : (f : Firing) → AllFit s.fl s.w (takes s.fl f) → MadeAt s.fl s.p s.w s.good f j → j.word ≡ signal
       made f fit (ByGift g) = gift_signal s.fl s.w f j n g e
       made f fit (ByWire x) =
-          let t = sent_there s.fl s.p s.w s.good f j fit x in absurd (true≢false (sym (ap (is_given (block_in s.fl j.context)) e) ∙ t.2))
+          let t = sent_there s.fl s.p s.w s.good f j fit x in absurd (true≢false (sym (ap (is_unwired (block_in s.fl j.context)) e) ∙ t.2))
 
       born : Contains (begins s.inputs) j ⊎ ((f : Firing) × Contains (net_of s).fired f × Contains (makes s.fl s.w f) j) → j.word ≡ signal
       born (inl x) = begun (begin_cases s.inputs j x)
@@ -88,7 +88,7 @@ module _ (s : Taking) (n : ℕ) (l : is_loop (block_in s.fl s.i.context) n ≡ t
   pub give_is : (j : Item) → IsHere s j → j.context ≡ s.i.context → j.inlet.part ≡ Giver n → j ≡ item s.i.context (inlet (Giver n) Left j.inlet.way) signal
   give_is j h a e =
       let port = left_at s.fl s.p s.w s.inputs s.q s.m s.good s.keeps s.i.context (con s n l) n l j (among s j h) a (Giver n) e refl in
-      bare_item j (bare s j h (ap is_held e)) (Giver n) Left j.inlet.way e port refl
+      bare_item j (bare s j h (ap is_in_cell e)) (Giver n) Left j.inlet.way e port refl
       ∙ (λ t. item (a t) (inlet (Giver n) Left j.inlet.way) (give_signal j h e t))
 
 -- ALL OF THEM

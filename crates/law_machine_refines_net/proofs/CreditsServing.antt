@@ -20,8 +20,8 @@ use Rattle.law_net.specs.ContextsBlocks.{is_loop}
 use Rattle.law_net.specs.Contexts.{block_in}
 use Rattle.law_net.specs.ContextsCredits.{Ledger, slot_for}
 use Rattle.law_net.specs.ContextsFirings.{Config, takes, makes, times, frame_at, turn_before}
-use Rattle.law_net.specs.ContextsStands.{only, named_by, frame_of, ip_of, word_of, is_item_at, items_at, cont_in, conts_of, first_cont, ledger, granted_of}
-use Rattle.law_net.specs.ContextsStands.{KeepsCredits, WasUsed, is_held}
+use Rattle.law_net.specs.ContextsMirror.{only, named_by, frame_of, ip_of, word_of, is_item_at, items_at, cont_in, conts_of, first_cont, ledger, granted_of}
+use Rattle.law_net.specs.ContextsMirror.{KeepsCredits, WasUsed, is_in_cell}
 use Rattle.law_net.proofs.WiredNets.{only_contains}
 use Rattle.law_net.proofs.CreditsTurns.{left_at}
 use Rattle.law_net.proofs.Credits.{none_passes}
@@ -111,7 +111,8 @@ module _ (s : Taking) (n : ℕ) (e : s.i.inlet.part ≡ Giver n) (free : (Books.
       asks = item turn (inlet NextFramer Left 0) signal
 
       j_is : j ≡ item c (inlet (Taker n) Left j.inlet.way) j.word
-      j_is = bare_item j (bare s j here (ap is_held jp)) (Taker n) Left j.inlet.way jp port refl ∙ (λ t. item (jc t) (inlet (Taker n) Left j.inlet.way) j.word)
+      j_is = bare_item j (bare s j here (ap is_in_cell jp)) (Taker n) Left j.inlet.way jp port refl
+          ∙ (λ t. item (jc t) (inlet (Taker n) Left j.inlet.way) j.word)
 
       perm : IsPermutation net.waiting (j ∷ (before ++ after))
       perm = subst (λ y. IsPermutation y (j ∷ (before ++ after))) (sym order) (IsPermutation-middle before j after)
@@ -201,7 +202,7 @@ module _ (s : Taking) (n : ℕ) (e : s.i.inlet.part ≡ Giver n) (free : (Books.
       was_asked =
           let zero_is : ip_of s.fl s.p s.w turn NextFramer + 0 ≡ ip_of s.fl s.p s.w turn NextFramer = omega arith in
           subst (λ ip. WasUsed s.p s.q.steps (frame_of s.fl net.fired turn) ip Left) zero_is
-          (s.keeps.follows.asked j turn (inlet NextFramer Left 0) 0 here word_is (omega arith))
+          (s.keeps.tracks.asked j turn (inlet NextFramer Left 0) 0 here word_is (omega arith))
 
       was_left : (i : Item) → is_quiet i.inlet.part ≡ false → Contains (d.pending ++ d.waiting) i → Contains (s.others ++ left) i
       was_left i o h = was_there s (makes s.fl s.w f) left (of_made (λ (j : Item). is_quiet j.inlet.part ≡ true) refl) i o h
@@ -244,7 +245,7 @@ module _ (s : Taking) (n : ℕ) (e : s.i.inlet.part ≡ Giver n) (free : (Books.
           signals = of_made (λ (j : Item). j.word ≡ signal) refl;
           known =
               of_made (λ (j : Item). (g : ℕ) × (frame_at s.fl net.fired j.context ≡ Some g))
-              (s.keeps.follows.stands.named j turn (among s j here) (ap named_by word_is));
+              (s.keeps.tracks.stands.named j turn (among s j here) (ap named_by word_is));
           caused = λ i h a o. of_made (IsCaused s) (inr was_asked) i h;
           event = permutation_same _ _ m.0;
           state = Slot.Credits 0;

@@ -16,20 +16,20 @@ use Rattle.semantics.specs.Arcs.{UsesArc}
 use Rattle.law_confluence.proofs.Orders.{at_first, at_last}
 use Rattle.law_fresh_frames.specs.Alike.{plain_dests}
 use Rattle.law_fresh_frames.proofs.FreshArcs.{uses_new}
-use Rattle.law_net.specs.ContextsParts.{Part, Giver, Taker, Drainer, Held, Inlet, signal, item, each}
+use Rattle.law_net.specs.ContextsParts.{Part, Giver, Taker, Drainer, InCell, Inlet, signal, item, each}
 use Rattle.law_net.specs.ContextsBlocks.{side, is_switch}
 use Rattle.law_net.specs.Contexts.{code_in, wiring_in}
-use Rattle.law_net.specs.ContextsWires.{leads_to, stands_at, answered_at, is_given}
-use Rattle.law_net.specs.ContextsStands.{frame_of, token_of, is_instr}
+use Rattle.law_net.specs.ContextsWires.{leads_to, ip_and_port, answered_at, is_unwired}
+use Rattle.law_net.specs.ContextsMirror.{frame_of, token_of, is_instr}
 use Rattle.law_machine_refines_net.specs.MovesCases.{Taking, IsCaused, net_of, is_quiet}
 use Rattle.law_machine_refines_net.proofs.MovesFitted.{code, taken_here}
 use Rattle.law_machine_refines_net.proofs.SendsRules as Rules
 use Rattle.law_machine_refines_net.proofs.Sends.{dests_sent}
-use Rattle.law_machine_refines_net.proofs.SendsInwards.{told_as}
+use Rattle.law_machine_refines_net.proofs.SendsInwards.{carried_as}
 
 -- what a wire feeds is quiet
-pub fed_quiet : (b : Block ℕ) (r : Part) → is_instr r ≡ true → is_given b r ≡ false → is_quiet r ≡ true
-fed_quiet b (Held n) i e = absurd (true≢false (sym i))
+pub fed_quiet : (b : Block ℕ) (r : Part) → is_instr r ≡ true → is_unwired b r ≡ false → is_quiet r ≡ true
+fed_quiet b (InCell n) i e = absurd (true≢false (sym i))
 fed_quiet b (Giver n) i e = absurd (true≢false e)
 fed_quiet b (Taker n) i e = absurd (true≢false e)
 fed_quiet b (Drainer n) i e = absurd (true≢false e)
@@ -37,7 +37,7 @@ fed_quiet b r i e = refl
 
 module _ (s : Taking) (r : Part) (e : s.i.inlet.part ≡ r) (is : is_instr r ≡ true) (single : is_switch r ≡ false) where
   abbrev t : Taking
-  t = told_as s r e
+  t = carried_as s r e
 
   abbrev c : Context
   c = s.i.context
@@ -55,9 +55,9 @@ module _ (s : Taking) (r : Part) (e : s.i.inlet.part ≡ r) (is : is_instr r ≡
   abbrev pub Goals : List Inlet
   Goals = answered_at r ++ (wiring_in s.fl s.w c).wire (side r false)
 
-  leads : IsPermutation (map (leads_to here) dests) (map (stands_at (wiring_in s.fl s.w c)) Goals)
+  leads : IsPermutation (map (leads_to here) dests) (map (ip_and_port (wiring_in s.fl s.w c)) Goals)
   leads =
-      let stand = stands_at (wiring_in s.fl s.w c) in
+      let stand = ip_and_port (wiring_in s.fl s.w c) in
       let no_second : (wiring_in s.fl s.w c).wire (side r true) ≡ [] = (code s s.i (taken_here s)).lawful.fed.sides (side r true) (inl single) in
       let second = at_last (Rules.stood t is).is.seconds (ap (map stand) no_second) in
       at_first (map-append (leads_to here) ins.firsts ins.seconds)
@@ -66,13 +66,13 @@ module _ (s : Taking) (r : Part) (e : s.i.inlet.part ≡ r) (is : is_instr r ≡
   module _ (made : s.event.made ≡ to_all (Rules.at t is) word ins) where
     pub sent : (xs : List Inlet) → Goals ≡ xs → ((x : Inlet) → Contains xs x → is_instr x.part ≡ true)
         → IsPermutation s.event.made (map (token_of s.fl s.p s.w (net_of s).fired) (each c signal xs))
-    sent xs same are = at_first made (dests_sent t is signal dests xs (at_last leads (ap (map (stands_at (wiring_in s.fl s.w c))) same)) are)
+    sent xs same are = at_first made (dests_sent t is signal dests xs (at_last leads (ap (map (ip_and_port (wiring_in s.fl s.w c))) same)) are)
 
     -- an arc to each is used
     pub used : plain_dests ins ins.op ≡ dests → ((k : ℕ) → ins.op ≡ Ops.Give k → s.new.store.slots (frame_of s.fl (net_of s).fired c) ins.slot ≡ Empty)
         → (x : Inlet) → Contains Goals x → IsCaused s (item c x signal)
     used plain empty x h =
-        let base = first_of s.p.program (code_in s.fl s.w c) in let stand = stands_at (wiring_in s.fl s.w c) in
+        let base = first_of s.p.program (code_in s.fl s.w c) in let stand = ip_and_port (wiring_in s.fl s.w c) in
         let d = contains_mapped (leads_to here) dests (stand x)
         (Contains-permutation _ _ (stand x) (IsPermutation-sym _ _ leads) (contains_map stand Goals x h)) in
         let far : here + d.0.ahead ≡ (wiring_in s.fl s.w c).place x.part = ap (λ (q : ℕ × Port). q.0) d.2 in

@@ -93,8 +93,8 @@ module _ (s : Taking) (n : ℕ) (l : is_loop (block_in s.fl s.i.context) n ≡ t
         pick (inr x) =
             let h = Credits.firing_of s.i.context (Taker n) (net_of s).fired (omega (arith, x)) in
             let j = first_taken s.fl s.w h.0 h.0.part in
-            let come = taken_all s.fl s.p s.w s.inputs s.q s.m s.good s.keeps j (taken_in s.fl (net_of s).fired h.0 j h.1 (takes_first s.fl s.w h.0)) in
-            absurd (no_more (Credits.near_opened s.fl s.p s.w s.inputs s.q s.m s.good s.keeps s.i.context (con s n l) n l j come
+            let arrive = taken_all s.fl s.p s.w s.inputs s.q s.m s.good s.keeps j (taken_in s.fl (net_of s).fired h.0 j h.1 (takes_first s.fl s.w h.0)) in
+            absurd (no_more (Credits.near_opened s.fl s.p s.w s.inputs s.q s.m s.good s.keeps s.i.context (con s n l) n l j arrive
             (NTaker (first_context s.fl s.w h.0 h.0.part ∙ h.2) (ap (λ (r : Part). (first_taken s.fl s.w h.0 r).inlet.part) h.3))))
 
     pub none_over_yet : times s.i.context (Drained n) (net_of s).fired ≡ 0
@@ -106,10 +106,10 @@ module _ (s : Taking) (n : ℕ) (l : is_loop (block_in s.fl s.i.context) n ≡ t
         pick (inr x) =
             let h = Credits.firing_of s.i.context (Drained n) (net_of s).fired (omega (arith, x)) in
             let k = item h.0.context (inlet (Drainer n) Left h.0.turns) h.0.left in
-            let come = taken_all s.fl s.p s.w s.inputs s.q s.m s.good s.keeps k
+            let arrive = taken_all s.fl s.p s.w s.inputs s.q s.m s.good s.keeps k
             (drained_taken s.fl s.p s.w s.inputs s.q s.m s.good s.keeps s.i.context (con s n l) n l h.0 h.1 h.2 h.3) in
             absurd (no_more (Credits.given_opened s.fl s.p s.w s.inputs s.q s.m s.good s.keeps s.i.context (con s n l) n l (Drainer n) DrainReturn
-            (λ t. refl) (λ b. refl) refl k come h.2 refl))
+            (λ t. refl) (λ b. refl) refl k arrive h.2 refl))
 
 -- and where item i waits
 pub waited_perm : (s : Taking) → IsPermutation (s.others ++ (s.i ∷ (net_of s).waiting)) ((net_of s).pending ++ (net_of s).waiting)

@@ -12,16 +12,16 @@ use Rattle.tags.specs.declared.token.Port.TheVariants.{Left, Right}
 use Rattle.semantics.specs.Meaning.{Context}
 use Rattle.law_confluence.specs.OrdersTotals.{one}
 use Rattle.law_confluence.proofs.Orders.{total-append}
-use Rattle.law_net.specs.ContextsParts.{Part, Framer, Strict, Sender, Drained, Held, Drainer, Giver, Inlet, inlet, Datum, signal, Item, item, Firing, Spot}
+use Rattle.law_net.specs.ContextsParts.{Part, Framer, Strict, Sender, Drained, InCell, Drainer, Giver, Inlet, inlet, Datum, signal, Item, item, Firing, Spot}
 use Rattle.law_net.specs.ContextsParts.{spot_of, same_spot}
 use Rattle.law_net.specs.ContextsBlocks.{Side, side, waits_in, source_count, there_in}
 use Rattle.law_net.specs.Contexts.{block_in, site_in, wiring_in, IsContext, is_strict_in}
-use Rattle.law_net.specs.ContextsWires.{WaitsForAll, wait_after, wait_for, comes_at, wired_way, wired_port, is_given}
+use Rattle.law_net.specs.ContextsWires.{WaitsForAll, wait_after, wait_for, arrives_at, wired_way, wired_port, is_unwired}
 use Rattle.law_net.specs.ContextsFirings.{Config, begins, takes, own_takes, renewed, makes, both_items, right_way, arguments_from, given_back, sent_word}
 use Rattle.law_net.specs.ContextsFirings.{left_item, request_of}
 use Rattle.law_net.specs.ContextsLaws.{WordAt, Carries, port_fits, way_fits}
 use Rattle.law_net.specs.ContextsPackages.{AllFit}
-use Rattle.law_net.specs.ContextsStands.{is_held}
+use Rattle.law_net.specs.ContextsMirror.{is_in_cell}
 use Rattle.law_machine_refines_net.specs.MovesCases.{Taking, net_of}
 use Rattle.law_machine_refines_net.proofs.MovesLists.{contains_one}
 use Rattle.law_machine_refines_net.proofs.MovesFitted.{fits, bare, taken_here, lone_port, plain_way}
@@ -29,11 +29,11 @@ use Rattle.law_machine_refines_net.proofs.SendsInwards.{carried}
 use Rattle.law_net.proofs.ContextsSames.{hit_counted, hit_found}
 use Rattle.law_net.proofs.WiredSends.{first_taken, takes_first, takes_right, sent_facts, sent_along, gives_by, side_by, splits}
 use Rattle.law_net.proofs.WiredWords.{Begins, AtEntry, AtInput, begin_cases}
-use Rattle.law_net.proofs.WiredFed.{MadeAt, ByGift, ByWire, made_at, gift_unwired, Unwired, UGiven, UNot, UWay, one_feeder}
+use Rattle.law_net.proofs.WiredFed.{MadeAt, ByGift, ByWire, made_at, gift_unwired, Unwired, UUnwired, UNot, UWay, one_feeder}
 use Rattle.law_net.proofs.WiredNets.{all_of, all_born, not_twice, taken_in, total_flat, flat_contains}
 use Rattle.law_net.proofs.WiredInvoked.{lawful_at}
 use Rattle.law_net.proofs.Credits.{is_begin}
-use Rattle.law_net.proofs.RunsComes.{fired_fit}
+use Rattle.law_net.proofs.RunsArrives.{fired_fit}
 
 -- WHAT TAKES AN ARGUMENT before the call has fired: the call itself
 pub arguments_at : (c : Context) (n w i : ℕ) (vs : List Value) (j : Item) → Contains (arguments_from c n w i vs) j
@@ -100,15 +100,15 @@ module _ (s : Taking) where
 
     sent_from : (t : Side) (x : Inlet) → IsHere t.part → Contains ((wiring_in s.fl s.w c).wire t) x → is_begin x.part ≡ false → (j : Item) → Contains all j
         → spot_of j ≡ At x → FiredAlong t
-    sent_from t x here wire first j a e = born (all_born s.fl s.w s.inputs net s.keeps.follows.moves j a)
+    sent_from t x here wire first j a e = born (all_born s.fl s.w s.inputs net s.keeps.tracks.moves j a)
       where
         unwired : Unwired s.fl s.p s.w s.good c x → ⊥
         unwired u = go u ((lawful_at s.fl s.p s.w s.good c con).fed.inlets t x here wire)
           where
             go : Unwired s.fl s.p s.w s.good c x
                 → (IsHere x.part) × (wired_way x.part x.way ≡ true) × (wired_port (block_in s.fl c) x.part x.port ≡ true)
-                × (is_given (block_in s.fl c) x.part ≡ false) → ⊥
-            go (UGiven u) k = true≢false (sym u ∙ k.3)
+                × (is_unwired (block_in s.fl c) x.part ≡ false) → ⊥
+            go (UUnwired u) k = true≢false (sym u ∙ k.3)
             go (UNot u) k = true≢false (sym k.0 ∙ u)
             go (UWay u) k = true≢false (sym k.1 ∙ u)
 
@@ -168,8 +168,8 @@ module _ (s : Taking) where
       for_later zero = after_later 0
       for_later (suc m) = refl
 
-      argument_come : (m : ℕ) → m < count → (j : Item) → Contains all j → spot_of j ≡ At (wait_for n count m) → Come m
-      argument_come m l j a e =
+      argument_arrive : (m : ℕ) → m < count → (j : Item) → Contains all j → spot_of j ≡ At (wait_for n count m) → Come m
+      argument_arrive m l j a e =
           let k = law.arguments m l in also_sent k.0 (inlet (Sender n m) Right 0) k.2 (sent_from k.0 (wait_for n count m) k.1 k.3 (for_later m) j a e)
 
       -- a join
@@ -207,12 +207,12 @@ module _ (s : Taking) where
               (λ t. record { context = a t; inlet = inlet (e t) Right (right_way s.fl h.context (e t)) }),
             )
 
-      all_come : (i : ℕ) → i < count → (j : Item) → Contains all j → spot_of j ≡ At (wait_after n count i) → (m : ℕ) → m ≤ i → Come m
-      all_come zero l j a e m low = let z : 0 ≡ m = omega (arith, low) in subst Come z (argument_come 0 l j a e)
-      all_come (suc i) l j a e m low =
+      all_arrive : (i : ℕ) → i < count → (j : Item) → Contains all j → spot_of j ≡ At (wait_after n count i) → (m : ℕ) → m ≤ i → Come m
+      all_arrive zero l j a e m low = let z : 0 ≡ m = omega (arith, low) in subst Come z (argument_arrive 0 l j a e)
+      all_arrive (suc i) l j a e m low =
           let h = join_fired i l j a e in
           let left = join_left i l h.0 h.1 h.2 h.3 in let right = join_right i l h.0 h.1 h.2 h.3 in
-          pick (cases_eq (suc i) m) (λ m low. all_come i (omega (arith, l)) left.0 left.1 left.2 m low) (argument_come (suc i) l right.0 right.1 right.2)
+          pick (cases_eq (suc i) m) (λ m low. all_arrive i (omega (arith, l)) left.0 left.1 left.2 m low) (argument_arrive (suc i) l right.0 right.1 right.2)
         where
           pick : (suc i ≡ m) ⊎ (suc i ≡ m → ⊥) → ((m : ℕ) → m ≤ i → Come m) → Come (suc i) → Come m
           pick (inl z) more last = subst Come z last
@@ -286,7 +286,7 @@ module _ (s : Taking) where
             (if waits_in (block_in s.fl h.context) r then item h.context (inlet r Right (right_way s.fl h.context r)) h.right ∷ [] else []) j d)
 
         own_taken : (r : Part) → Contains (own_takes s.fl h r) j → ⊥
-        own_taken (Held k) d = on_left (ap (λ (i : Item). i.inlet.port) (sym (contains_one (request_of h) j d)))
+        own_taken (InCell k) d = on_left (ap (λ (i : Item). i.inlet.port) (sym (contains_one (request_of h) j d)))
         own_taken (Drained k) d = drained (contains_cases (item h.context (inlet (Drainer k) Left h.turns) h.left) (given_back h.context k (h.turns + 1)) j d)
           where
             drained : (item h.context (inlet (Drainer k) Left h.turns) h.left ≡ j) ⊎ Contains (given_back h.context k (h.turns + 1)) j → ⊥
@@ -327,9 +327,9 @@ module _ (s : Taking) where
       is_argument : Contains (net.pending ++ net.waiting) j → (v : Value) × (j ≡ item s.i.context (inlet (Sender n m) Right 0) (Datum v))
       is_argument here =
           let a : WordAt s.fl s.w j (Sender n m) = subst (λ (r : Part). WordAt s.fl s.w j r) jp (carried s j here) in
-          let b : Carries s.fl s.w j.context j.inlet.way (comes_at (Sender n m) Right) j.word =
-          subst (λ (q : Port). Carries s.fl s.w j.context j.inlet.way (comes_at (Sender n m) q) j.word) jr a in
-          let none = bare s j here (ap is_held jp) in
+          let b : Carries s.fl s.w j.context j.inlet.way (arrives_at (Sender n m) Right) j.word =
+          subst (λ (q : Port). Carries s.fl s.w j.context j.inlet.way (arrives_at (Sender n m) q) j.word) jr a in
+          let none = bare s j here (ap is_in_cell jp) in
           (b.0, λ t. record { context = jc t; inlet = record { part = jp t; port = jr t; way = jw t }; word = b.1 t; held = none t })
 
     pub argument_here : (m : ℕ) → m < many → (v : Value) × Contains (net.pending ++ net.waiting) (item s.i.context (inlet (Sender n m) Right 0) (Datum v))
@@ -341,9 +341,9 @@ module _ (s : Taking) where
             let up : k + 1 ≡ many = omega (arith, z) in
             let last : wait_after n many k ≡ inlet (Framer n) Left 0 =
             ap (λ t. if t then inlet (Framer n) Left 0 else inlet (Strict n (k + 1)) Left 0) (eq-eqb (k + 1) many up) in
-            let come = all_come c con n strict k (omega (arith, z)) s.i
+            let arrive = all_arrive c con n strict k (omega (arith, z)) s.i
             (Contains-append_left net.pending (net.waiting ++ flat_map (takes s.fl) net.fired) s.i pending_here)
             (framer_spot ∙ (λ t. record { context = c; inlet = sym last t })) m (omega (arith, l, z)) in
-            let here = still_here m come.0 come.2 come.1 in
-            let a = is_argument m come.0 come.2 here in
+            let here = still_here m arrive.0 arrive.2 arrive.1 in
+            let a = is_argument m arrive.0 arrive.2 here in
             (a.0, subst (Contains (net.pending ++ net.waiting)) a.1 here)

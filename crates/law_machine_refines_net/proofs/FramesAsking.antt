@@ -10,7 +10,7 @@ use Rattle.law_net.specs.ContextsPackages as Doings
 use Rattle.law_machine_refines_net.specs.MovesCases.{Taking, Followed}
 use Rattle.law_machine_refines_net.specs.Moves.{AllAskingFollow}
 use Rattle.law_machine_refines_net.proofs.MovesFitted.{fits, bare, bare_item, taken_here, lone_port, plain_way}
-use Rattle.law_machine_refines_net.proofs.SendsInwards.{told_as, carried}
+use Rattle.law_machine_refines_net.proofs.SendsInwards.{carried_as, carried}
 use Rattle.law_machine_refines_net.proofs.Hosts.{shown_follows, done_follows, freed_follows}
 use Rattle.law_machine_refines_net.proofs.FramesRequested.{plain_framer, next_framer}
 use Rattle.law_machine_refines_net.proofs.FramesStrict.{strict_follows}
@@ -21,7 +21,7 @@ use Rattle.law_net.proofs.WiredSends.{first_taken}
 -- OF A CHILD
 module _ (s : Taking) (n : ℕ) (e : s.i.inlet.part ≡ Asked n) where
   abbrev l : Taking
-  l = told_as s (Asked n) e
+  l = carried_as s (Asked n) e
 
   asked_item : item s.i.context (inlet (Asked n) Left 0) s.i.word ≡ l.i
   asked_item =
@@ -56,7 +56,7 @@ module _ (s : Taking) (n : ℕ) (e : s.i.inlet.part ≡ Asked n) where
 -- OF THE NEXT TURN
 module _ (s : Taking) (e : s.i.inlet.part ≡ NextAsked) where
   abbrev m : Taking
-  m = told_as s NextAsked e
+  m = carried_as s NextAsked e
 
   turns : is_turn s.i.context ≡ true
   turns = (fits m m.i (taken_here m)).there

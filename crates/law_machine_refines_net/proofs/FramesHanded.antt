@@ -22,7 +22,7 @@ use Rattle.law_net.specs.ContextsParts.{Freed, inlet, FrameOf, Item, item, Firin
 use Rattle.law_net.specs.Contexts.{or_zero}
 use Rattle.law_net.specs.ContextsFirings.{Config, takes, handed_to, frame_at, frame_if, frames_of, frames_if, HasFired}
 use Rattle.law_net.specs.ContextsLaws.{is_main}
-use Rattle.law_net.specs.ContextsStands.{frame_of, ip_of, word_of, token_of, only, is_held, but_cells, WasUsed, Stands}
+use Rattle.law_net.specs.ContextsMirror.{frame_of, ip_of, word_of, token_of, only, is_in_cell, but_cells, WasUsed, Mirrors}
 use Rattle.law_net.proofs.ContextsSames.{same_context-true, same_context-refl}
 use Rattle.law_machine_refines_net.specs.MovesCases.{Taking, IsCaused, net_of, Followed}
 use Rattle.law_machine_refines_net.proofs.MovesLists.{one_holds}
@@ -35,7 +35,7 @@ use Rattle.law_machine_refines_net.proofs.MovesLoops.{unlent, unlent_loops}
 use Rattle.law_machine_refines_net.proofs.MovesBalanced.{Sound, balanced}
 use Rattle.law_machine_refines_net.proofs.MovesPlain.{is_silent, AreSilent, Recalled, good_stay, slots_stay, requests_stay, readers_stay, silent_seen}
 use Rattle.law_machine_refines_net.proofs.MovesPlain.{silent_ends, done_stays, fired_still, fired_before}
-use Rattle.law_machine_refines_net.proofs.MovesSettled.{rest_is, cells_out, told_other, nh}
+use Rattle.law_machine_refines_net.proofs.MovesSettled.{rest_is, cells_out, meant_other, nh}
 use Rattle.law_machine_refines_net.proofs.MovesFitted.{framed, taken_here, others_before, instr_held}
 use Rattle.law_machine_refines_net.proofs.Hosts.{frame_among}
 use Rattle.law_machine_refines_net.proofs.FramesUnframed.{no_firing}
@@ -66,8 +66,8 @@ module _ (s : Taking) (k : Hands s) (g : ℕ) (made : s.event.made ≡ answer (c
   abbrev net : Config
   net = net_of s
 
-  abbrev old : Stands s.fl s.p s.w s.m net
-  old = s.keeps.follows.stands
+  abbrev old : Mirrors s.fl s.p s.w s.m net
+  old = s.keeps.tracks.stands
 
   abbrev c : Context
   c = s.i.context
@@ -83,7 +83,7 @@ module _ (s : Taking) (k : Hands s) (g : ℕ) (made : s.event.made ≡ answer (c
   handed_now = (λ t. handed_by (to_manager s k t) (made t))
 
   not_handed : Contains (0 ∷ frames_of s.fl net.fired) g → ⊥
-  not_handed h = s.fresh g (subst (λ l. Contains l g) (sym handed_now) (contains_head g [])) (s.keeps.follows.handed g h)
+  not_handed h = s.fresh g (subst (λ l. Contains l g) (sym handed_now) (contains_head g [])) (s.keeps.tracks.handed g h)
 
   nobodys : (d : Context) → frame_at s.fl net.fired d ≡ Some g → ⊥
   nobodys d e = not_handed (frame_among s.fl net.fired d g e)
@@ -164,12 +164,12 @@ module _ (s : Taking) (k : Hands s) (g : ℕ) (made : s.event.made ≡ answer (c
   answered_arc : IsCaused s one
   answered_arc =
       let row = k.row in
-      let u = s.keeps.follows.asked s.i c (inlet k.answered Left 0) 0 (taken_here s) k.word (omega (arith, row)) in
+      let u = s.keeps.tracks.asked s.i c (inlet k.answered Left 0) 0 (taken_here s) k.word (omega (arith, row)) in
       let z : ip_of s.fl s.p s.w c k.answered + 0 ≡ ip_of s.fl s.p s.w c k.answered = omega arith in
       inr (subst (λ ip. WasUsed s.p s.q.steps (frame_of s.fl net.fired c) ip Left) z u)
 
-  not_held : (j : Item) → Contains (one ∷ []) j → is_held j.inlet.part ≡ false
-  not_held = one_holds (λ (j : Item). is_held j.inlet.part ≡ false) one (instr_held k.answered k.is)
+  not_held : (j : Item) → Contains (one ∷ []) j → is_in_cell j.inlet.part ≡ false
+  not_held = one_holds (λ (j : Item). is_in_cell j.inlet.part ≡ false) one (instr_held k.answered k.is)
 
   -- THE STORE
   silent : AreSilent (f ∷ [])
@@ -204,7 +204,7 @@ module _ (s : Taking) (k : Hands s) (g : ℕ) (made : s.event.made ≡ answer (c
     tokens =
         at_first (ap (λ l. map (token_of s.fl s.p s.w grown.fired) (only (nh s) (l ++ [])) ++ but_cells s.event.made) (k.renews g))
         (permutation_same _ _ (ap but_cells given_token
-        ∙ cells_out s.fl s.p s.w grown.fired (one ∷ []) (λ j h. told_other s.fl s.p s.w grown.fired j (not_held j h))));
+        ∙ cells_out s.fl s.p s.w grown.fired (one ∷ []) (λ j h. meant_other s.fl s.p s.w grown.fired j (not_held j h))));
     caused = λ j h i e. caused j (contains_cases one s.others j (subst (λ l. Contains (l ++ s.others) j) (k.makes_is g) h));
     good = good_stay account not_held;
     waits = λ j t. absurd t;

@@ -15,7 +15,7 @@ use Rattle.law_net.specs.ContextsParts.{Part, Asked, NextAsked, inlet, BackTo, F
 use Rattle.law_net.specs.ContextsBlocks.{waits_in}
 use Rattle.law_net.specs.ContextsFirings.{frame_at, frames_of, handed_to, makes, own_takes, renewed, IsProper}
 use Rattle.law_net.specs.ContextsLaws.{is_main}
-use Rattle.law_net.specs.ContextsStands.{frame_of, ip_of, word_of, row_of, reads, is_asked, is_instr}
+use Rattle.law_net.specs.ContextsMirror.{frame_of, ip_of, word_of, row_of, reads, is_asked, is_instr}
 use Rattle.law_machine_refines_net.specs.MovesCases.{Taking, net_of, IsFree}
 use Rattle.law_machine_refines_net.proofs.MovesParts.{is_credit, is_lending}
 use Rattle.law_machine_refines_net.proofs.MovesPlain.{is_silent}

@@ -6,7 +6,7 @@ use Rattle.std.proofs.lemmas.List.Sorted.{IsPermutation-refl, IsPermutation-tran
 use Rattle.lemmas.proofs.Contains.{contains_cases, contains_head, contains_none, contains_tail}
 use Rattle.law_confluence.proofs.Orders.{at_first}
 use Rattle.law_net.specs.ContextsParts.{Item, Firing}
-use Rattle.law_net.specs.ContextsStands.{only}
+use Rattle.law_net.specs.ContextsMirror.{only}
 use Rattle.law_machine_refines_net.specs.MovesCases.{Taking}
 use Rattle.law_machine_refines_net.proofs.MovesLists.{kept_but, taken_out}
 use Rattle.law_machine_refines_net.proofs.MovesAccount.{Account, item_waits}

@@ -9,7 +9,7 @@ use Rattle.law_confluence.proofs.Orders.{shuffled, Part as Piece, ◌⊕◌, at_
 use Rattle.law_net.specs.ContextsParts.{Item}
 use Rattle.law_net.specs.Contexts.{block_in}
 use Rattle.law_net.specs.ContextsFirings.{Config}
-use Rattle.law_net.specs.ContextsStands.{only, is_asked, cont_in, conts_of, but_cells, Stands}
+use Rattle.law_net.specs.ContextsMirror.{only, is_asked, cont_in, conts_of, but_cells, Mirrors}
 use Rattle.law_machine_refines_net.specs.MovesCases.{Taking, net_of, Followed}
 use Rattle.law_machine_refines_net.proofs.MovesLists.{kept_yes}
 use Rattle.law_machine_refines_net.proofs.MovesAccount.{Account, no_move, item_waits}
@@ -26,8 +26,8 @@ module _ (s : Taking) (k : Hands s) (none : s.event.made ≡ [])
   abbrev net : Config
   net = net_of s
 
-  abbrev old : Stands s.fl s.p s.w s.m net
-  old = s.keeps.follows.stands
+  abbrev old : Mirrors s.fl s.p s.w s.m net
+  old = s.keeps.tracks.stands
 
   abbrev queued : Config
   queued = record { pending = s.others; waiting = s.i ∷ net.waiting; fired = net.fired }

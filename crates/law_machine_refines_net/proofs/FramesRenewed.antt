@@ -16,15 +16,15 @@ use Rattle.semantics.specs.Meaning.{Context}
 use Rattle.semantics.specs.Plan.{Plan}
 use Rattle.semantics.specs.Rule.{token}
 use Rattle.law_confluence.proofs.Orders.{shuffled, Part as Piece, ◌⊕◌, at_first, at_last}
-use Rattle.law_net.specs.ContextsParts.{Part, Framer, Fanned, Sender, Asked, NextAsked, Held, Shown, Done, Freed, inlet, Datum, signal, Item, item, Firing}
+use Rattle.law_net.specs.ContextsParts.{Part, Framer, Fanned, Sender, Asked, NextAsked, InCell, Shown, Done, Freed, inlet, Datum, signal, Item, item, Firing}
 use Rattle.law_net.specs.ContextsBlocks.{source_count, waits_in}
 use Rattle.law_net.specs.Contexts.{Wires, block_in, is_strict_in}
 use Rattle.law_net.specs.ContextsFirings.{Config, takes, makes, arguments_from, IsProper}
-use Rattle.law_net.specs.ContextsStands.{word_of, to_of, token_of, in_slot}
+use Rattle.law_net.specs.ContextsMirror.{word_of, to_of, token_of, in_slot}
 use Rattle.law_machine_refines_net.specs.MovesCases.{Taking, net_of}
 use Rattle.law_machine_refines_net.proofs.MovesAccount.{Account, no_move, part_fires, reordered}
 use Rattle.law_machine_refines_net.proofs.MovesFitted.{fits, bare, bare_item, taken_here, lone_port, plain_way}
-use Rattle.law_machine_refines_net.proofs.SendsInwards.{told_as}
+use Rattle.law_machine_refines_net.proofs.SendsInwards.{carried_as}
 use Rattle.law_machine_refines_net.proofs.FramesWanted.{Wants, request}
 use Rattle.law_machine_refines_net.proofs.FramesArgued.{arguments_at, argument_here}
 use Rattle.law_machine_refines_net.proofs.FramesParted.{Apart, Split, split, Waited, wait_each}
@@ -49,7 +49,7 @@ module _ (fl : Flow) (p : Plan) (w : Wires) (fired : List Firing) where
   to_up : (i : Item) (r : Part) → to_of fl p w fired (up i) r ≡ to_of fl p w fired i r
   to_up i (Asked n) = refl
   to_up i NextAsked = refl
-  to_up i (Held n) = refl
+  to_up i (InCell n) = refl
   to_up i (Shown n) = refl
   to_up i Done = refl
   to_up i Freed = refl
@@ -64,7 +64,7 @@ module _ (fl : Flow) (p : Plan) (w : Wires) (fired : List Firing) where
 
 module _ (s0 : Taking) (n : ℕ) (e : s0.i.inlet.part ≡ Framer n) (strict : is_strict_in s0.fl s0.i.context n ≡ true) where
   abbrev pub framing : Taking
-  framing = told_as s0 (Framer n) e
+  framing = carried_as s0 (Framer n) e
 
   abbrev s : Taking
   s = framing
@@ -78,11 +78,11 @@ module _ (s0 : Taking) (n : ℕ) (e : s0.i.inlet.part ≡ Framer n) (strict : is
   abbrev count : ℕ
   count = source_count (block_in s0.fl s0.i.context) n
 
-  abbrev pub framer_wants : Wants (told_as s0 (Framer n) e)
+  abbrev pub framer_wants : Wants (carried_as s0 (Framer n) e)
   framer_wants = record { asked = Asked n; answered = Fanned n; one = refl; is = refl; op = refl; leads = refl; no_wire = refl; seek = refl; row = refl }
 
   abbrev pub ask : Item
-  ask = request (told_as s0 (Framer n) e) framer_wants
+  ask = request (carried_as s0 (Framer n) e) framer_wants
 
   framer_item : item s0.i.context (inlet (Framer n) Left 0) s0.i.word ≡ s.i
   framer_item =

@@ -11,7 +11,7 @@ use Rattle.law_net.specs.ContextsParts.{Part, Framer, NextFramer, Fanned, NextFa
 use Rattle.law_net.specs.ContextsBlocks.{source_count}
 use Rattle.law_net.specs.Contexts.{block_in, is_strict_in}
 use Rattle.law_net.specs.ContextsFirings.{Config, takes, own_takes, renewed, makes, handed_to, frame_at, IsProper}
-use Rattle.law_net.specs.ContextsStands.{token_of, named_by, is_held, is_instr, Stands}
+use Rattle.law_net.specs.ContextsMirror.{token_of, named_by, is_in_cell, is_instr, Mirrors}
 use Rattle.law_machine_refines_net.specs.MovesCases.{Taking, IsCaused, net_of, Followed}
 use Rattle.law_machine_refines_net.proofs.MovesLists.{one_holds}
 use Rattle.law_machine_refines_net.proofs.MovesParts.{is_credit, is_lending}
@@ -21,10 +21,10 @@ use Rattle.law_machine_refines_net.proofs.MovesLoops.{unlent, unlent_loops}
 use Rattle.law_machine_refines_net.proofs.MovesBalanced.{WasThere, UsedNow, Sound, balanced}
 use Rattle.law_machine_refines_net.proofs.MovesPlain.{is_silent, instr_silent, words_stay, pool_of, tokens_of, sound_of, good_stay, slots_stay, requests_stay}
 use Rattle.law_machine_refines_net.proofs.MovesPlain.{readers_stay, memory_of_silent, recalls}
-use Rattle.law_machine_refines_net.proofs.MovesSettled.{made_but, told_other}
+use Rattle.law_machine_refines_net.proofs.MovesSettled.{made_but, meant_other}
 use Rattle.law_machine_refines_net.proofs.MovesFitted.{fits, framed, bare, bare_item, taken_here, lone_port, plain_way, others_before}
 use Rattle.law_machine_refines_net.proofs.Sends.{firing_of, stays_same}
-use Rattle.law_machine_refines_net.proofs.SendsInwards.{told_as}
+use Rattle.law_machine_refines_net.proofs.SendsInwards.{carried_as}
 use Rattle.law_machine_refines_net.proofs.FramesWanted.{Wants, back, request, did, made_token, used_now, wants_free, asked_calm, asked_held, asked_instr}
 
 -- A PART THAT ASKS for a frame, and what fires
@@ -41,8 +41,8 @@ module _ (s : Taking) (g : Seeks s) where
   abbrev net : Config
   net = net_of s
 
-  abbrev old : Stands s.fl s.p s.w s.m net
-  old = s.keeps.follows.stands
+  abbrev old : Mirrors s.fl s.p s.w s.m net
+  old = s.keeps.tracks.stands
 
   abbrev c : Context
   c = s.i.context
@@ -85,8 +85,8 @@ module _ (s : Taking) (g : Seeks s) where
   made_is : IsPermutation s.event.made (map (token_of s.fl s.p s.w net.fired) (ask ∷ []))
   made_is = permutation_same _ _ (made_token s g.wants)
 
-  not_held : (j : Item) → Contains (ask ∷ []) j → is_held j.inlet.part ≡ false
-  not_held = of_request (λ (j : Item). is_held j.inlet.part ≡ false) (asked_held g.wants.asked g.wants.seek)
+  not_held : (j : Item) → Contains (ask ∷ []) j → is_in_cell j.inlet.part ≡ false
+  not_held = of_request (λ (j : Item). is_in_cell j.inlet.part ≡ false) (asked_held g.wants.asked g.wants.seek)
 
   pub frame_follows : Followed s
   frame_follows = balanced {T = Nothing s} {d = after_it} {new = f ∷ []} {made = ask ∷ []} (record {
@@ -102,7 +102,7 @@ module _ (s : Taking) (g : Seeks s) where
     sound = of_request (Sound s after_it) sound;
     pool = pool_of account none (ask ∷ []) made_is (permutation_same _ _ (ap (λ l. l ++ s.others) g.makes_is));
     tokens =
-        tokens_of account none (ap (λ l. l ++ []) g.renews) (made_but s (ask ∷ []) made_is (λ j h. told_other s.fl s.p s.w net.fired j (not_held j h)));
+        tokens_of account none (ap (λ l. l ++ []) g.renews) (made_but s (ask ∷ []) made_is (λ j h. meant_other s.fl s.p s.w net.fired j (not_held j h)));
     caused = λ j h i e. caused j i (Contains-append_cases (makes s.fl s.w f) s.others j h);
     good = good_stay account not_held;
     waits = λ j t. absurd t;
@@ -123,7 +123,7 @@ module _ (s : Taking) (g : Seeks s) where
 -- A CALL OR A LOOP that waits for no arguments
 module _ (s : Taking) (n : ℕ) (e : s.i.inlet.part ≡ Framer n) (plain : is_strict_in s.fl s.i.context n ≡ false) where
   abbrev framer : Taking
-  framer = told_as s (Framer n) e
+  framer = carried_as s (Framer n) e
 
   framer_item : item s.i.context (inlet (Framer n) Left 0) s.i.word ≡ framer.i
   framer_item =
@@ -154,7 +154,7 @@ module _ (s : Taking) (n : ℕ) (e : s.i.inlet.part ≡ Framer n) (plain : is_st
 -- THE NEXT TURN
 module _ (s : Taking) (e : s.i.inlet.part ≡ NextFramer) where
   abbrev turner : Taking
-  turner = told_as s NextFramer e
+  turner = carried_as s NextFramer e
 
   turner_item : item s.i.context (inlet NextFramer Left 0) s.i.word ≡ turner.i
   turner_item =

@@ -17,8 +17,8 @@ use Rattle.law_confluence.proofs.Orders.{shuffled, Part as Piece, ◌⊕◌, at_
 use Rattle.law_net.specs.ContextsParts.{Part, Framer, Fanned, Sender, Inlet, inlet, BackTo, Item, Firing}
 use Rattle.law_net.specs.Contexts.{block_in, is_strict_in}
 use Rattle.law_net.specs.ContextsFirings.{Config, frame_at, handed_to, renewed}
-use Rattle.law_net.specs.ContextsStands.{frame_of, word_of, token_of, on_side, in_slot, slot_of, only, named_by, is_held, is_instr, is_entry_part, but_cells}
-use Rattle.law_net.specs.ContextsStands.{Stands}
+use Rattle.law_net.specs.ContextsMirror.{frame_of, word_of, token_of, on_side, in_slot, slot_of, only, named_by, is_in_cell, is_instr, is_entry_part, but_cells}
+use Rattle.law_net.specs.ContextsMirror.{Mirrors}
 use Rattle.law_machine_refines_net.specs.MovesCases.{Taking, net_of, Followed, IsCaused}
 use Rattle.law_machine_refines_net.proofs.MovesLists.{contains_one, kept_in, kept_out, one_holds}
 use Rattle.law_machine_refines_net.proofs.MovesParts.{is_credit, is_lending, quiet_calm, pair_quiet, pair_asked, pair_reads}
@@ -28,7 +28,7 @@ use Rattle.law_machine_refines_net.proofs.MovesLoops.{Unlent, unlent, unlent_loo
 use Rattle.law_machine_refines_net.proofs.MovesBalanced.{UsedNow, Sound, WasThere, balanced}
 use Rattle.law_machine_refines_net.proofs.MovesPlain.{Stays, is_silent, words_stay, tokens_stay, sound_of, good_stay, requests_stay, readers_stay}
 use Rattle.law_machine_refines_net.proofs.MovesPlain.{memory_of_silent, recalls}
-use Rattle.law_machine_refines_net.proofs.MovesSettled.{rest_is, made_but, told_other, nh}
+use Rattle.law_machine_refines_net.proofs.MovesSettled.{rest_is, made_but, meant_other, nh}
 use Rattle.law_machine_refines_net.proofs.MovesFitted.{framed, taken_here, among}
 use Rattle.law_machine_refines_net.proofs.Sends.{stays_same}
 use Rattle.law_machine_refines_net.proofs.FramesWanted.{did, made_token, used_now, wants_free}
@@ -42,8 +42,8 @@ module _ (s0 : Taking) (n : ℕ) (e : s0.i.inlet.part ≡ Framer n) (strict : is
   abbrev net : Config
   net = net_of s
 
-  abbrev old : Stands s.fl s.p s.w s.m net
-  old = s.keeps.follows.stands
+  abbrev old : Mirrors s.fl s.p s.w s.m net
+  old = s.keeps.tracks.stands
 
   abbrev c : Context
   c = s0.i.context
@@ -147,8 +147,8 @@ module _ (s0 : Taking) (n : ℕ) (e : s0.i.inlet.part ≡ Framer n) (strict : is
   of_part : (P : Part → Type 0) → ((m : ℕ) → P (Sender n m)) → (x : Item) → Contains args x → P (up x).inlet.part
   of_part P each x h = let k = Renewed.arg_part s0 n e strict x h in subst P (sym k.1) (each k.0)
 
-  not_held : (j : Item) → Contains (ask ∷ map up args) j → is_held j.inlet.part ≡ false
-  not_held = of_made (λ (j : Item). is_held j.inlet.part ≡ false) refl (of_part (λ r. is_held r ≡ false) (λ m. refl))
+  not_held : (j : Item) → Contains (ask ∷ map up args) j → is_in_cell j.inlet.part ≡ false
+  not_held = of_made (λ (j : Item). is_in_cell j.inlet.part ≡ false) refl (of_part (λ r. is_in_cell r ≡ false) (λ m. refl))
 
   pool : IsPermutation s.new.pool (map (token_of s.fl s.p s.w new.fired) new.pending)
   pool =
@@ -178,7 +178,7 @@ module _ (s0 : Taking) (n : ℕ) (e : s0.i.inlet.part ≡ Framer n) (strict : is
       let a : renews s.fl (f ∷ []) ≡ args = append-nil (renewed s.fl f f.part) ∙ (λ t. if strict t then args else []) in
       let b = tokens_stay account none (only (nh s) (renews s.fl (f ∷ []))) ∙ ap (λ l. map tok (only (nh s) l)) a in
       let d = made_but s (ask ∷ []) (permutation_same _ _ (made_token s (framer_wants s0 n e strict)))
-      (λ j h. told_other s.fl s.p s.w net.fired j (ap (λ (i : Item). is_held i.inlet.part) (sym (contains_one ask j h)))) in
+      (λ j h. meant_other s.fl s.p s.w net.fired j (ap (λ (i : Item). is_in_cell i.inlet.part) (sym (contains_one ask j h)))) in
       let g = tokens_stay account none (only (nh s) (ask ∷ map up args)) ∙ ap (λ l. tok ask ∷ l) (arguments_stay args) in
       at_first (ap (λ l. l ++ but_cells s.event.made) b) (at_last (IsPermutation-trans _ _ _ (IsPermutation-append_right R _ _ d)
       (shuffled (R ∷ (tok ask ∷ []) ∷ []) (Piece 0 ⊕ Piece 1) (Piece 1 ⊕ Piece 0) refl)) (sym g))
@@ -190,7 +190,7 @@ module _ (s0 : Taking) (n : ℕ) (e : s0.i.inlet.part ≡ Framer n) (strict : is
   caused j i k (inr (x, a, inr b)) =
       let i' = back_from (λ (i : Item). is_instr i.inlet.part ≡ true) (λ y h. h) x j (inr b) i in
       let k' = back_from (λ (i : Item). is_entry_part (block_in s.fl i.context) i.inlet.part ≡ false) (λ y h. h) x j (inr b) k in
-      inr (subst (IsCaused s) b.1 (inr (s.keeps.follows.caused x a i' k')))
+      inr (subst (IsCaused s) b.1 (inr (s.keeps.tracks.caused x a i' k')))
 
   unlent_here : Unlent s Kind new (f ∷ []) (ask ∷ map up args)
   unlent_here = unlent s Kind new (f ∷ []) (ask ∷ map up args) (wants_free s (framer_wants s0 n e strict))

@@ -15,13 +15,13 @@ use Rattle.law_net.specs.ContextsBlocks.{is_loop}
 use Rattle.law_net.specs.Contexts.{block_in, child, next}
 use Rattle.law_net.specs.ContextsFirings.{Config, takes, handed_to, frame_at, frame_if, times}
 use Rattle.law_net.specs.ContextsLaws.{is_main, spot_there}
-use Rattle.law_net.specs.ContextsStands.{is_item_at, items_at, came, Stands}
+use Rattle.law_net.specs.ContextsMirror.{is_item_at, items_at, came, Mirrors}
 use Rattle.law_machine_refines_net.specs.MovesCases.{Taking, net_of}
 use Rattle.law_machine_refines_net.proofs.MovesLists.{count_none}
 use Rattle.law_net.proofs.ContextsSames.{same_context-true}
 use Rattle.law_net.proofs.WiredSends.{first_taken, takes_first, first_context, part_there}
 use Rattle.law_net.proofs.WiredNets.{not_twice, taken_in, came_all}
-use Rattle.law_net.proofs.RunsComes.{fired_fit}
+use Rattle.law_net.proofs.RunsArrives.{fired_fit}
 use Rattle.law_net.proofs.RunsPigeons.{item_there}
 use Rattle.law_net.proofs.Credits.{firing_of as some_firing_of}
 
@@ -110,8 +110,8 @@ module _ (s : Taking) where
   abbrev net : Config
   net = net_of s
 
-  abbrev old : Stands s.fl s.p s.w s.m net
-  old = s.keeps.follows.stands
+  abbrev old : Mirrors s.fl s.p s.w s.m net
+  old = s.keeps.tracks.stands
 
   took : (h : Firing) → Contains net.fired h → Contains (flat_map (takes s.fl) net.fired) (first_taken s.fl s.w h h.part)
   took h d = taken_in s.fl net.fired h (first_taken s.fl s.w h h.part) d (takes_first s.fl s.w h)

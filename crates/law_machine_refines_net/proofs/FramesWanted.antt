@@ -28,9 +28,9 @@ use Rattle.law_fresh_frames.proofs.FreshArcs.{dest_arc}
 use Rattle.law_net.specs.ContextsParts.{Part, Asked, NextAsked, inlet, Note, BackTo, Item, item, Firing}
 use Rattle.law_net.specs.ContextsBlocks.{side, waits_in, op_of}
 use Rattle.law_net.specs.Contexts.{Wires, block_in, code_in, site_in, wiring_in}
-use Rattle.law_net.specs.ContextsWires.{leads_to, stands_at, answered_at, has_no_wire}
+use Rattle.law_net.specs.ContextsWires.{leads_to, ip_and_port, answered_at, has_no_wire}
 use Rattle.law_net.specs.ContextsFirings.{Config}
-use Rattle.law_net.specs.ContextsStands.{frame_of, ip_of, word_of, to_of, token_of, is_asked, is_held, is_instr, row_of}
+use Rattle.law_net.specs.ContextsMirror.{frame_of, ip_of, word_of, to_of, token_of, is_asked, is_in_cell, is_instr, row_of}
 use Rattle.law_machine_refines_net.specs.MovesCases.{Taking, net_of, IsFree}
 use Rattle.law_machine_refines_net.proofs.MovesParts.{is_credit}
 use Rattle.law_machine_refines_net.proofs.MovesBalanced.{UsedNow}
@@ -44,7 +44,7 @@ asked_calm (Asked n) e = refl
 asked_calm NextAsked e = refl
 asked_calm r e = absurd (true≢false (sym e))
 
-pub asked_held : (r : Part) → is_asked r ≡ true → is_held r ≡ false
+pub asked_held : (r : Part) → is_asked r ≡ true → is_in_cell r ≡ false
 asked_held (Asked n) e = refl
 asked_held NextAsked e = refl
 asked_held r e = absurd (true≢false (sym e))
@@ -108,9 +108,9 @@ module _ (s : Taking) (g : Wants s) where
       subst (λ (o : Op). Fires s.m.store frame None (fires Empty (fire_one s.p.program (at s g.is) ins o W)) s.event.made s.new.store) op_is b
 
   -- its one destination
-  dest : (d : Dest) × (ins.firsts ≡ d ∷ []) × (stands_at (wiring_in s.fl s.w c) (inlet g.answered Left 0) ≡ leads_to ((wiring_in s.fl s.w c).place r) d)
+  dest : (d : Dest) × (ins.firsts ≡ d ∷ []) × (ip_and_port (wiring_in s.fl s.w c) (inlet g.answered Left 0) ≡ leads_to ((wiring_in s.fl s.w c).place r) d)
   dest =
-      let stand = stands_at (wiring_in s.fl s.w c) in
+      let stand = ip_and_port (wiring_in s.fl s.w c) in
       let none = (code s s.i (taken_here s)).lawful.fed.sides (side r false) (inr g.no_wire) in
       let perm = at_last (stood s g.is).is.firsts (λ t. map stand (g.leads t ++ none t)) in
       one_image (leads_to ((wiring_in s.fl s.w c).place r)) (stand (inlet g.answered Left 0)) ins.firsts (IsPermutation-sym _ _ perm)

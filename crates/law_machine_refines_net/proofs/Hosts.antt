@@ -26,7 +26,7 @@ use Rattle.law_net.specs.Contexts.{Wires, block_in, or_zero}
 use Rattle.law_net.specs.ContextsFirings.{Config, takes, makes, frame_at, frame_if, frames_of, frames_if, handed_to, HasFired, memory_of}
 use Rattle.law_net.specs.ContextsFirings as Firings
 use Rattle.law_net.specs.ContextsLaws.{is_main}
-use Rattle.law_net.specs.ContextsStands.{frame_of, word_of, token_of, on_side, in_slot, slot_of, only, Stands}
+use Rattle.law_net.specs.ContextsMirror.{frame_of, word_of, token_of, on_side, in_slot, slot_of, only, Mirrors}
 use Rattle.law_net.specs.ContextsTheorem.{IsGood}
 use Rattle.law_net.proofs.ContextsBlocks.{is_main_true}
 use Rattle.law_machine_refines_net.specs.MovesCases.{Taking, net_of, Followed, IsFree, Shows, is_still}
@@ -34,7 +34,7 @@ use Rattle.law_machine_refines_net.proofs.MovesSites.{coded}
 use Rattle.law_machine_refines_net.proofs.MovesGoes.{goes_follow}
 use Rattle.law_machine_refines_net.proofs.MovesFitted.{fits, framed, bare, bare_item, taken_here, lone_port, plain_way}
 use Rattle.law_machine_refines_net.proofs.Sends.{firing_of, fired_before, fired_now}
-use Rattle.law_machine_refines_net.proofs.SendsInwards.{told_as}
+use Rattle.law_machine_refines_net.proofs.SendsInwards.{carried_as}
 
 -- main's results
 pub outputs_are : (fl : Flow) (p : Plan) (w : Wires) → IsGood fl p w → outputs_of p.program ≡ (block_in fl Main).outputs
@@ -80,8 +80,8 @@ module _ (s : Taking) where
   abbrev net : Config
   net = net_of s
 
-  abbrev old : Stands s.fl s.p s.w s.m net
-  old = s.keeps.follows.stands
+  abbrev old : Mirrors s.fl s.p s.w s.m net
+  old = s.keeps.tracks.stands
 
   abbrev f : Firing
   f = firing_of s 0 s.i.word signal
@@ -132,7 +132,7 @@ free_release s g e = record {
 -- A RESULT that comes to the host
 module _ (s : Taking) (j : ℕ) (e : s.i.inlet.part ≡ Shown j) where
   abbrev shown : Taking
-  shown = told_as s (Shown j) e
+  shown = carried_as s (Shown j) e
 
   shown_there : (is_main s.i.context && nat_lt j (block_in s.fl s.i.context).outputs) ≡ true
   shown_there = (fits shown shown.i (taken_here shown)).there
@@ -189,7 +189,7 @@ module _ (s : Taking) (j : ℕ) (e : s.i.inlet.part ≡ Shown j) where
 -- THE END OF THE RUN
 module _ (s : Taking) (e : s.i.inlet.part ≡ Done) where
   abbrev ending : Taking
-  ending = told_as s Done e
+  ending = carried_as s Done e
 
   ending_item : takes s.fl (firing_of ending 0 s.i.word signal) ≡ ending.i ∷ []
   ending_item =
@@ -232,7 +232,7 @@ module _ (s : Taking) (e : s.i.inlet.part ≡ Done) where
 -- A FRAME that comes back
 module _ (s : Taking) (e : s.i.inlet.part ≡ Freed) where
   abbrev leaving : Taking
-  leaving = told_as s Freed e
+  leaving = carried_as s Freed e
 
   abbrev own : ℕ
   own = frame_of s.fl (net_of s).fired s.i.context
@@ -255,7 +255,7 @@ module _ (s : Taking) (e : s.i.inlet.part ≡ Freed) where
   own_is = let k = framed s s.i (taken_here s) in k.1 ∙ ap (λ n. Some n) (sym (ap or_zero k.1))
 
   handed_before : Contains s.q.handed own
-  handed_before = s.keeps.follows.handed own (frame_among s.fl (net_of s).fired s.i.context own own_is)
+  handed_before = s.keeps.tracks.handed own (frame_among s.fl (net_of s).fired s.i.context own own_is)
 
   -- so no request is served
   none_served : (k : Cont) → s.event.made ≡ answer k (Word.Frame own) ∷ [] → ⊥

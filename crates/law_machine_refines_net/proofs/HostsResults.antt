@@ -21,8 +21,8 @@ use Rattle.law_fresh_frames.specs.Alike.{plain_dests}
 use Rattle.law_net.specs.ContextsParts.{Result, End, Shown, Done, Freed, inlet, Note, Datum, FrameOf, BackTo, ToHost, signal, Item, item, each}
 use Rattle.law_net.specs.ContextsBlocks.{side}
 use Rattle.law_net.specs.Contexts.{block_in, wiring_in}
-use Rattle.law_net.specs.ContextsWires.{stands_at}
-use Rattle.law_net.specs.ContextsStands.{frame_of, word_of, slot_of, named_by, is_instr}
+use Rattle.law_net.specs.ContextsWires.{ip_and_port}
+use Rattle.law_net.specs.ContextsMirror.{frame_of, word_of, slot_of, named_by, is_instr}
 use Rattle.law_machine_refines_net.specs.MovesCases.{Taking, net_of, Followed, IsFree}
 use Rattle.law_machine_refines_net.proofs.MovesLists.{contains_one, one_holds}
 use Rattle.law_machine_refines_net.proofs.MovesParts.{is_credit}
@@ -32,7 +32,7 @@ use Rattle.law_machine_refines_net.proofs.SendsPairs as Pairs
 use Rattle.law_machine_refines_net.proofs.SendsPairs.{Second, dyadic, left_here, right_here}
 use Rattle.law_machine_refines_net.proofs.Sends.{Wire}
 use Rattle.law_machine_refines_net.proofs.SendsAlong.{both, all_lead, pair_follows}
-use Rattle.law_machine_refines_net.proofs.SendsInwards.{told_at, carried}
+use Rattle.law_machine_refines_net.proofs.SendsInwards.{meant_at, carried}
 use Rattle.law_machine_refines_net.proofs.Hosts.{outputs_are}
 use Rattle.law_machine_refines_net.proofs.OutwardsPassed.{Sent, free_counted}
 use Rattle.law_machine_refines_net.proofs.OutwardsCrossing.{crosses_follow}
@@ -40,7 +40,7 @@ use Rattle.law_machine_refines_net.proofs.OutwardsCrossing.{crosses_follow}
 -- A RESULT of main
 module _ (s : Taking) (j : ℕ) (in_main : s.i.context ≡ Main) (e : s.i.inlet.part ≡ Result j) where
   abbrev l : Taking
-  l = told_at s Main (Result j) in_main e
+  l = meant_at s Main (Result j) in_main e
 
   abbrev is_result : is_instr (Result j) ≡ true
   is_result = Pairs.is l refl refl
@@ -49,12 +49,12 @@ module _ (s : Taking) (j : ℕ) (in_main : s.i.context ≡ Main) (e : s.i.inlet.
   W n = word_of s.fl s.p s.w (net_of s).fired n
 
   -- what comes of both words
-  abbrev Comes : Op → Word → Word → Type 0
-  Comes op x y =
+  abbrev Arrives : Op → Word → Word → Type 0
+  Arrives op x y =
       Fires s.m.store (frame_of s.fl (net_of s).fired Main) (Some (slot_of s.fl s.w l.i))
       (fires Empty (fire_two s.p.program (at l is_result) (instr l is_result) op x y)) s.event.made s.new.store
 
-  sends_on : (sec : Second l refl refl) (v : Value) → sec.right ≡ Datum v → Comes (Ops.Return j) (W ToHost) (W (Datum v)) → Followed s
+  sends_on : (sec : Second l refl refl) (v : Value) → sec.right ≡ Datum v → Arrives (Ops.Return j) (W ToHost) (W (Datum v)) → Followed s
   sends_on sec v r m = crosses_follow l refl refl refl sec (record {
     out = item Main (inlet (Shown j) Left 0) sec.right ∷ [];
     out_made = token (To.Host (0 + j)) (Word.Val v) ∷ [];
@@ -82,7 +82,7 @@ module _ (s : Taking) (j : ℕ) (in_main : s.i.context ≡ Main) (e : s.i.inlet.
       unnamed : (d : Context) → named_by sec.right ≡ Some d → ⊥
       unnamed d n = let z : None ≡ Some d = ap named_by (sym r) ∙ n in absurd (cc)
 
-  by_word : (sec : Second l refl refl) (k : Note) → sec.right ≡ k → Comes (Ops.Return j) (W ToHost) (W k) → Followed s
+  by_word : (sec : Second l refl refl) (k : Note) → sec.right ≡ k → Arrives (Ops.Return j) (W ToHost) (W k) → Followed s
   by_word sec (Datum v) r m = sends_on sec v r m
   by_word sec (FrameOf d) r m = absurd m
   by_word sec (BackTo d x) r m = absurd m
@@ -91,12 +91,12 @@ module _ (s : Taking) (j : ℕ) (in_main : s.i.context ≡ Main) (e : s.i.inlet.
   pub result_follows : Followed s
   result_follows =
       pair_follows l refl refl refl (λ sec. by_word sec sec.right refl
-      (subst (λ n. Comes (Ops.Return j) (W n) (W sec.right)) (carried l _ (left_here l refl refl sec)) (both l refl refl refl sec (Ops.Return j) refl)))
+      (subst (λ n. Arrives (Ops.Return j) (W n) (W sec.right)) (carried l _ (left_here l refl refl sec)) (both l refl refl refl sec (Ops.Return j) refl)))
 
 -- THE END of main
 module _ (s : Taking) (in_main : s.i.context ≡ Main) (e : s.i.inlet.part ≡ End) where
   abbrev last : Taking
-  last = told_at s Main End in_main e
+  last = meant_at s Main End in_main e
 
   abbrev is_end : is_instr End ≡ true
   is_end = Pairs.is last refl refl
@@ -144,7 +144,7 @@ module _ (s : Taking) (in_main : s.i.context ≡ Main) (e : s.i.inlet.part ≡ E
     counted = free_counted last (end_free m.0) ending (of_both (λ (x : Item). is_credit x.inlet.part ≡ false) refl refl);
     makes_is = ap (λ l. ending ++ each Main signal l) (sym no_wire);
     dests = [];
-    leads = permutation_same _ _ (ap (map (stands_at (wiring_in s.fl s.w Main))) (sym no_wire));
+    leads = permutation_same _ _ (ap (map (ip_and_port (wiring_in s.fl s.w Main))) (sym no_wire));
     plain_dest = λ d h. absurd (contains_none d h);
     did = m;
   })

@@ -24,18 +24,18 @@ use Rattle.law_net.specs.ContextsParts.{Part, Entry, Line, Giver, Taker, Drainer
 use Rattle.law_net.specs.Contexts.{Wires, block_in, code_in, or_none}
 use Rattle.law_net.specs.ContextsFirings.{begin, begins, input_items, frame_at, Still}
 use Rattle.law_net.specs.ContextsTheorem.{IsGood}
-use Rattle.law_net.specs.ContextsStands.{only, ip_of, token_of, is_held, is_entry_part, is_item_at, named_by, Stands, no_past, Follows, but_cells}
+use Rattle.law_net.specs.ContextsMirror.{only, ip_of, token_of, is_in_cell, is_entry_part, is_item_at, named_by, Mirrors, no_past, Tracks, but_cells}
 use Rattle.law_net.specs.ContextsPackages.{InputsFit, Starts, TokensAreItems}
 use Rattle.law_machine_refines_net.proofs.MovesLists.{count_none}
 use Rattle.law_machine_refines_net.proofs.MovesSites.{Coded, coded}
 use Rattle.law_machine_refines_net.proofs.MovesParts.{is_credit, calm_item}
-use Rattle.law_machine_refines_net.proofs.MovesSettled.{cells_out, told_other}
+use Rattle.law_machine_refines_net.proofs.MovesSettled.{cells_out, meant_other}
 
 -- A TOKEN OF THE POOL
 pub tokens_are_items : TokensAreItems
 tokens_are_items fl p w inputs q m t rest good k perm =
-    let net = k.follows.net in
-    let f = first_lifted (token_of fl p w net.fired) net.pending t rest (IsPermutation-trans _ _ _ (IsPermutation-sym _ _ k.follows.stands.pool) perm) in
+    let net = k.tracks.net in
+    let f = first_lifted (token_of fl p w net.fired) net.pending t rest (IsPermutation-trans _ _ _ (IsPermutation-sym _ _ k.tracks.stands.pool) perm) in
     (f.0, f.1, f.2, sym f.3)
 
 -- THE BEGINNING
@@ -93,8 +93,8 @@ module _ (fl : Flow) (p : Plan) (w : Wires) (inputs : List ℤ) (good : IsGood f
       not_twice true e = sym e
       not_twice false e = refl
 
-  no_held : (j : Item) → IsFirst j → is_held j.inlet.part ≡ false
-  no_held j f = not_twice (is_held j.inlet.part) (not_at (λ r. not (is_held r)) refl (λ n. refl) j f)
+  no_held : (j : Item) → IsFirst j → is_in_cell j.inlet.part ≡ false
+  no_held j f = not_twice (is_in_cell j.inlet.part) (not_at (λ r. not (is_in_cell r)) refl (λ n. refl) j f)
     where
       not_twice : (t : Bool) → not t ≡ true → t ≡ false
       not_twice true e = sym e
@@ -131,7 +131,7 @@ module _ (fl : Flow) (p : Plan) (w : Wires) (inputs : List ℤ) (good : IsGood f
   in_main : (c : Context) → c ≡ Main → (g : ℕ) × (frame_at fl [] c ≡ Some g)
   in_main c e = (0, ap (frame_at fl []) e)
 
-  pub begin_stands : Stands fl p w (at_start p.program inputs) (begin inputs)
+  pub begin_stands : Mirrors fl p w (at_start p.program inputs) (begin inputs)
   begin_stands = record {
     pool = permutation_same _ _ pool_same;
     known = λ j c. in_main j.context (first_of_all j c).context;
@@ -143,7 +143,7 @@ module _ (fl : Flow) (p : Plan) (w : Wires) (inputs : List ℤ) (good : IsGood f
     others = λ f q. inl refl;
     requests = IsPermutation-refl [];
     readers = λ x. IsPermutation-refl [];
-    good = λ j n c e. absurd (true≢false (sym (ap is_held e) ∙ no_held j (first_of_all j (both j c))));
+    good = λ j n c e. absurd (true≢false (sym (ap is_in_cell e) ∙ no_held j (first_of_all j (both j c))));
     no_store = λ j n c e. absurd (contains_none j c);
     waits = λ j c. absurd (contains_none j c);
     seen = record { outputs = λ j. refl; cells = λ x. refl };
@@ -155,13 +155,14 @@ module _ (fl : Flow) (p : Plan) (w : Wires) (inputs : List ℤ) (good : IsGood f
       both : (j : Item) → Contains (begins inputs ++ []) j → Contains all j
       both j c = c
 
-  pub begin_follows : Follows fl p w inputs no_past (at_start p.program inputs)
+  pub begin_follows : Tracks fl p w inputs no_past (at_start p.program inputs)
   begin_follows = record {
     net = begin inputs;
     moves = Still (begin inputs);
     stands = begin_stands;
-    met = at_first (ap but pool_same) (permutation_same _ _ (cells_out fl p w [] (begins inputs) (λ j c. told_other fl p w [] j (no_held j (first_pending j c)))
-        ∙ ap (λ l. map tok (only (λ (i : Item). not (is_held i.inlet.part)) l)) (sym (append-nil (begins inputs)))));
+    met = at_first (ap but pool_same)
+        (permutation_same _ _ (cells_out fl p w [] (begins inputs) (λ j c. meant_other fl p w [] j (no_held j (first_pending j c)))
+        ∙ ap (λ l. map tok (only (λ (i : Item). not (is_in_cell i.inlet.part)) l)) (sym (append-nil (begins inputs)))));
     handed = λ g c. c;
     caused = λ j c i e. absurd (entered j e (first_pending j c));
     asked = λ j d x n c e l. let k = (first_of_all j c).names in let h : named_by j.word ≡ Some d = ap named_by e in absurd (cc);

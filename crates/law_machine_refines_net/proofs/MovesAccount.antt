@@ -13,7 +13,7 @@ use Rattle.law_confluence.proofs.Net.{Waits, Fires}
 use Rattle.law_net.specs.ContextsParts.{Item, Firing}
 use Rattle.law_net.specs.Contexts.{Wires}
 use Rattle.law_net.specs.ContextsFirings.{Config, Move, begin, takes, own_takes, renewed, makes, IsProper, IsProperMove, ProperMoves, Still, Then}
-use Rattle.law_net.specs.ContextsStands.{only, came}
+use Rattle.law_net.specs.ContextsMirror.{only, came}
 use Rattle.law_machine_refines_net.specs.MovesCases.{Taking, net_of}
 use Rattle.law_machine_refines_net.proofs.MovesLists.{kept_no, kept_but, count_kept}
 
@@ -63,7 +63,7 @@ module _ (s : Taking) where
   -- NO MOVE
   pub no_move : (T : Item → Type 0) → Account T net [] []
   no_move T = record {
-    moves = s.keeps.follows.moves;
+    moves = s.keeps.tracks.moves;
     fired = refl;
     marks = permutation_same _ _ (ap (λ l. net.pending ++ l) (append-nil net.waiting));
     spared = λ test spares. refl;

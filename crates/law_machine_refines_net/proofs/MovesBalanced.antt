@@ -21,13 +21,13 @@ use Rattle.semantics.specs.Orderly.{readers_of}
 use Rattle.semantics.specs.Plan.{Plan}
 use Rattle.law_confluence.proofs.NetSlots.{InSlots}
 use Rattle.law_confluence.proofs.Orders.{shuffled, Part as Piece, ◌⊕◌, at_first, at_last, flat_map-IsPermutation}
-use Rattle.law_net.specs.ContextsParts.{Opener, Giver, Taker, Drainer, Done, Freed, Held, Landing, Inlet, BackTo, Item, Firing}
+use Rattle.law_net.specs.ContextsParts.{Opener, Giver, Taker, Drainer, Done, Freed, InCell, Landing, Inlet, BackTo, Item, Firing}
 use Rattle.law_net.specs.ContextsBlocks.{is_store, is_loop}
 use Rattle.law_net.specs.Contexts.{block_in, code_in, wiring_in, or_zero, IsContext}
 use Rattle.law_net.specs.ContextsFirings.{Config, takes, frame_at, frames_of, cell_of, memory_of, HasFired}
-use Rattle.law_net.specs.ContextsStands.{frame_of, ip_of, word_of, token_of, on_side, in_slot, slot_of, only, is_asked, is_held, reads, is_item_at, items_at}
-use Rattle.law_net.specs.ContextsStands.{conts_of, named_by, Stands, is_instr, is_entry_part, came, row_of, after, Past, WasUsed, Stepped, is_cell_token}
-use Rattle.law_net.specs.ContextsStands.{but_cells, events_taken}
+use Rattle.law_net.specs.ContextsMirror.{frame_of, ip_of, word_of, token_of, on_side, in_slot, slot_of, only, is_asked, is_in_cell, reads, is_item_at, items_at}
+use Rattle.law_net.specs.ContextsMirror.{conts_of, named_by, Mirrors, is_instr, is_entry_part, came, row_of, after, Past, WasUsed, Stepped, is_cell_token}
+use Rattle.law_net.specs.ContextsMirror.{but_cells, events_taken}
 use Rattle.law_net.proofs.WiredNets.{came_all}
 use Rattle.law_machine_refines_net.specs.MovesCases.{Taking, IsCaused, net_of, Followed, is_quiet}
 use Rattle.law_machine_refines_net.proofs.MovesLists.{kept_append, kept_out, count_append, count_none, count_same}
@@ -69,7 +69,7 @@ module _ (s : Taking) where
   -- what waits meets another word, asks, fetches, or is of a loop
   abbrev pub Waits : Item → Type 0
   Waits j = (in_slot s.fl j ≡ true) ⊎ ((is_asked j.inlet.part ≡ true)
-      ⊎ (((n : ℕ) × (j.inlet.part ≡ Held n) × (is_store (block_in s.fl j.context) n ≡ false))
+      ⊎ (((n : ℕ) × (j.inlet.part ≡ InCell n) × (is_store (block_in s.fl j.context) n ≡ false))
       ⊎ ((n : ℕ) × ((j.inlet.part ≡ Giver n) ⊎ ((j.inlet.part ≡ Taker n) ⊎ (j.inlet.part ≡ Drainer n))))))
 
   -- THE MEMORY, the done mark, and which frames are out
@@ -93,7 +93,7 @@ module _ (s : Taking) where
         (map (token_of s.fl s.p s.w d.fired) (only (nh s) made))
     pub caused : (j : Item) → Contains d.pending j → (is_instr j.inlet.part ≡ true) → (is_entry_part (block_in s.fl j.context) j.inlet.part ≡ false)
         → Contains (net_of s).pending j ⊎ IsCaused s j
-    pub good : (j : Item) (n : ℕ) → Contains (d.pending ++ d.waiting) j → j.inlet.part ≡ Held n → (x : ℕ) × (cell_of s.fl j.context n j.held ≡ Some x)
+    pub good : (j : Item) (n : ℕ) → Contains (d.pending ++ d.waiting) j → j.inlet.part ≡ InCell n → (x : ℕ) × (cell_of s.fl j.context n j.held ≡ Some x)
     pub waits : (j : Item) → T j → Waits j
     pub slots : InSlots (λ (i : Item). frame_of s.fl (net_of s).fired i.context) (slot_of s.fl s.w)
         (λ (i : Item). on_side i.inlet.port (word_of s.fl s.p s.w (net_of s).fired i.word)) base (only (in_slot s.fl) d.waiting) s.new.store.slots
@@ -107,8 +107,8 @@ module _ {s : Taking} {T : Item → Type 0} {d : Config} {new : List Firing} {ma
   abbrev net : Config
   net = net_of s
 
-  abbrev old : Stands s.fl s.p s.w s.m net
-  old = s.keeps.follows.stands
+  abbrev old : Mirrors s.fl s.p s.w s.m net
+  old = s.keeps.tracks.stands
 
   abbrev l : Account s T d new made
   l = v.account
@@ -140,7 +140,7 @@ module _ {s : Taking} {T : Item → Type 0} {d : Config} {new : List Firing} {ma
   waiting_words : (test : Item → Bool) → conts_of s.fl s.p s.w d.fired (only test d.waiting) ≡ conts_of s.fl s.p s.w net.fired (only test d.waiting)
   waiting_words test = conts_same s.fl s.p s.w net.fired d.fired (only test d.waiting) (λ j h. v.words j (kept_out test d.waiting j h).0)
 
-  stands : Stands s.fl s.p s.w s.new d
+  stands : Mirrors s.fl s.p s.w s.new d
   stands = record {
     pool = v.pool;
     known = λ j h. now j.context (known j (all l j h));
@@ -183,30 +183,30 @@ module _ {s : Taking} {T : Item → Type 0} {d : Config} {new : List Firing} {ma
       named j c e (inl h) = (v.sound j h).named c e
       named j c e (inr h) = now c (old.named j c h e)
 
-      fetches : (j : Item) (n : ℕ) → j.inlet.part ≡ Held n → Waits s j → is_store (block_in s.fl j.context) n ≡ false
+      fetches : (j : Item) (n : ℕ) → j.inlet.part ≡ InCell n → Waits s j → is_store (block_in s.fl j.context) n ≡ false
       fetches j n e (inl a) = let z = pair_quiet (block_in s.fl j.context) j.inlet.part a in absurd (true≢false (sym z ∙ ap is_quiet e))
       fetches j n e (inr (inl a)) = absurd (true≢false (sym a ∙ ap is_asked e))
       fetches j n e (inr (inr (inl (m, k, o)))) =
-          let z : Held m ≡ Held n = sym k ∙ e in let same : m ≡ n = cc in subst (λ n. is_store (block_in s.fl j.context) n ≡ false) same o
-      fetches j n e (inr (inr (inr (m, inl k)))) = let z : Held n ≡ Giver m = sym e ∙ k in absurd (cc)
-      fetches j n e (inr (inr (inr (m, inr (inl k))))) = let z : Held n ≡ Taker m = sym e ∙ k in absurd (cc)
-      fetches j n e (inr (inr (inr (m, inr (inr k))))) = let z : Held n ≡ Drainer m = sym e ∙ k in absurd (cc)
+          let z : InCell m ≡ InCell n = sym k ∙ e in let same : m ≡ n = cc in subst (λ n. is_store (block_in s.fl j.context) n ≡ false) same o
+      fetches j n e (inr (inr (inr (m, inl k)))) = let z : InCell n ≡ Giver m = sym e ∙ k in absurd (cc)
+      fetches j n e (inr (inr (inr (m, inr (inl k))))) = let z : InCell n ≡ Taker m = sym e ∙ k in absurd (cc)
+      fetches j n e (inr (inr (inr (m, inr (inr k))))) = let z : InCell n ≡ Drainer m = sym e ∙ k in absurd (cc)
 
-      no_store : (j : Item) (n : ℕ) → j.inlet.part ≡ Held n → Contains net.waiting j ⊎ T j → is_store (block_in s.fl j.context) n ≡ false
+      no_store : (j : Item) (n : ℕ) → j.inlet.part ≡ InCell n → Contains net.waiting j ⊎ T j → is_store (block_in s.fl j.context) n ≡ false
       no_store j n e (inl h) = old.no_store j n h e
       no_store j n e (inr t) = fetches j n e (v.waits j t)
 
       in_one : (j : Item) → Waits s j
           → (in_slot s.fl j ≡ true) ⊎ ((is_asked j.inlet.part ≡ true)
-          ⊎ ((is_held j.inlet.part ≡ true) ⊎ ((n : ℕ) × ((j.inlet.part ≡ Giver n) ⊎ ((j.inlet.part ≡ Taker n) ⊎ (j.inlet.part ≡ Drainer n))))))
+          ⊎ ((is_in_cell j.inlet.part ≡ true) ⊎ ((n : ℕ) × ((j.inlet.part ≡ Giver n) ⊎ ((j.inlet.part ≡ Taker n) ⊎ (j.inlet.part ≡ Drainer n))))))
       in_one j (inl a) = inl a
       in_one j (inr (inl a)) = inr (inl a)
-      in_one j (inr (inr (inl (n, e, k)))) = inr (inr (inl (ap is_held e)))
+      in_one j (inr (inr (inl (n, e, k)))) = inr (inr (inl (ap is_in_cell e)))
       in_one j (inr (inr (inr k))) = inr (inr (inr k))
 
       waits : (j : Item) → Contains net.waiting j ⊎ T j
           → (in_slot s.fl j ≡ true) ⊎ ((is_asked j.inlet.part ≡ true)
-          ⊎ ((is_held j.inlet.part ≡ true) ⊎ ((n : ℕ) × ((j.inlet.part ≡ Giver n) ⊎ ((j.inlet.part ≡ Taker n) ⊎ (j.inlet.part ≡ Drainer n))))))
+          ⊎ ((is_in_cell j.inlet.part ≡ true) ⊎ ((n : ℕ) × ((j.inlet.part ≡ Giver n) ⊎ ((j.inlet.part ≡ Taker n) ⊎ (j.inlet.part ≡ Drainer n))))))
       waits j (inl h) = old.waits j h
       waits j (inr t) = in_one j (v.waits j t)
 
@@ -220,7 +220,7 @@ module _ {s : Taking} {T : Item → Type 0} {d : Config} {new : List Firing} {ma
       let a = at_last (flat_map-IsPermutation B _ _ (met_tokens s)) (flat_map-append B (E ++ s.m.pool) s.event.made) in
       let stay = tokens_last s.fl s.p s.w net.fired d.fired (only (nh s) (came s.fl net))
       (λ j h. before j (came_all s.fl net j (kept_out (nh s) (came s.fl net) j h).0)) in
-      let b = at_last s.keeps.follows.met (sym stay) in
+      let b = at_last s.keeps.tracks.met (sym stay) in
       let c : IsPermutation (R ++ but_cells (events_taken (s.q.events ++ (s.e, s.t) ∷ []) ++ s.new.pool)) (C ++ M) =
       IsPermutation-trans _ _ _ (IsPermutation-append_right R _ _ (IsPermutation-trans _ _ _ a (IsPermutation-append_left (but_cells s.event.made) _ _ b)))
       (IsPermutation-trans _ _ _ (shuffled (R ∷ C ∷ but_cells s.event.made ∷ []) (Piece 0 ⊕ (Piece 1 ⊕ Piece 2)) (Piece 1 ⊕ (Piece 0 ⊕ Piece 2)) refl)
@@ -280,7 +280,7 @@ module _ {s : Taking} {T : Item → Type 0} {d : Config} {new : List Firing} {ma
   }
     where
       handed_before : (g : ℕ) → Contains (0 ∷ frames_of s.fl net.fired) g → Contains past.handed g
-      handed_before g h = Contains-append_left s.q.handed (handed_by s.t.to s.event.made) g (s.keeps.follows.handed g h)
+      handed_before g h = Contains-append_left s.q.handed (handed_by s.t.to s.event.made) g (s.keeps.tracks.handed g h)
 
       handed : (g : ℕ) → (0 ≡ g) ⊎ Contains (frames_of s.fl d.fired) g → Contains past.handed g
       handed g (inl e) = handed_before g (subst (Contains (0 ∷ frames_of s.fl net.fired)) e (contains_head 0 (frames_of s.fl net.fired)))
@@ -293,7 +293,7 @@ module _ {s : Taking} {T : Item → Type 0} {d : Config} {new : List Firing} {ma
       caused : (j : Item) → HasFrame s j.context → (is_instr j.inlet.part ≡ true) → (is_entry_part (block_in s.fl j.context) j.inlet.part ≡ false)
           → Contains net.pending j ⊎ IsCaused s j
           → WasUsed s.p past.steps (frame_of s.fl d.fired j.context) (ip_of s.fl s.p s.w j.context j.inlet.part) j.inlet.port
-      caused j k i e (inl h) = used_before j.context (ip_of s.fl s.p s.w j.context j.inlet.part) j.inlet.port k (s.keeps.follows.caused j h i e)
+      caused j k i e (inl h) = used_before j.context (ip_of s.fl s.p s.w j.context j.inlet.part) j.inlet.port k (s.keeps.tracks.caused j h i e)
       caused j k i e (inr (inl u)) = used_here j.context (ip_of s.fl s.p s.w j.context j.inlet.part) j.inlet.port k u
       caused j k i e (inr (inr u)) = used_before j.context (ip_of s.fl s.p s.w j.context j.inlet.part) j.inlet.port k u
 
@@ -301,31 +301,31 @@ module _ {s : Taking} {T : Item → Type 0} {d : Config} {new : List Firing} {ma
           → Contains made j ⊎ Contains (net.pending ++ net.waiting) j
           → WasUsed s.p past.steps (frame_of s.fl d.fired c) (ip_of s.fl s.p s.w c x.part + n) x.port
       asked j c x n e less (inr h) =
-          used_before c (ip_of s.fl s.p s.w c x.part + n) x.port (old.named j c (among s j h) (ap named_by e)) (s.keeps.follows.asked j c x n h e less)
+          used_before c (ip_of s.fl s.p s.w c x.part + n) x.port (old.named j c (among s j h) (ap named_by e)) (s.keeps.tracks.asked j c x n h e less)
       asked j c x n e less (inl h) = pick ((v.sound j h).asked c x e)
         where
           pick : WasThere s j ⊎ (HasFrame s c × UsedNow s c x) → WasUsed s.p past.steps (frame_of s.fl d.fired c) (ip_of s.fl s.p s.w c x.part + n) x.port
           pick (inl (a, b, w)) =
               used_before c (ip_of s.fl s.p s.w c x.part + n) x.port (old.named a c (among s a b) (ap named_by (w ∙ e)))
-              (s.keeps.follows.asked a c x n b (w ∙ e) less)
+              (s.keeps.tracks.asked a c x n b (w ∙ e) less)
           pick (inr (k, u)) = used_here c (ip_of s.fl s.p s.w c x.part + n) x.port k (u n less)
 
       no_other : (g : ℕ) (h : Holder) → 0 < past.granted g h → (s.q.granted g h ≡ 0) ⊎ (s.q.granted g h ≡ 0 → ⊥)
           → (c : Context) × (n : ℕ) × IsContext s.fl c × (is_loop (block_in s.fl c) n ≡ true) × (frame_at s.fl d.fired c ≡ Some g)
           × (h ≡ record { block = code_in s.fl s.w c; number = (wiring_in s.fl s.w c).slot (Opener n) })
       no_other g h less (inl z) = v.loops.no_other g h (omega (arith, less, z))
-      no_other g h less (inr z) = let k = s.keeps.follows.no_other g h (omega (arith, z)) in (k.0, k.1, k.2, k.3, v.frames.grows k.0 g k.4, k.5)
+      no_other g h less (inr z) = let k = s.keeps.tracks.no_other g h (omega (arith, z)) in (k.0, k.1, k.2, k.3, v.frames.grows k.0 g k.4, k.5)
 
       none_released : (g base : ℕ) → 0 < past.released g base → (s.q.released g base ≡ 0) ⊎ (s.q.released g base ≡ 0 → ⊥)
           → (c : Context) × (frame_at s.fl d.fired c ≡ Some g)
       none_released g base less (inl z) = v.loops.releases g base (omega (arith, less, z))
-      none_released g base less (inr z) = let k = s.keeps.follows.none_released g base (omega (arith, z)) in (k.0, v.frames.grows k.0 g k.1)
+      none_released g base less (inr z) = let k = s.keeps.tracks.none_released g base (omega (arith, z)) in (k.0, v.frames.grows k.0 g k.1)
 
       released : (c : Context) (n g : ℕ) → IsContext s.fl c → is_loop (block_in s.fl c) n ≡ true → frame_at s.fl d.fired c ≡ Some g
           → (frame_at s.fl net.fired c ≡ Some g) ⊎ Gives v.frames.gave c g
           → past.released g (ip_of s.fl s.p s.w c (Landing n 0)) ≡ items_at c (Giver n) (came s.fl d)
       released c n g h k e (inl f) =
-          let a = s.keeps.follows.released c n g h k f in let b = (v.loops.each c n h k).released g e in let o = givers c n in omega (arith, a, b, o)
+          let a = s.keeps.tracks.released c n g h k f in let b = (v.loops.each c n h k).released g e in let o = givers c n in omega (arith, a, b, o)
       released c n g h k e (inr f) =
           let a = none_before (cases_eq (s.q.released g (ip_of s.fl s.p s.w c (Landing n 0))) 0) in let b = (v.loops.each c n h k).released g e in
           let o = givers c n in let z = no_items s c (v.frames.fresh c g f).0 (Giver n) in omega (arith, a, b, o, z)
@@ -333,5 +333,5 @@ module _ {s : Taking} {T : Item → Type 0} {d : Config} {new : List Firing} {ma
           none_before : (s.q.released g (ip_of s.fl s.p s.w c (Landing n 0)) ≡ 0) ⊎ (s.q.released g (ip_of s.fl s.p s.w c (Landing n 0)) ≡ 0 → ⊥)
               → s.q.released g (ip_of s.fl s.p s.w c (Landing n 0)) ≡ 0
           none_before (inl z) = z
-          none_before (inr z) = let x = s.keeps.follows.none_released g (ip_of s.fl s.p s.w c (Landing n 0)) (omega (arith, z)) in
+          none_before (inr z) = let x = s.keeps.tracks.none_released g (ip_of s.fl s.p s.w c (Landing n 0)) (omega (arith, z)) in
               absurd ((v.frames.fresh c g f).1 x.0 x.1)

@@ -10,16 +10,16 @@ use Rattle.semantics.specs.Meaning.{Context, Main, Called, Turned}
 use Rattle.law_confluence.proofs.Orders.{shuffled, Part as Piece, ◌⊕◌}
 use Rattle.law_confluence.proofs.Net.{Waits, Fires}
 use Rattle.law_net.specs.ContextsParts.{Part, Line, Trigger, Gate, Framer, Linker, Sender, Giver, Taker, Drainer, Drained, Result, TurnCont, TurnFlag}
-use Rattle.law_net.specs.ContextsParts.{TurnValue, Asker, NextFramer, NextSender, LastReturn, DrainReturn, End, Asked, NextAsked, Held, Shown, Done, Freed}
+use Rattle.law_net.specs.ContextsParts.{TurnValue, Asker, NextFramer, NextSender, LastReturn, DrainReturn, End, Asked, NextAsked, InCell, Shown, Done, Freed}
 use Rattle.law_net.specs.ContextsParts.{Inlet, Note, Datum, Item, Firing, each}
 use Rattle.law_net.specs.ContextsBlocks.{is_cell}
 use Rattle.law_net.specs.Contexts.{Wires, block_in, is_strict_in}
 use Rattle.law_net.specs.ContextsFirings.{Config, Move, begin, begins, input_items, makes, makes_by, along, switched, arguments_from, result_back, drain_back}
 use Rattle.law_net.specs.ContextsFirings.{end_back, credit_asked, ProperMoves, Still, Then}
-use Rattle.law_net.specs.ContextsStands.{is_held}
+use Rattle.law_net.specs.ContextsMirror.{is_in_cell}
 
 abbrev pub IsBare : Item → Type 0
-IsBare i = (is_held i.inlet.part ≡ true) ⊎ (i.held ≡ [])
+IsBare i = (is_in_cell i.inlet.part ≡ true) ⊎ (i.held ≡ [])
 
 each_bare : (c : Context) (k : Note) (xs : List Inlet) → Each IsBare (each c k xs)
 each_bare c k [] = tt
@@ -41,7 +41,7 @@ module _ (fl : Flow) (w : Wires) (f : Firing) where
   strict_bare true c n vs = arguments_bare c n 1 0 vs
   strict_bare false c n vs = tt
 
-  line_bare : (t : Bool) (i : Item) (is : List Item) → is_held i.inlet.part ≡ true → Each IsBare is → Each IsBare (if t then i ∷ [] else is)
+  line_bare : (t : Bool) (i : Item) (is : List Item) → is_in_cell i.inlet.part ≡ true → Each IsBare is → Each IsBare (if t then i ∷ [] else is)
   line_bare true i is e a = (inl e, tt)
   line_bare false i is e a = a
 
@@ -65,7 +65,7 @@ module _ (fl : Flow) (w : Wires) (f : Firing) where
 
   makes_bare : (r : Part) → Each IsBare (makes_by fl w f r)
   makes_bare (Line n) = line_bare (is_cell (block_in fl f.context) n) _ _ refl (along_bare (Line n) false)
-  makes_bare (Held n) = along_bare (Line n) false
+  makes_bare (InCell n) = along_bare (Line n) false
   makes_bare (Trigger k) = switched_bare (Trigger k) f.right
   makes_bare (Gate n) = switched_bare (Gate n) f.right
   makes_bare TurnCont = switched_bare TurnCont f.right

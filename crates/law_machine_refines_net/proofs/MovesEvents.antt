@@ -1,6 +1,6 @@
 -- Each event follows, in all graphs.
 use Rattle.std.proofs.Common.{◌≡◌, ℕ, Bool, true, false, refl, if◌then◌else◌}
-use Rattle.law_net.specs.ContextsParts.{Part, Line, Held}
+use Rattle.law_net.specs.ContextsParts.{Part, Line, InCell}
 use Rattle.law_net.specs.ContextsBlocks.{is_cell, is_store}
 use Rattle.law_net.specs.Contexts.{block_in}
 use Rattle.law_net.specs.ContextsPackages.{Inwards, Outwards, Asking, OfCells, OfCredits, doing_of, EventsFollowBy}
@@ -21,7 +21,7 @@ line_cell false e = absurd (cc)
 
 -- OF CELLS
 module _ (s : Taking) where
-  of_request : (n : ℕ) → s.i.inlet.part ≡ Held n → Followed s
+  of_request : (n : ℕ) → s.i.inlet.part ≡ InCell n → Followed s
   of_request n e = by_kind (is_store (block_in s.fl s.i.context) n) refl
     where
       by_kind : (t : Bool) → is_store (block_in s.fl s.i.context) n ≡ t → Followed s
@@ -30,7 +30,7 @@ module _ (s : Taking) where
 
   of_cells : (r : Part) → s.i.inlet.part ≡ r → doing_of s.fl s.i.context r ≡ OfCells → Followed s
   of_cells (Line n) e d = line_asks s n e (line_cell (is_cell (block_in s.fl s.i.context) n) d)
-  of_cells (Held n) e d = of_request n e
+  of_cells (InCell n) e d = of_request n e
   of_cells r e d = absurd (cc)
 
 pub of_cells_follow : EventsFollowBy OfCells

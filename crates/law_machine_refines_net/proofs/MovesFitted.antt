@@ -9,13 +9,13 @@ use Rattle.tags.specs.declared.token.Port.TheVariants.{Left, Right}
 use Rattle.tags.specs.declared.slot.SlotState.TheVariants.{Empty}
 use Rattle.semantics.specs.Graph.{Block, Flow}
 use Rattle.semantics.specs.Meaning.{Context}
-use Rattle.law_net.specs.ContextsParts.{Part, Sender, Merge, CondEnd, Landing, Giver, Taker, Drainer, Opener, Asked, NextAsked, Held, Drained, Shown, Done}
+use Rattle.law_net.specs.ContextsParts.{Part, Sender, Merge, CondEnd, Landing, Giver, Taker, Drainer, Opener, Asked, NextAsked, InCell, Drained, Shown, Done}
 use Rattle.law_net.specs.ContextsParts.{Freed, inlet, Item, item, spot_of}
 use Rattle.law_net.specs.ContextsBlocks.{waits_in, there_in, is_loop}
 use Rattle.law_net.specs.Contexts.{block_in, site_in, wiring_in, or_zero, IsContext}
 use Rattle.law_net.specs.ContextsFirings.{Config, takes, frame_at}
 use Rattle.law_net.specs.ContextsLaws.{Fits, Allowed, way_fits, port_fits}
-use Rattle.law_net.specs.ContextsStands.{frame_of, in_slot, slot_of, is_instr, is_held, Stands}
+use Rattle.law_net.specs.ContextsMirror.{frame_of, in_slot, slot_of, is_instr, is_in_cell, Mirrors}
 use Rattle.law_net.proofs.RunsMatching.{wait_holds}
 use Rattle.law_machine_refines_net.specs.MovesCases.{Taking, net_of}
 use Rattle.law_machine_refines_net.proofs.MovesSites.{Coded, coded, Seated, seated, spot_instr}
@@ -25,15 +25,15 @@ use Rattle.law_machine_refines_net.proofs.MovesBare.{IsBare, all_bare}
 pub pair_instr : (b : Block ℕ) (r : Part) → waits_in b r ≡ true → is_instr r ≡ true
 pair_instr b (Asked n) e = absurd (true≢false (sym e))
 pair_instr b NextAsked e = absurd (true≢false (sym e))
-pair_instr b (Held n) e = absurd (true≢false (sym e))
+pair_instr b (InCell n) e = absurd (true≢false (sym e))
 pair_instr b (Drained n) e = absurd (true≢false (sym e))
 pair_instr b (Shown n) e = absurd (true≢false (sym e))
 pair_instr b Done e = absurd (true≢false (sym e))
 pair_instr b Freed e = absurd (true≢false (sym e))
 pair_instr b r e = refl
 
-pub instr_held : (r : Part) → is_instr r ≡ true → is_held r ≡ false
-instr_held (Held n) e = absurd (true≢false (sym e))
+pub instr_held : (r : Part) → is_instr r ≡ true → is_in_cell r ≡ false
+instr_held (InCell n) e = absurd (true≢false (sym e))
 instr_held r e = refl
 
 -- parts of whose inlets the way is 0
@@ -70,8 +70,8 @@ module _ (s : Taking) where
   abbrev net : Config
   net = net_of s
 
-  abbrev old : Stands s.fl s.p s.w s.m net
-  old = s.keeps.follows.stands
+  abbrev old : Mirrors s.fl s.p s.w s.m net
+  old = s.keeps.tracks.stands
 
   -- it is pending or waits
   abbrev pub IsHere : Item → Type 0
@@ -110,11 +110,11 @@ module _ (s : Taking) where
   pub code : (j : Item) → IsHere j → Coded s.fl s.p s.w s.good.wired j.context
   code j c = coded s.fl s.p s.w s.good.wired j.context (fits j c).is_context
 
-  pub seat : (j : Item) → IsHere j → is_instr j.inlet.part ≡ true → Seated s.fl s.p s.w s.good.wired j.context j.inlet.part
-  seat j c i = seated s.fl s.p s.w s.good.wired j.context j.inlet.part (fits j c).is_context (there j c i)
+  pub point : (j : Item) → IsHere j → is_instr j.inlet.part ≡ true → Seated s.fl s.p s.w s.good.wired j.context j.inlet.part
+  point j c i = seated s.fl s.p s.w s.good.wired j.context j.inlet.part (fits j c).is_context (there j c i)
 
-  pub bare : (j : Item) → IsHere j → is_held j.inlet.part ≡ false → j.held ≡ []
-  bare j c e = by_case (all_bare s.fl s.w s.inputs net s.keeps.follows.moves j c)
+  pub bare : (j : Item) → IsHere j → is_in_cell j.inlet.part ≡ false → j.held ≡ []
+  bare j c e = by_case (all_bare s.fl s.w s.inputs net s.keeps.tracks.moves j c)
     where
       by_case : IsBare j → j.held ≡ []
       by_case (inl h) = absurd (true≢false (sym h ∙ e))

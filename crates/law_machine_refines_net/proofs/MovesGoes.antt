@@ -4,7 +4,7 @@ use Rattle.std.specs.Prelude.{Contains}
 use Rattle.semantics.specs.Meaning.{Context}
 use Rattle.law_net.specs.ContextsParts.{Item}
 use Rattle.law_net.specs.ContextsFirings.{makes, frame_at}
-use Rattle.law_net.specs.ContextsStands.{named_by}
+use Rattle.law_net.specs.ContextsMirror.{named_by}
 use Rattle.law_machine_refines_net.specs.MovesCases.{net_of, GoesFollow}
 use Rattle.law_machine_refines_net.proofs.MovesParts.{is_credit, quiet_calm}
 use Rattle.law_machine_refines_net.proofs.MovesSettled.{quiet_held}
@@ -39,5 +39,5 @@ goes_follow s f g = passes_follow s f (record {
 
     named : (j : Item) (d : Context) → Contains (makes s.fl s.w f) j → named_by j.word ≡ Some d → (n : ℕ) × (frame_at s.fl (net_of s).fired d ≡ Some n)
     named j d h e =
-        let k = g.named j d h e in s.keeps.follows.stands.named k.0 d (among s k.0 (taken_there s g.before g.kept g.later g.waiting k.0 k.1))
+        let k = g.named j d h e in s.keeps.tracks.stands.named k.0 d (among s k.0 (taken_there s g.before g.kept g.later g.waiting k.0 k.1))
         (ap named_by k.2 ∙ e)

@@ -13,7 +13,7 @@ use Rattle.law_confluence.proofs.NetSlots.{InSlots, slots_add}
 use Rattle.law_net.specs.ContextsParts.{Item}
 use Rattle.law_net.specs.Contexts.{block_in}
 use Rattle.law_net.specs.ContextsFirings.{Config}
-use Rattle.law_net.specs.ContextsStands.{frame_of, word_of, on_side, in_slot, slot_of, only, Stands, but_cells}
+use Rattle.law_net.specs.ContextsMirror.{frame_of, word_of, on_side, in_slot, slot_of, only, Mirrors, but_cells}
 use Rattle.law_machine_refines_net.specs.MovesCases.{Taking, net_of, Halts, HaltsFollow}
 use Rattle.law_machine_refines_net.proofs.MovesLists.{kept_yes}
 use Rattle.law_machine_refines_net.proofs.MovesParts.{pair_reads, quiet_calm, pair_quiet, pair_asked}
@@ -29,8 +29,8 @@ module _ (s : Taking) (g : Halts s) where
   abbrev net : Config
   net = net_of s
 
-  abbrev old : Stands s.fl s.p s.w s.m net
-  old = s.keeps.follows.stands
+  abbrev old : Mirrors s.fl s.p s.w s.m net
+  old = s.keeps.tracks.stands
 
   abbrev waited : Config
   waited = record { pending = s.others; waiting = s.i ∷ net.waiting; fired = net.fired }

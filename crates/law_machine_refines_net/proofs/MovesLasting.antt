@@ -11,11 +11,12 @@ use Rattle.semantics.specs.Graph.{Flow}
 use Rattle.semantics.specs.Meaning.{Context}
 use Rattle.semantics.specs.Plan.{Plan}
 use Rattle.law_confluence.proofs.NetSlots.{InSlots, AtSlot}
-use Rattle.law_net.specs.ContextsParts.{Part, Opener, Giver, Taker, Drainer, Asked, NextAsked, Held, Drained, Shown, Done, Freed, Note, Datum, FrameOf, BackTo}
+use Rattle.law_net.specs.ContextsParts.{Part, Opener, Giver, Taker, Drainer, Asked, NextAsked, InCell, Drained, Shown, Done, Freed, Note, Datum}
+use Rattle.law_net.specs.ContextsParts.{FrameOf, BackTo}
 use Rattle.law_net.specs.ContextsParts.{ToHost, Item, Firing}
 use Rattle.law_net.specs.Contexts.{Wires}
 use Rattle.law_net.specs.ContextsFirings.{Config, times}
-use Rattle.law_net.specs.ContextsStands.{frame_of, ip_of, word_of, to_of, token_of, conts_of, cont_in, only, is_item_at, items_at, first_cont, ledger, named_by}
+use Rattle.law_net.specs.ContextsMirror.{frame_of, ip_of, word_of, to_of, token_of, conts_of, cont_in, only, is_item_at, items_at, first_cont, ledger, named_by}
 
 module _ (fl : Flow) (p : Plan) (w : Wires) (a b : List Firing) where
   -- the item's frame, and that of the context that its word names
@@ -32,7 +33,7 @@ module _ (fl : Flow) (p : Plan) (w : Wires) (a b : List Firing) where
   to_lasts : (j : Item) (r : Part) → frame_of fl b j.context ≡ frame_of fl a j.context → to_of fl p w b j r ≡ to_of fl p w a j r
   to_lasts j (Asked n) e = refl
   to_lasts j NextAsked e = refl
-  to_lasts j (Held n) e = refl
+  to_lasts j (InCell n) e = refl
   to_lasts j (Shown n) e = refl
   to_lasts j Done e = refl
   to_lasts j Freed e = ap To.Release e

@@ -13,7 +13,7 @@ use Rattle.law_net.specs.ContextsBlocks.{is_loop, bound_at}
 use Rattle.law_net.specs.Contexts.{block_in, code_in, wiring_in, IsContext}
 use Rattle.law_net.specs.ContextsCredits.{Ledger, slot_for, waits_or, CreditLaw}
 use Rattle.law_net.specs.ContextsFirings.{Config, takes, times, is_firing, frame_at}
-use Rattle.law_net.specs.ContextsStands.{ip_of, word_of, only, conts_of, is_item_at, items_at, granted_of, ledger, KeepsCredits, Stands}
+use Rattle.law_net.specs.ContextsMirror.{ip_of, word_of, only, conts_of, is_item_at, items_at, granted_of, ledger, KeepsCredits, Mirrors}
 use Rattle.law_net.proofs.WiredNets.{some_of}
 use Rattle.law_net.proofs.RunsPigeons.{items_total, item_there, some_item}
 use Rattle.law_machine_refines_net.specs.MovesCases.{Taking, net_of, IsFree}
@@ -94,7 +94,7 @@ module _ (s : Taking) where
     pub taker : Spares s T (is_item_at c (Taker n))
     pub drainer : Spares s T (is_item_at c (Drainer n))
     pub books : Books made c n
-    pub base_same : (g : ℕ) → frame_at s.fl d.fired c ≡ Some g → base g (slot_at c n) ≡ s.keeps.follows.stands.base g (slot_at c n)
+    pub base_same : (g : ℕ) → frame_at s.fl d.fired c ≡ Some g → base g (slot_at c n) ≡ s.keeps.tracks.stands.base g (slot_at c n)
     pub granted : (g : ℕ) → frame_at s.fl d.fired c ≡ Some g → granted_now g (holder_at c n) ≡ 0
     pub released : (g : ℕ) → frame_at s.fl d.fired c ≡ Some g
         → released_now g (ip_of s.fl s.p s.w c (Landing n 0)) ≡ items_at c (Giver n) made
@@ -128,8 +128,8 @@ module _ {s : Taking} {T : Item → Type 0} {d : Config} {new : List Firing} {ma
   abbrev net : Config
   net = net_of s
 
-  abbrev old : Stands s.fl s.p s.w s.m net
-  old = s.keeps.follows.stands
+  abbrev old : Mirrors s.fl s.p s.w s.m net
+  old = s.keeps.tracks.stands
 
   module _ (base : ℕ → ℕ → SlotState) (c : Context) (n : ℕ) (con : IsContext s.fl c) (k : is_loop (block_in s.fl c) n ≡ true)
       (idle : Idle s T d new made base c n) where
@@ -171,7 +171,7 @@ module _ {s : Taking} {T : Item → Type 0} {d : Config} {new : List Firing} {ma
             omega (arith, none, some, u)
 
     before : KeepsCredits s.fl s.p s.w net c n
-    before = s.keeps.follows.credits c n con k
+    before = s.keeps.tracks.credits c n con k
 
     still_keeps : KeepsCredits s.fl s.p s.w d c n
     still_keeps = record {
@@ -216,7 +216,7 @@ module _ {s : Taking} {T : Item → Type 0} {d : Config} {new : List Firing} {ma
         where
           pick : (s.q.granted g (holder_at s c n) ≡ 0) ⊎ (s.q.granted g (holder_at s c n) ≡ 0 → ⊥) → s.q.granted g (holder_at s c n) ≡ granted_of net c n
           pick (inl z) = let a = no_times s c not_here (Opener n) in let b = no_times s c not_here (Taker n) in omega (arith, z, a, b)
-          pick (inr x) = let o = s.keeps.follows.no_other g (holder_at s c n) (omega (arith, x)) in absurd ((v.fresh c g e).1 o.0 o.4)
+          pick (inr x) = let o = s.keeps.tracks.no_other g (holder_at s c n) (omega (arith, x)) in absurd ((v.fresh c g e).1 o.0 o.4)
 
     pub idle_loop : Loop s d made base c n
     idle_loop = record {
@@ -232,7 +232,7 @@ module _ {s : Taking} {T : Item → Type 0} {d : Config} {new : List Firing} {ma
         slot g (inr e) = new_slot g e ∙ sym (closed (bound_at (block_in s.fl c) n) (ledger s.fl s.p s.w d c n) (not_opened g e))
 
         granted : (g : ℕ) → (frame_at s.fl net.fired c ≡ Some g) ⊎ Gives v.gave c g → s.q.granted g (holder_at s c n) ≡ granted_of net c n
-        granted g (inl e) = s.keeps.follows.granted c n g con k e
+        granted g (inl e) = s.keeps.tracks.granted c n g con k e
         granted g (inr e) = new_counts g e
 
   -- a loop's slot is one still

@@ -8,13 +8,14 @@ use Rattle.tags.specs.declared.value.Value.{Value}
 use Rattle.tags.specs.declared.token.Port.TheVariants.{Right}
 use Rattle.semantics.specs.Graph.{Block, Flow}
 use Rattle.semantics.specs.Meaning.{Context}
-use Rattle.law_net.specs.ContextsParts.{Part, Framer, Opener, Giver, Taker, Drainer, Sender, Asked, NextAsked, Held, Drained, inlet, Datum, Item, item, Firing}
+use Rattle.law_net.specs.ContextsParts.{Part, Framer, Opener, Giver, Taker, Drainer, Sender, Asked, NextAsked, InCell, Drained, inlet, Datum, Item}
+use Rattle.law_net.specs.ContextsParts.{item, Firing}
 use Rattle.law_net.specs.ContextsParts.{same_context, same_part}
 use Rattle.law_net.specs.ContextsBlocks.{waits_in}
 use Rattle.law_net.specs.Contexts.{is_strict_in}
 use Rattle.law_net.specs.ContextsFirings.{renewed, arguments_from}
-use Rattle.law_net.specs.ContextsStands.{is_asked, reads, is_item_at}
-use Rattle.law_net.specs.ContextsWires.{is_given}
+use Rattle.law_net.specs.ContextsMirror.{is_asked, reads, is_item_at}
+use Rattle.law_net.specs.ContextsWires.{is_unwired}
 use Rattle.law_machine_refines_net.specs.MovesCases.{is_quiet}
 
 -- WHAT WAITS FOR ANOTHER WORD is none of the others
@@ -24,14 +25,14 @@ pair_asked b NextAsked e = absurd (true≢false (sym e))
 pair_asked b r e = refl
 
 pub pair_quiet : (b : Block ℕ) (r : Part) → waits_in b r ≡ true → is_quiet r ≡ true
-pair_quiet b (Held n) e = absurd (true≢false (sym e))
+pair_quiet b (InCell n) e = absurd (true≢false (sym e))
 pair_quiet b (Giver n) e = absurd (true≢false (sym e))
 pair_quiet b (Taker n) e = absurd (true≢false (sym e))
 pair_quiet b (Drainer n) e = absurd (true≢false (sym e))
 pair_quiet b r e = refl
 
 pub pair_reads : (fl : Flow) (x : ℕ) (i : Item) (b : Block ℕ) (r : Part) → waits_in b r ≡ true → reads fl x i r ≡ false
-pair_reads fl x i b (Held n) e = absurd (true≢false (sym e))
+pair_reads fl x i b (InCell n) e = absurd (true≢false (sym e))
 pair_reads fl x i b r e = refl
 
 -- what is quiet is no part of a loop's credits
@@ -69,7 +70,7 @@ pub calm_item : (c : Context) (q : Part) → is_credit q ≡ true → (j : Item)
 calm_item c q k j e = ap (λ t. same_context j.context c && t) (credit_apart j.inlet.part q e k) ∙ and_false (same_context j.context c)
 
 -- where a wire leads is none of them
-pub given_calm : (b : Block ℕ) (r : Part) → is_given b r ≡ false → is_credit r ≡ false
+pub given_calm : (b : Block ℕ) (r : Part) → is_unwired b r ≡ false → is_credit r ≡ false
 given_calm b (Giver n) e = absurd (true≢false e)
 given_calm b (Taker n) e = absurd (true≢false e)
 given_calm b (Drainer n) e = absurd (true≢false e)

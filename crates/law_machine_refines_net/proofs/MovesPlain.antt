@@ -11,10 +11,11 @@ use Rattle.semantics.specs.Machine.{value_in}
 use Rattle.semantics.specs.Orderly.{readers_of}
 use Rattle.law_confluence.proofs.NetSlots.{InSlots}
 use Rattle.law_confluence.proofs.Orders.{at_first, at_last}
-use Rattle.law_net.specs.ContextsParts.{Part, Held, Shown, Done, Freed, Inlet, BackTo, Item, Firing}
+use Rattle.law_net.specs.ContextsParts.{Part, InCell, Shown, Done, Freed, Inlet, BackTo, Item, Firing}
 use Rattle.law_net.specs.ContextsFirings.{Config, frame_at, cell_of, memory_of, remembered, HasFired}
-use Rattle.law_net.specs.ContextsStands.{frame_of, word_of, token_of, on_side, in_slot, slot_of, only, is_asked, is_held, is_instr, reads, conts_of, named_by}
-use Rattle.law_net.specs.ContextsStands.{Stands, but_cells}
+use Rattle.law_net.specs.ContextsMirror.{frame_of, word_of, token_of, on_side, in_slot, slot_of, only, is_asked, is_in_cell, is_instr, reads}
+use Rattle.law_net.specs.ContextsMirror.{conts_of, named_by}
+use Rattle.law_net.specs.ContextsMirror.{Mirrors, but_cells}
 use Rattle.law_machine_refines_net.specs.MovesCases.{Taking, net_of, Shows}
 use Rattle.law_machine_refines_net.proofs.MovesAccount.{Account, Spares, renews, here}
 use Rattle.law_machine_refines_net.proofs.MovesLasting.{item_word, tokens_last}
@@ -24,14 +25,14 @@ use Rattle.law_machine_refines_net.proofs.MovesSettled.{pool_is, nh}
 
 -- WHAT THE MEMORY DOES NOT HEED
 abbrev pub is_silent : Part → Bool
-is_silent (Held n) = false
+is_silent (InCell n) = false
 is_silent (Shown j) = false
 is_silent Done = false
 is_silent Freed = false
 is_silent r = true
 
 pub instr_silent : (r : Part) → is_instr r ≡ true → is_silent r ≡ true
-instr_silent (Held n) e = absurd (true≢false (sym e))
+instr_silent (InCell n) e = absurd (true≢false (sym e))
 instr_silent (Shown j) e = absurd (true≢false (sym e))
 instr_silent Done e = absurd (true≢false (sym e))
 instr_silent Freed e = absurd (true≢false (sym e))
@@ -41,7 +42,7 @@ abbrev pub AreSilent : List Firing → Type 0
 AreSilent fs = (f : Firing) → Contains fs f → is_silent f.part ≡ true
 
 silent_memory : (fl : Flow) (f : Firing) (r : Part) (m : Memory) → is_silent r ≡ true → remembered fl f r m ≡ m
-silent_memory fl f (Held n) m e = absurd (true≢false (sym e))
+silent_memory fl f (InCell n) m e = absurd (true≢false (sym e))
 silent_memory fl f (Shown j) m e = absurd (true≢false (sym e))
 silent_memory fl f r m e = refl
 
@@ -106,8 +107,8 @@ module _ {s : Taking} {T : Item → Type 0} {d : Config} {new : List Firing} {ma
   abbrev net : Config
   net = net_of s
 
-  abbrev old : Stands s.fl s.p s.w s.m net
-  old = s.keeps.follows.stands
+  abbrev old : Mirrors s.fl s.p s.w s.m net
+  old = s.keeps.tracks.stands
 
   -- WHAT STAYS, where nothing of it comes or goes
   pub requests_stay : s.new.store.requests ≡ s.m.store.requests → Spares s T (λ (i : Item). is_asked i.inlet.part)
@@ -131,12 +132,12 @@ module _ {s : Taking} {T : Item → Type 0} {d : Config} {new : List Firing} {ma
       (λ (i : Item). on_side i.inlet.port (word_of s.fl s.p s.w net.fired i.word)) old.base x s.m.store.slots) (sym (l.spared (in_slot s.fl) spares)) old.slots)
 
   -- no request of a cell is made
-  pub good_stay : ((j : Item) → Contains made j → is_held j.inlet.part ≡ false) → (j : Item) (n : ℕ) → Contains (d.pending ++ d.waiting) j
-      → j.inlet.part ≡ Held n → (x : ℕ) × (cell_of s.fl j.context n j.held ≡ Some x)
+  pub good_stay : ((j : Item) → Contains made j → is_in_cell j.inlet.part ≡ false) → (j : Item) (n : ℕ) → Contains (d.pending ++ d.waiting) j
+      → j.inlet.part ≡ InCell n → (x : ℕ) × (cell_of s.fl j.context n j.held ≡ Some x)
   good_stay none j n h e = pick (here l j h)
     where
       pick : Contains made j ⊎ Contains (net.pending ++ net.waiting) j → (x : ℕ) × (cell_of s.fl j.context n j.held ≡ Some x)
-      pick (inl h) = absurd (true≢false (sym (ap is_held e) ∙ none j h))
+      pick (inl h) = absurd (true≢false (sym (ap is_in_cell e) ∙ none j h))
       pick (inr h) = old.good j n h e
 
   -- the memory, where no firing is of the parts that it heeds

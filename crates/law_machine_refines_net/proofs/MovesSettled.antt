@@ -11,18 +11,18 @@ use Rattle.tags.specs.declared.value.Value.{Value}
 use Rattle.semantics.specs.Graph.{Flow}
 use Rattle.semantics.specs.Plan.{Plan}
 use Rattle.law_confluence.proofs.Orders.{shuffled, Part as Piece, ◌⊕◌, at_first, at_last, flat_map-IsPermutation}
-use Rattle.law_net.specs.ContextsParts.{Part, Held, Item, Firing}
+use Rattle.law_net.specs.ContextsParts.{Part, InCell, Item, Firing}
 use Rattle.law_net.specs.Contexts.{Wires, block_in}
 use Rattle.law_net.specs.ContextsBlocks.{is_store}
 use Rattle.law_net.specs.ContextsFirings.{Config, cell_of, second_of}
-use Rattle.law_net.specs.ContextsStands.{word_of, to_of, cell_to, token_of, only, is_held, Stands, is_cell_token, but_cells, events_taken}
+use Rattle.law_net.specs.ContextsMirror.{word_of, to_of, cell_to, token_of, only, is_in_cell, Mirrors, is_cell_token, but_cells, events_taken}
 use Rattle.law_machine_refines_net.specs.MovesCases.{Taking, net_of, is_quiet}
 use Rattle.law_machine_refines_net.proofs.MovesLists.{rest_same}
 
 -- no request of a cell
-pub no_cell_to : (fl : Flow) (p : Plan) (w : Wires) (fired : List Firing) (i : Item) (r : Part) (word : Word) → is_held r ≡ false
+pub no_cell_to : (fl : Flow) (p : Plan) (w : Wires) (fired : List Firing) (i : Item) (r : Part) (word : Word) → is_in_cell r ≡ false
     → is_cell_token (record { to = to_of fl p w fired i r; word = word }) ≡ false
-no_cell_to fl p w fired i (Held n) word e = absurd (true≢false e)
+no_cell_to fl p w fired i (InCell n) word e = absurd (true≢false e)
 no_cell_to fl p w fired i r word e = refl
 
 -- and one with a good index
@@ -31,35 +31,36 @@ cell_to_is None x t v word e = absurd (cc)
 cell_to_is (Some y) x true v word e = refl
 cell_to_is (Some y) x false v word e = refl
 
-pub quiet_held : (r : Part) → is_quiet r ≡ true → is_held r ≡ false
-quiet_held (Held n) e = absurd (true≢false (sym e))
+pub quiet_held : (r : Part) → is_quiet r ≡ true → is_in_cell r ≡ false
+quiet_held (InCell n) e = absurd (true≢false (sym e))
 quiet_held r e = refl
 
 -- an item's token is a cell's just where it is a request
-abbrev pub IsTold : Flow → Plan → Wires → List Firing → Item → Type 0
-IsTold fl p w fired j = is_cell_token (token_of fl p w fired j) ≡ is_held j.inlet.part
+abbrev pub IsMeant : Flow → Plan → Wires → List Firing → Item → Type 0
+IsMeant fl p w fired j = is_cell_token (token_of fl p w fired j) ≡ is_in_cell j.inlet.part
 
-pub told_other : (fl : Flow) (p : Plan) (w : Wires) (fired : List Firing) (j : Item) → is_held j.inlet.part ≡ false → IsTold fl p w fired j
-told_other fl p w fired j e = no_cell_to fl p w fired j j.inlet.part (word_of fl p w fired j.word) e ∙ sym e
+pub meant_other : (fl : Flow) (p : Plan) (w : Wires) (fired : List Firing) (j : Item) → is_in_cell j.inlet.part ≡ false → IsMeant fl p w fired j
+meant_other fl p w fired j e = no_cell_to fl p w fired j j.inlet.part (word_of fl p w fired j.word) e ∙ sym e
 
-pub told_held : (fl : Flow) (p : Plan) (w : Wires) (fired : List Firing) (j : Item) (n x : ℕ) → j.inlet.part ≡ Held n → cell_of fl j.context n j.held ≡ Some x
-    → IsTold fl p w fired j
-told_held fl p w fired j n x e good =
+pub meant_held : (fl : Flow) (p : Plan) (w : Wires) (fired : List Firing) (j : Item) (n x : ℕ) → j.inlet.part ≡ InCell n
+    → cell_of fl j.context n j.held ≡ Some x
+    → IsMeant fl p w fired j
+meant_held fl p w fired j n x e good =
     let word = word_of fl p w fired j.word in
     ap (λ (r : Part). is_cell_token (record { to = to_of fl p w fired j r; word = word })) e
-    ∙ cell_to_is (cell_of fl j.context n j.held) x (is_store (block_in fl j.context) n) (second_of j.held) word good ∙ sym (ap is_held e)
+    ∙ cell_to_is (cell_of fl j.context n j.held) x (is_store (block_in fl j.context) n) (second_of j.held) word good ∙ sym (ap is_in_cell e)
 
 -- the tokens of the others stay
-pub cells_out : (fl : Flow) (p : Plan) (w : Wires) (fired : List Firing) (items : List Item) → ((j : Item) → Contains items j → IsTold fl p w fired j)
-    → but_cells (map (token_of fl p w fired) items) ≡ map (token_of fl p w fired) (only (λ (i : Item). not (is_held i.inlet.part)) items)
+pub cells_out : (fl : Flow) (p : Plan) (w : Wires) (fired : List Firing) (items : List Item) → ((j : Item) → Contains items j → IsMeant fl p w fired j)
+    → but_cells (map (token_of fl p w fired) items) ≡ map (token_of fl p w fired) (only (λ (i : Item). not (is_in_cell i.inlet.part)) items)
 cells_out fl p w fired [] h = refl
 cells_out fl p w fired (j ∷ js) h =
     ap (λ (t : Bool). (if t then [] else token_of fl p w fired j ∷ []) ++ but_cells (map (token_of fl p w fired) js)) (h j (contains_head j js))
-    ∙ ap (λ l. (if is_held j.inlet.part then [] else token_of fl p w fired j ∷ []) ++ l) (cells_out fl p w fired js (λ x c. h x (contains_tail j js x c)))
-    ∙ split (is_held j.inlet.part)
+    ∙ ap (λ l. (if is_in_cell j.inlet.part then [] else token_of fl p w fired j ∷ []) ++ l) (cells_out fl p w fired js (λ x c. h x (contains_tail j js x c)))
+    ∙ split (is_in_cell j.inlet.part)
   where
-    split : (t : Bool) → (if t then [] else token_of fl p w fired j ∷ []) ++ map (token_of fl p w fired) (only (λ (i : Item). not (is_held i.inlet.part)) js)
-        ≡ map (token_of fl p w fired) ((if not t then j ∷ [] else []) ++ only (λ (i : Item). not (is_held i.inlet.part)) js)
+    split : (t : Bool) → (if t then [] else token_of fl p w fired j ∷ []) ++ map (token_of fl p w fired) (only (λ (i : Item). not (is_in_cell i.inlet.part)) js)
+        ≡ map (token_of fl p w fired) ((if not t then j ∷ [] else []) ++ only (λ (i : Item). not (is_in_cell i.inlet.part)) js)
     split true = refl
     split false = refl
 
@@ -70,8 +71,8 @@ module _ (s : Taking) where
   abbrev tok : Item → Token
   tok j = token_of s.fl s.p s.w net.fired j
 
-  abbrev old : Stands s.fl s.p s.w s.m net
-  old = s.keeps.follows.stands
+  abbrev old : Mirrors s.fl s.p s.w s.m net
+  old = s.keeps.tracks.stands
 
   -- the tokens that are left are those of the other items
   pub rest_is : IsPermutation s.event.rest (map tok s.others)
@@ -93,9 +94,9 @@ module _ (s : Taking) where
       (IsPermutation-append_left s.event.made _ _ (IsPermutation-append_right E _ _ (IsPermutation-sym _ _ s.event.takes)))))
 
   abbrev pub nh : Item → Bool
-  nh j = not (is_held j.inlet.part)
+  nh j = not (is_in_cell j.inlet.part)
 
-  pub made_but : (made : List Item) → IsPermutation s.event.made (map tok made) → ((j : Item) → Contains made j → IsTold s.fl s.p s.w net.fired j)
+  pub made_but : (made : List Item) → IsPermutation s.event.made (map tok made) → ((j : Item) → Contains made j → IsMeant s.fl s.p s.w net.fired j)
       → IsPermutation (but_cells s.event.made) (map tok (only nh made))
-  made_but made e told =
-      at_last (flat_map-IsPermutation (λ (t : Token). if is_cell_token t then [] else t ∷ []) _ _ e) (cells_out s.fl s.p s.w net.fired made told)
+  made_but made e meant =
+      at_last (flat_map-IsPermutation (λ (t : Token). if is_cell_token t then [] else t ∷ []) _ _ e) (cells_out s.fl s.p s.w net.fired made meant)

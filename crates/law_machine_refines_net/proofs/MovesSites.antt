@@ -12,13 +12,13 @@ use Rattle.semantics.specs.Cause.{is_looped, loops_to}
 use Rattle.semantics.specs.Program.{Instr, instr_at}
 use Rattle.semantics.specs.Plan.{Plan}
 use Rattle.semantics.proofs.Lines.{block_is_there}
-use Rattle.law_reuse.proofs.SlotsStands.{Stands, stands_at}
-use Rattle.law_net.specs.ContextsParts.{Part, Asked, NextAsked, Held, Drained, Shown, Done, Freed}
+use Rattle.law_reuse.proofs.SlotsPlaced.{IsPlaced, stands_at}
+use Rattle.law_net.specs.ContextsParts.{Part, Asked, NextAsked, InCell, Drained, Shown, Done, Freed}
 use Rattle.law_net.specs.ContextsBlocks.{Site, Wiring, there_in, is_kind, is_loop, loop_kind}
 use Rattle.law_net.specs.Contexts.{Wires, or_zero, or_none, no_block, code_in, site_in, wiring_in, IsContext}
 use Rattle.law_net.specs.ContextsWires.{IsWiredCode, AreWiredBy, Runs, IsInstr}
 use Rattle.law_net.specs.ContextsLaws.{spot_there}
-use Rattle.law_net.specs.ContextsStands.{ip_of, is_instr}
+use Rattle.law_net.specs.ContextsMirror.{ip_of, is_instr}
 
 -- A LOOP'S BLOCK IS LOOPED
 node_within : (b : Block ℕ) (n : ℕ) (line : Node ℕ) → node_at b n ≡ Some line → (i : ℕ) × (slice_get b.nodes i ≡ Some line)
@@ -102,21 +102,21 @@ module _ (fl : Flow) (p : Plan) (w : Wires) (wired : AreWiredBy fl p w) where
   -- the instruction of a part
   pub record Seated (c : Context) (r : Part) : Type 0 where
     pub instr : Instr
-    pub stands : Stands p.program (code_in fl w c) ((wiring_in fl w c).place r) instr
+    pub stands : IsPlaced p.program (code_in fl w c) ((wiring_in fl w c).place r) instr
     pub at : instr_at p.program (ip_of fl p w c r) ≡ Some instr
     pub is : IsInstr fl p w.variant (site_in fl w c) (wiring_in fl w c) r instr
 
   pub seated : (c : Context) (r : Part) → IsContext fl c → there_in fl (site_in fl w c) (wiring_in fl w c) r ≡ true → Seated c r
   seated c r h there =
       let k = coded c h in let i = k.laid.here r there in
-      let s : Stands p.program (code_in fl w c) ((wiring_in fl w c).place r) i.0 = record { code = k.code; block = k.there; instr = i.1 } in
+      let s : IsPlaced p.program (code_in fl w c) ((wiring_in fl w c).place r) i.0 = record { code = k.code; block = k.there; instr = i.1 } in
       record { instr = i.0; stands = s; at = stands_at p.program (code_in fl w c) ((wiring_in fl w c).place r) i.0 s; is = i.2 }
 
 -- PARTS. What is there has an instruction, and what has one is there
 pub there_instr : (fl : Flow) (s : Site) (w : Wiring) (r : Part) → there_in fl s w r ≡ true → is_instr r ≡ true
 there_instr fl s w (Asked n) e = absurd (true≢false (sym e))
 there_instr fl s w NextAsked e = absurd (true≢false (sym e))
-there_instr fl s w (Held n) e = absurd (true≢false (sym e))
+there_instr fl s w (InCell n) e = absurd (true≢false (sym e))
 there_instr fl s w (Drained n) e = absurd (true≢false (sym e))
 there_instr fl s w (Shown j) e = absurd (true≢false (sym e))
 there_instr fl s w Done e = absurd (true≢false (sym e))
@@ -127,7 +127,7 @@ pub spot_instr : (fl : Flow) (w : Wires) (c : Context) (r : Part) → is_instr r
     → there_in fl (site_in fl w c) (wiring_in fl w c) r ≡ true
 spot_instr fl w c (Asked n) i e = absurd (true≢false (sym i))
 spot_instr fl w c NextAsked i e = absurd (true≢false (sym i))
-spot_instr fl w c (Held n) i e = absurd (true≢false (sym i))
+spot_instr fl w c (InCell n) i e = absurd (true≢false (sym i))
 spot_instr fl w c (Drained n) i e = absurd (true≢false (sym i))
 spot_instr fl w c (Shown j) i e = absurd (true≢false (sym i))
 spot_instr fl w c Done i e = absurd (true≢false (sym i))

@@ -5,11 +5,11 @@ use Rattle.tags.specs.declared.token.To.{To}
 use Rattle.semantics.specs.Graph.{Flow}
 use Rattle.semantics.specs.Meaning.{Context}
 use Rattle.semantics.specs.Plan.{Plan}
-use Rattle.law_net.specs.ContextsParts.{Part, Framer, Opener, Giver, Taker, Drainer, Asked, NextAsked, Held, Drained, Shown, Done, Freed, Item, Firing}
+use Rattle.law_net.specs.ContextsParts.{Part, Framer, Opener, Giver, Taker, Drainer, Asked, NextAsked, InCell, Drained, Shown, Done, Freed, Item, Firing}
 use Rattle.law_net.specs.ContextsParts.{same_context, same_part}
 use Rattle.law_net.specs.Contexts.{Wires}
 use Rattle.law_net.specs.ContextsFirings.{handed_to, renewed, ProperAt, is_firing, times}
-use Rattle.law_net.specs.ContextsStands.{frame_of, ip_of, to_of, is_instr}
+use Rattle.law_net.specs.ContextsMirror.{frame_of, ip_of, to_of, is_instr}
 use Rattle.law_machine_refines_net.specs.MovesCases.{is_still}
 use Rattle.law_machine_refines_net.proofs.MovesLists.{count_no}
 use Rattle.law_machine_refines_net.proofs.MovesParts.{is_lending}
@@ -34,7 +34,7 @@ pub still_proper : (fl : Flow) (fired : List Firing) (f : Firing) (r : Part) →
 still_proper fl fired f (Framer n) e = absurd (true≢false (sym e))
 still_proper fl fired f (Asked n) e = absurd (true≢false (sym e))
 still_proper fl fired f NextAsked e = absurd (true≢false (sym e))
-still_proper fl fired f (Held n) e = absurd (true≢false (sym e))
+still_proper fl fired f (InCell n) e = absurd (true≢false (sym e))
 still_proper fl fired f (Drained n) e = absurd (true≢false (sym e))
 still_proper fl fired f (Giver n) e = absurd (true≢false (sym e))
 still_proper fl fired f (Drainer n) e = absurd (true≢false (sym e))
@@ -52,7 +52,7 @@ pub to_instr : (fl : Flow) (p : Plan) (w : Wires) (fired : List Firing) (i : Ite
     → to_of fl p w fired i r ≡ To.Instr (frame_of fl fired i.context) (ip_of fl p w i.context r) i.inlet.port
 to_instr fl p w fired i (Asked n) e = absurd (true≢false (sym e))
 to_instr fl p w fired i NextAsked e = absurd (true≢false (sym e))
-to_instr fl p w fired i (Held n) e = absurd (true≢false (sym e))
+to_instr fl p w fired i (InCell n) e = absurd (true≢false (sym e))
 to_instr fl p w fired i (Drained n) e = absurd (true≢false (sym e))
 to_instr fl p w fired i (Shown j) e = absurd (true≢false (sym e))
 to_instr fl p w fired i Done e = absurd (true≢false (sym e))

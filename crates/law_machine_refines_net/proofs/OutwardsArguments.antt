@@ -19,10 +19,10 @@ use Rattle.law_net.specs.Contexts.{Wires, block_in, is_strict_in}
 use Rattle.law_net.specs.ContextsFirings.{Config, Move, begin, takes, own_takes, renewed, right_way, arguments_from, ProperAt, IsProperMove, ProperMoves, Still}
 use Rattle.law_net.specs.ContextsFirings.{Then}
 use Rattle.law_net.specs.ContextsLaws.{sender_way, way_fits, spot_there}
-use Rattle.law_net.specs.ContextsStands.{came}
+use Rattle.law_net.specs.ContextsMirror.{came}
 use Rattle.law_net.proofs.ContextsSames.{hits_at, hit_counted, spot_is, inlet_is}
 use Rattle.law_net.proofs.WiredNets.{once_all, taken_in}
-use Rattle.law_net.proofs.RunsComes.{sender_one}
+use Rattle.law_net.proofs.RunsArrives.{sender_one}
 use Rattle.law_net.proofs.CreditsOpened.{framed, NSender}
 use Rattle.law_machine_refines_net.specs.MovesCases.{Taking, net_of}
 use Rattle.law_machine_refines_net.proofs.MovesFitted.{IsHere, fits, among}
@@ -97,7 +97,7 @@ module _ (s : Taking) (c : Context) (n i : ℕ) where
       let there = subst (λ (c : Context). (invokes (block_in s.fl c) n && nat_lt i (source_count (block_in s.fl c) n)) ≡ true) a.1
       (subst (λ (r : Part). spot_there s.fl s.w x.context r ≡ true) a.2 (fits s x a.0).there) in
       let low = ltb-true i (source_count (block_in s.fl c) n) (and_parts _ _ there).1 in
-      let count = framers_hold s.fl s.w (begin s.inputs) net s.keeps.follows.moves (λ h n k. absurd (contains_none h k)) f n h.1 h.3 in
+      let count = framers_hold s.fl s.w (begin s.inputs) net s.keeps.tracks.moves (λ h n k. absurd (contains_none h k)) f n h.1 h.3 in
       let full : length f.operands ≡ source_count (block_in s.fl c) n = count
       ∙ ap (λ (c : Context). if is_strict_in s.fl c n then source_count (block_in s.fl c) n else 0) h.2
       ∙ ap (λ (t : Bool). if t then source_count (block_in s.fl c) n else 0) strict in

@@ -7,7 +7,7 @@ use Rattle.semantics.specs.Plan.{Plan, landing, landing_in}
 use Rattle.law_net.specs.ContextsParts.{Entry, Line, Landing}
 use Rattle.law_net.specs.ContextsBlocks.{call_kind, code_called, callee_code, invokes, source_count}
 use Rattle.law_net.specs.Contexts.{Wires, or_zero, block_in, code_in, child, IsContext}
-use Rattle.law_net.specs.ContextsStands.{ip_of, row_of}
+use Rattle.law_net.specs.ContextsMirror.{ip_of, row_of}
 use Rattle.law_net.specs.ContextsTheorem.{IsGood}
 use Rattle.law_net.proofs.WiredInvoked.{kind_line, call_invoked, loop_invoked, looped_at, code_at, Child, ByCall, ByLoop, child_cases, child_here}
 use Rattle.law_net.proofs.RunsLands.{loop_code, call_code}

@@ -12,9 +12,9 @@ use Rattle.law_confluence.proofs.Orders.{at_last}
 use Rattle.law_fresh_frames.specs.Alike.{plain_dests}
 use Rattle.law_net.specs.ContextsParts.{signal, Item, each, Firing}
 use Rattle.law_net.specs.Contexts.{wiring_in}
-use Rattle.law_net.specs.ContextsWires.{leads_to, stands_at}
+use Rattle.law_net.specs.ContextsWires.{leads_to, ip_and_port}
 use Rattle.law_net.specs.ContextsFirings.{Config, makes}
-use Rattle.law_net.specs.ContextsStands.{frame_of, word_of, token_of, on_side, in_slot, slot_of, only, is_instr, Stands}
+use Rattle.law_net.specs.ContextsMirror.{frame_of, word_of, token_of, on_side, in_slot, slot_of, only, is_instr, Mirrors}
 use Rattle.law_machine_refines_net.specs.MovesCases.{Taking, net_of, Followed, is_still}
 use Rattle.law_machine_refines_net.proofs.MovesLists.{contains_one}
 use Rattle.law_machine_refines_net.proofs.MovesFitted.{is_plain_way}
@@ -31,8 +31,8 @@ module _ (s : Taking) (still : is_still s.i.inlet.part ≡ true) (two : in_slot 
   abbrev net : Config
   net = net_of s
 
-  abbrev old : Stands s.fl s.p s.w s.m net
-  old = s.keeps.follows.stands
+  abbrev old : Mirrors s.fl s.p s.w s.m net
+  old = s.keeps.tracks.stands
 
   abbrev is : is_instr s.i.inlet.part ≡ true
   is = Pairs.is s two plain
@@ -50,7 +50,7 @@ module _ (s : Taking) (still : is_still s.i.inlet.part ≡ true) (two : in_slot 
     pub makes_is : makes s.fl s.w (f sec) ≡ out ++ each s.i.context signal (Wire s is false)
     pub dests : List Dest
     pub leads : IsPermutation (map (leads_to ((wiring_in s.fl s.w s.i.context).place s.i.inlet.part)) dests)
-        (map (stands_at (wiring_in s.fl s.w s.i.context)) (Wire s is false))
+        (map (ip_and_port (wiring_in s.fl s.w s.i.context)) (Wire s is false))
     pub plain_dest : (d : Dest) → Contains dests d → Contains (plain_dests (instr s is) (instr s is).op) d
     pub did : (s.event.made ≡ out_made ++ to_each (at s is) Rule.signal dests)
         × (s.new.store ≡ with_slot s.m.store (frame_of s.fl net.fired s.i.context) (slot_of s.fl s.w s.i) Empty)

@@ -22,9 +22,9 @@ use Rattle.law_confluence.specs.OrdersTotals.{one}
 use Rattle.law_net.specs.ContextsParts.{Part, End, Giver, CallDone, Landing, Freed, inlet, Note, BackTo, signal, Item, item, each, same_context}
 use Rattle.law_net.specs.ContextsBlocks.{side, is_call, is_loop, op_of, there_in, result_count}
 use Rattle.law_net.specs.Contexts.{block_in, site_in, wiring_in, or_zero, IsContext, return_of}
-use Rattle.law_net.specs.ContextsWires.{stands_at}
+use Rattle.law_net.specs.ContextsWires.{ip_and_port}
 use Rattle.law_net.specs.ContextsFirings.{Config, frame_at, end_back}
-use Rattle.law_net.specs.ContextsStands.{frame_of, ip_of, word_of, slot_of, named_by, row_of, is_held, is_instr, is_item_at, items_at, Stands, WasUsed}
+use Rattle.law_net.specs.ContextsMirror.{frame_of, ip_of, word_of, slot_of, named_by, row_of, is_in_cell, is_instr, is_item_at, items_at, Mirrors, WasUsed}
 use Rattle.law_net.proofs.WiredInvoked.{call_invoked, loop_invoked, not_loop, code_at}
 use Rattle.law_net.proofs.WiredNets.{count_total}
 use Rattle.law_machine_refines_net.specs.MovesCases.{Taking, net_of, Followed}
@@ -38,7 +38,7 @@ use Rattle.law_machine_refines_net.proofs.SendsPairs as Pairs
 use Rattle.law_machine_refines_net.proofs.SendsPairs.{Second, left_here}
 use Rattle.law_machine_refines_net.proofs.Sends.{Wire}
 use Rattle.law_machine_refines_net.proofs.SendsAlong.{both, pair_follows}
-use Rattle.law_machine_refines_net.proofs.SendsInwards.{told_at, carried}
+use Rattle.law_machine_refines_net.proofs.SendsInwards.{meant_at, carried}
 use Rattle.law_machine_refines_net.proofs.OutwardsReturned.{call_landing}
 use Rattle.law_machine_refines_net.proofs.OutwardsCrossing.{crosses_follow}
 use Rattle.law_machine_refines_net.proofs.OutwardsPassed.{Sent}
@@ -58,13 +58,13 @@ bool_same false false f g = refl
 -- AN END, and what it is told of: to which part it goes back, at which offset
 module _ (s : Taking) (c d : Context) (n o t : ℕ) (q : Part) (in_c : s.i.context ≡ c) (e : s.i.inlet.part ≡ End) where
   abbrev pub last : Taking
-  last = told_at s c End in_c e
+  last = meant_at s c End in_c e
 
   abbrev net : Config
   net = net_of s
 
-  abbrev old : Stands s.fl s.p s.w s.m net
-  old = s.keeps.follows.stands
+  abbrev old : Mirrors s.fl s.p s.w s.m net
+  old = s.keeps.tracks.stands
 
   abbrev is_end : is_instr End ≡ true
   is_end = Pairs.is last refl refl
@@ -92,7 +92,7 @@ module _ (s : Taking) (c d : Context) (n o t : ℕ) (q : Part) (in_c : s.i.conte
     pub back : return_of c ≡ BackTo d (inlet (Landing n 0) Left 0)
     pub ends : end_back c ≡ goes_back ∷ []
     pub is_q : is_instr q ≡ true
-    pub q_held : is_held q ≡ false
+    pub q_held : is_in_cell q ≡ false
     pub place : base + o ≡ ip_of s.fl s.p s.w d q
     pub low : o < row_of s.fl s.p s.w d (Landing n 0)
     pub books : (x : Context) (m : ℕ) → IsContext s.fl x → is_loop (block_in s.fl x) m ≡ true → Books last ending x m
@@ -138,7 +138,7 @@ module _ (s : Taking) (c d : Context) (n o t : ℕ) (q : Part) (in_c : s.i.conte
     was_used : WasUsed s.p s.q.steps (F d) (ip_of s.fl s.p s.w d q) Left
     was_used =
         subst (λ ip. WasUsed s.p s.q.steps (F d) ip Left) g.place
-        (s.keeps.follows.asked left_item d (inlet (Landing n 0) Left 0) o (left_here last refl refl sec) left_is g.low)
+        (s.keeps.tracks.asked left_item d (inlet (Landing n 0) Left 0) o (left_here last refl refl sec) left_is g.low)
 
     -- HOW MANY TURNS it releases
     module _ (m : s.event.made ≡ end_tokens) where
@@ -182,7 +182,7 @@ module _ (s : Taking) (c d : Context) (n o t : ℕ) (q : Part) (in_c : s.i.conte
       counted = record { books = g.books; released = released m.0; releases = releases m.0 };
       makes_is = ap (λ (l : List Item). item c (inlet Freed Left 0) signal ∷ l) g.ends ∙ ap (λ l. ending ++ each c signal l) (sym no_wire);
       dests = [];
-      leads = permutation_same _ _ (ap (map (stands_at (wiring_in s.fl s.w c))) (sym no_wire));
+      leads = permutation_same _ _ (ap (map (ip_and_port (wiring_in s.fl s.w c))) (sym no_wire));
       plain_dest = λ x h. absurd (contains_none x h);
       did = m;
     })
@@ -200,7 +200,7 @@ module _ (s : Taking) (d : Context) (n o g : ℕ) (own : frame_at s.fl (net_of s
   one_landing x m h f k =
       let a = at_there h (ip_of s.fl s.p s.w x (Landing m 0) + o) (frame_of s.fl (net_of s).fired d) (ip_of s.fl s.p s.w d (Landing n 0) + o) k in
       let same : g ≡ h = sym (ap or_zero own) ∙ a.0 in
-      let e = s.keeps.follows.stands.apart x d g (f ∙ ap (λ (n : ℕ). Some n) (sym same)) own in
+      let e = s.keeps.tracks.stands.apart x d g (f ∙ ap (λ (n : ℕ). Some n) (sym same)) own in
       let ip : ip_of s.fl s.p s.w x (Landing m 0) ≡ ip_of s.fl s.p s.w d (Landing m 0) = ap (λ (x : Context). ip_of s.fl s.p s.w x (Landing m 0)) e in
       let b = a.1 in (e, omega (arith, ip, b))
 

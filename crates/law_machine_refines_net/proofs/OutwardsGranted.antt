@@ -10,11 +10,11 @@ use Rattle.semantics.specs.Meaning.{Context, Main, Called, Turned}
 use Rattle.semantics.specs.Plan.{Plan}
 use Rattle.law_net.specs.ContextsParts as Parts
 use Rattle.law_net.specs.ContextsParts.{Entry, Line, Opener, Framer, Fanned, Linker, Sender, Landing, CallDone, Giver, Taker, Drainer, LoopDone, Result, Asker}
-use Rattle.law_net.specs.ContextsParts.{NextFramer, NextFanned, NextSender, LastReturn, DrainReturn, End, Asked, NextAsked, Held, Drained, Shown, Done, Freed}
+use Rattle.law_net.specs.ContextsParts.{NextFramer, NextFanned, NextSender, LastReturn, DrainReturn, End, Asked, NextAsked, InCell, Drained, Shown, Done, Freed}
 use Rattle.law_net.specs.ContextsParts.{Inlet, inlet, Item, Firing, spot_of, Role, role, role_of, turn_in}
 use Rattle.law_net.specs.ContextsBlocks.{is_loop, there_in}
 use Rattle.law_net.specs.Contexts.{Wires, block_in, site_in, wiring_in}
-use Rattle.law_net.specs.ContextsWires.{NextFrame, Carried, Suits, comes_at, goes_from, is_given}
+use Rattle.law_net.specs.ContextsWires.{NextFrame, Carried, Suits, arrives_at, goes_from, is_unwired}
 use Rattle.law_net.specs.ContextsFirings.{Config, begin, takes, makes, ProperMoves}
 use Rattle.law_net.specs.ContextsLaws.{Fits, maker_of, way_fits}
 use Rattle.law_net.specs.ContextsTheorem.{IsGood}
@@ -108,7 +108,7 @@ module _ (fl : Flow) (p : Plan) (w : Wires) (good : IsGood fl p w) (c : Context)
     not_first d m (inl (a, b, l)) go = absurd (omega (arith, l))
 
     near_giver : (d : Context) (r : Parts.Part) (u : ℕ) → role_of f ≡ giver_of fl d r u → After c n t d → Later c n t First
-    near_giver d (Held m) u e a = near_role _ e a
+    near_giver d (InCell m) u e a = near_role _ e a
     near_giver d (Asked m) u e a = near_role _ e a
     near_giver d NextAsked u e a = near_role _ e a
     near_giver d (Fanned m) u e a = near_role _ e a
@@ -155,7 +155,7 @@ module _ (fl : Flow) (p : Plan) (w : Wires) (good : IsGood fl p w) (c : Context)
         absurd (never_gift fl p w good c n f all i g (NextSender j) e (λ b. refl) (λ d h. h)
         (way_zero i (gift_fits fl p w good f all i g) (NextSender j) e))
 
-    fanned_near : (i : Item) → IsSent fl w f i → i.context ≡ Turned c n t → ((x : Carried) → Suits (comes_at i.inlet.part i.inlet.port) x → NextFrame ≡ x)
+    fanned_near : (i : Item) → IsSent fl w f i → i.context ≡ Turned c n t → ((x : Carried) → Suits (arrives_at i.inlet.part i.inlet.port) x → NextFrame ≡ x)
         → Later c n t First
     fanned_near i s a kind =
         let facts = sent_facts fl w f all s.from s.along in
@@ -166,14 +166,14 @@ module _ (fl : Flow) (p : Plan) (w : Wires) (good : IsGood fl p w) (c : Context)
 
     sent_near : (i : Item) → IsSent fl w f i → Later c n t i → Later c n t First
     sent_near i s (LAfter a) = near_under i.context (sym (ap (λ (i : Item). i.context) s.is)) a
-    sent_near i s (LTaker a e l) = let t = sent_there fl p w good f i all s in absurd (true≢false (sym (ap (is_given (block_in fl i.context)) e) ∙ t.2))
-    sent_near i s (LFramer a e) = let t = sent_there fl p w good f i all s in absurd (true≢false (sym (ap (is_given (block_in fl i.context)) e) ∙ t.2))
+    sent_near i s (LTaker a e l) = let t = sent_there fl p w good f i all s in absurd (true≢false (sym (ap (is_unwired (block_in fl i.context)) e) ∙ t.2))
+    sent_near i s (LFramer a e) = let t = sent_there fl p w good f i all s in absurd (true≢false (sym (ap (is_unwired (block_in fl i.context)) e) ∙ t.2))
     sent_near i s (LAsked a e) =
         let t = sent_there fl p w good f i all s in absurd (true≢false (sym t.0 ∙ ap (there_in fl (site_in fl w i.context) (wiring_in fl w i.context)) e))
-    sent_near i s (LFanned a e) = let t = sent_there fl p w good f i all s in absurd (true≢false (sym (ap (is_given (block_in fl i.context)) e) ∙ t.2))
+    sent_near i s (LFanned a e) = let t = sent_there fl p w good f i all s in absurd (true≢false (sym (ap (is_unwired (block_in fl i.context)) e) ∙ t.2))
     sent_near i s (LSender j a e q) =
-        fanned_near i s a (λ x h. subst (λ (q : Port). Suits (comes_at (NextSender j) q) x) q
-        (subst (λ (r : Parts.Part). Suits (comes_at r i.inlet.port) x) e h))
+        fanned_near i s a (λ x h. subst (λ (q : Port). Suits (arrives_at (NextSender j) q) x) q
+        (subst (λ (r : Parts.Part). Suits (arrives_at r i.inlet.port) x) e h))
 
     made_near : (i : Item) → Contains (makes fl w f) i → Later c n t i → IsGrant ⊎ Later c n t First
     made_near i h x = pick (made_at fl p w good f i all h)

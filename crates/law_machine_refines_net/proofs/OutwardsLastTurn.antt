@@ -7,7 +7,7 @@ use Rattle.semantics.specs.Meaning.{Context, Turned}
 use Rattle.law_net.specs.ContextsParts.{Part, LastReturn, DrainReturn, Giver, Taker, Drainer, Landing, inlet, Note, Item, item, same_context}
 use Rattle.law_net.specs.ContextsBlocks.{is_call, is_loop, there_in, result_count}
 use Rattle.law_net.specs.Contexts.{block_in, site_in, wiring_in, IsContext}
-use Rattle.law_net.specs.ContextsStands.{is_instr, is_item_at, items_at, granted_of}
+use Rattle.law_net.specs.ContextsMirror.{is_instr, is_item_at, items_at, granted_of}
 use Rattle.law_net.proofs.WiredInvoked.{loop_invoked, code_at}
 use Rattle.law_machine_refines_net.specs.MovesCases.{Taking, net_of, Followed}
 use Rattle.law_machine_refines_net.proofs.MovesLists.{contains_one, count_none}

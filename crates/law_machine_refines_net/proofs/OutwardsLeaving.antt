@@ -23,10 +23,11 @@ use Rattle.law_fresh_frames.specs.Alike.{plain_dests}
 use Rattle.law_fresh_frames.proofs.FreshArcs.{uses_new}
 use Rattle.law_net.specs.ContextsParts.{Part, Giver, Taker, Drainer, Inlet, Note, BackTo, Item, item, each, Firing}
 use Rattle.law_net.specs.Contexts.{block_in, code_in, wiring_in}
-use Rattle.law_net.specs.ContextsWires.{leads_to, stands_at}
+use Rattle.law_net.specs.ContextsWires.{leads_to, ip_and_port}
 use Rattle.law_net.specs.ContextsFirings.{Config, takes, makes, frame_at}
-use Rattle.law_net.specs.ContextsStands.{frame_of, ip_of, word_of, token_of, on_side, in_slot, slot_of, only, is_held, is_item_at, items_at, named_by, is_instr}
-use Rattle.law_net.specs.ContextsStands.{Stands}
+use Rattle.law_net.specs.ContextsMirror.{frame_of, ip_of, word_of, token_of, on_side, in_slot, slot_of, only, is_in_cell, is_item_at, items_at}
+use Rattle.law_net.specs.ContextsMirror.{named_by, is_instr}
+use Rattle.law_net.specs.ContextsMirror.{Mirrors}
 use Rattle.law_machine_refines_net.specs.MovesCases.{Taking, IsCaused, IsFree, net_of, Followed, is_still}
 use Rattle.law_machine_refines_net.proofs.MovesLists.{count_append, count_none}
 use Rattle.law_machine_refines_net.proofs.MovesParts.{is_credit, calm_item, given_calm}
@@ -42,8 +43,8 @@ module _ (s : Taking) (is : is_instr s.i.inlet.part ≡ true) where
   abbrev net : Config
   net = net_of s
 
-  abbrev old : Stands s.fl s.p s.w s.m net
-  old = s.keeps.follows.stands
+  abbrev old : Mirrors s.fl s.p s.w s.m net
+  old = s.keeps.tracks.stands
 
   abbrev c : Context
   c = s.i.context
@@ -80,7 +81,7 @@ module _ (s : Taking) (is : is_instr s.i.inlet.part ≡ true) where
     pub from : (named_by note ≡ None) ⊎ ((a : Item) × Contains (s.i ∷ kept) a × (a.word ≡ note))
     pub makes_is : makes s.fl s.w f ≡ out ++ each c note (Wire s is second)
     pub dests : List Dest
-    pub leads : IsPermutation (map (leads_to ((wiring_in s.fl s.w c).place r)) dests) (map (stands_at (wiring_in s.fl s.w c)) (Wire s is second))
+    pub leads : IsPermutation (map (leads_to ((wiring_in s.fl s.w c).place r)) dests) (map (ip_and_port (wiring_in s.fl s.w c)) (Wire s is second))
     pub plain : (d : Dest) → Contains dests d → Contains (plain_dests (instr s is) (instr s is).op) d
     pub made : s.event.made ≡ out_made ++ to_each (at s is) (W note) dests
     pub slots : InSlots (λ (i : Item). frame_of s.fl net.fired i.context) (slot_of s.fl s.w)
@@ -146,9 +147,9 @@ module _ (s : Taking) (is : is_instr s.i.inlet.part ≡ true) where
       caused : (j : Item) → OnWire g.note g.second j → IsCaused s j
       caused j (x, h, e) =
           let n = (wiring_in s.fl s.w c).place r in
-          let d = contains_mapped (leads_to n) g.dests (stands_at (wiring_in s.fl s.w c) x)
-          (Contains-permutation _ _ (stands_at (wiring_in s.fl s.w c) x) (IsPermutation-sym _ _ g.leads)
-          (contains_map (stands_at (wiring_in s.fl s.w c)) (Wire s is g.second) x h)) in
+          let d = contains_mapped (leads_to n) g.dests (ip_and_port (wiring_in s.fl s.w c) x)
+          (Contains-permutation _ _ (ip_and_port (wiring_in s.fl s.w c) x) (IsPermutation-sym _ _ g.leads)
+          (contains_map (ip_and_port (wiring_in s.fl s.w c)) (Wire s is g.second) x h)) in
           let far : n + d.0.ahead ≡ (wiring_in s.fl s.w c).place x.part = ap (λ (q : ℕ × Port). q.0) d.2 in
           let port : d.0.port ≡ x.port = ap (λ (q : ℕ × Port). q.1) d.2 in
           let place : base + n + d.0.ahead ≡ base + (wiring_in s.fl s.w c).place x.part = omega (arith, far) in
@@ -165,7 +166,7 @@ module _ (s : Taking) (is : is_instr s.i.inlet.part ≡ true) where
       sent : (j : Item) → Contains g.out j ⊎ OnWire g.note g.second j → Sent s j
       sent j (inl h) = g.out_sent j h
       sent j (inr (x, h, e)) = record {
-        held = ap (λ (j : Item). is_held j.inlet.part) (sym e) ∙ instr_held x.part (wires_are x h);
+        held = ap (λ (j : Item). is_in_cell j.inlet.part) (sym e) ∙ instr_held x.part (wires_are x h);
         known = subst (λ (j : Item). (n : ℕ) × (frame_at s.fl net.fired j.context ≡ Some n)) e (framed s s.i (taken_here s));
         named = λ d n. names d (ap (λ (j : Item). named_by j.word) e ∙ n) g.from;
         asked = λ d y n. backs d y j (ap (λ (j : Item). j.word) e) n g.from;
@@ -205,7 +206,7 @@ module _ (s : Taking) (is : is_instr s.i.inlet.part ≡ true) where
     pub makes_is : makes s.fl s.w f ≡ each c note (Wire s is second)
     pub from : (named_by note ≡ None) ⊎ ((a : Item) × Contains (s.i ∷ kept) a × (a.word ≡ note))
     pub dests : List Dest
-    pub leads : IsPermutation (map (leads_to ((wiring_in s.fl s.w c).place r)) dests) (map (stands_at (wiring_in s.fl s.w c)) (Wire s is second))
+    pub leads : IsPermutation (map (leads_to ((wiring_in s.fl s.w c).place r)) dests) (map (ip_and_port (wiring_in s.fl s.w c)) (Wire s is second))
     pub plain : (d : Dest) → Contains dests d → Contains (plain_dests (instr s is) (instr s is).op) d
     pub made : s.event.made ≡ to_each (at s is) (W note) dests
     pub slots : InSlots (λ (i : Item). frame_of s.fl net.fired i.context) (slot_of s.fl s.w)

@@ -30,9 +30,9 @@ use Rattle.law_fresh_frames.specs.Alike.{plain_dests}
 use Rattle.law_net.specs.ContextsParts.{Part, Entry, Linker, Landing, Inlet, inlet, Note, FrameOf, BackTo, signal, Item, item, each}
 use Rattle.law_net.specs.ContextsBlocks.{side, callee_code}
 use Rattle.law_net.specs.Contexts.{block_in, code_in, wiring_in, child}
-use Rattle.law_net.specs.ContextsWires.{leads_to, stands_at}
+use Rattle.law_net.specs.ContextsWires.{leads_to, ip_and_port}
 use Rattle.law_net.specs.ContextsFirings.{Config, frame_at}
-use Rattle.law_net.specs.ContextsStands.{frame_of, ip_of, word_of, on_side, in_slot, slot_of, only, named_by, is_instr, Stands}
+use Rattle.law_net.specs.ContextsMirror.{frame_of, ip_of, word_of, on_side, in_slot, slot_of, only, named_by, is_instr, Mirrors}
 use Rattle.law_net.proofs.WiredInvoked.{child_cases, child_here}
 use Rattle.law_net.proofs.RunsLands.{one_dest}
 use Rattle.law_machine_refines_net.specs.MovesCases.{Taking, IsFree, net_of, Followed}
@@ -43,20 +43,20 @@ use Rattle.law_machine_refines_net.proofs.MovesFitted.{code, fits, there, among,
 use Rattle.law_machine_refines_net.proofs.SendsRules.{at, instr, stood, goes_to, free_of, grants, releases}
 use Rattle.law_machine_refines_net.proofs.Sends.{Wire, firing_of, stays_same}
 use Rattle.law_machine_refines_net.proofs.SendsAlong.{takes_one, mine, does}
-use Rattle.law_machine_refines_net.proofs.SendsInwards.{told_as, carried}
+use Rattle.law_machine_refines_net.proofs.SendsInwards.{carried_as, carried}
 use Rattle.law_machine_refines_net.proofs.OutwardsChildren.{child_code, entry_at}
 use Rattle.law_machine_refines_net.proofs.OutwardsPassed.{Sent, free_counted}
 use Rattle.law_machine_refines_net.proofs.OutwardsLeaving.{leaves_follow}
 
 module _ (s : Taking) (n : ℕ) (e : s.i.inlet.part ≡ Linker n) where
   abbrev l : Taking
-  l = told_as s (Linker n) e
+  l = carried_as s (Linker n) e
 
   abbrev net : Config
   net = net_of s
 
-  abbrev old : Stands s.fl s.p s.w s.m net
-  old = s.keeps.follows.stands
+  abbrev old : Mirrors s.fl s.p s.w s.m net
+  old = s.keeps.tracks.stands
 
   abbrev is_link : is_instr (Linker n) ≡ true
   is_link = refl
@@ -96,7 +96,7 @@ module _ (s : Taking) (n : ℕ) (e : s.i.inlet.part ≡ Linker n) where
   dest : (x : Dest) × (ins.firsts ≡ x ∷ []) × (leads_to (place (Linker n)) x ≡ (place (Landing n 0), Left))
   dest = one_dest ins.firsts (leads_to (place (Linker n))) (place (Landing n 0), Left)
       (subst (λ (x : List Inlet). IsPermutation (map (leads_to (place (Linker n))) ins.firsts)
-      (map (stands_at (wiring_in s.fl s.w c)) (inlet (Landing n 0) Left 0 ∷ x))) no_wire (stood l is_link).is.firsts)
+      (map (ip_and_port (wiring_in s.fl s.w c)) (inlet (Landing n 0) Left 0 ∷ x))) no_wire (stood l is_link).is.firsts)
 
   far : place (Linker n) + dest.0.ahead ≡ place (Landing n 0)
   far = ap (λ (q : ℕ × Port). q.0) dest.2
@@ -199,7 +199,7 @@ module _ (s : Taking) (n : ℕ) (e : s.i.inlet.part ≡ Linker n) where
     from = inl refl;
     makes_is = ap (λ ws. sent ∷ each c signal ws) (sym no_wire);
     dests = ins.seconds;
-    leads = at_last (stood l is_link).is.seconds (ap (map (stands_at (wiring_in s.fl s.w c))) (no_second ∙ sym no_wire));
+    leads = at_last (stood l is_link).is.seconds (ap (map (ip_and_port (wiring_in s.fl s.w c))) (no_second ∙ sym no_wire));
     plain = λ x h. subst (λ (o : Op). Contains (plain_dests ins o) x) (sym (stood l is_link).is.op) h;
     made = did.0;
     slots =

@@ -21,7 +21,7 @@ use Rattle.law_confluence.proofs.Orders.{at_first, at_last, shuffled, Part as Pi
 use Rattle.law_net.specs.ContextsParts.{inlet, Note, Item, item}
 use Rattle.law_net.specs.Contexts.{block_in, site_in}
 use Rattle.law_net.specs.ContextsFirings.{Config}
-use Rattle.law_net.specs.ContextsStands.{is_instr, frame_of, word_of, on_side, in_slot, slot_of, only, Stands}
+use Rattle.law_net.specs.ContextsMirror.{is_instr, frame_of, word_of, on_side, in_slot, slot_of, only, Mirrors}
 use Rattle.law_machine_refines_net.specs.MovesCases.{Taking, net_of, IsFree, Halts}
 use Rattle.law_machine_refines_net.proofs.MovesLists.{kept_in, kept_out, kept_yes, taken_out, contains_one}
 use Rattle.law_machine_refines_net.proofs.MovesSpots.{one_waits}
@@ -48,8 +48,8 @@ module _ (s : Taking) (two : in_slot s.fl s.i ≡ true) (rw : ℕ) (ways : Ways 
   abbrev net : Config
   net = net_of s
 
-  abbrev old : Stands s.fl s.p s.w s.m net
-  old = s.keeps.follows.stands
+  abbrev old : Mirrors s.fl s.p s.w s.m net
+  old = s.keeps.tracks.stands
 
   abbrev is : is_instr s.i.inlet.part ≡ true
   is = pair_instr (block_in s.fl s.i.context) s.i.inlet.part two

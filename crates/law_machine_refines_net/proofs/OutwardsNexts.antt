@@ -28,10 +28,10 @@ use Rattle.law_net.specs.ContextsParts.{Part, Asker, NextFramer, NextSender, Giv
 use Rattle.law_net.specs.ContextsParts.{item, each, same_context}
 use Rattle.law_net.specs.ContextsBlocks.{side, result_count}
 use Rattle.law_net.specs.Contexts.{block_in, code_in, wiring_in, IsContext}
-use Rattle.law_net.specs.ContextsWires.{leads_to, stands_at}
+use Rattle.law_net.specs.ContextsWires.{leads_to, ip_and_port}
 use Rattle.law_net.specs.ContextsFirings.{Config, frame_at, next_entry}
-use Rattle.law_net.specs.ContextsStands.{frame_of, ip_of, word_of, token_of, slot_of, named_by, is_held, is_instr, is_entry_part, is_item_at, items_at}
-use Rattle.law_net.specs.ContextsStands.{granted_of, WasUsed}
+use Rattle.law_net.specs.ContextsMirror.{frame_of, ip_of, word_of, token_of, slot_of, named_by, is_in_cell, is_instr, is_entry_part, is_item_at, items_at}
+use Rattle.law_net.specs.ContextsMirror.{granted_of, WasUsed}
 use Rattle.law_net.proofs.WiredInvoked.{loop_invoked, is_turned, code_at}
 use Rattle.law_net.proofs.RunsLands.{one_dest}
 use Rattle.law_machine_refines_net.specs.MovesCases.{Taking, IsFree, net_of, Followed}
@@ -46,7 +46,7 @@ use Rattle.law_machine_refines_net.proofs.SendsPairs as Pairs
 use Rattle.law_machine_refines_net.proofs.SendsPairs.{Second, left_here, right_here}
 use Rattle.law_machine_refines_net.proofs.Sends.{Wire}
 use Rattle.law_machine_refines_net.proofs.SendsAlong.{both, all_lead, pair_follows}
-use Rattle.law_machine_refines_net.proofs.SendsInwards.{told_at, carried}
+use Rattle.law_machine_refines_net.proofs.SendsInwards.{meant_at, carried}
 use Rattle.law_machine_refines_net.proofs.OutwardsChildren.{turn_landing, entry_at, line_at}
 use Rattle.law_machine_refines_net.proofs.OutwardsPassed.{Sent, free_counted, none_released}
 use Rattle.law_machine_refines_net.proofs.OutwardsCrossing.{crosses_follow}
@@ -57,7 +57,7 @@ next_calm : (j : ℕ) → is_credit (next_entry j).part ≡ false
 next_calm zero = refl
 next_calm (suc j) = refl
 
-next_held : (j : ℕ) → is_held (next_entry j).part ≡ false
+next_held : (j : ℕ) → is_in_cell (next_entry j).part ≡ false
 next_held zero = refl
 next_held (suc j) = refl
 
@@ -97,7 +97,7 @@ module _ (s : Taking) (d : Context) (n i : ℕ) (in_turn : s.i.context ≡ Turne
   -- A VALUE, or the continuation, for the next turn
   module _ (j : ℕ) (e : s.i.inlet.part ≡ NextSender j) where
     abbrev l : Taking
-    l = told_at s (Turned d n i) (NextSender j) in_turn e
+    l = meant_at s (Turned d n i) (NextSender j) in_turn e
 
     abbrev is_sender : is_instr (NextSender j) ≡ true
     is_sender = Pairs.is l refl refl
@@ -133,7 +133,7 @@ module _ (s : Taking) (d : Context) (n i : ℕ) (in_turn : s.i.context ≡ Turne
       left_is = carried l left_item (left_here l refl refl sec)
 
       has_frame : (g : ℕ) × (frame_at s.fl net.fired after ≡ Some g)
-      has_frame = s.keeps.follows.stands.named left_item after (among l left_item (left_here l refl refl sec)) (ap named_by left_is)
+      has_frame = s.keeps.tracks.stands.named left_item after (among l left_item (left_here l refl refl sec)) (ap named_by left_is)
 
       of_sent : (P : Item → Type 0) → P sent → (x : Item) → Contains (sent ∷ []) x → P x
       of_sent P k x h = subst P (contains_one sent x h) k
@@ -162,7 +162,7 @@ module _ (s : Taking) (d : Context) (n i : ℕ) (in_turn : s.i.context ≡ Turne
         out_sent = of_sent (Sent l) (record {
           held = next_held j;
           known = has_frame;
-          named = λ y k. s.keeps.follows.stands.named right_item y (among l right_item (right_here l refl refl sec)) k;
+          named = λ y k. s.keeps.tracks.stands.named right_item y (among l right_item (right_here l refl refl sec)) k;
           asked = λ y z k. inl (right_item, right_here l refl refl sec, refl);
           caused = λ a k. absurd (true≢false (sym (goes_at j within).1 ∙ k));
         });
@@ -180,7 +180,7 @@ module _ (s : Taking) (d : Context) (n i : ℕ) (in_turn : s.i.context ≡ Turne
   -- THE CREDIT of the next turn
   module _ (e : s.i.inlet.part ≡ Asker) where
     abbrev a : Taking
-    a = told_at s (Turned d n i) Asker in_turn e
+    a = meant_at s (Turned d n i) Asker in_turn e
 
     abbrev is_asker : is_instr Asker ≡ true
     is_asker = Pairs.is a refl refl
@@ -200,7 +200,7 @@ module _ (s : Taking) (d : Context) (n i : ℕ) (in_turn : s.i.context ≡ Turne
     dest : (x : Dest) × (ask.firsts ≡ x ∷ []) × (leads_to (place Asker) x ≡ (place NextFramer, Left))
     dest = one_dest ask.firsts (leads_to (place Asker)) (place NextFramer, Left)
         (subst (λ (x : List Inlet). IsPermutation (map (leads_to (place Asker)) ask.firsts)
-        (map (stands_at (wiring_in s.fl s.w c)) (inlet NextFramer Left 0 ∷ x))) asker_wire (stood a is_asker).is.firsts)
+        (map (ip_and_port (wiring_in s.fl s.w c)) (inlet NextFramer Left 0 ∷ x))) asker_wire (stood a is_asker).is.firsts)
 
     far : ip_of s.fl s.p s.w c Asker + dest.0.ahead ≡ ip_of s.fl s.p s.w c NextFramer
     far = let x : place Asker + dest.0.ahead ≡ place NextFramer = ap (λ (q : ℕ × Port). q.0) dest.2 in omega (arith, x)
@@ -255,12 +255,12 @@ module _ (s : Taking) (d : Context) (n i : ℕ) (in_turn : s.i.context ≡ Turne
       cont_is = carried a cont_item (left_here a refl refl sec)
 
       owner_frame : (g : ℕ) × (frame_at s.fl net.fired d ≡ Some g)
-      owner_frame = s.keeps.follows.stands.named cont_item d (among a cont_item (left_here a refl refl sec)) (ap named_by cont_is)
+      owner_frame = s.keeps.tracks.stands.named cont_item d (among a cont_item (left_here a refl refl sec)) (ap named_by cont_is)
 
       was_used : WasUsed s.p s.q.steps (F d) (ip_of s.fl s.p s.w d (Taker n)) Left
       was_used = let x = turn_landing s.fl s.p s.w s.good d n i turned in
           subst (λ ip. WasUsed s.p s.q.steps (F d) ip Left) taker_at
-          (s.keeps.follows.asked cont_item d (inlet (Landing n 0) Left 0) (inputs + 1) (left_here a refl refl sec) cont_is (omega (arith, x)))
+          (s.keeps.tracks.asked cont_item d (inlet (Landing n 0) Left 0) (inputs + 1) (left_here a refl refl sec) cont_is (omega (arith, x)))
 
       abbrev Asks : Word → Type 0
       Asks k =
@@ -308,7 +308,7 @@ module _ (s : Taking) (d : Context) (n i : ℕ) (in_turn : s.i.context ≡ Turne
         };
         makes_is = ap (λ ws. asked ∷ each c signal ws) (sym asker_wire);
         dests = [];
-        leads = permutation_same _ _ (ap (map (stands_at (wiring_in s.fl s.w c))) (sym asker_wire));
+        leads = permutation_same _ _ (ap (map (ip_and_port (wiring_in s.fl s.w c))) (sym asker_wire));
         plain_dest = λ x h. absurd (contains_none x h);
         did = asks;
       })

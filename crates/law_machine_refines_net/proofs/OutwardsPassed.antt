@@ -12,7 +12,7 @@ use Rattle.law_net.specs.ContextsParts.{Giver, Landing, Inlet, BackTo, Item, Fir
 use Rattle.law_net.specs.ContextsBlocks.{is_loop}
 use Rattle.law_net.specs.Contexts.{block_in, IsContext}
 use Rattle.law_net.specs.ContextsFirings.{Config, takes, makes, frame_at, handed_to}
-use Rattle.law_net.specs.ContextsStands.{ip_of, token_of, in_slot, is_held, is_item_at, items_at, named_by, Stands, is_instr, is_entry_part}
+use Rattle.law_net.specs.ContextsMirror.{ip_of, token_of, in_slot, is_in_cell, is_item_at, items_at, named_by, Mirrors, is_instr, is_entry_part}
 use Rattle.law_machine_refines_net.specs.MovesCases.{Taking, IsCaused, net_of, Followed, Shows, IsFree, is_still}
 use Rattle.law_machine_refines_net.proofs.MovesLists.{count_none, one_holds}
 use Rattle.law_machine_refines_net.proofs.MovesParts.{is_lending, pair_asked, pair_quiet, pair_reads, quiet_calm, calm_item, is_credit}
@@ -22,7 +22,7 @@ use Rattle.law_machine_refines_net.proofs.MovesFramed.{HandNone, frames_same, fr
 use Rattle.law_machine_refines_net.proofs.MovesLoops.{Books, unlent_loops, calm_books}
 use Rattle.law_machine_refines_net.proofs.MovesBalanced.{WasThere, UsedNow, Balances, balanced, HasFrame}
 use Rattle.law_machine_refines_net.proofs.MovesPlain.{words_stay, pool_of, tokens_of, sound_of, good_stay, requests_stay, readers_stay, memory_shown}
-use Rattle.law_machine_refines_net.proofs.MovesSettled.{made_but, told_other}
+use Rattle.law_machine_refines_net.proofs.MovesSettled.{made_but, meant_other}
 use Rattle.law_machine_refines_net.proofs.MovesFitted.{taken_here, others_before}
 
 module _ (s : Taking) where
@@ -39,7 +39,7 @@ module _ (s : Taking) where
 
   -- AN ITEM THAT IS SENT asks no cell, comes where a frame is, and its arc is used
   pub record Sent (j : Item) : Type 0 where
-    pub held : is_held j.inlet.part ≡ false
+    pub held : is_in_cell j.inlet.part ≡ false
     pub known : HasFrame s j.context
     pub named : (d : Context) → named_by j.word ≡ Some d → HasFrame s d
     pub asked : (d : Context) (x : Inlet) → j.word ≡ BackTo d x → WasThere s j ⊎ UsedNow s d x
@@ -84,8 +84,8 @@ module _ (s : Taking) (f : Firing) (g : Passes s f) where
   abbrev net : Config
   net = net_of s
 
-  abbrev old : Stands s.fl s.p s.w s.m net
-  old = s.keeps.follows.stands
+  abbrev old : Mirrors s.fl s.p s.w s.m net
+  old = s.keeps.tracks.stands
 
   abbrev Kind : Item → Type 0
   Kind j = in_slot s.fl j ≡ true
@@ -119,7 +119,7 @@ module _ (s : Taking) (f : Firing) (g : Passes s f) where
     pool = pool_of account none (makes s.fl s.w f) g.made (IsPermutation-refl (makes s.fl s.w f ++ s.others));
     tokens =
         tokens_of account none (ap (λ l. l ++ []) (still_renews s.fl f f.part g.still))
-        (made_but s (makes s.fl s.w f) g.made (λ j h. told_other s.fl s.p s.w net.fired j (g.sent j h).held));
+        (made_but s (makes s.fl s.w f) g.made (λ j h. meant_other s.fl s.p s.w net.fired j (g.sent j h).held));
     caused = λ j h i e. caused j i e (Contains-append_cases (makes s.fl s.w f) s.others j h);
     good = good_stay account (λ j h. (g.sent j h).held);
     waits = λ j t. inl t;

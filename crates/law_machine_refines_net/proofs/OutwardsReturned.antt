@@ -12,7 +12,7 @@ use Rattle.semantics.specs.Plan.{Plan, landing, landing_in}
 use Rattle.law_net.specs.ContextsParts.{Result, Landing, inlet, Item, item}
 use Rattle.law_net.specs.ContextsBlocks.{is_loop, call_kind, result_count, kind_results, outputs_in, callee_code, code_called, there_in}
 use Rattle.law_net.specs.Contexts.{Wires, block_in, site_in, wiring_in, or_none, IsContext, HasBlock}
-use Rattle.law_net.specs.ContextsStands.{row_of}
+use Rattle.law_net.specs.ContextsMirror.{row_of}
 use Rattle.law_net.specs.ContextsTheorem.{IsGood}
 use Rattle.law_net.proofs.ContextsBlocks.{has_block}
 use Rattle.law_machine_refines_net.specs.MovesCases.{Taking, Followed}
@@ -22,7 +22,7 @@ use Rattle.law_machine_refines_net.proofs.MovesParts.{is_credit}
 use Rattle.law_machine_refines_net.proofs.MovesLoops.{calm_books}
 use Rattle.law_machine_refines_net.proofs.MovesFitted.{fits, there, taken_here}
 use Rattle.law_machine_refines_net.proofs.SendsRules.{at}
-use Rattle.law_machine_refines_net.proofs.SendsInwards.{told_at}
+use Rattle.law_machine_refines_net.proofs.SendsInwards.{meant_at}
 use Rattle.law_machine_refines_net.proofs.OutwardsReturning.{back, returns_follow}
 
 -- THE BLOCK THAT A CALL RUNS
@@ -87,7 +87,7 @@ call_landing fl p w good d n h =
 -- A RESULT of a call
 module _ (s : Taking) (d : Context) (n j : ℕ) (in_call : s.i.context ≡ Called d n) (e : s.i.inlet.part ≡ Result j) where
   abbrev l : Taking
-  l = told_at s (Called d n) (Result j) in_call e
+  l = meant_at s (Called d n) (Result j) in_call e
 
   context : IsContext s.fl (Called d n)
   context = (fits l l.i (taken_here l)).is_context

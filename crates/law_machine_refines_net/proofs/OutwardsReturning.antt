@@ -19,7 +19,7 @@ use Rattle.law_net.specs.Contexts.{block_in, site_in}
 use Rattle.law_net.specs.ContextsWires.{answered_at}
 use Rattle.law_net.specs.ContextsFirings.{Config, makes, frame_at}
 use Rattle.law_net.specs.ContextsLaws.{WordFits}
-use Rattle.law_net.specs.ContextsStands.{frame_of, ip_of, word_of, slot_of, named_by, row_of, is_held, is_instr, is_item_at, items_at, WasUsed}
+use Rattle.law_net.specs.ContextsMirror.{frame_of, ip_of, word_of, slot_of, named_by, row_of, is_in_cell, is_instr, is_item_at, items_at, WasUsed}
 use Rattle.law_machine_refines_net.specs.MovesCases.{Taking, IsFree, net_of, Followed, is_still}
 use Rattle.law_machine_refines_net.proofs.MovesLists.{contains_one, count_none}
 use Rattle.law_machine_refines_net.proofs.MovesStill.{to_instr}
@@ -30,7 +30,7 @@ use Rattle.law_machine_refines_net.proofs.SendsPairs as Pairs
 use Rattle.law_machine_refines_net.proofs.SendsPairs.{Second, dyadic, left_here, right_here}
 use Rattle.law_machine_refines_net.proofs.Sends.{Wire, firing_of}
 use Rattle.law_machine_refines_net.proofs.SendsAlong.{both, all_lead, pair_follows}
-use Rattle.law_machine_refines_net.proofs.SendsInwards.{told_at, carried}
+use Rattle.law_machine_refines_net.proofs.SendsInwards.{meant_at, carried}
 use Rattle.law_machine_refines_net.proofs.OutwardsPassed.{Sent, none_released}
 use Rattle.law_machine_refines_net.proofs.OutwardsCrossing.{crosses_follow}
 
@@ -38,7 +38,7 @@ use Rattle.law_machine_refines_net.proofs.OutwardsCrossing.{crosses_follow}
 module _ (s : Taking) (r : Part) (c d : Context) (n o t : ℕ) (q : Part) (in_c : s.i.context ≡ c) (e : s.i.inlet.part ≡ r)
     (still : is_still r ≡ true) (two : waits_in (block_in s.fl c) r ≡ true) (plain : is_plain_way r ≡ true) where
   abbrev pub back : Taking
-  back = told_at s c r in_c e
+  back = meant_at s c r in_c e
 
   abbrev net : Config
   net = net_of s
@@ -66,14 +66,14 @@ module _ (s : Taking) (r : Part) (c d : Context) (n o t : ℕ) (q : Part) (in_c 
     pub single : is_switch r ≡ false
     pub makes_is : (h k : Note) → makes s.fl s.w (firing_of back 0 h k) ≡ sent_back k ∷ each c signal (Wire back is_return false)
     pub is_q : is_instr q ≡ true
-    pub q_held : is_held q ≡ false
+    pub q_held : is_in_cell q ≡ false
     pub no_giver : (m : ℕ) → same_part q (Giver m) ≡ false
     pub place : base + o ≡ ip_of s.fl s.p s.w d q
     pub low : o < row_of s.fl s.p s.w d (Landing n 0)
     pub books : (k : Note) (x : Context) (m : ℕ) → Books back (sent_back k ∷ []) x m
 
-  abbrev Comes : Word → Word → Type 0
-  Comes x y =
+  abbrev Arrives : Word → Word → Type 0
+  Arrives x y =
       Fires s.m.store (F c) (Some (slot_of s.fl s.w back.i))
       (fires Empty (fire_two s.p.program (at back is_return) (instr back is_return) (Ops.Return o) x y)) s.event.made s.new.store
 
@@ -88,12 +88,12 @@ module _ (s : Taking) (r : Part) (c d : Context) (n o t : ℕ) (q : Part) (in_c 
     right_word = g.right_is sec.right (carried back (item c (inlet r Right 0) sec.right) (right_here back two plain sec))
 
     has_frame : (h : ℕ) × (frame_at s.fl net.fired d ≡ Some h)
-    has_frame = s.keeps.follows.stands.named left_item d (among back left_item (left_here back two plain sec)) (ap named_by left_word)
+    has_frame = s.keeps.tracks.stands.named left_item d (among back left_item (left_here back two plain sec)) (ap named_by left_word)
 
     was_used : WasUsed s.p s.q.steps (F d) (ip_of s.fl s.p s.w d q) Left
     was_used =
         subst (λ ip. WasUsed s.p s.q.steps (F d) ip Left) g.place
-        (s.keeps.follows.asked left_item d (inlet (Landing n 0) Left 0) o (left_here back two plain sec) left_word g.low)
+        (s.keeps.tracks.asked left_item d (inlet (Landing n 0) Left 0) o (left_here back two plain sec) left_word g.low)
 
     of_one : (P : Item → Type 0) → P (sent_back sec.right) → (x : Item) → Contains (sent_back sec.right ∷ []) x → P x
     of_one P k x h = subst P (contains_one (sent_back sec.right) x h) k
@@ -109,7 +109,7 @@ module _ (s : Taking) (r : Part) (c d : Context) (n o t : ℕ) (q : Part) (in_c 
         count_none (is_item_at x (Giver m)) (sent_back sec.right ∷ [])
         (of_one (λ (j : Item). is_item_at x (Giver m) j ≡ false) (ap (λ (k : Bool). same_context d x && k) (g.no_giver m) ∙ and_false (same_context d x)))
 
-    returns_on : (v : Value) → sec.right ≡ Datum v → Comes (W (BackTo d (inlet (Landing n 0) Left 0))) (W (Datum v)) → Followed s
+    returns_on : (v : Value) → sec.right ≡ Datum v → Arrives (W (BackTo d (inlet (Landing n 0) Left 0))) (W (Datum v)) → Followed s
     returns_on v k m = crosses_follow back still two plain sec (record {
       out = sent_back sec.right ∷ [];
       out_made = token (To.Instr (F d) (base + o) Left) (Word.Val v) ∷ [];
@@ -139,5 +139,5 @@ module _ (s : Taking) (r : Part) (c d : Context) (n o t : ℕ) (q : Part) (in_c 
 
   pub returns_follow : ReturnsAt → Followed s
   returns_follow g = pair_follows back still two plain (λ sec. let v = right_word g sec in returns_on g sec v.0 v.1
-      (subst (λ k. Comes (W (BackTo d (inlet (Landing n 0) Left 0))) (W k)) v.1
-      (subst (λ k. Comes (W k) (W sec.right)) (left_word g sec) (both back still two plain sec (Ops.Return o) g.op_is))))
+      (subst (λ k. Arrives (W (BackTo d (inlet (Landing n 0) Left 0))) (W k)) v.1
+      (subst (λ k. Arrives (W k) (W sec.right)) (left_word g sec) (both back still two plain sec (Ops.Return o) g.op_is))))

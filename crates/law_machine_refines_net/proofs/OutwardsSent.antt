@@ -22,7 +22,7 @@ use Rattle.law_net.specs.ContextsParts.{Line, Sender, inlet, Note, Datum, FrameO
 use Rattle.law_net.specs.ContextsBlocks.{callee_code, invokes, source_count}
 use Rattle.law_net.specs.Contexts.{block_in, child, IsContext}
 use Rattle.law_net.specs.ContextsFirings.{Config, right_way, frame_at}
-use Rattle.law_net.specs.ContextsStands.{frame_of, ip_of, word_of, on_side, in_slot, slot_of, only, named_by, is_instr, Stands}
+use Rattle.law_net.specs.ContextsMirror.{frame_of, ip_of, word_of, on_side, in_slot, slot_of, only, named_by, is_instr, Mirrors}
 use Rattle.law_net.proofs.WiredInvoked.{Invoked, child_cases, child_here}
 use Rattle.law_machine_refines_net.specs.MovesCases.{Taking, IsFree, net_of, Followed, Halts}
 use Rattle.law_machine_refines_net.proofs.MovesLists.{contains_one}
@@ -32,7 +32,7 @@ use Rattle.law_machine_refines_net.proofs.MovesHalts.{halts_follow}
 use Rattle.law_machine_refines_net.proofs.SendsRules.{at, instr, stood, free_of, grants, releases}
 use Rattle.law_machine_refines_net.proofs.Sends.{firing_of, stays_with}
 use Rattle.law_machine_refines_net.proofs.SendsAlong.{all_lead}
-use Rattle.law_machine_refines_net.proofs.SendsInwards.{told_as, carried}
+use Rattle.law_machine_refines_net.proofs.SendsInwards.{carried_as, carried}
 use Rattle.law_machine_refines_net.proofs.OutwardsChildren.{child_code, line_at}
 use Rattle.law_machine_refines_net.proofs.OutwardsPassed.{Sent, free_counted}
 use Rattle.law_machine_refines_net.proofs.OutwardsLeaving.{leaves_follow}
@@ -41,13 +41,13 @@ use Rattle.law_machine_refines_net.proofs.OutwardsArguments.{sender_ways}
 
 module _ (s : Taking) (n i : ℕ) (e : s.i.inlet.part ≡ Sender n i) where
   abbrev l : Taking
-  l = told_as s (Sender n i) e
+  l = carried_as s (Sender n i) e
 
   abbrev net : Config
   net = net_of s
 
-  abbrev old : Stands s.fl s.p s.w s.m net
-  old = s.keeps.follows.stands
+  abbrev old : Mirrors s.fl s.p s.w s.m net
+  old = s.keeps.tracks.stands
 
   abbrev is_sender : is_instr (Sender n i) ≡ true
   is_sender = pair_instr (block_in s.fl s.i.context) (Sender n i) refl

@@ -8,7 +8,7 @@ use Rattle.law_net.specs.ContextsParts.{End, Giver, Taker, Drainer, Landing, inl
 use Rattle.law_net.specs.ContextsBlocks.{is_loop, result_count}
 use Rattle.law_net.specs.Contexts.{block_in, or_zero, IsContext}
 use Rattle.law_net.specs.ContextsFirings.{frame_at}
-use Rattle.law_net.specs.ContextsStands.{frame_of, ip_of, is_item_at, granted_of}
+use Rattle.law_net.specs.ContextsMirror.{frame_of, ip_of, is_item_at, granted_of}
 use Rattle.law_net.proofs.WiredInvoked.{loop_invoked, code_at}
 use Rattle.law_net.proofs.RunsPigeons.{item_there, item_here}
 use Rattle.law_machine_refines_net.specs.MovesCases.{Taking, net_of, Followed}

@@ -13,11 +13,11 @@ use Rattle.law_confluence.specs.OrdersTotals.{one, total}
 use Rattle.law_net.specs.ContextsParts.{Part, Entry, Line, Opener, Asker, DrainReturn, Taker, Drainer, inlet, Item, item, Firing, Role, spot_of}
 use Rattle.law_net.specs.ContextsBlocks.{is_loop, flag, waits_in}
 use Rattle.law_net.specs.Contexts.{block_in, IsContext}
-use Rattle.law_net.specs.ContextsWires.{is_given}
+use Rattle.law_net.specs.ContextsWires.{is_unwired}
 use Rattle.law_net.specs.ContextsAround.{Choice}
 use Rattle.law_net.specs.ContextsFirings.{Config, begins, takes, makes, right_way, times, is_firing}
 use Rattle.law_net.specs.ContextsLaws.{InArm, arms_of, flag_arm, way_fits}
-use Rattle.law_net.specs.ContextsStands.{is_item_at, items_at, granted_of}
+use Rattle.law_net.specs.ContextsMirror.{is_item_at, items_at, granted_of}
 use Rattle.law_net.proofs.ContextsSames.{spot_is, inlet_is}
 use Rattle.law_net.proofs.WiredSends.{first_taken, takes_first, takes_right, first_context}
 use Rattle.law_net.proofs.WiredInvoked.{is_turned}
@@ -27,7 +27,7 @@ use Rattle.law_net.proofs.WiredRounds.{choice_in, earlier_flag, under}
 use Rattle.law_net.proofs.WiredRivals.{flag_at, turn_last, Order, Same, Before, order}
 use Rattle.law_net.proofs.WiredRivals as Rivals
 use Rattle.law_net.proofs.WiredNets.{all_of, all_born, taken_in, some_of, not_opposed, not_twice}
-use Rattle.law_net.proofs.RunsComes.{fired_fit}
+use Rattle.law_net.proofs.RunsArrives.{fired_fit}
 use Rattle.law_net.proofs.RunsPigeons.{few_pigeons, items_total, item_there, firing_here, times_total, times_items}
 use Rattle.law_net.proofs.CreditsTurns.{few_taken, taken_all, spot_at, taker_way, opened_once}
 use Rattle.law_net.proofs.CreditsOpened.{Under, NUnder}
@@ -129,7 +129,7 @@ module _ (s : Taking) (c : Context) (n t : ℕ) (in_turn : s.i.context ≡ Turne
 
   granted_before : (u : ℕ) → (j : Item) → Contains all j → Later c n u j → HasTaken c n (suc u) done
   granted_before u j h near =
-      all_granted s.fl s.p s.w s.good c n u s.inputs net s.keeps.follows.moves (fired_fit s.fl s.p s.w s.inputs s.q s.m s.good s.keeps) j h near
+      all_granted s.fl s.p s.w s.good c n u s.inputs net s.keeps.tracks.moves (fired_fit s.fl s.p s.w s.inputs s.q s.m s.good s.keeps) j h near
 
   -- THE CREDITS SO FAR are no fewer than its turns
   at_least : t ≤ times c (Taker n) done
@@ -219,7 +219,7 @@ module _ (s : Taking) (c : Context) (n t : ℕ) (in_turn : s.i.context ≡ Turne
         go (inr x) =
             let k = items_total c (Taker n) (net.pending ++ net.waiting) in
             let o = some_of (is_item_at c (Taker n)) (net.pending ++ net.waiting) (omega (arith, x, k)) in
-            let at = item_there c (Taker n) o.0 o.2 in let way = (s.keeps.follows.credits c n owner loops).takes o.0 o.1 at.0 at.1 in
+            let at = item_there c (Taker n) o.0 o.2 in let way = (s.keeps.tracks.credits c n owner loops).takes o.0 o.1 at.0 at.1 in
             let low = no_later o.0 (here_all o.0 o.1) at.0 at.1 in let all_of_them = drains_granted in absurd (omega (arith, way, low, all_of_them))
 
   -- A TURN ASKS for the next one
@@ -251,13 +251,13 @@ module _ (s : Taking) (c : Context) (n t : ℕ) (in_turn : s.i.context ≡ Turne
     -- a take is asked for by the turn before
     asked_by : (j : Item) → Contains all j → j.context ≡ c → j.inlet.part ≡ Taker n → (u : ℕ) → j.inlet.way ≡ suc u
         → (h : Firing) × Contains done h × (h.context ≡ Turned c n u) × (h.part ≡ Asker)
-    asked_by j x a g u way = born (all_born s.fl s.w s.inputs net s.keeps.follows.moves j x)
+    asked_by j x a g u way = born (all_born s.fl s.w s.inputs net s.keeps.tracks.moves j x)
       where
         made : (h : Firing) → Contains done h → MadeAt s.fl s.p s.w s.good h j
             → (h : Firing) × Contains done h × (h.context ≡ Turned c n u) × (h.part ≡ Asker)
         made h y (ByWire k) =
             let o = sent_there s.fl s.p s.w s.good h j (fired_fit s.fl s.p s.w s.inputs s.q s.m s.good s.keeps h y) k in
-            absurd (true≢false (sym (ap (is_given (block_in s.fl j.context)) g) ∙ o.2))
+            absurd (true≢false (sym (ap (is_unwired (block_in s.fl j.context)) g) ∙ o.2))
         made h y (ByGift k) =
             let r = gift_role s.fl s.p s.w s.good h (fired_fit s.fl s.p s.w s.inputs s.q s.m s.good s.keeps h y) j k
             ∙ (λ z. giver_of s.fl (a z) (g z) (way z)) in
@@ -315,7 +315,7 @@ module _ (s : Taking) (c : Context) (n t : ℕ) (in_turn : s.i.context ≡ Turne
         go (inr x) =
             let k = items_total c (Drainer n) (net.pending ++ net.waiting) in
             let o = some_of (is_item_at c (Drainer n)) (net.pending ++ net.waiting) (omega (arith, x, k)) in
-            let at = item_there c (Drainer n) o.0 o.2 in let way = ((s.keeps.follows.credits c n owner loops).drains o.0 o.1 at.0 at.1).0 in
+            let at = item_there c (Drainer n) o.0 o.2 in let way = ((s.keeps.tracks.credits c n owner loops).drains o.0 o.1 at.0 at.1).0 in
             let now = asks_granted in let same : o.0.inlet.way ≡ t = omega (arith, way, now) in
             absurd (not_opposed s.fl s.w s.inputs net s.keeps.sound s.i o.0 (turn_flag t) true mine (here_all o.0 o.1) asks_true
             (arm_at o.0 c at.0 (Drainer n) at.1 t same (turn_flag t) false (turn_last s.fl s.p s.w s.good c owner n t loops)))

@@ -17,12 +17,12 @@ use Rattle.semantics.specs.Rule.{token, to_each}
 use Rattle.semantics.specs.Machine.{Store, with_slot, value_in}
 use Rattle.law_confluence.proofs.NetSlots.{InSlots}
 use Rattle.law_confluence.proofs.Orders.{at_first, at_last}
-use Rattle.law_net.specs.ContextsParts.{Part, Held, Shown, Done, Freed, Inlet, Note, Item, item, each, Firing}
+use Rattle.law_net.specs.ContextsParts.{Part, InCell, Shown, Done, Freed, Inlet, Note, Item, item, each, Firing}
 use Rattle.law_net.specs.ContextsBlocks.{side}
 use Rattle.law_net.specs.Contexts.{block_in, code_in, site_in, wiring_in}
-use Rattle.law_net.specs.ContextsWires.{leads_to, stands_at, is_given}
+use Rattle.law_net.specs.ContextsWires.{leads_to, ip_and_port, is_unwired}
 use Rattle.law_net.specs.ContextsFirings.{Config, memory_of, remembered, HasFired}
-use Rattle.law_net.specs.ContextsStands.{frame_of, word_of, token_of, on_side, in_slot, slot_of, only, is_instr, Stands}
+use Rattle.law_net.specs.ContextsMirror.{frame_of, word_of, token_of, on_side, in_slot, slot_of, only, is_instr, Mirrors}
 use Rattle.law_machine_refines_net.specs.MovesCases.{Taking, net_of, Shows}
 use Rattle.law_machine_refines_net.proofs.MovesSites.{there_instr}
 use Rattle.law_machine_refines_net.proofs.MovesStill.{to_instr}
@@ -54,7 +54,7 @@ stays_same s e = record {
 }
 
 remembers : (fl : Flow) (f : Firing) (r : Part) (m : Memory) → is_instr r ≡ true → remembered fl f r m ≡ m
-remembers fl f (Held n) m e = absurd (true≢false (sym e))
+remembers fl f (InCell n) m e = absurd (true≢false (sym e))
 remembers fl f (Shown j) m e = absurd (true≢false (sym e))
 remembers fl f r m e = refl
 
@@ -79,8 +79,8 @@ module _ (s : Taking) (is : is_instr s.i.inlet.part ≡ true) where
   abbrev net : Config
   net = net_of s
 
-  abbrev old : Stands s.fl s.p s.w s.m net
-  old = s.keeps.follows.stands
+  abbrev old : Mirrors s.fl s.p s.w s.m net
+  old = s.keeps.tracks.stands
 
   abbrev c : Context
   c = s.i.context
@@ -111,21 +111,21 @@ module _ (s : Taking) (is : is_instr s.i.inlet.part ≡ true) where
       let e : base + (n + d.ahead) ≡ base + n + d.ahead = omega arith in (λ t. token (To.Instr (frame_of s.fl net.fired c) (e t) d.port) k ∷ leads_on k n ds t)
 
   stands_on : (k : Note) (xs : List Inlet) → ((x : Inlet) → Contains xs x → is_instr x.part ≡ true)
-      → map (G (W k)) (map (stands_at (wiring_in s.fl s.w c)) xs) ≡ map tok (each c k xs)
+      → map (G (W k)) (map (ip_and_port (wiring_in s.fl s.w c)) xs) ≡ map tok (each c k xs)
   stands_on k [] h = refl
   stands_on k (x ∷ xs) h =
       let e = to_instr s.fl s.p s.w net.fired (item c x k) x.part (h x (contains_head x xs)) in
       (λ t. token (sym e t) (W k) ∷ stands_on k xs (λ y d. h y (contains_tail x xs y d)) t)
 
   pub dests_sent : (k : Note) (ds : List Dest) (xs : List Inlet)
-      → IsPermutation (map (leads_to ((wiring_in s.fl s.w c).place r)) ds) (map (stands_at (wiring_in s.fl s.w c)) xs)
+      → IsPermutation (map (leads_to ((wiring_in s.fl s.w c).place r)) ds) (map (ip_and_port (wiring_in s.fl s.w c)) xs)
       → ((x : Inlet) → Contains xs x → is_instr x.part ≡ true)
       → IsPermutation (to_each (at s is) (W k) ds) (map tok (each c k xs))
   dests_sent k ds xs perm h =
       at_first (sym (leads_on (W k) ((wiring_in s.fl s.w c).place r) ds)) (at_last (IsPermutation-map (G (W k)) _ _ perm) (stands_on k xs h))
 
   -- where a wire leads
-  pub wired_to : (second : Bool) (x : Inlet) → Contains (Wire second) x → (is_instr x.part ≡ true) × (is_given (block_in s.fl c) x.part ≡ false)
+  pub wired_to : (second : Bool) (x : Inlet) → Contains (Wire second) x → (is_instr x.part ≡ true) × (is_unwired (block_in s.fl c) x.part ≡ false)
   wired_to second x h =
       let k = (code s s.i (taken_here s)).lawful.fed.inlets (side r second) x (there s s.i (taken_here s) is) h in
       (there_instr s.fl (site_in s.fl s.w c) (wiring_in s.fl s.w c) x.part k.0, k.3)

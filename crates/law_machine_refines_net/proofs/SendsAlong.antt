@@ -20,14 +20,14 @@ use Rattle.semantics.specs.Machine.{Store, Fires, slot_in, with_slot}
 use Rattle.law_confluence.proofs.NetSlots.{InSlots}
 use Rattle.law_confluence.proofs.Orders.{at_first, at_last}
 use Rattle.law_fresh_frames.specs.Alike.{plain_dests}
-use Rattle.law_net.specs.ContextsParts.{Part, Sender, Merge, CondEnd, Landing, Giver, Taker, Drainer, Held, Drained, inlet, Note, signal, Item, item, each}
+use Rattle.law_net.specs.ContextsParts.{Part, Sender, Merge, CondEnd, Landing, Giver, Taker, Drainer, InCell, Drained, inlet, Note, signal, Item, item, each}
 use Rattle.law_net.specs.ContextsParts.{Firing}
 use Rattle.law_net.specs.ContextsBlocks.{side, waits_in, is_switch, op_of}
 use Rattle.law_net.specs.Contexts.{block_in, site_in, wiring_in}
-use Rattle.law_net.specs.ContextsWires.{leads_to, stands_at, answered_at}
+use Rattle.law_net.specs.ContextsWires.{leads_to, ip_and_port, answered_at}
 use Rattle.law_net.specs.ContextsFirings.{Config, takes, own_takes, both_items, left_way, right_way, makes}
 use Rattle.law_net.specs.ContextsLaws.{way_fits}
-use Rattle.law_net.specs.ContextsStands.{frame_of, word_of, on_side, in_slot, slot_of, only, named_by, is_instr, Stands}
+use Rattle.law_net.specs.ContextsMirror.{frame_of, word_of, on_side, in_slot, slot_of, only, named_by, is_instr, Mirrors}
 use Rattle.law_machine_refines_net.specs.MovesCases.{Taking, net_of, Followed, Halts, is_still}
 use Rattle.law_machine_refines_net.proofs.MovesLists.{contains_one}
 use Rattle.law_machine_refines_net.proofs.MovesStill.{still_renews}
@@ -41,7 +41,7 @@ use Rattle.law_machine_refines_net.proofs.OutwardsLeaving.{sends_follow}
 
 -- WHAT IS TAKEN
 own_still : (fl : Flow) (f : Firing) (r : Part) → is_still r ≡ true → own_takes fl f r ≡ both_items fl f.context r f.way f.left f.right
-own_still fl f (Held n) e = absurd (true≢false (sym e))
+own_still fl f (InCell n) e = absurd (true≢false (sym e))
 own_still fl f (Drained n) e = absurd (true≢false (sym e))
 own_still fl f r e = refl
 
@@ -72,8 +72,8 @@ module _ (s : Taking) (still : is_still s.i.inlet.part ≡ true) where
   abbrev net : Config
   net = net_of s
 
-  abbrev old : Stands s.fl s.p s.w s.m net
-  old = s.keeps.follows.stands
+  abbrev old : Mirrors s.fl s.p s.w s.m net
+  old = s.keeps.tracks.stands
 
   abbrev c : Context
   c = s.i.context
@@ -107,19 +107,19 @@ module _ (s : Taking) (still : is_still s.i.inlet.part ≡ true) where
 
     -- a part whose instruction sends to all its destinations
     pub all_lead : answered_at r ≡ [] → is_switch r ≡ false
-        → IsPermutation (map (leads_to here) (ins.firsts ++ ins.seconds)) (map (stands_at (wiring_in s.fl s.w c)) (Wire s is false))
+        → IsPermutation (map (leads_to here) (ins.firsts ++ ins.seconds)) (map (ip_and_port (wiring_in s.fl s.w c)) (Wire s is false))
     all_lead none one =
-        let stand = stands_at (wiring_in s.fl s.w c) in
+        let stand = ip_and_port (wiring_in s.fl s.w c) in
         let first = at_last (stood s is).is.firsts (ap (λ l. map stand (l ++ Wire s is false)) none) in
         let no_second : Wire s is true ≡ [] = (code s s.i (taken_here s)).lawful.fed.sides (side r true) (inl one) in
         let second = at_last (stood s is).is.seconds (ap (map stand) no_second) in
         at_first (map-append (leads_to here) ins.firsts ins.seconds)
         (at_last (IsPermutation-append _ _ _ _ first second) (append-nil (map stand (Wire s is false))))
 
-    pub firsts_lead : answered_at r ≡ [] → IsPermutation (map (leads_to here) ins.firsts) (map (stands_at (wiring_in s.fl s.w c)) (Wire s is false))
-    firsts_lead none = at_last (stood s is).is.firsts (ap (λ l. map (stands_at (wiring_in s.fl s.w c)) (l ++ Wire s is false)) none)
+    pub firsts_lead : answered_at r ≡ [] → IsPermutation (map (leads_to here) ins.firsts) (map (ip_and_port (wiring_in s.fl s.w c)) (Wire s is false))
+    firsts_lead none = at_last (stood s is).is.firsts (ap (λ l. map (ip_and_port (wiring_in s.fl s.w c)) (l ++ Wire s is false)) none)
 
-    pub seconds_lead : IsPermutation (map (leads_to here) ins.seconds) (map (stands_at (wiring_in s.fl s.w c)) (Wire s is true))
+    pub seconds_lead : IsPermutation (map (leads_to here) ins.seconds) (map (ip_and_port (wiring_in s.fl s.w c)) (Wire s is true))
     seconds_lead = (stood s is).is.seconds
 
   -- ONE OPERAND. It sends a word to all its destinations
@@ -205,7 +205,7 @@ module _ (s : Taking) (still : is_still s.i.inlet.part ≡ true) where
         → plain_dests (instr s is) op ≡ (instr s is).firsts ++ (instr s is).seconds → releases op ≡ false
         → (second : Bool) (k : Note) → (named_by k ≡ None) ⊎ (sec.left ≡ k) → makes s.fl s.w (firing_of s 0 sec.left sec.right) ≡ each c k (Wire s is second)
         → (ds : List Dest) → ((d : Dest) → Contains ds d → Contains ((instr s is).firsts ++ (instr s is).seconds) d)
-        → IsPermutation (map (leads_to ((wiring_in s.fl s.w c).place r)) ds) (map (stands_at (wiring_in s.fl s.w c)) (Wire s is second))
+        → IsPermutation (map (leads_to ((wiring_in s.fl s.w c).place r)) ds) (map (ip_and_port (wiring_in s.fl s.w c)) (Wire s is second))
         → (s.event.made ≡ to_each (at s is) (W k) ds) × (s.new.store ≡ with_slot s.m.store (frame_of s.fl net.fired c) (slot_of s.fl s.w s.i) Empty)
         → Followed s
     two_follow sec op e plain_op rel second k from makes_is ds within leads did = sends_follow s is f still (record {

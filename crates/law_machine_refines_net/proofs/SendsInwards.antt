@@ -27,7 +27,7 @@ use Rattle.law_net.specs.Contexts.{block_in, number_in, site_in, or_none, or_zer
 use Rattle.law_net.specs.ContextsWires.{answered_at}
 use Rattle.law_net.specs.ContextsFirings.{takes, makes, line_value, kind_value, value_in}
 use Rattle.law_net.specs.ContextsLaws.{WordFits, spot_there}
-use Rattle.law_net.specs.ContextsStands.{word_of, token_of, in_slot, slot_of, frame_of, is_instr}
+use Rattle.law_net.specs.ContextsMirror.{word_of, token_of, in_slot, slot_of, frame_of, is_instr}
 use Rattle.law_net.specs.ContextsPackages.{Inwards, OfCells, doing_of, EventsFollowBy}
 use Rattle.law_net.proofs.ContextsBlocks.{has_block}
 use Rattle.law_machine_refines_net.specs.MovesCases.{Taking, net_of, Followed, is_still}
@@ -39,8 +39,8 @@ use Rattle.law_machine_refines_net.proofs.Sends.{firing_of, Wire}
 use Rattle.law_machine_refines_net.proofs.SendsAlong.{does, one_follows, both, two_follow, two_all, pair_follows, firsts_lead, seconds_lead}
 
 -- THE SAME EVENT, told by a context and a part that are the item's
-abbrev pub told_at : (s : Taking) (c : Context) (r : Part) → s.i.context ≡ c → s.i.inlet.part ≡ r → Taking
-told_at s c r d e =
+abbrev pub meant_at : (s : Taking) (c : Context) (r : Part) → s.i.context ≡ c → s.i.inlet.part ≡ r → Taking
+meant_at s c r d e =
     let j : Item = record { context = c; inlet = record { part = r; port = s.i.inlet.port; way = s.i.inlet.way }; word = s.i.word; held = s.i.held } in
     let same : s.i ≡ j =
     λ t. record { context = d t; inlet = record { part = e t; port = s.i.inlet.port; way = s.i.inlet.way }; word = s.i.word; held = s.i.held } in record {
@@ -60,12 +60,12 @@ told_at s c r d e =
       fresh = s.fresh;
       i = j;
       others = s.others;
-      perm = subst (λ (x : Item). IsPermutation s.keeps.follows.net.pending (x ∷ s.others)) same s.perm;
-      is_token = subst (λ (x : Item). s.t ≡ token_of s.fl s.p s.w s.keeps.follows.net.fired x) same s.is_token;
+      perm = subst (λ (x : Item). IsPermutation s.keeps.tracks.net.pending (x ∷ s.others)) same s.perm;
+      is_token = subst (λ (x : Item). s.t ≡ token_of s.fl s.p s.w s.keeps.tracks.net.fired x) same s.is_token;
     }
 
-abbrev pub told_as : (s : Taking) (r : Part) → s.i.inlet.part ≡ r → Taking
-told_as s r e = told_at s s.i.context r refl e
+abbrev pub carried_as : (s : Taking) (r : Part) → s.i.inlet.part ≡ r → Taking
+carried_as s r e = meant_at s s.i.context r refl e
 
 -- the kind of an item's word
 pub carried : (s : Taking) (j : Item) → IsHere s j → WordFits s.fl s.w j
@@ -165,7 +165,7 @@ value_for fl c n v u x = elim x as (λ y. Value) [ None ↦ v | Some line ↦ ki
 
 module _ (s : Taking) (n : ℕ) (e : s.i.inlet.part ≡ Line n) (cell : is_cell (block_in s.fl s.i.context) n ≡ false) where
   abbrev l : Taking
-  l = told_as s (Line n) e
+  l = carried_as s (Line n) e
 
   abbrev b : Block ℕ
   b = block_in s.fl s.i.context
@@ -279,22 +279,22 @@ inward s (Line n) e d = line_follows s n e (not_cell (is_cell (block_in s.fl s.i
     not_cell : (t : Bool) → (if t then OfCells else Inwards) ≡ Inwards → t ≡ false
     not_cell true h = absurd (cc)
     not_cell false h = refl
-inward s Entry e d = copy_follows (told_as s Entry e) refl refl refl refl refl refl s.i.word refl refl
-inward s (Answer n) e d = copy_follows (told_as s (Answer n) e) refl refl refl refl refl refl s.i.word refl refl
-inward s (Merge n) e d = copy_follows (told_as s (Merge n) e) refl refl refl refl refl refl s.i.word refl refl
-inward s (Fanned n) e d = copy_follows (told_as s (Fanned n) e) refl refl refl refl refl refl s.i.word refl refl
-inward s (Landing n j) e d = copy_follows (told_as s (Landing n j) e) refl refl refl refl refl refl s.i.word refl refl
-inward s (CallDone n) e d = copy_follows (told_as s (CallDone n) e) refl refl refl refl refl refl s.i.word refl refl
-inward s (LoopDone n) e d = copy_follows (told_as s (LoopDone n) e) refl refl refl refl refl refl s.i.word refl refl
-inward s NextFanned e d = copy_follows (told_as s NextFanned e) refl refl refl refl refl refl s.i.word refl refl
-inward s (CondEnd k) e d = copy_follows (told_as s (CondEnd k) e) refl refl refl refl refl refl s.i.word refl refl
-inward s (Strict n i) e d = sync_follows (told_as s (Strict n i) e) refl refl refl refl refl refl (λ l k. refl)
-inward s (Join r i) e d = sync_follows (told_as s (Join r i) e) refl refl refl refl refl refl (λ l k. refl)
-inward s (Trigger k) e d = switch_follows (told_as s (Trigger k) e) refl refl refl refl refl (λ l v. refl)
-inward s (Gate k) e d = switch_follows (told_as s (Gate k) e) refl refl refl refl refl (λ l v. refl)
-inward s TurnCont e d = switch_follows (told_as s TurnCont e) refl refl refl refl refl (λ l v. refl)
-inward s TurnFlag e d = switch_follows (told_as s TurnFlag e) refl refl refl refl refl (λ l v. refl)
-inward s (TurnValue j) e d = switch_follows (told_as s (TurnValue j) e) refl refl refl refl refl (λ l v. refl)
+inward s Entry e d = copy_follows (carried_as s Entry e) refl refl refl refl refl refl s.i.word refl refl
+inward s (Answer n) e d = copy_follows (carried_as s (Answer n) e) refl refl refl refl refl refl s.i.word refl refl
+inward s (Merge n) e d = copy_follows (carried_as s (Merge n) e) refl refl refl refl refl refl s.i.word refl refl
+inward s (Fanned n) e d = copy_follows (carried_as s (Fanned n) e) refl refl refl refl refl refl s.i.word refl refl
+inward s (Landing n j) e d = copy_follows (carried_as s (Landing n j) e) refl refl refl refl refl refl s.i.word refl refl
+inward s (CallDone n) e d = copy_follows (carried_as s (CallDone n) e) refl refl refl refl refl refl s.i.word refl refl
+inward s (LoopDone n) e d = copy_follows (carried_as s (LoopDone n) e) refl refl refl refl refl refl s.i.word refl refl
+inward s NextFanned e d = copy_follows (carried_as s NextFanned e) refl refl refl refl refl refl s.i.word refl refl
+inward s (CondEnd k) e d = copy_follows (carried_as s (CondEnd k) e) refl refl refl refl refl refl s.i.word refl refl
+inward s (Strict n i) e d = sync_follows (carried_as s (Strict n i) e) refl refl refl refl refl refl (λ l k. refl)
+inward s (Join r i) e d = sync_follows (carried_as s (Join r i) e) refl refl refl refl refl refl (λ l k. refl)
+inward s (Trigger k) e d = switch_follows (carried_as s (Trigger k) e) refl refl refl refl refl (λ l v. refl)
+inward s (Gate k) e d = switch_follows (carried_as s (Gate k) e) refl refl refl refl refl (λ l v. refl)
+inward s TurnCont e d = switch_follows (carried_as s TurnCont e) refl refl refl refl refl (λ l v. refl)
+inward s TurnFlag e d = switch_follows (carried_as s TurnFlag e) refl refl refl refl refl (λ l v. refl)
+inward s (TurnValue j) e d = switch_follows (carried_as s (TurnValue j) e) refl refl refl refl refl (λ l v. refl)
 -- no item comes there
 inward s (Drained n) e d = let f = (fits s s.i (taken_here s)).there in absurd (true≢false (sym f ∙ ap (spot_there s.fl s.w s.i.context) e))
 inward s r e d = absurd (cc)

@@ -4,7 +4,7 @@ use Rattle.tags.specs.declared.token.Port.TheVariants.{Left, Right}
 use Rattle.semantics.specs.Wired.{is_dyadic}
 use Rattle.law_net.specs.ContextsParts.{inlet, Item, item}
 use Rattle.law_net.specs.Contexts.{block_in}
-use Rattle.law_net.specs.ContextsStands.{is_instr, in_slot}
+use Rattle.law_net.specs.ContextsMirror.{is_instr, in_slot}
 use Rattle.law_machine_refines_net.specs.MovesCases.{Taking, Halts}
 use Rattle.law_machine_refines_net.proofs.MovesFitted.{IsHere, fits, pair_instr, plain_way, is_plain_way}
 use Rattle.law_machine_refines_net.proofs.SendsRules.{instr}

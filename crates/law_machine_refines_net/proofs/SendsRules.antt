@@ -12,7 +12,7 @@ use Rattle.semantics.specs.declared.program.Op.{Op}
 use Rattle.semantics.specs.declared.program.Op.TheVariants as Ops
 use Rattle.semantics.specs.Graph.{Node, node_at}
 use Rattle.semantics.specs.Program.{Instr, Program, instr_at}
-use Rattle.semantics.specs.Rule.{Seat, meets, outcome_of, rule_at, slot_of}
+use Rattle.semantics.specs.Rule.{Point, meets, outcome_of, rule_at, slot_of}
 use Rattle.semantics.specs.Machine.{Happens, Fires, slot_used, slot_in}
 use Rattle.semantics.specs.Wired.{is_dyadic}
 use Rattle.semantics.specs.Holders.{Holder, same_holder, holder_at}
@@ -20,11 +20,11 @@ use Rattle.semantics.specs.Credits.{granted_at, granted_in, granted_by, released
 use Rattle.law_net.specs.ContextsParts.{Part, Line, Trigger, Gate, Sender, Strict, Result, TurnCont, TurnFlag, TurnValue, Asker, NextSender, LastReturn}
 use Rattle.law_net.specs.ContextsParts.{DrainReturn, Join, End}
 use Rattle.law_net.specs.ContextsBlocks.{Site, waits_in, op_of, kind_op, pair_kind}
-use Rattle.law_net.specs.ContextsStands.{frame_of, ip_of, word_of, is_instr}
+use Rattle.law_net.specs.ContextsMirror.{frame_of, ip_of, word_of, is_instr}
 use Rattle.law_machine_refines_net.specs.MovesCases.{Taking, net_of, IsFree}
 use Rattle.law_machine_refines_net.proofs.MovesStill.{to_instr}
 use Rattle.law_machine_refines_net.proofs.MovesSites.{Seated}
-use Rattle.law_machine_refines_net.proofs.MovesFitted.{seat, taken_here}
+use Rattle.law_machine_refines_net.proofs.MovesFitted.{point, taken_here}
 
 -- PAIRS
 kind_dyadic : (k : Kind ℕ) → pair_kind k ≡ true → is_dyadic (kind_op k) ≡ true
@@ -57,7 +57,7 @@ pair_dyadic variant s End e = refl
 pair_dyadic variant s r e = absurd (true≢false (sym e))
 
 -- such an instruction uses its slot, and its words meet there
-pub dyadic_meets : (p : Program) (s : Seat) (i : Instr) (op : Op) → is_dyadic op ≡ true
+pub dyadic_meets : (p : Program) (s : Point) (i : Instr) (op : Op) → is_dyadic op ≡ true
     → (slot_of i op ≡ Some i.slot) × ((slot : SlotState) (port : Port) (w : Word) → outcome_of p s i op slot port w ≡ meets p s i slot port w)
 dyadic_meets p s i (Ops.Apply2 op) h = (refl, λ slot port w. refl)
 dyadic_meets p s i Ops.Sync h = (refl, λ slot port w. refl)
@@ -106,11 +106,11 @@ module _ (s : Taking) (is : is_instr s.i.inlet.part ≡ true) where
   abbrev pub place : ℕ
   place = ip_of s.fl s.p s.w s.i.context r
 
-  abbrev pub at : Seat
+  abbrev pub at : Point
   at = record { frame = frame; ip = place }
 
   abbrev pub stood : Seated s.fl s.p s.w s.good.wired s.i.context r
-  stood = seat s s.i (taken_here s) is
+  stood = point s s.i (taken_here s) is
 
   abbrev pub instr : Instr
   instr = stood.instr

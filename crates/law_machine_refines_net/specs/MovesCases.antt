@@ -11,11 +11,11 @@ use Rattle.semantics.specs.Holders.{Holder}
 use Rattle.semantics.specs.Credits.{granted_at, released_at}
 use Rattle.semantics.specs.Plan.{Plan}
 use Rattle.law_confluence.proofs.NetSlots.{InSlots}
-use Rattle.law_net.specs.ContextsParts.{Part, Framer, Opener, Giver, Taker, Drainer, Asked, NextAsked, Held, Drained, Done, Freed, Item, Firing}
+use Rattle.law_net.specs.ContextsParts.{Part, Framer, Opener, Giver, Taker, Drainer, Asked, NextAsked, InCell, Drained, Done, Freed, Item, Firing}
 use Rattle.law_net.specs.Contexts.{Wires, block_in}
 use Rattle.law_net.specs.ContextsFirings.{Config, takes, makes, memory_of, frame_at, HasFired}
-use Rattle.law_net.specs.ContextsStands.{WasUsed, token_of, frame_of, ip_of, word_of, slot_of, on_side, in_slot, only, named_by, is_instr, is_entry_part, Past}
-use Rattle.law_net.specs.ContextsStands.{after, Follows}
+use Rattle.law_net.specs.ContextsMirror.{WasUsed, token_of, frame_of, ip_of, word_of, slot_of, on_side, in_slot, only, named_by, is_instr, is_entry_part, Past}
+use Rattle.law_net.specs.ContextsMirror.{after, Tracks}
 use Rattle.law_net.specs.ContextsTheorem.{IsGood}
 use Rattle.law_net.specs.ContextsPackages.{Keeps, Fresh}
 
@@ -37,15 +37,15 @@ pub record Taking : Type 0 where
   pub fresh : Fresh q t event.made
   pub i : Item
   pub others : List Item
-  pub perm : IsPermutation keeps.follows.net.pending (i ∷ others)
-  pub is_token : t ≡ token_of fl p w keeps.follows.net.fired i
+  pub perm : IsPermutation keeps.tracks.net.pending (i ∷ others)
+  pub is_token : t ≡ token_of fl p w keeps.tracks.net.fired i
 
 abbrev pub net_of : Taking → Config
-net_of s = s.keeps.follows.net
+net_of s = s.keeps.tracks.net
 
 -- the net follows the machine after the event
 abbrev pub Followed : Taking → Type 0
-Followed s = Follows s.fl s.p s.w s.inputs (after s.p s.q s.e s.t s.m.store s.event.made s.new) s.new
+Followed s = Tracks s.fl s.p s.w s.inputs (after s.p s.q s.e s.t s.m.store s.event.made s.new) s.new
 
 -- what grants no credit and releases no turn
 pub record IsFree (s : Taking) : Type 0 where
@@ -57,7 +57,7 @@ abbrev pub is_still : Part → Bool
 is_still (Framer n) = false
 is_still (Asked n) = false
 is_still NextAsked = false
-is_still (Held n) = false
+is_still (InCell n) = false
 is_still (Drained n) = false
 is_still (Opener n) = false
 is_still (Taker n) = false
@@ -67,7 +67,7 @@ is_still r = true
 
 -- what such a firing makes
 abbrev pub is_quiet : Part → Bool
-is_quiet (Held n) = false
+is_quiet (InCell n) = false
 is_quiet (Giver n) = false
 is_quiet (Taker n) = false
 is_quiet (Drainer n) = false
@@ -90,7 +90,7 @@ pub record Halts (s : Taking) : Type 0 where
 -- THE STORE after a firing
 pub record Shows (s : Taking) (fired : List Firing) (waiting : List Item) : Type 0 where
   pub slots : InSlots (λ (i : Item). frame_of s.fl (net_of s).fired i.context) (slot_of s.fl s.w)
-      (λ (i : Item). on_side i.inlet.port (word_of s.fl s.p s.w (net_of s).fired i.word)) s.keeps.follows.stands.base
+      (λ (i : Item). on_side i.inlet.port (word_of s.fl s.p s.w (net_of s).fired i.word)) s.keeps.tracks.stands.base
       (only (in_slot s.fl) waiting) s.new.store.slots
   pub requests : s.new.store.requests ≡ s.m.store.requests
   pub cells : (x : ℕ) → s.new.store.cells x ≡ s.m.store.cells x

@@ -1,7 +1,7 @@
 //! Each event of the machine is some moves of the net of contexts.
 //!
 //! **The statement.** `moves_follow` (`specs/Moves`): the net begins as the machine starts; a token of the pool is that of an item on its way; and of
-//! a wired plan, if the net follows the machine (`Follows`), then it does so after each event that hands out no frame twice.
+//! a wired plan, if the net follows the machine (`Tracks`), then it does so after each event that hands out no frame twice.
 //!
 //! **Why it holds.**
 //! 1. An event takes the token of one item. By the item's part its instruction is known (`MovesFitted`), and by that what the rule does

@@ -5,7 +5,7 @@ use Rattle.semantics.specs.Graph.{Flow}
 use Rattle.semantics.specs.Meaning.{Context, Main, Called, Turned}
 use Rattle.law_net.specs.Contexts.{IsContext, HasBlock}
 use Rattle.law_net.specs.ContextsLaws.{is_main}
-use Rattle.law_net.specs.ContextsStands.{first_cont}
+use Rattle.law_net.specs.ContextsMirror.{first_cont}
 use Rattle.lemmas.proofs.Contains.{contains_none}
 
 -- the block of a context is there

@@ -36,22 +36,22 @@ use Rattle.law_fresh_frames.proofs.Alike.{alike_is_faithful}
 use Rattle.law_fresh_frames.proofs.Bounded.{orderly_is_bounded}
 use Rattle.law_confluence.proofs.Orders.{shuffled, flat_map-IsPermutation, Part, ◌⊕◌}
 use Rattle.law_confluence.proofs.Net.{Waits, Fires, net_sound_moves, net_sound_begins, fires_allowed}
-use Rattle.law_confluence.proofs.NetFollows.{OnFires, net_follows}
+use Rattle.law_confluence.proofs.NetMeans.{OnFires, net_means}
 use Rattle.law_confluence.proofs.NetArms.{arms_lawful}
 use Rattle.law_net.specs.ContextsParts.{Item, Firing, spot_of, same_spot, role_of}
 use Rattle.law_net.specs.Contexts.{Wires}
-use Rattle.law_net.specs.ContextsTold.{told}
+use Rattle.law_net.specs.ContextsMeant.{meant}
 use Rattle.law_net.specs.ContextsFirings.{Config, Move, begin, begins, input_items, takes, makes, memory_of, IsProperMove, ProperMoves, Still, Then}
 use Rattle.law_net.specs.ContextsLaws.{Fits, WordFits, IsPredicate, is_true, InArm, source, says, Allowed, NetHasArms, NetIsLawful, IsSoundNet, WordsFit}
-use Rattle.law_net.specs.ContextsLaws.{TellsOf}
-use Rattle.law_net.specs.ContextsStands.{Follows, Past, no_past, Stepped, WasUsed, after, is_cell_token, events_taken}
+use Rattle.law_net.specs.ContextsLaws.{MeansOf}
+use Rattle.law_net.specs.ContextsMirror.{Tracks, Past, no_past, Stepped, WasUsed, after, is_cell_token, events_taken}
 use Rattle.law_net.specs.ContextsTheorem.{IsGood, KeepsFaith, WiredKeepsFaith, WiredCodeIsFaithful, FaithGoesOn, FaithThroughPass}
-use Rattle.law_net.specs.ContextsPackages.{AllPackages, InputsFit, Keeps, BoundIsKept, telling_of, doing_of}
+use Rattle.law_net.specs.ContextsPackages.{AllPackages, InputsFit, Keeps, BoundIsKept, group_of, doing_of}
 
--- what the host gives is told
-pub told_inputs : (fl : Flow) (n : ℕ) (zs : List ℤ) → flat_map (told fl) (input_items n zs) ≡ entering Main n (map (λ (z : ℤ). Int z) zs)
-told_inputs fl n [] = refl
-told_inputs fl n (z ∷ zs) = ap (λ (l : List Tagged). tagged Main (AtNode n) (Operand 0) (Int z) ∷ l) (told_inputs fl (n + 1) zs)
+-- what the host gives is reported
+pub meant_inputs : (fl : Flow) (n : ℕ) (zs : List ℤ) → flat_map (meant fl) (input_items n zs) ≡ entering Main n (map (λ (z : ℤ). Int z) zs)
+meant_inputs fl n [] = refl
+meant_inputs fl n (z ∷ zs) = ap (λ (l : List Tagged). tagged Main (AtNode n) (Operand 0) (Int z) ∷ l) (meant_inputs fl (n + 1) zs)
 
 module _ (A : AllPackages) (fl : Flow) (p : Plan) (w : Wires) (inputs : List ℤ) (good : IsGood fl p w) (fit : InputsFit fl inputs) where
   pub arms : NetHasArms fl w inputs
@@ -78,7 +78,7 @@ module _ (A : AllPackages) (fl : Flow) (p : Plan) (w : Wires) (inputs : List ℤ
     pub sound : IsSoundNet fl w inputs c
     pub fits : WordsFit fl w inputs c
     pub state : State
-    pub told_of : TellsOf fl w inputs c state
+    pub meant_of : MeansOf fl w inputs c state
 
   -- what a firing takes, and the rest
   split : (P : Item → Type 0) (c : Config) (f : Firing) (now kept rest others : List Item) → IsPermutation c.pending (now ++ rest)
@@ -118,16 +118,16 @@ module _ (A : AllPackages) (fl : Flow) (p : Plan) (w : Wires) (inputs : List ℤ
 
   move_keeps : (c d : Config) (m : Move fl w c d) → IsProperMove fl w c.fired c d m → IsKept c → IsKept d
   move_keeps c d m proper k =
-      let f = net_follows fl inputs (takes fl) (makes fl w) (told fl) (memory_of fl) c d k.state k.told_of m (tells m proper) in record {
+      let f = net_means fl inputs (takes fl) (makes fl w) (meant fl) (memory_of fl) c d k.state k.meant_of m (tells m proper) in record {
         sound = net_sound_moves spot_of same_spot (takes fl) (makes fl w) (begins inputs) role_of (Allowed fl w inputs) lawful c d k.sound m;
         fits = words_move c d m k.sound k.fits;
         state = f.0;
-        told_of = f.1;
+        meant_of = f.1;
       }
     where
-      tells : (m : Move fl w c d) → IsProperMove fl w c.fired c d m → OnFires fl inputs (takes fl) (makes fl w) (told fl) (memory_of fl) c c d m
+      tells : (m : Move fl w c d) → IsProperMove fl w c.fired c d m → OnFires fl inputs (takes fl) (makes fl w) (meant fl) (memory_of fl) c c d m
       tells (Waits i rest a e) proper = tt
-      tells (Fires f now kept rest others a b both e) proper = A.told (telling_of fl f.context f.part) fl p w inputs f c.fired good fit
+      tells (Fires f now kept rest others a b both e) proper = A.meant (group_of fl f.context f.part) fl p w inputs f c.fired good fit
           (fires_allowed spot_of same_spot (takes fl) (makes fl w) (begins inputs) role_of
           (Allowed fl w inputs) lawful c k.sound f now kept rest others a b both)
           (all_left (WordFits fl w) (takes fl f) (rest ++ (others ++ flat_map (takes fl) c.fired))
@@ -143,17 +143,17 @@ module _ (A : AllPackages) (fl : Flow) (p : Plan) (w : Wires) (inputs : List ℤ
     sound = net_sound_begins spot_of same_spot (takes fl) (makes fl w) (begins inputs) role_of (Allowed fl w inputs) lawful;
     fits = All-append (WordFits fl w) (begins inputs) [] (A.words fl p w inputs good fit).begin_words (All-nil (WordFits fl w));
     state = start inputs;
-    told_of = record {
+    meant_of = record {
       reached = record { run = []; is_run = (IsPermutation-refl (start inputs).tokens, refl) };
-      tokens = subst (λ (l : List Item). IsPermutation (start inputs).tokens (flat_map (told fl) l)) (sym (append-nil (begins inputs)))
-          (subst (λ (l : List Tagged). IsPermutation (start inputs).tokens l) (sym (told_inputs fl 0 inputs)) (IsPermutation-refl (start inputs).tokens));
+      tokens = subst (λ (l : List Item). IsPermutation (start inputs).tokens (flat_map (meant fl) l)) (sym (append-nil (begins inputs)))
+          (subst (λ (l : List Tagged). IsPermutation (start inputs).tokens l) (sym (meant_inputs fl 0 inputs)) (IsPermutation-refl (start inputs).tokens));
       memory_is = refl;
     };
   }
 
-  pub follow_keeps : (q : Past) (m : Machine) → Follows fl p w inputs q m → Keeps fl p w inputs q m
+  pub follow_keeps : (q : Past) (m : Machine) → Tracks fl p w inputs q m → Keeps fl p w inputs q m
   follow_keeps q m f =
-      let k = moves_keep (begin inputs) f.net f.moves begin_keeps in record { follows = f; sound = k.sound; fits = k.fits; state = k.state; told = k.told_of }
+      let k = moves_keep (begin inputs) f.net f.moves begin_keeps in record { tracks = f; sound = k.sound; fits = k.fits; state = k.state; meant = k.meant_of }
 
   -- ALONG A RUN
   abbrev pub past_of : (z : Size) (q : Past) (old : Machine) (events : Events) (new : Machine) → Run p.program z old events new → Past
@@ -177,8 +177,8 @@ module _ (A : AllPackages) (fl : Flow) (p : Plan) (w : Wires) (inputs : List ℤ
       let l = slice_get_within xs i.0 g i.1 in omega (arith, e, l)
 
   -- the last state, with its tokens in another order
-  still : (q : Past) (old new : Machine) → IsPermutation old.pool new.pool → new.store ≡ old.store → Follows fl p w inputs q old → Follows fl p w inputs q new
-  still q old new perm same f = subst (λ (s : Store). Follows fl p w inputs q (record { store = s; pool = new.pool })) (sym same) (record {
+  still : (q : Past) (old new : Machine) → IsPermutation old.pool new.pool → new.store ≡ old.store → Tracks fl p w inputs q old → Tracks fl p w inputs q new
+  still q old new perm same f = subst (λ (s : Store). Tracks fl p w inputs q (record { store = s; pool = new.pool })) (sym same) (record {
     net = f.net;
     moves = f.moves;
     stands = record {
@@ -213,9 +213,9 @@ module _ (A : AllPackages) (fl : Flow) (p : Plan) (w : Wires) (inputs : List ℤ
     none_released = f.none_released;
   })
 
-  pub run_follows : (z : Size) (q : Past) (old : Machine) (events : Events) (new : Machine) (run : Run p.program z old events new) → Follows fl p w inputs q old
+  pub run_follows : (z : Size) (q : Past) (old : Machine) (events : Events) (new : Machine) (run : Run p.program z old events new) → Tracks fl p w inputs q old
       → EachOnce (q.handed ++ handed p.program z old events new run)
-      → Follows fl p w inputs (past_of z q old events new run) new
+      → Tracks fl p w inputs (past_of z q old events new run) new
   run_follows z q old [] new run f once = still q old new run.0 run.1 f
   run_follows z q old (ev ∷ later) new run f once =
       let k = follow_keeps q old f in
@@ -319,9 +319,9 @@ module _ (A : AllPackages) (fl : Flow) (p : Plan) (w : Wires) (good : IsGood fl 
     bound_is_kept f = record {
       never_above = λ loop k ip s part. let b = kept.never_above f loop k ip s part in
           (b.0, b.1, let g = granted_all f loop in let r = released_all f b.0 in let h = b.2 in omega (arith, g, r, h));
-      all_granted = λ loop k ip s v c part come asks waits.
+      all_granted = λ loop k ip s v c part arrive asks waits.
           let b = kept.all_granted f loop k ip s v c part
-          (subst (λ (es : Events). Contains (met es m) (token (To.Instr f ip Left) v)) (sym same_events) come) asks waits in
+          (subst (λ (es : Events). Contains (met es m) (token (To.Instr f ip Left) v)) (sym same_events) arrive) asks waits in
           (b.0, b.1, let g = granted_all f loop in let r = released_all f b.0 in let h = b.2 in omega (arith, g, r, h));
     }
       where

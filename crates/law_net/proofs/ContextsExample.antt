@@ -20,8 +20,8 @@ use Rattle.law_net.specs.ContextsBlocks.{op_of}
 use Rattle.law_net.specs.ContextsParts.{Part, Entry, Line, Gate, Merge, Framer, Sender, Landing, Strict, Result, Join, CondEnd, End, Inlet, inlet}
 use Rattle.tags.specs.declared.value.Value.{Value}
 use Rattle.semantics.specs.Meaning.{Main, tagged, AtNode, Predicate}
-use Rattle.law_net.specs.ContextsWires.{told_along, plain_site, turn_site}
-use Rattle.law_net.specs.ContextsTold.{operand, settled_sent}
+use Rattle.law_net.specs.ContextsWires.{meant_along, plain_site, turn_site}
+use Rattle.law_net.specs.ContextsMeant.{operand, settled_sent}
 use Rattle.law_net.specs.ContextsExpanded.{plain_scope, plain_parts, body_parts, wires_of, turn_scope, variant_parts, variant_in, instrs_at}
 
 abbrev source : ℕ → Source
@@ -66,7 +66,7 @@ wires_are = (refl, refl, refl, refl, refl, refl, refl, refl, refl, refl, refl, r
 
 -- what leaves the input tells its uses, of which those at the conditional are predicates
 uses_are : (v : Value)
-    → (told_along choice_flow Main v (leads (Line 0) false) ≡ operand Main 2 0 v ∷ tagged Main (AtNode 2) Predicate v ∷ operand Main 3 0 v
+    → (meant_along choice_flow Main v (leads (Line 0) false) ≡ operand Main 2 0 v ∷ tagged Main (AtNode 2) Predicate v ∷ operand Main 3 0 v
     ∷ tagged Main (AtNode 3) Predicate v ∷ [])
     × (settled_sent choice_flow Main 0 0 v ≡ tagged Main (AtNode 2) Predicate v ∷ tagged Main (AtNode 3) Predicate v ∷ operand Main 2 0 v ∷ operand Main 3 0 v
     ∷ [])

@@ -13,7 +13,7 @@ use Rattle.law_confluence.specs.OrdersTotals.{one, total}
 use Rattle.law_confluence.proofs.OrdersTotals.{one-cases}
 use Rattle.law_net.specs.ContextsParts.{Part, Entry, Line, Answer, Trigger, Gate, Merge, Opener, Framer, Fanned, Linker, Sender, Landing, CallDone, Giver}
 use Rattle.law_net.specs.ContextsParts.{Taker, Drainer, LoopDone, Strict, Result, TurnCont, TurnFlag, TurnValue, Asker, NextFramer, NextFanned, NextSender}
-use Rattle.law_net.specs.ContextsParts.{LastReturn, DrainReturn, Join, CondEnd, End, Asked, NextAsked, Held, Drained, Shown, Done, Freed, Inlet, Item, Key}
+use Rattle.law_net.specs.ContextsParts.{LastReturn, DrainReturn, Join, CondEnd, End, Asked, NextAsked, InCell, Drained, Shown, Done, Freed, Inlet, Item, Key}
 use Rattle.law_net.specs.ContextsParts.{region_key, part_key, same_key, same_part, same_port, same_inlet, same_context, Spot, spot_of, same_spot}
 
 -- PARTS, by their keys: the numbers tell all but a join's region
@@ -47,7 +47,7 @@ high_part r k m n =
     else if k == 23 then NextFramer
     else if k == 24 then NextFanned else if k == 25 then NextSender m else if k == 26 then LastReturn m else if k == 27 then DrainReturn else if k == 28
     then Join r n else if k == 29 then CondEnd m
-    else if k == 30 then End else if k == 31 then Asked m else if k == 32 then NextAsked else if k == 33 then Held m else if k == 34 then Drained m
+    else if k == 30 then End else if k == 31 then Asked m else if k == 32 then NextAsked else if k == 33 then InCell m else if k == 34 then Drained m
     else if k == 35 then Shown m else if k == 36 then Done else Freed
 
 abbrev part_with : Region → Key → Part

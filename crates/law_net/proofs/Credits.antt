@@ -18,10 +18,10 @@ use Rattle.law_net.specs.ContextsParts.{Part, Entry, Line, Opener, Framer, Taker
 use Rattle.law_net.specs.ContextsBlocks.{Side, side, is_loop, waits_in, bound_at, there_in}
 use Rattle.law_net.specs.Contexts.{Wires, or_zero, block_in, site_in, wiring_in, IsContext}
 use Rattle.law_net.specs.ContextsCredits.{Ledger, slot_for, waits_or}
-use Rattle.law_net.specs.ContextsWires.{is_given}
+use Rattle.law_net.specs.ContextsWires.{is_unwired}
 use Rattle.law_net.specs.ContextsFirings.{Config, begins, takes, makes, times, is_firing, frame_at}
 use Rattle.law_net.specs.ContextsLaws.{maker_of}
-use Rattle.law_net.specs.ContextsStands.{Past, only, is_item_at, items_at, is_over, ledger, conts_of, first_cont, frame_of, in_slot, KeepsCredits}
+use Rattle.law_net.specs.ContextsMirror.{Past, only, is_item_at, items_at, is_over, ledger, conts_of, first_cont, frame_of, in_slot, KeepsCredits}
 use Rattle.law_net.specs.ContextsTheorem.{IsGood}
 use Rattle.law_net.specs.ContextsPackages.{AllFit, Keeps}
 use Rattle.law_net.proofs.WiredSends.{sent_facts, first_taken, takes_first, first_context}
@@ -29,7 +29,7 @@ use Rattle.law_net.proofs.WiredInvoked.{lawful_at}
 use Rattle.law_net.proofs.WiredWords.{Begins, AtEntry, AtInput, begin_cases}
 use Rattle.law_net.proofs.WiredFed.{MadeAt, ByGift, ByWire, made_at, sent_there, giver_of, gift_role, one_feeder}
 use Rattle.law_net.proofs.WiredNets.{some_of, all_born, not_twice, taken_in, only_contains}
-use Rattle.law_net.proofs.RunsComes.{net, all_here, there_at, fired_fit, one_spot, laid}
+use Rattle.law_net.proofs.RunsArrives.{net, all_here, there_at, fired_fit, one_spot, laid}
 use Rattle.law_net.proofs.RunsPigeons.{items_total, item_there, some_item, times_total, firing_here, firing_there}
 use Rattle.law_net.proofs.CreditsTurns.{taken_all, left_at, spot_at}
 use Rattle.law_net.proofs.CreditsOpened.{Under, Near, NUnder, framed, never_gift}
@@ -85,7 +85,7 @@ module _ (fl : Flow) (p : Plan) (w : Wires) (inputs : List ℤ) (q : Past) (m : 
   module _ (c : Context) (con : IsContext fl c) (n : ℕ) (l : is_loop (block_in fl c) n ≡ true) where
     -- its framer fires after it was opened
     framer_opened : (h : Firing) → Contains fired h → h.context ≡ c → h.part ≡ Framer n → 0 < times c (Opener n) fired
-    framer_opened h d a e = born (all_born fl w inputs here k.follows.moves (first_item h) (first_in h d))
+    framer_opened h d a e = born (all_born fl w inputs here k.tracks.moves (first_item h) (first_in h d))
       where
         ic : (first_item h).context ≡ c
         ic = first_context fl w h h.part ∙ a
@@ -121,14 +121,15 @@ module _ (fl : Flow) (p : Plan) (w : Wires) (inputs : List ℤ) (q : Past) (m : 
     near_opened i h near = let f = framed fl p w inputs q m good k c n i h near in framer_opened f.0 f.1 f.2 f.3
 
     -- what a turn gives to the loop comes after it was opened
-    pub given_opened : (r : Part) (x : Part) → ((t : ℕ) → giver_of fl c r t ≡ role (Turned c n t) x 0) → ((b : _) → is_given b r ≡ true) → (is_begin r ≡ false)
+    pub given_opened : (r : Part) (x : Part) → ((t : ℕ) → giver_of fl c r t ≡ role (Turned c n t) x 0) → ((b : _) → is_unwired b r ≡ true)
+        → (is_begin r ≡ false)
         → (i : Item) → Contains all i → i.context ≡ c → i.inlet.part ≡ r → 0 < times c (Opener n) fired
-    given_opened r x giver always begin' i h a e = born (all_born fl w inputs here k.follows.moves i h)
+    given_opened r x giver always begin' i h a e = born (all_born fl w inputs here k.tracks.moves i h)
       where
         made : (f : Firing) → Contains fired f → AllFit fl w (takes fl f) → MadeAt fl p w good f i → 0 < times c (Opener n) fired
         made f d fit (ByWire s) =
             let t = sent_there fl p w good f i fit s in
-            absurd (true≢false (sym (ap (is_given (block_in fl i.context)) e ∙ always (block_in fl i.context)) ∙ t.2))
+            absurd (true≢false (sym (ap (is_unwired (block_in fl i.context)) e ∙ always (block_in fl i.context)) ∙ t.2))
         made f d fit (ByGift g) =
             let role' = gift_role fl p w good f fit i g ∙ (λ u. giver_of fl (a u) (e u) i.inlet.way) ∙ giver i.inlet.way in
             near_opened (first_taken fl w f f.part) (first_in f d)
@@ -143,7 +144,7 @@ module _ (fl : Flow) (p : Plan) (w : Wires) (inputs : List ℤ) (q : Past) (m : 
         born (inr (f, d, y)) = let fit = fired_fit fl p w inputs q m good k f d in made f d fit (made_at fl p w good f i fit y)
 
     pub keeps : KeepsCredits fl p w here c n
-    keeps = k.follows.credits c n con l
+    keeps = k.tracks.credits c n con l
 
     abbrev pub book : Ledger
     book = ledger fl p w here c n
@@ -216,28 +217,28 @@ module _ (fl : Flow) (p : Plan) (w : Wires) (inputs : List ℤ) (q : Past) (m : 
 
     -- WHAT THE SLOT IS
     pub slot_is : (g : ℕ) → frame_at fl fired c ≡ Some g → m.store.slots g ((wiring_in fl w c).slot (Opener n)) ≡ slot_for bound book
-    slot_is g at = pick (k.follows.stands.slots.empty g ((wiring_in fl w c).slot (Opener n)))
+    slot_is g at = pick (k.tracks.stands.slots.empty g ((wiring_in fl w c).slot (Opener n)))
       where
         no_item : (j : Item) → Contains (only (in_slot fl) here.waiting) j → frame_of fl fired j.context ≡ g
             → (wiring_in fl w j.context).slot j.inlet.part ≡ (wiring_in fl w c).slot (Opener n) → ⊥
         no_item j x f y =
             let o = only_contains (in_slot fl) here.waiting j x in
-            let come = waiting_in fl p w inputs q m good k j o.0 in
-            let known = k.follows.stands.known j come in
+            let arrive = waiting_in fl p w inputs q m good k j o.0 in
+            let known = k.tracks.stands.known j arrive in
             let frame : known.0 ≡ g = sym (ap or_zero known.1) ∙ f in
-            let one = k.follows.stands.apart j.context c g (known.1 ∙ ap Some frame) at in
+            let one = k.tracks.stands.apart j.context c g (known.1 ∙ ap Some frame) at in
             let two : waits_in (block_in fl c) j.inlet.part ≡ true = subst (λ (d : Context). waits_in (block_in fl d) j.inlet.part ≡ true) one o.1 in
-            let there = wait_there fl w c j.inlet.part two (there_at fl p w inputs q m good k j come c one j.inlet.part refl) in
+            let there = wait_there fl w c j.inlet.part two (there_at fl p w inputs q m good k j arrive c one j.inlet.part refl) in
             let same = subst (λ (d : Context). (wiring_in fl w d).slot j.inlet.part ≡ (wiring_in fl w c).slot (Opener n)) one y in
             let part = (laid fl p w inputs q m good k c con).holders j.inlet.part (Opener n) there l
             (wait_holds (block_in fl c) j.inlet.part two) refl same in
             true≢false (sym two ∙ ap (waits_in (block_in fl c)) part)
 
-        pick : (m.store.slots g ((wiring_in fl w c).slot (Opener n)) ≡ k.follows.stands.base g ((wiring_in fl w c).slot (Opener n)))
+        pick : (m.store.slots g ((wiring_in fl w c).slot (Opener n)) ≡ k.tracks.stands.base g ((wiring_in fl w c).slot (Opener n)))
             ⊎ ((j : Item) × Contains (only (in_slot fl) here.waiting) j × (frame_of fl fired j.context ≡ g)
             × ((wiring_in fl w j.context).slot j.inlet.part ≡ (wiring_in fl w c).slot (Opener n)))
             → m.store.slots g ((wiring_in fl w c).slot (Opener n)) ≡ slot_for bound book
-        pick (inl e) = e ∙ k.follows.stands.loops c n g con l at
+        pick (inl e) = e ∙ k.tracks.stands.loops c n g con l at
         pick (inr (j, x, a, d)) = absurd (no_item j x a d)
 
     -- the ledger's forms

@@ -23,23 +23,23 @@ use Rattle.semantics.specs.Credits.{IsPart, IsLoop}
 use Rattle.semantics.specs.Cause.{is_looped}
 use Rattle.law_reuse.specs.Bounds.{OnlyAsks}
 use Rattle.law_reuse.proofs.SlotsClaims.{holder_here}
-use Rattle.law_reuse.proofs.SlotsStands.{Found, found}
+use Rattle.law_reuse.proofs.SlotsPlaced.{Found, found}
 use Rattle.law_confluence.specs.OrdersTotals.{one, total}
 use Rattle.law_confluence.proofs.Orders.{total-append}
 use Rattle.law_confluence.proofs.Net.{Waits, Fires}
-use Rattle.law_net.specs.ContextsParts.{Part, Opener, Giver, Drainer, Drained, Landing, Held, inlet, signal, Item, item, Firing}
+use Rattle.law_net.specs.ContextsParts.{Part, Opener, Giver, Drainer, Drained, Landing, InCell, inlet, signal, Item, item, Firing}
 use Rattle.law_net.specs.ContextsBlocks.{Wiring, Site, is_loop, bound_at, waits_in}
 use Rattle.law_net.specs.Contexts.{Wires, block_in, code_in, site_in, wiring_in, IsContext}
 use Rattle.law_net.specs.ContextsCredits.{Ledger, slot_for, waits_or}
 use Rattle.law_net.specs.ContextsWires.{Runs, IsWiredCode, plain_site, turn_site}
 use Rattle.law_net.specs.ContextsFirings.{Config, Move, begin, own_takes, both_items, left_item, right_way, given_back, request_of, times, frame_at}
 use Rattle.law_net.specs.ContextsFirings.{IsProperMove, ProperAt, ProperMoves, Still, Then}
-use Rattle.law_net.specs.ContextsStands.{Past, came, is_item_at, items_at, granted_of, frame_of, ip_of, to_of, token_of}
+use Rattle.law_net.specs.ContextsMirror.{Past, came, is_item_at, items_at, granted_of, frame_of, ip_of, to_of, token_of}
 use Rattle.law_net.specs.ContextsTheorem.{IsGood}
 use Rattle.law_net.specs.ContextsPackages.{Keeps, BoundIsKept}
 use Rattle.law_net.specs.ContextsCoded.{AllCoded}
 use Rattle.law_net.proofs.WiredInvoked.{block_here, code_at}
-use Rattle.law_net.proofs.RunsComes.{from_met, laid, instr_here}
+use Rattle.law_net.proofs.RunsArrives.{from_met, laid, instr_here}
 use Rattle.law_net.proofs.RunsPigeons.{items_total, item_there}
 use Rattle.law_net.proofs.CreditsTurns.{granted_few, given_enough}
 use Rattle.law_net.proofs.Credits.{here, fired, firing_of, keeps, book, bound}
@@ -79,7 +79,7 @@ module _ (fl : Flow) (p : Plan) (w : Wires) (inputs : List ℤ) (q : Past) (m : 
   done = net.fired
 
   gives_none : (h : Firing) (n : ℕ) → Contains done h → h.part ≡ Giver n → ⊥
-  gives_none = never_gives fl w (begin inputs) net k.follows.moves (λ h n c e. contains_none h c)
+  gives_none = never_gives fl w (begin inputs) net k.tracks.moves (λ h n c e. contains_none h c)
 
   module _ (c : Context) (con : IsContext fl c) (n : ℕ) (l : is_loop (block_in fl c) n ≡ true) where
     abbrev log : Ledger
@@ -151,7 +151,7 @@ module _ (fl : Flow) (p : Plan) (w : Wires) (inputs : List ℤ) (q : Past) (m : 
             omega (arith, a, more)
 
         of_firing : (f : Firing) → Contains done f → (r : Part) → f.part ≡ r → total (λ (i : Item). one (test i)) (own_takes fl f r) ≡ 0
-        of_firing f d (Held s) e = let a = nothing (request_of f) (λ x g. let y = sym g ∙ e in absurd (cc)) in omega (arith, a)
+        of_firing f d (InCell s) e = let a = nothing (request_of f) (λ x g. let y = sym g ∙ e in absurd (cc)) in omega (arith, a)
         of_firing f d (Drained s) e =
             let a = nothing (item f.context (inlet (Drainer s) Left f.turns) f.left) (λ x g. absurd (cc)) in
             let b = credits f s (f.turns + 1) (λ x y. let some = Credits.some_firing c (Drained n) done f d x (e ∙ ap Drained y) in omega (arith, some, z)) in
@@ -173,7 +173,7 @@ module _ (fl : Flow) (p : Plan) (w : Wires) (inputs : List ℤ) (q : Past) (m : 
         asks_not : (i : Item) → Contains net.pending i → i.inlet.part ≡ Giver n → ⊥
         asks_not i d e =
             let t = contains_map (token_of fl p w done) net.pending i d in
-            let h = asks (token_of fl p w done i) (Contains-permutation _ _ (token_of fl p w done i) (IsPermutation-sym _ _ k.follows.stands.pool) t) in
+            let h = asks (token_of fl p w done i) (Contains-permutation _ _ (token_of fl p w done i) (IsPermutation-sym _ _ k.tracks.stands.pool) t) in
             let to : To.Instr (frame_of fl done i.context) (ip_of fl p w i.context (Giver n)) i.inlet.port ≡ To.Manager =
             ap (λ (r : Part). to_of fl p w done i r) (sym e) ∙ h in absurd (cc)
 
@@ -257,10 +257,10 @@ module _ (fl : Flow) (p : Plan) (w : Wires) (inputs : List ℤ) (q : Past) (m : 
         (block_found c con).1 loop b nn ip s part.instr instr part.does place part.uses part.holds part
 
     granted_is : q.granted f loop ≡ granted_of net c node
-    granted_is = ap (q.granted f) loop' ∙ k.follows.granted c node f con is_loop' at
+    granted_is = ap (q.granted f) loop' ∙ k.tracks.granted c node f con is_loop' at
 
     released_is : q.released f (ip_of fl p w c (Landing node 0)) ≡ items_at c (Giver node) (came fl net)
-    released_is = k.follows.released c node f con is_loop' at
+    released_is = k.tracks.released c node f con is_loop' at
 
     kept_here : Kept f loop b s
     kept_here = (
@@ -282,7 +282,7 @@ module _ (fl : Flow) (p : Plan) (w : Wires) (inputs : List ℤ) (q : Past) (m : 
   -- a loop that was granted credits, in the context of its frame
   granted_kept : (f : ℕ) (loop : Holder) (b ip s : ℕ) (part : IsPart p p.program loop (Open b) ip s) → 0 < q.granted f loop → Kept f loop b s
   granted_kept f loop b ip s part some =
-      let o = k.follows.no_other f loop some in
+      let o = k.tracks.no_other f loop some in
       let c = o.0 in let con = o.2 in let at = o.4 in
       let fd = found p.program ip part.instr part.is_at in
       let holder = holder_here p fd.b fd.n part.instr fd.stands in
@@ -327,8 +327,8 @@ module _ (fl : Flow) (p : Plan) (w : Wires) (inputs : List ℤ) (q : Past) (m : 
   pub bound_is_kept : AllCoded fl p w → BoundIsKept fl p inputs q m
   bound_is_kept coded = record {
     never_above = λ f loop b ip s part. above f loop b ip s part (cases_eq (q.granted f loop) 0);
-    all_granted = λ f loop b ip s v x part come asks waits.
-        let i = from_met fl p w inputs q m good k f ip Left v come in let y = i.1 in
+    all_granted = λ f loop b ip s v x part arrive asks waits.
+        let i = from_met fl p w inputs q m good k f ip Left v arrive in let y = i.1 in
         let c = i.0.context in let r = i.0.inlet.part in
         let code = laid fl p w inputs q m good k c y.context in
         let h = code.here r y.part_here in

@@ -18,12 +18,12 @@ use Rattle.semantics.specs.Rule.{slot_of}
 use Rattle.semantics.specs.Credits.{IsPart, IsLink, IsLoop}
 use Rattle.semantics.proofs.Lines.{body_is_looped}
 use Rattle.law_reuse.proofs.SlotsClaims.{holder_here}
-use Rattle.law_reuse.proofs.SlotsStands.{Stands, instr_in}
+use Rattle.law_reuse.proofs.SlotsPlaced.{IsPlaced, instr_in}
 use Rattle.law_net.specs.ContextsParts.{Part, Line, Opener, Linker, Landing, Taker, Inlet, inlet}
 use Rattle.law_net.specs.ContextsBlocks.{Wiring, Site, side, loop_kind, is_call, is_loop, bound_at, op_of, line_op, kind_op, there_in, callee_code, code_called}
 use Rattle.law_net.specs.ContextsBlocks.{result_count, kind_results}
 use Rattle.law_net.specs.Contexts.{Wires}
-use Rattle.law_net.specs.ContextsWires.{IsWiredCode, IsInstr, leads_to, stands_at}
+use Rattle.law_net.specs.ContextsWires.{IsWiredCode, IsInstr, leads_to, ip_and_port}
 use Rattle.law_net.specs.ContextsTheorem.{IsGood}
 use Rattle.law_net.proofs.WiredInvoked.{kind_line, loop_names}
 use Rattle.law_net.proofs.RunsLands.{loop_code, one_dest}
@@ -64,7 +64,7 @@ module _ (fl : Flow) (p : Plan) (w : Wires) (good : IsGood fl p w) where
     instr_is : (r : Part) (h : IsThere r) → IsInstr fl p w.variant s wi r (instr_of r h)
     instr_is r h = (x.laid.here r h).2
 
-    stands : (r : Part) (h : IsThere r) → Stands p.program s.own (wi.place r) (instr_of r h)
+    stands : (r : Part) (h : IsThere r) → IsPlaced p.program s.own (wi.place r) (instr_of r h)
     stands r h = record { code = x.code; block = x.there; instr = (x.laid.here r h).1 }
 
     instr_there : (r : Part) (h : IsThere r) → instr_at p.program (at_part r) ≡ Some (instr_of r h)
@@ -149,7 +149,7 @@ module _ (fl : Flow) (p : Plan) (w : Wires) (good : IsGood fl p w) where
           × (leads_to (wi.place (Linker opener.0)) d ≡ (wi.place (Landing opener.0 0), Left))
       linker_dest = one_dest (instr_of (Linker opener.0) linker_there).firsts (leads_to (wi.place (Linker opener.0))) (wi.place (Landing opener.0 0), Left)
           (subst (λ (l : List Inlet). IsPermutation (map (leads_to (wi.place (Linker opener.0))) (instr_of (Linker opener.0) linker_there).firsts)
-          (map (stands_at wi) (inlet (Landing opener.0 0) Left 0 ∷ l)))
+          (map (ip_and_port wi) (inlet (Landing opener.0 0) Left 0 ∷ l)))
           (x.lawful.fed.sides (side (Linker opener.0) false) (inr refl)) (instr_is (Linker opener.0) linker_there).firsts)
 
       linker_link : IsLink p.program (at_part (Linker opener.0)) (callee_code w.variant s.block opener.0) (at_part (Landing opener.0 0))

@@ -10,23 +10,23 @@ use Rattle.semantics.specs.Plan.{Plan}
 use Rattle.semantics.specs.Machine.{Machine}
 use Rattle.law_net.specs.ContextsParts as Parts
 use Rattle.law_net.specs.ContextsParts.{Entry, Line, Opener, Framer, Fanned, Linker, Sender, Landing, CallDone, Giver, Taker, Drainer, LoopDone, Result, Asker}
-use Rattle.law_net.specs.ContextsParts.{NextFramer, NextFanned, NextSender, LastReturn, DrainReturn, End, Asked, NextAsked, Held, Drained, Shown, Done, Freed}
+use Rattle.law_net.specs.ContextsParts.{NextFramer, NextFanned, NextSender, LastReturn, DrainReturn, End, Asked, NextAsked, InCell, Drained, Shown, Done, Freed}
 use Rattle.law_net.specs.ContextsParts.{Inlet, inlet, Item, Firing, spot_of, Role, role, role_of}
 use Rattle.law_net.specs.ContextsBlocks.{is_loop, there_in}
 use Rattle.law_net.specs.Contexts.{Wires, block_in, site_in, wiring_in}
-use Rattle.law_net.specs.ContextsWires.{ChildFrame, Carried, Suits, comes_at, goes_from, is_given, wired_way}
+use Rattle.law_net.specs.ContextsWires.{ChildFrame, Carried, Suits, arrives_at, goes_from, is_unwired, wired_way}
 use Rattle.law_net.specs.ContextsFirings.{Config, takes, makes, HasFired}
 use Rattle.law_net.specs.ContextsLaws.{Fits, maker_of, spot_there, way_fits}
-use Rattle.law_net.specs.ContextsStands.{Past}
+use Rattle.law_net.specs.ContextsMirror.{Past}
 use Rattle.law_net.specs.ContextsTheorem.{IsGood}
 use Rattle.law_net.specs.ContextsPackages.{AllFit, Keeps}
 use Rattle.law_net.proofs.WiredSends.{IsSent, sent_facts, first_taken, first_context, in_context}
 use Rattle.law_net.proofs.WiredInvoked.{lawful_at}
 use Rattle.law_net.proofs.WiredGifts.{Gift}
 use Rattle.law_net.proofs.WiredWords.{Begins, AtEntry, AtInput, gift_fits}
-use Rattle.law_net.proofs.WiredFed.{MadeAt, ByGift, ByWire, made_at, sent_there, giver_of, gift_role, gift_unwired, Unwired, UGiven, UNot, UWay}
+use Rattle.law_net.proofs.WiredFed.{MadeAt, ByGift, ByWire, made_at, sent_there, giver_of, gift_role, gift_unwired, Unwired, UUnwired, UNot, UWay}
 use Rattle.law_net.proofs.WiredTraced.{traced}
-use Rattle.law_net.proofs.RunsComes.{net, all_here, fired_fit}
+use Rattle.law_net.proofs.RunsArrives.{net, all_here, fired_fit}
 
 -- in a turn of the loop at node n of c, or in what a turn invokes
 abbrev pub Under : Context → ℕ → Context → Type 0
@@ -92,7 +92,7 @@ module _ (fl : Flow) (p : Plan) (w : Wires) (good : IsGood fl p w) (c : Context)
     near_taker d m t e (inl (a, b)) = NTaker (first_at c (ap (λ (r : Role). r.context) e ∙ a)) (first_part (Taker m) (ap (λ (r : Role). r.part) e) ∙ ap Taker b)
 
     near_giver : (d : Context) (r : Parts.Part) (t : ℕ) → role_of f ≡ giver_of fl d r t → Under c n d → Near c n First
-    near_giver d (Held m) t e u = near_role _ e u
+    near_giver d (InCell m) t e u = near_role _ e u
     near_giver d (Asked m) t e u = near_role _ e u
     near_giver d NextAsked t e u = near_role _ e u
     near_giver d (Fanned m) t e u = near_role _ e u
@@ -117,7 +117,7 @@ module _ (fl : Flow) (p : Plan) (w : Wires) (good : IsGood fl p w) (c : Context)
     near_giver d r t e u = near_role _ e u
 
     -- a wire's inlet is no gift's
-    pub never_gift : (i : Item) → Gift fl w f i → (r : Parts.Part) → i.inlet.part ≡ r → ((b : _) → is_given b r ≡ false)
+    pub never_gift : (i : Item) → Gift fl w f i → (r : Parts.Part) → i.inlet.part ≡ r → ((b : _) → is_unwired b r ≡ false)
         → ((d : Context) → spot_there fl w d r ≡ true → there_in fl (site_in fl w d) (wiring_in fl w d) r ≡ true) → (wired_way r i.inlet.way ≡ true) → ⊥
     never_gift i g r e given there way =
         go (subst (λ (s : Parts.Part). Unwired fl p w good i.context (record { part = s; port = i.inlet.port; way = i.inlet.way })) e
@@ -127,7 +127,7 @@ module _ (fl : Flow) (p : Plan) (w : Wires) (good : IsGood fl p w) (c : Context)
         fits = gift_fits fl p w good f all i g
 
         go : Unwired fl p w good i.context (record { part = r; port = i.inlet.port; way = i.inlet.way }) → ⊥
-        go (UGiven u) = true≢false (sym u ∙ given (block_in fl i.context))
+        go (UUnwired u) = true≢false (sym u ∙ given (block_in fl i.context))
         go (UNot u) = true≢false (sym (there i.context (subst (λ (s : Parts.Part). spot_there fl w i.context s ≡ true) e fits.there)) ∙ u)
         go (UWay u) = true≢false (sym way ∙ u)
 
@@ -158,7 +158,7 @@ module _ (fl : Flow) (p : Plan) (w : Wires) (good : IsGood fl p w) (c : Context)
         inr (taker_from i g a e i.inlet.way refl
         (subst (λ (s : Parts.Part). way_fits fl i.context s i.inlet.port i.inlet.way ≡ true) e (gift_fits fl p w good f all i g).way))
 
-    fanned_near : (i : Item) → IsSent fl w f i → i.context ≡ c → ((x : Carried) → Suits (comes_at i.inlet.part i.inlet.port) x → ChildFrame n ≡ x)
+    fanned_near : (i : Item) → IsSent fl w f i → i.context ≡ c → ((x : Carried) → Suits (arrives_at i.inlet.part i.inlet.port) x → ChildFrame n ≡ x)
         → Near c n First
     fanned_near i s a kind =
         let facts = sent_facts fl w f all s.from s.along in
@@ -171,11 +171,12 @@ module _ (fl : Flow) (p : Plan) (w : Wires) (good : IsGood fl p w) (c : Context)
     sent_near i s (NUnder u) = near_under i.context (sym (ap (λ (i : Item). i.context) s.is)) u
     sent_near i s (NAsked a e) =
         let t = sent_there fl p w good f i all s in absurd (true≢false (sym t.0 ∙ ap (there_in fl (site_in fl w i.context) (wiring_in fl w i.context)) e))
-    sent_near i s (NFanned a e) = let t = sent_there fl p w good f i all s in absurd (true≢false (sym (ap (is_given (block_in fl i.context)) e) ∙ t.2))
-    sent_near i s (NLinker a e) = fanned_near i s a (λ x h. subst (λ (r : Parts.Part). Suits (comes_at r i.inlet.port) x) e h)
+    sent_near i s (NFanned a e) = let t = sent_there fl p w good f i all s in absurd (true≢false (sym (ap (is_unwired (block_in fl i.context)) e) ∙ t.2))
+    sent_near i s (NLinker a e) = fanned_near i s a (λ x h. subst (λ (r : Parts.Part). Suits (arrives_at r i.inlet.port) x) e h)
     sent_near i s (NSender m a e q) =
-        fanned_near i s a (λ x h. subst (λ (q : Port). Suits (comes_at (Sender n m) q) x) q (subst (λ (r : Parts.Part). Suits (comes_at r i.inlet.port) x) e h))
-    sent_near i s (NTaker a e) = let t = sent_there fl p w good f i all s in absurd (true≢false (sym (ap (is_given (block_in fl i.context)) e) ∙ t.2))
+        fanned_near i s a (λ x h. subst (λ (q : Port). Suits (arrives_at (Sender n m) q) x) q
+        (subst (λ (r : Parts.Part). Suits (arrives_at r i.inlet.port) x) e h))
+    sent_near i s (NTaker a e) = let t = sent_there fl p w good f i all s in absurd (true≢false (sym (ap (is_unwired (block_in fl i.context)) e) ∙ t.2))
 
     made_near : (i : Item) → Contains (makes fl w f) i → Near c n i → ((f.context ≡ c) × (f.part ≡ Framer n)) ⊎ Near c n First
     made_near i h x = pick (made_at fl p w good f i all h)
@@ -207,5 +208,5 @@ module _ (fl : Flow) (p : Plan) (w : Wires) (inputs : List ℤ) (q : Past) (m : 
 
   pub framed : (i : Item) → Contains (all_here fl p w inputs q m good k) i → Near c n i → HasFired c (Framer n) here.fired
   framed i h near =
-      let o = traced fl w (Near c n) (λ (f : Firing). (f.context ≡ c) × (f.part ≡ Framer n)) (made_near fl p w good c n) inputs here k.follows.moves
+      let o = traced fl w (Near c n) (λ (f : Firing). (f.context ≡ c) × (f.part ≡ Framer n)) (made_near fl p w good c n) inputs here k.tracks.moves
       (fired_fit fl p w inputs q m good k) (not_near fl p w good c n inputs) i h near in (o.0, o.1, o.2.0, o.2.1)

@@ -17,7 +17,7 @@ use Rattle.semantics.specs.Graph.{Flow}
 use Rattle.semantics.specs.Meaning.{Context}
 use Rattle.semantics.specs.Plan.{Plan}
 use Rattle.semantics.specs.Program.{Instr}
-use Rattle.semantics.specs.Rule.{Seat, opens, gives, drains, on_left, outcome_of, rule_at, slot_of}
+use Rattle.semantics.specs.Rule.{Point, opens, gives, drains, on_left, outcome_of, rule_at, slot_of}
 use Rattle.semantics.specs.Rule as Rule
 use Rattle.semantics.specs.Machine.{Machine, slot_in, slot_used, excluded_by, stuck_rule}
 use Rattle.law_confluence.specs.OrdersTotals.{one}
@@ -30,14 +30,14 @@ use Rattle.law_net.specs.ContextsCredits.{Ledger, slot_for, waits_or}
 use Rattle.law_net.specs.ContextsWires.{IsInstr}
 use Rattle.law_net.specs.ContextsFirings.{Config, takes, times, frame_at, turn_before}
 use Rattle.law_net.specs.ContextsLaws.{spot_there, way_fits}
-use Rattle.law_net.specs.ContextsStands.{Past, is_item_at, items_at, granted_of, frame_of, ip_of, word_of, to_of}
+use Rattle.law_net.specs.ContextsMirror.{Past, is_item_at, items_at, granted_of, frame_of, ip_of, word_of, to_of}
 use Rattle.law_net.specs.ContextsTheorem.{IsGood}
 use Rattle.law_net.specs.ContextsPackages.{Keeps}
 use Rattle.law_net.specs.Credits.{is_credit_part}
 use Rattle.law_net.proofs.ContextsSames.{hits_at, spot_is}
 use Rattle.law_net.proofs.WiredSends.{first_taken, takes_first, first_context}
 use Rattle.law_net.proofs.WiredNets.{all_of, once_all, taken_in}
-use Rattle.law_net.proofs.RunsComes.{fits_in, laid, instr_here}
+use Rattle.law_net.proofs.RunsArrives.{fits_in, laid, instr_here}
 use Rattle.law_net.proofs.RunsPigeons.{few_pigeons, items_total, item_there, some_item}
 use Rattle.law_net.proofs.CreditsTurns.{taken_all, turns_now, left_at, spot_at, no_later, drained_taken, credit_taken, granted_few}
 use Rattle.law_net.proofs.CreditsOpened.{NTaker}
@@ -61,8 +61,8 @@ module _ (fl : Flow) (p : Plan) (w : Wires) (inputs : List ℤ) (q : Past) (m : 
     abbrev most : ℕ
     most = bound fl p w inputs q m good k c con n l
 
-    come : Contains (all_of fl net) i
-    come = stands fl p w inputs q m good k c con n l i pending ic i.inlet.part refl
+    arrive : Contains (all_of fl net) i
+    arrive = stands fl p w inputs q m good k c con n l i pending ic i.inlet.part refl
 
     -- AN INSTRUCTION of the loop
     module _ (g : ℕ) (at : frame_at fl done c ≡ Some g) (r : Part) (ir : i.inlet.part ≡ r) (h : there_in fl (site_in fl w c) (wiring_in fl w c) r ≡ true)
@@ -74,26 +74,27 @@ module _ (fl : Flow) (p : Plan) (w : Wires) (inputs : List ℤ) (q : Past) (m : 
       instr_is : IsInstr fl p w.variant (site_in fl w c) (wiring_in fl w c) r instr
       instr_is = ((laid fl p w inputs q m good k c con).here r h).2
 
-      abbrev seat : Seat
-      seat = record { frame = g; ip = ip_of fl p w c r }
+      abbrev point : Point
+      point = record { frame = g; ip = ip_of fl p w c r }
 
       abbrev op : Op
       op = op_of w.variant (site_in fl w c) r
 
       left : i.inlet.port ≡ Left
-      left = left_at fl p w inputs q m good k c con n l i come ic r ir none
+      left = left_at fl p w inputs q m good k c con n l i arrive ic r ir none
 
       free_by : ((y : Instr) → slot_of y op ≡ Some y.slot) → (v : Word)
-          → ((a : Seat) (y : Instr) → excluded_by (outcome_of p.program a y op (slot_for most log) Left v) ≡ None)
+          → ((a : Point) (y : Instr) → excluded_by (outcome_of p.program a y op (slot_for most log) Left v) ≡ None)
           → stuck_rule p.program m.store (To.Instr g (ip_of fl p w c r) i.inlet.port) v ≡ None
       free_by slotted v ok =
           ap (λ (x : Port). stuck_rule p.program m.store (To.Instr g (ip_of fl p w c r) x) v) left
-          ∙ ap (λ (o : Option Instr). excluded_by (rule_at p.program seat o (slot_in m.store g (slot_used o)) Left v))
+          ∙ ap (λ (o : Option Instr). excluded_by (rule_at p.program point o (slot_in m.store g (slot_used o)) Left v))
           (instr_here fl p w inputs q m good k c con r h)
-          ∙ ap (λ (o : Op). excluded_by (outcome_of p.program seat instr o (slot_in m.store g (slot_of instr o)) Left v)) instr_is.op
-          ∙ ap (λ (o : Option ℕ). excluded_by (outcome_of p.program seat instr op (slot_in m.store g o) Left v)) (slotted instr ∙ ap Some (instr_is.slot ∙ own))
-          ∙ ap (λ (s : SlotState). excluded_by (outcome_of p.program seat instr op s Left v)) (slot_is fl p w inputs q m good k c con n l g at)
-          ∙ ok seat instr
+          ∙ ap (λ (o : Op). excluded_by (outcome_of p.program point instr o (slot_in m.store g (slot_of instr o)) Left v)) instr_is.op
+          ∙ ap (λ (o : Option ℕ). excluded_by (outcome_of p.program point instr op (slot_in m.store g o) Left v)) (slotted instr
+          ∙ ap Some (instr_is.slot ∙ own))
+          ∙ ap (λ (s : SlotState). excluded_by (outcome_of p.program point instr op s Left v)) (slot_is fl p w inputs q m good k c con n l g at)
+          ∙ ok point instr
 
     abbrev Free : ℕ → Part → Word → Type 0
     Free g r v = stuck_rule p.program m.store (To.Instr g (ip_of fl p w c r) i.inlet.port) v ≡ None
@@ -115,10 +116,10 @@ module _ (fl : Flow) (p : Plan) (w : Wires) (inputs : List ℤ) (q : Past) (m : 
         way : i.inlet.way ≡ 0
         way =
             eqb-true i.inlet.way 0 (subst (λ (r : Part). way_fits fl i.context r i.inlet.port i.inlet.way ≡ true) ir
-            (fits_in fl p w inputs q m good k i come).way)
+            (fits_in fl p w inputs q m good k i arrive).way)
 
         here_spot : spot_of i ≡ record { context = c; inlet = inlet (Opener n) Left 0 }
-        here_spot = spot_at fl p w inputs q m good k c con n l i come ic (Opener n) ir refl 0 way
+        here_spot = spot_at fl p w inputs q m good k c con n l i arrive ic (Opener n) ir refl 0 way
 
         go : (times c (Opener n) done ≡ 0) ⊎ (times c (Opener n) done ≡ 0 → ⊥) → times c (Opener n) done ≤ 0
         go (inl e) = omega (arith, e)
@@ -150,14 +151,14 @@ module _ (fl : Flow) (p : Plan) (w : Wires) (inputs : List ℤ) (q : Past) (m : 
     -- A TAKE that comes
     module _ (ir : i.inlet.part ≡ Taker n) where
       pub taker_opened : 0 < times c (Opener n) done
-      taker_opened = near_opened fl p w inputs q m good k c con n l i come (NTaker ic ir)
+      taker_opened = near_opened fl p w inputs q m good k c con n l i arrive (NTaker ic ir)
 
       pub taker_turn : i.inlet.way ≡ granted_of net c n
       taker_turn = (keeps fl p w inputs q m good k c con n l).takes i (held fl p w inputs q m good k c con n l i pending ic (Taker n) ir) ic ir
 
       pub taker_over : log.over ≡ false
       taker_over = over_by fl p w inputs q m good k c con n l i pending ic (Taker n) ir (λ h d a e.
-          let late = no_later fl p w inputs q m good k c con n l h d a e i come ic ir in
+          let late = no_later fl p w inputs q m good k c con n l h d a e i arrive ic ir in
           let turns = turns_now fl p w inputs q m good k h n d e in let same = ap (λ (x : Context). times x (Taker n) done) a in
           let way = taker_turn in let opened = taker_opened in omega (arith, late, turns, same, way, opened))
 
@@ -176,8 +177,8 @@ module _ (fl : Flow) (p : Plan) (w : Wires) (inputs : List ℤ) (q : Past) (m : 
 
     taker_free : (g : ℕ) → frame_at fl done c ≡ Some g → i.inlet.part ≡ Taker n → Free g (Taker n) (word_of fl p w done i.word)
     taker_free g at ir =
-        let left = left_at fl p w inputs q m good k c con n l i come ic (Taker n) ir refl in
-        let word = word_at fl p w inputs q m good k i come c ic (Taker n) ir Left left in
+        let left = left_at fl p w inputs q m good k c con n l i arrive ic (Taker n) ir refl in
+        let word = word_at fl p w inputs q m good k i arrive c ic (Taker n) ir Left left in
         subst (λ (x : Note). Free g (Taker n) (word_of fl p w done x)) (sym word)
         (free_by g at (Taker n) ir l refl rows.1 (λ y. refl) (word_of fl p w done (BackTo (turn_before c n i.inlet.way) (inlet NextFramer Left 0)))
         (λ a y. ap (λ (s : SlotState). excluded_by (Rule.takes s (word_of fl p w done (BackTo (turn_before c n i.inlet.way) (inlet NextFramer Left 0)))))
@@ -185,7 +186,7 @@ module _ (fl : Flow) (p : Plan) (w : Wires) (inputs : List ℤ) (q : Past) (m : 
         ∙ takes_ok (most - (log.granted - log.given)) _))
 
     -- drain
-    drains_ok : (a : Seat) (y : Instr) (x : ℕ) → x ≤ most → excluded_by (drains a y most (Slot.Credits x)) ≡ None
+    drains_ok : (a : Point) (y : Instr) (x : ℕ) → x ≤ most → excluded_by (drains a y most (Slot.Credits x)) ≡ None
     drains_ok a y x h = go (cases_eq x most)
       where
         go : (x ≡ most) ⊎ (x ≡ most → ⊥) → excluded_by (drains a y most (Slot.Credits x)) ≡ None
@@ -200,7 +201,7 @@ module _ (fl : Flow) (p : Plan) (w : Wires) (inputs : List ℤ) (q : Past) (m : 
     -- A DRAIN that comes
     module _ (ir : i.inlet.part ≡ Drainer n) where
       pub drainer_opened : 0 < times c (Opener n) done
-      drainer_opened = given_opened fl p w inputs q m good k c con n l (Drainer n) DrainReturn (λ t. refl) (λ b. refl) refl i come ic ir
+      drainer_opened = given_opened fl p w inputs q m good k c con n l (Drainer n) DrainReturn (λ t. refl) (λ b. refl) refl i arrive ic ir
 
       pub drainer_over : log.over ≡ false
       drainer_over = over_by fl p w inputs q m good k c con n l i pending ic (Drainer n) ir (λ h d a e.
@@ -227,19 +228,19 @@ module _ (fl : Flow) (p : Plan) (w : Wires) (inputs : List ℤ) (q : Past) (m : 
         ∙ drains_ok a y (most - (log.granted - log.given)) (omega arith))
 
     -- give
-    draining_ok : (a : Seat) (y : Instr) (d : ℕ) → 0 < d → excluded_by (gives a y most (Draining d)) ≡ None
+    draining_ok : (a : Point) (y : Instr) (d : ℕ) → 0 < d → excluded_by (gives a y most (Draining d)) ≡ None
     draining_ok a y zero h = absurd (omega (arith, h))
     draining_ok a y (suc zero) h = refl
     draining_ok a y (suc (suc d)) h = refl
 
-    credits_ok : (a : Seat) (y : Instr) (x : ℕ) → x < most → excluded_by (gives a y most (Slot.Credits x)) ≡ None
+    credits_ok : (a : Point) (y : Instr) (x : ℕ) → x < most → excluded_by (gives a y most (Slot.Credits x)) ≡ None
     credits_ok a y x h = ap (λ (t : Bool). excluded_by (if t then Rule.Becomes (Slot.Credits (x + 1)) [] else Rule.Excluded 3)) (lt-ltb x most h)
 
-    waits_ok : (a : Seat) (y : Instr) (o : Option Cont) (x : ℕ) → x < most → excluded_by (gives a y most (waits_or o (Slot.Credits x))) ≡ None
+    waits_ok : (a : Point) (y : Instr) (o : Option Cont) (x : ℕ) → x < most → excluded_by (gives a y most (waits_or o (Slot.Credits x))) ≡ None
     waits_ok a y None x h = credits_ok a y x h
     waits_ok a y (Some b) x h = refl
 
-    gives_ok : (a : Seat) (y : Instr) (t : Bool) (d x : ℕ) → 0 < d → x < most
+    gives_ok : (a : Point) (y : Instr) (t : Bool) (d x : ℕ) → 0 < d → x < most
         → excluded_by (gives a y most (if t then Draining d else waits_or log.waiter (Slot.Credits x))) ≡ None
     gives_ok a y true d x h g = draining_ok a y d h
     gives_ok a y false d x h g = waits_ok a y log.waiter x g
@@ -247,7 +248,7 @@ module _ (fl : Flow) (p : Plan) (w : Wires) (inputs : List ℤ) (q : Past) (m : 
     -- A GIVE that comes
     module _ (ir : i.inlet.part ≡ Giver n) where
       pub giver_opened : 0 < times c (Opener n) done
-      giver_opened = given_opened fl p w inputs q m good k c con n l (Giver n) End (λ t. refl) (λ b. refl) refl i come ic ir
+      giver_opened = given_opened fl p w inputs q m good k c con n l (Giver n) End (λ t. refl) (λ b. refl) refl i arrive ic ir
 
       pub given_low : (j : Item) → Contains (net.pending ++ net.waiting) j → j.context ≡ c → j.inlet.part ≡ Giver n → j.inlet.way < granted_of net c n
       given_low j d a e = (keeps fl p w inputs q m good k c con n l).gives j d a e
@@ -323,5 +324,5 @@ module _ (fl : Flow) (p : Plan) (w : Wires) (inputs : List ℤ) (q : Past) (m : 
   pub credits_take_them : (i : Item) → Contains net.pending i → is_credit_part i.inlet.part ≡ true
       → stuck_rule p.program m.store (to_of fl p w done i i.inlet.part) (word_of fl p w done i.word) ≡ None
   credits_take_them i d u =
-      let g = k.follows.stands.known i (pending_in fl p w inputs q m good k i d) in
+      let g = k.tracks.stands.known i (pending_in fl p w inputs q m good k i d) in
       part_free i d i.inlet.part refl u (fits_in fl p w inputs q m good k i (pending_in fl p w inputs q m good k i d)).there g.0 g.1

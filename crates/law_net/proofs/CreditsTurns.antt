@@ -20,7 +20,7 @@ use Rattle.law_net.specs.Contexts.{Wires, block_in, IsContext}
 use Rattle.law_net.specs.ContextsAround.{Choice}
 use Rattle.law_net.specs.ContextsFirings.{Config, Move, begin, takes, own_takes, renewed, ProperAt, given_back, times, IsProperMove, ProperMoves, Still, Then}
 use Rattle.law_net.specs.ContextsLaws.{InArm, arms_of, flag_arm, way_fits, port_fits}
-use Rattle.law_net.specs.ContextsStands.{Past, came, is_item_at, items_at, granted_of}
+use Rattle.law_net.specs.ContextsMirror.{Past, came, is_item_at, items_at, granted_of}
 use Rattle.law_net.specs.ContextsTheorem.{IsGood}
 use Rattle.law_net.specs.ContextsPackages.{Keeps}
 use Rattle.law_net.proofs.ContextsSames.{hits_at, spot_is, inlet_is}
@@ -29,7 +29,7 @@ use Rattle.law_net.proofs.WiredInvoked.{is_turned}
 use Rattle.law_net.proofs.WiredRounds.{choice_in, earlier_flag, under}
 use Rattle.law_net.proofs.WiredRivals.{flag_at, turn_last, Order, Same, Before, After, order}
 use Rattle.law_net.proofs.WiredNets.{taken_in, not_opposed, once_all}
-use Rattle.law_net.proofs.RunsComes.{net, all_here, fits_in}
+use Rattle.law_net.proofs.RunsArrives.{net, all_here, fits_in}
 use Rattle.law_net.proofs.RunsPigeons.{few_pigeons, items_total, item_there, item_here, times_total, times_items}
 
 -- HOW MANY TURNS: a firing that has all credits back says how many takes had fired
@@ -82,7 +82,7 @@ module _ (fl : Flow) (p : Plan) (w : Wires) (inputs : List ℤ) (q : Past) (m : 
       omega (arith, a, b, f)
 
   pub turns_now : (h : Firing) (n : ℕ) → Contains fired h → h.part ≡ Drained n → h.turns ≤ times h.context (Taker n) fired
-  turns_now = turns_then fl w (begin inputs) here k.follows.moves (λ h n c e. absurd (contains_none h c))
+  turns_now = turns_then fl w (begin inputs) here k.tracks.moves (λ h n c e. absurd (contains_none h c))
 
   -- A LOOP
   module _ (c : Context) (con : IsContext fl c) (n : ℕ) (l : is_loop (block_in fl c) n ≡ true) where
@@ -162,12 +162,12 @@ module _ (fl : Flow) (p : Plan) (w : Wires) (inputs : List ℤ) (q : Past) (m : 
             (fits_in fl p w inputs q m good k i h).way)
 
     -- once all credits are back
-    module _ (h : Firing) (come : Contains fired h) (hc : h.context ≡ c) (hp : h.part ≡ Drained n) where
+    module _ (h : Firing) (arrive : Contains fired h) (hc : h.context ≡ c) (hp : h.part ≡ Drained n) where
       drained_item : Item
       drained_item = item h.context (inlet (Drainer n) Left h.turns) h.left
 
       pub drained_taken : Contains taken (item h.context (inlet (Drainer n) Left h.turns) h.left)
-      drained_taken = taken_in fl fired h (item h.context (inlet (Drainer n) Left h.turns) h.left) come
+      drained_taken = taken_in fl fired h (item h.context (inlet (Drainer n) Left h.turns) h.left) arrive
           (subst (λ (r : Part). Contains (takes fl h) (first_taken fl w h r)) hp (takes_first fl w h))
 
       pub no_later : (i : Item) → Contains all i → i.context ≡ c → i.inlet.part ≡ Taker n → i.inlet.way ≤ h.turns
@@ -186,7 +186,7 @@ module _ (fl : Flow) (p : Plan) (w : Wires) (inputs : List ℤ) (q : Past) (m : 
 
       -- all were given back
       pub credit_taken : (u : ℕ) → u ≤ h.turns → Contains taken (item h.context (inlet (Giver n) Left u) signal)
-      credit_taken u low = taken_in fl fired h (item h.context (inlet (Giver n) Left u) signal) come
+      credit_taken u low = taken_in fl fired h (item h.context (inlet (Giver n) Left u) signal) arrive
           (subst (λ (r : Part). Contains (own_takes fl h r ++ renewed fl h r) (item h.context (inlet (Giver n) Left u) signal)) (sym hp)
           (Contains-append_left (own_takes fl h (Drained n)) (renewed fl h (Drained n)) (item h.context (inlet (Giver n) Left u) signal)
           (contains_tail (item h.context (inlet (Drainer n) Left h.turns) h.left) (given_back h.context n (h.turns + 1))
@@ -221,7 +221,7 @@ module _ (fl : Flow) (p : Plan) (w : Wires) (inputs : List ℤ) (q : Past) (m : 
           let s = items_total c (Giver n) (came fl here) in
           let a = total-append g here.pending (here.waiting ++ flat_map (λ (f : Firing). own_takes fl f f.part) fired) in
           let b = total-append g here.waiting (flat_map (λ (f : Firing). own_takes fl f f.part) fired) in
-          let o = within g fired h come in let e = given_many in omega (arith, s, a, b, o, e)
+          let o = within g fired h arrive in let e = given_many in omega (arith, s, a, b, o, e)
         where
           within : (g : Item → ℕ) (fs : List Firing) (h : Firing) → Contains fs h
               → total g (own_takes fl h h.part) ≤ total g (flat_map (λ (f : Firing). own_takes fl f f.part) fs)

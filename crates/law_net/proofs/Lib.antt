@@ -1,6 +1,6 @@
 -- Runs
 pub mod RunsPorts
-pub mod RunsComes
+pub mod RunsArrives
 pub mod RunsAgree
 pub mod RunsLands
 pub mod RunsFires

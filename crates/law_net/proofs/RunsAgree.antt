@@ -13,7 +13,7 @@ use Rattle.semantics.specs.Plan.{Plan, mark_at}
 use Rattle.semantics.specs.Program.{first_of}
 use Rattle.semantics.specs.Machine.{Machine}
 use Rattle.semantics.specs.Orderly.{IsMarked, same_block}
-use Rattle.law_reuse.proofs.SlotsStands.{one_block}
+use Rattle.law_reuse.proofs.SlotsPlaced.{one_block}
 use Rattle.law_net.specs.ContextsParts.{Part, Trigger, Gate, TurnCont, TurnFlag, TurnValue, Item, Firing, spot_of, role_of}
 use Rattle.law_net.specs.ContextsBlocks.{mark_of, mark_round, lies_in, flag}
 use Rattle.law_net.specs.Contexts.{Wires, block_in, code_in, wiring_in}
@@ -21,14 +21,14 @@ use Rattle.law_net.specs.ContextsWires.{predicate_at, cond_round}
 use Rattle.law_net.specs.ContextsAround.{Choice}
 use Rattle.law_net.specs.ContextsFirings.{Config, makes, begins, sent_word}
 use Rattle.law_net.specs.ContextsLaws.{IsPredicate, source}
-use Rattle.law_net.specs.ContextsStands.{Past, word_of}
+use Rattle.law_net.specs.ContextsMirror.{Past, word_of}
 use Rattle.law_net.specs.ContextsTheorem.{IsGood}
 use Rattle.law_net.specs.ContextsPackages.{InputsFit, Keeps, Agrees}
 use Rattle.law_net.proofs.WiredWords.{begin_cases}
 use Rattle.law_net.proofs.WiredFed.{made_at}
 use Rattle.law_net.proofs.WiredEntered.{made_says, first_free}
 use Rattle.law_net.proofs.WiredNets.{all_born}
-use Rattle.law_net.proofs.RunsComes.{net, all_here, fired_fit, code, code_there, laid, place_below, block_same, one_context, CameAt, from_met}
+use Rattle.law_net.proofs.RunsArrives.{net, all_here, fired_fit, code, code_there, laid, place_below, block_same, one_context, CameAt, from_met}
 
 -- MARKS. A marked part takes its conditional's word on the right.
 pub data Marked (b : Block ℕ) (r : Part) (k : Mark) : Type 0 where
@@ -69,7 +69,7 @@ module _ (fl : Flow) (p : Plan) (w : Wires) (inputs : List ℤ) (q : Past) (m : 
   -- a conditional's word is what its source sent
   said : InputsFit fl inputs → (i : Item) → Contains items i → (c : Choice) → IsPredicate fl (spot_of i) c
       → (h : Firing) × Contains here.fired h × (role_of h ≡ source fl w c) × (i.word ≡ sent_word fl h h.part)
-  said fit i s c a = pick (all_born fl w inputs here k.follows.moves i s)
+  said fit i s c a = pick (all_born fl w inputs here k.tracks.moves i s)
     where
       pick : Contains (begins inputs) i ⊎ ((h : Firing) × Contains here.fired h × Contains (makes fl w h) i)
           → (h : Firing) × Contains here.fired h × (role_of h ≡ source fl w c) × (i.word ≡ sent_word fl h h.part)

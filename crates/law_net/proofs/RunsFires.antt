@@ -14,18 +14,18 @@ use Rattle.semantics.specs.Graph.{Flow, Node, node_at}
 use Rattle.semantics.specs.Meaning.{Context, Main, Called, Turned}
 use Rattle.semantics.specs.Plan.{Plan}
 use Rattle.semantics.specs.Program.{Instr}
-use Rattle.semantics.specs.Rule.{Seat, fires, fire_one, fire_two, meets, alone, outcome_of, slot_of}
+use Rattle.semantics.specs.Rule.{Point, fires, fire_one, fire_two, meets, alone, outcome_of, slot_of}
 use Rattle.semantics.specs.Machine.{excluded_by}
 use Rattle.law_net.specs.ContextsParts.{Part, Line, Trigger, Gate, Opener, Framer, Linker, Sender, Landing, Giver, Taker, Drainer, Strict, Result, TurnCont}
 use Rattle.law_net.specs.ContextsParts.{TurnFlag, TurnValue, Asker, NextFramer, NextSender, LastReturn, DrainReturn, Join, End, Note, Datum, FrameOf, Firing}
 use Rattle.law_net.specs.ContextsBlocks.{is_pair, pair_kind, waits_in, there_in, op_of, line_op, kind_op, callee_code}
 use Rattle.law_net.specs.Contexts.{Wires, block_in, site_in, wiring_in, child, next, return_of}
-use Rattle.law_net.specs.ContextsWires.{comes_at}
+use Rattle.law_net.specs.ContextsWires.{arrives_at}
 use Rattle.law_net.specs.ContextsLaws.{Carries}
-use Rattle.law_net.specs.ContextsStands.{frame_of, ip_of, word_of}
+use Rattle.law_net.specs.ContextsMirror.{frame_of, ip_of, word_of}
 use Rattle.law_net.specs.Credits.{is_credit_part}
 
-module _ (fl : Flow) (p : Plan) (w : Wires) (fired : List Firing) (seat : Seat) (i : Instr) (c : Context) where
+module _ (fl : Flow) (p : Plan) (w : Wires) (fired : List Firing) (point : Point) (i : Instr) (c : Context) where
   abbrev word : Note → Word
   word k = word_of fl p w fired k
 
@@ -33,16 +33,17 @@ module _ (fl : Flow) (p : Plan) (w : Wires) (fired : List Firing) (seat : Seat) 
   Free made = excluded_by (fires Empty made) ≡ None
 
   -- an operation with two words, both values
-  pair_fires : (n : ℕ) (v u : Value) → is_pair (block_in fl c) n ≡ true → Free (fire_two p.program seat i (line_op (block_in fl c) n) (Word.Val v) (Word.Val u))
+  pair_fires : (n : ℕ) (v u : Value) → is_pair (block_in fl c) n ≡ true
+      → Free (fire_two p.program point i (line_op (block_in fl c) n) (Word.Val v) (Word.Val u))
   pair_fires n v u h = go (node_at (block_in fl c) n) h
     where
-      by_kind : (kind : Kind ℕ) → pair_kind kind ≡ true → Free (fire_two p.program seat i (kind_op kind) (Word.Val v) (Word.Val u))
+      by_kind : (kind : Kind ℕ) → pair_kind kind ≡ true → Free (fire_two p.program point i (kind_op kind) (Word.Val v) (Word.Val u))
       by_kind (Kind.Apply2 op) h = refl
       by_kind (Kind.Store a) h = refl
       by_kind kind h = absurd (true≢false (sym h))
 
       go : (o : Option (Node ℕ)) → (elim o as (λ x. Bool) [ None ↦ false | Some line ↦ pair_kind line.kind ]) ≡ true
-          → Free (fire_two p.program seat i (elim o as (λ x. Op) [ None ↦ Op.Copy | Some line ↦ kind_op line.kind ]) (Word.Val v) (Word.Val u))
+          → Free (fire_two p.program point i (elim o as (λ x. Op) [ None ↦ Op.Copy | Some line ↦ kind_op line.kind ]) (Word.Val v) (Word.Val u))
       go None h = absurd (true≢false (sym h))
       go (Some line) h = by_kind line.kind h
 
@@ -50,7 +51,7 @@ module _ (fl : Flow) (p : Plan) (w : Wires) (fired : List Firing) (seat : Seat) 
   op_here r = op_of w.variant (site_in fl w c) r
 
   abbrev Fires : Part → Note → Note → Type 0
-  Fires r l k = Free (fire_two p.program seat i (op_here r) (word l) (word k))
+  Fires r l k = Free (fire_two p.program point i (op_here r) (word l) (word k))
 
   of_value : (P : Word → Type 0) (k : Note) → (v : Value) × (k ≡ Datum v) → ((v : Value) → P (Word.Val v)) → P (word k)
   of_value P k (v, e) h = subst (λ (k : Note). P (word k)) (sym e) (h v)
@@ -67,39 +68,39 @@ module _ (fl : Flow) (p : Plan) (w : Wires) (fired : List Firing) (seat : Seat) 
       go (Turned d n t) = h (Cont.Frame (frame_of fl fired d) (ip_of fl p w d (Landing n 0)) Left)
 
   -- two words meet
-  return_fires : (j : ℕ) (l k : Note) → l ≡ return_of c → (v : Value) × (k ≡ Datum v) → Free (fire_two p.program seat i (Op.Return j) (word l) (word k))
+  return_fires : (j : ℕ) (l k : Note) → l ≡ return_of c → (v : Value) × (k ≡ Datum v) → Free (fire_two p.program point i (Op.Return j) (word l) (word k))
   return_fires j l k a b =
-      of_return (λ (x : Word). Free (fire_two p.program seat i (Op.Return j) x (word k))) l a
-      (λ x. of_value (λ (y : Word). Free (fire_two p.program seat i (Op.Return j) (Word.Back x) y)) k b (λ v. refl))
+      of_return (λ (x : Word). Free (fire_two p.program point i (Op.Return j) x (word k))) l a
+      (λ x. of_value (λ (y : Word). Free (fire_two p.program point i (Op.Return j) (Word.Back x) y)) k b (λ v. refl))
 
-  switch_fires : (l k : Note) → (v : Value) × (k ≡ Datum v) → Free (fire_two p.program seat i Op.Switch (word l) (word k))
-  switch_fires l k b = of_value (λ (y : Word). Free (fire_two p.program seat i Op.Switch (word l) y)) k b (λ v. refl)
+  switch_fires : (l k : Note) → (v : Value) × (k ≡ Datum v) → Free (fire_two p.program point i Op.Switch (word l) (word k))
+  switch_fires l k b = of_value (λ (y : Word). Free (fire_two p.program point i Op.Switch (word l) y)) k b (λ v. refl)
 
-  send_fires : (b e : ℕ) (d : Context) (l k : Note) → l ≡ FrameOf d → Free (fire_two p.program seat i (Op.Send b e) (word l) (word k))
-  send_fires b e d l k a = of_frame (λ (x : Word). Free (fire_two p.program seat i (Op.Send b e) x (word k))) l d a (λ f. refl)
+  send_fires : (b e : ℕ) (d : Context) (l k : Note) → l ≡ FrameOf d → Free (fire_two p.program point i (Op.Send b e) (word l) (word k))
+  send_fires b e d l k a = of_frame (λ (x : Word). Free (fire_two p.program point i (Op.Send b e) x (word k))) l d a (λ f. refl)
 
-  pub two_fire : (r : Part) → waits_in (block_in fl c) r ≡ true → (t u : ℕ) (l k : Note) → Carries fl w c t (comes_at r Left) l
-      → Carries fl w c u (comes_at r Right) k → Fires r l k
-  two_fire (Line n) e t u l k a b = of_value (λ (x : Word). Free (fire_two p.program seat i (line_op (block_in fl c) n) x (word k))) l a
-      (λ v. of_value (λ (y : Word). Free (fire_two p.program seat i (line_op (block_in fl c) n) (Word.Val v) y)) k b (λ u. pair_fires n v u e))
+  pub two_fire : (r : Part) → waits_in (block_in fl c) r ≡ true → (t u : ℕ) (l k : Note) → Carries fl w c t (arrives_at r Left) l
+      → Carries fl w c u (arrives_at r Right) k → Fires r l k
+  two_fire (Line n) e t u l k a b = of_value (λ (x : Word). Free (fire_two p.program point i (line_op (block_in fl c) n) x (word k))) l a
+      (λ v. of_value (λ (y : Word). Free (fire_two p.program point i (line_op (block_in fl c) n) (Word.Val v) y)) k b (λ u. pair_fires n v u e))
   two_fire (Trigger n) e t u l k a b = switch_fires l k b
   two_fire (Gate n) e t u l k a b = switch_fires l k b
   two_fire (Result j) e t u l k a b = return_fires j l k a b
   two_fire (Join r j) e t u l k a b = refl
-  two_fire End e t u l k a b = of_return (λ (x : Word). Free (fire_two p.program seat i (op_here End) x (word k))) l a (λ x. refl)
+  two_fire End e t u l k a b = of_return (λ (x : Word). Free (fire_two p.program point i (op_here End) x (word k))) l a (λ x. refl)
   two_fire (Sender n j) e t u l k a b = send_fires (callee_code w.variant (block_in fl c) n) (j + 1) (child fl c n) l k a
   two_fire (Strict n j) e t u l k a b = refl
   two_fire TurnCont e t u l k a b = switch_fires l k b
   two_fire TurnFlag e t u l k a b = switch_fires l k b
   two_fire (TurnValue j) e t u l k a b = switch_fires l k b
-  two_fire Asker e t u l k a b = of_return (λ (x : Word). Free (fire_two p.program seat i (op_here Asker) x (word k))) l a (λ x. refl)
+  two_fire Asker e t u l k a b = of_return (λ (x : Word). Free (fire_two p.program point i (op_here Asker) x (word k))) l a (λ x. refl)
   two_fire (NextSender j) e t u l k a b = send_fires (site_in fl w c).own j (next c) l k a
   two_fire (LastReturn j) e t u l k a b = return_fires j l k a b
   two_fire DrainReturn e t u l k a b = return_fires ((block_in fl c).inputs + 2) l k a b
   two_fire r e t u l k a b = absurd (true≢false (sym e))
 
   abbrev IsTwo : Op → Type 0
-  IsTwo o = (slot_of i o ≡ Some i.slot) × ((st : SlotState) (x : Port) (k : Word) → outcome_of p.program seat i o st x k ≡ meets p.program seat i st x k)
+  IsTwo o = (slot_of i o ≡ Some i.slot) × ((st : SlotState) (x : Port) (k : Word) → outcome_of p.program point i o st x k ≡ meets p.program point i st x k)
 
   line_two : (n : ℕ) → is_pair (block_in fl c) n ≡ true → IsTwo (line_op (block_in fl c) n)
   line_two n h = go (node_at (block_in fl c) n) h
@@ -134,12 +135,12 @@ module _ (fl : Flow) (p : Plan) (w : Wires) (fired : List Firing) (seat : Seat) 
 
   -- one word alone
   abbrev Alone : Op → Note → Type 0
-  Alone o k = (st : SlotState) → i.op ≡ o → excluded_by (outcome_of p.program seat i o st Left (word k)) ≡ None
+  Alone o k = (st : SlotState) → i.op ≡ o → excluded_by (outcome_of p.program point i o st Left (word k)) ≡ None
 
-  alone_fires : (o : Op) (k : Note) (st : SlotState) → i.op ≡ o → (made : List Token) → fire_one p.program seat i o (word k) ≡ Some made
-      → excluded_by (alone p.program seat i st Left (word k)) ≡ None
+  alone_fires : (o : Op) (k : Note) (st : SlotState) → i.op ≡ o → (made : List Token) → fire_one p.program point i o (word k) ≡ Some made
+      → excluded_by (alone p.program point i st Left (word k)) ≡ None
   alone_fires o k st e made h =
-      ap (λ (o : Op). excluded_by (fires st (fire_one p.program seat i o (word k)))) e ∙ ap (λ (x : Option (List Token)). excluded_by (fires st x)) h
+      ap (λ (o : Op). excluded_by (fires st (fire_one p.program point i o (word k)))) e ∙ ap (λ (x : Option (List Token)). excluded_by (fires st x)) h
 
   line_alone : (n : ℕ) (k : Note) → is_pair (block_in fl c) n ≡ false → (v : Value) × (k ≡ Datum v) → Alone (line_op (block_in fl c) n) k
   line_alone n k h (v, e) = go (node_at (block_in fl c) n) h
@@ -170,7 +171,7 @@ module _ (fl : Flow) (p : Plan) (w : Wires) (fired : List Firing) (seat : Seat) 
   link_alone b d k e = subst (λ (k : Note). Alone (Op.Link b) k) (sym e) (λ st g. alone_fires (Op.Link b) (FrameOf d) st g _ refl)
 
   pub one_alone : (r : Part) → there_in fl (site_in fl w c) (wiring_in fl w c) r ≡ true → is_credit_part r ≡ false → waits_in (block_in fl c) r ≡ false
-      → (t : ℕ) (k : Note) → Carries fl w c t (comes_at r Left) k → Alone (op_here r) k
+      → (t : ℕ) (k : Note) → Carries fl w c t (arrives_at r Left) k → Alone (op_here r) k
   one_alone (Line n) h u e t k a = line_alone n k e a
   one_alone (Opener n) h u e t k a = absurd (true≢false u)
   one_alone (Giver n) h u e t k a = absurd (true≢false u)

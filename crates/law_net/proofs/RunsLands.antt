@@ -27,13 +27,13 @@ use Rattle.law_net.specs.ContextsParts.{Note}
 use Rattle.law_net.specs.ContextsBlocks.{side, op_of, line_op, kind_op, there_in, is_call, is_loop, call_kind, loop_kind, code_called, callee_code}
 use Rattle.law_net.specs.ContextsBlocks.{result_count}
 use Rattle.law_net.specs.Contexts.{Wires, or_zero, block_in, code_in, site_in, wiring_in, return_of, IsContext}
-use Rattle.law_net.specs.ContextsWires.{comes_at, IsInstr, leads_to, stands_at}
+use Rattle.law_net.specs.ContextsWires.{arrives_at, IsInstr, leads_to, ip_and_port}
 use Rattle.law_net.specs.ContextsLaws.{WordFits, Carries}
-use Rattle.law_net.specs.ContextsStands.{Past, ip_of, word_of}
+use Rattle.law_net.specs.ContextsMirror.{Past, ip_of, word_of}
 use Rattle.law_net.specs.ContextsTheorem.{IsGood}
 use Rattle.law_net.specs.ContextsPackages.{Keeps, Lands}
 use Rattle.law_net.proofs.WiredInvoked.{kind_line, call_invoked, loop_invoked, looped_at, lawful_at}
-use Rattle.law_net.proofs.RunsComes.{net, all_here, code, code_there, from_met, laid, instr_here, place_below}
+use Rattle.law_net.proofs.RunsArrives.{net, all_here, code, code_there, from_met, laid, instr_here, place_below}
 
 -- OFFSETS. An instruction with one takes its context's continuation.
 line_no_offset : (b : Block ℕ) (n o : ℕ) → offset_of (line_op b n) ≡ Some o → ⊥
@@ -72,12 +72,12 @@ module _ (fl : Flow) (w : Wires) (c : Context) (o : ℕ) where
   offset_cases r e = absurd (cc)
 
   -- and its left word is that
-  returns : (r : Part) → Offset fl w c r o → (t : ℕ) (k : Note) → Carries fl w c t (comes_at r Left) k → k ≡ return_of c
-  returns r (OfResult j e g) t k h = subst (λ (r : Part). Carries fl w c t (comes_at r Left) k) e h
-  returns r (OfLast j e g) t k h = subst (λ (r : Part). Carries fl w c t (comes_at r Left) k) e h
-  returns r (OfDrain e g) t k h = subst (λ (r : Part). Carries fl w c t (comes_at r Left) k) e h
-  returns r (OfAsker e g) t k h = subst (λ (r : Part). Carries fl w c t (comes_at r Left) k) e h
-  returns r (OfEnd e g) t k h = subst (λ (r : Part). Carries fl w c t (comes_at r Left) k) e h
+  returns : (r : Part) → Offset fl w c r o → (t : ℕ) (k : Note) → Carries fl w c t (arrives_at r Left) k → k ≡ return_of c
+  returns r (OfResult j e g) t k h = subst (λ (r : Part). Carries fl w c t (arrives_at r Left) k) e h
+  returns r (OfLast j e g) t k h = subst (λ (r : Part). Carries fl w c t (arrives_at r Left) k) e h
+  returns r (OfDrain e g) t k h = subst (λ (r : Part). Carries fl w c t (arrives_at r Left) k) e h
+  returns r (OfAsker e g) t k h = subst (λ (r : Part). Carries fl w c t (arrives_at r Left) k) e h
+  returns r (OfEnd e g) t k h = subst (λ (r : Part). Carries fl w c t (arrives_at r Left) k) e h
 
 pub call_code : (v : ℕ → ℕ) (kind : Kind ℕ) (f : ℕ) → call_kind kind ≡ true → callee kind ≡ Some f → code_called v kind ≡ f
 call_code v (Kind.Call g) f h e = cc
@@ -114,7 +114,7 @@ module _ (fl : Flow) (p : Plan) (w : Wires) (inputs : List ℤ) (q : Past) (m : 
     landing_dest : (x : Dest) × (linked.0.firsts ≡ x ∷ []) × (leads_to (place (Linker n)) x ≡ (place (Landing n 0), Left))
     landing_dest = one_dest linked.0.firsts (leads_to (place (Linker n))) (place (Landing n 0), Left)
         (subst (λ (l : List Inlet). IsPermutation (map (leads_to (place (Linker n))) linked.0.firsts)
-        (map (stands_at (wiring_in fl w d)) (inlet (Landing n 0) Left 0 ∷ l)))
+        (map (ip_and_port (wiring_in fl w d)) (inlet (Landing n 0) Left 0 ∷ l)))
         ((lawful_at fl p w good d here).fed.sides (side (Linker n) false) (inr refl)) linked.2.firsts)
 
     pub has_landing : (base o : ℕ) → base ≡ ip_of fl p w d (Landing n 0) → o < landing p (callee_code w.variant (block_in fl d) n)
@@ -257,7 +257,7 @@ module _ (fl : Flow) (p : Plan) (w : Wires) (inputs : List ℤ) (q : Past) (m : 
       let fits = carries_of fl w x.0 (All-contains (WordFits fl w) (all_here fl p w inputs q m good k) x.0 k.fits came.stands) in
       let host : x.0.word ≡ return_of context =
       returns fl w context o part offset x.0.inlet.way x.0.word
-      (subst (λ (s : Port). Carries fl w context x.0.inlet.way (comes_at part s) x.0.word) came.port fits) in
+      (subst (λ (s : Port). Carries fl w context x.0.inlet.way (arrives_at part s) x.0.word) came.port fits) in
       lands_by context o part came.context came.part_here offset g base r (sym (ap word host) ∙ x.2)
     where
       some_instr : (a b : Instr) → Some a ≡ Some b → a ≡ b

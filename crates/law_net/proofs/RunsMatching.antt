@@ -19,21 +19,21 @@ use Rattle.semantics.specs.Graph.{Block, Flow}
 use Rattle.semantics.specs.Meaning.{Context, Main, Called, Turned}
 use Rattle.semantics.specs.Plan.{Plan}
 use Rattle.semantics.specs.Program.{Instr}
-use Rattle.semantics.specs.Rule.{Seat, fires, fire_two, meets, outcome_of, rule_at, slot_of}
+use Rattle.semantics.specs.Rule.{Point, fires, fire_two, meets, outcome_of, rule_at, slot_of}
 use Rattle.semantics.specs.Machine.{Machine, slot_in, slot_used, excluded_by, stuck_rule, outputs_of, results_in, filled, unless_value, unless_back}
 use Rattle.law_net.proofs.ContextsWords.{carries_of}
-use Rattle.law_net.specs.ContextsParts.{Part, Line, Opener, Asked, NextAsked, Held, Drained, Shown, Done, Freed, Inlet, inlet, Note, Item, Firing}
+use Rattle.law_net.specs.ContextsParts.{Part, Line, Opener, Asked, NextAsked, InCell, Drained, Shown, Done, Freed, Inlet, inlet, Note, Item, Firing}
 use Rattle.law_net.specs.ContextsBlocks.{is_loop, is_store, waits_in, there_in, op_of}
 use Rattle.law_net.specs.Contexts.{Wires, block_in, site_in, wiring_in, or_zero, IsContext}
-use Rattle.law_net.specs.ContextsWires.{IsInstr, comes_at, holds_own}
+use Rattle.law_net.specs.ContextsWires.{IsInstr, arrives_at, holds_own}
 use Rattle.law_net.specs.ContextsFirings.{Config, own_takes, back_from, takes, frame_at, memory_of, remembered, stored_at, value_in, cell_of, second_of}
 use Rattle.law_net.specs.ContextsLaws.{WordFits, Carries, spot_there, port_fits, is_main}
-use Rattle.law_net.specs.ContextsStands.{Past, frame_of, ip_of, word_of, to_of, token_of, cell_to, came, on_side, in_slot, only}
+use Rattle.law_net.specs.ContextsMirror.{Past, frame_of, ip_of, word_of, to_of, token_of, cell_to, came, on_side, in_slot, only}
 use Rattle.law_net.specs.ContextsTheorem.{IsGood}
 use Rattle.law_net.specs.ContextsPackages.{Keeps, IsMatching}
 use Rattle.law_net.proofs.WiredSends.{first_taken, takes_first, first_context}
 use Rattle.law_net.proofs.WiredNets.{only_contains, not_twice, taken_in}
-use Rattle.law_net.proofs.RunsComes.{net, all_here, there_at, fits_in, one_spot, Strays, sender_one, code_there, laid, instr_here}
+use Rattle.law_net.proofs.RunsArrives.{net, all_here, there_at, fits_in, one_spot, Strays, sender_one, code_there, laid, instr_here}
 use Rattle.law_net.specs.Credits.{is_credit_part}
 use Rattle.law_net.proofs.RunsFires.{two_fire, are_two, one_alone}
 
@@ -52,7 +52,7 @@ unshown fl j (f ∷ fired) h = by_part f.part refl ∙ unshown fl j fired (λ g 
     held n false x v = refl
 
     by_part : (r : Part) → f.part ≡ r → (remembered fl f r (memory_of fl fired)).outputs j ≡ (memory_of fl fired).outputs j
-    by_part (Held n) e = held n (is_store (block_in fl f.context) n) (cell_of fl f.context n f.operands) (second_of f.operands)
+    by_part (InCell n) e = held n (is_store (block_in fl f.context) n) (cell_of fl f.context n f.operands) (second_of f.operands)
     by_part (Shown k) e =
         ap (λ (t : Bool). if t then Some (value_in f.left) else (memory_of fl fired).outputs j) (ne_eqb k j (λ g. h f (contains_head f fired) (e ∙ ap Shown g)))
     by_part r e = refl
@@ -62,7 +62,7 @@ pub wait_there : (fl : Flow) (w : Wires) (c : Context) (r : Part) → waits_in (
     → there_in fl (site_in fl w c) (wiring_in fl w c) r ≡ true
 wait_there fl w c (Asked n) e h = absurd (true≢false (sym e))
 wait_there fl w c NextAsked e h = absurd (true≢false (sym e))
-wait_there fl w c (Held n) e h = absurd (true≢false (sym e))
+wait_there fl w c (InCell n) e h = absurd (true≢false (sym e))
 wait_there fl w c (Shown j) e h = absurd (true≢false (sym e))
 wait_there fl w c Done e h = absurd (true≢false (sym e))
 wait_there fl w c Freed e h = absurd (true≢false (sym e))
@@ -106,11 +106,11 @@ module _ (fl : Flow) (p : Plan) (w : Wires) (inputs : List ℤ) (q : Past) (m : 
   context_at i h = (fits_in fl p w inputs q m good k i h).is_context
 
   pub word_at : (i : Item) → Contains all i → (c : Context) → i.context ≡ c → (r : Part) → i.inlet.part ≡ r → (x : Port) → i.inlet.port ≡ x
-      → Carries fl w c i.inlet.way (comes_at r x) i.word
+      → Carries fl w c i.inlet.way (arrives_at r x) i.word
   word_at i h c a r e x g =
-      subst (λ (x : Port). Carries fl w c i.inlet.way (comes_at r x) i.word) g
-      (subst (λ (r : Part). Carries fl w c i.inlet.way (comes_at r i.inlet.port) i.word) e
-      (subst (λ (d : Context). Carries fl w d i.inlet.way (comes_at i.inlet.part i.inlet.port) i.word) a
+      subst (λ (x : Port). Carries fl w c i.inlet.way (arrives_at r x) i.word) g
+      (subst (λ (r : Part). Carries fl w c i.inlet.way (arrives_at r i.inlet.port) i.word) e
+      (subst (λ (d : Context). Carries fl w d i.inlet.way (arrives_at i.inlet.part i.inlet.port) i.word) a
       (carries_of fl w i (All-contains (WordFits fl w) all i k.fits h))))
 
   left_only : (i : Item) → Contains all i → (c : Context) → i.context ≡ c → (r : Part) → i.inlet.part ≡ r → waits_in (block_in fl c) r ≡ false
@@ -184,22 +184,22 @@ module _ (fl : Flow) (p : Plan) (w : Wires) (inputs : List ℤ) (q : Past) (m : 
 
     -- what is in the slot of a part where two words meet
     slot_here : (r : Part) → There r → waits_in (block_in fl c) r ≡ true → SlotOf r (m.store.slots g (slot r))
-    slot_here r h e = pick (k.follows.stands.slots.empty g (slot r))
+    slot_here r h e = pick (k.tracks.stands.slots.empty g (slot r))
       where
-        no_base : k.follows.stands.base g (slot r) ≡ Empty
-        no_base = go (k.follows.stands.others g (slot r))
+        no_base : k.tracks.stands.base g (slot r) ≡ Empty
+        no_base = go (k.tracks.stands.others g (slot r))
           where
             not_open : (n : ℕ) → is_loop (block_in fl c) n ≡ true → slot (Opener n) ≡ slot r → ⊥
             not_open n l same =
                 let part : Opener n ≡ r = (laid fl p w inputs q m good k c con).holders (Opener n) r l h refl (wait_holds (block_in fl c) r e) same in
                 true≢false (sym e ∙ ap (waits_in (block_in fl c)) (sym part))
 
-            go : (k.follows.stands.base g (slot r) ≡ Empty)
+            go : (k.tracks.stands.base g (slot r) ≡ Empty)
                 ⊎ ((d : Context) × (n : ℕ) × IsContext fl d × (is_loop (block_in fl d) n ≡ true) × (frame_at fl fired d ≡ Some g)
-                × ((wiring_in fl w d).slot (Opener n) ≡ slot r)) → k.follows.stands.base g (slot r) ≡ Empty
+                × ((wiring_in fl w d).slot (Opener n) ≡ slot r)) → k.tracks.stands.base g (slot r) ≡ Empty
             go (inl x) = x
             go (inr (d, n, a, l, f, same)) =
-                let one = k.follows.stands.apart d c g f at in
+                let one = k.tracks.stands.apart d c g f at in
                 absurd (not_open n (subst (λ (d : Context). is_loop (block_in fl d) n ≡ true) one l)
                 (subst (λ (d : Context). (wiring_in fl w d).slot (Opener n) ≡ slot r) one same))
 
@@ -208,17 +208,17 @@ module _ (fl : Flow) (p : Plan) (w : Wires) (inputs : List ℤ) (q : Past) (m : 
         at_item j x f y =
             let o = only_contains (in_slot fl) here.waiting j x in
             let stands = waiting_in j o.0 in
-            let known = k.follows.stands.known j stands in
+            let known = k.tracks.stands.known j stands in
             let frame : known.0 ≡ g = sym (ap or_zero known.1) ∙ f in
-            let one = k.follows.stands.apart j.context c g (known.1 ∙ ap Some frame) at in
+            let one = k.tracks.stands.apart j.context c g (known.1 ∙ ap Some frame) at in
             let two : waits_in (block_in fl c) j.inlet.part ≡ true = subst (λ (d : Context). waits_in (block_in fl d) j.inlet.part ≡ true) one o.1 in
             let there = wait_there fl w c j.inlet.part two (there_at fl p w inputs q m good k j stands c one j.inlet.part refl) in
             let same = subst (λ (d : Context). (wiring_in fl w d).slot j.inlet.part ≡ slot r) one y in
             let part = (laid fl p w inputs q m good k c con).holders j.inlet.part r there h (wait_holds (block_in fl c) j.inlet.part two)
             (wait_holds (block_in fl c) r e) same in
-            OneThere j o.0 one part (let a = sym f in let b = sym y in (λ t. m.store.slots (a t) (b t)) ∙ k.follows.stands.slots.waits j x)
+            OneThere j o.0 one part (let a = sym f in let b = sym y in (λ t. m.store.slots (a t) (b t)) ∙ k.tracks.stands.slots.waits j x)
 
-        pick : (m.store.slots g (slot r) ≡ k.follows.stands.base g (slot r))
+        pick : (m.store.slots g (slot r) ≡ k.tracks.stands.base g (slot r))
             ⊎ ((j : Item) × Contains (only (in_slot fl) here.waiting) j × (frame_of fl fired j.context ≡ g)
             × ((wiring_in fl w j.context).slot j.inlet.part ≡ slot r)) → SlotOf r (m.store.slots g (slot r))
         pick (inl x) = NoneThere (x ∙ no_base)
@@ -233,8 +233,8 @@ module _ (fl : Flow) (p : Plan) (w : Wires) (inputs : List ℤ) (q : Past) (m : 
       instr_is : IsInstr fl p w.variant (site_in fl w c) (wiring_in fl w c) r instr
       instr_is = ((laid fl p w inputs q m good k c con).here r h).2
 
-      abbrev seat : Seat
-      seat = record { frame = g; ip = ip_of fl p w c r }
+      abbrev point : Point
+      point = record { frame = g; ip = ip_of fl p w c r }
 
       abbrev op : Op
       op = op_of w.variant (site_in fl w c) r
@@ -246,38 +246,38 @@ module _ (fl : Flow) (p : Plan) (w : Wires) (inputs : List ℤ) (q : Past) (m : 
       stands = pending_in i pending
 
       at_instr : (x : Port) (v : Word) → stuck_rule p.program m.store (To.Instr g (ip_of fl p w c r) x) v
-          ≡ excluded_by (outcome_of p.program seat instr op (slot_in m.store g (slot_of instr op)) x v)
+          ≡ excluded_by (outcome_of p.program point instr op (slot_in m.store g (slot_of instr op)) x v)
       at_instr x v =
-          ap (λ (o : Option Instr). excluded_by (rule_at p.program seat o (slot_in m.store g (slot_used o)) x v))
+          ap (λ (o : Option Instr). excluded_by (rule_at p.program point o (slot_in m.store g (slot_used o)) x v))
           (instr_here fl p w inputs q m good k c con r h)
-          ∙ ap (λ (o : Op). excluded_by (outcome_of p.program seat instr o (slot_in m.store g (slot_of instr o)) x v)) instr_is.op
+          ∙ ap (λ (o : Op). excluded_by (outcome_of p.program point instr o (slot_in m.store g (slot_of instr o)) x v)) instr_is.op
 
       alone_free : waits_in (block_in fl c) r ≡ false → stuck_rule p.program m.store (To.Instr g (ip_of fl p w c r) i.inlet.port) (words i.word) ≡ None
       alone_free n =
           let left = left_only i stands c ic r e n in
           ap (λ (x : Port). stuck_rule p.program m.store (To.Instr g (ip_of fl p w c r) x) (words i.word)) left ∙ at_instr Left (words i.word)
-          ∙ one_alone fl p w fired seat instr c r h free n i.inlet.way i.word (word_at i stands c ic r e Left left)
+          ∙ one_alone fl p w fired point instr c r h free n i.inlet.way i.word (word_at i stands c ic r e Left left)
           (slot_in m.store g (slot_of instr op)) instr_is.op
 
       -- the first word of two
-      meets_empty : (x : Port) (v : Word) → excluded_by (meets p.program seat instr Empty x v) ≡ None
+      meets_empty : (x : Port) (v : Word) → excluded_by (meets p.program point instr Empty x v) ≡ None
       meets_empty Left v = refl
       meets_empty Right v = refl
 
       two_free : waits_in (block_in fl c) r ≡ true → stuck_rule p.program m.store (To.Instr g (ip_of fl p w c r) i.inlet.port) (words i.word) ≡ None
       two_free n =
-          let two = are_two fl p w fired seat instr c r n in
+          let two = are_two fl p w fired point instr c r n in
           at_instr i.inlet.port (words i.word)
-          ∙ ap (λ (o : Option ℕ). excluded_by (outcome_of p.program seat instr op (slot_in m.store g o) i.inlet.port (words i.word)))
+          ∙ ap (λ (o : Option ℕ). excluded_by (outcome_of p.program point instr op (slot_in m.store g o) i.inlet.port (words i.word)))
           (two.0 ∙ ap Some instr_is.slot)
           ∙ ap excluded_by (two.1 (m.store.slots g (slot r)) i.inlet.port (words i.word))
           ∙ by_slot (m.store.slots g (slot r)) (slot_here r h n)
         where
-          fires_now : (l u : Note) (a d : ℕ) → Carries fl w c a (comes_at r Left) l → Carries fl w c d (comes_at r Right) u
-              → excluded_by (fires Empty (fire_two p.program seat instr instr.op (words l) (words u))) ≡ None
+          fires_now : (l u : Note) (a d : ℕ) → Carries fl w c a (arrives_at r Left) l → Carries fl w c d (arrives_at r Right) u
+              → excluded_by (fires Empty (fire_two p.program point instr instr.op (words l) (words u))) ≡ None
           fires_now l u a d x y =
-              ap (λ (o : Op). excluded_by (fires Empty (fire_two p.program seat instr o (words l) (words u)))) instr_is.op
-              ∙ two_fire fl p w fired seat instr c r n a d l u x y
+              ap (λ (o : Op). excluded_by (fires Empty (fire_two p.program point instr o (words l) (words u)))) instr_is.op
+              ∙ two_fire fl p w fired point instr c r n a d l u x y
 
           strays : (j : Item) → Contains here.waiting j → j.context ≡ c → j.inlet.part ≡ r → i.inlet.port ≡ j.inlet.port
               → Strays fl p w inputs q m good k j.inlet.part i j
@@ -292,7 +292,7 @@ module _ (fl : Flow) (p : Plan) (w : Wires) (inputs : List ℤ) (q : Past) (m : 
               (one_spot fl p w inputs q m good k i j stands (waiting_in j d) (ic ∙ sym jc) (e ∙ sym g) x (strays j d jc g x))
 
           by_ports : (j : Item) → Contains here.waiting j → j.context ≡ c → j.inlet.part ≡ r → (x y : Port) → i.inlet.port ≡ x → j.inlet.port ≡ y
-              → excluded_by (meets p.program seat instr (on_side y (words j.word)) x (words i.word)) ≡ None
+              → excluded_by (meets p.program point instr (on_side y (words j.word)) x (words i.word)) ≡ None
           by_ports j d jc g Left Left a b = absurd (same_port j d jc g (a ∙ sym b))
           by_ports j d jc g Right Right a b = absurd (same_port j d jc g (a ∙ sym b))
           by_ports j d jc g Left Right a b =
@@ -300,11 +300,11 @@ module _ (fl : Flow) (p : Plan) (w : Wires) (inputs : List ℤ) (q : Past) (m : 
           by_ports j d jc g Right Left a b =
               fires_now j.word i.word j.inlet.way i.inlet.way (word_at j (waiting_in j d) c jc r g Left b) (word_at i stands c ic r e Right a)
 
-          by_slot : (s : SlotState) → SlotOf r s → excluded_by (meets p.program seat instr s i.inlet.port (words i.word)) ≡ None
+          by_slot : (s : SlotState) → SlotOf r s → excluded_by (meets p.program point instr s i.inlet.port (words i.word)) ≡ None
           by_slot s (NoneThere x) =
-              ap (λ (s : SlotState). excluded_by (meets p.program seat instr s i.inlet.port (words i.word))) x ∙ meets_empty i.inlet.port (words i.word)
+              ap (λ (s : SlotState). excluded_by (meets p.program point instr s i.inlet.port (words i.word))) x ∙ meets_empty i.inlet.port (words i.word)
           by_slot s (OneThere j d jc y x) =
-              ap (λ (s : SlotState). excluded_by (meets p.program seat instr s i.inlet.port (words i.word))) x
+              ap (λ (s : SlotState). excluded_by (meets p.program point instr s i.inlet.port (words i.word))) x
               ∙ by_ports j d jc y i.inlet.port j.inlet.port refl refl
 
       instr_free : stuck_rule p.program m.store (To.Instr g (ip_of fl p w c r) i.inlet.port) (words i.word) ≡ None
@@ -342,7 +342,7 @@ module _ (fl : Flow) (p : Plan) (w : Wires) (inputs : List ℤ) (q : Past) (m : 
       let main = main_only i stands (Shown j) e (λ d h. (and_parts (is_main d) (nat_lt j (block_in fl d).outputs) h).0) in
       let there : spot_there fl w Main (Shown j) ≡ true = there_at fl p w inputs q m good k i stands Main main (Shown j) e in
       let low = ltb-true j (block_in fl Main).outputs there in
-      let none = k.follows.stands.seen.outputs j ∙ unshown fl j fired (λ h d g. gone i c (Shown j) e refl h d (shown_main h d j g ∙ sym main) g) in
+      let none = k.tracks.stands.seen.outputs j ∙ unshown fl j fired (λ h d g. gone i c (Shown j) e refl h d (shown_main h d j g ∙ sym main) g) in
       let left = left_only i stands Main main (Shown j) e refl in
       let value = word_at i stands Main main (Shown j) e Left left in
       let same = results_are in
@@ -373,19 +373,19 @@ module _ (fl : Flow) (p : Plan) (w : Wires) (inputs : List ℤ) (q : Past) (m : 
       by_mark : (t : Bool) → m.store.done ≡ t → stuck_if m.store.done 6 ≡ None
       by_mark false g = ap (λ (t : Bool). stuck_if t 6) g
       by_mark true g =
-          let h = k.follows.stands.done.0 g in absurd (gone i c Done e refl h.0 h.1 (h.2 ∙ sym (main_only i (pending_in i c) Done e (λ d t. t))) h.3)
+          let h = k.tracks.stands.done.0 g in absurd (gone i c Done e refl h.0 h.1 (h.2 ∙ sym (main_only i (pending_in i c) Done e (λ d t. t))) h.3)
 
   freed_free : (i : Item) → Contains here.pending i → i.inlet.part ≡ Freed
       → stuck_rule p.program m.store (To.Release (frame_of fl fired i.context)) (word_of fl p w fired i.word) ≡ None
   freed_free i c e = by_out (m.store.out (frame_of fl fired i.context)) refl
     where
       known : (g : ℕ) × (frame_at fl fired i.context ≡ Some g)
-      known = k.follows.stands.known i (pending_in i c)
+      known = k.tracks.stands.known i (pending_in i c)
 
       by_out : (t : Bool) → m.store.out (frame_of fl fired i.context) ≡ t → free_if (m.store.out (frame_of fl fired i.context)) 5 ≡ None
       by_out true g = ap (λ (t : Bool). free_if t 5) g
       by_out false g =
-          let h = (k.follows.stands.out i.context known.0 known.1).0 (ap m.store.out (sym (ap or_zero known.1)) ∙ g) in
+          let h = (k.tracks.stands.out i.context known.0 known.1).0 (ap m.store.out (sym (ap or_zero known.1)) ∙ g) in
           absurd (gone i c Freed e refl h.0 h.1 h.2 h.3)
 
   -- a request is a continuation
@@ -407,7 +407,7 @@ module _ (fl : Flow) (p : Plan) (w : Wires) (inputs : List ℤ) (q : Past) (m : 
       → is_credit_part r ≡ false
       → stuck_rule p.program m.store (To.Instr (frame_of fl fired i.context) (ip_of fl p w i.context r) i.inlet.port) (word_of fl p w fired i.word) ≡ None
   at_place i c r e h u =
-      let g = k.follows.stands.known i (pending_in i c) in
+      let g = k.tracks.stands.known i (pending_in i c) in
       ap (λ (f : ℕ). stuck_rule p.program m.store (To.Instr f (ip_of fl p w i.context r) i.inlet.port) (word_of fl p w fired i.word)) (ap or_zero g.1)
       ∙ instr_free i.context (context_at i (pending_in i c)) g.0 g.1 i c refl r e h u
 
@@ -419,9 +419,9 @@ module _ (fl : Flow) (p : Plan) (w : Wires) (inputs : List ℤ) (q : Past) (m : 
   each_free i c NextAsked e h u =
       let word = word_at i (pending_in i c) i.context refl NextAsked e Left (left_only i (pending_in i c) i.context refl NextAsked e refl) in
       ap (λ (x : Note). unless_back (word_of fl p w fired x)) word
-  each_free i c (Held n) e h u =
-      let word = word_at i (pending_in i c) i.context refl (Held n) e Left (left_only i (pending_in i c) i.context refl (Held n) e refl) in
-      let x = k.follows.stands.good i n (Contains-append_left here.pending here.waiting i c) e in
+  each_free i c (InCell n) e h u =
+      let word = word_at i (pending_in i c) i.context refl (InCell n) e Left (left_only i (pending_in i c) i.context refl (InCell n) e refl) in
+      let x = k.tracks.stands.good i n (Contains-append_left here.pending here.waiting i c) e in
       cell_free (cell_of fl i.context n i.held) (is_store (block_in fl i.context) n) (second_of i.held) (word_of fl p w fired i.word)
       (ap (λ (x : Note). unless_back (word_of fl p w fired x)) word
       ∙ back_free i.context ((wiring_in fl w i.context).wire (record { part = Line n; second = false }))) x.0 x.1
@@ -434,7 +434,7 @@ module _ (fl : Flow) (p : Plan) (w : Wires) (inputs : List ℤ) (q : Past) (m : 
   -- no token is excluded, if none is that asks for a credit or gives one back
   pub is_matching : ((i : Item) → Contains here.pending i → is_credit_part i.inlet.part ≡ true → IsFree i i.inlet.part) → IsMatching fl p inputs q m
   is_matching credits t c =
-      let i = contains_mapped (token_of fl p w fired) here.pending t (Contains-permutation _ _ t k.follows.stands.pool c) in
+      let i = contains_mapped (token_of fl p w fired) here.pending t (Contains-permutation _ _ t k.tracks.stands.pool c) in
       let there = (fits_in fl p w inputs q m good k i.0 (pending_in i.0 i.1)).there in
       subst (λ (t : Token). stuck_rule p.program m.store t.to t.word ≡ None) i.2 (pick i.0 i.1 there (cases_Bool (is_credit_part i.0.inlet.part)))
     where

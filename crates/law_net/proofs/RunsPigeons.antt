@@ -8,7 +8,7 @@ use Rattle.law_confluence.proofs.Orders.{total-append}
 use Rattle.semantics.specs.Meaning.{Context}
 use Rattle.law_net.specs.ContextsParts.{Part, Item, Firing, Spot, spot_of, same_spot, same_context, same_part}
 use Rattle.law_net.specs.ContextsFirings.{is_firing, times}
-use Rattle.law_net.specs.ContextsStands.{is_item_at, items_at}
+use Rattle.law_net.specs.ContextsMirror.{is_item_at, items_at}
 use Rattle.law_net.proofs.ContextsSames.{hits_at, same_spot-refl, same_context-refl, same_context-true, same_part-refl, same_part-true}
 use Rattle.law_net.proofs.WiredNets.{count_total}
 

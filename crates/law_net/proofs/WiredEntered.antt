@@ -15,12 +15,13 @@ use Rattle.semantics.specs.Meaning.{Context, Main, Called, Turned}
 use Rattle.semantics.specs.Cause.{is_turn}
 use Rattle.semantics.specs.Plan.{Plan}
 use Rattle.law_net.specs.ContextsParts.{Part, Line, Trigger, Gate, Merge, Framer, Linker, Sender, Landing, Giver, Taker, Drainer, Result, TurnCont, TurnFlag}
-use Rattle.law_net.specs.ContextsParts.{TurnValue, Asker, NextFramer, NextSender, LastReturn, DrainReturn, CondEnd, End, Asked, NextAsked, Held, Drained, Inlet}
+use Rattle.law_net.specs.ContextsParts.{TurnValue, Asker, NextFramer, NextSender, LastReturn, DrainReturn, CondEnd, End, Asked, NextAsked, InCell}
+use Rattle.law_net.specs.ContextsParts.{Drained, Inlet}
 use Rattle.law_net.specs.ContextsParts.{inlet, Note, Datum, Item, item, Firing, spot_of, role, role_of, turn_in}
 use Rattle.law_net.specs.ContextsBlocks.{Side, side, is_switch, is_kind, cond_kind, merge_cond, is_cell, is_loop, source_count, there_in, waits_in, lies_in}
 use Rattle.law_net.specs.ContextsBlocks.{entered, leaves_in, arm_round, outside, flag}
 use Rattle.law_net.specs.Contexts.{Wires, block_in, site_in, wiring_in, IsContext, child}
-use Rattle.law_net.specs.ContextsWires.{is_given, predicate_at, cond_round, decider}
+use Rattle.law_net.specs.ContextsWires.{is_unwired, predicate_at, cond_round, decider}
 use Rattle.law_net.specs.ContextsAround.{Choice, Way, way, ways_round}
 use Rattle.law_net.specs.ContextsFirings.{takes, sent_word, truth_of, right_way}
 use Rattle.law_net.specs.ContextsLaws.{maker_of, in_region, flag_arm, landing_arms, arms_of, InArm, IsPredicate, source}
@@ -39,7 +40,7 @@ abbrev choice_way : Choice → Bool → Way
 choice_way k t = record { choice = k; side = t }
 
 -- the arms of a wire's inlet are those of its region
-wired_arms : (fl : Flow) (c : Context) (r : Part) (way : ℕ) → is_given (block_in fl c) r ≡ false
+wired_arms : (fl : Flow) (c : Context) (r : Part) (way : ℕ) → is_unwired (block_in fl c) r ≡ false
     → arms_of fl c r way ≡ in_region fl c (entered (block_in fl c) r way)
 wired_arms fl c (Landing n j) way g = absurd (true≢false g)
 wired_arms fl c (Drainer n) way g = absurd (true≢false g)
@@ -75,7 +76,7 @@ module _ (fl : Flow) (p : Plan) (w : Wires) (good : IsGood fl p w) (inputs : Lis
       ap truth_of q,
     )
 
-    -- behind a switch
+    -- after a switch
     behind : (r : Part) → f.part ≡ r → waits_in (block_in fl f.context) r ≡ true → (n : ℕ) → IsChoice fl p w good f.context n
         → predicate_at (block_in fl f.context) r Right ≡ Some n → (v : Value) → f.right ≡ Datum v
         → (k : Choice) (s : Bool) → (Contains (in_region fl f.context (lies_in (block_in fl f.context) n)) (choice_way k s) → FirstArms r (choice_way k s))
@@ -113,10 +114,10 @@ module _ (fl : Flow) (p : Plan) (w : Wires) (good : IsGood fl p w) (inputs : Lis
         (ap not t ∙ not_not (truth v)) m
 
     -- an answer, or any other word of a line
-    line_shows : (n : ℕ) (t : Bool) → (if t then Held n else Line n) ≡ f.part → (k : Choice) (s : Bool)
+    line_shows : (n : ℕ) (t : Bool) → (if t then InCell n else Line n) ≡ f.part → (k : Choice) (s : Bool)
         → Contains (in_region fl f.context (lies_in (block_in fl f.context) n)) (choice_way k s) → Shows fl w inputs f k s
     line_shows n false e k s m = by_first (Line n) (sym e) k s m
-    line_shows n true e k s m = by_first (Held n) (sym e) k s (subst (λ (r : Part). Contains (arms_of fl f.context r 0) (choice_way k s)) e m)
+    line_shows n true e k s m = by_first (InCell n) (sym e) k s (subst (λ (r : Part). Contains (arms_of fl f.context r 0) (choice_way k s)) e m)
 
     -- a landing's word, by the turn that sent it
     landing_shows : (n t : ℕ) (s : Bool) (x : Way) → Contains (in_region fl f.context (lies_in (block_in fl f.context) n)) x
@@ -156,7 +157,7 @@ module _ (fl : Flow) (p : Plan) (w : Wires) (good : IsGood fl p w) (inputs : Lis
     shows_by (Giver n) second h e o sw k s m = let none = ap (side_by fl f) e in absurd (cc)
     shows_by (Taker n) second h e o sw k s m = let none = ap (side_by fl f) e in absurd (cc)
     shows_by (Drainer n) second h e o sw k s m = let none = ap (side_by fl f) e in absurd (cc)
-    shows_by (Held n) second h e o sw k s m = absurd (true≢false (sym h))
+    shows_by (InCell n) second h e o sw k s m = absurd (true≢false (sym h))
     shows_by (Drained n) second h e o sw k s m = absurd (true≢false (sym h))
     shows_by q second h e o sw k s m = by_first q (sym e) k s m
 
@@ -166,7 +167,7 @@ module _ (fl : Flow) (p : Plan) (w : Wires) (good : IsGood fl p w) (inputs : Lis
         facts : SideOf fl w f t.from f.part
         facts = sent_facts fl w f all t.from t.along
 
-        given : is_given (block_in fl f.context) i.inlet.part ≡ false
+        given : is_unwired (block_in fl f.context) i.inlet.part ≡ false
         given = ((lawful_at fl p w good f.context here).fed.inlets t.from i.inlet facts.there t.wire).3
 
         go : i.context ≡ f.context → Contains (arms_of fl i.context i.inlet.part i.inlet.way) (choice_way k s) → Shows fl w inputs f k s

@@ -13,12 +13,12 @@ use Rattle.semantics.specs.Plan.{Plan}
 use Rattle.law_confluence.specs.OrdersTotals.{one}
 use Rattle.law_confluence.proofs.OrdersTotals.{one-cases}
 use Rattle.law_net.specs.ContextsParts.{Part, Entry, Line, Framer, Fanned, Linker, Sender, Landing, CallDone, Giver, Taker, Drainer, LoopDone, Result, Asker}
-use Rattle.law_net.specs.ContextsParts.{NextFramer, NextFanned, NextSender, LastReturn, DrainReturn, End, Asked, NextAsked, Held, Drained, Shown, Done, Freed}
+use Rattle.law_net.specs.ContextsParts.{NextFramer, NextFanned, NextSender, LastReturn, DrainReturn, End, Asked, NextAsked, InCell, Drained, Shown, Done, Freed}
 use Rattle.law_net.specs.ContextsParts.{Inlet, inlet, Note, Datum, FrameOf, BackTo, ToHost, signal, Item, item, Firing, Spot, spot_of, same_spot, same_part}
 use Rattle.law_net.specs.ContextsParts.{Role, role, role_of, turn_in}
 use Rattle.law_net.specs.ContextsBlocks.{Side, there_in, is_cell, is_loop, source_count}
 use Rattle.law_net.specs.Contexts.{Wires, block_in, site_in, wiring_in, IsContext, child, next, is_strict_in}
-use Rattle.law_net.specs.ContextsWires.{hits, is_given, wired_way, IsFed}
+use Rattle.law_net.specs.ContextsWires.{hits, is_unwired, wired_way, IsFed}
 use Rattle.law_net.specs.ContextsFirings.{takes, makes, begins, input_items, sent_word, arguments_from, result_back, drain_back, end_back, credit_asked}
 use Rattle.law_net.specs.ContextsFirings.{turn_before, next_entry}
 use Rattle.law_net.specs.ContextsLaws.{maker_of}
@@ -74,7 +74,7 @@ inputs_once x n (z ∷ zs) =
 
 -- WHO GIVES what comes where no wire leads
 abbrev pub giver_of : Flow → Context → Part → ℕ → Role
-giver_of fl c (Held n) t = role c (Line n) 0
+giver_of fl c (InCell n) t = role c (Line n) 0
 giver_of fl c (Asked n) t = role c (Framer n) 0
 giver_of fl c NextAsked t = role c NextFramer 0
 giver_of fl c (Fanned n) t = role c (Asked n) 0
@@ -137,7 +137,7 @@ module _ (fl : Flow) (p : Plan) (w : Wires) (good : IsGood fl p w) where
 
   -- GIFTS come where no wire leads
   pub data Unwired (c : Context) (x : Inlet) : Type 0 where
-    UGiven : is_given (block_in fl c) x.part ≡ true → Unwired c x
+    UUnwired : is_unwired (block_in fl c) x.part ≡ true → Unwired c x
     UNot : there_in fl (site_in fl w c) (wiring_in fl w c) x.part ≡ false → Unwired c x
     UWay : wired_way x.part x.way ≡ false → Unwired c x
 
@@ -146,36 +146,36 @@ module _ (fl : Flow) (p : Plan) (w : Wires) (good : IsGood fl p w) where
 
   module _ (f : Firing) (all : AllFit fl w (takes fl f)) where
     line_given : (i : Item) (c : Context) (m : ℕ) (k : Note) → i ≡ item c (inlet (Line m) Left 0) k → m < (block_in fl c).inputs → Unwired i.context i.inlet
-    line_given i c m k e h = unwired_as i c (inlet (Line m) Left 0) k e (UGiven (lt-ltb m (block_in fl c).inputs h))
+    line_given i c m k e h = unwired_as i c (inlet (Line m) Left 0) k e (UUnwired (lt-ltb m (block_in fl c).inputs h))
 
     pub gift_unwired : (i : Item) → Gift fl w f i → Unwired i.context i.inlet
     gift_unwired i (GHeld n e h g) = subst (λ (i : Item). Unwired i.context i.inlet) (sym g) (UNot refl)
     gift_unwired i (GAsked n e g) = unwired_as i _ _ _ g (UNot refl)
     gift_unwired i (GArgument n m v e s c g) = unwired_as i _ _ _ g (UWay refl)
-    gift_unwired i (GFanned n e g) = unwired_as i _ _ _ g (UGiven refl)
-    gift_unwired i (GEntry n e g) = unwired_as i _ _ _ g (UGiven refl)
+    gift_unwired i (GFanned n e g) = unwired_as i _ _ _ g (UUnwired refl)
+    gift_unwired i (GEntry n e g) = unwired_as i _ _ _ g (UUnwired refl)
     gift_unwired i (GInput n m e g) =
         let sends = and_parts _ _ (there_as fl w f all (Sender n m) e refl) in
         let d = child_here fl p w good f.context n (child fl f.context n) (in_context fl w f all) (child_cases fl p w good f.context n sends.0) in
         let low = ltb-true m (source_count (block_in fl f.context) n) sends.1 in let same = d.1.inputs in
         line_given i _ m _ g (omega (arith, low, same))
     gift_unwired i (GShown j e c g) = unwired_as i _ _ _ g (UNot refl)
-    gift_unwired i (GLanding d n j e c g) = unwired_as i _ _ _ g (UGiven refl)
-    gift_unwired i (GLeaves d n t j e c g) = unwired_as i _ _ _ g (UGiven refl)
-    gift_unwired i (GDrains d n t e c g) = unwired_as i _ _ _ g (UGiven refl)
+    gift_unwired i (GLanding d n j e c g) = unwired_as i _ _ _ g (UUnwired refl)
+    gift_unwired i (GLeaves d n t j e c g) = unwired_as i _ _ _ g (UUnwired refl)
+    gift_unwired i (GDrains d n t e c g) = unwired_as i _ _ _ g (UUnwired refl)
     gift_unwired i (GFreed e g) = unwired_as i _ _ _ g (UNot refl)
     gift_unwired i (GDone e c g) = unwired_as i _ _ _ g (UNot refl)
-    gift_unwired i (GCallDone d n e c g) = unwired_as i _ _ _ g (UGiven refl)
-    gift_unwired i (GGiver d n t e c g) = unwired_as i _ _ _ g (UGiven refl)
-    gift_unwired i (GTaker d n t e c g) = unwired_as i _ _ _ g (UGiven refl)
-    gift_unwired i (GNextFramer n t e u g) = unwired_as i _ _ _ g (UGiven refl)
+    gift_unwired i (GCallDone d n e c g) = unwired_as i _ _ _ g (UUnwired refl)
+    gift_unwired i (GGiver d n t e c g) = unwired_as i _ _ _ g (UUnwired refl)
+    gift_unwired i (GTaker d n t e c g) = unwired_as i _ _ _ g (UUnwired refl)
+    gift_unwired i (GNextFramer n t e u g) = unwired_as i _ _ _ g (UUnwired refl)
     gift_unwired i (GNextAsked e g) = unwired_as i _ _ _ g (UNot refl)
-    gift_unwired i (GNextFanned e g) = unwired_as i _ _ _ g (UGiven refl)
-    gift_unwired i (GNextEntry d n t e c g) = unwired_as i _ _ _ g (UGiven refl)
+    gift_unwired i (GNextFanned e g) = unwired_as i _ _ _ g (UUnwired refl)
+    gift_unwired i (GNextEntry d n t e c g) = unwired_as i _ _ _ g (UUnwired refl)
     gift_unwired i (GNextInput d n t j e c g) =
         let low = ltb-true (suc j) ((block_in fl (Turned d n t)).inputs + 1) (there_in_context fl w f all (NextSender (suc j)) e refl (Turned d n t) c) in
         line_given i _ j _ g (omega (arith, low))
-    gift_unwired i (GLoopDone n e g) = unwired_as i _ _ _ g (UGiven refl)
+    gift_unwired i (GLoopDone n e g) = unwired_as i _ _ _ g (UUnwired refl)
 
     -- and where the graph begins none comes
     abbrev is_first : Part → Bool
@@ -370,18 +370,18 @@ module _ (fl : Flow) (p : Plan) (w : Wires) (good : IsGood fl p w) where
   -- what is sent comes to a part that is there
   pub sent_there : (f : Firing) (i : Item) → AllFit fl w (takes fl f) → IsSent fl w f i
       → (there_in fl (site_in fl w i.context) (wiring_in fl w i.context) i.inlet.part ≡ true) × (wired_way i.inlet.part i.inlet.way ≡ true)
-      × (is_given (block_in fl i.context) i.inlet.part ≡ false)
+      × (is_unwired (block_in fl i.context) i.inlet.part ≡ false)
   sent_there f i all s =
       let k = (lawful_at fl p w good f.context (in_context fl w f all)).fed.inlets s.from i.inlet (sent_facts fl w f all s.from s.along).there s.wire in
       subst (λ (c : Context). (there_in fl (site_in fl w c) (wiring_in fl w c) i.inlet.part ≡ true) × (wired_way i.inlet.part i.inlet.way ≡ true)
-      × (is_given (block_in fl c) i.inlet.part ≡ false)) (sym (ap (λ (i : Item). i.context) s.is)) (k.0, k.1, k.3)
+      × (is_unwired (block_in fl c) i.inlet.part ≡ false)) (sym (ap (λ (i : Item). i.context) s.is)) (k.0, k.1, k.3)
 
   not_both : (f h : Firing) (i j : Item) → AllFit fl w (takes fl f) → AllFit fl w (takes fl h) → Gift fl w f i → IsSent fl w h j → spot_of i ≡ spot_of j → ⊥
   not_both f h i j mine theirs g s e = go (subst (λ (x : Spot). Unwired x.context x.inlet) e (gift_unwired f mine i g)) (sent_there h j theirs s)
     where
       go : Unwired j.context j.inlet → (there_in fl (site_in fl w j.context) (wiring_in fl w j.context) j.inlet.part ≡ true)
-          × (wired_way j.inlet.part j.inlet.way ≡ true) × (is_given (block_in fl j.context) j.inlet.part ≡ false) → ⊥
-      go (UGiven u) t = true≢false (sym u ∙ t.2)
+          × (wired_way j.inlet.part j.inlet.way ≡ true) × (is_unwired (block_in fl j.context) j.inlet.part ≡ false) → ⊥
+      go (UUnwired u) t = true≢false (sym u ∙ t.2)
       go (UNot u) t = true≢false (sym t.0 ∙ u)
       go (UWay u) t = true≢false (sym t.1 ∙ u)
 
@@ -434,11 +434,11 @@ module _ (fl : Flow) (p : Plan) (w : Wires) (good : IsGood fl p w) where
       (sym (ap (λ (i : Item). i.context) s.is) ∙ ap (λ (x : Spot). x.context) e ∙ ap (λ (i : Item). i.context) t.is)
 
   module _ (inputs : List ℤ) (fit : InputsFit fl inputs) where
-    begin_given : (j : Item) → Begins inputs j → (j.context ≡ Main) × (is_given (block_in fl Main) j.inlet.part ≡ true)
-    begin_given j (AtEntry e) = (ap (λ (j : Item). j.context) e, ap (λ (j : Item). is_given (block_in fl Main) j.inlet.part) e)
+    begin_given : (j : Item) → Begins inputs j → (j.context ≡ Main) × (is_unwired (block_in fl Main) j.inlet.part ≡ true)
+    begin_given j (AtEntry e) = (ap (λ (j : Item). j.context) e, ap (λ (j : Item). is_unwired (block_in fl Main) j.inlet.part) e)
     begin_given j (AtInput m z l e) = (
       ap (λ (j : Item). j.context) e,
-      ap (λ (j : Item). is_given (block_in fl Main) j.inlet.part) e ∙ lt-ltb m (block_in fl Main).inputs (input_below fl p w good inputs fit m l),
+      ap (λ (j : Item). is_unwired (block_in fl Main) j.inlet.part) e ∙ lt-ltb m (block_in fl Main).inputs (input_below fl p w good inputs fit m l),
     )
 
     begin_first : (f : Firing) (all : AllFit fl w (takes fl f)) (j : Item) → Begins inputs j → is_first f all j.inlet.part ≡ true
@@ -451,8 +451,8 @@ module _ (fl : Flow) (p : Plan) (w : Wires) (good : IsGood fl p w) where
         (ap (λ (x : Spot). x.context) (sym e) ∙ (begin_given j b).0)
     begins_differ f i j all (ByWire s) b e =
         let g = begin_given j b in let t = sent_there f i all s in
-        let given : is_given (block_in fl j.context) j.inlet.part ≡ true = ap (λ (c : Context). is_given (block_in fl c) j.inlet.part) g.0 ∙ g.1 in
-        true≢false (sym given ∙ ap (λ (x : Spot). is_given (block_in fl x.context) x.inlet.part) e ∙ t.2)
+        let given : is_unwired (block_in fl j.context) j.inlet.part ≡ true = ap (λ (c : Context). is_unwired (block_in fl c) j.inlet.part) g.0 ∙ g.1 in
+        true≢false (sym given ∙ ap (λ (x : Spot). is_unwired (block_in fl x.context) x.inlet.part) e ∙ t.2)
 
     pub inlets_are_fed : InletsAreFed fl w inputs
     inlets_are_fed = record {

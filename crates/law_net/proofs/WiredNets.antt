@@ -16,7 +16,7 @@ use Rattle.law_net.specs.Contexts.{Wires}
 use Rattle.law_net.specs.ContextsAround.{Choice}
 use Rattle.law_net.specs.ContextsFirings.{Config, Move, begin, begins, takes, makes, own_takes, renewed, ProperMoves, Still, Then}
 use Rattle.law_net.specs.ContextsLaws.{Allowed, IsSoundNet, InArm, says}
-use Rattle.law_net.specs.ContextsStands.{came, only, but_cells, is_cell_token}
+use Rattle.law_net.specs.ContextsMirror.{came, only, but_cells, is_cell_token}
 use Rattle.law_net.proofs.ContextsSames.{hits_at, hit_counted, same_spot-refl}
 
 -- TOTALS

@@ -9,7 +9,7 @@ use Rattle.tags.specs.declared.token.Port.TheVariants.{Left}
 use Rattle.semantics.specs.Graph.{Flow}
 use Rattle.semantics.specs.Meaning.{Context, Turned}
 use Rattle.semantics.specs.Plan.{Plan}
-use Rattle.law_net.specs.ContextsParts.{Part, Merge, CondEnd, Landing, Taker, Giver, Drainer, Held, Drained, Inlet, inlet, signal, Item, item, Firing, Spot}
+use Rattle.law_net.specs.ContextsParts.{Part, Merge, CondEnd, Landing, Taker, Giver, Drainer, InCell, Drained, Inlet, inlet, signal, Item, item, Firing, Spot}
 use Rattle.law_net.specs.ContextsParts.{spot_of, Role, turn_in}
 use Rattle.law_net.specs.ContextsBlocks.{is_kind, merge_kind, merge_cond, is_loop, flag}
 use Rattle.law_net.specs.Contexts.{Wires, block_in, IsContext}
@@ -162,7 +162,7 @@ module _ (fl : Flow) (p : Plan) (w : Wires) (good : IsGood fl p w) where
           landings_meet n j d e (is_loop (block_in fl c) n) refl (first_way f mine c a (Landing n j) d) (first_way h theirs c b (Landing n j) e)
           (order f.way h.way)
       by_part (Taker n) d e u = same_way f h c a b (Taker n) d e (ap (λ (t : ℕ). inlet (Taker n) Left t) u)
-      by_part (Held n) d e u = same_way f h c a b (Held n) d e (ap (λ (r : Part). inlet r Left 0) (d ∙ sym e))
+      by_part (InCell n) d e u = same_way f h c a b (InCell n) d e (ap (λ (r : Part). inlet r Left 0) (d ∙ sym e))
       by_part (Drained n) d e u =
           meet_at f h (item f.context (inlet (Giver n) Left 0) signal) (item h.context (inlet (Giver n) Left 0) signal) (takes_credit f n d)
           (takes_credit h n e)

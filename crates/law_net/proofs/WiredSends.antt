@@ -15,7 +15,7 @@ use Rattle.law_confluence.specs.OrdersTotals.{one, total}
 use Rattle.law_confluence.proofs.Orders.{total-append}
 use Rattle.law_net.specs.ContextsParts.{Part, Entry, Line, Trigger, Gate, Framer, Fanned, Linker, Sender, Landing, Giver, Taker, Drainer, LoopDone, Result}
 use Rattle.law_net.specs.ContextsParts.{TurnCont, TurnFlag, TurnValue, Asker, NextFramer, NextFanned, NextSender, LastReturn, DrainReturn, End, Asked}
-use Rattle.law_net.specs.ContextsParts.{NextAsked, Held, Drained, Shown, Done, Freed, Inlet, inlet, Note, Datum, FrameOf, BackTo, ToHost, signal, Item, item}
+use Rattle.law_net.specs.ContextsParts.{NextAsked, InCell, Drained, Shown, Done, Freed, Inlet, inlet, Note, Datum, FrameOf, BackTo, ToHost, signal, Item, item}
 use Rattle.law_net.specs.ContextsParts.{each, Firing, Spot, spot_of, same_context, same_inlet, same_spot}
 use Rattle.law_net.specs.ContextsBlocks.{is_switch, Side, side, is_cell, is_store, is_kind, cell_kind, plain_kind, is_plain, waits_in, there_in, is_loop}
 use Rattle.law_net.specs.Contexts.{Wires, block_in, wiring_in, site_in, child, next, IsContext}
@@ -37,7 +37,7 @@ switch_side r k = None
 
 abbrev pub side_by : Flow → Firing → Part → Option Side
 side_by fl f (Line n) = if is_cell (block_in fl f.context) n then None else Some (side (Line n) false)
-side_by fl f (Held n) = Some (side (Line n) false)
+side_by fl f (InCell n) = Some (side (Line n) false)
 side_by fl f (Trigger k) = switch_side (Trigger k) f.right
 side_by fl f (Gate n) = switch_side (Gate n) f.right
 side_by fl f TurnCont = switch_side TurnCont f.right
@@ -67,7 +67,7 @@ sent_along fl w f (Some t) = each f.context (sent_word fl f f.part) ((wiring_in 
 abbrev pub asks_cell : Flow → Wires → Firing → ℕ → Item
 asks_cell fl w f n = record {
   context = f.context;
-  inlet = inlet (Held n) Left 0;
+  inlet = inlet (InCell n) Left 0;
   word = back_from f.context ((wiring_in fl w f.context).wire (side (Line n) false));
   held = value_in f.left ∷ (if is_store (block_in fl f.context) n then value_in f.right ∷ [] else []);
 }
@@ -145,21 +145,21 @@ module _ (fl : Flow) (w : Wires) (f : Firing) where
   -- WHAT IT TAKES: at the first inlet, and at the right one
   abbrev pub first_inlet : Part → Inlet
   first_inlet (Drained n) = inlet (Drainer n) Left f.turns
-  first_inlet (Held n) = inlet (Held n) Left 0
+  first_inlet (InCell n) = inlet (InCell n) Left 0
   first_inlet r = inlet r Left (left_way r f.way)
 
   abbrev pub first_taken : Part → Item
-  first_taken (Held n) = request_of f
+  first_taken (InCell n) = request_of f
   first_taken (Drained n) = item f.context (inlet (Drainer n) Left f.turns) f.left
   first_taken r = left_item f.context r f.way f.left
 
   abbrev pub others_taken : Part → List Item
-  others_taken (Held n) = []
+  others_taken (InCell n) = []
   others_taken (Drained n) = given_back f.context n (f.turns + 1)
   others_taken r = if waits_in (block_in fl f.context) r then item f.context (inlet r Right (right_way fl f.context r)) f.right ∷ [] else []
 
   took : (r : Part) → own_takes fl f r ≡ first_taken r ∷ others_taken r
-  took (Held n) = refl
+  took (InCell n) = refl
   took (Drained n) = refl
   took r = refl
 
@@ -173,7 +173,7 @@ module _ (fl : Flow) (w : Wires) (f : Firing) where
 
   right_by : (r : Part) → waits_in (block_in fl f.context) r ≡ true
       → Contains (own_takes fl f r) (item f.context (inlet r Right (right_way fl f.context r)) f.right)
-  right_by (Held n) e = absurd (true≢false (sym e))
+  right_by (InCell n) e = absurd (true≢false (sym e))
   right_by (Drained n) e = absurd (true≢false (sym e))
   right_by r e =
       subst (λ (t : Bool). Contains (left_item f.context r f.way f.left
@@ -248,11 +248,12 @@ module _ (fl : Flow) (w : Wires) (f : Firing) where
   line_facts : (n : ℕ) (t : Side) (u : Bool) → is_cell (block_in fl f.context) n ≡ u → is_plain (block_in fl f.context) n ≡ true
       → (if u then None else Some (side (Line n) false)) ≡ Some t → SideOf t (Line n)
   line_facts n t true e h g = absurd (cc)
-  line_facts n t false e h g = one_facts (Line n) (Line n) t refl (ap (λ (u : Bool). if u then Held n else Line n) e) h g
+  line_facts n t false e h g = one_facts (Line n) (Line n) t refl (ap (λ (u : Bool). if u then InCell n else Line n) e) h g
 
   pub side_facts : (r : Part) (t : Side) → spot_there fl w f.context r ≡ true → side_by fl f r ≡ Some t → SideOf t r
   side_facts (Line n) t h g = line_facts n t (is_cell (block_in fl f.context) n) refl h g
-  side_facts (Held n) t h g = one_facts (Line n) (Held n) t refl (ap (λ (u : Bool). if u then Held n else Line n) h) (cell_plain (block_in fl f.context) n h) g
+  side_facts (InCell n) t h g = one_facts (Line n) (InCell n) t refl (ap (λ (u : Bool). if u then InCell n else Line n) h)
+      (cell_plain (block_in fl f.context) n h) g
   side_facts (Trigger k) t h g = switch_facts (Trigger k) t f.right refl refl refl h g
   side_facts (Gate n) t h g = switch_facts (Gate n) t f.right refl refl refl h g
   side_facts TurnCont t h g = switch_facts TurnCont t f.right refl refl refl h g
@@ -278,12 +279,12 @@ module _ (fl : Flow) (w : Wires) (f : Firing) where
   first_there : (r : Part) → f.part ≡ r → spot_there fl w f.context (first_taken fl w f r).inlet.part ≡ true
       → (spot_there fl w f.context r ≡ true) ⊎ ((n : ℕ) × (r ≡ Drained n) × (is_loop (block_in fl f.context) n ≡ true))
   first_there (Drained n) e h = inr (n, refl, h)
-  first_there (Held n) e h = inl (ap (spot_there fl w f.context) (sym e) ∙ h)
+  first_there (InCell n) e h = inl (ap (spot_there fl w f.context) (sym e) ∙ h)
   first_there r e h = inl h
 
   pub first_context : (r : Part) → (first_taken fl w f r).context ≡ f.context
   first_context (Drained n) = refl
-  first_context (Held n) = refl
+  first_context (InCell n) = refl
   first_context r = refl
 
   pub part_there : AllFit fl w (takes fl f)

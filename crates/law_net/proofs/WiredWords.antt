@@ -14,11 +14,12 @@ use Rattle.semantics.specs.Faithful.{inputs_in}
 use Rattle.semantics.specs.Plan.{Plan}
 use Rattle.law_net.proofs.ContextsWords.{carries_of, word_there}
 use Rattle.law_net.specs.ContextsParts.{Part, Entry, Line, Opener, Framer, Linker, Sender, Landing, Giver, Taker, Drainer, Strict, Result, Asker, NextFramer}
-use Rattle.law_net.specs.ContextsParts.{NextSender, LastReturn, DrainReturn, Join, End, Asked, NextAsked, Held, Drained, Shown, Done, Freed, Inlet, inlet, Note}
+use Rattle.law_net.specs.ContextsParts.{NextSender, LastReturn, DrainReturn, Join, End, Asked, NextAsked, InCell, Drained, Shown, Done, Freed, Inlet}
+use Rattle.law_net.specs.ContextsParts.{inlet, Note}
 use Rattle.law_net.specs.ContextsParts.{Datum, ToHost, BackTo, signal, Item, item, Firing, spot_of}
 use Rattle.law_net.specs.ContextsBlocks.{Side, waits_in, there_in, is_cell, is_store, is_kind, plain_kind, is_loop, is_call}
 use Rattle.law_net.specs.Contexts.{Wires, block_in, site_in, wiring_in, IsContext, is_strict_in, child, return_of}
-use Rattle.law_net.specs.ContextsWires.{Carried, Anything, AValue, Suits, comes_at, goes_from, is_given, wired_way, wired_port}
+use Rattle.law_net.specs.ContextsWires.{Carried, Anything, AValue, Suits, arrives_at, goes_from, is_unwired, wired_way, wired_port}
 use Rattle.law_net.specs.ContextsFirings.{own_takes, renewed, takes, makes, begins, input_items, sent_word, line_value, value_in, right_way}
 use Rattle.law_net.specs.ContextsLaws.{Fits, WordFits, Carries, spot_there, way_fits, port_fits, sender_way, maker_of}
 use Rattle.law_net.specs.ContextsTheorem.{IsGood}
@@ -34,7 +35,7 @@ use Rattle.law_net.proofs.WiredGifts.{there_in_context, gift_of}
 pub spot_from : (fl : Flow) (w : Wires) (c : Context) (r : Part) → there_in fl (site_in fl w c) (wiring_in fl w c) r ≡ true → spot_there fl w c r ≡ true
 spot_from fl w c (Asked n) h = absurd (true≢false (sym h))
 spot_from fl w c NextAsked h = absurd (true≢false (sym h))
-spot_from fl w c (Held n) h = absurd (true≢false (sym h))
+spot_from fl w c (InCell n) h = absurd (true≢false (sym h))
 spot_from fl w c (Shown j) h = absurd (true≢false (sym h))
 spot_from fl w c Done h = absurd (true≢false (sym h))
 spot_from fl w c Freed h = refl
@@ -46,7 +47,7 @@ sender_from false Right t h = h
 sender_from true Right zero h = refl
 sender_from true Right (suc t) h = let e = eqb-true (suc t) 0 h in absurd (omega (arith, e))
 
-way_from : (fl : Flow) (c : Context) (r : Part) (q : Port) (t : ℕ) → wired_way r t ≡ true → is_given (block_in fl c) r ≡ false → way_fits fl c r q t ≡ true
+way_from : (fl : Flow) (c : Context) (r : Part) (q : Port) (t : ℕ) → wired_way r t ≡ true → is_unwired (block_in fl c) r ≡ false → way_fits fl c r q t ≡ true
 way_from fl c (Sender n i) q t h g = sender_from (is_strict_in fl c n) q t h
 way_from fl c (Landing n j) q t h g = absurd (true≢false g)
 way_from fl c (Giver n) q t h g = refl
@@ -70,9 +71,9 @@ module _ (fl : Flow) (w : Wires) (f : Firing) (all : AllFit fl w (takes fl f)) (
       (All-contains (WordFits fl w) (takes fl f) (first_taken fl w f f.part) words (takes_first fl w f))
 
   pub right_carries : (r : Part) → r ≡ f.part → waits_in (block_in fl f.context) r ≡ true
-      → Carries fl w f.context (right_way fl f.context r) (comes_at r Right) f.right
+      → Carries fl w f.context (right_way fl f.context r) (arrives_at r Right) f.right
   right_carries r e h =
-      subst (λ (r : Part). waits_in (block_in fl f.context) r ≡ true → Carries fl w f.context (right_way fl f.context r) (comes_at r Right) f.right) (sym e)
+      subst (λ (r : Part). waits_in (block_in fl f.context) r ≡ true → Carries fl w f.context (right_way fl f.context r) (arrives_at r Right) f.right) (sym e)
       (λ h. carries_of fl w (item f.context (inlet f.part Right (right_way fl f.context f.part)) f.right)
       (All-contains (WordFits fl w) (takes fl f) (item f.context (inlet f.part Right (right_way fl f.context f.part)) f.right) words (takes_right fl w f h))) h
 
@@ -81,7 +82,7 @@ module _ (fl : Flow) (w : Wires) (f : Firing) (all : AllFit fl w (takes fl f)) (
       → Carries fl w f.context t (goes_from q) (sent_word fl f f.part)
   carries_from t u (Line n) s m = subst (λ (r : Part). Carries fl w f.context t AValue (sent_word fl f r)) m (go (is_cell (block_in fl f.context) n))
     where
-      go : (x : Bool) → Carries fl w f.context t AValue (sent_word fl f (if x then Held n else Line n))
+      go : (x : Bool) → Carries fl w f.context t AValue (sent_word fl f (if x then InCell n else Line n))
       go true = (f.answer, refl)
       go false = (line_value fl f.context n (value_in f.left) (value_in f.right), refl)
   carries_from t u (Opener n) s m = subst (λ (r : Part). Carries fl w f.context t AValue (sent_word fl f r)) m (Int (pos 0), refl)
@@ -93,7 +94,7 @@ module _ (fl : Flow) (w : Wires) (f : Firing) (all : AllFit fl w (takes fl f)) (
   carries_from t u (Result j) s m = subst (λ (r : Part). Carries fl w f.context t AValue (sent_word fl f r)) m (Int (pos 0), refl)
   carries_from t u (LastReturn j) s m = subst (λ (r : Part). Carries fl w f.context t AValue (sent_word fl f r)) m (Int (pos 0), refl)
   carries_from t u DrainReturn s m = subst (λ (r : Part). Carries fl w f.context t AValue (sent_word fl f r)) m (Int (pos 0), refl)
-  carries_from t u (Held n) s m = subst (λ (r : Part). Carries fl w f.context t AValue (sent_word fl f r)) m (f.answer, refl)
+  carries_from t u (InCell n) s m = subst (λ (r : Part). Carries fl w f.context t AValue (sent_word fl f r)) m (f.answer, refl)
   carries_from t u (Framer n) s m = let none = ap (side_by fl f) m in absurd (cc)
   carries_from t u NextFramer s m = let none = ap (side_by fl f) m in absurd (cc)
   carries_from t u Asker s m = let none = ap (side_by fl f) m in absurd (cc)
@@ -149,7 +150,7 @@ module _ (fl : Flow) (p : Plan) (w : Wires) (good : IsGood fl p w) where
       let k = (lawful_at fl p w good f.context (in_context fl w f all)).fed.inlets s.from x facts.there s.wire in
       subst (WordFits fl w) (sym s.is) (word_there fl w (item f.context x (sent_word fl f f.part)) x.part
       (λ n e. true≢false (sym k.0 ∙ ap (there_in fl (site_in fl w f.context) (wiring_in fl w f.context)) e))
-      (suit fl w f.context x.way (sent_word fl f f.part) (comes_at x.part x.port) (goes_from s.from.part) suits
+      (suit fl w f.context x.way (sent_word fl f f.part) (arrives_at x.part x.port) (goes_from s.from.part) suits
       (carries_from fl w f all words x.way s.from s.from.part s.along facts.maker)))
 
   -- WHAT IS GIVEN
@@ -251,16 +252,17 @@ module _ (fl : Flow) (p : Plan) (w : Wires) (good : IsGood fl p w) where
     gift_fits i (GLoopDone n e g) = fits_as i _ _ _ g (record { is_context = here; there = drained_loop n e; port = refl; way = refl })
 
     module _ (words : All (WordFits fl w) (takes fl f)) where
-      a_signal : (i : Item) (c : Context) (x : Inlet) → i ≡ item c x signal → comes_at x.part x.port ≡ AValue → WordFits fl w i
+      a_signal : (i : Item) (c : Context) (x : Inlet) → i ≡ item c x signal → arrives_at x.part x.port ≡ AValue → WordFits fl w i
       a_signal i c x e h =
           subst (WordFits fl w) (sym e) (word_there fl w (item c x signal) x.part (no_cell x.part h)
           (subst (λ (k : Carried). Carries fl w c x.way k signal) (sym h) (Int (pos 0), refl)))
         where
-          no_cell : (r : Part) → comes_at r x.port ≡ AValue → (n : ℕ) → r ≡ Held n → ⊥
-          no_cell (Held n) h m e = absurd (cc)
+          no_cell : (r : Part) → arrives_at r x.port ≡ AValue → (n : ℕ) → r ≡ InCell n → ⊥
+          no_cell (InCell n) h m e = absurd (cc)
           no_cell r h m e = absurd (cc)
 
-      right : (r : Part) → f.part ≡ r → waits_in (block_in fl f.context) r ≡ true → Carries fl w f.context (right_way fl f.context r) (comes_at r Right) f.right
+      right : (r : Part) → f.part ≡ r → waits_in (block_in fl f.context) r ≡ true
+          → Carries fl w f.context (right_way fl f.context r) (arrives_at r Right) f.right
       right r e h = right_carries fl w f all words r (sym e) h
 
       pub gift_word : (i : Item) → Gift fl w f i → WordFits fl w i

@@ -12,7 +12,7 @@ use Rattle.semantics.specs.Graph.{Block, Flow, node_at, node_count}
 use Rattle.semantics.specs.Meaning.{arm_of, origin_in}
 use Rattle.law_net.specs.ContextsParts.{Part, Entry, Line, Answer, Trigger, Gate, Merge, Opener, Framer, Fanned, Linker, Sender, Landing, CallDone, Giver}
 use Rattle.law_net.specs.ContextsParts.{Taker, Drainer, LoopDone, Strict, Result, TurnCont, TurnFlag, TurnValue, Asker, NextFramer, NextFanned, NextSender}
-use Rattle.law_net.specs.ContextsParts.{LastReturn, DrainReturn, Join, CondEnd, End, Asked, NextAsked, Held, Inlet}
+use Rattle.law_net.specs.ContextsParts.{LastReturn, DrainReturn, Join, CondEnd, End, Asked, NextAsked, InCell, Inlet}
 
 -- A side of a part: the second one only at a switch
 pub record Side : Type 0 where
@@ -302,7 +302,7 @@ region_of b DrainReturn = Arm (flag b) false
 region_of b (Join r i) = r
 region_of b (CondEnd k) = lies_in b k
 region_of b (Asked n) = lies_in b n
-region_of b (Held n) = lies_in b n
+region_of b (InCell n) = lies_in b n
 region_of b r = Root
 
 -- the region from which what comes at an inlet comes

@@ -12,7 +12,7 @@ use Rattle.law_confluence.proofs.Net.{NetConfig, NetMove, Waits, Fires}
 use Rattle.law_confluence.proofs.NetChains.{NetMoves}
 use Rattle.law_net.specs.ContextsParts.{Part, Entry, Line, Trigger, Gate, Merge, Opener, Framer, Fanned, Linker, Sender, Landing, CallDone, Giver, Taker}
 use Rattle.law_net.specs.ContextsParts.{Drainer, LoopDone, Strict, Result, TurnCont, TurnFlag, TurnValue, Asker, NextFramer, NextFanned, NextSender, LastReturn}
-use Rattle.law_net.specs.ContextsParts.{DrainReturn, Join, CondEnd, End, Asked, NextAsked, Held, Drained, Shown, Done, Freed, Inlet, inlet, Note, Datum}
+use Rattle.law_net.specs.ContextsParts.{DrainReturn, Join, CondEnd, End, Asked, NextAsked, InCell, Drained, Shown, Done, Freed, Inlet, inlet, Note, Datum}
 use Rattle.law_net.specs.ContextsParts.{FrameOf, BackTo, ToHost, signal, Item, item, each, Firing, same_part, same_context}
 use Rattle.law_net.specs.ContextsBlocks.{side, is_cell, is_store, waits_in, source_count}
 use Rattle.law_net.specs.Contexts.{Wires, block_in, wiring_in, child, next, is_strict_in}
@@ -68,7 +68,7 @@ request_of f = record { context = f.context; inlet = inlet f.part Left 0; word =
 
 -- what it takes that is a token of its own
 abbrev pub own_takes : Flow → Firing → Part → List Item
-own_takes fl f (Held n) = request_of f ∷ []
+own_takes fl f (InCell n) = request_of f ∷ []
 own_takes fl f (Drained n) = item f.context (inlet (Drainer n) Left f.turns) f.left ∷ given_back f.context n (f.turns + 1)
 own_takes fl f r = both_items fl f.context r f.way f.left f.right
 
@@ -93,7 +93,7 @@ line_value fl c n v u = elim (node_of fl c n) as (λ x. Value) [ None ↦ v | So
 -- the word that leaves
 abbrev pub sent_word : Flow → Firing → Part → Note
 sent_word fl f (Line n) = Datum (line_value fl f.context n (value_in f.left) (value_in f.right))
-sent_word fl f (Held n) = Datum f.answer
+sent_word fl f (InCell n) = Datum f.answer
 sent_word fl f (Opener n) = signal
 sent_word fl f (Drained n) = signal
 sent_word fl f (Strict n i) = signal
@@ -152,7 +152,7 @@ line_makes fl w f n =
     if is_cell (block_in fl f.context) n
     then record {
       context = f.context;
-      inlet = inlet (Held n) Left 0;
+      inlet = inlet (InCell n) Left 0;
       word = back_from f.context ((wiring_in fl w f.context).wire (side (Line n) false));
       held = value_in f.left ∷ (if is_store (block_in fl f.context) n then value_in f.right ∷ [] else []);
     } ∷ []
@@ -160,7 +160,7 @@ line_makes fl w f n =
 
 abbrev pub makes_by : Flow → Wires → Firing → Part → List Item
 makes_by fl w f (Line n) = line_makes fl w f n
-makes_by fl w f (Held n) = along fl w f (Line n) false
+makes_by fl w f (InCell n) = along fl w f (Line n) false
 makes_by fl w f (Trigger k) = switched fl w f (Trigger k) f.right
 makes_by fl w f (Gate n) = switched fl w f (Gate n) f.right
 makes_by fl w f TurnCont = switched fl w f TurnCont f.right
@@ -249,7 +249,7 @@ stored_at None v m = m
 stored_at (Some x) v m = with_cell m x v
 
 abbrev pub remembered : Flow → Firing → Part → Memory → Memory
-remembered fl f (Held n) m = if is_store (block_in fl f.context) n then stored_at (cell_of fl f.context n f.operands) (second_of f.operands) m else m
+remembered fl f (InCell n) m = if is_store (block_in fl f.context) n then stored_at (cell_of fl f.context n f.operands) (second_of f.operands) m else m
 remembered fl f (Shown j) m = with_output m j (value_in f.left)
 remembered fl f r m = m
 
@@ -299,7 +299,7 @@ pub data Answers (fl : Flow) (m : Memory) (c : Context) (n : ℕ) (vs : List Val
   AFill : (x : ℕ) → is_store (block_in fl c) n ≡ true → cell_of fl c n vs ≡ Some x → m.cells x ≡ None → answer ≡ second_of vs → Answers fl m c n vs answer
 
 abbrev pub ProperAt : Flow → List Firing → Firing → Part → Type 0
-ProperAt fl fired f (Held n) = Answers fl (memory_of fl fired) f.context n f.operands f.answer
+ProperAt fl fired f (InCell n) = Answers fl (memory_of fl fired) f.context n f.operands f.answer
 ProperAt fl fired f (Drained n) = f.turns ≡ times f.context (Taker n) fired
 ProperAt fl fired f (Framer n) = length f.operands ≡ (if is_strict_in fl f.context n then source_count (block_in fl f.context) n else 0)
 ProperAt fl fired f (Giver n) = ⊥

@@ -9,14 +9,14 @@ use Rattle.semantics.specs.Graph.{Block, Flow, node_count}
 use Rattle.semantics.specs.Meaning.{Context, Main, Turned, State, arms_round}
 use Rattle.semantics.specs.Cause.{is_turn}
 use Rattle.law_confluence.proofs.Net.{IsLawful, IsNetSound}
-use Rattle.law_confluence.proofs.NetFollows.{NetFollows, Simulates}
+use Rattle.law_confluence.proofs.NetMeans.{NetMeans, Simulates}
 use Rattle.law_confluence.proofs.NetArms.{HasArms, IsAllowed}
-use Rattle.law_net.specs.ContextsParts.{Part, Line, Merge, CondEnd, Sender, Landing, Giver, Taker, Drainer, Asked, NextAsked, NextFramer, Held, Shown, Done}
+use Rattle.law_net.specs.ContextsParts.{Part, Line, Merge, CondEnd, Sender, Landing, Giver, Taker, Drainer, Asked, NextAsked, NextFramer, InCell, Shown, Done}
 use Rattle.law_net.specs.ContextsParts.{Freed, inlet, Note, Datum, FrameOf, BackTo, Item, Firing, Spot, Role, role, spot_of, same_spot, role_of}
 use Rattle.law_net.specs.ContextsBlocks.{there_in, waits_in, entered, is_loop, is_cell, is_store, invokes, flag}
 use Rattle.law_net.specs.Contexts.{Wires, block_in, site_in, wiring_in, IsContext, child, next, return_of, is_strict_in}
-use Rattle.law_net.specs.ContextsWires.{Carried, Anything, AValue, ItsReturn, ChildFrame, NextFrame, Credit, Request, Reader, comes_at, predicate_at, decider}
-use Rattle.law_net.specs.ContextsTold.{told}
+use Rattle.law_net.specs.ContextsWires.{Carried, Anything, AValue, ItsReturn, ChildFrame, NextFrame, Credit, Request, Reader, arrives_at, predicate_at, decider}
+use Rattle.law_net.specs.ContextsMeant.{meant}
 use Rattle.law_net.specs.ContextsAround.{Choice, Way, own_ways, ways_round}
 use Rattle.law_net.specs.ContextsFirings.{truth_of, sent_word, takes, makes, begins, turn_before, back_from, memory_of, Config}
 
@@ -28,7 +28,7 @@ is_main c = false
 abbrev pub spot_there : Flow → Wires → Context → Part → Bool
 spot_there fl w c (Asked n) = invokes (block_in fl c) n
 spot_there fl w c NextAsked = is_turn c
-spot_there fl w c (Held n) = is_cell (block_in fl c) n
+spot_there fl w c (InCell n) = is_cell (block_in fl c) n
 spot_there fl w c (Shown j) = is_main c && nat_lt j (block_in fl c).outputs
 spot_there fl w c Done = is_main c
 spot_there fl w c Freed = true
@@ -74,8 +74,8 @@ abbrev pub HoldsFor : Flow → Item → ℕ → Type 0
 HoldsFor fl i n = length i.held ≡ (if is_store (block_in fl i.context) n then 2 else 1)
 
 abbrev pub WordAt : Flow → Wires → Item → Part → Type 0
-WordAt fl w i (Held n) = Carries fl w i.context i.inlet.way (comes_at (Held n) i.inlet.port) i.word × HoldsFor fl i n
-WordAt fl w i r = Carries fl w i.context i.inlet.way (comes_at r i.inlet.port) i.word
+WordAt fl w i (InCell n) = Carries fl w i.context i.inlet.way (arrives_at (InCell n) i.inlet.port) i.word × HoldsFor fl i n
+WordAt fl w i r = Carries fl w i.context i.inlet.way (arrives_at r i.inlet.port) i.word
 
 abbrev pub WordFits : Flow → Wires → Item → Type 0
 WordFits fl w i = WordAt fl w i i.inlet.part
@@ -109,7 +109,7 @@ abbrev pub is_true : Item → Bool
 is_true i = truth_of i.word
 
 abbrev pub maker_of : Block ℕ → Part → Part
-maker_of b (Line n) = if is_cell b n then Held n else Line n
+maker_of b (Line n) = if is_cell b n then InCell n else Line n
 maker_of b r = r
 
 abbrev pub source : Flow → Wires → Choice → Role
@@ -136,8 +136,8 @@ module _ (fl : Flow) (w : Wires) (inputs : List ℤ) where
   abbrev pub WordsFit : Config → Type 0
   WordsFit c = All (WordFits fl w) (c.pending ++ (c.waiting ++ flat_map (takes fl) c.fired))
 
-  abbrev pub TellsOf : Config → State → Type 0
-  TellsOf c s = NetFollows fl inputs (takes fl) (makes fl w) (told fl) (memory_of fl) c s
+  abbrev pub MeansOf : Config → State → Type 0
+  MeansOf c s = NetMeans fl inputs (takes fl) (makes fl w) (meant fl) (memory_of fl) c s
 
-  abbrev pub FiringIsTold : Firing → List Firing → Type 0
-  FiringIsTold f fired = Simulates fl inputs (takes fl) (makes fl w) (told fl) (memory_of fl) f fired
+  abbrev pub FiringIsMeant : Firing → List Firing → Type 0
+  FiringIsMeant f fired = Simulates fl inputs (takes fl) (makes fl w) (meant fl) (memory_of fl) f fired

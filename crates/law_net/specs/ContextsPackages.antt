@@ -28,24 +28,24 @@ use Rattle.law_fresh_frames.specs.Alike.{HasLanding, offset_of}
 use Rattle.law_confluence.specs.OrdersTotals.{total}
 use Rattle.law_confluence.proofs.Net.{hit}
 use Rattle.law_confluence.proofs.NetArms.{Proves}
-use Rattle.law_net.specs.ContextsParts.{Part, Line, Merge, Gate, Landing, Shown, Held, Sender, Framer, NextFramer, TurnValue, Linker, Result, NextSender}
+use Rattle.law_net.specs.ContextsParts.{Part, Line, Merge, Gate, Landing, Shown, InCell, Sender, Framer, NextFramer, TurnValue, Linker, Result, NextSender}
 use Rattle.law_net.specs.ContextsParts.{LastReturn, DrainReturn, Asker, End, Asked, NextAsked, Freed, Done, Opener, Giver, Taker, Drainer, Item, Firing, Spot}
 use Rattle.law_net.specs.ContextsParts.{spot_of, same_spot, role_of}
 use Rattle.law_net.specs.ContextsAround.{Choice}
 use Rattle.law_net.specs.ContextsBlocks.{is_cell}
 use Rattle.law_net.specs.Contexts.{Wires, block_in}
 use Rattle.law_net.specs.ContextsFirings.{takes, makes, begins, IsProper}
-use Rattle.law_net.specs.ContextsLaws.{Fits, WordFits, IsPredicate, InArm, is_true, source, says, Allowed, IsSoundNet, WordsFit, TellsOf, FiringIsTold}
-use Rattle.law_net.specs.ContextsStands.{token_of, Past, no_past, after, WasUsed, Follows}
+use Rattle.law_net.specs.ContextsLaws.{Fits, WordFits, IsPredicate, InArm, is_true, source, says, Allowed, IsSoundNet, WordsFit, MeansOf, FiringIsMeant}
+use Rattle.law_net.specs.ContextsMirror.{token_of, Past, no_past, after, WasUsed, Tracks}
 use Rattle.law_net.specs.ContextsTheorem.{IsGood, WiredKeepsFaith, WiredCodeIsFaithful}
 
 -- What holds along a run: the net follows the machine, it is sound, and the meaning follows it.
 pub record Keeps (fl : Flow) (p : Plan) (w : Wires) (inputs : List ℤ) (q : Past) (m : Machine) : Type 0 where
-  pub follows : Follows fl p w inputs q m
-  pub sound : IsSoundNet fl w inputs follows.net
-  pub fits : WordsFit fl w inputs follows.net
+  pub tracks : Tracks fl p w inputs q m
+  pub sound : IsSoundNet fl w inputs tracks.net
+  pub fits : WordsFit fl w inputs tracks.net
   pub state : State
-  pub told : TellsOf fl w inputs follows.net state
+  pub meant : MeansOf fl w inputs tracks.net state
 
 abbrev pub InputsFit : Flow → List ℤ → Type 0
 InputsFit fl inputs = length inputs ≡ Faithful.inputs_of fl
@@ -54,13 +54,13 @@ InputsFit fl inputs = length inputs ≡ Faithful.inputs_of fl
 -- The net begins as the machine starts.
 abbrev pub Starts : Type 0
 Starts = (fl : Flow) (p : Plan) (w : Wires) (inputs : List ℤ) → IsGood fl p w → InputsFit fl inputs
-    → Follows fl p w inputs no_past (at_start p.program inputs)
+    → Tracks fl p w inputs no_past (at_start p.program inputs)
 
 -- A token of the pool is that of an item on its way.
 abbrev pub TokensAreItems : Type 0
 TokensAreItems = (fl : Flow) (p : Plan) (w : Wires) (inputs : List ℤ) (q : Past) (m : Machine) (t : Token) (rest : List Token) → IsGood fl p w
     → (k : Keeps fl p w inputs q m) → IsPermutation m.pool (t ∷ rest)
-    → (i : Item) × (others : List Item) × IsPermutation k.follows.net.pending (i ∷ others) × (t ≡ token_of fl p w k.follows.net.fired i)
+    → (i : Item) × (others : List Item) × IsPermutation k.tracks.net.pending (i ∷ others) × (t ≡ token_of fl p w k.tracks.net.fired i)
 
 -- Each event is some moves, by the part that takes the token.
 pub data Doing : Type 0 where
@@ -72,7 +72,7 @@ pub data Doing : Type 0 where
 
 abbrev pub doing_of : Flow → Context → Part → Doing
 doing_of fl c (Line n) = if is_cell (block_in fl c) n then OfCells else Inwards
-doing_of fl c (Held n) = OfCells
+doing_of fl c (InCell n) = OfCells
 doing_of fl c (Linker n) = Outwards
 doing_of fl c (Sender n i) = Outwards
 doing_of fl c (Result j) = Outwards
@@ -101,37 +101,37 @@ Fresh q t made = (g : ℕ) → Contains (handed_by t.to made) g → Contains q.h
 abbrev pub EventsFollowBy : Doing → Type 0
 EventsFollowBy doing = (fl : Flow) (p : Plan) (w : Wires) (inputs : List ℤ) (z : Size) (q : Past) (m new : Machine) (e : ℕ) (t : Token)
     → IsGood fl p w → (k : Keeps fl p w inputs q m)
-    → (ev : Event p.program z e t m new) → Fresh q t ev.made → (i : Item) (others : List Item) → IsPermutation k.follows.net.pending (i ∷ others)
-    → t ≡ token_of fl p w k.follows.net.fired i
-    → doing_of fl i.context i.inlet.part ≡ doing → Follows fl p w inputs (after p q e t m.store ev.made new) new
+    → (ev : Event p.program z e t m new) → Fresh q t ev.made → (i : Item) (others : List Item) → IsPermutation k.tracks.net.pending (i ∷ others)
+    → t ≡ token_of fl p w k.tracks.net.fired i
+    → doing_of fl i.context i.inlet.part ≡ doing → Tracks fl p w inputs (after p q e t m.store ev.made new) new
 
 -- ---- D. DATA
-pub data Telling : Type 0 where
-  OfNodes : Telling
-  OfMemory : Telling
-  OfCalls : Telling
-  OfTurns : Telling
-  OfStrict : Telling
-  OfControl : Telling
+pub data FiringGroup : Type 0 where
+  OfNodes : FiringGroup
+  OfMemory : FiringGroup
+  OfCalls : FiringGroup
+  OfTurns : FiringGroup
+  OfStrict : FiringGroup
+  OfControl : FiringGroup
 
-abbrev pub telling_of : Flow → Context → Part → Telling
-telling_of fl c (Line n) = if is_cell (block_in fl c) n then OfMemory else OfNodes
-telling_of fl c (Merge n) = OfNodes
-telling_of fl c (Gate n) = OfNodes
-telling_of fl c (Held n) = OfMemory
-telling_of fl c (Sender n i) = OfCalls
-telling_of fl c (Landing n j) = OfCalls
-telling_of fl c (Shown j) = OfCalls
-telling_of fl c (TurnValue j) = OfTurns
-telling_of fl c (Framer n) = OfStrict
-telling_of fl c r = OfControl
+abbrev pub group_of : Flow → Context → Part → FiringGroup
+group_of fl c (Line n) = if is_cell (block_in fl c) n then OfMemory else OfNodes
+group_of fl c (Merge n) = OfNodes
+group_of fl c (Gate n) = OfNodes
+group_of fl c (InCell n) = OfMemory
+group_of fl c (Sender n i) = OfCalls
+group_of fl c (Landing n j) = OfCalls
+group_of fl c (Shown j) = OfCalls
+group_of fl c (TurnValue j) = OfTurns
+group_of fl c (Framer n) = OfStrict
+group_of fl c r = OfControl
 
 -- a proper firing of a lawful net is some activities
-abbrev pub FiringsAreTold : Telling → Type 0
-FiringsAreTold telling = (fl : Flow) (p : Plan) (w : Wires) (inputs : List ℤ) (f : Firing) (fired : List Firing) → IsGood fl p w
+abbrev pub FiringsAreMeant : FiringGroup → Type 0
+FiringsAreMeant group = (fl : Flow) (p : Plan) (w : Wires) (inputs : List ℤ) (f : Firing) (fired : List Firing) → IsGood fl p w
     → InputsFit fl inputs
-    → All (Allowed fl w inputs fired) (takes fl f) → All (WordFits fl w) (takes fl f) → IsProper fl fired f → telling_of fl f.context f.part ≡ telling
-    → FiringIsTold fl w inputs f fired
+    → All (Allowed fl w inputs fired) (takes fl f) → All (WordFits fl w) (takes fl f) → IsProper fl fired f → group_of fl f.context f.part ≡ group
+    → FiringIsMeant fl w inputs f fired
 
 -- ---- L. LAWS
 abbrev pub AllFit : Flow → Wires → List Item → Type 0
@@ -229,7 +229,7 @@ pub record AllPackages : Type 0 where
   pub starts : Starts
   pub tokens : TokensAreItems
   pub events : (doing : Doing) → EventsFollowBy doing
-  pub told : (telling : Telling) → FiringsAreTold telling
+  pub meant : (group : FiringGroup) → FiringsAreMeant group
   pub words : HoldsOf WordsAreFit
   pub fed : HoldsOf InletsAreFed
   pub entered : HoldsOf ArmsAreEntered

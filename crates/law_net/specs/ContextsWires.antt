@@ -17,11 +17,11 @@ use Rattle.semantics.specs.Cause.{is_looped}
 use Rattle.law_confluence.specs.OrdersTotals.{one, total}
 use Rattle.law_net.specs.ContextsParts.{Part, Entry, Line, Answer, Trigger, Gate, Merge, Opener, Framer, Fanned, Linker, Sender, Landing, CallDone, Giver}
 use Rattle.law_net.specs.ContextsParts.{Taker, Drainer, LoopDone, Strict, Result, TurnCont, TurnFlag, TurnValue, Asker, NextFramer, NextFanned, NextSender}
-use Rattle.law_net.specs.ContextsParts.{LastReturn, DrainReturn, Join, CondEnd, End, Asked, NextAsked, Held, Inlet, inlet, same_inlet}
+use Rattle.law_net.specs.ContextsParts.{LastReturn, DrainReturn, Join, CondEnd, End, Asked, NextAsked, InCell, Inlet, inlet, same_inlet}
 use Rattle.law_net.specs.ContextsBlocks.{Side, side, Wiring, Site, there_in, waits_in, op_of, origin_of, mark_of, entered, leaves_in, is_switch, exit, is_loop}
 use Rattle.law_net.specs.ContextsBlocks.{is_call, is_strict, invokes, source_count, result_count, flag, lies_in, is_kind, cond_kind, merge_kind, merge_cond}
 use Rattle.law_net.specs.Contexts.{Wires, code_in, IsContext}
-use Rattle.law_net.specs.ContextsTold.{told_at, settled_sent}
+use Rattle.law_net.specs.ContextsMeant.{meant_at, settled_sent}
 
 -- ARCS that no part sends along by itself: the manager, a take, or an invocation answers there
 abbrev pub answered_at : Part → List Inlet
@@ -34,19 +34,19 @@ answered_at Asker = inlet NextFramer Left 0 ∷ []
 answered_at r = []
 
 -- what no wire feeds
-abbrev pub is_given : Block ℕ → Part → Bool
-is_given b Entry = true
-is_given b (Line n) = nat_lt n b.inputs
-is_given b (Landing n j) = true
-is_given b (CallDone n) = true
-is_given b (Giver n) = true
-is_given b (Taker n) = true
-is_given b (Drainer n) = true
-is_given b (LoopDone n) = true
-is_given b (Fanned n) = true
-is_given b NextFanned = true
-is_given b NextFramer = true
-is_given b r = false
+abbrev pub is_unwired : Block ℕ → Part → Bool
+is_unwired b Entry = true
+is_unwired b (Line n) = nat_lt n b.inputs
+is_unwired b (Landing n j) = true
+is_unwired b (CallDone n) = true
+is_unwired b (Giver n) = true
+is_unwired b (Taker n) = true
+is_unwired b (Drainer n) = true
+is_unwired b (LoopDone n) = true
+is_unwired b (Fanned n) = true
+is_unwired b NextFanned = true
+is_unwired b NextFramer = true
+is_unwired b r = false
 
 -- what it sends goes along no wire
 abbrev pub has_no_wire : Part → Bool
@@ -103,31 +103,31 @@ abbrev pub next_kind : ℕ → Carried
 next_kind zero = ItsReturn
 next_kind (suc j) = AValue
 
-abbrev pub comes_at : Part → Port → Carried
-comes_at Entry q = ItsReturn
-comes_at (Framer n) q = Anything
-comes_at (Opener n) q = Anything
-comes_at NextFramer q = Anything
-comes_at (Strict n i) q = Anything
-comes_at (Join r i) q = Anything
-comes_at (Fanned n) q = ChildFrame n
-comes_at (Linker n) q = ChildFrame n
-comes_at (Sender n i) Left = ChildFrame n
-comes_at (Result j) Left = ItsReturn
-comes_at TurnCont Left = ItsReturn
-comes_at Asker Left = ItsReturn
-comes_at NextFanned q = NextFrame
-comes_at (NextSender j) Left = NextFrame
-comes_at (NextSender j) Right = next_kind j
-comes_at (LastReturn j) Left = ItsReturn
-comes_at DrainReturn Left = ItsReturn
-comes_at End Left = ItsReturn
-comes_at End Right = Anything
-comes_at (Taker n) q = Credit n
-comes_at (Asked n) q = Request (Fanned n)
-comes_at NextAsked q = Request NextFanned
-comes_at (Held n) q = Reader n
-comes_at r q = AValue
+abbrev pub arrives_at : Part → Port → Carried
+arrives_at Entry q = ItsReturn
+arrives_at (Framer n) q = Anything
+arrives_at (Opener n) q = Anything
+arrives_at NextFramer q = Anything
+arrives_at (Strict n i) q = Anything
+arrives_at (Join r i) q = Anything
+arrives_at (Fanned n) q = ChildFrame n
+arrives_at (Linker n) q = ChildFrame n
+arrives_at (Sender n i) Left = ChildFrame n
+arrives_at (Result j) Left = ItsReturn
+arrives_at TurnCont Left = ItsReturn
+arrives_at Asker Left = ItsReturn
+arrives_at NextFanned q = NextFrame
+arrives_at (NextSender j) Left = NextFrame
+arrives_at (NextSender j) Right = next_kind j
+arrives_at (LastReturn j) Left = ItsReturn
+arrives_at DrainReturn Left = ItsReturn
+arrives_at End Left = ItsReturn
+arrives_at End Right = Anything
+arrives_at (Taker n) q = Credit n
+arrives_at (Asked n) q = Request (Fanned n)
+arrives_at NextAsked q = Request NextFanned
+arrives_at (InCell n) q = Reader n
+arrives_at r q = AValue
 
 -- A frame's word goes to what takes a frame: not to a join, nor to what asks for a frame.
 abbrev pub is_frame : Carried → Bool
@@ -173,8 +173,8 @@ decider b w k = exit b w (decided_by b k).node (decided_by b k).port
 abbrev pub leads_to : ℕ → Dest → ℕ × Port
 leads_to n d = (n + d.ahead, d.port)
 
-abbrev pub stands_at : Wiring → Inlet → ℕ × Port
-stands_at w x = (w.place x.part, x.port)
+abbrev pub ip_and_port : Wiring → Inlet → ℕ × Port
+ip_and_port w x = (w.place x.part, x.port)
 
 -- Each part has its instruction, and each instruction its part; the wires are the destinations, in any order.
 pub record IsInstr (fl : Flow) (p : Plan) (variant : ℕ → ℕ) (s : Site) (w : Wiring) (r : Part) (i : Instr) : Type 0 where
@@ -182,8 +182,8 @@ pub record IsInstr (fl : Flow) (p : Plan) (variant : ℕ → ℕ) (s : Site) (w 
   pub origin : i.origin ≡ origin_of fl s r
   pub mark : mark_at p s.own (w.place r) ≡ mark_of s.block r
   pub slot : i.slot ≡ w.slot r
-  pub firsts : IsPermutation (map (leads_to (w.place r)) i.firsts) (map (stands_at w) (answered_at r ++ w.wire (side r false)))
-  pub seconds : IsPermutation (map (leads_to (w.place r)) i.seconds) (map (stands_at w) (w.wire (side r true)))
+  pub firsts : IsPermutation (map (leads_to (w.place r)) i.firsts) (map (ip_and_port w) (answered_at r ++ w.wire (side r false)))
+  pub seconds : IsPermutation (map (leads_to (w.place r)) i.seconds) (map (ip_and_port w) (w.wire (side r true)))
 
 abbrev pub holds_own : Block ℕ → Part → Bool
 holds_own b (Opener n) = true
@@ -218,10 +218,10 @@ IsUnfed fl s w x = (u : Side) → (there_in fl s w u.part ≡ true) → hits x (
 pub record AreFed (fl : Flow) (s : Site) (w : Wiring) : Type 0 where
   -- a wire leads to an inlet
   pub inlets : (t : Side) (x : Inlet) → (there_in fl s w t.part ≡ true) → Contains (w.wire t) x
-      → (there_in fl s w x.part ≡ true) × (wired_way x.part x.way ≡ true) × (wired_port s.block x.part x.port ≡ true) × (is_given s.block x.part ≡ false)
+      → (there_in fl s w x.part ≡ true) × (wired_way x.part x.way ≡ true) × (wired_port s.block x.part x.port ≡ true) × (is_unwired s.block x.part ≡ false)
   -- which comes along one side of one part; no part has a wire along a side that it has not
   pub fed : (x : Inlet) → (there_in fl s w x.part ≡ true) → (wired_way x.part x.way ≡ true) → (wired_port s.block x.part x.port ≡ true)
-      → (is_given s.block x.part ≡ false) → IsFed fl s w x
+      → (is_unwired s.block x.part ≡ false) → IsFed fl s w x
   pub sides : (t : Side) → (is_side t ≡ false) ⊎ (has_no_wire t.part ≡ true) → w.wire t ≡ []
 
 pub record FollowArms (fl : Flow) (s : Site) (w : Wiring) : Type 0 where
@@ -280,7 +280,7 @@ pub record LeadOn (fl : Flow) (s : Site) (w : Wiring) : Type 0 where
   -- and a strict call waits for its arguments
   pub waits : (n : ℕ) → is_strict s.block n ≡ true → WaitsForAll fl s w n
   pub starts : StartsRightly fl s w
-  pub suits : (t : Side) (x : Inlet) → (there_in fl s w t.part ≡ true) → Contains (w.wire t) x → Suits (comes_at x.part x.port) (goes_from t.part)
+  pub suits : (t : Side) (x : Inlet) → (there_in fl s w t.part ≡ true) → Contains (w.wire t) x → Suits (arrives_at x.part x.port) (goes_from t.part)
 
 pub record AreLawful (fl : Flow) (s : Site) (w : Wiring) : Type 0 where
   pub fed : AreFed fl s w
@@ -288,8 +288,8 @@ pub record AreLawful (fl : Flow) (s : Site) (w : Wiring) : Type 0 where
   pub leads : LeadOn fl s w
 
 -- What leaves at an output port goes to its uses, in any invocation of the block, and nothing else tells anything.
-abbrev pub told_along : Flow → Context → Value → List Inlet → List Tagged
-told_along fl c v xs = flat_map (λ (x : Inlet). told_at fl c x.part x.port x.way v) xs
+abbrev pub meant_along : Flow → Context → Value → List Inlet → List Tagged
+meant_along fl c v xs = flat_map (λ (x : Inlet). meant_at fl c x.part x.port x.way v) xs
 
 abbrev pub has_port : Flow → Block ℕ → ℕ → ℕ → Bool
 has_port fl b n q = (invokes b n && nat_lt q (result_count fl b n)) || (q == 0)
@@ -301,11 +301,11 @@ IsSilent r = ⊤
 
 pub record GoesToUses (fl : Flow) (Here : Context → Type 0) (s : Site) (w : Wiring) : Type 0 where
   pub uses : (c : Context) (n q : ℕ) (v : Value) → Here c → (there_in fl s w (exit s.block w n q).part ≡ true) → (has_port fl s.block n q ≡ true)
-      → IsPermutation (told_along fl c v (w.wire (exit s.block w n q))) (settled_sent fl c n q v)
+      → IsPermutation (meant_along fl c v (w.wire (exit s.block w n q))) (settled_sent fl c n q v)
   -- an answer goes to its copy, where it has one
   pub answers : (n : ℕ) → (there_in fl s w (Answer n) ≡ true) → w.wire (side (Line n) false) ≡ inlet (Answer n) Left 0 ∷ []
   pub nothing : (c : Context) (t : Side) (v : Value) → Here c → (there_in fl s w t.part ≡ true) → IsSilent t.part → ((n q : ℕ) → exit s.block w n q ≢ t)
-      → told_along fl c v (w.wire t) ≡ []
+      → meant_along fl c v (w.wire t) ≡ []
   -- the turn of a loop
   pub turn_value : (j : ℕ) → (there_in fl s w (TurnValue (j + 1)) ≡ true)
       → (w.wire (side (TurnValue (j + 1)) false) ≡ inlet (NextSender (j + 1)) Right 0 ∷ [])

@@ -2,13 +2,13 @@
 pub mod ContextsParts
 pub mod ContextsBlocks
 pub mod Contexts
-pub mod ContextsTold
+pub mod ContextsMeant
 pub mod ContextsAround
 pub mod ContextsCredits
 pub mod ContextsWires
 pub mod ContextsFirings
 pub mod ContextsLaws
-pub mod ContextsStands
+pub mod ContextsMirror
 pub mod ContextsOperands
 pub mod ContextsTheorem
 pub mod ContextsPackages

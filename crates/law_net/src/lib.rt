@@ -8,7 +8,7 @@
 //!
 //! **Why they hold.**
 //! 1. A context is an invocation by the name of where it was made, so nothing has to be said of frames that are used again: that is one map
-//!    (`ContextsStands`).
+//!    (`ContextsMirror`).
 //! 2. A code block is told by its parts and wires (`ContextsParts`, `ContextsBlocks`, `ContextsWires`); an item is a word at an inlet of a part in a
 //!    context.
 //! 3. In any net of items and firings (`Net`, in `law_confluence`) what was made is what is pending, what waits and what was taken. So an inlet that
@@ -16,7 +16,7 @@
 //!    conditional that one word decided.
 //! 4. The net of contexts is such a net, by its wires alone: words fit (`WiredWords`), inlets are fed once (`WiredFed`), into an arm leads only what
 //!    decided it (`WiredEntered`), and two firings of a part share an inlet or lie in opposite arms (`WiredRivals`).
-//! 5. A token at a port is one item's (`RunsComes`), so a port gets one token, all of one block; what waits at its slot is of the other side
+//! 5. A token at a port is one item's (`RunsArrives`), so a port gets one token, all of one block; what waits at its slot is of the other side
 //!    (`RunsMatching`).
 //! 6. A loop's slot is a function of what fired (`ContextsCredits`), so its four instructions find what they take (`Credits`, `CreditsTaken`), and no
 //!    more turns are granted than were given back, and as many as the bound (`CreditsKept`).

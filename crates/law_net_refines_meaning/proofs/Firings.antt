@@ -13,16 +13,16 @@ use Rattle.semantics.specs.Cause.{is_turn}
 use Rattle.semantics.specs.Meaning.{Context, block_of}
 use Rattle.law_net.specs.ContextsParts.{Part, Entry, Line, Answer, Trigger, Gate, Merge, Opener, Framer, Fanned, Linker, Sender, Landing, CallDone, Giver}
 use Rattle.law_net.specs.ContextsParts.{Taker, Drainer, LoopDone, Strict, Result, TurnCont, TurnFlag, TurnValue, Asker, NextFramer, NextFanned, NextSender}
-use Rattle.law_net.specs.ContextsParts.{LastReturn, DrainReturn, Join, CondEnd, End, Asked, NextAsked, Held, Drained, Shown, Done, Freed, inlet, Note, Datum}
+use Rattle.law_net.specs.ContextsParts.{LastReturn, DrainReturn, Join, CondEnd, End, Asked, NextAsked, InCell, Drained, Shown, Done, Freed, inlet, Note, Datum}
 use Rattle.law_net.specs.ContextsParts.{Item, item, Firing, spot_of}
 use Rattle.law_net.specs.ContextsBlocks.{side, waits_in, is_kind, is_plain, is_cell, is_pair, is_store, is_strict, enter_kind, merge_kind}
 use Rattle.law_net.specs.Contexts.{Wires, block_in, wiring_in, code_in, IsContext}
 use Rattle.law_net.specs.ContextsWires.{Runs}
 use Rattle.law_net.specs.ContextsFirings.{takes, makes, memory_of, along, back_from, value_in, left_item, right_way, renewed, request_of, given_back, IsProper}
-use Rattle.law_net.specs.ContextsLaws.{Fits, spot_there, WordFits, Allowed, FiringIsTold}
-use Rattle.law_net.specs.ContextsTold.{told}
+use Rattle.law_net.specs.ContextsLaws.{Fits, spot_there, WordFits, Allowed, FiringIsMeant}
+use Rattle.law_net.specs.ContextsMeant.{meant}
 use Rattle.law_net.specs.ContextsTheorem.{IsGood}
-use Rattle.law_net_refines_meaning.specs.Firings.{AllIsTold}
+use Rattle.law_net_refines_meaning.specs.Firings.{AllIsMeant}
 use Rattle.law_net_refines_meaning.proofs.FiringsActs.{Acts}
 use Rattle.law_net_refines_meaning.proofs.FiringsNodes as Nodes
 use Rattle.law_net_refines_meaning.proofs.FiringsNodes.{kind_is}
@@ -45,18 +45,18 @@ module _ (fl : Flow) (p : Plan) (w : Wires) (inputs : List ℤ) (good : IsGood f
   abbrev by : Part → Note → Note → Firing
   by r l k = record f { part = r; left = l; right = k }
 
-  abbrev IsToldBy : Part → Note → Note → Type 0
-  IsToldBy r l k = FiringIsTold fl w inputs (by r l k) fired
+  abbrev IsMeantBy : Part → Note → Note → Type 0
+  IsMeantBy r l k = FiringIsMeant fl w inputs (by r l k) fired
 
   -- words that are values
   abbrev IsValue : Note → Type 0
   IsValue k = (v : Value) × (k ≡ Datum v)
 
-  with_left : (r : Part) (k : Note) → IsValue f.left → ((v : Value) → IsToldBy r (Datum v) k) → IsToldBy r f.left k
-  with_left r k (v, e) h = subst (λ (l : Note). IsToldBy r l k) (sym e) (h v)
+  with_left : (r : Part) (k : Note) → IsValue f.left → ((v : Value) → IsMeantBy r (Datum v) k) → IsMeantBy r f.left k
+  with_left r k (v, e) h = subst (λ (l : Note). IsMeantBy r l k) (sym e) (h v)
 
-  with_right : (r : Part) (l : Note) → IsValue f.right → ((v : Value) → IsToldBy r l (Datum v)) → IsToldBy r l f.right
-  with_right r l (v, e) h = subst (λ (k : Note). IsToldBy r l k) (sym e) (h v)
+  with_right : (r : Part) (l : Note) → IsValue f.right → ((v : Value) → IsMeantBy r l (Datum v)) → IsMeantBy r l f.right
+  with_right r l (v, e) h = subst (λ (k : Note). IsMeantBy r l k) (sym e) (h v)
 
   -- what is known of the items that a firing takes
   abbrev pub Fit : Item → Type 0
@@ -85,9 +85,9 @@ module _ (fl : Flow) (p : Plan) (w : Wires) (inputs : List ℤ) (good : IsGood f
     taken_by n v k t = (item c (inlet (Line n) Left 0) (Datum v) ∷ (if t then item c (inlet (Line n) Right 0) k ∷ [] else [])) ++ []
 
     -- a node takes one operand or two
-    line_told : (n : ℕ) → is_plain b n ≡ true → is_cell b n ≡ false → IsValue f.left → ((t : Bool) → is_pair b n ≡ t → t ≡ true → IsValue f.right)
-        → IsToldBy (Line n) f.left f.right
-    line_told n plain cell left right = with_left (Line n) f.right left (λ v. by_pair v (is_pair b n) refl)
+    line_meant : (n : ℕ) → is_plain b n ≡ true → is_cell b n ≡ false → IsValue f.left → ((t : Bool) → is_pair b n ≡ t → t ≡ true → IsValue f.right)
+        → IsMeantBy (Line n) f.left f.right
+    line_meant n plain cell left right = with_left (Line n) f.right left (λ v. by_pair v (is_pair b n) refl)
       where
         made_along : (l k : Note) (t : Bool) → is_cell b n ≡ t → t ≡ false → makes fl w (by (Line n) l k) ≡ along fl w (by (Line n) l k) (Line n) false
         made_along l k t e f =
@@ -95,34 +95,34 @@ module _ (fl : Flow) (p : Plan) (w : Wires) (inputs : List ℤ) (good : IsGood f
             (λ (t : Bool). if t
             then record {
               context = c;
-              inlet = inlet (Held n) Left 0;
+              inlet = inlet (InCell n) Left 0;
               word = back_from c ((wiring_in fl w c).wire (side (Line n) false));
               held = value_in l ∷ (if is_store b n then value_in k ∷ [] else []);
             } ∷ [] else along fl w (by (Line n) l k) (Line n) false) (e ∙ f)
 
         acts_by : (v : Value) (k : Note) (t : Bool) → is_pair b n ≡ t
-            → Acts fl (flat_map (told fl) (taken_by n v k t)) (memory_of fl fired) (flat_map (told fl) (along fl w (by (Line n) (Datum v) k) (Line n) false))
-            (memory_of fl fired) → IsToldBy (Line n) (Datum v) k
+            → Acts fl (flat_map (meant fl) (taken_by n v k t)) (memory_of fl fired) (flat_map (meant fl) (along fl w (by (Line n) (Datum v) k) (Line n) false))
+            (memory_of fl fired) → IsMeantBy (Line n) (Datum v) k
         acts_by v k t e h =
-            subst (λ (l : List Item). Acts fl (flat_map (told fl) (takes fl (by (Line n) (Datum v) k))) (memory_of fl fired) (flat_map (told fl) l)
+            subst (λ (l : List Item). Acts fl (flat_map (meant fl) (takes fl (by (Line n) (Datum v) k))) (memory_of fl fired) (flat_map (meant fl) l)
             (memory_of fl fired)) (sym (made_along (Datum v) k (is_cell b n) refl cell))
-            (subst (λ (t : Bool). Acts fl (flat_map (told fl) (taken_by n v k t)) (memory_of fl fired)
-            (flat_map (told fl) (along fl w (by (Line n) (Datum v) k) (Line n) false)) (memory_of fl fired)) (sym e) h)
+            (subst (λ (t : Bool). Acts fl (flat_map (meant fl) (taken_by n v k t)) (memory_of fl fired)
+            (flat_map (meant fl) (along fl w (by (Line n) (Datum v) k) (Line n) false)) (memory_of fl fired)) (sym e) h)
 
-        by_pair : (v : Value) (t : Bool) → is_pair b n ≡ t → IsToldBy (Line n) (Datum v) f.right
+        by_pair : (v : Value) (t : Bool) → is_pair b n ≡ t → IsMeantBy (Line n) (Datum v) f.right
         by_pair v true e =
             with_right (Line n) (Datum v) (right true e refl)
             (λ u. acts_by v (Datum u) true e (Nodes.line_two fl p w good.operands c eb Here here code n v u (memory_of fl fired) plain cell e))
         by_pair v false e =
             acts_by v f.right false e (Nodes.line_one fl p w good.operands c eb Here here code n v (value_in f.right) (memory_of fl fired) plain cell e)
 
-    gate_told : (n : ℕ) → is_kind enter_kind b n ≡ true → IsValue f.left → IsValue f.right → IsToldBy (Gate n) f.left f.right
-    gate_told n there left right =
+    gate_meant : (n : ℕ) → is_kind enter_kind b n ≡ true → IsValue f.left → IsValue f.right → IsMeantBy (Gate n) f.left f.right
+    gate_meant n there left right =
         with_left (Gate n) f.right left (λ v. with_right (Gate n) (Datum v) right
         (λ u. Nodes.gate_acts fl p w good.operands c eb Here here code n v u (memory_of fl fired) there))
 
-    merge_told : (n : ℕ) → is_kind merge_kind b n ≡ true → IsValue f.left → IsToldBy (Merge n) f.left f.right
-    merge_told n there left =
+    merge_meant : (n : ℕ) → is_kind merge_kind b n ≡ true → IsValue f.left → IsMeantBy (Merge n) f.left f.right
+    merge_meant n there left =
         with_left (Merge n) f.right left (λ v. Nodes.merge_acts fl p w good.operands c eb Here here code n f.way v (memory_of fl fired) there)
 
     abbrev Spot : Part → Type 0
@@ -150,9 +150,9 @@ module _ (fl : Flow) (p : Plan) (w : Wires) (inputs : List ℤ) (good : IsGood f
         (subst (λ (t : Bool). All Word (left_at (Line n) 0 ∷ ((if t then right_at (Line n) 0 ∷ [] else []) ++ []))) (e ∙ g) words)
 
     -- what asks a cell, and what it answers
-    line_or_cell : (n : ℕ) → Spot (Line n) → Words (Line n) → (is_cell b n ≡ true) ⊎ (is_cell b n ≡ false) → IsToldBy (Line n) f.left f.right
+    line_or_cell : (n : ℕ) → Spot (Line n) → Words (Line n) → (is_cell b n ≡ true) ⊎ (is_cell b n ≡ false) → IsMeantBy (Line n) f.left f.right
     line_or_cell n there words (inr e) =
-        line_told n there e (first_word (left_at (Line n) 0) ((if is_pair b n then right_at (Line n) 0 ∷ [] else []) ++ []) words) (line_right n words)
+        line_meant n there e (first_word (left_at (Line n) 0) ((if is_pair b n then right_at (Line n) 0 ∷ [] else []) ++ []) words) (line_right n words)
     line_or_cell n there words (inl e) =
         with_left (Line n) f.right (first_word (left_at (Line n) 0) ((if is_pair b n then right_at (Line n) 0 ∷ [] else []) ++ []) words)
         (λ v. Cells.asks fl p w good.operands f fired ctx Here here code n v f.right e (λ g. line_right n words (is_pair b n) refl g))
@@ -162,19 +162,19 @@ module _ (fl : Flow) (p : Plan) (w : Wires) (inputs : List ℤ) (good : IsGood f
         absurd (true≢false (sym (first_of_and false (nat_lt 0 (b.inputs + 1)) (second_of_and (is_turn f.context) (false && nat_lt 0 (b.inputs + 1)) e))))
     turn_from (suc h) e = (h, omega arith)
 
-    turn_value_told : (j h : ℕ) → j ≡ h + 1 → Spot (TurnValue j) → IsValue f.left → IsValue f.right → FiringIsTold fl w inputs (at (TurnValue j)) fired
-    turn_value_told j h e there left right =
-        subst (λ (j : ℕ). IsToldBy (TurnValue j) f.left f.right) (sym e)
+    turn_value_meant : (j h : ℕ) → j ≡ h + 1 → Spot (TurnValue j) → IsValue f.left → IsValue f.right → FiringIsMeant fl w inputs (at (TurnValue j)) fired
+    turn_value_meant j h e there left right =
+        subst (λ (j : ℕ). IsMeantBy (TurnValue j) f.left f.right) (sym e)
         (with_left (TurnValue (h + 1)) f.right left
         (λ v. with_right (TurnValue (h + 1)) (Datum v) right
         (λ u. Calls.turn_value fl p w good.operands f fired ctx Here here code h v u (subst (λ (j : ℕ). Spot (TurnValue j)) e there))))
 
     -- BY PARTS
-    by_part : (r : Part) → Spot r → Words r → IsProper fl fired (at r) → FiringIsTold fl w inputs (at r) fired
+    by_part : (r : Part) → Spot r → Words r → IsProper fl fired (at r) → FiringIsMeant fl w inputs (at r) fired
     by_part (Line n) there words proper = line_or_cell n there words (cases_Bool (is_cell b n))
     by_part (Gate n) there words proper =
-        gate_told n there (first_word (left_at (Gate n) 0) (right_at (Gate n) 0 ∷ []) words) (second_word (left_at (Gate n) 0) (right_at (Gate n) 0) [] words)
-    by_part (Merge n) there words proper = merge_told n there (first_word (left_at (Merge n) f.way) [] words)
+        gate_meant n there (first_word (left_at (Gate n) 0) (right_at (Gate n) 0 ∷ []) words) (second_word (left_at (Gate n) 0) (right_at (Gate n) 0) [] words)
+    by_part (Merge n) there words proper = merge_meant n there (first_word (left_at (Merge n) f.way) [] words)
     by_part (Answer n) there words proper =
         with_left (Answer n) f.right (first_word (left_at (Answer n) 0) [] words)
         (λ v. Cells.answer fl p w good.operands f fired ctx Here here code n v f.right there)
@@ -190,10 +190,10 @@ module _ (fl : Flow) (p : Plan) (w : Wires) (inputs : List ℤ) (good : IsGood f
     by_part (Framer n) there words proper = Calls.framer fl p w good.operands f fired ctx Here here code n f.left f.right proper
     by_part (TurnValue j) there words proper =
         let k = turn_from j there in
-        turn_value_told j k.0 k.1 there (first_word (left_at (TurnValue j) 0) (right_at (TurnValue j) 0 ∷ []) words)
+        turn_value_meant j k.0 k.1 there (first_word (left_at (TurnValue j) 0) (right_at (TurnValue j) 0 ∷ []) words)
         (second_word (left_at (TurnValue j) 0) (right_at (TurnValue j) 0) [] words)
-    by_part (Held n) there words proper =
-        Cells.held fl p w good.operands f fired ctx Here here code n f.left f.right there (All-head Word (request_of (at (Held n))) [] words).1 proper
+    by_part (InCell n) there words proper =
+        Cells.held fl p w good.operands f fired ctx Here here code n f.left f.right there (All-head Word (request_of (at (InCell n))) [] words).1 proper
     by_part (Giver n) there words proper = absurd proper
     by_part (Drainer n) there words proper = absurd proper
     by_part Entry there words proper = Control.entry fl p w good.operands f fired ctx Here here code there
@@ -232,7 +232,7 @@ module _ (fl : Flow) (p : Plan) (w : Wires) (inputs : List ℤ) (good : IsGood f
   first_part r = r
 
   pub first_at : (r : Part) → All (Allowed fl w inputs fired) (takes fl (at r)) → (i : Item) × Fit i × (i.context ≡ c) × (i.inlet.part ≡ first_part r)
-  first_at (Held n) all = (request_of (at (Held n)), first_fits (request_of (at (Held n))) [] all, refl, refl)
+  first_at (InCell n) all = (request_of (at (InCell n)), first_fits (request_of (at (InCell n))) [] all, refl, refl)
   first_at (Drained n) all = (
     item c (inlet (Drainer n) Left f.turns) f.left,
     first_fits (item c (inlet (Drainer n) Left f.turns) f.left) (given_back c n (f.turns + 1) ++ []) all,
@@ -249,20 +249,21 @@ module _ (fl : Flow) (p : Plan) (w : Wires) (inputs : List ℤ) (good : IsGood f
   pub context_of : All (Allowed fl w inputs fired) (takes fl f) → IsContext fl f.context
   context_of all = let k = first_at f.part all in subst (IsContext fl) k.2 k.1.is_context
 
-  drained_told : (ctx : IsContext fl f.context) (n : ℕ) → FiringIsTold fl w inputs (at (Drained n)) fired
-  drained_told ctx n = Control.drained fl p w good.operands f fired ctx (Here ctx) (here ctx) (code ctx) n
+  drained_meant : (ctx : IsContext fl f.context) (n : ℕ) → FiringIsMeant fl w inputs (at (Drained n)) fired
+  drained_meant ctx n = Control.drained fl p w good.operands f fired ctx (Here ctx) (here ctx) (code ctx) n
 
-  told_at_part : (r : Part) → All (Allowed fl w inputs fired) (takes fl (at r)) → All Word (takes fl (at r)) → IsContext fl f.context → IsProper fl fired (at r)
-      → FiringIsTold fl w inputs (at r) fired
-  told_at_part (Drained n) all words ctx proper = drained_told ctx n
-  told_at_part r all words ctx proper = by_part ctx r (at_spot (first_at r all)) words proper
+  meant_at_part : (r : Part) → All (Allowed fl w inputs fired) (takes fl (at r)) → All Word (takes fl (at r)) → IsContext fl f.context
+      → IsProper fl fired (at r)
+      → FiringIsMeant fl w inputs (at r) fired
+  meant_at_part (Drained n) all words ctx proper = drained_meant ctx n
+  meant_at_part r all words ctx proper = by_part ctx r (at_spot (first_at r all)) words proper
     where
       at_spot : (k : (i : Item) × Fit i × (i.context ≡ c) × (i.inlet.part ≡ r)) → spot_there fl w f.context r ≡ true
       at_spot (i, fit, ec, er) = ap (spot_there fl w f.context) (sym er) ∙ ap (λ (d : Context). spot_there fl w d i.inlet.part) (sym ec) ∙ fit.there
 
-  pub firing_told : All (Allowed fl w inputs fired) (takes fl f) → All Word (takes fl f) → IsProper fl fired f → FiringIsTold fl w inputs f fired
-  firing_told all words proper = told_at_part f.part all words (context_of all) proper
+  pub firing_meant : All (Allowed fl w inputs fired) (takes fl f) → All Word (takes fl f) → IsProper fl fired f → FiringIsMeant fl w inputs f fired
+  firing_meant all words proper = meant_at_part f.part all words (context_of all) proper
 
 -- ALL FIRINGS
-pub all_told : AllIsTold
-all_told telling fl p w inputs f fired good fit all words proper e = firing_told fl p w inputs good f fired all words proper
+pub all_meant : AllIsMeant
+all_meant group fl p w inputs f fired good fit all words proper e = firing_meant fl p w inputs good f fired all words proper

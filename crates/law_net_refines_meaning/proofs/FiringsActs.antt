@@ -8,7 +8,7 @@ use Rattle.semantics.specs.Graph.{Node, Block, Flow, node_at}
 use Rattle.semantics.specs.Meaning.{Context, Activity, Fires, Gates, Passes, Tagged, Memory, Deed, Says, Message, Sends, State, Leads, taken, effect, deed}
 use Rattle.semantics.specs.Meaning.{done_if, fired, fired_in, input_passed, gated, passed, on_block, on_node, block_of, tokens_of}
 use Rattle.law_confluence.proofs.Orders.{shuffled, Part, ◌⊕◌}
-use Rattle.law_confluence.proofs.NetFollows.{state_of, run_join}
+use Rattle.law_confluence.proofs.NetMeans.{state_of, run_join}
 
 -- a line of the block is past the inputs
 pub line_past : (b : Block ℕ) (n : ℕ) (node : Node ℕ) → node_at b n ≡ Some node → nat_lt n b.inputs ≡ false

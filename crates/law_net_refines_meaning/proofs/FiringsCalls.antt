@@ -23,7 +23,7 @@ use Rattle.law_net.specs.ContextsParts.{BackTo, signal, Item, item, each, Firing
 use Rattle.law_net.specs.ContextsBlocks.{side, Wiring, there_in, is_call, is_loop, is_strict, invokes, call_kind, loop_kind, strict_kind, source_count}
 use Rattle.law_net.specs.ContextsBlocks.{exit_kind}
 use Rattle.law_net.specs.Contexts.{Wires, block_in, site_in, wiring_in, IsContext, child}
-use Rattle.law_net.specs.ContextsTold.{told, told_at, settled_sent, landed, operand}
+use Rattle.law_net.specs.ContextsMeant.{meant, meant_at, settled_sent, landed, operand}
 use Rattle.law_net.specs.ContextsWires.{IsWiredCode, has_port}
 use Rattle.law_net.specs.ContextsFirings.{takes, makes, memory_of, arguments_from}
 use Rattle.law_net.specs.ContextsLaws.{is_main}
@@ -31,7 +31,7 @@ use Rattle.law_net.specs.ContextsOperands.{HaveOperands}
 use Rattle.law_net.proofs.ContextsBlocks.{is_main_true}
 use Rattle.law_net_refines_meaning.proofs.FiringsActs.{Acts, same, stays, follow, acts, says_acts, fires_deed, passes_deed}
 use Rattle.law_net_refines_meaning.proofs.FiringsSettles.{sends_settled}
-use Rattle.law_net_refines_meaning.proofs.FiringsWords.{none_told}
+use Rattle.law_net_refines_meaning.proofs.FiringsWords.{none_meant}
 use Rattle.law_net_refines_meaning.proofs.FiringsNodes.{kind_is, kind_of, exit_of, goes, leaves, Sent}
 use Rattle.law_net_refines_meaning.proofs.FiringsControl.{block_is, landed_call, landed_loop, along_none}
 
@@ -54,15 +54,15 @@ module _ (fl : Flow) (p : Plan) (w : Wires) (operands : HaveOperands fl) (f : Fi
   abbrev pub by : Parts.Part → Note → Note → Firing
   by r l k = record f { part = r; left = l; right = k }
 
-  abbrev pub IsToldBy : Parts.Part → Note → Note → Type 0
-  IsToldBy r l k =
-      Acts fl (flat_map (told fl) (takes fl (by r l k))) (memory_of fl fired') (flat_map (told fl) (makes fl w (by r l k))) (memory_of fl (by r l k ∷ fired'))
+  abbrev pub IsMeantBy : Parts.Part → Note → Note → Type 0
+  IsMeantBy r l k =
+      Acts fl (flat_map (meant fl) (takes fl (by r l k))) (memory_of fl fired') (flat_map (meant fl) (makes fl w (by r l k))) (memory_of fl (by r l k ∷ fired'))
 
   abbrev mem : Memory
   mem = memory_of fl fired'
 
   -- RESULTS OF MAIN
-  pub shown : (j : ℕ) (v : Value) (k : Note) → is_main c ≡ true → IsToldBy (Shown j) (Datum v) k
+  pub shown : (j : ℕ) (v : Value) (k : Note) → is_main c ≡ true → IsMeantBy (Shown j) (Datum v) k
   shown j v k main =
       let e : tagged c (AtOut j) (Operand 0) v ∷ [] ≡ taken (Outputs j v) = ap (λ (d : Context). tagged d (AtOut j) (Operand 0) v ∷ []) (is_main_true c main) in
       acts fl (Outputs j v) (tagged c (AtOut j) (Operand 0) v ∷ []) [] [] mem (with_output mem j v) (permutation_same _ _ e) refl (IsPermutation-refl [])
@@ -81,13 +81,13 @@ module _ (fl : Flow) (p : Plan) (w : Wires) (operands : HaveOperands fl) (f : Fi
   either true u e = inl refl
   either false u e = inr e
 
-  pub landing : (n j : ℕ) (v : Value) (k : Note) → there_in fl (site_in fl w c) wg (Landing n j) ≡ true → IsToldBy (Landing n j) (Datum v) k
+  pub landing : (n j : ℕ) (v : Value) (k : Note) → there_in fl (site_in fl w c) wg (Landing n j) ≡ true → IsMeantBy (Landing n j) (Datum v) k
   landing n j v k there = pick (either (is_call b n) (is_loop b n) (first_of_and _ _ there))
     where
       port : has_port fl b n j ≡ true
       port = or_left _ _ there
 
-      pick : (is_call b n ≡ true) ⊎ (is_loop b n ≡ true) → IsToldBy (Landing n j) (Datum v) k
+      pick : (is_call b n ≡ true) ⊎ (is_loop b n ≡ true) → IsMeantBy (Landing n j) (Datum v) k
       pick (inl e) =
           let (line, en, kind) = kind_is b call_kind n e in
           let old : tagged (Called c n) (AtOut j) (Operand 0) v ∷ [] ≡ landed fl c n j v (node_of fl c n) ++ [] =
@@ -151,42 +151,42 @@ module _ (fl : Flow) (p : Plan) (w : Wires) (operands : HaveOperands fl) (f : Fi
 
   -- the token of an argument
   sent_in : (n i : ℕ) (v : Value) → invokes b n ≡ true
-      → Acts fl (told_at fl c (Sender n i) Right (way_of (is_strict b n)) v) mem (operand (child fl c n) i 0 v ∷ []) mem
+      → Acts fl (meant_at fl c (Sender n i) Right (way_of (is_strict b n)) v) mem (operand (child fl c n) i 0 v ∷ []) mem
   sent_in n i v there = pick (either (is_call b n) (is_loop b n) there)
     where
       by_strict : (line : Node ℕ) → node_at b n ≡ Some line → call_kind line.kind ≡ true → is_loop b n ≡ false → (t : Bool) → is_strict b n ≡ t
-          → Acts fl (told_at fl c (Sender n i) Right (way_of t) v) mem (operand (child fl c n) i 0 v ∷ []) mem
+          → Acts fl (meant_at fl c (Sender n i) Right (way_of t) v) mem (operand (child fl c n) i 0 v ∷ []) mem
       by_strict line en kind none true e = same fl _ _ mem (ap (λ (d : Context). operand d i 0 v ∷ []) (sym (child_call n none)))
       by_strict line en kind none false e = passed_in n i v line en (child fl c n) (inl (kind, sym (kind_of b strict_kind n line en) ∙ e, child_call n none))
 
       pick : (is_call b n ≡ true) ⊎ (is_loop b n ≡ true)
-          → Acts fl (told_at fl c (Sender n i) Right (way_of (is_strict b n)) v) mem (operand (child fl c n) i 0 v ∷ []) mem
+          → Acts fl (meant_at fl c (Sender n i) Right (way_of (is_strict b n)) v) mem (operand (child fl c n) i 0 v ∷ []) mem
       pick (inl e) =
           let (line, en, kind) = kind_is b call_kind n e in
           by_strict line en kind (kind_of b loop_kind n line en ∙ call_or_loop line.kind kind) (is_strict b n) refl
       pick (inr e) =
           let (line, en, kind) = kind_is b loop_kind n e in
-          subst (λ (t : Bool). Acts fl (told_at fl c (Sender n i) Right (way_of t) v) mem (operand (child fl c n) i 0 v ∷ []) mem)
+          subst (λ (t : Bool). Acts fl (meant_at fl c (Sender n i) Right (way_of t) v) mem (operand (child fl c n) i 0 v ∷ []) mem)
           (sym (kind_of b strict_kind n line en ∙ loop_strict line.kind kind))
           (passed_in n i v line en (child fl c n) (inr (kind, child_loop n e)))
 
-  pub sender : (n i : ℕ) (l : Note) (v : Value) → there_in fl (site_in fl w c) wg (Sender n i) ≡ true → IsToldBy (Sender n i) l (Datum v)
+  pub sender : (n i : ℕ) (l : Note) (v : Value) → there_in fl (site_in fl w c) wg (Sender n i) ≡ true → IsMeantBy (Sender n i) l (Datum v)
   sender n i l v there =
       let way = way_of (is_strict b n) in
-      let right : told fl (item c (inlet (Sender n i) Right way) (Datum v)) ≡ told_at fl c (Sender n i) Right way v = refl in
-      let old : told_at fl c (Sender n i) Right way v ≡ flat_map (told fl) (takes fl (by (Sender n i) l (Datum v))) =
-      sym (append-nil _) ∙ (λ k. sym (none_told fl c (inlet (Sender n i) Left 0) l (λ v. refl)) k ++ (told_at fl c (Sender n i) Right way v ++ [])) in
-      let new : operand (child fl c n) i 0 v ∷ [] ≡ flat_map (told fl) (makes fl w (by (Sender n i) l (Datum v))) =
+      let right : meant fl (item c (inlet (Sender n i) Right way) (Datum v)) ≡ meant_at fl c (Sender n i) Right way v = refl in
+      let old : meant_at fl c (Sender n i) Right way v ≡ flat_map (meant fl) (takes fl (by (Sender n i) l (Datum v))) =
+      sym (append-nil _) ∙ (λ k. sym (none_meant fl c (inlet (Sender n i) Left 0) l (λ v. refl)) k ++ (meant_at fl c (Sender n i) Right way v ++ [])) in
+      let new : operand (child fl c n) i 0 v ∷ [] ≡ flat_map (meant fl) (makes fl w (by (Sender n i) l (Datum v))) =
       (λ k. operand (child fl c n) i 0 v ∷ sym (along_none fl p w operands f fired' ctx Here here code (Sender n i) false signal there tt (λ e. e)) k) in
-      subst (λ x. Acts fl x mem (flat_map (told fl) (makes fl w (by (Sender n i) l (Datum v)))) mem) old
-      (subst (λ x. Acts fl (told_at fl c (Sender n i) Right way v) mem x mem) new (sent_in n i v (first_of_and _ _ there)))
+      subst (λ x. Acts fl x mem (flat_map (meant fl) (makes fl w (by (Sender n i) l (Datum v)))) mem) old
+      (subst (λ x. Acts fl (meant_at fl c (Sender n i) Right way v) mem x mem) new (sent_in n i v (first_of_and _ _ there)))
 
   -- STRICT CALLS: all arguments at once
-  arguments_before : (n i : ℕ) (vs : List Value) → flat_map (told fl) (arguments_from c n 0 i vs) ≡ operands_from c (AtNode n) i vs
+  arguments_before : (n i : ℕ) (vs : List Value) → flat_map (meant fl) (arguments_from c n 0 i vs) ≡ operands_from c (AtNode n) i vs
   arguments_before n i [] = refl
   arguments_before n i (v ∷ vs) = ap (λ (l : List Tagged). operand c n i v ∷ l) (arguments_before n (i + 1) vs)
 
-  arguments_after : (n i : ℕ) (vs : List Value) → flat_map (told fl) (arguments_from c n 1 i vs) ≡ entering (Called c n) i vs
+  arguments_after : (n i : ℕ) (vs : List Value) → flat_map (meant fl) (arguments_from c n 1 i vs) ≡ entering (Called c n) i vs
   arguments_after n i [] = refl
   arguments_after n i (v ∷ vs) = ap (λ (l : List Tagged). operand (Called c n) i 0 v ∷ l) (arguments_after n (i + 1) vs)
 
@@ -198,22 +198,23 @@ module _ (fl : Flow) (p : Plan) (w : Wires) (operands : HaveOperands fl) (f : Fi
   chosen t items = if t then items else []
 
   framed : (n : ℕ) (t : Bool) → is_strict b n ≡ t → (length f.operands ≡ (if t then source_count b n else 0))
-      → Acts fl (flat_map (told fl) (chosen t (arguments_from c n 0 0 f.operands))) mem (flat_map (told fl) (chosen t (arguments_from c n 1 0 f.operands))) mem
+      → Acts fl (flat_map (meant fl) (chosen t (arguments_from c n 0 0 f.operands))) mem
+      (flat_map (meant fl) (chosen t (arguments_from c n 1 0 f.operands))) mem
   framed n false e len = same fl [] [] mem refl
   framed n true e len =
       let (line, en, kind) = kind_is b strict_kind n e in
       let count : source_count b n ≡ length line.sources = ap (λ o. elim o as (λ x. ℕ) [ None ↦ 0 | Some line ↦ length line.sources ]) en in
       let d = fires_deed fl c n f.operands b line eb en (len ∙ count) ∙ strict_deed n f.operands line.kind kind in
-      subst (λ x. Acts fl x mem (flat_map (told fl) (arguments_from c n 1 0 f.operands)) mem) (sym (arguments_before n 0 f.operands))
+      subst (λ x. Acts fl x mem (flat_map (meant fl) (arguments_from c n 1 0 f.operands)) mem) (sym (arguments_before n 0 f.operands))
       (subst (λ x. Acts fl (operands_from c (AtNode n) 0 f.operands) mem x mem) (sym (arguments_after n 0 f.operands))
       (says_acts fl (Fires c n f.operands) (Enters (Called c n) 0 f.operands) mem d))
 
-  pub framer : (n : ℕ) (l k : Note) → (length f.operands ≡ (if is_strict b n then source_count b n else 0)) → IsToldBy (Framer n) l k
+  pub framer : (n : ℕ) (l k : Note) → (length f.operands ≡ (if is_strict b n then source_count b n else 0)) → IsMeantBy (Framer n) l k
   framer n l k len =
-      let old : flat_map (told fl) (chosen (is_strict b n) (arguments_from c n 0 0 f.operands)) ≡ flat_map (told fl) (takes fl (by (Framer n) l k)) =
-      (λ i. sym (none_told fl c (inlet (Framer n) Left 0) l (λ v. refl)) i
-      ++ flat_map (told fl) (chosen (is_strict b n) (arguments_from c n 0 0 f.operands))) in
-      subst (λ x. Acts fl x mem (flat_map (told fl) (chosen (is_strict b n) (arguments_from c n 1 0 f.operands))) mem) old (framed n (is_strict b n) refl len)
+      let old : flat_map (meant fl) (chosen (is_strict b n) (arguments_from c n 0 0 f.operands)) ≡ flat_map (meant fl) (takes fl (by (Framer n) l k)) =
+      (λ i. sym (none_meant fl c (inlet (Framer n) Left 0) l (λ v. refl)) i
+      ++ flat_map (meant fl) (chosen (is_strict b n) (arguments_from c n 0 0 f.operands))) in
+      subst (λ x. Acts fl x mem (flat_map (meant fl) (chosen (is_strict b n) (arguments_from c n 1 0 f.operands))) mem) old (framed n (is_strict b n) refl len)
 
   -- TURNS
   -- the value goes to the next turn, or leaves the loop
@@ -255,18 +256,18 @@ module _ (fl : Flow) (p : Plan) (w : Wires) (operands : HaveOperands fl) (f : Fi
 
   -- the wires of a turn's switch tell just that
   turn_wires : (d : Context) (j : ℕ) (v : Value) (t : Bool) → is_turn d ≡ true
-      → turned d j v t ≡ flat_map (told fl) (each d (Datum v) (if t then inlet (NextSender (suc j)) Right 0 ∷ [] else inlet (LastReturn j) Right 0 ∷ []))
+      → turned d j v t ≡ flat_map (meant fl) (each d (Datum v) (if t then inlet (NextSender (suc j)) Right 0 ∷ [] else inlet (LastReturn j) Right 0 ∷ []))
   turn_wires Main j v t e = absurd (true≢false (sym e))
   turn_wires (Called d n) j v t e = absurd (true≢false (sym e))
   turn_wires (Turned d n i) j v true e = refl
   turn_wires (Turned d n i) j v false e = sym (append-nil _)
 
-  pub turn_value : (j : ℕ) (v u : Value) → there_in fl (site_in fl w c) wg (TurnValue (j + 1)) ≡ true → IsToldBy (TurnValue (j + 1)) (Datum v) (Datum u)
+  pub turn_value : (j : ℕ) (v u : Value) → there_in fl (site_in fl w c) wg (TurnValue (j + 1)) ≡ true → IsMeantBy (TurnValue (j + 1)) (Datum v) (Datum u)
   turn_value j v u there =
       let turn = first_of_and (is_turn c) _ there in
       let k = code.uses.turn_value j there in
       subst (λ x. Acts fl (tagged c (AtTurn (j + 1)) Carried v ∷ tagged c (AtTurn (j + 1)) Flag u ∷ []) mem x mem)
-      (turn_wires c j v (truth u) turn ∙ ap (λ l. flat_map (told fl) (each c (Datum v) l)) (wire_of (truth u) k.0 k.1)) (turn_acts c j v u turn)
+      (turn_wires c j v (truth u) turn ∙ ap (λ l. flat_map (meant fl) (each c (Datum v) l)) (wire_of (truth u) k.0 k.1)) (turn_acts c j v u turn)
     where
       same_next : suc j ≡ j + 1
       same_next = omega arith

@@ -14,11 +14,11 @@ use Rattle.semantics.specs.Plan.{Plan}
 use Rattle.semantics.specs.Meaning.{Context, Memory, AtNode, Fires, effect, deed, done, done_if, fired, fetched, stored, sent, operands_from, with_cell}
 use Rattle.semantics.specs.Meaning.{when_full, when_empty, adds, origin_at, block_of}
 use Rattle.law_net.specs.ContextsParts as Parts
-use Rattle.law_net.specs.ContextsParts.{Line, Answer, Held, inlet, Note, Datum, FrameOf, BackTo, ToHost, Item, item, each, Firing}
+use Rattle.law_net.specs.ContextsParts.{Line, Answer, InCell, inlet, Note, Datum, FrameOf, BackTo, ToHost, Item, item, each, Firing}
 use Rattle.law_net.specs.ContextsBlocks.{side, Wiring, there_in, is_kind, is_plain, is_cell, is_pair, is_store, cell_kind, plain_kind, pair_kind, store_kind}
 use Rattle.law_net.specs.ContextsBlocks.{exit_kind}
 use Rattle.law_net.specs.Contexts.{Wires, block_in, site_in, wiring_in, IsContext}
-use Rattle.law_net.specs.ContextsTold.{told, settled_sent}
+use Rattle.law_net.specs.ContextsMeant.{meant, settled_sent}
 use Rattle.law_net.specs.ContextsWires.{IsWiredCode}
 use Rattle.law_net.specs.ContextsFirings.{takes, makes, memory_of, along, back_from, value_in, stored_at, second_of, place_at, index_of, array_in, array_at}
 use Rattle.law_net.specs.ContextsFirings.{cell_of, Answers, AFault, ARead, AFill}
@@ -46,9 +46,9 @@ module _ (fl : Flow) (p : Plan) (w : Wires) (operands : HaveOperands fl) (f : Fi
   abbrev by : Parts.Part → Note → Note → Firing
   by r l k = record f { part = r; left = l; right = k }
 
-  abbrev IsToldBy : Parts.Part → Note → Note → Type 0
-  IsToldBy r l k =
-      Acts fl (flat_map (told fl) (takes fl (by r l k))) (memory_of fl fired') (flat_map (told fl) (makes fl w (by r l k))) (memory_of fl (by r l k ∷ fired'))
+  abbrev IsMeantBy : Parts.Part → Note → Note → Type 0
+  IsMeantBy r l k =
+      Acts fl (flat_map (meant fl) (takes fl (by r l k))) (memory_of fl fired') (flat_map (meant fl) (makes fl w (by r l k))) (memory_of fl (by r l k ∷ fired'))
 
   abbrev mem : Memory
   mem = memory_of fl fired'
@@ -64,7 +64,7 @@ module _ (fl : Flow) (p : Plan) (w : Wires) (operands : HaveOperands fl) (f : Fi
   exit_answer n q r (Kind.Store a) e t g = ap (λ (t : Bool). if t then side (Answer n) false else side (Line n) false) g
   exit_answer n q r k e t g = absurd (true≢false (sym e))
 
-  pub answer : (n : ℕ) (v : Value) (k : Note) → there_in fl (site_in fl w c) wg (Answer n) ≡ true → IsToldBy (Answer n) (Datum v) k
+  pub answer : (n : ℕ) (v : Value) (k : Note) → there_in fl (site_in fl w c) wg (Answer n) ≡ true → IsMeantBy (Answer n) (Datum v) k
   answer n v k there =
       let (line, en, kind) = kind_is b cell_kind n (first_of_and _ _ there) in
       subst (λ l. Acts fl l mem (Sent fl p w operands c eb Here here code v (side (Answer n) false)) mem) (sym (append-nil (settled_sent fl c n 0 v)))
@@ -79,7 +79,13 @@ module _ (fl : Flow) (p : Plan) (w : Wires) (operands : HaveOperands fl) (f : Fi
 
   abbrev request : ℕ → Value → Note → Bool → Item
   request n v k t =
-      record { context = c; inlet = inlet (Held n) Left 0; word = back_from c (wg.wire (side (Line n) false)); held = v ∷ (if t then value_in k ∷ [] else []) }
+      record {
+        context = c;
+        inlet = inlet (InCell n) Left 0;
+        word = back_from c (wg.wire (side (Line n) false));
+        held =
+            v ∷ (if t then value_in k ∷ [] else []);
+      }
 
   abbrev operands_taken : ℕ → Value → Note → Bool → List Item
   operands_taken n v k t = (item c (inlet (Line n) Left 0) (Datum v) ∷ (if t then item c (inlet (Line n) Right 0) k ∷ [] else [])) ++ []
@@ -88,20 +94,20 @@ module _ (fl : Flow) (p : Plan) (w : Wires) (operands : HaveOperands fl) (f : Fi
   IsValue k = (v : Value) × (k ≡ Datum v)
 
   asked_same : (n : ℕ) (v : Value) (k : Note) (t : Bool) → (t ≡ true → IsValue k)
-      → flat_map (told fl) (operands_taken n v k t) ≡ flat_map (told fl) (request n v k t ∷ [])
+      → flat_map (meant fl) (operands_taken n v k t) ≡ flat_map (meant fl) (request n v k t ∷ [])
   asked_same n v (Datum u) true h = refl
   asked_same n v (FrameOf d) true h = let e = (h refl).1 in absurd (cc)
   asked_same n v (BackTo d x) true h = let e = (h refl).1 in absurd (cc)
   asked_same n v ToHost true h = let e = (h refl).1 in absurd (cc)
   asked_same n v k false h = refl
 
-  pub asks : (n : ℕ) (v : Value) (k : Note) → is_cell b n ≡ true → (is_pair b n ≡ true → IsValue k) → IsToldBy (Line n) (Datum v) k
+  pub asks : (n : ℕ) (v : Value) (k : Note) → is_cell b n ≡ true → (is_pair b n ≡ true → IsValue k) → IsMeantBy (Line n) (Datum v) k
   asks n v k cell right =
       let (line, en, kind) = kind_is b cell_kind n cell in
       let pair : is_pair b n ≡ is_store b n = kind_of b pair_kind n line en ∙ same_pair line.kind kind ∙ sym (kind_of b store_kind n line en) in
-      let made = ap (λ (t : Bool). flat_map (told fl) (if t then request n v k (is_store b n) ∷ [] else along fl w (by (Line n) (Datum v) k) (Line n) false))
+      let made = ap (λ (t : Bool). flat_map (meant fl) (if t then request n v k (is_store b n) ∷ [] else along fl w (by (Line n) (Datum v) k) (Line n) false))
       (sym cell) in
-      same fl _ _ mem (asked_same n v k (is_pair b n) right ∙ ap (λ (t : Bool). flat_map (told fl) (request n v k t ∷ [])) pair ∙ made)
+      same fl _ _ mem (asked_same n v k (is_pair b n) right ∙ ap (λ (t : Bool). flat_map (meant fl) (request n v k t ∷ [])) pair ∙ made)
 
   -- WHAT THE CELL ANSWERS
   abbrev after : ℕ → List Value → Memory
@@ -245,15 +251,15 @@ module _ (fl : Flow) (p : Plan) (w : Wires) (operands : HaveOperands fl) (f : Fi
           → Acts fl (settled_sent fl c n 0 v) m (Sent fl p w operands c eb Here here code v (side (Line n) false)) m
       pick (inl e) = same fl (settled_sent fl c n 0 v) (Sent fl p w operands c eb Here here code v (side (Line n) false)) m
           (sym (append-nil (settled_sent fl c n 0 v))
-          ∙ ap (λ l. flat_map (told fl) (each c (Datum v) l)) (sym (code.uses.answers n (and_both (is_cell b n) (wg.answers n) cell e))))
+          ∙ ap (λ l. flat_map (meant fl) (each c (Datum v) l)) (sym (code.uses.answers n (and_both (is_cell b n) (wg.answers n) cell e))))
       pick (inr e) =
           goes fl p w operands c eb Here here code n 0 v (side (Line n) false) m
           (exit_of b wg n 0 found.0 found.1 ∙ exit_answer n 0 found.0.region found.0.kind found.2 false e) there (port_zero _)
 
   pub held : (n : ℕ) (l k : Note) → is_cell b n ≡ true → length f.operands ≡ (if is_store b n then 2 else 1) → Answers fl mem c n f.operands f.answer
-      → IsToldBy (Held n) l k
+      → IsMeantBy (InCell n) l k
   held n l k cell len answers =
-      let old : operands_from c (AtNode n) 0 f.operands ≡ flat_map (told fl) (takes fl (by (Held n) l k)) = sym (append-nil _) in
+      let old : operands_from c (AtNode n) 0 f.operands ≡ flat_map (meant fl) (takes fl (by (InCell n) l k)) = sym (append-nil _) in
       let act = acts fl (Fires c n f.operands) (operands_from c (AtNode n) 0 f.operands) (sent fl c n 0 f.answer) (sent fl c n 0 f.answer) mem
       (after n f.operands) (IsPermutation-refl _) (held_effect n f.operands f.answer cell len answers) (IsPermutation-refl _) in
       let all = follow fl (operands_from c (AtNode n) 0 f.operands) (sent fl c n 0 f.answer)

@@ -19,13 +19,13 @@ use Rattle.law_net.specs.ContextsParts.{Part, Line, Merge, Gate, Note, Datum, ea
 use Rattle.law_net.specs.ContextsBlocks.{Side, side, Wiring, exit, exit_kind, second_side, lies_in, there_in, is_plain, is_pair, is_cell, is_kind, plain_kind}
 use Rattle.law_net.specs.ContextsBlocks.{pair_kind, cell_kind, merge_kind, enter_kind}
 use Rattle.law_net.specs.Contexts.{Wires, block_in, site_in, wiring_in}
-use Rattle.law_net.specs.ContextsTold.{told, settled_sent, operand}
-use Rattle.law_net.specs.ContextsWires.{IsWiredCode, has_port, told_along, IsSilent}
+use Rattle.law_net.specs.ContextsMeant.{meant, settled_sent, operand}
+use Rattle.law_net.specs.ContextsWires.{IsWiredCode, has_port, meant_along, IsSilent}
 use Rattle.law_net.specs.ContextsFirings.{kind_value, line_value}
 use Rattle.law_net.specs.ContextsOperands.{HasOperands, HaveOperands}
 use Rattle.law_net_refines_meaning.proofs.FiringsActs.{Acts, stays, follow, says_acts, fires_deed, input_deed, gates_deed, passes_deed, line_past}
 use Rattle.law_net_refines_meaning.proofs.FiringsSettles.{operands_in, sends_settled}
-use Rattle.law_net_refines_meaning.proofs.FiringsWords.{told_each, none_each, IsExit, exit_is, exit_gate}
+use Rattle.law_net_refines_meaning.proofs.FiringsWords.{meant_each, none_each, IsExit, exit_is, exit_gate}
 
 -- a node of a kind is there
 pub kind_is : (b : Block ℕ) (test : Kind ℕ → Bool) (n : ℕ) → is_kind test b n ≡ true → (line : Node ℕ) × (node_at b n ≡ Some line) × (test line.kind ≡ true)
@@ -55,16 +55,16 @@ module _ (fl : Flow) (p : Plan) (w : Wires) (operands : HaveOperands fl) (c : Co
   wg = wiring_in fl w c
 
   abbrev pub Sent : Value → Side → List Tagged
-  Sent v s = flat_map (told fl) (each c (Datum v) (wg.wire s))
+  Sent v s = flat_map (meant fl) (each c (Datum v) (wg.wire s))
 
   -- what is settled goes along the wires
   pub goes : (n q : ℕ) (v : Value) (s : Side) (m : Memory) → exit b wg n q ≡ s → there_in fl (site_in fl w c) wg s.part ≡ true → has_port fl b n q ≡ true
       → Acts fl (settled_sent fl c n q v) m (Sent v s) m
   goes n q v s m e there port =
       let uses = code.uses.uses c n q v here (ap (λ (s : Side). there_in fl (site_in fl w c) wg s.part) e ∙ there) port in
-      let uses' : IsPermutation (told_along fl c v (wg.wire s)) (settled_sent fl c n q v) =
-      subst (λ (s : Side). IsPermutation (told_along fl c v (wg.wire s)) (settled_sent fl c n q v)) e uses in
-      stays fl (settled_sent fl c n q v) (Sent v s) m (IsPermutation-sym _ _ (at_first (told_each fl c v (wg.wire s)) uses'))
+      let uses' : IsPermutation (meant_along fl c v (wg.wire s)) (settled_sent fl c n q v) =
+      subst (λ (s : Side). IsPermutation (meant_along fl c v (wg.wire s)) (settled_sent fl c n q v)) e uses in
+      stays fl (settled_sent fl c n q v) (Sent v s) m (IsPermutation-sym _ _ (at_first (meant_each fl c v (wg.wire s)) uses'))
 
   -- an activity that sends on a port
   pub leaves : (a : Activity) (n q : ℕ) (v : Value) (s : Side) (m : Memory) → deed fl a ≡ Some (Says (Sends c n q v)) → exit b wg n q ≡ s
@@ -74,12 +74,12 @@ module _ (fl : Flow) (p : Plan) (w : Wires) (operands : HaveOperands fl) (c : Co
 
   -- a side that is no exit tells nothing
   pub silent : (s : Side) (k : Note) → there_in fl (site_in fl w c) wg s.part ≡ true → IsSilent s.part → ((n q : ℕ) → exit b wg n q ≢ s)
-      → flat_map (told fl) (each c k (wg.wire s)) ≡ []
+      → flat_map (meant fl) (each c k (wg.wire s)) ≡ []
   silent s k there quiet never = none_each fl c k (wg.wire s) (λ v. code.uses.nothing c s v here there quiet never)
 
   -- and so it is with a part that no node leaves at
   pub silent_part : (r : Part) (second : Bool) (k : Note) → there_in fl (site_in fl w c) wg r ≡ true → IsSilent r → (IsExit r → ⊥)
-      → flat_map (told fl) (each c k (wg.wire (side r second))) ≡ []
+      → flat_map (meant fl) (each c k (wg.wire (side r second))) ≡ []
   silent_part r second k there quiet never = silent (side r second) k there quiet (λ n q e. never (subst (λ (s : Side). IsExit s.part) e (exit_is b wg n q)))
 
   pub node_in_block : (n : ℕ) → node_of fl c n ≡ node_at b n

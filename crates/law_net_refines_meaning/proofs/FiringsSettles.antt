@@ -4,12 +4,12 @@ use Rattle.tags.specs.declared.value.Value.{Value}
 use Rattle.semantics.specs.declared.graph.Kind.{Kind}
 use Rattle.semantics.specs.declared.graph.Kind.TheVariants.{Cond}
 use Rattle.semantics.specs.Graph.{Node, Block, Flow, node_at}
-use Rattle.semantics.specs.Meaning.{Context, Statement, AtNode, Operand, Fires, Tagged, tagged, Memory, Activity, Says, Sends, Tells, deed, fired, taken}
+use Rattle.semantics.specs.Meaning.{Context, Statement, AtNode, Operand, Fires, Tagged, tagged, Memory, Activity, Says, Sends, Steers, deed, fired, taken}
 use Rattle.semantics.specs.Meaning.{block_of, block_number, block_numbered, node_of, node_in, sent}
 use Rattle.lemmas.proofs.Permutations.{Each, each_weaker}
 use Rattle.law_confluence.proofs.HistoryLaws.{tagged_is}
 use Rattle.law_confluence.proofs.ActivityUses.{UseOf, AsOperand, AsResult, AsFlag, AsCarried, Member, tokens_member, source_within}
-use Rattle.law_net.specs.ContextsTold.{settled_kind, settled_node, settled_at, settled_sent}
+use Rattle.law_net.specs.ContextsMeant.{settled_kind, settled_node, settled_at, settled_sent}
 use Rattle.law_net.specs.ContextsOperands.{HasOperands, HaveOperands}
 use Rattle.law_net_refines_meaning.proofs.FiringsActs.{Acts, same, follow, beside, says_acts, fires_deed}
 
@@ -42,10 +42,10 @@ module _ (fl : Flow) (operands : HaveOperands fl) where
       let one : 1 ≡ length node.sources = omega (arith, h) in
       let is : tagged t.context (AtNode k) (Operand 0) t.value ≡ t =
       tagged_is t t.context (AtNode k) (Operand 0) t.value refl (sym es) (sym (eq ∙ ap (λ j. Operand j) first)) refl in
-      let d : deed fl (Fires t.context k (t.value ∷ [])) ≡ Some (Says (Tells t.context k t.value)) =
+      let d : deed fl (Fires t.context k (t.value ∷ [])) ≡ Some (Says (Steers t.context k t.value)) =
       fires_deed fl t.context k (t.value ∷ []) b node eb en one ∙ ap (λ (kind : Kind ℕ). fired fl t.context k kind (t.value ∷ [])) ek in
       subst (λ (x : Tagged). Acts fl (x ∷ []) m (settled_kind fl t k Cond) m) is
-      (says_acts fl (Fires t.context k (t.value ∷ [])) (Tells t.context k t.value) m d)
+      (says_acts fl (Fires t.context k (t.value ∷ [])) (Steers t.context k t.value) m d)
 
   node_settles : (t : Tagged) (k i : ℕ) (b : Block ℕ) (node : Node ℕ) → t.statement ≡ AtNode k → t.port ≡ Operand i → block_of fl t.context ≡ Some b
       → node_at b k ≡ Some node → i < length node.sources

@@ -6,45 +6,45 @@ use Rattle.semantics.specs.declared.graph.Region.{Region}
 use Rattle.semantics.specs.declared.graph.Kind.{Kind}
 use Rattle.semantics.specs.Graph.{Node, Block, Flow, node_at}
 use Rattle.semantics.specs.Meaning.{Context, arm_of}
-use Rattle.law_net.specs.ContextsParts.{Part, Line, Answer, Gate, Merge, Landing, Held, Inlet, Note, Datum, FrameOf, BackTo, ToHost, item, each}
+use Rattle.law_net.specs.ContextsParts.{Part, Line, Answer, Gate, Merge, Landing, InCell, Inlet, Note, Datum, FrameOf, BackTo, ToHost, item, each}
 use Rattle.law_net.specs.ContextsBlocks.{Side, side, Wiring, exit, exit_kind, second_side, lies_in}
-use Rattle.law_net.specs.ContextsTold.{told, told_by, told_at}
-use Rattle.law_net.specs.ContextsWires.{told_along}
+use Rattle.law_net.specs.ContextsMeant.{meant, meant_by, meant_at}
+use Rattle.law_net.specs.ContextsWires.{meant_along}
 
 module _ (fl : Flow) where
   -- a value at an inlet
-  value_told : (c : Context) (x : Inlet) (r : Part) (v : Value) → told_by fl (item c x (Datum v)) r ≡ told_at fl c r x.port x.way v
-  value_told c x (Held n) v = refl
-  value_told c x r v = refl
+  value_meant : (c : Context) (x : Inlet) (r : Part) (v : Value) → meant_by fl (item c x (Datum v)) r ≡ meant_at fl c r x.port x.way v
+  value_meant c x (InCell n) v = refl
+  value_meant c x r v = refl
 
-  pub told_each : (c : Context) (v : Value) (xs : List Inlet) → flat_map (told fl) (each c (Datum v) xs) ≡ told_along fl c v xs
-  told_each c v [] = refl
-  told_each c v (x ∷ xs) = (λ k. value_told c x x.part v k ++ told_each c v xs k)
+  pub meant_each : (c : Context) (v : Value) (xs : List Inlet) → flat_map (meant fl) (each c (Datum v) xs) ≡ meant_along fl c v xs
+  meant_each c v [] = refl
+  meant_each c v (x ∷ xs) = (λ k. value_meant c x x.part v k ++ meant_each c v xs k)
 
   -- no value, no token
-  other_told : (c : Context) (x : Inlet) (r : Part) (k : Note) → ((v : Value) → k ≡ Datum v → ⊥) → told_by fl (item c x k) r ≡ []
-  other_told c x (Held n) k h = refl
-  other_told c x r (Datum v) h = absurd (h v refl)
-  other_told c x r (FrameOf d) h = refl
-  other_told c x r (BackTo d y) h = refl
-  other_told c x r ToHost h = refl
+  other_meant : (c : Context) (x : Inlet) (r : Part) (k : Note) → ((v : Value) → k ≡ Datum v → ⊥) → meant_by fl (item c x k) r ≡ []
+  other_meant c x (InCell n) k h = refl
+  other_meant c x r (Datum v) h = absurd (h v refl)
+  other_meant c x r (FrameOf d) h = refl
+  other_meant c x r (BackTo d y) h = refl
+  other_meant c x r ToHost h = refl
 
   -- where a value is told nothing, no word is
-  pub none_told : (c : Context) (x : Inlet) (k : Note) → ((v : Value) → told_at fl c x.part x.port x.way v ≡ []) → told fl (item c x k) ≡ []
-  none_told c x (Datum v) h = value_told c x x.part v ∙ h v
-  none_told c x (FrameOf d) h = other_told c x x.part (FrameOf d) (λ v e. cc)
-  none_told c x (BackTo d y) h = other_told c x x.part (BackTo d y) (λ v e. cc)
-  none_told c x ToHost h = other_told c x x.part ToHost (λ v e. cc)
+  pub none_meant : (c : Context) (x : Inlet) (k : Note) → ((v : Value) → meant_at fl c x.part x.port x.way v ≡ []) → meant fl (item c x k) ≡ []
+  none_meant c x (Datum v) h = value_meant c x x.part v ∙ h v
+  none_meant c x (FrameOf d) h = other_meant c x x.part (FrameOf d) (λ v e. cc)
+  none_meant c x (BackTo d y) h = other_meant c x x.part (BackTo d y) (λ v e. cc)
+  none_meant c x ToHost h = other_meant c x x.part ToHost (λ v e. cc)
 
-  others_told : (c : Context) (k : Note) (xs : List Inlet) → ((v : Value) → k ≡ Datum v → ⊥) → flat_map (told fl) (each c k xs) ≡ []
-  others_told c k [] h = refl
-  others_told c k (x ∷ xs) h = (λ i. other_told c x x.part k h i ++ others_told c k xs h i)
+  others_meant : (c : Context) (k : Note) (xs : List Inlet) → ((v : Value) → k ≡ Datum v → ⊥) → flat_map (meant fl) (each c k xs) ≡ []
+  others_meant c k [] h = refl
+  others_meant c k (x ∷ xs) h = (λ i. other_meant c x x.part k h i ++ others_meant c k xs h i)
 
-  pub none_each : (c : Context) (k : Note) (xs : List Inlet) → ((v : Value) → told_along fl c v xs ≡ []) → flat_map (told fl) (each c k xs) ≡ []
-  none_each c (Datum v) xs h = told_each c v xs ∙ h v
-  none_each c (FrameOf d) xs h = others_told c (FrameOf d) xs (λ v e. cc)
-  none_each c (BackTo d y) xs h = others_told c (BackTo d y) xs (λ v e. cc)
-  none_each c ToHost xs h = others_told c ToHost xs (λ v e. cc)
+  pub none_each : (c : Context) (k : Note) (xs : List Inlet) → ((v : Value) → meant_along fl c v xs ≡ []) → flat_map (meant fl) (each c k xs) ≡ []
+  none_each c (Datum v) xs h = meant_each c v xs ∙ h v
+  none_each c (FrameOf d) xs h = others_meant c (FrameOf d) xs (λ v e. cc)
+  none_each c (BackTo d y) xs h = others_meant c (BackTo d y) xs (λ v e. cc)
+  none_each c ToHost xs h = others_meant c ToHost xs (λ v e. cc)
 
 -- EXITS
 abbrev pub IsExit : Part → Type 0

@@ -2,12 +2,12 @@
 use Rattle.std.specs.Prelude.{ℕ}
 use Rattle.semantics.specs.Graph.{Graph, flow_of}
 use Rattle.semantics.specs.WellFormed.{WellFormed}
-use Rattle.law_net.specs.ContextsPackages.{Telling, FiringsAreTold}
+use Rattle.law_net.specs.ContextsPackages.{FiringGroup, FiringsAreMeant}
 use Rattle.law_net.specs.ContextsOperands.{HaveOperands, SourcesAreEarlier}
 
 -- each proper firing of a lawful net is some activities
-abbrev pub AllIsTold : Type 0
-AllIsTold = (telling : Telling) → FiringsAreTold telling
+abbrev pub AllIsMeant : Type 0
+AllIsMeant = (group : FiringGroup) → FiringsAreMeant group
 
 -- a well-formed graph has as many operands as its nodes want
 abbrev pub GraphsHaveOperands : Type 0

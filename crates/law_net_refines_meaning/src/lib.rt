@@ -1,10 +1,10 @@
 //! Each firing of the net of contexts is some activities of the meaning.
 //!
-//! **The statement.** `firings_are_told` (`specs/Firings`): a proper firing of a lawful net is some activities of the meaning, in any surroundings;
+//! **The statement.** `firings_are_meant` (`specs/Firings`): a proper firing of a lawful net is some activities of the meaning, in any surroundings;
 //! and a well-formed graph has as many operands as its nodes want, from earlier nodes.
 //!
 //! **Why it holds.**
-//! 1. An item stands for some tokens of the meaning, or for none (`told`, in `law_net`): an argument that waits for a frame stands for that operand
+//! 1. An item stands for some tokens of the meaning, or for none (`meant`, in `law_net`): an argument that waits for a frame stands for that operand
 //!    of the call; a signal, a frame and a continuation for none.
 //! 2. So what a firing takes and makes stands for tokens, and some activities have to lead from these to those, whatever else there is
 //!    (`FiringsActs`).
@@ -17,12 +17,12 @@
 //! **The files.** One chapter, `Firings`; `Firings` itself is all of them, `FiringsGraphs` the operands of a well-formed graph.
 #![tactic(auto)]
 
-ghost use Rattle.law_net_refines_meaning.specs.Firings.{AllIsTold, GraphsAreEarlier, GraphsHaveOperands};
+ghost use Rattle.law_net_refines_meaning.specs.Firings.{AllIsMeant, GraphsAreEarlier, GraphsHaveOperands};
 
 /// A proper firing of a lawful net is some activities of the meaning, in any surroundings. A well-formed
 /// graph has as many operands as its nodes want, and they come from earlier nodes.
-pub fn firings_are_told()
-    ensures all { AllIsTold }
+pub fn firings_are_meant()
+    ensures all { AllIsMeant }
     ensures operands { GraphsHaveOperands }
     ensures earlier { GraphsAreEarlier }
 {}

@@ -29,7 +29,7 @@ use Rattle.semantics.specs.Wired.{IsWired}
 use Rattle.semantics.specs.Holders.{Holder, holder_of, holder_at}
 use Rattle.semantics.specs.Credits.{IsPart, IsLink, IsLoop, granted, released}
 use Rattle.law_reuse.specs.Bounds.{OnlyAsks, PlanKeepsBound, PlanKeepsBounds, BoundsAreKept, CodeUsesAgain}
-use Rattle.law_reuse.proofs.SlotsStands.{Stands, stands_at}
+use Rattle.law_reuse.proofs.SlotsPlaced.{IsPlaced, stands_at}
 use Rattle.law_reuse.proofs.SlotsTurns.{is_counting}
 use Rattle.law_reuse.proofs.SlotsPlacedCode.{moved_to, Located, Nowhere, There, located}
 use Rattle.law_reuse.proofs.SlotsNeighbours.{get_index}
@@ -76,7 +76,7 @@ module _ (p : Plan) (slots : List (List ℕ)) (wired : IsWired p) (good : Good p
           let same : moved_to ss i ≡ P.instr = same_Some (moved_to ss i) P.instr (sym code_at ∙ P.is_at) in
           let is_op : i.op ≡ op = ap (λ (i : Instr). i.op) same ∙ P.does in
           let slot : slot_of i i.op ≡ Some i.slot = ap (slot_of i) is_op ∙ has i in
-          let stands : Stands p.program b n i = record { code = c; block = at_block; instr = at_instr } in
+          let stands : IsPlaced p.program b n i = record { code = c; block = at_block; instr = at_instr } in
           let mine : holder_at p ip ≡ Some record { block = b; number = i.slot } =
           ap (holder_at p) place ∙ holder_here p b n i stands ∙ ap (holder_of b) slot in
           let below = (all_at IsPlanBlock p.program.blocks b c wired.plan.blocks at_block).below i i.slot (get_contains c.instrs n i at_instr) slot in
@@ -103,7 +103,7 @@ module _ (p : Plan) (slots : List (List ℕ)) (wired : IsWired p) (good : Good p
           let is_op : i.op ≡ op = ap (λ (i : Instr). i.op) same ∙ P.does in
           let own : slot_of i i.op ≡ Some i.slot = ap (slot_of i) is_op ∙ has i in
           let at_h : i.slot ≡ h = ap (λ (i : Instr). i.slot) same ∙ P.uses in
-          let stands : Stands p.program b n i = record { code = c; block = at_block; instr = at_instr } in
+          let stands : IsPlaced p.program b n i = record { code = c; block = at_block; instr = at_instr } in
           let mine : holder_at p ip ≡ Some record { block = b; number = i.slot } = ap (holder_at p) place ∙ holder_here p b n i stands ∙ ap (holder_of b) own in
           let block : b ≡ holder.block = block_same record { block = b; number = i.slot } holder (sym mine ∙ P.holds) in
           let got : slice_get ss i.slot ≡ Some s =
@@ -258,7 +258,7 @@ module _ (p : Plan) (slots : List (List ℕ)) (wired : IsWired p) (good : Good p
               by_filled (inl e) = absurd (empty_waits (re_cont h c) (sym e ∙ waits_here))
               by_filled (inr G) =
                   let o : Opened p.program (taken H.unfolded) F G.b G.n G.i =
-                  opened_from p.program (taken H.unfolded) F G.b G.n G.i (own.last.store.slots F k) (ap is_counting waits_here) G.tells in
+                  opened_from p.program (taken H.unfolded) F G.b G.n G.i (own.last.store.slots F k) (ap is_counting waits_here) G.asserts in
                   let came = Contains-append_left (taken H.unfolded) own.last.pool (at_port p.program F G.b G.n Left o.1.0) o.1.1 in
                   let block : G.b ≡ B.b = one_frame p (taken H.unfolded) own.last.pool P F G.b B.b G.n B.n G.i B.i Left B.q o.1.0 B.w G.stands B.stands came
                   (Contains-append_left (taken H.unfolded) own.last.pool (at_port p.program F B.b B.n B.q B.w) B.came) in

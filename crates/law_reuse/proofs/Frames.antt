@@ -43,26 +43,26 @@ use Rattle.law_reuse.proofs.FramesFreed.{place, IsNaming, place_low, place_injec
 use Rattle.law_reuse.proofs.FramesFreed.{renews_next, keep_tokens, free_fold}
 
 -- a run to here in which each frame is handed out once, and these are the frames that were
-pub record Once (p : Program) (z : Size) (start : Machine) (used : ℕ → Type 0) (Tells : (events : Events) (u : Machine) → Run p z start events u → Type 0)
+pub record Once (p : Program) (z : Size) (start : Machine) (used : ℕ → Type 0) (Says : (events : Events) (u : Machine) → Run p z start events u → Type 0)
     (u : Machine) : Type 0 where
   pub events : Events
   pub run : Run p z start events u
   pub among : Each used (0 ∷ handed p z start events u run)
   pub differ : Spread Differ (0 ∷ handed p z start events u run)
   -- what else is told of it
-  pub told : Tells events u run
+  pub said : Says events u run
 
-once_told : (p : Program) (z : Size) (start : Machine) (used : ℕ → Type 0) (Tells More : (events : Events) (u : Machine) → Run p z start events u → Type 0)
-    (u : Machine) (O : Once p z start used Tells u)
+once_said : (p : Program) (z : Size) (start : Machine) (used : ℕ → Type 0) (Says More : (events : Events) (u : Machine) → Run p z start events u → Type 0)
+    (u : Machine) (O : Once p z start used Says u)
     → More O.events u O.run → Once p z start used More u
-once_told p z start used Tells More u O told = record { events = O.events; run = O.run; among = O.among; differ = O.differ; told = told }
+once_said p z start used Says More u O said = record { events = O.events; run = O.run; among = O.among; differ = O.differ; said = said }
 
 pub once_more : (p : Program) (z : Size) (start : Machine) (used more : ℕ → Type 0)
-    (Tells More : (events : Events) (u : Machine) → Run p z start events u → Type 0) (u v : Machine) (e : ℕ) (t : Token)
-    (O : Once p z start used Tells u) (ev : Event p z e t u v)
+    (Says More : (events : Events) (u : Machine) → Run p z start events u → Type 0) (u v : Machine) (e : ℕ) (t : Token)
+    (O : Once p z start used Says u) (ev : Event p z e t u v)
     → (fs : List ℕ) → handed_by t.to ev.made ≡ fs → Each more fs → Spread Differ fs → Each (λ f. used f → ⊥) fs → ((f : ℕ) → used f → more f)
     → More (O.events ++ (e, t) ∷ []) v (run_snoc p z start u v O.events e t O.run ev) → Once p z start more More v
-once_more p z start used more Tells More u v e t O ev fs same new apart fresh grows told =
+once_more p z start used more Says More u v e t O ev fs same new apart fresh grows said =
     let before : List ℕ = 0 ∷ handed p z start O.events u O.run in
     let both : handed p z start (O.events ++ (e, t) ∷ []) v (run_snoc p z start u v O.events e t O.run ev) ≡ handed p z start O.events u O.run ++ fs =
     handed_snoc p z start u v O.events e t O.run ev ∙ ap (λ (l : List ℕ). handed p z start O.events u O.run ++ l) same in
@@ -74,7 +74,7 @@ once_more p z start used more Tells More u v e t O ev fs same new apart fresh gr
           (spread_append Differ before fs O.differ apart
           (each_weaker used (λ x. Each (Differ x) fs)
           (λ x ux. each_weaker (λ f. used f → ⊥) (Differ x) (λ f nf e. nf (subst used e ux)) fs fresh) before O.among));
-      told = told;
+      said = said;
     }
 
 request_re : (h : ℕ → ℕ) (to : To) → is_request (re_to h to) ≡ is_request to
@@ -119,7 +119,7 @@ so_held P p so z old [] new r f s = refl
 so_held P p so z old (x ∷ events) new r f s = so_held P p (so_next P p so old.store x.1.to r.1.made r.0.store) z r.0 events new r.2 f s
 
 -- What is told of the unfolded run: it counts the events so far, and tells what `so` tells of the run.
-pub record Told (P : Plan) (p : Program) (z : Size) (start : Machine) (t n : ℕ) (gen : ℕ → ℕ) (done : Events) (waiting : ℕ) (so : So) (events : Events)
+pub record Said (P : Plan) (p : Program) (z : Size) (start : Machine) (t n : ℕ) (gen : ℕ → ℕ) (done : Events) (waiting : ℕ) (so : So) (events : Events)
     (u : Machine) (run : Run p z start events u) : Type 0 where
   pub counted : Counted p done events waiting
   pub holders : (f s : ℕ) → holds P p (place t gen f) s None z start events u run ≡ so.held f s
@@ -267,15 +267,15 @@ module _ (P : Plan) (p : Program) (inputs : List ℤ) (elements frames n : ℕ) 
   abbrev pub wide : Size
   wide = record { elements = elements; frames = suc n * frames }
 
-  abbrev pub Telling : (ℕ → ℕ) → Events → List Cont → So → (events : Events) (u : Machine) → Run p wide (at_start p inputs) events u → Type 0
-  Telling gen done requests so = λ events u run. Told P p wide (at_start p inputs) total n gen done (length requests) so events u run
+  abbrev pub Saying : (ℕ → ℕ) → Events → List Cont → So → (events : Events) (u : Machine) → Run p wide (at_start p inputs) events u → Type 0
+  Saying gen done requests so = λ events u run. Said P p wide (at_start p inputs) total n gen done (length requests) so events u run
 
   pub record Next (k : ℕ) (done : Events) (so : So) (new : Machine) : Type 0 where
     pub gen : ℕ → ℕ
     pub after : Machine
     pub naming : IsNaming total n k gen
     pub folds : Folds total (place total gen) new after
-    pub once : Once p wide (at_start p inputs) (Used total gen new.store.out) (Telling gen done new.store.requests so) after
+    pub once : Once p wide (at_start p inputs) (Used total gen new.store.out) (Saying gen done new.store.requests so) after
 
   abbrev pub next : So → Store → To → List Token → Store → So
   next so old to made new = so_next P p so old to made new
@@ -290,7 +290,7 @@ module _ (P : Plan) (p : Program) (inputs : List ℤ) (elements frames n : ℕ) 
   -- an event that hands out no frame and takes none back
   plain_step : (k : ℕ) (gen : ℕ → ℕ) (done : Events) (so : So) (m u new : Machine) (e : ℕ) (to : To) (w : Word) (made rest : List Token)
       → IsNaming total n (suc k) gen → Folds total (place total gen) m u
-      → Once p wide (at_start p inputs) (Used total gen m.store.out) (Telling gen done m.store.requests so) u → IsPermutation m.pool (token to w ∷ rest)
+      → Once p wide (at_start p inputs) (Used total gen m.store.out) (Saying gen done m.store.requests so) u → IsPermutation m.pool (token to w ∷ rest)
       → IsPermutation new.pool (made ++ rest)
       → handed_by (re_to (place total gen) to) (map (re_token (place total gen)) made) ≡ []
       → (new.store.out ≡ m.store.out) × (new.store.requests ≡ m.store.requests)
@@ -323,8 +323,8 @@ module _ (P : Plan) (p : Program) (inputs : List ℤ) (elements frames n : ℕ) 
                   subst (λ (cs : List Cont). IsPermutation after.pool (map (re_token h) new.pool ++ waits h cs)) (sym same.1)
                   (pool_after h new.pool made rest ws leaves);
             };
-        once = once_more p wide (at_start p inputs) (Used total gen m.store.out) (Used total gen new.store.out) (Telling gen done m.store.requests so)
-            (Telling gen (done ++ (e, token to w) ∷ []) new.store.requests (next so m.store to made new.store)) u after (element_of elements (re_to h to))
+        once = once_more p wide (at_start p inputs) (Used total gen m.store.out) (Used total gen new.store.out) (Saying gen done m.store.requests so)
+            (Saying gen (done ++ (e, token to w) ∷ []) new.store.requests (next so m.store to made new.store)) u after (element_of elements (re_to h to))
             (token (re_to h to) (re_word h w)) O ev
             [] none tt tt tt (λ f. used_same total gen m.store.out new.store.out (λ g e. ap (λ (o : ℕ → Bool). o g) same.0 ∙ e) f)
             record {
@@ -332,33 +332,33 @@ module _ (P : Plan) (p : Program) (inputs : List ℤ) (elements frames n : ℕ) 
                   subst (λ (cs : List Cont). Counted p (done ++ (e, token to w) ∷ [])
                   (O.events ++ (element_of elements (re_to h to), token (re_to h to) (re_word h w)) ∷ []) (length cs)) (sym same.1)
                   (counted_both p done O.events (length m.store.requests) e (element_of elements (re_to h to)) (token to w) (token (re_to h to) (re_word h w))
-                  (request_re h to) (credit_re p h to) O.told.counted);
+                  (request_re h to) (credit_re p h to) O.said.counted);
               holders =
                   λ f s. holds_snoc P p (h f) s None wide (at_start p inputs) u after O.events (element_of elements (re_to h to))
                   (token (re_to h to) (re_word h w)) O.run ev
-                  ∙ ap (λ (x : Option Holder). held_by_event P p (h f) s x (re_to h to) does.0) (O.told.holders f s)
+                  ∙ ap (λ (x : Option Holder). held_by_event P p (h f) s x (re_to h to) does.0) (O.said.holders f s)
                   ∙ held_re P p h (place_injective total n (suc k) gen N) f s (so.held f s) to new.store does.0 (does.2.slots f s);
               tallied =
                   λ x f. (let a = tally_snoc (count_at P p x (h f)) p wide (at_start p inputs) u after O.events (element_of elements (re_to h to))
                   (token (re_to h to) (re_word h w)) O.run ev in
-                  let b = O.told.tallied x f in
+                  let b = O.said.tallied x f in
                   let c = count_re P p x h (place_injective total n (suc k) gen N) f m.store u.store S.fold.slots to made in
                   let d = grows x f in
                   omega (arith, a, b, c, d));
               fresh =
                   λ x f j below more within. (let a = tally_snoc (count_at P p x (f + j * total)) p wide (at_start p inputs) u after O.events
                   (element_of elements (re_to h to)) (token (re_to h to) (re_word h w)) O.run ev in
-                  let b = O.told.fresh x f j below more within in
+                  let b = O.said.fresh x f j below more within in
                   let c = count_image P p x h (f + j * total) u.store to made (λ g e. place_fresh total n (suc k) gen N f j below more within g e) in
                   omega (arith, a, b, c));
-              uses = λ f below. O.told.uses f below ∙ sym (kept_count f done e (token to w) (keeps f));
+              uses = λ f below. O.said.uses f below ∙ sym (kept_count f done e (token to w) (keeps f));
             };
       }
 
   -- a request that is served, or waits
   ask_step : (k : ℕ) (gen : ℕ → ℕ) (done : Events) (so : So) (m u new : Machine) (e : ℕ) (c : Cont) (made rest : List Token) → IsNaming total n (suc k) gen
       → Folds total (place total gen) m u
-      → Once p wide (at_start p inputs) (Used total gen m.store.out) (Telling gen done m.store.requests so) u
+      → Once p wide (at_start p inputs) (Used total gen m.store.out) (Saying gen done m.store.requests so) u
       → IsPermutation m.pool (token To.Manager (Word.Back c) ∷ rest) → IsPermutation new.pool (made ++ rest)
       → Requests total m.store c made new.store → Next k (done ++ (e, token To.Manager (Word.Back c)) ∷ []) (next so m.store To.Manager made new.store) new
   ask_step k gen done so m u new e c made rest N S O takes leaves asks =
@@ -399,8 +399,8 @@ module _ (P : Plan) (p : Program) (inputs : List ℤ) (elements frames n : ℕ) 
                       subst (λ (cs : List Cont). IsPermutation after.pool (map (re_token h) new.pool ++ waits h cs)) (sym (ap (λ (s : Store). s.requests) is))
                       (pool_after h new.pool made rest ws leaves);
                 };
-            once = once_more p wide (at_start p inputs) (Used total gen m.store.out) (Used total gen new.store.out) (Telling gen done m.store.requests so)
-                (Telling gen (done ++ (e, token To.Manager (Word.Back c)) ∷ []) new.store.requests (next so m.store To.Manager made new.store)) u after 0
+            once = once_more p wide (at_start p inputs) (Used total gen m.store.out) (Used total gen new.store.out) (Saying gen done m.store.requests so)
+                (Saying gen (done ++ (e, token To.Manager (Word.Back c)) ∷ []) new.store.requests (next so m.store To.Manager made new.store)) u after 0
                 (token To.Manager (re_word h (Word.Back c))) O ev
                 (h f ∷ []) (ap (λ (l : List Token). handed_by To.Manager (map (re_token h) l)) makes) ((f, gen f, below, refl, inr (refl, is_out)), tt) (tt, tt)
                 (used_fresh total gen m.store.out f below was, tt)
@@ -410,24 +410,24 @@ module _ (P : Plan) (p : Program) (inputs : List ℤ) (elements frames n : ℕ) 
                       subst (λ (cs : List Cont). Counted p (done ++ (e, token To.Manager (Word.Back c)) ∷ [])
                       (O.events ++ (0, token To.Manager (re_word h (Word.Back c))) ∷ []) (length cs)) (sym (ap (λ (s : Store). s.requests) is))
                       (counted_both p done O.events (length m.store.requests) e 0 (token To.Manager (Word.Back c))
-                      (token To.Manager (re_word h (Word.Back c))) refl refl O.told.counted);
+                      (token To.Manager (re_word h (Word.Back c))) refl refl O.said.counted);
                   holders =
                       λ f s. holds_snoc P p (h f) s None wide (at_start p inputs) u after O.events 0 (token To.Manager (re_word h (Word.Back c))) O.run ev
-                      ∙ O.told.holders f s;
+                      ∙ O.said.holders f s;
                   tallied =
                       λ x f. (let a = tally_snoc (count_at P p x (h f)) p wide (at_start p inputs) u after O.events 0
                       (token To.Manager (re_word h (Word.Back c))) O.run ev in
-                      let b = O.told.tallied x f in
+                      let b = O.said.tallied x f in
                       let c = count_request P p x (h f) u.store (map (re_token h) made) in
                       let d = count_request P p x f m.store made in
                       omega (arith, a, b, c, d));
                   fresh =
                       λ x f j below more within. (let a = tally_snoc (count_at P p x (f + j * total)) p wide (at_start p inputs) u after O.events 0
                       (token To.Manager (re_word h (Word.Back c))) O.run ev in
-                      let b = O.told.fresh x f j below more within in
+                      let b = O.said.fresh x f j below more within in
                       let c = count_request P p x (f + j * total) u.store (map (re_token h) made) in
                       omega (arith, a, b, c));
-                  uses = λ f below. O.told.uses f below ∙ sym (kept_count f done e (token To.Manager (Word.Back c)) refl);
+                  uses = λ f below. O.said.uses f below ∙ sym (kept_count f done e (token To.Manager (Word.Back c)) refl);
                 };
           }
         where
@@ -458,23 +458,23 @@ module _ (P : Plan) (p : Program) (inputs : List ℤ) (elements frames n : ℕ) 
             folds = record { fold = fold; pool = IsPermutation-trans _ _ _ whole d };
             once =
                 subst (λ (o : ℕ → Bool). Once p wide (at_start p inputs) (Used total gen o)
-                (Telling gen (done ++ (e, t) ∷ []) new.store.requests (next so m.store To.Manager made new.store)) u) (sym out)
-                (once_told p wide (at_start p inputs) (Used total gen m.store.out) (Telling gen done m.store.requests so)
-                (Telling gen (done ++ (e, t) ∷ []) new.store.requests (next so m.store To.Manager made new.store)) u O record {
+                (Saying gen (done ++ (e, t) ∷ []) new.store.requests (next so m.store To.Manager made new.store)) u) (sym out)
+                (once_said p wide (at_start p inputs) (Used total gen m.store.out) (Saying gen done m.store.requests so)
+                (Saying gen (done ++ (e, t) ∷ []) new.store.requests (next so m.store To.Manager made new.store)) u O record {
                   counted =
                       subst (Counted p (done ++ (e, t) ∷ []) O.events) (sym (ap length more ∙ length-append m.store.requests (c ∷ [])))
-                      (counted_waits p done O.events (length m.store.requests) e (Word.Back c) O.told.counted);
-                  holders = O.told.holders;
-                  tallied = λ x f. (let b = O.told.tallied x f in let d = count_request P p x f m.store made in omega (arith, b, d));
-                  fresh = O.told.fresh;
-                  uses = λ f below. O.told.uses f below ∙ sym (kept_count f done e t refl);
+                      (counted_waits p done O.events (length m.store.requests) e (Word.Back c) O.said.counted);
+                  holders = O.said.holders;
+                  tallied = λ x f. (let b = O.said.tallied x f in let d = count_request P p x f m.store made in omega (arith, b, d));
+                  fresh = O.said.fresh;
+                  uses = λ f below. O.said.uses f below ∙ sym (kept_count f done e t refl);
                 });
           }
 
   -- a release, of a frame that nothing else names
   release_step : (k : ℕ) (gen : ℕ → ℕ) (done : Events) (so : So) (m u new : Machine) (e : ℕ) (f : ℕ) (w : Word) (made rest : List Token)
       → IsNaming total n (suc k) gen → Folds total (place total gen) m u
-      → Once p wide (at_start p inputs) (Used total gen m.store.out) (Telling gen done m.store.requests so) u → FreesOnce p inputs elements
+      → Once p wide (at_start p inputs) (Used total gen m.store.out) (Saying gen done m.store.requests so) u → FreesOnce p inputs elements
       → IsPermutation m.pool (token (To.Release f) w ∷ rest) → IsPermutation new.pool (made ++ rest) → Releases m.store f made new.store
       → Next k (done ++ (e, token (To.Release f) w) ∷ []) (next so m.store (To.Release f) made new.store) new
   release_step k gen done so m u new e f w made rest N S O frees takes leaves releases = go releases.1
@@ -550,8 +550,8 @@ module _ (P : Plan) (p : Program) (inputs : List ℤ) (elements frames n : ℕ) 
       holders2 : (g s : ℕ) → (g ≡ f) ⊎ (g ≡ f → ⊥) → holds P p (h2 g) s None wide (at_start p inputs) O.events u O.run ≡ so.held g s
       holders2 g s (inl e) =
           ap (λ (x : ℕ). holds P p (h2 x) s None wide (at_start p inputs) O.events u O.run) e ∙ none_before (h2 f) s (fresh_slots (S.fold.others (h2 f)) s)
-          ∙ sym (none_before (h f) s (free.slots s)) ∙ O.told.holders f s ∙ ap (λ (x : ℕ). so.held x s) (sym e)
-      holders2 g s (inr ne) = ap (λ (x : ℕ). holds P p x s None wide (at_start p inputs) O.events u O.run) (renews.same g ne) ∙ O.told.holders g s
+          ∙ sym (none_before (h f) s (free.slots s)) ∙ O.said.holders f s ∙ ap (λ (x : ℕ). so.held x s) (sym e)
+      holders2 g s (inr ne) = ap (λ (x : ℕ). holds P p x s None wide (at_start p inputs) O.events u O.run) (renews.same g ne) ∙ O.said.holders g s
 
       so2 : So
       so2 = next so m.store (To.Release f) made new.store
@@ -571,9 +571,9 @@ module _ (P : Plan) (p : Program) (inputs : List ℤ) (elements frames n : ℕ) 
       tallied2 x g (inl e) =
           ap (λ (y : ℕ). tally (count_at P p x (h2 y)) p wide (at_start p inputs) O.events u O.run) (sym e)
           ∙ ap (λ (j : ℕ). tally (count_at P p x (f + j * total)) p wide (at_start p inputs) O.events u O.run) gen_at
-          ∙ O.told.fresh x f (suc (gen f)) below (omega arith) (omega (arith, room)) ∙ sym (ap (λ (b : Bool). if b then 0 else so.counted x g) (eq-eqb f g e))
+          ∙ O.said.fresh x f (suc (gen f)) below (omega arith) (omega (arith, room)) ∙ sym (ap (λ (b : Bool). if b then 0 else so.counted x g) (eq-eqb f g e))
       tallied2 x g (inr ne) =
-          ap (λ (y : ℕ). tally (count_at P p x y) p wide (at_start p inputs) O.events u O.run) (renews.same g (λ e. ne (sym e))) ∙ O.told.tallied x g
+          ap (λ (y : ℕ). tally (count_at P p x y) p wide (at_start p inputs) O.events u O.run) (renews.same g (λ e. ne (sym e))) ∙ O.said.tallied x g
           ∙ sym (ap (λ (b : Bool). if b then 0 else so.counted x g) (ne_eqb f g ne))
 
       used_next : (g : ℕ) → (f ≡ g) ⊎ (f ≡ g → ⊥) → gen g ≡ release_count g done → gen2 g ≡ release_count g done2
@@ -584,15 +584,15 @@ module _ (P : Plan) (p : Program) (inputs : List ℤ) (elements frames n : ℕ) 
           omega (arith, a, b, c, old)
       used_next g (inr ne) old = put_other gen f (suc (gen f)) g ne ∙ old ∙ sym (kept_count g done e (token (To.Release f) w) (ne_eqb f g ne))
 
-      once : Once p wide (at_start p inputs) (Used total gen2 (put_at m.store.out f false)) (Telling gen2 done2 m.store.requests so2) mid
+      once : Once p wide (at_start p inputs) (Used total gen2 (put_at m.store.out f false)) (Saying gen2 done2 m.store.requests so2) mid
       once =
           once_more p wide (at_start p inputs) (Used total gen m.store.out) (Used total gen2 (put_at m.store.out f false))
-          (Telling gen done m.store.requests so) (Telling gen2 done2 m.store.requests so2) u mid 0
+          (Saying gen done m.store.requests so) (Saying gen2 done2 m.store.requests so2) u mid 0
           (token (To.Release (h f)) (re_word h w)) O ev [] refl tt tt tt (used_freed total gen m.store.out f)
           record {
             counted =
                 counted_both p done O.events (length m.store.requests) e 0 (token (To.Release f) w)
-                (token (To.Release (h f)) (re_word h w)) refl refl O.told.counted;
+                (token (To.Release (h f)) (re_word h w)) refl refl O.said.counted;
             holders =
                 λ g s. holds_snoc P p (h2 g) s None wide (at_start p inputs) u mid O.events 0 (token (To.Release (h f)) (re_word h w)) O.run ev
                 ∙ holders2 g s (cases_eq g f);
@@ -605,10 +605,10 @@ module _ (P : Plan) (p : Program) (inputs : List ℤ) (elements frames n : ℕ) 
             fresh =
                 λ x g j low more within. (let a = tally_snoc (count_at P p x (g + j * total)) p wide (at_start p inputs) u mid O.events 0
                 (token (To.Release (h f)) (re_word h w)) O.run ev in
-                let b = O.told.fresh x g j low (let l = later g (cases_eq f g) in omega (arith, l, more)) within in
+                let b = O.said.fresh x g j low (let l = later g (cases_eq f g) in omega (arith, l, more)) within in
                 let c = count_release P p x (g + j * total) (h f) u.store [] in
                 omega (arith, a, b, c));
-            uses = λ g low. used_next g (cases_eq f g) (O.told.uses g low);
+            uses = λ g low. used_next g (cases_eq f g) (O.said.uses g low);
           }
 
       same_left : left ≡ map (re_token h2) rest ++ waits h2 m.store.requests
@@ -632,7 +632,7 @@ module _ (P : Plan) (p : Program) (inputs : List ℤ) (elements frames n : ℕ) 
                   subst (λ (l : List Token). IsPermutation left (map (re_token h2) new.pool ++ l)) same
                   (subst (λ (l : List Token). IsPermutation l (map (re_token h2) new.pool ++ waits h2 m.store.requests)) (sym same_left) moved);
             };
-            once = subst (λ (s : Store). Once p wide (at_start p inputs) (Used total gen2 s.out) (Telling gen2 done2 s.requests so2) mid) (sym is) once;
+            once = subst (λ (s : Store). Once p wide (at_start p inputs) (Used total gen2 s.out) (Saying gen2 done2 s.requests so2) mid) (sym is) once;
           }
       go (inr (c, cs, waiting, makes, is)) =
           let t : Token = token To.Manager (Word.Back c) in
@@ -673,7 +673,7 @@ module _ (P : Plan) (p : Program) (inputs : List ℤ) (elements frames n : ℕ) 
             };
             once =
                 once_more p wide (at_start p inputs) (Used total gen2 (put_at m.store.out f false)) (Used total gen2 new.store.out)
-                (Telling gen2 done2 m.store.requests so2) (Telling gen2 done2 new.store.requests so2)
+                (Saying gen2 done2 m.store.requests so2) (Saying gen2 done2 new.store.requests so2)
                 mid after 0 (re_token h2 t) once ev2
                 (h2 f ∷ []) (ap (λ (l : List Token). handed_by To.Manager (map (re_token h2) l)) makes)
                 ((f, gen2 f, below, refl, inr (refl, ap (λ (o : ℕ → Bool). o f) out ∙ releases.0)), tt) (tt, tt)
@@ -683,21 +683,21 @@ module _ (P : Plan) (p : Program) (inputs : List ℤ) (elements frames n : ℕ) 
                   counted =
                       subst (λ (cs : List Cont). Counted p done2 (once.events ++ (0, re_token h2 t) ∷ []) (length cs)) (sym (ap (λ (s : Store). s.requests) is))
                       (counted_serves p done2 once.events (length cs) 0 (re_word h2 (Word.Back c))
-                      (subst (Counted p done2 once.events) (sym (length_permutation _ _ waiting)) once.told.counted));
+                      (subst (Counted p done2 once.events) (sym (length_permutation _ _ waiting)) once.said.counted));
                   holders =
-                      λ g s. holds_snoc P p (h2 g) s None wide (at_start p inputs) mid after once.events 0 (re_token h2 t) once.run ev2 ∙ once.told.holders g s;
+                      λ g s. holds_snoc P p (h2 g) s None wide (at_start p inputs) mid after once.events 0 (re_token h2 t) once.run ev2 ∙ once.said.holders g s;
                   tallied =
                       λ x g. (let a = tally_snoc (count_at P p x (h2 g)) p wide (at_start p inputs) mid after once.events 0 (re_token h2 t) once.run ev2 in
-                      let b = once.told.tallied x g in
+                      let b = once.said.tallied x g in
                       let c = count_request P p x (h2 g) mid.store (map (re_token h2) made) in
                       omega (arith, a, b, c));
                   fresh =
                       λ x g j low more within. (let a = tally_snoc (count_at P p x (g + j * total)) p wide (at_start p inputs) mid after once.events 0
                       (re_token h2 t) once.run ev2 in
-                      let b = once.told.fresh x g j low more within in
+                      let b = once.said.fresh x g j low more within in
                       let c = count_request P p x (g + j * total) mid.store (map (re_token h2) made) in
                       omega (arith, a, b, c));
-                  uses = once.told.uses;
+                  uses = once.said.uses;
                 };
           }
         where
@@ -712,7 +712,7 @@ module _ (P : Plan) (p : Program) (inputs : List ℤ) (elements frames n : ℕ) 
   -- any event
   any_step : (k : ℕ) (gen : ℕ → ℕ) (done : Events) (so : So) (m u new : Machine) (e : ℕ) (to : To) (w : Word) (made rest : List Token)
       → IsNaming total n (suc k) gen → Folds total (place total gen) m u
-      → Once p wide (at_start p inputs) (Used total gen m.store.out) (Telling gen done m.store.requests so) u → FreesOnce p inputs elements
+      → Once p wide (at_start p inputs) (Used total gen m.store.out) (Saying gen done m.store.requests so) u → FreesOnce p inputs elements
       → IsPermutation m.pool (token to w ∷ rest) → IsPermutation new.pool (made ++ rest) → Happens p total m.store to w made new.store
       → Next k (done ++ (e, token to w) ∷ []) (next so m.store to made new.store) new
   any_step k gen done so m u new e (To.Instr f ip q) w made rest N S O frees takes leaves happens =
@@ -743,7 +743,7 @@ module _ (P : Plan) (p : Program) (inputs : List ℤ) (elements frames n : ℕ) 
   -- the rest of a run
   run_steps : (extra : ℕ) (events : Events) (gen : ℕ → ℕ) (done : Events) (so : So) (m u new : Machine) → IsNaming total n (extra + length events) gen
       → Folds total (place total gen) m u
-      → Once p wide (at_start p inputs) (Used total gen m.store.out) (Telling gen done m.store.requests so) u → FreesOnce p inputs elements
+      → Once p wide (at_start p inputs) (Used total gen m.store.out) (Saying gen done m.store.requests so) u → FreesOnce p inputs elements
       → (r : Run p record { elements = elements; frames = frames } m events new)
       → Next extra (done ++ events) (so_after P p so record { elements = elements; frames = frames } m events new r) new
   run_steps extra [] gen done so m u new N S O frees r = record {
@@ -756,8 +756,8 @@ module _ (P : Plan) (p : Program) (inputs : List ℤ) (elements frames n : ℕ) 
           (IsPermutation-trans _ _ _ S.pool (IsPermutation-append_left (waits (place total gen) m.store.requests) _ _
           (IsPermutation-map (re_token (place total gen)) m.pool new.pool r.0)));
     };
-    once = subst (λ (s : Store). Once p wide (at_start p inputs) (Used total gen s.out) (Telling gen (done ++ []) s.requests so) u) (sym r.1)
-        (subst (λ (l : Events). Once p wide (at_start p inputs) (Used total gen m.store.out) (Telling gen l m.store.requests so) u) (sym (append-nil done)) O);
+    once = subst (λ (s : Store). Once p wide (at_start p inputs) (Used total gen s.out) (Saying gen (done ++ []) s.requests so) u) (sym r.1)
+        (subst (λ (l : Events). Once p wide (at_start p inputs) (Used total gen m.store.out) (Saying gen l m.store.requests so) u) (sym (append-nil done)) O);
   }
   run_steps extra (x ∷ events) gen done so m u new N S O frees r =
       let so2 : So = so_next P p so m.store x.1.to r.1.made r.0.store in
@@ -841,7 +841,7 @@ start_folds p inputs t n pos =
 
 -- ---- THE FRAME HALF OF THE LAW
 
--- The run in which each frame is used once, of a run with these events to m, of which `so` is told.
+-- The run in which each frame is used once, of a run with these events to m, of which `so` is reported.
 pub record HasOnce (P : Plan) (p : Program) (inputs : List ℤ) (z : Size) (events : Events) (so : So) (m : Machine) : Type 0 where
   pub frames : ℕ
   pub some_frame : 0 < frames
@@ -870,13 +870,13 @@ module _ (P : Plan) (p : Program) (inputs : List ℤ) (z : Size) (events : Event
       let pos : 0 < t = mul-pos some_element some_frame in
       let first = first_place t uses pos in
       let start : Once p (wide P p inputs z.elements z.frames uses some_frame) (at_start p inputs) (Used t (gen_start t uses) (at_start p inputs).store.out)
-      (Telling P p inputs z.elements z.frames uses some_frame (gen_start t uses) [] [] so_start) (at_start p inputs) =
+      (Saying P p inputs z.elements z.frames uses some_frame (gen_start t uses) [] [] so_start) (at_start p inputs) =
       record {
         events = [];
         run = (IsPermutation-refl _, refl);
         among = ((0, 0, pos, sym (zero-mul t) ∙ sum_zero (0 * t), inr (sym first.0, refl)), tt);
         differ = (tt, tt);
-        told =
+        said =
             record {
               counted = record { events = refl; requests = refl; credits = refl };
               holders = λ f s. refl;
@@ -903,8 +903,8 @@ module _ (P : Plan) (p : Program) (inputs : List ℤ) (z : Size) (events : Event
         (at_start p inputs) last_state.once.events last_state.after last_state.once.run) last_state.once.differ;
     gen = last_state.gen;
     folds = last_state.folds;
-    uses = last_state.once.told.uses;
-    counted = last_state.once.told.counted;
-    holders = last_state.once.told.holders;
-    tallied = last_state.once.told.tallied;
+    uses = last_state.once.said.uses;
+    counted = last_state.once.said.counted;
+    holders = last_state.once.said.holders;
+    tallied = last_state.once.said.tallied;
   }

@@ -18,13 +18,13 @@ use Rattle.tags.specs.declared.slot.SlotState.{SlotState}
 use Rattle.tags.specs.declared.slot.SlotState.TheVariants as Slot
 use Rattle.tags.specs.declared.slot.SlotState.TheVariants.{Empty, Credits, Waiter, Draining}
 use Rattle.semantics.specs.Program.{Instr, Program, first_of, instr_at}
-use Rattle.semantics.specs.Rule.{token, back_to, Seat, Becomes, outcome_of, rule_at, slot_of}
+use Rattle.semantics.specs.Rule.{token, back_to, Point, Becomes, outcome_of, rule_at, slot_of}
 use Rattle.semantics.specs.Machine.{CellState, Vacant, Full, Deferred, Machine, Store, Size, Event, Events, Run, input_tokens, at_start, answer, answers}
 use Rattle.semantics.specs.Machine.{put_at, with_cell, slot_in, slot_used, outputs_of, Fetches, Stores, Requests, Releases, Hosts, Happens}
 use Rattle.semantics.specs.Orderly.{NamesCont, NamesWord, NamesTo, NamesSlot, readers_of, IsFreeOf, IsFreeAtRelease}
 use Rattle.semantics.specs.Plan.{Plan}
 use Rattle.semantics.specs.Renamed.{re_cont, re_word, re_to, re_token, re_slot}
-use Rattle.law_reuse.proofs.FramesRenames.{re_seat, re_outcome, outcome_re}
+use Rattle.law_reuse.proofs.FramesRenames.{re_point, re_outcome, outcome_re}
 use Rattle.law_reuse.proofs.FramesFold.{put_same, put_other, ne_eqb}
 use Rattle.law_reuse.proofs.FramesSnoc.{run_snoc}
 use Rattle.law_reuse.proofs.BoundsTallies.{Counter, count_off}
@@ -133,13 +133,13 @@ module _ (F : ℕ) where
   becomes_same : (x y : SlotState) (a b : List Token) → Becomes x a ≡ Becomes y b → (x ≡ y) × (a ≡ b)
   becomes_same x y a b e = (cc, cc)
 
-  outcome_silent : (p : Program) (s : Seat) (i : Instr) (slot : SlotState) (q : Port) (w : Word) (v : SlotState) (made : List Token) → (s.frame ≡ F → ⊥)
+  outcome_silent : (p : Program) (s : Point) (i : Instr) (slot : SlotState) (q : Port) (w : Word) (v : SlotState) (made : List Token) → (s.frame ≡ F → ⊥)
       → (NamesSlot F slot → ⊥) → (NamesWord F w → ⊥)
       → outcome_of p s i i.op slot q w ≡ Becomes v made → (NamesSlot F v → ⊥) × ((t : Token) → Contains made t → Silent t)
   outcome_silent p s i slot q w v made ne_f ne_s ne_w e =
-      let seat : re_seat k s ≡ s = (λ j. record { frame = keep_f s.frame ne_f j; ip = s.ip }) in
-      let same : outcome_of p (re_seat k s) i i.op (re_slot k slot) q (re_word k w) ≡ outcome_of p s i i.op slot q w =
-      (λ j. outcome_of p (seat j) i i.op (keep_s slot ne_s j) q (keep_w w ne_w j)) in
+      let point : re_point k s ≡ s = (λ j. record { frame = keep_f s.frame ne_f j; ip = s.ip }) in
+      let same : outcome_of p (re_point k s) i i.op (re_slot k slot) q (re_word k w) ≡ outcome_of p s i i.op slot q w =
+      (λ j. outcome_of p (point j) i i.op (keep_s slot ne_s j) q (keep_w w ne_w j)) in
       let both = becomes_same (re_slot k v) v (map (re_token k) made) made (sym (ap (re_outcome k) e) ∙ sym (outcome_re k p s i i.op slot q w) ∙ same ∙ e) in
       (fixed_s v both.0, fixed_all made both.1)
 

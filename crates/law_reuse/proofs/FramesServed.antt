@@ -69,7 +69,7 @@ module _ (P : Plan) (p : Program) (inputs : List ℤ) (elements frames n : ℕ) 
           run = O.run;
           among = each_weaker (UsedTo J) (λ f. ⊤) (λ f x. tt) (0 ∷ handed p size (at_start p inputs) O.events u O.run) O.among;
           differ = O.differ;
-          told = O.told;
+          said = O.said;
         };
     cells = refl;
     outputs = refl;
@@ -113,7 +113,7 @@ module _ (P : Plan) (p : Program) (inputs : List ℤ) (elements frames n : ℕ) 
       once : Once p size (at_start p inputs) (UsedTo (suc J)) (Counts (length cs)) after
       once = once_more p size (at_start p inputs) (UsedTo J) (UsedTo (suc J)) (Counts (length (c ∷ cs))) (Counts (length cs)) u after 0 t O ev
           (F ∷ []) refl (inr (suc J, omega (arith, low), omega arith, refl), tt) (tt, tt) (fresh J low, tt) grows
-          (counted_serves p done O.events (length cs) 0 (Word.Back (re_cont h c)) O.told)
+          (counted_serves p done O.events (length cs) 0 (Word.Back (re_cont h c)) O.said)
 
 pub value_in_re : (h : ℕ → ℕ) (y : CellState) → value_in (re_cell h y) ≡ value_in y
 value_in_re h Vacant = refl
@@ -147,7 +147,7 @@ module _ (P : Plan) (p : Program) (inputs : List ℤ) (z : Size) (events : Event
   room : N.gen 0 + length m.store.requests ≤ many
   room =
       let a = N.naming.room 0 (pos P p inputs z.elements z.frames many some_frame some_element events N.gen m.store.out) in
-      let b = N.once.told.counted.events in
+      let b = N.once.said.counted.events in
       omega (arith, a, b)
 
   free : (j : ℕ) → N.gen 0 < j → j ≤ many → N.after.store.out (0 + j * (z.elements * z.frames)) ≡ false
@@ -173,7 +173,7 @@ module _ (P : Plan) (p : Program) (inputs : List ℤ) (z : Size) (events : Event
             (λ f. UsedTo P p inputs z.elements z.frames many some_frame some_element events N.gen m.store.out (N.gen 0) f) (λ f x. inl x)
             (0 ∷ handed p (wide P p inputs z.elements z.frames many some_frame) (at_start p inputs) N.once.events N.after N.once.run) N.once.among;
         differ = N.once.differ;
-        told = N.once.told.counted;
+        said = N.once.said.counted;
       }
 
   pub has_served : HasServed p inputs z events m
@@ -186,7 +186,7 @@ module _ (P : Plan) (p : Program) (inputs : List ℤ) (z : Size) (events : Event
     once =
         all_differ (0 ∷ handed p (wide P p inputs z.elements z.frames many some_frame) (at_start p inputs) served.once.events served.last served.once.run)
         served.once.differ;
-    counted = served.once.told;
+    counted = served.once.said;
     cells =
         λ x. ap (λ (c : ℕ → CellState). value_in (c x)) served.cells ∙ ap value_in (N.folds.fold.cells x)
         ∙ value_in_re (place (z.elements * z.frames) N.gen) (m.store.cells x);

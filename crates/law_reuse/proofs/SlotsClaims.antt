@@ -20,7 +20,7 @@ use Rattle.semantics.specs.Unfolded.{HasSlot}
 use Rattle.semantics.proofs.BlockPlaces.{first_in, first_next}
 use Rattle.law_reuse.proofs.SlotsPlacedCode.{moved_to}
 use Rattle.law_reuse.proofs.SlotsPlacedEvents.{Alone, in_slot, slot_moved}
-use Rattle.law_reuse.proofs.SlotsStands.{Stands, stands_within}
+use Rattle.law_reuse.proofs.SlotsPlaced.{IsPlaced, stands_within}
 use Rattle.law_reuse.proofs.SlotsFillings.{at_port, later_on}
 use Rattle.law_reuse.proofs.SlotsUsedArcs.{Ports, one_frame}
 
@@ -51,7 +51,7 @@ holder_in (x ∷ bs) a (suc b) n c e h =
     ∙ ap (holder_from (a + 1) bs) back ∙ holder_in bs (a + 1) b n c e h ∙ ap (λ (k : ℕ). holder_of k (slot_used (slice_get c.instrs n))) on
 
 -- the holder of an instruction
-pub holder_here : (p : Plan) (b n : ℕ) (i : Instr) → Stands p.program b n i → holder_at p (first_of p.program b + n) ≡ holder_of b (slot_of i i.op)
+pub holder_here : (p : Plan) (b n : ℕ) (i : Instr) → IsPlaced p.program b n i → holder_at p (first_of p.program b + n) ≡ holder_of b (slot_of i i.op)
 holder_here p b n i s =
     holder_in p.program.blocks 0 b n s.code s.block (stands_within p.program b n i s) ∙ ap (λ (o : Option Instr). holder_of (0 + b) (slot_used o)) s.instr
     ∙ ap (λ (k : ℕ). holder_of k (slot_of i i.op)) (zero-add b)
@@ -62,7 +62,7 @@ pub record Claim (p : Plan) (slots : List (List ℕ)) (ts : List Token) (plan : 
   pub i : Instr
   pub q : Port
   pub w : Word
-  pub stands : Stands p.program x.block n i
+  pub stands : IsPlaced p.program x.block n i
   pub came : Contains ts (at_port p.program g x.block n q w)
   pub slot : HasSlot slots x.block x.number s
   pub full : plan g x.number ≡ Empty → ⊥
@@ -91,7 +91,7 @@ claim_later p slots ts t old new g s (Some x) kept C =
 
 module _ (p : Plan) (slots : List (List ℕ)) (ts pool : List Token) (P : Ports p ts pool) (f b n : ℕ) (i : Instr) (q : Port) (w : Word) (ss : List ℕ)
     (plan : ℕ → ℕ → SlotState)
-    (stands : Stands p.program b n i) (at_slots : slice_get slots b ≡ Some ss) (inside : Contains pool (at_port p.program f b n q w))
+    (stands : IsPlaced p.program b n i) (at_slots : slice_get slots b ≡ Some ss) (inside : Contains pool (at_port p.program f b n q w))
     (alone : Alone ss (slot_of i i.op) (plan f)) where
   pub claim_block : (s : ℕ) (x : Holder) → Claim p slots ts plan f s x → x.block ≡ b
   claim_block s x C =

@@ -16,14 +16,14 @@ use Rattle.tags.specs.declared.slot.SlotState.{SlotState}
 use Rattle.tags.specs.declared.slot.SlotState.TheVariants as Slot
 use Rattle.tags.specs.declared.slot.SlotState.TheVariants.{Empty, Credits, Waiter, Draining}
 use Rattle.semantics.specs.Program.{Instr, Program, first_of}
-use Rattle.semantics.specs.Rule.{token, Seat, Outcome, Becomes, Excluded, outcome_of, rule_at, slot_of}
+use Rattle.semantics.specs.Rule.{token, Point, Outcome, Becomes, Excluded, outcome_of, rule_at, slot_of}
 use Rattle.semantics.specs.Machine.{Store as MStore, put_at, slot_in, with_slot_in, slot_used, Fires, Happens}
 use Rattle.semantics.specs.Plan.{is_open}
 use Rattle.semantics.specs.Orderly.{is_at}
 use Rattle.semantics.specs.Wired.{is_dyadic}
 use Rattle.semantics.proofs.Ports.{is_at_itself}
 use Rattle.law_reuse.proofs.FramesFold.{put_same, put_other}
-use Rattle.law_reuse.proofs.SlotsStands.{Stands, stands_at}
+use Rattle.law_reuse.proofs.SlotsPlaced.{IsPlaced, stands_at}
 use Rattle.law_reuse.proofs.SlotsTurns.{is_counting, Turn, waits_left, waits_right, meets_right, meets_left, lone, begins, counts, turn_of}
 
 -- ---- TOKENS AT PORTS
@@ -65,43 +65,43 @@ came_twice ts pool f ip q v w few a b =
 abbrev pub Opened : Program → List Token → ℕ → ℕ → ℕ → Instr → Type 0
 Opened p ts f b n i = (is_open i.op ≡ true) × Came p ts f b n Left
 
-abbrev pub Tells : Program → List Token → ℕ → ℕ → ℕ → Instr → SlotState → Type 0
-Tells p ts f b n i Empty = ⊥
-Tells p ts f b n i (Slot.Left w) = (is_dyadic i.op ≡ true) × Contains ts (at_port p f b n Left w)
-Tells p ts f b n i (Slot.Right w) = (is_dyadic i.op ≡ true) × Contains ts (at_port p f b n Right w)
-Tells p ts f b n i s = Opened p ts f b n i
+abbrev pub Says : Program → List Token → ℕ → ℕ → ℕ → Instr → SlotState → Type 0
+Says p ts f b n i Empty = ⊥
+Says p ts f b n i (Slot.Left w) = (is_dyadic i.op ≡ true) × Contains ts (at_port p f b n Left w)
+Says p ts f b n i (Slot.Right w) = (is_dyadic i.op ≡ true) × Contains ts (at_port p f b n Right w)
+Says p ts f b n i s = Opened p ts f b n i
 
 -- an instruction of holder h filled the slot
 pub record Filled (p : Program) (ts : List Token) (f h : ℕ) (s : SlotState) : Type 0 where
   pub b : ℕ
   pub n : ℕ
   pub i : Instr
-  pub stands : Stands p b n i
+  pub stands : IsPlaced p b n i
   pub holds : slot_of i i.op ≡ Some h
-  pub tells : Tells p ts f b n i s
+  pub asserts : Says p ts f b n i s
 
-tells_more : (p : Program) (ts : List Token) (t : Token) (f b n : ℕ) (i : Instr) (s : SlotState) → Tells p ts f b n i s → Tells p (ts ++ t ∷ []) f b n i s
-tells_more p ts t f b n i Empty h = h
-tells_more p ts t f b n i (Slot.Left w) h = (h.0, later_on ts t (at_port p f b n Left w) h.1)
-tells_more p ts t f b n i (Slot.Right w) h = (h.0, later_on ts t (at_port p f b n Right w) h.1)
-tells_more p ts t f b n i (Credits k) h = (h.0, (h.1.0, later_on ts t (at_port p f b n Left h.1.0) h.1.1))
-tells_more p ts t f b n i (Waiter c) h = (h.0, (h.1.0, later_on ts t (at_port p f b n Left h.1.0) h.1.1))
-tells_more p ts t f b n i (Draining k) h = (h.0, (h.1.0, later_on ts t (at_port p f b n Left h.1.0) h.1.1))
+says_more : (p : Program) (ts : List Token) (t : Token) (f b n : ℕ) (i : Instr) (s : SlotState) → Says p ts f b n i s → Says p (ts ++ t ∷ []) f b n i s
+says_more p ts t f b n i Empty h = h
+says_more p ts t f b n i (Slot.Left w) h = (h.0, later_on ts t (at_port p f b n Left w) h.1)
+says_more p ts t f b n i (Slot.Right w) h = (h.0, later_on ts t (at_port p f b n Right w) h.1)
+says_more p ts t f b n i (Credits k) h = (h.0, (h.1.0, later_on ts t (at_port p f b n Left h.1.0) h.1.1))
+says_more p ts t f b n i (Waiter c) h = (h.0, (h.1.0, later_on ts t (at_port p f b n Left h.1.0) h.1.1))
+says_more p ts t f b n i (Draining k) h = (h.0, (h.1.0, later_on ts t (at_port p f b n Left h.1.0) h.1.1))
 
 pub filled_more : (p : Program) (ts : List Token) (t : Token) (f h : ℕ) (s : SlotState) → Filled p ts f h s → Filled p (ts ++ t ∷ []) f h s
-filled_more p ts t f h s F = record { b = F.b; n = F.n; i = F.i; stands = F.stands; holds = F.holds; tells = tells_more p ts t f F.b F.n F.i s F.tells }
+filled_more p ts t f h s F = record { b = F.b; n = F.n; i = F.i; stands = F.stands; holds = F.holds; asserts = says_more p ts t f F.b F.n F.i s F.asserts }
 
-pub opened_from : (p : Program) (ts : List Token) (f b n : ℕ) (i : Instr) (s : SlotState) → is_counting s ≡ true → Tells p ts f b n i s → Opened p ts f b n i
+pub opened_from : (p : Program) (ts : List Token) (f b n : ℕ) (i : Instr) (s : SlotState) → is_counting s ≡ true → Says p ts f b n i s → Opened p ts f b n i
 opened_from p ts f b n i (Credits k) e h = h
 opened_from p ts f b n i (Waiter c) e h = h
 opened_from p ts f b n i (Draining k) e h = h
 opened_from p ts f b n i s e h = absurd (true≢false (sym e))
 
-tells_opened : (p : Program) (ts : List Token) (f b n : ℕ) (i : Instr) (s : SlotState) → is_counting s ≡ true → Opened p ts f b n i → Tells p ts f b n i s
-tells_opened p ts f b n i (Credits k) e h = h
-tells_opened p ts f b n i (Waiter c) e h = h
-tells_opened p ts f b n i (Draining k) e h = h
-tells_opened p ts f b n i s e h = absurd (true≢false (sym e))
+says_opened : (p : Program) (ts : List Token) (f b n : ℕ) (i : Instr) (s : SlotState) → is_counting s ≡ true → Opened p ts f b n i → Says p ts f b n i s
+says_opened p ts f b n i (Credits k) e h = h
+says_opened p ts f b n i (Waiter c) e h = h
+says_opened p ts f b n i (Draining k) e h = h
+says_opened p ts f b n i s e h = absurd (true≢false (sym e))
 
 pub none_some : (h : ℕ) (o : Option ℕ) → o ≡ None → o ≡ Some h → ⊥
 none_some h o a b = cc
@@ -110,8 +110,8 @@ abbrev pub EmptyOr : Program → List Token → ℕ → ℕ → SlotState → Ty
 EmptyOr p ts f h s = (s ≡ Empty) ⊎ Filled p ts f h s
 
 -- by an event of an instruction of the holder
-filled_next : (p : Program) (ts : List Token) (s : Seat) (f b n h : ℕ) (i : Instr) (slot : SlotState) (q : Port) (w : Word) (v : SlotState) (made : List Token)
-    → Stands p b n i → slot_of i i.op ≡ Some h → Turn p s i i.op slot q w v made → EmptyOr p ts f h slot → EmptyOr p (ts ++ at_port p f b n q w ∷ []) f h v
+filled_next : (p : Program) (ts : List Token) (s : Point) (f b n h : ℕ) (i : Instr) (slot : SlotState) (q : Port) (w : Word) (v : SlotState) (made : List Token)
+    → IsPlaced p b n i → slot_of i i.op ≡ Some h → Turn p s i i.op slot q w v made → EmptyOr p ts f h slot → EmptyOr p (ts ++ at_port p f b n q w ∷ []) f h v
 filled_next p ts s f b n h i slot q w v made at holds (waits_left d was port is none) before =
     let t : Token = at_port p f b n q w in
     let same : t ≡ at_port p f b n Left w = ap (λ (q : Port). at_port p f b n q w) port in
@@ -121,7 +121,7 @@ filled_next p ts s f b n h i slot q w v made at holds (waits_left d was port is 
       i = i;
       stands = at;
       holds = holds;
-      tells = subst (Tells p (ts ++ t ∷ []) f b n i) (sym is) (d, subst (Contains (ts ++ t ∷ [])) same (Contains-push ts t));
+      asserts = subst (Says p (ts ++ t ∷ []) f b n i) (sym is) (d, subst (Contains (ts ++ t ∷ [])) same (Contains-push ts t));
     }
 filled_next p ts s f b n h i slot q w v made at holds (waits_right d was port is none) before =
     let t : Token = at_port p f b n q w in
@@ -132,7 +132,7 @@ filled_next p ts s f b n h i slot q w v made at holds (waits_right d was port is
       i = i;
       stands = at;
       holds = holds;
-      tells = subst (Tells p (ts ++ t ∷ []) f b n i) (sym is) (d, subst (Contains (ts ++ t ∷ [])) same (Contains-push ts t));
+      asserts = subst (Says p (ts ++ t ∷ []) f b n i) (sym is) (d, subst (Contains (ts ++ t ∷ [])) same (Contains-push ts t));
     }
 filled_next p ts s f b n h i slot q w v made at holds (meets_right d l was port is makes) before = inl is
 filled_next p ts s f b n h i slot q w v made at holds (meets_left d r was port is makes) before = inl is
@@ -146,7 +146,7 @@ filled_next p ts s f b n h i slot q w v made at holds (begins d was port is) bef
       i = i;
       stands = at;
       holds = holds;
-      tells = tells_opened p (ts ++ t ∷ []) f b n i v is (d, (w, subst (Contains (ts ++ t ∷ [])) same (Contains-push ts t)));
+      asserts = says_opened p (ts ++ t ∷ []) f b n i v is (d, (w, subst (Contains (ts ++ t ∷ [])) same (Contains-push ts t)));
     }
 filled_next p ts s f b n h i slot q w v made at holds (counts d was port (inl is)) before = inl is
 filled_next p ts s f b n h i slot q w v made at holds (counts d was port (inr is)) (inl empty) = absurd (true≢false (sym was ∙ ap is_counting empty))
@@ -159,7 +159,7 @@ filled_next p ts s f b n h i slot q w v made at holds (counts d was port (inr is
       i = G.i;
       stands = G.stands;
       holds = G.holds;
-      tells = tells_opened p (ts ++ t ∷ []) f G.b G.n G.i v is (opened_from p (ts ++ t ∷ []) f G.b G.n G.i slot was G.tells);
+      asserts = says_opened p (ts ++ t ∷ []) f G.b G.n G.i v is (opened_from p (ts ++ t ∷ []) f G.b G.n G.i slot was G.asserts);
     }
 
 -- ---- AN INSTRUCTION'S EVENT
@@ -174,10 +174,10 @@ move_fires : (o : Outcome) (made : List Token) (f : ℕ) (r : Option ℕ) (old n
 move_fires (Excluded n) made f r old new e = absurd e
 move_fires (Becomes v ts) made f r old new e = (v, ap (λ (l : List Token). Becomes v l) (sym e.0), e.1)
 
-pub move_of : (p : Program) (total f b n : ℕ) (q : Port) (w : Word) (i : Instr) (made : List Token) (old new : MStore) → Stands p b n i
+pub move_of : (p : Program) (total f b n : ℕ) (q : Port) (w : Word) (i : Instr) (made : List Token) (old new : MStore) → IsPlaced p b n i
     → Happens p total old (To.Instr f (first_of p b + n) q) w made new → Move p f b n q w i made old new
 move_of p total f b n q w i made old new at happens =
-    let s : Seat = record { frame = f; ip = first_of p b + n } in
+    let s : Point = record { frame = f; ip = first_of p b + n } in
     let does : Fires old f (slot_of i i.op) (outcome_of p s i i.op (slot_in old f (slot_of i i.op)) q w) made new =
     subst (λ (o : Option Instr). Fires old f (slot_used o) (rule_at p s o (slot_in old f (slot_used o)) q w) made new) (stands_at p b n i at) happens in
     let m = move_fires _ made f (slot_of i i.op) old new does in
@@ -223,7 +223,7 @@ module _ (p : Program) (f b n : ℕ) (q : Port) (w : Word) (i : Instr) (made : L
     ap (slot_in old f) holds,
   )
 
-  pub filled_after : (ts : List Token) → Stands p b n i → ((g h : ℕ) → EmptyOr p ts g h (old.slots g h)) → (g h : ℕ)
+  pub filled_after : (ts : List Token) → IsPlaced p b n i → ((g h : ℕ) → EmptyOr p ts g h (old.slots g h)) → (g h : ℕ)
       → EmptyOr p (ts ++ at_port p f b n q w ∷ []) g h (new.slots g h)
   filled_after ts at before g h = go (slot_cases g h) (before g h)
     where

@@ -28,7 +28,7 @@ use Rattle.semantics.specs.Plan.{Plan, is_credit, is_open, IsPlanBlock}
 use Rattle.semantics.specs.Sharing.{Inlet, inlet, Arc, arc, arcs_to, arcs_from, arcs_in, is_port, ends_with}
 use Rattle.semantics.specs.Arcs.{UsesBy}
 use Rattle.semantics.specs.Wired.{is_dyadic, IsWired}
-use Rattle.law_reuse.proofs.SlotsStands.{Stands, stands_one}
+use Rattle.law_reuse.proofs.SlotsPlaced.{IsPlaced, stands_one}
 use Rattle.law_reuse.proofs.SlotsTurns.{is_counting, is_later, Turn, waits_left, waits_right, meets_right, meets_left, lone, begins, counts, drain_turn}
 use Rattle.law_reuse.proofs.SlotsTurns.{later_not_dyadic, open_not_dyadic, dyadic_not_credit}
 use Rattle.law_reuse.proofs.SlotsFillings.{at_port, Came, later_on, EmptyOr, opened_from, none_some, Move, turn, slot_cases, slot_new}
@@ -45,7 +45,7 @@ pub record CausedBy (p : Plan) (ts : List Token) (slots : ℕ → ℕ → SlotSt
   pub used : Used p.program ts slots f b x
 
 -- one holder's instructions
-pub holders_of : (p : Plan) (wired : IsWired p) (b m n h : ℕ) (i j : Instr) → Stands p.program b m i → Stands p.program b n j → slot_of i i.op ≡ Some h
+pub holders_of : (p : Plan) (wired : IsWired p) (b m n h : ℕ) (i j : Instr) → IsPlaced p.program b m i → IsPlaced p.program b n j → slot_of i i.op ≡ Some h
     → slot_of j j.op ≡ Some h
     → (m ≡ n) ⊎ ((is_credit i.op ≡ true) × (is_credit j.op ≡ true) × (is_open i.op && is_open j.op ≡ false))
 holders_of p wired b m n h i j s t holds others =
@@ -54,7 +54,7 @@ holders_of p wired b m n h i j s t holds others =
     (subst (λ (c : CodeBlock). slice_get c.instrs n ≡ Some j) same t.instr) holds others
 
 module _ (p : Plan) (wired : IsWired p) (ts pool : List Token) (P : Ports p ts pool) (f b n : ℕ) (q : Port) (w : Word) (i : Instr) (made : List Token)
-    (old new : MStore) (at : Stands p.program b n i)
+    (old new : MStore) (at : IsPlaced p.program b n i)
     (M : Move p.program f b n q w i made old new) (inside : Contains pool (at_port p.program f b n q w))
     (filled : (g h : ℕ) → EmptyOr p.program ts g h (old.slots g h)) where
   abbrev t : Token
@@ -70,10 +70,10 @@ module _ (p : Plan) (wired : IsWired p) (ts pool : List Token) (P : Ports p ts p
   t_met = Contains-append_right ts pool t inside
 
   -- what came to frame f before came to this block
-  came_here : (a m : ℕ) (j : Instr) (r : Port) → Stands p.program a m j → Came p.program ts f a m r → a ≡ b
+  came_here : (a m : ℕ) (j : Instr) (r : Port) → IsPlaced p.program a m j → Came p.program ts f a m r → a ≡ b
   came_here a m j r s c = one_frame p ts pool P f a b m n j i r q c.0 w s at (Contains-append_left ts pool (at_port p.program f a m r c.0) c.1) t_met
 
-  pub over_next : (g a h m : ℕ) (j : Instr) (r : Port) → Stands p.program a m j → Came p.program ts g a m r → Over p.program ts old.slots g a h
+  pub over_next : (g a h m : ℕ) (j : Instr) (r : Port) → IsPlaced p.program a m j → Came p.program ts g a m r → Over p.program ts old.slots g a h
       → Over p.program now new.slots g a h
   over_next g a h m j r s c O = go (slot_cases p.program f b n q w i made old new M g h)
     where
@@ -109,14 +109,15 @@ module _ (p : Plan) (wired : IsWired p) (ts pool : List Token) (P : Ports p ts p
       go : EmptyOr p.program ts f i.slot (Slot.Left l) → Contains ts (at_port p.program f b n Left l)
       go (inl e) = absurd (cc)
       go (inr F) =
-          let block : F.b ≡ b = came_here F.b F.n F.i Left F.stands (l, F.tells.1) in
-          let here : Stands p.program b F.n F.i = subst (λ (x : ℕ). Stands p.program x F.n F.i) block F.stands in
+          let block : F.b ≡ b = came_here F.b F.n F.i Left F.stands (l, F.asserts.1) in
+          let here : IsPlaced p.program b F.n F.i = subst (λ (x : ℕ). IsPlaced p.program x F.n F.i) block F.stands in
           place block (holders_of p wired b F.n n i.slot F.i i here at F.holds (dyadic_slot i i.op d))
         where
           place : F.b ≡ b → (F.n ≡ n) ⊎ ((is_credit F.i.op ≡ true) × (is_credit i.op ≡ true) × (is_open F.i.op && is_open i.op ≡ false))
               → Contains ts (at_port p.program f b n Left l)
           place e (inl m) =
-              subst (λ (x : ℕ). Contains ts (at_port p.program f b x Left l)) m (subst (λ (x : ℕ). Contains ts (at_port p.program f x F.n Left l)) e F.tells.1)
+              subst (λ (x : ℕ). Contains ts (at_port p.program f b x Left l)) m
+              (subst (λ (x : ℕ). Contains ts (at_port p.program f x F.n Left l)) e F.asserts.1)
           place e (inr c) = absurd (true≢false (sym c.1 ∙ dyadic_not_credit i.op d))
 
   right_came : (r : Word) → slot_in old f (slot_of i i.op) ≡ Slot.Right r → is_dyadic i.op ≡ true → Contains ts (at_port p.program f b n Right r)
@@ -125,29 +126,29 @@ module _ (p : Plan) (wired : IsWired p) (ts pool : List Token) (P : Ports p ts p
       go : EmptyOr p.program ts f i.slot (Slot.Right r) → Contains ts (at_port p.program f b n Right r)
       go (inl e) = absurd (cc)
       go (inr F) =
-          let block : F.b ≡ b = came_here F.b F.n F.i Right F.stands (r, F.tells.1) in
-          let here : Stands p.program b F.n F.i = subst (λ (x : ℕ). Stands p.program x F.n F.i) block F.stands in
+          let block : F.b ≡ b = came_here F.b F.n F.i Right F.stands (r, F.asserts.1) in
+          let here : IsPlaced p.program b F.n F.i = subst (λ (x : ℕ). IsPlaced p.program x F.n F.i) block F.stands in
           place block (holders_of p wired b F.n n i.slot F.i i here at F.holds (dyadic_slot i i.op d))
         where
           place : F.b ≡ b → (F.n ≡ n) ⊎ ((is_credit F.i.op ≡ true) × (is_credit i.op ≡ true) × (is_open F.i.op && is_open i.op ≡ false))
               → Contains ts (at_port p.program f b n Right r)
           place e (inl m) =
               subst (λ (x : ℕ). Contains ts (at_port p.program f b x Right r)) m
-              (subst (λ (x : ℕ). Contains ts (at_port p.program f x F.n Right r)) e F.tells.1)
+              (subst (λ (x : ℕ). Contains ts (at_port p.program f x F.n Right r)) e F.asserts.1)
           place e (inr c) = absurd (true≢false (sym c.1 ∙ dyadic_not_credit i.op d))
 
   -- the `open` that filled a loop's slot
   open_came : (h : ℕ) → slot_of i i.op ≡ Some h → is_counting (slot_in old f (slot_of i i.op)) ≡ true
-      → (m : ℕ) × (j : Instr) × Stands p.program b m j × (slot_of j j.op ≡ Some h) × (is_open j.op ≡ true) × Came p.program ts f b m Left
+      → (m : ℕ) × (j : Instr) × IsPlaced p.program b m j × (slot_of j j.op ≡ Some h) × (is_open j.op ≡ true) × Came p.program ts f b m Left
   open_came h holds was = go (filled_here h holds)
     where
       go : EmptyOr p.program ts f h (slot_in old f (slot_of i i.op))
-          → (m : ℕ) × (j : Instr) × Stands p.program b m j × (slot_of j j.op ≡ Some h) × (is_open j.op ≡ true) × Came p.program ts f b m Left
+          → (m : ℕ) × (j : Instr) × IsPlaced p.program b m j × (slot_of j j.op ≡ Some h) × (is_open j.op ≡ true) × Came p.program ts f b m Left
       go (inl e) = absurd (true≢false (sym was ∙ ap is_counting e))
       go (inr F) =
-          let o = opened_from p.program ts f F.b F.n F.i (slot_in old f (slot_of i i.op)) was F.tells in
+          let o = opened_from p.program ts f F.b F.n F.i (slot_in old f (slot_of i i.op)) was F.asserts in
           let block : F.b ≡ b = came_here F.b F.n F.i Left F.stands o.1 in
-          (F.n, F.i, subst (λ (x : ℕ). Stands p.program x F.n F.i) block F.stands, F.holds, o.0, subst (λ (x : ℕ). Came p.program ts f x F.n Left) block o.1)
+          (F.n, F.i, subst (λ (x : ℕ). IsPlaced p.program x F.n F.i) block F.stands, F.holds, o.0, subst (λ (x : ℕ). Came p.program ts f x F.n Left) block o.1)
 
   over_dyadic : is_dyadic i.op ≡ true → M.v ≡ Empty → Came p.program now f b n Left → Came p.program now f b n Right → (h : ℕ) → slot_of i i.op ≡ Some h
       → Over p.program now new.slots f b h
@@ -172,13 +173,13 @@ module _ (p : Plan) (wired : IsWired p) (ts pool : List Token) (P : Ports p ts p
     came = λ m j side s others port. go m j side s others port (holders_of p wired b m n h j i s at others holds);
   }
     where
-      o : (m : ℕ) × (j : Instr) × Stands p.program b m j × (slot_of j j.op ≡ Some h) × (is_open j.op ≡ true) × Came p.program ts f b m Left
+      o : (m : ℕ) × (j : Instr) × IsPlaced p.program b m j × (slot_of j j.op ≡ Some h) × (is_open j.op ≡ true) × Came p.program ts f b m Left
       o = open_came h holds was
 
-      go : (m : ℕ) (j : Instr) (side : Port) → Stands p.program b m j → slot_of j j.op ≡ Some h → is_port j.op side ≡ true
+      go : (m : ℕ) (j : Instr) (side : Port) → IsPlaced p.program b m j → slot_of j j.op ≡ Some h → is_port j.op side ≡ true
           → (m ≡ n) ⊎ ((is_credit j.op ≡ true) × (is_credit i.op ≡ true) × (is_open j.op && is_open i.op ≡ false)) → Came p.program now f b m side
       go m j side s others port (inl e) =
-          let same : j ≡ i = stands_one p.program b n j i (subst (λ (x : ℕ). Stands p.program b x j) e s) at in
+          let same : j ≡ i = stands_one p.program b n j i (subst (λ (x : ℕ). IsPlaced p.program b x j) e s) at in
           absurd (later_port i.op side d (subst (λ (j : Instr). is_port j.op side ≡ true) same port))
       go m j side s others port (inr c) = pick (credit_port j.op side c.0 port) (holders_of p wired b o.0 m h o.1 j o.2 s o.3 others)
         where

@@ -21,7 +21,7 @@ use Rattle.semantics.specs.Orderly.{is_entry, IsOrderlyRun}
 use Rattle.semantics.specs.Wired.{IsWired}
 use Rattle.law_reuse.proofs.FramesSnoc.{run_snoc, some_snoc}
 use Rattle.law_reuse.proofs.SlotsStill.{slots_or}
-use Rattle.law_reuse.proofs.SlotsStands.{Stands, stands_at, Found, found}
+use Rattle.law_reuse.proofs.SlotsPlaced.{IsPlaced, stands_at, Found, found}
 use Rattle.law_reuse.proofs.SlotsFillings.{at_port, Filled, EmptyOr, filled_more, Move, move_of, filled_after}
 use Rattle.law_reuse.proofs.SlotsUsedArcs.{arc_stands, Ports, used_same}
 use Rattle.law_reuse.proofs.SlotsFirings.{CausedBy, caused_next, caused_by}
@@ -65,7 +65,7 @@ module _ (p : Plan) (wired : IsWired p) (z : Size) (start : Machine) (events : E
   taken_here = Contains-permutation _ _ t (IsPermutation-sym _ _ ev.takes) (contains_head t ev.rest)
 
   -- the token as that at a port
-  move_here : (f b n : ℕ) (q : Port) (i : Instr) → Stands p.program b n i → t.to ≡ To.Instr f (first_of p.program b + n) q
+  move_here : (f b n : ℕ) (q : Port) (i : Instr) → IsPlaced p.program b n i → t.to ≡ To.Instr f (first_of p.program b + n) q
       → Move p.program f b n q t.word i ev.made u.store c.store
   move_here f b n q i at to =
       move_of p.program (z.elements * z.frames) f b n q t.word i ev.made u.store c.store at
@@ -126,7 +126,7 @@ module _ (p : Plan) (wired : IsWired p) (z : Size) (start : Machine) (events : E
       go (Some code) at =
           let stands = arc_stands p U.b code U.x at (subst (λ (o : Option CodeBlock). Contains (arcs_in p o) U.x) at U.is_arc) in
           let same : stands.0 ≡ U.i = same_Some stands.0 U.i (sym (stands_at p.program U.b U.x.from stands.0 stands.1) ∙ U.fired) in
-          let here : Stands p.program U.b U.x.from U.i = subst (Stands p.program U.b U.x.from) same stands.1 in
+          let here : IsPlaced p.program U.b U.x.from U.i = subst (IsPlaced p.program U.b U.x.from) same stands.1 in
           subst (λ (x : Token). CausedBy p (ts ++ x ∷ []) c.store.slots f ip r) (same_token f U.b U.x.from U.side U.taken_at)
           (caused_by p wired ts u.pool (ports_of p z start events u run O) f U.b U.x.from U.side t.word U.i ev.made u.store c.store here
           (move_here f U.b U.x.from U.side U.i here U.taken_at) (inside_here f U.b U.x.from U.side U.taken_at) K.filled

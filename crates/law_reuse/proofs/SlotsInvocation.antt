@@ -27,21 +27,21 @@ use Rattle.semantics.specs.Wired.{is_dyadic, IsWired}
 use Rattle.law_reuse.proofs.SlotsNeighbours.{alone_from}
 use Rattle.law_reuse.proofs.SlotsPlacedEvents.{Alone}
 use Rattle.law_reuse.proofs.SlotsShares.{IsKept, one_live}
-use Rattle.law_reuse.proofs.SlotsStands.{past_entries, Stands, stands_at, stands_one}
+use Rattle.law_reuse.proofs.SlotsPlaced.{past_entries, IsPlaced, stands_at, stands_one}
 use Rattle.law_reuse.proofs.SlotsTurns.{turn_of}
-use Rattle.law_reuse.proofs.SlotsFillings.{at_port, Came, Tells, EmptyOr}
+use Rattle.law_reuse.proofs.SlotsFillings.{at_port, Came, Says, EmptyOr}
 use Rattle.law_reuse.proofs.SlotsUsedArcs.{dyadic_port, open_port, Ports, one_frame, not_twice, Over, Used, no_move}
 use Rattle.law_reuse.proofs.SlotsFirings.{CausedBy}
 use Rattle.law_reuse.proofs.SlotsHistory.{taken, Kept, ports_of}
 
-tells_port : (p : Program) (ts : List Token) (f b n : ℕ) (i : Instr) (s : SlotState) → Tells p ts f b n i s
+says_port : (p : Program) (ts : List Token) (f b n : ℕ) (i : Instr) (s : SlotState) → Says p ts f b n i s
     → (q : Port) × (is_port i.op q ≡ true) × Came p ts f b n q
-tells_port p ts f b n i Empty h = absurd h
-tells_port p ts f b n i (Slot.Left w) h = (Left, dyadic_port i.op Left h.0, (w, h.1))
-tells_port p ts f b n i (Slot.Right w) h = (Right, dyadic_port i.op Right h.0, (w, h.1))
-tells_port p ts f b n i (Credits k) h = (Left, open_port i.op h.0, h.1)
-tells_port p ts f b n i (Waiter c) h = (Left, open_port i.op h.0, h.1)
-tells_port p ts f b n i (Draining k) h = (Left, open_port i.op h.0, h.1)
+says_port p ts f b n i Empty h = absurd h
+says_port p ts f b n i (Slot.Left w) h = (Left, dyadic_port i.op Left h.0, (w, h.1))
+says_port p ts f b n i (Slot.Right w) h = (Right, dyadic_port i.op Right h.0, (w, h.1))
+says_port p ts f b n i (Credits k) h = (Left, open_port i.op h.0, h.1)
+says_port p ts f b n i (Waiter c) h = (Left, open_port i.op h.0, h.1)
+says_port p ts f b n i (Draining k) h = (Left, open_port i.op h.0, h.1)
 
 not_excluded : (o : Outcome) → excluded_by o ≡ None → (v : SlotState) × (made : List Token) × (o ≡ Becomes v made)
 not_excluded (Becomes v made) e = (v, made, refl)
@@ -57,14 +57,14 @@ pub record Pending (p : Program) (pool : List Token) (f b h : ℕ) : Type 0 wher
   pub j : Instr
   pub q : Port
   pub w : Word
-  pub stands : Stands p b n j
+  pub stands : IsPlaced p b n j
   pub holds : slot_of j j.op ≡ Some h
   pub waits : Contains pool (at_port p f b n q w)
 
 module _ (p : Plan) (wired : IsWired p) (z : Size) (start : Machine) (events : Events) (u : Machine) (run : Run p.program z start events u)
     (O : IsOrderlyRun p z start events u run)
     (K : Kept p z start events u run (taken events)) (f b : ℕ) (c : CodeBlock) (at : slice_get p.program.blocks b ≡ Some c)
-    (n0 : ℕ) (i0 : Instr) (q0 : Port) (w0 : Word) (stands0 : Stands p.program b n0 i0)
+    (n0 : ℕ) (i0 : Instr) (q0 : Port) (w0 : Word) (stands0 : IsPlaced p.program b n0 i0)
     (met0 : Contains (taken events ++ u.pool) (at_port p.program f b n0 q0 w0)) where
   abbrev ts : List Token
   ts = taken events
@@ -81,23 +81,23 @@ module _ (p : Plan) (wired : IsWired p) (z : Size) (start : Machine) (events : E
   abbrev Live : ℕ → Type 0
   Live h = (u.store.slots f h ≡ Empty → ⊥) ⊎ Pending p.program u.pool f b h
 
-  stands_here : (n : ℕ) (i : Instr) → slice_get c.instrs n ≡ Some i → Stands p.program b n i
+  stands_here : (n : ℕ) (i : Instr) → slice_get c.instrs n ≡ Some i → IsPlaced p.program b n i
   stands_here n i e = record { code = c; block = at; instr = e }
 
-  instr_here : (n : ℕ) (i : Instr) → Stands p.program b n i → slice_get c.instrs n ≡ Some i
+  instr_here : (n : ℕ) (i : Instr) → IsPlaced p.program b n i → slice_get c.instrs n ≡ Some i
   instr_here n i s = subst (λ (d : CodeBlock). slice_get d.instrs n ≡ Some i) (same_Some s.code c (sym s.block ∙ at)) s.instr
 
-  holds_here : (n h : ℕ) (i : Instr) → Stands p.program b n i → slot_of i i.op ≡ Some h → Holds (slice_get p.program.blocks b) h n i
+  holds_here : (n h : ℕ) (i : Instr) → IsPlaced p.program b n i → slot_of i i.op ≡ Some h → Holds (slice_get p.program.blocks b) h n i
   holds_here n h i s holds = (ap (λ (o : Option CodeBlock). instr_in o n) at ∙ instr_here n i s, holds)
 
-  held_there : (n h : ℕ) (i : Instr) → Holds (slice_get p.program.blocks b) h n i → Stands p.program b n i
+  held_there : (n h : ℕ) (i : Instr) → Holds (slice_get p.program.blocks b) h n i → IsPlaced p.program b n i
   held_there n h i holds = stands_here n i (sym (ap (λ (o : Option CodeBlock). instr_in o n) at) ∙ holds.0)
 
   arcs_here : (x : Arc) → Contains (arcs_in p (slice_get p.program.blocks b)) x → Contains (arcs_of p 0 c.instrs) x
   arcs_here x inside = subst (λ (o : Option CodeBlock). Contains (arcs_in p o) x) at inside
 
   -- all that came to the frame came to this block
-  block_is : (a m : ℕ) (j : Instr) (r : Port) → Stands p.program a m j → Came p.program ts f a m r → a ≡ b
+  block_is : (a m : ℕ) (j : Instr) (r : Port) → IsPlaced p.program a m j → Came p.program ts f a m r → a ≡ b
   block_is a m j r s k = one_frame p ts u.pool P f a b m n0 j i0 r q0 k.0 w0 s stands0 (Contains-append_left ts u.pool (at_port p.program f a m r k.0) k.1) met0
 
   causes : (q : Inlet) (x : Arc) → Contains (arcs_in p (slice_get p.program.blocks b)) x → x.to ≡ q → Met q
@@ -127,10 +127,10 @@ module _ (p : Plan) (wired : IsWired p) (z : Size) (start : Machine) (events : E
         subst (λ (b : ℕ). Used p.program ts u.store.slots f b C.x) same C.used,
       )
 
-  within : (n : ℕ) (i : Instr) → Stands p.program b n i → n < length c.instrs
+  within : (n : ℕ) (i : Instr) → IsPlaced p.program b n i → n < length c.instrs
   within n i s = slice_get_within c.instrs n i (instr_here n i s)
 
-  met_from : (n : ℕ) (i : Instr) (r : Port) → Stands p.program b n i → Came p.program ts f b n r → Met (inlet n r)
+  met_from : (n : ℕ) (i : Instr) (r : Port) → IsPlaced p.program b n i → Came p.program ts f b n r → Met (inlet n r)
   met_from n i r s k = (within n i s, (k.0, Contains-append_left ts u.pool (at_port p.program f b n r k.0) k.1))
 
   fired : (y : Arc) (side : Port) (x : Arc) → Contains (arcs_in p (slice_get p.program.blocks b)) x → x.to ≡ inlet y.from side → UsedHere y
@@ -163,9 +163,9 @@ module _ (p : Plan) (wired : IsWired p) (z : Size) (start : Machine) (events : E
       go : EmptyOr p.program ts f h (u.store.slots f h) → (q : Inlet) × IsHolderPort (slice_get p.program.blocks b) h q × Met q
       go (inl e) = absurd (full e)
       go (inr F) =
-          let port = tells_port p.program ts f F.b F.n F.i (u.store.slots f h) F.tells in
+          let port = says_port p.program ts f F.b F.n F.i (u.store.slots f h) F.asserts in
           let same : F.b ≡ b = block_is F.b F.n F.i port.0 F.stands port.2 in
-          let s : Stands p.program b F.n F.i = subst (λ (b : ℕ). Stands p.program b F.n F.i) same F.stands in
+          let s : IsPlaced p.program b F.n F.i = subst (λ (b : ℕ). IsPlaced p.program b F.n F.i) same F.stands in
           let k : Came p.program ts f b F.n port.0 = subst (λ (b : ℕ). Came p.program ts f b F.n port.0) same port.2 in
           (inlet F.n port.0, (F.i, holds_here F.n h F.i s F.holds, port.1), met_from F.n F.i port.0 s k)
 
@@ -227,7 +227,7 @@ module _ (p : Plan) (wired : IsWired p) (z : Size) (start : Machine) (events : E
 
   -- every other holder of the slot of an instruction for which a token waits is empty
   pub alone_here : (slots : List (List ℕ)) → Good p slots → (ss : List ℕ) → slice_get slots b ≡ Some ss → (n : ℕ) (i : Instr) (q : Port) (w : Word)
-      → Stands p.program b n i
+      → IsPlaced p.program b n i
       → Contains u.pool (at_port p.program f b n q w) → Alone ss (slot_of i i.op) (u.store.slots f)
   alone_here slots good ss at_ss n i q w s inside =
       alone_from p slots good b c ss at at_ss Met UsedHere Live is_kept (u.store.slots f) (λ k full. inl full) i

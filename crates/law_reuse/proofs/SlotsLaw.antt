@@ -11,7 +11,7 @@ use Rattle.tags.specs.declared.token.Token.{Token}
 use Rattle.tags.specs.declared.slot.SlotState.{SlotState}
 use Rattle.tags.specs.declared.slot.SlotState.TheVariants.{Empty}
 use Rattle.semantics.specs.Program.{Instr, instr_at}
-use Rattle.semantics.specs.Rule.{token, Seat, rule_at, outcome_of, slot_of}
+use Rattle.semantics.specs.Rule.{token, Point, rule_at, outcome_of, slot_of}
 use Rattle.semantics.specs.Machine.{Machine, Size, Events, at_start, slot_in, slot_used, outputs_of, excluded_by, unless_value, filled, host_rule, stuck_rule}
 use Rattle.semantics.specs.Plan.{Plan}
 use Rattle.semantics.specs.Sharing.{Good, placed_slot}
@@ -24,7 +24,7 @@ use Rattle.law_reuse.specs.Slots.{HasOwnSlots, OnceRunsAreOwn}
 use Rattle.law_reuse.proofs.SlotsPlacedCode.{outcome_same, moved_to, Located, Nowhere, There, located, first_same, Agrees}
 use Rattle.law_reuse.proofs.SlotsPlacedEvents.{Alone, in_slot, slot_moved, slot_same}
 use Rattle.law_reuse.proofs.SlotsOtherEvents.{Same, results_same}
-use Rattle.law_reuse.proofs.SlotsStands.{Stands}
+use Rattle.law_reuse.proofs.SlotsPlaced.{IsPlaced}
 use Rattle.law_reuse.proofs.SlotsFillings.{at_port}
 use Rattle.law_reuse.proofs.SlotsUsedArcs.{Ports}
 use Rattle.law_reuse.proofs.SlotsHistory.{taken, ports_of}
@@ -103,8 +103,8 @@ module _ (p : Plan) (slots : List (List ℕ)) (wired : IsWired p) (good : Good p
       by_instr f ip q w to word (There b n ss d i at_slots at_block at_instr plan_at code_at place) =
           let u : Machine = own.last in
           let r : ℕ = placed_slot ss (slot_of i i.op) in
-          let seat : Seat = record { frame = f; ip = ip } in
-          let stands : Stands p.program b n i = record { code = d; block = at_block; instr = at_instr } in
+          let point : Point = record { frame = f; ip = ip } in
+          let stands : IsPlaced p.program b n i = record { code = d; block = at_block; instr = at_instr } in
           let is : t ≡ at_port p.program f b n q w = (λ k. record { to = (to ∙ ap (λ (ip : ℕ). To.Instr f ip q) place) k; word = word k }) in
           let here : Contains u.pool (at_port p.program f b n q w) = subst (Contains u.pool) is inside_u in
           let agrees : Agrees ss (m.store.slots f) (u.store.slots f) =
@@ -115,12 +115,12 @@ module _ (p : Plan) (slots : List (List ℕ)) (wired : IsWired p) (good : Good p
           (Contains-append_right (taken events) u.pool (at_port p.program f b n q w) here) slots good ss at_slots n i q w stands here in
           let slot : slot_in m.store f (in_slot r (slot_of i i.op)) ≡ slot_in u.store f (slot_of i i.op) =
           slot_same ss f m.store u.store (slot_of i i.op) alone agrees in
-          ap (λ (o : Option Instr). excluded_by (rule_at (placed p slots) seat o (slot_in m.store f (slot_used o)) q w)) code_at
-          ∙ ap (λ (o : Option ℕ). excluded_by (outcome_of (placed p slots) seat (moved_to ss i) i.op (slot_in m.store f o) q w)) (slot_moved i r i.op)
-          ∙ ap excluded_by (outcome_same p.program (placed_blocks slots p.program.blocks) seat i r (first_same p.program slots good.all) i.op
+          ap (λ (o : Option Instr). excluded_by (rule_at (placed p slots) point o (slot_in m.store f (slot_used o)) q w)) code_at
+          ∙ ap (λ (o : Option ℕ). excluded_by (outcome_of (placed p slots) point (moved_to ss i) i.op (slot_in m.store f o) q w)) (slot_moved i r i.op)
+          ∙ ap excluded_by (outcome_same p.program (placed_blocks slots p.program.blocks) point i r (first_same p.program slots good.all) i.op
           (slot_in m.store f (in_slot r (slot_of i i.op))) q w)
-          ∙ ap (λ (s : SlotState). excluded_by (outcome_of p.program seat i i.op s q w)) slot
-          ∙ sym (ap (λ (o : Option Instr). excluded_by (rule_at p.program seat o (slot_in u.store f (slot_used o)) q w)) plan_at)
+          ∙ ap (λ (s : SlotState). excluded_by (outcome_of p.program point i i.op s q w)) slot
+          ∙ sym (ap (λ (o : Option Instr). excluded_by (rule_at p.program point o (slot_in u.store f (slot_used o)) q w)) plan_at)
 
       same : Same m.store own.last.store
       same = own.tied.same
@@ -151,7 +151,7 @@ module _ (p : Plan) (slots : List (List ℕ)) (wired : IsWired p) (good : Good p
       go (Nowhere at none) = absurd (none_some (instr_at (placed p slots) ip) none uses)
       go (There b n ss d i at_slots at_block at_instr plan_at code_at place) = pick (so.held f s) refl (own.claims f s)
         where
-          stands : Stands p.program b n i
+          stands : IsPlaced p.program b n i
           stands = record { code = d; block = at_block; instr = at_instr }
 
           here : Contains own.last.pool (at_port p.program f b n q w)

@@ -14,7 +14,7 @@ use Rattle.tags.specs.declared.slot.SlotState.TheVariants.{Empty, Credits, Waite
 use Rattle.semantics.specs.declared.program.Op.{Op}
 use Rattle.semantics.specs.declared.program.Op.TheVariants.{Apply2, Sync, Switch, Store, Link, Send, Return, Ask, Open, Take, Give, Drain, Release}
 use Rattle.semantics.specs.Program.{Instr, CodeBlock, Program, first_of, instr_from}
-use Rattle.semantics.specs.Rule.{token, signal, Seat, to_each, to_all, landing_at, fires, fire_one, fire_two, meets, alone, outcome_of, slot_of}
+use Rattle.semantics.specs.Rule.{token, signal, Point, to_each, to_all, landing_at, fires, fire_one, fire_two, meets, alone, outcome_of, slot_of}
 use Rattle.semantics.specs.Machine.{put_at}
 use Rattle.semantics.specs.Sharing.{placed_slot, placed_instrs}
 use Rattle.semantics.specs.Placed.{placed_blocks}
@@ -23,7 +23,7 @@ use Rattle.law_reuse.proofs.FramesFold.{put_same, put_other}
 
 -- ---- the same rule
 
-module _ (p : Program) (bs : List CodeBlock) (s : Seat) (i : Instr) (r : ℕ)
+module _ (p : Program) (bs : List CodeBlock) (s : Point) (i : Instr) (r : ℕ)
     (firsts : (b : ℕ) → first_of record { blocks = bs; arrays = p.arrays; main = p.main } b ≡ first_of p b) where
   abbrev other : Program
   other = record { blocks = bs; arrays = p.arrays; main = p.main }

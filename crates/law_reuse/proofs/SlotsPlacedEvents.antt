@@ -10,7 +10,7 @@ use Rattle.tags.specs.declared.slot.SlotState.TheVariants.{Empty}
 use Rattle.semantics.specs.declared.program.Op.{Op}
 use Rattle.semantics.specs.declared.program.Op.TheVariants.{Apply2, Sync, Switch, Store, Send, Return, Ask, Open, Take, Give, Drain, Release}
 use Rattle.semantics.specs.Program.{Instr, Program, instr_at}
-use Rattle.semantics.specs.Rule.{Seat, Outcome, Becomes, Excluded, outcome_of, rule_at, slot_of}
+use Rattle.semantics.specs.Rule.{Point, Outcome, Becomes, Excluded, outcome_of, rule_at, slot_of}
 use Rattle.semantics.specs.Machine.{Store as MStore, put_at, with_slot, slot_in, slot_used, Fires, Happens}
 use Rattle.semantics.specs.Plan.{Plan}
 use Rattle.semantics.specs.Sharing.{placed_slot}
@@ -109,19 +109,19 @@ pub instr_placed : (p : Plan) (slots : List (List ℕ)) → length slots ≡ len
     → Happens (placed p slots) t m (To.Instr f ip q) w made new → Shown ss f u new m (λ after. Happens p.program t u (To.Instr f ip q) w made after)
 instr_placed p slots long t m u new f ip q w made ss i at moved only A e =
     let r : ℕ = placed_slot ss (slot_of i i.op) in
-    let seat : Seat = record { frame = f; ip = ip } in
+    let point : Point = record { frame = f; ip = ip } in
     let code : Program = placed p slots in
-    let one : Fires m f (slot_of (moved_to ss i) i.op) (outcome_of code seat (moved_to ss i) i.op (slot_in m f (slot_of (moved_to ss i) i.op)) q w) made new =
-    subst (λ (o : Option Instr). Fires m f (slot_used o) (rule_at code seat o (slot_in m f (slot_used o)) q w) made new) moved e in
-    let two : Fires m f (in_slot r (slot_of i i.op)) (outcome_of code seat (moved_to ss i) i.op (slot_in m f (in_slot r (slot_of i i.op))) q w) made new =
-    subst (λ (o : Option ℕ). Fires m f o (outcome_of code seat (moved_to ss i) i.op (slot_in m f o) q w) made new) (slot_moved i r i.op) one in
-    let three : Fires m f (in_slot r (slot_of i i.op)) (outcome_of p.program seat i i.op (slot_in m f (in_slot r (slot_of i i.op))) q w) made new =
+    let one : Fires m f (slot_of (moved_to ss i) i.op) (outcome_of code point (moved_to ss i) i.op (slot_in m f (slot_of (moved_to ss i) i.op)) q w) made new =
+    subst (λ (o : Option Instr). Fires m f (slot_used o) (rule_at code point o (slot_in m f (slot_used o)) q w) made new) moved e in
+    let two : Fires m f (in_slot r (slot_of i i.op)) (outcome_of code point (moved_to ss i) i.op (slot_in m f (in_slot r (slot_of i i.op))) q w) made new =
+    subst (λ (o : Option ℕ). Fires m f o (outcome_of code point (moved_to ss i) i.op (slot_in m f o) q w) made new) (slot_moved i r i.op) one in
+    let three : Fires m f (in_slot r (slot_of i i.op)) (outcome_of p.program point i i.op (slot_in m f (in_slot r (slot_of i i.op))) q w) made new =
     subst (λ (o : Outcome). Fires m f (in_slot r (slot_of i i.op)) o made new)
-    (outcome_same p.program (placed_blocks slots p.program.blocks) seat i r (first_same p.program slots long) i.op
+    (outcome_same p.program (placed_blocks slots p.program.blocks) point i r (first_same p.program slots long) i.op
     (slot_in m f (in_slot r (slot_of i i.op))) q w) two in
-    let shown = slot_fires ss f m u new (slot_of i i.op) (λ (v : SlotState). outcome_of p.program seat i i.op v q w) made only A three in (
+    let shown = slot_fires ss f m u new (slot_of i i.op) (λ (v : SlotState). outcome_of p.program point i i.op v q w) made only A three in (
       shown.0,
-      subst (λ (o : Option Instr). Fires u f (slot_used o) (rule_at p.program seat o (slot_in u f (slot_used o)) q w) made shown.0) (sym at) shown.1,
+      subst (λ (o : Option Instr). Fires u f (slot_used o) (rule_at p.program point o (slot_in u f (slot_used o)) q w) made shown.0) (sym at) shown.1,
       shown.2,
       shown.3,
       shown.4,

@@ -34,7 +34,7 @@ use Rattle.semantics.specs.Credits.{granted_in, released_in}
 use Rattle.law_reuse.proofs.SlotsPlacedCode.{moved_to, Located, Nowhere, There, located, first_same, Agrees, agrees_idle, agrees_at, empty_or}
 use Rattle.law_reuse.proofs.SlotsPlacedEvents.{Alone, slot_moved, slot_same, Unmoved, Shown, instr_placed}
 use Rattle.law_reuse.proofs.SlotsOtherEvents.{Same, Carried, fetch_carried, store_carried, request_carried, host_carried, release_carried}
-use Rattle.law_reuse.proofs.SlotsStands.{Stands}
+use Rattle.law_reuse.proofs.SlotsPlaced.{IsPlaced}
 use Rattle.law_reuse.proofs.SlotsFillings.{at_port, later_on, Move, move_of, slot_cases}
 use Rattle.law_reuse.proofs.SlotsUsedArcs.{Ports, one_frame}
 use Rattle.semantics.specs.Holders.{Holder, same_holder, holder_of, holder_at, held_after, uses_slot, held_by_event, holds}
@@ -52,7 +52,7 @@ pub record Busy (p : Plan) (slots : List (List ℕ)) (ts : List Token) (f : ℕ)
   pub q : Port
   pub w : Word
   pub ss : List ℕ
-  pub stands : Stands p.program b n i
+  pub stands : IsPlaced p.program b n i
   pub at_slots : slice_get slots b ≡ Some ss
   pub came : Contains ts (at_port p.program f b n q w)
   pub agrees : Agrees ss code plan
@@ -94,7 +94,7 @@ frame_later p slots ts t f code plan code2 plan2 c d s =
 -- in the frame of a token that waits, the slots are those of its block
 pub frame_agrees : (p : Plan) (slots : List (List ℕ)) (ts pool : List Token) → Ports p ts pool
     → (f b n : ℕ) (i : Instr) (q : Port) (w : Word) (ss : List ℕ) (code plan : ℕ → SlotState)
-    → Stands p.program b n i → slice_get slots b ≡ Some ss → Contains pool (at_port p.program f b n q w) → IdleOr p slots ts f code plan → Agrees ss code plan
+    → IsPlaced p.program b n i → slice_get slots b ≡ Some ss → Contains pool (at_port p.program f b n q w) → IdleOr p slots ts f code plan → Agrees ss code plan
 frame_agrees p slots ts pool P f b n i q w ss code plan s at inside (inl idle) = agrees_idle ss code plan idle.0 idle.1
 frame_agrees p slots ts pool P f b n i q w ss code plan s at inside (inr B) =
     let same : B.b ≡ b = one_frame p ts pool P f B.b b B.n n B.i i B.q q B.w w B.stands s
@@ -232,7 +232,7 @@ module _ (p : Plan) (slots : List (List ℕ)) (wired : IsWired p) (good : Good p
           counts = λ x F. counts x F;
         }
       where
-        stands : Stands p.program b n i
+        stands : IsPlaced p.program b n i
         stands = record { code = d; block = at_block; instr = at_instr }
 
         is : t ≡ at_port p.program f b n q t.word

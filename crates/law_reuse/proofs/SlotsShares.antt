@@ -4,7 +4,7 @@ use Rattle.std.specs.Prelude.{slice_get}
 use Rattle.tags.specs.declared.token.Port.{Port}
 use Rattle.semantics.specs.Plan.{Plan}
 use Rattle.semantics.specs.declared.program.Mark.{Mark}
-use Rattle.semantics.specs.Sharing.{Inlet, inlet, Arc, arcs_in, Follows, follows, Leads, by_choice, by_port, IsEnd, IsSide, IsHolderPort, MayShare}
+use Rattle.semantics.specs.Sharing.{Inlet, inlet, Arc, arcs_in, IsAfter, is_after, Leads, by_choice, by_port, IsEnd, IsSide, IsHolderPort, MayShare}
 
 -- what is needed of the ports that tokens were met at, and of the arcs that were used
 pub record IsCaused (arcs : List Arc) (Met : Inlet → Type 0) (Used : Arc → Type 0) : Type 0 where
@@ -14,13 +14,13 @@ pub record IsCaused (arcs : List Arc) (Met : Inlet → Type 0) (Used : Arc → T
   pub fired : (y : Arc) (side : Port) (x : Arc) → Contains arcs x → x.to ≡ inlet y.from side → Used y → Met (inlet y.from side)
 
 module _ (arcs : List Arc) (chosen : Arc → Type 0) where
-  arc_into : (q : Inlet) → Follows arcs chosen q → (x : Arc) × Contains arcs x × (x.to ≡ q)
-  arc_into _ (follows q x inside to all) = (x, inside, to)
+  arc_into : (q : Inlet) → IsAfter arcs chosen q → (x : Arc) × Contains arcs x × (x.to ≡ q)
+  arc_into _ (is_after q x inside to all) = (x, inside, to)
 
 module _ (arcs : List Arc) (Met : Inlet → Type 0) (Used : Arc → Type 0) (caused : IsCaused arcs Met Used) (chosen : Arc → Type 0) where
   mutual
-    pub chosen_used : (q : Inlet) → Follows arcs chosen q → Met q → (x : Arc) × chosen x × Used x
-    chosen_used _ (follows q x inside to all) met =
+    pub chosen_used : (q : Inlet) → IsAfter arcs chosen q → Met q → (x : Arc) × chosen x × Used x
+    chosen_used _ (is_after q x inside to all) met =
         let came = caused.came q x inside to met in
         used_leads came.0 (all came.0 came.1 came.2) came.3
 

@@ -11,7 +11,7 @@ use Rattle.tags.specs.declared.slot.SlotState.TheVariants.{Empty, Credits, Waite
 use Rattle.semantics.specs.declared.program.Op.{Op}
 use Rattle.semantics.specs.declared.program.Op.TheVariants.{Apply2, Sync, Switch, Store, Send, Return, Ask, Open, Take, Give, Drain, Release}
 use Rattle.semantics.specs.Program.{Instr, Program}
-use Rattle.semantics.specs.Rule.{Seat, Becomes, Excluded, to_all, signal, fires, fire_two, meets, alone, opens, takes, gives, drains, outcome_of, slot_of}
+use Rattle.semantics.specs.Rule.{Point, Becomes, Excluded, to_all, signal, fires, fire_two, meets, alone, opens, takes, gives, drains, outcome_of, slot_of}
 use Rattle.semantics.specs.Plan.{is_credit, is_open}
 use Rattle.semantics.specs.Wired.{is_dyadic}
 
@@ -29,7 +29,7 @@ is_later (Give k) = true
 is_later (Drain k) = true
 is_later op = false
 
-pub data Turn (p : Program) (s : Seat) (i : Instr) (op : Op) (slot : SlotState) (q : Port) (w : Word) (v : SlotState) (made : List Token) : Type 0 where
+pub data Turn (p : Program) (s : Point) (i : Instr) (op : Op) (slot : SlotState) (q : Port) (w : Word) (v : SlotState) (made : List Token) : Type 0 where
   waits_left : is_dyadic op ≡ true → slot ≡ Empty → q ≡ Left → v ≡ Slot.Left w → made ≡ [] → Turn p s i op slot q w v made
   waits_right : is_dyadic op ≡ true → slot ≡ Empty → q ≡ Right → v ≡ Slot.Right w → made ≡ [] → Turn p s i op slot q w v made
   meets_right : is_dyadic op ≡ true → (l : Word) → slot ≡ Slot.Left l → q ≡ Right → v ≡ Empty → fire_two p s i i.op l w ≡ Some made
@@ -53,7 +53,7 @@ pub fired : (x v : SlotState) (o : Option (List Token)) (made : List Token) → 
 fired x v None made e = absurd (excluded_not 4 v made e)
 fired x v (Some ts) made e = (becomes_slot x v ts made e, ap (λ (l : List Token). Some l) (sym (becomes_made x v ts made e)))
 
-module _ (p : Program) (s : Seat) (i : Instr) where
+module _ (p : Program) (s : Point) (i : Instr) where
   meets_turn : (op : Op) → is_dyadic op ≡ true → (slot : SlotState) (q : Port) (w : Word) (v : SlotState) (made : List Token)
       → meets p s i slot q w ≡ Becomes v made → Turn p s i op slot q w v made
   meets_turn op d Empty Left w v made e = waits_left d refl refl (becomes_slot _ v _ made e) (becomes_made _ v _ made e)

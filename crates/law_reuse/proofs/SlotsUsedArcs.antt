@@ -16,13 +16,13 @@ use Rattle.tags.specs.declared.slot.SlotState.TheVariants.{Empty}
 use Rattle.semantics.specs.declared.program.Op.{Op}
 use Rattle.semantics.specs.declared.program.Op.TheVariants.{Apply2, Sync, Switch, Store, Send, Return, Ask, Open, Take, Give, Drain, Release}
 use Rattle.semantics.specs.Program.{Instr, CodeBlock, Program, first_of, instr_at}
-use Rattle.semantics.specs.Rule.{token, Seat, slot_of}
+use Rattle.semantics.specs.Rule.{token, Point, slot_of}
 use Rattle.semantics.specs.Plan.{Plan, is_credit, is_open}
 use Rattle.semantics.specs.Sharing.{Arc, arc, arcs_from, arcs_of, arcs_in, is_port, ends_with}
 use Rattle.semantics.specs.Orderly.{is_at, often, same_block}
 use Rattle.semantics.specs.Wired.{is_dyadic}
 use Rattle.semantics.proofs.ArcEnds.{arcs_from_from}
-use Rattle.law_reuse.proofs.SlotsStands.{Stands, stands_at, stands_block}
+use Rattle.law_reuse.proofs.SlotsPlaced.{IsPlaced, stands_at, stands_block}
 use Rattle.law_reuse.proofs.SlotsTurns.{is_counting, is_later, Turn, waits_left, waits_right, meets_right, meets_left, lone, begins, counts}
 use Rattle.law_reuse.proofs.SlotsFillings.{at_port, Came, later_on, came_twice, none_some}
 
@@ -40,7 +40,7 @@ arc_starts p m (i ∷ is) x c = go (Contains-append_cases (arcs_from p m i i.op)
     go (inr c) more = let r = more c in let e = r.3 in (suc r.0, r.1, r.2, omega (arith, e))
 
 pub arc_stands : (p : Plan) (b : ℕ) (c : CodeBlock) (x : Arc) → slice_get p.program.blocks b ≡ Some c → Contains (arcs_of p 0 c.instrs) x
-    → (i : Instr) × Stands p.program b x.from i
+    → (i : Instr) × IsPlaced p.program b x.from i
 arc_stands p b c x at inside =
     let s = arc_starts p 0 c.instrs x inside in
     let e : x.from ≡ s.0 = (let e = s.3 in omega (arith, e)) in
@@ -60,7 +60,7 @@ arcs_there p m (j ∷ is) (suc k) i x at c =
     Contains-append_right (arcs_from p m j j.op) (arcs_of p (m + 1) is) x
     (arcs_there p (m + 1) is k i x at (subst (λ (n : ℕ). Contains (arcs_from p n i i.op) x) here c))
 
-pub stands_arcs : (p : Plan) (b n : ℕ) (i : Instr) (x : Arc) → Stands p.program b n i → Contains (arcs_from p n i i.op) x
+pub stands_arcs : (p : Plan) (b n : ℕ) (i : Instr) (x : Arc) → IsPlaced p.program b n i → Contains (arcs_from p n i i.op) x
     → Contains (arcs_in p (slice_get p.program.blocks b)) x
 stands_arcs p b n i x s c =
     let zero_on : n ≡ 0 + n = omega arith in
@@ -123,13 +123,13 @@ pub record Ports (p : Plan) (ts pool : List Token) : Type 0 where
   pub block : (f ip jp : ℕ) (q r : Port) (v w : Word) → Contains (ts ++ pool) (token (To.Instr f ip q) v) → Contains (ts ++ pool) (token (To.Instr f jp r) w)
       → same_block p.program.blocks ip jp ≡ true
 
-pub one_frame : (p : Plan) (ts pool : List Token) → Ports p ts pool → (f a b m n : ℕ) (i j : Instr) (q r : Port) (v w : Word) → Stands p.program a m i
-    → Stands p.program b n j
+pub one_frame : (p : Plan) (ts pool : List Token) → Ports p ts pool → (f a b m n : ℕ) (i j : Instr) (q r : Port) (v w : Word) → IsPlaced p.program a m i
+    → IsPlaced p.program b n j
     → Contains (ts ++ pool) (at_port p.program f a m q v) → Contains (ts ++ pool) (at_port p.program f b n r w) → a ≡ b
 one_frame p ts pool P f a b m n i j q r v w s t c d =
     stands_block p.program a b m n i j s t (P.block f (first_of p.program a + m) (first_of p.program b + n) q r v w c d)
 
-pub not_twice : (p : Plan) (ts pool : List Token) → Ports p ts pool → (f b n : ℕ) (i : Instr) (q : Port) (v w : Word) → Stands p.program b n i
+pub not_twice : (p : Plan) (ts pool : List Token) → Ports p ts pool → (f b n : ℕ) (i : Instr) (q : Port) (v w : Word) → IsPlaced p.program b n i
     → is_port i.op q ≡ true
     → Contains ts (at_port p.program f b n q v) → Contains pool (at_port p.program f b n q w) → ⊥
 not_twice p ts pool P f b n i q v w s port c d =
@@ -139,12 +139,12 @@ not_twice p ts pool P f b n i q v w s port c d =
 -- holder h of block b is empty for good: each of its ports has got its token
 pub record Over (p : Program) (ts : List Token) (slots : ℕ → ℕ → SlotState) (f b h : ℕ) : Type 0 where
   pub empty : slots f h ≡ Empty
-  pub came : (n : ℕ) (j : Instr) (q : Port) → Stands p b n j → slot_of j j.op ≡ Some h → is_port j.op q ≡ true → Came p ts f b n q
+  pub came : (n : ℕ) (j : Instr) (q : Port) → IsPlaced p b n j → slot_of j j.op ≡ Some h → is_port j.op q ≡ true → Came p ts f b n q
 
 -- an arc of block b was used in frame f
 pub record Used (p : Program) (ts : List Token) (slots : ℕ → ℕ → SlotState) (f b : ℕ) (x : Arc) : Type 0 where
   pub i : Instr
-  pub stands : Stands p b x.from i
+  pub stands : IsPlaced p b x.from i
   pub left : Came p ts f b x.from Left
   pub right : is_dyadic i.op ≡ true → Came p ts f b x.from Right
   -- a switch uses the arcs of the side that its predicate tells
@@ -174,7 +174,7 @@ pub used_same : (p : Program) (ts : List Token) (t : Token) (old new : ℕ → �
 used_same p ts t old new f b x same U = used_later p ts t old new f b x U (λ h. same_over p ts t old new f b h (same f h))
 
 -- no event changes an empty slot but by one of the holder's ports
-pub no_move : (p : Program) (s : Seat) (i : Instr) (slot : SlotState) (q : Port) (w : Word) (v : SlotState) (made : List Token) (h : ℕ)
+pub no_move : (p : Program) (s : Point) (i : Instr) (slot : SlotState) (q : Port) (w : Word) (v : SlotState) (made : List Token) (h : ℕ)
     → Turn p s i i.op slot q w v made
     → slot ≡ Empty → slot_of i i.op ≡ Some h → is_port i.op q ≡ false → ⊥
 no_move p s i slot q w v made h (waits_left d was port is none) empty holds no_port = true≢false (sym (dyadic_port i.op q d) ∙ no_port)

@@ -7,10 +7,10 @@
 //! that share a slot never hold it at one moment; and loops keep their bounds in each tenure of a frame.
 //!
 //! **Why it holds.**
-//! 1. Where an instruction stands is its block and its place; what its event does with its slot is one of seven ways (`SlotsStands`, `SlotsTurns`).
+//! 1. Where an instruction stands is its block and its place; what its event does with its slot is one of seven ways (`SlotsPlaced`, `SlotsTurns`).
 //! 2. A holder has something only from when one of its ports got a token until its end was reached, and arcs that were used tell both
 //!    (`SlotsFillings`, `SlotsUsedArcs`, `SlotsFirings`).
-//! 3. Good slots ask of two holders of one slot that whoever comes second comes behind the end of the first, or that they lie on different sides of a
+//! 3. Good slots ask of two holders of one slot that whoever comes second comes after the end of the first, or that they lie on different sides of a
 //!    mark. So in one invocation they are never both live (`SlotsShares`, `SlotsInvocation`), and each other holder of a live holder's slot is empty
 //!    (`SlotsNeighbours`).
 //! 4. So an event over the code's slots is one over the plan's (`SlotsPlacedEvents`), and a run that uses each frame once is the plan's

@@ -20,7 +20,7 @@ use Rattle.semantics.specs.Plan.{Plan}
 use Rattle.semantics.specs.Sharing.{Arc, arc, inlet, arcs_to, arcs_from, arcs_of, arcs_in}
 use Rattle.semantics.specs.Arcs.{UsesBy, UsesArc}
 use Rattle.semantics.proofs.ArcEnds.{arcs_from_from}
-use Rattle.law_reuse.proofs.SlotsStands.{instr_in}
+use Rattle.law_reuse.proofs.SlotsPlaced.{instr_in}
 use Rattle.law_simulation.specs.Simulates.{hands_on}
 
 -- ---- WHERE AN ARC STARTS

@@ -14,7 +14,7 @@ use Rattle.tags.specs.declared.slot.SlotState.TheVariants.{Empty}
 use Rattle.semantics.specs.declared.program.Op.{Op}
 use Rattle.semantics.specs.declared.program.Op.TheVariants.{Give}
 use Rattle.semantics.specs.Program.{Instr, Program}
-use Rattle.semantics.specs.Rule.{Seat, back_to, Outcome, Becomes, Excluded, outcome_of, rule_at, slot_of}
+use Rattle.semantics.specs.Rule.{Point, back_to, Outcome, Becomes, Excluded, outcome_of, rule_at, slot_of}
 use Rattle.semantics.specs.Machine.{Machine, CellState, Vacant, Full, Deferred, Store as MStore, answer, answers, with_slot_in, slot_in, slot_used, outputs_of}
 use Rattle.semantics.specs.Machine.{Fires, Fetches, Stores, Requests, Releases, Hosts, Happens}
 use Rattle.semantics.specs.Plan.{Plan}
@@ -40,7 +40,7 @@ module _ (p q : Plan) (g h : ℕ → ℕ) where
   -- ---- A MOVED INSTRUCTION'S EVENT
   module _ (total : ℕ) (old : MStore) (f a : ℕ) (r : Port) (w : Word) (i : Instr) (M : IsMoved P Q g h a i) (made : List Token) (new : MStore)
       (happens : Happens Q total (ip_store h old) (To.Instr f (h a) r) (ip_word h w) made new) where
-    abbrev seat : Seat
+    abbrev seat : Point
     seat = record { frame = f; ip = h a }
 
     pub moved_fires : Fires (ip_store h old) f (slot_of i i.op)

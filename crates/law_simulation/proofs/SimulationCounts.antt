@@ -231,7 +231,7 @@ module _ (P Q : Program) (g h : ℕ → ℕ) (apart : (a b : ℕ) → Plain P Q 
   abbrev C : Type 0
   C = Clump P Q g h
 
-  -- of the port x, those that the tokens behind number ip stand for
+  -- of the port x, those that the tokens after number ip stand for
   abbrev pub under : ℕ → ℕ → Spot → C → ℕ
   under f ip x c = unless (is_past ip c.seen.to) (ones f x.0 x.1 c.meant)
 
@@ -285,7 +285,7 @@ module _ (P Q : Program) (g h : ℕ → ℕ) (apart : (a b : ℕ) → Plain P Q 
   ones_meant f x (c ∷ cs) =
       let a = tot_append (λ (t : Token). unit (is_at f x.0 x.1 t.to)) c.meant (meant_of P Q g h cs) in let b = ones_meant f x cs in omega (arith, a, b)
 
-  -- all tokens of the clumps lie behind that number
+  -- all tokens of the clumps lie after that number
   abbrev pub Behind : ℕ → List C → Type 0
   Behind n cs = (c : C) → Contains cs c → (k y : ℕ) (r : Port) → c.seen.to ≡ To.Instr k y r → n < y
 

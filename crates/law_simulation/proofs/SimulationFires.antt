@@ -13,7 +13,7 @@ use Rattle.tags.specs.declared.slot.SlotState.TheVariants.{Empty, Credits, Waite
 use Rattle.semantics.specs.declared.program.Op.{Op}
 use Rattle.semantics.specs.declared.program.Op.TheVariants.{Apply2Right, Apply2Left, Lit}
 use Rattle.semantics.specs.Program.{Instr, Program}
-use Rattle.semantics.specs.Rule.{Seat, to_all, fires, fire_one, meets, outcome_of, slot_of}
+use Rattle.semantics.specs.Rule.{Point, to_all, fires, fire_one, meets, outcome_of, slot_of}
 use Rattle.semantics.specs.Machine.{Store as MStore, put_at, with_slot, slot_in, Fires, excluded_by}
 use Rattle.operators.specs.declared.Binary.{Binary}
 use Rattle.operators.specs.Values.{apply2}
@@ -27,7 +27,7 @@ pub hands_fires : (kind : Word → Type 0) (p : Program) (f a : ℕ) (w v : Word
     (to_all record { frame = f; ip = a } v i) s
 hands_fires kind p f a w v i s e = go i.op refl e
   where
-    seat : Seat
+    seat : Point
     seat = record { frame = f; ip = a }
 
     go : (op : Op) → i.op ≡ op → HandsOn kind op w v → Fires s f (slot_of i op) (outcome_of p seat i op (slot_in s f (slot_of i op)) Left w) (to_all seat v i) s
@@ -48,7 +48,7 @@ pub hands_does : (kind : Word → Type 0) (q : Program) (f ip : ℕ) (w v : Word
     → (made ≡ to_all record { frame = f; ip = ip } v i) × (new ≡ old)
 hands_does kind q f ip w v i old new made e does = go i.op refl e does
   where
-    seat : Seat
+    seat : Point
     seat = record { frame = f; ip = ip }
 
     go : (op : Op) → i.op ≡ op → HandsOn kind op w v
@@ -124,7 +124,7 @@ module _ (s : MStore) (f r : ℕ) (v : SlotState) (free : s.slots f r ≡ Empty)
   undone = (λ k. record { slots = λ x y. at_slot x y k; cells = s.cells; out = s.out; requests = s.requests; outputs = s.outputs; done = s.done })
 
 -- what two tokens meet that no rule excludes
-pub both_wait : (p : Program) (s : Seat) (i : Instr) (x : SlotState) (l r : Word) → excluded_by (meets p s i x Left l) ≡ None
+pub both_wait : (p : Program) (s : Point) (i : Instr) (x : SlotState) (l r : Word) → excluded_by (meets p s i x Left l) ≡ None
     → excluded_by (meets p s i x Right r) ≡ None → x ≡ Empty
 both_wait p s i Empty l r a b = refl
 both_wait p s i (Slot.Left w) l r a b = absurd (some_none 3 a)

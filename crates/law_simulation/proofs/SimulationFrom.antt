@@ -18,7 +18,7 @@ use Rattle.semantics.specs.declared.program.Op.{Op}
 use Rattle.semantics.specs.declared.program.Op.TheVariants.{Switch, Link}
 use Rattle.semantics.specs.declared.program.Op.TheVariants.{Give}
 use Rattle.semantics.specs.Program.{Instr, Program, first_of}
-use Rattle.semantics.specs.Rule.{token, signal, Seat, at_dest, to_each, to_all, back_to, landing_at}
+use Rattle.semantics.specs.Rule.{token, signal, Point, at_dest, to_each, to_all, back_to, landing_at}
 use Rattle.law_fresh_frames.specs.Alike.{plain_dests}
 use Rattle.std.proofs.lemmas.List.Elements.{Contains-append_cases}
 use Rattle.law_simulation.specs.Places.{ip_cont, ip_to, ip_token, ip_word}
@@ -67,7 +67,7 @@ module _ (p q : Program) (g h : ℕ → ℕ) where
   moved_stale (To.Host x) w K = no_instr (token (To.Host x) w) (λ k ip r e. host_off x k ip r e)
 
   module _ (arrays : q.arrays ≡ p.arrays) (f a : ℕ) (i : Instr) (M : IsMoved p q g h a i) where
-    abbrev s2 : Seat
+    abbrev s2 : Point
     s2 = record { frame = f; ip = h a }
 
     abbrev j : Instr

@@ -14,7 +14,7 @@ use Rattle.semantics.specs.declared.program.Dest.{Dest}
 use Rattle.semantics.specs.declared.program.Op.{Op}
 use Rattle.semantics.specs.declared.program.Op.TheVariants.{Apply2}
 use Rattle.semantics.specs.Program.{Instr, Program, instr_at}
-use Rattle.semantics.specs.Rule.{token, Seat, Outcome, Becomes, meets, outcome_of, rule_at, slot_of}
+use Rattle.semantics.specs.Rule.{token, Point, Outcome, Becomes, meets, outcome_of, rule_at, slot_of}
 use Rattle.semantics.specs.Machine.{Machine, Store as MStore, Size, with_slot, slot_in, slot_used, Fires, Happens}
 use Rattle.semantics.specs.Plan.{Plan}
 use Rattle.semantics.specs.Wired.{IsWired}
@@ -43,7 +43,7 @@ module _ (p q : Plan) (g h : ℕ → ℕ) (answers : (a : ℕ) (i : Instr) → i
   abbrev total : ℕ
   total = z.elements * z.frames
 
-  abbrev seat : Seat
+  abbrev seat : Point
   seat = record { frame = f; ip = a }
 
   abbrev Past : MStore → List Token → Sums → Type 0

@@ -16,7 +16,7 @@ use Rattle.tags.specs.declared.slot.SlotState.TheVariants.{Empty}
 use Rattle.semantics.specs.declared.program.Op.{Op}
 use Rattle.semantics.specs.declared.program.Op.TheVariants.{Apply2, Apply2Right, Apply2Left}
 use Rattle.semantics.specs.Program.{Instr, Program, instr_at}
-use Rattle.semantics.specs.Rule.{token, Seat, to_all, Becomes, fires, fire_two, meets, outcome_of, rule_at, slot_of}
+use Rattle.semantics.specs.Rule.{token, Point, to_all, Becomes, fires, fire_two, meets, outcome_of, rule_at, slot_of}
 use Rattle.semantics.specs.Machine.{Machine, Store as MStore, Size, Event, Events, slot_in, slot_used, Fires, Happens}
 use Rattle.operators.specs.declared.Binary.{Binary}
 use Rattle.operators.specs.Values.{apply2}
@@ -445,7 +445,7 @@ module _ (p q : Plan) (S : Relates p q) (wired : IsWired p) (orderly : Orderly p
           → IsValue v → ev.made ≡ to_all record { frame = f; ip = g a } (ip_word h v) j → after.store ≡ m.store → seeks_credit (instr_at Q (g a)) ≡ false → Next
       at_pair c same others K rest f a first_port second_port first_word second_word v u x o i j is at op to two pair one stands takes free waits joins
           val makes stays off =
-          let seat : Seat = record { frame = f; ip = a } in
+          let seat : Point = record { frame = f; ip = a } in
           let none = pair_none j.op two in
           let first_token : Token = token (To.Instr f a first_port) first_word in
           let second_token : Token = token (To.Instr f a second_port) second_word in

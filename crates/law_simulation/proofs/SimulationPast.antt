@@ -19,7 +19,7 @@ use Rattle.semantics.specs.declared.program.Dest.{Dest}
 use Rattle.semantics.specs.declared.program.Op.{Op}
 use Rattle.semantics.specs.declared.program.Op.TheVariants.{Apply2}
 use Rattle.semantics.specs.Program.{Instr, Program, instr_at}
-use Rattle.semantics.specs.Rule.{token, Seat, Outcome, Becomes, fires, fire_two, meets, outcome_of, rule_at, slot_of, to_all}
+use Rattle.semantics.specs.Rule.{token, Point, Outcome, Becomes, fires, fire_two, meets, outcome_of, rule_at, slot_of, to_all}
 use Rattle.semantics.specs.Machine.{Machine, Store as MStore, Size, Event, Events, Run, at_start, put_at, with_slot, slot_in, slot_used, Fires, Happens}
 use Rattle.semantics.specs.Machine.{excluded_by, stuck_rule}
 use Rattle.operators.specs.declared.Binary.{Binary}
@@ -251,7 +251,7 @@ module _ (p q : Plan) (g h : ℕ → ℕ) (answers : (a : ℕ) (i : Instr) → i
   some_none n e = cc
 
   -- an operator that gets two words gets values
-  left_value : (s : Seat) (i : Instr) (o : Binary) (w : Word) (v : Value) → i.op ≡ Apply2 o → excluded_by (meets P s i (Slot.Left w) Right (Word.Val v)) ≡ None
+  left_value : (s : Point) (i : Instr) (o : Binary) (w : Word) (v : Value) → i.op ≡ Apply2 o → excluded_by (meets P s i (Slot.Left w) Right (Word.Val v)) ≡ None
       → IsValue w
   left_value s i o w v e free = go w (sym (ap (λ (op : Op). excluded_by (fires Empty (fire_two P s i op w (Word.Val v)))) e) ∙ free)
     where
@@ -260,7 +260,8 @@ module _ (p q : Plan) (g h : ℕ → ℕ) (answers : (a : ℕ) (i : Instr) → i
       go (Word.Frame u) k = absurd (some_none 4 k)
       go (Word.Back u) k = absurd (some_none 4 k)
 
-  right_value : (s : Seat) (i : Instr) (o : Binary) (w : Word) (v : Value) → i.op ≡ Apply2 o → excluded_by (meets P s i (Slot.Right w) Left (Word.Val v)) ≡ None
+  right_value : (s : Point) (i : Instr) (o : Binary) (w : Word) (v : Value) → i.op ≡ Apply2 o
+      → excluded_by (meets P s i (Slot.Right w) Left (Word.Val v)) ≡ None
       → IsValue w
   right_value s i o w v e free = go w (sym (ap (λ (op : Op). excluded_by (fires Empty (fire_two P s i op (Word.Val v) w))) e) ∙ free)
     where
@@ -270,7 +271,7 @@ module _ (p q : Plan) (g h : ℕ → ℕ) (answers : (a : ℕ) (i : Instr) → i
       go (Word.Back u) k = absurd (some_none 4 k)
 
   module _ (f a : ℕ) (i : Instr) (o : Binary) (at : instr_at P a ≡ Some i) (op : i.op ≡ Apply2 o) where
-    abbrev seat : Seat
+    abbrev seat : Point
     seat = record { frame = f; ip = a }
 
     -- what is there of the operator's words is not excluded

@@ -52,7 +52,7 @@ ones_some f ip r (t ∷ ts) l = go (cases_Bool (is_at f ip r t.to)) (ones_some f
     go (inl e) more = (t.word, subst (λ (to : To). Contains (t ∷ ts) (token to t.word)) (at_true f ip r t.to e) (contains_head t ts))
     go (inr e) more = let a = ap unit e in let m = more (omega (arith, l, a)) in (m.0, contains_tail t ts (token (To.Instr f ip r) m.0) m.1)
 
--- the token is at an instruction behind that one
+-- the token is at an instruction after that one
 abbrev pub is_past : ℕ → To → Bool
 is_past ip (To.Instr g n r) = nat_lt ip n
 is_past ip to = false

@@ -63,7 +63,7 @@ inputs_at n (x ∷ xs) t c f ip r to =
     go (inl e) more = let k = same_place (ap (λ (t : Token). t.to) e ∙ to) in (0, omega arith, omega (arith, k))
     go (inr d) more = let m = more d in let a = m.1 in let b = m.2 in (suc m.0, omega (arith, a), omega (arith, b))
 
--- a token of the start is at main's first instruction or at one of the inputs behind it
+-- a token of the start is at main's first instruction or at one of the inputs after it
 start_at : (p : Program) (inputs : List ℤ) (t : Token) → Contains (at_start p inputs).pool t → (f ip : ℕ) (r : Port) → t.to ≡ To.Instr f ip r
     → (k : ℕ) × (k ≤ length inputs) × (ip ≡ first_of p p.main + k)
 start_at p inputs t c f ip r to =

@@ -19,12 +19,12 @@ use Rattle.semantics.specs.declared.program.Op.{Op}
 use Rattle.semantics.specs.declared.program.Op.TheVariants.{Apply1, Apply2, Apply2Right, Apply2Left, Lit, Copy, Sync, Switch, Fetch, Store, Frame, Link, Send}
 use Rattle.semantics.specs.declared.program.Op.TheVariants.{Return, Ask, Open, Take, Give, Drain, Release}
 use Rattle.semantics.specs.Program.{Instr, Program, first_of}
-use Rattle.semantics.specs.Rule.{token, signal, Seat, at_dest, to_each, to_all, beyond, answer_to, landing_at, Outcome, Becomes, Excluded, fires, array_len}
+use Rattle.semantics.specs.Rule.{token, signal, Point, at_dest, to_each, to_all, beyond, answer_to, landing_at, Outcome, Becomes, Excluded, fires, array_len}
 use Rattle.semantics.specs.Rule.{asks_for, puts, fire_one, fire_two, meets, signal_to, opens, takes, gives, drains, alone, on_left, outcome_of}
 use Rattle.std.proofs.Common.{◌≡◌, refl, sym, ap, ◌∙◌, subst, ℕ, zero, suc, ◌+◌, ◌-◌, Bool, true, false, List, [], ◌∷◌, ◌++◌, map, Option, Some, None}
 use Rattle.std.specs.Prelude.{if◌then◌else◌, nat_lt, ◌==◌, take, sum, slice_index_or, ⊤}
 use Rattle.semantics.specs.Program.{Instr, Program, first_of}
-use Rattle.semantics.specs.Rule.{token, signal, Seat, at_dest, to_each, to_all, beyond, back_to, answer_to, landing_at, Outcome, Becomes, Excluded, fires}
+use Rattle.semantics.specs.Rule.{token, signal, Point, at_dest, to_each, to_all, beyond, back_to, answer_to, landing_at, Outcome, Becomes, Excluded, fires}
 use Rattle.semantics.specs.Rule.{array_base, array_len, asks_for, puts, fire_one, fire_two, meets, signal_to, opens, takes, gives, drains, alone, on_left}
 use Rattle.semantics.specs.Rule.{outcome_of}
 use Rattle.law_fresh_frames.specs.Alike.{plain_dests}
@@ -81,10 +81,10 @@ module _ (p q : Program) (h : ℕ → ℕ) where
   one_fits u one = more_fit u [] one none_fit
 
 module _ (p q : Program) (g h : ℕ → ℕ) (arrays : q.arrays ≡ p.arrays) (f a : ℕ) (i : Instr) (M : IsMoved p q g h a i) where
-  abbrev s : Seat
+  abbrev s : Point
   s = record { frame = f; ip = a }
 
-  abbrev s2 : Seat
+  abbrev s2 : Point
   s2 = record { frame = f; ip = h a }
 
   abbrev j : Instr

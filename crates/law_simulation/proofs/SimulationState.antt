@@ -24,8 +24,8 @@ use Rattle.semantics.specs.Plan.{Plan, is_credit}
 use Rattle.semantics.specs.Wired.{IsWired}
 use Rattle.semantics.specs.Orderly.{Orderly, IsOrderlyRun, IsStart, met}
 use Rattle.law_reuse.proofs.SlotsTurns.{dyadic_not_credit}
-use Rattle.law_reuse.proofs.SlotsStands.{Found, found}
-use Rattle.law_reuse.proofs.SlotsStands as Places
+use Rattle.law_reuse.proofs.SlotsPlaced.{Found, found}
+use Rattle.law_reuse.proofs.SlotsPlaced as Places
 use Rattle.law_reuse.proofs.SlotsFillings.{at_port, Filled, EmptyOr}
 use Rattle.law_reuse.proofs.SlotsUsedArcs.{one_frame}
 use Rattle.law_reuse.proofs.SlotsFirings.{holders_of}
@@ -237,7 +237,7 @@ module _ (p q : Plan) (S : Relates p q) (wired : IsWired p) (orderly : Orderly p
             (ports_of p z first V.part.done V.part.last V.part.run O) f G.b F.b G.n F.n G.i i Left r l w G.stands F.stands
             (Contains-append_left (taken V.part.done) V.part.last.pool (at_port P f G.b G.n Left l) T)
             (Contains-append_right (taken V.part.done) V.part.last.pool (at_port P f F.b F.n r w) inside_b) in
-            let st : Places.Stands P F.b G.n G.i = subst (λ (b : ℕ). Places.Stands P b G.n G.i) same_b G.stands in
+            let st : Places.IsPlaced P F.b G.n G.i = subst (λ (b : ℕ). Places.IsPlaced P b G.n G.i) same_b G.stands in
             let same_n : G.n ≡ F.n = pick G (holders_of p wired F.b G.n F.n k G.i i st F.stands G.holds holds) in
             let place : first_of P G.b + G.n ≡ a = (λ t. first_of P (same_b t) + same_n t) ∙ sym F.place in
             subst (λ (x : ℕ). Contains (met V.part.done V.part.last) (token (To.Instr f x Left) l)) place

@@ -14,7 +14,7 @@ use Rattle.tags.specs.declared.slot.SlotState.TheVariants.{Empty, Credits, Waite
 use Rattle.semantics.specs.declared.program.Op.{Op}
 use Rattle.semantics.specs.declared.program.Op.TheVariants.{Release}
 use Rattle.semantics.specs.Program.{Instr, Program, instr_at}
-use Rattle.semantics.specs.Rule.{token, signal, Seat, back_to, beyond, fires, fire_two, meets, outcome_of, rule_at, slot_of}
+use Rattle.semantics.specs.Rule.{token, signal, Point, back_to, beyond, fires, fire_two, meets, outcome_of, rule_at, slot_of}
 use Rattle.semantics.specs.Machine.{Store as MStore, slot_in, slot_used, Fires, Happens}
 use Rattle.semantics.specs.Plan.{Plan}
 use Rattle.semantics.specs.Orderly.{is_at}
@@ -61,10 +61,10 @@ module _ (p q : Plan) (g h : ℕ → ℕ) (apart : (a b : ℕ) → Plain p.progr
         go (inl e) = eq-eqb (h b + o) (h base + o) (ap (λ (n : ℕ). h n + o) e) ∙ sym (eq-eqb (b + o) (base + o) (ap (λ (n : ℕ). n + o) e))
         go (inr n) = ne_eqb (h b + o) (h base + o) (λ e. n (apart b base L K (omega (arith, e)))) ∙ sym (ne_eqb (b + o) (base + o) (λ e. n (omega (arith, e))))
 
-    abbrev s0 : Seat
+    abbrev s0 : Point
     s0 = record { frame = k; ip = a }
 
-    abbrev s1 : Seat
+    abbrev s1 : Point
     s1 = record { frame = k; ip = h a }
 
     module _ (o base : ℕ) (K : Plain P Q h base) (s n s2 n2 : MStore) (x x2 : Option ℕ) (made made2 : List Token) where

@@ -76,7 +76,7 @@ module _ (p q : Plan) (S : Relates p q) where
   pub came_perm : (ss : List Step) (xs ys : List Token) → IsPermutation xs ys → Came ss xs → Came ss ys
   came_perm ss xs ys e K t c = K t (Contains-permutation _ _ t (IsPermutation-sym _ _ e) c)
 
-  -- what one that hands on ahead of the new code leads to is told: it is on its way, or was told when its token came
+  -- what one that hands on ahead of the new code leads to is reported: it is on its way, or was told when its token came
   pub told_behind : (ss : List Step) (pool : List Token) (f l : ℕ) → Sends P Q h pool f l → (is_entry P.blocks l ≡ false → Told ss pool f l Left) → (w : Word)
       (i : Instr) → instr_at P l ≡ Some i → hands_on i.op ≡ true → (k b : ℕ) (r : Port) → (made : List Token) (m : Machine)
       → UsesArc p k b r (token (To.Instr f l Left) w) made m → Told ss pool k b r

@@ -19,13 +19,13 @@ use Rattle.semantics.specs.declared.program.Dest.{Dest}
 use Rattle.semantics.specs.declared.program.Op.{Op}
 use Rattle.semantics.specs.declared.program.Op.TheVariants.{Fetch, Store, Frame, Link, Ask, Give, Take, Release, Switch}
 use Rattle.semantics.specs.Program.{Instr, Program, first_of, instr_at}
-use Rattle.semantics.specs.Rule.{token, signal, Seat, at_dest, to_each, landing_at}
+use Rattle.semantics.specs.Rule.{token, signal, Point, at_dest, to_each, landing_at}
 use Rattle.semantics.specs.Machine.{Machine}
 use Rattle.semantics.specs.Plan.{Plan, HasShape, landing}
 use Rattle.semantics.specs.Sharing.{Arc, arc, Inlet, inlet, arcs_to, row, arcs_from}
 use Rattle.semantics.specs.Arcs.{GoesTo, AsksFor, Lands, UsesBy, UsesArc}
 use Rattle.semantics.proofs.ArcEnds.{arcs_to_dest, row_has}
-use Rattle.law_reuse.proofs.SlotsStands.{stands_at, Found, found}
+use Rattle.law_reuse.proofs.SlotsPlaced.{stands_at, Found, found}
 use Rattle.law_reuse.proofs.SlotsUsedArcs.{stands_arcs}
 use Rattle.law_fresh_frames.proofs.FreshParts.{instr_parts, back_parts, cont_parts}
 use Rattle.law_fresh_frames.specs.Alike.{plain_dests}
@@ -155,10 +155,10 @@ module _ (p q : Plan) (S : Relates p q) (sizes : (b : ℕ) → landing q b ≡ l
   abbrev j : Instr
   j = M.j
 
-  abbrev s : Seat
+  abbrev s : Point
   s = record { frame = f; ip = a }
 
-  abbrev s2 : Seat
+  abbrev s2 : Point
   s2 = record { frame = f; ip = h a }
 
   -- an arc of the instruction that its event used

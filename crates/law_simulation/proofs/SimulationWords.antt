@@ -21,7 +21,7 @@ use Rattle.semantics.specs.declared.program.Op.{Op}
 use Rattle.semantics.specs.declared.program.Op.TheVariants.{Apply1, Apply2, Apply2Right, Apply2Left, Lit, Copy, Sync, Switch, Fetch, Store, Frame, Link, Send}
 use Rattle.semantics.specs.declared.program.Op.TheVariants.{Return, Ask, Open, Take, Give, Drain, Release}
 use Rattle.semantics.specs.Program.{Instr, Program, first_of, instr_at}
-use Rattle.semantics.specs.Rule.{token, signal, Seat, at_dest, to_each, to_all, beyond, back_to, answer_to, landing_at, Outcome, Becomes, Excluded, fires}
+use Rattle.semantics.specs.Rule.{token, signal, Point, at_dest, to_each, to_all, beyond, back_to, answer_to, landing_at, Outcome, Becomes, Excluded, fires}
 use Rattle.semantics.specs.Rule.{asks_for, puts, fire_one, fire_two, meets, opens, takes, gives, drains, alone, on_left, outcome_of, rule_at, slot_of}
 use Rattle.semantics.specs.Machine.{CellState, Vacant, Full, Deferred, Store as MStore, input_tokens, at_start, answer, answers, put_at, with_slot_in}
 use Rattle.semantics.specs.Machine.{with_cell, slot_in, slot_used, Fires, Fetches, Stores, Happens}
@@ -46,7 +46,7 @@ module _ (p q : Program) (g h : ℕ → ℕ) where
   pub all_one : (t : Token) → FitsWord p q h t.word → AllFit (t ∷ [])
   all_one t one = cons_fit t [] one none_fit
 
-  each_fit : (s : Seat) (w : Word) (ds : List Dest) → FitsWord p q h w → AllFit (to_each s w ds)
+  each_fit : (s : Point) (w : Word) (ds : List Dest) → FitsWord p q h w → AllFit (to_each s w ds)
   each_fit s w [] fits = none_fit
   each_fit s w (d ∷ ds) fits = cons_fit (at_dest s w d) (to_each s w ds) fits (each_fit s w ds fits)
 
@@ -67,7 +67,7 @@ module _ (p q : Program) (g h : ℕ → ℕ) where
   fires_fit v (Some ts) a b = (a, b)
 
   module _ (f a : ℕ) (i : Instr) (answered : is_answered i.op ≡ true → (d : Dest) × (i.firsts ≡ d ∷ []) × Plain p q h (a + d.ahead)) where
-    abbrev s : Seat
+    abbrev s : Point
     s = record { frame = f; ip = a }
 
     answer_fits : is_answered i.op ≡ true → FitsWord p q h (Word.Back (answer_to s i.firsts))

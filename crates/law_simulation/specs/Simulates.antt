@@ -65,7 +65,7 @@ pub record Skips (p q : Program) (h : ℕ → ℕ) (a : ℕ) : Type 0 where
   pub before : (b : ℕ) (k : Instr) (e : Dest) → instr_at p b ≡ Some k → hands_on k.op ≡ true → Contains (k.firsts ++ k.seconds) e → b + e.ahead ≡ a
       → Plain p q h b
 
--- The port that stands for itself at which what is sent to that one arrives: it, or the one behind a copy that is left out
+-- The port that stands for itself at which what is sent to that one arrives: it, or the one after a copy that is left out
 pub data Reaches (p q : Program) (h : ℕ → ℕ) (a : ℕ) (r : Port) (x : Spot) : Type 0 where
   straight : Plain p q h a → x ≡ (a, r) → Reaches p q h a r x
   over : (K : Skips p q h a) → x ≡ (a + K.d.ahead, K.d.port) → Reaches p q h a r x
@@ -278,7 +278,7 @@ is_pair (Apply2Right o z) = true
 is_pair (Apply2Left o z) = true
 is_pair op = false
 
--- PORTS. A port of the new code stands for one of the old: that of what hands on for one behind it.
+-- PORTS. A port of the new code stands for one of the old: that of what hands on for one after it.
 pub data Leaf (p q : Program) (g h : ℕ → ℕ) : ℕ → Port → Spot → Type 0 where
   at_moved : (ip : ℕ) (r : Port) (x : Spot) (a : ℕ) → ip ≡ h a → Plain p q h a → x ≡ (a, r) → Leaf p q g h ip r x
   at_pair : (ip : ℕ) (r : Port) (x : Spot) (a : ℕ) (i j : Instr) (o : Binary) → ip ≡ g a → instr_at p a ≡ Some i → i.op ≡ Apply2 o

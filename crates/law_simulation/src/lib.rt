@@ -1,4 +1,4 @@
-//! A plan whose code does what another one's code does keeps what that one keeps: the one argument behind the passes over code.
+//! A plan whose code does what another one's code does keeps what that one keeps: the one argument after the passes over code.
 //!
 //! **The statement.** `simulation_keeps` (`specs/Simulates`): a token of the new code stands for one of the old in another place, or, at an
 //! instruction that the old code has not or has done already, for what comes of it. Then the runs look alike, and the new plan is orderly, lands
@@ -13,7 +13,7 @@
 //! 3. A port gets no more tokens than a port of the old code for which it stands (`SimulationCounts`, `SimulationAgree`), and no token is excluded
 //!    (`SimulationMatching`).
 //! 4. A token comes after an arc was used: where the old event used one, the new event uses it, or what comes of it is on its way through what hands
-//!    on (`SimulationUses`, `SimulationTold`, `SimulationCaused`). An arc into a copy that is left out counts as one into the port behind it.
+//!    on (`SimulationUses`, `SimulationTold`, `SimulationCaused`). An arc into a copy that is left out counts as one into the port after it.
 //! 5. Words, marks, blocks, releases and landings: what a new token carries and names, an old one did (`SimulationWords`, `SimulationOrder`,
 //!    `SimulationLands`); what is counted of credits is the same (`SimulationSteps`, `SimulationBounds`).
 //!

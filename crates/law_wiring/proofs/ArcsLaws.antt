@@ -23,7 +23,7 @@ use Rattle.semantics.specs.Plan.{Plan, landing, landing_in, is_credit}
 use Rattle.semantics.specs.Rule.{slot_of}
 use Rattle.semantics.specs.Bytes as Bytes
 use Rattle.semantics.specs.Cause.{loops_to, is_looped}
-use Rattle.semantics.specs.Wired.{is_dyadic, StandsAt}
+use Rattle.semantics.specs.Wired.{is_dyadic, IsInstrAt}
 use Rattle.semantics.specs.Sharing as Sharing
 use Rattle.semantics.specs.Sharing.{Arc, arc, arcs_to, row, arcs_from, arcs_of}
 use Rattle.semantics.proofs.ArcEnds.{arcs_to_dest}
@@ -40,7 +40,7 @@ use Rattle.law_net.specs.ContextsParts as Parts
 use Rattle.law_net.specs.ContextsBlocks as Blocks
 use Rattle.law_net.specs.ContextsBlocks.{Side, side, Wiring, Site, there_in, waits_in, op_of, kind_op, is_kind, is_call, is_loop, invokes, result_count}
 use Rattle.law_net.specs.ContextsBlocks.{kind_results, code_called, callee_code, outputs_in}
-use Rattle.law_net.specs.ContextsWires.{answered_at, is_given, wired_port, leads_to, stands_at}
+use Rattle.law_net.specs.ContextsWires.{answered_at, is_unwired, wired_port, leads_to, ip_and_port}
 use Rattle.law_net.specs.ContextsExpanded.{variant_in}
 use Rattle.law_wiring.specs.WrittenFit.{IsCallee, Takes}
 use Rattle.law_wiring.proofs.BoundsWholes.{same_looped}
@@ -139,7 +139,7 @@ is_behind b (Drainer n) = true
 is_behind b r = false
 
 -- has no inlet along a wire
-given_behind : (b : Block ℕ) (r : Part) → is_given b r ≡ false → is_behind b r ≡ false
+given_behind : (b : Block ℕ) (r : Part) → is_unwired b r ≡ false → is_behind b r ≡ false
 given_behind b Entry h = h
 given_behind b (Line n) h = h
 given_behind b (Landing n zero) h = refl
@@ -410,22 +410,22 @@ module _ (g : Graph) (text : HasText g) (well : WellFormed g) where
     record Reaches (n : ℕ) (r : Part) (second : Bool) (d : Dest) : Type 0 where
       to : Inlet
       named : Contains (answered_at r ++ x.wiring.wire (side r second)) to
-      at : leads_to n d ≡ stands_at x.wiring to
+      at : leads_to n d ≡ ip_and_port x.wiring to
 
     first_reaches : (n : ℕ) (i : Instr) (d : Dest) (h : Standing n i) → Contains i.firsts d → Reaches n h.part false d
     first_reaches n i d h k =
         let f : Dest → ℕ × Port = leads_to (place h.part) in
         let ys : List Inlet = answered_at h.part ++ x.wiring.wire (side h.part false) in
-        let y = contains_mapped (stands_at x.wiring) ys (f d)
-        (Contains-permutation (map f i.firsts) (map (stands_at x.wiring) ys) (f d) h.is.firsts (contains_map f i.firsts d k)) in
+        let y = contains_mapped (ip_and_port x.wiring) ys (f d)
+        (Contains-permutation (map f i.firsts) (map (ip_and_port x.wiring) ys) (f d) h.is.firsts (contains_map f i.firsts d k)) in
         record { to = y.0; named = y.1; at = ap (λ m. leads_to m d) (sym h.at) ∙ sym y.2 }
 
     second_reaches : (n : ℕ) (i : Instr) (d : Dest) (h : Standing n i) → Contains i.seconds d → Reaches n h.part true d
     second_reaches n i d h k =
         let f : Dest → ℕ × Port = leads_to (place h.part) in
         let ys : List Inlet = x.wiring.wire (side h.part true) in
-        let y = contains_mapped (stands_at x.wiring) ys (f d)
-        (Contains-permutation (map f i.seconds) (map (stands_at x.wiring) ys) (f d) h.is.seconds (contains_map f i.seconds d k)) in
+        let y = contains_mapped (ip_and_port x.wiring) ys (f d)
+        (Contains-permutation (map f i.seconds) (map (ip_and_port x.wiring) ys) (f d) h.is.seconds (contains_map f i.seconds d k)) in
         record { to = y.0; named = Contains-append_right (answered_at h.part) ys y.0 y.1; at = ap (λ m. leads_to m d) (sym h.at) ∙ sym y.2 }
 
     -- a destination lies ahead, and is an inlet
@@ -445,7 +445,7 @@ module _ (g : Graph) (text : HasText g) (well : WellFormed g) where
       later = let low = x.leads.forward (side h.part second) r.to h.there r.named in let at = h.at in omega (arith, low, at);
     }
 
-    leads : (n : ℕ) (i : Instr) (d : Dest) → StandsAt c n i → Contains (i.firsts ++ i.seconds) d → Leads n d
+    leads : (n : ℕ) (i : Instr) (d : Dest) → IsInstrAt c n i → Contains (i.firsts ++ i.seconds) d → Leads n d
     leads n i d e k =
         let h = stands (flow_of g) c x n i e in
         elim (Contains-append_cases i.firsts i.seconds d k) as (λ u. Leads n d)
@@ -461,9 +461,9 @@ module _ (g : Graph) (text : HasText g) (well : WellFormed g) where
       node : ℕ
       invoked : invokes b node ≡ true
       callee : callee_code v b node ≡ block
-      at : leads_to m d ≡ stands_at x.wiring (inlet (Landing node 0) Left 0)
+      at : leads_to m d ≡ ip_and_port x.wiring (inlet (Landing node 0) Left 0)
 
-    lands_at : (m block : ℕ) (i : Instr) (d : Dest) → StandsAt c m i → i.op ≡ Link block → Contains i.firsts d → LandsAt m block d
+    lands_at : (m block : ℕ) (i : Instr) (d : Dest) → IsInstrAt c m i → i.op ≡ Link block → Contains i.firsts d → LandsAt m block d
     lands_at m block i d e op k =
         let h = stands (flow_of g) c x m i e in
         let l = linker_of v s block h.part (sym h.is.op ∙ op) in
@@ -471,7 +471,7 @@ module _ (g : Graph) (text : HasText g) (well : WellFormed g) where
         let alone = subst (λ ys. Contains (answered_at (Linker l.0) ++ ys) r.to) (x.fed.sides (side (Linker l.0) false) (inr refl)) r.named in
         let same = elim (contains_cases (inlet (Landing l.0 0) Left 0) [] r.to alone) as (λ u. inlet (Landing l.0 0) Left 0 ≡ r.to)
         [ inl a ↦ a | inr none ↦ absurd (contains_none r.to none) ] in
-        record { node = l.0; invoked = subst IsThere l.1 h.there; callee = l.2; at = r.at ∙ ap (stands_at x.wiring) (sym same) }
+        record { node = l.0; invoked = subst IsThere l.1 h.there; callee = l.2; at = r.at ∙ ap (ip_and_port x.wiring) (sym same) }
 
     -- the part at a place of a landing
     landed : (m block k : ℕ) (d : Dest) (l : LandsAt m block d) → m + d.ahead ≤ k → k < m + d.ahead + landing plan block
@@ -494,7 +494,7 @@ module _ (g : Graph) (text : HasText g) (well : WellFormed g) where
         let behind = row.behind (omega (arith, at, from)) in
         absurd (cc)
 
-    dest_sound : (n : ℕ) (i : Instr) (d : Dest) → StandsAt c n i → Contains (i.firsts ++ i.seconds) d → IsSoundDest plan c n d
+    dest_sound : (n : ℕ) (i : Instr) (d : Dest) → IsInstrAt c n i → Contains (i.firsts ++ i.seconds) d → IsSoundDest plan c n d
     dest_sound n i d e k =
         let l = leads n i d e k in
         let here = x.laid.here l.to.part l.target.there in
@@ -515,14 +515,14 @@ module _ (g : Graph) (text : HasText g) (well : WellFormed g) where
           apart = (last, omega (arith, later), omega (arith, at, later), not_tied last l.to.part l.target.there l.target.first (omega (arith, later)));
         }
 
-    lands_left : (n : ℕ) (i : Instr) (op : Op) → StandsAt c n i → i.op ≡ op → LandsLeft op i.firsts
+    lands_left : (n : ℕ) (i : Instr) (op : Op) → IsInstrAt c n i → i.op ≡ op → LandsLeft op i.firsts
     lands_left n i (Link block) there same =
         All-weaker (Contains i.firsts) (λ (d : Dest). d.port ≡ Left) (λ d q. ap (λ (z : ℕ × Port). z.1) (lands_at n block i d there same q).at) i.firsts
         (All-contains_itself i.firsts)
     lands_left n i op there same = tt
 
-    landing_stands : (m k block : ℕ) (i : Instr) (d : Dest) → StandsAt c m i → i.op ≡ Link block → Contains i.firsts d → m + d.ahead ≤ k
-        → k < m + d.ahead + landing plan block → (j : Instr) × StandsAt c k j × (is_row j.op ≡ true)
+    landing_stands : (m k block : ℕ) (i : Instr) (d : Dest) → IsInstrAt c m i → i.op ≡ Link block → Contains i.firsts d → m + d.ahead ≤ k
+        → k < m + d.ahead + landing plan block → (j : Instr) × IsInstrAt c k j × (is_row j.op ≡ true)
     landing_stands m k block i d there links named from below =
         let l = lands_at m block i d there links named in
         let at : m + d.ahead ≡ place (Landing l.node 0) = ap (λ (z : ℕ × Port). z.0) l.at in
@@ -532,7 +532,7 @@ module _ (g : Graph) (text : HasText g) (well : WellFormed g) where
         let same : k ≡ place row.part = omega (arith, its, at, from) in
         (here.0, ap (slice_get c.instrs) same ∙ here.1, ap is_row here.2.op ∙ row.row)
 
-    arc_past : (k : ℕ) (i : Instr) (y : Arc) → StandsAt c k i → ByDest k i y ⊎ ByLanding plan k i i.op y → c.inputs < y.to.place
+    arc_past : (k : ℕ) (i : Instr) (y : Arc) → IsInstrAt c k i → ByDest k i y ⊎ ByLanding plan k i i.op y → c.inputs < y.to.place
     arc_past k i y there (inl (d, named, to)) =
         let a = (dest_sound k i d there named).past in
         let e : y.to.place ≡ k + d.ahead = ap (λ (q : Sharing.Inlet). q.place) to in
@@ -542,7 +542,7 @@ module _ (g : Graph) (text : HasText g) (well : WellFormed g) where
         let e : y.to.place ≡ m = ap (λ (q : Sharing.Inlet). q.place) to in
         omega (arith, a, e, from)
 
-    arc_right : (k : ℕ) (i : Instr) (y : Arc) → StandsAt c k i → y.to.port ≡ Right → ByDest k i y ⊎ ByLanding plan k i i.op y → MeetsAt c.instrs y.to.place
+    arc_right : (k : ℕ) (i : Instr) (y : Arc) → IsInstrAt c k i → y.to.port ≡ Right → ByDest k i y ⊎ ByLanding plan k i i.op y → MeetsAt c.instrs y.to.place
     arc_right k i y there right (inl (d, named, to)) =
         subst (MeetsAt c.instrs) (sym (ap (λ (q : Sharing.Inlet). q.place) to))
         (meets k d (leads k i d there named) (sym (ap (λ (q : Sharing.Inlet). q.port) to) ∙ right))

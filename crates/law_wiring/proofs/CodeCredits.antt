@@ -117,7 +117,7 @@ no_row : (f : ℕ → Part) (from n : ℕ) → ((j : ℕ) → is_opener (f j) �
 no_row f from zero h = tt
 no_row f from (suc n) h = (h from, no_row f (from + 1) n h)
 
--- behind the opener of a loop
+-- after the opener of a loop
 pub behind_opener : (n m i : ℕ) (r : Part) → slice_get (Opener n ∷ invoked n m m ++ (Giver n ∷ Taker n ∷ Drainer n ∷ LoopDone n ∷ [])) (suc i) ≡ Some r
     → is_opener r ≡ false
 behind_opener n m i r e =

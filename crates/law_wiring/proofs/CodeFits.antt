@@ -23,7 +23,7 @@ use Rattle.schemas.specs.Triggers as Triggers
 use Rattle.schemas.specs.Triggers.{takes_trigger}
 use Rattle.law_net.specs.ContextsBlocks.{is_kind, cond_kind, call_kind, loop_kind, lies_in, outside, outputs_in}
 use Rattle.law_wiring.specs.Written.{is_triggered}
-use Rattle.law_wiring.specs.WrittenFit.{IsCallee, Takes, kind_ports, ComesBefore, LiesIn, Merges, Lies, IsLineFit, IsFit, BlocksFit}
+use Rattle.law_wiring.specs.WrittenFit.{IsCallee, Takes, kind_ports, IsPrior, LiesIn, Merges, Lies, IsLineFit, IsFit, BlocksFit}
 
 -- TRIGGERS are set once and for all
 region_length : (ts : List Bool) (r : Region) → length (Triggers.with_region ts r) ≡ length ts
@@ -190,14 +190,14 @@ module _ (g : Graph) (well : WellFormed g) where
     abbrev fl : Flow
     fl = flow_of g
 
-    comes : (n m : ℕ) (s : Source) → n ≡ m → IsEarlier g b n s → ComesBefore fl (block_in g b) m s
-    comes n m s e h =
+    arrives : (n m : ℕ) (s : Source) → n ≡ m → IsEarlier g b n s → IsPrior fl (block_in g b) m s
+    arrives n m s e h =
         let x = port_at b s.node s.port h.1 in
         let low = h.0 in
         record { earlier = omega (arith, low, e); port = x.0; no_cond = x.1; first = x.2 }
 
-    all_come : (n m : ℕ) (ss : List Source) → n ≡ m → All (IsEarlier g b n) ss → All (ComesBefore fl (block_in g b) m) ss
-    all_come n m ss e h = All-weaker (IsEarlier g b n) (ComesBefore fl (block_in g b) m) (λ s k. comes n m s e k) ss h
+    all_arrive : (n m : ℕ) (ss : List Source) → n ≡ m → All (IsEarlier g b n) ss → All (IsPrior fl (block_in g b) m) ss
+    all_arrive n m ss e h = All-weaker (IsEarlier g b n) (IsPrior fl (block_in g b) m) (λ s k. arrives n m s e k) ss h
 
     all_lie : (r : Region) (ss : List Source) → AllLieIn b r ss → All (LiesIn (block_in g b) r) ss
     all_lie r ss h = All-weaker (λ (s : Source). region_of b s.node ≡ r) (LiesIn (block_in g b) r) (λ s k. region_same b s.node ∙ k) ss h
@@ -276,7 +276,7 @@ module _ (g : Graph) (well : WellFormed g) where
       round = λ k t q. round n line.region k t h.region q;
       triggered = λ k t q takes. triggered n (node_in g line) k t e (round n line.region k t h.region q).0 q takes;
       takes = takes line.kind (length line.sources) h.names;
-      earlier = all_come n n line.sources refl h.earlier;
+      earlier = all_arrive n n line.sources refl h.earlier;
       lies = lies n line.region line.kind line.sources h.lies;
     }
 
@@ -287,7 +287,7 @@ module _ (g : Graph) (well : WellFormed g) where
       nodes = λ n node e. let line = node_back g b n node e in
           subst (IsLineFit fl (block_in g b) n) line.2 (line_fit n line.0 (e ∙ ap (λ y. Some y) (sym line.2)) (h.nodes n line.0 line.1));
       result_count = h.result_count;
-      results = all_come (node_count b) (node_count (block_in g b)) b.results (ap (λ k. b.inputs + k) (same_length b.nodes)) h.results;
+      results = all_arrive (node_count b) (node_count (block_in g b)) b.results (ap (λ k. b.inputs + k) (same_length b.nodes)) h.results;
       in_root = all_lie Root b.results h.in_root;
     }
 

@@ -24,7 +24,7 @@ use Rattle.law_net.specs.ContextsParts.{CondEnd, Inlet, same_part}
 use Rattle.law_net.specs.ContextsBlocks as Blocks
 use Rattle.law_net.specs.ContextsBlocks.{Side, side, Site, Wiring, there_in, op_of, is_kind, cell_kind, cond_kind, call_kind, loop_kind, is_loop, is_call}
 use Rattle.law_net.specs.ContextsBlocks.{result_count, kind_results, outputs_in, leaves_in}
-use Rattle.law_net.specs.ContextsWires.{plain_site, turn_site, answered_at, has_no_wire, holds_own, leads_to, stands_at, IsInstr, IsLaidOut}
+use Rattle.law_net.specs.ContextsWires.{plain_site, turn_site, answered_at, has_no_wire, holds_own, leads_to, ip_and_port, IsInstr, IsLaidOut}
 use Rattle.law_net.specs.ContextsExpanded.{wiring_of, wires_of, variant_in, has_part, slot_at, inlet_by, dests_on, invoked}
 use Rattle.law_wiring.specs.Written as Written
 use Rattle.law_wiring.specs.Written.{is_shared, is_triggered, parts_in, kind_parts, node_parts}
@@ -86,10 +86,10 @@ module _ (fl : Flow) (S : Site) (c : CodeBlock) (fit : IsFit fl S.block) (turned
           mark = mark_is r h;
           slot = sym (ap slot_at x.1);
           firsts =
-              permutation_same (map (leads_to (place r)) i.firsts) (map (stands_at W) (answered_at r ++ W.wire (side r false)))
+              permutation_same (map (leads_to (place r)) i.firsts) (map (ip_and_port W) (answered_at r ++ W.wire (side r false)))
               (firsts_are fl S c fit turned facts r i h x.1 x.2);
           seconds =
-              permutation_same (map (leads_to (place r)) i.seconds) (map (stands_at W) (W.wire (side r true)))
+              permutation_same (map (leads_to (place r)) i.seconds) (map (ip_and_port W) (W.wire (side r true)))
               (seconds_are fl S c fit turned facts r i h x.1 x.2);
         },
       )
@@ -245,7 +245,7 @@ module _ (fl : Flow) (S : Site) (c : CodeBlock) (fit : IsFit fl S.block) (turned
   wiring_is : W ≡ (wires_of fl).wiring S.own
   wiring_is = ap (λ ps. wiring_of b ps c.instrs) (sym (parts_agree fl S fit turned (placed fl S c fit turned facts))) ∙ facts.wiring
 
-  -- each instruction of a loop comes behind its opener, with no other one between
+  -- each instruction of a loop comes after its opener, with no other one between
   credits_meet : CreditsMeet
   credits_meet n h = go (node_at b n) refl h
     where

@@ -6,7 +6,7 @@ use Rattle.semantics.specs.Graph.{Block, Flow, Graph, flow_of}
 use Rattle.semantics.specs.WellFormed.{WellFormed}
 use Rattle.semantics.specs.Cause.{is_looped}
 use Rattle.semantics.specs.Program.{Instr, CodeBlock}
-use Rattle.semantics.specs.Wired.{StandsAt}
+use Rattle.semantics.specs.Wired.{IsInstrAt}
 use Rattle.schemas.specs.Variants.{some_block_loops, variants_of}
 use Rattle.schemas.specs.Expanded.{plain_code, variant_code, expanded}
 use Rattle.law_net.specs.ContextsParts.{Part}
@@ -77,7 +77,7 @@ pub record Stands (fl : Flow) (s : Site) (w : Wiring) (n : ℕ) (i : Instr) : Ty
   pub at : w.place part ≡ n
   pub is : IsInstr fl (expanded fl) (variant_in fl) s w part i
 
-pub stands : (fl : Flow) (c : CodeBlock) (x : IsRead fl c) (n : ℕ) (i : Instr) → StandsAt c n i → Stands fl x.site x.wiring n i
+pub stands : (fl : Flow) (c : CodeBlock) (x : IsRead fl c) (n : ℕ) (i : Instr) → IsInstrAt c n i → Stands fl x.site x.wiring n i
 stands fl c x n i e =
     let q = x.laid.each n (slice_get_within c.instrs n i e) in
     let here = x.laid.here q.0 q.1 in

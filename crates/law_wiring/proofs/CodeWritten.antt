@@ -21,7 +21,7 @@ use Rattle.law_net.specs.ContextsParts.{Part, Entry, Line, Trigger, Gate, Opener
 use Rattle.law_net.specs.ContextsParts.{Join, CondEnd, Inlet, inlet, same_part}
 use Rattle.law_net.specs.ContextsBlocks as Blocks
 use Rattle.law_net.specs.ContextsBlocks.{Side, side, Site, Wiring, there_in, waits_in, op_of, kind_op, is_pair, leaves_in, is_loop, is_call, result_count}
-use Rattle.law_net.specs.ContextsWires.{answered_at, has_no_wire, holds_own, leads_to, stands_at}
+use Rattle.law_net.specs.ContextsWires.{answered_at, has_no_wire, holds_own, leads_to, ip_and_port}
 use Rattle.law_net.specs.ContextsExpanded.{wiring_of, variant_in, has_part, place_from, dests_on, inlet_by}
 use Rattle.law_wiring.specs.Written.{Wire, wire, along, parts_in, wires_in}
 use Rattle.law_wiring.specs.WrittenFit.{IsFit}
@@ -296,10 +296,10 @@ module _ (fl : Flow) (S : Site) (c : CodeBlock) (fit : IsFit fl S.block) (turned
 
   -- and its destinations are these wires, and where the machine answers
   pub dests_are_wires : (r : Part) (s : Bool) (i : Instr) → IsThere r → has_no_wire r ≡ false → slice_get c.instrs (at r) ≡ Some i → IsAt it (arcs_in fl S) r i
-      → map (leads_to (at r)) (dests_of i s) ≡ map (stands_at w) (w.wire (side r s))
+      → map (leads_to (at r)) (dests_of i s) ≡ map (ip_and_port w) (w.wire (side r s))
   dests_are_wires r s i h n e x =
       dests_stand P placed w (leaves_in b r s) (at r) (dests_of i s) (λ q. refl) (dests_inside (at r) i s e)
-      ∙ ap (map (stands_at w)) (sym (read_is r s i h e n))
+      ∙ ap (map (ip_and_port w)) (sym (read_is r s i h e n))
 
   -- the one destination of an answer
   answer_dest : (r : Part) (i : Instr) (y : Inlet) → IsThere r → has_no_wire r ≡ true → slice_get c.instrs (at r) ≡ Some i → IsAt it (arcs_in fl S) r i
@@ -326,30 +326,30 @@ module _ (fl : Flow) (S : Site) (c : CodeBlock) (fit : IsFit fl S.block) (turned
       omega (arith, inside)
 
   pub firsts_are : (r : Part) (i : Instr) → IsThere r → slice_get c.instrs (at r) ≡ Some i → IsAt it (arcs_in fl S) r i
-      → map (leads_to (at r)) i.firsts ≡ map (stands_at w) (answered_at r ++ w.wire (side r false))
+      → map (leads_to (at r)) i.firsts ≡ map (ip_and_port w) (answered_at r ++ w.wire (side r false))
   firsts_are r i h e x = go (has_no_wire r) refl
     where
-      go : (t : Bool) → has_no_wire r ≡ t → map (leads_to (at r)) i.firsts ≡ map (stands_at w) (answered_at r ++ w.wire (side r false))
-      go false n = dests_are_wires r false i h n e x ∙ sym (ap (λ xs. map (stands_at w) (xs ++ w.wire (side r false))) (own_answers r n))
+      go : (t : Bool) → has_no_wire r ≡ t → map (leads_to (at r)) i.firsts ≡ map (ip_and_port w) (answered_at r ++ w.wire (side r false))
+      go false n = dests_are_wires r false i h n e x ∙ sym (ap (λ xs. map (ip_and_port w) (xs ++ w.wire (side r false))) (own_answers r n))
       go true n = by_answer (no_answers r n)
         where
           by_answer : (answered_at r ≡ []) ⊎ ((y : Inlet) × (answered_at r ≡ y ∷ []))
-              → map (leads_to (at r)) i.firsts ≡ map (stands_at w) (answered_at r ++ w.wire (side r false))
+              → map (leads_to (at r)) i.firsts ≡ map (ip_and_port w) (answered_at r ++ w.wire (side r false))
           by_answer (inl none) =
               let l = (exact_is r i h n x).0 ∙ ap (λ (xs : List Inlet). length xs) none in
               ap (map (leads_to (at r))) (nil_from_length i.firsts l)
-              ∙ sym (ap (λ xs. map (stands_at w) (xs ++ w.wire (side r false))) none ∙ ap (map (stands_at w)) (read_none r false n))
+              ∙ sym (ap (λ xs. map (ip_and_port w) (xs ++ w.wire (side r false))) none ∙ ap (map (ip_and_port w)) (read_none r false n))
           by_answer (inr y) =
               let one = answer_dest r i y.0 h n e x y.1 in
               let less = answer_forward r y.0 h n y.1 in
               let here : at r + (at y.0.part - at r) ≡ at y.0.part = omega (arith, less) in
               ap (map (leads_to (at r))) one ∙ ap (λ k. (k, y.0.port) ∷ []) here
-              ∙ sym (ap (λ xs. map (stands_at w) (xs ++ w.wire (side r false))) y.1 ∙ ap (λ xs. map (stands_at w) (y.0 ∷ xs)) (read_none r false n))
+              ∙ sym (ap (λ xs. map (ip_and_port w) (xs ++ w.wire (side r false))) y.1 ∙ ap (λ xs. map (ip_and_port w) (y.0 ∷ xs)) (read_none r false n))
 
   pub seconds_are : (r : Part) (i : Instr) → IsThere r → slice_get c.instrs (at r) ≡ Some i → IsAt it (arcs_in fl S) r i
-      → map (leads_to (at r)) i.seconds ≡ map (stands_at w) (w.wire (side r true))
+      → map (leads_to (at r)) i.seconds ≡ map (ip_and_port w) (w.wire (side r true))
   seconds_are r i h e x = go (has_no_wire r) refl
     where
-      go : (t : Bool) → has_no_wire r ≡ t → map (leads_to (at r)) i.seconds ≡ map (stands_at w) (w.wire (side r true))
+      go : (t : Bool) → has_no_wire r ≡ t → map (leads_to (at r)) i.seconds ≡ map (ip_and_port w) (w.wire (side r true))
       go false n = dests_are_wires r true i h n e x
-      go true n = ap (map (leads_to (at r))) (nil_from_length i.seconds (exact_is r i h n x).1) ∙ sym (ap (map (stands_at w)) (read_none r true n))
+      go true n = ap (map (leads_to (at r))) (nil_from_length i.seconds (exact_is r i h n x).1) ∙ sym (ap (map (ip_and_port w)) (read_none r true n))

@@ -26,7 +26,7 @@ use Rattle.schemas.specs.Variants.{some_block_loops, variants_of}
 use Rattle.schemas.specs.Blocks.{entries, with_inputs, variant_of, code_of}
 use Rattle.schemas.specs.Expanded.{scope_of, plain_code, variant_code, expanded}
 use Rattle.law_wiring.specs.BoundsKeeping.{Fits}
-use Rattle.law_wiring.specs.Facts.{NamesAndComesRightly, NamesBlockRightly, NamesAllRightly}
+use Rattle.law_wiring.specs.Facts.{NamesAndArrivesRightly, NamesBlockRightly, NamesAllRightly}
 use Rattle.law_wiring.proofs.FactsHeads.{push_cases, same_at, head, heads, heads_connected, heads_added}
 use Rattle.law_wiring.proofs.KeepingSteps.{Stage, Idle, Step, Basics, Invokes, AllowsKind, Allows, SendsOn, code_build, entries_keep, code_keeps}
 use Rattle.law_wiring.proofs.FactsFlows.{Takes, Turns, KindFits, BlockFits, FlowFits}
@@ -48,7 +48,7 @@ basics p = record {
 
 -- NAMES, as instructions are added
 abbrev Names : Program → Stage → Build → Type 0
-Names p s b = (n : ℕ) (x : Instr) → slice_get (heads b.instrs) n ≡ Some x → NamesAndComesRightly p x
+Names p s b = (n : ℕ) (x : Instr) → slice_get (heads b.instrs) n ≡ Some x → NamesAndArrivesRightly p x
 
 adds_names : (p : Program) (s t : Stage) (b : Build) (op : Op) (o : Origin) (m : Mark) (r : Region) → Step s op t → Fits op m → NamesRightly p op → IsPlace o
     → Names p s b → Names p t (added b op o m r)
@@ -56,9 +56,9 @@ adds_names p s t b op o m r e w k f h n x g =
     let i : Instr = bare op o (slot_in b op) in
     go (push_cases (heads b.instrs) i x n (ap (λ hs. slice_get hs n) (sym (heads_added b.instrs op o (slot_in b op))) ∙ g))
   where
-    go : (slice_get (heads b.instrs) n ≡ Some x) ⊎ ((n ≡ length (heads b.instrs)) × (bare op o (slot_in b op) ≡ x)) → NamesAndComesRightly p x
+    go : (slice_get (heads b.instrs) n ≡ Some x) ⊎ ((n ≡ length (heads b.instrs)) × (bare op o (slot_in b op) ≡ x)) → NamesAndArrivesRightly p x
     go (inl a) = h n x a
-    go (inr a) = subst (NamesAndComesRightly p) a.1 (k, f)
+    go (inr a) = subst (NamesAndArrivesRightly p) a.1 (k, f)
 
 links_names : (p : Program) (s : Stage) (b : Build) (o : Outlet) (to : ℕ) (q : Port) → Names p s b → Names p s (connected b o to q)
 links_names p s b o to q h n x g = h n x (ap (λ hs. slice_get hs n) (sym (heads_connected b.instrs o to q)) ∙ g)

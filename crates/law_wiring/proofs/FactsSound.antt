@@ -9,7 +9,7 @@ use Rattle.semantics.specs.WellFormed.{WellFormed}
 use Rattle.semantics.specs.Program.{Instr, CodeBlock, Program}
 use Rattle.semantics.specs.Plan.{Plan, HasShape, IsPlanBlock, IsPlan}
 use Rattle.semantics.specs.Sharing.{Arc, arcs_of}
-use Rattle.semantics.specs.Wired.{StandsAt, IsWired, is_dyadic}
+use Rattle.semantics.specs.Wired.{IsInstrAt, IsWired, is_dyadic}
 use Rattle.code.specs.Sound.{LandsLeft, IsSoundProgram, DestsAreSound, IsSound}
 use Rattle.schemas.specs.Expanded.{expanded}
 use Rattle.law_wiring.specs.Facts.{NamesAllRightly, HoldsRightly}
@@ -17,11 +17,11 @@ use Rattle.law_wiring.proofs.FactsWholes.{plans_name_rightly, plans_hold_rightly
 
 -- each instruction of a program has as many destinations as its operation says
 abbrev pub HasShapes : Program → Type 0
-HasShapes p = (b n : ℕ) (c : CodeBlock) (i : Instr) → slice_get p.blocks b ≡ Some c → StandsAt c n i → HasShape i.op (length i.firsts) (length i.seconds)
+HasShapes p = (b n : ℕ) (c : CodeBlock) (i : Instr) → slice_get p.blocks b ≡ Some c → IsInstrAt c n i → HasShape i.op (length i.firsts) (length i.seconds)
 
 -- each landing begins at a left port
 abbrev pub LandLeft : Program → Type 0
-LandLeft p = (b n : ℕ) (c : CodeBlock) (i : Instr) → slice_get p.blocks b ≡ Some c → StandsAt c n i → LandsLeft i.op i.firsts
+LandLeft p = (b n : ℕ) (c : CodeBlock) (i : Instr) → slice_get p.blocks b ≡ Some c → IsInstrAt c n i → LandsLeft i.op i.firsts
 
 pub sound_program : (p : Program) → NamesAllRightly p → HasShapes p → LandLeft p → IsSoundProgram p
 sound_program p h shapes lands = record {
@@ -40,7 +40,7 @@ sound_program p h shapes lands = record {
       };
 }
 
-pub plan_block : (c : CodeBlock) → HoldsRightly c → ((n : ℕ) (i : Instr) → StandsAt c n i → HasShape i.op (length i.firsts) (length i.seconds)) → IsPlanBlock c
+pub plan_block : (c : CodeBlock) → HoldsRightly c → ((n : ℕ) (i : Instr) → IsInstrAt c n i → HasShape i.op (length i.firsts) (length i.seconds)) → IsPlanBlock c
 plan_block c h shapes = record {
   shapes = all_from (λ (i : Instr). HasShape i.op (length i.firsts) (length i.seconds)) c.instrs shapes;
   holders = h.holders;
@@ -60,7 +60,7 @@ EntriesAreFree p = (b : ℕ) (c : CodeBlock) (x : Arc) → slice_get p.program.b
 
 abbrev pub RightsAreDyadic : Plan → Type 0
 RightsAreDyadic p = (b : ℕ) (c : CodeBlock) (x : Arc) → slice_get p.program.blocks b ≡ Some c → Contains (arcs_of p 0 c.instrs) x → x.to.port ≡ Right
-    → (i : Instr) × StandsAt c x.to.place i × (is_dyadic i.op ≡ true)
+    → (i : Instr) × IsInstrAt c x.to.place i × (is_dyadic i.op ≡ true)
 
 pub is_wired : (fl : Flow) → HasShapes (expanded fl).program → EntriesAreFree (expanded fl) → RightsAreDyadic (expanded fl) → IsWired (expanded fl)
 is_wired fl shapes entries rights = record {

@@ -17,7 +17,7 @@ use Rattle.law_net.specs.ContextsParts as Parts
 use Rattle.law_net.specs.ContextsParts.{Part, Entry, Line, Opener, Strict, TurnCont, TurnFlag, Asker, NextFanned, NextSender, DrainReturn, Join, CondEnd, Inlet}
 use Rattle.law_net.specs.ContextsParts.{inlet, same_part, same_inlet}
 use Rattle.law_net.specs.ContextsBlocks.{Side, side, Site, Wiring, there_in, leaves_in, pair_kind}
-use Rattle.law_net.specs.ContextsWires.{plain_site, AreFed, IsFed, wired_way, wired_port, is_given, is_side, has_no_wire, hits}
+use Rattle.law_net.specs.ContextsWires.{plain_site, AreFed, IsFed, wired_way, wired_port, is_unwired, is_side, has_no_wire, hits}
 use Rattle.law_net.specs.ContextsExpanded.{way_in}
 use Rattle.law_net.proofs.ContextsSames.{same_part-refl}
 use Rattle.law_wiring.specs.Written as Written
@@ -110,7 +110,7 @@ no_along b t (w ∷ ws) h = go (same_side t w.from) refl (no_along b t ws h.1)
 
 module _ (fl : Flow) (s : Site) (fit : IsFit fl s.block) where
   abbrev Local : Wire → Type 0
-  Local v = (wired_port s.block v.part v.port ≡ true) × (is_given s.block v.part ≡ false)
+  Local v = (wired_port s.block v.part v.port ≡ true) × (is_unwired s.block v.part ≡ false)
 
   chain_local : (g : Region) (n : ℕ) (t : Side) (ts : List Side) → AllW Local (chain_wires g n t ts)
   chain_local g n t [] = tt
@@ -130,7 +130,7 @@ module _ (fl : Flow) (s : Site) (fit : IsFit fl s.block) where
 
   -- nodes
   module _ (n : ℕ) (x : Node ℕ) (at : node_at s.block n ≡ Some x) where
-    not_input : is_given s.block (Line n) ≡ false
+    not_input : is_unwired s.block (Line n) ≡ false
     not_input = let w = (node_within s.block n x at).0 in le-ltb n s.block.inputs w
 
     one_local : (xs : List Source) → length xs ≡ 1 → AllW Local (operand_wires s (Line n) 0 xs)
@@ -336,7 +336,7 @@ module _ (fl : Flow) (s : Site) (fit : IsFit fl s.block) where
         go true e = absurd (ne (side_is u t e))
         go false e = refl
 
-    is_fed : (x : Inlet) → There x.part → wired_way x.part x.way ≡ true → wired_port s.block x.part x.port ≡ true → is_given s.block x.part ≡ false
+    is_fed : (x : Inlet) → There x.part → wired_way x.part x.way ≡ true → wired_port s.block x.part x.port ≡ true → is_unwired s.block x.part ≡ false
         → IsFed fl s w x
     is_fed x t a p g =
         let v = one_along (From (λ t. In t (sides (parts_in fl s)))) s.block x (wires_in fl s) (all_from fl s fit well)
@@ -352,13 +352,13 @@ module _ (fl : Flow) (s : Site) (fit : IsFit fl s.block) where
         )
 
     lead : (t : Side) (x : Inlet) → There t.part → Contains (w.wire t) x
-        → (There x.part) × (wired_way x.part x.way ≡ true) × (wired_port s.block x.part x.port ≡ true) × (is_given s.block x.part ≡ false)
+        → (There x.part) × (wired_way x.part x.way ≡ true) × (wired_port s.block x.part x.port ≡ true) × (is_unwired s.block x.part ≡ false)
     lead t x there c =
         let v = along_all Local s.block t (wires_in fl s) x all_local (subst (λ xs. Contains xs x) (h.wire t there) c) in (
           h.lands t x there c,
           ap (λ (y : Inlet). wired_way y.part y.way) (sym v.3) ∙ ways_known v.0.part (leaves_in s.block v.0.from.part v.0.from.second),
           ap (λ (y : Inlet). wired_port s.block y.part y.port) (sym v.3) ∙ v.1.0,
-          ap (λ (y : Inlet). is_given s.block y.part) (sym v.3) ∙ v.1.1,
+          ap (λ (y : Inlet). is_unwired s.block y.part) (sym v.3) ∙ v.1.1,
         )
 
     empty_side : (t : Side) → (is_side t ≡ false) ⊎ (has_no_wire t.part ≡ true) → w.wire t ≡ []

@@ -30,7 +30,7 @@ use Rattle.law_wiring.specs.Written.{kind_wires, node_wires, result_wires, value
 use Rattle.law_wiring.specs.Written.{trigger_parts, kind_parts, node_parts, tail_parts, inner_parts, sides_of, sides, open_of, is_open, first_ends, in_region}
 use Rattle.law_wiring.specs.Written.{chain_wires, chain_end, joined_wires, joined_parts, signal_wires, cond_parts, cond_sides, Ended, arm_ends, close}
 use Rattle.law_wiring.specs.Written.{close_kind, close_nodes, close_flag, inner, root_ends, parts_in, wires_in}
-use Rattle.law_wiring.specs.WrittenFit.{Takes, ComesBefore, IsFit, kind_ports, port_count}
+use Rattle.law_wiring.specs.WrittenFit.{Takes, IsPrior, IsFit, kind_ports, port_count}
 use Rattle.law_wiring.proofs.PartsCounts.{Follow, follow_more, follow_here}
 use Rattle.law_wiring.proofs.WrittenMembers.{AllW, all_both, AllS, sides_both, all_of, In, sides_left, sides_right, open_all}
 use Rattle.law_wiring.proofs.Parts.{follow, node_within}
@@ -148,7 +148,7 @@ module _ (fl : Flow) (s : Site) (fit : IsFit fl s.block) where
   count = s.block.inputs + length s.block.nodes
 
   -- where a source's value leaves
-  pub source_there : (n : ℕ) (x : Source) → n ≤ count → ComesBefore fl s.block n x → Inner (leaves s x)
+  pub source_there : (n : ℕ) (x : Source) → n ≤ count → IsPrior fl s.block n x → Inner (leaves s x)
   source_there n x u h = go (node_at s.block x.node) refl
     where
       input : node_at s.block x.node ≡ None → x.node < s.block.inputs
@@ -209,41 +209,41 @@ module _ (fl : Flow) (s : Site) (fit : IsFit fl s.block) where
     below : n ≤ count
     below = let w = (node_within s.block n x at).1 in omega (arith, w)
 
-    operands_there : (r : Part) (from : ℕ) (xs : List Source) → All (ComesBefore fl s.block n) xs → AllW (From Inner) (operand_wires s r from xs)
+    operands_there : (r : Part) (from : ℕ) (xs : List Source) → All (IsPrior fl s.block n) xs → AllW (From Inner) (operand_wires s r from xs)
     operands_there r from [] h = tt
     operands_there r from (z ∷ xs) h =
-        (source_there n z below (All-head (ComesBefore fl s.block n) z xs h), operands_there r (from + 1) xs (All-tail (ComesBefore fl s.block n) z xs h))
+        (source_there n z below (All-head (IsPrior fl s.block n) z xs h), operands_there r (from + 1) xs (All-tail (IsPrior fl s.block n) z xs h))
 
-    merges_there : (r : Part) (xs : List Source) → All (ComesBefore fl s.block n) xs → AllW (From Inner) (merge_wires s r xs)
+    merges_there : (r : Part) (xs : List Source) → All (IsPrior fl s.block n) xs → AllW (From Inner) (merge_wires s r xs)
     merges_there r [] h = tt
     merges_there r (z ∷ xs) h =
-        (source_there n z below (All-head (ComesBefore fl s.block n) z xs h), merges_there r xs (All-tail (ComesBefore fl s.block n) z xs h))
+        (source_there n z below (All-head (IsPrior fl s.block n) z xs h), merges_there r xs (All-tail (IsPrior fl s.block n) z xs h))
 
-    senders_there : (from : ℕ) (xs : List Source) → Inner (side (Fanned n) false) → All (ComesBefore fl s.block n) xs
+    senders_there : (from : ℕ) (xs : List Source) → Inner (side (Fanned n) false) → All (IsPrior fl s.block n) xs
         → AllW (From Inner) (sender_wires s n from xs)
     senders_there from [] f h = tt
     senders_there from (z ∷ xs) f h =
-        (f, (source_there n z below (All-head (ComesBefore fl s.block n) z xs h), senders_there (from + 1) xs f (All-tail (ComesBefore fl s.block n) z xs h)))
+        (f, (source_there n z below (All-head (IsPrior fl s.block n) z xs h), senders_there (from + 1) xs f (All-tail (IsPrior fl s.block n) z xs h)))
 
-    invoke_there : (t : Side) (xs : List Source) → Inner t → Inner (side (Fanned n) false) → All (ComesBefore fl s.block n) xs
+    invoke_there : (t : Side) (xs : List Source) → Inner t → Inner (side (Fanned n) false) → All (IsPrior fl s.block n) xs
         → AllW (From Inner) (invoke_wires s n t xs)
     invoke_there t xs i f h = (i, (f, senders_there 0 xs f h))
 
     strict_there : (from : ℕ) (t : Side) (xs : List Source) → Inner t → ((j : ℕ) → from ≤ j → j < from + length xs → Inner (side (Strict n j) false))
-        → All (ComesBefore fl s.block n) xs
+        → All (IsPrior fl s.block n) xs
         → AllW (From Inner) (strict_wires s n from t xs) × Inner (strict_end n from t xs)
     strict_there from t [] i g h = (tt, i)
     strict_there from t (z ∷ xs) i g h =
         let rest = strict_there (from + 1) (side (Strict n from) false) xs (g from (omega arith) (omega arith))
-        (λ j l m. g j (omega (arith, l)) (omega (arith, m))) (All-tail (ComesBefore fl s.block n) z xs h) in
-        ((i, (source_there n z below (All-head (ComesBefore fl s.block n) z xs h), rest.0)), rest.1)
+        (λ j l m. g j (omega (arith, l)) (omega (arith, m))) (All-tail (IsPrior fl s.block n) z xs h) in
+        ((i, (source_there n z below (All-head (IsPrior fl s.block n) z xs h), rest.0)), rest.1)
 
     strict_call_there : (xs : List Source) → Inner (side (Fanned n) false) → ((j : ℕ) → 1 ≤ j → j < length xs → Inner (side (Strict n j) false))
-        → All (ComesBefore fl s.block n) xs → AllW (From Inner) (strict_call_wires s n xs)
+        → All (IsPrior fl s.block n) xs → AllW (From Inner) (strict_call_wires s n xs)
     strict_call_there [] f g h = tt
     strict_call_there (z ∷ xs) f g h =
-        let chain = strict_there 1 (leaves s z) xs (source_there n z below (All-head (ComesBefore fl s.block n) z xs h)) (λ j l m. g j l (omega (arith, m)))
-        (All-tail (ComesBefore fl s.block n) z xs h) in
+        let chain = strict_there 1 (leaves s z) xs (source_there n z below (All-head (IsPrior fl s.block n) z xs h)) (λ j l m. g j l (omega (arith, m)))
+        (All-tail (IsPrior fl s.block n) z xs h) in
         all_both (From Inner) (strict_wires s n 1 (leaves s z) xs) (invoke_wires s n (strict_end n 1 (leaves s z) xs) (z ∷ xs)) chain.0
         (invoke_there (strict_end n 1 (leaves s z) xs) (z ∷ xs) chain.1 f h)
 
@@ -252,7 +252,7 @@ module _ (fl : Flow) (s : Site) (fit : IsFit fl s.block) where
     region_trigger Root h = entry_there
     region_trigger (Arm k t) h = let c = h k t refl in trigger_there k (not t) c.0 c.1
 
-    gates_there : (r : Region) (xs : List Source) → lies_in s.block n ≡ r → length xs ≡ 1 → All (ComesBefore fl s.block n) xs
+    gates_there : (r : Region) (xs : List Source) → lies_in s.block n ≡ r → length xs ≡ 1 → All (IsPrior fl s.block n) xs
         → AllW (From Inner) (gate_wires s n r xs)
     gates_there Root xs e one h = tt
     gates_there (Arm k t) xs e one h = (
@@ -264,7 +264,7 @@ module _ (fl : Flow) (s : Site) (fit : IsFit fl s.block) where
     copies_there true h = (h, tt)
     copies_there false h = tt
 
-    triggers_there : (t : Bool) (xs : List Source) → length xs ≡ 1 → All (ComesBefore fl s.block n) xs
+    triggers_there : (t : Bool) (xs : List Source) → length xs ≡ 1 → All (IsPrior fl s.block n) xs
         → AllW (From Inner) (trigger_wires s n t (first_source xs))
     triggers_there true xs one h = let i = source_there n (first_source xs) below (first_before fl s.block n xs (omega (arith, one)) h) in (i, (i, tt))
     triggers_there false xs one h = tt
@@ -272,7 +272,7 @@ module _ (fl : Flow) (s : Site) (fit : IsFit fl s.block) where
     kind_there : AllW (From Inner) (kind_wires s n x.region x.kind x.sources)
     kind_there = go x.kind refl (fit.nodes n x at).takes (fit.nodes n x at).earlier (λ k t e. ((fit.nodes n x at).round k t e).1) (fit.nodes n x at).triggered
       where
-        go : (k : Kind ℕ) → x.kind ≡ k → Takes fl k (length x.sources) → All (ComesBefore fl s.block n) x.sources
+        go : (k : Kind ℕ) → x.kind ≡ k → Takes fl k (length x.sources) → All (IsPrior fl s.block n) x.sources
             → ((j : ℕ) (t : Bool) → x.region ≡ Arm j t → is_kind cond_kind s.block j ≡ true)
             → ((j : ℕ) (t : Bool) → x.region ≡ Arm j t → Triggers.takes_trigger x.kind ≡ true → is_triggered s.block j ≡ true)
             → AllW (From Inner) (kind_wires s n x.region k x.sources)
@@ -313,13 +313,13 @@ module _ (fl : Flow) (s : Site) (fit : IsFit fl s.block) where
       all_both (From Inner) (kind_wires s n x.region x.kind x.sources) (node_wires s (n + 1) xs) (kind_there n x (follow_here s.block n x xs f))
       (nodes_there (n + 1) xs (follow_more s.block n x xs f))
 
-  results_there : (from : ℕ) (xs : List Source) → All (ComesBefore fl s.block (node_count s.block)) xs → AllW (From Inner) (result_wires s from xs)
+  results_there : (from : ℕ) (xs : List Source) → All (IsPrior fl s.block (node_count s.block)) xs → AllW (From Inner) (result_wires s from xs)
   results_there from [] h = tt
   results_there from (x ∷ xs) h = (
     entry_there,
     (
-      source_there (node_count s.block) x (omega arith) (All-head (ComesBefore fl s.block (node_count s.block)) x xs h),
-      results_there (from + 1) xs (All-tail (ComesBefore fl s.block (node_count s.block)) x xs h),
+      source_there (node_count s.block) x (omega arith) (All-head (IsPrior fl s.block (node_count s.block)) x xs h),
+      results_there (from + 1) xs (All-tail (IsPrior fl s.block (node_count s.block)) x xs h),
     ),
   )
 
@@ -353,12 +353,12 @@ module _ (fl : Flow) (s : Site) (fit : IsFit fl s.block) where
         turned (side NextFanned false) (sides_right (side NextFanned false) (TurnCont ∷ TurnFlag ∷ row TurnValue 1 s.block.inputs)
         (Asker ∷ NextFramer ∷ NextFanned ∷ row NextSender 0 (s.block.inputs + 1) ++ (row LastReturn 0 s.block.inputs ++ DrainReturn ∷ [])) (inl refl))
 
-    values_there : (t : Side) (from : ℕ) (xs : List Source) → Inner t → All (ComesBefore fl s.block (node_count s.block)) xs
+    values_there : (t : Side) (from : ℕ) (xs : List Source) → Inner t → All (IsPrior fl s.block (node_count s.block)) xs
         → AllW (From Inner) (value_wires s t from xs)
     values_there t from [] i h = tt
     values_there t from (x ∷ xs) i h = (
-      source_there (node_count s.block) x (omega arith) (All-head (ComesBefore fl s.block (node_count s.block)) x xs h),
-      (i, values_there t (from + 1) xs i (All-tail (ComesBefore fl s.block (node_count s.block)) x xs h)),
+      source_there (node_count s.block) x (omega arith) (All-head (IsPrior fl s.block (node_count s.block)) x xs h),
+      (i, values_there t (from + 1) xs i (All-tail (IsPrior fl s.block (node_count s.block)) x xs h)),
     )
 
     nexts_there : (from n : ℕ) → 1 ≤ from → from + n ≤ 1 + s.block.inputs → AllW (From Inner) (next_wires from n)
@@ -369,11 +369,11 @@ module _ (fl : Flow) (s : Site) (fit : IsFit fl s.block) where
     lasts_there from zero m = tt
     lasts_there from (suc n) m = (cont_there true, (value_there (from + 1) true (omega arith) (omega (arith, m)), lasts_there (from + 1) n (omega (arith, m))))
 
-    turns_there : (xs : List Source) → length xs ≡ suc s.block.inputs → All (ComesBefore fl s.block (node_count s.block)) xs
+    turns_there : (xs : List Source) → length xs ≡ suc s.block.inputs → All (IsPrior fl s.block (node_count s.block)) xs
         → AllW (From Inner) (turn_wires s xs)
     turns_there [] l h = tt
     turns_there (x ∷ xs) l h =
-        let i = source_there (node_count s.block) x (omega arith) (All-head (ComesBefore fl s.block (node_count s.block)) x xs h) in
+        let i = source_there (node_count s.block) x (omega arith) (All-head (IsPrior fl s.block (node_count s.block)) x xs h) in
         let drain = meet_wires (side TurnCont true) (side TurnFlag true) DrainReturn in (
           entry_there,
           (
@@ -386,7 +386,7 @@ module _ (fl : Flow) (s : Site) (fit : IsFit fl s.block) where
                     (meet_wires (side TurnCont false) (side TurnFlag false) Asker
                     ++ (meet_wires (side NextFanned false) (side TurnCont false) (NextSender 0)
                     ++ (next_wires 1 (length xs) ++ (last_wires 0 (length xs) ++ drain))))
-                    (values_there (leaves s x) 1 xs i (All-tail (ComesBefore fl s.block (node_count s.block)) x xs h)) (
+                    (values_there (leaves s x) 1 xs i (All-tail (IsPrior fl s.block (node_count s.block)) x xs h)) (
                       cont_there false,
                       (
                         flag_there false,

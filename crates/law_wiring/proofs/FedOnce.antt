@@ -18,7 +18,7 @@ use Rattle.law_net.specs.ContextsParts as Parts
 use Rattle.law_net.specs.ContextsParts.{Part, Entry, Line, Answer, Trigger, Gate, Opener, Framer, Fanned, Linker, Sender, Landing, CallDone, Giver, Taker}
 use Rattle.law_net.specs.ContextsParts.{Drainer, LoopDone, Strict, Result, Inlet, inlet, same_part, same_port, same_inlet}
 use Rattle.law_net.specs.ContextsBlocks.{Side, side, Site, leaves_in, pair_kind, outputs_in}
-use Rattle.law_net.specs.ContextsWires.{wired_port, wired_way, is_given}
+use Rattle.law_net.specs.ContextsWires.{wired_port, wired_way, is_unwired}
 use Rattle.law_net.specs.ContextsExpanded.{row, way_in, invoked}
 use Rattle.law_net.proofs.ContextsSames.{same_part-true}
 use Rattle.law_wiring.specs.Written.{Wire, wire, inlet_of, is_shared, is_triggered, leaves, trigger_side, operand_wires, merge_wires, trigger_wires, gate_wires}
@@ -35,7 +35,7 @@ test b r q y v = same_inlet (inlet r q y) (inlet_of b v)
 pub record IsWired (b : Block ℕ) (y : ℕ) (q : Port) (r : Part) : Type 0 where
   pub way : wired_way r y ≡ true
   pub port : wired_port b r q ≡ true
-  pub given : is_given b r ≡ false
+  pub given : is_unwired b r ≡ false
 
 left_or : (q : Port) → one (same_port q Left) + one (same_port q Right) ≡ 1
 left_or Left = refl
@@ -98,14 +98,14 @@ module _ (b : Block ℕ) (r : Part) (q : Port) (y : ℕ) (h : IsWired b y q r) w
           omega (arith, a, c, d)
 
   -- a part to which no wire leads
-  pub unfed : (p : Part) → is_given b p ≡ true → one (same_part r p) ≡ 0
+  pub unfed : (p : Part) → is_unwired b p ≡ true → one (same_part r p) ≡ 0
   unfed p g = go (same_part r p) refl
     where
       go : (t : Bool) → same_part r p ≡ t → one t ≡ 0
       go false e = refl
       go true e = let x = (at p e).given in absurd (cc)
 
-  pub row_unfed : (f : ℕ → Part) (from n : ℕ) → ((j : ℕ) → from ≤ j → j < from + n → is_given b (f j) ≡ true) → tally (same_part r) (row f from n) ≡ 0
+  pub row_unfed : (f : ℕ → Part) (from n : ℕ) → ((j : ℕ) → from ≤ j → j < from + n → is_unwired b (f j) ≡ true) → tally (same_part r) (row f from n) ≡ 0
   row_unfed f from zero g = refl
   row_unfed f from (suc n) g =
       let a = unfed (f from) (g from (omega arith) (omega arith)) in let c = row_unfed f (from + 1) n (λ j l m. g j (omega (arith, l)) (omega (arith, m))) in

@@ -28,7 +28,7 @@ use Rattle.law_net.specs.ContextsBlocks as Blocks
 use Rattle.law_net.specs.ContextsBlocks.{Side, side, Site, op_of, origin_of, is_kind, cond_kind}
 use Rattle.law_net.proofs.ContextsSames.{same_part-refl}
 use Rattle.law_wiring.specs.Written.{Wire, wire, same_side, same_bool, leaves, leaves_at, is_triggered, trigger_side}
-use Rattle.law_wiring.specs.WrittenFit.{ComesBefore, port_count}
+use Rattle.law_wiring.specs.WrittenFit.{IsPrior, port_count}
 
 -- `place`: where each part of the whole block stands
 pub record Env : Type 0 where
@@ -348,7 +348,7 @@ exits_last e b rs n o h new trigger = record {
     trigger_by m (inr l) = subst (TriggerAt e rs m) (sym (push_index b.exits o nowhere m (l ∙ sym h.count))) (subst (λ k. TriggerAt e rs k o) (sym l) trigger)
 
 -- a source leaves at the side of its node's port
-pub source_out : (e : Env) (b : Build) (rs : List Part) (n : ℕ) (s : Source) → HasExits e b rs n → ComesBefore e.flow e.site.block n s
+pub source_out : (e : Env) (b : Build) (rs : List Part) (n : ℕ) (s : Source) → HasExits e b rs n → IsPrior e.flow e.site.block n s
     → OutAt rs (outlet_of b s) (leaves e.site s)
 source_out e b rs n s h c = let x = h.at s.node c.earlier c.no_cond s.port c.port in record { part = x.part; second = x.second }
 

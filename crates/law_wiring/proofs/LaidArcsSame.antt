@@ -184,7 +184,7 @@ module _ (e : Env) where
           (open_one vs ws (sides rs) (sides rs) (side r true) (opens_agree vs ws (side r true) h n) rest)
       go rest false n false = open_one vs ws (sides rs) (sides rs) (side r false) (opens_agree vs ws (side r false) h n) rest
 
--- CLOSINGS add wires behind those that there are, whichever these are.
+-- CLOSINGS add wires after those that there are, whichever these are.
 abbrev swapped : Ended → List Wire → Ended
 swapped x ws = record { parts = x.parts; wires = ws ++ x.wires; ends = x.ends }
 

@@ -26,7 +26,7 @@ use Rattle.law_net.specs.ContextsBlocks as Blocks
 use Rattle.law_net.specs.ContextsBlocks.{Side, side, Site, kind_op, is_kind, cond_kind, callee_code, code_called, bound_at, bound_in}
 use Rattle.law_net.specs.ContextsExpanded.{row, variant_in}
 use Rattle.law_wiring.specs.Written.{Wire, wire, is_shared, is_triggered, exit_of, leaves, trigger_side, result_wires, kind_parts, node_parts}
-use Rattle.law_wiring.specs.WrittenFit.{IsCallee, kind_ports, ComesBefore, IsLineFit, IsFit}
+use Rattle.law_wiring.specs.WrittenFit.{IsCallee, kind_ports, IsPrior, IsLineFit, IsFit}
 use Rattle.law_wiring.proofs.Laid.{IsLaid, laid_added, source_out}
 use Rattle.law_wiring.proofs.PartsStanding.{Stand, stand_left, stand_right, stand_row, row_length, row_push}
 use Rattle.law_wiring.proofs.LaidArcs.{kind_arcs, node_arcs}
@@ -199,7 +199,7 @@ module _ (fl : Flow) (s : Site) (place : Part → ℕ) (apart : (r q : Part) →
       nodes_laid (entries Sc) first [] b.inputs b.nodes begun there (stand_right place 0 (length first) first nodes at (omega arith))
 
   -- RESULTS
-  pub returns_laid : (c : Build) (rs : List Part) (ws : List Wire) (n from : ℕ) (ss : List Source) → G c rs ws n → All (ComesBefore fl b n) ss
+  pub returns_laid : (c : Build) (rs : List Part) (ws : List Wire) (n from : ℕ) (ss : List Source) → G c rs ws n → All (IsPrior fl b n) ss
       → Stand place (length rs) (row Result from (length ss)) → G (returns c from ss) (rs ++ row Result from (length ss)) (ws ++ result_wires s from ss) n
   returns_laid c rs ws n from [] h all at = grown_same fl s place apart c rs (rs ++ []) ws (ws ++ []) n (sym (append-nil rs)) (sym (append-nil ws)) h
   returns_laid c rs ws n from (x ∷ ss) h all at =
@@ -208,8 +208,8 @@ module _ (fl : Flow) (s : Site) (place : Part → ℕ) (apart : (r q : Part) →
       let size = length-append rs (Result from ∷ []) in
       let met = grown_meeting fl s place apart c rs ws n (Op.Return from) Unmarked Root (first_of 0) (outlet_of c x) (side Entry false) (leaves s x)
       (Result from) h h.entry
-      (source_out (env fl s place apart) c rs n x h.exits (All-head (ComesBefore fl b n) x ss all)) refl refl refl (λ f. refl) at.0 in
-      let rest = returns_laid d (rs ++ Result from ∷ []) (ws ++ two) n (from + 1) ss met (All-tail (ComesBefore fl b n) x ss all)
+      (source_out (env fl s place apart) c rs n x h.exits (All-head (IsPrior fl b n) x ss all)) refl refl refl (λ f. refl) at.0 in
+      let rest = returns_laid d (rs ++ Result from ∷ []) (ws ++ two) n (from + 1) ss met (All-tail (IsPrior fl b n) x ss all)
       (subst (λ k. Stand place k (row Result (from + 1) (length ss))) (omega (arith, size)) at.1) in
       let end : Build = returns d (from + 1) ss in
       grown_same fl s place apart end ((rs ++ Result from ∷ []) ++ row Result (from + 1) (length ss)) (rs ++ row Result from (length (x ∷ ss)))

@@ -21,13 +21,13 @@ use Rattle.law_net.specs.ContextsParts.{Part, Opener, Framer, Fanned, Linker, Se
 use Rattle.law_net.specs.ContextsBlocks.{Side, side, Site, lies_in, callee_code, bound_at, is_kind, cond_kind}
 use Rattle.law_net.specs.ContextsExpanded.{row, variant_in, invoked}
 use Rattle.law_wiring.specs.Written.{Wire, wire, leaves, leaves_at, trigger_side, meet_wires, sender_wires, strict_wires, strict_end}
-use Rattle.law_wiring.specs.WrittenFit.{port_count, ComesBefore, IsLineFit}
+use Rattle.law_wiring.specs.WrittenFit.{port_count, IsPrior, IsLineFit}
 use Rattle.law_wiring.proofs.Laid.{OutAt, source_out, trigger_out, out_more}
 use Rattle.law_wiring.proofs.PartsStanding.{Stand, stand_left, stand_right, stand_row, row_length, row_push}
 use Rattle.law_wiring.proofs.LaidArcs.{invoke_arcs, strict_call_arcs, credit_arcs}
 use Rattle.law_wiring.proofs.LaidNodes.{env, Grown, grown_same, grown_added, grown_connected, grown_linked, grown_behind, grown_meeting, grown_exited, out_here}
 
--- a row behind what there is
+-- a row after what there is
 pub get_row : (rs : List Part) (f : ℕ → Part) (from q j : ℕ) → j < q → slice_get (rs ++ row f from q) (length rs + j) ≡ Some (f (from + j))
 get_row [] f from zero j l = absurd (omega (arith, l))
 get_row [] f from (suc q) zero l = let same : from + 0 ≡ from = omega arith in ap (λ k. Some (f k)) (sym same)
@@ -46,7 +46,7 @@ module _ (fl : Flow) (s : Site) (place : Part → ℕ) (apart : (r q : Part) →
   G c rs ws n = Grown fl s place apart c rs ws n
 
   abbrev Before : ℕ → Source → Type 0
-  Before n x = ComesBefore fl b n x
+  Before n x = IsPrior fl b n x
 
   next : (rs : List Part) (r : Part) (qs : List Part) → Stand place (suc (length rs)) qs → Stand place (length (rs ++ r ∷ [])) qs
   next rs r qs h = subst (λ k. Stand place k qs) (sym (length_push rs r)) h
@@ -99,7 +99,7 @@ module _ (fl : Flow) (s : Site) (place : Part → ℕ) (apart : (r q : Part) →
       subst (λ xs. G (copies c g (suc k)) xs ws n)
       (append_assoc rs (row (Landing n) 0 k) (Landing n (0 + k) ∷ []) ∙ ap (λ xs. rs ++ xs) (sym (row_push (Landing n) 0 k))) new
 
-  -- THE INVOCATION, behind its signal
+  -- THE INVOCATION, after its signal
   invoked_laid : (c : Build) (rs : List Part) (ws : List Wire) (n f q : ℕ) (g : Region) (o : Outlet) (t : Side) (ss : List Source) → G c rs ws n
       → All (Before n) ss → OutAt rs o t → f ≡ callee_code (variant_in fl) b n → g ≡ lies_in b n → 0 < q
       → is_kind cond_kind b n ≡ false → port_count fl b n ≡ q → ((j : ℕ) → leaves_at s n j ≡ side (Landing n j) false)

@@ -32,7 +32,7 @@ use Rattle.law_net.specs.ContextsBlocks.{Side, side, Site, line_op, kind_op, lie
 use Rattle.law_net.specs.ContextsExpanded.{variant_in}
 use Rattle.law_wiring.specs.Written.{Wire, wire, is_triggered, answer_side, answer_parts, answer_wires, trigger_parts, trigger_wires, exit_of, leaves}
 use Rattle.law_wiring.specs.Written.{leaves_at, operand_wires, merge_wires, gate_wires}
-use Rattle.law_wiring.specs.WrittenFit.{Takes, kind_ports, port_count, ComesBefore, IsFit}
+use Rattle.law_wiring.specs.WrittenFit.{Takes, kind_ports, port_count, IsPrior, IsFit}
 use Rattle.law_wiring.proofs.Laid.{Env, IsLaid, OutAt, has_region, HasExits, PortsAt, TriggerAt, laid_added, laid_connected, laid_linked, laid_behind}
 use Rattle.law_wiring.proofs.Laid.{laid_meeting, exits_more, exits_last, source_out, out_more}
 use Rattle.law_wiring.proofs.PartsStanding.{Stand}
@@ -48,7 +48,7 @@ module _ (fl : Flow) (s : Site) (place : Part → ℕ) (apart : (r q : Part) →
   env = record { flow = fl; variant = variant_in fl; site = s; place = place; apart = apart }
 
   abbrev Before : ℕ → Source → Type 0
-  Before n x = ComesBefore fl b n x
+  Before n x = IsPrior fl b n x
 
   -- with the exits of the first n nodes
   pub record Grown (c : Build) (rs : List Part) (ws : List Wire) (n : ℕ) : Type 0 where

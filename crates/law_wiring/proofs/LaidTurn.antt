@@ -19,7 +19,7 @@ use Rattle.law_net.specs.ContextsParts.{same_part}
 use Rattle.law_net.specs.ContextsBlocks.{Side, side, Site}
 use Rattle.law_net.specs.ContextsExpanded.{row, turn_parts}
 use Rattle.law_wiring.specs.Written.{Wire, wire, leaves, meet_wires, value_wires, next_wires, last_wires}
-use Rattle.law_wiring.specs.WrittenFit.{ComesBefore}
+use Rattle.law_wiring.specs.WrittenFit.{IsPrior}
 use Rattle.law_wiring.proofs.Laid.{OutAt, source_out, out_more}
 use Rattle.law_wiring.proofs.PartsStanding.{Stand, stand_left, stand_right, stand_row, row_length, row_push}
 use Rattle.law_wiring.proofs.LaidArcs.{turn_arcs}
@@ -55,7 +55,7 @@ module _ (fl : Flow) (s : Site) (place : Part → ℕ) (apart : (r q : Part) →
   G c rs ws n = Grown fl s place apart c rs ws n
 
   abbrev Before : ℕ → Source → Type 0
-  Before n x = ComesBefore fl b n x
+  Before n x = IsPrior fl b n x
 
   -- where the values' switches lead
   abbrev ValuesAt : List Part → ℕ → ℕ → Type 0

@@ -9,7 +9,7 @@ use Rattle.semantics.specs.Graph.{Block}
 use Rattle.law_confluence.specs.OrdersTotals.{one}
 use Rattle.law_net.specs.ContextsParts.{Part, Entry, Inlet, inlet, same_part}
 use Rattle.law_net.specs.ContextsBlocks.{Side, Wiring, leaves_in}
-use Rattle.law_net.specs.ContextsWires.{leads_to, stands_at}
+use Rattle.law_net.specs.ContextsWires.{leads_to, ip_and_port}
 use Rattle.law_net.specs.ContextsExpanded.{place_from, inlet_by, way_in}
 use Rattle.law_net.proofs.ContextsSames.{same_part-true, same_part-refl}
 use Rattle.law_wiring.specs.Written.{Wire, along, inlet_of, same_side}
@@ -93,7 +93,7 @@ module _ (P : List Part) (placed : Stand (λ r. place_from r 0 P) 0 P) where
 
   -- destinations are those of the wires
   pub dests_stand : (w : Wiring) (r : Region) (n : ℕ) (ds : List Dest) → ((q : Part) → w.place q ≡ place q) → AllDests (length P) n ds
-      → map (leads_to n) ds ≡ map (stands_at w) (map (inlet_by P r n) ds)
+      → map (leads_to n) ds ≡ map (ip_and_port w) (map (inlet_by P r n) ds)
   dests_stand w r n [] same h = refl
   dests_stand w r n (d ∷ ds) same h =
       let at : n + d.ahead ≡ w.place (slice_index_or P (n + d.ahead) Entry) = sym (same (slice_index_or P (n + d.ahead) Entry) ∙ back (n + d.ahead) h.1) in

@@ -19,7 +19,7 @@ use Rattle.law_wiring.specs.Shapes.{AreShaped, PlansAreShaped, HasExactShape, Ar
 use Rattle.law_confluence.specs.OrdersTotals.{one}
 use Rattle.law_net.specs.ContextsParts.{Part, Line, Answer, Framer, Linker, Giver, Taker, Drainer, Asker, NextFramer, End, Inlet, same_part}
 use Rattle.law_net.specs.ContextsBlocks.{Side, side, there_in, op_of, kind_op, is_kind, cell_kind}
-use Rattle.law_net.specs.ContextsWires.{answered_at, has_no_wire, leads_to, stands_at}
+use Rattle.law_net.specs.ContextsWires.{answered_at, has_no_wire, leads_to, ip_and_port}
 use Rattle.law_net.specs.ContextsExpanded.{variant_in}
 use Rattle.law_wiring.specs.Written.{Wire, same_side, along, inlet_of, is_shared, parts_in, wires_in}
 use Rattle.law_wiring.proofs.Parts.{node_within}
@@ -125,11 +125,11 @@ module _ (fl : Flow) (c : CodeBlock) (x : IsRead fl c) where
   exact_at End h m n p q = let a = no_wires End false refl in let d = no_wires End true refl in (omega (arith, p, a), q ∙ d)
   exact_at r h m n p q = tt
 
-  same_length : (n : ℕ) (ds : List Dest) (ys : List Inlet) → IsPermutation (map (leads_to n) ds) (map (stands_at x.wiring) ys) → length ds ≡ length ys
+  same_length : (n : ℕ) (ds : List Dest) (ys : List Inlet) → IsPermutation (map (leads_to n) ds) (map (ip_and_port x.wiring) ys) → length ds ≡ length ys
   same_length n ds ys p =
       let a = length-map ds (leads_to n) in
-      let d = length-map ys (stands_at x.wiring) in
-      let e = length_permutation (map (leads_to n) ds) (map (stands_at x.wiring) ys) p in
+      let d = length-map ys (ip_and_port x.wiring) in
+      let e = length_permutation (map (leads_to n) ds) (map (ip_and_port x.wiring) ys) p in
       omega (arith, a, d, e)
 
   is_exact : (n : ℕ) (i : Instr) → slice_get c.instrs n ≡ Some i → HasExactShape i.op (length i.firsts) (length i.seconds)

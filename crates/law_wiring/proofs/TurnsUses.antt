@@ -13,10 +13,10 @@ use Rattle.semantics.specs.Meaning.{Context, AtTurn, Flag, Carried, Tagged, tagg
 use Rattle.law_confluence.proofs.Orders.{shuffled, Part, ◌⊕◌}
 use Rattle.law_net.specs.ContextsParts.{Entry, TurnCont, TurnFlag, TurnValue, Asker, NextFanned, NextSender, DrainReturn}
 use Rattle.law_net.specs.ContextsBlocks.{Side, side, Site}
-use Rattle.law_net.specs.ContextsTold.{settled_sent}
-use Rattle.law_net.specs.ContextsWires.{told_along}
+use Rattle.law_net.specs.ContextsMeant.{settled_sent}
+use Rattle.law_net.specs.ContextsWires.{meant_along}
 use Rattle.law_wiring.specs.Written.{Wire, wire, along, leaves_at, leaves, meet_wires, value_wires, next_wires, last_wires, turn_wires, tail_wires, wires_in}
-use Rattle.law_wiring.specs.WrittenFit.{ComesBefore, IsFit}
+use Rattle.law_wiring.specs.WrittenFit.{IsPrior, IsFit}
 use Rattle.law_wiring.proofs.WrittenMembers.{AllW, all_both}
 use Rattle.law_wiring.proofs.WrittenNodes.{is_value, leaves_own}
 use Rattle.law_wiring.proofs.FedEnds.{TurnsWell}
@@ -109,7 +109,7 @@ module _ (fl : Flow) (s : Site) (fit : IsFit fl s.block) (c : Context) (v : Valu
             (later from l)
         go false = refl
 
-    values_heard : (x : Source) (m : ℕ) → ComesBefore fl s.block m x → (from : ℕ) → 0 < from → (xs : List Source) → All (ComesBefore fl s.block m) xs
+    values_heard : (x : Source) (m : ℕ) → IsPrior fl s.block m x → (from : ℕ) → 0 < from → (xs : List Source) → All (IsPrior fl s.block m) xs
         → IsPermutation (H (value_wires s (leaves s x) from xs)) (flags_if (is_used x) from (length xs) ++ A from xs)
     values_heard x m h from l [] all = permutation_same [] (flags_if (is_used x) from 0 ++ A from []) (none (is_used x))
       where
@@ -124,7 +124,7 @@ module _ (fl : Flow) (s : Site) (fit : IsFit fl s.block) (c : Context) (v : Valu
         let ws : List Wire = value_wires s (leaves s x) (from + 1) xs in
         let one : Wire = wire (leaves s z) (TurnValue from) Left in
         let two : Wire = wire (leaves s x) (TurnValue from) Right in
-        let its = side_test s n q z port (All-head (ComesBefore fl s.block m) z xs all).first in
+        let its = side_test s n q z port (All-head (IsPrior fl s.block m) z xs all).first in
         let flag = side_test s n q x port h.first in
         let split : H (one ∷ two ∷ ws) ≡ a ++ (b ++ H ws)
         = heard_one fl s fit c v T one (two ∷ ws) ∙ ap (λ t. (if t then tagged c (AtTurn from) Carried v ∷ [] else []) ++ H (two ∷ ws)) its
@@ -135,7 +135,7 @@ module _ (fl : Flow) (s : Site) (fit : IsFit fl s.block) (c : Context) (v : Valu
         (subst (λ zs. IsPermutation (a ++ (b ++ H ws)) zs) back
         (IsPermutation-trans (a ++ (b ++ H ws)) (a ++ (b ++ (fs ++ ls))) ((b ++ fs) ++ (a ++ ls))
         (IsPermutation-append_right a (b ++ H ws) (b ++ (fs ++ ls))
-        (IsPermutation-append_right b (H ws) (fs ++ ls) (values_heard x m h (from + 1) (omega (arith, l)) xs (All-tail (ComesBefore fl s.block m) z xs all))))
+        (IsPermutation-append_right b (H ws) (fs ++ ls) (values_heard x m h (from + 1) (omega (arith, l)) xs (All-tail (IsPrior fl s.block m) z xs all))))
         (turned a b fs ls)))
 
     -- the results' uses begin with the flag's
@@ -150,16 +150,17 @@ module _ (fl : Flow) (s : Site) (fit : IsFit fl s.block) (c : Context) (v : Valu
             ∙ ap (λ zs. zs ++ A 1 xs) (ap (λ us. settle fl s fit c v (made fl s fit c v us)) first ∙ flags_settled 1 s.block.inputs ∙ ap (flags 1) (sym e))
         go false = refl
 
-    results_heard : (xs : List Source) (m : ℕ) → length xs ≡ suc s.block.inputs → All (ComesBefore fl s.block m) xs
+    results_heard : (xs : List Source) (m : ℕ) → length xs ≡ suc s.block.inputs → All (IsPrior fl s.block m) xs
         → IsPermutation (H (turn_wires s xs)) (A 0 xs)
     results_heard [] m e all = absurd (omega (arith, e))
     results_heard (x ∷ xs) m e all =
         let same : length xs ≡ s.block.inputs = omega (arith, e) in
         subst (λ zs. IsPermutation zs (A 0 (x ∷ xs))) (sym (values_alone x xs))
         (subst (λ zs. IsPermutation (H (value_wires s (leaves s x) 1 xs)) zs) (sym (results_begin x xs same))
-        (values_heard x m (All-head (ComesBefore fl s.block m) x xs all) 1 (omega arith) xs (All-tail (ComesBefore fl s.block m) x xs all)))
+        (values_heard x m (All-head (IsPrior fl s.block m) x xs all) 1 (omega arith) xs (All-tail (IsPrior fl s.block m) x xs all)))
 
-    pub turn_told : TurnsWell s → s.turns ≡ true → IsPermutation (told_along fl c v (along s.block (leaves_at s n q) (wires_in fl s))) (settled_sent fl c n q v)
+    pub turn_told : TurnsWell s → s.turns ≡ true
+        → IsPermutation (meant_along fl c v (along s.block (leaves_at s n q) (wires_in fl s))) (settled_sent fl c n q v)
     turn_told well e =
         all_told fl s fit c v there n q port
         (subst (λ t. IsPermutation (H (tail_wires s t)) (A 0 s.block.results)) (sym e)

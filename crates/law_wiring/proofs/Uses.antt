@@ -23,14 +23,14 @@ use Rattle.schemas.specs.Scopes.{predicate_of}
 use Rattle.law_net.specs.ContextsParts as Parts
 use Rattle.law_net.specs.ContextsParts.{Entry, Line, Gate, Opener, Framer, Fanned, Linker, Sender, Landing, Strict, Trigger, Result, Inlet}
 use Rattle.law_net.specs.ContextsBlocks.{Side, side, Site, is_kind, cond_kind, cell_kind, call_kind, loop_kind, invokes}
-use Rattle.law_net.specs.ContextsTold.{operand, settled_at, settled_node, told_at}
-use Rattle.law_net.specs.ContextsTold as Told
+use Rattle.law_net.specs.ContextsMeant.{operand, settled_at, settled_node, meant_at}
+use Rattle.law_net.specs.ContextsMeant as Told
 use Rattle.law_net.specs.ContextsExpanded.{way_in}
-use Rattle.law_net.specs.ContextsWires.{told_along}
+use Rattle.law_net.specs.ContextsWires.{meant_along}
 use Rattle.law_wiring.specs.Written.{Wire, wire, is_shared, is_triggered, answer_wires, along, inlet_of, same_side, exit_of, leaves_at, leaves, trigger_side}
 use Rattle.law_wiring.specs.Written.{operand_wires, merge_wires, trigger_wires, gate_wires, sender_wires, invoke_wires, strict_wires, strict_end}
 use Rattle.law_wiring.specs.Written.{strict_call_wires, kind_wires, result_wires}
-use Rattle.law_wiring.specs.WrittenFit.{Takes, ComesBefore, Lies, Merges, IsFit}
+use Rattle.law_wiring.specs.WrittenFit.{Takes, IsPrior, Lies, Merges, IsFit}
 use Rattle.law_wiring.proofs.PartsSame.{side_is}
 use Rattle.law_wiring.proofs.WrittenMembers.{AllW, side_self}
 use Rattle.law_wiring.proofs.WrittenNodes.{kind_at, leaves_region, leaves_some}
@@ -102,21 +102,21 @@ module _ (s : Site) where
 module _ (fl : Flow) (s : Site) (fit : IsFit fl s.block) (c : Context) (v : Value) where
   -- what a wire tells
   abbrev pub tells : Wire → List Tagged
-  tells w = told_at fl c (inlet_of s.block w).part (inlet_of s.block w).port (inlet_of s.block w).way v
+  tells w = meant_at fl c (inlet_of s.block w).part (inlet_of s.block w).port (inlet_of s.block w).way v
 
   -- what the wires of a side tell
   abbrev pub heard : Side → List Wire → List Tagged
-  heard t ws = told_along fl c v (along s.block t ws)
+  heard t ws = meant_along fl c v (along s.block t ws)
 
   pub heard_both : (t : Side) (xs ys : List Wire) → heard t (xs ++ ys) ≡ heard t xs ++ heard t ys
   heard_both t xs ys =
-      ap (told_along fl c v) (along_both s.block t xs ys)
-      ∙ flat_map-append (λ (x : Inlet). told_at fl c x.part x.port x.way v) (along s.block t xs) (along s.block t ys)
+      ap (meant_along fl c v) (along_both s.block t xs ys)
+      ∙ flat_map-append (λ (x : Inlet). meant_at fl c x.part x.port x.way v) (along s.block t xs) (along s.block t ys)
 
   pub heard_one : (t : Side) (w : Wire) (ws : List Wire) → heard t (w ∷ ws) ≡ (if same_side t w.from then tells w else []) ++ heard t ws
   heard_one t w ws = go (same_side t w.from)
     where
-      go : (q : Bool) → told_along fl c v (if q then inlet_of s.block w ∷ along s.block t ws else along s.block t ws) ≡ (if q then tells w else [])
+      go : (q : Bool) → meant_along fl c v (if q then inlet_of s.block w ∷ along s.block t ws else along s.block t ws) ≡ (if q then tells w else [])
           ++ heard t ws
       go true = refl
       go false = refl
@@ -164,20 +164,20 @@ module _ (fl : Flow) (s : Site) (fit : IsFit fl s.block) (c : Context) (v : Valu
     abbrev pub test : Source → Bool
     test x = (x.node == n) && (x.port == q)
 
-    tested : (m : ℕ) (x : Source) → ComesBefore fl s.block m x → same_side T (leaves s x) ≡ test x
+    tested : (m : ℕ) (x : Source) → IsPrior fl s.block m x → same_side T (leaves s x) ≡ test x
     tested m x h = side_test s n q x port h.first
 
     -- RESULTS of a call's code
     pub results_heard : ((j : ℕ) → result_uses c s.block.inputs j ≡ (AtOut j, Operand 0) ∷ []) → (from : ℕ) (xs : List Source) (m : ℕ)
-        → All (ComesBefore fl s.block m) xs
+        → All (IsPrior fl s.block m) xs
         → heard T (result_wires s from xs) ≡ settle (made (flat_map (λ j. result_uses c s.block.inputs j) (positions n q from xs)))
     results_heard plain from [] m h = refl
     results_heard plain from (x ∷ xs) m h =
         let w : Wire = wire (leaves s x) (Result from) Right in
-        let rest = results_heard plain (from + 1) xs m (All-tail (ComesBefore fl s.block m) x xs h) in
+        let rest = results_heard plain (from + 1) xs m (All-tail (IsPrior fl s.block m) x xs h) in
         quiet_before T (wire (side Entry false) (Result from) Left ∷ []) (w ∷ result_wires s (from + 1) xs) (inl refl, tt)
         ∙ heard_one T w (result_wires s (from + 1) xs)
-        ∙ ap (λ t. (if t then tells w else []) ++ heard T (result_wires s (from + 1) xs)) (tested m x (All-head (ComesBefore fl s.block m) x xs h))
+        ∙ ap (λ t. (if t then tells w else []) ++ heard T (result_wires s (from + 1) xs)) (tested m x (All-head (IsPrior fl s.block m) x xs h))
         ∙ go (test x) rest
       where
         go : (t : Bool) → heard T (result_wires s (from + 1) xs) ≡ settle (made (flat_map (λ j. result_uses c s.block.inputs j) (positions n q (from + 1) xs)))
@@ -224,7 +224,7 @@ module _ (fl : Flow) (s : Site) (fit : IsFit fl s.block) (c : Context) (v : Valu
       used_cons i ps false = refl
 
       -- a source whose wire tells the operand, before others
-      one_more : (i : ℕ) (y : Source) (ys : List Source) (w : Wire) (ws : List Wire) → ComesBefore fl s.block m y → w.from ≡ leaves s y
+      one_more : (i : ℕ) (y : Source) (ys : List Source) (w : Wire) (ws : List Wire) → IsPrior fl s.block m y → w.from ≡ leaves s y
           → tells w ≡ operand c m i v ∷ [] → heard T ws ≡ used_at m (positions n q (i + 1) ys)
           → heard T (w ∷ ws) ≡ used_at m (positions n q i (y ∷ ys))
       one_more i y ys w ws h f o rest =
@@ -232,56 +232,56 @@ module _ (fl : Flow) (s : Site) (fit : IsFit fl s.block) (c : Context) (v : Valu
           ∙ ap (λ zs. (if test y then zs else []) ++ heard T ws) o
           ∙ ap (λ zs. op_if (test y) m i ++ zs) rest ∙ sym (used_cons i (positions n q (i + 1) ys) (test y))
 
-      line_one : (ys : List Source) → length ys ≡ 1 → All (ComesBefore fl s.block m) ys → heard T (operand_wires s (Line m) 0 ys) ≡ used m ys
+      line_one : (ys : List Source) → length ys ≡ 1 → All (IsPrior fl s.block m) ys → heard T (operand_wires s (Line m) 0 ys) ≡ used m ys
       line_one [] l h = absurd (omega (arith, l))
-      line_one (y ∷ []) l h = one_more 0 y [] (wire (leaves s y) (Line m) Left) [] (All-head (ComesBefore fl s.block m) y [] h) refl refl refl
+      line_one (y ∷ []) l h = one_more 0 y [] (wire (leaves s y) (Line m) Left) [] (All-head (IsPrior fl s.block m) y [] h) refl refl refl
       line_one (y ∷ z ∷ ys) l h = absurd (omega (arith, l))
 
-      line_two : (ys : List Source) → length ys ≡ 2 → All (ComesBefore fl s.block m) ys → heard T (operand_wires s (Line m) 0 ys) ≡ used m ys
+      line_two : (ys : List Source) → length ys ≡ 2 → All (IsPrior fl s.block m) ys → heard T (operand_wires s (Line m) 0 ys) ≡ used m ys
       line_two [] l h = absurd (omega (arith, l))
       line_two (y ∷ []) l h = absurd (omega (arith, l))
       line_two (y ∷ z ∷ []) l h =
-          let more = All-tail (ComesBefore fl s.block m) y (z ∷ []) h in
+          let more = All-tail (IsPrior fl s.block m) y (z ∷ []) h in
           one_more 0 y (z ∷ []) (wire (leaves s y) (Line m) Left) (wire (leaves s z) (Line m) Right ∷ [])
-          (All-head (ComesBefore fl s.block m) y (z ∷ []) h) refl refl
-          (one_more 1 z [] (wire (leaves s z) (Line m) Right) [] (All-head (ComesBefore fl s.block m) z [] more) refl refl refl)
+          (All-head (IsPrior fl s.block m) y (z ∷ []) h) refl refl
+          (one_more 1 z [] (wire (leaves s z) (Line m) Right) [] (All-head (IsPrior fl s.block m) z [] more) refl refl refl)
       line_two (y ∷ z ∷ u ∷ ys) l h = absurd (omega (arith, l))
 
-      merge_row : (j : ℕ) (r : Region) (ys : List Source) → Merges s.block m r j ys → All (ComesBefore fl s.block m) ys
+      merge_row : (j : ℕ) (r : Region) (ys : List Source) → Merges s.block m r j ys → All (IsPrior fl s.block m) ys
           → heard T (merge_wires s (Parts.Merge m) ys) ≡ used m ys
       merge_row j r [] l h = absurd l
       merge_row j r (y ∷ []) l h = absurd l
       merge_row j r (y ∷ z ∷ []) l h =
-          let more = All-tail (ComesBefore fl s.block m) y (z ∷ []) h in
+          let more = All-tail (IsPrior fl s.block m) y (z ∷ []) h in
           one_more 0 y (z ∷ []) (wire (leaves s y) (Parts.Merge m) Left) (wire (leaves s z) (Parts.Merge m) Left ∷ [])
-          (All-head (ComesBefore fl s.block m) y (z ∷ []) h) refl
+          (All-head (IsPrior fl s.block m) y (z ∷ []) h) refl
           (ap (λ g. operand c m (way_in (Parts.Merge m) g) v ∷ []) (leaves_region s y.node y.port ∙ l.3))
-          (one_more 1 z [] (wire (leaves s z) (Parts.Merge m) Left) [] (All-head (ComesBefore fl s.block m) z [] more) refl
+          (one_more 1 z [] (wire (leaves s z) (Parts.Merge m) Left) [] (All-head (IsPrior fl s.block m) z [] more) refl
           (ap (λ g. operand c m (way_in (Parts.Merge m) g) v ∷ []) (leaves_region s z.node z.port ∙ l.4)) refl)
       merge_row j r (y ∷ z ∷ u ∷ ys) l h = absurd l
 
-      gate_row : (r : Region) (ys : List Source) → r ≢ Root → length ys ≡ 1 → All (ComesBefore fl s.block m) ys
+      gate_row : (r : Region) (ys : List Source) → r ≢ Root → length ys ≡ 1 → All (IsPrior fl s.block m) ys
           → heard T (gate_wires s m r ys) ≡ used m ys ++ gated m Enter r
       gate_row r [] z l h = absurd (omega (arith, l))
       gate_row (Arm j t) (y ∷ []) z l h =
           let one : Wire = wire (leaves s y) (Gate m) Left in
           let two : Wire = wire (leaves s (predicate_of s.block j)) (Gate m) Right in
           heard_both T (one ∷ []) (two ∷ []) ∙ ap (λ zs. zs ++ heard T (two ∷ []))
-          (one_more 0 y [] one [] (All-head (ComesBefore fl s.block m) y [] h) refl refl refl)
+          (one_more 0 y [] one [] (All-head (IsPrior fl s.block m) y [] h) refl refl refl)
           ∙ ap (λ zs. used m (y ∷ []) ++ zs) (heard_one T two [] ∙ append-nil (gated m Enter (Arm j t)))
       gate_row Root (y ∷ []) z l h = absurd (z refl)
       gate_row r (y ∷ u ∷ ys) z l h = absurd (omega (arith, l))
 
       -- invocations
-      senders_row : (from : ℕ) (ys : List Source) → All (ComesBefore fl s.block m) ys → heard T (sender_wires s m from ys) ≡ used_at m (positions n q from ys)
+      senders_row : (from : ℕ) (ys : List Source) → All (IsPrior fl s.block m) ys → heard T (sender_wires s m from ys) ≡ used_at m (positions n q from ys)
       senders_row from [] h = refl
       senders_row from (y ∷ ys) h =
           let w : Wire = wire (leaves s y) (Sender m from) Right in
           quiet_before T (wire (side (Fanned m) false) (Sender m from) Left ∷ []) (w ∷ sender_wires s m (from + 1) ys) (inl refl, tt)
-          ∙ one_more from y ys w (sender_wires s m (from + 1) ys) (All-head (ComesBefore fl s.block m) y ys h) refl refl
-          (senders_row (from + 1) ys (All-tail (ComesBefore fl s.block m) y ys h))
+          ∙ one_more from y ys w (sender_wires s m (from + 1) ys) (All-head (IsPrior fl s.block m) y ys h) refl refl
+          (senders_row (from + 1) ys (All-tail (IsPrior fl s.block m) y ys h))
 
-      invoke_row : (t : Side) (ys : List Source) → All (ComesBefore fl s.block m) ys → heard T (invoke_wires s m t ys) ≡ used m ys
+      invoke_row : (t : Side) (ys : List Source) → All (IsPrior fl s.block m) ys → heard T (invoke_wires s m t ys) ≡ used m ys
       invoke_row t ys h =
           quiet_before T (wire t (Framer m) Left ∷ wire (side (Fanned m) false) (Linker m) Left ∷ []) (sender_wires s m 0 ys) (inl refl, (inl refl, tt))
           ∙ senders_row 0 ys h
@@ -290,7 +290,7 @@ module _ (fl : Flow) (s : Site) (fit : IsFit fl s.block) (c : Context) (v : Valu
       strict_quiet from t [] = tt
       strict_quiet from t (y ∷ ys) = (inl refl, (inl refl, strict_quiet (from + 1) (side (Strict m from) false) ys))
 
-      strict_row : (ys : List Source) → All (ComesBefore fl s.block m) ys → heard T (strict_call_wires s m ys) ≡ used m ys
+      strict_row : (ys : List Source) → All (IsPrior fl s.block m) ys → heard T (strict_call_wires s m ys) ≡ used m ys
       strict_row [] h = refl
       strict_row (y ∷ ys) h =
           quiet_before T (strict_wires s m 1 (leaves s y) ys) (invoke_wires s m (strict_end m 1 (leaves s y) ys) (y ∷ ys)) (strict_quiet 1 (leaves s y) ys)
@@ -340,7 +340,7 @@ module _ (fl : Flow) (s : Site) (fit : IsFit fl s.block) (c : Context) (v : Valu
         xs : List Source
         xs = x.sources
 
-        before : All (ComesBefore fl s.block m) x.sources
+        before : All (IsPrior fl s.block m) x.sources
         before = (fit.nodes m x e).earlier
 
         -- with no predicates besides

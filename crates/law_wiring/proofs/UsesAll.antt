@@ -20,10 +20,10 @@ use Rattle.lemmas.proofs.Bools.{equal_itself}
 use Rattle.schemas.specs.Builds.{first_source}
 use Rattle.schemas.specs.Scopes.{predicate_of, predicate_in}
 use Rattle.law_net.specs.ContextsBlocks.{Site, cond_kind}
-use Rattle.law_net.specs.ContextsTold.{settled_sent}
-use Rattle.law_net.specs.ContextsWires.{told_along}
+use Rattle.law_net.specs.ContextsMeant.{settled_sent}
+use Rattle.law_net.specs.ContextsWires.{meant_along}
 use Rattle.law_wiring.specs.Written.{Wire, along, same_side, leaves_at, leaves, kind_wires, node_wires, tail_wires, wires_in}
-use Rattle.law_wiring.specs.WrittenFit.{Takes, ComesBefore, IsFit}
+use Rattle.law_wiring.specs.WrittenFit.{Takes, IsPrior, IsFit}
 use Rattle.law_wiring.proofs.PartsCounts.{Follow, follow_more, follow_here}
 use Rattle.law_wiring.proofs.Parts.{follow, node_within}
 use Rattle.law_wiring.proofs.WrittenNodes.{node_some, cond_is, first_before}
@@ -158,7 +158,7 @@ module _ (fl : Flow) (s : Site) (fit : IsFit fl s.block) (c : Context) (v : Valu
       ∙ ap (λ x. if x then tagged c (AtNode g) Predicate v ∷ [] else []) (equal_itself k) in
       let x : Source = first_source z.0.sources in
       let takes : length z.0.sources ≡ 1 = subst (λ i. Takes fl i (length z.0.sources)) cond (fit.nodes k z.0 z.1).takes in
-      let before : ComesBefore fl s.block k x = first_before fl s.block k z.0.sources (omega (arith, takes)) (fit.nodes k z.0 z.1).earlier in
+      let before : IsPrior fl s.block k x = first_before fl s.block k z.0.sources (omega (arith, takes)) (fit.nodes k z.0 z.1).earlier in
       let decided : D z.0 ≡ test fl s fit c v there n q port x = ap (λ i. decides fl s fit c v there n q port i z.0.sources) cond in
       let predicate : predicate_of s.block k ≡ x = ap predicate_in z.1 in
       one_from k s.block.inputs s.block.nodes g y z.0 (follow s.block) w.0 w.1 z.1 other
@@ -228,7 +228,7 @@ module _ (fl : Flow) (s : Site) (fit : IsFit fl s.block) (c : Context) (v : Valu
 
   -- where the results' wires tell their uses
   pub all_told : IsPermutation (H (tail_wires s s.turns)) (after 0 s.block.results)
-      → IsPermutation (told_along fl c v (along s.block (leaves_at s n q) (wires_in fl s))) (settled_sent fl c n q v)
+      → IsPermutation (meant_along fl c v (along s.block (leaves_at s n q) (wires_in fl s))) (settled_sent fl c n q v)
   all_told last =
       let nodes = H (node_wires s s.block.inputs s.block.nodes) in
       let results = H (tail_wires s s.turns) in
@@ -248,7 +248,7 @@ module _ (fl : Flow) (s : Site) (fit : IsFit fl s.block) (c : Context) (v : Valu
 
   -- in a context that runs the code of a call
   pub call_told : s.turns ≡ false → ((j : ℕ) → result_uses c s.block.inputs j ≡ (AtOut j, Operand 0) ∷ [])
-      → IsPermutation (told_along fl c v (along s.block (leaves_at s n q) (wires_in fl s))) (settled_sent fl c n q v)
+      → IsPermutation (meant_along fl c v (along s.block (leaves_at s n q) (wires_in fl s))) (settled_sent fl c n q v)
   call_told plain_code plain =
       all_told (permutation_same (H (tail_wires s s.turns)) (after 0 s.block.results)
       (ap (λ t. H (tail_wires s t)) plain_code

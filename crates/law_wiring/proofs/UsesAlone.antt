@@ -1,4 +1,4 @@
--- Wires that leave from other sides than one, which is that of a line or of a turn's value. Behind the ends no wire leaves from it, where one leaves before.
+-- Wires that leave from other sides than one, which is that of a line or of a turn's value. After the ends no wire leaves from it, where one leaves before.
 use Rattle.std.proofs.Common.{◌≡◌, ◌≢◌, ℕ, ◌+◌, Bool, true, false, List, [], ◌∷◌, ◌++◌, refl, sym, ap, ◌∙◌, append-nil, if◌then◌else◌}
 use Rattle.tags.specs.declared.token.Port.TheVariants.{Left, Right}
 use Rattle.semantics.specs.declared.graph.Region.{Region}

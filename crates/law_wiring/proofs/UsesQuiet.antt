@@ -1,4 +1,4 @@
--- Only the wires of nodes and results tell anything: those behind the ends tell nothing.
+-- Only the wires of nodes and results tell anything: those after the ends tell nothing.
 use Rattle.std.proofs.Common.{◌≡◌, ℕ, ◌+◌, inl, Bool, true, false, List, [], ◌∷◌, ◌++◌, refl, ap, ◌∙◌, append-nil}
 use Rattle.tags.specs.declared.value.Value.{Value}
 use Rattle.tags.specs.declared.token.Port.TheVariants.{Left, Right}
@@ -41,7 +41,7 @@ module _ (fl : Flow) (s : Site) (fit : IsFit fl s.block) (c : Context) (v : Valu
   end_quiet [] = tt
   end_quiet (u ∷ us) = (inl refl, tt)
 
-  -- quiet ones behind others
+  -- quiet ones after others
   quiet_behind : (xs ys : List Wire) → AllW Q ys → H (xs ++ ys) ≡ H xs
   quiet_behind xs ys h = heard_both fl s fit c v t xs ys ∙ ap (λ zs. H xs ++ zs) (quiet fl s fit c v t ys h) ∙ append-nil (H xs)
 

@@ -12,7 +12,7 @@ use Rattle.semantics.specs.Meaning.{Context}
 use Rattle.law_net.specs.ContextsParts as Parts
 use Rattle.law_net.specs.ContextsParts.{Part, Line, TurnCont, TurnFlag, TurnValue, Asker, NextFanned, NextSender, DrainReturn}
 use Rattle.law_net.specs.ContextsBlocks.{Side, side, Site}
-use Rattle.law_net.specs.ContextsTold.{told_at}
+use Rattle.law_net.specs.ContextsMeant.{meant_at}
 use Rattle.law_net.specs.ContextsWires.{IsSilent}
 use Rattle.law_wiring.specs.Written.{Wire, is_shared, is_triggered, answer_wires, leaves, trigger_side, operand_wires, merge_wires, meet_wires, value_wires}
 use Rattle.law_wiring.specs.Written.{next_wires, last_wires, turn_wires, tail_wires, trigger_wires, gate_wires, sender_wires, invoke_wires, strict_wires}
@@ -93,7 +93,7 @@ module _ (fl : Flow) (s : Site) (fit : IsFit fl s.block) (c : Context) (v : Valu
   values_say x from [] = tt
   values_say x from (z ∷ xs) = (inr (inl (z, refl)), (inr (inl (x, refl)), values_say x (from + 1) xs))
 
-  frames_tell : (j : ℕ) → told_at fl c (NextSender j) Left 0 v ≡ []
+  frames_tell : (j : ℕ) → meant_at fl c (NextSender j) Left 0 v ≡ []
   frames_tell zero = refl
   frames_tell (suc j) = refl
 

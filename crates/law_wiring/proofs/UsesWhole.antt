@@ -12,8 +12,8 @@ use Rattle.semantics.proofs.Lines.{block_is_there}
 use Rattle.law_net.specs.ContextsParts.{Line, Answer, TurnValue, NextSender, LastReturn, inlet}
 use Rattle.law_net.specs.ContextsBlocks.{side, Site, Wiring, there_in, is_kind, cell_kind, plain_kind, exit, invokes, result_count}
 use Rattle.law_net.specs.Contexts.{Wires, IsContext, number_in, or_zero}
-use Rattle.law_net.specs.ContextsTold.{settled_sent}
-use Rattle.law_net.specs.ContextsWires.{plain_site, GoesToUses, Runs, told_along, has_port}
+use Rattle.law_net.specs.ContextsMeant.{settled_sent}
+use Rattle.law_net.specs.ContextsWires.{plain_site, GoesToUses, Runs, meant_along, has_port}
 use Rattle.law_net.proofs.ContextsBlocks.{has_block}
 use Rattle.law_wiring.specs.Written.{is_shared, along, leaves_at, wires_in}
 use Rattle.law_wiring.specs.WrittenFit.{IsFit}
@@ -28,7 +28,7 @@ use Rattle.law_wiring.proofs.UsesCopies.{copy_along}
 module _ (fl : Flow) (s : Site) where
   abbrev pub GoesOn : Context → Type 0
   GoesOn c = (v : Value) (n q : ℕ) → IsPort s n q
-      → IsPermutation (told_along fl c v (along s.block (leaves_at s n q) (wires_in fl s))) (settled_sent fl c n q v)
+      → IsPermutation (meant_along fl c v (along s.block (leaves_at s n q) (wires_in fl s))) (settled_sent fl c n q v)
 
   -- a turn's value goes to the next turn, or back
   abbrev pub TurnsOn : Wiring → Type 0
@@ -78,10 +78,10 @@ module _ (fl : Flow) (s : Site) (fit : IsFit fl s.block) (w : Wiring) (h : IsWri
     uses = λ c n q v here there port.
         let wires : w.wire (exit s.block w n q) ≡ along s.block (leaves_at s n q) (wires_in fl s) = h.wire (exit s.block w n q) there
         ∙ ap (λ u. along s.block u (wires_in fl s)) (exit_is s w n q h.answers) in
-        subst (λ xs. IsPermutation (told_along fl c v xs) (settled_sent fl c n q v)) (sym wires) (goes c here v n q (port_is n q port));
+        subst (λ xs. IsPermutation (meant_along fl c v xs) (settled_sent fl c n q v)) (sym wires) (goes c here v n q (port_is n q port));
     answers = λ n t. copied n t;
     nothing = λ c t v here there is_silent apart.
-        ap (told_along fl c v) (h.wire t there) ∙ silent fl s fit c v t is_silent (λ x e. apart x.node x.port (exit_is s w x.node x.port h.answers ∙ e));
+        ap (meant_along fl c v) (h.wire t there) ∙ silent fl s fit c v t is_silent (λ x e. apart x.node x.port (exit_is s w x.node x.port h.answers ∙ e));
     turn_value = turns;
   }
 

@@ -24,7 +24,7 @@ use Rattle.law_wiring.specs.Written.{Wire, wire, is_shared, is_triggered, answer
 use Rattle.law_wiring.specs.Written.{meet_wires, trigger_wires, gate_wires, answer_wires, sender_wires, invoke_wires, strict_wires, strict_end}
 use Rattle.law_wiring.specs.Written.{strict_call_wires, kind_wires, node_wires, result_wires, value_wires, next_wires, last_wires, turn_wires, tail_wires}
 use Rattle.law_wiring.specs.Written.{inner_wires, kind_parts, node_parts, tail_parts, inner_parts, sides, is_open, first_ends}
-use Rattle.law_wiring.specs.WrittenFit.{Takes, ComesBefore, LiesIn, Lies, Merges, IsFit}
+use Rattle.law_wiring.specs.WrittenFit.{Takes, IsPrior, LiesIn, Lies, Merges, IsFit}
 use Rattle.law_wiring.proofs.PartsCounts.{Follow, follow_more, follow_here}
 use Rattle.law_wiring.proofs.WrittenMembers.{AllW, all_both, In, sides_left, sides_right, open_in, open_none, all_weaker, region}
 use Rattle.law_wiring.proofs.Parts.{follow, node_within}
@@ -58,19 +58,20 @@ module _ (fl : Flow) (s : Site) (fit : IsFit fl s.block) where
   count = s.block.inputs + length s.block.nodes
 
   -- WHERE A WIRE COMES FROM AND GOES
-  pub data Comes (v : Wire) : Type 0 where
+  pub data Arrives (v : Wire) : Type 0 where
     -- no value of a node
-    Other : is_value v.from.part ≡ false → is_last v.from.part ≡ false → Comes v
+    Other : is_value v.from.part ≡ false → is_last v.from.part ≡ false → Arrives v
     -- to the copy of an answer
-    Copy : (n : ℕ) → v.from ≡ side (Line n) false → is_kind cell_kind s.block n ≡ true → is_shared s n ≡ true → Comes v
-    AtNode : (x : Source) (n : ℕ) → v.from ≡ leaves s x → x.node < n → n < count → lies_in s.block n ≡ R v.from → is_kind cond_kind s.block n ≡ false → Comes v
+    Copy : (n : ℕ) → v.from ≡ side (Line n) false → is_kind cell_kind s.block n ≡ true → is_shared s n ≡ true → Arrives v
+    AtNode : (x : Source) (n : ℕ) → v.from ≡ leaves s x → x.node < n → n < count → lies_in s.block n ≡ R v.from → is_kind cond_kind s.block n ≡ false
+        → Arrives v
     AtGate : (x : Source) (n k : ℕ) (t : Bool) → v.from ≡ leaves s x → lies_in s.block n ≡ Arm k t → is_kind enter_kind s.block n ≡ true
-        → R v.from ≡ lies_in s.block k → Comes v
-    AtCond : (x : Source) (k : ℕ) → v.from ≡ leaves s x → is_triggered s.block k ≡ true → R v.from ≡ lies_in s.block k → Comes v
-    AtMerge : (x : Source) (k n : ℕ) (t : Bool) → v.from ≡ leaves s x → R v.from ≡ Arm k t → lies_in s.block n ≡ Arm k (not t) → Comes v
-    AtResult : (x : Source) → v.from ≡ leaves s x → R v.from ≡ Root → Comes v
+        → R v.from ≡ lies_in s.block k → Arrives v
+    AtCond : (x : Source) (k : ℕ) → v.from ≡ leaves s x → is_triggered s.block k ≡ true → R v.from ≡ lies_in s.block k → Arrives v
+    AtMerge : (x : Source) (k n : ℕ) (t : Bool) → v.from ≡ leaves s x → R v.from ≡ Arm k t → lies_in s.block n ≡ Arm k (not t) → Arrives v
+    AtResult : (x : Source) → v.from ≡ leaves s x → R v.from ≡ Root → Arrives v
 
-  pub value_of : (v : Wire) → Comes v → ((is_value v.from.part ≡ false) × (is_last v.from.part ≡ false))
+  pub value_of : (v : Wire) → Arrives v → ((is_value v.from.part ≡ false) × (is_last v.from.part ≡ false))
       ⊎ (((n : ℕ) × (v.from ≡ side (Line n) false)) ⊎ ((x : Source) × (v.from ≡ leaves s x)))
   value_of v (Other e f) = inl (e, f)
   value_of v (Copy n e c h) = inr (inl (n, e))
@@ -85,45 +86,45 @@ module _ (fl : Flow) (s : Site) (fit : IsFit fl s.block) where
 
   -- the operands of a node that is no conditional
   module _ (n : ℕ) (node : Node ℕ) (e : node_at s.block n ≡ Some node) (plain : cond_kind node.kind ≡ false) where
-    comes_node : (x : Source) → ComesBefore fl s.block n x → lies_in s.block x.node ≡ node.region → (v : Wire) → v.from ≡ leaves s x → Comes v
-    comes_node x h l v f =
+    arrives_node : (x : Source) → IsPrior fl s.block n x → lies_in s.block x.node ≡ node.region → (v : Wire) → v.from ≡ leaves s x → Arrives v
+    arrives_node x h l v f =
         AtNode x n f h.earlier (node_within s.block n node e).1 (its_region s.block n node e ∙ sym (ap R f ∙ at_region x node.region l))
         (kind_at s.block cond_kind n node e ∙ plain)
 
-    operands_come : (r : Part) (from : ℕ) (xs : List Source) → All (ComesBefore fl s.block n) xs → All (LiesIn s.block node.region) xs
-        → AllW Comes (operand_wires s r from xs)
-    operands_come r from [] h l = tt
-    operands_come r from (x ∷ xs) h l = (
-      comes_node x (All-head (ComesBefore fl s.block n) x xs h) (All-head (LiesIn s.block node.region) x xs l) (wire (leaves s x) r (Builds.side from)) refl,
-      operands_come r (from + 1) xs (All-tail (ComesBefore fl s.block n) x xs h) (All-tail (LiesIn s.block node.region) x xs l),
+    operands_arrive : (r : Part) (from : ℕ) (xs : List Source) → All (IsPrior fl s.block n) xs → All (LiesIn s.block node.region) xs
+        → AllW Arrives (operand_wires s r from xs)
+    operands_arrive r from [] h l = tt
+    operands_arrive r from (x ∷ xs) h l = (
+      arrives_node x (All-head (IsPrior fl s.block n) x xs h) (All-head (LiesIn s.block node.region) x xs l) (wire (leaves s x) r (Builds.side from)) refl,
+      operands_arrive r (from + 1) xs (All-tail (IsPrior fl s.block n) x xs h) (All-tail (LiesIn s.block node.region) x xs l),
     )
 
-    senders_come : (from : ℕ) (xs : List Source) → All (ComesBefore fl s.block n) xs → All (LiesIn s.block node.region) xs
-        → AllW Comes (sender_wires s n from xs)
-    senders_come from [] h l = tt
-    senders_come from (x ∷ xs) h l = (
+    senders_arrive : (from : ℕ) (xs : List Source) → All (IsPrior fl s.block n) xs → All (LiesIn s.block node.region) xs
+        → AllW Arrives (sender_wires s n from xs)
+    senders_arrive from [] h l = tt
+    senders_arrive from (x ∷ xs) h l = (
       Other refl refl,
       (
-        comes_node x (All-head (ComesBefore fl s.block n) x xs h) (All-head (LiesIn s.block node.region) x xs l) (wire (leaves s x) (Sender n from) Right) refl,
-        senders_come (from + 1) xs (All-tail (ComesBefore fl s.block n) x xs h) (All-tail (LiesIn s.block node.region) x xs l),
+        arrives_node x (All-head (IsPrior fl s.block n) x xs h) (All-head (LiesIn s.block node.region) x xs l) (wire (leaves s x) (Sender n from) Right) refl,
+        senders_arrive (from + 1) xs (All-tail (IsPrior fl s.block n) x xs h) (All-tail (LiesIn s.block node.region) x xs l),
       ),
     )
 
-    invoke_come : (t : Side) (xs : List Source) → ((r : Part) → Comes (wire t r Left)) → All (ComesBefore fl s.block n) xs → All (LiesIn s.block node.region) xs
-        → AllW Comes (invoke_wires s n t xs)
-    invoke_come t xs c h l = (c (Framer n), (Other refl refl, senders_come 0 xs h l))
+    invoke_arrive : (t : Side) (xs : List Source) → ((r : Part) → Arrives (wire t r Left)) → All (IsPrior fl s.block n) xs → All (LiesIn s.block node.region) xs
+        → AllW Arrives (invoke_wires s n t xs)
+    invoke_arrive t xs c h l = (c (Framer n), (Other refl refl, senders_arrive 0 xs h l))
 
-    strict_come : (from : ℕ) (t : Side) (xs : List Source) → ((r : Part) → Comes (wire t r Left)) → All (ComesBefore fl s.block n) xs
+    strict_arrive : (from : ℕ) (t : Side) (xs : List Source) → ((r : Part) → Arrives (wire t r Left)) → All (IsPrior fl s.block n) xs
         → All (LiesIn s.block node.region) xs
-        → AllW Comes (strict_wires s n from t xs) × ((r : Part) → Comes (wire (strict_end n from t xs) r Left))
-    strict_come from t [] c h l = (tt, c)
-    strict_come from t (x ∷ xs) c h l =
-        let rest = strict_come (from + 1) (side (Strict n from) false) xs (λ r. Other refl refl) (All-tail (ComesBefore fl s.block n) x xs h)
+        → AllW Arrives (strict_wires s n from t xs) × ((r : Part) → Arrives (wire (strict_end n from t xs) r Left))
+    strict_arrive from t [] c h l = (tt, c)
+    strict_arrive from t (x ∷ xs) c h l =
+        let rest = strict_arrive (from + 1) (side (Strict n from) false) xs (λ r. Other refl refl) (All-tail (IsPrior fl s.block n) x xs h)
         (All-tail (LiesIn s.block node.region) x xs l) in (
           (
             c (Strict n from),
             (
-              comes_node x (All-head (ComesBefore fl s.block n) x xs h) (All-head (LiesIn s.block node.region) x xs l)
+              arrives_node x (All-head (IsPrior fl s.block n) x xs h) (All-head (LiesIn s.block node.region) x xs l)
                   (wire (leaves s x) (Strict n from) Right) refl,
               rest.0,
             ),
@@ -131,30 +132,30 @@ module _ (fl : Flow) (s : Site) (fit : IsFit fl s.block) where
           rest.1,
         )
 
-    strict_call_come : (xs : List Source) → All (ComesBefore fl s.block n) xs → All (LiesIn s.block node.region) xs → AllW Comes (strict_call_wires s n xs)
-    strict_call_come [] h l = tt
-    strict_call_come (x ∷ xs) h l =
-        let first : (r : Part) → Comes (wire (leaves s x) r Left) =
-        λ r. comes_node x (All-head (ComesBefore fl s.block n) x xs h) (All-head (LiesIn s.block node.region) x xs l) (wire (leaves s x) r Left) refl in
-        let chain = strict_come 1 (leaves s x) xs first (All-tail (ComesBefore fl s.block n) x xs h) (All-tail (LiesIn s.block node.region) x xs l) in
-        all_both Comes (strict_wires s n 1 (leaves s x) xs) (invoke_wires s n (strict_end n 1 (leaves s x) xs) (x ∷ xs)) chain.0
-        (invoke_come (strict_end n 1 (leaves s x) xs) (x ∷ xs) chain.1 h l)
+    strict_call_arrive : (xs : List Source) → All (IsPrior fl s.block n) xs → All (LiesIn s.block node.region) xs → AllW Arrives (strict_call_wires s n xs)
+    strict_call_arrive [] h l = tt
+    strict_call_arrive (x ∷ xs) h l =
+        let first : (r : Part) → Arrives (wire (leaves s x) r Left) =
+        λ r. arrives_node x (All-head (IsPrior fl s.block n) x xs h) (All-head (LiesIn s.block node.region) x xs l) (wire (leaves s x) r Left) refl in
+        let chain = strict_arrive 1 (leaves s x) xs first (All-tail (IsPrior fl s.block n) x xs h) (All-tail (LiesIn s.block node.region) x xs l) in
+        all_both Arrives (strict_wires s n 1 (leaves s x) xs) (invoke_wires s n (strict_end n 1 (leaves s x) xs) (x ∷ xs)) chain.0
+        (invoke_arrive (strict_end n 1 (leaves s x) xs) (x ∷ xs) chain.1 h l)
 
-  trigger_comes : (g : Region) (r : Part) → Comes (wire (trigger_side g) r Left)
-  trigger_comes Root r = Other refl refl
-  trigger_comes (Arm k t) r = Other refl refl
+  trigger_arrives : (g : Region) (r : Part) → Arrives (wire (trigger_side g) r Left)
+  trigger_arrives Root r = Other refl refl
+  trigger_arrives (Arm k t) r = Other refl refl
 
-  merges_come : (n k : ℕ) (r : Region) (xs : List Source) → Merges s.block n r k xs → AllW Comes (merge_wires s (Parts.Merge n) xs)
-  merges_come n k r [] h = absurd h
-  merges_come n k r (x ∷ []) h = absurd h
-  merges_come n k r (x ∷ z ∷ []) h =
+  merges_arrive : (n k : ℕ) (r : Region) (xs : List Source) → Merges s.block n r k xs → AllW Arrives (merge_wires s (Parts.Merge n) xs)
+  merges_arrive n k r [] h = absurd h
+  merges_arrive n k r (x ∷ []) h = absurd h
+  merges_arrive n k r (x ∷ z ∷ []) h =
       (AtMerge x k z.node true refl (at_region x (Arm k true) h.3) h.4, (AtMerge z k x.node false refl (at_region z (Arm k false) h.4) h.3, tt))
-  merges_come n k r (x ∷ z ∷ u ∷ xs) h = absurd h
+  merges_arrive n k r (x ∷ z ∷ u ∷ xs) h = absurd h
 
-  gates_come : (n : ℕ) (r : Region) (xs : List Source) → lies_in s.block n ≡ r → is_kind enter_kind s.block n ≡ true → length xs ≡ 1
-      → All (LiesIn s.block (outside s.block r)) xs → AllW Comes (gate_wires s n r xs)
-  gates_come n Root xs e i one h = tt
-  gates_come n (Arm k t) xs e i one h = (
+  gates_arrive : (n : ℕ) (r : Region) (xs : List Source) → lies_in s.block n ≡ r → is_kind enter_kind s.block n ≡ true → length xs ≡ 1
+      → All (LiesIn s.block (outside s.block r)) xs → AllW Arrives (gate_wires s n r xs)
+  gates_arrive n Root xs e i one h = tt
+  gates_arrive n (Arm k t) xs e i one h = (
     AtGate (first_source xs) n k t refl e i
         (at_region (first_source xs) (lies_in s.block k) (first_lies s.block (lies_in s.block k) xs (omega (arith, one)) h)),
     (
@@ -164,71 +165,74 @@ module _ (fl : Flow) (s : Site) (fit : IsFit fl s.block) where
     ),
   )
 
-  copies_come : (n : ℕ) → is_kind cell_kind s.block n ≡ true → (t : Bool) → is_shared s n ≡ t → AllW Comes (answer_wires n t)
-  copies_come n c true e = (Copy n refl c e, tt)
-  copies_come n c false e = tt
+  copies_arrive : (n : ℕ) → is_kind cell_kind s.block n ≡ true → (t : Bool) → is_shared s n ≡ t → AllW Arrives (answer_wires n t)
+  copies_arrive n c true e = (Copy n refl c e, tt)
+  copies_arrive n c false e = tt
 
-  triggers_come : (k : ℕ) (x : Source) (t : Bool) → is_triggered s.block k ≡ t → lies_in s.block x.node ≡ lies_in s.block k → AllW Comes (trigger_wires s k t x)
-  triggers_come k x true e l = (AtCond x k refl e (at_region x (lies_in s.block k) l), (AtCond x k refl e (at_region x (lies_in s.block k) l), tt))
-  triggers_come k x false e l = tt
+  triggers_arrive : (k : ℕ) (x : Source) (t : Bool) → is_triggered s.block k ≡ t → lies_in s.block x.node ≡ lies_in s.block k
+      → AllW Arrives (trigger_wires s k t x)
+  triggers_arrive k x true e l = (AtCond x k refl e (at_region x (lies_in s.block k) l), (AtCond x k refl e (at_region x (lies_in s.block k) l), tt))
+  triggers_arrive k x false e l = tt
 
-  kind_come : (n : ℕ) (x : Node ℕ) → node_at s.block n ≡ Some x → AllW Comes (kind_wires s n x.region x.kind x.sources)
-  kind_come n x f = go x.kind refl (fit.nodes n x f).takes (fit.nodes n x f).lies (fit.nodes n x f).earlier
+  kind_arrive : (n : ℕ) (x : Node ℕ) → node_at s.block n ≡ Some x → AllW Arrives (kind_wires s n x.region x.kind x.sources)
+  kind_arrive n x f = go x.kind refl (fit.nodes n x f).takes (fit.nodes n x f).lies (fit.nodes n x f).earlier
     where
-      go : (k : Kind ℕ) → x.kind ≡ k → Takes fl k (length x.sources) → Lies s.block n x.region k x.sources → All (ComesBefore fl s.block n) x.sources
-          → AllW Comes (kind_wires s n x.region k x.sources)
+      go : (k : Kind ℕ) → x.kind ≡ k → Takes fl k (length x.sources) → Lies s.block n x.region k x.sources → All (IsPrior fl s.block n) x.sources
+          → AllW Arrives (kind_wires s n x.region k x.sources)
       go Cond e t l h =
-          triggers_come n (first_source x.sources) (is_triggered s.block n) refl
+          triggers_arrive n (first_source x.sources) (is_triggered s.block n) refl
           (first_lies s.block x.region x.sources (omega (arith, t)) l ∙ sym (its_region s.block n x f))
-      go Enter e t l h = gates_come n x.region x.sources (its_region s.block n x f) (kind_at s.block enter_kind n x f ∙ ap enter_kind e) t l.1
-      go (Merge c) e t l h = merges_come n c x.region x.sources l
-      go (Lit z) e t l h = operands_come n x f (ap cond_kind e) (Line n) 0 x.sources h l
-      go (Apply1 op) e t l h = operands_come n x f (ap cond_kind e) (Line n) 0 x.sources h l
-      go (Apply2 op) e t l h = operands_come n x f (ap cond_kind e) (Line n) 0 x.sources h l
+      go Enter e t l h = gates_arrive n x.region x.sources (its_region s.block n x f) (kind_at s.block enter_kind n x f ∙ ap enter_kind e) t l.1
+      go (Merge c) e t l h = merges_arrive n c x.region x.sources l
+      go (Lit z) e t l h = operands_arrive n x f (ap cond_kind e) (Line n) 0 x.sources h l
+      go (Apply1 op) e t l h = operands_arrive n x f (ap cond_kind e) (Line n) 0 x.sources h l
+      go (Apply2 op) e t l h = operands_arrive n x f (ap cond_kind e) (Line n) 0 x.sources h l
       go (Fetch a) e t l h =
-          all_both Comes (operand_wires s (Line n) 0 x.sources) (answer_wires n (is_shared s n)) (operands_come n x f (ap cond_kind e) (Line n) 0 x.sources h l)
-          (copies_come n (kind_at s.block cell_kind n x f ∙ ap cell_kind e) (is_shared s n) refl)
+          all_both Arrives (operand_wires s (Line n) 0 x.sources) (answer_wires n (is_shared s n))
+          (operands_arrive n x f (ap cond_kind e) (Line n) 0 x.sources h l)
+          (copies_arrive n (kind_at s.block cell_kind n x f ∙ ap cell_kind e) (is_shared s n) refl)
       go (Store a) e t l h =
-          all_both Comes (operand_wires s (Line n) 0 x.sources) (answer_wires n (is_shared s n)) (operands_come n x f (ap cond_kind e) (Line n) 0 x.sources h l)
-          (copies_come n (kind_at s.block cell_kind n x f ∙ ap cell_kind e) (is_shared s n) refl)
-      go (Call g) e t l h = invoke_come n x f (ap cond_kind e) (trigger_side x.region) x.sources (trigger_comes x.region) h l
-      go (StrictCall g) e t l h = strict_call_come n x f (ap cond_kind e) x.sources h l
+          all_both Arrives (operand_wires s (Line n) 0 x.sources) (answer_wires n (is_shared s n))
+          (operands_arrive n x f (ap cond_kind e) (Line n) 0 x.sources h l)
+          (copies_arrive n (kind_at s.block cell_kind n x f ∙ ap cell_kind e) (is_shared s n) refl)
+      go (Call g) e t l h = invoke_arrive n x f (ap cond_kind e) (trigger_side x.region) x.sources (trigger_arrives x.region) h l
+      go (StrictCall g) e t l h = strict_call_arrive n x f (ap cond_kind e) x.sources h l
       go (Loop g c) e t l h =
-          (trigger_comes x.region (Opener n), invoke_come n x f (ap cond_kind e) (side (Opener n) false) x.sources (λ r. Other refl refl) h l)
+          (trigger_arrives x.region (Opener n), invoke_arrive n x f (ap cond_kind e) (side (Opener n) false) x.sources (λ r. Other refl refl) h l)
 
-  nodes_come : (n : ℕ) (xs : List (Node ℕ)) → Follow s.block n xs → AllW Comes (node_wires s n xs)
-  nodes_come n [] f = tt
-  nodes_come n (x ∷ xs) f =
-      all_both Comes (kind_wires s n x.region x.kind x.sources) (node_wires s (n + 1) xs) (kind_come n x (follow_here s.block n x xs f))
-      (nodes_come (n + 1) xs (follow_more s.block n x xs f))
+  nodes_arrive : (n : ℕ) (xs : List (Node ℕ)) → Follow s.block n xs → AllW Arrives (node_wires s n xs)
+  nodes_arrive n [] f = tt
+  nodes_arrive n (x ∷ xs) f =
+      all_both Arrives (kind_wires s n x.region x.kind x.sources) (node_wires s (n + 1) xs) (kind_arrive n x (follow_here s.block n x xs f))
+      (nodes_arrive (n + 1) xs (follow_more s.block n x xs f))
 
-  results_come : (from : ℕ) (xs : List Source) → All (LiesIn s.block Root) xs → AllW Comes (result_wires s from xs)
-  results_come from [] h = tt
-  results_come from (x ∷ xs) h = (
+  results_arrive : (from : ℕ) (xs : List Source) → All (LiesIn s.block Root) xs → AllW Arrives (result_wires s from xs)
+  results_arrive from [] h = tt
+  results_arrive from (x ∷ xs) h = (
     Other refl refl,
-    (AtResult x refl (at_region x Root (All-head (LiesIn s.block Root) x xs h)), results_come (from + 1) xs (All-tail (LiesIn s.block Root) x xs h)),
+    (AtResult x refl (at_region x Root (All-head (LiesIn s.block Root) x xs h)), results_arrive (from + 1) xs (All-tail (LiesIn s.block Root) x xs h)),
   )
 
   -- the turn of a loop
-  values_come : (x : Source) (from : ℕ) (xs : List Source) → lies_in s.block x.node ≡ Root → All (LiesIn s.block Root) xs
-      → AllW Comes (value_wires s (leaves s x) from xs)
-  values_come x from [] e h = tt
-  values_come x from (z ∷ xs) e h = (
+  values_arrive : (x : Source) (from : ℕ) (xs : List Source) → lies_in s.block x.node ≡ Root → All (LiesIn s.block Root) xs
+      → AllW Arrives (value_wires s (leaves s x) from xs)
+  values_arrive x from [] e h = tt
+  values_arrive x from (z ∷ xs) e h = (
     AtResult z refl (at_region z Root (All-head (LiesIn s.block Root) z xs h)),
-    (AtResult x refl (at_region x Root e), values_come x (from + 1) xs e (All-tail (LiesIn s.block Root) z xs h)),
+    (AtResult x refl (at_region x Root e), values_arrive x (from + 1) xs e (All-tail (LiesIn s.block Root) z xs h)),
   )
 
-  nexts_come : (from n : ℕ) → AllW Comes (next_wires from n)
-  nexts_come from zero = tt
-  nexts_come from (suc n) = (Other refl refl, (Other refl refl, nexts_come (from + 1) n))
+  nexts_arrive : (from n : ℕ) → AllW Arrives (next_wires from n)
+  nexts_arrive from zero = tt
+  nexts_arrive from (suc n) = (Other refl refl, (Other refl refl, nexts_arrive (from + 1) n))
 
-  lasts_come : (from n : ℕ) → AllW Comes (last_wires from n)
-  lasts_come from zero = tt
-  lasts_come from (suc n) = (Other refl refl, (Other refl refl, lasts_come (from + 1) n))
+  lasts_arrive : (from n : ℕ) → AllW Arrives (last_wires from n)
+  lasts_arrive from zero = tt
+  lasts_arrive from (suc n) = (Other refl refl, (Other refl refl, lasts_arrive (from + 1) n))
 
-  turns_come : (xs : List Source) → All (LiesIn s.block Root) xs → AllW Comes (turn_wires s xs)
-  turns_come [] h = tt
-  turns_come (x ∷ xs) h =
+  turns_arrive : (xs : List Source) → All (LiesIn s.block Root) xs → AllW Arrives (turn_wires s xs)
+  turns_arrive [] h = tt
+  turns_arrive (x ∷ xs) h =
       let e = All-head (LiesIn s.block Root) x xs h in (
         Other refl refl,
         (
@@ -237,11 +241,11 @@ module _ (fl : Flow) (s : Site) (fit : IsFit fl s.block) where
             AtResult x refl (at_region x Root e),
             (
               AtResult x refl (at_region x Root e),
-              all_both Comes (value_wires s (leaves s x) 1 xs)
+              all_both Arrives (value_wires s (leaves s x) 1 xs)
                   (meet_wires (side TurnCont false) (side TurnFlag false) Asker
                   ++ (meet_wires (side NextFanned false) (side TurnCont false) (NextSender 0) ++ (next_wires 1 (length xs)
                   ++ (last_wires 0 (length xs) ++ meet_wires (side TurnCont true) (side TurnFlag true) DrainReturn))))
-                  (values_come x 1 xs e (All-tail (LiesIn s.block Root) x xs h)) (
+                  (values_arrive x 1 xs e (All-tail (LiesIn s.block Root) x xs h)) (
                     Other refl refl,
                     (
                       Other refl refl,
@@ -249,10 +253,10 @@ module _ (fl : Flow) (s : Site) (fit : IsFit fl s.block) where
                         Other refl refl,
                         (
                           Other refl refl,
-                          all_both Comes (next_wires 1 (length xs))
-                              (last_wires 0 (length xs) ++ meet_wires (side TurnCont true) (side TurnFlag true) DrainReturn) (nexts_come 1 (length xs))
-                              (all_both Comes (last_wires 0 (length xs)) (meet_wires (side TurnCont true) (side TurnFlag true) DrainReturn)
-                              (lasts_come 0 (length xs)) (Other refl refl, (Other refl refl, tt))),
+                          all_both Arrives (next_wires 1 (length xs))
+                              (last_wires 0 (length xs) ++ meet_wires (side TurnCont true) (side TurnFlag true) DrainReturn) (nexts_arrive 1 (length xs))
+                              (all_both Arrives (last_wires 0 (length xs)) (meet_wires (side TurnCont true) (side TurnFlag true) DrainReturn)
+                              (lasts_arrive 0 (length xs)) (Other refl refl, (Other refl refl, tt))),
                         ),
                       ),
                     ),
@@ -262,18 +266,18 @@ module _ (fl : Flow) (s : Site) (fit : IsFit fl s.block) where
         ),
       )
 
-  tails_come : (t : Bool) → AllW Comes (tail_wires s t)
-  tails_come false = results_come 0 s.block.results fit.in_root
-  tails_come true = turns_come s.block.results fit.in_root
+  tails_arrive : (t : Bool) → AllW Arrives (tail_wires s t)
+  tails_arrive false = results_arrive 0 s.block.results fit.in_root
+  tails_arrive true = turns_arrive s.block.results fit.in_root
 
-  pub inner_come : AllW Comes (inner_wires s)
-  inner_come =
-      all_both Comes (node_wires s s.block.inputs s.block.nodes) (tail_wires s s.turns) (nodes_come s.block.inputs s.block.nodes (follow s.block))
-      (tails_come s.turns)
+  pub inner_arrive : AllW Arrives (inner_wires s)
+  inner_arrive =
+      all_both Arrives (node_wires s s.block.inputs s.block.nodes) (tail_wires s s.turns) (nodes_arrive s.block.inputs s.block.nodes (follow s.block))
+      (tails_arrive s.turns)
 
   -- WHAT IS OPEN
   pub last_open : (t : Side) → is_last t.part ≡ true → is_open t (inner_wires s) ≡ true
-  last_open t l = open_none t (inner_wires s) (all_weaker Comes (λ v. t ≢ v.from) (inner_wires s) (λ v c q. apart v q (value_of v c)) inner_come)
+  last_open t l = open_none t (inner_wires s) (all_weaker Arrives (λ v. t ≢ v.from) (inner_wires s) (λ v c q. apart v q (value_of v c)) inner_arrive)
     where
       apart : (v : Wire) → t ≡ v.from → ((is_value v.from.part ≡ false) × (is_last v.from.part ≡ false))
           ⊎ (((n : ℕ) × (v.from ≡ side (Line n) false)) ⊎ ((x : Source) × (v.from ≡ leaves s x))) → ⊥
@@ -290,11 +294,11 @@ module _ (fl : Flow) (s : Site) (fit : IsFit fl s.block) where
       Goal : Type 0
       Goal = (g : ℕ) × (lies_in s.block g ≡ Arm k u) × (is_kind enter_kind s.block g ≡ true)
 
-      one_source : (xs : List Source) → 0 < length xs → All (ComesBefore fl s.block n) xs → All (LiesIn s.block (Arm k u)) xs
+      one_source : (xs : List Source) → 0 < length xs → All (IsPrior fl s.block n) xs → All (LiesIn s.block (Arm k u)) xs
           → ((m : ℕ) → m < fuel → lies_in s.block m ≡ Arm k u → Goal) → Goal
       one_source [] c h q more = absurd (omega (arith, c))
       one_source (x ∷ xs) c h q more =
-          let low = (All-head (ComesBefore fl s.block n) x xs h).earlier in more x.node (omega (arith, low, l)) (All-head (LiesIn s.block (Arm k u)) x xs q)
+          let low = (All-head (IsPrior fl s.block n) x xs h).earlier in more x.node (omega (arith, low, l)) (All-head (LiesIn s.block (Arm k u)) x xs q)
 
       merge_source : (c : ℕ) (xs : List Source) → Merges s.block n (Arm k u) c xs → ((m : ℕ) → m < fuel → lies_in s.block m ≡ Arm k u → Goal) → Goal
       merge_source c [] h more = absurd h
@@ -303,7 +307,7 @@ module _ (fl : Flow) (s : Site) (fit : IsFit fl s.block) where
       merge_source c (x ∷ z ∷ y ∷ xs) h more = absurd h
 
       kinds : (x : Node ℕ) → node_at s.block n ≡ Some x → (c : Kind ℕ) → x.kind ≡ c → Takes fl c (length x.sources) → Lies s.block n (Arm k u) c x.sources
-          → All (ComesBefore fl s.block n) x.sources
+          → All (IsPrior fl s.block n) x.sources
           → ((m : ℕ) → m < fuel → lies_in s.block m ≡ Arm k u → Goal) → Goal
       kinds x f Enter q t h a more = (n, e, kind_at s.block enter_kind n x f ∙ ap enter_kind q)
       kinds x f (Merge c) q t h a more = merge_source c x.sources h more
@@ -356,7 +360,7 @@ module _ (fl : Flow) (s : Site) (fit : IsFit fl s.block) where
   unused : (g k : ℕ) (u : Bool) → lies_in s.block g ≡ Arm k u → is_open (side (Gate g) u) (inner_wires s) ≡ true
   unused g k u e =
       open_none (side (Gate g) u) (inner_wires s)
-      (all_weaker Comes (λ v. side (Gate g) u ≢ v.from) (inner_wires s) (λ v c q. apart v q (value_of v c)) inner_come)
+      (all_weaker Arrives (λ v. side (Gate g) u ≢ v.from) (inner_wires s) (λ v c q. apart v q (value_of v c)) inner_arrive)
     where
       apart : (v : Wire) → side (Gate g) u ≡ v.from
           → ((is_value v.from.part ≡ false) × (is_last v.from.part ≡ false))

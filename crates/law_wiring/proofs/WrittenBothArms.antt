@@ -21,7 +21,7 @@ use Rattle.law_wiring.proofs.Parts.{node_within}
 use Rattle.law_wiring.proofs.WrittenNodes.{node_some, kind_at, is_value, leaves_region, leaves_own, leaves_some, arms_round}
 use Rattle.law_wiring.proofs.WrittenTriggered.{some_node}
 use Rattle.law_wiring.proofs.WrittenSides.{done_in, loop_done_in, exit_side, inner_all}
-use Rattle.law_wiring.proofs.WrittenBoth.{R, count, Comes, Other, Copy, AtNode, AtGate, AtCond, AtMerge, AtResult, inner_come, is_last, last_open, gate_of}
+use Rattle.law_wiring.proofs.WrittenBoth.{R, count, Arrives, Other, Copy, AtNode, AtGate, AtCond, AtMerge, AtResult, inner_arrive, is_last, last_open, gate_of}
 use Rattle.law_wiring.proofs.WrittenBoth.{inner_side, unused_end, unused_region}
 
 -- THE NODE whose value leaves at a side
@@ -37,7 +37,7 @@ copy_side s n q r k h e = absurd (cc)
 pub copy_leaves : (s : Site) (n q : ℕ) → is_kind cell_kind s.block n ≡ true → is_shared s n ≡ true → leaves_at s n q ≡ side (Answer n) false
 copy_leaves s n q h e = let x = node_some s.block cell_kind n h in leaves_some s n q x.0 x.1 ∙ copy_side s n q x.0.region x.0.kind x.2 e
 
--- no value leaves at a line that has a copy behind it
+-- no value leaves at a line that has a copy after it
 pub copy_apart : (s : Site) (m q n : ℕ) → is_kind cell_kind s.block n ≡ true → is_shared s n ≡ true → leaves_at s m q ≢ side (Line n) false
 copy_apart s m q n h e f =
     let same : m ≡ n = sym (leaves_own s m q).1 ∙ ap (λ (u : Side). (part_key u.part).first) f in
@@ -95,7 +95,7 @@ module _ (fl : Flow) (s : Site) (fit : IsFit fl s.block) where
         at : RR (leaves_at s m 0) ≡ Arm k u
         at = leaves_region s m 0 ∙ e
 
-        by_use : (v : Wire) → leaves_at s m 0 ≡ v.from → Comes fl s fit v → More → HasEnd x k u
+        by_use : (v : Wire) → leaves_at s m 0 ≡ v.from → Arrives fl s fit v → More → HasEnd x k u
         by_use v q (Other f g) more = let o = (leaves_own s m 0).0 in let z = ap (λ (t : Side). is_value t.part) q in absurd (cc)
         by_use v q (Copy n f cell shared) more = absurd (copy_apart s m 0 n cell shared (q ∙ f))
         by_use v q (AtNode z n f less high lies plain) more =
@@ -123,7 +123,7 @@ module _ (fl : Flow) (s : Site) (fit : IsFit fl s.block) where
                 (inner_side fl s fit (leaves_at s m 0) m y f
                 (subst (λ t. In t (sides (kind_parts fl s m (length y.sources) y.kind))) (sym (leaves_some s m 0 y f))
                 (exit_side fl s m 0 (length y.sources) y.region y.kind ports))) o at
-            by_open false o = let v = used_wire (Comes fl s fit) (leaves_at s m 0) (inner_wires s) (inner_come fl s fit) o in by_use v.0 v.2 v.1 more
+            by_open false o = let v = used_wire (Arrives fl s fit) (leaves_at s m 0) (inner_wires s) (inner_arrive fl s fit) o in by_use v.0 v.2 v.1 more
 
         -- the end of an invocation is an end
         done : (t : Side) (y : Node ℕ) → node_at s.block m ≡ Some y → In t (sides (kind_parts fl s m (length y.sources) y.kind)) → is_last t.part ≡ true

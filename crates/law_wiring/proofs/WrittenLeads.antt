@@ -14,7 +14,7 @@ use Rattle.semantics.specs.Meaning.{arm_of}
 use Rattle.law_net.specs.ContextsParts as Parts
 use Rattle.law_net.specs.ContextsParts.{Part, Trigger, Gate, Opener, Framer, Join, CondEnd, Inlet, inlet, same_part}
 use Rattle.law_net.specs.ContextsBlocks.{Side, side, Site, Wiring, there_in, lies_in, arm_round, is_kind, cond_kind, is_loop, loop_kind}
-use Rattle.law_net.specs.ContextsWires.{plain_site, LeadOn, Suits, comes_at, goes_from}
+use Rattle.law_net.specs.ContextsWires.{plain_site, LeadOn, Suits, arrives_at, goes_from}
 use Rattle.law_net.specs.ContextsExpanded.{row}
 use Rattle.law_wiring.specs.Written as Written
 use Rattle.law_wiring.specs.Written.{Wire, wire, inlet_of, is_triggered, invoke_wires, kind_wires, node_wires, tail_wires, sides, is_open, chain_wires}
@@ -353,8 +353,8 @@ module _ (fl : Flow) (s : Site) (fit : IsFit fl s.block) where
       starts = starts_rightly fl s fit well w h;
       suits = λ t x there c.
           let v = along_all AreSuited b t (wires_in fl s) x (all_suit fl s fit well) (subst (λ xs. Contains xs x) (h.wire t there) c) in
-          subst (λ (u : Side). Suits (comes_at x.part x.port) (goes_from u.part)) (sym v.2)
-          (subst (λ (y : Inlet). Suits (comes_at y.part y.port) (goes_from v.0.from.part)) v.3 v.1);
+          subst (λ (u : Side). Suits (arrives_at x.part x.port) (goes_from u.part)) (sym v.2)
+          (subst (λ (y : Inlet). Suits (arrives_at y.part y.port) (goes_from v.0.from.part)) v.3 v.1);
     }
 
 pub written_leads_on : WrittenLeadsOn

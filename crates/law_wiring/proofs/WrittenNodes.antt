@@ -15,7 +15,7 @@ use Rattle.law_net.specs.ContextsParts.{Part, Line, Answer, Gate, Landing, part_
 use Rattle.law_net.specs.ContextsBlocks.{Side, side, Site, lies_in, arm_round, is_kind, cond_kind}
 use Rattle.law_net.specs.ContextsWires.{AValue, goes_from}
 use Rattle.law_wiring.specs.Written.{is_shared, answer_side, exit_of, leaves_at}
-use Rattle.law_wiring.specs.WrittenFit.{Takes, ComesBefore, LiesIn, Lies, IsFit}
+use Rattle.law_wiring.specs.WrittenFit.{Takes, IsPrior, LiesIn, Lies, IsFit}
 use Rattle.law_wiring.proofs.WrittenMembers.{region}
 
 module _ (b : Block ℕ) where
@@ -116,9 +116,9 @@ module _ (s : Site) where
   pub leaves_value : (n q : ℕ) → goes_from (leaves_at s n q).part ≡ AValue
   leaves_value n q = values_go (leaves_at s n q).part (leaves_own n q).0
 
-pub first_before : (fl : Flow) (b : Block ℕ) (n : ℕ) (ss : List Source) → 0 < length ss → All (ComesBefore fl b n) ss → ComesBefore fl b n (first_source ss)
+pub first_before : (fl : Flow) (b : Block ℕ) (n : ℕ) (ss : List Source) → 0 < length ss → All (IsPrior fl b n) ss → IsPrior fl b n (first_source ss)
 first_before fl b n [] l all = absurd (omega (arith, l))
-first_before fl b n (s ∷ ss) l all = All-head (ComesBefore fl b n) s ss all
+first_before fl b n (s ∷ ss) l all = All-head (IsPrior fl b n) s ss all
 
 pub first_lies : (b : Block ℕ) (r : Region) (ss : List Source) → 0 < length ss → All (LiesIn b r) ss → lies_in b (first_source ss).node ≡ r
 first_lies b r [] e h = absurd (omega (arith, e))
@@ -138,7 +138,7 @@ module _ (fl : Flow) (b : Block ℕ) (fit : IsFit fl b) where
       go (Some line) e h = (fit.nodes n line e).round k t h
 
   -- the predicate of a conditional comes before, and lies where the conditional does
-  pub predicate_before : (k : ℕ) → is_kind cond_kind b k ≡ true → ComesBefore fl b k (predicate_of b k) × (lies_in b (predicate_of b k).node ≡ lies_in b k)
+  pub predicate_before : (k : ℕ) → is_kind cond_kind b k ≡ true → IsPrior fl b k (predicate_of b k) × (lies_in b (predicate_of b k).node ≡ lies_in b k)
   predicate_before k h =
       let x = node_some b cond_kind k h in
       let line = fit.nodes k x.0 x.1 in
@@ -146,6 +146,6 @@ module _ (fl : Flow) (b : Block ℕ) (fit : IsFit fl b) where
       let takes : length x.0.sources ≡ 1 = subst (λ c. Takes fl c (length x.0.sources)) kind line.takes in
       let lies : All (LiesIn b x.0.region) x.0.sources = subst (λ c. Lies b k x.0.region c x.0.sources) kind line.lies in
       let its : first_source x.0.sources ≡ predicate_of b k = ap predicate_in (sym x.1) in (
-        subst (ComesBefore fl b k) its (first_before fl b k x.0.sources (omega (arith, takes)) line.earlier),
+        subst (IsPrior fl b k) its (first_before fl b k x.0.sources (omega (arith, takes)) line.earlier),
         ap (λ (u : Source). lies_in b u.node) (sym its) ∙ first_lies b x.0.region x.0.sources (omega (arith, takes)) lies ∙ sym (its_region b k x.0 x.1),
       )

@@ -1,5 +1,5 @@
 -- What starts a call, a loop or the next turn: a call that is not strict, and a loop, wait for nothing but the entry or the trigger of their
--- arm, and a turn asks for a credit behind its flag. All arguments are sent before a result comes.
+-- arm, and a turn asks for a credit after its flag. All arguments are sent before a result comes.
 use Rattle.std.proofs.Common.{◌≡◌, ◌≢◌, ℕ, ◌<◌, ◌⊎◌, inl, inr, Bool, true, false, List, [], ◌∷◌, ◌++◌, length, refl, sym, ap, ◌∙◌, subst, arith, Contains}
 use Rattle.lemmas.proofs.Contains.{contains_cases, contains_none}
 use Rattle.tags.specs.declared.token.Port.TheVariants.{Left, Right}
@@ -85,8 +85,8 @@ module _ (fl : Flow) (s : Site) (fit : IsFit fl s.block) (well : TurnsWell s) (w
       the_one t f.0 x there f.4 c ∙ sym (the_one u f.0 x at f.4 d)
 
   -- so what leads to the end of a wire is where the wire comes from
-  comes_from : (v : Wire) (t : Side) (x : Inlet) → InW v (wires_in fl s) → Contains (w.wire v.from) x → There t.part → Contains (w.wire t) x → t ≡ v.from
-  comes_from v t x i d there c = same_origin t v.from x there (wire_there fl s fit well w h v i) c d
+  arrives_from : (v : Wire) (t : Side) (x : Inlet) → InW v (wires_in fl s) → Contains (w.wire v.from) x → There t.part → Contains (w.wire t) x → t ≡ v.from
+  arrives_from v t x i d there c = same_origin t v.from x there (wire_there fl s fit well w h v i) c d
 
   pub starts_rightly : StartsRightly fl s w
   starts_rightly = record { calls = calls; loops = loops; asks = asks; sends = h.sends }
@@ -99,7 +99,7 @@ module _ (fl : Flow) (s : Site) (fit : IsFit fl s.block) (well : TurnsWell s) (w
           let v = wire (trigger_side node.region) (Framer n) Left in
           let i = node_in_block fl s v n node y.1
           (call_starts s n node.region node.kind node.sources y.2 (sym (kind_at s.block strict_kind n node y.1) ∙ loose)) in
-          let from = comes_from v t (inlet (Framer n) Left 0) i (wire_leads fl s fit well w h v i) there c in
+          let from = arrives_from v t (inlet (Framer n) Left 0) i (wire_leads fl s fit well w h v i) there c in
           ap (λ (u : Side). is_start u.part) from ∙ trigger_starts node.region
 
       loops : (n : ℕ) (t : Side) → is_loop s.block n ≡ true → There t.part → Contains (w.wire t) (inlet (Opener n) Left 0) → is_start t.part ≡ true
@@ -108,7 +108,7 @@ module _ (fl : Flow) (s : Site) (fit : IsFit fl s.block) (well : TurnsWell s) (w
           let node : Node ℕ = y.0 in
           let v = wire (trigger_side node.region) (Opener n) Left in
           let i = node_in_block fl s v n node y.1 (loop_starts s n node.region node.kind node.sources y.2) in
-          let from = comes_from v t (inlet (Opener n) Left 0) i (wire_leads fl s fit well w h v i) there c in
+          let from = arrives_from v t (inlet (Opener n) Left 0) i (wire_leads fl s fit well w h v i) there c in
           ap (λ (u : Side). is_start u.part) from ∙ trigger_starts node.region
 
       asks : (t : Side) → There t.part → Contains (w.wire t) (inlet Asker Right 0) → t.part ≡ TurnFlag
@@ -117,5 +117,5 @@ module _ (fl : Flow) (s : Site) (fit : IsFit fl s.block) (well : TurnsWell s) (w
           let count = well turns in
           let v = wire (side TurnFlag false) Asker Right in
           let i = tail_in_block fl s v (subst (λ q. InW v (tail_wires s q)) (sym turns) (asks_first s s.block.results (omega (arith, count)))) in
-          let from = comes_from v t (inlet Asker Right 0) i (wire_leads fl s fit well w h v i) there c in
+          let from = arrives_from v t (inlet Asker Right 0) i (wire_leads fl s fit well w h v i) there c in
           ap (λ (u : Side). u.part) from

@@ -16,7 +16,7 @@ use Rattle.law_net.specs.ContextsParts.{Part, Entry, Line, Answer, Gate, Opener,
 use Rattle.law_net.specs.ContextsParts.{LoopDone, Strict, Result, TurnCont, TurnFlag, TurnValue, Asker, NextFramer, NextFanned, NextSender, LastReturn}
 use Rattle.law_net.specs.ContextsParts.{DrainReturn, Join, CondEnd}
 use Rattle.law_net.specs.ContextsBlocks.{Side, side, Site, leaves_in, outputs_in}
-use Rattle.law_net.specs.ContextsWires.{AValue, Suits, is_frame, comes_at, goes_from}
+use Rattle.law_net.specs.ContextsWires.{AValue, Suits, is_frame, arrives_at, goes_from}
 use Rattle.law_net.specs.ContextsExpanded.{row, invoked, turn_parts}
 use Rattle.law_wiring.specs.Written as Written
 use Rattle.law_wiring.specs.Written.{Wire, wire, is_shared, is_triggered, leaves, trigger_side, operand_wires, merge_wires, meet_wires, trigger_wires}
@@ -36,7 +36,7 @@ use Rattle.law_wiring.proofs.FedEnds.{TurnsWell}
 use Rattle.law_wiring.proofs.FedFrom.{region_kept}
 
 abbrev pub AreSuited : Wire → Type 0
-AreSuited v = Suits (comes_at v.part v.port) (goes_from v.from.part)
+AreSuited v = Suits (arrives_at v.part v.port) (goes_from v.from.part)
 
 -- what leaves there is no frame
 abbrev NoFrame : Side → Type 0

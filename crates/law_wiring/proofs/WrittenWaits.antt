@@ -39,7 +39,7 @@ not_same i j ne = go (i == j) refl
     go true e = absurd (ne (eqb-true i j e))
     go false e = refl
 
--- behind the place i
+-- after the place i
 after_last : (n count i : ℕ) → i + 1 ≡ count → wait_after n count i ≡ inlet (Framer n) Left 0
 after_last n count i e = ap (λ t. if t then inlet (Framer n) Left 0 else inlet (Strict n (i + 1)) Left 0) (ap (λ k. k == count) e ∙ equal_itself count)
 
@@ -47,7 +47,7 @@ after_other : (n count i : ℕ) → i + 1 < count → wait_after n count i ≡ i
 after_other n count i l = ap (λ t. if t then inlet (Framer n) Left 0 else inlet (Strict n (i + 1)) Left 0) (not_same (i + 1) count (λ q. omega (arith, q, l)))
 
 module _ (s : Site) (n : ℕ) where
-  -- THE CHAIN, and the invocation behind it
+  -- THE CHAIN, and the invocation after it
   abbrev chain : ℕ → Side → List Source → List Source → List Wire
   chain from t xs ys = strict_wires s n from t xs ++ invoke_wires s n (strict_end n from t xs) ys
 
@@ -58,7 +58,7 @@ module _ (s : Site) (n : ℕ) where
   leads_right : (ws us : List Wire) (t : Side) (x : Inlet) → Leads us t x → Leads (ws ++ us) t x
   leads_right ws us t x h = (h.0, wire_right h.0 ws us h.1, h.2, h.3)
 
-  -- the side before the chain leads to what is behind place i
+  -- the side before the chain leads to what is after place i
   start_leads : (i count : ℕ) (t : Side) (xs ys : List Source) → count ≡ (i + 1) + length xs → Leads (chain (i + 1) t xs ys) t (wait_after n count i)
   start_leads i count t [] ys e = (wire t (Framer n) Left, inl refl, refl, sym (after_last n count i (omega (arith, e))))
   start_leads i count t (x ∷ xs) ys e = (wire t (Strict n (i + 1)) Left, inl refl, refl, sym (after_other n count i (omega (arith, e))))

@@ -9,7 +9,7 @@ use Rattle.semantics.specs.Plan.{Plan, landing}
 use Rattle.semantics.specs.Text.{HasText}
 use Rattle.semantics.specs.WellFormed.{WellFormed}
 use Rattle.semantics.specs.Sharing.{Arc, arcs_of}
-use Rattle.semantics.specs.Wired.{StandsAt, is_dyadic}
+use Rattle.semantics.specs.Wired.{IsInstrAt, is_dyadic}
 use Rattle.tags.specs.declared.token.Port.TheVariants.{Right}
 use Rattle.code.specs.Sound.{LandsLeft, DestsAreSound}
 use Rattle.schemas.specs.Expanded.{expanded}
@@ -24,7 +24,7 @@ is_row op = false
 
 -- each landing begins at a left port
 abbrev pub LinksLandLeft : Plan → Type 0
-LinksLandLeft p = (b n : ℕ) (c : CodeBlock) (i : Instr) → slice_get p.program.blocks b ≡ Some c → StandsAt c n i → LandsLeft i.op i.firsts
+LinksLandLeft p = (b n : ℕ) (c : CodeBlock) (i : Instr) → slice_get p.program.blocks b ≡ Some c → IsInstrAt c n i → LandsLeft i.op i.firsts
 
 -- no arc leads to an entry
 abbrev pub ArcsPassEntries : Plan → Type 0
@@ -33,13 +33,13 @@ ArcsPassEntries p = (b : ℕ) (c : CodeBlock) (x : Arc) → slice_get p.program.
 -- an arc to a right port leads to an instruction with two operands
 abbrev pub RightArcsMeet : Plan → Type 0
 RightArcsMeet p = (b : ℕ) (c : CodeBlock) (x : Arc) → slice_get p.program.blocks b ≡ Some c → Contains (arcs_of p 0 c.instrs) x → x.to.port ≡ Right
-    → (i : Instr) × StandsAt c x.to.place i × (is_dyadic i.op ≡ true)
+    → (i : Instr) × IsInstrAt c x.to.place i × (is_dyadic i.op ≡ true)
 
 -- each landing lies in the block, and its instructions are those of a landing
 abbrev pub LandingsStand : Plan → Type 0
-LandingsStand p = (b m k block : ℕ) (c : CodeBlock) (i : Instr) (d : Dest) → slice_get p.program.blocks b ≡ Some c → StandsAt c m i → i.op ≡ Link block
+LandingsStand p = (b m k block : ℕ) (c : CodeBlock) (i : Instr) (d : Dest) → slice_get p.program.blocks b ≡ Some c → IsInstrAt c m i → i.op ≡ Link block
     → Contains i.firsts d
-    → m + d.ahead ≤ k → k < m + d.ahead + landing p block → (j : Instr) × StandsAt c k j × (is_row j.op ≡ true)
+    → m + d.ahead ≤ k → k < m + d.ahead + landing p block → (j : Instr) × IsInstrAt c k j × (is_row j.op ≡ true)
 
 -- a code block has 1 to 16 inputs and outputs, and more than its entries
 pub record HasSizes (c : CodeBlock) : Type 0 where

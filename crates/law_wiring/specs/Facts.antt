@@ -8,19 +8,19 @@ use Rattle.semantics.specs.WellFormed.{WellFormed}
 use Rattle.semantics.specs.Program.{Instr, CodeBlock, Program}
 use Rattle.semantics.specs.Plan.{Plan, OneHolder, IsFirst, mark_at}
 use Rattle.semantics.specs.Rule.{slot_of}
-use Rattle.semantics.specs.Wired.{StandsAt, LoopsAgree}
+use Rattle.semantics.specs.Wired.{IsInstrAt, LoopsAgree}
 use Rattle.code.specs.Sound.{NamesRightly, IsPlace}
 use Rattle.schemas.specs.Expanded.{expanded}
 
 -- NAMES. What an instruction names is there, and its origin is a node of a graph.
-abbrev pub NamesAndComesRightly : Program → Instr → Type 0
-NamesAndComesRightly p i = NamesRightly p i.op × IsPlace i.origin
+abbrev pub NamesAndArrivesRightly : Program → Instr → Type 0
+NamesAndArrivesRightly p i = NamesRightly p i.op × IsPlace i.origin
 
 pub record NamesBlockRightly (p : Program) (c : CodeBlock) : Type 0 where
   pub inputs : (1 ≤ c.inputs) × (c.inputs ≤ 16)
   pub outputs : (1 ≤ c.outputs) × (c.outputs ≤ 16)
   pub size : c.inputs + 1 ≤ length c.instrs
-  pub instrs : (n : ℕ) (i : Instr) → StandsAt c n i → NamesAndComesRightly p i
+  pub instrs : (n : ℕ) (i : Instr) → IsInstrAt c n i → NamesAndArrivesRightly p i
 
 pub record NamesAllRightly (p : Program) : Type 0 where
   pub some_block : (1 ≤ length p.blocks) × (length p.blocks ≤ 512)
@@ -49,7 +49,7 @@ PlansHoldRightly = (fl : Flow) (b : ℕ) (c : CodeBlock) → slice_get (expanded
 pub record MarksRightly (p : Plan) : Type 0 where
   pub marked : (b n : ℕ) (c : CodeBlock) (i : Instr) → slice_get p.program.blocks b ≡ Some c → slice_get c.instrs n ≡ Some i → i.op ≡ Switch
       → mark_at p b n ≢ Unmarked
-  pub switches : (b n : ℕ) (c : CodeBlock) (i : Instr) → slice_get p.program.blocks b ≡ Some c → StandsAt c n i → mark_at p b n ≢ Unmarked → i.op ≡ Switch
+  pub switches : (b n : ℕ) (c : CodeBlock) (i : Instr) → slice_get p.program.blocks b ≡ Some c → IsInstrAt c n i → mark_at p b n ≢ Unmarked → i.op ≡ Switch
 
 abbrev pub PlansMarkRightly : Type 0
 PlansMarkRightly = (fl : Flow) → MarksRightly (expanded fl)

@@ -118,7 +118,7 @@ sender_wires s n from (x ∷ xs) = wire (side (Fanned n) false) (Sender n from) 
 abbrev pub invoke_wires : Site → ℕ → Side → List Source → List Wire
 invoke_wires s n t xs = wire t (Framer n) Left ∷ wire (side (Fanned n) false) (Linker n) Left ∷ sender_wires s n 0 xs
 
--- the chain of a strict call's arguments, behind the first one
+-- the chain of a strict call's arguments, after the first one
 abbrev pub strict_wires : Site → ℕ → ℕ → Side → List Source → List Wire
 strict_wires s n from t [] = []
 strict_wires s n from t (x ∷ xs) =
@@ -232,7 +232,7 @@ abbrev pub in_region : Block ℕ → Region → List Side → List Side
 in_region b r [] = []
 in_region b r (t ∷ ts) = if same_region (leaves_in b t.part t.second) r then t ∷ in_region b r ts else in_region b r ts
 
--- JOINS. A chain behind the first end of a region
+-- JOINS. A chain after the first end of a region
 abbrev pub chain_wires : Region → ℕ → Side → List Side → List Wire
 chain_wires r n s [] = []
 chain_wires r n s (t ∷ ts) = wire s (Join r n) Left ∷ wire t (Join r n) Right ∷ chain_wires r (n + 1) (side (Join r n) false) ts

@@ -47,7 +47,7 @@ abbrev pub port_count : Flow → Block ℕ → ℕ → ℕ
 port_count fl b n = elim (node_at b n) as (λ x. ℕ) [ None ↦ 1 | Some line ↦ kind_ports fl (length line.sources) line.kind ]
 
 -- a source is a value of an earlier node
-pub record ComesBefore (fl : Flow) (b : Block ℕ) (n : ℕ) (s : Source) : Type 0 where
+pub record IsPrior (fl : Flow) (b : Block ℕ) (n : ℕ) (s : Source) : Type 0 where
   pub earlier : s.node < n
   pub port : s.port < port_count fl b s.node
   -- and so
@@ -73,7 +73,7 @@ pub record IsLineFit (fl : Flow) (b : Block ℕ) (n : ℕ) (node : Node ℕ) : T
   -- which has a trigger for what is invoked there
   pub triggered : (k : ℕ) (t : Bool) → node.region ≡ Arm k t → takes_trigger node.kind ≡ true → is_triggered b k ≡ true
   pub takes : Takes fl node.kind (length node.sources)
-  pub earlier : All (ComesBefore fl b n) node.sources
+  pub earlier : All (IsPrior fl b n) node.sources
   pub lies : Lies b n node.region node.kind node.sources
 
 pub record IsFit (fl : Flow) (b : Block ℕ) : Type 0 where
@@ -81,7 +81,7 @@ pub record IsFit (fl : Flow) (b : Block ℕ) : Type 0 where
   pub some_output : 0 < b.outputs
   pub nodes : (n : ℕ) (node : Node ℕ) → node_at b n ≡ Some node → IsLineFit fl b n node
   pub result_count : length b.results ≡ b.outputs
-  pub results : All (ComesBefore fl b (node_count b)) b.results
+  pub results : All (IsPrior fl b (node_count b)) b.results
   pub in_root : All (LiesIn b Root) b.results
 
 -- every block of a well-formed graph is so

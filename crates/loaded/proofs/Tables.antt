@@ -36,14 +36,14 @@ count_entries first (b ∷ bs) = ap (λ n. suc n) (count_entries (first + length
 
 -- the entry of a block that is there
 pub entry_found : (p : Program) (xs table : List ℕ) (k e : ℕ) → xs ≡ table → table ≡ entries_in 0 p.blocks → k < length xs → e ≡ slice_index_or xs k e → e ≡ first_of p k
-entry_found p xs table k e same told low is =
-    entry_there p k e (subst (λ (ys : List ℕ). slice_get ys k ≡ Some e) (same ∙ told) (slice_get-get_or xs k e low ∙ ap (λ n. Some n) (sym is)))
+entry_found p xs table k e same parsed low is =
+    entry_there p k e (subst (λ (ys : List ℕ). slice_get ys k ≡ Some e) (same ∙ parsed) (slice_get-get_or xs k e low ∙ ap (λ n. Some n) (sym is)))
 
 -- beyond the last block, all instructions come before
 pub entry_beyond : (p : Program) (xs table : List ℕ) (k all : ℕ) → xs ≡ table → table ≡ entries_in 0 p.blocks → all ≡ first_of p (length p.blocks) → length xs ≤ k → all ≡ first_of p k
-entry_beyond p xs table k all same told total long =
+entry_beyond p xs table k all same parsed total long =
     let count = count_entries 0 p.blocks in
-    let long_table = ap (λ (ys : List ℕ). length ys) (same ∙ told) in
+    let long_table = ap (λ (ys : List ℕ). length ys) (same ∙ parsed) in
     total ∙ ap (λ bs. sum (map size bs)) (take_all (length p.blocks) p.blocks (omega arith) ∙ sym (take_all k p.blocks (omega arith)))
 
 get_entry : (first : ℕ) (bs : List CodeBlock) (k : ℕ) (b : CodeBlock) → slice_get bs k ≡ Some b → slice_get (entries_in first bs) k ≡ Some (first + sum_by size (take k bs))
@@ -55,8 +55,8 @@ get_entry first (c ∷ bs) (suc k) b h =
     get_entry (first + length c.instrs) bs k b h ∙ ap (λ n. Some n) same
 
 -- what an object tells of a block's entry stands in the table
-pub told_entry : (p : Program) (k e : ℕ) → Some e ≡ option_map (λ (b : CodeBlock). first_of p k) (slice_get p.blocks k) → slice_get (entries_in 0 p.blocks) k ≡ Some e
-told_entry p k e h = by (slice_get p.blocks k) refl h
+pub parsed_entry : (p : Program) (k e : ℕ) → Some e ≡ option_map (λ (b : CodeBlock). first_of p k) (slice_get p.blocks k) → slice_get (entries_in 0 p.blocks) k ≡ Some e
+parsed_entry p k e h = by (slice_get p.blocks k) refl h
   where
     by : (o : Option CodeBlock) → slice_get p.blocks k ≡ o → Some e ≡ option_map (λ (b : CodeBlock). first_of p k) o → slice_get (entries_in 0 p.blocks) k ≡ Some e
     by None is g = cc
@@ -81,8 +81,8 @@ array_from base (n ∷ ns) (suc k) a h =
 
 pub array_found : (p : Program) (xs table : List Array) (k : ℕ) (a : Array) → xs ≡ table → table ≡ arrays_in 0 p.arrays → k < length xs → a ≡ slice_index_or xs k a
     → (a.base ≡ array_base p k) × (a.len ≡ array_len p k)
-array_found p xs table k a same told low is =
-    let t = array_from 0 p.arrays k a (subst (λ (ys : List Array). slice_get ys k ≡ Some a) (same ∙ told) (slice_get-get_or xs k a low ∙ ap (λ n. Some n) (sym is))) in
+array_found p xs table k a same parsed low is =
+    let t = array_from 0 p.arrays k a (subst (λ (ys : List Array). slice_get ys k ≡ Some a) (same ∙ parsed) (slice_get-get_or xs k a low ∙ ap (λ n. Some n) (sym is))) in
     (omega (arith, t.0), t.1)
 
 count_arrays : (base : ℕ) (ns : List ℕ) → length (arrays_in base ns) ≡ length ns
@@ -91,13 +91,13 @@ count_arrays base (n ∷ ns) = ap (λ k. suc k) (count_arrays (base + n) ns)
 
 pub array_beyond : (p : Program) (xs table : List Array) (k cells : ℕ) → xs ≡ table → table ≡ arrays_in 0 p.arrays → cells ≡ sum p.arrays → length xs ≤ k
     → (cells ≡ array_base p k) × (0 ≡ array_len p k)
-array_beyond p xs table k cells same told total long =
+array_beyond p xs table k cells same parsed total long =
     let count = count_arrays 0 p.arrays in
-    let long_table = ap (λ (ys : List Array). length ys) (same ∙ told) in
+    let long_table = ap (λ (ys : List Array). length ys) (same ∙ parsed) in
     (total ∙ ap sum (sym (take_all k p.arrays (omega arith))), sym (get_or_past p.arrays k 0 (omega arith)))
 
-pub told_array : (p : Program) (base k n : ℕ) → slice_get p.arrays k ≡ Some n → base ≡ sum (take k p.arrays) → slice_get (arrays_in 0 p.arrays) k ≡ Some (record { base = base; len = n })
-told_array p base k n h is = from 0 p.arrays k (omega arith) h
+pub parsed_array : (p : Program) (base k n : ℕ) → slice_get p.arrays k ≡ Some n → base ≡ sum (take k p.arrays) → slice_get (arrays_in 0 p.arrays) k ≡ Some (record { base = base; len = n })
+parsed_array p base k n h is = from 0 p.arrays k (omega arith) h
   where
     from : (at : ℕ) (ns : List ℕ) (j : ℕ) → base ≡ at + sum (take j ns) → slice_get ns j ≡ Some n → slice_get (arrays_in at ns) j ≡ Some (record { base = base; len = n })
     from at [] j e g = cc
@@ -133,8 +133,8 @@ widest_next bs k b h = from bs k h ∙ ap (λ j. widest (take j bs)) (let up : s
     from (c ∷ cs) zero g = let same : c ≡ b = cc in let s = ap (λ (x : CodeBlock). x.slots) same in omega arith
     from (c ∷ cs) (suc j) g = let later = from cs j g in omega arith
 
-pub told_widest : (bs : List CodeBlock) (k first : ℕ) (v : BlockView) → Some v ≡ option_map (block_shown first) (slice_get bs k) → max (widest (take k bs)) v.slots ≡ widest (take (k + 1) bs)
-told_widest bs k first v h = by (slice_get bs k) refl h
+pub parsed_widest : (bs : List CodeBlock) (k first : ℕ) (v : BlockView) → Some v ≡ option_map (block_shown first) (slice_get bs k) → max (widest (take k bs)) v.slots ≡ widest (take (k + 1) bs)
+parsed_widest bs k first v h = by (slice_get bs k) refl h
   where
     by : (o : Option CodeBlock) → slice_get bs k ≡ o → Some v ≡ option_map (block_shown first) o → max (widest (take k bs)) v.slots ≡ widest (take (k + 1) bs)
     by None is g = cc

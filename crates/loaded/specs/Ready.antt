@@ -28,8 +28,8 @@ inputs_of p = inputs_in (slice_get p.blocks p.main)
 -- these are the tables of an object
 pub record IsReady (o : Opened) (entries : List ℕ) (arrays : List Array) (instrs cells slots : ℕ) : Type 0 where
   pub lawful : IsCode o.version o.code
-  pub entries_told : entries ≡ entries_in 0 o.code.program.blocks
-  pub arrays_told : arrays ≡ arrays_in 0 o.code.program.arrays
-  pub instrs_told : instrs ≡ first_of o.code.program (length o.code.program.blocks)
-  pub cells_told : cells ≡ sum o.code.program.arrays
-  pub slots_told : slots ≡ widest o.code.program.blocks
+  pub entries_parsed : entries ≡ entries_in 0 o.code.program.blocks
+  pub arrays_parsed : arrays ≡ arrays_in 0 o.code.program.arrays
+  pub instrs_parsed : instrs ≡ first_of o.code.program (length o.code.program.blocks)
+  pub cells_parsed : cells ≡ sum o.code.program.arrays
+  pub slots_parsed : slots ≡ widest o.code.program.blocks

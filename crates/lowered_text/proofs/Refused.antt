@@ -10,13 +10,13 @@ use Rattle.source_text.specs.Reading.{HasFault, IsRead}
 use Rattle.source_check.specs.Stack.{out_of_memory}
 use Rattle.lowered_text.specs.declared.fault.LowerFault.{LowerFault}
 use Rattle.lowered_text.specs.Lowers.{IsProgramOf, IsFirstFault, of_text, IsRefusedProgram}
-use Rattle.lowered_text.specs.Told.{placed, IsUntold}
+use Rattle.lowered_text.specs.Reported.{placed, IsUntold}
 
-pub told_of : (text program : List ℕ) (fault : Fault) (told : LowerFault) → program ≡ program_of text
-    → (fault.kind ≡ Memory) ⊎ IsFirstFault text fault → IsUntold (placed program fault) told → IsRefusedProgram text told
-told_of text program fault told is first (inl (k, t)) = subst (IsRefusedProgram text) (sym t) tt
-told_of text program fault told is (inl m) (inr (n, t)) = elim (n m) [ ]
-told_of text program fault told is (inr f) (inr (n, t)) =
+pub reported_of : (text program : List ℕ) (fault : Fault) (reported : LowerFault) → program ≡ program_of text
+    → (fault.kind ≡ Memory) ⊎ IsFirstFault text fault → IsUntold (placed program fault) reported → IsRefusedProgram text reported
+reported_of text program fault reported is first (inl (k, t)) = subst (IsRefusedProgram text) (sym t) tt
+reported_of text program fault reported is (inl m) (inr (n, t)) = elim (n m) [ ]
+reported_of text program fault reported is (inr f) (inr (n, t)) =
     subst (IsRefusedProgram text) (sym (t ∙ ap (λ (p : List ℕ). LowerFault.Program (placed p fault)) is)) (fault, f, n, refl)
 
 pub read_fault : (text : List ℕ) (fault : Fault) → HasFault (program_of text) fault → (fault.kind ≡ Memory) ⊎ IsFirstFault text fault

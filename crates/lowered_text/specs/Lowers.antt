@@ -13,7 +13,7 @@ use Rattle.source.specs.Rules.{checked}
 use Rattle.source.specs.Lowered.{lowered}
 use Rattle.source_text.specs.Reading.{IsFirst}
 use Rattle.lowered_text.specs.declared.fault.LowerFault.{LowerFault}
-use Rattle.lowered_text.specs.Told.{placed}
+use Rattle.lowered_text.specs.Reported.{placed}
 
 -- the program that the text has before its line `inputs`
 pub record IsProgramOf (text : List ℕ) (p : Program) : Type 0 where

@@ -1,7 +1,7 @@
 //! Why a text is not lowered.
 
 ghost use Rattle.std.specs.Prelude.{◌≡◌};
-ghost use Rattle.lowered_text.specs.Told.{IsUntold};
+ghost use Rattle.lowered_text.specs.Reported.{IsUntold};
 ghost use Rattle.lowered_text.specs.declared.fault.LowerFault.TheVariants.{Memory};
 
 use source::fault::{FaultKind, ProgramFault};
@@ -17,7 +17,7 @@ pub enum LowerFault {
 }
 
 impl From<AllocError> for LowerFault {
-    ghost from_gives = { λ _ told. told ≡ Memory };
+    ghost from_gives = { λ _ reported. reported ≡ Memory };
 
     fn from(_error: AllocError) -> LowerFault {
         LowerFault::Memory
@@ -25,7 +25,7 @@ impl From<AllocError> for LowerFault {
 }
 
 impl From<ProgramFault> for LowerFault {
-    ghost from_gives = { λ fault told. IsUntold fault told };
+    ghost from_gives = { λ fault reported. IsUntold fault reported };
 
     fn from(fault: ProgramFault) -> LowerFault {
         match fault.kind {

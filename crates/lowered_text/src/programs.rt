@@ -6,7 +6,7 @@ ghost use Rattle.source.specs.Words.{HasTree};
 ghost use Rattle.source_text.specs.Reading.{IsRead};
 ghost use Rattle.lowered_text.specs.Lowers.{IsRefusedProgram};
 ghost use Rattle.lowered_text.specs.Parts.{AreParts, IsGood, IsMade};
-ghost use Rattle.lowered_text.specs.Told.{IsUntold, placed};
+ghost use Rattle.lowered_text.specs.Reported.{IsUntold, placed};
 
 use crate::fault::LowerFault;
 use graph::{Array, Block, Graph, Name};
@@ -35,7 +35,7 @@ pub struct Made<'a, A: Allocator> {
 }
 
 /// The fault with its line and its column in the program's text.
-fn told(program: &[u8], fault: Fault) -> LowerFault
+fn reported(program: &[u8], fault: Fault) -> LowerFault
     ensures { IsUntold (placed program.now fault) result }
 {
     let place = position(program, fault.at);
@@ -61,7 +61,7 @@ fn good_source<'a, A: Allocator + Clone>(
     } = source;
     let checked = match source_check::check(alloc, text.len(), program) {
         Ok(checked) => checked,
-        Err(fault) => return Err(told(text, fault)),
+        Err(fault) => return Err(reported(text, fault)),
     };
     match name_loops(alloc, checked) {
         Ok(named) => Ok((
@@ -71,7 +71,7 @@ fn good_source<'a, A: Allocator + Clone>(
                 inputs,
             },
         )),
-        Err(fault) => Err(told(text, fault)),
+        Err(fault) => Err(reported(text, fault)),
     }
 }
 
@@ -124,7 +124,7 @@ pub fn make<'a, A: Allocator + Clone>(
         places,
     } = match lower(alloc, named) {
         Ok(lowered) => lowered,
-        Err(fault) => return Err(told(program, fault)),
+        Err(fault) => return Err(reported(program, fault)),
     };
     let _names = names_of(&named.checked.program);
     let graph = graph_of(arrays, blocks);

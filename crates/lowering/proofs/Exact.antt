@@ -15,25 +15,25 @@ use Rattle.lowering.specs.State.{State}
 use Rattle.lowering.specs.Functions.{between}
 use Rattle.lowering.specs.Machine.{run}
 use Rattle.lowering.specs.Blocks.{named_blocks}
-use Rattle.lowering.specs.Scan.{told_plans}
-use Rattle.lowering.specs.Results.{told_arrays, told_results}
-use Rattle.lowering.specs.Numbered.{names_told, run_numbered, told_table, told_cells, told_blocks}
+use Rattle.lowering.specs.Scan.{gathered_plans}
+use Rattle.lowering.specs.Results.{gathered_arrays, gathered_results}
+use Rattle.lowering.specs.Numbered.{names_gathered, run_numbered, gathered_table, gathered_cells, gathered_blocks}
 use Rattle.lowering.specs.Built.{Places, places_of, IsLowered}
 use Rattle.lowering.proofs.Lowers.{machine_lowers, blocks_are_made, blocks_of_graph}
-use Rattle.lowering.proofs.ResultsTold.{results_are_told, arrays_are_told}
+use Rattle.lowering.proofs.ResultsGathered.{results_are_gathered, arrays_are_gathered}
 use Rattle.lowering.proofs.Numbers.{same_run, same_arrays, same_results}
 
 pub arrays_exact : (names : List Name) (ws : List (Word ℕ)) (p : Program) → IsProgram names ws p
-    → told_cells names ws ≡ arrays_of p
-arrays_exact names ws p i = same_arrays names ws ∙ ap told_arrays i.words.words ∙ arrays_are_told p
+    → gathered_cells names ws ≡ arrays_of p
+arrays_exact names ws p i = same_arrays names ws ∙ ap gathered_arrays i.words.words ∙ arrays_are_gathered p
 
 pub blocks_exact : (names : List Name) (ws : List (Word ℕ)) (p : Program) → IsChecked names ws → IsProgram names ws p
-    → told_blocks names ws ≡ named_blocks p p
+    → gathered_blocks names ws ≡ named_blocks p p
 blocks_exact names ws p c i =
-    ap (λ s. s.done) (same_run p names (told_table names ws)
-    (λ n h. same_results names ws i.words.distinct i.words.known n h ∙ ap (λ vs. told_results vs (name_of names n)) i.words.words ∙ results_are_told p (name_of names n))
-    ws (between (told_plans (names_told names ws)) []) i.words.known)
-    ∙ ap (λ vs. (run p (between (told_plans vs) []) vs).done) i.words.words
+    ap (λ s. s.done) (same_run p names (gathered_table names ws)
+    (λ n h. same_results names ws i.words.distinct i.words.known n h ∙ ap (λ vs. gathered_results vs (name_of names n)) i.words.words ∙ results_are_gathered p (name_of names n))
+    ws (between (gathered_plans (names_gathered names ws)) []) i.words.known)
+    ∙ ap (λ vs. (run p (between (gathered_plans vs) []) vs).done) i.words.words
     ∙ ap (λ s. s.done) (machine_lowers p 0 i.fits (c.checked p 0 i))
 
 -- the blocks of the graph, and their places
@@ -60,7 +60,7 @@ too_big p f e = ap (λ (r : Result ⊤ Fault). r >>= λ fits. Ok (graph_of p)) e
 
 -- what the machine made of the words
 abbrev pub Made : List Name → List (Word ℕ) → List (Name × ℕ) → List (Name × MadeBlock) → Type 0
-Made names ws cells bs = (cells ≡ told_cells names ws) × (bs ≡ told_blocks names ws)
+Made names ws cells bs = (cells ≡ gathered_cells names ws) × (bs ≡ gathered_blocks names ws)
 
 pub good_exact : (names : List Name) (ws : List (Word ℕ)) (cells : List (Name × ℕ)) (bs seen : List (Name × MadeBlock)) (code : List (Name × Block Name))
     (origins : List Places) (r : Result ⊤ Fault) (u : ⊤) → IsChecked names ws → Made names ws cells bs → seen ≡ bs
@@ -86,11 +86,12 @@ bad_exact names ws cells bs seen r f c m v e h p i =
     too_big p f (k ∙ h)
 
 -- the machine over the words, with what they tell
-pub went : (names told_names run_names : List Name) (ws told_words run_words : List (Word ℕ)) (t table : List ℕ) (ps : List Plan) (begun ended : State)
-    (bs : List (Name × MadeBlock)) → told_names ≡ names → told_words ≡ ws → run_names ≡ names → table ≡ t → run_words ≡ ws
-    → ps ≡ told_plans (names_told told_names told_words) → t ≡ told_table told_names told_words → begun ≡ between ps []
+pub went : (names gathered_names run_names : List Name) (ws gathered_words run_words : List (Word ℕ)) (t table : List ℕ) (ps : List Plan) (begun ended : State)
+    (bs : List (Name × MadeBlock)) → gathered_names ≡ names → gathered_words ≡ ws → run_names ≡ names → table ≡ t → run_words ≡ ws
+    → ps ≡ gathered_plans (names_gathered gathered_names gathered_words) → t ≡ gathered_table gathered_names gathered_words → begun ≡ between ps []
     → ended ≡ run_numbered run_names table begun run_words → bs ≡ ended.done
-    → bs ≡ told_blocks names ws
-went names told_names run_names ws told_words run_words t table ps begun ended bs a b c d e f g h i j =
-    let k : ended ≡ run_numbered names (told_table names ws) (between (told_plans (names_told names ws)) []) ws = rw (i, c, d, e, h, f, g, a, b) refl in
+    → bs ≡ gathered_blocks names ws
+went names gathered_names run_names ws gathered_words run_words t table ps begun ended bs a b c d e f g h i j =
+    let k : ended ≡ run_numbered names (gathered_table names ws) (between (gathered_plans (names_gathered names ws)) []) ws =
+    rw (i, c, d, e, h, f, g, a, b) refl in
     j ∙ ap (λ (s : State). s.done) k

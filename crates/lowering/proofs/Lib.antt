@@ -8,7 +8,7 @@ pub mod TurnsSaid
 pub mod Whole
 pub mod Scanned
 pub mod Checked
-pub mod ResultsTold
+pub mod ResultsGathered
 pub mod Lowers
 pub mod Same
 pub mod Nodes

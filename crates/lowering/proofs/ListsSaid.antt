@@ -6,7 +6,7 @@ use Rattle.source.specs.Words.{words, part_words, first_words, body_words, targe
 use Rattle.source.specs.Rules.{function_in}
 use Rattle.source.specs.Lowered.{Lowered, lower, lower_list, lower_body, spot_after, let_scoped, call_kind, results_of}
 use Rattle.lowering.specs.Plans.{Plan, plans, list_plans, body_plans}
-use Rattle.lowering.specs.State.{State, Frame, Firsts, Listed, Targets, Begun, after, planned, noted}
+use Rattle.lowering.specs.State.{State, Frame, Firsts, InList, Targets, Begun, after, planned, noted}
 use Rattle.lowering.specs.Machine.{run}
 use Rattle.lowering.proofs.Algebra.{and_then, both_plans, after_joined, after_followed, after_ended, quiet}
 use Rattle.lowering.proofs.Says.{Says, SaysAll, SaysBody, SaysFirsts, with_names}
@@ -25,12 +25,12 @@ pub call_says : (p : Program) (at : ℕ) (strict : Bool) (f : Name) (es : Exprs)
 call_says p at strict f es ih s ps =
     let l : Lowered = lower_list p s.site s.spot s.scope es in
     and_then p _ _ _ (part_words es) (word.Call at strict f ∷ [])
-    (ih (record s { number = false; frames = Listed s.sources ∷ s.frames; sources = [] }) ps)
+    (ih (record s { number = false; frames = InList s.sources ∷ s.frames; sources = [] }) ps)
     (ap (λ (t : State). noted false (planned t ps)) (after_ended s l at (call_kind strict f) l.sources (results_of (function_in p f))))
 
 -- a list within a body, whose values are dropped
 abbrev pub listed : State → State
-listed s = record s { number = false; frames = Listed s.sources ∷ s.frames; sources = [] }
+listed s = record s { number = false; frames = InList s.sources ∷ s.frames; sources = [] }
 
 pub do_says : (p : Program) (es : Exprs) (b : Body) → SaysAll p es → SaysBody p b → SaysBody p (Do es b)
 do_says p es b ih jh s ps =

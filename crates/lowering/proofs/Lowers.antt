@@ -11,13 +11,13 @@ use Rattle.lowering.specs.Machine.{run}
 use Rattle.lowering.specs.Blocks.{named_blocks}
 use Rattle.lowering.specs.Lowers.{MachineLowers, BlocksAreMade, BlocksOfGraph}
 use Rattle.lowering.proofs.Whole.{items_say}
-use Rattle.lowering.proofs.Scanned.{plans_told}
+use Rattle.lowering.proofs.Scanned.{plans_gathered}
 use Rattle.lowering.proofs.Checked.{all_counted}
 
 pub machine_lowers : MachineLowers
 machine_lowers p end fits good =
     let c : ItemsCounted p p = all_counted p end fits good in
-    ap (λ (ps : List Plan). run p (between ps []) (program_words p)) (plans_told p c ∙ sym (append-nil (program_plans p))) ∙ items_say p p [] [] c
+    ap (λ (ps : List Plan). run p (between ps []) (program_words p)) (plans_gathered p c ∙ sym (append-nil (program_plans p))) ∙ items_say p p [] [] c
 
 blocks_again : (f : Name) (bs : List MadeBlock) → map (λ (b : Name × MadeBlock). b.1) (of_function f bs) ≡ bs
 blocks_again f [] = refl

@@ -15,8 +15,8 @@ use Rattle.source.specs.Rules.{function_in}
 use Rattle.source.specs.Lowered.{results_of}
 use Rattle.lowering.specs.State.{State, noted}
 use Rattle.lowering.specs.Machine.{run, act, act_with, is_number, called_results}
-use Rattle.lowering.specs.Results.{Heads, head_read, heads_told, results_in, told_arrays, told_results}
-use Rattle.lowering.specs.Numbered.{Kept, names_told, kept_begun, kept_read, all_kept, results_at, run_numbered}
+use Rattle.lowering.specs.Results.{Heads, head_read, heads_gathered, results_in, gathered_arrays, gathered_results}
+use Rattle.lowering.specs.Numbered.{Numbering, names_gathered, kept_begun, kept_read, all_kept, results_at, run_numbered}
 
 abbrev Distinct : List Name → Type 0
 Distinct names = (i j : ℕ) → i < length names → j < length names → name_of names i ≡ name_of names j → i ≡ j
@@ -25,12 +25,12 @@ abbrev Known : List Name → List (Word ℕ) → Type 0
 Known names ws = All (λ w. All (λ n. n < length names) (numbers_of w)) ws
 
 -- all but the table
-record Alike (k : Kept) (h : Heads) : Type 0 where
+record Alike (k : Numbering) (h : Heads) : Type 0 where
   results : k.results ≡ h.results
   len : k.len ≡ h.len
   arrays : k.arrays ≡ h.arrays
 
-read_alike : (names : List Name) (w : Word ℕ) (k : Kept) (h : Heads) → Alike k h → Alike (kept_read names w k) (head_read (named names w) h)
+read_alike : (names : List Name) (w : Word ℕ) (k : Numbering) (h : Heads) → Alike k h → Alike (kept_read names w k) (head_read (named names w) h)
 read_alike names (word.Array at x) k h a = record {
   results = a.results;
   len = refl;
@@ -77,14 +77,14 @@ read_alike names word.Do k h a = a
 read_alike names word.Give k h a = a
 read_alike names word.Chain k h a = a
 
-all_alike : (names : List Name) (n : ℕ) (ws : List (Word ℕ)) → Alike (all_kept names (kept_begun n) ws) (heads_told (names_told names ws))
+all_alike : (names : List Name) (n : ℕ) (ws : List (Word ℕ)) → Alike (all_kept names (kept_begun n) ws) (heads_gathered (names_gathered names ws))
 all_alike names n [] = record { results = refl; len = refl; arrays = refl }
-all_alike names n (w ∷ ws) = read_alike names w (all_kept names (kept_begun n) ws) (heads_told (names_told names ws)) (all_alike names n ws)
+all_alike names n (w ∷ ws) = read_alike names w (all_kept names (kept_begun n) ws) (heads_gathered (names_gathered names ws)) (all_alike names n ws)
 
 -- the table
-record Tells (names : List Name) (t : List ℕ) (u : List (Name × ℕ)) : Type 0 where
+record Gathers (names : List Name) (t : List ℕ) (u : List (Name × ℕ)) : Type 0 where
   room : length t ≡ length names
-  tells : (n : ℕ) → n < length names → slice_index_or t n 0 ≡ results_in u (name_of names n)
+  gathers : (n : ℕ) → n < length names → slice_index_or t n 0 ≡ results_in u (name_of names n)
 
 same_numbers : (names : List Name) → Distinct names → (i j : ℕ) → i < length names → j < length names → same_name (name_of names i) (name_of names j) ≡ (i == j)
 same_numbers names d i j x y = go (i == j) refl (same_name (name_of names i) (name_of names j)) refl
@@ -99,67 +99,67 @@ same_numbers names d i j x y = go (i == j) refl (same_name (name_of names i) (na
 set_room : (t : List ℕ) (x r : ℕ) → length (slice_set t x r) ≡ length t
 set_room t x r = length-set t x r
 
-set_tells : (t : List ℕ) (x r n : ℕ) → x < length t → slice_index_or (slice_set t x r) n 0 ≡ (if n == x then r else slice_index_or t n 0)
-set_tells t x r n h = by (n == x) refl
+set_gathers : (t : List ℕ) (x r n : ℕ) → x < length t → slice_index_or (slice_set t x r) n 0 ≡ (if n == x then r else slice_index_or t n 0)
+set_gathers t x r n h = by (n == x) refl
   where
     by : (b : Bool) → (n == x) ≡ b → slice_index_or (slice_set t x r) n 0 ≡ (if b then r else slice_index_or t n 0)
     by true e = ap (λ (m : ℕ). slice_index_or (slice_set t x r) m 0) (eqb-true n x e) ∙ get_or-set_same t x r 0 h
     by false e = get_or-set_other t x n r 0 (eqb-false n x e)
 
-function_tells : (names : List Name) (t : List ℕ) (u : List (Name × ℕ)) (x r s : ℕ) → Distinct names → x < length names → r ≡ s → Tells names t u
-    → Tells names (slice_set t x r) ((name_of names x, s) ∷ u)
-function_tells names t u x r s d h e o = record {
+function_gathers : (names : List Name) (t : List ℕ) (u : List (Name × ℕ)) (x r s : ℕ) → Distinct names → x < length names → r ≡ s → Gathers names t u
+    → Gathers names (slice_set t x r) ((name_of names x, s) ∷ u)
+function_gathers names t u x r s d h e o = record {
   room = set_room t x r ∙ o.room;
-  tells = λ n l. set_tells t x r n (subst (λ m. x < m) (sym o.room) h) ∙ by n l (n == x) (sym (same_numbers names d n x l h));
+  gathers = λ n l. set_gathers t x r n (subst (λ m. x < m) (sym o.room) h) ∙ by n l (n == x) (sym (same_numbers names d n x l h));
 }
   where
     by : (n : ℕ) → n < length names → (b : Bool) → b ≡ same_name (name_of names n) (name_of names x)
         → (if b then r else slice_index_or t n 0) ≡ (if same_name (name_of names n) (name_of names x) then s else results_in u (name_of names n))
     by n l true f = e ∙ ap (λ (b : Bool). if b then s else results_in u (name_of names n)) f
-    by n l false f = o.tells n l ∙ ap (λ (b : Bool). if b then s else results_in u (name_of names n)) f
+    by n l false f = o.gathers n l ∙ ap (λ (b : Bool). if b then s else results_in u (name_of names n)) f
 
-read_tells : (names : List Name) (w : Word ℕ) (k : Kept) (h : Heads) → Distinct names → All (λ n. n < length names) (numbers_of w) → Alike k h
-    → Tells names k.table h.table → Tells names (kept_read names w k).table (head_read (named names w) h).table
-read_tells names (word.Function at x) k h d q a o = function_tells names k.table h.table x k.results h.results d (All-head (λ n. n < length names) x [] q) a.results o
-read_tells names (word.Array at x) k h d q a o = o
-read_tells names (word.Length at n) k h d q a o = o
-read_tells names (word.Results at n) k h d q a o = o
-read_tells names (word.Parameter at x) k h d q a o = o
-read_tells names (word.Body at) k h d q a o = o
-read_tells names word.EndFunction k h d q a o = o
-read_tells names (word.Number at n) k h d q a o = o
-read_tells names (word.Name at x) k h d q a o = o
-read_tells names word.Bracket k h d q a o = o
-read_tells names (word.Prefix at op) k h d q a o = o
-read_tells names word.Left k h d q a o = o
-read_tells names (word.Infix at sign) k h d q a o = o
-read_tells names (word.Cell at x) k h d q a o = o
-read_tells names (word.Fetch at x) k h d q a o = o
-read_tells names word.Index k h d q a o = o
-read_tells names (word.Store at x) k h d q a o = o
-read_tells names (word.Callee at x) k h d q a o = o
-read_tells names (word.Call at strict x) k h d q a o = o
-read_tells names word.Then k h d q a o = o
-read_tells names word.Else k h d q a o = o
-read_tells names (word.EndIf at) k h d q a o = o
-read_tells names (word.Loop at) k h d q a o = o
-read_tells names (word.Bound at n) k h d q a o = o
-read_tells names (word.Start at x) k h d q a o = o
-read_tells names word.First k h d q a o = o
-read_tells names word.TestFirst k h d q a o = o
-read_tells names word.While k h d q a o = o
-read_tells names word.BodyFirst k h d q a o = o
-read_tells names word.Until k h d q a o = o
-read_tells names (word.EndLoop at n) k h d q a o = o
-read_tells names word.List k h d q a o = o
-read_tells names word.Part k h d q a o = o
-read_tells names (word.Let at) k h d q a o = o
-read_tells names (word.Bind at x) k h d q a o = o
-read_tells names word.Drop k h d q a o = o
-read_tells names (word.EndLet at) k h d q a o = o
-read_tells names word.Do k h d q a o = o
-read_tells names word.Give k h d q a o = o
-read_tells names word.Chain k h d q a o = o
+read_gathers : (names : List Name) (w : Word ℕ) (k : Numbering) (h : Heads) → Distinct names → All (λ n. n < length names) (numbers_of w) → Alike k h
+    → Gathers names k.table h.table → Gathers names (kept_read names w k).table (head_read (named names w) h).table
+read_gathers names (word.Function at x) k h d q a o = function_gathers names k.table h.table x k.results h.results d (All-head (λ n. n < length names) x [] q) a.results o
+read_gathers names (word.Array at x) k h d q a o = o
+read_gathers names (word.Length at n) k h d q a o = o
+read_gathers names (word.Results at n) k h d q a o = o
+read_gathers names (word.Parameter at x) k h d q a o = o
+read_gathers names (word.Body at) k h d q a o = o
+read_gathers names word.EndFunction k h d q a o = o
+read_gathers names (word.Number at n) k h d q a o = o
+read_gathers names (word.Name at x) k h d q a o = o
+read_gathers names word.Bracket k h d q a o = o
+read_gathers names (word.Prefix at op) k h d q a o = o
+read_gathers names word.Left k h d q a o = o
+read_gathers names (word.Infix at sign) k h d q a o = o
+read_gathers names (word.Cell at x) k h d q a o = o
+read_gathers names (word.Fetch at x) k h d q a o = o
+read_gathers names word.Index k h d q a o = o
+read_gathers names (word.Store at x) k h d q a o = o
+read_gathers names (word.Callee at x) k h d q a o = o
+read_gathers names (word.Call at strict x) k h d q a o = o
+read_gathers names word.Then k h d q a o = o
+read_gathers names word.Else k h d q a o = o
+read_gathers names (word.EndIf at) k h d q a o = o
+read_gathers names (word.Loop at) k h d q a o = o
+read_gathers names (word.Bound at n) k h d q a o = o
+read_gathers names (word.Start at x) k h d q a o = o
+read_gathers names word.First k h d q a o = o
+read_gathers names word.TestFirst k h d q a o = o
+read_gathers names word.While k h d q a o = o
+read_gathers names word.BodyFirst k h d q a o = o
+read_gathers names word.Until k h d q a o = o
+read_gathers names (word.EndLoop at n) k h d q a o = o
+read_gathers names word.List k h d q a o = o
+read_gathers names word.Part k h d q a o = o
+read_gathers names (word.Let at) k h d q a o = o
+read_gathers names (word.Bind at x) k h d q a o = o
+read_gathers names word.Drop k h d q a o = o
+read_gathers names (word.EndLet at) k h d q a o = o
+read_gathers names word.Do k h d q a o = o
+read_gathers names word.Give k h d q a o = o
+read_gathers names word.Chain k h d q a o = o
 
 zeros : (n m : ℕ) → slice_index_or {A = ℕ} (replicate n 0) m 0 ≡ 0
 zeros zero m = refl
@@ -171,9 +171,9 @@ length-zeros zero = refl
 length-zeros (suc n) = ap suc (length-zeros n)
 
 all_tell : (names : List Name) (ws : List (Word ℕ)) → Distinct names → Known names ws
-    → Tells names (all_kept names (kept_begun (length names)) ws).table (heads_told (names_told names ws)).table
-all_tell names [] d q = record { room = length-zeros (length names); tells = λ n l. zeros (length names) n }
-all_tell names (w ∷ ws) d q = read_tells names w (all_kept names (kept_begun (length names)) ws) (heads_told (names_told names ws)) d
+    → Gathers names (all_kept names (kept_begun (length names)) ws).table (heads_gathered (names_gathered names ws)).table
+all_tell names [] d q = record { room = length-zeros (length names); gathers = λ n l. zeros (length names) n }
+all_tell names (w ∷ ws) d q = read_gathers names w (all_kept names (kept_begun (length names)) ws) (heads_gathered (names_gathered names ws)) d
     (All-head (λ v. All (λ n. n < length names) (numbers_of v)) w ws q) (all_alike names (length names) ws)
     (all_tell names ws d (All-tail (λ v. All (λ n. n < length names) (numbers_of v)) w ws q))
 
@@ -225,7 +225,7 @@ same_calls p names t c word.Give q = refl
 same_calls p names t c word.Chain q = refl
 
 pub same_run : (p : Program) (names : List Name) (t : List ℕ) → Counts p names t → (ws : List (Word ℕ)) (s : State) → Known names ws
-    → run_numbered names t s ws ≡ run p s (names_told names ws)
+    → run_numbered names t s ws ≡ run p s (names_gathered names ws)
 same_run p names t c [] s q = refl
 same_run p names t c (w ∷ ws) s q =
     ap (λ (r : ℕ). run_numbered names t (noted (is_number (named names w)) (act_with r (named names w) s)) ws)
@@ -233,9 +233,9 @@ same_run p names t c (w ∷ ws) s q =
     ∙ same_run p names t c ws (noted (is_number (named names w)) (act p (named names w) s))
     (All-tail (λ v. All (λ n. n < length names) (numbers_of v)) w ws q)
 
-pub same_arrays : (names : List Name) (ws : List (Word ℕ)) → (all_kept names (kept_begun (length names)) ws).arrays ≡ told_arrays (names_told names ws)
+pub same_arrays : (names : List Name) (ws : List (Word ℕ)) → (all_kept names (kept_begun (length names)) ws).arrays ≡ gathered_arrays (names_gathered names ws)
 same_arrays names ws = (all_alike names (length names) ws).arrays
 
 pub same_results : (names : List Name) (ws : List (Word ℕ)) → Distinct names → Known names ws → (n : ℕ) → n < length names
-    → slice_index_or (all_kept names (kept_begun (length names)) ws).table n 0 ≡ told_results (names_told names ws) (name_of names n)
-same_results names ws d q n h = (all_tell names ws d q).tells n h
+    → slice_index_or (all_kept names (kept_begun (length names)) ws).table n 0 ≡ gathered_results (names_gathered names ws) (name_of names n)
+same_results names ws d q n h = (all_tell names ws d q).gathers n h

@@ -43,7 +43,7 @@ one_way true false = refl
 one_way false true = refl
 one_way false false = refl
 
--- It is one whether names are left out before or behind.
+-- It is one whether names are left out before or after.
 once_filter : (p : Name → Bool) (xs : List Name) → once (filter p xs) ≡ filter p (once xs)
 once_filter p [] = refl
 once_filter p (x ∷ xs) = by (p x) refl (once_filter p xs)

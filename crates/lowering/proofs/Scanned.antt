@@ -11,7 +11,7 @@ use Rattle.source.specs.Outside.{without, is_in, bare, bound_by, uses, list_uses
 use Rattle.source.proofs.CountedSources.{without_none}
 use Rattle.lowering.specs.Counts.{Counted, ListCounted, BodyCounted, TurnCounted, ItemsCounted}
 use Rattle.lowering.specs.Plans.{Plan, plan, plans, list_plans, body_plans, turn_plans, program_plans}
-use Rattle.lowering.specs.Scan.{Scan, scan_of, read, scanned, told_plans}
+use Rattle.lowering.specs.Scan.{Scan, scan_of, read, scanned, gathered_plans}
 
 scanned_append : (z : Scan) (a b : Words) → scanned z (a ++ b) ≡ scanned (scanned z b) a
 scanned_append z [] b = refl
@@ -171,7 +171,7 @@ turn_without : (turn : Turn) → turn_uses turn ≡ without (bare (names_of turn
 turn_without (Before xs q body) = refl
 turn_without (After xs body q) = refl
 
--- a word that tells nothing stands behind, or before
+-- a word that tells nothing stands after, or before
 behind : (w : Word Name) (ws : Words) (ps : List Plan) (us : List Name) → ((z : Scan) → read w z ≡ z) → Scans ws ps us → Scans (ws ++ w ∷ []) ps us
 behind w ws ps us quiet f qs vs rest at = back _ _ _ ws (w ∷ []) (quiet (scan_of qs (vs ∷ rest) at)) (f qs vs rest at)
 
@@ -237,5 +237,5 @@ program_scans p (Cells x len ∷ items) c = ap (read (word.Array x.at x.name)) (
 program_scans p (Defines f ∷ items) c = back _ (scan_of (program_plans items) [] []) _ (item_words (Defines f)) (program_words items)
     (program_scans p items c.1) (function_scans p f (program_plans items) c.0)
 
-pub plans_told : (p : Program) → ItemsCounted p p → told_plans (program_words p) ≡ program_plans p
-plans_told p c = ap (λ (z : Scan). z.plans) (program_scans p p c)
+pub plans_gathered : (p : Program) → ItemsCounted p p → gathered_plans (program_words p) ≡ program_plans p
+plans_gathered p c = ap (λ (z : Scan). z.plans) (program_scans p p c)

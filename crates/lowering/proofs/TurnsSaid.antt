@@ -17,7 +17,7 @@ use Rattle.lowering.proofs.HowMany.{so_many}
 use Rattle.lowering.proofs.Says.{Says, SaysBody, SaysFirsts, is_numeral}
 use Rattle.lowering.proofs.ArmsSaid.{first_arm_says, first_arm_of, in_first_arm, the_arms}
 
--- behind a loop whose turn had so many loops, nodes, results and blocks
+-- after a loop whose turn had so many loops, nodes, results and blocks
 abbrev pub shut : State → Begun → ℕ → ℕ → List Frame → List Plan → ℕ → List Made → List Source → List MadeBlock → State
 shut s b at bound fs ps loops nodes sources blocks = record s {
   spot = record { next = s.spot.next + 1; loops = loops };

@@ -5,7 +5,7 @@ use Rattle.semantics.specs.declared.graph.Kind.TheVariants as node
 use Rattle.source.specs.Tree.{Name}
 use Rattle.source.specs.Lowered.{Made, Lowered, Site, spot_after, inputs_from, made, entered_names, arm_site, arm_scope, merges, first_of, next_spot}
 use Rattle.lowering.specs.Plans.{Plan}
-use Rattle.lowering.specs.State.{popped, Arms, State, Frame, Left, Right}
+use Rattle.lowering.specs.State.{popped, Arms, State, Frame, FirstArm, Right}
 use Rattle.lowering.specs.Operators.{before_last, last_of}
 
 -- with the nodes of a part, and with nodes
@@ -52,7 +52,7 @@ second_arm_of s arms fs [] = record s { frames = fs }
 second_arm_of s arms fs (q ∷ ps) = record (entered s arms false q.at q.names) { plans = ps; frames = Right arms s.sources ∷ fs }
 
 abbrev pub second_arm : State → List Plan → List Frame → State
-second_arm s ps (Left arms ∷ fs) = second_arm_of s arms fs ps
+second_arm s ps (FirstArm arms ∷ fs) = second_arm_of s arms fs ps
 second_arm s ps fs = popped s fs
 
 -- the merges of the values of both arms

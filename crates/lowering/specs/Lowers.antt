@@ -7,13 +7,13 @@ use Rattle.source.specs.Rules.{checked, function_in}
 use Rattle.source.specs.Lowered.{MadeBlock, results_of, made_blocks, blocks_of, graph_block, arrays_of}
 use Rattle.lowering.specs.Functions.{between}
 use Rattle.lowering.specs.Machine.{run}
-use Rattle.lowering.specs.Results.{told_results, told_arrays}
+use Rattle.lowering.specs.Results.{gathered_results, gathered_arrays}
 use Rattle.lowering.specs.Blocks.{named_blocks}
-use Rattle.lowering.specs.Scan.{told_plans}
+use Rattle.lowering.specs.Scan.{gathered_plans}
 
 abbrev pub MachineLowers : Type 0
 MachineLowers = (p : Program) (end : ℕ) → FitsProgram p → checked end p ≡ Ok tt
-    → run p (between (told_plans (program_words p)) []) (program_words p) ≡ between [] (named_blocks p p)
+    → run p (between (gathered_plans (program_words p)) []) (program_words p) ≡ between [] (named_blocks p p)
 
 -- these blocks are those of the definition, and of the graph
 abbrev pub BlocksAreMade : Type 0
@@ -23,8 +23,8 @@ abbrev pub BlocksOfGraph : Type 0
 BlocksOfGraph = (p : Program) → map (λ (b : Name × MadeBlock). graph_block b.0 b.1) (named_blocks p p) ≡ blocks_of p p
 
 -- what the words tell of a function is how many results it has
-abbrev pub ResultsAreTold : Type 0
-ResultsAreTold = (p : Program) (f : Name) → told_results (program_words p) f ≡ results_of (function_in p f)
+abbrev pub ResultsAreGathered : Type 0
+ResultsAreGathered = (p : Program) (f : Name) → gathered_results (program_words p) f ≡ results_of (function_in p f)
 
-abbrev pub ArraysAreTold : Type 0
-ArraysAreTold = (p : Program) → told_arrays (program_words p) ≡ arrays_of p
+abbrev pub ArraysAreGathered : Type 0
+ArraysAreGathered = (p : Program) → gathered_arrays (program_words p) ≡ arrays_of p

@@ -9,30 +9,30 @@ use Rattle.source.specs.Lowered.{MadeBlock}
 use Rattle.lowering.specs.State.{State, noted}
 use Rattle.lowering.specs.Functions.{between}
 use Rattle.lowering.specs.Machine.{act_with, is_number}
-use Rattle.lowering.specs.Scan.{told_plans}
+use Rattle.lowering.specs.Scan.{gathered_plans}
 
-abbrev pub names_told : List Name → List (Word ℕ) → Words
-names_told names ws = map (named names) ws
+abbrev pub names_gathered : List Name → List (Word ℕ) → Words
+names_gathered names ws = map (named names) ws
 
 -- HEADS, as those of words with names
-pub record Kept : Type 0 where
+pub record Numbering : Type 0 where
   pub results : ℕ
   pub table : List ℕ
   pub len : ℕ
   pub arrays : List (Name × ℕ)
 
 -- with no head read, and so many names
-abbrev pub kept_begun : ℕ → Kept
+abbrev pub kept_begun : ℕ → Numbering
 kept_begun n = record { results = 1; table = replicate n 0; len = 0; arrays = [] }
 
-abbrev pub kept_read : List Name → Word ℕ → Kept → Kept
+abbrev pub kept_read : List Name → Word ℕ → Numbering → Numbering
 kept_read names (word.Array at x) k = record k { len = 0; arrays = (name_of names x, k.len) ∷ k.arrays }
 kept_read names (word.Length at n) k = record k { len = n }
 kept_read names (word.Function at x) k = record k { results = 1; table = slice_set k.table x k.results }
 kept_read names (word.Results at n) k = record k { results = n }
 kept_read names w k = k
 
-abbrev pub all_kept : List Name → Kept → List (Word ℕ) → Kept
+abbrev pub all_kept : List Name → Numbering → List (Word ℕ) → Numbering
 all_kept names k [] = k
 all_kept names k (w ∷ ws) = kept_read names w (all_kept names k ws)
 
@@ -49,11 +49,11 @@ run_numbered names table s [] = s
 run_numbered names table s (w ∷ ws) = run_numbered names table (noted (is_number (named names w)) (act_numbered names table w s)) ws
 
 -- WHAT WORDS TELL: how many results each function has, the arrays, and the blocks that the machine makes, each with its function's name
-abbrev pub told_table : List Name → List (Word ℕ) → List ℕ
-told_table names ws = (all_kept names (kept_begun (length names)) ws).table
+abbrev pub gathered_table : List Name → List (Word ℕ) → List ℕ
+gathered_table names ws = (all_kept names (kept_begun (length names)) ws).table
 
-abbrev pub told_cells : List Name → List (Word ℕ) → List (Name × ℕ)
-told_cells names ws = (all_kept names (kept_begun (length names)) ws).arrays
+abbrev pub gathered_cells : List Name → List (Word ℕ) → List (Name × ℕ)
+gathered_cells names ws = (all_kept names (kept_begun (length names)) ws).arrays
 
-abbrev pub told_blocks : List Name → List (Word ℕ) → List (Name × MadeBlock)
-told_blocks names ws = (run_numbered names (told_table names ws) (between (told_plans (names_told names ws)) []) ws).done
+abbrev pub gathered_blocks : List Name → List (Word ℕ) → List (Name × MadeBlock)
+gathered_blocks names ws = (run_numbered names (gathered_table names ws) (between (gathered_plans (names_gathered names ws)) []) ws).done

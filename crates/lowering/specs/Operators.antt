@@ -35,7 +35,7 @@ operated s at kind n order =
 abbrev pub as_they_are : List Source → List Source
 as_they_are ss = ss
 
--- A number with `-` directly behind it is one literal, with the place of the sign.
+-- A number with `-` directly after it is one literal, with the place of the sign.
 abbrev pub minus : Kind Name → Kind Name
 minus (node.Lit v) = node.Lit (on_int Neg v)
 minus kind = kind

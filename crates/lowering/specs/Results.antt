@@ -8,7 +8,7 @@ use Rattle.source.specs.Tree.{Name}
 use Rattle.source.specs.Words.{Words}
 
 -- the number of results of the function whose head is read, and the length of the array whose name comes; and the functions and
--- arrays behind
+-- arrays after
 pub record Heads : Type 0 where
   pub results : ℕ
   pub table : List (Name × ℕ)
@@ -29,15 +29,15 @@ abbrev pub heads_read : Heads → Words → Heads
 heads_read h [] = h
 heads_read h (w ∷ ws) = head_read w (heads_read h ws)
 
-abbrev pub heads_told : Words → Heads
-heads_told ws = heads_read (heads_of [] []) ws
+abbrev pub heads_gathered : Words → Heads
+heads_gathered ws = heads_read (heads_of [] []) ws
 
 abbrev pub results_in : List (Name × ℕ) → Name → ℕ
 results_in [] f = 0
 results_in (entry ∷ table) f = if same_name f entry.0 then entry.1 else results_in table f
 
-abbrev pub told_results : Words → Name → ℕ
-told_results ws f = results_in (heads_told ws).table f
+abbrev pub gathered_results : Words → Name → ℕ
+gathered_results ws f = results_in (heads_gathered ws).table f
 
-abbrev pub told_arrays : Words → List (Name × ℕ)
-told_arrays ws = (heads_told ws).arrays
+abbrev pub gathered_arrays : Words → List (Name × ℕ)
+gathered_arrays ws = (heads_gathered ws).arrays

@@ -77,5 +77,5 @@ scanned z [] = z
 scanned z (w ∷ ws) = read w (scanned z ws)
 
 -- the plans that the words of a program tell
-abbrev pub told_plans : Words → List Plan
-told_plans ws = (scanned (scan_of [] [] []) ws).plans
+abbrev pub gathered_plans : Words → List Plan
+gathered_plans ws = (scanned (scan_of [] [] []) ws).plans

@@ -38,16 +38,16 @@ pub data Frame : Type 0 where
   -- a function: its name, and its parameters so far
   Header : (function : NameAt) (params : List NameAt) → Frame
   -- a list: the sources before it
-  Listed : (outer : List Source) → Frame
+  InList : (outer : List Source) → Frame
   -- a `let`: its targets so far
   Targets : (targets : List Target) → Frame
   -- the first arm of a conditional, and the second one with the values of the first
-  Left : (arms : Arms) → Frame
+  FirstArm : (arms : Arms) → Frame
   Right : (arms : Arms) (left : List Source) → Frame
   -- the first values of a loop, and its turn
   Firsts : (begun : Begun) → Frame
   Turned : (turn : Turning) → Frame
-  -- within a turn: the arm behind a test, and the test behind a body with the body's values
+  -- within a turn: the arm after a test, and the test after a body with the body's values
   Looping : (arms : Arms) → Frame
   Ending : (values : List Source) → Frame
 

@@ -1,4 +1,4 @@
--- THE USES OF A PART as code keeps them: a use of a name, or a binding of one, which hides the uses of it behind.
+-- THE USES OF A PART as code keeps them: a use of a name, or a binding of one, which hides the uses of it after.
 use Rattle.std.specs.Prelude.{not, Bool, List, [], ◌∷◌, ◌++◌, if◌then◌else◌}
 use Rattle.std.specs.BTreeSet.{BTreeSet, contains_by}
 use Rattle.std.specs.Cmp.Lexicographic.{slice_cmp}

@@ -4,7 +4,7 @@ ghost use Rattle.std.specs.Prelude.{◌≡◌, ◌+◌, ◌∷◌, ◌++◌, [],
 ghost use Rattle.source.specs.Lowered.{first_of, merges, inputs_from, or_predicate, source_in, scoped};
 ghost use Rattle.lowering.specs.Operators.{with_node};
 ghost use Rattle.lowering.specs.Conditionals.{entered, chosen_by, arms_of, first_arm, second_arm, if_ended, with_merges, entered_nodes, enters_of, with_enters};
-ghost use Rattle.lowering.specs.State.{Left, Looping};
+ghost use Rattle.lowering.specs.State.{FirstArm, Looping};
 ghost use Rattle.semantics.specs.declared.graph.Kind.TheVariants as node;
 
 use crate::frame::{Arms, Frame, Open, Site};
@@ -48,9 +48,9 @@ impl<'a, A: Allocator + Clone> Machine<'a, A> {
     {
         let cond = self.spot.next;
         let predicate = self.last(1)?;
-        let mut told = Vec::new(self.alloc.clone()?);
-        told.extend_from_slice(&predicate)?;
-        self.put(at, Kind::Cond, told)?;
+        let mut gathered = Vec::new(self.alloc.clone()?);
+        gathered.extend_from_slice(&predicate)?;
+        self.put(at, Kind::Cond, gathered)?;
         let none = Vec::new(self.alloc.clone()?);
         let outer = mem::replace(&mut self.sources, none);
         let empty = Scope::new(&self.alloc)?;
@@ -144,12 +144,12 @@ impl<'a, A: Allocator + Clone> Machine<'a, A> {
 
     /// The predicate of a conditional ends, and its first arm begins.
     pub fn begin_if(&mut self) -> Result<(), AllocError>
-        ensures { OnOk result (self.new ≡ first_arm self.old Left self.old.plans) }
+        ensures { OnOk result (self.new ≡ first_arm self.old FirstArm self.old.plans) }
     {
         if let Some(plan) = self.plans.pop_front() {
             let arms = self.choose(plan.at)?;
             self.enter(&arms, true, plan.at, &plan.names)?;
-            self.begin(Open::Left { arms })?;
+            self.begin(Open::FirstArm { arms })?;
         }
         Ok(())
     }
@@ -172,7 +172,7 @@ impl<'a, A: Allocator + Clone> Machine<'a, A> {
     {
         if let Some(
             Frame {
-                open: Open::Left { arms },
+                open: Open::FirstArm { arms },
             },
         ) = self.frames.pop_front()
         {

@@ -111,7 +111,7 @@ pub enum Open<'a, A: Allocator> {
         params: Vec<NameAt<'a>, A>,
     },
     /// A list: the sources before it.
-    Listed {
+    InList {
         outer: Vec<Source, A>,
     },
     /// A `let`: its targets so far.
@@ -119,7 +119,7 @@ pub enum Open<'a, A: Allocator> {
         targets: Vec<Target<'a>, A>,
     },
     /// The first arm of a conditional.
-    Left {
+    FirstArm {
         arms: Arms<'a, A>,
     },
     /// The second arm, with the values of the first.
@@ -135,11 +135,11 @@ pub enum Open<'a, A: Allocator> {
     Turned {
         turn: Turning<'a, A>,
     },
-    /// Within a turn: the arm behind a test.
+    /// Within a turn: the arm after a test.
     Looping {
         arms: Arms<'a, A>,
     },
-    /// Within a turn: the test behind a body, with the body's values.
+    /// Within a turn: the test after a body, with the body's values.
     Ending {
         values: Vec<Source, A>,
     },

@@ -2,8 +2,8 @@
 
 ghost use Rattle.std.specs.Prelude.{◌≡◌, ◌∷◌, IfOk, OnOk};
 ghost use Rattle.std.specs.List.{slice_set};
-ghost use Rattle.lowering.specs.Numbered.{kept_read, names_told, kept_begun, told_table, told_cells};
-ghost use Rattle.lowering.specs.Scan.{told_plans};
+ghost use Rattle.lowering.specs.Numbered.{kept_read, names_gathered, kept_begun, gathered_table, gathered_cells};
+ghost use Rattle.lowering.specs.Scan.{gathered_plans};
 
 use crate::names::name_of;
 use crate::plan::Plan;
@@ -15,7 +15,7 @@ use std::collections::VecDeque;
 use std::marker::Model;
 
 /// The number of results of the function whose head is read, and the length of the array whose name comes; and how many results
-/// the functions behind have, by the numbers of their names, and the arrays behind.
+/// the functions after have, by the numbers of their names, and the arrays after.
 #[derive(Drop)]
 pub struct Heads<'a, A: Allocator> {
     results: u64,
@@ -25,9 +25,9 @@ pub struct Heads<'a, A: Allocator> {
 }
 
 impl<'a, A: Allocator> Model for Heads<'a, A> {
-    ghost use Rattle.lowering.specs.Numbered.{Kept};
+    ghost use Rattle.lowering.specs.Numbered.{Numbering};
 
-    ghost Value = { Kept };
+    ghost Value = { Numbering };
 
     ghost view = { λ h. record { results = h.results; table = h.table.items; len = h.len; arrays = h.arrays.items } };
 }
@@ -93,7 +93,7 @@ impl<'a, A: Allocator + Clone> Heads<'a, A> {
 
 /// What is known of a program before it is lowered.
 #[derive(Drop)]
-pub struct Told<'a, A: Allocator> {
+pub struct Gathered<'a, A: Allocator> {
     pub plans: VecDeque<Plan<'a, A>, A>,
     /// How many results each function has, by the number of its name.
     pub results: Vec<u64, A>,
@@ -101,14 +101,14 @@ pub struct Told<'a, A: Allocator> {
 }
 
 /// Goes over the words once, from the last to the first.
-pub fn tell<'a, A: Allocator + Clone>(
+pub fn gather<'a, A: Allocator + Clone>(
     alloc: &A,
     names: &[Name<'a>],
     words: &[Word<usize>],
-) -> Result<Told<'a, A>, AllocError>
-    ensures plans { IfOk result (λ t. t.plans.items ≡ told_plans (names_told names.now words.now)) }
-    ensures results { IfOk result (λ t. t.results.items ≡ told_table names.now words.now) }
-    ensures arrays { IfOk result (λ t. t.arrays.items ≡ told_cells names.now words.now) }
+) -> Result<Gathered<'a, A>, AllocError>
+    ensures plans { IfOk result (λ t. t.plans.items ≡ gathered_plans (names_gathered names.now words.now)) }
+    ensures results { IfOk result (λ t. t.results.items ≡ gathered_table names.now words.now) }
+    ensures arrays { IfOk result (λ t. t.arrays.items ≡ gathered_cells names.now words.now) }
 {
     let mut scan = Scan::new(alloc)?;
     let mut heads = Heads::new(alloc, names.len())?;
@@ -118,7 +118,7 @@ pub fn tell<'a, A: Allocator + Clone>(
         scan.read(names, words[i])?;
         heads.read(names, words[i])?;
     }
-    Ok(Told {
+    Ok(Gathered {
         plans: scan.into_plans(),
         results: heads.table,
         arrays: heads.arrays,

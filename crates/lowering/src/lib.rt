@@ -8,8 +8,8 @@ ghost use Rattle.source.specs.Lowered as definition;
 ghost use Rattle.source.specs.Words.{IsProgram};
 ghost use Rattle.source_check.specs.Stack.{out_of_memory};
 ghost use Rattle.lowering.specs.Built.{IsLowered, places_of};
-ghost use Rattle.lowering.specs.Numbered.{told_cells, told_blocks};
-ghost use Rattle.lowering.specs.Lowers.{MachineLowers, BlocksAreMade, BlocksOfGraph, ResultsAreTold, ArraysAreTold};
+ghost use Rattle.lowering.specs.Numbered.{gathered_cells, gathered_blocks};
+ghost use Rattle.lowering.specs.Lowers.{MachineLowers, BlocksAreMade, BlocksOfGraph, ResultsAreGathered, ArraysAreGathered};
 
 mod arms;
 mod built;
@@ -33,7 +33,7 @@ mod values;
 pub use built::Places;
 use built::{all_built, sizes};
 use graph::{Array, Block};
-use items::tell;
+use items::gather;
 use loop_names::OUT_OF_MEMORY;
 pub use loop_names::{Named, name_loops};
 use machine::Machine;
@@ -47,8 +47,8 @@ pub fn words_are_lowered()
     ensures machine { MachineLowers }
     ensures made { BlocksAreMade }
     ensures graph { BlocksOfGraph }
-    ensures results { ResultsAreTold }
-    ensures arrays { ArraysAreTold }
+    ensures results { ResultsAreGathered }
+    ensures arrays { ArraysAreGathered }
 {}
 
 /// The arrays and the blocks of the graph of a program, and for each block the places in the text from which it came.
@@ -71,21 +71,21 @@ fn go_over<'a, A: Allocator + Clone>(
     alloc: &A,
     named: &'a Named<'a, A>,
 ) -> Result<Parts<'a, A>, AllocError>
-    ensures arrays { IfOk result (λ m. m.arrays.items ≡ told_cells named.now.checked.program.names named.now.checked.program.words) }
-    ensures blocks { IfOk result (λ m. m.blocks.items ≡ told_blocks named.now.checked.program.names named.now.checked.program.words) }
+    ensures arrays { IfOk result (λ m. m.arrays.items ≡ gathered_cells named.now.checked.program.names named.now.checked.program.words) }
+    ensures blocks { IfOk result (λ m. m.blocks.items ≡ gathered_blocks named.now.checked.program.names named.now.checked.program.words) }
 {
     let names = &named.checked.program.names;
     let words = &named.checked.program.words;
-    let told = tell(alloc, names, words)?;
+    let gathered = gather(alloc, names, words)?;
     let loops = named.loop_names(alloc.clone()?)?;
-    let mut machine = Machine::new(alloc, told.plans, loops)?;
+    let mut machine = Machine::new(alloc, gathered.plans, loops)?;
     let names = Names {
         names,
-        results: &told.results,
+        results: &gathered.results,
     };
     machine.run(names, words)?;
     Ok(Parts {
-        arrays: told.arrays,
+        arrays: gathered.arrays,
         blocks: machine.into_done(),
     })
 }

@@ -26,7 +26,7 @@ impl<'a, A: Allocator + Clone> Machine<'a, A> {
     {
         let none = Vec::new(self.alloc.clone()?);
         let outer = mem::replace(&mut self.sources, none);
-        self.begin(Open::Listed { outer })
+        self.begin(Open::InList { outer })
     }
 
     /// A call of a block with so many results.
@@ -41,7 +41,7 @@ impl<'a, A: Allocator + Clone> Machine<'a, A> {
     {
         if let Some(
             Frame {
-                open: Open::Listed { outer },
+                open: Open::InList { outer },
             },
         ) = self.frames.pop_front()
         {
@@ -62,7 +62,7 @@ impl<'a, A: Allocator + Clone> Machine<'a, A> {
     {
         if let Some(
             Frame {
-                open: Open::Listed { outer },
+                open: Open::InList { outer },
             },
         ) = self.frames.pop_front()
         {
@@ -76,7 +76,7 @@ impl<'a, A: Allocator + Clone> Machine<'a, A> {
     {
         if let Some(
             Frame {
-                open: Open::Listed { mut outer },
+                open: Open::InList { mut outer },
             },
         ) = self.frames.pop_front()
         {
@@ -113,7 +113,7 @@ impl<'a, A: Allocator + Clone> Machine<'a, A> {
     {
         if let Some(
             Frame {
-                open: Open::Listed { outer },
+                open: Open::InList { outer },
             },
         ) = self.frames.pop_front()
         {

@@ -16,7 +16,7 @@ use semantics::graph::{Kind, Source};
 use std::alloc::{AllocError, Allocator};
 use std::mem;
 
-/// What names stand for, behind other sources.
+/// What names stand for, after other sources.
 fn add_sources<'a, A: Allocator + Clone>(
     scope: &Scope<'a, A>,
     names: &[Name<'a>],
@@ -148,7 +148,7 @@ impl<'a, A: Allocator + Clone> Machine<'a, A> {
         Ok(())
     }
 
-    /// The test behind a body ends, and so does the turn: its results are the flag and the values of the body.
+    /// The test after a body ends, and so does the turn: its results are the flag and the values of the body.
     fn close_test(
         &mut self,
         at: usize,

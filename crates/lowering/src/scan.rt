@@ -16,7 +16,7 @@ use std::alloc::{AllocError, Allocator};
 use std::collections::VecDeque;
 use std::marker::Model;
 
-/// A use of a name, or a binding of it, which hides the uses of it behind.
+/// A use of a name, or a binding of it, which hides the uses of it after.
 #[derive(Drop)]
 struct Mark<'a> {
     name: &'a [u8],

@@ -92,7 +92,7 @@ fn first_scope<'a, A: Allocator + Clone>(
     Ok(scope)
 }
 
-/// What names stand for in a test behind a body with these values.
+/// What names stand for in a test after a body with these values.
 fn test_scope<'a, A: Allocator + Clone>(
     alloc: A,
     begun: &Begun<'a, A>,

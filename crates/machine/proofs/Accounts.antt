@@ -135,21 +135,21 @@ taken_balanced n began held ds a x low b =
     (at_last (IsPermutation-trans _ _ _ grown (IsPermutation-trans _ _ _ turn both))
     (sym (append_assoc x held (s ++ p)) ∙ ap (λ (l : Ts). (x ++ held) ++ (l ++ p)) (sym spent) ∙ ap (λ (l : Ts). (x ++ held) ++ (spent_of (ds ++ d ∷ []) ++ l)) (sym post)))
 
-pub posted_balanced : (n : ℕ) (began held kept : Ts) (ds : List Deed) (a : ℕ) (x : Bundle) → a < n → IsPermutation held (x ++ kept) → Balance n began ds held → Balance n began (ds ++ Posted a x ∷ []) kept
-posted_balanced n began held kept ds a x low out b =
+pub posted_balanced : (n : ℕ) (began held unposted : Ts) (ds : List Deed) (a : ℕ) (x : Bundle) → a < n → IsPermutation held (x ++ unposted) → Balance n began ds held → Balance n began (ds ++ Posted a x ∷ []) unposted
+posted_balanced n began held unposted ds a x low out b =
     let d : Deed = Posted a x in
     let m = made_of ds in let s = spent_of ds in let t = all_taken n ds in let p = all_posted n ds in
     let made : made_of (ds ++ d ∷ []) ≡ m = made_more ds d ∙ append-nil m in
     let spent : spent_of (ds ++ d ∷ []) ≡ s = spent_more ds d ∙ append-nil s in
     let took : all_taken n (ds ++ d ∷ []) ≡ t = taken_still n ds d (λ k l. refl) in
-    let less : IsPermutation (held ++ (s ++ p)) ((x ++ kept) ++ (s ++ p)) = IsPermutation-append_left (s ++ p) held (x ++ kept) out in
-    let turn : IsPermutation ((x ++ kept) ++ (s ++ p)) (kept ++ (s ++ (p ++ x))) = shuffled (x ∷ kept ∷ s ∷ p ∷ []) ((Piece 0 ⊕ Piece 1) ⊕ (Piece 2 ⊕ Piece 3)) (Piece 1 ⊕ (Piece 2 ⊕ (Piece 3 ⊕ Piece 0))) refl in
-    let grown : IsPermutation (kept ++ (s ++ (p ++ x))) (kept ++ (s ++ all_posted n (ds ++ d ∷ []))) = IsPermutation-append_right kept _ _ (IsPermutation-append_right s _ _ (IsPermutation-sym _ _ (posted_grows n ds a x low))) in
+    let less : IsPermutation (held ++ (s ++ p)) ((x ++ unposted) ++ (s ++ p)) = IsPermutation-append_left (s ++ p) held (x ++ unposted) out in
+    let turn : IsPermutation ((x ++ unposted) ++ (s ++ p)) (unposted ++ (s ++ (p ++ x))) = shuffled (x ∷ unposted ∷ s ∷ p ∷ []) ((Piece 0 ⊕ Piece 1) ⊕ (Piece 2 ⊕ Piece 3)) (Piece 1 ⊕ (Piece 2 ⊕ (Piece 3 ⊕ Piece 0))) refl in
+    let grown : IsPermutation (unposted ++ (s ++ (p ++ x))) (unposted ++ (s ++ all_posted n (ds ++ d ∷ []))) = IsPermutation-append_right unposted _ _ (IsPermutation-append_right s _ _ (IsPermutation-sym _ _ (posted_grows n ds a x low))) in
     at_first (ap (λ (l : Ts). began ++ (l ++ all_taken n (ds ++ d ∷ []))) made ∙ ap (λ (l : Ts). began ++ (m ++ l)) took)
-    (at_last (IsPermutation-trans _ _ _ b (IsPermutation-trans _ _ _ less (IsPermutation-trans _ _ _ turn grown))) (ap (λ (l : Ts). kept ++ (l ++ all_posted n (ds ++ d ∷ []))) (sym spent)))
+    (at_last (IsPermutation-trans _ _ _ b (IsPermutation-trans _ _ _ less (IsPermutation-trans _ _ _ turn grown))) (ap (λ (l : Ts). unposted ++ (l ++ all_posted n (ds ++ d ∷ []))) (sym spent)))
 
-pub committed_balanced : (n : ℕ) (began held kept spent made : Ts) (ds : List Deed) → IsPermutation held (spent ++ kept) → Balance n began ds held → Balance n began (ds ++ Committed spent made ∷ []) (made ++ kept)
-committed_balanced n began held kept spent made ds out b =
+pub committed_balanced : (n : ℕ) (began held unposted spent made : Ts) (ds : List Deed) → IsPermutation held (spent ++ unposted) → Balance n began ds held → Balance n began (ds ++ Committed spent made ∷ []) (made ++ unposted)
+committed_balanced n began held unposted spent made ds out b =
     let d : Deed = Committed spent made in
     let m = made_of ds in let s = spent_of ds in let t = all_taken n ds in let p = all_posted n ds in
     let makes : made_of (ds ++ d ∷ []) ≡ m ++ made = made_more ds d ∙ ap (λ (l : Ts). m ++ l) (append-nil made) in
@@ -158,11 +158,11 @@ committed_balanced n began held kept spent made ds out b =
     let post : all_posted n (ds ++ d ∷ []) ≡ p = posted_still n ds d (λ k l. refl) in
     let front : IsPermutation (began ++ ((m ++ made) ++ t)) (made ++ (began ++ (m ++ t))) = shuffled (began ∷ m ∷ made ∷ t ∷ []) (Piece 0 ⊕ ((Piece 1 ⊕ Piece 2) ⊕ Piece 3)) (Piece 2 ⊕ (Piece 0 ⊕ (Piece 1 ⊕ Piece 3))) refl in
     let mid : IsPermutation (made ++ (began ++ (m ++ t))) (made ++ (held ++ (s ++ p))) = IsPermutation-append_right made _ _ b in
-    let less : IsPermutation (made ++ (held ++ (s ++ p))) (made ++ ((spent ++ kept) ++ (s ++ p))) = IsPermutation-append_right made _ _ (IsPermutation-append_left (s ++ p) held (spent ++ kept) out) in
-    let turn : IsPermutation (made ++ ((spent ++ kept) ++ (s ++ p))) ((made ++ kept) ++ ((s ++ spent) ++ p)) = shuffled (made ∷ spent ∷ kept ∷ s ∷ p ∷ []) (Piece 0 ⊕ ((Piece 1 ⊕ Piece 2) ⊕ (Piece 3 ⊕ Piece 4))) ((Piece 0 ⊕ Piece 2) ⊕ ((Piece 3 ⊕ Piece 1) ⊕ Piece 4)) refl in
+    let less : IsPermutation (made ++ (held ++ (s ++ p))) (made ++ ((spent ++ unposted) ++ (s ++ p))) = IsPermutation-append_right made _ _ (IsPermutation-append_left (s ++ p) held (spent ++ unposted) out) in
+    let turn : IsPermutation (made ++ ((spent ++ unposted) ++ (s ++ p))) ((made ++ unposted) ++ ((s ++ spent) ++ p)) = shuffled (made ∷ spent ∷ unposted ∷ s ∷ p ∷ []) (Piece 0 ⊕ ((Piece 1 ⊕ Piece 2) ⊕ (Piece 3 ⊕ Piece 4))) ((Piece 0 ⊕ Piece 2) ⊕ ((Piece 3 ⊕ Piece 1) ⊕ Piece 4)) refl in
     at_first (ap (λ (l : Ts). began ++ (l ++ all_taken n (ds ++ d ∷ []))) makes ∙ ap (λ (l : Ts). began ++ ((m ++ made) ++ l)) took)
     (at_last (IsPermutation-trans _ _ _ front (IsPermutation-trans _ _ _ mid (IsPermutation-trans _ _ _ less turn)))
-    (ap (λ (l : Ts). (made ++ kept) ++ (l ++ p)) (sym spends) ∙ ap (λ (l : Ts). (made ++ kept) ++ (spent_of (ds ++ d ∷ []) ++ l)) (sym post)))
+    (ap (λ (l : Ts). (made ++ unposted) ++ (l ++ p)) (sym spends) ∙ ap (λ (l : Ts). (made ++ unposted) ++ (spent_of (ds ++ d ∷ []) ++ l)) (sym post)))
 
 -- nothing done yet
 pub first_balanced : (n : ℕ) (began : Ts) → Balance n began [] began

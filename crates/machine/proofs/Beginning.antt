@@ -8,7 +8,7 @@ use Rattle.std.proofs.lemmas.List.Sorted.{IsPermutation-refl}
 use Rattle.law_confluence.proofs.Orders.{at_first, at_last}
 use Rattle.tags.specs.declared.token.Token.{Token}
 use Rattle.tags.specs.Addresses.{element_of}
-use Rattle.element.specs.Held.{Held, held_of, fixed_of}
+use Rattle.element.specs.Holding.{Holding, held_of, fixed_of}
 use Rattle.schedule.specs.Setting.{Setting}
 use Rattle.schedule.specs.State.{AllFrom, IsPlaced, RunsAs, tokens_in}
 use Rattle.schedule.proofs.Places.{first_get}
@@ -41,17 +41,17 @@ none_pass n e k (t ∷ ts) ne all =
     let tail = none_pass n e k ts ne (All-tail (λ (t : Token). element_of n t.to ≡ k) t ts all) in
     ap (λ (b : Bool). if b then t ∷ filter (to_be n e) ts else filter (to_be n e) ts) (ne_eqb (element_of n t.to) e (λ (s : element_of n t.to ≡ e). ne (sym head ∙ s))) ∙ tail
 
-addressed : (g : Setting) (k : ℕ) (h : Held) → IsPlaced g k h → All (λ (t : Token). element_of g.elements t.to ≡ k) h.queue
+addressed : (g : Setting) (k : ℕ) (h : Holding) → IsPlaced g k h → All (λ (t : Token). element_of g.elements t.to ≡ k) h.queue
 addressed g k h p = subst (λ (m : ℕ). All (λ (t : Token). element_of g.elements t.to ≡ m) h.queue) p.element (subst (λ (n : ℕ). All (λ (t : Token). element_of n t.to ≡ h.part.shape.element) h.queue) p.elements p.sound.addressed)
 
-none_later : (g : Setting) (e k : ℕ) (lanes : List Held) → e < k → AllFrom (IsPlaced g) k lanes → filter (to_be g.elements e) (tokens_in lanes) ≡ []
+none_later : (g : Setting) (e k : ℕ) (lanes : List Holding) → e < k → AllFrom (IsPlaced g) k lanes → filter (to_be g.elements e) (tokens_in lanes) ≡ []
 none_later g e k [] low placed = refl
 none_later g e k (h ∷ hs) low placed =
     let own = none_pass g.elements e k h.queue (λ (s : k ≡ e). omega (arith, low, s)) (addressed g k h placed.0) in
     let rest = none_later g e (suc k) hs (omega (arith, low)) placed.1 in
     filter-append (to_be g.elements e) h.queue (tokens_in hs) ∙ ap (λ (l : List Token). l ++ filter (to_be g.elements e) (tokens_in hs)) own ∙ rest
 
-own_from : (g : Setting) (e k i : ℕ) (lanes : List Held) (h : Held) → e ≡ k + i → AllFrom (IsPlaced g) k lanes → slice_get lanes i ≡ Some h → filter (to_be g.elements e) (tokens_in lanes) ≡ h.queue
+own_from : (g : Setting) (e k i : ℕ) (lanes : List Holding) (h : Holding) → e ≡ k + i → AllFrom (IsPlaced g) k lanes → slice_get lanes i ≡ Some h → filter (to_be g.elements e) (tokens_in lanes) ≡ h.queue
 own_from g e k i [] h at placed there = absurd (let no : ⊥ = cc in no)
 own_from g e k zero (x ∷ xs) h at placed there =
     let same : x ≡ h = cc in
@@ -59,39 +59,39 @@ own_from g e k zero (x ∷ xs) h at placed there =
     let own = all_pass g.elements e x.queue (subst (λ (m : ℕ). All (λ (t : Token). element_of g.elements t.to ≡ m) x.queue) (sym here) (addressed g k x placed.0)) in
     let rest = none_later g e (suc k) xs (omega (arith, here)) placed.1 in
     filter-append (to_be g.elements e) x.queue (tokens_in xs) ∙ ap (λ (l : List Token). l ++ filter (to_be g.elements e) (tokens_in xs)) own
-    ∙ ap (λ (l : List Token). x.queue ++ l) rest ∙ append-nil x.queue ∙ ap (λ (y : Held). y.queue) same
+    ∙ ap (λ (l : List Token). x.queue ++ l) rest ∙ append-nil x.queue ∙ ap (λ (y : Holding). y.queue) same
 own_from g e k (suc i) (x ∷ xs) h at placed there =
     let own = none_pass g.elements e k x.queue (λ (s : k ≡ e). omega (arith, at, s)) (addressed g k x placed.0) in
     filter-append (to_be g.elements e) x.queue (tokens_in xs) ∙ ap (λ (l : List Token). l ++ filter (to_be g.elements e) (tokens_in xs)) own
     ∙ own_from g e (suc k) i xs h (omega (arith, at)) placed.1 there
 
-pub own_tokens : (g : Setting) (e : ℕ) (lanes : List Held) (h : Held) → AllFrom (IsPlaced g) 0 lanes → slice_get lanes e ≡ Some h → filter (to_be g.elements e) (tokens_in lanes) ≡ h.queue
+pub own_tokens : (g : Setting) (e : ℕ) (lanes : List Holding) (h : Holding) → AllFrom (IsPlaced g) 0 lanes → slice_get lanes e ≡ Some h → filter (to_be g.elements e) (tokens_in lanes) ≡ h.queue
 own_tokens g e lanes h placed there = own_from g e 0 e lanes h (omega arith) placed there
 
 -- EMPTY BUNDLES
 module _ {A : Type 0} where
-  no_tokens : (kept : List (Vec Token A)) → All (λ (v : Vec Token A). v.items ≡ []) kept → flat_map (λ (v : Vec Token A). v.items) kept ≡ []
+  no_tokens : (unposted : List (Vec Token A)) → All (λ (v : Vec Token A). v.items ≡ []) unposted → flat_map (λ (v : Vec Token A). v.items) unposted ≡ []
   no_tokens [] all = refl
   no_tokens (v ∷ vs) all =
       ap (λ (l : List Token). l ++ flat_map (λ (v : Vec Token A). v.items) vs) (All-head (λ (v : Vec Token A). v.items ≡ []) v vs all) ∙ no_tokens vs (All-tail (λ (v : Vec Token A). v.items ≡ []) v vs all)
 
 module _ {C A L : Type 0} where
-  nothing_beside : (r : Runner C A L) → IsClear r → All (λ (v : Vec Token A). v.items ≡ []) r.kept.items → away r ≡ []
-  nothing_beside r (hand, sent, dealt) empty =
-      ap (λ (l : List Token). l ++ (flat_map (λ (v : Vec Token A). v.items) r.kept.items ++ drop r.dealt r.sent.items)) hand
-      ∙ ap (λ (l : List Token). l ++ drop r.dealt r.sent.items) (no_tokens r.kept.items empty)
-      ∙ ap (λ (n : ℕ). drop n r.sent.items) dealt ∙ sent
+  nothing_beside : (r : Runner C A L) → IsClear r → All (λ (v : Vec Token A). v.items ≡ []) r.unposted.items → away r ≡ []
+  nothing_beside r (unqueued, sent, bundled) empty =
+      ap (λ (l : List Token). l ++ (flat_map (λ (v : Vec Token A). v.items) r.unposted.items ++ drop r.bundled r.sent.items)) unqueued
+      ∙ ap (λ (l : List Token). l ++ drop r.bundled r.sent.items) (no_tokens r.unposted.items empty)
+      ∙ ap (λ (n : ℕ). drop n r.sent.items) bundled ∙ sent
 
   -- a lane with its fresh seat
-  pub new_running : (listed : Bool) (g : Setting) (mesh : MeshId) (e : ℕ) (lanes : List Held) (r : Runner C A L) → mesh.elements ≡ g.elements → mesh.start ≡ tokens_in lanes → AllFrom (IsPlaced g) 0 lanes → slice_get lanes e ≡ Some (held_of r.lane) → RunsAs g (fixed_of r.lane)
-      → r.seat ≡ fresh_seat mesh e → IsNew g.elements r → IsRunning listed g mesh (held_of r.lane) r
-  new_running listed g mesh e lanes r elements start placed there runs seat new =
-      let h : Held = held_of r.lane in
+  pub new_running : (keeps_events : Bool) (g : Setting) (mesh : MeshId) (e : ℕ) (lanes : List Holding) (r : Runner C A L) → mesh.elements ≡ g.elements → mesh.start ≡ tokens_in lanes → AllFrom (IsPlaced g) 0 lanes → slice_get lanes e ≡ Some (held_of r.lane) → RunsAs g (fixed_of r.lane)
+      → r.seat ≡ fresh_seat mesh e → IsNew g.elements r → IsRunning keeps_events g mesh (held_of r.lane) r
+  new_running keeps_events g mesh e lanes r elements start placed there runs seat new =
+      let h : Holding = held_of r.lane in
       let element : r.seat.own.element ≡ e = ap (λ (s : SeatView). s.own.element) seat in
       let deeds : r.seat.own.deeds ≡ [] = ap (λ (s : SeatView). s.own.deeds) seat in
       let mine : filter (to_be mesh.elements e) mesh.start ≡ h.queue = ap (λ (n : ℕ). filter (to_be n e) mesh.start) elements ∙ ap (λ (l : List Token). filter (to_be g.elements e) l) start ∙ own_tokens g e lanes h placed there in
       let held : r.seat.own.held ≡ h.queue = ap (λ (s : SeatView). s.own.held) seat ∙ mine in
-      let beside : away r ≡ [] = nothing_beside r new.clear new.kept.1 in
+      let beside : away r ≡ [] = nothing_beside r new.clear new.unposted.1 in
       record {
         at = ap (λ (s : SeatView). s.mesh) seat;
         alone = ap (λ (s : SeatView). s.joined) seat;
@@ -109,8 +109,8 @@ module _ {C A L : Type 0} where
           holds = at_last (at_first held (IsPermutation-refl h.queue)) (sym (append-nil h.queue) ∙ ap (λ (l : List Token). h.queue ++ l) (sym beside));
         };
         tidy = record {
-          count = new.kept.0;
-          addressed = λ i d low. let none : (get_or r.kept.items i d).items ≡ [] = new.kept.1 i d (omega (arith, low, new.kept.0)) in
+          count = new.unposted.0;
+          addressed = λ i d low. let none : (get_or r.unposted.items i d).items ≡ [] = new.unposted.1 i d (omega (arith, low, new.unposted.0)) in
               subst (λ (l : List Token). AllTo g.elements i l) (sym none) (All-nil (λ (t : Token). element_of g.elements t.to ≡ i));
           created = ap (λ (ds : List Deed). created ds) deeds ∙ sym new.created;
           few = omega (arith, new.created);

@@ -8,7 +8,7 @@ use Rattle.tags.specs.Addresses.{element_of}
 use Rattle.semantics.specs.Program.{Program}
 use Rattle.element.specs.Near.{Bounds, IsNearToken}
 use Rattle.element.specs.Parts.{Shape}
-use Rattle.element.specs.Held.{Held, here, elsewhere, IsSoundLane}
+use Rattle.element.specs.Holding.{Holding, here, elsewhere, IsSoundLane}
 use Rattle.element.specs.Steps as one
 use Rattle.element.specs.Steps.{place_of}
 use Rattle.element.proofs.Quotients.{below}
@@ -22,11 +22,11 @@ use Rattle.law_linearization.proofs.HistoryActing.{steps_act}
 use Rattle.law_linearization.proofs.Ends.{own_part}
 
 -- the events of a turn
-abbrev pub acts_of : (p : Program) (steps : ℕ) (old : Held) (before ts : List Token) (new : Held) (after : List Token) → Turns p steps old before ts new after → List Act
+abbrev pub acts_of : (p : Program) (steps : ℕ) (old : Holding) (before ts : List Token) (new : Holding) (after : List Token) → Turns p steps old before ts new after → List Act
 acts_of p steps old before [] new after turns = []
 acts_of p steps old before (t ∷ ts) new after (mid, sent, does, is, few, sound, rest) = record { token = does.token; made = does.made } ∷ acts_of p steps mid sent ts new after rest
 
-pub acts_are : (p : Program) (steps : ℕ) (old : Held) (before ts : List Token) (new : Held) (after : List Token) (turns : Turns p steps old before ts new after) → length (acts_of p steps old before ts new after turns) ≡ length ts
+pub acts_are : (p : Program) (steps : ℕ) (old : Holding) (before ts : List Token) (new : Holding) (after : List Token) (turns : Turns p steps old before ts new after) → length (acts_of p steps old before ts new after turns) ≡ length ts
 acts_are p steps old before [] new after turns = refl
 acts_are p steps old before (t ∷ ts) new after (mid, sent, does, is, few, sound, rest) = ap (λ (n : ℕ). suc n) (acts_are p steps mid sent ts new after rest)
 
@@ -40,16 +40,16 @@ first_out (x ∷ xs) t some is =
     (xs, ap (λ (y : Token). y ∷ xs) same, ap (λ (n : ℕ). remove (x ∷ xs) n) at)
 
 -- the oldest token goes, and those for the element itself come last
-fifo : (p : Program) (old : Held) (before : List Token) (new : Held) (after : List Token) → (does : one.Does p old 0 before new after) → (tl : List Token) × (old.queue ≡ does.token ∷ tl) × (new.queue ≡ tl ++ here old.part.shape does.made)
+fifo : (p : Program) (old : Holding) (before : List Token) (new : Holding) (after : List Token) → (does : one.Does p old 0 before new after) → (tl : List Token) × (old.queue ≡ does.token ∷ tl) × (new.queue ≡ tl ++ here old.part.shape does.made)
 fifo p old before new after does =
     let out = first_out old.queue does.token does.picks.some does.picks.token in
     (out.0, out.1, does.queue ∙ ap (λ (l : List Token). l ++ here old.part.shape does.made) out.2)
 
 -- From all tokens of the queue to all that are there then, with any others beside them.
-pub flows_whole : (p : Program) (steps : ℕ) (old : Held) (before ts : List Token) (new : Held) (after : List Token) (turns : Turns p steps old before ts new after) (extra first : List Token)
+pub flows_whole : (p : Program) (steps : ℕ) (old : Holding) (before ts : List Token) (new : Holding) (after : List Token) (turns : Turns p steps old before ts new after) (extra first : List Token)
     → IsPermutation first (old.queue ++ (before ++ extra)) → Flows first (acts_of p steps old before ts new after turns) (new.queue ++ (after ++ extra))
 flows_whole p steps old before [] new after turns extra first perm =
-    at_last perm (ap (λ (h : Held). h.queue ++ (before ++ extra)) (sym turns.0) ∙ ap (λ (l : List Token). new.queue ++ (l ++ extra)) (sym turns.1))
+    at_last perm (ap (λ (h : Holding). h.queue ++ (before ++ extra)) (sym turns.0) ∙ ap (λ (l : List Token). new.queue ++ (l ++ extra)) (sym turns.1))
 flows_whole p steps old before (t ∷ ts) new after (mid, sent, does, is, few, sound, rest) extra first perm =
     let f = fifo p old before mid sent does in
     let made = does.made in
@@ -60,12 +60,12 @@ flows_whole p steps old before (t ∷ ts) new after (mid, sent, does, is, few, s
     = at_last (placed z made f.0 before extra) (ap (λ (l : List Token). l ++ ((before ++ elsewhere z made) ++ extra)) (sym f.2) ∙ ap (λ (l : List Token). mid.queue ++ (l ++ extra)) (sym does.sent)) in
     (others, takes, flows_whole p steps mid sent ts new after rest extra (made ++ others) next)
 
--- Where only tokens that were there are taken: `mine` are those, `tail` stays as it is, and what came behind it is `got`.
-pub flows_first : (p : Program) (steps : ℕ) (old : Held) (before ts : List Token) (new : Held) (after : List Token) (turns : Turns p steps old before ts new after) (mine tail got extra first : List Token)
+-- Where only tokens that were there are taken: `mine` are those, `tail` stays as it is, and what came after it is `got`.
+pub flows_first : (p : Program) (steps : ℕ) (old : Holding) (before ts : List Token) (new : Holding) (after : List Token) (turns : Turns p steps old before ts new after) (mine tail got extra first : List Token)
     → old.queue ≡ mine ++ (tail ++ got) → length ts ≡ length mine → IsPermutation first (mine ++ (got ++ (before ++ extra)))
     → (more : List Token) × (new.queue ≡ tail ++ more) × Flows first (acts_of p steps old before ts new after turns) (more ++ (after ++ extra))
 flows_first p steps old before [] new after turns [] tail got extra first queue count perm =
-    (got, ap (λ (h : Held). h.queue) turns.0 ∙ queue, at_last perm (ap (λ (l : List Token). got ++ (l ++ extra)) (sym turns.1)))
+    (got, ap (λ (h : Holding). h.queue) turns.0 ∙ queue, at_last perm (ap (λ (l : List Token). got ++ (l ++ extra)) (sym turns.1)))
 flows_first p steps old before [] new after turns (m ∷ mine) tail got extra first queue count perm = absurd (omega (arith, count))
 flows_first p steps old before (t ∷ ts) new after turns [] tail got extra first queue count perm = absurd (omega (arith, count))
 flows_first p steps old before (t ∷ ts) new after (mid, sent, does, is, few, sound, rest) (m ∷ mine) tail got extra first queue count perm =
@@ -74,11 +74,11 @@ flows_first p steps old before (t ∷ ts) new after (mid, sent, does, is, few, s
     let z = old.part.shape in
     let same : does.token ∷ f.0 ≡ m ∷ (mine ++ (tail ++ got)) = sym f.1 ∙ queue in
     let token : m ≡ does.token = sym (same_head does.token m f.0 (mine ++ (tail ++ got)) same) in
-    let left : f.0 ≡ mine ++ (tail ++ got) = same_tail does.token m f.0 (mine ++ (tail ++ got)) same in
+    let departure : f.0 ≡ mine ++ (tail ++ got) = same_tail does.token m f.0 (mine ++ (tail ++ got)) same in
     let others : List Token = mine ++ (got ++ (before ++ extra)) in
     let takes : IsPermutation first (does.token ∷ others) = at_last perm (ap (λ (x : Token). x ∷ others) token) in
     let g = here z made in
-    let next_queue : mid.queue ≡ mine ++ (tail ++ (got ++ g)) = f.2 ∙ ap (λ (l : List Token). l ++ g) left ∙ append_assoc mine (tail ++ got) g ∙ ap (λ (l : List Token). mine ++ l) (append_assoc tail got g) in
+    let next_queue : mid.queue ≡ mine ++ (tail ++ (got ++ g)) = f.2 ∙ ap (λ (l : List Token). l ++ g) departure ∙ append_assoc mine (tail ++ got) g ∙ ap (λ (l : List Token). mine ++ l) (append_assoc tail got g) in
     let grouped : IsPermutation (made ++ ((mine ++ got) ++ (before ++ extra))) (((mine ++ got) ++ g) ++ ((before ++ elsewhere z made) ++ extra)) = placed z made (mine ++ got) before extra in
     let next : IsPermutation (made ++ others) (mine ++ ((got ++ g) ++ (sent ++ extra)))
     = at_first (ap (λ (l : List Token). made ++ l) (sym (append_assoc mine got (before ++ extra))))
@@ -88,7 +88,7 @@ flows_first p steps old before (t ∷ ts) new after (mid, sent, does, is, few, s
     (on.0, on.1, (others, takes, on.2))
 
 -- The tokens of the queue are taken first.
-pub oldest_taken : (p : Program) (steps : ℕ) (old : Held) (before ts : List Token) (new : Held) (after : List Token) → Turns p steps old before ts new after → (mine tail : List Token) → old.queue ≡ mine ++ tail → length mine ≤ length ts → (later : List Token) × (ts ≡ mine ++ later)
+pub oldest_taken : (p : Program) (steps : ℕ) (old : Holding) (before ts : List Token) (new : Holding) (after : List Token) → Turns p steps old before ts new after → (mine tail : List Token) → old.queue ≡ mine ++ tail → length mine ≤ length ts → (later : List Token) × (ts ≡ mine ++ later)
 oldest_taken p steps old before [] new after turns [] tail queue few = ([], refl)
 oldest_taken p steps old before (t ∷ ts) new after turns [] tail queue few = (t ∷ ts, refl)
 oldest_taken p steps old before [] new after turns (m ∷ mine) tail queue few = absurd (omega (arith, few))
@@ -96,18 +96,18 @@ oldest_taken p steps old before (t ∷ ts) new after (mid, sent, does, is, low, 
     let f = fifo p old before mid sent does in
     let same : does.token ∷ f.0 ≡ m ∷ (mine ++ tail) = sym f.1 ∙ queue in
     let token : t ≡ m = sym is ∙ same_head does.token m f.0 (mine ++ tail) same in
-    let left : f.0 ≡ mine ++ tail = same_tail does.token m f.0 (mine ++ tail) same in
+    let departure : f.0 ≡ mine ++ tail = same_tail does.token m f.0 (mine ++ tail) same in
     let g = here old.part.shape does.made in
-    let on = oldest_taken p steps mid sent ts new after rest mine (tail ++ g) (f.2 ∙ ap (λ (l : List Token). l ++ g) left ∙ append_assoc mine tail g) (omega (arith, few)) in
+    let on = oldest_taken p steps mid sent ts new after rest mine (tail ++ g) (f.2 ∙ ap (λ (l : List Token). l ++ g) departure ∙ append_assoc mine tail g) (omega (arith, few)) in
     (on.0, ap (λ (x : Token). x ∷ ts) token ∙ ap (λ (l : List Token). m ∷ l) on.1)
 
 -- the events took these tokens
-pub acts_take : (p : Program) (steps : ℕ) (old : Held) (before ts : List Token) (new : Held) (after : List Token) (turns : Turns p steps old before ts new after) → map (λ (a : Act). a.token) (acts_of p steps old before ts new after turns) ≡ ts
+pub acts_take : (p : Program) (steps : ℕ) (old : Holding) (before ts : List Token) (new : Holding) (after : List Token) (turns : Turns p steps old before ts new after) → map (λ (a : Act). a.token) (acts_of p steps old before ts new after turns) ≡ ts
 acts_take p steps old before [] new after turns = refl
 acts_take p steps old before (t ∷ ts) new after (mid, sent, does, is, few, sound, rest) = ap (λ (x : Token). x ∷ map (λ (a : Act). a.token) (acts_of p steps mid sent ts new after rest)) is ∙ ap (λ (l : List Token). t ∷ l) (acts_take p steps mid sent ts new after rest)
 
 -- THE PARTS
-next_placed : (g : Setting) (e : ℕ) (lane next : Held) (before sent : List Token) → IsPlaced g e lane → (step : one.Does g.program lane 0 before next sent) → IsSoundLane g.program next → next.made ≤ g.steps → IsPlaced g e next
+next_placed : (g : Setting) (e : ℕ) (lane next : Holding) (before sent : List Token) → IsPlaced g e lane → (step : one.Does g.program lane 0 before next sent) → IsSoundLane g.program next → next.made ≤ g.steps → IsPlaced g e next
 next_placed g e lane next before sent old step next_sound few = record {
   element = ap (λ (z : Shape). z.element) step.shape ∙ old.element;
   elements = ap (λ (z : Shape). z.elements) step.shape ∙ old.elements;
@@ -117,14 +117,14 @@ next_placed g e lane next before sent old step next_sound few = record {
   sound = next_sound;
 }
 
-pub turn_placed : (g : Setting) (e : ℕ) (old : Held) (before ts : List Token) (new : Held) (after : List Token) → IsPlaced g e old → Turns g.program g.steps old before ts new after → IsPlaced g e new
-turn_placed g e old before [] new after start turns = subst (λ (h : Held). IsPlaced g e h) (sym turns.0) start
+pub turn_placed : (g : Setting) (e : ℕ) (old : Holding) (before ts : List Token) (new : Holding) (after : List Token) → IsPlaced g e old → Turns g.program g.steps old before ts new after → IsPlaced g e new
+turn_placed g e old before [] new after start turns = subst (λ (h : Holding). IsPlaced g e h) (sym turns.0) start
 turn_placed g e old before (t ∷ ts) new after start (mid, sent, does, is, few, sound, rest) =
     let made : mid.made ≤ g.steps = (let c = does.count in omega arith) in
     turn_placed g e mid sent ts new after (next_placed g e old mid before sent start does sound made) rest
 
-pub turn_chain : (g : Setting) (e : ℕ) (old : Held) (before ts : List Token) (new : Held) (after : List Token) → IsPlaced g e old → (turns : Turns g.program g.steps old before ts new after) → Chain g e old.part (acts_of g.program g.steps old before ts new after turns) new.part
-turn_chain g e old before [] new after start turns = ap (λ (h : Held). h.part) turns.0
+pub turn_chain : (g : Setting) (e : ℕ) (old : Holding) (before ts : List Token) (new : Holding) (after : List Token) → IsPlaced g e old → (turns : Turns g.program g.steps old before ts new after) → Chain g e old.part (acts_of g.program g.steps old before ts new after turns) new.part
+turn_chain g e old before [] new after start turns = ap (λ (h : Holding). h.part) turns.0
 turn_chain g e old before (t ∷ ts) new after start (mid, sent, does, is, few, sound, rest) =
     let made : mid.made ≤ g.steps = (let c = does.count in omega arith) in
     let next = next_placed g e old mid before sent start does sound made in

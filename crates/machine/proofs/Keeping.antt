@@ -10,7 +10,7 @@ use Rattle.lemmas.proofs.Permutations.{permutation_cancel, permutation_same}
 use Rattle.law_confluence.proofs.Orders.{shuffled, Part as Piece, ◌⊕◌, at_first, at_last}
 use Rattle.tags.specs.declared.token.Token.{Token}
 use Rattle.tags.specs.Addresses.{element_of}
-use Rattle.element.specs.Held.{LaneView, Held, Fixed, held_of, fixed_of, with_queue}
+use Rattle.element.specs.Holding.{LaneView, Holding, Fixed, held_of, fixed_of, with_queue}
 use Rattle.schedule.specs.declared.halt.Halt.{Halt}
 use Rattle.schedule.specs.Setting.{Setting}
 use Rattle.schedule.specs.State.{RunsAs}
@@ -21,14 +21,14 @@ use Rattle.mesh.specs.declared.view.Deed.TheVariants.{Posted, FoundFull, Took, S
 use Rattle.mesh.specs.Deeds.{Bundle, created, made_in}
 use Rattle.mesh.specs.Seats.{MeshId, SeatView, AllTo, Has, Posts, Counts, Leaves, noting, having_taken}
 use Rattle.mesh.proofs.Deeds.{created_same}
-use Rattle.machine.specs.declared.runner.Left.{Left}
+use Rattle.machine.specs.declared.runner.Departure.{Departure}
 use Rattle.machine.specs.declared.runner.Runner.{Runner}
 use Rattle.rounds.specs.Turns.{HaltsLane}
 use Rattle.ordering.specs.Noted.{noted_in}
 use Rattle.ordering.specs.Logs.{Logs}
-use Rattle.machine.specs.Runners.{Ended, IsLeft, StaysAt, Runs, Keeps, IsClear, Receives, KeepsTokens, away, HasNoReason}
+use Rattle.machine.specs.Runners.{Ended, IsDeparture, StaysAt, Runs, Keeps, IsClear, Receives, KeepsTokens, away, HasNoReason}
 use Rattle.machine.proofs.Accounts.{IsQuiet, found_full, saw_live}
-use Rattle.machine.proofs.Steps.{ran_as, ran_quiet, ran_beside, ran_received, ran_in_hand, ran_posted}
+use Rattle.machine.proofs.Steps.{ran_as, ran_quiet, ran_beside, ran_received, ran_unqueued, ran_posted}
 
 pub on_err : {X Y : Type 0} (r : Result X Y) (P : Type 0) → P → OnErr r P
 on_err (Result.Ok x) P p = tt
@@ -37,21 +37,21 @@ on_err (Result.Err y) P p = p
 abbrev bundles : {A : Type 0} → List (Vec Token A) → List Token
 bundles vs = flat_map (λ v. v.items) vs
 
-module _ {C A L : Type 0} (listed : Bool) (g : Setting) (mesh : MeshId) where
-  pub runs_on : (old new : Runner C A L) → Runs listed g mesh old → Keeps listed g mesh old new → Runs listed g mesh new
+module _ {C A L : Type 0} (keeps_events : Bool) (g : Setting) (mesh : MeshId) where
+  pub runs_on : (old new : Runner C A L) → Runs keeps_events g mesh old → Keeps keeps_events g mesh old new → Runs keeps_events g mesh new
   runs_on old new runs keeps = (runs.0, keeps runs.0 runs.1)
 
-  pub keeps_same : (old : Runner C A L) → Keeps listed g mesh old old
+  pub keeps_same : (old : Runner C A L) → Keeps keeps_events g mesh old old
   keeps_same old = λ start r. r
 
-  pub keeps_twice : (old mid new : Runner C A L) → Keeps listed g mesh old mid → Keeps listed g mesh mid new → Keeps listed g mesh old new
+  pub keeps_twice : (old mid new : Runner C A L) → Keeps keeps_events g mesh old mid → Keeps keeps_events g mesh mid new → Keeps keeps_events g mesh old new
   keeps_twice old mid new one two = λ start r. two start (one start r)
 
-  pub keeps_on : {X Y : Type 0} (r : Result X Y) (old mid new : Runner C A L) → Keeps listed g mesh old mid → OnOk r (Keeps listed g mesh mid new) → OnOk r (Keeps listed g mesh old new)
-  keeps_on r old mid new one two = ok_then r (Keeps listed g mesh mid new) (Keeps listed g mesh old new) (λ k. keeps_twice old mid new one k) two
+  pub keeps_on : {X Y : Type 0} (r : Result X Y) (old mid new : Runner C A L) → Keeps keeps_events g mesh old mid → OnOk r (Keeps keeps_events g mesh mid new) → OnOk r (Keeps keeps_events g mesh old new)
+  keeps_on r old mid new one two = ok_then r (Keeps keeps_events g mesh mid new) (Keeps keeps_events g mesh old new) (λ k. keeps_twice old mid new one k) two
 
   -- how many blocks it asked for plays no role
-  pub keeps_counting : (old : Runner C A L) (blocks : ℕ) → Keeps listed g mesh old (record old { blocks = blocks })
+  pub keeps_counting : (old : Runner C A L) (blocks : ℕ) → Keeps keeps_events g mesh old (record old { blocks = blocks })
   keeps_counting old blocks = λ start r. record {
     at = r.at;
     alone = r.alone;
@@ -64,7 +64,7 @@ module _ {C A L : Type 0} (listed : Bool) (g : Setting) (mesh : MeshId) where
   }
 
   -- nor what memory it has for bundles to come
-  pub keeps_sparing : (old : Runner C A L) (spare : Vec (Vec Token A) A) → Keeps listed g mesh old (record old { spare = spare })
+  pub keeps_sparing : (old : Runner C A L) (spare : Vec (Vec Token A) A) → Keeps keeps_events g mesh old (record old { spare = spare })
   keeps_sparing old spare = λ start r. record {
     at = r.at;
     alone = r.alone;
@@ -77,8 +77,8 @@ module _ {C A L : Type 0} (listed : Bool) (g : Setting) (mesh : MeshId) where
   }
 
   -- nor why it left
-  pub keeps_leaving : (old : Runner C A L) (left : Left) → Keeps listed g mesh old (record old { left = left })
-  keeps_leaving old left = λ start r. record {
+  pub keeps_leaving : (old : Runner C A L) (departure : Departure) → Keeps keeps_events g mesh old (record old { departure = departure })
+  keeps_leaving old departure = λ start r. record {
     at = r.at;
     alone = r.alone;
     runs = r.runs;
@@ -90,7 +90,7 @@ module _ {C A L : Type 0} (listed : Bool) (g : Setting) (mesh : MeshId) where
   }
 
   -- one more deed that moves no token
-  pub keeps_noting : (old : Runner C A L) (s : SeatView) (d : Deed) → IsQuiet d → made_in d ≡ 0 → s ≡ noting old.seat d → Keeps listed g mesh old (record old { seat = s })
+  pub keeps_noting : (old : Runner C A L) (s : SeatView) (d : Deed) → IsQuiet d → made_in d ≡ 0 → s ≡ noting old.seat d → Keeps keeps_events g mesh old (record old { seat = s })
   keeps_noting old s d quiet none is = λ start r.
       let own = old.seat.own in
       record {
@@ -112,7 +112,7 @@ module _ {C A L : Type 0} (listed : Bool) (g : Setting) (mesh : MeshId) where
       }
 
   -- a look at the live word
-  pub keeps_counted : (old : Runner C A L) (s : SeatView) (count : ℕ) → Counts count old.seat s → Keeps listed g mesh old (record old { seat = s })
+  pub keeps_counted : (old : Runner C A L) (s : SeatView) (count : ℕ) → Counts count old.seat s → Keeps keeps_events g mesh old (record old { seat = s })
   keeps_counted old s count counts = λ start r.
       let own = old.seat.own in
       let is = counts.1 in
@@ -136,7 +136,7 @@ module _ {C A L : Type 0} (listed : Bool) (g : Setting) (mesh : MeshId) where
       }
 
   -- a bundle was taken, and lies in the queue
-  pub keeps_received : (old new : Runner C A L) (s : SeatView) (from : ℕ) (x : Bundle) → from < g.elements → s ≡ having_taken old.seat from x → AllTo mesh.elements old.seat.own.element x → Receives g (record old { seat = s }) x new → Keeps listed g mesh old new
+  pub keeps_received : (old new : Runner C A L) (s : SeatView) (from : ℕ) (x : Bundle) → from < g.elements → s ≡ having_taken old.seat from x → AllTo mesh.elements old.seat.own.element x → Receives g (record old { seat = s }) x new → Keeps keeps_events g mesh old new
   keeps_received old new s from x low is to received = λ start r.
       let own = old.seat.own in
       let seat : new.seat ≡ s = ap (λ (z : Runner C A L). z.seat) received.others in
@@ -147,24 +147,24 @@ module _ {C A L : Type 0} (listed : Bool) (g : Setting) (mesh : MeshId) where
         alone = ap (λ (z : SeatView). z.joined) whole ∙ r.alone;
         runs = subst (λ (f : Fixed). RunsAs g f) (sym received.fixed) r.runs;
         blocks = r.blocks;
-        noted = subst (λ (z : Runner C A L). listed ≡ true → Logs (noted_in z.notes) r.blocks) (sym received.others) r.noted;
+        noted = subst (λ (z : Runner C A L). keeps_events ≡ true → Logs (noted_in z.notes) r.blocks) (sym received.others) r.noted;
         unlogged = ap (λ (z : Runner C A L). z.log.events.items) received.others ∙ r.unlogged;
         ran = ran_as g mesh start own.element new.seat.own.element (with_queue (held_of old.lane) ((held_of old.lane).queue ++ x)) (held_of new.lane) (own.deeds ++ Took from x ∷ []) new.seat.own.deeds (x ++ own.held) new.seat.own.held (away old) (away new)
             (ap (λ (z : SeatView). z.own.element) whole) received.lane (ap (λ (z : SeatView). z.own.deeds) whole) (ap (λ (z : SeatView). z.own.held) whole) (ap (λ (z : Runner C A L). away z) received.others)
             (ran_received g mesh start own.element (held_of old.lane) own.deeds own.held (away old) r.ran from x low received.near mine);
         tidy = record {
-          count = ap (λ (z : Runner C A L). length z.kept.items) received.others ∙ r.tidy.count;
-          addressed = λ i d within. subst (λ (z : Runner C A L). AllTo g.elements i (get_or z.kept.items i d).items) (sym received.others) (r.tidy.addressed i d within);
+          count = ap (λ (z : Runner C A L). length z.unposted.items) received.others ∙ r.tidy.count;
+          addressed = λ i d within. subst (λ (z : Runner C A L). AllTo g.elements i (get_or z.unposted.items i d).items) (sym received.others) (r.tidy.addressed i d within);
           created = created_same own.deeds new.seat.own.deeds (Took from x) new.created (ap (λ (z : SeatView). z.own.deeds) whole) refl (r.tidy.created ∙ ap (λ (z : Runner C A L). z.created) (sym received.others));
           few = subst (λ (z : Runner C A L). z.created ≤ 2 ^ 40) (sym received.others) r.tidy.few;
         };
       }
 
   -- a bundle was taken, and is in hand
-  pub keeps_in_hand : (old : Runner C A L) (s : SeatView) (from : ℕ) (x : Vec Token A) (lane : LaneView) → from < g.elements → IsClear old → s ≡ having_taken old.seat from x.items → lane ≡ old.lane → Keeps listed g mesh old (record old { seat = s; lane = lane; hand = x })
-  keeps_in_hand old s from x lane low clear is same = λ start r.
+  pub keeps_unqueued : (old : Runner C A L) (s : SeatView) (from : ℕ) (x : Vec Token A) (lane : LaneView) → from < g.elements → IsClear old → s ≡ having_taken old.seat from x.items → lane ≡ old.lane → Keeps keeps_events g mesh old (record old { seat = s; lane = lane; unqueued = x })
+  keeps_unqueued old s from x lane low clear is same = λ start r.
       let own = old.seat.own in
-      let beside : x.items ++ (bundles old.kept.items ++ drop old.dealt old.sent.items) ≡ x.items ++ away old = ap (λ (l : List Token). x.items ++ (l ++ (bundles old.kept.items ++ drop old.dealt old.sent.items))) (sym clear.0) in
+      let beside : x.items ++ (bundles old.unposted.items ++ drop old.bundled old.sent.items) ≡ x.items ++ away old = ap (λ (l : List Token). x.items ++ (l ++ (bundles old.unposted.items ++ drop old.bundled old.sent.items))) (sym clear.0) in
       record {
         at = ap (λ (z : SeatView). z.mesh) is ∙ r.at;
         alone = ap (λ (z : SeatView). z.joined) is ∙ r.alone;
@@ -172,9 +172,9 @@ module _ {C A L : Type 0} (listed : Bool) (g : Setting) (mesh : MeshId) where
         blocks = r.blocks;
         noted = r.noted;
         unlogged = r.unlogged;
-        ran = ran_as g mesh start own.element s.own.element (held_of old.lane) (held_of lane) (own.deeds ++ Took from x.items ∷ []) s.own.deeds (x.items ++ own.held) s.own.held (x.items ++ away old) (x.items ++ (bundles old.kept.items ++ drop old.dealt old.sent.items))
+        ran = ran_as g mesh start own.element s.own.element (held_of old.lane) (held_of lane) (own.deeds ++ Took from x.items ∷ []) s.own.deeds (x.items ++ own.held) s.own.held (x.items ++ away old) (x.items ++ (bundles old.unposted.items ++ drop old.bundled old.sent.items))
             (ap (λ (z : SeatView). z.own.element) is) (ap (λ (l : LaneView). held_of l) same) (ap (λ (z : SeatView). z.own.deeds) is) (ap (λ (z : SeatView). z.own.held) is) beside
-            (ran_in_hand g mesh start own.element (held_of old.lane) own.deeds own.held (away old) r.ran from x.items low);
+            (ran_unqueued g mesh start own.element (held_of old.lane) own.deeds own.held (away old) r.ran from x.items low);
         tidy = record {
           count = r.tidy.count;
           addressed = r.tidy.addressed;
@@ -184,19 +184,20 @@ module _ {C A L : Type 0} (listed : Bool) (g : Setting) (mesh : MeshId) where
       }
 
   pub keeps_taken : (old new : Runner C A L) (s : SeatView) (from : ℕ) (x : Vec Token A) (o : Option Halt) → from < g.elements → IsClear old → s ≡ having_taken old.seat from x.items → AllTo mesh.elements old.seat.own.element x.items
-      → IfNone o (Receives g (record old { seat = s }) x.items new) → IfSome o (λ halt. (halt ≡ Halt.Memory) × (new.lane ≡ old.lane) × (new ≡ record old { seat = s; lane = new.lane; hand = x })) → Keeps listed g mesh old new
+      → IfNone o (Receives g (record old { seat = s }) x.items new) → IfSome o (λ halt. (halt ≡ Halt.Memory) × (new.lane ≡ old.lane) × (new ≡ record old { seat = s; lane = new.lane; unqueued = x })) → Keeps keeps_events g mesh old new
   keeps_taken old new s from x None low clear is to none some_one = keeps_received old new s from x.items low is to none
-  keeps_taken old new s from x (Some halt) low clear is to none some_one = subst (λ (z : Runner C A L). Keeps listed g mesh old z) (sym some_one.2) (keeps_in_hand old s from x new.lane low clear is some_one.1)
+  keeps_taken old new s from x (Some halt) low clear is to none some_one = subst (λ (z : Runner C A L). Keeps keeps_events g mesh old z) (sym some_one.2) (keeps_unqueued old s from x new.lane low clear is some_one.1)
 
   -- DEALING
-  pub keeps_dealt : (old : Runner C A L) (kept : Vec (Vec Token A) A) (t : Token) → KeepsTokens g.elements old.kept.items kept.items (t ∷ []) → old.dealt < length old.sent.items → t ≡ get_or old.sent.items old.dealt t
-      → Keeps listed g mesh old (record old { kept = kept; dealt = old.dealt + 1 })
-  keeps_dealt old kept t keeps low is = λ start r.
-      let first : drop old.dealt old.sent.items ≡ t ∷ drop (old.dealt + 1) old.sent.items = drop_more old.sent.items old.dealt t low ∙ ap (λ (u : Token). u ∷ drop (old.dealt + 1) old.sent.items) (sym is) in
-      let rest = drop (old.dealt + 1) old.sent.items in
-      let beside : IsPermutation (away old) (old.hand.items ++ (bundles kept.items ++ rest)) =
-      IsPermutation-append_right old.hand.items _ _ (at_first (ap (λ (l : List Token). bundles old.kept.items ++ l) first)
-      (IsPermutation-trans _ _ _ (shuffled (bundles old.kept.items ∷ (t ∷ []) ∷ rest ∷ []) (Piece 0 ⊕ (Piece 1 ⊕ Piece 2)) ((Piece 0 ⊕ Piece 1) ⊕ Piece 2) refl)
+  pub keeps_bundled : (old : Runner C A L) (unposted : Vec (Vec Token A) A) (t : Token) → KeepsTokens g.elements old.unposted.items unposted.items (t ∷ []) → old.bundled < length old.sent.items → t ≡ get_or old.sent.items old.bundled t
+      → Keeps keeps_events g mesh old (record old { unposted = unposted; bundled = old.bundled + 1 })
+  keeps_bundled old unposted t keeps low is = λ start r.
+      let first : drop old.bundled old.sent.items ≡ t ∷ drop (old.bundled + 1) old.sent.items = drop_more old.sent.items old.bundled t low ∙ ap (λ (u : Token). u ∷ drop (old.bundled + 1) old.sent.items) (sym is) in
+      let rest = drop (old.bundled + 1) old.sent.items in
+      let beside : IsPermutation (away old) (old.unqueued.items ++ (bundles unposted.items ++ rest)) =
+      IsPermutation-append_right old.unqueued.items _ _ (at_first (ap (λ (l : List Token). bundles old.unposted.items ++ l) first)
+      (IsPermutation-trans _ _ _ (shuffled (bundles old.unposted.items ∷ (t ∷ []) ∷ rest ∷ []) (Piece 0 ⊕ (Piece 1 ⊕ Piece 2))
+      ((Piece 0 ⊕ Piece 1) ⊕ Piece 2) refl)
       (IsPermutation-append_left rest _ _ (IsPermutation-sym _ _ keeps.tokens)))) in
       record {
         at = r.at;
@@ -205,24 +206,24 @@ module _ {C A L : Type 0} (listed : Bool) (g : Setting) (mesh : MeshId) where
         blocks = r.blocks;
         noted = r.noted;
         unlogged = r.unlogged;
-        ran = ran_beside g mesh start old.seat.own.element (held_of old.lane) old.seat.own.deeds old.seat.own.held (away old) r.ran (old.hand.items ++ (bundles kept.items ++ rest)) beside;
+        ran = ran_beside g mesh start old.seat.own.element (held_of old.lane) old.seat.own.deeds old.seat.own.held (away old) r.ran (old.unqueued.items ++ (bundles unposted.items ++ rest)) beside;
         tidy = record { count = keeps.count ∙ r.tidy.count; addressed = keeps.addressed r.tidy.addressed; created = r.tidy.created; few = r.tidy.few };
       }
 
-  pub keeps_dealt_at : (old : Runner C A L) (kept : Vec (Vec Token A) A) (t : Token) (at : ℕ) → old.dealt ≡ at → KeepsTokens g.elements old.kept.items kept.items (t ∷ []) → at < length old.sent.items → t ≡ get_or old.sent.items at t
-      → Keeps listed g mesh old (record old { kept = kept; dealt = at + 1 })
-  keeps_dealt_at old kept t at there keeps low is =
-      subst (λ (n : ℕ). Keeps listed g mesh old (record old { kept = kept; dealt = n + 1 })) there
-      (keeps_dealt old kept t keeps (subst (λ (n : ℕ). n < length old.sent.items) (sym there) low) (subst (λ (n : ℕ). t ≡ get_or old.sent.items n t) (sym there) is))
+  pub keeps_bundled_at : (old : Runner C A L) (unposted : Vec (Vec Token A) A) (t : Token) (at : ℕ) → old.bundled ≡ at → KeepsTokens g.elements old.unposted.items unposted.items (t ∷ []) → at < length old.sent.items → t ≡ get_or old.sent.items at t
+      → Keeps keeps_events g mesh old (record old { unposted = unposted; bundled = at + 1 })
+  keeps_bundled_at old unposted t at there keeps low is =
+      subst (λ (n : ℕ). Keeps keeps_events g mesh old (record old { unposted = unposted; bundled = n + 1 })) there
+      (keeps_bundled old unposted t keeps (subst (λ (n : ℕ). n < length old.sent.items) (sym there) low) (subst (λ (n : ℕ). t ≡ get_or old.sent.items n t) (sym there) is))
 
-  pub kept_count : (old : Runner C A L) → Runs listed g mesh old → length old.kept.items ≡ g.elements
+  pub kept_count : (old : Runner C A L) → Runs keeps_events g mesh old → length old.unposted.items ≡ g.elements
   kept_count old runs = runs.1.tidy.count
 
   -- the bundles have the same tokens
-  pub keeps_bundles : (old : Runner C A L) (kept : Vec (Vec Token A) A) → KeepsTokens g.elements old.kept.items kept.items [] → Keeps listed g mesh old (record old { kept = kept })
-  keeps_bundles old kept keeps = λ start r.
-      let rest = drop old.dealt old.sent.items in
-      let same : IsPermutation (bundles old.kept.items) (bundles kept.items) = IsPermutation-sym _ _ (at_last keeps.tokens (append-nil (bundles old.kept.items))) in
+  pub keeps_bundles : (old : Runner C A L) (unposted : Vec (Vec Token A) A) → KeepsTokens g.elements old.unposted.items unposted.items [] → Keeps keeps_events g mesh old (record old { unposted = unposted })
+  keeps_bundles old unposted keeps = λ start r.
+      let rest = drop old.bundled old.sent.items in
+      let same : IsPermutation (bundles old.unposted.items) (bundles unposted.items) = IsPermutation-sym _ _ (at_last keeps.tokens (append-nil (bundles old.unposted.items))) in
       record {
         at = r.at;
         alone = r.alone;
@@ -230,15 +231,15 @@ module _ {C A L : Type 0} (listed : Bool) (g : Setting) (mesh : MeshId) where
         blocks = r.blocks;
         noted = r.noted;
         unlogged = r.unlogged;
-        ran = ran_beside g mesh start old.seat.own.element (held_of old.lane) old.seat.own.deeds old.seat.own.held (away old) r.ran (old.hand.items ++ (bundles kept.items ++ rest))
-            (IsPermutation-append_right old.hand.items _ _ (IsPermutation-append_left rest _ _ same));
+        ran = ran_beside g mesh start old.seat.own.element (held_of old.lane) old.seat.own.deeds old.seat.own.held (away old) r.ran (old.unqueued.items ++ (bundles unposted.items ++ rest))
+            (IsPermutation-append_right old.unqueued.items _ _ (IsPermutation-append_left rest _ _ same));
         tidy = record { count = keeps.count ∙ r.tidy.count; addressed = keeps.addressed r.tidy.addressed; created = r.tidy.created; few = r.tidy.few };
       }
 
   -- all are dealt
-  pub keeps_cleared : (old : Runner C A L) (sent : Vec Token A) → length old.sent.items ≤ old.dealt → sent.items ≡ [] → Keeps listed g mesh old (record old { sent = sent; dealt = 0 })
+  pub keeps_cleared : (old : Runner C A L) (sent : Vec Token A) → length old.sent.items ≤ old.bundled → sent.items ≡ [] → Keeps keeps_events g mesh old (record old { sent = sent; bundled = 0 })
   keeps_cleared old sent past none = λ start r.
-      let same : drop old.dealt old.sent.items ≡ sent.items = drop_all old.dealt old.sent.items past ∙ sym none in
+      let same : drop old.bundled old.sent.items ≡ sent.items = drop_all old.bundled old.sent.items past ∙ sym none in
       record {
         at = r.at;
         alone = r.alone;
@@ -246,8 +247,8 @@ module _ {C A L : Type 0} (listed : Bool) (g : Setting) (mesh : MeshId) where
         blocks = r.blocks;
         noted = r.noted;
         unlogged = r.unlogged;
-        ran = ran_beside g mesh start old.seat.own.element (held_of old.lane) old.seat.own.deeds old.seat.own.held (away old) r.ran (old.hand.items ++ (bundles old.kept.items ++ sent.items))
-            (permutation_same _ _ (ap (λ (l : List Token). old.hand.items ++ (bundles old.kept.items ++ l)) same));
+        ran = ran_beside g mesh start old.seat.own.element (held_of old.lane) old.seat.own.deeds old.seat.own.held (away old) r.ran (old.unqueued.items ++ (bundles old.unposted.items ++ sent.items))
+            (permutation_same _ _ (ap (λ (l : List Token). old.unqueued.items ++ (bundles old.unposted.items ++ l)) same));
         tidy = record { count = r.tidy.count; addressed = r.tidy.addressed; created = r.tidy.created; few = r.tidy.few };
       }
 
@@ -313,30 +314,30 @@ module _ {A : Type 0} where
   set_again (x ∷ xs) zero a b = refl
   set_again (x ∷ xs) (suc i) a b = ap (λ (l : List (Vec Token A)). x ∷ l) (set_again xs i a b)
 
-  module _ {C L : Type 0} (listed : Bool) (g : Setting) (mesh : MeshId) (old : Runner C A L) (i : ℕ) (x empty : Vec Token A) (low : i < length old.kept.items) (is : x ≡ get_or old.kept.items i x) (none : empty.items ≡ []) where
+  module _ {C L : Type 0} (keeps_events : Bool) (g : Setting) (mesh : MeshId) (old : Runner C A L) (i : ℕ) (x empty : Vec Token A) (low : i < length old.unposted.items) (is : x ≡ get_or old.unposted.items i x) (none : empty.items ≡ []) where
     abbrev others : List Token
-    others = in_all (slice_set old.kept.items i empty) ++ drop old.dealt old.sent.items
+    others = in_all (slice_set old.unposted.items i empty) ++ drop old.bundled old.sent.items
 
-    beside_out : IsPermutation (away old) (x.items ++ (old.hand.items ++ others))
+    beside_out : IsPermutation (away old) (x.items ++ (old.unqueued.items ++ others))
     beside_out =
-        let rest = drop old.dealt old.sent.items in
-        let set = slice_set old.kept.items i empty in
-        IsPermutation-trans _ _ _ (IsPermutation-append_right old.hand.items _ _ (IsPermutation-append_left rest _ _ (out_of old.kept.items i x empty low is none)))
-        (shuffled (old.hand.items ∷ x.items ∷ in_all set ∷ rest ∷ []) (Piece 0 ⊕ ((Piece 1 ⊕ Piece 2) ⊕ Piece 3)) (Piece 1 ⊕ (Piece 0 ⊕ (Piece 2 ⊕ Piece 3))) refl)
+        let rest = drop old.bundled old.sent.items in
+        let set = slice_set old.unposted.items i empty in
+        IsPermutation-trans _ _ _ (IsPermutation-append_right old.unqueued.items _ _ (IsPermutation-append_left rest _ _ (out_of old.unposted.items i x empty low is none)))
+        (shuffled (old.unqueued.items ∷ x.items ∷ in_all set ∷ rest ∷ []) (Piece 0 ⊕ ((Piece 1 ⊕ Piece 2) ⊕ Piece 3)) (Piece 1 ⊕ (Piece 0 ⊕ (Piece 2 ⊕ Piece 3))) refl)
 
-    pub may_post : Runs listed g mesh old → Has old.seat.own.held x.items
+    pub may_post : Runs keeps_events g mesh old → Has old.seat.own.held x.items
     may_post (start, r) =
         let q = old.lane.held.queue in (
-          q ++ (old.hand.items ++ others),
+          q ++ (old.unqueued.items ++ others),
           IsPermutation-trans _ _ _ r.ran.holds (IsPermutation-trans _ _ _ (IsPermutation-append_right q _ _ beside_out)
-              (shuffled (q ∷ x.items ∷ (old.hand.items ++ others) ∷ []) (Piece 0 ⊕ (Piece 1 ⊕ Piece 2)) (Piece 1 ⊕ (Piece 0 ⊕ Piece 2)) refl)),
+              (shuffled (q ∷ x.items ∷ (old.unqueued.items ++ others) ∷ []) (Piece 0 ⊕ (Piece 1 ⊕ Piece 2)) (Piece 1 ⊕ (Piece 0 ⊕ Piece 2)) refl)),
         )
 
-    pub keeps_posted : (kept : Vec (Vec Token A) A) (s : SeatView) → kept.items ≡ slice_set old.kept.items i empty → i < g.elements → Posts i x.items old.seat s → Keeps listed g mesh old (record old { kept = kept; seat = s })
-    keeps_posted kept s kept_is within posts = λ start r.
+    pub keeps_posted : (unposted : Vec (Vec Token A) A) (s : SeatView) → unposted.items ≡ slice_set old.unposted.items i empty → i < g.elements → Posts i x.items old.seat s → Keeps keeps_events g mesh old (record old { unposted = unposted; seat = s })
+    keeps_posted unposted s kept_is within posts = λ start r.
         let own = old.seat.own in
         let whole = posts.2 in
-        let beside : old.hand.items ++ (in_all kept.items ++ drop old.dealt old.sent.items) ≡ old.hand.items ++ others = ap (λ (l : List (Vec Token A)). old.hand.items ++ (in_all l ++ drop old.dealt old.sent.items)) kept_is in
+        let beside : old.unqueued.items ++ (in_all unposted.items ++ drop old.bundled old.sent.items) ≡ old.unqueued.items ++ others = ap (λ (l : List (Vec Token A)). old.unqueued.items ++ (in_all l ++ drop old.bundled old.sent.items)) kept_is in
         record {
           at = ap (λ (z : SeatView). z.mesh) whole ∙ r.at;
           alone = ap (λ (z : SeatView). z.joined) whole ∙ r.alone;
@@ -344,43 +345,44 @@ module _ {A : Type 0} where
           blocks = r.blocks;
           noted = r.noted;
           unlogged = r.unlogged;
-          ran = ran_as g mesh start own.element s.own.element (held_of old.lane) (held_of old.lane) (own.deeds ++ Posted i x.items ∷ []) s.own.deeds posts.0 s.own.held (old.hand.items ++ others) (old.hand.items ++ (in_all kept.items ++ drop old.dealt old.sent.items))
+          ran = ran_as g mesh start own.element s.own.element (held_of old.lane) (held_of old.lane) (own.deeds ++ Posted i x.items ∷ []) s.own.deeds posts.0 s.own.held (old.unqueued.items ++ others) (old.unqueued.items ++ (in_all unposted.items ++ drop old.bundled old.sent.items))
               (ap (λ (z : SeatView). z.own.element) whole) refl (ap (λ (z : SeatView). z.own.deeds) whole) (ap (λ (z : SeatView). z.own.held) whole) beside
-              (ran_posted g mesh start own.element (held_of old.lane) own.deeds own.held (away old) r.ran i x.items posts.0 (old.hand.items ++ others) within posts.1 beside_out);
+              (ran_posted g mesh start own.element (held_of old.lane) own.deeds own.held (away old) r.ran i x.items posts.0 (old.unqueued.items ++ others) within posts.1 beside_out);
           tidy = record {
-            count = ap (λ (l : List (Vec Token A)). length l) kept_is ∙ length-set old.kept.items i empty ∙ r.tidy.count;
+            count = ap (λ (l : List (Vec Token A)). length l) kept_is ∙ length-set old.unposted.items i empty ∙ r.tidy.count;
             addressed = λ k d below. subst (λ (l : List (Vec Token A)). AllTo g.elements k (get_or l k d).items) (sym kept_is)
                 (dite (ℕ_discrete k i)
-                (λ hit. subst (λ (j : ℕ). AllTo g.elements j (get_or (slice_set old.kept.items i empty) j d).items) (sym hit)
-                (subst (λ (v : Vec Token A). AllTo g.elements i v.items) (sym (get_same old.kept.items i d empty low)) (subst (λ (l : List Token). AllTo g.elements i l) (sym none) (All-nil (λ (t : Token). element_of g.elements t.to ≡ i)))))
-                (λ miss. subst (λ (v : Vec Token A). AllTo g.elements k v.items) (sym (get_other old.kept.items i k d empty miss)) (r.tidy.addressed k d below)));
+                (λ hit. subst (λ (j : ℕ). AllTo g.elements j (get_or (slice_set old.unposted.items i empty) j d).items) (sym hit)
+                (subst (λ (v : Vec Token A). AllTo g.elements i v.items) (sym (get_same old.unposted.items i d empty low)) (subst (λ (l : List Token). AllTo g.elements i l) (sym none) (All-nil (λ (t : Token). element_of g.elements t.to ≡ i)))))
+                (λ miss. subst (λ (v : Vec Token A). AllTo g.elements k v.items) (sym (get_other old.unposted.items i k d empty miss)) (r.tidy.addressed k d below)));
             created = created_same own.deeds s.own.deeds (Posted i x.items) old.created (ap (λ (z : SeatView). z.own.deeds) whole) refl r.tidy.created;
             few = r.tidy.few;
           };
         }
 
-    pub keeps_refused : (kept : Vec (Vec Token A) A) (back : Vec Token A) (s : SeatView) → length old.kept.items ≡ g.elements → kept.items ≡ slice_set (slice_set old.kept.items i empty) i back → back ≡ x → s ≡ noting old.seat (FoundFull i x.items) → Keeps listed g mesh old (record old { kept = kept; seat = s })
-    keeps_refused kept back s count kept_is same found =
-        let all : kept.items ≡ slice_set old.kept.items i back = kept_is ∙ set_again old.kept.items i empty back in
-        let keeps : KeepsTokens g.elements old.kept.items kept.items [] = subst (λ (l : List (Vec Token A)). KeepsTokens g.elements old.kept.items l []) (sym all) (keeps_as_many g.elements old.kept.items i x back count low is (ap (λ (v : Vec Token A). v.items) same)) in
-        keeps_twice listed g mesh old (record old { kept = kept }) (record old { kept = kept; seat = s }) (keeps_bundles listed g mesh old kept keeps) (keeps_noting listed g mesh (record old { kept = kept }) s (FoundFull i x.items) (found_full i x.items) refl found)
+    pub keeps_refused : (unposted : Vec (Vec Token A) A) (back : Vec Token A) (s : SeatView) → length old.unposted.items ≡ g.elements → unposted.items ≡ slice_set (slice_set old.unposted.items i empty) i back → back ≡ x → s ≡ noting old.seat (FoundFull i x.items) → Keeps keeps_events g mesh old (record old { unposted = unposted; seat = s })
+    keeps_refused unposted back s count kept_is same found =
+        let all : unposted.items ≡ slice_set old.unposted.items i back = kept_is ∙ set_again old.unposted.items i empty back in
+        let keeps : KeepsTokens g.elements old.unposted.items unposted.items [] = subst (λ (l : List (Vec Token A)). KeepsTokens g.elements old.unposted.items l []) (sym all) (keeps_as_many g.elements old.unposted.items i x back count low is (ap (λ (v : Vec Token A). v.items) same)) in
+        keeps_twice keeps_events g mesh old (record old { unposted = unposted }) (record old { unposted = unposted; seat = s }) (keeps_bundles keeps_events g mesh old unposted keeps) (keeps_noting keeps_events g mesh (record old { unposted = unposted }) s (FoundFull i x.items) (found_full i x.items) refl found)
 
 -- THE END
-module _ {C A L : Type 0} (listed : Bool) (g : Setting) (mesh : MeshId) (may_stop : Bool) where
-  left_as : (old new : Runner C A L) (left : Left) → held_of new.lane ≡ held_of old.lane → new.seat.mesh ≡ old.seat.mesh → new.seat.own.last ≡ old.seat.own.last → IsLeft g may_stop old left → IsLeft g may_stop new left
-  left_as old new Left.Lost lane at last is = tt
-  left_as old new (Left.Halted halt) lane at last is = subst (λ (h : Held). HaltsLane g.program g.steps may_stop h (Some halt)) (sym lane) is
-  left_as old new Left.Rested lane at last is = (
+module _ {C A L : Type 0} (keeps_events : Bool) (g : Setting) (mesh : MeshId) (may_stop : Bool) where
+  left_as : (old new : Runner C A L) (departure : Departure) → held_of new.lane ≡ held_of old.lane → new.seat.mesh ≡ old.seat.mesh → new.seat.own.last ≡ old.seat.own.last → IsDeparture g may_stop old departure → IsDeparture g may_stop new departure
+  left_as old new Departure.Lost lane at last is = tt
+  left_as old new (Departure.Halted halt) lane at last is = subst (λ (h : Holding). HaltsLane g.program g.steps may_stop h (Some halt)) (sym lane) is
+  left_as old new Departure.Rested lane at last is = (
     subst (λ (m : MeshId). Leaves m new.seat.own.last 0) (sym at) (subst (λ (l : List Commit). Leaves old.seat.mesh l 0) (sym last) is.0),
-    subst (λ (h : Held). HasNoReason g h) (sym lane) is.1,
+    subst (λ (h : Holding). HasNoReason g h) (sym lane) is.1,
   )
-  left_as old new Left.Stopped lane at last is = subst (λ (h : Held). HasNoReason g h) (sym lane) is
+  left_as old new Departure.Stopped lane at last is = subst (λ (h : Holding). HasNoReason g h) (sym lane) is
 
   -- it left, and then called for a stop if it had to
-  pub ended : (old mid new : Runner C A L) (left : Left) → StaysAt old mid → (left ≢ Left.Lost → Keeps listed g mesh old mid) → IsLeft g may_stop mid left
-      → StaysAt (record mid { left = left }) new → Keeps listed g mesh (record mid { left = left }) new → held_of new.lane ≡ held_of mid.lane → new.seat.own.last ≡ mid.seat.own.last → new.left ≡ left → Ended listed g mesh may_stop old new
-  ended old mid new left first keeps is second again lane last same = record {
+  pub ended : (old mid new : Runner C A L) (departure : Departure) → StaysAt old mid → (departure ≢ Departure.Lost → Keeps keeps_events g mesh old mid)
+      → IsDeparture g may_stop mid departure
+      → StaysAt (record mid { departure = departure }) new → Keeps keeps_events g mesh (record mid { departure = departure }) new → held_of new.lane ≡ held_of mid.lane → new.seat.own.last ≡ mid.seat.own.last → new.departure ≡ departure → Ended keeps_events g mesh may_stop old new
+  ended old mid new departure first keeps is second again lane last same = record {
     stays = (second.0 ∙ first.0, second.1 ∙ first.1, second.2 ∙ first.2);
-    keeps = λ ne. keeps_twice listed g mesh old mid new (keeps (λ (e : left ≡ Left.Lost). ne (same ∙ e))) (keeps_twice listed g mesh mid (record mid { left = left }) new (keeps_leaving listed g mesh mid left) again);
-    left = subst (λ (l : Left). IsLeft g may_stop new l) (sym same) (left_as mid new left lane second.0 last is);
+    keeps = λ ne. keeps_twice keeps_events g mesh old mid new (keeps (λ (e : departure ≡ Departure.Lost). ne (same ∙ e))) (keeps_twice keeps_events g mesh mid (record mid { departure = departure }) new (keeps_leaving keeps_events g mesh mid departure) again);
+    departure = subst (λ (l : Departure). IsDeparture g may_stop new l) (sym same) (left_as mid new departure lane second.0 last is);
   }

@@ -5,7 +5,7 @@ use Rattle.std.proofs.lemmas.List.{append-nil, map-append, take_more, take_all, 
 use Rattle.std.proofs.lemmas.Grind.{flat_map-append}
 use Rattle.crossbeam_utils.specs.declared.cache_padded.CachePadded.{CachePadded}
 use Rattle.tags.specs.declared.token.Token.{Token}
-use Rattle.element.specs.Held.{LaneView, Held, held_of}
+use Rattle.element.specs.Holding.{LaneView, Holding, held_of}
 use Rattle.schedule.specs.State.{tokens_in}
 use Rattle.mesh.specs.Seats.{SeatView}
 use Rattle.machine.specs.declared.runner.Runner.{Runner}
@@ -34,17 +34,17 @@ map_push f xs x now new y is same more = more ∙ ap (λ (l : List _). l ++ y �
 pub queues_more : (lanes : List LaneView) (k : ℕ) (lane : LaneView) (now new : List Token) → k < length lanes → lane ≡ get_or lanes k lane → now ≡ tokens_in (map held_of (take k lanes)) → new ≡ now ++ lane.held.queue
     → new ≡ tokens_in (map held_of (take (k + 1) lanes))
 queues_more lanes k lane now new low at is more =
-    let before : List Held = map held_of (take k lanes) in
+    let before : List Holding = map held_of (take k lanes) in
     let next : take (k + 1) lanes ≡ take k lanes ++ lane ∷ [] = take_more lanes k lane low ∙ ap (λ (x : LaneView). take k lanes ++ x ∷ []) (sym at) in
     let held : map held_of (take (k + 1) lanes) ≡ before ++ held_of lane ∷ [] = ap (λ (l : List LaneView). map held_of l) next ∙ map-append held_of (take k lanes) (lane ∷ []) in
-    let all : tokens_in (map held_of (take (k + 1) lanes)) ≡ tokens_in before ++ (lane.held.queue ++ []) = ap (λ (l : List Held). tokens_in l) held ∙ flat_map-append (λ (h : Held). h.queue) before (held_of lane ∷ []) in
+    let all : tokens_in (map held_of (take (k + 1) lanes)) ≡ tokens_in before ++ (lane.held.queue ++ []) = ap (λ (l : List Holding). tokens_in l) held ∙ flat_map-append (λ (h : Holding). h.queue) before (held_of lane ∷ []) in
     more ∙ ap (λ (l : List Token). l ++ lane.held.queue) is ∙ ap (λ (l : List Token). tokens_in before ++ l) (sym (append-nil lane.held.queue)) ∙ sym all
 
 module _ {C A L : Type 0} where
   -- one more runner, with the next lane
   pub lanes_more : (ps : List (CachePadded (Runner C A L))) (p : CachePadded (Runner C A L)) (lanes : List LaneView) (lane : LaneView) → lanes_in ps ≡ map held_of lanes → lane_in p ≡ held_of lane → lanes_in (ps ++ p ∷ []) ≡ map held_of (lanes ++ lane ∷ [])
   lanes_more ps p lanes lane is same =
-      map-append lane_in ps (p ∷ []) ∙ ap (λ (l : List Held). l ++ lane_in p ∷ []) is ∙ ap (λ (h : Held). map held_of lanes ++ h ∷ []) same ∙ sym (map-append held_of lanes (lane ∷ []))
+      map-append lane_in ps (p ∷ []) ∙ ap (λ (l : List Holding). l ++ lane_in p ∷ []) is ∙ ap (λ (h : Holding). map held_of lanes ++ h ∷ []) same ∙ sym (map-append held_of lanes (lane ∷ []))
 
   -- one more runner, with the next seat
   pub seats_more : (ps : List (CachePadded (Runner C A L))) (p : CachePadded (Runner C A L)) (seats : List SeatView) (seat : SeatView) (all : List SeatView) → 0 < length seats → seat ≡ get_or seats 0 seat → seat_of p ≡ seat → seats_in ps ++ seats ≡ all

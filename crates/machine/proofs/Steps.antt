@@ -11,7 +11,7 @@ use Rattle.tags.specs.declared.token.Token.{Token}
 use Rattle.tags.specs.Addresses.{element_of}
 use Rattle.element.specs.Near.{Bounds, IsNearToken}
 use Rattle.element.specs.Parts.{Part, bounds}
-use Rattle.element.specs.Held.{Held, with_queue}
+use Rattle.element.specs.Holding.{Holding, with_queue}
 use Rattle.schedule.specs.Setting.{Setting}
 use Rattle.schedule.specs.State.{IsPlaced}
 use Rattle.schedule.proofs.Stepping.{bounds_are}
@@ -34,15 +34,15 @@ abbrev Ts : Type 0
 Ts = List Token
 
 -- the same, where all that it speaks of is the same
-pub ran_as : (g : Setting) (mesh : MeshId) (start : Held) (e f : ℕ) (h k : Held) (ds es : List Deed) (ts us bs cs : Ts) {blocks : List Block} → f ≡ e → k ≡ h → es ≡ ds → us ≡ ts → cs ≡ bs → Ran g mesh e start h ds ts bs blocks → Ran g mesh f start k es us cs blocks
+pub ran_as : (g : Setting) (mesh : MeshId) (start : Holding) (e f : ℕ) (h k : Holding) (ds es : List Deed) (ts us bs cs : Ts) {blocks : List Block} → f ≡ e → k ≡ h → es ≡ ds → us ≡ ts → cs ≡ bs → Ran g mesh e start h ds ts bs blocks → Ran g mesh f start k es us cs blocks
 ran_as g mesh start e f h k ds es ts us bs cs {blocks} pe ph pd pt pb r =
     subst (λ (z : ℕ). Ran g mesh z start k es us cs blocks) (sym pe)
-    (subst (λ (z : Held). Ran g mesh e start z es us cs blocks) (sym ph)
+    (subst (λ (z : Holding). Ran g mesh e start z es us cs blocks) (sym ph)
     (subst (λ (z : List Deed). Ran g mesh e start h z us cs blocks) (sym pd)
     (subst (λ (z : Ts). Ran g mesh e start h ds z cs blocks) (sym pt)
     (subst (λ (z : Ts). Ran g mesh e start h ds ts z blocks) (sym pb) r))))
 
-module _ (g : Setting) (mesh : MeshId) (start : Held) (e : ℕ) (h : Held) (ds : List Deed) (ts bs : Ts) {blocks : List Block} (r : Ran g mesh e start h ds ts bs blocks) where
+module _ (g : Setting) (mesh : MeshId) (start : Holding) (e : ℕ) (h : Holding) (ds : List Deed) (ts bs : Ts) {blocks : List Block} (r : Ran g mesh e start h ds ts bs blocks) where
   pub ran_quiet : (d : Deed) → IsQuiet d → Ran g mesh e start h (ds ++ d ∷ []) ts bs blocks
   ran_quiet d quiet = record {
     elements = r.elements;
@@ -99,8 +99,8 @@ module _ (g : Setting) (mesh : MeshId) (start : Held) (e : ℕ) (h : Held) (ds :
   }
 
   -- and there was no room for it
-  pub ran_in_hand : (a : ℕ) (x : Bundle) → a < g.elements → Ran g mesh e start h (ds ++ Took a x ∷ []) (x ++ ts) (x ++ bs) blocks
-  ran_in_hand a x low = record {
+  pub ran_unqueued : (a : ℕ) (x : Bundle) → a < g.elements → Ran g mesh e start h (ds ++ Took a x ∷ []) (x ++ ts) (x ++ bs) blocks
+  ran_unqueued a x low = record {
     elements = r.elements;
     placed = r.placed;
     leads = r.leads;
@@ -111,9 +111,9 @@ module _ (g : Setting) (mesh : MeshId) (start : Held) (e : ℕ) (h : Held) (ds :
   }
 
   -- a bundle was posted
-  pub ran_posted : (a : ℕ) (x : Bundle) (kept cs : Ts) → a < g.elements → IsPermutation ts (x ++ kept) → IsPermutation bs (x ++ cs) → Ran g mesh e start h (ds ++ Posted a x ∷ []) kept cs blocks
-  ran_posted a x kept cs low out beside =
-      let one : IsPermutation (x ++ kept) (h.queue ++ (x ++ cs)) = IsPermutation-trans _ _ _ (IsPermutation-sym _ _ out) (IsPermutation-trans _ _ _ r.holds (IsPermutation-append_right h.queue bs (x ++ cs) beside)) in
+  pub ran_posted : (a : ℕ) (x : Bundle) (unposted cs : Ts) → a < g.elements → IsPermutation ts (x ++ unposted) → IsPermutation bs (x ++ cs) → Ran g mesh e start h (ds ++ Posted a x ∷ []) unposted cs blocks
+  ran_posted a x unposted cs low out beside =
+      let one : IsPermutation (x ++ unposted) (h.queue ++ (x ++ cs)) = IsPermutation-trans _ _ _ (IsPermutation-sym _ _ out) (IsPermutation-trans _ _ _ r.holds (IsPermutation-append_right h.queue bs (x ++ cs) beside)) in
       let two : IsPermutation (h.queue ++ (x ++ cs)) (x ++ (h.queue ++ cs)) = shuffled (h.queue ∷ x ∷ cs ∷ []) (Piece 0 ⊕ (Piece 1 ⊕ Piece 2)) (Piece 1 ⊕ (Piece 0 ⊕ Piece 2)) refl in
       record {
         elements = r.elements;
@@ -121,8 +121,8 @@ module _ (g : Setting) (mesh : MeshId) (start : Held) (e : ℕ) (h : Held) (ds :
         leads = r.leads;
         count = r.count;
         commits = r.commits ∙ sym (commits_same e ds (Posted a x) refl);
-        balanced = posted_balanced g.elements start.queue ts kept ds a x low out r.balanced;
-        holds = permutation_cancel x kept (h.queue ++ cs) (IsPermutation-trans _ _ _ one two);
+        balanced = posted_balanced g.elements start.queue ts unposted ds a x low out r.balanced;
+        holds = permutation_cancel x unposted (h.queue ++ cs) (IsPermutation-trans _ _ _ one two);
       }
 
 -- BLOCKS
@@ -139,7 +139,7 @@ flows_from first other [] last p flows = IsPermutation-trans first other last p 
 flows_from first other (a ∷ later) last p (rest, takes, flows) = (rest, IsPermutation-trans first other (a.token ∷ rest) p takes, flows)
 
 -- what a turn spent of the queue, what it left there, and what it made
-pub record Parted (old new : Held) (sent : Ts) (acts : List Act) (taken : Ts) : Type 0 where
+pub record Parted (old new : Holding) (sent : Ts) (acts : List Act) (taken : Ts) : Type 0 where
   pub spent : Ts
   pub keep : Ts
   pub more : Ts
@@ -150,7 +150,7 @@ pub record Parted (old new : Held) (sent : Ts) (acts : List Act) (taken : Ts) : 
   -- it took these first
   pub oldest : (later : Ts) × (taken ≡ spent ++ later)
 
-pub parted : (p : _) (steps : ℕ) (old : Held) (ts : Ts) (new : Held) (sent : Ts) (turns : Turns p steps old [] ts new sent) → Parted old new sent (acts_of p steps old [] ts new sent turns) ts
+pub parted : (p : _) (steps : ℕ) (old : Holding) (ts : Ts) (new : Holding) (sent : Ts) (turns : Turns p steps old [] ts new sent) → Parted old new sent (acts_of p steps old [] ts new sent turns) ts
 parted p steps old ts new sent turns = by_count (cases_lt (length old.queue) (length ts))
   where
     acts : List Act
@@ -186,7 +186,7 @@ parted p steps old ts new sent turns = by_count (cases_lt (length old.queue) (le
         }
 
 -- A turn, and its commit by two counts: tokens spent and tokens made.
-module _ (g : Setting) (mesh : MeshId) (start : Held) (e : ℕ) (old : Held) (ds : List Deed) (ts bs : Ts) {blocks : List Block} (r : Ran g mesh e start old ds ts bs blocks) (taken : Ts) (new : Held) (sent : Ts) (turns : Turns g.program g.steps old [] taken new sent) where
+module _ (g : Setting) (mesh : MeshId) (start : Holding) (e : ℕ) (old : Holding) (ds : List Deed) (ts bs : Ts) {blocks : List Block} (r : Ran g mesh e start old ds ts bs blocks) (taken : Ts) (new : Holding) (sent : Ts) (turns : Turns g.program g.steps old [] taken new sent) where
   abbrev pub acts : List Act
   acts = acts_of g.program g.steps old [] taken new sent turns
 
@@ -197,8 +197,8 @@ module _ (g : Setting) (mesh : MeshId) (start : Held) (e : ℕ) (old : Held) (ds
     abbrev still : Ts
     still = take (length new.queue - (made - length sent)) new.queue ++ bs
 
-    abbrev left : Ts
-    left = drop (length new.queue - (made - length sent)) new.queue ++ sent
+    abbrev departure : Ts
+    departure = drop (length new.queue - (made - length sent)) new.queue ++ sent
 
     place : length new.queue - (made - length sent) ≡ length cut.keep
     place = let l = length-append cut.keep cut.more in let q : length new.queue ≡ length (cut.keep ++ cut.more) = ap (λ (x : Ts). length x) cut.after in omega (arith, l, q, made_is)
@@ -214,7 +214,7 @@ module _ (g : Setting) (mesh : MeshId) (start : Held) (e : ℕ) (old : Held) (ds
     still_is : still ≡ cut.keep ++ bs
     still_is = ap (λ (n : ℕ). take n new.queue ++ bs) place ∙ ap (λ (q : Ts). take (length cut.keep) q ++ bs) cut.after ∙ ap (λ (l : Ts). l ++ bs) (take_front cut.keep cut.more)
 
-    left_is : left ≡ cut.more ++ sent
+    left_is : departure ≡ cut.more ++ sent
     left_is = ap (λ (n : ℕ). drop n new.queue ++ sent) place ∙ ap (λ (q : Ts). drop (length cut.keep) q ++ sent) cut.after ∙ ap (λ (l : Ts). l ++ sent) (drop_front cut.keep cut.more)
 
     parts : IsPermutation ts (still ++ cut.spent)
@@ -232,7 +232,7 @@ module _ (g : Setting) (mesh : MeshId) (start : Held) (e : ℕ) (old : Held) (ds
       pub gone_count : length gone ≡ spent
       gone_count = let l = length_permutation gone cut.spent gone_is in omega (arith, l, spent_is)
 
-      pub left_count : length left ≡ made
+      pub left_count : length departure ≡ made
       left_count = ap (λ (l : Ts). length l) left_is ∙ length-append cut.more sent ∙ sym made_is
 
       pub gone_has : IsPermutation ts (gone ++ still)
@@ -257,12 +257,12 @@ module _ (g : Setting) (mesh : MeshId) (start : Held) (e : ℕ) (old : Held) (ds
       gone_mine = All-permutation (λ (t : Token). element_of g.elements t.to ≡ e) cut.spent gone (IsPermutation-sym gone cut.spent gone_is) spent_mine
 
       abbrev pub block : Block
-      block = record { element = e; spent = gone; made = left; acts = acts }
+      block = record { element = e; spent = gone; made = departure; acts = acts }
 
-      pub ran_committed : (kept : Ts) → IsPermutation ts (gone ++ kept) → Ran g mesh e start new (ds ++ Committed gone left ∷ []) (left ++ kept) (bs ++ sent) (blocks ++ block ∷ [])
-      ran_committed kept out =
-          let rest : IsPermutation kept still = permutation_cancel gone kept still (IsPermutation-trans _ _ _ (IsPermutation-sym _ _ out) gone_has) in
-          let flows : Flows gone acts left = subst (λ (l : Ts). Flows gone acts l) (sym left_is) (flows_from gone cut.spent acts (cut.more ++ sent) gone_is cut.flows) in
+      pub ran_committed : (unposted : Ts) → IsPermutation ts (gone ++ unposted) → Ran g mesh e start new (ds ++ Committed gone departure ∷ []) (departure ++ unposted) (bs ++ sent) (blocks ++ block ∷ [])
+      ran_committed unposted out =
+          let rest : IsPermutation unposted still = permutation_cancel gone unposted still (IsPermutation-trans _ _ _ (IsPermutation-sym _ _ out) gone_has) in
+          let flows : Flows gone acts departure = subst (λ (l : Ts). Flows gone acts l) (sym left_is) (flows_from gone cut.spent acts (cut.more ++ sent) gone_is cut.flows) in
           let new_placed = turn_placed g e old [] taken new sent r.placed turns in
           let count : new.made ≡ start.made + count_acts (blocks ++ block ∷ [])
           = (let c = grown g.program g.steps old [] taken new sent turns in let a = acts_are g.program g.steps old [] taken new sent turns in let m = more_acts blocks block in let b = r.count in omega (arith, c, a, m, b)) in
@@ -271,9 +271,9 @@ module _ (g : Setting) (mesh : MeshId) (start : Held) (e : ℕ) (old : Held) (ds
             placed = new_placed;
             leads = more_blocks g e start.part old.part new.part blocks block r.leads (own_part g e new new_placed) flows (turn_chain g e old [] taken new sent r.placed turns);
             count = count;
-            commits = map-append commit_of blocks (block ∷ []) ∙ ap (λ (l : List Commit). l ++ commit_of block ∷ []) r.commits ∙ sym (commits_more e ds (Committed gone left));
-            balanced = committed_balanced g.elements start.queue ts kept gone left ds out r.balanced;
-            holds = IsPermutation-trans _ _ _ (IsPermutation-append_right left kept still rest)
+            commits = map-append commit_of blocks (block ∷ []) ∙ ap (λ (l : List Commit). l ++ commit_of block ∷ []) r.commits ∙ sym (commits_more e ds (Committed gone departure));
+            balanced = committed_balanced g.elements start.queue ts unposted gone departure ds out r.balanced;
+            holds = IsPermutation-trans _ _ _ (IsPermutation-append_right departure unposted still rest)
                 (at_first (ap (λ (l : Ts). l ++ still) left_is ∙ ap (λ (l : Ts). (cut.more ++ sent) ++ l) still_is)
                 (at_last (shuffled (cut.more ∷ sent ∷ cut.keep ∷ bs ∷ []) ((Piece 0 ⊕ Piece 1) ⊕ (Piece 2 ⊕ Piece 3)) ((Piece 2 ⊕ Piece 0) ⊕ (Piece 3 ⊕ Piece 1)) refl) (ap (λ (l : Ts). l ++ (bs ++ sent)) (sym cut.after))));
           }

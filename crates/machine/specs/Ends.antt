@@ -3,31 +3,31 @@ use Rattle.std.specs.Prelude.{◌≡◌, ℕ, ◌<◌, ◌⊎◌, ℤ, List, [],
 use Rattle.tags.specs.declared.token.Token.{Token}
 use Rattle.semantics.specs.Machine.{Events}
 use Rattle.semantics.specs.Report.{Report}
-use Rattle.element.specs.Held.{Held}
+use Rattle.element.specs.Holding.{Holding}
 use Rattle.schedule.specs.declared.halt.Halt.{Halt}
 use Rattle.schedule.specs.Setting.{Setting}
 use Rattle.schedule.specs.State.{tokens_in}
 use Rattle.schedule.specs.Runs.{Began}
-use Rattle.schedule.specs.Told.{IsReportOf}
+use Rattle.schedule.specs.Reported.{IsReportOf}
 use Rattle.schedule.specs.Unlisted.{with_events}
-use Rattle.rounds.specs.Turns.{HaltsLane, coming}
+use Rattle.rounds.specs.Turns.{HaltsLane, arriving}
 use Rattle.rounds.specs.Counted.{IsFirst, NoneHalts}
-use Rattle.machine.specs.declared.runner.Left.{Left}
+use Rattle.machine.specs.declared.runner.Departure.{Departure}
 use Rattle.machine.specs.Runners.{HasNoReason}
 
 -- the reason of its own for which an element halted, if it did
-abbrev pub reason_of : Left → Option Halt
-reason_of (Left.Halted halt) = Some halt
-reason_of Left.Lost = None
-reason_of Left.Rested = None
-reason_of Left.Stopped = None
+abbrev pub reason_of : Departure → Option Halt
+reason_of (Departure.Halted halt) = Some halt
+reason_of Departure.Lost = None
+reason_of Departure.Rested = None
+reason_of Departure.Stopped = None
 
-abbrev pub reasons_of : List Left → List (Option Halt)
-reasons_of lefts = map reason_of lefts
+abbrev pub reasons_of : List Departure → List (Option Halt)
+reasons_of departures = map reason_of departures
 
 -- The reason is true of what the element held when it left. An element without one had no token left, or has made as many events as a
 -- turn has: so one that has tokens, and has made fewer, has a reason.
-abbrev pub IsOwn : Setting → Bool → Held → Option Halt → Type 0
+abbrev pub IsOwn : Setting → Bool → Holding → Option Halt → Type 0
 IsOwn g may_stop h (Some halt) = HaltsLane g.program g.steps may_stop h (Some halt)
 IsOwn g may_stop h None = HasNoReason g h
 
@@ -35,20 +35,20 @@ IsOwn g may_stop h None = HasNoReason g h
 -- no token was live. Of those that halted, the one of least number says why the run ends; where none did, no token is left.
 pub record EndsFreely (g : Setting) (inputs : List ℤ) (may_stop : Bool) (r : Report) : Type 0 where
   -- what each element held when it left, by its number, and the tokens that were on their way to others
-  pub lanes : List Held
+  pub lanes : List Holding
   pub on_way : List Token
   -- the events that the report lists led there
-  pub began : Began inputs (coming g lanes on_way) r.events
+  pub began : Began inputs (arriving g lanes on_way) r.events
   -- the reason of each element, where it has one
   pub reasons : List (Option Halt)
   pub count : length reasons ≡ length lanes
-  pub own : (e : ℕ) (h : Held) (reason : Option Halt) → slice_get lanes e ≡ Some h → slice_get reasons e ≡ Some reason → IsOwn g may_stop h reason
+  pub own : (e : ℕ) (h : Holding) (reason : Option Halt) → slice_get lanes e ≡ Some h → slice_get reasons e ≡ Some reason → IsOwn g may_stop h reason
   -- why the run ends
   pub halt : Halt
-  pub least : IsFirst reasons halt ⊎ (NoneHalts reasons × (tokens_in (coming g lanes on_way).lanes ≡ []) × (halt ≡ Halt.NoToken))
+  pub least : IsFirst reasons halt ⊎ (NoneHalts reasons × (tokens_in (arriving g lanes on_way).lanes ≡ []) × (halt ≡ Halt.NoToken))
   -- and the report has that end, and tells what the elements held
-  pub told : IsReportOf (record { state = record { setting = g; lanes = lanes }; events = r.events }) halt r
+  pub reported : IsReportOf (record { state = record { setting = g; lanes = lanes }; events = r.events }) halt r
 
 -- The report ends so with the events of some run; where events are listed, and these are those that were kept, it lists those of the run.
 abbrev pub EndsOn : Bool → Setting → List ℤ → Bool → Events → Events → Report → Type 0
-EndsOn listed g inputs may_stop kept events r = (shown : Events) × EndsFreely g inputs may_stop (with_events r shown) × (listed ≡ true → kept ≡ events → r.events ≡ shown)
+EndsOn keeps_events g inputs may_stop kept events r = (shown : Events) × EndsFreely g inputs may_stop (with_events r shown) × (keeps_events ≡ true → kept ≡ events → r.events ≡ shown)

@@ -3,7 +3,7 @@ use Rattle.std.specs.Prelude.{◌≡◌, ◌≢◌, ℕ, ◌+◌, ◌-◌, ◌�
 use Rattle.std.specs.List.{flat_map}
 use Rattle.tags.specs.declared.token.Token.{Token}
 use Rattle.element.specs.Near.{Bounds, IsNearToken}
-use Rattle.element.specs.Held.{Held, held_of, fixed_of, with_queue, IsSoundLane}
+use Rattle.element.specs.Holding.{Holding, held_of, fixed_of, with_queue, IsSoundLane}
 use Rattle.schedule.specs.Setting.{Setting}
 use Rattle.schedule.specs.State.{IsPlaced, RunsAs}
 use Rattle.schedule.specs.Steps.{logged}
@@ -18,7 +18,7 @@ use Rattle.semantics.specs.Machine.{Events}
 use Rattle.law_linearization.specs.History.{Block, Blocks, bounds_of, commit_of, count_acts}
 use Rattle.law_linearization.specs.HistoryLaws.{IsBalanced}
 use Rattle.machine.specs.declared.nearness.Reach.{Reach}
-use Rattle.machine.specs.declared.runner.Left.{Left}
+use Rattle.machine.specs.declared.runner.Departure.{Departure}
 use Rattle.machine.specs.declared.runner.Runner.{Runner}
 
 abbrev pub bounds_within : Reach → Bounds
@@ -26,11 +26,12 @@ bounds_within r = record { frames = r.frames; cells = r.cells }
 
 -- what it holds beside its queue: in hand, in bundles, and not dealt yet
 abbrev pub away : {C A L : Type 0} → Runner C A L → List Token
-away r = r.hand.items ++ (flat_map (λ v. v.items) r.kept.items ++ drop r.dealt r.sent.items)
+away r = r.unqueued.items ++ (flat_map (λ v. v.items) r.unposted.items ++ drop r.bundled r.sent.items)
 
 -- An element that began with the lane `start` has done these deeds and holds these tokens: its blocks of events have led its part
 -- on, each with a commit, its account is balanced, and what it holds is its queue and what lies beside it.
-pub record Ran (g : Setting) (mesh : MeshId) (e : ℕ) (start held : Held) (deeds : List Deed) (tokens beside : List Token) (blocks : List Block) : Type 0 where
+pub record Ran (g : Setting) (mesh : MeshId) (e : ℕ) (start held : Holding) (deeds : List Deed) (tokens beside : List Token)
+    (blocks : List Block) : Type 0 where
   pub elements : mesh.elements ≡ g.elements
   pub placed : IsPlaced g e held
   pub leads : Blocks g e start.part blocks held.part
@@ -41,12 +42,12 @@ pub record Ran (g : Setting) (mesh : MeshId) (e : ℕ) (start held : Held) (deed
 
 -- each bundle is for its element, and the element counts what it makes
 pub record IsTidy {C A L : Type 0} (g : Setting) (r : Runner C A L) : Type 0 where
-  pub count : length r.kept.items ≡ g.elements
-  pub addressed : (i : ℕ) (d : _) → i < g.elements → AllTo g.elements i (slice_index_or r.kept.items i d).items
+  pub count : length r.unposted.items ≡ g.elements
+  pub addressed : (i : ℕ) (d : _) → i < g.elements → AllTo g.elements i (slice_index_or r.unposted.items i d).items
   pub created : created r.seat.own.deeds ≡ r.created
   pub few : r.created ≤ 2 ^ 40
 
-pub record IsRunning {C A L : Type 0} (listed : Bool) (g : Setting) (mesh : MeshId) (start : Held) (r : Runner C A L) : Type 0 where
+pub record IsRunning {C A L : Type 0} (keeps_events : Bool) (g : Setting) (mesh : MeshId) (start : Holding) (r : Runner C A L) : Type 0 where
   pub at : r.seat.mesh ≡ mesh
   pub alone : r.seat.joined ≡ []
   -- its lane runs the code of the machine
@@ -55,20 +56,20 @@ pub record IsRunning {C A L : Type 0} (listed : Bool) (g : Setting) (mesh : Mesh
   pub ran : Ran g mesh r.seat.own.element start (held_of r.lane) r.seat.own.deeds r.seat.own.held (away r) blocks
   pub tidy : IsTidy g r
   -- where events are listed it has noted its blocks
-  pub noted : listed ≡ true → Logs (noted_in r.notes) blocks
+  pub noted : keeps_events ≡ true → Logs (noted_in r.notes) blocks
   pub unlogged : r.log.events.items ≡ []
 
 -- it runs, from some start
 abbrev pub Runs : {C A L : Type 0} → Bool → Setting → MeshId → Runner C A L → Type 0
-Runs listed g mesh r = (start : Held) × IsRunning listed g mesh start r
+Runs keeps_events g mesh r = (start : Holding) × IsRunning keeps_events g mesh start r
 
 -- whatever it started from, it runs on from there
 abbrev pub Keeps : {C A L : Type 0} → Bool → Setting → MeshId → Runner C A L → Runner C A L → Type 0
-Keeps listed g mesh old new = (start : Held) → IsRunning listed g mesh start old → IsRunning listed g mesh start new
+Keeps keeps_events g mesh old new = (start : Holding) → IsRunning keeps_events g mesh start old → IsRunning keeps_events g mesh start new
 
 -- all tokens are in the queue or in bundles
 abbrev pub IsClear : {C A L : Type 0} → Runner C A L → Type 0
-IsClear r = (r.hand.items ≡ []) × (r.sent.items ≡ []) × (r.dealt ≡ 0)
+IsClear r = (r.unqueued.items ≡ []) × (r.sent.items ≡ []) × (r.bundled ≡ 0)
 
 -- The lane has these tokens more, last in its queue. They name what there is. The memory of the bundle may be kept.
 pub record Receives {C A L : Type 0} (g : Setting) (old : Runner C A L) (tokens : List Token) (new : Runner C A L) : Type 0 where
@@ -82,40 +83,41 @@ abbrev pub StaysAt : {C A L : Type 0} → Runner C A L → Runner C A L → Type
 StaysAt old new = (new.seat.mesh ≡ old.seat.mesh) × (new.seat.joined ≡ old.seat.joined) × (new.seat.own.element ≡ old.seat.own.element)
 
 -- it had no token left, or has made as many events as a turn has
-abbrev pub HasNoReason : Setting → Held → Type 0
+abbrev pub HasNoReason : Setting → Holding → Type 0
 HasNoReason g h = (h.queue ≡ []) ⊎ (g.turn ≤ h.made)
 
 -- why it left; `may_stop`: the gate may answer false
-abbrev pub IsLeft : {C A L : Type 0} → Setting → Bool → Runner C A L → Left → Type 0
-IsLeft g may_stop r Left.Lost = ⊤
-IsLeft g may_stop r (Left.Halted halt) = HaltsLane g.program g.steps may_stop (held_of r.lane) (Some halt)
-IsLeft g may_stop r Left.Rested = Leaves r.seat.mesh r.seat.own.last 0 × HasNoReason g (held_of r.lane)
-IsLeft g may_stop r Left.Stopped = HasNoReason g (held_of r.lane)
+abbrev pub IsDeparture : {C A L : Type 0} → Setting → Bool → Runner C A L → Departure → Type 0
+IsDeparture g may_stop r Departure.Lost = ⊤
+IsDeparture g may_stop r (Departure.Halted halt) = HaltsLane g.program g.steps may_stop (held_of r.lane) (Some halt)
+IsDeparture g may_stop r Departure.Rested = Leaves r.seat.mesh r.seat.own.last 0 × HasNoReason g (held_of r.lane)
+IsDeparture g may_stop r Departure.Stopped = HasNoReason g (held_of r.lane)
 
 -- what is known of an element that has run
-pub record Ended {C A L : Type 0} (listed : Bool) (g : Setting) (mesh : MeshId) (may_stop : Bool) (old new : Runner C A L) : Type 0 where
+pub record Ended {C A L : Type 0} (keeps_events : Bool) (g : Setting) (mesh : MeshId) (may_stop : Bool) (old new : Runner C A L) : Type 0 where
   pub stays : StaysAt old new
-  pub keeps : new.left ≢ Left.Lost → Keeps listed g mesh old new
-  pub left : IsLeft g may_stop new new.left
+  pub keeps : new.departure ≢ Departure.Lost → Keeps keeps_events g mesh old new
+  pub departure : IsDeparture g may_stop new new.departure
 
 -- The lane has taken tokens since it was `old`, an event each, and the block that they make has no commit yet. The queue had
 -- `before` tokens before, and `events` events were made.
-pub record HasMade {C A L : Type 0} (listed : Bool) (g : Setting) (mesh : MeshId) (start old : Held) (before events : ℕ) (r : Runner C A L) : Type 0 where
+pub record HasMade {C A L : Type 0} (keeps_events : Bool) (g : Setting) (mesh : MeshId) (start old : Holding) (before events : ℕ)
+    (r : Runner C A L) : Type 0 where
   pub at : r.seat.mesh ≡ mesh
   pub alone : r.seat.joined ≡ []
   -- its lane runs the code of the machine
   pub runs : RunsAs g (fixed_of r.lane)
   pub blocks : List Block
-  pub ran : Ran g mesh r.seat.own.element start old r.seat.own.deeds r.seat.own.held (r.hand.items ++ flat_map (λ v. v.items) r.kept.items) blocks
+  pub ran : Ran g mesh r.seat.own.element start old r.seat.own.deeds r.seat.own.held (r.unqueued.items ++ flat_map (λ v. v.items) r.unposted.items) blocks
   pub tidy : IsTidy g r
-  pub noted : listed ≡ true → Logs (noted_in r.notes) blocks
+  pub noted : keeps_events ≡ true → Logs (noted_in r.notes) blocks
   pub taken : List Token
   pub turns : Turns g.program g.steps old [] taken (held_of r.lane) r.sent.items
   pub sound : IsSoundLane g.program (held_of r.lane)
   pub before_is : before ≡ length old.queue
   pub events_are : events ≡ length taken
-  pub undealt : r.dealt ≡ 0
-  pub log : r.log.events.items ≡ logged listed [] (by old.part.shape.element taken)
+  pub unbundled : r.bundled ≡ 0
+  pub log : r.log.events.items ≡ logged keeps_events [] (by old.part.shape.element taken)
 
 -- the tokens of these events
 abbrev pub tokens_of : Events → List Token
@@ -126,7 +128,8 @@ abbrev pub left_last : {C A L : Type 0} → Runner C A L → ℕ → List Token
 left_last r made = drop (length r.lane.held.queue - (made - length r.sent.items)) r.lane.held.queue ++ r.sent.items
 
 abbrev pub still_first : {C A L : Type 0} → Runner C A L → ℕ → List Token
-still_first r made = take (length r.lane.held.queue - (made - length r.sent.items)) r.lane.held.queue ++ (r.hand.items ++ flat_map (λ v. v.items) r.kept.items)
+still_first r made = take (length r.lane.held.queue - (made - length r.sent.items))
+    r.lane.held.queue ++ (r.unqueued.items ++ flat_map (λ v. v.items) r.unposted.items)
 
 -- The bundles have these tokens more, in some order, and each is for its element still.
 pub record KeepsTokens {A : Type 0} (n : ℕ) (old new : List (Vec Token A)) (more : List Token) : Type 0 where
@@ -139,7 +142,7 @@ abbrev pub behind_all : Noted → List Token → List Token → Counts → Noted
 behind_all n taken made c = record { taken = n.taken ++ taken; made = n.made ++ made; blocks = n.blocks ++ c ∷ [] }
 
 -- The block that stands in the log of the turn is noted, where events are listed, with the numbers of tokens that it spent and made.
-pub record NotesBlock {C A L : Type 0} (listed : Bool) (spent made : ℕ) (old new : Runner C A L) : Type 0 where
+pub record NotesBlock {C A L : Type 0} (keeps_events : Bool) (spent made : ℕ) (old new : Runner C A L) : Type 0 where
   pub others : new ≡ record old { log = new.log; notes = new.notes }
-  pub log : new.log.events.items ≡ (if listed then [] else old.log.events.items)
-  pub notes : listed ≡ true → noted_in new.notes ≡ behind_all (noted_in old.notes) (tokens_of old.log.events.items) (left_last old made) (record { events = length old.log.events.items; spent = spent; made = made })
+  pub log : new.log.events.items ≡ (if keeps_events then [] else old.log.events.items)
+  pub notes : keeps_events ≡ true → noted_in new.notes ≡ behind_all (noted_in old.notes) (tokens_of old.log.events.items) (left_last old made) (record { events = length old.log.events.items; spent = spent; made = made })

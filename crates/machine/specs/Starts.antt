@@ -3,7 +3,7 @@ use Rattle.std.specs.Prelude.{◌≡◌, ℕ, ◌<◌, ◌⊎◌, List, [], leng
 use Rattle.crossbeam_utils.specs.declared.cache_padded.CachePadded.{CachePadded}
 use Rattle.crossbeam_utils.specs.Padded.{padded_value}
 use Rattle.tags.specs.declared.token.Token.{Token}
-use Rattle.element.specs.Held.{Held, Fixed, held_of, fixed_of}
+use Rattle.element.specs.Holding.{Holding, Fixed, held_of, fixed_of}
 use Rattle.schedule.specs.declared.halt.Halt.{Halt}
 use Rattle.schedule.specs.Setting.{Setting}
 use Rattle.mesh.specs.Seats.{MeshId, SeatView}
@@ -13,25 +13,25 @@ use Rattle.ordering.specs.declared.log.BlockLog.{BlockLog}
 use Rattle.ordering.specs.Noted.{noted_in, nothing}
 use Rattle.ordering.specs.Orders.{IsHistory, IsOrdered}
 use Rattle.machine.specs.declared.belongings.Belongings.{Belongings}
-use Rattle.machine.specs.declared.runner.Left.{Left}
+use Rattle.machine.specs.declared.runner.Departure.{Departure}
 use Rattle.machine.specs.declared.runner.Runner.{Runner}
 use Rattle.machine.specs.Runners.{IsClear, Ended}
 use Rattle.rounds.specs.Counted.{IsFirst, NoneHalts}
 use Rattle.machine.specs.Ends.{reasons_of}
 
-abbrev pub lane_in : {C A L : Type 0} → CachePadded (Runner C A L) → Held
+abbrev pub lane_in : {C A L : Type 0} → CachePadded (Runner C A L) → Holding
 lane_in p = held_of (padded_value p).lane
 
 abbrev pub seat_of : {C A L : Type 0} → CachePadded (Runner C A L) → SeatView
 seat_of p = (padded_value p).seat
 
-abbrev pub left_of : {C A L : Type 0} → CachePadded (Runner C A L) → Left
-left_of p = (padded_value p).left
+abbrev pub departure_of : {C A L : Type 0} → CachePadded (Runner C A L) → Departure
+departure_of p = (padded_value p).departure
 
 abbrev pub notes_of : {C A L : Type 0} → CachePadded (Runner C A L) → BlockLog A
 notes_of p = (padded_value p).notes
 
-abbrev pub lanes_in : {C A L : Type 0} → List (CachePadded (Runner C A L)) → List Held
+abbrev pub lanes_in : {C A L : Type 0} → List (CachePadded (Runner C A L)) → List Holding
 lanes_in ps = map lane_in ps
 
 abbrev pub lane_fixed : {C A L : Type 0} → CachePadded (Runner C A L) → Fixed
@@ -43,43 +43,44 @@ lanes_fixed ps = map lane_fixed ps
 abbrev pub seats_in : {C A L : Type 0} → List (CachePadded (Runner C A L)) → List SeatView
 seats_in ps = map seat_of ps
 
-abbrev pub lefts_in : {C A L : Type 0} → List (CachePadded (Runner C A L)) → List Left
-lefts_in ps = map left_of ps
+abbrev pub departures_in : {C A L : Type 0} → List (CachePadded (Runner C A L)) → List Departure
+departures_in ps = map departure_of ps
 
 abbrev pub logs_in : {C A L : Type 0} → List (CachePadded (Runner C A L)) → List (BlockLog A)
 logs_in ps = map notes_of ps
 
--- Of each history that has these logs the list has the events behind those that it had, in some legal order of the same blocks.
+-- Of each history that has these logs the list has the events after those that it had, in some legal order of the same blocks.
 abbrev pub Lists : {A : Type 0} → List (BlockLog A) → List Token → Events → Events → Type 0
 Lists logs opening old new =
     (log : List Block) (start last : List Token) → IsHistory logs log start last → IsPermutation opening start → (made : Events) × IsOrdered (length logs) log start last made × (new ≡ old ++ made)
 
 -- n bundles, all empty
 abbrev pub AreEmpty : {A : Type 0} → ℕ → List (Vec Token A) → Type 0
-AreEmpty n kept = (length kept ≡ n) × All (λ v. v.items ≡ []) kept
+AreEmpty n unposted = (length unposted ≡ n) × All (λ v. v.items ≡ []) unposted
 
 -- lists with nothing
 pub record AreBlank {A L : Type 0} (n : ℕ) (l : Belongings A L) : Type 0 where
-  pub hand : l.hand.items ≡ []
+  pub unqueued : l.unqueued.items ≡ []
   pub sent : l.sent.items ≡ []
-  pub kept : AreEmpty n l.kept.items
+  pub unposted : AreEmpty n l.unposted.items
   pub notes : noted_in l.notes ≡ nothing
   pub log : l.log.events.items ≡ []
 
 -- it holds no token beside its queue, and has made none
 pub record IsNew {C A L : Type 0} (n : ℕ) (r : Runner C A L) : Type 0 where
   pub clear : IsClear r
-  pub kept : AreEmpty n r.kept.items
+  pub unposted : AreEmpty n r.unposted.items
   pub created : r.created ≡ 0
   pub notes : noted_in r.notes ≡ nothing
   pub log : r.log.events.items ≡ []
 
 -- no element is lost; of those that halted the one of least number has this reason, or none halted and one saw that no token is live
-abbrev pub Tells : List Left → Halt → Type 0
-Tells lefts halt =
-    ((i : ℕ) → slice_get lefts i ≡ Some Left.Lost → ⊥)
-    × (IsFirst (reasons_of lefts) halt ⊎ (((e : ℕ) × (slice_get lefts e ≡ Some Left.Rested)) × NoneHalts (reasons_of lefts) × (halt ≡ Halt.NoToken)))
+abbrev pub IsHaltOf : List Departure → Halt → Type 0
+IsHaltOf departures halt =
+    ((i : ℕ) → slice_get departures i ≡ Some Departure.Lost → ⊥)
+    × (IsFirst (reasons_of departures) halt
+    ⊎ (((e : ℕ) × (slice_get departures e ≡ Some Departure.Rested)) × NoneHalts (reasons_of departures) × (halt ≡ Halt.NoToken)))
 
 -- all have run
 abbrev pub AllEnded : {C A L : Type 0} → Bool → Setting → MeshId → Bool → List (CachePadded (Runner C A L)) → List (CachePadded (Runner C A L)) → Type 0
-AllEnded listed g mesh may_stop olds news = (i : ℕ) (d : _) → i < length olds → Ended listed g mesh may_stop (padded_value (slice_index_or olds i d)) (padded_value (slice_index_or news i d))
+AllEnded keeps_events g mesh may_stop olds news = (i : ℕ) (d : _) → i < length olds → Ended keeps_events g mesh may_stop (padded_value (slice_index_or olds i d)) (padded_value (slice_index_or news i d))

@@ -9,8 +9,8 @@ use tags::token::Token;
 #[derive(Drop)]
 pub struct Belongings<A: Allocator, L: Log> {
     pub sent: Vec<Token, A>,
-    pub kept: Vec<Vec<Token, A>, A>,
-    pub hand: Vec<Token, A>,
+    pub unposted: Vec<Vec<Token, A>, A>,
+    pub unqueued: Vec<Token, A>,
     pub spare: Vec<Vec<Token, A>, A>,
     pub log: EventLog<A, L>,
     pub notes: BlockLog<A>,

@@ -1,7 +1,7 @@
 //! An element makes a block of events, and commits it.
 
 ghost use Rattle.std.specs.Prelude.{◌≡◌, ◌<◌, ◌≤◌, ◌+◌, ◌^◌, ◌++◌, ◌-◌, [], drop, length, None, false, OnOk, IfOk};
-ghost use Rattle.element.specs.Held.{Held, held_of};
+ghost use Rattle.element.specs.Holding.{Holding, held_of};
 ghost use Rattle.schedule.specs.State.{setting_in};
 ghost use Rattle.schedule.specs.Setting.{IsGoodSetting};
 ghost use Rattle.mesh.specs.Deeds.{created};
@@ -100,10 +100,10 @@ fn note_block<C: Instructions, A: Allocator, L: Log>(
     made: u64,
 ) -> Result<(), AllocError>
     requires { (length runner.old.sent.items ≤ made) × (made ≤ length runner.old.lane.held.queue + length runner.old.sent.items) }
-    ensures notes { OnOk result (NotesBlock L.LISTS spent made runner.old runner.new) }
+    ensures notes { OnOk result (NotesBlock L.KEEPS_EVENTS spent made runner.old runner.new) }
     ensures others { runner.new ≡ record runner.old { log = runner.new.log; notes = runner.new.notes } }
 {
-    if !L::LISTS {
+    if !L::KEEPS_EVENTS {
         return Ok(());
     }
     let counts = Counts {
@@ -129,11 +129,11 @@ fn commit<C: MainCode, A: Allocator, L: Log>(
     before: u64,
     events: u64,
 ) -> Result<(), Lost>
-    requires made { (start : Held) × (old : Held) × HasMade L.LISTS (setting_in C.program C.width shape.now) mesh.now start old before events runner.old }
+    requires made { (start : Holding) × (old : Holding) × HasMade L.KEEPS_EVENTS (setting_in C.program C.width shape.now) mesh.now start old before events runner.old }
     ensures stays { StaysAt runner.old runner.new }
-    ensures keeps { OnOk result ((start : Held) (old : Held) → HasMade L.LISTS (setting_in C.program C.width shape.now) mesh.now start old before events runner.old → IsRunning L.LISTS (setting_in C.program C.width shape.now) mesh.now start runner.new) }
+    ensures keeps { OnOk result ((start : Holding) (old : Holding) → HasMade L.KEEPS_EVENTS (setting_in C.program C.width shape.now) mesh.now start old before events runner.old → IsRunning L.KEEPS_EVENTS (setting_in C.program C.width shape.now) mesh.now start runner.new) }
     ensures lane { held_of runner.new.lane ≡ held_of runner.old.lane }
-    ensures others { (runner.new.hand.items ≡ runner.old.hand.items) × (runner.new.dealt ≡ runner.old.dealt) }
+    ensures others { (runner.new.unqueued.items ≡ runner.old.unqueued.items) × (runner.new.bundled ≡ runner.old.bundled) }
 {
     let _ = shape;
     if events == 0 {
@@ -161,13 +161,13 @@ fn make_events<C: MainCode, A: Allocator + Clone, L: Log>(
     shape: &Shape<'_, C>,
 ) -> Result<Option<Halt>, Lost>
     requires good { IsGoodSetting (setting_in C.program C.width shape.now) }
-    requires runs { Runs L.LISTS (setting_in C.program C.width shape.now) mesh.now runner.old }
+    requires runs { Runs L.KEEPS_EVENTS (setting_in C.program C.width shape.now) mesh.now runner.old }
     requires clear { IsClear runner.old }
     ensures stays { StaysAt runner.old runner.new }
-    ensures keeps { OnOk result (Keeps L.LISTS (setting_in C.program C.width shape.now) mesh.now runner.old runner.new) }
+    ensures keeps { OnOk result (Keeps L.KEEPS_EVENTS (setting_in C.program C.width shape.now) mesh.now runner.old runner.new) }
     ensures halts { IfOk result (λ halt. HaltsLane (C.program shape.now.code.now) shape.now.steps false (held_of runner.new.lane) halt) }
     ensures whole { IfOk result (λ halt. halt ≡ None → HasNoReason (setting_in C.program C.width shape.now) (held_of runner.new.lane)) }
-    ensures undealt { (runner.new.hand.items ≡ []) × (runner.new.dealt ≡ 0) }
+    ensures unbundled { (runner.new.unqueued.items ≡ []) × (runner.new.bundled ≡ 0) }
 {
     let before = runner.lane.queue().len() as u64;
     let first = runner.lane.made();
@@ -191,13 +191,13 @@ pub fn make_block<C: MainCode, A: Allocator + Clone, L: Log, G: Gate>(
     gate: &G,
 ) -> Result<Option<Halt>, Lost>
     requires good { IsGoodSetting (setting_in C.program C.width shape.now) }
-    requires runs { Runs L.LISTS (setting_in C.program C.width shape.now) mesh.now runner.old }
+    requires runs { Runs L.KEEPS_EVENTS (setting_in C.program C.width shape.now) mesh.now runner.old }
     requires clear { IsClear runner.old }
     ensures stays { StaysAt runner.old runner.new }
-    ensures keeps { OnOk result (Keeps L.LISTS (setting_in C.program C.width shape.now) mesh.now runner.old runner.new) }
+    ensures keeps { OnOk result (Keeps L.KEEPS_EVENTS (setting_in C.program C.width shape.now) mesh.now runner.old runner.new) }
     ensures halts { IfOk result (λ halt. HaltsLane (C.program shape.now.code.now) shape.now.steps G.may_stop (held_of runner.new.lane) halt) }
     ensures whole { IfOk result (λ halt. halt ≡ None → HasNoReason (setting_in C.program C.width shape.now) (held_of runner.new.lane)) }
-    ensures undealt { (runner.new.hand.items ≡ []) × (runner.new.dealt ≡ 0) }
+    ensures unbundled { (runner.new.unqueued.items ≡ []) × (runner.new.bundled ≡ 0) }
 {
     if runner.lane.queue().len() == 0 {
         return Ok(None);

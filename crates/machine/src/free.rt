@@ -5,21 +5,21 @@ ghost use Rattle.crossbeam_utils.specs.Padded.{padded_value};
 ghost use Rattle.semantics.specs.Machine.{Events};
 ghost use Rattle.semantics.specs.declared.report.End.{End};
 ghost use Rattle.schedule.specs.Shown.{ShowsInOrder};
-ghost use Rattle.element.specs.Held.{held_of, fixed_of};
+ghost use Rattle.element.specs.Holding.{held_of, fixed_of};
 ghost use Rattle.schedule.specs.Setting.{size, IsGoodSetting};
 ghost use Rattle.schedule.specs.State.{IsSoundState, RunsAs, setting_in, tokens_in};
 ghost use Rattle.schedule.specs.Runs.{Began};
 ghost use Rattle.schedule.specs.Unlisted.{ShowsQuietly, with_events};
 ghost use Rattle.mesh.specs.Seats.{AreFresh};
-ghost use Rattle.rounds.specs.Turns.{coming};
+ghost use Rattle.rounds.specs.Turns.{arriving};
 ghost use Rattle.rounds.specs.Counted.{IsFirst, NoneHalts};
 ghost use Rattle.rounds.specs.Rounds.{ShowsOn};
-ghost use Rattle.machine.specs.declared.runner.Left.{Left};
+ghost use Rattle.machine.specs.declared.runner.Departure.{Departure};
 ghost use Rattle.machine.specs.Runners.{Runs, IsClear, Ended};
 ghost use Rattle.machine.specs.Ends.{reasons_of, EndsFreely, EndsOn};
-ghost use Rattle.machine.specs.Starts.{IsNew, Lists, lanes_in, lanes_fixed, seats_in, lefts_in, Tells, AllEnded};
+ghost use Rattle.machine.specs.Starts.{IsNew, Lists, lanes_in, lanes_fixed, seats_in, departures_in, IsHaltOf, AllEnded};
 
-use crate::runner::{Left, Runner};
+use crate::runner::{Departure, Runner};
 use crate::starting::{parts_in, runners_of, tokens_of};
 use crate::turns;
 use crossbeam_utils::CachePadded;
@@ -58,8 +58,8 @@ fn run_each<
 )
     requires some { 0 < length runners.old }
     requires good { IsGoodSetting (setting_in C.program C.width shape.now) }
-    requires ready { All (λ p. Runs L.LISTS (setting_in C.program C.width shape.now) mesh.now (padded_value p) × IsClear (padded_value p)) runners.old }
-    ensures each { AllEnded L.LISTS (setting_in C.program C.width shape.now) mesh.now G.may_stop runners.old runners.new }
+    requires ready { All (λ p. Runs L.KEEPS_EVENTS (setting_in C.program C.width shape.now) mesh.now (padded_value p) × IsClear (padded_value p)) runners.old }
+    ensures each { AllEnded L.KEEPS_EVENTS (setting_in C.program C.width shape.now) mesh.now G.may_stop runners.old runners.new }
     ensures count { length runners.new ≡ length runners.old }
 {
     let threads = runners.len();
@@ -68,8 +68,8 @@ fn run_each<
         runners,
         threads,
         &|_: usize, padded: &mut CachePadded<Runner<'_, C, A, L>>| -> ()
-            requires { IsGoodSetting (setting_in C.program C.width shape.now) × Runs L.LISTS (setting_in C.program C.width shape.now) mesh.now (padded_value padded.old) × IsClear (padded_value padded.old) }
-            ensures { Ended L.LISTS (setting_in C.program C.width shape.entry.now) mesh.entry.now G.may_stop (padded_value padded.old) (padded_value padded.new) }
+            requires { IsGoodSetting (setting_in C.program C.width shape.now) × Runs L.KEEPS_EVENTS (setting_in C.program C.width shape.now) mesh.now (padded_value padded.old) × IsClear (padded_value padded.old) }
+            ensures { Ended L.KEEPS_EVENTS (setting_in C.program C.width shape.entry.now) mesh.entry.now G.may_stop (padded_value padded.old) (padded_value padded.new) }
         {
             let runner: &mut Runner<'_, C, A, L> = padded;
             turns::run(rt, runner, mesh, shape, gate);
@@ -93,8 +93,8 @@ fn run_all<
 )
     requires some { 0 < length runners.old.items }
     requires good { IsGoodSetting (setting_in C.program C.width shape.now) }
-    requires ready { All (λ p. Runs L.LISTS (setting_in C.program C.width shape.now) mesh.now (padded_value p) × IsClear (padded_value p)) runners.old.items }
-    ensures each { AllEnded L.LISTS (setting_in C.program C.width shape.now) mesh.now G.may_stop runners.old.items runners.new.items }
+    requires ready { All (λ p. Runs L.KEEPS_EVENTS (setting_in C.program C.width shape.now) mesh.now (padded_value p) × IsClear (padded_value p)) runners.old.items }
+    ensures each { AllEnded L.KEEPS_EVENTS (setting_in C.program C.width shape.now) mesh.now G.may_stop runners.old.items runners.new.items }
     ensures count { length runners.new.items ≡ length runners.old.items }
 {
     run_each(rt, runners, mesh, shape, gate);
@@ -104,11 +104,11 @@ fn run_all<
 fn is_lost<C: Instructions, A: Allocator, L: Log>(
     runners: &[CachePadded<Runner<'_, C, A, L>>],
 ) -> bool
-    ensures { result ≡ false → (i : ℕ) → slice_get (lefts_in runners.now) i ≡ Some Left.Lost → ⊥ }
+    ensures { result ≡ false → (i : ℕ) → slice_get (departures_in runners.now) i ≡ Some Departure.Lost → ⊥ }
 {
     for at in 0..runners.len() {
         let runner: &Runner<'_, C, A, L> = &runners[at];
-        if let Left::Lost = runner.left {
+        if let Departure::Lost = runner.departure {
             return true;
         }
     }
@@ -119,12 +119,12 @@ fn is_lost<C: Instructions, A: Allocator, L: Log>(
 fn first_halt<C: Instructions, A: Allocator, L: Log>(
     runners: &[CachePadded<Runner<'_, C, A, L>>],
 ) -> Option<Halt>
-    ensures least { IfSome result (IsFirst (reasons_of (lefts_in runners.now))) }
-    ensures none { IfNone result (NoneHalts (reasons_of (lefts_in runners.now))) }
+    ensures least { IfSome result (IsFirst (reasons_of (departures_in runners.now))) }
+    ensures none { IfNone result (NoneHalts (reasons_of (departures_in runners.now))) }
 {
     for at in 0..runners.len() {
         let runner: &Runner<'_, C, A, L> = &runners[at];
-        if let Left::Halted(halt) = runner.left {
+        if let Departure::Halted(halt) = runner.departure {
             return Some(halt);
         }
     }
@@ -135,22 +135,22 @@ fn first_halt<C: Instructions, A: Allocator, L: Log>(
 fn is_rested<C: Instructions, A: Allocator, L: Log>(
     runners: &[CachePadded<Runner<'_, C, A, L>>],
 ) -> bool
-    ensures { result ≡ true → (e : ℕ) × (slice_get (lefts_in runners.now) e ≡ Some Left.Rested) }
+    ensures { result ≡ true → (e : ℕ) × (slice_get (departures_in runners.now) e ≡ Some Departure.Rested) }
 {
     for at in 0..runners.len() {
         let runner: &Runner<'_, C, A, L> = &runners[at];
-        if let Left::Rested = runner.left {
+        if let Departure::Rested = runner.departure {
             return true;
         }
     }
     false
 }
 
-// Why the run halted, if that can be told.
+// Why the run halted, if that can be reported.
 fn why<C: Instructions, A: Allocator, L: Log>(
     runners: &[CachePadded<Runner<'_, C, A, L>>],
 ) -> Option<Halt>
-    ensures { IfSome result (Tells (lefts_in runners.now)) }
+    ensures { IfSome result (IsHaltOf (departures_in runners.now)) }
 {
     if is_lost(runners) {
         return None;
@@ -215,7 +215,7 @@ fn make_ready<'m, C: Instructions, A: Allocator + Clone, L: Log>(
     })
 }
 
-// Lists the events of all blocks, where events are listed, behind those that are listed already.
+// Lists the events of all blocks, where events are listed, after those that are listed already.
 fn list_events<C: MainCode, A: Allocator + Clone, L: Log>(
     setup: &mut Setup<'_, C, A, L>,
     logs: &[BlockLog<A>],
@@ -223,10 +223,10 @@ fn list_events<C: MainCode, A: Allocator + Clone, L: Log>(
 ) -> Result<(), AllocError>
     requires few { length logs.now < 2 ^ 32 }
     ensures setting { setting_in C.program C.width setup.new.shape ≡ setting_in C.program C.width setup.old.shape }
-    ensures unlisted { L.LISTS ≡ false → setup.new.log.events.items ≡ setup.old.log.events.items }
-    ensures listed { OnOk result (L.LISTS ≡ true → Lists logs.now opening.now setup.old.log.events.items setup.new.log.events.items) }
+    ensures unlisted { L.KEEPS_EVENTS ≡ false → setup.new.log.events.items ≡ setup.old.log.events.items }
+    ensures keeps_events { OnOk result (L.KEEPS_EVENTS ≡ true → Lists logs.now opening.now setup.old.log.events.items setup.new.log.events.items) }
 {
-    if !L::LISTS {
+    if !L::KEEPS_EVENTS {
         return Ok(());
     }
     let mut events = order(logs, opening, setup.alloc.clone()?)?;
@@ -241,11 +241,11 @@ fn run_apart<
     L: Log + Send,
     G: Gate + Sync,
 >(mut setup: Setup<'_, C, A, L>, lanes: Vec<Lane<'_, C, A>, A>, rt: &R, gate: &G) -> Report<A>
-    requires sound { IsSoundState (coming (setting_in C.program C.width setup.shape) (map held_of lanes.items) []) }
+    requires sound { IsSoundState (arriving (setting_in C.program C.width setup.shape) (map held_of lanes.items) []) }
     requires runs { All (RunsAs (setting_in C.program C.width setup.shape)) (map fixed_of lanes.items) }
-    ensures unlisted { L.LISTS ≡ false → setup.entry.log.events.items ≡ [] → result.events ≡ [] }
-    ensures ends { (inputs : List ℤ) (events : Events) → Began inputs (coming (setting_in C.program C.width setup.entry.shape) (map held_of lanes.entry.items) []) events → result.end ≢ End.Memory → EndsOn L.LISTS (setting_in C.program C.width setup.entry.shape) inputs G.may_stop setup.entry.log.events.items events result }
-    ensures shows { (inputs : List ℤ) (events : Events) → Began inputs (coming (setting_in C.program C.width setup.entry.shape) (map held_of lanes.entry.items) []) events → ShowsOn L.LISTS (C.program setup.entry.shape.code.now) (size (setting_in C.program C.width setup.entry.shape)) inputs setup.entry.shape.steps G.may_stop setup.entry.log.events.items events result }
+    ensures unlisted { L.KEEPS_EVENTS ≡ false → setup.entry.log.events.items ≡ [] → result.events ≡ [] }
+    ensures ends { (inputs : List ℤ) (events : Events) → Began inputs (arriving (setting_in C.program C.width setup.entry.shape) (map held_of lanes.entry.items) []) events → result.end ≢ End.Memory → EndsOn L.KEEPS_EVENTS (setting_in C.program C.width setup.entry.shape) inputs G.may_stop setup.entry.log.events.items events result }
+    ensures shows { (inputs : List ℤ) (events : Events) → Began inputs (arriving (setting_in C.program C.width setup.entry.shape) (map held_of lanes.entry.items) []) events → ShowsOn L.KEEPS_EVENTS (C.program setup.entry.shape.code.now) (size (setting_in C.program C.width setup.entry.shape)) inputs setup.entry.shape.steps G.may_stop setup.entry.log.events.items events result }
 {
     let Ok(ready) = make_ready::<C, A, L>(&setup.alloc, lanes, setup.shape.elements) else {
         return setup.refused();
@@ -280,9 +280,9 @@ fn run_machine<
     L: Log + Send,
     G: Gate + Sync,
 >(machine: Machine<'_, C, A, L>, rt: &R, gate: &G) -> Report<A>
-    ensures unlisted { L.LISTS ≡ false → machine.entry.events ≡ [] → result.events ≡ [] }
-    ensures ends { (inputs : List ℤ) (events : Events) → Began inputs machine.entry.state events → result.end ≢ End.Memory → EndsOn L.LISTS machine.entry.state.setting inputs G.may_stop machine.entry.events events result }
-    ensures shows { (inputs : List ℤ) (events : Events) → Began inputs machine.entry.state events → ShowsOn L.LISTS machine.entry.state.setting.program (size machine.entry.state.setting) inputs machine.entry.state.setting.steps G.may_stop machine.entry.events events result }
+    ensures unlisted { L.KEEPS_EVENTS ≡ false → machine.entry.events ≡ [] → result.events ≡ [] }
+    ensures ends { (inputs : List ℤ) (events : Events) → Began inputs machine.entry.state events → result.end ≢ End.Memory → EndsOn L.KEEPS_EVENTS machine.entry.state.setting inputs G.may_stop machine.entry.events events result }
+    ensures shows { (inputs : List ℤ) (events : Events) → Began inputs machine.entry.state events → ShowsOn L.KEEPS_EVENTS machine.entry.state.setting.program (size machine.entry.state.setting) inputs machine.entry.state.setting.steps G.may_stop machine.entry.events events result }
 {
     match machine.into_lanes() {
         Ok((setup, lanes)) => run_apart(setup, lanes, rt, gate),

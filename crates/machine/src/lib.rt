@@ -3,7 +3,7 @@
 
 mod belongings;
 mod blocks;
-mod dealing;
+mod bundling;
 mod free;
 mod nearness;
 mod runner;

@@ -16,7 +16,7 @@ pub struct Lost;
 
 /// Why an element makes no more events.
 #[derive(Clone, Copy, Debug, PartialEq, Eq)]
-pub enum Left {
+pub enum Departure {
     /// It cannot tell what it did.
     Lost,
     /// For a reason of its own.
@@ -35,11 +35,11 @@ pub struct Runner<'m, C: Instructions, A: Allocator, L: Log> {
     /// What its last block made for other elements.
     pub sent: Vec<Token, A>,
     /// How many of these lie in bundles already.
-    pub dealt: usize,
+    pub bundled: usize,
     /// For each element the tokens that are not posted yet.
-    pub kept: Vec<Vec<Token, A>, A>,
+    pub unposted: Vec<Vec<Token, A>, A>,
     /// What it took and could not put into its queue.
-    pub hand: Vec<Token, A>,
+    pub unqueued: Vec<Token, A>,
     /// Emptied bundles, whose memory is used again.
     pub spare: Vec<Vec<Token, A>, A>,
     /// The events of its turn.
@@ -50,6 +50,6 @@ pub struct Runner<'m, C: Instructions, A: Allocator, L: Log> {
     pub created: u64,
     /// How many blocks it asked for.
     pub blocks: u64,
-    pub left: Left,
+    pub departure: Departure,
     pub alloc: A,
 }

@@ -2,12 +2,12 @@
 
 ghost use Rattle.std.specs.Prelude.{◌≡◌, ℕ, [], ◌++◌, length, map, All, OnOk, IfOk};
 ghost use Rattle.crossbeam_utils.specs.Padded.{padded_value};
-ghost use Rattle.element.specs.Held.{held_of, fixed_of};
+ghost use Rattle.element.specs.Holding.{held_of, fixed_of};
 ghost use Rattle.schedule.specs.State.{tokens_in};
 ghost use Rattle.machine.specs.Starts.{AreBlank, AreEmpty, IsNew, lanes_in, lanes_fixed, seats_in, logs_in};
 
 use crate::belongings::Belongings;
-use crate::runner::{Left, Runner};
+use crate::runner::{Departure, Runner};
 use crossbeam_utils::CachePadded;
 use element::instructions::Instructions;
 use element::lane::Lane;
@@ -17,7 +17,7 @@ use schedule::log::{EventLog, Log};
 use std::alloc::{AllocError, Allocator};
 use tags::token::Token;
 
-// Puts the tokens of a lane behind others.
+// Puts the tokens of a lane after others.
 fn list_queue<C: Instructions, A: Allocator>(
     lane: &Lane<'_, C, A>,
     tokens: &mut Vec<Token, A>,
@@ -65,16 +65,16 @@ fn belongings<A: Allocator + Clone, L: Log>(
 ) -> Result<Belongings<A, L>, AllocError>
     ensures { IfOk result (AreBlank elements) }
 {
-    let kept = bundles(alloc, elements)?;
+    let unposted = bundles(alloc, elements)?;
     let sent = Vec::new(alloc.clone()?);
-    let hand = Vec::new(alloc.clone()?);
+    let unqueued = Vec::new(alloc.clone()?);
     let spare = Vec::with_capacity(alloc.clone()?, elements as usize)?;
     let log = EventLog::new(alloc.clone()?);
     let notes = BlockLog::new(alloc.clone()?)?;
     Ok(Belongings {
         sent,
-        kept,
-        hand,
+        unposted,
+        unqueued,
         spare,
         log,
         notes,
@@ -92,8 +92,8 @@ fn runner<'m, C: Instructions, A: Allocator, L: Log>(
 {
     let Belongings {
         sent,
-        kept,
-        hand,
+        unposted,
+        unqueued,
         spare,
         log,
         notes,
@@ -103,15 +103,15 @@ fn runner<'m, C: Instructions, A: Allocator, L: Log>(
         lane,
         seat,
         sent,
-        dealt: 0,
-        kept,
-        hand,
+        bundled: 0,
+        unposted,
+        unqueued,
         spare,
         log,
         notes,
         created: 0,
         blocks: 0,
-        left: Left::Lost,
+        departure: Departure::Lost,
         alloc,
     }
 }

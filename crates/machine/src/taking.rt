@@ -2,7 +2,7 @@
 
 ghost use Rattle.std.specs.Prelude.{◌≡◌, ◌<◌, All, IfSome, IfNone};
 ghost use Rattle.tags.specs.Addresses.{element_of};
-ghost use Rattle.element.specs.Held.{fixed_of};
+ghost use Rattle.element.specs.Holding.{fixed_of};
 ghost use Rattle.schedule.specs.State.{RunsAs, setting_in};
 ghost use Rattle.schedule.specs.Setting.{IsGoodSetting};
 ghost use Rattle.schedule.specs.declared.halt.Halt.{Halt};
@@ -49,14 +49,14 @@ fn receive_or_hold<C: MainCode, A: Allocator, L: Log>(
     requires runs { RunsAs (setting_in C.program C.width shape.now) (fixed_of runner.old.lane) }
     requires addressed { All (λ t. element_of runner.old.lane.held.part.shape.elements t.to ≡ runner.old.lane.held.part.shape.element) bundle.items }
     ensures none { IfNone result (Receives (setting_in C.program C.width shape.now) runner.old bundle.items runner.new) }
-    ensures some { IfSome result (λ halt. (halt ≡ Halt.Memory) × (runner.new.lane ≡ runner.old.lane) × (runner.new ≡ record runner.old { lane = runner.new.lane; hand = bundle })) }
+    ensures some { IfSome result (λ halt. (halt ≡ Halt.Memory) × (runner.new.lane ≡ runner.old.lane) × (runner.new ≡ record runner.old { lane = runner.new.lane; unqueued = bundle })) }
 {
     let near = are_near(&bundle, reach_of(shape));
     if near && runner.lane.receive_all(&bundle).is_ok() {
         keep_spare(&mut runner.spare, bundle);
         return None;
     }
-    runner.hand = bundle;
+    runner.unqueued = bundle;
     Some(Halt::Memory)
 }
 
@@ -68,11 +68,11 @@ fn take_from<C: MainCode, A: Allocator, L: Log>(
     from: u32,
 ) -> Option<Halt>
     requires good { IsGoodSetting (setting_in C.program C.width shape.now) }
-    requires runs { Runs L.LISTS (setting_in C.program C.width shape.now) mesh.now runner.old }
+    requires runs { Runs L.KEEPS_EVENTS (setting_in C.program C.width shape.now) mesh.now runner.old }
     requires clear { IsClear runner.old }
     requires from { from < shape.now.elements }
     ensures stays { StaysAt runner.old runner.new }
-    ensures keeps { Keeps L.LISTS (setting_in C.program C.width shape.now) mesh.now runner.old runner.new }
+    ensures keeps { Keeps L.KEEPS_EVENTS (setting_in C.program C.width shape.now) mesh.now runner.old runner.new }
     ensures clear { IfNone result (IsClear runner.new) }
     ensures halts { IfSome result (λ halt. halt ≡ Halt.Memory) }
 {
@@ -89,10 +89,10 @@ pub fn take_all<C: MainCode, A: Allocator, L: Log>(
     shape: &Shape<'_, C>,
 ) -> Option<Halt>
     requires good { IsGoodSetting (setting_in C.program C.width shape.now) }
-    requires runs { Runs L.LISTS (setting_in C.program C.width shape.now) mesh.now runner.old }
+    requires runs { Runs L.KEEPS_EVENTS (setting_in C.program C.width shape.now) mesh.now runner.old }
     requires clear { IsClear runner.old }
     ensures stays { StaysAt runner.old runner.new }
-    ensures keeps { Keeps L.LISTS (setting_in C.program C.width shape.now) mesh.now runner.old runner.new }
+    ensures keeps { Keeps L.KEEPS_EVENTS (setting_in C.program C.width shape.now) mesh.now runner.old runner.new }
     ensures clear { IfNone result (IsClear runner.new) }
     ensures halts { IfSome result (λ halt. halt ≡ Halt.Memory) }
 {

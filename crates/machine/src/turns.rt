@@ -1,17 +1,17 @@
 //! The turns of an element, until it leaves.
 
 ghost use Rattle.std.specs.Prelude.{◌≡◌, ◌≢◌, [], Bool, None, OnOk, IfOk, IfSome, IfNone};
-ghost use Rattle.element.specs.Held.{held_of};
+ghost use Rattle.element.specs.Holding.{held_of};
 ghost use Rattle.schedule.specs.State.{setting_in};
 ghost use Rattle.schedule.specs.Setting.{IsGoodSetting};
 ghost use Rattle.rounds.specs.Turns.{HaltsLane};
 ghost use Rattle.schedule.specs.declared.halt.Halt.{Halt};
-ghost use Rattle.machine.specs.declared.runner.Left.{Left};
-ghost use Rattle.machine.specs.Runners.{Runs, Keeps, IsClear, StaysAt, HasNoReason, IsLeft, Ended};
+ghost use Rattle.machine.specs.declared.runner.Departure.{Departure};
+ghost use Rattle.machine.specs.Runners.{Runs, Keeps, IsClear, StaysAt, HasNoReason, IsDeparture, Ended};
 
 use crate::blocks::make_block;
-use crate::dealing::{deal, offer_all};
-use crate::runner::{Left, Lost, Runner};
+use crate::bundling::{fill_bundles, offer_all};
+use crate::runner::{Departure, Lost, Runner};
 use crate::taking::take_all;
 use mesh::Mesh;
 use rounds::Gate;
@@ -45,10 +45,10 @@ fn take<C: MainCode, A: Allocator, L: Log>(
     shape: &Shape<'_, C>,
 ) -> Option<Halt>
     requires good { IsGoodSetting (setting_in C.program C.width shape.now) }
-    requires runs { Runs L.LISTS (setting_in C.program C.width shape.now) mesh.now runner.old }
+    requires runs { Runs L.KEEPS_EVENTS (setting_in C.program C.width shape.now) mesh.now runner.old }
     requires clear { IsClear runner.old }
     ensures stays { StaysAt runner.old runner.new }
-    ensures keeps { Keeps L.LISTS (setting_in C.program C.width shape.now) mesh.now runner.old runner.new }
+    ensures keeps { Keeps L.KEEPS_EVENTS (setting_in C.program C.width shape.now) mesh.now runner.old runner.new }
     ensures clear { IfNone result (IsClear runner.new) }
     ensures halts { IfSome result (λ halt. halt ≡ Halt.Memory) }
 {
@@ -66,13 +66,13 @@ fn work<C: MainCode, A: Allocator + Clone, L: Log, G: Gate>(
     gate: &G,
 ) -> Result<Option<Halt>, Lost>
     requires good { IsGoodSetting (setting_in C.program C.width shape.now) }
-    requires runs { Runs L.LISTS (setting_in C.program C.width shape.now) mesh.now runner.old }
+    requires runs { Runs L.KEEPS_EVENTS (setting_in C.program C.width shape.now) mesh.now runner.old }
     requires clear { IsClear runner.old }
     ensures stays { StaysAt runner.old runner.new }
-    ensures keeps { OnOk result (Keeps L.LISTS (setting_in C.program C.width shape.now) mesh.now runner.old runner.new) }
+    ensures keeps { OnOk result (Keeps L.KEEPS_EVENTS (setting_in C.program C.width shape.now) mesh.now runner.old runner.new) }
     ensures halts { IfOk result (λ halt. HaltsLane (C.program shape.now.code.now) shape.now.steps G.may_stop (held_of runner.new.lane) halt) }
     ensures whole { IfOk result (λ halt. halt ≡ None → HasNoReason (setting_in C.program C.width shape.now) (held_of runner.new.lane)) }
-    ensures undealt { IfOk result (λ halt. halt ≡ None → (runner.new.hand.items ≡ []) × (runner.new.dealt ≡ 0)) }
+    ensures unbundled { IfOk result (λ halt. halt ≡ None → (runner.new.unqueued.items ≡ []) × (runner.new.bundled ≡ 0)) }
 {
     match take(runner, mesh, shape) {
         Some(halt) => Ok(Some(halt)),
@@ -81,20 +81,20 @@ fn work<C: MainCode, A: Allocator + Clone, L: Log, G: Gate>(
 }
 
 // Deals out what the block made for others, and offers it, if it is time to.
-fn hand_on<C: MainCode, A: Allocator + Clone, L: Log>(
+fn pass_on<C: MainCode, A: Allocator + Clone, L: Log>(
     runner: &mut Runner<'_, C, A, L>,
     mesh: &Mesh<A>,
     shape: &Shape<'_, C>,
 ) -> Result<(), AllocError>
     requires good { IsGoodSetting (setting_in C.program C.width shape.now) }
-    requires runs { Runs L.LISTS (setting_in C.program C.width shape.now) mesh.now runner.old }
-    requires undealt { (runner.old.hand.items ≡ []) × (runner.old.dealt ≡ 0) }
+    requires runs { Runs L.KEEPS_EVENTS (setting_in C.program C.width shape.now) mesh.now runner.old }
+    requires unbundled { (runner.old.unqueued.items ≡ []) × (runner.old.bundled ≡ 0) }
     ensures stays { StaysAt runner.old runner.new }
-    ensures keeps { Keeps L.LISTS (setting_in C.program C.width shape.now) mesh.now runner.old runner.new }
+    ensures keeps { Keeps L.KEEPS_EVENTS (setting_in C.program C.width shape.now) mesh.now runner.old runner.new }
     ensures clear { OnOk result (IsClear runner.new) }
     ensures lane { held_of runner.new.lane ≡ held_of runner.old.lane }
 {
-    deal(runner, mesh, shape)?;
+    fill_bundles(runner, mesh, shape)?;
     if is_busy(runner, shape) {
         return Ok(());
     }
@@ -106,22 +106,22 @@ fn look<C: MainCode, A: Allocator, L: Log>(
     runner: &mut Runner<'_, C, A, L>,
     mesh: &Mesh<A>,
     shape: &Shape<'_, C>,
-) -> Option<Left>
-    requires runs { Runs L.LISTS (setting_in C.program C.width shape.now) mesh.now runner.old }
+) -> Option<Departure>
+    requires runs { Runs L.KEEPS_EVENTS (setting_in C.program C.width shape.now) mesh.now runner.old }
     requires clear { IsClear runner.old }
     requires whole { HasNoReason (setting_in C.program C.width shape.now) (held_of runner.old.lane) }
     ensures stays { StaysAt runner.old runner.new }
-    ensures keeps { Keeps L.LISTS (setting_in C.program C.width shape.now) mesh.now runner.old runner.new }
-    ensures left { IfSome result (λ left. (may_stop : Bool) → IsLeft (setting_in C.program C.width shape.now) may_stop runner.new left) }
+    ensures keeps { Keeps L.KEEPS_EVENTS (setting_in C.program C.width shape.now) mesh.now runner.old runner.new }
+    ensures departure { IfSome result (λ departure. (may_stop : Bool) → IsDeparture (setting_in C.program C.width shape.now) may_stop runner.new departure) }
     ensures clear { IsClear runner.new }
 {
     let _ = shape;
     if mesh.stopped(&mut runner.seat) != 0 {
-        return Some(Left::Stopped);
+        return Some(Departure::Stopped);
     }
     if runner.lane.queue().len() == 0 {
         if mesh.live(&mut runner.seat) == 0 {
-            return Some(Left::Rested);
+            return Some(Departure::Rested);
         }
         thread::yield_now();
     }
@@ -134,21 +134,21 @@ fn turn<C: MainCode, A: Allocator + Clone, L: Log, G: Gate>(
     mesh: &Mesh<A>,
     shape: &Shape<'_, C>,
     gate: &G,
-) -> Result<Option<Left>, Lost>
+) -> Result<Option<Departure>, Lost>
     requires good { IsGoodSetting (setting_in C.program C.width shape.now) }
-    requires runs { Runs L.LISTS (setting_in C.program C.width shape.now) mesh.now runner.old }
+    requires runs { Runs L.KEEPS_EVENTS (setting_in C.program C.width shape.now) mesh.now runner.old }
     requires clear { IsClear runner.old }
     ensures stays { StaysAt runner.old runner.new }
-    ensures keeps { OnOk result (Keeps L.LISTS (setting_in C.program C.width shape.now) mesh.now runner.old runner.new) }
-    ensures left { IfOk result (λ left. IfSome left (IsLeft (setting_in C.program C.width shape.now) G.may_stop runner.new)) }
-    ensures clear { IfOk result (λ left. left ≡ None → IsClear runner.new) }
+    ensures keeps { OnOk result (Keeps L.KEEPS_EVENTS (setting_in C.program C.width shape.now) mesh.now runner.old runner.new) }
+    ensures departure { IfOk result (λ departure. IfSome departure (IsDeparture (setting_in C.program C.width shape.now) G.may_stop runner.new)) }
+    ensures clear { IfOk result (λ departure. departure ≡ None → IsClear runner.new) }
 {
     if let Some(halt) = work(runner, mesh, shape, gate)? {
-        return Ok(Some(Left::Halted(halt)));
+        return Ok(Some(Departure::Halted(halt)));
     }
-    match hand_on(runner, mesh, shape) {
+    match pass_on(runner, mesh, shape) {
         Ok(()) => Ok(look(runner, mesh, shape)),
-        Err(_) => Ok(Some(Left::Halted(Halt::Memory))),
+        Err(_) => Ok(Some(Departure::Halted(Halt::Memory))),
     }
 }
 
@@ -159,17 +159,17 @@ fn go<R: Wait, C: MainCode, A: Allocator + Clone, L: Log, G: Gate>(
     mesh: &Mesh<A>,
     shape: &Shape<'_, C>,
     gate: &G,
-) -> Result<Left, Lost>
+) -> Result<Departure, Lost>
     requires good { IsGoodSetting (setting_in C.program C.width shape.now) }
-    requires runs { Runs L.LISTS (setting_in C.program C.width shape.now) mesh.now runner.old }
+    requires runs { Runs L.KEEPS_EVENTS (setting_in C.program C.width shape.now) mesh.now runner.old }
     requires clear { IsClear runner.old }
     ensures stays { StaysAt runner.old runner.new }
-    ensures keeps { OnOk result (Keeps L.LISTS (setting_in C.program C.width shape.now) mesh.now runner.old runner.new) }
-    ensures left { IfOk result (IsLeft (setting_in C.program C.width shape.now) G.may_stop runner.new) }
+    ensures keeps { OnOk result (Keeps L.KEEPS_EVENTS (setting_in C.program C.width shape.now) mesh.now runner.old runner.new) }
+    ensures departure { IfOk result (IsDeparture (setting_in C.program C.width shape.now) G.may_stop runner.new) }
 {
     'turns: for _ in rt.forever() {
-        if let Some(left) = turn(runner, mesh, shape, gate)? {
-            return Ok(left);
+        if let Some(departure) = turn(runner, mesh, shape, gate)? {
+            return Ok(departure);
         }
     }
     unreachable!()
@@ -183,16 +183,16 @@ fn call_stop<C: MainCode, A: Allocator, L: Log>(
 )
     requires at { (runner.old.seat.mesh ≡ mesh.now) × (runner.old.seat.joined ≡ []) }
     ensures stays { StaysAt runner.old runner.new }
-    ensures keeps { Keeps L.LISTS (setting_in C.program C.width shape.now) mesh.now runner.old runner.new }
+    ensures keeps { Keeps L.KEEPS_EVENTS (setting_in C.program C.width shape.now) mesh.now runner.old runner.new }
     ensures lane { held_of runner.new.lane ≡ held_of runner.old.lane }
-    ensures last { (runner.new.seat.own.last ≡ runner.old.seat.own.last) × (runner.new.left ≡ runner.old.left) }
+    ensures last { (runner.new.seat.own.last ≡ runner.old.seat.own.last) × (runner.new.departure ≡ runner.old.departure) }
 {
     let _ = shape;
-    match runner.left {
-        Left::Lost | Left::Halted(_) => {
+    match runner.departure {
+        Departure::Lost | Departure::Halted(_) => {
             let _set = mesh.stop(&mut runner.seat, 1);
         }
-        Left::Rested | Left::Stopped => {}
+        Departure::Rested | Departure::Stopped => {}
     }
 }
 
@@ -203,17 +203,17 @@ fn leave<R: Wait, C: MainCode, A: Allocator + Clone, L: Log, G: Gate>(
     mesh: &Mesh<A>,
     shape: &Shape<'_, C>,
     gate: &G,
-) -> Left
+) -> Departure
     requires good { IsGoodSetting (setting_in C.program C.width shape.now) }
-    requires runs { Runs L.LISTS (setting_in C.program C.width shape.now) mesh.now runner.old }
+    requires runs { Runs L.KEEPS_EVENTS (setting_in C.program C.width shape.now) mesh.now runner.old }
     requires clear { IsClear runner.old }
     ensures stays { StaysAt runner.old runner.new }
-    ensures keeps { result ≢ Left.Lost → Keeps L.LISTS (setting_in C.program C.width shape.now) mesh.now runner.old runner.new }
-    ensures left { IsLeft (setting_in C.program C.width shape.now) G.may_stop runner.new result }
+    ensures keeps { result ≢ Departure.Lost → Keeps L.KEEPS_EVENTS (setting_in C.program C.width shape.now) mesh.now runner.old runner.new }
+    ensures departure { IsDeparture (setting_in C.program C.width shape.now) G.may_stop runner.new result }
 {
     match go(rt, runner, mesh, shape, gate) {
-        Ok(left) => left,
-        Err(Lost) => Left::Lost,
+        Ok(departure) => departure,
+        Err(Lost) => Departure::Lost,
     }
 }
 
@@ -227,11 +227,11 @@ pub fn run<R: Wait, C: MainCode, A: Allocator + Clone, L: Log, G: Gate>(
     gate: &G,
 )
     requires good { IsGoodSetting (setting_in C.program C.width shape.now) }
-    requires runs { Runs L.LISTS (setting_in C.program C.width shape.now) mesh.now runner.old }
+    requires runs { Runs L.KEEPS_EVENTS (setting_in C.program C.width shape.now) mesh.now runner.old }
     requires clear { IsClear runner.old }
-    ensures { Ended L.LISTS (setting_in C.program C.width shape.now) mesh.now G.may_stop runner.old runner.new }
+    ensures { Ended L.KEEPS_EVENTS (setting_in C.program C.width shape.now) mesh.now G.may_stop runner.old runner.new }
 {
     gate.enter(runner.lane.element());
-    runner.left = leave(rt, runner, mesh, shape, gate);
+    runner.departure = leave(rt, runner, mesh, shape, gate);
     call_stop(runner, mesh, shape);
 }

@@ -21,7 +21,7 @@ use Rattle.mesh.specs.declared.view.View.{View}
 use Rattle.mesh.specs.Deeds.{Bundle, posts, posted, takes_from, taken, posting, taking, commits_in, made_in, wins_in, says}
 use Rattle.std.proofs.lemmas.List.Sorted.{IsPermutation-refl, IsPermutation-trans, IsPermutation-append_comm}
 use Rattle.mesh.proofs.Pools.{past_moves, Quiet, quiet_stage, quiet_deed, stops_stay}
-use Rattle.mesh.specs.Rule.{Fits, BoxIs, BoxAt, Kept, with_part, posed, noted, after_post, after_take, Sits}
+use Rattle.mesh.specs.Rule.{Fits, BoxIs, BoxAt, Preserved, with_part, posed, noted, after_post, after_take, Sits}
 use Rattle.mesh.specs.Plays.{looked_to, looked_from, gave, gave_back}
 use Rattle.mesh.specs.Seats.{AllTo}
 use Rattle.std.proofs.lemmas.List.Elements.{All-nil}
@@ -80,14 +80,14 @@ module _ {B : Type 0} (items : B → List Token) where
 
   module _ (n : ℕ) (start : List Token) where
     -- a step of the seat with the part p, to the part p', on the box from a to b
-    pub box_step : (s : State (Option B) View) (r : Kept items n start s) (id a b x : ℕ) (v : View) (p p' : Part) (homes' : Homes) (l' : List Token)
+    pub box_step : (s : State (Option B) View) (r : Preserved items n start s) (id a b x : ℕ) (v : View) (p p' : Part) (homes' : Homes) (l' : List Token)
         → get_elem? s.views id ≡ some v → v.parts ≡ p ∷ [] → n ≤ v.spare → a < n → b < n
         → length homes' ≡ length s.homes
         → ((j : ℕ) → j ≢ 16 * a + b → get_elem? homes' j ≡ get_elem? s.homes j)
         → AllTo n b l' → p'.last ≡ p.last → Quiet p p' → IsPermutation (p.held ++ r.load (16 * a + b)) (p'.held ++ l')
         → ((c : ℕ) → ((p.element ≡ a) → (c ≡ b) → ⊥) → outs c p' ≡ outs c p) → ((c : ℕ) → ((p.element ≡ b) → (c ≡ a) → ⊥) → ins c p' ≡ ins c p)
         → BoxAt items (set s.words (16 * a + b) x) homes' (put r.load (16 * a + b) l') (put r.part p.element p') a b
-        → Kept items n start record { words = set s.words (16 * a + b) x; homes = homes'; views = set s.views id (with_part v p') }
+        → Preserved items n start record { words = set s.words (16 * a + b) x; homes = homes'; views = set s.views id (with_part v p') }
     box_step s r id a b x v p p' homes' l' at one out la lb as_deep slots to last quiet perm os is here =
         let e : ℕ = p.element in let k : ℕ = 16 * a + b in
         let mine = (r.seats id v at).parts 0 p (ap (λ ps. get_elem? ps 0) one) in
@@ -117,13 +117,13 @@ module _ {B : Type 0} (items : B → List Token) where
               (λ nd. stays (λ _ db. nd db))) (λ nc. stays (λ ca _. nc ca));
         }
 
-    module _ (s : State (Option B) View) (r : Kept items n start s) (id : ℕ) (v : View) (p : Part) (at : get_elem? s.views id ≡ some v) (one : v.parts ≡ p ∷ []) (out : n ≤ v.spare) where
+    module _ (s : State (Option B) View) (r : Preserved items n start s) (id : ℕ) (v : View) (p : Part) (at : get_elem? s.views id ≡ some v) (one : v.parts ≡ p ∷ []) (out : n ≤ v.spare) where
       abbrev mine : (p.element < n) × (r.owner p.element ≡ id) × (r.part p.element ≡ p)
       mine = (r.seats id v at).parts 0 p (ap (λ ps. get_elem? ps 0) one)
 
       -- a look that finds nothing to take
       looks_only : (a b : ℕ) (d : Deed) → a < n → b < n → ((c : ℕ) → posts c d ≡ []) → ((c : ℕ) → takes_from c d ≡ []) → ((c : ℕ) → commits_in c d ≡ []) → made_in d ≡ 0 → wins_in d ≡ 0 → ((word : ℕ) → says word d)
-          → Kept items n start (stepped s (16 * a + b) (get_or s.words (16 * a + b) 0) id [] (with_part v (noted p d)) keeps)
+          → Preserved items n start (stepped s (16 * a + b) (get_or s.words (16 * a + b) 0) id [] (with_part v (noted p d)) keeps)
       looks_only a b d la lb no_post no_take no_commit no_made no_win no_say =
           let few : n ≤ 16 = r.few in let wide : length s.words ≡ 258 = r.wide in
           let os : (c : ℕ) → outs c (noted p d) ≡ outs c p = λ c i. (posted_same c p.deeds d (no_post c) i, posting c p.stage) in
@@ -138,7 +138,7 @@ module _ {B : Type 0} (items : B → List Token) where
     told v p q one two = cc (one, two)
 
     pub looks_to : (bundle : Bundle) (id b : ℕ) (v : View) (p : Part) → v.parts ≡ p ∷ [] → Sits v → p.stage ≡ Idle → b < n
-        → Allows (Kept items n start) 256 id (v, []) (16 * p.element + b) (λ x. x) (looked_to bundle (step 256 (16 * p.element + b) 0 0 none) (v, []))
+        → Allows (Preserved items n start) 256 id (v, []) (16 * p.element + b) (λ x. x) (looked_to bundle (step 256 (16 * p.element + b) 0 0 none) (v, []))
     looks_to bundle id b v p one sits idle lb s r _ at small =
         let e : ℕ = p.element in let k : ℕ = 16 * e + b in let x : ℕ = get_or s.words k 0 in
         let out = spared n start r.part r.owner r.log id v sits (r.seats id v at) in let few : n ≤ 16 = r.few in let deep : length s.homes ≡ 256 = r.deep in
@@ -174,7 +174,7 @@ module _ {B : Type 0} (items : B → List Token) where
         (vacant_or_full x (get_elem? s.homes k) (r.load k) (posted b p.deeds) (taken e (r.part b).deeds) (taking e (r.part b).stage) box)
 
     pub gives_full : (id b : ℕ) (v : View) (p : Part) (x : B) (kept : List Token) → AllTo v.elements b (items x) → v.parts ≡ p ∷ [] → Sits v → p.stage ≡ Posting b → b < n → IsPermutation p.held (items x ++ kept)
-        → Allows (Kept items n start) 256 id (v, (16 * p.element + b, Some x) ∷ []) (16 * p.element + b) (λ _. 1) (λ _. gave items (step 256 (16 * p.element + b) 1 0 none) (v, (16 * p.element + b, Some x) ∷ []) 1)
+        → Allows (Preserved items n start) 256 id (v, (16 * p.element + b, Some x) ∷ []) (16 * p.element + b) (λ _. 1) (λ _. gave items (step 256 (16 * p.element + b) 1 0 none) (v, (16 * p.element + b, Some x) ∷ []) 1)
     gives_full id b v p x kept to one sits stage lb perm s r _ at small =
         let e : ℕ = p.element in let k : ℕ = 16 * e + b in
         let out = spared n start r.part r.owner r.log id v sits (r.seats id v at) in let few : n ≤ 16 = r.few in let deep : length s.homes ≡ 256 = r.deep in let wide : length s.words ≡ 258 = r.wide in
@@ -204,7 +204,7 @@ module _ {B : Type 0} (items : B → List Token) where
         )
 
     pub looks_from : (id a : ℕ) (v : View) (p : Part) → v.parts ≡ p ∷ [] → Sits v → p.stage ≡ Idle → a < n
-        → Allows (Kept items n start) 256 id (v, []) (16 * a + p.element) (λ x. x) (looked_from items (step 256 (16 * a + p.element) 0 0 none) (v, []))
+        → Allows (Preserved items n start) 256 id (v, []) (16 * a + p.element) (λ x. x) (looked_from items (step 256 (16 * a + p.element) 0 0 none) (v, []))
     looks_from id a v p one sits idle la s r _ at small =
         let e : ℕ = p.element in let k : ℕ = 16 * a + e in let n0 : ℕ = get_or s.words k 0 in
         let out = spared n start r.part r.owner r.log id v sits (r.seats id v at) in let few : n ≤ 16 = r.few in let deep : length s.homes ≡ 256 = r.deep in let wide : length s.words ≡ 258 = r.wide in
@@ -248,7 +248,7 @@ module _ {B : Type 0} (items : B → List Token) where
     in_hand m h l ps ts false x box = (refl, box.1, box.2)
 
     pub gives_empty : (id a : ℕ) (v : View) (p : Part) (y : Bundle) → v.parts ≡ p ∷ [] → Sits v → p.stage ≡ Taking a y → a < n
-        → Allows (Kept items n start) 256 id (v, (16 * a + p.element, None) ∷ []) (16 * a + p.element) (λ _. 0) (λ _. gave_back (step 256 (16 * a + p.element) 0 0 none) (v, (16 * a + p.element, None) ∷ []) 0)
+        → Allows (Preserved items n start) 256 id (v, (16 * a + p.element, None) ∷ []) (16 * a + p.element) (λ _. 0) (λ _. gave_back (step 256 (16 * a + p.element) 0 0 none) (v, (16 * a + p.element, None) ∷ []) 0)
     gives_empty id a v p y one sits stage la s r _ at small =
         let e : ℕ = p.element in let k : ℕ = 16 * a + e in
         let out = spared n start r.part r.owner r.log id v sits (r.seats id v at) in let few : n ≤ 16 = r.few in let deep : length s.homes ≡ 256 = r.deep in let wide : length s.words ≡ 258 = r.wide in

@@ -5,7 +5,7 @@ use native.Mathlib.Decide.{ℕ_discrete}
 use Rattle.std.proofs.lemmas.List.{append-nil}
 use Rattle.mesh.specs.declared.view.Deed.{Deed}
 use Rattle.mesh.specs.declared.view.Deed.TheVariants.{Posted, Took, Stopped, SawStop}
-use Rattle.mesh.specs.Deeds.{Bundle, posts, posted, takes_from, taken, commits_in, commits_of, commits_by, if_by, created, made_in, wins, wins_in, says, Says, tells_reason, knows_reason}
+use Rattle.mesh.specs.Deeds.{Bundle, posts, posted, takes_from, taken, commits_in, commits_of, commits_by, if_by, created, made_in, wins, wins_in, says, Says, gives_reason, knows_reason}
 use Rattle.mesh.specs.declared.view.Commit.{Commit}
 
 pub posted_more : (b : ℕ) (ds : List Deed) (d : Deed) → posted b (ds ++ d ∷ []) ≡ posted b ds ++ posts b d
@@ -63,10 +63,10 @@ says_more word [] d all this = (this, tt)
 says_more word (x ∷ ds) d all this = (all.0, says_more word ds d all.1 this)
 
 -- who tells of a reason knows a word that is not 0
-knows_one : (word : ℕ) (d : Deed) → says word d → tells_reason d ≡ true → word ≢ 0
+knows_one : (word : ℕ) (d : Deed) → says word d → gives_reason d ≡ true → word ≢ 0
 knows_one word (Stopped r f) s t z = dite (ℕ_discrete f 0) (λ hit. s.0 (sym (s.1 hit) ∙ z)) (λ miss. miss (sym (s.2 miss) ∙ z))
 knows_one word (SawStop f) s t z = dite (ℕ_discrete f 0)
-    (λ hit. let not_told : tells_reason (SawStop f) ≡ false = rw (eq-eqb f 0 hit) in cc (t, not_told)) (λ miss. miss (sym (s miss) ∙ z))
+    (λ hit. let not_told : gives_reason (SawStop f) ≡ false = rw (eq-eqb f 0 hit) in cc (t, not_told)) (λ miss. miss (sym (s miss) ∙ z))
 knows_one word (Deed.Committed a b) s t z = cc (t)
 knows_one word (Posted a b) s t z = cc (t)
 knows_one word (Deed.FoundFull a b) s t z = cc (t)
@@ -80,7 +80,7 @@ either_true false b e = inr e
 
 knows_some : (word : ℕ) (ds : List Deed) → Says word ds → knows_reason ds ≡ true → word ≢ 0
 knows_some word [] s t = absurd (cc (t))
-knows_some word (d ∷ ds) s t = ⊎_elim (λ here. knows_one word d s.0 here) (λ later. knows_some word ds s.1 later) (either_true (tells_reason d) (knows_reason ds) t)
+knows_some word (d ∷ ds) s t = ⊎_elim (λ here. knows_one word d s.0 here) (λ later. knows_some word ds s.1 later) (either_true (gives_reason d) (knows_reason ds) t)
 
 -- what is true of more deeds is true of the first
 says_less : (word : ℕ) (ds more : List Deed) → Says word (ds ++ more) → Says word ds

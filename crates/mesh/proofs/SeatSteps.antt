@@ -22,7 +22,7 @@ use Rattle.mesh.specs.declared.view.Commit.{Commit}
 use Rattle.mesh.specs.declared.view.Part.{Part}
 use Rattle.mesh.specs.declared.view.View.{View}
 use Rattle.mesh.specs.Deeds.{Bundle, posted, taken, posting, taking, commits_of, commits_by, wins, Says}
-use Rattle.mesh.specs.Rule.{Fits, BoxIs, Kept, Past, Stops, Sits, gather, total, held_by, wins_by, fresh, first_view, rest_view, next_view, spent_view, both_views, longer, part_wins}
+use Rattle.mesh.specs.Rule.{Fits, BoxIs, Preserved, Past, Stops, Sits, gather, total, held_by, wins_by, fresh, first_view, rest_view, next_view, spent_view, both_views, longer, part_wins}
 use Rattle.mesh.specs.Deeds.{Busy, entry}
 use Rattle.mesh.specs.Plays.{settled}
 use Rattle.mesh.proofs.Deeds.{by_append}
@@ -142,7 +142,7 @@ dealt n (t ∷ ts) h =
     (IsPermutation-trans (t ∷ ts) (t ∷ gather n f) (gather n (put f e (t ∷ f e))) a (IsPermutation-trans (t ∷ gather n f) (t ∷ (f e ++ gather n (put f e []))) (gather n (put f e (t ∷ f e))) b (IsPermutation-sym _ _ c)))
 
 module _ {B : Type 0} (items : B → Ts) (n : ℕ) (start : Ts) where
-  pub opens : (w h : ℕ) → w ≡ 258 → h ≡ 256 → 0 < n → n ≤ 16 → length start ≤ 2 ^ 40 → Kept items n start (opening (set (replicate w 0) 256 (length start)) (replicate h None) (first_view n start))
+  pub opens : (w h : ℕ) → w ≡ 258 → h ≡ 256 → 0 < n → n ≤ 16 → length start ≤ 2 ^ 40 → Preserved items n start (opening (set (replicate w 0) 256 (length start)) (replicate h None) (first_view n start))
   opens w h wide deep some_element few brief = record {
     part = fresh n start;
     owner = λ _. 0;
@@ -188,7 +188,7 @@ module _ {B : Type 0} (items : B → Ts) (n : ℕ) (start : Ts) where
       first_seat (suc id) v at = absurd (some-ne-none v (sym at))
 
   -- the seat that gives out parts has none itself
-  pub splits : (id : ℕ) (v : View) → v.parts ≡ [] → 0 < v.elements → v.spare < v.elements → Splits (Kept items n start) id v (rest_view v) (next_view v)
+  pub splits : (id : ℕ) (v : View) → v.parts ≡ [] → 0 < v.elements → v.spare < v.elements → Splits (Preserved items n start) id v (rest_view v) (next_view v)
   splits id v bare some_view more s r at = record {
     part = r.part;
     owner = owner';
@@ -304,7 +304,7 @@ module _ {B : Type 0} (items : B → Ts) (n : ℕ) (start : Ts) where
       go (yes x) = absurd (h x)
       go (no _) = refl
 
-  pub joins : (id : ℕ) (v : View) (other : ℕ) (w : View) → Sits v → Sits w → Joins (Kept items n start) id v other w (both_views v w) spent_view
+  pub joins : (id : ℕ) (v : View) (other : ℕ) (w : View) → Sits v → Sits w → Joins (Preserved items n start) id v other w (both_views v w) spent_view
   joins id v other w sits sits' s r at apart there = record {
     part = r.part;
     owner = owner';
@@ -381,7 +381,7 @@ module _ {B : Type 0} (items : B → Ts) (n : ℕ) (start : Ts) where
   begins m h l ps ts false (Some x) box = (x ∷ [], sym box.1)
   begins m h l ps ts false None box = ⊎_elim (λ t. ([], append-nil ts ∙ sym t.1)) (λ t. (items t.0 ∷ [], sym t.2)) box
 
-  pub settles : (slots id : ℕ) (v : View) (c : List (ℕ × Option B)) (st : Step (Option B)) → Sits v → Allows (Kept items n start) slots id (v, c) 256 (λ x. x) (settled st (v, c))
+  pub settles : (slots id : ℕ) (v : View) (c : List (ℕ × Option B)) (st : Step (Option B)) → Sits v → Allows (Preserved items n start) slots id (v, c) 256 (λ x. x) (settled st (v, c))
   settles slots id v c st sits s r _ at below =
       let x : ℕ = get_or s.words 256 0 in let ok = r.seats id v at in let about = ok.about sits.0 in let pre = ok.seen in
       let wide : length s.words ≡ 258 = r.wide in let old = r.past in

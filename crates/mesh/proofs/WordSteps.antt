@@ -22,7 +22,7 @@ use Rattle.mesh.specs.declared.view.Deed.TheVariants.{Committed, SawLive, Stoppe
 use Rattle.mesh.specs.declared.view.Part.{Part}
 use Rattle.mesh.specs.declared.view.View.{View}
 use Rattle.mesh.specs.Deeds.{posting, taking, commit, commits_of, commits_in, commits_by, if_by, created, made_in, wins, wins_in, says, Says}
-use Rattle.mesh.specs.Rule.{Kept, Past, Stops, Leaves, Sits, gather, total, held_by, created_by, wins_by, noted, after_commit, with_seen, with_part}
+use Rattle.mesh.specs.Rule.{Preserved, Past, Stops, Leaves, Sits, gather, total, held_by, created_by, wins_by, noted, after_commit, with_seen, with_part}
 use Rattle.mesh.specs.Deeds.{Busy, entry}
 use Rattle.mesh.specs.Plays.{committed, saw_live, tried_stop, saw_stop}
 use Rattle.mesh.proofs.Deeds.{posted_same, taken_same, commits_same, commits_more, created_more, wins_more, says_more, by_more}
@@ -152,11 +152,11 @@ module _ (n : ℕ) (start : Ts) (part : ℕ → Part) (load : ℕ → Ts) (log :
 
 module _ {B : Type 0} (items : B → Ts) (n : ℕ) (start : Ts) where
   -- a step on the live word or the stop word
-  pub word_step : (s : State (Option B) View) (r : Kept items n start s) (id i x : ℕ) (v : View) (p p' : Part) (seen log' : List Commit) → get_elem? s.views id ≡ some v → v.parts ≡ p ∷ [] → n ≤ v.spare → 256 ≤ i
+  pub word_step : (s : State (Option B) View) (r : Preserved items n start s) (id i x : ℕ) (v : View) (p p' : Part) (seen log' : List Commit) → get_elem? s.views id ≡ some v → v.parts ≡ p ∷ [] → n ≤ v.spare → 256 ≤ i
       → p'.element ≡ p.element → ((c : ℕ) → outs c p' ≡ outs c p) → ((c : ℕ) → ins c p' ≡ ins c p) → IsPrefix seen log' → commits_by p.element seen ≡ commits_by p.element log' → IsPrefix r.log log'
       → ((y : ℕ) → y ≢ p.element → commits_by y log' ≡ commits_by y r.log) → IsPrefix p'.last log'
       → Past n start (put r.part p.element p') r.load log' (get_or (set s.words i x) 256 0) → Stops n (put r.part p.element p') (get_or (set s.words i x) 257 0)
-      → Kept items n start record { words = set s.words i x; homes = s.homes; views = set s.views id (record v { parts = p' ∷ []; seen = seen }) }
+      → Preserved items n start record { words = set s.words i x; homes = s.homes; views = set s.views id (record v { parts = p' ∷ []; seen = seen }) }
   word_step s r id i x v p p' seen log' at one out far same os is pre all_mine grows others last past stops =
       let e : ℕ = p.element in
       let mine = (r.seats id v at).parts 0 p (ap (λ ps. get_elem? ps 0) one) in
@@ -191,7 +191,7 @@ module _ {B : Type 0} (items : B → Ts) (n : ℕ) (start : Ts) where
   )
 
   -- a step on the stop word leaves the past
-  past_stop : (s : State (Option B) View) (r : Kept items n start s) (e : ℕ) → e < n → (p' : Part) (d : Deed) (x : ℕ) → ((k : ℕ) → commits_in k d ≡ []) → made_in d ≡ 0 → p'.held ≡ (r.part e).held → p'.deeds ≡ (r.part e).deeds ++ d ∷ []
+  past_stop : (s : State (Option B) View) (r : Preserved items n start s) (e : ℕ) → e < n → (p' : Part) (d : Deed) (x : ℕ) → ((k : ℕ) → commits_in k d ≡ []) → made_in d ≡ 0 → p'.held ≡ (r.part e).held → p'.deeds ≡ (r.part e).deeds ++ d ∷ []
       → Past n start (put r.part e p') r.load r.log (get_or (set s.words 257 x) 256 0)
   past_stop s r e le p' d x no_commit no_made kept is =
       past_quiet n start r.part r.load r.log (get_or s.words 256 0) e le (get_or (set s.words 257 x) 256 0) p' (get_or-set_other s.words 257 256 x 0 (λ h. absurd (omega arith)))
@@ -215,7 +215,7 @@ module _ {B : Type 0} (items : B → Ts) (n : ℕ) (start : Ts) where
 
   module _ (slots id : ℕ) (v : View) (c : List (ℕ × Option B)) (p : Part) (one : v.parts ≡ p ∷ []) (sits : Sits v) where
     pub commits : (st : Step (Option B)) (spent made kept : Ts) (f : ℕ → ℕ) → 0 < length spent → All (λ (t : Token). element_of v.elements t.to ≡ p.element) spent → created p.deeds + length made ≤ 2 ^ 40 → IsPermutation p.held (spent ++ kept)
-        → ((x : ℕ) → length spent ≤ x → x + length made < 2 ^ 64 → f x + length spent ≡ x + length made) → Allows (Kept items n start) slots id (v, c) 256 f (committed spent made st (v, c))
+        → ((x : ℕ) → length spent ≤ x → x + length made < 2 ^ 64 → f x + length spent ≡ x + length made) → Allows (Preserved items n start) slots id (v, c) 256 f (committed spent made st (v, c))
     commits st spent made kept f any to small perm adds s r _ at below =
         let e : ℕ = p.element in let x : ℕ = get_or s.words 256 0 in
         let ok = r.seats id v at in let mine = ok.parts 0 p (ap (λ ps. get_elem? ps 0) one) in let le : e < n = mine.0 in let about = ok.about sits.0 in
@@ -271,7 +271,7 @@ module _ {B : Type 0} (items : B → Ts) (n : ℕ) (start : Ts) where
                 ∙ (ap wins is ∙ ((let m = wins_more (part e).deeds (Committed spent made) in let eq : wins ((part e).deeds ++ Committed spent made ∷ []) ≡ wins (part e).deeds = omega arith in eq) ∙ ap (wins_by part) (sym hit)))))
                 (λ miss. ap (λ (q : Part). wins q.deeds) (put_else part e p' j miss))
 
-    pub looks_live : (st : Step (Option B)) → Allows (Kept items n start) slots id (v, c) 256 (λ x. x) (saw_live st (v, c))
+    pub looks_live : (st : Step (Option B)) → Allows (Preserved items n start) slots id (v, c) 256 (λ x. x) (saw_live st (v, c))
     looks_live st s r _ at below =
         let e : ℕ = p.element in let x : ℕ = get_or s.words 256 0 in
         let ok = r.seats id v at in let mine = ok.parts 0 p (ap (λ ps. get_elem? ps 0) one) in let le : e < n = mine.0 in let about = ok.about sits.0 in
@@ -290,7 +290,7 @@ module _ {B : Type 0} (items : B → Ts) (n : ℕ) (start : Ts) where
               (pre.0, refl, leaves v (with_seen v p' seen) r.log old.pool x about.0 about.1 pre.1 old.legal (sym old.size) old.busy, subst (λ (z : Part). length z.held ≤ x) mine.2 (holds_some n start r.part r.load r.log x e le old)),
         )
 
-    pub looks_stop : (st : Step (Option B)) → Allows (Kept items n start) slots id (v, c) 257 (λ x. x) (saw_stop st (v, c))
+    pub looks_stop : (st : Step (Option B)) → Allows (Preserved items n start) slots id (v, c) 257 (λ x. x) (saw_stop st (v, c))
     looks_stop st s r _ at below =
         let e : ℕ = p.element in let x : ℕ = get_or s.words 257 0 in
         let ok = r.seats id v at in let mine = ok.parts 0 p (ap (λ ps. get_elem? ps 0) one) in let le : e < n = mine.0 in
@@ -309,14 +309,14 @@ module _ {B : Type 0} (items : B → Ts) (n : ℕ) (start : Ts) where
               subst (λ (z : Part). ◌≡◌ {A = Me (Option B) View} (with_part v p', c) (with_part v (noted z (SawStop x)), c) × Says x (z.deeds ++ SawStop x ∷ [])) same (refl, says_more x p.deeds (SawStop x) known (λ _. refl)),
         )
 
-    pub tries_stop : (reason : ℕ) → reason ≢ 0 → Allows (Kept items n start) slots id (v, c) 257 (λ x. either (x == 0) reason x) (tried_stop (step slots 257 0 reason none) (v, c))
+    pub tries_stop : (reason : ℕ) → reason ≢ 0 → Allows (Preserved items n start) slots id (v, c) 257 (λ x. either (x == 0) reason x) (tried_stop (step slots 257 0 reason none) (v, c))
     tries_stop reason nonzero s r _ at below =
         let e : ℕ = p.element in let x : ℕ = get_or s.words 257 0 in
         let ok = r.seats id v at in let mine = ok.parts 0 p (ap (λ ps. get_elem? ps 0) one) in let le : e < n = mine.0 in
         let out = spared n start r.part r.owner r.log id v sits ok in let wide : length s.words ≡ 258 = r.wide in
         let d : Deed = Stopped reason x in let p' : Part = noted p d in
         let goes : (y : ℕ) → y ≢ 0 → total n (wins_by r.part) + wins_in d ≡ (if y == 0 then 0 else 1) → ((k : ℕ) → k < n → Says y (r.part k).deeds) → says y d
-        → (w : View) × (a : Act (Option B)) × Valid s.homes c a × Kept items n start (stepped s 257 y id c w a) × tried_stop (step slots 257 0 reason none) (v, c) x (w, carried_after c a)
+        → (w : View) × (a : Act (Option B)) × Valid s.homes c a × Preserved items n start (stepped s 257 y id c w a) × tried_stop (step slots 257 0 reason none) (v, c) x (w, carried_after c a)
         = λ y ny once known this. (
           with_part v p',
           keeps,
@@ -330,9 +330,9 @@ module _ {B : Type 0} (items : B → Ts) (n : ℕ) (start : Ts) where
               (refl, (y, ny, says_more y p.deeds d (subst (λ (z : Part). Says y z.deeds) mine.2 (known e le)) this)),
         ) in
         dite (ℕ_discrete x 0)
-        (λ hit. subst (λ (b : Bool). (w : View) × (a : Act (Option B)) × Valid s.homes c a × Kept items n start (stepped s 257 (either b reason x) id c w a) × tried_stop (step slots 257 0 reason none) (v, c) x (w, carried_after c a)) (sym (eq-eqb x 0 hit))
+        (λ hit. subst (λ (b : Bool). (w : View) × (a : Act (Option B)) × Valid s.homes c a × Preserved items n start (stepped s 257 (either b reason x) id c w a) × tried_stop (step slots 257 0 reason none) (v, c) x (w, carried_after c a)) (sym (eq-eqb x 0 hit))
         (goes reason nonzero (let o : total n (wins_by r.part) ≡ (if x == 0 then 0 else 1) = r.stops.once in
         let o' : total n (wins_by r.part) ≡ 0 = o ∙ rw (eq-eqb x 0 hit) in let w' : wins_in d ≡ 1 = rw (eq-eqb x 0 hit) in let both : total n (wins_by r.part) + wins_in d ≡ 1 = omega arith in both ∙ sym (rw (ne_eqb reason 0 nonzero)))
         (λ k lk. says_all_zero reason (r.part k).deeds (subst (λ (z : ℕ). Says z (r.part k).deeds) hit (r.stops.known k lk))) (nonzero, (λ _. refl), λ nz. absurd (nz hit))))
-        (λ miss. subst (λ (b : Bool). (w : View) × (a : Act (Option B)) × Valid s.homes c a × Kept items n start (stepped s 257 (either b reason x) id c w a) × tried_stop (step slots 257 0 reason none) (v, c) x (w, carried_after c a)) (sym (ne_eqb x 0 miss))
+        (λ miss. subst (λ (b : Bool). (w : View) × (a : Act (Option B)) × Valid s.homes c a × Preserved items n start (stepped s 257 (either b reason x) id c w a) × tried_stop (step slots 257 0 reason none) (v, c) x (w, carried_after c a)) (sym (ne_eqb x 0 miss))
         (goes x miss (let o : total n (wins_by r.part) ≡ (if x == 0 then 0 else 1) = r.stops.once in let w' : wins_in d ≡ 0 = rw (ne_eqb x 0 miss) in let both : total n (wins_by r.part) + wins_in d ≡ total n (wins_by r.part) = omega arith in both ∙ o) r.stops.known (nonzero, (λ z. absurd (miss z)), λ _. refl)))

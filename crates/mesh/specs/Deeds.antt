@@ -87,15 +87,15 @@ abbrev pub Says : ℕ → List Deed → Type 0
 Says word [] = Unit {0}
 Says word (d ∷ ds) = says word d × Says word ds
 
-abbrev pub tells_reason : Deed → Bool
-tells_reason (Stopped reason found) = true
-tells_reason (SawStop found) = not (found == 0)
-tells_reason d = false
+abbrev pub gives_reason : Deed → Bool
+gives_reason (Stopped reason found) = true
+gives_reason (SawStop found) = not (found == 0)
+gives_reason d = false
 
 -- it called for a stop, or saw a reason
 abbrev pub knows_reason : List Deed → Bool
 knows_reason [] = false
-knows_reason (d ∷ ds) = tells_reason d || knows_reason ds
+knows_reason (d ∷ ds) = gives_reason d || knows_reason ds
 
 -- a commit as the history of the pool has it
 abbrev pub entry : Commit → pool.Commit

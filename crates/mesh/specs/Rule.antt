@@ -99,7 +99,7 @@ module _ {B : Type 0} (items : B → List Token) where
   BoxAt words homes load part a b =
       BoxIs (slice_index words (16 * a + b)) (get_elem? homes (16 * a + b)) (load (16 * a + b)) (posted b (part a).deeds) (posting b (part a).stage) (taken a (part b).deeds) (taking a (part b).stage)
 
-  pub record Kept (n : ℕ) (start : List Token) (s : State (Option B) View) : Type 0 where
+  pub record Preserved (n : ℕ) (start : List Token) (s : State (Option B) View) : Type 0 where
     pub part : ℕ → Part
     pub owner : ℕ → ℕ
     pub load : ℕ → List Token

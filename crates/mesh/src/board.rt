@@ -25,9 +25,9 @@ pub struct Opening<A: Allocator> {
 pub struct Law;
 
 impl<A: Allocator> TableRule<Option<Vec<Token, A>>, View, Opening<A>> for Law {
-    ghost use Rattle.mesh.specs.Rule.{Kept, first_view};
+    ghost use Rattle.mesh.specs.Rule.{Preserved, first_view};
 
-    ghost holds = { λ k. Kept (λ v. v.items) k.elements k.start.items };
+    ghost holds = { λ k. Preserved (λ v. v.items) k.elements k.start.items };
 
     ghost first = { λ k. first_view k.elements k.start.items };
 }

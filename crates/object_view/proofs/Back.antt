@@ -13,14 +13,14 @@ use Rattle.semantics.specs.declared.opcode.Opcode.{Opcode}
 use Rattle.semantics.specs.declared.opcode.Opcode.TheVariants.{Copy}
 use Rattle.semantics.specs.Versions.{version_number}
 use Rattle.object_view.specs.Fields.{word_at, count_in, inputs_in, outputs_in, slots_in, opcode_in}
-use Rattle.object_view.specs.Reading.{opened, listed, shown, version_in, instrs_below, instr_place, literal_in, literal_or_zero, array_in, instr_as, instr_in, block_in, code_in}
+use Rattle.object_view.specs.Reading.{opened, tabulated, shown, version_in, instrs_below, instr_place, literal_in, literal_or_zero, array_in, instr_as, instr_in, block_in, code_in}
 use Rattle.object_view.specs.Checks.{MAGIC}
 use Rattle.object_view.specs.Sending.{IsAscending}
 use Rattle.object_view.proofs.Numbers.{number_stops, number_goes}
-use Rattle.object_view.proofs.Sound.{version_told}
+use Rattle.object_view.proofs.Sound.{version_parsed}
 use Rattle.object_view.proofs.BackWords.{object_back}
-use Rattle.object_view.proofs.BackInstr.{HasPlace, IsLooked, word_one, word_two, opcode_told, instr_back}
-use Rattle.object_view.proofs.BackLists.{listed_same, IsRead, is_read, all_words_fit, block_there, place_there, entry_back}
+use Rattle.object_view.proofs.BackInstr.{HasPlace, IsLooked, word_one, word_two, opcode_parsed, instr_back}
+use Rattle.object_view.proofs.BackLists.{tabulated_same, IsRead, is_read, all_words_fit, block_there, place_there, entry_back}
 
 -- LITERALS
 pub number_there : (z : ℤ) (ls : List ℤ) (k : ℕ) → IsAscending ls → k < length ls → get_or ls k z ≡ z → number_from 0 z ls ≡ k
@@ -54,7 +54,7 @@ unfolding instr_in
 instr_in_back v c w j is r i ip p one two =
     ap (λ (x : ℕ). shown (instr_as w (unwrap_or (opcode_in x) Copy) x (w (instr_place w ip + 1)))) one
     ∙ ap (λ (y : ℕ). shown (instr_as w (unwrap_or (opcode_in (word_one c i)) Copy) (word_one c i) y)) two
-    ∙ ap (λ (m : Option Opcode). shown (instr_as w (unwrap_or m Copy) (word_one c i) (word_two c i))) (opcode_told v c i p)
+    ∙ ap (λ (m : Option Opcode). shown (instr_as w (unwrap_or m Copy) (word_one c i) (word_two c i))) (opcode_parsed v c i p)
     ∙ instr_back w v c i r.version is.few_literals (looked v c w j is r) p
 
 -- BLOCKS
@@ -72,10 +72,10 @@ block_back v c w j is r k b at =
     let outputs : outputs_in x ≡ b.outputs = ap outputs_in e ∙ p.outputs in
     let slots : slots_in x ≡ b.slots = ap slots_in e ∙ p.slots in
     let count : count_in x ≡ length b.instrs = ap count_in e ∙ p.count in
-    let instrs : listed f (instrs_below w k) (count_in x) ≡ b.instrs =
-    ap (λ (n : ℕ). listed f (instrs_below w k) n) count
-    ∙ listed_same f (instrs_below w k) b.instrs (λ n i there. let rd = r.instr k b at n i there in instr_in_back v c w j is r i (instrs_below w k + n) (place_there v c b n i is ok there) rd.0 rd.1) in
-    let read : List Instr = listed f (instrs_below w k) (count_in x) in
+    let instrs : tabulated f (instrs_below w k) (count_in x) ≡ b.instrs =
+    ap (λ (n : ℕ). tabulated f (instrs_below w k) n) count
+    ∙ tabulated_same f (instrs_below w k) b.instrs (λ n i there. let rd = r.instr k b at n i there in instr_in_back v c w j is r i (instrs_below w k + n) (place_there v c b n i is ok there) rd.0 rd.1) in
+    let read : List Instr = tabulated f (instrs_below w k) (count_in x) in
     ap (λ (a : ℕ). block_made a (outputs_in x) (slots_in x) read) inputs
     ∙ ap (λ (a : ℕ). block_made b.inputs a (slots_in x) read) outputs
     ∙ ap (λ (a : ℕ). block_made b.inputs b.outputs a read) slots
@@ -85,18 +85,19 @@ block_back v c w j is r k b at =
 abbrev code_made : List CodeBlock → List ℕ → ℕ → List ℤ → Code
 code_made blocks arrays main literals = record { program = record { blocks = blocks; arrays = arrays; main = main }; literals = literals }
 
-pub all_listed_back : {X : Type 0} (f : ℕ → X) (n : ℕ) (xs : List X) → n ≡ length xs → ((k : ℕ) (x : X) → slice_get xs k ≡ Some x → f k ≡ x) → listed f 0 n ≡ xs
-all_listed_back f n xs e h = ap (listed f 0) e ∙ listed_same f 0 xs (λ k x at. let z : 0 + k ≡ k = omega arith in ap f z ∙ h k x at)
+pub all_tabulated_back : {X : Type 0} (f : ℕ → X) (n : ℕ) (xs : List X) → n ≡ length xs → ((k : ℕ) (x : X) → slice_get xs k ≡ Some x → f k ≡ x)
+    → tabulated f 0 n ≡ xs
+all_tabulated_back f n xs e h = ap (tabulated f 0) e ∙ tabulated_same f 0 xs (λ k x at. let z : 0 + k ≡ k = omega arith in ap f z ∙ h k x at)
 
 pub code_back : (v : ℕ) (c : Code) (w : ℕ → ℕ) (j : ℕ) → IsCode v c → IsRead v c w j → code_in w ≡ c
 unfolding code_in
 code_back v c w j is r =
-    let blocks = all_listed_back (block_in w) (w 2) c.program.blocks r.blocks (block_back v c w j is r) in
-    let arrays = all_listed_back (array_in w) (w 4) c.program.arrays r.arrays r.array in
-    let literals = all_listed_back (literal_in w) (w 3) c.literals r.literals (literal_back v c w j is r) in
-    ap (λ (a : List CodeBlock). code_made a (listed (array_in w) 0 (w 4)) (w 5) (listed (literal_in w) 0 (w 3))) blocks
-    ∙ ap (λ (a : List ℕ). code_made c.program.blocks a (w 5) (listed (literal_in w) 0 (w 3))) arrays
-    ∙ ap (λ (a : ℕ). code_made c.program.blocks c.program.arrays a (listed (literal_in w) 0 (w 3))) r.main
+    let blocks = all_tabulated_back (block_in w) (w 2) c.program.blocks r.blocks (block_back v c w j is r) in
+    let arrays = all_tabulated_back (array_in w) (w 4) c.program.arrays r.arrays r.array in
+    let literals = all_tabulated_back (literal_in w) (w 3) c.literals r.literals (literal_back v c w j is r) in
+    ap (λ (a : List CodeBlock). code_made a (tabulated (array_in w) 0 (w 4)) (w 5) (tabulated (literal_in w) 0 (w 3))) blocks
+    ∙ ap (λ (a : List ℕ). code_made c.program.blocks a (w 5) (tabulated (literal_in w) 0 (w 3))) arrays
+    ∙ ap (λ (a : ℕ). code_made c.program.blocks c.program.arrays a (tabulated (literal_in w) 0 (w 3))) r.main
     ∙ ap (λ (a : List ℤ). code_made c.program.blocks c.program.arrays c.program.main a) literals
 
 pub object_read : (v : ℕ) (c : Code) → IsCode v c → IsRead v c (word_at (bytes_of v c)) (0 + length (MAGIC ∷ words_of v c))
@@ -109,4 +110,4 @@ reads_back v c is =
     let w = word_at (bytes_of v c) in
     let j = 0 + length (MAGIC ∷ words_of v c) in
     let r = object_read v c is in
-    (ap (λ (n : ℕ). version_number (version_in n)) r.version ∙ sym (version_told v is.version_known), code_back v c w j is r)
+    (ap (λ (n : ℕ). version_number (version_in n)) r.version ∙ sym (version_parsed v is.version_known), code_back v c w j is r)

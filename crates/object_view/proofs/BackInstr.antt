@@ -307,8 +307,8 @@ word_one c i = first_word_of (head_of c.literals i.op).opcode (head_of c.literal
 abbrev pub word_two : Code → Instr → ℕ
 word_two c i = (head_of c.literals i.op).operand + 2 ^ 32 * origin_code i.origin
 
-pub opcode_told : (v : ℕ) (c : Code) (i : Instr) → HasPlace v c i → opcode_in (word_one c i) ≡ Some (opcode_for i.op)
-opcode_told v c i p =
+pub opcode_parsed : (v : ℕ) (c : Code) (i : Instr) → HasPlace v c i → opcode_in (word_one c i) ≡ Some (opcode_for i.op)
+opcode_parsed v c i p =
     let ls = c.literals in
     let parts = first_parts (head_of ls i.op).opcode (head_of ls i.op).flag i.slot (dest_word i.firsts) (dest_word i.seconds) (opcode_few ls i.op) (flag_few ls i.op) p.slot (half_few i.firsts p.firsts) (half_few i.seconds p.seconds) in
     ap (λ (x : ℕ). opcode_of x (word_one c i / 2 ^ 8 % 2 ^ 8)) parts.0 ∙ ap (λ (x : ℕ). opcode_of (head_of ls i.op).opcode x) parts.1 ∙ opcode_back ls i.op
@@ -321,9 +321,9 @@ fault_named w c op look h r =
     let k = (head_of c.literals op).operand in
     ap Opcodes.may_fault (sym (with_back w c op look h r)) ∙ same_fault (opcode_for op) k (literal_or_zero w k)
 
-pub second_told : (w : ℕ → ℕ) (v : ℕ) (c : Code) (i : Instr) → w 1 ≡ v → length c.literals ≤ 65536 → IsLooked w c.literals → HasPlace v c i
+pub second_parsed : (w : ℕ → ℕ) (v : ℕ) (c : Code) (i : Instr) → w 1 ≡ v → length c.literals ≤ 65536 → IsLooked w c.literals → HasPlace v c i
     → (operand_in (version_in (w 1)) (opcode_for i.op) (word_two c i) ≡ (head_of c.literals i.op).operand) × (origin_of (origin_number (version_in (w 1)) (opcode_for i.op) (word_two c i)) ≡ i.origin)
-second_told w v c i e few look p =
+second_parsed w v c i e few look p =
     second_back v (version_in (w 1)) (head_of c.literals i.op).operand i.op (opcode_for i.op) i.origin (ap version_in (sym e)) (operand_few c.literals i.op few p.room) (fault_named w c i.op look p.operand p.room) p.origin
 
 pub instr_back : (w : ℕ → ℕ) (v : ℕ) (c : Code) (i : Instr) → w 1 ≡ v → length c.literals ≤ 65536 → IsLooked w c.literals → HasPlace v c i
@@ -333,7 +333,7 @@ instr_back w v c i e few look p =
     let o = opcode_for i.op in
     let x = word_one c i in
     let y = word_two c i in
-    let second = second_told w v c i e few look p in
+    let second = second_parsed w v c i e few look p in
     let parts = first_parts (head_of ls i.op).opcode (head_of ls i.op).flag i.slot (dest_word i.firsts) (dest_word i.seconds) (opcode_few ls i.op) (flag_few ls i.op) p.slot (half_few i.firsts p.firsts) (half_few i.seconds p.seconds) in
     let k = operand_in (version_in (w 1)) o y in
     let op : with o k (literal_or_zero w k) ≡ i.op = ap (λ (m : ℕ). with o m (literal_or_zero w m)) second.0 ∙ with_back w c i.op look p.operand p.room in

@@ -12,7 +12,7 @@ use Rattle.semantics.specs.declared.program.Op.{Op}
 use Rattle.tags.specs.declared.value.Origin.{Origin}
 use Rattle.tags.specs.declared.value.Origin.TheVariants.{Untold, At}
 use Rattle.object_view.specs.Fields.{count_in, inputs_in, outputs_in, slots_in}
-use Rattle.object_view.specs.Reading.{listed, instrs_below, instr_place, literal_place, array_place, word_count}
+use Rattle.object_view.specs.Reading.{tabulated, instrs_below, instr_place, literal_place, array_place, word_count}
 use Rattle.object_view.specs.Checks.{MAGIC}
 use Rattle.object_view.proofs.ByteWords.{ReadsTo, reads_length}
 use Rattle.object_view.proofs.BackWords.{AreWords, words_append}
@@ -21,13 +21,14 @@ use Rattle.object_view.proofs.Each.{below_next}
 use Rattle.object_view.proofs.Whole.{dests_few, slot_small}
 
 -- LISTS
-pub listed_same : {X : Type 0} (f : ℕ → X) (i : ℕ) (xs : List X) → ((k : ℕ) (x : X) → slice_get xs k ≡ Some x → f (i + k) ≡ x) → listed f i (length xs) ≡ xs
-listed_same f i [] h = refl
-listed_same f i (x ∷ xs) h =
+pub tabulated_same : {X : Type 0} (f : ℕ → X) (i : ℕ) (xs : List X) → ((k : ℕ) (x : X) → slice_get xs k ≡ Some x → f (i + k) ≡ x)
+    → tabulated f i (length xs) ≡ xs
+tabulated_same f i [] h = refl
+tabulated_same f i (x ∷ xs) h =
     let z : i ≡ i + 0 = omega arith in
     let here : f i ≡ x = ap f z ∙ h 0 x refl in
-    let ih = listed_same f (i + 1) xs (λ k y p. let e : i + 1 + k ≡ i + suc k = omega arith in ap f e ∙ h (suc k) y p) in
-    ap (λ y. y ∷ listed f (i + 1) (length xs)) here ∙ ap (λ l. x ∷ l) ih
+    let ih = tabulated_same f (i + 1) xs (λ k y p. let e : i + 1 + k ≡ i + suc k = omega arith in ap f e ∙ h (suc k) y p) in
+    ap (λ y. y ∷ tabulated f (i + 1) (length xs)) here ∙ ap (λ l. x ∷ l) ih
 
 pub reads_past : (w : ℕ → ℕ) (i : ℕ) (xs rest : List ℕ) (j : ℕ) → ReadsTo w i (xs ++ rest) j → ReadsTo w (i + length xs) rest j
 reads_past w i [] rest j r =
@@ -65,9 +66,9 @@ pub words_map : {X : Type 0} (f : X → ℕ) (xs : List X) → ((k : ℕ) (x : X
 words_map f [] h = tt
 words_map f (x ∷ xs) h = (h 0 x refl, words_map f xs (λ k y p. h (suc k) y p))
 
-pub words_listed : (xs : List ℕ) → ((k : ℕ) (x : ℕ) → slice_get xs k ≡ Some x → x < 2 ^ 64) → AreWords xs
-words_listed [] h = tt
-words_listed (x ∷ xs) h = (h 0 x refl, words_listed xs (λ k y p. h (suc k) y p))
+pub words_tabulated : (xs : List ℕ) → ((k : ℕ) (x : ℕ) → slice_get xs k ≡ Some x → x < 2 ^ 64) → AreWords xs
+words_tabulated [] h = tt
+words_tabulated (x ∷ xs) h = (h 0 x refl, words_tabulated xs (λ k y p. h (suc k) y p))
 
 pub words_flat : {X : Type 0} (f : X → List ℕ) (xs : List X) → ((k : ℕ) (x : X) → slice_get xs k ≡ Some x → AreWords (f x)) → AreWords (flat_map f xs)
 words_flat f [] h = tt
@@ -132,7 +133,8 @@ all_words_fit v c is =
     words_flat (λ (b : CodeBlock). flat_map (instr_words c.literals) b.instrs) c.program.blocks (λ k b at. words_flat (instr_words c.literals) b.instrs (λ n i there. instr_fits v c i is (place_there v c b n i is (block_there v c k b is at) there))) in
     let literals : AreWords (map (cast_unsigned w64) c.literals) = words_map (cast_unsigned w64) c.literals (λ k z at. (laws.of_z_fits w64 z (all_at (λ (x : ℤ). FitsSigned w64 x) c.literals k z is.literals at)).fits) in
     let arrays : AreWords c.program.arrays =
-    words_listed c.program.arrays (λ k n at. let few = all_at (λ (m : ℕ). (1 ≤ m) × (m ≤ 65536)) c.program.arrays k n is.arrays at in omega (arith, few.1)) in
+    words_tabulated c.program.arrays (λ k n at. let few =
+    all_at (λ (m : ℕ). (1 ≤ m) × (m ≤ 65536)) c.program.arrays k n is.arrays at in omega (arith, few.1)) in
     let tail = words_append (map block_word c.program.blocks) _ blocks (words_append _ _ instrs (words_append _ c.program.arrays literals arrays)) in
     (version_few v is.version_known, (omega (arith, is.some_block.1), (omega (arith, is.few_literals), (omega (arith, is.few_arrays), (omega (arith, is.main, is.some_block.1), tail)))))
 

@@ -24,16 +24,16 @@ use Rattle.semantics.specs.declared.version.Version.{Version}
 use Rattle.semantics.specs.declared.version.Version.TheVariants.{One, Two}
 use Rattle.object_view.specs.Fields.{word_at, count_in, inputs_in, outputs_in, slots_in, opcode_in, slot_in, dest_of, first_half, second_half, operand_in, origin_number}
 use Rattle.semantics.specs.Opcodes.{makes_faults, may_have, may_go_to, takes_two}
-use Rattle.object_view.specs.Reading.{listed, version_in, instrs_below, instr_place, literal_in, array_in, word_count}
+use Rattle.object_view.specs.Reading.{tabulated, version_in, instrs_below, instr_place, literal_in, array_in, word_count}
 use Rattle.object_view.specs.Checks.{Checked, first_then, unless, each, MAGIC, counts_fit, header_checked, entry_fits, entry_checked, length_checked, tables_checked, cells_below, array_checked, arrays_checked, literal_checked, literals_checked, operand_fits, slot_fits, may_take_right, dest_fits, dests_fit, target_fits, number_checked, opcode_checked, instr_checked_as, instr_checked, block_checked, opening_checked, content_checked, first_refusal}
 use Rattle.object_view.proofs.Each.{passed_first}
 use Rattle.object_view.proofs.Facts.{checked_all, none_refused}
 use Rattle.object_view.proofs.Lawful.{cells_taken, map_same}
 use Rattle.object_view.proofs.BackWords.{length_words}
 use Rattle.semantics.specs.Opcodes.{opcode_for}
-use Rattle.object_view.proofs.BackInstr.{HasHalf, word_one, word_two, opcode_told, second_told, operand_few, half_few, opcode_few, flag_few, first_parts, dest_back, not_zero}
+use Rattle.object_view.proofs.BackInstr.{HasHalf, word_one, word_two, opcode_parsed, second_parsed, operand_few, half_few, opcode_few, flag_few, first_parts, dest_back, not_zero}
 use Rattle.object_view.proofs.BackLists.{IsRead, origin_few, block_there, place_there, entry_back}
-use Rattle.object_view.proofs.Back.{number_there, literal_back, looked, object_read, all_listed_back}
+use Rattle.object_view.proofs.Back.{number_there, literal_back, looked, object_read, all_tabulated_back}
 
 -- CHECKS
 passes : (b : Bool) (e : ObjectFault) → b ≡ true → unless b e ≡ Ok tt
@@ -256,8 +256,8 @@ right_passes w v c j k b is r at m lt dyadic =
     let ok = block_there v c k b is at in
     let e = get_some b.instrs m lt in
     let i = e.0 in
-    let told = ap opcode_in (r.instr k b at m i e.1).0 ∙ opcode_told v c i (place_there v c b m i is ok e.1) in
-    ap may_take_right told ∙ dyadic_named i i.op (ap Bytes.is_dyadic (sym e.1) ∙ dyadic)
+    let parsed = ap opcode_in (r.instr k b at m i e.1).0 ∙ opcode_parsed v c i (place_there v c b m i is ok e.1) in
+    ap may_take_right parsed ∙ dyadic_named i i.op (ap Bytes.is_dyadic (sym e.1) ∙ dyadic)
 
 dest_passes : (w : ℕ → ℕ) (v : ℕ) (c : Code) (j k : ℕ) (b : CodeBlock) (n : ℕ) (ds : List Dest) → IsCode v c → IsRead v c w j → slice_get c.program.blocks k ≡ Some b → HasHalf ds → All (IsDest b n) ds
     → dest_fits w (instrs_below w k + length b.instrs) (instrs_below w k + n) (dest_word ds) ≡ true
@@ -309,7 +309,7 @@ instr_passes w v c j k b n i is r at there =
     let ip = instrs_below w k + n in
     let number = (head_of ls i.op).operand in
     let parts = first_parts (head_of ls i.op).opcode (head_of ls i.op).flag i.slot (dest_word i.firsts) (dest_word i.seconds) (opcode_few ls i.op) (flag_few ls i.op) p.slot (half_few i.firsts p.firsts) (half_few i.seconds p.seconds) in
-    let second = second_told w v c i r.version is.few_literals (looked v c w j is r) p in
+    let second = second_parsed w v c i r.version is.few_literals (looked v c w j is r) p in
     let operand : operand_fits version o y ≡ true =
     operand_passes version i.op number (origin_code i.origin) (operand_few ls i.op is.few_literals p.room) (origin_few v i.op i.origin it.origin) (has_passes c i.op it.operand) second.0 in
     let slot : slot_fits o (slot_in x) b.slots ≡ true = ap (λ (m : ℕ). slot_fits o m b.slots) parts.2 ∙ slot_passes b i i.op it.slot in
@@ -337,7 +337,7 @@ instr_checks w v c j k b n i is r at there =
     let end = instrs_below w k + length b.instrs in
     let ip = instrs_below w k + n in
     let read = r.instr k b at n i there in
-    ap (instr_checked_as w b.slots end ip) (ap opcode_in read.0 ∙ opcode_told v c i p)
+    ap (instr_checked_as w b.slots end ip) (ap opcode_in read.0 ∙ opcode_parsed v c i p)
     ∙ ap (λ (x : ℕ). opcode_checked w b.slots end ip o x (w (instr_place w ip + 1))) read.0
     ∙ ap (λ (y : ℕ). opcode_checked w b.slots end ip o (word_one c i) y) read.1
     ∙ instr_passes w v c j k b n i is r at there
@@ -373,17 +373,17 @@ entry_passes w v c j k b is r at =
     passes (entry_fits (w (6 + k))) BadTable (ap entry_fits (r.entry k b at) ∙ fits)
 
 -- ARRAYS AND LITERALS
-cells_all : (w : ℕ → ℕ) (n : ℕ) → cells_below w n ≡ sum (listed (array_in w) 0 n)
+cells_all : (w : ℕ → ℕ) (n : ℕ) → cells_below w n ≡ sum (tabulated (array_in w) 0 n)
 cells_all w n =
     let s = cells_taken w 0 n in
     let z : 0 + n ≡ n = omega arith in
-    let m = sum-map (λ x. x) (listed (array_in w) 0 n) in
-    let e : sum (listed (array_in w) 0 n) ≡ sum_by (λ x. x) (listed (array_in w) 0 n) = ap sum (sym (map_same (listed (array_in w) 0 n))) ∙ m in
+    let m = sum-map (λ x. x) (tabulated (array_in w) 0 n) in
+    let e : sum (tabulated (array_in w) 0 n) ≡ sum_by (λ x. x) (tabulated (array_in w) 0 n) = ap sum (sym (map_same (tabulated (array_in w) 0 n))) ∙ m in
     omega (arith, s, ap (cells_below w) z, e)
 
 arrays_pass : (w : ℕ → ℕ) (v : ℕ) (c : Code) (j : ℕ) → IsCode v c → IsRead v c w j → arrays_checked w ≡ Ok tt
 arrays_pass w v c j is r =
-    let all = all_listed_back (array_in w) (w 4) c.program.arrays r.arrays r.array in
+    let all = all_tabulated_back (array_in w) (w 4) c.program.arrays r.arrays r.array in
     let cells : cells_below w (w 4) ≡ sum c.program.arrays = cells_all w (w 4) ∙ ap sum all in
     both_pass (each (array_checked w) 0 (w 4)) (unless (nat_le (cells_below w (w 4)) 65536) BadTable)
     (from_zero (array_checked w) (w 4) (λ k lt.

@@ -23,47 +23,48 @@ use Rattle.semantics.specs.declared.opcode.Opcode.TheVariants.{Apply1, Apply2, A
 use Rattle.semantics.specs.Versions.{version_number}
 use Rattle.object_view.specs.Fields.{word_at, count_in, inputs_in, slots_in, opcode_in, first_half, second_half, dest_of, port_of, operand_in, origin_number, origin_of}
 use Rattle.semantics.specs.Opcodes.{with, makes_faults, may_have, may_go_to, goes_left, is_left, takes_two}
-use Rattle.object_view.specs.Reading.{Opened, opened, literal_place, listed, shown, version_in, instrs_below, instr_place, literal_in, literal_or_zero, array_in, instr_as, instr_in, block_in, code_in}
+use Rattle.object_view.specs.Reading.{Opened, opened, literal_place, tabulated, shown, version_in, instrs_below, instr_place, literal_in, literal_or_zero, array_in, instr_as, instr_in, block_in, code_in}
 use Rattle.object_view.specs.Checks.{unless, each, entry_fits, entry_checked, array_checked, arrays_checked, cells_below, slot_fits, may_take_right, dest_fits, target_fits, number_checked, instr_checked_as, instr_checked, block_checked, checked}
 use Rattle.object_view.proofs.Each.{cells_next}
 use Rattle.object_view.proofs.Facts.{unless_ok, first_ok, CountsFit, EntryFits, entry_from}
-use Rattle.object_view.proofs.Listed.{length_listed, get_listed}
+use Rattle.object_view.proofs.Tabulated.{length_tabulated, get_tabulated}
 use Rattle.object_view.proofs.ByteWords.{AllBytes, word_fits}
-use Rattle.object_view.proofs.Sound.{Passed, passed_from, each_at, literals_in, ascending, InstrPassed, instr_passed, version_told, literal_there, same_some}
+use Rattle.object_view.proofs.Sound.{Passed, passed_from, each_at, literals_in, ascending, InstrPassed, instr_passed, version_parsed, literal_there, same_some}
 
 -- LISTS
-at_listed : {X : Type 0} (f : ℕ → X) (n k : ℕ) (d : X) → k < n → get_or (listed f 0 n) k d ≡ f k
-at_listed f n k d lt = get_or_from_slice_get (listed f 0 n) k (f k) d (get_listed f 0 n k k lt (omega arith))
+at_tabulated : {X : Type 0} (f : ℕ → X) (n k : ℕ) (d : X) → k < n → get_or (tabulated f 0 n) k d ≡ f k
+at_tabulated f n k d lt = get_or_from_slice_get (tabulated f 0 n) k (f k) d (get_tabulated f 0 n k k lt (omega arith))
 
-all_listed : {X : Type 0} (P : X → Type 0) (f : ℕ → X) (n : ℕ) → ((k : ℕ) → k < n → P (f k)) → All P (listed f 0 n)
-all_listed P f n h = λ k d lt.
-    let small : k < n = subst (λ m. k < m) (length_listed f 0 n) lt in
-    subst P (sym (at_listed f n k d small)) (h k small)
+all_tabulated : {X : Type 0} (P : X → Type 0) (f : ℕ → X) (n : ℕ) → ((k : ℕ) → k < n → P (f k)) → All P (tabulated f 0 n)
+all_tabulated P f n h = λ k d lt.
+    let small : k < n = subst (λ m. k < m) (length_tabulated f 0 n) lt in
+    subst P (sym (at_tabulated f n k d small)) (h k small)
 
-there_listed : {X : Type 0} (f : ℕ → X) (n k : ℕ) → k < n → Contains (listed f 0 n) (f k)
-there_listed f n k lt = (k, subst (λ m. k < m) (sym (length_listed f 0 n)) lt, at_listed f n k (f k) lt)
+there_tabulated : {X : Type 0} (f : ℕ → X) (n k : ℕ) → k < n → Contains (tabulated f 0 n) (f k)
+there_tabulated f n k lt = (k, subst (λ m. k < m) (sym (length_tabulated f 0 n)) lt, at_tabulated f n k (f k) lt)
 
 pub map_same : (xs : List ℕ) → map (λ x. x) xs ≡ xs
 map_same [] = refl
 map_same (x ∷ xs) = ap (λ (l : List ℕ). x ∷ l) (map_same xs)
 
-pub cells_taken : (w : ℕ → ℕ) (i n : ℕ) → cells_below w i + sum_by (λ x. x) (listed (array_in w) i n) ≡ cells_below w (i + n)
+pub cells_taken : (w : ℕ → ℕ) (i n : ℕ) → cells_below w i + sum_by (λ x. x) (tabulated (array_in w) i n) ≡ cells_below w (i + n)
 cells_taken w i zero =
     let same : i + zero ≡ i = omega arith in
     rw same (omega arith)
 cells_taken w i (suc n) =
     let rest = cells_taken w (i + 1) n in
     let all : i + 1 + n ≡ i + suc n = omega arith in
-    omega (arith, rest, cells_next w i, sum_by-cons (λ x. x) (array_in w i) (listed (array_in w) (i + 1) n), ap (cells_below w) all)
+    omega (arith, rest, cells_next w i, sum_by-cons (λ x. x) (array_in w i) (tabulated (array_in w) (i + 1) n), ap (cells_below w) all)
 
-cells_few : (w : ℕ → ℕ) → arrays_checked w ≡ Ok tt → sum (listed (array_in w) 0 (w 4)) ≤ 65536
+cells_few : (w : ℕ → ℕ) → arrays_checked w ≡ Ok tt → sum (tabulated (array_in w) 0 (w 4)) ≤ 65536
 cells_few w h =
     let a = first_ok (each (array_checked w) 0 (w 4)) (unless (nat_le (cells_below w (w 4)) 65536) BadTable) h in
     let few = leb-true _ _ (unless_ok (nat_le (cells_below w (w 4)) 65536) BadTable a.1) in
     let s = cells_taken w 0 (w 4) in
     let z : 0 + w 4 ≡ w 4 = omega arith in
-    let m = sum-map (λ x. x) (listed (array_in w) 0 (w 4)) in
-    let e : sum (listed (array_in w) 0 (w 4)) ≡ sum_by (λ x. x) (listed (array_in w) 0 (w 4)) = ap sum (sym (map_same (listed (array_in w) 0 (w 4)))) ∙ m in
+    let m = sum-map (λ x. x) (tabulated (array_in w) 0 (w 4)) in
+    let e : sum (tabulated (array_in w) 0 (w 4)) ≡ sum_by (λ x. x) (tabulated (array_in w) 0 (w 4)) =
+    ap sum (sym (map_same (tabulated (array_in w) 0 (w 4)))) ∙ m in
     omega (arith, few, s, ap (cells_below w) z, e)
 
 arrays_fit : (w : ℕ → ℕ) (k : ℕ) → arrays_checked w ≡ Ok tt → k < w 4 → (1 ≤ array_in w k) × (array_in w k ≤ 65536)
@@ -84,13 +85,13 @@ cast_fits n h = go (nat_lt n (2 ^ 63)) refl
 lit_there : (w : ℕ → ℕ) (k : ℕ) → unless (nat_lt k (w 3)) BadLiteral ≡ Ok tt → Contains (literals_in w) (literal_or_zero w k)
 lit_there w k h =
     let t = unless_ok (nat_lt k (w 3)) BadLiteral h in
-    subst (λ z. Contains (literals_in w) z) (sym (literal_there w k t)) (there_listed (literal_in w) (w 3) k (ltb-true _ _ t))
+    subst (λ z. Contains (literals_in w) z) (sym (literal_there w k t)) (there_tabulated (literal_in w) (w 3) k (ltb-true _ _ t))
 
-blocks_long : (w : ℕ → ℕ) → length (listed (block_in w) 0 (w 2)) ≡ w 2
-blocks_long w = length_listed (block_in w) 0 (w 2)
+blocks_long : (w : ℕ → ℕ) → length (tabulated (block_in w) 0 (w 2)) ≡ w 2
+blocks_long w = length_tabulated (block_in w) 0 (w 2)
 
-array_there : (w : ℕ → ℕ) (k : ℕ) → w 4 ≤ 64 → unless (nat_lt k (w 4)) BadTable ≡ Ok tt → k % 256 < length (listed (array_in w) 0 (w 4))
-array_there w k few h = omega (arith, ltb-true _ _ (unless_ok (nat_lt k (w 4)) BadTable h), length_listed (array_in w) 0 (w 4))
+array_there : (w : ℕ → ℕ) (k : ℕ) → w 4 ≤ 64 → unless (nat_lt k (w 4)) BadTable ≡ Ok tt → k % 256 < length (tabulated (array_in w) 0 (w 4))
+array_there w k few h = omega (arith, ltb-true _ _ (unless_ok (nat_lt k (w 4)) BadTable h), length_tabulated (array_in w) 0 (w 4))
 
 bound_there : (k : ℕ) → (nat_le 2 k && nat_le k 64) ≡ true → (2 ≤ k % 256) × (k % 256 ≤ 64)
 bound_there k h =
@@ -115,7 +116,7 @@ operand_there w Send k c m t n =
     let a = and_parts _ _ t in
     let lt = ltb-true (k / 2 ^ 16) (w 2) a.0 in
     let e : k / 65536 % 65536 ≡ k / 2 ^ 16 = omega (arith, lt, c.few_blocks) in
-    (block_in w (k / 2 ^ 16), ap (slice_get (listed (block_in w) 0 (w 2))) e ∙ get_listed (block_in w) 0 (w 2) (k / 2 ^ 16) (k / 2 ^ 16) lt (omega arith), leb-true (k % 2 ^ 16) (inputs_in (w (6 + k / 2 ^ 16))) a.1)
+    (block_in w (k / 2 ^ 16), ap (slice_get (tabulated (block_in w) 0 (w 2))) e ∙ get_tabulated (block_in w) 0 (w 2) (k / 2 ^ 16) (k / 2 ^ 16) lt (omega arith), leb-true (k % 2 ^ 16) (inputs_in (w (6 + k / 2 ^ 16))) a.1)
 operand_there w Return k c m t n = omega (arith, leb-true k 255 t)
 operand_there w Ask k c m t n = omega (arith, leb-true k 255 t)
 operand_there w Open k c m t n = bound_there k m
@@ -150,12 +151,12 @@ origin_there : (v : Version) (o : Opcode) (k : ℕ) (z : ℤ) (y : ℕ) → IsOr
 origin_there One o k z y = tt
 origin_there Two o k z y = go (makes_faults o) refl
   where
-    told : (n : ℕ) → makes_faults o ≡ true → (t : Bool) → IsOrigin 2 (with o k z) (if t then Untold else At ((n - 1) / 1024 % 256) ((n - 1) % 1024))
-    told n e true = tt
-    told n e false = (refl, same_fault o k z ∙ e, omega arith, omega arith)
+    parsed : (n : ℕ) → makes_faults o ≡ true → (t : Bool) → IsOrigin 2 (with o k z) (if t then Untold else At ((n - 1) / 1024 % 256) ((n - 1) % 1024))
+    parsed n e true = tt
+    parsed n e false = (refl, same_fault o k z ∙ e, omega arith, omega arith)
 
     go : (t : Bool) → makes_faults o ≡ t → IsOrigin 2 (with o k z) (origin_of (if t then y / 2 ^ 32 else 0))
-    go true e = told (y / 2 ^ 32) e (y / 2 ^ 32 == 0)
+    go true e = parsed (y / 2 ^ 32) e (y / 2 ^ 32 == 0)
     go false e = tt
 
 slot_there : (o : Opcode) (k : ℕ) (z : ℤ) (c : CodeBlock) (i : Instr) → slot_fits o i.slot c.slots ≡ true → IsSlot c i (slot_of i (with o k z))
@@ -290,12 +291,12 @@ dest_there w b n h ok fits = go (h % 2 ^ 15 == 0) refl fits
     go true e q = λ k d lt. absurd (omega arith)
     go false e q =
         let a = and_parts (nat_lt (first + n + h % 2 ^ 15) (first + count)) (h / 2 ^ 15 == 0 || may_take_right (opcode_in (w (instr_place w (first + n + h % 2 ^ 15))))) q in
-        let len = length_listed (λ ip. shown (instr_in w ip)) (instrs_below w b) (count_in (w (6 + b))) in
+        let len = length_tabulated (λ ip. shown (instr_in w ip)) (instrs_below w b) (count_in (w (6 + b))) in
         let lt = ltb-true (instrs_below w b + n + h % 2 ^ 15) (instrs_below w b + count_in (w (6 + b))) a.0 in
         let small : n + h % 2 ^ 15 < count_in (w (6 + b)) = omega (arith, lt) in
         let at : instrs_below w b + (n + h % 2 ^ 15) ≡ instrs_below w b + n + h % 2 ^ 15 = omega arith in
         let dest : Dest = record { ahead = h % 2 ^ 15; port = port_of (h / 2 ^ 15) } in
-        let there = get_listed (λ ip. shown (instr_in w ip)) (instrs_below w b) (count_in (w (6 + b))) (n + h % 2 ^ 15) (instrs_below w b + n + h % 2 ^ 15) small at in
+        let there = get_tabulated (λ ip. shown (instr_in w ip)) (instrs_below w b) (count_in (w (6 + b))) (n + h % 2 ^ 15) (instrs_below w b + n + h % 2 ^ 15) small at in
         let passed = ap (instr_checked w (slots_in (w (6 + b))) (instrs_below w b + count_in (w (6 + b)))) (sym at) ∙ each_at (instr_checked w (slots_in (w (6 + b))) (instrs_below w b + count_in (w (6 + b)))) (instrs_below w b) (count_in (w (6 + b))) (n + h % 2 ^ 15) ok small in
         let is : IsDest (block_in w b) n dest =
         record {
@@ -333,16 +334,16 @@ block_lawful w b c e ok =
     let f = λ (ip : ℕ). shown (instr_in w ip) in
     let first = instrs_below w b in
     let count = count_in (w (6 + b)) in
-    let len = length_listed (λ ip. shown (instr_in w ip)) (instrs_below w b) (count_in (w (6 + b))) in
+    let len = length_tabulated (λ ip. shown (instr_in w ip)) (instrs_below w b) (count_in (w (6 + b))) in
     record {
       inputs = (e.some_input, e.few_inputs);
       outputs = (e.some_output, e.few_outputs);
       size = (omega (arith, len, e.enough), omega (arith, len, e.few));
       slots = e.few_slots;
       instrs = λ n i q.
-          let lt : n < count = subst (λ m. n < m) len (slice_get_within (listed f first count) n i q) in
-          let there = get_listed f first count n (first + n) lt refl in
-          let same : f (first + n) ≡ i = same_some (f (first + n)) i (slice_get (listed f first count) n) there q in
+          let lt : n < count = subst (λ m. n < m) len (slice_get_within (tabulated f first count) n i q) in
+          let there = get_tabulated f first count n (first + n) lt refl in
+          let same : f (first + n) ≡ i = same_some (f (first + n)) i (slice_get (tabulated f first count) n) there q in
           subst (λ (j : Instr). IsInstr (version_number (version_in (w 1))) (code_in w) (block_in w b) n j) same (instr_at_lawful w b n c ok (each_at (instr_checked w (slots_in (w (6 + b))) (first + count)) first count n ok lt));
     }
 
@@ -354,16 +355,16 @@ pub is_code : (n : ℕ) (w : ℕ → ℕ) → Passed n w → ((i : ℕ) → w i 
 unfolding code_in
 is_code n w p few =
     record {
-      version_known = either_version (w 1) _ (version_told (w 1) p.version) p.version;
+      version_known = either_version (w 1) _ (version_parsed (w 1) p.version) p.version;
       some_block = (omega (arith, blocks_long w, p.counts.some_block), omega (arith, blocks_long w, p.counts.few_blocks));
       main = omega (arith, blocks_long w, p.counts.main_there);
-      few_literals = omega (arith, length_listed (literal_in w) 0 (w 3), p.counts.few_literals);
-      literals = all_listed (λ (x : ℤ). FitsSigned w64 x) (literal_in w) (w 3) (λ k lt. cast_fits (w (literal_place w k)) (few (literal_place w k)));
+      few_literals = omega (arith, length_tabulated (literal_in w) 0 (w 3), p.counts.few_literals);
+      literals = all_tabulated (λ (x : ℤ). FitsSigned w64 x) (literal_in w) (w 3) (λ k lt. cast_fits (w (literal_place w k)) (few (literal_place w k)));
       ascend = (ascending w p.literals).steps;
-      few_arrays = omega (arith, length_listed (array_in w) 0 (w 4), p.counts.few_arrays);
-      arrays = all_listed (λ (m : ℕ). (1 ≤ m) × (m ≤ 65536)) (array_in w) (w 4) (λ k lt. arrays_fit w k p.arrays lt);
+      few_arrays = omega (arith, length_tabulated (array_in w) 0 (w 4), p.counts.few_arrays);
+      arrays = all_tabulated (λ (m : ℕ). (1 ≤ m) × (m ≤ 65536)) (array_in w) (w 4) (λ k lt. arrays_fit w k p.arrays lt);
       cells = cells_few w p.arrays;
-      blocks = all_listed (IsCodeBlock (version_number (version_in (w 1))) (code_in w)) (block_in w) (w 2) (λ k lt.
+      blocks = all_tabulated (IsCodeBlock (version_number (version_in (w 1))) (code_in w)) (block_in w) (w 2) (λ k lt.
           let at : 0 + k ≡ k = omega arith in
           block_lawful w k p.counts (entry_from (w (6 + k)) (unless_ok (entry_fits (w (6 + k))) BadTable (ap (entry_checked w) (sym at) ∙ each_at (entry_checked w) 0 (w 2) k p.entries lt))) (ap (block_checked w) (sym at) ∙ each_at (block_checked w) 0 (w 2) k p.blocks lt));
     }

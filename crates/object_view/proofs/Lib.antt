@@ -7,7 +7,7 @@ mod Complete
 mod Each
 mod Facts
 mod Lawful
-mod Listed
+mod Tabulated
 mod Numbers
 mod Passed
 pub mod Places

@@ -18,12 +18,12 @@ use Rattle.semantics.specs.declared.opcode.Opcode.TheVariants.{Apply1, Apply2, A
 use Rattle.semantics.specs.Versions.{version_number}
 use Rattle.object_view.specs.Fields.{word_at, count_in, slots_in, opcode_in, slot_in, first_half, second_half, dest_of, operand_in, origin_number, origin_of}
 use Rattle.semantics.specs.Opcodes.{with, may_have, may_go_to}
-use Rattle.object_view.specs.Reading.{Opened, opened, instr_bytes, listed, shown, version_in, instrs_below, instr_count, instr_place, literal_place, array_place, word_count, literal_in, literal_or_zero, array_in, instr_as, instr_in, block_in, code_in}
+use Rattle.object_view.specs.Reading.{Opened, opened, instr_bytes, tabulated, shown, version_in, instrs_below, instr_count, instr_place, literal_place, array_place, word_count, literal_in, literal_or_zero, array_in, instr_as, instr_in, block_in, code_in}
 use Rattle.object_view.specs.Sending.{IsAscending}
 use Rattle.object_view.specs.Checks.{Checked, first_then, unless, each, MAGIC, counts_fit, header_checked, entry_checked, length_checked, tables_checked, arrays_checked, literal_checked, literals_checked, operand_fits, slot_fits, may_take_right, dest_fits, dests_fit, target_fits, number_checked, opcode_checked, instr_checked_as, instr_checked, block_checked, opening_checked, content_checked, checked}
 use Rattle.object_view.proofs.Each.{below_next}
 use Rattle.object_view.proofs.Facts.{unless_ok, first_ok, CountsFit, counts_from, length_from}
-use Rattle.object_view.proofs.Listed.{length_listed, get_listed}
+use Rattle.object_view.proofs.Tabulated.{length_tabulated, get_tabulated}
 use Rattle.object_view.proofs.Numbers.{number_stops, number_goes}
 use Rattle.object_view.proofs.ByteWords.{first_word, dropped, length_dropped, ReadsTo, reads_append, reads_length, AllBytes, spelled, word_fits}
 use Rattle.object_view.proofs.Spelling.{IsSpelt, numbered, spelt_head, half_spelt, word_split, entry_split, origin_spelt, operand_spelt}
@@ -90,7 +90,7 @@ each_at check i (suc n) (suc k) h lt =
 
 -- LITERALS
 abbrev pub literals_in : (ℕ → ℕ) → List ℤ
-literals_in w = listed (literal_in w) 0 (w 3)
+literals_in w = tabulated (literal_in w) 0 (w 3)
 
 pub same_some : {X : Type 0} (x y : X) (o : Option X) → o ≡ Some x → o ≡ Some y → x ≡ y
 same_some x y o p q = cc
@@ -100,9 +100,9 @@ ascending w h = record { steps = step }
   where
     step : (k : ℕ) (y z : ℤ) → slice_get (literals_in w) k ≡ Some y → slice_get (literals_in w) (k + 1) ≡ Some z → int_lt y z ≡ true
     step k y z p q =
-        let lt : k + 1 < w 3 = subst (λ n. k + 1 < n) (length_listed (literal_in w) 0 (w 3)) (slice_get_within (literals_in w) (k + 1) z q) in
-        let first = same_some (literal_in w k) y (slice_get (literals_in w) k) (get_listed (literal_in w) 0 (w 3) k k (omega (arith, lt)) (omega arith)) p in
-        let second = same_some (literal_in w (k + 1)) z (slice_get (literals_in w) (k + 1)) (get_listed (literal_in w) 0 (w 3) (k + 1) (k + 1) lt (omega arith)) q in
+        let lt : k + 1 < w 3 = subst (λ n. k + 1 < n) (length_tabulated (literal_in w) 0 (w 3)) (slice_get_within (literals_in w) (k + 1) z q) in
+        let first = same_some (literal_in w k) y (slice_get (literals_in w) k) (get_tabulated (literal_in w) 0 (w 3) k k (omega (arith, lt)) (omega arith)) p in
+        let second = same_some (literal_in w (k + 1)) z (slice_get (literals_in w) (k + 1)) (get_tabulated (literal_in w) 0 (w 3) (k + 1) (k + 1) lt (omega arith)) q in
         let at : 0 + k ≡ k = omega arith in
         let ok = unless_ok (int_lt (literal_in w k) (literal_in w (k + 1))) BadLiteral (ap (literal_checked w) (sym at) ∙ each_at (literal_checked w) 0 (w 3 - 1) k h (omega (arith, lt))) in
         ap (λ a. int_lt a z) (sym first) ∙ ap (λ a. int_lt (literal_in w k) a) (sym second) ∙ ok
@@ -110,8 +110,8 @@ ascending w h = record { steps = step }
 least_after : (w : ℕ → ℕ) (k : ℕ) → literals_checked w ≡ Ok tt → k < w 3 → k ≤ number_from 0 (literal_in w k) (literals_in w)
 least_after w zero h lt = omega arith
 least_after w (suc k) h lt =
-    let len = length_listed (literal_in w) 0 (w 3) in
-    let here = get_or_from_slice_get (literals_in w) k (literal_in w k) (pos 0) (get_listed (literal_in w) 0 (w 3) k k (omega arith) (omega arith)) in
+    let len = length_tabulated (literal_in w) 0 (w 3) in
+    let here = get_or_from_slice_get (literals_in w) k (literal_in w k) (pos 0) (get_tabulated (literal_in w) 0 (w 3) k k (omega arith) (omega arith)) in
     let at : 0 + k ≡ k = omega arith in
     let next : k + 1 ≡ suc k = omega arith in
     let ok = unless_ok (int_lt (literal_in w k) (literal_in w (k + 1))) BadLiteral (ap (literal_checked w) (sym at) ∙ each_at (literal_checked w) 0 (w 3 - 1) k h (omega (arith, lt))) in
@@ -120,8 +120,8 @@ least_after w (suc k) h lt =
 
 pub literal_numbered : (w : ℕ → ℕ) (k : ℕ) → literals_checked w ≡ Ok tt → k < w 3 → number_from 0 (literal_in w k) (literals_in w) ≡ k
 literal_numbered w k h lt =
-    let len = length_listed (literal_in w) 0 (w 3) in
-    let here = get_or_from_slice_get (literals_in w) k (literal_in w k) (pos 0) (get_listed (literal_in w) 0 (w 3) k k lt (omega arith)) in
+    let len = length_tabulated (literal_in w) 0 (w 3) in
+    let here = get_or_from_slice_get (literals_in w) k (literal_in w k) (pos 0) (get_tabulated (literal_in w) 0 (w 3) k k lt (omega arith)) in
     let stop = number_stops 0 (literal_in w k) (literals_in w) k (pos 0) (omega (arith, len, lt)) (ap (λ a. int_lt a (literal_in w k)) here ∙ int_lt_itself (literal_in w k)) in
     omega (arith, stop, least_after w k h lt)
 
@@ -234,7 +234,7 @@ instr_spelt w slots end ip c num few h = go (opcode_in (w (instr_place w ip))) r
     go (Some o) e k = words_same w slots end ip o (w (instr_place w ip)) (w (instr_place w ip + 1)) c num (few (instr_place w ip)) e (instr_passed w slots end ip o (w (instr_place w ip)) (w (instr_place w ip + 1)) k)
 
 -- THE PARTS, one after the other
-instrs_read : (w : ℕ → ℕ) (slots end ip n : ℕ) → CountsFit w → IsNumbered w → ((i : ℕ) → w i < 2 ^ 64) → each (instr_checked w slots end) ip n ≡ Ok tt → ReadsTo w (instr_place w ip) (flat_map (instr_words (literals_in w)) (listed (λ j. shown (instr_in w j)) ip n)) (instr_place w (ip + n))
+instrs_read : (w : ℕ → ℕ) (slots end ip n : ℕ) → CountsFit w → IsNumbered w → ((i : ℕ) → w i < 2 ^ 64) → each (instr_checked w slots end) ip n ≡ Ok tt → ReadsTo w (instr_place w ip) (flat_map (instr_words (literals_in w)) (tabulated (λ j. shown (instr_in w j)) ip n)) (instr_place w (ip + n))
 instrs_read w slots end ip zero c num few h = omega arith
 instrs_read w slots end ip (suc n) c num few h =
     let a = first_ok (instr_checked w slots end ip) (each (instr_checked w slots end) (ip + 1) n) h in
@@ -244,9 +244,9 @@ instrs_read w slots end ip (suc n) c num few h =
     subst (λ (ws : List ℕ). ReadsTo w (instr_place w ip) ws (instr_place w (ip + 1))) (sym here) (refl, (refl, next)) in
     let ih = instrs_read w slots end (ip + 1) n c num few a.1 in
     let at : instr_place w (ip + 1 + n) ≡ instr_place w (ip + suc n) = omega arith in
-    reads_append w (instr_place w ip) (instr_words (literals_in w) (shown (instr_in w ip))) (instr_place w (ip + 1)) (flat_map (instr_words (literals_in w)) (listed (λ j. shown (instr_in w j)) (ip + 1) n)) (instr_place w (ip + suc n)) one (subst (λ (k : ℕ). ReadsTo w (instr_place w (ip + 1)) (flat_map (instr_words (literals_in w)) (listed (λ j. shown (instr_in w j)) (ip + 1) n)) k) at ih)
+    reads_append w (instr_place w ip) (instr_words (literals_in w) (shown (instr_in w ip))) (instr_place w (ip + 1)) (flat_map (instr_words (literals_in w)) (tabulated (λ j. shown (instr_in w j)) (ip + 1) n)) (instr_place w (ip + suc n)) one (subst (λ (k : ℕ). ReadsTo w (instr_place w (ip + 1)) (flat_map (instr_words (literals_in w)) (tabulated (λ j. shown (instr_in w j)) (ip + 1) n)) k) at ih)
 
-blocks_read : (w : ℕ → ℕ) (b n : ℕ) → CountsFit w → IsNumbered w → ((i : ℕ) → w i < 2 ^ 64) → each (block_checked w) b n ≡ Ok tt → ReadsTo w (instr_place w (instrs_below w b)) (flat_map (λ (x : CodeBlock). flat_map (instr_words (literals_in w)) x.instrs) (listed (block_in w) b n)) (instr_place w (instrs_below w (b + n)))
+blocks_read : (w : ℕ → ℕ) (b n : ℕ) → CountsFit w → IsNumbered w → ((i : ℕ) → w i < 2 ^ 64) → each (block_checked w) b n ≡ Ok tt → ReadsTo w (instr_place w (instrs_below w b)) (flat_map (λ (x : CodeBlock). flat_map (instr_words (literals_in w)) x.instrs) (tabulated (block_in w) b n)) (instr_place w (instrs_below w (b + n)))
 blocks_read w b zero c num few h =
     let same : b + zero ≡ b = omega arith in
     ap (λ (k : ℕ). instr_place w (instrs_below w k)) (sym same)
@@ -255,32 +255,32 @@ blocks_read w b (suc n) c num few h =
     let here = instrs_read w (slots_in (w (6 + b))) (instrs_below w b + count_in (w (6 + b))) (instrs_below w b) (count_in (w (6 + b))) c num few a.0 in
     let next : instr_place w (instrs_below w b + count_in (w (6 + b))) ≡ instr_place w (instrs_below w (b + 1)) = ap (instr_place w) (sym (below_next w b)) in
     let at : b + 1 + n ≡ b + suc n = omega arith in
-    let ih = subst (λ (k : ℕ). ReadsTo w (instr_place w (instrs_below w (b + 1))) (flat_map (λ (x : CodeBlock). flat_map (instr_words (literals_in w)) x.instrs) (listed (block_in w) (b + 1) n)) (instr_place w (instrs_below w k))) at (blocks_read w (b + 1) n c num few a.1) in
-    reads_append w (instr_place w (instrs_below w b)) (flat_map (instr_words (literals_in w)) (listed (λ j. shown (instr_in w j)) (instrs_below w b) (count_in (w (6 + b))))) (instr_place w (instrs_below w (b + 1))) (flat_map (λ (x : CodeBlock). flat_map (instr_words (literals_in w)) x.instrs) (listed (block_in w) (b + 1) n)) (instr_place w (instrs_below w (b + suc n))) (subst (λ (k : ℕ). ReadsTo w (instr_place w (instrs_below w b)) (flat_map (instr_words (literals_in w)) (listed (λ j. shown (instr_in w j)) (instrs_below w b) (count_in (w (6 + b))))) k) next here) ih
+    let ih = subst (λ (k : ℕ). ReadsTo w (instr_place w (instrs_below w (b + 1))) (flat_map (λ (x : CodeBlock). flat_map (instr_words (literals_in w)) x.instrs) (tabulated (block_in w) (b + 1) n)) (instr_place w (instrs_below w k))) at (blocks_read w (b + 1) n c num few a.1) in
+    reads_append w (instr_place w (instrs_below w b)) (flat_map (instr_words (literals_in w)) (tabulated (λ j. shown (instr_in w j)) (instrs_below w b) (count_in (w (6 + b))))) (instr_place w (instrs_below w (b + 1))) (flat_map (λ (x : CodeBlock). flat_map (instr_words (literals_in w)) x.instrs) (tabulated (block_in w) (b + 1) n)) (instr_place w (instrs_below w (b + suc n))) (subst (λ (k : ℕ). ReadsTo w (instr_place w (instrs_below w b)) (flat_map (instr_words (literals_in w)) (tabulated (λ j. shown (instr_in w j)) (instrs_below w b) (count_in (w (6 + b))))) k) next here) ih
 
-entries_read : (w : ℕ → ℕ) (b n : ℕ) → ((i : ℕ) → w i < 2 ^ 64) → ReadsTo w (6 + b) (map block_word (listed (block_in w) b n)) (6 + (b + n))
+entries_read : (w : ℕ → ℕ) (b n : ℕ) → ((i : ℕ) → w i < 2 ^ 64) → ReadsTo w (6 + b) (map block_word (tabulated (block_in w) b n)) (6 + (b + n))
 entries_read w b zero few = omega arith
 entries_read w b (suc n) few =
-    let len = length_listed (λ ip. shown (instr_in w ip)) (instrs_below w b) (count_in (w (6 + b))) in
+    let len = length_tabulated (λ ip. shown (instr_in w ip)) (instrs_below w b) (count_in (w (6 + b))) in
     let same : w (6 + b) ≡ block_word (block_in w b) = omega (arith, entry_split (w (6 + b)), len) in
     let at : 6 + b + 1 ≡ 6 + (b + 1) = omega arith in
     let to : 6 + (b + 1 + n) ≡ 6 + (b + suc n) = omega arith in
-    (same, subst (λ (k : ℕ). ReadsTo w k (map block_word (listed (block_in w) (b + 1) n)) (6 + (b + suc n))) (sym at) (subst (λ (k : ℕ). ReadsTo w (6 + (b + 1)) (map block_word (listed (block_in w) (b + 1) n)) k) to (entries_read w (b + 1) n few)))
+    (same, subst (λ (k : ℕ). ReadsTo w k (map block_word (tabulated (block_in w) (b + 1) n)) (6 + (b + suc n))) (sym at) (subst (λ (k : ℕ). ReadsTo w (6 + (b + 1)) (map block_word (tabulated (block_in w) (b + 1) n)) k) to (entries_read w (b + 1) n few)))
 
-literals_read : (w : ℕ → ℕ) (i n : ℕ) → ((j : ℕ) → w j < 2 ^ 64) → ReadsTo w (literal_place w i) (map (cast_unsigned w64) (listed (literal_in w) i n)) (literal_place w (i + n))
+literals_read : (w : ℕ → ℕ) (i n : ℕ) → ((j : ℕ) → w j < 2 ^ 64) → ReadsTo w (literal_place w i) (map (cast_unsigned w64) (tabulated (literal_in w) i n)) (literal_place w (i + n))
 literals_read w i zero few = omega arith
 literals_read w i (suc n) few =
     let same : w (literal_place w i) ≡ cast_unsigned w64 (literal_in w i) = sym (of_z-to_z w64 (w (literal_place w i)) (few (literal_place w i))) in
     let at : literal_place w i + 1 ≡ literal_place w (i + 1) = omega arith in
     let to : literal_place w (i + 1 + n) ≡ literal_place w (i + suc n) = omega arith in
-    (same, subst (λ (k : ℕ). ReadsTo w k (map (cast_unsigned w64) (listed (literal_in w) (i + 1) n)) (literal_place w (i + suc n))) (sym at) (subst (λ (k : ℕ). ReadsTo w (literal_place w (i + 1)) (map (cast_unsigned w64) (listed (literal_in w) (i + 1) n)) k) to (literals_read w (i + 1) n few)))
+    (same, subst (λ (k : ℕ). ReadsTo w k (map (cast_unsigned w64) (tabulated (literal_in w) (i + 1) n)) (literal_place w (i + suc n))) (sym at) (subst (λ (k : ℕ). ReadsTo w (literal_place w (i + 1)) (map (cast_unsigned w64) (tabulated (literal_in w) (i + 1) n)) k) to (literals_read w (i + 1) n few)))
 
-arrays_read : (w : ℕ → ℕ) (i n : ℕ) → ReadsTo w (array_place w i) (listed (array_in w) i n) (array_place w (i + n))
+arrays_read : (w : ℕ → ℕ) (i n : ℕ) → ReadsTo w (array_place w i) (tabulated (array_in w) i n) (array_place w (i + n))
 arrays_read w i zero = omega arith
 arrays_read w i (suc n) =
     let at : array_place w i + 1 ≡ array_place w (i + 1) = omega arith in
     let to : array_place w (i + 1 + n) ≡ array_place w (i + suc n) = omega arith in
-    (refl, subst (λ (k : ℕ). ReadsTo w k (listed (array_in w) (i + 1) n) (array_place w (i + suc n))) (sym at) (subst (λ (k : ℕ). ReadsTo w (array_place w (i + 1)) (listed (array_in w) (i + 1) n) k) to (arrays_read w (i + 1) n)))
+    (refl, subst (λ (k : ℕ). ReadsTo w k (tabulated (array_in w) (i + 1) n) (array_place w (i + suc n))) (sym at) (subst (λ (k : ℕ). ReadsTo w (array_place w (i + 1)) (tabulated (array_in w) (i + 1) n) k) to (arrays_read w (i + 1) n)))
 
 to_place : (w : ℕ → ℕ) (i : ℕ) (xs : List ℕ) (j k : ℕ) → j ≡ k → ReadsTo w i xs j → ReadsTo w i xs k
 to_place w i xs j k e r = subst (λ (a : ℕ). ReadsTo w i xs a) e r
@@ -288,18 +288,18 @@ to_place w i xs j k e r = subst (λ (a : ℕ). ReadsTo w i xs a) e r
 from_place : (w : ℕ → ℕ) (i k : ℕ) (xs : List ℕ) (j : ℕ) → i ≡ k → ReadsTo w i xs j → ReadsTo w k xs j
 from_place w i k xs j e r = subst (λ (a : ℕ). ReadsTo w a xs j) e r
 
-pub version_told : (n : ℕ) → (n ≡ 1) ⊎ (n ≡ 2) → n ≡ version_number (version_in n)
-version_told n (inl e) = e ∙ ap (λ k. version_number (version_in k)) (sym e)
-version_told n (inr e) = e ∙ ap (λ k. version_number (version_in k)) (sym e)
+pub version_parsed : (n : ℕ) → (n ≡ 1) ⊎ (n ≡ 2) → n ≡ version_number (version_in n)
+version_parsed n (inl e) = e ∙ ap (λ k. version_number (version_in k)) (sym e)
+version_parsed n (inr e) = e ∙ ap (λ k. version_number (version_in k)) (sym e)
 
 pub words_read : (n : ℕ) (w : ℕ → ℕ) → Passed n w → ((i : ℕ) → w i < 2 ^ 64) → ReadsTo w 0 (MAGIC ∷ words_of (version_number (version_in (w 1))) (code_in w)) (word_count w)
 unfolding code_in
 words_read n w p few =
     let num : IsNumbered w = λ k lt. literal_numbered w k p.literals lt in
-    let blocks : List CodeBlock = listed (block_in w) 0 (w 2) in
+    let blocks : List CodeBlock = tabulated (block_in w) 0 (w 2) in
     let ws : List ℕ = flat_map (λ (x : CodeBlock). flat_map (instr_words (literals_in w)) x.instrs) blocks in
     let ls : List ℕ = map (cast_unsigned w64) (literals_in w) in
-    let lens : List ℕ = listed (array_in w) 0 (w 4) in
+    let lens : List ℕ = tabulated (array_in w) 0 (w 4) in
     let z2 : 0 + w 2 ≡ w 2 = omega arith in
     let all : instrs_below w (0 + w 2) ≡ instr_count w = ap (instrs_below w) z2 in
     let r1 = to_place w 6 (map block_word blocks) (6 + (0 + w 2)) (instr_place w 0) (omega arith) (from_place w (6 + 0) 6 (map block_word blocks) (6 + (0 + w 2)) (omega arith) (entries_read w 0 (w 2) few)) in
@@ -309,7 +309,7 @@ words_read n w p few =
     let r34 = reads_append w (literal_place w 0) ls (array_place w 0) lens (word_count w) r3 r4 in
     let r234 = reads_append w (instr_place w 0) ws (literal_place w 0) (ls ++ lens) (word_count w) r2 r34 in
     let rest = reads_append w 6 (map block_word blocks) (instr_place w 0) (ws ++ (ls ++ lens)) (word_count w) r1 r234 in
-    (p.magic, (version_told (w 1) p.version, (sym (length_listed (block_in w) 0 (w 2)), (sym (length_listed (literal_in w) 0 (w 3)), (sym (length_listed (array_in w) 0 (w 4)), (refl, rest))))))
+    (p.magic, (version_parsed (w 1) p.version, (sym (length_tabulated (block_in w) 0 (w 2)), (sym (length_tabulated (literal_in w) 0 (w 3)), (sym (length_tabulated (array_in w) 0 (w 4)), (refl, rest))))))
 
 -- the bytes are those of the code that they tell
 pub is_spelt : (bytes : List ℕ) → AllBytes bytes → checked bytes ≡ Ok tt → bytes ≡ bytes_of (version_number (version_in (word_at bytes 1))) (code_in (word_at bytes))

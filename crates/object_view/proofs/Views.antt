@@ -2,17 +2,17 @@
 use Rattle.std.proofs.Common.{◌≡◌, ℕ, List, sym, ap}
 use Rattle.semantics.specs.Versions.{version_number}
 use Rattle.object_view.specs.Fields.{word_at}
-use Rattle.object_view.specs.Reading.{Opened, opened, code_in, listed, block_in, array_in, literal_in, version_in}
+use Rattle.object_view.specs.Reading.{Opened, opened, code_in, tabulated, block_in, array_in, literal_in, version_in}
 
-pub blocks_seen : (bytes : List ℕ) (o : Opened) → opened bytes ≡ o → o.code.program.blocks ≡ listed (block_in (word_at bytes)) 0 (word_at bytes 2)
+pub blocks_seen : (bytes : List ℕ) (o : Opened) → opened bytes ≡ o → o.code.program.blocks ≡ tabulated (block_in (word_at bytes)) 0 (word_at bytes 2)
 unfolding opened code_in
 blocks_seen bytes o e = ap (λ (p : Opened). p.code.program.blocks) (sym e)
 
-pub arrays_seen : (bytes : List ℕ) (o : Opened) → opened bytes ≡ o → o.code.program.arrays ≡ listed (array_in (word_at bytes)) 0 (word_at bytes 4)
+pub arrays_seen : (bytes : List ℕ) (o : Opened) → opened bytes ≡ o → o.code.program.arrays ≡ tabulated (array_in (word_at bytes)) 0 (word_at bytes 4)
 unfolding opened code_in
 arrays_seen bytes o e = ap (λ (p : Opened). p.code.program.arrays) (sym e)
 
-pub literals_seen : (bytes : List ℕ) (o : Opened) → opened bytes ≡ o → o.code.literals ≡ listed (literal_in (word_at bytes)) 0 (word_at bytes 3)
+pub literals_seen : (bytes : List ℕ) (o : Opened) → opened bytes ≡ o → o.code.literals ≡ tabulated (literal_in (word_at bytes)) 0 (word_at bytes 3)
 unfolding opened code_in
 literals_seen bytes o e = ap (λ (p : Opened). p.code.literals) (sym e)
 

@@ -15,11 +15,11 @@ use Rattle.object_view.specs.Fields.{word_at, count_in, inputs_in, outputs_in, s
 use Rattle.semantics.specs.Opcodes.{with}
 
 -- what a function gives for numbers in a row, from i on
-abbrev pub listed : {X : Type 0} → (ℕ → X) → ℕ → ℕ → List X
-listed f i zero = []
-listed f i (suc k) = f i ∷ listed f (i + 1) k
+abbrev pub tabulated : {X : Type 0} → (ℕ → X) → ℕ → ℕ → List X
+tabulated f i zero = []
+tabulated f i (suc k) = f i ∷ tabulated f (i + 1) k
 
--- what stands behind an instruction without memory: at most one destination of each kind
+-- what stands after an instruction without memory: at most one destination of each kind
 abbrev pub shown : CodeInstr → Instr
 shown i = record { op = i.op; origin = i.origin; slot = i.slot; firsts = option_to_list i.first; seconds = option_to_list i.second }
 
@@ -80,13 +80,13 @@ block_in w b = record {
   inputs = inputs_in (w (6 + b));
   outputs = outputs_in (w (6 + b));
   slots = slots_in (w (6 + b));
-  instrs = listed (λ ip. shown (instr_in w ip)) (instrs_below w b) (count_in (w (6 + b)));
+  instrs = tabulated (λ ip. shown (instr_in w ip)) (instrs_below w b) (count_in (w (6 + b)));
 }
 
 unfoldable pub code_in : (ℕ → ℕ) → Code
 code_in w = record {
-  program = record { blocks = listed (block_in w) 0 (w 2); arrays = listed (array_in w) 0 (w 4); main = w 5 };
-  literals = listed (literal_in w) 0 (w 3);
+  program = record { blocks = tabulated (block_in w) 0 (w 2); arrays = tabulated (array_in w) 0 (w 4); main = w 5 };
+  literals = tabulated (literal_in w) 0 (w 3);
 }
 
 -- AN OBJECT THAT WAS OPENED: its version, the code, and the bytes

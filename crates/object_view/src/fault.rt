@@ -19,6 +19,6 @@ pub enum ObjectFault {
     BadSlot,
     /// The literals do not ascend, or there is no literal of a number that an instruction names.
     BadLiteral,
-    /// Bytes stand behind the object.
+    /// Bytes stand after the object.
     Trailing,
 }

@@ -281,7 +281,7 @@ fn main_of<A: Allocator>(code: &Code<A>) -> u32
     code.program.main
 }
 
-/// The words of the header behind its mark.
+/// The words of the header after its mark.
 fn counts<A: Allocator>(version: Version, code: &Code<A>) -> [u64; 5]
     ensures { result ≡ version_number version
         ∷ length code.now.program.blocks

@@ -11,7 +11,7 @@ use Rattle.lemmas.proofs.Permutations.{Each, each_append_back}
 use Rattle.oracle.specs.declared.invocations.Made.{Made}
 use Rattle.oracle.specs.declared.invocations.Invocation.{Invocation}
 use Rattle.oracle.specs.declared.deeds.Deed.{Deed}
-use Rattle.oracle.specs.declared.deeds.Deed.TheVariants.{Sends, Tells, Enters, EntersAll, Stops, Reads, Fills, Puts}
+use Rattle.oracle.specs.declared.deeds.Deed.TheVariants.{Sends, Steers, Enters, EntersAll, Stops, Reads, Fills, Puts}
 use Rattle.oracle.specs.declared.report.MeanEnd.TheVariants.{Rest, Clash, Steps}
 use Rattle.oracle.specs.declared.state.Gate.{Gate}
 use Rattle.oracle.specs.declared.state.Gate.TheVariants.{Free, Defers, Clashes as GateClashes}
@@ -20,13 +20,13 @@ use Rattle.oracle.specs.declared.tokens.Token.{Token}
 use Rattle.oracle.specs.Lines.{outputs_at}
 use Rattle.oracle.specs.Sending.{token_at, entering_tokens}
 use Rattle.oracle.specs.Acting.{gate_of, held_in, filled_in}
-use Rattle.oracle.specs.Running.{Plain, plain, main_place, made_from, more_if, with_made, number_in, sent_of, sent_in, told_in, answered, performed}
+use Rattle.oracle.specs.Running.{Plain, plain, main_place, made_from, more_if, with_made, number_in, sent_of, sent_in, steered_in, answered, performed}
 use Rattle.oracle.specs.Meant.{tagged_of}
 use Rattle.oracle.specs.Reporting.{cell_at}
 use Rattle.oracle.specs.Gathering.{Performed, Does, Hits, performed_all}
 use Rattle.oracle.proofs.Clashing.{clash_of}
 use Rattle.oracle.proofs.Filling.{filled_same}
-use Rattle.oracle.proofs.Following.{all_tokens, meant, Follows, PutLow, Ready}
+use Rattle.oracle.proofs.Following.{all_tokens, meant, RunsSoFar, PutLow, Ready}
 use Rattle.oracle.proofs.Gating.{gate_defers}
 use Rattle.oracle.proofs.Performing.{Acted, acts}
 use Rattle.oracle.proofs.SameNames.{StartsWith, state_same}
@@ -38,7 +38,7 @@ ahead held s = plain s.invocations (held ++ s.fresh) s.waiting s.deferred s.cell
 
 behind : (g : Graph) (held : List Token) (s : Plain) (vs : List Value) (d : Deed) → performed g (ahead held s) vs d ≡ ahead held (performed g s vs d)
 behind g held s vs (Sends c n p v) = ap (λ l. plain s.invocations l s.waiting s.deferred s.cells s.outputs) (append_assoc held s.fresh (sent_in g s.invocations (sent_of c v) n p))
-behind g held s vs (Tells c k v) = ap (λ l. plain s.invocations l s.waiting s.deferred s.cells s.outputs) (append_assoc held s.fresh (told_in g s.invocations (sent_of c v) k))
+behind g held s vs (Steers c k v) = ap (λ l. plain s.invocations l s.waiting s.deferred s.cells s.outputs) (append_assoc held s.fresh (steered_in g s.invocations (sent_of c v) k))
 behind g held s vs (Enters made f i v) =
     ap (λ l. plain (with_made s.invocations made f) l s.waiting s.deferred s.cells s.outputs) (append_assoc held s.fresh (token_at (sent_of (number_in s.invocations made) v) (Operand i 0) ∷ []))
 behind g held s vs (EntersAll made f) =
@@ -65,7 +65,7 @@ made_starts xs made block = go (made_from made 0 xs)
 
 starts : (g : Graph) (s : Plain) (vs : List Value) (d : Deed) → StartsWith (performed g s vs d).invocations s.invocations
 starts g s vs (Sends c n p v) = λ i x e. e
-starts g s vs (Tells c k v) = λ i x e. e
+starts g s vs (Steers c k v) = λ i x e. e
 starts g s vs (Enters made f i v) = made_starts s.invocations made f
 starts g s vs (EntersAll made f) = made_starts s.invocations made f
 starts g s vs Stops = λ i x e. e
@@ -95,7 +95,7 @@ filled_can cells x v e can q =
 
 can_later : (g : Graph) (s : Plain) (vs : List Value) (d e : Deed) → CanDo s.cells e → CanDo (performed g s vs d).cells e
 can_later g s vs (Sends c n p v) e can = can
-can_later g s vs (Tells c k v) e can = can
+can_later g s vs (Steers c k v) e can = can
 can_later g s vs (Enters made f i v) e can = can
 can_later g s vs (EntersAll made f) e can = can
 can_later g s vs Stops e can = can
@@ -106,7 +106,7 @@ can_later g s vs (Puts j v) e can = can
 put_of : (g : Graph) (d : Deed) (s : Plain) → length s.outputs ≡ outputs_at g (main_place g) → IsShown g d → PutLow d s
 put_of g (Puts j v) s e h = subst (λ n. j < n) (sym e) h
 put_of g (Sends c n p v) s e h = tt
-put_of g (Tells c n v) s e h = tt
+put_of g (Steers c n v) s e h = tt
 put_of g (Enters m b i v) s e h = tt
 put_of g (EntersAll m b) s e h = tt
 put_of g Stops s e h = tt
@@ -116,7 +116,7 @@ put_of g (Fills c n y a i v) s e h = tt
 -- THE LAW
 module _ (g : Graph) (inputs : List ℤ) where
   abbrev pub IsDone : ℕ → State → List Activity → Performed → Type 0
-  IsDone k old as' (Does t) = (n : ℕ) × (n ≡ k + length as') × (f : Follows g inputs n t) × Run (flow_of g) old as' (meant f.sound.names t)
+  IsDone k old as' (Does t) = (n : ℕ) × (n ≡ k + length as') × (f : RunsSoFar g inputs n t) × Run (flow_of g) old as' (meant f.sound.names t)
   IsDone k old as' (Hits Rest) = ⊥
   IsDone k old as' (Hits (Clash a i)) = (i < array_len (flow_of g) a) × ((t : State) × Leads (flow_of g) old t × Clashes (flow_of g) t (cell_at g a i))
   IsDone k old as' (Hits Steps) = ⊥
@@ -127,7 +127,7 @@ module _ (g : Graph) (inputs : List ℤ) where
   one_more k old mid a as' (Hits (Clash b i)) step h = (h.0, (h.1.0, (a ∷ h.1.1.0, (mid, step, h.1.1.1)), h.1.2))
   one_more k old mid a as' (Hits Steps) step h = h
 
-  module _ (act : List Value × Deed) (acts' : List (List Value × Deed)) (a : Activity) (as' : List Activity) (k : ℕ) (held : List Token) (s : Plain) (f : Follows g inputs k (ahead held s))
+  module _ (act : List Value × Deed) (acts' : List (List Value × Deed)) (a : Activity) (as' : List Activity) (k : ℕ) (held : List Token) (s : Plain) (f : RunsSoFar g inputs k (ahead held s))
       (own rest : List Token) (is : held ≡ own ++ rest) (t : Taking g k f.sound.names (length s.invocations) own act a) (can : CanDo s.cells act.1)
       (more : AreTaking g k f.sound.names (length s.invocations) (CanDo s.cells) rest acts' as') where
     abbrev cs : List Context
@@ -180,7 +180,7 @@ module _ (g : Graph) (inputs : List ℤ) where
         }
 
     abbrev Next : Type 0
-    Next = (k : ℕ) (held : List Token) (s : Plain) (f : Follows g inputs k (ahead held s)) → AreTaking g k f.sound.names (length s.invocations) (CanDo s.cells) held acts' as' → IsDone k (meant f.sound.names (ahead held s)) as' (performed_all g s acts')
+    Next = (k : ℕ) (held : List Token) (s : Plain) (f : RunsSoFar g inputs k (ahead held s)) → AreTaking g k f.sound.names (length s.invocations) (CanDo s.cells) held acts' as' → IsDone k (meant f.sound.names (ahead held s)) as' (performed_all g s acts')
 
     does_it : Next → gate_of s.cells act.1 ≡ Free → IsDone k old (a ∷ as') (performed_all g (performed g s act.0 act.1) acts')
     unfolding ready
@@ -202,10 +202,10 @@ module _ (g : Graph) (inputs : List ℤ) where
         let c = clash_of g cs (length s.invocations) act.0 act.1 s.cells old a (map (tagged_of cs) (all_tokens now)) t.does t.is_known takes refl b i q in
         (c.0, (old, ([], same_refl old), c.1))
 
-  pub done_law : (acts' : List (List Value × Deed)) (as' : List Activity) (k : ℕ) (held : List Token) (s : Plain) (f : Follows g inputs k (ahead held s))
+  pub done_law : (acts' : List (List Value × Deed)) (as' : List Activity) (k : ℕ) (held : List Token) (s : Plain) (f : RunsSoFar g inputs k (ahead held s))
       → AreTaking g k f.sound.names (length s.invocations) (CanDo s.cells) held acts' as' → IsDone k (meant f.sound.names (ahead held s)) as' (performed_all g s acts')
   done_law [] [] k held s f h =
-      let f' : Follows g inputs k s = subst (λ l. Follows g inputs k (ahead l s)) h f in
+      let f' : RunsSoFar g inputs k s = subst (λ l. RunsSoFar g inputs k (ahead l s)) h f in
       let p : IsPermutation (all_tokens (ahead held s)) (all_tokens s) = subst (λ l. IsPermutation (all_tokens (ahead held s)) (all_tokens (ahead l s))) h (IsPermutation-refl _) in
       (k, omega arith, f', state_same g (ahead held s) s f.sound.names f'.sound.names f.sound.named f'.sound.named (λ i x e. e) f.sound.known p refl refl)
   done_law (act ∷ acts') [] k held s f h = absurd h

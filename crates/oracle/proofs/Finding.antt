@@ -11,14 +11,14 @@ use Rattle.lemmas.proofs.Permutations.{each_append_back, each_permutation}
 use Rattle.law_confluence.proofs.OutcomeDeterminacy.{same_sym, same_trans}
 use Rattle.oracle.specs.declared.invocations.Invocation.{Invocation}
 use Rattle.oracle.specs.declared.deeds.Deed.{Deed}
-use Rattle.oracle.specs.declared.deeds.Deed.TheVariants.{Sends, Tells, Enters, EntersAll, Stops, Reads, Fills, Puts}
+use Rattle.oracle.specs.declared.deeds.Deed.TheVariants.{Sends, Steers, Enters, EntersAll, Stops, Reads, Fills, Puts}
 use Rattle.oracle.specs.declared.report.MeanEnd.TheVariants.{Rest, Clash, Steps}
 use Rattle.oracle.specs.declared.state.Gate.{Gate}
 use Rattle.oracle.specs.declared.state.Gate.TheVariants.{Free, Defers, Clashes as GateClashes}
 use Rattle.oracle.specs.declared.tokens.Token.{Token}
 use Rattle.oracle.specs.Lines.{spots_in, outputs_at}
 use Rattle.oracle.specs.Acting.{gate_of}
-use Rattle.oracle.specs.Running.{Plain, plain, Joined, Alone, Joins, Fails, join_in, main_place}
+use Rattle.oracle.specs.Running.{Plain, plain, Matched, Alone, Joins, Fails, join_in, main_place}
 use Rattle.oracle.specs.Meant.{tagged_of, activity_of}
 use Rattle.oracle.specs.Naming.{IsKnown}
 use Rattle.oracle.specs.Agreeing.{zipped}
@@ -27,7 +27,7 @@ use Rattle.oracle.specs.Gathering.{Gathered, Found, Clashed, Failed, gathered}
 use Rattle.oracle.proofs.Acts.{act_law}
 use Rattle.oracle.proofs.Clashing.{clash_of}
 use Rattle.oracle.proofs.Entering.{AreKnown}
-use Rattle.oracle.proofs.Following.{meant, Follows, PutLow, to_waiting, to_deferred, to_taken, to_fresh}
+use Rattle.oracle.proofs.Following.{meant, RunsSoFar, PutLow, to_waiting, to_deferred, to_taken, to_fresh}
 use Rattle.oracle.proofs.Gaining.{gated, joined}
 use Rattle.oracle.proofs.Gating.{gate_defers}
 use Rattle.oracle.proofs.Nexting.{moved, x, made, block, here, others_known, waits, view, join, takes, is_known, left_stuck, left_same, put_low, defers}
@@ -39,21 +39,21 @@ use Rattle.oracle.proofs.SameStates.{clash_same}
 use Rattle.oracle.proofs.ShapeLaws.{own_law, taken_law}
 use Rattle.oracle.proofs.Taking.{IsShown, Taking, AreTaking, taking_more, taking_moved}
 use Rattle.oracle.proofs.Turning.{turn_law}
-use Rattle.oracle.proofs.Views.{IsJoined, never_fails}
+use Rattle.oracle.proofs.Views.{IsMatched, never_fails}
 
--- Activities were found whose tokens are out, and none is done. With these tokens behind the fresh ones the state is that at
+-- Activities were found whose tokens are out, and none is done. With these tokens after the fresh ones the state is that at
 -- the beginning of the wave.
 pub record Gathers (g : Graph) (inputs : List ℤ) (k : ℕ) (old : State) (xs : List Invocation) (cells outputs : List (Option Value)) (ts w d : List Token) (acts : List (List Value × Deed)) : Type 0 where
   pub held : List Token
   pub activities : List Activity
-  pub follows : Follows g inputs k (plain xs (ts ++ held) w d cells outputs)
+  pub follows : RunsSoFar g inputs k (plain xs (ts ++ held) w d cells outputs)
   pub taking : AreTaking g k follows.sound.names (length xs) (λ e. gate_of cells e ≡ Free) held acts activities
   pub same : Same old (meant follows.sound.names (plain xs (ts ++ held) w d cells outputs))
 
 shown_of : (g : Graph) (d : Deed) (s : Plain) → length s.outputs ≡ outputs_at g (main_place g) → PutLow d s → IsShown g d
 shown_of g (Puts j v) s e h = subst (λ n. j < n) e h
 shown_of g (Sends c n p v) s e h = tt
-shown_of g (Tells c n v) s e h = tt
+shown_of g (Steers c n v) s e h = tt
 shown_of g (Enters m b i v) s e h = tt
 shown_of g (EntersAll m b) s e h = tt
 shown_of g Stops s e h = tt
@@ -73,7 +73,7 @@ module _ (g : Graph) (text : HasText g) (well : WellFormed g) (inputs : List ℤ
   IsFound Failed = ⊥
 
   -- the same activities with the other tokens in other lists
-  again : (ts w d ts' w' d' : List Token) (acts : List (List Value × Deed)) (h : Has ts w d acts) → Follows g inputs k (plain xs (ts' ++ h.held) w' d' cells outputs)
+  again : (ts w d ts' w' d' : List Token) (acts : List (List Value × Deed)) (h : Has ts w d acts) → RunsSoFar g inputs k (plain xs (ts' ++ h.held) w' d' cells outputs)
       → IsPermutation ((ts ++ h.held) ++ (w ++ d)) ((ts' ++ h.held) ++ (w' ++ d')) → Has ts' w' d' acts
   again ts w d ts' w' d' acts h f p =
       let s = plain xs (ts ++ h.held) w d cells outputs in
@@ -92,7 +92,7 @@ module _ (g : Graph) (text : HasText g) (well : WellFormed g) (inputs : List ℤ
     abbrev later : List Token
     later = ts ++ h.held
 
-    abbrev f : Follows g inputs k (plain xs (t ∷ later) w d cells outputs)
+    abbrev f : RunsSoFar g inputs k (plain xs (t ∷ later) w d cells outputs)
     f = h.follows
 
     abbrev cs : List Context
@@ -121,7 +121,7 @@ module _ (g : Graph) (text : HasText g) (well : WellFormed g) (inputs : List ℤ
           (is_known g text well inputs fit k low xs cells outputs t later w d f left vs deed' e) (takes g text well inputs fit k low xs cells outputs t later w d f left vs deed' e) refl a i gate in
           (c.0, clash_same (flow_of g) state old (cell_at g a i) (same_sym old state h.same) c.1)
 
-      abbrev its_view : IsJoined g w t its.0 left vs deed'
+      abbrev its_view : IsMatched g w t its.0 left vs deed'
       its_view = view g text well inputs fit k low xs cells outputs t later w d f left vs deed' e
 
       abbrev own : List Token
@@ -202,7 +202,7 @@ module _ (g : Graph) (text : HasText g) (well : WellFormed g) (inputs : List ℤ
         subst (λ rows. IsFound (gathered g xs cells ts rows (d ++ t ∷ []) acts)) (sym (rows_left w t by.0 left by.1)) (next left (d ++ t ∷ []) acts (gains_defers left vs deed' e q))
     gates next left vs deed' e (GateClashes a i) q = gains_clash left vs deed' e a i q
 
-    cases : Later → (j : Joined) → join_in g w t (Some its.0) ≡ j → IsFound (joined g xs cells t ts (λ c. mine c w) d acts (cut t.context j))
+    cases : Later → (j : Matched) → join_in g w t (Some its.0) ≡ j → IsFound (joined g xs cells t ts (λ c. mine c w) d acts (cut t.context j))
     cases next Alone e = subst (λ rows. IsFound (gathered g xs cells ts rows d acts)) (sym (rows_alone w t)) (next (w ++ t ∷ []) d acts (gains_alone e))
     cases next (Joins left vs deed') e = gates next left vs deed' e (gate_of cells deed') refl
     cases next Fails e = never_fails g well w t its.0 k low (f.sound.turns t.context its.0 its.1) e

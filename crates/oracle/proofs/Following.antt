@@ -45,7 +45,7 @@ pub record Sound (g : Graph) (k : ℕ) (s : Plain) : Type 0 where
   pub output_count : length s.outputs ≡ outputs_at g (main_place g)
 
 -- k activities of the meaning lead to the state
-pub record Follows (g : Graph) (inputs : List ℤ) (k : ℕ) (s : Plain) : Type 0 where
+pub record RunsSoFar (g : Graph) (inputs : List ℤ) (k : ℕ) (s : Plain) : Type 0 where
   pub sound : Sound g k s
   pub run : List Activity
   pub is_run : Run (flow_of g) (start inputs) run (meant sound.names s)
@@ -115,7 +115,7 @@ to_taken t ts w d aa left p =
     let two : IsPermutation (t ∷ (w ++ d)) (aa ++ (left ++ d)) = subst (λ l. IsPermutation (t ∷ (w ++ d)) l) (append_assoc aa left d) one in
     IsPermutation-trans _ _ _ (moved_first t ts (w ++ d)) (IsPermutation-trans _ _ _ (IsPermutation-append_right ts _ _ two) (permutation_exchange ts aa (left ++ d)))
 
--- new ones come behind the fresh ones
+-- new ones come after the fresh ones
 pub to_fresh : {X : Type 0} (fresh new rest : List X) → IsPermutation ((fresh ++ new) ++ rest) (new ++ (fresh ++ rest))
 to_fresh fresh new rest = subst (λ l. IsPermutation l (new ++ (fresh ++ rest))) (sym (append_assoc fresh new rest)) (permutation_exchange fresh new rest)
 

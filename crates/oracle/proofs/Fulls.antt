@@ -108,13 +108,13 @@ all_each cells a x (b ∷ bs) =
     (suc h.0, omega (arith, array), h.2, ap (held_in cells) place ∙ h.3))
     (full_in cells (a + 1) (x + b.1) bs) (all_each cells (a + 1) (x + b.1) bs))
 
-abbrev Listed : List (Option Value) → ℕ → ℕ → List (List ℕ × ℕ) → ℕ → Value → Type 0
-Listed cells a x bs y v = (k : ℕ) × (j : ℕ) × Within (full (a + k) j v) (full_in cells a x bs) × (y ≡ first_of bs k + j)
+abbrev IsAmong : List (Option Value) → ℕ → ℕ → List (List ℕ × ℕ) → ℕ → Value → Type 0
+IsAmong cells a x bs y v = (k : ℕ) × (j : ℕ) × Within (full (a + k) j v) (full_in cells a x bs) × (y ≡ first_of bs k + j)
 
-all_all : (cells : List (Option Value)) (a x : ℕ) (bs : List (List ℕ × ℕ)) (y : ℕ) (v : Value) → y < total_of bs → held_in cells (x + y) ≡ Some v → Listed cells a x bs y v
+all_all : (cells : List (Option Value)) (a x : ℕ) (bs : List (List ℕ × ℕ)) (y : ℕ) (v : Value) → y < total_of bs → held_in cells (x + y) ≡ Some v → IsAmong cells a x bs y v
 all_all cells a x [] y v low h = absurd (omega (arith, low))
 all_all cells a x (b ∷ bs) y v low h =
-    let here : y < b.1 → Listed cells a x (b ∷ bs) y v =
+    let here : y < b.1 → IsAmong cells a x (b ∷ bs) y v =
     λ less.
     let array : a ≡ a + 0 = omega arith in (
       0,
@@ -123,7 +123,7 @@ all_all cells a x (b ∷ bs) y v low h =
           (within_left (full a y v) (full_from cells a x 0 b.1) (full_in cells (a + 1) (x + b.1) bs) (row_all cells a x 0 b.1 x y v (omega arith) (omega arith) (omega (arith, less)) h)),
       omega arith,
     ) in
-    let there : b.1 ≤ y → Listed cells a x (b ∷ bs) y v =
+    let there : b.1 ≤ y → IsAmong cells a x (b ∷ bs) y v =
     λ past.
     let z : (z : ℕ) × (y ≡ b.1 + z) = minus y b.1 past in
     let is = z.1 in
@@ -136,8 +136,9 @@ all_all cells a x (b ∷ bs) y v low h =
       subst (λ a'. Within (full a' r.1 v) (full_in cells a x (b ∷ bs))) array (within_right (full (a + 1 + r.0) r.1 v) (full_from cells a x 0 b.1) (full_in cells (a + 1) (x + b.1) bs) r.2),
       omega (arith, is, cell),
     ) in
-    let cases : (t : Bool) → nat_lt y b.1 ≡ t → Listed cells a x (b ∷ bs) y v
-    = λ t. elim t as (λ t. nat_lt y b.1 ≡ t → Listed cells a x (b ∷ bs) y v) [ true ↦ λ e. here (ltb-true y b.1 e) | false ↦ λ e. there (ltb-false y b.1 e) ] in
+    let cases : (t : Bool) → nat_lt y b.1 ≡ t → IsAmong cells a x (b ∷ bs) y v
+    = λ t. elim t as (λ t. nat_lt y b.1 ≡ t
+    → IsAmong cells a x (b ∷ bs) y v) [ true ↦ λ e. here (ltb-true y b.1 e) | false ↦ λ e. there (ltb-false y b.1 e) ] in
     cases (nat_lt y b.1) refl
   where
     minus : (y n : ℕ) → n ≤ y → (z : ℕ) × (y ≡ n + z)

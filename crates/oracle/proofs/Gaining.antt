@@ -9,7 +9,7 @@ use Rattle.oracle.specs.declared.state.Gate.TheVariants.{Free, Defers, Clashes}
 use Rattle.oracle.specs.declared.tokens.Token.{Token}
 use Rattle.oracle.specs.declared.report.MeanEnd.TheVariants.{Clash}
 use Rattle.oracle.specs.Acting.{gate_of}
-use Rattle.oracle.specs.Running.{Joined, Alone, Joins, Fails}
+use Rattle.oracle.specs.Running.{Matched, Alone, Joins, Fails}
 use Rattle.oracle.specs.Rows.{with_row}
 use Rattle.oracle.specs.Gathering.{Gathered, Clashed, Failed, gathered}
 use Rattle.oracle.proofs.RowRuns.{Among}
@@ -22,7 +22,7 @@ module _ (g : Graph) (xs : List Invocation) (cells : List (Option Value)) where
     | Clashes a i ↦ Clashed (Clash a i)
   ]
 
-  abbrev pub joined : Token → List Token → (ℕ → List Token) → List Token → List (List Value × Deed) → Joined → Gathered
+  abbrev pub joined : Token → List Token → (ℕ → List Token) → List Token → List (List Value × Deed) → Matched → Gathered
   joined t ts rows d acts j = elim j [
     | Alone ↦ gathered g xs cells ts (with_row rows t.context (rows t.context ++ t ∷ [])) d acts
     | Joins left vs deed ↦ gated t ts rows d acts left vs deed (gate_of cells deed)

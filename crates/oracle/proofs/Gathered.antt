@@ -14,7 +14,7 @@ use Rattle.oracle.specs.declared.tokens.Spot.TheVariants.{Operand}
 use Rattle.oracle.specs.declared.tokens.Token.{Token}
 use Rattle.oracle.specs.Lines.{same_spot, operand_spots, spots_in}
 use Rattle.oracle.specs.Agreeing.{token_of, own}
-use Rattle.oracle.specs.Acting.{is_at, find_from, without, value_of, value_at, is_there, all_there, left_after, value_here, left_of, values_of}
+use Rattle.oracle.specs.Acting.{is_at, find_from, without, value_of, value_at, is_there, all_there, remaining_after, value_here, remaining_of, values_of}
 use Rattle.oracle.proofs.Partners.{removed, spot_same}
 use Rattle.oracle.proofs.ShapeLaws.{spot_refl}
 
@@ -51,7 +51,7 @@ found_at c s ts h =
 
 -- what taking the partner at a spot does: nothing, or one token is out
 left_cases : (t : Token) (s : Spot) (ts : List Token) (P : List Token → Type 0) → P ts
-    → ((v : Value) (rest : List Token) → IsPermutation ts (token_of t.context s v ∷ rest) → P rest) → P (left_after t s ts)
+    → ((v : Value) (rest : List Token) → IsPermutation ts (token_of t.context s v ∷ rest) → P rest) → P (remaining_after t s ts)
 left_cases t s ts P same out =
     let cases : (o : Option ℕ) → find_from t.context s 0 ts ≡ o → P (without ts o)
     = λ o. elim o as (λ o. find_from t.context s 0 ts ≡ o → P (without ts o)) [
@@ -63,13 +63,13 @@ left_cases t s ts P same out =
 within_later : (x y : Token) (rest : List Token) → Within x rest → Within x (y ∷ rest)
 within_later x y rest h = (y ∷ h.0, inr (h.0, refl, h.1))
 
-pub left_within : (t : Token) (ss : List Spot) (ts : List Token) (x : Token) → Within x (left_of t ss ts) → Within x ts
+pub left_within : (t : Token) (ss : List Spot) (ts : List Token) (x : Token) → Within x (remaining_of t ss ts) → Within x ts
 left_within t [] ts x h = h
 left_within t (s ∷ ss) ts x h =
     left_cases t s ts (λ rest. Within x rest → Within x ts) (λ k. k) (λ v rest p k. within_permutation x (token_of t.context s v ∷ rest) ts (IsPermutation-sym _ _ p) (within_later x _ rest k))
-    (left_within t ss (left_after t s ts) x h)
+    (left_within t ss (remaining_after t s ts) x h)
 
-has_left : (t : Token) (s r : Spot) (ts : List Token) → SpotsDiffer s r → HasAt t.context r ts → HasAt t.context r (left_after t s ts)
+has_left : (t : Token) (s r : Spot) (ts : List Token) → SpotsDiffer s r → HasAt t.context r ts → HasAt t.context r (remaining_after t s ts)
 has_left t s r ts other h =
     left_cases t s ts (HasAt t.context r) h
     (λ v rest p.
@@ -87,17 +87,17 @@ own_there t s ts e = or_left (same_spot s t.spot) (is_some (find_from t.context 
 pub other_there : (t : Token) (s : Spot) (ts : List Token) → HasAt t.context s ts → is_there t s ts ≡ true
 other_there t s ts h = or_right (same_spot s t.spot) (is_some (find_from t.context s 0 ts)) (find_some t.context s h.0 0 ts h.1)
 
-there_left : (t : Token) (s r : Spot) (ts : List Token) → SpotsDiffer s r → is_there t r ts ≡ true → is_there t r (left_after t s ts) ≡ true
+there_left : (t : Token) (s r : Spot) (ts : List Token) → SpotsDiffer s r → is_there t r ts ≡ true → is_there t r (remaining_after t s ts) ≡ true
 there_left t s r ts other h =
-    ⊎_elim (λ e. or_left (same_spot r t.spot) (is_some (find_from t.context r 0 (left_after t s ts))) e)
-    (λ e. other_there t r (left_after t s ts) (has_left t s r ts other (found_at t.context r ts e)))
+    ⊎_elim (λ e. or_left (same_spot r t.spot) (is_some (find_from t.context r 0 (remaining_after t s ts))) e)
+    (λ e. other_there t r (remaining_after t s ts) (has_left t s r ts other (found_at t.context r ts e)))
     (or_cases (same_spot r t.spot) (is_some (find_from t.context r 0 ts)) h)
 
-all_left : (t : Token) (s : Spot) (ss : List Spot) (ts : List Token) → Each (SpotsDiffer s) ss → all_there t ss ts ≡ true → all_there t ss (left_after t s ts) ≡ true
+all_left : (t : Token) (s : Spot) (ss : List Spot) (ts : List Token) → Each (SpotsDiffer s) ss → all_there t ss ts ≡ true → all_there t ss (remaining_after t s ts) ≡ true
 all_left t s [] ts other h = refl
 all_left t s (r ∷ ss) ts other h =
     let p = if_parts (is_there t r ts) (all_there t ss ts) h in
-    ap (λ b. if b then all_there t ss (left_after t s ts) else false) (there_left t s r ts other.0 p.0) ∙ all_left t s ss ts other.1 p.1
+    ap (λ b. if b then all_there t ss (remaining_after t s ts) else false) (there_left t s r ts other.0 p.0) ∙ all_left t s ss ts other.1 p.1
 
 here_one : (t : Token) (s : Spot) (ts : List Token) → is_there t s ts ≡ true → length (value_here t s ts) ≡ 1
 here_one t s ts h =
@@ -118,9 +118,9 @@ pub values_full : (t : Token) (ss : List Spot) (ts : List Token) → Spread Spot
 values_full t [] ts apart h = refl
 values_full t (s ∷ ss) ts apart h =
     let p = if_parts (is_there t s ts) (all_there t ss ts) h in
-    let a = length-append (value_here t s ts) (values_of t ss (left_after t s ts)) in
+    let a = length-append (value_here t s ts) (values_of t ss (remaining_after t s ts)) in
     let b = here_one t s ts p.0 in
-    let c = values_full t ss (left_after t s ts) apart.1 (all_left t s ss ts apart.0 p.1) in
+    let c = values_full t ss (remaining_after t s ts) apart.1 (all_left t s ss ts apart.0 p.1) in
     omega (arith, a, b, c)
 
 operands_apart : (n i from k : ℕ) → i < from → Each (SpotsDiffer (Operand n i)) (operand_spots n from k)
@@ -148,7 +148,7 @@ one_own q (s ∷ []) h l =
     cases (same_spot s q) refl h
 one_own q (s ∷ r ∷ ss) h l = absurd (omega (arith, l))
 
-pub one_left : (t : Token) (ts : List Token) → left_of t (t.spot ∷ []) ts ≡ ts
+pub one_left : (t : Token) (ts : List Token) → remaining_of t (t.spot ∷ []) ts ≡ ts
 one_left t ts = ap (λ b. if b then ts else without ts (find_from t.context t.spot 0 ts)) (spot_refl t.spot)
 
 pub one_value : (t : Token) (ts : List Token) → values_of t (t.spot ∷ []) ts ≡ t.value ∷ []

@@ -10,7 +10,7 @@ use Rattle.oracle.specs.declared.shapes.Shape.{Shape}
 use Rattle.oracle.specs.declared.deeds.Deed.{Deed}
 use Rattle.oracle.specs.declared.tokens.Token.{Token}
 use Rattle.oracle.specs.Lines.{shape_in, spots_in}
-use Rattle.oracle.specs.Acting.{all_there, values_of, left_of, deed_in}
+use Rattle.oracle.specs.Acting.{all_there, values_of, remaining_of, deed_in}
 use Rattle.oracle.specs.Running.{Alone, Fails, joins, join_all, join_shape, join_in}
 use Rattle.oracle.specs.Meant.{name_in, made_of, tagged_of, activity_of}
 use Rattle.oracle.specs.Agreeing.{zipped, IsJoin}
@@ -20,12 +20,12 @@ use Rattle.oracle.proofs.ShapeLaws.{own_law, taken_law}
 
 module _ (g : Graph) (text : HasText g) (cs : List Context) (t : Token) (x : Invocation) (made : made_of cs x.made ≡ name_in cs t.context) (block : block_number (flow_of g) (name_in cs t.context) ≡ Some x.block) (w : List Token) where
   deeds : (shape : Shape) → shape_in g x.made x.block t.spot ≡ Some shape → length (values_of t (spots_in shape) w) ≡ length (spots_in shape)
-      → (o : Option Deed) → deed_in g t.context x shape (values_of t (spots_in shape) w) ≡ o → IsJoin g cs t w (joins (left_of t (spots_in shape) w) (values_of t (spots_in shape) w) o)
+      → (o : Option Deed) → deed_in g t.context x shape (values_of t (spots_in shape) w) ≡ o → IsJoin g cs t w (joins (remaining_of t (spots_in shape) w) (values_of t (spots_in shape) w) o)
   deeds shape e long None z = tt
   deeds shape e long (Some d) z =
       let ss = spots_in shape in
       let vs = values_of t ss w in
-      let left = left_of t ss w in
+      let left = remaining_of t ss w in
       let whole = IsPermutation-map (tagged_of cs) (t ∷ w) (zipped t.context ss vs ++ left) (taken_out t ss w (own_law g x.made x.block t.spot shape e) long) in
       let parts = map-append (tagged_of cs) (zipped t.context ss vs) left ∙ ap (λ z. z ++ map (tagged_of cs) left) (taken_law g cs t.context x made shape vs d z long) in
       (activity_of cs t.context x.made shape vs, subst (λ zs. IsPermutation (map (tagged_of cs) (t ∷ w)) zs) parts whole, act_law g text cs t.context x block shape vs d z)
@@ -35,8 +35,9 @@ module _ (g : Graph) (text : HasText g) (cs : List Context) (t : Token) (x : Inv
   shapes (Some shape) e =
       let ss = spots_in shape in
       let vs = values_of t ss w in
-      let counted : (b : Bool) → (length vs == length ss) ≡ b → IsJoin g cs t w (if b then joins (left_of t ss w) vs (deed_in g t.context x shape vs) else Fails)
-      = λ b. elim b as (λ b. (length vs == length ss) ≡ b → IsJoin g cs t w (if b then joins (left_of t ss w) vs (deed_in g t.context x shape vs) else Fails)) [
+      let counted : (b : Bool) → (length vs == length ss) ≡ b → IsJoin g cs t w (if b then joins (remaining_of t ss w) vs (deed_in g t.context x shape vs) else Fails)
+      = λ b. elim b as (λ b. (length vs == length ss) ≡ b
+      → IsJoin g cs t w (if b then joins (remaining_of t ss w) vs (deed_in g t.context x shape vs) else Fails)) [
         | true ↦ λ q. deeds shape e (eqb-true (length vs) (length ss) q) (deed_in g t.context x shape vs) refl
         | false ↦ λ q. tt
       ] in

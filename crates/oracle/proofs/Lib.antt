@@ -31,7 +31,7 @@ mod Sends
 mod ShapeLaws
 mod Taken
 mod Taking
-mod Telling
+mod Steering
 mod Turning
 mod Views
 mod Waiting

@@ -7,7 +7,7 @@ use Rattle.std.specs.declared.cmp.Ordering.TheVariants.{Less, Equal, Greater}
 use Rattle.oracle.specs.contracts.invocations.MadeOrd.TheImpl as made_ord
 use Rattle.oracle.specs.declared.invocations.Made.{Made}
 use Rattle.oracle.specs.declared.invocations.Made.TheVariants.{Main, Called, Turned}
-use Rattle.oracle.proofs.Numbers.{TellsApart}
+use Rattle.oracle.proofs.Numbers.{DealsApart}
 
 then_eq : (o p : Ordering) → is_eq (ordering_then o p) ≡ is_eq o && is_eq p
 then_eq Less p = refl
@@ -39,7 +39,7 @@ three : (a b x : Bool) → (a && (b && x)) ≡ ((a && b) && x)
 three true b x = refl
 three false b x = refl
 
-pub made_apart : TellsApart order
+pub made_apart : DealsApart order
 made_apart Main Main = refl
 made_apart Main (Called d m) = refl
 made_apart Main (Turned d m j) = refl

@@ -16,22 +16,22 @@ use Rattle.law_confluence.proofs.HistoryRuns.{run_to_same}
 use Rattle.law_confluence.proofs.Outcome.{reached_unique}
 use Rattle.oracle.specs.declared.invocations.Invocation.{Invocation}
 use Rattle.oracle.specs.declared.deeds.Deed.{Deed}
-use Rattle.oracle.specs.declared.deeds.Deed.TheVariants.{Sends, Tells, Enters, EntersAll, Stops, Reads, Fills, Puts}
+use Rattle.oracle.specs.declared.deeds.Deed.TheVariants.{Sends, Steers, Enters, EntersAll, Stops, Reads, Fills, Puts}
 use Rattle.oracle.specs.declared.report.MeanEnd.TheVariants.{Clash}
 use Rattle.oracle.specs.declared.state.Gate.{Gate}
 use Rattle.oracle.specs.declared.state.Gate.TheVariants.{Free, Defers, Clashes as GateClashes}
 use Rattle.oracle.specs.declared.tokens.Spot.{Spot}
 use Rattle.oracle.specs.declared.tokens.Token.{Token}
 use Rattle.oracle.specs.Lines.{spots_in}
-use Rattle.oracle.specs.Acting.{gate_of, held_in, left_of}
-use Rattle.oracle.specs.Running.{Plain, plain, Joined, Alone, Joins, Fails, join_in, Came, Acts, Ends, Broken, next_of}
+use Rattle.oracle.specs.Acting.{gate_of, held_in, remaining_of}
+use Rattle.oracle.specs.Running.{Plain, plain, Matched, Alone, Joins, Fails, join_in, Came, Acts, Ends, Broken, next_of}
 use Rattle.oracle.specs.Meant.{name_in, made_of, tagged_of, deed_of}
 use Rattle.oracle.specs.Naming.{IsKnown}
 use Rattle.oracle.specs.Agreeing.{IsJoin}
 use Rattle.oracle.specs.Reporting.{cell_at}
 use Rattle.oracle.proofs.Entering.{AreKnown}
 use Rattle.oracle.proofs.Filling.{memory_of}
-use Rattle.oracle.proofs.Following.{all_tokens, meant, Sound, Follows, PutLow, Ready, Ended, Outcome, to_waiting, to_deferred, to_taken}
+use Rattle.oracle.proofs.Following.{all_tokens, meant, Sound, RunsSoFar, PutLow, Ready, Ended, Outcome, to_waiting, to_deferred, to_taken}
 use Rattle.oracle.proofs.Gating.{gate_defers, gate_clashes, fetch_of}
 use Rattle.oracle.proofs.Gathered.{left_within, one_own, one_left}
 use Rattle.oracle.proofs.Joining.{join_law}
@@ -39,13 +39,13 @@ use Rattle.oracle.proofs.Known.{known_law}
 use Rattle.oracle.proofs.Resolved.{firsts_same, lens_same}
 use Rattle.oracle.proofs.ShapeLaws.{own_law}
 use Rattle.oracle.proofs.Turning.{turn_law, out_low}
-use Rattle.oracle.proofs.Views.{IsJoined, joined_view, never_fails}
+use Rattle.oracle.proofs.Views.{IsMatched, joined_view, never_fails}
 use Rattle.oracle.proofs.Waiting.{Stuck, IsDeferred, stuck_left, stuck_more, at_rest, no_clash}
 
 module _ (g : Graph) (text : HasText g) (well : WellFormed g) (inputs : List ℤ) (fit : length inputs ≡ inputs_of (flow_of g)) (k : ℕ) (low : k < 2 ^ 64)
     (xs : List Invocation) (cells outputs : List (Option Value)) where
   abbrev Now : List Token → List Token → List Token → Type 0
-  Now ts w d = Follows g inputs k (plain xs ts w d cells outputs)
+  Now ts w d = RunsSoFar g inputs k (plain xs ts w d cells outputs)
 
   abbrev Comes : List Token → List Token → List Token → Type 0
   Comes ts w d = Outcome g inputs k (next_of g xs cells outputs ts w d)
@@ -125,7 +125,7 @@ module _ (g : Graph) (text : HasText g) (well : WellFormed g) (inputs : List ℤ
         }
 
     module _ (left : List Token) (vs : List Value) (deed' : Deed) (e : join_in g w t (Some x.0) ≡ Joins left vs deed') where
-      pub view : IsJoined g w t x.0 left vs deed'
+      pub view : IsMatched g w t x.0 left vs deed'
       view = joined_view g w t x.0 left vs deed' e
 
       pub join : IsJoin g cs t w (Joins left vs deed')
@@ -137,8 +137,8 @@ module _ (g : Graph) (text : HasText g) (well : WellFormed g) (inputs : List ℤ
       pub left_known : AreKnown (length xs) left
       left_known = subst (AreKnown (length xs)) view.rest (known_left (spots_in view.shape) w others_known.1)
         where
-          known_left : (ss : List Spot) (w : List Token) → AreKnown (length xs) w → AreKnown (length xs) (left_of t ss w)
-          known_left ss w h = each_from (λ (u : Token). u.context < length xs) (left_of t ss w) (λ u k. each_within (λ (u : Token). u.context < length xs) u w (left_within t ss w u k) h)
+          known_left : (ss : List Spot) (w : List Token) → AreKnown (length xs) w → AreKnown (length xs) (remaining_of t ss w)
+          known_left ss w h = each_from (λ (u : Token). u.context < length xs) (remaining_of t ss w) (λ u k. each_within (λ (u : Token). u.context < length xs) u w (left_within t ss w u k) h)
 
       pub left_stuck : Stuck (flow_of g) (map (tagged_of cs) left)
       left_stuck = subst (λ l. Stuck (flow_of g) (map (tagged_of cs) l)) view.rest (stuck_left (flow_of g) (tagged_of cs) t (spots_in view.shape) w s.stuck)
@@ -161,7 +161,7 @@ module _ (g : Graph) (text : HasText g) (well : WellFormed g) (inputs : List ℤ
           let there : Within y (meant cs (plain xs (t ∷ ts) w d cells outputs)).tokens = within_permutation y _ _ (IsPermutation-sym _ _ takes) (within_left y (taken a) (map (tagged_of cs) (ts ++ (left ++ d))) first) in
           subst (λ n. j < n) (sym s.output_count) (out_low g well inputs fit (meant cs (plain xs (t ∷ ts) w d cells outputs)) f.run f.is_run j (Meaning.Operand 0) v there)
       put_low (Sends c n p v) q = tt
-      put_low (Tells c n v) q = tt
+      put_low (Steers c n v) q = tt
       put_low (Enters m b i v) q = tt
       put_low (EntersAll m b) q = tt
       put_low Stops q = tt
@@ -200,7 +200,7 @@ module _ (g : Graph) (text : HasText g) (well : WellFormed g) (inputs : List ℤ
       left_same one =
           let ss = spots_in view.shape in
           let spots : ss ≡ t.spot ∷ [] = one_own t.spot ss (own_law g x.0.made x.0.block t.spot view.shape view.here) (sym view.long ∙ one) in
-          sym view.rest ∙ ap (λ ss. left_of t ss w) spots ∙ one_left t w
+          sym view.rest ∙ ap (λ ss. remaining_of t ss w) spots ∙ one_left t w
 
       pub defers : gate_of cells deed' ≡ Defers → Now ts left (d ++ t ∷ [])
       defers gate =
@@ -263,7 +263,7 @@ module _ (g : Graph) (text : HasText g) (well : WellFormed g) (inputs : List ℤ
     -- the first of the fresh ones is looked at, and then the others
     looked : ((w d : List Token) → Now ts w d → Comes ts w d) → Comes (t ∷ ts) w d
     looked later =
-        let P : Joined → Type 0 = λ j. Outcome g inputs k (elim j as (λ j. Came) [
+        let P : Matched → Type 0 = λ j. Outcome g inputs k (elim j as (λ j. Came) [
           | Alone ↦ next_of g xs cells outputs ts (w ++ t ∷ []) d
           | Joins left vs deed' ↦ elim (gate_of cells deed') as (λ b. Came) [
             | Free ↦ Acts (plain xs ts left d cells outputs) vs deed'
@@ -272,7 +272,7 @@ module _ (g : Graph) (text : HasText g) (well : WellFormed g) (inputs : List ℤ
           ]
           | Fails ↦ Broken
         ]) in
-        let cases : (j : Joined) → join_in g w t (Some x.0) ≡ j → P j
+        let cases : (j : Matched) → join_in g w t (Some x.0) ≡ j → P j
         = λ j. elim j as (λ j. join_in g w t (Some x.0) ≡ j → P j) [
           | Alone ↦ λ e. later (w ++ t ∷ []) d (waits e)
           | Joins left vs deed' ↦ λ e.

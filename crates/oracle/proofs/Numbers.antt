@@ -12,8 +12,8 @@ use Rattle.oracle.proofs.Entering.{made_same}
 use Rattle.oracle.proofs.Apart.{made_refl}
 
 -- whether two are equal in the order
-abbrev pub TellsApart : (Made → Made → Ordering) → Type 0
-TellsApart cmp = (x y : Made) → is_eq (cmp x y) ≡ same_made x y
+abbrev pub DealsApart : (Made → Made → Ordering) → Type 0
+DealsApart cmp = (x y : Made) → is_eq (cmp x y) ≡ same_made x y
 
 abbrev or_later : Option ℕ → Option ℕ → Option ℕ
 or_later None o = o
@@ -32,7 +32,7 @@ last_from made i x (y ∷ ys) = go (same_made y.made made) (last_from made (i + 
         let e : i + suc (length ys) ≡ i + 1 + length ys = omega arith in
         rw e ih
 
-pub numbers_more : (cmp : Made → Made → Ordering) (m n : BTreeMap Made ℕ) (xs : List Invocation) (made : Made) (block : ℕ) → TellsApart cmp → IsNumbering cmp m xs → made_from made 0 xs ≡ None
+pub numbers_more : (cmp : Made → Made → Ordering) (m n : BTreeMap Made ℕ) (xs : List Invocation) (made : Made) (block : ℕ) → DealsApart cmp → IsNumbering cmp m xs → made_from made 0 xs ≡ None
     → Updates cmp m n made (Some (length xs)) → IsNumbering cmp n (xs ++ record { made = made; block = block } ∷ [])
 numbers_more cmp m n xs made block apart numbers absent updates q =
     updates.0 q ∙ ap (λ b. cond b (Some (length xs)) (get cmp m q)) (apart made q) ∙ go (same_made made q) refl

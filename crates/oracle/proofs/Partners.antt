@@ -12,7 +12,7 @@ use Rattle.oracle.specs.declared.tokens.Spot.TheVariants.{Operand, Predicate, Ou
 use Rattle.oracle.specs.declared.tokens.Token.{Token}
 use Rattle.oracle.specs.Lines.{same_spot}
 use Rattle.oracle.specs.Agreeing.{token_of, zipped, own}
-use Rattle.oracle.specs.Acting.{is_at, find_from, without, value_of, value_at, left_after, value_here, left_of, values_of}
+use Rattle.oracle.specs.Acting.{is_at, find_from, without, value_of, value_at, remaining_after, value_here, remaining_of, values_of}
 
 pub spot_same : (s t : Spot) → same_spot s t ≡ true → s ≡ t
 spot_same (Operand n i) (Operand m j) h = let p = and_parts (n == m) (i == j) h in ap (λ k. Operand k i) (eqb-true n m p.0) ∙ ap (λ k. Operand m k) (eqb-true i j p.1)
@@ -69,18 +69,18 @@ value_here_few t s ts = elim (same_spot s t.spot) as (λ b. length (if b then t.
 values_few : (t : Token) (ss : List Spot) (ts : List Token) → length (values_of t ss ts) ≤ length ss
 values_few t [] ts = omega arith
 values_few t (s ∷ ss) ts =
-    let a = length-append (value_here t s ts) (values_of t ss (left_after t s ts)) in
+    let a = length-append (value_here t s ts) (values_of t ss (remaining_after t s ts)) in
     let b = value_here_few t s ts in
-    let c = values_few t ss (left_after t s ts) in
+    let c = values_few t ss (remaining_after t s ts) in
     omega (arith, a, b, c)
 
 -- TAKING
 
-others : (t : Token) (ss : List Spot) (ts : List Token) → own t.spot ss ≡ 0 → length (values_of t ss ts) ≡ length ss → IsPermutation ts (zipped t.context ss (values_of t ss ts) ++ left_of t ss ts)
+others : (t : Token) (ss : List Spot) (ts : List Token) → own t.spot ss ≡ 0 → length (values_of t ss ts) ≡ length ss → IsPermutation ts (zipped t.context ss (values_of t ss ts) ++ remaining_of t ss ts)
 others t [] ts none full = IsPermutation-refl ts
 others t (s ∷ ss) ts none full =
     let c = t.context in
-    let goal : List Value → List Token → Type 0 = λ vs left. IsPermutation ts (zipped c (s ∷ ss) (vs ++ values_of t ss left) ++ left_of t ss left) in
+    let goal : List Value → List Token → Type 0 = λ vs left. IsPermutation ts (zipped c (s ∷ ss) (vs ++ values_of t ss left) ++ remaining_of t ss left) in
     let found : (o : Option ℕ) → find_from c s 0 ts ≡ o → own t.spot ss ≡ 0 → length (value_at ts o ++ values_of t ss (without ts o)) ≡ suc (length ss) → goal (value_at ts o) (without ts o)
     = λ o. elim o as (λ o. find_from c s 0 ts ≡ o → own t.spot ss ≡ 0 → length (value_at ts o ++ values_of t ss (without ts o)) ≡ suc (length ss) → goal (value_at ts o) (without ts o)) [
       | None ↦ λ e z l. let few = values_few t ss ts in absurd (omega (arith, few, l))
@@ -91,7 +91,7 @@ others t (s ∷ ss) ts none full =
           let at : value_of (slice_get ts k) ≡ v ∷ [] = ap value_of r.1 in
           let long : length (values_of t ss rest) ≡ length ss = let m = ap (λ vs. length (vs ++ values_of t ss rest)) at in omega (arith, l, m) in
           let more = others t ss rest z long in
-          subst (λ vs. goal vs rest) (sym at) (IsPermutation-trans _ _ _ r.2 (IsPermutation-append_right (token_of c s v ∷ []) rest (zipped c ss (values_of t ss rest) ++ left_of t ss rest) more))
+          subst (λ vs. goal vs rest) (sym at) (IsPermutation-trans _ _ _ r.2 (IsPermutation-append_right (token_of c s v ∷ []) rest (zipped c ss (values_of t ss rest) ++ remaining_of t ss rest) more))
     ] in
     let cases : (b : Bool) → (if b then suc (own t.spot ss) else own t.spot ss) ≡ 0
     → length ((if b then t.value ∷ [] else value_at ts (find_from c s 0 ts)) ++ values_of t ss (if b then ts else without ts (find_from c s 0 ts))) ≡ suc (length ss)
@@ -104,11 +104,11 @@ others t (s ∷ ss) ts none full =
     ] in
     cases (same_spot s t.spot) none full
 
-pub taken_out : (t : Token) (ss : List Spot) (ts : List Token) → own t.spot ss ≡ 1 → length (values_of t ss ts) ≡ length ss → IsPermutation (t ∷ ts) (zipped t.context ss (values_of t ss ts) ++ left_of t ss ts)
+pub taken_out : (t : Token) (ss : List Spot) (ts : List Token) → own t.spot ss ≡ 1 → length (values_of t ss ts) ≡ length ss → IsPermutation (t ∷ ts) (zipped t.context ss (values_of t ss ts) ++ remaining_of t ss ts)
 taken_out t [] ts one full = absurd (omega (arith, one))
 taken_out t (s ∷ ss) ts one full =
     let c = t.context in
-    let goal : List Value → List Token → Type 0 = λ vs left. IsPermutation (t ∷ ts) (zipped c (s ∷ ss) (vs ++ values_of t ss left) ++ left_of t ss left) in
+    let goal : List Value → List Token → Type 0 = λ vs left. IsPermutation (t ∷ ts) (zipped c (s ∷ ss) (vs ++ values_of t ss left) ++ remaining_of t ss left) in
     let found : (o : Option ℕ) → find_from c s 0 ts ≡ o → own t.spot ss ≡ 1 → length (value_at ts o ++ values_of t ss (without ts o)) ≡ suc (length ss) → goal (value_at ts o) (without ts o)
     = λ o. elim o as (λ o. find_from c s 0 ts ≡ o → own t.spot ss ≡ 1 → length (value_at ts o ++ values_of t ss (without ts o)) ≡ suc (length ss) → goal (value_at ts o) (without ts o)) [
       | None ↦ λ e z l. let few = values_few t ss ts in absurd (omega (arith, few, l))
@@ -122,7 +122,7 @@ taken_out t (s ∷ ss) ts one full =
           let more = taken_out t ss rest z long in
           let first = IsPermutation-append_right (t ∷ []) ts (u ∷ rest) r.2 in
           let second = permutation_exchange (t ∷ []) (u ∷ []) rest in
-          let third = IsPermutation-append_right (u ∷ []) (t ∷ rest) (zipped c ss (values_of t ss rest) ++ left_of t ss rest) more in
+          let third = IsPermutation-append_right (u ∷ []) (t ∷ rest) (zipped c ss (values_of t ss rest) ++ remaining_of t ss rest) more in
           subst (λ vs. goal vs rest) (sym at) (IsPermutation-trans _ _ _ (IsPermutation-trans _ _ _ first second) third)
     ] in
     let cases : (b : Bool) → same_spot s t.spot ≡ b → (if b then suc (own t.spot ss) else own t.spot ss) ≡ 1
@@ -135,8 +135,8 @@ taken_out t (s ∷ ss) ts one full =
           let none : own t.spot ss ≡ 0 = omega (arith, z) in
           let long : length (values_of t ss ts) ≡ length ss = omega (arith, l) in
           let is : t ≡ token_of c s t.value = ap (λ k. token_of c k t.value) (sym (spot_same s t.spot q)) in
-          let more = IsPermutation-append_right (t ∷ []) ts (zipped c ss (values_of t ss ts) ++ left_of t ss ts) (others t ss ts none long) in
-          subst (λ u. IsPermutation (t ∷ ts) (u ∷ (zipped c ss (values_of t ss ts) ++ left_of t ss ts))) is more
+          let more = IsPermutation-append_right (t ∷ []) ts (zipped c ss (values_of t ss ts) ++ remaining_of t ss ts) (others t ss ts none long) in
+          subst (λ u. IsPermutation (t ∷ ts) (u ∷ (zipped c ss (values_of t ss ts) ++ remaining_of t ss ts))) is more
       | false ↦ λ q z l. found (find_from c s 0 ts) refl z l
     ] in
     cases (same_spot s t.spot) refl one full

@@ -13,21 +13,21 @@ use Rattle.law_confluence.proofs.OutcomeDeterminacy.{same_refl}
 use Rattle.law_confluence.proofs.HistoryRuns.{run_append, step_of}
 use Rattle.oracle.specs.declared.invocations.Made.{Made}
 use Rattle.oracle.specs.declared.deeds.Deed.{Deed}
-use Rattle.oracle.specs.declared.deeds.Deed.TheVariants.{Sends, Tells, Enters, EntersAll, Stops, Reads, Fills, Puts}
+use Rattle.oracle.specs.declared.deeds.Deed.TheVariants.{Sends, Steers, Enters, EntersAll, Stops, Reads, Fills, Puts}
 use Rattle.oracle.specs.declared.state.Gate.TheVariants.{Free, Defers, Clashes}
 use Rattle.oracle.specs.declared.tokens.Spot.TheVariants.{Operand}
 use Rattle.oracle.specs.declared.tokens.Token.{Token}
 use Rattle.oracle.specs.Lines.{first_of}
 use Rattle.oracle.specs.Sending.{token_at, entering_tokens}
 use Rattle.oracle.specs.Acting.{gate_of, held_in, filled_in}
-use Rattle.oracle.specs.Running.{Plain, plain, number_in, with_made, sent_of, sent_in, told_in, answered, performed}
+use Rattle.oracle.specs.Running.{Plain, plain, number_in, with_made, sent_of, sent_in, steered_in, answered, performed}
 use Rattle.oracle.specs.Meant.{name_in, made_of, tagged_of, deed_of}
 use Rattle.oracle.specs.Naming.{CanEnter}
 use Rattle.oracle.proofs.Apart.{EachMade, mades_more, made_more}
 use Rattle.oracle.proofs.Entering.{AreKnown, entered_law, tokens_kept}
 use Rattle.oracle.proofs.Filling.{memory_of, filled_long, filled_same, cell_low}
-use Rattle.oracle.proofs.Following.{all_tokens, meant, Sound, Follows, Ready, to_fresh, to_woken}
-use Rattle.oracle.proofs.Telling.{AreOf, entering_same, entering_of, sends_same, tells_same}
+use Rattle.oracle.proofs.Following.{all_tokens, meant, Sound, RunsSoFar, Ready, to_fresh, to_woken}
+use Rattle.oracle.proofs.Steering.{AreOf, entering_same, entering_of, sends_same, tells_same}
 use Rattle.oracle.proofs.Turning.{turn_more}
 use Rattle.oracle.proofs.Views.{TurnBelow}
 use Rattle.oracle.proofs.Waiting.{Stuck, IsDeferred}
@@ -49,7 +49,7 @@ free_fills (Some v) a i h = cc
 
 -- the activity leads to that state
 pub record Acted (g : Graph) (inputs : List ℤ) (k : ℕ) (s : Plain) (vs : List Value) (d : Deed) (r : Ready g inputs k s vs d) (t : Plain) : Type 0 where
-  pub follows : Follows g inputs (suc k) t
+  pub follows : RunsSoFar g inputs (suc k) t
   pub step : Step (flow_of g) r.activity r.old (meant follows.sound.names t)
 
 module _ (g : Graph) (inputs : List ℤ) (k : ℕ) (s : Plain) (vs : List Value) where
@@ -59,7 +59,7 @@ module _ (g : Graph) (inputs : List ℤ) (k : ℕ) (s : Plain) (vs : List Value)
   -- a free deed is done
   pub does : (cs : List Context) (d : Deed) → gate_of s.cells d ≡ Free → (E : Effect) × (done (flow_of g) m (deed_of cs vs d) ≡ Some E)
   does cs (Sends c n p v) h = (_, refl)
-  does cs (Tells c n v) h = (_, refl)
+  does cs (Steers c n v) h = (_, refl)
   does cs (Enters made f i v) h = (_, refl)
   does cs (EntersAll made f) h = (_, refl)
   does cs Stops h = (_, refl)
@@ -237,9 +237,9 @@ module _ (g : Graph) (inputs : List ℤ) (k : ℕ) (s : Plain) (vs : List Value)
   acts (Sends c n p v) r =
       let q = sends_same g s.invocations r.sound.names r.sound.named c r.is_known v n p in
       sent_more (Sends c n p v) r (sent_in g s.invocations (sent_of c v) n p) _ (known_of c _ r.is_known _ q.1) q.0 refl
-  acts (Tells c n v) r =
+  acts (Steers c n v) r =
       let q = tells_same g s.invocations r.sound.names r.sound.named c r.is_known v n in
-      sent_more (Tells c n v) r (told_in g s.invocations (sent_of c v) n) _ (known_of c _ r.is_known _ q.1) q.0 refl
+      sent_more (Steers c n v) r (steered_in g s.invocations (sent_of c v) n) _ (known_of c _ r.is_known _ q.1) q.0 refl
   acts (Enters made f i v) r =
       let c = number_in s.invocations made in
       enters (Enters made f i v) r made f (token_at (sent_of c v) (Operand i 0) ∷ []) _ r.is_known r.turn (refl, tt)
@@ -264,5 +264,5 @@ module _ (g : Graph) (inputs : List ℤ) (k : ℕ) (s : Plain) (vs : List Value)
       (ap (λ o. when_empty o (adds (tokens_of (flow_of g) (Meaning.Sends (name_in cs c) n 0 v)) (with_cell m x v))) (free_fills (held_in s.cells x) a i r.free))
   acts (Puts j v) r = puts (Puts j v) r j v r.put refl
 
-  pub acted : (d : Deed) → Ready g inputs k s vs d → Follows g inputs (suc k) (performed g s vs d)
+  pub acted : (d : Deed) → Ready g inputs k s vs d → RunsSoFar g inputs (suc k) (performed g s vs d)
   acted d r = (acts d r).follows

@@ -5,7 +5,7 @@ use Rattle.semantics.specs.Graph.{Graph}
 use Rattle.oracle.specs.declared.invocations.Invocation.{Invocation}
 use Rattle.oracle.specs.declared.shapes.Shape.{Shape}
 use Rattle.oracle.specs.declared.deeds.Deed.{Deed}
-use Rattle.oracle.specs.declared.deeds.Deed.TheVariants.{Sends, Tells, Enters, EntersAll, Stops, Reads, Fills, Puts}
+use Rattle.oracle.specs.declared.deeds.Deed.TheVariants.{Sends, Steers, Enters, EntersAll, Stops, Reads, Fills, Puts}
 use Rattle.oracle.specs.declared.state.Gate.{Gate}
 use Rattle.oracle.specs.declared.state.Gate.TheVariants.{Free, Defers, Clashes}
 use Rattle.oracle.specs.declared.tokens.Spot.{Spot}
@@ -13,8 +13,8 @@ use Rattle.oracle.specs.declared.tokens.Token.{Token}
 use Rattle.oracle.specs.declared.report.MeanEnd.{MeanEnd}
 use Rattle.oracle.specs.declared.report.MeanEnd.TheVariants.{Clash, Steps}
 use Rattle.oracle.specs.Lines.{spots_in, shape_in}
-use Rattle.oracle.specs.Acting.{all_there, left_of, values_of, deed_in, gate_of}
-use Rattle.oracle.specs.Running.{Plain, plain, Joined, Alone, Joins, Fails, joins, join_values, join_all, join_shape, join_in, join_of, Came, Acts, Ends, Broken, next_of, next_in, run_of, performed, start_of, told_of, told}
+use Rattle.oracle.specs.Acting.{all_there, remaining_of, values_of, deed_in, gate_of}
+use Rattle.oracle.specs.Running.{Plain, plain, Matched, Alone, Joins, Fails, joins, join_values, join_all, join_shape, join_in, join_of, Came, Acts, Ends, Broken, next_of, next_in, run_of, performed, start_of, end_result_of, run_result}
 use Rattle.std.specs.Prelude.{MatchOption, IfOk}
 use Rattle.oracle.proofs.RowLists.{row_here, row_set, set_here}
 use Rattle.oracle.specs.Rows.{rows_of, with_row, no_rows, Next, Goes, Stays, Breaks, row_next, next_among, run_among}
@@ -24,19 +24,20 @@ use Rattle.oracle.proofs.Counting.{less_one}
 
 -- JOINING
 
-abbrev pub cut : ℕ → Joined → Joined
+abbrev pub cut : ℕ → Matched → Matched
 cut c Alone = Alone
 cut c (Joins left vs d) = Joins (mine c left) vs d
 cut c Fails = Fails
 
 module _ (g : Graph) (w : List Token) (t : Token) where
-  joins_mine : (ss : List Spot) (vs : List Value) (o : Option Deed) → joins (left_of t ss (mine t.context w)) vs o ≡ cut t.context (joins (left_of t ss w) vs o)
+  joins_mine : (ss : List Spot) (vs : List Value) (o : Option Deed)
+      → joins (remaining_of t ss (mine t.context w)) vs o ≡ cut t.context (joins (remaining_of t ss w) vs o)
   joins_mine ss vs None = refl
   joins_mine ss vs (Some d) = ap (λ r. Joins r vs d) (left_mine t ss w)
 
   counted_mine : (x : Invocation) (shape : Shape) (vs : List Value) (b : Bool)
-      → (if b then joins (left_of t (spots_in shape) (mine t.context w)) vs (deed_in g t.context x shape vs) else Fails)
-      ≡ cut t.context (if b then joins (left_of t (spots_in shape) w) vs (deed_in g t.context x shape vs) else Fails)
+      → (if b then joins (remaining_of t (spots_in shape) (mine t.context w)) vs (deed_in g t.context x shape vs) else Fails)
+      ≡ cut t.context (if b then joins (remaining_of t (spots_in shape) w) vs (deed_in g t.context x shape vs) else Fails)
   counted_mine x shape vs true = joins_mine (spots_in shape) vs (deed_in g t.context x shape vs)
   counted_mine x shape vs false = refl
 
@@ -56,7 +57,7 @@ module _ (g : Graph) (w : List Token) (t : Token) where
   in_mine (Some x) = shape_mine x (shape_in g x.made x.block t.spot)
 
   -- what is left when some of the token's partners are out
-  pub left_by : (o : Option Invocation) (left : List Token) (vs : List Value) (d : Deed) → join_in g w t o ≡ Joins left vs d → (ss : List Spot) × (left_of t ss w ≡ left)
+  pub left_by : (o : Option Invocation) (left : List Token) (vs : List Value) (d : Deed) → join_in g w t o ≡ Joins left vs d → (ss : List Spot) × (remaining_of t ss w ≡ left)
   left_by None left vs d e = cc
   left_by (Some x) left vs d e = let v = joined_view g w t x left vs d e in (spots_in v.shape, v.rest)
 
@@ -95,7 +96,7 @@ rows_alone w t = λ i d. at d i
             ap (λ k. mine k w ++ t ∷ []) same ∙ sym (ap (λ b. mine d w ++ keep b t []) (eq-eqb t.context d same))
         go false p = nil_right (mine d w) ∙ sym (ap (λ b. mine d w ++ keep b t []) (flip d t.context p))
 
-pub rows_left : (w : List Token) (t : Token) (ss : List Spot) (left : List Token) → left_of t ss w ≡ left → with_row (λ c. mine c w) t.context (mine t.context left) ≡ (λ c. mine c left)
+pub rows_left : (w : List Token) (t : Token) (ss : List Spot) (left : List Token) → remaining_of t ss w ≡ left → with_row (λ c. mine c w) t.context (mine t.context left) ≡ (λ c. mine c left)
 rows_left w t ss left e = λ i d. at d i
   where
     at : (d : ℕ) → with_row (λ c. mine c w) t.context (mine t.context left) d ≡ mine d left
@@ -123,8 +124,8 @@ module _ (g : Graph) (xs : List Invocation) (cells outputs : List (Option Value)
     | Clashes a i ↦ Stays (plain xs ts [] d cells outputs) (Clash a i)
   ]
 
-  abbrev pub row_joined : Token → List Token → (ℕ → List Token) → List Token → Joined → Next
-  row_joined t ts rows d j = elim j [
+  abbrev pub row_matched : Token → List Token → (ℕ → List Token) → List Token → Matched → Next
+  row_matched t ts rows d j = elim j [
     | Alone ↦ row_next g xs cells outputs ts (with_row rows t.context (rows t.context ++ t ∷ [])) d
     | Joins left vs deed ↦ row_gated t ts rows d left vs deed (gate_of cells deed)
     | Fails ↦ Breaks
@@ -137,7 +138,7 @@ module _ (g : Graph) (xs : List Invocation) (cells outputs : List (Option Value)
     | Clashes a i ↦ Ends (plain xs ts left d cells outputs) (Clash a i)
   ]
 
-  abbrev list_joined : Token → List Token → List Token → List Token → Joined → Came
+  abbrev list_joined : Token → List Token → List Token → List Token → Matched → Came
   list_joined t ts w d j = elim j [
     | Alone ↦ next_of g xs cells outputs ts (w ++ t ∷ []) d
     | Joins left vs deed ↦ list_gated t ts d left vs deed (gate_of cells deed)
@@ -153,7 +154,7 @@ module _ (g : Graph) (xs : List Invocation) (cells outputs : List (Option Value)
   gated_same t ts w d ih left vs deed rows Defers = ap (λ r. row_next g xs cells outputs ts r (d ++ t ∷ [])) rows ∙ ih left (d ++ t ∷ [])
   gated_same t ts w d ih left vs deed rows (Clashes a i) = refl
 
-  joined_same : (t : Token) (ts w d : List Token) → Same ts → (j : Joined) → join_of g xs w t ≡ j → row_joined t ts (λ c. mine c w) d (cut t.context j) ≡ rowed (list_joined t ts w d j)
+  joined_same : (t : Token) (ts w d : List Token) → Same ts → (j : Matched) → join_of g xs w t ≡ j → row_matched t ts (λ c. mine c w) d (cut t.context j) ≡ rowed (list_joined t ts w d j)
   joined_same t ts w d ih Alone e = ap (λ r. row_next g xs cells outputs ts r d) (rows_alone w t) ∙ ih (w ++ t ∷ []) d
   joined_same t ts w d ih (Joins left vs deed) e =
       let by = left_by g w t (slice_get xs t.context) left vs deed e in
@@ -163,7 +164,7 @@ module _ (g : Graph) (xs : List Invocation) (cells outputs : List (Option Value)
   next_same : (ts : List Token) → Same ts
   next_same [] w d = refl
   next_same (t ∷ ts) w d =
-      ap (λ j. row_joined t ts (λ c. mine c w) d j) (in_mine g w t (slice_get xs t.context)) ∙ joined_same t ts w d (next_same ts) (join_of g xs w t) refl
+      ap (λ j. row_matched t ts (λ c. mine c w) d j) (in_mine g w t (slice_get xs t.context)) ∙ joined_same t ts w d (next_same ts) (join_of g xs w t) refl
 
 next_rows : (g : Graph) (s : Plain) → next_among g (bare s) (λ c. mine c s.waiting) ≡ rowed (next_in g s)
 next_rows g s = next_same g s.invocations s.cells s.outputs s.fresh s.waiting s.deferred
@@ -172,7 +173,7 @@ next_rows g s = next_same g s.invocations s.cells s.outputs s.fresh s.waiting s.
 
 pub performed_bare : (g : Graph) (s : Plain) (vs : List Value) (d : Deed) → performed g (bare s) vs d ≡ bare (performed g s vs d)
 performed_bare g s vs (Sends c n p v) = refl
-performed_bare g s vs (Tells c k v) = refl
+performed_bare g s vs (Steers c k v) = refl
 performed_bare g s vs (Enters made f i v) = refl
 performed_bare g s vs (EntersAll made f) = refl
 performed_bare g s vs Stops = refl
@@ -182,7 +183,7 @@ performed_bare g s vs (Puts j v) = refl
 
 pub performed_waits : (g : Graph) (s : Plain) (vs : List Value) (d : Deed) → s.waiting ≡ (performed g s vs d).waiting
 performed_waits g s vs (Sends c n p v) = refl
-performed_waits g s vs (Tells c k v) = refl
+performed_waits g s vs (Steers c k v) = refl
 performed_waits g s vs (Enters made f i v) = refl
 performed_waits g s vs (EntersAll made f) = refl
 performed_waits g s vs Stops = refl
@@ -218,10 +219,10 @@ run_rows g (suc k) s = ap (went g k) (next_rows g s) ∙ go (run_rows g k) (next
     go ih (Ends t e) = refl
     go ih Broken = refl
 
-pub told_among : (g : Graph) (inputs : List ℤ) (steps : ℕ) → told g inputs steps ≡ told_of g (run_among g steps (start_of g inputs) no_rows)
-told_among g inputs steps = go (run_of g steps (start_of g inputs)) ∙ sym (ap (told_of g) (run_rows g steps (start_of g inputs)))
+pub result_among : (g : Graph) (inputs : List ℤ) (steps : ℕ) → run_result g inputs steps ≡ end_result_of g (run_among g steps (start_of g inputs) no_rows)
+result_among g inputs steps = go (run_of g steps (start_of g inputs)) ∙ sym (ap (end_result_of g) (run_rows g steps (start_of g inputs)))
   where
-    go : (r : Option (MeanEnd × Plain)) → told_of g r ≡ told_of g (bare_end r)
+    go : (r : Option (MeanEnd × Plain)) → end_result_of g r ≡ end_result_of g (bare_end r)
     go None = refl
     go (Some r) = refl
 
@@ -236,12 +237,12 @@ pub run_kept : {V : Type 0} (g : Graph) (k : ℕ) (q r : Plain) (w v : List V) (
 run_kept g k q r w v f e h = ap (λ s. run_among g k s (rows_of (map f w))) e ∙ ap (λ w. run_among g k r (rows_of (map f w))) (sym h)
 
 -- from the start, with no row
-pub told_from : {V : Type 0} (g : Graph) (inputs : List ℤ) (steps : ℕ) (s : Plain) (w : List V) (f : V → List Token) → s ≡ start_of g inputs → w ≡ [] → told g inputs steps ≡ told_of g (run_among g steps s (rows_of (map f w)))
+pub told_from : {V : Type 0} (g : Graph) (inputs : List ℤ) (steps : ℕ) (s : Plain) (w : List V) (f : V → List Token) → s ≡ start_of g inputs → w ≡ [] → run_result g inputs steps ≡ end_result_of g (run_among g steps s (rows_of (map f w)))
 told_from {V} g inputs steps s w f e h =
-    told_among g inputs steps ∙ ap (told_of g) (run_kept g steps (start_of g inputs) s [] w f (sym e) h)
+    result_among g inputs steps ∙ ap (end_result_of g) (run_kept g steps (start_of g inputs) s [] w f (sym e) h)
 
-pub told_none : {V : Type 0} (g : Graph) (inputs : List ℤ) (steps : ℕ) (s : Plain) (w : List V) (f : V → List Token) → s ≡ start_of g inputs → w ≡ [] → run_among g steps s (rows_of (map f w)) ≡ None → told g inputs steps ≡ None
-told_none g inputs steps s w f e h n = told_from g inputs steps s w f e h ∙ ap (told_of g) n
+pub told_none : {V : Type 0} (g : Graph) (inputs : List ℤ) (steps : ℕ) (s : Plain) (w : List V) (f : V → List Token) → s ≡ start_of g inputs → w ≡ [] → run_among g steps s (rows_of (map f w)) ≡ None → run_result g inputs steps ≡ None
+told_none g inputs steps s w f e h n = told_from g inputs steps s w f e h ∙ ap (end_result_of g) n
 
 -- A TOKEN AND WHAT JOINING IT TELLS
 abbrev pub Among : {X : Type 0} → Graph → List Invocation → Token → (ℕ → List Token) → (ℕ → List Token) → (X → List Value) → (X → Deed) → Option X → Type 0
@@ -253,20 +254,20 @@ module _ (g : Graph) (xs : List Invocation) (cells outputs : List (Option Value)
   pub next_alone : {X : Type 0} (o : Option X) (values : X → List Value) (deed : X → Deed) → o ≡ None → Among g xs t rows new values deed o → row_next g xs cells outputs (t ∷ ts) rows d ≡ row_next g xs cells outputs ts new d
   next_alone o values deed is h =
       let a = subst (λ o. Among g xs t rows new values deed o) is h in
-      ap (λ j. row_joined g xs cells outputs t ts rows d j) a.0 ∙ ap (λ r. row_next g xs cells outputs ts r d) a.1
+      ap (λ j. row_matched g xs cells outputs t ts rows d j) a.0 ∙ ap (λ r. row_next g xs cells outputs ts r d) a.1
 
   pub next_free : {X : Type 0} (o : Option X) (a : X) (values : X → List Value) (deed : X → Deed) → o ≡ Some a → Among g xs t rows new values deed o → gate_of cells (deed a) ≡ Free
       → row_next g xs cells outputs (t ∷ ts) rows d ≡ Goes (plain xs ts [] d cells outputs) new (values a) (deed a)
   next_free o a values deed is h gate =
       let b = subst (λ o. Among g xs t rows new values deed o) is h in
-      ap (λ j. row_joined g xs cells outputs t ts rows d j) b.0 ∙ ap (λ k. row_gated g xs cells outputs t ts rows d (new t.context) (values a) (deed a) k) gate
+      ap (λ j. row_matched g xs cells outputs t ts rows d j) b.0 ∙ ap (λ k. row_gated g xs cells outputs t ts rows d (new t.context) (values a) (deed a) k) gate
       ∙ ap (λ r. Goes (plain xs ts [] d cells outputs) r (values a) (deed a)) b.1
 
   pub next_defers : {X : Type 0} (o : Option X) (a : X) (values : X → List Value) (deed : X → Deed) → o ≡ Some a → Among g xs t rows new values deed o → gate_of cells (deed a) ≡ Defers
       → row_next g xs cells outputs (t ∷ ts) rows d ≡ row_next g xs cells outputs ts new (d ++ t ∷ [])
   next_defers o a values deed is h gate =
       let b = subst (λ o. Among g xs t rows new values deed o) is h in
-      ap (λ j. row_joined g xs cells outputs t ts rows d j) b.0 ∙ ap (λ k. row_gated g xs cells outputs t ts rows d (new t.context) (values a) (deed a) k) gate
+      ap (λ j. row_matched g xs cells outputs t ts rows d j) b.0 ∙ ap (λ k. row_gated g xs cells outputs t ts rows d (new t.context) (values a) (deed a) k) gate
       ∙ ap (λ r. row_next g xs cells outputs ts r (d ++ t ∷ [])) b.1
 
 -- what a row tells, told of all rows

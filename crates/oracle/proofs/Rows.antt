@@ -5,7 +5,7 @@ use Rattle.tags.specs.declared.value.Value.{Value}
 use Rattle.oracle.specs.declared.tokens.Spot.{Spot}
 use Rattle.oracle.specs.declared.tokens.Token.{Token}
 use Rattle.oracle.specs.Lines.{same_spot}
-use Rattle.oracle.specs.Acting.{is_at, find_from, without, value_of, value_at, all_there, left_after, value_here, left_of, values_of}
+use Rattle.oracle.specs.Acting.{is_at, find_from, without, value_of, value_at, all_there, remaining_after, value_here, remaining_of, values_of}
 
 -- TOKENS OF ONE INVOCATION
 
@@ -146,14 +146,14 @@ module _ (c : ℕ) (s : Spot) where
 
 -- PARTNERS
 module _ (t : Token) where
-  after_mine : (s : Spot) (ts : List Token) → left_after t s (mine t.context ts) ≡ mine t.context (left_after t s ts)
+  after_mine : (s : Spot) (ts : List Token) → remaining_after t s (mine t.context ts) ≡ mine t.context (remaining_after t s ts)
   after_mine s ts = go (same_spot s t.spot)
     where
       go : (b : Bool) → (if b then mine t.context ts else without (mine t.context ts) (find_from t.context s 0 (mine t.context ts))) ≡ mine t.context (if b then ts else without ts (find_from t.context s 0 ts))
       go true = refl
       go false = without_out t.context s (mine t.context ts) ∙ out_mine t.context s ts ∙ sym (ap (λ r. mine t.context r) (without_out t.context s ts))
 
-  after_other : (d : ℕ) → (d == t.context) ≡ false → (s : Spot) (ts : List Token) → mine d (left_after t s ts) ≡ mine d ts
+  after_other : (d : ℕ) → (d == t.context) ≡ false → (s : Spot) (ts : List Token) → mine d (remaining_after t s ts) ≡ mine d ts
   after_other d e s ts = go (same_spot s t.spot)
     where
       go : (b : Bool) → mine d (if b then ts else without ts (find_from t.context s 0 ts)) ≡ mine d ts
@@ -173,15 +173,15 @@ module _ (t : Token) where
       ap₂ (λ (a b : Bool). if same_spot s t.spot || a then b else false)
       (some_has t.context s (mine t.context ts) ∙ has_mine t.context s ts ∙ sym (some_has t.context s ts)) (there_mine ss ts)
 
-  pub left_mine : (ss : List Spot) (ts : List Token) → left_of t ss (mine t.context ts) ≡ mine t.context (left_of t ss ts)
+  pub left_mine : (ss : List Spot) (ts : List Token) → remaining_of t ss (mine t.context ts) ≡ mine t.context (remaining_of t ss ts)
   left_mine [] ts = refl
-  left_mine (s ∷ ss) ts = ap (λ r. left_of t ss r) (after_mine s ts) ∙ left_mine ss (left_after t s ts)
+  left_mine (s ∷ ss) ts = ap (λ r. remaining_of t ss r) (after_mine s ts) ∙ left_mine ss (remaining_after t s ts)
 
-  pub left_other : (d : ℕ) → (d == t.context) ≡ false → (ss : List Spot) (ts : List Token) → mine d (left_of t ss ts) ≡ mine d ts
+  pub left_other : (d : ℕ) → (d == t.context) ≡ false → (ss : List Spot) (ts : List Token) → mine d (remaining_of t ss ts) ≡ mine d ts
   left_other d e [] ts = refl
-  left_other d e (s ∷ ss) ts = left_other d e ss (left_after t s ts) ∙ after_other d e s ts
+  left_other d e (s ∷ ss) ts = left_other d e ss (remaining_after t s ts) ∙ after_other d e s ts
 
   pub values_mine : (ss : List Spot) (ts : List Token) → values_of t ss (mine t.context ts) ≡ values_of t ss ts
   values_mine [] ts = refl
   values_mine (s ∷ ss) ts =
-      ap₂ (λ (a b : List Value). a ++ b) (here_mine s ts) (ap (λ r. values_of t ss r) (after_mine s ts) ∙ values_mine ss (left_after t s ts))
+      ap₂ (λ (a b : List Value). a ++ b) (here_mine s ts) (ap (λ r. values_of t ss r) (after_mine s ts) ∙ values_mine ss (remaining_after t s ts))

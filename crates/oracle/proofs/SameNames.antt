@@ -11,7 +11,7 @@ use Rattle.oracle.specs.declared.invocations.Made.{Made}
 use Rattle.oracle.specs.declared.invocations.Made.TheVariants.{Main, Called, Turned}
 use Rattle.oracle.specs.declared.invocations.Invocation.{Invocation}
 use Rattle.oracle.specs.declared.deeds.Deed.{Deed}
-use Rattle.oracle.specs.declared.deeds.Deed.TheVariants.{Sends, Tells, Enters, EntersAll, Stops, Reads, Fills, Puts}
+use Rattle.oracle.specs.declared.deeds.Deed.TheVariants.{Sends, Steers, Enters, EntersAll, Stops, Reads, Fills, Puts}
 use Rattle.oracle.specs.declared.tokens.Token.{Token}
 use Rattle.oracle.specs.Meant.{name_in, made_of, tagged_of, deed_of}
 use Rattle.oracle.specs.Naming.{IsBelow, CanEnter, IsKnown, Named}
@@ -82,7 +82,7 @@ module _ (g : Graph) (xs ys : List Invocation) (cs ds : List Context) (old : Nam
 
   pub deed_same : (vs : List Value) (d : Deed) → IsKnown g cs (length xs) vs d → deed_of ds vs d ≡ deed_of cs vs d
   deed_same vs (Sends c n p v) h = ap (λ c. Meaning.Says (Meaning.Sends c n p v)) (name_same c h)
-  deed_same vs (Tells c k v) h = ap (λ c. Meaning.Says (Meaning.Tells c k v)) (name_same c h)
+  deed_same vs (Steers c k v) h = ap (λ c. Meaning.Says (Meaning.Steers c k v)) (name_same c h)
   deed_same vs (Enters made f i v) h = ap (λ c. Meaning.Says (Meaning.Enters c i (v ∷ []))) (made_same made h.0)
   deed_same vs (EntersAll made f) h = ap (λ c. Meaning.Says (Meaning.Enters c 0 vs)) (made_same made h.0)
   deed_same vs Stops h = refl
@@ -100,7 +100,7 @@ module _ (g : Graph) (xs ys : List Invocation) (cs ds : List Context) (old : Nam
 
   pub known_same : (vs : List Value) (d : Deed) → IsKnown g cs (length xs) vs d → IsKnown g ds (length ys) vs d
   known_same vs (Sends c n p v) h = let long = as_long xs ys more in omega (arith, h, long)
-  known_same vs (Tells c k v) h = let long = as_long xs ys more in omega (arith, h, long)
+  known_same vs (Steers c k v) h = let long = as_long xs ys more in omega (arith, h, long)
   known_same vs (Enters made f i v) h = enter_same made f h
   known_same vs (EntersAll made f) h = enter_same made f h
   known_same vs Stops h = tt

@@ -8,7 +8,7 @@ use Rattle.semantics.specs.Graph.{Graph, flow_of}
 use Rattle.semantics.specs.Meaning.{Context, Tagged, Activity, taken, deed}
 use Rattle.lemmas.proofs.Permutations.{Within, put_first, put_later, within_append, permutation_exchange}
 use Rattle.oracle.specs.declared.deeds.Deed.{Deed}
-use Rattle.oracle.specs.declared.deeds.Deed.TheVariants.{Sends, Tells, Enters, EntersAll, Stops, Reads, Fills, Puts}
+use Rattle.oracle.specs.declared.deeds.Deed.TheVariants.{Sends, Steers, Enters, EntersAll, Stops, Reads, Fills, Puts}
 use Rattle.oracle.specs.declared.invocations.Invocation.{Invocation}
 use Rattle.oracle.specs.declared.tokens.Token.{Token}
 use Rattle.oracle.specs.Lines.{outputs_at}
@@ -51,7 +51,7 @@ taking_more g k cs m P held (b ∷ acts) (c ∷ as') h own act a t p =
 
 pub turn_later : (k : ℕ) (d : Deed) → DeedTurn k d → DeedTurn (suc k) d
 turn_later k (Sends c n p v) h = tt
-turn_later k (Tells c n v) h = tt
+turn_later k (Steers c n v) h = tt
 turn_later k (Enters made f i v) h = turn_more (suc k) made h
 turn_later k (EntersAll made f) h = turn_more (suc k) made h
 turn_later k Stops h = tt

@@ -188,7 +188,7 @@ module _ (g : Graph) (well : WellFormed g) where
       let b = h.2 in
       let main : block_of (flow_of g) Meaning.Main ≡ Some b.0 = ap (block_of (flow_of g)) h.0 ∙ b.1 in
       subst (λ k. j < k) (main_results b.0 main) (use_low b.0 c n p j q b.2)
-  member_low (Meaning.Tells c k w) j q v h = let no = h.3.5 in cc
+  member_low (Meaning.Steers c k w) j q v h = let no = h.3.5 in cc
   member_low (Meaning.Enters c from vs) j q v h = let no = h.2.2 in cc
   member_low Meaning.Nothing j q v h = absurd h
 

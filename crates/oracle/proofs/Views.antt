@@ -26,27 +26,27 @@ use Rattle.oracle.specs.declared.tokens.Spot.{Spot}
 use Rattle.oracle.specs.declared.tokens.Spot.TheVariants.{Operand, Predicate, Out, Flag, Carried}
 use Rattle.oracle.specs.declared.tokens.Token.{Token}
 use Rattle.oracle.specs.Lines.{line_of, line_in, line_of_row, resolved_in, origin_of, takes_all, fires_shape, node_shape, operand_shape, enter_shape, predicate_shape, out_shape, turn_shape, shape_in, operand_spots, spots_in}
-use Rattle.oracle.specs.Acting.{input_deed, fired_deed, one_deed, two_deed, line_deed, gated_deed, passed_deed, next_turn, turned_deed, returned_deed, shown_deed, deed_in, all_there, left_of, values_of}
+use Rattle.oracle.specs.Acting.{input_deed, fired_deed, one_deed, two_deed, line_deed, gated_deed, passed_deed, next_turn, turned_deed, returned_deed, shown_deed, deed_in, all_there, remaining_of, values_of}
 use Rattle.oracle.specs.Running.{Alone, Joins, Fails, joins, join_all, join_shape, join_in}
 use Rattle.oracle.proofs.Gathered.{values_full, spots_apart}
 use Rattle.oracle.proofs.ShapeLaws.{if_one}
 
 -- VIEWS
 
-pub record IsJoined (g : Graph) (w : List Token) (t : Token) (x : Invocation) (left : List Token) (vs : List Value) (d : Deed) : Type 0 where
+pub record IsMatched (g : Graph) (w : List Token) (t : Token) (x : Invocation) (left : List Token) (vs : List Value) (d : Deed) : Type 0 where
   pub shape : Shape
   pub here : shape_in g x.made x.block t.spot ≡ Some shape
   pub values : values_of t (spots_in shape) w ≡ vs
-  pub rest : left_of t (spots_in shape) w ≡ left
+  pub rest : remaining_of t (spots_in shape) w ≡ left
   pub long : length vs ≡ length (spots_in shape)
   pub deed : deed_in g t.context x shape vs ≡ Some d
 
 module _ (g : Graph) (w : List Token) (t : Token) (x : Invocation) where
   joined_deed : (left : List Token) (vs : List Value) (d : Deed) (shape : Shape) → shape_in g x.made x.block t.spot ≡ Some shape → length (values_of t (spots_in shape) w) ≡ length (spots_in shape)
-      → (o : Option Deed) → deed_in g t.context x shape (values_of t (spots_in shape) w) ≡ o → joins (left_of t (spots_in shape) w) (values_of t (spots_in shape) w) o ≡ Joins left vs d → IsJoined g w t x left vs d
+      → (o : Option Deed) → deed_in g t.context x shape (values_of t (spots_in shape) w) ≡ o → joins (remaining_of t (spots_in shape) w) (values_of t (spots_in shape) w) o ≡ Joins left vs d → IsMatched g w t x left vs d
   joined_deed left vs d shape e l None q h = cc
   joined_deed left vs d shape e l (Some b) q h =
-      let lefts : left_of t (spots_in shape) w ≡ left = cc in
+      let lefts : remaining_of t (spots_in shape) w ≡ left = cc in
       let values : values_of t (spots_in shape) w ≡ vs = cc in
       let deeds : b ≡ d = cc in
       record {
@@ -58,27 +58,27 @@ module _ (g : Graph) (w : List Token) (t : Token) (x : Invocation) where
         deed = ap (λ vs. deed_in g t.context x shape vs) (sym values) ∙ q ∙ ap Some deeds;
       }
 
-  joined_shape : (left : List Token) (vs : List Value) (d : Deed) (o : Option Shape) → shape_in g x.made x.block t.spot ≡ o → join_shape g w t x o ≡ Joins left vs d → IsJoined g w t x left vs d
+  joined_shape : (left : List Token) (vs : List Value) (d : Deed) (o : Option Shape) → shape_in g x.made x.block t.spot ≡ o → join_shape g w t x o ≡ Joins left vs d → IsMatched g w t x left vs d
   joined_shape left vs d None e h = cc
   joined_shape left vs d (Some shape) e h =
       let ss = spots_in shape in
       let ws = values_of t ss w in
-      let counted : (b : Bool) → (length ws == length ss) ≡ b → (if b then joins (left_of t ss w) ws (deed_in g t.context x shape ws) else Fails) ≡ Joins left vs d → IsJoined g w t x left vs d
-      = λ b. elim b as (λ b. (length ws == length ss) ≡ b → (if b then joins (left_of t ss w) ws (deed_in g t.context x shape ws) else Fails) ≡ Joins left vs d → IsJoined g w t x left vs d) [
+      let counted : (b : Bool) → (length ws == length ss) ≡ b → (if b then joins (remaining_of t ss w) ws (deed_in g t.context x shape ws) else Fails) ≡ Joins left vs d → IsMatched g w t x left vs d
+      = λ b. elim b as (λ b. (length ws == length ss) ≡ b → (if b then joins (remaining_of t ss w) ws (deed_in g t.context x shape ws) else Fails) ≡ Joins left vs d → IsMatched g w t x left vs d) [
         | true ↦ λ q k. joined_deed left vs d shape e (eqb-true (length ws) (length ss) q) (deed_in g t.context x shape ws) refl k
         | false ↦ λ q k. cc
       ] in
-      let there : (b : Bool) → (if b then join_all g w t x shape else Alone) ≡ Joins left vs d → IsJoined g w t x left vs d
-      = λ b. elim b as (λ b. (if b then join_all g w t x shape else Alone) ≡ Joins left vs d → IsJoined g w t x left vs d) [
+      let there : (b : Bool) → (if b then join_all g w t x shape else Alone) ≡ Joins left vs d → IsMatched g w t x left vs d
+      = λ b. elim b as (λ b. (if b then join_all g w t x shape else Alone) ≡ Joins left vs d → IsMatched g w t x left vs d) [
         | true ↦ λ k. counted (length ws == length ss) refl k
         | false ↦ λ k. cc
       ] in
       there (all_there t ss w) h
 
-  pub joined_view : (left : List Token) (vs : List Value) (d : Deed) → join_in g w t (Some x) ≡ Joins left vs d → IsJoined g w t x left vs d
+  pub joined_view : (left : List Token) (vs : List Value) (d : Deed) → join_in g w t (Some x) ≡ Joins left vs d → IsMatched g w t x left vs d
   joined_view left vs d h = joined_shape left vs d (shape_in g x.made x.block t.spot) refl h
 
-  alone_counted : (shape : Shape) (b : Bool) (o : Option Deed) → (if b then joins (left_of t (spots_in shape) w) (values_of t (spots_in shape) w) o else Fails) ≡ Alone → ⊥
+  alone_counted : (shape : Shape) (b : Bool) (o : Option Deed) → (if b then joins (remaining_of t (spots_in shape) w) (values_of t (spots_in shape) w) o else Fails) ≡ Alone → ⊥
   alone_counted shape true None h = cc
   alone_counted shape true (Some d) h = cc
   alone_counted shape false o h = cc
@@ -288,7 +288,7 @@ module _ (g : Graph) (well : WellFormed g) (w : List Token) (t : Token) (x : Inv
             let long = values_full t ss w (spots_apart shape) q in
             let counted : (length vs == length ss) ≡ true = eq-eqb (length vs) (length ss) long in
             let d = deed_some g well t.context x k low by t.spot shape vs e long in
-            let whole : join_all g w t x shape ≡ Joins (left_of t ss w) vs d.0 = ap (λ b. if b then joins (left_of t ss w) vs (deed_in g t.context x shape vs) else Fails) counted ∙ ap (joins (left_of t ss w) vs) d.1 in
+            let whole : join_all g w t x shape ≡ Joins (remaining_of t ss w) vs d.0 = ap (λ b. if b then joins (remaining_of t ss w) vs (deed_in g t.context x shape vs) else Fails) counted ∙ ap (joins (remaining_of t ss w) vs) d.1 in
             let no = sym whole ∙ h in
             cc
         | false ↦ λ q h. cc

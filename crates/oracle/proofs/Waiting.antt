@@ -18,7 +18,7 @@ use Rattle.oracle.specs.declared.invocations.Invocation.{Invocation}
 use Rattle.oracle.specs.declared.tokens.Spot.{Spot}
 use Rattle.oracle.specs.declared.tokens.Token.{Token}
 use Rattle.oracle.specs.Lines.{spots_in}
-use Rattle.oracle.specs.Acting.{is_there, all_there, left_of}
+use Rattle.oracle.specs.Acting.{is_there, all_there, remaining_of}
 use Rattle.oracle.specs.Running.{Alone, join_in}
 use Rattle.oracle.specs.Meant.{name_in, made_of, tagged_of, statement_of, port_of}
 use Rattle.oracle.specs.Naming.{Named}
@@ -55,12 +55,12 @@ held_none (u ∷ us) l h = absurd h.0.1
 pub stuck_none : (fl : Flow) → IsFlowWell fl → Stuck fl []
 stuck_none fl w a d e h = held_none (taken a) (takes_some fl w a d e) h
 
-pub stuck_left : (fl : Flow) (f : Token → Tagged) (t : Token) (ss : List Spot) (w : List Token) → Stuck fl (map f w) → Stuck fl (map f (left_of t ss w))
+pub stuck_left : (fl : Flow) (f : Token → Tagged) (t : Token) (ss : List Spot) (w : List Token) → Stuck fl (map f w) → Stuck fl (map f (remaining_of t ss w))
 stuck_left fl f t ss w stuck a d e h =
     stuck a d e
-    (each_weaker (λ y. Within y (map f (left_of t ss w))) (λ y. Within y (map f w))
+    (each_weaker (λ y. Within y (map f (remaining_of t ss w))) (λ y. Within y (map f w))
     (λ y k.
-    let b = within_back f y (left_of t ss w) k in
+    let b = within_back f y (remaining_of t ss w) k in
     subst (λ y. Within y (map f w)) b.2 (within_map f b.0 w (left_within t ss w b.0 b.1)))
     (taken a) h)
 

@@ -23,12 +23,12 @@ use Rattle.oracle.specs.Lines.{inputs_at}
 use Rattle.oracle.specs.Acting.{gate_of}
 use Rattle.oracle.specs.Running.{Plain, plain, main_place, start_of, performed}
 use Rattle.oracle.specs.Reporting.{cell_at}
-use Rattle.oracle.specs.Gathering.{Gathered, Found, Clashed, Failed, Performed, Does, Hits, performed_all, Waved, Passes, Halts, Breaks, waved_by, wave_of_acts, wave_found, wave_among, waves_among, waves_told}
+use Rattle.oracle.specs.Gathering.{Gathered, Found, Clashed, Failed, Performed, Does, Hits, performed_all, Waved, Passes, Halts, Breaks, waved_by, wave_of_acts, wave_found, wave_among, waves_among, wave_counts}
 use Rattle.oracle.specs.Waves.{AreEnabled, IsWave, AreWaves, work, AreWavesOf, WorkIsOne, SpanIsLow}
 use Rattle.oracle.proofs.Doing.{ahead, CanDo, IsDone, done_law}
 use Rattle.oracle.proofs.Enabled.{enabled, rests}
 use Rattle.oracle.proofs.Finding.{Gathers, IsFound, found_law}
-use Rattle.oracle.proofs.Following.{all_tokens, meant, Follows}
+use Rattle.oracle.proofs.Following.{all_tokens, meant, RunsSoFar}
 use Rattle.oracle.proofs.RowRuns.{bare, performed_bare, performed_waits}
 use Rattle.oracle.proofs.Rows.{mine}
 use Rattle.oracle.proofs.SameNames.{state_same}
@@ -80,7 +80,7 @@ free_can cells e free q = let no : Free ≡ Defers = sym free ∙ q in cc
 module _ (g : Graph) (text : HasText g) (well : WellFormed g) (inputs : List ℤ) (fit : length inputs ≡ inputs_of (flow_of g)) where
   abbrev IsWaved : ℕ → ℕ → State → Waved → Type 0
   IsWaved k left old (Passes t rows n) =
-      (u : Plain) × (t ≡ bare u) × (rows ≡ (λ c. mine c u.waiting)) × (f : Follows g inputs (k + n) u) × ((as' : List Activity) × IsWave (flow_of g) old as' (meant f.sound.names u) × (length as' ≡ n)) × (0 < n) × (n ≤ left)
+      (u : Plain) × (t ≡ bare u) × (rows ≡ (λ c. mine c u.waiting)) × (f : RunsSoFar g inputs (k + n) u) × ((as' : List Activity) × IsWave (flow_of g) old as' (meant f.sound.names u) × (length as' ≡ n)) × (0 < n) × (n ≤ left)
   IsWaved k left old (Halts Rest) = AtRest (flow_of g) old × NoClash (flow_of g) old
   IsWaved k left old (Halts (Clash a i)) = (i < array_len (flow_of g) a) × ((t : State) × Leads (flow_of g) old t × Clashes (flow_of g) t (cell_at g a i))
   IsWaved k left old (Halts Steps) = (as' : List Activity) × AreEnabled (flow_of g) old as' × (left < length as')
@@ -97,8 +97,8 @@ module _ (g : Graph) (text : HasText g) (well : WellFormed g) (inputs : List ℤ
     many = as_many g k cs (length s.invocations) (λ e. gate_of s.cells e ≡ Free) h.held (act ∷ acts) h.activities h.taking
 
     -- all that was found, ahead of no other token
-    whole : Follows g inputs k (ahead h.held first)
-    whole = subst (λ l. Follows g inputs k (plain s.invocations l w d s.cells s.outputs)) (sym (append-nil h.held)) h.follows
+    whole : RunsSoFar g inputs k (ahead h.held first)
+    whole = subst (λ l. RunsSoFar g inputs k (plain s.invocations l w d s.cells s.outputs)) (sym (append-nil h.held)) h.follows
 
     same : Same old (meant whole.sound.names (ahead h.held first))
     same =
@@ -119,7 +119,7 @@ module _ (g : Graph) (text : HasText g) (well : WellFormed g) (inputs : List ℤ
     passes le (Does t) done wait =
         let count = done.1 in
         let n : done.0 ≡ k + length (act ∷ acts) = omega (arith, count, many) in
-        let f : Follows g inputs (k + length (act ∷ acts)) t = subst (λ n. Follows g inputs n t) n done.2 in
+        let f : RunsSoFar g inputs (k + length (act ∷ acts)) t = subst (λ n. RunsSoFar g inputs n t) n done.2 in
         let end : Same (meant done.2.sound.names t) (meant f.sound.names t) =
         state_same g t t done.2.sound.names f.sound.names done.2.sound.named f.sound.named (λ i x e. e) done.2.sound.known (IsPermutation-refl _) refl refl in
         let wave : IsWave (flow_of g) old h.activities (meant f.sound.names t) = record {
@@ -158,11 +158,11 @@ module _ (g : Graph) (text : HasText g) (well : WellFormed g) (inputs : List ℤ
   of_found k left low old s (Clashed Steps) h = absurd h
   of_found k left low old s Failed h = absurd h
 
-  wave_law : (k left : ℕ) → k < 2 ^ 64 → (s : Plain) (f : Follows g inputs k s) → IsWaved k left (meant f.sound.names s) (wave_among g left (bare s) (λ c. mine c s.waiting))
+  wave_law : (k left : ℕ) → k < 2 ^ 64 → (s : Plain) (f : RunsSoFar g inputs k s) → IsWaved k left (meant f.sound.names s) (wave_among g left (bare s) (λ c. mine c s.waiting))
   wave_law k left low s f =
       let old = meant f.sound.names s in
       let s' = plain s.invocations (s.fresh ++ []) s.waiting s.deferred s.cells s.outputs in
-      let f' : Follows g inputs k s' = subst (λ l. Follows g inputs k (plain s.invocations l s.waiting s.deferred s.cells s.outputs)) (sym (append-nil s.fresh)) f in
+      let f' : RunsSoFar g inputs k s' = subst (λ l. RunsSoFar g inputs k (plain s.invocations l s.waiting s.deferred s.cells s.outputs)) (sym (append-nil s.fresh)) f in
       let p : IsPermutation (all_tokens s) (all_tokens s') = subst (λ l. IsPermutation (all_tokens s) (l ++ (s.waiting ++ s.deferred))) (sym (append-nil s.fresh)) (IsPermutation-refl _) in
       let h : Gathers g inputs k old s.invocations s.cells s.outputs s.fresh s.waiting s.deferred [] = record {
         held = [];
@@ -192,18 +192,18 @@ waves_run fl (n ∷ counts) s t h =
     (h.0 ++ ih.0, run_append fl s h.1 t h.0 ih.0 h.2.run ih.1, omega (arith, long, count, later))
 
 module _ (g : Graph) (text : HasText g) (well : WellFormed g) (inputs : List ℤ) (fit : length inputs ≡ inputs_of (flow_of g)) (steps : ℕ) (low : steps < 2 ^ 64) where
-  abbrev AreTold : Option (MeanEnd × List ℕ) → Type 0
-  AreTold None = ⊥
-  AreTold (Some r) = AreWavesOf g inputs steps r.0 r.1
+  abbrev AreCounted : Option (MeanEnd × List ℕ) → Type 0
+  AreCounted None = ⊥
+  AreCounted (Some r) = AreWavesOf g inputs steps r.0 r.1
 
   -- the waves so far
   abbrev SoFar : ℕ → List ℕ → Plain → Type 0
-  SoFar left counts s = (k : ℕ) × (k ≡ work counts) × (work counts + left ≡ steps) × (f : Follows g inputs k s) × AreWaves (flow_of g) (start inputs) counts (meant f.sound.names s)
+  SoFar left counts s = (k : ℕ) × (k ≡ work counts) × (work counts + left ≡ steps) × (f : RunsSoFar g inputs k s) × AreWaves (flow_of g) (start inputs) counts (meant f.sound.names s)
 
   reached : (counts : List ℕ) (s : State) → AreWaves (flow_of g) (start inputs) counts s → Reached (flow_of g) inputs s
   reached counts s h = let r = waves_run (flow_of g) counts (start inputs) s h in record { run = r.0; is_run = r.1 }
 
-  halts : (left : ℕ) (counts : List ℕ) (s : Plain) (h : SoFar left counts s) (e : MeanEnd) → IsWaved g text well inputs fit h.0 left (meant h.3.sound.names s) (Halts e) → AreTold (Some (e, counts))
+  halts : (left : ℕ) (counts : List ℕ) (s : Plain) (h : SoFar left counts s) (e : MeanEnd) → IsWaved g text well inputs fit h.0 left (meant h.3.sound.names s) (Halts e) → AreCounted (Some (e, counts))
   halts left counts s h Rest o =
       let sums = h.2 in
       let state = meant h.3.sound.names s in
@@ -218,16 +218,16 @@ module _ (g : Graph) (text : HasText g) (well : WellFormed g) (inputs : List ℤ
       let more = o.2 in
       record { state = meant h.3.sound.names s; waves = h.4; few = omega (arith, sums); ended = (o.0, o.1, omega (arith, sums, more)); outcome = tt }
 
-  waves_law : (most left : ℕ) (counts : List ℕ) (s : Plain) → left < most → SoFar left counts s → AreTold (waves_among g most left (bare s) (λ c. mine c s.waiting) counts)
+  waves_law : (most left : ℕ) (counts : List ℕ) (s : Plain) → left < most → SoFar left counts s → AreCounted (waves_among g most left (bare s) (λ c. mine c s.waiting) counts)
   waves_law zero left counts s few h = absurd (omega (arith, few))
   waves_law (suc most) left counts s few h =
       let first = h.1 in
       let sums = h.2 in
       let below : h.0 < 2 ^ 64 = omega (arith, first, sums, low) in
       let cases : (v : Waved) → IsWaved g text well inputs fit h.0 left (meant h.3.sound.names s) v
-      → AreTold (elim v as (λ v. Option (MeanEnd × List ℕ)) [ Passes t rs n ↦ waves_among g most (left - n) t rs (counts ++ n ∷ []) | Halts e ↦ Some (e, counts) | Breaks ↦ None ])
+      → AreCounted (elim v as (λ v. Option (MeanEnd × List ℕ)) [ Passes t rs n ↦ waves_among g most (left - n) t rs (counts ++ n ∷ []) | Halts e ↦ Some (e, counts) | Breaks ↦ None ])
       = λ v. elim v as (λ v. IsWaved g text well inputs fit h.0 left (meant h.3.sound.names s) v
-      → AreTold (elim v as (λ v. Option (MeanEnd × List ℕ)) [ Passes t rs n ↦ waves_among g most (left - n) t rs (counts ++ n ∷ []) | Halts e ↦ Some (e, counts) | Breaks ↦ None ])) [
+      → AreCounted (elim v as (λ v. Option (MeanEnd × List ℕ)) [ Passes t rs n ↦ waves_among g most (left - n) t rs (counts ++ n ∷ []) | Halts e ↦ Some (e, counts) | Breaks ↦ None ])) [
         | Passes t rs n ↦ λ o.
             let u = o.0 in
             let some = o.5 in
@@ -235,8 +235,8 @@ module _ (g : Graph) (text : HasText g) (well : WellFormed g) (inputs : List ℤ
             let more = work_more counts n in
             let whole : AreWaves (flow_of g) (start inputs) (counts ++ n ∷ []) (meant o.3.sound.names u) = waves_more (flow_of g) counts (start inputs) (meant h.3.sound.names s) (meant o.3.sound.names u) o.4.0 n h.4 o.4.1 o.4.2 some in
             let so_far : SoFar (left - n) (counts ++ n ∷ []) u = (h.0 + n, omega (arith, first, more), omega (arith, sums, more, le), o.3, whole) in
-            subst (λ t. AreTold (waves_among g most (left - n) t rs (counts ++ n ∷ []))) (sym o.1)
-            (subst (λ rows. AreTold (waves_among g most (left - n) (bare u) rows (counts ++ n ∷ []))) (sym o.2) (waves_law most (left - n) (counts ++ n ∷ []) u (omega (arith, few, some, le)) so_far))
+            subst (λ t. AreCounted (waves_among g most (left - n) t rs (counts ++ n ∷ []))) (sym o.1)
+            (subst (λ rows. AreCounted (waves_among g most (left - n) (bare u) rows (counts ++ n ∷ []))) (sym o.2) (waves_law most (left - n) (counts ++ n ∷ []) u (omega (arith, few, some, le)) so_far))
         | Halts e ↦ λ o. halts left counts s h e o
         | Breaks ↦ λ o. absurd o
       ] in
@@ -246,30 +246,30 @@ module _ (g : Graph) (text : HasText g) (well : WellFormed g) (inputs : List ℤ
   no_run s [] e r = r
   no_run s (a ∷ run) e r = absurd (omega (arith, e))
 
-  told : AreTold (waves_told g inputs steps)
-  told =
+  run_result : AreCounted (wave_counts g inputs steps)
+  run_result =
       let f = begins g well inputs in
       let first : AreWaves (flow_of g) (start inputs) [] (meant f.sound.names (start_of g inputs)) = no_run (meant f.sound.names (start_of g inputs)) f.run f.count f.is_run in
       waves_law (suc steps) steps [] (start_of g inputs) (omega arith) (0, refl, omega arith, f, first)
 
-  some_told : (o : Option (MeanEnd × List ℕ)) → AreTold o → (r : MeanEnd × List ℕ) × (o ≡ Some r)
+  some_told : (o : Option (MeanEnd × List ℕ)) → AreCounted o → (r : MeanEnd × List ℕ) × (o ≡ Some r)
   some_told None h = absurd h
   some_told (Some r) h = (r, refl)
 
-  true_told : (end : MeanEnd) (counts : List ℕ) (o : Option (MeanEnd × List ℕ)) → AreTold o → o ≡ Some (end, counts) → AreWavesOf g inputs steps end counts
+  true_told : (end : MeanEnd) (counts : List ℕ) (o : Option (MeanEnd × List ℕ)) → AreCounted o → o ≡ Some (end, counts) → AreWavesOf g inputs steps end counts
   true_told end counts None h e = absurd h
   true_told end counts (Some r) h e = let same = same_Some r (end, counts) e in subst (λ (q : MeanEnd × List ℕ). AreWavesOf g inputs steps q.0 q.1) same h
 
-pub waves_end : (g : Graph) (inputs : List ℤ) (steps : ℕ) → HasText g → WellFormed g → length inputs ≡ inputs_at g (main_place g) → steps < 2 ^ 64 → (r : MeanEnd × List ℕ) × (waves_told g inputs steps ≡ Some r)
+pub waves_end : (g : Graph) (inputs : List ℤ) (steps : ℕ) → HasText g → WellFormed g → length inputs ≡ inputs_at g (main_place g) → steps < 2 ^ 64 → (r : MeanEnd × List ℕ) × (wave_counts g inputs steps ≡ Some r)
 waves_end g inputs steps text well fit low =
     let fit' = fit ∙ inputs_same g in
-    some_told g text well inputs fit' steps low (waves_told g inputs steps) (told g text well inputs fit' steps low)
+    some_told g text well inputs fit' steps low (wave_counts g inputs steps) (run_result g text well inputs fit' steps low)
 
 pub waves_true : (g : Graph) (inputs : List ℤ) (steps : ℕ) (end : MeanEnd) (counts : List ℕ) → HasText g → WellFormed g → length inputs ≡ inputs_at g (main_place g) → steps < 2 ^ 64
-    → waves_told g inputs steps ≡ Some (end, counts) → AreWavesOf g inputs steps end counts
+    → wave_counts g inputs steps ≡ Some (end, counts) → AreWavesOf g inputs steps end counts
 waves_true g inputs steps end counts text well fit low e =
     let fit' = fit ∙ inputs_same g in
-    true_told g text well inputs fit' steps low end counts (waves_told g inputs steps) (told g text well inputs fit' steps low) e
+    true_told g text well inputs fit' steps low end counts (wave_counts g inputs steps) (run_result g text well inputs fit' steps low) e
 
 -- WORK AND SPAN
 pub work_law : WorkIsOne

@@ -6,11 +6,11 @@ use Rattle.oracle.specs.declared.report.MeanEnd.{MeanEnd}
 use Rattle.oracle.specs.declared.tokens.Token.{Token}
 use Rattle.oracle.specs.Running.{Plain, start_of}
 use Rattle.oracle.specs.Rows.{rows_of, no_rows}
-use Rattle.oracle.specs.Gathering.{Waved, Passes, Halts, Breaks, wave_among, waves_among, waves_told}
+use Rattle.oracle.specs.Gathering.{Waved, Passes, Halts, Breaks, wave_among, waves_among, wave_counts}
 
 -- from the start, with no row and none counted
 pub waves_from : {V : Type 0} (g : Graph) (inputs : List ℤ) (steps : ℕ) (s : Plain) (w : List V) (f : V → List Token) (counts : List ℕ) → s ≡ start_of g inputs → w ≡ [] → counts ≡ []
-    → waves_told g inputs steps ≡ waves_among g (suc steps) steps s (rows_of (map f w)) counts
+    → wave_counts g inputs steps ≡ waves_among g (suc steps) steps s (rows_of (map f w)) counts
 waves_from {V} g inputs steps s w f counts e h c =
     ap (λ t. waves_among g (suc steps) steps t no_rows []) (sym e) ∙ ap (λ v. waves_among g (suc steps) steps s (rows_of (map f v)) []) (sym h)
     ∙ ap (λ cs. waves_among g (suc steps) steps s (rows_of (map f w)) cs) (sym c)

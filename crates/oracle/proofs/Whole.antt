@@ -22,16 +22,16 @@ use Rattle.oracle.specs.declared.report.Full.{Full}
 use Rattle.oracle.specs.declared.tokens.Token.{Token}
 use Rattle.oracle.specs.Lines.{outputs_at}
 use Rattle.oracle.specs.Sending.{entering_tokens}
-use Rattle.oracle.specs.Running.{Plain, main_place, start_of, Came, Acts, Ends, Broken, next_in, performed, run_of, full_in, told_of}
+use Rattle.oracle.specs.Running.{Plain, main_place, start_of, Came, Acts, Ends, Broken, next_in, performed, run_of, full_in, end_result_of}
 use Rattle.oracle.specs.Meant.{name_in, made_of, tagged_of}
 use Rattle.oracle.specs.Naming.{Named, IsBelow}
 use Rattle.oracle.specs.Reporting.{cell_at, AreFull, IsEnd, IsOutcome, IsMeant, RunsEnd, ReportsAreTrue}
 use Rattle.oracle.proofs.Filling.{empty_at_start, nones_long, cells_long}
-use Rattle.oracle.proofs.Following.{Sound, Follows, Ready, Ended, Outcome}
+use Rattle.oracle.proofs.Following.{Sound, RunsSoFar, Ready, Ended, Outcome}
 use Rattle.oracle.proofs.Fulls.{full_law}
 use Rattle.oracle.proofs.Nexting.{next_law}
 use Rattle.oracle.proofs.Performing.{enabled, acted}
-use Rattle.oracle.proofs.Telling.{entering_same, entering_of}
+use Rattle.oracle.proofs.Steering.{entering_same, entering_of}
 use Rattle.oracle.proofs.Turning.{inputs_same}
 use Rattle.oracle.proofs.Views.{TurnBelow}
 use Rattle.oracle.proofs.Waiting.{stuck_none}
@@ -61,7 +61,7 @@ module _ (g : Graph) (well : WellFormed g) (inputs : List ℤ) where
   abbrev values : List Value
   values = map (λ (z : ℤ). Int z) inputs
 
-  pub begins : Follows g inputs 0 (start_of g inputs)
+  pub begins : RunsSoFar g inputs 0 (start_of g inputs)
   begins =
       let sound : Sound g 0 (start_of g inputs) = record {
         names = cs;
@@ -114,7 +114,7 @@ module _ (g : Graph) (text : HasText g) (well : WellFormed g) (inputs : List ℤ
   ends_out k n le s (Clash a i) h = (k, h, le, h.ended)
   ends_out k n le s Steps h = absurd h
 
-  run_law : (steps k n : ℕ) → k + steps ≡ n → n < 2 ^ 64 → (s : Plain) → Follows g inputs k s → RunOut g inputs n (run_of g steps s)
+  run_law : (steps k n : ℕ) → k + steps ≡ n → n < 2 ^ 64 → (s : Plain) → RunsSoFar g inputs k s → RunOut g inputs n (run_of g steps s)
   run_law zero k n whole_count low s f =
       let same : k ≡ n = omega (arith, whole_count) in
       let less : k < 2 ^ 64 = omega (arith, whole_count, low) in
@@ -139,7 +139,8 @@ module _ (g : Graph) (text : HasText g) (well : WellFormed g) (inputs : List ℤ
   whole steps low = run_law steps 0 steps (omega arith) low (start_of g inputs) (begins g well inputs)
 
   -- WHAT IS TOLD
-  ends_in : (steps : ℕ) (o : Option (MeanEnd × Plain)) → RunOut g inputs steps o → (r : MeanEnd × List (Option Value) × List Full) × (told_of g o ≡ Some r)
+  ends_in : (steps : ℕ) (o : Option (MeanEnd × Plain)) → RunOut g inputs steps o → (r : MeanEnd × List (Option Value) × List Full)
+      × (end_result_of g o ≡ Some r)
   ends_in steps None h = absurd h
   ends_in steps (Some r) h = ((r.0, r.1.outputs, full_in r.1.cells 0 0 g.arrays), refl)
 
@@ -165,15 +166,15 @@ module _ (g : Graph) (text : HasText g) (well : WellFormed g) (inputs : List ℤ
         outcome = outcome_of steps e.run e.state r.0 record { run = e.run; is_run = e.is_run } h.3;
       }
 
-  true_told : (steps : ℕ) (end : MeanEnd) (outputs : List (Option Value)) (listed : List Full) (o : Option (MeanEnd × Plain)) → RunOut g inputs steps o → told_of g o ≡ Some (end, outputs, listed) → IsMeant g inputs steps end outputs listed
-  true_told steps end outputs listed None h e = absurd h
-  true_told steps end outputs listed (Some r) h e =
-      let same = same_Some (r.0, r.1.outputs, full_in r.1.cells 0 0 g.arrays) (end, outputs, listed) e in
+  true_told : (steps : ℕ) (end : MeanEnd) (outputs : List (Option Value)) (as_list : List Full) (o : Option (MeanEnd × Plain)) → RunOut g inputs steps o → end_result_of g o ≡ Some (end, outputs, as_list) → IsMeant g inputs steps end outputs as_list
+  true_told steps end outputs as_list None h e = absurd h
+  true_told steps end outputs as_list (Some r) h e =
+      let same = same_Some (r.0, r.1.outputs, full_in r.1.cells 0 0 g.arrays) (end, outputs, as_list) e in
       subst (λ (q : MeanEnd × List (Option Value) × List Full). IsMeant g inputs steps q.0 q.1 q.2) same (true_in steps r h)
 
 pub runs_end : RunsEnd
 runs_end g inputs steps text well fit low = ends_in g text well inputs (fit ∙ inputs_same g) steps (run_of g steps (start_of g inputs)) (whole g text well inputs (fit ∙ inputs_same g) steps low)
 
 pub reports_true : ReportsAreTrue
-reports_true g inputs steps end outputs listed text well fit low e =
-    true_told g text well inputs (fit ∙ inputs_same g) steps end outputs listed (run_of g steps (start_of g inputs)) (whole g text well inputs (fit ∙ inputs_same g) steps low) e
+reports_true g inputs steps end outputs as_list text well fit low e =
+    true_told g text well inputs (fit ∙ inputs_same g) steps end outputs as_list (run_of g steps (start_of g inputs)) (whole g text well inputs (fit ∙ inputs_same g) steps low) e

@@ -18,7 +18,7 @@ use Rattle.oracle.specs.declared.lines.Line.TheVariants.{Input, Node, Nothing}
 use Rattle.oracle.specs.declared.shapes.Shape.{Shape}
 use Rattle.oracle.specs.declared.shapes.Shape.TheVariants.{Fires, Gates, Passes, Returns, Turns, Outputs}
 use Rattle.oracle.specs.declared.deeds.Deed.{Deed}
-use Rattle.oracle.specs.declared.deeds.Deed.TheVariants.{Sends, Tells, Enters, EntersAll, Stops, Reads, Fills, Puts}
+use Rattle.oracle.specs.declared.deeds.Deed.TheVariants.{Sends, Steers, Enters, EntersAll, Stops, Reads, Fills, Puts}
 use Rattle.oracle.specs.declared.deeds.Index.{Index}
 use Rattle.oracle.specs.declared.deeds.Index.TheVariants.{Within, Beyond}
 use Rattle.oracle.specs.declared.state.Gate.{Gate}
@@ -49,7 +49,7 @@ store_deed c n first a v (Place i) = Fills c n (first + i) a i v
 abbrev pub one_deed : Graph → ℕ → ℕ → Kind ℕ → Value → Origin → Option Deed
 one_deed g c n (Lit z) v o = Some (Sends c n 0 (Int z))
 one_deed g c n (Apply1 op) v o = Some (Sends c n 0 (apply1 op v))
-one_deed g c n Cond v o = Some (Tells c n v)
+one_deed g c n Cond v o = Some (Steers c n v)
 one_deed g c n (Fetch a) v o = Some (fetch_deed c n (first_of g.arrays a) (index_in (len_of g.arrays a) v o))
 one_deed g c n kind v o = None
 
@@ -155,28 +155,28 @@ abbrev pub value_of : Option Token → List Value
 value_of None = []
 value_of (Some t) = t.value ∷ []
 
-abbrev pub listed : Option Value → List Value
-listed None = []
-listed (Some v) = v ∷ []
+abbrev pub as_list : Option Value → List Value
+as_list None = []
+as_list (Some v) = v ∷ []
 
 abbrev pub value_at : List Token → Option ℕ → List Value
 value_at ts None = []
 value_at ts (Some i) = value_of (slice_get ts i)
 
 -- what is left of those that wait when the token's partner at a spot was taken, and the value there
-abbrev pub left_after : Token → Spot → List Token → List Token
-left_after t s ts = if same_spot s t.spot then ts else without ts (find_from t.context s 0 ts)
+abbrev pub remaining_after : Token → Spot → List Token → List Token
+remaining_after t s ts = if same_spot s t.spot then ts else without ts (find_from t.context s 0 ts)
 
 abbrev pub value_here : Token → Spot → List Token → List Value
 value_here t s ts = if same_spot s t.spot then t.value ∷ [] else value_at ts (find_from t.context s 0 ts)
 
-abbrev pub left_of : Token → List Spot → List Token → List Token
-left_of t [] ts = ts
-left_of t (s ∷ ss) ts = left_of t ss (left_after t s ts)
+abbrev pub remaining_of : Token → List Spot → List Token → List Token
+remaining_of t [] ts = ts
+remaining_of t (s ∷ ss) ts = remaining_of t ss (remaining_after t s ts)
 
 abbrev pub values_of : Token → List Spot → List Token → List Value
 values_of t [] ts = []
-values_of t (s ∷ ss) ts = value_here t s ts ++ values_of t ss (left_after t s ts)
+values_of t (s ∷ ss) ts = value_here t s ts ++ values_of t ss (remaining_after t s ts)
 
 -- MEMORY
 abbrev pub held_of : Option (Option Value) → Option Value

@@ -11,7 +11,7 @@ use Rattle.oracle.specs.declared.sending.Sent.{Sent}
 use Rattle.oracle.specs.declared.tokens.Spot.{Spot}
 use Rattle.oracle.specs.declared.tokens.Token.{Token}
 use Rattle.oracle.specs.Lines.{same_spot, resolved_in}
-use Rattle.oracle.specs.Running.{Joined, Alone, Joins, Fails, join_in}
+use Rattle.oracle.specs.Running.{Matched, Alone, Joins, Fails, join_in}
 use Rattle.oracle.specs.Sending.{sent_tokens}
 use Rattle.oracle.specs.Meant.{name_in, made_of, tagged_of, deed_of}
 
@@ -41,7 +41,7 @@ SendingAgrees = (g : Graph) (cs : List Context) (x : Sent) (made : Made) (n p : 
     → map (tagged_of cs) (sent_tokens x made n p b.1) ≡ sent_from (Some (block_in g b)) (name_in cs x.context) n p x.value
 
 -- A token is joined with its partners: an activity of the meaning takes them, all others are left, and the deed is its own.
-abbrev pub IsJoin : Graph → List Context → Token → List Token → Joined → Type 0
+abbrev pub IsJoin : Graph → List Context → Token → List Token → Matched → Type 0
 IsJoin g cs t waiting Alone = ⊤
 IsJoin g cs t waiting (Joins left vs d) =
     (a : Activity) × IsPermutation (map (tagged_of cs) (t ∷ waiting)) (taken a ++ map (tagged_of cs) left) × (deed (flow_of g) a ≡ Some (deed_of cs vs d))

@@ -68,7 +68,7 @@ wave_found g left s Failed = Breaks
 abbrev pub wave_among : Graph → ℕ → Plain → (ℕ → List Token) → Waved
 wave_among g left s rows = wave_found g left s (gathered g s.invocations s.cells s.fresh rows s.deferred [])
 
--- THE WAVES, behind those that were counted. Each has an activity, so there are at most as many waves as activities.
+-- THE WAVES, after those that were counted. Each has an activity, so there are at most as many waves as activities.
 abbrev pub waves_among : Graph → ℕ → ℕ → Plain → (ℕ → List Token) → List ℕ → Option (MeanEnd × List ℕ)
 waves_among g zero left s rows counts = None
 waves_among g (suc most) left s rows counts =
@@ -78,5 +78,5 @@ waves_among g (suc most) left s rows counts =
       | Breaks ↦ None
     ]
 
-abbrev pub waves_told : Graph → List ℤ → ℕ → Option (MeanEnd × List ℕ)
-waves_told g inputs steps = waves_among g (suc steps) steps (start_of g inputs) no_rows []
+abbrev pub wave_counts : Graph → List ℤ → ℕ → Option (MeanEnd × List ℕ)
+wave_counts g inputs steps = waves_among g (suc steps) steps (start_of g inputs) no_rows []

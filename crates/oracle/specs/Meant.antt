@@ -11,7 +11,7 @@ use Rattle.oracle.specs.declared.tokens.Token.{Token}
 use Rattle.oracle.specs.declared.shapes.Shape.{Shape}
 use Rattle.oracle.specs.declared.shapes.Shape.TheVariants.{Fires, Gates, Passes, Returns, Turns, Outputs}
 use Rattle.oracle.specs.declared.deeds.Deed.{Deed}
-use Rattle.oracle.specs.declared.deeds.Deed.TheVariants.{Sends, Tells, Enters, EntersAll, Stops, Reads, Fills, Puts}
+use Rattle.oracle.specs.declared.deeds.Deed.TheVariants.{Sends, Steers, Enters, EntersAll, Stops, Reads, Fills, Puts}
 
 -- the invocation with that number
 abbrev pub name_in : List Context → ℕ → Context
@@ -50,7 +50,7 @@ activity_of cs c made shape vs = Meaning.Fires (name_in cs c) 0 []
 
 abbrev pub deed_of : List Context → List Value → Deed → Meaning.Deed
 deed_of cs vs (Sends c n p v) = Meaning.Says (Meaning.Sends (name_in cs c) n p v)
-deed_of cs vs (Tells c k v) = Meaning.Says (Meaning.Tells (name_in cs c) k v)
+deed_of cs vs (Steers c k v) = Meaning.Says (Meaning.Steers (name_in cs c) k v)
 deed_of cs vs (Enters made f i v) = Meaning.Says (Meaning.Enters (made_of cs made) i (v ∷ []))
 deed_of cs vs (EntersAll made f) = Meaning.Says (Meaning.Enters (made_of cs made) 0 vs)
 deed_of cs vs Stops = Meaning.Says Meaning.Nothing

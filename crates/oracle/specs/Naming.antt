@@ -8,7 +8,7 @@ use Rattle.oracle.specs.declared.invocations.Made.TheVariants.{Main, Called, Tur
 use Rattle.oracle.specs.declared.invocations.Invocation.{Invocation}
 use Rattle.oracle.specs.declared.shapes.Shape.{Shape}
 use Rattle.oracle.specs.declared.deeds.Deed.{Deed}
-use Rattle.oracle.specs.declared.deeds.Deed.TheVariants.{Sends, Tells, Enters, EntersAll, Stops, Reads, Fills, Puts}
+use Rattle.oracle.specs.declared.deeds.Deed.TheVariants.{Sends, Steers, Enters, EntersAll, Stops, Reads, Fills, Puts}
 use Rattle.oracle.specs.Lines.{first_of, len_of}
 use Rattle.oracle.specs.Acting.{deed_in}
 use Rattle.oracle.specs.Running.{number_in, with_made}
@@ -26,7 +26,7 @@ CanEnter g cs m made block = IsBelow m made × (block_number (flow_of g) (made_o
 -- of m invocations
 abbrev pub IsKnown : Graph → List Context → ℕ → List Value → Deed → Type 0
 IsKnown g cs m vs (Sends c n p v) = c < m
-IsKnown g cs m vs (Tells c k v) = c < m
+IsKnown g cs m vs (Steers c k v) = c < m
 IsKnown g cs m vs (Enters made f i v) = CanEnter g cs m made f
 IsKnown g cs m vs (EntersAll made f) = CanEnter g cs m made f
 IsKnown g cs m vs Stops = ⊤

@@ -11,20 +11,22 @@ use Rattle.oracle.specs.declared.report.MeanEnd.TheVariants.{Rest, Clash, Steps}
 use Rattle.oracle.specs.declared.report.Full.{Full}
 use Rattle.oracle.specs.Lines.{inputs_at, outputs_at}
 use Rattle.oracle.specs.Acting.{held_in}
-use Rattle.oracle.specs.Running.{main_place, told}
+use Rattle.oracle.specs.Running.{main_place, run_result}
 
 -- the number of the cell at an index of an array
 abbrev pub cell_at : Graph → ℕ → ℕ → ℕ
 cell_at g a i = first_cell (flow_of g) a + i
 
 -- The list tells of the full cells of a memory, and of no other cell.
-pub record AreFull (g : Graph) (cells : ℕ → Option Value) (listed : List Full) : Type 0 where
+pub record AreFull (g : Graph) (cells : ℕ → Option Value) (cells_in_order : List Full) : Type 0 where
   -- what it tells of is a cell of that array, which holds that value
-  pub each : (k : ℕ) (f : Full) → slice_get listed k ≡ Some f → (f.index < array_len (flow_of g) f.array) × (cells (cell_at g f.array f.index) ≡ Some f.value)
+  pub each : (k : ℕ) (f : Full) → slice_get cells_in_order k ≡ Some f → (f.index < array_len (flow_of g) f.array)
+      × (cells (cell_at g f.array f.index) ≡ Some f.value)
   -- each full cell is told of
-  pub all : (x : ℕ) (v : Value) → cells x ≡ Some v → (k : ℕ) × (f : Full) × (slice_get listed k ≡ Some f) × (x ≡ cell_at g f.array f.index) × (f.value ≡ v)
+  pub all : (x : ℕ) (v : Value) → cells x ≡ Some v → (k : ℕ) × (f : Full) × (slice_get cells_in_order k ≡ Some f) × (x ≡ cell_at g f.array f.index)
+      × (f.value ≡ v)
   -- in order of arrays and indexes, so each once
-  pub ascend : (j k : ℕ) (f h : Full) → slice_get listed j ≡ Some f → slice_get listed k ≡ Some h → j < k → (f.array < h.array) ⊎ ((f.array ≡ h.array) × (f.index < h.index))
+  pub ascend : (j k : ℕ) (f h : Full) → slice_get cells_in_order j ≡ Some f → slice_get cells_in_order k ≡ Some h → j < k → (f.array < h.array) ⊎ ((f.array ≡ h.array) × (f.index < h.index))
 
 -- why a run ended in the state
 abbrev pub IsEnd : Graph → ℕ → List Activity → State → MeanEnd → Type 0
@@ -40,7 +42,7 @@ IsOutcome g inputs s Steps = ⊤
 
 -- A report is true: a run of the meaning of at most `steps` activities reaches a state with these outputs and full cells,
 -- and the end is as it says.
-pub record IsMeant (g : Graph) (inputs : List ℤ) (steps : ℕ) (end : MeanEnd) (outputs : List (Option Value)) (listed : List Full) : Type 0 where
+pub record IsMeant (g : Graph) (inputs : List ℤ) (steps : ℕ) (end : MeanEnd) (outputs : List (Option Value)) (cells_in_order : List Full) : Type 0 where
   pub run : List Activity
   pub state : State
   pub is_run : Run (flow_of g) (start inputs) run state
@@ -48,7 +50,7 @@ pub record IsMeant (g : Graph) (inputs : List ℤ) (steps : ℕ) (end : MeanEnd)
   -- one for each output of main, and no other output is filled
   pub output_count : length outputs ≡ outputs_at g (main_place g)
   pub shown : (j : ℕ) → state.memory.outputs j ≡ held_in outputs j
-  pub cells : AreFull g state.memory.cells listed
+  pub cells : AreFull g state.memory.cells cells_in_order
   pub ended : IsEnd g steps run state end
   pub outcome : IsOutcome g inputs state end
 
@@ -56,9 +58,9 @@ pub record IsMeant (g : Graph) (inputs : List ℤ) (steps : ℕ) (end : MeanEnd)
 -- 2^64 or more.
 abbrev pub RunsEnd : Type 0
 RunsEnd = (g : Graph) (inputs : List ℤ) (steps : ℕ) → HasText g → WellFormed g → length inputs ≡ inputs_at g (main_place g) → steps < 2 ^ 64
-    → (r : MeanEnd × List (Option Value) × List Full) × (told g inputs steps ≡ Some r)
+    → (r : MeanEnd × List (Option Value) × List Full) × (run_result g inputs steps ≡ Some r)
 
 -- Whatever it tells is true.
 abbrev pub ReportsAreTrue : Type 0
-ReportsAreTrue = (g : Graph) (inputs : List ℤ) (steps : ℕ) (end : MeanEnd) (outputs : List (Option Value)) (listed : List Full) → HasText g → WellFormed g → length inputs ≡ inputs_at g (main_place g) → steps < 2 ^ 64
-    → told g inputs steps ≡ Some (end, outputs, listed) → IsMeant g inputs steps end outputs listed
+ReportsAreTrue = (g : Graph) (inputs : List ℤ) (steps : ℕ) (end : MeanEnd) (outputs : List (Option Value)) (cells_in_order : List Full) → HasText g → WellFormed g → length inputs ≡ inputs_at g (main_place g) → steps < 2 ^ 64
+    → run_result g inputs steps ≡ Some (end, outputs, cells_in_order) → IsMeant g inputs steps end outputs cells_in_order

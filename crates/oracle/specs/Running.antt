@@ -8,7 +8,7 @@ use Rattle.oracle.specs.declared.invocations.Made.TheVariants.{Main, Called, Tur
 use Rattle.oracle.specs.declared.invocations.Invocation.{Invocation}
 use Rattle.oracle.specs.declared.shapes.Shape.{Shape}
 use Rattle.oracle.specs.declared.deeds.Deed.{Deed}
-use Rattle.oracle.specs.declared.deeds.Deed.TheVariants.{Sends, Tells, Enters, EntersAll, Stops, Reads, Fills, Puts}
+use Rattle.oracle.specs.declared.deeds.Deed.TheVariants.{Sends, Steers, Enters, EntersAll, Stops, Reads, Fills, Puts}
 use Rattle.oracle.specs.declared.state.Gate.TheVariants.{Free, Defers, Clashes}
 use Rattle.oracle.specs.declared.tokens.Spot.TheVariants.{Operand}
 use Rattle.oracle.specs.declared.tokens.Token.{Token}
@@ -17,8 +17,8 @@ use Rattle.oracle.specs.declared.report.MeanEnd.{MeanEnd}
 use Rattle.oracle.specs.declared.report.MeanEnd.TheVariants.{Rest, Clash, Steps}
 use Rattle.oracle.specs.declared.report.Full.{Full}
 use Rattle.oracle.specs.Lines.{shape_in, spots_in, outputs_at}
-use Rattle.oracle.specs.Sending.{sent_tokens, told_tokens, entering_tokens, token_at}
-use Rattle.oracle.specs.Acting.{all_there, left_of, values_of, deed_in, gate_of, held_in, filled_in}
+use Rattle.oracle.specs.Sending.{sent_tokens, steered_tokens, entering_tokens, token_at}
+use Rattle.oracle.specs.Acting.{all_there, remaining_of, values_of, deed_in, gate_of, held_in, filled_in}
 
 pub record Plain : Type 0 where
   pub invocations : List Invocation
@@ -32,31 +32,32 @@ abbrev pub plain : List Invocation → List Token → List Token → List Token 
 plain xs fresh waiting deferred cells outputs = record { invocations = xs; fresh = fresh; waiting = waiting; deferred = deferred; cells = cells; outputs = outputs }
 
 -- JOINING a token with its partners
-pub data Joined : Type 0 where
-  Alone : Joined
-  Joins : (left : List Token) (values : List Value) (deed : Deed) → Joined
-  Fails : Joined
+pub data Matched : Type 0 where
+  Alone : Matched
+  Joins : (left : List Token) (values : List Value) (deed : Deed) → Matched
+  Fails : Matched
 
-abbrev pub joins : List Token → List Value → Option Deed → Joined
+abbrev pub joins : List Token → List Value → Option Deed → Matched
 joins left vs None = Fails
 joins left vs (Some d) = Joins left vs d
 
-abbrev pub join_values : Graph → List Token → Token → Invocation → Shape → List Value → Joined
-join_values g w t x shape vs = if length vs == length (spots_in shape) then joins (left_of t (spots_in shape) w) vs (deed_in g t.context x shape vs) else Fails
+abbrev pub join_values : Graph → List Token → Token → Invocation → Shape → List Value → Matched
+join_values g w t x shape vs = if length vs == length (spots_in shape) then joins (remaining_of t (spots_in shape) w) vs
+    (deed_in g t.context x shape vs) else Fails
 
-abbrev pub join_all : Graph → List Token → Token → Invocation → Shape → Joined
+abbrev pub join_all : Graph → List Token → Token → Invocation → Shape → Matched
 join_all g w t x shape =
     join_values g w t x shape (values_of t (spots_in shape) w)
 
-abbrev pub join_shape : Graph → List Token → Token → Invocation → Option Shape → Joined
+abbrev pub join_shape : Graph → List Token → Token → Invocation → Option Shape → Matched
 join_shape g w t x None = Alone
 join_shape g w t x (Some shape) = if all_there t (spots_in shape) w then join_all g w t x shape else Alone
 
-abbrev pub join_in : Graph → List Token → Token → Option Invocation → Joined
+abbrev pub join_in : Graph → List Token → Token → Option Invocation → Matched
 join_in g w t None = Alone
 join_in g w t (Some x) = join_shape g w t x (shape_in g x.made x.block t.spot)
 
-abbrev pub join_of : Graph → List Invocation → List Token → Token → Joined
+abbrev pub join_of : Graph → List Invocation → List Token → Token → Matched
 join_of g xs w t = join_in g w t (slice_get xs t.context)
 
 -- WHAT COMES NEXT
@@ -115,16 +116,16 @@ sent_if g x n p (Some i) = sent_by x i.made n p (slice_get g.blocks i.block)
 abbrev pub sent_in : Graph → List Invocation → Sent → ℕ → ℕ → List Token
 sent_in g xs x n p = sent_if g x n p (slice_get xs x.context)
 
-abbrev pub told_by : Sent → ℕ → Option (List ℕ × Block (List ℕ)) → List Token
-told_by x k None = []
-told_by x k (Some b) = told_tokens x k b.1.inputs b.1.nodes
+abbrev pub steered_by : Sent → ℕ → Option (List ℕ × Block (List ℕ)) → List Token
+steered_by x k None = []
+steered_by x k (Some b) = steered_tokens x k b.1.inputs b.1.nodes
 
-abbrev pub told_if : Graph → Sent → ℕ → Option Invocation → List Token
-told_if g x k None = []
-told_if g x k (Some i) = told_by x k (slice_get g.blocks i.block)
+abbrev pub steered_if : Graph → Sent → ℕ → Option Invocation → List Token
+steered_if g x k None = []
+steered_if g x k (Some i) = steered_by x k (slice_get g.blocks i.block)
 
-abbrev pub told_in : Graph → List Invocation → Sent → ℕ → List Token
-told_in g xs x k = told_if g x k (slice_get xs x.context)
+abbrev pub steered_in : Graph → List Invocation → Sent → ℕ → List Token
+steered_in g xs x k = steered_if g x k (slice_get xs x.context)
 
 abbrev pub sent_of : ℕ → Value → Sent
 sent_of c v = record { context = c; value = v }
@@ -139,7 +140,7 @@ entered s made f i v = plain (with_made s.invocations made f) (s.fresh ++ token_
 
 abbrev pub performed : Graph → Plain → List Value → Deed → Plain
 performed g s vs (Sends c n p v) = plain s.invocations (s.fresh ++ sent_in g s.invocations (sent_of c v) n p) s.waiting s.deferred s.cells s.outputs
-performed g s vs (Tells c k v) = plain s.invocations (s.fresh ++ told_in g s.invocations (sent_of c v) k) s.waiting s.deferred s.cells s.outputs
+performed g s vs (Steers c k v) = plain s.invocations (s.fresh ++ steered_in g s.invocations (sent_of c v) k) s.waiting s.deferred s.cells s.outputs
 performed g s vs (Enters made f i v) = entered s made f i v
 performed g s vs (EntersAll made f) = plain (with_made s.invocations made f) (s.fresh ++ entering_tokens (number_in s.invocations made) 0 vs) s.waiting s.deferred s.cells s.outputs
 performed g s vs Stops = s
@@ -186,9 +187,9 @@ full_in cells a x [] = []
 full_in cells a x (b ∷ bs) = full_from cells a x 0 b.1 ++ full_in cells (a + 1) (x + b.1) bs
 
 -- how the run ends, its outputs, and its full cells
-abbrev pub told_of : Graph → Option (MeanEnd × Plain) → Option (MeanEnd × List (Option Value) × List Full)
-told_of g None = None
-told_of g (Some r) = Some (r.0, r.1.outputs, full_in r.1.cells 0 0 g.arrays)
+abbrev pub end_result_of : Graph → Option (MeanEnd × Plain) → Option (MeanEnd × List (Option Value) × List Full)
+end_result_of g None = None
+end_result_of g (Some r) = Some (r.0, r.1.outputs, full_in r.1.cells 0 0 g.arrays)
 
-abbrev pub told : Graph → List ℤ → ℕ → Option (MeanEnd × List (Option Value) × List Full)
-told g inputs steps = told_of g (run_of g steps (start_of g inputs))
+abbrev pub run_result : Graph → List ℤ → ℕ → Option (MeanEnd × List (Option Value) × List Full)
+run_result g inputs steps = end_result_of g (run_of g steps (start_of g inputs))

@@ -60,9 +60,9 @@ is_gate_of k r Enter = is_arm_of k r
 is_gate_of k r kind = false
 
 -- a predicate for each `enter` of an arm of conditional k
-abbrev pub told_tokens : Sent → ℕ → ℕ → List (Node (List ℕ)) → List Token
-told_tokens x k m [] = []
-told_tokens x k m (line ∷ lines) = if is_gate_of k line.region line.kind then token_at x (Predicate m) ∷ told_tokens x k (m + 1) lines else told_tokens x k (m + 1) lines
+abbrev pub steered_tokens : Sent → ℕ → ℕ → List (Node (List ℕ)) → List Token
+steered_tokens x k m [] = []
+steered_tokens x k m (line ∷ lines) = if is_gate_of k line.region line.kind then token_at x (Predicate m) ∷ steered_tokens x k (m + 1) lines else steered_tokens x k (m + 1) lines
 
 -- the inputs of an invocation, from a first one on
 abbrev pub entering_tokens : ℕ → ℕ → List Value → List Token

@@ -25,7 +25,7 @@ pub enum Deed {
         value: Value,
     },
     /// A predicate goes to the arms of a conditional.
-    Tells {
+    Steers {
         context: usize,
         cond: usize,
         value: Value,
@@ -174,7 +174,7 @@ fn fired_one<'a, A: Allocator>(
             port: 0,
             value: apply1(*op, value),
         }),
-        Kind::Cond => Some(Deed::Tells {
+        Kind::Cond => Some(Deed::Steers {
             context,
             cond: node,
             value,

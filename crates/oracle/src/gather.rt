@@ -68,8 +68,8 @@ pub fn all_there(waiting: &[Token], token: &Token, spots: &[Spot]) -> bool
 
 /// Takes the token's partner at a spot out, and gives the value there, if there is one.
 fn take_one<A: Allocator>(waiting: &mut Vec<Token, A>, token: &Token, spot: Spot) -> Option<Value>
-    ensures left { waiting.new.items ≡ Acting.left_after token.now spot waiting.old.items }
-    ensures value { Acting.listed result ≡ Acting.value_here token.now spot waiting.old.items }
+    ensures left { waiting.new.items ≡ Acting.remaining_after token.now spot waiting.old.items }
+    ensures value { Acting.as_list result ≡ Acting.value_here token.now spot waiting.old.items }
 {
     if same_spot(spot, token.spot) {
         return Some(token.value);
@@ -87,7 +87,7 @@ pub fn take_out<A: Allocator, B: Allocator>(
     token: &Token,
     spots: &[Spot],
 ) -> Result<Vec<Value, B>, AllocError>
-    ensures left { OnOk result (waiting.new.items ≡ Acting.left_of token.now spots.now waiting.old.items) }
+    ensures left { OnOk result (waiting.new.items ≡ Acting.remaining_of token.now spots.now waiting.old.items) }
     ensures values { IfOk result (λ v. v.items ≡ Acting.values_of token.now spots.now waiting.old.items) }
 {
     values.clear();

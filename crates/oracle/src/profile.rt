@@ -3,7 +3,7 @@
 ghost use Rattle.std.specs.Prelude.{◌≡◌, ◌≢◌, ◌↔◌, ◌≤◌, length, Some, None, IfOk};
 ghost use Rattle.oracle.specs.Lines.{total_of, inputs_at};
 ghost use Rattle.oracle.specs.Running.{main_place};
-ghost use Rattle.oracle.specs.Gathering.{waves_told};
+ghost use Rattle.oracle.specs.Gathering.{wave_counts};
 ghost use Rattle.oracle.specs.Waves.{AreWavesOf};
 
 use crate::lines::input_count;
@@ -21,8 +21,8 @@ fn run_waves<'a, A: Allocator + Clone>(
     steps: u64,
 ) -> Result<WaveReport<A>, AllocError>
     requires few { total_of checked.now.arrays ≤ 65536 }
-    requires comes_to_an_end { waves_told checked.now inputs.now steps ≢ None }
-    ensures { IfOk result (λ r. waves_told checked.now inputs.now steps ≡ Some (r.end, r.counts.items)) }
+    requires has_end { wave_counts checked.now inputs.now steps ≢ None }
+    ensures { IfOk result (λ r. wave_counts checked.now inputs.now steps ≡ Some (r.end, r.counts.items)) }
 {
     let mut state = start(alloc.clone()?, checked, inputs)?;
     let mut counts = Vec::new(alloc);
@@ -56,7 +56,7 @@ pub fn waves<'a, A: Allocator + Clone>(
     steps: u64,
 ) -> Result<WaveReport<A>, MeanFault>
     ensures wrong { result ≡ Err MeanFault.WrongInputs ↔ (length inputs.now ≢ inputs_at checked.now (main_place checked.now)) }
-    ensures told { IfOk result (λ r. waves_told checked.now inputs.now steps ≡ Some (r.end, r.counts.items)) }
+    ensures run_result { IfOk result (λ r. wave_counts checked.now inputs.now steps ≡ Some (r.end, r.counts.items)) }
     ensures meant { IfOk result (λ r. AreWavesOf checked.now inputs.now steps r.end r.counts.items) }
 {
     if inputs.len() != input_count(checked.graph(), checked.main_place()) {

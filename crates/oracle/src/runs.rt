@@ -5,7 +5,7 @@ ghost use Rattle.oracle.specs.Lines.{total_of, inputs_at};
 ghost use Rattle.oracle.specs.Sending.{entering_tokens};
 ghost use Rattle.oracle.specs.Reporting.{IsMeant};
 ghost use Rattle.oracle.specs.Rows.{rows_of, run_among};
-ghost use Rattle.oracle.specs.Running.{plain, nones, no_cells, start_of, main_place, full_if, full_from, full_in, told};
+ghost use Rattle.oracle.specs.Running.{plain, nones, no_cells, start_of, main_place, full_if, full_from, full_in, run_result};
 
 use crate::invocations::Invocations;
 use crate::lines::{arrays_of, input_count, output_count};
@@ -99,7 +99,7 @@ fn run<'a, A: Allocator + Clone>(
     steps: u64,
 ) -> Result<MeanEnd, AllocError>
     requires few { total_of checked.now.arrays ≤ 65536 }
-    requires comes_to_an_end { run_among checked.now steps (plain state.old.invocations state.old.fresh.items [] state.old.deferred.items state.old.cells.items state.old.outputs.items) (rows_of (map (λ v. v.items) state.old.waiting.items)) ≢ None }
+    requires has_end { run_among checked.now steps (plain state.old.invocations state.old.fresh.items [] state.old.deferred.items state.old.cells.items state.old.outputs.items) (rows_of (map (λ v. v.items) state.old.waiting.items)) ≢ None }
     ensures { let old = plain state.old.invocations state.old.fresh.items [] state.old.deferred.items state.old.cells.items state.old.outputs.items in
         let new = plain state.new.invocations state.new.fresh.items [] state.new.deferred.items state.new.cells.items state.new.outputs.items in
         IfOk result (λ e. run_among checked.now steps old (rows_of (map (λ v. v.items) state.old.waiting.items)) ≡ Some (e, new)) }
@@ -180,8 +180,8 @@ fn run_to_end<'a, A: Allocator + Clone>(
     steps: u64,
 ) -> Result<MeanReport<A>, AllocError>
     requires few { total_of checked.now.arrays ≤ 65536 }
-    requires comes_to_an_end { told checked.now inputs.now steps ≢ None }
-    ensures { IfOk result (λ r. told checked.now inputs.now steps ≡ Some (r.end, r.outputs.items, r.cells.items)) }
+    requires has_end { run_result checked.now inputs.now steps ≢ None }
+    ensures { IfOk result (λ r. run_result checked.now inputs.now steps ≡ Some (r.end, r.outputs.items, r.cells.items)) }
 {
     let mut state = start(alloc.clone()?, checked, inputs)?;
     let end = run(checked, &mut state, steps)?;
@@ -205,8 +205,8 @@ fn run_to_end<'a, A: Allocator + Clone>(
 /// What the graph means on these inputs: a list of tagged tokens, one for each input at first, is rewritten one activity
 /// at a time, up to `steps` activities.
 ///
-/// The first token in the list's order that can act acts first. New tokens go behind those that were not looked at yet,
-/// and tokens that were looked at and can't act behind all others. A run ends at rest, at the first store that has both
+/// The first token in the list's order that can act acts first. New tokens go after those that were not looked at yet,
+/// and tokens that were looked at and can't act after all others. A run ends at rest, at the first store that has both
 /// operands and a full cell, or where one more activity than allowed is enabled.
 ///
 /// The report is true of the meaning: a run of at most `steps` of its activities, in some order, reaches a state that has
@@ -224,7 +224,7 @@ pub fn mean<'a, A: Allocator + Clone>(
     steps: u64,
 ) -> Result<MeanReport<A>, MeanFault>
     ensures wrong { result ≡ Err MeanFault.WrongInputs ↔ (length inputs.now ≢ inputs_at checked.now (main_place checked.now)) }
-    ensures told { IfOk result (λ r. told checked.now inputs.now steps ≡ Some (r.end, r.outputs.items, r.cells.items)) }
+    ensures run_result { IfOk result (λ r. run_result checked.now inputs.now steps ≡ Some (r.end, r.outputs.items, r.cells.items)) }
     ensures meant { IfOk result (λ r. IsMeant checked.now inputs.now steps r.end r.outputs.items r.cells.items) }
 {
     if inputs.len() != input_count(checked.graph(), checked.main_place()) {

@@ -166,18 +166,18 @@ fn is_gate_of<'a, A: Allocator>(cond: usize, line: &Node<'a, A>) -> bool
 }
 
 /// The predicate, for each `enter` of the conditional's arms.
-pub fn tell<'a, A: Allocator>(
+pub fn steer<'a, A: Allocator>(
     fresh: &mut VecDeque<Token, A>,
     sent: &Sent,
     cond: usize,
     block: &Block<'a, A>,
 ) -> Result<(), AllocError>
-    ensures { OnOk result (fresh.new.items ≡ fresh.old.items ++ Sending.told_tokens sent.now cond block.now.1.inputs block.now.1.nodes) }
+    ensures { OnOk result (fresh.new.items ≡ fresh.old.items ++ Sending.steered_tokens sent.now cond block.now.1.inputs block.now.1.nodes) }
 {
-    tell_nodes(fresh, sent, cond, block.inputs as usize, &block.nodes)
+    steer_nodes(fresh, sent, cond, block.inputs as usize, &block.nodes)
 }
 
-fn tell_nodes<'a, A: Allocator>(
+fn steer_nodes<'a, A: Allocator>(
     fresh: &mut VecDeque<Token, A>,
     sent: &Sent,
     cond: usize,
@@ -185,7 +185,7 @@ fn tell_nodes<'a, A: Allocator>(
     nodes: &[Node<'a, A>],
 ) -> Result<(), AllocError>
     requires { inputs + length nodes.now < 2 ^ 64 }
-    ensures { OnOk result (fresh.new.items ≡ fresh.old.items ++ Sending.told_tokens sent.now cond inputs nodes.now) }
+    ensures { OnOk result (fresh.new.items ≡ fresh.old.items ++ Sending.steered_tokens sent.now cond inputs nodes.now) }
 {
     for (i, line) in nodes.iter().enumerate() {
         if is_gate_of(cond, line) {

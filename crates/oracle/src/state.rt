@@ -12,7 +12,7 @@ use crate::gather::{Row, all_there, reach, take_out};
 use crate::invocations::{Invocation, Invocations, Made};
 use crate::lines::block_at;
 use crate::report::MeanEnd;
-use crate::sending::{Sent, enter, enter_all, send, tell};
+use crate::sending::{Sent, enter, enter_all, send, steer};
 use crate::shapes::{Shape, list_spots, shape_of};
 use crate::tokens::{Spot, Token};
 use graph_check::Checked;
@@ -21,7 +21,7 @@ use std::collections::VecDeque;
 use std::mem;
 use tags::value::Value;
 
-/// The list of tokens has three parts, in this order. A token that was looked at and could not act goes behind.
+/// The list of tokens has three parts, in this order. A token that was looked at and could not act goes after.
 #[derive(Drop)]
 pub struct State<A: Allocator> {
     pub invocations: Invocations<A>,
@@ -255,33 +255,33 @@ fn send_from<'a, A: Allocator + Clone>(
 }
 
 /// Tells a predicate to the arms of a conditional of an invocation.
-fn tell_at<'a, A: Allocator>(
+fn steer_at<'a, A: Allocator>(
     checked: &Checked<'a, A>,
     fresh: &mut VecDeque<Token, A>,
     sent: &Sent,
     invocation: &Invocation,
     cond: usize,
 ) -> Result<(), AllocError>
-    ensures { OnOk result (fresh.new.items ≡ fresh.old.items ++ Running.told_if checked.now sent.now cond (Some invocation.now)) }
+    ensures { OnOk result (fresh.new.items ≡ fresh.old.items ++ Running.steered_if checked.now sent.now cond (Some invocation.now)) }
 {
     match block_at(checked.graph(), invocation.block) {
-        Some(block) => tell(fresh, sent, cond, block),
+        Some(block) => steer(fresh, sent, cond, block),
         None => Ok(()),
     }
 }
 
 /// Tells a predicate to the arms of a conditional.
-fn tell_from<'a, A: Allocator + Clone>(
+fn steer_from<'a, A: Allocator + Clone>(
     checked: &Checked<'a, A>,
     invocations: &Invocations<A>,
     fresh: &mut VecDeque<Token, A>,
     sent: &Sent,
     cond: usize,
 ) -> Result<(), AllocError>
-    ensures { OnOk result (fresh.new.items ≡ fresh.old.items ++ Running.told_in checked.now invocations.now sent.now cond) }
+    ensures { OnOk result (fresh.new.items ≡ fresh.old.items ++ Running.steered_in checked.now invocations.now sent.now cond) }
 {
     match invocations.get(sent.context) {
-        Some(invocation) => tell_at(checked, fresh, sent, &invocation, cond),
+        Some(invocation) => steer_at(checked, fresh, sent, &invocation, cond),
         None => Ok(()),
     }
 }
@@ -335,7 +335,7 @@ fn send_value<'a, A: Allocator + Clone>(
 }
 
 /// Tells a predicate to the arms of a conditional.
-fn tell_value<'a, A: Allocator + Clone>(
+fn steer_value<'a, A: Allocator + Clone>(
     checked: &Checked<'a, A>,
     state: &mut State<A>,
     context: usize,
@@ -344,10 +344,10 @@ fn tell_value<'a, A: Allocator + Clone>(
 ) -> Result<(), AllocError>
     ensures { let old = plain state.old.invocations state.old.fresh.items [] state.old.deferred.items state.old.cells.items state.old.outputs.items in
         let new = plain state.new.invocations state.new.fresh.items [] state.new.deferred.items state.new.cells.items state.new.outputs.items in
-        OnOk result ((new ≡ performed checked.now old [] (Deed.Tells context cond value)) × (state.new.waiting.items ≡ state.old.waiting.items)) }
+        OnOk result ((new ≡ performed checked.now old [] (Deed.Steers context cond value)) × (state.new.waiting.items ≡ state.old.waiting.items)) }
 {
     let sent = Sent { context, value };
-    tell_from(checked, &state.invocations, &mut state.fresh, &sent, cond)
+    steer_from(checked, &state.invocations, &mut state.fresh, &sent, cond)
 }
 
 /// Sends a value to an input of the invocation of that name, which is made where it is not there.
@@ -385,11 +385,11 @@ pub fn perform<'a, A: Allocator + Clone>(
             port,
             value,
         } => send_value(checked, state, context, node, port, value),
-        Deed::Tells {
+        Deed::Steers {
             context,
             cond,
             value,
-        } => tell_value(checked, state, context, cond, value),
+        } => steer_value(checked, state, context, cond, value),
         Deed::Enters {
             made,
             block,

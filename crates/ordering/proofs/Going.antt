@@ -10,7 +10,7 @@ use Rattle.ordering.specs.declared.log.Counts.{Counts}
 use Rattle.ordering.specs.declared.rest.Rest.{Rest}
 use Rattle.ordering.specs.Logs.{taken_in}
 use Rattle.ordering.specs.Pools.{all_copies}
-use Rattle.ordering.specs.Rests.{first_spent, Stands, IsWhole, StandsFor, Holds, with_spent, TakesNeeded, GoesOn}
+use Rattle.ordering.specs.Rests.{first_spent, IsLogOf, IsWhole, IsRestOf, Holds, with_spent, TakesNeeded, GoesOn}
 use Rattle.ordering.proofs.Copies.{taken_out, copies_append}
 use Rattle.ordering.proofs.Moving.{leads_nowhere, leads_aside, leads_block, leads_then}
 use Rattle.ordering.proofs.Standing.{stands_same, stands_whole, by_tokens}
@@ -21,7 +21,7 @@ Tokens = List Token
 abbrev Amounts : Type 0
 Amounts = Token → ℕ
 
-pub goes_nowhere : (n e : ℕ) (tokens : Tokens) (blocks : List Block) (before : Events) (amounts : Amounts) (r : Rest) → Holds amounts tokens → StandsFor r blocks → GoesOn n e tokens blocks before amounts r before
+pub goes_nowhere : (n e : ℕ) (tokens : Tokens) (blocks : List Block) (before : Events) (amounts : Amounts) (r : Rest) → Holds amounts tokens → IsRestOf r blocks → GoesOn n e tokens blocks before amounts r before
 goes_nowhere n e tokens blocks before amounts r holds stands = record {
   left = tokens;
   later = blocks;
@@ -44,7 +44,7 @@ goes_then n e tokens blocks one two three f g r s first second = record {
 }
 
 abbrev Goes : ℕ → Amounts → Rest → Events → Amounts → Rest → Events → Type 0
-Goes e before old one after new two = (n : ℕ) (tokens : Tokens) (blocks : List Block) → Holds before tokens → StandsFor old blocks → GoesOn n e tokens blocks one after new two
+Goes e before old one after new two = (n : ℕ) (tokens : Tokens) (blocks : List Block) → Holds before tokens → IsRestOf old blocks → GoesOn n e tokens blocks one after new two
 
 pub goes_twice : (e : ℕ) (one two three : Events) (f g h : Amounts) (r s t : Rest) → Goes e f r one g s two → Goes e g s two h t three → Goes e f r one h t three
 goes_twice e one two three f g h r s t first second n tokens blocks holds stands =
@@ -52,14 +52,14 @@ goes_twice e one two three f g h r s t first second n tokens blocks holds stands
     goes_then n e tokens blocks one two three g h s t a (second n a.left a.later a.holds a.stands)
 
 -- tokens of the next block are taken out of the pool
-pub goes_aside : (n e : ℕ) (tokens : Tokens) (blocks : List Block) (events : Events) (before after : Amounts) (old new : Rest) → 0 < length old.blocks.now → Holds before tokens → StandsFor old blocks → TakesNeeded before old after new → GoesOn n e tokens blocks events after new events
+pub goes_aside : (n e : ℕ) (tokens : Tokens) (blocks : List Block) (events : Events) (before after : Amounts) (old new : Rest) → 0 < length old.blocks.now → Holds before tokens → IsRestOf old blocks → TakesNeeded before old after new → GoesOn n e tokens blocks events after new events
 goes_aside n e tokens [] events before after old new some holds stands takes = absurd (let none : length old.blocks.now ≡ 0 = ap (λ (l : List Counts). length l) stands.1 in let no : ⊥ = omega (arith, some, none) in no)
 goes_aside n e tokens (b ∷ later) events before after old new some holds stands takes =
     let ts : Tokens = takes.0 in
     let need : Tokens = new.needed.now in
     let out = taken_out tokens ts after (λ q. sym (holds q) ∙ takes.2 q) in
     let spent : b.spent ≡ ts ++ need = sym stands.0 ∙ takes.1 in
-    let same : Stands need old.taken.now old.made.now old.blocks.now (with_spent need b ∷ later) = (refl, stands.1, stands.2, stands.3, stands.4, stands.5, stands.6) in
+    let same : IsLogOf need old.taken.now old.made.now old.blocks.now (with_spent need b ∷ later) = (refl, stands.1, stands.2, stands.3, stands.4, stands.5, stands.6) in
     record {
       left = out.0;
       later = with_spent need b ∷ later;
@@ -79,7 +79,7 @@ no_counts c cs e = cc
 
 -- a block whose tokens were all taken out has its place
 pub goes_block : (n e : ℕ) (tokens : Tokens) (blocks : List Block) (one two : Events) (before after : Amounts) (old new : Rest) (c : Counts) (cs : List Counts)
-    → old.blocks.now ≡ c ∷ cs → old.needed.now ≡ [] → Holds before tokens → StandsFor old blocks
+    → old.blocks.now ≡ c ∷ cs → old.needed.now ≡ [] → Holds before tokens → IsRestOf old blocks
     → IsWhole (drop c.events old.taken.now) (drop c.made old.made.now) cs new → two ≡ one ++ by e (take c.events old.taken.now) → ((q : Token) → after q ≡ before q + all_copies q (take c.made old.made.now))
     → GoesOn n e tokens blocks one after new two
 goes_block n e tokens [] one two before after old new c cs counts none holds stands whole noted amounts = absurd (no_counts c cs (sym stands.1 ∙ counts))
@@ -89,9 +89,9 @@ goes_block n e tokens (b ∷ later) one two before after old new c cs counts non
     let cs_is : stands.2 ≡ cs = same_tail stands.1 c stands.2 cs all in
     let taken_is : take c.events old.taken.now ≡ taken_in b = subst (λ (d : Counts). take d.events old.taken.now ≡ taken_in b) c_is stands.4 in
     let made_is : take c.made old.made.now ≡ b.made = subst (λ (d : Counts). take d.made old.made.now ≡ b.made) c_is stands.5 in
-    let rest : Stands (first_spent (drop c.events old.taken.now) cs) (drop c.events old.taken.now) (drop c.made old.made.now) cs later
-    = subst (λ (ds : List Counts). Stands (first_spent (drop c.events old.taken.now) ds) (drop c.events old.taken.now) (drop c.made old.made.now) ds later) cs_is
-    (subst (λ (d : Counts). Stands (first_spent (drop d.events old.taken.now) stands.2) (drop d.events old.taken.now) (drop d.made old.made.now) stands.2 later) c_is stands.6) in
+    let rest : IsLogOf (first_spent (drop c.events old.taken.now) cs) (drop c.events old.taken.now) (drop c.made old.made.now) cs later
+    = subst (λ (ds : List Counts). IsLogOf (first_spent (drop c.events old.taken.now) ds) (drop c.events old.taken.now) (drop c.made old.made.now) ds later) cs_is
+    (subst (λ (d : Counts). IsLogOf (first_spent (drop d.events old.taken.now) stands.2) (drop d.events old.taken.now) (drop d.made old.made.now) stands.2 later) c_is stands.6) in
     record {
       left = b.made ++ tokens;
       later = later;

@@ -15,7 +15,7 @@ use Rattle.ordering.specs.declared.log.BlockLog.{BlockLog}
 use Rattle.ordering.specs.declared.rest.Rest.{Rest}
 use Rattle.ordering.specs.Noted.{noted_in}
 use Rattle.ordering.specs.Pools.{all_copies}
-use Rattle.ordering.specs.Rests.{IsWhole, StandsFor, Holds, GoesOn, IsStuck}
+use Rattle.ordering.specs.Rests.{IsWhole, IsRestOf, Holds, GoesOn, IsStuck}
 use Rattle.ordering.specs.Orders.{IsHistory, IsOrdered, OrderedSoFar, AreWholeSoFar, AreWhole}
 use Rattle.ordering.proofs.Copies.{in_front}
 use Rattle.ordering.proofs.Moving.{all_own}
@@ -85,7 +85,7 @@ whole_pushed {A} logs rests l r low is whole so_far e q get =
 
 -- ONE ELEMENT GOES ON
 pub goes_further : (n : ℕ) (log : List Block) (start last : Tokens) (before after : Amounts) (rests : List Rest) (one two : Events) (at : ℕ) (old new : Rest)
-    → at < n → slice_get rests at ≡ Some old → ((tokens : Tokens) (blocks : List Block) → Holds before tokens → StandsFor old blocks → GoesOn n at tokens blocks one after new two)
+    → at < n → slice_get rests at ≡ Some old → ((tokens : Tokens) (blocks : List Block) → Holds before tokens → IsRestOf old blocks → GoesOn n at tokens blocks one after new two)
     → OrderedSoFar n log start last before rests one → OrderedSoFar n log start last after (slice_set rests at new) two
 goes_further n log start last before after rests one two at old new low get goes s =
     let bs : List Block = blocks_by at s.left in
@@ -97,11 +97,11 @@ goes_further n log start last before after rests one two at old new low get goes
       holds = go.holds;
       leaves = next.1;
       below = λ e high. next.3 e (λ (is : e ≡ at). let same : e ≡ at = is in let no : ⊥ = omega (arith, low, high, same) in no) ∙ s.below e high;
-      stands = λ e r there. by_equality (StandsFor r (blocks_by e next.0)) e at
+      stands = λ e r there. by_equality (IsRestOf r (blocks_by e next.0)) e at
           (λ (is : e ≡ at).
           let here : r ≡ new = set_same rests at r new (subst (λ (k : ℕ). slice_get (slice_set rests at new) k ≡ Some r) is there) in
-          subst (λ (k : ℕ). StandsFor r (blocks_by k next.0)) (sym is) (subst (λ (q : Rest). StandsFor q (blocks_by at next.0)) (sym here) (subst (StandsFor new) (sym next.2) go.stands)))
-          (λ (ne : e ≢ at). subst (StandsFor r) (sym (next.3 e ne)) (s.stands e r (sym (set_apart rests at e new (λ (is : at ≡ e). ne (sym is))) ∙ there)))
+          subst (λ (k : ℕ). IsRestOf r (blocks_by k next.0)) (sym is) (subst (λ (q : Rest). IsRestOf q (blocks_by at next.0)) (sym here) (subst (IsRestOf new) (sym next.2) go.stands)))
+          (λ (ne : e ≢ at). subst (IsRestOf r) (sym (next.3 e ne)) (s.stands e r (sym (set_apart rests at e new (λ (is : at ≡ e). ne (sym is))) ∙ there)))
           (e == at) refl;
       back = λ later leaves same.
           let own = all_own n at s.left s.tokens last s.leaves in
@@ -128,7 +128,7 @@ waits (u ∷ us) rest tokens amounts t first none holds perm =
     let held = holds u in
     omega (arith, some, here, held)
 
-stuck_first : (n : ℕ) (b : Block) (later : List Block) (tokens last : Tokens) (amounts : Amounts) (r : Rest) → LeavesTokens n tokens (b ∷ later) last → Holds amounts tokens → StandsFor r (b ∷ blocks_by b.element later) → IsStuck amounts r → ⊥
+stuck_first : (n : ℕ) (b : Block) (later : List Block) (tokens last : Tokens) (amounts : Amounts) (r : Rest) → LeavesTokens n tokens (b ∷ later) last → Holds amounts tokens → IsRestOf r (b ∷ blocks_by b.element later) → IsStuck amounts r → ⊥
 stuck_first n b later tokens last amounts r leaves holds stands stuck =
     let some : 0 < length r.blocks.now = subst (λ (cs : List Counts). 0 < length cs) (sym stands.3) (omega arith) in
     let waiting = stuck some in
@@ -136,12 +136,12 @@ stuck_first n b later tokens last amounts r leaves holds stands stuck =
 
 -- where no block can be taken, none is left
 none_left : (n : ℕ) (left : List Block) (tokens last : Tokens) (amounts : Amounts) (rests : List Rest) → length rests ≡ n → LeavesTokens n tokens left last → Holds amounts tokens → ((e : ℕ) → n ≤ e → blocks_by e left ≡ [])
-    → ((e : ℕ) (r : Rest) → slice_get rests e ≡ Some r → StandsFor r (blocks_by e left)) → ((e : ℕ) (r : Rest) → slice_get rests e ≡ Some r → IsStuck amounts r) → left ≡ []
+    → ((e : ℕ) (r : Rest) → slice_get rests e ≡ Some r → IsRestOf r (blocks_by e left)) → ((e : ℕ) (r : Rest) → slice_get rests e ≡ Some r → IsStuck amounts r) → left ≡ []
 none_left n [] tokens last amounts rests count leaves holds below stands stuck = refl
 none_left n (b ∷ later) tokens last amounts rests count leaves holds below stands stuck =
     let low : b.element < n = (all_below n (b ∷ later) below).0 in
     let here = get_some rests b.element (omega (arith, low, count)) in
-    absurd (stuck_first n b later tokens last amounts here.0 leaves holds (subst (StandsFor here.0) (by_same b later) (stands b.element here.0 here.1)) (stuck b.element here.0 here.1))
+    absurd (stuck_first n b later tokens last amounts here.0 leaves holds (subst (IsRestOf here.0) (by_same b later) (stands b.element here.0 here.1)) (stuck b.element here.0 here.1))
 
 pub ends : {A : Type 0} (logs : List (BlockLog A)) (log : List Block) (start last : Tokens) (amounts : Amounts) (rests : List Rest) (events : Events)
     → IsHistory logs log start last → length rests ≡ length logs → OrderedSoFar (length logs) log start last amounts rests events → ((e : ℕ) (r : Rest) → slice_get rests e ≡ Some r → IsStuck amounts r) → IsOrdered (length logs) log start last events

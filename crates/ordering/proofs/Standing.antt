@@ -11,7 +11,7 @@ use Rattle.ordering.specs.declared.log.Counts.{Counts}
 use Rattle.ordering.specs.declared.rest.Rest.{Rest}
 use Rattle.ordering.specs.Noted.{Noted}
 use Rattle.ordering.specs.Logs.{taken_in, made_in, counts_of, SpendsOldest, Logs}
-use Rattle.ordering.specs.Rests.{first_spent, Stands, IsWhole, StandsFor}
+use Rattle.ordering.specs.Rests.{first_spent, IsLogOf, IsWhole, IsRestOf}
 
 abbrev Tokens : Type 0
 Tokens = List Token
@@ -32,7 +32,7 @@ drop_front n xs ys e = subst (λ (k : ℕ). drop k (xs ++ ys) ≡ ys) e (drop_al
 
 -- the lists of a log stand for its blocks
 stand : (blocks : List Block) (taken made : Tokens) (counts : List Counts) → taken ≡ flat_map taken_in blocks → made ≡ flat_map made_in blocks → counts ≡ map counts_of blocks → All SpendsOldest blocks
-    → Stands (first_spent taken counts) taken made counts blocks
+    → IsLogOf (first_spent taken counts) taken made counts blocks
 stand [] taken made counts t m c oldest = (ap (first_spent taken) c, c)
 stand (b ∷ later) taken made counts t m c oldest =
     let ts : Tokens = flat_map taken_in later in
@@ -54,15 +54,15 @@ stand (b ∷ later) taken made counts t m c oldest =
     )
 
 -- lists that are others
-pub stands_same : (n m t s d f : Tokens) (c k : List Counts) (blocks : List Block) → n ≡ m → t ≡ s → d ≡ f → c ≡ k → Stands m s f k blocks → Stands n t d c blocks
+pub stands_same : (n m t s d f : Tokens) (c k : List Counts) (blocks : List Block) → n ≡ m → t ≡ s → d ≡ f → c ≡ k → IsLogOf m s f k blocks → IsLogOf n t d c blocks
 stands_same n m t s d f c k blocks a b e g stands =
-    subst (λ (l : Tokens). Stands l t d c blocks) (sym a) (subst (λ (l : Tokens). Stands m l d c blocks) (sym b) (subst (λ (l : Tokens). Stands m s l c blocks) (sym e) (subst (λ (l : List Counts). Stands m s f l blocks) (sym g) stands)))
+    subst (λ (l : Tokens). IsLogOf l t d c blocks) (sym a) (subst (λ (l : Tokens). IsLogOf m l d c blocks) (sym b) (subst (λ (l : Tokens). IsLogOf m s l c blocks) (sym e) (subst (λ (l : List Counts). IsLogOf m s f l blocks) (sym g) stands)))
 
-pub stands_whole : (r : Rest) (taken made : Tokens) (counts : List Counts) (blocks : List Block) → IsWhole taken made counts r → Stands (first_spent taken counts) taken made counts blocks → StandsFor r blocks
+pub stands_whole : (r : Rest) (taken made : Tokens) (counts : List Counts) (blocks : List Block) → IsWhole taken made counts r → IsLogOf (first_spent taken counts) taken made counts blocks → IsRestOf r blocks
 stands_whole r taken made counts blocks whole stands = stands_same r.needed.now (first_spent taken counts) r.taken.now taken r.made.now made r.blocks.now counts blocks whole.0 whole.1 whole.2 whole.3 stands
 
 -- all of a log stands for its blocks
-pub log_stands : (r : Rest) (n : Noted) (blocks : List Block) → IsWhole n.taken n.made n.blocks r → Logs n blocks → StandsFor r blocks
+pub log_stands : (r : Rest) (n : Noted) (blocks : List Block) → IsWhole n.taken n.made n.blocks r → Logs n blocks → IsRestOf r blocks
 log_stands r n blocks whole logs =
     stands_whole r n.taken n.made n.blocks blocks whole
     (stand blocks n.taken n.made n.blocks (logs.taken ∙ append-nil (flat_map taken_in blocks)) (logs.made ∙ append-nil (flat_map made_in blocks)) logs.counts logs.oldest)

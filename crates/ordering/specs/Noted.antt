@@ -16,7 +16,7 @@ noted_in l = record { taken = l.taken.items; made = l.made.items; blocks = l.blo
 abbrev pub nothing : Noted
 nothing = record { taken = []; made = []; blocks = [] }
 
--- with one more event, token that was made, or block, behind the others
+-- with one more event, token that was made, or block, after the others
 abbrev pub with_event : Noted → Token → Noted
 with_event n t = record { taken = n.taken ++ t ∷ []; made = n.made; blocks = n.blocks }
 

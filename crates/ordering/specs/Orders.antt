@@ -7,7 +7,7 @@ use Rattle.ordering.specs.declared.log.BlockLog.{BlockLog}
 use Rattle.ordering.specs.declared.rest.Rest.{Rest}
 use Rattle.ordering.specs.Noted.{noted_in}
 use Rattle.ordering.specs.Logs.{Logs}
-use Rattle.ordering.specs.Rests.{IsWhole, StandsFor, Holds}
+use Rattle.ordering.specs.Rests.{IsWhole, IsRestOf, Holds}
 
 -- The log is a legal history of elements that have these logs.
 pub record IsHistory {A : Type 0} (logs : List (BlockLog A)) (log : List Block) (start last : List Token) : Type 0 where
@@ -23,14 +23,14 @@ pub record IsOrdered (n : ℕ) (log : List Block) (start last : List Token) (lis
   pub blocks : (e : ℕ) → blocks_by e history ≡ blocks_by e log
   pub events : listed ≡ events_in history
 
--- So far: what is left of the logs is a legal history from what is in the pool, and each such history goes behind the events that have their place.
+-- So far: what is left of the logs is a legal history from what is in the pool, and each such history goes after the events that have their place.
 pub record OrderedSoFar (n : ℕ) (log : List Block) (start last : List Token) (amounts : Token → ℕ) (rests : List Rest) (events : Events) : Type 0 where
   pub tokens : List Token
   pub left : List Block
   pub holds : Holds amounts tokens
   pub leaves : LeavesTokens n tokens left last
   pub below : (e : ℕ) → n ≤ e → blocks_by e left ≡ []
-  pub stands : (e : ℕ) (r : Rest) → slice_get rests e ≡ Some r → StandsFor r (blocks_by e left)
+  pub stands : (e : ℕ) (r : Rest) → slice_get rests e ≡ Some r → IsRestOf r (blocks_by e left)
   pub back : (next : List Block) → LeavesTokens n tokens next last → ((e : ℕ) → blocks_by e next ≡ blocks_by e left)
       → (whole : List Block) × LeavesTokens n start whole last × ((e : ℕ) → blocks_by e whole ≡ blocks_by e log) × (events_in whole ≡ events ++ events_in next)
 

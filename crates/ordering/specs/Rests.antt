@@ -15,14 +15,14 @@ first_spent taken [] = []
 first_spent taken (c ∷ later) = take c.spent taken
 
 -- What is left of a log stands for these blocks. The first of them has those of its spent tokens that it needs still.
-abbrev pub Stands : List Token → List Token → List Token → List Counts → List Block → Type 0
-Stands needed taken made counts [] = (needed ≡ []) × (counts ≡ [])
-Stands needed taken made counts (b ∷ later) =
+abbrev pub IsLogOf : List Token → List Token → List Token → List Counts → List Block → Type 0
+IsLogOf needed taken made counts [] = (needed ≡ []) × (counts ≡ [])
+IsLogOf needed taken made counts (b ∷ later) =
     (needed ≡ b.spent) × (c : Counts) × (cs : List Counts) × (counts ≡ c ∷ cs) × (take c.events taken ≡ taken_in b) × (take c.made made ≡ b.made)
-    × Stands (first_spent (drop c.events taken) cs) (drop c.events taken) (drop c.made made) cs later
+    × IsLogOf (first_spent (drop c.events taken) cs) (drop c.events taken) (drop c.made made) cs later
 
-abbrev pub StandsFor : Rest → List Block → Type 0
-StandsFor r blocks = Stands r.needed.now r.taken.now r.made.now r.blocks.now blocks
+abbrev pub IsRestOf : Rest → List Block → Type 0
+IsRestOf r blocks = IsLogOf r.needed.now r.taken.now r.made.now r.blocks.now blocks
 
 -- all blocks of such lists are left
 abbrev pub IsWhole : List Token → List Token → List Counts → Rest → Type 0
@@ -60,7 +60,7 @@ pub record GoesOn (n e : ℕ) (tokens : List Token) (blocks : List Block) (befor
   pub later : List Block
   pub made : Events
   pub holds : Holds amounts left
-  pub stands : StandsFor rest later
+  pub stands : IsRestOf rest later
   pub noted : after ≡ before ++ made
   pub leads : Leads n e tokens blocks made left later
 

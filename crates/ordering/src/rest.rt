@@ -5,7 +5,7 @@ ghost use Rattle.tags.specs.declared.token.Token.{Token};
 ghost use Rattle.rounds.specs.Turns.{by};
 ghost use Rattle.law_linearization.specs.History.{Block};
 ghost use Rattle.ordering.specs.Pools.{amount, all_copies};
-ghost use Rattle.ordering.specs.Rests.{first_spent, IsWhole, StandsFor, Holds, TakesNeeded, GoesOn, IsStuck};
+ghost use Rattle.ordering.specs.Rests.{first_spent, IsWhole, IsRestOf, Holds, TakesNeeded, GoesOn, IsStuck};
 
 use crate::log::{BlockLog, Counts};
 use crate::pool::Pool;
@@ -114,7 +114,7 @@ fn take_block<'l, A: Allocator + Clone>(
     pool: &mut Pool<A>,
     events: &mut Vec<(u32, Token), A>,
 ) -> Result<bool, AllocError>
-    ensures goes { OnOk result ((n : ℕ) (tokens : List Token) (blocks : List Block) → Holds (amount pool.old) tokens → StandsFor rest.old blocks → GoesOn n element tokens blocks events.old.items (amount pool.new) rest.new events.new.items) }
+    ensures goes { OnOk result ((n : ℕ) (tokens : List Token) (blocks : List Block) → Holds (amount pool.old) tokens → IsRestOf rest.old blocks → GoesOn n element tokens blocks events.old.items (amount pool.new) rest.new events.new.items) }
     ensures stuck { IfOk result (λ taken. taken ≡ false → IsStuck (amount pool.new) rest.new) }
     ensures same { IfOk result (λ taken. taken ≡ false → length rest.new.blocks.now ≡ length rest.old.blocks.now) }
     ensures less { IfOk result (λ taken. taken ≡ false → (q : Token) → amount pool.new q ≤ amount pool.old q) }
@@ -138,7 +138,7 @@ pub fn go_on<'l, A: Allocator + Clone>(
     pool: &mut Pool<A>,
     events: &mut Vec<(u32, Token), A>,
 ) -> Result<Rest<'l>, AllocError>
-    ensures goes { IfOk result (λ left. (n : ℕ) (tokens : List Token) (blocks : List Block) → Holds (amount pool.old) tokens → StandsFor rest.entry blocks → GoesOn n element tokens blocks events.old.items (amount pool.new) left events.new.items) }
+    ensures goes { IfOk result (λ left. (n : ℕ) (tokens : List Token) (blocks : List Block) → Holds (amount pool.old) tokens → IsRestOf rest.entry blocks → GoesOn n element tokens blocks events.old.items (amount pool.new) left events.new.items) }
     ensures stuck { IfOk result (IsStuck (amount pool.new)) }
     ensures fewer { IfOk result (λ left. length left.blocks.now ≤ length rest.entry.blocks.now) }
     ensures less { IfOk result (λ left. length left.blocks.now ≡ length rest.entry.blocks.now → (q : Token) → amount pool.new q ≤ amount pool.old q) }

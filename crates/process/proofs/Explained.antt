@@ -3,8 +3,8 @@ use Rattle.std.proofs.Common.{◌≡◌, ℕ, List, ◌++◌, subst}
 use Rattle.std.specs.Prelude.{Option, Some, None, IfSome, option_map}
 use Rattle.keeping.specs.Kept.{HasRead}
 use Rattle.outcomes.specs.declared.outcome.Outcome.{Outcome}
-use Rattle.process.specs.declared.telling.Told.{Told}
-use Rattle.process.specs.Told.{Telling, Speaks}
+use Rattle.process.specs.declared.sending.HintSent.{HintSent}
+use Rattle.process.specs.HintSent.{Account, Speaks}
 use Rattle.process.specs.Process.{Answers, Explains}
 
 -- the same of equal bytes
@@ -18,12 +18,12 @@ pub reads_of : {A : Type 0} (bytes : A → List ℕ) (input : Option A) (remaini
 reads_of bytes None remaining had left rest before after has = tt
 reads_of bytes (Some i) remaining had left rest before after has = subst (λ r. HasRead r rest (bytes i)) before (subst (λ l. HasRead remaining l (bytes i)) after has)
 
-module _ (tells : Telling) (words : List (List ℕ)) (remaining left input : Option (List ℕ)) (outcome : Option Outcome) (has_read : IfSome input (λ xs. HasRead remaining left xs)) where
-  explained : (text : Option (List ℕ)) → tells words input outcome text → Explains tells words remaining left outcome text
+module _ (accounts : Account) (words : List (List ℕ)) (remaining left input : Option (List ℕ)) (outcome : Option Outcome) (has_read : IfSome input (λ xs. HasRead remaining left xs)) where
+  explained : (text : Option (List ℕ)) → accounts words input outcome text → Explains accounts words remaining left outcome text
   explained text is = (input, has_read, is)
 
-  pub explained_run : (silent spoken : Option (List ℕ)) (told : Told) → Speaks (tells words input outcome) silent spoken told → Speaks (Explains tells words remaining left outcome) silent spoken told
-  explained_run silent spoken Told.Nothing is = (explained None is.0, is.1)
-  explained_run silent spoken Told.Hint is = (is.0, explained (Some is.0) is.1, is.2)
-  explained_run silent spoken Told.Beginning is = (is.0, is.1, explained (Some (is.0 ++ is.1)) is.2, is.3)
-  explained_run silent spoken Told.Unknown is = is
+  pub explained_run : (silent spoken : Option (List ℕ)) (hint_sent : HintSent) → Speaks (accounts words input outcome) silent spoken hint_sent → Speaks (Explains accounts words remaining left outcome) silent spoken hint_sent
+  explained_run silent spoken HintSent.Nothing is = (explained None is.0, is.1)
+  explained_run silent spoken HintSent.Hint is = (is.0, explained (Some is.0) is.1, is.2)
+  explained_run silent spoken HintSent.Beginning is = (is.0, is.1, explained (Some (is.0 ++ is.1)) is.2, is.3)
+  explained_run silent spoken HintSent.Unknown is = is

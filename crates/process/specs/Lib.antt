@@ -1,3 +1,3 @@
 pub mod Hinted
-pub mod Told
+pub mod HintSent
 pub mod Process

@@ -6,8 +6,8 @@ use Rattle.outcomes.specs.declared.outcome.Outcome.{Outcome}
 use Rattle.outcomes.specs.Outcomes.{outcome_status}
 use Rattle.commands.specs.Answered.{ServesWords}
 use Rattle.keeping.specs.Kept.{HasRead}
-use Rattle.process.specs.declared.telling.Told.{Told}
-use Rattle.process.specs.Told.{Telling, Speaks}
+use Rattle.process.specs.declared.sending.HintSent.{HintSent}
+use Rattle.process.specs.HintSent.{Account, Speaks}
 
 -- STANDARD OUTPUT
 -- All that was served is there, and what came of it is that of serving. Or a write failed: a rest of it may be missing.
@@ -27,21 +27,21 @@ exits (Some outcome) = outcome_status outcome
 
 -- STANDARD ERROR
 -- What explains a run is told of these words, of all that was read, unless that was not kept, and of what came of the words.
-abbrev pub Explains : Telling → List (List ℕ) → Option (List ℕ) → Option (List ℕ) → Option Outcome → Option (List ℕ) → Type 0
-Explains tells words remaining left outcome text =
-    (input : Option (List ℕ)) × IfSome input (λ xs. HasRead remaining left xs) × tells words input outcome text
+abbrev pub Explains : Account → List (List ℕ) → Option (List ℕ) → Option (List ℕ) → Option Outcome → Option (List ℕ) → Type 0
+Explains accounts words remaining left outcome text =
+    (input : Option (List ℕ)) × IfSome input (λ xs. HasRead remaining left xs) × accounts words input outcome text
 
 -- THE PROCESS
 -- `remaining` and `left` are what standard input has before and after; `old` and `new` what standard output holds, and `silent` and `spoken` what standard error holds.
 -- `outcome` is what came of the words, where a write did not fail.
-pub record Ends (tells : Telling) (words : List (List ℕ)) (remaining left old new silent spoken : Option (List ℕ)) (outcome : Option Outcome) (status : ℕ) (told : Told) : Type 0 where
+pub record Ends (accounts : Account) (words : List (List ℕ)) (remaining left old new silent spoken : Option (List ℕ)) (outcome : Option Outcome) (status : ℕ) (hint_sent : HintSent) : Type 0 where
   pub answers : Answers words remaining old new outcome
   pub exit : status ≡ exits outcome
-  pub explains : Speaks (Explains tells words remaining left outcome) silent spoken told
+  pub explains : Speaks (Explains accounts words remaining left outcome) silent spoken hint_sent
 
 -- THE HINTS OF ETS: a hint is wanted of what came of the words, or none is
-abbrev pub IsWanted : Bool → Told → Type 0
-IsWanted wanted Told.Nothing = wanted ≡ false
-IsWanted wanted Told.Hint = wanted ≡ true
-IsWanted wanted Told.Beginning = wanted ≡ true
-IsWanted wanted Told.Unknown = ⊤
+abbrev pub IsWanted : Bool → HintSent → Type 0
+IsWanted wanted HintSent.Nothing = wanted ≡ false
+IsWanted wanted HintSent.Hint = wanted ≡ true
+IsWanted wanted HintSent.Beginning = wanted ≡ true
+IsWanted wanted HintSent.Unknown = ⊤

@@ -2,7 +2,7 @@
 
 ghost use Rattle.std.specs.Prelude.{◌≡◌, IfOk, ℕ, List, Option, drop, map, option_map};
 ghost use Rattle.outcomes.specs.declared.outcome.Outcome as Outcomes;
-ghost use Rattle.process.specs.Hinted.{tells_hint, text_of};
+ghost use Rattle.process.specs.Hinted.{accounts_by_hint, text_of};
 
 use hints::{Hint, explain};
 use outcomes::Outcome;
@@ -11,9 +11,9 @@ use std::convert::AsStr;
 
 /// What explains a run, if anything does.
 pub trait Explain {
-    /// Whether this is told, or nothing: of these words, behind the program's name, of this input, if it was kept, and of what
+    /// Whether this is told, or nothing: of these words, after the program's name, of this input, if it was kept, and of what
     /// came of them, where no write failed.
-    ghost tells: { List (List ℕ) → Option (List ℕ) → Option Outcomes.Outcome → Option (List ℕ) → Type 0 };
+    ghost accounts: { List (List ℕ) → Option (List ℕ) → Option Outcomes.Outcome → Option (List ℕ) → Type 0 };
 
     /// What a person is to be told of a run. `words` are the words of the command line, the program's name first. `input` is
     /// what was read, if that was kept. `outcome` is what came of them; `None` where a write failed.
@@ -24,14 +24,14 @@ pub trait Explain {
         input: Option<&[u8]>,
         outcome: Option<Outcome>,
     ) -> Result<Option<Hint<A>>, AllocError>
-        ensures { IfOk result (λ hint. tells (map S.text (drop 1 words.now)) (option_map (λ i. i.now) input.entry) outcome (option_map text_of hint)) };
+        ensures { IfOk result (λ hint. accounts (map S.text (drop 1 words.now)) (option_map (λ i. i.now) input.entry) outcome (option_map text_of hint)) };
 }
 
 /// The hints of `ets`.
 pub struct Hints;
 
 impl Explain for Hints {
-    ghost tells = { tells_hint };
+    ghost accounts = { accounts_by_hint };
 
     fn explain<S: AsStr, A: Allocator + Clone>(
         &self,

@@ -4,7 +4,7 @@
 
 mod answering;
 mod explaining;
-mod telling;
+mod sending;
 
 ghost use Rattle.std.specs.Prelude.{◌≡◌, IfOk, MatchResult, drop, map};
 ghost use Rattle.std.specs.Io.KnownBytes.{Keeps};
@@ -12,20 +12,20 @@ ghost use Rattle.std.specs.IoError.{error_kind};
 ghost use Rattle.std.specs.declared.io.ErrorKind.{ErrorKind};
 ghost use Rattle.hints.specs.Hints.{wants_hint};
 ghost use Rattle.process.specs.Process.{Ends, IsWanted, exits};
-ghost use Rattle.process.specs.Hinted.{tells_hint};
+ghost use Rattle.process.specs.Hinted.{accounts_by_hint};
 
 use answering::answer;
 pub use explaining::{Explain, Hints};
 use keeping::{KeepingReader, Start};
 use outcomes::Outcome;
+pub use sending::HintSent;
+use sending::send_hint;
 use std::alloc::Global;
 use std::convert::AsStr;
 use std::io::{self, BufWriter, Read, Write};
 use std::marker::Brand;
 use std::sync::Wait;
 use std::thread::Threads;
-pub use telling::Told;
-use telling::tell;
 
 /// What a process leaves.
 #[derive(Drop)]
@@ -34,8 +34,8 @@ pub struct Ended<I, W> {
     pub outcome: Option<Outcome>,
     /// The exit status.
     pub status: u8,
-    /// What was told on standard error.
-    pub told: Told,
+    /// What was reported on standard error.
+    pub hint_sent: HintSent,
     /// Standard input, with what was not read.
     pub reader: I,
     /// Standard output, with all that was written.
@@ -75,7 +75,7 @@ fn run_from<
 ) -> io::Result<Ended<I, W>>
     requires { B.remaining ≡ I.remaining reader }
     ensures { MatchResult result
-        (λ e. Ends X.tells (map S.text (drop 1 words.now)) (I.remaining reader) (I.remaining e.reader) (W.contents writer) (W.contents e.writer) (E.contents errors.old) (E.contents errors.new) e.outcome e.status e.told)
+        (λ e. Ends X.accounts (map S.text (drop 1 words.now)) (I.remaining reader) (I.remaining e.reader) (W.contents writer) (W.contents e.writer) (E.contents errors.old) (E.contents errors.new) e.outcome e.status e.hint_sent)
         (λ e. (error_kind e ≡ ErrorKind.OutOfMemory) × Keeps (E.contents errors.old) (E.contents errors.new)) }
 {
     let mut reader: KeepingReader<I, Global, B> = KeepingReader::new(alloc, reader);
@@ -83,11 +83,11 @@ fn run_from<
     let outcome = answer(words, &mut reader, &mut writer, alloc, rt);
     let (writer, _unwritten) = writer.into_parts();
     let input = reader.kept();
-    let told = tell(explainer, alloc, words, input, outcome, errors);
+    let hint_sent = send_hint(explainer, alloc, words, input, outcome, errors);
     Ok(Ended {
         outcome,
         status: exit_status(outcome),
-        told,
+        hint_sent,
         reader: reader.into_inner(),
         writer,
     })
@@ -112,7 +112,7 @@ pub fn run_explained<
     rt: &R,
 ) -> io::Result<Ended<I, W>>
     ensures { MatchResult result
-        (λ e. Ends X.tells (map S.text (drop 1 words.now)) (I.remaining reader) (I.remaining e.reader) (W.contents writer) (W.contents e.writer) (E.contents errors.old) (E.contents errors.new) e.outcome e.status e.told)
+        (λ e. Ends X.accounts (map S.text (drop 1 words.now)) (I.remaining reader) (I.remaining e.reader) (W.contents writer) (W.contents e.writer) (E.contents errors.old) (E.contents errors.new) e.outcome e.status e.hint_sent)
         (λ e. (error_kind e ≡ ErrorKind.OutOfMemory) × Keeps (E.contents errors.old) (E.contents errors.new)) }
 {
     run_from::<Brand, X, S, I, W, E, R>(words, reader, writer, errors, explainer, alloc, rt)
@@ -130,9 +130,9 @@ pub fn run_process<S: AsStr, I: Read + Drop, W: Write + Drop, E: Write, R: Threa
     rt: &R,
 ) -> io::Result<Ended<I, W>>
     ensures ends { MatchResult result
-        (λ e. Ends tells_hint (map S.text (drop 1 words.now)) (I.remaining reader) (I.remaining e.reader) (W.contents writer) (W.contents e.writer) (E.contents errors.old) (E.contents errors.new) e.outcome e.status e.told)
+        (λ e. Ends accounts_by_hint (map S.text (drop 1 words.now)) (I.remaining reader) (I.remaining e.reader) (W.contents writer) (W.contents e.writer) (E.contents errors.old) (E.contents errors.new) e.outcome e.status e.hint_sent)
         (λ e. (error_kind e ≡ ErrorKind.OutOfMemory) × Keeps (E.contents errors.old) (E.contents errors.new)) }
-    ensures wants { IfOk result (λ e. IsWanted (wants_hint e.outcome) e.told) }
+    ensures wants { IfOk result (λ e. IsWanted (wants_hint e.outcome) e.hint_sent) }
 {
     run_explained(words, reader, writer, errors, &Hints, alloc, rt)
 }

@@ -56,7 +56,7 @@ ratio_text w s = decimals_text (codes ", parallelism ") (whole_of w s) (hundredt
 abbrev pub legend_text : ℕ → ℕ → List ℕ
 legend_text w s = sizes_text w s ++ ratio_text w s
 
--- a number at a place, and words behind it
+-- a number at a place, and words after it
 abbrev pub label_text : List ℕ → ℕ → List ℕ → List ℕ
 label_text place n words = together (codes "<text " ∷ place ∷ codes ">" ∷ decimal n ∷ words ∷ codes "</text>\n" ∷ [])
 

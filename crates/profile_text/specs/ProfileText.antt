@@ -41,7 +41,7 @@ row_line r =
     codes "elements " ∷ decimal r.elements ∷ codes " rounds " ∷ decimal r.rounds ∷ codes " tokens " ∷ decimal r.tokens ∷ codes " slots " ∷ decimal r.slots ∷ codes " frames " ∷ decimal r.frames ∷ codes "\n" ∷ []
     )
 
--- THE END of the waves, as that of a meaning is told
+-- THE END of the waves, as that of a meaning is reported
 abbrev pub name_of : Option (List ℕ × ℕ) → List ℕ
 name_of None = []
 name_of (Some a) = a.0

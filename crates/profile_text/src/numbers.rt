@@ -72,7 +72,7 @@ pub(crate) fn count_bars(waves: usize) -> usize
     (waves - 1) / size_of_bar(waves) + 1
 }
 
-/// The first `size` numbers, and those behind them.
+/// The first `size` numbers, and those after them.
 pub(crate) fn split(counts: &[u64], size: usize) -> (&[u64], &[u64])
     ensures first { result.0.now ≡ take size counts.now }
     ensures rest { result.1.now ≡ drop size counts.now }

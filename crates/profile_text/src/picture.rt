@@ -67,7 +67,7 @@ fn send_legend<W: Write>(writer: &mut W, work: u128, span: usize) -> io::Result<
     send_ratio(writer, work, span)
 }
 
-/// A number at a place, and words behind it.
+/// A number at a place, and words after it.
 fn send_label<W: Write>(writer: &mut W, place: &[u8], number: u64, words: &[u8]) -> io::Result<()>
     ensures { Sends result (W.contents writer.old) (W.contents writer.new) (label_text place.now number words.now) }
 {

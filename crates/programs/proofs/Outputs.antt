@@ -18,8 +18,8 @@ use Rattle.source.specs.Theorem.{world}
 use Rattle.source.proofs.Counted.{main_counts}
 use Rattle.source.proofs.Counting.{body_count}
 use Rattle.law_language.specs.MeansTheorem.{IsLoweredText}
-use Rattle.law_language.proofs.MeansMainStands.{each_function_good, graph_is, main_spot, main_is, block}
-use Rattle.law_language.proofs.MeansOriginsTold.{origins_are_told}
+use Rattle.law_language.proofs.MeansMainActive.{each_function_good, graph_is, main_spot, main_is, block}
+use Rattle.law_language.proofs.MeansOriginsTraced.{origins_are_traced}
 use Rattle.law_language.proofs.MeansPlaced.{places_from_origins}
 use Rattle.law_language.proofs.MeansTexts.{tokens_rise, spellings_differ}
 
@@ -31,14 +31,14 @@ module _ (text : List ℕ) (p : Program) (g : Graph) (origin : ℕ → Origin) (
   pub main_block : Block ℕ
   main_block =
       block p g origin inputs run s r (runs_at_rest g inputs well count run s r rests once none) well count (graph_is p g low.lowered.graph) m.main m.named
-      (places_from_origins origins_are_told p g origin
+      (places_from_origins origins_are_traced p g origin
       (record { lowered = low.lowered; apart = spellings_differ text low.tokens p low.spelled (tokens_rise text low.tokens low.read) }) well main_name m.main m.named)
 
   pub is_main : slice_get (flow_of g).blocks (flow_of g).main ≡ Some main_block
   unfolding main_block
   is_main =
       main_is p g origin inputs run s r (runs_at_rest g inputs well count run s r rests once none) well count (graph_is p g low.lowered.graph) m.main m.named
-      (places_from_origins origins_are_told p g origin
+      (places_from_origins origins_are_traced p g origin
       (record { lowered = low.lowered; apart = spellings_differ text low.tokens p low.spelled (tokens_rise text low.tokens low.read) }) well main_name m.main m.named)
 
   pub has_outputs : main_block.outputs ≡ length vs

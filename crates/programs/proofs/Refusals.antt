@@ -14,30 +14,30 @@ use Rattle.lowered_text.specs.declared.fault.LowerFault.{LowerFault}
 use Rattle.lowered_text.specs.Lowers.{Lowers, IsRefusedProgram}
 use Rattle.driver.specs.declared.fault.Fault.{Fault}
 use Rattle.driver.specs.Compiled.{IsTooLarge}
-use Rattle.driver.specs.Told.{IsUnchecked}
+use Rattle.driver.specs.Reported.{IsUnchecked}
 use Rattle.driver.specs.Refused.{IsGoodText, IsCompiled, IsRefused, IsRefusedObject}
-use Rattle.programs.specs.declared.fault.RunFault.{RunFault}
+use Rattle.programs.specs.declared.fault.RunRefusal.{RunRefusal}
 use Rattle.programs.specs.Refused.{IsNotRun, IsNotCompiled, IsRefusedRun, OfGraph, unlowered_as, IsUnrun}
 
 -- a graph that is well formed is refused for want of memory alone
-pub refused_memory : (g : Graph) (f : CheckFault) (told : Fault) → WellFormed g → IsRefusal g f → IsUnchecked f told → told ≡ Fault.Memory
-refused_memory g f told well h (inl (m, is)) = is
-refused_memory g f told well (inl e) (inr (n, is)) = absurd (n (ap (λ (f : CheckFault). f.kind) e))
-refused_memory g f told well (inr (e, n, ill)) (inr k) = absurd (ill well)
+pub refused_memory : (g : Graph) (f : CheckFault) (reported : Fault) → WellFormed g → IsRefusal g f → IsUnchecked f reported → reported ≡ Fault.Memory
+refused_memory g f reported well h (inl (m, is)) = is
+refused_memory g f reported well (inl e) (inr (n, is)) = absurd (n (ap (λ (f : CheckFault). f.kind) e))
+refused_memory g f reported well (inr (e, n, ill)) (inr k) = absurd (ill well)
 
 pub memory_is_too_large : (g : Graph) (f : Fault) → f ≡ Fault.Memory → IsTooLarge g f
 memory_is_too_large g f e = subst (λ f. IsTooLarge g f) (sym e) tt
 
 -- of a program that is not lowered
-pub not_lowered : (text : List ℕ) (f : LowerFault) (told : RunFault) → told ≡ unlowered_as f → IsRefusedProgram text f → IsNotCompiled text told
-not_lowered text (LowerFault.Program f) told e h = subst (λ t. IsNotCompiled text t) (sym e) h
-not_lowered text LowerFault.Memory told e h = subst (λ t. IsNotCompiled text t) (sym e) tt
+pub not_lowered : (text : List ℕ) (f : LowerFault) (reported : RunRefusal) → reported ≡ unlowered_as f → IsRefusedProgram text f → IsNotCompiled text reported
+not_lowered text (LowerFault.Program f) reported e h = subst (λ t. IsNotCompiled text t) (sym e) h
+not_lowered text LowerFault.Memory reported e h = subst (λ t. IsNotCompiled text t) (sym e) tt
 
 -- of a graph without an object
-pub not_compiled : (text : List ℕ) (p : Program) (g : Graph) → Lowers text p g → (f : Fault) (told : RunFault) → IsUnrun f told → IsTooLarge g f
-    → IsNotCompiled text told
-not_compiled text p g h f told (inl (m, e)) k = subst (λ t. IsNotCompiled text t) (sym e) tt
-not_compiled text p g h f told (inr (n, e)) k = subst (λ t. IsNotCompiled text t) (sym e) (n, (p, g, h, k))
+pub not_compiled : (text : List ℕ) (p : Program) (g : Graph) → Lowers text p g → (f : Fault) (reported : RunRefusal) → IsUnrun f reported → IsTooLarge g f
+    → IsNotCompiled text reported
+not_compiled text p g h f reported (inl (m, e)) k = subst (λ t. IsNotCompiled text t) (sym e) tt
+not_compiled text p g h f reported (inr (n, e)) k = subst (λ t. IsNotCompiled text t) (sym e) (n, (p, g, h, k))
 
 -- what has no object is not run
 too_large_is_not_run : (g : Graph) (inputs : List ℤ) (c : Config) (f : Fault) → IsTooLarge g f → IsNotRun g inputs c f
@@ -49,10 +49,10 @@ too_large_is_not_run g inputs c (Fault.Object f) h = absurd h
 too_large_is_not_run g inputs c (Fault.Start f) h = absurd h
 too_large_is_not_run g inputs c Fault.Memory h = h
 
-pub not_compiled_is_not_run : (text : List ℕ) (inputs : List ℤ) (c : Config) (f : RunFault) → IsNotCompiled text f → IsRefusedRun text inputs c f
-not_compiled_is_not_run text inputs c (RunFault.Program f) h = h
-not_compiled_is_not_run text inputs c (RunFault.Graph f) (n, (p, g, h, k)) = (n, (p, g, h, too_large_is_not_run g inputs c f k))
-not_compiled_is_not_run text inputs c RunFault.Memory h = tt
+pub not_compiled_is_not_run : (text : List ℕ) (inputs : List ℤ) (c : Config) (f : RunRefusal) → IsNotCompiled text f → IsRefusedRun text inputs c f
+not_compiled_is_not_run text inputs c (RunRefusal.Program f) h = h
+not_compiled_is_not_run text inputs c (RunRefusal.Graph f) (n, (p, g, h, k)) = (n, (p, g, h, too_large_is_not_run g inputs c f k))
+not_compiled_is_not_run text inputs c RunRefusal.Memory h = tt
 
 -- of an object that is not run
 object_is_not_run : (g : Graph) (bytes : List ℕ) (inputs : List ℤ) (c : Config) → IsCompiled (text_of g) g bytes → (f : Fault) → f ≢ Fault.Memory
@@ -68,9 +68,9 @@ object_is_not_run g bytes inputs c k (Fault.Start f) n (version, d, is, only, ca
 object_is_not_run g bytes inputs c k Fault.Memory n h = absurd (n refl)
 
 pub not_run : (text : List ℕ) (p : Program) (g : Graph) → Lowers text p g → (bytes : List ℕ) → IsCompiled (text_of g) g bytes → (inputs : List ℤ) (c : Config)
-    (f : Fault) (told : RunFault) → IsUnrun f told → IsRefusedObject bytes inputs c f → IsRefusedRun text inputs c told
-not_run text p g h bytes k inputs c f told (inl (m, e)) r = subst (λ t. IsRefusedRun text inputs c t) (sym e) tt
-not_run text p g h bytes k inputs c f told (inr (n, e)) r =
+    (f : Fault) (reported : RunRefusal) → IsUnrun f reported → IsRefusedObject bytes inputs c f → IsRefusedRun text inputs c reported
+not_run text p g h bytes k inputs c f reported (inl (m, e)) r = subst (λ t. IsRefusedRun text inputs c t) (sym e) tt
+not_run text p g h bytes k inputs c f reported (inr (n, e)) r =
     subst (λ t. IsRefusedRun text inputs c t) (sym e) (n, (p, g, h, object_is_not_run g bytes inputs c k f n r))
 
 -- AND OF ITS TEXT

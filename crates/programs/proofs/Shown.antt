@@ -19,7 +19,7 @@ use Rattle.law_language.specs.MeansTheorem.{IsLoweredText}
 use Rattle.law_language.proofs.MeansTheorem.{texts_keep_meaning}
 use Rattle.lowered_text.specs.Lowers.{Lowers}
 use Rattle.driver.specs.Compiled.{flow_outputs, outputs_in}
-use Rattle.driver.specs.Headline.{TellsOf, TellsTruthIn, TellsQuietly}
+use Rattle.driver.specs.Headline.{ReportsOf, ReportsTruthIn, ReportsQuietly}
 use Rattle.programs.specs.Promise.{ShowsProgram}
 use Rattle.programs.proofs.Outputs.{main_block, is_main, has_outputs, all_some}
 
@@ -39,11 +39,11 @@ lowered_text text p g h =
     }
 
 pub report_shows : (text : List ℕ) (p : Program) (g : Graph) → Lowers text p g
-    → (inputs : List ℤ) (z : Size) (steps : ℕ) (listed may_stop : Bool) (r : Report)
-    → TellsOf (text_of g) g inputs z steps listed may_stop r → r.end ≡ Rest → r.deferred ≡ 0 → ShowsProgram p inputs r
-report_shows text p g h inputs z steps listed may_stop r t rest none =
+    → (inputs : List ℤ) (z : Size) (steps : ℕ) (by_list may_stop : Bool) (r : Report)
+    → ReportsOf (text_of g) g inputs z steps by_list may_stop r → r.end ≡ Rest → r.deferred ≡ 0 → ShowsProgram p inputs r
+report_shows text p g h inputs z steps by_list may_stop r t rest none =
     let low = lowered_text text p g h in
-    let o = t.tells.rest rest in
+    let o = t.truth.rest rest in
     let waiting = sym o.deferred ∙ none in
     let rests : RestsWell (flow_of g) inputs o.state = record {
       reached = o.reached;
@@ -67,7 +67,7 @@ report_shows text p g h inputs z steps listed may_stop r t rest none =
 
 pub mode_shows : (text : List ℕ) (p : Program) (g : Graph) → Lowers text p g
     → (mode : Mode) (inputs : List ℤ) (c : Config) (may_stop : Bool) (r : Report)
-    → TellsTruthIn mode (text_of g) g inputs c may_stop r → r.end ≡ Rest → r.deferred ≡ 0 → ShowsProgram p inputs r
+    → ReportsTruthIn mode (text_of g) g inputs c may_stop r → r.end ≡ Rest → r.deferred ≡ 0 → ShowsProgram p inputs r
 mode_shows text p g h Mode.One inputs c may_stop r t = report_shows text p g h inputs _ _ _ _ r t.0
 mode_shows text p g h Mode.Rounds inputs c may_stop r t = report_shows text p g h inputs _ _ _ _ r t
 mode_shows text p g h Mode.Free inputs c may_stop r t = report_shows text p g h inputs _ _ _ _ r t
@@ -75,7 +75,7 @@ mode_shows text p g h Mode.Free inputs c may_stop r t = report_shows text p g h 
 -- the events of a report have no part in it
 pub quiet_shows : (text : List ℕ) (p : Program) (g : Graph) → Lowers text p g
     → (mode : Mode) (inputs : List ℤ) (c : Config) (may_stop : Bool) (r : Report)
-    → TellsQuietly mode (text_of g) g inputs c may_stop r → r.end ≡ Rest → r.deferred ≡ 0 → ShowsProgram p inputs r
+    → ReportsQuietly mode (text_of g) g inputs c may_stop r → r.end ≡ Rest → r.deferred ≡ 0 → ShowsProgram p inputs r
 quiet_shows text p g h mode inputs c may_stop r t rest none =
     let v = mode_shows text p g h mode inputs c may_stop (with_events r t.2.1) t.2.2 rest none in
     record { memory = v.memory; computes = v.computes; outputs = v.outputs; cells = v.cells }

@@ -10,7 +10,7 @@ use Rattle.command_line.specs.declared.Mode.{Mode}
 use Rattle.source.specs.Tree.{Program}
 use Rattle.lowered_text.specs.Lowers.{Lowers}
 use Rattle.driver.specs.declared.fault.Fault.{Fault}
-use Rattle.driver.specs.Headline.{TellsOf, TellsTruthIn, TellsQuietly}
+use Rattle.driver.specs.Headline.{ReportsOf, ReportsTruthIn, ReportsQuietly}
 use Rattle.driver.specs.Refused.{IsRefused}
 use Rattle.programs.specs.Promise.{ShowsProgram}
 use Rattle.programs.specs.Refused.{IsNotRun}
@@ -19,20 +19,20 @@ use Rattle.programs.specs.Refused.{IsNotRun}
 -- deferred reader: of a run in any order,
 abbrev pub ReportsShowPrograms : Type 0
 ReportsShowPrograms = (text : List ℕ) (p : Program) (g : Graph) → Lowers text p g
-    → (inputs : List ℤ) (z : Size) (steps : ℕ) (listed may_stop : Bool) (r : Report)
-    → TellsOf (text_of g) g inputs z steps listed may_stop r → r.end ≡ Rest → r.deferred ≡ 0 → ShowsProgram p inputs r
+    → (inputs : List ℤ) (z : Size) (steps : ℕ) (by_list may_stop : Bool) (r : Report)
+    → ReportsOf (text_of g) g inputs z steps by_list may_stop r → r.end ≡ Rest → r.deferred ≡ 0 → ShowsProgram p inputs r
 
 -- in each mode,
 abbrev pub ModesShowPrograms : Type 0
 ModesShowPrograms = (text : List ℕ) (p : Program) (g : Graph) → Lowers text p g
     → (mode : Mode) (inputs : List ℤ) (c : Config) (may_stop : Bool) (r : Report)
-    → TellsTruthIn mode (text_of g) g inputs c may_stop r → r.end ≡ Rest → r.deferred ≡ 0 → ShowsProgram p inputs r
+    → ReportsTruthIn mode (text_of g) g inputs c may_stop r → r.end ≡ Rest → r.deferred ≡ 0 → ShowsProgram p inputs r
 
 -- and where the report lists no events.
 abbrev pub QuietReportsShowPrograms : Type 0
 QuietReportsShowPrograms = (text : List ℕ) (p : Program) (g : Graph) → Lowers text p g
     → (mode : Mode) (inputs : List ℤ) (c : Config) (may_stop : Bool) (r : Report)
-    → TellsQuietly mode (text_of g) g inputs c may_stop r → r.end ≡ Rest → r.deferred ≡ 0 → ShowsProgram p inputs r
+    → ReportsQuietly mode (text_of g) g inputs c may_stop r → r.end ≡ Rest → r.deferred ≡ 0 → ShowsProgram p inputs r
 
 -- What refuses a run of the graph, which has a text, refuses a run of that text.
 abbrev pub RefusalsAreTheTexts : Type 0

@@ -1,5 +1,5 @@
 -- THE OTHER HALF, which is stated here and NOT PROVED: nothing cites it. The promise speaks of runs that rest with no reader waiting.
--- This says of which programs there is such a run: of those that read each cell only behind the store that fills it.
+-- This says of which programs there is such a run: of those that read each cell only after the store that fills it.
 use Rattle.std.specs.Prelude.{◌≡◌, ℕ, ◌<◌, ℤ, List, [], ◌∷◌, ◌++◌, Some, slice_get}
 use Rattle.tags.specs.declared.value.Value.{Value}
 use Rattle.operators.specs.Values.{Indexed, Place, Outside}

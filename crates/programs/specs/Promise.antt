@@ -12,7 +12,7 @@ use Rattle.source.specs.Tree.{Program}
 use Rattle.source.specs.Lowered.{origin_of}
 use Rattle.source.specs.Theorem.{Computes}
 use Rattle.lowered_text.specs.Lowers.{Lowers}
-use Rattle.driver.specs.Headline.{TellsQuietly}
+use Rattle.driver.specs.Headline.{ReportsQuietly}
 
 abbrev pub some_value : Value → Option Value
 some_value v = Some v
@@ -27,9 +27,9 @@ pub record ShowsProgram (p : Program) (inputs : List ℤ) (r : Report) : Type 0 
 
 -- THE PROMISE. The text has a program, which is lowered to a graph. Of the text of that graph the report tells the truth, in this
 -- mode, whatever its end; and where it ends at rest with no deferred reader, it shows the program.
-pub record TellsProgram (mode : Mode) (text : List ℕ) (inputs : List ℤ) (c : Config) (may_stop : Bool) (r : Report) : Type 0 where
+pub record ReportsProgram (mode : Mode) (text : List ℕ) (inputs : List ℤ) (c : Config) (may_stop : Bool) (r : Report) : Type 0 where
   pub program : Program
   pub graph : Graph
   pub lowers : Lowers text program graph
-  pub tells : TellsQuietly mode (text_of graph) graph inputs c may_stop r
+  pub truth : ReportsQuietly mode (text_of graph) graph inputs c may_stop r
   pub shows : r.end ≡ Rest → r.deferred ≡ 0 → ShowsProgram program inputs r

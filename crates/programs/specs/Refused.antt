@@ -9,7 +9,7 @@ use Rattle.lowered_text.specs.declared.fault.LowerFault.{LowerFault}
 use Rattle.lowered_text.specs.Lowers.{Lowers, IsRefusedProgram}
 use Rattle.driver.specs.declared.fault.Fault.{Fault}
 use Rattle.driver.specs.Compiled.{IsObjectOf, IsTooLarge}
-use Rattle.programs.specs.declared.fault.RunFault.{RunFault}
+use Rattle.programs.specs.declared.fault.RunRefusal.{RunRefusal}
 
 -- Why a graph has no object, or a run of its object cannot start: the first cause.
 abbrev pub IsNotRun : Graph → List ℤ → Config → Fault → Type 0
@@ -20,23 +20,23 @@ IsNotRun g inputs c fault = IsTooLarge g fault
 abbrev pub OfGraph : List ℕ → (Graph → Type 0) → Type 0
 OfGraph text P = (p : Program) × (g : Graph) × Lowers text p g × P g
 
--- Why there is no object: the program's first fault, as it is told where it is lowered; else that its graph is too large. `Memory` may be
+-- Why there is no object: the program's first fault, as it is reported where it is lowered; else that its graph is too large. `Memory` may be
 -- answered of any text: no definition says when an allocator refuses a growth.
-abbrev pub IsNotCompiled : List ℕ → RunFault → Type 0
-IsNotCompiled text (RunFault.Program f) = IsRefusedProgram text (LowerFault.Program f)
-IsNotCompiled text (RunFault.Graph f) = (f ≢ Fault.Memory) × OfGraph text (λ g. IsTooLarge g f)
-IsNotCompiled text RunFault.Memory = ⊤
+abbrev pub IsNotCompiled : List ℕ → RunRefusal → Type 0
+IsNotCompiled text (RunRefusal.Program f) = IsRefusedProgram text (LowerFault.Program f)
+IsNotCompiled text (RunRefusal.Graph f) = (f ≢ Fault.Memory) × OfGraph text (λ g. IsTooLarge g f)
+IsNotCompiled text RunRefusal.Memory = ⊤
 
 -- and why there is no report
-abbrev pub IsRefusedRun : List ℕ → List ℤ → Config → RunFault → Type 0
-IsRefusedRun text inputs c (RunFault.Program f) = IsRefusedProgram text (LowerFault.Program f)
-IsRefusedRun text inputs c (RunFault.Graph f) = (f ≢ Fault.Memory) × OfGraph text (λ g. IsNotRun g inputs c f)
-IsRefusedRun text inputs c RunFault.Memory = ⊤
+abbrev pub IsRefusedRun : List ℕ → List ℤ → Config → RunRefusal → Type 0
+IsRefusedRun text inputs c (RunRefusal.Program f) = IsRefusedProgram text (LowerFault.Program f)
+IsRefusedRun text inputs c (RunRefusal.Graph f) = (f ≢ Fault.Memory) × OfGraph text (λ g. IsNotRun g inputs c f)
+IsRefusedRun text inputs c RunRefusal.Memory = ⊤
 
--- The fault that is told where a part gives one of its own: want of memory as such, and another fault as it is.
-abbrev pub unlowered_as : LowerFault → RunFault
-unlowered_as (LowerFault.Program f) = RunFault.Program f
-unlowered_as LowerFault.Memory = RunFault.Memory
+-- The fault that is reported where a part gives one of its own: want of memory as such, and another fault as it is.
+abbrev pub unlowered_as : LowerFault → RunRefusal
+unlowered_as (LowerFault.Program f) = RunRefusal.Program f
+unlowered_as LowerFault.Memory = RunRefusal.Memory
 
-abbrev pub IsUnrun : Fault → RunFault → Type 0
-IsUnrun f told = ((f ≡ Fault.Memory) × (told ≡ RunFault.Memory)) ⊎ ((f ≢ Fault.Memory) × (told ≡ RunFault.Graph f))
+abbrev pub IsUnrun : Fault → RunRefusal → Type 0
+IsUnrun f reported = ((f ≡ Fault.Memory) × (reported ≡ RunRefusal.Memory)) ⊎ ((f ≢ Fault.Memory) × (reported ≡ RunRefusal.Graph f))

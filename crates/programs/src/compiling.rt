@@ -10,7 +10,7 @@ ghost use Rattle.driver.specs.declared.fault.Fault.TheVariants as Faults;
 ghost use Rattle.programs.specs.Compiled.{IsProgramObject};
 ghost use Rattle.programs.specs.Refused.{IsNotCompiled};
 
-use crate::fault::RunFault;
+use crate::fault::RunRefusal;
 use driver::compiling::compile_graph;
 use driver::fault::Fault;
 use graph::Graph;
@@ -46,7 +46,7 @@ fn compile_named<A: Allocator + Clone>(
     alloc: A,
     program: &[u8],
     named: Named<'_, A>,
-) -> Result<OwnedObject<A>, RunFault>
+) -> Result<OwnedObject<A>, RunRefusal>
     ensures { (text inputs : List ℕ) → IsGood text program.now named.entry.checked.program inputs
         → MatchResult result (λ o. IsProgramObject text o.bytes) (IsNotCompiled text) }
 {
@@ -61,7 +61,7 @@ fn compile_named<A: Allocator + Clone>(
 pub fn compile_program<A: Allocator + Clone>(
     alloc: A,
     text: &[u8],
-) -> Result<OwnedObject<A>, RunFault>
+) -> Result<OwnedObject<A>, RunRefusal>
     ensures { MatchResult result (λ o. IsProgramObject text.now o.bytes) (IsNotCompiled text.now) }
 {
     let (named, parts) = read_good(&alloc, text)?;

@@ -2,7 +2,7 @@
 
 ghost use Rattle.std.specs.Prelude.{◌≡◌};
 ghost use Rattle.programs.specs.Refused.{IsUnrun, unlowered_as};
-ghost use Rattle.programs.specs.declared.fault.RunFault.TheVariants.{Memory};
+ghost use Rattle.programs.specs.declared.fault.RunRefusal.TheVariants.{Memory};
 
 use driver::fault::Fault;
 use lowered_text::fault::LowerFault;
@@ -11,7 +11,7 @@ use std::alloc::AllocError;
 
 /// Why a text has no report of a run of its program.
 #[derive(Debug, Drop)]
-pub enum RunFault {
+pub enum RunRefusal {
     /// The text has no program, or one that breaks a rule or is too big: this is its first fault. Want of memory is never told so.
     Program(ProgramFault),
     /// The program's graph has no object, or the run cannot start. Want of memory is never told so.
@@ -19,32 +19,32 @@ pub enum RunFault {
     Memory,
 }
 
-impl From<AllocError> for RunFault {
-    ghost from_gives = { λ _ told. told ≡ Memory };
+impl From<AllocError> for RunRefusal {
+    ghost from_gives = { λ _ reported. reported ≡ Memory };
 
-    fn from(_error: AllocError) -> RunFault {
-        RunFault::Memory
+    fn from(_error: AllocError) -> RunRefusal {
+        RunRefusal::Memory
     }
 }
 
-impl From<LowerFault> for RunFault {
-    ghost from_gives = { λ fault told. told ≡ unlowered_as fault };
+impl From<LowerFault> for RunRefusal {
+    ghost from_gives = { λ fault reported. reported ≡ unlowered_as fault };
 
-    fn from(fault: LowerFault) -> RunFault {
+    fn from(fault: LowerFault) -> RunRefusal {
         match fault {
-            LowerFault::Program(fault) => RunFault::Program(fault),
-            LowerFault::Memory => RunFault::Memory,
+            LowerFault::Program(fault) => RunRefusal::Program(fault),
+            LowerFault::Memory => RunRefusal::Memory,
         }
     }
 }
 
-impl From<Fault> for RunFault {
-    ghost from_gives = { λ fault told. IsUnrun fault told };
+impl From<Fault> for RunRefusal {
+    ghost from_gives = { λ fault reported. IsUnrun fault reported };
 
-    fn from(fault: Fault) -> RunFault {
+    fn from(fault: Fault) -> RunRefusal {
         match fault {
-            Fault::Memory => RunFault::Memory,
-            _ => RunFault::Graph(fault),
+            Fault::Memory => RunRefusal::Memory,
+            _ => RunRefusal::Graph(fault),
         }
     }
 }

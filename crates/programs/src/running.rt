@@ -1,11 +1,11 @@
 //! Runs of programs. The promise is the contract of `run_program`.
 
 ghost use Rattle.std.specs.Prelude.{MatchResult};
-ghost use Rattle.programs.specs.Promise.{TellsProgram};
+ghost use Rattle.programs.specs.Promise.{ReportsProgram};
 ghost use Rattle.programs.specs.Refused.{IsRefusedRun};
 
 use crate::compiling::compile_program;
-use crate::fault::RunFault;
+use crate::fault::RunRefusal;
 use command_line::Mode;
 use driver::running::run_code_quietly;
 use loaded::Loaded;
@@ -27,8 +27,8 @@ pub fn run_program<R: Threads + Wait + Sync, A: Allocator + Clone + Send + Sync,
     mode: Mode,
     rt: &R,
     gate: &G,
-) -> Result<Report<A>, RunFault>
-    ensures { MatchResult result (TellsProgram mode text.now inputs.now config G.may_stop) (IsRefusedRun text.now inputs.now config) }
+) -> Result<Report<A>, RunRefusal>
+    ensures { MatchResult result (ReportsProgram mode text.now inputs.now config G.may_stop) (IsRefusedRun text.now inputs.now config) }
 {
     let object = compile_program(alloc.clone()?, text)?;
     let code = Loaded::new(alloc.clone()?, object.as_object())?;

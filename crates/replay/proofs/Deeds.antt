@@ -13,7 +13,7 @@ use Rattle.tags.specs.declared.slot.SlotState.TheVariants.{Empty, Credits, Waite
 use Rattle.semantics.specs.declared.program.Op.{Op}
 use Rattle.semantics.specs.declared.program.Op.TheVariants.{Apply2, Sync, Switch, Send, Return, Ask, Open, Take, Give, Drain, Release}
 use Rattle.semantics.specs.Program.{Instr, Program, instr_at}
-use Rattle.semantics.specs.Rule.{Seat, Outcome, Becomes, Excluded, token, signal, signal_to, to_all, fires, fire_one, fire_two, meets, opens, takes, gives}
+use Rattle.semantics.specs.Rule.{Point, Outcome, Becomes, Excluded, token, signal, signal_to, to_all, fires, fire_one, fire_two, meets, opens, takes, gives}
 use Rattle.semantics.specs.Rule.{drains, alone, on_left, outcome_of, rule_at, slot_of}
 use Rattle.semantics.specs.Machine.{Store, Happens, Fires, slot_in, slot_used, with_slot, at_start}
 use Rattle.semantics.proofs.Emulator.{instr, left, none, one_block}
@@ -34,8 +34,8 @@ abbrev then_holding : SlotState → SlotState → Store
 then_holding before after = with_slot (holding before) 0 0 after
 
 -- A token for instruction `ip` finds the slot in the one state, makes these tokens, and leaves the slot in the other; and this is told of it.
-abbrev Told : ℕ → Port → Word → SlotState → List Token → SlotState → Deed → Type 0
-Told ip port w before made after d =
+abbrev IsDeed : ℕ → Port → Word → SlotState → List Token → SlotState → Deed → Type 0
+IsDeed ip port w before made after d =
     Happens code 1 (holding before) (To.Instr 0 ip port) w made (then_holding before after)
     × (deed_of code (holding before) (then_holding before after) (To.Instr 0 ip port) made ≡ d)
 
@@ -49,44 +49,44 @@ signal_back = token (To.Instr 7 40 Right) signal ∷ []
 abbrev signal_on : List Token
 signal_on = token (To.Instr 0 4 Left) signal ∷ []
 
-first_of_two : (w : Word) → Told 4 Left w Empty [] (Slot.Left w) Waited
+first_of_two : (w : Word) → IsDeed 4 Left w Empty [] (Slot.Left w) Waited
 first_of_two w = ((refl, refl), refl)
 
-first_of_two_at_right : (w : Word) → Told 4 Right w Empty [] (Slot.Right w) Waited
+first_of_two_at_right : (w : Word) → IsDeed 4 Right w Empty [] (Slot.Right w) Waited
 first_of_two_at_right w = ((refl, refl), refl)
 
--- the other one fires, also where nobody is told
-second_of_two : (v w : Word) → Told 4 Right w (Slot.Left v) [] Empty Fired
+-- the other one fires, also where nobody is reported
+second_of_two : (v w : Word) → IsDeed 4 Right w (Slot.Left v) [] Empty Fired
 second_of_two v w = ((refl, refl), refl)
 
-opens_credits : (w : Word) → Told 0 Left w Empty signal_on (Credits 1) Fired
+opens_credits : (w : Word) → IsDeed 0 Left w Empty signal_on (Credits 1) Fired
 opens_credits w = ((refl, refl), refl)
 
-opens_for_none : (w : Word) → Told 5 Left w Empty [] (Credits 1) Fired
+opens_for_none : (w : Word) → IsDeed 5 Left w Empty [] (Credits 1) Fired
 opens_for_none w = ((refl, refl), refl)
 
-takes_credit : Told 1 Left (Word.Back back) (Credits 1) signal_back (Credits 0) Fired
+takes_credit : IsDeed 1 Left (Word.Back back) (Credits 1) signal_back (Credits 0) Fired
 takes_credit = ((refl, refl), refl)
 
-take_waits : Told 1 Left (Word.Back back) (Credits 0) [] (Waiter back) Queued
+take_waits : IsDeed 1 Left (Word.Back back) (Credits 0) [] (Waiter back) Queued
 take_waits = ((refl, refl), refl)
 
-gives_credit : (w : Word) → Told 2 Left w (Credits 1) [] (Credits 2) Fired
+gives_credit : (w : Word) → IsDeed 2 Left w (Credits 1) [] (Credits 2) Fired
 gives_credit w = ((refl, refl), refl)
 
-gives_to_request : (w : Word) → Told 2 Left w (Waiter back) signal_back (Credits 0) Fired
+gives_to_request : (w : Word) → IsDeed 2 Left w (Waiter back) signal_back (Credits 0) Fired
 gives_to_request w = ((refl, refl), refl)
 
-gives_to_drain : (w : Word) → Told 2 Left w (Draining 2) [] (Draining 1) Fired
+gives_to_drain : (w : Word) → IsDeed 2 Left w (Draining 2) [] (Draining 1) Fired
 gives_to_drain w = ((refl, refl), refl)
 
-gives_last : (w : Word) → Told 2 Left w (Draining 1) signal_on Empty Fired
+gives_last : (w : Word) → IsDeed 2 Left w (Draining 1) signal_on Empty Fired
 gives_last w = ((refl, refl), refl)
 
-drain_waits : (w : Word) → Told 3 Left w (Credits 0) [] (Draining 2) Waited
+drain_waits : (w : Word) → IsDeed 3 Left w (Credits 0) [] (Draining 2) Waited
 drain_waits w = ((refl, refl), refl)
 
-drain_finds_all : (w : Word) → Told 3 Left w (Credits 2) signal_on Empty Fired
+drain_finds_all : (w : Word) → IsDeed 3 Left w (Credits 2) signal_on Empty Fired
 drain_finds_all w = ((refl, refl), refl)
 
 -- THE LAW. The slot holds a token: its word, the request that it carries, or the drain that it is
@@ -107,7 +107,7 @@ IsWait d = ⊥
 abbrev pub IsTrueOf : Word → SlotState → SlotState → List Token → Type 0
 IsTrueOf w u v made = (IsWait (at_slot u v) → Keeps w v × (Keeps w u → ⊥) × (made ≡ [])) × (Keeps w v → (Keeps w u → ⊥) → IsWait (at_slot u v))
 
-module _ (p : Program) (s : Seat) (i : Instr) (w : Word) where
+module _ (p : Program) (s : Point) (i : Instr) (w : Word) where
   becomes : (u v x : SlotState) (made ts : List Token) → Becomes v made ≡ Becomes x ts → IsTrueOf w u x ts → IsTrueOf w u v made
   becomes u v x made ts e h =
       let a : v ≡ x = cc in
@@ -204,11 +204,11 @@ module _ (p : Program) (s : Seat) (i : Instr) (w : Word) where
   rules op u v port made empty e = none_used u v port made (empty refl) e
 
 -- what is told of a token that came to an instruction is true of it
-pub tells_truth : (p : Program) (total : ℕ) (old new : Store) (f ip : ℕ) (port : Port) (w : Word) (made : List Token)
+pub deeds_are_true : (p : Program) (total : ℕ) (old new : Store) (f ip : ℕ) (port : Port) (w : Word) (made : List Token)
     → Happens p total old (To.Instr f ip port) w made new
     → let r = slot_used (instr_at p ip) in IsTrueOf w (slot_in old f r) (slot_in new f r) made
-tells_truth p total old new f ip port w made happens = by (instr_at p ip) happens where
-  s : Seat
+deeds_are_true p total old new f ip port w made happens = by (instr_at p ip) happens where
+  s : Point
   s = record { frame = f; ip = ip }
 
   no_slot : (r : Option ℕ) → r ≡ None → slot_in old f r ≡ Empty

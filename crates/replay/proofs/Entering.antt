@@ -18,7 +18,7 @@ use Rattle.tags.specs.declared.slot.SlotState.{SlotState}
 use Rattle.semantics.specs.Program.{Program, instr_at}
 use Rattle.semantics.specs.Machine.{Store, Size, Event, Happens, slot_in, slot_used, outputs_of}
 use Rattle.element.specs.Parts.{Shape, Part}
-use Rattle.element.specs.Held.{LaneView, is_here, here, elsewhere}
+use Rattle.element.specs.Holding.{LaneView, is_here, here, elsewhere}
 use Rattle.element.specs.Acts.{ServesFirst}
 use Rattle.element.specs.Steps.{Does, IsAfter, place_of}
 use Rattle.frame_order.specs.InOrder.{IsInOrder}

@@ -23,12 +23,12 @@ use Rattle.semantics.specs.Machine.{excluded_by, unless_value, filled, host_rule
 use Rattle.element.specs.Near.{IsNearToken}
 use Rattle.element.specs.Parts.{IsPart, bounds}
 use Rattle.element.specs.declared.lane.Stepped.{Stepped}
-use Rattle.element.specs.Held.{Held, LaneView, here}
+use Rattle.element.specs.Holding.{Holding, LaneView, here}
 use Rattle.element.specs.Steps.{Does, Steps, Clashes, Excludes, place_of}
 use Rattle.frame_order.specs.InOrder.{OrderedEvent, OrderedRun}
 use Rattle.replay.specs.declared.extent.Extent.{Extent}
-use Rattle.replay.specs.declared.fault.ReplayFault.{ReplayFault}
-use Rattle.replay.specs.declared.fault.ReplayFault.TheVariants.{NotARun, Memory}
+use Rattle.replay.specs.declared.fault.ReplayRefusal.{ReplayRefusal}
+use Rattle.replay.specs.declared.fault.ReplayRefusal.TheVariants.{NotARun, Memory}
 use Rattle.replay.specs.declared.slots.Place.{Place}
 use Rattle.replay.specs.Books.{Book, machine_of}
 use Rattle.replay.specs.Entering.{IsExtent, IsWhole, IsThere, Says, IsExcluded, Records, place_used, place_in}
@@ -95,11 +95,11 @@ module _ (l : LaneView) (at : ℕ) (low : at < length l.held.queue) where
       let no : ⊥ = cc in no
 
 -- what a step answers
-pub clash_steps : (l : LaneView) (at cell : ℕ) (x : Stepped) (before : List Token) (new : Held) (after : List Token) → x ≡ Stepped.Clash cell
+pub clash_steps : (l : LaneView) (at cell : ℕ) (x : Stepped) (before : List Token) (new : Holding) (after : List Token) → x ≡ Stepped.Clash cell
     → Steps l.program l.held at before x new after → Clashes l.held at cell
 clash_steps l at cell x before new after is s = (subst (λ (y : Stepped). Steps l.program l.held at before y new after) is s).0
 
-pub stuck_steps : (l : LaneView) (at rule : ℕ) (x : Stepped) (before : List Token) (new : Held) (after : List Token) → x ≡ Stepped.Stuck rule
+pub stuck_steps : (l : LaneView) (at rule : ℕ) (x : Stepped) (before : List Token) (new : Holding) (after : List Token) → x ≡ Stepped.Stuck rule
     → Steps l.program l.held at before x new after → Excludes l.program l.held at rule
 stuck_steps l at rule x before new after is s = (subst (λ (y : Stepped). Steps l.program l.held at before y new after) is s).0
 
@@ -196,12 +196,12 @@ excluded_unfit p z e at t l numbers next b m program there excluded records ev =
     (subst (λ (q : Program). Happens q (z.elements * z.frames) b.store t.to t.word ev.made m.store) (sym program) ev.happens)
 
 -- FAULTS. One that is passed on says what follows of what it said; a want of memory says nothing.
-pub passed_on : {U : Type 0} (P Q : Type 0) (result : Result U ReplayFault) (e f : ReplayFault) → result ≡ Err e → e ≡ f → (P → Q) → Says f P
+pub passed_on : {U : Type 0} (P Q : Type 0) (result : Result U ReplayRefusal) (e f : ReplayRefusal) → result ≡ Err e → e ≡ f → (P → Q) → Says f P
     → IfErr result (λ fault. Says fault Q)
-passed_on {U} P Q result e NotARun is same go said = subst (λ (r : Result U ReplayFault). IfErr r (λ fault. Says fault Q)) (sym is)
-    (subst (λ (g : ReplayFault). Says g Q) (sym same) (go said))
-passed_on {U} P Q result e Memory is same go said = subst (λ (r : Result U ReplayFault). IfErr r (λ fault. Says fault Q)) (sym is)
-    (subst (λ (g : ReplayFault). Says g Q) (sym same) tt)
+passed_on {U} P Q result e NotARun is same go said = subst (λ (r : Result U ReplayRefusal). IfErr r (λ fault. Says fault Q)) (sym is)
+    (subst (λ (g : ReplayRefusal). Says g Q) (sym same) (go said))
+passed_on {U} P Q result e Memory is same go said = subst (λ (r : Result U ReplayRefusal). IfErr r (λ fault. Says fault Q)) (sym is)
+    (subst (λ (g : ReplayRefusal). Says g Q) (sym same) tt)
 
-pub for_memory : {U : Type 0} (Q : Type 0) (result : Result U ReplayFault) (e : ReplayFault) → result ≡ Err e → e ≡ Memory → IfErr result (λ fault. Says fault Q)
-for_memory {U} Q result e is same = subst (λ (r : Result U ReplayFault). IfErr r (λ fault. Says fault Q)) (sym is) (subst (λ (g : ReplayFault). Says g Q) (sym same) tt)
+pub for_memory : {U : Type 0} (Q : Type 0) (result : Result U ReplayRefusal) (e : ReplayRefusal) → result ≡ Err e → e ≡ Memory → IfErr result (λ fault. Says fault Q)
+for_memory {U} Q result e is same = subst (λ (r : Result U ReplayRefusal). IfErr r (λ fault. Says fault Q)) (sym is) (subst (λ (g : ReplayRefusal). Says g Q) (sym same) tt)

@@ -12,33 +12,33 @@ use Rattle.semantics.specs.declared.program.Dest.{Dest}
 use Rattle.semantics.specs.declared.program.Op.{Op}
 use Rattle.semantics.specs.declared.program.Op.TheVariants.{Apply2, Sync, Switch, Send, Return, Ask, Open, Take, Give, Drain, Release}
 use Rattle.semantics.specs.Program.{Instr, Program, instr_at}
-use Rattle.semantics.specs.Rule.{Seat, Outcome, Becomes, alone, fires, fire_one, outcome_of, rule_at, slot_of, answer_to, landing_at}
+use Rattle.semantics.specs.Rule.{Point, Outcome, Becomes, alone, fires, fire_one, outcome_of, rule_at, slot_of, answer_to, landing_at}
 use Rattle.semantics.specs.Machine.{Store, Happens, Fires, slot_in, slot_used, with_slot_in, put_at}
 use Rattle.semantics.proofs.Stores.{put_same}
 use Rattle.element.specs.declared.instructions.Instruction.{Instruction}
 use Rattle.element.specs.Decoded.{instr_of, dest_in, IsShort}
 use Rattle.element.specs.Near.{Bounds, IsNearCont, IsNearWord, IsNearSlot}
-use Rattle.element.proofs.Nearness.{IsNearSeat, NearOutcome, outcome_near}
+use Rattle.element.proofs.Nearness.{IsNearPoint, NearOutcome, outcome_near}
 use Rattle.element.proofs.Instructing.{low_slot, cell_there}
 use Rattle.replay.specs.declared.slots.Slots.{Slots}
 use Rattle.replay.specs.declared.state.State.{State}
 use Rattle.replay.specs.declared.state.Did.{Did}
 use Rattle.replay.specs.Moments.{at_slot, deed_of}
-use Rattle.replay.specs.Held.{Holds}
+use Rattle.replay.specs.Known.{Holds}
 use Rattle.replay.specs.Nearby.{bounds_of, IsNearStore}
-use Rattle.replay.specs.Follows.{held_in, Sets, IsDone}
+use Rattle.replay.specs.DoesAs.{held_in, Sets, IsDone}
 use Rattle.replay.proofs.Keeping.{with_slots, slot_is, slot_kept, slot_near, slot_stays}
 
-abbrev seat : ℕ → ℕ → Seat
-seat f ip = record { frame = f; ip = ip }
+abbrev point : ℕ → ℕ → Point
+point f ip = record { frame = f; ip = ip }
 
 answer_near : (b : Bounds) (f ip : ℕ) (first : Option Dest) → f < b.frames → ip < 2 ^ 30 → IfSome first (λ (d : Dest). d.ahead < 2 ^ 30)
-    → IsNearCont b (answer_to (seat f ip) (option_to_list first))
+    → IsNearCont b (answer_to (point f ip) (option_to_list first))
 answer_near b f ip None l m n = (l, omega arith)
 answer_near b f ip (Some d) l m n = (l, omega arith)
 
 landing_near : (b : Bounds) (f ip : ℕ) (first : Option Dest) → f < b.frames → ip < 2 ^ 30 → IfSome first (λ (d : Dest). d.ahead < 2 ^ 30)
-    → IsNearCont b (landing_at (seat f ip) (option_to_list first))
+    → IsNearCont b (landing_at (point f ip) (option_to_list first))
 landing_near b f ip None l m n = (l, omega arith)
 landing_near b f ip (Some d) l m n = (l, omega arith)
 
@@ -46,13 +46,13 @@ fired_empty : (v : SlotState) (ts : List Token) (o : Option (List Token)) → Be
 fired_empty v ts None e = absurd (let bad : ⊥ = cc in bad)
 fired_empty v ts (Some made) e = cc
 
-alone_empty : (p : Program) (s : Seat) (i : Instr) (port : Port) (w : Word) (v : SlotState) (ts : List Token) → Becomes v ts ≡ alone p s i Empty port w
+alone_empty : (p : Program) (s : Point) (i : Instr) (port : Port) (w : Word) (v : SlotState) (ts : List Token) → Becomes v ts ≡ alone p s i Empty port w
     → v ≡ Empty
 alone_empty p s i Left w v ts e = fired_empty v ts (fire_one p s i i.op w) e
 alone_empty p s i Right w v ts e = absurd (let bad : ⊥ = cc in bad)
 
 -- an instruction that uses no slot leaves none
-pub none_left : (p : Program) (s : Seat) (i : Instr) (op : Op) (port : Port) (w : Word) (v : SlotState) (ts : List Token)
+pub none_left : (p : Program) (s : Point) (i : Instr) (op : Op) (port : Port) (w : Word) (v : SlotState) (ts : List Token)
     → Becomes v ts ≡ outcome_of p s i op Empty port w → slot_of i op ≡ None → v ≡ Empty
 none_left p s i (Apply2 op) port w v ts e n = absurd (let bad : ⊥ = cc in bad)
 none_left p s i Sync port w v ts e n = absurd (let bad : ⊥ = cc in bad)
@@ -90,10 +90,10 @@ module _ {A : Type 0} (p : Program) (h : State A) (s : Store) (holds : Holds h s
   -- an event of an instruction that is there
   pub at_instr : (f ip : ℕ) (port : Port) (w : Word) (i : Instr) (made : List Token) (n : Store) → Some i ≡ instr_at p ip
       → Happens p h.frames s (To.Instr f ip port) w made n
-      → Fires s f (slot_of i i.op) (outcome_of p (seat f ip) i i.op (held_in h.slots f (slot_of i i.op)) port w) made n
+      → Fires s f (slot_of i i.op) (outcome_of p (point f ip) i i.op (held_in h.slots f (slot_of i i.op)) port w) made n
   at_instr f ip port w i made n e happens =
-      subst (λ (v : SlotState). Fires s f (slot_of i i.op) (outcome_of p (seat f ip) i i.op v port w) made n) (sym (slot_is h s holds f (slot_of i i.op)))
-      (subst (λ (x : Option Instr). Fires s f (slot_used x) (rule_at p (seat f ip) x (slot_in s f (slot_used x)) port w) made n) (sym e) happens)
+      subst (λ (v : SlotState). Fires s f (slot_of i i.op) (outcome_of p (point f ip) i i.op v port w) made n) (sym (slot_is h s holds f (slot_of i i.op)))
+      (subst (λ (x : Option Instr). Fires s f (slot_used x) (rule_at p (point f ip) x (slot_in s f (slot_used x)) port w) made n) (sym e) happens)
 
   held_near : (f : ℕ) (r : Option ℕ) → IsNearSlot b (held_in h.slots f r)
   held_near f r = subst (λ (v : SlotState). IsNearSlot b v) (sym (slot_is h s holds f r)) (slot_near b s near f r)
@@ -107,8 +107,8 @@ module _ {A : Type 0} (p : Program) (h : State A) (s : Store) (holds : Holds h s
       ∙ ap (λ (x : SlotState). at_slot (slot_in s f (slot_of i i.op)) x) (slot_then s f i v r r_is none)
       ∙ ap (λ (x : Option Instr). at_slot (slot_in s f (slot_used x)) (slot_in (with_slot_in s f r v) f (slot_used x))) e
 
-  seat_near : (width f ip : ℕ) (i : Instruction) → f < h.frames → IsShort width ip i → IsNearSeat p b (seat f ip) (instr_of i)
-  seat_near width f ip i there short = record {
+  point_near : (width f ip : ℕ) (i : Instruction) → f < h.frames → IsShort width ip i → IsNearPoint p b (point f ip) (instr_of i)
+  point_near width f ip i there short = record {
     frame = there;
     back = answer_near b f ip (dest_in i.first) there short.near short.first;
     land = landing_near b f ip (dest_in i.first) there short.near short.first;
@@ -117,7 +117,7 @@ module _ {A : Type 0} (p : Program) (h : State A) (s : Store) (holds : Holds h s
 
   pub fired : (width f ip : ℕ) (port : Port) (w : Word) (i : Instruction) (u v : SlotState) (ts : List Token) (slots : Slots A) (did : Did) (made : List Token)
       (n : Store) → width ≤ 512 → f < h.frames → IsNearWord b w → IsShort width ip i → Some (instr_of i) ≡ instr_at p ip
-      → u ≡ held_in h.slots f (slot_of (instr_of i) i.op) → Becomes v ts ≡ outcome_of p (seat f ip) (instr_of i) i.op u port w
+      → u ≡ held_in h.slots f (slot_of (instr_of i) i.op) → Becomes v ts ≡ outcome_of p (point f ip) (instr_of i) i.op u port w
       → Sets h.slots f (slot_of (instr_of i) i.op) v slots → did.made ≡ length ts → did.deed ≡ at_slot u v
       → Happens p h.frames s (To.Instr f ip port) w made n → IsDone p h.frames did (To.Instr f ip port) made s (with_slots h slots) n
   fired width f ip port w i u v ts slots did made n wide there near_w short found was becomes sets count deed_at happens =
@@ -131,17 +131,17 @@ module _ {A : Type 0} (p : Program) (h : State A) (s : Store) (holds : Holds h s
         near = after.1;
       }))
     where
-      comes : Becomes v ts ≡ outcome_of p (seat f ip) (instr_of i) i.op (held_in h.slots f (slot_at i)) port w
-      comes = becomes ∙ ap (λ (x : SlotState). outcome_of p (seat f ip) (instr_of i) i.op x port w) was
+      comes : Becomes v ts ≡ outcome_of p (point f ip) (instr_of i) i.op (held_in h.slots f (slot_at i)) port w
+      comes = becomes ∙ ap (λ (x : SlotState). outcome_of p (point f ip) (instr_of i) i.op x port w) was
 
       fires : (made ≡ ts) × (n ≡ with_slot_in s f (slot_at i) v)
       fires = subst (λ (o : Outcome). Fires s f (slot_at i) o made n) (sym comes) (at_instr f ip port w (instr_of i) made n found happens)
 
       after : NearOutcome b (Becomes v ts)
       after = subst (λ (o : Outcome). NearOutcome b o) (sym comes)
-          (outcome_near p b (seat f ip) (instr_of i) (seat_near width f ip i there short) i.op (held_in h.slots f (slot_at i)) port w
+          (outcome_near p b (point f ip) (instr_of i) (point_near width f ip i there short) i.op (held_in h.slots f (slot_at i)) port w
           (held_near f (slot_at i)) near_w)
 
       none : (slot_at i) ≡ None → v ≡ Empty
-      none is = none_left p (seat f ip) (instr_of i) i.op port w v ts
-          (comes ∙ ap (λ (q : Option ℕ). outcome_of p (seat f ip) (instr_of i) i.op (held_in h.slots f q) port w) is) is
+      none is = none_left p (point f ip) (instr_of i) i.op port w v ts
+          (comes ∙ ap (λ (q : Option ℕ). outcome_of p (point f ip) (instr_of i) i.op (held_in h.slots f q) port w) is) is

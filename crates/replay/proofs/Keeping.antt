@@ -13,9 +13,9 @@ use Rattle.replay.specs.declared.cells.Cells.{Cells}
 use Rattle.replay.specs.declared.slots.Slots.{Slots}
 use Rattle.replay.specs.declared.state.State.{State}
 use Rattle.replay.specs.Moments.{fullness}
-use Rattle.replay.specs.Held.{held, kept, known, Holds}
+use Rattle.replay.specs.Known.{held, kept, known, Holds}
 use Rattle.replay.specs.Nearby.{IsNearStore}
-use Rattle.replay.specs.Follows.{held_in, Sets}
+use Rattle.replay.specs.DoesAs.{held_in, Sets}
 use Rattle.replay.proofs.Sums.{full_changed, out_changed}
 
 abbrev pub with_slots : {A : Type 0} → State A → Slots A → State A

@@ -18,7 +18,7 @@ use Rattle.semantics.specs.Rule.{token}
 use Rattle.semantics.specs.Machine.{Store, Size, Events, input_tokens, at_start}
 use Rattle.element.specs.Near.{Bounds, IsNearToken}
 use Rattle.element.specs.Parts.{IsPart}
-use Rattle.element.specs.Held.{LaneView, IsFor, fixed_of, bounds_at, with_more}
+use Rattle.element.specs.Holding.{LaneView, IsFor, fixed_of, bounds_at, with_more}
 use Rattle.element.specs.Openings.{StartsAs}
 use Rattle.replay.specs.Views.{EntryView}
 use Rattle.replay.specs.declared.entry.Change.{Change}

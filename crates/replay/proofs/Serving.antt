@@ -27,10 +27,10 @@ use Rattle.replay.specs.declared.state.Did.{Did}
 use Rattle.replay.specs.Moments.{deed_of, fullness}
 use Rattle.semantics.specs.Report.{sum_below, one_if}
 use Rattle.tags.specs.declared.slot.SlotState.{SlotState}
-use Rattle.replay.specs.Held.{kept, known, Holds}
+use Rattle.replay.specs.Known.{kept, known, Holds}
 use Rattle.replay.specs.Nearby.{bounds_of, IsNearStore}
-use Rattle.replay.specs.Follows.{IsDone, Follows}
-use Rattle.replay.specs.declared.fault.ReplayFault.{ReplayFault}
+use Rattle.replay.specs.DoesAs.{IsDone, DoesAs}
+use Rattle.replay.specs.declared.fault.ReplayRefusal.{ReplayRefusal}
 use Rattle.semantics.specs.Machine.{put_at}
 use Rattle.replay.proofs.Sums.{all_out, one_free, out_changed}
 use Rattle.replay.proofs.Keeping.{with_cells, with_frames_out, with_waiting, cell_kept, out_kept, requests_kept, cell_stays, out_stays, requests_stay}
@@ -233,6 +233,6 @@ module _ {A : Type 0} (p : Program) (h : State A) (s : Store) (holds : Holds h s
       (same_held (with_done s) refl refl refl refl) (same_near (with_done s) refl refl refl refl) none_near
 
 -- what is so of a token is so of its address and word
-pub follows_same : {A : Type 0} (p : Program) (old new : State A) (result : Result Did ReplayFault) (t : Token) (to : To) (w : Word) → t.to ≡ to → t.word ≡ w
-    → Follows p old (token to w) result new → Follows p old t result new
-follows_same p old new result t to w e f follows = subst (λ (u : Token). Follows p old u result new) (sym (λ i. token (e i) (f i))) follows
+pub follows_same : {A : Type 0} (p : Program) (old new : State A) (result : Result Did ReplayRefusal) (t : Token) (to : To) (w : Word) → t.to ≡ to → t.word ≡ w
+    → DoesAs p old (token to w) result new → DoesAs p old t result new
+follows_same p old new result t to w e f does_as = subst (λ (u : Token). DoesAs p old u result new) (sym (λ i. token (e i) (f i))) does_as

@@ -18,11 +18,11 @@ use Rattle.replay.specs.declared.moment.Moment.{Moment}
 use Rattle.replay.specs.declared.state.State.{State}
 use Rattle.replay.specs.declared.state.Did.{Did}
 use Rattle.replay.specs.Moments.{count_full, count_out, IsMoment, Watches, deed_of}
-use Rattle.replay.specs.Held.{held, kept}
+use Rattle.replay.specs.Known.{held, kept}
 use Rattle.replay.specs.Nearby.{bounds_of, IsNearStore}
-use Rattle.replay.specs.Follows.{OfRun, IsCounted, IsDone, Stands}
-use Rattle.replay.specs.declared.fault.ReplayFault.{ReplayFault}
-use Rattle.replay.specs.declared.fault.ReplayFault.TheVariants.{NotARun, Memory}
+use Rattle.replay.specs.DoesAs.{OfRun, IsCounted, IsDone, KnowsAll}
+use Rattle.replay.specs.declared.fault.ReplayRefusal.{ReplayRefusal}
+use Rattle.replay.specs.declared.fault.ReplayRefusal.TheVariants.{NotARun, Memory}
 
 -- A RUN AND ITS NEXT EVENT
 event_from : (p : Program) (z : Size) (e : ℕ) (t : Token) (a b c : Machine) → IsPermutation a.pool b.pool → b.store ≡ a.store → Event p z e t b c
@@ -72,7 +72,7 @@ watch_end p z a b c (f ∷ events) (y ∷ ys) w perm same = (w.0, w.1, w.2, watc
 
 -- ONE EVENT
 -- the token that an event takes is near
-pub token_near : {A : Type 0} (p : Program) (h : State A) (z : Size) (e : ℕ) (t : Token) (m n : Machine) → Stands p h m → Event p z e t m n
+pub token_near : {A : Type 0} (p : Program) (h : State A) (z : Size) (e : ℕ) (t : Token) (m n : Machine) → KnowsAll p h m → Event p z e t m n
     → IsNearToken (bounds_of p h.frames) t
 token_near p h z e t m n stands ev = All-head (IsNearToken (bounds_of p h.frames)) t ev.rest
     (All-permutation (IsNearToken (bounds_of p h.frames)) m.pool (t ∷ ev.rest) ev.takes stands.near)
@@ -82,16 +82,16 @@ pub event_happens : (p : Program) (z : Size) (e : ℕ) (t : Token) (m n : Machin
     → Happens p frames m.store t.to t.word ev.made n.store
 event_happens p z e t m n frames is ev = subst (λ (k : ℕ). Happens p k m.store t.to t.word ev.made n.store) is ev.happens
 
-pub some_token : {A : Type 0} (p : Program) (h : State A) (z : Size) (e : ℕ) (t : Token) (m n : Machine) → Stands p h m → Event p z e t m n → 0 < h.tokens
+pub some_token : {A : Type 0} (p : Program) (h : State A) (z : Size) (e : ℕ) (t : Token) (m n : Machine) → KnowsAll p h m → Event p z e t m n → 0 < h.tokens
 some_token p h z e t m n stands ev = let count = length_permutation m.pool (t ∷ ev.rest) ev.takes in let is = stands.tokens in let one : length
     (t ∷ ev.rest) ≡ suc (length ev.rest) = refl in omega (arith, count, is, one)
 
 pub moves : {A : Type 0} (p : Program) (old mid new : State A) (z : Size) (e : ℕ) (t : Token) (m n : Machine) (did : Did) (x : Moment)
-    → z.elements * z.frames ≡ old.frames → Stands p old m → (ev : Event p z e t m n)
+    → z.elements * z.frames ≡ old.frames → KnowsAll p old m → (ev : Event p z e t m n)
     → IsDone p old.frames did t.to ev.made m.store mid n.store → mid.frames ≡ old.frames → mid.tokens ≡ old.tokens → old.tokens + did.made ≡ new.tokens + 1
     → new ≡ record { slots = mid.slots; cells = mid.cells; tokens = new.tokens; frames = mid.frames; frames_out = mid.frames_out; requests = mid.requests }
     → x ≡ record { deed = did.deed; tokens = new.tokens; full_slots = mid.slots.full; frames_out = mid.frames_out }
-    → IsMoment p z t ev.made m n x × Stands p new n
+    → IsMoment p z t ev.made m n x × KnowsAll p new n
 moves {A} p old mid new z e t m n did x frames stands ev done same_frames same_tokens counted new_is x_is = (
   subst (λ (y : Moment). IsMoment p z t ev.made m n y) (sym x_is) (record {
     deed = done.deed;
@@ -99,7 +99,7 @@ moves {A} p old mid new z e t m n did x frames stands ev done same_frames same_t
     full_slots = done.holds.full ∙ ap (λ (k : ℕ). count_full k n.store) all_frames;
     frames_out = done.holds.out ∙ ap (λ (k : ℕ). count_out k n.store) all_frames;
   }),
-  subst (λ (h : State A). Stands p h n) (sym new_is) (record {
+  subst (λ (h : State A). KnowsAll p h n) (sym new_is) (record {
     holds = record { slots = done.holds.slots; cells = done.holds.cells; full = done.holds.full; out = done.holds.out; requests = done.holds.requests };
     tokens = count;
     near_store = subst (λ (k : ℕ). IsNearStore (bounds_of p k) n.store) (sym same_frames) done.near_store;
@@ -160,7 +160,7 @@ first_is_out (suc f) frames some e = absurd (let no = not_main f in let both : t
 
 pub stands_first : {A : Type 0} (p : Program) (h : State A) (frames : ℕ) (xs : List ℤ) → 0 < frames → h.frames ≡ frames
     → ((f r : ℕ) → held h.slots f r ≡ Empty) → h.slots.full ≡ 0 → ((x : ℕ) → kept h.cells x ≡ Vacant)
-    → h.tokens ≡ length xs + 1 → h.frames_out ≡ 1 → h.requests ≡ 0 → Stands p h (at_start p xs)
+    → h.tokens ≡ length xs + 1 → h.frames_out ≡ 1 → h.requests ≡ 0 → KnowsAll p h (at_start p xs)
 stands_first p h frames xs some is empty none vacant tokens out requests = record {
   holds = record { slots = empty; cells = vacant; full = none ∙ sym (none_full h.frames 512); out = out ∙ sym (main_out h.frames there); requests = requests };
   tokens = (let count = inputs_length (first_of p p.main + 1) xs in omega (arith, count, tokens));
@@ -180,16 +180,16 @@ stands_first p h frames xs some is empty none vacant tokens out requests = recor
 
 -- FAULTS
 -- a fault that is passed on is said of a run where it was said before
-pub same_fault : {T U : Type 0} (P : T → Type 0) (Q : U → Type 0) (fault : ReplayFault) (result : Result U ReplayFault) → result ≡ Err fault
+pub same_fault : {T U : Type 0} (P : T → Type 0) (Q : U → Type 0) (fault : ReplayRefusal) (result : Result U ReplayRefusal) → result ≡ Err fault
     → OfRun {T = T} (Err fault) P → OfRun result Q
 same_fault P Q NotARun result e h = absurd h
-same_fault {T} {U} P Q Memory result e h = subst (λ (r : Result U ReplayFault). OfRun r Q) (sym e) tt
+same_fault {T} {U} P Q Memory result e h = subst (λ (r : Result U ReplayRefusal). OfRun r Q) (sym e) tt
 
 -- where there is a token there is no fault but memory
-pub no_count : {U : Type 0} (tokens made : ℕ) (Q : U → Type 0) (fault : ReplayFault) (result : Result U ReplayFault) → result ≡ Err fault → 0 < tokens
+pub no_count : {U : Type 0} (tokens made : ℕ) (Q : U → Type 0) (fault : ReplayRefusal) (result : Result U ReplayRefusal) → result ≡ Err fault → 0 < tokens
     → IsCounted tokens made (Err fault) → OfRun result Q
 no_count tokens made Q NotARun result e some none = absurd (let no : ⊥ = omega (arith, some, none) in no)
-no_count {U} tokens made Q Memory result e some none = subst (λ (r : Result U ReplayFault). OfRun r Q) (sym e) tt
+no_count {U} tokens made Q Memory result e some none = subst (λ (r : Result U ReplayRefusal). OfRun r Q) (sym e) tt
 
 -- A LIST OF EVENTS, FROM ONE TO THE NEXT
 pub next_event : (p : Program) (z : Size) (mid last : Machine) (events : Events) (i : ℕ) (ev : ℕ × Token) → i < length events → ev ≡ get_or events i ev
@@ -214,7 +214,7 @@ watch_all p z a b c events i xs past w run =
     watch_end p z a b c events xs all none.0 none.1
 
 -- the same of lists in vectors
-pub passed_on : {T A : Type 0} (P : T → Type 0) (Q : List Moment → Type 0) (fault : ReplayFault) (result : Result (Vec Moment A) ReplayFault)
+pub passed_on : {T A : Type 0} (P : T → Type 0) (Q : List Moment → Type 0) (fault : ReplayRefusal) (result : Result (Vec Moment A) ReplayRefusal)
     → result ≡ Err fault → OfRun {T = T} (Err fault) P → OfRun (result_map_both (λ v. v.items) (λ e. e) result) Q
 passed_on {T} {A} P Q NotARun result e h = absurd h
-passed_on {T} {A} P Q Memory result e h = subst (λ (r : Result (Vec Moment A) ReplayFault). OfRun (result_map_both (λ v. v.items) (λ e. e) r) Q) (sym e) tt
+passed_on {T} {A} P Q Memory result e h = subst (λ (r : Result (Vec Moment A) ReplayRefusal). OfRun (result_map_both (λ v. v.items) (λ e. e) r) Q) (sym e) tt

@@ -46,7 +46,7 @@ abbrev pub frame_change : Word → Change
 frame_change (Word.Frame f) = change.Out f
 frame_change w = change.Nothing
 
--- a word for the host comes to an output, or to the port behind the outputs
+-- a word for the host comes to an output, or to the port after the outputs
 abbrev pub host_change : Bool → ℕ → Word → Change
 host_change true j (Word.Val v) = change.Output j v
 host_change true j w = change.Nothing

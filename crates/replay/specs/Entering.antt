@@ -11,14 +11,14 @@ use Rattle.semantics.specs.Program.{Program, instr_at, first_of}
 use Rattle.semantics.specs.Rule.{token}
 use Rattle.semantics.specs.Machine.{Store, Machine, Size, Event, Events, Happens, outputs_of, slot_used, input_tokens}
 use Rattle.element.specs.Parts.{IsPart}
-use Rattle.element.specs.Held.{LaneView, IsSoundLane}
+use Rattle.element.specs.Holding.{LaneView, IsSoundLane}
 use Rattle.frame_order.specs.InOrder.{OrderedRun, IsOrdered}
 use Rattle.element.specs.Openings.{StartsAs}
 use Rattle.element.specs.Steps.{Does}
 use Rattle.replay.specs.declared.moment.Deed.{Deed}
 use Rattle.replay.specs.declared.moment.Deed.TheVariants as deed
-use Rattle.replay.specs.declared.fault.ReplayFault.{ReplayFault}
-use Rattle.replay.specs.declared.fault.ReplayFault.TheVariants.{NotARun, Memory}
+use Rattle.replay.specs.declared.fault.ReplayRefusal.{ReplayRefusal}
+use Rattle.replay.specs.declared.fault.ReplayRefusal.TheVariants.{NotARun, Memory}
 use Rattle.replay.specs.declared.entry.Change.{Change}
 use Rattle.replay.specs.declared.entry.Change.TheVariants as change
 use Rattle.replay.specs.declared.extent.Extent.{Extent}
@@ -137,7 +137,7 @@ abbrev pub Took : LaneView → ℕ → LaneView → Type 0
 Took old at new = (sent : List Token) × Does old.program old.held at [] new.held sent
 
 -- WHAT IS NO RUN. Where the fault is that there is none, this is so.
-abbrev pub Says : ReplayFault → Type 0 → Type 0
+abbrev pub Says : ReplayRefusal → Type 0 → Type 0
 Says NotARun P = P
 Says Memory P = ⊤
 

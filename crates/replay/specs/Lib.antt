@@ -1,7 +1,7 @@
 pub mod Moments
 pub mod Views
 pub mod Books
-pub mod Held
+pub mod Known
 pub mod Nearby
-pub mod Follows
+pub mod DoesAs
 pub mod Entering

@@ -8,14 +8,14 @@ ghost use Rattle.semantics.specs.Rule as Rule;
 ghost use Rattle.element.specs.Decoded.{instr_of, dest_in};
 ghost use Rattle.element.specs.Fired.{tokens_of, HasRoomInWord, HasRoomInSlot};
 ghost use Rattle.replay.specs.Moments.{at_slot};
-ghost use Rattle.replay.specs.Follows.{held_in, Sets, Tells, Follows};
+ghost use Rattle.replay.specs.DoesAs.{held_in, Sets, IsAnswer, DoesAs};
 
 use crate::cells::Cell;
-use crate::fault::ReplayFault;
+use crate::fault::ReplayRefusal;
 use crate::moment::Deed;
 use crate::slots::Slots;
 use crate::state::{Did, State};
-use element::firing::{Made, NONE, Outcome, Seat, fire};
+use element::firing::{Made, NONE, Outcome, Point, fire};
 use element::instructions::{Instruction, Instructions, dest_in};
 use semantics::program::Op;
 use std::alloc::{AllocError, Allocator};
@@ -25,7 +25,7 @@ use tags::value::Value;
 
 // Whether an offset can be added to what the word carries.
 fn has_room(word: &Word) -> bool
-    ensures { Tells (HasRoomInWord word.now) result }
+    ensures { IsAnswer (HasRoomInWord word.now) result }
 {
     match *word {
         Word::Back(Cont::Frame { ip, .. }) => ip < 2_147_483_648,
@@ -35,7 +35,7 @@ fn has_room(word: &Word) -> bool
 }
 
 fn has_room_in_slot(slot: &SlotState) -> bool
-    ensures { Tells (HasRoomInSlot slot.now) result }
+    ensures { IsAnswer (HasRoomInSlot slot.now) result }
 {
     match slot {
         SlotState::Left(word) | SlotState::Right(word) => has_room(word),
@@ -56,7 +56,7 @@ fn count_half(half: u32) -> u64
 
 // How many tokens are made.
 fn count_made(made: &Made) -> u64
-    ensures { (s : Rule.Seat) → result ≡ length (tokens_of s made.now) }
+    ensures { (s : Rule.Point) → result ≡ length (tokens_of s made.now) }
 {
     u64::from(made.released.is_some())
         + u64::from(made.outside.is_some())
@@ -115,44 +115,44 @@ impl<A: Allocator> State<A> {
     fn at_instruction<C: Instructions>(
         &mut self,
         code: &C,
-        seat: Seat,
+        point: Point,
         port: Port,
         word: Word,
-    ) -> Result<Did, ReplayFault>
+    ) -> Result<Did, ReplayRefusal>
     where
         A: Clone,
         requires narrow { C.width code.now ≤ 512 }
-        ensures follows { Follows (C.program code.now) self.old (Rule.token (To.Instr seat.frame seat.ip port) word) result self.new }
+        ensures does_as { DoesAs (C.program code.now) self.old (Rule.token (To.Instr point.frame point.ip port) word) result self.new }
         ensures frames { self.new.frames ≡ self.old.frames }
         ensures tokens { self.new.tokens ≡ self.old.tokens }
     {
-        let Some(instr) = code.instr(seat.ip) else {
-            return Err(ReplayFault::NotARun);
+        let Some(instr) = code.instr(point.ip) else {
+            return Err(ReplayRefusal::NotARun);
         };
         let slot = instr.op.slot_in(instr.slot);
-        let state = self.slots.state_in(seat.frame, slot);
+        let state = self.slots.state_in(point.frame, slot);
         if !has_room(&word) || !has_room_in_slot(&state) {
-            return Err(ReplayFault::NotARun);
+            return Err(ReplayRefusal::NotARun);
         }
         let mut made = NONE;
-        match fire(code, seat, &instr, state, port, word, &mut made) {
+        match fire(code, point, &instr, state, port, word, &mut made) {
             Outcome::Becomes { slot: after } => {
-                self.slots.set_in(seat.frame, slot, after)?;
+                self.slots.set_in(point.frame, slot, after)?;
                 let made = count_made(&made);
                 Ok(Did {
                     deed: deed_at(&state, &after),
                     made,
                 })
             }
-            Outcome::Excluded { .. } => Err(ReplayFault::NotARun),
+            Outcome::Excluded { .. } => Err(ReplayRefusal::NotARun),
         }
     }
 
     // A fetch finds a value, or its reader waits.
-    fn at_fetch(&mut self, cell: u32, cont: Cont) -> Result<Did, ReplayFault>
+    fn at_fetch(&mut self, cell: u32, cont: Cont) -> Result<Did, ReplayRefusal>
     where
         A: Clone,
-        ensures follows { (p : Program) → Follows p self.old (Rule.token (To.Fetch cell) (Word.Back cont)) result self.new }
+        ensures does_as { (p : Program) → DoesAs p self.old (Rule.token (To.Fetch cell) (Word.Back cont)) result self.new }
         ensures frames { self.new.frames ≡ self.old.frames }
         ensures tokens { self.new.tokens ≡ self.old.tokens }
     {
@@ -167,7 +167,7 @@ impl<A: Allocator> State<A> {
             Cell::Deferred { readers } => readers,
         };
         let Some(readers) = before.checked_add(1) else {
-            return Err(ReplayFault::Memory);
+            return Err(ReplayRefusal::Memory);
         };
         self.cells.set(cell, Cell::Deferred { readers })?;
         Ok(Did {
@@ -177,20 +177,20 @@ impl<A: Allocator> State<A> {
     }
 
     // A value is stored, and readers that wait for it are answered.
-    fn at_store(&mut self, cell: u32, value: Value, cont: Cont) -> Result<Did, ReplayFault>
+    fn at_store(&mut self, cell: u32, value: Value, cont: Cont) -> Result<Did, ReplayRefusal>
     where
         A: Clone,
-        ensures follows { (p : Program) → Follows p self.old (Rule.token (To.Store cell value) (Word.Back cont)) result self.new }
+        ensures does_as { (p : Program) → DoesAs p self.old (Rule.token (To.Store cell value) (Word.Back cont)) result self.new }
         ensures frames { self.new.frames ≡ self.old.frames }
         ensures tokens { self.new.tokens ≡ self.old.tokens }
     {
         let readers = match self.cells.cell(cell) {
-            Cell::Full => return Err(ReplayFault::NotARun),
+            Cell::Full => return Err(ReplayRefusal::NotARun),
             Cell::Vacant => 0,
             Cell::Deferred { readers } => readers,
         };
         let Some(made) = readers.checked_add(1) else {
-            return Err(ReplayFault::Memory);
+            return Err(ReplayRefusal::Memory);
         };
         self.cells.set(cell, Cell::Full)?;
         let deed = if readers == 0 {
@@ -202,8 +202,8 @@ impl<A: Allocator> State<A> {
     }
 
     // A request is given a frame, or waits.
-    fn at_manager(&mut self, cont: Cont) -> Result<Did, ReplayFault>
-        ensures follows { (p : Program) → Follows p self.old (Rule.token To.Manager (Word.Back cont)) result self.new }
+    fn at_manager(&mut self, cont: Cont) -> Result<Did, ReplayRefusal>
+        ensures does_as { (p : Program) → DoesAs p self.old (Rule.token To.Manager (Word.Back cont)) result self.new }
         ensures frames { self.new.frames ≡ self.old.frames }
         ensures tokens { self.new.tokens ≡ self.old.tokens }
     {
@@ -215,7 +215,7 @@ impl<A: Allocator> State<A> {
             });
         }
         let Some(requests) = self.requests.checked_add(1) else {
-            return Err(ReplayFault::Memory);
+            return Err(ReplayRefusal::Memory);
         };
         self.requests = requests;
         Ok(Did {
@@ -225,8 +225,8 @@ impl<A: Allocator> State<A> {
     }
 
     // A frame that comes back goes to a request that waits, or is free.
-    fn at_release(&mut self, frame: FrameId, word: Word) -> Result<Did, ReplayFault>
-        ensures follows { (p : Program) → Follows p self.old (Rule.token (To.Release frame) word) result self.new }
+    fn at_release(&mut self, frame: FrameId, word: Word) -> Result<Did, ReplayRefusal>
+        ensures does_as { (p : Program) → DoesAs p self.old (Rule.token (To.Release frame) word) result self.new }
         ensures frames { self.new.frames ≡ self.old.frames }
         ensures tokens { self.new.tokens ≡ self.old.tokens }
     {
@@ -238,7 +238,7 @@ impl<A: Allocator> State<A> {
             });
         }
         let Some(frames_out) = self.frames_out.checked_sub(1) else {
-            return Err(ReplayFault::NotARun);
+            return Err(ReplayRefusal::NotARun);
         };
         self.frames_out = frames_out;
         Ok(Did {
@@ -247,18 +247,18 @@ impl<A: Allocator> State<A> {
         })
     }
 
-    /// What the token does. After an error no event may be told.
-    pub fn act<C: Instructions>(&mut self, code: &C, token: Token) -> Result<Did, ReplayFault>
+    /// What the token does. After an error no event may be reported.
+    pub fn act<C: Instructions>(&mut self, code: &C, token: Token) -> Result<Did, ReplayRefusal>
     where
         A: Clone,
         requires narrow { C.width code.now ≤ 512 }
-        ensures follows { Follows (C.program code.now) self.old token result self.new }
+        ensures does_as { DoesAs (C.program code.now) self.old token result self.new }
         ensures frames { self.new.frames ≡ self.old.frames }
         ensures tokens { self.new.tokens ≡ self.old.tokens }
     {
         match (token.to, token.word) {
             (To::Instr { frame, ip, port }, word) => {
-                self.at_instruction(code, Seat { frame, ip }, port, word)
+                self.at_instruction(code, Point { frame, ip }, port, word)
             }
             (To::Fetch { cell }, Word::Back(cont)) => self.at_fetch(cell, cont),
             (To::Store { cell, value }, Word::Back(cont)) => self.at_store(cell, value, cont),
@@ -268,7 +268,7 @@ impl<A: Allocator> State<A> {
                 deed: Deed::Arrived,
                 made: 0,
             }),
-            _ => Err(ReplayFault::NotARun),
+            _ => Err(ReplayRefusal::NotARun),
         }
     }
 }

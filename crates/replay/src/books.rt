@@ -8,7 +8,7 @@ ghost use Rattle.replay.specs.Entering.{IsExtent, IsBlank, IsFreshLane, AreBooks
 
 use crate::entry::Books;
 use crate::extent::Extent;
-use crate::fault::ReplayFault;
+use crate::fault::ReplayRefusal;
 use crate::ledger::Ledger;
 use element::instructions::Instructions;
 use element::lane::Lane;
@@ -87,7 +87,7 @@ fn keep_in<C: Instructions, A: Allocator + Clone>(
     inputs: &[i64],
     earlier: &[(u32, Token)],
     events: &[(u32, Token)],
-) -> Result<Books<A>, ReplayFault>
+) -> Result<Books<A>, ReplayRefusal>
     requires blank { IsBlank (C.program code.now) ledger }
     requires extent { IsExtent (C.program code.now) (C.width code.now) ledger.extent }
     requires few { length inputs.now ≤ 16 }
@@ -110,7 +110,7 @@ pub fn keep_books<C: Instructions, A: Allocator + Clone>(
     inputs: &[i64],
     earlier: &[(u32, Token)],
     events: &[(u32, Token)],
-) -> Result<Books<A>, ReplayFault>
+) -> Result<Books<A>, ReplayRefusal>
     requires extent { IsExtent (C.program code.now) (C.width code.now) extent }
     requires few { length inputs.now ≤ 16 }
     ensures books { IfOk result (AreBooks (C.program code.now) extent inputs.now earlier.now events.now) }

@@ -2,7 +2,7 @@
 
 ghost use Rattle.std.specs.Prelude.{◌≡◌, ℕ, OnOk};
 ghost use Rattle.semantics.specs.Machine.{put_at};
-ghost use Rattle.replay.specs.Held.{kept};
+ghost use Rattle.replay.specs.Known.{kept};
 ghost use Rattle.replay.specs.declared.cells.Cell.TheVariants.{Vacant};
 
 use std::alloc::{AllocError, Allocator};

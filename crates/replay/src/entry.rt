@@ -18,7 +18,7 @@ pub enum Change {
         slot: u32,
         state: SlotState,
     },
-    /// One more reader of a cell waits, behind those that wait.
+    /// One more reader of a cell waits, after those that wait.
     Reader {
         cell: u32,
         cont: Cont,
@@ -36,7 +36,7 @@ pub enum Change {
     Free {
         frame: FrameId,
     },
-    /// One more request waits, behind those that wait.
+    /// One more request waits, after those that wait.
     Queued {
         cont: Cont,
     },
@@ -49,7 +49,7 @@ pub enum Change {
         port: u32,
         value: Value,
     },
-    /// All is done: this word came to the port behind the outputs.
+    /// All is done: this word came to the port after the outputs.
     Done {
         port: u32,
         word: Word,

@@ -1,13 +1,13 @@
 //! Why events are not replayed.
 
 ghost use Rattle.std.specs.Prelude.{◌≡◌};
-ghost use Rattle.replay.specs.declared.fault.ReplayFault.TheVariants.{Memory};
+ghost use Rattle.replay.specs.declared.fault.ReplayRefusal.TheVariants.{Memory};
 
 use std::alloc::{AllocError, AllocFailed};
 
 /// Why events are not replayed.
 #[derive(Clone, Copy, Debug, PartialEq, Eq)]
-pub enum ReplayFault {
+pub enum ReplayRefusal {
     /// They are not those of a run of this code; of books, of one in which the free frame of least number goes out, and a frame that comes back
     /// goes to the request that has waited longest.
     NotARun,
@@ -15,18 +15,18 @@ pub enum ReplayFault {
     Memory,
 }
 
-impl From<AllocError> for ReplayFault {
+impl From<AllocError> for ReplayRefusal {
     ghost from_gives = { λ _ e. e ≡ Memory };
 
-    fn from(_: AllocError) -> ReplayFault {
-        ReplayFault::Memory
+    fn from(_: AllocError) -> ReplayRefusal {
+        ReplayRefusal::Memory
     }
 }
 
-impl<T: Drop> From<AllocFailed<T>> for ReplayFault {
+impl<T: Drop> From<AllocFailed<T>> for ReplayRefusal {
     ghost from_gives = { λ _ e. e ≡ Memory };
 
-    fn from(_: AllocFailed<T>) -> ReplayFault {
-        ReplayFault::Memory
+    fn from(_: AllocFailed<T>) -> ReplayRefusal {
+        ReplayRefusal::Memory
     }
 }

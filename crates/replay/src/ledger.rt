@@ -4,7 +4,7 @@ ghost use Rattle.std.specs.Prelude.{◌≡◌, ◌<◌, ◌≤◌, ◌+◌, ◌+
 ghost use Rattle.std.specs.List.{range_with_len};
 ghost use Rattle.semantics.specs.Program.{Program};
 ghost use Rattle.replay.specs.Books.{frame_change, host_change};
-ghost use Rattle.element.specs.Held.{fixed_of, IsSoundLane};
+ghost use Rattle.element.specs.Holding.{fixed_of, IsSoundLane};
 ghost use Rattle.replay.specs.Entering.{IsExtent, IsWhole, IsBlank, IsThere, IsNumbered, StateIs, Took, Enters, EntersAll, Passes, Begins, AreBooks};
 ghost use Rattle.replay.specs.Entering.{Says, IsExcluded, IsUnfit, AreUnfit, HasNoRun, start_tokens, place_used, deed_by, change_by};
 ghost use Rattle.replay.specs.Entering.{place_change, request_change, fetch_change};
@@ -12,7 +12,7 @@ ghost use Rattle.replay.specs.Entering.{place_change, request_change, fetch_chan
 use crate::acts::deed_at;
 use crate::entry::{Books, Change, Entry};
 use crate::extent::Extent;
-use crate::fault::ReplayFault;
+use crate::fault::ReplayRefusal;
 use crate::moment::Deed;
 use crate::slots::Place;
 use element::instructions::Instructions;
@@ -247,7 +247,7 @@ impl<'m, C: Instructions, A: Allocator> Ledger<'m, C, A> {
     }
 
     // The lane takes the token at that place. `NotARun` says that a rule excludes the token.
-    fn step(&mut self, alloc: &A, at: usize) -> Result<(), ReplayFault>
+    fn step(&mut self, alloc: &A, at: usize) -> Result<(), ReplayRefusal>
     where
         A: Clone,
         requires low { at < length self.old.lane.held.queue }
@@ -263,15 +263,20 @@ impl<'m, C: Instructions, A: Allocator> Ledger<'m, C, A> {
         let mut sent = Vec::new(alloc.clone()?);
         match self.lane.step::<()>(at as u64, &mut sent) {
             Some(Stepped::Did) => Ok(()),
-            Some(Stepped::Idle) => Err(ReplayFault::NotARun),
-            Some(Stepped::Clash { .. }) => Err(ReplayFault::NotARun),
-            Some(Stepped::Stuck { .. }) => Err(ReplayFault::NotARun),
-            Some(Stepped::Memory) | None => Err(ReplayFault::Memory),
+            Some(Stepped::Idle) => Err(ReplayRefusal::NotARun),
+            Some(Stepped::Clash { .. }) => Err(ReplayRefusal::NotARun),
+            Some(Stepped::Stuck { .. }) => Err(ReplayRefusal::NotARun),
+            Some(Stepped::Memory) | None => Err(ReplayRefusal::Memory),
         }
     }
 
     // Enters an event. `NotARun` says that the machine has no such event. After an error the ledger is of no use.
-    fn enter(&mut self, alloc: &A, code: &C, event: &(u32, Token)) -> Result<Entry<A>, ReplayFault>
+    fn enter(
+        &mut self,
+        alloc: &A,
+        code: &C,
+        event: &(u32, Token),
+    ) -> Result<Entry<A>, ReplayRefusal>
     where
         A: Clone,
         requires whole { IsWhole (C.program code.now) self.old.extent self.old.lane }
@@ -285,10 +290,10 @@ impl<'m, C: Instructions, A: Allocator> Ledger<'m, C, A> {
     {
         let token = event.1;
         if token.to.element(self.extent.elements) != event.0 {
-            return Err(ReplayFault::NotARun);
+            return Err(ReplayRefusal::NotARun);
         }
         let Some(at) = self.place_of(&token) else {
-            return Err(ReplayFault::NotARun);
+            return Err(ReplayRefusal::NotARun);
         };
         let number = self.numbers[at];
         let used = place_used(code, &token.to);
@@ -316,7 +321,7 @@ impl<'m, C: Instructions, A: Allocator> Ledger<'m, C, A> {
         alloc: A,
         code: &C,
         events: &[(u32, Token)],
-    ) -> Result<Vec<Entry<A>, A>, ReplayFault>
+    ) -> Result<Vec<Entry<A>, A>, ReplayRefusal>
     where
         A: Clone,
         requires whole { IsWhole (C.program code.now) self.old.extent self.old.lane }
@@ -340,7 +345,7 @@ impl<'m, C: Instructions, A: Allocator> Ledger<'m, C, A> {
         alloc: &A,
         code: &C,
         events: &[(u32, Token)],
-    ) -> Result<Vec<Change, A>, ReplayFault>
+    ) -> Result<Vec<Change, A>, ReplayRefusal>
     where
         A: Clone,
         requires whole { IsWhole (C.program code.now) self.old.extent self.old.lane }
@@ -390,7 +395,7 @@ impl<'m, C: Instructions, A: Allocator> Ledger<'m, C, A> {
         inputs: &[i64],
         earlier: &[(u32, Token)],
         events: &[(u32, Token)],
-    ) -> Result<Books<A>, ReplayFault>
+    ) -> Result<Books<A>, ReplayRefusal>
     where
         A: Clone,
         requires blank { IsBlank (C.program code.now) self.old }

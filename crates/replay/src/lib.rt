@@ -17,6 +17,6 @@ mod state;
 pub use books::keep_books;
 pub use entry::{Books, Change, Entry};
 pub use extent::Extent;
-pub use fault::ReplayFault;
+pub use fault::ReplayRefusal;
 pub use moment::{Deed, Moment};
 pub use replaying::replay;

@@ -4,10 +4,10 @@ ghost use Rattle.std.specs.Prelude.{◌≡◌, ◌<◌, ◌≤◌, ℤ, List, le
 ghost use Rattle.std.specs.Result.{result_map_both};
 ghost use Rattle.semantics.specs.Program.{Program};
 ghost use Rattle.semantics.specs.Machine.{at_start};
-ghost use Rattle.replay.specs.Follows.{Stands, IsReplay};
+ghost use Rattle.replay.specs.DoesAs.{KnowsAll, IsReplay};
 
 use crate::cells::Cells;
-use crate::fault::ReplayFault;
+use crate::fault::ReplayRefusal;
 use crate::moment::Moment;
 use crate::slots::Slots;
 use crate::state::State;
@@ -18,7 +18,7 @@ use tags::token::Token;
 // What is held of a machine before its first event: main's frame is out, and there are its continuation and its inputs.
 fn first<A: Allocator + Clone>(alloc: &A, frames: u32, inputs: u32) -> Result<State<A>, AllocError>
     requires { 0 < frames }
-    ensures { IfOk result (λ h. (h.frames ≡ frames) × ((p : Program) (xs : List ℤ) → length xs ≡ inputs → Stands p h (at_start p xs))) }
+    ensures { IfOk result (λ h. (h.frames ≡ frames) × ((p : Program) (xs : List ℤ) → length xs ≡ inputs → KnowsAll p h (at_start p xs))) }
 {
     Ok(State {
         slots: Slots::new(alloc.clone()?),
@@ -38,7 +38,7 @@ pub fn replay<C: Instructions, A: Allocator + Clone>(
     frames: u32,
     inputs: u32,
     events: &[(u32, Token)],
-) -> Result<Vec<Moment, A>, ReplayFault>
+) -> Result<Vec<Moment, A>, ReplayRefusal>
     requires some { 0 < frames }
     requires narrow { C.width code.now ≤ 512 }
     ensures { IsReplay (C.program code.now) frames inputs events.now (result_map_both (λ v. v.items) (λ e. e) result) }

@@ -4,7 +4,7 @@ ghost use Rattle.std.specs.Prelude.{◌≡◌, ℕ, ◌+◌, ◌-◌, OnOk, IfOk
 ghost use Rattle.tags.specs.declared.slot.SlotState.TheVariants.{Empty};
 ghost use Rattle.semantics.specs.Machine.{put_at};
 ghost use Rattle.replay.specs.Moments.{fullness};
-ghost use Rattle.replay.specs.Held.{held};
+ghost use Rattle.replay.specs.Known.{held};
 
 use std::alloc::{AllocError, Allocator};
 use std::collections::HashMap;

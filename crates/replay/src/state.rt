@@ -1,10 +1,10 @@
 //! What is held of a machine.
 
 ghost use Rattle.std.specs.Prelude.{◌≡◌, ◌≤◌};
-ghost use Rattle.replay.specs.Follows.{IsCounted, Moves};
+ghost use Rattle.replay.specs.DoesAs.{IsCounted, Moves};
 
 use crate::cells::Cells;
-use crate::fault::ReplayFault;
+use crate::fault::ReplayRefusal;
 use crate::moment::{Deed, Moment};
 use crate::slots::Slots;
 use element::instructions::Instructions;
@@ -34,21 +34,21 @@ pub struct Did {
 }
 
 // How many tokens there are after an event that made `made` of them.
-fn count(tokens: u64, made: u64) -> Result<u64, ReplayFault>
+fn count(tokens: u64, made: u64) -> Result<u64, ReplayRefusal>
     ensures { IsCounted tokens made result }
 {
     let Some(left) = tokens.checked_sub(1) else {
-        return Err(ReplayFault::NotARun);
+        return Err(ReplayRefusal::NotARun);
     };
     let Some(tokens) = left.checked_add(made) else {
-        return Err(ReplayFault::Memory);
+        return Err(ReplayRefusal::Memory);
     };
     Ok(tokens)
 }
 
 impl<A: Allocator> State<A> {
-    /// The moment of the next event, which takes this token. After an error no event may be told.
-    pub fn next<C: Instructions>(&mut self, code: &C, token: Token) -> Result<Moment, ReplayFault>
+    /// The moment of the next event, which takes this token. After an error no event may be reported.
+    pub fn next<C: Instructions>(&mut self, code: &C, token: Token) -> Result<Moment, ReplayRefusal>
     where
         A: Clone,
         requires narrow { C.width code.now ≤ 512 }

@@ -18,7 +18,7 @@ abbrev pub kind_word : FaultKind → List ℕ
 kind_word Zero = codes "zero"
 kind_word Range = codes "range"
 
--- where a fault was made, if it is told
+-- where a fault was made, if it is reported
 abbrev pub origin_text : Origin → List ℕ
 origin_text Untold = []
 origin_text (At b n) = codes " at" ++ field (decimal b) ++ field (decimal n)

@@ -6,45 +6,46 @@ use Rattle.tags.specs.declared.token.Token.{Token}
 use Rattle.semantics.specs.Program.{Program}
 use Rattle.semantics.specs.Machine.{Events, outputs_of}
 use Rattle.semantics.specs.Report.{Report}
-use Rattle.element.specs.Held.{Held}
+use Rattle.element.specs.Holding.{Holding}
 use Rattle.schedule.specs.declared.halt.Halt.{Halt}
 use Rattle.schedule.specs.Setting.{Setting}
 use Rattle.schedule.specs.State.{AllFrom, IsPlaced, IsSoundState, delivered, tokens_in}
-use Rattle.schedule.specs.Runs.{Kept}
-use Rattle.schedule.specs.Told.{IsReportOf, opening_picture}
+use Rattle.schedule.specs.Runs.{SoFar}
+use Rattle.schedule.specs.Reported.{IsReportOf, opening_picture}
 use Rattle.schedule.proofs.Tokens.{delivered_none}
-use Rattle.schedule.proofs.Reports.{told_coming}
+use Rattle.schedule.proofs.Reports.{reported_arriving}
 use Rattle.schedule.specs.Steps.{logged}
-use Rattle.rounds.specs.Turns.{Turns, IsWhole, Turned, Round, helds, all_sent, coming}
-use Rattle.rounds.specs.Counted.{answers, NoneHalts, IsWhy, MakesRound, MakesRounds, TellsRounds}
+use Rattle.rounds.specs.Turns.{Turns, IsWhole, Turned, Round, helds, all_sent, arriving}
+use Rattle.rounds.specs.Counted.{answers, NoneHalts, IsWhy, MakesRound, MakesRounds, ReportsRounds}
 
 -- how many events lanes have made
-abbrev pub total : List Held → ℕ
+abbrev pub total : List Holding → ℕ
 total [] = 0
 total (h ∷ hs) = h.made + total hs
 
-total_delivered : (ts : List Token) (hs : List Held) → total (delivered ts hs) ≡ total hs
+total_delivered : (ts : List Token) (hs : List Holding) → total (delivered ts hs) ≡ total hs
 total_delivered ts [] = refl
 total_delivered ts (h ∷ hs) = ap (λ (n : ℕ). h.made + n) (total_delivered ts hs)
 
-pub grown : (p : Program) (steps : ℕ) (old : Held) (before ts : List Token) (new : Held) (after : List Token) → Turns p steps old before ts new after → new.made ≡ old.made + length ts
-grown p steps old before [] new after turns = let e = ap (λ (h : Held). h.made) turns.0 in omega (arith, e)
+pub grown : (p : Program) (steps : ℕ) (old : Holding) (before ts : List Token) (new : Holding) (after : List Token) → Turns p steps old before ts new after → new.made ≡ old.made + length ts
+grown p steps old before [] new after turns = let e = ap (λ (h : Holding). h.made) turns.0 in omega (arith, e)
 grown p steps old before (t ∷ ts) new after (mid, sent, does, is, few, sound, rest) =
     let e = grown p steps mid sent ts new after rest in
     let c = does.count in
     omega (arith, e, c)
 
-never_less : (g : Setting) (listed may_stop : Bool) (olds : List Held) (ts : List Turned) → Round g listed may_stop olds ts → total olds ≤ total (helds ts)
-never_less g listed may_stop [] [] round = omega arith
-never_less g listed may_stop [] (t ∷ ts) round = absurd round
-never_less g listed may_stop (h ∷ hs) [] round = absurd round
-never_less g listed may_stop (h ∷ hs) (t ∷ ts) (turn, rest) =
+never_less : (g : Setting) (keeps_events may_stop : Bool) (olds : List Holding) (ts : List Turned) → Round g keeps_events may_stop olds ts
+    → total olds ≤ total (helds ts)
+never_less g keeps_events may_stop [] [] round = omega arith
+never_less g keeps_events may_stop [] (t ∷ ts) round = absurd round
+never_less g keeps_events may_stop (h ∷ hs) [] round = absurd round
+never_less g keeps_events may_stop (h ∷ hs) (t ∷ ts) (turn, rest) =
     let e = grown g.program g.steps h [] turn.taken t.held t.sent turn.turns in
-    let l = never_less g listed may_stop hs ts rest in
+    let l = never_less g keeps_events may_stop hs ts rest in
     omega (arith, e, l)
 
 -- A lane that made no event and does not halt has no token, and made none for others.
-lane_idle : (p : Program) (steps turn : ℕ) (old : Held) (taken : List Token) (new : Held) (sent : List Token) (halt : Option Halt) → 0 < turn → Turns p steps old [] taken new sent → IsWhole turn old new halt → halt ≡ None → new.made ≤ old.made
+lane_idle : (p : Program) (steps turn : ℕ) (old : Holding) (taken : List Token) (new : Holding) (sent : List Token) (halt : Option Halt) → 0 < turn → Turns p steps old [] taken new sent → IsWhole turn old new halt → halt ≡ None → new.made ≤ old.made
     → (new.queue ≡ []) × (sent ≡ [])
 lane_idle p steps turn old [] new sent None some turns (inl all) none few = absurd (omega (arith, all, some, few))
 lane_idle p steps turn old [] new sent None some turns (inr idle) none few = (idle, turns.1)
@@ -62,25 +63,25 @@ later_none t ts none = λ e low. none (suc e) (omega (arith, low))
 both_nil : {X : Type 0} (xs ys : List X) → xs ≡ [] → ys ≡ [] → xs ++ ys ≡ []
 both_nil xs ys a b = ap (λ (l : List _). l ++ ys) a ∙ b
 
-all_idle : (g : Setting) (listed may_stop : Bool) (olds : List Held) (ts : List Turned) → 0 < g.turn → Round g listed may_stop olds ts → NoneHalts (answers ts) → total (helds ts) ≤ total olds → (tokens_in (helds ts) ≡ []) × (all_sent ts ≡ [])
-all_idle g listed may_stop [] [] some round none few = (refl, refl)
-all_idle g listed may_stop [] (t ∷ ts) some round none few = absurd round
-all_idle g listed may_stop (h ∷ hs) [] some round none few = absurd round
-all_idle g listed may_stop (h ∷ hs) (t ∷ ts) some (turn, rest) none few =
+all_idle : (g : Setting) (keeps_events may_stop : Bool) (olds : List Holding) (ts : List Turned) → 0 < g.turn → Round g keeps_events may_stop olds ts → NoneHalts (answers ts) → total (helds ts) ≤ total olds → (tokens_in (helds ts) ≡ []) × (all_sent ts ≡ [])
+all_idle g keeps_events may_stop [] [] some round none few = (refl, refl)
+all_idle g keeps_events may_stop [] (t ∷ ts) some round none few = absurd round
+all_idle g keeps_events may_stop (h ∷ hs) [] some round none few = absurd round
+all_idle g keeps_events may_stop (h ∷ hs) (t ∷ ts) some (turn, rest) none few =
     let e = grown g.program g.steps h [] turn.taken t.held t.sent turn.turns in
-    let l = never_less g listed may_stop hs ts rest in
+    let l = never_less g keeps_events may_stop hs ts rest in
     let here : t.held.made ≤ h.made = omega (arith, e, l, few) in
     let there : total (helds ts) ≤ total hs = omega (arith, e, l, few) in
     let one = lane_idle g.program g.steps g.turn h turn.taken t.held t.sent t.halt some turn.turns turn.whole (first_none t ts none) here in
-    let all = all_idle g listed may_stop hs ts some rest (later_none t ts none) there in
+    let all = all_idle g keeps_events may_stop hs ts some rest (later_none t ts none) there in
     (both_nil t.held.queue (tokens_in (helds ts)) one.0 all.0, both_nil t.sent (all_sent ts) one.1 all.1)
 
 -- A round after which the run goes on has an event.
-round_more : (g : Setting) (may_stop : Bool) (old new : List Held) (made : Events) → 0 < g.turn → MakesRound g may_stop old new made None → total old < total new
+round_more : (g : Setting) (may_stop : Bool) (old new : List Holding) (made : Events) → 0 < g.turn → MakesRound g may_stop old new made None → total old < total new
 round_more g may_stop old new made some r = by_halts r.halts
   where
     same : total new ≡ total (helds r.turned)
-    same = ap (λ (l : List Held). total l) r.handed ∙ total_delivered (all_sent r.turned) (helds r.turned)
+    same = ap (λ (l : List Holding). total l) r.handed ∙ total_delivered (all_sent r.turned) (helds r.turned)
 
     by_halts : IsWhy new (answers r.turned) None ⊎ (None ≡ Some Halt.Memory) → total old < total new
     by_halts (inr memory) = absurd (let never : ⊥ = cc in never)
@@ -90,20 +91,20 @@ round_more g may_stop old new made some r = by_halts r.halts
         by_count (inl more) = more
         by_count (inr few) =
             let low : total (helds r.turned) ≤ total old = omega (arith, same, few) in
-            let idle = all_idle g r.listed may_stop old r.turned some r.round why.0 low in
-            let none : tokens_in new ≡ [] = ap (λ (l : List Held). tokens_in l) (r.handed ∙ ap (λ (l : List Token). delivered l (helds r.turned)) idle.1 ∙ delivered_none (helds r.turned)) ∙ idle.0 in
+            let idle = all_idle g r.keeps_events may_stop old r.turned some r.round why.0 low in
+            let none : tokens_in new ≡ [] = ap (λ (l : List Holding). tokens_in l) (r.handed ∙ ap (λ (l : List Token). delivered l (helds r.turned)) idle.1 ∙ delivered_none (helds r.turned)) ∙ idle.0 in
             let l : length (tokens_in new) ≡ 0 = ap (λ (l : List Token). length l) none in
             let has = why.1 in
             absurd (omega (arith, l, has))
 
-pub rounds_few : (g : Setting) (may_stop : Bool) (n : ℕ) (old new : List Held) (made : Events) → 0 < g.turn → MakesRounds g may_stop n old new made None → n + total old ≤ total new
-rounds_few g may_stop zero old new made some (same, none, why) = let e = ap (λ (l : List Held). total l) same in omega (arith, e)
+pub rounds_few : (g : Setting) (may_stop : Bool) (n : ℕ) (old new : List Holding) (made : Events) → 0 < g.turn → MakesRounds g may_stop n old new made None → n + total old ≤ total new
+rounds_few g may_stop zero old new made some (same, none, why) = let e = ap (λ (l : List Holding). total l) same in omega (arith, e)
 rounds_few g may_stop (suc n) old new made some (mid, before, now, earlier, last, is) =
     let a = rounds_few g may_stop n old mid before some earlier in
     let b = round_more g may_stop mid new now some last in
     omega (arith, a, b)
 
-total_most : (g : Setting) (k : ℕ) (hs : List Held) → g.steps ≤ 4294967296 → AllFrom (IsPlaced g) k hs → total hs ≤ length hs * 4294967296
+total_most : (g : Setting) (k : ℕ) (hs : List Holding) → g.steps ≤ 4294967296 → AllFrom (IsPlaced g) k hs → total hs ≤ length hs * 4294967296
 total_most g k [] few all = omega arith
 total_most g k (h ∷ hs) few all =
     let a = total_most g (suc k) hs few all.1 in
@@ -111,7 +112,7 @@ total_most g k (h ∷ hs) few all =
     omega (arith, a, b, few)
 
 -- Their number is small.
-pub few_rounds : (g : Setting) (may_stop : Bool) (n : ℕ) (old new : List Held) (made : Events) → IsSoundState (coming g new []) → MakesRounds g may_stop n old new made None → n < 2 ^ 37
+pub few_rounds : (g : Setting) (may_stop : Bool) (n : ℕ) (old new : List Holding) (made : Events) → IsSoundState (arriving g new []) → MakesRounds g may_stop n old new made None → n < 2 ^ 37
 few_rounds g may_stop n old new made sound makes =
     let some = sound.setting.some_turn in
     let a = rounds_few g may_stop n old new made some makes in
@@ -123,50 +124,55 @@ few_rounds g may_stop n old new made sound makes =
     omega (arith, a, b, c, d, e)
 
 -- MORE ROUNDS
-pub no_rounds : (g : Setting) (may_stop : Bool) (old : List Held) → MakesRounds g may_stop 0 old old [] None
+pub no_rounds : (g : Setting) (may_stop : Bool) (old : List Holding) → MakesRounds g may_stop 0 old old [] None
 no_rounds g may_stop old = (refl, refl, refl)
 
-pub one_round : (g : Setting) (may_stop : Bool) (old new : List Held) (made : Events) (why : Option Halt) → MakesRound g may_stop old new made why → MakesRounds g may_stop 1 old new made why
+pub one_round : (g : Setting) (may_stop : Bool) (old new : List Holding) (made : Events) (why : Option Halt) → MakesRound g may_stop old new made why → MakesRounds g may_stop 1 old new made why
 one_round g may_stop old new made why r = (old, [], made, (refl, refl, refl), r, refl)
 
-pub makes_more : (g : Setting) (may_stop : Bool) (n : ℕ) (old mid new : List Held) (before now : Events) (why : Option Halt) → MakesRounds g may_stop n old mid before None → MakesRounds g may_stop 1 mid new now why
+pub makes_more : (g : Setting) (may_stop : Bool) (n : ℕ) (old mid new : List Holding) (before now : Events) (why : Option Halt) → MakesRounds g may_stop n old mid before None → MakesRounds g may_stop 1 mid new now why
     → MakesRounds g may_stop (n + 1) old new (before ++ now) why
 makes_more g may_stop n old mid new before now why first (m, b, x, (e1, e2, e3), r, e4) =
     let events : x ≡ now = sym (e4 ∙ ap (λ (l : Events). l ++ x) e2) in
-    let last : MakesRound g may_stop mid new now why = subst (λ (l : List Held). MakesRound g may_stop l new now why) e1 (subst (λ (l : Events). MakesRound g may_stop m new l why) events r) in
+    let last : MakesRound g may_stop mid new now why = subst (λ (l : List Holding). MakesRound g may_stop l new now why) e1 (subst (λ (l : Events). MakesRound g may_stop m new l why) events r) in
     let next : n + 1 ≡ suc n = omega arith in
     subst (λ (k : ℕ). MakesRounds g may_stop k old new (before ++ now) why) (sym next) (mid, before, now, first, last, refl)
 
 -- THE REPORT
 -- of a machine before its first round
-pub tells_none : (listed may_stop : Bool) (k : Kept) (n : ℕ) (r : Report) → n ≡ 0 → IsReportOf k Halt.Memory r → TellsRounds listed may_stop k n r
-tells_none listed may_stop k n r zero_is told = subst (λ (m : ℕ). TellsRounds listed may_stop k m r) (sym zero_is) (record {
+pub reports_none : (keeps_events may_stop : Bool) (k : SoFar) (n : ℕ) (r : Report) → n ≡ 0 → IsReportOf k Halt.Memory r
+    → ReportsRounds keeps_events may_stop k n r
+reports_none keeps_events may_stop k n r zero_is reported = subst (λ (m : ℕ). ReportsRounds keeps_events may_stop k m r) (sym zero_is) (record {
   last = k.state.lanes;
   made = [];
   halt = Halt.Memory;
   why = None;
   makes = no_rounds k.state.setting may_stop k.state.lanes;
   halted = inr (refl, refl);
-  told = subst (λ (l : Events). IsReportOf (record { state = k.state; events = l }) Halt.Memory r) (same listed) told;
+  reported = subst (λ (l : Events). IsReportOf (record { state = k.state; events = l }) Halt.Memory r) (same keeps_events) reported;
 })
   where
     same : (b : Bool) → k.events ≡ logged b k.events []
     same true = sym (append-nil k.events)
     same false = refl
 
-pub tells_opening : (listed may_stop : Bool) (k : Kept) (n : ℕ) (r : Report) → n ≡ 0 → r ≡ opening_picture (outputs_of k.state.setting.program) → TellsRounds listed may_stop k n r
-tells_opening listed may_stop k n r none is = tells_none listed may_stop k n r none (inl is)
+pub reports_opening : (keeps_events may_stop : Bool) (k : SoFar) (n : ℕ) (r : Report) → n ≡ 0 → r ≡ opening_picture (outputs_of k.state.setting.program) → ReportsRounds keeps_events may_stop k n r
+reports_opening keeps_events may_stop k n r none is = reports_none keeps_events may_stop k n r none (inl is)
 
 -- of one whose run halted after this number of rounds
-pub tells_rounds : (listed may_stop : Bool) (g : Setting) (start raw : List Held) (rest : List Token) (n : ℕ) (before after made : Events) (halt : Halt) (r : Report)
-    → MakesRounds g may_stop n start (delivered rest raw) made (Some halt) → after ≡ logged listed before made
-    → IsReportOf (record { state = record { setting = g; lanes = raw }; events = after }) halt r → TellsRounds listed may_stop (record { state = record { setting = g; lanes = start }; events = before }) n r
-tells_rounds listed may_stop g start raw rest n before after made halt r makes noted told = record {
+pub reports_rounds : (keeps_events may_stop : Bool) (g : Setting) (start raw : List Holding) (rest : List Token) (n : ℕ) (before after made : Events) (halt : Halt) (r : Report)
+    → MakesRounds g may_stop n start (delivered rest raw) made (Some halt) → after ≡ logged keeps_events before made
+    → IsReportOf (record { state = record { setting = g; lanes = raw }; events = after }) halt r → ReportsRounds keeps_events may_stop (record { state = record { setting = g; lanes = start }; events = before }) n r
+reports_rounds keeps_events may_stop g start raw rest n before after made halt r makes noted reported = record {
   last = delivered rest raw;
   made = made;
   halt = halt;
   why = Some halt;
   makes = makes;
   halted = inl refl;
-  told = subst (λ (l : Events). IsReportOf (record { state = coming g raw rest; events = l }) halt r) noted (told_coming g raw rest after halt r told);
+  reported = subst (λ (l : Events). IsReportOf (record {
+    state = arriving g raw rest;
+    events =
+        l;
+  }) halt r) noted (reported_arriving g raw rest after halt r reported);
 }

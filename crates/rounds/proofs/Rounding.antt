@@ -12,7 +12,7 @@ use Rattle.tags.specs.declared.token.Token.{Token}
 use Rattle.semantics.specs.Program.{Program}
 use Rattle.semantics.specs.Machine.{Events}
 use Rattle.element.specs.Near.{IsNearToken}
-use Rattle.element.specs.Held.{Held, Fixed, fixed_of, queued, here, with_queue}
+use Rattle.element.specs.Holding.{Holding, Fixed, fixed_of, queued, here, with_queue}
 use Rattle.element.specs.Steps as one
 use Rattle.schedule.specs.declared.halt.Halt.{Halt}
 use Rattle.schedule.specs.Setting.{Setting}
@@ -25,7 +25,7 @@ use Rattle.std.proofs.lemmas.Bool.{cases_lt}
 use Rattle.lemmas.proofs.Lists.{nothing_before, nothing_after}
 use Rattle.rounds.specs.declared.turn.Turner.{Turner}
 use Rattle.schedule.specs.Steps.{logged}
-use Rattle.rounds.specs.Turns.{by, Turns, Turned, turned_of, TakesTurn, HaltsLane, TookTurn, Round, made_in, helds, all_sent, all_noted, coming}
+use Rattle.rounds.specs.Turns.{by, Turns, Turned, turned_of, TakesTurn, HaltsLane, TookTurn, Round, made_in, helds, all_sent, all_noted, arriving}
 use Rattle.rounds.specs.Rounds.{lane_held, lanes_held, lane_fixed, lanes_fixed, tokens_sent, events_noted, halts_in, IsBetween, IsHalted, Leads, MadeRound}
 use Rattle.rounds.proofs.Turning.{Standing, stands_round, began_round, noted_round, logged_from}
 
@@ -48,19 +48,19 @@ first_stays q ts t e some =
     go [] e = absurd (let no : ⊥ = cc in no)
     go (x ∷ xs) e = e
 
-more_queue : (h : Held) (ts : List Token) → 0 < length h.queue → 0 < length (queued h ts).queue
+more_queue : (h : Holding) (ts : List Token) → 0 < length h.queue → 0 < length (queued h ts).queue
 more_queue h ts some = let l = length-append h.queue (here h.part.shape ts) in omega arith
 
-picks_stay : (h : Held) (ts : List Token) (t : Token) → one.Picks h 0 t → one.Picks (queued h ts) 0 t
+picks_stay : (h : Holding) (ts : List Token) (t : Token) → one.Picks h 0 t → one.Picks (queued h ts) 0 t
 picks_stay h ts t p = record {
   some = more_queue h ts p.some;
   token = first_stays h.queue (here h.part.shape ts) t p.token p.some;
 }
 
-there_queued : (raw : List Held) (ts : List Token) (e : ℕ) (h : Held) → slice_get raw e ≡ Some h → slice_get (delivered ts raw) e ≡ Some (queued h ts)
-there_queued raw ts e h is = slice_get-map (λ (x : Held). queued x ts) raw e ∙ ap (λ (o : Option Held). option_map (λ (x : Held). queued x ts) o) is
+there_queued : (raw : List Holding) (ts : List Token) (e : ℕ) (h : Holding) → slice_get raw e ≡ Some h → slice_get (delivered ts raw) e ≡ Some (queued h ts)
+there_queued raw ts e h is = slice_get-map (λ (x : Holding). queued x ts) raw e ∙ ap (λ (o : Option Holding). option_map (λ (x : Holding). queued x ts) o) is
 
-pub halts_as : (g : Setting) (may_stop : Bool) (raw : List Held) (ts : List Token) (e : ℕ) (h : Held) (halt : Halt) → slice_get raw e ≡ Some h → HaltsLane g.program g.steps may_stop h (Some halt) → IsHalted (coming g raw ts) may_stop halt
+pub halts_as : (g : Setting) (may_stop : Bool) (raw : List Holding) (ts : List Token) (e : ℕ) (h : Holding) (halt : Halt) → slice_get raw e ≡ Some h → HaltsLane g.program g.steps may_stop h (Some halt) → IsHalted (arriving g raw ts) may_stop halt
 halts_as g may_stop raw ts e h Halt.NoToken is halts = absurd halts
 halts_as g may_stop raw ts e h (Halt.Clash cell) is (some, few, clash) =
     inl (e, 0, (queued h ts, (record { there = there_queued raw ts e h is }, more_queue h ts some, few), record { token = clash.token; picks = picks_stay h ts clash.token clash.picks; second = clash.second }))
@@ -73,58 +73,58 @@ halts_as g may_stop raw ts e h Halt.Stop is halts = inr (refl, halts)
 some_some : (o : Option Halt) (halt : Halt) → Some o ≡ Some (Some halt) → o ≡ Some halt
 some_some o halt e = cc
 
-halts_round : (g : Setting) (listed may_stop : Bool) (olds : List Held) (ts : List Turned) (e : ℕ) (halt : Halt) → Round g listed may_stop olds ts → slice_get (map (λ (t : Turned). t.halt) ts) e ≡ Some (Some halt)
-    → (h : Held) × (slice_get (helds ts) e ≡ Some h) × HaltsLane g.program g.steps may_stop h (Some halt)
-halts_round g listed may_stop olds [] e halt round is = absurd (let no : ⊥ = cc in no)
-halts_round g listed may_stop [] (t ∷ ts) e halt round is = absurd round
-halts_round g listed may_stop (o ∷ os) (t ∷ ts) zero halt round is = (t.held, refl, subst (λ (w : Option Halt). HaltsLane g.program g.steps may_stop t.held w) (some_some t.halt halt is) round.0.halts)
-halts_round g listed may_stop (o ∷ os) (t ∷ ts) (suc e) halt round is = halts_round g listed may_stop os ts e halt round.1 is
+halts_round : (g : Setting) (keeps_events may_stop : Bool) (olds : List Holding) (ts : List Turned) (e : ℕ) (halt : Halt) → Round g keeps_events may_stop olds ts → slice_get (map (λ (t : Turned). t.halt) ts) e ≡ Some (Some halt)
+    → (h : Holding) × (slice_get (helds ts) e ≡ Some h) × HaltsLane g.program g.steps may_stop h (Some halt)
+halts_round g keeps_events may_stop olds [] e halt round is = absurd (let no : ⊥ = cc in no)
+halts_round g keeps_events may_stop [] (t ∷ ts) e halt round is = absurd round
+halts_round g keeps_events may_stop (o ∷ os) (t ∷ ts) zero halt round is = (t.held, refl, subst (λ (w : Option Halt). HaltsLane g.program g.steps may_stop t.held w) (some_some t.halt halt is) round.0.halts)
+halts_round g keeps_events may_stop (o ∷ os) (t ∷ ts) (suc e) halt round is = halts_round g keeps_events may_stop os ts e halt round.1 is
 
 -- THE ROUND IN MEMORY
 module _ {C A L : Type 0} where
-  fresh_turn : (p : Program) (steps turns : ℕ) (listed may_stop : Bool) (x : Turner C A L) (t : Turned) → x.sent.items ≡ [] → x.log.events.items ≡ [] → TakesTurn p steps turns listed may_stop (turned_of x) t → TakesTurn p steps turns listed may_stop (record { held = lane_held x; sent = []; log = []; halt = None }) t
-  fresh_turn p steps turns listed may_stop x t sent log turn = record {
+  fresh_turn : (p : Program) (steps turns : ℕ) (keeps_events may_stop : Bool) (x : Turner C A L) (t : Turned) → x.sent.items ≡ [] → x.log.events.items ≡ [] → TakesTurn p steps turns keeps_events may_stop (turned_of x) t → TakesTurn p steps turns keeps_events may_stop (record { held = lane_held x; sent = []; log = []; halt = None }) t
+  fresh_turn p steps turns keeps_events may_stop x t sent log turn = record {
     taken = turn.taken;
     turns = subst (λ (l : List Token). Turns p steps (lane_held x) l turn.taken t.held t.sent) sent turn.turns;
-    noted = turn.noted ∙ ap (λ (l : Events). logged listed l (by (lane_held x).part.shape.element turn.taken)) log;
+    noted = turn.noted ∙ ap (λ (l : Events). logged keeps_events l (by (lane_held x).part.shape.element turn.taken)) log;
     few = turn.few;
     whole = turn.whole;
     halts = turn.halts;
   }
 
-  to_round : (g : Setting) (listed may_stop : Bool) (olds news : List (Turner C A L)) → length news ≡ length olds → tokens_sent olds ≡ [] → events_noted olds ≡ []
-      → ((i : ℕ) (d : Turner C A L) → i < length olds → TakesTurn g.program g.steps g.turn listed may_stop (turned_of (get_or olds i d)) (turned_of (get_or news i d))) → Round g listed may_stop (lanes_held olds) (map turned_of news)
-  to_round g listed may_stop [] [] count sent noted each = tt
-  to_round g listed may_stop [] (y ∷ ys) count sent noted each = absurd (omega (arith, count))
-  to_round g listed may_stop (x ∷ xs) [] count sent noted each = absurd (omega (arith, count))
-  to_round g listed may_stop (x ∷ xs) (y ∷ ys) count sent noted each = (
-    fresh_turn g.program g.steps g.turn listed may_stop x (turned_of y) (nothing_before x.sent.items (tokens_sent xs) sent) (nothing_before x.log.events.items (events_noted xs) noted) (each 0 x (omega arith)),
-    to_round g listed may_stop xs ys (omega arith) (nothing_after x.sent.items (tokens_sent xs) sent) (nothing_after x.log.events.items (events_noted xs) noted) (λ i d low. each (suc i) d (omega arith)),
+  to_round : (g : Setting) (keeps_events may_stop : Bool) (olds news : List (Turner C A L)) → length news ≡ length olds → tokens_sent olds ≡ [] → events_noted olds ≡ []
+      → ((i : ℕ) (d : Turner C A L) → i < length olds → TakesTurn g.program g.steps g.turn keeps_events may_stop (turned_of (get_or olds i d)) (turned_of (get_or news i d))) → Round g keeps_events may_stop (lanes_held olds) (map turned_of news)
+  to_round g keeps_events may_stop [] [] count sent noted each = tt
+  to_round g keeps_events may_stop [] (y ∷ ys) count sent noted each = absurd (omega (arith, count))
+  to_round g keeps_events may_stop (x ∷ xs) [] count sent noted each = absurd (omega (arith, count))
+  to_round g keeps_events may_stop (x ∷ xs) (y ∷ ys) count sent noted each = (
+    fresh_turn g.program g.steps g.turn keeps_events may_stop x (turned_of y) (nothing_before x.sent.items (tokens_sent xs) sent) (nothing_before x.log.events.items (events_noted xs) noted) (each 0 x (omega arith)),
+    to_round g keeps_events may_stop xs ys (omega arith) (nothing_after x.sent.items (tokens_sent xs) sent) (nothing_after x.log.events.items (events_noted xs) noted) (λ i d low. each (suc i) d (omega arith)),
   )
 
   -- the lanes run the code of the machine
-  took : (g : Setting) (listed may_stop : Bool) (olds news : List (Turner C A L)) → All (RunsAs g) (lanes_fixed olds) → ((i : ℕ) (d : Turner C A L) → i < length olds → TookTurn g.turn listed may_stop (get_or olds i d) (get_or news i d))
-      → (i : ℕ) (d : Turner C A L) → i < length olds → TakesTurn g.program g.steps g.turn listed may_stop (turned_of (get_or olds i d)) (turned_of (get_or news i d))
-  took g listed may_stop olds news runs each i d low =
+  took : (g : Setting) (keeps_events may_stop : Bool) (olds news : List (Turner C A L)) → All (RunsAs g) (lanes_fixed olds) → ((i : ℕ) (d : Turner C A L) → i < length olds → TookTurn g.turn keeps_events may_stop (get_or olds i d) (get_or news i d))
+      → (i : ℕ) (d : Turner C A L) → i < length olds → TakesTurn g.program g.steps g.turn keeps_events may_stop (turned_of (get_or olds i d)) (turned_of (get_or news i d))
+  took g keeps_events may_stop olds news runs each i d low =
       let x : Turner C A L = get_or olds i d in
       let y : Turner C A L = get_or news i d in
       let count = length-map olds lane_fixed in
       let within : i < length (lanes_fixed olds) = omega arith in
       let run : RunsAs g (fixed_of x.lane) = subst (λ (f : Fixed). RunsAs g f) (get_or-map lane_fixed olds i d (lane_fixed d) low) (All-get_or (RunsAs g) (lanes_fixed olds) i (lane_fixed d) within runs) in
-      subst (λ (p : Program). TakesTurn p g.steps g.turn listed may_stop (turned_of x) (turned_of y)) run.program
-      (subst (λ (n : ℕ). TakesTurn x.lane.program n g.turn listed may_stop (turned_of x) (turned_of y)) run.steps (each i d low).takes)
+      subst (λ (p : Program). TakesTurn p g.steps g.turn keeps_events may_stop (turned_of x) (turned_of y)) run.program
+      (subst (λ (n : ℕ). TakesTurn x.lane.program n g.turn keeps_events may_stop (turned_of x) (turned_of y)) run.steps (each i d low).takes)
 
-  same_fixed : (turn : ℕ) (listed may_stop : Bool) (olds news : List (Turner C A L)) → length news ≡ length olds → ((i : ℕ) (d : Turner C A L) → i < length olds → TookTurn turn listed may_stop (get_or olds i d) (get_or news i d)) → lanes_fixed news ≡ lanes_fixed olds
-  same_fixed turn listed may_stop [] [] count each = refl
-  same_fixed turn listed may_stop [] (y ∷ ys) count each = absurd (omega (arith, count))
-  same_fixed turn listed may_stop (x ∷ xs) [] count each = absurd (omega (arith, count))
-  same_fixed turn listed may_stop (x ∷ xs) (y ∷ ys) count each =
+  same_fixed : (turn : ℕ) (keeps_events may_stop : Bool) (olds news : List (Turner C A L)) → length news ≡ length olds → ((i : ℕ) (d : Turner C A L) → i < length olds → TookTurn turn keeps_events may_stop (get_or olds i d) (get_or news i d)) → lanes_fixed news ≡ lanes_fixed olds
+  same_fixed turn keeps_events may_stop [] [] count each = refl
+  same_fixed turn keeps_events may_stop [] (y ∷ ys) count each = absurd (omega (arith, count))
+  same_fixed turn keeps_events may_stop (x ∷ xs) [] count each = absurd (omega (arith, count))
+  same_fixed turn keeps_events may_stop (x ∷ xs) (y ∷ ys) count each =
       ap (λ (f : Fixed). f ∷ lanes_fixed ys) (each 0 x (omega arith)).fixed
-      ∙ ap (λ (l : List Fixed). lane_fixed x ∷ l) (same_fixed turn listed may_stop xs ys (omega arith) (λ i d low. each (suc i) d (omega arith)))
+      ∙ ap (λ (l : List Fixed). lane_fixed x ∷ l) (same_fixed turn keeps_events may_stop xs ys (omega arith) (λ i d low. each (suc i) d (omega arith)))
 
   helds_are : (ts : List (Turner C A L)) → helds (map turned_of ts) ≡ lanes_held ts
   helds_are [] = refl
-  helds_are (t ∷ ts) = ap (λ (l : List Held). lane_held t ∷ l) (helds_are ts)
+  helds_are (t ∷ ts) = ap (λ (l : List Holding). lane_held t ∷ l) (helds_are ts)
 
   sent_are : (ts : List (Turner C A L)) → all_sent (map turned_of ts) ≡ tokens_sent ts
   sent_are [] = refl
@@ -138,40 +138,40 @@ module _ {C A L : Type 0} where
   halts_are [] = refl
   halts_are (t ∷ ts) = ap (λ (l : List (Option Halt)). t.halt ∷ l) (halts_are ts)
 
-  module _ (g : Setting) (listed may_stop : Bool) (olds news : List (Turner C A L)) (between : IsBetween g olds) (count : length news ≡ length olds) (each : (i : ℕ) (d : Turner C A L) → i < length olds → TakesTurn g.program g.steps g.turn listed may_stop (turned_of (get_or olds i d)) (turned_of (get_or news i d))) where
-    pub round : Round g listed may_stop (lanes_held olds) (map turned_of news)
-    round = to_round g listed may_stop olds news count between.sent between.noted each
+  module _ (g : Setting) (keeps_events may_stop : Bool) (olds news : List (Turner C A L)) (between : IsBetween g olds) (count : length news ≡ length olds) (each : (i : ℕ) (d : Turner C A L) → i < length olds → TakesTurn g.program g.steps g.turn keeps_events may_stop (turned_of (get_or olds i d)) (turned_of (get_or news i d))) where
+    pub round : Round g keeps_events may_stop (lanes_held olds) (map turned_of news)
+    round = to_round g keeps_events may_stop olds news count between.sent between.noted each
 
     standing : Standing g (lanes_held olds) []
     standing = record {
       good = between.sound.setting;
-      count = sym (length-map (lanes_held olds) (λ (h : Held). queued h [])) ∙ between.sound.count;
-      sound = subst (λ (l : List Held). AllFrom (IsPlaced g) 0 l) (delivered_none (lanes_held olds)) between.sound.lanes;
+      count = sym (length-map (lanes_held olds) (λ (h : Holding). queued h [])) ∙ between.sound.count;
+      sound = subst (λ (l : List Holding). AllFrom (IsPlaced g) 0 l) (delivered_none (lanes_held olds)) between.sound.lanes;
       near = All-nil (IsNearToken (bounds_in g));
     }
 
     stood : Standing g (lanes_held news) (tokens_sent news)
-    stood = subst (λ (l : List Held). Standing g l (tokens_sent news)) (helds_are news) (subst (λ (l : List Token). Standing g (helds (map turned_of news)) l) (sent_are news) (stands_round g listed may_stop 0 [] (lanes_held olds) (map turned_of news) [] refl standing round))
+    stood = subst (λ (l : List Holding). Standing g l (tokens_sent news)) (helds_are news) (subst (λ (l : List Token). Standing g (helds (map turned_of news)) l) (sent_are news) (stands_round g keeps_events may_stop 0 [] (lanes_held olds) (map turned_of news) [] refl standing round))
 
-    pub sound_then : IsSoundState (coming g (lanes_held news) (tokens_sent news))
+    pub sound_then : IsSoundState (arriving g (lanes_held news) (tokens_sent news))
     sound_then = delivered_sound (record { setting = g; lanes = lanes_held news }) (tokens_sent news) stood.near (record { setting = stood.good; count = stood.count; lanes = stood.sound })
 
     abbrev pub made : Events
-    made = made_in g listed may_stop (lanes_held olds) (map turned_of news) round
+    made = made_in g keeps_events may_stop (lanes_held olds) (map turned_of news) round
 
-    pub noted_then : events_noted news ≡ logged listed [] made
-    noted_then = sym (noted_are news) ∙ noted_round g listed may_stop (lanes_held olds) (map turned_of news) round
+    pub noted_then : events_noted news ≡ logged keeps_events [] made
+    noted_then = sym (noted_are news) ∙ noted_round g keeps_events may_stop (lanes_held olds) (map turned_of news) round
 
     pub began_then : Leads g olds news (tokens_sent news) made
     began_then inputs evs b =
-        let all = began_round inputs g listed may_stop 0 [] (lanes_held olds) (map turned_of news) [] evs refl standing round b in
-        subst (λ (l : List Held). Began inputs (coming g l (tokens_sent news)) (evs ++ made)) (helds_are news)
-        (subst (λ (l : List Token). Began inputs (coming g (helds (map turned_of news)) l) (evs ++ made)) (sent_are news) all)
+        let all = began_round inputs g keeps_events may_stop 0 [] (lanes_held olds) (map turned_of news) [] evs refl standing round b in
+        subst (λ (l : List Holding). Began inputs (arriving g l (tokens_sent news)) (evs ++ made)) (helds_are news)
+        (subst (λ (l : List Token). Began inputs (arriving g (helds (map turned_of news)) l) (evs ++ made)) (sent_are news) all)
 
-    pub halts_then : (e : ℕ) (halt : Halt) → slice_get (halts_in news) e ≡ Some (Some halt) → IsHalted (coming g (lanes_held news) (tokens_sent news)) may_stop halt
+    pub halts_then : (e : ℕ) (halt : Halt) → slice_get (halts_in news) e ≡ Some (Some halt) → IsHalted (arriving g (lanes_held news) (tokens_sent news)) may_stop halt
     halts_then e halt is =
-        let found = halts_round g listed may_stop (lanes_held olds) (map turned_of news) e halt round (subst (λ (l : List (Option Halt)). slice_get l e ≡ Some (Some halt)) (sym (halts_are news)) is) in
-        halts_as g may_stop (lanes_held news) (tokens_sent news) e found.0 halt (subst (λ (l : List Held). slice_get l e ≡ Some found.0) (helds_are news) found.1) found.2
+        let found = halts_round g keeps_events may_stop (lanes_held olds) (map turned_of news) e halt round (subst (λ (l : List (Option Halt)). slice_get l e ≡ Some (Some halt)) (sym (halts_are news)) is) in
+        halts_as g may_stop (lanes_held news) (tokens_sent news) e found.0 halt (subst (λ (l : List Holding). slice_get l e ≡ Some found.0) (helds_are news) found.1) found.2
 
   pub held_at : (ts : List (Turner C A L)) (i : ℕ) (x : Turner C A L) → i < length ts → x ≡ get_or ts i x → slice_get (lanes_held ts) i ≡ Some (lane_held x)
   held_at ts i x low is = slice_get-map lane_held ts i ∙ ap (λ (o : Option (Turner C A L)). option_map lane_held o) (slice_get_read ts (length ts) i x refl low is)
@@ -180,13 +180,13 @@ module _ {C A L : Type 0} where
       → lane_held new ≡ with_queue (lane_held x) (x.lane.held.queue ++ t ∷ []) → lanes_held (slice_set ts i new) ≡ delivered (t ∷ []) (lanes_held ts)
   received ts n i x new t all at low is e =
       let place : element_of n t.to ≡ 0 + i = omega arith in
-      map-set lane_held ts i new ∙ ap (λ (h : Held). slice_set (lanes_held ts) i h) e ∙ sym (delivered_one n 0 (lanes_held ts) i t (lane_held x) all place (held_at ts i x low is))
+      map-set lane_held ts i new ∙ ap (λ (h : Holding). slice_set (lanes_held ts) i h) e ∙ sym (delivered_one n 0 (lanes_held ts) i t (lane_held x) all place (held_at ts i x low is))
 
   -- one more token has come
-  pub come_more : (items new : List (Turner C A L)) (sent : List Token) (k : ℕ) (t : Token) → k < length sent → t ≡ get_or sent k t → lanes_held new ≡ delivered (t ∷ []) (lanes_held items)
+  pub arrived_more : (items new : List (Turner C A L)) (sent : List Token) (k : ℕ) (t : Token) → k < length sent → t ≡ get_or sent k t → lanes_held new ≡ delivered (t ∷ []) (lanes_held items)
       → delivered (drop (k + 1) sent) (lanes_held new) ≡ delivered (drop k sent) (lanes_held items)
-  come_more items new sent k t low is e =
-      ap (λ (l : List Held). delivered (drop (k + 1) sent) l) e ∙ delivered_twice (t ∷ []) (drop (k + 1) sent) (lanes_held items)
+  arrived_more items new sent k t low is e =
+      ap (λ (l : List Holding). delivered (drop (k + 1) sent) l) e ∙ delivered_twice (t ∷ []) (drop (k + 1) sent) (lanes_held items)
       ∙ ap (λ (l : List Token). delivered l (lanes_held items)) (ap (λ (u : Token). u ∷ drop (k + 1) sent) is ∙ sym (drop_more sent k t low))
 
   pub halt_at : (ts : List (Turner C A L)) (i : ℕ) (d : Turner C A L) (halt : Halt) → i < length ts → (get_or ts i d).halt ≡ Some halt → slice_get (halts_in ts) i ≡ Some (Some halt)
@@ -207,13 +207,14 @@ module _ {C A L : Type 0} where
       by_place (inl l) = before i l
       by_place (inr l) = let here : i ≡ k = omega arith in subst (λ (n : ℕ). slice_get (halts_in ts) n ≡ Some None) (sym here) (none_at ts k low none)
 
-  queue_at : (ts : List (Turner C A L)) (i : ℕ) (d : Turner C A L) (h : Held) → slice_get (lanes_held ts) i ≡ Some h → h.queue ≡ (get_or ts i d).lane.held.queue
+  queue_at : (ts : List (Turner C A L)) (i : ℕ) (d : Turner C A L) (h : Holding) → slice_get (lanes_held ts) i ≡ Some h
+      → h.queue ≡ (get_or ts i d).lane.held.queue
   queue_at [] i d h is = absurd (let no : ⊥ = cc in no)
-  queue_at (t ∷ ts) zero d h is = let same : lane_held t ≡ h = cc in sym (ap (λ (x : Held). x.queue) same)
+  queue_at (t ∷ ts) zero d h is = let same : lane_held t ≡ h = cc in sym (ap (λ (x : Holding). x.queue) same)
   queue_at (t ∷ ts) (suc i) d h is = queue_at ts i d h is
 
-  pub idle_more : (ts : List (Turner C A L)) (k : ℕ) (d : Turner C A L) → length (get_or ts k d).lane.held.queue ≡ 0 → ((i : ℕ) (h : Held) → i < k → slice_get (lanes_held ts) i ≡ Some h → h.queue ≡ [])
-      → (i : ℕ) (h : Held) → i < k + 1 → slice_get (lanes_held ts) i ≡ Some h → h.queue ≡ []
+  pub idle_more : (ts : List (Turner C A L)) (k : ℕ) (d : Turner C A L) → length (get_or ts k d).lane.held.queue ≡ 0 → ((i : ℕ) (h : Holding) → i < k → slice_get (lanes_held ts) i ≡ Some h → h.queue ≡ [])
+      → (i : ℕ) (h : Holding) → i < k + 1 → slice_get (lanes_held ts) i ≡ Some h → h.queue ≡ []
   idle_more ts k d none before i h low is = by_place (cases_lt i k)
     where
       by_place : (i < k) ⊎ (k ≤ i) → h.queue ≡ []
@@ -232,28 +233,28 @@ module _ {C A L : Type 0} where
       let m = some_token ts k d (omega arith) some in
       omega (arith, l, m)
 
-  pub idle_all : (ts : List (Turner C A L)) (k : ℕ) → length ts ≤ k → ((i : ℕ) (h : Held) → i < k → slice_get (lanes_held ts) i ≡ Some h → h.queue ≡ []) → tokens_in (lanes_held ts) ≡ []
+  pub idle_all : (ts : List (Turner C A L)) (k : ℕ) → length ts ≤ k → ((i : ℕ) (h : Holding) → i < k → slice_get (lanes_held ts) i ≡ Some h → h.queue ≡ []) → tokens_in (lanes_held ts) ≡ []
   idle_all ts k past none = tokens_none (lanes_held ts) (λ i h low is. none i h (let l = length-map ts lane_held in omega arith) is)
 
   -- the turns, and what was gathered of them
-  pub made_round : (g : Setting) (listed may_stop : Bool) (olds news last : List (Turner C A L)) (before after : Events) (tokens : List Token) → IsBetween g olds → length news ≡ length olds
-      → ((i : ℕ) (d : Turner C A L) → i < length olds → TookTurn g.turn listed may_stop (get_or olds i d) (get_or news i d))
+  pub made_round : (g : Setting) (keeps_events may_stop : Bool) (olds news last : List (Turner C A L)) (before after : Events) (tokens : List Token) → IsBetween g olds → length news ≡ length olds
+      → ((i : ℕ) (d : Turner C A L) → i < length olds → TookTurn g.turn keeps_events may_stop (get_or olds i d) (get_or news i d))
       → lanes_held last ≡ lanes_held news → lanes_fixed last ≡ lanes_fixed news → halts_in last ≡ halts_in news → tokens ≡ tokens_sent news → after ≡ before ++ events_noted news → events_noted last ≡ [] → length last ≡ length olds
-      → MadeRound g listed may_stop olds before last after tokens
-  made_round g listed may_stop olds news last before after tokens between count took_turn lanes fixed halts sent events none length_is =
-      let each = took g listed may_stop olds news between.runs took_turn in
-      let same : coming g (lanes_held news) (tokens_sent news) ≡ coming g (lanes_held last) tokens = ap (λ (l : List Held). coming g l (tokens_sent news)) (sym lanes) ∙ ap (λ (l : List Token). coming g (lanes_held last) l) (sym sent) in
+      → MadeRound g keeps_events may_stop olds before last after tokens
+  made_round g keeps_events may_stop olds news last before after tokens between count took_turn lanes fixed halts sent events none length_is =
+      let each = took g keeps_events may_stop olds news between.runs took_turn in
+      let same : arriving g (lanes_held news) (tokens_sent news) ≡ arriving g (lanes_held last) tokens = ap (λ (l : List Holding). arriving g l (tokens_sent news)) (sym lanes) ∙ ap (λ (l : List Token). arriving g (lanes_held last) l) (sym sent) in
       record {
-        runs = subst (λ (l : List Fixed). All (RunsAs g) l) (sym (fixed ∙ same_fixed g.turn listed may_stop olds news count took_turn)) between.runs;
-        sound = subst (λ (s : State). IsSoundState s) same (sound_then g listed may_stop olds news between count each);
-        made = made g listed may_stop olds news between count each;
-        noted = events ∙ ap (λ (l : Events). before ++ l) (noted_then g listed may_stop olds news between count each) ∙ logged_from listed before (made g listed may_stop olds news between count each);
-        leads = λ inputs evs b. subst (λ (s : State). Began inputs s (evs ++ made g listed may_stop olds news between count each)) same (began_then g listed may_stop olds news between count each inputs evs b);
-        halts = λ e halt is. subst (λ (s : State). IsHalted s may_stop halt) same (halts_then g listed may_stop olds news between count each e halt (subst (λ (l : List (Option Halt)). slice_get l e ≡ Some (Some halt)) halts is));
+        runs = subst (λ (l : List Fixed). All (RunsAs g) l) (sym (fixed ∙ same_fixed g.turn keeps_events may_stop olds news count took_turn)) between.runs;
+        sound = subst (λ (s : State). IsSoundState s) same (sound_then g keeps_events may_stop olds news between count each);
+        made = made g keeps_events may_stop olds news between count each;
+        noted = events ∙ ap (λ (l : Events). before ++ l) (noted_then g keeps_events may_stop olds news between count each) ∙ logged_from keeps_events before (made g keeps_events may_stop olds news between count each);
+        leads = λ inputs evs b. subst (λ (s : State). Began inputs s (evs ++ made g keeps_events may_stop olds news between count each)) same (began_then g keeps_events may_stop olds news between count each inputs evs b);
+        halts = λ e halt is. subst (λ (s : State). IsHalted s may_stop halt) same (halts_then g keeps_events may_stop olds news between count each e halt (subst (λ (l : List (Option Halt)). slice_get l e ≡ Some (Some halt)) halts is));
         cleared = none;
         count = length_is;
         turned = map turned_of news;
-        round = round g listed may_stop olds news between count each;
+        round = round g keeps_events may_stop olds news between count each;
         events = refl;
         lanes = lanes ∙ sym (helds_are news);
         sent = sent ∙ sym (sent_are news);

@@ -7,7 +7,7 @@ use Rattle.tags.specs.declared.token.Token.{Token}
 use Rattle.semantics.specs.Program.{Program}
 use Rattle.semantics.specs.Machine.{Events}
 use Rattle.element.specs.Near.{IsNearToken}
-use Rattle.element.specs.Held.{Held, IsSoundLane}
+use Rattle.element.specs.Holding.{Holding, IsSoundLane}
 use Rattle.element.specs.Steps as one
 use Rattle.schedule.specs.Setting.{Setting, IsGoodSetting}
 use Rattle.schedule.specs.State.{AllFrom, IsPlaced}
@@ -16,133 +16,135 @@ use Rattle.schedule.proofs.Places.{first_get, first_set}
 use Rattle.schedule.proofs.Tokens.{set_same}
 use Rattle.schedule.proofs.Stepping.{bounds_in}
 use Rattle.schedule.specs.Steps.{logged}
-use Rattle.rounds.specs.Turns.{by, Turns, Turned, Round, made_in, helds, all_sent, all_noted, coming}
+use Rattle.rounds.specs.Turns.{by, Turns, Turned, Round, made_in, helds, all_sent, all_noted, arriving}
 use Rattle.rounds.proofs.Going.{began_one, near_sent, next_placed}
 
 -- one event more at the end of a turn
-pub turns_more : (p : Program) (steps : ℕ) (old : Held) (before : List Token) (ts : List Token) (mid : Held) (sent : List Token) (next : Held) (after : List Token) → Turns p steps old before ts mid sent
+pub turns_more : (p : Program) (steps : ℕ) (old : Holding) (before : List Token) (ts : List Token) (mid : Holding) (sent : List Token) (next : Holding) (after : List Token) → Turns p steps old before ts mid sent
     → (does : one.Does p mid 0 sent next after) → mid.made < steps → IsSoundLane p next → Turns p steps old before (ts ++ does.token ∷ []) next after
 turns_more p steps old before [] mid sent next after so_far does few sound =
-    subst (λ (h : Held). Turns p steps h before (does.token ∷ []) next after) so_far.0
+    subst (λ (h : Holding). Turns p steps h before (does.token ∷ []) next after) so_far.0
     (subst (λ (l : List Token). Turns p steps mid l (does.token ∷ []) next after) so_far.1 (next, after, does, refl, few, sound, (refl, refl)))
 turns_more p steps old before (t ∷ ts) mid sent next after (m, s, d, is, low, good, rest) does few sound = (m, s, d, is, low, good, turns_more p steps m s ts mid sent next after rest does few sound)
 
-get_set : (xs : List Held) (i : ℕ) (x y : Held) → slice_get xs i ≡ Some x → slice_get (slice_set xs i y) i ≡ Some y
+get_set : (xs : List Holding) (i : ℕ) (x y : Holding) → slice_get xs i ≡ Some x → slice_get (slice_set xs i y) i ≡ Some y
 get_set [] i x y e = absurd (let no : ⊥ = cc in no)
 get_set (z ∷ zs) zero x y e = refl
 get_set (z ∷ zs) (suc i) x y e = get_set zs i x y e
 
-set_twice : (xs : List Held) (i : ℕ) (x y : Held) → slice_set (slice_set xs i x) i y ≡ slice_set xs i y
+set_twice : (xs : List Holding) (i : ℕ) (x y : Holding) → slice_set (slice_set xs i x) i y ≡ slice_set xs i y
 set_twice [] i x y = refl
 set_twice (z ∷ zs) zero x y = refl
-set_twice (z ∷ zs) (suc i) x y = ap (λ (l : List Held). z ∷ l) (set_twice zs i x y)
+set_twice (z ∷ zs) (suc i) x y = ap (λ (l : List Holding). z ∷ l) (set_twice zs i x y)
 
 -- What happened is known after a turn, and what it made is near.
-pub began_turn : (inputs : List ℤ) (g : Setting) (good : IsGoodSetting g) (e : ℕ) (others : List Token) (ts : List Token) (raw : List Held) (lane new : Held) (before after : List Token) → length raw ≡ g.elements → AllFrom (IsPlaced g) 0 raw
-    → slice_get raw e ≡ Some lane → Turns g.program g.steps lane before ts new after → (evs : Events) → Began inputs (coming g raw (others ++ before)) evs
-    → Began inputs (coming g (slice_set raw e new) (others ++ after)) (evs ++ by e ts)
+pub began_turn : (inputs : List ℤ) (g : Setting) (good : IsGoodSetting g) (e : ℕ) (others : List Token) (ts : List Token) (raw : List Holding) (lane new : Holding) (before after : List Token) → length raw ≡ g.elements → AllFrom (IsPlaced g) 0 raw
+    → slice_get raw e ≡ Some lane → Turns g.program g.steps lane before ts new after → (evs : Events) → Began inputs (arriving g raw (others ++ before)) evs
+    → Began inputs (arriving g (slice_set raw e new) (others ++ after)) (evs ++ by e ts)
 began_turn inputs g good e others [] raw lane new before after count sound there turns evs b =
-    let lanes : raw ≡ slice_set raw e new = sym (set_same raw e lane there) ∙ ap (λ (h : Held). slice_set raw e h) (sym turns.0) in
-    let one : Began inputs (coming g (slice_set raw e new) (others ++ before)) evs = subst (λ (l : List Held). Began inputs (coming g l (others ++ before)) evs) lanes b in
-    let two : Began inputs (coming g (slice_set raw e new) (others ++ after)) evs = subst (λ (l : List Token). Began inputs (coming g (slice_set raw e new) (others ++ l)) evs) (sym turns.1) one in
-    subst (λ (l : Events). Began inputs (coming g (slice_set raw e new) (others ++ after)) l) (sym (append-nil evs)) two
+    let lanes : raw ≡ slice_set raw e new = sym (set_same raw e lane there) ∙ ap (λ (h : Holding). slice_set raw e h) (sym turns.0) in
+    let one : Began inputs (arriving g (slice_set raw e new) (others ++ before)) evs = subst (λ (l : List Holding). Began inputs (arriving g l (others ++ before)) evs) lanes b in
+    let two : Began inputs (arriving g (slice_set raw e new) (others ++ after)) evs = subst (λ (l : List Token). Began inputs (arriving g (slice_set raw e new) (others ++ l)) evs) (sym turns.1) one in
+    subst (λ (l : Events). Began inputs (arriving g (slice_set raw e new) (others ++ after)) l) (sym (append-nil evs)) two
 began_turn inputs g good e others (t ∷ ts) raw lane new before after count sound there (mid, sent, does, is, few, mid_sound, rest) evs b =
-    let set : List Held = slice_set raw e mid in
+    let set : List Holding = slice_set raw e mid in
     let made : mid.made ≤ g.steps = (let c = does.count in omega arith) in
     let placed : AllFrom (IsPlaced g) 0 set = first_set (IsPlaced g) raw e mid sound (next_placed g good raw count sound e lane mid others before sent there does mid_sound made) in
-    let one : Began inputs (coming g set (others ++ sent)) (evs ++ (e, does.token) ∷ []) = began_one inputs g good raw count sound e lane mid others before sent there does evs b in
+    let one : Began inputs (arriving g set (others ++ sent)) (evs ++ (e, does.token) ∷ []) = began_one inputs g good raw count sound e lane mid others before sent there does evs b in
     let now : Events = evs ++ (e, t) ∷ [] in
-    let here : Began inputs (coming g set (others ++ sent)) now = subst (λ (u : Token). Began inputs (coming g set (others ++ sent)) (evs ++ (e, u) ∷ [])) is one in
-    let all : Began inputs (coming g (slice_set set e new) (others ++ after)) (now ++ by e ts) = began_turn inputs g good e others ts set mid new sent after (length-set raw e mid ∙ count) placed (get_set raw e lane mid there) rest now here in
-    let last : Began inputs (coming g (slice_set raw e new) (others ++ after)) (now ++ by e ts) = subst (λ (l : List Held). Began inputs (coming g l (others ++ after)) (now ++ by e ts)) (set_twice raw e mid new) all in
-    subst (λ (l : Events). Began inputs (coming g (slice_set raw e new) (others ++ after)) l) (append_assoc evs ((e, t) ∷ []) (by e ts)) last
+    let here : Began inputs (arriving g set (others ++ sent)) now = subst (λ (u : Token). Began inputs (arriving g set (others ++ sent)) (evs ++ (e, u) ∷ [])) is one in
+    let all : Began inputs (arriving g (slice_set set e new) (others ++ after)) (now ++ by e ts) = began_turn inputs g good e others ts set mid new sent after (length-set raw e mid ∙ count) placed (get_set raw e lane mid there) rest now here in
+    let last : Began inputs (arriving g (slice_set raw e new) (others ++ after)) (now ++ by e ts) = subst (λ (l : List Holding). Began inputs (arriving g l (others ++ after)) (now ++ by e ts)) (set_twice raw e mid new) all in
+    subst (λ (l : Events). Began inputs (arriving g (slice_set raw e new) (others ++ after)) l) (append_assoc evs ((e, t) ∷ []) (by e ts)) last
 
 -- the lane is as sound after a turn, and all that it made is near
-pub placed_turn : (g : Setting) (good : IsGoodSetting g) (e : ℕ) (ts : List Token) (raw : List Held) (lane new : Held) (before after : List Token) → length raw ≡ g.elements → AllFrom (IsPlaced g) 0 raw
+pub placed_turn : (g : Setting) (good : IsGoodSetting g) (e : ℕ) (ts : List Token) (raw : List Holding) (lane new : Holding) (before after : List Token) → length raw ≡ g.elements → AllFrom (IsPlaced g) 0 raw
     → slice_get raw e ≡ Some lane → Turns g.program g.steps lane before ts new after → All (IsNearToken (bounds_in g)) before → IsPlaced g e new × All (IsNearToken (bounds_in g)) after
 placed_turn g good e [] raw lane new before after count sound there turns near =
-    (subst (λ (h : Held). IsPlaced g e h) (sym turns.0) (first_get (IsPlaced g) raw e lane sound there), subst (λ (l : List Token). All (IsNearToken (bounds_in g)) l) (sym turns.1) near)
+    (subst (λ (h : Holding). IsPlaced g e h) (sym turns.0) (first_get (IsPlaced g) raw e lane sound there), subst (λ (l : List Token). All (IsNearToken (bounds_in g)) l) (sym turns.1) near)
 placed_turn g good e (t ∷ ts) raw lane new before after count sound there (mid, sent, does, is, few, mid_sound, rest) near =
-    let set : List Held = slice_set raw e mid in
+    let set : List Holding = slice_set raw e mid in
     let made : mid.made ≤ g.steps = (let c = does.count in omega arith) in
     let placed : AllFrom (IsPlaced g) 0 set = first_set (IsPlaced g) raw e mid sound (next_placed g good raw count sound e lane mid [] before sent there does mid_sound made) in
     placed_turn g good e ts set mid new sent after (length-set raw e mid ∙ count) placed (get_set raw e lane mid there) rest (near_sent g good raw count sound e lane mid [] before sent there does near)
 
 -- A ROUND
-get_next : (done : List Held) (x : Held) (xs : List Held) → slice_get (done ++ x ∷ xs) (length done) ≡ Some x
+get_next : (done : List Holding) (x : Holding) (xs : List Holding) → slice_get (done ++ x ∷ xs) (length done) ≡ Some x
 get_next [] x xs = refl
 get_next (d ∷ ds) x xs = get_next ds x xs
 
-set_next : (done : List Held) (x y : Held) (xs : List Held) → slice_set (done ++ x ∷ xs) (length done) y ≡ (done ++ y ∷ []) ++ xs
+set_next : (done : List Holding) (x y : Holding) (xs : List Holding) → slice_set (done ++ x ∷ xs) (length done) y ≡ (done ++ y ∷ []) ++ xs
 set_next [] x y xs = refl
-set_next (d ∷ ds) x y xs = ap (λ (l : List Held). d ∷ l) (set_next ds x y xs)
+set_next (d ∷ ds) x y xs = ap (λ (l : List Holding). d ∷ l) (set_next ds x y xs)
 
-pub record Standing (g : Setting) (raw : List Held) (others : List Token) : Type 0 where
+pub record Standing (g : Setting) (raw : List Holding) (others : List Token) : Type 0 where
   pub good : IsGoodSetting g
   pub count : length raw ≡ g.elements
   pub sound : AllFrom (IsPlaced g) 0 raw
   pub near : All (IsNearToken (bounds_in g)) others
 
 -- Each of the lanes from the k-th on took its turn, one after the other.
-pub stands_round : (g : Setting) (listed may_stop : Bool) (k : ℕ) (done : List Held) (olds : List Held) (ts : List Turned) (others : List Token) → length done ≡ k → Standing g (done ++ olds) others → (round : Round g listed may_stop olds ts)
+pub stands_round : (g : Setting) (keeps_events may_stop : Bool) (k : ℕ) (done : List Holding) (olds : List Holding) (ts : List Turned) (others : List Token) → length done ≡ k → Standing g (done ++ olds) others → (round : Round g keeps_events may_stop olds ts)
     → Standing g (done ++ helds ts) (others ++ all_sent ts)
-stands_round g listed may_stop k done [] [] others at s round = record {
+stands_round g keeps_events may_stop k done [] [] others at s round = record {
   good = s.good;
   count = s.count;
   sound = s.sound;
   near = subst (λ (l : List Token). All (IsNearToken (bounds_in g)) l) (sym (append-nil others)) s.near;
 }
-stands_round g listed may_stop k done [] (t ∷ ts) others at s round = absurd round
-stands_round g listed may_stop k done (h ∷ hs) [] others at s round = absurd round
-stands_round g listed may_stop k done (h ∷ hs) (t ∷ ts) others at s (turn, rest) =
-    let raw : List Held = done ++ h ∷ hs in
+stands_round g keeps_events may_stop k done [] (t ∷ ts) others at s round = absurd round
+stands_round g keeps_events may_stop k done (h ∷ hs) [] others at s round = absurd round
+stands_round g keeps_events may_stop k done (h ∷ hs) (t ∷ ts) others at s (turn, rest) =
+    let raw : List Holding = done ++ h ∷ hs in
     let there : slice_get raw k ≡ Some h = subst (λ (n : ℕ). slice_get raw n ≡ Some h) at (get_next done h hs) in
     let both = placed_turn g s.good k turn.taken raw h t.held [] t.sent s.count s.sound there turn.turns (All-nil (IsNearToken (bounds_in g))) in
     let set : slice_set raw k t.held ≡ (done ++ t.held ∷ []) ++ hs = subst (λ (n : ℕ). slice_set raw n t.held ≡ (done ++ t.held ∷ []) ++ hs) at (set_next done h t.held hs) in
-    let next : Standing g ((done ++ t.held ∷ []) ++ hs) (others ++ t.sent) = subst (λ (l : List Held). Standing g l (others ++ t.sent)) set (record {
+    let next : Standing g ((done ++ t.held ∷ []) ++ hs) (others ++ t.sent) = subst (λ (l : List Holding). Standing g l (others ++ t.sent)) set (record {
       good = s.good;
       count = length-set raw k t.held ∙ s.count;
       sound = first_set (IsPlaced g) raw k t.held s.sound both.0;
       near = All-append (IsNearToken (bounds_in g)) others t.sent s.near both.1;
     }) in
     let at_next : length (done ++ t.held ∷ []) ≡ suc k = (let l = length-append done (t.held ∷ []) in omega arith) in
-    let all : Standing g ((done ++ t.held ∷ []) ++ helds ts) ((others ++ t.sent) ++ all_sent ts) = stands_round g listed may_stop (suc k) (done ++ t.held ∷ []) hs ts (others ++ t.sent) at_next next rest in
-    subst (λ (l : List Held). Standing g l (others ++ all_sent (t ∷ ts))) (append_assoc done (t.held ∷ []) (helds ts))
+    let all : Standing g ((done ++ t.held ∷ []) ++ helds ts) ((others ++ t.sent) ++ all_sent ts) = stands_round g keeps_events may_stop (suc k) (done ++ t.held ∷ []) hs ts (others ++ t.sent) at_next next rest in
+    subst (λ (l : List Holding). Standing g l (others ++ all_sent (t ∷ ts))) (append_assoc done (t.held ∷ []) (helds ts))
     (subst (λ (l : List Token). Standing g ((done ++ t.held ∷ []) ++ helds ts) l) (append_assoc others t.sent (all_sent ts)) all)
 
-pub began_round : (inputs : List ℤ) (g : Setting) (listed may_stop : Bool) (k : ℕ) (done : List Held) (olds : List Held) (ts : List Turned) (others : List Token) (evs : Events) → length done ≡ k → Standing g (done ++ olds) others → (round : Round g listed may_stop olds ts)
-    → Began inputs (coming g (done ++ olds) others) evs → Began inputs (coming g (done ++ helds ts) (others ++ all_sent ts)) (evs ++ made_in g listed may_stop olds ts round)
-began_round inputs g listed may_stop k done [] [] others evs at s round b =
-    subst (λ (l : Events). Began inputs (coming g (done ++ []) (others ++ [])) l) (sym (append-nil evs))
-    (subst (λ (l : List Token). Began inputs (coming g (done ++ []) l) evs) (sym (append-nil others)) b)
-began_round inputs g listed may_stop k done [] (t ∷ ts) others evs at s round b = absurd round
-began_round inputs g listed may_stop k done (h ∷ hs) [] others evs at s round b = absurd round
-began_round inputs g listed may_stop k done (h ∷ hs) (t ∷ ts) others evs at s (turn, rest) b =
-    let raw : List Held = done ++ h ∷ hs in
+pub began_round : (inputs : List ℤ) (g : Setting) (keeps_events may_stop : Bool) (k : ℕ) (done : List Holding) (olds : List Holding) (ts : List Turned) (others : List Token) (evs : Events) → length done ≡ k → Standing g (done ++ olds) others → (round : Round g keeps_events may_stop olds ts)
+    → Began inputs (arriving g (done ++ olds) others) evs → Began inputs (arriving g (done ++ helds ts) (others ++ all_sent ts)) (evs ++ made_in g keeps_events may_stop olds ts round)
+began_round inputs g keeps_events may_stop k done [] [] others evs at s round b =
+    subst (λ (l : Events). Began inputs (arriving g (done ++ []) (others ++ [])) l) (sym (append-nil evs))
+    (subst (λ (l : List Token). Began inputs (arriving g (done ++ []) l) evs) (sym (append-nil others)) b)
+began_round inputs g keeps_events may_stop k done [] (t ∷ ts) others evs at s round b = absurd round
+began_round inputs g keeps_events may_stop k done (h ∷ hs) [] others evs at s round b = absurd round
+began_round inputs g keeps_events may_stop k done (h ∷ hs) (t ∷ ts) others evs at s (turn, rest) b =
+    let raw : List Holding = done ++ h ∷ hs in
     let there : slice_get raw k ≡ Some h = subst (λ (n : ℕ). slice_get raw n ≡ Some h) at (get_next done h hs) in
     let element : h.part.shape.element ≡ k = (first_get (IsPlaced g) raw k h s.sound there).element in
     let e : ℕ = h.part.shape.element in
     let noted : by k turn.taken ≡ by e turn.taken = ap (λ (n : ℕ). by n turn.taken) (sym element) in
     let set : slice_set raw k t.held ≡ (done ++ t.held ∷ []) ++ hs = subst (λ (n : ℕ). slice_set raw n t.held ≡ (done ++ t.held ∷ []) ++ hs) at (set_next done h t.held hs) in
-    let start : Began inputs (coming g raw (others ++ [])) evs = subst (λ (l : List Token). Began inputs (coming g raw l) evs) (sym (append-nil others)) b in
-    let one : Began inputs (coming g (slice_set raw k t.held) (others ++ t.sent)) (evs ++ by k turn.taken) = began_turn inputs g s.good k others turn.taken raw h t.held [] t.sent s.count s.sound there turn.turns evs start in
-    let two : Began inputs (coming g ((done ++ t.held ∷ []) ++ hs) (others ++ t.sent)) (evs ++ by e turn.taken)
-    = subst (λ (l : Events). Began inputs (coming g ((done ++ t.held ∷ []) ++ hs) (others ++ t.sent)) (evs ++ l)) noted (subst (λ (l : List Held). Began inputs (coming g l (others ++ t.sent)) (evs ++ by k turn.taken)) set one) in
+    let start : Began inputs (arriving g raw (others ++ [])) evs =
+    subst (λ (l : List Token). Began inputs (arriving g raw l) evs) (sym (append-nil others)) b in
+    let one : Began inputs (arriving g (slice_set raw k t.held) (others ++ t.sent)) (evs ++ by k turn.taken) = began_turn inputs g s.good k others turn.taken raw h t.held [] t.sent s.count s.sound there turn.turns evs start in
+    let two : Began inputs (arriving g ((done ++ t.held ∷ []) ++ hs) (others ++ t.sent)) (evs ++ by e turn.taken)
+    = subst (λ (l : Events). Began inputs (arriving g ((done ++ t.held ∷ []) ++ hs) (others ++ t.sent)) (evs ++ l)) noted (subst (λ (l : List Holding). Began inputs (arriving g l (others ++ t.sent)) (evs ++ by k turn.taken)) set one) in
     let standing : Standing g ((done ++ t.held ∷ []) ++ hs) (others ++ t.sent) = (let both = placed_turn g s.good k turn.taken raw h t.held [] t.sent s.count s.sound there turn.turns (All-nil (IsNearToken (bounds_in g))) in
-    subst (λ (l : List Held). Standing g l (others ++ t.sent)) set (record {
+    subst (λ (l : List Holding). Standing g l (others ++ t.sent)) set (record {
       good = s.good;
       count = length-set raw k t.held ∙ s.count;
       sound = first_set (IsPlaced g) raw k t.held s.sound both.0;
       near = All-append (IsNearToken (bounds_in g)) others t.sent s.near both.1;
     })) in
     let at_next : length (done ++ t.held ∷ []) ≡ suc k = (let l = length-append done (t.held ∷ []) in omega arith) in
-    let all = began_round inputs g listed may_stop (suc k) (done ++ t.held ∷ []) hs ts (others ++ t.sent) (evs ++ by e turn.taken) at_next standing rest two in
-    subst (λ (l : List Held). Began inputs (coming g l (others ++ all_sent (t ∷ ts))) (evs ++ (by e turn.taken ++ made_in g listed may_stop hs ts rest))) (append_assoc done (t.held ∷ []) (helds ts))
-    (subst (λ (l : List Token). Began inputs (coming g ((done ++ t.held ∷ []) ++ helds ts) l) (evs ++ (by e turn.taken ++ made_in g listed may_stop hs ts rest))) (append_assoc others t.sent (all_sent ts))
-    (subst (λ (l : Events). Began inputs (coming g ((done ++ t.held ∷ []) ++ helds ts) ((others ++ t.sent) ++ all_sent ts)) l) (append_assoc evs (by e turn.taken) (made_in g listed may_stop hs ts rest)) all))
+    let all = began_round inputs g keeps_events may_stop (suc k) (done ++ t.held ∷ []) hs ts (others ++ t.sent) (evs ++ by e turn.taken) at_next
+    standing rest two in
+    subst (λ (l : List Holding). Began inputs (arriving g l (others ++ all_sent (t ∷ ts))) (evs ++ (by e turn.taken ++ made_in g keeps_events may_stop hs ts rest))) (append_assoc done (t.held ∷ []) (helds ts))
+    (subst (λ (l : List Token). Began inputs (arriving g ((done ++ t.held ∷ []) ++ helds ts) l) (evs ++ (by e turn.taken ++ made_in g keeps_events may_stop hs ts rest))) (append_assoc others t.sent (all_sent ts))
+    (subst (λ (l : Events). Began inputs (arriving g ((done ++ t.held ∷ []) ++ helds ts) ((others ++ t.sent) ++ all_sent ts)) l) (append_assoc evs (by e turn.taken) (made_in g keeps_events may_stop hs ts rest)) all))
 
 -- IN MEMORY
-pub one_token : (h : Held) (t u : Token) → one.Picks h 0 t → one.Picks h 0 u → t ≡ u
+pub one_token : (h : Holding) (t u : Token) → one.Picks h 0 t → one.Picks h 0 u → t ≡ u
 one_token h t u p q = let a = p.token in let b = q.token in cc
 
 more_at : (first : Events) (at e : ℕ) (ts : List Token) (t u : Token) → e ≡ at → t ≡ u → (first ++ by at ts) ++ (e, u) ∷ [] ≡ first ++ by at (ts ++ t ∷ [])
@@ -152,27 +154,27 @@ more_at first at e ts t u place token =
     ∙ ap (λ (l : Events). first ++ l) (sym (map-append (λ (x : Token). (at, x)) ts (t ∷ [])))
 
 -- a list after one event more
-pub noted_more : (listed : Bool) (first so_far room last : Events) (e at : ℕ) (ts : List Token) (t u : Token) → so_far ≡ logged listed first (by at ts) → room ≡ so_far → last ≡ logged listed room ((e, u) ∷ []) → e ≡ at → t ≡ u
-    → last ≡ logged listed first (by at (ts ++ t ∷ []))
+pub noted_more : (keeps_events : Bool) (first so_far room last : Events) (e at : ℕ) (ts : List Token) (t u : Token) → so_far ≡ logged keeps_events first (by at ts) → room ≡ so_far → last ≡ logged keeps_events room ((e, u) ∷ []) → e ≡ at → t ≡ u
+    → last ≡ logged keeps_events first (by at (ts ++ t ∷ []))
 noted_more true first so_far room last e at ts t u is same pushed place token =
     pushed ∙ ap (λ (l : Events). l ++ (e, u) ∷ []) (same ∙ is) ∙ more_at first at e ts t u place token
 noted_more false first so_far room last e at ts t u is same pushed place token = pushed ∙ same ∙ is
 
 -- what the elements of a round noted
-logged_app : (listed : Bool) (a b : Events) → logged listed [] a ++ logged listed [] b ≡ logged listed [] (a ++ b)
+logged_app : (keeps_events : Bool) (a b : Events) → logged keeps_events [] a ++ logged keeps_events [] b ≡ logged keeps_events [] (a ++ b)
 logged_app true a b = refl
 logged_app false a b = refl
 
-pub noted_round : (g : Setting) (listed may_stop : Bool) (olds : List Held) (ts : List Turned) (round : Round g listed may_stop olds ts) → all_noted ts ≡ logged listed [] (made_in g listed may_stop olds ts round)
+pub noted_round : (g : Setting) (keeps_events may_stop : Bool) (olds : List Holding) (ts : List Turned) (round : Round g keeps_events may_stop olds ts) → all_noted ts ≡ logged keeps_events [] (made_in g keeps_events may_stop olds ts round)
 noted_round g true may_stop [] [] round = refl
 noted_round g false may_stop [] [] round = refl
-noted_round g listed may_stop [] (t ∷ ts) round = absurd round
-noted_round g listed may_stop (h ∷ hs) [] round = absurd round
-noted_round g listed may_stop (h ∷ hs) (t ∷ ts) (turn, rest) =
-    ap (λ (l : Events). l ++ all_noted ts) turn.noted ∙ ap (λ (l : Events). logged listed [] (by h.part.shape.element turn.taken) ++ l) (noted_round g listed may_stop hs ts rest)
-    ∙ logged_app listed (by h.part.shape.element turn.taken) (made_in g listed may_stop hs ts rest)
+noted_round g keeps_events may_stop [] (t ∷ ts) round = absurd round
+noted_round g keeps_events may_stop (h ∷ hs) [] round = absurd round
+noted_round g keeps_events may_stop (h ∷ hs) (t ∷ ts) (turn, rest) =
+    ap (λ (l : Events). l ++ all_noted ts) turn.noted ∙ ap (λ (l : Events). logged keeps_events [] (by h.part.shape.element turn.taken) ++ l) (noted_round g keeps_events may_stop hs ts rest)
+    ∙ logged_app keeps_events (by h.part.shape.element turn.taken) (made_in g keeps_events may_stop hs ts rest)
 
 -- more events at the end of a list
-pub logged_from : (listed : Bool) (before made : Events) → before ++ logged listed [] made ≡ logged listed before made
+pub logged_from : (keeps_events : Bool) (before made : Events) → before ++ logged keeps_events [] made ≡ logged keeps_events before made
 logged_from true before made = refl
 logged_from false before made = append-nil before

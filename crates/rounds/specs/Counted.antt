@@ -2,13 +2,13 @@
 use Rattle.std.specs.Prelude.{◌≡◌, ℕ, zero, suc, ◌<◌, ◌⊎◌, Bool, List, [], ◌++◌, length, map, Option, Some, None, slice_get}
 use Rattle.semantics.specs.Machine.{Events}
 use Rattle.semantics.specs.Report.{Report}
-use Rattle.element.specs.Held.{Held}
+use Rattle.element.specs.Holding.{Holding}
 use Rattle.schedule.specs.declared.halt.Halt.{Halt}
 use Rattle.schedule.specs.Setting.{Setting}
 use Rattle.schedule.specs.State.{delivered, tokens_in}
 use Rattle.schedule.specs.Steps.{logged}
-use Rattle.schedule.specs.Runs.{Kept}
-use Rattle.schedule.specs.Told.{IsReportOf}
+use Rattle.schedule.specs.Runs.{SoFar}
+use Rattle.schedule.specs.Reported.{IsReportOf}
 use Rattle.rounds.specs.Turns.{Turned, Round, made_in, helds, all_sent}
 
 -- why the elements halt, by their numbers
@@ -25,34 +25,34 @@ NoneHalts halts = (e : ℕ) → e < length halts → slice_get halts e ≡ Some 
 
 -- Why a run halts after a round, in which the elements answered this: of those that halt, the one of least number says why. Where none
 -- halts the run does if no token is left, and only then.
-abbrev pub IsWhy : List Held → List (Option Halt) → Option Halt → Type 0
+abbrev pub IsWhy : List Holding → List (Option Halt) → Option Halt → Type 0
 IsWhy lanes halts None = NoneHalts halts × (0 < length (tokens_in lanes))
 IsWhy lanes halts (Some halt) = IsFirst halts halt ⊎ (NoneHalts halts × (tokens_in lanes ≡ []) × (halt ≡ Halt.NoToken))
 
 -- ONE ROUND. Each element makes its turn; then the tokens for others are handed over, those of one element after those of another. It made these
 -- events, and after it the run halts so, if it does: where memory is refused while tokens are handed over, it halts for that.
-pub record MakesRound (g : Setting) (may_stop : Bool) (old new : List Held) (made : Events) (why : Option Halt) : Type 0 where
+pub record MakesRound (g : Setting) (may_stop : Bool) (old new : List Holding) (made : Events) (why : Option Halt) : Type 0 where
   -- whether the elements note their events
-  pub listed : Bool
+  pub keeps_events : Bool
   pub turned : List Turned
-  pub round : Round g listed may_stop old turned
+  pub round : Round g keeps_events may_stop old turned
   pub handed : new ≡ delivered (all_sent turned) (helds turned)
-  pub events : made ≡ made_in g listed may_stop old turned round
+  pub events : made ≡ made_in g keeps_events may_stop old turned round
   pub halts : IsWhy new (answers turned) why ⊎ (why ≡ Some Halt.Memory)
 
 -- EXACTLY SO MANY ROUNDS, one after the other: after each but the last the run goes on, and after the last it halts so, if it does.
-abbrev pub MakesRounds : Setting → Bool → ℕ → List Held → List Held → Events → Option Halt → Type 0
+abbrev pub MakesRounds : Setting → Bool → ℕ → List Holding → List Holding → Events → Option Halt → Type 0
 MakesRounds g may_stop zero old new made why = (new ≡ old) × (made ≡ []) × (why ≡ None)
 MakesRounds g may_stop (suc n) old new made why =
-    (mid : List Held) × (before : Events) × (now : Events) × MakesRounds g may_stop n old mid before None × MakesRound g may_stop mid new now why × (made ≡ before ++ now)
+    (mid : List Holding) × (before : Events) × (now : Events) × MakesRounds g may_stop n old mid before None × MakesRound g may_stop mid new now why × (made ≡ before ++ now)
 
 -- The run from here made exactly so many rounds, and halted after the last, unless memory was refused between two rounds. The report is of the machine as it
--- is then, with these events behind those that were kept; or, where its lists were refused, of the machine before its first event.
-pub record TellsRounds (listed may_stop : Bool) (start : Kept) (rounds : ℕ) (r : Report) : Type 0 where
-  pub last : List Held
+-- is then, with these events after those that were kept; or, where its lists were refused, of the machine before its first event.
+pub record ReportsRounds (keeps_events may_stop : Bool) (start : SoFar) (rounds : ℕ) (r : Report) : Type 0 where
+  pub last : List Holding
   pub made : Events
   pub halt : Halt
   pub why : Option Halt
   pub makes : MakesRounds start.state.setting may_stop rounds start.state.lanes last made why
   pub halted : (why ≡ Some halt) ⊎ ((why ≡ None) × (halt ≡ Halt.Memory))
-  pub told : IsReportOf (record { state = record { setting = start.state.setting; lanes = last }; events = logged listed start.events made }) halt r
+  pub reported : IsReportOf (record { state = record { setting = start.state.setting; lanes = last }; events = logged keeps_events start.events made }) halt r

@@ -7,20 +7,20 @@ use Rattle.semantics.specs.Machine.{Size, Events}
 use Rattle.semantics.specs.Report.{Report}
 use Rattle.schedule.specs.Shown.{ShowsInOrder}
 use Rattle.schedule.specs.Unlisted.{with_events}
-use Rattle.element.specs.Held.{Held, Fixed, held_of, fixed_of}
+use Rattle.element.specs.Holding.{Holding, Fixed, held_of, fixed_of}
 use Rattle.schedule.specs.declared.halt.Halt.{Halt}
 use Rattle.schedule.specs.Setting.{Setting}
 use Rattle.schedule.specs.State.{State, IsSoundState, RunsAs, delivered}
 use Rattle.schedule.specs.Steps.{logged}
 use Rattle.schedule.specs.Runs.{Began, HaltsAs}
 use Rattle.rounds.specs.declared.turn.Turner.{Turner}
-use Rattle.rounds.specs.Turns.{Turned, Round, made_in, helds, all_sent, coming}
+use Rattle.rounds.specs.Turns.{Turned, Round, made_in, helds, all_sent, arriving}
 use Rattle.rounds.specs.Counted.{answers, MakesRounds}
 
-abbrev pub lane_held : {C A L : Type 0} → Turner C A L → Held
+abbrev pub lane_held : {C A L : Type 0} → Turner C A L → Holding
 lane_held t = held_of t.lane
 
-abbrev pub lanes_held : {C A L : Type 0} → List (Turner C A L) → List Held
+abbrev pub lanes_held : {C A L : Type 0} → List (Turner C A L) → List Holding
 lanes_held ts = map lane_held ts
 
 abbrev pub lane_fixed : {C A L : Type 0} → Turner C A L → Fixed
@@ -47,7 +47,7 @@ IsCleared ts = (tokens_sent ts ≡ []) × (events_noted ts ≡ [])
 
 -- what holds between rounds
 pub record IsBetween {C A L : Type 0} (g : Setting) (ts : List (Turner C A L)) : Type 0 where
-  pub sound : IsSoundState (coming g (lanes_held ts) [])
+  pub sound : IsSoundState (arriving g (lanes_held ts) [])
   -- each lane runs the code of the machine
   pub runs : All (RunsAs g) (lanes_fixed ts)
   pub sent : tokens_sent ts ≡ []
@@ -60,34 +60,34 @@ IsHalted s may_stop halt = HaltsAs s false halt ⊎ ((halt ≡ Halt.Stop) × (ma
 -- Where nothing halts it is as between rounds; and else the tokens that are on their way are these.
 abbrev pub GoesOn : {C A L : Type 0} → Setting → Bool → List (Turner C A L) → List Token → Option Halt → Type 0
 GoesOn g may_stop ts rest None = IsBetween g ts × (rest ≡ [])
-GoesOn g may_stop ts rest (Some halt) = IsSoundState (coming g (lanes_held ts) rest) × IsHalted (coming g (lanes_held ts) rest) may_stop halt
+GoesOn g may_stop ts rest (Some halt) = IsSoundState (arriving g (lanes_held ts) rest) × IsHalted (arriving g (lanes_held ts) rest) may_stop halt
 
 -- what is known of the machine with these tokens on their way, if it was known with none
 abbrev pub Leads : {C A L : Type 0} → Setting → List (Turner C A L) → List (Turner C A L) → List Token → Events → Type 0
-Leads g old new rest made = (inputs : List ℤ) (before : Events) → Began inputs (coming g (lanes_held old) []) before → Began inputs (coming g (lanes_held new) rest) (before ++ made)
+Leads g old new rest made = (inputs : List ℤ) (before : Events) → Began inputs (arriving g (lanes_held old) []) before → Began inputs (arriving g (lanes_held new) rest) (before ++ made)
 
 -- what this number of rounds does, with the events that they made
-pub record Rounds {C A L : Type 0} (g : Setting) (listed may_stop : Bool) (rounds : ℕ) (old : List (Turner C A L)) (before : Events) (new : List (Turner C A L)) (after : Events) (halt : Option Halt) : Type 0 where
+pub record Rounds {C A L : Type 0} (g : Setting) (keeps_events may_stop : Bool) (rounds : ℕ) (old : List (Turner C A L)) (before : Events) (new : List (Turner C A L)) (after : Events) (halt : Option Halt) : Type 0 where
   pub rest : List Token
   pub made : Events
   pub goes : GoesOn g may_stop new rest halt
-  pub noted : after ≡ logged listed before made
+  pub noted : after ≡ logged keeps_events before made
   pub leads : Leads g old new rest made
   pub makes : MakesRounds g may_stop rounds (lanes_held old) (delivered rest (lanes_held new)) made halt
 
 -- what the turns of a round leave, with all tokens that are on their way
-pub record MadeRound {C A L : Type 0} (g : Setting) (listed may_stop : Bool) (old : List (Turner C A L)) (before : Events) (new : List (Turner C A L)) (after : Events) (tokens : List Token) : Type 0 where
-  pub sound : IsSoundState (coming g (lanes_held new) tokens)
+pub record MadeRound {C A L : Type 0} (g : Setting) (keeps_events may_stop : Bool) (old : List (Turner C A L)) (before : Events) (new : List (Turner C A L)) (after : Events) (tokens : List Token) : Type 0 where
+  pub sound : IsSoundState (arriving g (lanes_held new) tokens)
   pub runs : All (RunsAs g) (lanes_fixed new)
   pub made : Events
-  pub noted : after ≡ logged listed before made
+  pub noted : after ≡ logged keeps_events before made
   pub leads : Leads g old new tokens made
-  pub halts : (e : ℕ) (halt : Halt) → slice_get (halts_in new) e ≡ Some (Some halt) → IsHalted (coming g (lanes_held new) tokens) may_stop halt
+  pub halts : (e : ℕ) (halt : Halt) → slice_get (halts_in new) e ≡ Some (Some halt) → IsHalted (arriving g (lanes_held new) tokens) may_stop halt
   pub cleared : events_noted new ≡ []
   pub count : length new ≡ length old
   pub turned : List Turned
-  pub round : Round g listed may_stop (lanes_held old) turned
-  pub events : made ≡ made_in g listed may_stop (lanes_held old) turned round
+  pub round : Round g keeps_events may_stop (lanes_held old) turned
+  pub events : made ≡ made_in g keeps_events may_stop (lanes_held old) turned round
   pub lanes : lanes_held new ≡ helds turned
   pub sent : tokens ≡ all_sent turned
   pub answered : halts_in new ≡ answers turned
@@ -95,4 +95,4 @@ pub record MadeRound {C A L : Type 0} (g : Setting) (listed may_stop : Bool) (ol
 -- The report shows a run that went on from these events; where events are listed, and these are those that were kept, it
 -- lists those of the run.
 abbrev pub ShowsOn : Bool → Program → Size → List ℤ → ℕ → Bool → Events → Events → Report → Type 0
-ShowsOn listed p z inputs steps may_stop kept events r = (shown : Events) × ShowsInOrder p z inputs steps false may_stop (with_events r shown) × (listed ≡ true → kept ≡ events → r.events ≡ shown)
+ShowsOn keeps_events p z inputs steps may_stop kept events r = (shown : Events) × ShowsInOrder p z inputs steps false may_stop (with_events r shown) × (keeps_events ≡ true → kept ≡ events → r.events ≡ shown)

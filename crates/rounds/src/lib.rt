@@ -1,9 +1,9 @@
 //! Elements that take turns in rounds: in each round every element makes its turn in a thread of its own.
 #![tactic(auto)]
 
+mod delivering;
 mod gate;
 mod gathering;
-mod handing;
 mod rounds;
 mod turn;
 

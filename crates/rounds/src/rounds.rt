@@ -4,19 +4,19 @@ ghost use Rattle.std.specs.Prelude.{◌≡◌, ◌<◌, ◌++◌, [], ℕ, ℤ, 
 ghost use Rattle.tags.specs.declared.token.Token.{Token};
 ghost use Rattle.semantics.specs.Machine.{Events};
 ghost use Rattle.schedule.specs.Shown.{ShowsInOrder};
-ghost use Rattle.element.specs.Held.{held_of, fixed_of};
+ghost use Rattle.element.specs.Holding.{held_of, fixed_of};
 ghost use Rattle.schedule.specs.Setting.{size};
 ghost use Rattle.schedule.specs.State.{IsSoundState, RunsAs, setting_in, tokens_in};
 ghost use Rattle.schedule.specs.Runs.{Began};
-ghost use Rattle.schedule.specs.Apart.{kept_of};
+ghost use Rattle.schedule.specs.Apart.{so_far_of};
 ghost use Rattle.schedule.specs.Unlisted.{ShowsQuietly, without_events};
-ghost use Rattle.rounds.specs.Counted.{IsFirst, NoneHalts, IsWhy, TellsRounds};
-ghost use Rattle.rounds.specs.Turns.{TookTurn, coming};
+ghost use Rattle.rounds.specs.Counted.{IsFirst, NoneHalts, IsWhy, ReportsRounds};
+ghost use Rattle.rounds.specs.Turns.{TookTurn, arriving};
 ghost use Rattle.rounds.specs.Rounds.{lanes_held, lanes_fixed, tokens_sent, IsCleared, halts_in, IsBetween, Rounds, MadeRound, ShowsOn};
 
+use crate::delivering::deliver_all;
 use crate::gate::Gate;
 use crate::gathering::{gather_events, gather_tokens};
-use crate::handing::hand_over;
 use crate::turn::{Turner, make_turn};
 use element::instructions::Instructions;
 use element::lane::Lane;
@@ -41,7 +41,7 @@ fn make_turns<
     G: Gate + Sync,
 >(rt: &R, turners: &mut [Turner<'_, C, A, L>], gate: &G, turn: u64)
     requires { 0 < length turners.old }
-    ensures each { (i : ℕ) (d : _) → i < length turners.old → TookTurn turn L.LISTS G.may_stop (slice_index_or turners.old i d) (slice_index_or turners.new i d) }
+    ensures each { (i : ℕ) (d : _) → i < length turners.old → TookTurn turn L.KEEPS_EVENTS G.may_stop (slice_index_or turners.old i d) (slice_index_or turners.new i d) }
     ensures count { length turners.new ≡ length turners.old }
 {
     let threads = turners.len();
@@ -50,7 +50,7 @@ fn make_turns<
         turners,
         threads,
         &|_: usize, turner: &mut Turner<'_, C, A, L>| -> ()
-            ensures { TookTurn turn L.LISTS G.may_stop turner.old turner.new }
+            ensures { TookTurn turn L.KEEPS_EVENTS G.may_stop turner.old turner.new }
         { make_turn(turner, gate, turn) },
     );
 }
@@ -117,7 +117,7 @@ fn make_round<
     requires between { IsBetween (setting_in C.program C.width setup.old.shape) turners.old }
     requires tokens { tokens.old.items ≡ [] }
     ensures setting { setting_in C.program C.width setup.new.shape ≡ setting_in C.program C.width setup.old.shape }
-    ensures made { OnOk result (MadeRound (setting_in C.program C.width setup.old.shape) L.LISTS G.may_stop turners.old setup.old.log.events.items turners.new setup.new.log.events.items (tokens.new.items ++ tokens_sent turners.new)) }
+    ensures made { OnOk result (MadeRound (setting_in C.program C.width setup.old.shape) L.KEEPS_EVENTS G.may_stop turners.old setup.old.log.events.items turners.new setup.new.log.events.items (tokens.new.items ++ tokens_sent turners.new)) }
     ensures all { IfOk result (λ all. all ≡ true → tokens_sent turners.new ≡ []) }
     ensures count { length turners.new ≡ length turners.old }
 {
@@ -147,7 +147,7 @@ fn make_whole_round<
     requires between { IsBetween (setting_in C.program C.width setup.old.shape) turners.old.items }
     requires tokens { tokens.old.items ≡ [] }
     ensures setting { setting_in C.program C.width setup.new.shape ≡ setting_in C.program C.width setup.old.shape }
-    ensures made { OnOk result (MadeRound (setting_in C.program C.width setup.old.shape) L.LISTS G.may_stop turners.old.items setup.old.log.events.items turners.new.items setup.new.log.events.items (tokens.new.items ++ tokens_sent turners.new.items)) }
+    ensures made { OnOk result (MadeRound (setting_in C.program C.width setup.old.shape) L.KEEPS_EVENTS G.may_stop turners.old.items setup.old.log.events.items turners.new.items setup.new.log.events.items (tokens.new.items ++ tokens_sent turners.new.items)) }
     ensures all { IfOk result (λ all. all ≡ true → tokens_sent turners.new.items ≡ []) }
     ensures count { length turners.new.items ≡ length turners.old.items }
 {
@@ -171,14 +171,14 @@ fn round<
     requires between { IsBetween (setting_in C.program C.width setup.old.shape) turners.old.items }
     requires tokens { tokens.old.items ≡ [] }
     ensures setting { setting_in C.program C.width setup.new.shape ≡ setting_in C.program C.width setup.old.shape }
-    ensures rounds { IfOk result (λ halt. Rounds (setting_in C.program C.width setup.old.shape) L.LISTS G.may_stop 1 turners.old.items setup.old.log.events.items turners.new.items setup.new.log.events.items halt) }
+    ensures rounds { IfOk result (λ halt. Rounds (setting_in C.program C.width setup.old.shape) L.KEEPS_EVENTS G.may_stop 1 turners.old.items setup.old.log.events.items turners.new.items setup.new.log.events.items halt) }
     ensures tokens { IfOk result (λ halt. halt ≡ None → tokens.new.items ≡ []) }
 {
     let all = make_whole_round(rt, setup, turners, tokens, gate)?;
     if !all {
         return Ok(Some(Halt::Memory));
     }
-    match hand_over(turners, setup.shape.elements, tokens) {
+    match deliver_all(turners, setup.shape.elements, tokens) {
         Ok(()) => Ok(why(turners)),
         Err(_) => Ok(Some(Halt::Memory)),
     }
@@ -208,7 +208,7 @@ fn play<
     requires between { IsBetween (setting_in C.program C.width setup.old.shape) turners.old.items }
     requires tokens { tokens.old.items ≡ [] }
     ensures setting { setting_in C.program C.width setup.new.shape ≡ setting_in C.program C.width setup.old.shape }
-    ensures rounds { IfOk result (λ p. Rounds (setting_in C.program C.width setup.old.shape) L.LISTS G.may_stop p.rounds turners.old.items setup.old.log.events.items turners.new.items setup.new.log.events.items (Some p.halt)) }
+    ensures rounds { IfOk result (λ p. Rounds (setting_in C.program C.width setup.old.shape) L.KEEPS_EVENTS G.may_stop p.rounds turners.old.items setup.old.log.events.items turners.new.items setup.new.log.events.items (Some p.halt)) }
 {
     let mut rounds = 0;
     'rounds: for _ in rt.forever() {
@@ -310,11 +310,11 @@ fn run_apart<
     L: Log + Send,
     G: Gate + Sync,
 >(mut setup: Setup<'_, C, A, L>, lanes: Vec<Lane<'_, C, A>, A>, rt: &R, gate: &G) -> Counted<A>
-    requires sound { IsSoundState (coming (setting_in C.program C.width setup.shape) (map held_of lanes.items) []) }
+    requires sound { IsSoundState (arriving (setting_in C.program C.width setup.shape) (map held_of lanes.items) []) }
     requires runs { All (RunsAs (setting_in C.program C.width setup.shape)) (map fixed_of lanes.items) }
-    ensures unlisted { L.LISTS ≡ false → setup.entry.log.events.items ≡ [] → result.report.events ≡ [] }
-    ensures shows { (inputs : List ℤ) (events : Events) → Began inputs (coming (setting_in C.program C.width setup.entry.shape) (map held_of lanes.entry.items) []) events → ShowsOn L.LISTS (C.program setup.entry.shape.code.now) (size (setting_in C.program C.width setup.entry.shape)) inputs setup.entry.shape.steps G.may_stop setup.entry.log.events.items events result.report }
-    ensures tells { TellsRounds L.LISTS G.may_stop (kept_of C.program C.width setup.entry lanes.entry.items) result.rounds result.report }
+    ensures unlisted { L.KEEPS_EVENTS ≡ false → setup.entry.log.events.items ≡ [] → result.report.events ≡ [] }
+    ensures shows { (inputs : List ℤ) (events : Events) → Began inputs (arriving (setting_in C.program C.width setup.entry.shape) (map held_of lanes.entry.items) []) events → ShowsOn L.KEEPS_EVENTS (C.program setup.entry.shape.code.now) (size (setting_in C.program C.width setup.entry.shape)) inputs setup.entry.shape.steps G.may_stop setup.entry.log.events.items events result.report }
+    ensures truth { ReportsRounds L.KEEPS_EVENTS G.may_stop (so_far_of C.program C.width setup.entry lanes.entry.items) result.rounds result.report }
 {
     let Ok((mut turners, mut tokens, mut spare)) = ready(&setup.alloc, lanes) else {
         return unmade(setup.refused());
@@ -347,9 +347,9 @@ fn run_machine<
     L: Log + Send,
     G: Gate + Sync,
 >(machine: Machine<'_, C, A, L>, rt: &R, gate: &G) -> Counted<A>
-    ensures unlisted { L.LISTS ≡ false → machine.entry.events ≡ [] → result.report.events ≡ [] }
-    ensures shows { (inputs : List ℤ) (events : Events) → Began inputs machine.entry.state events → ShowsOn L.LISTS machine.entry.state.setting.program (size machine.entry.state.setting) inputs machine.entry.state.setting.steps G.may_stop machine.entry.events events result.report }
-    ensures tells { TellsRounds L.LISTS G.may_stop machine.entry result.rounds result.report }
+    ensures unlisted { L.KEEPS_EVENTS ≡ false → machine.entry.events ≡ [] → result.report.events ≡ [] }
+    ensures shows { (inputs : List ℤ) (events : Events) → Began inputs machine.entry.state events → ShowsOn L.KEEPS_EVENTS machine.entry.state.setting.program (size machine.entry.state.setting) inputs machine.entry.state.setting.steps G.may_stop machine.entry.events events result.report }
+    ensures truth { ReportsRounds L.KEEPS_EVENTS G.may_stop machine.entry result.rounds result.report }
 {
     match machine.into_lanes() {
         Ok((setup, lanes)) => run_apart(setup, lanes, rt, gate),
@@ -367,7 +367,7 @@ pub fn run<
     G: Gate + Sync,
 >(machine: Machine<'_, C, A>, rt: &R, gate: &G) -> Report<A>
     ensures shows { (inputs : List ℤ) → Began inputs machine.entry.state machine.entry.events → ShowsInOrder machine.entry.state.setting.program (size machine.entry.state.setting) inputs machine.entry.state.setting.steps false G.may_stop result }
-    ensures tells { (rounds : ℕ) × TellsRounds true G.may_stop machine.entry rounds result }
+    ensures truth { (rounds : ℕ) × ReportsRounds true G.may_stop machine.entry rounds result }
 {
     run_counted(machine, rt, gate).report
 }
@@ -380,7 +380,7 @@ pub fn run_counted<
     G: Gate + Sync,
 >(machine: Machine<'_, C, A>, rt: &R, gate: &G) -> Counted<A>
     ensures shows { (inputs : List ℤ) → Began inputs machine.entry.state machine.entry.events → ShowsInOrder machine.entry.state.setting.program (size machine.entry.state.setting) inputs machine.entry.state.setting.steps false G.may_stop result.report }
-    ensures tells { TellsRounds true G.may_stop machine.entry result.rounds result.report }
+    ensures truth { ReportsRounds true G.may_stop machine.entry result.rounds result.report }
 {
     run_machine(machine, rt, gate)
 }
@@ -393,7 +393,7 @@ pub fn run_quietly<
     G: Gate + Sync,
 >(machine: Machine<'_, C, A>, rt: &R, gate: &G) -> Report<A>
     ensures shows { (inputs : List ℤ) → Began inputs machine.entry.state machine.entry.events → ShowsQuietly machine.entry.state.setting.program (size machine.entry.state.setting) inputs machine.entry.state.setting.steps false G.may_stop result }
-    ensures tells { (rounds : ℕ) × TellsRounds false G.may_stop (without_events machine.entry.state) rounds result }
+    ensures truth { (rounds : ℕ) × ReportsRounds false G.may_stop (without_events machine.entry.state) rounds result }
 {
     run_machine(machine.without_events(), rt, gate).report
 }

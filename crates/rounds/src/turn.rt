@@ -2,7 +2,7 @@
 
 ghost use Rattle.std.specs.Prelude.{◌≡◌, ◌<◌, ◌≤◌, ◌^◌, List, length, true, false};
 ghost use Rattle.tags.specs.declared.token.Token.{Token};
-ghost use Rattle.element.specs.Held.{fixed_of, IsSoundLane};
+ghost use Rattle.element.specs.Holding.{fixed_of, IsSoundLane};
 ghost use Rattle.schedule.specs.Steps.{logged};
 ghost use Rattle.rounds.specs.Turns.{by, Turns, IsWhole, HaltsLane, TookTurn};
 
@@ -36,7 +36,7 @@ pub fn take_turn<C: Instructions, A: Allocator + Clone, L: Log>(
     turn: u64,
 ) -> Option<Halt>
     ensures sound { IsSoundLane lane.old.program lane.old.held → IsSoundLane lane.new.program lane.new.held }
-    ensures turns { (taken : List Token) × Turns lane.old.program lane.old.steps lane.old.held sent.old.items taken lane.new.held sent.new.items × (log.new.events.items ≡ logged L.LISTS log.old.events.items (by lane.old.held.part.shape.element taken)) × (length taken ≤ turn) }
+    ensures turns { (taken : List Token) × Turns lane.old.program lane.old.steps lane.old.held sent.old.items taken lane.new.held sent.new.items × (log.new.events.items ≡ logged L.KEEPS_EVENTS log.old.events.items (by lane.old.held.part.shape.element taken)) × (length taken ≤ turn) }
     ensures whole { IsWhole turn lane.old.held lane.new.held result }
     ensures halts { HaltsLane lane.old.program lane.old.steps false lane.new.held result }
     ensures fixed { fixed_of lane.new ≡ fixed_of lane.old }
@@ -80,7 +80,7 @@ pub fn make_turn<C: Instructions, A: Allocator + Clone, L: Log, G: Gate>(
     gate: &G,
     turn: u64,
 )
-    ensures { TookTurn turn L.LISTS G.may_stop turner.old turner.new }
+    ensures { TookTurn turn L.KEEPS_EVENTS G.may_stop turner.old turner.new }
 {
     gate.enter(turner.lane.element());
     let Turner {

@@ -12,7 +12,7 @@ use Rattle.semantics.specs.Machine.{outputs_of}
 use Rattle.istructure.specs.OwnCells.{OwnCells, all_vacant}
 use Rattle.frame_manager.specs.Managed.{Managed, at_first}
 use Rattle.element.specs.Parts.{Shape}
-use Rattle.element.specs.Held.{Held, IsSoundLane}
+use Rattle.element.specs.Holding.{Holding, IsSoundLane}
 use Rattle.element.specs.Openings.{opened, IsOpening, StartsAs}
 use Rattle.schedule.specs.Starts.{IsFresh, sized}
 
@@ -20,15 +20,15 @@ pub three_ok : {X Y : Type 0} (r : Result X Y) (P Q S R : X → Type 0) → ((x 
 three_ok (Result.Ok x) P Q S R f p q s = f x p q s
 three_ok (Result.Err e) P Q S R f p q s = tt
 
-module _ (p : Program) (z : Shape) (states : List SlotState) (cells : OwnCells) (manager : Option Managed) (outputs : ℕ) (h : Held) (is : h ≡ opened z states cells manager outputs) where
+module _ (p : Program) (z : Shape) (states : List SlotState) (cells : OwnCells) (manager : Option Managed) (outputs : ℕ) (h : Holding) (is : h ≡ opened z states cells manager outputs) where
   shape_is : h.part.shape ≡ z
-  shape_is = ap (λ (x : Held). x.part.shape) is
+  shape_is = ap (λ (x : Holding). x.part.shape) is
 
   pub opening : z.element < z.elements → 0 < z.frames → z.start + z.frames * z.width ≤ length states → All (λ (s : SlotState). s ≡ Empty) states
       → cells ≡ all_vacant (sum p.arrays) z.element z.elements → (z.element ≡ 0 → manager ≡ Some (at_first (z.elements * z.frames))) → outputs ≡ outputs_of p → IsOpening p h.part
   opening there frames bank empty cells_are manager_is outputs_are =
       let some : 1 ≤ z.elements * z.frames = one-le-mul {a = z.elements} {b = z.frames} (omega arith) (omega arith) in
-      subst (λ (x : Held). IsOpening p x.part) (sym is) (record {
+      subst (λ (x : Holding). IsOpening p x.part) (sym is) (record {
         there = there;
         some = some;
         bank = bank;
@@ -48,8 +48,8 @@ module _ (p : Program) (z : Shape) (states : List SlotState) (cells : OwnCells) 
     width = ap (λ (x : Shape). x.width) shape_is;
     sound = sound;
     starts = starts;
-    queue = ap (λ (x : Held). x.queue) is;
-    made = ap (λ (x : Held). x.made) is;
+    queue = ap (λ (x : Holding). x.queue) is;
+    made = ap (λ (x : Holding). x.made) is;
   }
 
 -- SO MANY BANKS
@@ -75,8 +75,8 @@ banks_left n e s left new low left_is is =
     let count : n - e - 1 ≡ n - (e + 1) = omega arith in
     is ∙ ap (λ (l : List SlotState). drop s l) left_is ∙ drop-replicate s ((n - e) * s) Empty ∙ ap (λ (m : ℕ). replicate m Empty) (less ∙ ap (λ (m : ℕ). m * s) count)
 
-pub banks_come : (n e s : ℕ) (left : List SlotState) → e < n → left ≡ replicate ((n - e) * s) Empty → s ≤ length left
-banks_come n e s left low left_is =
+pub banks_arrived : (n e s : ℕ) (left : List SlotState) → e < n → left ≡ replicate ((n - e) * s) Empty → s ≤ length left
+banks_arrived n e s left low left_is =
     let some : 0 < n - e = omega arith in
     let least = at_least (n - e) s some in
     let count : length left ≡ (n - e) * s = ap (λ (l : List SlotState). length l) left_is ∙ length-replicate ((n - e) * s) Empty in

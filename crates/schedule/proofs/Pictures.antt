@@ -20,10 +20,10 @@ use Rattle.tags.specs.declared.token.Token.{Token}
 use Rattle.semantics.proofs.Sums.{sum_same}
 use Rattle.element.specs.Parts.{IsPart, IsSound, IsSoundManager, Manages, bounds}
 use Rattle.element.specs.Near.{Bounds}
-use Rattle.element.specs.Held.{Held}
+use Rattle.element.specs.Holding.{Holding}
 use Rattle.schedule.specs.Setting.{Setting, size, total, IsGoodSetting}
-use Rattle.schedule.specs.State.{State, AllFrom, IsPlaced, IsSoundState, IsBounded, Stands}
-use Rattle.schedule.specs.Told.{value_of, readers_of, cell_value, cell_readers, entry, full_below, slot_of_lane, slot_at, credits_below, requests_in, out_in, Tells}
+use Rattle.schedule.specs.State.{State, AllFrom, IsPlaced, IsSoundState, IsBounded, AreParts}
+use Rattle.schedule.specs.Reported.{value_of, readers_of, cell_value, cell_readers, entry, full_below, slot_of_lane, slot_at, credits_below, requests_in, out_in, ShowsLanes}
 use Rattle.schedule.proofs.Places.{first_get, from_both}
 
 -- nothing from k on
@@ -36,7 +36,7 @@ sum_stops (suc n) k g low none = by_place (cases_lt n k) (λ (l : k ≤ n). sum_
     by_place (inr within) rest = let before = rest within in let here : g n ≡ 0 = none n within in omega arith
 
 -- what is known of a lane
-pub record IsKnown (g : Setting) (m : Store) (i : ℕ) (h : Held) : Type 0 where
+pub record IsKnown (g : Setting) (m : Store) (i : ℕ) (h : Holding) : Type 0 where
   pub element : h.part.shape.element ≡ i
   pub elements : h.part.shape.elements ≡ g.elements
   pub frames : h.part.shape.frames ≡ g.frames
@@ -61,7 +61,7 @@ below_entry x None y v c = absurd (omega (arith, c.1))
 below_entry x (Some w) y v (zero, low, is) = let a : x ≡ y = ap (λ (p : ℕ × Value). p.0) is in let b : w ≡ v = ap (λ (p : ℕ × Value). p.1) is in (sym a, ap (λ (u : Value). Some u) b)
 below_entry x (Some w) y v (suc k, low, is) = absurd (omega (arith, low))
 
-in_full : (n : ℕ) (lanes : List Held) (k y : ℕ) (v : Value) → Contains (full_below n lanes k) (y, v) → (y < k) × (cell_value n lanes y ≡ Some v)
+in_full : (n : ℕ) (lanes : List Holding) (k y : ℕ) (v : Value) → Contains (full_below n lanes k) (y, v) → (y < k) × (cell_value n lanes y ≡ Some v)
 in_full n lanes zero y v c = absurd (omega (arith, c.1))
 in_full n lanes (suc k) y v c = by_part (Contains-append_cases (full_below n lanes k) (entry k (cell_value n lanes k)) (y, v) c) (λ d. in_full n lanes k y v d)
   where
@@ -72,7 +72,7 @@ in_full n lanes (suc k) y v c = by_part (Contains-append_cases (full_below n lan
 has_entry : (x : ℕ) (o : Option Value) (v : Value) → o ≡ Some v → Contains (entry x o) (x, v)
 has_entry x o v e = subst (λ (u : Option Value). Contains (entry x u) (x, v)) (sym e) (0, omega arith, refl)
 
-has_full : (n : ℕ) (lanes : List Held) (k y : ℕ) (v : Value) → y < k → cell_value n lanes y ≡ Some v → Contains (full_below n lanes k) (y, v)
+has_full : (n : ℕ) (lanes : List Holding) (k y : ℕ) (v : Value) → y < k → cell_value n lanes y ≡ Some v → Contains (full_below n lanes k) (y, v)
 has_full n lanes zero y v low e = absurd (omega arith)
 has_full n lanes (suc k) y v low e = by_place (cases_lt y k) (λ (l : y < k). has_full n lanes k y v l e)
   where
@@ -121,7 +121,7 @@ less_by : (k : ℕ) (cs : List (ℕ × Value)) (o : Option Value) → AllLess k 
 less_by k cs None all i c e = let l : c.0 < k = all i c (subst (λ (l : List (ℕ × Value)). slice_get l i ≡ Some c) (append-nil cs) e) in omega arith
 less_by k cs (Some v) all i c e = less_push cs k v all i c e
 
-full_less : (n : ℕ) (lanes : List Held) (k : ℕ) → AllLess k (full_below n lanes k)
+full_less : (n : ℕ) (lanes : List Holding) (k : ℕ) → AllLess k (full_below n lanes k)
 full_less n lanes zero = λ i c e. absurd (let no : ⊥ = cc in no)
 full_less n lanes (suc k) = less_by k (full_below n lanes k) (cell_value n lanes k) (full_less n lanes k)
 
@@ -129,7 +129,7 @@ ascend_by : (k : ℕ) (cs : List (ℕ × Value)) (o : Option Value) → AllLess 
 ascend_by k cs None all up = subst (λ (l : List (ℕ × Value)). Ascends l) (sym (append-nil cs)) up
 ascend_by k cs (Some v) all up = ascend_push cs k v all up
 
-full_ascends : (n : ℕ) (lanes : List Held) (k : ℕ) → Ascends (full_below n lanes k)
+full_ascends : (n : ℕ) (lanes : List Holding) (k : ℕ) → Ascends (full_below n lanes k)
 full_ascends n lanes zero = λ i j c d low got also. absurd (let no : ⊥ = cc in no)
 full_ascends n lanes (suc k) = ascend_by k (full_below n lanes k) (cell_value n lanes k) (full_less n lanes k) (full_ascends n lanes k)
 
@@ -142,21 +142,21 @@ value_full own x v e = by_cell (cell_at own x) e
     by_cell (Some (Deferred readers)) e = absurd (let no : ⊥ = cc in no)
     by_cell (Some (Full w)) e = let same : w ≡ v = cc in ap (λ (u : Value). Some (Full u)) same
 
-module _ (g : Setting) (m : Store) (lanes : List Held) (good : IsGoodSetting g) (count : length lanes ≡ g.elements) (known : AllFrom (IsKnown g m) 0 lanes) (bounded : IsBounded g m) where
+module _ (g : Setting) (m : Store) (lanes : List Holding) (good : IsGoodSetting g) (count : length lanes ≡ g.elements) (known : AllFrom (IsKnown g m) 0 lanes) (bounded : IsBounded g m) where
   abbrev n : ℕ
   n = g.elements
 
   abbrev all_cells : ℕ
   all_cells = sum g.program.arrays
 
-  lane_for : (x : ℕ) → (h : Held) × (slice_get lanes (x % n) ≡ Some h) × IsKnown g m (x % n) h
+  lane_for : (x : ℕ) → (h : Holding) × (slice_get lanes (x % n) ≡ Some h) × IsKnown g m (x % n) h
   lane_for x =
       let below = mod-lt x good.some in
       let low : x % n < length lanes = omega arith in
       let l = get_some lanes (x % n) low in
       (l.0, l.1, first_get (IsKnown g m) lanes (x % n) l.0 known l.1)
 
-  cell_known : (x : ℕ) → x < all_cells → (h : Held) × (slice_get lanes (x % n) ≡ Some h) × ((state : CellState) × (cell_at h.part.cells x ≡ Some state) × (m.cells x ≡ state))
+  cell_known : (x : ℕ) → x < all_cells → (h : Holding) × (slice_get lanes (x % n) ≡ Some h) × ((state : CellState) × (cell_at h.part.cells x ≡ Some state) × (m.cells x ≡ state))
   cell_known x low =
       let l = lane_for x in
       let k = l.2 in
@@ -170,19 +170,19 @@ module _ (g : Setting) (m : Store) (lanes : List Held) (good : IsGoodSetting g) 
   readers_are : (x : ℕ) → x < all_cells → cell_readers n lanes x ≡ reader_count (m.cells x)
   readers_are x low =
       let c = cell_known x low in
-      ap (λ (o : Option Held). readers_of x o) c.1 ∙ readers_same c.0.part.cells x c.2.0 c.2.1 ∙ ap (λ (s : CellState). reader_count s) (sym c.2.2)
+      ap (λ (o : Option Holding). readers_of x o) c.1 ∙ readers_same c.0.part.cells x c.2.0 c.2.1 ∙ ap (λ (s : CellState). reader_count s) (sym c.2.2)
 
   value_holds : (x : ℕ) (v : Value) → x < all_cells → cell_value n lanes x ≡ Some v → m.cells x ≡ Full v
   value_holds x v low e =
       let l = lane_for x in
-      let at : value_at l.0.part.cells x ≡ Some v = ap (λ (o : Option Held). value_of x o) (sym l.1) ∙ e in
+      let at : value_at l.0.part.cells x ≡ Some v = ap (λ (o : Option Holding). value_of x o) (sym l.1) ∙ e in
       l.2.part.cells x (Full v) (value_full l.0.part.cells x v at)
 
   holds_value : (x : ℕ) (v : Value) → x < all_cells → m.cells x ≡ Full v → cell_value n lanes x ≡ Some v
   holds_value x v low e =
       let c = cell_known x low in
       let full : c.2.0 ≡ Full v = sym c.2.2 ∙ e in
-      ap (λ (o : Option Held). value_of x o) c.1 ∙ ap (λ (o : Option CellState). option_and_then value_in o) (c.2.1 ∙ ap (λ (s : CellState). Some s) full)
+      ap (λ (o : Option Holding). value_of x o) c.1 ∙ ap (λ (o : Option CellState). option_and_then value_in o) (c.2.1 ∙ ap (λ (s : CellState). Some s) full)
 
   cell_below : (x : ℕ) (v : Value) → m.cells x ≡ Full v → x < all_cells
   cell_below x v e = ⊎_elim (λ (l : x < all_cells). l) (λ (l : all_cells ≤ x). let none = bounded.cells x l in absurd (let no : ⊥ = cc in no)) (cases_lt x all_cells)
@@ -195,7 +195,7 @@ module _ (g : Setting) (m : Store) (lanes : List Held) (good : IsGoodSetting g) 
       let frames : l.0.part.shape.elements * l.0.part.shape.frames ≡ total g = ap (λ (e : ℕ). e * l.0.part.shape.frames) k.elements ∙ ap (λ (e : ℕ). g.elements * e) k.frames in
       let there : f < l.0.part.shape.elements * l.0.part.shape.frames = subst (λ (t : ℕ). f < t) (sym frames) low in
       let in_frame : r < l.0.part.shape.width = subst (λ (w : ℕ). r < w) (sym k.width) within in
-      k.part.slots f r here there in_frame ∙ ap (λ (o : Option Held). slot_of_lane f r o) (sym l.1)
+      k.part.slots f r here there in_frame ∙ ap (λ (o : Option Holding). slot_of_lane f r o) (sym l.1)
 
   credits_are : (f : ℕ) → f < total g → credits_below n lanes g.width f ≡ sum_below 512 (λ r. waiters (m.slots f r))
   credits_are f low =
@@ -210,28 +210,32 @@ module _ (g : Setting) (m : Store) (lanes : List Held) (good : IsGoodSetting g) 
   out_is None h sound = absurd h
   out_is (Some mg) h sound = ap (λ (k : ℕ). sum_below k (λ f. one_if (flag_at mg.out f))) sound.0 ∙ sum_same (total g) (λ f. one_if (flag_at mg.out f)) (λ f. one_if (m.out f)) (λ f low. ap (λ (b : Bool). one_if b) (sym (h.out f)))
 
-  pub pictured : (pool : List Token) (r : Report) (head : Held) → Tells g lanes head r → IsPicture g.program (size g) (record { store = m; pool = pool }) r
-  pictured pool r head told =
-      let k : IsKnown g m 0 head = first_get (IsKnown g m) lanes 0 head known told.there in
+  pub pictured : (pool : List Token) (r : Report) (head : Holding) → ShowsLanes g lanes head r
+      → IsPicture g.program (size g) (record { store = m; pool = pool }) r
+  pictured pool r head reported =
+      let k : IsKnown g m 0 head = first_get (IsKnown g m) lanes 0 head known reported.there in
       let cells_are : bounds g.program head.part.shape ≡ record { frames = total g; cells = all_cells } = ap (λ (e : ℕ). let b : Bounds = record { frames = e * head.part.shape.frames; cells = all_cells } in b) k.elements ∙ ap (λ (e : ℕ). let b : Bounds = record { frames = g.elements * e; cells = all_cells } in b) k.frames in
       let all_are : array_base g.program (length g.program.arrays) ≡ all_cells = ap (λ (xs : List ℕ). sum xs) (take_all (length g.program.arrays) g.program.arrays (omega arith)) in
       record {
-        output_count = ap (λ (os : List (Option Value)). length os) told.outputs ∙ k.sound.outputs k.element;
-        outputs = λ j v got. sym (k.part.outputs k.element j ∙ get_or_from_slice_get head.part.outputs j v None (subst (λ (os : List (Option Value)). slice_get os j ≡ Some v) told.outputs got));
-        ascend = subst (λ (cs : List (ℕ × Value)). Ascends cs) (sym told.cells) (full_ascends n lanes all_cells);
+        output_count = ap (λ (os : List (Option Value)). length os) reported.outputs ∙ k.sound.outputs k.element;
+        outputs = λ j v got. sym (k.part.outputs k.element j ∙ get_or_from_slice_get head.part.outputs j v None (subst (λ (os : List (Option Value)). slice_get os j ≡ Some v) reported.outputs got));
+        ascend = subst (λ (cs : List (ℕ × Value)). Ascends cs) (sym reported.cells) (full_ascends n lanes all_cells);
         cells = λ x v. (
-          (λ there. let c = in_full n lanes all_cells x v (subst (λ (cs : List (ℕ × Value)). Contains cs (x, v)) told.cells there) in value_holds x v c.0 c.1),
-          (λ full. let low = cell_below x v full in subst (λ (cs : List (ℕ × Value)). Contains cs (x, v)) (sym told.cells) (has_full n lanes all_cells x v low (holds_value x v low full))),
+          (λ there. let c = in_full n lanes all_cells x v (subst (λ (cs : List (ℕ × Value)). Contains cs (
+            x,
+            v,
+          )) reported.cells there) in value_holds x v c.0 c.1),
+          (λ full. let low = cell_below x v full in subst (λ (cs : List (ℕ × Value)). Contains cs (x, v)) (sym reported.cells) (has_full n lanes all_cells x v low (holds_value x v low full))),
         );
-        deferred = told.deferred ∙ sum_same all_cells (λ x. cell_readers n lanes x) (λ x. reader_count (m.cells x)) readers_are ∙ ap (λ (c : ℕ). sum_below c (λ x. reader_count (m.cells x))) (sym all_are);
-        waiting_frames = told.requests ∙ requests_are head.part.manager (k.part.manager k.element);
-        waiting_credits = told.credits ∙ sum_same (total g) (λ f. credits_below n lanes g.width f) (λ f. sum_below 512 (λ r. waiters (m.slots f r))) credits_are;
-        frames_out = told.out ∙ out_is head.part.manager (k.part.manager k.element) (subst (λ (b : Bounds). IsSoundManager b head.part.manager) cells_are (k.sound.manager k.element));
+        deferred = reported.deferred ∙ sum_same all_cells (λ x. cell_readers n lanes x) (λ x. reader_count (m.cells x)) readers_are ∙ ap (λ (c : ℕ). sum_below c (λ x. reader_count (m.cells x))) (sym all_are);
+        waiting_frames = reported.requests ∙ requests_are head.part.manager (k.part.manager k.element);
+        waiting_credits = reported.credits ∙ sum_same (total g) (λ f. credits_below n lanes g.width f) (λ f. sum_below 512 (λ r. waiters (m.slots f r))) credits_are;
+        frames_out = reported.out ∙ out_is head.part.manager (k.part.manager k.element) (subst (λ (b : Bounds). IsSoundManager b head.part.manager) cells_are (k.sound.manager k.element));
       }
 
 -- what is known of the lanes of a machine that stands
-pub known_lanes : (s : State) (mach : Machine) → IsSoundState s → Stands s mach → AllFrom (IsKnown s.setting mach.store) 0 s.lanes
-known_lanes s mach sound stands = from_both (IsPlaced s.setting) (λ (i : ℕ) (h : Held). IsPart h.part mach.store) (IsKnown s.setting mach.store) (λ (i : ℕ) (h : Held) p part. record {
+pub known_lanes : (s : State) (mach : Machine) → IsSoundState s → AreParts s mach → AllFrom (IsKnown s.setting mach.store) 0 s.lanes
+known_lanes s mach sound stands = from_both (IsPlaced s.setting) (λ (i : ℕ) (h : Holding). IsPart h.part mach.store) (IsKnown s.setting mach.store) (λ (i : ℕ) (h : Holding) p part. record {
   element = p.element;
   elements = p.elements;
   frames = p.frames;
@@ -240,5 +244,5 @@ known_lanes s mach sound stands = from_both (IsPlaced s.setting) (λ (i : ℕ) (
   part = part;
 }) 0 s.lanes sound.lanes stands.parts
 
-pub shows_picture : (s : State) (mach : Machine) (r : Report) (head : Held) → IsSoundState s → Stands s mach → Tells s.setting s.lanes head r → IsPicture s.setting.program (size s.setting) mach r
-shows_picture s mach r head sound stands told = pictured s.setting mach.store s.lanes sound.setting sound.count (known_lanes s mach sound stands) stands.bounded mach.pool r head told
+pub shows_picture : (s : State) (mach : Machine) (r : Report) (head : Holding) → IsSoundState s → AreParts s mach → ShowsLanes s.setting s.lanes head r → IsPicture s.setting.program (size s.setting) mach r
+shows_picture s mach r head sound stands reported = pictured s.setting mach.store s.lanes sound.setting sound.count (known_lanes s mach sound stands) stands.bounded mach.pool r head reported

@@ -20,38 +20,39 @@ use Rattle.semantics.specs.Report.{Report, IsPicture, Shows, HasEnd, HasTokenFor
 use Rattle.semantics.specs.Faithful.{HasStoreOfFull}
 use Rattle.semantics.proofs.Sums.{sum_zero}
 use Rattle.element.specs.Parts.{IsPart}
-use Rattle.element.specs.Held.{Held}
+use Rattle.element.specs.Holding.{Holding}
 use Rattle.element.specs.Steps as one
 use Rattle.element.specs.Steps.{place_of}
 use Rattle.frame_order.specs.InOrder.{OrderedRun}
 use Rattle.frame_order.proofs.InOrder.{run_of}
 use Rattle.schedule.specs.declared.halt.Halt.{Halt}
 use Rattle.schedule.specs.Setting.{Setting, size, total}
-use Rattle.schedule.specs.State.{State, AllFrom, IsPlaced, IsSoundState, Stands, tokens_in}
+use Rattle.schedule.specs.State.{State, AllFrom, IsPlaced, IsSoundState, AreParts, tokens_in}
 use Rattle.schedule.specs.Runs.{Began, HaltsAs, EndsAs}
 use Rattle.schedule.specs.Shown.{ShowsInOrder}
 use Rattle.schedule.proofs.Places.{first_get}
 
-in_lanes : (lanes : List Held) (i : ℕ) (h : Held) (t : Token) → slice_get lanes i ≡ Some h → Contains h.queue t → Contains (tokens_in lanes) t
+in_lanes : (lanes : List Holding) (i : ℕ) (h : Holding) (t : Token) → slice_get lanes i ≡ Some h → Contains h.queue t → Contains (tokens_in lanes) t
 in_lanes [] i h t e c = absurd (let no : ⊥ = cc in no)
-in_lanes (x ∷ xs) zero h t e c = let same : x ≡ h = cc in Contains-append_left x.queue (tokens_in xs) t (subst (λ (y : Held). Contains y.queue t) (sym same) c)
+in_lanes (x ∷ xs) zero h t e c = let same : x ≡ h =
+    cc in Contains-append_left x.queue (tokens_in xs) t (subst (λ (y : Holding). Contains y.queue t) (sym same) c)
 in_lanes (x ∷ xs) (suc i) h t e c = Contains-append_right x.queue (tokens_in xs) t (in_lanes xs i h t e c)
 
-in_pool : (s : State) (m : Machine) (i : ℕ) (h : Held) (t : Token) → Stands s m → slice_get s.lanes i ≡ Some h → Contains h.queue t → Contains m.pool t
+in_pool : (s : State) (m : Machine) (i : ℕ) (h : Holding) (t : Token) → AreParts s m → slice_get s.lanes i ≡ Some h → Contains h.queue t → Contains m.pool t
 in_pool s m i h t stands e c = Contains-permutation (tokens_in s.lanes) m.pool t (IsPermutation-sym m.pool (tokens_in s.lanes) stands.tokens) (in_lanes s.lanes i h t e c)
 
-pub picked : (h : Held) (pick : ℕ) (t : Token) → one.Picks h pick t → Contains h.queue t
+pub picked : (h : Holding) (pick : ℕ) (t : Token) → one.Picks h pick t → Contains h.queue t
 picked h pick t p = (place_of h pick, mod-lt pick p.some, get_or_from_slice_get h.queue (place_of h pick) t t p.token)
 
 first_in : (q : List Token) → 0 < length q → (t : Token) × Contains q t
 first_in [] some = absurd (omega arith)
 first_in (t ∷ ts) some = (t, (0, some, refl))
 
-lane_with : (lanes : List Held) → 0 < length (tokens_in lanes) → (i : ℕ) × (h : Held) × (slice_get lanes i ≡ Some h) × (0 < length h.queue)
+lane_with : (lanes : List Holding) → 0 < length (tokens_in lanes) → (i : ℕ) × (h : Holding) × (slice_get lanes i ≡ Some h) × (0 < length h.queue)
 lane_with [] some = absurd (omega arith)
 lane_with (x ∷ xs) some = by_queue (cases_lt 0 (length x.queue)) (λ (l : 0 < length (tokens_in xs)). lane_with xs l)
   where
-    by_queue : (0 < length x.queue) ⊎ (length x.queue ≤ 0) → (0 < length (tokens_in xs) → (i : ℕ) × (h : Held) × (slice_get xs i ≡ Some h) × (0 < length h.queue)) → (i : ℕ) × (h : Held) × (slice_get (x ∷ xs) i ≡ Some h) × (0 < length h.queue)
+    by_queue : (0 < length x.queue) ⊎ (length x.queue ≤ 0) → (0 < length (tokens_in xs) → (i : ℕ) × (h : Holding) × (slice_get xs i ≡ Some h) × (0 < length h.queue)) → (i : ℕ) × (h : Holding) × (slice_get (x ∷ xs) i ≡ Some h) × (0 < length h.queue)
     by_queue (inl l) rest = (0, x, refl, l)
     by_queue (inr l) rest =
         let none : length x.queue ≡ 0 = omega arith in
@@ -59,7 +60,7 @@ lane_with (x ∷ xs) some = by_queue (cases_lt 0 (length x.queue)) (λ (l : 0 < 
         let later = rest (subst (λ (q : List Token). 0 < length (q ++ tokens_in xs)) empty some) in
         (suc later.0, later.1, later.2, later.3)
 
-pool_empty : (s : State) (m : Machine) → Stands s m → tokens_in s.lanes ≡ [] → m.pool ≡ []
+pool_empty : (s : State) (m : Machine) → AreParts s m → tokens_in s.lanes ≡ [] → m.pool ≡ []
 pool_empty s m stands none =
     let e : length (tokens_in s.lanes) ≡ length m.pool = stands_length in
     let z : length (tokens_in s.lanes) ≡ 0 = ap (λ (ts : List Token). length ts) none in
@@ -85,7 +86,7 @@ waits_some (slot.Credits k) l = absurd (omega arith)
 waits_some (slot.Waiter c) l = (c, refl)
 waits_some (slot.Draining k) l = absurd (omega arith)
 
-module _ (s : State) (m : Machine) (r : Report) (sound : IsSoundState s) (stands : Stands s m) (picture : IsPicture s.setting.program (size s.setting) m r) where
+module _ (s : State) (m : Machine) (r : Report) (sound : IsSoundState s) (stands : AreParts s m) (picture : IsPicture s.setting.program (size s.setting) m r) where
   abbrev g : Setting
   g = s.setting
 
@@ -114,52 +115,53 @@ module _ (s : State) (m : Machine) (r : Report) (sound : IsSoundState s) (stands
       let waits = waits_some (m.store.slots outer.0 inner.0) inner.2 in
       inr (outer.0, inner.0, waits.0, waits.1)
 
-  has_token : (i : ℕ) (h : Held) → slice_get s.lanes i ≡ Some h → 0 < length h.queue → HasTokenFor (size g) i m
+  has_token : (i : ℕ) (h : Holding) → slice_get s.lanes i ≡ Some h → 0 < length h.queue → HasTokenFor (size g) i m
   has_token i h there some =
       let p = first_get (IsPlaced g) s.lanes i h sound.lanes there in
       let t = first_in h.queue some in
       let at : element_of h.part.shape.elements t.0.to ≡ h.part.shape.element = subst (λ (u : Token). element_of h.part.shape.elements u.to ≡ h.part.shape.element) t.1.2 (p.sound.addressed t.1.0 t.0 t.1.1) in
       (t.0, in_pool s m i h t.0 stands there t.1, ap (λ (n : ℕ). element_of n t.0.to) (sym p.elements) ∙ at ∙ p.element)
 
-  part_of_lane : (i : ℕ) (h : Held) → slice_get s.lanes i ≡ Some h → IsPart h.part m.store
-  part_of_lane i h there = first_get (λ (k : ℕ) (x : Held). IsPart x.part m.store) s.lanes i h stands.parts there
+  part_of_lane : (i : ℕ) (h : Holding) → slice_get s.lanes i ≡ Some h → IsPart h.part m.store
+  part_of_lane i h there = first_get (λ (k : ℕ) (x : Holding). IsPart x.part m.store) s.lanes i h stands.parts there
 
-  pub has_end : (listed : Bool) (evs : Events) (halt : Halt) → AllFrom (λ (i : ℕ) (h : Held). h.made ≡ count_by (λ (ev : ℕ × Token). ev.0 == i) evs) 0 s.lanes
-      → HaltsAs s listed halt → EndsAs g.program r halt → HasEnd g.program (size g) g.steps listed false evs m r.end
-  has_end listed evs Halt.NoToken counts none (inl (e, frames, credits)) = subst (λ (x : End). HasEnd g.program (size g) g.steps listed false evs m x) (sym e) (pool_empty s m stands none, none_wait frames credits)
-  has_end listed evs Halt.NoToken counts none (inr (e, some)) = subst (λ (x : End). HasEnd g.program (size g) g.steps listed false evs m x) (sym e) (pool_empty s m stands none, some_wait some)
-  has_end listed evs (Halt.Clash cell) counts (i, pick, (h, can, clash)) (a, k, e, array, index, is) =
+  pub has_end : (by_list : Bool) (evs : Events) (halt : Halt)
+      → AllFrom (λ (i : ℕ) (h : Holding). h.made ≡ count_by (λ (ev : ℕ × Token). ev.0 == i) evs) 0 s.lanes
+      → HaltsAs s by_list halt → EndsAs g.program r halt → HasEnd g.program (size g) g.steps by_list false evs m r.end
+  has_end by_list evs Halt.NoToken counts none (inl (e, frames, credits)) = subst (λ (x : End). HasEnd g.program (size g) g.steps by_list false evs m x) (sym e) (pool_empty s m stands none, none_wait frames credits)
+  has_end by_list evs Halt.NoToken counts none (inr (e, some)) = subst (λ (x : End). HasEnd g.program (size g) g.steps by_list false evs m x) (sym e) (pool_empty s m stands none, some_wait some)
+  has_end by_list evs (Halt.Clash cell) counts (i, pick, (h, can, clash)) (a, k, e, array, index, is) =
       let t : Token = clash.token in
       let full = clash.second.full m.store (part_of_lane i h can.0.there) in
       let as_store : t ≡ record { to = To.Store cell clash.second.value; word = t.word } = ap (λ (to : To). let u : Token = record { to = to; word = t.word } in u) clash.second.to in
       let there : Contains m.pool record { to = To.Store cell clash.second.value; word = t.word } = subst (λ (u : Token). Contains m.pool u) as_store (in_pool s m i h t stands can.0.there (picked h pick t clash.picks)) in
-      subst (λ (x : End). HasEnd g.program (size g) g.steps listed false evs m x) (sym e) (array, index, subst (λ (x : ℕ). HasStoreOfFull m x) (sym is) (clash.second.value, full.0, t.word, there, full.1))
-  has_end listed evs Halt.Steps counts (inl (i, (h, lane, some, all))) e =
-      subst (λ (x : End). HasEnd g.program (size g) g.steps listed false evs m x) (sym e) (inl (i, sym (first_get (λ (k : ℕ) (x : Held). x.made ≡ count_by (λ (ev : ℕ × Token). ev.0 == k) evs) s.lanes i h counts lane.there) ∙ all, has_token i h lane.there some))
-  has_end listed evs Halt.Steps counts (inr (is_listed, has)) e =
+      subst (λ (x : End). HasEnd g.program (size g) g.steps by_list false evs m x) (sym e) (array, index, subst (λ (x : ℕ). HasStoreOfFull m x) (sym is) (clash.second.value, full.0, t.word, there, full.1))
+  has_end by_list evs Halt.Steps counts (inl (i, (h, lane, some, all))) e =
+      subst (λ (x : End). HasEnd g.program (size g) g.steps by_list false evs m x) (sym e) (inl (i, sym (first_get (λ (k : ℕ) (x : Holding). x.made ≡ count_by (λ (ev : ℕ × Token). ev.0 == k) evs) s.lanes i h counts lane.there) ∙ all, has_token i h lane.there some))
+  has_end by_list evs Halt.Steps counts (inr (is_noted, has)) e =
       let l = lane_with s.lanes has in
-      subst (λ (x : End). HasEnd g.program (size g) g.steps listed false evs m x) (sym e) (inr (is_listed, (l.0, has_token l.0 l.1 l.2 l.3)))
-  has_end listed evs (Halt.Stuck rule) counts (i, pick, (h, can, stuck)) e =
-      subst (λ (x : End). HasEnd g.program (size g) g.steps listed false evs m x) (sym e) (stuck.token, in_pool s m i h stuck.token stands can.0.there (picked h pick stuck.token stuck.picks), stuck.excluded m.store (part_of_lane i h can.0.there))
-  has_end listed evs Halt.Memory counts halts e = subst (λ (x : End). HasEnd g.program (size g) g.steps listed false evs m x) (sym e) tt
-  has_end listed evs Halt.Stop counts halts e = absurd halts
+      subst (λ (x : End). HasEnd g.program (size g) g.steps by_list false evs m x) (sym e) (inr (is_noted, (l.0, has_token l.0 l.1 l.2 l.3)))
+  has_end by_list evs (Halt.Stuck rule) counts (i, pick, (h, can, stuck)) e =
+      subst (λ (x : End). HasEnd g.program (size g) g.steps by_list false evs m x) (sym e) (stuck.token, in_pool s m i h stuck.token stands can.0.there (picked h pick stuck.token stuck.picks), stuck.excluded m.store (part_of_lane i h can.0.there))
+  has_end by_list evs Halt.Memory counts halts e = subst (λ (x : End). HasEnd g.program (size g) g.steps by_list false evs m x) (sym e) tt
+  has_end by_list evs Halt.Stop counts halts e = absurd halts
 
 -- the report of a run that halts here shows it
-pub shows_here : (inputs : List ℤ) (s : State) (evs : Events) (listed : Bool) (halt : Halt) (r : Report) → IsSoundState s → (b : Began inputs s evs) → HaltsAs s listed halt → EndsAs s.setting.program r halt → r.events ≡ evs
-    → IsPicture s.setting.program (size s.setting) b.machine r → ShowsInOrder s.setting.program (size s.setting) inputs s.setting.steps listed false r
-shows_here inputs s evs listed halt r sound b halts ends told picture =
-    let end = has_end s b.machine r sound b.stands picture listed evs halt b.counts halts ends in
+pub shows_here : (inputs : List ℤ) (s : State) (evs : Events) (by_list : Bool) (halt : Halt) (r : Report) → IsSoundState s → (b : Began inputs s evs) → HaltsAs s by_list halt → EndsAs s.setting.program r halt → r.events ≡ evs
+    → IsPicture s.setting.program (size s.setting) b.machine r → ShowsInOrder s.setting.program (size s.setting) inputs s.setting.steps by_list false r
+shows_here inputs s evs by_list halt r sound b halts ends reported picture =
+    let end = has_end s b.machine r sound b.stands picture by_list evs halt b.counts halts ends in
     record {
       last = b.machine;
-      run = subst (λ (l : Events). OrderedRun s.setting.program (size s.setting) (at_start s.setting.program inputs) l b.machine) (sym told) b.run;
+      run = subst (λ (l : Events). OrderedRun s.setting.program (size s.setting) (at_start s.setting.program inputs) l b.machine) (sym reported) b.run;
       picture = picture;
-      ends = subst (λ (l : Events). HasEnd s.setting.program (size s.setting) s.setting.steps listed false l b.machine r.end) (sym told) end;
+      ends = subst (λ (l : Events). HasEnd s.setting.program (size s.setting) s.setting.steps by_list false l b.machine r.end) (sym reported) end;
     }
 
 -- what it shows in order it shows
-pub shown : (p : Program) (z : Size) (inputs : List ℤ) (steps : ℕ) (listed may_stop : Bool) (r : Report) → ShowsInOrder p z inputs steps listed may_stop r
-    → Shows p z inputs steps listed may_stop r
-shown p z inputs steps listed may_stop r s = record {
+pub shown : (p : Program) (z : Size) (inputs : List ℤ) (steps : ℕ) (by_list may_stop : Bool) (r : Report) → ShowsInOrder p z inputs steps by_list may_stop r
+    → Shows p z inputs steps by_list may_stop r
+shown p z inputs steps by_list may_stop r s = record {
   last = s.last;
   run = run_of p z (at_start p inputs) s.last r.events s.run;
   picture = s.picture;

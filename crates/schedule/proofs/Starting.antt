@@ -16,14 +16,14 @@ use Rattle.semantics.specs.Rule.{token}
 use Rattle.semantics.specs.Machine.{input_tokens, at_start}
 use Rattle.element.specs.Near.{Bounds, IsNearToken}
 use Rattle.element.specs.Parts.{IsPart}
-use Rattle.element.specs.Held.{Held, LaneView, Fixed, held_of, bounds_at, queued}
+use Rattle.element.specs.Holding.{Holding, LaneView, Fixed, held_of, bounds_at, queued}
 use Rattle.schedule.specs.Setting.{Setting, total, FitsSlots, IsGoodSetting}
-use Rattle.schedule.specs.State.{State, AllFrom, IsAt, IsPlaced, IsSoundState, RunsAs, Stands, delivered, tokens_in, lanes_of}
+use Rattle.schedule.specs.State.{State, AllFrom, IsAt, IsPlaced, IsSoundState, RunsAs, AreParts, delivered, tokens_in, lanes_of}
 use Rattle.schedule.specs.Runs.{Began}
 use Rattle.frame_store.specs.Slots.{Slots, all_empty}
 use Rattle.schedule.specs.declared.config.Config.{Config}
 use Rattle.schedule.specs.Starts.{IsFresh, IsGood, sized, setting_of, start_tokens}
-use Rattle.schedule.proofs.Memory.{none_coming}
+use Rattle.schedule.proofs.Memory.{none_arriving}
 use Rattle.schedule.proofs.Places.{from_map, from_weaker}
 use Rattle.schedule.proofs.Tokens.{tokens_delivered}
 use Rattle.schedule.proofs.Staying.{bounds_as}
@@ -55,11 +55,11 @@ inputs_near g some ip (x ∷ xs) = All-cons (IsNearToken (bounds_in g)) (token (
 start_near : (g : Setting) → 0 < total g → (first : ℕ) (xs : List ℤ) → All (IsNearToken (bounds_in g)) (start_tokens first xs)
 start_near g some first xs = All-cons (IsNearToken (bounds_in g)) (token (To.Instr 0 first Left) (Word.Back (Cont.Host 0))) (input_tokens (first + 1) xs) (record { to = some; word = lit< tt }) (inputs_near g some (first + 1) xs)
 
-no_tokens : (g : Setting) (k : ℕ) (lanes : List Held) → AllFrom (IsFresh g) k lanes → tokens_in lanes ≡ []
+no_tokens : (g : Setting) (k : ℕ) (lanes : List Holding) → AllFrom (IsFresh g) k lanes → tokens_in lanes ≡ []
 no_tokens g k [] all = refl
 no_tokens g k (h ∷ hs) all = ap (λ (q : List Token). q ++ tokens_in hs) all.0.queue ∙ no_tokens g (suc k) hs all.1
 
-module _ (g : Setting) (inputs : List ℤ) (lanes : List Held) (good : IsGoodSetting g) (count : length lanes ≡ g.elements) (fresh : AllFrom (IsFresh (sized g.program g.elements g.frames g.width 0)) 0 lanes) where
+module _ (g : Setting) (inputs : List ℤ) (lanes : List Holding) (good : IsGoodSetting g) (count : length lanes ≡ g.elements) (fresh : AllFrom (IsFresh (sized g.program g.elements g.frames g.width 0)) 0 lanes) where
   abbrev first : ℕ
   first = first_of g.program g.program.main
 
@@ -73,7 +73,7 @@ module _ (g : Setting) (inputs : List ℤ) (lanes : List Held) (good : IsGoodSet
   some = let a = good.some in let b = good.some_frames in one-le-mul {a = g.elements} {b = g.frames} (omega arith) (omega arith)
 
   placed : AllFrom (IsPlaced g) 0 lanes
-  placed = from_weaker (IsFresh (sized g.program g.elements g.frames g.width 0)) (IsPlaced g) (λ (i : ℕ) (h : Held) f. record {
+  placed = from_weaker (IsFresh (sized g.program g.elements g.frames g.width 0)) (IsPlaced g) (λ (i : ℕ) (h : Holding) f. record {
     element = f.element;
     elements = f.elements;
     frames = f.frames;
@@ -86,11 +86,11 @@ module _ (g : Setting) (inputs : List ℤ) (lanes : List Held) (good : IsGoodSet
   opens_sound = delivered_sound (record { setting = g; lanes = lanes }) ts (start_near g some first inputs) (record { setting = good; count = count; lanes = placed })
 
   at : AllFrom (IsAt g.elements) 0 lanes
-  at = from_weaker (IsPlaced g) (IsAt g.elements) (λ (i : ℕ) (h : Held) p. (p.element, p.elements)) 0 lanes placed
+  at = from_weaker (IsPlaced g) (IsAt g.elements) (λ (i : ℕ) (h : Holding) p. (p.element, p.elements)) 0 lanes placed
 
-  pub opens_stands : Stands opened (at_start g.program inputs)
+  pub opens_stands : AreParts opened (at_start g.program inputs)
   opens_stands = record {
-    parts = from_map (IsFresh (sized g.program g.elements g.frames g.width 0)) (λ (i : ℕ) (h : Held). IsPart h.part (at_start g.program inputs).store) (λ (h : Held). queued h ts) (λ (i : ℕ) (h : Held) f. f.starts inputs) 0 lanes fresh;
+    parts = from_map (IsFresh (sized g.program g.elements g.frames g.width 0)) (λ (i : ℕ) (h : Holding). IsPart h.part (at_start g.program inputs).store) (λ (h : Holding). queued h ts) (λ (i : ℕ) (h : Holding) f. f.starts inputs) 0 lanes fresh;
     tokens =
         let all = tokens_delivered g.elements lanes ts good.some count at in
         let none : tokens_in lanes ++ ts ≡ ts = ap (λ (q : List Token). q ++ ts) (no_tokens (sized g.program g.elements g.frames g.width 0) 0 lanes fresh) in
@@ -103,11 +103,12 @@ module _ (g : Setting) (inputs : List ℤ) (lanes : List Held) (good : IsGoodSet
     machine = at_start g.program inputs;
     run = (IsPermutation-refl (at_start g.program inputs).pool, refl);
     stands = opens_stands;
-    counts = from_map (IsFresh (sized g.program g.elements g.frames g.width 0)) _ (λ (h : Held). queued h ts) (λ (i : ℕ) (h : Held) f. f.made) 0 lanes fresh;
+    counts = from_map (IsFresh (sized g.program g.elements g.frames g.width 0)) _ (λ (h : Holding). queued h ts) (λ (i : ℕ) (h : Holding) f. f.made)
+        0 lanes fresh;
   }
 
 -- the lanes over a store that is as it was made
-pub fresh_over : (p : Program) (v : Slots) (elements frames slots width : ℕ) (lanes : List Held) → v ≡ all_empty elements frames slots → slots ≡ width
+pub fresh_over : (p : Program) (v : Slots) (elements frames slots width : ℕ) (lanes : List Holding) → v ≡ all_empty elements frames slots → slots ≡ width
     → AllFrom (IsFresh (sized p v.elements v.frames v.width 0)) 0 lanes → AllFrom (IsFresh (sized p elements frames width 0)) 0 lanes
 fresh_over p v elements frames slots width lanes e w all =
     subst (λ (n : ℕ). AllFrom (IsFresh (sized p elements frames n 0)) 0 lanes) w (subst (λ (x : Slots). AllFrom (IsFresh (sized p x.elements x.frames x.width 0)) 0 lanes) e all)
@@ -139,7 +140,7 @@ good_setting p width slots c good some_frame is some few fits = record {
 }
 
 -- the lanes with what is on its way, before the first event
-pub lanes_are : (p : Program) (items : List LaneView) (sent : List Token) (start : ℕ) (inputs : List ℤ) (lanes : List Held) → sent ≡ [] → start ≡ first_of p p.main
+pub lanes_are : (p : Program) (items : List LaneView) (sent : List Token) (start : ℕ) (inputs : List ℤ) (lanes : List Holding) → sent ≡ [] → start ≡ first_of p p.main
     → map held_of items ≡ delivered (start_tokens start inputs) lanes → delivered (start_tokens (first_of p p.main) inputs) lanes ≡ lanes_of items (drop 0 sent)
 lanes_are p items sent start inputs lanes none is got =
-    sym (none_coming items sent 0 none refl ∙ got ∙ ap (λ (n : ℕ). delivered (start_tokens n inputs) lanes) is)
+    sym (none_arriving items sent 0 none refl ∙ got ∙ ap (λ (n : ℕ). delivered (start_tokens n inputs) lanes) is)

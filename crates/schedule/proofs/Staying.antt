@@ -10,7 +10,7 @@ use Rattle.lemmas.proofs.Alls.{all_right}
 use Rattle.tags.specs.declared.token.Token.{Token}
 use Rattle.semantics.specs.Program.{Program}
 use Rattle.element.specs.Near.{Bounds, IsNearToken}
-use Rattle.element.specs.Held.{Held, LaneView, Fixed, held_of, fixed_of, bounds_at, queued}
+use Rattle.element.specs.Holding.{Holding, LaneView, Fixed, held_of, fixed_of, bounds_at, queued}
 use Rattle.schedule.specs.Setting.{Setting}
 use Rattle.schedule.specs.State.{State, AllFrom, IsAt, IsPlaced, IsSoundState, RunsAs, IsNearIn, delivered, lanes_of, tokens_in}
 use Rattle.schedule.proofs.Places.{to_map}
@@ -43,23 +43,23 @@ pub near_for : (g : Setting) (fs : List Fixed) → All (RunsAs g) fs → (ts : L
 near_for g fs runs ts near = All-weaker (IsNearToken (bounds_in g)) (IsNearIn fs) (λ (t : Token) n. All-weaker (RunsAs g) (λ (f : Fixed). IsNearToken (bounds_at f) t) (λ (f : Fixed) r. subst (λ (b : Bounds). IsNearToken b t) (sym (bounds_as g f r)) n) fs runs) ts near
 
 -- the tokens of lanes in their places are near
-pub near_in : (g : Setting) (k : ℕ) (lanes : List Held) → AllFrom (IsPlaced g) k lanes → All (IsNearToken (bounds_in g)) (tokens_in lanes)
+pub near_in : (g : Setting) (k : ℕ) (lanes : List Holding) → AllFrom (IsPlaced g) k lanes → All (IsNearToken (bounds_in g)) (tokens_in lanes)
 near_in g k [] placed = All-nil (IsNearToken (bounds_in g))
 near_in g k (h ∷ hs) placed =
     let own : All (IsNearToken (bounds_in g)) h.queue = subst (λ (b : Bounds). All (IsNearToken b) h.queue) (bounds_are g k h placed.0) placed.0.sound.near in
     All-append (IsNearToken (bounds_in g)) h.queue (tokens_in hs) own (near_in g (suc k) hs placed.1)
 
 -- so do tokens that are on their way
-pub near_coming : (g : Setting) (raw : List Held) (ts : List Token) → IsSoundState (record { setting = g; lanes = delivered ts raw }) → All (IsNearToken (bounds_in g)) ts
-near_coming g raw ts sound =
-    let count : length raw ≡ g.elements = sym (length-map raw (λ (h : Held). queued h ts)) ∙ sound.count in
-    let at = to_map (IsAt g.elements) (IsPlaced g) (λ (h : Held). queued h ts) (λ (i : ℕ) (h : Held) (p : IsPlaced g i (queued h ts)). (p.element, p.elements)) 0 raw sound.lanes in
+pub near_arriving : (g : Setting) (raw : List Holding) (ts : List Token) → IsSoundState (record { setting = g; lanes = delivered ts raw }) → All (IsNearToken (bounds_in g)) ts
+near_arriving g raw ts sound =
+    let count : length raw ≡ g.elements = sym (length-map raw (λ (h : Holding). queued h ts)) ∙ sound.count in
+    let at = to_map (IsAt g.elements) (IsPlaced g) (λ (h : Holding). queued h ts) (λ (i : ℕ) (h : Holding) (p : IsPlaced g i (queued h ts)). (p.element, p.elements)) 0 raw sound.lanes in
     let all = near_in g 0 (delivered ts raw) sound.lanes in
     all_right (IsNearToken (bounds_in g)) (tokens_in raw) ts (All-permutation (IsNearToken (bounds_in g)) (tokens_in (delivered ts raw)) (tokens_in raw ++ ts) (tokens_delivered g.elements raw ts sound.setting.some count at) all)
 
 -- A step that did nothing
-pub stays_so : (g : Setting) (items : List LaneView) (sent after : List Token) (come e : ℕ) (x new : LaneView) → sent ≡ [] → come ≡ 0 → slice_get (lanes_of items (drop come sent)) e ≡ Some (held_of x) → held_of new ≡ held_of x → after ≡ sent
-    → (let s : State = record { setting = g; lanes = lanes_of (slice_set items e new) (drop come after) } in s) ≡ record { setting = g; lanes = lanes_of items (drop come sent) }
-stays_so g items sent after come e x new none first there held same =
-    ap (λ (l : List Held). let s : State = record { setting = g; lanes = l } in s) (sym (state_next items sent after come e new none first))
-    ∙ unchanged (record { setting = g; lanes = lanes_of items (drop come sent) }) e (held_of x) (held_of new) after there held (same ∙ none)
+pub stays_so : (g : Setting) (items : List LaneView) (sent after : List Token) (arrived e : ℕ) (x new : LaneView) → sent ≡ [] → arrived ≡ 0 → slice_get (lanes_of items (drop arrived sent)) e ≡ Some (held_of x) → held_of new ≡ held_of x → after ≡ sent
+    → (let s : State = record { setting = g; lanes = lanes_of (slice_set items e new) (drop arrived after) } in s) ≡ record { setting = g; lanes = lanes_of items (drop arrived sent) }
+stays_so g items sent after arrived e x new none first there held same =
+    ap (λ (l : List Holding). let s : State = record { setting = g; lanes = l } in s) (sym (state_next items sent after arrived e new none first))
+    ∙ unchanged (record { setting = g; lanes = lanes_of items (drop arrived sent) }) e (held_of x) (held_of new) after there held (same ∙ none)

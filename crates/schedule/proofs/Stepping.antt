@@ -11,14 +11,14 @@ use Rattle.tags.specs.Addresses.{element_of}
 use Rattle.semantics.specs.Machine.{Machine, Size}
 use Rattle.element.specs.Near.{Bounds, IsNearToken}
 use Rattle.element.specs.Parts.{Shape, IsPart, bounds}
-use Rattle.element.specs.Held.{Held, is_here, here, queued, IsSoundLane}
+use Rattle.element.specs.Holding.{Holding, is_here, here, queued, IsSoundLane}
 use Rattle.element.specs.Steps as one
 use Rattle.element.specs.Steps.{size_of, place_of, HoldsTokens, IsAfter}
 use Rattle.frame_order.specs.InOrder.{OrderedEvent}
 use Rattle.element.proofs.Opening.{others_stay}
 use Rattle.frame_order.proofs.InOrder.{does_in_order}
 use Rattle.schedule.specs.Setting.{Setting, size, total}
-use Rattle.schedule.specs.State.{State, AllFrom, IsAt, delivered, tokens_in, IsPlaced, IsSoundState, Stands}
+use Rattle.schedule.specs.State.{State, AllFrom, IsAt, delivered, tokens_in, IsPlaced, IsSoundState, AreParts}
 use Rattle.element.specs.declared.lane.Stepped.{Stepped}
 use Rattle.element.specs.declared.lane.Stepped.TheVariants.{Idle, Did, Clash, Stuck, Memory}
 use Rattle.schedule.specs.Steps.{Does, Steps, events_of}
@@ -30,14 +30,14 @@ use Rattle.schedule.proofs.Bounding.{bounded_after}
 abbrev pub bounds_in : Setting → Bounds
 bounds_in g = record { frames = total g; cells = sum g.program.arrays }
 
-pub bounds_are : (g : Setting) (i : ℕ) (h : Held) → IsPlaced g i h → bounds g.program h.part.shape ≡ bounds_in g
+pub bounds_are : (g : Setting) (i : ℕ) (h : Holding) → IsPlaced g i h → bounds g.program h.part.shape ≡ bounds_in g
 bounds_are g i h p = ap (λ (n : ℕ). let b : Bounds = record { frames = n * h.part.shape.frames; cells = sum g.program.arrays } in b) p.elements ∙ ap (λ (n : ℕ). let b : Bounds = record { frames = g.elements * n; cells = sum g.program.arrays } in b) p.frames
 
-pub at_place : (g : Setting) (i : ℕ) (h : Held) → IsPlaced g i h → IsAt g.elements i h
+pub at_place : (g : Setting) (i : ℕ) (h : Holding) → IsPlaced g i h → IsAt g.elements i h
 at_place g i h p = (p.element, p.elements)
 
 -- a lane that gets tokens stays sound
-pub queued_placed : (g : Setting) (ts : List Token) → All (IsNearToken (bounds_in g)) ts → (i : ℕ) (h : Held) → IsPlaced g i h → IsPlaced g i (queued h ts)
+pub queued_placed : (g : Setting) (ts : List Token) → All (IsNearToken (bounds_in g)) ts → (i : ℕ) (h : Holding) → IsPlaced g i h → IsPlaced g i (queued h ts)
 queued_placed g ts near i h p =
     let z : Shape = h.part.shape in
     let mine : List Token = here z ts in
@@ -60,19 +60,19 @@ queued_placed g ts near i h p =
 pub delivered_sound : (s : State) (ts : List Token) → All (IsNearToken (bounds_in s.setting)) ts → IsSoundState s → IsSoundState (record { setting = s.setting; lanes = delivered ts s.lanes })
 delivered_sound s ts near sound = record {
   setting = sound.setting;
-  count = length-map s.lanes (λ (h : Held). queued h ts) ∙ sound.count;
-  lanes = from_map (IsPlaced s.setting) (IsPlaced s.setting) (λ (h : Held). queued h ts) (queued_placed s.setting ts near) 0 s.lanes sound.lanes;
+  count = length-map s.lanes (λ (h : Holding). queued h ts) ∙ sound.count;
+  lanes = from_map (IsPlaced s.setting) (IsPlaced s.setting) (λ (h : Holding). queued h ts) (queued_placed s.setting ts near) 0 s.lanes sound.lanes;
 }
 
 -- one lane is another, and what holds of the others may change
-pub set_others : (P Q : ℕ → Held → Type 0) (e : ℕ) → ((i : ℕ) (h : Held) → i ≢ e → P i h → Q i h) → (k : ℕ) (xs : List Held) (i : ℕ) (x : Held) → e ≡ k + i → AllFrom P k xs → Q e x → AllFrom Q k (slice_set xs i x)
+pub set_others : (P Q : ℕ → Holding → Type 0) (e : ℕ) → ((i : ℕ) (h : Holding) → i ≢ e → P i h → Q i h) → (k : ℕ) (xs : List Holding) (i : ℕ) (x : Holding) → e ≡ k + i → AllFrom P k xs → Q e x → AllFrom Q k (slice_set xs i x)
 set_others P Q e step k [] i x is all q = tt
 set_others P Q e step k (y ∷ ys) zero x is all q =
     let here : e ≡ k = omega arith in
     let low : e < suc k = omega arith in
     (subst (λ (n : ℕ). Q n x) here q, later (suc k) ys low all.1)
   where
-    later : (k : ℕ) (ys : List Held) → e < k → AllFrom P k ys → AllFrom Q k ys
+    later : (k : ℕ) (ys : List Holding) → e < k → AllFrom P k ys → AllFrom Q k ys
     later k [] low all = tt
     later k (z ∷ zs) low all = let ne : k ≢ e = λ (s : k ≡ e). omega arith in let lower : e < suc k = omega arith in (step k z ne all.0, later (suc k) zs lower all.1)
 set_others P Q e step k (y ∷ ys) (suc i) x is all q =
@@ -80,7 +80,7 @@ set_others P Q e step k (y ∷ ys) (suc i) x is all q =
     let there : e ≡ suc k + i = omega arith in
     (step k y ne all.0, set_others P Q e step (suc k) ys i x there all.1 q)
 
-module _ (old : State) (e pick : ℕ) (lane next : Held) (sent : List Token) (sound : IsSoundState old) (there : slice_get old.lanes e ≡ Some lane) (step : one.Does old.setting.program lane pick [] next sent) where
+module _ (old : State) (e pick : ℕ) (lane next : Holding) (sent : List Token) (sound : IsSoundState old) (there : slice_get old.lanes e ≡ Some lane) (step : one.Does old.setting.program lane pick [] next sent) where
   abbrev g : Setting
   g = old.setting
 
@@ -115,12 +115,12 @@ module _ (old : State) (e pick : ℕ) (lane next : Held) (sent : List Token) (so
   abbrev others : List Token
   others = tokens_in (remove old.lanes e)
 
-  module _ (m : Machine) (stands : Stands old m) where
+  module _ (m : Machine) (stands : AreParts old m) where
     holds : HoldsTokens lane [] others m
     holds = IsPermutation-trans m.pool (tokens_in old.lanes) (lane.queue ++ others) stands.tokens (tokens_first old.lanes e lane there)
 
     part : IsPart lane.part m.store
-    part = first_get (λ (i : ℕ) (h : Held). IsPart h.part m.store) old.lanes e lane stands.parts there
+    part = first_get (λ (i : ℕ) (h : Holding). IsPart h.part m.store) old.lanes e lane stands.parts there
 
     made_it : IsAfter g.program lane step.token next sent others step.made m
     made_it = step.event m others part holds
@@ -133,11 +133,11 @@ module _ (old : State) (e pick : ℕ) (lane next : Held) (sent : List Token) (so
     ordered = subst (λ (z : Size). OrderedEvent g.program z e step.token m made_it.next) size_is
         (subst (λ (n : ℕ). OrderedEvent g.program (size_of lane.part.shape) n step.token m made_it.next) placed.element (does_in_order g.program lane pick [] next sent step m others part holds))
 
-    parts : AllFrom (λ (i : ℕ) (h : Held). IsPart h.part made_it.next.store) 0 (slice_set old.lanes e next)
-    parts = let at : e ≡ 0 + e = omega arith in set_others (λ (i : ℕ) (h : Held). IsPlaced g i h × IsPart h.part m.store) (λ (i : ℕ) (h : Held). IsPart h.part made_it.next.store) e
-        (λ (i : ℕ) (h : Held) ne both. others_stay g.program lane.part.shape h.part m.store made_it.next.store made_it.same (both.0.elements ∙ sym placed.elements) (λ (same : h.part.shape.element ≡ lane.part.shape.element). ne (sym both.0.element ∙ same ∙ placed.element)) both.0.sound.part.own_element both.0.sound.part.own_elements both.1)
+    parts : AllFrom (λ (i : ℕ) (h : Holding). IsPart h.part made_it.next.store) 0 (slice_set old.lanes e next)
+    parts = let at : e ≡ 0 + e = omega arith in set_others (λ (i : ℕ) (h : Holding). IsPlaced g i h × IsPart h.part m.store) (λ (i : ℕ) (h : Holding). IsPart h.part made_it.next.store) e
+        (λ (i : ℕ) (h : Holding) ne both. others_stay g.program lane.part.shape h.part m.store made_it.next.store made_it.same (both.0.elements ∙ sym placed.elements) (λ (same : h.part.shape.element ≡ lane.part.shape.element). ne (sym both.0.element ∙ same ∙ placed.element)) both.0.sound.part.own_element both.0.sound.part.own_elements both.1)
         0 old.lanes e next at
-        (from_both (IsPlaced g) (λ (i : ℕ) (h : Held). IsPart h.part m.store) (λ (i : ℕ) (h : Held). IsPlaced g i h × IsPart h.part m.store) (λ (i : ℕ) (h : Held) a b. (a, b)) 0 old.lanes sound.lanes stands.parts)
+        (from_both (IsPlaced g) (λ (i : ℕ) (h : Holding). IsPart h.part m.store) (λ (i : ℕ) (h : Holding). IsPlaced g i h × IsPart h.part m.store) (λ (i : ℕ) (h : Holding) a b. (a, b)) 0 old.lanes sound.lanes stands.parts)
         made_it.part
 
     at_places : AllFrom (IsAt g.elements) 0 (slice_set old.lanes e next)
@@ -146,7 +146,7 @@ module _ (old : State) (e pick : ℕ) (lane next : Held) (sent : List Token) (so
 
     tokens : IsPermutation made_it.next.pool (tokens_in after.lanes)
     tokens =
-        let set : List Held = slice_set old.lanes e next in
+        let set : List Holding = slice_set old.lanes e next in
         let first : IsPermutation (tokens_in after.lanes) (tokens_in set ++ sent) = tokens_delivered g.elements set sent sound.setting.some (length-set old.lanes e next ∙ sound.count) at_places in
         let second : IsPermutation (tokens_in set ++ sent) ((next.queue ++ others) ++ sent) = IsPermutation-append_left sent _ _ (tokens_set old.lanes e lane next there) in
         let third : IsPermutation ((next.queue ++ others) ++ sent) (next.queue ++ (sent ++ others)) = append_twice next.queue others sent in
@@ -160,12 +160,12 @@ module _ (old : State) (e pick : ℕ) (lane next : Held) (sent : List Token) (so
         let near : IsNearToken (bounds g.program lane.part.shape) step.token = subst (λ (t : Token). IsNearToken (bounds g.program lane.part.shape) t) is (placed.sound.near place step.token (slice_get_within lane.queue place step.token step.picks.token)) in
         subst (λ (b : Bounds). IsNearToken b step.token) (bounds_are g e lane placed) near
 
-    pub stands_after : (n : Machine) × OrderedEvent g.program (size g) e step.token m n × Stands after n
+    pub stands_after : (n : Machine) × OrderedEvent g.program (size g) e step.token m n × AreParts after n
     stands_after = (
       made_it.next,
       ordered,
       record {
-        parts = from_map (λ (i : ℕ) (h : Held). IsPart h.part made_it.next.store) (λ (i : ℕ) (h : Held). IsPart h.part made_it.next.store) (λ (h : Held). queued h sent) (λ (i : ℕ) (h : Held) p. p) 0 (slice_set old.lanes e next) parts;
+        parts = from_map (λ (i : ℕ) (h : Holding). IsPart h.part made_it.next.store) (λ (i : ℕ) (h : Holding). IsPart h.part made_it.next.store) (λ (h : Holding). queued h sent) (λ (i : ℕ) (h : Holding) p. p) 0 (slice_set old.lanes e next) parts;
         tokens = tokens;
         bounded = bounded_after g m.store stands.bounded sound.setting.fits step.token.to step.token.word ordered.event.made made_it.next.store near_token.to ordered.event.happens;
       },
@@ -186,15 +186,15 @@ module _ (old : State) (e pick : ℕ) (lane next : Held) (sent : List Token) (so
   }
 
 -- THE ANSWERS OF A STEP
-pub unchanged : (old : State) (e : ℕ) (lane next : Held) (sent : List Token) → slice_get old.lanes e ≡ Some lane → next ≡ lane → sent ≡ [] → (let s : State = record { setting = old.setting; lanes = delivered sent (slice_set old.lanes e next) } in s) ≡ old
+pub unchanged : (old : State) (e : ℕ) (lane next : Holding) (sent : List Token) → slice_get old.lanes e ≡ Some lane → next ≡ lane → sent ≡ [] → (let s : State = record { setting = old.setting; lanes = delivered sent (slice_set old.lanes e next) } in s) ≡ old
 unchanged old e lane next sent there same none =
-    let lanes : delivered sent (slice_set old.lanes e next) ≡ old.lanes = ap (λ (ts : List Token). delivered ts (slice_set old.lanes e next)) none ∙ delivered_none (slice_set old.lanes e next) ∙ ap (λ (h : Held). slice_set old.lanes e h) same ∙ set_same old.lanes e lane there in
-    ap (λ (l : List Held). let s : State = record { setting = old.setting; lanes = l } in s) lanes
+    let lanes : delivered sent (slice_set old.lanes e next) ≡ old.lanes = ap (λ (ts : List Token). delivered ts (slice_set old.lanes e next)) none ∙ delivered_none (slice_set old.lanes e next) ∙ ap (λ (h : Holding). slice_set old.lanes e h) same ∙ set_same old.lanes e lane there in
+    ap (λ (l : List Holding). let s : State = record { setting = old.setting; lanes = l } in s) lanes
 
-one_token : (lane : Held) (pick : ℕ) (t u : Token) → one.Picks lane pick t → one.Picks lane pick u → t ≡ u
+one_token : (lane : Holding) (pick : ℕ) (t u : Token) → one.Picks lane pick t → one.Picks lane pick u → t ≡ u
 one_token lane pick t u p q = let a = p.token in let b = q.token in cc
 
-pub answered : (old : State) (e pick : ℕ) (lane next : Held) (t : Token) (sent : List Token) (result : Stepped) → IsSoundState old → slice_get old.lanes e ≡ Some lane → 0 < length lane.queue → lane.made < old.setting.steps
+pub answered : (old : State) (e pick : ℕ) (lane next : Holding) (t : Token) (sent : List Token) (result : Stepped) → IsSoundState old → slice_get old.lanes e ≡ Some lane → 0 < length lane.queue → lane.made < old.setting.steps
     → one.Picks lane pick t → one.Steps old.setting.program lane pick [] result next sent → IsSoundLane old.setting.program next → next.made ≤ old.setting.steps
     → (let s : State = record { setting = old.setting; lanes = delivered sent (slice_set old.lanes e next) } in IsSoundState s × Steps old e pick (Some result) s (events_of result e t))
 answered old e pick lane next t sent Idle sound there some few picks step next_sound most = absurd (let l : length lane.queue ≡ 0 = ap (λ (q : List Token). length q) step.0 in omega arith)
@@ -214,11 +214,11 @@ answered old e pick lane next t sent Memory sound there some few picks step next
     (subst (λ (s : State). IsSoundState s) (sym same) sound, ((lane, (record { there = there }, some, few)), (same, refl)))
 
 -- nothing happens
-pub is_idle : (old new : State) (e pick : ℕ) (lane : Held) → new ≡ old → slice_get old.lanes e ≡ Some lane → lane.queue ≡ [] → Steps old e pick (Some Idle) new []
+pub is_idle : (old new : State) (e pick : ℕ) (lane : Holding) → new ≡ old → slice_get old.lanes e ≡ Some lane → lane.queue ≡ [] → Steps old e pick (Some Idle) new []
 is_idle old new e pick lane same there none = ((lane, record { there = there }, none), (same, refl))
 
-pub is_used_up : (old new : State) (e pick : ℕ) (lane : Held) → new ≡ old → slice_get old.lanes e ≡ Some lane → 0 < length lane.queue → lane.made ≡ old.setting.steps → Steps old e pick None new []
+pub is_used_up : (old new : State) (e pick : ℕ) (lane : Holding) → new ≡ old → slice_get old.lanes e ≡ Some lane → 0 < length lane.queue → lane.made ≡ old.setting.steps → Steps old e pick None new []
 is_used_up old new e pick lane same there some all = ((lane, record { there = there }, some, all), (same, refl))
 
-pub is_refused : (old new : State) (e pick : ℕ) (lane : Held) → new ≡ old → slice_get old.lanes e ≡ Some lane → 0 < length lane.queue → lane.made < old.setting.steps → Steps old e pick (Some Memory) new []
+pub is_refused : (old new : State) (e pick : ℕ) (lane : Holding) → new ≡ old → slice_get old.lanes e ≡ Some lane → 0 < length lane.queue → lane.made < old.setting.steps → Steps old e pick (Some Memory) new []
 is_refused old new e pick lane same there some few = ((lane, (record { there = there }, some, few)), (same, refl))

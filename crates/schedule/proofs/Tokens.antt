@@ -10,7 +10,7 @@ use Rattle.lemmas.proofs.Permutations.{permutation_exchange}
 use Rattle.tags.specs.declared.token.Token.{Token}
 use Rattle.tags.specs.Addresses.{element_of}
 use Rattle.tags.proofs.Elements.{element_below}
-use Rattle.element.specs.Held.{Held, is_here, here, with_queue, queued}
+use Rattle.element.specs.Holding.{Holding, is_here, here, with_queue, queued}
 use Rattle.schedule.specs.State.{AllFrom, IsAt, delivered, tokens_in}
 
 -- LISTS IN ANOTHER ORDER
@@ -87,7 +87,7 @@ none_among n k t = by_order (cases_lt (element_of n t.to) k)
 same_order : {X : Type 0} {xs ys : List X} → xs ≡ ys → IsPermutation xs ys
 same_order {X} {xs} e = subst (λ (l : List X). IsPermutation xs l) e (IsPermutation-refl xs)
 
-tokens_from : (n k : ℕ) (lanes : List Held) (ts : List Token) → AllFrom (IsAt n) k lanes → IsPermutation (tokens_in (delivered ts lanes)) (tokens_in lanes ++ filter (among n k (length lanes)) ts)
+tokens_from : (n k : ℕ) (lanes : List Holding) (ts : List Token) → AllFrom (IsAt n) k lanes → IsPermutation (tokens_in (delivered ts lanes)) (tokens_in lanes ++ filter (among n k (length lanes)) ts)
 tokens_from n k [] ts all = same_order (sym (filter_none (among n k 0) (none_among n k) ts))
 tokens_from n k (h ∷ hs) ts all =
     let q : List Token = h.queue in
@@ -106,13 +106,13 @@ all_among : (n : ℕ) (t : Token) → 0 < n → among n 0 n t ≡ true
 all_among n t some = let low : element_of n t.to < 0 + n = (let l = element_below n t.to some in omega (arith, l)) in and_from _ _ (le-leb 0 (element_of n t.to) (omega arith)) (lt-ltb (element_of n t.to) (0 + n) low)
 
 -- each token comes to one lane
-pub tokens_delivered : (n : ℕ) (lanes : List Held) (ts : List Token) → 0 < n → length lanes ≡ n → AllFrom (IsAt n) 0 lanes → IsPermutation (tokens_in (delivered ts lanes)) (tokens_in lanes ++ ts)
+pub tokens_delivered : (n : ℕ) (lanes : List Holding) (ts : List Token) → 0 < n → length lanes ≡ n → AllFrom (IsAt n) 0 lanes → IsPermutation (tokens_in (delivered ts lanes)) (tokens_in lanes ++ ts)
 tokens_delivered n lanes ts some count all =
     let whole : filter (among n 0 (length lanes)) ts ≡ ts = ap (λ (m : ℕ). filter (among n 0 m) ts) count ∙ filter_whole (among n 0 n) (λ (t : Token). all_among n t some) ts in
     subst (λ (l : List Token). IsPermutation (tokens_in (delivered ts lanes)) (tokens_in lanes ++ l)) whole (tokens_from n 0 lanes ts all)
 
 -- the tokens of one lane come first, whatever it holds
-pub tokens_set : (lanes : List Held) (i : ℕ) (h new : Held) → slice_get lanes i ≡ Some h → IsPermutation (tokens_in (slice_set lanes i new)) (new.queue ++ tokens_in (remove lanes i))
+pub tokens_set : (lanes : List Holding) (i : ℕ) (h new : Holding) → slice_get lanes i ≡ Some h → IsPermutation (tokens_in (slice_set lanes i new)) (new.queue ++ tokens_in (remove lanes i))
 tokens_set [] i h new e = absurd (let no : ⊥ = cc in no)
 tokens_set (x ∷ xs) zero h new e = IsPermutation-refl (new.queue ++ tokens_in xs)
 tokens_set (x ∷ xs) (suc i) h new e =
@@ -124,52 +124,53 @@ set_same [] i h e = absurd (let no : ⊥ = cc in no)
 set_same {X} (x ∷ xs) zero h e = let same : x ≡ h = cc in ap (λ (y : X). y ∷ xs) (sym same)
 set_same {X} (x ∷ xs) (suc i) h e = ap (λ (ys : List X). x ∷ ys) (set_same xs i h e)
 
-pub tokens_first : (lanes : List Held) (i : ℕ) (h : Held) → slice_get lanes i ≡ Some h → IsPermutation (tokens_in lanes) (h.queue ++ tokens_in (remove lanes i))
-tokens_first lanes i h e = subst (λ (l : List Held). IsPermutation (tokens_in l) (h.queue ++ tokens_in (remove lanes i))) (set_same lanes i h e) (tokens_set lanes i h h e)
+pub tokens_first : (lanes : List Holding) (i : ℕ) (h : Holding) → slice_get lanes i ≡ Some h
+    → IsPermutation (tokens_in lanes) (h.queue ++ tokens_in (remove lanes i))
+tokens_first lanes i h e = subst (λ (l : List Holding). IsPermutation (tokens_in l) (h.queue ++ tokens_in (remove lanes i))) (set_same lanes i h e) (tokens_set lanes i h h e)
 
 -- DELIVERIES
-pub queued_none : (h : Held) → queued h [] ≡ h
+pub queued_none : (h : Holding) → queued h [] ≡ h
 queued_none h = ap (λ (ts : List Token). with_queue h ts) (append-nil h.queue)
 
-gets : (n k : ℕ) (x : Held) (t : Token) (b : Bool) → IsAt n k x → (element_of n t.to == k) ≡ b → queued x (t ∷ []) ≡ with_queue x (x.queue ++ cond b (t ∷ []) [])
+gets : (n k : ℕ) (x : Holding) (t : Token) (b : Bool) → IsAt n k x → (element_of n t.to == k) ≡ b → queued x (t ∷ []) ≡ with_queue x (x.queue ++ cond b (t ∷ []) [])
 gets n k x t b at e =
     let is : is_here x.part.shape t ≡ b = ap (λ (m : ℕ). element_of m t.to == x.part.shape.element) at.1 ∙ ap (λ (m : ℕ). element_of n t.to == m) at.0 ∙ e in
     ap (λ (c : Bool). with_queue x (x.queue ++ cond c (t ∷ []) [])) is
 
 -- lanes of later elements don't get it
-passed : (n k : ℕ) (lanes : List Held) (t : Token) → AllFrom (IsAt n) k lanes → element_of n t.to < k → delivered (t ∷ []) lanes ≡ lanes
+passed : (n k : ℕ) (lanes : List Holding) (t : Token) → AllFrom (IsAt n) k lanes → element_of n t.to < k → delivered (t ∷ []) lanes ≡ lanes
 passed n k [] t all low = refl
 passed n k (x ∷ xs) t all low =
     let ne : element_of n t.to ≡ k → ⊥ = λ (s : element_of n t.to ≡ k). omega arith in
     let lower : element_of n t.to < suc k = omega arith in
-    ap (λ (y : Held). y ∷ delivered (t ∷ []) xs) (gets n k x t false all.0 (ne_eqb (element_of n t.to) k ne) ∙ queued_none x)
-    ∙ ap (λ (l : List Held). x ∷ l) (passed n (suc k) xs t all.1 lower)
+    ap (λ (y : Holding). y ∷ delivered (t ∷ []) xs) (gets n k x t false all.0 (ne_eqb (element_of n t.to) k ne) ∙ queued_none x)
+    ∙ ap (λ (l : List Holding). x ∷ l) (passed n (suc k) xs t all.1 lower)
 
-pub delivered_none : (lanes : List Held) → delivered [] lanes ≡ lanes
+pub delivered_none : (lanes : List Holding) → delivered [] lanes ≡ lanes
 delivered_none [] = refl
-delivered_none (h ∷ hs) = ap (λ (x : Held). x ∷ delivered [] hs) (queued_none h) ∙ ap (λ (l : List Held). h ∷ l) (delivered_none hs)
+delivered_none (h ∷ hs) = ap (λ (x : Holding). x ∷ delivered [] hs) (queued_none h) ∙ ap (λ (l : List Holding). h ∷ l) (delivered_none hs)
 
-pub delivered_twice : (ts us : List Token) (lanes : List Held) → delivered us (delivered ts lanes) ≡ delivered (ts ++ us) lanes
+pub delivered_twice : (ts us : List Token) (lanes : List Holding) → delivered us (delivered ts lanes) ≡ delivered (ts ++ us) lanes
 delivered_twice ts us [] = refl
 delivered_twice ts us (h ∷ hs) =
     let one : queued (queued h ts) us ≡ queued h (ts ++ us) = ap (λ (l : List Token). with_queue h l) (append_assoc h.queue (here h.part.shape ts) (here h.part.shape us) ∙ ap (λ (l : List Token). h.queue ++ l) (sym (filter-append (is_here h.part.shape) ts us))) in
-    ap (λ (x : Held). x ∷ delivered us (delivered ts hs)) one ∙ ap (λ (l : List Held). queued h (ts ++ us) ∷ l) (delivered_twice ts us hs)
+    ap (λ (x : Holding). x ∷ delivered us (delivered ts hs)) one ∙ ap (λ (l : List Holding). queued h (ts ++ us) ∷ l) (delivered_twice ts us hs)
 
 -- A token comes to the lane of its element, and to no other.
-pub delivered_one : (n k : ℕ) (lanes : List Held) (i : ℕ) (t : Token) (h : Held) → AllFrom (IsAt n) k lanes → element_of n t.to ≡ k + i → slice_get lanes i ≡ Some h
+pub delivered_one : (n k : ℕ) (lanes : List Holding) (i : ℕ) (t : Token) (h : Holding) → AllFrom (IsAt n) k lanes → element_of n t.to ≡ k + i → slice_get lanes i ≡ Some h
     → delivered (t ∷ []) lanes ≡ slice_set lanes i (with_queue h (h.queue ++ t ∷ []))
 delivered_one n k [] i t h all is e = absurd (let no : ⊥ = cc in no)
 delivered_one n k (x ∷ xs) zero t h all is e =
     let at : element_of n t.to ≡ k = omega arith in
     let low : element_of n t.to < suc k = omega arith in
     let same : x ≡ h = cc in
-    ap (λ (y : Held). y ∷ delivered (t ∷ []) xs) (gets n k x t true all.0 (eq-eqb (element_of n t.to) k at) ∙ ap (λ (y : Held). with_queue y (y.queue ++ t ∷ [])) same)
-    ∙ ap (λ (l : List Held). with_queue h (h.queue ++ t ∷ []) ∷ l) (passed n (suc k) xs t all.1 low)
+    ap (λ (y : Holding). y ∷ delivered (t ∷ []) xs) (gets n k x t true all.0 (eq-eqb (element_of n t.to) k at) ∙ ap (λ (y : Holding). with_queue y (y.queue ++ t ∷ [])) same)
+    ∙ ap (λ (l : List Holding). with_queue h (h.queue ++ t ∷ []) ∷ l) (passed n (suc k) xs t all.1 low)
 delivered_one n k (x ∷ xs) (suc j) t h all is e =
     let past : element_of n t.to ≡ suc k + j = omega arith in
     let ne : element_of n t.to ≡ k → ⊥ = λ (s : element_of n t.to ≡ k). omega arith in
-    ap (λ (y : Held). y ∷ delivered (t ∷ []) xs) (gets n k x t false all.0 (ne_eqb (element_of n t.to) k ne) ∙ queued_none x)
-    ∙ ap (λ (l : List Held). x ∷ l) (delivered_one n (suc k) xs j t h all.1 past e)
+    ap (λ (y : Holding). y ∷ delivered (t ∷ []) xs) (gets n k x t false all.0 (ne_eqb (element_of n t.to) k ne) ∙ queued_none x)
+    ∙ ap (λ (l : List Holding). x ∷ l) (delivered_one n (suc k) xs j t h all.1 past e)
 
 pub append_twice : {X : Type 0} (xs ys zs : List X) → IsPermutation ((xs ++ ys) ++ zs) (xs ++ (zs ++ ys))
 append_twice xs ys zs = subst (λ (l : List _). IsPermutation l (xs ++ (zs ++ ys))) (sym (append_assoc xs ys zs)) (IsPermutation-append_right xs (ys ++ zs) (zs ++ ys) (IsPermutation-append_comm ys zs))

@@ -3,7 +3,7 @@ pub mod State
 pub mod Steps
 pub mod Runs
 pub mod Starts
-pub mod Told
+pub mod Reported
 pub mod Unlisted
 pub mod Apart
 pub mod Shown

@@ -6,8 +6,8 @@ use Rattle.semantics.specs.Report.{Report, IsPicture, HasEnd}
 use Rattle.frame_order.specs.InOrder.{OrderedRun}
 
 -- The report shows a run in which the free frame of least number goes out, and a frame that comes back goes to the request that has waited longest.
-pub record ShowsInOrder (p : Program) (z : Size) (inputs : List ℤ) (steps : ℕ) (listed may_stop : Bool) (r : Report) : Type 0 where
+pub record ShowsInOrder (p : Program) (z : Size) (inputs : List ℤ) (steps : ℕ) (by_list may_stop : Bool) (r : Report) : Type 0 where
   pub last : Machine
   pub run : OrderedRun p z (at_start p inputs) r.events last
   pub picture : IsPicture p z last r
-  pub ends : HasEnd p z steps listed may_stop r.events last r.end
+  pub ends : HasEnd p z steps by_list may_stop r.events last r.end

@@ -8,14 +8,14 @@ use Rattle.tags.specs.declared.token.To.{To}
 use Rattle.tags.specs.declared.token.Token.{Token}
 use Rattle.semantics.specs.Rule.{token}
 use Rattle.semantics.specs.Machine.{input_tokens}
-use Rattle.element.specs.Held.{Held, IsSoundLane}
+use Rattle.element.specs.Holding.{Holding, IsSoundLane}
 use Rattle.element.specs.Openings.{StartsAs}
 use Rattle.schedule.specs.declared.config.Config.{Config}
 use Rattle.schedule.specs.declared.config.StartFault.{StartFault}
 use Rattle.schedule.specs.declared.config.StartFault.TheVariants.{WrongInputs, NoFrames, BadConfig, Memory}
 use Rattle.schedule.specs.Setting.{Setting, inputs_of}
 use Rattle.schedule.specs.State.{AllFrom, IsSoundState, delivered}
-use Rattle.schedule.specs.Runs.{Kept, Began}
+use Rattle.schedule.specs.Runs.{SoFar, Began}
 
 pub record IsGood (c : Config) : Type 0 where
   pub elements : 1 ≤ c.elements
@@ -33,7 +33,7 @@ abbrev pub start_tokens : ℕ → List ℤ → List Token
 start_tokens first inputs = token (To.Instr 0 first Left) (Word.Back (Cont.Host 0)) ∷ input_tokens (first + 1) inputs
 
 -- A lane with no tokens that is its element's part of the machine at the start
-pub record IsFresh (g : Setting) (i : ℕ) (h : Held) : Type 0 where
+pub record IsFresh (g : Setting) (i : ℕ) (h : Holding) : Type 0 where
   pub element : h.part.shape.element ≡ i
   pub elements : h.part.shape.elements ≡ g.elements
   pub frames : h.part.shape.frames ≡ g.frames
@@ -47,12 +47,13 @@ abbrev pub sized : Program → ℕ → ℕ → ℕ → ℕ → Setting
 sized p elements frames width steps = record { program = p; elements = elements; frames = frames; width = width; steps = steps; turn = 1 }
 
 -- lanes with no tokens, to which those at the start came in order
-abbrev pub HasOpenLanes : Program → ℕ → Config → List ℤ → List Held → Type 0
+abbrev pub HasOpenLanes : Program → ℕ → Config → List ℤ → List Holding → Type 0
 HasOpenLanes p width c inputs lanes =
-    (fresh : List Held) × AllFrom (IsFresh (sized p c.elements c.frames width 0)) 0 fresh × (lanes ≡ delivered (start_tokens (first_of p p.main) inputs) fresh)
+    (fresh : List Holding) × AllFrom (IsFresh (sized p c.elements c.frames width 0)) 0 fresh
+    × (lanes ≡ delivered (start_tokens (first_of p p.main) inputs) fresh)
 
 -- The machine is as at the start on these inputs, and no element has made an event.
-pub record Opens (p : Program) (width : ℕ) (c : Config) (inputs : List ℤ) (m : Kept) : Type 0 where
+pub record Opens (p : Program) (width : ℕ) (c : Config) (inputs : List ℤ) (m : SoFar) : Type 0 where
   pub arity : length inputs ≡ inputs_of p
   pub some_frame : 0 < c.frames
   pub good : IsGood c

@@ -7,7 +7,7 @@ use Rattle.semantics.specs.Program.{Program}
 use Rattle.semantics.specs.Machine.{Machine, Store, Vacant}
 use Rattle.element.specs.Parts.{IsPart}
 use Rattle.element.specs.Near.{IsNearToken}
-use Rattle.element.specs.Held.{Held, LaneView, Fixed, held_of, fixed_of, bounds_at, queued, IsSoundLane}
+use Rattle.element.specs.Holding.{Holding, LaneView, Fixed, held_of, fixed_of, bounds_at, queued, IsSoundLane}
 use Rattle.schedule.specs.declared.elements.Elements.{Elements}
 use Rattle.schedule.specs.declared.shape.Shape.{Shape}
 use Rattle.schedule.specs.Setting.{Setting, total, IsGoodSetting}
@@ -15,7 +15,7 @@ use Rattle.schedule.specs.Setting.{Setting, total, IsGoodSetting}
 pub record State : Type 0 where
   pub setting : Setting
   -- what each element holds
-  pub lanes : List Held
+  pub lanes : List Holding
 
 -- P holds of each with its place, counted from k
 abbrev pub AllFrom : {X : Type 0} → (ℕ → X → Type 0) → ℕ → List X → Type 0
@@ -23,22 +23,22 @@ AllFrom P k [] = ⊤
 AllFrom P k (x ∷ xs) = P k x × AllFrom P (suc k) xs
 
 -- new tokens go last, each where it is addressed to
-abbrev pub delivered : List Token → List Held → List Held
-delivered ts lanes = map (λ (h : Held). queued h ts) lanes
+abbrev pub delivered : List Token → List Holding → List Holding
+delivered ts lanes = map (λ (h : Holding). queued h ts) lanes
 
 -- all tokens
-abbrev pub tokens_in : List Held → List Token
-tokens_in lanes = flat_map (λ (h : Held). h.queue) lanes
+abbrev pub tokens_in : List Holding → List Token
+tokens_in lanes = flat_map (λ (h : Holding). h.queue) lanes
 
 -- the lane is that of its place, of n
-abbrev pub IsAt : ℕ → ℕ → Held → Type 0
+abbrev pub IsAt : ℕ → ℕ → Holding → Type 0
 IsAt n i h = (h.part.shape.element ≡ i) × (h.part.shape.elements ≡ n)
 
 -- what the lanes hold, with the tokens that are on their way
-abbrev pub lanes_of : List LaneView → List Token → List Held
+abbrev pub lanes_of : List LaneView → List Token → List Holding
 lanes_of lanes ts = delivered ts (map held_of lanes)
 
-pub record IsPlaced (g : Setting) (i : ℕ) (h : Held) : Type 0 where
+pub record IsPlaced (g : Setting) (i : ℕ) (h : Holding) : Type 0 where
   pub element : h.part.shape.element ≡ i
   pub elements : h.part.shape.elements ≡ g.elements
   pub frames : h.part.shape.frames ≡ g.frames
@@ -69,8 +69,8 @@ pub record IsBounded (g : Setting) (s : Store) : Type 0 where
   pub cells : (x : ℕ) → sum g.program.arrays ≤ x → s.cells x ≡ Vacant
 
 -- The lanes are the parts of one machine, and its tokens are theirs.
-pub record Stands (s : State) (m : Machine) : Type 0 where
-  pub parts : AllFrom (λ (i : ℕ) (h : Held). IsPart h.part m.store) 0 s.lanes
+pub record AreParts (s : State) (m : Machine) : Type 0 where
+  pub parts : AllFrom (λ (i : ℕ) (h : Holding). IsPart h.part m.store) 0 s.lanes
   pub tokens : IsPermutation m.pool (tokens_in s.lanes)
   pub bounded : IsBounded s.setting m.store
 
@@ -82,11 +82,11 @@ setting_in program width s = record { program = program s.code.now; elements = s
 abbrev pub state_of : {C A : Type 0} → (C → Program) → (C → ℕ) → Elements C A → State
 state_of program width m = record {
   setting = setting_in program width m.shape;
-  lanes = lanes_of m.lanes.items (drop m.come m.sent.items);
+  lanes = lanes_of m.lanes.items (drop m.arrived m.sent.items);
 }
 
 pub record IsWell {C A : Type 0} (program : C → Program) (width : C → ℕ) (m : Elements C A) : Type 0 where
-  pub come : m.come ≤ length m.sent.items
+  pub arrived : m.arrived ≤ length m.sent.items
   -- each lane runs the code of the machine
   pub runs : All (RunsAs (state_of program width m).setting) (map fixed_of m.lanes.items)
   pub sound : IsSoundState (state_of program width m)

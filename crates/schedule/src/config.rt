@@ -13,7 +13,7 @@ pub struct Config {
     pub turn: u64,
 }
 
-/// Why a machine does not start. The first that holds is told.
+/// Why a machine does not start. The first that holds is reported.
 #[derive(Clone, Copy, Debug, PartialEq, Eq)]
 pub enum StartFault {
     /// There are not as many inputs as main has.

@@ -2,8 +2,8 @@
 
 ghost use Rattle.std.specs.Prelude.{◌≡◌, ◌*◌, ◌<◌, ◌≤◌, length, map, IfOk, OnOk, ◌++◌, Some};
 ghost use Rattle.semantics.specs.Report.{sum_below, waiters};
-ghost use Rattle.element.specs.Held.{held_of};
-ghost use Rattle.schedule.specs.Told.{cell_readers, entry, full_below, slot_of_lane, requests_in, out_in};
+ghost use Rattle.element.specs.Holding.{held_of};
+ghost use Rattle.schedule.specs.Reported.{cell_readers, entry, full_below, slot_of_lane, requests_in, out_in};
 
 use element::instructions::Instructions;
 use element::lane::Lane;

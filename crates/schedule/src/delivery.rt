@@ -3,10 +3,10 @@
 ghost use Rattle.std.specs.Prelude.{◌≡◌, ◌<◌, ◌≤◌, ◌==◌, [], ◌∷◌, length, map, drop, All, OnOk, OnErr};
 ghost use Rattle.std.specs.List.{list_any};
 ghost use Rattle.tags.specs.Addresses.{element_of};
-ghost use Rattle.element.specs.Held.{held_of, fixed_of};
+ghost use Rattle.element.specs.Holding.{held_of, fixed_of};
 ghost use Rattle.schedule.specs.State.{AllFrom, IsAt, IsNearIn, delivered, lanes_of};
 
-use element::dealt::element_for;
+use element::bundled::element_for;
 use element::instructions::Instructions;
 use element::lane::Lane;
 use std::alloc::{AllocError, Allocator};
@@ -37,32 +37,32 @@ fn deliver_all<C: Instructions, A: Allocator>(
     lanes: &mut Vec<Lane<'_, C, A>, A>,
     elements: u32,
     sent: &mut Vec<Token, A>,
-    come: &mut usize,
+    arrived: &mut usize,
 ) -> Result<(), AllocError>
     requires some { 0 < elements }
     requires count { length lanes.old.items ≡ elements }
     requires at { AllFrom (IsAt elements) 0 (map held_of lanes.old.items) }
-    requires come { come.old ≤ length sent.old.items }
-    requires near { All (IsNearIn (map fixed_of lanes.old.items)) (drop come.old sent.old.items) }
-    ensures same { lanes_of lanes.new.items (drop come.new sent.new.items) ≡ lanes_of lanes.old.items (drop come.old sent.old.items) }
+    requires arrived { arrived.old ≤ length sent.old.items }
+    requires near { All (IsNearIn (map fixed_of lanes.old.items)) (drop arrived.old sent.old.items) }
+    ensures same { lanes_of lanes.new.items (drop arrived.new sent.new.items) ≡ lanes_of lanes.old.items (drop arrived.old sent.old.items) }
     ensures fixed { map fixed_of lanes.new.items ≡ map fixed_of lanes.old.items }
     ensures sent { OnOk result (sent.new.items ≡ []) }
-    ensures come { OnOk result (come.new ≡ 0) }
-    ensures within { come.new ≤ length sent.new.items }
+    ensures arrived { OnOk result (arrived.new ≡ 0) }
+    ensures within { arrived.new ≤ length sent.new.items }
     ensures count { length lanes.new.items ≡ length lanes.old.items }
 {
-    for place in *come..sent.len() {
+    for place in *arrived..sent.len() {
         let token = sent[place];
         match receive(lanes, elements, token) {
             Ok(()) => {}
             Err(error) => {
-                *come = place;
+                *arrived = place;
                 return Err(error);
             }
         }
     }
     sent.clear();
-    *come = 0;
+    *arrived = 0;
     Ok(())
 }
 
@@ -73,24 +73,24 @@ pub fn deliver<C: Instructions, A: Allocator>(
     lanes: &mut Vec<Lane<'_, C, A>, A>,
     elements: u32,
     sent: &mut Vec<Token, A>,
-    come: &mut usize,
+    arrived: &mut usize,
 ) -> Result<(), AllocError>
     requires some { 0 < elements }
     requires count { length lanes.old.items ≡ elements }
     requires at { AllFrom (IsAt elements) 0 (map held_of lanes.old.items) }
-    requires come { come.old ≤ length sent.old.items }
-    requires near { All (IsNearIn (map fixed_of lanes.old.items)) (drop come.old sent.old.items) }
-    ensures same { lanes_of lanes.new.items (drop come.new sent.new.items) ≡ lanes_of lanes.old.items (drop come.old sent.old.items) }
+    requires arrived { arrived.old ≤ length sent.old.items }
+    requires near { All (IsNearIn (map fixed_of lanes.old.items)) (drop arrived.old sent.old.items) }
+    ensures same { lanes_of lanes.new.items (drop arrived.new sent.new.items) ≡ lanes_of lanes.old.items (drop arrived.old sent.old.items) }
     ensures fixed { map fixed_of lanes.new.items ≡ map fixed_of lanes.old.items }
     ensures sent { OnOk result (sent.new.items ≡ []) }
-    ensures come { OnOk result (come.new ≡ 0) }
-    ensures within { come.new ≤ length sent.new.items }
+    ensures arrived { OnOk result (arrived.new ≡ 0) }
+    ensures within { arrived.new ≤ length sent.new.items }
     ensures count { length lanes.new.items ≡ length lanes.old.items }
 {
     if sent.is_empty() {
         return Ok(());
     }
-    deliver_all(lanes, elements, sent, come)
+    deliver_all(lanes, elements, sent, arrived)
 }
 
 /// Whether some of the tokens from the place on is for the element.

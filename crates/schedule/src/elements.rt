@@ -4,9 +4,9 @@ ghost use Rattle.std.specs.Prelude.{◌≡◌, ℕ, ◌<◌, [], length, map, Al
 ghost use Rattle.std.specs.Vec.{vec_capacity};
 ghost use Rattle.semantics.specs.Machine.{Events};
 ghost use Rattle.semantics.specs.Report.{sum_below};
-ghost use Rattle.element.specs.Held.{Held, held_of};
+ghost use Rattle.element.specs.Holding.{Holding, held_of};
 ghost use Rattle.schedule.specs.Setting.{total};
-ghost use Rattle.schedule.specs.Told.{credits_below, TellsLanes};
+ghost use Rattle.schedule.specs.Reported.{credits_below, ShowsLaneParts};
 ghost use Rattle.schedule.specs.State.{state_of, IsWell, IsSoundState, tokens_in};
 ghost use Rattle.schedule.specs.Steps.{Steps, logged};
 ghost use Rattle.schedule.specs.Runs.{HasToken, IsHalt, Advances, Plays, rounds_of};
@@ -37,7 +37,7 @@ pub struct Elements<'m, C: MainCode, A: Allocator> {
     /// The tokens that the last event made for other elements.
     pub sent: Vec<Token, A>,
     /// How many of these have come.
-    pub come: usize,
+    pub arrived: usize,
 }
 
 impl<'m, C: MainCode, A: Allocator> Elements<'m, C, A> {
@@ -48,13 +48,13 @@ impl<'m, C: MainCode, A: Allocator> Elements<'m, C, A> {
         ensures well { IsWell C.program C.width self.new }
         ensures same { state_of C.program C.width self.new ≡ state_of C.program C.width self.old }
         ensures sent { OnOk result (self.new.sent.items ≡ []) }
-        ensures come { OnOk result (self.new.come ≡ 0) }
+        ensures arrived { OnOk result (self.new.arrived ≡ 0) }
     {
         deliver(
             &mut self.lanes,
             self.shape.elements,
             &mut self.sent,
-            &mut self.come,
+            &mut self.arrived,
         )
     }
 
@@ -63,11 +63,11 @@ impl<'m, C: MainCode, A: Allocator> Elements<'m, C, A> {
     fn has_token(&self, element: u32) -> bool
         requires well { IsWell C.program C.width self.now }
         requires element { element < self.now.shape.elements }
-        ensures yes { result ≡ true → (h : Held) → slice_get (state_of C.program C.width self.now).lanes element ≡ Some h → 0 < length h.queue }
-        ensures no { result ≡ false → (h : Held) → slice_get (state_of C.program C.width self.now).lanes element ≡ Some h → h.queue ≡ [] }
+        ensures yes { result ≡ true → (h : Holding) → slice_get (state_of C.program C.width self.now).lanes element ≡ Some h → 0 < length h.queue }
+        ensures no { result ≡ false → (h : Holding) → slice_get (state_of C.program C.width self.now).lanes element ≡ Some h → h.queue ≡ [] }
     {
         let waiting = self.lanes[element as usize].queue().len();
-        waiting != 0 || has_token_for(&self.sent, self.come, self.shape.elements, element)
+        waiting != 0 || has_token_for(&self.sent, self.arrived, self.shape.elements, element)
     }
 
     // What a step answers that is refused memory.
@@ -95,8 +95,8 @@ impl<'m, C: MainCode, A: Allocator> Elements<'m, C, A> {
         ensures same { state_of C.program C.width self.new ≡ state_of C.program C.width self.old }
         ensures events { log.new.events.items ≡ log.old.events.items }
         ensures sent { result ≡ true → self.new.sent.items ≡ [] }
-        ensures come { result ≡ true → self.new.come ≡ 0 }
-        ensures room { result ≡ true → L.LISTS ≡ true → vec_len log.new.events < vec_capacity log.new.events }
+        ensures arrived { result ≡ true → self.new.arrived ≡ 0 }
+        ensures room { result ≡ true → L.KEEPS_EVENTS ≡ true → vec_len log.new.events < vec_capacity log.new.events }
     {
         if self.settle().is_err() {
             return false;
@@ -117,10 +117,10 @@ impl<'m, C: MainCode, A: Allocator> Elements<'m, C, A> {
         requires well { IsWell C.program C.width self.old }
         requires element { element < self.old.shape.elements }
         requires sent { self.old.sent.items ≡ [] }
-        requires come { self.old.come ≡ 0 }
-        requires room { L.LISTS ≡ true → vec_len log.old.events < vec_capacity log.old.events }
+        requires arrived { self.old.arrived ≡ 0 }
+        requires room { L.KEEPS_EVENTS ≡ true → vec_len log.old.events < vec_capacity log.old.events }
         ensures well { IsWell C.program C.width self.new }
-        ensures exact { (events : Events) × Steps (state_of C.program C.width self.old) element pick result (state_of C.program C.width self.new) events × (log.new.events.items ≡ logged L.LISTS log.old.events.items events) }
+        ensures exact { (events : Events) × Steps (state_of C.program C.width self.old) element pick result (state_of C.program C.width self.new) events × (log.new.events.items ≡ logged L.KEEPS_EVENTS log.old.events.items events) }
     {
         let lane = &mut self.lanes[element as usize];
         let Some(token) = lane.token(pick) else {
@@ -145,7 +145,7 @@ impl<'m, C: MainCode, A: Allocator> Elements<'m, C, A> {
         requires well { IsWell C.program C.width self.old }
         requires element { element < self.old.shape.elements }
         ensures well { IsWell C.program C.width self.new }
-        ensures exact { (events : Events) × Steps (state_of C.program C.width self.old) element pick result (state_of C.program C.width self.new) events × (log.new.events.items ≡ logged L.LISTS log.old.events.items events) }
+        ensures exact { (events : Events) × Steps (state_of C.program C.width self.old) element pick result (state_of C.program C.width self.new) events × (log.new.events.items ≡ logged L.KEEPS_EVENTS log.old.events.items events) }
     {
         if !self.is_ready(log) {
             return self.refused(element);
@@ -172,7 +172,7 @@ impl<'m, C: MainCode, A: Allocator> Elements<'m, C, A> {
     #[inline(always)]
     fn advance<L: Log, Site>(
         &mut self,
-        listed: bool,
+        by_list: bool,
         element: u32,
         pick: u64,
         log: &mut EventLog<A, L>,
@@ -182,39 +182,39 @@ impl<'m, C: MainCode, A: Allocator> Elements<'m, C, A> {
         requires well { IsWell C.program C.width self.old }
         requires element { element < self.old.shape.elements }
         ensures well { IsWell C.program C.width self.new }
-        ensures exact { (events : Events) × Advances listed (state_of C.program C.width self.old) element pick (state_of C.program C.width self.new) events result × (log.new.events.items ≡ logged L.LISTS log.old.events.items events) }
+        ensures exact { (events : Events) × Advances by_list (state_of C.program C.width self.old) element pick (state_of C.program C.width self.new) events result × (log.new.events.items ≡ logged L.KEEPS_EVENTS log.old.events.items events) }
     {
         if !self.is_ready(log) {
             let refused = self.refused(element);
-            return self.halts(listed, refused);
+            return self.halts(by_list, refused);
         }
         match self.step_lane::<L, Site>(element, pick, log) {
-            None => self.halts(listed, None),
+            None => self.halts(by_list, None),
             Some(Stepped::Did) => None,
-            Some(other) => self.halts(listed, Some(other)),
+            Some(other) => self.halts(by_list, Some(other)),
         }
     }
 
     // The same as `halted`. What has to lie in memory to go out of line is made here, and not at each event.
     #[inline(always)]
-    fn halts(&self, listed: bool, stepped: Option<Stepped>) -> Option<Halt>
+    fn halts(&self, by_list: bool, stepped: Option<Stepped>) -> Option<Halt>
         requires well { IsWell C.program C.width self.now }
-        ensures { IsHalt listed stepped (state_of C.program C.width self.now) result }
+        ensures { IsHalt by_list stepped (state_of C.program C.width self.now) result }
     {
         let other = stepped;
-        self.halted(listed, other)
+        self.halted(by_list, other)
     }
 
     // Whether a run halts at a step that made no event.
     #[cold]
     #[inline(never)]
-    fn halted(&self, listed: bool, stepped: Option<Stepped>) -> Option<Halt>
+    fn halted(&self, by_list: bool, stepped: Option<Stepped>) -> Option<Halt>
         requires well { IsWell C.program C.width self.now }
-        ensures { IsHalt listed stepped (state_of C.program C.width self.now) result }
+        ensures { IsHalt by_list stepped (state_of C.program C.width self.now) result }
     {
         match stepped {
             Some(Stepped::Did) => None,
-            None => (!listed).then_some(Halt::Steps),
+            None => (!by_list).then_some(Halt::Steps),
             Some(Stepped::Idle) => (!self.has_tokens()).then_some(Halt::NoToken),
             Some(Stepped::Clash { cell }) => Some(Halt::Clash { cell }),
             Some(Stepped::Stuck { rule }) => Some(Halt::Stuck { rule }),
@@ -229,7 +229,7 @@ impl<'m, C: MainCode, A: Allocator> Elements<'m, C, A> {
         requires well { IsWell C.program C.width self.old }
         requires elements { All (λ pick. pick.0 < self.old.shape.elements) picks.now }
         ensures well { IsWell C.program C.width self.new }
-        ensures exact { (events : Events) × Plays true picks.now (state_of C.program C.width self.old) (state_of C.program C.width self.new) result events × (log.new.events.items ≡ logged L.LISTS log.old.events.items events) }
+        ensures exact { (events : Events) × Plays true picks.now (state_of C.program C.width self.old) (state_of C.program C.width self.new) result events × (log.new.events.items ≡ logged L.KEEPS_EVENTS log.old.events.items events) }
     {
         for (element, pick) in picks {
             match self.advance::<L, ()>(true, *element, *pick, log) {
@@ -253,7 +253,7 @@ impl<'m, C: MainCode, A: Allocator> Elements<'m, C, A> {
         requires well { IsWell C.program C.width self.old }
         requires one { self.old.shape.elements ≡ 1 }
         ensures well { IsWell C.program C.width self.new }
-        ensures exact { (rounds : ℕ) × (events : Events) × Plays false (rounds_of rounds self.old.shape.elements) (state_of C.program C.width self.old) (state_of C.program C.width self.new) result events × (log.new.events.items ≡ logged L.LISTS log.old.events.items events) }
+        ensures exact { (rounds : ℕ) × (events : Events) × Plays false (rounds_of rounds self.old.shape.elements) (state_of C.program C.width self.old) (state_of C.program C.width self.new) result events × (log.new.events.items ≡ logged L.KEEPS_EVENTS log.old.events.items events) }
     {
         let mut left = self.shape.steps;
         'events: while left != 0 {
@@ -272,7 +272,7 @@ impl<'m, C: MainCode, A: Allocator> Elements<'m, C, A> {
         A: Clone,
         requires { IsWell C.program C.width self.old }
         ensures well { IsWell C.program C.width self.new }
-        ensures exact { (rounds : ℕ) × (events : Events) × Plays false (rounds_of rounds self.old.shape.elements) (state_of C.program C.width self.old) (state_of C.program C.width self.new) result events × (log.new.events.items ≡ logged L.LISTS log.old.events.items events) }
+        ensures exact { (rounds : ℕ) × (events : Events) × Plays false (rounds_of rounds self.old.shape.elements) (state_of C.program C.width self.old) (state_of C.program C.width self.new) result events × (log.new.events.items ≡ logged L.KEEPS_EVENTS log.old.events.items events) }
     {
         'passes: loop {
             for element in 0..self.shape.elements {
@@ -291,7 +291,7 @@ impl<'m, C: MainCode, A: Allocator> Elements<'m, C, A> {
         A: Clone,
         requires { IsWell C.program C.width self.old }
         ensures well { IsWell C.program C.width self.new }
-        ensures exact { (rounds : ℕ) × (events : Events) × Plays false (rounds_of rounds self.old.shape.elements) (state_of C.program C.width self.old) (state_of C.program C.width self.new) result events × (log.new.events.items ≡ logged L.LISTS log.old.events.items events) }
+        ensures exact { (rounds : ℕ) × (events : Events) × Plays false (rounds_of rounds self.old.shape.elements) (state_of C.program C.width self.old) (state_of C.program C.width self.new) result events × (log.new.events.items ≡ logged L.KEEPS_EVENTS log.old.events.items events) }
     {
         if self.shape.elements == 1 {
             self.play_alone(log)
@@ -315,9 +315,9 @@ impl<'m, C: MainCode, A: Allocator> Elements<'m, C, A> {
     }
 
     /// What the lanes hold, for a report.
-    pub fn tell(self, alloc: A) -> Result<Told<A>, AllocError>
+    pub fn add_up(self, alloc: A) -> Result<LaneTotals<A>, AllocError>
         requires { IsSoundState (state_of C.program C.width self) }
-        ensures { IfOk result (λ told. TellsLanes (state_of C.program C.width self.entry).setting (map held_of self.entry.lanes.items) told.outputs.items told.cells.items told.deferred told.requests told.credits told.out) }
+        ensures { IfOk result (λ reported. ShowsLaneParts (state_of C.program C.width self.entry).setting (map held_of self.entry.lanes.items) reported.outputs.items reported.cells.items reported.deferred reported.requests reported.credits reported.out) }
     {
         let number = self.shape.code.cells();
         let cells = full_cells(alloc, &self.lanes, self.shape.elements, number)?;
@@ -328,7 +328,7 @@ impl<'m, C: MainCode, A: Allocator> Elements<'m, C, A> {
         let requests = requests(first.manager());
         let out = frames_out(first.manager());
         let outputs = first.into_outputs();
-        Ok(Told {
+        Ok(LaneTotals {
             outputs,
             cells,
             deferred,
@@ -341,7 +341,7 @@ impl<'m, C: MainCode, A: Allocator> Elements<'m, C, A> {
 
 /// What lanes hold, for a report.
 #[derive(Drop)]
-pub struct Told<A: Allocator> {
+pub struct LaneTotals<A: Allocator> {
     pub outputs: ArrayVec<Option<Value>, 16>,
     pub cells: Vec<(u32, Value), A>,
     pub deferred: u64,

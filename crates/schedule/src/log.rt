@@ -13,21 +13,21 @@ use tags::token::Token;
 pub trait Log {
     ghost use Rattle.std.specs.Prelude.{Bool};
 
-    ghost LISTS: { Bool };
+    ghost KEEPS_EVENTS: { Bool };
 
     /// Whether they are.
-    const LISTS: bool;
+    const KEEPS_EVENTS: bool;
 }
 
 /// Each event is listed.
-pub struct Listed;
+pub struct FullLog;
 
-impl Log for Listed {
+impl Log for FullLog {
     ghost use Rattle.std.specs.Prelude.{true};
 
-    ghost LISTS = { true };
+    ghost KEEPS_EVENTS = { true };
 
-    const LISTS: bool = true;
+    const KEEPS_EVENTS: bool = true;
 }
 
 /// No event is listed, so a long run takes no more memory than a short one.
@@ -36,9 +36,9 @@ pub struct NoLog;
 impl Log for NoLog {
     ghost use Rattle.std.specs.Prelude.{false};
 
-    ghost LISTS = { false };
+    ghost KEEPS_EVENTS = { false };
 
-    const LISTS: bool = false;
+    const KEEPS_EVENTS: bool = false;
 }
 
 /// The events of a run in order, where they are listed.
@@ -64,9 +64,9 @@ impl<A: Allocator, L: Log> EventLog<A, L> {
     #[inline(always)]
     pub fn make_room(&mut self) -> Result<(), AllocError>
         ensures same { self.new.events.items ≡ self.old.events.items }
-        ensures room { OnOk result (L.LISTS ≡ true → vec_len self.new.events < vec_capacity self.new.events) }
+        ensures room { OnOk result (L.KEEPS_EVENTS ≡ true → vec_len self.new.events < vec_capacity self.new.events) }
     {
-        if L::LISTS {
+        if L::KEEPS_EVENTS {
             self.events.reserve(1)
         } else {
             Ok(())
@@ -76,10 +76,10 @@ impl<A: Allocator, L: Log> EventLog<A, L> {
     /// Notes that the element took the token.
     #[inline(always)]
     pub fn note(&mut self, element: u32, token: Token)
-        requires { L.LISTS ≡ true → vec_len self.old.events < vec_capacity self.old.events }
-        ensures { self.new.events.items ≡ logged L.LISTS self.old.events.items ((element, token) ∷ []) }
+        requires { L.KEEPS_EVENTS ≡ true → vec_len self.old.events < vec_capacity self.old.events }
+        ensures { self.new.events.items ≡ logged L.KEEPS_EVENTS self.old.events.items ((element, token) ∷ []) }
     {
-        if L::LISTS {
+        if L::KEEPS_EVENTS {
             self.events.push_reserved((element, token));
         }
     }
@@ -87,8 +87,8 @@ impl<A: Allocator, L: Log> EventLog<A, L> {
     /// Notes what a step did.
     #[inline(always)]
     pub fn note_step(&mut self, element: u32, token: Token, stepped: Stepped)
-        requires { L.LISTS ≡ true → vec_len self.old.events < vec_capacity self.old.events }
-        ensures { self.new.events.items ≡ logged L.LISTS self.old.events.items (events_of stepped element token) }
+        requires { L.KEEPS_EVENTS ≡ true → vec_len self.old.events < vec_capacity self.old.events }
+        ensures { self.new.events.items ≡ logged L.KEEPS_EVENTS self.old.events.items (events_of stepped element token) }
     {
         match stepped {
             Stepped::Did => self.note(element, token),

@@ -2,26 +2,26 @@
 
 ghost use Rattle.std.specs.Prelude.{◌≡◌, ℕ, ℤ, List, Bool, true, false, ◌<◌, ◌≤◌, ◌^◌, ◌↔◌, ◌∷◌, ◌++◌, [], length, map, All, IfOk, OnOk, MatchResult, IsTrue};
 ghost use Rattle.semantics.specs.Machine.{Events};
-ghost use Rattle.element.specs.Held.{held_of, fixed_of, bounds_at};
+ghost use Rattle.element.specs.Holding.{held_of, fixed_of, bounds_at};
 ghost use Rattle.schedule.specs.Setting.{inputs_of};
 ghost use Rattle.schedule.specs.State.{AllFrom, IsAt, delivered};
 ghost use Rattle.schedule.specs.Starts.{IsGood, IsCause, Opens, setting_of, start_tokens};
 ghost use Rattle.schedule.specs.Steps.{Steps, logged};
-ghost use Rattle.schedule.specs.Runs.{Kept, Began, BeganListed, Plays, HaltsAs, NamesCell, rounds_of};
+ghost use Rattle.schedule.specs.Runs.{SoFar, Began, BeganIfNoted, Plays, HaltsAs, NamesCell, rounds_of};
 ghost use Rattle.schedule.specs.declared.halt.Halt.{Halt};
-ghost use Rattle.schedule.specs.Told.{IsReportOf};
+ghost use Rattle.schedule.specs.Reported.{IsReportOf};
 ghost use Rattle.schedule.specs.Shown.{ShowsInOrder};
 ghost use Rattle.schedule.specs.Setting.{size};
 ghost use Rattle.schedule.specs.State.{State};
-ghost use Rattle.schedule.specs.Unlisted.{Quietly, RunsInTurn, ReportsKept, ShowsBut, kept_with, without_events};
+ghost use Rattle.schedule.specs.Unlisted.{Quietly, RunsInTurn, ReportsSoFar, ShowsBut, so_far_with, without_events};
 ghost use Rattle.schedule.specs.State.{IsSoundState, RunsAs, setting_in};
-ghost use Rattle.schedule.specs.Apart.{kept_of, state_in};
+ghost use Rattle.schedule.specs.Apart.{so_far_of, state_in};
 
 use crate::config::{Config, StartFault};
 use crate::delivery::receive;
 use crate::elements::Elements;
 use crate::halt::Halt;
-use crate::log::{EventLog, Listed, Log, NoLog};
+use crate::log::{EventLog, FullLog, Log, NoLog};
 use crate::main_code::MainCode;
 use crate::opening::fresh_lanes;
 use crate::report::Report;
@@ -38,7 +38,7 @@ use tags::value::Value;
 
 /// A machine that runs code. Contracts see what its lanes hold, each token where it is addressed to, and the events that it lists.
 #[derive(Drop)]
-pub struct Machine<'m, C: MainCode, A: Allocator, L: Log = Listed> {
+pub struct Machine<'m, C: MainCode, A: Allocator, L: Log = FullLog> {
     elements: Elements<'m, C, A>,
     log: EventLog<A, L>,
     alloc: A,
@@ -46,9 +46,9 @@ pub struct Machine<'m, C: MainCode, A: Allocator, L: Log = Listed> {
 
 impl<'m, C: MainCode, A: Allocator, L: Log> Model for Machine<'m, C, A, L> {
     ghost use Rattle.schedule.specs.State.{state_of, IsWell};
-    ghost use Rattle.schedule.specs.Runs.{Kept};
+    ghost use Rattle.schedule.specs.Runs.{SoFar};
 
-    ghost Value = { Kept };
+    ghost Value = { SoFar };
 
     ghost view = { λ m. record { state = state_of C.program C.width m.elements; events = m.log.events.items } };
 
@@ -148,7 +148,7 @@ where
         },
         lanes,
         sent: Vec::new(alloc.clone()?),
-        come: 0,
+        arrived: 0,
     };
     Ok(Machine {
         elements,
@@ -193,7 +193,7 @@ impl<'m, C: MainCode, A: Allocator> Machine<'m, C, A> {
     where
         A: Clone,
         requires { All (λ pick. pick.0 < self.state.setting.elements) picks.now }
-        ensures plays { (last : Kept) × (halt : Halt) × (made : Events) × Plays true picks.now self.entry.state last.state halt made × (last.events ≡ self.entry.events ++ made) × IsReportOf last halt result }
+        ensures plays { (last : SoFar) × (halt : Halt) × (made : Events) × Plays true picks.now self.entry.state last.state halt made × (last.events ≡ self.entry.events ++ made) × IsReportOf last halt result }
         ensures shows { (inputs : List ℤ) → Began inputs self.entry.state self.entry.events → ShowsInOrder self.entry.state.setting.program (size self.entry.state.setting) inputs self.entry.state.setting.steps true false result }
     {
         let halt = self.play(picks);
@@ -206,7 +206,7 @@ impl<'m, C: MainCode, A: Allocator> Machine<'m, C, A> {
     pub fn run_one(mut self) -> Report<A>
     where
         A: Clone,
-        ensures plays { (last : Kept) × (halt : Halt) × (rounds : ℕ) × (made : Events) × Plays false (rounds_of rounds self.entry.state.setting.elements) self.entry.state last.state halt made × (last.events ≡ self.entry.events ++ made) × IsReportOf last halt result }
+        ensures plays { (last : SoFar) × (halt : Halt) × (rounds : ℕ) × (made : Events) × Plays false (rounds_of rounds self.entry.state.setting.elements) self.entry.state last.state halt made × (last.events ≡ self.entry.events ++ made) × IsReportOf last halt result }
         ensures shows { (inputs : List ℤ) → Began inputs self.entry.state self.entry.events → ShowsInOrder self.entry.state.setting.program (size self.entry.state.setting) inputs self.entry.state.setting.steps false false result }
     {
         let halt = self.play_in_turn();
@@ -250,8 +250,8 @@ impl<'m, C: MainCode, A: Allocator, L: Log> Machine<'m, C, A, L> {
     where
         A: Clone,
         requires { element < self.old.state.setting.elements }
-        ensures steps { (made : Events) × Steps self.old.state element pick result self.new.state made × (self.new.events ≡ logged L.LISTS self.old.events made) × ((inputs : List ℤ) (before : Events) → Began inputs self.old.state before → Began inputs self.new.state (before ++ made)) }
-        ensures began { (inputs : List ℤ) → BeganListed L.LISTS inputs self.old → BeganListed L.LISTS inputs self.new }
+        ensures steps { (made : Events) × Steps self.old.state element pick result self.new.state made × (self.new.events ≡ logged L.KEEPS_EVENTS self.old.events made) × ((inputs : List ℤ) (before : Events) → Began inputs self.old.state before → Began inputs self.new.state (before ++ made)) }
+        ensures began { (inputs : List ℤ) → BeganIfNoted L.KEEPS_EVENTS inputs self.old → BeganIfNoted L.KEEPS_EVENTS inputs self.new }
         ensures setting { self.new.state.setting ≡ self.old.state.setting }
     {
         self.elements.step::<L, ()>(element, pick, &mut self.log)
@@ -264,8 +264,8 @@ impl<'m, C: MainCode, A: Allocator, L: Log> Machine<'m, C, A, L> {
     where
         A: Clone,
         requires { All (λ pick. pick.0 < self.old.state.setting.elements) picks.now }
-        ensures plays { (made : Events) × Plays true picks.now self.old.state self.new.state result made × (self.new.events ≡ logged L.LISTS self.old.events made) × ((inputs : List ℤ) (before : Events) → Began inputs self.old.state before → Began inputs self.new.state (before ++ made)) }
-        ensures began { (inputs : List ℤ) → BeganListed L.LISTS inputs self.old → BeganListed L.LISTS inputs self.new }
+        ensures plays { (made : Events) × Plays true picks.now self.old.state self.new.state result made × (self.new.events ≡ logged L.KEEPS_EVENTS self.old.events made) × ((inputs : List ℤ) (before : Events) → Began inputs self.old.state before → Began inputs self.new.state (before ++ made)) }
+        ensures began { (inputs : List ℤ) → BeganIfNoted L.KEEPS_EVENTS inputs self.old → BeganIfNoted L.KEEPS_EVENTS inputs self.new }
         ensures halts { HaltsAs self.new.state true result }
         ensures setting { self.new.state.setting ≡ self.old.state.setting }
         ensures cell { NamesCell self.new.state.setting.program result }
@@ -279,8 +279,8 @@ impl<'m, C: MainCode, A: Allocator, L: Log> Machine<'m, C, A, L> {
     pub fn play_in_turn(&mut self) -> Halt
     where
         A: Clone,
-        ensures plays { (rounds : ℕ) × (made : Events) × Plays false (rounds_of rounds self.old.state.setting.elements) self.old.state self.new.state result made × (self.new.events ≡ logged L.LISTS self.old.events made) × ((inputs : List ℤ) (before : Events) → Began inputs self.old.state before → Began inputs self.new.state (before ++ made)) }
-        ensures began { (inputs : List ℤ) → BeganListed L.LISTS inputs self.old → BeganListed L.LISTS inputs self.new }
+        ensures plays { (rounds : ℕ) × (made : Events) × Plays false (rounds_of rounds self.old.state.setting.elements) self.old.state self.new.state result made × (self.new.events ≡ logged L.KEEPS_EVENTS self.old.events made) × ((inputs : List ℤ) (before : Events) → Began inputs self.old.state before → Began inputs self.new.state (before ++ made)) }
+        ensures began { (inputs : List ℤ) → BeganIfNoted L.KEEPS_EVENTS inputs self.old → BeganIfNoted L.KEEPS_EVENTS inputs self.new }
         ensures halts { HaltsAs self.new.state false result }
         ensures setting { self.new.state.setting ≡ self.old.state.setting }
         ensures cell { NamesCell self.new.state.setting.program result }
@@ -294,10 +294,10 @@ impl<'m, C: MainCode, A: Allocator, L: Log> Machine<'m, C, A, L> {
     where
         A: Clone,
         requires { NamesCell self.state.setting.program halt }
-        ensures told { IsReportOf self.entry halt result }
-        ensures quietly { self.entry.events ≡ [] → (events : Events) → Quietly (ReportsKept (kept_with self.entry.state events) halt) result }
-        ensures any { (inputs : List ℤ) (listed : Bool) (events : Events) → Began inputs self.entry.state events → HaltsAs self.entry.state listed halt → ShowsBut self.entry.state.setting.program (size self.entry.state.setting) inputs self.entry.state.setting.steps listed false self.entry.events events result }
-        ensures shows { (inputs : List ℤ) (listed : Bool) → Began inputs self.entry.state self.entry.events → HaltsAs self.entry.state listed halt → ShowsInOrder self.entry.state.setting.program (size self.entry.state.setting) inputs self.entry.state.setting.steps listed false result }
+        ensures reported { IsReportOf self.entry halt result }
+        ensures quietly { self.entry.events ≡ [] → (events : Events) → Quietly (ReportsSoFar (so_far_with self.entry.state events) halt) result }
+        ensures any { (inputs : List ℤ) (by_list : Bool) (events : Events) → Began inputs self.entry.state events → HaltsAs self.entry.state by_list halt → ShowsBut self.entry.state.setting.program (size self.entry.state.setting) inputs self.entry.state.setting.steps by_list false self.entry.events events result }
+        ensures shows { (inputs : List ℤ) (by_list : Bool) → Began inputs self.entry.state self.entry.events → HaltsAs self.entry.state by_list halt → ShowsInOrder self.entry.state.setting.program (size self.entry.state.setting) inputs self.entry.state.setting.steps by_list false result }
     {
         let Machine {
             elements,
@@ -312,7 +312,7 @@ impl<'m, C: MainCode, A: Allocator, L: Log> Machine<'m, C, A, L> {
     /// After an error it is as before.
     pub fn into_lanes(self) -> Result<Apart<'m, C, A, L>, Machine<'m, C, A, L>>
     where
-        ensures apart { MatchResult result (λ apart. (kept_of C.program C.width apart.0 apart.1.items ≡ self.entry) × IsSoundState (state_in C.program C.width apart.0 apart.1.items)) (λ machine. machine ≡ self.entry) }
+        ensures apart { MatchResult result (λ apart. (so_far_of C.program C.width apart.0 apart.1.items ≡ self.entry) × IsSoundState (state_in C.program C.width apart.0 apart.1.items)) (λ machine. machine ≡ self.entry) }
         ensures runs { IfOk result (λ apart. All (RunsAs (setting_in C.program C.width apart.0.shape)) (map fixed_of apart.1.items)) }
     {
         let Machine {

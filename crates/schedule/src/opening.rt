@@ -5,7 +5,7 @@ ghost use Rattle.tags.specs.declared.slot.SlotState.TheVariants.{Empty};
 ghost use Rattle.frame_manager.specs.Managed.{at_first};
 ghost use Rattle.frame_store.specs.BankViews.{bank_states};
 ghost use Rattle.frame_store.specs.Slots.{all_empty};
-ghost use Rattle.element.specs.Held.{held_of, fixed_of};
+ghost use Rattle.element.specs.Holding.{held_of, fixed_of};
 ghost use Rattle.schedule.specs.State.{AllFrom, RunsAs};
 ghost use Rattle.schedule.specs.Starts.{IsFresh, sized};
 

@@ -1,12 +1,12 @@
 //! The report of elements.
 
 ghost use Rattle.std.specs.Prelude.{◌≡◌, ◌≤◌, map, IfOk};
-ghost use Rattle.element.specs.Held.{held_of};
+ghost use Rattle.element.specs.Holding.{held_of};
 ghost use Rattle.schedule.specs.State.{state_of, IsSoundState};
 ghost use Rattle.schedule.specs.Runs.{EndsWith, NamesCell};
-ghost use Rattle.schedule.specs.Told.{Reports, TellsLanes, opening_picture};
+ghost use Rattle.schedule.specs.Reported.{Reports, ShowsLaneParts, opening_picture};
 
-use crate::elements::{Elements, Told};
+use crate::elements::{Elements, LaneTotals};
 use crate::halt::Halt;
 use crate::locating::locate;
 use crate::main_code::MainCode;
@@ -67,16 +67,16 @@ pub fn opening_report<A: Allocator>(
     }
 }
 
-fn tell<C: MainCode, A: Allocator>(
+fn add_up<C: MainCode, A: Allocator>(
     elements: Elements<'_, C, A>,
     alloc: &A,
-) -> Result<Told<A>, AllocError>
+) -> Result<LaneTotals<A>, AllocError>
 where
     A: Clone,
     requires { IsSoundState (state_of C.program C.width elements) }
-    ensures { IfOk result (λ told. TellsLanes (state_of C.program C.width elements.entry).setting (map held_of elements.entry.lanes.items) told.outputs.items told.cells.items told.deferred told.requests told.credits told.out) }
+    ensures { IfOk result (λ reported. ShowsLaneParts (state_of C.program C.width elements.entry).setting (map held_of elements.entry.lanes.items) reported.outputs.items reported.cells.items reported.deferred reported.requests reported.credits reported.out) }
 {
-    elements.tell(alloc.clone()?)
+    elements.add_up(alloc.clone()?)
 }
 
 /// What the elements hold, with these events and the end of a run that halted so. Where its own lists are refused it is the
@@ -94,15 +94,15 @@ where
     ensures { Reports C.program C.width elements.entry events.items halt result }
 {
     let code = elements.shape.code;
-    match tell(elements, &alloc) {
-        Ok(told) => Report {
-            end: end_of(code, halt, told.requests, told.credits),
-            outputs: told.outputs,
-            cells: told.cells,
-            deferred: told.deferred,
-            waiting_frames: told.requests,
-            waiting_credits: told.credits,
-            frames_out: told.out,
+    match add_up(elements, &alloc) {
+        Ok(reported) => Report {
+            end: end_of(code, halt, reported.requests, reported.credits),
+            outputs: reported.outputs,
+            cells: reported.cells,
+            deferred: reported.deferred,
+            waiting_frames: reported.requests,
+            waiting_credits: reported.credits,
+            frames_out: reported.out,
             events,
         },
         Err(_) => opening_report(alloc, code.outputs(), events),

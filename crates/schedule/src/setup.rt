@@ -8,8 +8,8 @@ ghost use Rattle.schedule.specs.Unlisted.{ShowsBut};
 ghost use Rattle.schedule.specs.Setting.{size};
 ghost use Rattle.schedule.specs.State.{IsSoundState, setting_in};
 ghost use Rattle.schedule.specs.Runs.{Began, HaltsAs, NamesCell};
-ghost use Rattle.schedule.specs.Told.{IsReportOf, opening_picture};
-ghost use Rattle.schedule.specs.Apart.{state_in, kept_of, with_coming};
+ghost use Rattle.schedule.specs.Reported.{IsReportOf, opening_picture};
+ghost use Rattle.schedule.specs.Apart.{state_in, so_far_of, with_arriving};
 
 use crate::elements::Elements;
 use crate::halt::Halt;
@@ -43,10 +43,10 @@ impl<'m, C: MainCode, A: Allocator, L: Log> Setup<'m, C, A, L> {
         A: Clone,
         requires sound { IsSoundState (state_in C.program C.width self lanes.items) }
         requires cell { NamesCell (C.program self.shape.code.now) halt }
-        ensures told { IsReportOf (kept_of C.program C.width self.entry lanes.entry.items) halt result }
+        ensures reported { IsReportOf (so_far_of C.program C.width self.entry lanes.entry.items) halt result }
         ensures unlisted { self.entry.log.events.items ≡ [] → result.events ≡ [] }
-        ensures shows { (inputs : List ℤ) (listed : Bool) (coming : List Token) (events : Events) → IsSoundState (with_coming (state_in C.program C.width self.entry lanes.entry.items) coming) → Began inputs (with_coming (state_in C.program C.width self.entry lanes.entry.items) coming) events → HaltsAs (with_coming (state_in C.program C.width self.entry lanes.entry.items) coming) listed halt → ShowsBut (C.program self.entry.shape.code.now) (size (setting_in C.program C.width self.entry.shape)) inputs self.entry.shape.steps listed false self.entry.log.events.items events result }
-        ensures stopped { halt ≡ Halt.Stop → (inputs : List ℤ) (listed : Bool) (coming : List Token) (events : Events) → IsSoundState (with_coming (state_in C.program C.width self.entry lanes.entry.items) coming) → Began inputs (with_coming (state_in C.program C.width self.entry lanes.entry.items) coming) events → ShowsBut (C.program self.entry.shape.code.now) (size (setting_in C.program C.width self.entry.shape)) inputs self.entry.shape.steps listed true self.entry.log.events.items events result }
+        ensures shows { (inputs : List ℤ) (by_list : Bool) (arriving : List Token) (events : Events) → IsSoundState (with_arriving (state_in C.program C.width self.entry lanes.entry.items) arriving) → Began inputs (with_arriving (state_in C.program C.width self.entry lanes.entry.items) arriving) events → HaltsAs (with_arriving (state_in C.program C.width self.entry lanes.entry.items) arriving) by_list halt → ShowsBut (C.program self.entry.shape.code.now) (size (setting_in C.program C.width self.entry.shape)) inputs self.entry.shape.steps by_list false self.entry.log.events.items events result }
+        ensures stopped { halt ≡ Halt.Stop → (inputs : List ℤ) (by_list : Bool) (arriving : List Token) (events : Events) → IsSoundState (with_arriving (state_in C.program C.width self.entry lanes.entry.items) arriving) → Began inputs (with_arriving (state_in C.program C.width self.entry lanes.entry.items) arriving) events → ShowsBut (C.program self.entry.shape.code.now) (size (setting_in C.program C.width self.entry.shape)) inputs self.entry.shape.steps by_list true self.entry.log.events.items events result }
     {
         let Setup {
             shape,
@@ -60,7 +60,7 @@ impl<'m, C: MainCode, A: Allocator, L: Log> Setup<'m, C, A, L> {
             shape,
             lanes,
             sent,
-            come: 0,
+            arrived: 0,
         };
         report_of(elements, events, alloc, halt)
     }

@@ -14,7 +14,7 @@ use Rattle.schemas.specs.Builds.{Build, nowhere, first_of, second_of, added, qui
 abbrev pub operator : Build → Op → Origin → Region → List Source → Build
 operator b op origin region ss = exited (operands (added b op origin Unmarked region) (length b.instrs) 0 ss) (first_of (length b.instrs))
 
--- what has a copy behind the instruction that was added last
+-- what has a copy after the instruction that was added last
 abbrev pub copied : Build → ℕ → Region → Build
 copied b place region = exited (behind b (first_of place) Copy region) (first_of (length b.instrs))
 

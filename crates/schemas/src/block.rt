@@ -38,7 +38,7 @@ impl<A: Allocator> Model for Coded<A> {
     ghost view = { λ c. record { code = c.code; marks = c.marks.items } };
 }
 
-/// A `fetch` or a `store`. Where its answer has more than one use, a copy behind it takes the answer.
+/// A `fetch` or a `store`. Where its answer has more than one use, a copy after it takes the answer.
 fn answered<A: Allocator + Clone>(
     builder: &mut Builder<A>,
     scope: &Scope<'_, A>,

@@ -10,15 +10,15 @@ use Rattle.semantics.specs.Bytes.{IsDest, IsInstr, IsCodeBlock, IsCode}
 use Rattle.semantics.specs.Opcodes.{may_fault}
 use Rattle.select.specs.Emitted.{emitted_program}
 use Rattle.semantics.specs.Opcodes.{has_sides}
-use Rattle.select.specs.Literals.{literal_of, listed, used_by, used_in, table_of, too_far, IsAscending}
+use Rattle.select.specs.Literals.{literal_of, as_list, used_by, used_in, table_of, too_far, IsAscending}
 use Rattle.select.specs.Emittable.{IsEmittableInstr, IsEmittableBlock, IsEmittable, with_table}
 use Rattle.select.proofs.Tables.{near, table_has}
 use Rattle.select.proofs.Spelling.{coded, put, each_block, block_count, block_there, needed_low, instr_there, instr_count, dest_there, firsts_all, seconds_all, origin_kept, slot_there, operand_there}
 
-used_at : (P : ℤ → Type 0) (is : List Instr) (n : ℕ) (i : Instr) → All P (used_by is) → slice_get is n ≡ Some i → All P (listed (literal_of i.op))
+used_at : (P : ℤ → Type 0) (is : List Instr) (n : ℕ) (i : Instr) → All P (used_by is) → slice_get is n ≡ Some i → All P (as_list (literal_of i.op))
 used_at P [] n i a h = cc
-used_at P (j ∷ is) zero i a h = let same : j ≡ i = cc in subst (λ (x : Instr). All P (listed (literal_of x.op))) same (all_left P (listed (literal_of j.op)) (used_by is) a)
-used_at P (j ∷ is) (suc n) i a h = used_at P is n i (all_right P (listed (literal_of j.op)) (used_by is) a) h
+used_at P (j ∷ is) zero i a h = let same : j ≡ i = cc in subst (λ (x : Instr). All P (as_list (literal_of x.op))) same (all_left P (as_list (literal_of j.op)) (used_by is) a)
+used_at P (j ∷ is) (suc n) i a h = used_at P is n i (all_right P (as_list (literal_of j.op)) (used_by is) a) h
 
 used_of : (P : ℤ → Type 0) (cs : List CodeBlock) (n : ℕ) (c : CodeBlock) → All P (used_in cs) → slice_get cs n ≡ Some c → All P (used_by c.instrs)
 used_of P [] n c a h = cc
@@ -29,7 +29,7 @@ abbrev whole : ℕ → Plan → List (List ℕ) → List ℤ → Code
 whole v p slots ls = with_table (emitted_program v (placed p slots)) ls
 
 instr_spelt : (v : ℕ) (p : Plan) (slots : List (List ℕ)) (ls : List ℤ) (c : CodeBlock) (ss : List ℕ) (n : ℕ) (i : Instr) → length slots ≡ length p.program.blocks
-    → All (Contains ls) (listed (literal_of i.op)) → IsEmittableInstr p.program c ss n i → IsInstr v (whole v p slots ls) (coded v ss c) n (put v ss i)
+    → All (Contains ls) (as_list (literal_of i.op)) → IsEmittableInstr p.program c ss n i → IsInstr v (whole v p slots ls) (coded v ss c) n (put v ss i)
 instr_spelt v p slots ls c ss n i same used e =
     let firsts : All (IsDest (coded v ss c) n) i.firsts = (λ k d lt. dest_there v ss c n _ (e.firsts k d lt)) in
     let seconds : All (IsDest (coded v ss c) n) i.seconds = (λ k d lt. dest_there v ss c n _ (e.seconds k d lt)) in

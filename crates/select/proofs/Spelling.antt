@@ -14,8 +14,8 @@ use Rattle.semantics.specs.Sharing.{placed_slot, placed_instrs}
 use Rattle.semantics.specs.Placed.{needed, placed_blocks}
 use Rattle.semantics.specs.Bytes.{HasOperand, IsDest, IsOrigin, IsSlot, is_dyadic}
 use Rattle.semantics.specs.Opcodes.{may_fault}
-use Rattle.select.specs.Emitted.{told, firsts_of, seconds_of, emitted, emitted_instrs, emitted_block, emitted_blocks}
-use Rattle.select.specs.Literals.{literal_of, listed}
+use Rattle.select.specs.Emitted.{stated, firsts_of, seconds_of, emitted, emitted_instrs, emitted_block, emitted_blocks}
+use Rattle.select.specs.Literals.{literal_of, as_list}
 use Rattle.code.specs.Sound.{IsPlace}
 use Rattle.select.specs.Emittable.{with_table}
 
@@ -113,14 +113,14 @@ seconds_all P false ds es a b = All-drop P 1 (ds ++ es) (All-append P ds es a b)
 two_is : (v : ℕ) (r : Bool) → (v == 2) ≡ r → r ≡ true → v ≡ 2
 two_is v r e h = grind arith
 
-origin_told : (v : ℕ) (op : Op) (r : Bool) (o : Origin) → (v == 2) ≡ r → may_fault op ≡ true → IsPlace o → IsOrigin v op (cond r o Untold)
-origin_told v op false o e f h = tt
-origin_told v op true Untold e f h = tt
-origin_told v op true (At b n) e f h = (two_is v true e refl, f, h.0, h.1)
+origin_stated : (v : ℕ) (op : Op) (r : Bool) (o : Origin) → (v == 2) ≡ r → may_fault op ≡ true → IsPlace o → IsOrigin v op (cond r o Untold)
+origin_stated v op false o e f h = tt
+origin_stated v op true Untold e f h = tt
+origin_stated v op true (At b n) e f h = (two_is v true e refl, f, h.0, h.1)
 
-pub origin_kept : (v : ℕ) (op : Op) (t : Bool) (o : Origin) → may_fault op ≡ t → IsPlace o → IsOrigin v op (told v t o)
+pub origin_kept : (v : ℕ) (op : Op) (t : Bool) (o : Origin) → may_fault op ≡ t → IsPlace o → IsOrigin v op (stated v t o)
 origin_kept v op false o f h = tt
-origin_kept v op true o f h = origin_told v op (v == 2) o refl f h
+origin_kept v op true o f h = origin_stated v op (v == 2) o refl f h
 
 slot_is : (ss : List ℕ) (b : CodeBlock) (i j : Instr) → b.slots ≡ needed ss → j.slot ≡ slice_index_or ss i.slot 0 → i.slot < length ss → j.slot < b.slots
 slot_is ss b i j s e lt = let low = slot_low ss i.slot lt in omega arith
@@ -151,7 +151,7 @@ slot_there ss b i j (Release o) s e h = slot_is ss b i j s e (h i.slot refl)
 -- an operand that is there in the plan is there in its code
 pub operand_there : (p q : Program) (ls : List ℤ) (op : Op) → q.arrays ≡ p.arrays → length q.blocks ≡ length p.blocks
     → ((b : ℕ) (c : CodeBlock) → slice_get p.blocks b ≡ Some c → (x : CodeBlock) × (slice_get q.blocks b ≡ Some x) × (x.inputs ≡ c.inputs))
-    → All (Contains ls) (listed (literal_of op)) → HasOperand (with_table p (listed (literal_of op))) op → HasOperand (with_table q ls) op
+    → All (Contains ls) (as_list (literal_of op)) → HasOperand (with_table p (as_list (literal_of op))) op → HasOperand (with_table q ls) op
 operand_there p q ls (Apply1 x) a n b l h = tt
 operand_there p q ls (Apply2 x) a n b l h = tt
 operand_there p q ls (Apply2Right x z) a n b l h = All-head (Contains ls) z [] l

@@ -7,7 +7,7 @@ use Rattle.semantics.specs.Bytes.{HasOperand, HasDests, IsDest}
 use Rattle.code.specs.Sound.{IsPlace}
 use Rattle.select.specs.Emitted.{firsts_of, seconds_of}
 use Rattle.semantics.specs.Opcodes.{has_sides}
-use Rattle.select.specs.Literals.{literal_of, listed}
+use Rattle.select.specs.Literals.{literal_of, as_list}
 
 abbrev pub with_table : Program → List ℤ → Code
 with_table p ls = record { program = p; literals = ls }
@@ -16,7 +16,7 @@ with_table p ls = record { program = p; literals = ls }
 -- has a slot, it has at most two destinations and as many as its kind has, and each is a later instruction of the block,
 -- a right port one of an instruction with two operands.
 pub record IsEmittableInstr (p : Program) (c : CodeBlock) (slots : List ℕ) (n : ℕ) (i : Instr) : Type 0 where
-  pub operand : HasOperand (with_table p (listed (literal_of i.op))) i.op
+  pub operand : HasOperand (with_table p (as_list (literal_of i.op))) i.op
   pub origin : IsPlace i.origin
   pub holder : (h : ℕ) → slot_of i i.op ≡ Some h → h < length slots
   pub dests : HasDests i.op (firsts_of (has_sides i.op) i.firsts i.seconds) (seconds_of (has_sides i.op) i.firsts i.seconds)

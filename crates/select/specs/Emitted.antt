@@ -11,9 +11,9 @@ use Rattle.semantics.specs.declared.version.Version.{Version}
 use Rattle.semantics.specs.Versions.{version_number}
 
 -- An origin stands where a fault can be made, in an object of version 2.
-abbrev pub told : ℕ → Bool → Origin → Origin
-told version false o = Untold
-told version true o = if version == 2 then o else Untold
+abbrev pub stated : ℕ → Bool → Origin → Origin
+stated version false o = Untold
+stated version true o = if version == 2 then o else Untold
 
 -- Where first and second destinations do not differ, one is the first and the others are the second ones.
 abbrev pub firsts_of : Bool → List Dest → List Dest → List Dest
@@ -25,7 +25,7 @@ seconds_of true ds es = es
 seconds_of false ds es = drop 1 (ds ++ es)
 
 abbrev pub emitted : ℕ → Instr → Instr
-emitted version i = record i { origin = told version (may_fault i.op) i.origin; firsts = firsts_of (has_sides i.op) i.firsts i.seconds; seconds = seconds_of (has_sides i.op) i.firsts i.seconds }
+emitted version i = record i { origin = stated version (may_fault i.op) i.origin; firsts = firsts_of (has_sides i.op) i.firsts i.seconds; seconds = seconds_of (has_sides i.op) i.firsts i.seconds }
 
 abbrev pub emitted_instrs : ℕ → List Instr → List Instr
 emitted_instrs version is = map (emitted version) is

@@ -15,13 +15,13 @@ literal_of (Apply2Left op z) = Some z
 literal_of (Lit z) = Some z
 literal_of op = None
 
-abbrev pub listed : Option ℤ → List ℤ
-listed None = []
-listed (Some z) = z ∷ []
+abbrev pub as_list : Option ℤ → List ℤ
+as_list None = []
+as_list (Some z) = z ∷ []
 
 -- the literals that instructions use, in their order
 abbrev pub used_by : List Instr → List ℤ
-used_by is = flat_map (λ (i : Instr). listed (literal_of i.op)) is
+used_by is = flat_map (λ (i : Instr). as_list (literal_of i.op)) is
 
 abbrev pub used_in : List CodeBlock → List ℤ
 used_in cs = flat_map (λ (c : CodeBlock). used_by c.instrs) cs

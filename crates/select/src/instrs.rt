@@ -29,7 +29,7 @@ fn slot_of<A: Allocator>(instr: &Instr<A>, slots: &[u16]) -> u32
 
 /// The origin that is told of an instruction.
 fn origin_of<A: Allocator>(instr: &Instr<A>, version: Version) -> Origin
-    ensures { result ≡ Emitted.told (version_number version) (Opcodes.may_fault instr.now.op) instr.now.origin }
+    ensures { result ≡ Emitted.stated (version_number version) (Opcodes.may_fault instr.now.op) instr.now.origin }
 {
     match version {
         Version::Two if instr.op.may_fault() => instr.origin,

@@ -8,7 +8,7 @@ use Rattle.operators.specs.declared.Unary.TheVariants as U
 use Rattle.operators.specs.declared.Binary.TheVariants as B
 use Rattle.semantics.specs.declared.graph.Kind.TheVariants.{Lit, Apply1, Apply2, Cond, Enter, Merge, Fetch, Store, Call, StrictCall, Loop}
 use Rattle.semantics.specs.Graph.{Flow}
-use Rattle.semantics.specs.Meaning.{Main, Called, Turned, AtNode, AtOut, AtTurn, Operand, Predicate, Flag, Carried, tagged, Memory, with_cell, with_output, Fires, Gates, Passes, Returns, Turns, Outputs, taken, adds, Sends, Tells, Enters, Nothing, tokens_of, Says, deed, effect}
+use Rattle.semantics.specs.Meaning.{Main, Called, Turned, AtNode, AtOut, AtTurn, Operand, Predicate, Flag, Carried, tagged, Memory, with_cell, with_output, Fires, Gates, Passes, Returns, Turns, Outputs, taken, adds, Sends, Steers, Enters, Nothing, tokens_of, Says, deed, effect}
 use Rattle.semantics.proofs.Interpreter.{one, two, root, yes, no, block, flow, src}
 
 -- Block 0 gives its second input. Block 1 is a loop's body of two values. Block 2 is main.
@@ -37,7 +37,7 @@ results_of_iteration : (v : Value) → tokens_of every_kind (Sends (Turned Main 
 results_of_iteration v = refl
 
 -- a conditional tells each `enter` of its arms
-tells_each_enter : (v : Value) → tokens_of every_kind (Tells Main 5 v) ≡ tagged Main (AtNode 6) Predicate v ∷ tagged Main (AtNode 7) Predicate v ∷ []
+tells_each_enter : (v : Value) → tokens_of every_kind (Steers Main 5 v) ≡ tagged Main (AtNode 6) Predicate v ∷ tagged Main (AtNode 7) Predicate v ∷ []
 tells_each_enter v = refl
 
 -- NODES
@@ -61,7 +61,7 @@ one_is_missing : (v : Value) → deed every_kind (Fires Main 4 (v ∷ [])) ≡ N
 one_is_missing v = refl
 
 -- a conditional tells the value that it takes to its arms
-conditional : (v : Value) → deed every_kind (Fires Main 5 (v ∷ [])) ≡ Some (Says (Tells Main 5 v))
+conditional : (v : Value) → deed every_kind (Fires Main 5 (v ∷ [])) ≡ Some (Says (Steers Main 5 v))
 conditional v = refl
 
 -- an `enter` of the true side passes its value when the predicate is true, and else absorbs it

@@ -44,7 +44,7 @@ start_tokens = refl
 fetch_waits : Does begun (To.Fetch 5) (Word.Back first) [] (with_cell begun 5 (Deferred (first ∷ [])))
 fetch_waits = (refl, refl)
 
--- a second reader waits behind the first one
+-- a second reader waits after the first one
 next_fetch_waits_behind : Does (with_cell begun 5 (Deferred (first ∷ []))) (To.Fetch 5) (Word.Back second) [] (with_cell (with_cell begun 5 (Deferred (first ∷ []))) 5 (Deferred (first ∷ second ∷ [])))
 next_fetch_waits_behind = (refl, refl)
 

@@ -83,7 +83,7 @@ beyond = refl
 entry : is_entry plan.program.blocks 12 ≡ true
 entry = refl
 
--- the switch behind the entries is none
+-- the switch after the entries is none
 no_entry : is_entry plan.program.blocks 13 ≡ false
 no_entry = refl
 

@@ -12,7 +12,7 @@ use Rattle.semantics.specs.declared.program.Mark.{Mark}
 use Rattle.semantics.specs.declared.program.Mark.TheVariants.{Unmarked, OfCond}
 use Rattle.semantics.specs.Plan.{Plan, mark_at, instr_in}
 use Rattle.semantics.specs.Machine.{slot_used}
-use Rattle.semantics.specs.Sharing.{Inlet, inlet, Arc, arc, arcs_in, Follows, follows, Leads, by_choice, by_port, Holds, IsEnd, IsSide, IsHolderPort, AllAfter, AllOnSide, MayShare}
+use Rattle.semantics.specs.Sharing.{Inlet, inlet, Arc, arc, arcs_in, IsAfter, is_after, Leads, by_choice, by_port, Holds, IsEnd, IsSide, IsHolderPort, AllAfter, AllOnSide, MayShare}
 use Rattle.semantics.proofs.Emulator.{instr}
 
 abbrev l : ℕ → Dest
@@ -33,9 +33,9 @@ numbered c h n i is = ap slot_used is.0 ∙ is.1
 
 -- both ports of an instruction follow where each has an arc, and each arc into them is chosen
 both_follow : (arcs : List Arc) (chosen : Arc → Type 0) (n : ℕ) (x y : Arc) → Contains arcs x → x.to ≡ inlet n Left → Contains arcs y → y.to ≡ inlet n Right
-    → ((z : Arc) → Contains arcs z → z.to.place ≡ n → chosen z) → (side : Port) → Follows arcs chosen (inlet n side)
-both_follow arcs chosen n x y a to b to' all Left = follows (inlet n Left) x a to (λ z there e. by_choice z (all z there (ap (λ (q : Inlet). q.place) e)))
-both_follow arcs chosen n x y a to b to' all Right = follows (inlet n Right) y b to' (λ z there e. by_choice z (all z there (ap (λ (q : Inlet). q.place) e)))
+    → ((z : Arc) → Contains arcs z → z.to.place ≡ n → chosen z) → (side : Port) → IsAfter arcs chosen (inlet n side)
+both_follow arcs chosen n x y a to b to' all Left = is_after (inlet n Left) x a to (λ z there e. by_choice z (all z there (ap (λ (q : Inlet). q.place) e)))
+both_follow arcs chosen n x y a to b to' all Right = is_after (inlet n Right) y b to' (λ z there e. by_choice z (all z there (ap (λ (q : Inlet). q.place) e)))
 
 -- ONE AFTER THE OTHER: the `or` of an input with itself, and the `and` of that with itself
 abbrev or : Instr
@@ -64,7 +64,7 @@ ends_or x e = (or, (subst (λ (n : ℕ). instr_in (block_of chain) n ≡ Some or
 
 and_after_or : AllAfter chain 0 1 0
 and_after_or q is =
-    subst (λ (n : ℕ). Follows (arcs_in chain (block_of chain)) (IsEnd (block_of chain) 0) (inlet n q.port)) (sym (place_of_and q.place (numbered (block_of chain) 1 q.place is.0 is.1)))
+    subst (λ (n : ℕ). IsAfter (arcs_in chain (block_of chain)) (IsEnd (block_of chain) 0) (inlet n q.port)) (sym (place_of_and q.place (numbered (block_of chain) 1 q.place is.0 is.1)))
     (both_follow (arcs_in chain (block_of chain)) (IsEnd (block_of chain) 0) 3 (arc 2 false (inlet 3 Left)) (arc 2 false (inlet 3 Right)) (2, omega arith, refl) refl (3, omega arith, refl) refl
     (λ y there to. ends_or y (All-contains StartsAtOr (arcs_in chain (block_of chain)) y arcs_to_and there to)) q.port)
 
@@ -105,13 +105,13 @@ on_side side x e = (ap (λ (n : ℕ). mark_at choice 0 n) e.0, (λ same. cc), e.
 
 add_on_true : AllOnSide choice 0 0 (OfCond 1) true
 add_on_true q is =
-    subst (λ (n : ℕ). Follows (arcs_in choice (block_of choice)) (IsSide choice 0 (OfCond 1) true) (inlet n q.port)) (sym (place_of_add q.place (numbered (block_of choice) 0 q.place is.0 is.1)))
+    subst (λ (n : ℕ). IsAfter (arcs_in choice (block_of choice)) (IsSide choice 0 (OfCond 1) true) (inlet n q.port)) (sym (place_of_add q.place (numbered (block_of choice) 0 q.place is.0 is.1)))
     (both_follow (arcs_in choice (block_of choice)) (IsSide choice 0 (OfCond 1) true) 3 (arc 2 false (inlet 3 Left)) (arc 2 false (inlet 3 Right)) (2, omega arith, refl) refl (3, omega arith, refl) refl
     (λ y there to. on_side true y (All-contains (BySwitch 3 false) (arcs_in choice (block_of choice)) y arcs_to_add there to)) q.port)
 
 mul_on_false : AllOnSide choice 0 1 (OfCond 1) false
 mul_on_false q is =
-    subst (λ (n : ℕ). Follows (arcs_in choice (block_of choice)) (IsSide choice 0 (OfCond 1) false) (inlet n q.port)) (sym (place_of_mul q.place (numbered (block_of choice) 1 q.place is.0 is.1)))
+    subst (λ (n : ℕ). IsAfter (arcs_in choice (block_of choice)) (IsSide choice 0 (OfCond 1) false) (inlet n q.port)) (sym (place_of_mul q.place (numbered (block_of choice) 1 q.place is.0 is.1)))
     (both_follow (arcs_in choice (block_of choice)) (IsSide choice 0 (OfCond 1) false) 4 (arc 2 true (inlet 4 Left)) (arc 2 true (inlet 4 Right)) (4, omega arith, refl) refl (5, omega arith, refl) refl
     (λ y there to. on_side false y (All-contains (BySwitch 4 true) (arcs_in choice (block_of choice)) y arcs_to_mul there to)) q.port)
 
@@ -138,15 +138,15 @@ arcs_from_input = All-from_recursion FromInput (arcs_in parallel (block_of paral
 from_input : (x : Arc) → Contains (arcs_in parallel (block_of parallel)) x → FromInput x
 from_input x there = All-contains FromInput (arcs_in parallel (block_of parallel)) x arcs_from_input there
 
-input_follows_nothing : (chosen : Arc → Type 0) (q : Inlet) → q.place ≡ 1 → Follows (arcs_in parallel (block_of parallel)) chosen q → ⊥
-input_follows_nothing chosen q e (follows _ x there to all) = (from_input x there).1 (ap (λ (p : Inlet). p.place) to ∙ e)
+input_follows_nothing : (chosen : Arc → Type 0) (q : Inlet) → q.place ≡ 1 → IsAfter (arcs_in parallel (block_of parallel)) chosen q → ⊥
+input_follows_nothing chosen q e (is_after _ x there to all) = (from_input x there).1 (ap (λ (p : Inlet). p.place) to ∙ e)
 
 input_leads_nothing : (chosen : Arc → Type 0) → ((x : Arc) → x.from ≡ 1 → chosen x → ⊥) → (x : Arc) → x.from ≡ 1 → Leads (arcs_in parallel (block_of parallel)) chosen x → ⊥
 input_leads_nothing chosen none x e (by_choice _ is) = none x e is
 input_leads_nothing chosen none x e (by_port _ side after) = input_follows_nothing chosen (inlet x.from side) e after
 
-nothing_follows : (chosen : Arc → Type 0) → ((x : Arc) → x.from ≡ 1 → chosen x → ⊥) → (q : Inlet) → Follows (arcs_in parallel (block_of parallel)) chosen q → ⊥
-nothing_follows chosen none q (follows _ x there to all) = input_leads_nothing chosen none x (from_input x there).0 (all x there to)
+nothing_follows : (chosen : Arc → Type 0) → ((x : Arc) → x.from ≡ 1 → chosen x → ⊥) → (q : Inlet) → IsAfter (arcs_in parallel (block_of parallel)) chosen q → ⊥
+nothing_follows chosen none q (is_after _ x there to all) = input_leads_nothing chosen none x (from_input x there).0 (all x there to)
 
 -- the input's arcs are no holder's, and on no side
 no_end : (h : ℕ) (x : Arc) → x.from ≡ 1 → IsEnd (block_of parallel) h x → ⊥

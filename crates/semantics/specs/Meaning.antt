@@ -169,7 +169,7 @@ pub data Message : Type 0 where
   -- a value on an output port of a node
   Sends : (context : Context) (node port : ℕ) (value : Value) → Message
   -- the value that a conditional took, as predicate to each `enter` of its arms
-  Tells : (context : Context) (cond : ℕ) (value : Value) → Message
+  Steers : (context : Context) (cond : ℕ) (value : Value) → Message
   -- values for the inputs of an invocation, from one of them on
   Enters : (context : Context) (from : ℕ) (values : List Value) → Message
   Nothing : Message
@@ -190,7 +190,7 @@ predicates_in (Some b) c k v = predicates_from c k v b.inputs b.nodes
 -- the tokens of a message
 abbrev pub tokens_of : Flow → Message → List Tagged
 tokens_of fl (Sends c n p v) = sent fl c n p v
-tokens_of fl (Tells c k v) = predicates_in (block_of fl c) c k v
+tokens_of fl (Steers c k v) = predicates_in (block_of fl c) c k v
 tokens_of fl (Enters c i vs) = entering c i vs
 tokens_of fl Nothing = []
 
@@ -248,7 +248,7 @@ abbrev pub fired : Flow → Context → ℕ → Kind ℕ → List Value → Opti
 fired fl c n (Lit z) (v ∷ []) = Some (Says (Sends c n 0 (Int z)))
 fired fl c n (Apply1 op) (v ∷ []) = Some (Says (Sends c n 0 (apply1 op v)))
 fired fl c n (Apply2 op) (v ∷ w ∷ []) = Some (Says (Sends c n 0 (apply2 op v w (origin_at fl c n))))
-fired fl c n Cond (v ∷ []) = Some (Says (Tells c n v))
+fired fl c n Cond (v ∷ []) = Some (Says (Steers c n v))
 fired fl c n (Fetch a) (v ∷ []) = Some (fetched c n (first_cell fl a) (index_in (array_len fl a) v (origin_at fl c n)))
 fired fl c n (Store a) (v ∷ w ∷ []) = Some (stored c n (first_cell fl a) w (index_in (array_len fl a) v (origin_at fl c n)))
 fired fl c n (StrictCall f) vs = Some (Says (Enters (Called c n) 0 vs))

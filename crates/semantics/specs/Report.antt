@@ -49,20 +49,20 @@ pub record IsPicture (p : Program) (z : Size) (m : Machine) (r : Report) : Type 
 abbrev pub HasTokenFor : Size → ℕ → Machine → Type 0
 HasTokenFor z e m = (t : Token) × Contains m.pool t × (element_of z.elements t.to ≡ e)
 
--- `listed`: the events were a list of picks, and it is used up. `may_stop`: the gate may answer false.
+-- `by_list`: the events were a list of picks, and it is used up. `may_stop`: the gate may answer false.
 abbrev pub HasEnd : Program → Size → ℕ → Bool → Bool → Events → Machine → End → Type 0
-HasEnd p z steps listed may_stop events m Rest = Resting m × (Wants m → ⊥)
-HasEnd p z steps listed may_stop events m Starved = Resting m × Wants m
-HasEnd p z steps listed may_stop events m (Clash a i) = (a < length p.arrays) × (i < array_len p a) × HasStoreOfFull m (array_base p a + i)
-HasEnd p z steps listed may_stop events m Steps =
+HasEnd p z steps by_list may_stop events m Rest = Resting m × (Wants m → ⊥)
+HasEnd p z steps by_list may_stop events m Starved = Resting m × Wants m
+HasEnd p z steps by_list may_stop events m (Clash a i) = (a < length p.arrays) × (i < array_len p a) × HasStoreOfFull m (array_base p a + i)
+HasEnd p z steps by_list may_stop events m Steps =
     ((e : ℕ) × (count_by (λ (ev : ℕ × Token). ev.0 == e) events ≡ steps) × HasTokenFor z e m)
-    ⊎ ((listed ≡ true) × ((e : ℕ) × HasTokenFor z e m))
-HasEnd p z steps listed may_stop events m (Stuck n) = (t : Token) × Contains m.pool t × (stuck_rule p m.store t.to t.word ≡ Some n)
-HasEnd p z steps listed may_stop events m Memory = ⊤
-HasEnd p z steps listed may_stop events m Stop = may_stop ≡ true
+    ⊎ ((by_list ≡ true) × ((e : ℕ) × HasTokenFor z e m))
+HasEnd p z steps by_list may_stop events m (Stuck n) = (t : Token) × Contains m.pool t × (stuck_rule p m.store t.to t.word ≡ Some n)
+HasEnd p z steps by_list may_stop events m Memory = ⊤
+HasEnd p z steps by_list may_stop events m Stop = may_stop ≡ true
 
-pub record Shows (p : Program) (z : Size) (inputs : List ℤ) (steps : ℕ) (listed may_stop : Bool) (r : Report) : Type 0 where
+pub record Shows (p : Program) (z : Size) (inputs : List ℤ) (steps : ℕ) (by_list may_stop : Bool) (r : Report) : Type 0 where
   pub last : Machine
   pub run : Run p z (at_start p inputs) r.events last
   pub picture : IsPicture p z last r
-  pub ends : HasEnd p z steps listed may_stop r.events last r.end
+  pub ends : HasEnd p z steps by_list may_stop r.events last r.end

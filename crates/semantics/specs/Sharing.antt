@@ -50,13 +50,13 @@ arcs_in p (Some c) = arcs_of p 0 c.instrs
 
 -- LEAST RELATION. Each arc into the port is one of the chosen arcs, or starts at an instruction with such a port.
 mutual
-  pub data Follows (arcs : List Arc) (chosen : Arc → Type 0) : Inlet → Type 0 where
-    follows : (q : Inlet) (x : Arc) → Contains arcs x → x.to ≡ q
-        → ((y : Arc) → Contains arcs y → y.to ≡ q → Leads arcs chosen y) → Follows arcs chosen q
+  pub data IsAfter (arcs : List Arc) (chosen : Arc → Type 0) : Inlet → Type 0 where
+    is_after : (q : Inlet) (x : Arc) → Contains arcs x → x.to ≡ q
+        → ((y : Arc) → Contains arcs y → y.to ≡ q → Leads arcs chosen y) → IsAfter arcs chosen q
 
   pub data Leads (arcs : List Arc) (chosen : Arc → Type 0) : Arc → Type 0 where
     by_choice : (y : Arc) → chosen y → Leads arcs chosen y
-    by_port : (y : Arc) (side : Port) → Follows arcs chosen (inlet y.from side) → Leads arcs chosen y
+    by_port : (y : Arc) (side : Port) → IsAfter arcs chosen (inlet y.from side) → Leads arcs chosen y
 
 -- an instruction of the holder, at that place
 abbrev pub Holds : Option CodeBlock → ℕ → ℕ → Instr → Type 0
@@ -89,11 +89,11 @@ IsHolderPort c h q = (i : Instr) × Holds c h q.place i × (is_port i.op q.port 
 -- all ports of the one holder come after the other
 abbrev pub AllAfter : Plan → ℕ → ℕ → ℕ → Type 0
 AllAfter p b g h = (q : Inlet) → IsHolderPort (slice_get p.program.blocks b) g q
-    → Follows (arcs_in p (slice_get p.program.blocks b)) (IsEnd (slice_get p.program.blocks b) h) q
+    → IsAfter (arcs_in p (slice_get p.program.blocks b)) (IsEnd (slice_get p.program.blocks b) h) q
 
 abbrev pub AllOnSide : Plan → ℕ → ℕ → Mark → Bool → Type 0
 AllOnSide p b g m side = (q : Inlet) → IsHolderPort (slice_get p.program.blocks b) g q
-    → Follows (arcs_in p (slice_get p.program.blocks b)) (IsSide p b m side) q
+    → IsAfter (arcs_in p (slice_get p.program.blocks b)) (IsSide p b m side) q
 
 abbrev pub MayShare : Plan → ℕ → ℕ → ℕ → Type 0
 MayShare p b g h = ((m : Mark) × (side : Bool) × AllOnSide p b g m side × AllOnSide p b h m (not side))

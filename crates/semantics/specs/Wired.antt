@@ -44,12 +44,12 @@ bound_of (Drains k) = k
 bound_of NoPart = 0
 
 -- a place of a block and the instruction there
-abbrev pub StandsAt : CodeBlock → ℕ → Instr → Type 0
-StandsAt c n i = slice_get c.instrs n ≡ Some i
+abbrev pub IsInstrAt : CodeBlock → ℕ → Instr → Type 0
+IsInstrAt c n i = slice_get c.instrs n ≡ Some i
 
 -- All of a loop's instructions have its bound, and no two of them are alike.
 abbrev pub LoopsAgree : CodeBlock → Type 0
-LoopsAgree c = (m n h : ℕ) (i j : Instr) → StandsAt c m i → StandsAt c n j → slot_of i i.op ≡ Some h → slot_of j j.op ≡ Some h
+LoopsAgree c = (m n h : ℕ) (i j : Instr) → IsInstrAt c m i → IsInstrAt c n j → slot_of i i.op ≡ Some h → slot_of j j.op ≡ Some h
     → (bound_of (part_of i.op) ≡ bound_of (part_of j.op)) × (part_of i.op ≡ part_of j.op → m ≡ n)
 
 pub record IsWired (p : Plan) : Type 0 where
@@ -58,7 +58,7 @@ pub record IsWired (p : Plan) : Type 0 where
   pub entries : (b : ℕ) (c : CodeBlock) (x : Arc) → slice_get p.program.blocks b ≡ Some c → Contains (arcs_of p 0 c.instrs) x → c.inputs < x.to.place
   -- a right port is a dyadic instruction's
   pub rights : (b : ℕ) (c : CodeBlock) (x : Arc) → slice_get p.program.blocks b ≡ Some c → Contains (arcs_of p 0 c.instrs) x → x.to.port ≡ Right
-      → (i : Instr) × StandsAt c x.to.place i × (is_dyadic i.op ≡ true)
+      → (i : Instr) × IsInstrAt c x.to.place i × (is_dyadic i.op ≡ true)
   -- nothing but a switch is marked
-  pub switches : (b n : ℕ) (c : CodeBlock) (i : Instr) → slice_get p.program.blocks b ≡ Some c → StandsAt c n i → mark_at p b n ≢ Unmarked → i.op ≡ Switch
+  pub switches : (b n : ℕ) (c : CodeBlock) (i : Instr) → slice_get p.program.blocks b ≡ Some c → IsInstrAt c n i → mark_at p b n ≢ Unmarked → i.op ≡ Switch
   pub loops : (b : ℕ) (c : CodeBlock) → slice_get p.program.blocks b ≡ Some c → LoopsAgree c

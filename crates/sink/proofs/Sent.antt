@@ -29,7 +29,7 @@ unfolding Sends
 sends_more (Ok x) a b c bs cs p q = appends_then a b c bs cs p q
 sends_more (Err e) a b c bs cs p q = (bs ++ q.0, q.1, ap (λ (l : List ℕ). bs ++ l) q.2 ∙ sym (append_assoc bs q.0 q.1), appends_then a b c bs q.0 p q.3)
 
--- what is not sent behind a fault
+-- what is not sent after a fault
 pub sends_less : {E : Type 0} (e : E) (a b : Option (List ℕ)) (bs cs : List ℕ) → Sends (Err e) a b bs → Sends (Err e) a b (bs ++ cs)
 unfolding Sends
 sends_less e a b bs cs q = (q.0, q.1 ++ cs, ap (λ (l : List ℕ). l ++ cs) q.2 ∙ append_assoc q.0 q.1 cs, q.3)

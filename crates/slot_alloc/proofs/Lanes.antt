@@ -199,7 +199,7 @@ module _ (k : ℕ) where
         ∙ ap (λ b. enter_each (enter_firsts p (pairs xs) n (lead || is_chosen ch i m false) i.firsts i.op) n b i.seconds) (lead_at xs n s (is_chosen ch i m true) es)
 
   -- THE PASS AND THE ROW
-  module _ (p : Plan) (choice : Choice) (known : List Mark) (ch : Chosen) (tells : (i : Instr) (m : Mark) (second : Bool) → lane_bit k (words.lanes choice known i m second) ≡ is_chosen ch i m second) (few : k < 64) where
+  module _ (p : Plan) (choice : Choice) (known : List Mark) (ch : Chosen) (says : (i : Instr) (m : Mark) (second : Bool) → lane_bit k (words.lanes choice known i m second) ≡ is_chosen ch i m second) (few : k < 64) where
     pass_at : (ms : List Mark) (xs : List Flows) (n : ℕ) (is : List Instr) → pairs (words.pass p choice known ms xs n is) ≡ pass p ch ms (pairs xs) n is
     pass_at ms xs n [] = refl
     pass_at ms xs n (i ∷ is) =
@@ -207,7 +207,7 @@ module _ (k : ℕ) where
         let f = words.lanes choice known i m false in
         let s = words.lanes choice known i m true in
         pass_at ms (words.enter_instr p xs n f s i) (n + 1) is
-        ∙ ap (λ ys. pass p ch ms ys (n + 1) is) (instr_at p ch m i f s (tells i m false) (tells i m true) xs n)
+        ∙ ap (λ ys. pass p ch ms ys (n + 1) is) (instr_at p ch m i f s (says i m false) (says i m true) xs n)
 
     abbrev row_bits : List ℕ → List Bool
     row_bits row = map (lane_bit k) row

@@ -14,7 +14,7 @@ use Rattle.semantics.specs.declared.program.Op.TheVariants.{Open, Take, Give, Dr
 use Rattle.semantics.specs.Program.{Instr}
 use Rattle.semantics.specs.Rule.{slot_of}
 use Rattle.semantics.specs.Plan.{Plan}
-use Rattle.semantics.specs.Sharing.{Inlet, inlet, Arc, arcs_to, arcs_from, arcs_of, Follows, follows, Leads, by_choice, by_port, is_port}
+use Rattle.semantics.specs.Sharing.{Inlet, inlet, Arc, arcs_to, arcs_from, arcs_of, IsAfter, is_after, Leads, by_choice, by_port, is_port}
 use Rattle.slot_alloc.specs.Passes.{Inflow, Bare, AllLead, NotAll}
 use Rattle.slot_alloc.specs.Passes.{Inlets}
 use Rattle.slot_alloc.specs.Passes.{Chosen}
@@ -80,12 +80,12 @@ pass_long p ch ms xs n (i ∷ is) = pass_long p ch ms (enter_instr p ch xs n (ma
 
 module _ (p : Plan) (ch : Chosen) (ms : List Mark) (arcs : List Arc) (chosen : Arc → Type 0) where
   -- the test tells which arcs of the instruction are chosen
-  abbrev pub Tells : ℕ → Instr → Type 0
-  Tells n i = (y : Arc) → y.from ≡ n → Decides (is_chosen ch i (mark_of ms n) y.second) (chosen y)
+  abbrev pub Says : ℕ → Instr → Type 0
+  Says n i = (y : Arc) → y.from ≡ n → Decides (is_chosen ch i (mark_of ms n) y.second) (chosen y)
 
   module _ (done : List Arc) (xs : List Inlets) (n : ℕ) (i : Instr) (rest : List Arc) (e : arcs ≡ done ++ (arcs_from p n i i.op ++ rest))
       (earlier : (y : Arc) → Contains done y → y.from < n) (later : (y : Arc) → Contains rest y → (n < y.from) × (y.from ≤ y.to.place))
-      (within : n < length xs) (tells : Tells n i) (h : Shows (Leads arcs chosen) done xs) where
+      (within : n < length xs) (says : Says n i) (h : Shows (Leads arcs chosen) done xs) where
     sub : (y : Arc) → Contains (done ++ arcs_from p n i i.op) y → Contains arcs y
     sub y there = subst (λ zs. Contains zs y) (append_assoc done (arcs_from p n i i.op) rest ∙ sym e) (Contains-append_left (done ++ arcs_from p n i i.op) rest y there)
 
@@ -106,7 +106,7 @@ module _ (p : Plan) (ch : Chosen) (ms : List Mark) (arcs : List Arc) (chosen : A
 
     led_exact : (s : Bool) (y : Arc) → IsFrom n s y → Decides (is_chosen ch i (mark_of ms n) s) (Led y)
     led_exact s y from =
-        let d : Decides (is_chosen ch i (mark_of ms n) s) (chosen y) = subst (λ t. Decides (is_chosen ch i (mark_of ms n) t) (chosen y)) from.1 (tells y from.0) in
+        let d : Decides (is_chosen ch i (mark_of ms n) s) (chosen y) = subst (λ t. Decides (is_chosen ch i (mark_of ms n) t) (chosen y)) from.1 (says y from.0) in
         (λ t. inl (from.0, d.0 t), λ l. d.1 (is_led l))
       where
         is_led : Led y → chosen y
@@ -129,17 +129,17 @@ module _ (p : Plan) (ch : Chosen) (ms : List Mark) (arcs : List Arc) (chosen : A
     port_leads Left t = or_left (all_lead (own_instr p ch (inlets_at xs n) (mark_of ms n) i).left) (all_lead (own_instr p ch (inlets_at xs n) (mark_of ms n) i).right) t
     port_leads Right t = or_right (all_lead (own_instr p ch (inlets_at xs n) (mark_of ms n) i).left) (all_lead (own_instr p ch (inlets_at xs n) (mark_of ms n) i).right) t
 
-    port_follows : (s : Port) → all_lead (port_of (own_instr p ch (inlets_at xs n) (mark_of ms n) i) s) ≡ true → Follows arcs chosen (inlet n s)
+    port_follows : (s : Port) → all_lead (port_of (own_instr p ch (inlets_at xs n) (mark_of ms n) i) s) ≡ true → IsAfter arcs chosen (inlet n s)
     port_follows s t =
         let w = shown_leads Led (done ++ arcs_from p n i i.op) (inlet n s) (port_of (own_instr p ch (inlets_at xs n) (mark_of ms n) i) s) (own_shown s) t in
-        follows (inlet n s) w.0.0 (sub w.0.0 w.0.1) w.0.2 (λ y there to. led_leads y (w.1 y (all s y there to) to))
+        is_after (inlet n s) w.0.0 (sub w.0.0 w.0.1) w.0.2 (λ y there to. led_leads y (w.1 y (all s y there to) to))
 
     from_done : (y : Arc) → Contains (done ++ arcs_from p n i i.op) y → (y.from < n) ⊎ (y.from ≡ n)
     from_done y there = ⊎_elim (λ a. inl (earlier y a)) (λ a. inr (from_here p n i y a).0) (Contains-append_cases done (arcs_from p n i i.op) y there)
 
     mutual
-      found : (q : Inlet) (s : Port) → q ≡ inlet n s → Follows arcs chosen q → some_lead (own_instr p ch (inlets_at xs n) (mark_of ms n) i) ≡ true
-      found q s same (follows _ x there to each) = ⊎_elim
+      found : (q : Inlet) (s : Port) → q ≡ inlet n s → IsAfter arcs chosen q → some_lead (own_instr p ch (inlets_at xs n) (mark_of ms n) i) ≡ true
+      found q s same (is_after _ x there to each) = ⊎_elim
           (λ a. port_leads s a)
           (λ w. ⊎_elim
           (λ none. absurd (none x (all s x there (to ∙ same)) (to ∙ same)))
@@ -154,7 +154,7 @@ module _ (p : Plan) (ch : Chosen) (ms : List Mark) (arcs : List Arc) (chosen : A
           (λ at. found (inlet y.from side) side (ap (λ k. inlet k side) at) f)
           from
 
-    some_port : Decides (some_lead (own_instr p ch (inlets_at xs n) (mark_of ms n) i)) ((s : Port) × Follows arcs chosen (inlet n s))
+    some_port : Decides (some_lead (own_instr p ch (inlets_at xs n) (mark_of ms n) i)) ((s : Port) × IsAfter arcs chosen (inlet n s))
     some_port = (
       λ t. ⊎_elim (λ a. (Left, port_follows Left a)) (λ a. (Right, port_follows Right a))
           (or_cases (all_lead (own_instr p ch (inlets_at xs n) (mark_of ms n) i).left) (all_lead (own_instr p ch (inlets_at xs n) (mark_of ms n) i).right) t),
@@ -163,13 +163,13 @@ module _ (p : Plan) (ch : Chosen) (ms : List Mark) (arcs : List Arc) (chosen : A
 
     leads_from : (y : Arc) (b : Bool) → y.from ≡ n → Leads arcs chosen y → Decides b (chosen y) → (some_lead (own_instr p ch (inlets_at xs n) (mark_of ms n) i) || b) ≡ true
     leads_from y b at (by_choice _ c) d = or_right (some_lead (own_instr p ch (inlets_at xs n) (mark_of ms n) i)) b (d.1 c)
-    leads_from y b at (by_port _ side f) d = or_left (some_lead (own_instr p ch (inlets_at xs n) (mark_of ms n) i)) b (some_port.1 (side, subst (λ m. Follows arcs chosen (inlet m side)) at f))
+    leads_from y b at (by_port _ side f) d = or_left (some_lead (own_instr p ch (inlets_at xs n) (mark_of ms n) i)) b (some_port.1 (side, subst (λ m. IsAfter arcs chosen (inlet m side)) at f))
 
     leads_exact : (s : Bool) (y : Arc) → IsFrom n s y → Decides (some_lead (own_instr p ch (inlets_at xs n) (mark_of ms n) i) || is_chosen ch i (mark_of ms n) s) (Leads arcs chosen y)
     leads_exact s y from =
-        let d : Decides (is_chosen ch i (mark_of ms n) s) (chosen y) = subst (λ t. Decides (is_chosen ch i (mark_of ms n) t) (chosen y)) from.1 (tells y from.0) in (
+        let d : Decides (is_chosen ch i (mark_of ms n) s) (chosen y) = subst (λ t. Decides (is_chosen ch i (mark_of ms n) t) (chosen y)) from.1 (says y from.0) in (
           λ t. ⊎_elim
-              (λ a. let w = some_port.0 a in by_port y w.0 (subst (λ m. Follows arcs chosen (inlet m w.0)) (sym from.0) w.1))
+              (λ a. let w = some_port.0 a in by_port y w.0 (subst (λ m. IsAfter arcs chosen (inlet m w.0)) (sym from.0) w.1))
               (λ a. by_choice y (d.0 a))
               (or_cases (some_lead (own_instr p ch (inlets_at xs n) (mark_of ms n) i)) (is_chosen ch i (mark_of ms n) s) t),
           λ l. leads_from y (is_chosen ch i (mark_of ms n) s) from.0 l d,
@@ -183,20 +183,20 @@ module _ (p : Plan) (ch : Chosen) (ms : List Mark) (arcs : List Arc) (chosen : A
     pub earlier_more : (y : Arc) → Contains (done ++ arcs_from p n i i.op) y → y.from < n + 1
     earlier_more y there = ⊎_elim (λ lt. omega (arith, lt)) (λ at. omega (arith, at)) (from_done y there)
 
-  pub pass_shown : (done : List Arc) (xs : List Inlets) (n : ℕ) (is : List Instr) → arcs ≡ done ++ arcs_of p n is → ((y : Arc) → Contains done y → y.from < n) → n + length is ≤ length xs → ByPlace Tells n is
+  pub pass_shown : (done : List Arc) (xs : List Inlets) (n : ℕ) (is : List Instr) → arcs ≡ done ++ arcs_of p n is → ((y : Arc) → Contains done y → y.from < n) → n + length is ≤ length xs → ByPlace Says n is
       → Shows (Leads arcs chosen) done xs → Shows (Leads arcs chosen) arcs (pass p ch ms xs n is)
-  pass_shown done xs n [] e earlier long tells h = subst (λ zs. Shows (Leads arcs chosen) zs xs) (sym (e ∙ append-nil done)) h
-  pass_shown done xs n (i ∷ is) e earlier long tells h =
+  pass_shown done xs n [] e earlier long says h = subst (λ zs. Shows (Leads arcs chosen) zs xs) (sym (e ∙ append-nil done)) h
+  pass_shown done xs n (i ∷ is) e earlier long says h =
       let rest = arcs_of p (n + 1) is in
       let len = instr_long p ch xs n (mark_of ms n) i in
       let later : (y : Arc) → Contains rest y → (n < y.from) × (y.from ≤ y.to.place) = λ y there. (let w = from_later p (n + 1) is y there in let f = w.0 in (omega (arith, f), w.1)) in
       let within : n < length xs = omega (arith, long) in
       pass_shown (done ++ arcs_from p n i i.op) (enter_instr p ch xs n (mark_of ms n) i) (n + 1) is
       (e ∙ sym (append_assoc done (arcs_from p n i i.op) rest))
-      (earlier_more done xs n i rest e earlier later within tells.0 h)
+      (earlier_more done xs n i rest e earlier later within says.0 h)
       (omega (arith, long, len))
-      tells.1
-      (instr_shown done xs n i rest e earlier later within tells.0 h)
+      says.1
+      (instr_shown done xs n i rest e earlier later within says.0 h)
 
   none_shown : (k : ℕ) → Shows (Leads arcs chosen) [] (replicate k bare)
   none_shown k = λ m s below.
@@ -208,12 +208,12 @@ module _ (p : Plan) (ch : Chosen) (ms : List Mark) (arcs : List Arc) (chosen : A
       empty m Right = λ y there to. omega (arith, there.1)
 
   -- EXACTLY what follows, at each place of the block
-  pub follows_exact : (is : List Instr) → arcs ≡ arcs_of p 0 is → ByPlace Tells 0 is → (k : ℕ) (s : Port) → k < length is
-      → Decides (all_lead (port_of (inlets_at (pass p ch ms (replicate (length is) bare) 0 is) k) s)) (Follows arcs chosen (inlet k s))
-  follows_exact is e tells k s below =
+  pub follows_exact : (is : List Instr) → arcs ≡ arcs_of p 0 is → ByPlace Says 0 is → (k : ℕ) (s : Port) → k < length is
+      → Decides (all_lead (port_of (inlets_at (pass p ch ms (replicate (length is) bare) 0 is) k) s)) (IsAfter arcs chosen (inlet k s))
+  follows_exact is e says k s below =
       let start = length-replicate (length is) bare in
       let len = pass_long p ch ms (replicate (length is) bare) 0 is in
-      let all = pass_shown [] (replicate (length is) bare) 0 is e (λ y there. omega (arith, there.1)) (omega (arith, start)) tells (none_shown (length is)) in
+      let all = pass_shown [] (replicate (length is) bare) 0 is e (λ y there. omega (arith, there.1)) (omega (arith, start)) says (none_shown (length is)) in
       follows_shown arcs chosen arcs (inlet k s) (port_of (inlets_at (pass p ch ms (replicate (length is) bare) 0 is) k) s) (λ y a. a) (λ y a b. a) (all k s (omega (arith, start, len, below)))
 
 -- THE ROW

@@ -13,7 +13,7 @@ use Rattle.semantics.specs.declared.program.Op.{Op}
 use Rattle.semantics.specs.declared.program.Op.TheVariants.{Link}
 use Rattle.semantics.specs.Program.{Instr}
 use Rattle.semantics.specs.Plan.{Plan, landing}
-use Rattle.semantics.specs.Sharing.{Inlet, inlet, Arc, arc, arcs_to, row, arcs_from, arcs_of, Follows, follows, Leads}
+use Rattle.semantics.specs.Sharing.{Inlet, inlet, Arc, arc, arcs_to, row, arcs_from, arcs_of, IsAfter, is_after, Leads}
 use Rattle.slot_alloc.specs.Passes.{Inflow, Bare, AllLead, NotAll}
 use Rattle.slot_alloc.specs.Passes.{Inlets}
 use Rattle.slot_alloc.specs.Passes.{bare, inlets_at, inflow_with, inlets_with, enter, enter_each, enter_row, enter_landings, enter_firsts, all_lead, own_each, own_landings, own_firsts}
@@ -175,16 +175,16 @@ module _ (L : Arc → Type 0) where
 -- a port whose arcs are all entered
 module _ (arcs : List Arc) (chosen : Arc → Type 0) where
   pub follows_shown : (done : List Arc) (q : Inlet) (v : Inflow) → ((y : Arc) → Contains done y → Contains arcs y) → ((y : Arc) → Contains arcs y → y.to ≡ q → Contains done y)
-      → Shown (Leads arcs chosen) done q v → Decides (all_lead v) (Follows arcs chosen q)
+      → Shown (Leads arcs chosen) done q v → Decides (all_lead v) (IsAfter arcs chosen q)
   follows_shown done q Bare sub all h = (λ e. absurd (both_ways false refl e), λ f. absurd (bare_port f))
     where
-      bare_port : Follows arcs chosen q → ⊥
-      bare_port (follows _ x there to each) = h x (all x there to) to
-  follows_shown done q AllLead sub all h = (λ e. follows q h.0.0 (sub h.0.0 h.0.1) h.0.2 (λ y there to. h.1 y (all y there to) to), λ f. refl)
+      bare_port : IsAfter arcs chosen q → ⊥
+      bare_port (is_after _ x there to each) = h x (all x there to) to
+  follows_shown done q AllLead sub all h = (λ e. is_after q h.0.0 (sub h.0.0 h.0.1) h.0.2 (λ y there to. h.1 y (all y there to) to), λ f. refl)
   follows_shown done q NotAll sub all h = (λ e. absurd (both_ways false refl e), λ f. absurd (broken_port f))
     where
-      broken_port : Follows arcs chosen q → ⊥
-      broken_port (follows _ x there to each) = h.3 (each h.0 (sub h.0 h.1) h.2)
+      broken_port : IsAfter arcs chosen q → ⊥
+      broken_port (is_after _ x there to each) = h.3 (each h.0 (sub h.0 h.1) h.2)
 
 -- THE OWN ARCS of an instruction are those that come to its ports when all are entered
 module _ (n : ℕ) where

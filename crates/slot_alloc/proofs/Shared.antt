@@ -13,7 +13,7 @@ use Rattle.semantics.specs.declared.program.Mark.{Mark}
 use Rattle.semantics.specs.declared.program.Mark.TheVariants.{Unmarked, OfCond, OfFlag}
 use Rattle.semantics.specs.Program.{Instr, CodeBlock}
 use Rattle.semantics.specs.Plan.{Plan}
-use Rattle.semantics.specs.Sharing.{Inlet, inlet, Arc, arcs_of, arcs_in, Follows, follows, Leads, by_choice, by_port, IsEnd, IsSide, IsHolderPort, AllAfter, AllOnSide, MayShare}
+use Rattle.semantics.specs.Sharing.{Inlet, inlet, Arc, arcs_of, arcs_in, IsAfter, is_after, Leads, by_choice, by_port, IsEnd, IsSide, IsHolderPort, AllAfter, AllOnSide, MayShare}
 use Rattle.code.specs.Marks.{marks_in}
 use Rattle.slot_alloc.specs.Passes.{Chosen}
 use Rattle.slot_alloc.specs.Passes.{Ends, Side}
@@ -22,23 +22,23 @@ use Rattle.slot_alloc.specs.Rows.{ports_lead, row_of}
 use Rattle.slot_alloc.specs.Tables.{groups, after_rows, with_mark, distinct, table_of, comes_after, is_apart, may_share}
 use Rattle.slot_alloc.proofs.Passing.{port_of}
 use Rattle.slot_alloc.proofs.Places.{ByPlace, at_place, from_places}
-use Rattle.slot_alloc.proofs.Passed.{Tells, follows_exact, bit, Kept, row_exact, ports_exact}
+use Rattle.slot_alloc.proofs.Passed.{Says, follows_exact, bit, Kept, row_exact, ports_exact}
 use Rattle.slot_alloc.proofs.Groups.{after_bit, one_apart, any_apart, known_apart}
 use Rattle.slot_alloc.proofs.Chosen.{ends_tell, sides_tell, same_mark_exact, mark_at_of}
 
 -- A ROW of one block, for chosen arcs that the test tells
 module _ (p : Plan) (c : CodeBlock) (ms : List Mark) (ch : Chosen) (chosen : Arc → Type 0)
-    (tells : (n : ℕ) (i : Instr) → slice_get c.instrs n ≡ Some i → (y : Arc) → y.from ≡ n → Decides (is_chosen ch i (mark_of ms n) y.second) (chosen y)) where
+    (says : (n : ℕ) (i : Instr) → slice_get c.instrs n ≡ Some i → (y : Arc) → y.from ≡ n → Decides (is_chosen ch i (mark_of ms n) y.second) (chosen y)) where
   abbrev pub AllFollow : ℕ → Type 0
-  AllFollow g = (q : Inlet) → IsHolderPort (Some c) g q → Follows (arcs_of p 0 c.instrs) chosen q
+  AllFollow g = (q : Inlet) → IsHolderPort (Some c) g q → IsAfter (arcs_of p 0 c.instrs) chosen q
 
-  told : ByPlace (Tells p ch ms (arcs_of p 0 c.instrs) chosen) 0 c.instrs
-  told = from_places (Tells p ch ms (arcs_of p 0 c.instrs) chosen) 0 c.instrs
-      (λ k i at. let e : k ≡ 0 + k = omega arith in subst (λ n. Tells p ch ms (arcs_of p 0 c.instrs) chosen n i) e (tells k i at))
+  said : ByPlace (Says p ch ms (arcs_of p 0 c.instrs) chosen) 0 c.instrs
+  said = from_places (Says p ch ms (arcs_of p 0 c.instrs) chosen) 0 c.instrs
+      (λ k i at. let e : k ≡ 0 + k = omega arith in subst (λ n. Says p ch ms (arcs_of p 0 c.instrs) chosen n i) e (says k i at))
 
   port_exact : (k : ℕ) (i : Instr) (s : Port) → slice_get c.instrs k ≡ Some i
-      → Decides (all_lead (port_of (inlets_at (pass p ch ms (replicate (length c.instrs) bare) 0 c.instrs) k) s)) (Follows (arcs_of p 0 c.instrs) chosen (inlet k s))
-  port_exact k i s at = follows_exact p ch ms (arcs_of p 0 c.instrs) chosen c.instrs refl told k s (slice_get_within c.instrs k i at)
+      → Decides (all_lead (port_of (inlets_at (pass p ch ms (replicate (length c.instrs) bare) 0 c.instrs) k) s)) (IsAfter (arcs_of p 0 c.instrs) chosen (inlet k s))
+  port_exact k i s at = follows_exact p ch ms (arcs_of p 0 c.instrs) chosen c.instrs refl said k s (slice_get_within c.instrs k i at)
 
   kept_exact : (g : ℕ) → Decides (bit (row_of p ch ms c) g) ((bit (replicate c.slots true) g ≡ true) × ByPlace (Kept g (pass p ch ms (replicate (length c.instrs) bare) 0 c.instrs)) 0 c.instrs) → g < c.slots
       → Decides (bit (row_of p ch ms c) g) (AllFollow g)
@@ -70,14 +70,14 @@ module _ (p : Plan) (b : ℕ) (c : CodeBlock) (at : slice_get p.program.blocks b
   arcs = arcs_of p 0 c.instrs
 
   abbrev AfterIn : Option CodeBlock → ℕ → ℕ → Type 0
-  AfterIn o g h = (q : Inlet) → IsHolderPort o g q → Follows (arcs_in p o) (IsEnd o h) q
+  AfterIn o g h = (q : Inlet) → IsHolderPort o g q → IsAfter (arcs_in p o) (IsEnd o h) q
 
   after_exact : (g h : ℕ) → g < c.slots → Decides (bit (row_of p (Ends h) (marks_in p b) c) g) (AllAfter p b g h)
   after_exact g h below = subst (λ o. Decides (bit (row_of p (Ends h) (marks_in p b) c) g) (AfterIn o g h)) (sym at)
       (all_follow_exact p c (marks_in p b) (Ends h) (IsEnd (Some c) h) (λ n i here y from. ends_tell c h n i (mark_of (marks_in p b) n) y here from) g below)
 
   abbrev SideIn : Option CodeBlock → ℕ → Mark → Bool → Type 0
-  SideIn o g m side = (q : Inlet) → IsHolderPort o g q → Follows (arcs_in p o) (IsSide p b m side) q
+  SideIn o g m side = (q : Inlet) → IsHolderPort o g q → IsAfter (arcs_in p o) (IsSide p b m side) q
 
   side_exact : (g : ℕ) (m : Mark) (side : Bool) → g < c.slots → Decides (bit (row_of p (Side side m) (marks_in p b) c) g) (AllOnSide p b g m side)
   side_exact g m side below = subst (λ o. Decides (bit (row_of p (Side side m) (marks_in p b) c) g) (SideIn o g m side)) (sym at)
@@ -100,8 +100,8 @@ module _ (p : Plan) (b : ℕ) (c : CodeBlock) (at : slice_get p.program.blocks b
 
   -- A MARK THAT NO SWITCH HAS puts only holders without ports on a side
   mutual
-    nothing_follows : (chosen : Arc → Type 0) → ((y : Arc) → chosen y → ⊥) → (q : Inlet) → Follows (arcs_in p (slice_get p.program.blocks b)) chosen q → ⊥
-    nothing_follows chosen none q (follows _ x there to all) = nothing_leads chosen none x (all x there to)
+    nothing_follows : (chosen : Arc → Type 0) → ((y : Arc) → chosen y → ⊥) → (q : Inlet) → IsAfter (arcs_in p (slice_get p.program.blocks b)) chosen q → ⊥
+    nothing_follows chosen none q (is_after _ x there to all) = nothing_leads chosen none x (all x there to)
 
     nothing_leads : (chosen : Arc → Type 0) → ((y : Arc) → chosen y → ⊥) → (y : Arc) → Leads (arcs_in p (slice_get p.program.blocks b)) chosen y → ⊥
     nothing_leads chosen none y (by_choice _ is) = none y is

@@ -22,7 +22,7 @@ empty x = None
 abbrev pub SignsGive : Type 0
 SignsGive = RunsMain (over signs empty) (Int (pos 7) ∷ []) (Int (pos 4) ∷ []) []
 
--- the second arm of the `if` behind `else` is not done
+-- the second arm of the `if` after `else` is not done
 abbrev pub ElseIfGives : Type 0
 ElseIfGives = RunsMain (over else_if empty) (Int (pos 0) ∷ []) (Int (pos 2) ∷ []) []
 

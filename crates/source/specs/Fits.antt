@@ -94,7 +94,7 @@ abbrev mutual
   FitsAll (One e) = Fits e
   FitsAll (More e es) = Fits e × FitsAll es
 
-  -- The flag says whether the body stands behind an `else`: only there an `if` may be all of it, and then has no braces.
+  -- The flag says whether the body stands after an `else`: only there an `if` may be all of it, and then has no braces.
   pub FitsBody : Bool → Body → Type 0
   FitsBody behind_else (Let at targets es rest) = (0 < length targets) × FitsAll es × FitsBody false rest
   FitsBody behind_else (Do es rest) = FitsAll es × FitsBody false rest

@@ -209,7 +209,7 @@ turn_block at k xs outs t = record {
 abbrev pub turn_scope : List Name → List Name → Scope
 turn_scope xs outs = scoped (xs ++ outs) (inputs_from 0 (length xs + length outs)) []
 
--- the node of a loop, behind its first values: the block of a turn stands before the blocks of the loops in it
+-- the node of a loop, after its first values: the block of a turn stands before the blocks of the loops in it
 abbrev pub looped : Site → Spot → Scope → ℕ → ℕ → List Name → List Name → Lowered → Lowered → Lowered
 looped site spot scope at bound xs outs f t =
     let k : ℕ = spot.loops + length f.blocks + 1 in

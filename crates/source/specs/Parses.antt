@@ -53,7 +53,7 @@ IsNoCell ls l = (l ≡ TheSign Becomes) × GoesOn (ls ++ TheSign Plus ∷ [])
 abbrev pub IsTooLarge : List Lexeme → Lexeme → Type 0
 IsTooLarge ls l = (l ≡ TheNumber (2 ^ 63)) × GoesOn (ls ++ TheNumber 0 ∷ [])
 
--- The kind of a fault at a token, behind tokens that go on, where with it they do not.
+-- The kind of a fault at a token, after tokens that go on, where with it they do not.
 abbrev pub IsKindAt : List Lexeme → Lexeme → FaultKind → Type 0
 IsKindAt ls l TooDeep = GoesOnDeeply (ls ++ l ∷ [])
 IsKindAt ls l NotACell = (GoesOnDeeply (ls ++ l ∷ []) → ⊥) × IsNoCell ls l
@@ -72,7 +72,7 @@ pub record IsRefusedAt (text : List ℕ) (ts : List Token) (fault : Fault) : Typ
   pub kind : IsKindAt (lexemes text before) (lexeme text token) fault.kind
   pub place : fault.at ≡ token.at
 
--- the fault behind the last token
+-- the fault after the last token
 pub record IsUnended (text : List ℕ) (ts : List Token) (fault : Fault) : Type 0 where
   pub went_on : GoesOn (lexemes text ts)
   pub not_whole : IsWhole (lexemes text ts) → ⊥

@@ -234,7 +234,7 @@ functions_checked p (Defines f ∷ items) = do
   good ← function_checked p f
   functions_checked p items
 
--- THE FIRST FAULT OF A PROGRAM, or none. `end` is the place behind the last byte of its text.
+-- THE FIRST FAULT OF A PROGRAM, or none. `end` is the place after the last byte of its text.
 abbrev pub checked : ℕ → Program → Result ⊤ Fault
 checked end p = do
   all ← heads no_items p

@@ -218,7 +218,7 @@ sum_up = Defines (record {
       (codes "i")) (Number 64 1)) (One (Infix 69 (Direct Add) (Named 67 (codes "s")) (Named 71 (codes "i"))))))))) (Give (One (Named 76 (codes "s")))));
 }) ∷ []
 
--- a loop with its test behind the body
+-- a loop with its test after the body
 abbrev pub count_up_text : List ℕ
 count_up_text = codes "fn main(n) { loop 2 (i = 0) { i + 1 } while (n > i) }"
 
@@ -233,7 +233,7 @@ count_up = Defines (record {
       47 Greater (Named 45 (codes "n")) (Named 49 (codes "i")))))));
 }) ∷ []
 
--- loops in a first value, in a test, in a body, and behind
+-- loops in a first value, in a test, in a body, and after
 abbrev pub nested_text : List ℕ
 nested_text = codes "fn f(n, m) { loop 3 (i = loop 2 (j = n) { j - 1 } while (j)) while loop 4 (k = i) while k { m } { loop 64 (i " ++ codes
     "= i) { n } while (0) } } fn main(n) { f(n, 2); loop 2 (i = n) while i { i - 1 } }"

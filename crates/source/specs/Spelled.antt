@@ -90,10 +90,10 @@ target_token Drop = the_sign sign.Underscore
 abbrev pub comma_and : List Spelling → List Spelling
 comma_and ts = the_sign sign.Comma ∷ ts
 
-abbrev pub listed : List Spelling → List Spelling
-listed [] = []
-listed (t ∷ []) = t ∷ []
-listed (t ∷ u ∷ ts) = t ∷ comma_and (listed (u ∷ ts))
+abbrev pub with_commas : List Spelling → List Spelling
+with_commas [] = []
+with_commas (t ∷ []) = t ∷ []
+with_commas (t ∷ u ∷ ts) = t ∷ comma_and (with_commas (u ∷ ts))
 
 abbrev pub name_token : NameAt → Spelling
 name_token x = name_at x.at x.name
@@ -113,7 +113,7 @@ is_chain (Do es rest) = false
 is_chain (Give es) = false
 is_chain (Chain e) = true
 
--- braces round a body, but not round the `if` behind an `else`
+-- braces round a body, but not round the `if` after an `else`
 abbrev pub braced : Bool → List Spelling → List Spelling
 braced true ts = ts
 braced false ts = the_sign sign.OpenBrace ∷ ts
@@ -144,7 +144,7 @@ abbrev mutual
 
   -- what follows a body's brace, up to the brace that closes it
   pub body_tokens : Body → List Spelling
-  body_tokens (Let at targets es rest) = word_at at word.Let ∷ listed (map target_token targets) ++ the_sign sign.Equals ∷ list_tokens es ++ the_sign
+  body_tokens (Let at targets es rest) = word_at at word.Let ∷ with_commas (map target_token targets) ++ the_sign sign.Equals ∷ list_tokens es ++ the_sign
       sign.Semicolon ∷ body_tokens rest
   body_tokens (Do es rest) = list_tokens es ++ the_sign sign.Semicolon ∷ body_tokens rest
   body_tokens (Give es) = list_tokens es ++ the_sign sign.CloseBrace ∷ []
@@ -162,7 +162,7 @@ result_tokens (Some n) = the_sign sign.Arrow ∷ number_at n.at n.number ∷ []
 abbrev pub item_tokens : Item → List Spelling
 item_tokens (Cells x len) = the_word word.Array ∷ name_token x ∷ the_sign sign.OpenBracket ∷ number_at len.at len.number ∷ the_sign sign.CloseBracket ∷
     the_sign sign.Semicolon ∷ []
-item_tokens (Defines f) = the_word word.Fn ∷ name_token f.name ∷ the_sign sign.OpenParen ∷ listed (map name_token f.params) ++ the_sign sign.CloseParen ∷
+item_tokens (Defines f) = the_word word.Fn ∷ name_token f.name ∷ the_sign sign.OpenParen ∷ with_commas (map name_token f.params) ++ the_sign sign.CloseParen ∷
     result_tokens f.results
     ++ sign_at f.body_at sign.OpenBrace ∷ body_tokens f.body
 

@@ -44,10 +44,10 @@ mutual
     Let : (at : ℕ) (targets : List Target) (values : Exprs) (rest : Body) → Body
     Do : (done : Exprs) (rest : Body) → Body
     Give : (values : Exprs) → Body
-    -- the `if` behind an `else`
+    -- the `if` after an `else`
     Chain : (conditional : Expr) → Body
 
-  -- a loop's names, with the test before the body or behind it
+  -- a loop's names, with the test before the body or after it
   pub data Turn : Type 0 where
     Before : (names : List NameAt) (test : Expr) (body : Body) → Turn
     After : (names : List NameAt) (body : Body) (test : Expr) → Turn

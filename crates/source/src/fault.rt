@@ -23,7 +23,7 @@ pub enum FaultKind {
     /// More than 200 expressions, signs before an operand and conditionals are open at once.
     #[error("nested too deeply")]
     TooDeep,
-    /// A `:=` behind what is no cell of an array.
+    /// A `:=` after what is no cell of an array.
     #[error("what is stored to is no cell of an array")]
     NotACell,
     /// A name of an array, of a function or of a value that stands for something else already.
@@ -66,7 +66,7 @@ pub struct Fault {
     pub at: usize,
 }
 
-/// A fault as it is told: its line, and its column in bytes, both from 1.
+/// A fault as it is reported: its line, and its column in bytes, both from 1.
 #[derive(Clone, Copy, Debug, PartialEq, Eq, Error)]
 #[error("line {line}, column {column}: {kind}")]
 pub struct ProgramFault {

@@ -148,6 +148,6 @@ pub enum Word<N> {
     Do,
     /// The list before has the values of the body, which ends.
     Give,
-    /// The conditional before is all of the body: it stands behind an `else`.
+    /// The conditional before is all of the body: it stands after an `else`.
     Chain,
 }

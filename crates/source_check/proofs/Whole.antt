@@ -15,7 +15,7 @@ use Rattle.source_check.specs.Checks.{is_function, words_checked}
 use Rattle.source.specs.Words.{IsProgram}
 use Rattle.source_check.specs.Checked.{IsChecked}
 use Rattle.source_check.specs.Numbers.{IsMain}
-use Rattle.source_check.specs.Stack.{HeadsGive, Follows, out_of_memory, by_number, item_in, numbers}
+use Rattle.source_check.specs.Stack.{HeadsGive, DoesAs, out_of_memory, by_number, item_in, numbers}
 use Rattle.source_check.proofs.Numbers.{numbers_are_checked}
 
 -- once the heads are read
@@ -77,14 +77,14 @@ pub is_refused : (names : List Name) (ws : List (Word ℕ)) (main end : ℕ) (p 
 is_refused names ws main end p f m i h = sym (numbers_are_checked names ws main end p i.fits i.words m) ∙ h
 
 pub all_is_well : (names seen : List Name) (ws gone : List (Word ℕ)) (main end : ℕ) (r : Result ⊤ Fault) (u : ⊤) → seen ≡ names → gone ≡ ws → IsMain seen main
-    → Follows r tt (words_checked by_number main end gone) → r ≡ Ok u → IsChecked names ws
+    → DoesAs r tt (words_checked by_number main end gone) → r ≡ Ok u → IsChecked names ws
 all_is_well names seen ws gone main end (Ok x) u e d m h q = is_checked names ws main end (subst (λ z. IsMain z main) e m) (ap
     (words_checked by_number main end) (sym d) ∙ h)
 all_is_well names seen ws gone main end (Err x) u e d m h q = absurd (cc)
 
 pub first_fault : (names seen : List Name) (ws gone : List (Word ℕ)) (main end : ℕ) (r : Result ⊤ Fault) (f : Fault) (p : Program) → seen ≡ names
     → gone ≡ ws → IsMain seen main
-    → Follows r tt (words_checked by_number main end gone) → r ≡ Err f → IsProgram names ws p → (f ≡ out_of_memory) ⊎ (checked end p ≡ Err f)
+    → DoesAs r tt (words_checked by_number main end gone) → r ≡ Err f → IsProgram names ws p → (f ≡ out_of_memory) ⊎ (checked end p ≡ Err f)
 first_fault names seen ws gone main end (Ok x) f p e d m h q i = absurd (cc)
 first_fault names seen ws gone main end (Err x) f p e d m (inl h) q i = let k : f ≡ x = cc in inl (k ∙ h)
 first_fault names seen ws gone main end (Err x) f p e d m (inr h) q i =

@@ -7,7 +7,7 @@ use Rattle.source_check.specs.declared.frame.Entry.{Entry}
 use Rattle.source_check.specs.Heads.{Heads}
 use Rattle.source_check.specs.Steps.{Names, onto}
 
--- the place behind the last entry of that name, counted from the bottom, or 0
+-- the place after the last entry of that name, counted from the bottom, or 0
 abbrev pub place : ℕ → List ℕ → ℕ
 place n [] = 0
 place n (x ∷ xs) = if n == x then suc (length xs) else place n xs
@@ -40,7 +40,7 @@ abbrev pub numbers : List (Option Entry) → Names ℕ
 numbers entries = record { same = by_number; item = item_in entries }
 
 -- heads as code keeps them
-pub record Kept : Type 0 where
+pub record HeadsView : Type 0 where
   pub entries : List (Option Entry)
   pub arrays : ℕ
   pub cells : ℕ
@@ -48,7 +48,7 @@ pub record Kept : Type 0 where
   pub params : ℕ
   pub results : ℕ
 
-abbrev pub heads_in : Kept → Heads ℕ
+abbrev pub heads_in : HeadsView → Heads ℕ
 heads_in k = record { item = item_in k.entries; arrays = k.arrays; cells = k.cells; current = k.current; params = k.params; results = k.results }
 
 -- REFUSALS
@@ -56,8 +56,8 @@ abbrev pub out_of_memory : Fault
 out_of_memory = record { kind = Memory; at = 0 }
 
 -- A step in code does what the definition says, or a growth was refused.
-abbrev pub Follows : {X : Type 0} → Result ⊤ Fault → X → Result X Fault → Type 0
-Follows result new wanted = MatchResult result (λ u. wanted ≡ Ok new) (λ f. (f ≡ out_of_memory) ⊎ (wanted ≡ Err f))
+abbrev pub DoesAs : {X : Type 0} → Result ⊤ Fault → X → Result X Fault → Type 0
+DoesAs result new wanted = MatchResult result (λ u. wanted ≡ Ok new) (λ f. (f ≡ out_of_memory) ⊎ (wanted ≡ Err f))
 
 -- the items that all heads have
 abbrev pub HeadsGive : List (Option Entry) → Result (Heads ℕ) Fault → Type 0

@@ -48,7 +48,7 @@ pub enum Frame {
         names: u64,
         mark: usize,
     },
-    /// A turn whose test stands behind its body: how many values the body has.
+    /// A turn whose test stands after its body: how many values the body has.
     Tested {
         outer: Turn,
         names: u64,

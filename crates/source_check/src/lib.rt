@@ -8,7 +8,7 @@ ghost use Rattle.source.specs.Words.{IsProgram};
 ghost use Rattle.source_check.specs.Checked.{IsChecked};
 ghost use Rattle.source_check.specs.Checks as checks;
 ghost use Rattle.source_check.specs.Numbers.{IsMain};
-ghost use Rattle.source_check.specs.Stack.{Follows, out_of_memory, by_number, item_in};
+ghost use Rattle.source_check.specs.Stack.{DoesAs, out_of_memory, by_number, item_in};
 
 use graph::Name;
 use source::fault::{Fault, FaultKind};
@@ -66,7 +66,7 @@ fn check_words<A: Allocator + Clone>(
     end: usize,
     words: &[Word<usize>],
 ) -> Result<(), Fault>
-    ensures { Follows result tt (checks.words_checked by_number main end words.now) }
+    ensures { DoesAs result tt (checks.words_checked by_number main end words.now) }
 {
     let table = read_heads(alloc, words)?;
     must(is_function(&table, main), FaultKind::NoMain, end)?;
@@ -74,7 +74,7 @@ fn check_words<A: Allocator + Clone>(
 }
 
 /// Gives a program that keeps the static rules back as checked, and refuses any other with its first fault. `end` is the
-/// place behind the last byte of the program's text, where `main` is missed.
+/// place after the last byte of the program's text, where `main` is missed.
 ///
 /// The words are gone over twice: for the heads of the items, and for the functions. Each takes a few steps, and a turn
 /// that ends as many as it has outside names, of which there are at most 15. Memory is answered where a growth was

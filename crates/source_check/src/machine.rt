@@ -4,7 +4,7 @@ ghost use Rattle.std.specs.Prelude.{◌≡◌, ◌∷◌, [], ◌+◌, ◌⊎◌
 ghost use Rattle.source_check.specs.declared.frame.Entry.{Entry};
 ghost use Rattle.source_check.specs.declared.frame.Frame.TheVariants as frame;
 ghost use Rattle.source_check.specs.Steps as steps;
-ghost use Rattle.source_check.specs.Stack.{Follows, out_of_memory, numbers};
+ghost use Rattle.source_check.specs.Stack.{DoesAs, out_of_memory, numbers};
 
 use crate::bindings::{Bindings, Frames};
 use crate::frame::{Entry, Frame, Turn, Values};
@@ -107,7 +107,7 @@ impl<A: Allocator> Machine<A> {
     }
 
     fn pushed(&mut self, frame: Frame) -> Result<(), Fault>
-        ensures { Follows result self.new (Ok (steps.pushed self.old frame)) }
+        ensures { DoesAs result self.new (Ok (steps.pushed self.old frame)) }
     {
         let Ok(()) = self.frames.push(frame) else {
             return Err(OUT_OF_MEMORY);
@@ -123,7 +123,7 @@ impl<A: Allocator> Machine<A> {
     }
 
     fn one_taken(&mut self) -> Result<(), Fault>
-        ensures { Follows result self.new (steps.one_taken self.old) }
+        ensures { DoesAs result self.new (steps.one_taken self.old) }
     {
         self.single()?;
         self.ended(0, 0);
@@ -131,7 +131,7 @@ impl<A: Allocator> Machine<A> {
     }
 
     fn operated(&mut self, at: usize) -> Result<(), Fault>
-        ensures { Follows result self.new (steps.operated self.old at) }
+        ensures { DoesAs result self.new (steps.operated self.old at) }
     {
         self.single()?;
         self.ended(1, at);
@@ -139,7 +139,7 @@ impl<A: Allocator> Machine<A> {
     }
 
     fn named(&mut self, table: &Table<A>, at: usize, name: usize) -> Result<(), Fault>
-        ensures { Follows result self.new (steps.named (numbers table.now) self.old at name) }
+        ensures { DoesAs result self.new (steps.named (numbers table.now) self.old at name) }
     {
         must(self.scope.contains(name), FaultKind::NoSuchName, at)?;
         let Ok(()) = note(&self.scope, &mut self.used, self.turn, name) else {
@@ -150,7 +150,7 @@ impl<A: Allocator> Machine<A> {
     }
 
     fn cell(&mut self, table: &Table<A>, at: usize, array: usize) -> Result<(), Fault>
-        ensures { Follows result self.new (steps.cell (numbers table.now) self.old at array) }
+        ensures { DoesAs result self.new (steps.cell (numbers table.now) self.old at array) }
     {
         match table.get(array) {
             Some(Entry::Array) => Ok(()),
@@ -162,7 +162,7 @@ impl<A: Allocator> Machine<A> {
     }
 
     fn callee(&mut self, table: &Table<A>, at: usize, function: usize) -> Result<(), Fault>
-        ensures { Follows result self.new (steps.callee (numbers table.now) self.old at function) }
+        ensures { DoesAs result self.new (steps.callee (numbers table.now) self.old at function) }
     {
         match table.get(function) {
             Some(Entry::Function { .. }) => Ok(()),
@@ -174,7 +174,7 @@ impl<A: Allocator> Machine<A> {
     }
 
     fn part(&mut self) -> Result<(), Fault>
-        ensures { Follows result self.new (steps.part (steps.popped self.old) (steps.top self.old.frames)) }
+        ensures { DoesAs result self.new (steps.part (steps.popped self.old) (steps.top self.old.frames)) }
     {
         match self.popped() {
             Some(Frame::List { sum }) => {
@@ -189,7 +189,7 @@ impl<A: Allocator> Machine<A> {
     }
 
     fn call(&mut self, table: &Table<A>, at: usize, function: usize) -> Result<(), Fault>
-        ensures { Follows result self.new (steps.call (numbers table.now) (steps.popped self.old) at function (steps.top self.old.frames)) }
+        ensures { DoesAs result self.new (steps.call (numbers table.now) (steps.popped self.old) at function (steps.top self.old.frames)) }
     {
         match self.popped() {
             Some(Frame::List { sum }) => match table.get(function) {
@@ -208,7 +208,7 @@ impl<A: Allocator> Machine<A> {
     }
 
     fn give(&mut self) -> Result<(), Fault>
-        ensures { Follows result self.new (steps.give (steps.popped self.old) (steps.top self.old.frames)) }
+        ensures { DoesAs result self.new (steps.give (steps.popped self.old) (steps.top self.old.frames)) }
     {
         match self.popped() {
             Some(Frame::List { sum }) => {
@@ -220,7 +220,7 @@ impl<A: Allocator> Machine<A> {
     }
 
     fn bound(&mut self, table: &Table<A>, at: usize, name: usize) -> Result<(), Fault>
-        ensures { Follows result self.new (steps.bound (numbers table.now) (steps.popped self.old) at name (steps.top self.old.frames)) }
+        ensures { DoesAs result self.new (steps.bound (numbers table.now) (steps.popped self.old) at name (steps.top self.old.frames)) }
     {
         match self.popped() {
             Some(Frame::Names { start, targets }) => {
@@ -239,7 +239,7 @@ impl<A: Allocator> Machine<A> {
     }
 
     fn dropped(&mut self) -> Result<(), Fault>
-        ensures { Follows result self.new (steps.dropped (steps.popped self.old) (steps.top self.old.frames)) }
+        ensures { DoesAs result self.new (steps.dropped (steps.popped self.old) (steps.top self.old.frames)) }
     {
         match self.popped() {
             Some(Frame::Names { start, targets }) => {
@@ -254,7 +254,7 @@ impl<A: Allocator> Machine<A> {
 
     /// The pending names from `start` on come into scope.
     fn entered(&mut self, start: usize) -> Result<(), Fault>
-        ensures { Follows result self.new (Ok (steps.entered self.old start)) }
+        ensures { DoesAs result self.new (Ok (steps.entered self.old start)) }
     {
         let Ok(()) = self.pending.moves(&mut self.scope, start) else {
             return Err(OUT_OF_MEMORY);
@@ -263,7 +263,7 @@ impl<A: Allocator> Machine<A> {
     }
 
     fn let_ends(&mut self, at: usize, sum: u64) -> Result<(), Fault>
-        ensures { Follows result self.new (steps.let_ends (steps.popped self.old) at sum (steps.top self.old.frames)) }
+        ensures { DoesAs result self.new (steps.let_ends (steps.popped self.old) at sum (steps.top self.old.frames)) }
     {
         match self.popped() {
             Some(Frame::Names { start, targets }) => {
@@ -275,7 +275,7 @@ impl<A: Allocator> Machine<A> {
     }
 
     fn end_let(&mut self, at: usize) -> Result<(), Fault>
-        ensures { Follows result self.new (steps.end_let (steps.popped self.old) at (steps.top self.old.frames)) }
+        ensures { DoesAs result self.new (steps.end_let (steps.popped self.old) at (steps.top self.old.frames)) }
     {
         match self.popped() {
             Some(Frame::List { sum }) => self.let_ends(at, sum),
@@ -284,7 +284,7 @@ impl<A: Allocator> Machine<A> {
     }
 
     fn first_arm(&mut self) -> Result<(), Fault>
-        ensures { Follows result self.new (steps.first_arm self.old) }
+        ensures { DoesAs result self.new (steps.first_arm self.old) }
     {
         self.single()?;
         self.ended(0, 0);
@@ -293,7 +293,7 @@ impl<A: Allocator> Machine<A> {
     }
 
     fn second_arm(&mut self) -> Result<(), Fault>
-        ensures { Follows result self.new (steps.second_arm (steps.popped self.old) (steps.top self.old.frames)) }
+        ensures { DoesAs result self.new (steps.second_arm (steps.popped self.old) (steps.top self.old.frames)) }
     {
         match self.popped() {
             Some(Frame::First { mark }) => {
@@ -307,7 +307,7 @@ impl<A: Allocator> Machine<A> {
     }
 
     fn end_if(&mut self, at: usize) -> Result<(), Fault>
-        ensures { Follows result self.new (steps.end_if (steps.popped self.old) at (steps.top self.old.frames)) }
+        ensures { DoesAs result self.new (steps.end_if (steps.popped self.old) at (steps.top self.old.frames)) }
     {
         match self.popped() {
             Some(Frame::Second { mark, left }) => {
@@ -321,7 +321,7 @@ impl<A: Allocator> Machine<A> {
     }
 
     fn bounded(&mut self, at: usize, bound: u64) -> Result<(), Fault>
-        ensures { Follows result self.new (steps.bounded self.old at bound) }
+        ensures { DoesAs result self.new (steps.bounded self.old at bound) }
     {
         must(2 <= bound && bound <= 64, FaultKind::BadBound, at)?;
         let start = self.pending.len();
@@ -329,7 +329,7 @@ impl<A: Allocator> Machine<A> {
     }
 
     fn turned(&mut self) -> Result<(), Fault>
-        ensures { Follows result self.new (steps.turned (steps.popped self.old) (steps.top self.old.frames)) }
+        ensures { DoesAs result self.new (steps.turned (steps.popped self.old) (steps.top self.old.frames)) }
     {
         match self.popped() {
             Some(Frame::Names { start, targets }) => {
@@ -352,7 +352,7 @@ impl<A: Allocator> Machine<A> {
     }
 
     fn until(&mut self) -> Result<(), Fault>
-        ensures { Follows result self.new (steps.until (steps.popped self.old) (steps.top self.old.frames)) }
+        ensures { DoesAs result self.new (steps.until (steps.popped self.old) (steps.top self.old.frames)) }
     {
         match self.popped() {
             Some(Frame::Open { outer, names, mark }) => {
@@ -371,7 +371,7 @@ impl<A: Allocator> Machine<A> {
 
     /// The turn is left: what it takes from outside is used in the turn around it.
     fn left_turn(&mut self, outer: Turn) -> Result<(), Fault>
-        ensures { Follows result self.new (Ok (steps.left_turn (numbers []) self.old outer)) }
+        ensures { DoesAs result self.new (Ok (steps.left_turn (numbers []) self.old outer)) }
     {
         self.carried.clear();
         let Ok(()) = self.used.moves(&mut self.carried, self.turn.start) else {
@@ -386,7 +386,7 @@ impl<A: Allocator> Machine<A> {
     }
 
     fn closed(&mut self, at: usize, outer: Turn, names: u64, given: u64) -> Result<(), Fault>
-        ensures { Follows result self.new (steps.closed (numbers []) self.old at outer names given) }
+        ensures { DoesAs result self.new (steps.closed (numbers []) self.old at outer names given) }
     {
         must(given == names, FaultKind::Arity, at)?;
         let outside = self.used.len_since(self.turn.start);
@@ -397,7 +397,7 @@ impl<A: Allocator> Machine<A> {
     }
 
     fn end_loop(&mut self, at: usize) -> Result<(), Fault>
-        ensures { Follows result self.new (steps.end_loop (numbers []) (steps.popped self.old) at (steps.top self.old.frames)) }
+        ensures { DoesAs result self.new (steps.end_loop (numbers []) (steps.popped self.old) at (steps.top self.old.frames)) }
     {
         match self.popped() {
             Some(Frame::Open { outer, names, .. }) => {
@@ -419,7 +419,7 @@ impl<A: Allocator> Machine<A> {
     }
 
     fn function(&mut self, at: usize) -> Result<(), Fault>
-        ensures { Follows result self.new (Ok (steps.function self.old at)) }
+        ensures { DoesAs result self.new (Ok (steps.function self.old at)) }
     {
         let start = self.pending.len();
         self.pushed(Frame::Names { start, targets: 0 })?;
@@ -428,14 +428,14 @@ impl<A: Allocator> Machine<A> {
     }
 
     fn names(&mut self) -> Result<(), Fault>
-        ensures { Follows result self.new (Ok (steps.pushed self.old (frame.Names (length self.old.pending) 0))) }
+        ensures { DoesAs result self.new (Ok (steps.pushed self.old (frame.Names (length self.old.pending) 0))) }
     {
         let start = self.pending.len();
         self.pushed(Frame::Names { start, targets: 0 })
     }
 
     fn body(&mut self, at: usize) -> Result<(), Fault>
-        ensures { Follows result self.new (steps.body (steps.popped self.old) at (steps.top self.old.frames)) }
+        ensures { DoesAs result self.new (steps.body (steps.popped self.old) at (steps.top self.old.frames)) }
     {
         match self.popped() {
             Some(Frame::Names { start, .. }) => {
@@ -448,7 +448,7 @@ impl<A: Allocator> Machine<A> {
     }
 
     fn end_function(&mut self) -> Result<(), Fault>
-        ensures { Follows result self.new (steps.end_function (steps.popped self.old) (steps.top self.old.frames)) }
+        ensures { DoesAs result self.new (steps.end_function (steps.popped self.old) (steps.top self.old.frames)) }
     {
         match self.popped() {
             Some(Frame::Body { results, at }) => {
@@ -463,7 +463,7 @@ impl<A: Allocator> Machine<A> {
     }
 
     fn chained(&mut self) -> Result<(), Fault>
-        ensures { Follows result self.new (Ok (steps.ended self.old self.old.last.count 0)) }
+        ensures { DoesAs result self.new (Ok (steps.ended self.old self.old.last.count 0)) }
     {
         let count = self.last.count;
         self.ended(count, 0);
@@ -471,14 +471,14 @@ impl<A: Allocator> Machine<A> {
     }
 
     fn done(&mut self) -> Result<(), Fault>
-        ensures { Follows result self.new (Ok (steps.popped self.old)) }
+        ensures { DoesAs result self.new (Ok (steps.popped self.old)) }
     {
         self.popped();
         Ok(())
     }
 
     fn valued(&mut self, count: u64, at: usize) -> Result<(), Fault>
-        ensures { Follows result self.new (Ok (steps.ended self.old count at)) }
+        ensures { DoesAs result self.new (Ok (steps.ended self.old count at)) }
     {
         self.ended(count, at);
         Ok(())
@@ -487,7 +487,7 @@ impl<A: Allocator> Machine<A> {
     /// One word.
     #[tactic(auto, using(crate::proofs::Places::end_loop_alike))]
     pub(crate) fn step(&mut self, table: &Table<A>, word: Word<usize>) -> Result<(), Fault>
-        ensures { Follows result self.new (steps.step (numbers table.now) self.old word) }
+        ensures { DoesAs result self.new (steps.step (numbers table.now) self.old word) }
     {
         match word {
             Word::Array { .. } | Word::Length { .. } => Ok(()),

@@ -2,7 +2,7 @@
 
 ghost use Rattle.std.specs.Prelude.{◌≡◌, ◌⊎◌, [], Err, MatchResult, ◌==◌, ◌<◌, ◌≤◌, ℕ, None, OnOk, length, slice_index_or};
 ghost use Rattle.source_check.specs.Heads as heads;
-ghost use Rattle.source_check.specs.Stack.{Follows, HeadsGive, out_of_memory, by_number, item_in, heads_in};
+ghost use Rattle.source_check.specs.Stack.{DoesAs, HeadsGive, out_of_memory, by_number, item_in, heads_in};
 ghost use Rattle.source.specs.First as first;
 
 use crate::frame::Entry;
@@ -96,9 +96,9 @@ pub(crate) struct Heads<A: Allocator> {
 
 impl<A: Allocator> Model for Heads<A> {
     ghost use Rattle.std.specs.Prelude.{ℕ, ◌≤◌};
-    ghost use Rattle.source_check.specs.Stack.{Kept};
+    ghost use Rattle.source_check.specs.Stack.{HeadsView};
 
-    ghost Value = { Kept };
+    ghost Value = { HeadsView };
 
     ghost view = { λ h. record { entries = h.table; arrays = h.arrays; cells = h.cells; current = h.current; params = h.params; results = h.results } };
 
@@ -120,7 +120,7 @@ impl<A: Allocator> Heads<A> {
     }
 
     fn array(&mut self, at: usize, name: usize) -> Result<(), Fault>
-        ensures { Follows result (heads_in self.new) (heads.array by_number (heads_in self.old) at name) }
+        ensures { DoesAs result (heads_in self.new) (heads.array by_number (heads_in self.old) at name) }
     {
         must(self.table.get(name).is_none(), FaultKind::SameName, at)?;
         must(self.arrays < 64, FaultKind::TooMany, at)?;
@@ -132,7 +132,7 @@ impl<A: Allocator> Heads<A> {
     }
 
     fn array_length(&mut self, at: usize, len: u64) -> Result<(), Fault>
-        ensures { Follows result (heads_in self.new) (heads.array_length (heads_in self.old) at len) }
+        ensures { DoesAs result (heads_in self.new) (heads.array_length (heads_in self.old) at len) }
     {
         must(1 <= len && len <= 65536, FaultKind::BadCount, at)?;
         must(self.cells + len <= 65536, FaultKind::TooMany, at)?;
@@ -141,7 +141,7 @@ impl<A: Allocator> Heads<A> {
     }
 
     fn function_name(&mut self, at: usize, name: usize) -> Result<(), Fault>
-        ensures { Follows result (heads_in self.new) (heads.function_name (heads_in self.old) at name) }
+        ensures { DoesAs result (heads_in self.new) (heads.function_name (heads_in self.old) at name) }
     {
         must(self.table.get(name).is_none(), FaultKind::SameName, at)?;
         self.current = Some(name);
@@ -151,7 +151,7 @@ impl<A: Allocator> Heads<A> {
     }
 
     fn parameter(&mut self, at: usize) -> Result<(), Fault>
-        ensures { Follows result (heads_in self.new) (heads.parameter (heads_in self.old) at) }
+        ensures { DoesAs result (heads_in self.new) (heads.parameter (heads_in self.old) at) }
     {
         must(self.params < 16, FaultKind::TooMany, at)?;
         self.params += 1;
@@ -159,7 +159,7 @@ impl<A: Allocator> Heads<A> {
     }
 
     fn results_number(&mut self, at: usize, number: u64) -> Result<(), Fault>
-        ensures { Follows result (heads_in self.new) (heads.results_number (heads_in self.old) at number) }
+        ensures { DoesAs result (heads_in self.new) (heads.results_number (heads_in self.old) at number) }
     {
         must(1 <= number && number <= 16, FaultKind::BadCount, at)?;
         self.results = number;
@@ -167,7 +167,7 @@ impl<A: Allocator> Heads<A> {
     }
 
     fn head_read(&mut self) -> Result<(), Fault>
-        ensures { Follows result (heads_in self.new) (heads.head_done by_number (heads_in self.old)) }
+        ensures { DoesAs result (heads_in self.new) (heads.head_done by_number (heads_in self.old)) }
     {
         let Some(name) = self.current else {
             return Ok(());
@@ -183,7 +183,7 @@ impl<A: Allocator> Heads<A> {
     }
 
     fn step(&mut self, word: Word<usize>) -> Result<(), Fault>
-        ensures { Follows result (heads_in self.new) (heads.head_step by_number (heads_in self.old) word) }
+        ensures { DoesAs result (heads_in self.new) (heads.head_step by_number (heads_in self.old) word) }
     {
         match word {
             Word::Array { at, name } => self.array(at, name),

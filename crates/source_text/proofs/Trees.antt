@@ -10,7 +10,7 @@ use Rattle.source.specs.Tokens.{IsSpelledName, lexed}
 use Rattle.source.specs.Tree.{Name}
 use Rattle.source.specs.Spelled.{lexeme, lexeme_at}
 use Rattle.source.specs.Words.{HasTree}
-use Rattle.source_tokens.specs.Stands.{BeginsWith, Stands}
+use Rattle.source_tokens.specs.HasToken.{BeginsWith, HasToken}
 use Rattle.law_language.specs.GrammarAutomaton.{parsed}
 use Rattle.law_language.proofs.GrammarSound.{parsed_sound}
 use Rattle.law_language.proofs.GrammarComplete.{parsed_complete}
@@ -30,15 +30,15 @@ module _ (text : List ℕ) (ts : List Token) where
         spelled = parsed.spelled;
       }
 
-  pub told : (fault : Fault) → IsFault fault (parsed text ts) → IsParseFault text ts fault
-  told fault (inl memory) = inl memory
-  told fault (inr is) = inr (parsed_fault text ts fault is)
+  pub reported : (fault : Fault) → IsFault fault (parsed text ts) → IsParseFault text ts fault
+  reported fault (inl memory) = inl memory
+  reported fault (inr is) = inr (parsed_fault text ts fault is)
 
   pub read_so : {P : Type 0} (names_of : P → List Name) (words_of : P → List (Word ℕ)) (r : Result P Fault)
       → MatchResult r (λ p. AreParsed text ts (names_of p) (words_of p)) (λ fault. IsFault fault (parsed text ts))
       → MatchResult r (λ p. AreRead text ts (names_of p) (words_of p)) (λ fault. IsParseFault text ts fault)
   read_so names_of words_of (Ok p) are = are_read (names_of p) (words_of p) are
-  read_so names_of words_of (Err fault) is = told fault is
+  read_so names_of words_of (Err fault) is = reported fault is
 
   -- with the text's tokens
   pub has_fault : (fault : Fault) → lexed text ≡ Ok ts → IsParseFault text ts fault → HasFault text fault
@@ -52,14 +52,14 @@ well_spelled text at (token.Mark s) stands = tt
 well_spelled text at (token.Number n) stands = tt
 well_spelled text at (token.Name len) stands = subst IsSpelledName (sym stands.its_bytes) stands.name
 
-pub are_well_spelled : (text : List ℕ) (ts : List Token) → All (Stands text) ts → AreWellSpelled text ts
+pub are_well_spelled : (text : List ℕ) (ts : List Token) → All (HasToken text) ts → AreWellSpelled text ts
 are_well_spelled text [] stand = All-nil (λ (t : Token). IsWellSpelled (lexeme text t))
 are_well_spelled text (t ∷ ts) stand =
-    All-cons (λ (t : Token). IsWellSpelled (lexeme text t)) t ts (well_spelled text t.at t.kind (All-head (Stands text) t ts stand))
-    (are_well_spelled text ts (All-tail (Stands text) t ts stand))
+    All-cons (λ (t : Token). IsWellSpelled (lexeme text t)) t ts (well_spelled text t.at t.kind (All-head (HasToken text) t ts stand))
+    (are_well_spelled text ts (All-tail (HasToken text) t ts stand))
 
 -- the tree of what was read
-pub has_tree : (text : List ℕ) (ts : List Token) (names : List Name) (words : List (Word ℕ)) → AreRead text ts names words → All (Stands text) ts
+pub has_tree : (text : List ℕ) (ts : List Token) (names : List Name) (words : List (Word ℕ)) → AreRead text ts names words → All (HasToken text) ts
     → HasTree names words
 has_tree text ts names words are stand = record {
   tree = are.program.0;

@@ -96,7 +96,7 @@ pub record IsRead (text program : List ℕ) (names : List Name) (words : List (W
   pub has : HasProgram (program_of text) names words
 
 -- a fault of the program, with its line and its column in the text
-pub record IsTold (text : List ℕ) (told : ProgramFault) : Type 0 where
+pub record IsReported (text : List ℕ) (reported : ProgramFault) : Type 0 where
   pub fault : Fault
   pub has : HasFault (program_of text) fault
-  pub is : told ≡ record { kind = fault.kind; line = (position (program_of text) fault.at).line; column = (position (program_of text) fault.at).column }
+  pub is : reported ≡ record { kind = fault.kind; line = (position (program_of text) fault.at).line; column = (position (program_of text) fault.at).column }

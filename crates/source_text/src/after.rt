@@ -14,7 +14,7 @@ use source::fault::FaultKind;
 use source::token::Sign;
 use source::word::{InfixSign, Word};
 
-/// Behind an operand stands an operator with its operand, or what is for the symbol below.
+/// After an operand stands an operator with its operand, or what is for the symbol below.
 pub(crate) fn after(
     pushes: &mut Pushes,
     level: u8,

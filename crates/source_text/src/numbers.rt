@@ -1,4 +1,4 @@
-//! Numbers. A number is below 2 ^ 63, but directly behind a `-` it may be that.
+//! Numbers. A number is below 2 ^ 63, but directly after a `-` it may be that.
 
 ghost use Rattle.std.specs.Prelude.{◌≡◌, ◌≤◌, ◌^◌, ◌==◌, nat_lt, if◌then◌else◌};
 ghost use Rattle.source.specs.declared.fault.FaultKind.TheVariants.{BadNumber, Unexpected};
@@ -7,7 +7,7 @@ ghost use Rattle.source_text.specs.declared.outcome.Outcome.TheVariants.{Refuses
 use crate::outcome::{Outcome, refuses};
 use source::fault::FaultKind;
 
-/// The largest number, which stands only directly behind a `-`.
+/// The largest number, which stands only directly after a `-`.
 pub(crate) const LARGEST: u64 = 1 << 63;
 
 pub(crate) fn is_small(number: u64) -> bool

@@ -53,7 +53,7 @@ pub(crate) fn sign_level(sign: InfixSign) -> u8
     }
 }
 
-/// Whether the operator may stand behind an operand of the level `left`, where the whole has to have the level `level`.
+/// Whether the operator may stand after an operand of the level `left`, where the whole has to have the level `level`.
 /// Operators of one level go to the left, but comparisons do not chain.
 pub(crate) fn goes_on(level: u8, left: u8, sign: InfixSign) -> bool
     ensures { result ≡ goes_on level left sign }

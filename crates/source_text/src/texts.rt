@@ -2,7 +2,7 @@
 
 ghost use Rattle.std.specs.Prelude.{◌≡◌, MatchResult};
 ghost use Rattle.source.specs.Tokens.{position};
-ghost use Rattle.source_text.specs.Reading.{HasProgram, HasFault, IsRead, IsTold};
+ghost use Rattle.source_text.specs.Reading.{HasProgram, HasFault, IsRead, IsReported};
 
 use crate::reading::parse;
 use source::fault::{Fault, FaultKind, ProgramFault};
@@ -21,7 +21,7 @@ pub struct SourceText<'a, A: Allocator> {
 }
 
 /// A fault of the program's text, with its line and its column.
-fn told(text: &[u8], fault: Fault) -> ProgramFault
+fn reported(text: &[u8], fault: Fault) -> ProgramFault
     ensures { result ≡ record { kind = fault.kind; line = (position text.now fault.at).line; column = (position text.now fault.at).column } }
 {
     let place = position(text, fault.at);
@@ -55,7 +55,7 @@ pub fn read_program<'a, A: Allocator + Clone>(
     alloc: A,
     text: &'a [u8],
 ) -> Result<SourceText<'a, A>, ProgramFault>
-    ensures { MatchResult result (λ s. IsRead text.now s.text.now s.program.names s.program.words s.inputs.now) (λ fault. IsTold text.now fault) }
+    ensures { MatchResult result (λ s. IsRead text.now s.text.now s.program.names s.program.words s.inputs.now) (λ fault. IsReported text.now fault) }
 {
     let parted = split(text);
     match read(alloc, parted.program) {
@@ -64,6 +64,6 @@ pub fn read_program<'a, A: Allocator + Clone>(
             program,
             inputs: parted.inputs,
         }),
-        Err(fault) => Err(told(parted.program, fault)),
+        Err(fault) => Err(reported(parted.program, fault)),
     }
 }

@@ -17,7 +17,7 @@ use Rattle.source.specs.declared.token.Sign.TheVariants.{Underscore}
 use Rattle.source.specs.declared.token.TokenKind.TheVariants.{Mark, Number, Name}
 use Rattle.source.specs.Tokens.{Beginning, Skipped, Read, Refused, begins, line_from, is_blank, is_run_byte, is_numeral, numeral_run, begins_with_letter, is_name, name_run, keyword_text, keywords, keyword_of, keyword_or_name, word_run, run_read, sign_text, signs, sign_read, beginning}
 use Rattle.source_tokens.specs.Beginnings.{sign_beginning}
-use Rattle.source_tokens.specs.Stands.{run_of, BeginsWith}
+use Rattle.source_tokens.specs.HasToken.{run_of, BeginsWith}
 
 abbrev pub IsSound : List ℕ → Beginning → Type 0
 IsSound rest (Skipped len) = (1 ≤ len) × (len ≤ length rest)

@@ -1,5 +1,5 @@
 pub mod Beginnings
 pub mod Lexing
 pub mod Signs
-pub mod Stands
+pub mod HasToken
 pub mod Placing

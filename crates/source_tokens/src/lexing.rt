@@ -3,7 +3,7 @@
 ghost use Rattle.std.specs.Prelude.{◌≡◌, ◌≤◌, length, take, drop, All, Ok, IfOk, IfErr, MatchResult};
 ghost use Rattle.source.specs.Tokens.{lexed};
 ghost use Rattle.source_tokens.specs.Lexing.{IsFirstFault};
-ghost use Rattle.source_tokens.specs.Stands.{Stands};
+ghost use Rattle.source_tokens.specs.HasToken.{HasToken};
 
 use crate::beginning::Beginning;
 use source::fault::{Fault, FaultKind};
@@ -14,7 +14,7 @@ use std::alloc::Allocator;
 pub fn lex<A: Allocator>(alloc: A, program: &[u8]) -> Result<Vec<Token, A>, Fault>
     ensures exact { MatchResult result (λ v. lexed program.now ≡ Ok v.items) (λ e. IsFirstFault e (lexed program.now)) }
     // What is read stands in the text.
-    ensures stand { IfOk result (λ v. All (Stands program.now) v.items) }
+    ensures stand { IfOk result (λ v. All (HasToken program.now) v.items) }
     // A fault has its place in the text, too.
     ensures within { IfErr result (λ e. e.at ≤ length program.now) }
 {

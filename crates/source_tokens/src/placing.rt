@@ -72,7 +72,7 @@ fn go_on(program: &[u8], from: Reached, end: usize) -> Reached
     }
 }
 
-/// The place `end`, from one behind it that was reached before.
+/// The place `end`, from one after it that was reached before.
 fn go_back(program: &[u8], from: Reached, end: usize) -> Reached
     requires from { IsReached program.now from }
     requires behind { end ≤ from.at }

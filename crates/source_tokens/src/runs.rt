@@ -17,7 +17,7 @@ const KEPT: [&str; 22] = [
 ];
 /// The longest name.
 const NAME_LEN: usize = 24;
-/// The largest number, which fits only behind a `-`.
+/// The largest number, which fits only after a `-`.
 const LARGEST: u64 = 1 << 63;
 
 /// Whether the byte is a letter, a digit or `_`.

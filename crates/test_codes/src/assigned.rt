@@ -2,13 +2,13 @@
 
 use code::{Holder, Instr, Plan, Slots};
 use operators::Binary;
-use rationed::{Rationed, is_next_refused};
 use semantics::program::{Mark, Op};
 use slot_alloc::{AssignFault, assign, check_slots};
 use std::alloc::{AllocError, Allocator};
 use std::test::Fail;
 use tags::value::Origin;
 use test_inputs::plans::{ADD, Dests, L, NONE, R, instr_of, mark_of, plan_of};
+use test_inputs::rationed::{Rationed, is_next_refused};
 
 /// The operation of an instruction, its holder, and its first and its second destinations.
 type Line = (Op, u32, Dests, Dests);

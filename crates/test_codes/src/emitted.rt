@@ -2,7 +2,6 @@
 
 use code::{Code, Instr, Plan, Slots};
 use operators::Binary;
-use rationed::{Rationed, is_next_refused};
 use select::{EmitFault, emit};
 use semantics::program::{Dest, Op};
 use semantics::version::Version;
@@ -11,6 +10,7 @@ use std::test::Fail;
 use tags::token::Port;
 use tags::value::{NodeNumber, Origin};
 use test_inputs::plans::{L, NONE, R, instr_of, plan_of};
+use test_inputs::rationed::{Rationed, is_next_refused};
 
 const fn left(ahead: u32) -> Dest {
     Dest {
@@ -84,21 +84,21 @@ fn slots_of<A: Allocator + Clone>(alloc: A, slots: &[u16]) -> Result<Slots<A>, A
     Ok(Slots::of(lists))
 }
 
-/// The slot and the destinations of an instruction, and whether its origin is told.
+/// The slot and the destinations of an instruction, and whether its origin is reported.
 #[derive(Clone, Copy, PartialEq, Eq)]
 struct Shape {
     slot: u32,
     first: Option<Dest>,
     second: Option<Dest>,
-    told: bool,
+    stated: bool,
 }
 
-const fn make_shape(slot: u32, first: Option<Dest>, second: Option<Dest>, told: bool) -> Shape {
+const fn make_shape(slot: u32, first: Option<Dest>, second: Option<Dest>, stated: bool) -> Shape {
     Shape {
         slot,
         first,
         second,
-        told,
+        stated,
     }
 }
 

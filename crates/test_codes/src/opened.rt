@@ -1,9 +1,9 @@
 //! An object that adds its two inputs: it is opened, upgraded and written.
 
 use object_view::{Object, ObjectFault, upgrade, write};
-use rationed::Rationed;
-use rationed::writer::{Failure, Taker};
 use std::alloc::Global;
+use test_inputs::rationed::Rationed;
+use test_inputs::rationed::writer::{Failure, Taker};
 
 /// Adds two inputs.
 fn adds() -> [u8; 152] {

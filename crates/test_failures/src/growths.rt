@@ -49,7 +49,7 @@ fn print_trials<W: Write>(
     }
 }
 
-/// What an example reads: its graph, and its inputs behind it.
+/// What an example reads: its graph, and its inputs after it.
 fn input_of(alloc: Global, example: &Example) -> Result<Vec<u8>, AllocError> {
     match example.change {
         Some((old, new)) => {
@@ -129,7 +129,7 @@ fn commands_agree<R: Threads + Wait + Sync, W: Write>(
     Ok(true)
 }
 
-/// Whether all answers agree. Prints how the refusals were told; with figures, also how often.
+/// Whether all answers agree. Prints how the refusals were reported; with figures, also how often.
 pub fn agree<R: Threads + Wait + Sync, W: Write>(
     rt: &R,
     alloc: Global,

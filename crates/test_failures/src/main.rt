@@ -1,5 +1,5 @@
 //! Makes every command fail in the middle: part `streams` lets each call of a reader and each byte of a writer fail in turn, part
-//! `growths` each growth. The words of the command line name the parts; behind `growths`, any word makes it print also how often a growth
+//! `growths` each growth. The words of the command line name the parts; after `growths`, any word makes it print also how often a growth
 //! was refused. Prints what each part found, and `agree`, or the first answer that differs, with status 1.
 #![tactic(auto)]
 

@@ -99,7 +99,7 @@ fn graph_agrees<R: Threads + Wait + Sync, W: Write>(
     }
     let mut trials = Trials::new(alloc, graph, &meant.report);
     if !trials.all_agree(rt, alloc, tally, dice, free)? {
-        trials.tell(out)?;
+        trials.write_out(out)?;
         return Ok(false);
     }
     if trials.deferred.unwrap_or(0) > 0 {

@@ -142,7 +142,7 @@ impl<'a> Trials<'a> {
     }
 
     /// Makes a run in the order of a list, and compares it with the meaning.
-    fn run_listed(
+    fn run_by_list(
         &mut self,
         alloc: Global,
         runs: &mut Runs,
@@ -159,7 +159,7 @@ impl<'a> Trials<'a> {
 
     /// Whether runs in a random order agree. There is one run with few frames; in the part of calls there are runs with more
     /// and more frames, until there are just enough.
-    fn agrees_listed(
+    fn agrees_by_list(
         &mut self,
         alloc: Global,
         runs: &mut Runs,
@@ -173,11 +173,11 @@ impl<'a> Trials<'a> {
         let mut verdict = Verdict::Starved;
         if self.graph.part == Part::All {
             let frames = dice.throw(6).wrapping_add(1);
-            verdict = self.run_listed(alloc, runs, elements, frames, &picks);
+            verdict = self.run_by_list(alloc, runs, elements, frames, &picks);
         } else {
             for frames in FRAMES {
                 if verdict == Verdict::Starved {
-                    verdict = self.run_listed(alloc, runs, elements, frames, &picks);
+                    verdict = self.run_by_list(alloc, runs, elements, frames, &picks);
                 }
             }
         }
@@ -208,7 +208,7 @@ impl<'a> Trials<'a> {
             }
         }
         for _ in 0..ORDERS {
-            if !self.agrees_listed(alloc, &mut tally.runs, dice)? {
+            if !self.agrees_by_list(alloc, &mut tally.runs, dice)? {
                 return Ok(false);
             }
         }
@@ -216,7 +216,7 @@ impl<'a> Trials<'a> {
     }
 
     /// Prints how the last run was made.
-    pub fn tell<W: Write>(&self, out: &mut W) -> io::Result<()> {
+    pub fn write_out<W: Write>(&self, out: &mut W) -> io::Result<()> {
         let elements = self.config.elements;
         let frames = self.config.frames;
         let end = self.end;

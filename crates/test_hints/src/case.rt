@@ -14,7 +14,7 @@ use test_inputs::pieces::{append, append_repeated, append_word};
 #[derive(Drop)]
 pub struct Case {
     alloc: Global,
-    /// The command lines, each with a line feed behind it.
+    /// The command lines, each with a line feed after it.
     lines: Vec<u8>,
     input: Vec<u8>,
     /// The bytes that the table gives in place of what the program writes.
@@ -110,7 +110,7 @@ impl Case {
     }
 
     /// Runs a command line, and writes what was told of it. Gives the exit status, if it was run.
-    fn tell<R: Threads + Wait + Sync, W: Write>(
+    fn write_out<R: Threads + Wait + Sync, W: Write>(
         &self,
         rt: &R,
         line: &[u8],
@@ -136,20 +136,20 @@ impl Case {
         rt: &R,
         out: &mut W,
     ) -> io::Result<()> {
-        let mut told = Vec::new(self.alloc);
+        let mut printed = Vec::new(self.alloc);
         let lines = self.lines.strip_suffix(b"\n".as_slice());
         let Some(lines) = lines else {
             return Ok(());
         };
         for line in lines.split(|byte| *byte == b'\n') {
             let mut text = Vec::new(self.alloc);
-            let status = self.tell(rt, line, &mut text)?;
-            if told.is_empty() {
+            let status = self.write_out(rt, line, &mut text)?;
+            if printed.is_empty() {
                 out.write_all(b"$ ")?;
-            } else if told == text {
+            } else if printed == text {
                 out.write_all(b"& ")?;
             } else {
-                out.write_all(&told)?;
+                out.write_all(&printed)?;
                 out.write_all(b"\n$ ")?;
             }
             out.write_all(line)?;
@@ -157,9 +157,9 @@ impl Case {
                 write!(out, ": {status}")?;
             }
             out.write_all(b"\n")?;
-            told = text;
+            printed = text;
         }
-        out.write_all(&told)?;
+        out.write_all(&printed)?;
         out.write_all(b"\n")
     }
 }

@@ -1,4 +1,4 @@
-//! Graphs that tests of several crates run. Each text stands here once, without inputs behind it.
+//! Graphs that tests of several crates run. Each text stands here once, without inputs after it.
 
 use crate::pieces::changed;
 use std::alloc::{AllocError, Global};
@@ -194,7 +194,7 @@ end
 main m
 ";
 
-/// The graph with its inputs behind it, in lines.
+/// The graph with its inputs after it, in lines.
 pub fn with_inputs(alloc: Global, text: &[u8], lines: &[u8]) -> Result<Vec<u8>, AllocError> {
     let mut input = Vec::from_slice(alloc, text)?;
     input.extend_from_slice(lines)?;

@@ -8,3 +8,4 @@ pub mod parts;
 pub mod pieces;
 pub mod plans;
 pub mod random_graphs;
+pub mod rationed;

@@ -1,4 +1,4 @@
-//! The words of a program that tests in several parts: the names of parts, and behind each name the words of that part.
+//! The words of a program that tests in several parts: the names of parts, and after each name the words of that part.
 
 use std::alloc::{AllocError, Global};
 
@@ -14,7 +14,7 @@ fn is_name(word: &str, names: &[&str]) -> bool {
     names.iter().any(|name| *name == word)
 }
 
-/// The words behind word `place`, up to the next name.
+/// The words after word `place`, up to the next name.
 fn words_behind<'a>(words: &'a [String], place: usize, names: &[&str]) -> &'a [String] {
     let behind = words.get(place.wrapping_add(1)..).unwrap_or(&[]);
     let end = behind

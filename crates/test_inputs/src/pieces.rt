@@ -66,7 +66,7 @@ pub fn append_repeated(text: &mut Vec<u8>, line: &[u8]) -> Result<(), AllocError
     Ok(())
 }
 
-/// What stands before the first place where these bytes stand in the text, and what stands behind it.
+/// What stands before the first place where these bytes stand in the text, and what stands after it.
 fn split_around<'a>(text: &'a [u8], bytes: &[u8]) -> Option<(&'a [u8], &'a [u8])> {
     let place = text
         .windows(bytes.len().max(1))

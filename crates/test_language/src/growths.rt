@@ -6,11 +6,11 @@ use driver::emulation::emulate;
 use driver::fault::Fault;
 use lowered_text::fault::{LowerFault, LowerRefusal};
 use lowered_text::write_lowered;
-use rationed::{Rationed, is_next_refused};
 use rounds::Open;
 use std::alloc::Global;
 use std::sync::Wait;
 use std::thread::Threads;
+use test_inputs::rationed::{Rationed, is_next_refused};
 
 /// So few that a run takes little time.
 const FRAMES: u64 = 32;

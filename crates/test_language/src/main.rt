@@ -19,9 +19,9 @@ use std::process::ExitCode;
 use std::sync::Wait;
 use std::thread::Threads;
 use tally::Tally;
-use test_evaluator::MeantEnd;
 use test_inputs::random_graphs::dice::Dice;
 use test_random_programs::damage::{Changed, change, unchanged};
+use test_random_programs::evaluation::MeantEnd;
 use test_random_programs::program;
 use trial::{Reading, Wrong, first_wrong, lower_text, some_inputs};
 

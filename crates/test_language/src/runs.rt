@@ -13,9 +13,9 @@ use std::alloc::{AllocError, Allocator, Global};
 use std::fmt;
 use std::sync::Wait;
 use std::thread::Threads;
-use test_evaluator::{Meaning, MeantEnd};
 use test_inputs::random_graphs::dice::Dice;
 use test_inputs::random_graphs::orders::picks;
+use test_random_programs::evaluation::{Meaning, MeantEnd};
 
 /// A program with its graph, its inputs and what it means on them.
 #[derive(Clone, Copy)]

@@ -6,7 +6,7 @@ use source::word::{InfixSign, Word};
 use std::alloc::{AllocError, Global};
 use std::io::{self, Write};
 use tags::value::Value;
-use test_evaluator::{Meaning, MeantEnd};
+use test_random_programs::evaluation::{Meaning, MeantEnd};
 
 /// A thing, and how often it occurred.
 #[derive(Clone, Copy)]

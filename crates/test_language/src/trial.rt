@@ -15,10 +15,10 @@ use std::sync::Wait;
 use std::thread::Threads;
 use std::{fmt, io};
 use tags::value::Origin;
-use test_evaluator::layout::{Function, Layout};
-use test_evaluator::{Meaning, MeantEnd, evaluate};
 use test_inputs::random_graphs::dice::Dice;
 use test_random_programs::damage::Changed;
+use test_random_programs::evaluation::layout::{Function, Layout};
+use test_random_programs::evaluation::{Meaning, MeantEnd, evaluate};
 
 /// Inputs besides small ones.
 const INPUTS: [i64; 4] = [-1, 100, i64::MIN, i64::MAX];

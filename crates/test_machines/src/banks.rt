@@ -27,7 +27,7 @@ fn last_bank<A: Allocator>(store: &mut Store<A>) -> Option<BankMut<'_>> {
     last
 }
 
-// A slot is lent out of the slots behind a bank and set.
+// A slot is lent out of the slots after a bank and set.
 fn set_at(slots: &mut [Slot], place: usize, state: SlotState)
     requires { place < length slots.old }
     ensures { slots.new ≡ slice_set slots.old place state }
@@ -66,7 +66,7 @@ fn change(
     (slot.bank(), held)
 }
 
-/// Writes what the slot at this place behind the bank holds, if there is one.
+/// Writes what the slot at this place after the bank holds, if there is one.
 fn push_lent(bank: BankMut<'_>, place: usize, answer: &mut String) -> Option<()> {
     match bank.slots.slot(place) {
         Some(lent) => push_state(answer, lent.state()).ok(),

@@ -7,7 +7,7 @@ use crate::operations::operation_of;
 use crate::part::Part;
 use crate::shown::{push_origin, push_state, push_token, side_of};
 use crate::words::Words;
-use element::firing::{Made, NONE, Outcome, SIGNAL, Seat, fire};
+use element::firing::{Made, NONE, Outcome, Point, SIGNAL, fire};
 use element::instructions::{Array, Instruction, Instructions, dest_in};
 use semantics::program::Op;
 use std::alloc::AllocError;
@@ -15,7 +15,7 @@ use tags::slot::SlotState;
 use tags::token::{Cont, Port, To, Token, Word};
 
 /// Where the instructions stand.
-const SEAT: Seat = Seat { frame: 2, ip: 1 };
+const SEAT: Point = Point { frame: 2, ip: 1 };
 
 // An instruction without a program: what it makes goes to the next one's left port and to the second next one's.
 struct NoProgram;
@@ -92,7 +92,7 @@ fn fired(op: Op, slot: &SlotState, port: Port, word: &Word) -> Option<(Outcome, 
     Some((outcome, made))
 }
 
-/// Writes a token that was made, behind what was written before.
+/// Writes a token that was made, after what was written before.
 fn push_made(answer: &mut String, to: To, word: Word) -> Result<(), AllocError> {
     answer.push_str(", ")?;
     push_token(answer, Token { to, word })

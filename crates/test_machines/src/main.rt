@@ -9,14 +9,14 @@
 //! release 1 -> frame 1 for host 2
 //! ```
 //!
-//! - A line is an operation, and behind ` -> ` the answer that should come. Without it the operation should say nothing.
+//! - A line is an operation, and after ` -> ` the answer that should come. Without it the operation should say nothing.
 //! - The first line makes what the section is about: a `queue`, `slots`, `frames N`, `cells N ELEMENT ELEMENTS`, an `object NAME`, the
 //!   `order ELEMENTS` of blocks, a `run NAME ELEMENTS FRAMES STEPS INPUT ..`, or `refusals NAME ELEMENTS FRAMES INPUT EVENTS` of memory to a
 //!   run. In `packing` and `instructions` each line stands for itself, and `threads` is alone. What the other lines may be stands in the
 //!   module of the part, at `act`.
 //! - `refuse FIRST LAST` before the first line has the section played once for each number from FIRST to LAST, on memory that refuses the
 //!   growth of this number. FIRST is not above LAST.
-//! - `quietly` before an operation, but the first, has `, and took memory` behind the answer if the part asked for a growth.
+//! - `quietly` before an operation, but the first, has `, and took memory` after the answer if the part asked for a growth.
 //! - A value is a number, or `zero` or `range` with the origin of the fault: `untold`, or a block and a node. A continuation is `host PORT`,
 //!   or a frame, an instruction and a port. A word is a value, `frame N`, or `back` and a continuation.
 //! - A slot is `empty`, `left WORD`, `right WORD`, `credits N`, `waiter CONTINUATION` or `draining N`.

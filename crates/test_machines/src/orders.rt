@@ -50,7 +50,7 @@ fn token(frame: u32, number: i64) -> Token {
     }
 }
 
-/// Puts the token behind the others that a word tells by a frame and a number with a dot between them.
+/// Puts the token after the others that a word tells by a frame and a number with a dot between them.
 fn put_token<A: Allocator>(tokens: &mut Vec<Token, A>, word: &str) -> Option<()> {
     let (frame, number) = word.split_once('.')?;
     let frame = frame.parse().ok()?;

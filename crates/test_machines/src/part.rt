@@ -2,8 +2,8 @@
 
 use crate::tally::{Line, Tally};
 use crate::words::Words;
-use rationed::Rationed;
 use std::alloc::{AllocError, Global};
+use test_inputs::rationed::Rationed;
 
 /// The memory that a section has.
 pub type Heap<'h> = &'h Rationed<Global>;

@@ -10,13 +10,13 @@ use crate::words::Words;
 use element::lane::Stepped;
 use loaded::Loaded;
 use object_view::Object;
-use rationed::{Rationed, is_next_refused};
 use schedule::config::{Config, StartFault};
 use schedule::halt::Halt;
 use schedule::machine::Machine;
 use schedule::report::Report;
 use semantics::report::End;
 use std::alloc::{AllocError, Global};
+use test_inputs::rationed::{Rationed, is_next_refused};
 
 /// Where a growth was refused.
 #[derive(Clone, Copy)]

@@ -17,11 +17,11 @@ use crate::tally::{Line, Tally};
 use crate::words::Words;
 use loaded::Loaded;
 use object_view::Object;
-use rationed::Rationed;
 use schedule::config::Config;
 use schedule::machine::Machine;
 use std::alloc::AllocError;
 use std::thread::Threads;
+use test_inputs::rationed::Rationed;
 
 /// Plays the lines of a section whose first line has made a part, or has found no memory for it.
 fn play_made<P: Part + Drop>(

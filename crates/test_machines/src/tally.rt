@@ -1,4 +1,4 @@
-//! How many answers came, and which of them differ from those that are told.
+//! How many answers came, and which of them differ from those that are reported.
 
 use std::alloc::{AllocError, Global};
 use std::fmt;

@@ -7,11 +7,11 @@ ghost use Rattle.test_meshes.specs.Playing.{Holds};
 
 use crate::step::{commit, live, post, take};
 use mesh::{Mesh, Seat};
-use rationed::{Rationed, is_next_refused};
 use std::alloc::Global;
 use std::process::Abort;
 use std::test::Fail;
 use tags::token::{Port, To, Token, Word};
+use test_inputs::rationed::{Rationed, is_next_refused};
 
 /// Memory that counts how often it is asked: `Mesh::new` alone takes some.
 type Heap<'h> = &'h Rationed<Global>;

@@ -3,13 +3,13 @@
 use code::{CodeBlock, Plan};
 use graph_check::check;
 use graph_file::read;
-use rationed::{Rationed, is_next_refused};
 use schemas::expand;
 use semantics::program::{Mark, Op};
 use std::alloc::{AllocError, Allocator, Global};
 use std::process::Abort;
 use std::test::Fail;
 use test_inputs::plans::{ADD, Dests, L, NONE, R, is_instr};
+use test_inputs::rationed::{Rationed, is_next_refused};
 
 /// The graph of the block `m`, which gives the sum of its two inputs, and of the block `g`, which gives its first input and does
 /// not use its second one.

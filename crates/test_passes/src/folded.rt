@@ -3,12 +3,12 @@
 use code::{Instr, Plan};
 use folding::fold;
 use operators::Binary;
-use rationed::{Rationed, is_next_refused};
 use semantics::program::{Mark, Op};
 use std::alloc::{AllocError, Allocator};
 use std::test::Fail;
 use tags::value::{NodeNumber, Origin};
 use test_inputs::plans::{ADD, Dests, L, NONE, R, instr_of, is_instr, mark_of, plan_of};
+use test_inputs::rationed::{Rationed, is_next_refused};
 
 /// The number of a line, the operation of its instruction, its holder, and its first and its second destinations.
 type Line = (u16, Op, u32, Dests, Dests);

@@ -2,12 +2,12 @@
 
 use code::{CodeBlock, Instr, Plan, Program};
 use fanout::narrow;
-use rationed::{Rationed, is_next_refused};
 use semantics::program::{Mark, Op};
 use std::alloc::{AllocError, Allocator};
 use std::test::Fail;
 use tags::value::Origin;
 use test_inputs::plans::{ADD, Dests, L, NONE, R, has_op, instr_of, is_instr, mark_of};
+use test_inputs::rationed::{Rationed, is_next_refused};
 
 /// The operation of an instruction, and its first and its second destinations.
 type Line = (Op, Dests, Dests);

@@ -135,7 +135,7 @@ fn verdict<R: Threads + Wait + Sync>(
 }
 
 /// Prints what the runs of an example say.
-fn tell<R: Threads + Wait + Sync, W: Write>(
+fn write_out<R: Threads + Wait + Sync, W: Write>(
     rt: &R,
     alloc: Global,
     out: &mut W,
@@ -182,7 +182,7 @@ pub fn tell_all<R: Threads + Wait + Sync, W: Write>(
     let alloc = files.alloc();
     for name in names {
         let input = fs::read(files, name.as_str())?;
-        tell(rt, alloc, out, name.as_str(), &input)?;
+        write_out(rt, alloc, out, name.as_str(), &input)?;
     }
     Ok(())
 }

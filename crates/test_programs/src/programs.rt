@@ -46,7 +46,7 @@ fn graph_beside(files: &HostRuntime, name: &str) -> anyhow::Result<Option<Vec<u8
 /// What the runs of a program tell, where no graph stands beside it.
 fn computed(name: &str) -> Option<&'static [u8]> {
     let known = KNOWN.iter().find(|known| known.name == name)?;
-    Some(known.told)
+    Some(known.prints)
 }
 
 /// What a program is compared with, as a line tells it.
@@ -59,7 +59,7 @@ fn beside(has_graph: bool) -> &'static str {
 }
 
 /// Prints what is found of a program, and says whether all is right.
-fn tell<W: Write>(
+fn write_out<W: Write>(
     out: &mut W,
     name: &str,
     has_graph: bool,
@@ -88,12 +88,12 @@ fn agrees<R: Threads + Wait + Sync, W: Write>(
     let program = on_short(alloc, name, fs::read(files, name)?)?;
     if let Some(graph) = graph_beside(files, name)? {
         let fault = fault_beside(rt, alloc, &program, &graph)?;
-        return tell(out, name, true, fault);
+        return write_out(out, name, true, fault);
     }
     match computed(name) {
-        Some(told) => {
-            let fault = fault_of(rt, alloc, &program, told)?;
-            tell(out, name, false, fault)
+        Some(prints) => {
+            let fault = fault_of(rt, alloc, &program, prints)?;
+            write_out(out, name, false, fault)
         }
         None => {
             writeln!(out, "{name} is not known")?;

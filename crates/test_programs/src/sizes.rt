@@ -7,7 +7,7 @@ pub struct Sizes {
     pub seed: u64,
 }
 
-/// What the words of a part say: a count, and behind it a seed, which is 0 where it is left out. `None` where they say something else.
+/// What the words of a part say: a count, and after it a seed, which is 0 where it is left out. `None` where they say something else.
 pub fn sizes_in(words: &[String]) -> Option<Sizes> {
     let mut count = None;
     let mut seed = 0;

@@ -20,7 +20,7 @@ use std::thread::Threads;
 use tally::Tally;
 use test_inputs::random_graphs::dice::Dice;
 use test_inputs::random_graphs::graphs::{Graph, Part};
-use test_served::{answer, comes_back, comes_back_with_literals};
+use test_served::{answer, reassembles, reassembles_with_literals};
 
 /// How many events an element makes at most, and how many activities a meaning has: as a word of a command line.
 const STEPS: &str = "20000";
@@ -59,7 +59,9 @@ fn look_at_object<R: Threads + Wait + Sync>(
         tally.refused = tally.refused.wrapping_add(1);
         return Ok(());
     }
-    if !comes_back(rt, alloc, &object.text) || !comes_back_with_literals(rt, alloc, &object.text) {
+    if !reassembles(rt, alloc, &object.text)
+        || !reassembles_with_literals(rt, alloc, &object.text)
+    {
         return Err("an object does not come back");
     }
     tally.objects = tally.objects.wrapping_add(1);

@@ -73,7 +73,7 @@ impl Writer {
         self.write_all_parts()
     }
 
-    /// Writes `main`, which fills the arrays, at its beginning or behind other statements.
+    /// Writes `main`, which fills the arrays, at its beginning or after other statements.
     fn put_main(&mut self, size: Size) -> io::Result<()> {
         let main = self.some_shape(false, MAIN);
         let of = self.put_head(MAIN, main, size)?;

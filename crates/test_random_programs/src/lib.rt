@@ -4,6 +4,7 @@
 #![tactic(auto)]
 
 pub mod damage;
+pub mod evaluation;
 mod expressions;
 mod items;
 mod parts;

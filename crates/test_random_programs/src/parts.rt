@@ -2,7 +2,7 @@
 //!
 //! `NAME` and `OTHER` are the form's names, and `BIND` brings the first into scope; `ENTER` and `LEAVE` are the ends of a scope. `WHOLE` is
 //! an expression with one value, `OPERAND` one of the form's level, `AND` an operand of `&`. `SEVERAL` is an expression and `LIST` a list
-//! with the form's number of values; `MORE` is a list with one value less, behind a comma, or nothing.
+//! with the form's number of values; `MORE` is a list with one value less, after a comma, or nothing.
 
 use crate::writer::{FILLERS, Form, Writer};
 use std::io;

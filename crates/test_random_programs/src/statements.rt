@@ -19,13 +19,13 @@ impl Writer {
         }
     }
 
-    /// `let`, its targets and its values. The targets come into scope behind it.
+    /// `let`, its targets and its values. The targets come into scope after it.
     pub fn put_let(&mut self, of: Form) -> io::Result<()> {
         self.put_targets(of.count, of)?;
         self.plan("= LIST ;", of)
     }
 
-    /// `let` and so many targets, some of which are left out. They come into scope behind what is planned next.
+    /// `let` and so many targets, some of which are left out. They come into scope after what is planned next.
     fn put_targets(&mut self, count: u64, of: Form) -> io::Result<()> {
         let names = self.some_names(count)?;
         self.put("let")?;
@@ -62,7 +62,7 @@ impl Writer {
         self.plan("= STRICT CALLEE ( NAME - 1 MORE ) ;", call)
     }
 
-    /// The value of a cell in an array that is being filled: sometimes it waits for the cell before, or for the one behind.
+    /// The value of a cell in an array that is being filled: sometimes it waits for the cell before, or for the one after.
     pub fn value(&mut self, of: Form) -> io::Result<()> {
         match self.dice.throw(4) {
             0 => self.plan(

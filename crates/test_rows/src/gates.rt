@@ -3,7 +3,6 @@
 use command_line::Mode;
 use driver::emulation::emulate;
 use driver::fault::Fault;
-use rationed::{Rationed, is_next_refused};
 use rounds::{Gate, Open};
 use schedule::config::Config;
 use schedule::report::Report;
@@ -16,6 +15,7 @@ use std::test::Fail;
 use std::thread::Threads;
 use tags::value::Value;
 use test_inputs::graph_texts::{ADD, SUM_LOOP};
+use test_inputs::rationed::{Rationed, is_next_refused};
 
 const CLASHES: &[u8] =
     b"etsgraph 1\narray A 2\nblock m 2 4\n- lit 0 0.0\n- lit 1 0.0\n- store A 2.0 0.0\n- store A 2.0 1.0\n- store A 3.0 0.0\n- store A 3.0 1.0\nout 4.0 5.0 6.0 7.0\nend\nmain m\n";
@@ -104,7 +104,7 @@ fn two_elements_meet(rt: HostRuntime) -> Result<(), Fail> {
 struct Stopper {
     turns: AtomicU64,
     left: AtomicU64,
-    /// The sum of the numbers of blocks that it was told.
+    /// The sum of the numbers of blocks that it was reported.
     blocks: AtomicU64,
 }
 
@@ -294,9 +294,9 @@ fn each_growth_refused(rt: HostRuntime) -> Result<(), Fail> {
             if ended == Ended::Refused {
                 before = before.wrapping_add(1);
             } else {
-                let is_told = ended == Ended::Reported(End::Memory, None)
+                let is_reported = ended == Ended::Reported(End::Memory, None)
                     || ended == Ended::Reported(End::Memory, sum);
-                assert!(rt; is_told, "{at}: {ended:?}");
+                assert!(rt; is_reported, "{at}: {ended:?}");
                 within = within.wrapping_add(1);
             }
         }

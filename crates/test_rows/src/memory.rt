@@ -1,10 +1,10 @@
 //! Each growth is refused in turn.
 
 use commands::serving::serve;
-use rationed::{Rationed, is_next_refused};
 use rounds::Open;
 use std::test::Fail;
 use test_inputs::graph_texts::{ADD, with_inputs};
+use test_inputs::rationed::{Rationed, is_next_refused};
 
 const REST: &[u8] = b"output 0 5\ndeferred 0\nwaiting 0 0\nframes 0\nend Rest\n";
 
@@ -15,7 +15,7 @@ const REFUSED: [&[u8]; 3] = [
     b"output 0 5\ndeferred 0\nwaiting 0 0\nframes 0\nend Memory\n",
 ];
 
-/// A growth is refused in each run but the last: it is told in place of the report, or by its end.
+/// A growth is refused in each run but the last: it is reported in place of the report, or by its end.
 #[test]
 fn each_growth_refused(rt: HostRuntime) -> Result<(), Fail> {
     let input = with_inputs(rt.alloc(), ADD, b"2\n3\n")?;

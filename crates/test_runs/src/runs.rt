@@ -2,7 +2,7 @@
 
 use command_line::Mode;
 use driver::fault::Fault;
-use programs::fault::RunFault;
+use programs::fault::RunRefusal;
 use programs::running::run_program;
 use rounds::Open;
 use schedule::config::{Config, StartFault};
@@ -15,7 +15,7 @@ use std::test::Fail;
 use std::thread::Threads;
 use tags::value::Value;
 
-/// Factorials, with a line `inputs` and an input behind it, which is not read.
+/// Factorials, with a line `inputs` and an input after it, which is not read.
 const FACTORIAL: &[u8] =
     b"fn factorial(n) { if n <= 1 { 1 } else { n * factorial(n - 1) } }\nfn main(n) { factorial(n) }\ninputs\n3\n";
 
@@ -41,12 +41,12 @@ fn report_in<R: Threads + Wait + Sync>(
     text: &[u8],
     input: i64,
     mode: Mode,
-) -> Result<Report<Global>, RunFault> {
+) -> Result<Report<Global>, RunRefusal> {
     run_program(alloc, text, &[input], CONFIG, mode, rt, &Open)
 }
 
 /// Whether the report has these outputs and cells, at rest, with no reader waiting and no event listed.
-fn is_told(report: &Report<Global>, outputs: &[Option<Value>], cells: &[(u32, Value)]) -> bool {
+fn is_reported(report: &Report<Global>, outputs: &[Option<Value>], cells: &[(u32, Value)]) -> bool {
     report.end == End::Rest
         && report.deferred == 0
         && report.outputs.as_slice() == outputs
@@ -59,7 +59,7 @@ fn factorial_of_twenty(rt: HostRuntime) -> Result<(), Fail> {
     let wanted = [Some(Value::Int(2_432_902_008_176_640_000))];
     for mode in MODES {
         let report = report_in(&rt, rt.alloc(), FACTORIAL, 20, mode);
-        assert!(rt; report.is_ok_and(|report| is_told(&report, &wanted, &[])));
+        assert!(rt; report.is_ok_and(|report| is_reported(&report, &wanted, &[])));
     }
     Ok(())
 }
@@ -69,7 +69,9 @@ fn a_cell_is_filled(rt: HostRuntime) -> Result<(), Fail> {
     let wanted = [Some(Value::Int(9)), Some(Value::Int(10))];
     for mode in MODES {
         let report = report_in(&rt, rt.alloc(), SQUARE, 3, mode);
-        assert!(rt; report.is_ok_and(|report| is_told(&report, &wanted, &[(3, Value::Int(9))])));
+        assert!(rt;
+            report.is_ok_and(|report| is_reported(&report, &wanted, &[(3, Value::Int(9))]))
+        );
     }
     Ok(())
 }
@@ -82,12 +84,12 @@ fn is_nameless(fault: &ProgramFault) -> bool {
 #[test]
 fn refusals_are_told(rt: HostRuntime) -> Result<(), Fail> {
     let nameless = report_in(&rt, rt.alloc(), NAMELESS, 1, Mode::One);
-    assert!(rt; matches!(nameless, Err(RunFault::Program(fault)) if is_nameless(&fault)));
+    assert!(rt; matches!(nameless, Err(RunRefusal::Program(fault)) if is_nameless(&fault)));
     let empty = run_program(rt.alloc(), FACTORIAL, &[], CONFIG, Mode::One, &rt, &Open);
     assert!(rt;
         matches!(
             empty,
-            Err(RunFault::Graph(Fault::Start(StartFault::WrongInputs)))
+            Err(RunRefusal::Graph(Fault::Start(StartFault::WrongInputs)))
         )
     );
     Ok(())

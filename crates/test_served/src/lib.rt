@@ -30,7 +30,7 @@ pub fn answer<R: Threads + Wait + Sync>(
 }
 
 /// Whether what these words list of the object is assembled as the same object.
-fn is_listed_by<R: Threads + Wait + Sync>(
+fn has_listing<R: Threads + Wait + Sync>(
     rt: &R,
     alloc: Global,
     words: &[&str],
@@ -42,15 +42,15 @@ fn is_listed_by<R: Threads + Wait + Sync>(
 }
 
 /// Whether the object's listing is assembled as the same object.
-pub fn comes_back<R: Threads + Wait + Sync>(rt: &R, alloc: Global, object: &[u8]) -> bool {
-    is_listed_by(rt, alloc, &["ets", "dis"], object)
+pub fn reassembles<R: Threads + Wait + Sync>(rt: &R, alloc: Global, object: &[u8]) -> bool {
+    has_listing(rt, alloc, &["ets", "dis"], object)
 }
 
 /// Whether the object's listing with its literals is assembled as the same object.
-pub fn comes_back_with_literals<R: Threads + Wait + Sync>(
+pub fn reassembles_with_literals<R: Threads + Wait + Sync>(
     rt: &R,
     alloc: Global,
     object: &[u8],
 ) -> bool {
-    is_listed_by(rt, alloc, &["ets", "dis", "--literals"], object)
+    has_listing(rt, alloc, &["ets", "dis", "--literals"], object)
 }

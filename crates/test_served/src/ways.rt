@@ -25,7 +25,7 @@ impl fmt::Display for Way {
 
 /// Whether a line tells a value, a deferred reader or the end. Of the others that a report has, how many frames are out and which
 /// requests wait may depend on the way.
-fn is_told(line: &[u8]) -> bool {
+fn is_reported(line: &[u8]) -> bool {
     let words = [b"output ".as_slice(), b"cell ", b"deferred ", b"end "];
     words.iter().any(|word| line.starts_with(*word))
 }
@@ -34,7 +34,7 @@ fn is_told(line: &[u8]) -> bool {
 pub fn told(alloc: Global, report: &[u8]) -> Result<Vec<u8>, AllocError> {
     let mut lines = Vec::new(alloc);
     for line in report.split(|byte| *byte == b'\n') {
-        if is_told(line) {
+        if is_reported(line) {
             lines.extend_from_slice(line)?;
             lines.push(b'\n')?;
         }
@@ -42,8 +42,8 @@ pub fn told(alloc: Global, report: &[u8]) -> Result<Vec<u8>, AllocError> {
     Ok(lines)
 }
 
-/// What a run of a graph on the inputs behind it tells.
-pub fn run_told<R: Threads + Wait + Sync>(
+/// What a run of a graph on the inputs after it tells.
+pub fn run_reported<R: Threads + Wait + Sync>(
     rt: &R,
     alloc: Global,
     input: &[u8],
@@ -53,7 +53,7 @@ pub fn run_told<R: Threads + Wait + Sync>(
     told(alloc, &answer(rt, alloc, &words, input).text)
 }
 
-/// The first way in which a run of the graph on the inputs behind it does not tell just this.
+/// The first way in which a run of the graph on the inputs after it does not tell just this.
 pub fn first_other<R: Threads + Wait + Sync>(
     rt: &R,
     alloc: Global,
@@ -63,7 +63,7 @@ pub fn first_other<R: Threads + Wait + Sync>(
     for mode in MODES {
         for elements in ELEMENTS {
             let way = Way { mode, elements };
-            if run_told(rt, alloc, input, way)?.as_slice() != wanted {
+            if run_reported(rt, alloc, input, way)?.as_slice() != wanted {
                 return Ok(Some(way));
             }
         }
@@ -71,7 +71,7 @@ pub fn first_other<R: Threads + Wait + Sync>(
     Ok(None)
 }
 
-/// What of a program goes otherwise than with the graph, typed by hand, that stands beside it, if anything does. Both have their inputs behind them.
+/// What of a program goes otherwise than with the graph, typed by hand, that stands beside it, if anything does. Both have their inputs after them.
 /// The graph is run on one element alone.
 pub fn fault_beside<R: Threads + Wait + Sync>(
     rt: &R,

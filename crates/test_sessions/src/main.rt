@@ -15,7 +15,7 @@
 //! - `$ COMMANDS` begins a session: `ets` and its words, with ` < FILE` where it reads a file of `data`, and with ` | ` before a
 //!   command that reads what the one before it printed. `$` alone stands for a command line without any word. Where more such
 //!   lines follow at once, all of them read the same input, and should print the same.
-//! - `| LINE` is a line of the input. The lines of the input come behind the file, if there is one.
+//! - `| LINE` is a line of the input. The lines of the input come after the file, if there is one.
 //! - `! PIECE` is a piece of the input, without a line's end.
 //! - `* FIRST LAST PIECE` is that piece, once for each number from FIRST to LAST.
 //! - `change OLD -> PIECE` puts the piece in the first place where OLD stands in the input.

@@ -16,14 +16,14 @@ pub struct Session<'a> {
     line: u64,
     /// The command lines that are tried, one after another.
     commands: Vec<&'a str>,
-    /// Whether a line stands behind its command lines.
+    /// Whether a line stands after its command lines.
     has_more: bool,
     input: Vec<u8>,
     /// On how many bytes of the input it is played at first, and at last; else it is played on all of them.
     lengths: Option<(usize, usize)>,
     /// What should be printed; where lines are left out, what should be printed before them.
     wanted: Vec<u8>,
-    /// What should be printed behind the lines that are left out, if any are.
+    /// What should be printed after the lines that are left out, if any are.
     last: Option<Vec<u8>>,
     /// The exit statuses that the last of the commands should have, in their order; those before them should have 0.
     statuses: Vec<u8>,
@@ -79,7 +79,7 @@ fn are_wanted(statuses: &[u8], wanted: &[u8]) -> bool {
     }
 }
 
-/// Writes exit statuses, each behind a space.
+/// Writes exit statuses, each after a space.
 fn write_statuses<W: Write>(out: &mut W, statuses: &[u8]) -> io::Result<()> {
     for status in statuses {
         write!(out, " {status}")?;
@@ -87,7 +87,7 @@ fn write_statuses<W: Write>(out: &mut W, statuses: &[u8]) -> io::Result<()> {
     writeln!(out)
 }
 
-/// A number, and what stands behind it and a space.
+/// A number, and what stands after it and a space.
 fn split_number(words: &str) -> Option<(usize, &str)> {
     let (number, rest) = words.split_once(' ')?;
     Some((number.parse().ok()?, rest))
@@ -259,7 +259,13 @@ impl<'a> Session<'a> {
     }
 
     /// Tells what was printed, and what should have been.
-    fn tell<W: Write>(&self, out: &mut W, name: &str, commands: &str, ran: &Ran) -> io::Result<()> {
+    fn write_out<W: Write>(
+        &self,
+        out: &mut W,
+        name: &str,
+        commands: &str,
+        ran: &Ran,
+    ) -> io::Result<()> {
         let line = self.line;
         writeln!(out, "{name}:{line}: {commands}")?;
         out.write_all(b"wanted, with statuses that end with")?;
@@ -291,7 +297,7 @@ impl<'a> Session<'a> {
             let input = self.input.get(..length).unwrap_or(&self.input);
             let ran = run_commands(rt, self.alloc, commands, input)?;
             if !self.is_wanted(&ran) {
-                self.tell(out, name, commands, &ran)?;
+                self.write_out(out, name, commands, &ran)?;
                 return Ok(false);
             }
         }

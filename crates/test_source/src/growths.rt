@@ -1,11 +1,11 @@
 //! A long text, and growths that are refused.
 
-use rationed::{Rationed, is_next_refused};
 use source::fault::{Fault, FaultKind};
 use source_check::check;
 use source_text::read_program;
 use source_tokens::lex;
 use std::test::Fail;
+use test_inputs::rationed::{Rationed, is_next_refused};
 
 /// A line of 40 bytes with 14 tokens.
 const LINE: &[u8] = b"    let sum_1 = f(a, 1234) + b << 2; //\n";

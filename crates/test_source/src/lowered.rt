@@ -6,7 +6,6 @@ use graph::Block;
 use graph_file::send_kind;
 use itoa::Buffer;
 use lowering::{Lowered, Named, lower, name_loops};
-use rationed::{Rationed, is_next_refused};
 use semantics::graph::{Region, Source};
 use source::fault::{Fault, FaultKind};
 use source_check::check;
@@ -14,8 +13,9 @@ use source_text::read_program;
 use std::alloc::Allocator;
 use std::io::{self, Write};
 use std::test::Fail;
+use test_inputs::rationed::{Rationed, is_next_refused};
 
-/// A number, and what stands behind it.
+/// A number, and what stands after it.
 fn write_number<W: Write>(writer: &mut W, number: u32, behind: &[u8]) -> io::Result<()> {
     let mut buffer = Buffer::new();
     writer.write_all(buffer.format(number).as_bytes())?;

@@ -54,7 +54,7 @@ fn many_names(rt: HostRuntime) -> Result<(), Fail> {
     Ok(())
 }
 
-/// What is open around a number: so many times the first part stands before it, and the second one behind it.
+/// What is open around a number: so many times the first part stands before it, and the second one after it.
 fn nested<A: Allocator>(
     alloc: A,
     open: &[u8],
@@ -107,7 +107,7 @@ fn signs(rt: HostRuntime) -> Result<(), Fail> {
     Ok(())
 }
 
-/// Each `if` of a chain is open around those behind it.
+/// Each `if` of a chain is open around those after it.
 fn chain<A: Allocator>(alloc: A, ifs: usize) -> Result<Vec<u8, A>, AllocError> {
     let mut text = Vec::new(alloc);
     text.extend_from_slice(b"fn main(n) { ")?;

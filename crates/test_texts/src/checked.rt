@@ -3,8 +3,8 @@
 use graph::Name;
 use graph_check::{CheckFaultKind, check};
 use graph_file::read;
-use rationed::{Rationed, is_next_refused};
 use std::test::Fail;
+use test_inputs::rationed::{Rationed, is_next_refused};
 
 /// The blocks `g` and `b`, and a block with each kind of node.
 const EACH_KIND: &[u8] = b"etsgraph 2

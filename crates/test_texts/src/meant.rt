@@ -1,11 +1,11 @@
 //! Meanings for whose growths there is no room.
 
 use oracle::{MeanEnd, MeanFault, mean};
-use rationed::{Rationed, is_next_refused};
 use std::alloc::Allocator;
 use std::process::Abort;
 use std::test::Fail;
 use test_inputs::graph_texts::{EARLY_RESULT, READERS, SUM_LOOP};
+use test_inputs::rationed::{Rationed, is_next_refused};
 
 /// More activities than any run here takes.
 const ENOUGH: u64 = 1_000_000;
@@ -30,7 +30,7 @@ fn rationed_run<B: Allocator + Clone>(
     Ok((!is_next_refused(&scarce), end))
 }
 
-/// Each growth that is refused is told; with all of them granted, the run comes to rest.
+/// Each growth that is refused is reported; with all of them granted, the run comes to rest.
 #[test]
 fn tells_each_refused_growth(rt: HostRuntime) -> Result<(), Fail> {
     for (text, inputs) in [

@@ -3,10 +3,10 @@
 use graph_file::read;
 use oracle::{MeanEnd, WaveReport};
 use profile_text::{MachineRow, write_profile, write_svg};
-use rationed::Rationed;
 use semantics::version::Version;
 use std::alloc::{AllocError, Global};
 use std::test::Fail;
+use test_inputs::rationed::Rationed;
 
 /// Memory that counts how often it is asked.
 type Heap<'h> = &'h Rationed<Global>;

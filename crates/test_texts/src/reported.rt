@@ -6,7 +6,6 @@ use arrayvec::ArrayVec;
 use graph_file::read;
 use object_view::Object;
 use oracle::{Full, MeanEnd, MeanReport};
-use rationed::Rationed;
 use report_text::{write_meaning, write_object_report, write_report};
 use schedule::report::Report;
 use semantics::report::End;
@@ -15,6 +14,7 @@ use std::alloc::{AllocError, Global};
 use std::test::Fail;
 use tags::value::{FaultKind, NodeNumber, Origin, Value};
 use test_inputs::objects::STORES;
+use test_inputs::rationed::Rationed;
 
 /// Memory that counts how often it is asked.
 type Heap<'h> = &'h Rationed<Global>;

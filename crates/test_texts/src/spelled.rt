@@ -2,10 +2,10 @@
 
 use dot::write_graph_dot;
 use graph_file::{ReadFaultKind, read, write};
-use rationed::writer::{Failure, Taker};
-use rationed::{Rationed, is_next_refused};
 use std::test::Fail;
 use test_inputs::graph_texts::{ADD, EARLY_RESULT, LATE_RESULT, SUM_LOOP};
+use test_inputs::rationed::writer::{Failure, Taker};
+use test_inputs::rationed::{Rationed, is_next_refused};
 
 /// Texts of graphs; one has a strict call, and one a literal that is as low as can be.
 const GRAPHS: [&[u8]; 5] = [

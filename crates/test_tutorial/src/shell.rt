@@ -60,7 +60,7 @@ impl<'a> Shell<'a> {
         rt: &R,
         command: &str,
     ) -> anyhow::Result<Vec<u8>> {
-        let (command, is_told) = match command.strip_suffix("; echo $?") {
+        let (command, is_reported) = match command.strip_suffix("; echo $?") {
             Some(command) => (command, true),
             None => (command, false),
         };
@@ -68,7 +68,7 @@ impl<'a> Shell<'a> {
             Some((stages, file)) => self.write_file(rt, stages, file)?,
             None => self.run_stages(rt, command)?,
         };
-        if is_told {
+        if is_reported {
             let status = printed.status;
             writeln!(printed.text, "{status}")?;
         }

@@ -108,9 +108,9 @@ fn format_in(word: &str) -> Option<Format> {
 
 fn literals_in(matches: &ArgMatches<'_>) -> Literals {
     if matches.get_flag("literals") {
-        Literals::Listed
+        Literals::Included
     } else {
-        Literals::LeftOut
+        Literals::Omitted
     }
 }
 

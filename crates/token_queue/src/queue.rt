@@ -178,7 +178,7 @@ impl<A: Allocator> TokenQueue<A> {
         self.count -= 1;
     }
 
-    /// Takes the token of this number out, the oldest being 0. Those behind it close up.
+    /// Takes the token of this number out, the oldest being 0. Those after it close up.
     #[inline(never)]
     pub fn remove(&mut self, at: usize)
         requires { at < length self.old.items }

@@ -153,7 +153,7 @@ counter_text n x = codes "{\"ph\":\"C\",\"pid\":0,\"ts\":" ++ decimal n ++ codes
 abbrev pub event_objects : Program → ℕ → ℕ × Token → Moment → List ℕ
 event_objects p n ev x = slice_text p n ev x.deed ++ counter_text n x
 
--- The last object, which names the whole, has no comma behind it.
+-- The last object, which names the whole, has no comma after it.
 abbrev pub chrome_text : Program → ℕ → ℕ → List (ℕ × Token) → List Moment → List ℕ
 chrome_text p elements first events moments = codes "{\"traceEvents\":[\n" ++ lanes_text 0 elements ++ paired (event_objects p) first events moments
     ++ codes "{\"ph\":\"M\",\"pid\":0,\"name\":\"process_name\",\"args\":{\"name\":\"ets\"}}\n]}\n"

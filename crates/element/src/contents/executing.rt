@@ -4,7 +4,7 @@ ghost use Rattle.std.specs.Prelude.{◌≡◌, ◌%◌, ◌<◌, ◌^◌, true, 
 ghost use Rattle.tags.specs.declared.token.Port.TheVariants.{Left, Right};
 ghost use Rattle.tags.specs.declared.token.To.{To};
 ghost use Rattle.semantics.specs.declared.program.Op.{Op};
-ghost use Rattle.element.specs.Held.{held_in, part_of, taken, with_part};
+ghost use Rattle.element.specs.Holding.{held_in, part_of, taken, with_part};
 ghost use Rattle.tags.specs.declared.slot.SlotState.TheVariants.{Empty};
 ghost use Rattle.frame_store.specs.BankViews.{bank_states};
 ghost use Rattle.semantics.specs.Program.{Program, instr_at};
@@ -13,14 +13,14 @@ ghost use Rattle.semantics.specs.Rule.{fire_two};
 ghost use Rattle.element.specs.Decoded.{instr_of, IsShort, IsPair, IsLone, IsCredit};
 ghost use Rattle.element.specs.Acts.{CanAct, ActsAs, FiresAs};
 ghost use Rattle.element.specs.Changed.{with_state, with_place};
-ghost use Rattle.element.specs.Fired.{seat_of, passed_on, left_on, HasRoomInWord};
+ghost use Rattle.element.specs.Fired.{point_of, passed_on, left_on, HasRoomInWord};
 ghost use Rattle.element.specs.declared.lane.Stepped.TheVariants.{Did};
 ghost use Rattle.tags.specs.declared.token.Token.{Token};
 
 use super::Contents;
 use crate::firing::{
-    Asks, Credit, Leaving, Meeting, NONE, Operates, Outcome, Pair, Passed, Releases, Returns,
-    SIGNAL, Seat, Sends, Stores, Switches, Syncs, credit_at_once, fire, frame_request, meet,
+    Asks, Credit, Leaving, Meeting, NONE, Operates, Outcome, Pair, Passed, Point, Releases,
+    Returns, SIGNAL, Sends, Stores, Switches, Syncs, credit_at_once, fire, frame_request, meet,
     pass_one,
 };
 use crate::instructions::{Instruction, Instructions};
@@ -55,13 +55,13 @@ impl<'m, A: Allocator> Contents<'m, A> {
         let Some(input) = token.input() else {
             return false;
         };
-        let seat = Seat {
+        let point = Point {
             frame: input.frame,
             ip: input.ip,
         };
         match input.port {
-            Port::Left => self.acts_left::<C, (Site, OnLeft)>(code, at, token, seat),
-            Port::Right => self.acts_right::<C, (Site, OnRight)>(code, at, token, seat),
+            Port::Left => self.acts_left::<C, (Site, OnLeft)>(code, at, token, point),
+            Port::Right => self.acts_right::<C, (Site, OnRight)>(code, at, token, point),
         }
     }
 
@@ -72,42 +72,42 @@ impl<'m, A: Allocator> Contents<'m, A> {
         code: &C,
         at: usize,
         token: &PackedToken,
-        seat: Seat,
+        point: Point,
     ) -> bool
         requires can { CanAct (C.program code.now) (C.width code.now) (held_in self.old) at token.now }
-        requires address { token.now.to ≡ To.Instr seat.frame seat.ip Left }
+        requires address { token.now.to ≡ To.Instr point.frame point.ip Left }
         ensures did { result ≡ true → (before : List Token) → ActsAs (C.program code.now) (held_in self.old) at token.now before Did (held_in self.new) before }
         ensures not { result ≡ false → held_in self.new ≡ held_in self.old }
     {
-        let Some(instr) = code.instr(seat.ip) else {
+        let Some(instr) = code.instr(point.ip) else {
             return false;
         };
         let port = Port::Left;
         match instr.op {
             Op::Apply2 { .. } => {
-                self.at_pair::<C, Operates, Site>(code, at, token, seat, &instr, port)
+                self.at_pair::<C, Operates, Site>(code, at, token, point, &instr, port)
             }
-            Op::Sync => self.at_pair::<C, Syncs, Site>(code, at, token, seat, &instr, port),
-            Op::Switch => self.at_pair::<C, Switches, Site>(code, at, token, seat, &instr, port),
-            Op::Send { .. } => self.at_pair::<C, Sends, Site>(code, at, token, seat, &instr, port),
+            Op::Sync => self.at_pair::<C, Syncs, Site>(code, at, token, point, &instr, port),
+            Op::Switch => self.at_pair::<C, Switches, Site>(code, at, token, point, &instr, port),
+            Op::Send { .. } => self.at_pair::<C, Sends, Site>(code, at, token, point, &instr, port),
             Op::Return { .. } => {
-                self.at_pair::<C, Returns, Site>(code, at, token, seat, &instr, port)
+                self.at_pair::<C, Returns, Site>(code, at, token, point, &instr, port)
             }
-            Op::Ask { .. } => self.at_pair::<C, Asks, Site>(code, at, token, seat, &instr, port),
+            Op::Ask { .. } => self.at_pair::<C, Asks, Site>(code, at, token, point, &instr, port),
             Op::Store { .. } => {
-                self.at_pair::<C, Stores, Site>(code, at, token, seat, &instr, port)
+                self.at_pair::<C, Stores, Site>(code, at, token, point, &instr, port)
             }
             Op::Release { .. } => {
-                self.at_pair::<C, Releases, Site>(code, at, token, seat, &instr, port)
+                self.at_pair::<C, Releases, Site>(code, at, token, point, &instr, port)
             }
-            Op::Apply1 { .. } => self.at_lone(code, at, token, seat, &instr, port),
-            Op::Apply2Right { .. } => self.at_lone(code, at, token, seat, &instr, port),
-            Op::Apply2Left { .. } => self.at_lone(code, at, token, seat, &instr, port),
-            Op::Lit { .. } => self.at_lone(code, at, token, seat, &instr, port),
-            Op::Copy => self.at_lone(code, at, token, seat, &instr, port),
-            Op::Take { .. } => self.at_credit(code, at, token, seat, &instr, port),
-            Op::Give { .. } => self.at_credit(code, at, token, seat, &instr, port),
-            Op::Frame => self.at_frame(code, at, token, seat, &instr, port),
+            Op::Apply1 { .. } => self.at_lone(code, at, token, point, &instr, port),
+            Op::Apply2Right { .. } => self.at_lone(code, at, token, point, &instr, port),
+            Op::Apply2Left { .. } => self.at_lone(code, at, token, point, &instr, port),
+            Op::Lit { .. } => self.at_lone(code, at, token, point, &instr, port),
+            Op::Copy => self.at_lone(code, at, token, point, &instr, port),
+            Op::Take { .. } => self.at_credit(code, at, token, point, &instr, port),
+            Op::Give { .. } => self.at_credit(code, at, token, point, &instr, port),
+            Op::Frame => self.at_frame(code, at, token, point, &instr, port),
             _ => false,
         }
     }
@@ -118,33 +118,33 @@ impl<'m, A: Allocator> Contents<'m, A> {
         code: &C,
         at: usize,
         token: &PackedToken,
-        seat: Seat,
+        point: Point,
     ) -> bool
         requires can { CanAct (C.program code.now) (C.width code.now) (held_in self.old) at token.now }
-        requires address { token.now.to ≡ To.Instr seat.frame seat.ip Right }
+        requires address { token.now.to ≡ To.Instr point.frame point.ip Right }
         ensures did { result ≡ true → (before : List Token) → ActsAs (C.program code.now) (held_in self.old) at token.now before Did (held_in self.new) before }
         ensures not { result ≡ false → held_in self.new ≡ held_in self.old }
     {
-        let Some(instr) = code.instr(seat.ip) else {
+        let Some(instr) = code.instr(point.ip) else {
             return false;
         };
         let port = Port::Right;
         match instr.op {
             Op::Apply2 { .. } => {
-                self.at_pair::<C, Operates, Site>(code, at, token, seat, &instr, port)
+                self.at_pair::<C, Operates, Site>(code, at, token, point, &instr, port)
             }
-            Op::Sync => self.at_pair::<C, Syncs, Site>(code, at, token, seat, &instr, port),
-            Op::Switch => self.at_pair::<C, Switches, Site>(code, at, token, seat, &instr, port),
-            Op::Send { .. } => self.at_pair::<C, Sends, Site>(code, at, token, seat, &instr, port),
+            Op::Sync => self.at_pair::<C, Syncs, Site>(code, at, token, point, &instr, port),
+            Op::Switch => self.at_pair::<C, Switches, Site>(code, at, token, point, &instr, port),
+            Op::Send { .. } => self.at_pair::<C, Sends, Site>(code, at, token, point, &instr, port),
             Op::Return { .. } => {
-                self.at_pair::<C, Returns, Site>(code, at, token, seat, &instr, port)
+                self.at_pair::<C, Returns, Site>(code, at, token, point, &instr, port)
             }
-            Op::Ask { .. } => self.at_pair::<C, Asks, Site>(code, at, token, seat, &instr, port),
+            Op::Ask { .. } => self.at_pair::<C, Asks, Site>(code, at, token, point, &instr, port),
             Op::Store { .. } => {
-                self.at_pair::<C, Stores, Site>(code, at, token, seat, &instr, port)
+                self.at_pair::<C, Stores, Site>(code, at, token, point, &instr, port)
             }
             Op::Release { .. } => {
-                self.at_pair::<C, Releases, Site>(code, at, token, seat, &instr, port)
+                self.at_pair::<C, Releases, Site>(code, at, token, point, &instr, port)
             }
             _ => false,
         }
@@ -158,26 +158,26 @@ impl<'m, A: Allocator> Contents<'m, A> {
         code: &C,
         at: usize,
         token: &PackedToken,
-        seat: Seat,
+        point: Point,
         instr: &Instruction,
         port: Port,
     ) -> bool
         requires can { CanAct (C.program code.now) (C.width code.now) (held_in self.old) at token.now }
-        requires address { token.now.to ≡ To.Instr seat.frame seat.ip port }
-        requires found { instr_at (C.program code.now) seat.ip ≡ Some (instr_of instr.now) }
-        requires short { IsShort (C.width code.now) seat.ip instr.now }
+        requires address { token.now.to ≡ To.Instr point.frame point.ip port }
+        requires found { instr_at (C.program code.now) point.ip ≡ Some (instr_of instr.now) }
+        requires short { IsShort (C.width code.now) point.ip instr.now }
         requires pair { IsPair instr.now.op }
         ensures did { result ≡ true → (before : List Token) → ActsAs (C.program code.now) (held_in self.old) at token.now before Did (held_in self.new) before }
         ensures not { result ≡ false → held_in self.new ≡ held_in self.old }
     {
-        let place = self.place_of_slot(seat.frame, instr.slot);
+        let place = self.place_of_slot(point.frame, instr.slot);
         let held = self.slot_at(place);
-        match meet(&held, seat, port, token) {
+        match meet(&held, point, port, token) {
             Meeting::Waits { slot } => self.wait(at, place, slot),
             Meeting::Apart => false,
             Meeting::Both { left, right } => match port {
-                Port::Left => self.both::<C, K>(code, at, place, seat, instr, &left, &right),
-                Port::Right => self.both::<C, K>(code, at, place, seat, instr, &left, &right),
+                Port::Left => self.both::<C, K>(code, at, place, point, instr, &left, &right),
+                Port::Right => self.both::<C, K>(code, at, place, point, instr, &left, &right),
             },
         }
     }
@@ -190,14 +190,14 @@ impl<'m, A: Allocator> Contents<'m, A> {
         code: &C,
         at: usize,
         token: &PackedToken,
-        seat: Seat,
+        point: Point,
         instr: &Instruction,
         port: Port,
     ) -> bool
         requires can { CanAct (C.program code.now) (C.width code.now) (held_in self.old) at token.now }
-        requires address { token.now.to ≡ To.Instr seat.frame seat.ip port }
-        requires found { instr_at (C.program code.now) seat.ip ≡ Some (instr_of instr.now) }
-        requires short { IsShort (C.width code.now) seat.ip instr.now }
+        requires address { token.now.to ≡ To.Instr point.frame point.ip port }
+        requires found { instr_at (C.program code.now) point.ip ≡ Some (instr_of instr.now) }
+        requires short { IsShort (C.width code.now) point.ip instr.now }
         requires lone { IsLone instr.now.op }
         ensures did { result ≡ true → (before : List Token) → ActsAs (C.program code.now) (held_in self.old) at token.now before Did (held_in self.new) before }
         ensures not { result ≡ false → held_in self.new ≡ held_in self.old }
@@ -205,7 +205,7 @@ impl<'m, A: Allocator> Contents<'m, A> {
         match pass_one(instr, &token.word()) {
             Some(passed) => match port {
                 Port::Right => false,
-                Port::Left => self.pass(at, seat, None, &passed),
+                Port::Left => self.pass(at, point, None, &passed),
             },
             None => false,
         }
@@ -218,23 +218,23 @@ impl<'m, A: Allocator> Contents<'m, A> {
         code: &C,
         at: usize,
         token: &PackedToken,
-        seat: Seat,
+        point: Point,
         instr: &Instruction,
         port: Port,
     ) -> bool
         requires can { CanAct (C.program code.now) (C.width code.now) (held_in self.old) at token.now }
-        requires address { token.now.to ≡ To.Instr seat.frame seat.ip port }
-        requires found { instr_at (C.program code.now) seat.ip ≡ Some (instr_of instr.now) }
-        requires short { IsShort (C.width code.now) seat.ip instr.now }
+        requires address { token.now.to ≡ To.Instr point.frame point.ip port }
+        requires found { instr_at (C.program code.now) point.ip ≡ Some (instr_of instr.now) }
+        requires short { IsShort (C.width code.now) point.ip instr.now }
         requires credit { IsCredit instr.now.op }
         ensures did { result ≡ true → (before : List Token) → ActsAs (C.program code.now) (held_in self.old) at token.now before Did (held_in self.new) before }
         ensures not { result ≡ false → held_in self.new ≡ held_in self.old }
     {
-        let place = self.place_of_slot(seat.frame, instr.slot);
+        let place = self.place_of_slot(point.frame, instr.slot);
         let held = self.slot_at(place);
         match credit_at_once(instr, &held, &token.word()) {
             Credit::Later => false,
-            Credit::Kept { slot } => match port {
+            Credit::SlotOnly { slot } => match port {
                 Port::Right => false,
                 Port::Left => self.wait(at, place, slot),
             },
@@ -252,21 +252,21 @@ impl<'m, A: Allocator> Contents<'m, A> {
         code: &C,
         at: usize,
         token: &PackedToken,
-        seat: Seat,
+        point: Point,
         instr: &Instruction,
         port: Port,
     ) -> bool
         requires can { CanAct (C.program code.now) (C.width code.now) (held_in self.old) at token.now }
-        requires address { token.now.to ≡ To.Instr seat.frame seat.ip port }
-        requires found { instr_at (C.program code.now) seat.ip ≡ Some (instr_of instr.now) }
-        requires short { IsShort (C.width code.now) seat.ip instr.now }
+        requires address { token.now.to ≡ To.Instr point.frame point.ip port }
+        requires found { instr_at (C.program code.now) point.ip ≡ Some (instr_of instr.now) }
+        requires short { IsShort (C.width code.now) point.ip instr.now }
         requires frame { instr.now.op ≡ Op.Frame }
         ensures did { result ≡ true → (before : List Token) → ActsAs (C.program code.now) (held_in self.old) at token.now before Did (held_in self.new) before }
         ensures not { result ≡ false → held_in self.new ≡ held_in self.old }
     {
         match port {
             Port::Right => false,
-            Port::Left => self.ask(at, PackedToken::pack(frame_request(seat, instr))),
+            Port::Left => self.ask(at, PackedToken::pack(frame_request(point, instr))),
         }
     }
 
@@ -329,27 +329,27 @@ impl<'m, A: Allocator> Contents<'m, A> {
         code: &C,
         at: usize,
         place: usize,
-        seat: Seat,
+        point: Point,
         instr: &Instruction,
         left: &PackedWord,
         right: &PackedWord,
     ) -> bool
         requires some { 0 < self.old.elements }
         requires place { place < length (bank_states self.old.bank) }
-        requires short { IsShort (C.width code.now) seat.ip instr.now }
-        requires own { seat.frame % self.old.elements ≡ self.old.element }
+        requires short { IsShort (C.width code.now) point.ip instr.now }
+        requires own { point.frame % self.old.elements ≡ self.old.element }
         requires there { at < length self.old.queue.items }
         requires few { self.old.made < 2 ^ 63 }
         requires room { HasRoomInWord left.now }
-        ensures did { result ≡ true → (before : List Token) → FiresAs (fire_two (C.program code.now) (seat_of seat) (instr_of instr.now) instr.now.op left.now right.now) (with_state (part_of self.old) place Empty) (held_in self.old) at before Did (held_in self.new) before }
+        ensures did { result ≡ true → (before : List Token) → FiresAs (fire_two (C.program code.now) (point_of point) (instr_of instr.now) instr.now.op left.now right.now) (with_state (part_of self.old) place Empty) (held_in self.old) at before Did (held_in self.new) before }
         ensures not { result ≡ false → held_in self.new ≡ held_in self.old }
     {
         match K::passes(instr, left, right) {
-            Some(passed) => self.pass(at, seat, Some(place), &passed),
-            None => match K::leave(code, seat, instr, left, right) {
-                Some(leaving) => self.pass_out(at, seat, place, leaving),
-                None => match K::release(seat, instr, left, right) {
-                    Some(after) => self.release(at, place, seat.frame, after),
+            Some(passed) => self.pass(at, point, Some(place), &passed),
+            None => match K::leave(code, point, instr, left, right) {
+                Some(leaving) => self.pass_out(at, point, place, leaving),
+                None => match K::release(point, instr, left, right) {
+                    Some(after) => self.release(at, place, point.frame, after),
                     None => false,
                 },
             },
@@ -359,13 +359,13 @@ impl<'m, A: Allocator> Contents<'m, A> {
     // The slot at the place, if there is one, is empty then, the token is taken out, and a word goes to two destinations of
     // its frame; but nothing is done where there is no room for them.
     #[inline(always)]
-    fn pass(&mut self, at: usize, seat: Seat, cleared: Option<usize>, passed: &Passed) -> bool
-        requires near { seat.ip < 2 ^ 30 }
-        requires own { seat.frame % self.old.elements ≡ self.old.element }
+    fn pass(&mut self, at: usize, point: Point, cleared: Option<usize>, passed: &Passed) -> bool
+        requires near { point.ip < 2 ^ 30 }
+        requires own { point.frame % self.old.elements ≡ self.old.element }
         requires place { IfSome cleared (λ place. place < length (bank_states self.old.bank)) }
         requires there { at < length self.old.queue.items }
         requires few { self.old.made < 2 ^ 63 }
-        ensures did { result ≡ true → (before : List Token) → FiresAs (Some (passed_on (seat_of seat) passed.now)) (with_place (part_of self.old) cleared Empty) (held_in self.old) at before Did (held_in self.new) before }
+        ensures did { result ≡ true → (before : List Token) → FiresAs (Some (passed_on (point_of point) passed.now)) (with_place (part_of self.old) cleared Empty) (held_in self.old) at before Did (held_in self.new) before }
         ensures not { result ≡ false → held_in self.new ≡ held_in self.old }
     {
         if !self.queue.has_room(2) {
@@ -375,22 +375,22 @@ impl<'m, A: Allocator> Contents<'m, A> {
         if let Some(place) = cleared {
             self.put_at(place, Slot::empty());
         }
-        self.send_near(seat, &passed.word, passed.first);
-        self.send_near(seat, &passed.word, passed.second);
+        self.send_near(point, &passed.word, passed.first);
+        self.send_near(point, &passed.word, passed.second);
         true
     }
 
     // The slot at the place is empty then, the token is taken out, a token goes into a frame, and signals to two destinations
     // of the own frame; but nothing is done where the token is for another element, or there is no room.
     #[inline(always)]
-    fn pass_out(&mut self, at: usize, seat: Seat, place: usize, leaving: Leaving) -> bool
+    fn pass_out(&mut self, at: usize, point: Point, place: usize, leaving: Leaving) -> bool
         requires some { 0 < self.old.elements }
-        requires near { seat.ip < 2 ^ 30 }
-        requires own { seat.frame % self.old.elements ≡ self.old.element }
+        requires near { point.ip < 2 ^ 30 }
+        requires own { point.frame % self.old.elements ≡ self.old.element }
         requires place { place < length (bank_states self.old.bank) }
         requires there { at < length self.old.queue.items }
         requires few { self.old.made < 2 ^ 63 }
-        ensures did { result ≡ true → (before : List Token) → FiresAs (Some (left_on (seat_of seat) leaving)) (with_state (part_of self.old) place Empty) (held_in self.old) at before Did (held_in self.new) before }
+        ensures did { result ≡ true → (before : List Token) → FiresAs (Some (left_on (point_of point) leaving)) (with_state (part_of self.old) place Empty) (held_in self.old) at before Did (held_in self.new) before }
         ensures not { result ≡ false → held_in self.new ≡ held_in self.old }
     {
         if !self.keeps(&leaving.token) || !self.queue.has_room(3) {
@@ -400,8 +400,8 @@ impl<'m, A: Allocator> Contents<'m, A> {
         self.put_at(place, Slot::empty());
         self.send_here(leaving.token);
         let signal = PackedWord::int(0);
-        self.send_near(seat, &signal, leaving.first);
-        self.send_near(seat, &signal, leaving.second);
+        self.send_near(point, &signal, leaving.first);
+        self.send_near(point, &signal, leaving.second);
         true
     }
 
@@ -433,18 +433,18 @@ impl<'m, A: Allocator> Contents<'m, A> {
         code: &C,
         at: usize,
         token: &Token,
-        seat: Seat,
+        point: Point,
         port: Port,
         sent: &mut Vec<Token, A>,
     ) -> Stepped
         requires can { CanAct (C.program code.now) (C.width code.now) (held_in self.old) at token.now }
-        requires address { token.now.to ≡ To.Instr seat.frame seat.ip port }
+        requires address { token.now.to ≡ To.Instr point.frame point.ip port }
         ensures { ActsAs (C.program code.now) (held_in self.old) at token.now sent.old.items result (held_in self.new) sent.new.items }
     {
-        let Some(instr) = code.instr(seat.ip) else {
+        let Some(instr) = code.instr(point.ip) else {
             return Stepped::Stuck { rule: 1 };
         };
-        self.at_any(code, at, token, seat, instr, port, sent)
+        self.at_any(code, at, token, point, instr, port, sent)
     }
 
     // Any instruction that was read.
@@ -453,28 +453,28 @@ impl<'m, A: Allocator> Contents<'m, A> {
         code: &C,
         at: usize,
         token: &Token,
-        seat: Seat,
+        point: Point,
         instr: Instruction,
         port: Port,
         sent: &mut Vec<Token, A>,
     ) -> Stepped
         requires can { CanAct (C.program code.now) (C.width code.now) (held_in self.old) at token.now }
-        requires address { token.now.to ≡ To.Instr seat.frame seat.ip port }
-        requires found { instr_at (C.program code.now) seat.ip ≡ Some (instr_of instr) }
-        requires short { IsShort (C.width code.now) seat.ip instr }
+        requires address { token.now.to ≡ To.Instr point.frame point.ip port }
+        requires found { instr_at (C.program code.now) point.ip ≡ Some (instr_of instr) }
+        requires short { IsShort (C.width code.now) point.ip instr }
         ensures { ActsAs (C.program code.now) (held_in self.old) at token.now sent.old.items result (held_in self.new) sent.new.items }
     {
-        let slot = self.slot_of(seat.frame, &instr);
+        let slot = self.slot_of(point.frame, &instr);
         let mut made = NONE;
-        match fire(code, seat, &instr, slot, port, token.word, &mut made) {
+        match fire(code, point, &instr, slot, port, token.word, &mut made) {
             Outcome::Excluded { rule } => Stepped::Stuck { rule },
             Outcome::Becomes { slot } => {
                 if self.make_room(4, sent).is_err() {
                     return Stepped::Memory;
                 }
-                self.keep(seat.frame, &instr, slot);
+                self.keep(point.frame, &instr, slot);
                 self.take(at);
-                self.send_all(seat, &made, sent);
+                self.send_all(point, &made, sent);
                 Stepped::Did
             }
         }

@@ -3,7 +3,7 @@
 ghost use Rattle.std.specs.Prelude.{◌≡◌, ◌<◌, ◌^◌, length, List};
 ghost use Rattle.tags.specs.declared.token.Token.{Token};
 ghost use Rattle.tags.specs.declared.token.To.{To};
-ghost use Rattle.element.specs.Held.{held_in, part_of, with_part, IsSoundLane};
+ghost use Rattle.element.specs.Holding.{held_in, part_of, with_part, IsSoundLane};
 ghost use Rattle.semantics.specs.Program.{Program};
 ghost use Rattle.element.specs.Acts.{ActsAs};
 ghost use Rattle.element.specs.Changed.{IsHostChange, CanFill, filled};

@@ -3,7 +3,7 @@
 ghost use Rattle.std.specs.Prelude.{◌≡◌, ◌+◌, ◌%◌, ◌<◌, ◌≤◌, ◌^◌, [], ◌++◌, length, vec_len};
 ghost use Rattle.std.specs.Vec.{vec_capacity};
 ghost use Rattle.tags.specs.declared.token.To.{To};
-ghost use Rattle.element.specs.Held.{held_in, part_of, shape_of, elsewhere, queued, cleared, IsSoundLane};
+ghost use Rattle.element.specs.Holding.{held_in, part_of, shape_of, elsewhere, queued, cleared, IsSoundLane};
 ghost use Rattle.semantics.specs.Machine.{answers};
 ghost use Rattle.element.specs.Parts.{bounds};
 ghost use Rattle.semantics.specs.Program.{Program};

@@ -2,7 +2,7 @@
 
 ghost use Rattle.std.specs.Prelude.{◌≡◌, ◌<◌, ◌^◌, length, IsSome};
 ghost use Rattle.tags.specs.declared.token.To.{To};
-ghost use Rattle.element.specs.Held.{held_in, shape_of, IsSoundLane};
+ghost use Rattle.element.specs.Holding.{held_in, shape_of, IsSoundLane};
 ghost use Rattle.element.specs.Parts.{bounds};
 ghost use Rattle.semantics.specs.Program.{Program};
 ghost use Rattle.element.specs.Near.{IsNearToken};

@@ -2,13 +2,13 @@
 
 ghost use Rattle.std.specs.Prelude.{◌≡◌, ◌+◌, ◌<◌, ◌≤◌, ◌^◌, ◌%◌, [], ◌∷◌, ◌++◌, ◌==◌, true, length, OnOk, vec_len};
 ghost use Rattle.std.specs.Vec.{vec_capacity};
-ghost use Rattle.element.specs.Held.{held_in, shape_of, elsewhere, queued, taken};
+ghost use Rattle.element.specs.Holding.{held_in, shape_of, elsewhere, queued, taken};
 ghost use Rattle.tags.specs.Addresses.{element_of};
-ghost use Rattle.element.specs.Fired.{seat_of, tokens_of, outside_of, to_half};
+ghost use Rattle.element.specs.Fired.{point_of, tokens_of, outside_of, to_half};
 
 use super::Contents;
-use crate::dealt::{element_for, owner_of};
-use crate::firing::{Made, SIGNAL, Seat};
+use crate::bundled::{element_for, owner_of};
+use crate::firing::{Made, Point, SIGNAL};
 use crate::instructions::dest_in;
 use packed::token::PackedToken;
 use packed::word::PackedWord;
@@ -80,13 +80,13 @@ impl<'m, A: Allocator> Contents<'m, A> {
 
     // Sends a word to the destination that a half word tells, if it tells one.
     #[inline(always)]
-    pub(super) fn send_to(&mut self, seat: Seat, word: &Word, half: u32, sent: &mut Vec<Token, A>)
+    pub(super) fn send_to(&mut self, point: Point, word: &Word, half: u32, sent: &mut Vec<Token, A>)
         requires some { 0 < self.old.elements }
-        requires near { seat.ip < 2 ^ 30 }
+        requires near { point.ip < 2 ^ 30 }
         requires room { length self.old.queue.items < self.old.queue.room }
         requires sent_room { vec_len sent.old < vec_capacity sent.old }
-        ensures held { held_in self.new ≡ queued (held_in self.old) (to_half (seat_of seat) word.now half) }
-        ensures sent { sent.new.items ≡ sent.old.items ++ elsewhere (shape_of self.old) (to_half (seat_of seat) word.now half) }
+        ensures held { held_in self.new ≡ queued (held_in self.old) (to_half (point_of point) word.now half) }
+        ensures sent { sent.new.items ≡ sent.old.items ++ elsewhere (shape_of self.old) (to_half (point_of point) word.now half) }
         ensures len { length self.new.queue.items ≤ length self.old.queue.items + 1 }
         ensures capacity { self.new.queue.room ≡ self.old.queue.room }
         ensures sent_len { vec_len sent.new ≤ vec_len sent.old + 1 }
@@ -94,8 +94,8 @@ impl<'m, A: Allocator> Contents<'m, A> {
     {
         if let Some(dest) = dest_in(half) {
             let to = To::Instr {
-                frame: seat.frame,
-                ip: seat.ip + dest.ahead,
+                frame: point.frame,
+                ip: point.ip + dest.ahead,
                 port: dest.port,
             };
             self.send(Token { to, word: *word }, sent);
@@ -104,18 +104,18 @@ impl<'m, A: Allocator> Contents<'m, A> {
 
     // The same, where the frame lies on this element: so does the destination, and no token goes elsewhere.
     #[inline(always)]
-    pub(super) fn send_near(&mut self, seat: Seat, word: &PackedWord, half: u32)
-        requires near { seat.ip < 2 ^ 30 }
-        requires own { seat.frame % self.old.elements ≡ self.old.element }
+    pub(super) fn send_near(&mut self, point: Point, word: &PackedWord, half: u32)
+        requires near { point.ip < 2 ^ 30 }
+        requires own { point.frame % self.old.elements ≡ self.old.element }
         requires room { length self.old.queue.items < self.old.queue.room }
-        ensures held { held_in self.new ≡ queued (held_in self.old) (to_half (seat_of seat) word.now half) }
-        ensures none { elsewhere (shape_of self.old) (to_half (seat_of seat) word.now half) ≡ [] }
+        ensures held { held_in self.new ≡ queued (held_in self.old) (to_half (point_of point) word.now half) }
+        ensures none { elsewhere (shape_of self.old) (to_half (point_of point) word.now half) ≡ [] }
         ensures len { length self.new.queue.items ≤ length self.old.queue.items + 1 }
         ensures capacity { self.new.queue.room ≡ self.old.queue.room }
     {
         if let Some(dest) = dest_in(half) {
-            let ip = seat.ip + dest.ahead;
-            let token = PackedToken::to_instr(seat.frame, ip, dest.port, word);
+            let ip = point.ip + dest.ahead;
+            let token = PackedToken::to_instr(point.frame, ip, dest.port, word);
             self.queue.push_packed(token);
         }
     }
@@ -169,16 +169,16 @@ impl<'m, A: Allocator> Contents<'m, A> {
 
     // Sends what an instruction made, in order.
     #[inline(always)]
-    pub(super) fn send_all(&mut self, seat: Seat, made: &Made, sent: &mut Vec<Token, A>)
+    pub(super) fn send_all(&mut self, point: Point, made: &Made, sent: &mut Vec<Token, A>)
         requires some { 0 < self.old.elements }
-        requires near { seat.ip < 2 ^ 30 }
+        requires near { point.ip < 2 ^ 30 }
         requires room { length self.old.queue.items + 4 ≤ self.old.queue.room }
         requires sent_room { vec_len sent.old + 4 ≤ vec_capacity sent.old }
-        ensures held { held_in self.new ≡ queued (held_in self.old) (tokens_of (seat_of seat) made.now) }
-        ensures sent { sent.new.items ≡ sent.old.items ++ elsewhere (shape_of self.old) (tokens_of (seat_of seat) made.now) }
+        ensures held { held_in self.new ≡ queued (held_in self.old) (tokens_of (point_of point) made.now) }
+        ensures sent { sent.new.items ≡ sent.old.items ++ elsewhere (shape_of self.old) (tokens_of (point_of point) made.now) }
     {
         self.send_outside(made, sent);
-        self.send_to(seat, &made.word, made.first, sent);
-        self.send_to(seat, &made.word, made.second, sent);
+        self.send_to(point, &made.word, made.first, sent);
+        self.send_to(point, &made.word, made.second, sent);
     }
 }

@@ -1,7 +1,7 @@
 //! The slots of the frames that lie on an element.
 
 ghost use Rattle.std.specs.Prelude.{◌≡◌, ◌*◌, ◌<◌, ◌/◌, length, slice_index_or};
-ghost use Rattle.element.specs.Held.{held_in, part_of, shape_of, with_part};
+ghost use Rattle.element.specs.Holding.{held_in, part_of, shape_of, with_part};
 ghost use Rattle.tags.specs.declared.slot.SlotState.TheVariants.{Empty};
 ghost use Rattle.frame_store.specs.BankViews.{bank_states, IsBank};
 ghost use Rattle.element.specs.Parts.{slot_place};
@@ -10,7 +10,7 @@ ghost use Rattle.element.specs.Decoded.{instr_of};
 ghost use Rattle.element.specs.Changed.{with_state, with_state_in, state_in};
 
 use super::Contents;
-use crate::dealt::place_of;
+use crate::bundled::place_of;
 use crate::instructions::Instruction;
 use frame_store::slot::Slot;
 use std::alloc::Allocator;

@@ -4,10 +4,10 @@ ghost use Rattle.std.specs.Prelude.{◌≡◌};
 ghost use Rattle.operators.specs.Values as Values;
 ghost use Rattle.semantics.specs.Rule as Rule;
 ghost use Rattle.element.specs.Decoded.{instr_of, origin_in, IsShort};
-ghost use Rattle.element.specs.Fired.{seat_of, tokens_of, indexed_of, IsWithin};
+ghost use Rattle.element.specs.Fired.{point_of, tokens_of, indexed_of, IsWithin};
 
 use super::continuations::answer_to;
-use super::made::{Made, Seat, one, to_first};
+use super::made::{Made, Point, one, to_first};
 use crate::instructions::{Instruction, Instructions};
 use tags::token::{To, Token, Word};
 use tags::value::{FaultKind, Origin, Value};
@@ -44,14 +44,14 @@ fn index_in(len: u32, index: Value, origin: Origin) -> Indexed
 #[inline(always)]
 pub(super) fn asks_for<C: Instructions>(
     code: &C,
-    seat: Seat,
+    point: Point,
     instr: &Instruction,
     array: u8,
     index: Value,
     made: &mut Made,
 )
-    requires short { IsShort (C.width code.now) seat.ip instr.now }
-    ensures { tokens_of (seat_of seat) made.new ≡ Rule.asks_for (C.program code.now) (seat_of seat) (instr_of instr.now) array (Values.index_in (Rule.array_len (C.program code.now) array) index (origin_in instr.now.origin)) }
+    requires short { IsShort (C.width code.now) point.ip instr.now }
+    ensures { tokens_of (point_of point) made.new ≡ Rule.asks_for (C.program code.now) (point_of point) (instr_of instr.now) array (Values.index_in (Rule.array_len (C.program code.now) array) index (origin_in instr.now.origin)) }
 {
     let cells = code.array(array);
     match index_in(cells.len, index, instr.origin()) {
@@ -60,11 +60,11 @@ pub(super) fn asks_for<C: Instructions>(
                 to: To::Fetch {
                     cell: cells.base + place,
                 },
-                word: Word::Back(answer_to(seat, instr)),
+                word: Word::Back(answer_to(point, instr)),
             },
             made,
         ),
-        Indexed::Outside(fault) => to_first(seat, Word::Val(fault), instr, made),
+        Indexed::Outside(fault) => to_first(point, Word::Val(fault), instr, made),
     }
 }
 
@@ -72,15 +72,15 @@ pub(super) fn asks_for<C: Instructions>(
 #[inline(always)]
 pub(super) fn puts<C: Instructions>(
     code: &C,
-    seat: Seat,
+    point: Point,
     instr: &Instruction,
     array: u8,
     index: Value,
     value: Value,
     made: &mut Made,
 )
-    requires short { IsShort (C.width code.now) seat.ip instr.now }
-    ensures { tokens_of (seat_of seat) made.new ≡ Rule.puts (C.program code.now) (seat_of seat) (instr_of instr.now) array value (Values.index_in (Rule.array_len (C.program code.now) array) index (origin_in instr.now.origin)) }
+    requires short { IsShort (C.width code.now) point.ip instr.now }
+    ensures { tokens_of (point_of point) made.new ≡ Rule.puts (C.program code.now) (point_of point) (instr_of instr.now) array value (Values.index_in (Rule.array_len (C.program code.now) array) index (origin_in instr.now.origin)) }
 {
     let cells = code.array(array);
     match index_in(cells.len, index, instr.origin()) {
@@ -90,10 +90,10 @@ pub(super) fn puts<C: Instructions>(
                     cell: cells.base + place,
                     value,
                 },
-                word: Word::Back(answer_to(seat, instr)),
+                word: Word::Back(answer_to(point, instr)),
             },
             made,
         ),
-        Indexed::Outside(fault) => to_first(seat, Word::Val(fault), instr, made),
+        Indexed::Outside(fault) => to_first(point, Word::Val(fault), instr, made),
     }
 }

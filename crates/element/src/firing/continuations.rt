@@ -3,13 +3,13 @@
 ghost use Rattle.std.specs.Prelude.{◌≡◌, ◌<◌, ◌^◌, IfSome};
 ghost use Rattle.semantics.specs.Rule as Rule;
 ghost use Rattle.element.specs.Decoded.{instr_of, dest_in};
-ghost use Rattle.element.specs.Fired.{seat_of, HasRoom};
+ghost use Rattle.element.specs.Fired.{point_of, HasRoom};
 
-use super::made::Seat;
+use super::made::Point;
 use crate::instructions::{Instruction, dest_in};
 use tags::token::{Cont, Port, To, Token, Word};
 
-/// The address that lies so far behind a continuation.
+/// The address that lies so far after a continuation.
 #[inline(always)]
 pub(super) fn beyond(cont: Cont, offset: u8) -> To
     requires { HasRoom cont }
@@ -48,20 +48,20 @@ pub fn answer(cont: Cont, word: Word) -> Token
 
 /// Where an answer comes.
 #[inline(always)]
-pub(super) fn answer_to(seat: Seat, instr: &Instruction) -> Cont
-    requires near { seat.ip < 2 ^ 30 }
+pub(super) fn answer_to(point: Point, instr: &Instruction) -> Cont
+    requires near { point.ip < 2 ^ 30 }
     requires short { IfSome (dest_in instr.now.first) (λ d. d.ahead < 2 ^ 30) }
-    ensures { result ≡ Rule.answer_to (seat_of seat) (instr_of instr.now).firsts }
+    ensures { result ≡ Rule.answer_to (point_of point) (instr_of instr.now).firsts }
 {
     match dest_in(instr.first) {
         Some(dest) => Cont::Frame {
-            frame: seat.frame,
-            ip: seat.ip + dest.ahead,
+            frame: point.frame,
+            ip: point.ip + dest.ahead,
             port: dest.port,
         },
         None => Cont::Frame {
-            frame: seat.frame,
-            ip: seat.ip,
+            frame: point.frame,
+            ip: point.ip,
             port: Port::Left,
         },
     }
@@ -69,17 +69,17 @@ pub(super) fn answer_to(seat: Seat, instr: &Instruction) -> Cont
 
 /// Where a link's landing begins.
 #[inline(always)]
-pub(super) fn landing_at(seat: Seat, instr: &Instruction) -> Cont
-    requires near { seat.ip < 2 ^ 30 }
+pub(super) fn landing_at(point: Point, instr: &Instruction) -> Cont
+    requires near { point.ip < 2 ^ 30 }
     requires short { IfSome (dest_in instr.now.first) (λ d. d.ahead < 2 ^ 30) }
-    ensures { result ≡ Rule.landing_at (seat_of seat) (instr_of instr.now).firsts }
+    ensures { result ≡ Rule.landing_at (point_of point) (instr_of instr.now).firsts }
 {
     let ip = match dest_in(instr.first) {
-        Some(dest) => seat.ip + dest.ahead,
-        None => seat.ip,
+        Some(dest) => point.ip + dest.ahead,
+        None => point.ip,
     };
     Cont::Frame {
-        frame: seat.frame,
+        frame: point.frame,
         ip,
         port: Port::Left,
     }

@@ -5,11 +5,11 @@ ghost use Rattle.tags.specs.declared.token.Port.TheVariants.{Left};
 ghost use Rattle.semantics.specs.Program.{Program, Instr};
 ghost use Rattle.semantics.specs.Rule as Rule;
 ghost use Rattle.element.specs.Decoded.{instr_of};
-ghost use Rattle.element.specs.Fired.{seat_of, tokens_of, outcome_by};
+ghost use Rattle.element.specs.Fired.{point_of, tokens_of, outcome_by};
 ghost use Rattle.element.specs.Outcomes.{CreditIs};
 
 use super::continuations::answer;
-use super::made::{Made, SIGNAL, Seat};
+use super::made::{Made, Point, SIGNAL};
 use super::outcomes::{Outcome, becomes, becomes_signalled, becomes_with, excluded};
 use crate::instructions::Instruction;
 use frame_store::slot::Slot;
@@ -23,7 +23,7 @@ use tags::token::Word;
 #[derive(Clone, Copy)]
 pub enum Credit {
     /// The slot is this one then, and nothing is made.
-    Kept { slot: Slot },
+    SlotOnly { slot: Slot },
     /// The slot is this one then, and a token is made.
     Answered { slot: Slot, token: PackedToken },
     /// Nothing comes of it at once.
@@ -46,7 +46,7 @@ fn taken(slot: SlotState, word: Word) -> Credit
     ensures { CreditIs (Rule.takes slot word) result }
 {
     match (slot, word) {
-        (SlotState::Credits(0), Word::Back(cont)) => Credit::Kept {
+        (SlotState::Credits(0), Word::Back(cont)) => Credit::SlotOnly {
             slot: holding(SlotState::Waiter(cont)),
         },
         (SlotState::Credits(credits), Word::Back(cont)) => Credit::Answered {
@@ -60,12 +60,12 @@ fn taken(slot: SlotState, word: Word) -> Credit
 // A credit comes back while the loop goes on.
 #[inline(always)]
 fn given(slot: SlotState, bound: u8) -> Credit
-    ensures { (s : Rule.Seat) (i : Instr) → CreditIs (Rule.gives s i bound slot) result }
+    ensures { (s : Rule.Point) (i : Instr) → CreditIs (Rule.gives s i bound slot) result }
 {
     match slot {
         SlotState::Credits(credits) => {
             if credits < u32::from(bound) {
-                Credit::Kept {
+                Credit::SlotOnly {
                     slot: holding(SlotState::Credits(credits + 1)),
                 }
             } else {
@@ -83,7 +83,7 @@ fn given(slot: SlotState, bound: u8) -> Credit
 /// What comes at once of a left token at an instruction that takes or gives a credit.
 #[inline(always)]
 pub fn credit_at_once(instr: &Instruction, held: &Slot, word: &PackedWord) -> Credit
-    ensures { (p : Program) (s : Rule.Seat) → CreditIs (Rule.outcome_of p s (instr_of instr.now) instr.now.op held.now Left word.now) result }
+    ensures { (p : Program) (s : Rule.Point) → CreditIs (Rule.outcome_of p s (instr_of instr.now) instr.now.op held.now Left word.now) result }
 {
     match instr.op {
         Op::Take { .. } => taken(held.state(), word.unpack()),
@@ -94,18 +94,18 @@ pub fn credit_at_once(instr: &Instruction, held: &Slot, word: &PackedWord) -> Cr
 
 // The first credits of a loop, but for the one that begins it.
 pub(super) fn opens(
-    seat: Seat,
+    point: Point,
     instr: &Instruction,
     bound: u8,
     slot: SlotState,
     made: &mut Made,
 ) -> Outcome
-    ensures { outcome_by result (tokens_of (seat_of seat) made.new) ≡ Rule.opens (seat_of seat) (instr_of instr.now) bound slot }
+    ensures { outcome_by result (tokens_of (point_of point) made.new) ≡ Rule.opens (point_of point) (instr_of instr.now) bound slot }
 {
     match slot {
         SlotState::Empty => {
             let credits = u32::from(bound).saturating_sub(1);
-            becomes_signalled(SlotState::Credits(credits), seat, instr, made)
+            becomes_signalled(SlotState::Credits(credits), point, instr, made)
         }
         _ => excluded(3),
     }
@@ -113,7 +113,7 @@ pub(super) fn opens(
 
 // A credit is taken, or whoever asks for it waits.
 pub(super) fn takes(slot: SlotState, word: Word, made: &mut Made) -> Outcome
-    ensures { (s : Rule.Seat) → outcome_by result (tokens_of s made.new) ≡ Rule.takes slot word }
+    ensures { (s : Rule.Point) → outcome_by result (tokens_of s made.new) ≡ Rule.takes slot word }
 {
     match (slot, word) {
         (SlotState::Credits(0), Word::Back(cont)) => becomes(SlotState::Waiter(cont), made),
@@ -127,13 +127,13 @@ pub(super) fn takes(slot: SlotState, word: Word, made: &mut Made) -> Outcome
 
 // A credit comes back.
 pub(super) fn gives(
-    seat: Seat,
+    point: Point,
     instr: &Instruction,
     bound: u8,
     slot: SlotState,
     made: &mut Made,
 ) -> Outcome
-    ensures { outcome_by result (tokens_of (seat_of seat) made.new) ≡ Rule.gives (seat_of seat) (instr_of instr.now) bound slot }
+    ensures { outcome_by result (tokens_of (point_of point) made.new) ≡ Rule.gives (point_of point) (instr_of instr.now) bound slot }
 {
     match slot {
         SlotState::Credits(credits) => {
@@ -145,7 +145,7 @@ pub(super) fn gives(
         }
         SlotState::Waiter(cont) => becomes_with(SlotState::Credits(0), answer(cont, SIGNAL), made),
         SlotState::Draining(0) => excluded(3),
-        SlotState::Draining(1) => becomes_signalled(SlotState::Empty, seat, instr, made),
+        SlotState::Draining(1) => becomes_signalled(SlotState::Empty, point, instr, made),
         SlotState::Draining(owed) => becomes(SlotState::Draining(owed - 1), made),
         _ => excluded(3),
     }
@@ -153,19 +153,19 @@ pub(super) fn gives(
 
 // The loop has ended: the credits that are still out are waited for.
 pub(super) fn drains(
-    seat: Seat,
+    point: Point,
     instr: &Instruction,
     bound: u8,
     slot: SlotState,
     made: &mut Made,
 ) -> Outcome
-    ensures { outcome_by result (tokens_of (seat_of seat) made.new) ≡ Rule.drains (seat_of seat) (instr_of instr.now) bound slot }
+    ensures { outcome_by result (tokens_of (point_of point) made.new) ≡ Rule.drains (point_of point) (instr_of instr.now) bound slot }
 {
     let bound = u32::from(bound);
     match slot {
         SlotState::Credits(credits) => {
             if credits == bound {
-                becomes_signalled(SlotState::Empty, seat, instr, made)
+                becomes_signalled(SlotState::Empty, point, instr, made)
             } else if credits < bound {
                 becomes(SlotState::Draining(bound - credits), made)
             } else {

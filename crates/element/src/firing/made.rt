@@ -3,7 +3,7 @@
 ghost use Rattle.std.specs.Prelude.{◌≡◌, ◌++◌, ◌∷◌, [], option_to_list, take};
 ghost use Rattle.semantics.specs.Rule as Rule;
 ghost use Rattle.element.specs.Decoded.{instr_of};
-ghost use Rattle.element.specs.Fired.{seat_of, tokens_of};
+ghost use Rattle.element.specs.Fired.{point_of, tokens_of};
 
 use crate::instructions::Instruction;
 use tags::token::{FrameId, Token, Word};
@@ -11,7 +11,7 @@ use tags::value::Value;
 
 /// Where an instruction stands: its frame, and its number.
 #[derive(Clone, Copy, Debug, PartialEq, Eq)]
-pub struct Seat {
+pub struct Point {
     pub frame: FrameId,
     pub ip: u32,
 }
@@ -41,7 +41,7 @@ pub const NONE: Made = Made {
 
 #[inline(always)]
 pub(super) fn one(token: Token, made: &mut Made)
-    ensures { (s : Rule.Seat) → tokens_of s made.new ≡ token ∷ [] }
+    ensures { (s : Rule.Point) → tokens_of s made.new ≡ token ∷ [] }
 {
     made.released = None;
     made.outside = Some(token);
@@ -51,7 +51,7 @@ pub(super) fn one(token: Token, made: &mut Made)
 
 #[inline(always)]
 pub(super) fn nothing(made: &mut Made)
-    ensures { (s : Rule.Seat) → tokens_of s made.new ≡ [] }
+    ensures { (s : Rule.Point) → tokens_of s made.new ≡ [] }
 {
     made.released = None;
     made.outside = None;
@@ -61,8 +61,14 @@ pub(super) fn nothing(made: &mut Made)
 
 // One token or none, and then a word to each destination.
 #[inline(always)]
-fn before_all(outside: Option<Token>, seat: Seat, word: Word, instr: &Instruction, made: &mut Made)
-    ensures { tokens_of (seat_of seat) made.new ≡ option_to_list outside ++ Rule.to_all (seat_of seat) word (instr_of instr.now) }
+fn before_all(
+    outside: Option<Token>,
+    point: Point,
+    word: Word,
+    instr: &Instruction,
+    made: &mut Made,
+)
+    ensures { tokens_of (point_of point) made.new ≡ option_to_list outside ++ Rule.to_all (point_of point) word (instr_of instr.now) }
 {
     made.released = None;
     made.outside = outside;
@@ -72,15 +78,15 @@ fn before_all(outside: Option<Token>, seat: Seat, word: Word, instr: &Instructio
 }
 
 #[inline(always)]
-pub(super) fn to_all(seat: Seat, word: Word, instr: &Instruction, made: &mut Made)
-    ensures { tokens_of (seat_of seat) made.new ≡ Rule.to_all (seat_of seat) word (instr_of instr.now) }
+pub(super) fn to_all(point: Point, word: Word, instr: &Instruction, made: &mut Made)
+    ensures { tokens_of (point_of point) made.new ≡ Rule.to_all (point_of point) word (instr_of instr.now) }
 {
-    before_all(None, seat, word, instr, made);
+    before_all(None, point, word, instr, made);
 }
 
 #[inline(always)]
-pub(super) fn to_first(seat: Seat, word: Word, instr: &Instruction, made: &mut Made)
-    ensures { tokens_of (seat_of seat) made.new ≡ Rule.to_each (seat_of seat) word (take 1 (instr_of instr.now).firsts) }
+pub(super) fn to_first(point: Point, word: Word, instr: &Instruction, made: &mut Made)
+    ensures { tokens_of (point_of point) made.new ≡ Rule.to_each (point_of point) word (take 1 (instr_of instr.now).firsts) }
 {
     made.released = None;
     made.outside = None;
@@ -92,12 +98,12 @@ pub(super) fn to_first(seat: Seat, word: Word, instr: &Instruction, made: &mut M
 #[inline(always)]
 pub(super) fn to_second(
     outside: Token,
-    seat: Seat,
+    point: Point,
     word: Word,
     instr: &Instruction,
     made: &mut Made,
 )
-    ensures { tokens_of (seat_of seat) made.new ≡ outside ∷ Rule.to_each (seat_of seat) word (instr_of instr.now).seconds }
+    ensures { tokens_of (point_of point) made.new ≡ outside ∷ Rule.to_each (point_of point) word (instr_of instr.now).seconds }
 {
     made.released = None;
     made.outside = Some(outside);
@@ -108,8 +114,8 @@ pub(super) fn to_second(
 
 // A token, and then a signal to each destination.
 #[inline(always)]
-pub(super) fn and_signals(token: Token, seat: Seat, instr: &Instruction, made: &mut Made)
-    ensures { tokens_of (seat_of seat) made.new ≡ token ∷ Rule.to_all (seat_of seat) Rule.signal (instr_of instr.now) }
+pub(super) fn and_signals(token: Token, point: Point, instr: &Instruction, made: &mut Made)
+    ensures { tokens_of (point_of point) made.new ≡ token ∷ Rule.to_all (point_of point) Rule.signal (instr_of instr.now) }
 {
-    before_all(Some(token), seat, SIGNAL, instr, made);
+    before_all(Some(token), point, SIGNAL, instr, made);
 }

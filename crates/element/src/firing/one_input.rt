@@ -6,11 +6,11 @@ ghost use Rattle.tags.specs.declared.token.Word.{Word};
 ghost use Rattle.tags.specs.declared.token.To.{To};
 ghost use Rattle.semantics.specs.Rule as Rule;
 ghost use Rattle.element.specs.Decoded.{instr_of, dest_in, IsShort};
-ghost use Rattle.element.specs.Fired.{seat_of, tokens_of, fired_by};
+ghost use Rattle.element.specs.Fired.{point_of, tokens_of, fired_by};
 
 use super::arrays::asks_for;
 use super::continuations::{answer_to, landing_at};
-use super::made::{Made, SIGNAL, Seat, one, to_all, to_second};
+use super::made::{Made, Point, SIGNAL, one, to_all, to_second};
 use crate::instructions::{Instruction, Instructions};
 use operators::{apply1, apply2_at};
 use semantics::program::Op;
@@ -21,13 +21,13 @@ use tags::value::Value;
 #[inline(always)]
 pub(super) fn fire_one<C: Instructions>(
     code: &C,
-    seat: Seat,
+    point: Point,
     instr: &Instruction,
     word: Word,
     made: &mut Made,
 ) -> bool
-    requires short { IsShort (C.width code.now) seat.ip instr.now }
-    ensures { fired_by result (tokens_of (seat_of seat) made.new) ≡ Rule.fire_one (C.program code.now) (seat_of seat) (instr_of instr.now) instr.now.op word }
+    requires short { IsShort (C.width code.now) point.ip instr.now }
+    ensures { fired_by result (tokens_of (point_of point) made.new) ≡ Rule.fire_one (C.program code.now) (point_of point) (instr_of instr.now) instr.now.op word }
 {
     let value = match (instr.op, word) {
         (Op::Apply1 { op }, Word::Val(value)) => apply1(op, value),
@@ -39,46 +39,46 @@ pub(super) fn fire_one<C: Instructions>(
         }
         (Op::Lit { literal }, _) => Value::Int(literal),
         (Op::Copy, _) => {
-            to_all(seat, word, instr, made);
+            to_all(point, word, instr, made);
             return true;
         }
         (Op::Fetch { array }, Word::Val(index)) => {
-            asks_for(code, seat, instr, array, index, made);
+            asks_for(code, point, instr, array, index, made);
             return true;
         }
         (Op::Frame, _) => {
-            one(frame_request(seat, instr), made);
+            one(frame_request(point, instr), made);
             return true;
         }
         (Op::Link { block }, Word::Frame(frame)) => {
-            link(code.entry(block), frame, seat, instr, made);
+            link(code.entry(block), frame, point, instr, made);
             return true;
         }
         _ => return false,
     };
-    to_all(seat, Word::Val(value), instr, made);
+    to_all(point, Word::Val(value), instr, made);
     true
 }
 
 /// The request for a frame.
 #[inline(always)]
-pub fn frame_request(seat: Seat, instr: &Instruction) -> Token
-    requires near { seat.ip < 2 ^ 30 }
+pub fn frame_request(point: Point, instr: &Instruction) -> Token
+    requires near { point.ip < 2 ^ 30 }
     requires short { IfSome (dest_in instr.now.first) (λ d. d.ahead < 2 ^ 30) }
-    ensures { result ≡ Rule.token To.Manager (Word.Back (Rule.answer_to (seat_of seat) (instr_of instr.now).firsts)) }
+    ensures { result ≡ Rule.token To.Manager (Word.Back (Rule.answer_to (point_of point) (instr_of instr.now).firsts)) }
 {
     Token {
         to: To::Manager,
-        word: Word::Back(answer_to(seat, instr)),
+        word: Word::Back(answer_to(point, instr)),
     }
 }
 
 // The continuation goes to the first instruction of a block in the frame.
 #[inline(always)]
-fn link(first: u32, frame: FrameId, seat: Seat, instr: &Instruction, made: &mut Made)
-    requires near { seat.ip < 2 ^ 30 }
+fn link(first: u32, frame: FrameId, point: Point, instr: &Instruction, made: &mut Made)
+    requires near { point.ip < 2 ^ 30 }
     requires short { IfSome (dest_in instr.now.first) (λ d. d.ahead < 2 ^ 30) }
-    ensures { tokens_of (seat_of seat) made.new ≡ Rule.token (To.Instr frame first Left) (Word.Back (Rule.landing_at (seat_of seat) (instr_of instr.now).firsts)) ∷ Rule.to_each (seat_of seat) Rule.signal (instr_of instr.now).seconds }
+    ensures { tokens_of (point_of point) made.new ≡ Rule.token (To.Instr frame first Left) (Word.Back (Rule.landing_at (point_of point) (instr_of instr.now).firsts)) ∷ Rule.to_each (point_of point) Rule.signal (instr_of instr.now).seconds }
 {
     let token = Token {
         to: To::Instr {
@@ -86,7 +86,7 @@ fn link(first: u32, frame: FrameId, seat: Seat, instr: &Instruction, made: &mut 
             ip: first,
             port: Port::Left,
         },
-        word: Word::Back(landing_at(seat, instr)),
+        word: Word::Back(landing_at(point, instr)),
     };
-    to_second(token, seat, SIGNAL, instr, made);
+    to_second(token, point, SIGNAL, instr, made);
 }

@@ -4,9 +4,9 @@ ghost use Rattle.std.specs.Prelude.{◌≡◌, ◌∷◌, [], List};
 ghost use Rattle.semantics.specs.Rule as Rule;
 ghost use Rattle.tags.specs.declared.token.Token.{Token};
 ghost use Rattle.element.specs.Decoded.{instr_of};
-ghost use Rattle.element.specs.Fired.{seat_of, tokens_of, fired_by, outcome_by};
+ghost use Rattle.element.specs.Fired.{point_of, tokens_of, fired_by, outcome_by};
 
-use super::made::{Made, SIGNAL, Seat, nothing, one, to_all};
+use super::made::{Made, Point, SIGNAL, nothing, one, to_all};
 use crate::instructions::Instruction;
 use tags::slot::SlotState;
 use tags::token::Token;
@@ -33,7 +33,7 @@ pub(super) fn fires(slot: SlotState, fired: bool) -> Outcome
 
 // The slot changes, and nothing is made.
 pub(super) fn becomes(slot: SlotState, made: &mut Made) -> Outcome
-    ensures { (s : Rule.Seat) → outcome_by result (tokens_of s made.new) ≡ Rule.Becomes slot [] }
+    ensures { (s : Rule.Point) → outcome_by result (tokens_of s made.new) ≡ Rule.Becomes slot [] }
 {
     nothing(made);
     Outcome::Becomes { slot }
@@ -41,7 +41,7 @@ pub(super) fn becomes(slot: SlotState, made: &mut Made) -> Outcome
 
 // The slot changes, and one token is made.
 pub(super) fn becomes_with(slot: SlotState, token: Token, made: &mut Made) -> Outcome
-    ensures { (s : Rule.Seat) → outcome_by result (tokens_of s made.new) ≡ Rule.Becomes slot (token ∷ []) }
+    ensures { (s : Rule.Point) → outcome_by result (tokens_of s made.new) ≡ Rule.Becomes slot (token ∷ []) }
 {
     one(token, made);
     Outcome::Becomes { slot }
@@ -50,13 +50,13 @@ pub(super) fn becomes_with(slot: SlotState, token: Token, made: &mut Made) -> Ou
 // The slot changes, and a signal goes to each destination.
 pub(super) fn becomes_signalled(
     slot: SlotState,
-    seat: Seat,
+    point: Point,
     instr: &Instruction,
     made: &mut Made,
 ) -> Outcome
-    ensures { outcome_by result (tokens_of (seat_of seat) made.new) ≡ Rule.Becomes slot (Rule.to_all (seat_of seat) Rule.signal (instr_of instr.now)) }
+    ensures { outcome_by result (tokens_of (point_of point) made.new) ≡ Rule.Becomes slot (Rule.to_all (point_of point) Rule.signal (instr_of instr.now)) }
 {
-    to_all(seat, SIGNAL, instr, made);
+    to_all(point, SIGNAL, instr, made);
     Outcome::Becomes { slot }
 }
 

@@ -5,11 +5,11 @@ ghost use Rattle.tags.specs.declared.token.To.{To};
 ghost use Rattle.semantics.specs.Program.{Program};
 ghost use Rattle.semantics.specs.Rule as Rule;
 ghost use Rattle.element.specs.Decoded.{instr_of, IsShort};
-ghost use Rattle.element.specs.Fired.{seat_of, passed_on, left_on, HasRoomInWord};
+ghost use Rattle.element.specs.Fired.{point_of, passed_on, left_on, HasRoomInWord};
 
 use super::continuations::answer_to;
 use super::leaving::Leaving;
-use super::made::Seat;
+use super::made::Point;
 use super::passing::{Passed, to_both};
 use super::two_inputs::entry_at;
 use crate::instructions::{Instruction, Instructions};
@@ -24,30 +24,30 @@ use tags::value::Value;
 pub trait Pair {
     /// A word that it passes on to its own destinations.
     fn passes(instr: &Instruction, left: &PackedWord, right: &PackedWord) -> Option<Passed>
-        ensures { IfSome result (λ x. (p : Program) (s : Rule.Seat) → Rule.fire_two p s (instr_of instr.now) instr.now.op left.now right.now ≡ Some (passed_on s x)) };
+        ensures { IfSome result (λ x. (p : Program) (s : Rule.Point) → Rule.fire_two p s (instr_of instr.now) instr.now.op left.now right.now ≡ Some (passed_on s x)) };
 
     /// A token that it sends into a frame, and signals.
     fn leave<C: Instructions>(
         code: &C,
-        seat: Seat,
+        point: Point,
         instr: &Instruction,
         left: &PackedWord,
         right: &PackedWord,
     ) -> Option<Leaving>
-        requires short { IsShort (C.width code.now) seat.ip instr.now }
+        requires short { IsShort (C.width code.now) point.ip instr.now }
         requires room { HasRoomInWord left.now }
-        ensures { IfSome result (λ x. Rule.fire_two (C.program code.now) (seat_of seat) (instr_of instr.now) instr.now.op left.now right.now ≡ Some (left_on (seat_of seat) x)) };
+        ensures { IfSome result (λ x. Rule.fire_two (C.program code.now) (point_of point) (instr_of instr.now) instr.now.op left.now right.now ≡ Some (left_on (point_of point) x)) };
 
     /// The token that it sends after the one that releases its frame.
     #[inline(always)]
     fn release(
-        seat: Seat,
+        point: Point,
         instr: &Instruction,
         left: &PackedWord,
         right: &PackedWord,
     ) -> Option<PackedToken>
         requires room { HasRoomInWord left.now }
-        ensures { IfSome result (λ t. (p : Program) → Rule.fire_two p (seat_of seat) (instr_of instr.now) instr.now.op left.now right.now ≡ Some (Rule.token (To.Release seat.frame) Rule.signal ∷ t ∷ [])) }
+        ensures { IfSome result (λ t. (p : Program) → Rule.fire_two p (point_of point) (instr_of instr.now) instr.now.op left.now right.now ≡ Some (Rule.token (To.Release point.frame) Rule.signal ∷ t ∷ [])) }
     {
         None
     }
@@ -71,7 +71,7 @@ impl Pair for Operates {
     #[inline(always)]
     fn leave<C: Instructions>(
         _code: &C,
-        _seat: Seat,
+        _point: Point,
         _instr: &Instruction,
         _left: &PackedWord,
         _right: &PackedWord,
@@ -95,7 +95,7 @@ impl Pair for Syncs {
     #[inline(always)]
     fn leave<C: Instructions>(
         _code: &C,
-        _seat: Seat,
+        _point: Point,
         _instr: &Instruction,
         _left: &PackedWord,
         _right: &PackedWord,
@@ -130,7 +130,7 @@ impl Pair for Switches {
     #[inline(always)]
     fn leave<C: Instructions>(
         _code: &C,
-        _seat: Seat,
+        _point: Point,
         _instr: &Instruction,
         _left: &PackedWord,
         _right: &PackedWord,
@@ -151,7 +151,7 @@ impl Pair for Sends {
     #[inline(always)]
     fn leave<C: Instructions>(
         code: &C,
-        _seat: Seat,
+        _point: Point,
         instr: &Instruction,
         left: &PackedWord,
         right: &PackedWord,
@@ -183,7 +183,7 @@ impl Pair for Returns {
     #[inline(always)]
     fn leave<C: Instructions>(
         _code: &C,
-        _seat: Seat,
+        _point: Point,
         instr: &Instruction,
         left: &PackedWord,
         right: &PackedWord,
@@ -202,7 +202,7 @@ impl Pair for Returns {
     }
 }
 
-// The instruction that lies so far behind.
+// The instruction that lies so far after.
 #[inline(always)]
 fn further(ip: u32, offset: u8) -> u32
     requires { ip < 2 ^ 31 }
@@ -223,7 +223,7 @@ impl Pair for Asks {
     #[inline(always)]
     fn leave<C: Instructions>(
         _code: &C,
-        seat: Seat,
+        point: Point,
         instr: &Instruction,
         left: &PackedWord,
         _right: &PackedWord,
@@ -234,7 +234,7 @@ impl Pair for Asks {
         match left.unpack() {
             Word::Back(Cont::Frame { frame, ip, .. }) => {
                 let ip = further(ip, offset);
-                let answer = PackedWord::pack(Word::Back(answer_to(seat, instr)));
+                let answer = PackedWord::pack(Word::Back(answer_to(point, instr)));
                 let token = PackedToken::to_instr(frame, ip, Port::Left, &answer);
                 Some(Leaving {
                     token,
@@ -259,7 +259,7 @@ impl Pair for Stores {
     #[inline(always)]
     fn leave<C: Instructions>(
         _code: &C,
-        _seat: Seat,
+        _point: Point,
         _instr: &Instruction,
         _left: &PackedWord,
         _right: &PackedWord,
@@ -280,7 +280,7 @@ impl Pair for Releases {
     #[inline(always)]
     fn leave<C: Instructions>(
         _code: &C,
-        _seat: Seat,
+        _point: Point,
         _instr: &Instruction,
         _left: &PackedWord,
         _right: &PackedWord,
@@ -290,7 +290,7 @@ impl Pair for Releases {
 
     #[inline(always)]
     fn release(
-        _seat: Seat,
+        _point: Point,
         instr: &Instruction,
         left: &PackedWord,
         _right: &PackedWord,

@@ -25,7 +25,7 @@ pub struct Passed {
 /// the word is an integer.
 #[inline(always)]
 pub fn pass_one(instr: &Instruction, word: &PackedWord) -> Option<Passed>
-    ensures { IfSome result (λ x. (p : Program) (s : Rule.Seat) → Rule.fire_one p s (instr_of instr.now) instr.now.op word.now ≡ Some (passed_on s x)) }
+    ensures { IfSome result (λ x. (p : Program) (s : Rule.Point) → Rule.fire_one p s (instr_of instr.now) instr.now.op word.now ≡ Some (passed_on s x)) }
 {
     match (instr.op, word.as_int()) {
         (Op::Apply1 { op }, Some(number)) => {
@@ -49,7 +49,7 @@ pub fn pass_one(instr: &Instruction, word: &PackedWord) -> Option<Passed>
 /// A word to both destinations.
 #[inline(always)]
 pub(super) fn to_both(instr: &Instruction, word: PackedWord) -> Passed
-    ensures { (s : Rule.Seat) → passed_on s result ≡ Rule.to_all s word (instr_of instr.now) }
+    ensures { (s : Rule.Point) → passed_on s result ≡ Rule.to_all s word (instr_of instr.now) }
 {
     Passed {
         word,

@@ -5,13 +5,13 @@ ghost use Rattle.tags.specs.declared.token.Port.TheVariants.{Left};
 ghost use Rattle.tags.specs.declared.token.To.{To};
 ghost use Rattle.semantics.specs.Rule as Rule;
 ghost use Rattle.element.specs.Decoded.{instr_of, IsShort};
-ghost use Rattle.element.specs.Fired.{seat_of, tokens_of, fired_by, outcome_by, HasRoomInWord, HasRoomInSlot};
+ghost use Rattle.element.specs.Fired.{point_of, tokens_of, fired_by, outcome_by, HasRoomInWord, HasRoomInSlot};
 ghost use Rattle.semantics.specs.Program.{Program, Instr};
 ghost use Rattle.element.specs.Outcomes.{MeetingIs, LeftHasRoom};
 
 use super::arrays::puts;
 use super::continuations::{answer_to, beyond};
-use super::made::{Made, SIGNAL, Seat, and_signals, one, to_all};
+use super::made::{Made, Point, SIGNAL, and_signals, one, to_all};
 use super::outcomes::{Outcome, becomes, excluded, fires};
 use crate::instructions::{Instruction, Instructions};
 use frame_store::slot::Slot;
@@ -35,11 +35,11 @@ pub enum Meeting {
 
 /// What a token meets in its slot.
 #[inline(always)]
-pub fn meet(held: &Slot, seat: Seat, port: Port, token: &PackedToken) -> Meeting
-    requires address { token.now.to ≡ To.Instr seat.frame seat.ip port }
+pub fn meet(held: &Slot, point: Point, port: Port, token: &PackedToken) -> Meeting
+    requires address { token.now.to ≡ To.Instr point.frame point.ip port }
     requires slot_room { HasRoomInSlot held.now }
     requires word_room { HasRoomInWord token.now.word }
-    ensures meets { (p : Program) (s : Rule.Seat) (i : Instr) → MeetingIs p s i (Rule.meets p s i held.now port token.now.word) result }
+    ensures meets { (p : Program) (s : Rule.Point) (i : Instr) → MeetingIs p s i (Rule.meets p s i held.now port token.now.word) result }
     ensures room { LeftHasRoom result }
 {
     if held.is_empty() {
@@ -68,27 +68,27 @@ pub fn meet(held: &Slot, seat: Seat, port: Port, token: &PackedToken) -> Meeting
 // An instruction with two inputs.
 pub(super) fn meets<C: Instructions>(
     code: &C,
-    seat: Seat,
+    point: Point,
     instr: &Instruction,
     slot: SlotState,
     port: Port,
     word: Word,
     made: &mut Made,
 ) -> Outcome
-    requires short { IsShort (C.width code.now) seat.ip instr.now }
+    requires short { IsShort (C.width code.now) point.ip instr.now }
     requires slot_room { HasRoomInSlot slot }
     requires word_room { HasRoomInWord word }
-    ensures { outcome_by result (tokens_of (seat_of seat) made.new) ≡ Rule.meets (C.program code.now) (seat_of seat) (instr_of instr.now) slot port word }
+    ensures { outcome_by result (tokens_of (point_of point) made.new) ≡ Rule.meets (C.program code.now) (point_of point) (instr_of instr.now) slot port word }
 {
     match (slot, port) {
         (SlotState::Empty, Port::Left) => becomes(SlotState::Left(word), made),
         (SlotState::Empty, Port::Right) => becomes(SlotState::Right(word), made),
         (SlotState::Left(left), Port::Right) => {
-            let fired = fire_two(code, seat, instr, left, word, made);
+            let fired = fire_two(code, point, instr, left, word, made);
             fires(SlotState::Empty, fired)
         }
         (SlotState::Right(right), Port::Left) => {
-            let fired = fire_two(code, seat, instr, word, right, made);
+            let fired = fire_two(code, point, instr, word, right, made);
             fires(SlotState::Empty, fired)
         }
         _ => excluded(3),
@@ -99,52 +99,52 @@ pub(super) fn meets<C: Instructions>(
 #[inline(always)]
 pub fn fire_two<C: Instructions>(
     code: &C,
-    seat: Seat,
+    point: Point,
     instr: &Instruction,
     left: Word,
     right: Word,
     made: &mut Made,
 ) -> bool
-    requires short { IsShort (C.width code.now) seat.ip instr.now }
+    requires short { IsShort (C.width code.now) point.ip instr.now }
     requires room { HasRoomInWord left }
-    ensures { fired_by result (tokens_of (seat_of seat) made.new) ≡ Rule.fire_two (C.program code.now) (seat_of seat) (instr_of instr.now) instr.now.op left right }
+    ensures { fired_by result (tokens_of (point_of point) made.new) ≡ Rule.fire_two (C.program code.now) (point_of point) (instr_of instr.now) instr.now.op left right }
 {
     match (instr.op, left, right) {
         (Op::Apply2 { op }, Word::Val(x), Word::Val(y)) => {
             let value = apply2_at(op, x, y, instr.origin());
-            to_all(seat, Word::Val(value), instr, made);
+            to_all(point, Word::Val(value), instr, made);
             true
         }
         (Op::Sync, _, _) => {
-            to_all(seat, SIGNAL, instr, made);
+            to_all(point, SIGNAL, instr, made);
             true
         }
         (Op::Switch, _, Word::Val(value)) => {
-            choose(truth(value), seat, left, instr, made);
+            choose(truth(value), point, left, instr, made);
             true
         }
         (Op::Store { array }, Word::Val(index), Word::Val(value)) => {
-            puts(code, seat, instr, array, index, value, made);
+            puts(code, point, instr, array, index, value, made);
             true
         }
         (Op::Send { block, entry }, Word::Frame(frame), _) => {
             let to = left_of(frame, entry_at(code.entry(block), entry));
-            and_signals(Token { to, word: right }, seat, instr, made);
+            and_signals(Token { to, word: right }, point, instr, made);
             true
         }
         (Op::Return { offset }, Word::Back(cont), Word::Val(_)) => {
             let to = beyond(cont, offset);
-            and_signals(Token { to, word: right }, seat, instr, made);
+            and_signals(Token { to, word: right }, point, instr, made);
             true
         }
         (Op::Ask { offset }, Word::Back(cont), _) => {
             let to = beyond(cont, offset);
-            let word = Word::Back(answer_to(seat, instr));
+            let word = Word::Back(answer_to(point, instr));
             one(Token { to, word }, made);
             true
         }
         (Op::Release { offset }, Word::Back(cont), _) => {
-            released(beyond(cont, offset), seat.frame, made);
+            released(beyond(cont, offset), point.frame, made);
             true
         }
         _ => false,
@@ -153,8 +153,8 @@ pub fn fire_two<C: Instructions>(
 
 // A switch sends its left word to one side.
 #[inline(always)]
-fn choose(holds: bool, seat: Seat, word: Word, instr: &Instruction, made: &mut Made)
-    ensures { tokens_of (seat_of seat) made.new ≡ Rule.to_each (seat_of seat) word (if holds then (instr_of instr.now).firsts else (instr_of instr.now).seconds) }
+fn choose(holds: bool, point: Point, word: Word, instr: &Instruction, made: &mut Made)
+    ensures { tokens_of (point_of point) made.new ≡ Rule.to_each (point_of point) word (if holds then (instr_of instr.now).firsts else (instr_of instr.now).seconds) }
 {
     let side = if holds { instr.first } else { instr.second };
     made.released = None;
@@ -167,7 +167,7 @@ fn choose(holds: bool, seat: Seat, word: Word, instr: &Instruction, made: &mut M
 // The release of the frame, and a signal.
 #[inline(always)]
 fn released(to: To, frame: FrameId, made: &mut Made)
-    ensures { (s : Rule.Seat) → tokens_of s made.new ≡ Rule.token (To.Release frame) Rule.signal ∷ Rule.token to Rule.signal ∷ [] }
+    ensures { (s : Rule.Point) → tokens_of s made.new ≡ Rule.token (To.Release frame) Rule.signal ∷ Rule.token to Rule.signal ∷ [] }
 {
     made.released = Some(frame);
     made.outside = Some(Token { to, word: SIGNAL });

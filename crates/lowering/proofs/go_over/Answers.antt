@@ -12,7 +12,8 @@ returns-clause-blocks g c =
     let is_names = ap (λ (n : Named g.row.A.Denot). n.checked.program.names) c.named.view_is in
     let is_words = ap (λ (n : Named g.row.A.Denot). n.checked.program.words) c.named.view_is in
     went names c.deref.result.now c.deref-3.result.now words
-    c.deref-2.result.now c.deref-5.result.now c.in_ok-told.told.results.items c.deref-4.result.now c.in_ok-told.told.plans.items c.in_ok-machine.machine
+    c.deref-2.result.now c.deref-5.result.now c.in_ok-gathered.gathered.results.items c.deref-4.result.now c.in_ok-gathered.gathered.plans.items
+    c.in_ok-machine.machine
     c.run.new.self c.into_done.result.items (c.deref.ensures.value ∙ is_names) (c.deref-2.ensures.value ∙ is_words) (c.deref-3.ensures.value ∙ is_names)
-    c.deref-4.ensures.value (c.deref-5.ensures.value ∙ is_words) c.in_ok-told.ensures.plans c.in_ok-told.ensures.results c.in_ok-machine.ensures
+    c.deref-4.ensures.value (c.deref-5.ensures.value ∙ is_words) c.in_ok-gathered.ensures.plans c.in_ok-gathered.ensures.results c.in_ok-machine.ensures
     c.in_ok-run.ensures c.into_done.ensures

@@ -25,6 +25,6 @@ returns g c =
           (contents (writer_inner c.answer-outcome.new.writer)) (contents c.into_parts-writer.result.0) c.answer-outcome.result read before after c.answer-outcome.ensures;
       exit = c.exit_status.ensures;
       explains =
-          explained_run g.X.Explain.tells words _ _ _ _ (reads_of (λ i. i.now) _ _ _ _ _ c.requires left c.kept-input.ensures)
-          (g.E.Write.contents c.args.errors.now) (g.E.Write.contents c.tell-told.new.errors) _ c.tell-told.ensures;
+          explained_run g.X.Explain.accounts words _ _ _ _ (reads_of (λ i. i.now) _ _ _ _ _ c.requires left c.kept-input.ensures)
+          (g.E.Write.contents c.args.errors.now) (g.E.Write.contents c.send_hint-hint_sent.new.errors) _ c.send_hint-hint_sent.ensures;
     }

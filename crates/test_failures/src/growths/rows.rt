@@ -5,7 +5,7 @@ use test_inputs::graph_texts::{ADD, ARRAY_LOOP, FACTORIAL, NEVER_FILLED, READERS
 /// What an answer has of a run, and so how a growth is told that is refused in the run.
 #[derive(Clone, Copy)]
 pub enum Answer {
-    /// Nothing: each growth that is refused is told in place of the answer.
+    /// Nothing: each growth that is refused is reported in place of the answer.
     Text,
     /// A report, which then has the end `Memory`. Lines of events may stand before it.
     Report,
@@ -348,7 +348,7 @@ pub struct Command {
     pub name: &'static str,
     pub words: &'static [&'static str],
     pub text: &'static [u8],
-    /// Lines behind the text.
+    /// Lines after the text.
     pub inputs: &'static [u8],
     pub reads: Reads,
     pub answer: Answer,

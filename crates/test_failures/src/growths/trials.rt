@@ -2,18 +2,18 @@
 
 use crate::growths::rows::{Answer, Row};
 use commands::serving::serve;
-use rationed::{Rationed, is_next_refused};
 use rounds::Open;
 use std::alloc::Global;
 use std::fmt;
 use std::sync::Wait;
 use std::thread::Threads;
+use test_inputs::rationed::{Rationed, is_next_refused};
 use test_served::Outcome;
 
 /// More growths than any of the command lines has.
 const ENOUGH: u64 = 100_000;
 
-/// How often a growth was refused, and how that was told.
+/// How often a growth was refused, and how that was reported.
 #[derive(Clone, Copy)]
 pub struct Refusals {
     /// Told by a line in place of an answer.
@@ -98,7 +98,7 @@ fn is_json_part(text: &[u8], whole: &[u8]) -> bool {
 }
 
 /// Whether the answer tells that a growth was refused in a run, and nothing of the run that the whole answer does not tell.
-fn is_told(row: &Row<'_>, answer: &Outcome) -> bool {
+fn is_reported(row: &Row<'_>, answer: &Outcome) -> bool {
     let text = answer.text.as_slice();
     match row.answer {
         Answer::Text => false,
@@ -151,7 +151,7 @@ pub fn refuse_each<R: Threads + Wait + Sync>(
         }
         if answer.status == 1 && text == b"refused: memory\n".as_slice() {
             refusals.before = refusals.before.wrapping_add(1);
-        } else if is_told(row, &answer) {
+        } else if is_reported(row, &answer) {
             refusals.within = refusals.within.wrapping_add(1);
         } else if !(may_be_made_good(row) && is_whole(row, &answer)) {
             return Err(ration);

@@ -2,14 +2,14 @@
 
 use crate::streams::cases::{Case, Input};
 use commands::serving::serve;
-use rationed::reader::Feeder;
-use rationed::writer::{Failure, Taker, WRITERS};
 use rounds::Open;
 use std::alloc::Global;
 use std::fmt;
 use std::io::{self, Write};
 use std::sync::Wait;
 use std::thread::Threads;
+use test_inputs::rationed::reader::Feeder;
+use test_inputs::rationed::writer::{Failure, Taker, WRITERS};
 use test_served::Outcome;
 
 /// More calls than any reader gets.

@@ -5,7 +5,7 @@ use std::alloc::{AllocError, Global};
 use std::str;
 use std::sync::Wait;
 use std::thread::Threads;
-use test_served::{answer, comes_back, comes_back_with_literals};
+use test_served::{answer, reassembles, reassembles_with_literals};
 
 /// The words that run an object on the integers of these lines.
 fn exec_words<'a>(alloc: Global, lines: &'a [u8]) -> Result<Vec<&'a str>, AllocError> {
@@ -51,8 +51,8 @@ pub fn fault_of<R: Threads + Wait + Sync>(
     let (text, lines) = split_at_main(input);
     let object = answer(rt, alloc, &["ets", "compile"], text);
     if object.status != 0
-        || !comes_back(rt, alloc, &object.text)
-        || !comes_back_with_literals(rt, alloc, &object.text)
+        || !reassembles(rt, alloc, &object.text)
+        || !reassembles_with_literals(rt, alloc, &object.text)
     {
         return Ok(Some("does not come back"));
     }

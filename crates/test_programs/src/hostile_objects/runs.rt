@@ -146,7 +146,7 @@ impl Runnable<'_> {
 
     /// Whether a list in which the elements take turns, each with its oldest token, has the same run. This holds only if no
     /// element makes all the events that it may: a list passes over such an element.
-    fn agrees_listed(
+    fn agrees_by_list(
         self,
         alloc: Global,
         elements: u32,
@@ -164,13 +164,13 @@ impl Runnable<'_> {
         let picks = in_turn(alloc, elements, count)?;
         let config = config(elements, frames, STEPS);
         match emulate_object_picks(alloc, self.object, self.inputs, config, &picks) {
-            Ok(listed) => Ok(is_same(&listed, report)),
+            Ok(by_list) => Ok(is_same(&by_list, report)),
             Err(_fault) => Ok(false),
         }
     }
 
     /// Whether runs in random orders tell only what is possible.
-    fn is_sound_listed(
+    fn is_sound_by_list(
         self,
         alloc: Global,
         dice: &mut Dice,
@@ -251,10 +251,10 @@ impl Runnable<'_> {
         let Some(report) = report else {
             return Ok(verdict);
         };
-        if !self.agrees_listed(alloc, elements, frames, &report)? {
+        if !self.agrees_by_list(alloc, elements, frames, &report)? {
             return Ok(Verdict::Differs);
         }
-        if !self.is_sound_listed(alloc, dice, elements, frames)? {
+        if !self.is_sound_by_list(alloc, dice, elements, frames)? {
             return Ok(Verdict::Unsound);
         }
         Ok(verdict)

@@ -65,14 +65,14 @@ fn has_few_events(
     alloc: Global,
     report: &Report<Global>,
     config: Config,
-    listed: bool,
+    by_list: bool,
 ) -> Result<bool, AllocError> {
     let Some(made) = made_by(alloc, &report.events, config.elements)? else {
         return Ok(false);
     };
     let is_few = made.iter().all(|count| *count <= config.steps);
     let is_full = made.iter().any(|count| *count == config.steps);
-    Ok(is_few && (listed || report.end != End::Steps || is_full))
+    Ok(is_few && (by_list || report.end != End::Steps || is_full))
 }
 
 /// Whether cell `index` of array `array` is full. Cells are numbered through all arrays.
@@ -130,11 +130,11 @@ pub fn is_sound(
     report: &Report<Global>,
     arrays: &[u64],
     config: Config,
-    listed: bool,
+    by_list: bool,
 ) -> Result<bool, AllocError> {
     Ok(
         has_end(report, arrays)
             && has_made(report, config)
-            && has_few_events(alloc, report, config, listed)?,
+            && has_few_events(alloc, report, config, by_list)?,
     )
 }

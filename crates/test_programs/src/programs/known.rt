@@ -5,14 +5,14 @@
 #[derive(Clone, Copy)]
 pub struct Known {
     pub name: &'static str,
-    pub told: &'static [u8],
+    pub prints: &'static [u8],
 }
 
 /// The programs without a graph.
 pub const KNOWN: [Known; 8] = [
     Known {
         name: "fibonacci_loop.df",
-        told: b"output 0 55
+        prints: b"output 0 55
 output 1 89
 deferred 0
 end Rest
@@ -20,14 +20,14 @@ end Rest
     },
     Known {
         name: "square_root.df",
-        told: b"output 0 1000
+        prints: b"output 0 1000
 deferred 0
 end Rest
 ",
     },
     Known {
         name: "longest_collatz.df",
-        told: b"output 0 27
+        prints: b"output 0 27
 output 1 111
 deferred 0
 end Rest
@@ -35,7 +35,7 @@ end Rest
     },
     Known {
         name: "prefix_sums.df",
-        told: b"output 0 385
+        prints: b"output 0 385
 cell S 0 0
 cell S 1 1
 cell S 2 5
@@ -53,7 +53,7 @@ end Rest
     },
     Known {
         name: "greatest.df",
-        told: b"output 0 952
+        prints: b"output 0 952
 cell A 0 590
 cell A 1 575
 cell A 2 84
@@ -76,7 +76,7 @@ end Rest
     },
     Known {
         name: "matrix_product.df",
-        told: b"output 0 30
+        prints: b"output 0 30
 output 1 90
 cell A 0 1
 cell A 1 2
@@ -111,7 +111,7 @@ end Rest
     },
     Known {
         name: "faults.df",
-        told: b"output 0 fault range at 0 4
+        prints: b"output 0 fault range at 0 4
 output 1 2
 output 2 fault zero at 0 2
 output 3 10
@@ -122,7 +122,7 @@ end Rest
     },
     Known {
         name: "precedence.df",
-        told: b"output 0 24
+        prints: b"output 0 24
 output 1 8
 output 2 2
 output 3 5

@@ -3,7 +3,7 @@
 use std::alloc::Global;
 use std::sync::Wait;
 use std::thread::Threads;
-use test_served::{answer, comes_back, comes_back_with_literals};
+use test_served::{answer, reassembles, reassembles_with_literals};
 
 /// Whether the listing, with a literal that no instruction uses, is of an object that adds 2 and 3, and comes back from what is listed
 /// of it with its literals, and not from what is listed without them.
@@ -11,7 +11,7 @@ pub fn adds<R: Threads + Wait + Sync>(rt: &R, alloc: Global, listing: &[u8]) -> 
     let object = answer(rt, alloc, &["ets", "asm"], listing);
     let report = answer(rt, alloc, &["ets", "exec", "2", "3"], &object.text);
     object.status == 0
-        && comes_back_with_literals(rt, alloc, &object.text)
-        && !comes_back(rt, alloc, &object.text)
+        && reassembles_with_literals(rt, alloc, &object.text)
+        && !reassembles(rt, alloc, &object.text)
         && report.text.starts_with(b"output 0 5\n")
 }

@@ -1,7 +1,7 @@
 use Rattle.std.proofs.Common.{sym, arith, ap, ◌∙◌, ◌-◌, ℕ, Option, Some, None, Bor, List, option_map}
 use Rattle.command_line.specs.Words.{sizes_from}
 use Rattle.command_line.specs.declared.sizes.Sizes.{Sizes}
-use Rattle.command_line.proofs.Listed.{no_number, no_room, one_number}
+use Rattle.command_line.proofs.Included.{no_number, no_room, one_number}
 use Rattle.command_line.proofs.options.+sizes_from.Goals as goal
 
 pub returns-then-room-eq0 : goal.returns-then-room-eq0

@@ -3,7 +3,7 @@ use Rattle.schedule.specs.declared.config.Config.{Config}
 use Rattle.driver.specs.Refused.{IsRefused}
 use Rattle.commands.specs.Agreed.{IsFirstOther}
 use Rattle.commands.proofs.Agreeing.{if_some}
-use Rattle.commands.proofs.Givens.{IsRefusedOption, not_ordered, order_refused, count_refused}
+use Rattle.commands.proofs.Feeds.{IsRefusedOption, not_ordered, order_refused, count_refused}
 use Rattle.commands.proofs.orders.make_orders.Goals as goal
 use Rattle.commands.proofs.orders.make_orders.Goals.{then-count-eq0-via-then-count-eq0, then-count-eq0-via-else-count-eq0+then-config-eq0}
 
@@ -15,22 +15,22 @@ returns-then-count-eq0-clause-refused g c =
     count_refused c.args.input.now _ _ c.in-Ok.ensures c.args.options.now c.args.count c.config_of-config.result c.config_of-config.ensures
     (λ good. elim c.then-count-eq0.branch [ then-count-eq0-via-then-count-eq0 w ↦ w.if-count-eq0.true | then-count-eq0-via-else-count-eq0+then-config-eq0 w ↦ absurd omega (arith, good.elements, w.if-config-eq0.true) ])
     c.option_refusal.result
-    (subst (λ (zs : List ℤ). IsRefusedOption c.in-Ok.given.text.now zs c.config_of-config.result c.option_refusal.result) c.deref.ensures.value c.option_refusal.ensures)
+    (subst (λ (zs : List ℤ). IsRefusedOption c.in-Ok.feed.text.now zs c.config_of-config.result c.option_refusal.result) c.deref.ensures.value c.option_refusal.ensures)
 
 pub returns-in-Ok-run_orders-clause-other : goal.returns-in-Ok-run_orders-clause-other
 returns-in-Ok-run_orders-clause-other g c =
     let o = c.in-Ok-run_orders.orders in
     if_some _ _ o.reports.other
     (λ x h. record {
-      text = c.in-Ok.given.text.now;
-      inputs = c.in-Ok.given.integers.items;
-      given = c.in-Ok.ensures;
-      first_other = subst (λ (d : Config). IsFirstOther c.in-Ok.given.text.now c.in-Ok.given.integers.items d c.args.seed c.args.count o.checked o.reports.first x.number o.checked x.report) c.config_of-config.ensures
-          (subst (λ (zs : List ℤ). IsFirstOther c.in-Ok.given.text.now zs c.config_of-config.result c.args.seed c.args.count o.checked o.reports.first x.number o.checked x.report) c.deref-2.ensures.value h);
+      text = c.in-Ok.feed.text.now;
+      inputs = c.in-Ok.feed.integers.items;
+      feed = c.in-Ok.ensures;
+      first_other = subst (λ (d : Config). IsFirstOther c.in-Ok.feed.text.now c.in-Ok.feed.integers.items d c.args.seed c.args.count o.checked o.reports.first x.number o.checked x.report) c.config_of-config.ensures
+          (subst (λ (zs : List ℤ). IsFirstOther c.in-Ok.feed.text.now zs c.config_of-config.result c.args.seed c.args.count o.checked o.reports.first x.number o.checked x.report) c.deref-2.ensures.value h);
     })
     c.in-Ok-run_orders.ensures.other
 
 pub returns-clause-refused : goal.returns-clause-refused
 returns-clause-refused g c =
     order_refused c.args.input.now _ _ c.in-Ok.ensures c.args.options.now c.args.count c.config_of-config.result c.config_of-config.ensures c.in-Err-run_orders.fault
-    (subst (λ (zs : List ℤ). IsRefused c.in-Ok.given.text.now zs c.config_of-config.result c.in-Err-run_orders.fault) c.deref-2.ensures.value c.in-Err-run_orders.ensures.refused) c.fault_refusal.result c.fault_refusal.ensures
+    (subst (λ (zs : List ℤ). IsRefused c.in-Ok.feed.text.now zs c.config_of-config.result c.in-Err-run_orders.fault) c.deref-2.ensures.value c.in-Err-run_orders.ensures.refused) c.fault_refusal.result c.fault_refusal.ensures

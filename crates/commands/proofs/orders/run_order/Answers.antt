@@ -13,7 +13,7 @@ play_drawn-requires-clause-elements g c =
 pub returns : goal.returns
 returns g c = λ text gr compiled.
     order_of text gr c.args.code.now.bytes c.args.inputs.now c.args.config c.args.seed c.args.order c.first_number.result c.in_ok-machine.machine c.play_drawn.new.machine c.in_ok-halt.halt c.report.result
-    compiled c.in_ok-machine.ensures c.first_number.ensures c.in_ok-halt.ensures c.report.ensures.told (λ ins b h. c.report.ensures.shows ins true b h)
+    compiled c.in_ok-machine.ensures c.first_number.ensures c.in_ok-halt.ensures c.report.ensures.reported (λ ins b h. c.report.ensures.shows ins true b h)
 
 pub returns-in_err-machine : goal.returns-in_err-machine
 returns-in_err-machine g c = λ text gr compiled.

@@ -3,14 +3,14 @@ use Rattle.schedule.specs.declared.config.Config.{Config}
 use Rattle.replay.specs.declared.moment.Moment.{Moment}
 use Rattle.profile_text.specs.Picture.{greatest_from}
 use Rattle.driver.specs.declared.fault.Fault.{Fault}
-use Rattle.driver.specs.Listed.{AreMoments}
+use Rattle.driver.specs.ListedEvents.{AreMoments}
 use Rattle.driver.specs.Objects.{ShowsObject, RunsObject}
-use Rattle.driver.specs.Orders.{FollowsRounds}
+use Rattle.driver.specs.Orders.{RunsByRounds}
 use Rattle.driver.specs.Refused.{IsRefused}
 use Rattle.driver.proofs.TextObjects.{refused_as_text}
 use Rattle.driver.proofs.Truth.{is_watched_in_rounds}
-use Rattle.commands.specs.declared.profiling.Held.{Held}
-use Rattle.commands.specs.Profiled.{config_with, held_in}
+use Rattle.commands.specs.declared.profiling.Measure.{Measure}
+use Rattle.commands.specs.Profiled.{config_with, measure_in}
 use Rattle.commands.proofs.profiling.measure.Goals as goal
 
 pub returns : goal.returns
@@ -30,11 +30,12 @@ returns g c = λ text gr compiled.
           (subst (λ (d : Config). AreMoments bytes c.args.inputs.now d report moments) c.config_with-config.ensures c.in-Ok.ensures.moments);
       kept = c.wants_memory.ensures c.if-wants_memory.false;
       number = c.row_of.ensures.number;
-      rounds = subst (λ (n : ℕ). RunsObject bytes c.args.inputs.now config (FollowsRounds false n) report) (sym c.row_of.ensures.rounds)
-          (subst (λ (d : Config). RunsObject bytes c.args.inputs.now d (FollowsRounds false rounds) report) c.config_with-config.ensures c.in-Ok.ensures.rounds);
-      tokens = subst (λ (l : List Moment). c.row_of.result.tokens ≡ greatest_from (length c.args.inputs.now + 1) (map (held_in Held.Tokens) l)) c.deref.ensures.value c.row_of.ensures.tokens;
-      slots = subst (λ (l : List Moment). c.row_of.result.slots ≡ greatest_from 0 (map (held_in Held.Slots) l)) c.deref.ensures.value c.row_of.ensures.slots;
-      frames = subst (λ (l : List Moment). c.row_of.result.frames ≡ greatest_from 1 (map (held_in Held.Frames) l)) c.deref.ensures.value c.row_of.ensures.frames;
+      rounds = subst (λ (n : ℕ). RunsObject bytes c.args.inputs.now config (RunsByRounds false n) report) (sym c.row_of.ensures.rounds)
+          (subst (λ (d : Config). RunsObject bytes c.args.inputs.now d (RunsByRounds false rounds) report) c.config_with-config.ensures c.in-Ok.ensures.rounds);
+      tokens = subst (λ (l : List Moment). c.row_of.result.tokens ≡ greatest_from (length c.args.inputs.now + 1) (map (measure_in Measure.Tokens) l)) c.deref.ensures.value c.row_of.ensures.tokens;
+      slots = subst (λ (l : List Moment). c.row_of.result.slots ≡ greatest_from 0 (map (measure_in Measure.Slots) l)) c.deref.ensures.value
+          c.row_of.ensures.slots;
+      frames = subst (λ (l : List Moment). c.row_of.result.frames ≡ greatest_from 1 (map (measure_in Measure.Frames) l)) c.deref.ensures.value c.row_of.ensures.frames;
     }
 
 pub returns-then-wants_memory : goal.returns-then-wants_memory

@@ -4,7 +4,7 @@ use Rattle.semantics.specs.Report.{Report}
 use Rattle.object_view.specs.Reading.{Opened, opened}
 use Rattle.loaded.specs.Ready.{widest}
 use Rattle.replay.specs.declared.extent.Extent.{Extent}
-use Rattle.driver.specs.Listed.{HasBooks}
+use Rattle.driver.specs.ListedEvents.{HasBooks}
 use Rattle.driver.specs.Objects.{ShowsObject}
 use Rattle.driver.proofs.ObjectRuns.{object_of, opened_of}
 use Rattle.driver.proofs.Booked.{extent_is, few_inputs, booked, fitting}

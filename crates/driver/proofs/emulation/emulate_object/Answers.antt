@@ -3,7 +3,7 @@ use Rattle.std.specs.Prelude.{MatchResult, IfOk}
 use Rattle.std.proofs.lemmas.Result.{err_from_is_err_and}
 use Rattle.driver.specs.Headline.{stops_in}
 use Rattle.driver.specs.Objects.{ShowsObject, RunsObject}
-use Rattle.driver.specs.Orders.{FollowsTurns}
+use Rattle.driver.specs.Orders.{RunsByTurns}
 use Rattle.driver.specs.Refused.{IsRefusedObject}
 use Rattle.driver.proofs.TextObjects.{unopened_refused}
 use Rattle.driver.proofs.emulation.emulate_object.Goals as goal
@@ -15,7 +15,7 @@ returns-clause-shows g c =
 
 pub returns-clause-turns : goal.returns-clause-turns
 returns-clause-turns g c = λ one.
-    subst (λ (bs : List ℕ). IfOk c.run_code.result (RunsObject bs c.args.inputs.now c.args.config FollowsTurns)) c.in_ok-code.ensures.bytes (c.run_code.ensures.turns one)
+    subst (λ (bs : List ℕ). IfOk c.run_code.result (RunsObject bs c.args.inputs.now c.args.config RunsByTurns)) c.in_ok-code.ensures.bytes (c.run_code.ensures.turns one)
 
 pub returns-in_err-code-clause-shows : goal.returns-in_err-code-clause-shows
 returns-in_err-code-clause-shows g c =

@@ -2,7 +2,7 @@ use Rattle.std.proofs.Common.{List, ℕ, subst, true, false}
 use Rattle.std.specs.Prelude.{MatchResult, IfOk}
 use Rattle.std.proofs.lemmas.Result.{err_from_is_err_and}
 use Rattle.driver.specs.Objects.{ShowsObject, RunsObject}
-use Rattle.driver.specs.Orders.{FollowsList}
+use Rattle.driver.specs.Orders.{RunsByList}
 use Rattle.driver.specs.Refused.{IsRefusedObject}
 use Rattle.driver.proofs.TextObjects.{unopened_refused}
 use Rattle.driver.proofs.emulation.emulate_object_picks.Goals as goal
@@ -14,7 +14,7 @@ returns-clause-shows g c =
 
 pub returns-clause-list : goal.returns-clause-list
 returns-clause-list g c =
-    subst (λ (bs : List ℕ). IfOk c.run_code_picks.result (RunsObject bs c.args.inputs.now c.args.config (FollowsList c.args.picks.now))) c.in_ok-code.ensures.bytes c.run_code_picks.ensures.list
+    subst (λ (bs : List ℕ). IfOk c.run_code_picks.result (RunsObject bs c.args.inputs.now c.args.config (RunsByList c.args.picks.now))) c.in_ok-code.ensures.bytes c.run_code_picks.ensures.list
 
 pub returns-in_err-code-clause-shows : goal.returns-in_err-code-clause-shows
 returns-in_err-code-clause-shows g c =

@@ -1,9 +1,9 @@
 use Rattle.std.proofs.Common.{List, ℕ, true, false, subst}
 use Rattle.std.proofs.lemmas.Result.{err_from_is_err_and}
 use Rattle.driver.specs.Objects.{ShowsObject, RunsObject}
-use Rattle.driver.specs.Orders.{FollowsList}
+use Rattle.driver.specs.Orders.{RunsByList}
 use Rattle.driver.specs.Refused.{IsRefusedObject}
-use Rattle.driver.proofs.Truth.{tells_listed}
+use Rattle.driver.proofs.Truth.{reports_by_list}
 use Rattle.driver.proofs.TextObjects.{refused_as_text}
 use Rattle.driver.proofs.emulation.emulate_picks.Goals as goal
 
@@ -12,9 +12,9 @@ returns g c =
     let k = c.in_ok-compiled.compiled in
     let same = c.bytes-bytes.ensures in (
       k.checked,
-      tells_listed c.args.text.now k.checked k.object.bytes c.args.inputs.now c.args.config c.args.picks.now c.in_ok-report.report c.in_ok-compiled.ensures
+      reports_by_list c.args.text.now k.checked k.object.bytes c.args.inputs.now c.args.config c.args.picks.now c.in_ok-report.report c.in_ok-compiled.ensures
           (subst (λ (bs : List ℕ). ShowsObject bs c.args.inputs.now c.args.config true false c.in_ok-report.report) same c.in_ok-report.ensures.shows)
-          (subst (λ (bs : List ℕ). RunsObject bs c.args.inputs.now c.args.config (FollowsList c.args.picks.now) c.in_ok-report.report) same c.in_ok-report.ensures.list),
+          (subst (λ (bs : List ℕ). RunsObject bs c.args.inputs.now c.args.config (RunsByList c.args.picks.now) c.in_ok-report.report) same c.in_ok-report.ensures.list),
     )
 
 pub returns-in_err-report : goal.returns-in_err-report

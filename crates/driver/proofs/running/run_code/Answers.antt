@@ -1,6 +1,6 @@
 use Rattle.std.proofs.Common.{false}
 use Rattle.driver.specs.Headline.{stops_in}
-use Rattle.driver.proofs.ObjectRuns.{shows_object, follows_turns}
+use Rattle.driver.proofs.ObjectRuns.{shows_object, runs_by_turns}
 use Rattle.driver.proofs.running.run_code.Goals as goal
 
 pub returns-clause-shows : goal.returns-clause-shows
@@ -9,4 +9,4 @@ returns-clause-shows g c =
 
 pub returns-clause-turns : goal.returns-clause-turns
 returns-clause-turns g c = λ one.
-    follows_turns c.args.code.now.bytes c.args.inputs.now c.args.config c.in_ok-machine.machine c.in_ok-machine.ensures c.run_in.result (c.run_in.ensures.plays one)
+    runs_by_turns c.args.code.now.bytes c.args.inputs.now c.args.config c.in_ok-machine.machine c.in_ok-machine.ensures c.run_in.result (c.run_in.ensures.plays one)

@@ -1,5 +1,5 @@
 use Rattle.std.proofs.Common.{false}
-use Rattle.driver.proofs.ObjectRuns.{shows_object, follows_rounds}
+use Rattle.driver.proofs.ObjectRuns.{shows_object, runs_by_rounds}
 use Rattle.driver.proofs.running.run_code_counted.Goals as goal
 
 pub returns-clause-shows : goal.returns-clause-shows
@@ -8,4 +8,4 @@ returns-clause-shows g c =
 
 pub returns-clause-rounds : goal.returns-clause-rounds
 returns-clause-rounds g c =
-    follows_rounds c.args.code.now.bytes c.args.inputs.now c.args.config c.in_ok-machine.machine c.in_ok-machine.ensures g.G.Gate.may_stop c.run_counted.result.rounds c.run_counted.result.report c.run_counted.ensures.tells
+    runs_by_rounds c.args.code.now.bytes c.args.inputs.now c.args.config c.in_ok-machine.machine c.in_ok-machine.ensures g.G.Gate.may_stop c.run_counted.result.rounds c.run_counted.result.report c.run_counted.ensures.truth

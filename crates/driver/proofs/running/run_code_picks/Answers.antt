@@ -1,6 +1,6 @@
 use Rattle.std.proofs.Common.{ℕ, ◌<◌, sym, subst, true, false}
 use Rattle.std.specs.Prelude.{slice_index_or}
-use Rattle.driver.proofs.ObjectRuns.{elements_of, shows_object, follows_list}
+use Rattle.driver.proofs.ObjectRuns.{elements_of, shows_object, runs_by_list}
 use Rattle.driver.proofs.running.run_code_picks.Goals as goal
 
 pub run-requires : goal.run-requires
@@ -14,4 +14,4 @@ returns-clause-shows g c =
 
 pub returns-clause-list : goal.returns-clause-list
 returns-clause-list g c =
-    follows_list c.args.code.now.bytes c.args.inputs.now c.args.config c.in_ok-machine.machine c.in_ok-machine.ensures c.args.picks.now c.run.result c.run.ensures.plays
+    runs_by_list c.args.code.now.bytes c.args.inputs.now c.args.config c.in_ok-machine.machine c.in_ok-machine.ensures c.args.picks.now c.run.result c.run.ensures.plays

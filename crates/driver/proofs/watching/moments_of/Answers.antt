@@ -1,6 +1,6 @@
 use Rattle.std.proofs.Common.{◌≡◌, ◌*◌, Ok, Err, sym, refl, rules, subst}
 use Rattle.semantics.specs.Machine.{Events}
-use Rattle.replay.specs.Follows.{IsReplay}
+use Rattle.replay.specs.DoesAs.{IsReplay}
 use Rattle.driver.proofs.ObjectRuns.{object_of, opened_of}
 use Rattle.driver.proofs.Watched.{is_a_run, seen}
 use Rattle.driver.proofs.watching.moments_of.Goals as goal

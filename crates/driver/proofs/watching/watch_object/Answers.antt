@@ -2,9 +2,9 @@ use Rattle.std.proofs.Common.{List, ℕ, ap, ◌∙◌, false, subst}
 use Rattle.std.specs.Prelude.{MatchResult, IfOk}
 use Rattle.object_view.specs.Reading.{Opened}
 use Rattle.driver.specs.Headline.{stops_in}
-use Rattle.driver.specs.Listed.{AreMoments}
+use Rattle.driver.specs.ListedEvents.{AreMoments}
 use Rattle.driver.specs.Objects.{ShowsObject, RunsObject}
-use Rattle.driver.specs.Orders.{FollowsTurns}
+use Rattle.driver.specs.Orders.{RunsByTurns}
 use Rattle.driver.specs.Refused.{IsRefusedObject}
 use Rattle.driver.proofs.watching.watch_object.Goals as goal
 
@@ -16,7 +16,7 @@ returns-clause-shows g c =
 pub returns-clause-turns : goal.returns-clause-turns
 returns-clause-turns g c = λ one.
     let same = ap (λ (x : Opened). x.bytes) (c.in_ok-code.ensures ∙ c.as_object.ensures) in
-    subst (λ (bs : List ℕ). IfOk c.watch_code.result (λ w. RunsObject bs c.args.inputs.now c.args.config FollowsTurns w.report)) same (c.watch_code.ensures.turns one)
+    subst (λ (bs : List ℕ). IfOk c.watch_code.result (λ w. RunsObject bs c.args.inputs.now c.args.config RunsByTurns w.report)) same (c.watch_code.ensures.turns one)
 
 pub returns-clause-moments : goal.returns-clause-moments
 returns-clause-moments g c =

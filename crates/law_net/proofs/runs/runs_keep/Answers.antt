@@ -1,4 +1,4 @@
-use Rattle.law_net.proofs.RunsComes.{is_once, is_of_one_block, is_caused}
+use Rattle.law_net.proofs.RunsArrives.{is_once, is_of_one_block, is_caused}
 use Rattle.law_net.proofs.RunsAgree.{agrees}
 use Rattle.law_net.proofs.RunsLands.{lands}
 use Rattle.law_net.proofs.runs.runs_keep.Goals as goal

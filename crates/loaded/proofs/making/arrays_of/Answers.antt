@@ -3,7 +3,7 @@ use Rattle.std.specs.Prelude.{Some, slice_get}
 use Rattle.lemmas.proofs.Alls.{at_all}
 use Rattle.lemmas.proofs.Lists.{taken_next}
 use Rattle.loaded.specs.Ready.{arrays_in}
-use Rattle.loaded.proofs.Tables.{told_array, all_arrays, sum_next}
+use Rattle.loaded.proofs.Tables.{parsed_array, all_arrays, sum_next}
 use Rattle.loaded.proofs.Short.{few_so_far}
 use Rattle.loaded.proofs.making.arrays_of.Goals as goal
 
@@ -32,7 +32,7 @@ loop-number-preserved g c =
     let next = sum_next p.arrays c.loop-number.number c.in-Some.len is in
     let base = c.loop-number.invariant.1 in (
       taken_next c.loop-number.number (arrays_in 0 p.arrays) c.loop-number.arrays.items c.push.new.self.items (record { base = c.loop-number.base; len = c.in-Some.len })
-          (told_array p c.loop-number.base c.loop-number.number c.in-Some.len is base) c.loop-number.invariant.0 c.in_ok-push.ensures.items,
+          (parsed_array p c.loop-number.base c.loop-number.number c.in-Some.len is base) c.loop-number.invariant.0 c.in_ok-push.ensures.items,
       omega arith,
     )
 

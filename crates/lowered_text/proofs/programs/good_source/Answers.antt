@@ -5,16 +5,16 @@ use Rattle.source.specs.Words.{NamedWords, IsProgram}
 use Rattle.source_check.specs.declared.Checked.{Checked}
 use Rattle.source_check.specs.Stack.{out_of_memory}
 use Rattle.lowered_text.specs.Lowers.{of_rules}
-use Rattle.lowered_text.proofs.Refused.{Tree, tree_of, told_of, later_fault}
+use Rattle.lowered_text.proofs.Refused.{Tree, tree_of, reported_of, later_fault}
 use Rattle.lowered_text.proofs.programs.good_source.Goals as goal
 
 pub returns-in-Err : goal.returns-in-Err
 returns-in-Err g c = λ text r.
     let s = c.args.source in
     let t : Tree text s.program.names s.program.words = tree_of text s.text.now s.program.names s.program.words s.inputs.now r in
-    told_of text s.text.now c.in-Err.fault c.told.result r.text_is (later_fault text c.in-Err.fault (of_rules t.tree t.of_text)
+    reported_of text s.text.now c.in-Err.fault c.reported.result r.text_is (later_fault text c.in-Err.fault (of_rules t.tree t.of_text)
     (subst (λ (xs : List ℕ). (c.in-Err.fault ≡ out_of_memory) ⊎ (checked (length xs) t.tree ≡ Err c.in-Err.fault)) r.text_is (c.in-Err.ensures.refused t.tree t.words)))
-    c.told.ensures
+    c.reported.ensures
 
 pub returns-in-Ok-name_loops : goal.returns-in-Ok-name_loops
 returns-in-Ok-name_loops g c = λ text r.

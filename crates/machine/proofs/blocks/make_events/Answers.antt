@@ -1,7 +1,7 @@
 use Rattle.std.proofs.Common.{sym, ◌∙◌, ap, subst, ℕ, ◌-◌, false, List, length, Option, None, arith}
 use Rattle.tags.specs.declared.token.Token.{Token}
 use Rattle.semantics.specs.Program.{Program}
-use Rattle.element.specs.Held.{Held, held_of}
+use Rattle.element.specs.Holding.{Holding, held_of}
 use Rattle.schedule.specs.declared.halt.Halt.{Halt}
 use Rattle.rounds.specs.Turns.{HaltsLane, IsWhole}
 use Rattle.machine.specs.Runners.{HasNoReason}
@@ -16,7 +16,7 @@ overflow_sub-events g c =
     let t = c.take_turn-halt.ensures.turns in
     let first = c.made-first.ensures in
     let last = c.made.ensures in
-    let more = more_made {C = g.row.C.Denot} {A = g.row.A.Denot} {L = g.row.L.Denot} g.L.Log.LISTS (setting_in g.C.Instructions.program g.C.Instructions.width c.args.shape.now) c.args.mesh.now run.0 c.args.runner.now run.1 c.requires.clear c.take_turn-halt.new.lane c.take_turn-halt.new.sent t.0 t.1 in
+    let more = more_made {C = g.row.C.Denot} {A = g.row.A.Denot} {L = g.row.L.Denot} g.L.Log.KEEPS_EVENTS (setting_in g.C.Instructions.program g.C.Instructions.width c.args.shape.now) c.args.mesh.now run.0 c.args.runner.now run.1 c.requires.clear c.take_turn-halt.new.lane c.take_turn-halt.new.sent t.0 t.1 in
     omega arith
 
 pub commit-requires : goal.commit-requires
@@ -26,7 +26,7 @@ commit-requires g c =
       made = (
         run.0,
         held_of c.args.runner.now.lane,
-        has_made {C = g.row.C.Denot} {A = g.row.A.Denot} {L = g.row.L.Denot} g.L.Log.LISTS (setting_in g.C.Instructions.program g.C.Instructions.width c.args.shape.now) c.args.mesh.now run.0 c.args.runner.now run.1 c.requires.clear c.take_turn-halt.new.lane c.take_turn-halt.new.sent c.take_turn-halt.new.log t.0 c.len-before.result (c.made.result - c.made-first.result)
+        has_made {C = g.row.C.Denot} {A = g.row.A.Denot} {L = g.row.L.Denot} g.L.Log.KEEPS_EVENTS (setting_in g.C.Instructions.program g.C.Instructions.width c.args.shape.now) c.args.mesh.now run.0 c.args.runner.now run.1 c.requires.clear c.take_turn-halt.new.lane c.take_turn-halt.new.sent c.take_turn-halt.new.log t.0 c.len-before.result (c.made.result - c.made-first.result)
             t.1 c.take_turn-halt.ensures.sound c.take_turn-halt.ensures.fixed (c.len-before.ensures ∙ ap (λ (q : List Token). length q) c.queue.ensures) (ap (λ (n : ℕ). n - c.made-first.result) c.made.ensures ∙ ap (λ (n : ℕ). c.take_turn-halt.new.lane.held.made - n) c.made-first.ensures) t.2,
       );
     }
@@ -35,23 +35,23 @@ pub returns-clause-keeps : goal.returns-clause-keeps
 returns-clause-keeps g c = λ start run.
     let t = c.take_turn-halt.ensures.turns in
     c.in_ok-commit.ensures.keeps start (held_of c.args.runner.now.lane)
-    (has_made {C = g.row.C.Denot} {A = g.row.A.Denot} {L = g.row.L.Denot} g.L.Log.LISTS (setting_in g.C.Instructions.program g.C.Instructions.width c.args.shape.now) c.args.mesh.now start c.args.runner.now run c.requires.clear c.take_turn-halt.new.lane c.take_turn-halt.new.sent c.take_turn-halt.new.log t.0 c.len-before.result (c.made.result - c.made-first.result)
+    (has_made {C = g.row.C.Denot} {A = g.row.A.Denot} {L = g.row.L.Denot} g.L.Log.KEEPS_EVENTS (setting_in g.C.Instructions.program g.C.Instructions.width c.args.shape.now) c.args.mesh.now start c.args.runner.now run c.requires.clear c.take_turn-halt.new.lane c.take_turn-halt.new.sent c.take_turn-halt.new.log t.0 c.len-before.result (c.made.result - c.made-first.result)
     t.1 c.take_turn-halt.ensures.sound c.take_turn-halt.ensures.fixed (c.len-before.ensures ∙ ap (λ (q : List Token). length q) c.queue.ensures) (ap (λ (n : ℕ). n - c.made-first.result) c.made.ensures ∙ ap (λ (n : ℕ). c.take_turn-halt.new.lane.held.made - n) c.made-first.ensures) t.2)
 
 pub returns-clause-halts : goal.returns-clause-halts
 returns-clause-halts g c =
     let s : Setting = setting_in g.C.Instructions.program g.C.Instructions.width c.args.shape.now in
     let runs = c.requires.runs.1.runs in
-    let new : Held = held_of c.take_turn-halt.new.lane in
+    let new : Holding = held_of c.take_turn-halt.new.lane in
     let why = c.take_turn-halt.result in
-    subst (λ (h : Held). HaltsLane s.program s.steps false h why) (sym c.in_ok-commit.ensures.lane)
+    subst (λ (h : Holding). HaltsLane s.program s.steps false h why) (sym c.in_ok-commit.ensures.lane)
     (subst (λ (p : Program). HaltsLane p s.steps false new why) runs.program
     (subst (λ (n : ℕ). HaltsLane c.args.runner.now.lane.program n false new why) runs.steps c.take_turn-halt.ensures.halts))
 
 pub returns-clause-whole : goal.returns-clause-whole
 returns-clause-whole g c = λ none.
     let s : Setting = setting_in g.C.Instructions.program g.C.Instructions.width c.args.shape.now in
-    let old : Held = held_of c.args.runner.now.lane in
-    let new : Held = held_of c.take_turn-halt.new.lane in
+    let old : Holding = held_of c.args.runner.now.lane in
+    let new : Holding = held_of c.take_turn-halt.new.lane in
     let whole : IsWhole s.turn old new None = subst (λ (why : Option Halt). IsWhole s.turn old new why) none c.take_turn-halt.ensures.whole in
-    subst (λ (h : Held). HasNoReason s h) (sym c.in_ok-commit.ensures.lane) (no_reason s old new whole)
+    subst (λ (h : Holding). HasNoReason s h) (sym c.in_ok-commit.ensures.lane) (no_reason s old new whole)

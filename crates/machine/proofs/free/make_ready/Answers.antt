@@ -1,6 +1,6 @@
 use Rattle.std.proofs.Common.{sym, ◌∙◌, ap, subst, List, length, map}
 use Rattle.std.proofs.lemmas.List.{length-map}
-use Rattle.element.specs.Held.{LaneView, Held, held_of}
+use Rattle.element.specs.Holding.{LaneView, Holding, held_of}
 use Rattle.schedule.specs.State.{tokens_in}
 use Rattle.mesh.specs.Seats.{SeatView, AreFresh}
 use Rattle.machine.specs.Starts.{lane_in}
@@ -17,7 +17,7 @@ pub returns-clause-lanes : goal.returns-clause-lanes
 returns-clause-lanes g c =
     let is = c.in_ok-runners.ensures.lanes in (
       is,
-      sym (length-map c.in_ok-runners.runners.items (lane_in {C = g.row.C.Denot} {A = g.row.A.Denot} {L = g.row.L.Denot})) ∙ ap (λ (l : List Held). length l) is ∙ length-map c.args.lanes.items held_of ∙ c.requires.count,
+      sym (length-map c.in_ok-runners.runners.items (lane_in {C = g.row.C.Denot} {A = g.row.A.Denot} {L = g.row.L.Denot})) ∙ ap (λ (l : List Holding). length l) is ∙ length-map c.args.lanes.items held_of ∙ c.requires.count,
     )
 
 pub returns-clause-seats : goal.returns-clause-seats

@@ -5,7 +5,7 @@ use Rattle.std.proofs.lemmas.Iterator.Consumers.{YieldsList-end}
 use Rattle.crossbeam_utils.specs.declared.cache_padded.CachePadded.{CachePadded}
 use Rattle.machine.specs.declared.runner.Runner.{Runner}
 use Rattle.machine.specs.Starts.{seat_of, notes_of, lanes_in, seats_in, logs_in}
-use Rattle.element.specs.Held.{LaneView, held_of}
+use Rattle.element.specs.Holding.{LaneView, held_of}
 use Rattle.machine.proofs.Lists.{lanes_more, map_push}
 use Rattle.machine.proofs.starting.parts_in.Goals as goal
 

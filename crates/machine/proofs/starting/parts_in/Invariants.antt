@@ -1,5 +1,5 @@
 use Rattle.std.proofs.Common.{◌≡◌, map}
-use Rattle.element.specs.Held.{held_of}
+use Rattle.element.specs.Holding.{held_of}
 use Rattle.machine.specs.Starts.{lanes_in, seats_in, logs_in}
 use Rattle.machine.proofs.starting.parts_in.Given as goal
 

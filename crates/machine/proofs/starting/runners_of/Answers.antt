@@ -3,7 +3,7 @@ use Rattle.std.proofs.lemmas.List.{append-nil, nil_from_length}
 use Rattle.std.proofs.lemmas.List.Elements.{All-nil, All-push}
 use Rattle.crossbeam_utils.specs.declared.cache_padded.CachePadded.{CachePadded}
 use Rattle.crossbeam_utils.specs.Padded.{padded_value}
-use Rattle.element.specs.Held.{LaneView, held_of, fixed_of}
+use Rattle.element.specs.Holding.{LaneView, held_of, fixed_of}
 use Rattle.mesh.specs.Seats.{SeatView}
 use Rattle.rounds.proofs.Changes.{moved_first}
 use Rattle.machine.specs.declared.runner.Runner.{Runner}

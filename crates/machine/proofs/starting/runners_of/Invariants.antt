@@ -1,6 +1,6 @@
 use Rattle.std.proofs.Common.{◌≡◌, ◌++◌, ◌+◌, map, length, All}
 use Rattle.crossbeam_utils.specs.Padded.{padded_value}
-use Rattle.element.specs.Held.{held_of, fixed_of}
+use Rattle.element.specs.Holding.{held_of, fixed_of}
 use Rattle.machine.specs.Starts.{IsNew, lanes_in, lanes_fixed, seats_in}
 use Rattle.machine.proofs.starting.runners_of.Given as goal
 

@@ -1,6 +1,6 @@
 use Rattle.std.proofs.Common.{◌∙◌, ap, map, List}
 use Rattle.std.proofs.lemmas.List.{take_all}
-use Rattle.element.specs.Held.{LaneView, held_of}
+use Rattle.element.specs.Holding.{LaneView, held_of}
 use Rattle.schedule.specs.State.{tokens_in}
 use Rattle.machine.proofs.Lists.{queues_more}
 use Rattle.machine.proofs.starting.tokens_of.Goals as goal

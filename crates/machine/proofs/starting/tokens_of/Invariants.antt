@@ -1,5 +1,5 @@
 use Rattle.std.proofs.Common.{◌≡◌, take, map}
-use Rattle.element.specs.Held.{held_of}
+use Rattle.element.specs.Holding.{held_of}
 use Rattle.schedule.specs.State.{tokens_in}
 use Rattle.machine.proofs.starting.tokens_of.Given as goal
 

@@ -2,7 +2,7 @@ use Rattle.std.proofs.Common.{sym, subst, List, get_or}
 use Rattle.std.specs.Prelude.{All}
 use Rattle.tags.specs.declared.token.Token.{Token}
 use Rattle.element.specs.Near.{Bounds, IsNearToken}
-use Rattle.element.specs.Held.{Fixed, fixed_of, IsFor}
+use Rattle.element.specs.Holding.{Fixed, fixed_of, IsFor}
 use Rattle.schedule.specs.State.{setting_in}
 use Rattle.schedule.specs.Setting.{Setting}
 use Rattle.schedule.proofs.Staying.{bounds_as}

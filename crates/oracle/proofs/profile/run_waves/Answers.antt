@@ -18,7 +18,7 @@ next_wave-requires-clause-never_broken g c =
     let s = c.loop-counts.state in
     let now = plain s.invocations s.fresh.items [] s.deferred.items s.cells.items s.outputs.items in
     let rows = rows_of (map (λ v. v.items) s.waiting.items) in
-    λ e. c.requires.comes_to_an_end (c.loop-counts.invariant.2 ∙ waves_none c.args.checked.now now rows c.loop-counts.counts.items c.loop-counts.invariant.0 c.loop-counts.left e)
+    λ e. c.requires.has_end (c.loop-counts.invariant.2 ∙ waves_none c.args.checked.now now rows c.loop-counts.counts.items c.loop-counts.invariant.0 c.loop-counts.left e)
 
 pub loop-counts-preserved : goal.loop-counts-preserved
 loop-counts-preserved g c =
@@ -31,9 +31,9 @@ loop-counts-preserved g c =
     let next = plain t.invocations t.fresh.items [] t.deferred.items t.cells.items t.outputs.items in
     let rows = rows_of (map (λ v. v.items) s.waiting.items) in
     let rs = rows_of (map (λ v. v.items) t.waiting.items) in
-    let told = c.in_ok-count.ensures in
-    waves_next checked now rows c.loop-counts.counts.items c.loop-counts.invariant.0 left n c.loop-counts.invariant.1 (some_by c.in_ok-count.field-0 n c.in-Ok.is told.some) (few_by left c.in_ok-count.field-0 n c.in-Ok.is told.few)
-    next rs (passed_by checked left now next rows rs c.in_ok-count.field-0 n c.in-Ok.is told.wave) _ c.loop-counts.invariant.2 c.push.new.self.items c.in_ok-push-in-Ok.ensures.items
+    let run_result = c.in_ok-count.ensures in
+    waves_next checked now rows c.loop-counts.counts.items c.loop-counts.invariant.0 left n c.loop-counts.invariant.1 (some_by c.in_ok-count.field-0 n c.in-Ok.is run_result.some) (few_by left c.in_ok-count.field-0 n c.in-Ok.is run_result.few)
+    next rs (passed_by checked left now next rows rs c.in_ok-count.field-0 n c.in-Ok.is run_result.wave) _ c.loop-counts.invariant.2 c.push.new.self.items c.in_ok-push-in-Ok.ensures.items
 
 pub returns-in-Err : goal.returns-in-Err
 returns-in-Err g c =

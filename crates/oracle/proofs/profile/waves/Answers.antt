@@ -8,8 +8,8 @@ use Rattle.oracle.proofs.profile.waves.Goals as goal
 pub run_waves-requires-clause-few : goal.run_waves-requires-clause-few
 run_waves-requires-clause-few g c = few_cells c.args.checked.now c.graph.ensures.limits
 
-pub run_waves-requires-clause-comes_to_an_end : goal.run_waves-requires-clause-comes_to_an_end
-run_waves-requires-clause-comes_to_an_end g c =
+pub run_waves-requires-clause-has_end : goal.run_waves-requires-clause-has_end
+run_waves-requires-clause-has_end g c =
     let checked = c.args.checked.now in
     let fit : length c.args.inputs.now ≡ inputs_at checked (main_place checked) = c.if-inputs-input_count.false ∙ c.input_count.ensures
     ∙ ap (λ g. inputs_at g c.main_place.result) c.graph.ensures.same ∙ ap (inputs_at checked) c.main_place.ensures in

@@ -5,7 +5,7 @@ use Rattle.object_view.specs.Reading.{Opened}
 use Rattle.schedule.specs.Unlisted.{Quietly}
 use Rattle.driver.specs.Objects.{ShowsObjectIn}
 use Rattle.driver.specs.Refused.{IsRefusedObject}
-use Rattle.driver.proofs.Truth.{tells_quietly}
+use Rattle.driver.proofs.Truth.{reports_quietly}
 use Rattle.programs.proofs.Refusals.{not_run}
 use Rattle.programs.proofs.Shown.{quiet_shows}
 use Rattle.programs.proofs.running.run_program.Goals as goal
@@ -23,7 +23,7 @@ pub returns : goal.returns
 returns g c =
     let k = c.in_ok-object.ensures in
     let same = ap (λ (x : Opened). x.bytes) (c.in_ok-code.ensures ∙ c.as_object.ensures) in
-    let told = tells_quietly c.args.mode (text_of k.graph) k.graph c.in_ok-object.object.bytes c.args.inputs.now c.args.config g.G.Gate.may_stop
+    let reported = reports_quietly c.args.mode (text_of k.graph) k.graph c.in_ok-object.object.bytes c.args.inputs.now c.args.config g.G.Gate.may_stop
     c.in_ok-report.report k.compiled
     (subst (λ (bs : List ℕ). Quietly (ShowsObjectIn c.args.mode bs c.args.inputs.now c.args.config g.G.Gate.may_stop) c.in_ok-report.report) same
     c.in_ok-report.ensures) in
@@ -31,6 +31,7 @@ returns g c =
       program = k.program;
       graph = k.graph;
       lowers = k.lowers;
-      tells = told;
-      shows = quiet_shows c.args.text.now k.program k.graph k.lowers c.args.mode c.args.inputs.now c.args.config g.G.Gate.may_stop c.in_ok-report.report told;
+      truth = reported;
+      shows = quiet_shows c.args.text.now k.program k.graph k.lowers c.args.mode c.args.inputs.now c.args.config g.G.Gate.may_stop
+          c.in_ok-report.report reported;
     }

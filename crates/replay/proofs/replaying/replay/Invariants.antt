@@ -1,7 +1,7 @@
 use Rattle.std.proofs.Common.{◌≡◌, ◌*◌, ℤ, List, length, take, drop}
 use Rattle.semantics.specs.Machine.{Machine, Size, Run, at_start}
 use Rattle.replay.specs.Moments.{Watches}
-use Rattle.replay.specs.Follows.{Stands}
+use Rattle.replay.specs.DoesAs.{KnowsAll}
 use Rattle.replay.proofs.replaying.replay.Given as goal
 
 -- Each run has come this far, and goes on with the other events.
@@ -12,5 +12,5 @@ invariant-loop-event g l = record {
       → Run (g.C.Instructions.program l.code) z (at_start (g.C.Instructions.program l.code) xs) l.events last
       → (mid : Machine) × Watches (g.C.Instructions.program l.code) z (at_start (g.C.Instructions.program l.code) xs)
       (take l.event-index l.events) l.moments.items mid
-      × Stands (g.C.Instructions.program l.code) l.state mid × Run (g.C.Instructions.program l.code) z mid (drop l.event-index l.events) last;
+      × KnowsAll (g.C.Instructions.program l.code) l.state mid × Run (g.C.Instructions.program l.code) z mid (drop l.event-index l.events) last;
 }

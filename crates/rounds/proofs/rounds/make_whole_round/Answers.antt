@@ -17,8 +17,8 @@ returns-clause-made g c =
     let after = c.make_round.new.setup.log.events.items in
     let tokens = c.make_round.new.tokens.items in
     let same : take c.args.turners.now.len (new ++ drop (length new) old) ≡ new = same_slice c.args.turners.now.len new old (sym c.deref_mut.ensures.len ∙ ap (λ (l : List (Turner g.row.C.Denot g.row.A.Denot g.row.L.Denot)). length l) value) (c.make_round.ensures.count ∙ ap (λ (l : List (Turner g.row.C.Denot g.row.A.Denot g.row.L.Denot)). length l) value) in
-    subst (λ (l : List (Turner g.row.C.Denot g.row.A.Denot g.row.L.Denot)). OnOk c.make_round.result (MadeRound s g.L.Log.LISTS g.G.Gate.may_stop old before l after (tokens ++ tokens_sent l))) (sym same)
-    (subst (λ (l : List (Turner g.row.C.Denot g.row.A.Denot g.row.L.Denot)). OnOk c.make_round.result (MadeRound s g.L.Log.LISTS g.G.Gate.may_stop l before new after (tokens ++ tokens_sent new))) value c.make_round.ensures.made)
+    subst (λ (l : List (Turner g.row.C.Denot g.row.A.Denot g.row.L.Denot)). OnOk c.make_round.result (MadeRound s g.L.Log.KEEPS_EVENTS g.G.Gate.may_stop old before l after (tokens ++ tokens_sent l))) (sym same)
+    (subst (λ (l : List (Turner g.row.C.Denot g.row.A.Denot g.row.L.Denot)). OnOk c.make_round.result (MadeRound s g.L.Log.KEEPS_EVENTS g.G.Gate.may_stop l before new after (tokens ++ tokens_sent new))) value c.make_round.ensures.made)
 
 pub returns-clause-all : goal.returns-clause-all
 returns-clause-all g c =

@@ -12,7 +12,7 @@ invariant-rounds g l = record {
   between : IsBetween (setting_in g.C.Instructions.program g.C.Instructions.width l.fn.setup.shape) l.turners.items;
   tokens : l.tokens.items ≡ [];
   made : Events;
-  noted : l.setup.log.events.items ≡ logged g.L.Log.LISTS l.fn.setup.log.events.items made;
+  noted : l.setup.log.events.items ≡ logged g.L.Log.KEEPS_EVENTS l.fn.setup.log.events.items made;
   leads : Leads (setting_in g.C.Instructions.program g.C.Instructions.width l.fn.setup.shape) l.fn.turners.items l.turners.items [] made;
   makes : MakesRounds (setting_in g.C.Instructions.program g.C.Instructions.width l.fn.setup.shape) g.G.Gate.may_stop l.rounds (lanes_held l.fn.turners.items) (lanes_held l.turners.items) made None;
 }

@@ -3,5 +3,5 @@ use Rattle.rounds.proofs.rounds.run.Goals as goal
 pub returns : goal.returns
 returns g c = record {
   shows = c.run_counted.ensures.shows;
-  tells = (c.run_counted.result.rounds, c.run_counted.ensures.tells);
+  truth = (c.run_counted.result.rounds, c.run_counted.ensures.truth);
 }

@@ -1,9 +1,9 @@
 use Rattle.std.proofs.Common.{refl, sym, ap, subst, [], false}
 use Rattle.schedule.specs.Setting.{size}
-use Rattle.schedule.specs.Runs.{Kept, Began}
-use Rattle.rounds.specs.Counted.{TellsRounds}
+use Rattle.schedule.specs.Runs.{SoFar, Began}
+use Rattle.rounds.specs.Counted.{ReportsRounds}
 use Rattle.rounds.specs.Rounds.{ShowsOn}
-use Rattle.rounds.proofs.Closing.{told_quietly}
+use Rattle.rounds.proofs.Closing.{reported_quietly}
 use Rattle.rounds.proofs.rounds.run_quietly.Goals as goal
 
 pub returns : goal.returns
@@ -13,10 +13,10 @@ returns g c =
     let may = g.G.Gate.may_stop in
     let same = c.without_events.ensures in
     let r = c.run_machine.result.report in
-    let none = c.run_machine.ensures.unlisted refl (ap (λ (k : Kept). k.events) same) in
+    let none = c.run_machine.ensures.unlisted refl (ap (λ (k : SoFar). k.events) same) in
     record {
-      shows = λ inputs b. told_quietly z.program (size z) inputs z.steps may [] m.events r none
-          (subst (λ (k : Kept). ShowsOn false k.state.setting.program (size k.state.setting) inputs k.state.setting.steps may k.events m.events r) same
-          (c.run_machine.ensures.shows inputs m.events (subst (λ (k : Kept). Began inputs k.state m.events) (sym same) b)));
-      tells = (c.run_machine.result.rounds, subst (λ (k : Kept). TellsRounds false may k c.run_machine.result.rounds r) same c.run_machine.ensures.tells);
+      shows = λ inputs b. reported_quietly z.program (size z) inputs z.steps may [] m.events r none
+          (subst (λ (k : SoFar). ShowsOn false k.state.setting.program (size k.state.setting) inputs k.state.setting.steps may k.events m.events r) same
+          (c.run_machine.ensures.shows inputs m.events (subst (λ (k : SoFar). Began inputs k.state m.events) (sym same) b)));
+      truth = (c.run_machine.result.rounds, subst (λ (k : SoFar). ReportsRounds false may k c.run_machine.result.rounds r) same c.run_machine.ensures.truth);
     }

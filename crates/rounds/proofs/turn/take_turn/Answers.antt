@@ -1,7 +1,7 @@
 use Rattle.std.proofs.Common.{◌≡◌, ◌∙◌, ap, subst, ◌<◌, ◌++◌, ◌∷◌, [], arith}
 use Rattle.std.proofs.lemmas.List.{length-append}
 use Rattle.semantics.specs.Program.{Program}
-use Rattle.element.specs.Held.{Fixed, IsSoundLane}
+use Rattle.element.specs.Holding.{Fixed, IsSoundLane}
 use Rattle.element.specs.Steps.{Does, Steps}
 use Rattle.element.specs.declared.lane.Stepped.{Stepped}
 use Rattle.rounds.proofs.Turning.{turns_more, one_token, noted_more}
@@ -32,7 +32,7 @@ events-preserved g c =
       turns = (
         so_far.0 ++ does.token ∷ [],
         turns_more start.program start.steps start.held c.args.sent.now.items so_far.0 old.held c.events.sent.items next.held c.step.new.sent.items so_far.1 does few sound,
-        noted_more g.L.Log.LISTS c.args.log.now.events.items c.events.log.events.items c.make_room.new.self.events.items c.note.new.self.events.items c.element.result start.held.part.shape.element so_far.0 does.token c.in-Some.token so_far.2 c.make_room.ensures.same c.note.ensures element token,
+        noted_more g.L.Log.KEEPS_EVENTS c.args.log.now.events.items c.events.log.events.items c.make_room.new.self.events.items c.note.new.self.events.items c.element.result start.held.part.shape.element so_far.0 does.token c.in-Some.token so_far.2 c.make_room.ensures.same c.note.ensures element token,
         (let l = length-append so_far.0 (does.token ∷ []) in let b = so_far.3 in omega arith),
       );
     }

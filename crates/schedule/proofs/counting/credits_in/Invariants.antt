@@ -1,7 +1,7 @@
 use Rattle.std.proofs.Common.{◌≡◌, ◌≤◌, Some}
 use Rattle.semantics.specs.Report.{sum_below, waiters}
-use Rattle.element.specs.Held.{held_of}
-use Rattle.schedule.specs.Told.{slot_of_lane}
+use Rattle.element.specs.Holding.{held_of}
+use Rattle.schedule.specs.Reported.{slot_of_lane}
 use Rattle.schedule.proofs.counting.credits_in.Given as goal
 
 abbrev pub invariant-loop-slot : goal.invariant-loop-slot

@@ -2,8 +2,8 @@ use Rattle.std.proofs.Common.{◌∙◌, sym, ap, ℕ, ◌%◌, ◌<◌, ◌+◌
 use Rattle.std.proofs.Math.Nat.{mod-lt}
 use Rattle.semantics.specs.Report.{sum_below}
 use Rattle.istructure.specs.OwnCells.{OwnCells, cell_at, readers_in}
-use Rattle.element.specs.Held.{held_of}
-use Rattle.schedule.specs.Told.{cell_readers}
+use Rattle.element.specs.Holding.{held_of}
+use Rattle.schedule.specs.Reported.{cell_readers}
 use Rattle.schedule.proofs.Sums.{sum_next, readers_there}
 use Rattle.schedule.proofs.counting.deferred.Goals as goal
 

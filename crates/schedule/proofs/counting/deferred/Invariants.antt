@@ -1,7 +1,7 @@
 use Rattle.std.proofs.Common.{◌≡◌, map}
 use Rattle.semantics.specs.Report.{sum_below}
-use Rattle.element.specs.Held.{held_of}
-use Rattle.schedule.specs.Told.{cell_readers}
+use Rattle.element.specs.Holding.{held_of}
+use Rattle.schedule.specs.Reported.{cell_readers}
 use Rattle.schedule.proofs.counting.deferred.Given as goal
 
 abbrev pub invariant-loop-cell : goal.invariant-loop-cell

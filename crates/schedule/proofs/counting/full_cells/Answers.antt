@@ -3,8 +3,8 @@ use Rattle.std.proofs.Math.Nat.{mod-lt}
 use Rattle.tags.specs.declared.value.Value.{Value}
 use Rattle.std.specs.Prelude.{Option}
 use Rattle.istructure.specs.OwnCells.{OwnCells, value_at}
-use Rattle.element.specs.Held.{held_of}
-use Rattle.schedule.specs.Told.{full_below, entry}
+use Rattle.element.specs.Holding.{held_of}
+use Rattle.schedule.specs.Reported.{full_below, entry}
 use Rattle.schedule.proofs.Sums.{full_next, value_there}
 use Rattle.schedule.proofs.counting.full_cells.Goals as goal
 

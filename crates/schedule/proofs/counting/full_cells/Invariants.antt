@@ -1,6 +1,6 @@
 use Rattle.std.proofs.Common.{◌≡◌, map}
-use Rattle.element.specs.Held.{held_of}
-use Rattle.schedule.specs.Told.{full_below}
+use Rattle.element.specs.Holding.{held_of}
+use Rattle.schedule.specs.Reported.{full_below}
 use Rattle.schedule.proofs.counting.full_cells.Given as goal
 
 abbrev pub invariant-loop-cell : goal.invariant-loop-cell

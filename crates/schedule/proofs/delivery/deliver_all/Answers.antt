@@ -3,9 +3,9 @@ use Rattle.std.specs.Prelude.{All}
 use Rattle.std.proofs.lemmas.List.{drop_more}
 use Rattle.std.proofs.lemmas.List.Elements.{All-head, All-tail}
 use Rattle.tags.specs.declared.token.Token.{Token}
-use Rattle.element.specs.Held.{Held, Fixed, held_of, fixed_of}
+use Rattle.element.specs.Holding.{Holding, Fixed, held_of, fixed_of}
 use Rattle.schedule.specs.State.{AllFrom, IsAt, IsNearIn, delivered}
-use Rattle.schedule.proofs.Memory.{delivered_at, come_more}
+use Rattle.schedule.proofs.Memory.{delivered_at, arrived_more}
 use Rattle.schedule.proofs.delivery.deliver_all.Goals as goal
 
 pub loop-place-preserved : goal.loop-place-preserved
@@ -23,8 +23,8 @@ loop-place-preserved g c =
       fixed = c.receive.ensures.fixed ∙ c.loop-place.invariant.fixed;
       near = All-tail (IsNearIn fs) t (drop (k + 1) c.args.sent.now.items) (subst (λ (ts : List Token). All (IsNearIn fs) ts) first c.loop-place.invariant.near);
       count = c.receive.ensures.count ∙ c.loop-place.invariant.count;
-      at = subst (λ (l : List Held). AllFrom (IsAt c.args.elements) 0 l) (sym got) (delivered_at c.args.elements 0 (c.index-token.result.now ∷ []) (map held_of old) c.loop-place.invariant.at);
-      same = come_more old new c.args.sent.now.items c.loop-place.place c.index-token.result.now low c.index-token.ensures got ∙ c.loop-place.invariant.same;
+      at = subst (λ (l : List Holding). AllFrom (IsAt c.args.elements) 0 l) (sym got) (delivered_at c.args.elements 0 (c.index-token.result.now ∷ []) (map held_of old) c.loop-place.invariant.at);
+      same = arrived_more old new c.args.sent.now.items c.loop-place.place c.index-token.result.now low c.index-token.ensures got ∙ c.loop-place.invariant.same;
     }
 
 pub receive-requires-clause-near : goal.receive-requires-clause-near

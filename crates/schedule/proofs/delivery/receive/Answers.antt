@@ -3,7 +3,7 @@ use Rattle.std.specs.Prelude.{slice_set}
 use Rattle.tags.specs.Addresses.{element_of}
 use Rattle.tags.proofs.Elements.{element_below}
 use Rattle.element.specs.Near.{IsNearToken}
-use Rattle.element.specs.Held.{LaneView, Fixed, held_of, fixed_of, bounds_at, with_more}
+use Rattle.element.specs.Holding.{LaneView, Fixed, held_of, fixed_of, bounds_at, with_more}
 use Rattle.schedule.specs.State.{IsAt, delivered}
 use Rattle.schedule.proofs.Places.{first_get}
 use Rattle.schedule.proofs.Staying.{runs_at, fixed_set}

@@ -11,7 +11,7 @@ use Rattle.tags.specs.declared.token.Token.{Token}
 use Rattle.semantics.specs.Rule.{token}
 use Rattle.std.proofs.lemmas.List.Elements.{All-weaker}
 use Rattle.element.specs.Near.{IsNearToken}
-use Rattle.element.specs.Held.{Held, Fixed, held_of, fixed_of, bounds_at}
+use Rattle.element.specs.Holding.{Holding, Fixed, held_of, fixed_of, bounds_at}
 use Rattle.schedule.specs.State.{AllFrom, IsAt, IsNearIn, delivered}
 use Rattle.schedule.specs.Starts.{start_tokens}
 use Rattle.schedule.proofs.Tokens.{delivered_twice}
@@ -24,7 +24,7 @@ loop-input-init g c =
     let got = c.in_ok-receive.ensures.ok in
     record {
       count = c.receive.ensures.count ∙ c.requires.count;
-      at = subst (λ (l : List Held). AllFrom (IsAt c.args.elements) 0 l) (sym got) (delivered_at c.args.elements 0 (start_tokens c.args.first []) (map held_of c.args.lanes.now.items) c.requires.at);
+      at = subst (λ (l : List Holding). AllFrom (IsAt c.args.elements) 0 l) (sym got) (delivered_at c.args.elements 0 (start_tokens c.args.first []) (map held_of c.args.lanes.now.items) c.requires.at);
       fixed = c.receive.ensures.fixed;
       given = got;
       ip = omega arith;
@@ -43,9 +43,9 @@ loop-input-preserved g c =
     let more = start_more c.args.first c.loop-input.ip c.loop-input.input-index c.args.inputs.now x low is c.loop-input.invariant.ip in
     record {
       count = c.receive-in-loop-input.ensures.count ∙ c.loop-input.invariant.count;
-      at = subst (λ (l : List Held). AllFrom (IsAt c.args.elements) 0 l) (sym got) (delivered_at c.args.elements 0 (t ∷ []) old c.loop-input.invariant.at);
+      at = subst (λ (l : List Holding). AllFrom (IsAt c.args.elements) 0 l) (sym got) (delivered_at c.args.elements 0 (t ∷ []) old c.loop-input.invariant.at);
       fixed = c.receive-in-loop-input.ensures.fixed ∙ c.loop-input.invariant.fixed;
-      given = got ∙ ap (λ (l : List Held). delivered (t ∷ []) l) c.loop-input.invariant.given
+      given = got ∙ ap (λ (l : List Holding). delivered (t ∷ []) l) c.loop-input.invariant.given
           ∙ delivered_twice (start_tokens c.args.first (take c.loop-input.input-index c.args.inputs.now)) (t ∷ []) (map held_of c.args.lanes.now.items)
           ∙ ap (λ (ts : List Token). delivered ts (map held_of c.args.lanes.now.items)) more;
       ip = omega arith;

@@ -1,5 +1,5 @@
 use Rattle.std.proofs.Common.{◌≡◌, ◌+◌, length, map, take}
-use Rattle.element.specs.Held.{held_of, fixed_of}
+use Rattle.element.specs.Holding.{held_of, fixed_of}
 use Rattle.schedule.specs.State.{AllFrom, IsAt, delivered}
 use Rattle.schedule.specs.Starts.{start_tokens}
 use Rattle.schedule.proofs.machine.give_inputs.Given as goal

@@ -4,7 +4,7 @@ use Rattle.semantics.specs.Program.{first_of}
 use Rattle.semantics.specs.Machine.{Events}
 use Rattle.std.specs.Prelude.{All}
 use Rattle.std.proofs.Math.Nat.{one-le-mul}
-use Rattle.element.specs.Held.{Held, Fixed, held_of, fixed_of}
+use Rattle.element.specs.Holding.{Holding, Fixed, held_of, fixed_of}
 use Rattle.schedule.specs.Setting.{IsGoodSetting}
 use Rattle.schedule.specs.State.{IsAt, IsSoundState, RunsAs, delivered}
 use Rattle.schedule.specs.Runs.{Began}
@@ -52,9 +52,9 @@ invariant_of-result g c =
     let count : length lanes ≡ k.elements = length-map c.in_ok-lanes.lanes.items held_of ∙ c.in_ok-lanes.ensures.count ∙ ap (λ x. x.elements) as_made in
     let are = lanes_are p c.give_inputs.new.lanes.items c.new-2.result.items c.main_entry.result c.args.inputs.now lanes c.new-2.ensures.items c.main_entry.ensures.exact c.in_ok-give_inputs.ensures.ok in
     record {
-      come = omega arith;
+      arrived = omega arith;
       runs = subst (λ (fs : List Fixed). All (RunsAs (setting_of p w k)) fs) (sym c.give_inputs.ensures.fixed) (runs_good p w k fixed (runs_over p v k.elements k.frames c.slots.result w k.steps fixed as_made c.slots.ensures.exact c.in_ok-lanes.ensures.runs));
-      sound = subst (λ (l : List Held). IsSoundState (record { setting = setting_of p w k; lanes = l })) are (opens_sound (setting_of p w k) c.args.inputs.now lanes good count fresh);
+      sound = subst (λ (l : List Holding). IsSoundState (record { setting = setting_of p w k; lanes = l })) are (opens_sound (setting_of p w k) c.args.inputs.now lanes good count fresh);
     }
 
 pub returns : goal.returns
@@ -76,8 +76,8 @@ returns g c =
       some_frame = c.requires.some_frame;
       good = c.requires.good;
       setting = refl;
-      sound = subst (λ (l : List Held). IsSoundState (record { setting = setting_of p w k; lanes = l })) are (opens_sound (setting_of p w k) c.args.inputs.now lanes good count fresh);
-      began = subst (λ (l : List Held). Began c.args.inputs.now (record { setting = setting_of p w k; lanes = l }) c.new-3.result.events.items) are
+      sound = subst (λ (l : List Holding). IsSoundState (record { setting = setting_of p w k; lanes = l })) are (opens_sound (setting_of p w k) c.args.inputs.now lanes good count fresh);
+      began = subst (λ (l : List Holding). Began c.args.inputs.now (record { setting = setting_of p w k; lanes = l }) c.new-3.result.events.items) are
           (subst (λ (evs : Events). Began c.args.inputs.now (record { setting = setting_of p w k; lanes = delivered (start_tokens (first_of p p.main) c.args.inputs.now) lanes }) evs) (sym c.new-3.ensures) (opens_began (setting_of p w k) c.args.inputs.now lanes good count fresh));
       lanes = (lanes, fresh, sym are);
       events = c.new-3.ensures;

@@ -5,13 +5,13 @@ use Rattle.std.proofs.lemmas.List.{length-replicate, map-append, length-map, len
 use Rattle.std.proofs.lemmas.List.Elements.{All-nil, All-push, All-replicate}
 use Rattle.tags.specs.declared.slot.SlotState.{SlotState}
 use Rattle.tags.specs.declared.slot.SlotState.TheVariants.{Empty}
-use Rattle.element.specs.Held.{held_of, fixed_of}
+use Rattle.element.specs.Holding.{held_of, fixed_of}
 use Rattle.frame_store.specs.BankViews.{bank_states}
-use Rattle.frame_store.specs.Banked.{left_of}
+use Rattle.frame_store.specs.Banked.{remaining_of}
 use Rattle.frame_store.specs.Slots.{Slots}
 use Rattle.schedule.specs.State.{AllFrom, RunsAs}
 use Rattle.schedule.specs.Starts.{IsFresh, sized}
-use Rattle.schedule.proofs.Openings.{bank_states_are, banks_left, banks_come}
+use Rattle.schedule.proofs.Openings.{bank_states_are, banks_left, banks_arrived}
 use Rattle.schedule.proofs.Places.{from_push}
 use Rattle.schedule.proofs.opening.fresh_lanes.Goals as goal
 
@@ -41,7 +41,7 @@ pub unreachable-requires : goal.unreachable-requires
 unreachable-requires g c =
     let s : ℕ = c.args.store.now.frames * c.args.store.now.width in
     let low : c.loop-element.element < c.elements-elements.result = c.loop-element-test.true in
-    let comes = banks_come c.elements-elements.result c.loop-element.element s (left_of c.loop-element.banks) low c.loop-element.invariant.left in
+    let comes = banks_arrived c.elements-elements.result c.loop-element.element s (remaining_of c.loop-element.banks) low c.loop-element.invariant.left in
     let ends = rw c.in_default.is at c.next.ensures.steps in
     let short = ends.0.0 in
     let size = c.loop-element.invariant.size in
@@ -55,7 +55,7 @@ lane_at-requires-clause-bank g c =
     let b = c.in-Some.bank in
     let size = c.loop-element.invariant.size in
     let some : 0 < c.elements-elements.result - c.loop-element.element = omega arith in
-    let states = bank_states_are (c.elements-elements.result - c.loop-element.element) s (bank_states b) (left_of c.loop-element.banks) some c.loop-element.invariant.left (e.0.0 ∙ ap (λ (n : ℕ). take n (left_of c.loop-element.banks)) size) in
+    let states = bank_states_are (c.elements-elements.result - c.loop-element.element) s (bank_states b) (remaining_of c.loop-element.banks) some c.loop-element.invariant.left (e.0.0 ∙ ap (λ (n : ℕ). take n (remaining_of c.loop-element.banks)) size) in
     let count : length (bank_states b) ≡ s = ap (λ (l : List SlotState). length l) states ∙ length-replicate s Empty in
     let start : b.start ≡ 0 = e.0.2 in
     let place : b.frames * b.width ≡ s = ap (λ (n : ℕ). n * b.width) (e.0.3 ∙ c.loop-element.invariant.frames) ∙ ap (λ (n : ℕ). c.args.store.now.frames * n) (e.0.4 ∙ c.loop-element.invariant.width) in
@@ -68,7 +68,7 @@ lane_at-requires-clause-empty g c =
     let e = c.in-Some.ensures.steps in
     let b = c.in-Some.bank in
     let some : 0 < c.elements-elements.result - c.loop-element.element = omega arith in
-    let states = bank_states_are (c.elements-elements.result - c.loop-element.element) s (bank_states b) (left_of c.loop-element.banks) some c.loop-element.invariant.left (e.0.0 ∙ ap (λ (n : ℕ). take n (left_of c.loop-element.banks)) c.loop-element.invariant.size) in
+    let states = bank_states_are (c.elements-elements.result - c.loop-element.element) s (bank_states b) (remaining_of c.loop-element.banks) some c.loop-element.invariant.left (e.0.0 ∙ ap (λ (n : ℕ). take n (remaining_of c.loop-element.banks)) c.loop-element.invariant.size) in
     subst (λ (l : List SlotState). All (λ (x : SlotState). x ≡ Empty) l) (sym states) (All-replicate (λ (x : SlotState). x ≡ Empty) s Empty refl)
 
 pub loop-element-preserved : goal.loop-element-preserved
@@ -93,7 +93,7 @@ loop-element-preserved g c =
     let items = c.in_ok-push.ensures.items in
     record {
       count = ap (λ (l : List _). length l) items ∙ (let a = length_push c.loop-element.lanes.items c.in_ok-lane.lane in let q = c.loop-element.invariant.count in omega arith);
-      left = banks_left n k s (left_of c.loop-element.banks) (left_of c.next.new.self) low c.loop-element.invariant.left (e.0.1 ∙ ap (λ (m : ℕ). drop m (left_of c.loop-element.banks)) c.loop-element.invariant.size);
+      left = banks_left n k s (remaining_of c.loop-element.banks) (remaining_of c.next.new.self) low c.loop-element.invariant.left (e.0.1 ∙ ap (λ (m : ℕ). drop m (remaining_of c.loop-element.banks)) c.loop-element.invariant.size);
       size = e.1.0 ∙ c.loop-element.invariant.size;
       frames = e.1.1 ∙ c.loop-element.invariant.frames;
       width = e.1.2 ∙ c.loop-element.invariant.width;

@@ -1,7 +1,7 @@
 use Rattle.std.proofs.Common.{◌≡◌, refl, ◌∙◌, ap, subst, ℕ, ◌*◌, Some}
 use Rattle.std.proofs.lemmas.Result.{IfOk-weaker}
 use Rattle.semantics.specs.Program.{Program}
-use Rattle.element.specs.Held.{LaneView, fixed_of, IsSoundLane}
+use Rattle.element.specs.Holding.{LaneView, fixed_of, IsSoundLane}
 use Rattle.element.specs.Openings.{opened, shape_at, StartsAs}
 use Rattle.frame_store.specs.BankViews.{bank_states}
 use Rattle.istructure.specs.OwnCells.{all_vacant}

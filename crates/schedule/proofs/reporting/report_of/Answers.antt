@@ -1,5 +1,5 @@
 use Rattle.std.proofs.Common.{refl, ◌∙◌, ap, ℕ, inl, inr}
-use Rattle.schedule.specs.Told.{opening_picture}
+use Rattle.schedule.specs.Reported.{opening_picture}
 use Rattle.schedule.proofs.reporting.report_of.Goals as goal
 
 pub returns-in-Ok : goal.returns-in-Ok

@@ -1,6 +1,6 @@
 use Rattle.std.proofs.Common.{◌<◌, ◌≤◌, length, arith}
 use Rattle.source_text.proofs.Tokens.{reads_on, stops, finishes, same_read}
-use Rattle.source_text.proofs.Trees.{told, read_so}
+use Rattle.source_text.proofs.Trees.{reported, read_so}
 use Rattle.source_text.proofs.reading.parse.Goals as goal
 
 pub returns-in-Err : goal.returns-in-Err
@@ -8,7 +8,7 @@ returns-in-Err g c =
     let reader = c.loop-token.reader in
     let tokens = c.args.tokens.now in
     let h : c.loop-token.token-index < length tokens = omega arith in
-    told c.args.text.now tokens _ (stops c.args.text.now tokens c.loop-token.token-index _ reader.names.numbers reader.names.table.items
+    reported c.args.text.now tokens _ (stops c.args.text.now tokens c.loop-token.token-index _ reader.names.numbers reader.names.table.items
     reader.parser.stack.items reader.parser.words.items
     c.in-Err.kind h (same_read tokens c.loop-token.token-index _ _ h) c.loop-token.invariant c.in-Err.ensures)
 

@@ -10,7 +10,7 @@ returns-in-Err g c =
     record {
       fault = fault;
       has = subst (λ program. HasFault program fault) c.split-parted.ensures.program c.in-Err.ensures;
-      is = c.told.ensures ∙ ap {B = ProgramFault}
+      is = c.reported.ensures ∙ ap {B = ProgramFault}
           (λ program. record { kind = fault.kind; line = (position program fault.at).line; column = (position program fault.at).column })
           c.split-parted.ensures.program;
     }

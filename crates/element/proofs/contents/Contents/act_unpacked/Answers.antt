@@ -1,6 +1,6 @@
 use Rattle.std.proofs.Common.{sym, subst}
 use Rattle.tags.specs.declared.token.Token.{Token}
-use Rattle.element.specs.Held.{held_in}
+use Rattle.element.specs.Holding.{held_in}
 use Rattle.element.specs.Acts.{CanAct, ActsAs}
 use Rattle.element.proofs.contents.Contents.act_unpacked.Goals as goal
 

@@ -2,7 +2,7 @@ use Rattle.std.proofs.Common.{◌≡◌, ◌+◌, ◌≤◌, ◌++◌, length, t
 use Rattle.std.specs.Prelude.{vec_len}
 use Rattle.std.specs.Vec.{vec_capacity}
 use Rattle.semantics.specs.Machine.{answers}
-use Rattle.element.specs.Held.{held_in, shape_of, queued, elsewhere}
+use Rattle.element.specs.Holding.{held_in, shape_of, queued, elsewhere}
 use Rattle.element.proofs.contents.Contents.answer_all.Given as goal
 
 abbrev pub invariant-loop-k : goal.invariant-loop-k

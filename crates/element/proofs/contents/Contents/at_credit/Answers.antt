@@ -5,9 +5,9 @@ use Rattle.tags.specs.declared.token.Word.{Word}
 use Rattle.tags.specs.declared.slot.SlotState.TheVariants.{Empty}
 use Rattle.semantics.specs.Rule.{Becomes, outcome_of}
 use Rattle.element.specs.Decoded.{instr_of}
-use Rattle.element.specs.Fired.{seat_of}
+use Rattle.element.specs.Fired.{point_of}
 use Rattle.element.specs.Parts.{slot_place}
-use Rattle.element.specs.Held.{Held, held_in, taken, with_part}
+use Rattle.element.specs.Holding.{Holding, held_in, taken, with_part}
 use Rattle.element.specs.Changed.{with_state}
 use Rattle.element.specs.Acts.{FiresAs}
 use Rattle.element.specs.declared.lane.Stepped.TheVariants.{Did}
@@ -18,27 +18,27 @@ pub returns-in-Left-clause-did : goal.returns-in-Left-clause-did
 returns-in-Left-clause-did g c = λ yes before.
     let p = g.C.Instructions.program c.args.code.now in
     let width = g.C.Instructions.width c.args.code.now in
-    let old : Held = held_in c.args.self.now in
-    let s = c.args.seat in
+    let old : Holding = held_in c.args.self.now in
+    let s = c.args.point in
     let i = c.args.instr.now in
     let t = c.args.token.now in
     let held = c.slot_at-held.result in
-    let v = c.in-Kept.slot in
+    let v = c.in-SlotOnly.slot in
     let there : held ≡ slice_index_or old.part.states (slot_place old.part.shape s.frame i.slot) Empty
     = subst (λ (n : ℕ). held ≡ slice_index_or old.part.states n Empty) c.place_of_slot-place.ensures.exact c.slot_at-held.ensures in
-    let comes : outcome_of p (seat_of s) (instr_of i) i.op held Left t.word ≡ Becomes v []
-    = subst (λ (w : Word). outcome_of p (seat_of s) (instr_of i) i.op held Left w ≡ Becomes v []) c.word.ensures (c.in-Kept.ensures p (seat_of s)) in
+    let comes : outcome_of p (point_of s) (instr_of i) i.op held Left t.word ≡ Becomes v []
+    = subst (λ (w : Word). outcome_of p (point_of s) (instr_of i) i.op held Left w ≡ Becomes v []) c.word.ensures (c.in-SlotOnly.ensures p (point_of s)) in
     waits_as p width old t s.frame s.ip c.args.port i (Some i.slot) held c.requires.can.sound.part c.requires.can.width c.requires.address c.requires.can.near c.requires.can.addressed c.requires.short
     c.requires.found (credit_slot (instr_of i) i.op c.requires.credit) there v c.args.at before (held_in c.wait.new.self)
-    (ap (λ (q : Port). outcome_of p (seat_of s) (instr_of i) i.op held q t.word) c.in-Left.is ∙ comes)
+    (ap (λ (q : Port). outcome_of p (point_of s) (instr_of i) i.op held q t.word) c.in-Left.is ∙ comes)
     (c.wait.ensures.held ∙ ap (λ (n : ℕ). taken (with_part old (with_state old.part n v)) c.args.at) c.place_of_slot-place.ensures.exact)
 
 pub returns-in-Left-port-clause-did : goal.returns-in-Left-port-clause-did
 returns-in-Left-port-clause-did g c = λ yes before.
     let p = g.C.Instructions.program c.args.code.now in
     let width = g.C.Instructions.width c.args.code.now in
-    let old : Held = held_in c.args.self.now in
-    let s = c.args.seat in
+    let old : Holding = held_in c.args.self.now in
+    let s = c.args.point in
     let i = c.args.instr.now in
     let t = c.args.token.now in
     let held = c.slot_at-held.result in
@@ -46,10 +46,10 @@ returns-in-Left-port-clause-did g c = λ yes before.
     let made = c.in-Answered.token ∷ [] in
     let there : held ≡ slice_index_or old.part.states (slot_place old.part.shape s.frame i.slot) Empty
     = subst (λ (n : ℕ). held ≡ slice_index_or old.part.states n Empty) c.place_of_slot-place.ensures.exact c.slot_at-held.ensures in
-    let comes : outcome_of p (seat_of s) (instr_of i) i.op held Left t.word ≡ Becomes v made
-    = subst (λ (w : Word). outcome_of p (seat_of s) (instr_of i) i.op held Left w ≡ Becomes v made) c.word.ensures (c.in-Answered.ensures p (seat_of s)) in
-    let new : Held = held_in c.answer.new.self in
+    let comes : outcome_of p (point_of s) (instr_of i) i.op held Left t.word ≡ Becomes v made
+    = subst (λ (w : Word). outcome_of p (point_of s) (instr_of i) i.op held Left w ≡ Becomes v made) c.word.ensures (c.in-Answered.ensures p (point_of s)) in
+    let new : Holding = held_in c.answer.new.self in
     fired_as p width old t s.frame s.ip c.args.port i (Some i.slot) held c.requires.can.sound.part c.requires.can.width c.requires.address c.requires.can.near c.requires.can.addressed c.requires.short
     c.requires.found (credit_slot (instr_of i) i.op c.requires.credit) there v (Some made) c.args.at before Did new before
-    (ap (λ (q : Port). outcome_of p (seat_of s) (instr_of i) i.op held q t.word) c.in-Left-port.is ∙ comes)
+    (ap (λ (q : Port). outcome_of p (point_of s) (instr_of i) i.op held q t.word) c.in-Left-port.is ∙ comes)
     (subst (λ (n : ℕ). FiresAs (Some made) (with_state old.part n v) old c.args.at before Did new before) c.place_of_slot-place.ensures.exact (c.answer.ensures.did yes before))

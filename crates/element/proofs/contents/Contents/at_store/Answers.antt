@@ -6,7 +6,7 @@ use Rattle.semantics.specs.Machine.{answers}
 use Rattle.istructure.specs.declared.StoreAnswer.{StoreAnswer}
 use Rattle.istructure.specs.Answered.{StoredAt}
 use Rattle.istructure.specs.Holds.{StoreIsEvent}
-use Rattle.element.specs.Held.{Held, held_in, shape_of, taken, queued, elsewhere, with_part, cleared}
+use Rattle.element.specs.Holding.{Holding, held_in, shape_of, taken, queued, elsewhere, with_part, cleared}
 use Rattle.element.specs.Changed.{with_cells}
 use Rattle.element.proofs.Acting.{acts_stored, with_answered}
 use Rattle.element.proofs.Changing.{store_changes}
@@ -14,8 +14,8 @@ use Rattle.element.proofs.contents.Contents.at_store.Goals as goal
 
 pub returns-in-Stored : goal.returns-in-Stored
 returns-in-Stored g c = λ p sound near.
-    let old : Held = held_in c.args.self.now in
-    let mid : Held = held_in c.make_room.new.self in
+    let old : Holding = held_in c.args.self.now in
+    let mid : Holding = held_in c.make_room.new.self in
     let same : mid ≡ old = c.make_room.ensures.held in
     let cells = c.store.new.self in
     let cont = c.in-Back.cont in
@@ -23,14 +23,14 @@ returns-in-Stored g c = λ p sound near.
     let v = c.args.value.now in
     let listed = c.store.new.answers.items in
     let room = vec_capacity c.make_room.new.self.answered in
-    let none : mid.answered ≡ [] = ap (λ (m : Held). m.answered) same ∙ sound.answered in
+    let none : mid.answered ≡ [] = ap (λ (m : Holding). m.answered) same ∙ sound.answered in
     let at_mid = subst (λ (cs : List Cont). StoredAt mid.part.cells x v room cs StoreAnswer.Stored cells listed) none c.in-Stored.ensures.exact in
-    let at = subst (λ (m : Held). StoredAt m.part.cells x v room [] StoreAnswer.Stored cells listed) same at_mid in
+    let at = subst (λ (m : Holding). StoredAt m.part.cells x v room [] StoreAnswer.Stored cells listed) same at_mid in
     let event_mid = subst (λ (cs : List Cont). StoreIsEvent mid.part.cells x v StoreAnswer.Stored cells cs listed) none c.in-Stored.ensures.event in
-    let event = subst (λ (m : Held). StoreIsEvent m.part.cells x v StoreAnswer.Stored cells [] listed) same event_mid in
+    let event = subst (λ (m : Holding). StoreIsEvent m.part.cells x v StoreAnswer.Stored cells [] listed) same event_mid in
     let changes = store_changes p old.part c.args.token x v cont room cells listed sound.part c.requires.address c.in-Back.is near c.requires.here at event in
-    let second = c.take.ensures.held ∙ ap (λ (m : Held). taken (with_answered (with_part mid (with_cells m.part cells)) listed) c.args.at) same in
-    let listed_is : c.take.new.self.answered.items ≡ listed = ap (λ (h : Held). h.answered) second in
+    let second = c.take.ensures.held ∙ ap (λ (m : Holding). taken (with_answered (with_part mid (with_cells m.part cells)) listed) c.args.at) same in
+    let listed_is : c.take.new.self.answered.items ≡ listed = ap (λ (h : Holding). h.answered) second in
     let new = subst (λ (t : Token). held_in c.send.new.self ≡ queued (held_in c.answer_all.new.self) (t ∷ [])) c.answer.ensures c.send.ensures.held in
     let sent = subst (λ (t : Token). c.send.new.sent.items ≡ c.answer_all.new.sent.items ++ elsewhere (shape_of c.answer_all.new.self) (t ∷ [])) c.answer.ensures c.send.ensures.sent in
     let third = subst (λ (cs : List Cont). held_in c.answer_all.new.self ≡ cleared (queued (held_in c.take.new.self) (answers cs v))) listed_is c.answer_all.ensures.held in

@@ -1,5 +1,5 @@
 use Rattle.std.proofs.Common.{◌≡◌, ◌+◌, ◌-◌, ◌≤◌, ◌++◌, length, take}
-use Rattle.element.specs.Held.{held_in, with_queue}
+use Rattle.element.specs.Holding.{held_in, with_queue}
 use Rattle.element.proofs.contents.Contents.receive.Given as goal
 
 abbrev pub invariant-loop-token : goal.invariant-loop-token

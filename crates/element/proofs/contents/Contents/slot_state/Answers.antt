@@ -2,7 +2,7 @@ use Rattle.std.proofs.Common.{◌≡◌, ◌∙◌, subst, ℕ, ◌+◌, ◌*◌
 use Rattle.std.proofs.lemmas.List.{get_or_default}
 use Rattle.tags.specs.declared.slot.SlotState.TheVariants.{Empty}
 use Rattle.frame_store.specs.BankViews.{bank_states}
-use Rattle.element.specs.Held.{shape_of}
+use Rattle.element.specs.Holding.{shape_of}
 use Rattle.element.specs.Parts.{slot_place}
 use Rattle.element.proofs.Places.{place_there}
 use Rattle.element.proofs.contents.Contents.slot_state.Goals as goal

@@ -1,6 +1,6 @@
 use Rattle.std.proofs.Common.{◌≡◌, ◌∙◌, ap, subst, ℕ, ◌<◌, ◌%◌, length, get_or, arith}
 use Rattle.std.proofs.lemmas.Grind.{common_steps}
-use Rattle.element.specs.Held.{Held, held_in}
+use Rattle.element.specs.Holding.{Holding, held_in}
 use Rattle.element.specs.Acts.{ActsAs}
 use Rattle.element.specs.Steps.{place_of}
 use Rattle.element.proofs.Stepping.{steps_as, sound_as, shape_as, made_as}
@@ -9,7 +9,7 @@ use Rattle.element.proofs.contents.Contents.step.Goals as goal
 pub returns-clause-exact : goal.returns-clause-exact
 returns-clause-exact g c =
     let p = g.C.Instructions.program c.args.code.now in
-    let old : Held = held_in c.args.self.now in
+    let old : Holding = held_in c.args.self.now in
     let some : 0 < length old.queue = grind (arith, common_steps) in
     let is : c.packed-token.result ≡ get_or old.queue (place_of old c.args.pick) c.packed-token.result = grind (arith, common_steps) in
     let count : c.len-waiting.result ≡ length old.queue = grind (arith, common_steps) in
@@ -20,7 +20,7 @@ returns-clause-exact g c =
 pub returns-clause-sound : goal.returns-clause-sound
 returns-clause-sound g c =
     let p = g.C.Instructions.program c.args.code.now in
-    let old : Held = held_in c.args.self.now in
+    let old : Holding = held_in c.args.self.now in
     let some : 0 < length old.queue = grind (arith, common_steps) in
     let is : c.packed-token.result ≡ get_or old.queue (place_of old c.args.pick) c.packed-token.result = grind (arith, common_steps) in
     let count : c.len-waiting.result ≡ length old.queue = grind (arith, common_steps) in
@@ -31,7 +31,7 @@ returns-clause-sound g c =
 pub returns-clause-shape : goal.returns-clause-shape
 returns-clause-shape g c =
     let p = g.C.Instructions.program c.args.code.now in
-    let old : Held = held_in c.args.self.now in
+    let old : Holding = held_in c.args.self.now in
     let some : 0 < length old.queue = grind (arith, common_steps) in
     let is : c.packed-token.result ≡ get_or old.queue (place_of old c.args.pick) c.packed-token.result = grind (arith, common_steps) in
     let count : c.len-waiting.result ≡ length old.queue = grind (arith, common_steps) in
@@ -42,7 +42,7 @@ returns-clause-shape g c =
 pub returns-clause-made : goal.returns-clause-made
 returns-clause-made g c =
     let p = g.C.Instructions.program c.args.code.now in
-    let old : Held = held_in c.args.self.now in
+    let old : Holding = held_in c.args.self.now in
     let some : 0 < length old.queue = grind (arith, common_steps) in
     let is : c.packed-token.result ≡ get_or old.queue (place_of old c.args.pick) c.packed-token.result = grind (arith, common_steps) in
     let count : c.len-waiting.result ≡ length old.queue = grind (arith, common_steps) in

@@ -1,6 +1,6 @@
 use Rattle.object_view.specs.Fields.{word_at}
 use Rattle.object_view.specs.Reading.{shown, instrs_below}
-use Rattle.object_view.proofs.Listed.{instr_there, instr_not_there}
+use Rattle.object_view.proofs.Tabulated.{instr_there, instr_not_there}
 use Rattle.object_view.proofs.Views.{blocks_seen}
 use Rattle.std.proofs.Common.{◌≡◌, ◌+◌, Some, sym, ap, ◌∙◌, arith}
 use Rattle.semantics.specs.Program.{instr_from}
@@ -12,7 +12,7 @@ returns-then-ip-self c =
     let w = word_at t.bytes.now in
     let z : 0 + w 2 ≡ w 2 = omega arith in
     let all = ap (instrs_below w) z in
-    sym (ap (λ bs. instr_from bs c.args.ip) (blocks_seen t.bytes.now _ c.self.view_is) ∙ instr_not_there w 0 (w 2) c.args.ip (omega (arith, t.instrs_told, all)))
+    sym (ap (λ bs. instr_from bs c.args.ip) (blocks_seen t.bytes.now _ c.self.view_is) ∙ instr_not_there w 0 (w 2) c.args.ip (omega (arith, t.instrs_parsed, all)))
 
 pub returns : goal.returns
 returns c =
@@ -20,4 +20,4 @@ returns c =
     let w = word_at t.bytes.now in
     let z : 0 + w 2 ≡ w 2 = omega arith in
     let all = ap (instrs_below w) z in
-    ap (λ i. Some (shown i)) c.instr.ensures ∙ sym (ap (λ bs. instr_from bs c.args.ip) (blocks_seen t.bytes.now _ c.self.view_is) ∙ instr_there w 0 (w 2) c.args.ip c.args.ip (omega arith) (omega (arith, t.instrs_told, all)))
+    ap (λ i. Some (shown i)) c.instr.ensures ∙ sym (ap (λ bs. instr_from bs c.args.ip) (blocks_seen t.bytes.now _ c.self.view_is) ∙ instr_there w 0 (w 2) c.args.ip c.args.ip (omega arith) (omega (arith, t.instrs_parsed, all)))

@@ -7,4 +7,4 @@ pub returns : goal.returns
 returns c =
     let t = c.self.inside.tables in
     let w = word_at t.bytes.now in
-    t.main_told ∙ sym (main_seen t.bytes.now _ c.self.view_is)
+    t.main_parsed ∙ sym (main_seen t.bytes.now _ c.self.view_is)

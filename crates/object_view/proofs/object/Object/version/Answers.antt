@@ -8,4 +8,4 @@ pub returns : goal.returns
 returns c =
     let t = c.self.inside.tables in
     let w = word_at t.bytes.now in
-    ap version_number t.version_told ∙ sym (version_seen t.bytes.now _ c.self.view_is)
+    ap version_number t.version_parsed ∙ sym (version_seen t.bytes.now _ c.self.view_is)

@@ -9,9 +9,9 @@ check_block-requires c =
     let w = word_at c.args.self.now.bytes.now in
     let s = c.args.self.now in
     let l = c.loop-block in
-    let all = below_all w (l.block + 1) (w 2) (omega (arith, s.blocks_told)) in
+    let all = below_all w (l.block + 1) (w 2) (omega (arith, s.blocks_parsed)) in
     let counted = c.instrs-count.ensures ∙ ap count_in c.entry-entry.ensures in
-    omega (arith, s.instrs_told, all, l.invariant.counted, below_next w l.block, counted)
+    omega (arith, s.instrs_parsed, all, l.invariant.counted, below_next w l.block, counted)
 
 pub returns-in-Err : goal.returns-in-Err
 returns-in-Err c =
@@ -25,9 +25,9 @@ overflow_add-first c =
     let w = word_at c.args.self.now.bytes.now in
     let s = c.args.self.now in
     let l = c.loop-block in
-    let all = below_all w (l.block + 1) (w 2) (omega (arith, s.blocks_told)) in
+    let all = below_all w (l.block + 1) (w 2) (omega (arith, s.blocks_parsed)) in
     let counted = c.instrs-count.ensures ∙ ap count_in c.entry-entry.ensures in
-    omega (arith, s.instrs_told, s.few_instrs, all, l.invariant.counted, below_next w l.block, counted)
+    omega (arith, s.instrs_parsed, s.few_instrs, all, l.invariant.counted, below_next w l.block, counted)
 
 pub loop-block-preserved : goal.loop-block-preserved
 loop-block-preserved c =

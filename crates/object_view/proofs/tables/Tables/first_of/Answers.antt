@@ -7,5 +7,5 @@ pub returns-clause-few : goal.returns-clause-few
 returns-clause-few c =
     let w = word_at c.args.self.now.bytes.now in
     let s = c.args.self.now in
-    let all = below_all w c.loop-earlier.earlier (w 2) (omega (arith, s.blocks_told)) in
-    omega (arith, s.instrs_told, all, c.loop-earlier.invariant.counted)
+    let all = below_all w c.loop-earlier.earlier (w 2) (omega (arith, s.blocks_parsed)) in
+    omega (arith, s.instrs_parsed, all, c.loop-earlier.invariant.counted)

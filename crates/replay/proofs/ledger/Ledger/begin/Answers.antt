@@ -1,9 +1,9 @@
 use Rattle.std.proofs.Common.{◌≡◌, ◌∙◌, sym, ap, subst, ℕ, List, length, arith}
 use Rattle.std.specs.Prelude.{All}
 use Rattle.tags.specs.declared.token.Token.{Token}
-use Rattle.element.specs.Held.{IsFor, fixed_of}
+use Rattle.element.specs.Holding.{IsFor, fixed_of}
 use Rattle.replay.specs.Entering.{start_tokens}
-use Rattle.element.specs.Held.{LaneView}
+use Rattle.element.specs.Holding.{LaneView}
 use Rattle.replay.proofs.Ledgers.{start_for, more_whole, begun_numbered, opened_records}
 use Rattle.replay.proofs.ledger.Ledger.begin.Goals as goal
 

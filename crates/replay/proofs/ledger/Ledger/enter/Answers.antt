@@ -10,7 +10,7 @@ use Rattle.semantics.specs.Machine.{outputs_of}
 use Rattle.element.specs.Steps.{Does}
 use Rattle.replay.specs.declared.extent.Extent.{Extent}
 use Rattle.replay.specs.Entering.{StateIs, place_used, state_at, deed_by, change_by}
-use Rattle.replay.specs.declared.fault.ReplayFault.{ReplayFault}
+use Rattle.replay.specs.declared.fault.ReplayRefusal.{ReplayRefusal}
 use Rattle.replay.specs.Entering.{IsThere, IsExcluded, IsUnfit}
 use Rattle.replay.proofs.Entering.{enters}
 use Rattle.replay.proofs.Fitting.{absent, place_there, token_there, excluded_unfit, numbered_after, queue_after, passed_on}

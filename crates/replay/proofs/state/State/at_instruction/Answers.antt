@@ -1,22 +1,22 @@
 use Rattle.std.proofs.Common.{◌∙◌, refl, subst, ap, ℕ, Option, List}
 use Rattle.element.specs.Decoded.{instr_of}
 use Rattle.tags.specs.declared.token.Token.{Token}
-use Rattle.element.specs.Fired.{tokens_of, seat_of}
-use Rattle.replay.specs.Follows.{held_in, Sets}
+use Rattle.element.specs.Fired.{tokens_of, point_of}
+use Rattle.replay.specs.DoesAs.{held_in, Sets}
 use Rattle.replay.proofs.Instructing.{fired}
 use Rattle.replay.proofs.state.State.at_instruction.Goals as goal
 
-pub returns-in_ok-set_in-in-Becomes-clause-follows : goal.returns-in_ok-set_in-in-Becomes-clause-follows
-returns-in_ok-set_in-in-Becomes-clause-follows g c s n made holds near token happens =
+pub returns-in_ok-set_in-in-Becomes-clause-does_as : goal.returns-in_ok-set_in-in-Becomes-clause-does_as
+returns-in_ok-set_in-in-Becomes-clause-does_as g c s n made holds near token happens =
     let p = g.C.Instructions.program c.args.code.now in
     let i = c.in-Some.instr in
     let slots = c.args.self.now.slots in
-    let f = c.args.seat.frame in
-    let ts : List Token = tokens_of (seat_of c.args.seat) c.fire.new.made in
+    let f = c.args.point.frame in
+    let ts : List Token = tokens_of (point_of c.args.point) c.fire.new.made in
     let used = c.slot_in-slot.ensures (instr_of i) refl in
-    let count = c.count_made-made.ensures (seat_of c.args.seat) in
+    let count = c.count_made-made.ensures (point_of c.args.point) in
     fired p c.args.self.now s holds near
-    (g.C.Instructions.width c.args.code.now) f c.args.seat.ip c.args.port c.args.word i c.state_in-state.result c.in-Becomes.after
+    (g.C.Instructions.width c.args.code.now) f c.args.point.ip c.args.port c.args.word i c.state_in-state.result c.in-Becomes.after
     ts c.set_in.new.self record { deed = c.deed_at.result; made = c.count_made-made.result } made n c.requires.narrow token.to token.word
     c.in-Some.ensures.short c.in-Some.ensures.exact
     (c.state_in-state.ensures ∙ ap (λ (r : Option ℕ). held_in slots f r) used) c.in-Becomes.ensures

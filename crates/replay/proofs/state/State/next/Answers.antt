@@ -7,10 +7,10 @@ pub returns-in_err-did-clause-moves : goal.returns-in_err-did-clause-moves
 returns-in_err-did-clause-moves g c z e m n frames stands ev =
     let p = g.C.Instructions.program c.args.code.now in
     let h = c.args.self.now in
-    let follows = c.in_err-did.ensures.follows m.store n.store ev.made stands.holds stands.near_store (token_near p h z e c.args.token m n stands ev)
+    let does_as = c.in_err-did.ensures.does_as m.store n.store ev.made stands.holds stands.near_store (token_near p h z e c.args.token m n stands ev)
     (event_happens p z e c.args.token m n h.frames frames ev) in
     let from = err_from_is_err_and c.from_residual.result c.from_residual.ensures.1 in
-    same_fault _ _ c.in_err-did.field-0.0 c.from_residual.result (from.1 ∙ ap Err from.2) follows
+    same_fault _ _ c.in_err-did.field-0.0 c.from_residual.result (from.1 ∙ ap Err from.2) does_as
 
 pub returns-in_err-self-clause-moves : goal.returns-in_err-self-clause-moves
 returns-in_err-self-clause-moves g c z e m n frames stands ev =
@@ -26,7 +26,7 @@ pub returns-clause-moves : goal.returns-clause-moves
 returns-clause-moves g c z e m n frames stands ev =
     let p = g.C.Instructions.program c.args.code.now in
     let h = c.args.self.now in
-    let done = c.in_ok-did.ensures.follows m.store n.store ev.made stands.holds stands.near_store (token_near p h z e c.args.token m n stands ev)
+    let done = c.in_ok-did.ensures.does_as m.store n.store ev.made stands.holds stands.near_store (token_near p h z e c.args.token m n stands ev)
     (event_happens p z e c.args.token m n h.frames frames ev) in
     let counted = c.in_ok-self.ensures in
     let same = c.in_ok-did.ensures.tokens in

@@ -1,8 +1,8 @@
 use Rattle.std.proofs.Common.{◌∙◌, sym, ap, subst, ℕ, ◌≡◌, ◌+◌, ◌*◌, ◌%◌, ◌<◌, length, map, drop, Some, arith}
 use Rattle.std.proofs.Math.Nat.{mod-lt}
 use Rattle.semantics.specs.Report.{sum_below, waiters}
-use Rattle.element.specs.Held.{held_of}
-use Rattle.schedule.specs.Told.{credits_below, slot_of_lane}
+use Rattle.element.specs.Holding.{held_of}
+use Rattle.schedule.specs.Reported.{credits_below, slot_of_lane}
 use Rattle.schedule.proofs.Memory.{raw_placed, lane_count}
 use Rattle.schedule.proofs.Sums.{sum_next, credits_there}
 use Rattle.schedule.proofs.elements.Elements.credits.Goals as goal
@@ -32,7 +32,7 @@ loop-frame-preserved g c =
     let w = g.C.Instructions.width m.shape.code.now in
     let lanes = map held_of m.lanes.items in
     let below = mod-lt f c.requires.setting.some in
-    let count = lane_count m.lanes.items (drop m.come m.sent.items) m.shape.elements c.requires.count in
+    let count = lane_count m.lanes.items (drop m.arrived m.sent.items) m.shape.elements c.requires.count in
     let low : f % m.shape.elements < length m.lanes.items = omega arith in
     let exact = c.credits_in-count.ensures.exact ∙ ap (λ (k : ℕ). sum_below k (λ r. waiters (slot_of_lane f r (Some (held_of c.index-lane.result.now))))) c.slots-width.ensures.exact ∙ credits_there m.lanes.items m.shape.elements w f c.index-lane.result.now low c.index-lane.ensures in
     let few = c.credits_in-count.ensures.few in

@@ -1,7 +1,7 @@
 use Rattle.std.proofs.Common.{◌≡◌, ◌*◌, ◌≤◌, map}
 use Rattle.semantics.specs.Report.{sum_below}
-use Rattle.element.specs.Held.{held_of}
-use Rattle.schedule.specs.Told.{credits_below}
+use Rattle.element.specs.Holding.{held_of}
+use Rattle.schedule.specs.Reported.{credits_below}
 use Rattle.schedule.proofs.elements.Elements.credits.Given as goal
 
 abbrev pub invariant-loop-frame : goal.invariant-loop-frame

@@ -21,7 +21,7 @@ returns-in-Some-clause-exact g c =
     let same : played.0 ++ (x.0 ++ []) ≡ played.0 ++ x.0 = ap (λ (l : Events). played.0 ++ l) (append-nil x.0) in (
       played.0 ++ x.0,
       subst (λ (l : Events). Plays true c.args.picks.now (state_of g.C.Instructions.program g.C.Instructions.width c.args.self.now) next c.in-Some.halt l) same all,
-      logged_more g.L.Log.LISTS c.args.log.now.events.items c.loop-element.log.events.items c.advance.new.log.events.items played.0 x.0 played.2 x.2,
+      logged_more g.L.Log.KEEPS_EVENTS c.args.log.now.events.items c.loop-element.log.events.items c.advance.new.log.events.items played.0 x.0 played.2 x.2,
     )
 
 pub loop-element-preserved : goal.loop-element-preserved
@@ -38,7 +38,7 @@ loop-element-preserved g c =
       played = (
         played.0 ++ x.0,
         (λ last halt later rest. subst (λ (l : Events). Plays true c.args.picks.now s0 last halt l) (sym (append_assoc played.0 x.0 later)) (played.1 last halt (x.0 ++ later) (play_more true c.args.picks.now k (0, 0) s next last x.0 later None halt c.loop-element-test.true x.1 rest))),
-        logged_more g.L.Log.LISTS c.args.log.now.events.items c.loop-element.log.events.items c.advance.new.log.events.items played.0 x.0 played.2 x.2,
+        logged_more g.L.Log.KEEPS_EVENTS c.args.log.now.events.items c.loop-element.log.events.items c.advance.new.log.events.items played.0 x.0 played.2 x.2,
       );
     }
 
@@ -48,7 +48,7 @@ returns-then-has_tokens-clause-exact g c =
     let played = c.loop-element.invariant.played in
     let past : length c.args.picks.now ≤ c.loop-element.element-index = (let p = c.loop-element-test.false in omega arith) in
     let all = played.1 s Halt.Steps [] (play_rest c.args.picks.now c.loop-element.element-index s Halt.Steps past (inr (c.has_tokens.ensures.yes c.if-has_tokens.true, refl))) in
-    (played.0 ++ [], all, played.2 ∙ ap (λ (l : Events). logged g.L.Log.LISTS c.args.log.now.events.items l) (sym (append-nil played.0)))
+    (played.0 ++ [], all, played.2 ∙ ap (λ (l : Events). logged g.L.Log.KEEPS_EVENTS c.args.log.now.events.items l) (sym (append-nil played.0)))
 
 pub returns-else-has_tokens-clause-exact : goal.returns-else-has_tokens-clause-exact
 returns-else-has_tokens-clause-exact g c =
@@ -56,4 +56,4 @@ returns-else-has_tokens-clause-exact g c =
     let played = c.loop-element.invariant.played in
     let past : length c.args.picks.now ≤ c.loop-element.element-index = (let p = c.loop-element-test.false in omega arith) in
     let all = played.1 s Halt.NoToken [] (play_rest c.args.picks.now c.loop-element.element-index s Halt.NoToken past (inl (c.has_tokens.ensures.no c.if-has_tokens.false, refl))) in
-    (played.0 ++ [], all, played.2 ∙ ap (λ (l : Events). logged g.L.Log.LISTS c.args.log.now.events.items l) (sym (append-nil played.0)))
+    (played.0 ++ [], all, played.2 ∙ ap (λ (l : Events). logged g.L.Log.KEEPS_EVENTS c.args.log.now.events.items l) (sym (append-nil played.0)))

@@ -10,7 +10,7 @@ pub events-init : goal.events-init
 events-init g c = record {
   well = c.requires.well;
   elements = refl;
-  played = ([], (λ rounds last halt later p. (rounds, p)), logged_none g.L.Log.LISTS c.args.log.now.events.items);
+  played = ([], (λ rounds last halt later p. (rounds, p)), logged_none g.L.Log.KEEPS_EVENTS c.args.log.now.events.items);
 }
 
 pub returns-in-Some-clause-exact : goal.returns-in-Some-clause-exact
@@ -24,7 +24,7 @@ returns-in-Some-clause-exact g c =
     let low : 0 < n = omega arith in
     let whole : n - 0 ≡ n = omega arith in
     let all = played.1 1 next c.in-Some.halt x.0 (subst (λ (m : ℕ). Plays false (in_turn 0 m ++ rounds_of 0 n) s next c.in-Some.halt x.0) whole (turn_last s next 0 n x.0 c.in-Some.halt low x.1)) in
-    (all.0, played.0 ++ x.0, all.1, logged_more g.L.Log.LISTS c.args.log.now.events.items c.events.log.events.items c.advance.new.log.events.items played.0 x.0 played.2 x.2)
+    (all.0, played.0 ++ x.0, all.1, logged_more g.L.Log.KEEPS_EVENTS c.args.log.now.events.items c.events.log.events.items c.advance.new.log.events.items played.0 x.0 played.2 x.2)
 
 pub events-preserved : goal.events-preserved
 events-preserved g c =
@@ -46,7 +46,7 @@ events-preserved g c =
             let on = turn_on s next last 0 n rounds x.0 later halt low x.1 (turn_done next last (0 + 1) n rounds later halt (omega arith) rest) in
             let all = played.1 (suc rounds) last halt (x.0 ++ later) (subst (λ (m : ℕ). Plays false (in_turn 0 m ++ rounds_of rounds n) s last halt (x.0 ++ later)) whole on) in
             (all.0, subst (λ (l : Events). Plays false (rounds_of all.0 n) s0 last halt l) (sym (append_assoc played.0 x.0 later)) all.1)),
-        logged_more g.L.Log.LISTS c.args.log.now.events.items c.events.log.events.items c.advance.new.log.events.items played.0 x.0 played.2 x.2,
+        logged_more g.L.Log.KEEPS_EVENTS c.args.log.now.events.items c.events.log.events.items c.advance.new.log.events.items played.0 x.0 played.2 x.2,
       );
     }
 
@@ -59,4 +59,4 @@ returns-clause-exact g c =
     let s = state_of g.C.Instructions.program g.C.Instructions.width c.events.self in
     let plays = subst (λ (m : ℕ). Plays false (rounds_of rest.0 m) s last c.play_passes.result rest.1) c.events.invariant.elements rest.2 in
     let all = played.1 rest.0 last c.play_passes.result rest.1 plays in
-    (all.0, played.0 ++ rest.1, all.1, logged_more g.L.Log.LISTS c.args.log.now.events.items c.events.log.events.items c.play_passes.new.log.events.items played.0 rest.1 played.2 rest.3)
+    (all.0, played.0 ++ rest.1, all.1, logged_more g.L.Log.KEEPS_EVENTS c.args.log.now.events.items c.events.log.events.items c.play_passes.new.log.events.items played.0 rest.1 played.2 rest.3)

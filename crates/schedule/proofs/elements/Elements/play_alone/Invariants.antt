@@ -13,7 +13,7 @@ invariant-events g l = record {
   played : (made : Events)
       × ((rounds : ℕ) (last : State) (halt : Halt) (later : Events) → Plays false (rounds_of rounds l.fn.self.shape.elements) (state_of g.C.Instructions.program g.C.Instructions.width l.self) last halt later
       → (all : ℕ) × Plays false (rounds_of all l.fn.self.shape.elements) (state_of g.C.Instructions.program g.C.Instructions.width l.fn.self) last halt (made ++ later))
-      × (l.log.events.items ≡ logged g.L.Log.LISTS l.fn.log.events.items made);
+      × (l.log.events.items ≡ logged g.L.Log.KEEPS_EVENTS l.fn.log.events.items made);
 }
 
 abbrev pub decreases-events : goal.decreases-events

@@ -10,7 +10,7 @@ pub passes-init : goal.passes-init
 passes-init g c = record {
   well = c.requires;
   elements = refl;
-  played = ([], (λ rounds last halt later p. (rounds, p)), logged_none g.L.Log.LISTS c.args.log.now.events.items);
+  played = ([], (λ rounds last halt later p. (rounds, p)), logged_none g.L.Log.KEEPS_EVENTS c.args.log.now.events.items);
 }
 
 pub loop-element-init : goal.loop-element-init
@@ -64,7 +64,7 @@ returns-in-Some-clause-exact g c =
     let x = c.in-Some.ensures.exact in
     let low : k < n = (let l = c.loop-element-test.true in let b = c.passes.invariant.elements in omega arith) in
     let all = played.1 0 next c.in-Some.halt x.0 (turn_last s next k n x.0 c.in-Some.halt low x.1) in
-    (all.0, played.0 ++ x.0, all.1, logged_more g.L.Log.LISTS c.args.log.now.events.items c.loop-element.log.events.items c.advance.new.log.events.items played.0 x.0 played.2 x.2)
+    (all.0, played.0 ++ x.0, all.1, logged_more g.L.Log.KEEPS_EVENTS c.args.log.now.events.items c.loop-element.log.events.items c.advance.new.log.events.items played.0 x.0 played.2 x.2)
 
 pub loop-element-preserved : goal.loop-element-preserved
 loop-element-preserved g c =
@@ -85,7 +85,7 @@ loop-element-preserved g c =
         (λ rounds last halt later rest.
             let all = played.1 rounds last halt (x.0 ++ later) (turn_on s next last k n rounds x.0 later halt low x.1 rest) in
             (all.0, subst (λ (l : Events). Plays false (rounds_of all.0 n) s0 last halt l) (sym (append_assoc played.0 x.0 later)) all.1)),
-        logged_more g.L.Log.LISTS c.args.log.now.events.items c.loop-element.log.events.items c.advance.new.log.events.items played.0 x.0 played.2 x.2,
+        logged_more g.L.Log.KEEPS_EVENTS c.args.log.now.events.items c.loop-element.log.events.items c.advance.new.log.events.items played.0 x.0 played.2 x.2,
       );
       passes = passes_more first s next k x.0 c.loop-element.invariant.passes x.1;
     }

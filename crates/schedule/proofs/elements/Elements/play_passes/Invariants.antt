@@ -3,7 +3,7 @@ use Rattle.semantics.specs.Machine.{Events}
 use Rattle.schedule.specs.declared.halt.Halt.{Halt}
 use Rattle.schedule.specs.State.{State, state_of, IsWell}
 use Rattle.schedule.specs.Steps.{logged}
-use Rattle.schedule.specs.Runs.{Plays, in_turn, rounds_of, left_over}
+use Rattle.schedule.specs.Runs.{Plays, in_turn, rounds_of, steps_over}
 use Rattle.schedule.proofs.Playing.{Passes}
 use Rattle.schedule.proofs.elements.Elements.play_passes.Given as goal
 
@@ -14,11 +14,11 @@ invariant-passes g l = record {
   played : (made : Events)
       × ((rounds : ℕ) (last : State) (halt : Halt) (later : Events) → Plays false (rounds_of rounds l.fn.self.shape.elements) (state_of g.C.Instructions.program g.C.Instructions.width l.self) last halt later
       → (all : ℕ) × Plays false (rounds_of all l.fn.self.shape.elements) (state_of g.C.Instructions.program g.C.Instructions.width l.fn.self) last halt (made ++ later))
-      × (l.log.events.items ≡ logged g.L.Log.LISTS l.fn.log.events.items made);
+      × (l.log.events.items ≡ logged g.L.Log.KEEPS_EVENTS l.fn.log.events.items made);
 }
 
 abbrev pub decreases-passes : goal.decreases-passes
-decreases-passes g l = left_over (state_of g.C.Instructions.program g.C.Instructions.width l.self)
+decreases-passes g l = steps_over (state_of g.C.Instructions.program g.C.Instructions.width l.self)
 
 abbrev pub invariant-loop-element : goal.invariant-loop-element
 invariant-loop-element g l = record {
@@ -27,6 +27,6 @@ invariant-loop-element g l = record {
   played : (made : Events)
       × ((rounds : ℕ) (last : State) (halt : Halt) (later : Events) → Plays false (in_turn l.element (l.fn.self.shape.elements - l.element) ++ rounds_of rounds l.fn.self.shape.elements) (state_of g.C.Instructions.program g.C.Instructions.width l.self) last halt later
       → (all : ℕ) × Plays false (rounds_of all l.fn.self.shape.elements) (state_of g.C.Instructions.program g.C.Instructions.width l.fn.self) last halt (made ++ later))
-      × (l.log.events.items ≡ logged g.L.Log.LISTS l.fn.log.events.items made);
+      × (l.log.events.items ≡ logged g.L.Log.KEEPS_EVENTS l.fn.log.events.items made);
   passes : Passes (state_of g.C.Instructions.program g.C.Instructions.width l.initial.self) l.element (state_of g.C.Instructions.program g.C.Instructions.width l.self);
 }

@@ -1,6 +1,6 @@
 use Rattle.std.proofs.Common.{◌∙◌, refl, ◌<◌, length, drop, arith}
 use Rattle.lemmas.proofs.SliceGet.{get_some}
-use Rattle.element.specs.Held.{held_of, queued}
+use Rattle.element.specs.Holding.{held_of, queued}
 use Rattle.schedule.specs.State.{state_of}
 use Rattle.schedule.proofs.Memory.{lane_count, seen_at}
 use Rattle.schedule.proofs.Staying.{runs_at}
@@ -20,7 +20,7 @@ returns-then-is_spent g c = λ pick.
     let m = c.args.self.now in
     let s = state_of g.C.Instructions.program g.C.Instructions.width m in
     let e = c.args.element in
-    let ts = drop m.come m.sent.items in
+    let ts = drop m.arrived m.sent.items in
     let x = c.index.result.now in
     let count = lane_count m.lanes.items ts m.shape.elements c.requires.well.sound.count in
     let low : e < length m.lanes.items = (let l = c.requires.element in omega arith) in
@@ -34,7 +34,7 @@ returns g c = λ pick.
     let m = c.args.self.now in
     let s = state_of g.C.Instructions.program g.C.Instructions.width m in
     let e = c.args.element in
-    let ts = drop m.come m.sent.items in
+    let ts = drop m.arrived m.sent.items in
     let x = c.index.result.now in
     let count = lane_count m.lanes.items ts m.shape.elements c.requires.well.sound.count in
     let low : e < length m.lanes.items = (let l = c.requires.element in omega arith) in

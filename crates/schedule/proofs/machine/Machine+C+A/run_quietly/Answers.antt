@@ -2,8 +2,8 @@ use Rattle.std.proofs.Common.{◌≡◌, refl, ◌∙◌, ap, sym, subst, [], �
 use Rattle.schedule.specs.Shown.{ShowsInOrder}
 use Rattle.schedule.specs.Setting.{Setting, size}
 use Rattle.schedule.specs.State.{State}
-use Rattle.schedule.specs.Runs.{Kept, Began, Plays, rounds_of}
-use Rattle.schedule.specs.Unlisted.{with_events, kept_with}
+use Rattle.schedule.specs.Runs.{SoFar, Began, Plays, rounds_of}
+use Rattle.schedule.specs.Unlisted.{with_events, so_far_with}
 use Rattle.schedule.proofs.machine.Machine+C+A.run_quietly.Goals as goal
 
 pub returns : goal.returns
@@ -12,19 +12,19 @@ returns g c =
     let last : State = c.play_in_turn-halt.new.self.state in
     let halt = c.play_in_turn-halt.result in
     let before = c.args.self.events in
-    let same = ap (λ (k : Kept). k.state) c.without_events-quiet.ensures in
-    let none : c.play_in_turn-halt.new.self.events ≡ [] = e.3 ∙ ap (λ (k : Kept). k.events) c.without_events-quiet.ensures in
+    let same = ap (λ (k : SoFar). k.state) c.without_events-quiet.ensures in
+    let none : c.play_in_turn-halt.new.self.events ≡ [] = e.3 ∙ ap (λ (k : SoFar). k.events) c.without_events-quiet.ensures in
     let q = c.report.ensures.quietly none (before ++ e.1) in (
       q.0,
       q.1,
       record {
-        last = kept_with last (before ++ e.1);
+        last = so_far_with last (before ++ e.1);
         halt = halt;
         rounds = e.0;
         made = e.1;
         plays = subst (λ (s : State). Plays false (rounds_of e.0 s.setting.elements) s last halt e.1) same e.2;
         events = refl;
-        told = (q.2).told;
+        reported = (q.2).reported;
         shows = λ inputs began.
             let at_first = subst (λ (s : State). Began inputs s before) (sym same) began in
             let shown = (q.2).shows inputs false (e.4 inputs before at_first) c.play_in_turn-halt.ensures.halts in

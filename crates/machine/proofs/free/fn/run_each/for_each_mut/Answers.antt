@@ -11,6 +11,6 @@ run-requires g c =
     let value = c.deref_mut-runner.ensures.value in
     record {
       good = c.requires.0;
-      runs = subst (λ (r : Runner g.row.C.Denot g.row.A.Denot g.row.L.Denot). Runs g.L.Log.LISTS s c.captures.mesh.now r) (sym value) c.requires.1;
+      runs = subst (λ (r : Runner g.row.C.Denot g.row.A.Denot g.row.L.Denot). Runs g.L.Log.KEEPS_EVENTS s c.captures.mesh.now r) (sym value) c.requires.1;
       clear = subst (λ (r : Runner g.row.C.Denot g.row.A.Denot g.row.L.Denot). IsClear r) (sym value) c.requires.2;
     }

@@ -1,0 +1,34 @@
+-- The fault that is reported where a pass or a part gives one of its own: want of memory as such, and another fault as it is.
+use Rattle.std.specs.Prelude.{◌≡◌, ◌≢◌, ◌⊎◌}
+use Rattle.graph_file.specs.declared.fault.ReadFault.{ReadFault}
+use Rattle.graph_file.specs.declared.fault.ReadFaultKind.TheVariants as ReadFaultKind
+use Rattle.graph_check.specs.declared.faults.CheckFault.{CheckFault}
+use Rattle.graph_check.specs.declared.faults.CheckFaultKind.TheVariants as CheckFaultKind
+use Rattle.slot_alloc.specs.declared.faults.AssignFault.{AssignFault}
+use Rattle.select.specs.declared.fault.EmitFault.{EmitFault}
+use Rattle.oracle.specs.declared.report.MeanFault.{MeanFault}
+use Rattle.schedule.specs.declared.config.StartFault.{StartFault}
+use Rattle.driver.specs.declared.fault.Fault.{Fault}
+
+-- of a text that is not read
+abbrev pub IsUnread : ReadFault → Fault → Type 0
+IsUnread f reported = ((f.kind ≡ ReadFaultKind.Memory) × (reported ≡ Fault.Memory)) ⊎ ((f.kind ≢ ReadFaultKind.Memory) × (reported ≡ Fault.Read f))
+
+-- of a graph that is not well formed
+abbrev pub IsUnchecked : CheckFault → Fault → Type 0
+IsUnchecked f reported = ((f.kind ≡ CheckFaultKind.Memory) × (reported ≡ Fault.Memory)) ⊎ ((f.kind ≢ CheckFaultKind.Memory) × (reported ≡ Fault.Check f))
+
+-- of a plan without slots
+abbrev pub unassigned_as : AssignFault → Fault
+unassigned_as (AssignFault.TooManySlots b) = Fault.TooManySlots b
+unassigned_as AssignFault.Memory = Fault.Memory
+
+-- of a plan without code
+abbrev pub unemitted_as : EmitFault → Fault
+unemitted_as (EmitFault.TooFar b) = Fault.TooFar b
+unemitted_as EmitFault.Memory = Fault.Memory
+
+-- of a meaning that is not run
+abbrev pub unmeant_as : MeanFault → Fault
+unmeant_as MeanFault.WrongInputs = Fault.Start StartFault.WrongInputs
+unmeant_as MeanFault.Memory = Fault.Memory

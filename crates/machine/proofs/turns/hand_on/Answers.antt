@@ -1,9 +1,0 @@
-use Rattle.schedule.specs.State.{setting_in}
-use Rattle.machine.proofs.Keeping.{runs_on, keeps_twice}
-use Rattle.machine.proofs.turns.hand_on.Goals as goal
-
-pub offer_all-requires-clause-runs : goal.offer_all-requires-clause-runs
-offer_all-requires-clause-runs g c = runs_on {C = g.row.C.Denot} {A = g.row.A.Denot} {L = g.row.L.Denot} g.L.Log.LISTS (setting_in g.C.Instructions.program g.C.Instructions.width c.args.shape.now) c.args.mesh.now c.args.runner.now c.deal.new.runner c.requires.runs c.deal.ensures.keeps
-
-pub returns-clause-keeps : goal.returns-clause-keeps
-returns-clause-keeps g c = keeps_twice {C = g.row.C.Denot} {A = g.row.A.Denot} {L = g.row.L.Denot} g.L.Log.LISTS (setting_in g.C.Instructions.program g.C.Instructions.width c.args.shape.now) c.args.mesh.now c.args.runner.now c.deal.new.runner c.offer_all.new.runner c.deal.ensures.keeps c.offer_all.ensures.keeps

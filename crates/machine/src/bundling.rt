@@ -1,0 +1,146 @@
+//! An element offers to others what it made for them.
+
+ghost use Rattle.std.specs.Prelude.{◌≡◌, ◌<◌, ◌++◌, ◌∷◌, [], length, OnOk, OnErr, IfOk, slice_set, slice_index_or, IsPermutation};
+ghost use Rattle.std.specs.List.{flat_map};
+ghost use Rattle.tags.specs.Addresses.{element_of};
+ghost use Rattle.element.specs.Holding.{held_of};
+ghost use Rattle.schedule.specs.State.{setting_in};
+ghost use Rattle.schedule.specs.Setting.{IsGoodSetting};
+ghost use Rattle.machine.specs.Runners.{Runs, Keeps, IsClear, StaysAt, KeepsTokens};
+
+use crate::runner::Runner;
+use element::bundled::element_for;
+use mesh::Mesh;
+use schedule::log::Log;
+use schedule::main_code::MainCode;
+use schedule::shape::Shape;
+use std::alloc::{AllocError, Allocator};
+use std::mem;
+use tags::token::Token;
+
+// Puts a token into the bundle of its element. After an error all bundles have the tokens that they had.
+fn keep<A: Allocator>(
+    unposted: &mut Vec<Vec<Token, A>, A>,
+    elements: u32,
+    token: Token,
+) -> Result<(), AllocError>
+    requires some { 0 < elements }
+    requires count { length unposted.old.items ≡ elements }
+    ensures ok { OnOk result (KeepsTokens elements unposted.old.items unposted.new.items (token ∷ [])) }
+    ensures err { OnErr result (KeepsTokens elements unposted.old.items unposted.new.items []) }
+{
+    let to = element_for(&token.to, elements) as usize;
+    unposted[to].push(token)?;
+    Ok(())
+}
+
+/// Puts what the last block made for other elements into the bundles. After an error the others are not dealt.
+pub fn fill_bundles<C: MainCode, A: Allocator, L: Log>(
+    runner: &mut Runner<'_, C, A, L>,
+    mesh: &Mesh<A>,
+    shape: &Shape<'_, C>,
+) -> Result<(), AllocError>
+    requires good { IsGoodSetting (setting_in C.program C.width shape.now) }
+    requires runs { Runs L.KEEPS_EVENTS (setting_in C.program C.width shape.now) mesh.now runner.old }
+    requires unbundled { runner.old.bundled ≡ 0 }
+    ensures stays { StaysAt runner.old runner.new }
+    ensures keeps { Keeps L.KEEPS_EVENTS (setting_in C.program C.width shape.now) mesh.now runner.old runner.new }
+    ensures bundled { OnOk result ((runner.new.sent.items ≡ []) × (runner.new.bundled ≡ 0) × (runner.new.unqueued.items ≡ runner.old.unqueued.items)) }
+    ensures lane { held_of runner.new.lane ≡ held_of runner.old.lane }
+{
+    let _ = mesh;
+    for at in 0..runner.sent.len() {
+        let token = runner.sent[at];
+        keep(&mut runner.unposted, shape.elements, token)?;
+        runner.bundled = at + 1;
+    }
+    runner.sent.clear();
+    runner.bundled = 0;
+    Ok(())
+}
+
+// Posts the bundle for an element. Where the box is full the bundle is kept.
+fn post_bundle<C: MainCode, A: Allocator, L: Log>(
+    runner: &mut Runner<'_, C, A, L>,
+    mesh: &Mesh<A>,
+    shape: &Shape<'_, C>,
+    empty: Vec<Token, A>,
+    to: u32,
+)
+    requires good { IsGoodSetting (setting_in C.program C.width shape.now) }
+    requires runs { Runs L.KEEPS_EVENTS (setting_in C.program C.width shape.now) mesh.now runner.old }
+    requires clear { IsClear runner.old }
+    requires empty { empty.items ≡ [] }
+    requires to { to < shape.now.elements }
+    ensures stays { StaysAt runner.old runner.new }
+    ensures keeps { Keeps L.KEEPS_EVENTS (setting_in C.program C.width shape.now) mesh.now runner.old runner.new }
+    ensures clear { IsClear runner.new }
+    ensures lane { held_of runner.new.lane ≡ held_of runner.old.lane }
+{
+    let _ = shape;
+    let at = to as usize;
+    let bundle = mem::replace(&mut runner.unposted[at], empty);
+    if let Err(back) = mesh.post(&mut runner.seat, to, bundle) {
+        runner.unposted[at] = back;
+    }
+}
+
+// An empty bundle: one that was emptied before, or else a new one.
+fn empty_bundle<A: Allocator + Clone>(
+    spare: &mut Vec<Vec<Token, A>, A>,
+    alloc: &A,
+) -> Result<Vec<Token, A>, AllocError>
+    ensures { IfOk result (λ bundle. bundle.items ≡ []) }
+{
+    match spare.pop() {
+        Some(mut bundle) => {
+            bundle.clear();
+            Ok(bundle)
+        }
+        None => Ok(Vec::new(alloc.clone()?)),
+    }
+}
+
+// Offers the bundle for an element, if it has a token.
+fn offer_to<C: MainCode, A: Allocator + Clone, L: Log>(
+    runner: &mut Runner<'_, C, A, L>,
+    mesh: &Mesh<A>,
+    shape: &Shape<'_, C>,
+    to: u32,
+) -> Result<(), AllocError>
+    requires good { IsGoodSetting (setting_in C.program C.width shape.now) }
+    requires runs { Runs L.KEEPS_EVENTS (setting_in C.program C.width shape.now) mesh.now runner.old }
+    requires clear { IsClear runner.old }
+    requires to { to < shape.now.elements }
+    ensures stays { StaysAt runner.old runner.new }
+    ensures keeps { Keeps L.KEEPS_EVENTS (setting_in C.program C.width shape.now) mesh.now runner.old runner.new }
+    ensures clear { IsClear runner.new }
+    ensures lane { held_of runner.new.lane ≡ held_of runner.old.lane }
+{
+    if runner.unposted[to as usize].is_empty() {
+        return Ok(());
+    }
+    let empty = empty_bundle(&mut runner.spare, &runner.alloc)?;
+    post_bundle(runner, mesh, shape, empty, to);
+    Ok(())
+}
+
+/// Offers all bundles that have a token.
+pub fn offer_all<C: MainCode, A: Allocator + Clone, L: Log>(
+    runner: &mut Runner<'_, C, A, L>,
+    mesh: &Mesh<A>,
+    shape: &Shape<'_, C>,
+) -> Result<(), AllocError>
+    requires good { IsGoodSetting (setting_in C.program C.width shape.now) }
+    requires runs { Runs L.KEEPS_EVENTS (setting_in C.program C.width shape.now) mesh.now runner.old }
+    requires clear { IsClear runner.old }
+    ensures stays { StaysAt runner.old runner.new }
+    ensures keeps { Keeps L.KEEPS_EVENTS (setting_in C.program C.width shape.now) mesh.now runner.old runner.new }
+    ensures clear { IsClear runner.new }
+    ensures lane { held_of runner.new.lane ≡ held_of runner.old.lane }
+{
+    for to in 0..shape.elements {
+        offer_to(runner, mesh, shape, to)?;
+    }
+    Ok(())
+}

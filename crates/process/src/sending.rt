@@ -1,0 +1,44 @@
+//! What is reported on standard error.
+
+ghost use Rattle.std.specs.Prelude.{◌≡◌, drop, map, option_map};
+ghost use Rattle.process.specs.HintSent.{Speaks};
+
+use crate::explaining::Explain;
+use outcomes::Outcome;
+use std::alloc::Global;
+use std::convert::AsStr;
+use std::io::Write;
+
+/// What was reported on standard error.
+#[derive(Clone, Copy, PartialEq, Eq)]
+pub enum HintSent {
+    /// There is nothing to tell.
+    Nothing,
+    /// A hint.
+    Hint,
+    /// A beginning of a hint: a write failed.
+    Beginning,
+    /// Memory was refused, so whether there is something to tell is not known.
+    Unknown,
+}
+
+/// Tells what explains a run with these words and this input, if that was kept, of which this came.
+pub fn send_hint<X: Explain, S: AsStr, E: Write>(
+    explainer: &X,
+    alloc: Global,
+    words: &[S],
+    input: Option<&[u8]>,
+    outcome: Option<Outcome>,
+    errors: &mut E,
+) -> HintSent
+    ensures { Speaks (X.accounts (map S.text (drop 1 words.now)) (option_map (λ i. i.now) input.entry) outcome) (E.contents errors.old) (E.contents errors.new) result }
+{
+    match explainer.explain(alloc, words, input, outcome) {
+        Ok(Some(hint)) => match hint.write(errors) {
+            Ok(()) => HintSent::Hint,
+            Err(_fault) => HintSent::Beginning,
+        },
+        Ok(None) => HintSent::Nothing,
+        Err(_refused) => HintSent::Unknown,
+    }
+}

@@ -1,0 +1,2 @@
+mod RationCalls
+mod BodyParts
