@@ -8,7 +8,7 @@ use Rattle.folding.specs.Folded.{folded, folded_block}
 use Rattle.folding.proofs.SoundPlans.{still_sound}
 use Rattle.folding.proofs.LoopsStay.{keeps_arrays, still_has_bounds}
 use Rattle.law_fresh_frames.proofs.FreshReady.{ready_stays}
-use Rattle.law_fanout.proofs.NarrowKeeps.{narrowed_code_is_faithful}
+use Rattle.law_passes.proofs.NarrowKeeps.{narrowed_code_is_faithful}
 use Rattle.law_compiler.specs.Passes.{FoldedIsReady, PassesSuffice}
 use Rattle.law_compiler.proofs.PassesFoldedTidy.{folded_is_tidy}
 

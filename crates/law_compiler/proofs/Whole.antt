@@ -9,7 +9,7 @@ use Rattle.semantics.specs.Faithful.{inputs_of}
 use Rattle.law_confluence.proofs.OutcomeResolved.{flow_well, fits}
 use Rattle.schemas.specs.Expanded.{expanded}
 use Rattle.law_wiring.proofs.BoundsWholes.{has_bounds}
-use Rattle.law_immediates.proofs.RenumberTwice.{folding_keeps}
+use Rattle.law_passes.proofs.RenumberTwice.{folding_keeps}
 use Rattle.law_net_refines_meaning.proofs.FiringsGraphs.{graphs_have_operands, graphs_are_earlier}
 use Rattle.law_net.specs.Contexts.{HasBlock, Wires}
 use Rattle.law_net.specs.ContextsTheorem.{IsGood, KeepsFaith}

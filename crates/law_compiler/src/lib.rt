@@ -9,7 +9,7 @@
 //! 1. The plan that a graph becomes first is wired (`law_wiring`), so it keeps faith in runs that use each frame once, by the lemmas on the net of
 //!    contexts (`law_net`), which are all proved (`law_machine_refines_net`, `law_net_refines_meaning`, `law_net`, `law_end`): `WholeLaw`, `Whole`.
 //! 2. It is tidy: no destination but a link's landing leads to a `give` or a `take`, since no wire feeds these (`WholeTidy`, `Graphs`).
-//! 3. Folding keeps all of it (`law_immediates`), and tidiness (`PassesFoldedTidy`); narrowing keeps all of it (`law_fanout`) and leaves few
+//! 3. Folding keeps all of it (`law_passes`), and tidiness (`PassesFoldedTidy`); narrowing keeps all of it, too, and leaves few
 //!    destinations.
 //! 4. So the code of the last plan over good slots is faithful in all runs (`law_fresh_frames`, `law_reuse`): `Passes`.
 //! 5. Emitted code is alike to that: it differs in what no event shows (`Emitted`), so it has the same events (`EmittedPrograms`) and promises

@@ -1,4 +1,0 @@
--- Spread
-pub mod Spreads
--- Narrow
-pub mod Narrowed
