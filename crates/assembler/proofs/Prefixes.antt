@@ -1,4 +1,4 @@
--- What was read so far is written so: each line that is read makes it longer by just that line.
+-- What was read so far is written so: each line that is read makes it longer by exactly that line.
 use Rattle.std.proofs.Common.{◌≡◌, ℕ, ◌+◌, ◌<◌, Bool, true, false, cond, List, [], ◌∷◌, ◌++◌, length, Result, Ok, ℤ, refl, sym, ap, subst, ◌∙◌, append_assoc, arith, inl, inr}
 use Rattle.std.specs.Prelude.{codes}
 use Rattle.std.specs.Str.{bytes_eq}

@@ -160,7 +160,7 @@ one_line bs w ws h =
     let words : words_of bs ≡ w ∷ ws = ap (λ (ps : List (List ℕ)). words_in (front ps)) comment ∙ h.words in
     ap (λ (ps : List (List ℕ)). filled (map words_of ps)) feed ∙ ap (λ (us : List Word). filled (us ∷ [])) words ∙ filled_one w ws
 
--- what is written tells these lines, whatever stands after it
+-- what is written is read as these lines, whatever follows it
 abbrev pub Rereads : List ℕ → Lines → Type 0
 Rereads bs ls = (rest : List ℕ) → lines_in (bs ++ rest) ≡ ls ++ lines_in rest
 

@@ -1,5 +1,5 @@
--- The table that the instructions of a code tell: with it the program has an object, too; and where each literal of the code's
--- own table is an operand, the two are the same.
+-- The table that the instructions of a code determine: with it the program has an object, too; and where each literal of the
+-- code's own table is an operand, the two are the same.
 use Rattle.std.proofs.Common.{◌≡◌, ℕ, zero, suc, ◌≤◌, List, [], ◌∷◌, Option, Some, None, ℤ, refl, sym, ap, subst, ◌∙◌, arith, inl, inr}
 use Rattle.std.specs.Prelude.{◌⊎◌, slice_get, Contains}
 use Rattle.std.specs.Int.{w64}
@@ -159,7 +159,7 @@ used_from z bs o = by_block z bs o.0 o.1 o.2 (by_instr z o.1.instrs o.3.0 o.3.1 
 operand_from : (z : ℤ) (bs : List CodeBlock) → UsedIn z bs → IsOperand bs z
 operand_from z bs u = let b = block_of z bs u in (b.0, b.1, b.2, instr_of z b.1.instrs b.3)
 
--- ---- the table that the instructions tell
+-- ---- the table that the instructions determine
 reread_used : (z : ℤ) (bs : List CodeBlock) → In z (table_of bs) → UsedIn z bs
 reread_used z bs i = go (in_has z bs [] i)
   where

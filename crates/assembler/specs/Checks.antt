@@ -45,7 +45,7 @@ abbrev pub enters : Option CodeBlock → ℕ → Bool
 enters None e = false
 enters (Some b) e = nat_le e b.inputs
 
--- which operand: the literal is in the table, or what it names is there
+-- which operand: the literal is in the table, or what it names exists
 abbrev pub literal_fits : Code → Op → Bool
 literal_fits c (Apply2Right op z) = has_literal c.literals z
 literal_fits c (Apply2Left op z) = has_literal c.literals z
@@ -116,7 +116,7 @@ block_checked version c index b = do
   entry ← unless (entry_fits b) BadTable index
   each (instr_checked version c b (index + 1)) 0 b.instrs
 
--- how many lines stand before the block of that number, or after the last one
+-- how many lines are before the block of that number, or after the last one
 abbrev pub lines_before : List CodeBlock → ℕ → ℕ
 lines_before bs n = 1 + sum (map (λ (b : CodeBlock). 1 + length b.instrs) (take n bs))
 

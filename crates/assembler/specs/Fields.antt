@@ -19,7 +19,7 @@ abbrev pub then_some : {A B : Type 0} → Option A → (A → Option B) → Opti
 then_some None f = None
 then_some (Some x) f = f x
 
--- what stands after a byte at the front
+-- what follows a byte at the front
 unfoldable pub tagged : ℕ → List ℕ → Option (List ℕ)
 tagged tag [] = None
 tagged tag (b ∷ bs) = if b == tag then Some bs else None
@@ -102,7 +102,7 @@ op_of Drain w = option_map ops.Drain (small_behind 107 w)
 op_of Release w = option_map ops.Release (small_behind 111 w)
 
 -- SLOTS
--- A slot stands where the operation uses one, and else `-`.
+-- There is a slot where the operation uses one, and else `-`.
 unfoldable pub slot_from : Bool → List ℕ → Option ℕ
 slot_from true w = number_of w
 slot_from false w = if bytes_eq w (codes "-") then Some 0 else None
@@ -112,7 +112,7 @@ abbrev pub dest_to : Port → Option ℕ → Option (Option Dest)
 dest_to port None = None
 dest_to port (Some n) = Some (Some record { ahead = n; port = port })
 
--- what stands before the last byte, and the last byte
+-- what is before the last byte, and the last byte
 abbrev pub dest_parts : List ℕ → ℕ → Option (Option Dest)
 dest_parts digits last = if last == 108 then dest_to Left (number_of digits) else if last == 114 then dest_to Right (number_of digits) else None
 

@@ -32,7 +32,7 @@ array_words n len = codes "array" ∷ decimal n ∷ decimal len ∷ []
 abbrev pub literal_words : ℕ → ℤ → List Word
 literal_words n z = codes "literal" ∷ decimal n ∷ literal z ∷ []
 
--- THE LINES. Things are numbered from n on.
+-- THE LINES. Items are numbered from n on.
 unfoldable pub numbered_lines : {X : Type 0} → (ℕ → X → List Word) → ℕ → List X → List (List Word)
 numbered_lines words n [] = []
 numbered_lines words n (x ∷ xs) = words n x ∷ numbered_lines words (n + 1) xs
@@ -41,7 +41,7 @@ unfoldable pub block_lines : ℕ → List CodeBlock → List (List Word)
 block_lines n [] = []
 block_lines n (b ∷ bs) = block_words n b ∷ (numbered_lines instr_words 0 b.instrs ++ block_lines (n + 1) bs)
 
--- The table of literals stands there, or it does not.
+-- The table of literals is there, or it is not.
 abbrev pub table_lines : Bool → List ℤ → List (List Word)
 table_lines true table = numbered_lines literal_words 0 table
 table_lines false table = []
@@ -49,7 +49,7 @@ table_lines false table = []
 abbrev pub code_lines : Bool → ℕ → Code → List (List Word)
 code_lines reread version c = head_words version c.program.main ∷ (block_lines 0 c.program.blocks ++ (numbered_lines array_words 0 c.program.arrays ++ table_lines reread c.literals))
 
--- WHAT THE INSTRUCTIONS TELL OF THE TABLE: each literal that one of them has, once, in ascending order
+-- THE TABLE THAT THE INSTRUCTIONS DETERMINE: each literal that one of them has, once, in ascending order
 abbrev pub with_literal : Option ℤ → List ℤ → List ℤ
 with_literal None table = table
 with_literal (Some z) table = insert_key int_cmp table z
@@ -69,15 +69,15 @@ table_of blocks = used_in blocks []
 abbrev pub IsOperand : List CodeBlock → ℤ → Type 0
 IsOperand blocks z = (k : ℕ) × (b : CodeBlock) × (slice_get blocks k ≡ Some b) × ((n : ℕ) × (i : Instr) × (slice_get b.instrs n ≡ Some i) × (literal_of i.op ≡ Some z))
 
--- The instructions tell the table: each of its literals is an operand.
+-- The instructions determine the table: each of its literals is an operand.
 abbrev pub AllOperands : Code → Type 0
 AllOperands c = All (IsOperand c.program.blocks) c.literals
 
--- the same program, with the table that its instructions tell
+-- the same program, with the table that its instructions determine
 abbrev pub with_operands : Code → Code
 with_operands c = record c { literals = table_of c.program.blocks }
 
--- A TEXT IS A LISTING of this version and code: with the table of literals, or without it where the instructions tell it.
+-- A TEXT IS A LISTING of this version and code: with the table of literals, or without it where the instructions determine it.
 abbrev pub IsListingOf : List ℕ → ℕ → Code → Type 0
 IsListingOf text version c =
     ((0 < length c.literals) × (lines_in text ≡ code_lines true version c))

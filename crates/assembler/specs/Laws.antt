@@ -1,5 +1,5 @@
 -- Listings and objects: what is assembled of a text is the one object that the text is a listing of, and what is listed of an
--- object gives the object's bytes again: with its table of literals always, and without it where the instructions tell the table.
+-- object gives the object's bytes again: with its table of literals always, and without it where the instructions determine the table.
 use Rattle.std.specs.Prelude.{◌≡◌, ◌↔◌, ℕ, List, Ok}
 use Rattle.semantics.specs.Program.{Code}
 use Rattle.semantics.specs.Bytes.{bytes_of, IsCode, IsObject}
@@ -16,7 +16,7 @@ abbrev pub IsUnique : Type 0
 IsUnique = (text : List ℕ) (v w : ℕ) (c d : Code) → IsListingOf text v c → IsCode v c → IsListingOf text w d → IsCode w d → (v ≡ w) × (c ≡ d)
 
 -- What is written of an object with its literals is a listing of it; without them, of the same program with the table that its
--- instructions tell, which is the object's own exactly where they tell all of it.
+-- instructions determine, which is the object's own exactly where they determine all of it.
 pub record HasListing (version : ℕ) (c : Code) : Type 0 where
   pub whole : IsListingOf (listing_with_literals version c) version c
   pub program : IsListingOf (listing version c.program) version (with_operands c)
@@ -27,13 +27,13 @@ abbrev pub AllHaveListings : Type 0
 AllHaveListings = (version : ℕ) (c : Code) → IsCode version c → HasListing version c
 
 -- The bytes of a version and a code are the given ones. The listing with the literals is assembled as these; the listing
--- without them, where the instructions tell the table; and else as the same program with the table that they tell.
+-- without them, too, where the instructions determine the table, and else as the same program with the table that they determine.
 pub record Reassembles (bytes : List ℕ) (version : ℕ) (c : Code) : Type 0 where
   pub whole : assembled (listing_with_literals version c) ≡ Ok (version, c)
   pub reread : AllOperands c → assembled (listing version c.program) ≡ Ok (version, c)
   pub program : assembled (listing version c.program) ≡ Ok (version, with_operands c)
   pub spelling : bytes_of version c ≡ bytes
 
--- each object comes back
+-- each object is restored
 abbrev pub RoundTrips : Type 0
 RoundTrips = (bytes : List ℕ) (version : ℕ) (c : Code) → IsObject bytes version c → Reassembles bytes version c

@@ -105,7 +105,7 @@ tail_from ws = do
   o ← word_from e.1
   Ok (s.0, d.0, e.0, o.0, o.1)
 
--- the name of an instruction, and what stands after it
+-- the name of an instruction, and what follows it
 unfoldable pub named_from : Word → Tail → Result Instr AsmFaultKind
 named_from name t = do
   op ← op_from name t.3

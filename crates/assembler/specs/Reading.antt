@@ -67,7 +67,7 @@ instr_line f ws = do
   i ← instr_from (length f.last.instrs) ws
   Ok (record f { last = with_instr f.last i; used = with_literal (literal_of i.op) f.used }, Blocks)
 
--- which lines may stand after a line of that part
+-- which lines may follow a line of that part
 abbrev pub takes_array : Part → Bool
 takes_array Blocks = true
 takes_array Arrays = true

@@ -5,7 +5,7 @@ use Rattle.graph_file.specs.Lines.{parts}
 abbrev pub Word : Type 0
 Word = List ℕ
 
--- all parts but those that have no byte
+-- all parts except those that have no byte
 unfoldable pub kept : List (List ℕ) → List Word
 kept [] = []
 kept ([] ∷ ps) = kept ps
@@ -16,7 +16,7 @@ abbrev pub front : List (List ℕ) → List ℕ
 front [] = []
 front (p ∷ ps) = p
 
--- The words of a line are parted by spaces, as many as one likes. What stands after a `;` is not looked at.
+-- The words of a line are separated by one or more spaces. What follows a `;` is ignored.
 unfoldable pub words_of : List ℕ → List Word
 words_of line = kept (parts 32 (front (parts 59 line)))
 

@@ -156,7 +156,7 @@ fn dests_fit<A: Allocator>(block: &CodeBlock<A>, number: u32, instr: &Instr<A>) 
         && all_fit(&block.instrs, number, &instr.seconds)
 }
 
-/// Whether an origin may stand there.
+/// Whether an origin is allowed there.
 fn origin_fits(version: u32, op: Op, origin: Origin) -> bool
     ensures { result ≡ Checks.origin_fits version op origin }
 {

@@ -9,7 +9,7 @@ use thiserror::Error;
 /// What is wrong with a listing first.
 #[derive(Clone, Copy, Debug, PartialEq, Eq, Error)]
 pub enum AsmFaultKind {
-    /// A line of no form that may stand there.
+    /// A line of no form that is allowed there.
     #[error("a line of no form that may stand here")]
     BadLine,
     /// A number or a literal that is not well written or too large, or a line's number that is not the next one.
@@ -28,7 +28,7 @@ pub enum AsmFaultKind {
     /// An operand that the operation does not have, or that names nothing.
     #[error("a bad operand")]
     BadOperand,
-    /// An origin that is not well written, or stands where no fault is made or in version 1.
+    /// An origin that is not well written, or is given where no fault is made or in version 1.
     #[error("a bad origin")]
     BadOrigin,
     /// Literals that do not ascend or are too many, or one that is not in the table.

@@ -10,7 +10,7 @@ use semantics::program::{Dest, Op};
 use tags::token::Port;
 use tags::value::{NodeNumber, Origin};
 
-/// What stands after a byte at the front.
+/// What follows a byte at the front.
 #[tactic(auto, unfolding(crate::specs::Fields::tagged))]
 fn tagged(bytes: &[u8], tag: u8) -> Option<&[u8]>
     ensures { option_map (λ x. x.now) result ≡ Fields.tagged tag bytes.now }
@@ -71,7 +71,7 @@ fn side_behind(bytes: &[u8], tag: u8) -> Option<i64>
     literal_behind(tagged(bytes, tag)?)
 }
 
-/// The operation, where no operand stands there.
+/// The operation, where there is no operand.
 #[tactic(auto, unfolding(crate::specs::Fields::no_operand))]
 fn no_operand(op: Op, bytes: &[u8]) -> Option<Op>
     ensures { result ≡ Fields.no_operand op bytes.now }
@@ -83,7 +83,7 @@ fn no_operand(op: Op, bytes: &[u8]) -> Option<Op>
     }
 }
 
-/// The operator, with the literal that stands there in place of an operand.
+/// The operator, with the literal that is there in place of an operand.
 #[tactic(auto, unfolding(crate::specs::Fields::binary_from))]
 fn binary(op: Binary, bytes: &[u8]) -> Option<Op>
     ensures { result ≡ Fields.binary_from op bytes.now }
@@ -119,7 +119,7 @@ fn entry_behind(bytes: &[u8]) -> Option<(u16, u16)>
     entry(tagged(bytes, b'b')?)
 }
 
-/// The operation of that opcode, which a word names, with the operand that stands there. A word of an operator does not say that an
+/// The operation of that opcode, which a word names, with the operand that is there. A word of an operator does not say that an
 /// operand is a literal.
 #[tactic(auto, unfolding(crate::specs::Fields::op_of))]
 pub(crate) fn op_of(opcode: Opcode, bytes: &[u8]) -> Option<Op>
@@ -148,7 +148,7 @@ pub(crate) fn op_of(opcode: Opcode, bytes: &[u8]) -> Option<Op>
     }
 }
 
-/// The slot that stands there, if one may, or `-`.
+/// The slot that is there, if one is allowed, or `-`.
 #[tactic(auto, unfolding(crate::specs::Fields::slot_from))]
 pub(crate) fn slot_from(used: bool, bytes: &[u8]) -> Option<u32>
     ensures { result ≡ Fields.slot_from used bytes.now }

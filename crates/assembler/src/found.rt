@@ -314,7 +314,7 @@ impl<A: Allocator + Clone> Found<A> {
         Ok(said_of(version, main, blocks, arrays, literals))
     }
 
-    /// The code with the table that stands there.
+    /// The code with the table that the listing has.
     fn with_table(self) -> Result<Said<A>, AsmFaultKind>
         ensures { Gives (λ r. (r.version, r.code)) result (Ok (Lines.code_with self self.literals)) }
     {

@@ -1,5 +1,5 @@
-//! The assembler: reads a listing, and gives the code of the object that it is of. The inverse of
-//! `disassembler::list_with_literals`, and of `disassembler::list` where the instructions tell the table of literals.
+//! The assembler: reads a listing, and returns the code of the object that the listing is of. The inverse of
+//! `disassembler::list_with_literals`, and of `disassembler::list` where the instructions determine the table of literals.
 #![tactic(auto)]
 
 mod assembling;

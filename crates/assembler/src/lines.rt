@@ -156,7 +156,7 @@ fn op_from(name: &[u8], operand: &[u8]) -> Result<Op, AsmFaultKind>
     op_of(name, operand).ok_or(AsmFaultKind::BadOperand)
 }
 
-/// What stands after the name of an instruction: slot, both destinations, operand, and the words that are left.
+/// What follows the name of an instruction: slot, both destinations, operand, and the words that are left.
 #[derive(Drop)]
 struct Tail<'a> {
     slot: &'a [u8],
@@ -194,7 +194,7 @@ fn dests_of<A: Allocator>(alloc: A, dest: Option<Dest>) -> Result<Vec<Dest, A>, 
     Ok(dests)
 }
 
-/// The instruction of that name, with what stands after it.
+/// The instruction of that name, with what follows it.
 #[tactic(auto, unfolding(crate::specs::Lines::named_from))]
 fn named_from<A: Allocator + Clone>(
     alloc: A,

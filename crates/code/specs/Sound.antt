@@ -11,7 +11,7 @@ use Rattle.semantics.specs.Plan.{Plan, HasShape, landing}
 use Rattle.semantics.specs.Bytes.{IsDest}
 use Rattle.semantics.specs.Wired.{IsInstrAt, IsWired}
 
--- INSTRUCTIONS. What the operand names is there, and is within its range; any literal may stand.
+-- INSTRUCTIONS. What the operand names exists and is within its range; any literal is allowed.
 abbrev pub NamesRightly : Program → Op → Type 0
 NamesRightly p (Fetch a) = a < length p.arrays
 NamesRightly p (Store a) = a < length p.arrays
@@ -64,7 +64,7 @@ pub record NamesDest (p : Plan) (b n : ℕ) (c : CodeBlock) (d : Dest) : Type 0 
   pub there : IsInstrAt c n i
   pub named : Contains (i.firsts ++ i.seconds) d
 
--- The instruction at place n stands in the landing of the link at place m, and is not its last one.
+-- The instruction at place n is in the landing of the link at place m, and is not its last one.
 pub record IsInLanding (p : Plan) (c : CodeBlock) (m n : ℕ) : Type 0 where
   pub link : Instr
   pub there : IsInstrAt c m link
@@ -75,7 +75,7 @@ pub record IsInLanding (p : Plan) (c : CodeBlock) (m n : ℕ) : Type 0 where
   pub from : m + dest.ahead ≤ n
   pub to : n + 1 < m + dest.ahead + landing p block
 
--- The instruction at that place has to stand directly before the next one: they are of one row, the block's entries or a
+-- The instruction at that place has to be directly before the next one: they are of one row, the block's entries or a
 -- landing.
 abbrev pub IsTied : Plan → CodeBlock → ℕ → Type 0
 IsTied p c n = (n < c.inputs) ⊎ ((m : ℕ) × IsInLanding p c m n)

@@ -35,7 +35,7 @@ fn has_holder<A: Allocator>(instr: &Instr<A>, number: u32) -> bool
     instr.op.uses_slot() && instr.slot == number
 }
 
-// The first of these instructions that has the holder of that number tells what it does.
+// The first of these instructions that has the holder of that number says what it does.
 fn first_held<A: Allocator>(instrs: &[Instr<A>], number: u32) -> Option<Holder>
     ensures { option_map (λ h. h.op) result ≡ held_by instrs.now number }
 {
@@ -47,7 +47,7 @@ fn first_held<A: Allocator>(instrs: &[Instr<A>], number: u32) -> Option<Holder>
     None
 }
 
-/// The holders of a block, by number. Nothing is kept of them but the block's instructions, which say what they are.
+/// The holders of a block, by number. Only the block's instructions are stored, which say what they are.
 #[derive(Drop)]
 pub struct Holders<'p, A: Allocator> {
     pub instrs: &'p [Instr<A>],

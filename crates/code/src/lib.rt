@@ -18,7 +18,7 @@ mod holders;
 #[derive(Drop)]
 pub struct Instr<A: Allocator> {
     pub op: Op,
-    /// Where a fault that the instruction makes says that it was made.
+    /// The origin of a fault that the instruction makes.
     pub origin: Origin,
     /// The slot in which its operands meet, or its holder's number in a plan; 0 where it has none.
     pub slot: u32,

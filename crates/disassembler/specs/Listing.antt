@@ -60,7 +60,7 @@ operand_text (Give k) = codes "k" ++ decimal k
 operand_text (Drain k) = codes "k" ++ decimal k
 operand_text op = codes "-"
 
--- where a fault of the instruction is said to be made, if it is reported
+-- the origin of a fault of the instruction, if it is reported
 abbrev pub origin_text : Origin → List ℕ
 origin_text Untold = []
 origin_text (At b n) = codes " @" ++ decimal b ++ codes "." ++ decimal n

@@ -84,7 +84,7 @@ no_far_arc b n (Ops.Give k) link send = refl
 no_far_arc b n (Ops.Drain k) link send = refl
 no_far_arc b n (Ops.Release o) link send = refl
 
--- what is written of a node depends on what is seen of it alone
+-- what is written of a node depends only on what is seen of it
 pub same_place : (x depth b : ℕ) (block : Block (List ℕ)) (j inputs line : ℕ) (n m : Node (List ℕ)) → x ≡ depth → j ≡ inputs → n ≡ m
     → node_place x b block n.region (j + line) n.kind ≡ node_place depth b block m.region (inputs + line) m.kind
 same_place x depth b block j inputs line n m d i v =

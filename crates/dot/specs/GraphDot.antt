@@ -44,7 +44,7 @@ closes (suc depth) block (Arm k side) = closes depth block (region_of block k) +
 abbrev pub node_box : ℕ → ℕ → Kind (List ℕ) → List ℕ
 node_box b n kind = codes "b" ++ decimal b ++ codes "n" ++ decimal n ++ codes " [label=\"" ++ decimal n ++ field (kind_text kind) ++ codes "\"] "
 
--- the predicate of a conditional comes by a dashed edge
+-- the predicate of a conditional has a dashed edge
 abbrev pub style_of : Kind (List ℕ) → List ℕ
 style_of Cond = codes " style=dashed"
 style_of kind = []

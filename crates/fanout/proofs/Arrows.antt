@@ -104,7 +104,7 @@ module _ (p : Plan) (c : CodeBlock) (v : ℕ) (i : Instr) (here : slice_get (is 
         right = λ r. ap (λ m. is_dyadic (slice_get made m)) z ∙ ap is_dyadic new ∙ dyadic_same (moved (l p c) t (parted to.0)) to.0 refl refl ∙ sym (ap is_dyadic to.1) ∙ old.right r;
       }
 
-  -- a copy, named by what stands before it
+  -- a copy, named by what is before it
   copy_is : (at q ahead : ℕ) → at + ahead ≡ root + q → 0 < ahead → q < count → IsDest (narrowed_block p c) at (record { ahead = ahead; port = Left })
   copy_is at q ahead e some low = let k = copy_within q low in record {
     later = some;
@@ -125,7 +125,7 @@ module _ (p : Plan) (c : CodeBlock) (v : ℕ) (i : Instr) (here : slice_get (is 
   abbrev all_of : ℕ
   all_of = size (parted i)
 
-  -- one side, of which the first copy stands at the o-th copy of the instruction
+  -- one side, of which the first copy is at the o-th copy of the instruction
   module _ (ds : List Dest) (o : ℕ) (fits : o + copies ds ≤ all_of) (part : (d : Dest) → Contains ds d → Contains (i.firsts ++ i.seconds) d) where
     side_is : (d : Dest) → Contains (side (l p c) v (place_of (l p c) v) (base + o) ds) d → G (place_of (l p c) v) d
     side_is d h = pick (side_cases (l p c) v (place_of (l p c) v) (base + o) ds d h)

@@ -1,4 +1,4 @@
--- The two sides of an instruction that is parted are all its destinations.
+-- The two sides of an instruction that is split are all its destinations.
 use Rattle.std.proofs.Common.{◌≡◌, List, ◌++◌, refl, append-nil}
 use Rattle.std.proofs.lemmas.List.{take-append-drop}
 use Rattle.semantics.specs.declared.program.Dest.{Dest}

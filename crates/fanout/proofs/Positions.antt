@@ -1,4 +1,4 @@
--- Where the instructions of a block and their copies stand in the new order.
+-- Where the instructions of a block and their copies are in the new order.
 use Rattle.std.proofs.Common.{◌≡◌, ℕ, zero, suc, ◌+◌, ◌<◌, ◌≤◌, Bool, true, false, List, ◌∷◌, ◌++◌, length, drop, refl, sym, ap, ◌∙◌, inl, inr, ◌⊎◌, arith, Some, if◌then◌else◌, le_of_suc-le-suc, not-suc-le-zero, length-append, true≢false, []}
 use Rattle.std.specs.Prelude.{slice_get, All}
 use Rattle.std.proofs.lemmas.Option.{slice_get_within, same_Some}
@@ -67,7 +67,7 @@ run_some ts n l = by_flag (is_tied ts n) refl
     by_flag true e = let k = run_tied ts n l e in omega (arith, k)
     by_flag false e = let k = run_free ts n l e in omega (arith, k)
 
--- an instruction stands before its copies
+-- an instruction is before its copies
 pub place_base : (ts : List Bool) (n before copied : ℕ) (is : List Instr) (v m k : ℕ) → before ≤ copied
     → slice_get (places_from ts n before copied is) v ≡ Some m → slice_get (bases_from ts n copied is) v ≡ Some k → length ts ≡ n + length is → m < k
 place_base ts n before copied [] v m k h e f all = absurd (cc)
@@ -78,7 +78,7 @@ place_base ts n before copied (i ∷ is) (suc v) m k h e f all = elim (is_tied t
   | false ↦ λ e. place_base ts (n + 1) (copied + size i) (copied + size i) is v m k (omega arith) e f (omega (arith, all))
 ] e
 
--- where a row ends before an instruction, that one stands after the copies of the first one
+-- where a row ends before an instruction, that one is after the copies of the first one
 past_first : (ts : List Bool) (n before copied : ℕ) (i : Instr) (is : List Instr) (w m' k : ℕ) → before ≤ copied → length ts ≡ n + length (i ∷ is)
     → slice_get (places_from ts n before copied (i ∷ is)) w ≡ Some m' → k < w → is_tied ts (n + k) ≡ false → n + run (drop n ts) + copied + size i ≤ m'
 past_first ts n before copied i is zero m' k h all e l free = absurd (not-suc-le-zero l)
@@ -132,13 +132,13 @@ place_order ts n before copied (i ∷ is) (suc v) (suc w) m m' h p q l = elim (i
       | false ↦ λ p q. place_order ts (n + 1) (copied + size i) (copied + size i) is v w m m' (omega arith) p q (le_of_suc-le-suc l)
     ] p q
 
--- WHAT STANDS THERE
+-- WHAT IS THERE
 module _ {X : Type 0} (ts : List Bool) (one : ℕ → Instr → X) (more : ℕ → Instr → List X) (sized : (n : ℕ) (i : Instr) → length (more n i) ≡ size i) where
   -- the next step of the new order
   abbrev next : ℕ → List X → Instr → List Instr → Bool → List X
   next n waiting i is t = released t (waiting ++ more n i) ++ spread_of ts one more (n + 1) (held t (waiting ++ more n i)) is
 
-  -- what waits stands after the row
+  -- what waits is after the row
   waiting_at : (n : ℕ) (waiting : List X) (is : List Instr) (u : ℕ) → length ts ≡ n + length is → u < length waiting
       → slice_get (spread_of ts one more n waiting is) (run (drop n ts) + u) ≡ slice_get waiting u
   waiting_at n waiting [] u all l = let r = run_none ts n (omega (arith, all)) in let z : run (drop n ts) + u ≡ u = omega (arith, r) in ap (slice_get waiting) z
@@ -227,7 +227,7 @@ module _ {X : Type 0} (ts : List Bool) (one : ℕ → Instr → X) (more : ℕ �
             (suc (length (waiting ++ more n k) + r.0), omega (arith, s, len, h), get_right (waiting ++ more n k) (spread_of ts one more (n + 1) [] is) r.0 ∙ r.2)
       ]
 
-  -- an instruction stands at its place, and its copies from its base on
+  -- an instruction is at its place, and its copies from its base on
   pub one_at : (is : List Instr) (n m : ℕ) (i : Instr) → slice_get is n ≡ Some i → slice_get (places_from ts 0 0 0 is) n ≡ Some m → slice_get (spread_of ts one more 0 [] is) m ≡ Some (one n i)
   one_at is n m i at p =
       let r = one_from 0 0 0 [] is n m n i (omega arith) at p (omega arith) in let s = r.1 in

@@ -32,7 +32,7 @@ module _ (l : Layout) (n : ℕ) where
   abbrev pub to : Dest → Address
   to d = (place_of l (n + d.ahead), d.port)
 
-  -- they stand after that place
+  -- they are after that place
   abbrev pub Reaches : ℕ → List Dest → Type 0
   Reaches at ds = (k : ℕ) (d : Dest) → slice_get ds k ≡ Some d → at ≤ place_of l (n + d.ahead)
 
@@ -47,7 +47,7 @@ module _ (l : Layout) (n : ℕ) where
   or_to None = (0, Left)
   or_to (Some d) = to d
 
-  -- child c of a tree of which the first copy stands at `root`
+  -- child c of a tree of which the first copy is at `root`
   abbrev pub tip : ℕ → List Dest → ℕ → Address
   tip root ds c = if nat_lt c (copies ds) then (root + c, Left) else or_to (slice_get ds (c - copies ds))
 
@@ -79,7 +79,7 @@ module _ (l : Layout) (n : ℕ) where
       let a : suc m + m ≡ 2 * m + 1 = omega arith in let b : suc m + m + 1 ≡ 2 * m + 2 = omega arith in
       window_end (tip root ds) (suc m) m ∙ (λ k. window (tip root ds) (suc m) m ++ tip root ds (a k) ∷ tip root ds (b k) ∷ [])
 
-  -- and comes first itself
+  -- and is the first itself
   pub queue_first : (root : ℕ) (ds : List Dest) (m : ℕ) → m < copies ds → queue root ds m ≡ (root + m, Left) ∷ window (tip root ds) (suc m) m
   queue_first root ds m h =
       let s : m + 1 ≡ suc m = omega arith in

@@ -1,11 +1,11 @@
--- How long rows are, and one step of the pass that finds where copies stand.
+-- How long rows are, and one step of the pass that finds where copies are.
 use Rattle.std.proofs.Common.{◌≡◌, ℕ, zero, suc, ◌+◌, ◌<◌, Bool, true, false, List, ◌∷◌, ◌++◌, length, append_assoc, get_or, drop, refl, sym, ap, ◌∙◌, inl, inr, ◌⊎◌, arith, le_of_suc-le-suc, not-suc-le-zero, []}
 use Rattle.lemmas.proofs.Lists.{drop_opens}
 use Rattle.semantics.specs.Program.{Instr}
 use Rattle.fanout.specs.Rows.{run}
 use Rattle.fanout.specs.Places.{size, bases_from}
 
--- a row is over after its instruction, or goes on
+-- a row ends after its instruction, or goes on
 pub run_next : (ts : List Bool) (n : ℕ) → n < length ts → ((n + 1 ≡ n + run (drop n ts)) ⊎ (n + run (drop n ts) ≡ n + 1 + run (drop (n + 1) ts)))
 run_next [] n h = absurd (not-suc-le-zero h)
 run_next (true ∷ ts) zero h = inr (omega arith)

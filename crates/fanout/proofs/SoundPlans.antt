@@ -61,7 +61,7 @@ named_still p (Link b) h = let n = length-map p.program.blocks (narrowed_block p
 named_still p (Send b e) h = (narrowed_block p h.0, slice_get-map (narrowed_block p) p.program.blocks b ∙ ap (option_map (narrowed_block p)) h.1, h.2)
 named_still p op h = h
 
--- what a narrowed plan says of an instruction, but for its destinations
+-- what a narrowed plan says of an instruction, except for its destinations
 abbrev NamesWell : Plan → Instr → Type 0
 NamesWell p i = NamesRightly (narrowed p).program i.op × IsPlace i.origin
 

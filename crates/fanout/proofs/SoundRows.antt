@@ -1,4 +1,4 @@
--- The rows of a narrowed sound plan: no copy stands in one, so what was apart still is.
+-- The rows of a narrowed sound plan: no copy is in one, so what was apart still is.
 use Rattle.std.proofs.Common.{◌≡◌, ℕ, ◌+◌, ◌-◌, ◌<◌, ◌≤◌, Bool, true, false, List, ◌∷◌, ◌++◌, map, length, refl, sym, ap, ◌∙◌, subst, inl, inr, ◌⊎◌, arith, Option, Some, None, nat_lt, if◌then◌else◌, length-append, []}
 use Rattle.std.specs.Prelude.{slice_get, Contains}
 use Rattle.std.specs.Option.{option_map}
@@ -105,7 +105,7 @@ module _ (p : Plan) (s : IsSound p) (b : ℕ) (c : CodeBlock) (at_b : slice_get 
   apart_copy : (m n q : ℕ) (i j : Instr) → IsInstrAt c m i → IsInstrAt c n j → q < size (parted j) → place m ≡ base n + q → ⊥
   apart_copy m n q i j e f h z = copy_apart (ts p c) (is p c) (all p c) m n q (parted i) (parted j) (here m i e) (here n j f) h z
 
-  -- NO COPY STANDS IN A ROW: not among the entries,
+  -- NO COPY IS IN A ROW: not among the entries,
   entry_stays : (k : ℕ) (i : Instr) → IsInstrAt c k i → k ≤ c.inputs → place k ≡ k
   entry_stays k i e h =
       let within = slice_get_within (is p c) k (parted i) (here k i e) in
@@ -123,7 +123,7 @@ module _ (p : Plan) (s : IsSound p) (b : ℕ) (c : CodeBlock) (at_b : slice_get 
           let x = get_some c.instrs (base v + q) (omega (arith, u, k)) in
           absurd (apart_copy (base v + q) v q x.0 i x.1 e h (entry_stays (base v + q) x.0 x.1 k))
 
-  -- nor in a landing, also where the block ends before the landing does
+  -- nor in a landing, even where the block ends before the landing does
   module _ (v q u t : ℕ) (i j : Instr) (d : Dest) (at_v : IsInstrAt c v i) (copy : q < size (parted i)) (at_u : IsInstrAt c u j) (links : j.op ≡ Link t) (lands : Contains j.firsts d) where
     beyond : place (u + d.ahead) ≤ base v + q → length c.instrs < u + d.ahead + landing p t → ⊥
     beyond from short =
@@ -241,7 +241,7 @@ module _ (p : Plan) (s : IsSound p) (b : ℕ) (c : CodeBlock) (at_b : slice_get 
               let up = rises (o.u + o.d.ahead + (landing p o.t - 1)) k x.0 i x.1 e (omega (arith, beyond, from, to)) in
               omega (arith, last, up, to)
 
-  -- WHAT IS NAMED stands apart from what names it
+  -- WHAT IS NAMED is apart from what names it
   module _ (v : ℕ) (i : Instr) (at_v : IsInstrAt c v i) where
     to_copy : (q : ℕ) (d : Dest) → q < size (parted i) → dest_at (place v) (base v + q) Left ≡ d → StandApart (narrowed p) new (place v) (place v + d.ahead)
     to_copy q d h e =

@@ -1,4 +1,4 @@
--- No two instructions of the new order stand at one place: each is told by a label.
+-- No two instructions of the new order are at one place: each is identified by a label.
 use Rattle.std.proofs.Common.{◌≡◌, ℕ, zero, suc, ◌+◌, ◌<◌, ◌≤◌, Bool, false, List, ◌∷◌, ◌++◌, length, refl, sym, ap, ◌∙◌, inl, inr, ◌⊎◌, arith, Some, not-suc-le-zero, length-append, []}
 use Rattle.std.specs.Prelude.{slice_get}
 use Rattle.std.proofs.lemmas.Bool.{cases_eq}
@@ -98,7 +98,7 @@ module _ (ts : List Bool) (is : List Instr) (all : length ts ≡ length is) wher
   pub base_is : (n : ℕ) (i : Instr) → slice_get is n ≡ Some i → slice_get (bases_from ts 0 0 is) n ≡ Some (base_of l n)
   base_is n i at = let p = base_there ts 0 0 is n (slice_get_within is n i at) in p.1 ∙ ap Some (sym (get_or_from_slice_get (bases_from ts 0 0 is) n p.0 n p.1))
 
-  -- an instruction and its copies stand there
+  -- an instruction and its copies are there
   pub stands : (n : ℕ) (i : Instr) → slice_get is n ≡ Some i → slice_get (spread l 0 [] is) (place_of l n) ≡ Some (moved l n i)
   stands n i at = one_at ts (moved l) (copies_of l) (sized l) is n (place_of l n) i at (place_is n i at)
 

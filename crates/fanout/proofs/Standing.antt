@@ -19,7 +19,7 @@ use Rattle.fanout.proofs.Flags.{tie_length, tie_these, landings_keep, all_keeps,
 use Rattle.fanout.proofs.Plans.{is, ts, l, all, at_place}
 use Rattle.fanout.proofs.Arrows.{in_parts}
 
--- the next instruction stands directly after one that is tied to it
+-- the next instruction is directly after one that is tied to it
 place_next : (ts : List Bool) (n before copied : ℕ) (is : List Instr) (v m m' : ℕ) → slice_get (places_from ts n before copied is) v ≡ Some m → slice_get (places_from ts n before copied is) (suc v) ≡ Some m' → is_tied ts (n + v) ≡ true → m' ≡ m + 1
 place_next ts n before copied [] v m m' e f t = absurd (cc)
 place_next ts n before copied (i ∷ []) zero m m' e f t = absurd (cc)

@@ -33,7 +33,7 @@ MarksStay = (p : Plan) → MarksSwitches p → MarksSwitches (narrowed p)
 abbrev pub LoopsStay : Type 0
 LoopsStay = (p : Plan) → AllLoops p → AllLoops (narrowed p)
 
--- WHERE THEY STAND. Each instruction is in its place, with its operation, origin and slot; and a link's landing stays in a
+-- WHERE THEY ARE. Each instruction is in its place, with its operation, origin and slot; and a link's landing stays in a
 -- row.
 abbrev pub InstrsStay : Type 0
 InstrsStay = (p : Plan) (c : CodeBlock) (n : ℕ) (i : Instr) → IsInstrAt c n i → IsInstrAt (narrowed_block p c) (place_of (layout_of p c) n) (moved (layout_of p c) n (parted i))
@@ -64,7 +64,7 @@ AreDests p = (b n : ℕ) (c : CodeBlock) (d : Dest) → Names p b n c d → IsDe
 abbrev pub DestsStay : Type 0
 DestsStay = (p : Plan) → LeavesRows p → AreDests p → AreDests (narrowed p)
 
--- WIRED PLANS. What a plan keeps to whose copies are wired as well: a destination is no entry, and the entries are there.
+-- WIRED PLANS. The conditions on a plan whose copies are wired as well: a destination is no entry, and the entries exist.
 pub record KeepsClear (p : Plan) : Type 0 where
   pub rows : LeavesRows p
   pub dests : AreDests p

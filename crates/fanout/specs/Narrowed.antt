@@ -10,7 +10,7 @@ use Rattle.fanout.specs.Rows.{is_tied}
 use Rattle.fanout.specs.Places.{Layout, size, layout_in}
 use Rattle.fanout.specs.Trees.{moved, copies_of}
 
--- What waits for the end of a row is held while an instruction is tied to the next one, and released after it else.
+-- What waits for the end of a row is held while an instruction is tied to the next one, and otherwise released after it.
 abbrev pub held : {X : Type 0} → Bool → List X → List X
 held true xs = xs
 held false xs = []
@@ -19,8 +19,8 @@ abbrev pub released : {X : Type 0} → Bool → List X → List X
 released true xs = []
 released false xs = xs
 
--- The n-th instruction stands for `one` thing, and its copies for `more`. What the instructions from the n-th on stand for,
--- in their new order; some copies of their row wait.
+-- What the instructions from the n-th on stand for, in their new order: the n-th one for `one`, and its copies for `more`;
+-- some copies of their row wait.
 abbrev pub spread_of : {X : Type 0} → List Bool → (ℕ → Instr → X) → (ℕ → Instr → List X) → ℕ → List X → List Instr → List X
 spread_of ts one more n waiting [] = waiting
 spread_of ts one more n waiting (i ∷ is) = one n i ∷ (released (is_tied ts n) (waiting ++ more n i) ++ spread_of ts one more (n + 1) (held (is_tied ts n) (waiting ++ more n i)) is)

@@ -1,22 +1,22 @@
--- Where the instructions of a block stand when the copies of each stand directly after it, or after its row.
+-- Where the instructions of a block are when the copies of each are directly after it, or after its row.
 use Rattle.std.specs.Prelude.{ℕ, ◌+◌, Bool, List, ◌∷◌, drop, slice_index_or, if◌then◌else◌, []}
 use Rattle.semantics.specs.Program.{Instr}
 use Rattle.semantics.specs.Plan.{Plan}
 use Rattle.fanout.specs.Sides.{copies}
 use Rattle.fanout.specs.Rows.{is_tied, run, tied_in}
 
--- `tied`: which instructions the next one has to follow. `places`: where each instruction stands. `bases`: where the first
--- copy of each stands, or would.
+-- `tied`: which instructions the next one has to follow. `places`: where each instruction is. `bases`: where the first
+-- copy of each is, or would be.
 pub record Layout : Type 0 where
   pub tied : List Bool
   pub places : List ℕ
   pub bases : List ℕ
 
--- how many copies an instruction has whose destinations are in two sides
+-- the number of copies of an instruction whose destinations are in two sides
 abbrev pub size : Instr → ℕ
 size i = copies i.firsts + copies i.seconds
 
--- From the n-th instruction on, where `before` copies stand before its row, and `copied` copies belong to what is before it.
+-- From the n-th instruction on, where `before` copies are before its row, and `copied` copies belong to what is before it.
 abbrev pub places_from : List Bool → ℕ → ℕ → ℕ → List Instr → List ℕ
 places_from ts n before copied [] = []
 places_from ts n before copied (i ∷ is) = (n + before) ∷ places_from ts (n + 1) (if is_tied ts n then before else copied + size i) (copied + size i) is

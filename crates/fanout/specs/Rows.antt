@@ -1,4 +1,4 @@
--- Which instructions are tied to the next one: those of a row but its last. A block's entries stand in a row, and so does
+-- Which instructions are tied to the next one: those of a row but its last. A block's entries are in a row, and so is
 -- each landing of a link.
 use Rattle.std.specs.Prelude.{ℕ, zero, suc, ◌+◌, ◌-◌, Bool, true, false, List, ◌∷◌, length, replicate, slice_set, slice_index_or, if◌then◌else◌, []}
 use Rattle.semantics.specs.declared.program.Dest.{Dest}
@@ -31,7 +31,7 @@ tied_in p inputs is = tie_all p (tie (replicate (length is) false) 0 inputs) 0 i
 abbrev pub is_tied : List Bool → ℕ → Bool
 is_tied ts n = slice_index_or ts n false
 
--- how many instructions stand together from the first on
+-- how many instructions are together from the first on
 abbrev pub run : List Bool → ℕ
 run [] = 0
 run (t ∷ ts) = if t then run ts + 1 else 1

@@ -4,7 +4,7 @@ use Rattle.code.specs.Sound.{IsSound}
 use Rattle.fanout.specs.Narrowed.{narrowed}
 use Rattle.fanout.specs.Laws.{KeepsClear, AllInstrs, HasItsDests}
 
--- Each destination leaves its row, by the flags that the rows are told by, and is no entry.
+-- Each destination leaves its row, by the flags that determine the rows, and is no entry.
 abbrev pub SoundKeepsClear : Type 0
 SoundKeepsClear = (p : Plan) → IsSound p → KeepsClear p
 

@@ -11,7 +11,7 @@ use code::{CodeBlock, Instr, Plan};
 use semantics::program::Mark;
 use std::alloc::{AllocError, Allocator};
 
-/// After an instruction that is not tied to the next one stands what waits.
+/// What waits follows an instruction that is not tied to the next one.
 fn release<T, A: Allocator>(
     tied: bool,
     waiting: &mut Vec<T, A>,

@@ -1,4 +1,4 @@
-//! Where the instructions of a block stand when their copies stand after them.
+//! Where the instructions of a block are when their copies are after them.
 
 ghost use Rattle.std.specs.Prelude.{◌≡◌, ◌⊎◌, ◌+◌, ◌<◌, ◌≤◌, IfOk, length, drop};
 ghost use Rattle.fanout.specs.Rows as of_rows;
@@ -15,9 +15,9 @@ use std::marker::Model;
 pub(crate) struct Layout<A: Allocator> {
     /// For each instruction, whether the next one has to follow it directly.
     tied: Vec<bool, A>,
-    /// Where each instruction stands.
+    /// Where each instruction is.
     places: Vec<usize, A>,
-    /// Where the first copy of each instruction stands, or would.
+    /// Where the first copy of each instruction is, or would be.
     bases: Vec<usize, A>,
 }
 
@@ -39,14 +39,14 @@ pub(crate) fn plus(place: usize, count: usize) -> Result<usize, AllocError>
     }
 }
 
-/// How many copies an instruction has whose destinations are in two sides.
+/// The number of copies of an instruction whose destinations are in two sides.
 pub(crate) fn size<A: Allocator>(instr: &Instr<A>) -> Result<usize, AllocError>
     ensures { IfOk result (λ n. n ≡ of_places.size instr.now) }
 {
     plus(copies(&instr.firsts), copies(&instr.seconds))
 }
 
-/// Where instructions stand of which these are tied.
+/// Where the instructions are, given which of them are tied.
 fn places_of<A: Allocator>(
     alloc: A,
     tied: &[bool],
@@ -65,7 +65,7 @@ fn places_of<A: Allocator>(
     Ok(places)
 }
 
-/// Where the row ends in which an instruction stands: it goes on to `end`, or begins here where the last one ended.
+/// Where the row of an instruction ends: it goes on to `end`, or begins here, where the last one ended.
 fn row_end(tied: &[bool], place: usize, end: usize) -> usize
     requires there { place < length tied.now }
     requires row { (place ≡ end) ⊎ (end ≡ place + of_rows.run (drop place tied.now)) }
@@ -80,7 +80,7 @@ fn row_end(tied: &[bool], place: usize, end: usize) -> usize
     }
 }
 
-/// Where the first copies of instructions stand of which these are tied.
+/// Where the first copies of the instructions are, given which instructions are tied.
 fn bases_of<A: Allocator>(
     alloc: A,
     tied: &[bool],
@@ -138,7 +138,7 @@ impl<A: Allocator> Layout<A> {
         is_tied(&self.tied, number)
     }
 
-    /// Where that instruction stands.
+    /// Where that instruction is.
     pub fn place(&self, number: usize) -> usize
         ensures { result ≡ of_places.place_of self.now number }
     {
@@ -148,7 +148,7 @@ impl<A: Allocator> Layout<A> {
         }
     }
 
-    /// Where the first copy of that instruction stands.
+    /// Where the first copy of that instruction is.
     pub fn base(&self, number: usize) -> usize
         ensures { result ≡ of_places.base_of self.now number }
     {

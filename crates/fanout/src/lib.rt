@@ -1,7 +1,7 @@
 //! From a plan to one in which no instruction has more than two destinations: a tree of `copy` leads to the others, as
 //! deep as the logarithm of their number.
 //!
-//! The copies of an instruction stand directly after it, or, where it stands in a row that must not be cut, directly
+//! The copies of an instruction are directly after it, or, if it is in a row that must not be cut, directly
 //! after the row: the entries of a block, or the landing of a link.
 #![tactic(auto)]
 
@@ -22,7 +22,7 @@ use code::{Plan, Program};
 use std::alloc::{AllocError, Allocator};
 
 /// What any plan keeps when it is narrowed: it stays a plan, marked at its switches and nowhere else, with its loops as
-/// they were, each instruction in its place and each landing of a link in a row. Where each destination leaves the row of
+/// they were, each instruction in its place and each landing of a link in a row. If each destination leaves the row of
 /// the instruction that names it, all destinations lead to later instructions of their block, as they did before.
 pub fn narrowed_plan_is_plan()
     ensures plan { StaysPlan }
@@ -38,7 +38,7 @@ pub fn narrowed_plan_is_plan()
 ///
 /// An instruction sends to two places, or to one for each of its two kinds of destinations: a switch on either side, a
 /// link with its signals, which keeps its landing. A `give` and a `drain` send to one place. Where there are more
-/// destinations, a copy stands for all those of a place. It takes time in proportion to the plan's instructions and
+/// destinations, a copy takes the place of all those of a side. It takes time in proportion to the plan's instructions and
 /// destinations, and its landings.
 ///
 /// It fails where a growth is refused, or where a destination would be 2^32 instructions ahead.

@@ -1,4 +1,4 @@
-//! Which instructions of a block stand in a row that must not be cut.
+//! Which instructions of a block are in a row that must not be cut.
 
 ghost use Rattle.std.specs.Prelude.{◌≡◌, ◌+◌, ◌-◌, ◌<◌, ◌≤◌, ◌^◌, IfOk, length, slice_set, true};
 ghost use Rattle.semantics.specs.Plan as of_plans;
@@ -62,8 +62,8 @@ fn tie_instr<A: Allocator>(plan: &Plan<A>, tied: &mut [bool], from: usize, instr
     }
 }
 
-/// For each instruction of a block with `inputs` inputs, whether the next one has to follow it directly: the entries stand
-/// in a row, and so does each landing.
+/// For each instruction of a block with `inputs` inputs, whether the next one has to follow it directly: the entries are
+/// in a row, and so is each landing.
 pub(crate) fn tied_in<A: Allocator>(
     alloc: A,
     plan: &Plan<A>,
@@ -81,7 +81,7 @@ pub(crate) fn tied_in<A: Allocator>(
     Ok(tied)
 }
 
-/// How many instructions stand together from the first on.
+/// How many instructions are together from the first on.
 pub(crate) fn run(tied: &[bool]) -> usize
     ensures exact { result ≡ of_rows.run tied.now }
     ensures within { result ≤ length tied.now }

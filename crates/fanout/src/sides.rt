@@ -7,7 +7,7 @@ use code::Instr;
 use semantics::program::{Dest, Op};
 use std::alloc::{AllocError, Allocator};
 
-/// How the destinations of an instruction are parted in two sides. From each side it sends to one place.
+/// How the destinations of an instruction are split into two sides. From each side it sends to one place.
 #[derive(Clone, Copy)]
 pub(crate) enum Parting {
     /// First and second destinations differ.

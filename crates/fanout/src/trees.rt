@@ -12,7 +12,7 @@ use std::alloc::{AllocError, Allocator};
 use tags::token::Port;
 use tags::value::Origin;
 
-/// A destination, by where it and what names it stand. A block in which it is too far ahead does not fit into memory.
+/// A destination, by its place and the place of what names it. A block in which it is too far ahead does not fit into memory.
 fn dest_at(from: usize, to: usize, port: Port) -> Result<Dest, AllocError>
     ensures { IfOk result (λ d. d ≡ of_trees.dest_at from to port) }
 {
@@ -22,7 +22,7 @@ fn dest_at(from: usize, to: usize, port: Port) -> Result<Dest, AllocError>
     }
 }
 
-/// A destination of the instruction of that number, named by what stands at a place.
+/// A destination of the instruction of that number, named by what is at a place.
 fn leaf<A: Allocator>(
     layout: &Layout<A>,
     number: usize,
@@ -35,7 +35,7 @@ fn leaf<A: Allocator>(
     dest_at(at, to, dest.port)
 }
 
-/// A child of a copy of that number, which stands at a place. The children are numbered on after those of the copies
+/// A child of a copy of that number, which is at a place. The children are numbered on after those of the copies
 /// before it: the first ones are copies, and the others the destinations in their order.
 fn child<A: Allocator>(
     layout: &Layout<A>,
@@ -56,7 +56,7 @@ fn child<A: Allocator>(
     }
 }
 
-/// The copy of that number of a side of an instruction, which stands at a place.
+/// The copy of that number of a side of an instruction, which is at a place.
 fn copy_at<A: Allocator + Clone>(
     alloc: A,
     layout: &Layout<A>,
@@ -81,7 +81,7 @@ fn copy_at<A: Allocator + Clone>(
     })
 }
 
-/// Adds the copies of a side of an instruction, of which the first one stands at `root`.
+/// Adds the copies of a side of an instruction, of which the first one is at `root`.
 fn push_tree<A: Allocator + Clone>(
     alloc: A,
     layout: &Layout<A>,
@@ -100,7 +100,7 @@ fn push_tree<A: Allocator + Clone>(
     Ok(())
 }
 
-/// A side of an instruction, which stands at a place: its destination, or the first copy, which stands at `root`.
+/// A side of an instruction, which is at a place: its destination, or the first copy, which is at `root`.
 fn side<A: Allocator>(
     alloc: A,
     layout: &Layout<A>,

@@ -1,4 +1,4 @@
--- What folding does to an instruction: told without the names of folds.
+-- What folding does to an instruction, stated without the names of folds.
 use Rattle.std.proofs.Common.{◌≡◌, refl, sym, ap, ◌∙◌, ℕ, ℤ, ◌+◌, Bool, true, false, true≢false, Some}
 use Rattle.std.specs.Prelude.{pos, slice_get}
 use Rattle.tags.specs.declared.token.Port.{Port}

@@ -49,7 +49,7 @@ module _ (p : Plan) (c : CodeBlock) where
   abbrev pub closed_uses : ℕ → List ℕ
   closed_uses m = closed_in m (uses_in (slice_get c.instrs m))
 
-  -- those that instructions name which are named by destinations of the n-th one
+  -- those that are named by the instructions to which destinations of the n-th one lead
   abbrev pub given : ℕ → List Dest → List ℕ
   given n ds = flat_map (λ (d : Dest). closed_uses (n + d.ahead)) ds
 

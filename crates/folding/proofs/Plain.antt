@@ -190,7 +190,7 @@ module _ (p : Plan) (c : CodeBlock) where
         pick (inr R) = absurd (not_paired low R)
 
 -- ---- LITERALS THAT STAY
--- not all destinations are ports at which no word comes
+-- not all destinations are ports at which no word arrives
 not_all : (fs : List Fold) (n : ℕ) (ds : List Dest) → all_closed fs n ds ≡ false → (k : ℕ) × (d : Dest) × (slice_get ds k ≡ Some d) × (closed_to fs n d ≡ false)
 not_all fs n [] e = absurd (true≢false e)
 not_all fs n (d ∷ ds) e = go (closed_to fs n d) refl e (not_all fs n ds)
@@ -214,7 +214,7 @@ some_used i k true d e = go i.firsts i.seconds e
     go [] (y ∷ ys) e = refl
     go [] [] e = absurd (cc)
 
--- A literal that sends somewhere and stays has a destination at which words still come.
+-- A literal that sends somewhere and stays has a destination at which words still arrive.
 pub kept_open : (p : Plan) (c : CodeBlock) (m k : ℕ) (j : Instr) (z : ℤ) (s : Bool) (d : Dest) → slice_get c.instrs m ≡ Some j → j.op ≡ Lit z → slice_get (dests_of j s) k ≡ Some d → gone_at (layout_of p c) m ≡ false
     → (t : Bool) × (v : ℕ) × (x : Dest) × (slice_get (dests_of j t) v ≡ Some x) × (is_closed (folds_at (layout_of p c) (m + x.ahead)) x.port ≡ false)
 kept_open p c m k j z s d at op named stays = go (all_closed (folds_of p c) m j.firsts) (all_closed (folds_of p c) m j.seconds) refl refl

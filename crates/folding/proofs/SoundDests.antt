@@ -41,11 +41,11 @@ dyadic_op i (Give k) = refl
 dyadic_op i (Drain k) = refl
 dyadic_op i op = refl
 
--- Whether there are two operands is told by the operation.
+-- Whether there are two operands is determined by the operation.
 pub dyadic_is : (i : Instr) → Bytes.is_dyadic (Some i) ≡ Wired.is_dyadic i.op
 dyadic_is i = dyadic_op i i.op
 
--- The operand that an operator still takes from outside comes at the left port.
+-- The operand that an operator still takes from outside arrives at the left port.
 right_port : (f : Fold) (q : Port) → new_port f q ≡ Right → (f ≡ Unchanged) × (q ≡ Right)
 right_port Unchanged q e = (refl, e)
 right_port (OnRight z) q e = absurd (cc)

@@ -13,7 +13,7 @@ use Rattle.folding.specs.Places.{Layout}
 use Rattle.folding.specs.Moved.{is_shut, new_dest, moved_dest, moved_dests}
 use Rattle.folding.specs.Folded.{folded_block, folded}
 
--- DESTINATIONS. A moved destination stands for one of the old ones, at whose port words still come.
+-- DESTINATIONS. A moved destination stands for one of the old ones, at whose port words still arrive.
 abbrev pub Stood : Layout → ℕ → List Dest → Dest → Type 0
 Stood l n ds e = (d : Dest) × Contains ds d × (is_shut l (n + d.ahead) d.port ≡ false) × (e ≡ new_dest l n (n + d.ahead) d.port)
 

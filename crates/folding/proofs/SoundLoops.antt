@@ -102,7 +102,7 @@ module _ (p : Plan) (c : CodeBlock) (one : OneHolder c) (below : IsBelow c) (use
       pick (inr low) (inl less) = let k = keeps_order p c n m less (slice_get_within c.instrs m i at) stays in absurd (omega (arith, k, e))
       pick (inr low) (inr high) = omega (arith, low, high)
 
-  -- Two loops have no holder in common, since the `open` of each tells it.
+  -- Two loops have no holder in common, since the `open` of each identifies it.
   holders_apart : (g h : ℕ) → Opening g → Opening h → new_holder l g ≡ new_holder l h → g ≡ h
   holders_apart g h (m, i, first, opens) (n, j, second, also) e =
       pick (keeps_holders p c one below (new_place l m) (new_place l n) (new_holder l h) (moved l m i) (moved l n j) (keeps_instrs p c m i first.0 stay) (keeps_instrs p c n j second.0 stays)

@@ -1,4 +1,4 @@
--- Rows: what stands apart in a block does so in the folded one.
+-- Rows: what is apart in a block is apart in the folded one.
 use Rattle.std.proofs.Common.{◌≡◌, ℕ, zero, suc, ◌+◌, ◌-◌, ◌<◌, ◌≤◌, Bool, true, false, ◌||◌, ◌++◌, length, refl, sym, ap, ◌∙◌, subst, inl, inr, ◌⊎◌, arith, Some, true≢false}
 use Rattle.std.specs.Prelude.{slice_get, Contains}
 use Rattle.std.proofs.lemmas.Bool.{cases_lt}
@@ -28,7 +28,7 @@ link_before (OnRight z) (Apply2 op) b e = absurd (cc)
 link_before (LeftLiteral z) (Apply2 op) b e = absurd (cc)
 link_before f op b e = e
 
--- where words still come, the instruction stands
+-- where words still arrive, the instruction stays
 pub shut_stays : (l : Layout) (m : ℕ) (q : Port) → is_shut l m q ≡ false → gone_at l m ≡ false
 shut_stays l m q h = go (gone_at l m) refl h
   where
@@ -54,7 +54,7 @@ module _ (p : Plan) (sound : DestsAreSound p) (b : ℕ) (c : CodeBlock) (at_b : 
   inputs_stay : (gone_at l c.inputs ≡ false) × (new_place l c.inputs ≡ c.inputs)
   inputs_stay = keeps_entries p c c.inputs (omega arith) (omega (arith, size))
 
-  -- what has to stand directly after something else stays
+  -- what has to be directly after something else stays
   tied_stays : (k : ℕ) → k + 1 < length c.instrs → IsTied p c k → gone_at l (k + 1) ≡ false
   tied_stays k h (inl e) = (keeps_entries p c (k + 1) (omega (arith, e)) h).0
   tied_stays k h (inr (m, t)) =
@@ -63,7 +63,7 @@ module _ (p : Plan) (sound : DestsAreSound p) (b : ℕ) (c : CodeBlock) (at_b : 
       let e : m + t.dest.ahead + (k + 1 - (m + t.dest.ahead)) ≡ k + 1 = omega (arith, low) in
       sym (ap (gone_at l) e) ∙ (keeps_landings p c m g.0 (k + 1 - (m + t.dest.ahead)) t.block t.link t.dest t.there t.links g.1 (omega (arith, low, high)) (omega (arith, e, h))).0
 
-  -- in front of what is left out stands something that stays, and it is free of the next one
+  -- before what is left out there is something that stays, and it is free of the next one
   abbrev Front : ℕ → ℕ → Type 0
   Front n m = (k : ℕ) × (n ≤ k) × (k < m) × (gone_at l k ≡ false) × (gone_at l (k + 1) ≡ true)
 

@@ -1,4 +1,4 @@
--- Where the instructions of a block stand in the folded block.
+-- Where the instructions of a block are in the folded block.
 use Rattle.std.proofs.Common.{◌≡◌, ℕ, zero, suc, ◌+◌, ◌<◌, Bool, true, false, List, ◌∷◌, length, refl, sym, ap, ◌∙◌, arith, Some, if◌then◌else◌, le_of_suc-le-suc, not-suc-le-zero, true≢false, []}
 use Rattle.std.specs.Prelude.{slice_get, slice_index_or}
 use Rattle.std.proofs.lemmas.Option.{slice_get_within, get_or_from_slice_get}

@@ -56,7 +56,7 @@ freed_there fs hs n (j ∷ is) (suc k) i at f l =
     within true = let len = length-set hs j.slot true in omega (arith, l, len)
     within false = l
 
--- the thing of a number that is left
+-- the item of a number that is left
 abbrev Numbered : List Bool → ℕ → Type 0
 Numbered gs m = (g : ℕ) × (g < length gs) × (slice_index_or gs g false ≡ false) × (before gs g ≡ m)
 

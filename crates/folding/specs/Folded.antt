@@ -8,7 +8,7 @@ use Rattle.code.specs.Marks.{marks_in}
 use Rattle.folding.specs.Places.{Layout, layout_of, remaining_of, gone_at}
 use Rattle.folding.specs.Moved.{moved}
 
--- The n-th instruction stands for `one` thing, if it is not left out. What the instructions from the n-th on stand for.
+-- What the instructions from the n-th on stand for: the n-th one for `one`, if it is not left out.
 abbrev pub remaining_from : {X : Type 0} → Layout → (ℕ → Instr → X) → ℕ → List Instr → List X
 remaining_from l one n [] = []
 remaining_from l one n (i ∷ is) = if gone_at l n then remaining_from l one (n + 1) is else one n i ∷ remaining_from l one (n + 1) is

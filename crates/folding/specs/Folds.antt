@@ -32,7 +32,7 @@ abbrev pub same_source : Namer → Namer → Bool
 same_source (One m s) (One n t) = (m == n) && same_side s t
 same_source x y = false
 
--- The literal that comes to a port, if it is a `lit` that names it, whose own source is that of another port.
+-- The literal that goes to a port, if it is a `lit` that names it, whose own source is that of another port.
 abbrev pub literal_by : List Namer → List Instr → Namer → Namer → Option ℤ
 literal_by lefts is (One m s) other = if same_source (namer_at lefts m) other then literal_at (slice_get is m) else None
 literal_by lefts is x other = None
@@ -63,13 +63,13 @@ abbrev pub is_folded : Fold → Bool
 is_folded Unchanged = false
 is_folded f = true
 
--- the port at which no word comes any more
+-- the port at which no word arrives any more
 abbrev pub is_closed : Fold → Port → Bool
 is_closed (OnRight z) Right = true
 is_closed (LeftLiteral z) Left = true
 is_closed f q = false
 
--- the other operand comes at the left port
+-- the other operand arrives at the left port
 abbrev pub new_port : Fold → Port → Port
 new_port Unchanged q = q
 new_port f q = Left
@@ -79,7 +79,7 @@ new_op (OnRight z) (Apply2 op) = Apply2Right op z
 new_op (LeftLiteral z) (Apply2 op) = Apply2Left op z
 new_op f op = op
 
--- a destination of the n-th instruction is a port at which no word comes any more
+-- a destination of the n-th instruction is a port at which no word arrives any more
 abbrev pub closed_to : List Fold → ℕ → Dest → Bool
 closed_to fs n d = is_closed (fold_at fs (n + d.ahead)) d.port
 

@@ -19,7 +19,7 @@ use Rattle.folding.specs.Places.{layout_of, new_place, gone_at, folds_at}
 use Rattle.folding.specs.Moved.{moved, new_dest}
 use Rattle.folding.specs.Folded.{folded_block, folded}
 
--- PLACES. An instruction that is not left out stands in its new place,
+-- PLACES. An instruction that is not left out is in its new place,
 abbrev pub KeepsInstrs : Type 0
 KeepsInstrs = (p : Plan) (c : CodeBlock) (n : ℕ) (i : Instr) → slice_get c.instrs n ≡ Some i → gone_at (layout_of p c) n ≡ false
     → slice_get (folded_block p c).instrs (new_place (layout_of p c) n) ≡ Some (moved (layout_of p c) n i)
@@ -29,7 +29,7 @@ abbrev pub HasNoOthers : Type 0
 HasNoOthers = (p : Plan) (c : CodeBlock) (m : ℕ) (j : Instr) → slice_get (folded_block p c).instrs m ≡ Some j
     → (n : ℕ) × (i : Instr) × (slice_get c.instrs n ≡ Some i) × (gone_at (layout_of p c) n ≡ false) × (new_place (layout_of p c) n ≡ m) × (j ≡ moved (layout_of p c) n i)
 
--- and what stood after it stands after it: arcs go forward as they did.
+-- and what was after it is after it: arcs go forward as they did.
 abbrev pub KeepsOrder : Type 0
 KeepsOrder = (p : Plan) (c : CodeBlock) (m n : ℕ) → m < n → n < length c.instrs → gone_at (layout_of p c) m ≡ false → new_place (layout_of p c) m < new_place (layout_of p c) n
 
@@ -54,7 +54,7 @@ abbrev pub KnowsNamers : Type 0
 KnowsNamers = (p : Plan) (c : CodeBlock) (n k : ℕ) (i : Instr) (s : Bool) (d : Dest) → slice_get c.instrs n ≡ Some i → slice_get (dests_of i s) k ≡ Some d → n + d.ahead < length c.instrs
     → NamedBy n s (namer_of (namers_of p c) (n + d.ahead) d.port)
 
--- What is told to name a port does so.
+-- What names a port by the table does name it.
 abbrev pub NamersName : Type 0
 NamersName = (p : Plan) (c : CodeBlock) (m : ℕ) (q : Port) (n : ℕ) (s : Bool) → namer_of (namers_of p c) m q ≡ One n s
     → (i : Instr) × (k : ℕ) × (d : Dest) × (slice_get c.instrs n ≡ Some i) × (slice_get (dests_of i s) k ≡ Some d) × (n + d.ahead ≡ m) × (d.port ≡ q)
@@ -131,7 +131,7 @@ KeepsHolders = (p : Plan) (c : CodeBlock) → OneHolder c → IsBelow c → OneH
 abbrev pub KeepsBelow : Type 0
 KeepsBelow = (p : Plan) (c : CodeBlock) → OneHolder c → IsBelow c → IsBelow (folded_block p c)
 
--- each number is still that of an instruction which a holder is told by
+-- each number is still that of an instruction that a holder is identified by
 abbrev pub IsUsed : CodeBlock → Type 0
 IsUsed c = (h : ℕ) → h < c.slots → (n : ℕ) × (i : Instr) × (slice_get c.instrs n ≡ Some i) × (slot_of i i.op ≡ Some h) × IsFirst i.op
 

@@ -6,11 +6,11 @@ use Rattle.semantics.specs.Program.{Instr}
 use Rattle.folding.specs.Folds.{is_folded, is_closed, new_port, new_op}
 use Rattle.folding.specs.Places.{Layout, new_place, new_holder, gone_at, folds_at}
 
--- no word comes to that port any more: the instruction is left out, or it has that operand in the code
+-- no word arrives at that port any more: the instruction is left out, or it has that operand in the code
 abbrev pub is_shut : Layout → ℕ → Port → Bool
 is_shut l m q = gone_at l m || is_closed (folds_at l m) q
 
--- a destination, by where it and what names it stand
+-- a destination, by its place and the place of what names it
 abbrev pub dest_at : ℕ → ℕ → Port → Dest
 dest_at from to port = record { ahead = to - from; port = port }
 

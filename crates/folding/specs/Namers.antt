@@ -35,7 +35,7 @@ abbrev pub note_dests : Namers → ℕ → Bool → List Dest → Namers
 note_dests ns n s [] = ns
 note_dests ns n s (d ∷ ds) = note_dests (noted ns (n + d.ahead) d.port (One n s)) n s ds
 
--- The left ports of a number of instructions in a row, whose tokens come from other blocks.
+-- The left ports of a number of instructions in a row, which get their tokens from other blocks.
 abbrev pub note_row : List Namer → ℕ → ℕ → List Namer
 note_row ns from zero = ns
 note_row ns from (suc k) = slice_set (note_row ns from k) (from + k) Many

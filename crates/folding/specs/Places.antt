@@ -1,4 +1,4 @@
--- Where the instructions of a block stand once literals are left out, and the numbers of the holders that are left.
+-- Where the instructions of a block are once literals are left out, and the numbers of the holders that are left.
 use Rattle.std.specs.Prelude.{ℕ, ◌+◌, Bool, true, false, List, ◌∷◌, replicate, slice_set, slice_index_or, if◌then◌else◌, []}
 use Rattle.semantics.specs.Program.{Instr, CodeBlock}
 use Rattle.semantics.specs.Plan.{Plan}
@@ -14,7 +14,7 @@ pub record Layout : Type 0 where
   pub places : List ℕ
   pub holders : List ℕ
 
--- the numbers of things of which some are left out, from a first number on; what is left out has that of the next one
+-- the numbers of items of which some are left out, from a first number on; what is left out has that of the next one
 abbrev pub numbers_from : ℕ → List Bool → List ℕ
 numbers_from at [] = []
 numbers_from at (g ∷ gs) = at ∷ numbers_from (if g then at else at + 1) gs

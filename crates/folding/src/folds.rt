@@ -27,7 +27,7 @@ impl Fold {
         !matches!(self, Fold::Unchanged)
     }
 
-    /// Whether no word comes to that port any more.
+    /// Whether no word arrives at that port any more.
     pub fn is_closed(self, port: Port) -> bool
         ensures { result ≡ of_folds.is_closed self port }
     {
@@ -38,7 +38,7 @@ impl Fold {
         }
     }
 
-    /// Where a word comes that came to that port.
+    /// The port at which a word for that port arrives now.
     pub fn new_port(self, port: Port) -> Port
         ensures { result ≡ of_folds.new_port self port }
     {
@@ -48,7 +48,7 @@ impl Fold {
         }
     }
 
-    /// What an instruction does that did this.
+    /// What an instruction that did this does now.
     pub fn new_op(self, op: Op) -> Op
         ensures { result ≡ of_folds.new_op self op }
     {
@@ -85,7 +85,7 @@ fn same_source(one: Namer, other: Namer) -> bool
     }
 }
 
-/// The literal that comes to a port with this namer, if it is a `lit` whose own source is that of another port.
+/// The literal that goes to a port with this namer, if it is a `lit` whose own source is that of another port.
 fn literal_by<A: Allocator>(
     lefts: &[Namer],
     instrs: &[Instr<A>],
@@ -164,7 +164,7 @@ pub(crate) fn fold_at(folds: &[Fold], place: usize) -> Fold
     }
 }
 
-/// Whether a destination of the instruction of that number is a port at which no word comes any more.
+/// Whether a destination of the instruction of that number is a port at which no word arrives any more.
 fn closed_to(folds: &[Fold], number: usize, dest: Dest) -> bool
     ensures { result ≡ of_folds.closed_to folds.now number dest }
 {

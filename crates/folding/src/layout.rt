@@ -1,4 +1,4 @@
-//! Where the instructions of a block stand once literals are left out, and the numbers of the holders that are left.
+//! Where the instructions of a block are once literals are left out, and the numbers of the holders that are left.
 
 ghost use Rattle.std.specs.Prelude.{◌≡◌, ◌+◌, ◌≤◌, IfOk, length, slice_set, true};
 ghost use Rattle.folding.specs.Places as of_places;
@@ -31,7 +31,7 @@ impl<A: Allocator> Model for Layout<A> {
     ghost view = { λ l. record { folds = l.folds.items; gone = l.gone.items; freed = l.freed.items; places = l.places.items; holders = l.holders.items } };
 }
 
-/// The new numbers of things of which these are left out.
+/// The new numbers of items of which these are left out.
 fn numbers_of<A: Allocator>(alloc: A, gone: &[bool]) -> Result<Vec<usize, A>, AllocError>
     ensures { IfOk result (λ v. v.items ≡ of_places.numbers_from 0 gone.now) }
 {

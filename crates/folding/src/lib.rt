@@ -1,4 +1,4 @@
-//! From a plan to one in which operators have literal operands: a literal that comes to an operator from the source of
+//! From a plan to one in which operators have literal operands: a literal that goes to an operator from the source of
 //! its other operand is a part of the operator's code.
 //!
 //! The operator waits for no second word then, and has no slot. Where the literal has another source, the operator has
@@ -26,8 +26,8 @@ use std::alloc::{AllocError, Allocator};
 /// their instructions, and the holders that are left are numbered on in order.
 ///
 /// Each port of such an operator has to be named once, and so has that of the `lit`; what names the `lit` names the
-/// operator's other port from the same list of destinations. The other operand comes at the left port. Which operators
-/// these are is settled for the plan as it is given. It takes time in proportion to the plan's instructions and
+/// operator's other port from the same list of destinations. The other operand arrives at the left port. Which operators
+/// these are is determined by the plan as it is given. It takes time in proportion to the plan's instructions and
 /// destinations, its landings and holders.
 ///
 /// It fails where a growth is refused, or where a destination would be 2^32 instructions ahead.

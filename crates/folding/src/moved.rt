@@ -29,7 +29,7 @@ fn target(number: usize, ahead: u32) -> Result<usize, AllocError>
     }
 }
 
-/// A destination, by where it and what names it stand.
+/// A destination, by its place and the place of what names it.
 fn dest_at(from: usize, to: usize, port: Port) -> Result<Dest, AllocError>
     ensures { IfOk result (λ d. d ≡ of_moved.dest_at from to port) }
 {
@@ -37,7 +37,7 @@ fn dest_at(from: usize, to: usize, port: Port) -> Result<Dest, AllocError>
     Ok(Dest { ahead, port })
 }
 
-/// Whether no word comes to that port any more.
+/// Whether no word arrives at that port any more.
 fn is_shut<A: Allocator>(layout: &Layout<A>, number: usize, port: Port) -> bool
     ensures { result ≡ of_moved.is_shut layout.now number port }
 {

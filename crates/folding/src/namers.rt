@@ -17,7 +17,7 @@ pub(crate) enum Namer {
     Nobody,
     /// One of the first or of the second destinations of an instruction.
     One { from: usize, second: bool },
-    /// More than one destination, or what comes from other blocks to an entry or a landing.
+    /// More than one destination, or other blocks, which send to an entry or a landing.
     Many,
 }
 

@@ -75,7 +75,7 @@ impl<'a, A: Allocator> Model for Block<'a, A> {
 }
 
 /// A graph: its arrays, its code blocks, and the name of the block that is run. Every graph has a text: it has the form and
-/// keeps the limits of texts. Who makes one proves that.
+/// is within the limits of texts. Who makes one proves that.
 #[derive(Drop)]
 pub struct Graph<'a, A: Allocator> {
     pub version: Version,

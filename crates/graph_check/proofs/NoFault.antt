@@ -1,4 +1,4 @@
--- What it says that no fault was found.
+-- What follows where no fault was found.
 use Rattle.std.proofs.Common.{◌≡◌, ℕ, zero, suc, ◌+◌, Bool, true, false, List, [], ◌∷◌, Option, Some, None, refl, ap, ◌∙◌, subst, arith}
 use Rattle.std.specs.Prelude.{slice_get}
 use Rattle.graph_check.specs.declared.faults.CheckFaultKind.{CheckFaultKind}

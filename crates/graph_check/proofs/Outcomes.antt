@@ -1,4 +1,4 @@
--- What a graph's checks answer together.
+-- The result of all checks of a graph.
 use Rattle.std.proofs.Common.{◌≡◌, ℕ, ◌⊎◌, List, Some, None, Result, Err, IfErr, inl, inr, sym, ap, ◌∙◌, subst}
 use Rattle.semantics.specs.Graph.{Block, Graph}
 use Rattle.semantics.specs.WellFormed.{WellFormed}

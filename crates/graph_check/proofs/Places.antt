@@ -79,7 +79,7 @@ place_from_le n name (x ∷ xs) = go (same_name name x) (place_from_le (n + 1) n
 pub place_le : (name : List ℕ) (xs : List (List ℕ)) → place_of name xs ≤ length xs
 place_le name xs = omega (arith, (place_from_le 0 name xs).1)
 
--- ---- what a look-up tells
+-- ---- what a look-up shows
 
 pub place_some : (name : List ℕ) (xs : List (List ℕ)) (p : ℕ) → place_if name xs ≡ Some p → (p ≡ place_of name xs) × (is_name name xs ≡ true)
 place_some name xs p e = go (is_name name xs) e

@@ -1,4 +1,4 @@
--- Names that stand once, and what stands under a name.
+-- Names that occur once, and what has a name.
 use Rattle.std.proofs.Common.{◌≡◌, ℕ, zero, suc, ◌+◌, ◌<◌, Bool, true, false, List, [], ◌∷◌, length, take, Option, Some, None, Contains, nat_lt, if◌then◌else◌, refl, sym, ap, ap₂, ◌∙◌, subst, arith, ltb-true, ltb-false, lt-ltb}
 use Rattle.std.specs.Prelude.{slice_get}
 use Rattle.std.proofs.lemmas.Option.{slice_get_within}
@@ -13,7 +13,7 @@ use Rattle.graph_check.specs.FirstFault.{first_in, repeat_fault, array_name_faul
 use Rattle.graph_check.proofs.Places.{same_name_of, found_from, place_found}
 use Rattle.graph_check.proofs.NoFault.{first_none, first_yes, fault_at_none, none_at}
 
--- ---- a name stands at its place
+-- ---- a name is at its place
 
 found_some : (n : ℕ) (name : List ℕ) (xs : List (List ℕ)) (p : ℕ) → found_from n name xs ≡ Some p → (i : ℕ) × (p ≡ n + i) × (slice_get xs i ≡ Some name)
 found_some n name [] p e = cc
@@ -69,7 +69,7 @@ contains_is_name name names h =
 pub place_below : (name : List ℕ) (names : List (List ℕ)) → Contains names name → place_of name names < length names
 place_below name names h = ltb-true (place_of name names) (length names) (contains_is_name name names h)
 
--- ---- each name stands once
+-- ---- each name occurs once
 
 get_take : {X : Type 0} (xs : List X) (n i : ℕ) (x : X) → slice_get (take n xs) i ≡ Some x → (i < n) × (slice_get xs i ≡ Some x)
 get_take xs zero i x e = cc

@@ -221,11 +221,11 @@ blocks_fault g = all_blocks_fault g g.blocks
 abbrev pub first_fault : Graph → Option CheckFault
 first_fault g = or_later (names_fault g) (or_later (main_fault g) (blocks_fault g))
 
--- what is answered where memory was refused
+-- what is returned where memory was refused
 abbrev pub out_of_memory : CheckFault
 out_of_memory = record { kind = Memory; block = None; node = None }
 
--- A graph is refused for want of memory, or because it is not well formed, and then with its first fault.
+-- A graph is refused for lack of memory, or because it is not well formed, and then with its first fault.
 abbrev pub IsRefusal : Graph → CheckFault → Type 0
 IsRefusal g e = (e ≡ out_of_memory) ⊎ ((first_fault g ≡ Some e) × (e.kind ≢ Memory) × ¬ WellFormed g)
 

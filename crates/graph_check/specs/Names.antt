@@ -16,7 +16,7 @@ names_of_blocks blocks = map (λ (b : List ℕ × Block (List ℕ)). b.0) blocks
 abbrev pub is_name : List ℕ → List (List ℕ) → Bool
 is_name name names = nat_lt (place_of name names) (length names)
 
--- where a name stands, if it is one of the names
+-- where a name is, if it is one of the names
 abbrev pub place_if : List ℕ → List (List ℕ) → Option ℕ
 place_if name names = if is_name name names then Some (place_of name names) else None
 

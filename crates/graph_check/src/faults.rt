@@ -8,7 +8,7 @@ pub enum CheckFaultKind {
     /// Two arrays or two blocks have one name (an array and a block may).
     #[error("two arrays or two blocks have one name")]
     SameName,
-    /// An array or a block that is named is not there; also the block that is to be run.
+    /// An array or a block that is named, or the block to run, does not exist.
     #[error("no array or block has that name")]
     NoSuchName,
     /// A wrong number of sources, or a block that is looped does not have one output more than inputs.
@@ -57,7 +57,7 @@ pub struct CheckFault {
 }
 
 impl CheckFault {
-    /// What is answered where a growth was refused.
+    /// What is returned where a growth was refused.
     pub(crate) const MEMORY: CheckFault = CheckFault {
         kind: CheckFaultKind::Memory,
         block: None,

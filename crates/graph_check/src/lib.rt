@@ -1,4 +1,4 @@
-//! Well-formed graphs: a graph is checked once, and its first fault is answered where it has one.
+//! Well-formed graphs: a graph is checked once, and its first fault, if it has one, is returned.
 #![tactic(auto)]
 
 ghost use Rattle.std.specs.Prelude.{◌≡◌, IfOk, IfErr, OnOk};
@@ -71,7 +71,7 @@ impl<'a, A: Allocator> Checked<'a, A> {
     }
 }
 
-/// The block that is to be run is there.
+/// The block to run exists.
 fn check_main<'a, A: Allocator>(named: &Named<'a, A>) -> Result<(), CheckFault>
     ensures { fault_of result ≡ main_fault named.now }
 {
@@ -102,7 +102,7 @@ fn blocks_of<'b, 'a, A: Allocator>(graph: &'b Graph<'a, A>) -> &'b [Block<'a, A>
     &graph.blocks
 }
 
-/// Gives a well-formed graph back as checked, and refuses any other with its first fault.
+/// Returns a well-formed graph as checked, and refuses any other with its first fault.
 ///
 /// The order is: the names of the arrays, the names of the blocks, the name of the block that is run, then the blocks in
 /// order. In a block: inputs, outputs, the node lines in order, the line of outputs. At a node: its region (with the
@@ -110,7 +110,7 @@ fn blocks_of<'b, 'a, A: Allocator>(graph: &'b Graph<'a, A>) -> &'b [Block<'a, A>
 /// sources from left to right, each for an earlier node, its port and its region. At the line of outputs: the number of
 /// sources, then the sources from left to right in the same way.
 ///
-/// Memory is answered, with no block and no node, where a growth was refused. A name is looked up in a map, so the time
+/// `Memory` is returned, with no block and no node, where a growth was refused. A name is looked up in a map, so the time
 /// is that of the text by the logarithm of the number of names.
 pub fn check<'a, A: Allocator + Clone>(graph: Graph<'a, A>) -> Result<Checked<'a, A>, CheckFault>
     ensures checked { IfOk result (λ c. c ≡ graph.entry) }

@@ -41,7 +41,7 @@ fn block_name<'a, A: Allocator>(block: &Block<'a, A>) -> &'a [u8]
     block.name.bytes
 }
 
-/// Where each array stands, or the first double name.
+/// Where each array is, or the first double name.
 fn index_arrays<'a, A: Allocator + Clone>(
     arrays: &Vec<Array<'a>, A>,
 ) -> Result<Index<'a, A>, CheckFault>
@@ -63,7 +63,7 @@ fn index_arrays<'a, A: Allocator + Clone>(
     Ok(index)
 }
 
-/// Where each block stands, or the first double name.
+/// Where each block is, or the first double name.
 fn index_blocks<'a, A: Allocator + Clone>(
     blocks: &Vec<Block<'a, A>, A>,
 ) -> Result<Index<'a, A>, CheckFault>
@@ -118,7 +118,7 @@ fn shape_at<'a, A: Allocator>(graph: &Graph<'a, A>, place: usize) -> Option<(u32
     Some((block.inputs, block.outputs))
 }
 
-/// A graph with different names, and where each stands.
+/// A graph with different names, and where each is.
 #[derive(Drop)]
 pub(crate) struct Named<'a, A: Allocator> {
     graph: Graph<'a, A>,
@@ -139,7 +139,7 @@ impl<'a, A: Allocator> Model for Named<'a, A> {
 }
 
 impl<'a, A: Allocator> Named<'a, A> {
-    /// Looks up the names of a graph, or tells the first double name.
+    /// Looks up the names of a graph, or returns the first double name.
     pub(crate) fn of(graph: Graph<'a, A>) -> Result<Named<'a, A>, CheckFault>
     where
         A: Clone,
@@ -160,7 +160,7 @@ impl<'a, A: Allocator> Named<'a, A> {
         &self.graph
     }
 
-    /// An array of that name is there.
+    /// An array of that name exists.
     pub(crate) fn has_array(&self, name: &Name<'a>) -> bool
         ensures { result ≡ is_name name.now (array_names self.now) }
     {
@@ -177,7 +177,7 @@ impl<'a, A: Allocator> Named<'a, A> {
         }
     }
 
-    /// A block of that name is there.
+    /// A block of that name exists.
     pub(crate) fn has_block(&self, name: &Name<'a>) -> bool
         ensures { result ≡ is_name name.now (block_names self.now) }
     {
@@ -194,14 +194,14 @@ impl<'a, A: Allocator> Named<'a, A> {
         }
     }
 
-    /// The block that is to be run is there.
+    /// The block to run exists.
     pub(crate) fn has_main(&self) -> bool
         ensures { result ≡ is_name self.now.main (block_names self.now) }
     {
         self.has_block(main_of(&self.graph))
     }
 
-    /// The place of the block that is to be run, or the number of blocks.
+    /// The place of the block to run, or the number of blocks.
     pub(crate) fn place_of_main(&self) -> usize
         ensures { result ≡ place_of self.now.main (block_names self.now) }
     {

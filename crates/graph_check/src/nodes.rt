@@ -112,7 +112,7 @@ fn fits_region<'a, A: Allocator>(
     }
 }
 
-/// The array or block that a node names is there.
+/// The array or block that a node names exists.
 fn is_named<'a, A: Allocator>(named: &Named<'a, A>, kind: &Kind<Name<'a>>) -> bool
     ensures { result ≡ of_faults.is_named named.now kind.now }
 {

@@ -19,7 +19,7 @@ pub ok_or_is : {A : Type 0} (o : Option A) (k : ReadFaultKind) (x : A) → ok_or
 ok_or_is (Some y) k x e = cc
 ok_or_is None k x e = absurd cc
 
--- a condition that was met, and what came after it
+-- a condition that was met, and what followed it
 pub must_ok : {B : Type 0} (b : Bool) (k : ReadFaultKind) (f : ⊤ → Result B ReadFaultKind) (y : B) → (must b k >>= f) ≡ Ok y → (b ≡ true) × (f tt ≡ Ok y)
 must_ok true k f y e = (refl, e)
 must_ok false k f y e = absurd cc

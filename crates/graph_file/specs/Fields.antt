@@ -67,7 +67,7 @@ abbrev pub arm_of : Bool → Option ℕ → Option Region
 arm_of side None = None
 arm_of side (Some k) = Some (Arm k side)
 
--- what stands before the last byte, and the last byte
+-- what is before the last byte, and the last byte
 abbrev pub region_parts : List ℕ → ℕ → Option Region
 region_parts front last = if last == 43 then arm_of true (number_of front) else if last == 45 then arm_of false (number_of front) else None
 

@@ -15,7 +15,7 @@ parts_left c (Some bytes) = parts c bytes
 abbrev pub is_printed : ℕ → Bool
 is_printed b = nat_le 32 b && nat_le b 126
 
--- Fields are parted by exactly one space: each has a byte. `fresh` says that no byte of the field at hand was met yet.
+-- Fields are separated by exactly one space: each has a byte. `fresh` says that no byte of the present field was met yet.
 unfoldable pub is_well_spaced : Bool → List ℕ → Bool
 is_well_spaced fresh [] = not fresh
 is_well_spaced fresh (b ∷ bytes) = is_printed b && (if b == 32 then not fresh && is_well_spaced true bytes else is_well_spaced false bytes)

@@ -21,7 +21,7 @@ use Rattle.graph_file.specs.Found.{Found}
 abbrev pub Named : Type 0
 Named = List ℕ × Block (List ℕ)
 
--- what was found so far, and where in a graph the next line stands
+-- what was found so far, and where in a graph the next line is
 abbrev pub Step : Type 0
 Step = Result (Found × Place Named (List ℕ)) ReadFaultKind
 
@@ -82,7 +82,7 @@ node_line found b fs = do
   node ← node_from found.version (nat_le 1024 (b.1.inputs + length b.1.nodes)) fs
   Ok (found, Nodes (b.0, record { inputs = b.1.inputs; outputs = b.1.outputs; nodes = b.1.nodes ++ node ∷ []; results = b.1.results }))
 
--- A line that stands outside a block. Arrays come before the first block.
+-- A line outside a block. Arrays are before the first block.
 unfoldable pub outside : Bool → Found → List (List ℕ) → Step
 outside arrays found fs = do
   word ← field_from fs
@@ -91,7 +91,7 @@ outside arrays found fs = do
       else if bytes_eq word.0 (codes "main") then main_line found word.1
       else Err BadLine
 
--- a line that stands in a block, up to its `out` line
+-- a line in a block, up to its `out` line
 unfoldable pub inside : Found → Named → List (List ℕ) → Step
 inside found b fs = do
   word ← field_from fs
@@ -118,7 +118,7 @@ line_from found (Nodes b) line = fields_from line >>= inside found b
 line_from found (Closing b) line = fields_from line >>= closing found b
 line_from found (Done main) line = Err TrailingText
 
--- What stands after the last line feed. A text that is whole has nothing there.
+-- What is after the last line feed. A text that is whole has nothing there.
 unfoldable pub end_from : Found → Place Named (List ℕ) → List ℕ → Result Graph ReadFaultKind
 end_from found Arrays [] = Err NoMain
 end_from found Arrays (c ∷ cs) = Err Unended
@@ -134,7 +134,7 @@ abbrev pub at_line : {A : Type 0} → ℕ → Result A ReadFaultKind → Result 
 at_line n (Ok x) = Ok x
 at_line n (Err kind) = Err record { kind = kind; line = n }
 
--- The lines from the one of that number on. The last one is what stands after the last line feed.
+-- The lines from the one of that number on. The last one is what is after the last line feed.
 unfoldable pub lines_from : ℕ → Found → Place Named (List ℕ) → List (List ℕ) → Result Graph ReadFault
 lines_from n found place [] = Err record { kind = NoMain; line = n }
 lines_from n found place (line ∷ []) = at_line n (end_from found place line)

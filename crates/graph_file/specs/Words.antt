@@ -1,4 +1,4 @@
--- The words of node lines, and what stands after each.
+-- The words of node lines, and what follows each.
 use Rattle.std.specs.Prelude.{ℕ, ◌==◌, ◌+◌, nat_le, nat_lt, Bool, List, [], ◌∷◌, Option, Some, None, option_map, codes, if◌then◌else◌}
 use Rattle.std.specs.Str.{bytes_eq}
 use Rattle.semantics.specs.declared.words.Operator.{Operator}
@@ -13,7 +13,7 @@ abbrev pub common_words : List (List ℕ × Word)
 common_words = (codes "lit", Lit) ∷ (codes "cond", Cond) ∷ (codes "enter", Enter) ∷ (codes "merge", Merge) ∷ (codes "fetch", Fetch) ∷ (codes "store", Store)
     ∷ (codes "call", Call) ∷ (codes "loop", Loop) ∷ []
 
--- what the bytes are in a list of words, or in what else there is
+-- what the bytes are in a list of words, or else what is given
 abbrev pub word_in : List (List ℕ × Word) → Option Word → List ℕ → Option Word
 word_in [] otherwise bytes = otherwise
 word_in (w ∷ ws) otherwise bytes = if bytes_eq bytes w.0 then Some w.1 else word_in ws otherwise bytes
@@ -35,7 +35,7 @@ unfoldable pub word_of : Version → List ℕ → Option Word
 word_of One bytes = common_of bytes
 word_of Two bytes = word_in ((codes "scall", StrictCall) ∷ []) (common_of bytes) bytes
 
--- how many fields stand between the word and the sources
+-- how many fields are between the word and the sources
 abbrev pub operand_count : Word → ℕ
 operand_count Lit = 1
 operand_count (Apply1 op) = 0

@@ -12,7 +12,7 @@ pub enum ReadFaultKind {
     /// The text begins with neither header.
     #[error("the text begins with neither header")]
     NoHeader,
-    /// A line of no form that may stand there.
+    /// A line of no form that is allowed there.
     #[error("a line of no form that may stand here")]
     BadLine,
     /// A number, a literal or a source that is not well written or too large, or a length of 0.
@@ -30,7 +30,7 @@ pub enum ReadFaultKind {
     /// A limit on arrays, cells, blocks, nodes, inputs, outputs or sources is passed.
     #[error("a limit is passed")]
     TooMany,
-    /// Something stands after the `main` line.
+    /// There is something after the `main` line.
     #[error("something stands after the main line")]
     TrailingText,
     /// A growth was refused.
@@ -38,7 +38,7 @@ pub enum ReadFaultKind {
     Memory,
 }
 
-/// A fault, and the line at which it stands, from 1.
+/// A fault, and the line at which it is, from 1.
 #[derive(Clone, Copy, Debug, PartialEq, Eq, Error)]
 #[error("line {line}: {kind}")]
 pub struct ReadFault {

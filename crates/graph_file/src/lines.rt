@@ -26,7 +26,7 @@ const NODES: usize = 1_024;
 /// The most inputs, and the most outputs, of a block.
 const PORTS: u32 = 16;
 
-/// Where in a graph the next line stands.
+/// Where in a graph the next line is.
 #[derive(Drop)]
 pub(crate) enum Place<B, N> {
     /// Outside a block, before the first one.
@@ -129,7 +129,7 @@ impl<'a, A: Allocator + Clone> Found<'a, A> {
         }
     }
 
-    /// A line outside a block. `arrays` says that no block came yet.
+    /// A line outside a block. `arrays` says that there was no block yet.
     #[tactic(auto, unfolding(crate::specs::Reading::outside))]
     fn outside(self, arrays: bool, fields: Parts<'a>) -> Step<'a, A>
         ensures { Gives (λ x. (x.0, x.1)) result (outside arrays self.entry fields.entry) }
@@ -247,7 +247,7 @@ impl<'a, A: Allocator + Clone> Found<'a, A> {
         Ok((self, Place::Blocks))
     }
 
-    /// What the text says, if it is whole: nothing stands after the last line feed.
+    /// What the text says, if it is whole: nothing is after the last line feed.
     #[tactic(auto, unfolding(crate::specs::Reading::end_from))]
     pub(crate) fn end(
         self,

@@ -95,7 +95,7 @@ fn count_of(bytes: &[u8], value: u8) -> usize
 }
 
 #[tactic(auto, unfolding(crate::specs::Lines::is_well_spaced))]
-/// Whether the line is fields of printed bytes, parted by exactly one space.
+/// Whether the line is fields of printed bytes, separated by exactly one space.
 pub(crate) fn is_line(line: &[u8]) -> bool
     ensures { result ≡ is_well_spaced true line.now }
 {

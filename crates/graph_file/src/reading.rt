@@ -52,8 +52,8 @@ fn read_body<'a, A: Allocator + Clone>(
 }
 
 /// The graph that the text says. The fault is the first one: lines count in order, and in a line its form and the number
-/// of its fields, then the limits on arrays, blocks, nodes and sources, then its fields from left to right. `Memory` comes
-/// only where a growth was refused.
+/// of its fields, then the limits on arrays, blocks, nodes and sources, then its fields from left to right. `Memory` is
+/// returned only where a growth was refused.
 pub fn read<'a, A: Allocator + Clone>(alloc: A, text: &'a [u8]) -> Result<Graph<'a, A>, ReadFault>
     // What is read is spelled so.
     ensures found { IfOk result (λ g. IsText text.now g) }

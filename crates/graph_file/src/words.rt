@@ -39,7 +39,7 @@ impl Word {
         }
     }
 
-    /// How many fields stand between the word and the sources.
+    /// How many fields are between the word and the sources.
     fn operands(self) -> usize
         ensures { result ≡ operand_count self }
     {
@@ -62,7 +62,7 @@ impl Word {
         }
     }
 
-    /// Whether a line may have these fields after the word, as far as their number goes.
+    /// Whether a line may have as many fields as these after the word.
     #[tactic(auto, unfolding(crate::specs::Words::has_form))]
     pub(crate) fn expects(self, fields: &Parts<'_>) -> bool
         ensures { result ≡ has_form self (length fields.now) }

@@ -1,4 +1,4 @@
--- What a keeping reader has kept.
+-- What a keeping reader has stored.
 use Rattle.std.specs.Prelude.{◌≡◌, ℕ, List, ◌++◌, Option, IfSome, IsSomeAnd}
 
 -- all that was there before, without what is left

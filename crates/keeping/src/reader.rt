@@ -22,7 +22,7 @@ pub struct KeepingReader<R: Read, A: Allocator, S: Start> {
     ghost has_read: { IfSome kept (λ v. HasRead S.remaining (R.remaining inner) v.items) } by { Prim.hlevel props },
 }
 
-/// What was kept, followed by these bytes; or nothing, now and later.
+/// What was stored, followed by these bytes; or nothing, now and later.
 fn with_all<A: Allocator>(kept: Option<Vec<u8, A>>, bytes: &[u8]) -> Option<Vec<u8, A>>
     ensures { IfSome result (λ new. IsSomeAnd kept (λ old. new.items ≡ old.items ++ bytes.now)) }
 {

@@ -1,4 +1,4 @@
--- What is made of an option by a function, and what that tells of the option.
+-- The result of a function on an option, and what follows for the option.
 use Rattle.std.proofs.Common.{◌≡◌, None, Option, Some, option_map, refl}
 
 pub option_map_none : {X Y : Type 0} (f : X → Y) (o : Option X) → option_map f o ≡ None → o ≡ None

@@ -321,7 +321,7 @@ permutation_crossed xs ys zs ws =
 pub one_out : {X : Type 0} (xs : List X) (x : X) → Contains xs x → (rest : List X) × IsPermutation xs (x ∷ rest)
 one_out xs x c = let (rest, put) = within_from x xs c in (rest, perm_to xs (x ∷ rest) (perm_add x xs (x ∷ rest) rest rest (perm_refl rest) put (put_first x rest)))
 
--- what stands at a place is within
+-- what is at a place is one of the list's elements
 pub get_within : {X : Type 0} (xs : List X) (i : ℕ) (x : X) → slice_get xs i ≡ Some x → Within x xs
 get_within [] i x e = cc
 get_within {X} (y ∷ xs) zero x e = let same : y ≡ x = cc in (xs, inl (sym same, refl))

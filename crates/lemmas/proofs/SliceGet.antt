@@ -1,13 +1,13 @@
--- What stands at a place of a list.
+-- What is at a place of a list.
 use Rattle.std.proofs.Common.{[], ◌++◌, ◌+◌, ◌<◌, ◌∷◌, ◌≡◌, ◌≤◌, ◌⊎◌, List, None, Some, arith, inl, inr, length, map, refl, slice_get, suc, sym, zero, ℕ}
 
--- an element stands at each place within
+-- an element is at each place within
 pub get_some : {X : Type 0} (xs : List X) (i : ℕ) → i < length xs → (x : X) × (slice_get xs i ≡ Some x)
 get_some [] i h = absurd (omega (arith, h))
 get_some (x ∷ xs) zero h = (x, refl)
 get_some (x ∷ xs) (suc i) h = get_some xs i (omega (arith, h))
 
--- where nothing stands the list is over
+-- where nothing is, the list has ended
 pub get_none : {X : Type 0} (xs : List X) (i : ℕ) → slice_get xs i ≡ None → length xs ≤ i
 get_none [] i e = omega (arith)
 get_none (x ∷ xs) zero e = absurd cc
@@ -15,7 +15,7 @@ get_none (x ∷ xs) (suc i) e =
     let below = get_none xs i e in
     omega (arith, below)
 
--- what stands in two lists stands in one of them
+-- what is in two lists, one after the other, is in one of them
 pub get_append_cases : {X : Type 0} (xs ys : List X) (i : ℕ) (y : X) → slice_get (xs ++ ys) i ≡ Some y → (slice_get xs i ≡ Some y) ⊎ ((j : ℕ) × (i ≡ length xs + j) × (slice_get ys j ≡ Some y))
 get_append_cases [] ys i y e = inr (i, omega arith, e)
 get_append_cases (x ∷ xs) ys zero y e = inl e

@@ -42,7 +42,7 @@ pub data IsFirstFault (text : List ℕ) (fault : Fault) : Type 0 where
   of_rules : (p : Program) → IsProgramOf text p → checked (length (program_of text)) p ≡ Err fault → IsFirstFault text fault
   of_sizes : (p : Program) → IsGoodProgramOf text p → lowered p ≡ Err fault → IsFirstFault text fault
 
--- WHY NO GRAPH IS TOLD. `Memory` may be answered of any text: no definition says when an allocator refuses a growth.
+-- WHY NO GRAPH IS GIVEN. `Memory` may be the refusal of any text: no definition says when an allocator refuses a growth.
 abbrev pub IsRefusedProgram : List ℕ → LowerFault → Type 0
 IsRefusedProgram text (LowerFault.Program f) = (fault : Fault) × IsFirstFault text fault × (fault.kind ≢ Memory) × (f ≡ placed (program_of text) fault)
 IsRefusedProgram text LowerFault.Memory = ⊤

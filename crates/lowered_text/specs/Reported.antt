@@ -1,4 +1,4 @@
--- The fault that is reported where a part gives one of its own: want of memory as such, and another fault as it is.
+-- The fault that is reported where a part gives one of its own: lack of memory as such, and another fault as it is.
 use Rattle.std.specs.Prelude.{◌≡◌, ◌≢◌, ◌⊎◌, ℕ, List}
 use Rattle.source.specs.declared.fault.Fault.{Fault}
 use Rattle.source.specs.declared.fault.ProgramFault.{ProgramFault}

@@ -11,7 +11,7 @@ use std::io;
 /// Why a text has no graph.
 #[derive(Debug, Drop)]
 pub enum LowerFault {
-    /// The text has no program, or one that breaks a rule or is too big: this is its first fault. Want of memory is never told so.
+    /// The text has no program, or one that breaks a rule or is too big: this is its first fault. Lack of memory is never this fault.
     Program(ProgramFault),
     Memory,
 }

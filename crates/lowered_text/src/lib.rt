@@ -1,4 +1,4 @@
-//! Programs lowered to graphs, from a text to a text: the graph with the program's inputs, and the map that tells of each node of the
+//! Programs lowered to graphs, from a text to a text: the graph with the program's inputs, and the map that says of each node of the
 //! graph what in the program it is made for.
 #![tactic(auto)]
 

@@ -86,7 +86,7 @@ pub fn read_good<'a, A: Allocator + Clone>(
     good_source(alloc, source)
 }
 
-/// The names of a program, which is one.
+/// The names of a program, of which a tree exists.
 fn names_of<'p, 'a, A: Allocator>(program: &'p Program<'a, A>) -> &'p [Name<'a>]
     ensures { HasTree program.now.names program.now.words }
 {

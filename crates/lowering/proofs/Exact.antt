@@ -85,7 +85,7 @@ bad_exact names ws cells bs seen r f c m v e h p i =
     let k : sizes 0 (made_blocks p p) ≡ r = ap (sizes 0) (sym (made_exact seen p (v ∙ b))) ∙ sym e in
     too_big p f (k ∙ h)
 
--- the machine over the words, with what they tell
+-- the machine over the words, with what they say
 pub went : (names gathered_names run_names : List Name) (ws gathered_words run_words : List (Word ℕ)) (t table : List ℕ) (ps : List Plan) (begun ended : State)
     (bs : List (Name × MadeBlock)) → gathered_names ≡ names → gathered_words ≡ ws → run_names ≡ names → table ≡ t → run_words ≡ ws
     → ps ≡ gathered_plans (names_gathered gathered_names gathered_words) → t ≡ gathered_table gathered_names gathered_words → begun ≡ between ps []

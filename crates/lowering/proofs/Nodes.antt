@@ -143,7 +143,7 @@ pub all_enters : (s : State) (at : ℕ) (scope : Scope) (predicate : Source) (xs
     → with_merges s (entered_nodes s.site at (or_predicate predicate (map (source_in scope) xs))) ≡ with_all s (entered_names s.site s.spot at scope predicate xs)
 all_enters s at scope predicate xs = alike s _ _ _ _ _ _ _ _ _ _ refl (sym (add-zero s.spot.loops)) refl refl refl
 
--- an arm that takes what is told makes its enters
+-- an arm that takes what is given makes its enters
 pub arm_enters : (s t n : State) (arms brms : Arms) (side : Bool) (at : ℕ) (xs : List Name) (taken : List Source) → t ≡ s → brms ≡ arms
     → n ≡ with_merges (record t { site = arm_site brms.site brms.cond side t.spot }) (entered_nodes (arm_site brms.site brms.cond side t.spot) at taken)
     → taken ≡ or_predicate (first_of arms.predicate) (map (source_in arms.scope) xs)

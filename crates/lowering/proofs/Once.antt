@@ -1,4 +1,4 @@
--- What code keeps of the marks of a part: what is kept so far, and of the rest that which a set of names lacks.
+-- What code keeps of the marks of a part: what it has so far, and of the rest what a set of names lacks.
 use Rattle.std.proofs.Common.{◌≡◌, ℕ, suc, ◌+◌, ◌<◌, ◌≤◌, Bool, true, false, not, ◌||◌, ◌&&◌, List, [], ◌∷◌, ◌++◌, length, drop, filter, get_or, refl, sym, ◌∙◌, ap, subst, append-nil, append_assoc, add-one, Bor}
 use Rattle.std.proofs.Math.Seq.{drop-cons}
 use Rattle.std.proofs.lemmas.List.{drop_all}
@@ -19,7 +19,7 @@ lacks_all : (k : Names) → ((z : Name) → has k z ≡ false) → (xs : List Na
 lacks_all k none [] = refl
 lacks_all k none (x ∷ xs) = kept (lacks k) x xs (ap not (none x)) ∙ ap (λ zs. x ∷ zs) (lacks_all k none xs)
 
--- A name more is no longer lacked.
+-- One more name is no longer lacking.
 abbrev HasMore : Names → Names → Name → Type 0
 HasMore j k x = (z : Name) → has j z ≡ (same_name z x || has k z)
 
@@ -43,7 +43,7 @@ one_way true false = refl
 one_way false true = refl
 one_way false false = refl
 
--- It is one whether names are left out before or after.
+-- It makes no difference whether names are left out before or after.
 once_filter : (p : Name → Bool) (xs : List Name) → once (filter p xs) ≡ filter p (once xs)
 once_filter p [] = refl
 once_filter p (x ∷ xs) = by (p x) refl (once_filter p xs)

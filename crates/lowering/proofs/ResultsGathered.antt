@@ -1,4 +1,4 @@
--- The words of a program tell how many results each function has.
+-- The words of a program say how many results each function has.
 use Rattle.std.proofs.Common.{◌≡◌, ℕ, Bool, true, false, List, [], ◌∷◌, ◌++◌, Option, None, Some, map, refl, ◌∙◌, ap}
 use Rattle.std.specs.Prelude.{if◌then◌else◌}
 use Rattle.semantics.specs.Graph.{same_name}
@@ -14,7 +14,7 @@ read_append : (h : Heads) (a b : Words) → heads_read h (a ++ b) ≡ heads_read
 read_append h [] b = refl
 read_append h (w ∷ a) b = ap (head_read w) (read_append h a b)
 
--- words that tell nothing of heads
+-- words that say nothing of heads
 abbrev Quiet : Words → Type 0
 Quiet ws = (h : Heads) → heads_read h ws ≡ h
 

@@ -171,7 +171,7 @@ turn_without : (turn : Turn) → turn_uses turn ≡ without (bare (names_of turn
 turn_without (Before xs q body) = refl
 turn_without (After xs body q) = refl
 
--- a word that tells nothing stands after, or before
+-- a word that says nothing is after, or before
 behind : (w : Word Name) (ws : Words) (ps : List Plan) (us : List Name) → ((z : Scan) → read w z ≡ z) → Scans ws ps us → Scans (ws ++ w ∷ []) ps us
 behind w ws ps us quiet f qs vs rest at = back _ _ _ ws (w ∷ []) (quiet (scan_of qs (vs ∷ rest) at)) (f qs vs rest at)
 
@@ -213,7 +213,7 @@ mutual
   scans_turn p (Before xs q body) c = before_scans xs q body (scans p q c.0) (scans_body p body c.2)
   scans_turn p (After xs body q) c = after_scans xs q body (scans p q c.0) (scans_body p body c.2)
 
--- words that tell nothing
+-- words that say nothing
 params_scan : (z : Scan) (xs : List NameAt) → scanned z (map (λ (x : NameAt). word.Parameter x.at x.name) xs) ≡ z
 params_scan z [] = refl
 params_scan z (x ∷ xs) = ap (read (word.Parameter x.at x.name)) (params_scan z xs)

@@ -1,4 +1,4 @@
--- WHAT LOWERING ANSWERS: the arrays and the blocks of the graph, and the places in the text from which each block came.
+-- WHAT LOWERING RETURNS: the arrays and the blocks of the graph, and the places in the text from which each block came.
 use Rattle.std.specs.Prelude.{◌≡◌, ℕ, List, map, Ok}
 use Rattle.semantics.specs.Graph.{Block}
 use Rattle.source.specs.Tree.{Name, Program}

@@ -46,7 +46,7 @@ turn_begun s (Firsts b ∷ fs) = record s {
 }
 turn_begun s fs = popped s fs
 
--- the body ends, and its values stand for the loop's names in the test
+-- the body ends, and the loop's names stand for its values in the test
 abbrev pub tested : State → List Frame → State
 tested s (Turned t ∷ fs) = record s {
   scope = scoped (bare t.names) s.sources (turn_scope (bare t.names) t.outs);
@@ -67,7 +67,7 @@ turn_ended s at bound t fs = record s {
   frames = fs;
 }
 
--- the arm of a turn that goes on ends; the other one gives the values as they came
+-- the arm of a turn that goes on ends; the other one gives the values unchanged
 abbrev pub passing : State → Arms → Site
 passing s arms = arm_site arms.site arms.cond false s.spot
 

@@ -1,4 +1,4 @@
--- THE MACHINE LOWERS a program: over its words, with the plans that the words tell, it makes the blocks of the definition.
+-- THE MACHINE LOWERS a program: over its words, with the plans that the words determine, it makes the blocks of the definition.
 use Rattle.std.specs.Prelude.{◌≡◌, ℕ, [], map, Ok}
 use Rattle.source.specs.Tree.{Name, Program}
 use Rattle.source.specs.Words.{program_words}
@@ -22,7 +22,7 @@ BlocksAreMade = (p : Program) → map (λ (b : Name × MadeBlock). b.1) (named_b
 abbrev pub BlocksOfGraph : Type 0
 BlocksOfGraph = (p : Program) → map (λ (b : Name × MadeBlock). graph_block b.0 b.1) (named_blocks p p) ≡ blocks_of p p
 
--- what the words tell of a function is how many results it has
+-- what the words say of a function is how many results it has
 abbrev pub ResultsAreGathered : Type 0
 ResultsAreGathered = (p : Program) (f : Name) → gathered_results (program_words p) f ≡ results_of (function_in p f)
 

@@ -1,5 +1,5 @@
--- LOWERING WORD BY WORD. A machine goes over the words of a program once. What it does at a word it says with the parts that the
--- lowering of trees is made of.
+-- LOWERING WORD BY WORD. A machine goes over the words of a program once. What it does at a word is stated with the parts that
+-- the lowering of trees is made of.
 use Rattle.std.specs.Prelude.{ℕ, Bool, true, false, [], ◌∷◌}
 use Rattle.semantics.specs.declared.graph.Kind.TheVariants as node
 use Rattle.source.specs.declared.word.Word.{Word}

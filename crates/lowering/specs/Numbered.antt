@@ -1,4 +1,4 @@
--- THE WORDS OF CODE tell names by their numbers. What is told of functions stands in a table by the number of the function's name.
+-- THE WORDS OF CODE give names by their numbers. What is known of functions is in a table by the number of the function's name.
 use Rattle.std.specs.Prelude.{ℕ, List, [], ◌∷◌, slice_index_or, length, map, replicate}
 use Rattle.std.specs.List.{slice_set}
 use Rattle.source.specs.declared.word.Word.{Word}
@@ -48,7 +48,7 @@ abbrev pub run_numbered : List Name → List ℕ → State → List (Word ℕ) �
 run_numbered names table s [] = s
 run_numbered names table s (w ∷ ws) = run_numbered names table (noted (is_number (named names w)) (act_numbered names table w s)) ws
 
--- WHAT WORDS TELL: how many results each function has, the arrays, and the blocks that the machine makes, each with its function's name
+-- WHAT WORDS SAY: how many results each function has, the arrays, and the blocks that the machine makes, each with its function's name
 abbrev pub gathered_table : List Name → List (Word ℕ) → List ℕ
 gathered_table names ws = (all_kept names (kept_begun (length names)) ws).table
 

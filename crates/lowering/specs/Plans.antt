@@ -1,5 +1,5 @@
 -- WHAT IS KNOWN OF A PART BEFORE IT IS LOWERED: the outside names of each arm and of each turn, and the place of the `if` or
--- `loop`. In words the place of an `if` stands after its arms. The plans stand in the order in which they are asked for: that of
+-- `loop`. In words the place of an `if` is after its arms. The plans are in the order in which they are asked for: that of
 -- a loop at its word `Loop`, those of the arms of an `if` at `Then` and `Else`, that of the arm of a loop with its test first at
 -- `While`.
 use Rattle.std.specs.Prelude.{ℕ, List, [], ◌∷◌, ◌++◌, flat_map}

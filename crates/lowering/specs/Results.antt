@@ -1,4 +1,4 @@
--- WHAT THE WORDS TELL OF ITEMS: how many results each function has, and the arrays. The words are gone over from the last to the
+-- WHAT THE WORDS SAY OF ITEMS: how many results each function has, and the arrays. The words are gone over from the last to the
 -- first, so that the first function of a name counts.
 use Rattle.std.specs.Prelude.{ℕ, List, [], ◌∷◌, if◌then◌else◌}
 use Rattle.semantics.specs.Graph.{same_name}
@@ -7,7 +7,7 @@ use Rattle.source.specs.declared.word.Word.TheVariants as word
 use Rattle.source.specs.Tree.{Name}
 use Rattle.source.specs.Words.{Words}
 
--- the number of results of the function whose head is read, and the length of the array whose name comes; and the functions and
+-- the number of results of the function whose head is read, and the length of the array whose name is next; and the functions and
 -- arrays after
 pub record Heads : Type 0 where
   pub results : ℕ

@@ -1,5 +1,5 @@
 -- PLANS WORD BY WORD. The words are gone over from the last to the first: so it is known what a part uses when it begins. For each
--- open part the scan has the names that it uses from outside, in order of the text, as far as it was read.
+-- open part the scan has the names that it uses from outside so far, in order of the text.
 use Rattle.std.specs.Prelude.{ℕ, List, [], ◌∷◌, ◌++◌}
 use Rattle.source.specs.declared.word.Word.{Word}
 use Rattle.source.specs.declared.word.Word.TheVariants as word
@@ -76,6 +76,6 @@ abbrev pub scanned : Scan → Words → Scan
 scanned z [] = z
 scanned z (w ∷ ws) = read w (scanned z ws)
 
--- the plans that the words of a program tell
+-- the plans that the words of a program determine
 abbrev pub gathered_plans : Words → List Plan
 gathered_plans ws = (scanned (scan_of [] [] []) ws).plans

@@ -5,7 +5,7 @@ use Rattle.source.specs.Tree.{Name, NameAt, Target}
 use Rattle.source.specs.Lowered.{Made, MadeBlock, Lowered, Site, Spot, spot_after, Scope}
 use Rattle.lowering.specs.Plans.{Plan}
 
--- An open conditional: where it stands, the sources before its predicate, the predicate's, and its node.
+-- An open conditional: where it is, the sources before its predicate, the predicate's, and its node.
 pub record Arms : Type 0 where
   pub site : Site
   pub scope : Scope
@@ -20,7 +20,7 @@ pub record Begun : Type 0 where
   pub names : List NameAt
   pub outs : List Name
 
--- A loop whose turn is open: besides, its first values, where it stands, and what its block and the loops before it have.
+-- A loop whose turn is open: in addition, its first values, where it is, and what its block and the loops before it have.
 pub record Turning : Type 0 where
   pub at : ℕ
   pub outer : List Source

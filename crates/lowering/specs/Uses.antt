@@ -7,7 +7,7 @@ use Rattle.source.specs.Tree.{Name}
 use Rattle.source.specs.Outside.{without}
 use denote.Ref.{Bor}
 
--- the names that are used, as far as they are not hidden
+-- the names that are used and not hidden
 abbrev pub shown : List (Name × Bool) → List Name
 shown [] = []
 shown (mark ∷ marks) = if mark.1 then without (mark.0 ∷ []) (shown marks) else mark.0 ∷ shown marks

@@ -154,7 +154,7 @@ impl<'a, A: Allocator + Clone> Machine<'a, A> {
         Ok(())
     }
 
-    /// The test of a turn ends, and the arm begins that goes on.
+    /// The test of a turn ends, and the arm that goes on begins.
     pub fn begin_while(&mut self) -> Result<(), AllocError>
         ensures { OnOk result (self.new ≡ first_arm self.old Looping self.old.plans) }
     {

@@ -8,7 +8,7 @@ use semantics::graph::{Region, Source};
 use std::alloc::Allocator;
 use std::marker::Model;
 
-/// Where a part stands: its function, its region, and the first input of the region, for which literals wait.
+/// Where a part is: its function, its region, and the first input of the region, for which literals wait.
 #[derive(Clone, Copy)]
 pub struct Site<'a> {
     pub function: &'a [u8],
@@ -23,7 +23,7 @@ pub struct Spot {
     pub loops: usize,
 }
 
-/// An open conditional: where it stands, the sources before its predicate, the predicate's, and its node.
+/// An open conditional: where it is, the sources before its predicate, the predicate's, and its node.
 #[derive(Drop)]
 pub struct Arms<'a, A: Allocator> {
     pub site: Site<'a>,
@@ -64,7 +64,7 @@ impl<'a, A: Allocator> Model for Begun<'a, A> {
     ghost view = { λ b. record { at = b.at; outer = b.outer.items; names = b.names.items; outs = b.outs.items } };
 }
 
-/// A loop whose turn is open: besides, its first values, where it stands, what its block and the loops before it have, and the name of
+/// A loop whose turn is open: in addition, its first values, where it is, what its block and the loops before it have, and the name of
 /// the turn's block.
 #[derive(Drop)]
 pub struct Turning<'a, A: Allocator> {

@@ -84,7 +84,7 @@ impl<'a, A: Allocator + Clone> Machine<'a, A> {
         Ok(())
     }
 
-    /// The blocks of a function, its own first, and nothing is made any more.
+    /// Takes the blocks of a function out of the machine, its own first.
     fn take_blocks(
         &mut self,
         at: usize,

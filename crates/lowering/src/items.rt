@@ -1,4 +1,4 @@
-//! What words tell of items, from the last to the first.
+//! What words say of items, from the last to the first.
 
 ghost use Rattle.std.specs.Prelude.{◌≡◌, ◌∷◌, IfOk, OnOk};
 ghost use Rattle.std.specs.List.{slice_set};
@@ -14,7 +14,7 @@ use std::alloc::{AllocError, Allocator};
 use std::collections::VecDeque;
 use std::marker::Model;
 
-/// The number of results of the function whose head is read, and the length of the array whose name comes; and how many results
+/// The number of results of the function whose head is read, and the length of the array whose name is next; and how many results
 /// the functions after have, by the numbers of their names, and the arrays after.
 #[derive(Drop)]
 pub struct Heads<'a, A: Allocator> {

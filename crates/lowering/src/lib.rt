@@ -42,7 +42,7 @@ use source::fault::Fault;
 use std::alloc::{AllocError, Allocator};
 use step::Names;
 
-/// Going over the words of a program that keeps the rules makes just the blocks that the definition of lowering says of its tree.
+/// Going over the words of a program that keeps the rules makes exactly the blocks that the definition of lowering gives for its tree.
 pub fn words_are_lowered()
     ensures machine { MachineLowers }
     ensures made { BlocksAreMade }
@@ -66,7 +66,7 @@ struct Parts<'a, A: Allocator> {
     blocks: Vec<OfFunction<'a, A>, A>,
 }
 
-/// Goes over the words twice: from the last to the first for what they tell, and from the first to the last.
+/// Goes over the words twice: from the last to the first for what they say of each part, and from the first to the last.
 fn go_over<'a, A: Allocator + Clone>(
     alloc: &A,
     named: &'a Named<'a, A>,
@@ -110,7 +110,7 @@ fn build<'a, A: Allocator + Clone>(
     })
 }
 
-/// Lowers a program that keeps the rules to the blocks of its graph. It is refused where a block is too big, or memory ends.
+/// Lowers a program that keeps the rules to the blocks of its graph. It is refused if a block is too big, or if a growth is refused.
 pub fn lower<'a, A: Allocator + Clone>(
     alloc: &A,
     named: &'a Named<'a, A>,

@@ -123,7 +123,7 @@ impl<'t, A: Allocator + Clone> Named<'t, A> {
     }
 }
 
-/// The name of the block of a function's k-th loop, which is the next in order. The memory is at fault if it is not.
+/// The name of the block of a function's k-th loop, which is the next in order. A growth is reported as refused if it is not.
 pub fn next_loop_name<'a, A: Allocator>(
     loops: &mut VecDeque<LoopName<'a>, A>,
     function: &[u8],

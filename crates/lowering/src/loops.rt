@@ -62,7 +62,7 @@ fn bound_of(bound: u64) -> Result<u32, AllocError>
 }
 
 impl<'a, A: Allocator + Clone> Machine<'a, A> {
-    /// The block of a turn: its results are the flag, the next values, and the outside names as they came.
+    /// The block of a turn: its results are the flag, the next values, and the outside names unchanged.
     fn take_block(
         &mut self,
         begun: &Begun<'a, A>,

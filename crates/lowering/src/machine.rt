@@ -15,7 +15,7 @@ use std::alloc::{AllocError, Allocator};
 use std::collections::VecDeque;
 use std::marker::Model;
 
-/// Where the machine stands, what is open, and what is made.
+/// Where the machine is, what is open, and what is made.
 #[derive(Drop)]
 pub struct Machine<'a, A: Allocator> {
     pub site: Site<'a>,

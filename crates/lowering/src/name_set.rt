@@ -28,7 +28,7 @@ impl<'a, A: Allocator> NameSet<'a, A> {
         self.names.contains(&name)
     }
 
-    /// From now on the name is one of these. It tells whether it was none before.
+    /// From now on the name is one of these. Returns whether it is new.
     pub fn add(&mut self, name: &'a [u8]) -> Result<bool, AllocError>
     where
         A: Clone,

@@ -1,4 +1,4 @@
-//! Names where they stand, and what they stand for.
+//! Names at their places, and what they stand for.
 
 ghost use Rattle.std.specs.Prelude.{◌≡◌, []};
 ghost use Rattle.source.specs.Words as words;

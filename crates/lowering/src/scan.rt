@@ -1,4 +1,4 @@
-//! Plans, told by the words from the last to the first.
+//! Plans, made from the words, from the last to the first.
 
 ghost use Rattle.std.specs.Prelude.{◌≡◌, ◌∷◌, ◌++◌, ◌&&◌, ◌||◌, [], ℕ, List, IfOk, OnOk};
 ghost use Rattle.semantics.specs.Graph.{same_name};
@@ -31,7 +31,7 @@ impl<'a> Model for Mark<'a> {
     ghost view = { λ m. (m.name.now, m.is_bound) };
 }
 
-/// The names that an open part uses from outside, as far as it was read, in order of the text.
+/// The names that an open part uses from outside so far, in order of the text.
 #[derive(Drop)]
 pub struct Uses<'a, A: Allocator> {
     marks: VecDeque<Mark<'a>, A>,
@@ -79,7 +79,7 @@ fn keep_shown<'a, A: Allocator + Clone>(
     Ok(())
 }
 
-/// Each name once, where it stands first.
+/// Each name once, where it is first.
 #[tactic(auto, using(crate::proofs::Once::new_begun, crate::proofs::Once::new_step, crate::proofs::Once::new_ended))]
 fn first_uses<'a, A: Allocator + Clone>(
     alloc: &A,
@@ -97,7 +97,7 @@ fn first_uses<'a, A: Allocator + Clone>(
     Ok(kept)
 }
 
-/// All names, as far as they are not hidden.
+/// All names that are not hidden.
 #[tactic(auto, using(crate::proofs::Once::shown_begun, crate::proofs::Once::shown_step, crate::proofs::Once::shown_ended))]
 fn all_shown<'a, A: Allocator + Clone>(
     alloc: &A,
@@ -115,7 +115,7 @@ fn all_shown<'a, A: Allocator + Clone>(
     Ok(kept)
 }
 
-/// Uses of these names in front of others.
+/// Uses of these names before others.
 fn used_before<'a, A: Allocator>(
     mut first: Vec<Name<'a>, A>,
     mut marks: VecDeque<Mark<'a>, A>,
@@ -140,7 +140,7 @@ impl<'a, A: Allocator + Clone> Uses<'a, A> {
         }
     }
 
-    /// With a use of a name in front.
+    /// With a use of a name before the others.
     fn with_use(self, name: &'a [u8]) -> Result<Uses<'a, A>, AllocError>
         ensures { IfOk result (λ u. u ≡ name.now ∷ self.entry) }
     {
@@ -152,14 +152,14 @@ impl<'a, A: Allocator + Clone> Uses<'a, A> {
         Ok(Uses { marks })
     }
 
-    /// Each name once, where it stands first.
+    /// Each name once, where it is first.
     fn once(&self, alloc: &A) -> Result<Vec<Name<'a>, A>, AllocError>
         ensures { IfOk result (λ v. v.items ≡ once self.now) }
     {
         first_uses(alloc, &self.marks)
     }
 
-    /// All but this name.
+    /// All except this name.
     fn without(self, name: &'a [u8]) -> Result<Uses<'a, A>, AllocError>
         ensures { IfOk result (λ u. u ≡ without (name.now ∷ []) self.entry) }
     {
@@ -270,7 +270,7 @@ impl<'a, A: Allocator + Clone> Scan<'a, A> {
         self.open()
     }
 
-    /// Of the innermost part nothing is known any more.
+    /// Forgets what is known of the innermost part.
     fn close(&mut self)
         ensures { self.new ≡ scan.scan_of self.old.plans (scan.closed self.old.uses) self.old.places }
     {

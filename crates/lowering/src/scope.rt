@@ -12,7 +12,7 @@ use std::alloc::{AllocError, Allocator};
 use std::collections::{BTreeMap, VecDeque};
 use std::marker::Model;
 
-/// What each name stands for last.
+/// What each name stands for now.
 type Latest<'a, A> = BTreeMap<&'a [u8], Source, A>;
 
 /// From now on the name stands for this.
@@ -30,7 +30,7 @@ fn stand<'a, A: Allocator + Clone>(
     }
 }
 
-/// The names in scope, each with its source. Those that hide others stand in front.
+/// The names in scope, each with its source. Those that hide others are first.
 #[derive(Drop)]
 pub struct Scope<'a, A: Allocator> {
     entries: VecDeque<Entry<'a>, A>,

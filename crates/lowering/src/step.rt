@@ -95,7 +95,7 @@ impl<'a, A: Allocator + Clone> Machine<'a, A> {
         self.give(source)
     }
 
-    /// One word, but for the note whether it is a number.
+    /// One word, without the note whether it is a number.
     fn act(&mut self, names: Names<'_, 'a>, word: Word<usize>) -> Result<(), AllocError>
         ensures { OnOk result (self.new ≡ act_numbered names.entry.names.now names.entry.results.now word self.old) }
     {

@@ -149,7 +149,7 @@ impl<'a, A: Allocator + Clone> Machine<'a, A> {
         Ok(())
     }
 
-    /// What stands around a turn is kept, and nothing is made of the turn yet.
+    /// What is around a turn is stored, and nothing of the turn is made yet.
     fn park(
         &mut self,
         begun: Begun<'a, A>,
@@ -201,7 +201,7 @@ impl<'a, A: Allocator + Clone> Machine<'a, A> {
         Ok(())
     }
 
-    /// The body of a turn ends, and its test begins: the values of the body stand for the loop's names.
+    /// The body of a turn ends, and its test begins: the loop's names stand for the values of the body.
     pub fn begin_test(&mut self) -> Result<(), AllocError>
         ensures { OnOk result (self.new ≡ tested self.old self.old.frames) }
     {
@@ -236,7 +236,7 @@ impl<'a, A: Allocator + Clone> Machine<'a, A> {
         Ok(values)
     }
 
-    /// The arm of a turn that goes on ends. The other arm gives the loop's names as they came.
+    /// The arm of a turn that goes on ends. The other arm gives the loop's names unchanged.
     pub fn come_back(
         &mut self,
         arms: Arms<'a, A>,

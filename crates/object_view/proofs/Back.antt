@@ -1,4 +1,4 @@
--- The bytes of lawful code tell this code.
+-- The bytes of lawful code are read as this code.
 use Rattle.std.proofs.Common.{◌≡◌, ℕ, zero, suc, ◌+◌, ◌<◌, ◌≤◌, Bool, true, nat_lt, if◌then◌else◌, List, ◌∷◌, length, Option, Some, ℤ, pos, sym, ap, ◌∙◌, arith, get_or}
 use Rattle.std.specs.Prelude.{slice_get, FitsSigned, unwrap_or, int_lt}
 use Rattle.std.specs.Int.{w64, cast_signed}

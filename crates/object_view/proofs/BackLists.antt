@@ -138,7 +138,7 @@ all_words_fit v c is =
     let tail = words_append (map block_word c.program.blocks) _ blocks (words_append _ _ instrs (words_append _ c.program.arrays literals arrays)) in
     (version_few v is.version_known, (omega (arith, is.some_block.1), (omega (arith, is.few_literals), (omega (arith, is.few_arrays), (omega (arith, is.main, is.some_block.1), tail)))))
 
--- WHERE THE WORDS STAND
+-- WHERE THE WORDS ARE
 pub record IsRead (v : ℕ) (c : Code) (w : ℕ → ℕ) (j : ℕ) : Type 0 where
   pub magic : w 0 ≡ MAGIC
   pub version : w 1 ≡ v

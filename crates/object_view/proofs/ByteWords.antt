@@ -7,7 +7,7 @@ use Rattle.std.proofs.lemmas.List.{nil_from_length, drop-drop}
 use Rattle.byteorder.specs.Endian.{little_number}
 use Rattle.object_view.specs.Fields.{word_at}
 
--- from place i on stand these words, up to place j
+-- these words are there from place i on, up to place j
 abbrev pub ReadsTo : (ℕ → ℕ) → ℕ → List ℕ → ℕ → Type 0
 ReadsTo w i [] j = i ≡ j
 ReadsTo w i (x ∷ xs) j = (w i ≡ x) × ReadsTo w (i + 1) xs j

@@ -1,4 +1,4 @@
--- Checks of many things in a row.
+-- Checks of many items in a row.
 use Rattle.std.proofs.Common.{◌≡◌, ℕ, zero, suc, ◌+◌, ◌-◌, ◌<◌, ◌≤◌, Ok, Err, refl, ap, ◌∙◌, arith, add-zero}
 use Rattle.object_view.specs.declared.fault.ObjectFault.{ObjectFault}
 use Rattle.object_view.specs.Fields.{count_in, slots_in}

@@ -1,4 +1,4 @@
--- Bytes that no check refuses tell a code of the grammar.
+-- Bytes that no check refuses are read as a code of the grammar.
 use Rattle.std.proofs.Common.{◌≡◌, ℕ, zero, suc, ◌+◌, ◌-◌, ◌/◌, ◌%◌, ◌^◌, ◌<◌, ◌≤◌, Bool, true, false, ◌&&◌, ◌||◌, ◌==◌, nat_lt, nat_le, if◌then◌else◌, List, [], ◌∷◌, length, get_or, map, Option, Some, None, Ok, ℤ, pos, negsuc, ◌⊎◌, inl, inr, refl, sym, ap, subst, ◌∙◌, arith, eqb-true, sum}
 use Rattle.std.specs.Prelude.{All, Contains, FitsSigned, unwrap_or, option_to_list, is_some, is_none, slice_get, sum_by}
 use Rattle.std.specs.Int.{w64, cast_signed}

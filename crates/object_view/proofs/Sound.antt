@@ -1,4 +1,4 @@
--- Bytes that no check refuses are an object: they are spelt as the code that they tell.
+-- Bytes that no check refuses are an object: they are spelt as the code that is read from them.
 use Rattle.std.proofs.Common.{◌≡◌, ℕ, zero, suc, ◌+◌, ◌-◌, ◌*◌, ◌/◌, ◌%◌, ◌^◌, ◌<◌, ◌≤◌, Bool, true, false, ◌&&◌, ◌||◌, ◌==◌, nat_lt, nat_le, if◌then◌else◌, List, [], ◌∷◌, ◌++◌, length, get_or, map, take, drop, Option, Some, None, Ok, Err, ℤ, pos, ◌⊎◌, inl, inr, refl, sym, ap, subst, ◌∙◌, arith, eqb-true}
 use Rattle.std.specs.Prelude.{unwrap_or, option_to_list, flat_map, slice_get, int_lt}
 use Rattle.std.specs.Int.{w64, cast_unsigned, to_le_bytes}
@@ -311,7 +311,7 @@ words_read n w p few =
     let rest = reads_append w 6 (map block_word blocks) (instr_place w 0) (ws ++ (ls ++ lens)) (word_count w) r1 r234 in
     (p.magic, (version_parsed (w 1) p.version, (sym (length_tabulated (block_in w) 0 (w 2)), (sym (length_tabulated (literal_in w) 0 (w 3)), (sym (length_tabulated (array_in w) 0 (w 4)), (refl, rest))))))
 
--- the bytes are those of the code that they tell
+-- the bytes are those of the code that is read from them
 pub is_spelt : (bytes : List ℕ) → AllBytes bytes → checked bytes ≡ Ok tt → bytes ≡ bytes_of (version_number (version_in (word_at bytes 1))) (code_in (word_at bytes))
 is_spelt bytes all ok =
     let w = word_at bytes in

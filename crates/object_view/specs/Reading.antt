@@ -1,4 +1,4 @@
--- The code that an object's words tell.
+-- The code that is read from an object's words.
 use Rattle.std.specs.Prelude.{ℕ, zero, suc, ◌+◌, ◌*◌, ◌==◌, nat_lt, if◌then◌else◌, unwrap_or, ℤ, pos, List, [], ◌∷◌, length, option_to_list, flat_map, slice_index, ◌<◌}
 use Rattle.std.specs.Int.{w64, cast_signed, to_le_bytes}
 use Rattle.semantics.specs.Program.{Instr, CodeBlock, Code}
@@ -19,7 +19,7 @@ abbrev pub tabulated : {X : Type 0} → (ℕ → X) → ℕ → ℕ → List X
 tabulated f i zero = []
 tabulated f i (suc k) = f i ∷ tabulated f (i + 1) k
 
--- what stands after an instruction without memory: at most one destination of each kind
+-- the instruction in a program: at most one destination of each kind
 abbrev pub shown : CodeInstr → Instr
 shown i = record { op = i.op; origin = i.origin; slot = i.slot; firsts = option_to_list i.first; seconds = option_to_list i.second }
 
@@ -27,12 +27,12 @@ shown i = record { op = i.op; origin = i.origin; slot = i.slot; firsts = option_
 abbrev pub unpacked : PackedInstr → CodeInstr
 unpacked i = record { op = i.op; origin = origin_of i.origin; slot = i.slot; first = dest_of i.first; second = dest_of i.second }
 
--- WHERE THINGS STAND. Word 0 is the mark, word 1 the version, word 2 the number of blocks, word 3 of literals, word 4 of
+-- WHERE THINGS ARE. Word 0 is the mark, word 1 the version, word 2 the number of blocks, word 3 of literals, word 4 of
 -- arrays, and word 5 the block that is run.
 abbrev pub version_in : ℕ → Version
 version_in n = if n == 2 then Two else One
 
--- how many instructions the first blocks have, whose number is given
+-- how many instructions the first blocks have, of which the number is given
 abbrev pub instrs_below : (ℕ → ℕ) → ℕ → ℕ
 instrs_below w zero = 0
 instrs_below w (suc b) = instrs_below w b + count_in (w (6 + b))

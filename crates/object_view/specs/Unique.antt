@@ -1,4 +1,4 @@
--- Objects and their bytes: the bytes tell one version and one code, and no object is refused.
+-- Objects and their bytes: the bytes determine one version and one code, and no object is refused.
 use Rattle.std.specs.Prelude.{◌≡◌, ℕ, List, None}
 use Rattle.semantics.specs.Program.{Code}
 use Rattle.semantics.specs.Bytes.{bytes_of, IsCode, IsObject}

@@ -81,7 +81,7 @@ fn entry_at(bytes: &[u8], block: usize) -> Entry
     }
 }
 
-/// Looks at the block table, and gives the number of all instructions.
+/// Looks at the block table, and returns the number of all instructions.
 fn check_entries(bytes: &[u8], blocks: usize) -> Result<usize, ObjectFault>
     requires few { blocks ≤ 512 }
     requires there { 8 * (6 + blocks) ≤ length bytes.now }
@@ -253,7 +253,7 @@ impl<'a> Tables<'a> {
             && opcode.may_go_to(words::dest_of(head.first()), words::dest_of(head.second()))
     }
 
-    /// Whether the block, the entry or the offset is there that an instruction names.
+    /// Whether the block, the entry or the offset that an instruction names exists.
     fn target_fits(&self, opcode: Opcode, operand: u64) -> bool
         ensures { result ≡ Checks.target_fits (Fields.word_at self.now.bytes.now) opcode operand }
     {
@@ -269,7 +269,7 @@ impl<'a> Tables<'a> {
         }
     }
 
-    /// Whether the literal or the array is there that an instruction names.
+    /// Whether the literal or the array that an instruction names exists.
     fn check_number(&self, opcode: Opcode, operand: u64) -> Result<(), ObjectFault>
         ensures { result ≡ Checks.number_checked (Fields.word_at self.now.bytes.now) opcode operand }
     {

@@ -1,6 +1,6 @@
 //! Why bytes are no object.
 
-/// The first thing that is wrong with bytes which are to be an object.
+/// The first thing that is wrong with bytes that should be an object.
 #[derive(Clone, Copy, Debug, PartialEq, Eq)]
 pub enum ObjectFault {
     /// The bytes end too early.
@@ -19,6 +19,6 @@ pub enum ObjectFault {
     BadSlot,
     /// The literals do not ascend, or there is no literal of a number that an instruction names.
     BadLiteral,
-    /// Bytes stand after the object.
+    /// There are bytes after the object.
     Trailing,
 }

@@ -1,4 +1,4 @@
-//! Instructions as they stand in an object.
+//! Instructions as they are in an object.
 
 ghost use Rattle.std.specs.Prelude.{◌≡◌};
 ghost use Rattle.object_view.specs.Reading as Reading;
@@ -12,7 +12,7 @@ use tags::value::Origin;
 #[derive(Clone, Copy, Debug, PartialEq, Eq)]
 pub struct CodeInstr {
     pub op: Op,
-    /// Where a fault that the instruction makes says that it was made.
+    /// The origin of a fault that the instruction makes.
     pub origin: Origin,
     /// The slot in which its operands meet or its credits are; 0 where it has none.
     pub slot: u32,
@@ -20,11 +20,11 @@ pub struct CodeInstr {
     pub second: Option<Dest>,
 }
 
-/// An instruction of which the destinations and the origin are still the bits of the object, for whoever may not need them.
+/// An instruction of which the destinations and the origin are still the bits of the object, for a caller that may not need them.
 #[derive(Clone, Copy, Debug, PartialEq, Eq)]
 pub struct PackedInstr {
     pub op: Op,
-    /// The number of the origin: 0 for one that is not told, else one more than 1,024 times the block and the node.
+    /// The number of the origin: 0 for one that is not recorded, else one more than 1,024 times the block and the node.
     pub origin: u64,
     pub slot: u32,
     /// The half word of the first destination: 15 bits of how many instructions it lies ahead, 0 where there is none, and

@@ -169,7 +169,7 @@ impl<'a> Object<'a> {
         Some(self.tables.instr_bytes(ip as usize))
     }
 
-    /// An instruction, with its destinations and its origin as they stand there.
+    /// An instruction, with its destinations and its origin as they are there.
     #[inline(always)]
     pub fn packed(&self, ip: u32) -> Option<PackedInstr>
         ensures { option_map (λ i. shown (unpacked i)) result ≡ instr_at self.now.code.program ip }
@@ -211,7 +211,7 @@ impl<'a> Object<'a> {
     }
 }
 
-/// The bytes of an object tell one version and one code, and these are what is read from them. No object is refused.
+/// The bytes of an object determine one version and one code, and these are what is read from them. No object is refused.
 #[tactic(auto, using(crate::proofs::Unique::read_back, crate::proofs::Unique::unique, crate::proofs::Unique::all_open))]
 pub fn one_spelling()
     ensures read_back { ReadsBack }

@@ -145,8 +145,8 @@ impl<'a> Tables<'a> {
     }
 
     /// The operation of this opcode with this second word, and the number of its origin. The table of literals is read where
-    /// the operand is a literal. Each opcode goes its own way to the end, so that where the operation is looked at next no
-    /// second choice is made.
+    /// the operand is a literal. Each opcode has its own path to the end, so that no second choice is made where the operation
+    /// is looked at next.
     #[inline(always)]
     fn read_op(&self, opcode: Opcode, word: u64) -> (Op, u64)
         ensures op { result.0 ≡ Opcodes.with opcode (Fields.operand_in self.now.version opcode word) (Reading.literal_or_zero (Fields.word_at self.now.bytes.now) (Fields.operand_in self.now.version opcode word)) }
@@ -180,7 +180,7 @@ impl<'a> Tables<'a> {
     }
 
     #[tactic(auto, unfolding(crate::specs::Reading::instr_in))]
-    /// An instruction, with its destinations and its origin as they stand there.
+    /// An instruction, with its destinations and its origin as they are there.
     #[inline(always)]
     pub fn packed(&self, ip: usize) -> PackedInstr
         requires { ip < self.now.instrs }

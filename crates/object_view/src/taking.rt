@@ -1,4 +1,4 @@
-//! Objects taken apart: the code that stands in their bytes, as a value that outlives them.
+//! Objects taken apart: the code that is in their bytes, as a value that outlives them.
 
 ghost use Rattle.std.specs.Prelude.{◌≡◌, ◌<◌, ℕ, IfOk, length, option_map, option_to_list, slice_get};
 ghost use Rattle.semantics.specs.Program as Told;
@@ -134,7 +134,7 @@ fn arrays_of<A: Allocator>(alloc: A, object: &Object<'_>) -> Result<Vec<u32, A>,
 }
 
 impl<'a> Object<'a> {
-    /// The code of the object, which stands alone then. Takes time in proportion to the number of instructions, and to
+    /// The code of the object, which no longer needs the bytes. Takes time in proportion to the number of instructions, and to
     /// the square of the number of blocks.
     pub fn to_code<A: Allocator + Clone>(&self, alloc: A) -> Result<Code<A>, AllocError>
         ensures { IfOk result (λ c. c ≡ self.now.code) }

@@ -59,7 +59,7 @@ pub struct Head {
 }
 
 impl Head {
-    /// What the opcode and the flag say, if there are such.
+    /// What the opcode and the flag say, if they exist.
     #[inline(always)]
     pub fn opcode(self) -> Option<Opcode>
         ensures { result ≡ Fields.opcode_in self.word }
@@ -91,7 +91,7 @@ impl Head {
     }
 }
 
-/// The destination that a half word tells, if it tells one.
+/// The destination that a half word has, if it has one.
 #[inline(always)]
 pub fn dest_of(half: u32) -> Option<Dest>
     ensures { result ≡ Fields.dest_of half }
@@ -108,7 +108,7 @@ pub fn dest_of(half: u32) -> Option<Dest>
     Some(Dest { ahead, port })
 }
 
-/// The origin of a number: 0 for one that is not told, else one more than 1,024 times the block and the node.
+/// The origin of a number: 0 for one that is not recorded, else one more than 1,024 times the block and the node.
 #[inline(always)]
 pub fn origin_of(number: u64) -> Origin
     ensures { result ≡ Fields.origin_of number }

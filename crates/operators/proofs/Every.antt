@@ -1,4 +1,4 @@
--- The operators are finitely many: what holds of each of the list holds of all.
+-- There are finitely many operators: what holds of each in the list holds of all.
 use Rattle.std.specs.Prelude.{◌≡◌, List, [], ◌∷◌, Bool, true, false, ⊤, if◌then◌else◌}
 use Rattle.std.proofs.Common.{refl}
 use Rattle.operators.specs.declared.Binary.{Binary}

@@ -177,7 +177,7 @@ module _ (g : Graph) (c : Context) (block : ℕ) (is : block_number (flow_of g) 
       let p = node_row n (λ (node : Row ℕ). passed c n i v node.kind) d h in
       ap (λ l. operand_shape l n i) p.1 ∙ passed_shape n i (length p.0.sources) v d (resolved_in g p.0.kind) p.2
 
--- WHERE A TOKEN STANDS
+-- WHERE A TOKEN IS
 made_main : (cs : List Context) (made : Made) (j : ℕ) → made_of cs made ≡ Meaning.Main → out_shape made j ≡ Some (Outputs j)
 made_main cs Main j e = refl
 made_main cs made j e = cc

@@ -1,4 +1,4 @@
--- The activities that were found are just those that are enabled at the beginning of the wave.
+-- The activities that were found are exactly those that are enabled at the beginning of the wave.
 use Rattle.std.proofs.Common.{◌≡◌, ℕ, ◌⊎◌, ℤ, List, [], ◌∷◌, ◌++◌, map, flat_map, length, Option, Some, None, slice_get, IsPermutation, Contains, inl, inr, refl, sym, ap, ap₂, ◌∙◌, subst, ⊎_elim, append_assoc}
 use Rattle.std.proofs.lemmas.List.{map-append}
 use Rattle.std.proofs.lemmas.List.Sorted.{IsPermutation-refl, IsPermutation-trans, IsPermutation-append_left}

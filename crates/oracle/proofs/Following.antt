@@ -28,7 +28,7 @@ use Rattle.oracle.proofs.Waiting.{Stuck, IsDeferred}
 abbrev pub all_tokens : Plain → List Token
 all_tokens s = s.fresh ++ (s.waiting ++ s.deferred)
 
--- the state of the meaning that it stands for
+-- the state of the meaning that a run's state stands for
 abbrev pub meant : List Context → Plain → State
 meant cs s = record { tokens = map (tagged_of cs) (all_tokens s); memory = memory_of s.cells s.outputs }
 
@@ -51,7 +51,7 @@ pub record RunsSoFar (g : Graph) (inputs : List ℤ) (k : ℕ) (s : Plain) : Typ
   pub is_run : Run (flow_of g) (start inputs) run (meant sound.names s)
   pub count : length run ≡ k
 
--- an output that a deed fills is there
+-- an output that a deed fills exists
 abbrev pub PutLow : Deed → Plain → Type 0
 PutLow (Puts j v) s = j < length s.outputs
 PutLow d s = ⊤
@@ -115,7 +115,7 @@ to_taken t ts w d aa left p =
     let two : IsPermutation (t ∷ (w ++ d)) (aa ++ (left ++ d)) = subst (λ l. IsPermutation (t ∷ (w ++ d)) l) (append_assoc aa left d) one in
     IsPermutation-trans _ _ _ (moved_first t ts (w ++ d)) (IsPermutation-trans _ _ _ (IsPermutation-append_right ts _ _ two) (permutation_exchange ts aa (left ++ d)))
 
--- new ones come after the fresh ones
+-- new ones are after the fresh ones
 pub to_fresh : {X : Type 0} (fresh new rest : List X) → IsPermutation ((fresh ++ new) ++ rest) (new ++ (fresh ++ rest))
 to_fresh fresh new rest = subst (λ l. IsPermutation l (new ++ (fresh ++ rest))) (sym (append_assoc fresh new rest)) (permutation_exchange fresh new rest)
 

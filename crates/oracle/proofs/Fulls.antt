@@ -1,4 +1,4 @@
--- The list of full cells has just the full cells, each once.
+-- The list of full cells has exactly the full cells, each once.
 use Rattle.std.proofs.Common.{◌≡◌, ℕ, zero, suc, ◌+◌, ◌<◌, ◌≤◌, ◌⊎◌, inl, inr, Bool, true, false, List, [], ◌∷◌, length, Option, Some, None, nat_lt, slice_get, refl, sym, ap, ◌∙◌, subst, arith, ⊎_elim, ltb-true, ltb-false}
 use Rattle.std.proofs.lemmas.Bool.{cases_eq}
 use Rattle.std.proofs.lemmas.Option.{same_Some}

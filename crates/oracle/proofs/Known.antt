@@ -1,4 +1,4 @@
--- What a deed names is there.
+-- What a deed names exists.
 use Rattle.std.proofs.Common.{◌≡◌, ℕ, ◌+◌, ◌-◌, ◌<◌, ◌^◌, Bool, true, false, ◌==◌, List, [], ◌∷◌, length, Option, Some, None, nat_lt, slice_get, if◌then◌else◌, refl, ap, ◌∙◌, subst, ltb-true}
 use Rattle.std.specs.Prelude.{option_map, ⊤, pos, negsuc}
 use Rattle.tags.specs.declared.value.Value.{Value}
@@ -52,7 +52,7 @@ module _ (g : Graph) (cs : List Context) (m c block : ℕ) (low : c < m) (is : b
   found : block_of (flow_of g) (name_in cs c) ≡ option_map (block_in g) (slice_get g.blocks block)
   found = ap (block_numbered (flow_of g)) is ∙ block_same g block
 
-  -- by what stands at a number; a node line that invokes a block invokes it in the meaning
+  -- by what is at a number; a node line that invokes a block invokes it in the meaning
   line_cases : (n : ℕ) (P : Line → Type 0) → P Input → P Nothing
       → ((row : Row (List ℕ)) → callee_in (block_of (flow_of g) (name_in cs c)) n ≡ callee (resolved_in g row.kind) → P (line_of_row g (Some row))) → P (line_of g block n)
   line_cases n P at_input at_none rows =

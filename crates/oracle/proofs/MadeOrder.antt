@@ -1,4 +1,4 @@
--- The order of the places that invocations are made at tells all of them apart.
+-- The order of the places where invocations are made distinguishes all of them.
 use Rattle.std.proofs.Common.{◌≡◌, ℕ, Bool, true, false, ◌&&◌, ◌==◌, refl, sym, ap, ap₂, ◌∙◌, arith, nat_lt, eqb-true, le-ltb}
 use Rattle.std.specs.Prelude.{cond}
 use Rattle.std.specs.Ordering.{is_eq, nat_cmp, ordering_then}

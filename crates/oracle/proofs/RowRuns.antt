@@ -1,4 +1,4 @@
--- A run over rows tells what the run over one list tells.
+-- A run over rows reports what the run over one list reports.
 use Rattle.std.proofs.Common.{◌≡◌, ℕ, zero, suc, ◌+◌, ◌-◌, ◌<◌, Bool, true, false, ◌==◌, ℤ, List, [], ◌∷◌, ◌++◌, map, length, Option, Some, None, Result, Ok, Err, slice_get, slice_set, slice_index_or, if◌then◌else◌, refl, sym, ap, ◌∙◌, subst, eqb-true, eq-eqb}
 use Rattle.tags.specs.declared.value.Value.{Value}
 use Rattle.semantics.specs.Graph.{Graph}
@@ -244,7 +244,7 @@ told_from {V} g inputs steps s w f e h =
 pub told_none : {V : Type 0} (g : Graph) (inputs : List ℤ) (steps : ℕ) (s : Plain) (w : List V) (f : V → List Token) → s ≡ start_of g inputs → w ≡ [] → run_among g steps s (rows_of (map f w)) ≡ None → run_result g inputs steps ≡ None
 told_none g inputs steps s w f e h n = told_from g inputs steps s w f e h ∙ ap (end_result_of g) n
 
--- A TOKEN AND WHAT JOINING IT TELLS
+-- A TOKEN AND THE RESULT OF JOINING IT
 abbrev pub Among : {X : Type 0} → Graph → List Invocation → Token → (ℕ → List Token) → (ℕ → List Token) → (X → List Value) → (X → Deed) → Option X → Type 0
 Among g xs t rows new values deed o =
     MatchOption o ((join_of g xs (rows t.context) t ≡ Alone) × (with_row rows t.context (rows t.context ++ t ∷ []) ≡ new))
@@ -270,7 +270,7 @@ module _ (g : Graph) (xs : List Invocation) (cells outputs : List (Option Value)
       ap (λ j. row_matched g xs cells outputs t ts rows d j) b.0 ∙ ap (λ k. row_gated g xs cells outputs t ts rows d (new t.context) (values a) (deed a) k) gate
       ∙ ap (λ r. row_next g xs cells outputs ts r (d ++ t ∷ [])) b.1
 
--- what a row tells, told of all rows
+-- what holds of a row, stated of all rows
 pub among : {V X E : Type 0} (g : Graph) (xs : List Invocation) (t : Token) (r : Result (Option X) E) (old mid : List V) (row v : V) (f : V → List Token) (values : X → List Value) (deed : X → Deed)
     → rows_of (map f mid) ≡ rows_of (map f old) → t.context < length mid → row ≡ slice_index_or mid t.context row
     → IfOk r (λ o. MatchOption o ((join_of g xs (f row) t ≡ Alone) × (f v ≡ f row ++ t ∷ [])) (λ a. join_of g xs (f row) t ≡ Joins (f v) (values a) (deed a)))

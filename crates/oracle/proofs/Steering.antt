@@ -27,7 +27,7 @@ use Rattle.oracle.specs.Agreeing.{block_in, row_in}
 use Rattle.oracle.proofs.Resolved.{block_same}
 use Rattle.oracle.proofs.Sends.{all_sent}
 
--- WHAT A CONDITIONAL TELLS
+-- WHAT A CONDITIONAL SENDS TO ITS ARMS
 
 gate_test : (g : Graph) (k : ℕ) (r : Region) (kind : Kind (List ℕ)) → is_gate_of k r kind ≡ is_enter_of k r (resolved_in g kind)
 gate_test g k Root Enter = refl

@@ -19,7 +19,7 @@ use Rattle.oracle.proofs.Entering.{AreKnown}
 use Rattle.oracle.proofs.SameNames.{StartsWith, tokens_same, deed_same, known_same, as_long}
 use Rattle.oracle.proofs.Turning.{DeedTurn, turn_more}
 
--- an output that a deed fills is there
+-- an output that a deed fills exists
 abbrev pub IsShown : Graph → Deed → Type 0
 IsShown g (Puts j v) = j < outputs_at g (main_place g)
 IsShown g d = ⊤

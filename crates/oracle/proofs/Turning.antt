@@ -1,4 +1,4 @@
--- What a deed may name besides: the turn of an iteration, which no run brings above its length, and an output, which main
+-- What else a deed may name: the turn of an iteration, which no run brings above its length, and an output, which main
 -- has.
 use Rattle.std.proofs.Common.{◌≡◌, ℕ, suc, ◌+◌, ◌-◌, ◌<◌, ◌^◌, ℤ, true, false, ◌==◌, List, [], ◌∷◌, length, Option, Some, None, nat_lt, slice_get, if◌then◌else◌, refl, sym, ap, ◌∙◌, subst, arith, ⊎_elim}
 use Rattle.std.specs.Prelude.{⊤, option_map}

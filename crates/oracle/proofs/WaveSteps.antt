@@ -33,7 +33,7 @@ module _ (g : Graph) (s : Plain) (rows : ℕ → List Token) (counts : List ℕ)
   waves_next (suc most) left n few some le t rs e all is more h =
       (most, omega (arith, few, some, le), is ∙ ap (after most left) e ∙ ap (λ cs. waves_among g most (left - n) t rs cs) (sym h))
 
--- what a call tells
+-- what a call returns
 pub passed_by : (g : Graph) (left : ℕ) (s t : Plain) (rows rs : ℕ → List Token) (r : Result ℕ MeanEnd) (n : ℕ) → r ≡ Ok n
     → MatchResult r (λ n. wave_among g left s rows ≡ Passes t rs n) (λ e. wave_among g left s rows ≡ Halts e) → wave_among g left s rows ≡ Passes t rs n
 passed_by g left s t rows rs r n is h = subst (λ r. MatchResult r (λ n. wave_among g left s rows ≡ Passes t rs n) (λ e. wave_among g left s rows ≡ Halts e)) is h

@@ -1,4 +1,4 @@
--- A whole run of numbered invocations is a run of the meaning, and what it tells is true.
+-- A whole run of numbered invocations is a run of the meaning, and what it reports is true.
 use Rattle.std.proofs.Common.{◌≡◌, ℕ, zero, suc, ◌+◌, ◌<◌, ◌≤◌, ◌^◌, ℤ, List, [], ◌∷◌, ◌++◌, map, length, Option, Some, None, slice_get, IsPermutation, refl, sym, ap, ◌∙◌, subst, arith, append-nil}
 use Rattle.std.proofs.lemmas.List.Sorted.{IsPermutation-refl}
 use Rattle.std.proofs.lemmas.Option.{same_Some}
@@ -138,7 +138,7 @@ module _ (g : Graph) (text : HasText g) (well : WellFormed g) (inputs : List ℤ
   whole : (steps : ℕ) → steps < 2 ^ 64 → RunOut g inputs steps (run_of g steps (start_of g inputs))
   whole steps low = run_law steps 0 steps (omega arith) low (start_of g inputs) (begins g well inputs)
 
-  -- WHAT IS TOLD
+  -- WHAT IS REPORTED
   ends_in : (steps : ℕ) (o : Option (MeanEnd × Plain)) → RunOut g inputs steps o → (r : MeanEnd × List (Option Value) × List Full)
       × (end_result_of g o ≡ Some r)
   ends_in steps None h = absurd h

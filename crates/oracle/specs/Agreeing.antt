@@ -1,5 +1,5 @@
 -- How the steps of a run of numbered invocations agree with the meaning, whose invocations have names. What holds of whole
--- runs stands in Reporting.
+-- runs is in Reporting.
 use Rattle.std.specs.Prelude.{◌≡◌, ℕ, suc, List, [], ◌∷◌, ◌++◌, map, Some, if◌then◌else◌, IsPermutation, ⊤}
 use Rattle.tags.specs.declared.value.Value.{Value}
 use Rattle.semantics.specs.Graph.{Node, Block, Graph, flow_of, resolved_block, array_names, block_names}

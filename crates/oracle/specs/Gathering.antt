@@ -1,4 +1,4 @@
--- The waves as they are run: all tokens that came before a wave are looked at, and then all that act do so.
+-- The waves as they are run: all tokens that were there before a wave are looked at, and then all that act do so.
 use Rattle.std.specs.Prelude.{ℕ, zero, suc, ◌-◌, ℤ, List, [], ◌∷◌, ◌++◌, length, Option, Some, None, nat_lt, if◌then◌else◌}
 use Rattle.tags.specs.declared.value.Value.{Value}
 use Rattle.semantics.specs.Graph.{Graph}

@@ -1,4 +1,4 @@
--- What stands at a node's number, and which activity takes a token.
+-- What is at a node's number, and which activity takes a token.
 use Rattle.std.specs.Prelude.{ℕ, ◌+◌, ◌-◌, zero, suc, Bool, true, false, ◌&&◌, ◌==◌, List, [], ◌∷◌, length, Option, Some, None, nat_lt, slice_get, if◌then◌else◌}
 use Rattle.tags.specs.declared.value.Origin.{Origin}
 use Rattle.tags.specs.declared.value.Origin.TheVariants.{Untold, At}
@@ -26,7 +26,7 @@ abbrev pub line_in : Graph → Option (List ℕ × Block (List ℕ)) → ℕ →
 line_in g None n = Nothing
 line_in g (Some b) n = if nat_lt n b.1.inputs then Input else line_of_row g (slice_get b.1.nodes (n - b.1.inputs))
 
--- what stands at number n in the block at a place
+-- what is at number n in the block at a place
 abbrev pub line_of : Graph → ℕ → ℕ → Line
 line_of g block n = line_in g (slice_get g.blocks block) n
 

@@ -1,4 +1,4 @@
--- A map that finds invocations by the place that each was made at.
+-- A map that finds invocations by the place where each was made.
 use Rattle.std.specs.Prelude.{◌≡◌, ℕ, List, Option, None, Some, ⊤}
 use Rattle.std.specs.declared.cmp.Ordering.{Ordering}
 use Rattle.std.specs.BTreeMap.{BTreeMap, get}

@@ -17,12 +17,12 @@ use Rattle.oracle.specs.Running.{main_place, run_result}
 abbrev pub cell_at : Graph → ℕ → ℕ → ℕ
 cell_at g a i = first_cell (flow_of g) a + i
 
--- The list tells of the full cells of a memory, and of no other cell.
+-- The list has the full cells of a memory, and no other cell.
 pub record AreFull (g : Graph) (cells : ℕ → Option Value) (cells_in_order : List Full) : Type 0 where
-  -- what it tells of is a cell of that array, which holds that value
+  -- an entry is a cell of that array, which holds that value
   pub each : (k : ℕ) (f : Full) → slice_get cells_in_order k ≡ Some f → (f.index < array_len (flow_of g) f.array)
       × (cells (cell_at g f.array f.index) ≡ Some f.value)
-  -- each full cell is told of
+  -- each full cell has an entry
   pub all : (x : ℕ) (v : Value) → cells x ≡ Some v → (k : ℕ) × (f : Full) × (slice_get cells_in_order k ≡ Some f) × (x ≡ cell_at g f.array f.index)
       × (f.value ≡ v)
   -- in order of arrays and indexes, so each once
@@ -34,7 +34,7 @@ IsEnd g steps run s Rest = AtRest (flow_of g) s × NoClash (flow_of g) s
 IsEnd g steps run s (Clash a i) = (i < array_len (flow_of g) a) × Clashes (flow_of g) s (cell_at g a i)
 IsEnd g steps run s Steps = (length run ≡ steps) × ((a : Activity) × (t : State) × Step (flow_of g) a s t)
 
--- what the end says of every other run of the meaning: all runs come to a rest without a clash, or none does
+-- what the end says of every other run of the meaning: all runs reach a rest without a clash, or none does
 abbrev pub IsOutcome : Graph → List ℤ → State → MeanEnd → Type 0
 IsOutcome g inputs s Rest = IsOnlyOutcome (flow_of g) inputs s
 IsOutcome g inputs s (Clash a i) = (other : State) → Reached (flow_of g) inputs other → AtRest (flow_of g) other → NoClash (flow_of g) other → ⊥
@@ -54,13 +54,13 @@ pub record IsMeant (g : Graph) (inputs : List ℤ) (steps : ℕ) (end : MeanEnd)
   pub ended : IsEnd g steps run state end
   pub outcome : IsOutcome g inputs state end
 
--- The run of a well-formed graph always comes to an end of its own: joined tokens have a deed, and no turn has a number of
+-- The run of a well-formed graph always has one of these ends: joined tokens have a deed, and no turn has a number of
 -- 2^64 or more.
 abbrev pub RunsEnd : Type 0
 RunsEnd = (g : Graph) (inputs : List ℤ) (steps : ℕ) → HasText g → WellFormed g → length inputs ≡ inputs_at g (main_place g) → steps < 2 ^ 64
     → (r : MeanEnd × List (Option Value) × List Full) × (run_result g inputs steps ≡ Some r)
 
--- Whatever it tells is true.
+-- Whatever it reports is true.
 abbrev pub ReportsAreTrue : Type 0
 ReportsAreTrue = (g : Graph) (inputs : List ℤ) (steps : ℕ) (end : MeanEnd) (outputs : List (Option Value)) (cells_in_order : List Full) → HasText g → WellFormed g → length inputs ≡ inputs_at g (main_place g) → steps < 2 ^ 64
     → run_result g inputs steps ≡ Some (end, outputs, cells_in_order) → IsMeant g inputs steps end outputs cells_in_order

@@ -23,7 +23,7 @@ with_row rows c r d = if d == c then r else rows d
 abbrev pub no_rows : ℕ → List Token
 no_rows c = []
 
--- what comes next. The states have no list of tokens that wait: the rows stand beside them.
+-- what comes next. The states have no list of tokens that wait: the rows are given beside them.
 pub data Next : Type 0 where
   Goes : (state : Plain) (rows : ℕ → List Token) (values : List Value) (deed : Deed) → Next
   Stays : (state : Plain) (end : MeanEnd) → Next

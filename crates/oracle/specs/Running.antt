@@ -134,7 +134,7 @@ abbrev pub answered : Graph → List Invocation → ℕ → ℕ → Option Value
 answered g xs c n None = []
 answered g xs c n (Some v) = sent_in g xs (sent_of c v) n 0
 
--- a value enters an invocation, which is made where it is not there
+-- a value enters an invocation, which is made if it does not exist
 abbrev pub entered : Plain → Made → ℕ → ℕ → Value → Plain
 entered s made f i v = plain (with_made s.invocations made f) (s.fresh ++ token_at (sent_of (number_in s.invocations made) v) (Operand i 0) ∷ []) s.waiting s.deferred s.cells s.outputs
 

@@ -9,7 +9,7 @@ use Rattle.oracle.specs.declared.report.MeanEnd.{MeanEnd}
 use Rattle.oracle.specs.declared.report.MeanEnd.TheVariants.{Rest, Clash, Steps}
 use Rattle.oracle.specs.Reporting.{cell_at, IsOutcome}
 
--- The activities are just those that are enabled in the state, each once. A fetch is enabled only where its cell is full in
+-- The activities are exactly those that are enabled in the state, each once. A fetch is enabled only where its cell is full in
 -- that state, and a store only where it is empty.
 pub record AreEnabled (fl : Flow) (s : State) (acts : List Activity) : Type 0 where
   -- all tokens that they take are there at once: none is taken by two
@@ -47,10 +47,10 @@ pub record AreWavesOf (g : Graph) (inputs : List ℤ) (steps : ℕ) (end : MeanE
   pub waves : AreWaves (flow_of g) (start inputs) counts state
   pub few : work counts ≤ steps
   pub ended : IsLastWave g steps counts state end
-  -- what the end says of every other run: after a rest all runs come to it, after a clash none comes to rest without one
+  -- what the end says of every other run: after a rest all runs reach it, after a clash none reaches rest without one
   pub outcome : IsOutcome g inputs state end
 
--- The work does not hang on the order: each run of the meaning to rest has as many activities as there are in the waves. And there
+-- The work does not depend on the order: each run of the meaning to rest has as many activities as there are in the waves. And there
 -- are no more waves than activities.
 abbrev pub WorkIsOne : Type 0
 WorkIsOne = (g : Graph) (inputs : List ℤ) (steps : ℕ) (counts : List ℕ) → WellFormed g → AreInputsOf g inputs → AreWavesOf g inputs steps Rest counts

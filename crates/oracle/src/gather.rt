@@ -1,4 +1,4 @@
-//! The partners of a token. The tokens that wait stand in rows, one for each invocation, and only those of a token's own
+//! The partners of a token. The tokens that wait are in rows, one for each invocation, and only those of a token's own
 //! invocation are searched.
 
 ghost use Rattle.std.specs.Prelude.{◌≡◌, ◌<◌, ◌++◌, length, map, IfOk, IfSome, OnOk};
@@ -9,7 +9,7 @@ use crate::tokens::{Spot, Token, same_spot};
 use std::alloc::{AllocError, Allocator};
 use tags::value::Value;
 
-/// The tokens that wait in one invocation, in the order in which they came.
+/// The tokens that wait in one invocation, in the order in which they arrived.
 pub type Row<A> = Vec<Token, A>;
 
 /// Adds empty rows, up to that of the invocation.
@@ -66,7 +66,7 @@ pub fn all_there(waiting: &[Token], token: &Token, spots: &[Spot]) -> bool
     true
 }
 
-/// Takes the token's partner at a spot out, and gives the value there, if there is one.
+/// Takes the token's partner at a spot out, and returns the value there, if there is one.
 fn take_one<A: Allocator>(waiting: &mut Vec<Token, A>, token: &Token, spot: Spot) -> Option<Value>
     ensures left { waiting.new.items ≡ Acting.remaining_after token.now spot waiting.old.items }
     ensures value { Acting.as_list result ≡ Acting.value_here token.now spot waiting.old.items }
@@ -80,7 +80,7 @@ fn take_one<A: Allocator>(waiting: &mut Vec<Token, A>, token: &Token, spot: Spot
     }
 }
 
-/// Takes the partners of the token out, and gives the values at all these spots in order, in the list that it is given.
+/// Takes the partners of the token out, and returns the values at all these spots in order, in the list that it is given.
 pub fn take_out<A: Allocator, B: Allocator>(
     mut values: Vec<Value, B>,
     waiting: &mut Vec<Token, A>,

@@ -1,4 +1,4 @@
-//! The invocations of blocks, numbered: each is named by the place that it was made at, and found by it in a map.
+//! The invocations of blocks, numbered: each is named by the place where it was made, and found by it in a map.
 
 ghost use Rattle.std.specs.Prelude.{◌≡◌, ◌++◌, ◌∷◌, [], None, Some, length, slice_get, IfOk, IfSome, OnOk, OnErr};
 ghost use Rattle.oracle.specs.Running as Running;
@@ -29,7 +29,7 @@ pub struct Numbered {
     pub number: usize,
 }
 
-/// The invocations in the order in which they were made, and the number of each by the place that it was made at. Values enter an
+/// The invocations in the order in which they were made, and the number of each by the place where it was made. Values enter an
 /// invocation one after the other, so the one that was asked for last is looked at first.
 #[derive(Drop)]
 pub struct Invocations<A: Allocator> {

@@ -6,7 +6,7 @@ ghost use Rattle.oracle.specs.Reporting.{RunsEnd, ReportsAreTrue};
 ghost use Rattle.oracle.specs.Waves.{WorkIsOne, SpanIsLow};
 
 /// What the steps of a run do is what the meaning says: each join of a token with its partners is an activity of the
-/// meaning, with its deed, and no other token is touched; a deed names only what is there; an invocation that is entered
+/// meaning, with its deed, and no other token is touched; a deed names only what exists; an invocation that is entered
 /// has one number, and all others keep theirs; what is sent on a port is what the meaning sends.
 pub fn steps_agree()
     ensures joins { JoinsAgree }
@@ -15,14 +15,14 @@ pub fn steps_agree()
     ensures sending { SendingAgrees }
 {}
 
-/// The run that `mean` makes comes to an end on each well-formed graph, within any number of steps below 2^64: it never meets
-/// joined tokens without a deed, nor a turn whose number is above the greatest u64. And what it tells is true of the meaning.
+/// The run that `mean` makes has an end on each well-formed graph, within any number of steps below 2^64: it never meets
+/// joined tokens without a deed, nor a turn whose number is above the greatest u64. And what it reports is true of the meaning.
 pub fn runs_are_meant()
     ensures ends { RunsEnd }
     ensures reports { ReportsAreTrue }
 {}
 
-/// What the waves say of every schedule. The work does not hang on the order: each run of the meaning to rest has just as many
+/// What the waves say of every schedule. The work does not depend on the order: each run of the meaning to rest has as many
 /// activities as the waves have in all. And there are at most as many waves as activities.
 pub fn waves_are_meant()
     ensures work { WorkIsOne }

@@ -1,4 +1,4 @@
-//! What a graph means, run plainly: a list of tagged tokens is rewritten one activity at a time (Arvind and Nikhil, IEEE
+//! What a graph means, by a plain run: a list of tagged tokens is rewritten one activity at a time (Arvind and Nikhil, IEEE
 //! Transactions on Computers 39(3), 1990).
 #![tactic(auto)]
 

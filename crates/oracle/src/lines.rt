@@ -1,4 +1,4 @@
-//! What stands at a node's number, with names looked up.
+//! What is at a node's number, with names looked up.
 
 ghost use Rattle.std.specs.Prelude.{◌≡◌, ◌≤◌, ◌+◌, Some, slice_get, option_copied};
 ghost use Rattle.semantics.specs.Versions.{version_number};
@@ -11,7 +11,7 @@ use semantics::version::Version;
 use std::alloc::Allocator;
 use tags::value::{NodeNumber, Origin};
 
-/// What stands at a node's number in a block.
+/// What is at a node's number in a block.
 #[derive(Debug, Drop)]
 pub enum Line {
     Input,
@@ -53,7 +53,7 @@ fn resolved<'a, A: Allocator>(checked: &Checked<'a, A>, kind: &Kind<Name<'a>>) -
     }
 }
 
-/// What stands at that number in the block at that place.
+/// What is at that number in the block at that place.
 pub fn line_at<'a, A: Allocator>(checked: &Checked<'a, A>, block: usize, node: usize) -> Line
     ensures { result ≡ Lines.line_of checked.now block node }
 {

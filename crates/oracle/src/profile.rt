@@ -42,13 +42,13 @@ fn run_waves<'a, A: Allocator + Clone>(
 /// unlimited processors: every activity that is enabled at the beginning of a wave happens in it, and no other, so that what
 /// they make is used in later waves.
 ///
-/// Each count is how many activities a wave of the meaning has, in order from the first. `Rest` is told only where after the last
-/// wave no activity is enabled and no store clashes. `Clash` is told where the activities that are enabled after the last wave, done
-/// one after the other, come to a store at a full cell, which is that one: so a wave with two stores to one cell is none.
-/// `Steps` is told where the next wave would bring the activities above the number that is allowed: a wave is never cut.
+/// Each count is how many activities a wave of the meaning has, in order from the first. `Rest` is reported only if after the last
+/// wave no activity is enabled and no store clashes. `Clash` is reported if the activities that are enabled after the last wave, done
+/// one after the other, lead to a store at a full cell, which is that one: so no wave has two stores to one cell.
+/// `Steps` is reported if the next wave would bring the activities above the number that is allowed: a wave is never cut.
 ///
-/// `WrongInputs` comes first: there are not as many inputs as main has. `Memory` is answered where a growth was refused, and
-/// only there.
+/// `WrongInputs` is checked first: the number of inputs is not that of main. `Memory` is returned if a growth was refused, and
+/// only then.
 pub fn waves<'a, A: Allocator + Clone>(
     alloc: A,
     checked: &Checked<'a, A>,

@@ -1,4 +1,4 @@
-//! What is told of a run.
+//! What is reported of a run.
 
 use std::alloc::Allocator;
 use std::error::Error;
@@ -10,7 +10,7 @@ use tags::value::Value;
 pub enum MeanEnd {
     /// No activity is enabled, and no store waits at a full cell.
     Rest,
-    /// A store came to a full cell, which is that one.
+    /// A store met a full cell, which is that one.
     Clash { array: usize, index: u32 },
     /// As many activities as were allowed were done, and one more is enabled.
     Steps,
@@ -43,7 +43,7 @@ pub struct WaveReport<A: Allocator> {
 /// Why a graph was not run.
 #[derive(Clone, Copy, Debug, Drop, PartialEq, Eq)]
 pub enum MeanFault {
-    /// There are not as many inputs as the block has that is run.
+    /// The number of inputs is not that of the block that is run.
     WrongInputs,
     /// A growth was refused.
     Memory,

@@ -210,13 +210,13 @@ fn run_to_end<'a, A: Allocator + Clone>(
 /// operands and a full cell, or where one more activity than allowed is enabled.
 ///
 /// The report is true of the meaning: a run of at most `steps` of its activities, in some order, reaches a state that has
-/// just the outputs and the full cells that are told. `Rest` is told only where no activity is enabled in that state and no
-/// store clashes, `Clash` only where a store clashes at that cell, and `Steps` only after exactly `steps` activities with one
-/// more enabled. A rest is the only outcome: every other order of activities comes to the same one. After a clash none comes
-/// to rest without one.
+/// exactly the outputs and the full cells that are reported. `Rest` is reported only if no activity is enabled in that state and no
+/// store clashes, `Clash` only if a store clashes at that cell, and `Steps` only after exactly `steps` activities with one
+/// more enabled. A rest is the only outcome: every other order of activities leads to the same one. After a clash none reaches
+/// rest without one.
 ///
-/// `WrongInputs` comes first: there are not as many inputs as main has. `Memory` is answered where a growth was refused, and
-/// only there: no run comes to joined tokens without a deed, nor to a turn whose number is above the greatest u64.
+/// `WrongInputs` is checked first: the number of inputs is not that of main. `Memory` is returned if a growth was refused, and
+/// only then: no run meets joined tokens without a deed, or a turn whose number is above the greatest u64.
 pub fn mean<'a, A: Allocator + Clone>(
     alloc: A,
     checked: &Checked<'a, A>,

@@ -21,11 +21,11 @@ use std::collections::VecDeque;
 use std::mem;
 use tags::value::Value;
 
-/// The list of tokens has three parts, in this order. A token that was looked at and could not act goes after.
+/// The list of tokens has three parts, in this order. A token that was looked at and could not act goes to a later part.
 #[derive(Drop)]
 pub struct State<A: Allocator> {
     pub invocations: Invocations<A>,
-    /// Tokens that were not looked at since they came.
+    /// Tokens that were not looked at since they arrived.
     pub fresh: VecDeque<Token, A>,
     /// Tokens with partners that are not among those that wait, in a row for each invocation.
     pub waiting: Vec<Row<A>, A>,
@@ -254,7 +254,7 @@ fn send_from<'a, A: Allocator + Clone>(
     }
 }
 
-/// Tells a predicate to the arms of a conditional of an invocation.
+/// Sends a predicate to the arms of a conditional of an invocation.
 fn steer_at<'a, A: Allocator>(
     checked: &Checked<'a, A>,
     fresh: &mut VecDeque<Token, A>,
@@ -270,7 +270,7 @@ fn steer_at<'a, A: Allocator>(
     }
 }
 
-/// Tells a predicate to the arms of a conditional.
+/// Sends a predicate to the arms of a conditional.
 fn steer_from<'a, A: Allocator + Clone>(
     checked: &Checked<'a, A>,
     invocations: &Invocations<A>,
@@ -286,7 +286,7 @@ fn steer_from<'a, A: Allocator + Clone>(
     }
 }
 
-/// All deferred fetches are to be looked at again.
+/// All deferred fetches will be looked at again.
 fn wake<A: Allocator>(
     fresh: &mut VecDeque<Token, A>,
     deferred: &mut Vec<Token, A>,
@@ -307,7 +307,7 @@ fn append<A: Allocator>(fresh: &mut VecDeque<Token, A>, tokens: &[Token]) -> Res
     Ok(())
 }
 
-/// Fills a place, if it is there.
+/// Fills a place, if it exists.
 fn fill(places: &mut [Option<Value>], place: usize, value: Value)
     ensures { places.new ≡ Acting.filled_in places.old place value }
 {
@@ -334,7 +334,7 @@ fn send_value<'a, A: Allocator + Clone>(
     send_from(checked, invocations, &mut state.fresh, &sent, node, port)
 }
 
-/// Tells a predicate to the arms of a conditional.
+/// Sends a predicate to the arms of a conditional.
 fn steer_value<'a, A: Allocator + Clone>(
     checked: &Checked<'a, A>,
     state: &mut State<A>,
@@ -350,7 +350,7 @@ fn steer_value<'a, A: Allocator + Clone>(
     steer_from(checked, &state.invocations, &mut state.fresh, &sent, cond)
 }
 
-/// Sends a value to an input of the invocation of that name, which is made where it is not there.
+/// Sends a value to an input of the invocation of that name, which is made if it does not exist.
 fn enter_value<A: Allocator + Clone>(
     state: &mut State<A>,
     made: &Made,

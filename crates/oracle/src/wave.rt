@@ -1,4 +1,4 @@
-//! A wave: all tokens that came before it are looked at, and then all that act do so.
+//! A wave: all tokens that were there before it are looked at, and then all that act do so.
 
 ghost use Rattle.std.specs.Prelude.{◌≡◌, ◌≢◌, ◌≤◌, ◌<◌, [], map, IfOk, MatchResult};
 ghost use Rattle.oracle.specs.Lines.{total_of};
@@ -11,7 +11,7 @@ use crate::state::{Act, Gate, State, ask, join_among, perform};
 use graph_check::Checked;
 use std::alloc::{AllocError, Allocator};
 
-/// Looks at all fresh tokens, and gives the activities that act. None is done yet. A store to a full cell is the end.
+/// Looks at all fresh tokens, and returns the activities that act. None is done yet. A store to a full cell is the end.
 fn gather<'a, A: Allocator + Clone>(
     checked: &Checked<'a, A>,
     state: &mut State<A>,
@@ -60,8 +60,8 @@ fn perform_all<'a, A: Allocator + Clone>(
     Ok(Ok(()))
 }
 
-/// Does a wave of at most `left` activities, and gives how many there were. Where no activity is enabled, a store clashes, or
-/// the wave has more, there is none.
+/// Does a wave of at most `left` activities, and returns how many there were. If no activity is enabled, a store clashes, or
+/// the wave has more, there is no wave, and the end is returned.
 pub fn next_wave<'a, A: Allocator + Clone>(
     checked: &Checked<'a, A>,
     state: &mut State<A>,

@@ -34,7 +34,7 @@ parts_back s p y hs small =
     ∙ ap (λ x. fields y p.kind x (head_of s p / 4294967296)) ep
     ∙ ap (λ x. fields y p.kind p.port x) eh
 
--- what stands in bits 0 to 7 tells nothing of the word
+-- what is in bits 0 to 7 says nothing of the word
 pub cleared_parts : (x y : ℕ) → parts_from (x / 256 * 256) y ≡ parts_from x y
 cleared_parts x y =
     let ek : x / 256 * 256 / 256 % 256 ≡ x / 256 % 256 = omega arith in

@@ -1,5 +1,5 @@
--- A token as four words of 64 bits. Words 0 and 1 are those of a slot in which the token's word lies, but that bits 0 to 7
--- tell where the token goes. To an instruction they are those of the slot where the word waits: 1 for the left port, 2 for
+-- A token as four words of 64 bits. Words 0 and 1 are those of a slot in which the token's word lies, except that bits 0 to 7
+-- say where the token goes. To an instruction they are those of the slot where the word waits: 1 for the left port, 2 for
 -- the right one. Word 2 has the frame and the instruction, the cell, the frame or the host's port, and in a store the kind
 -- of the value; word 3 is word 1 of that value.
 use Rattle.std.specs.Prelude.{◌≡◌, ◌==◌, ℕ, ◌+◌, ◌*◌, ◌/◌, ◌%◌, ◌<◌, List, [], ◌∷◌, ⊤, if◌then◌else◌}

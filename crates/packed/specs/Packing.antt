@@ -1,4 +1,4 @@
--- A slot's state as two words of 64 bits. Word 0: bits 0 to 7 tell the state, bits 8 to 15 the kind of its word, bit 16
+-- A slot's state as two words of 64 bits. Word 0: bits 0 to 7 are the state, bits 8 to 15 the kind of its word, bit 16
 -- the port of a continuation, and bits 32 to 63 its instruction or the host's port. Word 1 is the integer, the number
 -- of the frame, the count, or the code of a fault's origin.
 use Rattle.std.specs.Prelude.{◌≡◌, ◌==◌, ℕ, ◌+◌, ◌-◌, ◌*◌, ◌/◌, ◌%◌, ◌<◌, List, [], ◌∷◌, ⊤, if◌then◌else◌}
@@ -15,7 +15,7 @@ use Rattle.tags.specs.declared.slot.SlotState.{SlotState}
 use Rattle.tags.specs.declared.slot.SlotState.TheVariants.{Empty, Left, Right, Credits, Waiter, Draining}
 use Rattle.tags.specs.Packed.{origin_code, IsValue}
 
--- the kind of a word, the port and what stands from bit 32 on, and word 1
+-- the kind of a word, the port and what is from bit 32 on, and word 1
 pub record Parts : Type 0 where
   pub kind : ℕ
   pub port : ℕ

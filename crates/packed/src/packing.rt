@@ -9,7 +9,7 @@ use tags::slot::SlotState;
 use tags::token::{Cont, Port, Word};
 use tags::value::{FaultKind, NodeNumber, Origin, Value};
 
-/// What is told of a word: its kind, the port of a continuation, what stands from bit 32 of word 0 on, and word 1.
+/// The fields of a word: its kind, the port of a continuation, what is from bit 32 of word 0 on, and word 1.
 #[derive(Clone, Copy)]
 pub struct Fields {
     pub kind: u8,
@@ -33,7 +33,7 @@ impl Fields {
         [head, self.body]
     }
 
-    /// The fields that two words tell.
+    /// The fields that two words have.
     #[inline(always)]
     pub fn from_words(head: u64, body: u64) -> Fields
         ensures { parts_of result ≡ parts_from head body }

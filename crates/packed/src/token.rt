@@ -48,7 +48,7 @@ pub struct Input {
     pub port: Port,
 }
 
-/// Where a token goes, as it is packed: what stands in bits 0 to 7 of word 0, and words 2 and 3.
+/// Where a token goes, as it is packed: what is in bits 0 to 7 of word 0, and words 2 and 3.
 #[derive(Clone, Copy, Debug, PartialEq, Eq)]
 struct Address {
     state: u8,
@@ -56,7 +56,7 @@ struct Address {
     value: u64,
 }
 
-// What stands in bits 0 to 7 where a word waits on the port.
+// What is in bits 0 to 7 where a word waits on the port.
 #[inline(always)]
 fn state_of(port: Port) -> u8
     ensures { result ≡ port_state port }
@@ -99,7 +99,7 @@ impl Address {
     }
 }
 
-// The value of which the kind and word 1 are these.
+// The value that has this kind and this word 1.
 fn value_of(kind: u64, body: u64) -> Value
     ensures { result ≡ value_from kind body }
 {

@@ -9,7 +9,7 @@ use crate::packing::Fields;
 use std::marker::Model;
 use tags::token::Word;
 
-/// A word in two words of 64 bits, those of a slot in which it waits but for bits 0 to 7, which are 0 here.
+/// A word in two words of 64 bits, those of a slot in which it waits except for bits 0 to 7, which are 0 here.
 #[derive(Clone, Copy)]
 pub struct PackedWord {
     head: u64,
@@ -57,7 +57,7 @@ impl PackedWord {
         }
     }
 
-    /// The word that is packed in two words, whatever stands in bits 0 to 7 of the first one.
+    /// The word that is packed in two words, whatever is in bits 0 to 7 of the first one.
     #[inline(always)]
     pub fn from_words(head: u64, body: u64) -> PackedWord
         requires { AreWords head body }

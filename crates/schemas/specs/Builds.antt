@@ -17,7 +17,7 @@ use Rattle.semantics.specs.Plan.{is_open, is_credit}
 use Rattle.semantics.specs.Wired.{is_dyadic}
 use Rattle.schemas.specs.declared.builder.Outlet.{Outlet}
 
--- `regions`: that of each instruction, but a switch's mark tells it. `exits`: where the first output port of each node leaves.
+-- `regions`: that of each instruction, except that the region of a switch is given by its mark. `exits`: where the first output port of each node leaves.
 pub record Build : Type 0 where
   pub instrs : List Instr
   pub marks : List Mark

@@ -1,4 +1,4 @@
--- What the code of a block rests on.
+-- What the code of a block depends on.
 use Rattle.std.specs.Prelude.{ℕ, Bool, List, [], Option, Some, None}
 use Rattle.semantics.specs.declared.graph.Source.{Source}
 use Rattle.semantics.specs.Graph.{Node, Block, node_at}

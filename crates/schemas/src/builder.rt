@@ -54,7 +54,7 @@ pub(crate) struct Builder<A: Allocator> {
     instrs: Vec<Instr<A>, A>,
     /// The mark of each instruction.
     marks: Vec<Mark, A>,
-    /// The region of each instruction; that of a switch is told by its mark.
+    /// The region of each instruction; that of a switch is given by its mark.
     regions: Vec<Region, A>,
     /// How many holders there are.
     holders: u32,
@@ -120,7 +120,7 @@ impl<A: Allocator + Clone> Builder<A> {
         }
     }
 
-    /// Adds an instruction that goes nowhere yet, and answers its place.
+    /// Adds an instruction that goes nowhere yet, and returns its place.
     pub fn add(
         &mut self,
         op: Op,
@@ -166,7 +166,7 @@ impl<A: Allocator + Clone> Builder<A> {
         self.add(op, Origin::Untold, Mark::Unmarked, region)
     }
 
-    /// Lets what leaves there go to a port of the instruction at a place.
+    /// Connects what leaves there to a port of the instruction at a place.
     pub fn connect(&mut self, from: Outlet, to: u32, port: Port) -> Result<(), AllocError>
         ensures exact { OnOk result (self.new ≡ Builds.connected self.old from to port) }
         ensures same { OnOk result (length self.new.instrs ≡ length self.old.instrs) }
@@ -219,7 +219,7 @@ impl<A: Allocator + Clone> Builder<A> {
         }
     }
 
-    /// Tells where the ports of the next node leave.
+    /// Notes where the ports of the next node leave.
     pub fn exit(&mut self, outlet: Outlet) -> Result<(), AllocError>
         ensures exact { OnOk result (self.new ≡ Builds.exited self.old outlet) }
         ensures same { OnOk result (length self.new.instrs ≡ length self.old.instrs) }
@@ -230,7 +230,7 @@ impl<A: Allocator + Clone> Builder<A> {
 }
 
 impl<A: Allocator + Clone> Builder<A> {
-    /// Adds an instruction whose left port takes what leaves there, and answers its place.
+    /// Adds an instruction whose left port takes what leaves there, and returns its place.
     pub fn behind(&mut self, from: Outlet, op: Op, region: Region) -> Result<u32, AllocError>
         requires room { length self.old.instrs < 2 ^ 31 }
         ensures place { IfOk result (λ p. p ≡ length self.old.instrs) }
@@ -242,7 +242,7 @@ impl<A: Allocator + Clone> Builder<A> {
         Ok(place)
     }
 
-    /// Adds an instruction at which two words meet, and answers its place.
+    /// Adds an instruction at which two words meet, and returns its place.
     pub fn meet(
         &mut self,
         op: Op,
@@ -262,7 +262,7 @@ impl<A: Allocator + Clone> Builder<A> {
         Ok(place)
     }
 
-    /// Lets output ports go to the two ports of the instruction at a place, the first one to the left one.
+    /// Connects output ports to the two ports of the instruction at a place, the first one to the left one.
     pub fn operands(&mut self, place: u32, sources: &[Source]) -> Result<(), AllocError>
         ensures exact { OnOk result (self.new ≡ Builds.operands self.old place 0 sources.now) }
         ensures same { OnOk result (length self.new.instrs ≡ length self.old.instrs) }
@@ -274,7 +274,7 @@ impl<A: Allocator + Clone> Builder<A> {
         Ok(())
     }
 
-    /// Lets output ports all go to the left port of the instruction at a place.
+    /// Connects all these output ports to the left port of the instruction at a place.
     pub fn alternatives(&mut self, place: u32, sources: &[Source]) -> Result<(), AllocError>
         ensures exact { OnOk result (self.new ≡ Builds.alternatives self.old place sources.now) }
         ensures same { OnOk result (length self.new.instrs ≡ length self.old.instrs) }
@@ -308,7 +308,7 @@ impl<A: Allocator + Clone> Builder<A> {
     }
 }
 
-/// The port of an operand: the first one comes at the left.
+/// The port of an operand: the first one arrives at the left.
 fn side(position: usize) -> Port
     ensures { result ≡ Builds.side position }
 {

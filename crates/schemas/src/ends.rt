@@ -34,7 +34,7 @@ fn push_if<A: Allocator>(
     Ok(())
 }
 
-/// Whether an instruction is an end of its region: it goes nowhere, and is no `take`, which answers another frame alone.
+/// Whether an instruction is an end of its region: it goes nowhere, and is no `take`, which answers only another frame.
 fn is_end<A: Allocator>(instr: &Instr<A>) -> bool
     ensures { result ≡ Ends.is_end instr.now }
 {
@@ -153,7 +153,7 @@ fn join_ends<A: Allocator + Clone>(
     Ok(signal)
 }
 
-/// Lets a signal, if there is one, go to a port.
+/// Connects a signal, if there is one, to a port.
 fn connect_signal<A: Allocator + Clone>(
     builder: &mut Builder<A>,
     signal: Option<Outlet>,
@@ -193,7 +193,7 @@ fn push_copy<A: Allocator + Clone>(
     Ok(())
 }
 
-/// The end of a conditional of whose arms these are the signals: the copy, or nothing where there is neither signal.
+/// The end of a conditional whose arms have these signals: the copy, or nothing where there is neither signal.
 fn end_arms<A: Allocator + Clone>(
     builder: &mut Builder<A>,
     ends: &mut Vec<End, A>,
@@ -219,7 +219,7 @@ fn end_arms<A: Allocator + Clone>(
 /// In a well-formed graph both arms have ends or neither has one. The first node of an arm is an `enter`, whose other side
 /// is an end of the other arm. So if both arms have nodes, both have ends. If one alone has nodes, no merge takes from it,
 /// and it has an end of its own: the done signal of a call or a loop, the copy of a conditional in whose arms there are
-/// nodes, or else the last of its nodes that have code, from which nothing takes. A trigger switch stands only where a call
+/// nodes, or else the last of its nodes that have code, from which nothing takes. There is a trigger switch only where a call
 /// or a loop is in an arm, and its other side leads to one or is an end.
 #[tactic(auto, unfolding(crate::specs::Ends::closed))]
 pub(crate) fn close<A: Allocator + Clone>(
@@ -259,7 +259,7 @@ fn close_node<A: Allocator + Clone>(
 }
 
 /// The ends of the conditionals among such nodes, whose first one has that number: the last conditional first, so that
-/// each comes before those that it lies in.
+/// each is before those that it lies in.
 #[tactic(auto, unfolding(crate::specs::Ends::closed_nodes))]
 pub(crate) fn close_nodes<A: Allocator + Clone>(
     builder: &mut Builder<A>,

@@ -6,8 +6,8 @@
 //! nodes in their order, each with what belongs to it; the returns, or the turn of an iteration; the joins of the ends,
 //! from the last conditional to the first one; and `release`. Every arc goes forward.
 //!
-//! An end is an instruction, or a side of a switch, that goes nowhere in its region: `release` comes when all ends of the
-//! root have come, and an end of an arm counts when the arm is taken (explicit token store: Papadopoulos and Culler, ISCA
+//! An end is an instruction, or a side of a switch, that goes nowhere in its region: `release` fires when all ends of the
+//! root have arrived, and an end of an arm counts when the arm is taken (explicit token store: Papadopoulos and Culler, ISCA
 //! 1990; tagged tokens and bounded loops: Arvind and Nikhil, IEEE Transactions on Computers 1990).
 #![tactic(auto)]
 
@@ -35,7 +35,7 @@ use std::alloc::{AllocError, Allocator};
 
 /// The plan of a checked graph.
 ///
-/// It takes all rooms from the allocator, and fails only where a growth is refused. Then nothing is left of the plan.
+/// It takes all its memory from the allocator, and fails only where a growth is refused. Then nothing is left of the plan.
 pub fn expand<'a, A: Allocator + Clone>(
     alloc: A,
     checked: &Checked<'a, A>,

@@ -28,7 +28,7 @@ pub(crate) fn operator<A: Allocator + Clone>(
     builder.exit(Outlet::first(place))
 }
 
-/// A `fetch` or a `store` whose answer has several uses: its instruction, and a copy that the answer comes to.
+/// A `fetch` or a `store` whose answer has several uses: its instruction, and a copy that the answer goes to.
 pub(crate) fn shared_answer<A: Allocator + Clone>(
     builder: &mut Builder<A>,
     op: Op,
@@ -150,7 +150,7 @@ fn sends<A: Allocator + Clone>(
 }
 
 /// The invocation of a block in the frame that is asked for there: a copy of the frame, `link`, one `send` for each
-/// source, and the copies that the outputs come to, which begin the landing.
+/// source, and the copies that the outputs go to, which begin the landing.
 fn invoke<A: Allocator + Clone>(
     builder: &mut Builder<A>,
     frame: u32,
@@ -174,8 +174,8 @@ fn invoke<A: Allocator + Clone>(
     builder.exit(Outlet::first(landing))
 }
 
-/// The invocation of a block in a frame that is asked for when a signal comes: `frame`, the invocation, and the copy
-/// that the done signal comes to, an end.
+/// The invocation of a block in a frame that is asked for when a signal arrives: `frame`, the invocation, and the copy
+/// that the done signal goes to, an end.
 #[tactic(auto, unfolding(crate::specs::Rows::called))]
 fn called<A: Allocator + Clone>(
     builder: &mut Builder<A>,
@@ -215,7 +215,7 @@ pub(crate) fn call<A: Allocator + Clone>(
     called(builder, trigger, block, outputs, region, sources)
 }
 
-/// Joins what leaves there with each of the sources, and answers where the signal leaves.
+/// Joins what leaves there with each of the sources, and returns where the signal leaves.
 fn join_sources<A: Allocator + Clone>(
     builder: &mut Builder<A>,
     first: Outlet,
@@ -261,7 +261,7 @@ pub(crate) fn strict_call<A: Allocator + Clone>(
     }
 }
 
-/// The rest of a loop's landing: `give`, `take` and `drain`, and the copy that the end of the loop comes to, an end.
+/// The rest of a loop's landing: `give`, `take` and `drain`, and the copy that the end of the loop goes to, an end.
 fn credits<A: Allocator + Clone>(
     builder: &mut Builder<A>,
     bound: u8,

@@ -1,4 +1,4 @@
-//! What the code of a block rests on.
+//! What the code of a block depends on.
 
 ghost use Rattle.std.specs.Prelude.{◌≡◌, ◌<◌, ◌≤◌, Some};
 ghost use Rattle.semantics.specs.Versions.{version_number};
@@ -14,7 +14,7 @@ use std::alloc::Allocator;
 use std::marker::Model;
 use tags::value::{NodeNumber, Origin};
 
-/// A block with what its code rests on: its number, all blocks, the numbers of the loop variants' code, which of its
+/// A block with what its code depends on: its number, all blocks, the numbers of the loop variants' code, which of its
 /// conditionals have triggers that something takes, and how often its nodes are used. Contracts see the record of these.
 #[derive(Drop)]
 pub(crate) struct Scope<'b, A: Allocator> {
@@ -36,7 +36,7 @@ impl<'b, A: Allocator> Model for Scope<'b, A> {
     ghost view = { λ s. record { version = version_number s.version; number = s.number; blocks = s.blocks.now; variants = s.variants.now; block = s.block.now; triggers = s.triggers.now; uses = s.uses.now } };
 }
 
-/// Where a fault of that node says that it was made: only faults of the second version say it.
+/// The origin of a fault of that node: only faults of the second version have one.
 pub(crate) fn origin_of(version: Version, block: u8, node: u32) -> Origin
     requires { node < 1024 }
     ensures { result ≡ origin_in (version_number version) (Some block) node }

@@ -103,7 +103,7 @@ fn last_values<A: Allocator + Clone>(
     Ok(())
 }
 
-/// Where what an iteration hands on leaves: the switches of the continuation and of the flag, and the first one of the
+/// Where what an iteration passes on leaves: the switches of the continuation and of the flag, and the first one of the
 /// values' switches, which are in a row.
 #[derive(Clone, Copy)]
 pub struct Turn {

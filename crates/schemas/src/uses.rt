@@ -91,7 +91,7 @@ fn note_conditional(uses: &mut [Uses], triggered: bool, sources: &[Source])
     }
 }
 
-/// Notes what the node of that number takes. A strict call joins its sources besides, so each has two destinations there.
+/// Notes what the node of that number takes. A strict call also joins its sources, so each has two destinations there.
 fn note_node<A: Allocator>(
     uses: &mut [Uses],
     block: &Block<A>,

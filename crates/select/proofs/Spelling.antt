@@ -148,7 +148,7 @@ slot_there ss b i j (Give k) s e h = slot_is ss b i j s e (h i.slot refl)
 slot_there ss b i j (Drain k) s e h = slot_is ss b i j s e (h i.slot refl)
 slot_there ss b i j (Release o) s e h = slot_is ss b i j s e (h i.slot refl)
 
--- an operand that is there in the plan is there in its code
+-- an operand that exists in the plan exists in its code
 pub operand_there : (p q : Program) (ls : List ℤ) (op : Op) → q.arrays ≡ p.arrays → length q.blocks ≡ length p.blocks
     → ((b : ℕ) (c : CodeBlock) → slice_get p.blocks b ≡ Some c → (x : CodeBlock) × (slice_get q.blocks b ≡ Some x) × (x.inputs ≡ c.inputs))
     → All (Contains ls) (as_list (literal_of op)) → HasOperand (with_table p (as_list (literal_of op))) op → HasOperand (with_table q ls) op

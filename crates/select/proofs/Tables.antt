@@ -1,4 +1,4 @@
--- The table of literals ascends, and has just the literals that instructions use.
+-- The table of literals ascends, and has exactly the literals that instructions use.
 use Rattle.std.proofs.Common.{◌≡◌, ℕ, zero, suc, ◌+◌, ◌≤◌, ℤ, Bool, true, false, Some, None, List, [], ◌∷◌, length, refl, ap, sym, ◌∙◌, subst, All, Contains, cond, Ordering, add-one, arith}
 use Rattle.std.specs.Prelude.{slice_get, int_lt, nat_lt}
 use Rattle.std.specs.Ordering.{int_cmp, match_ordering}

@@ -1,4 +1,4 @@
--- Which plans with slots have an object, but for the sizes that are refused.
+-- Which plans with slots have an object, except for the sizes that are refused.
 use Rattle.std.specs.Prelude.{◌≡◌, ℕ, ◌+◌, ◌<◌, ◌≤◌, ℤ, List, length, sum, Some, slice_get, All}
 use Rattle.semantics.specs.Program.{Instr, CodeBlock, Program, Code}
 use Rattle.semantics.specs.Plan.{Plan}
@@ -12,7 +12,7 @@ use Rattle.select.specs.Literals.{literal_of, as_list}
 abbrev pub with_table : Program → List ℤ → Code
 with_table p ls = record { program = p; literals = ls }
 
--- The n-th instruction of a block whose holders have these slots: its operand is there, its origin is a node, its holder
+-- The n-th instruction of a block whose holders have these slots: its operand exists, its origin is a node, its holder
 -- has a slot, it has at most two destinations and as many as its kind has, and each is a later instruction of the block,
 -- a right port one of an instruction with two operands.
 pub record IsEmittableInstr (p : Program) (c : CodeBlock) (slots : List ℕ) (n : ℕ) (i : Instr) : Type 0 where

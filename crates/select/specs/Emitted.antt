@@ -10,7 +10,7 @@ use Rattle.semantics.specs.Opcodes.{may_fault, has_sides}
 use Rattle.semantics.specs.declared.version.Version.{Version}
 use Rattle.semantics.specs.Versions.{version_number}
 
--- An origin stands where a fault can be made, in an object of version 2.
+-- There is an origin where a fault can be made, in an object of version 2.
 abbrev pub stated : ℕ → Bool → Origin → Origin
 stated version false o = Untold
 stated version true o = if version == 2 then o else Untold

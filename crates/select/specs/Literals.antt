@@ -26,7 +26,7 @@ used_by is = flat_map (λ (i : Instr). as_list (literal_of i.op)) is
 abbrev pub used_in : List CodeBlock → List ℤ
 used_in cs = flat_map (λ (c : CodeBlock). used_by c.instrs) cs
 
--- a table with more literals: each in its place, where it does not stand there yet
+-- a table with more literals: each in its place, if it is not there yet
 abbrev pub entered : List ℤ → List ℤ → List ℤ
 entered table [] = table
 entered table (z ∷ zs) = entered (insert_key int_cmp table z) zs

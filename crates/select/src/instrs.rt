@@ -27,7 +27,7 @@ fn slot_of<A: Allocator>(instr: &Instr<A>, slots: &[u16]) -> u32
     }
 }
 
-/// The origin that is told of an instruction.
+/// The origin that an object has for an instruction.
 fn origin_of<A: Allocator>(instr: &Instr<A>, version: Version) -> Origin
     ensures { result ≡ Emitted.stated (version_number version) (Opcodes.may_fault instr.now.op) instr.now.origin }
 {

@@ -1,6 +1,6 @@
 //! From a plan with slots to the code of an object.
 //!
-//! Each instruction stands where it stands in the plan, with the slot of its holder (explicit token store: Papadopoulos
+//! Each instruction has its place of the plan, and the slot of its holder (explicit token store: Papadopoulos
 //! and Culler, ISCA 1990). Literals move into a table that ascends.
 #![tactic(auto)]
 
@@ -24,8 +24,8 @@ use std::alloc::Allocator;
 
 /// The code of a plan whose holders have these slots, in time n log n of its instructions.
 ///
-/// Each instruction stands in its place, with its holder's slot. First and second destinations differ at a switch and at
-/// a link; elsewhere one is the first and the others are second ones. Origins stand where the version tells them. The
+/// Each instruction is in its place, with its holder's slot. First and second destinations differ at a switch and at
+/// a link; elsewhere one is the first and the others are second ones. There are origins where the version has them. The
 /// table has each literal that an instruction uses, once, in ascending order.
 ///
 /// `TooFar` names the first block that has more than 32,768 instructions or with which the table has more than 65,536

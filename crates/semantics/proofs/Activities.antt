@@ -36,7 +36,7 @@ results_of_iteration : (v : Value) → tokens_of every_kind (Sends (Turned Main 
     ≡ tagged (Turned Main 13 4) (AtTurn 1) Flag v ∷ tagged (Turned Main 13 4) (AtTurn 2) Flag v ∷ tagged (Turned Main 13 4) (AtTurn 2) Carried v ∷ []
 results_of_iteration v = refl
 
--- a conditional tells each `enter` of its arms
+-- a conditional sends its predicate to each `enter` of its arms
 tells_each_enter : (v : Value) → tokens_of every_kind (Steers Main 5 v) ≡ tagged Main (AtNode 6) Predicate v ∷ tagged Main (AtNode 7) Predicate v ∷ []
 tells_each_enter v = refl
 
@@ -44,7 +44,7 @@ tells_each_enter v = refl
 input : (v : Value) → deed every_kind (Fires Main 1 (v ∷ [])) ≡ Some (Says (Sends Main 1 0 v))
 input v = refl
 
--- a literal comes with its operand, whatever that is
+-- a literal is sent when its operand arrives, whatever that is
 literal : (v : Value) → deed every_kind (Fires Main 2 (v ∷ [])) ≡ Some (Says (Sends Main 2 0 (Int (pos 7))))
 literal v = refl
 
@@ -60,7 +60,7 @@ two_operands = refl
 one_is_missing : (v : Value) → deed every_kind (Fires Main 4 (v ∷ [])) ≡ None
 one_is_missing v = refl
 
--- a conditional tells the value that it takes to its arms
+-- a conditional sends the value that it takes to its arms
 conditional : (v : Value) → deed every_kind (Fires Main 5 (v ∷ [])) ≡ Some (Says (Steers Main 5 v))
 conditional v = refl
 
@@ -84,7 +84,7 @@ enter_by_fault v = refl
 enter_takes : (v b : Value) → taken (Gates Main 6 v b) ≡ tagged Main (AtNode 6) (Operand 0) v ∷ tagged Main (AtNode 6) Predicate b ∷ []
 enter_takes v b = refl
 
--- a merge passes on what comes at either port
+-- a merge passes on what arrives at either port
 merge : (v : Value) → deed every_kind (Passes Main 8 1 v) ≡ Some (Says (Sends Main 8 0 v))
 merge v = refl
 
@@ -132,7 +132,7 @@ strict_call v w = refl
 strict_call_alone : (v : Value) → deed every_kind (Passes Main 12 1 v) ≡ None
 strict_call_alone v = refl
 
--- a result comes back at the call's output port
+-- a result is returned at the call's output port
 return : (v : Value) → deed every_kind (Returns Main 11 0 v) ≡ Some (Says (Sends Main 11 0 v))
 return v = refl
 

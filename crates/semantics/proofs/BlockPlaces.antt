@@ -1,4 +1,4 @@
--- Where the code blocks of a program begin, which instructions are entries, and which stand in one block.
+-- Where the code blocks of a program begin, which instructions are entries, and which are in one block.
 use Rattle.std.proofs.Common.{[], ◌+◌, ◌-◌, ◌<◌, ◌∙◌, ◌∷◌, ◌≡◌, ◌≤◌, Bool, List, Some, ap, arith, false, if◌then◌else◌, le-ltb, length, lt-ltb, ltb-false, ltb-true, map, nat_lt, refl, slice_get, suc, sum, sym, take, true, true≢false, zero, zero-add, ℕ}
 use Rattle.std.proofs.lemmas.List.Sums.{sum-map, sum_by-cons}
 use Rattle.semantics.specs.Program.{CodeBlock}

@@ -1,4 +1,4 @@
--- Worked examples of the meaning: calls, strict calls, and faults that come out of a call.
+-- Worked examples of the meaning: calls, strict calls, and faults that a call returns.
 use Rattle.std.proofs.Common.{refl, pos, negsuc, [], ◌∷◌, Some, None}
 use Rattle.std.specs.Prelude.{ℕ}
 use Rattle.tags.specs.declared.value.Value.TheVariants.{Int, Fault}
@@ -29,7 +29,7 @@ abbrev uses_early : ℕ → Kind ℕ → Flow
 uses_early version calls = flow version (1 ∷ []) (block 2 1 [] (one 0) ∷ block 2 2 (root (Lit (pos 0)) (one 0) ∷ root (Fetch 0) (one 2) ∷ root calls (two 0 3) ∷ root (Apply2 B.Add) (two 4 1) ∷ root (Store 0) (two 2 5) ∷ [])
     (two 4 6) ∷ []) 1
 
--- a call's result comes before its other argument can
+-- a call returns a result before its other argument can arrive
 call_is_not_strict : ComesTo (uses_early 1 (Call 0)) (pos 4 ∷ pos 3 ∷ []) (seen (Some (Int (pos 4)) ∷ Some (Int (pos 7)) ∷ []) (Some (Int (pos 7)) ∷ []) 0)
 call_is_not_strict = (refl, refl)
 
@@ -47,7 +47,7 @@ one_call_after_the_other = (refl, refl)
 abbrev fails_inside : ℕ → Flow
 fails_inside version = flow version [] (block 2 1 (root (Apply2 B.Rem) (two 0 1) ∷ []) (one 2) ∷ block 2 1 (root (Call 0) (two 0 1) ∷ root (Apply2 B.Add) (two 2 0) ∷ []) (one 3) ∷ []) 1
 
--- a fault tells the block and the node that made it, not those that pass it on
+-- a fault names the block and the node that made it, not those that pass it on
 origin_inside : ComesTo (fails_inside 2) (pos 7 ∷ pos 0 ∷ []) (seen (Some (Fault Zero (At 0 2)) ∷ []) [] 0)
 origin_inside = (refl, refl)
 

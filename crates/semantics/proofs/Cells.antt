@@ -35,7 +35,7 @@ no_reader = refl
 abbrev stores_twice : Flow
 stores_twice = flow 1 (1 ∷ []) (block 2 2 (root (Lit (pos 0)) (one 0) ∷ root (Store 0) (two 2 0) ∷ root (Store 0) (two 2 1) ∷ []) (src 3 0 ∷ src 4 0 ∷ []) ∷ []) 0
 
--- no activity takes a second store: its two tokens are left. Which store is the second one hangs on the order
+-- no activity takes a second store: its two tokens are left. Which store is the second one depends on the order
 second_store : seen_in stores_twice (first_first 400 stores_twice (start (pos 5 ∷ pos 6 ∷ []))) ≡ seen (Some (Int (pos 5)) ∷ None ∷ []) (Some (Int (pos 5)) ∷ []) 2
 second_store = refl
 
@@ -46,7 +46,7 @@ other_second_store = refl
 abbrev bad_indexes : ℕ → Flow
 bad_indexes version = flow version (2 ∷ []) (block 2 2 (root (Fetch 0) (one 0) ∷ root (Store 0) (two 1 0) ∷ []) (src 2 0 ∷ src 3 0 ∷ []) ∷ []) 0
 
--- an index outside the array is a fault, and no cell is touched; in version 2 the fault tells the node
+-- an index outside the array is a fault, and no cell is touched; in version 2 the fault names the node
 outside : ComesTo (bad_indexes 1) (pos 2 ∷ negsuc 0 ∷ []) (seen (Some (Fault Range Untold) ∷ Some (Fault Range Untold) ∷ []) (None ∷ None ∷ []) 0)
 outside = (refl, refl)
 

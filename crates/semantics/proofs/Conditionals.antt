@@ -24,11 +24,11 @@ chooses version = flow version [] (block 2 2 (root (Apply2 B.Div) (two 0 1) ∷ 
 true_side : ComesTo (chooses 1) (pos 7 ∷ pos 2 ∷ []) (seen (Some (Int (pos 3)) ∷ Some (Int (pos 7)) ∷ []) [] 0)
 true_side = (refl, refl)
 
--- a faulty predicate takes the false side, and the false side alone
+-- a faulty predicate takes the false side, and only the false side
 faulty_predicate : ComesTo (chooses 1) (pos 7 ∷ pos 0 ∷ []) (seen (Some (Fault Zero Untold) ∷ Some (Int (pos 0)) ∷ []) [] 0)
 faulty_predicate = (refl, refl)
 
--- in version 2 the fault tells its block and its node
+-- in version 2 the fault names its block and its node
 faulty_predicate_with_origin : ComesTo (chooses 2) (pos 7 ∷ pos 0 ∷ []) (seen (Some (Fault Zero (At 0 2)) ∷ Some (Int (pos 0)) ∷ []) [] 0)
 faulty_predicate_with_origin = (refl, refl)
 

@@ -17,7 +17,7 @@ use Rattle.semantics.specs.Holders.{Holder, holder_at, held_after}
 use Rattle.semantics.specs.Credits.{granted_at, released_at}
 use Rattle.semantics.proofs.Emulator.{instr, left, none, one_block}
 
--- a loop whose parts stand at numbers 0 to 3, a release at 4, and a copy at 5
+-- a loop whose parts are at numbers 0 to 3, a release at 4, and a copy at 5
 abbrev code : Program
 code = one_block 1 1 2 (instr (Open 2) 0 (left 5) none ∷ instr (Take 2) 0 none none ∷ instr (Give 2) 0 (left 3) none ∷ instr (Drain 2) 0 (left 2) none ∷ instr (Release 1) 1 none none ∷ instr Copy 0 none none ∷ [])
 
@@ -48,7 +48,7 @@ waits = refl
 gives_to_waiter : (w : Word) → at_number 2 (Give 2) (Waiter back) w ≡ Becomes (Credits 0) (token (To.Instr 7 40 Right) signal ∷ [])
 gives_to_waiter w = refl
 
--- and else is kept, up to the bound
+-- and else stays in the slot, up to the bound
 gives : (w : Word) → at_number 2 (Give 2) (Credits 1) w ≡ Becomes (Credits 2) []
 gives w = refl
 
@@ -60,7 +60,7 @@ drains_at_once w = refl
 drains : (w : Word) → at_number 3 (Drain 2) (Credits 0) w ≡ Becomes (Draining 2) []
 drains w = refl
 
--- one of two that are out comes back
+-- one of two that are out is given back
 gives_while_draining : (w : Word) → at_number 2 (Give 2) (Draining 2) w ≡ Becomes (Draining 1) []
 gives_while_draining w = refl
 

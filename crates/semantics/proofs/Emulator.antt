@@ -73,7 +73,7 @@ event_from p n s before (t ∷ ts) =
       | Some r ↦ Some record { token = t; made = r.1; after = record { store = r.0; pool = before ++ ts ++ r.1 } }
     ]
 
--- where a bounded run comes to, and how many events it had
+-- the machine at the end of a bounded run, and how many events the run had
 pub record Came : Type 0 where
   pub machine : Machine
   pub events : ℕ

@@ -52,7 +52,7 @@ next_fetch_waits_behind = (refl, refl)
 fetch_of_full : (v : Value) → Does (with_cell begun 5 (Full v)) (To.Fetch 5) (Word.Back second) (token (To.Instr 1 8 Right) (Word.Val v) ∷ []) (with_cell begun 5 (Full v))
 fetch_of_full v = (refl, refl)
 
--- a store answers both readers, in the order in which they came, and then the storer
+-- a store answers both readers, in the order in which they arrived, and then the storer
 store_answers_two : (v : Value) → Does (with_cell begun 5 (Deferred (first ∷ second ∷ []))) (To.Store 5 v) (Word.Back third)
     (token (To.Instr 0 7 Left) (Word.Val v) ∷ token (To.Instr 1 8 Right) (Word.Val v) ∷ token (To.Instr 0 9 Left) (Word.Val v) ∷ [])
     (with_cell (with_cell begun 5 (Deferred (first ∷ second ∷ []))) 5 (Full v))
@@ -85,7 +85,7 @@ out_is_not_answered new does = elim does [ inl h ↦ taken h.0 h.2 h.3 | inr h �
 release_frees : (w : Word) → Does begun (To.Release 0) w [] (with_out begun 0 false)
 release_frees w = (refl, inl (refl, refl, refl))
 
--- and else hands it to one that waits, any of them
+-- and else gives it to one that waits, any of them
 release_serves : (w : Word) → Does (with_requests begun (first ∷ [])) (To.Release 0) w (token (To.Instr 0 7 Left) (Word.Frame 0) ∷ []) (with_requests (with_requests begun (first ∷ [])) [])
 release_serves w = (refl, inr (first, [], IsPermutation-refl (first ∷ []), refl, refl))
 

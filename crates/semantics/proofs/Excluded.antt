@@ -39,11 +39,11 @@ slot_1 v = with_slot begun 0 1 v
 no_instruction : (q : Port) (w : Word) → rule begun (To.Instr 0 7 q) w ≡ Some 1
 no_instruction q w = refl
 
--- 2: a right token for an instruction with one input, also where the slot or the word is wrong too
+-- 2: a right token for an instruction with one input, even if the slot or the word is wrong as well
 right_of_copy : (w : Word) → rule begun (To.Instr 0 0 Right) w ≡ Some 2
 right_of_copy w = refl
 
--- a credit instruction takes left tokens alone, too
+-- a credit instruction, too, takes only left tokens
 right_of_take : rule begun (To.Instr 0 3 Right) four ≡ Some 2
 right_of_take = refl
 
@@ -63,7 +63,7 @@ take_meets_empty w = refl
 give_beyond_the_bound : (w : Word) → rule (slot_1 (Credits 2)) (To.Instr 0 4 Left) w ≡ Some 3
 give_beyond_the_bound w = refl
 
--- a count of nothing to wait for
+-- a loop that is draining, but waits for no credit
 give_meets_nothing_to_drain : (w : Word) → rule (slot_1 (Draining 0)) (To.Instr 0 4 Left) w ≡ Some 3
 give_meets_nothing_to_drain w = refl
 
@@ -71,7 +71,7 @@ give_meets_nothing_to_drain w = refl
 drain_meets_draining : (w : Word) → rule (slot_1 (Draining 1)) (To.Instr 0 5 Left) w ≡ Some 3
 drain_meets_draining w = refl
 
--- 4: a word is of another kind than the instruction wants; not before it fires
+-- 4: a word is of another kind than the instruction wants; this counts only when it fires
 waits_with_any_word : rule begun (To.Instr 0 1 Left) (Word.Frame 0) ≡ None
 waits_with_any_word = refl
 
@@ -95,7 +95,7 @@ fetch_without_continuation x = refl
 output_of_frame : rule begun (To.Host 0) (Word.Frame 0) ≡ Some 4
 output_of_frame = refl
 
--- 5: a frame is released that is not out
+-- 5: a frame that is not out is released
 release_of_free : (w : Word) → rule begun (To.Release 1) w ≡ Some 5
 release_of_free w = refl
 
@@ -103,7 +103,7 @@ release_of_free w = refl
 release_of_main : (w : Word) → rule begun (To.Release 0) w ≡ None
 release_of_main w = refl
 
--- 6: an output is filled or is not there, and the done mark likewise; this counts before the kind of the word
+-- 6: an output is filled or does not exist, or the done mark is set; this counts before the kind of the word
 filled_output : (v : Value) (w : Word) → rule (with_output begun 0 v) (To.Host 0) w ≡ Some 6
 filled_output v w = refl
 
@@ -115,6 +115,6 @@ no_output w = refl
 done_once : (w : Word) → rule begun (To.Host 1) w ≡ None
 done_once w = refl
 
--- it comes once
+-- it arrives once
 done_twice : (w : Word) → rule (with_done begun) (To.Host 1) w ≡ Some 6
 done_twice w = refl

@@ -1,4 +1,4 @@
--- Worked examples of the machine: code made by hand, and where its run comes to.
+-- Worked examples of the machine: code made by hand, and how its run ends.
 use Rattle.std.proofs.Common.{◌≡◌, refl, false, pos, [], ◌∷◌, Some, None}
 use Rattle.tags.specs.declared.value.Value.TheVariants.{Int}
 use Rattle.tags.specs.declared.token.Cont.{Cont}
@@ -49,7 +49,7 @@ sum_rests = refl
 sum_frees_its_frame : (on_2_and_3 adds).machine.store.out 0 ≡ false
 sum_frees_its_frame = refl
 
--- BAD CODE. Two left tokens come to the sum: its slot is in an excluded state
+-- BAD CODE. Two left tokens arrive at the sum: its slot is in an excluded state
 abbrev two_left : Program
 two_left = one_block 2 1 3 (continues ∷ first_input ∷ instr Copy 0 (left 1) none ∷ sum ∷ result ∷ end ∷ [])
 
@@ -57,7 +57,7 @@ two_left = one_block 2 1 3 (continues ∷ first_input ∷ instr Copy 0 (left 1) 
 two_left_stuck : excluded two_left (on_2_and_3 two_left) ≡ Some 3 ∷ []
 two_left_stuck = refl
 
--- two left tokens come to the release
+-- two left tokens arrive at the release
 abbrev two_continuations : Program
 two_continuations = adds_with (instr Copy 0 (left 5) (left 5)) first_input sum result end
 

@@ -110,7 +110,7 @@ abbrev reversed_on : List Tagged → List Tagged → List Tagged
 reversed_on [] acc = acc
 reversed_on (t ∷ ts) acc = reversed_on ts (t ∷ acc)
 
--- AS MANY AS THERE ARE, up to a number
+-- ALL ACTIVITIES, up to a number
 abbrev pub first_first : ℕ → Flow → State → State
 first_first zero fl s = s
 first_first (suc n) fl s = elim (next fl s s.tokens) as (λ x. State) [ None ↦ s | Some u ↦ first_first n fl u ]
@@ -143,7 +143,7 @@ seen_in fl s = record { outputs = values_from 0 (outputs_in (slice_get fl.blocks
 abbrev pub seen : List (Option Value) → List (Option Value) → ℕ → Seen
 seen outputs cells left = record { outputs = outputs; cells = cells; left = left }
 
--- Whichever token is taken first, the graph on these inputs comes to this, in at most 400 activities.
+-- Whichever token is taken first, the graph on these inputs ends in this state, in at most 400 activities.
 abbrev pub ComesTo : Flow → List ℤ → Seen → Type 0
 ComesTo fl inputs s = (seen_in fl (first_first 400 fl (start inputs)) ≡ s) × (seen_in fl (last_first 400 fl (start inputs)) ≡ s)
 

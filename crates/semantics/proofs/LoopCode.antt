@@ -26,7 +26,8 @@ l n = record { ahead = n; port = Left }
 abbrev r : ℕ → Dest
 r n = record { ahead = n; port = Right }
 
--- main, with this instruction for the credits that come back: the continuation, the input, `open`, `frame`, its copy, `link`, `send`, the landing, the return, and the ends
+-- main, with this instruction for the credits that are given back: the continuation, the input, `open`, `frame`, its copy, `link`, `send`, the landing, the
+-- return, and the ends
 abbrev main_with : Op → CodeBlock
 main_with back = record {
   inputs = 1;
@@ -54,7 +55,7 @@ main_with back = record {
 
 -- The loop variant: one less is the flag and the next value; the switches of the continuation, the flag and the value by
 -- the flag; `ask`, `frame` and the sends of the next iteration; the returns of the end; and the joins. The examples differ
--- in where `release` stands, where else the next value goes, where the joined ends go, and the last instructions.
+-- in where `release` is, where else the next value goes, where the joined ends go, and the last instructions.
 abbrev variant_with : ℕ → List Dest → Dest → List Instr → CodeBlock
 variant_with release more ends last = record {
   inputs = 1;
@@ -87,11 +88,11 @@ code_with back variant = record { blocks = main_with back ∷ variant ∷ []; ar
 abbrev code : Program
 code = code_with (Give 2) (variant_with 17 [] (r 1) (instr (Release 1) 11 [] [] ∷ []))
 
--- the same, but that each iteration also fetches the cell of its value, which no store fills: so none is released
+-- the same, except that each iteration also fetches the cell of its value, which no store fills: so none is released
 abbrev code_that_waits : Program
 code_that_waits = code_with (Give 2) (variant_with 19 (l 14 ∷ []) (l 2) (instr (Fetch 0) 0 (r 1 ∷ []) [] ∷ instr Sync 12 (r 1 ∷ []) [] ∷ instr (Release 1) 11 [] [] ∷ []))
 
--- the same, but that a credit never comes back: the signal of an iteration's `release` goes to a copy
+-- the same, except that a credit is never given back: the signal of an iteration's `release` goes to a copy
 abbrev code_that_keeps : Program
 code_that_keeps = code_with Copy (variant_with 17 [] (r 1) (instr (Release 1) 11 [] [] ∷ []))
 
@@ -156,7 +157,7 @@ no_frame_out = refl
 three_iterations : watch_all code 3 3 ≡ record { granted = 3; released = 3; most_out = 2; holds = None; own = true }
 three_iterations = refl
 
--- WITH TWO FRAMES the first iteration keeps its frame until the next one has got one: so that one's request waits for ever
+-- WITH TWO FRAMES the first iteration keeps its frame until the next one has got a frame: so the request of the next one waits for ever
 two_frames_want : (come code 2 (pos 3 ∷ [])).machine.store.outputs 0 ≡ None
 two_frames_want = refl
 
@@ -189,7 +190,7 @@ is_loop = record {
   lands = (omega arith, omega arith);
 }
 
--- WHERE CREDITS DO NOT COME BACK the second iteration waits for the third one's credit, too, though the first one was
+-- WHERE CREDITS ARE NOT GIVEN BACK the second iteration waits for the third one's credit, too, though the first one was
 -- released: only one of the two credits is out, and so the promise on a loop's bound refuses this code
 waits_for_ever : (come code_that_keeps 5 (pos 6 ∷ [])).machine.store.slots 0 0 ≡ Waiter (Cont.Frame 2 24 Left)
 waits_for_ever = refl
@@ -198,7 +199,7 @@ waits_for_ever = refl
 one_out : watch_all code_that_keeps 5 6 ≡ record { granted = 2; released = 1; most_out = 2; holds = Some loop; own = true }
 one_out = refl
 
--- EACH PORT ONCE. With a frame for each of two iterations, no port of main's frame gets two tokens, but for those of `give`
+-- EACH PORT ONCE. With a frame for each of two iterations, no port of main's frame gets two tokens, except those of `give`
 -- and `take`
 -- the tokens that are taken by element 0 of four, where main's frame is alone
 abbrev taken_from : ℕ → Program → ℕ → Machine → List Token

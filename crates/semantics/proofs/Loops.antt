@@ -16,7 +16,7 @@ sums flag = flow 1 [] (block 3 4 (root (Lit (pos 1)) (one 0) ∷ root (Apply2 B.
 four_iterations : ComesTo (sums (root (Apply2 B.Le) (two 4 2))) (pos 4 ∷ []) (seen (Some (Int (pos 10)) ∷ []) [] 0)
 four_iterations = (refl, refl)
 
--- there is one iteration at least
+-- there is at least one iteration
 one_iteration : ComesTo (sums (root (Apply2 B.Le) (two 4 2))) (pos 1 ∷ []) (seen (Some (Int (pos 1)) ∷ []) [] 0)
 one_iteration = (refl, refl)
 

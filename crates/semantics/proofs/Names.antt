@@ -1,4 +1,4 @@
--- Worked examples of graphs: names, places, cells, contexts and the arms round a node.
+-- Worked examples of graphs: names, places, cells, contexts and the arms around a node.
 use Rattle.std.proofs.Common.{◌≡◌, refl, true, false, pos, [], ◌∷◌, Some, None}
 use Rattle.std.specs.Prelude.{codes}
 use Rattle.operators.specs.declared.Unary.TheVariants as U

@@ -18,7 +18,7 @@ greatest = Int (pos 9223372036854775807)
 abbrev minus_one : Value
 minus_one = Int (negsuc 0)
 
--- sums, differences and products wrap round
+-- sums, differences and products wrap around
 sum_wraps : apply2 B.Add greatest (Int (pos 1)) Untold ≡ least
 sum_wraps = refl
 
@@ -54,7 +54,7 @@ least_quotient = refl
 least_remainder : apply2 B.Rem least minus_one Untold ≡ Int (pos 0)
 least_remainder = refl
 
--- a divisor of 0 makes a fault, with the origin that is handed in
+-- a divisor of 0 makes a fault, with the origin that is passed in
 zero_divisor : apply2 B.Div (Int (pos 7)) (Int (pos 0)) (At 3 4) ≡ Fault Zero (At 3 4)
 zero_divisor = refl
 

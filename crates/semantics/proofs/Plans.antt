@@ -107,7 +107,7 @@ drain_gets_one = refl
 abbrev slots : List (List ℕ)
 slots = (1 ∷ 4 ∷ 4 ∷ []) ∷ (0 ∷ 0 ∷ []) ∷ []
 
--- the third holder stands in slot 4
+-- the third holder has slot 4
 slot_of_last_join : instr_at (placed plan slots) 9 ≡ Some (instr Sync 4 none none)
 slot_of_last_join = refl
 
@@ -127,7 +127,7 @@ waiting = refl
 handed_on : handed_by (To.Release 5) (token (To.Instr 0 7 Left) (Word.Frame 5) ∷ []) ≡ 5 ∷ []
 handed_on = refl
 
--- a frame that is only told on its way is not handed out
+-- a frame that is only passed on is not handed out
 copied : handed_by (To.Instr 0 3 Left) (token (To.Instr 0 7 Left) (Word.Frame 5) ∷ []) ≡ []
 copied = refl
 
@@ -159,7 +159,7 @@ largest_block = refl
 abbrev looping : Flow
 looping = flow 1 [] (block 1 2 [] (two 0 0) ∷ block 1 1 (root (Loop 0 7) (one 0) ∷ root (Loop 0 3) (one 1) ∷ []) (one 2) ∷ []) 1
 
--- block 0 stands twice: plain, and as a loop variant
+-- block 0 is there twice: plain, and as a loop variant
 code_blocks : coded_blocks looping ≡ block 1 2 [] (two 0 0) ∷ block 1 1 (root (Loop 0 7) (one 0) ∷ root (Loop 0 3) (one 1) ∷ []) (one 2) ∷ block 1 2 [] (two 0 0) ∷ []
 code_blocks = refl
 

@@ -1,4 +1,4 @@
--- Worked examples of the machine: what each instruction does with its words. The instruction stands at number 10, in
+-- Worked examples of the machine: what each instruction does with its words. The instruction is at number 10, in
 -- frame 3.
 use Rattle.std.proofs.Common.{◌≡◌, refl, ℕ, pos, negsuc, [], ◌∷◌, Some}
 use Rattle.tags.specs.declared.value.Value.{Value}
@@ -43,14 +43,14 @@ with_both op slot port w = rule_at code record { frame = 3; ip = 10 } (Some reco
 abbrev with_one : Op → SlotState → Port → Word → Outcome
 with_one op slot port w = rule_at code record { frame = 3; ip = 10 } (Some record { op = op; origin = At 1 2; slot = 0; firsts = to_12_right ∷ []; seconds = [] }) slot port w
 
--- what comes of it: the slot is left as it is, or becomes empty; and the tokens to 11 left and to 12 right
+-- the result: the slot is left as it is, or becomes empty; and the tokens to 11 left and to 12 right
 abbrev sends : Word → Outcome
 sends w = Becomes Empty (token (To.Instr 3 11 Left) w ∷ token (To.Instr 3 12 Right) w ∷ [])
 
 abbrev number : ℕ → Word
 number n = Word.Val (Int (pos n))
 
--- OPERATORS. The first word that comes waits in the slot, on its side; the other one makes the instruction fire
+-- OPERATORS. The first word that arrives waits in the slot, on its side; the other one makes the instruction fire
 left_waits : (w : Word) → with_both (Apply2 B.Sub) Empty Left w ≡ Becomes (Slot.Left w) []
 left_waits w = refl
 
@@ -66,7 +66,7 @@ right_comes_last = refl
 left_comes_last : with_both (Apply2 B.Sub) (Slot.Right (number 4)) Left (number 9) ≡ sends (number 5)
 left_comes_last = refl
 
--- a fault that is made tells the instruction's origin
+-- a fault that is made has the instruction's origin
 division : with_both (Apply2 B.Div) (Slot.Left (number 9)) Right (number 0) ≡ sends (Word.Val (Fault Zero (At 1 2)))
 division = refl
 
@@ -102,7 +102,7 @@ switch_true w = refl
 switch_false : (w : Word) → with_both Switch (Slot.Left w) Right (number 0) ≡ Becomes Empty (token (To.Instr 3 12 Right) w ∷ [])
 switch_false w = refl
 
--- a faulty predicate goes to the false side, and there alone
+-- a faulty predicate goes to the false side, and only there
 switch_fault : (w : Word) → with_both Switch (Slot.Right (Word.Val (Fault Zero (At 0 0)))) Left w ≡ Becomes Empty (token (To.Instr 3 12 Right) w ∷ [])
 switch_fault w = refl
 
@@ -126,7 +126,7 @@ store_by_fault v = refl
 frame : (w : Word) → with_one Frame Empty Left w ≡ Becomes Empty (token To.Manager (Word.Back (Cont.Frame 3 12 Right)) ∷ [])
 frame w = refl
 
--- a link tells the other frame where the landing begins, always at a left port, and signals to the second destination
+-- a link sends to the other frame where the landing begins, always at a left port, and signals to the second destination
 link : with_both (Link 1) Empty Left (Word.Frame 8) ≡ Becomes Empty (token (To.Instr 8 2 Left) (Word.Back (Cont.Frame 3 11 Left)) ∷ token (To.Instr 3 12 Right) signal ∷ [])
 link = refl
 
@@ -143,7 +143,7 @@ return_to_frame v = refl
 return_to_host : (v : Value) → with_one (Return 2) (Slot.Left (Word.Back (Cont.Host 0))) Right (Word.Val v) ≡ Becomes Empty (token (To.Host 2) (Word.Val v) ∷ token (To.Instr 3 12 Right) signal ∷ [])
 return_to_host v = refl
 
--- an ask tells where its answer comes, port and all
+-- an ask sends where its answer goes, port and all
 ask : (w : Word) → with_one (Ask 2) (Slot.Left (Word.Back (Cont.Frame 8 40 Left))) Right w ≡ Becomes Empty (token (To.Instr 8 42 Left) (Word.Back (Cont.Frame 3 12 Right)) ∷ [])
 ask w = refl
 

@@ -44,7 +44,7 @@ or = instr (Apply2 B.Or) 0 (l 1 ∷ r 1 ∷ []) []
 abbrev chain : Plan
 chain = plan_of (instr Copy 0 [] [] ∷ instr Copy 0 (l 1 ∷ r 1 ∷ []) [] ∷ or ∷ instr (Apply2 B.And) 1 [] [] ∷ [])
 
--- the second holder stands at number 3 alone
+-- the second holder is at number 3 alone
 place_of_and : (n : ℕ) → slot_used (instr_in (block_of chain) n) ≡ Some 1 → n ≡ 3
 place_of_and zero e = cc
 place_of_and (suc zero) e = cc

@@ -1,4 +1,4 @@
--- What is read where something was put.
+-- What is read after a write, at its place and at others.
 use Rattle.std.proofs.Common.{◌∙◌, ◌≡◌, Bool, ap, cond, eq-eqb, if◌then◌else◌, ne_eqb, refl, ℕ}
 use Rattle.tags.specs.declared.slot.SlotState.{SlotState}
 use Rattle.semantics.specs.Machine.{put_at, Store as MStore, with_slot}

@@ -1,4 +1,4 @@
--- Sums of what stands below a number.
+-- Sums over the numbers below a number.
 use Rattle.std.proofs.Common.{◌<◌, ◌∙◌, ◌≡◌, ◌≤◌, ◌⊎◌, Bool, ap, arith, false, inl, inr, refl, suc, true, zero, ℕ}
 use Rattle.std.proofs.lemmas.Bool.{cases_lt}
 use Rattle.semantics.specs.Report.{sum_below, one_if}

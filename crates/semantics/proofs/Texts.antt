@@ -30,7 +30,7 @@ literal_in_true_arm : node_line record { region = Arm 3 true; kind = Lit (negsuc
 unfolding digits
 literal_in_true_arm = refl
 
--- the conditional of a merge stands after the word
+-- the conditional of a merge is after the word
 merge_in_false_arm : node_line record { region = Arm 3 false; kind = Merge 7; sources = two 9 10 } ≡ codes "3- merge 7 9.0 10.0" ++ lf
 unfolding digits
 merge_in_false_arm = refl

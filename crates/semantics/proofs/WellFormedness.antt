@@ -101,7 +101,7 @@ block_is_well = record {
   in_root = one_in Root 7 refl;
 }
 
--- one name stands once
+-- each name occurs once
 one_name : AllDiffer (name ∷ [])
 one_name zero zero x e f = refl
 one_name zero (suc j) x e f = cc

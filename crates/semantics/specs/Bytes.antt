@@ -13,7 +13,7 @@ use Rattle.semantics.specs.Rule.{slot_of}
 use Rattle.semantics.specs.Plan.{is_credit}
 use Rattle.semantics.specs.Opcodes.{opcode_for, code_number, flag_number, may_fault}
 
--- where a literal stands: the first place from n on
+-- where a literal is: the first place from n on
 abbrev pub number_from : ℕ → ℤ → List ℤ → ℕ
 number_from n z [] = n
 number_from n z (x ∷ xs) = if int_lt x z then number_from (n + 1) z xs else n
@@ -116,7 +116,7 @@ HasDests (Drain k) ds es = (length ds ≤ 1) × (length es ≡ 0)
 HasDests Switch ds es = (length ds ≤ 1) × (length es ≤ 1)
 HasDests op ds es = (length ds ≤ 1) × (length es ≤ length ds)
 
--- where an origin may stand
+-- where an origin may be
 abbrev pub IsOrigin : ℕ → Op → Origin → Type 0
 IsOrigin version op Untold = ⊤
 IsOrigin version op (At b n) = (version ≡ 2) × (may_fault op ≡ true) × (b < 256) × (n < 1024)

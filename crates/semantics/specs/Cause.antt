@@ -57,7 +57,7 @@ pub record HasCause (fl : Flow) (p : Program) (inputs : List ℤ) (events : Even
   pub enough : request_count events ≤ length due
   pub credits : credit_count p events ≤ count_by is_turn due
 
--- BOUNDS. The code blocks are the graph's blocks in order, and then again those that some loop names.
+-- BOUNDS. The code blocks are the graph's blocks in order, and after them, once more, those that some loop names.
 abbrev pub bounds_of : Kind ℕ → List ℕ
 bounds_of (Loop f k) = k ∷ []
 bounds_of kind = []

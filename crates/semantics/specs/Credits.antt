@@ -38,9 +38,9 @@ granted_at p q f loop s (To.Instr g ip port) =
     if (g == f) && same_holder loop (holder_at p ip) then granted_in (instr_at q ip) (slot_in s g (slot_used (instr_at q ip))) else 0
 granted_at p q f loop s to = 0
 
--- RELEASED. An iteration of a loop has the beginning of the loop's landing as its continuation. It is released where its `release`
+-- RELEASED. An iteration of a loop has the beginning of the loop's landing as its continuation. It is released when its `release`
 -- fires with that continuation, and so makes a token at the beginning of the landing plus its offset. Which instruction
--- stands there does not matter: a loop that never gets its credits back has its iterations counted, too.
+-- is there does not matter: a loop that never gets its credits back has its iterations counted, too.
 abbrev pub released_by : Op → ℕ → ℕ → List Token → ℕ
 released_by (Release o) f base made = count_by (λ (t : Token). is_at f (base + o) Left t.to) made
 released_by op f base made = 0

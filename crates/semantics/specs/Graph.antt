@@ -32,7 +32,7 @@ pub record Flow : Type 0 where
   pub blocks : List (Block ℕ)
   pub main : ℕ
 
--- where a name stands in a list of names, or the list's length where it does not
+-- where a name is in a list of names, or the list's length if it is not there
 abbrev pub same_name : List ℕ → List ℕ → Bool
 same_name [] [] = true
 same_name [] (y ∷ ys) = false

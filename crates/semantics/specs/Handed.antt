@@ -6,7 +6,7 @@ use Rattle.tags.specs.declared.token.Token.{Token}
 use Rattle.semantics.specs.Program.{Program}
 use Rattle.semantics.specs.Machine.{Machine, Size, Event, Events, Run, at_start}
 
--- the frame that a token tells
+-- the frame that a token carries
 abbrev pub frame_of : Token → Option ℕ
 frame_of t = elim t.word as (λ x. Option ℕ) [ Word.Frame f ↦ Some f | _ ↦ None ]
 
@@ -27,7 +27,7 @@ EachOnce fs = (i j f : ℕ) → slice_get fs i ≡ Some f → slice_get fs j ≡
 abbrev pub UsesEachOnce : (p : Program) (z : Size) (inputs : List ℤ) (events : Events) (m : Machine) → Run p z (at_start p inputs) events m → Type 0
 UsesEachOnce p z inputs events m run = EachOnce (0 ∷ handed p z (at_start p inputs) events m run)
 
--- TENURE. In this state the frame has just gone out: to main at the start, or by an event of a run.
+-- TENURE. In this state the frame has just been handed out: to main at the start, or by an event of a run.
 abbrev pub IsJustOut : Program → Size → List ℤ → ℕ → Machine → Type 0
 IsJustOut p z inputs f first =
     ((f ≡ 0) × (first ≡ at_start p inputs))
@@ -37,7 +37,7 @@ IsJustOut p z inputs f first =
 abbrev pub NoRelease : ℕ → Events → Type 0
 NoRelease f events = All (λ (ev : ℕ × Token). ev.1.to ≡ To.Release f → ⊥) events
 
--- A tenure so far: the part of a run from where the frame went out, with no release of it.
+-- A tenure so far: the part of a run from where the frame was handed out, with no release of it.
 pub record Tenure (p : Program) (z : Size) (inputs : List ℤ) (f : ℕ) (m : Machine) : Type 0 where
   pub first : Machine
   pub just_out : IsJustOut p z inputs f first

@@ -1,5 +1,5 @@
 -- The machine: what it holds, its events, and its runs. An event takes one token that is addressed to an element,
--- changes that element's part alone, and makes tokens.
+-- changes only that element's part, and makes tokens.
 use Rattle.std.specs.Prelude.{◌≡◌, ◌≢◌, ℕ, ◌+◌, ◌*◌, ◌<◌, Bool, true, false, ◌⊎◌, ℤ, List, [], ◌∷◌, ◌++◌, map, length, Option, Some, None, nat_lt, ◌==◌, slice_get, if◌then◌else◌, IsPermutation}
 use Rattle.tags.specs.declared.value.Value.{Value}
 use Rattle.tags.specs.declared.value.Value.TheVariants.{Int}
@@ -17,10 +17,10 @@ use Rattle.semantics.specs.Rule.{token, back_to, Outcome, Becomes, Excluded, rul
 pub data CellState : Type 0 where
   Vacant : CellState
   Full : (value : Value) → CellState
-  -- readers that wait, in the order in which they came
+  -- readers that wait, in the order in which they arrived
   Deferred : (readers : List Cont) → CellState
 
--- all that the machine holds but for its tokens
+-- all that the machine holds except its tokens
 pub record Store : Type 0 where
   pub slots : ℕ → ℕ → SlotState
   pub cells : ℕ → CellState
@@ -94,7 +94,7 @@ Stores old x v c Vacant made new = (made ≡ answer c (Word.Val v) ∷ []) × (n
 Stores old x v c (Deferred readers) made new = (made ≡ answers (readers ++ c ∷ []) v) × (new ≡ with_cell old x (Full v))
 Stores old x v c (Full w) made new = ⊥
 
--- any free frame goes out, and a request waits where none is free
+-- any free frame is handed out, and a request waits where none is free
 abbrev pub Requests : ℕ → Store → Cont → List Token → Store → Type 0
 Requests total old c made new =
     ((f : ℕ) × (f < total) × (old.out f ≡ false) × (made ≡ answer c (Word.Frame f) ∷ []) × (new ≡ with_out old f true))

@@ -67,7 +67,7 @@ block_number fl (Turned c n i) = callee_in (block_numbered fl (block_number fl c
 abbrev pub block_of : Flow → Context → Option (Block ℕ)
 block_of fl c = block_numbered fl (block_number fl c)
 
--- USES. The positions of a list of sources at which this output port stands, from a first number on.
+-- USES. The positions of a list of sources that are this output port, from a first number on.
 abbrev pub positions : ℕ → ℕ → ℕ → List Source → List ℕ
 positions n p from [] = []
 positions n p from (s ∷ ss) = if (s.node == n) && (s.port == p) then from ∷ positions n p (from + 1) ss else positions n p (from + 1) ss
@@ -133,7 +133,7 @@ pub data Activity : Type 0 where
   Fires : (context : Context) (node : ℕ) (operands : List Value) → Activity
   -- an `enter` takes its source and its predicate
   Gates : (context : Context) (node : ℕ) (value predicate : Value) → Activity
-  -- a merge takes what comes at one of its ports; a call or a loop takes an argument by itself
+  -- a merge takes what arrives at one of its ports; a call or a loop takes an argument by itself
   Passes : (context : Context) (node : ℕ) (position : ℕ) (value : Value) → Activity
   -- result j of the invocation that node n of c made
   Returns : (context : Context) (node : ℕ) (result : ℕ) (value : Value) → Activity
@@ -254,7 +254,7 @@ fired fl c n (Store a) (v ∷ w ∷ []) = Some (stored c n (first_cell fl a) w (
 fired fl c n (StrictCall f) vs = Some (Says (Enters (Called c n) 0 vs))
 fired fl c n kind vs = None
 
--- an operand's token where it comes alone
+-- an operand's token where it is taken by itself
 abbrev pub passed : Context → ℕ → ℕ → Value → Kind ℕ → Option Deed
 passed c n i v (Merge k) = Some (Says (Sends c n 0 v))
 passed c n i v (Call f) = Some (Says (Enters (Called c n) i (v ∷ [])))
@@ -314,7 +314,7 @@ abbrev pub Run : Flow → State → List Activity → State → Type 0
 Run fl old [] new = Same old new
 Run fl old (a ∷ later) new = (mid : State) × Step fl a old mid × Run fl mid later new
 
--- the state comes from the start by activities
+-- activities lead from the start to the state
 pub record Reached (fl : Flow) (inputs : List ℤ) (s : State) : Type 0 where
   pub run : List Activity
   pub is_run : Run fl (start inputs) run s
@@ -356,12 +356,12 @@ pub record Clashes (fl : Flow) (s : State) (cell : ℕ) : Type 0 where
   pub full : s.memory.cells cell ≡ Some held
 
 -- WHICH INVOCATIONS ARE DUE
--- the token stood in some state of the run
+-- the token was in some state of the run
 abbrev pub Stood : (fl : Flow) (old : State) (run : List Activity) (new : State) → Run fl old run new → Tagged → Type 0
 Stood fl old [] new r t = Contains new.tokens t
 Stood fl old (a ∷ later) new r t = Contains old.tokens t ⊎ Stood fl r.0 later new r.2 t
 
--- the conditionals round a region of a block, with the sides, from the innermost on: at most as many as there are nodes
+-- the conditionals around a region of a block, with the sides, from the innermost on: at most as many as there are nodes
 abbrev pub arm_of : Option (Node ℕ) → Region
 arm_of None = Root
 arm_of (Some n) = n.region
@@ -371,7 +371,7 @@ arms_round zero b r = []
 arms_round (suc depth) b Root = []
 arms_round (suc depth) b (Arm k side) = (k, side) ∷ arms_round depth b (arm_of (node_at b k))
 
--- the conditional of each arm round the node has had a token of that side's truth
+-- the conditional of each arm around the node has had a token of that side's truth
 abbrev pub ArmsTaken : (Tagged → Type 0) → Context → List (ℕ × Bool) → Type 0
 ArmsTaken stood c [] = ⊤
 ArmsTaken stood c (arm ∷ arms) = ((v : Value) × stood (tagged c (AtNode arm.0) (Operand 0) v) × (truth v ≡ arm.1)) × ArmsTaken stood c arms

@@ -1,5 +1,5 @@
 -- The facts of operations that do not depend on their operand: an operation without it is an opcode. The number of its code and its
--- flag in an object, its word in a listing, and what it asks of an instruction.
+-- flag in an object, its word in a listing, and what it requires of an instruction.
 use Rattle.std.specs.Prelude.{ℕ, ◌/◌, ◌%◌, ◌^◌, Bool, true, false, ◌&&◌, ◌||◌, ◌==◌, nat_le, if◌then◌else◌, Option, Some, None, is_some, is_none, option_map, ℤ, pos, List, [], ◌∷◌, codes}
 use Rattle.std.specs.Str.{bytes_eq}
 use Rattle.tags.specs.declared.token.Port.{Port}
@@ -180,7 +180,7 @@ abbrev pub opcode_from : Option Binary → ℕ → ℕ → Option Opcode
 opcode_from (Some op) c f = flagged op f
 opcode_from None c f = if f == 0 then unflagged c else None
 
--- what an opcode and its flag say, if there are such
+-- what an opcode and its flag say, if they exist
 unfoldable pub opcode_of : ℕ → ℕ → Option Opcode
 opcode_of c f = opcode_from (binary_of c) c f
 
@@ -219,7 +219,7 @@ abbrev pub with_operator : Operator → Opcode
 with_operator (One op) = Apply1 op
 with_operator (Two op) = Apply2 op
 
--- the one of these that has the word, or what else there is
+-- the one of these that has the word, or else what is given
 abbrev pub opcode_among : List Opcode → Option Opcode → List ℕ → Option Opcode
 opcode_among [] otherwise w = otherwise
 opcode_among (o ∷ os) otherwise w = if bytes_eq w (opcode_word o) then Some o else opcode_among os otherwise w
@@ -231,7 +231,7 @@ operator_named w = option_map with_operator (operator_of w)
 unfoldable pub opcode_named : List ℕ → Option Opcode
 opcode_named w = opcode_among other_opcodes (operator_named w) w
 
--- WHAT AN OPCODE ASKS of an operand and of destinations
+-- WHAT AN OPCODE REQUIRES of an operand and of destinations
 abbrev pub is_bound : ℕ → Bool
 is_bound k = nat_le 2 k && nat_le k 64
 

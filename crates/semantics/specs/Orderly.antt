@@ -1,4 +1,4 @@
--- What names a frame, what a release finds, and what a run over a plan keeps to that hands out each frame once.
+-- What names a frame, what a release finds, and what holds of a run over a plan that hands out each frame once.
 use Rattle.std.specs.Prelude.{◌≡◌, ◌≢◌, ℕ, ◌+◌, ◌-◌, ◌<◌, ◌≤◌, Bool, true, false, ◌&&◌, ℤ, List, [], ◌∷◌, ◌++◌, map, length, Option, Some, None, slice_get, nat_lt, if◌then◌else◌, ◌==◌, count_by, Contains, IsPermutation}
 use Rattle.tags.specs.declared.token.Port.{Port}
 use Rattle.tags.specs.declared.token.Port.TheVariants.{Left, Right}
@@ -89,11 +89,11 @@ same_block (b ∷ bs) ip jp = if nat_lt ip (length b.instrs) then nat_lt jp (len
 abbrev pub IsMarked : Plan → ℕ → Mark → Type 0
 IsMarked p ip m = (b : ℕ) × (n : ℕ) × (c : CodeBlock) × (slice_get p.program.blocks b ≡ Some c) × (n < length c.instrs) × (ip ≡ first_of p.program b + n) × (mark_at p b n ≡ m) × (m ≢ Unmarked)
 
--- ORDERLY. In such a run a frame has one invocation, and so all that comes to the frame is that invocation's.
+-- ORDERLY. In such a run a frame has one invocation, and so all that arrives at the frame is that invocation's.
 pub record IsOrderlyRun (p : Plan) (z : Size) (old : Machine) (events : Events) (new : Machine) (run : Run p.program z old events new) : Type 0 where
   -- a port gets at most one token
   pub once : (f ip : ℕ) (q : Port) → often (instr_at p.program ip) ≡ false → count_by (λ (t : Token). is_at f ip q t.to) (met events new) ≤ 1
-  -- and, but for an entry, only after one of its arcs was used
+  -- and, except at an entry, only after one of its arcs was used
   pub caused : (f ip : ℕ) (q : Port) (w : Word) → is_entry p.program.blocks ip ≡ false → Contains new.pool (token (To.Instr f ip q) w)
       → SomeEvent (UsesArc p f ip q) p.program z old events new run
   -- switches of one mark take equal predicates

@@ -64,7 +64,7 @@ OneHolder c = (m n h : ℕ) (i j : Instr) → slice_get c.instrs m ≡ Some i �
     → slot_of i i.op ≡ Some h → slot_of j j.op ≡ Some h
     → (m ≡ n) ⊎ ((is_credit i.op ≡ true) × (is_credit j.op ≡ true) × (is_open i.op && is_open j.op ≡ false))
 
--- the instruction that a holder is told by: no `take`, `give` or `drain`
+-- the instruction that a holder is identified by: no `take`, `give` or `drain`
 abbrev pub IsFirst : Op → Type 0
 IsFirst (Take k) = ⊥
 IsFirst (Give k) = ⊥

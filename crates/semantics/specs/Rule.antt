@@ -21,11 +21,11 @@ use Rattle.semantics.specs.Program.{Instr, Program, first_of}
 abbrev pub token : To → Word → Token
 token to word = record { to = to; word = word }
 
--- what only tells that something happened
+-- what only signals that something happened
 abbrev pub signal : Word
 signal = Word.Val (Int (pos 0))
 
--- where an instruction stands: the frame and the instruction's number
+-- where an instruction is: the frame and the instruction's number
 pub record Point : Type 0 where
   pub frame : ℕ
   pub ip : ℕ
@@ -49,7 +49,7 @@ abbrev pub back_to : Cont → To
 back_to (Cont.Frame f ip p) = To.Instr f ip p
 back_to (Cont.Host p) = To.Host p
 
--- where an answer comes: the first destination. An instruction that is answered has one.
+-- where an answer goes: the first destination. An instruction that is answered has one.
 abbrev pub answer_to : Point → List Dest → Cont
 answer_to s [] = Cont.Frame s.frame s.ip Left
 answer_to s (d ∷ ds) = Cont.Frame s.frame (s.ip + d.ahead) d.port
@@ -59,7 +59,7 @@ abbrev pub landing_at : Point → List Dest → Cont
 landing_at s [] = Cont.Frame s.frame s.ip Left
 landing_at s (d ∷ ds) = Cont.Frame s.frame (s.ip + d.ahead) Left
 
--- what comes of a token: it waits in the slot, it makes the instruction fire, or a rule excludes it
+-- the result of a token: it waits in the slot, it makes the instruction fire, or a rule excludes it
 pub data Outcome : Type 0 where
   Becomes : (slot : SlotState) (made : List Token) → Outcome
   Excluded : (rule : ℕ) → Outcome

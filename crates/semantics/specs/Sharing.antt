@@ -86,7 +86,7 @@ is_port op q = true
 abbrev pub IsHolderPort : Option CodeBlock → ℕ → Inlet → Type 0
 IsHolderPort c h q = (i : Instr) × Holds c h q.place i × (is_port i.op q.port ≡ true)
 
--- all ports of the one holder come after the other
+-- all ports of the one holder are after the other
 abbrev pub AllAfter : Plan → ℕ → ℕ → ℕ → Type 0
 AllAfter p b g h = (q : Inlet) → IsHolderPort (slice_get p.program.blocks b) g q
     → IsAfter (arcs_in p (slice_get p.program.blocks b)) (IsEnd (slice_get p.program.blocks b) h) q
@@ -108,7 +108,7 @@ pub record Good (p : Plan) (slots : List (List ℕ)) : Type 0 where
   pub all : length slots ≡ length p.program.blocks
   pub blocks : (b : ℕ) (c : CodeBlock) (ss : List ℕ) → slice_get p.program.blocks b ≡ Some c → slice_get slots b ≡ Some ss → IsGoodBlock p b c ss
 
--- THE CODE OF A PLAN. Each holder's slot stands for it.
+-- THE CODE OF A PLAN. Each holder is replaced by its slot.
 abbrev pub placed_slot : List ℕ → Option ℕ → ℕ
 placed_slot ss None = 0
 placed_slot ss (Some h) = slice_index_or ss h 0

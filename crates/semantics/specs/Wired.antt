@@ -1,4 +1,4 @@
--- What the arcs, the marks and the loops of a plan keep to.
+-- The conditions on the arcs, the marks and the loops of a wired plan.
 use Rattle.std.specs.Prelude.{◌≡◌, ◌≢◌, ℕ, ◌<◌, Bool, true, false, Some, slice_get, Contains}
 use Rattle.tags.specs.declared.token.Port.TheVariants.{Right}
 use Rattle.semantics.specs.declared.program.Op.{Op}

@@ -1,4 +1,4 @@
-//! Opcodes: operations without their operands. What is to be known of an operation, but what it does, is known here.
+//! Opcodes: operations without their operands. All that has to be known of an operation, except what it does, is known here.
 
 ghost use Rattle.std.specs.Prelude.{◌≡◌};
 ghost use Rattle.semantics.specs.Opcodes as Opcodes;
@@ -137,7 +137,7 @@ fn operator_named(bytes: &[u8]) -> Option<Opcode>
 }
 
 impl Opcode {
-    /// What the code and the flag of an object's instruction say, and `None` where there is no such code or it has no such flag.
+    /// What the code and the flag of an object's instruction say, and `None` if there is no such code or it has no such flag.
     #[tactic(auto, unfolding(crate::specs::Opcodes::opcode_of))]
     #[inline(always)]
     pub fn of_code(code: u8, flag: u8) -> Option<Opcode>
@@ -328,7 +328,7 @@ impl Opcode {
         self.plain().may_fault()
     }
 
-    /// Whether the operand may be this, as far as no table says more: none, or a bound of 2 to 64.
+    /// Whether the operand may be this, by the rules that need no table: none, or a bound of 2 to 64.
     pub fn may_have(self, operand: u64) -> bool
         ensures { result ≡ Opcodes.may_have self operand }
     {

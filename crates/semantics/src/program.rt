@@ -102,7 +102,7 @@ impl Op {
         )
     }
 
-    /// Whether it is of a loop's credits, which its slot keeps.
+    /// Whether it handles the credits of a loop, which its slot has.
     #[inline(always)]
     pub fn is_credit(self) -> bool
         ensures { result ≡ is_credit self }

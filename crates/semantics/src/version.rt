@@ -3,7 +3,7 @@
 ghost use Rattle.std.specs.Prelude.{◌≡◌};
 ghost use Rattle.semantics.specs.Versions.{version_number};
 
-/// The version of a graph's text, of code and of its object: in the second one faults tell where they were made, and
+/// The version of a graph's text, of code and of its object: in the second one faults say where they were made, and
 /// there are strict calls.
 #[derive(Clone, Copy, Debug, PartialEq, Eq)]
 pub enum Version {
@@ -12,7 +12,7 @@ pub enum Version {
 }
 
 impl Version {
-    /// The number that stands for it in a text, a listing and an object.
+    /// The number that it has in a text, a listing and an object.
     pub fn number(self) -> u64
         ensures { result ≡ version_number self }
     {

@@ -1,4 +1,4 @@
-//! The words of operators, which stand in a graph's text and in a listing.
+//! The words of operators, as in a graph's text and in a listing.
 
 ghost use Rattle.std.specs.Prelude.{◌≡◌, IfSome, Some};
 ghost use Rattle.semantics.specs.Text.{unary_word, binary_word};

@@ -1,4 +1,4 @@
--- Numbered things, sent one after the other.
+-- Numbered items, sent one after the other.
 use Rattle.std.proofs.Common.{arith, add-zero, ◌≡◌, ℕ, zero, suc, ◌+◌, ◌≤◌, List, [], ◌∷◌, ◌++◌, length, take, Option, Some, None, Result, Ok, Err, sym, ap, ◌∙◌, refl, subst, append_assoc}
 use Rattle.std.specs.Prelude.{⊤, slice_get}
 use Rattle.std.specs.Io.KnownBytes.{Appends}

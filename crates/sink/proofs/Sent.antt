@@ -1,4 +1,4 @@
--- One thing sent after another.
+-- One item sent after another.
 use Rattle.std.proofs.Common.{◌≡◌, ℕ, ◌+◌, ◌<◌, ◌≤◌, List, [], ◌∷◌, ◌++◌, length, get_or, take, drop, Option, Some, None, Result, Ok, Err, sym, ap, ◌∙◌, subst, append_assoc, take-append-drop}
 use Rattle.std.specs.Prelude.{⊤}
 use Rattle.std.specs.Io.KnownBytes.{Appends, Keeps}
@@ -23,7 +23,7 @@ appends_kept (Some x) None c bs p q = absurd p
 appends_kept (Some x) (Some y) None bs p q = absurd q
 appends_kept (Some x) (Some y) (Some z) bs p q = q ∙ p
 
--- what was sent before a thing that is sent
+-- what was sent before an item that is sent
 pub sends_more : {E : Type 0} (r : Result ⊤ E) (a b c : Option (List ℕ)) (bs cs : List ℕ) → Appends a b bs → Sends r b c cs → Sends r a c (bs ++ cs)
 unfolding Sends
 sends_more (Ok x) a b c bs cs p q = appends_then a b c bs cs p q
@@ -53,7 +53,7 @@ unfolding Sends
 sends_whole (Ok y) x a b bs e q = q
 sends_whole (Err d) x a b bs e q = absurd cc
 
--- ---- one thing after another in a loop
+-- ---- one item after another in a loop
 
 pub loop_more : {X : Type 0} (text : X → List ℕ) (xs : List X) (i : ℕ) (x : X) (a b c : Option (List ℕ)) → i < length xs → Appends a b (flat_map text (take i xs)) → Appends b c (text (get_or xs i x)) → Appends a c (flat_map text (take (i + 1) xs))
 loop_more text xs i d a b c lt p q =
@@ -77,7 +77,7 @@ loop_more_at text xs i x a b c lt is p q = loop_more text xs i x a b c lt p (sub
 pub loop_stop_at : {X E : Type 0} (text : X → List ℕ) (xs : List X) (i : ℕ) (x : X) (e : E) (a b c : Option (List ℕ)) → i < length xs → x ≡ get_or xs i x → Appends a b (flat_map text (take i xs)) → Sends (Err e) b c (text x) → Sends (Err e) a c (flat_map text xs)
 loop_stop_at text xs i x e a b c lt is p q = loop_stop text xs i x e a b c lt p (subst (λ y. Sends (Err e) b c (text y)) is q)
 
--- ---- a few things in a row
+-- ---- a few items in a row
 pub two : {E : Type 0} (r : Result ⊤ E) (a b c : Option (List ℕ)) (xs ys : List ℕ) → Appends a b xs → Sends r b c ys → Sends r a c (xs ++ ys)
 two r a b c xs ys p q = sends_more r a b c xs ys p q
 

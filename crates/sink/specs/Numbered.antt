@@ -1,7 +1,7 @@
--- The texts of the things of a list, one after the other.
+-- The texts of the items of a list, one after the other.
 use Rattle.std.specs.Prelude.{ℕ, ◌+◌, List, [], ◌∷◌, ◌++◌}
 
--- the things are numbered from n on
+-- the items are numbered from n on
 abbrev pub numbered : {X : Type 0} → (ℕ → X → List ℕ) → ℕ → List X → List ℕ
 numbered text n [] = []
 numbered text n (x ∷ xs) = text n x ++ numbered text (n + 1) xs

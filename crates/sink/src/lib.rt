@@ -1,4 +1,4 @@
-//! Bytes handed to a writer.
+//! Bytes passed to a writer.
 #![tactic(auto)]
 
 ghost use Rattle.std.specs.Prelude.{◌≡◌, flat_map};
@@ -6,7 +6,7 @@ ghost use Rattle.sink.specs.Sends.{Sends};
 
 use std::io::{self, ErrorKind, Write};
 
-/// Hands the bytes to the writer, in as many calls as it takes. A call that takes no byte is a fault. After an `Err` a
+/// Passes the bytes to the writer, in as many calls as it takes. A call that takes no byte is a fault. After an `Err` a
 /// beginning of the bytes was taken.
 pub fn send<W: Write>(writer: &mut W, bytes: &[u8]) -> io::Result<()>
     ensures { Sends result (W.contents writer.old) (W.contents writer.new) bytes.now }
@@ -25,7 +25,7 @@ pub fn send<W: Write>(writer: &mut W, bytes: &[u8]) -> io::Result<()>
     Ok(())
 }
 
-/// Hands the pieces to the writer, one after the other.
+/// Passes the pieces to the writer, one after the other.
 pub fn send_all<W: Write>(writer: &mut W, pieces: &[&[u8]]) -> io::Result<()>
     ensures { Sends result (W.contents writer.old) (W.contents writer.new) (flat_map (λ p. p.now) pieces.now) }
 {

@@ -1,4 +1,4 @@
--- The test of chosen arcs tells the end arcs of a holder, and the arcs of one side of a mark.
+-- The test of chosen arcs identifies the end arcs of a holder, and the arcs of one side of a mark.
 use Rattle.std.proofs.Common.{◌≡◌, ◌≢◌, refl, sym, ap, ◌∙◌, subst, ℕ, Bool, true, false, not, List, [], Option, Some, None}
 use Rattle.std.specs.Prelude.{slice_get, unwrap_or}
 use Rattle.std.specs.Bool.{Decides}

@@ -53,6 +53,6 @@ all_there (suc n) xs h =
     let less = long_with n xs (h n (omega arith)) in
     omega (arith, more, less)
 
--- each number below n stands somewhere in the list
+-- each number below n is somewhere in the list
 pub so_long : (n : ℕ) (xs : List ℕ) → ((s : ℕ) → s < n → (k : ℕ) × (k < length xs) × (get_or xs k 0 ≡ s)) → n ≤ length xs
 so_long n xs h = all_there n xs (λ s lt. let w = h s lt in has_at xs w.0 s w.1 w.2)

@@ -1,4 +1,4 @@
--- Which lane of which word tells of a holder, and of a mark.
+-- Which lane of which word belongs to a holder, and to a mark.
 use Rattle.std.proofs.Common.{◌≡◌, refl, sym, ap, ◌∙◌, subst, ℕ, zero, suc, ◌+◌, ◌-◌, ◌*◌, ◌/◌, ◌%◌, ◌^◌, ◌<◌, ◌≤◌, Bool, true, false, not, ◌&&◌, ◌||◌, ◌==◌, nat_lt, ◌⊎◌, inl, inr, List, [], ◌∷◌, length, drop, replicate, get_or, cond, Option, Some, None, ⊎_elim, arith, bit_and, bit_or}
 use Rattle.std.specs.Prelude.{All}
 use Rattle.std.specs.Int.{w64, trailing_zeros}
@@ -187,7 +187,7 @@ module _ (p : Plan) (c : CodeBlock) (ms : List Mark) where
       let le = le-div (suc (h / 64)) (n + 63) 64 pos fits in
       omega (arith, le)
 
-  -- whether a holder comes after another
+  -- whether a holder is after another
   pub after_bit : (g h : ℕ) → h < c.slots → comes_after (after_rows p ms c (groups c.slots)) g h ≡ bit (row_of p (Ends h) ms c) g
   after_bit g h below =
       let j = h / 64 in

@@ -79,7 +79,7 @@ pass_long p ch ms xs n [] = refl
 pass_long p ch ms xs n (i ∷ is) = pass_long p ch ms (enter_instr p ch xs n (mark_of ms n) i) (n + 1) is ∙ instr_long p ch xs n (mark_of ms n) i
 
 module _ (p : Plan) (ch : Chosen) (ms : List Mark) (arcs : List Arc) (chosen : Arc → Type 0) where
-  -- the test tells which arcs of the instruction are chosen
+  -- the test says which arcs of the instruction are chosen
   abbrev pub Says : ℕ → Instr → Type 0
   Says n i = (y : Arc) → y.from ≡ n → Decides (is_chosen ch i (mark_of ms n) y.second) (chosen y)
 

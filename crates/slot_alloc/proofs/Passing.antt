@@ -186,7 +186,7 @@ module _ (arcs : List Arc) (chosen : Arc → Type 0) where
       broken_port : IsAfter arcs chosen q → ⊥
       broken_port (is_after _ x there to each) = h.3 (each h.0 (sub h.0 h.1) h.2)
 
--- THE OWN ARCS of an instruction are those that come to its ports when all are entered
+-- THE OWN ARCS of an instruction are those that lead to its ports when all are entered
 module _ (n : ℕ) where
   enter_own : (xs : List Inlets) (k : ℕ) (q : Port) (b : Bool) → n < length xs → inlets_at (enter xs (n + k) q b) n ≡ cond (k == 0) (inlets_with (inlets_at xs n) q b) (inlets_at xs n)
   enter_own xs zero q b within =

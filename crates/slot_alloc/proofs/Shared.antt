@@ -1,4 +1,4 @@
--- The table tells exactly which holders may share.
+-- The table says exactly which holders may share.
 use Rattle.std.proofs.Common.{◌≡◌, ◌≢◌, refl, sym, ap, ◌∙◌, subst, ℕ, zero, suc, ◌+◌, ◌<◌, Bool, true, false, not, ◌&&◌, ◌||◌, List, [], ◌∷◌, ◌++◌, length, replicate, cond, Option, Some, inl, inr, ⊎_elim, arith, ◌⊎◌}
 use Rattle.std.specs.Prelude.{slice_get}
 use Rattle.std.specs.Bool.{Decides}
@@ -26,7 +26,7 @@ use Rattle.slot_alloc.proofs.Passed.{Says, follows_exact, bit, Kept, row_exact, 
 use Rattle.slot_alloc.proofs.Groups.{after_bit, one_apart, any_apart, known_apart}
 use Rattle.slot_alloc.proofs.Chosen.{ends_tell, sides_tell, same_mark_exact, mark_at_of}
 
--- A ROW of one block, for chosen arcs that the test tells
+-- A ROW of one block, for chosen arcs that the test identifies
 module _ (p : Plan) (c : CodeBlock) (ms : List Mark) (ch : Chosen) (chosen : Arc → Type 0)
     (says : (n : ℕ) (i : Instr) → slice_get c.instrs n ≡ Some i → (y : Arc) → y.from ≡ n → Decides (is_chosen ch i (mark_of ms n) y.second) (chosen y)) where
   abbrev pub AllFollow : ℕ → Type 0

@@ -1,4 +1,4 @@
--- One pass over the instructions of a block in their order: of each port it tells whether there is an arc into it, and
+-- One pass over the instructions of a block in their order: of each port it says whether there is an arc into it, and
 -- whether each arc into it is chosen or starts at an instruction with such a port.
 use Rattle.std.specs.Prelude.{ℕ, zero, suc, ◌+◌, Bool, true, false, not, ◌&&◌, ◌||◌, ◌==◌, List, [], ◌∷◌, Option, Some, None, slice_get, slice_set, slice_index_or, unwrap_or, nat_lt, if◌then◌else◌}
 use Rattle.tags.specs.declared.token.Port.{Port}

@@ -1,4 +1,4 @@
--- Of each holder of a block, whether all its ports come after the chosen arcs.
+-- Of each holder of a block, whether all its ports are after the chosen arcs.
 use Rattle.std.specs.Prelude.{ℕ, ◌+◌, Bool, true, false, ◌&&◌, List, [], ◌∷◌, Option, Some, None, length, replicate, slice_set, if◌then◌else◌}
 use Rattle.semantics.specs.declared.program.Mark.{Mark}
 use Rattle.semantics.specs.declared.program.Op.{Op}

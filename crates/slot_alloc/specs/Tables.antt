@@ -13,12 +13,12 @@ pub record Split : Type 0 where
   pub yes : List ℕ
   pub no : List ℕ
 
--- `after`: for each 64 holders a row that tells which holders come after them, a lane for each
+-- `after`: for each 64 holders a row that says which holders are after them, a lane for each
 pub record Table : Type 0 where
   pub after : List (List ℕ)
   pub splits : List Split
 
--- how many groups of 64 are needed for n things
+-- how many groups of 64 are needed for n items
 abbrev pub groups : ℕ → ℕ
 groups n = (n + 63) / 64
 
@@ -48,11 +48,11 @@ table_of p ms c = record { after = after_rows p ms c (groups c.slots); splits = 
 abbrev pub word : List ℕ → ℕ → ℕ
 word row g = slice_index_or row g 0
 
--- after which ones of a group holder g comes
+-- after which ones of a group holder g is
 abbrev pub after_word : List (List ℕ) → ℕ → ℕ → ℕ
 after_word rows g k = word (slice_index_or rows k []) g
 
--- whether holder g comes after holder h
+-- whether holder g is after holder h
 abbrev pub comes_after : List (List ℕ) → ℕ → ℕ → Bool
 comes_after rows g h = bit_and (word (slice_index_or rows (h / 64) []) g / 2 ^ (h % 64)) 1 == 1
 

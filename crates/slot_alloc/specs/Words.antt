@@ -110,7 +110,7 @@ abbrev pub pass : Plan → Choice → List Mark → List Mark → List Flows →
 pass p ch known ms xs n [] = xs
 pass p ch known ms xs n (i ∷ is) = pass p ch known ms (enter_instr p xs n (lanes ch known i (mark_of ms n) false) (lanes ch known i (mark_of ms n) true) i) (n + 1) is
 
--- THE ROW: of each holder the lanes in which all its ports come after the chosen arcs
+-- THE ROW: of each holder the lanes in which all its ports are after the chosen arcs
 abbrev pub all_lanes : ℕ
 all_lanes = 2 ^ 64 - 1
 

@@ -1,6 +1,6 @@
 //! Slots for the holders of a plan: which choices are good, and a good choice.
 //!
-//! Two holders of a block may share a slot if all ports of one come after all ends of the other, or if they lie on
+//! Two holders of a block may share a slot if all ports of one are after all ends of the other, or if they lie on
 //! different sides of the switches of one mark (explicit token store: Papadopoulos and Culler, ISCA 1990).
 #![tactic(auto)]
 
@@ -30,8 +30,8 @@ fn blocks_of<A: Allocator>(plan: &Plan<A>) -> &[CodeBlock<A>]
 /// Whether the slots are a good choice for the holders of a plan: one list for each block and one slot for each of its
 /// holders, each slot below 512, and any two holders of a block in one slot may share it.
 ///
-/// Of a block with h holders, m marks and n arcs the time is that of (h + 2 m) n / 64 steps and of a look at each two
-/// holders, and h (h + 2 m) bits are kept meanwhile.
+/// For a block with h holders, m marks and n arcs the time is that of (h + 2 m) n / 64 steps and of a look at each pair of
+/// holders, and h (h + 2 m) bits are stored meanwhile.
 pub fn check_slots<A: Allocator + Clone>(
     alloc: A,
     plan: &Plan<A>,
@@ -56,8 +56,8 @@ pub fn check_slots<A: Allocator + Clone>(
 /// A good choice of slots: each holder in turn, by number, has the least slot in which it may share with each earlier
 /// holder.
 ///
-/// `TooManySlots` names the first block in which a holder finds none of the 512 slots of a frame open: in each of them
-/// lies an earlier holder that may not share with it.
+/// `TooManySlots` names the first block in which a holder finds none of the 512 slots of a frame open: each of them has an
+/// earlier holder that may not share with it.
 pub fn assign<A: Allocator + Clone>(alloc: A, plan: &Plan<A>) -> Result<Slots<A>, AssignFault>
     ensures assigned { IfOk result (IsAssigned plan.now) }
     ensures refused { IfErr result (IsRefused plan.now) }

@@ -1,5 +1,5 @@
 //! One pass over the instructions of a block in their order, for 64 choices of arcs at once. It finds the ports of which
-//! each arc is chosen or starts at an instruction with such a port. No arc goes back, so all arcs into an instruction but
+//! each arc is chosen or starts at an instruction with such a port. No arc goes back, so all arcs into an instruction except
 //! its own are known when it is reached.
 
 ghost use Rattle.std.specs.Prelude.{◌≡◌, ℕ, ◌+◌, ◌<◌, ◌≤◌, ◌^◌, IfOk, length, replicate, if◌then◌else◌};

@@ -1,4 +1,4 @@
-//! Of each holder of a block, in which of 64 lanes all its ports come after the chosen arcs.
+//! Of each holder of a block, in which of 64 lanes all its ports are after the chosen arcs.
 
 ghost use Rattle.std.specs.Prelude.{◌≡◌, ◌<◌, IfOk, length};
 ghost use Rattle.slot_alloc.specs.Words as of_words;
@@ -10,7 +10,7 @@ use code::{CodeBlock, Instr, Plan};
 use semantics::program::{Mark, Op};
 use std::alloc::{AllocError, Allocator};
 
-/// The lanes in which the ports at which a holder is met come after the chosen arcs at an instruction: both, or for a
+/// The lanes in which the ports at which a holder is met are after the chosen arcs at an instruction: both, or for a
 /// loop that of `open`.
 fn ports_led(op: Op, flows: Flows) -> u64
     ensures { result ≡ of_words.ports_led op flows }
@@ -22,7 +22,7 @@ fn ports_led(op: Op, flows: Flows) -> u64
     }
 }
 
-/// Crosses out the holder of an instruction in each lane in which a port does not come after the chosen arcs.
+/// Crosses out the holder of an instruction in each lane in which a port is not after the chosen arcs.
 fn note<A: Allocator>(row: &mut Row<A>, instr: &Instr<A>, flows: Flows)
     ensures { row.new ≡ of_words.noted row.old instr.now flows }
 {
@@ -31,7 +31,7 @@ fn note<A: Allocator>(row: &mut Row<A>, instr: &Instr<A>, flows: Flows)
     }
 }
 
-/// Crosses out each holder in the lanes in which one of its ports does not come after the chosen arcs.
+/// Crosses out each holder in the lanes in which one of its ports is not after the chosen arcs.
 fn note_all<A: Allocator>(row: &mut Row<A>, instrs: &[Instr<A>], flows: &[Flows])
     requires { length flows.now ≡ length instrs.now }
     ensures { row.new ≡ of_words.row_from row.old flows.now 0 instrs.now }
@@ -41,7 +41,7 @@ fn note_all<A: Allocator>(row: &mut Row<A>, instrs: &[Instr<A>], flows: &[Flows]
     }
 }
 
-/// The lanes of each holder: those in which all its ports come after the chosen arcs.
+/// The lanes of each holder: those in which all its ports are after the chosen arcs.
 pub(crate) fn row_of<A: Allocator + Clone>(
     alloc: A,
     plan: &Plan<A>,

@@ -83,7 +83,7 @@ fn split_of<A: Allocator + Clone>(
     Ok(Split { yes, no })
 }
 
-/// How many groups of 64 `count` things fill.
+/// How many groups of 64 `count` items fill.
 fn groups(count: usize) -> usize
     requires { count < 2 ^ 63 }
     ensures { result ≡ of_tables.groups count }
@@ -109,7 +109,7 @@ fn splits_of<A: Allocator + Clone>(
     Ok(splits)
 }
 
-/// For each 64 holders the row that tells which holders come after them.
+/// For each 64 holders the row that says which holders are after them.
 fn after_rows<A: Allocator + Clone>(
     alloc: A,
     plan: &Plan<A>,
@@ -137,7 +137,7 @@ fn note_blocked(blocked: &mut [bool], slot: usize, may_share: bool)
     }
 }
 
-/// Tells of any two holders of a block whether they may share a slot.
+/// Says of any two holders of a block whether they may share a slot.
 #[derive(Drop)]
 pub(crate) struct Table<A: Allocator> {
     after: Vec<Row<A>, A>,
@@ -170,7 +170,7 @@ impl<A: Allocator + Clone> Table<A> {
 }
 
 impl<A: Allocator> Table<A> {
-    /// After which ones of 64 holders a holder comes, a lane for each.
+    /// After which ones of 64 holders a holder is, a lane for each.
     fn after_lanes(&self, holder: usize, group: usize) -> u64
         ensures { result ≡ of_tables.after_word self.now.after holder group }
     {
@@ -180,7 +180,7 @@ impl<A: Allocator> Table<A> {
         }
     }
 
-    /// Whether the first holder comes after the second one.
+    /// Whether the first holder is after the second one.
     fn comes_after(&self, g: usize, h: usize) -> bool
         ensures { result ≡ of_tables.comes_after self.now.after g h }
     {
@@ -251,7 +251,7 @@ impl<A: Allocator> Table<A> {
         is_sided && self.are_apart(g, h)
     }
 
-    /// Whether a holder may share a slot with the next one. A lane of its group tells whether the next one comes after it.
+    /// Whether a holder may share a slot with the next one. A lane of its group says whether the next one is after it.
     fn next_may_share(&self, lanes: u64, is_sided: bool, holder: usize, next: usize) -> bool
         requires lanes { lanes ≡ of_tables.after_word self.now.after next (holder / 64) }
         requires sided { is_sided ≡ list_any (of_tables.is_sided next) self.now.splits }

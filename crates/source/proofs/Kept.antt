@@ -65,7 +65,7 @@ in_store p scope at a e d n h =
     let r = both_one p scope e d n s.2 in
     (must_ok (is_some (array_in p a)) NoSuchName at s.0 s.1, r.0, r.1, r.2)
 
--- the function that a call names is there, and its parameters are as many as the arguments
+-- the function that a call names exists, and has as many parameters as there are arguments
 pub record IsCalled (p : Program) (scope : List Name) (f : Name) (es : Exprs) (n : ℕ) : Type 0 where
   pub function : Function
   pub found : function_in p f ≡ Some function

@@ -38,7 +38,7 @@ munched = refl
 longest_word : lexed (codes "iff if loops") ≡ Ok (token (Name 3) 0 ∷ token (Word word.If) 4 ∷ token (Name 5) 7 ∷ [])
 longest_word = refl
 
--- a comment ends with its line, and any byte may stand in it
+-- a comment ends with its line, and may have any byte in it
 comment : lexed (codes "a // b?" ++ newline ++ codes "c") ≡ Ok (token (Name 1) 0 ∷ token (Name 1) 8 ∷ [])
 comment = refl
 

@@ -1,4 +1,4 @@
--- What is too big, and what just is not.
+-- What is too big, and what is just not too big.
 use Rattle.std.specs.Prelude.{◌≡◌, ℕ, [], ◌∷◌, replicate, Ok, refl}
 use Rattle.semantics.specs.declared.graph.Region.TheVariants.{Root}
 use Rattle.semantics.specs.declared.graph.Kind.TheVariants.{Enter}

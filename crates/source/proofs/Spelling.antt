@@ -1,4 +1,4 @@
--- Tokens are those of a tree where they say the same, one by one, and stand where the tree says.
+-- Tokens are those of a tree where they say the same, one by one, and are where the tree says.
 use Rattle.std.specs.Prelude.{◌≡◌, ℕ, ◌==◌, ◌&&◌, Bool, true, List, [], ◌∷◌, map, Option, None, Some}
 use Rattle.std.proofs.Common.{eqb-true}
 use Rattle.lemmas.proofs.Bools.{first_of_and, second_of_and}

@@ -10,7 +10,7 @@ pub then_ok : {A B : Type 0} (r : Result A Fault) (f : A → Result B Fault) (b 
 then_ok (Ok a) f b h = (a, refl, h)
 then_ok (Err fault) f b h = cc
 
--- what is so wherever the second part goes well
+-- what holds wherever the second part goes well
 pub then_all : {A B : Type 0} (r : Result A Fault) (f : A → Result B Fault) (P : B → Type 0) → ((a : A) (b : B) → f a ≡ Ok b → P b) → (b : B) → (r >>= f) ≡
     Ok b → P b
 then_all (Ok a) f P all b h = all a b h
@@ -26,6 +26,6 @@ ok_same a b h = cc
 pub ok_as : {A : Type 0} (r : Result A Fault) (a b : A) → r ≡ Ok a → a ≡ b → r ≡ Ok b
 ok_as r a b h e = h ∙ ap (λ x. Ok x) e
 
--- two numbers that were told to be the same, of which the first is n
+-- two numbers that are given to be the same, of which the first is n
 pub ok_through : {A : Type 0} (r : Result A Fault) (a b n : A) → r ≡ Ok b → a ≡ b → a ≡ n → r ≡ Ok n
 ok_through r a b n h e d = h ∙ ap (λ x. Ok x) (sym e ∙ d)

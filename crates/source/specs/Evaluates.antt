@@ -14,13 +14,13 @@ use Rattle.source.specs.declared.word.InfixSign.TheVariants.{Direct, Greater, At
 use Rattle.source.specs.Tree.{Name, NameAt, NumberAt, Target, Bind, Drop, Expr, Number, Named, Bracket, Prefix, Infix, Fetch, Store, Call, If, Loop, Exprs, One, More, Body, Let, Do, Give, Chain, Turn, Before, After, Function, Item, Cells, Defines, Program}
 use Rattle.source.specs.Rules.{function_in, main_name}
 
--- what stands round an evaluation: the program, the origin of a fault that is made at a token, and the memory in the end
+-- the surroundings of an evaluation: the program, the origin of a fault that is made at a token, and the memory in the end
 pub record World : Type 0 where
   pub program : Program
   pub origin : ℕ → Origin
   pub memory : ℕ → Option Value
 
--- NAMES. What names stand for, those that hide others in front.
+-- NAMES. What names stand for, those that hide others first.
 abbrev pub Env : Type 0
 Env = List (Name × Value)
 
@@ -28,7 +28,7 @@ abbrev pub bound : Env → Name → Option Value
 bound [] x = None
 bound (entry ∷ env) x = if same_name x entry.0 then Some entry.1 else bound env x
 
--- the names stand for the values, in front of what stood before
+-- the names stand for the values, before what was there
 abbrev pub entered : List NameAt → List Value → Env → Env
 entered (x ∷ xs) (v ∷ vs) env = (x.name, v) ∷ entered xs vs env
 entered xs vs env = env

@@ -60,7 +60,7 @@ level (Call at strict f es) = 9
 level (If at p l r) = 9
 level (Loop at bound firsts turn) = 9
 
--- NUMBERS are below 2 ^ 63, but for 2 ^ 63 itself directly under `-`.
+-- NUMBERS are below 2 ^ 63, except 2 ^ 63 itself directly under `-`.
 abbrev pub Small : ℕ → Type 0
 Small n = n < 2 ^ 63
 
@@ -94,7 +94,7 @@ abbrev mutual
   FitsAll (One e) = Fits e
   FitsAll (More e es) = Fits e × FitsAll es
 
-  -- The flag says whether the body stands after an `else`: only there an `if` may be all of it, and then has no braces.
+  -- The flag says whether the body is after an `else`: only there an `if` may be all of it, and then has no braces.
   pub FitsBody : Bool → Body → Type 0
   FitsBody behind_else (Let at targets es rest) = (0 < length targets) × FitsAll es × FitsBody false rest
   FitsBody behind_else (Do es rest) = FitsAll es × FitsBody false rest

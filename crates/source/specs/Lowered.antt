@@ -43,7 +43,7 @@ pub record Lowered : Type 0 where
   pub sources : List Source
   pub blocks : List MadeBlock
 
--- Where a part stands: the function, the region, and the trigger, which is the first input of the region. A literal waits for
+-- Where a part is: the function, the region, and the trigger, which is the first input of the region. A literal waits for
 -- the trigger.
 pub record Site : Type 0 where
   pub function : Name
@@ -71,7 +71,7 @@ abbrev pub inputs_from : ℕ → ℕ → List Source
 inputs_from n zero = []
 inputs_from n (suc count) = port n 0 ∷ inputs_from (n + 1) count
 
--- SCOPES: what names stand for, those that hide others in front
+-- SCOPES: what names stand for, those that hide others first
 abbrev pub Scope : Type 0
 Scope = List (Name × Source)
 
@@ -196,7 +196,7 @@ abbrev pub turn_site : Name → Site
 turn_site f = record { function = f; region = Root; trigger = port 0 0 }
 
 -- The block of a turn: inputs are the loop's names, then the outside names. Results are the flag, the next values, and the
--- outside names as they came.
+-- outside names unchanged.
 abbrev pub turn_block : ℕ → ℕ → List Name → List Name → Lowered → MadeBlock
 turn_block at k xs outs t = record {
   at = at;
@@ -209,7 +209,7 @@ turn_block at k xs outs t = record {
 abbrev pub turn_scope : List Name → List Name → Scope
 turn_scope xs outs = scoped (xs ++ outs) (inputs_from 0 (length xs + length outs)) []
 
--- the node of a loop, after its first values: the block of a turn stands before the blocks of the loops in it
+-- the node of a loop, after its first values: the block of a turn is before the blocks of the loops in it
 abbrev pub looped : Site → Spot → Scope → ℕ → ℕ → List Name → List Name → Lowered → Lowered → Lowered
 looped site spot scope at bound xs outs f t =
     let k : ℕ = spot.loops + length f.blocks + 1 in
@@ -263,7 +263,7 @@ abbrev mutual
 
   -- the nodes of a turn's block, with the flag and the next values as sources
   pub lower_turn : Program → Name → Spot → ℕ → Scope → Turn → Lowered
-  -- the test, and a conditional whose right arm gives the values as they came
+  -- the test, and a conditional whose right arm gives the values unchanged
   lower_turn p f spot at scope (Before xs q body) =
       let c : Lowered = lower p (turn_site f) spot scope q in let k : Spot = spot_after spot c in
       let a : Lowered = arm (turn_site f) k.next true (next_spot k) at scope (first_of c.sources) (outside_body body) (λ here inner names. lower_body p here

@@ -11,7 +11,7 @@ is_in x xs = list_any (same_name x) xs
 abbrev pub without : List Name → List Name → List Name
 without bound xs = filter (λ x. not (is_in x bound)) xs
 
--- each once, where it stands first
+-- each once, where it is first
 abbrev pub once : List Name → List Name
 once [] = []
 once (x ∷ xs) = x ∷ filter (λ y. not (same_name x y)) (once xs)

@@ -16,7 +16,7 @@ pub record Parses (text : List ℕ) (ts : List Token) (p : Program) : Type 0 whe
   pub depth : program_depth p ≤ 200
   pub spelled : AreSpelled text (program_tokens p) ts
 
--- FAULTS speak of what tokens say, not of where they stand.
+-- FAULTS speak of what tokens say, not of where they are.
 abbrev pub says : Program → List Lexeme
 says p = map (λ (s : Spelling). s.lexeme) (program_tokens p)
 
@@ -45,15 +45,15 @@ pub record IsWhole (ls : List Lexeme) : Type 0 where
   pub depth : program_depth program ≤ 200
   pub says_so : says program ≡ ls
 
--- a `:=` where an operand ends, and so an operator could stand
+-- a `:=` where an operand ends, and so an operator could be
 abbrev pub IsNoCell : List Lexeme → Lexeme → Type 0
 IsNoCell ls l = (l ≡ TheSign Becomes) × GoesOn (ls ++ TheSign Plus ∷ [])
 
--- 2 ^ 63 where a number could stand, but not this one
+-- 2 ^ 63 where a number could be, but not this one
 abbrev pub IsTooLarge : List Lexeme → Lexeme → Type 0
 IsTooLarge ls l = (l ≡ TheNumber (2 ^ 63)) × GoesOn (ls ++ TheNumber 0 ∷ [])
 
--- The kind of a fault at a token, after tokens that go on, where with it they do not.
+-- The kind of a fault at a token after tokens with which some program goes on, where none goes on with this token.
 abbrev pub IsKindAt : List Lexeme → Lexeme → FaultKind → Type 0
 IsKindAt ls l TooDeep = GoesOnDeeply (ls ++ l ∷ [])
 IsKindAt ls l NotACell = (GoesOnDeeply (ls ++ l ∷ []) → ⊥) × IsNoCell ls l

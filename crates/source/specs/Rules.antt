@@ -1,5 +1,5 @@
 -- THE STATIC RULES, and the first fault of a program that breaks one. First the heads of the items, in order; then whether
--- there is a function `main`; then the functions, in order. Sizes come with the lowering.
+-- there is a function `main`; then the functions, in order. Sizes are checked by the lowering.
 use Rattle.std.specs.Prelude.{ℕ, ◌+◌, ◌==◌, ◌&&◌, not, nat_le, nat_lt, List, [], ◌∷◌, ◌++◌, length, drop, is_some, Option, None, Some, Result, Ok, ⊤, if◌then◌else◌}
 use Rattle.semantics.specs.Graph.{same_name}
 use Rattle.source.specs.declared.fault.Fault.{Fault}
@@ -37,7 +37,7 @@ abbrev pub written_or_one : Option NumberAt → ℕ
 written_or_one None = 1
 written_or_one (Some n) = n.number
 
--- HEADS of items: what stands before, how many arrays, and how many cells they have
+-- HEADS of items: the items before, how many arrays, and how many cells they have
 pub record Heads : Type 0 where
   pub names : List Name
   pub arrays : ℕ
@@ -75,7 +75,7 @@ heads before (i ∷ items) = do
   heads next items
 
 -- LOCAL NAMES
--- Names of a list: none is that of an item, and none stands twice. `before` are the names before in the list.
+-- Names of a list: none is that of an item, and none occurs twice. `before` are the names before in the list.
 abbrev pub new_name : Program → List Name → NameAt → Result ⊤ Fault
 new_name p before x = must (not (is_in x.name (item_names p)) && not (is_in x.name before)) SameName x.at
 
@@ -103,7 +103,7 @@ and_first before [] = before
 and_first before (x ∷ xs) = x.name ∷ before
 
 -- VALUES
--- where the fault stands if an expression has not one value
+-- where the fault is if an expression has not one value
 abbrev pub place_of : Expr → ℕ
 place_of (Number at n) = at
 place_of (Named at x) = at

@@ -1,4 +1,4 @@
--- THE TOKENS OF A TREE. A name that stands in a tree has its bytes there, so what a token of a text says is seen with the
+-- THE TOKENS OF A TREE. A name in a tree has its bytes there, so what a token of a text says is seen with the
 -- bytes of its name.
 use Rattle.std.specs.Prelude.{◌≡◌, ℕ, ◌++◌, Bool, true, false, List, [], ◌∷◌, map, flat_map, take, drop, Option, None, Some, ⊤}
 use Rattle.operators.specs.declared.Unary.{Unary}
@@ -113,7 +113,7 @@ is_chain (Do es rest) = false
 is_chain (Give es) = false
 is_chain (Chain e) = true
 
--- braces round a body, but not round the `if` after an `else`
+-- braces around a body, but not around the `if` after an `else`
 abbrev pub braced : Bool → List Spelling → List Spelling
 braced true ts = ts
 braced false ts = the_sign sign.OpenBrace ∷ ts
@@ -169,7 +169,7 @@ item_tokens (Defines f) = the_word word.Fn ∷ name_token f.name ∷ the_sign si
 abbrev pub program_tokens : Program → List Spelling
 program_tokens items = flat_map item_tokens items
 
--- WHETHER A TEXT'S TOKENS ARE A TREE'S: they say the same, one by one, and stand where the tree says.
+-- WHETHER A TEXT'S TOKENS ARE A TREE'S: they say the same, one by one, and are where the tree says.
 abbrev pub IsPlace : Option ℕ → ℕ → Type 0
 IsPlace None at = ⊤
 IsPlace (Some place) at = place ≡ at

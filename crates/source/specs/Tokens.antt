@@ -1,4 +1,4 @@
--- THE TEXT OF A PROGRAM, AND ITS TOKENS. A text is its bytes, and a place in it is the number of bytes before.
+-- THE TEXT OF A PROGRAM, AND ITS TOKENS. A text is its bytes, and a place in it is the number of bytes before it.
 use Rattle.std.specs.Prelude.{◌≡◌, ℕ, zero, suc, ◌+◌, ◌-◌, ◌^◌, ◌==◌, ◌&&◌, ◌||◌, not, nat_le, Bool, true, false, List, [], ◌∷◌, length, take, drop, fold, find, take_while, bytes_eq, codes, Option, None, Some, Result, Ok, Err, if◌then◌else◌}
 use Rattle.std.specs.List.{list_all, list_any}
 use Rattle.std.specs.Char.{is_ascii_digit, is_ascii_alphabetic, is_ascii_alphanumeric}
@@ -30,7 +30,7 @@ abbrev pub lines_before_inputs : Bool → List ℕ → List ℕ
 lines_before_inputs fresh [] = []
 lines_before_inputs fresh (b ∷ bytes) = if fresh && bytes_eq (line_from (b ∷ bytes)) (codes "inputs") then [] else b ∷ lines_before_inputs (b == 10) bytes
 
--- the program: what stands before that line, or all of the text where there is none
+-- the program: what is before that line, or all of the text where there is none
 abbrev pub program_of : List ℕ → List ℕ
 program_of text = lines_before_inputs true text
 
@@ -72,7 +72,7 @@ keyword_text word.Inputs = codes "inputs"
 abbrev pub keywords : List Keyword
 keywords = word.Array ∷ word.Fn ∷ word.Let ∷ word.If ∷ word.Else ∷ word.Loop ∷ word.While ∷ word.Strict ∷ word.Inputs ∷ []
 
--- words that nothing uses, and that are no names either
+-- reserved words, which are neither used nor names
 abbrev pub kept : List (List ℕ)
 kept =
     codes "and" ∷ codes "as" ∷ codes "break" ∷ codes "case" ∷ codes "const" ∷ codes "do" ∷ codes "end" ∷ codes "false" ∷ codes "for" ∷ codes "in" ∷ codes
@@ -124,19 +124,19 @@ pub data Beginning : Type 0 where
   Read : (kind : TokenKind) (len : ℕ) → Beginning
   Refused : (kind : FaultKind) → Beginning
 
--- A run from a digit on: digits alone, no leading zero, at most 2 ^ 63.
+-- A run from a digit on: only digits, no leading zero, at most 2 ^ 63.
 abbrev pub is_numeral : List ℕ → Bool
 is_numeral run = list_all is_ascii_digit run && (not (begins (codes "0") run) || length run == 1)
 
 abbrev pub numeral_run : List ℕ → Beginning
 numeral_run run = if is_numeral run && nat_le (digits_value 10 run) (2 ^ 63) then Read (Number (digits_value 10 run)) (length run) else Refused BadNumber
 
--- whether two `_` stand side by side
+-- whether two `_` are side by side
 abbrev pub has_double : List ℕ → Bool
 has_double [] = false
 has_double (b ∷ bytes) = begins (codes "__") (b ∷ bytes) || has_double bytes
 
--- A run from a letter on that is no keyword: at most 24 bytes, no `__` in it, not kept for later.
+-- A run from a letter on that is no keyword: at most 24 bytes, no `__` in it, not reserved.
 abbrev pub is_name : List ℕ → Bool
 is_name run = not (begins (codes "_") run) && nat_le (length run) 24 && not (has_double run) && not (list_any (bytes_eq run) kept)
 
@@ -184,7 +184,7 @@ abbrev pub preceded : Token → Result (List Token) Fault → Result (List Token
 preceded t (Ok ts) = Ok (t ∷ ts)
 preceded t (Err fault) = Err fault
 
--- what comes of a beginning at a place, where `lexed_past n` has the tokens that follow n more bytes
+-- the result of a beginning at a place, where `lexed_past n` has the tokens that follow n more bytes
 abbrev pub lexed_then : ℕ → Beginning → (ℕ → Result (List Token) Fault) → Result (List Token) Fault
 lexed_then at (Skipped len) lexed_past = lexed_past (len - 1)
 lexed_then at (Read kind len) lexed_past = preceded (record { kind = kind; at = at }) (lexed_past (len - 1))

@@ -65,7 +65,7 @@ item_words (Defines f) = word.Function f.name.at f.name.name ∷ map (λ (x : Na
 abbrev pub program_words : Program → Words
 program_words items = flat_map item_words items
 
--- IN CODE a word tells a name by its number in a table of names.
+-- IN CODE a word gives a name by its number in a table of names.
 abbrev pub name_of : List Name → ℕ → Name
 name_of names n = slice_index_or names n []
 
@@ -131,7 +131,7 @@ pub record NamedWords : Type 0 where
   pub names : List Name
   pub words : List (Word ℕ)
 
--- A table of names, and words with numbers of names in it, are those of a program: no name stands twice in the table, and
+-- A table of names, and words with numbers of names in it, are those of a program: no name is twice in the table, and
 -- each number is one of it.
 pub record AreWords (names : List Name) (ws : List (Word ℕ)) (p : Program) : Type 0 where
   pub words : map (named names) ws ≡ program_words p

@@ -8,22 +8,22 @@ pub enum FaultKind {
     /// A byte that begins no token.
     #[error("a byte that begins no token")]
     BadByte,
-    /// A number that is not well written, or above 9223372036854775807 where no `-` stands directly before it.
+    /// A number that is not well written, or above 9223372036854775807 with no `-` directly before it.
     #[error("a bad number")]
     BadNumber,
-    /// A name of more than 24 bytes, with `__` in it, from `_` on, or kept for later.
+    /// A name of more than 24 bytes, with `__` in it, with `_` as its first byte, or reserved.
     #[error("a bad name")]
     BadName,
-    /// A token with which nothing goes on that began before it.
+    /// A token that does not continue what is before it.
     #[error("something else should stand here")]
     Unexpected,
-    /// The program ends where something should stand.
+    /// The program ends before it is complete.
     #[error("the program ends too early")]
     Unended,
     /// More than 200 expressions, signs before an operand and conditionals are open at once.
     #[error("nested too deeply")]
     TooDeep,
-    /// A `:=` after what is no cell of an array.
+    /// A `:=` after something that is not a cell of an array.
     #[error("what is stored to is no cell of an array")]
     NotACell,
     /// A name of an array, of a function or of a value that stands for something else already.
@@ -32,7 +32,7 @@ pub enum FaultKind {
     /// A name that stands for nothing.
     #[error("no value, array or function has this name")]
     NoSuchName,
-    /// A number of values that is not that for which they stand.
+    /// A number of values other than the number that is needed.
     #[error("a wrong number of values")]
     Arity,
     /// A loop's bound that is not 2 to 64.
@@ -58,7 +58,7 @@ pub enum FaultKind {
     Memory,
 }
 
-/// A fault, and its place: how many bytes of the program's text stand before it.
+/// A fault, and its place: how many bytes of the program's text are before it.
 #[derive(Clone, Copy, Debug, PartialEq, Eq, Error)]
 #[error("{kind}")]
 pub struct Fault {

@@ -27,7 +27,7 @@ pub fn examples()
     ensures memory { MemoryIsComputed }
 {}
 
-/// An expression has one answer, and a program on the same arguments, too.
+/// An expression has one answer, and so has a program on the same arguments.
 pub fn answers_are_one()
     ensures expression { OneAnswer }
     ensures program { OneOutput }

@@ -5,7 +5,7 @@ use graph::Name;
 use std::alloc::Allocator;
 use std::marker::Model;
 
-/// The names of a program, each once, and its words, which tell a name by its number among these. There is a tree that fits
+/// The names of a program, each once, and its words, which give a name by its number among these. There is a tree that fits
 /// the grammar, whose words they are, and its names are as texts have them. Who makes one proves that.
 #[derive(Drop)]
 pub struct Program<'a, A: Allocator> {

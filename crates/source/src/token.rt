@@ -86,7 +86,7 @@ pub enum TokenKind {
     Name { len: usize },
 }
 
-/// A token, and its place: how many bytes of the program's text stand before it.
+/// A token, and its place: how many bytes of the program's text are before it.
 #[derive(Clone, Copy, Debug, PartialEq, Eq)]
 pub struct Token {
     pub kind: TokenKind,

@@ -11,7 +11,7 @@ pub enum InfixSign {
     AtLeast,
 }
 
-/// A word of a program, each with the place of its token. It tells a name by its bytes or, in code, by its number in a
+/// A word of a program, each with the place of its token. It gives a name by its bytes or, in code, by its number in a
 /// table of names.
 #[derive(Clone, Copy)]
 pub enum Word<N> {
@@ -57,7 +57,7 @@ pub enum Word<N> {
         at: usize,
         name: N,
     },
-    /// The expression before stands in brackets.
+    /// The expression before is in brackets.
     Bracket,
     Prefix {
         at: usize,
@@ -148,6 +148,6 @@ pub enum Word<N> {
     Do,
     /// The list before has the values of the body, which ends.
     Give,
-    /// The conditional before is all of the body: it stands after an `else`.
+    /// The conditional before is all of the body: it is after an `else`.
     Chain,
 }

@@ -99,7 +99,7 @@ back_left (Chain e) k scope h = refl
 pub all_back : (b : Body) (scope : List Name) → back (length scope) (left_scope b scope) ≡ scope
 all_back b scope = back_left b (length scope) scope (omega arith) ∙ back-itself scope
 
--- a frame more
+-- one more frame
 pub frame_deep : (s : State Name) (f : Frame) → IsDeep s → IsDeep (pushed s f)
 frame_deep s f d = record { scope = d.scope; used = d.used }
 

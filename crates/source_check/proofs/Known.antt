@@ -20,7 +20,7 @@ use Rattle.source_check.proofs.Runs.{mapped}
 use Rattle.source_check.proofs.Over.{Knows, shape_of}
 use Rattle.source_check.proofs.HeadsRead.{entry_of, with_items}
 
--- no name is one of these, or stands twice
+-- no name is one of these, or occurs twice
 abbrev Apart : List Name → List Item → Type 0
 Apart names [] = Unit {0}
 Apart names (i ∷ items) = (is_in (item_name i).name names ≡ false) × Apart ((item_name i).name ∷ names) items
@@ -61,7 +61,7 @@ heads_apart (Defines f ∷ items) b r h =
     (record { names = f.name.name ∷ b.names; arrays = b.arrays; cells = b.cells }) r (λ next. heads next items) h in
     (k.0, heads_apart items (record { names = f.name.name ∷ b.names; arrays = b.arrays; cells = b.cells }) r k.1)
 
--- A name that stands before is none of these.
+-- A name before is none of these.
 not_again : (x y : Name) (names : List Name) → is_in x names ≡ true → is_in y names ≡ false → same_name x y ≡ false
 not_again x y names h k = go (same_name x y) refl
   where

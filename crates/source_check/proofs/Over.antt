@@ -37,7 +37,7 @@ pub record IsDeep (s : State Name) : Type 0 where
 abbrev pub notes : (Name → Option Entry) → State Name → List Name → List Name
 notes item s xs = all_noted (by_bytes item) (since s.turn.base s.scope) s.turn.start s.used xs
 
--- a part has n values and stands at that place, and this is used so far
+-- a part has n values and is at that place, and this is used so far
 abbrev pub having : State Name → List Name → ℕ → ℕ → State Name
 having s used n at = record s { used = used; last = record { count = n; at = at } }
 
@@ -51,7 +51,7 @@ left_scope (Do es rest) scope = left_scope rest scope
 left_scope (Give es) scope = scope
 left_scope (Chain e) scope = scope
 
--- The steps over a part answer what the rules do, and leave this.
+-- The steps over a part give what the rules give, and leave this.
 abbrev pub Over : (Name → Option Entry) → Program → Expr → Type 0
 Over item p e = (s : State Name) → IsDeep s → steps (by_bytes item) s (words e) ≡ mapped (λ n. having s (notes item s (uses e)) n (place_of e))
     (values p s.scope e)

@@ -1,4 +1,4 @@
--- Going over words that stand one after another.
+-- Going over words one after another.
 use Rattle.std.specs.Prelude.{◌≡◌, refl, ℕ, Bool, true, false, List, [], ◌∷◌, ◌++◌, Result, Ok, Err}
 use Rattle.std.proofs.Common.{◌∙◌, ap}
 use Rattle.source.specs.declared.fault.Fault.{Fault}
@@ -32,7 +32,7 @@ pub tested : {S W A : Type 0} (t : S → W → Result S Fault) (vs : List W) (b 
 tested t vs true kind at q s g h = h
 tested t vs false kind at q s g h = refl
 
--- where a test for one value comes before
+-- where a test for one value is before
 pub one_tested : {S W A B : Type 0} (t : S → W → Result S Fault) (vs : List W) (b : Bool) (kind : FaultKind) (at : ℕ) (a : A) (q : A
     → Result B Fault) (s : S) (g : B → S)
     → through t s vs ≡ mapped g (q a) → ((must b kind at >>= λ x. Ok s) >>= λ u. through t u vs) ≡ mapped g ((must b kind at >>= λ x. Ok a) >>= q)

@@ -27,7 +27,7 @@ use Rattle.source_check.proofs.Loops.{OverTurn, over_before, over_after, over_lo
 over_number : (item : Name → Option Entry) (p : Program) (at n : ℕ) → Over item p (Number at n)
 over_number item p at n s d = refl
 
--- the least number stands under `-` alone
+-- the least number is allowed only under `-`
 over_least : (item : Name → Option Entry) (p : Program) (op : Unary) (e : Expr) → IsLeast op e → Over item p e
 over_least item p Neg (Number at n) h = over_number item p at n
 over_least item p op e h = absurd h

@@ -1,4 +1,4 @@
--- WORDS IN CODE tell names by numbers.
+-- WORDS IN CODE give names by numbers.
 use Rattle.std.specs.Prelude.{◌≡◌, ℕ, ◌<◌, ◌⊎◌, List, length}
 use Rattle.source.specs.Tree.{Name}
 use Rattle.source.specs.Words.{name_of}

@@ -1,4 +1,4 @@
--- THE STATIC RULES, WORD BY WORD. The words of functions are gone over once, each by a step. What is open stands in a list
+-- THE STATIC RULES, WORD BY WORD. The words of functions are gone over once, each by a step. What is open is in a list
 -- of frames, the innermost first.
 use Rattle.std.specs.Prelude.{ℕ, ◌+◌, ◌-◌, ◌==◌, ◌&&◌, ◌||◌, not, nat_le, Bool, true, false, List, [], ◌∷◌, length, take, drop, is_some, Option, None, Some, Result, Ok, ⊤, if◌then◌else◌}
 use Rattle.std.specs.List.{list_any}
@@ -36,7 +36,7 @@ abbrev pub begun : {N : Type 0} → State N
 begun = record { scope = []; pending = []; used = []; turn = record { base = 0; start = 0 }; frames = []; last = record { count = 0; at = 0 } }
 
 -- STACKS
--- what came after the first n
+-- what is after the first n
 abbrev pub since : {N : Type 0} → ℕ → List N → List N
 since n xs = take (length xs - n) xs
 
@@ -62,7 +62,7 @@ popped s = record s { frames = drop 1 s.frames }
 abbrev pub pushed : {N : Type 0} → State N → Frame → State N
 pushed s f = record s { frames = f ∷ s.frames }
 
--- a part ends that has n values and stands at that place
+-- a part ends that has n values and is at that place
 abbrev pub ended : {N : Type 0} → State N → ℕ → ℕ → State N
 ended s n at = record s { last = record { count = n; at = at } }
 
@@ -142,7 +142,7 @@ abbrev pub give : {N : Type 0} → State N → Option Frame → Result (State N)
 give s (Some (frame.List sum)) = Ok (ended s sum 0)
 give s other = Ok s
 
--- NAMES of a list. Each is new: no item's, and none that stands before in the list.
+-- NAMES of a list. Each is new: no item's, and none that is before in the list.
 abbrev pub is_new : {N : Type 0} → Names N → List N → N → Bool
 is_new t before x = not (is_some (t.item x)) && not (stands t x before)
 
@@ -156,7 +156,7 @@ abbrev pub dropped : {N : Type 0} → State N → Option Frame → Result (State
 dropped s (Some (frame.Names start targets)) = Ok (pushed s (frame.Names start (targets + 1)))
 dropped s other = Ok s
 
--- the pending names from `start` on come into scope
+-- the pending names from `start` on enter the scope
 abbrev pub entered : {N : Type 0} → State N → ℕ → State N
 entered s start = record s { scope = onto (since start s.pending) s.scope; pending = back start s.pending }
 
@@ -220,7 +220,7 @@ end_loop t s at (Some (frame.Tested outer names given)) = do
   closed t s at outer names given
 end_loop t s at other = Ok s
 
--- FUNCTIONS. Their parameters are pending until the body begins, and the last part is the number of results till then.
+-- FUNCTIONS. Their parameters are pending until the body begins, and the last part is the number of results until then.
 abbrev pub function : {N : Type 0} → State N → ℕ → State N
 function s at = ended (pushed s (frame.Names (length s.pending) 0)) 1 at
 

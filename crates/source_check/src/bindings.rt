@@ -77,7 +77,7 @@ impl<A: Allocator> Bindings<A> {
         self.place(name) > 0
     }
 
-    /// The name stands among those after the first `start`.
+    /// The name is among those after the first `start`.
     pub(crate) fn contains_since(&self, name: usize, start: usize) -> bool
         ensures { result ≡ list_any (λ x. name == x) (since start self.now) }
     {
@@ -122,7 +122,7 @@ impl<A: Allocator> Bindings<A> {
         self.truncate(0);
     }
 
-    /// How many names stand after the first `start`.
+    /// How many names are after the first `start`.
     pub(crate) fn len_since(&self, start: usize) -> usize
         ensures { result ≡ length (since start self.now) }
     {

@@ -1,4 +1,4 @@
-//! What the checker keeps of the parts that are open.
+//! What the checker stores of the parts that are open.
 
 /// What an item is: an array, or a function with so many parameters and results.
 #[derive(Clone, Copy)]
@@ -7,7 +7,7 @@ pub enum Entry {
     Function { params: usize, results: u64 },
 }
 
-/// How many values the last part has, and where it stands.
+/// How many values the last part has, and where it is.
 #[derive(Clone, Copy)]
 pub struct Values {
     pub count: u64,
@@ -48,7 +48,7 @@ pub enum Frame {
         names: u64,
         mark: usize,
     },
-    /// A turn whose test stands after its body: how many values the body has.
+    /// A turn whose test is after its body: how many values the body has.
     Tested {
         outer: Turn,
         names: u64,

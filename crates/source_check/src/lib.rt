@@ -1,4 +1,4 @@
-//! The static rules of the source language: a program is checked once, and its first fault is answered where it breaks one.
+//! The static rules of the source language: a program is checked once, and if it breaks one, its first fault is returned.
 #![tactic(auto)]
 
 ghost use Rattle.std.specs.Prelude.{◌≡◌, ◌⊎◌, ◌≤◌, ℕ, List, [], Err, IfOk, IfErr, OnOk, IsTrue, ◌↔◌, length, slice_index_or};
@@ -73,11 +73,11 @@ fn check_words<A: Allocator + Clone>(
     check_functions(alloc, &table, words)
 }
 
-/// Gives a program that keeps the static rules back as checked, and refuses any other with its first fault. `end` is the
-/// place after the last byte of the program's text, where `main` is missed.
+/// Returns a program that keeps the static rules as checked, and refuses any other with its first fault. `end` is the
+/// place after the last byte of the program's text, where `main` is reported as missing.
 ///
 /// The words are gone over twice: for the heads of the items, and for the functions. Each takes a few steps, and a turn
-/// that ends as many as it has outside names, of which there are at most 15. Memory is answered where a growth was
+/// that ends as many as it has outside names, of which there are at most 15. `Memory` is returned where a growth was
 /// refused.
 pub fn check<'a, A: Allocator + Clone>(
     alloc: &A,

@@ -92,7 +92,7 @@ impl<A: Allocator> Machine<A> {
         })
     }
 
-    /// The last part has so many values, and stands there.
+    /// The last part has so many values, and is there.
     fn ended(&mut self, count: u64, at: usize)
         ensures { self.new ≡ steps.ended self.old count at }
     {
@@ -252,7 +252,7 @@ impl<A: Allocator> Machine<A> {
         }
     }
 
-    /// The pending names from `start` on come into scope.
+    /// The pending names from `start` on enter the scope.
     fn entered(&mut self, start: usize) -> Result<(), Fault>
         ensures { DoesAs result self.new (Ok (steps.entered self.old start)) }
     {

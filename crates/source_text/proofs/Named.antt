@@ -41,7 +41,7 @@ found_name numbers names name n o looked is table =
       spelled = λ all one. all;
     }
 
--- a name that was read of late
+-- a name that was read recently
 pub recent_name : (numbers : BTreeMap (Bor (List ℕ)) ℕ) (names : List Name) (name : Name) (n : ℕ) → IsNumberOf names name n → IsTable numbers names
     → IsNumbered names numbers names name n
 recent_name numbers names name n known table = record {

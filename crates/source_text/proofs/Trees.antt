@@ -45,7 +45,7 @@ module _ (text : List ℕ) (ts : List Token) where
   has_fault fault are (inl memory) = inl memory
   has_fault fault are (inr refuses) = inr (of_tokens ts are refuses)
 
--- NAMES of tokens that stand in the text are as texts have them.
+-- NAMES of tokens that are in the text are as texts have them.
 well_spelled : (text : List ℕ) (at : ℕ) (kind : TokenKind) → BeginsWith (drop at text) kind → IsWellSpelled (lexeme_at text at kind)
 well_spelled text at (token.Word k) stands = tt
 well_spelled text at (token.Mark s) stands = tt

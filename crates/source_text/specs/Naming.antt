@@ -10,11 +10,11 @@ use Rattle.source_text.specs.declared.lexeme.Lexeme.{Lexeme}
 use Rattle.source_text.specs.Outcomes.{lexeme_named}
 use denote.Ref.{Bor}
 
--- no name stands twice
+-- no name is there twice
 abbrev pub IsDistinct : List Name → Type 0
 IsDistinct names = (i j : ℕ) → i < length names → j < length names → name_of names i ≡ name_of names j → i ≡ j
 
--- a map from each name of a table to its number, and no name stands twice
+-- a map from each name of a table to its number, and no name is there twice
 pub record IsTable (numbers : BTreeMap (Bor (List ℕ)) ℕ) (names : List Name) : Type 0 where
   pub index : IsIndexOf numbers names
   pub distinct : IsDistinct names

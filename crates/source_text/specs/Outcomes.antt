@@ -1,4 +1,4 @@
--- What code says of a symbol and a token, in the words of the automaton. Code tells a name by its number in a table.
+-- What code says of a symbol and a token, in the words of the automaton. Code gives a name by its number in a table.
 use Rattle.std.specs.Prelude.{◌≡◌, ℕ, ◌<◌, ◌≤◌, List, [], ◌∷◌, map, take, All, Option, None, Some, ⊤}
 use Rattle.source.specs.declared.fault.FaultKind.{FaultKind}
 use Rattle.source.specs.declared.word.Word.{Word}
@@ -71,7 +71,7 @@ AreShallow done.Takes pushes = All IsShallow (few pushes.symbols)
 AreShallow done.Passes pushes = ⊤
 AreShallow (done.Refuses kind) pushes = ⊤
 
--- A REACTION. A word may come before the others, and a symbol below those that come.
+-- A REACTION. A word may be put before the others, and a symbol below those that are pushed.
 abbrev pub behind : List Name → Option (Word ℕ) → automaton.Outcome → automaton.Outcome
 behind names None outcome = outcome
 behind names (Some word) outcome = automaton.appending (named names word ∷ []) outcome

@@ -1,4 +1,4 @@
--- READING, token by token, and what it comes to. The parser tells a name by its number; whatever names a longer table has,
+-- READING, token by token, and its result. The parser gives a name by its number; whatever names a longer table has,
 -- what was read so far is the same.
 use Rattle.std.specs.Prelude.{◌≡◌, ◌⊎◌, ℕ, ◌<◌, List, [], ◌∷◌, map, drop, length, All, Ok, Err}
 use Rattle.std.specs.BTreeMap.{BTreeMap}

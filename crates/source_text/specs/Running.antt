@@ -17,11 +17,11 @@ words_named names words = map (named names) words
 abbrev pub state : List Name → List (Symbol ℕ) → List (Word ℕ) → Moved
 state names stack words = record { appended = words_named names words; stack = named_stack names stack }
 
--- what a token comes to in a state
+-- the state after a token, or why it does not go on
 abbrev pub onward : ℕ → Lexeme → Moved → Result Moved FaultKind
 onward at l m = moved_after m.appended (advance 200 m.stack at l)
 
--- what it comes to where a symbol, which stood above that state's stack, does this with it
+-- the same, where a symbol that was above that state's stack does this with the token
 abbrev pub reacted : ℕ → Lexeme → Moved → Outcome → Result Moved FaultKind
 reacted at l m outcome = moved_after m.appended (advance_by outcome m.stack (advance 200 m.stack at l))
 
@@ -29,10 +29,10 @@ reacted at l m outcome = moved_after m.appended (advance_by outcome m.stack (adv
 abbrev pub ending : ℕ → Moved → Result Words Fault
 ending end m = words_after m.appended (finished end (finish m.stack))
 
--- the kind of the fault that something comes to, or a refused growth
+-- the kind of the fault that is the result, or a refused growth
 abbrev pub IsKind : {T : Type 0} → FaultKind → Result T FaultKind → Type 0
 IsKind kind r = (kind ≡ Memory) ⊎ (r ≡ Err kind)
 
--- the fault that something comes to, or a refused growth
+-- the fault that is the result, or a refused growth
 abbrev pub IsFault : {T : Type 0} → Fault → Result T Fault → Type 0
 IsFault fault r = (fault.kind ≡ Memory) ⊎ (r ≡ Err fault)

@@ -14,7 +14,7 @@ use source::fault::FaultKind;
 use source::token::Sign;
 use source::word::{InfixSign, Word};
 
-/// After an operand stands an operator with its operand, or what is for the symbol below.
+/// After an operand there is an operator with its operand, or what is for the symbol below.
 pub(crate) fn after(
     pushes: &mut Pushes,
     level: u8,
@@ -39,7 +39,7 @@ pub(crate) fn after(
     }
 }
 
-/// A `:=` has no cell before it where an operator could stand.
+/// A `:=` has no cell before it where an operator could be.
 fn after_cell(level: u8, left: u8) -> Outcome
     ensures does { (pushes : Pushes) → Does result pushes (λ names. automaton.after_cell level left) }
     ensures shallow { (pushes : Pushes) → AreShallow result pushes }

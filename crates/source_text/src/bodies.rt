@@ -109,7 +109,7 @@ pub(crate) fn step_end(pushes: &mut Pushes, depth: u8, lexeme: Lexeme) -> Outcom
     }
 }
 
-/// The bound of the loop that stands at `start`.
+/// The bound of the loop that is at `start`.
 pub(crate) fn bound(
     pushes: &mut Pushes,
     start: usize,

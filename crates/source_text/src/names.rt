@@ -13,7 +13,7 @@ use source_tokens::name_at;
 use std::alloc::{AllocError, Allocator};
 use std::collections::BTreeMap;
 
-/// For so many hashes the number is kept of the name that was last read with it.
+/// For so many hashes the number of the last name that was read with that hash is stored.
 const SLOTS: usize = 4096;
 
 /// The names so far, and a map from each to its number.
@@ -21,16 +21,16 @@ const SLOTS: usize = 4096;
 pub(crate) struct Names<'a, A: Allocator> {
     pub numbers: BTreeMap<&'a [u8], usize, A>,
     pub table: Vec<Name<'a>, A>,
-    /// Numbers of names by their hashes. What stands here is looked at and not relied on.
+    /// Numbers of names by their hashes. They are looked at, but not relied on.
     pub recent: Vec<usize, A>,
 }
 
-/// No name was read of late.
+/// No name was read recently.
 fn no_recent<A: Allocator>(alloc: A) -> Result<Vec<usize, A>, AllocError> {
     Ok(vec![in alloc; 0; SLOTS]?)
 }
 
-/// The place of a name among those that were read of late.
+/// The place of a name among those that were read recently.
 fn slot_of(name: &[u8]) -> usize {
     let mut hash: u32 = 0;
     for b in name {

@@ -7,7 +7,7 @@ ghost use Rattle.source_text.specs.declared.outcome.Outcome.TheVariants.{Refuses
 use crate::outcome::{Outcome, refuses};
 use source::fault::FaultKind;
 
-/// The largest number, which stands only directly after a `-`.
+/// The largest number, which is allowed only directly after a `-`.
 pub(crate) const LARGEST: u64 = 1 << 63;
 
 pub(crate) fn is_small(number: u64) -> bool

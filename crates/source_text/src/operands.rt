@@ -284,7 +284,7 @@ pub(crate) fn call_end(
     }
 }
 
-/// After an `else` stands an `if` or a block.
+/// After an `else` there is an `if` or a block.
 pub(crate) fn otherwise(pushes: &mut Pushes, depth: u8, at: usize, lexeme: Lexeme) -> Outcome
     requires { depth < 200 }
     ensures does { Does result pushes.new (λ names. automaton.otherwise 200 depth at (lexeme_named names lexeme)) }

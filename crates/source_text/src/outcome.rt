@@ -24,11 +24,11 @@ impl<T, const N: usize> Few<T, N> {
     }
 }
 
-/// The words and the symbols that the last step pushes. It stands in one place for all steps, since it is large.
+/// The words and the symbols that the last step pushes. It is in one place for all steps, since it is large.
 #[derive(Drop)]
 pub(crate) struct Pushes {
     pub words: Few<Word<usize>, 2>,
-    /// They come in the symbol's place, the first one on top.
+    /// They replace the symbol, the first one on top.
     pub symbols: Few<Symbol<usize>, 9>,
 }
 

@@ -16,7 +16,7 @@ use source::fault::{Fault, FaultKind};
 use source::word::Word;
 use std::alloc::Allocator;
 
-/// What is to come, the top last, and the words of what was read.
+/// What is expected, the top last, and the words of what was read.
 #[derive(Drop)]
 pub(crate) struct Parser<A: Allocator> {
     pub stack: Vec<Symbol<usize>, A>,
@@ -46,7 +46,7 @@ impl<A: Allocator> Parser<A> {
         }
     }
 
-    /// The first symbol comes to the top.
+    /// The first symbol is put on top.
     fn push_symbols(&mut self, symbols: &[Symbol<usize>]) -> Result<(), FaultKind>
         ensures stack { OnOk result (self.new.stack.items ≡ self.old.stack.items ++ reverse symbols.now) }
         ensures words { self.new.words.items ≡ self.old.words.items }
@@ -73,7 +73,7 @@ impl<A: Allocator> Parser<A> {
         }
     }
 
-    /// Does what the symbol does that stood on the stack, and tells whether the token is taken.
+    /// Does what the symbol that was on top of the stack does, and returns whether the token is taken.
     fn act(&mut self, reaction: Reaction, pushes: &Pushes) -> Result<bool, FaultKind>
         requires reaction { AreAllShallow reaction pushes.now }
         requires stack { All IsShallow self.old.stack.items }
@@ -98,7 +98,7 @@ impl<A: Allocator> Parser<A> {
         }
     }
 
-    /// Takes a token, or tells why it does not go on.
+    /// Takes a token, or returns why it does not go on.
     pub(crate) fn take(
         &mut self,
         pushes: &mut Pushes,
@@ -121,7 +121,7 @@ impl<A: Allocator> Parser<A> {
         Err(FaultKind::Unexpected)
     }
 
-    /// Does what a symbol does at the end that stood on the stack: only words may be to come, and no further item.
+    /// Does what a symbol that was on top of the stack does at the end: it may add words, and begins no further item.
     #[tactic(auto, using(crate::proofs::Acting::ends_with_word, crate::proofs::Acting::ends_with_items, crate::proofs::Acting::ends_early))]
     fn end(&mut self, symbol: Symbol<usize>) -> Result<(), FaultKind>
         ensures stack { self.new.stack.items ≡ self.old.stack.items }

@@ -24,7 +24,7 @@ use source::fault::FaultKind;
 use source::token::{Keyword, Sign};
 use source::word::Word;
 
-/// What a symbol does with a token: a word may come before those that it pushes, and a symbol below those.
+/// What a symbol does with a token: a word may be put before those that it pushes, and a symbol below those.
 #[derive(Clone, Copy)]
 pub(crate) struct Reaction {
     pub before: Option<Word<usize>>,

@@ -18,7 +18,7 @@ use source::token::Token;
 use source::word::Word;
 use std::alloc::{AllocError, Allocator};
 
-/// The names of a program, each once, and its words, which tell a name by its number among these.
+/// The names of a program, each once, and its words, which give a name by its number among these.
 #[derive(Drop)]
 pub struct Parsed<'a, A: Allocator> {
     pub names: Vec<Name<'a>, A>,
@@ -47,7 +47,7 @@ impl<'a, A: Allocator + Clone> Reader<'a, A> {
         })
     }
 
-    /// Reads a token, or tells why it does not go on.
+    /// Reads a token, or returns why it does not go on.
     fn read(&mut self, pushes: &mut Pushes, text: &'a [u8], token: &Token) -> Result<(), FaultKind>
         requires table { IsTable self.old.names.numbers self.old.names.table.items }
         requires shallow { All IsShallow self.old.parser.stack.items }
@@ -77,8 +77,8 @@ impl<'a, A: Allocator + Clone> Reader<'a, A> {
     }
 }
 
-/// The program whose tokens these are of the text, by its names and its words: there is exactly one. Else the first token at which no program goes on that fits
-/// the grammar and is at most 200 deep, or the end, and why. `Memory` comes only where a growth was refused. The time is that of the
+/// The program that has these tokens of the text, by its names and its words: there is exactly one. Else the first token at which no program that fits
+/// the grammar and is at most 200 deep goes on, or the end, and why. `Memory` is returned only where a growth was refused. The time is that of the
 /// tokens by the logarithm of the number of names.
 pub fn parse<'a, A: Allocator + Clone>(
     alloc: A,

@@ -34,7 +34,7 @@ pub(crate) fn infix_of(sign: Sign) -> Option<InfixSign>
     Some(InfixSign::Direct { op })
 }
 
-/// The level of the grammar that what is joined by the sign has.
+/// The level in the grammar of what the sign joins.
 pub(crate) fn sign_level(sign: InfixSign) -> u8
     ensures level { result ≡ sign_level sign }
     ensures small { result ≤ 7 }
@@ -53,7 +53,7 @@ pub(crate) fn sign_level(sign: InfixSign) -> u8
     }
 }
 
-/// Whether the operator may stand after an operand of the level `left`, where the whole has to have the level `level`.
+/// Whether the operator may follow an operand of the level `left`, where the whole has to have the level `level`.
 /// Operators of one level go to the left, but comparisons do not chain.
 pub(crate) fn goes_on(level: u8, left: u8, sign: InfixSign) -> bool
     ensures { result ≡ goes_on level left sign }

@@ -35,7 +35,7 @@ beyond b bytes at (suc len) some =
     let k : at + 1 + len ≡ at + suc len = omega arith in
     ap (λ (i : ℕ). lexed_from bytes (at + 1) i) n ∙ passed_over bytes (at + 1) len ∙ ap (λ (i : ℕ). lexed_from (drop len bytes) i 0) k
 
--- A STEP from a place: what is left there, what it begins with, and what comes of it
+-- A STEP from a place: what is left there, what it begins with, and its result
 pub seen : (rest : List ℕ) (o : Option code.Beginning) (b c : code.Beginning)
     → option_map said o ≡ opening rest → o ≡ Some b → b ≡ c → opening rest ≡ Some (said c)
 seen rest o b c e is as_c = sym e ∙ ap (λ (v : Option code.Beginning). option_map said v) (is ∙ ap (λ (x : code.Beginning). Some x) as_c)

@@ -1,4 +1,4 @@
--- What is read stands in the text.
+-- What is read is in the text.
 use Rattle.std.proofs.Common.{◌≡◌, ℕ, ◌+◌, ◌-◌, zero, suc, List, [], ◌∷◌, All, drop, Result, Ok, Err, refl, ap, subst, ◌∙◌}
 use Rattle.std.proofs.lemmas.List.{drop-drop}
 use Rattle.std.proofs.lemmas.List.Elements.{All-nil, All-cons}

@@ -24,6 +24,6 @@ value_of run = if nat_lt (digits_value 10 run) (2 ^ 64) then Some (digits_value 
 abbrev pub number_of : List ℕ → Option ℕ
 number_of run = if is_numeral run && nat_le (digits_value 10 run) (2 ^ 63) then Some (digits_value 10 run) else None
 
--- what a text begins with that begins with no blank, comment or run
+-- what a text begins with, if that is no blank, comment or run
 abbrev pub sign_beginning : ℕ → List ℕ → defined.Beginning
 sign_beginning b bytes = sign_read (find (λ s. begins (sign_text s) (b ∷ bytes)) signs)

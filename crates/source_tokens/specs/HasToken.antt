@@ -1,4 +1,4 @@
--- WHAT IS READ STANDS IN THE TEXT. Words, numbers and names are whole runs.
+-- WHAT IS READ IS IN THE TEXT. Words, numbers and names are whole runs.
 use Rattle.std.specs.Prelude.{◌≡◌, ℕ, ◌^◌, ◌≤◌, true, List, length, take, drop, take_while}
 use Rattle.std.specs.Str.Parse.{digits_value}
 use Rattle.source.specs.declared.token.Token.{Token}

@@ -4,6 +4,6 @@ use Rattle.source.specs.declared.fault.Fault.{Fault}
 use Rattle.source.specs.declared.fault.FaultKind.TheVariants.{Memory}
 use Rattle.source.specs.declared.token.Token.{Token}
 
--- the fault that the tokens come to, or a refused growth
+-- the fault in place of the tokens, or a refused growth
 abbrev pub IsFirstFault : Fault → Result (List Token) Fault → Type 0
 IsFirstFault fault tokens = (fault.kind ≡ Memory) ⊎ (tokens ≡ Err fault)

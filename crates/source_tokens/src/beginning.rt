@@ -10,7 +10,7 @@ use crate::signs::{double_sign, single_sign};
 use source::fault::FaultKind;
 use source::token::{Sign, TokenKind};
 
-/// What a text begins with that is not empty.
+/// What a text that is not empty begins with.
 #[derive(Clone, Copy)]
 pub(crate) enum Beginning {
     /// So many bytes that are no token.
@@ -49,7 +49,7 @@ impl Beginning {
     }
 }
 
-/// Whether the byte stands between tokens.
+/// Whether the byte separates tokens.
 fn is_blank(b: u8) -> bool
     ensures { result ≡ is_blank b }
 {
@@ -63,7 +63,7 @@ fn begins_comment(text: &[u8]) -> bool
     matches!(text, [b'/', b'/', ..])
 }
 
-/// How many bytes stand before the end of the line.
+/// How many bytes are before the end of the line.
 fn line_len(text: &[u8]) -> usize
     ensures { result ≡ length (line_from text.now) }
 {

@@ -10,10 +10,10 @@ use source::fault::{Fault, FaultKind};
 use source::token::Token;
 use std::alloc::Allocator;
 
-/// The tokens of a program, or its first fault. `Memory` comes only where a growth was refused.
+/// The tokens of a program, or its first fault. `Memory` is returned only where a growth was refused.
 pub fn lex<A: Allocator>(alloc: A, program: &[u8]) -> Result<Vec<Token, A>, Fault>
     ensures exact { MatchResult result (λ v. lexed program.now ≡ Ok v.items) (λ e. IsFirstFault e (lexed program.now)) }
-    // What is read stands in the text.
+    // What is read is in the text.
     ensures stand { IfOk result (λ v. All (HasToken program.now) v.items) }
     // A fault has its place in the text, too.
     ensures within { IfErr result (λ e. e.at ≤ length program.now) }

@@ -9,7 +9,7 @@ const INPUTS: &[u8] = b"inputs";
 /// The two parts of a text.
 #[derive(Clone, Copy, Debug, PartialEq, Eq)]
 pub struct Parted<'a> {
-    /// What stands before the first line that is exactly `inputs`, or all of the text where there is none.
+    /// What is before the first line that is exactly `inputs`, or all of the text where there is none.
     pub program: &'a [u8],
     /// What follows that line.
     pub inputs: &'a [u8],

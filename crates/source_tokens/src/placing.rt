@@ -11,7 +11,7 @@ pub struct LineColumn {
     pub column: usize,
 }
 
-/// A place that was reached in a program, which is the number of bytes that stand before it, with its line and its column.
+/// A place that was reached in a program, which is the number of bytes before it, with its line and its column.
 #[derive(Clone, Copy, Debug, PartialEq, Eq)]
 pub struct Reached {
     pub at: usize,
@@ -31,7 +31,7 @@ pub fn first_place() -> Reached
     }
 }
 
-/// The place `at`, or the end of the program where that comes before it. It goes on from a place that was reached, or back from it: the
+/// The place `at`, or the end of the program where that is before it. It goes on from a place that was reached, or back from it: the
 /// time is that of the bytes between them, and of the line of the place where it goes back to another line.
 pub fn reach(program: &[u8], from: Reached, at: usize) -> Reached
     requires { IsReached program.now from }
@@ -114,7 +114,7 @@ fn column_at(program: &[u8], at: usize) -> usize
     at - start + 1
 }
 
-/// The line and the column of a place, which is the number of bytes that stand before it.
+/// The line and the column of a place, which is the number of bytes before it.
 pub fn position(program: &[u8], at: usize) -> LineColumn
     ensures line { result.line ≡ (position program.now at).line }
     ensures column { result.column ≡ (position program.now at).column }

@@ -10,7 +10,7 @@ use crate::beginning::Beginning;
 use source::fault::FaultKind;
 use source::token::{Keyword, Sign, TokenKind};
 
-/// The words that nothing uses, and that are no names either.
+/// The reserved words, which are neither used nor names.
 const KEPT: [&str; 22] = [
     "and", "as", "break", "case", "const", "do", "end", "false", "for", "in", "match", "mod",
     "not", "or", "return", "then", "true", "type", "use", "where", "with", "xor",
@@ -27,14 +27,14 @@ pub(crate) fn is_run_byte(b: u8) -> bool
     b.is_ascii_alphanumeric() || b == b'_'
 }
 
-/// How many bytes the run has with which the text begins.
+/// The length of the run that the text begins with.
 pub(crate) fn run_len(text: &[u8]) -> usize
     ensures { result ≡ length (take_while is_run_byte text.now) }
 {
     text.iter().take_while(|b| is_run_byte(**b)).count()
 }
 
-/// What a run is that begins with this byte.
+/// What a run that begins with this byte is.
 pub(crate) fn read_run(first: u8, run: &[u8]) -> Beginning
     requires { 0 < length run.now }
     ensures { said result ≡ run_read first run.now }
@@ -164,7 +164,7 @@ fn is_name(run: &[u8]) -> bool
     !matches!(run, [b'_', ..]) && run.len() <= NAME_LEN && !has_double(run) && !is_kept(run)
 }
 
-/// Whether two `_` stand side by side.
+/// Whether two `_` are side by side.
 fn has_double(run: &[u8]) -> bool
     ensures { result ≡ has_double run.now }
 {
@@ -178,7 +178,7 @@ fn has_double(run: &[u8]) -> bool
     false
 }
 
-/// Whether the run is a word that nothing uses yet.
+/// Whether the run is a reserved word.
 fn is_kept(run: &[u8]) -> bool
     ensures { result ≡ list_any (bytes_eq run.now) kept }
 {

@@ -1,4 +1,4 @@
--- Values as two words of 64 bits. An origin is told by one number: 0 where it is not told.
+-- Values as two words of 64 bits. An origin is one number: 0 where it is not recorded.
 use Rattle.std.specs.Prelude.{◌≡◌, ℕ, ◌+◌, ◌*◌, ◌<◌, List, [], ◌∷◌, FitsSigned, ⊤}
 use Rattle.std.specs.Int.{w64, cast_unsigned}
 use Rattle.tags.specs.declared.value.Value.{Value}

@@ -7,9 +7,9 @@ use crate::token::{Cont, Word};
 #[derive(Clone, Copy, Debug, PartialEq, Eq)]
 pub enum SlotState {
     Empty,
-    /// A word that came on the left port waits for its partner.
+    /// A word that arrived on the left port waits for its partner.
     Left(Word),
-    /// A word that came on the right port waits for its partner.
+    /// A word that arrived on the right port waits for its partner.
     Right(Word),
     /// How many iterations may still begin.
     Credits(u32),

@@ -51,7 +51,7 @@ impl NodeNumber {
     }
 }
 
-/// Where a fault was made: nowhere that is told, or at a node of a graph block.
+/// Where a fault was made: not recorded, or at a node of a graph block.
 #[derive(Clone, Copy, Debug, PartialEq, Eq)]
 pub enum Origin {
     Untold,
@@ -69,7 +69,7 @@ impl Origin {
     /// The greatest code of an origin.
     pub const GREATEST_CODE: u32 = 262_144;
 
-    /// 0 for an origin that is not told, else one more than 1,024 times the block and the node.
+    /// 0 for an origin that is not recorded, else one more than 1,024 times the block and the node.
     pub fn code(self) -> u32
         ensures exact { result ≡ origin_code self }
         ensures bounded { result ≤ 262144 }
