@@ -8,7 +8,7 @@ pub no_room : (z : Sizes) (text : Text) → sizes_from z 0 text ≡ None
 unfolding sizes_from
 no_room z text = refl
 
--- what comes of the parts of the list
+-- the result for the parts of the list
 go_on : Sizes → ℕ → Text × Option Text → Option Sizes
 go_on z room parts = option_and_then (λ n. more_sizes (with_size z n) parts.1 (λ y more. sizes_from y room more)) (number_of parts.0)
 

@@ -50,7 +50,7 @@ pub no_more : (ins : Inputs) → with_inputs ins [] ≡ ins
 unfolding with_inputs
 no_more ins = refl
 
--- what was read is told by equal parts
+-- what was read is determined by equal parts
 pub told_by : (c : Command) (g more : Collected) (ins all : Inputs) (w waits : Option OptionName) (words rest : List Text) (a : Asked)
     → g ≡ more → ins ≡ all → w ≡ waits → words ≡ rest → asked_of c more all waits rest ≡ a → asked_of c g ins w words ≡ a
 told_by c g more ins all w waits words rest a e f h k q =

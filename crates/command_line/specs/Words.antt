@@ -127,14 +127,14 @@ request_of Command.Profile g ins = Request.Profile (run_options g) (unwrap_or g.
 request_of Command.Orders g ins = Request.Orders (run_options g) (unwrap_or g.count 100) (unwrap_or g.seed 1)
 request_of Command.Lower g ins = Request.Lower g.lowering
 
--- what stands before the first c, and what stands after it, if there is one
+-- what is before the first c, and what is after it, if there is one
 abbrev pub parts_at : ℕ → Text → Text × Option Text
 parts_at c text = (
   before_first (λ x. x == c) text,
   if list_any (λ x. x == c) text then Some (after_first (λ x. x == c) text) else None,
 )
 
--- VALUES: a number is one decimal digit or more, below 2 ^ 64; a `+` (43) may stand first
+-- VALUES: a number is one decimal digit or more, below 2 ^ 64; a `+` (43) may be first
 abbrev pub is_numeral : Text → Bool
 is_numeral ds = nat_lt 0 (length ds) && list_all (λ d. nat_lt (digit_value d) 10) ds
 
@@ -299,7 +299,7 @@ unfoldable pub with_inputs : Inputs → List Text → Inputs
 with_inputs ins [] = ins
 with_inputs ins (word ∷ rest) = with_inputs (with_input ins word) rest
 
--- after `--` stands nothing but inputs
+-- after `--` there are only inputs
 abbrev pub after_end : Command → Collected → Inputs → List Text → Asked
 after_end c g ins [] = Asked.Request (request_of c g ins)
 after_end c g ins (word ∷ rest) = if takes_inputs c then Asked.Request (request_of c g (with_inputs ins (word ∷ rest))) else Asked.Mistake

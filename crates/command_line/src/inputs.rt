@@ -1,4 +1,4 @@
-//! The inputs that stand among the words of a command.
+//! The inputs among the words of a command.
 
 ghost use Rattle.std.specs.Prelude.{◌≡◌};
 ghost use Rattle.command_line.specs.Words.{no_inputs, with_input};

@@ -57,7 +57,7 @@ pub enum Request {
         sizes: Sizes,
         svg: bool,
     },
-    /// Runs the graph on standard input so often, each time in a random order.
+    /// Runs the graph on standard input this many times, each time in a random order.
     Orders {
         options: RunOptions,
         count: u64,
@@ -72,11 +72,11 @@ pub enum Request {
 pub enum Lowering {
     /// The graph's text, and the inputs.
     Graph,
-    /// Of each node the place in the program that it is made for.
+    /// For each node, the place in the program that it is made for.
     Map,
 }
 
-/// Whether the table of literals stands after a listing.
+/// Whether the table of literals follows a listing.
 #[derive(Clone, Copy, Debug, PartialEq, Eq)]
 pub enum Literals {
     Omitted,
@@ -141,7 +141,7 @@ pub enum Command {
     Lower,
 }
 
-/// What help is asked of.
+/// The topic of a request for help.
 #[derive(Clone, Copy, Debug, PartialEq, Eq)]
 pub enum Topic {
     Program,
@@ -219,7 +219,7 @@ fn with_inputs<S: AsStr>(inputs: Inputs, words: &[S]) -> Inputs
     all
 }
 
-/// What is asked for where these words stand after `--`.
+/// What is asked for where these words are after `--`.
 fn after_end<S: AsStr>(command: Command, collected: Collected, inputs: Inputs, words: &[S]) -> Asked
     ensures { result ≡ after_end command collected inputs (map S.text words.now) }
 {

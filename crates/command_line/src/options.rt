@@ -404,7 +404,7 @@ pub(crate) fn asks_version(word: &str) -> bool
     word == "--version" || is_short('V', word)
 }
 
-/// What stands before the first separator, and what stands after it if there is one.
+/// What is before the first separator, and what is after it if there is one.
 fn parts_at(separator: char, text: &str) -> (&str, Option<&str>)
     requires { separator < 128 }
     ensures { (result.0.now, option_map (λ s. s.now) result.1) ≡ parts_at separator text.now }

@@ -1,8 +1,8 @@
 //! The texts of the command line: its help, and what is wrong with it.
 //!
 //! `clap` makes these texts. What a command line asks for is decided by `command_line` alone, whose reader is proved; the
-//! functions here are called only where a command line asks for help or is a mistake. So all that is believed of `clap` is
-//! which bytes such a text has. Where `clap` has no text, because it would read the words in another way, the answer is `None`
+//! functions here are called only where a command line asks for help or is a mistake. So `clap` is trusted only for the bytes
+//! of such a text. Where `clap` has no text, because it would read the words in another way, the answer is `None`
 //! (`test_words` finds no such words).
 #![tactic(auto)]
 

@@ -22,7 +22,7 @@ use Rattle.commands.specs.Agreed.{IsOrder}
 use Rattle.commands.specs.Ordered.{first_number, picks_from}
 use Rattle.commands.specs.Played.{PlaysDrawn}
 
--- a run ends for want of steps only where its halt says so
+-- a run ends for lack of steps only where its halt says so
 ends_cut : (p : Program) (r : Report) (halt : Halt) → EndsAs p r halt → r.end ≡ End.Steps → halt ≡ Halt.Steps
 ends_cut p r Halt.NoToken (inl h) e = let is = h.0 in cc
 ends_cut p r Halt.NoToken (inr h) e = let is = h.0 in cc

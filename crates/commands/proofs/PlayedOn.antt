@@ -1,4 +1,4 @@
--- A machine that is played on: what it plays by a list and then by another one, it plays by both.
+-- A machine whose run is continued: what it plays by a list and then by another one, it plays by both.
 use Rattle.std.proofs.Common.{◌≡◌, ℕ, ◌+◌, ◌*◌, inl, inr, true, List, [], ◌∷◌, ◌++◌, Option, Some, None, refl, sym, ap, ◌∙◌, subst, arith, append_assoc, append-nil}
 use Rattle.semantics.specs.Machine.{Events}
 use Rattle.element.specs.declared.lane.Stepped.{Stepped}

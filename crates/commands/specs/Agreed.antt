@@ -44,7 +44,7 @@ pub record AllAgree (text : List ℕ) (inputs : List ℤ) (c : Config) (seed cou
   pub first : IsOrder text inputs c seed 0 g r
   pub each : (k : ℕ) → k < count → (h : Graph) × (s : Report) × IsOrder text inputs c seed k h s × AreSame r s
 
--- Order k has another report than order 0, and is the first one that has.
+-- Order k has a report that differs from that of order 0, and is the first such order.
 pub record IsFirstOther (text : List ℕ) (inputs : List ℤ) (c : Config) (seed count : ℕ) (g : Graph) (a : Report) (k : ℕ) (h : Graph) (b : Report) : Type 0 where
   pub later : 0 < k
   pub asked : k < count
@@ -60,15 +60,15 @@ pub record Agree (input : List ℕ) (o : RunOptions) (count seed : ℕ) (g : Gra
   pub some : 0 < count
   pub all : AllAgree text inputs (config_of o) seed count g r
 
--- Order 0 has the report a, and order k, which is the first that has another one, has b.
+-- Order 0 has the report a, and order k, the first whose report differs from it, has b.
 pub record Differ (input : List ℕ) (o : RunOptions) (count seed : ℕ) (g : Graph) (a : Report) (k : ℕ) (h : Graph) (b : Report) : Type 0 where
   pub text : List ℕ
   pub inputs : List ℤ
   pub feed : IsFeed input text inputs
   pub first_other : IsFirstOther text inputs (config_of o) seed count g a k h b
 
--- Why nothing is told of any order: the first cause in the order of the work. That no order was asked for is told only where a run is
--- ready.
+-- Why nothing is reported of any order: the first cause in the order of the work. That no order was asked for is reported only where
+-- a run is ready.
 abbrev pub WhyNoOrder : Result (List ℤ) ℕ → List ℕ → RunOptions → ℕ → Refusal → Type 0
 WhyNoOrder (Ok inputs) text o count f = IsReportedAs (IsRefused text inputs (config_of o)) f ⊎ (IsReady text inputs (config_of o) × (count ≡ 0) × (f ≡ Refusal.Start StartFault.BadConfig))
 WhyNoOrder (Err n) text o count f = IsRefusedLine text n f
@@ -77,7 +77,7 @@ pub record IsNoOrderOf (input : List ℕ) (o : RunOptions) (count : ℕ) (f : Re
   pub parts : Parts input
   pub why : (f ≡ Refusal.Memory) ⊎ WhyNoOrder (integers_of parts.lines) parts.text o count f
 
--- WHAT IS PRINTED. Orders are told from 1 on.
+-- WHAT IS PRINTED. Orders are numbered from 1 on.
 abbrev pub same_line : ℕ → List ℕ
 same_line count = line (codes "orders " ++ decimal count ++ codes " same")
 

@@ -45,7 +45,7 @@ ServesRequest remaining result old new request =
     ⊎ ((fault : InputFault) × Refuses result old new (unread_as fault))
 
 -- ALL COMMAND LINES
--- a text of the command line, of which nothing is said here, and this came of it; or memory was refused
+-- a text of the command line, of which nothing is said here, with this outcome; or memory was refused
 abbrev pub Says : {E : Type 0} → Result Outcome E → Option (List ℕ) → Option (List ℕ) → Outcome → Type 0
 Says result old new outcome = ((text : List ℕ) × Prints result old new text outcome) ⊎ Refuses result old new Refusal.Memory
 
@@ -59,7 +59,7 @@ ServesAsked remaining result old new Asked.Mistake = Says result old new Outcome
 abbrev pub ServesWords : {E : Type 0} → List (List ℕ) → Option (List ℕ) → Result Outcome E → Option (List ℕ) → Option (List ℕ) → Type 0
 ServesWords words remaining result old new = ServesAsked remaining result old new (asked words)
 
--- the status of the process: that of what came of it, and 1 after a failed write
+-- the status of the process: that of the outcome, and 1 after a failed write
 abbrev pub status_of : {E : Type 0} → Result Outcome E → ℕ
 status_of (Ok outcome) = outcome_status outcome
 status_of (Err e) = 1

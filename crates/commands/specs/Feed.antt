@@ -10,7 +10,7 @@ pub record IsFeed (input text : List ℕ) (inputs : List ℤ) : Type 0 where
   pub end : length text ≡ graph_length input
   pub integers : integers_of lines ≡ Ok inputs
 
--- Why it does not: a line is not an integer, which is told only of a graph that has an object; or memory was refused.
+-- Why it does not: a line is not an integer, which is reported only of a graph that has an object; or memory was refused.
 pub record IsNoFeed (input : List ℕ) (f : Refusal) : Type 0 where
   pub parts : Parts input
   pub why : (f ≡ Refusal.Memory) ⊎ ((n : ℕ) × (integers_of parts.lines ≡ Err n) × IsRefusedLine parts.text n f)

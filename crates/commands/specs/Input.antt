@@ -10,7 +10,7 @@ use Rattle.commands.specs.declared.input.LinesFault.{LinesFault}
 abbrev pub begins_main : List ℕ → Bool
 begins_main bytes = bytes_eq (take 5 bytes) (codes "main ")
 
--- how many of these bytes belong to it; `is_main` tells whether the line of which they are the rest began with `main `
+-- how many of these bytes belong to it; `is_main` says whether the line that they end began with `main `
 unfoldable pub graph_bytes : Bool → List ℕ → ℕ
 graph_bytes is_main [] = 0
 graph_bytes is_main (b ∷ bs) = if b == 10 then (if is_main then 1 else graph_bytes (begins_main bs) bs + 1) else graph_bytes is_main bs + 1

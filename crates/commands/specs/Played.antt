@@ -1,4 +1,4 @@
--- A machine that is played on by the picks of an order.
+-- A machine that is continued by the picks of an order.
 use Rattle.std.specs.Prelude.{◌≡◌, ◌++◌, ℕ, true}
 use Rattle.semantics.specs.Machine.{Events}
 use Rattle.schedule.specs.declared.halt.Halt.{Halt}

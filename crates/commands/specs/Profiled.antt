@@ -86,7 +86,7 @@ pub record IsProfileOf (input : List ℕ) (o : RunOptions) (z : Sizes) (svg : Bo
   pub feed : IsFeed input text inputs
   pub good : IsGoodText text g
   pub waves : AreWavesOf g inputs o.steps end counts
-  -- and they are the ones that the definition comes to, which looks for all that is enabled and then does it
+  -- and they are the ones that the definition gives, which finds all that is enabled and then does it
   pub reported : wave_counts g inputs o.steps ≡ Some (end, counts)
   pub machine : svg ≡ false → AreRows text inputs o (sizes_below z 64) rows
 
@@ -105,7 +105,7 @@ abbrev pub text_of : Bool → Graph → MeanEnd → List ℕ → List MachineRow
 text_of true g end counts rows = svg_text counts
 text_of false g end counts rows = profile_text g.arrays counts rows end
 
--- what came of it: a picture does not tell how the meaning ended
+-- the outcome: a picture does not report how the meaning ended
 abbrev pub profiled : Bool → MeanEnd → Outcome
 profiled true end = Outcome.Drawn (Ending.Meaning end)
 profiled false end = Outcome.Reported (Ending.Meaning end)

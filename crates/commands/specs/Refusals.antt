@@ -129,7 +129,7 @@ abbrev pub unread_as : InputFault → Refusal
 unread_as InputFault.Input = Refusal.Input
 unread_as InputFault.Memory = Refusal.Memory
 
--- and which a fault of a listing
+-- and that a fault of a listing is reported as
 abbrev pub of_kind : AsmFault → AsmFaultKind → Refusal
 of_kind fault AsmFaultKind.Memory = Refusal.Memory
 of_kind fault kind = Refusal.Asm fault

@@ -1,4 +1,4 @@
--- What the commands print, and what comes of them.
+-- What the commands print, and with which outcomes.
 use Rattle.std.specs.Prelude.{◌≡◌, ℕ, ℤ, Bool, true, false, ◌⊎◌, List, ◌++◌, length, Option, Some, None, Result, Ok, Err, codes}
 use Rattle.std.specs.Io.KnownBytes.{Appends}
 use Rattle.tags.specs.declared.value.Value.{Value}
@@ -31,16 +31,16 @@ use Rattle.outcomes.specs.declared.outcome.Ending.{Ending}
 use Rattle.outcomes.specs.declared.outcome.Outcome.{Outcome}
 use Rattle.outcomes.specs.Outcomes.{ending_of}
 
--- this text, of which this came; after a fault of the writer a beginning of the text
+-- this text, with this outcome; after a fault of the writer a beginning of the text
 abbrev pub Prints : {E : Type 0} → Result Outcome E → Option (List ℕ) → Option (List ℕ) → List ℕ → Outcome → Type 0
 Prints (Ok o) old new text outcome = (o ≡ outcome) × Appends old new text
 Prints (Err e) old new text outcome = (front : List ℕ) × (rest : List ℕ) × (text ≡ front ++ rest) × Appends old new front
 
--- the line of a refusal, which came of it
+-- the line of a refusal, which is the outcome
 abbrev pub Refuses : {E : Type 0} → Result Outcome E → Option (List ℕ) → Option (List ℕ) → Refusal → Type 0
 Refuses result old new f = Prints result old new (refusal_line f) (Outcome.Refused f)
 
--- the refusal tells a fault that has this cause
+-- the refusal reports a fault that has this cause
 abbrev pub IsReportedAs : (Fault → Type 0) → Refusal → Type 0
 IsReportedAs Cause f = (fault : Fault) × Cause fault × (f ≡ refused_as fault)
 
@@ -64,8 +64,8 @@ pub record IsRunOf (input : List ℕ) (o : RunOptions) (g : Graph) (r : Report) 
   pub named : o.mode ≡ Some mode
   pub truth : ReportsQuietly mode parts.text g inputs (config_of o) false r
 
--- Why there is no report: the first cause in the order of the work. A line that is not an integer is told only of a graph that
--- has an object, and a mode that does not exist only where a run is ready.
+-- Why there is no report: the first cause in the order of the work. A line that is not an integer is reported only of a graph that has an
+-- object, and a mode that does not exist only where a run is ready.
 abbrev pub IsRefusedLine : List ℕ → ℕ → Refusal → Type 0
 IsRefusedLine text n f = IsReportedAs (IsRefusedText text) f ⊎ (((g : Graph) × (bytes : List ℕ) × IsCompiled text g bytes) × (f ≡ Refusal.InputLine n))
 

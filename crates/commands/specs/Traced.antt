@@ -31,19 +31,19 @@ pub record IsTraceOf (input : List ℕ) (o : RunOptions) (g : Graph) (bytes : Li
   pub named : o.mode ≡ Some mode
   pub watched : IsWatched mode text g bytes inputs (config_of o) false r moments
 
--- how many of `count` events stand before the last ones that are asked for
+-- how many of `count` events are before the last ones that are asked for
 abbrev pub first_of : ℕ → Option ℕ → ℕ
 first_of count None = 0
 first_of count (Some last) = count - last
 
--- the events from number `first` on; as lines, after which stands the report, or as JSON
+-- the events from number `first` on; as lines, followed by the report, or as JSON
 abbrev pub events_text : EventFormat → ℕ → ℕ → Graph → List ℕ → Report → List Moment → List ℕ
 events_text EventFormat.Lines first elements g bytes r moments =
     trace_text (opened bytes).code.program first (drop first r.events) (drop first moments) ++ report_text g.arrays r
 events_text EventFormat.Chrome first elements g bytes r moments =
     chrome_text (opened bytes).code.program elements first (drop first r.events) (drop first moments)
 
--- what came of it: JSON does not tell how the run ended
+-- the outcome: JSON does not report how the run ended
 abbrev pub traced : EventFormat → Report → Outcome
 traced EventFormat.Lines r = Outcome.Reported (ending_of r)
 traced EventFormat.Chrome r = Outcome.Drawn (ending_of r)
@@ -62,7 +62,7 @@ page_text input o first g bytes r books =
     html_text input (listing_of bytes) (report_text g.arrays r) (data_text o.elements (o.elements * o.frames) first (drop first r.events) books)
     (length r.events - first)
 
--- what came of it
+-- the outcome
 abbrev pub paged : ℕ → Report → Outcome
 paged first r = Outcome.Paged (ending_of r) (length r.events - first)
 
@@ -75,7 +75,7 @@ pub record IsPageOf (input : List ℕ) (o : RunOptions) (first : ℕ) (g : Graph
   pub lists : ListsEvents mode text g bytes inputs (config_of o) false r
   pub kept : HasBooks bytes inputs (config_of o) first r books
 
--- where there is no page, it tells the cause for which `run` has no report
+-- where there is no page, the refusal has the cause for which `run` has no report
 abbrev pub PrintsPage : {E : Type 0} → Result Outcome E → Option (List ℕ) → Option (List ℕ) → List ℕ → RunOptions → Option ℕ → Type 0
 PrintsPage result old new input o last =
     ((g : Graph) × (bytes : List ℕ) × (r : Report) × (books : BooksView) × IsPageOf input o (first_of (length r.events) last) g bytes r books

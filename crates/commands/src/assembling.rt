@@ -22,7 +22,7 @@ fn asm_refusal(fault: AsmFault) -> Refusal
     }
 }
 
-/// Prints the object of the listing that the text is, or what is wrong with it first. Gives what came of it.
+/// Prints the object of the listing that the text is, or what is wrong with it first. Gives the outcome.
 pub fn print_assembled<A: Allocator + Clone, W: Write>(
     alloc: A,
     text: &[u8],

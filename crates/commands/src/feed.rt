@@ -54,7 +54,7 @@ pub fn read_feed<'a, A: Allocator + Clone>(
     }
 }
 
-/// The refusal of a run whose options are bad by themselves: what refuses it before them, or that they are.
+/// The refusal of a run whose options are bad: an earlier cause of refusal, if there is one, or else that they are bad.
 pub(crate) fn option_refusal<A: Allocator + Clone>(
     alloc: A,
     text: &[u8],

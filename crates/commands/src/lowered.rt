@@ -11,8 +11,8 @@ use outcomes::Outcome;
 use std::alloc::Allocator;
 use std::io::{self, Write};
 
-/// Prints the graph that the text's program is lowered to and the inputs that follow the program, or what is wrong with it first. Gives what
-/// came of it.
+/// Prints the graph that the text's program is lowered to and the inputs that follow the program, or what is wrong with it first. Gives the
+/// outcome.
 pub fn print_lowered<A: Allocator + Clone, W: Write>(
     alloc: A,
     text: &[u8],
@@ -27,8 +27,7 @@ pub fn print_lowered<A: Allocator + Clone, W: Write>(
     }
 }
 
-/// Prints where in the program stands what each node of its graph is made for, or what is wrong with the program first. Gives what
-/// came of it.
+/// Prints for which place of the program each node of its graph is made, or what is wrong with the program first. Gives the outcome.
 pub fn print_map<A: Allocator + Clone, W: Write>(
     alloc: A,
     text: &[u8],

@@ -35,10 +35,10 @@ use std::io::{self, Write};
 /// How many picks are drawn at a time.
 const PICKS: u32 = 4096;
 
-/// How often a run is played on by as many picks, if it takes them.
+/// How many such portions of picks are drawn for a run, at most.
 const TIMES: u32 = 1024;
 
-/// A report of another order that is not the first one's.
+/// A report of another order that differs from the first one's.
 #[derive(Drop)]
 pub struct Other<A: Allocator> {
     /// The number of the order, counted from 0.
@@ -50,7 +50,7 @@ pub struct Other<A: Allocator> {
 #[derive(Drop)]
 pub struct Reports<A: Allocator> {
     pub first: Report<A>,
-    /// The first report that is another one.
+    /// The first report that differs from it.
     pub other: Option<Other<A>>,
 }
 
@@ -61,8 +61,8 @@ pub struct Orders<'a, A: Allocator> {
     pub reports: Reports<A>,
 }
 
-/// Plays the machine in one order, by as many picks as the run takes, up to the greatest number that is drawn: what was played is
-/// played on.
+/// Plays the machine in one order, by as many picks as the run takes, up to the greatest number that is drawn. They are drawn in portions,
+/// each of which continues the run.
 fn play_drawn<C: MainCode, A: Allocator + Clone>(
     alloc: &A,
     machine: &mut Machine<'_, C, A>,
@@ -109,7 +109,7 @@ fn run_order<A: Allocator + Clone>(
     Ok(machine.report(halt))
 }
 
-/// The reports of the object's runs in `count` orders, or until one has another report than the first.
+/// The reports of the object's runs in `count` orders, or until one has a report that differs from the first.
 fn run_code_orders<A: Allocator + Clone>(
     alloc: &A,
     code: &Loaded<'_, A>,
@@ -135,7 +135,7 @@ fn run_code_orders<A: Allocator + Clone>(
     Ok(Reports { first, other: None })
 }
 
-/// Compiles the graph of the text, and runs it in `count` orders, or until one has another report than the first.
+/// Compiles the graph of the text, and runs it in `count` orders, or until one has a report that differs from the first.
 fn run_orders<'a, A: Allocator + Clone>(
     alloc: A,
     text: &'a [u8],
@@ -156,8 +156,8 @@ fn run_orders<'a, A: Allocator + Clone>(
     Ok(Orders { checked, reports })
 }
 
-/// Runs the graph of the input, on the integers after it, in `count` orders. Refusals come in the order of the work; whether any order was
-/// asked for is checked last.
+/// Runs the graph of the input, on the integers after it, in `count` orders. The causes of a refusal are checked in the order of the work;
+/// whether any order was asked for is checked last.
 fn make_orders<'a, A: Allocator + Clone>(
     alloc: A,
     input: &'a [u8],
@@ -237,9 +237,8 @@ fn write_differing<'a, A: Allocator, W: Write>(
     write_order(writer, number, graph, other)
 }
 
-/// Runs the graph of the input in `count` orders, which a seed chooses. Prints that all have one report, and that report; or
-/// the report of the first order and that of the first one that differs from it; or why there are none. Gives what came of
-/// it.
+/// Runs the graph of the input in `count` orders, which a seed chooses. Prints that all have one report, and that report; or the report of
+/// the first order and that of the first one that differs from it; or why there are none. Gives the outcome.
 pub fn print_orders<A: Allocator + Clone, W: Write>(
     alloc: A,
     input: &[u8],

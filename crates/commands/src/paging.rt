@@ -204,7 +204,7 @@ fn page_input<'a, R: Threads + Wait + Sync, A: Allocator + Clone + Send + Sync, 
     }
 }
 
-/// What came of a run whose page shows the events from number `first` on.
+/// The outcome of a run whose page shows the events from number `first` on.
 fn shown<A: Allocator>(report: &Report<A>, first: usize) -> Outcome
     ensures { result ≡ paged first report.now }
 {
@@ -216,7 +216,7 @@ fn shown<A: Allocator>(report: &Report<A>, first: usize) -> Outcome
 }
 
 /// Runs the graph of the input on the integers after it, and prints a page that shows all its events or only the last ones; or why there is
-/// none. Gives what came of it.
+/// none. Gives the outcome.
 pub(crate) fn print_page<
     R: Threads + Wait + Sync,
     A: Allocator + Clone + Send + Sync,

@@ -66,7 +66,7 @@ fn measure_in(held: Measure, moment: &Moment) -> u64
     }
 }
 
-/// The most of it that there is at any time, where there was so much at first.
+/// The greatest amount of it at any time, where there was this much at the start.
 fn most_of(held: Measure, first: u64, moments: &[Moment]) -> u64
     ensures { result ≡ greatest_from first (map (measure_in held) moments.now) }
 {
@@ -80,7 +80,7 @@ fn most_of(held: Measure, first: u64, moments: &[Moment]) -> u64
     most
 }
 
-/// What a run of this number of rounds said by its moments for a row.
+/// The row that the moments of a run of this number of rounds give.
 fn row_of(elements: u64, inputs: &[i64], rounds: u64, moments: &[Moment]) -> MachineRow
     ensures number { result.elements ≡ elements }
     ensures rounds { result.rounds ≡ rounds }
@@ -207,7 +207,7 @@ fn rows_of_graph<'a, R: Threads + Wait + Sync, A: Allocator + Clone + Send + Syn
     rows_of(alloc, &code, inputs, options, sizes, rt)
 }
 
-/// The rows that are printed: none beside a picture.
+/// The rows that are printed: none with a picture.
 fn rows_beside<'a, R: Threads + Wait + Sync, A: Allocator + Clone + Send + Sync>(
     alloc: A,
     checked: &Checked<'a, A>,
@@ -237,7 +237,7 @@ struct Profile<'a, A: Allocator> {
     rows: Vec<MachineRow, A>,
 }
 
-/// The profile of the graph of the input on the integers after it. Refusals come in the order of the work.
+/// The profile of the graph of the input on the integers after it. The causes of a refusal are checked in the order of the work.
 fn make_profile<'a, R: Threads + Wait + Sync, A: Allocator + Clone + Send + Sync>(
     alloc: A,
     input: &'a [u8],
@@ -284,7 +284,7 @@ fn write_made<A: Allocator, W: Write>(
     }
 }
 
-/// What came of a profile. A picture does not tell how the meaning ended.
+/// The outcome of a profile. A picture does not report how the meaning ended.
 fn profiled(svg: bool, end: MeanEnd) -> Outcome
     ensures { result ≡ profiled svg end }
 {
@@ -297,7 +297,7 @@ fn profiled(svg: bool, end: MeanEnd) -> Outcome
 }
 
 /// Prints how much parallelism the graph of the input has, on the integers after it: its waves as a picture, or as lines, with a row
-/// for each number of elements; or why there is none. Gives what came of it.
+/// for each number of elements; or why there is none. Gives the outcome.
 pub fn print_profile<R: Threads + Wait + Sync, A: Allocator + Clone + Send + Sync, W: Write>(
     alloc: A,
     input: &[u8],

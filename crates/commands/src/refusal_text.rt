@@ -1,4 +1,4 @@
-//! The line that tells a refusal.
+//! The line that reports a refusal.
 
 ghost use Rattle.std.specs.Prelude.{◌≡◌, ◌++◌, decimal};
 ghost use Rattle.semantics.specs.Text.{line};

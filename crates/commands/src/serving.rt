@@ -58,8 +58,8 @@ pub(crate) fn config_of(options: &RunOptions) -> Config
     }
 }
 
-/// Runs the graph of the input on the integers after it. Refusals come in the order of the work; whether the mode exists is
-/// checked last.
+/// Runs the graph of the input on the integers after it. The causes of a refusal are checked in the order of the work; whether
+/// the mode exists is checked last.
 fn run_input<'a, R: Threads + Wait + Sync, A: Allocator + Clone + Send + Sync, G: Gate + Sync>(
     alloc: A,
     input: &'a [u8],
@@ -84,7 +84,7 @@ fn run_input<'a, R: Threads + Wait + Sync, A: Allocator + Clone + Send + Sync, G
     }
 }
 
-/// Prints the line of the refusal, which is what came of it.
+/// Prints the line of the refusal, which is the outcome.
 pub(crate) fn refuse<W: Write>(writer: &mut W, refusal: &Refusal) -> io::Result<Outcome>
     ensures { Refuses result (W.contents writer.old) (W.contents writer.new) refusal.now }
 {
@@ -94,7 +94,7 @@ pub(crate) fn refuse<W: Write>(writer: &mut W, refusal: &Refusal) -> io::Result<
     }
 }
 
-/// Runs the graph of the input on the integers after it, and prints the report, or why there is none. Gives what came of it.
+/// Runs the graph of the input on the integers after it, and prints the report, or why there is none. Gives the outcome.
 pub fn print_run<
     R: Threads + Wait + Sync,
     A: Allocator + Clone + Send + Sync,
@@ -120,7 +120,7 @@ pub fn print_run<
     }
 }
 
-/// Runs the meaning of the graph of the input on the integers after it. Refusals come in the order of the work.
+/// Runs the meaning of the graph of the input on the integers after it. The causes of a refusal are checked in the order of the work.
 fn mean_input<'a, A: Allocator + Clone>(
     alloc: A,
     input: &'a [u8],
@@ -149,7 +149,7 @@ fn mean_input<'a, A: Allocator + Clone>(
 }
 
 /// Runs the meaning of the graph of the input on the integers after it, for at most `steps` activities. Prints what it gave, or
-/// why it was not run. Gives what came of it.
+/// why it was not run. Gives the outcome.
 pub fn print_meaning<A: Allocator + Clone, W: Write>(
     alloc: A,
     input: &[u8],
@@ -167,7 +167,7 @@ pub fn print_meaning<A: Allocator + Clone, W: Write>(
     }
 }
 
-/// Prints `ok` where the text has a well-formed graph, or what is wrong with it. Gives what came of it.
+/// Prints `ok` where the text has a well-formed graph, or what is wrong with it. Gives the outcome.
 pub fn print_check<A: Allocator + Clone, W: Write>(
     alloc: A,
     text: &[u8],
@@ -184,7 +184,7 @@ pub fn print_check<A: Allocator + Clone, W: Write>(
     }
 }
 
-/// Prints the object of the text's graph, or why there is none. Gives what came of it.
+/// Prints the object of the text's graph, or why there is none. Gives the outcome.
 pub fn print_object<A: Allocator + Clone, W: Write>(
     alloc: A,
     text: &[u8],
@@ -199,7 +199,7 @@ pub fn print_object<A: Allocator + Clone, W: Write>(
     }
 }
 
-/// Prints the listing of the object with these bytes, or why they are not an object. Gives what came of it.
+/// Prints the listing of the object with these bytes, or why they are not an object. Gives the outcome.
 pub fn print_listing<W: Write>(bytes: &[u8], writer: &mut W) -> io::Result<Outcome>
     ensures { PrintsOf listing_of result (W.contents writer.old) (W.contents writer.new) bytes.now }
 {
@@ -210,8 +210,8 @@ pub fn print_listing<W: Write>(bytes: &[u8], writer: &mut W) -> io::Result<Outco
     }
 }
 
-/// Prints the listing of the object with these bytes and its table of literals, or why they are not an object. Gives what
-/// came of it.
+/// Prints the listing of the object with these bytes and its table of literals, or why they are not an object. Gives the
+/// outcome.
 pub fn print_listing_with_literals<W: Write>(bytes: &[u8], writer: &mut W) -> io::Result<Outcome>
     ensures { PrintsOf listing_with_literals_of result (W.contents writer.old) (W.contents writer.new) bytes.now }
 {
@@ -222,7 +222,7 @@ pub fn print_listing_with_literals<W: Write>(bytes: &[u8], writer: &mut W) -> io
     }
 }
 
-/// Prints, as version 2, the object with these bytes, or why they are not an object. Gives what came of it.
+/// Prints, as version 2, the object with these bytes, or why they are not an object. Gives the outcome.
 pub fn print_upgrade<W: Write>(bytes: &[u8], writer: &mut W) -> io::Result<Outcome>
     ensures { PrintsOf upgrade_of result (W.contents writer.old) (W.contents writer.new) bytes.now }
 {
@@ -233,7 +233,7 @@ pub fn print_upgrade<W: Write>(bytes: &[u8], writer: &mut W) -> io::Result<Outco
     }
 }
 
-/// Prints the picture of the text's graph, or what is wrong with the graph. Gives what came of it.
+/// Prints the picture of the text's graph, or what is wrong with the graph. Gives the outcome.
 pub fn print_graph_picture<A: Allocator + Clone, W: Write>(
     alloc: A,
     text: &[u8],
@@ -250,7 +250,7 @@ pub fn print_graph_picture<A: Allocator + Clone, W: Write>(
     }
 }
 
-/// Prints the picture of the code of the object with these bytes, or why they are not an object. Gives what came of it.
+/// Prints the picture of the code of the object with these bytes, or why they are not an object. Gives the outcome.
 pub fn print_code_picture<W: Write>(bytes: &[u8], writer: &mut W) -> io::Result<Outcome>
     ensures { PrintsOf picture_of result (W.contents writer.old) (W.contents writer.new) bytes.now }
 {
@@ -310,8 +310,8 @@ fn exec_inputs<R: Threads + Wait + Sync, A: Allocator + Clone + Send + Sync, G: 
     }
 }
 
-/// Runs the object with these bytes on the inputs of the command line. Prints the report, or why there is none. Gives what
-/// came of it.
+/// Runs the object with these bytes on the inputs of the command line. Prints the report, or why there is none. Gives the
+/// outcome.
 pub fn print_exec<
     R: Threads + Wait + Sync,
     A: Allocator + Clone + Send + Sync,
@@ -342,7 +342,7 @@ pub fn print_exec<
     }
 }
 
-/// All that the reader has, printed on by what the words of the command line ask for.
+/// Prints what the words of the command line ask for, of all that the reader has.
 fn answer<R: Threads + Wait + Sync, A: Allocator + Clone + Send + Sync, G: Gate + Sync, W: Write>(
     request: &Request,
     input: &[u8],
@@ -392,7 +392,7 @@ fn answer<R: Threads + Wait + Sync, A: Allocator + Clone + Send + Sync, G: Gate 
     }
 }
 
-/// Reads all that the reader has, and prints what is asked for, or why that is not possible. Gives what came of it.
+/// Reads all that the reader has, and prints what is asked for, or why that is not possible. Gives the outcome.
 pub fn serve_request<
     R: Threads + Wait + Sync,
     A: Allocator + Clone + Send + Sync,
@@ -464,7 +464,7 @@ fn program_of<S: AsStr>(words: &[S]) -> &str {
     }
 }
 
-/// Prints what is asked for, or the text of a command line that is not a request. Gives what came of it.
+/// Prints what is asked for, or the text of a command line that is not a request. Gives the outcome.
 fn serve_asked<
     R: Threads + Wait + Sync,
     A: Allocator + Clone + Send + Sync,
@@ -497,7 +497,7 @@ fn serve_asked<
     }
 }
 
-/// Prints what the words of the command line ask for. Gives what came of it, which tells the exit status and why.
+/// Prints what the words of the command line ask for. Gives the outcome, which determines the exit status and says why.
 pub fn serve_words<
     R: Threads + Wait + Sync,
     A: Allocator + Clone + Send + Sync,

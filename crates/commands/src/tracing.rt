@@ -146,8 +146,8 @@ fn watch_text<'a, R: Threads + Wait + Sync, A: Allocator + Clone + Send + Sync, 
     Ok(Traced { compiled, watched })
 }
 
-/// Runs the graph of the input on the integers after it, and says what each event did. Refusals come in the order of the work; whether
-/// the mode exists is checked last.
+/// Runs the graph of the input on the integers after it, and says what each event did. The causes of a refusal are checked in the order of
+/// the work; whether the mode exists is checked last.
 fn watch_input<'a, R: Threads + Wait + Sync, A: Allocator + Clone + Send + Sync, G: Gate + Sync>(
     alloc: A,
     input: &'a [u8],
@@ -174,7 +174,7 @@ fn watch_input<'a, R: Threads + Wait + Sync, A: Allocator + Clone + Send + Sync,
     }
 }
 
-/// What came of a run whose events were printed in this format. Only after lines stands the report.
+/// The outcome of a run whose events were printed in this format. The report follows them only where they are lines.
 fn outcome_of<A: Allocator>(format: EventFormat, report: &Report<A>) -> Outcome
     ensures { result ≡ traced format report.now }
 {
@@ -184,8 +184,8 @@ fn outcome_of<A: Allocator>(format: EventFormat, report: &Report<A>) -> Outcome
     }
 }
 
-/// Runs the graph of the input on the integers after it, and prints its events, or only the last ones: as lines, after which stands the
-/// report, or as JSON; or why there are none. Gives what came of it.
+/// Runs the graph of the input on the integers after it, and prints its events, or only the last ones: as lines, followed by the report, or
+/// as JSON; or why there are none. Gives the outcome.
 fn print_events<
     R: Threads + Wait + Sync,
     A: Allocator + Clone + Send + Sync,
@@ -225,7 +225,7 @@ fn print_events<
 }
 
 /// Runs the graph of the input on the integers after it, and prints its events, or a page that shows the run, in this format, or of only the
-/// last events; or why there is no run. Gives what came of it.
+/// last events; or why there is no run. Gives the outcome.
 pub fn print_trace<
     R: Threads + Wait + Sync,
     A: Allocator + Clone + Send + Sync,

@@ -1,4 +1,4 @@
--- The books of a run of an object, kept over the object's code.
+-- The books of a run of an object, over the object's code.
 use Rattle.std.proofs.Common.{◌≡◌, ◌+◌, ◌*◌, ◌^◌, ◌<◌, ◌≤◌, ◌∙◌, ◌++◌, ℕ, ℤ, Bool, false, List, length, sym, refl, ap, subst, arith, rules, take, drop, take-append-drop}
 use Rattle.std.specs.Prelude.{sum}
 use Rattle.std.proofs.lemmas.Nat.{mul-le}

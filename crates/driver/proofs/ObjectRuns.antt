@@ -19,7 +19,7 @@ use Rattle.driver.specs.Headline.{stops_in}
 use Rattle.driver.specs.Objects.{ShowsObject, ShowsObjectIn, RunsObject, StartsObject}
 use Rattle.driver.specs.Orders.{size_of, RunsBy, RunsByTurns, RunsByList, RunsByRounds}
 
--- WHAT THE BYTES OF AN OBJECT TELL, of the code that was made of the object
+-- WHAT THE BYTES OF AN OBJECT SAY of the code that was made of the object
 module _ (slice : List ℕ) (o code : Opened) (same : slice ≡ o.bytes) (is : o ≡ code) where
   here : slice ≡ code.bytes
   here = same ∙ ap (λ (x : Opened). x.bytes) is
@@ -69,7 +69,7 @@ module _ (bytes : List ℕ) (inputs : List ℤ) (c : Config) (k : SoFar) (s : St
       let q = shows inputs s.opens.began in
       (q.unlisted, q.events, shown_object by_list may_stop (with_events r q.events) q.shows)
 
-  -- ORDER. What is played from the start on is what the report tells.
+  -- ORDER. What is played from the start on is what the report says.
   follows : (by_list : Bool) (picks : List (ℕ × ℕ)) (r : Report) (last : SoFar) (halt : Halt) (made : Events)
       → Plays by_list picks k.state last.state halt made → last.events ≡ k.events ++ made → IsReportOf last halt r → RunsBy s.code.program c inputs by_list picks r
   follows by_list picks r last halt made plays events reported = record {

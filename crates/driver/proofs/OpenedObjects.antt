@@ -1,4 +1,4 @@
--- What opening tells of the bytes.
+-- What opening says of the bytes.
 use Rattle.std.proofs.Common.{◌≡◌, ℕ, List, None, refl, subst}
 use Rattle.semantics.specs.Program.{Code}
 use Rattle.semantics.specs.Bytes.{IsObject}

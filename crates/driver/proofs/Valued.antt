@@ -1,4 +1,4 @@
--- A report at rest with no deferred reader tells the values of the graph's ports.
+-- A report at rest with no deferred reader reports the values of the graph's ports.
 use Rattle.std.proofs.Common.{◌≡◌, ℕ, Bool, ℤ, List, sym, ◌∙◌}
 use Rattle.semantics.specs.declared.report.End.TheVariants.{Rest}
 use Rattle.semantics.specs.Graph.{Graph, flow_of}

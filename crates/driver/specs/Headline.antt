@@ -28,8 +28,8 @@ pub record ShowsMemory (r : Report) (m : Meaning.Memory) : Type 0 where
 abbrev pub waiting_fetches : Flow → State → ℕ
 waiting_fetches fl s = sum_below (sum fl.arrays) (λ x. fetch_count fl x s.tokens)
 
--- The report shows the only outcome of the meaning: a state at rest to which every other run of the meaning can be led on, while no run
--- meets a second store. Its deferred readers are the fetches that wait in that state, and where none waits no frame is out.
+-- The report shows the only outcome of the meaning: a state at rest to which every other run of the meaning can be continued, while no run meets a
+-- second store. Its deferred readers are the fetches that wait in that state, and where none waits no frame is out.
 pub record IsOutcome (fl : Flow) (inputs : List ℤ) (r : Report) : Type 0 where
   pub state : State
   pub reached : Reached fl inputs state
@@ -40,8 +40,8 @@ pub record IsOutcome (fl : Flow) (inputs : List ℤ) (r : Report) : Type 0 where
   pub deferred : r.deferred ≡ waiting_fetches fl state
   pub frames : r.deferred ≡ 0 → r.frames_out ≡ 0
 
--- The events are bounded by the meaning: it has a run that calls for these invocations besides main, all different, and the report's
--- events are at most 6 for each of them and main and each instruction of the largest code block, its end counted too.
+-- The events are bounded by the meaning: it has a run that calls for these invocations besides main, all different, and the report's events are at
+-- most 6 for each of them and main and each instruction of the largest code block, its end included.
 pub record IsBoundedByMeaning (fl : Flow) (inputs : List ℤ) (p : Program) (r : Report) : Type 0 where
   pub run : List Activity
   pub state : State
@@ -51,21 +51,21 @@ pub record IsBoundedByMeaning (fl : Flow) (inputs : List ℤ) (p : Program) (r :
   pub called_for : AllDue fl run (Stood fl (Meaning.start inputs) run state is_run) contexts
   pub events : length r.events ≤ 6 * (largest p.blocks + 1) * (1 + length contexts)
 
--- What the report of a run of faithful code tells of the meaning.
+-- What the report of a run of faithful code says of the meaning.
 pub record ReportsMeaning (fl : Flow) (inputs : List ℤ) (p : Program) (r : Report) : Type 0 where
   pub faithful : Faithful fl p
   -- whatever its end, its outputs and cells are those of a state that the meaning reaches
   pub reached : (s : State) × Reached fl inputs s × ShowsMemory r s.memory
   -- at rest, with no request waiting, they are those of the meaning's only outcome
   pub rest : r.end ≡ Rest → IsOutcome fl inputs r
-  -- a second store is told only where the meaning has one, whatever the order
+  -- a second store is reported only where the meaning has one, whatever the order
   pub second_store : (a i : ℕ) → r.end ≡ Clash a i → IsSecondStore fl inputs (first_cell fl a + i)
   -- no token meets a case that its rule excludes
   pub matching : (n : ℕ) → r.end ≡ Stuck n → ⊥
   -- and the run is no longer than the meaning's invocations allow
   pub bounded : IsBoundedByMeaning fl inputs p r
 
--- The report is of a run of the compiler's code for the graph that the text has, and it tells of the meaning. `by_list`: the order of the run was
+-- The report is of a run of the compiler's code for the graph that the text has, and it reports on the meaning. `by_list`: the order of the run was
 -- a list. `may_stop`: a gate may have stopped it.
 pub record ReportsOf (text : List ℕ) (g : Graph) (inputs : List ℤ) (z : Size) (steps : ℕ) (by_list may_stop : Bool) (r : Report) : Type 0 where
   pub is_text : IsText text g
@@ -100,6 +100,6 @@ stops_in Mode.One may_stop = false
 stops_in Mode.Rounds may_stop = may_stop
 stops_in Mode.Free may_stop = may_stop
 
--- RUNS OF ANY LENGTH, whose report lists no events: with those of some run it tells what a report that lists them tells in this mode.
+-- RUNS OF ANY LENGTH, whose report lists no events: with those of some run it says what a report that lists them says in this mode.
 abbrev pub ReportsQuietly : Mode → List ℕ → Graph → List ℤ → Config → Bool → Report → Type 0
 ReportsQuietly mode text g inputs c may_stop r = IsGood c × (0 < c.frames) × Quietly (ReportsTruthIn mode text g inputs c may_stop) r

@@ -17,7 +17,7 @@ use Rattle.driver.specs.Refused.{IsCompiled}
 
 pub record ListsEvents (mode : Mode) (text : List ℕ) (g : Graph) (bytes : List ℕ) (inputs : List ℤ) (c : Config) (may_stop : Bool) (r : Report) : Type 0 where
   pub compiled : IsCompiled text g bytes
-  -- it tells of the meaning what the headline says
+  -- it says of the meaning what the headline does
   pub truth : ReportsTruthIn mode text g inputs c may_stop r
   -- and it is the report of a run of this object
   pub shows : ShowsObject bytes inputs c false (stops_in mode may_stop) r

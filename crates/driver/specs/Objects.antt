@@ -1,4 +1,4 @@
--- What a report of a run of an object says, whoever made the object.
+-- What a report of a run of an object says, by whatever means the object was made.
 use Rattle.std.specs.Prelude.{◌≡◌, ℕ, ◌<◌, Bool, false, ℤ, List, length}
 use Rattle.semantics.specs.Program.{Program, Code}
 use Rattle.semantics.specs.Bytes.{IsObject}
@@ -33,7 +33,7 @@ pub record ShowsObject (bytes : List ℕ) (inputs : List ℤ) (c : Config) (by_l
   pub good : IsGood c
   pub some_frame : 0 < c.frames
   pub shows : Shows code.program (size_of c) inputs c.steps by_list may_stop r
-  -- its events are those of a run in which the free frame of least number goes out, and a frame that comes back goes to the request that has waited longest
+  -- its events are those of a run in which the free frame of least number is handed out, and a released frame goes to the request that has waited longest
   pub in_order : IsOrdered code.program (size_of c) inputs r.events
 
 -- The run of the object's code has the order that `Ordered` asks for.

@@ -16,7 +16,7 @@ size_of c = record { elements = c.elements; frames = c.frames }
 
 -- ORDER. The events are the steps that a list names, in its order: an entry is an element and a pick among its tokens, and
 -- makes an event where the element then has a token and may make one. The report is of the machine where the run halts, and
--- tells what its lanes hold, or of the machine at the start where its own lists are refused.
+-- says what its lanes hold, or of the machine at the start where its own lists are refused.
 pub record RunsBy (p : Program) (c : Config) (inputs : List ℤ) (by_list : Bool) (picks : List (ℕ × ℕ)) (r : Report) : Type 0 where
   pub width : ℕ
   pub start : SoFar

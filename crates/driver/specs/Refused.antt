@@ -68,7 +68,7 @@ abbrev pub IsRefusedMeaning : List ℕ → List ℤ → Fault → Type 0
 IsRefusedMeaning text inputs (Fault.Start StartFault.WrongInputs) = (g : Graph) × IsGoodText text g × (length inputs ≢ inputs_at g (main_place g))
 IsRefusedMeaning text inputs fault = IsBadText text fault
 
--- the fault that is told of a machine that does not start
+-- the fault that is reported of a machine that does not start
 abbrev pub refusal_of : StartFault → Fault
 refusal_of StartFault.WrongInputs = Fault.Start StartFault.WrongInputs
 refusal_of StartFault.NoFrames = Fault.Start StartFault.NoFrames

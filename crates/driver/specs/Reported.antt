@@ -1,4 +1,4 @@
--- The fault that is reported where a pass or a part gives one of its own: want of memory as such, and another fault as it is.
+-- The fault that is reported where a pass or a part gives one of its own: lack of memory as such, and another fault as it is.
 use Rattle.std.specs.Prelude.{◌≡◌, ◌≢◌, ◌⊎◌}
 use Rattle.graph_file.specs.declared.fault.ReadFault.{ReadFault}
 use Rattle.graph_file.specs.declared.fault.ReadFaultKind.TheVariants as ReadFaultKind

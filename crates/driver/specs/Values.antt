@@ -1,4 +1,4 @@
--- What a report says of the values of a graph's ports, to whoever builds on the compiler: no token is named.
+-- What a report says of the values of a graph's ports, for users of the compiler as a library: no token is named.
 use Rattle.std.specs.Prelude.{◌≡◌, ℕ, Bool, ℤ, List}
 use Rattle.semantics.specs.declared.report.End.TheVariants.{Rest}
 use Rattle.semantics.specs.Graph.{Graph, Flow, flow_of}
@@ -18,7 +18,7 @@ pub record ReportsValues (fl : Flow) (inputs : List ℤ) (r : Report) : Type 0 w
   pub shown : ShowsMemory r state.memory
   pub settled : Settled fl inputs run state is_run
 
--- So it is where a report of which the headline holds ends at rest, with no deferred reader: of a run in any order,
+-- This is so where the headline holds of a report that ends at rest, with no deferred reader: of a run in any order,
 abbrev pub ReportsHaveValues : Type 0
 ReportsHaveValues = (text : List ℕ) (g : Graph) (inputs : List ℤ) (z : Size) (steps : ℕ) (by_list may_stop : Bool) (r : Report)
     → ReportsOf text g inputs z steps by_list may_stop r → r.end ≡ Rest → r.deferred ≡ 0 → ReportsValues (flow_of g) inputs r

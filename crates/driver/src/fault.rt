@@ -17,9 +17,9 @@ use std::alloc::AllocError;
 /// Why a text or an object has no report.
 #[derive(Debug, Drop)]
 pub enum Fault {
-    /// The text is not the text of a graph: this is its first fault. Want of memory is never told so.
+    /// The text is not the text of a graph: this is its first fault. Lack of memory is never reported so.
     Read(ReadFault),
-    /// The graph is not well formed: this is its first fault. Want of memory is never told so.
+    /// The graph is not well formed: this is its first fault. Lack of memory is never reported so.
     Check(CheckFault),
     /// The code block of this number is the first in which a holder finds no slot of a frame open, where each takes the least that it may share.
     TooManySlots(u64),
@@ -28,7 +28,7 @@ pub enum Fault {
     TooFar(u64),
     /// The bytes are not an object: this is their first fault.
     Object(ObjectFault),
-    /// The run cannot start, for another reason than want of memory.
+    /// The run cannot start, for another reason than lack of memory.
     Start(StartFault),
     Memory,
 }

@@ -37,7 +37,7 @@ pub fn open_code<'a, A: Allocator + Clone>(
     Ok(code)
 }
 
-/// A machine at its start on the object, or what refuses it. Its slots lie in `store`, whatever that was.
+/// A machine at its start on the object, or what refuses it. Its slots lie in `store`, whatever that held before.
 pub fn start_code<'m, 'a, A: Allocator + Clone>(
     alloc: A,
     store: &'m mut Option<Store<A>>,

@@ -1,4 +1,4 @@
-//! Runs of an object that also tell what each of their events did.
+//! Runs of an object that also say what each of their events did.
 
 ghost use Rattle.std.specs.Prelude.{◌≡◌, Bool, false, IfOk, MatchResult};
 ghost use Rattle.command_line.specs.declared.Mode.{Mode};

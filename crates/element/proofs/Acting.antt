@@ -1,4 +1,4 @@
--- What comes of one token, put together.
+-- The result of one token, put together.
 use Rattle.std.proofs.Common.{◌≡◌, refl, sym, ◌∙◌, ap, ℕ, ◌+◌, List, [], ◌∷◌, ◌++◌, append_assoc}
 use Rattle.std.specs.Prelude.{remove}
 use Rattle.std.proofs.lemmas.List.{append-nil, map-append}
@@ -31,7 +31,7 @@ acts_none p old mid new at t part before after e_mid e_after changes e_new =
     acts p old mid new new at t [] part before before after e_mid refl changes e_new (ap (λ (ts : List Token). record { part = new.part; queue = ts; made = new.made; answered = new.answered }) (sym (append-nil new.queue)))
     (e_after ∙ sym (append-nil before))
 
--- A store: its readers are answered from the list, which is cleared, and then whoever stored.
+-- A store: its readers are answered from the list, which is cleared, and then the continuation of the store.
 module _ (z : Shape) (listed : List Cont) (c : Cont) (v : Value) where
   in_order : answers (listed ++ c ∷ []) v ≡ answers listed v ++ answer c (Word.Val v) ∷ []
   in_order = map-append (λ (k : Cont). answer k (Word.Val v)) listed (c ∷ [])

@@ -1,4 +1,4 @@
--- What comes of an instruction that fires or not, put together.
+-- The result of an instruction that fires or not, put together.
 use Rattle.std.proofs.Common.{◌≡◌, refl, sym, ◌∙◌, ap, subst, ℕ, ◌*◌, ◌%◌, ◌<◌, ◌≤◌, List, [], ◌++◌, Option, Some, None, arith}
 use Rattle.tags.specs.declared.token.Port.{Port}
 use Rattle.tags.specs.declared.token.Word.{Word}
@@ -87,7 +87,7 @@ to_two s w (Some d) b = refl
 pub copied : (p : Program) (s : Point) (i : Instruction) (w : Word) → i.op ≡ Copy → fire_one p s (instr_of i) i.op w ≡ Some (to_half s w i.first ++ to_half s w i.second)
 copied p s i w is = ap (λ (op : Op). fire_one p s (instr_of i) op w) is ∙ ap (λ (ts : List Token). Some ts) (to_two s w (dest_in i.first) (dest_in i.second))
 
--- WHAT COMES OF A TOKEN
+-- THE RESULT OF A TOKEN
 abbrev point : ℕ → ℕ → Point
 point f ip = record { frame = f; ip = ip }
 

@@ -16,7 +16,7 @@ use Rattle.frame_manager.specs.Answered.{request_tokens, release_tokens}
 use Rattle.element.specs.Changed.{IsRequested, IsReleased}
 use Rattle.element.specs.Holding.{Holding, IsSoundLane, taken, queued, with_part, elsewhere}
 
--- The element can let a token act that stands at a place of its queue, under code that names slots below a width.
+-- The element can let the token at a place of its queue act, under code that names slots below a width.
 pub record CanAct (p : Program) (slots : ℕ) (h : Holding) (at : ℕ) (t : Token) : Type 0 where
   pub sound : IsSoundLane p h
   pub width : slots ≤ h.part.shape.width
@@ -68,7 +68,7 @@ ActsAs p old at t before (Clash cell) new after = IsSecond old.part t cell × St
 ActsAs p old at t before (Stuck rule) new after = IsStuck p old.part t rule × Still old before new after
 ActsAs p old at t before Memory new after = Still old before new after
 
--- What comes of a token where these tokens are made, if any, and the part is this then.
+-- The result of a token where these tokens are made, if any, and the part is this then.
 abbrev pub FiresAs : Option (List Token) → Part → Holding → ℕ → List Token → Stepped → Holding → List Token → Type 0
 FiresAs fired part old at before Did new after = (made : List Token) × (fired ≡ Some made) × (new ≡ queued (taken (with_part old part) at) made) × (after ≡ before ++ elsewhere old.part.shape made)
 FiresAs fired part old at before (Stuck rule) new after = (fired ≡ None) × (rule ≡ 4) × Still old before new after

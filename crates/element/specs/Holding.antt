@@ -88,7 +88,7 @@ pub record IsFor (f : Fixed) (t : Token) : Type 0 where
   pub near : IsNearToken (bounds_at f) t
   pub addressed : element_of f.shape.elements t.to ≡ f.shape.element
 
--- with tokens more, which come last
+-- with more tokens, at the end
 abbrev pub with_more : LaneView → List Token → LaneView
 with_more l ts = record { program = l.program; steps = l.steps; held = with_queue l.held (l.held.queue ++ ts) }
 

@@ -20,7 +20,7 @@ abbrev pub LeftHasRoom : Meeting → Type 0
 LeftHasRoom (Both l r) = HasRoomInWord l
 LeftHasRoom m = ⊤
 
--- what comes of a credit, as the outcome of its instruction
+-- the result of a credit, as the outcome of its instruction
 abbrev pub CreditIs : rule.Outcome → Credit → Type 0
 CreditIs o (SlotOnly v) = o ≡ rule.Becomes v []
 CreditIs o (Answered v t) = o ≡ rule.Becomes v (t ∷ [])

@@ -28,7 +28,7 @@ pub record Part : Type 0 where
   pub outputs : List (Option Value)
   pub done : Bool
 
--- where slot r of the machine's frame f stands among the states: the element's frames are f with f mod elements = element
+-- where slot r of the machine's frame f is among the states: the element's frames are f with f mod elements = element
 abbrev pub slot_place : Shape → ℕ → ℕ → ℕ
 slot_place z f r = z.start + ((f / z.elements) * z.width + r)
 

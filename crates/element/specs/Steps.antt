@@ -25,7 +25,7 @@ pub record Picks (h : Holding) (pick : ℕ) (t : Token) : Type 0 where
 abbrev pub HoldsTokens : Holding → List Token → List Token → Machine → Type 0
 HoldsTokens h sent others m = IsPermutation m.pool (h.queue ++ (sent ++ others))
 
--- In the machine that it came to, the lane is the element's part, all that lies on other elements is as it was, and the
+-- In the machine after the event, the lane is the element's part, all that lies on other elements is as it was, and the
 -- tokens are those of the lane, those for others, and the rest.
 pub record IsAfter (p : Program) (old : Holding) (t : Token) (new : Holding) (after others made : List Token) (m : Machine) : Type 0 where
   pub next : Machine
@@ -49,7 +49,7 @@ pub record Does (p : Program) (old : Holding) (pick : ℕ) (before : List Token)
   pub shape : new.part.shape ≡ old.part.shape
   pub event : (m : Machine) (others : List Token) → IsPart old.part m.store → HoldsTokens old before others m → IsAfter p old token new after others made m
 
--- all stands as before
+-- nothing is changed
 pub record Stays (old : Holding) (before : List Token) (new : Holding) (after : List Token) : Type 0 where
   pub held : new ≡ old
   pub sent : after ≡ before

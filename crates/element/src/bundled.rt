@@ -1,5 +1,5 @@
-//! How frames and cells are dealt out to the elements: in turn, so that the one of number n lies on element n % elements,
-//! and is there the one of number n / elements. Where the elements are a power of two no division is made.
+//! How frames and cells are distributed among the elements: in turn, so that the one of number n is on element n %
+//! elements, and has the number n / elements there. Where the elements are a power of two no division is made.
 
 ghost use Rattle.std.specs.Prelude.{◌≡◌, ◌<◌, ◌/◌, ◌%◌};
 ghost use Rattle.tags.specs.Addresses.{element_of};

@@ -1,4 +1,4 @@
-//! What an element holds, and what it does with a token. In the midst of an event it is not sound.
+//! What an element holds, and what it does with a token. During an event it is not sound.
 
 ghost use Rattle.std.specs.Prelude.{◌≡◌, ◌+◌, ◌%◌, ◌<◌, ◌≤◌, ◌^◌, [], ◌∷◌, ◌++◌, OnOk, OnErr, IfOk, IfSome, IfNone, None, replicate};
 ghost use Rattle.element.specs.Holding.{held_in, part_of, shape_of, with_queue, IsSoundLane};
@@ -105,7 +105,7 @@ impl<'m, A: Allocator> Contents<'m, A> {
         })
     }
 
-    /// Puts tokens for this element last into the queue. After an error all stands as before.
+    /// Puts tokens for this element last into the queue. After an error nothing is changed.
     pub fn receive(&mut self, tokens: &[Token]) -> Result<(), AllocError>
         ensures ok { OnOk result (held_in self.new ≡ with_queue (held_in self.old) (self.old.queue.items ++ tokens.now)) }
         ensures err { OnErr result (held_in self.new ≡ held_in self.old) }
@@ -117,7 +117,7 @@ impl<'m, A: Allocator> Contents<'m, A> {
         Ok(())
     }
 
-    /// Puts a token for this element last into the queue. After an error all stands as before.
+    /// Puts a token for this element last into the queue. After an error nothing is changed.
     pub fn receive_one(&mut self, token: Token) -> Result<(), AllocError>
         ensures ok { OnOk result (held_in self.new ≡ with_queue (held_in self.old) (self.old.queue.items ++ token ∷ [])) }
         ensures err { OnErr result (held_in self.new ≡ held_in self.old) }
@@ -226,8 +226,8 @@ impl<'m, A: Allocator> Contents<'m, A> {
     /// The element takes the token that `pick`, modulo the number of its tokens, names from the oldest on. The token is
     /// taken out and the others close up. New tokens go last: into the queue, and those for other elements into `sent`;
     /// those to the outside come first, then those to the first destination and to the second; a store answers its
-    /// readers in the order in which they came, and whoever stored last. After `Clash`, `Stuck` and `Memory` all stands
-    /// as before.
+    /// readers in the order in which they came, and then the continuation of the store. After `Clash`, `Stuck` and
+    /// `Memory` nothing is changed.
     #[inline(always)]
     pub fn step<C: Instructions, Site>(
         &mut self,

@@ -36,8 +36,8 @@ use tags::token::{Port, Word};
 use two_inputs::meets;
 pub use two_inputs::{Meeting, fire_two, meet};
 
-/// What comes of a word at an instruction whose slot has this state; an instruction that uses no slot leaves the state
-/// as it is.
+/// The result of a word at an instruction whose slot has this state; an instruction that uses no slot leaves the state as
+/// it is.
 pub fn fire<C: Instructions>(
     code: &C,
     point: Point,

@@ -17,7 +17,7 @@ use tags::value::{NodeNumber, Origin};
 #[derive(Clone, Copy, Debug, PartialEq, Eq)]
 pub struct Instruction {
     pub op: Op,
-    /// The number of the origin: 0 for one that is not told, else one more than 1,024 times the block and the node.
+    /// The number of the origin: 0 for one that is not given, else one more than 1,024 times the block and the node.
     pub origin: u64,
     /// The slot of its frame in which its operands meet; 0 where it has none.
     pub slot: u32,
@@ -29,7 +29,7 @@ pub struct Instruction {
 }
 
 impl Instruction {
-    /// Where a fault that the instruction makes says that it was made.
+    /// The origin of a fault that the instruction makes.
     #[inline(always)]
     pub fn origin(&self) -> Origin
         ensures { result ≡ origin_in self.now.origin }
@@ -45,7 +45,7 @@ impl Instruction {
     }
 }
 
-/// The destination that a half word tells, if it tells one.
+/// The destination that a half word gives, if it gives one.
 #[inline(always)]
 pub fn dest_in(half: u32) -> Option<Dest>
     ensures { result ≡ Decoded.dest_in half }

@@ -153,7 +153,7 @@ impl<'m, C: Instructions, A: Allocator> Lane<'m, C, A> {
         outputs
     }
 
-    /// Puts tokens for this element last into the queue. After an error all stands as before.
+    /// Puts tokens for this element last into the queue. After an error nothing is changed.
     pub fn receive_all(&mut self, tokens: &[Token]) -> Result<(), AllocError>
         requires { All (IsFor (fixed_of self.old)) tokens.now }
         ensures ok { OnOk result (self.new ≡ with_more self.old tokens.now) }
@@ -162,7 +162,7 @@ impl<'m, C: Instructions, A: Allocator> Lane<'m, C, A> {
         self.contents.receive(tokens)
     }
 
-    /// Puts a token for this element last into the queue. After an error all stands as before.
+    /// Puts a token for this element last into the queue. After an error nothing is changed.
     pub fn receive(&mut self, token: Token) -> Result<(), AllocError>
         requires { IsFor (fixed_of self.old) token }
         ensures ok { OnOk result (self.new ≡ with_more self.old (token ∷ [])) }
@@ -180,12 +180,12 @@ impl<'m, C: Instructions, A: Allocator> Lane<'m, C, A> {
         self.contents.token(pick)
     }
 
-    /// The element takes the token that `pick`, modulo the number of its tokens, names from the oldest on; `None` where it
-    /// has a token and has made all its events. The token is taken out and the others close up. New tokens go last: into the
-    /// queue, and those for other elements into `sent`; those to the outside come first, then those to the first destination
-    /// and to the second; a store answers its readers in the order in which they came, and whoever stored last. After
-    /// `Clash`, `Stuck` and `Memory` all stands as before. `Site` stands for where it is called: each has code of its own, which a
-    /// loop with a site of its own has built into it.
+    /// The element takes the token that `pick`, modulo the number of its tokens, names from the oldest on; `None` where it has a
+    /// token and has made all its events. The token is taken out and the others close up. New tokens go last: into the queue, and
+    /// those for other elements into `sent`; those to the outside come first, then those to the first destination and to the
+    /// second; a store answers its readers in the order in which they came, and then the continuation of the store. After `Clash`,
+    /// `Stuck` and `Memory` nothing is changed. `Site` stands for where it is called: each has code of its own, which a loop with
+    /// a site of its own has built into it.
     #[inline(always)]
     pub fn step<Site>(&mut self, pick: u64, sent: &mut Vec<Token, A>) -> Option<Stepped>
     where

@@ -1,4 +1,4 @@
--- Which frames are out, kept as the set of those that are free.
+-- Which frames are out, stored as the set of those that are free.
 use Rattle.std.specs.Prelude.{◌≡◌, ℕ, ◌*◌, ◌^◌, ◌<◌, ◌≤◌, Bool, true, false, ◌==◌, List, map, length, slice_index, slice_index_or}
 use Rattle.std.specs.List.{range_with_len}
 use Rattle.semantics.specs.Report.{sum_below, one_if}

@@ -59,8 +59,8 @@ impl<A: Allocator + Clone> Manager<A> {
 }
 
 impl<A: Allocator> Manager<A> {
-    /// Hands out the free frame of least number. `None`: no frame is free, and the request waits. An error leaves all
-    /// as it was.
+    /// Hands out the free frame of least number. `None`: no frame is free, and the request waits. An error changes
+    /// nothing.
     pub fn request(&mut self, cont: Cont) -> Result<Option<FrameId>, AllocError>
         ensures exact { Requested self.old cont result self.new }
         ensures event { RequestIsEvent self.old cont result self.new }
@@ -78,7 +78,7 @@ impl<A: Allocator> Manager<A> {
         }
     }
 
-    /// Takes a frame back. The request that has waited longest gets it, and is told with it. This takes no memory.
+    /// Takes a frame back. The request that has waited longest gets it, and is returned with it. This takes no memory.
     pub fn release(&mut self, frame: FrameId) -> Result<Option<(Cont, FrameId)>, NotOut>
         ensures exact { Released self.old frame result self.new }
         ensures event { ReleaseIsEvent self.old frame result self.new }

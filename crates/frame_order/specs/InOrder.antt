@@ -7,7 +7,7 @@ use Rattle.tags.specs.declared.token.Token.{Token}
 use Rattle.semantics.specs.Program.{Program}
 use Rattle.semantics.specs.Machine.{Store, Machine, Size, Event, Events, at_start}
 
--- THE ORDER OF FRAMES. The free frame of least number goes out, and a frame that comes back goes to the request that has waited longest.
+-- THE ORDER OF FRAMES. The free frame of least number is handed out, and a released frame goes to the request that has waited longest.
 abbrev pub IsInOrder : Store → To → List Token → Store → Type 0
 IsInOrder old To.Manager (t ∷ ts) new = (f g : ℕ) → t.word ≡ Word.Frame f → g < f → old.out g ≡ true
 IsInOrder old (To.Release f) (t ∷ ts) new = (c : Cont) × (old.requests ≡ c ∷ new.requests)

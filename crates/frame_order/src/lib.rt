@@ -1,2 +1,2 @@
-//! The order in which frames are handed out: definitions of events and runs that keep it, and that each step of a lane does. It has no code.
+//! The order in which frames are handed out: definitions of events and runs that keep this order, and proofs that each step of a lane does. It has no code.
 #![tactic(auto)]

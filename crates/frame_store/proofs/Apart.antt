@@ -1,4 +1,4 @@
--- Each slot stands at a place of its own.
+-- Each slot has its own place.
 use Rattle.std.proofs.Common.{◌≡◌, sym, ap, ℕ, ◌+◌, ◌*◌, ◌<◌, ◌≤◌, arith, get_or-set_other, get_or-set_same, ◌⊎◌, ⊎_elim, inl, inr}
 use Rattle.std.proofs.lemmas.Bool.{cases_eq, cases_lt}
 use Rattle.std.proofs.Math.Nat.{mul-le-mul_right}

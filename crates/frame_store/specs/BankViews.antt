@@ -1,4 +1,4 @@
--- A bank that is lent: where its slots stand among those after it.
+-- A bank that is lent: where its slots are among those after it.
 use Rattle.std.specs.Prelude.{◌≡◌, ℕ, ◌+◌, ◌*◌, ◌≤◌, List, length}
 use Rattle.std.specs.Borrow.{GName}
 use Rattle.tags.specs.declared.slot.SlotState.{SlotState}
@@ -15,7 +15,7 @@ bank_states b = b.slots.now
 abbrev pub IsBank : BankMut → Type 0
 IsBank b = b.start + b.frames * b.width ≤ length b.slots.now
 
--- where slot r of frame f stands
+-- where slot r of frame f is
 abbrev pub place_in : BankMut → ℕ → ℕ → ℕ
 place_in b f r = b.start + (f * b.width + r)
 

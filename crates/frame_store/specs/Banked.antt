@@ -1,4 +1,4 @@
--- The banks that are still to be handed out.
+-- The banks that are still to be lent.
 use Rattle.std.specs.Prelude.{◌≡◌, ℕ, ◌<◌, List, length, take, drop, Option, Some, None}
 use Rattle.std.specs.Slice.Iter.{chunks_exact_mut_rest, chunks_exact_mut_size}
 use Rattle.tags.specs.declared.slot.SlotState.{SlotState}
@@ -6,7 +6,7 @@ use Rattle.frame_store.specs.declared.bank.BankMut.{BankMut}
 use Rattle.frame_store.specs.declared.bank.Banks.{Banks}
 use Rattle.frame_store.specs.BankViews.{bank_states}
 
--- the states of the slots that no bank was handed out for
+-- the states of the slots whose banks are not lent yet
 abbrev pub remaining_of : Banks → List SlotState
 remaining_of b = chunks_exact_mut_rest b.chunks
 

@@ -16,7 +16,7 @@ bank_size s = s.frames * s.width
 abbrev pub all_empty : ℕ → ℕ → ℕ → Slots
 all_empty elements frames width = record { elements = elements; frames = frames; width = width; states = replicate (elements * (frames * width)) Empty }
 
--- where slot r of frame f of an element stands
+-- where slot r of frame f of an element is
 abbrev pub place_of : Slots → ℕ → ℕ → ℕ → ℕ
 place_of s e f r = e * bank_size s + (f * s.width + r)
 

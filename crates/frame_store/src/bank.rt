@@ -10,7 +10,7 @@ use tags::slot::SlotState;
 /// The slots of the frames of one element: a number of frames of `width` slots each, from some place of the slice on.
 #[derive(Drop)]
 pub struct BankMut<'a> {
-    /// The slots after the bank. A function over `&mut [Slot]` lends one by `slots.slot(place)`, and whoever calls it with
+    /// The slots after the bank. A function over `&mut [Slot]` lends one by `slots.slot(place)`, and a caller that passes
     /// `&mut *bank.slots` knows the bank afterwards.
     pub slots: &'a mut [Slot],
     start: usize,
@@ -65,7 +65,7 @@ impl<'a> BankMut<'a> {
             && self.frames <= (slots.len() - self.start) / self.width
     }
 
-    /// Where a slot of a frame stands among the slots after the bank.
+    /// Where a slot of a frame is among the slots after the bank.
     #[inline(always)]
     pub fn place(&self, frame: usize, slot: usize) -> usize
         requires bank { IsBank self.now }
@@ -132,7 +132,7 @@ impl<'a> BankMut<'a> {
     }
 }
 
-/// Hands out each bank of a store once.
+/// Lends each bank of a store once.
 #[derive(Drop)]
 pub struct Banks<'a> {
     chunks: slice::ChunksExactMut<'a, Slot>,

@@ -11,8 +11,8 @@ use std::alloc::Allocator;
 
 /// Slots of which one can be lent.
 pub trait LendSlot<'a> {
-    /// The slot of this number, if it is there. What it is left at stands among the slots afterwards, and each other
-    /// slot stays.
+    /// The slot of this number, if it is there. The state that it is left in is among the slots afterwards, and each other
+    /// slot stays as it is.
     fn slot(self, number: usize) -> Option<&'a mut Slot>;
 }
 
@@ -54,8 +54,8 @@ impl<'a, A: Allocator> FrameMut<'a, A> {
         }
     }
 
-    /// Turns the frame into one of its slots. What the slot is left at is in the store, and every other slot of every frame of
-    /// every element stays.
+    /// Turns the frame into one of its slots. The state that the slot is left in is in the store, and every other slot of
+    /// every frame of every element stays as it is.
     pub fn slot(self, slot: usize) -> &'a mut Slot
         requires element { self.element < self.store.now.elements }
         requires frame { self.frame < self.store.now.frames }

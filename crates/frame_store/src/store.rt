@@ -114,7 +114,7 @@ impl<A: Allocator> Store<A> {
         FrameMut::new(self, element, frame)
     }
 
-    /// Hands out each bank once, all apart from one another.
+    /// Lends each bank once, all separate from one another.
     pub fn banks(&mut self) -> Banks<'_>
         requires { 0 < self.old.elements }
         ensures left { remaining_of result ≡ self.old.states }
@@ -129,7 +129,7 @@ impl<A: Allocator> Store<A> {
     }
 }
 
-/// No two slots stand at one place: a slot that is set has its new state, and every other slot of every frame of every
+/// No two slots are at one place: a slot that is set has its new state, and every other slot of every frame of every
 /// element has the state that it had.
 pub fn slots_stand_apart()
     ensures { SlotsStandApart }

@@ -52,8 +52,8 @@ impl<'a, A: Allocator> StoreBank<'a, A> {
         FrameMut::new(self.store, element, frame)
     }
 
-    /// A slot of a frame of the bank. What it is left at is in the store, and every other slot of every frame of every
-    /// element stays.
+    /// A slot of a frame of the bank. The state that it is left in is in the store, and every other slot of every frame
+    /// of every element stays as it is.
     pub fn slot(&mut self, frame: usize, slot: usize) -> &mut Slot
         requires element { self.old.element < self.old.store.now.elements }
         requires frame { frame < self.old.store.now.frames }

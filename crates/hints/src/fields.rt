@@ -16,7 +16,7 @@ fn are_digits(bytes: &[u8]) -> bool {
     !bytes.is_empty() && bytes.iter().all(|byte| byte.is_ascii_digit())
 }
 
-/// That digits, which stand in this field, have a leading zero, or else this.
+/// That digits, which are in this field, have a leading zero, or else this.
 fn zero_or<'a>(field: &'a [u8], digits: &[u8], text: &'static str) -> Message<'a> {
     if digits.len() > 1 && digits.first() == Some(&b'0') {
         one("`{}` has a leading zero", Field(field))

@@ -1,4 +1,4 @@
-//! How far tokens have come with which some program begins: what is open there, and what comes next.
+//! How far the first tokens of some program have been read: what is open there, and what comes next.
 
 use source::token::{Keyword, Sign, Token, TokenKind};
 use std::alloc::{AllocError, Allocator};
@@ -65,7 +65,7 @@ pub enum Next {
     AfterOperand,
 }
 
-/// How far the tokens have come.
+/// How far the tokens have been read.
 #[derive(Drop)]
 pub struct Going<A: Allocator> {
     pub next: Next,

@@ -1,4 +1,4 @@
-//! What a graph says of its blocks and nodes, and where these stand in its text.
+//! What a graph says of its blocks and nodes, and where these are in its text.
 
 use graph::{Block, Graph, Name, Node};
 use semantics::graph::{Kind, Region, Source};
@@ -116,7 +116,7 @@ fn is_looped<'a, A: Allocator>(graph: &Graph<'a, A>, name: &Name<'a>) -> bool {
 }
 
 /// The block that code block `number` belongs to, and whether that is the code of its iterations. The plain codes of all blocks
-/// come first, then the codes of iterations, one for each block that some loop names.
+/// are first, then the codes of iterations, one for each block that some loop names.
 pub fn coded_block<'g, 'a, A: Allocator>(
     graph: &'g Graph<'a, A>,
     number: u64,

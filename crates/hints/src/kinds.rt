@@ -22,7 +22,7 @@ pub fn form_of(kind: &[u8]) -> Option<&'static str> {
     }
 }
 
-/// How many operands stand before the sources in a line of this form.
+/// How many operands are before the sources in a line of this form.
 pub fn operands_in(form: &str) -> u64 {
     let mut operands = 0u64;
     for word in form.split(' ').skip(1) {

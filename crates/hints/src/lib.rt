@@ -1,6 +1,6 @@
-//! Hints: what a person is told on standard error when a graph, an object or a listing is refused, when a report tells an end
-//! that is not rest, or when the words of a command line are a mistake. Hints change nothing on standard output. A hint is made
-//! from what came of the words (`outcomes::Outcome`), from the words, and from the input that was read, which it quotes.
+//! Hints: what is printed for a person on standard error when a graph, an object or a listing is refused, when a report shows an
+//! end that is not rest, or when the words of a command line are a mistake. Hints change nothing on standard output. A hint is
+//! made from the outcome (`outcomes::Outcome`), from the words, and from the input that was read, which it quotes.
 #![tactic(auto)]
 
 ghost use Rattle.std.specs.Prelude.{◌≡◌, IfOk, is_some};
@@ -88,8 +88,8 @@ fn command_of(request: &Request) -> &'static str {
     }
 }
 
-/// Why this request, which these words are, was refused. `None` where the place cannot be found, because the input was not kept or
-/// memory was refused.
+/// Why this request, which these words are, was refused. `None` where the place cannot be found, because the input was not stored
+/// or memory was refused.
 fn refusal_fault<'a, S: AsStr, A: Allocator + Clone>(
     alloc: A,
     request: &Request,
@@ -120,7 +120,7 @@ fn refusal_fault<'a, S: AsStr, A: Allocator + Clone>(
     }
 }
 
-/// What is told of a refusal whose place is nowhere, or cannot be found.
+/// What is said of a refusal whose place is nowhere, or cannot be found.
 fn unlocated<'a>(asked: &Asked, refusal: Refusal) -> Message<'a> {
     let part = match refusal {
         Refusal::Input => return say(UNREAD),
@@ -189,7 +189,7 @@ fn line_of<A: Allocator + Clone>(alloc: A, message: &Message<'_>) -> Result<Line
     Line::of(alloc, text.as_str())
 }
 
-/// The hint that tells this cause.
+/// The hint that gives this cause.
 fn hint_of<A: Allocator + Clone>(alloc: A, found: &Found<'_>) -> Result<Hint<A>, AllocError> {
     let place = match found.place {
         Some(place) => Some(line_of(alloc.clone()?, &place)?),
@@ -199,9 +199,9 @@ fn hint_of<A: Allocator + Clone>(alloc: A, found: &Found<'_>) -> Result<Hint<A>,
     Ok(Hint { place, cause })
 }
 
-/// What a person is to be told of a command. `words` are the words of the command line, the program's name first. `input` is
-/// what the command read, if that was kept. `outcome` is what came of the words; `None` where a write failed. There is a hint
-/// exactly where one is wanted.
+/// The hint for a person who ran a command. `words` are the words of the command line, the program's name first. `input` is what
+/// the command read, if that was stored. `outcome` is that of the words; `None` where a write failed. There is a hint exactly
+/// where one is wanted.
 pub fn explain<S: AsStr, A: Allocator + Clone>(
     alloc: A,
     words: &[S],

@@ -30,7 +30,7 @@ impl<A: Allocator> Model for Line<A> {
 /// A hint: one line, or two.
 #[derive(Drop)]
 pub struct Hint<A: Allocator> {
-    /// Where the cause stands.
+    /// Where the cause is.
     pub place: Option<Line<A>>,
     pub cause: Line<A>,
 }

@@ -1,4 +1,4 @@
-//! The lines of a text, their fields, and where in a graph a line stands.
+//! The lines of a text, their fields, and where in a graph a line is.
 
 use std::str;
 
@@ -44,7 +44,7 @@ pub fn split_graph(input: &[u8]) -> (&[u8], &[u8]) {
     (input, b"")
 }
 
-/// Where in a graph a line stands.
+/// Where in a graph a line is.
 #[derive(Clone, Copy, PartialEq, Eq)]
 pub enum Spot {
     /// Outside a block, before the first one.
@@ -85,7 +85,7 @@ impl<'a> Context<'a> {
         }
     }
 
-    /// What stands before line `number`, counted from 1. The first line is the header.
+    /// What is before line `number`, counted from 1. The first line is the header.
     pub fn before(text: &'a [u8], number: u64) -> Context<'a> {
         let mut context = Context {
             spot: Spot::Arrays,

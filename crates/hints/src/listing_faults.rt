@@ -22,7 +22,7 @@ fn line_form(subject: Subject) -> &'static str {
     }
 }
 
-/// The cause for a byte that parts no words, though it looks so.
+/// The cause for a byte that separates no words, though it looks as if it did.
 fn stray_byte<'a>(line: &[u8]) -> Option<Message<'a>> {
     let line = said(line);
     if line.ends_with(b"\r") {
@@ -33,7 +33,7 @@ fn stray_byte<'a>(line: &[u8]) -> Option<Message<'a>> {
     Some(one("column {} has a tab: words are parted by spaces", column))
 }
 
-/// The cause for a line of no form that may stand there.
+/// The cause for a line of no form that is allowed there.
 fn bad_line<'a>(line: &[u8], before: &Before, subject: Subject) -> Message<'a> {
     if before.may_have(subject) {
         two(

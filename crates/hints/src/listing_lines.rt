@@ -1,4 +1,4 @@
-//! The lines of a listing, their words, and what stands before a line.
+//! The lines of a listing, their words, and what is before a line.
 
 use crate::lines::{LINE_FEED, SPACE};
 use std::str;
@@ -44,7 +44,7 @@ pub enum Subject {
     Literal,
 }
 
-/// How many lines of each subject stand before a line. Lines without words are not counted.
+/// How many lines of each subject are before a line. Lines without words are not counted.
 #[derive(Clone, Copy)]
 pub struct Before {
     pub heads: u64,
@@ -83,7 +83,7 @@ impl Before {
         }
     }
 
-    /// What stands before line `number`, counted from 1.
+    /// What is before line `number`, counted from 1.
     pub fn of(text: &[u8], number: u64) -> Before {
         let mut before = Before {
             heads: 0,

@@ -16,14 +16,14 @@ pub enum Piece<'a> {
     Word(&'a str),
     /// Bytes of a text.
     Bytes(&'a [u8]),
-    /// Bytes of the line at the message's place, which are to be seen there.
+    /// Bytes of the line at the message's place, which are shown there.
     Field(&'a [u8]),
     Number(u64),
-    /// A column of the line at the message's place, from 1, which is to be seen there.
+    /// A column of the line at the message's place, from 1, which is shown there.
     Column(u64),
     /// A line, of which the part round a column, from 1, is shown where the line is long.
     Line(&'a [u8], u64),
-    /// How many of a thing there are: `1 source`, `2 sources`.
+    /// How many of something there are: `1 source`, `2 sources`.
     Count(u64, &'static str),
     /// A region: `the root`, or `arm 3+`.
     Lies(Region),
@@ -151,7 +151,7 @@ fn column_at(line: &[u8], field: &[u8]) -> u64 {
 }
 
 impl Message<'_> {
-    /// The column of its line that is to be seen, from 1.
+    /// The column of its line that is shown, from 1.
     pub fn column(&self, line: &[u8]) -> u64 {
         match self.first {
             Piece::Field(field) => column_at(line, field),

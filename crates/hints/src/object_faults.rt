@@ -27,7 +27,7 @@ struct Tables<'a> {
 #[derive(Clone, Copy)]
 struct Within {
     slots: u64,
-    /// How many instructions of the block come after this one.
+    /// How many instructions of the block are after this one.
     behind: u64,
     /// The number of this instruction's first word.
     place: u64,
@@ -47,7 +47,7 @@ fn range<'a>(what: &'static str, value: u64, least: u64, most: u64) -> Option<Me
     ))
 }
 
-/// The cause for `number`, where there are only `count` of these things.
+/// The cause for `number`, where there are only `count` of them.
 fn numbered<'a>(noun: &'static str, number: u64, count: u64) -> Option<Message<'a>> {
     if number < count {
         return None;
@@ -154,7 +154,7 @@ impl<'a> Tables<'a> {
         None
     }
 
-    /// The first count or size that is out of its range, as far as this can be seen without the instructions.
+    /// The first count or size that is out of its range, where this can be seen without the instructions.
     fn table_fault<'b>(&self) -> Option<Found<'b>> {
         let header = at_word(2, range("code blocks", self.blocks, 1, 512))
             .or(at_word(3, range("literals", self.literals, 0, 65_536)))

@@ -1,4 +1,4 @@
-//! The words of bytes that should be an object, as far as the bytes reach.
+//! The words of bytes that should be an object, up to where the bytes end.
 
 use semantics::opcode::Opcode;
 use semantics::program::Dest;
@@ -9,7 +9,7 @@ pub const HEADER: u64 = 6;
 /// 2 to the 32nd.
 pub const HALF: u64 = 0x1_0000_0000;
 
-/// Word number `place`; 0 where the bytes do not reach that far.
+/// Word number `place`; 0 where the bytes end before it.
 pub fn word_at(bytes: &[u8], place: u64) -> u64 {
     let start = place.saturating_mul(8) as usize;
     let mut word = 0u64;
@@ -88,7 +88,7 @@ impl Instr {
     }
 }
 
-/// The destination that a half word tells, if it tells one.
+/// The destination that a half word gives, if it gives one.
 pub fn dest_of(half: u64) -> Option<Dest> {
     if half == 0 {
         return None;

@@ -1,4 +1,4 @@
-//! What stands after the name of an operation in a listing.
+//! What is after the name of an operation in a listing.
 
 use semantics::opcode::Opcode;
 

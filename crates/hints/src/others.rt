@@ -1,4 +1,4 @@
-//! What an input is, where it is something else than what its command reads.
+//! What an input is, where it is not what its command reads.
 
 use crate::message::Piece::Word;
 use crate::message::{Message, four, one, two};
@@ -48,7 +48,7 @@ fn advice_on(content: &str, command: &str) -> &'static str {
     }
 }
 
-/// What the input is, where it is something else than what the command reads.
+/// What the input is, where it is not what the command reads.
 pub fn other_input<'a>(bytes: &[u8], command: &'a str) -> Option<Message<'a>> {
     let content = content_of(bytes);
     let reads = read_by(command);

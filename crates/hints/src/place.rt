@@ -7,7 +7,7 @@ use crate::message::{Message, one, two};
 pub const CARRIAGE_RETURN: &str =
     "lines end with CR LF here, and with LF alone in {}: `tr -d '\\r'` takes the CRs out";
 
-/// What a person is reported: a cause, and its place if that is known.
+/// What is reported to a person: a cause, and its place if that is known.
 #[derive(Clone, Copy)]
 pub struct Found<'a> {
     pub place: Option<Message<'a>>,

@@ -37,7 +37,7 @@ fn token_at(text: &[u8], at: usize) -> &[u8] {
     bytes.get(..len).unwrap_or(bytes)
 }
 
-/// How many bytes stand before this line and column.
+/// How many bytes are before this line and column.
 fn offset_of(text: &[u8], place: ProgramFault) -> usize {
     let mut before = 0usize;
     let lines = text.split(|byte| *byte == b'\n');
@@ -47,7 +47,7 @@ fn offset_of(text: &[u8], place: ProgramFault) -> usize {
     before.saturating_add(place.column.saturating_sub(1))
 }
 
-/// What is seen at the place of a fault: the token that stands there and the one before it, if there are any; what comes next after that;
+/// What is seen at the place of a fault: the token that is there and the one before it, if there are any; what comes next after that;
 /// and what was opened last, and is open.
 #[derive(Clone, Copy)]
 struct Seen<'a> {
@@ -115,7 +115,7 @@ fn form_text(form: Form) -> &'static str {
     }
 }
 
-/// What could stand after an operand besides an operator.
+/// What could be after an operand besides an operator.
 fn rest_after(innermost: Option<Part>) -> &'static str {
     match innermost {
         Some(Part::Let) => ", `,`, or the `;` that ends the `let`",
@@ -188,7 +188,7 @@ impl<'a> Seen<'a> {
         }
     }
 
-    /// What is wrong with a sign that stands after the operand before it, or after an item.
+    /// What is wrong with a sign after the operand before it, or after an item.
     fn wrong_behind(&self, sign: Sign) -> Option<&'static str> {
         match (self.next, sign) {
             (Next::Form(Form::Item), Sign::CloseBrace) => Some(
@@ -246,7 +246,7 @@ impl<'a> Seen<'a> {
         }
     }
 
-    /// What is wrong here, where something is known of what stands here.
+    /// What is wrong here, where something is known of what is here.
     fn wrong(&self) -> Option<Message<'a>> {
         match self.stands?.kind {
             TokenKind::Word { keyword } => self.wrong_word(keyword),
@@ -255,7 +255,7 @@ impl<'a> Seen<'a> {
         }
     }
 
-    /// What could stand here.
+    /// What could be here.
     fn wanted(&self) -> Message<'a> {
         let text = match self.next {
             Next::Form(form) => form_text(form),
@@ -284,7 +284,7 @@ fn missing_at_end<'a, A: Allocator + Clone>(alloc: &A, text: &'a [u8]) -> Messag
     }
 }
 
-/// What is wrong at the place `at` of the text, or could stand there. An item where memory is refused.
+/// What is wrong at the place `at` of the text, or could be there. An item where memory is refused.
 fn unexpected<'a, A: Allocator + Clone>(alloc: &A, text: &'a [u8], at: usize) -> Message<'a> {
     let Some(seen) = look(alloc, text, at) else {
         return say(form_text(Form::Item));
@@ -306,14 +306,14 @@ struct Head {
     results: u64,
 }
 
-/// Where in the head of a function a token stands.
+/// Where in the head of a function a token is.
 #[derive(Clone, Copy)]
 enum Spot {
     Outside,
     /// After the word `fn`.
     Named,
     Parameters,
-    /// Behind its parameters.
+    /// After its parameters.
     Behind,
 }
 
@@ -351,7 +351,7 @@ fn head_of<A: Allocator + Clone>(alloc: &A, text: &[u8], name: &[u8]) -> Option<
     None
 }
 
-/// Which number of values is wrong at the place `at` of the program, where this token stands.
+/// Which number of values is wrong at the place `at` of the program, where this token is.
 fn count<'a, A: Allocator + Clone>(
     alloc: &A,
     program: &'a [u8],
@@ -394,7 +394,7 @@ fn count<'a, A: Allocator + Clone>(
     )
 }
 
-/// What a person is told of a fault of which the kind says all.
+/// The text for a fault of which the kind says all.
 fn kind_text(kind: FaultKind) -> &'static str {
     match kind {
         FaultKind::BadByte =>
@@ -421,7 +421,7 @@ fn kind_text(kind: FaultKind) -> &'static str {
     }
 }
 
-/// What is told of a fault of this kind in a program of which no more is known.
+/// The text for a fault of this kind in a program of which no more is known.
 pub fn kind_message<'a>(kind: FaultKind) -> Message<'a> {
     match kind_text(kind) {
         "" => one("{}", Programming(kind)),

@@ -120,7 +120,7 @@ fn frames_cause<'a>(options: &RunOptions) -> Option<Message<'a>> {
     range("frames", options.frames, 1, 1_024)
 }
 
-/// What is wrong with what this request alone has: the numbers of elements of a profile, or how many orders there are to be.
+/// What is wrong with what this request alone has: the numbers of elements of a profile, or how many orders are asked for.
 fn own_cause<'a>(request: &Request) -> Option<Message<'a>> {
     match request {
         Request::Profile { sizes, .. } => {
@@ -164,7 +164,7 @@ fn option_cause<'a>(request: &Request) -> Option<Message<'a>> {
     Some(cause)
 }
 
-/// Why a run of this request does not start. `None` where that is not known, as where the input was not kept.
+/// Why a run of this request does not start. `None` where that is not known, as where the input was not stored.
 pub fn start_fault<'a, A: Allocator + Clone>(
     alloc: &A,
     request: &Request,
@@ -278,7 +278,7 @@ fn stuck_cause<'a>(asked: &Asked) -> Message<'a> {
     })
 }
 
-/// Why a run clashed: at this cell of array number `array`, of which the name is told where a graph was read that was kept.
+/// Why a run clashed: at this cell of array number `array`, whose name is given where a graph was read and stored.
 fn clash_cause<'a>(asked: &Asked, input: Option<&'a [u8]>, array: u64, index: u32) -> Message<'a> {
     let piece = match (asked, input) {
         (Asked::Request(Request::Exec { .. }), _) | (_, None) => Number(array),
@@ -367,7 +367,7 @@ pub fn end_fault<'a>(asked: &Asked, input: Option<&'a [u8]>, ending: Ending) -> 
     }
 }
 
-/// What is told of a page that shows this many events.
+/// What is said of a page that shows this many events.
 pub fn page_fault<'a>(events: u64) -> Option<Found<'a>>
     ensures { is_some result ≡ nat_lt 200000 events }
 {

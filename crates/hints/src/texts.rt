@@ -73,7 +73,7 @@ fn bad_form<'a>(form: &'static str, word: &'a [u8], has: u64) -> Message<'a> {
     )
 }
 
-/// The cause for a line that has none of the forms that may stand outside a block.
+/// The cause for a line that has none of the forms that are allowed outside a block.
 fn outside<'a>(line: &'a [u8], word: &'a [u8], spot: Spot) -> Message<'a> {
     let Some(form) = outer_form(word) else {
         let others = if spot == Spot::Arrays {
@@ -98,7 +98,7 @@ fn is_region(word: &[u8]) -> bool {
     }
 }
 
-/// The cause for a node line with a good region but with none of the forms that may stand there.
+/// The cause for a node line with a good region but with none of the forms that are allowed there.
 fn bad_kind<'a>(line: &'a [u8], is_second: bool) -> Message<'a> {
     let Some(kind) = field_at(line, 1) else {
         return say("behind the region comes the kind of the node, as in `- add 0.0 1.0`");
@@ -127,7 +127,7 @@ fn bad_kind<'a>(line: &'a [u8], is_second: bool) -> Message<'a> {
     }
 }
 
-/// The cause for a line that has none of the forms that may stand in a block.
+/// The cause for a line that has none of the forms that are allowed in a block.
 fn inside<'a>(line: &'a [u8], word: &'a [u8], block: &'a [u8], is_second: bool) -> Message<'a> {
     if text_at(line, 0) == "end" {
         one(
@@ -152,7 +152,7 @@ fn inside<'a>(line: &'a [u8], word: &'a [u8], block: &'a [u8], is_second: bool) 
     }
 }
 
-/// The cause for a line that has none of the forms that may stand at its place. `is_second` says that the text has the header
+/// The cause for a line that has none of the forms that are allowed at its place. `is_second` says that the text has the header
 /// of version 2.
 fn bad_line<'a>(line: &'a [u8], context: &Context<'a>, is_second: bool) -> Message<'a> {
     if line.is_empty() || line.starts_with(b"#") {

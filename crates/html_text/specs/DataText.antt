@@ -34,7 +34,7 @@ number_word_text tag n w = number_text tag n ++ last_word_text (codes ",\"") w
 abbrev pub numbers_text : List ℕ → ℕ → ℕ → List ℕ
 numbers_text tag n m = number_text tag n ++ number_text (codes ",") m
 
--- TOKENS: to an instruction, which is numbered through all blocks; a fetch; a store; a request for a frame; a frame that comes back; to the host.
+-- TOKENS: to an instruction, which is numbered through all blocks; a fetch; a store; a request for a frame; a frame that is handed back; to the host.
 abbrev pub token_text : To → Word → List ℕ
 token_text (to.Instr f ip port) w = numbers_text (codes "[\"i\",") f ip ++ (codes ",\"" ++ port_letter port) ++ last_word_text (codes "\",\"") w
 token_text (to.Fetch x) w = number_word_text (codes "[\"r\",") x w
@@ -43,7 +43,7 @@ token_text to.Manager w = last_word_text (codes "[\"q\",\"") w
 token_text (to.Release f) w = last_number_text (codes "[\"b\",") f
 token_text (to.Host j) w = number_word_text (codes "[\"h\",") j w
 
--- between two of a list stands a comma
+-- a comma between the items of a list
 abbrev pub comma : ℕ → List ℕ
 comma zero = []
 comma (suc n) = codes ","

@@ -14,7 +14,7 @@ part_text ToReport = TO_REPORT.now
 part_text ToData = TO_DATA.now
 part_text Script = MODEL.now ++ PICTURE.now ++ LISTS.now
 
--- after a page of more than 200,000 events stands a mark
+-- a page of more than 200,000 events ends with a mark
 abbrev pub large_mark : ℕ → List ℕ
 large_mark events = if nat_lt 200000 events then codes "<!-- large -->\n" else []
 

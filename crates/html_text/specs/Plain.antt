@@ -18,15 +18,15 @@ is_markup c = (c == 60) || (c == 62) || (c == 38) || (c == 39) || (c == 96) || (
 abbrev pub is_special : ℕ → Bool
 is_special c = (c == 34) || is_markup c
 
--- it stands in a page's text as it is
+-- it is in a page's text as it is
 abbrev pub IsPlain : ℕ → Type 0
 IsPlain c = is_special c ≡ false
 
--- it stands in the page's data, which has quotation marks of its own
+-- it is in the page's data as it is, which has quotation marks of its own
 abbrev pub IsInert : ℕ → Type 0
 IsInert c = is_markup c ≡ false
 
--- it stands between the quotation marks of a JSON string as it is
+-- it is between the quotation marks of a JSON string as it is
 abbrev pub IsQuotable : ℕ → Type 0
 IsQuotable c = (32 ≤ c) × IsPlain c
 

@@ -15,7 +15,7 @@ use std::io::{self, Write};
 use tags::token::Token;
 use trace_text::deed_word;
 
-/// What stands before the event of this number.
+/// What is before the event of this number.
 fn line_lead(place: usize) -> &'static [u8]
     ensures { result.now ≡ line_lead place }
 {
@@ -75,7 +75,7 @@ fn send_events<A: Allocator, W: Write>(
     Ok(())
 }
 
-/// A change that stands in a list.
+/// A change in a list.
 fn send_listed_change<W: Write>(writer: &mut W, place: usize, change: Change) -> io::Result<()>
     ensures { Sends result (W.contents writer.old) (W.contents writer.new) (listed_change place change) }
 {
@@ -93,7 +93,7 @@ fn send_changes<W: Write>(writer: &mut W, changes: &[Change]) -> io::Result<()>
     Ok(())
 }
 
-/// A number that stands in a list.
+/// A number in a list.
 fn send_listed_number<W: Write>(writer: &mut W, place: usize, number: u64) -> io::Result<()>
     ensures { Sends result (W.contents writer.old) (W.contents writer.new) (listed_number place number) }
 {

@@ -1,6 +1,6 @@
 //! The page's script: the lists, the timeline, and moving through the run.
 
-/// What stands beside the picture, and the end of the page.
+/// What is beside the picture, and the end of the page.
 pub(crate) const LISTS: &[u8] = br##"// ---- the lists beside it
 let picked = null, pos = -1, follow = 0;
 function choose(p) { picked = p; if (p) pause(); show(); }

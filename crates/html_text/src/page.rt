@@ -11,7 +11,7 @@ use crate::style::{TO_DATA, TO_LISTING, TO_REPORT, TOP};
 use sink::send;
 use std::io::{self, Write};
 
-/// The parts of the page's own source, in order. Between them stand the graph with its inputs, the listing of its code, the report of the
+/// The parts of the page's own source, in order. Between them are the graph with its inputs, the listing of its code, the report of the
 /// run, and the data.
 #[derive(Clone, Copy, Debug, PartialEq, Eq)]
 pub enum Part {
@@ -63,7 +63,7 @@ fn large_mark(events: usize) -> &'static [u8]
     }
 }
 
-/// Writes what stands after a page of so many events: a mark, if they are many. The writer is called until it has taken all of it; a call that
+/// Writes what is after a page of so many events: a mark, if they are many. The writer is called until it has taken all of it; a call that
 /// takes no byte is a fault. After an `Err` a beginning of the text was written. Takes no memory.
 pub fn write_mark<W: Write>(writer: &mut W, events: usize) -> io::Result<()>
     ensures { Sends result (W.contents writer.old) (W.contents writer.new) (large_mark events) }

@@ -1,4 +1,4 @@
-//! The page's beginning: how it looks, and what stands in front of the graph's text.
+//! The page's beginning: how it looks, and what is before the graph's text.
 
 /// Up to the graph and its inputs.
 pub(crate) const TOP: &[u8] = br##"<!DOCTYPE html>

@@ -54,7 +54,7 @@ fn send_token<W: Write>(writer: &mut W, token: &Token) -> io::Result<()>
     }
 }
 
-/// What stands before a thing of a list.
+/// What is before an item of a list.
 pub(crate) fn comma(place: usize) -> &'static [u8]
     ensures { result.now ≡ comma place }
 {

@@ -1,4 +1,4 @@
--- What happens in one cell, told of all cells.
+-- What happens in one cell, stated of all cells.
 use Rattle.std.proofs.Common.{◌≡◌, ℕ, ◌<◌, List, length, set, map, replicate, get_or, Some, sym, ap, ◌∙◌, arith, subst}
 use Rattle.std.specs.Prelude.{slice_get, option_and_then}
 use Rattle.tags.specs.declared.value.Value.{Value}

@@ -1,4 +1,4 @@
--- Where the state of a cell stands, and what a change of one state leaves.
+-- Where the state of a cell is, and what a change of one state leaves.
 use Rattle.std.proofs.Common.{◌≡◌, ℕ, ◌+◌, ◌*◌, ◌/◌, ◌%◌, ◌<◌, Bool, true, false, cond, eqb, ltb, length, Option, Some, None, sym, ap, ◌∙◌, refl, arith, subst}
 use Rattle.std.specs.Prelude.{slice_get, option_and_then}
 use Rattle.std.proofs.lemmas.Bool.{eqb-true, ltb-true, eq-eqb, lt-ltb}

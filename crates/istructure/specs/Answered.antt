@@ -8,7 +8,7 @@ use Rattle.istructure.specs.declared.StoreAnswer.{StoreAnswer}
 use Rattle.istructure.specs.OwnCells.{OwnCells, cell_at, with_cell_at, waiting_at}
 
 -- A FETCH. A full cell answers, and stays; else the reader is the last of those that wait. Memory is answered only
--- where a reader has to be kept.
+-- where a reader has to be stored.
 abbrev pub FetchedAt : OwnCells → ℕ → Cont → FetchAnswer → OwnCells → Type 0
 FetchedAt old x c (FetchAnswer.Now v) new = (cell_at old x ≡ Some (Full v)) × (new ≡ old)
 FetchedAt old x c FetchAnswer.Deferred new = (readers : List Cont) × (waiting_at old x ≡ Some readers) × (new ≡ with_cell_at old x (Deferred (readers ++ c ∷ [])))

@@ -27,7 +27,7 @@ IsFetchAnswer a = Unit {0}
 abbrev pub FetchIsEvent : OwnCells → ℕ → Cont → FetchAnswer → OwnCells → Type 0
 FetchIsEvent old x c a new = IsFetchAnswer a → (s : Store) → HoldsCells old s → (t : Store) × Fetches s x c (s.cells x) (fetch_tokens c a) t × HoldsCells new t
 
--- A store that was made is the machine's event: its readers are answered, and last of all whoever stored.
+-- A store that was made is the machine's event: its readers are answered, and last the continuation of the store.
 abbrev pub StoreIsEvent : OwnCells → ℕ → Value → StoreAnswer → OwnCells → List Cont → List Cont → Type 0
 StoreIsEvent old x v StoreAnswer.Stored new before after =
     (c : Cont) (s : Store) → HoldsCells old s → (readers : List Cont) × (t : Store) × (after ≡ before ++ readers) × Stores s x v c (s.cells x) (answers (readers ++ c ∷ []) v) t × HoldsCells new t

@@ -10,7 +10,7 @@ pub record OwnCells : Type 0 where
   pub elements : ℕ
   pub states : List CellState
 
--- where the state of cell x stands, where the element owns it
+-- where the state of cell x is, where the element owns it
 abbrev pub place_of : OwnCells → ℕ → Option ℕ
 place_of own x = if x % own.elements == own.element then (if nat_lt (x / own.elements) (length own.states) then Some (x / own.elements) else None) else None
 

@@ -1,4 +1,4 @@
-//! The cells of one element: each is written once, and readers that come early wait for it (I-structure cells).
+//! The cells of one element: each is written once, and readers that arrive before that wait (I-structure cells).
 #![tactic(auto)]
 
 ghost use Rattle.std.specs.Prelude.{◌≡◌, ℕ, ◌%◌, ◌<◌, ◌≤◌, IfOk, Some, None, vec_capacity};
@@ -15,7 +15,7 @@ use std::marker::Model;
 use tags::token::Cont;
 use tags::value::Value;
 
-/// What came of a fetch.
+/// The result of a fetch.
 #[derive(Clone, Copy, Debug, PartialEq, Eq)]
 pub enum FetchAnswer {
     /// The cell is full and holds this value.
@@ -28,7 +28,7 @@ pub enum FetchAnswer {
     Memory,
 }
 
-/// What came of a store.
+/// The result of a store.
 #[derive(Clone, Copy, Debug, PartialEq, Eq)]
 pub enum StoreAnswer {
     /// The cell holds the value, and its readers are answered.
@@ -63,7 +63,7 @@ impl<A: Allocator> Model for Cells<A> {
 }
 
 impl<A: Allocator + Clone> Cells<A> {
-    /// The cells of this element, all vacant, where `cells` cells are dealt out to `elements` elements in turn.
+    /// The cells of this element, all vacant, where `cells` cells are distributed among `elements` elements in turn.
     pub fn new(alloc: A, cells: u32, element: u32, elements: u32) -> Result<Cells<A>, AllocError>
         requires { element < elements }
         ensures exact { IfOk result (λ own. own ≡ all_vacant cells element elements) }

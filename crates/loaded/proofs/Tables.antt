@@ -39,7 +39,7 @@ pub entry_found : (p : Program) (xs table : List ℕ) (k e : ℕ) → xs ≡ tab
 entry_found p xs table k e same parsed low is =
     entry_there p k e (subst (λ (ys : List ℕ). slice_get ys k ≡ Some e) (same ∙ parsed) (slice_get-get_or xs k e low ∙ ap (λ n. Some n) (sym is)))
 
--- beyond the last block, all instructions come before
+-- beyond the last block, all instructions are before
 pub entry_beyond : (p : Program) (xs table : List ℕ) (k all : ℕ) → xs ≡ table → table ≡ entries_in 0 p.blocks → all ≡ first_of p (length p.blocks) → length xs ≤ k → all ≡ first_of p k
 entry_beyond p xs table k all same parsed total long =
     let count = count_entries 0 p.blocks in
@@ -54,7 +54,7 @@ get_entry first (c ∷ bs) (suc k) b h =
     let same : (first + length c.instrs) + sum_by size (take k bs) ≡ first + sum_by size (take (suc k) (c ∷ bs)) = omega arith in
     get_entry (first + length c.instrs) bs k b h ∙ ap (λ n. Some n) same
 
--- what an object tells of a block's entry stands in the table
+-- what an object says of a block's entry is in the table
 pub parsed_entry : (p : Program) (k e : ℕ) → Some e ≡ option_map (λ (b : CodeBlock). first_of p k) (slice_get p.blocks k) → slice_get (entries_in 0 p.blocks) k ≡ Some e
 parsed_entry p k e h = by (slice_get p.blocks k) refl h
   where

@@ -39,13 +39,13 @@ first_out (x ∷ xs) t some is =
     let same : x ≡ t = cc in
     (xs, ap (λ (y : Token). y ∷ xs) same, ap (λ (n : ℕ). remove (x ∷ xs) n) at)
 
--- the oldest token goes, and those for the element itself come last
+-- the oldest token goes, and those for the element itself are last
 fifo : (p : Program) (old : Holding) (before : List Token) (new : Holding) (after : List Token) → (does : one.Does p old 0 before new after) → (tl : List Token) × (old.queue ≡ does.token ∷ tl) × (new.queue ≡ tl ++ here old.part.shape does.made)
 fifo p old before new after does =
     let out = first_out old.queue does.token does.picks.some does.picks.token in
     (out.0, out.1, does.queue ∙ ap (λ (l : List Token). l ++ here old.part.shape does.made) out.2)
 
--- From all tokens of the queue to all that are there then, with any others beside them.
+-- From all tokens of the queue to all that are there then, with any others besides them.
 pub flows_whole : (p : Program) (steps : ℕ) (old : Holding) (before ts : List Token) (new : Holding) (after : List Token) (turns : Turns p steps old before ts new after) (extra first : List Token)
     → IsPermutation first (old.queue ++ (before ++ extra)) → Flows first (acts_of p steps old before ts new after turns) (new.queue ++ (after ++ extra))
 flows_whole p steps old before [] new after turns extra first perm =

@@ -53,7 +53,7 @@ module _ {X Y : Type 0} (f : X → Y) where
   get_map (x ∷ xs) zero d low = refl
   get_map (x ∷ xs) (suc i) d low = let within : i < length xs = omega (arith, low) in get_map xs i d within
 
-  -- what stands there comes of one of the list
+  -- what is there is the image of one of the list
   get_found : (xs : List X) (i : ℕ) (y : Y) → get_elem? (map f xs) i ≡ some y → (x : X) × (i < length xs) × (y ≡ f x) × (get_or xs i x ≡ x)
   get_found [] i y is = absurd (let no : ⊥ = cc in no)
   get_found (x ∷ xs) zero y is = (x, omega arith, cc, refl)
@@ -75,7 +75,7 @@ there_is (x ∷ xs) (suc i) low = let within : i < length xs = omega (arith, low
 same_some : {X : Type 0} (x y : X) → some x ≡ some y → x ≡ y
 same_some x y e = cc
 
--- what is told of lanes is told with other events, too
+-- what is reported of lanes is reported with other events, too
 reported_with : (s : State) (after all : Events) (halt : Halt) (r : Report) → r.end ≢ End.Memory → IsReportOf (record { state = s; events = after }) halt r
     → (r.events ≡ after) × IsReportOf (record { state = s; events = all }) halt (with_events r all)
 reported_with s after all halt r kept (inl is) = absurd (kept (ap (λ (x : Report). x.end) is))
@@ -319,7 +319,7 @@ module _ {C A L : Type 0} where
               subst (λ (bs : List Block). Logs (noted_in l) bs) (sym (x.own e low)) ((choice.1 e low).1 l on is);
         }
 
-        -- the events that are listed are those of a run that comes to these lanes
+        -- the events that are listed are those of a run that leads to these lanes
         ordered : keeps_events ≡ true → (kept after : Events) (opening : List Token) → opening ≡ tokens_in (lanes_in olds) → Lists (logs_in news) opening kept after → (inputs : List ℤ) (before : Events) (x : ends.Ended g s inputs before (lanes_in news) blocks_of)
             → (made : Events) × Began inputs (arriving g (lanes_in news) x.tokens) (before ++ made) × (after ≡ kept ++ made)
         ordered on kept after opening opens lists inputs before x =

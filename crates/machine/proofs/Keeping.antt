@@ -63,7 +63,7 @@ module _ {C A L : Type 0} (keeps_events : Bool) (g : Setting) (mesh : MeshId) wh
     tidy = record { count = r.tidy.count; addressed = r.tidy.addressed; created = r.tidy.created; few = r.tidy.few };
   }
 
-  -- nor what memory it has for bundles to come
+  -- nor what memory it has for later bundles
   pub keeps_sparing : (old : Runner C A L) (spare : Vec (Vec Token A) A) → Keeps keeps_events g mesh old (record old { spare = spare })
   keeps_sparing old spare = λ start r. record {
     at = r.at;
@@ -160,7 +160,7 @@ module _ {C A L : Type 0} (keeps_events : Bool) (g : Setting) (mesh : MeshId) wh
         };
       }
 
-  -- a bundle was taken, and is in hand
+  -- a bundle was taken, and is not in the queue
   pub keeps_unqueued : (old : Runner C A L) (s : SeatView) (from : ℕ) (x : Vec Token A) (lane : LaneView) → from < g.elements → IsClear old → s ≡ having_taken old.seat from x.items → lane ≡ old.lane → Keeps keeps_events g mesh old (record old { seat = s; lane = lane; unqueued = x })
   keeps_unqueued old s from x lane low clear is same = λ start r.
       let own = old.seat.own in
@@ -188,7 +188,7 @@ module _ {C A L : Type 0} (keeps_events : Bool) (g : Setting) (mesh : MeshId) wh
   keeps_taken old new s from x None low clear is to none some_one = keeps_received old new s from x.items low is to none
   keeps_taken old new s from x (Some halt) low clear is to none some_one = subst (λ (z : Runner C A L). Keeps keeps_events g mesh old z) (sym some_one.2) (keeps_unqueued old s from x new.lane low clear is some_one.1)
 
-  -- DEALING
+  -- FILLING BUNDLES
   pub keeps_bundled : (old : Runner C A L) (unposted : Vec (Vec Token A) A) (t : Token) → KeepsTokens g.elements old.unposted.items unposted.items (t ∷ []) → old.bundled < length old.sent.items → t ≡ get_or old.sent.items old.bundled t
       → Keeps keeps_events g mesh old (record old { unposted = unposted; bundled = old.bundled + 1 })
   keeps_bundled old unposted t keeps low is = λ start r.
@@ -236,7 +236,7 @@ module _ {C A L : Type 0} (keeps_events : Bool) (g : Setting) (mesh : MeshId) wh
         tidy = record { count = keeps.count ∙ r.tidy.count; addressed = keeps.addressed r.tidy.addressed; created = r.tidy.created; few = r.tidy.few };
       }
 
-  -- all are dealt
+  -- all are bundled
   pub keeps_cleared : (old : Runner C A L) (sent : Vec Token A) → length old.sent.items ≤ old.bundled → sent.items ≡ [] → Keeps keeps_events g mesh old (record old { sent = sent; bundled = 0 })
   keeps_cleared old sent past none = λ start r.
       let same : drop old.bundled old.sent.items ≡ sent.items = drop_all old.bundled old.sent.items past ∙ sym none in

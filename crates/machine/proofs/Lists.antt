@@ -11,7 +11,7 @@ use Rattle.mesh.specs.Seats.{SeatView}
 use Rattle.machine.specs.declared.runner.Runner.{Runner}
 use Rattle.machine.specs.Starts.{lane_in, seat_of, lanes_in, seats_in}
 
--- what comes back of a vector that was lent as a slice
+-- what a vector has after it was lent as a slice
 pub written_back : {X : Type 0} (n : ℕ) (old new : List X) → length old ≡ n → length new ≡ length old → take n (new ++ drop (length new) old) ≡ new
 written_back n old new whole same =
     let none : drop (length new) old ≡ [] = drop_all (length new) old (omega (arith, same)) in

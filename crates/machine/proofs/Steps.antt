@@ -54,7 +54,7 @@ module _ (g : Setting) (mesh : MeshId) (start : Holding) (e : ℕ) (h : Holding)
     holds = r.holds;
   }
 
-  -- the same tokens lie beside the queue in another order
+  -- the same tokens are outside the queue, in another order
   pub ran_beside : (cs : Ts) → IsPermutation bs cs → Ran g mesh e start h ds ts cs blocks
   ran_beside cs perm = record {
     elements = r.elements;

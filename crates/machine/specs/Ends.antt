@@ -46,9 +46,9 @@ pub record EndsFreely (g : Setting) (inputs : List ℤ) (may_stop : Bool) (r : R
   -- why the run ends
   pub halt : Halt
   pub least : IsFirst reasons halt ⊎ (NoneHalts reasons × (tokens_in (arriving g lanes on_way).lanes ≡ []) × (halt ≡ Halt.NoToken))
-  -- and the report has that end, and tells what the elements held
+  -- and the report has that end, and says what the elements held
   pub reported : IsReportOf (record { state = record { setting = g; lanes = lanes }; events = r.events }) halt r
 
--- The report ends so with the events of some run; where events are listed, and these are those that were kept, it lists those of the run.
+-- The report ends so with the events of some run; where events are listed, and these are those that were noted, it lists those of the run.
 abbrev pub EndsOn : Bool → Setting → List ℤ → Bool → Events → Events → Report → Type 0
 EndsOn keeps_events g inputs may_stop kept events r = (shown : Events) × EndsFreely g inputs may_stop (with_events r shown) × (keeps_events ≡ true → kept ≡ events → r.events ≡ shown)

@@ -24,12 +24,12 @@ use Rattle.machine.specs.declared.runner.Runner.{Runner}
 abbrev pub bounds_within : Reach → Bounds
 bounds_within r = record { frames = r.frames; cells = r.cells }
 
--- what it holds beside its queue: in hand, in bundles, and not dealt yet
+-- what it holds outside its queue: unqueued, in bundles, and not bundled yet
 abbrev pub away : {C A L : Type 0} → Runner C A L → List Token
 away r = r.unqueued.items ++ (flat_map (λ v. v.items) r.unposted.items ++ drop r.bundled r.sent.items)
 
 -- An element that began with the lane `start` has done these deeds and holds these tokens: its blocks of events have led its part
--- on, each with a commit, its account is balanced, and what it holds is its queue and what lies beside it.
+-- on, each with a commit, its account is balanced, and what it holds is its queue and what is outside it.
 pub record Ran (g : Setting) (mesh : MeshId) (e : ℕ) (start held : Holding) (deeds : List Deed) (tokens beside : List Token)
     (blocks : List Block) : Type 0 where
   pub elements : mesh.elements ≡ g.elements
@@ -71,7 +71,7 @@ Keeps keeps_events g mesh old new = (start : Holding) → IsRunning keeps_events
 abbrev pub IsClear : {C A L : Type 0} → Runner C A L → Type 0
 IsClear r = (r.unqueued.items ≡ []) × (r.sent.items ≡ []) × (r.bundled ≡ 0)
 
--- The lane has these tokens more, last in its queue. They name what there is. The memory of the bundle may be kept.
+-- The lane has these tokens more, last in its queue. They name what there is. The memory of the bundle may be reused.
 pub record Receives {C A L : Type 0} (g : Setting) (old : Runner C A L) (tokens : List Token) (new : Runner C A L) : Type 0 where
   pub near : All (IsNearToken (bounds_of g)) tokens
   pub lane : held_of new.lane ≡ with_queue (held_of old.lane) (old.lane.held.queue ++ tokens)
@@ -131,7 +131,7 @@ abbrev pub still_first : {C A L : Type 0} → Runner C A L → ℕ → List Toke
 still_first r made = take (length r.lane.held.queue - (made - length r.sent.items))
     r.lane.held.queue ++ (r.unqueued.items ++ flat_map (λ v. v.items) r.unposted.items)
 
--- The bundles have these tokens more, in some order, and each is for its element still.
+-- The bundles have these tokens more, in some order, and each is still for its element.
 pub record KeepsTokens {A : Type 0} (n : ℕ) (old new : List (Vec Token A)) (more : List Token) : Type 0 where
   pub count : length new ≡ length old
   pub tokens : IsPermutation (flat_map (λ v. v.items) new) (flat_map (λ v. v.items) old ++ more)
@@ -141,7 +141,7 @@ pub record KeepsTokens {A : Type 0} (n : ℕ) (old new : List (Vec Token A)) (mo
 abbrev pub behind_all : Noted → List Token → List Token → Counts → Noted
 behind_all n taken made c = record { taken = n.taken ++ taken; made = n.made ++ made; blocks = n.blocks ++ c ∷ [] }
 
--- The block that stands in the log of the turn is noted, where events are listed, with the numbers of tokens that it spent and made.
+-- The block in the log of the turn is noted, where events are listed, with the numbers of tokens that it spent and made.
 pub record NotesBlock {C A L : Type 0} (keeps_events : Bool) (spent made : ℕ) (old new : Runner C A L) : Type 0 where
   pub others : new ≡ record old { log = new.log; notes = new.notes }
   pub log : new.log.events.items ≡ (if keeps_events then [] else old.log.events.items)

@@ -66,7 +66,7 @@ pub record AreBlank {A L : Type 0} (n : ℕ) (l : Belongings A L) : Type 0 where
   pub notes : noted_in l.notes ≡ nothing
   pub log : l.log.events.items ≡ []
 
--- it holds no token beside its queue, and has made none
+-- it holds no token outside its queue, and has made none
 pub record IsNew {C A L : Type 0} (n : ℕ) (r : Runner C A L) : Type 0 where
   pub clear : IsClear r
   pub unposted : AreEmpty n r.unposted.items

@@ -1,4 +1,4 @@
-//! What an element that runs freely holds beside its lane and its seat.
+//! What an element that runs freely holds besides its lane and its seat.
 
 use ordering::log::BlockLog;
 use schedule::log::{EventLog, Log};

@@ -93,7 +93,7 @@ fn note_counts<A: Allocator>(notes: &mut BlockLog<A>, counts: Counts) -> Result<
     Ok(())
 }
 
-// Notes the block that stands in the log of the turn, where events are listed.
+// Notes the block in the log of the turn, where events are listed.
 fn note_block<C: Instructions, A: Allocator, L: Log>(
     runner: &mut Runner<'_, C, A, L>,
     spent: u64,
@@ -121,7 +121,7 @@ fn note_block<C: Instructions, A: Allocator, L: Log>(
 }
 
 // Commits a block of `events` events, before which the queue had `before` tokens. The oldest of these were taken, and what
-// the block left stands last in the queue, or was sent. It needs no memory, so nothing stands between events and their commit.
+// the block left is last in the queue, or was sent. It needs no memory, so events are always committed.
 fn commit<C: MainCode, A: Allocator, L: Log>(
     runner: &mut Runner<'_, C, A, L>,
     mesh: &Mesh<A>,

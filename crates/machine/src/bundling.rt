@@ -34,7 +34,7 @@ fn keep<A: Allocator>(
     Ok(())
 }
 
-/// Puts what the last block made for other elements into the bundles. After an error the others are not dealt.
+/// Puts what the last block made for other elements into the bundles. After an error the others are not bundled.
 pub fn fill_bundles<C: MainCode, A: Allocator, L: Log>(
     runner: &mut Runner<'_, C, A, L>,
     mesh: &Mesh<A>,
@@ -59,7 +59,7 @@ pub fn fill_bundles<C: MainCode, A: Allocator, L: Log>(
     Ok(())
 }
 
-// Posts the bundle for an element. Where the box is full the bundle is kept.
+// Posts the bundle for an element. Where the box is full the bundle stays unposted.
 fn post_bundle<C: MainCode, A: Allocator, L: Log>(
     runner: &mut Runner<'_, C, A, L>,
     mesh: &Mesh<A>,

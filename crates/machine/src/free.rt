@@ -272,7 +272,7 @@ fn run_apart<
     }
 }
 
-// Lets all elements run freely, with what is told of the run.
+// Lets all elements run freely, with what is reported of the run.
 fn run_machine<
     R: Threads + Wait + Sync,
     C: MainCode + Sync,
@@ -290,10 +290,9 @@ fn run_machine<
     }
 }
 
-/// Lets all elements run freely until the run halts, and reports. Each element runs in a thread of its own from the first event to
-/// the last: it enters the gate once, and then takes what others posted to it, asks the gate, makes a block of up to `turn` events with its
-/// oldest tokens, commits it, and posts what it made for others, again and again. Where several elements halt, the one of least number says why the run does. The events are
-/// listed block by block, in a legal order.
+/// Lets all elements run freely until the run halts, and reports. Each element runs in a thread of its own from the first event to the last: it enters the gate
+/// once, and then repeatedly takes what others posted to it, asks the gate, makes a block of up to `turn` events with its oldest tokens, commits it, and posts
+/// what it made for others. Where several elements halt, the one of least number says why the run does. The events are listed block by block, in a legal order.
 pub fn run<
     R: Threads + Wait + Sync,
     C: MainCode + Sync,

@@ -1,4 +1,4 @@
-//! Whether a token names frames and cells that there are. A mesh promises of what it hands out only to whom it is addressed.
+//! Whether a token names frames and cells that there are. Of the tokens that a mesh gives out it promises only to which element they are addressed.
 
 ghost use Rattle.std.specs.Prelude.{◌≡◌, All, true};
 ghost use Rattle.element.specs.Near.{IsNearCont, IsNearWord, IsNearTo, IsNearToken};

@@ -9,15 +9,15 @@ use schedule::log::{EventLog, Log};
 use std::alloc::Allocator;
 use tags::token::Token;
 
-/// An element cannot tell what it did: memory for its notes was refused, or its commits made more tokens than a mesh counts (that
-/// comes of no run that fits in memory).
+/// An element cannot report what it did: memory for its notes was refused, or its commits made more tokens than a mesh counts
+/// (that does not happen in a run that fits in memory).
 #[derive(Clone, Copy, Debug, PartialEq, Eq)]
 pub struct Lost;
 
 /// Why an element makes no more events.
 #[derive(Clone, Copy, Debug, PartialEq, Eq)]
 pub enum Departure {
-    /// It cannot tell what it did.
+    /// It cannot report what it did.
     Lost,
     /// For a reason of its own.
     Halted(Halt),
@@ -27,7 +27,7 @@ pub enum Departure {
     Stopped,
 }
 
-/// A lane with its seat, and the tokens that it holds beside its queue.
+/// A lane with its seat, and the tokens that it holds outside its queue.
 #[derive(Drop)]
 pub struct Runner<'m, C: Instructions, A: Allocator, L: Log> {
     pub lane: Lane<'m, C, A>,

@@ -30,7 +30,7 @@ fn reach_of<C: MainCode>(shape: &Shape<'_, C>) -> Reach
     }
 }
 
-// Empties a bundle that is in the queue, and keeps it for tokens to come, as many as an element posts in a turn.
+// Empties a bundle that is in the queue, and keeps it for later tokens: room for as many as an element posts in a turn.
 fn keep_spare<A: Allocator>(spare: &mut Vec<Vec<Token, A>, A>, mut bundle: Vec<Token, A>) {
     if spare.len() < spare.capacity() {
         bundle.clear();
@@ -38,8 +38,8 @@ fn keep_spare<A: Allocator>(spare: &mut Vec<Vec<Token, A>, A>, mut bundle: Vec<T
     }
 }
 
-// Puts a bundle into the queue. Where there is no room for it, or where it has a token that names what is not there, it stays in
-// hand; the latter comes of no run.
+// Puts a bundle into the queue. Where there is no room for it, or where it has a token that names what is not there, it stays
+// unqueued; the second case occurs in no run.
 fn receive_or_hold<C: MainCode, A: Allocator, L: Log>(
     runner: &mut Runner<'_, C, A, L>,
     shape: &Shape<'_, C>,

@@ -23,7 +23,7 @@ use std::alloc::{AllocError, Allocator};
 use std::sync::Wait;
 use std::thread;
 
-// How many events an element that has tokens enough makes between two looks at the mailboxes: those in which it takes what
+// How many events an element that has enough tokens makes between two looks at the mailboxes: those in which it takes what
 // others posted, and those in which it posts what it has for others.
 const LOOK: u64 = 128;
 
@@ -80,7 +80,7 @@ fn work<C: MainCode, A: Allocator + Clone, L: Log, G: Gate>(
     }
 }
 
-// Deals out what the block made for others, and offers it, if it is time to.
+// Bundles what the block made for others, and offers it, if it is time to.
 fn pass_on<C: MainCode, A: Allocator + Clone, L: Log>(
     runner: &mut Runner<'_, C, A, L>,
     mesh: &Mesh<A>,

@@ -133,7 +133,7 @@ module _ {B : Type 0} (items : B → List Token) where
           (box_stays items n s.words (set s.words k (get_or s.words k 0)) s.homes s.homes r.load (put r.load k (r.load k)) r.part p.element (noted p d) a b
           (get_or-set_same s.words k (get_or s.words k 0) 0 (omega arith)) refl (put_here r.load k (r.load k)) (λ _. os b ∙ ap (outs b) (sym mine.2)) (λ _. is a ∙ ap (ins a) (sym mine.2)) (r.boxes a b la lb))
 
-    -- the two that a step is told of are the one part and the other end of its box
+    -- the two of which a step speaks are the one part and the other end of its box
     told : (v : View) (p q : Part) → v.parts ≡ p ∷ [] → v.parts ≡ q ∷ [] → p ≡ q
     told v p q one two = cc (one, two)
 

@@ -62,7 +62,7 @@ pub says_more : (word : ℕ) (ds : List Deed) (d : Deed) → Says word ds → sa
 says_more word [] d all this = (this, tt)
 says_more word (x ∷ ds) d all this = (all.0, says_more word ds d all.1 this)
 
--- who tells of a reason knows a word that is not 0
+-- a deed that gives a reason shows a word that is not 0
 knows_one : (word : ℕ) (d : Deed) → says word d → gives_reason d ≡ true → word ≢ 0
 knows_one word (Stopped r f) s t z = dite (ℕ_discrete f 0) (λ hit. s.0 (sym (s.1 hit) ∙ z)) (λ miss. miss (sym (s.2 miss) ∙ z))
 knows_one word (SawStop f) s t z = dite (ℕ_discrete f 0)

@@ -17,7 +17,7 @@ use Rattle.mesh.specs.Rule.{Leaves, Includes}
 abbrev Ts : Type 0
 Ts = List Token
 
--- how many tokens are left does not hang on which were taken
+-- how many tokens are left does not depend on which were taken
 same_count : (n : ℕ) (xs ys : Ts) (h : List pool.Commit) (a b : Ts) → length xs ≡ length ys → LeavesPool n xs h a → LeavesPool n ys h b → length a ≡ length b
 same_count n xs ys [] a b same p q = let l = length_permutation xs a p in let m = length_permutation ys b q in omega arith
 same_count n xs ys (c ∷ later) a b same p q =

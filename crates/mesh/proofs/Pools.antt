@@ -101,7 +101,7 @@ put_field g part i p' j = dite (ℕ_discrete j i)
     (λ hit. ap (λ (x : ℕ). g (put part i p' x)) hit ∙ (ap g (put_here part i p') ∙ (sym (put_here (λ (x : ℕ). g (part x)) i (g p')) ∙ ap (put (λ (x : ℕ). g (part x)) i (g p')) (sym hit))))
     (λ miss. ap g (put_else part i p' j miss) ∙ sym (put_else (λ (x : ℕ). g (part x)) i (g p') j miss))
 
--- What a step leaves as it was that neither commits nor stops
+-- What a step that neither commits nor stops leaves as it was
 pub record Quiet (p p' : Part) : Type 0 where
   pub element : p'.element ≡ p.element
   pub commits : (e : ℕ) → commits_of e p'.deeds ≡ commits_of e p.deeds

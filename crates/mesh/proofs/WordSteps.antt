@@ -181,7 +181,7 @@ module _ {B : Type 0} (items : B → Ts) (n : ℕ) (start : Ts) where
   told : (v : View) (p q : Part) → v.parts ≡ p ∷ [] → v.parts ≡ q ∷ [] → p ≡ q
   told v p q one two = cc (one, two)
 
-  -- the history that was seen, as the view tells it
+  -- the history that was seen, as the view has it
   leaves : (v w : View) (log : List Commit) (last : Ts) (count : ℕ) → w.elements ≡ n → w.start ≡ start → w.seen ≡ log → LeavesPool n start (map entry log) last → length last ≡ count → Busy log → Leaves w count
   leaves v w log last count el st is legal size busy = (
     last,

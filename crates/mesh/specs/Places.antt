@@ -24,7 +24,7 @@ module _ {S : Type 0} where
   abbrev pub IsTop : TableId → at_table.Seat S View → Type 0
   IsTop table s = (s.table_id ≡ table) × (table.words ≡ 258) × (table.slots ≡ 256)
 
-  -- no slot in hand, and no parts to give out
+  -- it holds no slot, and has no parts to give out
   abbrev pub IsSeated : Me S View → Type 0
   IsSeated m = (m.1 ≡ []) × Sits m.0
 

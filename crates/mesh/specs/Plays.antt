@@ -1,4 +1,4 @@
--- What each step tells the seat that makes it.
+-- What each step shows to the seat that makes it.
 use Rattle.std.specs.Prelude.{◌≡◌, ◌≢◌, ℕ, ◌+◌, ◌*◌, ◌<◌, ◌≤◌, List, [], ◌∷◌, ◌++◌, length, Option, Some, None, IsPermutation}
 use Rattle.atomic_table.specs.Table.{Me, Step}
 use Rattle.tags.specs.declared.token.Token.{Token}
@@ -18,7 +18,7 @@ abbrev At : Type 0 → Type 0
 At B = Step (Option B)
 
 module _ {B : Type 0} where
-  -- the bundle is what the poster has in hand
+  -- the bundle is the one that the poster holds
   abbrev pub looked_to : Bundle → At B → Sat B → ℕ → Sat B → Type 0
   looked_to x st m found m' = (p : Part) (b : ℕ) → m.0.parts ≡ p ∷ [] → st.word ≡ 16 * p.element + b → b < 16
       → (found ≡ 0 → m' ≡ (with_part m.0 (posed p (Posting b)), (st.word, None) ∷ []))

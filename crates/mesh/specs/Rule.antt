@@ -1,4 +1,4 @@
--- The rule over the words, the boxes' slots and the views, and what each step tells.
+-- The rule over the words, the boxes' slots and the views, and what each step shows.
 -- Word 16 * a + b is 1 where the box from a to b is full, and its slot has the same number.
 use Rattle.std.specs.Prelude.{◌≡◌, ◌⊎◌, ℕ, ◌+◌, ◌*◌, ◌^◌, ◌<◌, ◌≤◌, zero, suc, map, Bool, true, false, List, [], ◌∷◌, ◌++◌, length, slice_index, Option, Some, None, ◌==◌, nat_lt, if◌then◌else◌, IsPermutation, filter}
 use mathlib.Core.Option.{some, none}
@@ -87,7 +87,7 @@ pub record Stops (n : ℕ) (part : ℕ → Part) (word : ℕ) : Type 0 where
   pub known : (e : ℕ) → e < n → Says word (part e).deeds
 
 module _ {B : Type 0} (items : B → List Token) where
-  -- A box: its word, its slot, its tokens, what was posted, whether its poster has the slot, what was taken, and what its taker has in hand
+  -- A box: its word, its slot, its tokens, what was posted, whether its poster has the slot, what was taken, and what its taker holds
   abbrev pub BoxIs : ℕ → maybe.Option (maybe.Option (Option B)) → List Token → List Bundle → Bool → List Bundle → Option Bundle → Type 0
   BoxIs n h l ps true ts hand = (n ≡ 0) × (ps ≡ ts) × (l ≡ []) × (hand ≡ None) × (h ≡ some none)
   BoxIs n h l ps false ts (Some x) = (n ≡ 1) × (ps ≡ ts ++ x ∷ []) × (l ≡ x) × (h ≡ some none)

@@ -78,7 +78,7 @@ abbrev pub having_seen_live : SeatView → ℕ → List Commit → SeatView
 having_seen_live s count seen =
     record s { seen = seen; own = record { element = s.own.element; deeds = s.own.deeds ++ SawLive count ∷ []; held = s.own.held; last = seen } }
 
--- a bundle left the seat: the other tokens that it held are kept
+-- a bundle left the seat: it still holds the other tokens that it held
 abbrev pub Posts : ℕ → Bundle → SeatView → SeatView → Type 0
 Posts to x old new = (kept : List Token) × IsPermutation old.own.held (x ++ kept) × (new ≡ having_posted old to x kept)
 

@@ -15,7 +15,7 @@ pub(crate) const STOP: usize = 257;
 
 pub(crate) const WORDS: usize = 258;
 
-/// What the table is told once.
+/// What the table is given once.
 #[derive(Drop)]
 pub struct Opening<A: Allocator> {
     pub elements: u32,

@@ -94,7 +94,7 @@ impl<A: Allocator> Mesh<A> {
     }
 
     /// Puts a bundle, of tokens for the element `to` that the seat holds, into the box to that element. Where the box was
-    /// found full, the bundle comes back and nothing has changed but that the seat has looked.
+    /// found full, the bundle is returned and nothing has changed except that the seat has looked.
     pub fn post(
         &self,
         seat: &mut Seat<A>,

@@ -1,4 +1,4 @@
-//! What each step tells its caller.
+//! What each step shows to its caller.
 
 use crate::view::View;
 use atomic_table::{Join, Play, Split};

@@ -16,7 +16,7 @@ pub enum Deed {
     Committed(LinkedList<Token>, LinkedList<Token>),
     /// Put this bundle into the box to that element.
     Posted(u32, LinkedList<Token>),
-    /// Found the box to that element full, with this bundle in hand.
+    /// Found the box to that element full, while it held this bundle.
     FoundFull(u32, LinkedList<Token>),
     /// Took this bundle out of the box from that element.
     Took(u32, LinkedList<Token>),
@@ -30,7 +30,7 @@ pub enum Deed {
     SawStop(u64),
 }
 
-/// Where an element stands between the two steps of a call.
+/// Where an element is between the two steps of a call.
 pub enum Stage {
     Idle,
     /// It holds the empty slot of its box to that element.

@@ -46,7 +46,7 @@ in_front t ts more rest p =
     let one = once t in
     omega (arith, perm, cons, one)
 
--- The tokens `out` come out of a list, and what is left is counted.
+-- The tokens `out` are taken out of a list, and what is left is counted.
 pub taken_out : (ts out : List Token) (left : Token → ℕ) → ((q : Token) → all_copies q ts ≡ left q + all_copies q out)
     → (rest : List Token) × IsPermutation ts (out ++ rest) × ((q : Token) → left q ≡ all_copies q rest)
 taken_out ts [] left counts = (ts, IsPermutation-refl ts, λ q. let c = counts q in omega (arith, c))

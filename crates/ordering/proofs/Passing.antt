@@ -21,7 +21,7 @@ pub or_second : (a b : Bool) → (a || b) ≡ false → b ≡ false
 or_second false b e = e
 or_second true b e = absurd (let no : ⊥ = cc in no)
 
--- an element that waits goes on waiting where no token comes
+-- an element that waits goes on waiting where no token arrives
 stuck_stays : (before after : Amounts) (r : Rest) → ((q : Token) → after q ≤ before q) → IsStuck before r → IsStuck after r
 stuck_stays before after r less stuck some =
     let waiting = stuck some in

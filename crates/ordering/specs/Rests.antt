@@ -14,7 +14,7 @@ abbrev pub first_spent : List Token → List Counts → List Token
 first_spent taken [] = []
 first_spent taken (c ∷ later) = take c.spent taken
 
--- What is left of a log stands for these blocks. The first of them has those of its spent tokens that it needs still.
+-- What is left of a log stands for these blocks. The first of them has those of its spent tokens that it still needs.
 abbrev pub IsLogOf : List Token → List Token → List Token → List Counts → List Block → Type 0
 IsLogOf needed taken made counts [] = (needed ≡ []) × (counts ≡ [])
 IsLogOf needed taken made counts (b ∷ later) =

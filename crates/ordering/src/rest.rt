@@ -95,7 +95,8 @@ fn end_block<'l, A: Allocator + Clone>(
     Ok(Rest::new(later_taken, later_made, later))
 }
 
-// Takes tokens that the next block spends out of the pool, as far as they are there: what is left then.
+// Takes tokens that the next block spends out of the pool, one after the other, up to one that is not there: what is
+// left then.
 fn take_needed<'l, A: Allocator>(rest: Rest<'l>, pool: &mut Pool<A>) -> Rest<'l>
     ensures taken { TakesNeeded (amount pool.old) rest.entry (amount pool.new) result }
     ensures stuck { 0 < length result.needed.now → IsStuck (amount pool.new) result }

@@ -1,4 +1,4 @@
--- Exit statuses, each a function of what came of a command.
+-- Exit statuses, each a function of a command's outcome.
 use Rattle.std.specs.Prelude.{ℕ}
 use Rattle.semantics.specs.Report.{Report}
 use Rattle.semantics.specs.declared.report.End.{End}
@@ -26,7 +26,7 @@ abbrev pub ending_status : Ending → ℕ
 ending_status (Ending.Run end frames credits) = exit_status end
 ending_status (Ending.Meaning end) = meaning_status end
 
--- the exit status for what came of a command
+-- the exit status for a command's outcome
 abbrev pub outcome_status : Outcome → ℕ
 outcome_status Outcome.Done = 0
 outcome_status Outcome.Mistake = 1

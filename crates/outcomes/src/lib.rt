@@ -1,5 +1,5 @@
-//! What comes of a command: why it has no result, or how what it ran ended. The exit status is a function of that, and so is
-//! what a person is reported on standard error.
+//! The outcome of a command: why it has no result, or how what it ran ended. The exit status is a function of that, and so
+//! is what is reported to a person on standard error.
 #![tactic(auto)]
 
 mod outcome;

@@ -1,4 +1,4 @@
-//! What came of a command that was printed whole.
+//! The outcome of a command whose text was printed whole.
 
 ghost use Rattle.std.specs.Prelude.{◌≡◌};
 ghost use Rattle.outcomes.specs.Outcomes.{ending_of, ending_status, exit_status, meaning_status, outcome_status};
@@ -27,18 +27,18 @@ pub enum Ending {
     Meaning(MeanEnd),
 }
 
-/// What came of a command that was printed whole.
+/// The outcome of a command whose text was printed whole.
 #[derive(Clone, Copy, Debug)]
 pub enum Outcome {
     /// What was asked for was printed, and it is not of a run.
     Done,
-    /// The words of the command line ask for nothing that there is.
+    /// The words of the command line ask for nothing that exists.
     Mistake,
     /// The line of this refusal was printed.
     Refused(Refusal),
-    /// A report was printed, which tells how the run ended.
+    /// A report was printed, which says how the run ended.
     Reported(Ending),
-    /// A picture, or events as data, which do not tell how the run ended.
+    /// A picture, or events as data, which do not say how the run ended.
     Drawn(Ending),
     /// A page that shows this many events of a run.
     Paged { ending: Ending, events: u64 },
@@ -46,7 +46,7 @@ pub enum Outcome {
     Differed,
 }
 
-/// The exit status that tells the end of a run of the meaning.
+/// The exit status that reports the end of a run of the meaning.
 fn status_of_meaning(end: MeanEnd) -> u8
     ensures { result ≡ meaning_status end }
 {
@@ -57,7 +57,7 @@ fn status_of_meaning(end: MeanEnd) -> u8
     }
 }
 
-/// The exit status that tells the end of a run.
+/// The exit status that reports the end of a run.
 fn status_of(end: End) -> u8
     ensures { result ≡ exit_status end }
 {

@@ -1,4 +1,4 @@
--- What is told of what was kept is told of the run.
+-- What explains what was read explains the run.
 use Rattle.std.proofs.Common.{◌≡◌, ℕ, List, ◌++◌, subst}
 use Rattle.std.specs.Prelude.{Option, Some, None, IfSome, option_map}
 use Rattle.keeping.specs.Kept.{HasRead}

@@ -4,7 +4,7 @@ use Rattle.std.specs.Io.KnownBytes.{Keeps, Appends}
 use Rattle.outcomes.specs.declared.outcome.Outcome.{Outcome}
 use Rattle.process.specs.declared.sending.HintSent.{HintSent}
 
--- what may be told of words, of an input, if it was kept, and of what came of them, where that was written whole: a text, or nothing
+-- what may be said of words, of an input, if it was stored, and of the outcome, where that was written whole: a text, or nothing
 abbrev pub Account : Type 1
 Account = List (List ℕ) → Option (List ℕ) → Option Outcome → Option (List ℕ) → Type 0
 

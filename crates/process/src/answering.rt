@@ -1,4 +1,4 @@
-//! The answer on standard output, and what came of it.
+//! The answer on standard output, and its outcome.
 
 ghost use Rattle.std.specs.Prelude.{◌≡◌, [], IfSome, Ok, drop, map};
 ghost use Rattle.std.specs.Io.Buffered.{writer_buffer, writer_contents, writer_inner};
@@ -14,7 +14,7 @@ use std::io::{self, BufWriter, Read, Write};
 use std::sync::Wait;
 use std::thread::Threads;
 
-/// Hands on all that the buffer holds. Gives what came of it, where no write failed.
+/// Writes out all that the buffer holds. Gives the outcome, where no write failed.
 fn flushed<W: Write + Drop, A: Allocator>(
     writer: &mut BufWriter<W, A>,
     served: io::Result<Outcome>,
@@ -28,7 +28,7 @@ fn flushed<W: Write + Drop, A: Allocator>(
     }
 }
 
-/// Serves the words, and hands on all that the buffer holds. Gives what came of it, where no write failed.
+/// Serves the words, and writes out all that the buffer holds. Gives the outcome, where no write failed.
 pub fn answer<S: AsStr, I: Read, W: Write + Drop, R: Threads + Wait + Sync>(
     words: &[S],
     reader: &mut I,

@@ -11,12 +11,12 @@ use std::convert::AsStr;
 
 /// What explains a run, if anything does.
 pub trait Explain {
-    /// Whether this is told, or nothing: of these words, after the program's name, of this input, if it was kept, and of what
-    /// came of them, where no write failed.
+    /// Whether this text, or none, explains these words, after the program's name, this input, if it was stored, and the
+    /// outcome, where no write failed.
     ghost accounts: { List (List ℕ) → Option (List ℕ) → Option Outcomes.Outcome → Option (List ℕ) → Type 0 };
 
-    /// What a person is to be told of a run. `words` are the words of the command line, the program's name first. `input` is
-    /// what was read, if that was kept. `outcome` is what came of them; `None` where a write failed.
+    /// The explanation of a run for a person. `words` are the words of the command line, the program's name first. `input` is
+    /// what was read, if that was stored. `outcome` is that of the words; `None` where a write failed.
     fn explain<S: AsStr, A: Allocator + Clone>(
         &self,
         alloc: A,

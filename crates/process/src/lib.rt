@@ -1,5 +1,5 @@
-//! The process: what the program does with its words and with its three streams. It serves the words, hands on what the buffer of
-//! standard output holds, and then tells on standard error what explains the run, if anything does.
+//! The process: what the program does with its words and with its three streams. It serves the words, writes out what the buffer
+//! of standard output holds, and then writes to standard error what explains the run, if anything does.
 #![tactic(auto)]
 
 mod answering;
@@ -30,7 +30,7 @@ use std::thread::Threads;
 /// What a process leaves.
 #[derive(Drop)]
 pub struct Ended<I, W> {
-    /// What came of the words. `None` where a write failed.
+    /// The outcome of the words. `None` where a write failed.
     pub outcome: Option<Outcome>,
     /// The exit status.
     pub status: u8,
@@ -45,7 +45,7 @@ pub struct Ended<I, W> {
 /// The exit status of a failed write.
 const FAILED: u8 = 1;
 
-/// The exit status for what came of the words.
+/// The exit status for the outcome of the words.
 fn exit_status(outcome: Option<Outcome>) -> u8
     ensures { result ≡ exits outcome }
 {
@@ -94,7 +94,7 @@ fn run_from<
 }
 
 /// Runs the process, and lets `explainer` explain the run. `words` are the words of the command line, the program's name first.
-/// An `Err` says that memory for the buffer of standard output was refused: nothing was read, written or told.
+/// An `Err` says that memory for the buffer of standard output was refused: nothing was read, written or reported.
 pub fn run_explained<
     X: Explain,
     S: AsStr,
@@ -120,7 +120,7 @@ pub fn run_explained<
 
 /// Runs the process: `words` are the words of the command line, the program's name first, and the others are standard input,
 /// standard output and standard error. A hint that cannot be made or written changes neither the status nor standard output. An
-/// `Err` says that memory for the buffer of standard output was refused: nothing was read, written or told.
+/// `Err` says that memory for the buffer of standard output was refused: nothing was read, written or reported.
 pub fn run_process<S: AsStr, I: Read + Drop, W: Write + Drop, E: Write, R: Threads + Wait + Sync>(
     words: &[S],
     reader: I,

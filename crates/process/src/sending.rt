@@ -12,17 +12,17 @@ use std::io::Write;
 /// What was reported on standard error.
 #[derive(Clone, Copy, PartialEq, Eq)]
 pub enum HintSent {
-    /// There is nothing to tell.
+    /// There is nothing to report.
     Nothing,
     /// A hint.
     Hint,
     /// A beginning of a hint: a write failed.
     Beginning,
-    /// Memory was refused, so whether there is something to tell is not known.
+    /// Memory was refused, so whether there is something to report is not known.
     Unknown,
 }
 
-/// Tells what explains a run with these words and this input, if that was kept, of which this came.
+/// Writes what explains a run with these words, this input, if that was stored, and this outcome.
 pub fn send_hint<X: Explain, S: AsStr, E: Write>(
     explainer: &X,
     alloc: Global,

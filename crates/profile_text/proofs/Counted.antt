@@ -1,4 +1,4 @@
--- Numbered things of a list, sent one after the other.
+-- Numbered items of a list, sent one after the other.
 use Rattle.std.proofs.Common.{ℕ, ◌+◌, ◌<◌, List, length, get_or, take, Option, Err, subst}
 use Rattle.std.specs.Io.KnownBytes.{Appends}
 use Rattle.std.proofs.lemmas.Option.{get_or_from_slice_get}

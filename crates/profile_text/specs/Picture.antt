@@ -1,5 +1,5 @@
 -- The picture of a profile, in SVG 1.1: a bar for each wave, or for some neighbours. It is 900 units wide and 400 high; the bars
--- stand in a field of 800 by 300, whose lower left corner is at (70, 340).
+-- are in a field of 800 by 300, whose lower left corner is at (70, 340).
 use Rattle.std.specs.Prelude.{ℕ, zero, suc, ◌+◌, ◌-◌, ◌*◌, ◌/◌, ◌%◌, List, [], ◌∷◌, ◌++◌, take, drop, length, decimal, codes, nat_lt, if◌then◌else◌}
 use Rattle.oracle.specs.Waves.{work}
 use Rattle.profile_text.specs.ProfileText.{together, whole_of, hundredths_of}
@@ -12,7 +12,7 @@ greatest_from m (n ∷ ns) = greatest_from (if nat_lt m n then n else m) ns
 abbrev pub greatest : List ℕ → ℕ
 greatest ns = greatest_from 0 ns
 
--- JOINED WAVES. There are at most 400 bars: this number of neighbours stand in one bar, whose height is the greatest of them.
+-- JOINED WAVES. There are at most 400 bars: this number of neighbours share one bar, whose height is the greatest of them.
 abbrev pub waves_a_bar : ℕ → ℕ
 waves_a_bar waves = (waves - 1) / 400 + 1
 
@@ -25,7 +25,7 @@ abbrev pub height : ℕ → ℕ → ℕ
 height n zero = 0
 height n (suc top) = 300 * n / suc top
 
--- A BAR, by its number from 0 on and the number of all bars, that shows a number where the greatest of all is top. The field is turned over, so
+-- A BAR, by its number from 0 on and the number of all bars, that shows a number where the greatest of all is top. The field is flipped, so
 -- that it grows upwards from 0.
 abbrev pub bar_text : ℕ → ℕ → ℕ → ℕ → List ℕ
 bar_text bars k n top = codes "<rect x=\"" ++ decimal (800 * k / bars) ++ codes "\" width=\"" ++ decimal ((799 + bars) / bars) ++ codes "\" height=\"" ++ decimal (height n top) ++ codes "\"/>\n"
@@ -60,7 +60,7 @@ legend_text w s = sizes_text w s ++ ratio_text w s
 abbrev pub label_text : List ℕ → ℕ → List ℕ → List ℕ
 label_text place n words = together (codes "<text " ∷ place ∷ codes ">" ∷ decimal n ∷ words ∷ codes "</text>\n" ∷ [])
 
--- the greatest number, the last wave, and how many waves stand in a bar
+-- the greatest number, the last wave, and how many waves a bar has
 abbrev pub labels_text : ℕ → ℕ → ℕ → List ℕ
 labels_text top s size =
     label_text (codes "x=\"62\" y=\"45\" text-anchor=\"end\"") top [] ++ label_text (codes "x=\"870\" y=\"360\" text-anchor=\"end\"") s []

@@ -55,7 +55,7 @@ pub(crate) fn greatest_of(counts: &[u64]) -> u64
     most
 }
 
-/// How many waves stand in one bar.
+/// How many waves one bar has.
 pub(crate) fn size_of_bar(waves: usize) -> usize
     ensures { result ≡ waves_a_bar waves }
 {

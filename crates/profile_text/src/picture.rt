@@ -98,7 +98,7 @@ fn send_last<W: Write>(writer: &mut W, span: u64) -> io::Result<()>
     )
 }
 
-/// How many waves stand in a bar.
+/// How many waves a bar has.
 fn send_size<W: Write>(writer: &mut W, size: u64) -> io::Result<()>
     ensures { Sends result (W.contents writer.old) (W.contents writer.new) (label_text (codes "x=\"470\" y=\"385\" text-anchor=\"middle\"") size (codes " wave(s) a bar")) }
 {
@@ -161,7 +161,7 @@ fn send_bar<W: Write>(
     )
 }
 
-/// The beginning of the bars' field, which is turned over.
+/// The beginning of the bars' field, which is flipped.
 fn send_ground<W: Write>(writer: &mut W) -> io::Result<()>
     ensures { Sends result (W.contents writer.old) (W.contents writer.new) (codes "<g transform=\"translate(70 340) scale(1 -1)\" fill=\"steelblue\">\n") }
 {

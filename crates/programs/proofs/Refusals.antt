@@ -19,7 +19,7 @@ use Rattle.driver.specs.Refused.{IsGoodText, IsCompiled, IsRefused, IsRefusedObj
 use Rattle.programs.specs.declared.fault.RunRefusal.{RunRefusal}
 use Rattle.programs.specs.Refused.{IsNotRun, IsNotCompiled, IsRefusedRun, OfGraph, unlowered_as, IsUnrun}
 
--- a graph that is well formed is refused for want of memory alone
+-- a graph that is well formed is refused only for lack of memory
 pub refused_memory : (g : Graph) (f : CheckFault) (reported : Fault) → WellFormed g → IsRefusal g f → IsUnchecked f reported → reported ≡ Fault.Memory
 refused_memory g f reported well h (inl (m, is)) = is
 refused_memory g f reported well (inl e) (inr (n, is)) = absurd (n (ap (λ (f : CheckFault). f.kind) e))

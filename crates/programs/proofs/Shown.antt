@@ -23,7 +23,7 @@ use Rattle.driver.specs.Headline.{ReportsOf, ReportsTruthIn, ReportsQuietly}
 use Rattle.programs.specs.Promise.{ShowsProgram}
 use Rattle.programs.proofs.Outputs.{main_block, is_main, has_outputs, all_some}
 
--- the program with its tokens, its graph, and the origins that lowering tells
+-- the program with its tokens, its graph, and the origins that lowering gives
 pub lowered_text : (text : List ℕ) (p : Program) (g : Graph) → Lowers text p g → IsLoweredText (program_of text) p g (origin_of p)
 lowered_text text p g h =
     let good = h.lowered.good in

@@ -13,7 +13,7 @@ use Rattle.source.specs.Lowered.{origin_of}
 use Rattle.source.specs.Theorem.{Computes, RestsWell}
 use Rattle.lowered_text.specs.Lowers.{Lowers}
 
--- What an evaluation does at cells, in the order in which its parts stand in the text, turn after turn.
+-- What an evaluation does at cells, in the order of its parts in the text, turn after turn.
 pub data Touch : Type 0 where
   Reads : (cell : ℕ) → Touch
   Fills : (cell : ℕ) → Touch

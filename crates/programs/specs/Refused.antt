@@ -16,7 +16,7 @@ abbrev pub IsNotRun : Graph → List ℤ → Config → Fault → Type 0
 IsNotRun g inputs c (Fault.Start f) = (bytes : List ℕ) × (object : IsObjectOf g bytes) × IsCause object.code.program c inputs f × (f ≢ StartFault.Memory)
 IsNotRun g inputs c fault = IsTooLarge g fault
 
--- The text has a program, and of the graph that it is lowered to `P` holds.
+-- The text has a program, and `P` holds of the graph that it is lowered to.
 abbrev pub OfGraph : List ℕ → (Graph → Type 0) → Type 0
 OfGraph text P = (p : Program) × (g : Graph) × Lowers text p g × P g
 
@@ -33,7 +33,7 @@ IsRefusedRun text inputs c (RunRefusal.Program f) = IsRefusedProgram text (Lower
 IsRefusedRun text inputs c (RunRefusal.Graph f) = (f ≢ Fault.Memory) × OfGraph text (λ g. IsNotRun g inputs c f)
 IsRefusedRun text inputs c RunRefusal.Memory = ⊤
 
--- The fault that is reported where a part gives one of its own: want of memory as such, and another fault as it is.
+-- The fault that is reported where a part gives one of its own: lack of memory as such, and another fault as it is.
 abbrev pub unlowered_as : LowerFault → RunRefusal
 unlowered_as (LowerFault.Program f) = RunRefusal.Program f
 unlowered_as LowerFault.Memory = RunRefusal.Memory

@@ -25,7 +25,7 @@ fn check_good<'a, A: Allocator + Clone>(graph: Graph<'a, A>) -> Result<Checked<'
     ensures { WellFormed graph.entry → MatchResult result (λ c. (c ≡ graph.entry) × HasText graph.entry) (λ fault. fault ≡ Faults.Memory) }
 {
     let checked = check(graph)?;
-    // What it promises: the limits of a text are kept.
+    // What it promises: the text is within the limits.
     let _graph = checked.graph();
     Ok(checked)
 }

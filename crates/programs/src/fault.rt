@@ -12,9 +12,9 @@ use std::alloc::AllocError;
 /// Why a text has no report of a run of its program.
 #[derive(Debug, Drop)]
 pub enum RunRefusal {
-    /// The text has no program, or one that breaks a rule or is too big: this is its first fault. Want of memory is never told so.
+    /// The text has no program, or one that breaks a rule or is too big: this is its first fault. Lack of memory is never reported so.
     Program(ProgramFault),
-    /// The program's graph has no object, or the run cannot start. Want of memory is never told so.
+    /// The program's graph has no object, or the run cannot start. Lack of memory is never reported so.
     Graph(Fault),
     Memory,
 }

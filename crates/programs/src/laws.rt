@@ -1,12 +1,12 @@
-//! What reports say of programs, whoever made the report.
+//! What reports say of programs, by whatever means the report was made.
 
 ghost use Rattle.programs.specs.Laws.{ReportsShowPrograms, ModesShowPrograms, QuietReportsShowPrograms, RefusalsAreTheTexts};
 
-/// The text of a lowered program's graph tells the program's truth.
+/// A report of the text of a lowered program's graph is true of the program.
 ///
-/// Where a report of that text, of which the headline holds, ends at rest with no deferred reader, its outputs and cells are
-/// those that the program computes by its own evaluator: in any order of the events, in each mode, and where the report lists
-/// no events. What refuses a run of the graph refuses a run of its text.
+/// Where the headline holds of a report of that text, and the report ends at rest with no deferred reader, its outputs and
+/// cells are those that the program computes by its own evaluator: in any order of the events, in each mode, and where the
+/// report lists no events. What refuses a run of the graph refuses a run of its text.
 pub fn reports_show_programs()
     ensures programs { ReportsShowPrograms }
     ensures modes { ModesShowPrograms }

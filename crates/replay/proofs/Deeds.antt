@@ -1,4 +1,4 @@
--- What a token did at an instruction: worked examples, and the law that it is told to wait exactly where its slot holds it and did not before.
+-- What a token did at an instruction: worked examples, and the law that it is reported to wait exactly where its slot holds it and did not before.
 use Rattle.std.proofs.Common.{◌≡◌, refl, sym, ◌∙◌, ap, subst, ℕ, zero, suc, ◌+◌, ◌-◌, Bool, true, false, List, [], ◌∷◌, Option, Some, None}
 use Rattle.std.specs.Prelude.{nat_lt, ◌==◌, if◌then◌else◌}
 use Rattle.tags.specs.declared.token.Port.{Port}
@@ -22,7 +22,7 @@ use Rattle.replay.specs.declared.moment.Deed.TheVariants.{Waited, Queued, Fired}
 use Rattle.replay.specs.Moments.{at_slot, deed_of}
 use Rattle.replay.proofs.Instructing.{none_left, slot_then}
 
--- EXAMPLES. The instructions of a loop with bound 2, at 0 to 3, an instruction for two words at 4, and another `open`, which signals to none
+-- EXAMPLES. The instructions of a loop with bound 2, at 0 to 3, an instruction for two words at 4, and another `open`, which has no destination
 abbrev code : Program
 code = one_block 1 1 1 (instr (Open 2) 0 (left 4) none ∷ instr (Take 2) 0 none none ∷ instr (Give 2) 0 (left 2) none ∷ instr (Drain 2) 0
     (left 1) none ∷ instr Sync 0 none none ∷ instr (Open 2) 0 none none ∷ [])
@@ -33,7 +33,7 @@ holding v = with_slot (at_start code []).store 0 0 v
 abbrev then_holding : SlotState → SlotState → Store
 then_holding before after = with_slot (holding before) 0 0 after
 
--- A token for instruction `ip` finds the slot in the one state, makes these tokens, and leaves the slot in the other; and this is told of it.
+-- A token for instruction `ip` finds the slot in the one state, makes these tokens, and leaves the slot in the other; and this is reported of it.
 abbrev IsDeed : ℕ → Port → Word → SlotState → List Token → SlotState → Deed → Type 0
 IsDeed ip port w before made after d =
     Happens code 1 (holding before) (To.Instr 0 ip port) w made (then_holding before after)
@@ -55,7 +55,7 @@ first_of_two w = ((refl, refl), refl)
 first_of_two_at_right : (w : Word) → IsDeed 4 Right w Empty [] (Slot.Right w) Waited
 first_of_two_at_right w = ((refl, refl), refl)
 
--- the other one fires, also where nobody is reported
+-- the second token fires the instruction, also where the result has no destination
 second_of_two : (v w : Word) → IsDeed 4 Right w (Slot.Left v) [] Empty Fired
 second_of_two v w = ((refl, refl), refl)
 
@@ -102,7 +102,7 @@ IsWait Waited = Unit {0}
 IsWait Queued = Unit {0}
 IsWait d = ⊥
 
--- What is told of a token with this word, of the slot before and after it, and of what it made: if that it waits, the slot holds it and
+-- What is reported of a token with this word, of the slot before and after it, and of what it made: if that it waits, the slot holds it and
 -- nothing was made; and that it waits, if the slot holds it and did not before.
 abbrev pub IsTrueOf : Word → SlotState → SlotState → List Token → Type 0
 IsTrueOf w u v made = (IsWait (at_slot u v) → Keeps w v × (Keeps w u → ⊥) × (made ≡ [])) × (Keeps w v → (Keeps w u → ⊥) → IsWait (at_slot u v))
@@ -203,7 +203,7 @@ module _ (p : Program) (s : Point) (i : Instr) (w : Word) where
   rules (Drain k) u v port made empty e = at_left u v port made (drains s i k u) (drained u v k made) e
   rules op u v port made empty e = none_used u v port made (empty refl) e
 
--- what is told of a token that came to an instruction is true of it
+-- what is reported of a token that arrived at an instruction is true of it
 pub deeds_are_true : (p : Program) (total : ℕ) (old new : Store) (f ip : ℕ) (port : Port) (w : Word) (made : List Token)
     → Happens p total old (To.Instr f ip port) w made new
     → let r = slot_used (instr_at p ip) in IsTrueOf w (slot_in old f r) (slot_in new f r) made

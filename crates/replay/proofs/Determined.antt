@@ -74,7 +74,7 @@ abbrev rest_in : List Cont → List Cont
 rest_in [] = []
 rest_in (c ∷ cs) = cs
 
--- of two lists with the same tokens but for their heads, the heads are the same
+-- of two lists with the same tokens except for their heads, the heads are the same
 alone : (c d : Cont) → (zs : List Cont) × Put c zs (d ∷ []) × (zs ≡ []) → c ≡ d
 alone c d (zs, inl h, none) = h.0
 alone c d (zs, inr h, none) = absurd h.2

@@ -195,7 +195,7 @@ excluded_unfit p z e at t l numbers next b m program there excluded records ev =
     excluded t there b.store m.store (z.elements * z.frames) ev.made records.part
     (subst (λ (q : Program). Happens q (z.elements * z.frames) b.store t.to t.word ev.made m.store) (sym program) ev.happens)
 
--- FAULTS. One that is passed on says what follows of what it said; a want of memory says nothing.
+-- FAULTS. One that is passed on says what follows of what it said; a lack of memory says nothing.
 pub passed_on : {U : Type 0} (P Q : Type 0) (result : Result U ReplayRefusal) (e f : ReplayRefusal) → result ≡ Err e → e ≡ f → (P → Q) → Says f P
     → IfErr result (λ fault. Says fault Q)
 passed_on {U} P Q result e NotARun is same go said = subst (λ (r : Result U ReplayRefusal). IfErr r (λ fault. Says fault Q)) (sym is)

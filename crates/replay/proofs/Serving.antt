@@ -202,7 +202,7 @@ module _ {A : Type 0} (p : Program) (h : State A) (s : Store) (holds : Holds h s
         (requests_kept h s holds a.1 left (omega (arith, count, is, some))) (requests_stay b s near a.1 (All-tail (IsNearCont b) a.0 a.1 all))
         (one_near b (back_to a.0) (Word.Frame f) (back_near b a.0 (All-head (IsNearCont b) a.0 a.1 all)) (near.out f r.0))
 
-  -- a frame that comes back is among those that are out
+  -- a frame that is handed back is among those that are out
   pub is_out : (f : ℕ) (made : List Token) (n : Store) → Releases s f made n → 0 < h.frames_out
   is_out f made n r =
       let changed = out_changed h.frames f s.out false (near.out f r.0) in

@@ -36,7 +36,7 @@ event_from p z e t a b c perm same ev = record {
   leaves = ev.leaves;
 }
 
--- a moment tells the same of a machine with the same store
+-- a moment says the same of a machine with the same store
 moment_from : (p : Program) (z : Size) (t : Token) (made : List Token) (a b c : Machine) (x : Moment) → b.store ≡ a.store → IsMoment p z t made b c x
     → IsMoment p z t made a c x
 moment_from p z t made a b c x same m = record {

@@ -41,12 +41,12 @@ abbrev pub slot_change : Store → ℕ → Option ℕ → Change
 slot_change new f None = change.Nothing
 slot_change new f (Some r) = change.Slot f r (new.slots f r)
 
--- the frame that goes out is what the answer carries
+-- the frame that is handed out is what the answer carries
 abbrev pub frame_change : Word → Change
 frame_change (Word.Frame f) = change.Out f
 frame_change w = change.Nothing
 
--- a word for the host comes to an output, or to the port after the outputs
+-- a word for the host goes to an output, or to the port after the outputs
 abbrev pub host_change : Bool → ℕ → Word → Change
 host_change true j (Word.Val v) = change.Output j v
 host_change true j w = change.Nothing
@@ -106,7 +106,7 @@ AreEntries p z old [] [] new = new ≡ old
 AreEntries p z old (ev ∷ later) (x ∷ xs) new = (mid : Book) × IsEntry p z ev.0 ev.1 old mid x × AreEntries p z mid later xs new
 AreEntries p z old events entries new = ⊥
 
--- EARLIER EVENTS, of which less is kept: there are entries of them, from the books as they were to the books as they are then, and these changes
+-- EARLIER EVENTS, of which less is recorded: there are entries of them, from the books as they were to the books as they are then, and these changes
 -- lead from the one store to the other.
 pub record Passed (p : Program) (z : Size) (old : Book) (events : Events) (changes : List Change) (new : Book) : Type 0 where
   pub entries : List EntryView

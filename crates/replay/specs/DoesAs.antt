@@ -45,7 +45,7 @@ IsCounted tokens made (Ok left) = tokens + made ≡ left + 1
 IsCounted tokens made (Err NotARun) = tokens ≡ 0
 IsCounted tokens made (Err Memory) = ⊤
 
--- What is told of an event that found the store `s`, made these tokens and left the store `n` is so, and it is held.
+-- What is reported of an event that found the store `s`, made these tokens and left the store `n` is so, and it is held.
 pub record IsDone {A : Type 0} (p : Program) (frames : ℕ) (did : Did) (to : To) (ts : List Token) (s : Store) (new : State A) (n : Store) : Type 0 where
   pub made : did.made ≡ length ts
   pub deed : did.deed ≡ deed_of p s n to ts

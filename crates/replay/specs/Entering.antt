@@ -156,8 +156,8 @@ abbrev pub AreUnfit : {C A : Type 0} → Program → Ledger C A → Events → T
 AreUnfit p old events = (z : Size) (b : Book) → z.elements ≡ old.extent.elements → z.elements * z.frames ≡ old.extent.frames
     → Records old.lane old.numbers.items old.next b → (last : Machine) → OrderedRun p z (machine_of b) events last → ⊥
 
--- No machine of this extent has a run by these events, from the start on these inputs on, in which the free frame of least number goes out, and a
--- frame that comes back goes to the request that has waited longest.
+-- No machine of this extent has a run by these events, from the start on these inputs on, in which the free frame of least number is handed out,
+-- and a released frame goes to the request that has waited longest.
 abbrev pub HasNoRun : Program → Extent → List ℤ → Events → Type 0
 HasNoRun p x inputs events = (z : Size) → z.elements ≡ x.elements → z.elements * z.frames ≡ x.frames → IsOrdered p z inputs events → ⊥
 
@@ -165,7 +165,7 @@ HasNoRun p x inputs events = (z : Size) → z.elements ≡ x.elements → z.elem
 abbrev pub start_tokens : ℕ → List ℤ → List Token
 start_tokens first inputs = token (To.Instr 0 first Left) (Word.Back (Cont.Host 0)) ∷ input_tokens (first + 1) inputs
 
--- the lane is the machine at the start but for its tokens
+-- the lane is the machine at the start except for its tokens
 pub record IsFreshLane (p : Program) (x : Extent) (l : LaneView) : Type 0 where
   pub whole : IsWhole p x l
   pub queue : l.held.queue ≡ []

@@ -29,7 +29,7 @@ count_out total s = sum_below total (λ f. one_if (s.out f))
 -- slot holds it then and did not before: as the first word of two, which waits for the other; as the request of a `take` that found no
 -- credit, which is queued for the next one; or as a `drain`, which waits for the credits that are out. Else the instruction has fired,
 -- also where it makes nothing and its slot is not empty then: `open` puts credits there, a `take` takes one of them, and a `give` adds
--- one, hands it to the request, or lessens what the drain waits for. A `drain` that finds all credits there, and the `give` that brings
+-- one, gives it to the request, or reduces what the drain waits for. A `drain` that finds all credits there, and the `give` that brings
 -- the last one to a drain that waits, leave the slot empty.
 abbrev pub at_slot : SlotState → SlotState → Deed
 at_slot Empty (Slot.Left w) = deed.Waited

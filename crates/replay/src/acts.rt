@@ -111,7 +111,7 @@ impl<A: Allocator> Slots<A> {
 }
 
 impl<A: Allocator> State<A> {
-    // A token comes to an instruction.
+    // A token arrives at an instruction.
     fn at_instruction<C: Instructions>(
         &mut self,
         code: &C,
@@ -224,7 +224,7 @@ impl<A: Allocator> State<A> {
         })
     }
 
-    // A frame that comes back goes to a request that waits, or is free.
+    // A frame that is handed back goes to a request that waits, or is free.
     fn at_release(&mut self, frame: FrameId, word: Word) -> Result<Did, ReplayRefusal>
         ensures does_as { (p : Program) → DoesAs p self.old (Rule.token (To.Release frame) word) result self.new }
         ensures frames { self.new.frames ≡ self.old.frames }

@@ -49,7 +49,7 @@ pub enum Change {
         port: u32,
         value: Value,
     },
-    /// All is done: this word came to the port after the outputs.
+    /// All is done: this word went to the port after the outputs.
     Done {
         port: u32,
         word: Word,

@@ -8,7 +8,7 @@ use std::alloc::{AllocError, AllocFailed};
 /// Why events are not replayed.
 #[derive(Clone, Copy, Debug, PartialEq, Eq)]
 pub enum ReplayRefusal {
-    /// They are not those of a run of this code; of books, of one in which the free frame of least number goes out, and a frame that comes back
+    /// They are not those of a run of this code; of books, of one in which the free frame of least number is handed out, and a released frame
     /// goes to the request that has waited longest.
     NotARun,
     /// A growth was refused, or there is more than a number of 64 bits counts.

@@ -152,7 +152,7 @@ fn change_by(
     }
 }
 
-/// The tokens of the start: the continuation of the host comes to main's first instruction, and each input to the next ones.
+/// The tokens of the start: the continuation of the host goes to main's first instruction, and each input to the next ones.
 pub fn start_tokens<A: Allocator>(
     alloc: A,
     main: u32,
@@ -186,7 +186,7 @@ pub fn start_tokens<A: Allocator>(
     Ok(tokens)
 }
 
-// Gives the next numbers to so many tokens, and says which number comes then. An error is that memory was refused, or that there are too many
+// Gives the next numbers to so many tokens, and says which number is next. An error is that memory was refused, or that there are too many
 // tokens to be numbered.
 fn number_all<A: Allocator>(
     numbers: &mut Vec<u64, A>,
@@ -206,7 +206,7 @@ fn number_all<A: Allocator>(
 }
 
 impl<'m, C: Instructions, A: Allocator> Ledger<'m, C, A> {
-    // Where the token stands among the lane's: the first that is equal.
+    // Where the token is among the lane's: the first that is equal.
     fn place_of(&self, token: &Token) -> Option<usize>
         ensures there { IfSome result (λ at. slice_get self.now.lane.held.queue at ≡ Some token.now) }
         ensures within { IfSome result (λ at. at < length self.now.lane.held.queue) }
@@ -385,9 +385,9 @@ impl<'m, C: Instructions, A: Allocator> Ledger<'m, C, A> {
     }
 
     /// The books of a run on these inputs: enters the tokens of the start, and then each of the events, and gives the entries of `events`, before
-    /// which there were those of `earlier`. The machine hands out the free frame of least number, and gives a frame that comes back to the
-    /// request that has waited longest. What is answered is a run of the machine by these events. `NotARun` says that there is no such run by
-    /// them. After an error the ledger is of no use.
+    /// which there were those of `earlier`. The machine hands out the free frame of least number, and gives a released frame to the request that
+    /// has waited longest. What is answered is a run of the machine by these events. `NotARun` says that there is no such run by them. After an
+    /// error the ledger is of no use.
     pub fn keep(
         &mut self,
         alloc: A,

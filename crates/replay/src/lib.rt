@@ -1,4 +1,4 @@
-//! The events of a run, done again: what each one did, and how many tokens, full slots and frames out there are after it; and the books of a
+//! The events of a run, replayed: what each one did, and how many tokens, full slots and frames out there are after it; and the books of a
 //! run, which have of each event what it changed.
 #![tactic(auto)]
 

@@ -1,9 +1,9 @@
-//! What there is to be seen of an event.
+//! What can be seen of an event.
 
 /// What an event did.
 #[derive(Clone, Copy, Debug, PartialEq, Eq)]
 pub enum Deed {
-    /// A token came to an instruction and waits in its slot: for the other word, or, of a `drain`, for the credits that are out.
+    /// A token arrived at an instruction and waits in its slot: for the other word, or, of a `drain`, for the credits that are out.
     Waited,
     /// An instruction fired, whether it made tokens or not, and whatever its slot holds then.
     Fired,
@@ -19,11 +19,11 @@ pub enum Deed {
     Given,
     /// A request waits, for a frame, or in the slot of a `take` for a credit.
     Queued,
-    /// A frame that came back is free.
+    /// A frame that was handed back is free.
     Freed,
-    /// A frame that came back was given to a request that waited.
+    /// A frame that was handed back was given to a request that waited.
     HandedOn,
-    /// A result, or the signal that all is done, came to the host.
+    /// A result, or the signal that all is done, arrived at the host.
     Arrived,
 }
 

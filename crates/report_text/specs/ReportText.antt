@@ -1,4 +1,4 @@
--- The text of a report: what a run told, and what the meaning of a graph gave.
+-- The text of a report: what a run reported, and what the meaning of a graph gave.
 use Rattle.std.specs.Prelude.{ℕ, ◌+◌, ◌-◌, Option, Some, None, List, [], ◌∷◌, ◌++◌, flat_map, decimal, codes, nat_lt, slice_get, if◌then◌else◌}
 use Rattle.tags.specs.declared.value.FaultKind.{FaultKind}
 use Rattle.tags.specs.declared.value.FaultKind.TheVariants.{Zero, Range}
@@ -18,7 +18,7 @@ abbrev pub kind_word : FaultKind → List ℕ
 kind_word Zero = codes "zero"
 kind_word Range = codes "range"
 
--- where a fault was made, if it is reported
+-- where a fault was made, if that is known
 abbrev pub origin_text : Origin → List ℕ
 origin_text Untold = []
 origin_text (At b n) = codes " at" ++ field (decimal b) ++ field (decimal n)
@@ -104,7 +104,7 @@ report_text arrays r = outputs_text r.outputs ++ flat_map (cell_line arrays) r.c
 abbrev pub meaning_text : Arrays → List (Option Value) → List Full → MeanEnd → List ℕ
 meaning_text arrays outputs cells end = outputs_text outputs ++ flat_map (full_line arrays) cells ++ meaning_end arrays end
 
--- THE REPORT OF AN OBJECT'S RUN. Its arrays have no names: their numbers, from n on, stand in place of them.
+-- THE REPORT OF AN OBJECT'S RUN. Its arrays have no names: their numbers, from n on, take their place.
 unfoldable pub named_by_number : ℕ → List ℕ → Arrays
 named_by_number n [] = []
 named_by_number n (len ∷ lens) = (decimal n, len) ∷ named_by_number (n + 1) lens

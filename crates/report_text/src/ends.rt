@@ -1,4 +1,4 @@
-//! What waits at the end of a run, and the line that tells the end.
+//! What waits at the end of a run, and the line that reports the end.
 
 ghost use Rattle.std.specs.Prelude.{◌≡◌, ◌++◌, ◌∷◌, [], ℕ, List, codes, decimal};
 ghost use Rattle.semantics.specs.Text.{field, line};
@@ -15,7 +15,7 @@ use sink::{send, send_all};
 use std::alloc::Allocator;
 use std::io::{self, Write};
 
-/// Writes the lines that tell what waits: deferred readers, requests for frames and for credits, and how many frames are out.
+/// Writes the lines that say what waits: deferred readers, requests for frames and for credits, and how many frames are out.
 pub(crate) fn send_counts<A: Allocator, W: Write>(
     writer: &mut W,
     report: &Report<A>,

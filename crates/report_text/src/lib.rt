@@ -1,4 +1,4 @@
-//! Reports as texts: what a run told, and what the meaning of a graph gave.
+//! Reports as texts: what a run reported, and what the meaning of a graph gave.
 #![tactic(auto)]
 
 mod cells;

@@ -29,7 +29,7 @@ fn send_kind<W: Write>(writer: &mut W, kind: FaultKind) -> io::Result<()>
     send_all(writer, &[b" fault ", kind_word(kind)])
 }
 
-/// Writes where a fault was made, if that is told, and ends the line.
+/// Writes where a fault was made, if that is known, and ends the line.
 fn send_origin<W: Write>(writer: &mut W, origin: Origin) -> io::Result<()>
     ensures { Sends result (W.contents writer.old) (W.contents writer.new) (line (origin_text origin)) }
 {

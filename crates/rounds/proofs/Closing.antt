@@ -1,4 +1,4 @@
--- What a round leaves once its tokens are handed over.
+-- What a round leaves once its tokens are delivered.
 use Rattle.std.proofs.Common.{◌≡◌, refl, sym, ◌∙◌, ap, subst, ℕ, ◌+◌, ◌<◌, ◌≤◌, ◌⊎◌, inl, inr, ℤ, List, [], ◌∷◌, ◌++◌, length, map, take, drop, append_assoc, Option, Some, None, Bool, true, false, arith}
 use Rattle.std.specs.Prelude.{All, slice_get}
 use Rattle.std.proofs.lemmas.List.{append-nil, drop_all, take_all, length-map}
@@ -57,7 +57,7 @@ module _ {C A L : Type 0} where
     pub at_all : AllFrom (IsAt g.elements) 0 (lanes_held news)
     at_all = to_map (λ (i : ℕ) (h : Holding). IsAt g.elements i h) (IsPlaced g) (λ (h : Holding). queued h tokens) (λ (i : ℕ) (h : Holding) p. (p.element, p.elements)) 0 (lanes_held news) made.sound.lanes
 
-    -- it is a round, whatever tokens were handed over
+    -- it is a round, whatever tokens were delivered
     makes_one : (last : List (Turner C A L)) (rest : List Token) (halt : Option Halt) → delivered rest (lanes_held last) ≡ delivered tokens (lanes_held news)
         → IsWhy (delivered rest (lanes_held last)) (answers made.turned) halt ⊎ (halt ≡ Some Halt.Memory) → MakesRounds g may_stop 1 (lanes_held olds) (delivered rest (lanes_held last)) made.made halt
     makes_one last rest halt handed halts = one_round g may_stop (lanes_held olds) (delivered rest (lanes_held last)) made.made halt (record {
@@ -83,7 +83,7 @@ module _ {C A L : Type 0} where
       leads_last : Leads g olds last rest made.made
       leads_last inputs evs b = subst (λ (s : State). Began inputs s (evs ++ made.made)) same (made.leads inputs evs b)
 
-      -- memory was refused while tokens were handed over
+      -- memory was refused while tokens were delivered
       pub refused_delivering : Rounds g keeps_events may_stop 1 olds before last after (Some Halt.Memory)
       refused_delivering = record { rest = rest; made = made.made; goes = (sound_last, inl tt); noted = made.noted; leads = leads_last; makes = makes_one last rest (Some Halt.Memory) handed (inr refl) }
 
@@ -196,7 +196,7 @@ refused_shows s inputs keeps_events may_stop kept evs r sound is =
     let shown = shows_any p (size s.setting) inputs s.setting.steps false may_stop (opening_picture (outputs_of p)) (shows_opening s inputs false (outputs_of p) sound refl) in
     ([], subst (λ (x : Report). ShowsInOrder p (size s.setting) inputs s.setting.steps false may_stop (with_events x [])) (sym is) shown, λ l same. ap (λ (x : Report). x.events) is)
 
--- what is told of a run whose events are listed, and of one whose events are not
+-- what is reported of a run whose events are listed, and of one whose events are not
 pub reported_run : (p : Program) (z : Size) (inputs : List ℤ) (steps : ℕ) (may_stop : Bool) (evs : Events) (r : Report) → ShowsOn true p z inputs steps may_stop evs evs r → ShowsInOrder p z inputs steps false may_stop r
 reported_run p z inputs steps may_stop evs r (shown, shows, lists) = subst (λ (l : Events). ShowsInOrder p z inputs steps false may_stop (with_events r l)) (sym (lists refl refl)) shows
 

@@ -182,7 +182,7 @@ module _ {C A L : Type 0} where
       let place : element_of n t.to ≡ 0 + i = omega arith in
       map-set lane_held ts i new ∙ ap (λ (h : Holding). slice_set (lanes_held ts) i h) e ∙ sym (delivered_one n 0 (lanes_held ts) i t (lane_held x) all place (held_at ts i x low is))
 
-  -- one more token has come
+  -- one more token has arrived
   pub arrived_more : (items new : List (Turner C A L)) (sent : List Token) (k : ℕ) (t : Token) → k < length sent → t ≡ get_or sent k t → lanes_held new ≡ delivered (t ∷ []) (lanes_held items)
       → delivered (drop (k + 1) sent) (lanes_held new) ≡ delivered (drop k sent) (lanes_held items)
   arrived_more items new sent k t low is e =

@@ -1,4 +1,4 @@
--- HOW MANY ROUNDS A RUN MAKES, and what its report tells of the last.
+-- HOW MANY ROUNDS A RUN MAKES, and what its report says of the last.
 use Rattle.std.specs.Prelude.{◌≡◌, ℕ, zero, suc, ◌<◌, ◌⊎◌, Bool, List, [], ◌++◌, length, map, Option, Some, None, slice_get}
 use Rattle.semantics.specs.Machine.{Events}
 use Rattle.semantics.specs.Report.{Report}
@@ -23,14 +23,14 @@ IsFirst halts halt = (e : ℕ) × (slice_get halts e ≡ Some (Some halt)) × ((
 abbrev pub NoneHalts : List (Option Halt) → Type 0
 NoneHalts halts = (e : ℕ) → e < length halts → slice_get halts e ≡ Some None
 
--- Why a run halts after a round, in which the elements answered this: of those that halt, the one of least number says why. Where none
--- halts the run does if no token is left, and only then.
+-- Why a run halts after a round, in which the elements answered this: of those that halt, the one of least number says why. Where none halts, the run halts
+-- if no token is left, and only then.
 abbrev pub IsWhy : List Holding → List (Option Halt) → Option Halt → Type 0
 IsWhy lanes halts None = NoneHalts halts × (0 < length (tokens_in lanes))
 IsWhy lanes halts (Some halt) = IsFirst halts halt ⊎ (NoneHalts halts × (tokens_in lanes ≡ []) × (halt ≡ Halt.NoToken))
 
--- ONE ROUND. Each element makes its turn; then the tokens for others are handed over, those of one element after those of another. It made these
--- events, and after it the run halts so, if it does: where memory is refused while tokens are handed over, it halts for that.
+-- ONE ROUND. Each element makes its turn; then the tokens for others are delivered, those of one element after those of another. It made these
+-- events, and after it the run halts so, if it does: where memory is refused while tokens are delivered, it halts for that.
 pub record MakesRound (g : Setting) (may_stop : Bool) (old new : List Holding) (made : Events) (why : Option Halt) : Type 0 where
   -- whether the elements note their events
   pub keeps_events : Bool
@@ -47,7 +47,7 @@ MakesRounds g may_stop (suc n) old new made why =
     (mid : List Holding) × (before : Events) × (now : Events) × MakesRounds g may_stop n old mid before None × MakesRound g may_stop mid new now why × (made ≡ before ++ now)
 
 -- The run from here made exactly so many rounds, and halted after the last, unless memory was refused between two rounds. The report is of the machine as it
--- is then, with these events after those that were kept; or, where its lists were refused, of the machine before its first event.
+-- is then, with these events after those that were noted; or, where its lists were refused, of the machine before its first event.
 pub record ReportsRounds (keeps_events may_stop : Bool) (start : SoFar) (rounds : ℕ) (r : Report) : Type 0 where
   pub last : List Holding
   pub made : Events

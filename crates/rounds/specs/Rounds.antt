@@ -92,7 +92,7 @@ pub record MadeRound {C A L : Type 0} (g : Setting) (keeps_events may_stop : Boo
   pub sent : tokens ≡ all_sent turned
   pub answered : halts_in new ≡ answers turned
 
--- The report shows a run that went on from these events; where events are listed, and these are those that were kept, it
+-- The report shows a run that went on from these events; where events are listed, and these are those that were noted, it
 -- lists those of the run.
 abbrev pub ShowsOn : Bool → Program → Size → List ℤ → ℕ → Bool → Events → Events → Report → Type 0
 ShowsOn keeps_events p z inputs steps may_stop kept events r = (shown : Events) × ShowsInOrder p z inputs steps false may_stop (with_events r shown) × (keeps_events ≡ true → kept ≡ events → r.events ≡ shown)

@@ -16,7 +16,7 @@ use Rattle.rounds.specs.declared.turn.Turner.{Turner}
 abbrev pub by : ℕ → List Token → Events
 by e ts = map (λ (t : Token). (e, t)) ts
 
--- The lane took these tokens, its oldest first, an event each. Those that it made for others came after `before`.
+-- The lane took these tokens, its oldest first, an event each. Those that it made for others are after `before`.
 abbrev pub Turns : Program → ℕ → Holding → List Token → List Token → Holding → List Token → Type 0
 Turns p steps old before [] new after = (new ≡ old) × (after ≡ before)
 Turns p steps old before (t ∷ ts) new after =

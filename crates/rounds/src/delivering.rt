@@ -1,4 +1,4 @@
-//! Tokens are handed over to the elements that they are addressed to.
+//! Tokens are delivered to the elements that they are addressed to.
 
 ghost use Rattle.std.specs.Prelude.{◌≡◌, ◌<◌, ◌∷◌, [], List, length, All, OnOk, OnErr};
 ghost use Rattle.tags.specs.declared.token.Token.{Token};
@@ -28,7 +28,7 @@ fn receive_one<C: Instructions, A: Allocator, L: Log>(
     lane.receive(token)
 }
 
-// Puts a token into the lane of its element. After an error all stands as before.
+// Puts a token into the lane of its element. After an error nothing is changed.
 fn receive<C: Instructions, A: Allocator, L: Log>(
     turners: &mut Vec<Turner<'_, C, A, L>, A>,
     elements: u32,
@@ -51,7 +51,7 @@ fn receive<C: Instructions, A: Allocator, L: Log>(
     receive_one(turner, token)
 }
 
-/// Hands the tokens over. After an error the others are still on their way.
+/// Delivers the tokens. After an error the others are still on their way.
 pub fn deliver_all<C: Instructions, A: Allocator, L: Log>(
     turners: &mut Vec<Turner<'_, C, A, L>, A>,
     elements: u32,

@@ -339,7 +339,7 @@ fn unmade<A: Allocator>(report: Report<A>) -> Counted<A>
     Counted { report, rounds: 0 }
 }
 
-// Rounds until the run halts, with what is told of it.
+// Rounds until the run halts, with what is reported of it.
 fn run_machine<
     R: Threads + Wait + Sync,
     C: MainCode + Sync,
@@ -358,7 +358,7 @@ fn run_machine<
 }
 
 /// Makes rounds until the run halts, and reports. In each round every element asks the gate, and makes up to `turn` events
-/// with its oldest tokens, in a thread of its own; then the tokens for others are handed over, in the order of the elements.
+/// with its oldest tokens, in a thread of its own; then the tokens for others are delivered, in the order of the elements.
 /// Where several elements halt, the one of least number says why the run does.
 pub fn run<
     R: Threads + Wait + Sync,

@@ -71,7 +71,7 @@ received items n i x new t all at low is e =
 pub unreceived : (items : List LaneView) (i : ℕ) (x new : LaneView) → i < length items → x ≡ get_or items i x → held_of new ≡ held_of x → map held_of (slice_set items i new) ≡ map held_of items
 unreceived items i x new low is e = map-set held_of items i new ∙ ap (λ (h : Holding). slice_set (map held_of items) i h) e ∙ set_same (map held_of items) i (held_of x) (held_at items i x low is)
 
--- one more token has come
+-- one more token has arrived
 pub arrived_more : (items new : List LaneView) (sent : List Token) (k : ℕ) (t : Token) → k < length sent → t ≡ get_or sent k t → map held_of new ≡ delivered (t ∷ []) (map held_of items)
     → lanes_of new (drop (k + 1) sent) ≡ lanes_of items (drop k sent)
 arrived_more items new sent k t low is e =

@@ -1,4 +1,4 @@
--- What lanes tell is a picture of the machine that they are the parts of.
+-- What lanes report is a picture of the machine that they are the parts of.
 use Rattle.std.proofs.Common.{◌≡◌, refl, sym, ◌∙◌, ap, subst, ℕ, zero, suc, ◌*◌, ◌/◌, ◌%◌, ◌<◌, ◌≤◌, ◌⊎◌, inl, inr, Bool, List, [], ◌∷◌, ◌++◌, length, Option, Some, None, arith, ⊎_elim}
 use Rattle.std.specs.Prelude.{option_and_then, slice_get, sum, nat_lt, Contains, if◌then◌else◌}
 use Rattle.std.proofs.Math.Nat.{mod-lt}
@@ -233,7 +233,7 @@ module _ (g : Setting) (m : Store) (lanes : List Holding) (good : IsGoodSetting 
         frames_out = reported.out ∙ out_is head.part.manager (k.part.manager k.element) (subst (λ (b : Bounds). IsSoundManager b head.part.manager) cells_are (k.sound.manager k.element));
       }
 
--- what is known of the lanes of a machine that stands
+-- what is known of the lanes of a machine that has them as its parts
 pub known_lanes : (s : State) (mach : Machine) → IsSoundState s → AreParts s mach → AllFrom (IsKnown s.setting mach.store) 0 s.lanes
 known_lanes s mach sound stands = from_both (IsPlaced s.setting) (λ (i : ℕ) (h : Holding). IsPart h.part mach.store) (IsKnown s.setting mach.store) (λ (i : ℕ) (h : Holding) p part. record {
   element = p.element;

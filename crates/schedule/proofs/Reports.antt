@@ -68,7 +68,7 @@ shows_opening s inputs by_list outputs sound is =
 abbrev arriving : Setting → List Holding → List Token → State
 arriving g raw ts = record { setting = g; lanes = delivered ts raw }
 
--- what is told of lanes is a picture, whatever tokens are on their way
+-- what is reported of lanes is a picture, whatever tokens are on their way
 pub lanes_pictured : (g : Setting) (raw : List Holding) (ts : List Token) (mach : Machine) (r : Report) → IsSoundState (arriving g raw ts) → AreParts (arriving g raw ts) mach
     → ShowsLaneParts g raw r.outputs r.cells r.deferred r.waiting_frames r.waiting_credits r.frames_out → IsPicture g.program (size g) mach r
 lanes_pictured g raw ts mach r sound stands reported =
@@ -107,7 +107,7 @@ pub opening_is : (n : ℕ) (outputs : List (Option Value)) (cells : List (ℕ ×
     → (let r : Report = record { end = End.Memory; outputs = outputs; cells = cells; deferred = 0; waiting_frames = 0; waiting_credits = 0; frames_out = 1; events = evs } in r) ≡ opening_picture n
 opening_is n outputs cells evs o c e = λ i. record { end = End.Memory; outputs = o i; cells = c i; deferred = 0; waiting_frames = 0; waiting_credits = 0; frames_out = 1; events = e i }
 
--- tokens that are on their way change sum_of_zeros of what is told of a lane
+-- tokens that are on their way change nothing of what is reported of a lane
 reported_alike : {X : Type 0} (F : Option Holding → X) (ts : List Token) → ((h : Holding) → F (Some (queued h ts)) ≡ F (Some h)) → (lanes : List Holding) (i : ℕ) → F (slice_get (delivered ts lanes) i) ≡ F (slice_get lanes i)
 reported_alike F ts same [] i = refl
 reported_alike F ts same (h ∷ hs) zero = same h
@@ -121,7 +121,7 @@ first_queued : (ts : List Token) (lanes : List Holding) (h : Holding) → slice_
 first_queued ts [] h e = absurd (let no : ⊥ = cc in no)
 first_queued ts (x ∷ xs) h e = let same : x ≡ h = cc in ap (λ (y : Holding). Some (queued y ts)) same
 
--- what is told of lanes is told of them with the tokens that are on their way
+-- what is reported of lanes is reported of them with the tokens that are on their way
 reports_arriving : (g : Setting) (raw : List Holding) (ts : List Token) (r : Report) → ShowsLaneParts g raw r.outputs r.cells r.deferred r.waiting_frames r.waiting_credits r.frames_out
     → (first : Holding) × ShowsLanes g (delivered ts raw) first r
 reports_arriving g raw ts r reported =
@@ -168,7 +168,7 @@ reported_lanes g raw list halt r (inr (has, ends, reported)) =
       ),
     )
 
--- what is told of a machine is told of it with tokens that are on their way
+-- what is reported of a machine is reported of it with tokens that are on their way
 pub reported_arriving : (g : Setting) (raw : List Holding) (ts : List Token) (list : Events) (halt : Halt) (r : Report) → (let s : State = record { setting = g; lanes = raw } in IsReportOf (so_far_with s list) halt r)
     → IsReportOf (so_far_with (arriving g raw ts) list) halt r
 reported_arriving g raw ts list halt r (inl is) = inl is

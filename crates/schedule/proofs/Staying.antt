@@ -1,4 +1,4 @@
--- What stays the same of lanes, and what it says of tokens that come to them.
+-- What stays the same of lanes, and what it says of tokens that arrive there.
 use Rattle.std.proofs.Common.{◌≡◌, refl, sym, ◌∙◌, ap, subst, ℕ, suc, ◌*◌, ◌<◌, List, [], ◌∷◌, ◌++◌, length, map, drop, get_or, Option, Some, arith}
 use Rattle.std.specs.Prelude.{All, sum, slice_get, slice_set}
 use Rattle.std.specs.Option.{option_map}

@@ -40,7 +40,7 @@ filter_whole : {X : Type 0} (p : X → Bool) → ((x : X) → p x ≡ true) → 
 filter_whole p h [] = refl
 filter_whole p h (x ∷ xs) = ap (λ (b : Bool). cond b (x ∷ filter p xs) (filter p xs)) (h x) ∙ ap (λ (ys : List _). x ∷ ys) (filter_whole p h xs)
 
--- WHERE TOKENS COME
+-- WHERE TOKENS GO
 -- it is addressed to one of n elements from the k-th on
 abbrev among : ℕ → ℕ → ℕ → Token → Bool
 among e k n t = nat_le k (element_of e t.to) && nat_lt (element_of e t.to) (k + n)
@@ -105,13 +105,13 @@ tokens_from n k (h ∷ hs) ts all =
 all_among : (n : ℕ) (t : Token) → 0 < n → among n 0 n t ≡ true
 all_among n t some = let low : element_of n t.to < 0 + n = (let l = element_below n t.to some in omega (arith, l)) in and_from _ _ (le-leb 0 (element_of n t.to) (omega arith)) (lt-ltb (element_of n t.to) (0 + n) low)
 
--- each token comes to one lane
+-- each token goes to one lane
 pub tokens_delivered : (n : ℕ) (lanes : List Holding) (ts : List Token) → 0 < n → length lanes ≡ n → AllFrom (IsAt n) 0 lanes → IsPermutation (tokens_in (delivered ts lanes)) (tokens_in lanes ++ ts)
 tokens_delivered n lanes ts some count all =
     let whole : filter (among n 0 (length lanes)) ts ≡ ts = ap (λ (m : ℕ). filter (among n 0 m) ts) count ∙ filter_whole (among n 0 n) (λ (t : Token). all_among n t some) ts in
     subst (λ (l : List Token). IsPermutation (tokens_in (delivered ts lanes)) (tokens_in lanes ++ l)) whole (tokens_from n 0 lanes ts all)
 
--- the tokens of one lane come first, whatever it holds
+-- the tokens of one lane are first, whatever it holds
 pub tokens_set : (lanes : List Holding) (i : ℕ) (h new : Holding) → slice_get lanes i ≡ Some h → IsPermutation (tokens_in (slice_set lanes i new)) (new.queue ++ tokens_in (remove lanes i))
 tokens_set [] i h new e = absurd (let no : ⊥ = cc in no)
 tokens_set (x ∷ xs) zero h new e = IsPermutation-refl (new.queue ++ tokens_in xs)
@@ -156,7 +156,7 @@ delivered_twice ts us (h ∷ hs) =
     let one : queued (queued h ts) us ≡ queued h (ts ++ us) = ap (λ (l : List Token). with_queue h l) (append_assoc h.queue (here h.part.shape ts) (here h.part.shape us) ∙ ap (λ (l : List Token). h.queue ++ l) (sym (filter-append (is_here h.part.shape) ts us))) in
     ap (λ (x : Holding). x ∷ delivered us (delivered ts hs)) one ∙ ap (λ (l : List Holding). queued h (ts ++ us) ∷ l) (delivered_twice ts us hs)
 
--- A token comes to the lane of its element, and to no other.
+-- A token goes to the lane of its element, and to no other.
 pub delivered_one : (n k : ℕ) (lanes : List Holding) (i : ℕ) (t : Token) (h : Holding) → AllFrom (IsAt n) k lanes → element_of n t.to ≡ k + i → slice_get lanes i ≡ Some h
     → delivered (t ∷ []) lanes ≡ slice_set lanes i (with_queue h (h.queue ++ t ∷ []))
 delivered_one n k [] i t h all is e = absurd (let no : ⊥ = cc in no)

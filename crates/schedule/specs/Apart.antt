@@ -7,7 +7,7 @@ use Rattle.schedule.specs.declared.setup.Setup.{Setup}
 use Rattle.schedule.specs.State.{State, setting_in, delivered}
 use Rattle.schedule.specs.Runs.{SoFar}
 
--- the lanes as they stand, with no token on its way
+-- the lanes as they are, with no token on its way
 abbrev pub state_in : {C A L : Type 0} → (C → Program) → (C → ℕ) → Setup C A L → List LaneView → State
 state_in program width s lanes = record { setting = setting_in program width s.shape; lanes = map held_of lanes }
 

@@ -1,4 +1,4 @@
--- What a report tells of lanes.
+-- What a report says of lanes.
 use Rattle.std.specs.Prelude.{◌≡◌, ℕ, zero, suc, ◌%◌, List, [], ◌∷◌, ◌++◌, length, Option, Some, None, slice_get, slice_index_or, sum, replicate, ◌⊎◌, map}
 use Rattle.tags.specs.declared.value.Value.{Value}
 use Rattle.tags.specs.declared.slot.SlotState.{SlotState}
@@ -60,7 +60,7 @@ abbrev pub out_in : Option Managed → ℕ
 out_in None = 0
 out_in (Some m) = out_count m.out
 
--- the report tells what lanes hold, of which this is the first
+-- the report says what lanes hold, of which this is the first
 pub record ShowsLanes (g : Setting) (lanes : List Holding) (first : Holding) (r : Report) : Type 0 where
   pub there : slice_get lanes 0 ≡ Some first
   pub outputs : r.outputs ≡ first.part.outputs
@@ -81,14 +81,14 @@ ShowsLaneParts g lanes outputs cells deferred requests credits out =
 abbrev pub opening_picture : ℕ → Report
 opening_picture outputs = record { end = End.Memory; outputs = replicate outputs None; cells = []; deferred = 0; waiting_frames = 0; waiting_credits = 0; frames_out = 1; events = [] }
 
--- The report has the events and the end, and tells what the lanes hold; where its own lists were refused it is that of the machine
+-- The report has the events and the end, and says what the lanes hold; where its own lists were refused it is that of the machine
 -- before its first event.
 abbrev pub IsReportOf : SoFar → Halt → Report → Type 0
 IsReportOf k halt r =
     (r ≡ opening_picture (outputs_of k.state.setting.program))
     ⊎ ((r.events ≡ k.events) × EndsAs k.state.setting.program r halt × ((first : Holding) × ShowsLanes k.state.setting k.state.lanes first r))
 
--- The report of lanes: it has these events and the end, and tells what they hold; or its own lists were refused.
+-- The report of lanes: it has these events and the end, and says what they hold; or its own lists were refused.
 abbrev pub ReportsLanes : Setting → List Holding → Events → Halt → Report → Type 0
 ReportsLanes g lanes evs halt r =
     (r ≡ opening_picture (outputs_of g.program))

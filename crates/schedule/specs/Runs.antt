@@ -57,7 +57,7 @@ pub record Advances (by_list : Bool) (old : State) (e pick : ℕ) (new : State) 
 abbrev pub EndsAtLast : State → Halt → Type 0
 EndsAtLast s halt = ((tokens_in s.lanes ≡ []) × (halt ≡ Halt.NoToken)) ⊎ (HasToken s × (halt ≡ Halt.Steps))
 
--- what comes of the rest of a run
+-- what the rest of a run has to be
 abbrev pub Then : Option Halt → State → State → Halt → Events → Type 0 → Type 0
 Then None s last halt later rest = rest
 Then (Some why) s last halt later rest = (last ≡ s) × (halt ≡ why) × (later ≡ [])

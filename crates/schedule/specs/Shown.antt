@@ -5,7 +5,7 @@ use Rattle.semantics.specs.Machine.{Machine, Size, at_start}
 use Rattle.semantics.specs.Report.{Report, IsPicture, HasEnd}
 use Rattle.frame_order.specs.InOrder.{OrderedRun}
 
--- The report shows a run in which the free frame of least number goes out, and a frame that comes back goes to the request that has waited longest.
+-- The report shows a run in which the free frame of least number is handed out, and a released frame goes to the request that has waited longest.
 pub record ShowsInOrder (p : Program) (z : Size) (inputs : List ℤ) (steps : ℕ) (by_list may_stop : Bool) (r : Report) : Type 0 where
   pub last : Machine
   pub run : OrderedRun p z (at_start p inputs) r.events last

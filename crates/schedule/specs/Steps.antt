@@ -11,7 +11,7 @@ use Rattle.element.specs.Steps.{Excludes, Clashes}
 use Rattle.schedule.specs.Setting.{size}
 use Rattle.schedule.specs.State.{State, delivered, AreParts}
 
--- The element's lane takes the token that the pick names, and the tokens that it makes for others come to their lanes.
+-- The element's lane takes the token that the pick names, and the tokens that it makes for others go to their lanes.
 -- It is one event of each machine that the lanes are the parts of, and hands out frames in order.
 pub record Does (old : State) (e pick : ℕ) (new : State) (evs : Events) : Type 0 where
   pub lane : Holding
@@ -51,7 +51,7 @@ IsUsedUp s e = (h : Holding) × IsLane s e h × (0 < length h.queue) × (h.made 
 abbrev pub CanStep : State → ℕ → Holding → Type 0
 CanStep s e h = IsLane s e h × (0 < length h.queue) × (h.made < s.setting.steps)
 
--- all stands as before
+-- nothing is changed
 abbrev pub Stays : State → State → Events → Type 0
 Stays old new events = (new ≡ old) × (events ≡ [])
 

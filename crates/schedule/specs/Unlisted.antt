@@ -18,18 +18,18 @@ with_events r evs = record { end = r.end; outputs = r.outputs; cells = r.cells; 
 abbrev pub Quietly : (Report → Type 0) → Report → Type 0
 Quietly ShowsLanes r = (r.events ≡ []) × (events : Events) × ShowsLanes (with_events r events)
 
--- The report lists no events, and there is a run that it shows but for them.
+-- The report lists no events, and there is a run that it shows except for them.
 pub record ShowsQuietly (p : Program) (z : Size) (inputs : List ℤ) (steps : ℕ) (by_list may_stop : Bool) (r : Report) : Type 0 where
   pub unlisted : r.events ≡ []
   pub events : Events
   pub shows : ShowsInOrder p z inputs steps by_list may_stop (with_events r events)
 
--- The report shows a run with these events, or its own lists were refused; and if they are those that were kept, it lists the
+-- The report shows a run with these events, or its own lists were refused; and if they are those that were noted, it lists the
 -- run that it shows.
 abbrev pub ShowsBut : Program → Size → List ℤ → ℕ → Bool → Bool → Events → Events → Report → Type 0
 ShowsBut p z inputs steps by_list may_stop kept evs r = (shown : Events) × ShowsInOrder p z inputs steps by_list may_stop (with_events r shown) × (kept ≡ evs → r.events ≡ shown)
 
--- The report is of this machine, which halted so: it has its events and its end, tells what its lanes hold, and shows the run that led there.
+-- The report is of this machine, which halted so: it has its events and its end, says what its lanes hold, and shows the run that led there.
 pub record ReportsSoFar (k : SoFar) (halt : Halt) (r : Report) : Type 0 where
   pub reported : IsReportOf k halt r
   pub shows : (inputs : List ℤ) (by_list : Bool) → Began inputs k.state k.events → HaltsAs k.state by_list halt → ShowsInOrder k.state.setting.program (size k.state.setting) inputs k.state.setting.steps by_list false r

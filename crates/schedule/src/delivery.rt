@@ -12,7 +12,7 @@ use element::lane::Lane;
 use std::alloc::{AllocError, Allocator};
 use tags::token::Token;
 
-/// Puts a token into the lane of its element. After an error all stands as before.
+/// Puts a token into the lane of its element. After an error nothing is changed.
 pub fn receive<C: Instructions, A: Allocator>(
     lanes: &mut Vec<Lane<'_, C, A>, A>,
     elements: u32,
@@ -32,7 +32,7 @@ pub fn receive<C: Instructions, A: Allocator>(
     lane.receive(token)
 }
 
-// Lets them come one by one.
+// Delivers them one by one.
 fn deliver_all<C: Instructions, A: Allocator>(
     lanes: &mut Vec<Lane<'_, C, A>, A>,
     elements: u32,
@@ -66,8 +66,8 @@ fn deliver_all<C: Instructions, A: Allocator>(
     Ok(())
 }
 
-/// Lets the tokens that are on their way come, from the first that has not come on. After an error the others are still
-/// on their way.
+/// Delivers the tokens that are on their way, from the first that has not arrived on. After an error the others are
+/// still on their way.
 #[inline(always)]
 pub fn deliver<C: Instructions, A: Allocator>(
     lanes: &mut Vec<Lane<'_, C, A>, A>,

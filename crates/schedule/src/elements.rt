@@ -36,12 +36,12 @@ pub struct Elements<'m, C: MainCode, A: Allocator> {
     pub lanes: Vec<Lane<'m, C, A>, A>,
     /// The tokens that the last event made for other elements.
     pub sent: Vec<Token, A>,
-    /// How many of these have come.
+    /// How many of these have arrived.
     pub arrived: usize,
 }
 
 impl<'m, C: MainCode, A: Allocator> Elements<'m, C, A> {
-    /// Lets the tokens that are on their way come.
+    /// Delivers the tokens that are on their way.
     #[inline(always)]
     pub fn settle(&mut self) -> Result<(), AllocError>
         requires { IsWell C.program C.width self.old }
@@ -87,7 +87,7 @@ impl<'m, C: MainCode, A: Allocator> Elements<'m, C, A> {
         Some(Stepped::Memory)
     }
 
-    // Lets the tokens that are on their way come, makes room to note an event, and answers whether there was memory for both.
+    // Delivers the tokens that are on their way, makes room to note an event, and answers whether there was memory for both.
     #[inline(always)]
     fn is_ready<L: Log>(&mut self, log: &mut EventLog<A, L>) -> bool
         requires { IsWell C.program C.width self.old }

@@ -187,7 +187,7 @@ impl<'m, C: MainCode, A: Allocator> Machine<'m, C, A> {
     }
 
     /// Makes one step for each element and pick of the list, in order, and reports. It stops early where no token is left,
-    /// where a token stores in a full cell or is excluded, and for want of memory; an element that has made all its events
+    /// where a token stores in a full cell or is excluded, and for lack of memory; an element that has made all its events
     /// is passed over. The end is `Steps` where the list ends with a token left.
     pub fn run(mut self, picks: &[(u32, u64)]) -> Report<A>
     where
@@ -201,7 +201,7 @@ impl<'m, C: MainCode, A: Allocator> Machine<'m, C, A> {
     }
 
     /// Makes one step after another, each with the oldest token of an element, the elements in turn, and reports. It stops
-    /// where no token is left, where a token stores in a full cell or is excluded, for want of memory, and with the end
+    /// where no token is left, where a token stores in a full cell or is excluded, for lack of memory, and with the end
     /// `Steps` at the first element that has a token and has made all its events.
     pub fn run_one(mut self) -> Report<A>
     where
@@ -245,7 +245,7 @@ impl<'m, C: MainCode, A: Allocator> Machine<'m, C, A> {
 impl<'m, C: MainCode, A: Allocator, L: Log> Machine<'m, C, A, L> {
     /// The element takes the token that `pick`, modulo the number of its tokens, names from the oldest on; `None` where it
     /// has a token and has made all its events. The token is taken out, the others close up, and those that the event
-    /// makes go last, each where it is addressed to. After `Clash`, `Stuck` and `Memory` all stands as before.
+    /// makes go last, each where it is addressed to. After `Clash`, `Stuck` and `Memory` nothing is changed.
     pub fn step(&mut self, element: u32, pick: u64) -> Option<Stepped>
     where
         A: Clone,
@@ -258,7 +258,7 @@ impl<'m, C: MainCode, A: Allocator, L: Log> Machine<'m, C, A, L> {
     }
 
     /// Makes one step for each element and pick of the list, in order, and answers why it makes no more. It stops early
-    /// where no token is left, where a token stores in a full cell or is excluded, and for want of memory; an element that
+    /// where no token is left, where a token stores in a full cell or is excluded, and for lack of memory; an element that
     /// has made all its events is passed over. The answer is `Steps` where the list ends with a token left.
     pub fn play(&mut self, picks: &[(u32, u64)]) -> Halt
     where
@@ -274,7 +274,7 @@ impl<'m, C: MainCode, A: Allocator, L: Log> Machine<'m, C, A, L> {
     }
 
     /// Makes one step after another, each with the oldest token of an element, the elements in turn, and answers why it
-    /// makes no more. It stops where no token is left, where a token stores in a full cell or is excluded, for want of
+    /// makes no more. It stops where no token is left, where a token stores in a full cell or is excluded, for lack of
     /// memory, and at the first element that has a token and has made all its events.
     pub fn play_in_turn(&mut self) -> Halt
     where

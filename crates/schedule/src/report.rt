@@ -1,4 +1,4 @@
-//! What a run tells.
+//! What a run reports.
 
 use arrayvec::ArrayVec;
 use semantics::report::End;
@@ -11,7 +11,7 @@ use tags::value::Value;
 #[derive(Drop)]
 pub struct Report<A: Allocator> {
     pub end: End,
-    /// By port; `None` where no value came.
+    /// By port; `None` where no value arrived.
     pub outputs: ArrayVec<Option<Value>, 16>,
     /// The full cells with their values, ascending by the cell's number over all arrays.
     pub cells: Vec<(u32, Value), A>,

@@ -22,7 +22,7 @@ use element::lane::Lane;
 use std::alloc::Allocator;
 use tags::token::Token;
 
-/// What a machine has beside its lanes.
+/// What a machine has besides its lanes.
 #[derive(Drop)]
 pub struct Setup<'m, C: MainCode, A: Allocator, L: Log> {
     pub shape: Shape<'m, C>,
@@ -36,8 +36,8 @@ pub struct Setup<'m, C: MainCode, A: Allocator, L: Log> {
 pub type Apart<'m, C, A, L> = (Setup<'m, C, A, L>, Vec<Lane<'m, C, A>, A>);
 
 impl<'m, C: MainCode, A: Allocator, L: Log> Setup<'m, C, A, L> {
-    /// What all lanes hold as they stand, with the events and the end of a run that halted so, whatever tokens are on their
-    /// way; of a run whose events were not kept it shows all but these. Where its own lists are refused it is the report of the machine before its first event, with the end `Memory`.
+    /// What all lanes hold, with the events and the end of a run that halted so, whatever tokens are on their way; of a run whose events were not noted it
+    /// shows all but these. Where its own lists are refused it is the report of the machine before its first event, with the end `Memory`.
     pub fn report(self, lanes: Vec<Lane<'m, C, A>, A>, halt: Halt) -> Report<A>
     where
         A: Clone,

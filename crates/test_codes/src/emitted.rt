@@ -84,7 +84,7 @@ fn slots_of<A: Allocator + Clone>(alloc: A, slots: &[u16]) -> Result<Slots<A>, A
     Ok(Slots::of(lists))
 }
 
-/// The slot and the destinations of an instruction, and whether its origin is reported.
+/// The slot and the destinations of an instruction, and whether its origin is given.
 #[derive(Clone, Copy, PartialEq, Eq)]
 struct Shape {
     slot: u32,
@@ -138,7 +138,7 @@ fn emitted_shapes<A: Allocator + Clone>(
     Ok(shapes_of(alloc, &code)?)
 }
 
-/// A divider tells its origin, but not in the first version.
+/// A divider gives its origin, but not in the first version.
 #[test]
 fn an_adder_and_dividers(rt: HostRuntime) -> Result<(), Fail> {
     let add = Op::Apply2 { op: Binary::Add };
@@ -209,7 +209,7 @@ fn a_block_goes_so_far(rt: HostRuntime) -> Result<(), Fail> {
     Ok(())
 }
 
-/// How far a plan came on its way to code.
+/// How far a plan got on its way to code.
 #[derive(Clone, Copy, PartialEq, Eq)]
 enum Stage {
     NoPlan,

@@ -1,8 +1,8 @@
-//! Refuses each growth in turn, under the whole program. For each command line and its input, growth number N is refused, for N
-//! from 1 until the run has fewer than N growths. Until then each answer is `refused: memory`, or tells of a run with the end
-//! `Memory`, and of no value or event which the whole run does not have. The last answer, with all growths granted, is the text
-//! that it should be. Prints how the refusals were told and, where figures are asked for, also how often. Then prints `agree`, or the
-//! first answer that differs.
+//! Refuses each growth in turn, under the whole program. For each command line and its input, growth number N is refused, for N from
+//! 1 until the run has fewer than N growths. Until then each answer is `refused: memory`, or reports a run with the end `Memory`, and
+//! no value or event which the whole run does not have. The last answer, with all growths granted, is the text that it should be.
+//! Prints how the refusals were reported and, where figures are asked for, also how often. Then prints `agree`, or the first answer
+//! that differs.
 
 mod rows;
 mod trials;

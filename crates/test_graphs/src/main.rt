@@ -1,8 +1,8 @@
-//! Runs random graphs in random orders of steps, and compares each run with the graph's meaning. First come graphs with calls
-//! and arrays, with just enough frames; then graphs of all kinds, with few frames and small bounds. The words of the command
-//! line may say how many graphs there are of each part; after `--seed`, which graphs; and after `--free`, how often free
-//! elements run each. Prints how many graphs and runs there were of each kind, or the first graph whose run differs, with
-//! status 1.
+//! Runs random graphs in random orders of steps, and compares each run with the graph's meaning. The first are graphs with
+//! calls and arrays, with just enough frames; then there are graphs of all kinds, with few frames and small bounds. The words
+//! of the command line may say how many graphs there are of each part; after `--seed`, which graphs; and after `--free`, how
+//! often free elements run each. Prints how many graphs and runs there were of each kind, or the first graph whose run
+//! differs, with status 1.
 #![tactic(auto)]
 
 mod tally;

@@ -1,4 +1,4 @@
-//! Whether what a run tells agrees with the graph's meaning.
+//! Whether what a run reports agrees with the graph's meaning.
 
 use driver::fault::Fault;
 use oracle::{MeanEnd, MeanReport};
@@ -13,11 +13,11 @@ use test_inputs::random_graphs::graphs::Graph;
 pub enum Verdict {
     /// The run came to rest with all that the meaning has, and nothing else.
     Rested,
-    /// A request waits at the end. All that the run has, the meaning has too.
+    /// A request waits at the end. The meaning has all that the run has.
     Starved,
     /// A store met a full cell, as one does in the meaning. Which one it is may depend on the order: whether it is the meaning's.
     Clashed { is_meant: bool },
-    /// The list of picks, or the limit of steps, was too short. All that the run has, the meaning has too.
+    /// The list of picks, or the limit of steps, was too short. The meaning has all that the run has.
     CutOff,
     Differs,
 }

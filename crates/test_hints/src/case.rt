@@ -10,7 +10,7 @@ use std::sync::Wait;
 use std::thread::Threads;
 use test_inputs::pieces::{append, append_repeated, append_word};
 
-/// A case, as far as its lines have been read.
+/// A case, up to the line that was read last.
 #[derive(Drop)]
 pub struct Case {
     alloc: Global,
@@ -19,7 +19,7 @@ pub struct Case {
     input: Vec<u8>,
     /// The bytes that the table gives in place of what the program writes.
     output: Vec<u8>,
-    /// What came of it, as the table gives that. It is empty where the program is run.
+    /// The outcome, as the table gives it. It is empty where the program is run.
     outcome: Vec<u8>,
 }
 
@@ -32,7 +32,7 @@ fn words_of(alloc: Global, line: &[u8]) -> Result<Vec<&str>, AllocError> {
     Ok(words)
 }
 
-/// The line of an output that tells what happened: the first line of a refusal or of a mistake, else the last line, of a
+/// The line of an output that says what happened: the first line of a refusal or of a mistake, else the last line, of a
 /// report.
 fn telling_line(output: &[u8]) -> &[u8] {
     let output = output.strip_suffix(b"\n".as_slice()).unwrap_or(output);
@@ -91,14 +91,14 @@ impl Case {
         Ok(())
     }
 
-    /// Writes the line of the output that tells what happened, and what explains it.
+    /// Writes the line of the output that says what happened, and what explains it.
     fn show<W: Write>(&self, output: &[u8], hint: &[u8], out: &mut W) -> io::Result<()> {
         out.write_all(telling_line(output))?;
         out.write_all(b"\n")?;
         out.write_all(if hint.is_empty() { b"no hint\n" } else { hint })
     }
 
-    /// Explains what came of it, as the table gives that, and writes what was told of it.
+    /// Explains the outcome, as the table gives it, and writes the explanation.
     fn explain_given<W: Write>(&self, words: &[&str], out: &mut W) -> io::Result<()> {
         let input = Some(self.input.as_slice());
         let outcome = outcome_of(str::from_utf8(&self.outcome).unwrap_or("?"));
@@ -109,7 +109,7 @@ impl Case {
         self.show(&self.output, &hint, out)
     }
 
-    /// Runs a command line, and writes what was told of it. Gives the exit status, if it was run.
+    /// Runs a command line, and writes what was reported. Gives the exit status, if it was run.
     fn write_out<R: Threads + Wait + Sync, W: Write>(
         &self,
         rt: &R,
@@ -129,8 +129,8 @@ impl Case {
         Ok(Some(ended.status))
     }
 
-    /// Runs each command line of the case, and writes what was told: once for all that follow one another and are told the
-    /// same.
+    /// Runs each command line of the case, and writes what was reported: once for all that follow one another and have the
+    /// same report.
     pub fn try_out<R: Threads + Wait + Sync, W: Write>(
         &self,
         rt: &R,

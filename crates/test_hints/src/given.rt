@@ -1,4 +1,4 @@
-//! What came of a command, as the table gives it.
+//! The outcome of a command, as the table gives it.
 
 use assembler::{AsmFault, AsmFaultKind};
 use outcomes::{Ending, Outcome, Refusal};
@@ -34,7 +34,7 @@ fn refusal_of(part: &str, place: u64) -> Refusal {
     }
 }
 
-/// What came of a command, as these words tell it. `None` where a write failed.
+/// The outcome of a command, as these words give it. `None` where a write failed.
 pub fn outcome_of(words: &str) -> Option<Outcome> {
     let mut words = words.split(' ');
     let outcome = match words.next()? {

@@ -1,4 +1,4 @@
--- `admits` at a call: what it is handed, and what a caller has of it. Assumes `Logic`.
+-- `admits` at a call: what it is given, and what a caller has of it. Assumes `Logic`.
 use Rattle.std.proofs.Common.{ℕ, List, [], ◌∷◌, refl}
 use seplogic.Ra.Ura.{Ura}
 use mir.Val.{Val, vptr}

@@ -1,4 +1,4 @@
-//! Graphs that tests of several crates run. Each text stands here once, without inputs after it.
+//! Graphs that tests of several crates run. Each text is here once, without inputs after it.
 
 use crate::pieces::changed;
 use std::alloc::{AllocError, Global};
@@ -62,7 +62,7 @@ end
 main fact
 ";
 
-/// A call that gives its first result before its second argument comes, which waits for that result.
+/// A call that gives its first result before its second argument arrives, which waits for that result.
 pub const EARLY_RESULT: &[u8] = b"etsgraph 1
 array A 1
 block g 2 1
@@ -201,7 +201,7 @@ pub fn with_inputs(alloc: Global, text: &[u8], lines: &[u8]) -> Result<Vec<u8>, 
     Ok(input)
 }
 
-/// The graph, in whose text `new` stands in the place of `old`.
+/// The graph, in whose text `new` takes the place of `old`.
 pub fn with_change(
     alloc: Global,
     text: &[u8],

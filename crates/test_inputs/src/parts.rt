@@ -24,7 +24,7 @@ fn words_behind<'a>(words: &'a [String], place: usize, names: &[&str]) -> &'a [S
     behind.get(..end).unwrap_or(behind)
 }
 
-/// The parts that the words of a command line name, in their order. What stands before the first name is left out.
+/// The parts that the words of a command line name, in their order. What is before the first name is left out.
 pub fn named_parts<'a>(
     alloc: Global,
     words: &'a [String],

@@ -66,7 +66,7 @@ pub fn append_repeated(text: &mut Vec<u8>, line: &[u8]) -> Result<(), AllocError
     Ok(())
 }
 
-/// What stands before the first place where these bytes stand in the text, and what stands after it.
+/// What is before the first occurrence of these bytes in the text, and what is after it.
 fn split_around<'a>(text: &'a [u8], bytes: &[u8]) -> Option<(&'a [u8], &'a [u8])> {
     let place = text
         .windows(bytes.len().max(1))
@@ -75,7 +75,7 @@ fn split_around<'a>(text: &'a [u8], bytes: &[u8]) -> Option<(&'a [u8], &'a [u8])
     Some((front, rest.strip_prefix(bytes)?))
 }
 
-/// The text with a piece in the first place where these bytes stand; `None` where they do not stand in it.
+/// The text with a piece in place of the first occurrence of these bytes; `None` where they do not occur in it.
 pub fn changed(
     alloc: Global,
     text: &[u8],

@@ -18,7 +18,7 @@ const FRAMES: u64 = 32;
 /// More growths than any of the runs has.
 const ENOUGH: u64 = 10_000;
 
-/// What it tells to lower a program and to run its graph, where both take their memory from there.
+/// The verdict on lowering a program and running its graph, where both take their memory from there.
 fn rationed_run<R: Threads + Wait + Sync>(
     rt: &R,
     alloc: Global,
@@ -40,7 +40,7 @@ fn rationed_run<R: Threads + Wait + Sync>(
     }
 }
 
-/// Refuses each growth of a run in turn, until none is. Says how many there were, where each refusal is told and the last run is whole.
+/// Refuses each growth of a run in turn, until none is. Says how many there were, where each refusal is reported and the last run is whole.
 pub fn refuse_each<R: Threads + Wait + Sync>(
     rt: &R,
     alloc: Global,

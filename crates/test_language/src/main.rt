@@ -1,8 +1,8 @@
 //! Runs random programs of the source language, and compares each run with what an evaluator of its own finds that the program means: in
-//! turn, in rounds, free and in random orders, on 1 to 16 elements. Then come other programs with a change in each text: a text is refused at
-//! a place that does not stand before the change, or it is run and compared, too. Of small programs each growth is refused, from the
-//! text to the report. The words of the command line may say how many texts there are of each part, and a seed.
-//! Prints what there was of each kind, or the first text that differs, with status 1.
+//! turn, in rounds, free and in random orders, on 1 to 16 elements. Then there are other programs with a change in each text: a text is
+//! refused at a place that is not before the change, or it is run and compared, too. Of small programs each growth is refused, from the text
+//! to the report. The words of the command line may say how many texts there are of each part, and a seed. Prints what there was of each
+//! kind, or the first text that differs, with status 1.
 #![tactic(auto)]
 
 mod growths;

@@ -1,4 +1,4 @@
-//! The runs of a program's graph, and whether they tell what the program means.
+//! The runs of a program's graph, and whether they report what the program means.
 
 ghost use Rattle.std.specs.Prelude.{◌≡◌, ◌<◌, All};
 
@@ -31,13 +31,13 @@ pub struct Subject<'a> {
 pub enum Verdict {
     /// The run came to rest with all that the program means, and nothing else, and as many readers wait.
     Rested,
-    /// A request waits at the end. All that the run has, the program means.
+    /// A request waits at the end. The program means all that the run has.
     Starved,
     /// A store met a full cell, and the program stores to a cell twice.
     Clashed,
-    /// The run was too long. All that it has, the program means.
+    /// The run was too long. The program means all that it has.
     CutOff,
-    /// A growth was refused. All that the run has, the program means.
+    /// A growth was refused. The program means all that the run has.
     OutOfMemory,
     Differs,
 }
@@ -196,7 +196,7 @@ fn run_at_random(
     Ok((run_listed(alloc, subject, elements, &picks), elements))
 }
 
-/// The first way in which a run of the program does not tell what it means, on some numbers of elements and in a random order. Free
+/// The first way in which a run of the program does not report what it means, on some numbers of elements and in a random order. Free
 /// elements run it where that is asked for.
 pub fn first_other<R: Threads + Wait + Sync>(
     rt: &R,

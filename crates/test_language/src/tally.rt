@@ -1,4 +1,4 @@
-//! How often things occur, by their names.
+//! How often something occurs, by name.
 
 use operators::{Binary, Unary};
 use source::fault::FaultKind;
@@ -8,14 +8,14 @@ use std::io::{self, Write};
 use tags::value::Value;
 use test_random_programs::evaluation::{Meaning, MeantEnd};
 
-/// A thing, and how often it occurred.
+/// A name, and how often it occurred.
 #[derive(Clone, Copy)]
 struct Count {
     name: &'static str,
     count: u64,
 }
 
-/// How often each of some things occurred, in the order in which each occurred first.
+/// How often each name occurred, in the order in which each occurred first.
 #[derive(Drop)]
 pub struct Counts {
     counts: Vec<Count>,
@@ -54,7 +54,7 @@ impl Counts {
 /// What is counted of texts, their programs, and the runs of these.
 #[derive(Drop)]
 pub struct Tally {
-    /// What becomes of texts.
+    /// The outcomes of texts.
     texts: Counts,
     refusals: Counts,
     forms: Counts,

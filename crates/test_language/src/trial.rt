@@ -40,7 +40,7 @@ pub enum Wrong {
     /// It is refused, or refused before its change.
     Refused(ProgramFault),
     Run(Way),
-    /// It tells something else where a growth is refused.
+    /// It reports something else where a growth is refused.
     Growth,
 }
 
@@ -61,7 +61,7 @@ pub struct Lowered {
     pub meaning: Meaning,
 }
 
-/// What becomes of a text.
+/// The outcome of a text.
 #[derive(Drop)]
 pub enum Reading {
     Refused(ProgramFault),

@@ -1,4 +1,4 @@
-//! The banks that a store hands out, apart from one another.
+//! The banks that a store lends, separate from one another.
 
 ghost use Rattle.std.specs.Prelude.{◌≡◌, ◌<◌, length, slice_set};
 ghost use Rattle.frame_store.specs.BankViews.{bank_states, IsBank, place_in};
@@ -140,7 +140,7 @@ pub fn on_last_bank<A: Allocator>(
             write!(answer, "{frames} {width}").ok()
         }
         "at" => push_lent(bank, words.place()?, answer),
-        // The bank goes into a frame first, and comes back.
+        // The bank is turned into a frame first, and then back.
         "again" => {
             let bank = bank.frame(words.place()?).bank();
             on_slot(bank, words.word(), words, answer)

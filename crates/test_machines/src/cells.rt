@@ -48,7 +48,7 @@ fn push_stored(answer: &mut String, stored: StoreAnswer) -> Result<(), AllocErro
     })
 }
 
-/// Writes continuations, parted by commas.
+/// Writes continuations, separated by commas.
 fn push_conts(answer: &mut String, conts: &[Cont]) -> Result<(), AllocError> {
     for cont in conts {
         if !answer.is_empty() {

@@ -1,4 +1,4 @@
-//! What instructions make of the words that come.
+//! What instructions make of the words that arrive.
 
 ghost use Rattle.std.specs.Prelude.{◌≡◌, true, [], ◌∷◌};
 ghost use Rattle.element.specs.Fired.{HasRoom, HasRoomInWord, HasRoomInSlot};
@@ -14,7 +14,7 @@ use std::alloc::AllocError;
 use tags::slot::SlotState;
 use tags::token::{Cont, Port, To, Token, Word};
 
-/// Where the instructions stand.
+/// Where the instructions are.
 const SEAT: Point = Point { frame: 2, ip: 1 };
 
 // An instruction without a program: what it makes goes to the next one's left port and to the second next one's.
@@ -70,7 +70,7 @@ fn slot_has_room(slot: SlotState) -> bool
     }
 }
 
-/// What comes of a word at an instruction, and what it makes. `None` where a number is too great.
+/// The outcome of a word at an instruction, and what it makes. `None` where a number is too great.
 fn fired(op: Op, slot: &SlotState, port: Port, word: &Word) -> Option<(Outcome, Made)> {
     let held = *slot;
     let came = *word;
@@ -98,7 +98,7 @@ fn push_made(answer: &mut String, to: To, word: Word) -> Result<(), AllocError> 
     push_token(answer, Token { to, word })
 }
 
-/// Writes the token to the destination that a half word tells, if it tells one.
+/// Writes the token to the destination that a half word gives, if it gives one.
 fn push_sent(answer: &mut String, half: u32, word: Word) -> Result<(), AllocError> {
     let Some(dest) = dest_in(half) else {
         return Ok(());
@@ -123,7 +123,7 @@ fn push_tokens(answer: &mut String, made: &Made) -> Result<(), AllocError> {
     push_sent(answer, made.second, made.word)
 }
 
-/// An operation, the state of its slot, and the port and the word of the token that comes.
+/// An operation, the state of its slot, and the port and the word of the token that arrives.
 fn push_fired(words: &mut Words<'_>, answer: &mut String) -> Option<()> {
     let op = operation_of(&mut words.piece())?;
     let Some(slot) = words.piece().state() else {
@@ -145,7 +145,7 @@ fn push_fired(words: &mut Words<'_>, answer: &mut String) -> Option<()> {
     }
 }
 
-/// Writes the destination that a half word tells.
+/// Writes the destination that a half word gives.
 pub fn push_dest(answer: &mut String, half: u32) -> Result<(), AllocError> {
     match dest_in(half) {
         Some(dest) => {

@@ -45,7 +45,7 @@ fn push_is(answer: &mut String, held: Option<Op>, op: Op) -> Result<(), AllocErr
     })
 }
 
-/// Writes the destinations of an instruction, and the half words that tell them.
+/// Writes the destinations of an instruction, and the half words that give them.
 fn push_destinations(answer: &mut String, instr: Option<Instruction>) -> Result<(), AllocError> {
     let Some(instr) = instr else {
         return answer.push_str("none");

@@ -1,5 +1,5 @@
-//! Plays scripts of calls of the machine and of its parts, and compares the answers with those that stand in the scripts. The words of
-//! this program's command line name files of scripts, which lie in `data`. Empty lines part a script into sections:
+//! Plays scripts of calls of the machine and of its parts, and compares the answers with those in the scripts. The words of this program's
+//! command line name files of scripts, which lie in `data`. Empty lines separate the sections of a script:
 //!
 //! ```text
 //! # the frame manager of two frames
@@ -9,11 +9,11 @@
 //! release 1 -> frame 1 for host 2
 //! ```
 //!
-//! - A line is an operation, and after ` -> ` the answer that should come. Without it the operation should say nothing.
+//! - A line is an operation, and after ` -> ` the expected answer. Without it the operation should say nothing.
 //! - The first line makes what the section is about: a `queue`, `slots`, `frames N`, `cells N ELEMENT ELEMENTS`, an `object NAME`, the
 //!   `order ELEMENTS` of blocks, a `run NAME ELEMENTS FRAMES STEPS INPUT ..`, or `refusals NAME ELEMENTS FRAMES INPUT EVENTS` of memory to a
-//!   run. In `packing` and `instructions` each line stands for itself, and `threads` is alone. What the other lines may be stands in the
-//!   module of the part, at `act`.
+//!   run. In `packing` and `instructions` each line is independent of the others, and `threads` is alone. What the other lines may be is
+//!   said in the module of the part, at `act`.
 //! - `refuse FIRST LAST` before the first line has the section played once for each number from FIRST to LAST, on memory that refuses the
 //!   growth of this number. FIRST is not above LAST.
 //! - `quietly` before an operation, but the first, has `, and took memory` after the answer if the part asked for a growth.
@@ -22,8 +22,8 @@
 //! - A slot is `empty`, `left WORD`, `right WORD`, `credits N`, `waiter CONTINUATION` or `draining N`.
 //! - `# WORDS` is a heading.
 //!
-//! Each answer that differs is told, with its place, and then the exit status is 1. At the end stands how many answers came as told; the
-//! answer of a line that is played several times counts each time.
+//! Each answer that differs is reported, with its place, and then the exit status is 1. At the end the program prints how many answers were
+//! as expected; the answer of a line that is played several times counts each time.
 #![tactic(auto)]
 
 mod banks;

@@ -50,7 +50,7 @@ fn token(frame: u32, number: i64) -> Token {
     }
 }
 
-/// Puts the token after the others that a word tells by a frame and a number with a dot between them.
+/// Puts the token after the others that a word gives by a frame and a number with a dot between them.
 fn put_token<A: Allocator>(tokens: &mut Vec<Token, A>, word: &str) -> Option<()> {
     let (frame, number) = word.split_once('.')?;
     let frame = frame.parse().ok()?;
@@ -58,7 +58,7 @@ fn put_token<A: Allocator>(tokens: &mut Vec<Token, A>, word: &str) -> Option<()>
     tokens.push(token(frame, number)).ok()
 }
 
-/// The tokens that these words tell.
+/// The tokens that these words give.
 fn tokens_of(alloc: Global, words: Words<'_>) -> Option<Vec<Token>> {
     let mut tokens = Vec::new(alloc);
     if words.is_over() {
@@ -70,7 +70,7 @@ fn tokens_of(alloc: Global, words: Words<'_>) -> Option<Vec<Token>> {
     Some(tokens)
 }
 
-/// The block that these words tell: its element, how many tokens it spent, those that it took, and those that it made.
+/// The block that these words give: its element, how many tokens it spent, those that it took, and those that it made.
 fn block_of(alloc: Global, words: &mut Words<'_>) -> Option<Block> {
     let mut counts = words.piece();
     Some(Block {

@@ -54,7 +54,7 @@ pub struct RefusingPart {
 }
 
 impl RefusingPart {
-    /// The run that these words tell: an object, its elements, frames and input, and how many events it has.
+    /// The run that these words give: an object, its elements, frames and input, and how many events it has.
     pub fn new(alloc: Global, words: &mut Words<'_>) -> Option<RefusingPart> {
         let object = object_named(words.word())?;
         let elements = words.number()?;

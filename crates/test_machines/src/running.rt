@@ -46,7 +46,7 @@ impl<'m, 'h> RunPart<'m, 'h> {
     }
 }
 
-/// The element and the number of its token that a word tells, with a dot between them.
+/// The element and the number of its token that a word gives, with a dot between them.
 fn pick_of(word: &str, elements: u32) -> Option<(u32, u64)>
     ensures { IfSome result (λ pick. pick.0 < elements) }
 {
@@ -58,7 +58,7 @@ fn pick_of(word: &str, elements: u32) -> Option<(u32, u64)>
     Some((element, pick.parse().ok()?))
 }
 
-/// The picks that these words tell.
+/// The picks that these words give.
 fn picks_in(alloc: Global, words: &Words<'_>, elements: u32) -> Option<Vec<(u32, u64)>>
     ensures { IfSome result (λ picks. All (λ pick. pick.0 < elements) picks.items) }
 {
@@ -94,7 +94,7 @@ fn picks_of(alloc: Global, elements: u32, order: u64) -> Result<Vec<(u32, u64)>,
     Ok(picks)
 }
 
-/// Makes the step that the words tell.
+/// Makes the step that the words give.
 fn step<'m, 'h>(
     running: Running<'m, 'h>,
     words: &mut Words<'_>,
@@ -114,7 +114,7 @@ fn step<'m, 'h>(
     Some(Running { machine, elements })
 }
 
-/// Plays the picks that the words tell.
+/// Plays the picks that the words give.
 fn play<'m, 'h>(
     running: Running<'m, 'h>,
     words: &Words<'_>,
@@ -171,7 +171,7 @@ fn go_on_quietly(running: Running<'_, '_>, answer: &mut String) -> Option<()> {
     push_report(answer, &quiet.report(halt)).ok()
 }
 
-/// Takes a machine apart that halted as the word says, tells what it has, and reports.
+/// Takes apart a machine that halted as the word says, writes what it has, and reports.
 fn take_apart(running: Running<'_, '_>, halt: &str, answer: &mut String) -> Option<()> {
     let Running { machine, .. } = running;
     let Ok((setup, lanes)) = machine.into_lanes() else {

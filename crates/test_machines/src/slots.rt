@@ -243,7 +243,7 @@ fn push_slot<A: Allocator>(
     push_state(answer, state)
 }
 
-/// Writes what all slots hold, parted by commas.
+/// Writes what all slots hold, separated by commas.
 pub fn push_slots<A: Allocator>(
     store: &mut Store<A>,
     answer: &mut String,

@@ -1,9 +1,9 @@
-//! How many answers came, and which of them differ from those that are reported.
+//! How many answers there were, and which of them differ from the expected ones.
 
 use std::alloc::{AllocError, Global};
 use std::fmt;
 
-/// A line of a script: an operation, and the answer that should come.
+/// A line of a script: an operation, and the expected answer.
 #[derive(Clone, Copy)]
 pub struct Line<'a> {
     pub file: &'a str,
@@ -46,7 +46,7 @@ impl Tally {
         }
     }
 
-    /// Counts an answer, and notes it where it is another than the line tells.
+    /// Counts an answer, and notes it where it is not the one that the line expects.
     pub fn take(&mut self, line: &Line<'_>, came: &str) -> Result<(), AllocError> {
         self.answers = self.answers.wrapping_add(1);
         if came == line.answer {

@@ -5,7 +5,7 @@ use tags::slot::SlotState;
 use tags::token::{Cont, Port, Word};
 use tags::value::{FaultKind, NodeNumber, Origin, Value};
 
-/// What is left of a line. Its words are parted by single spaces.
+/// What is left of a line. Its words are separated by single spaces.
 #[derive(Clone, Copy)]
 pub struct Words<'a> {
     rest: &'a str,

@@ -1,4 +1,4 @@
--- What a seat holds when it hands tokens on.
+-- What a seat holds when it passes tokens on.
 use Rattle.std.proofs.Common.{◌≡◌, ℕ, ◌+◌, List, [], ◌∷◌, ◌++◌, ap, sym, subst, append_assoc, arith}
 use Rattle.std.proofs.lemmas.List.{append-nil}
 use Rattle.std.specs.List.Sorted.{IsPermutation}
@@ -27,7 +27,7 @@ has_first held b kept h = (kept ++ h.0, subst (λ (z : Ts). IsPermutation held z
 pub has_last : (held b kept : Ts) → Has held (b ++ kept) → Has held kept
 has_last held b kept h = (b ++ h.0, IsPermutation-trans _ _ _ h.1 (subst (λ (z : Ts). IsPermutation ((b ++ kept) ++ h.0) z) (append_assoc kept b h.0) (IsPermutation-append_left h.0 (b ++ kept) (kept ++ b) (IsPermutation-append_comm b kept))))
 
--- the tokens that were taken come first
+-- the tokens that were taken are first
 pub has_more : (held b kept : Ts) → Has held kept → Has (b ++ held) (b ++ kept)
 has_more held b kept h = (h.0, subst (λ (z : Ts). IsPermutation (b ++ held) z) (sym (append_assoc b kept h.0)) (IsPermutation-append_right b held (kept ++ h.0) h.1))
 

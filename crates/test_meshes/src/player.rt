@@ -1,4 +1,4 @@
-//! One element of a ring: it hands each token on to the next element, until the token has been all round.
+//! One element of a ring: it passes each token on to the next element, until the token has been all round.
 ghost use Rattle.std.specs.Prelude.{◌≡◌, ◌<◌, ◌≤◌, ◌+◌, ◌^◌, ◌++◌, [], length, IfSome, IfOk, OnOk, filter, ◌==◌};
 ghost use Rattle.tags.specs.Addresses.{element_of};
 ghost use Rattle.mesh.specs.Seats.{AllTo, Has, fresh_seat};
@@ -12,7 +12,7 @@ use tags::token::{Port, To, Token, Word};
 
 const MOST: u64 = 1 << 40;
 
-/// The tokens that came home. Their numbers should be those from `first` on, each once, in order.
+/// The tokens that came back to their first element. Their numbers should be those from `first` on, each once, in order.
 #[derive(Clone, Copy, Drop)]
 pub struct Tally {
     pub first: u32,
@@ -93,7 +93,7 @@ fn forward(
     Ok(made)
 }
 
-/// Commits a bundle that the player has in hand, and keeps what it made of it.
+/// Commits a bundle that the player was given, and stores what it made of it.
 fn pass_on(
     alloc: Global,
     mesh: &Mesh<Global>,
@@ -158,7 +158,7 @@ fn call_stop(mesh: &Mesh<Global>, p: &mut Player, reason: u64)
 }
 
 impl Player {
-    /// A player with a fresh seat. It has handed on those start tokens that are its own.
+    /// A player with a fresh seat. It has passed on those start tokens that are its own.
     pub fn new(
         alloc: Global,
         mesh: &Mesh<Global>,

@@ -114,7 +114,7 @@ mod tests {
     use super::*;
     use std::test::Fail;
 
-    // Each passes 100,000 tokens round: all tokens come to all elements.
+    // Each element passes 100,000 tokens round: all tokens go to all elements.
     #[test]
     fn tokens_go_round_two_four_and_sixteen_seats(rt: HostRuntime) -> Result<(), Fail> {
         let alloc = rt.alloc();

@@ -30,7 +30,7 @@ fn token(frame: u32, number: u32) -> Token
     }
 }
 
-/// Element 0 spends t to make u and v, and posts u. Then the box is full, so v comes back.
+/// Element 0 spends t to make u and v, and posts u. Then the box is full, so v is returned.
 fn spend_and_post<'h>(
     rt: &impl Abort,
     heap: Heap<'h>,

@@ -4,7 +4,7 @@ use Rattle.object_view.specs.declared.fault.ObjectFault.{ObjectFault}
 use Rattle.test_object_changes.specs.declared.outcome.Outcome.{Outcome}
 use Rattle.test_object_changes.specs.declared.outcome.Outcome.TheVariants.{Refused, Same}
 
--- An object comes back the same, and all other bytes are refused.
+-- An object is written again to the same bytes, and all other bytes are refused.
 abbrev pub outcome : Option ObjectFault → Outcome
 outcome None = Same
 outcome (Some fault) = Refused fault

@@ -57,7 +57,7 @@ fn fault_name(fault: ObjectFault) -> &'static str {
     }
 }
 
-/// Opens the bytes, takes the object apart, and writes its code again. Every object comes back the same.
+/// Opens the bytes, takes the object apart, and writes its code again. Every object is written to the same bytes again.
 pub fn outcome_of<A: Allocator + Clone>(alloc: A, bytes: &[u8]) -> io::Result<Outcome>
     ensures { IfOk result (λ o. o ≡ outcome (first_refusal bytes.now)) }
 {

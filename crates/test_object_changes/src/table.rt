@@ -43,7 +43,7 @@ fn without_comment(line: &[u8]) -> &[u8] {
     }
 }
 
-/// Overwrites the bytes from `place` on, as far as there are any.
+/// Overwrites the bytes from `place` on, where there are any.
 fn overwrite(object: &mut [u8], place: usize, bytes: &[u8]) {
     if let Some(rest) = object.get_mut(place..) {
         for (old, new) in rest.iter_mut().zip(bytes) {
@@ -52,7 +52,7 @@ fn overwrite(object: &mut [u8], place: usize, bytes: &[u8]) {
     }
 }
 
-/// The base, the object at hand, the answer that is wanted for it, and how many objects came before.
+/// The base, the current object, the answer that is expected for it, and how many objects there were before.
 #[derive(Drop)]
 pub struct Table<W: Write + Drop> {
     alloc: Global,
@@ -130,7 +130,7 @@ impl<W: Write + Drop> Table<W> {
         Ok(())
     }
 
-    /// Makes the object at hand the base, and reports what becomes of its changes.
+    /// Makes the current object the base, and reports what becomes of its changes.
     fn set_base(&mut self) -> io::Result<()> {
         self.base.clear();
         self.base.extend_from_slice(&self.object)?;
@@ -141,7 +141,7 @@ impl<W: Write + Drop> Table<W> {
         Ok(())
     }
 
-    /// Says whether the outcome of the object at hand, if there is one, is the wanted one, and else what it is.
+    /// Says whether the outcome of the current object, if there is one, is the expected one, and else what it is.
     fn judge(&mut self) -> io::Result<()> {
         if self.number == 0 {
             return Ok(());

@@ -1,7 +1,7 @@
-//! Checks, for each example, that runs of its code have exactly the outputs, the cells and the end of its meaning. The runs are
-//! on 1, 2, 3 and 16 elements: one event after another, in rounds, and free. A run that starves has no output and no cell that its meaning does not have. A run that says something else than the first
-//! one gets a line of its own. So does an example whose object does not come back from its listing, or runs in another way than its
-//! graph, or whose random orders differ.
+//! Checks, for each example, that runs of its code have exactly the outputs, the cells and the end of its meaning. The runs are on 1, 2, 3 and 16 elements: one
+//! event after another, in rounds, and free. A run that starves has no output and no cell that its meaning does not have. A run that says something else than
+//! the first one gets a line of its own. So does an example whose object is not obtained again from its listing, or runs in another way than its graph, or
+//! whose random orders differ.
 
 mod tools;
 
@@ -103,7 +103,7 @@ fn is_within(line: &[u8], meaning: &[u8]) -> bool {
             .any(|wanted| wanted == line)
 }
 
-/// Whether a run starves rightly: a request waits, and the meaning has all outputs and cells that the run has.
+/// Whether a run is right to starve: a request waits, and the meaning has all outputs and cells that the run has.
 fn starves_within(report: &[u8], lines: &[u8], meaning: &[u8]) -> bool {
     count_of(report, b"waiting 0 0") == 0
         && count_of(lines, b"output ") == count_of(meaning, b"output ")

@@ -1,7 +1,7 @@
-//! Runs objects that no compiler wrote. First come some that end in the same way in every order, with few elements and frames
-//! and with many. Then come others: half of them are objects of the compiler with one word changed, a quarter are objects with
-//! some instructions changed at random, and a quarter are well-formed objects of random instructions. Each is refused, or else
-//! every run of it returns, tells what is possible, and tells the same as other runs that make the same events. Prints how they
+//! Runs objects that no compiler wrote. The first are some that end in the same way in every order, with few elements and
+//! frames and with many. Of the others, half are objects of the compiler with one word changed, a quarter are objects with some
+//! instructions changed at random, and a quarter are well-formed objects of random instructions. Each is refused, or else every
+//! run of it returns, reports what is possible, and reports the same as other runs that make the same events. Prints how they
 //! ended, and `agree`, or the first object that does not agree.
 
 mod bases;

@@ -1,7 +1,7 @@
-//! Runs programs of all kinds, and looks at what is said of them. The words of the command line name the parts, each with words of its
-//! own after it: `examples` and `programs`, after which the names of their files stand; `workbench` and `dots`, over random graphs; and
-//! `hostile_objects`. After the last three a number of graphs or objects may stand, and their seed. Prints what each part found; where one
-//! finds something that differs, that, with status 1.
+//! Runs programs of all kinds, and looks at what is said of them. The words of the command line name the parts, each followed by words of
+//! its own: `examples` and `programs`, which are followed by the names of their files; `workbench` and `dots`, over random graphs; and
+//! `hostile_objects`. The last three may be followed by a number of graphs or objects, and their seed. Prints what each part found; where
+//! one finds something that differs, that, with status 1.
 #![tactic(auto)]
 
 mod dots;

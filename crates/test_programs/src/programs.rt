@@ -1,6 +1,6 @@
 //! Lowers each program, and runs its graph in each mode on 1, 2, 4, 7 and 16 elements. Each run has the outputs, the cells, the deferred
 //! readers and the end that the graph of the same name has, which is typed by hand, or those that were computed without this project
-//! (`known`). What else a report tells, frames and requests that wait, is not compared. Prints a line for each program, with what is wrong if
+//! (`known`). What else a report says, of frames and of requests that wait, is not compared. Prints a line for each program, with what is wrong if
 //! anything is.
 
 mod known;
@@ -33,7 +33,7 @@ fn on_short(alloc: Global, name: &str, text: Vec<u8>) -> anyhow::Result<Vec<u8>>
     })
 }
 
-/// The graph that stands beside the program of this name, with its inputs, if one does.
+/// The graph that has the same name as this program, with its inputs, if there is one.
 fn graph_beside(files: &HostRuntime, name: &str) -> anyhow::Result<Option<Vec<u8>>> {
     let stem = name.strip_suffix(".df").unwrap_or(name);
     let graph = format!(in files.alloc(); "{stem}.ets")?;
@@ -43,13 +43,13 @@ fn graph_beside(files: &HostRuntime, name: &str) -> anyhow::Result<Option<Vec<u8
     }
 }
 
-/// What the runs of a program tell, where no graph stands beside it.
+/// What the runs of a program report, where there is no graph of its name.
 fn computed(name: &str) -> Option<&'static [u8]> {
     let known = KNOWN.iter().find(|known| known.name == name)?;
     Some(known.prints)
 }
 
-/// What a program is compared with, as a line tells it.
+/// What a program is compared with, as a line says it.
 fn beside(has_graph: bool) -> &'static str {
     if has_graph {
         "tells what its graph tells"
@@ -77,7 +77,7 @@ fn write_out<W: Write>(
     }
 }
 
-/// Whether a program tells what it should. Prints what is found.
+/// Whether a program reports what it should. Prints what is found.
 fn agrees<R: Threads + Wait + Sync, W: Write>(
     rt: &R,
     files: &HostRuntime,
@@ -102,7 +102,7 @@ fn agrees<R: Threads + Wait + Sync, W: Write>(
     }
 }
 
-/// Whether each of the programs in these files tells what it should. Prints what is found of each.
+/// Whether each of the programs in these files reports what it should. Prints what is found of each.
 pub fn agree<R: Threads + Wait + Sync, W: Write>(
     rt: &R,
     files: &HostRuntime,

@@ -6,18 +6,18 @@ use source_tokens::{lex, position};
 use std::alloc::{AllocError, Global};
 use test_inputs::random_graphs::dice::Dice;
 
-/// A text with a change, or without one, and the places that stand before the change.
+/// A text with a change, or without one, and the places that are before the change.
 #[derive(Drop)]
 pub struct Changed {
     pub text: Vec<u8>,
     is_changed: bool,
-    /// What stands before this place has the same tokens as before.
+    /// What is before this place has the same tokens as before.
     tokens: usize,
-    /// What stands before this place keeps the same rules as before.
+    /// What is before this place obeys the same rules as before.
     items: usize,
 }
 
-/// An edit: what stands from a place on, up to another, becomes these two pieces.
+/// An edit: what is from a place on, up to another, becomes these two pieces.
 #[derive(Clone, Copy)]
 struct Edit<'a> {
     from: usize,

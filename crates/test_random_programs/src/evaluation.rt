@@ -1,6 +1,6 @@
 //! What a program means, worked out word by word from its text's program, without a graph. A fetch reads what the memory has in the end: so
-//! the program is gone over again and again, each time over the cells that were filled so far, until no more are. What waits for a cell
-//! that nothing fills has no value, nor has what waits for that.
+//! the program is evaluated again and again, each time over the cells that were filled so far, until no more are. What waits for a cell
+//! that nothing fills has no value, and neither has what waits for that.
 
 mod evaluator;
 pub mod layout;
@@ -35,7 +35,7 @@ pub struct Meaning {
     pub memory: Memory,
 }
 
-/// Goes over a program once. Says whether it came to its end.
+/// Evaluates a program once. Says whether its end was reached.
 fn goes_over(
     evaluator: &mut Evaluator<'_>,
     main: Function,
@@ -53,7 +53,7 @@ fn goes_over(
     Ok(false)
 }
 
-/// Goes over a program until no more cells are filled.
+/// Evaluates a program until no more cells are filled.
 fn end_of(
     evaluator: &mut Evaluator<'_>,
     main: Function,
@@ -74,7 +74,7 @@ fn end_of(
     Ok(MeantEnd::Long)
 }
 
-/// What `main` means on these inputs. A fault that is made at a place of the text has the origin that stands there.
+/// What `main` means on these inputs. A fault that is made at a place of the text has the origin that is there.
 pub fn evaluate(
     alloc: Global,
     layout: &Layout<'_>,

@@ -118,7 +118,7 @@ impl Writer {
         }
     }
 
-    /// A store, where it may stand, or an expression of another form.
+    /// A store, where it is allowed, or an expression of another form.
     pub fn whole(&mut self, of: Form) -> io::Result<()> {
         if !self.may_store() || of.depth == 0 || self.dice.throw(8) > 0 {
             return self.operand(of.with_level(1));

@@ -191,7 +191,7 @@ impl Items {
     }
 }
 
-/// The text of the program that this seed chooses. It keeps the rules, but perhaps is too wide or too big. A small one has one function
+/// The text of the program that this seed chooses. It obeys the rules, but may be too wide or too big. A small one has one function
 /// besides `main`, or two that call each other, and one array, at most.
 pub fn program(alloc: Global, seed: u64, is_small: bool) -> io::Result<Vec<u8>> {
     let mut writer = Writer::new(alloc, seed);

@@ -7,7 +7,7 @@
 use crate::writer::{FILLERS, Form, Writer};
 use std::io;
 
-/// A part of the grammar, or something that is done where it stands.
+/// A part of the grammar, or something that is done at its place.
 #[derive(Clone, Copy)]
 enum Part {
     Name,

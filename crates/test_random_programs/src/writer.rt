@@ -72,14 +72,14 @@ pub struct Writer {
     pub arrays: Vec<Array>,
     /// How many arrays may be read.
     pub readable: u64,
-    /// Whether stores may stand wherever all arrays may be read.
+    /// Whether stores are allowed wherever all arrays may be read.
     pub wild: bool,
     /// How many operators, brackets and conditionals an item may still have, and how many loops.
     pub fuel: u64,
     pub loops: u64,
 }
 
-/// Whether the byte may stand in a name, a word or a number.
+/// Whether the byte may be in a name, a word or a number.
 fn is_in_word(byte: u8) -> bool {
     matches!(byte, b'a'..=b'z' | b'A'..=b'Z' | b'0'..=b'9' | b'_')
 }
@@ -143,7 +143,7 @@ impl Writer {
         }
     }
 
-    /// Writes what stands before a token that begins with this byte: mostly a space; nothing only where the token does not become
+    /// Writes what is before a token that begins with this byte: mostly a space; nothing only where the token does not become
     /// one with the token before.
     fn space(&mut self, first: u8) -> Result<(), AllocError> {
         let must = is_in_word(first) && self.text.last().is_some_and(|last| is_in_word(*last));
@@ -193,7 +193,7 @@ impl Writer {
         }
     }
 
-    /// The words of this text, parted by spaces, come in their order before all that is to be written.
+    /// The words of this text, separated by spaces, go in their order before all that is still to be written.
     pub fn plan(&mut self, words: &'static str, of: Form) -> io::Result<()> {
         let alloc: Global = *self.text.allocator();
         let words: Vec<&'static str> = words.split_whitespace().collect(alloc)?;
@@ -232,7 +232,7 @@ impl Writer {
         self.callable = self.functions.len() as u64;
     }
 
-    /// Whether a store may stand here.
+    /// Whether a store is allowed here.
     pub fn may_store(&self) -> bool {
         self.wild && self.readable > 0 && self.readable == self.arrays.len() as u64
     }

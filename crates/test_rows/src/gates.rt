@@ -75,7 +75,7 @@ fn report_in<R: Threads + Wait + Sync, A: Allocator + Clone + Send + Sync, G: Ga
     emulate(alloc, text, inputs, config, mode, rt, gate).ok()
 }
 
-/// On one thread the first element would wait in vain.
+/// On one thread the first element would wait for ever.
 #[test]
 fn two_elements_meet(rt: HostRuntime) -> Result<(), Fail> {
     for mode in MODES {
@@ -104,7 +104,7 @@ fn two_elements_meet(rt: HostRuntime) -> Result<(), Fail> {
 struct Stopper {
     turns: AtomicU64,
     left: AtomicU64,
-    /// The sum of the numbers of blocks that it was reported.
+    /// The sum of the numbers of blocks that were reported to it.
     blocks: AtomicU64,
 }
 
@@ -133,7 +133,7 @@ impl Gate for Stopper {
     }
 }
 
-/// With turns of one event, the gate is asked before each event and told how many there were. A free element enters once.
+/// With turns of one event, the gate is asked before each event and given how many there were. A free element enters once.
 #[test]
 fn each_turn_asks(rt: HostRuntime) -> Result<(), Fail> {
     for mode in MODES {
@@ -168,7 +168,7 @@ fn is_none_or_sum(outputs: &[Option<Value>]) -> bool {
     outputs == [None].as_slice() || outputs == [Some(Value::Int(SUM))].as_slice()
 }
 
-/// Stops a run at question number `count`, if the run comes that far. Says whether the run came to rest.
+/// Stops a run at question number `count`, if the run gets that far. Says whether the run came to rest.
 fn rests_after<R: Abort + Threads + Wait + Sync>(
     rt: &R,
     alloc: Global,
@@ -244,12 +244,12 @@ fn the_first_element_names_the_end(rt: HostRuntime) -> Result<(), Fail> {
     Ok(())
 }
 
-/// What came of a run in threads whose memory may run out.
+/// The end of a run in threads whose memory may run out.
 #[derive(Clone, Copy, Debug, PartialEq, Eq)]
 enum Ended {
     /// A report has this end and this first output.
     Reported(End, Option<Value>),
-    /// There is no report, for want of memory.
+    /// There is no report, for lack of memory.
     Refused,
     /// There is no report, for another reason, or it has no output.
     Otherwise,

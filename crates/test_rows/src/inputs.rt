@@ -17,7 +17,7 @@ fn parts_input(rt: HostRuntime) -> Result<(), Fail> {
     Ok(())
 }
 
-/// Gives `left` bytes, whichever bytes stand in the buffers already.
+/// Gives `left` bytes, whichever bytes are in the buffers already.
 struct LongReader {
     left: u64,
 }

@@ -24,7 +24,7 @@ const TWO_CALLS: &[u8] =
 const STRICT_CALLS: &[u8] =
     b"etsgraph 2\nblock g 1 1\n- neg 0.0\nout 1.0\nend\nblock m 1 1\n- scall g 0.0\n- scall g 1.0\nout 2.0\nend\nmain m\n";
 
-/// What of a text is changed, and what stands in its place.
+/// What of a text is changed, and what takes its place.
 type Change = (&'static [u8], &'static [u8]);
 
 /// The factorial's call becomes strict.
@@ -267,7 +267,7 @@ const ROWS: [Row; 21] = [
     },
 ];
 
-/// Where calls are not strict and one frame besides main's is there, the first one may get it and give it back.
+/// Where calls are not strict and there is one frame besides main's, the first call may get it and give it back.
 const FIRST_CALLED: Row = Row {
     text: STRICT_CALLS,
     changes: LAZY,

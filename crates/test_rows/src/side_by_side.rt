@@ -41,7 +41,7 @@ impl Gate for Pair {
     }
 }
 
-/// A call whose frame lies on the other element, beside a chain of 600 nodes.
+/// A call whose frame lies on the other element, next to a chain of 600 nodes.
 fn call_beside_chain(alloc: Global) -> Result<Vec<u8>, Fail> {
     let mut text = Vec::new(alloc);
     text.extend_from_slice(

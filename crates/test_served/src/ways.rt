@@ -23,14 +23,14 @@ impl fmt::Display for Way {
     }
 }
 
-/// Whether a line tells a value, a deferred reader or the end. Of the others that a report has, how many frames are out and which
+/// Whether a line reports a value, a deferred reader or the end. Of the others that a report has, how many frames are out and which
 /// requests wait may depend on the way.
 fn is_reported(line: &[u8]) -> bool {
     let words = [b"output ".as_slice(), b"cell ", b"deferred ", b"end "];
     words.iter().any(|word| line.starts_with(*word))
 }
 
-/// What a report tells of outputs, cells and deferred readers, and its end.
+/// What a report says of outputs, cells and deferred readers, and its end.
 pub fn told(alloc: Global, report: &[u8]) -> Result<Vec<u8>, AllocError> {
     let mut lines = Vec::new(alloc);
     for line in report.split(|byte| *byte == b'\n') {
@@ -42,7 +42,7 @@ pub fn told(alloc: Global, report: &[u8]) -> Result<Vec<u8>, AllocError> {
     Ok(lines)
 }
 
-/// What a run of a graph on the inputs after it tells.
+/// What a run of a graph on the inputs after it reports.
 pub fn run_reported<R: Threads + Wait + Sync>(
     rt: &R,
     alloc: Global,
@@ -53,7 +53,7 @@ pub fn run_reported<R: Threads + Wait + Sync>(
     told(alloc, &answer(rt, alloc, &words, input).text)
 }
 
-/// The first way in which a run of the graph on the inputs after it does not tell just this.
+/// The first way in which a run of the graph on the inputs after it does not report just this.
 pub fn first_other<R: Threads + Wait + Sync>(
     rt: &R,
     alloc: Global,
@@ -71,8 +71,8 @@ pub fn first_other<R: Threads + Wait + Sync>(
     Ok(None)
 }
 
-/// What of a program goes otherwise than with the graph, typed by hand, that stands beside it, if anything does. Both have their inputs after them.
-/// The graph is run on one element alone.
+/// What differs between a program and the graph of the same name, typed by hand, if anything does. Both have their inputs after them. The graph is
+/// run on one element alone.
 pub fn fault_beside<R: Threads + Wait + Sync>(
     rt: &R,
     alloc: Global,
@@ -88,7 +88,7 @@ pub fn fault_beside<R: Threads + Wait + Sync>(
 pub enum Fault {
     /// It is refused.
     Refused,
-    /// A run of its graph tells something else.
+    /// A run of its graph reports something else.
     Otherwise { way: Way },
 }
 
@@ -101,7 +101,7 @@ impl fmt::Display for Fault {
     }
 }
 
-/// What is wrong with a program whose runs should tell just this, if anything is.
+/// What is wrong with a program whose runs should report just this, if anything is.
 pub fn fault_of<R: Threads + Wait + Sync>(
     rt: &R,
     alloc: Global,

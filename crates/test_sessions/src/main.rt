@@ -15,21 +15,21 @@
 //! - `$ COMMANDS` begins a session: `ets` and its words, with ` < FILE` where it reads a file of `data`, and with ` | ` before a
 //!   command that reads what the one before it printed. `$` alone stands for a command line without any word. Where more such
 //!   lines follow at once, all of them read the same input, and should print the same.
-//! - `| LINE` is a line of the input. The lines of the input come after the file, if there is one.
+//! - `| LINE` is a line of the input. The lines of the input follow the file, if there is one.
 //! - `! PIECE` is a piece of the input, without a line's end.
 //! - `* FIRST LAST PIECE` is that piece, once for each number from FIRST to LAST.
-//! - `change OLD -> PIECE` puts the piece in the first place where OLD stands in the input.
+//! - `change OLD -> PIECE` puts the piece in the first place where OLD occurs in the input.
 //! - `at PLACE PIECE` overwrites the input from byte PLACE on, counted from 0.
 //! - `first FIRST LAST` has the session played once for each number N from FIRST to LAST, on the first N bytes of the input. FIRST is
 //!   not above LAST, and the input that the lines before it give has LAST bytes.
-//! - `> LINE` is a line that should be printed, and no other should be. But where `...` stands there may be any lines.
+//! - `> LINE` is a line that should be printed, and no other should be. But in place of `...` there may be any lines.
 //! - `= STATUS` is the exit status of the last command, where it should not be 0. The commands before it should have 0, too; of those
-//!   that should not, the statuses stand before the last one, with spaces between them.
+//!   that should not, the statuses are before the last one, with spaces between them.
 //! - `# WORDS` is a heading.
 //!
 //! In a line or a piece of the input `%` is the number (in a line 0), and `\HH` the byte that these two hexadecimal digits are.
-//! Each session that does not go as it should is told, with its place, and then the exit status is 1. At the end stands how many
-//! sessions there were.
+//! Each session that does not go as it should is reported, with its place, and then the exit status is 1. At the end the program
+//! prints how many sessions there were.
 #![tactic(auto)]
 
 mod script;

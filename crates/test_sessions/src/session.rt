@@ -8,7 +8,7 @@ use std::thread::Threads;
 use test_inputs::pieces::{append, append_repeated, changed};
 use test_served::answer;
 
-/// A session, as far as its lines have been read.
+/// A session, up to the line that was read last.
 #[derive(Drop)]
 pub struct Session<'a> {
     alloc: Global,
@@ -16,7 +16,7 @@ pub struct Session<'a> {
     line: u64,
     /// The command lines that are tried, one after another.
     commands: Vec<&'a str>,
-    /// Whether a line stands after its command lines.
+    /// Whether a line follows its command lines.
     has_more: bool,
     input: Vec<u8>,
     /// On how many bytes of the input it is played at first, and at last; else it is played on all of them.
@@ -87,7 +87,7 @@ fn write_statuses<W: Write>(out: &mut W, statuses: &[u8]) -> io::Result<()> {
     writeln!(out)
 }
 
-/// A number, and what stands after it and a space.
+/// A number, and what follows it and a space.
 fn split_number(words: &str) -> Option<(usize, &str)> {
     let (number, rest) = words.split_once(' ')?;
     Some((number.parse().ok()?, rest))
@@ -136,7 +136,7 @@ impl<'a> Session<'a> {
         }
     }
 
-    /// Whether more command lines may come.
+    /// Whether more command lines may follow.
     pub fn is_new(&self) -> bool {
         !self.has_more
     }
@@ -209,7 +209,7 @@ impl<'a> Session<'a> {
         Ok(true)
     }
 
-    /// Changes the text of the input as these words say, if what they name stands in it.
+    /// Changes the text of the input as these words say, if what they name is in it.
     fn change(&mut self, words: &str) -> Result<bool, AllocError> {
         let Some((old, new)) = words.split_once(" -> ") else {
             return Ok(false);
@@ -258,7 +258,7 @@ impl<'a> Session<'a> {
         is_text_wanted && are_wanted(&ran.statuses, &self.statuses)
     }
 
-    /// Tells what was printed, and what should have been.
+    /// Writes what was printed, and what should have been.
     fn write_out<W: Write>(
         &self,
         out: &mut W,
@@ -281,7 +281,7 @@ impl<'a> Session<'a> {
     }
 
     /// Plays the session with these commands, once on each of its lengths of the input. Says whether all is as it should be, and
-    /// tells the first time that it is not.
+    /// reports the first time that it is not.
     fn play_commands<R: Threads + Wait + Sync, W: Write>(
         &self,
         rt: &R,

@@ -15,7 +15,7 @@ use std::io::{self, Write};
 use std::test::Fail;
 use test_inputs::rationed::{Rationed, is_next_refused};
 
-/// A number, and what stands after it.
+/// A number, and what follows it.
 fn write_number<W: Write>(writer: &mut W, number: u32, behind: &[u8]) -> io::Result<()> {
     let mut buffer = Buffer::new();
     writer.write_all(buffer.format(number).as_bytes())?;

@@ -54,7 +54,7 @@ fn many_names(rt: HostRuntime) -> Result<(), Fail> {
     Ok(())
 }
 
-/// What is open around a number: so many times the first part stands before it, and the second one after it.
+/// What is open around a number: so many times the first part before it, and the second one after it.
 fn nested<A: Allocator>(
     alloc: A,
     open: &[u8],

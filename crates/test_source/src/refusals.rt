@@ -1,4 +1,4 @@
-//! What is refused, each with its place, and what is accepted beside it.
+//! What is refused, each with its place, and what is accepted in contrast.
 
 use crate::examples::EXAMPLES;
 use source::fault::{Fault, FaultKind, ProgramFault};
@@ -17,7 +17,7 @@ const REFUSED: [(FaultKind, &[Refusal]); 14] = [
         FaultKind::BadByte,
         &[
             (b"fn main(n) { n ? 1 }", 1, 16),
-            // The bytes come first of all, and a comment may have any.
+            // The bytes are checked first of all, and a comment may have any.
             (b"fn main( { // \xff\n  \x80", 2, 3),
         ],
     ),

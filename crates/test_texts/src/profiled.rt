@@ -89,7 +89,7 @@ fn draws_waves(rt: HostRuntime) -> Result<(), Fail> {
     write_svg(&mut picture, TREE)?;
     assert!(&rt; picture.as_slice().starts_with(b"<svg xmlns="));
     assert!(&rt; picture.as_slice().ends_with(BARS));
-    // 401 waves stand in 201 bars, two in each, and the last alone.
+    // 401 waves make 201 bars, of two waves each, and the last of one alone.
     let mut counts: Vec<u64, _> = Vec::new(rt.alloc());
     for wave in 0..401u64 {
         counts.push(wave)?;

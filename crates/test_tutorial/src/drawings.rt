@@ -44,7 +44,7 @@ fn inside<'a>(line: &'a str, tag: &str) -> Option<&'a str> {
     Some(text)
 }
 
-/// What the group of the drawing stands for that was begun last.
+/// What the group of the drawing that was begun last stands for.
 #[derive(Clone, Copy)]
 enum Group<'a> {
     Node(&'a str),

@@ -1,8 +1,8 @@
-//! Checks that the tutorial is as the program would have it now. The first word of the command line names the file of the page;
-//! after it `make` may stand. The page lies with the files that it names. Each command of the page is run again, and has to
-//! print what stands below it. Each program that the page lowers has to tell, in each mode and on up to 16 elements, what the graph beside
-//! it tells. Prints `agree`, or the first line that differs, with status 1. With `make` it prints the page as
-//! it should be, and each file that a command writes.
+//! Checks that the tutorial is as the program would have it now. The first word of the command line names the file of the page; `make` may
+//! follow it. The page lies with the files that it names. Each command of the page is run again, and has to print what is below it. Each
+//! program that the page lowers has to report, in each mode and on up to 16 elements, what the graph of the same name reports. Prints
+//! `agree`, or the first line that differs, with status 1. With `make` it prints the page as it should be, and each file that a command
+//! writes.
 #![tactic(auto)]
 
 mod drawings;

@@ -1,4 +1,4 @@
-//! The programs of a page: what each of them tells is what the graph tells that stands beside it.
+//! The programs of a page: each of them reports what the graph of the same name reports.
 
 use std::alloc::Global;
 use std::fs;
@@ -19,7 +19,8 @@ fn lowered_by(line: &str) -> Option<&str> {
     file.strip_suffix(".df")
 }
 
-/// What is wrong with the program of this name, where a graph stands beside it and they tell different things.
+/// What is wrong with the program of this name, where there is a graph of the same name and they report different
+/// results.
 fn fault_of<R: Threads + Wait + Sync>(
     rt: &R,
     files: &HostRuntime,
@@ -38,7 +39,8 @@ fn fault_of<R: Threads + Wait + Sync>(
     }
 }
 
-/// What is wrong with the first program of the page that tells something else than the graph beside it, if one does.
+/// What is wrong with the first program of the page that reports something else than the graph of its name, if one
+/// does.
 pub fn first_fault<R: Threads + Wait + Sync>(
     rt: &R,
     files: &HostRuntime,

@@ -1,11 +1,11 @@
 //! The commands of a page: as much of a shell's language as it needs.
 //!
-//! A command is a list of stages with ` | ` between them. After them may stand ` > FILE`, for a file that has to contain what
-//! is written to it, and `; echo $?`, which prints the exit status. A stage is one of
+//! A command is a list of stages with ` | ` between them. They may be followed by ` > FILE`, for a file that has to contain
+//! what is written to it, and by `; echo $?`, which prints the exit status. A stage is one of
 //!
 //! - `cat FILE`;
 //! - `sed '/^main /q' FILE`, the graph of a file, without the inputs after it;
-//! - `sed 's/OLD/NEW/' FILE`, a file with NEW in place of OLD, which stands in it once and has no sign of a pattern;
+//! - `sed 's/OLD/NEW/' FILE`, a file with NEW in place of OLD, which occurs in it once and has no sign of a pattern;
 //! - `(sed '/^main /q' FILE; printf '5\n7\n')`, the graph with these inputs;
 //! - `ets WORDS` and `ets WORDS < FILE`.
 //!
@@ -31,7 +31,7 @@ const GRAPH_OF: &str = "sed '/^main /q' ";
 /// The beginning of a stage that gives a file with a change.
 const CHANGED: &str = "sed 's/";
 
-/// Runs commands. What they write to files is kept, and compared with those files.
+/// Runs commands. What they write to files is stored, and compared with those files.
 #[derive(Drop)]
 pub struct Shell<'a> {
     files: &'a HostRuntime,

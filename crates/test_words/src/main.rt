@@ -1,4 +1,4 @@
-//! Tries thousands of command lines. `clap`, with the command line as it stands in `command_texts`, and `read_words` have to
+//! Tries thousands of command lines. `clap`, with the command line as `command_texts` has it, and `read_words` have to
 //! agree on what each of them asks for, with all its values, and on its text.
 #![tactic(auto)]
 
@@ -7,7 +7,7 @@ mod agreement;
 use agreement::{Tally, agree_on};
 use std::alloc::Global;
 
-/// What may stand after `ets`: units of one or more words, with a space between two words.
+/// What may follow `ets`: units of one or more words, with a space between two words.
 const FIRST: [&str; 34] = [
     "run",
     "mean",
@@ -45,7 +45,7 @@ const FIRST: [&str; 34] = [
     "hé",
 ];
 
-/// What may stand after `run`.
+/// What may follow `run`.
 const OPTIONS: [&str; 23] = [
     "--elements",
     "--elements 4",
@@ -98,7 +98,7 @@ const WORDS: [&str; 8] = [
     "rounds",
 ];
 
-/// What may stand after `exec`.
+/// What may follow `exec`.
 const INPUTS: [&str; 16] = [
     "2",
     "-",
@@ -118,7 +118,7 @@ const INPUTS: [&str; 16] = [
     "1 2 3 4 5 6 7 8 9",
 ];
 
-/// What may stand after `trace`, `profile` and `orders`.
+/// What may follow `trace`, `profile` and `orders`.
 const MEASURES: [&str; 20] = [
     "--last 3",
     "--last=x",
@@ -142,7 +142,7 @@ const MEASURES: [&str; 20] = [
     "4",
 ];
 
-/// What may stand after `dis` and `dot`.
+/// What may follow `dis` and `dot`.
 const FLAGS: [&str; 13] = [
     "--literals",
     "--map",

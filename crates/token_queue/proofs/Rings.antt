@@ -80,7 +80,7 @@ module _ {X : Type 0} (N k n : ℕ) (xs : List X) (head : k < N) (count : n ≤ 
       ))
 
 module _ {X : Type 0} where
-  -- a list without the item at `at`, with those after it moved up as far as the place i
+  -- a list without the item at `at`, with those after it moved up, as far as the place i
   abbrev pub closing : List X → ℕ → ℕ → List X
   closing xs at i = take i (remove xs at) ++ drop i xs
 

@@ -86,7 +86,7 @@ impl<A: Allocator> TokenQueue<A> {
         tokens <= self.places.len() - self.count
     }
 
-    /// Makes room for `tokens` more tokens; room that is there already stays as it is. After an error all stands as before.
+    /// Makes room for `tokens` more tokens; room that is there already stays as it is. After an error nothing is changed.
     #[inline(always)]
     pub fn reserve(&mut self, tokens: usize) -> Result<(), AllocError>
         ensures items { self.new.items ≡ self.old.items }

@@ -1,4 +1,4 @@
--- Things sent one after the other, of which so much is left.
+-- Items sent one after the other, of which so much is left.
 use Rattle.std.proofs.Common.{◌≡◌, ℕ, zero, suc, ◌+◌, ◌-◌, ◌<◌, ◌≤◌, List, [], ◌∷◌, ◌++◌, length, drop, Option, Some, None, Result, Ok, Err, refl, sym, ap, ◌∙◌, subst, arith, append_assoc}
 use Rattle.std.specs.Prelude.{⊤, slice_get, option_map, nat_lt, true, false, Bool, if◌then◌else◌}
 use Rattle.std.specs.Io.KnownBytes.{Appends}

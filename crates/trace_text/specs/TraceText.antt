@@ -101,7 +101,7 @@ abbrev pub carried_text : To → Word → List ℕ
 carried_text (to.Store x v) w = value_text v
 carried_text address w = word_text w
 
--- PAIRS: the texts of what stands in two lists at the same places, numbered from n on. The shorter list ends it.
+-- PAIRS: the texts of what is in two lists at the same places, numbered from n on. The shorter list ends it.
 abbrev pub paired : {X Y : Type 0} → (ℕ → X → Y → List ℕ) → ℕ → List X → List Y → List ℕ
 paired text n [] ys = []
 paired text n (x ∷ xs) [] = []

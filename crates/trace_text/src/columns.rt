@@ -1,4 +1,4 @@
-//! What is told of an event besides what its token carries: where the token goes, what is done there, and what it did.
+//! What is said of an event besides what its token carries: where the token goes, what is done there, and what it did.
 
 ghost use Rattle.std.specs.Prelude.{◌≡◌, ◌++◌};
 ghost use Rattle.trace_text.specs.TraceText.{place_from, place_text, at_text, frame_text, name_text, port_text, deed_text};
@@ -29,7 +29,7 @@ fn place_of(object: &Object<'_>, ip: u32) -> Option<(u32, u32)>
     None
 }
 
-/// The place of an instruction, with what stands before it.
+/// The place of an instruction, with what is before it.
 fn send_place<W: Write>(writer: &mut W, before: &[u8], place: Option<(u32, u32)>) -> io::Result<()>
     ensures { Sends result (W.contents writer.old) (W.contents writer.new) (before.now ++ place_text place) }
 {
@@ -45,7 +45,7 @@ fn send_place<W: Write>(writer: &mut W, before: &[u8], place: Option<(u32, u32)>
     }
 }
 
-/// Where a token goes, with what stands before it.
+/// Where a token goes, with what is before it.
 pub(crate) fn send_at<W: Write>(
     writer: &mut W,
     before: &[u8],
@@ -65,7 +65,7 @@ pub(crate) fn send_at<W: Write>(
     }
 }
 
-/// The frame that a token goes to, or that comes back, `-` where there is none, with what stands before it.
+/// The frame that a token goes to, or that is handed back, `-` where there is none, with what is before it.
 pub(crate) fn send_frame<W: Write>(writer: &mut W, before: &[u8], to: &To) -> io::Result<()>
     ensures { Sends result (W.contents writer.old) (W.contents writer.new) (before.now ++ frame_text to.now) }
 {

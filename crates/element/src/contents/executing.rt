@@ -40,7 +40,7 @@ pub struct OnRight;
 
 impl<'m, A: Allocator> Contents<'m, A> {
     // What a token does at once, and whether it does: most that need no more than the words as they lie, a slot and room for a
-    // few tokens here. Else all stands as before. Each port has a way of its own, and each site of the call code of its own.
+    // few tokens here. Else nothing is changed. Each port has a way of its own, and each site of the call code of its own.
     #[inline(always)]
     pub(super) fn acts_at_once<C: Instructions, Site>(
         &mut self,
@@ -322,7 +322,7 @@ impl<'m, A: Allocator> Contents<'m, A> {
         true
     }
 
-    // Both words are there. What comes of them is the same on both ports; whoever calls keeps the ports apart.
+    // Both words are there. The result is the same on both ports; the caller keeps the ports apart.
     #[inline(always)]
     fn both<C: Instructions, K: Pair>(
         &mut self,

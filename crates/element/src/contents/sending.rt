@@ -16,7 +16,7 @@ use std::alloc::{AllocError, Allocator};
 use tags::token::{To, Token, Word};
 
 impl<'m, A: Allocator> Contents<'m, A> {
-    // Makes room for `tokens` more tokens. After an error all stands as before.
+    // Makes room for `tokens` more tokens. After an error nothing is changed.
     #[inline(always)]
     pub(super) fn make_room(
         &mut self,
@@ -78,7 +78,7 @@ impl<'m, A: Allocator> Contents<'m, A> {
         }
     }
 
-    // Sends a word to the destination that a half word tells, if it tells one.
+    // Sends a word to the destination that a half word gives, if it gives one.
     #[inline(always)]
     pub(super) fn send_to(&mut self, point: Point, word: &Word, half: u32, sent: &mut Vec<Token, A>)
         requires some { 0 < self.old.elements }
@@ -102,7 +102,7 @@ impl<'m, A: Allocator> Contents<'m, A> {
         }
     }
 
-    // The same, where the frame lies on this element: so does the destination, and no token goes elsewhere.
+    // The same, where the frame lies on this element: so does the destination, and no token goes to another element.
     #[inline(always)]
     pub(super) fn send_near(&mut self, point: Point, word: &PackedWord, half: u32)
         requires near { point.ip < 2 ^ 30 }

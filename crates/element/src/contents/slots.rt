@@ -39,7 +39,7 @@ impl<'m, A: Allocator> Contents<'m, A> {
         self.bank.state(self.own_frame(frame), slot as usize)
     }
 
-    // Where the slot of an instruction stands, in a frame that lies here.
+    // Where the slot of an instruction is, in a frame on this element.
     #[inline(always)]
     pub(super) fn place_of_slot(&self, frame: FrameId, slot: u32) -> usize
         requires some { 0 < self.now.elements }

@@ -46,7 +46,7 @@ pub fn answer(cont: Cont, word: Word) -> Token
     }
 }
 
-/// Where an answer comes.
+/// Where an answer goes.
 #[inline(always)]
 pub(super) fn answer_to(point: Point, instr: &Instruction) -> Cont
     requires near { point.ip < 2 ^ 30 }

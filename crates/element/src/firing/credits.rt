@@ -19,14 +19,14 @@ use semantics::program::Op;
 use tags::slot::SlotState;
 use tags::token::Word;
 
-/// What comes at once of a credit that is taken or given.
+/// The immediate result of a credit that is taken or given.
 #[derive(Clone, Copy)]
 pub enum Credit {
     /// The slot is this one then, and nothing is made.
     SlotOnly { slot: Slot },
     /// The slot is this one then, and a token is made.
     Answered { slot: Slot, token: PackedToken },
-    /// Nothing comes of it at once.
+    /// There is no immediate result.
     Later,
 }
 
@@ -40,7 +40,7 @@ fn holding(state: SlotState) -> Slot
     slot
 }
 
-// A credit is taken, or whoever asks for it waits.
+// A credit is taken, or the continuation that asks for it waits.
 #[inline(always)]
 fn taken(slot: SlotState, word: Word) -> Credit
     ensures { CreditIs (Rule.takes slot word) result }
@@ -57,7 +57,7 @@ fn taken(slot: SlotState, word: Word) -> Credit
     }
 }
 
-// A credit comes back while the loop goes on.
+// A credit is given back while the loop goes on.
 #[inline(always)]
 fn given(slot: SlotState, bound: u8) -> Credit
     ensures { (s : Rule.Point) (i : Instr) → CreditIs (Rule.gives s i bound slot) result }
@@ -80,7 +80,7 @@ fn given(slot: SlotState, bound: u8) -> Credit
     }
 }
 
-/// What comes at once of a left token at an instruction that takes or gives a credit.
+/// The immediate result of a left token at an instruction that takes or gives a credit.
 #[inline(always)]
 pub fn credit_at_once(instr: &Instruction, held: &Slot, word: &PackedWord) -> Credit
     ensures { (p : Program) (s : Rule.Point) → CreditIs (Rule.outcome_of p s (instr_of instr.now) instr.now.op held.now Left word.now) result }
@@ -92,7 +92,7 @@ pub fn credit_at_once(instr: &Instruction, held: &Slot, word: &PackedWord) -> Cr
     }
 }
 
-// The first credits of a loop, but for the one that begins it.
+// The first credits of a loop, except for the one that begins it.
 pub(super) fn opens(
     point: Point,
     instr: &Instruction,
@@ -111,7 +111,7 @@ pub(super) fn opens(
     }
 }
 
-// A credit is taken, or whoever asks for it waits.
+// A credit is taken, or the continuation that asks for it waits.
 pub(super) fn takes(slot: SlotState, word: Word, made: &mut Made) -> Outcome
     ensures { (s : Rule.Point) → outcome_by result (tokens_of s made.new) ≡ Rule.takes slot word }
 {
@@ -125,7 +125,7 @@ pub(super) fn takes(slot: SlotState, word: Word, made: &mut Made) -> Outcome
     }
 }
 
-// A credit comes back.
+// A credit is given back.
 pub(super) fn gives(
     point: Point,
     instr: &Instruction,

@@ -9,7 +9,7 @@ use crate::instructions::Instruction;
 use tags::token::{FrameId, Token, Word};
 use tags::value::Value;
 
-/// Where an instruction stands: its frame, and its number.
+/// Where an instruction is: its frame, and its number.
 #[derive(Clone, Copy, Debug, PartialEq, Eq)]
 pub struct Point {
     pub frame: FrameId,
@@ -27,7 +27,7 @@ pub struct Made {
     pub second: u32,
 }
 
-/// A word that only tells that something happened.
+/// A word that only says that something happened.
 pub const SIGNAL: Word = Word::Val(Value::Int(0));
 
 /// No tokens.

@@ -1,4 +1,4 @@
-//! What comes of a token at an instruction.
+//! The result of a token at an instruction.
 
 ghost use Rattle.std.specs.Prelude.{◌≡◌, ◌∷◌, [], List};
 ghost use Rattle.semantics.specs.Rule as Rule;
@@ -11,7 +11,7 @@ use crate::instructions::Instruction;
 use tags::slot::SlotState;
 use tags::token::Token;
 
-/// What comes of a token at an instruction, beside the tokens that are made.
+/// The result of a token at an instruction, besides the tokens that are made.
 #[derive(Clone, Copy, Debug, PartialEq, Eq)]
 pub enum Outcome {
     /// The slot has this state then.

@@ -20,7 +20,8 @@ use semantics::program::Op;
 use tags::token::{Cont, Port, Word};
 use tags::value::Value;
 
-/// A kind of instruction with two inputs: what it makes of its words, where it is of this kind and they are as it likes them.
+/// A kind of instruction with two inputs: what it makes of its words, where it is of this kind and they are of the kinds that
+/// it takes.
 pub trait Pair {
     /// A word that it passes on to its own destinations.
     fn passes(instr: &Instruction, left: &PackedWord, right: &PackedWord) -> Option<Passed>

@@ -9,7 +9,7 @@ use crate::plays::Next;
 use std::alloc::{AllocError, Allocator};
 use tags::token::Token;
 
-// Hands out the elements' parts.
+// Gives out the elements' parts.
 fn deal<A: Allocator>(
     alloc: A,
     top: &Top<A>,

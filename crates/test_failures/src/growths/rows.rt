@@ -2,12 +2,12 @@
 
 use test_inputs::graph_texts::{ADD, ARRAY_LOOP, FACTORIAL, NEVER_FILLED, READERS, SUM_LOOP};
 
-/// What an answer has of a run, and so how a growth is told that is refused in the run.
+/// What an answer has of a run, and so how a growth is reported that is refused in the run.
 #[derive(Clone, Copy)]
 pub enum Answer {
     /// Nothing: each growth that is refused is reported in place of the answer.
     Text,
-    /// A report, which then has the end `Memory`. Lines of events may stand before it.
+    /// A report, which then has the end `Memory`. Lines of events may be before it.
     Report,
     /// A list of events, as JSON.
     Json,
@@ -32,7 +32,7 @@ pub struct Example {
     pub name: &'static str,
     pub words: &'static [&'static str],
     pub graph: &'static [u8],
-    /// What of the graph's text is changed, and what stands in its place.
+    /// What of the graph's text is changed, and what takes its place.
     pub change: Option<(&'static [u8], &'static [u8])>,
     pub inputs: &'static [u8],
     pub wanted: &'static [u8],

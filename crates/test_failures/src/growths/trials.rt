@@ -16,9 +16,9 @@ const ENOUGH: u64 = 100_000;
 /// How often a growth was refused, and how that was reported.
 #[derive(Clone, Copy)]
 pub struct Refusals {
-    /// Told by a line in place of an answer.
+    /// Reported by a line in place of an answer.
     pub before: u64,
-    /// Told by a report with the end `Memory`.
+    /// Reported by a report with the end `Memory`.
     pub within: u64,
 }
 
@@ -64,19 +64,19 @@ fn without_number(line: &[u8]) -> &[u8] {
     }
 }
 
-/// Whether the line stands in the text; that of an event perhaps with another number.
+/// Whether the line is in the text; that of an event perhaps with another number.
 fn has_line(text: &[u8], wanted: &[u8]) -> bool {
     text.split(|byte| *byte == b'\n')
         .any(|line| without_number(line) == without_number(wanted))
 }
 
-/// Whether the line tells something that the whole text tells, too, where it tells anything of the run.
+/// Whether the line says something that the whole text says, too, where it says anything of the run.
 fn is_known(line: &[u8], whole: &[u8]) -> bool {
     let tells = [b"output ".as_slice(), b"cell ", b"event "];
     !tells.iter().any(|word| line.starts_with(*word)) || is_missing(line) || has_line(whole, line)
 }
 
-/// Whether all outputs, cells and events that a report with the end `Memory` tells are also in the whole text.
+/// Whether all outputs, cells and events that a report with the end `Memory` has are also in the whole text.
 fn is_part(text: &[u8], whole: &[u8]) -> bool {
     text.split(|byte| *byte == b'\n')
         .all(|line| is_known(line, whole))
@@ -97,7 +97,7 @@ fn is_json_part(text: &[u8], whole: &[u8]) -> bool {
         })
 }
 
-/// Whether the answer tells that a growth was refused in a run, and nothing of the run that the whole answer does not tell.
+/// Whether the answer says that a growth was refused in a run, and nothing of the run that the whole answer does not say.
 fn is_reported(row: &Row<'_>, answer: &Outcome) -> bool {
     let text = answer.text.as_slice();
     match row.answer {
@@ -128,7 +128,7 @@ fn may_be_made_good(row: &Row<'_>) -> bool {
         && !matches!(row.answer, Answer::Text)
 }
 
-/// How often a growth is refused before none is, if each refusal is told or made good and the last answer is the whole one. Else
+/// How often a growth is refused before none is, if each refusal is reported or made good and the last answer is the whole one. Else
 /// an `Err` with the number of the growth where that is not so.
 pub fn refuse_each<R: Threads + Wait + Sync>(
     rt: &R,

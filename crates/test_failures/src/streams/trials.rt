@@ -79,7 +79,7 @@ impl<'a> Trial<'a> {
         (full as u64).wrapping_add(1)
     }
 
-    /// How often a reader of `chunk` bytes for each call fails, if each failure is told and nothing else is.
+    /// How often a reader of `chunk` bytes for each call fails, if each failure is reported and nothing else is.
     fn reads<R: Threads + Wait + Sync>(&self, rt: &R, alloc: Global, chunk: usize) -> Option<u64> {
         let calls = self.calls(chunk);
         for granted in 0..calls {

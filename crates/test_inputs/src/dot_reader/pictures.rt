@@ -24,7 +24,7 @@ pub struct Edge<'a> {
 /// A picture, in the order of its text.
 #[derive(Drop)]
 pub struct Picture<'a> {
-    /// The name and the label of each box, the whole picture first. A box that is opened again stands here twice.
+    /// The name and the label of each box, the whole picture first. A box that is opened again is here twice.
     pub boxes: Vec<(&'a [u8], &'a [u8])>,
     pub nodes: Vec<Node<'a>>,
     pub edges: Vec<Edge<'a>>,

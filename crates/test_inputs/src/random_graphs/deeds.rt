@@ -1,4 +1,4 @@
-//! What is added to a block: nodes of some kind, in some region where they may stand.
+//! What is added to a block: nodes of some kind, in some region where they are allowed.
 
 use crate::random_graphs::blocks::{Conditional, FUEL, Source};
 use crate::random_graphs::graphs::{Array, Graph, Part, Shape};
@@ -21,7 +21,7 @@ const DEPTH: u64 = 4;
 const RECURSIONS: u64 = 2;
 
 impl Graph {
-    /// Adds some nodes, where they may stand in the region that is chosen.
+    /// Adds some nodes, where they are allowed in the region that is chosen.
     pub fn add_some(&mut self) -> io::Result<()> {
         let region = if self.dice.throw(2) == 0 {
             0
@@ -253,7 +253,7 @@ impl Graph {
         Ok(())
     }
 
-    /// Adds a store. In a careful graph it stands only in main, and fills the next cell.
+    /// Adds a store. In a careful graph it is only in main, and fills the next cell.
     fn add_store(&mut self, region: u64) -> io::Result<()> {
         let (Some((number, array)), Some(value)) = (self.some_array(), self.value(region)) else {
             return Ok(());

@@ -1,7 +1,7 @@
 //! Random well-formed graphs: blocks of random shapes, the last of which is run.
 //!
 //! Input 0 of each block is its fuel. A block calls blocks of earlier teams with little fuel, and those of its own team with
-//! less than it has, in an arm that is taken only where it has some; so most graphs come to an end.
+//! less than it has, in an arm that is taken only where it has some; so most graphs end.
 
 use crate::random_graphs::blocks::{Conditional, Node, Source};
 use crate::random_graphs::dice::Dice;

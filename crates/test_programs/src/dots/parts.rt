@@ -41,7 +41,7 @@ pub fn node_part(alloc: Global, name: &str, label: &str, boxes: &str) -> anyhow:
     Ok(format!(in alloc; "node {name} \"{label}\" in{boxes}")?)
 }
 
-/// An edge: the node it comes from, the node it goes to, the texts at its tail and its head, and its style.
+/// An edge: the node it leaves, the node it goes to, the texts at its tail and its head, and its style.
 pub fn edge_part(
     alloc: Global,
     from: &str,

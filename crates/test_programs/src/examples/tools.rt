@@ -21,7 +21,7 @@ fn exec_words<'a>(alloc: Global, lines: &'a [u8]) -> Result<Vec<&'a str>, AllocE
     Ok(words)
 }
 
-/// Whether the line of a report names an array. A run tells its name, and an object's run its number.
+/// Whether the line of a report names an array. A run gives its name, and an object's run its number.
 fn names_array(line: &[u8]) -> bool {
     line.starts_with(b"cell ") || line.starts_with(b"end Clash ")
 }
@@ -41,8 +41,8 @@ fn nameless(alloc: Global, report: &[u8]) -> Result<Vec<u8>, AllocError> {
     Ok(lines)
 }
 
-/// What is wrong with the example's object, its run, and its runs in random orders, if anything is: the object does not come back from
-/// one of its listings; it runs in another way than its graph does; or the orders of a graph that comes to rest differ.
+/// What is wrong with the example's object, its run, and its runs in random orders, if anything is: the object is not obtained again
+/// from one of its listings; it runs in another way than its graph does; or the orders of a graph that comes to rest differ.
 pub fn fault_of<R: Threads + Wait + Sync>(
     rt: &R,
     alloc: Global,

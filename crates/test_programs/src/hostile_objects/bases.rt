@@ -7,7 +7,7 @@ use test_inputs::graph_texts::{
     ADD, FACTORIAL, INNER_FAULT, LATE_RESULT, READERS, SECOND_STORE, SIGN, SUM_LOOP,
 };
 
-/// Graphs with sums, arms in arms, recursion, a loop, readers of a cell, two stores of a cell, a strict call, and a fault that tells
+/// Graphs with sums, arms in arms, recursion, a loop, readers of a cell, two stores of a cell, a strict call, and a fault that says
 /// where it was made.
 const TEXTS: [&[u8]; 8] = [
     ADD,

@@ -1,4 +1,4 @@
-//! Well-formed objects of random instructions. Most words go to where their kind is welcome, so that runs go on for a while.
+//! Well-formed objects of random instructions. Most words go to where their kind is accepted, so that runs go on for a while.
 
 use crate::hostile_objects::object::{Dest, Line, MARK, NONE, entry, push_line};
 use std::alloc::{AllocError, Global};
@@ -6,10 +6,10 @@ use test_inputs::random_graphs::dice::Dice;
 
 const COPY: u64 = 18;
 
-/// How often a destination is chosen again where the word would not be welcome.
+/// How often a destination is chosen again where the word would not be accepted.
 const THROWS: u64 = 8;
 
-/// The kind of the first word that comes to an instruction.
+/// The kind of the first word that arrives at an instruction.
 #[derive(Clone, Copy, PartialEq, Eq)]
 enum Carried {
     Nothing,
@@ -58,7 +58,7 @@ fn is_welcome(opcode: u64, port: u64, carried: Carried) -> bool {
     }
 }
 
-/// What kind of word an instruction sends on, when a word of kind `carried` came to it.
+/// What kind of word an instruction sends on, when a word of kind `carried` arrived at it.
 fn sent_by(opcode: u64, carried: Carried) -> Carried {
     match opcode {
         18 | 20 => carried,
@@ -74,7 +74,7 @@ struct Block {
     outputs: u64,
     slots: u64,
     codes: Vec<Code>,
-    /// What comes to the left port and to the right port of each instruction.
+    /// What arrives at the left port and at the right port of each instruction.
     came: Vec<[Carried; 2]>,
 }
 
@@ -118,7 +118,7 @@ impl Block {
         }
     }
 
-    /// The kind of word that comes to this port.
+    /// The kind of word that arrives at this port.
     fn came_to(&self, place: usize, port: u64) -> Carried {
         match self.came.get(place) {
             Some([left, right]) => if port == 0 { *left } else { *right },
@@ -126,8 +126,8 @@ impl Block {
         }
     }
 
-    /// A port of some later instruction; none where there is no later one. It is one to which nothing comes yet and where the
-    /// word is welcome, if such a port is soon found. Else it is any port if a destination is needed, and seldom one if not.
+    /// A port of some later instruction; none where there is no later one. It is one to which nothing goes yet and which
+    /// takes the word, if such a port is soon found. Else it is any port if a destination is needed, and rarely one if not.
     fn dest(&mut self, dice: &mut Dice, place: usize, sent: Carried, is_needed: bool) -> Dest {
         let last = self.codes.len().saturating_sub(1);
         let room = last.saturating_sub(place).min(6) as u64;

@@ -31,7 +31,7 @@ pub enum Verdict {
     Agrees(End),
     /// There is no report.
     Refused,
-    /// A run tells what is not possible.
+    /// A run reports what is not possible.
     Unsound,
     /// Two runs that make the same events have different reports.
     Differs,
@@ -169,7 +169,7 @@ impl Runnable<'_> {
         }
     }
 
-    /// Whether runs in random orders tell only what is possible.
+    /// Whether runs in random orders report only what is possible.
     fn is_sound_by_list(
         self,
         alloc: Global,

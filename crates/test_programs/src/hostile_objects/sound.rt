@@ -101,7 +101,7 @@ pub fn has_end(report: &Report<Global>, arrays: &[u64]) -> bool {
 }
 
 /// Whether the numbers of frames, cells, readers and outputs follow from the events. Main's frame is out at first. Each request
-/// is granted a frame or waits, and it waits only where all frames are out. Each release frees a frame, or hands it on. Each
+/// is granted a frame or waits, and it waits only where all frames are out. Each release frees a frame, or passes it on. Each
 /// store fills a cell. Each word for the host is an output, except for the one at the end.
 fn has_made(report: &Report<Global>, config: Config) -> bool {
     let counts = counts_of(&report.events);
@@ -124,7 +124,7 @@ fn has_made(report: &Report<Global>, config: Config) -> bool {
         && counts.results <= outputs.wrapping_add(1)
 }
 
-/// Whether what the report tells is possible, for an object with arrays of these lengths.
+/// Whether what the report says is possible, for an object with arrays of these lengths.
 pub fn is_sound(
     alloc: Global,
     report: &Report<Global>,

@@ -1,7 +1,7 @@
-//! What the programs tell that have no graph beside them: outputs, cells, and that nothing waits at the end. All of it was computed without
+//! What the programs report that have no graph of their name: outputs, cells, and that nothing waits at the end. All of it was computed without
 //! this project, by other programs and by hand; the two faults have the nodes where they are made, counted in the graph by hand.
 
-/// A program, and what its runs tell.
+/// A program, and what its runs report.
 #[derive(Clone, Copy)]
 pub struct Known {
     pub name: &'static str,

@@ -5,7 +5,7 @@ use std::fmt::{self, Display, Formatter, Write};
 /// How much was looked at.
 #[derive(Drop)]
 pub struct Tally {
-    /// Objects that came back from each of their listings.
+    /// Objects that were obtained again from each of their listings.
     pub objects: u64,
     /// Graphs that have no object.
     pub refused: u64,

@@ -7,13 +7,13 @@ use source::word::{InfixSign, Word};
 use std::alloc::{AllocError, Global};
 use tags::value::{FaultKind, Origin, Value};
 
-/// Whether the region that is evaluated has begun. Its literals come with its first input.
+/// Whether the region that is evaluated has begun. Its literals arrive with its first input.
 #[derive(Clone, Copy, PartialEq, Eq)]
 enum Here {
     Begun,
-    /// The first input has not come, and literals wait for it.
+    /// The first input has not arrived, and literals wait for it.
     Waits,
-    /// The predicate around it has not come: nothing is known in it.
+    /// The predicate around it has not arrived: nothing is known in it.
     Dark,
 }
 
@@ -67,7 +67,7 @@ pub struct Evaluator<'a> {
     targets: Vec<Option<usize>>,
 }
 
-/// The operator's result, over the operands as they stand in the text.
+/// The operator's result, over the operands in the order of the text.
 fn operated(sign: InfixSign, left: Value, right: Value, origin: Origin) -> Value {
     match sign {
         InfixSign::Direct { op } => apply2_at(op, left, right, origin),
@@ -349,7 +349,7 @@ impl<'a> Evaluator<'a> {
         self.bind_all(from, count)
     }
 
-    /// Begins a turn: its literals come with its first name.
+    /// Begins a turn: its literals arrive with its first name.
     fn begin_turn(&mut self) {
         let Some(around) = self.around.last() else {
             return;

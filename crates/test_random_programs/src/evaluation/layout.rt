@@ -1,5 +1,5 @@
 //! What is found in a program's words before it is evaluated: where parts end, its functions and arrays, and which outside name an arm
-//! uses first, since the literals of an arm come with that one.
+//! uses first, since the literals of an arm arrive with that one.
 
 use source::word::Word;
 use std::alloc::{AllocError, Global};
@@ -246,7 +246,7 @@ impl Scan<'_> {
         Ok(())
     }
 
-    /// Notes the name in each arm outside of which it stands and that has used none yet.
+    /// Notes the name in each arm to which it is an outside name, where none was noted yet.
     fn use_name(&mut self, name: usize) {
         let mut place = self.scope.len();
         for (i, other) in self.scope.iter().enumerate() {

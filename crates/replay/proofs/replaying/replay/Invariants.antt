@@ -4,7 +4,7 @@ use Rattle.replay.specs.Moments.{Watches}
 use Rattle.replay.specs.DoesAs.{KnowsAll}
 use Rattle.replay.proofs.replaying.replay.Given as goal
 
--- Each run has come this far, and goes on with the other events.
+-- Each run has got this far, and goes on with the other events.
 abbrev pub invariant-loop-event : goal.invariant-loop-event
 invariant-loop-event g l = record {
   frames : l.state.frames ≡ l.frames;
