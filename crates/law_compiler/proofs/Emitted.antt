@@ -1,4 +1,4 @@
--- Emitted code is alike to the placed program, and so is the program of a plan to that with a slot for each holder.
+-- Emitted code is alike to the placed program, and the program of a plan is alike to the one with a slot for each holder.
 use Rattle.std.proofs.Common.{◌≡◌, refl, sym, ap, ◌∙◌, ℕ, Bool, true, false, List, [], ◌∷◌, ◌++◌, length, Some, arith, All}
 use Rattle.std.specs.Prelude.{take, drop}
 use Rattle.std.proofs.lemmas.List.Elements.{All-head, All-tail}

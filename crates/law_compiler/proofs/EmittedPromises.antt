@@ -1,4 +1,4 @@
--- What is promised of a program is kept by each that is alike.
+-- What is promised of a program holds of each program that is alike.
 use Rattle.std.proofs.Common.{◌≡◌, refl, sym, ap, ◌∙◌, subst, ℕ, zero, suc, ◌+◌, ◌*◌, ◌≤◌, max, Bool, ◌==◌, ◌&&◌, if◌then◌else◌, ℤ, List, [], ◌∷◌, ◌++◌, length}
 use Rattle.std.proofs.Common.{Option, Some, None, ◌⊎◌, inl, inr, arith}
 use Rattle.std.specs.Prelude.{slice_get, flat_map, count_by, IsPermutation}

@@ -26,7 +26,7 @@ use Rattle.semantics.specs.Rule.{puts, fire_one, fire_two, meets, opens, gives, 
 use Rattle.semantics.specs.Opcodes.{may_fault}
 use Rattle.law_compiler.specs.EmittedAlike.{is_split}
 
--- what programs tell an instruction
+-- what programs give to an instruction
 pub record TellSame (p q : Program) : Type 0 where
   pub base : (a : ℕ) → array_base p a ≡ array_base q a
   pub len : (a : ℕ) → array_len p a ≡ array_len q a

@@ -24,7 +24,7 @@ use Rattle.law_compiler.proofs.Passes.{passes_suffice, inputs_kept}
 use Rattle.law_compiler.specs.Graphs.{ExpandedIsTidy, IsExpandedFor, GraphsFollow}
 use Rattle.law_compiler.proofs.GraphsOrigins.{plans_have_origins}
 
--- the last instruction of a landing stands in the block
+-- the last instruction of a landing is in the block
 pub expanded_is_tidy : ExpandedIsTidy
 expanded_is_tidy g text well once = record { landings = landings; once = once }
   where

@@ -54,7 +54,7 @@ module _ (p : Plan) (s : IsSound p) (b : ℕ) (c : CodeBlock) (at_b : slice_get 
   far_is : (n to : ℕ) → gone_at l n ≡ false → n ≤ to → to < length c.instrs → new_place l n + (new_place l to - new_place l n) ≡ new_place l to
   far_is n to stay le low = let k = place_low p s.dests b c at_b block.size n to le low stay in omega (arith, k)
 
-  -- the operation of a moved instruction comes to its tokens as often
+  -- the operation of a moved instruction gets its tokens as often
   often_same : (n : ℕ) (i : Instr) → slice_get c.instrs n ≡ Some i → often (Some (moved l n i)) ≡ often (Some i)
   often_same n i at = go (fold_cases p c n)
     where

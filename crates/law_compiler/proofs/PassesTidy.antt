@@ -9,7 +9,7 @@ use Rattle.semantics.specs.Plan.{landing_in}
 use Rattle.semantics.specs.Orderly.{often}
 use Rattle.law_fresh_frames.specs.Alike.{plain_dests}
 
--- a landing holds one instruction at least, where there is such a block
+-- a landing holds at least one instruction, where there is such a block
 pub some_landing : (t : Bool) (c : CodeBlock) → 0 < landing_in t (Some c)
 some_landing true c = omega arith
 some_landing false c = omega arith

@@ -74,7 +74,7 @@ only_one x y c = pick (contains_cases x [] y c)
     pick (inl e) = e
     pick (inr d) = absurd (contains_none y d)
 
--- so is what answers beside the wires, but for a landing
+-- so is what answers beside the wires, except for a landing
 answered_calm : (fl : Flow) (variant : ℕ → ℕ) (s : Site) (w : Wiring) (r : Part) (x : Inlet) → there_in fl s w r ≡ true → ((n : ℕ) → r ≡ Linker n → ⊥)
     → Contains (answered_at r) x → IsCalm fl variant s w x.part
 answered_calm fl variant s w (Linker n) x h other c = absurd (other n refl)

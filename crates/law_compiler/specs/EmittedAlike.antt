@@ -7,7 +7,7 @@ use Rattle.semantics.specs.Program.{Instr, CodeBlock, Program}
 use Rattle.semantics.specs.Rule.{slot_of}
 use Rattle.semantics.specs.Opcodes.{may_fault}
 
--- where first destinations are told from second ones: at a switch and a link, and where the answer comes to the first
+-- where first destinations are distinguished from second ones: at a switch and a link, and where the answer goes to the first
 abbrev pub is_split : Op → Bool
 is_split Switch = true
 is_split (Link b) = true

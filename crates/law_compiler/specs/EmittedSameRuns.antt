@@ -15,7 +15,7 @@ use Rattle.semantics.specs.declared.version.Version.TheVariants.{One, Two}
 use Rattle.select.specs.Emitted.{code_of}
 use Rattle.law_compiler.specs.EmittedSame.{HaveSameEvents, KeepsBoundsAs, HoldsAloneAs}
 
--- the origins of a plan that can be told in this version: in the first one there are none
+-- the origins of a plan that can be given in this version: in the first one there are none
 abbrev pub HasOrigins : Version → Plan → Type 0
 HasOrigins One p = All (λ (c : CodeBlock). All (λ (i : Instr). i.origin ≡ Untold) c.instrs) p.program.blocks
 HasOrigins Two p = ⊤

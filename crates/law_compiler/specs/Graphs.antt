@@ -1,4 +1,4 @@
--- The code of every graph is faithful, if its plan is so before the passes.
+-- The code of every graph is faithful, if its plan is as required before the passes.
 use Rattle.std.specs.Prelude.{◌≡◌, ℕ, ◌+◌, false, List, Some, slice_get, Contains}
 use Rattle.semantics.specs.Graph.{Graph, flow_of}
 use Rattle.semantics.specs.Text.{HasText}
@@ -22,21 +22,21 @@ use Rattle.law_compiler.specs.Objects.{plan_of}
 use Rattle.law_fresh_frames.specs.Fresh.{FaithfulOnce}
 use Rattle.law_fresh_frames.specs.Alike.{LandsRightly, plain_dests, IsTidy, Keeps}
 
--- The origins of a graph's instructions can be told in the graph's version: in the first one there are none.
+-- The origins of a graph's instructions can be given in the graph's version: in the first one there are none.
 abbrev pub PlansHaveOrigins : Type 0
 PlansHaveOrigins = (g : Graph) (version : Version) → version_number version ≡ g.version → HasOrigins version (plan_of g)
 
--- No destination but a link's landing leads to a `give` or a `take`.
+-- Only a link's landing leads to a `give` or a `take`.
 abbrev pub LeadsToNoneOften : Plan → Type 0
 LeadsToNoneOften p = (b n : ℕ) (c : CodeBlock) (i : Instr) (d : Dest) → slice_get p.program.blocks b ≡ Some c → slice_get c.instrs n ≡ Some i
     → Contains (plain_dests i i.op) d
     → often (instr_at p.program (first_of p.program b + n + d.ahead)) ≡ false
 
--- That is all that makes the plan tidy which a graph becomes at first: its landings lie in their blocks.
+-- This is all that the first plan of a graph needs to be tidy: its landings lie in their blocks.
 abbrev pub ExpandedIsTidy : Type 0
 ExpandedIsTidy = (g : Graph) → HasText g → WellFormed g → LeadsToNoneOften (expanded (flow_of g)) → IsTidy (expanded (flow_of g))
 
--- What is to be proved of that plan: it is sound, and takes the graph's inputs.
+-- What has to be proved of that plan: it is sound, and takes the graph's inputs.
 pub record IsExpandedFor (g : Graph) : Type 0 where
   pub once : LeadsToNoneOften (expanded (flow_of g))
   pub orderly : Orderly (expanded (flow_of g))

@@ -17,7 +17,7 @@ use Rattle.select.specs.Emitted.{code_of}
 use Rattle.select.specs.Emittable.{IsEmittable}
 
 -- THE PASSES. A graph becomes a plan with any number of destinations at an instruction; operators take literals as operands;
--- trees of copies stand for more than two destinations.
+-- trees of copies replace more than two destinations.
 abbrev pub plan_of : Graph → Plan
 plan_of g = narrowed (folded (expanded (flow_of g)))
 

@@ -13,7 +13,7 @@ use Rattle.law_fresh_frames.specs.FreshReady.{IsReady, IsFaithfulCode}
 abbrev pub FoldedIsTidy : Type 0
 FoldedIsTidy = (p : Plan) → IsSound p → IsTidy p → IsTidy (folded p)
 
--- and all that it has to bring for its code, if it keeps what passes are to keep.
+-- and all that is required of it for its code, if it keeps what passes must keep.
 abbrev pub FoldedIsReady : Type 0
 FoldedIsReady = (fl : Flow) (p : Plan) → Keeps p (folded p) → IsReady fl p → IsReady fl (folded p)
 

@@ -14,11 +14,11 @@ use Rattle.law_net.specs.ContextsPackages.{AllPackages}
 use Rattle.law_net.specs.ContextsExpanded.{AllStatic}
 use Rattle.law_compiler.specs.Graphs.{LeadsToNoneOften, KeepsPromises}
 
--- Nothing but a link's landing leads to a `give` or a `take` of a wired plan: no wire feeds these.
+-- In a wired plan only a link's landing leads to a `give` or a `take`: no wire feeds these.
 abbrev pub WiredLeadsToNoneOften : Type 0
 WiredLeadsToNoneOften = (fl : Flow) (p : Plan) (w : Wires) → IsGood fl p w → LeadsToNoneOften p
 
--- THE LAW: of each well-formed graph within the limits of a text, the code that the compiler makes is faithful with any good slots, and
+-- THE LAW: for each well-formed graph within the limits of a text, the code that the compiler makes is faithful with any good slots, and
 -- keeps what is promised of frames and slots that are used again.
 abbrev pub GraphsKeepPromises : Type 0
 GraphsKeepPromises = (g : Graph) (slots : List (List ℕ)) (version : Version) → HasText g → WellFormed g → Good (plan_of g) slots

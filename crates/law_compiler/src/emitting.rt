@@ -1,12 +1,12 @@
-//! The code of an object does what the plan does that it was made of.
+//! The code of an object does what the plan that it was made from does.
 
 ghost use Rattle.law_compiler.specs.EmittedSameRuns.{EmittedHasSameEvents, EmittedIsFaithful, EmittedReleasesLast, EmittedKeepsBounds, EmittedHoldsAlone};
 ghost use Rattle.law_compiler.specs.EmittedSameRuns.{OwnSlotsAreGood, OwnSlotsHaveSameEvents, OwnSlotsAreFaithful};
 
 /// Emitted code has the events of the plan with its slots: each token does the same, in each store, and so each run of
-/// the one is a run of the other. What is promised of the plan's code is kept by what an object holds of it: that it is
-/// faithful to a graph, that nothing names a frame when it is released, that loops keep their bounds, and that a slot has
-/// one holder at a time.
+/// the one is a run of the other. So what an object holds of the plan's code keeps the promises of that code: it is
+/// faithful to a graph, nothing names a frame when it is released, loops keep their bounds, and a slot has one holder at
+/// a time.
 pub fn emitted_code_is_faithful()
     ensures events { EmittedHasSameEvents }
     ensures faithful { EmittedIsFaithful }

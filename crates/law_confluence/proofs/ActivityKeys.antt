@@ -253,7 +253,7 @@ at_one_place fl ts all (Outputs j v) (Outputs k' w) d e p q h k x m l same line 
     cc
 at_one_place fl ts all a b d e p q h k x m l same line = cc
 
--- Two activities that the graph has and whose tokens are there, no two at one place: with a token in common they are one.
+-- Take two activities that the graph has and whose tokens are there, no two at one place: if they share a token they are one.
 pub same_activity : (fl : Flow) (ts : List Tagged) → Unique ts → (a b : Activity) (d e : Deed) → deed fl a ≡ Some d → deed fl b ≡ Some e
     → Held ts (taken a) → Held ts (taken b) → (x : Tagged) → Within x (taken a) → Within x (taken b) → a ≡ b
 same_activity fl ts all a b d e p q h k x m l =

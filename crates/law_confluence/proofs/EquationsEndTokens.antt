@@ -1,4 +1,4 @@
--- No token is left: each that stood is one that an activity of the run took.
+-- No token is left: each token that was present is one that an activity of the run took.
 use Rattle.std.proofs.Common.{◌≡◌, ℕ, suc, ◌+◌, ◌-◌, ◌≤◌, ◌⊎◌, Bool, List, [], ◌∷◌, length, Some, flat_map, inl, inr, refl, sym, ap, ap₂, ◌∙◌, subst, subst₂}
 use Rattle.std.proofs.Common.{arith, ⊎_elim}
 use Rattle.std.specs.Prelude.{slice_get}
@@ -195,7 +195,7 @@ module _ (z : Rested) where
           (form.0.0, invoked_block z.flow c b n f line form.0.0 eb el (ap callee ek) form.0.1, omega (arith, form.0.2, form.0.3))
       go b eb line el kind ek h form = absurd h
 
-  -- each turn of a loop goes: all its tokens come
+  -- each turn of a loop goes: all its tokens arrive
   turn_happens : (c : Context) (n t j : ℕ) → IsDueIn z (Turned c n t) → 1 ≤ j
       → ((to : Block ℕ) → block_of z.flow (Turned c n t) ≡ Some to → to.outputs ≡ to.inputs + 1 → j ≤ to.inputs)
       → (q : Value) × (v : Value) × Within (Turns c n t j q v) z.run

@@ -1,4 +1,4 @@
--- One whole run that is settled: that of a graph that gives its input back. So what `Settled` asks can be had.
+-- One whole run that is settled: that of a graph that gives its input back. So the conditions of `Settled` can be satisfied.
 use Rattle.std.proofs.Common.{◌≡◌, ℕ, zero, suc, ◌<◌, ◌⊎◌, ℤ, Bool, true, false, List, [], ◌∷◌, Some, None, inl, inr, refl, sym, ap, ◌∙◌, subst, arith, ⊎_elim}
 use Rattle.std.proofs.Common.{nat_lt, slice_get, if◌then◌else◌, Contains}
 use Rattle.std.specs.Prelude.{◌==◌, ⊤, slice_index_or}

@@ -1,4 +1,4 @@
--- Worked examples: what the equations come to for small graphs.
+-- Worked examples: what the equations are for small graphs.
 use Rattle.std.proofs.Common.{◌≡◌, ℕ, zero, suc, ◌<◌, ℤ, Bool, true, false, List, [], ◌∷◌, Some, refl, sym, ap, ◌∙◌, subst, arith, if◌then◌else◌}
 use Rattle.std.specs.Prelude.{pos, negsuc}
 use Rattle.std.specs.Int.{w64, int_wrapping_add}
@@ -44,7 +44,7 @@ adds_inputs x y run s r h =
     h.results_outputs 0 g.0 g.1 ∙ ap Some
     (e.4 ∙ ap (λ a. apply2 Add a e.1 (origin_at adding Main 2)) ea ∙ ap (λ b. apply2 Add (Int x) b (origin_at adding Main 2)) eb)
 
--- x where x is not 0, and else its negation
+-- x where x is not 0, and otherwise its negation
 abbrev pub choosing : Flow
 choosing = alone record {
   inputs = 1;
@@ -125,7 +125,7 @@ looping = record {
   main = 0;
 }
 
--- from -1 there are two turns, with -1 and with 0, and 1 comes out
+-- from -1 there are two turns, with -1 and with 0, and the result is 1
 module _ (run : List Activity) (s : State) (r : Run looping (start (negsuc 0 ∷ [])) run s) (h : Settled looping (negsuc 0 ∷ []) run s r) where
   abbrev Turn : ℕ → ℕ → Value → Type 0
   Turn i n v = Gives looping run s.memory (Turned Main 1 i) n 0 v
@@ -160,7 +160,7 @@ module _ (run : List Activity) (s : State) (r : Run looping (start (negsuc 0 ∷
       let e = h.equations Main 1 0 g.0 g.1 in
       h.results_outputs 0 g.0 g.1 ∙ ap Some (ends g.0 e.turns e.on e.off e.result)
 
--- the place in the array that a fetch and a store name, and what stands there in the end
+-- the place in the array that a fetch and a store name, and what is there in the end
 abbrev pub keeping : Flow
 keeping =
     alone record { inputs = 2; outputs = 1; nodes = line Root (Store 0) (from 0 ∷ from 1 ∷ []) ∷ line Root (Fetch 0) (from 0 ∷ []) ∷ []; results = from 3 ∷ [] }

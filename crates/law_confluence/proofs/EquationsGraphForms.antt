@@ -58,7 +58,7 @@ IsShaped fl = (i : ℕ) (b : Block ℕ) → slice_get fl.blocks i ≡ Some b →
 
 -- LINES
 
--- a node line comes after the inputs
+-- a node line is after the inputs
 pub line_past : {N : Type 0} (b : Block N) (n : ℕ) (line : Node N) → node_at b n ≡ Some line → (b.inputs ≤ n) × (slice_get b.nodes (n - b.inputs) ≡ Some line)
 line_past {N} b n line e = go (nat_lt n b.inputs) refl e
   where

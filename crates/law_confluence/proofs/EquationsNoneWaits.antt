@@ -26,7 +26,7 @@ array_within (suc a) (l ∷ ls) = let s = sum_by-cons (λ (x : ℕ). x) l ls in 
     let n : slice_index_or (l ∷ ls) (suc a) 0 ≡ slice_index_or ls a 0 = refl in
     let u : sum (take (suc a) (l ∷ ls)) ≡ sum (l ∷ take a ls) = ap sum same in omega (arith, s, t, u, n, h)
 
--- no cell that an operand names stands above them all
+-- no cell that an operand names lies above them all
 named_within : (len : ℕ) (v : Value) (o : Origin) (base x : ℕ) → cell_in base (index_in len v o) ≡ Some x → x < base + len
 named_within len (Int (pos n)) o base x e = by_test (nat_lt n len) refl e where
   by_test : (b : Bool) → nat_lt n len ≡ b → cell_in base (if b then Place n else Outside (Fault Range o)) ≡ Some x → x < base + len

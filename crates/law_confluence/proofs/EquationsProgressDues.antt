@@ -1,4 +1,4 @@
--- The inputs of each invocation that is due have come: so each port of each node that is taken in it has a value.
+-- The inputs of each invocation that is due have arrived: so each port of each node that is taken in it has a value.
 use Rattle.std.proofs.Common.{◌≡◌, ℕ, ℤ, zero, suc, ◌+◌, ◌<◌, [], ◌∷◌, length, Some, map, refl, sym, ap, ◌∙◌, subst, arith, Contains}
 use Rattle.tags.specs.declared.value.Value.{Value}
 use Rattle.tags.specs.declared.value.Value.TheVariants.{Int}
@@ -95,7 +95,7 @@ module _ (z : Rested) (c : Context) (due : IsDueIn z c) (o : Open z c) (n : ℕ)
           record { block = to; is_block = is_to (suc t); came = subst (λ t. InputsCame z (Turned c n t) to) turn next }
   turned kind ek h form t turn = absurd h
 
--- the inputs of each invocation that is due have come
+-- the inputs of each invocation that is due have arrived
 pub due_open : (z : Rested) (c : Context) → IsDueIn z c → Open z c
 due_open z Main due = record {
   block = z.main;

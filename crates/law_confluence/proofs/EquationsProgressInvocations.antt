@@ -1,4 +1,4 @@
--- Progress: where the inputs of an invocation have come, each port of each node that is taken has a value.
+-- Progress: where the inputs of an invocation have arrived, each port of each node that is taken has a value.
 use Rattle.std.proofs.Common.{◌≡◌, ℕ, zero, suc, ◌+◌, ◌-◌, ◌<◌, ◌≤◌, Bool, true, false, List, [], ◌∷◌, length, Option, Some, None, nat_lt, if◌then◌else◌, refl}
 use Rattle.std.proofs.Common.{sym, ap, ap₂, ◌∙◌, subst, arith, ltb-true, ltb-false, Contains}
 use Rattle.std.specs.Prelude.{slice_get}
@@ -26,7 +26,7 @@ use Rattle.law_confluence.proofs.EquationsRunRegions.{TakenIn, block_shaped, in_
 use Rattle.law_confluence.proofs.EquationsProgressNodes.{Given, IsPlain, operands, operands_stand, plain_given, merge_given, input_given, gives_said}
 use Rattle.law_confluence.proofs.EquationsProgressNodes.{gates_line, passes_line, fires_line}
 
--- WHAT IS TO BE SHOWN
+-- WHAT HAS TO BE SHOWN
 
 abbrev pub InputsCame : Rested → Context → Block ℕ → Type 0
 InputsCame z c b = (i : ℕ) → i < b.inputs → (v : Value) × Came z (tagged c (AtNode i) (Operand 0) v)
@@ -105,7 +105,7 @@ pub invoked_block : (fl : Flow) (c : Context) (b : Block ℕ) (n f : ℕ) (line 
 invoked_block fl c b n f line to eb el ek e =
     ap (λ o. block_numbered fl (callee_in o n)) eb ∙ ap (λ o. block_numbered fl (callee_of o)) el ∙ ap (block_numbered fl) ek ∙ e
 
--- WHERE THE SOURCES OF A NODE HAVE VALUES, the inputs of what it invokes come
+-- WHERE THE SOURCES OF A NODE HAVE VALUES, the inputs of what it invokes arrive
 
 abbrev pub SourcesHave : Rested → Context → Node ℕ → Type 0
 SourcesHave z c line = (i : ℕ) (s : Source) → slice_get line.sources i ≡ Some s → Given z c s.node s.port

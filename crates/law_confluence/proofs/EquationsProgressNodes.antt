@@ -1,4 +1,4 @@
--- From tokens to values: a node all of whose operands stood has fired, and its ports have been given values.
+-- From tokens to values: a node all of whose operands were present has fired, and its ports have been given values.
 use Rattle.std.proofs.Common.{◌≡◌, ℕ, zero, suc, ◌-◌, ◌<◌, Bool, true, false, List, [], ◌∷◌, length, Option, Some, None, nat_lt, ◌==◌, if◌then◌else◌, refl, sym}
 use Rattle.std.proofs.Common.{ap, ◌∙◌, subst, arith, ⊎_elim, eq-eqb, lt-ltb}
 use Rattle.std.specs.Prelude.{⊤, slice_get}
@@ -221,7 +221,7 @@ module _ (z : Rested) (c : Context) (b : Block ℕ) (eb : block_of z.flow c ≡ 
       let ops = operands z c line.sources sources in
       fired_given n line ops.values plain (line_fired n line ops.values el (plain_together line.kind plain) form ops.long (operands_stand n line ops el))
 
-  -- a merge passes what comes
+  -- a merge passes on what arrives
   pub merge_given : (n k : ℕ) (line : Node ℕ) (i : ℕ) (v : Value) → node_at b n ≡ Some line → line.kind ≡ Merge k → Came z (tagged c (AtNode n) (Operand i) v)
       → Given z c n 0
   merge_given n k line i v el kind h =

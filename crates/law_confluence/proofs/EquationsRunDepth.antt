@@ -1,4 +1,4 @@
--- No token of a run lies deeper than the run is long: each activity reaches one invocation or one turn further at most.
+-- No token of a run lies deeper than the run is long: each activity reaches at most one invocation or one turn further.
 use Rattle.std.proofs.Common.{ℕ, ◌+◌, ◌<◌, ◌≤◌, ℤ, List, [], ◌∷◌, ◌++◌, length, inl, inr, ap, subst, arith, ⊎_elim, map}
 use Rattle.std.proofs.lemmas.List.Sorted.{IsPermutation-sym}
 use Rattle.tags.specs.declared.value.Value.{Value}

@@ -1,4 +1,4 @@
--- At rest, with no second store and no waiting fetch: an activity all of whose tokens stood is in the run.
+-- At rest, with no second store and no waiting fetch: an activity all of whose tokens were present is in the run.
 use Rattle.std.proofs.Common.{◌≡◌, ℕ, ◌+◌, ◌-◌, ◌<◌, ◌⊎◌, ℤ, Bool, true, false, List, [], ◌∷◌, ◌++◌, length, Option, Some, None, nat_lt, ◌==◌, if◌then◌else◌}
 use Rattle.std.proofs.Common.{cond, IsPermutation, inl, inr, refl, sym, ap, ◌∙◌, subst, arith, ⊎_elim, eq-eqb}
 use Rattle.std.specs.Prelude.{pos, negsuc, slice_get, count_by}

@@ -1,4 +1,4 @@
--- From tokens to values: a token that stood at a use of a port is the value that the port was given.
+-- From tokens to values: a token that was present at a use of a port is the value that the port was given.
 use Rattle.std.proofs.Common.{◌≡◌, ℕ, zero, suc, ◌+◌, ◌-◌, ◌<◌, ◌≤◌, ◌⊎◌, ℤ, Bool, List, [], ◌∷◌, Option, Some, map, inl, inr, refl, sym, ap, ap₂, ◌∙◌, subst}
 use Rattle.std.proofs.Common.{subst₂, arith, ⊎_elim}
 use Rattle.std.specs.Prelude.{slice_get}

@@ -38,7 +38,7 @@ module _ (z : Rested) (c : Context) (b : Block ℕ) (eb : block_of z.flow c ≡ 
       go None f g = cc
       go (Some line) f g = ((block_shaped z c b eb).lines m line f).round k side g
 
-  -- a region's arms are all told once the depth is past its conditional
+  -- the list of a region's arms is complete once the depth is past its conditional
   deeper : (depth : ℕ) (r : Region) → ((k : ℕ) (side : Bool) → r ≡ Arm k side → k < depth) → ArmsTaken (Came z) c (arms_round depth b r)
       → ArmsTaken (Came z) c (arms_round (suc depth) b r)
   deeper zero Root low h = tt

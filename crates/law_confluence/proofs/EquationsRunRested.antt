@@ -1,4 +1,4 @@
--- A whole run that came to rest, with what is known of all runs, and what follows of where its tokens came from.
+-- A whole run that came to rest, with what is known of all runs, and what follows from where its tokens came from.
 use Rattle.std.proofs.Common.{◌≡◌, ℕ, ◌⊎◌, ℤ, List, [], ◌∷◌, ◌++◌, length, Some, flat_map, inl, inr, refl, sym, ap, ◌∙◌, subst, ⊎_elim, Contains}
 use Rattle.std.proofs.lemmas.List.Sorted.{IsPermutation-sym}
 use Rattle.std.proofs.lemmas.Option.{same_Some}
@@ -38,7 +38,7 @@ pub record Rested : Type 0 where
   pub due : (x : Tagged) → Stood flow (start inputs) run state is_run x → Due flow run (Stood flow (start inputs) run state is_run) x.context
   pub happens : (a : Activity) (d : Deed) → deed flow a ≡ Some d → Each (Stood flow (start inputs) run state is_run) (taken a) → Within a run
 
--- a token that stood
+-- a token that was present
 abbrev pub Came : Rested → Tagged → Type 0
 Came z x = Stood z.flow (start z.inputs) z.run z.state z.is_run x
 
@@ -107,7 +107,7 @@ step_from fl s t u a run q keeps x k =
     (λ l. inl (within_to x s.tokens (within_permutation x (taken a ++ q.rest) s.tokens (IsPermutation-sym _ _ q.takes) (within_right x (taken a) q.rest l))))
     (within_append x q.does.added q.rest there)
 
--- a token that stood was there at first, or an activity said it
+-- a token that was present was there at first, or an activity said it
 pub run_from : (fl : Flow) (s t : State) (run : List Activity) (r : Run fl s run t) (x : Tagged) → Stood fl s run t r x
     → Contains s.tokens x ⊎ Said fl run t.memory x
 run_from fl s t [] r x h = inl (within_to x s.tokens (within_permutation x t.tokens s.tokens (IsPermutation-sym _ _ r.0) (within_from x t.tokens h)))

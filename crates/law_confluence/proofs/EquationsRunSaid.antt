@@ -1,4 +1,4 @@
--- What an activity of a run says, as the memory at the end tells it, stood as tokens.
+-- What an activity of a run says, as read in the memory at the end, was present as tokens.
 use Rattle.std.proofs.Common.{◌≡◌, ℕ, zero, suc, List, [], ◌∷◌, ◌++◌, Some, inr, sym, ap, ◌∙◌, subst}
 use Rattle.std.specs.Prelude.{slice_get}
 use Rattle.std.proofs.lemmas.List.Sorted.{IsPermutation-sym}

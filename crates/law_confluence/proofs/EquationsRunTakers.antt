@@ -1,4 +1,4 @@
--- The tokens of a run: each that stood is taken by one activity of the run, or is left.
+-- The tokens of a run: each that was present is taken by one activity of the run, or is left.
 use Rattle.std.proofs.Common.{◌≡◌, ℕ, zero, suc, ◌⊎◌, ℤ, List, [], ◌∷◌, ◌++◌, length, Some, inl, inr, refl, subst, ⊎_elim, flat_map, Contains}
 use Rattle.std.specs.Prelude.{slice_get}
 use Rattle.std.proofs.lemmas.Option.{same_Some}
@@ -56,7 +56,7 @@ module _ (g : Graph) (well : WellFormed g) (inputs : List ℤ) (count : length i
   abbrev Ever : Tagged → Type 0
   Ever x = Within x (flat_map taken run ++ s.tokens)
 
-  -- If all tokens that an activity would take stood, and one of them was taken, that very activity took it.
+  -- If all tokens that an activity would take were present, and one of them was taken, that very activity took it.
   pub same_taker : (a : Activity) (d : Deed) → deed (flow_of g) a ≡ Some d → Each (Stood (flow_of g) (start inputs) run s r) (taken a) → (x : Tagged)
       → Within x (taken a) → (t : Taker run x) → t.activity ≡ a
   same_taker a d e held x h t =

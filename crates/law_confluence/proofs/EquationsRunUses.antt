@@ -1,4 +1,4 @@
--- From values to tokens: a value that a port has been given stood as a token at each use of the port.
+-- From values to tokens: a value that a port has been given was present as a token at each use of the port.
 use Rattle.std.proofs.Common.{◌≡◌, ℕ, zero, suc, ◌+◌, ◌-◌, ◌≤◌, ◌&&◌, Bool, true, false, List, [], ◌∷◌, Option, Some, None, map, flat_map, ◌==◌, if◌then◌else◌}
 use Rattle.std.proofs.Common.{inl, inr, refl, sym, ap, ap₂, ◌∙◌, subst, arith, eqb-true, eq-eqb}
 use Rattle.std.specs.Prelude.{⊤, slice_get}
@@ -93,7 +93,7 @@ flags_all : (P : Use → Type 0) (from n : ℕ) → ((k : ℕ) → P (AtTurn k, 
 flags_all P from zero h = tt
 flags_all P from (suc n) h = (h from, flags_all P (from + 1) n h)
 
--- a result's tokens are at an output, but at a turn where the invocation is a turn of a loop
+-- a result's tokens are at an output, except where the invocation is a turn of a loop: there they are at a turn
 abbrev pub Ends : Context → Statement → Type 0
 Ends c (AtNode m) = ⊤
 Ends c (AtOut j) = IsTurned c → ⊥

@@ -1,4 +1,5 @@
--- Nothing is given in an invocation that is not due, at a node that is not taken, or on a port that a node has not; and what a conditional took.
+-- Nothing is given in an invocation that is not due, at a node that is not taken, or on a port that a node does not have; and what a
+-- conditional took.
 use Rattle.std.proofs.Common.{◌≡◌, ℕ, ◌+◌, ◌<◌, ◌≤◌, Bool, true, false, List, [], ◌∷◌, length, Option, Some, None, nat_lt, if◌then◌else◌, refl, sym, ap, ◌∙◌}
 use Rattle.std.proofs.Common.{subst, arith, inl, inr, ◌⊎◌, ⊎_elim}
 use Rattle.std.specs.Prelude.{slice_get}

@@ -1,4 +1,4 @@
--- A run's history: all tokens that ever stood, no two at one place, each with its cause.
+-- A run's history: all tokens that were ever present, no two at one place, each with its cause.
 use Rattle.std.proofs.Common.{◌≡◌, ℕ, suc, ◌≤◌, ◌⊎◌, ℤ, List, [], ◌∷◌, ◌++◌, map, length, Some, IsPermutation, inl, inr, refl, sym, ap, subst, arith, ⊎_elim}
 use Rattle.std.proofs.Common.{append_assoc, append-nil, flat_map, Contains}
 use Rattle.std.proofs.lemmas.List.Sorted.{IsPermutation-refl, IsPermutation-sym, IsPermutation-trans, IsPermutation-append_right, IsPermutation-append_left}
@@ -227,13 +227,13 @@ module _ (fl : Flow) (w : IsFlowWell fl) (inputs : List ℤ) (fits : Fits fl inp
   pub flow_determinate : (s : State) → Reached fl inputs s → AtRest fl s → NoClash fl s → Converges fl inputs s
   flow_determinate s r rest quiet = determinate fl inputs (History fl inputs) history_kept ([], start_history fl inputs fits) s r rest quiet
 
--- THE TOKENS THAT STOOD IN A RUN
+-- THE TOKENS THAT WERE PRESENT IN A RUN
 
 pub stood_at : (fl : Flow) (s t : State) (r : List Activity) (p : Run fl s r t) (x : Tagged) → Contains s.tokens x → Stood fl s r t p x
 stood_at fl s t [] p x h = Contains-permutation s.tokens t.tokens x p.0 h
 stood_at fl s t (a ∷ r) p x h = inl h
 
--- a token that stood was taken or is left
+-- a token that was present was taken or is left
 pub stood_ever : (fl : Flow) (s t : State) (r : List Activity) (p : Run fl s r t) (x : Tagged) → Stood fl s r t p x → Ever (flat_map taken r) t.tokens x
 stood_ever fl s t [] p x h = within_from x t.tokens h
 stood_ever fl s t (a ∷ r) p x (inl h) =

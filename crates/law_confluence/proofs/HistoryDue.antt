@@ -1,4 +1,4 @@
--- An invocation with a token that stood in a run is due in that run.
+-- An invocation with a token that was present in a run is due in that run.
 use Rattle.std.proofs.Common.{◌≡◌, ℕ, zero, suc, ◌-◌, ◌⊎◌, ℤ, Bool, List, [], ◌∷◌, ◌++◌, flat_map, Option, Some, None, Contains, inl, inr, refl, sym, ap, ◌∙◌}
 use Rattle.std.proofs.Common.{subst, arith, ⊎_elim, append_assoc}
 use Rattle.std.specs.Prelude.{⊤}
@@ -29,7 +29,7 @@ use Rattle.law_confluence.proofs.HistoryGrounds.{own_arm, called_arm, found_line
 use Rattle.law_confluence.proofs.HistoryShare.{before}
 use Rattle.law_confluence.specs.Outcome.{SameTag}
 
--- each token that a run took or left stood in it
+-- each token that a run took or left was present in it
 pub ever_stood : (fl : Flow) (s t : State) (r : List Activity) (p : Run fl s r t) (x : Tagged) → Within x (flat_map taken r ++ t.tokens) → Stood fl s r t p x
 ever_stood fl s t [] p x h = within_to x t.tokens h
 ever_stood fl s t (a ∷ r) p x h =
@@ -204,7 +204,7 @@ module _ (fl : Flow) (w : IsFlowWell fl) (E : Tokens) (all : (t : Tagged) → E 
         λ j less. let flag = before fl w E all one i j c n x h e less in (flag.0, flag.1, to _ flag.2, flag.3),
       )
 
--- An invocation with a token that stood in a run is due in that run.
+-- An invocation with a token that was present in a run is due in that run.
 pub stood_due : (fl : Flow) → IsFlowWell fl → (inputs : List ℤ) → Fits fl inputs
     → (s : State) (run : List Activity) (r : Run fl (start inputs) run s) (t : Tagged)
     → Stood fl (start inputs) run s r t → Due fl run (Stood fl (start inputs) run s r) t.context

@@ -1,4 +1,4 @@
--- What holds of every token that ever stood, told by the other tokens that did.
+-- What holds of every token that was ever present, in terms of the other tokens that were.
 use Rattle.std.proofs.Common.{◌≡◌, ℕ, suc, ◌+◌, ◌<◌, ◌≤◌, ◌⊎◌, Bool, true, false, length, Option, Some, None, inl, inr, refl, sym, ap, ◌∙◌, subst, subst₂}
 use Rattle.std.proofs.Common.{arith, ⊎_elim}
 use Rattle.std.specs.Prelude.{⊤, slice_get}

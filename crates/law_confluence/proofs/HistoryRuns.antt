@@ -1,4 +1,4 @@
--- Runs put together, and what they keep of the memory.
+-- Runs joined together, and what they keep of the memory.
 use Rattle.std.proofs.Common.{◌≡◌, ℕ, zero, suc, ◌⊎◌, ℤ, Bool, true, false, List, [], ◌∷◌, ◌++◌, flat_map, Option, Some, ◌==◌, if◌then◌else◌, IsPermutation}
 use Rattle.std.proofs.Common.{inl, inr, refl, sym, ap, ◌∙◌, subst, subst₂, ⊎_elim, append_assoc, append-nil, slice_get, eqb-true}
 use Rattle.std.proofs.lemmas.List.Sorted.{IsPermutation-refl, IsPermutation-sym, IsPermutation-trans}

@@ -317,7 +317,7 @@ module _ (fl : Flow) (w : IsFlowWell fl) (E : Tokens) (all : (t : Tagged) → E 
   start_rival a m vs r h (BothTell c k v v' e f) = cc
   start_rival a m vs r h (BothEnter d from from' us us' i i' e f l l' at) = no_start d from us a (enterer_of a d from us m r h e) (cc)
 
-  -- no activity sends to where a token stands at the start
+  -- no activity sends to where a token is at the start
   pub not_at_start : (a : Activity) (m : Message) (vs : List Value) → Row fl a m → Each E (taken a) → Grounded fl E (Enters Main 0 vs) → (t u : Tagged)
       → Member fl m t → Member fl (Enters Main 0 vs) u → SameTag t u → ⊥
   not_at_start a m vs r h g t u x y same = start_rival a m vs r h (member_rivals fl E m (Enters Main 0 vs) t u x y same (row_grounded fl w E all a m r h) g)

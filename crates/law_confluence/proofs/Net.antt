@@ -16,7 +16,7 @@ pub record NetConfig (I F : Type 0) : Type 0 where
   pub waiting : List I
   pub fired : List F
 
--- An item waits, or some that come and some that waited are all that a firing takes.
+-- An item waits, or a firing takes exactly some items that arrive and some that waited.
 pub data NetMove {I F : Type 0} (takes makes : F → List I) (c d : NetConfig I F) : Type 0 where
   Waits : (i : I) (rest : List I) → IsPermutation c.pending (i ∷ rest) → d ≡ record { pending = rest; waiting = i ∷ c.waiting; fired = c.fired }
       → NetMove takes makes c d
@@ -86,7 +86,7 @@ module _ {I X F R : Type 0} (inlet : I → X) (same : X → X → Bool) (takes m
   abbrev pub FiresOnce : List F → Type 0
   FiresOnce fired = (f h : F) → Contains fired f → Contains fired h → role f ≡ role h → f ≡ h
 
-  -- WHAT MAY COME
+  -- WHAT MAY BE THERE
   -- `Allowed fired i`: by what has fired, item i may be there. The laws of a net:
   pub record IsLawful (Allowed : List F → I → Type 0) : Type 0 where
     pub later : (f : F) (fired : List F) (i : I) → Allowed fired i → Allowed (f ∷ fired) i
@@ -214,7 +214,7 @@ module _ {I X F R : Type 0} (inlet : I → X) (same : X → X → Bool) (takes m
             let a = total-append (hit z) kept others in let x = total-append (hit z) now rest in let y = total-append (hit z) now kept in
             omega (arith, h, m, k, t, u, v, a, x, y)
 
-        -- no firing of its part came before
+        -- no firing of its part was earlier
         first_of_part : (g : F) → Contains c.fired g → role f ≡ role g → ⊥
         first_of_part g k e =
             let r = laws.rivals f g c.fired s.once k mine (takes_allowed c s g k) e in

@@ -1,4 +1,4 @@
--- Nets with conditionals are lawful: an inlet that two parts feed gets a word from one of them alone, since they lie in
+-- Nets with conditionals are lawful: an inlet that two parts feed gets a word from only one of them, since they lie in
 -- opposite arms, and one word decided between those.
 use Rattle.std.proofs.Common.{◌≡◌, ◌<◌, ◌≤◌, Bool, true, false, not, List, ◌∷◌, sym, ap, ◌∙◌, subst, inl, inr, ◌⊎◌, []}
 use Rattle.std.specs.Prelude.{All, Contains}
@@ -32,7 +32,7 @@ module _ {I X F R K : Type 0} (inlet : I → X) (same : X → X → Bool) (takes
 
   -- what can be read off the wires
   pub record HasArms : Type 0 where
-    -- into an arm leads only what lies in it, or a switch of its conditional on that side
+    -- only what lies in an arm, or a switch of its conditional on that side, leads into the arm
     pub enters : (f : F) (i : I) (k : K) (side : Bool) → AllFit f → Contains (makes f) i → InArm (inlet i) k side → Proves f k side
     -- a conditional's word comes from its source
     pub words : (f : F) (i : I) (k : K) → AllFit f → Contains (makes f) i → IsPredicate (inlet i) k → (role f ≡ source k) × (says f ≡ is_true i)

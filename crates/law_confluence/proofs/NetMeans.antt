@@ -35,7 +35,7 @@ abbrev pub state_of : List Tagged → Memory → State
 state_of ts m = record { tokens = ts; memory = m }
 
 module _ {I F : Type 0} (fl : Flow) (inputs : List ℤ) (takes makes : F → List I) (meant : I → List Tagged) (memory : List F → Memory) where
-  -- the state of the meaning that the net tells of
+  -- the state of the meaning that the net stands for
   pub record NetMeans (c : NetConfig I F) (s : State) : Type 0 where
     pub reached : Reached fl inputs s
     pub tokens : IsPermutation s.tokens (flat_map meant (c.pending ++ c.waiting))

@@ -1,5 +1,5 @@
--- Slots hold what waits: in any frames, with slots that may be shared, so long as what waits at one time lies apart. The
--- other slots are as `base` says: empty, or as a loop's credits stand.
+-- Slots hold what waits: in any frames, with slots that may be shared, so long as items that wait at one time lie apart. The
+-- other slots are as `base` says: empty, or with a loop's credits.
 use Rattle.std.proofs.Common.{◌≡◌, ℕ, List, ◌∷◌, refl, sym, ap, ◌∙◌, subst, inl, inr, ◌⊎◌, eq-eqb}
 use Rattle.std.specs.Prelude.{IsPermutation, Contains}
 use Rattle.std.proofs.lemmas.Bool.{cases_eq}
@@ -32,7 +32,7 @@ module _ {I : Type 0} (frame slot : I → ℕ) (held : I → SlotState) (base : 
   abbrev pub AtSlot : List I → ℕ → ℕ → Type 0
   AtSlot items f q = (i : I) × Contains items i × (frame i ≡ f) × (slot i ≡ q)
 
-  -- the slots hold just what waits
+  -- the slots hold exactly what waits
   pub record InSlots (waiting : List I) (slots : ℕ → ℕ → SlotState) : Type 0 where
     pub waits : (i : I) → Contains waiting i → slots (frame i) (slot i) ≡ held i
     pub empty : (f q : ℕ) → (slots f q ≡ base f q) ⊎ AtSlot waiting f q

@@ -28,7 +28,7 @@ module _ (g : Graph) (well : WellFormed g) (inputs : List ℤ) (count : length i
   pub unique_tags : (run : List Activity) (s : State) → Run (flow_of g) (start inputs) run s → TagsDiffer (tokens_of_run run s)
   unique_tags run s r = tags_differ (tokens_of_run run s) (each_place_once s run r)
 
-  -- Two tokens that stood at one place in a run are one.
+  -- Two tokens that were present at one place in a run are one.
   pub stood_once : (s : State) (run : List Activity) (r : Run (flow_of g) (start inputs) run s) (t u : Tagged)
       → Stood (flow_of g) (start inputs) run s r t → Stood (flow_of g) (start inputs) run s r u → SameTag t u → t ≡ u
   stood_once s run r t u h k same =
@@ -45,7 +45,7 @@ module _ (g : Graph) (well : WellFormed g) (inputs : List ℤ) (count : length i
       → ⊥
   each_output_once s t j v w r p e = shows_once (flow_of g) inputs s t r.run j v w r.is_run (each_place_once s r.run r.is_run) p e
 
-  -- An invocation with a token that stood in a run is due in that run.
+  -- An invocation with a token that was present in a run is due in that run.
   pub standing_due : (s : State) (run : List Activity) (r : Run (flow_of g) (start inputs) run s) (t : Tagged) → Stood (flow_of g) (start inputs) run s r t
       → Due (flow_of g) run (Stood (flow_of g) (start inputs) run s r) t.context
   standing_due s run r t h = stood_due (flow_of g) (flow_well g well) inputs (fits g well inputs count) s run r t h

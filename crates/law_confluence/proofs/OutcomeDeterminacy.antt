@@ -89,7 +89,7 @@ ends : (fl : Flow) (s t : State) (r : List Activity) → AtRest fl s → Run fl 
 ends fl s t [] rest p = p
 ends fl s t (a ∷ later) rest p = absurd (rest a p.0 p.1)
 
--- all runs come together in this state
+-- all runs meet in this state
 pub record Converges (fl : Flow) (inputs : List ℤ) (s : State) : Type 0 where
   pub leads : (other : State) → Reached fl inputs other → Leads fl other s
   pub no_clash : (other : State) (x : ℕ) → Reached fl inputs other → Clashes fl other x → ⊥

@@ -1,4 +1,4 @@
--- What the meaning of a well-formed graph keeps to, whatever the order of its activities.
+-- What holds of the meaning of a well-formed graph, whatever the order of its activities.
 use Rattle.std.specs.Prelude.{◌≡◌, ℕ, ◌≤◌, ℤ, List, ◌++◌, length, Some, slice_get, flat_map}
 use Rattle.tags.specs.declared.value.Value.{Value}
 use Rattle.semantics.specs.Graph.{Graph, Flow, flow_of}
@@ -10,7 +10,7 @@ use Rattle.semantics.specs.Faithful.{inputs_of}
 abbrev pub AreInputsOf : Graph → List ℤ → Type 0
 AreInputsOf g inputs = length inputs ≡ inputs_of (flow_of g)
 
--- TAGS. Two tokens have one tag: they are at one port of one node or result, in one invocation.
+-- TAGS. Two tokens have the same tag: they are at one port of one node or result, in one invocation.
 abbrev pub SameTag : Tagged → Tagged → Type 0
 SameTag t u = (t.context ≡ u.context) × (t.statement ≡ u.statement) × (t.port ≡ u.port)
 
@@ -21,7 +21,7 @@ TagsDiffer ts = (i j : ℕ) (t u : Tagged) → slice_get ts i ≡ Some t → sli
 abbrev pub tokens_of_run : List Activity → State → List Tagged
 tokens_of_run run s = flat_map taken run ++ s.tokens
 
--- Along each run, no two tokens have one tag.
+-- Along each run, no two tokens have the same tag.
 abbrev pub UniqueTags : Type 0
 UniqueTags = (g : Graph) (inputs : List ℤ) → WellFormed g → AreInputsOf g inputs
     → (run : List Activity) (s : State) → Run (flow_of g) (start inputs) run s → TagsDiffer (tokens_of_run run s)
@@ -30,8 +30,8 @@ UniqueTags = (g : Graph) (inputs : List ℤ) → WellFormed g → AreInputsOf g 
 abbrev pub NoClash : Flow → State → Type 0
 NoClash fl s = (x : ℕ) → Clashes fl s x → ⊥
 
--- All that is reached leads on to s, and what it has of cells and outputs, s has, too. No reached state clashes, what else
--- is at rest is s, no run is longer than one to s, and each run to s is as long.
+-- Every reached state leads on to s, and s has the cells and outputs that it has. No reached state clashes, every reached state
+-- at rest is s, no run is longer than one to s, and all runs to s are equally long.
 pub record IsOnlyOutcome (fl : Flow) (inputs : List ℤ) (s : State) : Type 0 where
   pub leads : (other : State) → Reached fl inputs other → Leads fl other s
   pub cells : (other : State) (x : ℕ) (v : Value) → Reached fl inputs other → other.memory.cells x ≡ Some v → s.memory.cells x ≡ Some v
@@ -41,12 +41,12 @@ pub record IsOnlyOutcome (fl : Flow) (inputs : List ℤ) (s : State) : Type 0 wh
   pub no_longer : (other : State) (q r : List Activity) → Run fl (start inputs) q other → Run fl (start inputs) r s → length q ≤ length r
   pub same_length : (q r : List Activity) → Run fl (start inputs) q s → Run fl (start inputs) r s → length q ≡ length r
 
--- Where one run comes to rest without a clash, that is the only outcome.
+-- If one run comes to rest without a clash, that is the only outcome.
 abbrev pub OneOutcome : Type 0
 OneOutcome = (g : Graph) (inputs : List ℤ) → WellFormed g → AreInputsOf g inputs
     → (s : State) → Reached (flow_of g) inputs s → AtRest (flow_of g) s → NoClash (flow_of g) s → IsOnlyOutcome (flow_of g) inputs s
 
--- Where one run meets a second store to a cell, none comes to rest without one.
+-- If one run meets a second store to a cell, no run comes to rest without one.
 abbrev pub SecondStoreAlways : Type 0
 SecondStoreAlways = (g : Graph) (inputs : List ℤ) → WellFormed g → AreInputsOf g inputs
     → (s other : State) (x : ℕ) → Reached (flow_of g) inputs s → Clashes (flow_of g) s x

@@ -3,7 +3,7 @@
 ghost use Rattle.law_confluence.specs.EquationsSettled.{RunsAtRestSatisfyEquations};
 ghost use Rattle.law_confluence.specs.EquationsShown.{MachinesShowEquations};
 
-/// What a graph computes, told without tokens.
+/// What a graph computes, stated without tokens.
 ///
 /// Once a run of a well-formed graph has come to rest, with no second store and no waiting fetch, each port of each node
 /// that is taken in an invocation that is due has one value, nothing else has one, and the values satisfy the equations of

@@ -1,4 +1,4 @@
--- Lists of contexts in which none stands twice: those of a list, each once, and that no more of them fit into another list than it has.
+-- Lists of contexts in which none occurs twice: those of a list, each once, and that no more of them fit into another list than it has.
 use Rattle.std.proofs.Common.{◌≡◌, ℕ, zero, suc, ◌+◌, ◌<◌, ◌≤◌, Bool, true, false, ◌⊎◌, inl, inr, List, [], ◌∷◌, length, map, Some, if◌then◌else◌, refl, sym}
 use Rattle.std.proofs.Common.{ap, ◌∙◌, subst, arith, true≢false}
 use Rattle.std.specs.Prelude.{Contains, slice_get, slice_index_or, count_by}
@@ -13,7 +13,7 @@ use Rattle.law_net.proofs.ContextsSames.{hits_at, same_context-true, same_contex
 use Rattle.law_net.proofs.WiredNets.{count_total}
 use Rattle.law_net.proofs.RunsPigeons.{few_pigeons}
 
--- how often a context stands in a list
+-- how often a context occurs in a list
 abbrev pub often : Context → List Context → ℕ
 often c xs = total (λ (d : Context). one (same_context c d)) xs
 

@@ -41,7 +41,7 @@ module _ (fl : Flow) (p : Plan) (w : Wires) (inputs : List ℤ) (past : Past) (m
         subst (λ (r : Part). IsOpen fl w kept.tracks.net.fired i.context (entered (block_in fl i.context) r i.inlet.way)) e
         (stands_open fl p w inputs past m good fit kept i.context con i stood refl)
 
-    -- where anything stands
+    -- where any item is
     pub context_due : DueHere i.context
     context_due =
         known_due fl p w inputs past m good fit kept earlier (strict_fired fl p w inputs past m good fit kept earlier) i.context con

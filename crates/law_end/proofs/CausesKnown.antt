@@ -67,7 +67,7 @@ module _ (fl : Flow) (p : Plan) (w : Wires) (inputs : List ℤ) (past : Past) (m
       pick (inl f) = ap (spot_there fl w h.context) (sym e) ∙ f
       pick (inr (n, f, l)) = let z : NextAsked ≡ Drained n = sym e ∙ f in absurd (cc)
 
-  -- a call's context was handed its frame where it is called
+  -- the frame of a call's context was handed out where it is called
   call_asked : (c : Context) (n : ℕ) → HasFrame (Called c n) → HasFired c (Asked n) done
   call_asked c n (g, e) = by_hand (hander fl done (Called c n) g (λ e. absurd (cc)) e)
     where

@@ -1,4 +1,4 @@
--- At rest, with nothing wanted and no reader waiting, a part has fired if something came to each of its ports.
+-- At rest, with nothing wanted and no reader waiting, a part has fired if something arrived at each of its ports.
 use Rattle.std.proofs.Common.{◌≡◌, ℕ, zero, suc, ◌+◌, Bool, true, false, ◌⊎◌, inl, inr, List, [], ◌∷◌, ◌++◌, map, length, if◌then◌else◌, refl, sym, ap, ◌∙◌}
 use Rattle.std.proofs.Common.{subst, arith, true≢false, eq-eqb}
 use Rattle.std.specs.Prelude.{Contains, IsPermutation, flat_map}
@@ -147,7 +147,7 @@ module _ (u : AtRest) where
       (subst (λ (ts : List Token). IsPermutation ts (map (token_of u.fl u.p u.w u.kept.tracks.net.fired) u.kept.tracks.net.pending)) u.rests
       u.kept.tracks.stands.pool)
 
-  -- WHAT CAME waits or was taken
+  -- WHAT ARRIVED waits or was taken
   pub waits_or_taken : (i : Item) → Stood u i
       → Contains u.kept.tracks.net.waiting i ⊎ ((h : Firing) × Contains u.kept.tracks.net.fired h × Contains (takes u.fl h) i)
   waits_or_taken i s =

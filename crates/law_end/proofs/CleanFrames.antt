@@ -1,4 +1,4 @@
--- At rest each context that has a frame was supplied, and so all of it has fired, and its frame came back.
+-- At rest each context that has a frame was supplied, and so all of it has fired, and its frame was handed back.
 use Rattle.std.proofs.Common.{◌≡◌, ℕ, zero, suc, ◌+◌, ◌<◌, Bool, true, false, List, [], ◌∷◌, Option, Some, None, if◌then◌else◌, refl, sym, ap, ◌∙◌, subst}
 use Rattle.std.proofs.Common.{arith, true≢false, lt-ltb}
 use Rattle.std.specs.Prelude.{Contains}
@@ -187,7 +187,7 @@ module _ (u : AtRest) where
   supplied (Called d n) has = called_for d n (supplied d) (asked_for (Called d n) has (call_main d n))
   supplied (Turned d n t) has = turned_for d n (supplied d) t has
 
-  -- IT IS OVER, and its frame came back
+  -- IT IS OVER, and its frame was handed back
   pub ended : (c : Context) (g : ℕ) → frame_at u.fl u.kept.tracks.net.fired c ≡ Some g → Fired u c End
   ended c g at = let s = supplied c (g, at) in over c s End refl refl s.opened
 

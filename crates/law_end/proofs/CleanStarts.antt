@@ -1,4 +1,4 @@
--- Along the wires of any context: what feeds an inlet, what chose an arm, and that what decides a conditional comes earlier.
+-- Along the wires of any context: what feeds an inlet, what chose an arm, and that what decides a conditional is earlier.
 use Rattle.std.proofs.Common.{◌≡◌, ℕ, zero, suc, ◌+◌, ◌<◌, ◌≤◌, Bool, true, false, not, ◌⊎◌, inl, inr, List, [], Some, refl, sym, ap, ◌∙◌, subst, arith}
 use Rattle.std.proofs.Common.{true≢false, ltb-true}
 use Rattle.std.specs.Prelude.{Contains}
@@ -116,7 +116,7 @@ module _ (u : AtRest) (c : Context) (con : IsContext u.fl c) where
       go true g = absurd (true≢false (sym (subst (λ (t : Bool). (elim t as (λ x. Bool) [ true ↦ is_switch s.part | false ↦ true ]) ≡ true) g e) ∙ f))
       go false g = λ k. record { part = s.part; second = g k }
 
-  -- WHAT COMES BEFORE a part to which no wire leads
+  -- WHAT IS BEFORE a part to which no wire leads
   pub record Behind (r : Part) : Type 0 where
     pub from : Part
     pub here : IsHere u.fl u.p u.w u.good c con from
@@ -269,7 +269,7 @@ module _ (u : AtRest) (c : Context) (con : IsContext u.fl c) where
           (from_feeder n below (inlet inner.part Left 0) (feeder (inlet inner.part Left 0) inner.here o.way refl o.given) (omega (arith, early, low)) k t
           (inner.switch.enters 0 ∙ sym join.region ∙ out_of join.quiet))
 
-  -- WHAT DECIDES a conditional whose arms meet comes earlier
+  -- WHAT DECIDES a conditional whose arms meet is earlier
   pub record Decides (k : ℕ) (up : ℕ) : Type 0 where
     pub from : Side
     pub is_side : is_side from ≡ true

@@ -108,7 +108,7 @@ module _ (u : AtRest) where
   abbrev pub Stood : Item → Type 0
   Stood i = Contains (all_of u.fl u.kept.tracks.net) i
 
-  -- WHAT CAME to an inlet of a context
+  -- WHAT ARRIVED at an inlet of a context
   abbrev pub Arrives : Context → Inlet → Type 0
   Arrives c x = (i : Item) × Contains (all_of u.fl u.kept.tracks.net) i × (i.context ≡ c) × (i.inlet ≡ x)
 

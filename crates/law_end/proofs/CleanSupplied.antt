@@ -1,4 +1,4 @@
--- A context that was asked for, and to which all its inputs came: a call's block, a loop's first turn, and the turn after another.
+-- A context that was asked for, and at which all its inputs arrived: a call's block, a loop's first turn, and the turn after another.
 use Rattle.std.proofs.Common.{◌≡◌, ℕ, suc, ◌+◌, ◌<◌, ◌≤◌, Bool, true, false, List, length, if◌then◌else◌, sym, ap, ◌∙◌, subst, arith}
 use Rattle.std.specs.Prelude.{Contains}
 use Rattle.lemmas.proofs.Contains.{contains_none}

@@ -1,4 +1,5 @@
--- At rest each part of a supplied context has fired that lies in an open region, if that holds of all that it invokes: by the places of its parts.
+-- At rest each part of a supplied context that lies in an open region has fired, if the same holds of all that the context invokes: by
+-- the places of its parts.
 use Rattle.std.proofs.Common.{◌≡◌, ℕ, zero, suc, ◌+◌, ◌<◌, ◌≤◌, Bool, true, false, ◌⊎◌, inl, inr, [], Option, Some, None, nat_lt, ◌==◌, if◌then◌else◌, refl}
 use Rattle.std.proofs.Common.{sym, ap, ◌∙◌, subst, arith, true≢false, ltb-true, lt-ltb}
 use Rattle.std.proofs.lemmas.Bool.{cases_Bool, cases_eq, and_parts, and_from, or_cases}

@@ -1,4 +1,4 @@
--- When the last part of a context has fired, all have that lie in open arms.
+-- When the last part of a context has fired, all parts that lie in open arms have fired.
 use Rattle.std.proofs.Common.{◌≡◌, ℕ, zero, suc, ◌+◌, ◌<◌, ℤ, Bool, true, false, not, ◌⊎◌, inl, inr, List, refl, sym, ap, ◌∙◌, subst, arith}
 use Rattle.lemmas.proofs.Bools.{not_not}
 use Rattle.semantics.specs.declared.graph.Region.{Region}

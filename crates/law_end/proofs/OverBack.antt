@@ -1,4 +1,4 @@
--- What has fired before a part of a context, where its word comes of another context, or from a part of one kind alone.
+-- What has fired before a part of a context, where its word comes from another context, or from a part of one kind alone.
 use Rattle.std.proofs.Common.{◌≡◌, ℕ, suc, ◌≤◌, ℤ, Bool, true, false, not, ◌⊎◌, inl, inr, List, refl, sym, ap, ◌∙◌, subst, arith, true≢false, lt-ltb, ◌+◌}
 use Rattle.std.specs.Prelude.{Contains}
 use Rattle.tags.specs.declared.token.Port.TheVariants.{Left}
@@ -60,7 +60,7 @@ module _ (fl : Flow) (p : Plan) (w : Wires) (inputs : List ℤ) (past : Past) (m
   pub context_of : (c : Context) (r : Part) → HasFired c r done → IsContext fl c
   context_of c r (h, d, a, e) = subst (IsContext fl) a (in_context fl w h (fit_of fl p w inputs past m good fit kept h d))
 
-  -- WHO SENT what came along a wire, and of which kind
+  -- WHO SENT what arrived along a wire, and of which kind
   module _ (c : Context) (con : IsContext fl c) where
     pub record Sent (x : Inlet) : Type 0 where
       pub from : Side
@@ -139,7 +139,7 @@ module _ (fl : Flow) (p : Plan) (w : Wires) (inputs : List ℤ) (past : Past) (m
         (next_asked_by fl p w inputs past m good fit kept (Turned c n t)
         (fanned_by_sender (Turned c n t) inner 0 (lt-ltb 0 ((block_in fl (Turned c n t)).inputs + 1) (omega arith)) sends))
 
-  -- WHERE a word is handed on without a wire
+  -- WHERE a word is passed on without a wire
   asked_back : (c : Context) → is_turn c ≡ true → HasFired c NextFramer done → HasFired c Asker done
   asked_back Main t f = absurd (true≢false (sym t))
   asked_back (Called c n) t f = absurd (true≢false (sym t))

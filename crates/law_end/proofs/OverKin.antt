@@ -1,4 +1,5 @@
--- When a context's last part has fired, so has that of all that it invoked, and what invoked it has sent what it sends there.
+-- When a context's last part has fired, so has the last part of each context that it invoked, and what invoked it has sent what it sends
+-- there.
 use Rattle.std.proofs.Common.{◌≡◌, ℕ, zero, suc, ◌+◌, ◌<◌, ℤ, true, List, ◌++◌, refl, sym, subst, arith, lt-ltb, nat_lt}
 use Rattle.std.specs.Prelude.{Contains}
 use Rattle.std.proofs.lemmas.Bool.{or_left}

@@ -61,7 +61,7 @@ side_names : (f : ℕ) (x : Port) (k : Word) → NamesSlot f (on_side x k) → N
 side_names f Left k h = h
 side_names f Right k h = h
 
--- of a loop's slot, what waits there alone names a frame
+-- of a loop's slot, only what waits there names a frame
 waits_names : (f : ℕ) (o : Option Cont) (n : ℕ) → NamesSlot f (waits_or o (Slot.Credits n)) → (a : Cont) × (o ≡ Some a) × NamesCont f a
 waits_names f None n h = absurd h
 waits_names f (Some a) n h = (a, refl, h)
@@ -175,7 +175,7 @@ module _ (fl : Flow) (p : Plan) (w : Wires) (inputs : List ℤ) (past : Past) (m
         let same = kept.tracks.stands.apart e c f (frame_known e f g there frame) at in
         nothing_names fl p w inputs past m good fit kept c last i d (names ∙ ap Some same)
 
-    -- NOTHING that is left goes to it but what comes back
+    -- NOTHING that is left goes to it, except its frame on its way back
     pub not_to : (i : Item) → IsLeft i → (i.inlet.part ≡ Freed → i.context ≡ c → ⊥) → NamesTo f (to_of fl p w done i i.inlet.part) → ⊥
     not_to i d freed h = go (to_names i i.inlet.part f h)
       where
@@ -255,7 +255,7 @@ module _ (fl : Flow) (p : Plan) (w : Wires) (inputs : List ℤ) (past : Past) (m
             absurd ((ends_last fl p w inputs past m good fit kept c last).none_left i l (own_frame i l a)
             (waits_stay (block_in fl i.context) i.inlet.part k.1))
 
-  -- what comes back comes of the last part
+  -- a frame on its way back comes from the last part
   ended : (i : Item) → IsLeft i → i.inlet ≡ inlet Freed Left 0 → HasFired i.context End done
   ended i d e =
       let (h, b, x, y, u) = given_by fl p w inputs past m good fit kept i.context (inlet Freed Left 0) (UNot refl)
@@ -323,7 +323,7 @@ module _ (fl : Flow) (p : Plan) (w : Wires) (inputs : List ℤ) (past : Past) (m
       from_rest : (t : Token) → Contains rest t → (j : Item) × Contains first.1 j × (token_of fl p w kept.tracks.net.fired j ≡ t)
       from_rest t d = contains_mapped (token_of fl p w kept.tracks.net.fired) first.1 t (subst (λ (ts : List Token). Contains ts t) (sym first.4) d)
 
-      -- it comes back once
+      -- it is handed back once
       alone : (j : Item) → Contains first.1 j → j.inlet.part ≡ Freed → j.context ≡ first.0.context → ⊥
       alone j d e same =
           let x : Spot = spot_of first.0 in

@@ -1,4 +1,4 @@
--- When the last part of a context has fired, nothing of the context is left: neither of its code, nor asked for, nor held by a cell.
+-- When the last part of a context has fired, nothing of the context is left: no item of its code, no request, nothing held by a cell.
 use Rattle.std.proofs.Common.{◌≡◌, ℕ, zero, suc, ◌<◌, ◌≤◌, ℤ, Bool, true, false, List, nat_lt, if◌then◌else◌, refl, sym, ap, ◌∙◌, subst, arith, true≢false}
 use Rattle.std.proofs.Common.{eqb-true, ltb-true}
 use Rattle.std.specs.Prelude.{Contains}
@@ -143,7 +143,7 @@ module _ (fl : Flow) (p : Plan) (w : Wires) (inputs : List ℤ) (past : Past) (m
       sender_at n l h f i s a e Left x = sender_left n l h f i s a e x
       sender_at n l h f i s a e Right x = sender_right n l f i s a e x
 
-      -- what stands at a part that fired was taken
+      -- what was at a part that fired was taken
       pub taken_at : (r : Part) → Here r → is_turning r ≡ false → HasFired c r done → (i : Item) → Stood i → i.context ≡ c → i.inlet.part ≡ r → Taken i
       taken_at (Sender n l) h t f i s a e = sender_at n l h f i s a e i.inlet.port refl
       taken_at (Giver n) h t f i s a e = absurd (true≢false t)
@@ -261,7 +261,7 @@ module _ (fl : Flow) (p : Plan) (w : Wires) (inputs : List ℤ) (past : Past) (m
         drained_over : (n : ℕ) → is_loop (block_in fl c) n ≡ true → IsOpen fl w done c (lies_in (block_in fl c) n) → HasFired c (Drained n) done
         drained_over n h a = drained_by fl p w inputs past m good fit kept c n (over (LoopDone n) h refl a)
 
-        -- where it stands is open
+        -- its place is open
         stands_here : (i : Item) → Stood i → i.context ≡ c → (r : Part) → i.inlet.part ≡ r → IsOpen fl w done c (entered (block_in fl c) r i.inlet.way)
         stands_here i s a r e =
             subst (λ (r : Part). IsOpen fl w done c (entered (block_in fl c) r i.inlet.way)) e

@@ -1,4 +1,4 @@
--- What has come of a sound net: who made what stands, and what has fired before a part to which no wire leads.
+-- What results from a sound net: who made what is there, and what has fired before a part to which no wire leads.
 use Rattle.std.proofs.Common.{◌≡◌, ℕ, suc, ◌<◌, ℤ, Bool, true, false, ◌⊎◌, inl, inr, List, ◌++◌, if◌then◌else◌, refl, sym, ap, ◌∙◌, subst, arith, true≢false}
 use Rattle.std.proofs.Common.{lt-ltb}
 use Rattle.std.specs.Prelude.{Contains, flat_map}
@@ -28,7 +28,7 @@ use Rattle.law_net.proofs.WiredFed.{giver_of, MadeAt, ByGift, ByWire, made_at, s
 use Rattle.law_net.proofs.WiredNets.{all_of, all_born, Born, once_all, allowed_in, taken_in}
 use Rattle.law_net.proofs.RunsArrives.{fits_in, fired_fit}
 
--- where a graph's first items come
+-- where a graph's first items arrive
 abbrev pub is_first : Part → Bool
 is_first Entry = true
 is_first (Line n) = true
@@ -92,7 +92,7 @@ module _ (fl : Flow) (p : Plan) (w : Wires) (inputs : List ℤ) (past : Past) (m
     ap (λ (i : Item). is_first i.inlet.part) e,
   )
 
-  -- what comes along a wire was sent
+  -- what arrives along a wire was sent
   pub sent_by : (i : Item) → Mirrors i → there_in fl (site_in fl w i.context) (wiring_in fl w i.context) i.inlet.part ≡ true
       → is_unwired (block_in fl i.context) i.inlet.part ≡ false → wired_way i.inlet.part i.inlet.way ≡ true
       → (h : Firing) × Contains fired h × IsSent fl w h i
@@ -113,7 +113,7 @@ module _ (fl : Flow) (p : Plan) (w : Wires) (inputs : List ℤ) (past : Past) (m
           absurd (true≢false (sym (ap (λ (c : Context). is_unwired (block_in fl c) i.inlet.part) k.0 ∙ k.1) ∙ given))
       by_born (inr (h, e, g)) = by_made h e (made_at fl p w good h i (fit_of h e) g)
 
-  -- and what comes where none leads was given
+  -- and what arrives where none leads was given
   pub gift_by : (i : Item) → Mirrors i → Unwired fl p w good i.context i.inlet → (i.context ≡ Main → is_first i.inlet.part ≡ true → ⊥)
       → (h : Firing) × Contains fired h × Gift fl w h i
   gift_by i d none first = by_born (all_born fl w inputs net kept.tracks.moves i d)

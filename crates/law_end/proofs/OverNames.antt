@@ -41,7 +41,7 @@ use Rattle.law_end.proofs.OverBack.{context_of, fanned_by_linker, fanned_by_send
 use Rattle.law_end.proofs.OverLeft.{there_here, taken_at, ends_last}
 use Rattle.law_end.proofs.OverKin.{called_over, turned_over, FrameUsed, call_sent, loop_sent, next_sent}
 
--- WHICH WORD comes at an inlet
+-- WHICH WORD arrives at an inlet
 pub data Bears (r : Part) (x : Port) : Type 0 where
   BValue : arrives_at r x ≡ AValue → Bears r x
   BReturn : arrives_at r x ≡ ItsReturn → is_leaving r ≡ false → Bears r x
@@ -208,7 +208,7 @@ module _ (fl : Flow) (p : Plan) (w : Wires) (inputs : List ℤ) (past : Past) (m
     own_not : (i : Item) → IsLeft i → i.context ≡ c → is_leaving i.inlet.part ≡ false → ⊥
     own_not i d e v = (ends_last fl p w inputs past m good fit kept c last).none_left i d e v
 
-    -- what stands at a part that fired is not left
+    -- what was at a part that fired is not left
     fired_not : (i : Item) → IsLeft i → (e : Context) → i.context ≡ e → (r : Part) → i.inlet.part ≡ r → is_turning r ≡ false
         → ((x : IsContext fl e) → IsHere fl p w good e x r) → HasFired e r done → ⊥
     fired_not i d e a r g t here f =

@@ -115,7 +115,7 @@ module _ (fl : Flow) (p : Plan) (w : Wires) (inputs : List ℤ) (past : Past) (m
     pub root_open : (r : Region) → Opens r → Opens Root
     root_open r a x d = a x (under fl c r x (subst (λ (l : List Way). Contains l x) (root_region fl c) d))
 
-    -- what lies round where an item stands
+    -- what lies round the place of an item
     landing_round : (n t : ℕ) (l : Bool) (x : Way) → Contains (in_region fl c (lies_in (block_in fl c) n)) x → Contains (landing_arms fl c n t l) x
     landing_round n t false x d = d
     landing_round n t true x d = under fl (Turned c n t) (flag_arm fl (Turned c n t) false) x (round_turn fl p w good c n t x con d)
@@ -257,7 +257,7 @@ module _ (fl : Flow) (p : Plan) (w : Wires) (inputs : List ℤ) (past : Past) (m
         by_port Left g = left_taken x f wire.here wire.way wire.given g open'
         by_port Right g = right_taken x f wire.here wire.way wire.given g (sym (ap (wired_port (block_in fl c) x.part) g) ∙ wire.port)
 
-    -- ALONG WIRES: what came was sent by its part
+    -- ALONG WIRES: what arrived was sent by its part
     pub along_wire : (s : Side) (x : Inlet) → Wire fl p w good c con s x → (i : Item) → Stood i → i.context ≡ c → i.inlet ≡ x
         → HasFired c (maker_of (block_in fl c) s.part) done
     along_wire s x wire i stood a e =

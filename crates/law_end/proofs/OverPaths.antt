@@ -1,4 +1,4 @@
--- Along the wires of any code block, and where a word is handed on without one: each arm that is entered ends in a part that joins it to the other.
+-- Along the wires of any code block, and where a word is passed on without one: each arm that is entered ends in a part that joins it to the other.
 use Rattle.std.proofs.Common.{◌≡◌, ℕ, zero, suc, ◌+◌, ◌<◌, Bool, true, false, ◌⊎◌, inl, inr, ◌==◌, refl, sym, ap, ◌∙◌, subst, arith, true≢false}
 use Rattle.std.specs.Prelude.{Contains}
 use Rattle.std.proofs.lemmas.List.Elements.{Contains-append_right}
@@ -105,7 +105,7 @@ module _ (fl : Flow) (p : Plan) (w : Wires) (good : IsGood fl p w) (c : Context)
               arm_later j (place r) (place x.part) up
               (later x.part false wire.here wire.turning refl near' j t (other.quiet.leaves ∙ sym (other.enters x.way) ∙ region))
 
-      -- or handed on
+      -- or passed on
       by_hand : EndsFrom n → leaves_in (block_in fl c) r u ≡ region_of (block_in fl c) r → Handed fl p w good c con r → ArmEnd j (place r)
       by_hand later mine handed =
           let up = handed.rises in

@@ -1,4 +1,4 @@
--- The parts of any code block: switches, what joins two arms, the last part, and all others, with what hands its word on without a wire.
+-- The parts of any code block: switches, what joins two arms, the last part, and all others, with what passes its word on without a wire.
 use Rattle.std.proofs.Common.{◌≡◌, ℕ, ◌<◌, Bool, true, false, not, ◌⊎◌, inl, inr, [], length, Option, Some, None, nat_lt, ◌==◌, refl, sym, ap, ◌∙◌, arith}
 use Rattle.std.proofs.Common.{true≢false}
 use Rattle.std.specs.Prelude.{Contains}
@@ -58,7 +58,7 @@ module _ (fl : Flow) (p : Plan) (w : Wires) (good : IsGood fl p w) (c : Context)
   given_turning (Drainer n) g = absurd (true≢false g)
   given_turning r g = refl
 
-  -- WHAT HANDS ON without a wire: the manager, a take, or what is invoked answers after it
+  -- WHAT PASSES ON without a wire: the manager, a take, or what is invoked answers after it
   pub data Hands (r q : Part) : Type 0 where
     HFramer : (n : ℕ) → r ≡ Framer n → q ≡ Fanned n → Hands r q
     HNextFramer : r ≡ NextFramer → q ≡ NextFanned → Hands r q
@@ -258,7 +258,7 @@ module _ (fl : Flow) (p : Plan) (w : Wires) (good : IsGood fl p w) (c : Context)
   sort (Linker n) h t = handing (Linker n) (λ t. refl) refl refl refl (linked n h)
   sort r h t = wired r (λ t. refl) refl refl refl refl
 
-  -- BY WHICH WAY a part takes its words, where they come along wires
+  -- BY WHICH WAY a part takes its words, where they arrive along wires
   pub data Taking (r : Part) : Type 0 where
     ByArm : (j : ℕ) → Joined j r → Taking r
     ByOne : ((t : ℕ) → left_way r t ≡ 0) → ((t : ℕ) → wired_way r t ≡ (t == 0)) → Taking r

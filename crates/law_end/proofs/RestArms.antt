@@ -42,7 +42,7 @@ module _ (fl : Flow) (p : Plan) (w : Wires) (inputs : List ℤ) (past : Past) (m
   abbrev done : List Firing
   done = kept.tracks.net.fired
 
-  -- the tokens that stood in the run
+  -- the tokens that were present in the run
   abbrev pub Ever : Tokens
   Ever x = Within x (flat_map taken (story fl p w inputs past m good fit kept).run ++ (story fl p w inputs past m good fit kept).state.tokens)
 
@@ -65,7 +65,7 @@ module _ (fl : Flow) (p : Plan) (w : Wires) (inputs : List ℤ) (past : Past) (m
     abbrev b : Block ℕ
     b = block_in fl c
 
-    -- what comes at a switch's right, by what decided it
+    -- what arrives at a switch's right, by what decided it
     predicate_value : (r : Part) (k : ℕ) (t : Bool) → predicate_at b r Right ≡ Some k → arrives_at r Right ≡ AValue
         → IsDecided fl w done (record { context = c; cond = k }) t → At fl p w inputs past m good fit kept c con (inlet r Right 0)
         → (i : Item) × Mirrors fl p w inputs past m good fit kept i × (i.context ≡ c) × (i.inlet ≡ inlet r Right 0) × (v : Value) × (i.word ≡ Datum v)

@@ -1,4 +1,5 @@
--- At rest the machine shows what the graph means: the meaning is at rest, no store clashes, and a reader waits for each fetch that does.
+-- At rest the machine shows what the graph means: the meaning is at rest, no store clashes, and a reader waits for each fetch that
+-- waits.
 use Rattle.std.proofs.Common.{◌≡◌, ℕ, ℤ, Bool, true, false, List, [], ◌∷◌, ◌++◌, flat_map, Some, None, refl, sym, ap, ◌∙◌, arith, true≢false}
 use Rattle.std.specs.Prelude.{Contains}
 use Rattle.tags.specs.declared.value.Value.{Value}

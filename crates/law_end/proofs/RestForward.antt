@@ -1,4 +1,4 @@
--- What has fired sent its word along its wires: so it stands there.
+-- What has fired sent its word along its wires: so the word is there.
 use Rattle.std.proofs.Common.{◌≡◌, ℕ, ◌+◌, ◌<◌, ℤ, Bool, true, false, not, ◌⊎◌, inl, inr, List, ◌++◌, Option, Some, None, if◌then◌else◌, refl, sym, ap, ◌∙◌}
 use Rattle.std.proofs.Common.{subst, arith, true≢false}
 use Rattle.std.specs.Prelude.{Contains, flat_map}
@@ -114,7 +114,7 @@ module _ (fl : Flow) (p : Plan) (w : Wires) (inputs : List ℤ) (past : Past) (m
   abbrev Stood : Item → Type 0
   Stood i = Mirrors fl p w inputs past m good fit kept i
 
-  -- WHAT WAS MADE STANDS
+  -- WHAT WAS MADE IS THERE
   stands_of : (x : Spot) → 0 < hits_at x (begins inputs) + weigh (makes fl w) (λ (i : Item). one (same_spot x (spot_of i))) kept.tracks.net.fired
       → (i : Item) × Stood i × (spot_of i ≡ x)
   stands_of x h =
@@ -269,14 +269,14 @@ module _ (fl : Flow) (p : Plan) (w : Wires) (inputs : List ℤ) (past : Past) (m
         pick (inr f) =
             ap (side_by fl h) e ∙ quiet_side h a s.part wire.from f wires.0 ∙ ap (λ (t : Bool). Some (side s.part t)) (sym (second_off s.second refl f))
 
-    -- so its word stands where the wire leads
+    -- so its word is where the wire leads
     pub along : (s : Side) (x : Inlet) → Wire fl p w good c con s x → Fires (maker_of b s.part) → Opens (leaves_in b s.part s.second) → At x
     along s x wire (h, d, a, e) open' =
         let (i, stood, at, is) = sent_stands h s x d (subst (λ (c : Context). Contains ((wiring_in fl w c).wire s) x) (sym a) wire.goes)
         (sends h d a s x wire e open') in
         (i, stood, at ∙ a, is)
 
-    -- what comes from where a conditional is decided
+    -- what arrives from where a conditional is decided
     pub decided_arrives : (j : ℕ) (t : Bool) (s : Side) (x : Inlet) → Wire fl p w good c con s x → s ≡ decider b (wiring_in fl w c) j
         → IsDecided fl w done (record { context = c; cond = j }) t → Opens (leaves_in b s.part s.second) → At x
     decided_arrives j t s x wire same (h, d, source, says) open' =

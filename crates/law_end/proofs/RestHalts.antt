@@ -169,7 +169,7 @@ module _ (fl : Flow) (p : Plan) (w : Wires) (inputs : List ℤ) (past : Past) (m
         fires_deed fl c n (v ∷ []) (block_in fl c) f.line (block_here fl p w good c here) f.at f.one ∙ ap (λ (k : Kind ℕ). fired fl c n k (v ∷ [])) f.kind
         ∙ ap (λ (a : ℕ). Some (fetched c n (first_cell fl a) (index_in (array_len fl a) v (origin_at fl c n)))) (sym (fetch_array f))
 
-  -- a token of the state is told by what waits
+  -- an item that waits stands for the token
   abbrev pub Meant : Tagged → Type 0
   Meant t = (i : Item) × Waiting fl p w inputs past m good fit kept i × Says fl p w inputs past m good fit kept rests wants starts i t
 
@@ -286,7 +286,7 @@ module _ (fl : Flow) (p : Plan) (w : Wires) (inputs : List ℤ) (past : Past) (m
       go i (TurnLeft n u e g q) = let z : AtOut j ≡ AtTurn n = ap (λ (t : Tagged). t.statement) q in absurd (cc)
       go i (TurnRight n u e g q) = let z : AtOut j ≡ AtTurn n = ap (λ (t : Tagged). t.statement) q in absurd (cc)
 
-  -- a node of which an operand stands does not take it alone
+  -- a node of which an operand waits does not take it alone
   not_alone : (c : Context) (n l : ℕ) (v : Value) → OperandAt c n l v → mode_at fl c n ≡ Alone → ⊥
   not_alone c n l v (ByLeft i o two g z) e = let y = sym (pair_takes c (here_at i c o.0 o.1) n two) ∙ e in absurd (cc)
   not_alone c n l v (ByRight i o two g z) e = let y = sym (pair_takes c (here_at i c o.0 o.1) n two) ∙ e in absurd (cc)

@@ -1,4 +1,5 @@
--- At rest each context that has a frame was entered, and what it started was handed its frame: so the first word of what sends into or out of a context came.
+-- At rest each context that has a frame was entered, and the frame of what it started was handed out: so the first word of what sends into or out
+-- of a context arrived.
 use Rattle.std.proofs.Common.{◌≡◌, ℕ, zero, suc, ◌+◌, ℤ, Bool, true, false, not, ◌&&◌, ◌⊎◌, inl, inr, List, [], ◌∷◌, ◌++◌, Option, Some, None, if◌then◌else◌}
 use Rattle.std.proofs.Common.{refl, sym, ap, ◌∙◌, subst, arith, true≢false, lt-ltb}
 use Rattle.std.specs.Prelude.{Contains}
@@ -326,7 +327,7 @@ module _ (fl : Flow) (p : Plan) (w : Wires) (inputs : List ℤ) (past : Past) (m
             both_fire Asker refl (λ n l e. absurd (cc)) (return_arm (inlet Asker Left 0) true turn turn refl refl refl refl refl o)
             (from_part (inlet Asker Right 0) TurnFlag refl (s, wire, (starts c con).asks s wire.from wire.goes) (flag_fires true turn decided root) o)
 
-    -- WHERE a frame was handed
+    -- WHERE a frame was handed out
     child_left : (x : Inlet) (n : ℕ) → Here x.part → wired_way x.part x.way ≡ true → wired_port b x.part x.port ≡ true → is_unwired b x.part ≡ false
         → arrives_at x.part x.port ≡ ChildFrame n → Opens (entered b x.part x.way) → Fires (Fanned n) → At x
     child_left x n here way port given arrives o f =

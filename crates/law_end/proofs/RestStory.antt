@@ -1,4 +1,4 @@
--- A run of the meaning beside the moves of the net, in which each token stood that an item stands for which came.
+-- A run of the meaning beside the moves of the net, in which each token was present that an item of the net ever stood for.
 use Rattle.std.proofs.Common.{◌≡◌, ℕ, ℤ, List, [], ◌∷◌, ◌++◌, refl, sym, ap, ◌∙◌, subst, append_assoc, append-nil, ⊎_elim}
 use Rattle.std.specs.Prelude.{All, IsPermutation, Contains, flat_map}
 use Rattle.std.proofs.lemmas.List.Concat.{flat_map-append}
@@ -32,7 +32,7 @@ use Rattle.law_net.proofs.WiredEntered.{arms_are_entered}
 use Rattle.law_net.proofs.WiredRivals.{rivals_are_apart}
 use Rattle.law_net.proofs.WiredNets.{all_of, flat_contains}
 
--- what stood before a run is spent in it or still stands
+-- what was present before a run is spent in it or still present
 pub stays_in : (fl : Flow) (r : List Activity) (s t : State) → Meaning.Run fl s r t → (x : Tagged) → Within x s.tokens → Within x (flat_map taken r ++ t.tokens)
 stays_in fl [] s t p x h = within_permutation x s.tokens t.tokens p.0 h
 stays_in fl (a ∷ r) s t p x h =
@@ -64,7 +64,7 @@ module _ (fl : Flow) (p : Plan) (w : Wires) (inputs : List ℤ) (good : IsGood f
   lawful =
       arms_lawful spot_of same_spot (takes fl) (makes fl w) (begins inputs) role_of (Fits fl w) (IsPredicate fl) is_true (InArm fl) (source fl w) (says fl) arms
 
-  -- all tokens that the item stands for stood
+  -- all tokens that the item stands for were present
   abbrev pub Ever : List Tagged → Item → Type 0
   Ever history i = (t : Tagged) → Contains (meant fl i) t → Within t history
 
@@ -177,7 +177,7 @@ module _ (fl : Flow) (p : Plan) (w : Wires) (inputs : List ℤ) (good : IsGood f
       same_tokens : {xs ys : List Tagged} → xs ≡ ys → IsPermutation xs ys
       same_tokens {xs = xs} e = subst (λ l. IsPermutation xs l) e (IsPermutation-refl xs)
 
-      -- what stood goes on in the history
+      -- what was present goes on in the history
       later : (first second : List Activity) (s t : State) → Meaning.Run fl s second t → (x : Tagged) → Within x (flat_map taken first ++ s.tokens)
           → Within x (flat_map taken (first ++ second) ++ t.tokens)
       later first second s t r x h =
@@ -212,7 +212,7 @@ module _ (fl : Flow) (p : Plan) (w : Wires) (inputs : List ℤ) (past : Past) (m
   pub story : Meant fl p w inputs good fit kept.tracks.net
   story = moves_meant fl p w inputs good fit (begin inputs) kept.tracks.net kept.tracks.moves (begin_meant fl p w inputs good fit)
 
-  -- each token that an item stands for which came stood
+  -- each token that an item ever stood for was present
   pub ever_meant : (i : Item) → Contains (all_of fl kept.tracks.net) i → (t : Tagged) → Contains (meant fl i) t
       → Within t (flat_map taken story.run ++ story.state.tokens)
   ever_meant i c =

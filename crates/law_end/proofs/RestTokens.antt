@@ -1,5 +1,5 @@
--- Which tokens of the meaning the items stand for that wait at rest: no word waits to leave its context, or to go into another, but the arguments of
--- a strict call.
+-- Which tokens of the meaning the items stand for that wait at rest. No word waits to leave its context or to go into another, except the arguments
+-- of a strict call.
 use Rattle.std.proofs.Common.{◌≡◌, ℕ, zero, suc, ◌+◌, ◌-◌, ◌<◌, ℤ, Bool, true, false, ◌⊎◌, inl, inr, List, [], ◌∷◌, nat_lt, if◌then◌else◌, refl, sym, ap, ◌∙◌}
 use Rattle.std.proofs.Common.{subst, arith, true≢false, lt-ltb, ltb-true, eqb-true, eq-eqb, ne_eqb}
 use Rattle.std.specs.Prelude.{Contains, ◌&&◌}
@@ -59,7 +59,7 @@ module _ (fl : Flow) (p : Plan) (w : Wires) (inputs : List ℤ) (past : Past) (m
   abbrev AtSpot : (c : Context) → IsContext fl c → Inlet → Type 0
   AtSpot c con x = At fl p w inputs past m good fit kept rests wants c con x
 
-  -- A SECOND WORD does not wait where the first one came
+  -- A SECOND WORD does not wait where the first one arrived
   pub no_right : (i : Item) → Waits' i → (con : IsContext fl i.context) → (r : Part) → i.inlet.part ≡ r → i.inlet.port ≡ Right
       → i.inlet.way ≡ right_way fl i.context r → waits_in (block_in fl i.context) r ≡ true → AtSpot i.context con (inlet r Left 0) → ⊥
   no_right i c con r e right way two (j, s, a, x) = pick (waits_or_taken fl p w inputs past m good fit kept rests wants j s)
@@ -185,7 +185,7 @@ module _ (fl : Flow) (p : Plan) (w : Wires) (inputs : List ℤ) (past : Past) (m
         by_strict (inl s) = by_way i.inlet.way refl (way_strict true s) s
         by_strict (inr s) = absurd (sender_framed n l e g (eqb-true i.inlet.way 0 (way_strict false s) ∙ sym (right_as false s)) (framed s invoked))
 
-  -- WHAT IS TOLD by what waits
+  -- WHICH TOKENS what waits stands for
   pub data Says (i : Item) (t : Tagged) : Type 0 where
     AtLeft : (n : ℕ) (v : Value) → i.inlet.part ≡ Line n → is_pair (block_in fl i.context) n ≡ true → i.inlet.port ≡ Left
         → t ≡ tagged i.context (AtNode n) (Operand 0) v → Says i t
@@ -307,7 +307,7 @@ module _ (fl : Flow) (p : Plan) (w : Wires) (inputs : List ℤ) (past : Past) (m
           subst (λ (x : Inlet). IsOpen fl w done c (entered (block_in fl c) x.part x.way)) x
           (stands_open fl p w inputs past m good fit kept c con' i (stood_of fl p w inputs past m good fit kept i d) a)
 
-      -- each argument came to its join, too
+      -- each argument arrived at its join, too
       joined : (l : ℕ) → l < count → AtSpot c con' (join_of (block_in fl c) n l)
       joined l low =
           let (i, d, a, x) = all l low in

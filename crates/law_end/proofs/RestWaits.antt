@@ -1,4 +1,5 @@
--- At rest, where neither a frame nor a credit is wanted: what came to a part that takes one word was taken, and two words of a part do not both wait.
+-- At rest, where neither a frame nor a credit is wanted: what arrived at a part that takes one word was taken, and two words of a part do not both
+-- wait.
 use Rattle.std.proofs.Common.{◌≡◌, ℕ, zero, suc, ◌+◌, ◌<◌, ◌≤◌, ℤ, Bool, true, false, ◌⊎◌, inl, inr, List, [], ◌∷◌, ◌++◌, map, Option, Some, if◌then◌else◌}
 use Rattle.std.proofs.Common.{nat_lt, refl, sym, ap, ◌∙◌, subst, arith, true≢false, lt-ltb, le-ltb}
 use Rattle.std.specs.Prelude.{Contains, flat_map}
@@ -216,7 +217,7 @@ module _ (fl : Flow) (p : Plan) (w : Wires) (inputs : List ℤ) (past : Past) (m
         map_empty (token_of fl p w done) kept.tracks.net.pending
         (empty_list (map (token_of fl p w done) kept.tracks.net.pending) m.pool (IsPermutation-sym _ _ kept.tracks.stands.pool) rests)
 
-    -- what stands waits, or was taken
+    -- what is there waits, or was taken
     pub waits_or_taken : (i : Item) → Stood i → Waiting i ⊎ ((h : Firing) × Contains kept.tracks.net.fired h × Contains (takes fl h) i)
     waits_or_taken i c = first (Contains-append_cases kept.tracks.net.pending (kept.tracks.net.waiting ++ flat_map (takes fl) done) i c)
       where
@@ -251,7 +252,7 @@ module _ (fl : Flow) (p : Plan) (w : Wires) (inputs : List ℤ) (past : Past) (m
         pick (inr (inr (inr (n, inr (inl e))))) = absurd (wants (taker_wants i n c e))
         pick (inr (inr (inr (n, inr (inr e))))) = OfLoop (ap is_credit e)
 
-    -- A PART that takes one word: what came there was taken
+    -- A PART that takes one word: what arrived there was taken
     pub fires_alone : (i : Item) → Stood i → waits_in (block_in fl i.context) i.inlet.part ≡ false → is_in_cell i.inlet.part ≡ false
         → is_credit i.inlet.part ≡ false → HasFired i.context i.inlet.part done
     fires_alone i c single cell credit = pick (waits_or_taken i c)
@@ -270,7 +271,7 @@ module _ (fl : Flow) (p : Plan) (w : Wires) (inputs : List ℤ) (past : Past) (m
         pick (inl d) = absurd (no_wait (waits i d))
         pick (inr (h, d, t)) = by_taking h d (taken_as fl h i t)
 
-    -- one that takes two: where both came they were taken
+    -- one that takes two: where both arrived they were taken
     abbrev pub is_sender : Part → Bool
     is_sender (Sender n l) = true
     is_sender r = false

@@ -1,4 +1,5 @@
--- When the last part of a context has fired: all has fired that lies in open arms, nothing of the context is left, and what it invoked is over.
+-- When the last part of a context has fired: all parts in open arms have fired, nothing of the context is left, and what it invoked is
+-- over.
 use Rattle.std.specs.Prelude.{◌≡◌, ℕ, ◌≤◌, ℤ, Bool, true, false, List, ◌++◌, Contains}
 use Rattle.semantics.specs.declared.graph.Region.{Region}
 use Rattle.semantics.specs.declared.graph.Region.TheVariants.{Arm}
@@ -54,7 +55,7 @@ pub record EndIsLast (fl : Flow) (w : Wires) (net : Config) (c : Context) : Type
   pub drained : (n : ℕ) → is_loop (block_in fl c) n ≡ true → IsOpen fl w net.fired c (lies_in (block_in fl c) n) → HasFired c (Drained n) net.fired
   pub none_left : (i : Item) → Contains (net.pending ++ net.waiting) i → i.context ≡ c → is_leaving i.inlet.part ≡ false → ⊥
 
--- WHAT WAS INVOKED is over: a call's block, and all turns of a loop, of which nothing stands past the last
+-- WHAT WAS INVOKED is over: a call's block, and all turns of a loop; nothing of the loop is past its last turn
 abbrev pub CallIsOver : Config → Context → ℕ → Type 0
 CallIsOver net c n = HasFired c (CallDone n) net.fired → HasFired (Called c n) End net.fired
 

@@ -1,4 +1,4 @@
--- What is proved of what the machine shows: of all graphs.
+-- What is proved of what the machine shows, for all graphs.
 use Rattle.std.specs.Prelude.{ℕ}
 use Rattle.law_net.specs.ContextsPackages.{OfRuns, SecondStores, ExactAtRest, IsCausedByMeaning}
 

@@ -1,4 +1,4 @@
-//! What the machine shows in a run of the net, and at rest, at every.
+//! What the machine shows in every run of the net, and at rest.
 
 ghost use Rattle.law_end.specs.Rest.{AllCausedByMeaning, AllExactAtRest, AllSecondStores};
 

@@ -231,7 +231,7 @@ module _ (p : Plan) (inputs : List ℤ) (z : Size) (start : IsStart p z inputs) 
   abbrev things : List Thing
   things = from_events ++ from_start
 
-  -- each row has six at most
+  -- each row has at most six
   port_once : (f k : ℕ) (q : Port) → often (instr_at P k) ≡ false → tot (λ (ev : ℕ × Token). unit (is_at f k q ev.1.to)) events ≤ 1
   port_once f k q seldom =
       let a = O.once f k q seldom in

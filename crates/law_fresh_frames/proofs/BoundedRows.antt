@@ -35,7 +35,7 @@ tot_zero f (x ∷ xs) h = let a = h x in let b = tot_zero f xs h in omega (arith
 pub count_tot : {X : Type 0} (t : X → Bool) (xs : List X) → tot (λ x. cond (t x) 1 0) xs ≡ count_by t xs
 count_tot t xs = is_sum_by (tot (λ x. cond (t x) 1 0)) (λ x. cond (t x) 1 0) refl (λ x xs. refl) xs
 
--- what stands once counts once
+-- what occurs once counts once
 pub once_tot : {X : Type 0} (t : X → Bool) (c : ℕ) (xs : List X) → tot (λ x. cond (t x) 1 0) xs ≤ 1 → tot (λ x. unless (t x) c) xs ≤ c
 once_tot t c [] h = omega arith
 once_tot t c (x ∷ xs) h = go (cases_Bool (t x)) (once_tot t c xs)

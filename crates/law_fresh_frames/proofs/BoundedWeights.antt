@@ -1,5 +1,5 @@
--- What a token, a slot and a cell may still bring about beside the tokens that come to a port once: an event weighs no more
--- after it than before it and the charge of its token's port.
+-- What a token, a slot and a cell may still cause besides the tokens that reach a port once: an event weighs no more after it
+-- than before it and the charge of its token's port.
 use Rattle.std.proofs.Common.{◌≡◌, refl, sym, ◌∙◌, ℕ, zero, suc, ◌+◌, ◌-◌, ◌≤◌, Bool, true, false, List, [], ◌∷◌, ◌++◌, length, Option, Some, None, arith}
 use Rattle.std.specs.Prelude.{if◌then◌else◌, nat_lt, ◌==◌, take, sum_by, IsPermutation}
 use Rattle.std.proofs.lemmas.List.Recursion.{is_sum_by}

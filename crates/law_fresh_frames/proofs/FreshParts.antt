@@ -1,4 +1,4 @@
--- What equal places, words and lists have in common, and what stands at a place of a list.
+-- What equal places, words and lists have in common, and what is at a place of a list.
 use Rattle.std.proofs.Common.{◌≡◌, ℕ, [], ◌∷◌}
 use Rattle.tags.specs.declared.token.Port.{Port}
 use Rattle.tags.specs.declared.token.Cont.{Cont}

@@ -1,4 +1,4 @@
--- That runs over a plan look like runs over another one, as far as faithfulness goes, and what a pass is to keep.
+-- That runs over a plan look like runs over another one, up to faithfulness, and what a pass must keep.
 use Rattle.std.specs.Prelude.{◌≡◌, ℕ, ◌+◌, ◌<◌, ◌≤◌, false, ℤ, List, [], ◌∷◌, ◌++◌, Option, Some, None, length, slice_get, Contains}
 use Rattle.tags.specs.declared.token.Port.TheVariants.{Left}
 use Rattle.tags.specs.declared.token.Port.{Port}
@@ -52,7 +52,7 @@ abbrev pub AlikeIsFaithful : Type 0
 AlikeIsFaithful = (fl : Flow) (p q : Plan) → q.program.arrays ≡ p.program.arrays → HasBounds fl q.program → inputs_of q ≡ inputs_of p → RunsAlike p q
     → TakesInputs fl q → FaithfulOnce fl p.program → FaithfulOnce fl q.program
 
--- OFFSETS. What no plan says by itself: a word that comes to a `return`, an `ask` or a `release` is the continuation of a
+-- OFFSETS. What no plan says by itself: a word that arrives at a `return`, an `ask` or a `release` is the continuation of a
 -- link with so long a landing, or the host's.
 abbrev pub offset_of : Op → Option ℕ
 offset_of (Return o) = Some o
@@ -82,8 +82,8 @@ LandsRightly p = (inputs : List ℤ) (z : Size) (events : Events) (m : Machine) 
     → UsesEachOnce p.program z inputs events m run → (f ip g base o : ℕ) (r : Port) (i : Instr) → instr_at p.program ip ≡ Some i → offset_of i.op ≡ Some o
     → Contains (met events m) (token (To.Instr f ip Left) (Word.Back (Cont.Frame g base r))) → HasLanding p base o
 
--- TIDY PLANS. What they keep to besides, that sound plans do not say
--- the destinations of an instruction, but for a link's landing
+-- TIDY PLANS. What they keep besides, which soundness of a plan does not state
+-- the destinations of an instruction, except for a link's landing
 abbrev pub plain_dests : Instr → Op → List Dest
 plain_dests i (Link b) = i.seconds
 plain_dests i op = i.firsts ++ i.seconds
@@ -93,12 +93,12 @@ pub record IsTidy (p : Plan) : Type 0 where
   pub landings : (b n : ℕ) (c : CodeBlock) (i : Instr) (d : Dest) (callee : ℕ) → slice_get p.program.blocks b ≡ Some c → slice_get c.instrs n ≡ Some i
       → i.op ≡ Link callee
       → i.firsts ≡ d ∷ [] → n + d.ahead + landing p callee ≤ length c.instrs
-  -- only what is sent by a continuation comes to a `give` or a `take`
+  -- only what is sent by a continuation goes to a `give` or a `take`
   pub once : (b n : ℕ) (c : CodeBlock) (i : Instr) (d : Dest) → slice_get p.program.blocks b ≡ Some c → slice_get c.instrs n ≡ Some i
       → Contains (plain_dests i i.op) d
       → often (instr_at p.program (first_of p.program b + n + d.ahead)) ≡ false
 
--- WHAT A PASS IS TO KEEP, beside that a sound plan stays sound
+-- WHAT A PASS MUST KEEP, besides that a sound plan stays sound
 pub record Keeps (p q : Plan) : Type 0 where
   pub alike : RunsAlike p q
   pub orderly : Orderly q

@@ -10,7 +10,7 @@ abbrev pub HasFewDests : Program → Type 0
 HasFewDests p = (b n : ℕ) (c : CodeBlock) (i : Instr) → slice_get p.blocks b ≡ Some c → slice_get c.instrs n ≡ Some i
     → (length i.firsts ≤ 1) × (length i.seconds ≤ 1)
 
--- No credits are needed for it: each port gets a token once, but for those of `take` and `give`, and each firing makes
+-- No credits are needed for it: each port gets a token once, except those of `take` and `give`, and each firing makes
 -- few tokens for these.
 abbrev pub OrderlyIsBounded : Type 0
 OrderlyIsBounded = (p : Plan) → Orderly p → HasFewDests p.program → BoundedOnce p

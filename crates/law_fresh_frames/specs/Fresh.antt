@@ -13,8 +13,8 @@ use Rattle.semantics.specs.Handed.{UsesEachOnce}
 use Rattle.semantics.specs.Orderly.{Orderly, IsStart}
 use Rattle.law_reuse.specs.Frames.{TakesInputs}
 
--- What such a run keeps, of what faithfulness says. That its outputs are reached is in `cause`, and that no rule excludes a
--- token is said by `Orderly`.
+-- What such a run keeps of what faithfulness states. That its outputs are reached is in `cause`, and that no rule excludes a
+-- token is stated by `Orderly`.
 pub record KeepsOnce (fl : Flow) (p : Program) (inputs : List ℤ) (events : Events) (m : Machine) : Type 0 where
   pub exact : Resting m → (Wants m → ⊥) → IsExact fl inputs m
   pub second_store : (x : ℕ) → HasStoreOfFull m x → IsSecondStore fl inputs x

@@ -1,4 +1,4 @@
--- All that a plan has to bring so that its code is faithful, and that a pass carries it over.
+-- All that is required of a plan so that its code is faithful, and that a pass preserves it.
 use Rattle.std.specs.Prelude.{◌≡◌, ℕ, List}
 use Rattle.semantics.specs.Graph.{Flow}
 use Rattle.semantics.specs.Cause.{HasBounds}
@@ -24,7 +24,7 @@ pub record IsReady (fl : Flow) (p : Plan) : Type 0 where
   pub takes : TakesInputs fl p
   pub faithful : FaithfulOnce fl p.program
 
--- A plan that keeps what p keeps to is as ready as p.
+-- A plan that keeps what p keeps is as ready as p.
 abbrev pub ReadyStays : Type 0
 ReadyStays = (fl : Flow) (p q : Plan) → Keeps p q → IsSound q → IsTidy q → q.program.arrays ≡ p.program.arrays → HasBounds fl q.program
     → inputs_of q ≡ inputs_of p → IsReady fl p → IsReady fl q

@@ -51,7 +51,7 @@ pub alike_append : (P Q S T : Stack) → AlikeStacks P Q → AlikeStacks S T →
 alike_append _ _ S T both_empty h = h
 alike_append _ _ S T (on_top {S = P} {T = Q} a p) h = on_top a (alike_append P Q S T p h)
 
--- which faults a symbol has with a token, but for depth
+-- which faults a symbol has with a token, except for depth
 abbrev pub Blame : Lexeme → FaultKind → Type 0
 Blame l Unexpected = ⊤
 Blame l NotACell = l ≡ TheSign sign.Becomes
@@ -113,7 +113,7 @@ module _ (limit most : ℕ) (wide : (most ≡ limit) ⊎ (limit + 3 ≤ most)) w
   like_small n h = like_if (TheNumber n) (nat_lt n (2 ^ 63)) (λ e. h)
       (λ e. like_if (TheNumber n) (n == 2 ^ 63) (λ f. refuse_alike BadNumber (ap (λ m. TheNumber m) (eqb-true n (2 ^ 63) f))) (λ f. unexpected))
 
-  -- BEHIND AN OPERAND
+  -- AFTER AN OPERAND
   like_infix : (m k d at to : ℕ) (s : InfixSign) (l : Lexeme) → Like limit most l (after_infix m k d at s) (after_infix m k d to s)
   like_infix m k d at to s l = like_if l (goes_on m k s) (λ e. take_alike (on_top (same _) (on_top (emits _ _) (on_top (same _) both_empty)))) (λ e. pass_alike)
 

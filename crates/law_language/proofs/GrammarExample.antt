@@ -133,7 +133,7 @@ two_least = refl
 large_length : read (codes "array A[9223372036854775808];") ≡ refused BadNumber 8
 large_length = refl
 
--- where no number could stand
+-- where no number is possible
 numeral_elsewhere : read (codes "array 9223372036854775808") ≡ refused Unexpected 6
 numeral_elsewhere = refl
 
@@ -185,7 +185,7 @@ sum_of_cell = refl
 bracketed_cell : read (around (codes "(A[0]):=1")) ≡ refused NotACell 14
 bracketed_cell = refl
 
--- where no operator could stand either
+-- where no operator is possible either
 no_operand : read (around (codes "1+:=1")) ≡ refused Unexpected 10
 no_operand = refl
 

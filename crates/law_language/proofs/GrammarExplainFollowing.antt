@@ -19,7 +19,7 @@ use Rattle.law_language.specs.GrammarReady.{Ready}
 use Rattle.law_language.proofs.GrammarMeaning.{Explains, takes, passes, refuses}
 use Rattle.law_language.proofs.GrammarGivens.{deep_max, regroup, none_between, explains_if, explains_within, explains_as, as_operand}
 
--- BEHIND AN OPERAND
+-- AFTER AN OPERAND
 pub sign_level_most : (s : InfixSign) → sign_level s ≤ 7
 sign_level_most (Direct Add) = omega arith
 sign_level_most (Direct Sub) = omega arith
@@ -99,7 +99,7 @@ module _ (limit : ℕ) where
   explains_after m k d at (TheNumber n) r = passes (passes_after m k d r.0)
   explains_after m k d at (TheName x) r = passes (passes_after m k d r.0)
 
-  -- BEHIND A NAME
+  -- AFTER A NAME
   pub explains_named : (named : ℕ) (x : Name) (m d at : ℕ) (l : Lexeme) → Ready limit (AfterName named x m d)
       → Explains limit (AfterName named x m d) at l (appending (word.Name named x ∷ []) (after m 9 d at l))
   explains_named named x m d at l r = explains_as limit (After m 9 d) (AfterName named x m d) at l (word.Name named x ∷ [])
@@ -122,7 +122,7 @@ module _ (limit : ℕ) where
       (λ ss₁ ws₁ y₁ ss₂ ws₂ y₂ ss₃ ws₃ y₃. as_operand (y₃ y₁.e y₁.ok)
       (rw (y₁.spelled, y₂.spelled) (simp append_assoc)) (rw (y₁.says, y₂.says) (ap (λ t. word.Cell named x ∷ t) (none_between ws₁ ws₃)))))
 
-  -- BEHIND THE INDEX OF AN ARRAY
+  -- AFTER THE INDEX OF AN ARRAY
   pub explains_store : (cell : ℕ) (a : Name) (d at : ℕ) → Ready limit (AfterIndex cell a 0 d)
       → Explains limit (AfterIndex cell a 0 d) at (TheSign sign.Becomes) (after_index cell a 0 d at (TheSign sign.Becomes))
   explains_store cell a d at r = takes None tt ((omega arith, r.1), (tt, tt))

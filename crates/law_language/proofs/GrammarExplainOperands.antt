@@ -73,7 +73,7 @@ module _ (limit : ℕ) where
       (ap (λ t. word_at at keyword.Loop ∷ t ++ ss₂) y₁.spelled) (ap (λ t. word.Loop at ∷ t ++ ws₂) y₁.says)))
 
 -- CONDITIONALS
--- one that stands there, with what its `if` does not say
+-- one that is there, with what its `if` does not say
 pub record Conditionals (limit at d : ℕ) (ss : List Spelling) (ws : Words) : Type 0 where
   pub e : Expr
   pub ok : IsOperand limit 9 d e

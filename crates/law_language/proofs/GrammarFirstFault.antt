@@ -24,7 +24,7 @@ use Rattle.law_language.proofs.GrammarTwoRuns.{LikeMoved, ok_alike, err_alike, b
 use Rattle.law_language.proofs.GrammarGoingOn.{AlikeOption, alike_finish, not_both, placed_of, spells_itself, said_of, said_more, advance_more, further}
 use Rattle.law_language.proofs.GrammarGoingOn.{like_further}
 
--- BEHIND WHAT WAS READ
+-- AFTER WHAT WAS READ
 pub record GoesAt (limit : ℕ) (m : Moved) (at : ℕ) (l : Lexeme) : Type 0 where
   pub next : Moved
   pub is : advance limit m.stack at l ≡ Ok next

@@ -1,4 +1,4 @@
--- WHAT MAY FOLLOW AN EXPRESSION, and how what stands on the stack then passes it.
+-- WHAT MAY FOLLOW AN EXPRESSION, and how what is on the stack then passes it.
 use Rattle.std.proofs.Common.{◌≡◌, ℕ, zero, suc, ◌+◌, ◌<◌, ◌≤◌, false, [], ◌∷◌, refl, ap, ◌∙◌, arith, if◌then◌else◌}
 use Rattle.std.specs.Prelude.{◌&&◌, nat_le}
 use Rattle.std.proofs.lemmas.Bool.{le-leb, lt-leb}
@@ -73,7 +73,7 @@ pub stops_seven : (k : ℕ) (l : Lexeme) → Stops k l → Stops 7 l
 stops_seven k _ (closes c) = closes c
 stops_seven k _ (operates s h) = operates s (most_left s)
 
--- BEHIND AN OPERAND
+-- AFTER AN OPERAND
 after_at_infix : (m k d at : ℕ) (s : InfixSign) → after m k d at (TheSign (infix_sign s)) ≡ after_infix m k d at s
 after_at_infix m k d at (Direct Add) = refl
 after_at_infix m k d at (Direct Sub) = refl
@@ -119,7 +119,7 @@ pub after_takes : (m k d at : ℕ) (s : InfixSign) → m ≤ sign_level s → le
     → after m k d at (TheSign (infix_sign s)) ≡ Takes (word.Left ∷ []) (Operand (sign_level s + 1) d ∷ Emit (word.Infix at s) ∷ After m (sign_level s) d ∷ [])
 after_takes m k d at s low high = after_at_infix m k d at s ∙ rw (le-leb m (sign_level s) low, le-leb (left_level s) k high) refl
 
--- BEHIND A NAME, AND BEHIND AN INDEX
+-- AFTER A NAME, AND AFTER AN INDEX
 pub after_name_is : (limit named : ℕ) (x : Name) (m d at k : ℕ) (l : Lexeme) → Stops k l
     → after_name limit named x m d at l ≡ appending (word.Name named x ∷ []) (after m 9 d at l)
 after_name_is limit named x m d at k _ (closes close_paren) = refl

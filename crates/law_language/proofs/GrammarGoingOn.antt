@@ -74,7 +74,7 @@ unfolding placed_of
 said_of [] = refl
 said_of (s ∷ ss) = ap (λ ls. s.lexeme ∷ ls) (said_of ss)
 
--- what stands before a token, and after it
+-- what is before a token, and after it
 pub record SaidSplit (ps : List Placed) (ls : List Lexeme) (l : Lexeme) : Type 0 where
   pub left : List Placed
   pub token : Placed

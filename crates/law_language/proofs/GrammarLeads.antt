@@ -47,7 +47,7 @@ moved_by_after ws (Err kind) f = refl
 pub record Leads (limit : ℕ) (S : Stack) (ss : List Spelling) (ws : Words) (T : Stack) : Type 0 where
   pub by : (ps : List Placed) → Spells ss ps → advance_all limit S ps ≡ Ok (record { appended = ws; stack = T })
 
--- one token, at each place where it may stand
+-- one token, at each place where it may be
 abbrev pub Moves : ℕ → Stack → Spelling → Words → Stack → Type 0
 Moves limit S s ws T = (at : ℕ) → IsPlace s.place at → advance limit S at s.lexeme ≡ Ok (record { appended = ws; stack = T })
 
@@ -173,7 +173,7 @@ module _ (limit : ℕ) where
     settles = r.settles;
   }
 
-  -- What stands on top passes these tokens.
+  -- The top of the stack passes these tokens.
   pub reads_pass : {S T U : Stack} {ss : List Spelling} {ws : Words} {May : Lexeme → Type 0} (Might : Lexeme → Type 0) (vs : Words)
       → ((l : Lexeme) → Might l → May l)
       → ((at : ℕ) (l : Lexeme) → Might l → advance limit T at l ≡ moved_after vs (advance limit U at l)) → Reads limit S ss ws May T

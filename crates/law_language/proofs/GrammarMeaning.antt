@@ -1,4 +1,4 @@
--- WHAT A SYMBOL READS: for each symbol, the tokens that it stands for and the words that come of them.
+-- WHAT A SYMBOL READS: for each symbol, the tokens that it stands for and the words that result from them.
 use Rattle.std.specs.Prelude.{ℕ, ◌+◌, List, [], ◌∷◌, ◌++◌, Option}
 use Rattle.source.specs.declared.fault.FaultKind.{FaultKind}
 use Rattle.source.specs.declared.token.Sign.TheVariants as sign
@@ -56,7 +56,7 @@ abbrev pub Given : ℕ → Stack → (List Spelling → Words → Type 0) → Li
 Given limit [] K ss ws = K ss ws
 Given limit (s ∷ S) K ss ws = (ts : List Spelling) (vs : Words) → Yields limit s ts vs → Given limit S K (ss ++ ts) (ws ++ vs)
 
--- WHAT A SYMBOL DOES WITH A TOKEN IS RIGHT: what comes in its place, with the token before, is what it reads.
+-- WHAT A SYMBOL DOES WITH A TOKEN IS RIGHT: what replaces it, with the token before, is what it reads.
 pub data Explains (limit : ℕ) (s : Symbol Name) (at : ℕ) (l : Lexeme) : Outcome → Type 0 where
   takes : {ws : Words} {symbols : Stack} (place : Option ℕ) → IsPlace place at → AllReady limit symbols
       → Given limit symbols (λ ss vs. Yields limit s (record { place = place; lexeme = l } ∷ ss) vs) [] ws → Explains limit s at l (Takes ws symbols)

@@ -44,7 +44,7 @@ module _ (limit : ℕ) where
   emit_word : (w : Word Name) (k : Keyword) (S : Stack) → Leads limit (Emit w ∷ OneWord k ∷ S) (the_word k ∷ []) (w ∷ []) S
   emit_word w k S = one_token limit (Emit w ∷ OneWord k ∷ S) S (the_word k) (w ∷ []) (λ at p. ap (moved_after (w ∷ [])) (advance_word limit k S at))
 
-  -- WHAT IS TO BE SHOWN of a body: an `if` that is all of it stands after `else`.
+  -- WHAT HAS TO BE SHOWN of a body: an `if` that is the whole body is after `else`.
   abbrev pub BodyReads : Body → Type 0
   BodyReads (Chain e) = (d : ℕ) (S : Stack) → IsBody limit true d (Chain e) → Reads limit (Otherwise d ∷ S) (tokens e) (body_words (Chain e)) Any S
   BodyReads (Let at ts es rest) = (d : ℕ) (S : Stack) → IsBody limit false d (Let at ts es rest)

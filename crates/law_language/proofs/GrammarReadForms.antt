@@ -97,7 +97,7 @@ module _ (limit : ℕ) where
       (store_tokens (name_at at a ∷ the_sign sign.OpenBracket ∷ tokens e) (tokens s) (the_sign sign.CloseBracket) (the_sign sign.Becomes))
       (store_words (word.Cell at a ∷ words e) (words s) (word.Store at a ∷ []) word.Index)
 
-  -- LISTS. The word that ends a part comes with the token after it.
+  -- LISTS. The word that ends a part is appended with the token after the part.
   pub record ListReads (S : Stack) (ss : List Spelling) (ws : Words) (last : Word Name) (T : Stack) : Type 0 where
     pub early : Words
     pub is : early ++ last ∷ [] ≡ ws

@@ -22,7 +22,7 @@ use Rattle.law_language.proofs.GrammarLeads.{within_is, small_is, moved_nothing,
 use Rattle.law_language.proofs.GrammarLeads.{advance_takes, advance_sign, Reads, reads_exactly, reads_as, reads_leads, leads_reads, reads_pass, leads_pass}
 use Rattle.law_language.proofs.GrammarFollowed.{close_paren, Stops, closes, stops_more, stops_seven, pass_after, pass_end, pass_name}
 
--- what stands on the stack after an expression
+-- what is on the stack after an expression
 abbrev pub rest_of : Expr → ℕ → ℕ → Stack → Stack
 rest_of (Number at n) m d S = After m 9 d ∷ S
 rest_of (Named at x) m d S = After m 9 d ∷ S
@@ -59,7 +59,7 @@ module _ (limit : ℕ) where
   pub one_token : (S T : Stack) (s : Spelling) (ws : Words) → Moves limit S s ws T → Leads limit S (s ∷ []) ws T
   one_token S T s ws m = leads_as (leads_cons limit s ws m leads_none) refl (append-nil ws)
 
-  -- a token that stands where the tree says, taken by the symbol on top
+  -- a token that is where the tree says, taken by the symbol on top
   pub moves_step : (s : Symbol Name) (S : Stack) (at : ℕ) (l : Lexeme) (ws : Words) (P : Stack) → step limit s at l ≡ Takes ws P
       → Moves limit (s ∷ S) (record { place = Some at; lexeme = l }) ws (P ++ S)
   moves_step s S at l ws P e = moves_at (s ∷ S) (P ++ S) at l ws (advance_takes limit s at l ws P S e)

@@ -46,7 +46,7 @@ list_again (More e (One f)) = refl
 list_again (More e (More f es)) = ap (More e) (list_again (More f es))
 
 -- ONE WORD
--- a body ends: its steps stand on top
+-- a body ends: its steps are on top
 abbrev pub unwind : Machine → Body → Machine
 unwind [] b = ABody b ∷ []
 unwind (LetStep at ts es ∷ st) b = unwind st (Let at ts es b)

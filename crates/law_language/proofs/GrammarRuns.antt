@@ -106,7 +106,7 @@ module _ (limit : ℕ) (K : List Spelling → Words → Type 0) (at : ℕ) (l : 
   advanced (s ∷ below) ss ws r given =
       advanced_by s below ss ws r.1 given (λ vs further. advanced below ss (ws ++ vs) r.1 further) _ (explained limit s at l r.0)
 
--- STACKS ARE KEPT READY
+-- STACKS STAY READY
 given_always : (limit : ℕ) (S : Stack) (ss : List Spelling) (ws : Words) → Given limit S (λ ts vs. ⊤) ss ws
 given_always limit [] ss ws = tt
 given_always limit (s ∷ S) ss ws = λ ts vs y. given_always limit S (ss ++ ts) (ws ++ vs)

@@ -1,4 +1,4 @@
--- A token that has to come as it is: the test says that it is this one.
+-- A token that must follow as it is: the test says that it is this one.
 use Rattle.std.proofs.Common.{◌≡◌, true, List, [], ◌∷◌, get_or, refl, sym, ap, ◌∙◌}
 use Rattle.std.proofs.lemmas.Bool.{eqb-true, eq-eqb}
 use Rattle.source.specs.declared.token.Keyword.{Keyword}

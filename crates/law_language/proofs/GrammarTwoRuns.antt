@@ -1,4 +1,4 @@
--- TWO RUNS over the same tokens, wherever they stand and however much may be open.
+-- TWO RUNS over the same tokens, wherever they are and however much may be open.
 use Rattle.std.proofs.Common.{◌≡◌, ℕ, ◌+◌, ◌<◌, ◌≤◌, List, [], ◌∷◌, ◌++◌, Result, Ok, Err, refl, subst}
 use Rattle.std.specs.Prelude.{◌⊎◌}
 use Rattle.source.specs.declared.fault.FaultKind.{FaultKind}
@@ -42,7 +42,7 @@ module _ (limit most : ℕ) (wide : (most ≡ limit) ⊎ (limit + 3 ≤ most)) w
   like_advance _ _ (on_top {s = s} {t = t} {S = S} {T = T} a h) r at to l =
       like_by l S T _ _ _ _ h (like_step limit most wide s t a at to l r.0) (like_advance S T h r.1 at to l)
 
-  -- the same tokens, wherever they stand
+  -- the same tokens, wherever they are
   pub record AlikeRun (m : Moved) (T : Stack) (qs : List Placed) : Type 0 where
     pub moved : Moved
     pub is : advance_all most T qs ≡ Ok moved

@@ -16,7 +16,7 @@ use Rattle.law_language.proofs.LoweredHeads.{cells_head, function_head}
 abbrev pub IsArray : Name × ℕ → Type 0
 IsArray a = IsName a.0 × (1 ≤ a.1) × (a.1 ≤ 65536)
 
--- what is so of all arrays
+-- what holds of all arrays
 pub record AreArraysFew (before : Heads) (items : List Item) : Type 0 where
   pub each : Each IsArray (arrays_of items)
   pub few : before.arrays + length (arrays_of items) ≤ 64

@@ -131,7 +131,7 @@ single_rest x f h = go (begins (codes "__") (x ∷ f)) (has_double f) h
     go true v h = cc
     go false v h = h
 
--- what stands before the last `__`
+-- what is before the last `__`
 none_before : (h u v : List ℕ) → has_double h ≡ false → ((w : List ℕ) → u ≡ 95 ∷ w → ⊥) → 95 ∷ 95 ∷ u ≡ h ++ codes "__" ++ v → [] ≡ h
 none_before [] u v single other e = refl
 none_before (y ∷ []) u v single other e =
@@ -154,7 +154,7 @@ same_stem (x ∷ f) (y ∷ h) u v fs hs other none e =
     let rest = same_stem f h u v (single_rest x f fs) (single_rest y h hs) other none (same_tail x y (f ++ codes "__" ++ u) (h ++ codes "__" ++ v) e) in
     ap (λ (a : ℕ). a ∷ f) first ∙ ap (λ (l : List ℕ). y ∷ l) rest
 
--- names of blocks tell their functions
+-- names of blocks determine their functions
 function_traced : (f h : Name) (j k : ℕ) → j ≤ 256 → k ≤ 256 → has_double f ≡ false → has_double h ≡ false → block_name f j ≡ block_name h k → f ≡ h
 function_traced f h zero zero low few fs hs e = e
 function_traced f h zero (suc k) low few fs hs e = let is = doubled h (decimal (suc k)) in let same = ap has_double e in absurd cc

@@ -1,4 +1,4 @@
--- THE FORMS of parts, from what is so of their parts.
+-- THE FORMS of parts, from what holds of their parts.
 use Rattle.std.proofs.Common.{◌≡◌, ℕ, ◌+◌, ◌<◌, Bool, true, false, List, [], ◌∷◌, ◌++◌, length, reverse, inl, inr, refl, sym, ap, ◌∙◌, subst, arith}
 use Rattle.std.proofs.Common.{length-append, FitsSigned}
 use Rattle.std.specs.Prelude.{◌⊎◌, ℤ, Contains}

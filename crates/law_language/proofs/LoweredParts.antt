@@ -1,4 +1,4 @@
--- THE INDUCTION: each part that fits and keeps the rules is lowered to nodes in good form, where it stands at a good site.
+-- THE INDUCTION: each part that fits and keeps the rules is lowered to nodes in good form, if its site is good.
 use Rattle.std.proofs.Common.{◌≡◌, ℕ, suc, ◌+◌, ◌<◌, ◌≤◌, ◌&&◌, nat_le, true, false, List, [], ◌∷◌, ◌++◌, length, map, is_some, Some, Ok, refl, sym, ap, ◌∙◌}
 use Rattle.std.proofs.Common.{subst, arith, length-append}
 use Rattle.std.specs.Prelude.{Contains}
@@ -123,7 +123,7 @@ module _ (p : Program) (g : Graph)
       joined_count (lower p (turn_site f) r inner q).sources l.sources n (count_of p (turn_site f) r inner q names 1 k.1.values)
       (body_count p (turn_site f) spot scope body names n k.0)
 
-  -- what is so of a turn
+  -- what holds of a turn
   abbrev WellTurn : Turn → Type 0
   WellTurn turn = (b : Block Name) (f : Name) (spot : Spot) (at : ℕ) (scope : Scope) (names : List Name) (n : ℕ)
       → FitsTurn turn → turn_values p names turn ≡ Ok n → n ≡ length (names_of turn) → 0 < n

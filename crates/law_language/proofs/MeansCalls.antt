@@ -47,7 +47,7 @@ use Rattle.law_language.proofs.MeansUnder.{AtIt, Itself, InCall, InTurn, under_c
 use Rattle.law_language.proofs.MeansScene.{Scene, PortsGive, flow, world_of, StoodIn, DueIn, HasIn, HaveIn, KnownIn, StoresIn, ActiveIn, DeliversIn, ExprIn}
 use Rattle.law_language.proofs.MeansScene.{ListIn, AllIn}
 
--- A node of a block that stands lies among its lines.
+-- A node of a block lies among the block's lines.
 pub line_within : (z : Scene) (d : Context) (b : Block ℕ) (k : ℕ) (line : Node ℕ) → block_of (flow z) d ≡ Some b → node_of (flow z) d k ≡ Some line
     → is_within b.inputs (node_count b) (Some k) ≡ true
 line_within z d b k line eb e =
@@ -87,7 +87,7 @@ module _ (z : Scene) (c : Context) (n : ℕ) (line : Node ℕ) (el : node_of (fl
       let k = within_some b.inputs (node_count b) (node_under (Called c n) w.context w.node) e in
       ap (is_within n (n + 1)) (under_call c n w.context w.node k.0 k.1) ∙ within_itself n))))
 
--- A block that stands has some output.
+-- A block of the graph has some output.
 pub some_output : (z : Scene) (i : ℕ) (b : Block ℕ) → slice_get (flow z).blocks i ≡ Some b → 0 < b.outputs
 some_output z i b e =
     let x = map_get_back (λ (b : List ℕ × Block (List ℕ)). resolved_block (array_names z.graph) (block_names z.graph) b.1) z.graph.blocks i b e in

@@ -30,7 +30,7 @@ names_in items = map (λ (a : Name × ℕ). a.0) (arrays_of items)
 abbrev lens_in : List Item → List ℕ
 lens_in items = map (λ (a : Name × ℕ). a.1) (arrays_of items)
 
--- where the array stands, and which cells it has
+-- where the array is, and which cells it has
 record Found (items : List Item) (a : Name) (i : Value) (o : Origin) : Type 0 where
   pub at : ℕ
   pub placed : (n : ℕ) → graph.place_from n a (names_in items) ≡ n + at

@@ -1,4 +1,4 @@
--- A CONDITIONAL comes out as the arm does that its predicate takes.
+-- A CONDITIONAL delivers what the arm delivers that its predicate chooses.
 use Rattle.std.proofs.Common.{◌≡◌, ℕ, ◌+◌, Bool, true, false, List, [], ◌∷◌, ◌++◌, length, map, Some, if◌then◌else◌, refl, sym, ap, ◌∙◌, subst, arith}
 use Rattle.std.proofs.Common.{length-append}
 use Rattle.std.specs.Prelude.{slice_get}
@@ -161,7 +161,7 @@ module _ (z : Scene) (c : Context) (site : Site) (k : Spot) (at : ℕ) (ps : Lis
   pub right_stands : ActiveIn z c site (spot_after (next_spot k) a) b
   right_stands = rest_in z c site (next_spot k) a b both refl refl both_stand
 
-  -- the region of an arm that is taken, for whatever stands there
+  -- the region of an arm that is taken, for whatever is active there
   pub open_there : (side : Bool) → truth v ≡ side → (to : Site) (spot : Spot) (l : Lowered) (there : ActiveIn z c to spot l)
       → RegionIn z c there.block (Arm k.next side)
   open_there side e to spot l there =
@@ -254,7 +254,7 @@ module _ (z : Scene) (c : Context) (site : Site) (k : Spot) (at : ℕ) (ps : Lis
       (silent_arm z c h.block cond_block n (map (resolved z.graph) ns) holds (shaped z.graph z.well h.number h.block h.is_block) k.next side
       (each_map (λ (line : Node ℕ). Inside h.block (Arm k.next side) line.region) (resolved z.graph) ns lies) (arm_shut side not_so))
 
-  -- IT COMES OUT as the arm that is taken
+  -- IT DELIVERS what the arm that is taken delivers
   sources_at : k.next + 1 + length both.nodes ≡ k.next + 1 + length a.nodes + length b.nodes
   sources_at = let n = length-append a.nodes b.nodes in omega (arith, n)
 

@@ -1,4 +1,4 @@
--- One text of which all is so that the theorem asks: a program that gives its input back. So what it asks can be had.
+-- One text that satisfies all premises of the theorem: a program that gives its input back. So the premises can be satisfied.
 use Rattle.std.proofs.Common.{◌≡◌, ℕ, zero, suc, ℤ, Bool, true, false, List, [], ◌∷◌, length, Some, None, Ok, Err, nat_lt, if◌then◌else◌, refl, sym, subst}
 use Rattle.std.proofs.Common.{arith, length-append}
 use Rattle.std.specs.Prelude.{codes, slice_get, sum}
@@ -101,7 +101,7 @@ is_well = record {
     each zero named e = subst (λ (named : List ℕ × Block (List ℕ)). IsBlockWell graph named.1) (same_Some (codes "main", block) named e) block_well
     each (suc i) named e = cc
 
--- THE RUN rests, so the theorem says what it comes to.
+-- THE RUN rests, so the theorem says what its results are.
 module _ (z : ℤ) where
   rests : RestsWell (flow_of graph) (z ∷ []) (at_end z)
   rests = record {

@@ -65,7 +65,7 @@ each_apart before (x ∷ xs) h = (h.0, later xs (each_apart (x ∷ before) xs h.
     later [] k = tt
     later (y ∷ ys) k = ((in_none (same_name y x) (is_in y before) k.0).1, later ys k.1)
 
--- Names that differ stand for their sources.
+-- Different names stand for their sources.
 pub scoped_sources : (before xs : List Name) (ss : List Source) (scope : Scope) → Apart before xs → length xs ≡ length ss
     → map (source_in (scoped xs ss scope)) xs ≡ ss
 scoped_sources before [] [] scope h e = refl

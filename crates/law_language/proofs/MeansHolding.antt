@@ -1,4 +1,4 @@
--- What is told of lines and of blocks splits where they do.
+-- What is stated of lines and of blocks splits where they do.
 use Rattle.std.proofs.Common.{◌≡◌, ℕ, ◌+◌, List, [], ◌∷◌, ◌++◌, length, map, refl, ap, subst, arith}
 use Rattle.tags.specs.declared.value.Origin.{Origin}
 use Rattle.semantics.specs.Graph.{Graph}

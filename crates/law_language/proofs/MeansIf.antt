@@ -25,7 +25,7 @@ use Rattle.law_language.proofs.MeansStanding.{first_in, rest_in, stands_in_arm, 
 use Rattle.law_language.proofs.MeansLies.{HoldsMade, made_split, lie_arm, body_lies}
 use Rattle.law_language.proofs.MeansConditionals.{arm_entered, arm_trigger, enters_quiet, open_there, left_stands, right_stands, chosen_left, chosen_right}
 
--- AN ARM whose region is taken comes out as its body is evaluated.
+-- AN ARM whose region is taken delivers what its body is evaluated to.
 module _ (z : Scene) (c : Context) (site : Site) (cond : ℕ) (side : Bool) (spot : Spot) (at : ℕ) (scope : Scope) (predicate : Source) (body : Body) where
   abbrev pub armed : Lowered
   armed = arm site cond side spot at scope predicate (outside_body body) (λ here inner names. lower_body z.program here inner names body)
@@ -71,7 +71,7 @@ module _ (z : Scene) (c : Context) (site : Site) (cond : ℕ) (side : Bool) (spo
       first_lines : (h : ActiveIn z c site spot armed) → HoldsMade z.program z.graph h.block spot.next l.nodes
       first_lines h = (made_split z.program z.graph h.block spot.next l.nodes inside.nodes h.lines).0
 
--- what is evaluated otherwise comes out as that
+-- what is also evaluated in another way delivers that, too
 pub delivers_as : (z : Scene) (c : Context) (gives others : List Value → Stores → Type 0) (xs : List Source) (lo hi : ℕ)
     → ((vs : List Value) (ss : Stores) → gives vs ss → others vs ss)
     → DeliversIn z c gives xs lo hi → DeliversIn z c others xs lo hi

@@ -19,7 +19,7 @@ use Rattle.law_language.specs.MeansHolds.{resolved}
 use Rattle.source.proofs.Holding.{holds_split}
 use Rattle.law_language.proofs.MeansHolding.{resolved_append}
 
--- going outwards from a region, one comes to r
+-- the way outwards from a region leads to r
 pub data Inside (b : Block ℕ) (r : Region) : Region → Type 0 where
   Here : {q : Region} → q ≡ r → Inside b r q
   Further : {q : Region} (k : ℕ) (side : Bool) → q ≡ Arm k side → Inside b r (arm_of (node_at b k)) → Inside b r q

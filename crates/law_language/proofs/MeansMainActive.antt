@@ -1,4 +1,4 @@
--- Main's body stands in the run's first invocation, and its parameters agree with the inputs.
+-- Main's body is active in the run's first invocation, and its parameters agree with the inputs.
 use Rattle.std.proofs.Common.{◌≡◌, ℕ, ◌<◌, ℤ, Bool, true, false, List, [], ◌∷◌, length, map, is_some, Option, Some, None, Ok, if◌then◌else◌, refl, sym, ap, ◌∙◌}
 use Rattle.std.proofs.Common.{subst, arith}
 use Rattle.std.specs.Prelude.{slice_get}
@@ -121,7 +121,7 @@ module _ (p : Program) (g : Graph) (origin : ℕ → Origin) (inputs : List ℤ)
       let is : got.0 ≡ w.0 = same_Some got.0 w.0 (sym got.1 ∙ w.1) in
       subst (λ i. HasIt (port i 0) v) (omega arith) (subst (λ v. HasIt (port k 0) v) (ap (λ (z : ℤ). Int z) is ∙ w.2) got.2))
 
-  -- IT STANDS
+  -- IT IS ACTIVE
   pub main_stands : IsActive p g origin inputs run s r Main (turn_site f.name.name) (main_spot f) (main_lowered p f)
   main_stands =
       let first = input_gives (flow_of g) inputs run s r st Main block main_is tt 0 some_input in

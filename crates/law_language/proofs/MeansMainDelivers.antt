@@ -1,4 +1,4 @@
--- From what main's body comes out as to the memory in the end: its outputs, and its stores.
+-- From what main's body delivers to the memory in the end: its outputs, and its stores.
 use Rattle.std.proofs.Common.{◌≡◌, ℕ, zero, suc, ◌<◌, ◌≤◌, ◌↔◌, ◌&&◌, ℤ, Bool, true, List, [], ◌∷◌, map, filter, Option, Some, None, IsPermutation, Contains}
 use Rattle.std.proofs.Common.{if◌then◌else◌, refl, sym, ap, ap₂, ◌∙◌, subst, arith, lt-ltb, le-leb}
 use Rattle.std.specs.Prelude.{slice_get}

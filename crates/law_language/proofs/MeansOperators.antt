@@ -59,7 +59,7 @@ module _ (p : Program) (g : Graph) (origin : ℕ → Origin) (inputs : List ℤ)
   pub same_value : (x : Source) (v w : Value) → HasIt x v → HasIt x w → v ≡ w
   same_value x v w h k = st.one_value c x.node x.port v w h k
 
-  -- the origin of a fault, as the block of c tells it
+  -- the origin of a fault, as the block of c gives it
   pub traced_at : (i n : ℕ) → block_number (flow_of g) c ≡ Some i → origin_at (flow_of g) c n ≡ At i n
   traced_at i n e = ap₂ (λ v o. origin_in v o n) two e
 
@@ -117,7 +117,7 @@ module _ (p : Program) (g : Graph) (origin : ℕ → Origin) (inputs : List ℤ)
   means_prefix at Not e means = prefixed_means at Not e (λ site spot l. refl) (λ k. ⊎_elim (λ f. f) (λ x. absurd x) k) means
 
   -- OPERATORS OF TWO OPERANDS
-  -- the value of the line, whichever way round the sources stand
+  -- the value of the line, in whichever order the sources are
   operated_is : (n : ℕ) (sign : InfixSign) (x y : Source) (a b w : Value) (o : Origin) → HasIt x a → HasIt y b → origin_at (flow_of g) c n ≡ o
       → LineEquation (flow_of g) inputs run s r c n 0 w (node.Apply2 (operator_of sign)) (operands sign (x ∷ y ∷ [])) → w ≡ operated sign a b o
   operated_is n (Direct op) x y a b w o ha hb eo e =

@@ -1,4 +1,4 @@
--- THE FAULTS OF EACH BLOCK'S LINES have the origins that are told of their tokens: a line that makes faults is the only one
+-- THE FAULTS OF EACH BLOCK'S LINES have the origins that are given for their tokens: a line that makes faults is the only one
 -- with its place, so it is the one that the place leads to.
 use Rattle.std.proofs.Common.{◌≡◌, ℕ, zero, suc, ◌+◌, ◌<◌, ◌≤◌, ◌&&◌, Bool, true, false, List, [], ◌∷◌, Some, None, if◌then◌else◌, refl, sym, ap, ap₂, ◌∙◌}
 use Rattle.std.proofs.Common.{arith}

@@ -1,4 +1,4 @@
--- Parts of a part that stands stand, too, and a line that stands has its value.
+-- Parts of an active part are active, too, and an active line has its value.
 use Rattle.std.proofs.Common.{◌≡◌, ℕ, ◌+◌, ◌<◌, ℤ, Bool, false, List, ◌∷◌, ◌++◌, length, map, Option, Some, nat_lt, sym, ap, ◌∙◌, subst, arith, le-ltb}
 use Rattle.std.proofs.lemmas.List.{length-map}
 use Rattle.tags.specs.declared.value.Value.{Value}
@@ -39,7 +39,7 @@ module _ (p : Program) (g : Graph) (origin : ℕ → Origin) (inputs : List ℤ)
   abbrev ActiveHere : Spot → Lowered → Type 0
   ActiveHere at l = IsActive p g origin inputs run s r c site at l
 
-  -- what stands before the rest
+  -- what is before the rest
   pub first_part : (l m : Lowered) (ns : List Made) (bs : List MadeBlock) → m.nodes ≡ l.nodes ++ ns → m.blocks ≡ l.blocks ++ bs → ActiveHere spot m
       → ActiveHere spot l
   first_part l m ns bs en eb h =

@@ -1,4 +1,4 @@
--- Each part is told of by its tokens: each of its lines has the place of one, and no two lines that make faults the same.
+-- The tokens of each part trace it: each of its lines has the place of a token, and no two lines that make faults have the same place.
 use Rattle.std.proofs.Common.{◌≡◌, ℕ, zero, suc, ◌+◌, ◌<◌, ◌≤◌, ◌&&◌, ◌++◌, Bool, true, false, List, [], ◌∷◌, length, map, Option, Some, None, if◌then◌else◌}
 use Rattle.std.proofs.Common.{refl, sym, ap, ◌∙◌, arith, eqb-true}
 use Rattle.std.specs.Prelude.{nat_eq, slice_get, flat_map}
@@ -398,7 +398,7 @@ module _ (x : ℕ) where
         (block_times x (made_blocks p (Defines f ∷ items))) (block_fails x (made_blocks p (Defines f ∷ items)))
         (spelled x (flat_map item_tokens (Defines f ∷ items))) both (omega (arith, n)) (omega (arith, m)) (omega (arith, a, b, c))
 
--- A PLACE THAT STANDS ONCE
+-- A PLACE THAT OCCURS ONCE
 spelled_some : (x : ℕ) (ts : List Spelling) → 0 < spelled x ts → (i : ℕ) × (slice_get (places ts) i ≡ Some x)
 spelled_some x [] some = absurd (omega (arith, some))
 spelled_some x (t ∷ ts) some = go t.place some (λ some. spelled_some x ts some)

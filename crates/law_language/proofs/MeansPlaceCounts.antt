@@ -1,4 +1,4 @@
--- HOW OFTEN A PLACE STANDS in the tokens of a part, and in the lines that the part is lowered to.
+-- HOW OFTEN A PLACE OCCURS in the tokens of a part, and in the lines that the part is lowered to.
 use Rattle.std.proofs.Common.{◌≡◌, ℕ, zero, suc, ◌+◌, ◌<◌, ◌≤◌, ◌&&◌, ◌++◌, Bool, true, false, List, [], ◌∷◌, Option, Some, None, if◌then◌else◌, refl, ap, ◌∙◌}
 use Rattle.std.proofs.Common.{arith}
 use Rattle.std.specs.Prelude.{nat_eq}
@@ -84,8 +84,8 @@ spelled_append x (t ∷ ts) us = go t.place (spelled_append x ts us)
     go None e = e
     go (Some y) e = let a = placed_one x y (spelled x (ts ++ us)) in let b = placed_one x y (spelled x ts) in omega (arith, e, a, b)
 
--- WHAT IS TOLD of so many lines, of which so many make faults, by so many tokens: where there is no token, there is no line;
--- and where there is one at most, and a line that makes faults, that is the only one.
+-- HOW THE TOKENS TRACE THE LINES, by the numbers of lines, of lines that make faults, and of tokens: without a token there is no line;
+-- and where there is at most one token, and a line that makes faults, that is the only line.
 pub record Traced (lines faulty tokens : ℕ) : Type 0 where
   pub few : faulty ≤ lines
   pub none : tokens ≡ 0 → lines ≡ 0

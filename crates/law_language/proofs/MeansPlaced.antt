@@ -1,4 +1,4 @@
--- The blocks of each function stand in the graph, at the places of their names.
+-- The blocks of each function are in the graph, at the places of their names.
 use Rattle.std.proofs.Common.{◌≡◌, ℕ, zero, suc, ◌+◌, Bool, true, false, List, [], ◌∷◌, ◌++◌, length, map, Some, if◌then◌else◌, refl, sym, subst, arith}
 use Rattle.std.specs.Prelude.{slice_get}
 use Rattle.std.proofs.lemmas.List.{length-map}
@@ -27,7 +27,7 @@ get_right (y ∷ xs) ys (suc n) i x l e =
     let same : suc (n + i) ≡ suc n + i = omega arith in
     subst (λ i. slice_get (y ∷ (xs ++ ys)) i ≡ Some x) same (get_right xs ys n i x (omega (arith, l)) e)
 
--- where the blocks of a function stand, among those that are made and in the graph
+-- where the blocks of a function are, among those that are made and in the graph
 pub record StandsAt (p : Program) (items : List Item) (h : Function) : Type 0 where
   pub from : ℕ
   pub made : (j : ℕ) (b : MadeBlock) → slice_get (function_blocks p h) j ≡ Some b → slice_get (made_blocks p items) (from + j) ≡ Some b

@@ -1,4 +1,4 @@
--- Parts that stand, in a scene: what stands before and after, at another spot of the same number, and in an arm.
+-- Parts that are active, in a scene: what is active before and after, at another spot of the same number, and in an arm.
 use Rattle.std.proofs.Common.{◌≡◌, ℕ, ◌+◌, Bool, List, [], ◌++◌, map, IsPermutation, sym, subst, arith}
 use Rattle.std.proofs.lemmas.List.Sorted.{IsPermutation-refl}
 use Rattle.tags.specs.declared.value.Value.{Value}
@@ -21,7 +21,7 @@ module _ (z : Scene) (c : Context) where
       → ActiveIn z c site (spot_after spot l) k
   rest_in site spot l k m en eb h = rest_part z.program z.graph z.origin z.inputs z.run z.state z.is_run c site spot l k m en eb h
 
-  -- how many loops were met says nothing of what stands
+  -- how many loops were met says nothing of what is active
   pub stands_at : (site : Site) (spot to : Spot) (l : Lowered) → spot.next ≡ to.next → ActiveIn z c site spot l → ActiveIn z c site to l
   stands_at site spot to l e h = record {
     number = h.number;
@@ -37,7 +37,7 @@ module _ (z : Scene) (c : Context) where
     loops = h.loops;
   }
 
-  -- what stands at an arm that is taken, whose first enter has a value, stands in it
+  -- what is active at an arm that is taken, whose first enter has a value, is active in it
   pub stands_in_arm : (site : Site) (spot : Spot) (l : Lowered) (cond : ℕ) (side : Bool) (h : ActiveIn z c site spot l) → RegionIn z c h.block (Arm cond side)
       → (v : Value) → HasIn z c (port spot.next 0) v → ActiveIn z c (arm_site site cond side spot) spot l
   stands_in_arm site spot l cond side h here_taken v has = record {

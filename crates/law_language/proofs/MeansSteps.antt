@@ -59,7 +59,7 @@ module _ (z : Scene) (c : Context) (deeper : (d : Context) → depth c < depth d
 means_step : (z : Scene) → MeansStep z.program z.graph z.origin z.inputs z.run z.state z.is_run
 means_step z c deeper = all_of z c deeper
 
--- In an invocation that is not due nothing stands.
+-- In an invocation that is not due nothing is active.
 none_stands : (z : Scene) (c : Context) → (DueIn z c → ⊥) → AllIn z c
 none_stands z c none = record {
   expr = λ e site spot scope env names n fits rule h known. absurd (none h.due);

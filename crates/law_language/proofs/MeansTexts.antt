@@ -1,4 +1,4 @@
--- No two tokens of a text have one place, so none of its tree have.
+-- No two tokens of a text have one place, so no two tokens of its tree do.
 use Rattle.std.proofs.Common.{◌≡◌, ℕ, zero, suc, ◌+◌, ◌-◌, ◌≤◌, List, [], ◌∷◌, Option, Some, None, Result, Ok, Err, refl, sym, ap, subst, arith}
 use Rattle.std.specs.Prelude.{⊤, slice_get}
 use Rattle.std.proofs.lemmas.Option.{same_Some}

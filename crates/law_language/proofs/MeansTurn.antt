@@ -30,7 +30,7 @@ use Rattle.law_language.proofs.MeansConditionals.{enters_have, enters_quiet, ope
 use Rattle.law_language.proofs.MeansIf.{armed, arm_delivers, delivers_as}
 use Rattle.law_language.proofs.MeansTurnNames.{agrees_named, without_split}
 
--- THE TEST BEHIND THE BODY is on the values that the turn gives.
+-- THE TEST AFTER THE BODY is on the values that the turn gives.
 pub means_after : (z : Scene) (c : Context) (xs : List NameAt) (body : Body) (q : Expr) → BodyIn z c body → ExprIn z c q → TurnIn z c (After xs body q)
 means_after z c xs body q means test f spot at scope env names vs some fits rule h have known =
     let site : Site = turn_site f in
@@ -67,7 +67,7 @@ means_after z c xs body q means test f spot at scope env names vs some fits rule
           (makes_both z c spot.next (length b.nodes) (length k.nodes) out.ss tested.ss out.stored tested.stored);
     }
 
--- THE TEST BEFORE THE BODY: the body, or the values as they came
+-- THE TEST BEFORE THE BODY: the body, or the values unchanged
 module _ (z : Scene) (c : Context) (at : ℕ) (xs : List NameAt) (body : Body) (means : BodyIn z c body) (site : Site) (k : Spot) (scope : Scope)
     (ps : List Source) where
   abbrev pub go_arm : Lowered

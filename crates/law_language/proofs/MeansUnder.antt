@@ -11,7 +11,7 @@ use Rattle.law_language.specs.MeansBelow.{node_under}
 use Rattle.law_language.proofs.MeansStoreLines.{under}
 use Rattle.law_language.proofs.MeansStoredOnce.{own_under}
 
--- DEPTH: what lies in an invocation is as deep at least
+-- DEPTH: what lies in an invocation is at least as deep
 pub under_depth : (c d : Context) (m k : ℕ) → node_under c d m ≡ Some k → depth c ≤ depth d
 under_depth c Main m k e = go (same_context c Main) refl e
   where

@@ -1,4 +1,4 @@
--- THE THEOREM OF THE PARSER: it reads exactly the programs that fit the grammar and are not too deep, and else tells the first
+-- THE THEOREM OF THE PARSER: it reads exactly the programs that fit the grammar and are not too deep, and otherwise reports the first
 -- token at which none goes on.
 use Rattle.std.specs.Prelude.{◌≡◌, ℕ, List, Ok, Err}
 use Rattle.source.specs.declared.fault.Fault.{Fault}

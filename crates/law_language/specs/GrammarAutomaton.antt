@@ -31,7 +31,7 @@ Stack = List (Symbol Name)
 
 -- WHAT A SYMBOL DOES WITH A TOKEN
 pub data Outcome : Type 0 where
-  -- The token is taken: these words are appended, and these symbols come in the symbol's place.
+  -- The token is taken: these words are appended, and these symbols replace the symbol.
   Takes : (appended : Words) (symbols : Stack) → Outcome
   -- The token is for what is below: these words are appended, and the symbol goes.
   Passes : (appended : Words) → Outcome
@@ -43,7 +43,7 @@ appending ws (Takes vs symbols) = Takes (ws ++ vs) symbols
 appending ws (Passes vs) = Passes (ws ++ vs)
 appending ws (Refuses kind) = Refuses kind
 
--- the same, with symbols below those that come
+-- the same, with symbols below those that are put there
 abbrev pub above : Stack → Outcome → Outcome
 above below (Takes vs symbols) = Takes vs (symbols ++ below)
 above below (Passes vs) = Passes vs
@@ -128,8 +128,8 @@ infix_of sign.Caret = Some (Direct Xor)
 infix_of sign.Bar = Some (Direct Or)
 infix_of s = None
 
--- BEHIND AN OPERAND. An operator goes on with an operand of level `left` if it may stand to the right of that, and if what
--- comes out has the level that is wanted.
+-- AFTER AN OPERAND. An operator goes on with an operand of level `left` if it may be to the right of that operand, and if the
+-- result has the level that is wanted.
 abbrev pub goes_on : ℕ → ℕ → InfixSign → Bool
 goes_on level left s = nat_le level (sign_level s) && nat_le (left_level s) left
 
@@ -142,7 +142,7 @@ abbrev pub after_sign : ℕ → ℕ → ℕ → ℕ → Option InfixSign → Out
 after_sign level left depth at None = Passes []
 after_sign level left depth at (Some s) = after_infix level left depth at s
 
--- A `:=` has no cell before it where an operator could stand.
+-- A `:=` has no cell before it where an operator is possible.
 abbrev pub after_cell : ℕ → ℕ → Outcome
 after_cell level left = if goes_on level left (Direct Add) then Refuses NotACell else Passes []
 
@@ -151,7 +151,7 @@ after level left depth at (TheSign sign.Becomes) = after_cell level left
 after level left depth at (TheSign s) = after_sign level left depth at (infix_of s)
 after level left depth at l = Passes []
 
--- A name is that of a function before `(`, of an array before `[`, and else of a value.
+-- A name is that of a function before `(`, of an array before `[`, and otherwise of a value.
 abbrev pub after_name : ℕ → ℕ → Name → ℕ → ℕ → ℕ → Lexeme → Outcome
 after_name limit named x level depth at (TheSign sign.OpenParen) = within limit (depth + 1) (Takes (word.Callee named x ∷ word.List ∷ [])
     (Operand 0 (depth + 1) ∷ CallEnd named false x depth ∷ After level 9 depth ∷ []))
@@ -204,7 +204,7 @@ call_end called strict f depth (TheSign sign.Comma) = Takes (word.Part ∷ []) (
 call_end called strict f depth (TheSign sign.CloseParen) = Takes (word.Part ∷ word.Call called strict f ∷ []) []
 call_end called strict f depth l = Refuses Unexpected
 
--- After an `else` stands an `if` or a block.
+-- After an `else` there is an `if` or a block.
 abbrev pub otherwise : ℕ → ℕ → ℕ → Lexeme → Outcome
 otherwise limit depth at (TheSign sign.OpenBrace) = Takes [] (Steps depth ∷ [])
 otherwise limit depth at (TheWord keyword.If) = within limit (depth + 2) (Takes [] (conditional at depth ++ Emit word.Chain ∷ []))

@@ -1,4 +1,4 @@
--- IN CODE a symbol tells a name by its number in a table of names.
+-- IN CODE a symbol gives a name by its number in a table of names.
 use Rattle.std.specs.Prelude.{ℕ, List, map, reverse}
 use Rattle.source.specs.Tree.{Name}
 use Rattle.source.specs.Words.{name_of, named}

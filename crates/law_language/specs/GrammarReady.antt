@@ -1,4 +1,4 @@
--- WHAT STANDS ON A STACK can be read to its end, with at most so many open. The automaton keeps that; and so no symbol's depth
+-- WHAT IS ON A STACK can be read to its end, with at most so many open. The automaton keeps that; and so no symbol's depth
 -- is above the limit.
 use Rattle.std.specs.Prelude.{◌≡◌, ℕ, ◌+◌, ◌≤◌, [], ◌∷◌, None, ⊤}
 use Rattle.source.specs.Tree.{Name}

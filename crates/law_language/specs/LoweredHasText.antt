@@ -11,14 +11,14 @@ use Rattle.source.specs.Counts.{IsGood}
 use Rattle.source.specs.Lowered.{lowered}
 use Rattle.source.specs.Theorem.{NoDoubles}
 
--- The names of arrays and functions are as texts have them. Graphs have no others, but for those of the blocks of loops.
+-- The names of arrays and functions are as texts have them. Graphs have no others, except those of the blocks of loops.
 abbrev pub HasSpelledNames : Program → Type 0
 HasSpelledNames p = All IsSpelledName (item_names p)
 
 abbrev pub LoweringHasText : Type 0
 LoweringHasText = (p : Program) (g : Graph) → IsGood p → HasSpelledNames p → lowered p ≡ Ok g → HasText g
 
--- So it is with each program in code, whose table has such names alone.
+-- This holds for each program in code, whose table has only such names.
 abbrev pub NamesAreSpelled : Type 0
 NamesAreSpelled = (names : List Name) (ws : List (Word ℕ)) (p : Program) → AreWords names ws p → All IsSpelledName names → HasSpelledNames p
 

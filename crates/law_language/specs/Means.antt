@@ -1,4 +1,4 @@
--- LOWERING KEEPS THE MEANING OF A PART: where its lines stand in an invocation whose names agree, the part evaluates to the
+-- LOWERING KEEPS THE MEANING OF A PART: where its lines are active in an invocation whose names agree, the part evaluates to the
 -- values of its sources, and it stores what is stored at its nodes.
 use Rattle.std.specs.Prelude.{◌≡◌, ℕ, ◌+◌, ◌<◌, Bool, true, false, ℤ, List, [], ◌∷◌, ◌++◌, map, length, Some, Ok, slice_get, IsPermutation}
 use Rattle.tags.specs.declared.value.Value.{Value}
@@ -37,7 +37,7 @@ module _ (p : Program) (g : Graph) (origin : ℕ → Origin) (inputs : List ℤ)
   abbrev pub over : World
   over = world p origin s.memory.cells
 
-  -- THE PART STANDS in c: its lines from the spot on, in a region that is taken, with a trigger that has a value.
+  -- THE PART IS ACTIVE in c: its lines are there from the spot on, in a region that is taken, with a trigger that has a value.
   pub record IsActive (c : Context) (site : Site) (spot : Spot) (l : Lowered) : Type 0 where
     pub number : ℕ
     pub block : Block ℕ
@@ -51,7 +51,7 @@ module _ (p : Program) (g : Graph) (origin : ℕ → Origin) (inputs : List ℤ)
     pub traced : AreTraced origin number spot.next l.nodes
     pub loops : HasBlocks g origin site.function l.blocks
 
-  -- IT COMES OUT AS IT IS EVALUATED: to the values of these sources, and to the stores of the nodes from lo on and below hi.
+  -- IT DELIVERS WHAT IT IS EVALUATED TO: the values of these sources, and the stores of the nodes from lo on and below hi.
   pub record Delivers (c : Context) (gives : List Value → Stores → Type 0) (sources : List Source) (lo hi : ℕ) : Type 0 where
     pub vs : List Value
     pub ss : Stores

@@ -13,7 +13,7 @@ module _ (fl : Flow) (inputs : List ℤ) (run : List Activity) (s : State) (r : 
   abbrev pub Knows : Context → Scope → Env → Name → Type 0
   Knows c scope env x = (v : Value) × (bound env x ≡ Some v) × Has fl inputs run s r c (source_in scope x) v
 
-  -- each of these names is known; of others nothing is asked
+  -- each of these names is known; nothing is required of others
   abbrev pub Agrees : Context → Scope → Env → List Name → Type 0
   Agrees c scope env [] = ⊤
   Agrees c scope env (x ∷ xs) = Knows c scope env x × Agrees c scope env xs

@@ -19,7 +19,7 @@ MayFail (Fetch a) = ⊤
 MayFail (Store a) = ⊤
 MayFail kind = ⊥
 
--- The faults of these lines of block i, from node n on, have the origins that are told of their tokens.
+-- The faults of these lines of block i, from node n on, have the origins that are given for their tokens.
 abbrev pub AreTraced : (ℕ → Origin) → ℕ → ℕ → List Made → Type 0
 AreTraced origin i n [] = ⊤
 AreTraced origin i n (m ∷ ms) = (MayFail m.node.kind → origin m.at ≡ At i n) × AreTraced origin i (n + 1) ms

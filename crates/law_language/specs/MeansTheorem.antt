@@ -1,4 +1,4 @@
--- THE THEOREM: what a program's graph has at rest is what the program computes. And what it stands on.
+-- THE THEOREM: what a program's graph has at rest is what the program computes. And what it rests on.
 use Rattle.std.specs.Prelude.{◌≡◌, ℕ, ◌<◌, ℤ, List, [], ◌∷◌, Option, Some, None, Ok, slice_get}
 use Rattle.tags.specs.declared.value.Origin.{Origin}
 use Rattle.semantics.specs.Graph.{Graph, flow_of}
@@ -20,8 +20,8 @@ use Rattle.source.specs.Theorem.{Computes, IsLowered, MeansTheSame}
 use Rattle.law_language.specs.MeansHolds.{AreTraced, HasBlocks}
 use Rattle.law_language.specs.Means.{MeansIn}
 
--- PLACES. No two tokens of the program have one place. So it is with each tree that a text has; of other trees an origin
--- could be that of another token.
+-- PLACES. No two tokens of the program have one place. This holds for each tree that a text has; in other trees an origin could be
+-- that of another token.
 abbrev pub and_place : Option ℕ → List ℕ → List ℕ
 and_place None ns = ns
 and_place (Some n) ns = n ∷ ns
@@ -40,7 +40,7 @@ pub record IsLoweredApart (p : Program) (g : Graph) (origin : ℕ → Origin) : 
 abbrev pub LoweringKeepsMeaning : Type 0
 LoweringKeepsMeaning = MeansTheSame IsLoweredApart
 
--- TEXTS. The tokens of a text stand one after the other, so no two tokens of its tree have one place.
+-- TEXTS. The tokens of a text are one after the other, so no two tokens of its tree have one place.
 abbrev pub Rise : List Token → Type 0
 Rise ts = (i j : ℕ) (t u : Token) → slice_get ts i ≡ Some t → slice_get ts j ≡ Some u → i < j → t.at < u.at
 
@@ -72,12 +72,12 @@ abbrev pub MachinesShowPrograms : Type 0
 MachinesShowPrograms = (text : List ℕ) (p : Program) (g : Graph) (origin : ℕ → Origin) → IsLoweredText text p g origin → WellFormed g
     → (inputs : List ℤ) → AreInputsOf g inputs → (m : Machine) → IsExact (flow_of g) inputs m → NoReader m → ShowsProgram p origin inputs m
 
--- WHAT IT STANDS ON. The blocks of each function are in the graph, under their names and with their origins.
+-- WHAT IT RESTS ON. The blocks of each function are in the graph, under their names and with their origins.
 abbrev pub FunctionsArePlaced : Type 0
 FunctionsArePlaced = (p : Program) (g : Graph) (origin : ℕ → Origin) → IsLoweredApart p g origin → WellFormed g
     → (f : Name) (h : Function) → function_in p f ≡ Some h → HasBlocks g origin h.name.name (function_blocks p h)
 
--- The faults of each block's lines have the origins that are told of their tokens.
+-- The faults of each block's lines have the origins that are given for their tokens.
 abbrev pub OriginsAreTraced : Type 0
 OriginsAreTraced = (p : Program) (g : Graph) (origin : ℕ → Origin) → IsLoweredApart p g origin
     → (i : ℕ) (b : MadeBlock) → slice_get (made_blocks p p) i ≡ Some b → AreTraced origin i b.inputs b.nodes

@@ -4,9 +4,9 @@
 
 ghost use Rattle.law_language.specs.Grammar.{Sound, Complete, Once, FirstFault};
 
-/// The automaton reads the tokens of a text exactly if a program has them that fits the grammar and is at most 200 deep; then
-/// it is the only one, and the words that are appended are its words. Else the fault is at the first token at which no such
-/// program goes on, or at the end, and its kind says why.
+/// The automaton reads the tokens of a text exactly if they are the tokens of a program that fits the grammar and is at most 200 deep;
+/// then this is the only such program, and the words that are appended are its words. Otherwise the fault is at the first token at which no
+/// such program goes on, or at the end, and its kind says why.
 pub fn automaton_reads_the_grammar()
     ensures sound { Sound }
     ensures complete { Complete }

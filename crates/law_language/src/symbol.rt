@@ -3,12 +3,12 @@
 use source::token::{Keyword, Sign};
 use source::word::Word;
 
-/// What stands on the parser's stack: what has to come, what may come, or a word that is appended then. `depth` is how
-/// many are open around it of what a tree's depth counts. `level` is the level of the grammar that the whole must have
-/// at least, and `left` that of the operand before.
+/// What is on the parser's stack: what must follow, what may follow, or a word that is appended then. `depth` is how
+/// many of the levels that a tree's depth counts are open around it. `level` is the level of the grammar that the whole must
+/// have at least, and `left` that of the operand before.
 #[derive(Clone, Copy)]
 pub enum Symbol<N> {
-    // As they stand.
+    // As they are.
     Sign {
         sign: Sign,
     },

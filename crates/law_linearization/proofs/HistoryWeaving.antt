@@ -16,7 +16,7 @@ abbrev later_of : List Block → List Block
 later_of [] = []
 later_of (b ∷ bs) = bs
 
--- the blocks of all elements but for the first one of element k
+-- the blocks of all elements except the first one of element k
 abbrev without : ℕ → (ℕ → List Block) → ℕ → List Block
 without k blocks e = if k == e then later_of (blocks e) else blocks e
 

@@ -15,8 +15,8 @@ use Rattle.law_linearization.specs.History.{Block, events_in, blocks_by, LeavesT
 use Rattle.law_linearization.specs.HistoryLaws.{IsBalanced}
 
 -- What element e did in its thread, from its first lane to its last one: blocks of events, each with one commit of its seat. What its
--- seat holds is what lies in its queue, and what it kept for others or in its hand. Whether the latter names frames and cells that
--- there are is not known here.
+-- seat holds is what lies in its queue, and what it kept: tokens for others, and tokens that have no place in its queue. Whether these
+-- name frames and cells that exist is not known here.
 pub record Ran (g : Setting) (e : ℕ) (old : Holding) (a : Account) (new : Holding) (kept : List Token) (blocks : List Block) : Type 0 where
   pub element : a.element ≡ e
   pub placed : IsPlaced g e new

@@ -119,7 +119,7 @@ BeganFreely =
     → Began inputs (arriving g lanes tokens) (events_in log)
 
 -- The report of lanes that ran freely shows a run: with the events of a legal history of their blocks it lists them, and with
--- none it shows that run but for its events.
+-- none it shows that run except for its events.
 abbrev pub ShowsFreely : Type 0
 ShowsFreely =
     (g : Setting) (good : IsGoodSetting g) (inputs : List ℤ) (lanes : List Holding) (log : List Block) (last tokens : List Token) (list : Events) (halt : Halt)

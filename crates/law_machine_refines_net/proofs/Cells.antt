@@ -94,7 +94,7 @@ module _ (s : Taking) (n : ℕ) (e : s.i.inlet.part ≡ Line n) (cell : is_cell 
   meant_by base t u (Place y) = token (cell_to (Some (base + y)) t u) (Word.Back (Cont.Frame frame (here + A.dest.ahead) A.dest.port)) ∷ []
   meant_by base t u (Outside w) = token (To.Instr frame (here + A.dest.ahead) A.dest.port) (Word.Val w) ∷ []
 
-  -- where the answer comes
+  -- where the answer goes
   answer_word : Word.Back (Cont.Frame frame (here + A.dest.ahead) A.dest.port) ≡ W (BackTo c A.inlet)
   answer_word =
       let k = A.far in let far : here + A.dest.ahead ≡ ip_of s.fl s.p s.w c A.inlet.part = omega (arith, k) in

@@ -89,7 +89,7 @@ module _ (s : Taking) (n : ℕ) (l : is_loop (block_in s.fl s.i.context) n ≡ t
       state_is : slot_in s.m.store g (Some own) ≡ slot_for bound book
       state_is = Credits.slot_is s.fl s.p s.w s.inputs s.q s.m s.good s.keeps c con n l g at
 
-      -- what comes of it
+      -- what results from it
       pub does : Happening s.m.store g (Some own) (outcome_of s.p.program (Rules.at t is) ins op (slot_for bound book) Left word) s.event.made s.new.store
       does =
           let a = subst (λ (o : Op). Happening s.m.store g (uses_of ins o)

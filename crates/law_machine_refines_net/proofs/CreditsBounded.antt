@@ -1,4 +1,4 @@
--- A loop of a good plan has a turn at least.
+-- A loop of a good plan has at least one turn.
 use Rattle.std.proofs.Common.{◌≡◌, ℕ, ◌<◌, Bool, true, false, length, refl, sym, ap, ◌∙◌, true≢false, Option, Some, None}
 use Rattle.semantics.specs.declared.graph.Region.{Region}
 use Rattle.semantics.specs.declared.graph.Kind.{Kind}

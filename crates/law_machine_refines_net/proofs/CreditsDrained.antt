@@ -49,7 +49,7 @@ module _ (s : Taking) (n : ℕ) (l : is_loop (block_in s.fl s.i.context) n ≡ t
   abbrev k : ℕ
   k = Books.bound s n l
 
-  -- what waits, with the item that comes
+  -- what waits, with the item that arrives
   abbrev all : List Item
   all = s.i ∷ net.waiting
 
@@ -59,11 +59,11 @@ module _ (s : Taking) (n : ℕ) (l : is_loop (block_in s.fl s.i.context) n ≡ t
   here : (j : Item) → Contains all j → IsHere s j
   here j h = waited_there s j (Contains-append_right s.others all j h)
 
-  -- each stands where no other does
+  -- each is where no other is
   apart_all : (x : Spot) → hits_at x all ≤ 1
   apart_all x = let a = apart s x in let b = total-append (λ (i : Item). one (same_spot x (spot_of i))) s.others all in omega (arith, a, b)
 
-  -- THE DRAIN that waits or comes
+  -- THE DRAIN that waits or arrives
   module _ (x : Item) (there : Contains all x) (xc : x.context ≡ c) (xp : x.inlet.part ≡ Drainer n) (mine : IsLoops n s.i.inlet.part)
       (count : items_at c (Giver n) all ≡ granted_of net c n) where
     abbrev last : ℕ

@@ -1,4 +1,4 @@
--- A turn gives its credit back: it is kept, it is one of all that are asked for, or it is the last of them.
+-- A turn gives its credit back: it stays free, it is one of all that are asked for, or it is the last of them.
 use Rattle.std.proofs.Common.{◌≡◌, ℕ, zero, suc, ◌+◌, ◌-◌, ◌<◌, ◌≤◌, Bool, true, false, List, [], ◌∷◌, map, refl, sym, ap, ◌∙◌, subst, inr, arith, true≢false}
 use Rattle.std.proofs.Common.{Some, None, ◌==◌, ◌&&◌, nat_lt, lt-ltb, if◌then◌else◌}
 use Rattle.std.specs.Prelude.{IsPermutation, Contains}
@@ -212,7 +212,7 @@ module _ (s : Taking) (n : ℕ) (e : s.i.inlet.part ≡ Giver n) where
     pub drained_follows : Followed s
     drained_follows = drains_follow (log.granted - log.given) refl (did (Draining (log.granted - log.given)) drain_is)
 
-  -- IT IS KEPT
+  -- IT STAYS FREE
   module _ (free : log.draining ≡ false) (none : log.waiter ≡ None) where
     abbrev left : ℕ
     left = k - (log.granted - log.given)

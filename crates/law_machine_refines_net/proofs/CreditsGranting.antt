@@ -108,7 +108,7 @@ module _ (s : Taking) (n : ℕ) (e : s.i.inlet.part ≡ Taker n) where
   free : slot_for k log ≡ Slot.Credits (k - (log.granted - log.given))
   free = free_slot k log open_is over_is draining_is waiter_is
 
-  -- no drain has come, and no other turn asks
+  -- no drain has arrived, and no other turn asks
   no_drain : (j : Item) → IsHere s j → j.context ≡ c → j.inlet.part ≡ Drainer n → ⊥
   no_drain j h a b =
       Credits.no_take s.fl s.p s.w s.inputs s.q s.m s.good s.keeps c (Books.con s n l) n l s.i (taken_there s) refl (Taker n) e j h a b s.i

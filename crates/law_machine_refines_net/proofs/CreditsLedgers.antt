@@ -1,4 +1,4 @@
--- The slot of a loop by what its ledger says, and the counts of a ledger after one event more.
+-- The slot of a loop by what its ledger says, and the counts of a ledger after one more event.
 use Rattle.std.proofs.Common.{◌≡◌, ℕ, ◌+◌, ◌-◌, ◌<◌, Bool, true, false, List, ◌∷◌, sym, ap, ◌∙◌, inl, inr, ◌⊎◌, arith, true≢false, lt-ltb, le-ltb, ltb-true}
 use Rattle.std.proofs.Common.{nat_lt, Option, Some, None, if◌then◌else◌}
 use Rattle.std.specs.Prelude.{Contains}

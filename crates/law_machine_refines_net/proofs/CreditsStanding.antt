@@ -1,4 +1,4 @@
--- What stands at the instructions of a loop's credits: at each inlet one item, and nothing before the loop is opened.
+-- What is at the instructions of a loop's credits: at each inlet one item, and nothing before the loop is opened.
 use Rattle.std.proofs.Common.{◌≡◌, ℕ, ◌<◌, ◌≤◌, true, false, List, [], ◌∷◌, ◌++◌, refl, sym, ap, ◌∙◌, subst, inl, inr, ◌⊎◌, arith, true≢false}
 use Rattle.std.specs.Prelude.{IsPermutation, Contains, flat_map}
 use Rattle.std.proofs.lemmas.Bool.{cases_eq}
@@ -50,7 +50,7 @@ module _ (s : Taking) where
       first (inl h) = second (Contains-append_cases made s.others j h)
       first (inr h) = Contains-append_right s.others left j h
 
-  -- no other stands where item i stands
+  -- no other is where item i is
   pub no_twin : (j : Item) → Contains (s.others ++ (net_of s).waiting) j → spot_of s.i ≡ spot_of j → ⊥
   no_twin j h e =
       let N = net_of s in let x = spot_of s.i in let f : Item → ℕ = λ (i : Item). one (same_spot x (spot_of i)) in
@@ -120,7 +120,7 @@ waited_perm s =
 pub waited_there : (s : Taking) (j : Item) → Contains (s.others ++ (s.i ∷ (net_of s).waiting)) j → IsHere s j
 waited_there s j h = Contains-permutation _ _ j (waited_perm s) h
 
--- each stands where no other does
+-- each is where no other is
 pub apart : (s : Taking) (x : Spot) → hits_at x (s.others ++ (s.i ∷ (net_of s).waiting)) ≤ 1
 apart s x =
     let f : Item → ℕ = λ (i : Item). one (same_spot x (spot_of i)) in let N = net_of s in

@@ -75,7 +75,7 @@ module _ (s : Taking) where
       Contains-append_right net.pending (net.waiting ++ flat_map (takes s.fl) net.fired) j
       (Contains-append_right net.waiting (flat_map (takes s.fl) net.fired) j (taken_in s.fl net.fired h j d m))
 
-  -- where something was made something stands, or was taken
+  -- where something was made, something is there, or was taken
   made_stands : (h : Firing) (i : Item) → Contains net.fired h → Contains (makes s.fl s.w h) i → (j : Item) × Contains all j × (spot_of j ≡ spot_of i)
   made_stands h i d m =
       let x = spot_of i in
@@ -87,7 +87,7 @@ module _ (s : Taking) where
       let here = hit_counted (flat_map (makes s.fl s.w) net.fired) i (flat_contains (makes s.fl s.w) net.fired h i d m) in
       hit_found x all (omega (arith, k, a, b, t, u, here))
 
-  -- A WIRE: what stands at its end was sent along its side
+  -- A WIRE: what is at its end was sent along its side
   module _ (c : Context) (con : IsContext s.fl c) where
     abbrev IsHere : Part → Type 0
     IsHere r = there_in s.fl (site_in s.fl s.w c) (wiring_in s.fl s.w c) r ≡ true
@@ -247,7 +247,7 @@ module _ (s : Taking) where
         (taken_in s.fl net.fired h (first_taken s.fl s.w h h.part) d (takes_first s.fl s.w h)))
         (framer_spot ∙ sym (ap (λ (r : Part). spot_of (first_taken s.fl s.w h r)) b ∙ (λ t. record { context = a t; inlet = inlet (Framer n) Left 0 })))
 
-    -- AN ARGUMENT that came was not taken
+    -- AN ARGUMENT that arrived was not taken
     module _ (m : ℕ) (j : Item) (at : spot_of j ≡ record { context = s.i.context; inlet = inlet (Sender n m) Right 0 }) where
       jc : j.context ≡ c
       jc = ap (λ (y : Spot). y.context) at

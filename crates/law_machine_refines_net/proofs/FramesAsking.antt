@@ -1,4 +1,4 @@
--- Requests for frames, and what the manager answers; what comes to the host, and frames that come back.
+-- Requests for frames, and what the manager answers; what arrives at the host, and frames that are handed back.
 use Rattle.std.proofs.Common.{◌≡◌, ℕ, Bool, true, false, [], ◌∷◌, refl, sym, ap, ◌∙◌, if◌then◌else◌}
 use Rattle.tags.specs.declared.token.Port.TheVariants.{Left}
 use Rattle.semantics.specs.Cause.{is_turn}

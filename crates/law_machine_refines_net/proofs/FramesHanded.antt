@@ -42,7 +42,7 @@ use Rattle.law_machine_refines_net.proofs.FramesUnframed.{no_firing}
 use Rattle.law_machine_refines_net.proofs.FramesManaged.{Hands, hand_out, cont, to_manager, requested, manager_free, asked_lends, asked_silent}
 use Rattle.law_machine_refines_net.proofs.FramesQueued.{queued_follows}
 
--- FRAMES after one was handed to d
+-- FRAMES after one was handed out for d
 frame_now : (fl : Flow) (f : Firing) (fired : List Firing) (d : Context) → is_main d ≡ false → handed_to fl f.context f.part ≡ Some d
     → frame_at fl (f ∷ fired) d ≡ Some f.frame
 frame_now fl f fired Main m e = absurd (true≢false m)

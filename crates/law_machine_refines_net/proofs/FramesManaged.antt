@@ -1,4 +1,4 @@
--- A request for a frame comes to the manager.
+-- A request for a frame arrives at the manager.
 use Rattle.std.proofs.Common.{◌≡◌, ℕ, ◌*◌, true, false, [], ◌∷◌, refl, sym, ap, ◌∙◌, subst, true≢false, Some}
 use Rattle.std.specs.Prelude.{Contains, pos}
 use Rattle.tags.specs.declared.value.Value.TheVariants.{Int}

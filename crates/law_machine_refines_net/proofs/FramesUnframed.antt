@@ -1,4 +1,4 @@
--- A context for which a frame is asked has none yet, and nothing has come to it.
+-- A context for which a frame is asked has none yet, and nothing has arrived in it.
 use Rattle.std.proofs.Common.{◌≡◌, ℕ, ◌+◌, Bool, true, false, List, [], ◌∷◌, ◌++◌, refl, sym, ap, ◌∙◌, subst, inl, inr, ◌⊎◌, arith, true≢false, Option, Some}
 use Rattle.std.proofs.Common.{None, if◌then◌else◌}
 use Rattle.std.specs.Prelude.{Contains, flat_map}
@@ -137,7 +137,7 @@ module _ (s : Taking) where
         (Contains-permutation _ _ s.i (IsPermutation-sym _ _ s.perm) (contains_head s.i s.others))
         (Contains-append_right net.waiting (flat_map (takes s.fl) net.fired) (first_taken s.fl s.w k.0 k.0.part) (took k.0 k.1)) (first k.0 o.0 o.1)
 
-  -- NOTHING COMES to a context that has no frame
+  -- NOTHING ARRIVES in a context that has no frame
   module _ (d : Context) (none : (g : ℕ) → frame_at s.fl net.fired d ≡ Some g → ⊥) where
     pub no_item : (j : Item) → Contains (net.pending ++ (net.waiting ++ flat_map (takes s.fl) net.fired)) j → j.context ≡ d → ⊥
     no_item j h e = let k = old.known j h in none k.0 (subst (λ (c : Context). frame_at s.fl net.fired c ≡ Some k.0) e k.1)

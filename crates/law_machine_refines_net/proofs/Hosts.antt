@@ -1,4 +1,4 @@
--- What comes to the host, and a frame that comes back.
+-- What arrives at the host, and a frame that is handed back.
 use Rattle.std.proofs.Common.{◌≡◌, ℕ, ◌*◌, ◌<◌, Bool, true, false, ◌&&◌, List, [], ◌∷◌, ◌++◌, map, refl, sym, ap, ◌∙◌, subst, inl, inr, ◌⊎◌, arith, true≢false}
 use Rattle.std.proofs.Common.{Option, Some, None, nat_lt, ltb-true, if◌then◌else◌}
 use Rattle.std.specs.Prelude.{IsPermutation, Contains, slice_get}
@@ -129,7 +129,7 @@ free_release s g e = record {
   released = λ g base. subst (λ (x : To). released_at s.p.program g base x s.event.made ≡ 0) (sym e) refl;
 }
 
--- A RESULT that comes to the host
+-- A RESULT that arrives at the host
 module _ (s : Taking) (j : ℕ) (e : s.i.inlet.part ≡ Shown j) where
   abbrev shown : Taking
   shown = carried_as s (Shown j) e
@@ -229,7 +229,7 @@ module _ (s : Taking) (e : s.i.inlet.part ≡ Done) where
         not_out = λ g o. (old ending).not_out g (sym (ap (λ (x : Store). x.out g) st) ∙ o);
       }) (free_host ending (outputs_of s.p.program) to_last)
 
--- A FRAME that comes back
+-- A FRAME that is handed back
 module _ (s : Taking) (e : s.i.inlet.part ≡ Freed) where
   abbrev leaving : Taking
   leaving = carried_as s Freed e

@@ -48,7 +48,7 @@ module _ (s : Taking) (j : ℕ) (in_main : s.i.context ≡ Main) (e : s.i.inlet.
   abbrev W : Note → Word
   W n = word_of s.fl s.p s.w (net_of s).fired n
 
-  -- what comes of both words
+  -- what results from both words
   abbrev Arrives : Op → Word → Word → Type 0
   Arrives op x y =
       Fires s.m.store (frame_of s.fl (net_of s).fired Main) (Some (slot_of s.fl s.w l.i))

@@ -46,7 +46,7 @@ module _ (fl : Flow) (p : Plan) (w : Wires) (inputs : List ℤ) (good : IsGood f
   code : Coded fl p w good.wired Main
   code = coded fl p w good.wired Main good.main
 
-  -- what stands at the start
+  -- what is there at the start
   pub record IsFirst (j : Item) : Type 0 where
     pub context : j.context ≡ Main
     pub names : named_by j.word ≡ None

@@ -92,7 +92,7 @@ module _ {s : Taking} {T : Item → Type 0} {d : Config} {new : List Firing} {ma
         left j (inl e) = inr (subst T e kind)
         left j (inr h) = l.left j h
 
-  -- A PART FIRES with what comes now and what was kept
+  -- A PART FIRES with items that arrive now and items that waited
   module _ (f : Firing) (now rest kept others : List Item) (pending : IsPermutation d.pending (now ++ rest))
       (waiting : IsPermutation d.waiting (kept ++ others)) (took : IsPermutation (now ++ kept) (takes s.fl f)) (proper : IsProper s.fl d.fired f)
       (spared : (test : Item → Bool) → Spares s T test → only test others ≡ only test d.waiting) where

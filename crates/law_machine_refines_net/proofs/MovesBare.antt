@@ -118,7 +118,7 @@ module _ (fl : Flow) (w : Wires) where
   inputs_bare n [] = tt
   inputs_bare n (z ∷ zs) = (inr refl, inputs_bare (n + 1) zs)
 
-  -- all that comes is bare
+  -- all that arrives is bare
   pub all_bare : (inputs : List ℤ) (net : Config) → ProperMoves fl w (begin inputs) net → (j : Item) → Contains (net.pending ++ net.waiting) j → IsBare j
   all_bare inputs net m j c =
       each_within IsBare j (net.pending ++ net.waiting) (within_from j (net.pending ++ net.waiting) c)

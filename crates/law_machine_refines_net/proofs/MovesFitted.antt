@@ -1,4 +1,4 @@
--- What is known of each item of the net: where it stands, its instruction, and that its slot is its own.
+-- What is known of each item of the net: where it is, its instruction, and that its slot is its own.
 use Rattle.std.proofs.Common.{◌≡◌, ℕ, Bool, true, false, [], ◌++◌, refl, sym, ap, ◌∙◌, subst, inl, inr, ◌⊎◌, true≢false, Some, eqb-true}
 use Rattle.std.specs.Prelude.{Contains, flat_map}
 use Rattle.std.proofs.lemmas.List.Elements.{All-contains, Contains-append_left, Contains-append_right, Contains-append_cases}

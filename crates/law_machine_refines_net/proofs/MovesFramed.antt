@@ -1,4 +1,4 @@
--- The frames after an event: those of before, and the one that it hands out, if it does.
+-- The frames after an event: the frames before it, and the one that it hands out, if there is one.
 use Rattle.std.proofs.Common.{◌≡◌, ℕ, List, [], ◌∷◌, ◌++◌, refl, sym, ap, ◌∙◌, subst, inl, ◌⊎◌, Option, Some, None}
 use Rattle.std.specs.Prelude.{Contains}
 use Rattle.lemmas.proofs.Contains.{contains_head, contains_tail}

@@ -1,4 +1,4 @@
--- An event that fires one part, which makes nothing of a loop's credits and hands on what it took.
+-- An event that fires one part, which makes nothing of a loop's credits and passes on what it took.
 use Rattle.std.proofs.Common.{◌≡◌, ℕ, false, ap, ◌∙◌, inl, Some}
 use Rattle.std.specs.Prelude.{Contains}
 use Rattle.semantics.specs.Meaning.{Context}

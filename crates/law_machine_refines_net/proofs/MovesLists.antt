@@ -1,4 +1,4 @@
--- Lists of which some elements are left out, counted, or told apart by a test.
+-- Lists of which some elements are left out, counted, or distinguished by a test.
 use Rattle.std.proofs.Common.{◌≡◌, ◌+◌, Bool, true, false, cond, List, [], ◌∷◌, ◌++◌, length, refl, sym, ap, ◌∙◌, subst, inl, inr, ◌⊎◌, arith, if◌then◌else◌}
 use Rattle.std.specs.Prelude.{IsPermutation, Contains, flat_map, count_by}
 use Rattle.std.proofs.lemmas.List.Sums.{sum_by-cons}

@@ -85,7 +85,7 @@ module _ (s : Taking) where
     gives = λ j h a e. absurd (true≢false (sym (ap is_credit e) ∙ calm j h));
   }
 
-  -- A LOOP THAT THE EVENT LEAVES ALONE, but for what is sent to it
+  -- A LOOP THAT THE EVENT LEAVES ALONE, except for what is sent to it
   pub record Idle (T : Item → Type 0) (d : Config) (new : List Firing) (made : List Item) (base : ℕ → ℕ → SlotState) (c : Context) (n : ℕ) : Type 0 where
     pub opens : (f : Firing) → Contains new f → is_firing c (Opener n) f ≡ false
     pub takes : (f : Firing) → Contains new f → is_firing c (Taker n) f ≡ false
@@ -99,7 +99,7 @@ module _ (s : Taking) where
     pub released : (g : ℕ) → frame_at s.fl d.fired c ≡ Some g
         → released_now g (ip_of s.fl s.p s.w c (Landing n 0)) ≡ items_at c (Giver n) made
 
-  -- NONE OF A LOOP'S CREDITS goes or comes
+  -- NONE OF A LOOP'S CREDITS leaves or arrives
   pub record Unlent (T : Item → Type 0) (d : Config) (new : List Firing) (made : List Item) : Type 0 where
     pub lends : (f : Firing) → Contains new f → is_lending f.part ≡ false
     pub calm : (j : Item) → T j → is_credit j.inlet.part ≡ false

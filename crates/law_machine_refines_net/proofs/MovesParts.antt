@@ -1,4 +1,4 @@
--- Kinds of parts: those of a loop's credits, those that hand out frames, and those that the memory heeds.
+-- Kinds of parts: those of a loop's credits, those that hand out frames, and those that the memory depends on.
 use Rattle.std.proofs.Common.{◌≡◌, ℕ, ◌+◌, Bool, true, false, ◌&&◌, List, [], ◌∷◌, refl, sym, ap, ◌∙◌, inl, inr, ◌⊎◌, true≢false, if◌then◌else◌}
 use Rattle.std.specs.Prelude.{Contains, flat_map}
 use Rattle.std.proofs.lemmas.List.Elements.{Contains-append_cases}

@@ -69,7 +69,7 @@ silent_end r e = refl
 pub silent_ends : (fs : List Firing) → AreSilent fs → NoneEnds fs
 silent_ends fs silent f h = silent_end f.part (silent f h)
 
--- what has fired of them, but for these
+-- what has fired of them, except for these
 pub fired_before : (fs fired : List Firing) → NoneEnds fs → (c : Context) (q : Part) → is_end q ≡ true → HasFired c q (fs ++ fired) → HasFired c q fired
 fired_before fs fired none c q k h = pick (Contains-append_cases fs fired h.0 h.1)
   where
@@ -110,7 +110,7 @@ module _ {s : Taking} {T : Item → Type 0} {d : Config} {new : List Firing} {ma
   abbrev old : Mirrors s.fl s.p s.w s.m net
   old = s.keeps.tracks.stands
 
-  -- WHAT STAYS, where nothing of it comes or goes
+  -- WHAT STAYS, where nothing of it is removed or added
   pub requests_stay : s.new.store.requests ≡ s.m.store.requests → Spares s T (λ (i : Item). is_asked i.inlet.part)
       → IsPermutation s.new.store.requests (conts_of s.fl s.p s.w net.fired (only (λ (i : Item). is_asked i.inlet.part) d.waiting))
   requests_stay e spares =
@@ -140,7 +140,7 @@ module _ {s : Taking} {T : Item → Type 0} {d : Config} {new : List Firing} {ma
       pick (inl h) = absurd (true≢false (sym (ap is_in_cell e) ∙ none j h))
       pick (inr h) = old.good j n h e
 
-  -- the memory, where no firing is of the parts that it heeds
+  -- the memory, where no firing is of the parts that it depends on
   pub silent_seen : AreSilent new → Recalled s → SameSeen s.new.store (memory_of s.fl d.fired)
   silent_seen silent stays =
       let memory = ap (memory_of s.fl) l.fired ∙ same_memory s.fl new net.fired silent in record {

@@ -35,7 +35,7 @@ pub quiet_held : (r : Part) → is_quiet r ≡ true → is_in_cell r ≡ false
 quiet_held (InCell n) e = absurd (true≢false (sym e))
 quiet_held r e = refl
 
--- an item's token is a cell's just where it is a request
+-- an item's token is a cell's exactly if it is a request
 abbrev pub IsMeant : Flow → Plan → Wires → List Firing → Item → Type 0
 IsMeant fl p w fired j = is_cell_token (token_of fl p w fired j) ≡ is_in_cell j.inlet.part
 

@@ -1,4 +1,4 @@
--- The words that meet where an argument is sent: those of a strict call have come again after it fired.
+-- The words that meet where an argument is sent: those of a strict call are made again after it fired.
 use Rattle.std.proofs.Common.{◌≡◌, ℕ, zero, suc, ◌+◌, ◌<◌, Bool, true, false, ◌&&◌, List, [], ◌∷◌, ◌++◌, length, refl, sym, ap, ◌∙◌, subst, inl, inr, ◌⊎◌}
 use Rattle.std.proofs.Common.{arith, nat_lt, ltb-true, eqb-true, if◌then◌else◌}
 use Rattle.std.specs.Prelude.{Contains, flat_map}
@@ -89,7 +89,7 @@ module _ (s : Taking) (c : Context) (n i : ℕ) where
   pub on_left : (x : Item) → At x → x.inlet.port ≡ Left → x.inlet.way ≡ 0
   on_left x h e = eqb-true x.inlet.way 0 (way_at x h Left e)
 
-  -- where a frame has come, a strict call's argument is not the old one
+  -- where a frame has arrived, a strict call's argument is not the old one
   not_old : is_strict_in s.fl c n ≡ true → (x y : Item) → At x → At y → x.inlet.port ≡ Left → y.inlet.port ≡ Right → y.inlet.way ≡ 0 → ⊥
   not_old strict x y a b left right old =
       let h = framed s.fl s.p s.w s.inputs s.q s.m s.good s.keeps c n x (among s x a.0) (NSender i a.1 a.2 left) in

@@ -1,4 +1,4 @@
--- What a node invokes: its code, where its values come, and the landing to which it returns.
+-- What a node invokes: its code, where its values arrive, and the landing to which it returns.
 use Rattle.std.proofs.Common.{◌≡◌, ℕ, ◌+◌, ◌<◌, true, sym, ap, ◌∙◌, subst, arith, le-ltb, Option, Some, None}
 use Rattle.semantics.specs.Graph.{Node, Flow}
 use Rattle.semantics.specs.Meaning.{Context, Called, Turned}
@@ -45,7 +45,7 @@ module _ (fl : Flow) (p : Plan) (w : Wires) (good : IsGood fl p w) where
       ∙ (λ s. landing_in (le-ltb (code_in fl w c) p.plain (omega (arith, over, count, at)) s) (k.there s))
       ∙ ap (λ (o : ℕ). o + 3) k.laid.inputs
 
-  -- WHERE WORDS COME in a context: its continuation first, then its inputs
+  -- WHERE WORDS ARRIVE in a context: its continuation first, then its inputs
   pub entry_at : (c : Context) → IsContext fl c → ip_of fl p w c Entry ≡ first_of p.program (code_in fl w c)
   entry_at c h = let e = (code_at fl p w good c h).laid.entry in omega (arith, e)
 

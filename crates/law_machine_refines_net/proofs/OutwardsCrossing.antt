@@ -1,4 +1,4 @@
--- Two words meet, and what comes of them goes into another context.
+-- Two words meet, and what results from them goes into another context.
 use Rattle.std.proofs.Common.{◌≡◌, true, false, List, [], ◌∷◌, ◌++◌, map, refl, sym, ap, ◌∙◌, subst, inl, true≢false}
 use Rattle.std.specs.Prelude.{IsPermutation, Contains}
 use Rattle.tags.specs.declared.token.Token.{Token}

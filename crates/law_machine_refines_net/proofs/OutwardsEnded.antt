@@ -55,7 +55,7 @@ bool_same true b f g = sym (f refl)
 bool_same false true f g = g refl
 bool_same false false f g = refl
 
--- AN END, and what it is told of: to which part it goes back, at which offset
+-- AN END, described by the part to which it goes back, and the offset
 module _ (s : Taking) (c d : Context) (n o t : ℕ) (q : Part) (in_c : s.i.context ≡ c) (e : s.i.inlet.part ≡ End) where
   abbrev pub last : Taking
   last = meant_at s c End in_c e

@@ -1,4 +1,4 @@
--- What stands in a turn of a loop after the first comes after its credit was granted.
+-- What is in a turn of a loop after the first is there only after the credit of that turn was granted.
 use Rattle.std.proofs.Common.{◌≡◌, ℕ, zero, suc, ◌<◌, Bool, true, false, ℤ, List, refl, sym, ap, ◌∙◌, subst, inl, inr, ◌⊎◌, arith, true≢false}
 use Rattle.std.proofs.Common.{if◌then◌else◌}
 use Rattle.std.specs.Prelude.{Contains}
@@ -34,7 +34,7 @@ After c n t Main = ⊥
 After c n t (Called d m) = After c n t d
 After c n t (Turned d m u) = ((d ≡ c) × (m ≡ n) × (t < u)) ⊎ After c n t d
 
--- what comes of the credit for the turn after number t
+-- what results from the credit for the turn after number t
 pub data Later (c : Context) (n t : ℕ) (i : Item) : Type 0 where
   LAfter : After c n t i.context → Later c n t i
   LTaker : i.context ≡ c → i.inlet.part ≡ Taker n → suc t < i.inlet.way → Later c n t i
@@ -141,7 +141,7 @@ module _ (fl : Flow) (p : Plan) (w : Wires) (good : IsGood fl p w) (c : Context)
         let r = gift_role fl p w good f all i g ∙ (λ k. giver_of fl (a k) (e k) (v k)) in
         near_role (role (Turned c n u) Asker 0) r (inl (refl, refl, omega (arith, l, v)))
 
-    -- WHAT COMES of the credit is made by its grant, or from what came of it
+    -- WHAT RESULTS from the credit is made by its grant, or from what resulted from it
     gift_near : (i : Item) → Gift fl w f i → Later c n t i → IsGrant ⊎ Later c n t First
     gift_near i g (LAfter a) = inr (near_giver i.context i.inlet.part i.inlet.way (gift_role fl p w good f all i g) a)
     gift_near i g (LTaker a e l) = inr (taker_from i g a e l i.inlet.way refl)
@@ -182,7 +182,7 @@ module _ (fl : Flow) (p : Plan) (w : Wires) (good : IsGood fl p w) (c : Context)
         pick (ByGift g) = gift_near i g x
         pick (ByWire s) = inr (sent_near i s x)
 
-  -- at the beginning nothing came of it
+  -- at the beginning nothing resulted from it
   in_main : (i : Item) (r : Parts.Part) → i.context ≡ Main → i.inlet.part ≡ r → (r ≡ Taker n → ⊥) → Later c n t i → ⊥
   in_main i r m q none (LAfter a) = subst (After c n t) m a
   in_main i r m q none (LTaker a g l) = none (sym q ∙ g)

@@ -1,4 +1,4 @@
--- The last turn of a loop returns its results to where the loop is, and asks that all credits come back.
+-- The last turn of a loop returns its results to where the loop is, and asks that all credits be given back.
 use Rattle.std.proofs.Common.{◌≡◌, ℕ, ◌+◌, ◌<◌, true, [], ◌∷◌, ◌++◌, refl, sym, ap, ◌∙◌, subst, arith, lt-ltb, ltb-true}
 use Rattle.std.proofs.lemmas.Bool.{and_from, or_right}
 use Rattle.lemmas.proofs.Bools.{and_false}

@@ -28,14 +28,14 @@ use Rattle.law_machine_refines_net.proofs.MovesSpots.{one_waits}
 use Rattle.law_machine_refines_net.proofs.MovesFitted.{IsHere, bare, bare_item, one_part, no_base, waiting_here, taken_here, pair_instr, instr_held}
 use Rattle.law_machine_refines_net.proofs.SendsRules.{at, instr, stood, word, happens_pair, pair_dyadic, dyadic_grants, free_from}
 
--- what lies in a slot tells its side
+-- what lies in a slot shows its side
 side_same : (q p : Port) (k l : Word) → on_side q k ≡ on_side p l → q ≡ p
 side_same Left Left k l e = refl
 side_same Right Right k l e = refl
 side_same Left Right k l e = absurd (cc)
 side_same Right Left k l e = absurd (cc)
 
--- THE WAYS of the words that meet at the item's part: the right one's is known where both have come
+-- THE WAYS of the words that meet at the item's part: the right one's is known where both have arrived
 pub record Ways (s : Taking) (rw : ℕ) : Type 0 where
   pub on_left : (x : Item) → IsHere s x → x.context ≡ s.i.context → x.inlet.part ≡ s.i.inlet.part → x.inlet.port ≡ Left → x.inlet.way ≡ 0
   pub on_right : (x y : Item) → IsHere s x → IsHere s y → x.context ≡ s.i.context → y.context ≡ s.i.context → x.inlet.part ≡ s.i.inlet.part

@@ -52,7 +52,7 @@ use Rattle.law_machine_refines_net.proofs.OutwardsPassed.{Sent, free_counted, no
 use Rattle.law_machine_refines_net.proofs.OutwardsCrossing.{crosses_follow}
 use Rattle.law_machine_refines_net.proofs.OutwardsTurning.{asks_granted, none_drains}
 
--- WHERE the next turn's words come
+-- WHERE the next turn's words arrive
 next_calm : (j : ℕ) → is_credit (next_entry j).part ≡ false
 next_calm zero = refl
 next_calm (suc j) = refl

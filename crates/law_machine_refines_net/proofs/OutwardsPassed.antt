@@ -1,4 +1,4 @@
--- An event that fires one part, which may hand on its own continuation and give to a loop's credits.
+-- An event that fires one part, which may pass on its own continuation and give to a loop's credits.
 use Rattle.std.proofs.Common.{◌≡◌, ℕ, ◌<◌, true, false, List, [], ◌∷◌, ◌++◌, map, refl, sym, ap, ◌∙◌, subst, inl, inr, ◌⊎◌, arith, Some, append-nil, None}
 use Rattle.std.specs.Prelude.{IsPermutation, Contains}
 use Rattle.std.proofs.lemmas.List.Elements.{Contains-append_left, Contains-append_right, Contains-append_cases}
@@ -37,7 +37,7 @@ module _ (s : Taking) where
           Contains-append_right (net_of s).pending (net_of s).waiting a
           (subst (λ (l : List Item). Contains l a) (sym waiting) (Contains-append_right before (kept ++ later) a (Contains-append_left kept later a c)))
 
-  -- AN ITEM THAT IS SENT asks no cell, comes where a frame is, and its arc is used
+  -- AN ITEM THAT IS SENT asks no cell, arrives where a frame is, and its arc is used
   pub record Sent (j : Item) : Type 0 where
     pub held : is_in_cell j.inlet.part ≡ false
     pub known : HasFrame s j.context

@@ -34,7 +34,7 @@ use Rattle.law_machine_refines_net.proofs.SendsInwards.{meant_at, carried}
 use Rattle.law_machine_refines_net.proofs.OutwardsPassed.{Sent, none_released}
 use Rattle.law_machine_refines_net.proofs.OutwardsCrossing.{crosses_follow}
 
--- A RETURN, told of: to which part it goes back, at which offset
+-- A RETURN, described by the part to which it goes back, and the offset
 module _ (s : Taking) (r : Part) (c d : Context) (n o t : ℕ) (q : Part) (in_c : s.i.context ≡ c) (e : s.i.inlet.part ≡ r)
     (still : is_still r ≡ true) (two : waits_in (block_in s.fl c) r ≡ true) (plain : is_plain_way r ≡ true) where
   abbrev pub back : Taking

@@ -1,4 +1,4 @@
--- What a turn of a loop gives to the loop's credits, by the turns that have come before it.
+-- What a turn of a loop gives to the loop's credits, by the turns before it.
 use Rattle.std.proofs.Common.{◌≡◌, ℕ, zero, suc, ◌+◌, ◌<◌, ◌≤◌, Bool, true, false, ◌&&◌, List, [], ◌∷◌, ◌++◌, refl, sym, ap, ◌∙◌, subst, inl, inr, ◌⊎◌, arith}
 use Rattle.std.proofs.Common.{true≢false, nat_lt, lt-ltb, le-ltb, ◌==◌, eq-eqb, ne_eqb}
 use Rattle.std.specs.Prelude.{Contains, flat_map}
@@ -95,7 +95,7 @@ module _ (c : Context) (n : ℕ) where
   pub takes_many : (fired : List Firing) (t : ℕ) → ((u : ℕ) → u < t → HasTaken c n (suc u) fired) → t ≤ times c (Taker n) fired
   takes_many fired t h = let a = many fired t h in let b = all_below t fired in let d = times_total c (Taker n) fired in omega (arith, a, b, d)
 
--- THE TURN of the item that comes
+-- THE TURN of the item that arrives
 module _ (s : Taking) (c : Context) (n t : ℕ) (in_turn : s.i.context ≡ Turned c n t) where
   abbrev net : Config
   net = net_of s
@@ -173,7 +173,7 @@ module _ (s : Taking) (c : Context) (n t : ℕ) (in_turn : s.i.context ≡ Turne
       (subst (λ (r : Part). Contains (arms_of s.fl d r j.inlet.way) (record { choice = k; side = x })) (sym e)
       (subst (λ (v : ℕ). Contains (arms_of s.fl d r v) (record { choice = k; side = x })) (sym g) h))
 
-  -- a take for turn u+1 comes after the flag of turn u was true, and after those before it
+  -- a take for turn u+1 is there only after the flag of turn u, and the flags before it, were true
   taker_arm : (j : Item) → j.context ≡ c → j.inlet.part ≡ Taker n → (v u : ℕ) → j.inlet.way ≡ suc v → u ≤ v → InArm s.fl (spot_of j) (turn_flag u) true
   taker_arm j a e v u g l = arm_at j c a (Taker n) e (suc v) g (turn_flag u) true (go (order u v))
     where
@@ -278,7 +278,7 @@ module _ (s : Taking) (c : Context) (n t : ℕ) (in_turn : s.i.context ≡ Turne
     none_later : (j : Item) → Contains all j → j.context ≡ c → j.inlet.part ≡ Taker n → j.inlet.way ≤ t
     none_later j x a g = go (taker_way s.fl s.p s.w s.inputs s.q s.m s.good s.keeps c owner n loops j x a g)
       where
-        -- a later turn has come after the next one was granted
+        -- a later turn is there only after the next one was granted
         later : (v : ℕ) → j.inlet.way ≡ suc v → t < v → ⊥
         later v way l =
             let h = asked_by j x a g v way in

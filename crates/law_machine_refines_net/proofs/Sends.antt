@@ -58,7 +58,7 @@ remembers fl f (InCell n) m e = absurd (true≢false (sym e))
 remembers fl f (Shown j) m e = absurd (true≢false (sym e))
 remembers fl f r m e = refl
 
--- what has fired before, but for this part
+-- what has fired before, except for this part
 pub fired_before : (c : Context) (q : Part) (f : Firing) (fired : List Firing) → (f.part ≡ q → ⊥) → HasFired c q (f ∷ fired) → HasFired c q fired
 fired_before c q f fired differs h = pick (contains_cases f fired h.0 h.1)
   where

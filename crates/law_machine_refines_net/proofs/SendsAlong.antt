@@ -132,7 +132,7 @@ module _ (s : Taking) (still : is_still s.i.inlet.part ≡ true) where
         bare_item s.i (bare s s.i (taken_here s) (instr_held r is)) r Left (left_way r s.i.inlet.way) refl on_the_left
         (left_own s.fl c r s.i.inlet.port s.i.inlet.way still one (fits s s.i (taken_here s)).way)
 
-    -- what comes of it, for its operation
+    -- what results from it, for its operation
     abbrev Does : Op → Type 0
     Does op =
         Fires s.m.store (frame_of s.fl net.fired c) (uses_of (instr s is) op)
@@ -192,7 +192,7 @@ module _ (s : Taking) (still : is_still s.i.inlet.part ≡ true) where
     abbrev is : is_instr r ≡ true
     is = Pairs.is s two plain
 
-    -- what comes of both words, for the operation
+    -- what results from both words, for the operation
     pub both : (sec : Second s two plain) (op : Op) → op_of s.w.variant (site_in s.fl s.w c) r ≡ op
         → Fires s.m.store (frame_of s.fl net.fired c) (Some (slot_of s.fl s.w s.i))
         (fires Empty (fire_two s.p.program (at s is) (instr s is) op (W sec.left) (W sec.right))) s.event.made s.new.store

@@ -38,7 +38,7 @@ use Rattle.law_machine_refines_net.proofs.SendsPairs.{Second}
 use Rattle.law_machine_refines_net.proofs.Sends.{firing_of, Wire}
 use Rattle.law_machine_refines_net.proofs.SendsAlong.{does, one_follows, both, two_follow, two_all, pair_follows, firsts_lead, seconds_lead}
 
--- THE SAME EVENT, told by a context and a part that are the item's
+-- THE SAME EVENT, described by a context and a part that are the item's
 abbrev pub meant_at : (s : Taking) (c : Context) (r : Part) → s.i.context ≡ c → s.i.inlet.part ≡ r → Taking
 meant_at s c r d e =
     let j : Item = record { context = c; inlet = record { part = r; port = s.i.inlet.port; way = s.i.inlet.way }; word = s.i.word; held = s.i.held } in
@@ -102,7 +102,7 @@ module _ (s : Taking) (still : is_still s.i.inlet.part ≡ true) (two : in_slot 
   abbrev W : Note → Word
   W n = word_of s.fl s.p s.w (net_of s).fired n
 
-  -- what comes of both words, for an operation
+  -- what results from both words, for an operation
   abbrev Both : Op → Word → Word → Type 0
   Both op l k =
       Fires s.m.store (frame_of s.fl (net_of s).fired s.i.context) (Some (slot_of s.fl s.w s.i))
@@ -295,7 +295,7 @@ inward s (Gate k) e d = switch_follows (carried_as s (Gate k) e) refl refl refl 
 inward s TurnCont e d = switch_follows (carried_as s TurnCont e) refl refl refl refl refl (λ l v. refl)
 inward s TurnFlag e d = switch_follows (carried_as s TurnFlag e) refl refl refl refl refl (λ l v. refl)
 inward s (TurnValue j) e d = switch_follows (carried_as s (TurnValue j) e) refl refl refl refl refl (λ l v. refl)
--- no item comes there
+-- no item arrives there
 inward s (Drained n) e d = let f = (fits s s.i (taken_here s)).there in absurd (true≢false (sym f ∙ ap (spot_there s.fl s.w s.i.context) e))
 inward s r e d = absurd (cc)
 

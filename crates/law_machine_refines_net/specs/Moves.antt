@@ -22,7 +22,7 @@ AllOutwardsFollow = EventsFollowBy Outwards
 abbrev pub AllOfCellsFollow : Type 0
 AllOfCellsFollow = EventsFollowBy OfCells
 
--- requests for frames, what comes to the host, and frames that come back, of all graphs
+-- requests for frames, what arrives at the host, and frames that are handed back, of all graphs
 abbrev pub AllAskingFollow : Type 0
 AllAskingFollow = EventsFollowBy Asking
 

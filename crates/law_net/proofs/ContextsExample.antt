@@ -1,4 +1,4 @@
--- A small conditional: where x is true its negation, else x. Its parts and its wires, by computation.
+-- A small conditional: where x is true its negation, otherwise x. Its parts and its wires, by computation.
 use Rattle.std.proofs.Common.{◌≡◌, ℕ, Bool, true, false, List, [], ◌∷◌, refl}
 use Rattle.tags.specs.declared.token.Port.TheVariants.{Left, Right}
 use Rattle.operators.specs.declared.Unary.TheVariants.{Neg}
@@ -64,7 +64,7 @@ wires_are :
 unfolding with_kind with_nodes entries finished plain_build join_ends closed closed_nodes released plain_code
 wires_are = (refl, refl, refl, refl, refl, refl, refl, refl, refl, refl, refl, refl)
 
--- what leaves the input tells its uses, of which those at the conditional are predicates
+-- what leaves the input stands for its uses, of which those at the conditional are predicates
 uses_are : (v : Value)
     → (meant_along choice_flow Main v (leads (Line 0) false) ≡ operand Main 2 0 v ∷ tagged Main (AtNode 2) Predicate v ∷ operand Main 3 0 v
     ∷ tagged Main (AtNode 3) Predicate v ∷ [])

@@ -1,4 +1,4 @@
--- Parts, ports, inlets, contexts and spots: what their tests say, and how often a spot stands in a list.
+-- Parts, ports, inlets, contexts and spots: what their tests say, and how often a spot occurs in a list.
 use Rattle.std.proofs.Common.{◌≡◌, ℕ, ◌<◌, ◌≤◌, Bool, true, false, ◌&&◌, List, [], ◌∷◌, refl, sym, ap, ◌∙◌, inl, inr, ◌⊎◌, arith, true≢false, eqb-true, eq-eqb}
 use Rattle.std.proofs.Common.{◌==◌, if◌then◌else◌}
 use Rattle.std.specs.Prelude.{Contains}
@@ -16,7 +16,7 @@ use Rattle.law_net.specs.ContextsParts.{Taker, Drainer, LoopDone, Strict, Result
 use Rattle.law_net.specs.ContextsParts.{LastReturn, DrainReturn, Join, CondEnd, End, Asked, NextAsked, InCell, Drained, Shown, Done, Freed, Inlet, Item, Key}
 use Rattle.law_net.specs.ContextsParts.{region_key, part_key, same_key, same_part, same_port, same_inlet, same_context, Spot, spot_of, same_spot}
 
--- PARTS, by their keys: the numbers tell all but a join's region
+-- PARTS, by their keys: the numbers determine all but a join's region
 pub region_apart : (r s : Region) → region_key r ≡ region_key s → r ≡ s
 region_apart Root Root e = refl
 region_apart Root (Arm m true) e = absurd (omega (arith, e))
@@ -128,7 +128,7 @@ same_spot-true x y h = let k = and_parts _ _ h in spot_is x y (same_context-true
 pub same_spot-refl : (x : Spot) → same_spot x x ≡ true
 same_spot-refl x = and_from _ _ (same_context-refl x.context) (same_inlet-refl x.inlet)
 
--- HOW OFTEN something stands in a list
+-- HOW OFTEN something occurs in a list
 module _ {X Y : Type 0} (same : X → X → Bool) (at : Y → X) (sound : (a b : X) → same a b ≡ true → a ≡ b) (self : (a : X) → same a a ≡ true) where
   abbrev pub often_in : X → List Y → ℕ
   often_in x ys = total (λ (y : Y). one (same x (at y))) ys

@@ -1,4 +1,4 @@
--- What is known of the word of an item that fits: it is of the kind that comes to its inlet.
+-- What is known of the word of an item that fits: it is of the kind that its inlet gets.
 use Rattle.std.proofs.Common.{◌≡◌, ℕ, refl, subst}
 use Rattle.semantics.specs.Graph.{Flow}
 use Rattle.law_net.specs.ContextsParts.{Part, InCell, Item}

@@ -1,4 +1,4 @@
--- The four instructions of a loop's credits take what comes to them: the slot is as the loop's ledger says.
+-- The four instructions of a loop's credits take what arrives at them: the slot is as the loop's ledger says.
 use Rattle.std.proofs.Common.{◌≡◌, ℕ, ◌-◌, ◌<◌, ◌≤◌, Bool, true, false, ℤ, List, [], ◌∷◌, ◌++◌, refl, sym, ap, ◌∙◌, subst, inl, inr, ◌⊎◌, arith, true≢false}
 use Rattle.std.proofs.Common.{le-ltb, ◌==◌, Option, Some, None, if◌then◌else◌}
 use Rattle.std.specs.Prelude.{Contains, flat_map}
@@ -120,7 +120,7 @@ module _ (fl : Flow) (p : Plan) (w : Wires) (inputs : List ℤ) (q : Past) (m : 
     pub near_opened : (i : Item) → Contains all i → Near c n i → 0 < times c (Opener n) fired
     near_opened i h near = let f = framed fl p w inputs q m good k c n i h near in framer_opened f.0 f.1 f.2 f.3
 
-    -- what a turn gives to the loop comes after it was opened
+    -- what a turn gives to the loop is there only after the loop was opened
     pub given_opened : (r : Part) (x : Part) → ((t : ℕ) → giver_of fl c r t ≡ role (Turned c n t) x 0) → ((b : _) → is_unwired b r ≡ true)
         → (is_begin r ≡ false)
         → (i : Item) → Contains all i → i.context ≡ c → i.inlet.part ≡ r → 0 < times c (Opener n) fired
@@ -152,7 +152,7 @@ module _ (fl : Flow) (p : Plan) (w : Wires) (inputs : List ℤ) (q : Past) (m : 
     abbrev pub bound : ℕ
     bound = bound_at (block_in fl c) n
 
-    -- THE ITEM that comes
+    -- THE ITEM that arrives
     module _ (i : Item) (pending : Contains here.pending i) (ic : i.context ≡ c) (r : Part) (ir : i.inlet.part ≡ r) where
       pub stands : Contains all i
       stands = pending_in fl p w inputs q m good k i pending

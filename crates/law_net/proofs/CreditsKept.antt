@@ -1,4 +1,4 @@
--- The bounds of loops are kept: no more turns were granted than were given back, and as many as the bound.
+-- Loops keep their bounds: the turns that were granted are at most the bound more than those that were given back.
 use Rattle.std.proofs.Common.{◌≡◌, ℕ, zero, suc, ◌+◌, ◌-◌, ◌<◌, ◌≤◌, Bool, true, false, ℤ, List, [], ◌∷◌, ◌++◌, length, refl, sym, ap, ◌∙◌, subst, inl, inr}
 use Rattle.std.proofs.Common.{◌⊎◌, arith, true≢false, le-ltb, lt-ltb, Option, Some, None, if◌then◌else◌}
 use Rattle.std.specs.Prelude.{Contains, flat_map, slice_get}

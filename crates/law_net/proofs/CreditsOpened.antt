@@ -1,4 +1,4 @@
--- What stands in a turn of a loop, or asks for one, comes after the loop was opened.
+-- What is in a turn of a loop, or asks for one, is there only after the loop was opened.
 use Rattle.std.proofs.Common.{◌≡◌, ℕ, zero, suc, Bool, true, false, ℤ, List, refl, sym, ap, ◌∙◌, subst, inl, inr, ◌⊎◌, arith, true≢false}
 use Rattle.std.proofs.Common.{ltb-true, nat_lt, if◌then◌else◌}
 use Rattle.std.specs.Prelude.{Contains}

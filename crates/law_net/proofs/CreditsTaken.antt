@@ -1,4 +1,4 @@
--- No token is excluded that comes to one of the four instructions of a loop's credits.
+-- No token is excluded that arrives at one of the four instructions of a loop's credits.
 use Rattle.std.proofs.Common.{◌≡◌, ℕ, zero, suc, ◌+◌, ◌-◌, ◌<◌, ◌≤◌, Bool, true, false, ℤ, List, [], ◌++◌, refl, sym, ap, ◌∙◌, subst, inl, inr, ◌⊎◌, arith}
 use Rattle.std.proofs.Common.{true≢false, lt-ltb, le-ltb, eqb-true, eq-eqb, ne_eqb, nat_lt, Option, Some, None, if◌then◌else◌, append_assoc}
 use Rattle.std.specs.Prelude.{Contains, flat_map}
@@ -148,7 +148,7 @@ module _ (fl : Flow) (p : Plan) (w : Wires) (inputs : List ℤ) (q : Past) (m : 
     takes_ok zero b = refl
     takes_ok (suc x) b = refl
 
-    -- A TAKE that comes
+    -- A TAKE that arrives
     module _ (ir : i.inlet.part ≡ Taker n) where
       pub taker_opened : 0 < times c (Opener n) done
       taker_opened = near_opened fl p w inputs q m good k c con n l i arrive (NTaker ic ir)
@@ -198,7 +198,7 @@ module _ (fl : Flow) (p : Plan) (w : Wires) (inputs : List ℤ) (q : Past) (m : 
             then Rule.Becomes (Draining (most - x)) [] else Rule.Excluded 3)) (ne_eqb x most n')
             ∙ ap (λ (t : Bool). excluded_by (if t then Rule.Becomes (Draining (most - x)) [] else Rule.Excluded 3)) (lt-ltb x most (omega (arith, h, n')))
 
-    -- A DRAIN that comes
+    -- A DRAIN that arrives
     module _ (ir : i.inlet.part ≡ Drainer n) where
       pub drainer_opened : 0 < times c (Opener n) done
       drainer_opened = given_opened fl p w inputs q m good k c con n l (Drainer n) DrainReturn (λ t. refl) (λ b. refl) refl i arrive ic ir
@@ -245,7 +245,7 @@ module _ (fl : Flow) (p : Plan) (w : Wires) (inputs : List ℤ) (q : Past) (m : 
     gives_ok a y true d x h g = draining_ok a y d h
     gives_ok a y false d x h g = waits_ok a y log.waiter x g
 
-    -- A GIVE that comes
+    -- A GIVE that arrives
     module _ (ir : i.inlet.part ≡ Giver n) where
       pub giver_opened : 0 < times c (Opener n) done
       giver_opened = given_opened fl p w inputs q m good k c con n l (Giver n) End (λ t. refl) (λ b. refl) refl i arrive ic ir
@@ -264,7 +264,7 @@ module _ (fl : Flow) (p : Plan) (w : Wires) (inputs : List ℤ) (q : Past) (m : 
           (in_spot fl p w inputs q m good k c con n l i pending ic (Giver n) ir refl
           ∙ sym (ap (λ (x : Context). record { context = x; inlet = inlet (Giver n) Left i.inlet.way }) a)))
 
-      -- those that wait and the one that comes are fewer than were granted
+      -- those that wait and the one that arrives are fewer than were granted
       pub giver_counted : items_at c (Giver n) net.waiting + 1 ≤ granted_of net c n
       giver_counted =
           let test : Item → Bool = is_item_at c (Giver n) in

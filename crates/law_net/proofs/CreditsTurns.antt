@@ -1,4 +1,4 @@
--- What has come of a loop: once its credits are all back, no more turns are asked for, and so few were granted.
+-- What has happened in a loop: once its credits are all back, no more turns are asked for, and so few were granted.
 use Rattle.std.proofs.Common.{◌≡◌, ℕ, zero, suc, ◌+◌, ◌<◌, ◌≤◌, Bool, true, false, ℤ, List, [], ◌∷◌, ◌++◌, refl, sym, ap, ◌∙◌, subst, inl, inr, ◌⊎◌, arith}
 use Rattle.std.proofs.Common.{true≢false, ltb-true, eqb-true, nat_lt}
 use Rattle.std.specs.Prelude.{Contains, flat_map}
@@ -86,7 +86,7 @@ module _ (fl : Flow) (p : Plan) (w : Wires) (inputs : List ℤ) (q : Past) (m : 
 
   -- A LOOP
   module _ (c : Context) (con : IsContext fl c) (n : ℕ) (l : is_loop (block_in fl c) n ≡ true) where
-    -- what comes to a loop's instruction comes to its left port
+    -- what arrives at a loop's instruction arrives at its left port
     pub left_at : (i : Item) → Contains all i → i.context ≡ c → (r : Part) → i.inlet.part ≡ r → waits_in (block_in fl c) r ≡ false → i.inlet.port ≡ Left
     left_at i h a r e none =
         go i.inlet.port refl (subst (λ (d : Context). port_fits fl d r i.inlet.port ≡ true) a
@@ -121,7 +121,7 @@ module _ (fl : Flow) (p : Plan) (w : Wires) (inputs : List ℤ) (q : Past) (m : 
     abbrev turn_flag : ℕ → Choice
     turn_flag t = flag_at fl p w good c con n t
 
-    -- an item that asks for turn t+1 comes after true flags, and one that drains after turn u comes after a false one
+    -- an item that asks for turn t+1 is there only after true flags, and one that drains after turn u only after a false one
     pub asked_before : (i j : Item) → Contains all i → Contains all j → i.context ≡ c → j.context ≡ c → i.inlet.part ≡ Taker n → j.inlet.part ≡ Drainer n
         → i.inlet.way ≤ j.inlet.way
     asked_before i j a b ic jc ip jp = go (taker_way i a ic ip)

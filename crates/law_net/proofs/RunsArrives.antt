@@ -1,4 +1,4 @@
--- Along a run: a token at a port is that of one item, whose part stands there; so a port gets one token, and all of one block.
+-- Along a run: a token at a port is that of one item, whose part is there; so a port gets one token, and all of one block.
 use Rattle.std.proofs.Common.{◌≡◌, ℕ, ◌+◌, ◌<◌, ◌≤◌, Bool, true, false, not, ◌||◌, ℤ, List, [], ◌∷◌, ◌++◌, map, length, refl, sym, ap, ◌∙◌, subst, inl, inr}
 use Rattle.std.proofs.Common.{◌⊎◌, arith, true≢false, ltb-true, eqb-true, ◌==◌, nat_lt, Option, Some, None, if◌then◌else◌}
 use Rattle.std.specs.Prelude.{Contains, flat_map, slice_get}
@@ -142,7 +142,7 @@ module _ (fl : Flow) (p : Plan) (w : Wires) (inputs : List ℤ) (q : Past) (m : 
       subst (λ (c : Context). way_fits fl c r i.inlet.port i.inlet.way ≡ true) e
       (subst (λ (r : Part). way_fits fl i.context r i.inlet.port i.inlet.way ≡ true) g (fits_in i h).way)
 
-  -- THE WAY of what comes to a part is one
+  -- THE WAY of what arrives at a part is one
   module _ (c : Context) (here : IsContext fl c) (i j : Item) (a : Contains all_here i) (b : Contains all_here j) (ic : i.context ≡ c) (jc : j.context ≡ c)
       (r : Part) (ir : i.inlet.part ≡ r) (jr : j.inlet.part ≡ r) where
     arm_in : (o : Item) → o.context ≡ c → o.inlet.part ≡ r → (d : Choice) (s : Bool) → InArm fl (record { context = c; inlet = inlet r Left o.inlet.way }) d s
@@ -177,7 +177,7 @@ module _ (fl : Flow) (p : Plan) (w : Wires) (inputs : List ℤ) (q : Past) (m : 
         absurd (opposed d true (arm i.inlet.way d true (turn_later fl p w good c here n j.inlet.way i.inlet.way l h))
         (arm j.inlet.way d false (turn_last fl p w good c here n j.inlet.way l)))
 
-  -- what may come often, or come again under another name
+  -- what may arrive often, or again under another name
   pub record Strays (r : Part) (i j : Item) : Type 0 where
     pub giver : (n : ℕ) → r ≡ Giver n → i.inlet.way ≡ j.inlet.way
     pub taker : (n : ℕ) → r ≡ Taker n → i.inlet.way ≡ j.inlet.way
@@ -261,7 +261,7 @@ module _ (fl : Flow) (p : Plan) (w : Wires) (inputs : List ℤ) (q : Past) (m : 
         port = t.port;
       }
 
-  -- what comes to a frame is of one context
+  -- all that a frame gets is of one context
   pub one_context : (f ip jp : ℕ) (r s : Port) (i j : Item) → CameAt f ip r i → CameAt f jp s j → i.context ≡ j.context
   one_context f ip jp r s i j a b = k.tracks.stands.apart i.context j.context f a.frame b.frame
 
@@ -298,13 +298,13 @@ module _ (fl : Flow) (p : Plan) (w : Wires) (inputs : List ℤ) (q : Past) (m : 
         ap (λ (t : Token). t.word) i.2,
       )
 
-  -- what a firing took stands in what came
+  -- what a firing took is among what came
   pub fired_fit : (h : Firing) → Contains net.fired h → AllFit fl w (takes fl h)
   fired_fit h c = all_from (λ (i : Item). Fits fl w (spot_of i)) (takes fl h) (λ i d. fits_in i
       (Contains-append_right net.pending (net.waiting ++ flat_map (takes fl) net.fired) i
       (Contains-append_right net.waiting (flat_map (takes fl) net.fired) i (taken_in fl net.fired h i c d))))
 
-  -- A STRICT CALL'S ARGUMENT does not come again before the call fires
+  -- A STRICT CALL'S ARGUMENT is not made again before the call fires
   gift_argument : (h : Firing) (i : Item) → Gift fl w h i → (n m : ℕ) → i.inlet.part ≡ Sender n m
       → (v : Value) × (i.context ≡ h.context) × Contains (renewed fl h h.part) (argument h.context n m 0 v)
   gift_argument h i (GArgument n m v e s c g) a b d = let same : Sender n m ≡ Sender a b = sym (ap (λ (i : Item). i.inlet.part) g) ∙ d in
@@ -428,7 +428,7 @@ module _ (fl : Flow) (p : Plan) (w : Wires) (inputs : List ℤ) (q : Past) (m : 
           let context = one_context f ip ip r r i j a b in let part = one_part f ip r r i j a b in
           one_spot i j (came_all fl net i x) (came_all fl net j y) context part (a.port ∙ sym b.port) (strays i j x y a b context j.inlet.part part refl)
 
-  -- and all that comes to a frame comes to one block
+  -- and all that a frame gets is for one block
   pub is_of_one_block : IsOfOneBlock fl p inputs q m
   is_of_one_block f ip jp r s v u c d =
       let i = from_met f ip r v c in let j = from_met f jp s u d in let a = i.1 in let b = j.1 in
@@ -438,7 +438,7 @@ module _ (fl : Flow) (p : Plan) (w : Wires) (inputs : List ℤ) (q : Past) (m : 
       (block_same j.0.context b.context i.0.inlet.part j.0.inlet.part
       (subst (λ (c : Context). there_in fl (site_in fl w c) (wiring_in fl w c) i.0.inlet.part ≡ true) e a.part_here) b.part_here))
 
-  -- What is no entry comes along an arc that was used
+  -- What is no entry arrives along an arc that was used
   module _ (c : Context) (here : IsContext fl c) where
     entry_below : (r : Part) → IsHere c here r → is_entry p.program.blocks (ip_of fl p w c r) ≡ false → (places c here).place r < (code c here).inputs + 1 → ⊥
     entry_below r h e l =

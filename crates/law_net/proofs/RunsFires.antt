@@ -1,4 +1,4 @@
--- What an instruction makes of its words, where they are of their kinds: but for those of a loop's credits, none excludes them.
+-- What an instruction makes of its words, where they are of their kinds: except those of a loop's credits, none excludes them.
 use Rattle.std.proofs.Common.{◌≡◌, ℕ, ◌+◌, Bool, true, false, List, refl, sym, ap, ◌∙◌, subst, true≢false, Option, Some, None}
 use Rattle.tags.specs.declared.value.Value.{Value}
 use Rattle.tags.specs.declared.token.Port.{Port}

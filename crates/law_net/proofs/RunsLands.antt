@@ -1,4 +1,4 @@
--- A continuation that comes to a return, a credit's asking or a release is that of a link with so long a landing.
+-- A continuation that arrives at a return, a credit's asking or a release is that of a link with so long a landing.
 use Rattle.std.proofs.Common.{◌≡◌, ℕ, ◌+◌, ◌<◌, true, false, ℤ, List, [], ◌∷◌, map, length, refl, sym, ap, ◌∙◌, subst, inl, inr, ◌⊎◌, arith, true≢false, Option}
 use Rattle.std.proofs.Common.{Some, None, nat_lt, ltb-true, lt-ltb, le-ltb, if◌then◌else◌}
 use Rattle.std.specs.Prelude.{Contains, IsPermutation, slice_get}

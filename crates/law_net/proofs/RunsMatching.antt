@@ -123,7 +123,7 @@ module _ (fl : Flow) (p : Plan) (w : Wires) (inputs : List ℤ) (q : Past) (m : 
       go Left g t = g
       go Right g t = absurd (true≢false (sym t ∙ n))
 
-  -- a part of which an item is on its way, and at whose inlet only one comes, has not fired
+  -- a part of which an item is on its way, and whose inlet gets only one item, has not fired
   abbrev is_single : Part → Bool
   is_single (Shown j) = true
   is_single Done = true
@@ -399,7 +399,7 @@ module _ (fl : Flow) (p : Plan) (w : Wires) (inputs : List ℤ) (q : Past) (m : 
   cell_free (Some x) true v word h y e = h
   cell_free (Some x) false v word h y e = h
 
-  -- EACH TOKEN, but for those of credits
+  -- EACH TOKEN, except those of credits
   abbrev IsFree : Item → Part → Type 0
   IsFree i r = stuck_rule p.program m.store (to_of fl p w fired i r) (word_of fl p w fired i.word) ≡ None
 

@@ -1,4 +1,5 @@
--- Into an arm leads only what lies in it, or a switch of its conditional on that side; and a conditional's word comes from its source.
+-- Only what lies in an arm, or a switch of its conditional on that side, leads into the arm; and a conditional's word comes from its
+-- source.
 use Rattle.std.proofs.Common.{◌≡◌, ℕ, suc, ◌+◌, ◌<◌, Bool, true, false, not, ◌&&◌, ℤ, List, refl, sym, ap, ◌∙◌, subst, inl, inr, ◌⊎◌, arith, true≢false}
 use Rattle.std.proofs.Common.{ltb-true, Some, None, ◌==◌, if◌then◌else◌}
 use Rattle.std.specs.Prelude.{Contains}

@@ -32,7 +32,7 @@ use Rattle.law_net.proofs.WiredGifts.{GCallDone, GGiver, GTaker, GNextFramer, GN
 use Rattle.law_net.proofs.WiredGifts.{there_in_context, gift_of}
 use Rattle.law_net.proofs.WiredWords.{Begins, AtEntry, AtInput, begin_cases, input_cases, input_below}
 
--- SIDES, told apart
+-- SIDES, distinguished
 bool_cases : (a b : Bool) → (a ≡ b) ⊎ (a ≡ b → ⊥)
 bool_cases true true = inl refl
 bool_cases false false = inl refl
@@ -72,7 +72,7 @@ inputs_once x n (z ∷ zs) =
         let p : Line m ≡ Line n = sym (ap (λ (j : Item). j.inlet.part) e) ∙ ap (λ (x : Spot). x.inlet.part) g in
         let q : m ≡ n = cc in omega (arith, q, low)
 
--- WHO GIVES what comes where no wire leads
+-- WHO GIVES what arrives where no wire leads
 abbrev pub giver_of : Flow → Context → Part → ℕ → Role
 giver_of fl c (InCell n) t = role c (Line n) 0
 giver_of fl c (Asked n) t = role c (Framer n) 0
@@ -135,7 +135,7 @@ module _ (fl : Flow) (p : Plan) (w : Wires) (good : IsGood fl p w) where
             ap (λ (t : Side). hits x ((wiring_in fl w c).wire t)) (is_feeder t x h d fed) in
             omega (arith, one, e)
 
-  -- GIFTS come where no wire leads
+  -- GIFTS arrive where no wire leads
   pub data Unwired (c : Context) (x : Inlet) : Type 0 where
     UUnwired : is_unwired (block_in fl c) x.part ≡ true → Unwired c x
     UNot : there_in fl (site_in fl w c) (wiring_in fl w c) x.part ≡ false → Unwired c x
@@ -177,7 +177,7 @@ module _ (fl : Flow) (p : Plan) (w : Wires) (good : IsGood fl p w) where
         line_given i _ j _ g (omega (arith, low))
     gift_unwired i (GLoopDone n e g) = unwired_as i _ _ _ g (UUnwired refl)
 
-    -- and where the graph begins none comes
+    -- and where the graph begins no gift arrives
     abbrev is_first : Part → Bool
     is_first Entry = true
     is_first (Line n) = true
@@ -367,7 +367,7 @@ module _ (fl : Flow) (p : Plan) (w : Wires) (good : IsGood fl p w) where
       pick (inl d) = ByGift (gift_of fl w f all i d)
       pick (inr s) = ByWire s
 
-  -- what is sent comes to a part that is there
+  -- what is sent arrives at a part that is there
   pub sent_there : (f : Firing) (i : Item) → AllFit fl w (takes fl f) → IsSent fl w f i
       → (there_in fl (site_in fl w i.context) (wiring_in fl w i.context) i.inlet.part ≡ true) × (wired_way i.inlet.part i.inlet.way ≡ true)
       × (is_unwired (block_in fl i.context) i.inlet.part ≡ false)

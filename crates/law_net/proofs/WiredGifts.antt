@@ -49,7 +49,7 @@ pub data Gift (fl : Flow) (w : Wires) (f : Firing) (i : Item) : Type 0 where
   GLoopDone : (n : ℕ) → f.part ≡ Drained n → i ≡ item f.context (inlet (LoopDone n) Left 0) signal → Gift fl w f i
 
 module _ (fl : Flow) (w : Wires) (f : Firing) (all : AllFit fl w (takes fl f)) where
-  -- whether a part stands where it fires
+  -- whether a part is there where it fires
   abbrev fires_there : Part → Bool
   fires_there (Drained n) = false
   fires_there r = true

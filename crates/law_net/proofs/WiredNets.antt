@@ -129,7 +129,7 @@ came_split fl g c =
         let e = total-append g (renewed fl f f.part) (flat_map (λ (f : Firing). renewed fl f f.part) fired) in
         let d = total-append g (own fl f) (renewed fl f f.part) in let m = both fired in omega (arith, a, b, d, e, m)
 
--- what stands in one of joined lists
+-- what is in one of joined lists
 pub flat_contains : {X Y : Type 0} (g : X → List Y) (xs : List X) (x : X) (y : Y) → Contains xs x → Contains (g x) y → Contains (flat_map g xs) y
 flat_contains g [] x y c d = absurd (contains_none x c)
 flat_contains g (z ∷ xs) x y c d = pick (contains_cases z xs x c) (λ k. flat_contains g xs x y k d)
@@ -194,7 +194,7 @@ module _ (fl : Flow) (w : Wires) (inputs : List ℤ) where
         let a = total-append g c.pending (c.waiting ++ flat_map (takes fl) c.fired) in let d = total-append g c.waiting (flat_map (takes fl) c.fired) in
         let t = total_flat g (takes fl) c.fired in omega (arith, s, m, a, d, t)
 
-    -- what is on its way stands nowhere else
+    -- what is on its way is nowhere else
     pub not_twice : (i j : Item) → Contains c.pending i → Contains (c.waiting ++ flat_map (takes fl) c.fired) j → spot_of i ≡ spot_of j → ⊥
     not_twice i j a b e =
         let x = spot_of i in

@@ -44,7 +44,7 @@ order t u = pick (cases_eq t u) (cases_Bool (nat_lt t u))
     pick (inr n) (inr h) = let g = ltb-false t u h in After (omega (arith, n, g))
 
 module _ (fl : Flow) (p : Plan) (w : Wires) (good : IsGood fl p w) where
-  -- the conditional whose arms come together at a part
+  -- the conditional whose arms meet at a part
   module _ (c : Context) (here : IsContext fl c) (n : ℕ) where
     pub merge_arm : (t : ℕ) → is_kind merge_kind (block_in fl c) n ≡ true
         → InArm fl (record { context = c; inlet = inlet (Merge n) Left t }) (record { context = c; cond = merge_cond (block_in fl c) n }) (t == 0)
@@ -54,7 +54,7 @@ module _ (fl : Flow) (p : Plan) (w : Wires) (good : IsGood fl p w) where
         → InArm fl (record { context = c; inlet = inlet (CondEnd n) Left t }) (record { context = c; cond = n }) (t == 0)
     end_arm t h = choice_in fl p w good c n (t == 0) here (end_choice fl p w good c n h)
 
-    -- what a turn sends out came after its flag was false, and after the flags before it were true
+    -- what a turn sends out is there only after its flag was false, and after the flags before it were true
     abbrev pub flag_at : ℕ → Choice
     flag_at t = record { context = Turned c n t; cond = flag (block_in fl (Turned c n t)) }
 

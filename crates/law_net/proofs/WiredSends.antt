@@ -275,7 +275,7 @@ module _ (fl : Flow) (w : Wires) (f : Firing) where
   side_facts Freed t h g = absurd (cc)
   side_facts r t h g = one_facts r r t refl refl h g
 
-  -- the part that fires is there, but for the credits of a loop, which are where its `drain` is
+  -- the part that fires is there, except the credits of a loop, which are where its `drain` is
   first_there : (r : Part) → f.part ≡ r → spot_there fl w f.context (first_taken fl w f r).inlet.part ≡ true
       → (spot_there fl w f.context r ≡ true) ⊎ ((n : ℕ) × (r ≡ Drained n) × (is_loop (block_in fl f.context) n ≡ true))
   first_there (Drained n) e h = inr (n, refl, h)

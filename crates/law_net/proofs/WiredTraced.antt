@@ -1,4 +1,4 @@
--- What comes of some firings alone: what is near was made by one of them, or from what was near.
+-- What results from some firings alone: what is near was made by one of them, or from what was near.
 use Rattle.std.proofs.Common.{ℤ, List, [], ◌∷◌, ◌++◌, refl, sym, subst, inl, inr, ◌⊎◌}
 use Rattle.std.specs.Prelude.{Contains, flat_map, IsPermutation}
 use Rattle.std.proofs.lemmas.List.Sorted.{IsPermutation-trans, IsPermutation-sym, IsPermutation-append, IsPermutation-append_left, Contains-permutation}
@@ -84,7 +84,7 @@ module _ (fl : Flow) (w : Wires) where
     traced_moves a b (Still e) fit old = old
     traced_moves a b (Then x mid y m proper more) fit old = traced_moves mid b more fit (traced_move a mid m (λ h d. fit h (fired_grow mid b more h d)) old)
 
-    -- where nothing near stands at the beginning
+    -- where nothing near is there at the beginning
     pub traced : (inputs : List ℤ) (b : Config) → ProperMoves fl w (begin inputs) b → ((h : Firing) → Contains b.fired h → AllFit fl w (takes fl h))
         → ((i : Item) → Begins inputs i → Near i → ⊥) → Traced b
     traced inputs b moves fit none =

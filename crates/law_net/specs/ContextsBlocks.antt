@@ -1,4 +1,4 @@
--- What each part of a code block is: whether it is there, its operation, mark and origin, and in which region it stands.
+-- What each part of a code block is: whether it is there, its operation, mark and origin, and in which region it lies.
 use Rattle.std.specs.Prelude.{ℕ, ◌+◌, Bool, true, false, not, ◌&&◌, ◌||◌, List, length, Option, Some, None, nat_lt, ◌==◌, if◌then◌else◌, slice_get}
 use Rattle.tags.specs.declared.value.Origin.{Origin}
 use Rattle.tags.specs.declared.value.Origin.TheVariants.{Untold}
@@ -22,7 +22,7 @@ pub record Side : Type 0 where
 abbrev pub side : Part → Bool → Side
 side r s = record { part = r; second = s }
 
--- THE WIRING of a code block: which of the parts are there that need not be, where each part stands, its slot, and where a
+-- THE WIRING of a code block: which of the optional parts are there, where each part is, its slot, and where a
 -- side leads. `ends`: the conditionals (and the flag) that have an end.
 pub record Wiring : Type 0 where
   pub answers : ℕ → Bool
@@ -305,7 +305,7 @@ region_of b (Asked n) = lies_in b n
 region_of b (InCell n) = lies_in b n
 region_of b r = Root
 
--- the region from which what comes at an inlet comes
+-- the region from which what arrives at an inlet comes
 abbrev pub entered : Block ℕ → Part → ℕ → Region
 entered b (Merge n) w = Arm (merge_cond b n) (w == 0)
 entered b (CondEnd k) w = Arm k (w == 0)

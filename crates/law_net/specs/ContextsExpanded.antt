@@ -1,5 +1,5 @@
--- The wires of the plan of a graph: the parts of each code block in their order, and their wires as the code has them. And
--- the lemmas of which the proof that they are lawful is put together.
+-- The wires of the plan of a graph: the parts of each code block in their order, and their wires as the code has them. Also
+-- the lemmas from which the proof that they are lawful is composed.
 use Rattle.std.specs.Prelude.{◌≡◌, ℕ, zero, suc, ◌+◌, ◌-◌, ◌≤◌, Bool, true, false, ◌&&◌, ◌||◌, not, List, [], ◌∷◌, ◌++◌, map, length, Option, Some, None}
 use Rattle.std.specs.Prelude.{nat_lt, ◌==◌, if◌then◌else◌, slice_get, slice_index_or, count_by}
 use Rattle.semantics.specs.declared.graph.Region.{Region}

@@ -1,4 +1,4 @@
--- What each part takes and makes, and what has come of it.
+-- What each part takes and makes, and what has resulted from it.
 use Rattle.std.specs.Prelude.{◌≡◌, ℕ, zero, suc, ◌+◌, ℤ, pos, Bool, true, false, not, ◌&&◌, List, [], ◌∷◌, ◌++◌, length, Option, Some, None, if◌then◌else◌}
 use Rattle.std.specs.Prelude.{count_by, flat_map, Contains, ⊤}
 use Rattle.tags.specs.declared.value.Value.{Value}
@@ -113,7 +113,7 @@ abbrev pub switched : Flow → Wires → Firing → Part → Note → List Item
 switched fl w f r (Datum v) = along fl w f r (not (truth v))
 switched fl w f r k = []
 
--- where an answer comes
+-- where an answer goes
 abbrev pub back_from : Context → List Inlet → Note
 back_from c [] = ToHost
 back_from c (x ∷ xs) = BackTo c x
@@ -210,7 +210,7 @@ Move fl w c d = NetMove (takes fl) (makes fl w) c d
 abbrev pub Moves : Flow → Wires → Config → Config → Type 0
 Moves fl w c d = NetMoves (takes fl) (makes fl w) c d
 
--- WHAT HAS COME OF IT
+-- WHAT HAS RESULTED FROM IT
 -- the index of a fetch or a store
 abbrev pub first_of : List Value → Value
 first_of [] = Int (pos 0)
@@ -292,7 +292,7 @@ times c r fired = count_by (is_firing c r) fired
 abbrev pub HasFired : Context → Part → List Firing → Type 0
 HasFired c r fired = (f : Firing) × Contains fired f × (f.context ≡ c) × (f.part ≡ r)
 
--- PROPER. What a firing says beside what it takes: the value that the memory gives, and as many turns as there were.
+-- PROPER. What a firing says besides what it takes: the value that the memory gives, and as many turns as there were.
 pub data Answers (fl : Flow) (m : Memory) (c : Context) (n : ℕ) (vs : List Value) (answer : Value) : Type 0 where
   AFault : index_of fl c n vs ≡ Outside answer → Answers fl m c n vs answer
   ARead : (x : ℕ) → is_store (block_in fl c) n ≡ false → cell_of fl c n vs ≡ Some x → m.cells x ≡ Some answer → Answers fl m c n vs answer

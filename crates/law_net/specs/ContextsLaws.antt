@@ -1,4 +1,4 @@
--- The laws of the net of contexts: what may come where, by what has fired.
+-- The laws of the net of contexts: what may arrive where, by what has fired.
 use Rattle.std.specs.Prelude.{◌≡◌, ℕ, ℤ, Bool, true, false, ◌&&◌, ◌||◌, List, ◌++◌, length, Some, nat_lt, ◌==◌, if◌then◌else◌, flat_map, Contains, All, ⊤}
 use Rattle.tags.specs.declared.value.Value.{Value}
 use Rattle.tags.specs.declared.token.Port.{Port}

@@ -149,7 +149,7 @@ ledger fl p w net c n = record {
   over = is_over net c n;
 }
 
--- a loop keeps to its credits, and its turns come in order
+-- a loop keeps to its credits, and its turns are in order
 pub record KeepsCredits (fl : Flow) (p : Plan) (w : Wires) (net : Config) (c : Context) (n : ℕ) : Type 0 where
   pub law : CreditLaw (bound_at (block_in fl c) n) (ledger fl p w net c n)
   pub takes : (i : Item) → Contains (net.pending ++ net.waiting) i → (i.context ≡ c) → (i.inlet.part ≡ Taker n) → i.inlet.way ≡ granted_of net c n
@@ -161,7 +161,7 @@ pub record KeepsCredits (fl : Flow) (p : Plan) (w : Wires) (net : Config) (c : C
 -- THE MACHINE
 pub record Mirrors (fl : Flow) (p : Plan) (w : Wires) (m : Machine) (net : Config) : Type 0 where
   pub pool : IsPermutation m.pool (map (token_of fl p w net.fired) net.pending)
-  -- what has come is in contexts with frames, each with its own
+  -- all items so far are in contexts with frames, each with its own
   pub known : (i : Item) → Contains (net.pending ++ (net.waiting ++ flat_map (takes fl) net.fired)) i → (g : ℕ) × (frame_at fl net.fired i.context ≡ Some g)
   pub apart : (c d : Context) (g : ℕ) → frame_at fl net.fired c ≡ Some g → frame_at fl net.fired d ≡ Some g → c ≡ d
   -- and so are the contexts that their words name
@@ -192,7 +192,7 @@ pub record Mirrors (fl : Flow) (p : Plan) (w : Wires) (m : Machine) (net : Confi
       → (m.store.out g ≡ false → HasFired c Freed net.fired) × (HasFired c Freed net.fired → m.store.out g ≡ false)
   pub not_out : (g : ℕ) → m.store.out g ≡ true → (c : Context) × (frame_at fl net.fired c ≡ Some g)
 
--- WHAT A RUN HAS DONE so far, as far as the clauses speak of it
+-- WHAT A RUN HAS DONE so far, to the extent that the clauses speak of it
 pub record Stepped : Type 0 where
   pub taken : Token
   pub made : List Token

@@ -1,5 +1,5 @@
--- How many sources a node has and that they are earlier nodes, where an enter lies, and that a loop has a turn at least: what a graph's conditions
--- say of it besides `IsFlowWell`.
+-- How many sources a node has and that they are earlier nodes, where an enter lies, and that a loop has at least one turn: what a graph's
+-- conditions say of it besides `IsFlowWell`.
 use Rattle.std.specs.Prelude.{◌≡◌, ◌≢◌, ℕ, ◌<◌, List, Some, slice_get, length, ⊤}
 use Rattle.semantics.specs.declared.graph.Region.{Region}
 use Rattle.semantics.specs.declared.graph.Region.TheVariants.{Root}

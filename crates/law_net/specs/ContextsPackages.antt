@@ -1,4 +1,4 @@
--- The lemmas of which the proof that wired plans keep faith is put together. Each can be proved by itself.
+-- The lemmas from which the proof that wired plans keep faith is composed. Each can be proved by itself.
 use Rattle.std.specs.Prelude.{◌≡◌, ℕ, ◌+◌, ◌<◌, ◌≤◌, ◌⊎◌, ℤ, Bool, true, false, not, List, ◌∷◌, length, Some, None, count_by, Contains, IsPermutation, All}
 use Rattle.std.specs.Prelude.{if◌then◌else◌}
 use Rattle.tags.specs.declared.token.Port.{Port}

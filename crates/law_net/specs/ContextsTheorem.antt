@@ -1,4 +1,4 @@
--- What is to be proved of the plan of every well-formed graph.
+-- What has to be proved of the plan of every well-formed graph.
 use Rattle.std.specs.Prelude.{◌≡◌, ℕ, ◌≤◌, List, Some, slice_get}
 use Rattle.semantics.specs.declared.graph.Kind.{Kind}
 use Rattle.semantics.specs.Graph.{Node, Block, Flow, Graph, flow_of, node_at}

@@ -1,4 +1,4 @@
--- That a plan is wired as the code of a graph: where the parts of each code block stand, and where they send. This is all that
+-- That a plan is wired as the code of a graph: where the parts of each code block are, and where they send. This is all that
 -- the proofs of the meaning know of a plan.
 use Rattle.std.specs.Prelude.{◌≡◌, ◌≢◌, ℕ, zero, suc, ◌+◌, ◌<◌, ◌≤◌, ◌⊎◌, Bool, true, false, ◌&&◌, ◌||◌, nat_lt, ◌==◌, List, [], ◌∷◌, ◌++◌, map, flat_map}
 use Rattle.std.specs.Prelude.{Option, Some, None, slice_get, Contains, IsPermutation, length, if◌then◌else◌, ⊤}
@@ -73,7 +73,7 @@ wired_port b r Right = waits_in b r
 abbrev pub is_side : Side → Bool
 is_side s = elim s.second as (λ x. Bool) [ true ↦ is_switch s.part | false ↦ true ]
 
--- how often an inlet stands in a list
+-- how often an inlet occurs in a list
 abbrev pub hits : Inlet → List Inlet → ℕ
 hits x xs = total (λ (y : Inlet). one (same_inlet x y)) xs
 
@@ -139,7 +139,7 @@ abbrev pub Suits : Carried → Carried → Type 0
 Suits Anything k = is_frame k ≡ false
 Suits j k = j ≡ k
 
--- WHICH CONDITIONAL'S WORD comes at an inlet, and where a conditional's word leaves
+-- WHICH CONDITIONAL'S WORD arrives at an inlet, and where a conditional's word leaves
 abbrev pub cond_round : Region → Option ℕ
 cond_round Root = None
 cond_round (Arm k t) = Some k
@@ -202,7 +202,7 @@ pub record IsLaidOut (fl : Flow) (p : Plan) (variant : ℕ → ℕ) (s : Site) (
   pub call_done : (n : ℕ) → is_call s.block n ≡ true → w.place (CallDone n) ≡ w.place (Landing n 0) + result_count fl s.block n
   pub credits : (n : ℕ) → is_loop s.block n ≡ true → (w.place (Giver n) ≡ w.place (Landing n 0) + result_count fl s.block n)
       × (w.place (Taker n) ≡ w.place (Giver n) + 1) × (w.place (Drainer n) ≡ w.place (Giver n) + 2)
-  -- a part's holder is its own, but that a loop has one
+  -- a part's holder is its own, except that a loop has one
   pub holders : (r q : Part) → (there_in fl s w r ≡ true) → (there_in fl s w q ≡ true) → (holds_own s.block r ≡ true) → (holds_own s.block q ≡ true)
       → w.slot r ≡ w.slot q → r ≡ q
   pub loops : (n : ℕ) → is_loop s.block n ≡ true
@@ -219,7 +219,7 @@ pub record AreFed (fl : Flow) (s : Site) (w : Wiring) : Type 0 where
   -- a wire leads to an inlet
   pub inlets : (t : Side) (x : Inlet) → (there_in fl s w t.part ≡ true) → Contains (w.wire t) x
       → (there_in fl s w x.part ≡ true) × (wired_way x.part x.way ≡ true) × (wired_port s.block x.part x.port ≡ true) × (is_unwired s.block x.part ≡ false)
-  -- which comes along one side of one part; no part has a wire along a side that it has not
+  -- an inlet is fed along one side of one part; no part has a wire along a side that it does not have
   pub fed : (x : Inlet) → (there_in fl s w x.part ≡ true) → (wired_way x.part x.way ≡ true) → (wired_port s.block x.part x.port ≡ true)
       → (is_unwired s.block x.part ≡ false) → IsFed fl s w x
   pub sides : (t : Side) → (is_side t ≡ false) ⊎ (has_no_wire t.part ≡ true) → w.wire t ≡ []
@@ -238,8 +238,8 @@ pub record FollowArms (fl : Flow) (s : Site) (w : Wiring) : Type 0 where
       → (Contains (w.wire t) (inlet (Trigger k) Left 0) → t ≡ decider s.block w k)
       × (Contains (w.wire t) (inlet TurnFlag Left 0) → t ≡ decider s.block w (flag s.block))
 
--- A STRICT CALL asks for its frame when all its arguments have come: the first one and each of the joins lead to the
--- next join, the last to the framer, and the other arguments come to the joins.
+-- A STRICT CALL asks for its frame when all its arguments have arrived: the first one and each of the joins lead to the
+-- next join, the last to the framer, and the other arguments go to the joins.
 abbrev pub wait_after : ℕ → ℕ → ℕ → Inlet
 wait_after n count i = if i + 1 == count then inlet (Framer n) Left 0 else inlet (Strict n (i + 1)) Left 0
 
@@ -261,7 +261,7 @@ is_start (Trigger k) = true
 is_start r = false
 
 -- A call asks for its frame, and a loop is opened, as soon as the block or the arm is entered, and a turn asks for a credit as soon as its flag
--- is there; and all arguments are sent before a result comes.
+-- is there; and all arguments are sent before a result arrives.
 pub record StartsRightly (fl : Flow) (s : Site) (w : Wiring) : Type 0 where
   pub calls : (n : ℕ) (t : Side) → is_call s.block n ≡ true → is_strict s.block n ≡ false → (there_in fl s w t.part ≡ true)
       → Contains (w.wire t) (inlet (Framer n) Left 0) → is_start t.part ≡ true
@@ -287,7 +287,7 @@ pub record AreLawful (fl : Flow) (s : Site) (w : Wiring) : Type 0 where
   pub arms : FollowArms fl s w
   pub leads : LeadOn fl s w
 
--- What leaves at an output port goes to its uses, in any invocation of the block, and nothing else tells anything.
+-- What leaves at an output port goes to its uses, in any invocation of the block, and nothing else stands for a token.
 abbrev pub meant_along : Flow → Context → Value → List Inlet → List Tagged
 meant_along fl c v xs = flat_map (λ (x : Inlet). meant_at fl c x.part x.port x.way v) xs
 

@@ -3,7 +3,7 @@
 ghost use Rattle.law_net.specs.ContextsPackages.{HoldsOf, WordsAreFit, InletsAreFed, ArmsAreEntered, RivalsAreApart};
 ghost use Rattle.law_net.specs.ContextsPackages.{OfRuns, IsOnce, Agrees, IsOfOneBlock, IsCaused, IsMatching, BoundIsKept, Lands};
 
-/// The net keeps to the laws of its wires, for all graphs.
+/// The net keeps the laws of its wires, for all graphs.
 pub fn arms_hold()
     ensures words { HoldsOf WordsAreFit }
     ensures fed { HoldsOf InletsAreFed }
@@ -11,7 +11,7 @@ pub fn arms_hold()
     ensures rivals { HoldsOf RivalsAreApart }
 {}
 
-/// And so, along each run that keeps to the net: ports get one token, of one block and along an arc that was used,
+/// So, along each run that keeps to the net: ports get one token, of one block and along an arc that was used,
 /// switches agree, and continuations land.
 pub fn runs_keep()
     ensures once { OfRuns IsOnce }
@@ -21,7 +21,7 @@ pub fn runs_keep()
     ensures lands { OfRuns Lands }
 {}
 
-/// No token is excluded, and the bounds of loops are kept.
+/// No token is excluded, and loops keep their bounds.
 pub fn tokens_match()
     ensures matching { OfRuns IsMatching }
     ensures bound { OfRuns BoundIsKept }

@@ -223,7 +223,7 @@ module _ (fl : Flow) (p : Plan) (w : Wires) (inputs : List ℤ) (good : IsGood f
     by_part (LastReturn j) there words proper = Control.last_return fl p w good.operands f fired ctx Here here code j there
     by_part (NextSender j) there words proper = Control.next_sender fl p w good.operands f fired ctx Here here code j there
 
-  -- WHERE IT IS: what a firing takes first lies at its part, but for the credits of a loop
+  -- WHERE IT IS: what a firing takes first lies at its part, except for the credits of a loop
   first_fits : (i : Item) (items : List Item) → All (Allowed fl w inputs fired) (i ∷ items) → Fit i
   first_fits i items all = (All-head (Allowed fl w inputs fired) i items all).fits
 

@@ -1,4 +1,4 @@
--- Results, calls, loops and strict calls: what goes into an invocation, between turns, and comes back.
+-- Results, calls, loops and strict calls: what goes into an invocation, between turns, and back.
 use Rattle.std.proofs.Common.{◌≡◌, ℕ, suc, ◌+◌, ◌-◌, Bool, true, false, not, ◌||◌, ◌⊎◌, inl, inr, List, [], ◌∷◌, ◌++◌, length, flat_map, Some, None}
 use Rattle.std.proofs.Common.{if◌then◌else◌, refl, sym, ap, ◌∙◌, subst, arith, true≢false, append-nil}
 use Rattle.std.proofs.lemmas.List.Sorted.{IsPermutation-refl}
@@ -254,7 +254,7 @@ module _ (fl : Flow) (p : Plan) (w : Wires) (operands : HaveOperands fl) (f : Fi
           follow fl old (taken (Turns d n i (j + 1) u v)) (turned (Turned d n i) j v false) mem mem mem first
           (sends_settled fl operands (Turns d n i (j + 1) u v) d n j v mem (deed_of false e))
 
-  -- the wires of a turn's switch tell just that
+  -- the wires of a turn's switch stand for just that
   turn_wires : (d : Context) (j : ℕ) (v : Value) (t : Bool) → is_turn d ≡ true
       → turned d j v t ≡ flat_map (meant fl) (each d (Datum v) (if t then inlet (NextSender (suc j)) Right 0 ∷ [] else inlet (LastReturn j) Right 0 ∷ []))
   turn_wires Main j v t e = absurd (true≢false (sym e))

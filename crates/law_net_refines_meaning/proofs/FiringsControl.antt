@@ -1,4 +1,4 @@
--- What only controls is told nothing, or just what it sends on.
+-- What only controls stands for no token, or for the same tokens as what it sends on.
 use Rattle.std.proofs.Common.{◌≡◌, ℕ, zero, suc, ◌+◌, Bool, true, false, not, List, [], ◌∷◌, ◌++◌, flat_map, Some, refl, sym, ap, ◌∙◌, true≢false, append-nil}
 use Rattle.std.proofs.lemmas.List.Concat.{flat_map-append}
 use Rattle.std.proofs.lemmas.Bool.{not-true}
@@ -224,7 +224,7 @@ module _ (fl : Flow) (p : Plan) (w : Wires) (operands : HaveOperands fl) (f : Fi
       ∙ sym (flat_map-append (meant fl) (drain_back c f.right) (each c signal ((wiring_in fl w c).wire (side DrainReturn false)))
       ∙ (λ i. drain_none c f.right i ++ along_none DrainReturn false signal there tt (λ e. e) i)))
 
-  -- what is sent on is told the same
+  -- what is sent on stands for the same
   sent_on : (x y : Inlet) (more : List Item) (r : Part) → ((v : Value) → meant_at fl c x.part x.port x.way v ≡ []) → There r → IsSilent r → (IsExit r → ⊥)
       → meant fl (item c y f.right) ++ [] ≡ flat_map (meant fl) more
       → flat_map (meant fl) (item c x f.left ∷ item c y f.right ∷ []) ≡ flat_map (meant fl) (more ++ each c signal ((wiring_in fl w c).wire (side r false)))

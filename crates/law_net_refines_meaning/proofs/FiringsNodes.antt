@@ -72,7 +72,7 @@ module _ (fl : Flow) (p : Plan) (w : Wires) (operands : HaveOperands fl) (c : Co
   leaves a n q v s m d e there port =
       follow fl (taken a) (settled_sent fl c n q v) (Sent v s) m m m (sends_settled fl operands a c n q v m d) (goes n q v s m e there port)
 
-  -- a side that is no exit tells nothing
+  -- what leaves by a side that is no exit stands for no token
   pub silent : (s : Side) (k : Note) → there_in fl (site_in fl w c) wg s.part ≡ true → IsSilent s.part → ((n q : ℕ) → exit b wg n q ≢ s)
       → flat_map (meant fl) (each c k (wg.wire s)) ≡ []
   silent s k there quiet never = none_each fl c k (wg.wire s) (λ v. code.uses.nothing c s v here there quiet never)

@@ -1,4 +1,4 @@
--- What the items of one word are told, and where nodes leave.
+-- Which tokens the items of one word stand for, and where nodes leave.
 use Rattle.std.proofs.Common.{◌≡◌, ℕ, Bool, true, false, List, [], ◌∷◌, ◌++◌, flat_map, Option, Some, None, if◌then◌else◌, refl, sym, ap, ◌∙◌}
 use Rattle.std.specs.Prelude.{⊤}
 use Rattle.tags.specs.declared.value.Value.{Value}
@@ -29,7 +29,7 @@ module _ (fl : Flow) where
   other_meant c x r (BackTo d y) h = refl
   other_meant c x r ToHost h = refl
 
-  -- where a value is told nothing, no word is
+  -- where a value stands for no token, no word does
   pub none_meant : (c : Context) (x : Inlet) (k : Note) → ((v : Value) → meant_at fl c x.part x.port x.way v ≡ []) → meant fl (item c x k) ≡ []
   none_meant c x (Datum v) h = value_meant c x x.part v ∙ h v
   none_meant c x (FrameOf d) h = other_meant c x x.part (FrameOf d) (λ v e. cc)

@@ -1,4 +1,4 @@
--- The blocks of the plan with its slots kept.
+-- The blocks of the folded plan that still has its slots.
 use Rattle.std.proofs.Common.{◌≡◌, refl, ℕ, zero, suc, List, [], ◌∷◌, Some}
 use Rattle.std.specs.Prelude.{map, slice_get}
 use Rattle.semantics.specs.Program.{CodeBlock}

@@ -1,4 +1,4 @@
--- The entries of the plan with its slots kept are those of the plan.
+-- The entries of the folded plan that still has its slots are those of the plan.
 use Rattle.std.proofs.Common.{◌≡◌, ap, ◌∙◌, ℕ, true}
 use Rattle.std.proofs.Common.{arith}
 use Rattle.lemmas.proofs.SliceGet.{get_some}

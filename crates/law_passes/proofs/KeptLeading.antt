@@ -66,7 +66,7 @@ module _ (kind : Word → Type 0) (P Q : Program) (g h : ℕ → ℕ) where
     abbrev pub news : ℕ → ℕ → Word → List Dest → List Token
     news f n w ds = to_each record { frame = f; ip = E + place n } (ip_word h w) (moved_dests (layout_of p c) n ds)
 
-    -- what some destinations of the n-th instruction make: the operands that they are, those that come of literals, and others
+    -- what some destinations of the n-th instruction make: the operands that they are, those that result from literals, and others
     pub record Made (f n : ℕ) (w : Word) (ds : List Dest) : Type 0 where
       pub rest : List Token
       pub meant : List Token
@@ -158,7 +158,7 @@ module _ (kind : Word → Type 0) (P Q : Program) (g h : ℕ → ℕ) where
     all_made f n w [] each = none_made f n w
     all_made f n w (d ∷ ds) each = more_made f n w d ds (each 0 d refl) (all_made f n w ds (λ k x e. each (suc k) x e))
 
-    -- A whole list: the operands that come of literals are those of the operators that the list names.
+    -- A whole list: the operands that result from literals are those of the operators that the list names.
     pub record Whole (f n : ℕ) (w : Word) (ds : List Dest) : Type 0 where
       pub meant : List Token
       pub settles : Settles (Sends P Q h (news f n w ds)) P (olds f n w ds) (operands f (closed_in p c n ds) ++ meant)

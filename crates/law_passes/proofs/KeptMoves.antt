@@ -251,7 +251,7 @@ module _ (p : Plan) (s : IsSound p) (b : ℕ) (c : CodeBlock) (at_b : slice_get 
         go [] e = inl (clumped t f w (whole IsValue (λ z. (Int z, refl)) t f w (λ x k. absurd (none_given t e x k))))
         go (x ∷ xs) e = inr (pairs t f w x (subst (λ (l : List ℕ). Contains l x) (sym e) (contains_head x xs)))
 
-    -- a destination to what stands for itself leads there still
+    -- a destination that leads to an instruction that stands for itself still leads there
     way_side : (t : Bool) (d : Dest) → Contains (dests_of i t) d → Plain P Q h (F + n + d.ahead)
         → Way P Q h (E + place n) (moved_dests (layout_of p c) n (dests_of i t)) (F + n + d.ahead, d.port)
     way_side t d among K =

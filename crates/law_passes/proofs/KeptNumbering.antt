@@ -73,7 +73,7 @@ plain_is p (x ∷ bs) (suc b) n c e l =
     ap (λ (t : Bool). if t then plain_at p x ip else plain_ip p bs (ip - length x.instrs)) (le-ltb ip (length x.instrs) (omega (arith, m)))
     ∙ ap (plain_ip p bs) back ∙ plain_is p bs b n c e l
 
--- nothing stands at the end
+-- nothing is at the end
 pub none_at_end : (bs : List CodeBlock) → instr_from bs (end_of bs) ≡ None
 none_at_end [] = refl
 none_at_end (c ∷ cs) =
@@ -82,7 +82,7 @@ none_at_end (c ∷ cs) =
     (le-ltb (length c.instrs + end_of cs) (length c.instrs) (omega arith))
     ∙ ap (instr_from cs) back ∙ none_at_end cs
 
--- after the code nothing stands for itself, and all its places are one
+-- after the code no place stands for itself, and all its places are one
 plain_past : (p : Plan) (bs : List CodeBlock) (k : ℕ) → plain_ip p bs (end_of bs + k) ≡ false
 plain_past p [] k = refl
 plain_past p (c ∷ bs) k =

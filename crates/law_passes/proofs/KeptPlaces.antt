@@ -1,4 +1,4 @@
--- A block of a sound plan, folded: where its instructions stood, and where they stand.
+-- A block of a sound plan, folded: where its instructions were, and where they are.
 use Rattle.std.proofs.Common.{◌≡◌, sym, ap, ◌∙◌, ℕ, ◌+◌, ◌<◌, Bool, true, false, List, [], ◌++◌, length, Some, Contains, if◌then◌else◌}
 use Rattle.std.specs.Prelude.{slice_get, ◌&&◌, not}
 use Rattle.std.specs.Option.{option_map}

@@ -1,4 +1,4 @@
--- What comes of two lists of destinations is what comes of each; and an operator keeps the word that it takes.
+-- What results from two lists of destinations is what results from each; and an operator keeps the word that it takes.
 use Rattle.std.proofs.Common.{refl, ℕ, ◌⊎◌, inl, inr, List, [], ◌∷◌, ◌++◌}
 use Rattle.std.proofs.lemmas.List.Elements.{Contains-append_left, Contains-append_right}
 use Rattle.std.specs.Prelude.{⊤}

@@ -1,4 +1,4 @@
--- The runs of the plan with its slots kept look like those of the plan, and so it is as faithful.
+-- The runs of the folded plan that still has its slots look like those of the plan, and so it is as faithful.
 use Rattle.std.proofs.Common.{◌≡◌, refl, sym, ap, ◌∙◌, subst, ℕ, ◌+◌, Bool, true, false, List, [], ◌∷◌, ◌++◌, if◌then◌else◌}
 use Rattle.std.specs.Prelude.{flat_map, IsPermutation}
 use Rattle.std.proofs.lemmas.List.{length-map}

@@ -1,4 +1,4 @@
--- Which instructions stand for themselves in the folded code, where they stand, and that no two stand at one place.
+-- Which instructions stand for themselves in the folded code, where they are, and that no two are at one place.
 use Rattle.std.proofs.Common.{◌≡◌, refl, sym, ap, ◌∙◌, subst, ℕ, ℤ, ◌+◌, ◌<◌, ◌≤◌, ◌⊎◌, inl, inr, Bool, true, false, true≢false, List, [], ◌∷◌, ◌++◌, length}
 use Rattle.std.proofs.Common.{Some, None, Contains, if◌then◌else◌, arith}
 use Rattle.std.specs.Prelude.{slice_get, ◌&&◌, not}
@@ -76,7 +76,7 @@ module _ (p : Plan) (c : CodeBlock) where
       pick (inr low) (inl less) = let k = keeps_order p c n m less (slice_get_within c.instrs m i at) stays in absurd (omega (arith, k, e))
       pick (inr low) (inr high) = omega (arith, low, high)
 
--- where nothing stands
+-- where there is nothing
 pub not_plain : (p : Plan) (a : ℕ) → plain_ip p p.program.blocks a ≡ false → instr_at (kept_slots p).program (word_ip p a) ≡ None
 not_plain p a e =
     ap (λ (t : Bool). instr_at (kept_slots p).program (if t then new_ip p p.program.blocks a else end_of (kept_slots p).program.blocks)) e
@@ -96,7 +96,7 @@ module _ (p : Plan) (s : IsSound p) where
     pub plain_at_h : (n : ℕ) → n < length c.instrs → PlainAt p c n → h (first_of P b + n) ≡ first_of Q b + new_place (layout_of p c) n
     plain_at_h n low K = h_at p s b c at_b n low K.folded K.unused
 
-    -- what stands there
+    -- what is there
     pub plain_there : (n : ℕ) (i : Instr) → slice_get c.instrs n ≡ Some i → PlainAt p c n
         → instr_at Q (h (first_of P b + n)) ≡ Some (slotted (layout_of p c) n i)
     plain_there n i at K = ap (instr_at Q) (plain_at_h n (slice_get_within c.instrs n i at) K) ∙ there_new p s b c at_b n i at (stays p c n i at K.unused)
@@ -256,7 +256,7 @@ module _ (p : Plan) (s : IsSound p) where
           (sym one ∙ e ∙ two) in
           M.place ∙ (λ v. first_of P (S.block v) + S.number v) ∙ sym N.place
 
-  -- ---- WHAT STANDS IN THE NEW CODE
+  -- ---- WHAT IS IN THE NEW CODE
   pub record NewAt (ip : ℕ) (j : Instr) : Type 0 where
     pub b : ℕ
     pub n : ℕ

@@ -1,4 +1,4 @@
--- Marks, blocks, landings and loops of the plan with its slots kept.
+-- Marks, blocks, landings and loops of the folded plan that still has its slots.
 use Rattle.std.proofs.Common.{◌≡◌, refl, sym, ap, ◌∙◌, subst, ℕ, ℤ, zero, suc, ◌+◌, ◌<◌, ◌≤◌, ◌⊎◌, inl, inr, Bool, true, false, true≢false, List, [], ◌∷◌}
 use Rattle.std.proofs.Common.{◌++◌, length, Option, Some, None, Contains, nat_lt, arith}
 use Rattle.std.specs.Prelude.{slice_get}

@@ -136,7 +136,7 @@ module _ (kind : Word → Type 0) (of_value : (z : ℤ) → kind (Word.Val (Int 
         ≡ token (To.Instr f (E + new_place (layout_of p c) m) q) (ip_word h w)
     new_token stays q e = (λ t. token (To.Instr f (to_new stays t) (e t)) (ip_word h w))
 
-    -- a kept instruction whose tokens stand for themselves
+    -- an instruction that is still there, whose tokens stand for themselves
     plain_made : KeptAt p c m → closed_uses p c m ≡ [] → gone_at (layout_of p c) m ≡ false → (j : Instr) → slice_get c.instrs m ≡ Some j
         → MadeHere f n w (d ∷ [])
     plain_made K none stays j at_m =

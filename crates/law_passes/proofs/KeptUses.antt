@@ -105,7 +105,7 @@ module _ (p : Plan) (c : CodeBlock) where
         go (is_right (D, op)) = by D.i D.there (λ z e. let k = sym D.was ∙ e in cc)
         go (is_left (D, op)) = by D.i D.there (λ z e. let k = sym D.was ∙ e in cc)
 
-    -- A list with a destination at which words still come has one that stays.
+    -- A list with a destination at which words still arrive has one that stays.
     list_some : (m k : ℕ) (j : Instr) (s : Bool) (d : Dest) → slice_get c.instrs m ≡ Some j → slice_get (dests_of j s) k ≡ Some d
         → is_closed (folds_at (layout_of p c) (m + d.ahead)) d.port ≡ false
         → (x : Dest) × Contains (moved_dests (layout_of p c) m (dests_of j s)) x

@@ -1,4 +1,4 @@
--- The marks, the blocks and the landings of narrowed plans, and for what their instructions stand.
+-- The marks, the blocks and the landings of narrowed plans, and what their instructions stand for.
 use Rattle.std.proofs.Common.{◌≡◌, refl, sym, ap, ◌∙◌, subst, ℕ, zero, suc, ◌+◌, ◌<◌, ◌⊎◌, inl, inr, Bool, true, false, List, [], ◌∷◌, ◌++◌, length}
 use Rattle.std.proofs.Common.{Option, Some, None, Contains, arith, nat_lt}
 use Rattle.std.specs.Prelude.{slice_get}

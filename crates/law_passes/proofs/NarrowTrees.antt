@@ -140,7 +140,7 @@ module _ (p : Plan) (s : IsSound p) (tidy : IsTidy p) where
         refl,
       )
 
-      -- one side, of which the first copy stands at `root`
+      -- one side, whose first copy is at `root`
       module _ (ds : List Dest) (named : AllNamed ds) (root : ℕ) (low : at ≤ root) (high : root + copies ds ≤ base_of (l p c) v + size (parted i))
           (tree : (j : ℕ) → j < copies ds → slice_get (narrowed_block p c).instrs (root + j) ≡ Some (copy_at (l p c) v (root + j) j ds))
           (starts : base_of (l p c) v ≤ root) (lone : 0 < copies ds → (x : Spot) → Contains (targets a ds) x → often (instr_at Q (H x.0)) ≡ false) where

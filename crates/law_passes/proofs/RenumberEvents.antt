@@ -26,7 +26,7 @@ abbrev pub held : (ℕ → ℕ) → Option ℕ → Option ℕ
 held hold None = None
 held hold (Some r) = Some (hold r)
 
--- the instruction but for its slot
+-- the instruction except for its slot
 pub renumbered_is : (hold : ℕ → ℕ) (i j : Instr) → IsRenumbered hold i j → j ≡ record i { slot = j.slot }
 renumbered_is hold i j I = λ k. record { op = I.op k; origin = I.origin k; slot = j.slot; firsts = I.firsts k; seconds = I.seconds k }
 

@@ -1,4 +1,4 @@
--- A folded plan is the one in which each instruction keeps its slot, but for the numbers of its holders.
+-- A folded plan is the one in which each instruction keeps its slot, except for the numbers of its holders.
 use Rattle.std.proofs.Common.{◌≡◌, refl, sym, ap, ◌∙◌, subst, ℕ, suc, ◌+◌, Bool, true, false, ℤ, List, [], ◌∷◌, map, length, Option, Some, None, if◌then◌else◌}
 use Rattle.std.specs.Prelude.{slice_get}
 use Rattle.std.specs.Option.{option_map}

@@ -1,4 +1,4 @@
--- Where the instructions of a plan stand once its holders have other numbers: where they stood.
+-- Where the instructions of a plan are once its holders have other numbers: where they were.
 use Rattle.std.proofs.Common.{◌≡◌, refl, sym, ap, ◌∙◌, subst, zero-add, ℕ, zero, suc, ◌+◌, ◌-◌, ◌<◌, ◌≤◌, ◌⊎◌, inl, inr, Bool, true, false, List, [], ◌∷◌, ◌++◌}
 use Rattle.std.proofs.Common.{length, get_or, Option, Some, None, ltb-true, ltb-false, if◌then◌else◌, arith, flat_map}
 use Rattle.std.specs.Prelude.{slice_get, nat_lt}

@@ -1,4 +1,4 @@
--- Runs look alike through two passes, and so folding keeps what its first pass keeps: all that a pass is to keep.
+-- Runs look alike through two passes, and so folding keeps what its first pass keeps: all that a pass must keep.
 use Rattle.std.proofs.Common.{◌≡◌, ap, ◌∙◌}
 use Rattle.semantics.specs.Machine.{Machine}
 use Rattle.semantics.specs.Plan.{Plan}

@@ -1,4 +1,4 @@
--- A plan that is another one with copies between keeps what passes are to keep.
+-- A plan that is another one with copies inserted keeps what passes must keep.
 use Rattle.law_passes.specs.Spreads.{SpreadPlansKeep}
 use Rattle.law_passes.proofs.SpreadSimulates.{spread_simulates}
 use Rattle.law_simulation.proofs.SimulationKeeps.{simulation_keeps}

@@ -1,4 +1,4 @@
--- What tokens stand for where copies stand between, and single instructions in their new places.
+-- What tokens stand for where copies are inserted, and single instructions in their new places.
 use Rattle.std.proofs.Common.{◌≡◌, refl, sym, ap, ◌∙◌, subst, ℕ, ◌+◌, inl, List, [], ◌∷◌, ◌++◌, map, Option}
 use Rattle.std.proofs.Common.{Some, None, Contains, IsPermutation, append-nil}
 use Rattle.std.proofs.lemmas.List.Sorted.{IsPermutation-map}

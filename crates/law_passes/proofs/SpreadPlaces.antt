@@ -1,4 +1,4 @@
--- What a plan that is another one with copies between says of single instructions and landings.
+-- What a plan that is another one with copies inserted says of single instructions and landings.
 use Rattle.std.proofs.Common.{◌≡◌, refl, sym, ap, ◌∙◌, subst, ℕ, ◌+◌, ◌<◌, Bool, true, List, [], ◌∷◌, length, Option, Some, None, arith}
 use Rattle.std.specs.Prelude.{slice_get, false}
 use Rattle.std.proofs.lemmas.Option.{slice_get_within, same_Some}

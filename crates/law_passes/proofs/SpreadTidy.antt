@@ -1,4 +1,4 @@
--- A plan that is a tidy one with copies between is tidy.
+-- A plan that is a tidy one with copies inserted is tidy.
 use Rattle.std.proofs.Common.{◌≡◌, refl, sym, ap, ◌∙◌, subst, ℕ, ◌+◌, ◌-◌, ◌<◌, ◌≤◌, ◌⊎◌, inl, inr, Bool, true, false, List, [], ◌∷◌, ◌++◌, length, Option}
 use Rattle.std.proofs.Common.{Some, None, Contains, arith}
 use Rattle.std.specs.Prelude.{slice_get, nat_lt}
@@ -32,20 +32,20 @@ module _ (p q : Plan) (S : Spreads p q) where
   abbrev h : ℕ → ℕ
   h = S.h
 
-  -- no `give` and no `take` stands there
+  -- no `give` and no `take` is there
   abbrev Lone : ℕ → Type 0
   Lone ip = often (instr_at Q ip) ≡ false
 
   copy_lone : (i : Instr) → i.op ≡ Copy → often (Some i) ≡ false
   copy_lone i e = ap (λ (op : Op). elim op as (λ x. Bool) [ Give k ↦ true | Take k ↦ true | _ ↦ false ]) e
 
-  -- a port that stands for such ones is such a one
+  -- a port that stands for such ports is such a port
   stands_lone : (ip : ℕ) (r : Port) (xs : List Spot) → Replaces Q h ip r xs → ((x : Spot) → Contains xs x → Lone (h x.0)) → Lone ip
   stands_lone ip r xs (here n t ys a at one) lone =
       ap (λ (n : ℕ). often (instr_at Q n)) at ∙ lone (a, r) (subst (λ (l : List Spot). Contains l (a, r)) (sym one) (contains_head (a, r) []))
   stands_lone ip r xs (fork n t ys us vs K left su sv one) lone = ap often K.there ∙ copy_lone K.i K.copies
 
-  -- a destination stands for some of those for which all do
+  -- a destination stands for some of the ports for which all destinations stand
   lead_some : (ip : ℕ) (ds : List Dest) (zs : List Spot) → Lead Q h ip ds zs → (d : Dest) → Contains ds d
       → (xs : List Spot) × Replaces Q h (ip + d.ahead) d.port xs × ((x : Spot) → Contains xs x → Contains zs x)
   lead_some ip [] zs L d inside = absurd (contains_none d inside)

@@ -6,7 +6,7 @@ use Rattle.semantics.specs.Orderly.{Orderly}
 use Rattle.law_fresh_frames.specs.Alike.{RunsAlike, LandsRightly}
 use Rattle.law_simulation.specs.Simulates.{Relates}
 
--- A token at a literal that fired already stands for what comes of it, and one at an operator with a literal operand for both operands.
+-- A token at a literal that fired already stands for what results from it, and a token at an operator with a literal operand for both operands.
 abbrev pub Folds : Plan → Plan → Type 0
 Folds = Relates
 

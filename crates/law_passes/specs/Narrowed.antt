@@ -1,4 +1,4 @@
--- What narrowing keeps: a narrowed plan is the plan with copies between, and so as faithful, orderly and bounded as the plan.
+-- What narrowing keeps: a narrowed plan is the plan with copies inserted, and so it is as faithful, orderly and bounded as the plan.
 use Rattle.std.specs.Prelude.{ℕ, List}
 use Rattle.semantics.specs.Graph.{Flow}
 use Rattle.semantics.specs.Plan.{Plan}
@@ -9,11 +9,11 @@ use Rattle.law_fresh_frames.specs.Alike.{IsTidy, PassKeeps}
 use Rattle.law_fresh_frames.specs.FreshReady.{IsReady, IsFaithfulCode}
 use Rattle.law_passes.specs.Spreads.{Spreads}
 
--- The narrowed code is that of the plan with copies between.
+-- The narrowed code is that of the plan with copies inserted.
 abbrev pub NarrowedSpreads : Type 0
 NarrowedSpreads = (p : Plan) → IsSound p → IsTidy p → Spreads p (narrowed p)
 
--- So its runs are the plan's, up to the events of copies, and it keeps what passes are to keep.
+-- So its runs are the plan's, up to the events of copies, and it keeps what passes must keep.
 abbrev pub NarrowingKeeps : Type 0
 NarrowingKeeps = PassKeeps narrowed
 
@@ -21,7 +21,7 @@ NarrowingKeeps = PassKeeps narrowed
 abbrev pub NarrowedIsTidy : Type 0
 NarrowedIsTidy = (p : Plan) → IsSound p → IsTidy p → IsTidy (narrowed p)
 
--- All that a plan has to bring for its code it has after narrowing,
+-- All that is required of a plan for its code holds after narrowing,
 abbrev pub NarrowedIsReady : Type 0
 NarrowedIsReady = (fl : Flow) (p : Plan) → IsReady fl p → IsReady fl (narrowed p)
 

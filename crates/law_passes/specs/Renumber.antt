@@ -1,4 +1,4 @@
--- When a plan is another one but for the numbers of its holders.
+-- When a plan is another plan except for the numbers of its holders.
 use Rattle.std.specs.Prelude.{◌≡◌, ℕ, List, length, Some, slice_get}
 use Rattle.semantics.specs.Program.{Instr, CodeBlock}
 use Rattle.semantics.specs.Rule.{slot_of}
@@ -36,7 +36,7 @@ pub record RenumbersAll (hold : ℕ → ℕ → ℕ) (cs ds : List CodeBlock) : 
 abbrev pub with_blocks : Plan → List CodeBlock → Plan
 with_blocks p ds = record { program = record { blocks = ds; arrays = p.program.arrays; main = p.program.main }; plain = p.plain; marks = p.marks }
 
--- q is p but for these numbers.
+-- q is p except for these numbers.
 pub record Renumbers (p q : Plan) : Type 0 where
   pub hold : ℕ → ℕ → ℕ
   pub same : q ≡ with_blocks p q.program.blocks

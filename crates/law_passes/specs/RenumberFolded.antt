@@ -10,6 +10,6 @@ use Rattle.law_passes.specs.Renumber.{Renumbers}
 abbrev pub FoldingRenumbers : Type 0
 FoldingRenumbers = (p : Plan) → IsSound p → Renumbers (kept_slots p) (folded p)
 
--- so both keep of a plan what the first one keeps: all that passes are to keep.
+-- so both together keep what the first one keeps of a plan: all that passes must keep.
 abbrev pub FoldingKeeps : Type 0
 FoldingKeeps = PassKeeps folded

@@ -1,5 +1,5 @@
--- When the code of a plan is that of another one with copies between: its instructions in other places, and trees of copies
--- in the place of some destinations.
+-- When the code of a plan is that of another one with copies inserted: its instructions are in other places, and trees of copies
+-- replace some destinations.
 use Rattle.std.specs.Prelude.{◌≡◌, ℕ, ◌+◌, ◌≤◌, ◌<◌, Contains, true, false, List, [], ◌∷◌, ◌++◌, map, Some, IsPermutation, ⊤}
 use Rattle.tags.specs.declared.token.Port.{Port}
 use Rattle.tags.specs.declared.token.Port.TheVariants.{Left}
@@ -30,14 +30,14 @@ pub record IsCopyAt (q : Program) (h : ℕ → ℕ) (ip : ℕ) (zs : List Spot) 
   pub later : (0 < d.ahead) × (0 < e.ahead)
   pub lone : (x : Spot) → Contains zs x → often (instr_at q (h x.0)) ≡ false
 
--- A port of the new code stands for these of the old: for that of the moved instruction, or, if it is a copy's, for those
--- for which the copy's destinations stand.
+-- A port of the new code stands for these ports of the old code: the port of the moved instruction, or, if it is the port of a copy, those
+-- for which the destinations of the copy stand.
 pub data Replaces (q : Program) (h : ℕ → ℕ) : ℕ → Port → List Spot → Type 0 where
   here : (ip : ℕ) (r : Port) (zs : List Spot) (a : ℕ) → ip ≡ h a → zs ≡ (a, r) ∷ [] → Replaces q h ip r zs
   fork : (ip : ℕ) (r : Port) (zs xs ys : List Spot) (K : IsCopyAt q h ip zs) → r ≡ Left → Replaces q h (ip + K.d.ahead) K.d.port xs
       → Replaces q h (ip + K.e.ahead) K.e.port ys → zs ≡ xs ++ ys → Replaces q h ip r zs
 
--- the destinations of what stands at that number
+-- the destinations of the instruction of that number
 abbrev pub Lead : Program → (ℕ → ℕ) → ℕ → List Dest → List Spot → Type 0
 Lead q h ip [] zs = zs ≡ []
 Lead q h ip (d ∷ ds) zs = (xs : List Spot) × (ys : List Spot) × Replaces q h (ip + d.ahead) d.port xs × Lead q h ip ds ys × (zs ≡ xs ++ ys)
@@ -45,11 +45,11 @@ Lead q h ip (d ∷ ds) zs = (xs : List Spot) × (ys : List Spot) × Replaces q h
 abbrev pub targets : ℕ → List Dest → List Spot
 targets ip ds = map (λ (d : Dest). (ip + d.ahead, d.port)) ds
 
--- the new destinations of the one stand for the old ones of the other, in whatever order
+-- the new destinations of the one stand for the old destinations of the other, in whatever order
 abbrev pub Leads : Program → (ℕ → ℕ) → ℕ → List Dest → ℕ → List Dest → Type 0
 Leads q h ip ds a es = (zs : List Spot) × Lead q h ip ds zs × IsPermutation (targets a es) zs
 
--- what it enters stands where it stood
+-- what it enters is where it was
 abbrev pub Enters : Program → Program → (ℕ → ℕ) → Op → Type 0
 Enters p q h (Link b) = h (first_of p b) ≡ first_of q b
 Enters p q h (Send b e) = h (first_of p b + e) ≡ first_of q b + e
@@ -86,7 +86,7 @@ pub record Spreads (p q : Plan) : Type 0 where
   -- no two of them are at one place, and nothing else is
   pub apart : (a b : ℕ) → h a ≡ h b → a ≡ b
   pub alone : (a : ℕ) (j : Instr) → instr_at q.program (h a) ≡ Some j → (i : Instr) × (instr_at p.program a ≡ Some i)
-  -- and whatever stands in the new code stands for some
+  -- and every instruction of the new code stands for some
   pub all : (ip : ℕ) (j : Instr) → instr_at q.program ip ≡ Some j → (zs : List Spot) × Replaces q.program h ip Left zs
   -- ports stand for ports of the block in which they are
   pub blocks : (ip jp : ℕ) (r t : Port) (xs ys : List Spot) (x y : Spot) → Replaces q.program h ip r xs → Replaces q.program h jp t ys → Contains xs x
@@ -96,7 +96,7 @@ pub record Spreads (p q : Plan) : Type 0 where
   pub starts : (a : ℕ) → is_entry p.program.blocks a ≡ true → is_entry q.program.blocks (h a) ≡ true
   pub entries : (n : ℕ) → n ≤ inputs_of p → h (first_of p.program p.program.main + n) ≡ first_of q.program q.program.main + n
 
--- A plan that is another one with copies between keeps what passes are to keep.
+-- A plan that is another one with copies inserted keeps what passes must keep.
 abbrev pub SpreadPlansKeep : Type 0
 SpreadPlansKeep = (p q : Plan) → Spreads p q → IsWired p → Orderly p → LandsRightly p → Keeps p q
 

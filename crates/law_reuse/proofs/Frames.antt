@@ -42,14 +42,14 @@ use Rattle.law_reuse.proofs.FramesFold.{answer_re, eq_under, ne_eqb}
 use Rattle.law_reuse.proofs.FramesFreed.{place, IsNaming, place_low, place_injective, place_same, next_use, naming_later, naming_next, place_fresh, Renews}
 use Rattle.law_reuse.proofs.FramesFreed.{renews_next, keep_tokens, free_fold}
 
--- a run to here in which each frame is handed out once, and these are the frames that were
+-- a run up to here in which each frame is handed out once, and these are the frames that were handed out
 pub record Once (p : Program) (z : Size) (start : Machine) (used : ℕ → Type 0) (Says : (events : Events) (u : Machine) → Run p z start events u → Type 0)
     (u : Machine) : Type 0 where
   pub events : Events
   pub run : Run p z start events u
   pub among : Each used (0 ∷ handed p z start events u run)
   pub differ : Spread Differ (0 ∷ handed p z start events u run)
-  -- what else is told of it
+  -- what else is known of it
   pub said : Says events u run
 
 once_said : (p : Program) (z : Size) (start : Machine) (used : ℕ → Type 0) (Says More : (events : Events) (u : Machine) → Run p z start events u → Type 0)
@@ -93,7 +93,7 @@ credit_re p h To.Manager = refl
 credit_re p h (To.Release f) = refl
 credit_re p h (To.Host j) = refl
 
--- ---- WHAT IS TOLD OF A RUN, EVENT BY EVENT: who holds each slot, and what was counted at each frame since its last release.
+-- ---- WHAT IS KNOWN OF A RUN, EVENT BY EVENT: who holds each slot, and what was counted at each frame since its last release.
 pub record So : Type 0 where
   pub held : ℕ → ℕ → Option Holder
   pub counted : Counter → ℕ → ℕ
@@ -118,13 +118,13 @@ pub so_held : (P : Plan) (p : Program) (so : So) (z : Size) (old : Machine) (eve
 so_held P p so z old [] new r f s = refl
 so_held P p so z old (x ∷ events) new r f s = so_held P p (so_next P p so old.store x.1.to r.1.made r.0.store) z r.0 events new r.2 f s
 
--- What is told of the unfolded run: it counts the events so far, and tells what `so` tells of the run.
+-- What is known of the unfolded run: it counts the events so far, and shows what `so` says of the run.
 pub record Said (P : Plan) (p : Program) (z : Size) (start : Machine) (t n : ℕ) (gen : ℕ → ℕ) (done : Events) (waiting : ℕ) (so : So) (events : Events)
     (u : Machine) (run : Run p z start events u) : Type 0 where
   pub counted : Counted p done events waiting
   pub holders : (f s : ℕ) → holds P p (place t gen f) s None z start events u run ≡ so.held f s
   pub tallied : (x : Counter) (f : ℕ) → tally (count_at P p x (place t gen f)) p z start events u run ≡ so.counted x f
-  -- nothing was counted of a use that is still to come
+  -- nothing was counted of a use that is still ahead
   pub fresh : (x : Counter) (f j : ℕ) → f < t → gen f < j → j ≤ n → tally (count_at P p x (f + j * t)) p z start events u run ≡ 0
   -- the use of a frame has as its number how often the frame was released
   pub uses : (f : ℕ) → f < t → gen f ≡ release_count f done

@@ -66,7 +66,7 @@ pub record Fold (t : ℕ) (h : ℕ → ℕ) (m u : Store) : Type 0 where
 abbrev pub Follows : (p : Program) (t tu : ℕ) (h : ℕ → ℕ) (u : Store) (to : To) (w : Word) (made : List Token) (new : Store) → Type 0
 Follows p t tu h u to w made new = (after : Store) × Happens p tu u (re_to h to) (re_word h w) (map (re_token h) made) after × Fold t h new after
 
--- what is the same but for requests and how `out` is written
+-- what is the same except for requests and how `out` is written
 pub fold_same : (t : ℕ) (h : ℕ → ℕ) (m n u : Store) → n.slots ≡ m.slots → n.cells ≡ m.cells → ((g : ℕ) → n.out g ≡ m.out g) → n.outputs ≡ m.outputs
     → n.done ≡ m.done → Fold t h m u → Fold t h n u
 fold_same t h m n u es ec eo ej ed F = record {

@@ -1,4 +1,4 @@
--- A frame that comes back: nothing else names it, so from then on it stands for another frame, one that was never used.
+-- A frame that is handed back: nothing else names it, so from then on it stands for another frame, one that was never used.
 use Rattle.std.proofs.Common.{◌≡◌, refl, sym, ap, ◌∙◌, subst, ℕ, suc, ◌+◌, ◌*◌, ◌<◌, ◌≤◌, ◌⊎◌, inl, inr, true, false, List, [], ◌∷◌, map, length, Contains}
 use Rattle.std.proofs.Common.{arith, suc-mul, mul-le-mul_right}
 use Rattle.std.proofs.lemmas.Bool.{cases_eq, cases_lt}
@@ -42,7 +42,7 @@ place_high t n gen g e =
     let a : gen g * t ≡ suc n * t = ap (λ (x : ℕ). x * t) e in
     omega arith
 
--- a use that is still to come is no frame's name
+-- a use that is still ahead is no frame's name
 pub place_fresh : (t n k : ℕ) (gen : ℕ → ℕ) → IsNaming t n k gen → (g j : ℕ) → g < t → gen g < j → j ≤ n → (f : ℕ) → g + j * t ≡ place t gen f → ⊥
 place_fresh t n k gen N g j below more within f e = go (cases_lt f t)
   where

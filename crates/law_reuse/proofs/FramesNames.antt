@@ -1,4 +1,4 @@
--- A frame that is not out is named by nothing: by induction on a run, in which nothing else names a frame that is released.
+-- Nothing names a frame that is not out: by induction on a run in which nothing else names a frame that is released.
 use Rattle.std.proofs.Common.{◌≡◌, refl, sym, ap, ◌∙◌, subst, ℕ, suc, ◌+◌, ◌*◌, ◌⊎◌, inl, inr, Bool, true, false, true≢false, ℤ, List, [], ◌∷◌, ◌++◌, map}
 use Rattle.std.proofs.Common.{Option, Some, None, IsPermutation, Contains, arith}
 use Rattle.std.specs.Prelude.{◌==◌, if◌then◌else◌}
@@ -32,7 +32,7 @@ use Rattle.law_reuse.proofs.Frames.{So, so_next, so_after, counted_next, fires_o
 use Rattle.law_reuse.proofs.SlotsFillings.{Move, move_of, slot_cases}
 use Rattle.law_reuse.proofs.SlotsHistory.{instr_found}
 
--- ---- AN INSTRUCTION NAMES WHAT IT IS TOLD, AND NO OTHER FRAME: its rule is the same where frame F has another number.
+-- ---- AN INSTRUCTION NAMES WHAT IT IS GIVEN, AND NO OTHER FRAME: its rule is the same where frame F has another number.
 module _ (F : ℕ) where
   abbrev k : ℕ → ℕ
   k = put_at (λ (x : ℕ). x) F (suc F)

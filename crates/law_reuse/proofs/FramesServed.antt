@@ -1,4 +1,4 @@
--- The unfolded run led on: each request that waits is served with a frame that was never used.
+-- The unfolded run, continued: each request that waits is served with a frame that was never used.
 use Rattle.std.proofs.Common.{◌≡◌, refl, sym, ap, ◌∙◌, subst, ℕ, suc, ◌+◌, ◌*◌, ◌<◌, ◌≤◌, ◌⊎◌, inl, inr, ℤ, Bool, true, false, List, [], ◌∷◌, ◌++◌, map, length}
 use Rattle.std.proofs.Common.{IsPermutation, arith, mul_left_comm, mul-pos}
 use Rattle.std.specs.Prelude.{⊤}

@@ -1,4 +1,4 @@
--- Who holds a slot of the code, as the plan's run tells it: the holder has something, and the slot is its own.
+-- Who holds a slot of the code, as the plan's run shows: the holder has something, and the slot is its own.
 use Rattle.std.proofs.Common.{◌≡◌, refl, zero-add, sym, ap, ◌∙◌, subst, ℕ, zero, suc, ◌+◌, ◌-◌, ◌<◌, ◌⊎◌, inl, inr, Bool, List, [], ◌∷◌, ◌++◌, length, Option}
 use Rattle.std.proofs.Common.{Some, None, Contains, arith, lt-ltb, le-ltb}
 use Rattle.std.specs.Prelude.{slice_get, slice_index_or, if◌then◌else◌, nat_lt, ⊤}

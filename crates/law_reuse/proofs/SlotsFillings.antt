@@ -1,4 +1,4 @@
--- What a state of a run tells of the tokens that were taken before it: who filled a slot, which arcs were used, and that
+-- What a state of a run shows of the tokens that were taken before it: who filled a slot, which arcs were used, and that
 -- a holder whose end was reached is empty for good.
 use Rattle.std.proofs.Common.{◌≡◌, refl, sym, ap, ◌∙◌, subst, ℕ, ◌+◌, ◌≤◌, ◌⊎◌, inl, inr, Bool, true, true≢false, cond, List, [], ◌∷◌, ◌++◌, Option, Some, None}
 use Rattle.std.proofs.Common.{Contains, arith}

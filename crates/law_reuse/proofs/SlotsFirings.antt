@@ -251,7 +251,7 @@ module _ (p : Plan) (wired : IsWired p) (ts pool : List Token) (P : Ports p ts p
             over = λ h holds e. over_later d (ends d e) was h holds;
           }
 
-  -- ---- THE EVENT'S OWN ARC, AS ITS TOKEN TELLS IT
+  -- ---- THE EVENT'S OWN ARC, AS ITS TOKEN SHOWS IT
 
   instr_same : (a c g : ℕ) (r s : Port) → To.Instr f a r ≡ To.Instr g c s → (a ≡ c) × (r ≡ s)
   instr_same a c g r s e = (cc, cc)
@@ -299,7 +299,7 @@ module _ (p : Plan) (wired : IsWired p) (ts pool : List Token) (P : Ports p ts p
   ends_op c same ip r u (Take k) is uses inside becomes d e = absurd (true≢false (sym e))
   ends_op c same ip r u op is uses inside becomes d e = absurd (true≢false (sym d))
 
-  -- what a switch made goes to the side that its predicate tells
+  -- what a switch made goes to the side that its predicate determines
   switch_made : (l v : Word) → fire_two p.program record { frame = f; ip = first_of p.program b + n } i Switch l v ≡ Some made
       → (z : Value) × (v ≡ Word.Val z) × (made ≡ to_each record { frame = f; ip = first_of p.program b + n } l (if truth z then i.firsts else i.seconds))
   switch_made l (Word.Val z) e = (z, refl, sym (same_Some _ made e))

@@ -1,4 +1,4 @@
--- An orderly run keeps what its states tell: by induction on its history.
+-- An orderly run keeps what its states show: by induction on its history.
 use Rattle.std.proofs.Common.{◌≡◌, refl, sym, ap, ◌∙◌, subst, ℕ, ◌+◌, ◌*◌, ◌⊎◌, inl, inr, false, ℤ, List, [], ◌∷◌, ◌++◌, map, Option, Some, None, Contains}
 use Rattle.std.specs.Prelude.{slice_get}
 use Rattle.std.proofs.lemmas.List.Elements.{Contains-push_cases}

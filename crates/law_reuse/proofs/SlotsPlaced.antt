@@ -1,4 +1,4 @@
--- Where an instruction stands: its block, and its place there.
+-- Where an instruction is: its block, and its place there.
 use Rattle.std.proofs.Common.{◌≡◌, refl, zero-add, sym, ap, ◌∙◌, subst, ℕ, zero, suc, ◌+◌, ◌-◌, ◌<◌, ◌≤◌, Bool, true, false, true≢false, List, [], ◌∷◌, length}
 use Rattle.std.proofs.Common.{Some, slice_get, nat_lt, lt-ltb, le-ltb, ltb-false, arith, if◌then◌else◌}
 use Rattle.std.proofs.lemmas.Option.{slice_get_within, same_Some}
@@ -86,7 +86,7 @@ past_entries (x ∷ bs) (suc b) n c e h g =
     ∙ ap (is_entry bs) (let back : ip - length x.instrs ≡ first_in bs b + n = omega (arith, m) in back)
     ∙ past_entries bs b n c e h g
 
--- An instruction of a program: it stands at place n of block b.
+-- An instruction of a program: it is at place n of block b.
 pub record IsPlaced (p : Program) (b n : ℕ) (i : Instr) : Type 0 where
   pub code : CodeBlock
   pub block : slice_get p.blocks b ≡ Some code
@@ -105,7 +105,7 @@ pub stands_block : (p : Program) (a b m n : ℕ) (i j : Instr) → IsPlaced p a 
     → same_block p.blocks (first_of p a + m) (first_of p b + n) ≡ true → a ≡ b
 stands_block p a b m n i j s t h = one_block p.blocks a b m n s.code t.code s.block t.block (stands_within p a m i s) (stands_within p b n j t) h
 
--- an instruction of the program stands somewhere
+-- an instruction of the program is somewhere
 pub record Found (p : Program) (ip : ℕ) (i : Instr) : Type 0 where
   pub b : ℕ
   pub n : ℕ

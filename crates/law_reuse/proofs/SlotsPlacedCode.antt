@@ -87,7 +87,7 @@ first_same p slots e b = ap sum (lengths_same slots p.blocks e b)
 abbrev pub moved_to : List ℕ → Instr → Instr
 moved_to ss i = record i { slot = placed_slot ss (slot_of i i.op) }
 
--- where an instruction stands, in the plan and in the placed code
+-- where an instruction is, in the plan and in the placed code
 pub data Located (slots : List (List ℕ)) (cs : List CodeBlock) (ip : ℕ) : Type 0 where
   Nowhere : instr_from cs ip ≡ None → instr_from (placed_blocks slots cs) ip ≡ None → Located slots cs ip
   There : (b n : ℕ) (ss : List ℕ) (c : CodeBlock) (i : Instr) → slice_get slots b ≡ Some ss → slice_get cs b ≡ Some c → slice_get c.instrs n ≡ Some i

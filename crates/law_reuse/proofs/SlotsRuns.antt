@@ -104,7 +104,7 @@ frame_agrees p slots ts pool P f b n i q w ss code plan s at inside (inr B) =
 
 -- ---- ONE EVENT
 
--- what is told of a run that uses each frame once, event by event
+-- what is known of a run that uses each frame once, event by event
 abbrev pub own_so_next : Plan → Program → So → MStore → To → List Token → MStore → So
 own_so_next P q so old to made new =
     record { held = λ g s. held_by_event P q g s (so.held g s) to new; counted = λ x F. so.counted x F + count_at P q x F old to made }

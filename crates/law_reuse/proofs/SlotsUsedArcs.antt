@@ -147,7 +147,7 @@ pub record Used (p : Program) (ts : List Token) (slots : ℕ → ℕ → SlotSta
   pub stands : IsPlaced p b x.from i
   pub left : Came p ts f b x.from Left
   pub right : is_dyadic i.op ≡ true → Came p ts f b x.from Right
-  -- a switch uses the arcs of the side that its predicate tells
+  -- a switch uses the arcs of the side that its predicate determines
   pub side : i.op ≡ Switch → (v : Value) × Contains ts (at_port p f b x.from Right (Word.Val v)) × (truth v ≡ not x.second)
   pub over : (h : ℕ) → slot_of i i.op ≡ Some h → ends_with i.op ≡ true → Over p ts slots f b h
 

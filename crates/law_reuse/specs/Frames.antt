@@ -25,6 +25,6 @@ SharedSlotsAreFaithful = (fl : Flow) (p : Plan) (slots : List (List ℕ)) → Fa
 abbrev pub ReleasesAreLast : Type 0
 ReleasesAreLast = (fl : Flow) (p : Plan) (slots : List (List ℕ)) → Orderly p → IsWired p → Good p slots → TakesInputs fl p → ReleasesLast fl (placed p slots)
 
--- And two holders that share a slot never hold it at one moment.
+-- And two holders that share a slot never hold it at the same time.
 abbrev pub HoldersAreAlone : Type 0
 HoldersAreAlone = (fl : Flow) (p : Plan) (slots : List (List ℕ)) → Orderly p → IsWired p → Good p slots → TakesInputs fl p → HoldsAlone fl p slots

@@ -14,7 +14,7 @@ abbrev pub is_release : ℕ → To → Bool
 is_release g (To.Release f) = f == g
 is_release g to = false
 
--- how often frame g is released: each use of a frame but its last one ends so
+-- how often frame g is released: each use of a frame except its last one ends in this way
 abbrev pub release_count : ℕ → Events → ℕ
 release_count g events = count_by (λ (ev : ℕ × Token). is_release g ev.1.to) events
 

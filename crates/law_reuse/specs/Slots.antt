@@ -25,7 +25,7 @@ pub record HasOwnSlots (slots : List (List ℕ)) (m u : Machine) : Type 0 where
   pub held : (g s : ℕ) → m.store.slots g s ≢ Empty → (h : ℕ) × HasSlot slots (block g) h s × (u.store.slots g h ≡ m.store.slots g s)
   -- and what a holder has is in its slot
   pub shown : (g h : ℕ) → u.store.slots g h ≢ Empty → (s : ℕ) × HasSlot slots (block g) h s × (u.store.slots g h ≡ m.store.slots g s)
-  -- two holders of one slot never hold it at one moment
+  -- two holders of one slot never hold it at the same time
   pub alone : (g s h k : ℕ) → HasSlot slots (block g) h s → HasSlot slots (block g) k s → u.store.slots g h ≢ Empty → u.store.slots g k ≢ Empty → h ≡ k
 
 -- The plan's run with those events

@@ -109,7 +109,7 @@ module _ (p q : Plan) (g h : ℕ → ℕ) where
   abbrev Q : Program
   Q = q.program
 
-  -- An arc that one uses that hands on leads to a destination of it.
+  -- An arc that is used by one that passes on leads to a destination of it.
   pub hand_use : (f l : ℕ) (w : Word) (i : Instr) → instr_at P l ≡ Some i → hands_on i.op ≡ true → (k b : ℕ) (t : Port) → (made : List Token) (m : Machine)
       → UsesArc p k b t (token (To.Instr f l Left) w) made m
       → (d : Dest) × Contains (i.firsts ++ i.seconds) d × (f ≡ k) × (b ≡ l + d.ahead) × (d.port ≡ t)

@@ -70,7 +70,7 @@ module _ (p q : Plan) (S : Relates p q) (same : (b : ℕ) → landing q b ≡ la
       go (inr none_new) = absurd (nothing_there j (sym there ∙ none_new))
   moved_at a i at (empty none none_new apart) = absurd (nothing_there i (sym at ∙ none))
 
-  -- what stands there stands for it
+  -- what is at its place stands for it
   pub stands_there : (a : ℕ) (j : Instr) → instr_at Q (h a) ≡ Some j → Plain P Q h a → (i : Instr) × (instr_at P a ≡ Some i)
   stands_there a j at (itself i j2 old there) = (i, old)
   stands_there a j at (empty none none_new apart) = absurd (nothing_there j (sym at ∙ none_new))

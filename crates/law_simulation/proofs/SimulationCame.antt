@@ -1,4 +1,4 @@
--- A token that an event of the new run makes where nothing stands for itself comes by an arc.
+-- A token that an event of the new run makes where nothing stands for itself arrives by an arc.
 use Rattle.std.proofs.Common.{◌≡◌, refl, sym, ap, ◌∙◌, subst, ℕ, ◌+◌, ◌⊎◌, inl, inr, List, [], ◌∷◌, ◌++◌, map, Option, Contains}
 use Rattle.std.proofs.lemmas.List.Elements.{Contains-append_cases}
 use Rattle.std.proofs.lemmas.List.Sorted.{Contains-permutation, IsPermutation-sym}
@@ -81,7 +81,7 @@ module _ (p q : Plan) (g h : ℕ → ℕ) where
             subst (λ (y : Outcome). Fires (ip_store h old) f (slot_of i i.op) y made new) T.1 e in
             pick v d.1 (made_by P Q g h arrays f a i M v ts T.0 T.2 u (subst (λ (l : List Token). Contains l u) d.0 inside))
 
-    -- what it sent, told by the two events
+    -- what it sent, in terms of the two events
     pub record SentBy (old_made : List Token) (after : MStore) (arrays : Q.arrays ≡ P.arrays) : Type 0 where
       pub v : SlotState
       pub sent : Sent P Q g h arrays f a i M v old_made made

@@ -1,4 +1,4 @@
--- In the new run a token that is at no entry comes after an arc into its port was used.
+-- In the new run a token that is at no entry arrives after an arc into its port was used.
 use Rattle.std.proofs.Common.{◌≡◌, refl, sym, ap, ◌∙◌, subst, ℕ, ◌+◌, ◌≤◌, ◌⊎◌, inl, inr, true, false, true≢false, ℤ, List, [], ◌∷◌, Some, Contains}
 use Rattle.std.proofs.Common.{arith}
 use Rattle.std.proofs.lemmas.Bool.{cases_Bool}
@@ -67,7 +67,7 @@ module _ (p q : Plan) (S : Relates p q) (wired : IsWired p) (orderly : Orderly p
   node_fresh f ip pool (top n t j c to at op fresh) = fresh
   node_fresh f ip pool (next n up k j d N there opk c place port at op fresh) = fresh
 
-  -- the token that hands on to it
+  -- the token of one that passes on to it
   record Source (f : ℕ) (x : Spot) : Type 0 where
     pub t : Token
     pub ip : ℕ

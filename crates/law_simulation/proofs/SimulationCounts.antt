@@ -319,7 +319,7 @@ module _ (P Q : Program) (g h : ℕ → ℕ) (apart : (a b : ℕ) → Plain P Q 
       let m = all_under f ip n x cs low (λ y k. far y (contains_tail c cs y k)) (λ y k. are y (contains_tail c cs y k)) in
       omega (arith, b, m)
 
-  -- the event of one that hands on: those that it makes stand for what it stood for
+  -- the event of one that passes on: the tokens that it makes stand for what its token stood for
   pub counted_through : (new old : List Token) (c : C) (cl others : List C) (t : Token) (k n : ℕ) → c.seen ≡ t → t.to ≡ To.Instr k n Left
       → meant_of P Q g h cl ≡ c.meant → Behind n cl → AreInstrs cl → Counted new old (c ∷ others) → Counted (new ++ t ∷ []) old (cl ++ others)
   counted_through new old c cl others t k n se to all far are K f ip r x L =

@@ -21,7 +21,7 @@ use Rattle.semantics.specs.declared.program.Op.TheVariants.{Copy}
 use Rattle.std.proofs.Common.{true}
 use Rattle.law_simulation.specs.Simulates.{HandsOn, hands_on}
 
--- the event of what hands on
+-- the event of what passes on
 pub hands_fires : (kind : Word → Type 0) (p : Program) (f a : ℕ) (w v : Word) (i : Instr) (s : MStore) → HandsOn kind i.op w v
     → Fires s f (slot_of i i.op) (outcome_of p record { frame = f; ip = a } i i.op (slot_in s f (slot_of i i.op)) Left w)
     (to_all record { frame = f; ip = a } v i) s

@@ -1,4 +1,4 @@
--- Where the tokens come from that a new instruction makes: from a destination, or they are at what stands for itself.
+-- Where the tokens that a new instruction makes come from: from a destination, or they are at what stands for itself.
 use Rattle.std.proofs.Common.{map, ◌≡◌, refl, sym, ap, ◌∙◌, subst, ℕ, ◌+◌, ◌⊎◌, inl, inr, Bool, true, false, List, [], ◌∷◌, ◌++◌}
 use Rattle.std.proofs.Common.{Contains}
 use Rattle.std.specs.Prelude.{if◌then◌else◌}

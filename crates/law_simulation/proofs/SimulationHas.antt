@@ -22,7 +22,7 @@ use Rattle.law_fresh_frames.proofs.FreshArcs.{uses_new}
 use Rattle.law_simulation.specs.Simulates.{Fresh, Node, Relates, counts_none, hands_on, next, top}
 
 module _ (p q : Program) (h : ℕ → ℕ) where
-  -- what is at none that hands on is none of those
+  -- what is at none that passes on is none of those
   pub node_rest : (f : ℕ) (t : Token) (pool rest : List Token) → IsPermutation pool (t ∷ rest)
       → ((k ip : ℕ) (j : Instr) → t.to ≡ To.Instr k ip Left → instr_at q ip ≡ Some j → hands_on j.op ≡ true → Fresh p q h ip → ⊥) → (ip : ℕ)
       → Node p q h f pool ip → Node p q h f rest ip
@@ -34,7 +34,7 @@ module _ (p q : Program) (h : ℕ → ℕ) where
       go (inl e) = absurd (alive f ip j (ap (λ (t : Token). t.to) e ∙ to) at op fresh)
       go (inr c) = top ip u j c to at op fresh
 
-  -- one that hands on does so to those to which it leads
+  -- one that passes on does so to those to which it leads
   pub node_step : (f k n : ℕ) (v : Word) (j : Instr) (t : Token) (pool rest made : List Token) → IsPermutation pool (t ∷ rest) → t.to ≡ To.Instr k n Left
       → instr_at q n ≡ Some j → hands_on j.op ≡ true → made ≡ to_all record { frame = k; ip = n } v j
       → (ip : ℕ) → Node p q h f pool ip → ((f ≡ k) × (ip ≡ n)) ⊎ Node p q h f (made ++ rest) ip

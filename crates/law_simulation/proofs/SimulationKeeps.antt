@@ -1,4 +1,4 @@
--- A plan whose code does what another one's does keeps what passes are to keep.
+-- A plan whose code does what the code of another plan does keeps what passes must keep.
 use Rattle.std.proofs.Common.{ap, ◌∙◌, ℕ, List}
 use Rattle.semantics.specs.Program.{Program}
 use Rattle.semantics.specs.Machine.{at_start}

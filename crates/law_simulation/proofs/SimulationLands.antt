@@ -28,7 +28,7 @@ use Rattle.law_simulation.proofs.SimulationSeen.{met_known}
 use Rattle.law_simulation.proofs.SimulationState.{Explained}
 use Rattle.law_simulation.proofs.SimulationTraces.{Step, steps_of}
 
--- what is in the new code and is no literal's and no operator's with a literal operand stands for itself
+-- what is in the new code, and is no literal and no operator with a literal operand, stands for itself
 abbrev pub ComesBack : (p q : Plan) → Relates p q → Type 0
 ComesBack p q S = (ip : ℕ) (j : Instr) → instr_at q.program ip ≡ Some j → counts_none j.op ≡ false → (a : ℕ) × (ip ≡ S.h a) × Plain p.program q.program S.h a
 

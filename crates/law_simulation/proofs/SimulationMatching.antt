@@ -53,7 +53,7 @@ value_same h (Word.Val v) = refl
 value_same h (Word.Frame f) = refl
 value_same h (Word.Back c) = refl
 
--- what hands on takes any word
+-- what passes on takes any word
 through_takes : (kind : Word → Type 0) (q : Program) (s : MStore) (f ip : ℕ) (j : Instr) (w v : Word) → HandsOn kind j.op w v
     → excluded_by (outcome_of q record { frame = f; ip = ip } j j.op (slot_in s f (slot_of j j.op)) Left w) ≡ None
 through_takes kind q s f ip j w v e = go j.op refl e

@@ -141,7 +141,7 @@ module _ (p q : Plan) (S : Relates p q) (wired : IsWired p) (orderly : Orderly p
       abbrev sums_after : List Token → Sums
       sums_after us = sums events_after gone_after steps_after after.pool olds (taken V.part.done ++ us)
 
-      -- those before it, and the arcs told after it
+      -- those before it, and the arcs that are known after it
       abbrev turned : Sums
       turned =
           record {
@@ -168,12 +168,12 @@ module _ (p q : Plan) (S : Relates p q) (wired : IsWired p) (orderly : Orderly p
             arcs = λ k a r e. tells k a r e;
           }
 
-      -- where the token is at none that hands on
+      -- where the token is at none that passes on
       turn_by : ((k ip : ℕ) (j : Instr) → t.to ≡ To.Instr k ip Left → instr_at Q ip ≡ Some j → hands_on j.op ≡ true → Fresh P Q h ip → ⊥)
           → Past V.old (meant_in V.clumps) turned
       turn_by off = turn_on (λ k a r. told_next p q S ss m.store t m.pool ev.made ev.rest after ev.takes ev.leaves off k a r)
 
-      -- what the event makes where nothing stands for itself comes by an arc
+      -- what the event makes where nothing stands for itself arrives by an arc
       abbrev AllCame : Type 0
       AllCame = (u : Token) → Contains ev.made u → (k ip : ℕ) (r : Port) → u.to ≡ To.Instr k ip r → Fresh P Q h ip → UsesArc q k ip r t ev.made after
 
@@ -243,7 +243,7 @@ module _ (p q : Plan) (S : Relates p q) (wired : IsWired p) (orderly : Orderly p
         arcs = λ k a r e. e;
       }
 
-      -- what becomes of the clumps
+      -- what happens to the clumps
       made_next : (others : List C) → seen_in others ≡ ev.rest → (stored : MStore) (us : List Token) (made : List Token) (X : Clumped P Q g h ev.made made)
           → Past stored (made ++ meant_in others) (sums_after us) → after.store ≡ ip_store h stored → Explains V.part.done V.part.last t
           → ((cl : List C) → Known (taken events ++ t ∷ []) (taken V.part.done ++ us) (cl ++ others)) → AllCame → Next
@@ -393,7 +393,7 @@ module _ (p q : Plan) (S : Relates p q) (wired : IsWired p) (orderly : Orderly p
           (rule_at Q record { frame = f; ip = ip } o (slot_in m.store f (slot_used o)) Left w) ev.made after.store) at
           (subst (λ (t : Token). Happens Q total m.store t.to t.word ev.made after.store) is ev.happens)
 
-      -- one that hands on
+      -- one that passes on
       at_through : (c : C) → c.seen ≡ t → (others : List C) → Known (taken events) (taken V.part.done) (c ∷ others) → seen_in others ≡ ev.rest
           → (f ip : ℕ) (w v : Word) (j : Instr) → t ≡ token (To.Instr f ip Left) w → instr_at Q ip ≡ Some j → HandsOn IsValue j.op w v → Fresh P Q h ip
           → StandAll P Q g h (to_all record { frame = f; ip = ip } v j) c.meant → Stands P Q g h t c.meant

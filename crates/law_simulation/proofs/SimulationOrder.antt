@@ -94,7 +94,7 @@ module _ (p q : Plan) (S : Relates p q) (wired : IsWired p) (orderly : Orderly p
   value_silent : (f : ℕ) (w : Word) → IsValue w → NamesWord f w → ⊥
   value_silent f w (v, e) n = subst (NamesWord f) e n
 
-  -- the word that is handed on names what the one that comes names
+  -- the word that is passed on names what the one that arrives names
   word_silent : (f : ℕ) (op : Op) (w v : Word) → HandsOn IsValue op w v → (NamesWord f v → ⊥) → NamesWord f w → ⊥
   word_silent f (Lit z) w v e free n = value_silent f w e.1 n
   word_silent f Copy w v e free n = free (subst (NamesWord f) (sym e) n)

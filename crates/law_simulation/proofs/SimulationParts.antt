@@ -43,7 +43,7 @@ same_request h (To.Host j) = refl
 pub seeks_op : (i j : Instr) → j.op ≡ i.op → seeks_credit (Some j) ≡ seeks_credit (Some i)
 seeks_op i j e = ap (λ (op : Op). elim op as (λ x. Bool) [ Open k ↦ true | Take k ↦ true | _ ↦ false ]) e
 
--- what hands on grants and releases nothing, and asks for no credit
+-- what passes on grants and releases nothing, and asks for no credit
 pub hands_none : (op : Op) → hands_on op ≡ true → counts_none op ≡ true
 hands_none (Lit z) e = refl
 hands_none Copy e = refl
@@ -132,7 +132,7 @@ module _ (P Q : Program) (g h : ℕ → ℕ) where
       go (inl e) more = Contains-append_left x.meant (meant_of cs) t (subst (λ (c : Clump). Contains c.meant t) (sym e) there)
       go (inr k) more = Contains-append_right x.meant (meant_of cs) t (more k)
 
--- What is known of a run: whom it handed out, what it asked for, what it met and took at least, and what it counts.
+-- What is known of a run: which frames it handed out, what it asked for, what it met and took at least, and what it counts.
 pub record Sums : Type 1 where
   pub gone : List ℕ
   pub asked : ℕ

@@ -208,12 +208,12 @@ module _ (p q : Plan) (g h : ℕ → ℕ) (answers : (a : ℕ) (i : Instr) → i
       taken_in k b t (inl e) = e
       taken_in k b t (inr e) = uses k b t e
 
-  -- the arcs of what may hand on are told already
+  -- the arcs of what may pass on are known already
   abbrev pub Absorbs : (ℕ → ℕ → Type 0) → Sums → Type 0
   Absorbs may T = (f l : ℕ) → may f l → (is_entry P.blocks l ≡ false → T.arcs f l Left) → (w v : Word) (i : Instr) → instr_at P l ≡ Some i
       → hands_on i.op ≡ true → (k b : ℕ) (t : Port) → (m : Machine) → UsesArc p k b t (token (To.Instr f l Left) w) (to_all record { frame = f; ip = l } v i) m → T.arcs k b t
 
-  -- what hands on does so
+  -- what passes on does so
   pub settle : (may : ℕ → ℕ → Type 0) (xs ys : List Token) → Settles may P xs ys → (s : MStore) (rest : List Token) (T : Sums) → Absorbs may T
       → Reached s (xs ++ rest) T → Once T → Reached s (ys ++ rest) T
   settle may xs ys (settled us vs e) s rest T told R once = again s (xs ++ rest) (ys ++ rest) T T R (IsPermutation-append_left rest xs ys e) (same_sums T)
@@ -330,7 +330,7 @@ module _ (p q : Plan) (g h : ℕ → ℕ) (answers : (a : ℕ) (i : Instr) → i
   abbrev any_arcs : Sums → Sums
   any_arcs T = record { gone = T.gone; asked = T.asked; credited = T.credited; olds = T.olds; spent = T.spent; counts = T.counts; arcs = λ f a r. ⊤ }
 
-  -- what is made stands for what comes of what was made
+  -- what is made stands for what results from what was made
   pub ready : (s : MStore) (rest : List Token) (T : Sums) (new old : List Token) → Made P Q g h new old → Reached s (old ++ rest) T → Once T
       → Clumped P Q g h new old
   ready s rest T new old (w, M) R once = go M.tells

@@ -1,4 +1,4 @@
--- What an instruction does in its new place: the tokens that it makes stand for what comes of those that it made.
+-- What an instruction does in its new place: the tokens that it makes stand for what results from those that it made.
 use Rattle.std.proofs.Common.{◌≡◌, refl, sym, ap, ◌∙◌, subst, ℕ, ◌+◌, ◌⊎◌, inl, inr, true, List, [], ◌∷◌, ◌++◌, ℤ, Some}
 use Rattle.std.proofs.Common.{Contains, IsPermutation, append_assoc}
 use Rattle.std.specs.Prelude.{⊤}
@@ -24,7 +24,7 @@ use Rattle.law_simulation.specs.Places.{ip_cont, ip_slot, ip_token, ip_word}
 use Rattle.law_simulation.specs.Simulates.{Clumped, Fits, Fresh, HandsOn, Node, Pairs, Pend, Ready, Sends, Settles, fired, fires_lit, hands_on, moved, next}
 use Rattle.law_simulation.specs.Simulates.{settled, stand_more, stand_none, top}
 
--- ---- WHAT COMES OF TOKENS
+-- ---- WHAT RESULTS FROM TOKENS
 pub settles_map : (R T : ℕ → ℕ → Type 0) → ((f l : ℕ) → R f l → T f l) → (p : Program) (xs ys : List Token) → Settles R p xs ys → Settles T p xs ys
 settles_map R T turn p xs ys (settled us vs e) = settled xs ys e
 settles_map R T turn p xs ys (fired us vs f a w v i rest d at is k may) =
@@ -66,7 +66,7 @@ pub copy_fired : (R : ℕ → ℕ → Type 0) (p : Program) (xs ys : List Token)
 copy_fired R p xs ys f a w i rest e at is k may =
     fired xs ys f a w w i rest e at (subst (λ (op : Op). HandsOn (λ w. ⊤) op w w) (sym is) refl) k may
 
--- what is at none that hands on is there still
+-- what is at none that passes on is there still
 pub settles_keeps : (R : ℕ → ℕ → Type 0) (p : Program) (xs ys : List Token) → Settles R p xs ys → (t : Token)
     → ((f a : ℕ) (w : Word) (i : Instr) → R f a → t ≡ token (To.Instr f a Left) w → instr_at p a ≡ Some i → hands_on i.op ≡ true → ⊥) → Contains xs t
     → Contains ys t
@@ -97,7 +97,7 @@ module _ (p q : Program) (h : ℕ → ℕ) where
   pub sends_grow : (xs ys : List Token) → ((t : Token) → Contains xs t → Contains ys t) → (f l : ℕ) → Sends p q h xs f l → Sends p q h ys f l
   sends_grow xs ys grows = sends_with xs ys (λ f ip. node_grows f xs ys grows ip)
 
-  -- those to which one that hands on leads
+  -- those to which one that passes on leads
   pub nodes_behind : (k n : ℕ) (v : Word) (j : Instr) (t : Token) → t.to ≡ To.Instr k n Left → instr_at q n ≡ Some j → hands_on j.op ≡ true → Fresh p q h n
       → (f ip : ℕ) → Node p q h f (to_all record { frame = k; ip = n } v j) ip → Node p q h f (t ∷ []) ip
   nodes_behind k n v j t to at op fresh f ip (next x up k2 j2 d N there is c place port at2 op2 fresh2) =
@@ -111,7 +111,7 @@ module _ (p q : Program) (h : ℕ → ℕ) where
       same e = (cc, cc, cc)
 
 module _ (p q : Program) (g h : ℕ → ℕ) where
-  -- the word that what is made has, but for what is in its new place
+  -- the word of what is made, except for what is in its new place
   abbrev pub Made : List Token → List Token → Type 0
   Made new old = (w : Word) × Ready p q g h w new old
 

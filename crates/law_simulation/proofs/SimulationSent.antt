@@ -34,7 +34,7 @@ use Rattle.law_simulation.specs.Places.{ip_cont, ip_slot, ip_token, ip_word, is_
 use Rattle.law_simulation.specs.Simulates.{Arrives, Enters, Fits, FitsSlot, FitsWord, Goes, IsMoved}
 use Rattle.law_simulation.proofs.SimulationRules.{Made, Matches, back_moved, cons_clumped, none_clumped, one_clumped}
 
--- it sends to all its destinations, but for a `give` that leaves its slot filled
+-- it sends to all its destinations, except for a `give` that leaves its slot filled
 abbrev pub SendsAll : Op → SlotState → Type 0
 SendsAll (Give k) v = v ≡ Empty
 SendsAll Switch v = ⊥

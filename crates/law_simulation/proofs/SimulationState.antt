@@ -1,4 +1,4 @@
--- A state of the new run and one of the old: the relation, and what it says of the words that come.
+-- A state of the new run and one of the old: the relation, and what it says of the words that arrive.
 use Rattle.std.proofs.Common.{◌≡◌, refl, sym, ap, ◌∙◌, subst, ℕ, ◌+◌, ◌*◌, ◌⊎◌, inl, inr, true, true≢false, ℤ, List, [], ◌∷◌, ◌++◌, Option, Some, None}
 use Rattle.std.proofs.Common.{IsPermutation, Contains, arith}
 use Rattle.std.proofs.lemmas.List.Elements.{Contains-append_left, Contains-append_right, Contains-append_cases}
@@ -210,7 +210,7 @@ module _ (p q : Plan) (S : Relates p q) (wired : IsWired p) (orderly : Orderly p
         go (Release o) (Word.Frame g) is e = tt
         go op w is e = tt
 
-    -- a word that waits in the slot came to the left port of the instruction
+    -- a word that waits in the slot arrived at the left port of the instruction
     came : (f a : ℕ) (r : Port) (w l : Word) (i : Instr) → instr_at P a ≡ Some i → Contains V.part.last.pool (token (To.Instr f a r) w) → (o : Option ℕ)
         → slot_of i i.op ≡ o → slot_in V.part.last.store f o ≡ Slot.Left l
         → Contains (met V.part.done V.part.last) (token (To.Instr f a Left) l)

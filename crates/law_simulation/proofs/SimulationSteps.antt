@@ -51,7 +51,7 @@ module _ (p q : Plan) (g h : ℕ → ℕ) (apart : (a b : ℕ) → Plain p.progr
             ∙ granted_slot h i.op (slot_in s k (slot_of i i.op))
             ∙ (λ v. granted_in (sym at v) (slot_in s k (slot_used (sym at v))))
 
-    -- where a release's tokens come
+    -- where a release's tokens arrive
     at_same : (o base : ℕ) (c : Cont) → Plain P Q h base → Fits P Q h (back_to c)
         → is_at f (h base + o) Left (beyond (ip_cont h c) o) ≡ is_at f (base + o) Left (beyond c o)
     at_same o base (Cont.Host j) K L = refl

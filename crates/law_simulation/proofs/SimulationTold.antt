@@ -1,4 +1,4 @@
--- What is told of the arcs of the new run: those that the old run used, and those by which tokens came.
+-- What is known of the arcs of the new run: those that the old run used, and those by which tokens arrived.
 use Rattle.std.proofs.Common.{◌≡◌, sym, ap, ◌∙◌, subst, ℕ, ◌+◌, ◌⊎◌, inl, inr, List, [], ◌∷◌, ◌++◌, Some, IsPermutation, Contains}
 use Rattle.std.proofs.lemmas.List.Elements.{Contains-append_left, Contains-append_right, Contains-append_cases}
 use Rattle.std.proofs.lemmas.List.Sorted.{Contains-permutation, IsPermutation-sym}
@@ -54,11 +54,11 @@ module _ (p q : Plan) (S : Relates p q) where
   abbrev h : ℕ → ℕ
   h = S.h
 
-  -- an arc into the port at which it arrives was used, or what comes of one is on its way
+  -- an arc into the port at which it arrives was used, or what results from one is on its way
   abbrev pub Told : List Step → List Token → ℕ → ℕ → Port → Type 0
   Told ss pool f a r = KeepsArcs p q S → (x : Spot) → Reaches P Q h a r x → HasStep (UsesArc q f (h x.0) x.1) ss ⊎ Pend P Q h f x.0 x.1 pool
 
-  -- a token where nothing stands for itself came by an arc
+  -- a token where nothing stands for itself arrived by an arc
   abbrev pub Came : List Step → List Token → Type 0
   Came ss pool = (t : Token) → Contains pool t → (f ip : ℕ) (r : Port) → t.to ≡ To.Instr f ip r → Fresh P Q h ip → HasStep (UsesArc q f ip r) ss
 
@@ -76,7 +76,7 @@ module _ (p q : Plan) (S : Relates p q) where
   pub came_perm : (ss : List Step) (xs ys : List Token) → IsPermutation xs ys → Came ss xs → Came ss ys
   came_perm ss xs ys e K t c = K t (Contains-permutation _ _ t (IsPermutation-sym _ _ e) c)
 
-  -- what one that hands on ahead of the new code leads to is reported: it is on its way, or was told when its token came
+  -- `Told` holds of what one that passes on ahead of the new code leads to: it is on its way, or `Told` held when its token arrived
   pub told_behind : (ss : List Step) (pool : List Token) (f l : ℕ) → Sends P Q h pool f l → (is_entry P.blocks l ≡ false → Told ss pool f l Left) → (w : Word)
       (i : Instr) → instr_at P l ≡ Some i → hands_on i.op ≡ true → (k b : ℕ) (r : Port) → (made : List Token) (m : Machine)
       → UsesArc p k b r (token (To.Instr f l Left) w) made m → Told ss pool k b r
@@ -134,7 +134,7 @@ module _ (p q : Plan) (S : Relates p q) where
         go (inl k) = inl (step_last (UsesArc q f (h x.0) x.1) ss this k)
         go (inr n) = inr (pend_made f x.0 x.1 n)
 
-    -- by one of the old code that hands on after it,
+    -- by one of the old code that passes on after it,
     pub told_hand : (f l : ℕ) → Sends P Q h made f l → (is_entry P.blocks l ≡ false → Told (ss ++ this ∷ []) m1.pool f l Left) → (w v : Word) (i : Instr)
         → instr_at P l ≡ Some i → hands_on i.op ≡ true → (k b : ℕ) (r : Port)
         → (m : Machine) → UsesArc p k b r (token (To.Instr f l Left) w) (to_all record { frame = f; ip = l } v i) m
@@ -145,7 +145,7 @@ module _ (p q : Plan) (S : Relates p q) where
         pends : Sends P Q h made f l → Sends P Q h m1.pool f l
         pends N = sends_grow P Q h made m1.pool (λ u c. back_in u (Contains-append_left made rest u c)) f l N
 
-    -- before it, if its token is at none that hands on,
+    -- before it, if its token is at none that passes on,
     pub told_next : ((k ip : ℕ) (j : Instr) → t.to ≡ To.Instr k ip Left → instr_at Q ip ≡ Some j → hands_on j.op ≡ true → Fresh P Q h ip → ⊥)
         → (f a : ℕ) (r : Port) → Told ss pool f a r → Told (ss ++ this ∷ []) m1.pool f a r
     told_next off f a r T F x A = go (T F x A)
@@ -197,7 +197,7 @@ module _ (p q : Plan) (S : Relates p q) where
         go (inl k) = inl (step_before (UsesArc q f (h a) r) ss (this ∷ []) k)
         go (inr N) = by_node N (node_step P Q h f k n v j t pool rest made takes to at op is N.ip N.node)
 
-  -- ---- TOKENS AT NONE THAT HANDS ON
+  -- ---- TOKENS AT NONE THAT PASSES ON
   same_place : {a b x y : ℕ} {r s : Port} → To.Instr a x r ≡ To.Instr b y s → x ≡ y
   same_place e = cc
 

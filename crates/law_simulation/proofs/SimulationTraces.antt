@@ -37,7 +37,7 @@ grants p f loop ss = tot (λ (s : Step). granted_at p p.program f loop s.before 
 abbrev pub releases : Program → ℕ → ℕ → List Step → ℕ
 releases p f base ss = tot (λ (s : Step). released_at p f base s.taken.to s.made) ss
 
--- some step is of that kind: told what it took, what it made, and the state after it
+-- some step is of that kind, given what it took, what it made, and the state after it
 abbrev pub HasStep : (Token → List Token → Machine → Type 0) → List Step → Type 0
 HasStep K [] = ⊥
 HasStep K (s ∷ ss) = K s.taken s.made s.after ⊎ HasStep K ss

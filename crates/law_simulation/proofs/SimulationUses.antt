@@ -1,4 +1,4 @@
--- An event of the new run uses the arcs that the old one used, or what comes of them is on its way.
+-- An event of the new run uses the arcs that the old one used, or what results from them is on its way.
 use Rattle.std.proofs.Common.{true≢false}
 use Rattle.std.proofs.Common.{map}
 use Rattle.std.proofs.Common.{◌≡◌, refl, sym, ap, ◌∙◌, subst, ℕ, zero, suc, ◌+◌, ◌<◌, ◌⊎◌, inl, inr, Bool, true, false, List, [], ◌∷◌, ◌++◌, length}
@@ -492,7 +492,7 @@ shape_of p wired a i at =
     all_at (λ (i : Instr). HasShape i.op (length i.firsts) (length i.seconds)) F.stands.code.instrs F.n i
     (all_at IsPlanBlock p.program.blocks F.b F.stands.code wired.plan.blocks F.stands.block).shapes F.stands.instr
 
--- Where the event of an instruction used an arc, its new event uses it, or what comes of it is on its way.
+-- Where the event of an instruction used an arc, its new event uses it, or what results from it is on its way.
 pub moved_used : (p q : Plan) (S : Relates p q) (sizes : (b : ℕ) → landing q b ≡ landing p b)
     (rows : (ip callee base o : ℕ) → IsLink p.program ip callee base → o < landing p callee → S.h (base + o) ≡ S.h base + o)
     (unskipped : (ip callee base o : ℕ) → IsLink p.program ip callee base → o < landing p callee → Skips p.program q.program S.h (base + o) → ⊥) → IsWired p

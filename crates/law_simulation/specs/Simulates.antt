@@ -1,5 +1,5 @@
--- When the code of one plan does what that of another one does, told by tokens: a token of the new code stands for one of the old one in another
--- place, or, at an instruction that the old code has not or has done already, for what comes of it.
+-- When the code of one plan does what the code of another plan does, in terms of tokens: a token of the new code stands for a token of the old code
+-- at another place, or, at an instruction that the old code does not have or has already executed, for what results from it.
 use Rattle.std.specs.Prelude.{◌≡◌, ℕ, ◌+◌, ◌<◌, ◌≤◌, ℤ, Bool, true, false, ◌⊎◌, List, [], ◌∷◌, ◌++◌, Some, None, Contains, IsPermutation, ⊤}
 use Rattle.tags.specs.declared.value.Value.{Value}
 use Rattle.tags.specs.declared.value.Value.TheVariants.{Int}
@@ -32,7 +32,7 @@ use Rattle.law_simulation.specs.Places.{Spot, ip_word, ip_token, is_answered}
 abbrev pub fires_lit : ℕ → ℕ → ℤ → Instr → List Token
 fires_lit f a z i = to_all record { frame = f; ip = a } (Word.Val (Int z)) i
 
--- An instruction that stands for itself: its tokens do, in its new place. So does a place at which nothing stands, if no two places become one.
+-- An instruction that stands for itself: its tokens do, in its new place. So does a place at which there is nothing, if no two places become one.
 pub data Plain (p q : Program) (h : ℕ → ℕ) (a : ℕ) : Type 0 where
   itself : (i j : Instr) → instr_at p a ≡ Some i → instr_at q (h a) ≡ Some j → Plain p q h a
   empty : instr_at p a ≡ None → instr_at q (h a) ≡ None → ((b c : ℕ) → h b ≡ h c → b ≡ c) → Plain p q h a
@@ -41,18 +41,18 @@ abbrev pub Fits : Program → Program → (ℕ → ℕ) → To → Type 0
 Fits p q h (To.Instr f a r) = Plain p q h a
 Fits p q h to = ⊤
 
--- no such instruction stands there
+-- no such instruction is there
 abbrev pub Fresh : Program → Program → (ℕ → ℕ) → ℕ → Type 0
 Fresh p q h ip = (b : ℕ) → Plain p q h b → ip ≡ h b → ⊥
 
--- what hands on
+-- what passes on
 abbrev pub hands_on : Op → Bool
 hands_on (Lit z) = true
 hands_on Copy = true
 hands_on op = false
 
--- A copy that is left out: it has one destination, which stands for itself, and each token that came to it goes there at once. It is no entry, and what
--- leads to it is none that hands on and is left out as well.
+-- A copy that is left out: it has one destination, which stands for itself, and each token that arrived at it goes there at once. It is no entry,
+-- and nothing that passes on and leads to it is left out as well.
 pub record Skips (p q : Program) (h : ℕ → ℕ) (a : ℕ) : Type 0 where
   pub i : Instr
   pub d : Dest
@@ -70,16 +70,16 @@ pub data Reaches (p q : Program) (h : ℕ → ℕ) (a : ℕ) (r : Port) (x : Spo
   straight : Plain p q h a → x ≡ (a, r) → Reaches p q h a r x
   over : (K : Skips p q h a) → x ≡ (a + K.d.ahead, K.d.port) → Reaches p q h a r x
 
--- HANDING ON. A copy hands on the word that comes, and a literal its number.
+-- PASSING ON. A copy passes on the word that arrives, and a literal its number.
 
--- that it hands on v for w, if the words that trigger literals are of that kind
+-- that it passes on v for w, if the words that trigger literals are of that kind
 abbrev pub HandsOn : (Word → Type 0) → Op → Word → Word → Type 0
 HandsOn kind (Lit z) w v = (v ≡ Word.Val (Int z)) × kind w
 HandsOn kind Copy w v = v ≡ w
 HandsOn kind op w v = ⊥
 
--- An instruction that hands on and stands for no old one, or for one that fired already in the old code: a token is at it, or at such a one that
--- leads to it.
+-- An instruction that passes on and stands for no old one, or for one that fired already in the old code: a token is at it, or at another such one
+-- that leads to it.
 pub data Node (p q : Program) (h : ℕ → ℕ) (f : ℕ) (seen : List Token) : ℕ → Type 0 where
   top : (ip : ℕ) (t : Token) (j : Instr) → Contains seen t → t.to ≡ To.Instr f ip Left → instr_at q ip ≡ Some j → hands_on j.op ≡ true → Fresh p q h ip
       → Node p q h f seen ip
@@ -98,7 +98,7 @@ pub record Pend (p q : Program) (h : ℕ → ℕ) (f a : ℕ) (r : Port) (seen :
   pub place : ip + d.ahead ≡ h a
   pub port : d.port ≡ r
 
--- what comes of the one of that number that hands on, in frame f, is on its way
+-- what results from the one of that number that passes on, in frame f, is on its way
 abbrev pub Pends : Program → Program → (ℕ → ℕ) → List Token → ℕ → ℕ → Type 0
 Pends p q h new f l =
     (Plain p q h l → ⊥) × ((i : Instr) (d : Dest) → instr_at p l ≡ Some i → Contains (i.firsts ++ i.seconds) d → Plain p q h (l + d.ahead)
@@ -112,13 +112,13 @@ abbrev pub IsValue : Word → Type 0
 IsValue w = (v : Value) × (w ≡ Word.Val v)
 
 -- WHAT A TOKEN STANDS FOR. `g` is the new place of an instruction that is not left out. `h` is the same where the tokens
--- of an instruction stand for themselves; elsewhere it is a place where nothing stands. The words that trigger literals that
+-- of an instruction stand for themselves; elsewhere it is a place where there is nothing. The words that trigger literals that
 -- fired already are of the kind `kind`.
 mutual
   pub data StandsBy (kind : Word → Type 0) (p q : Program) (g h : ℕ → ℕ) : Token → List Token → Type 0 where
     -- for one in its new place
     moved : (t : Token) (ts : List Token) (u : Token) → t ≡ ip_token h u → ts ≡ u ∷ [] → Fits p q h u.to → StandsBy kind p q g h t ts
-    -- at one that hands on: for what comes of it, which is something
+    -- at one that passes on: for what results from it, which is something
     through : (t : Token) (ts : List Token) (f ip : ℕ) (w v : Word) (j : Instr) → t ≡ token (To.Instr f ip Left) w → instr_at q ip ≡ Some j
         → HandsOn kind j.op w v → StandAllBy kind p q g h (to_all record { frame = f; ip = ip } v j) ts
         → (d : Dest) → Contains (j.firsts ++ j.seconds) d → Fresh p q h ip → StandsBy kind p q g h t ts
@@ -143,20 +143,20 @@ Stands p q g h = StandsBy IsValue p q g h
 abbrev pub StandAll : Program → Program → (ℕ → ℕ) → (ℕ → ℕ) → List Token → List Token → Type 0
 StandAll p q g h = StandAllBy IsValue p q g h
 
--- what comes of tokens as those that hand on fire among the ones at which they are, if they may
+-- what results from tokens as those that pass on fire among the ones at which they are, if they may
 pub data Settles (may : ℕ → ℕ → Type 0) (p : Program) : List Token → List Token → Type 0 where
   settled : (xs ys : List Token) → IsPermutation xs ys → Settles may p xs ys
   fired : (xs ys : List Token) (f a : ℕ) (w v : Word) (i : Instr) (rest : List Token) → IsPermutation xs (token (To.Instr f a Left) w ∷ rest)
       → instr_at p a ≡ Some i → HandsOn (λ w. ⊤) i.op w v
       → Settles may p (to_all record { frame = f; ip = a } v i ++ rest) ys → may f a → Settles may p xs ys
 
--- tokens of the new code stand for what comes of those of the old one
+-- tokens of the new code stand for what results from those of the old one
 pub record Clumped (p q : Program) (g h : ℕ → ℕ) (new old : List Token) : Type 0 where
   pub meant : List Token
   pub stand : StandAll p q g h new meant
   pub settles : Settles (Sends p q h new) p old meant
 
--- What comes of the old tokens has both operands of an operator: the word, and a value.
+-- What results from the old tokens has both operands of an operator: the word, and a value.
 pub record Pairs (p : Program) (old : List Token) (w : Word) : Type 0 where
   pub frame : ℕ
   pub a : ℕ
@@ -169,13 +169,13 @@ pub record Pairs (p : Program) (old : List Token) (w : Word) : Type 0 where
   pub op : i.op ≡ Apply2 o
   pub settles : Settles (λ f l. ⊤) p old (token (To.Instr frame a r) w ∷ token (To.Instr frame a (other_port r)) (Word.Val v) ∷ rest)
 
--- The new tokens stand for what comes of the old ones if the word is a value; and if this is needed, it can be told by an
--- operator that takes the word.
+-- The new tokens stand for what results from the old ones if the word is a value; and if this is needed, an operator that takes the
+-- word shows it.
 pub record Ready (p q : Program) (g h : ℕ → ℕ) (w : Word) (new old : List Token) : Type 0 where
   pub value : IsValue w → Clumped p q g h new old
   pub tells : Clumped p q g h new old ⊎ Pairs p old w
 
--- WAYS. One that hands on leads to the port.
+-- WAYS. One that passes on leads to the port.
 pub data Path (p q : Program) (h : ℕ → ℕ) : ℕ → Spot → Type 0 where
   at_end : (ip : ℕ) (x : Spot) (j : Instr) (d : Dest) → instr_at q ip ≡ Some j → hands_on j.op ≡ true → Fresh p q h ip → Contains (j.firsts ++ j.seconds) d
       → ip + d.ahead ≡ h x.0 → d.port ≡ x.1 → Path p q h ip x
@@ -195,7 +195,7 @@ pub record Leads (p q : Program) (g h : ℕ → ℕ) (ip : ℕ) (ds : List Dest)
   pub ways : (e : Dest) → Contains es e → Plain p q h (a + e.ahead) → Way p q h ip ds (a + e.ahead, e.port)
   pub overs : (e : Dest) → Contains es e → (K : Skips p q h (a + e.ahead)) → Way p q h ip ds (a + e.ahead + K.d.ahead, K.d.port)
 
--- what it enters stands where it stood
+-- what it enters is where it was
 abbrev pub Enters : Program → Program → (ℕ → ℕ) → Op → Type 0
 Enters p q h (Link b) = (h (first_of p b) ≡ first_of q b) × Plain p q h (first_of p b)
 Enters p q h (Send b e) = (h (first_of p b + e) ≡ first_of q b + e) × Plain p q h (first_of p b + e)
@@ -235,7 +235,7 @@ pub record Relates (p q : Plan) : Type 0 where
   pub entries : (n : ℕ) → n ≤ inputs_of p
       → (h (first_of p.program p.program.main + n) ≡ first_of q.program q.program.main + n)
       × Plain p.program q.program h (first_of p.program p.program.main + n)
-  -- where answers come
+  -- where answers go
   pub answers : (a : ℕ) (i : Instr) → instr_at p.program a ≡ Some i → is_answered i.op ≡ true
       → (d : Dest) × (i.firsts ≡ d ∷ []) × Plain p.program q.program h (a + d.ahead)
   -- each has its holder
@@ -244,7 +244,7 @@ pub record Relates (p q : Plan) : Type 0 where
   pub apart : (a b : ℕ) → Plain p.program q.program h a → Plain p.program q.program h b → h a ≡ h b → a ≡ b
   pub pairs_apart : (a b : ℕ) (i k j : Instr) (o u : Binary) → instr_at p.program a ≡ Some i → instr_at p.program b ≡ Some k → i.op ≡ Apply2 o → k.op ≡ Apply2 u
       → instr_at q.program (g a) ≡ Some j → g a ≡ g b → a ≡ b
-  -- what hands on leads ahead
+  -- what passes on leads ahead
   pub later : (ip : ℕ) (j : Instr) (d : Dest) → instr_at q.program ip ≡ Some j → hands_on j.op ≡ true → Fresh p.program q.program h ip
       → Contains (j.firsts ++ j.seconds) d → 0 < d.ahead
 
@@ -266,7 +266,7 @@ Goes p q h (Ask o) (Word.Back (Cont.Frame f base r)) = (h (base + o) ≡ h base 
 Goes p q h (Release o) (Word.Back (Cont.Frame f base r)) = (h (base + o) ≡ h base + o) × Plain p q h (base + o)
 Goes p q h op w = ⊤
 
--- of the left word that is there when the token comes.
+-- of the left word that is there when the token arrives.
 abbrev pub Arrives : Program → Program → (ℕ → ℕ) → Op → SlotState → Port → Word → Type 0
 Arrives p q h op (Slot.Left l) Right w = Goes p q h op l
 Arrives p q h op (Slot.Right r) Left w = Goes p q h op w
@@ -278,7 +278,7 @@ is_pair (Apply2Right o z) = true
 is_pair (Apply2Left o z) = true
 is_pair op = false
 
--- PORTS. A port of the new code stands for one of the old: that of what hands on for one after it.
+-- PORTS. A port of the new code stands for one of the old: the port of what passes on for one after it.
 pub data Leaf (p q : Program) (g h : ℕ → ℕ) : ℕ → Port → Spot → Type 0 where
   at_moved : (ip : ℕ) (r : Port) (x : Spot) (a : ℕ) → ip ≡ h a → Plain p q h a → x ≡ (a, r) → Leaf p q g h ip r x
   at_pair : (ip : ℕ) (r : Port) (x : Spot) (a : ℕ) (i j : Instr) (o : Binary) → ip ≡ g a → instr_at p a ≡ Some i → i.op ≡ Apply2 o
@@ -295,7 +295,8 @@ counts_none (Apply2Right o z) = true
 counts_none (Apply2Left o z) = true
 counts_none op = false
 
--- THE PRINCIPLE. The tokens of the new code stand for those of the old one, and what order and bounds ask of instructions is so in their new places.
+-- THE PRINCIPLE. The tokens of the new code stand for those of the old one, and what order and bounds require of instructions holds in their new
+-- places.
 pub record Simulates (p q : Plan) : Type 0 where
   pub relates : Relates p q
   -- what grants, releases or is answered stands for itself, and where it is in the new code it was in the old one
@@ -321,6 +322,6 @@ pub record Simulates (p q : Plan) : Type 0 where
 abbrev pub RelatedRunsAlike : Type 0
 RelatedRunsAlike = (p q : Plan) → Relates p q → IsWired p → Orderly p → LandsRightly p → RunsAlike p q
 
--- and so all that passes are to keep is kept.
+-- and so all that passes must keep is kept.
 abbrev pub SimulationKeeps : Type 0
 SimulationKeeps = (p q : Plan) → Simulates p q → IsWired p → Orderly p → LandsRightly p → Keeps p q

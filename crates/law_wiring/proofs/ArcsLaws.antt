@@ -1,5 +1,5 @@
 -- Where the arcs of the plan of a well-formed graph lead, read off its wires: a destination is the place of an inlet, and what has an
--- inlet stands first in its row.
+-- inlet is first in its row.
 use Rattle.std.proofs.Common.{◌≡◌, ℕ, zero, suc, ◌+◌, ◌-◌, ◌<◌, ◌≤◌, Bool, true, false, ◌&&◌, ◌||◌, ◌⊎◌, inl, inr, List, [], ◌∷◌, ◌++◌, map, length}
 use Rattle.std.proofs.Common.{refl, sym, ap, ◌∙◌, subst, arith, if◌then◌else◌, Option, Some, None, nat_lt, lt-ltb, le-ltb}
 use Rattle.std.specs.Prelude.{slice_get, Contains, flat_map}
@@ -127,7 +127,7 @@ MeetsAt is n = (j : Instr) × (slice_get is n ≡ Some j) × (is_dyadic j.op ≡
 meets_bytes : (is : List Instr) (n : ℕ) → MeetsAt is n → Bytes.is_dyadic (slice_get is n) ≡ true
 meets_bytes is n h = ap Bytes.is_dyadic h.1 ∙ dyadic_slot h.0 h.0.op h.2
 
--- PARTS. What stands in a row, but not first
+-- PARTS. What is in a row, but not first
 abbrev is_behind : Block ℕ → Part → Bool
 is_behind b Entry = true
 is_behind b (Line n) = nat_lt n b.inputs
@@ -305,7 +305,7 @@ module _ (g : Graph) (text : HasText g) (well : WellFormed g) where
     landing_there : (n j : ℕ) → invokes b n ≡ true → j < result_count fl b n → IsThere (Landing n j)
     landing_there n j h l = ap (λ t. t && nat_lt j (result_count fl b n)) h ∙ lt-ltb j (result_count fl b n) l
 
-    -- what stands in a landing
+    -- what is in a landing
     record InRow (n j : ℕ) : Type 0 where
       part : Part
       there : IsThere part

@@ -58,7 +58,7 @@ length_linked [] n s d = refl
 length_linked (i ∷ is) zero s d = refl
 length_linked (i ∷ is) (suc n) s d = ap suc (length_linked is n s d)
 
--- an instruction stands as it stood, or is the one with the new destination
+-- an instruction is as it was, or is the one with the new destination
 pub get_linked : (is : List Instr) (n : ℕ) (s : Bool) (d : Dest) (m : ℕ) (i : Instr) → slice_get (linked_in is n s d) m ≡ Some i
     → ((m ≡ n → ⊥) × (slice_get is m ≡ Some i)) ⊎ ((m ≡ n) × (j : Instr) × (slice_get is n ≡ Some j) × (with_dest j s d ≡ i))
 get_linked [] n s d m i e = absurd (cc)

@@ -1,4 +1,4 @@
--- The loops of a code block open with the bounds of its graph block, its switches alone are marked, and its holders are
+-- The loops of a code block open with the bounds of its graph block, only its switches are marked, and its holders are
 -- numbered in order.
 use Rattle.std.proofs.Common.{◌≡◌, ℕ, zero, suc, ◌+◌, ◌-◌, Bool, true, false, List, [], ◌∷◌, ◌++◌, refl, sym, ap, ◌∙◌, subst, append_assoc, append-nil}
 use Rattle.std.proofs.Common.{if◌then◌else◌, Option}

@@ -246,7 +246,7 @@ module _ (g : Graph) (well : WellFormed g) where
     same_length [] = refl
     same_length (x ∷ ns) = ap suc (same_length ns)
 
-    -- where a node stands
+    -- where a node is
     node_slot : (n : ℕ) (x : Node ℕ) → node_at (block_in g b) n ≡ Some x
         → (slice_get (block_in g b).nodes (n - b.inputs) ≡ Some x) × (n - b.inputs < length (block_in g b).nodes)
     node_slot n x e = go (nat_lt n b.inputs) e

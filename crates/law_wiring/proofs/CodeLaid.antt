@@ -1,4 +1,4 @@
--- The laws of a plain block's layout, put together.
+-- The laws of a plain block's layout, joined together.
 use Rattle.std.proofs.Common.{◌≡◌, ℕ, zero, suc, ◌+◌, ◌-◌, ◌<◌, ◌≤◌, ◌⊎◌, inl, inr, Bool, true, false, not, ◌&&◌, ◌||◌, List, [], ◌∷◌, ◌++◌, map, length, refl}
 use Rattle.std.proofs.Common.{sym, ap, ◌∙◌, subst, arith, append_assoc, if◌then◌else◌, Some, None, Option, Contains, nat_lt}
 use Rattle.std.specs.Prelude.{slice_get, count_by}
@@ -245,7 +245,7 @@ module _ (fl : Flow) (S : Site) (c : CodeBlock) (fit : IsFit fl S.block) (turned
   wiring_is : W ≡ (wires_of fl).wiring S.own
   wiring_is = ap (λ ps. wiring_of b ps c.instrs) (sym (parts_agree fl S fit turned (placed fl S c fit turned facts))) ∙ facts.wiring
 
-  -- each instruction of a loop comes after its opener, with no other one between
+  -- each instruction of a loop is after its opener, with no other one between
   credits_meet : CreditsMeet
   credits_meet n h = go (node_at b n) refl h
     where

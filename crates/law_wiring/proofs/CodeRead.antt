@@ -1,4 +1,4 @@
--- What is read of each code block of the plan of a well-formed graph: its parts stand in it, and its wires are lawful.
+-- What is read of each code block of the plan of a well-formed graph: its parts are in it, and its wires are lawful.
 use Rattle.std.proofs.Common.{◌≡◌, ℕ, ◌⊎◌, inl, inr, true, sym, ap, ◌∙◌, subst, Some}
 use Rattle.std.specs.Prelude.{slice_get}
 use Rattle.std.proofs.lemmas.Option.{slice_get_within, same_Some}

@@ -1,4 +1,4 @@
--- Rows of a block's code: its entries, and the landing of each invocation with what stands after it and before it.
+-- Rows of a block's code: its entries, and the landing of each invocation with what is after it and before it.
 use Rattle.std.proofs.Common.{◌≡◌, ℕ, suc, ◌+◌, ◌-◌, ◌<◌, ◌≤◌, ◌⊎◌, inl, inr, Bool, true, false, ◌&&◌, ◌||◌, List, [], ◌∷◌, ◌++◌, length, refl, sym, ap, ◌∙◌}
 use Rattle.std.proofs.Common.{subst, arith, Some, None, Option, nat_lt, length-append}
 use Rattle.std.specs.Prelude.{slice_get}
@@ -91,7 +91,7 @@ module _ (fl : Flow) (S : Site) (c : CodeBlock) (fit : IsFit fl S.block) (turned
                     (subst (λ (z : Node ℕ). Stand place m (kind_parts fl S k (length z.sources) z.kind)) its here),
               )
 
-  -- an invocation's landing, and what stands after it
+  -- an invocation's landing, and what is after it
   record Lands (n q at : ℕ) : Type 0 where
     each_result : (j : ℕ) → j < q → place (Landing n j) ≡ at + j
 
@@ -111,7 +111,7 @@ module _ (fl : Flow) (S : Site) (c : CodeBlock) (fit : IsFit fl S.block) (turned
       let a = length-append (row (Sender n) 0 m) (row (Landing n) 0 q) in let c = row_length (Sender n) 0 m in let d = row_length (Landing n) 0 q in
       omega (arith, a, c, d)
 
-  -- what stands after an invocation
+  -- what is after an invocation
   record Invoked (n q : ℕ) (rest : List Part) : Type 0 where
     at : ℕ
     lands : Lands n q at

@@ -262,7 +262,7 @@ module _ (fl : Flow) (S : Site) (c : CodeBlock) (fit : IsFit fl S.block) (turned
   no_answers Parts.Asker h = inr (inlet Parts.NextFramer Left 0, refl)
   no_answers r h = inl refl
 
-  -- no wire that is written down leaves there, and there is one destination if the machine answers, and else none
+  -- no wire that is written down leaves there, and there is one destination if the machine answers, and otherwise none
   arcs_at : (r : Part) (s : Bool) → has_no_wire r ≡ true
       → (More.size (side r s) (arcs_in fl S) ≤ answers r s) × (More.size (side r s) (wires_in fl S) ≡ 0)
   arcs_at r s n = arcs_of_answers fl S r s (no_wire_leaves fl S fit turned (side r s) (inr n)) n

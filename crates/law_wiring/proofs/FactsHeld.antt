@@ -1,4 +1,4 @@
--- What a code block's holders keep to, from how its instructions were added.
+-- What holds of a code block's holders, from how its instructions were added.
 use Rattle.std.proofs.Common.{◌≡◌, ℕ, ◌<◌, ◌⊎◌, ◌&&◌, Bool, true, false, refl, sym, ap, ◌∙◌, subst, inl, inr, Some}
 use Rattle.std.specs.Prelude.{slice_get, Contains}
 use Rattle.lemmas.proofs.Contains.{contains_get}

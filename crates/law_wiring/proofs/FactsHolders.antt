@@ -73,7 +73,7 @@ no_open (Give k) e = refl
 no_open (Drain k) e = refl
 no_open (Release x) e = refl
 
--- WHAT IS KEPT, of instructions without their destinations
+-- WHAT HOLDS, of instructions without their destinations
 abbrev pub OpenAt : List Instr → ℕ → ℕ → Type 0
 OpenAt hs k slot = (m : ℕ) × (i : Instr) × (slice_get hs m ≡ Some i) × (i.op ≡ Open k) × (i.slot ≡ slot)
 
@@ -120,7 +120,7 @@ stage_push (Giving xs k) hs x slot e h =
     (open_push hs x k slot h.0, fresh_push hs x slot (Takes k) h.1 (λ f. cc), fresh_push hs x slot (Drains k) h.2 (λ f. cc))
 stage_push (Taking xs k) hs x slot e h = (open_push hs x k slot h.0, fresh_push hs x slot (Drains k) h.1 (λ f. cc))
 
--- what is kept of the part of a loop that an instruction may be
+-- what holds of the part of a loop that an instruction may be
 abbrev Later : List Instr → Instr → Type 0
 Later hs x = is_later x.op ≡ true → OpenAt hs (bound_of (part_of x.op)) x.slot × Fresh hs x.slot (part_of x.op)
 

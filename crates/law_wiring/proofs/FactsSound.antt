@@ -54,7 +54,7 @@ is_plan fl shapes = record {
   marked = (plans_mark_rightly fl).marked;
 }
 
--- what an arc of a plan keeps to
+-- what holds of an arc of a plan
 abbrev pub EntriesAreFree : Plan → Type 0
 EntriesAreFree p = (b : ℕ) (c : CodeBlock) (x : Arc) → slice_get p.program.blocks b ≡ Some c → Contains (arcs_of p 0 c.instrs) x → c.inputs < x.to.place
 

@@ -37,7 +37,7 @@ use Rattle.law_wiring.proofs.FedOnce.{IsWired, test}
 use Rattle.law_wiring.proofs.FedEnds.{TurnsWell, all_feed}
 use Rattle.law_wiring.proofs.FedFrom.{From, all_from}
 
--- ONE ALONE: it comes along one side
+-- ONE ALONE: it is fed along one side
 none_along : (b : Block ℕ) (x : Inlet) (t : Side) (ws : List Wire) → tally (λ w. same_inlet x (inlet_of b w)) ws ≡ 0 → hits x (along b t ws) ≡ 0
 none_along b x t [] h = refl
 none_along b x t (w ∷ ws) h = go (same_side t w.from) (none_along b x t ws)
@@ -299,7 +299,7 @@ module _ (fl : Flow) (s : Site) (fit : IsFit fl s.block) where
       (closed_local s.block.inputs s.block.nodes (close_flag s.block s.turns (inner fl s)) (flag_local s.turns (inner fl s) first))
       (all_both Local (joined_wires Root (root_ends fl s)) end (joined_local Root (root_ends fl s)) ((refl, refl), end_local (root_ends fl s)))
 
-  -- no wire leaves a side that a part has not, or a part that has none
+  -- no wire leaves a side that a part does not have, or a part that has none
   all_apart : (t : Side) (ws : List Wire) → (is_side t ≡ false) ⊎ (has_no_wire t.part ≡ true) → AllW (From (λ u. In u (sides (parts_in fl s)))) ws
       → AllW (λ v. t ≢ v.from) ws
   all_apart t [] e k = tt

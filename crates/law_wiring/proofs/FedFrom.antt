@@ -39,7 +39,7 @@ use Rattle.law_wiring.proofs.WrittenSides.{row_in, exit_side, fanned_in}
 use Rattle.law_wiring.proofs.WrittenBoth.{inner_side}
 use Rattle.law_wiring.proofs.FedEnds.{TurnsWell}
 
--- sides that are kept
+-- sides of which a statement holds
 module _ (S : Side → Type 0) where
   abbrev pub From : Wire → Type 0
   From v = S v.from

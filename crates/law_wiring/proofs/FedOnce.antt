@@ -187,7 +187,7 @@ module _ (b : Block ℕ) (r : Part) (q : Port) (y : ℕ) (h : IsWired b y q r) w
   gates_feed s n Root xs e = absurd (e refl)
   gates_feed s n (Arm k t) xs e = let a = double (Gate n) (leaves s (first_source xs)) (leaves s (predicate_of s.block k)) (λ w. w) (λ w. w) in omega (arith, a)
 
-  -- a part with one port, to which a wire comes from each arm
+  -- a part with one port, to which a wire leads from each arm
   pub two_arms : (p : Part) (f g : Side) → wired_port b p Right ≡ false → (wired_way p y ≡ true → nat_lt y 2 ≡ true)
       → way_in p (leaves_in b f.part f.second) ≡ 0 → way_in p (leaves_in b g.part g.second) ≡ 1
       → Feeds (wire f p Left ∷ wire g p Left ∷ []) (p ∷ [])

@@ -1,5 +1,5 @@
--- What each step of a builder keeps, the code of each block has: the one induction over how code is built. A builder adds
--- instructions, links them, and notes where nodes leave. What is kept may depend on the loops so far (`Stage`), and may rest
+-- What each step of a builder keeps holds of the code of each block: the one induction over how code is built. A builder adds
+-- instructions, links them, and notes where nodes leave. What a step keeps may depend on the loops so far (`Stage`), and may rest
 -- on what is allowed to be added (`Allows`).
 use Rattle.std.proofs.Common.{◌≡◌, ℕ, zero, suc, ◌+◌, ◌<◌, ◌≤◌, Bool, true, false, List, [], ◌∷◌, ◌++◌, length, refl, sym, ap, ◌∙◌, subst, arith}
 use Rattle.std.proofs.Common.{append-nil, append_assoc, if◌then◌else◌, Option, Some, None}
@@ -39,7 +39,7 @@ use Rattle.schemas.specs.Ends.{closed_nodes, released, ends_of}
 use Rattle.schemas.specs.Blocks.{answered, entered, repeated, with_kind, with_node, with_nodes, with_inputs, entries, body, finished, plain_build}
 use Rattle.schemas.specs.Blocks.{variant_build, outputs_of, variant_of}
 
--- STAGES: the bounds of the loops so far, and which of the last one's instructions came last
+-- STAGES: the bounds of the loops so far, and which of the last loop's instructions was added last
 pub data Stage : Type 0 where
   Idle : (bounds : List ℕ) → Stage
   Opening : (bounds : List ℕ) (bound : ℕ) → Stage

@@ -1,4 +1,4 @@
--- A builder's instructions stand as the parts of a list, with destinations as the wires of a list: how each step adds to both.
+-- A builder's instructions are laid out as the parts of a list, with destinations as the wires of a list: how each step adds to both.
 use Rattle.std.proofs.Common.{◌≡◌, ◌≢◌, ℕ, suc, ◌+◌, ◌-◌, ◌<◌, ◌≤◌, ◌⊎◌, inl, inr, Bool, true, false, ◌&&◌, List, [], ◌∷◌, ◌++◌, length, refl, sym, ap, ◌∙◌}
 use Rattle.std.proofs.Common.{subst, arith, append-nil, append_assoc, if◌then◌else◌, Some}
 use Rattle.std.specs.Prelude.{slice_get, slice_index_or, ⊤, Contains}
@@ -30,7 +30,7 @@ use Rattle.law_net.proofs.ContextsSames.{same_part-refl}
 use Rattle.law_wiring.specs.Written.{Wire, wire, same_side, same_bool, leaves, leaves_at, is_triggered, trigger_side}
 use Rattle.law_wiring.specs.WrittenFit.{IsPrior, port_count}
 
--- `place`: where each part of the whole block stands
+-- `place`: where each part of the whole block is
 pub record Env : Type 0 where
   pub flow : Flow
   pub variant : ℕ → ℕ
@@ -38,7 +38,7 @@ pub record Env : Type 0 where
   pub place : Part → ℕ
   pub apart : (r q : Part) → same_part r q ≡ true → place r ≡ place q
 
--- the region of a switch is told by its mark; and some parts of a turn, which are no ends, are noted in the root
+-- the region of a switch is determined by its mark; and some parts of a turn, which are no ends, are noted in the root
 abbrev pub has_region : Part → Bool
 has_region (Trigger k) = false
 has_region (Gate n) = false
@@ -125,7 +125,7 @@ goes_ahead e t (w ∷ ws) m d h c = go (same_side t w.from) refl c (goes_ahead e
     go true q c more = elim (contains_cases (dest e w) (goes e t ws) d c) as (λ x. LiesAhead e t m d) [ inl same ↦ here q same | inr old ↦ more old ]
     go false q c more = more c
 
--- STANDING
+-- WHAT IS LAID OUT
 pub record IsAt (e : Env) (ws : List Wire) (r : Part) (i : Instr) : Type 0 where
   pub op : i.op ≡ op_of e.variant e.site r
   pub origin : i.origin ≡ origin_of e.flow e.site r
@@ -276,7 +276,7 @@ laid_connected e b rs ws o to w l out t up = record {
         let old = l.instrs at w.from.part z.1 out.part z.2 in
         subst (λ u. IsAt e (ws ++ w ∷ []) u i) part (subst (λ u. IsAt e (ws ++ w ∷ []) w.from.part u) z.3 (with_it e ws w z.1 o.second d same out.second old))
 
--- to the part that came last
+-- to the part that was added last
 pub laid_linked : (e : Env) (b : Build) (rs : List Part) (ws : List Wire) (o : Outlet) (to : ℕ) (w : Wire) → IsLaid e b (rs ++ w.part ∷ []) ws
     → OutAt rs o w.from → to ≡ e.place w.part → IsLaid e (connected b o to w.port) (rs ++ w.part ∷ []) (ws ++ w ∷ [])
 laid_linked e b rs ws o to w l out t =

@@ -1,4 +1,4 @@
--- The arcs of a block are its wires, but where the machine answers.
+-- The arcs of a block are its wires, except where the machine answers.
 use Rattle.std.proofs.Common.{◌≡◌, ℕ, ◌+◌, Bool, true, false, List, [], ◌∷◌, ◌++◌, length, refl, sym, ap, ◌∙◌, append-nil, append_assoc, if◌then◌else◌}
 use Rattle.tags.specs.declared.token.Port.TheVariants.{Left, Right}
 use Rattle.semantics.specs.declared.graph.Region.{Region}
@@ -23,7 +23,7 @@ use Rattle.law_wiring.proofs.LaidArcs.{invoke_arcs, strict_call_arcs, credit_arc
 use Rattle.law_wiring.proofs.LaidArcs.{closed_with, root_with, wires_with, arcs_in}
 
 module _ (e : Env) where
-  -- the same wires leave each side, but where the machine answers
+  -- the same wires leave each side, except where the machine answers
   abbrev pub Agree : List Wire → List Wire → Type 0
   Agree vs ws = (t : Side) → has_no_wire t.part ≡ false → goes e t vs ≡ goes e t ws
 
@@ -243,7 +243,7 @@ module _ (fl : Flow) (s : Site) where
       (Written.joined_wires Root (root_with fl s [])
       ++ (wire (side Entry false) Parts.End Left ∷ Written.signal_wires Root (root_with fl s []) Parts.End Right))
 
-  -- the arcs are the wires, but where the machine answers
+  -- the arcs are the wires, except where the machine answers
   pub arcs_agree : (e : Env) → Agree e (arcs_in fl s) (wires_in fl s)
   arcs_agree e t n =
       ap (goes e t) (wires_split (inner_arcs s))

@@ -1,4 +1,4 @@
--- The entries, the nodes and the results of a block stand as they are written down.
+-- The entries, the nodes and the results of a block are laid out as they are written down.
 use Rattle.std.proofs.Common.{◌≡◌, ℕ, zero, suc, ◌+◌, ◌-◌, ◌<◌, ◌≤◌, Bool, true, false, List, [], ◌∷◌, ◌++◌, length, refl, sym, ap, ◌∙◌, subst, arith}
 use Rattle.std.proofs.Common.{append-nil, append_assoc, if◌then◌else◌, Some, None, Option, All, length-append}
 use Rattle.std.specs.Prelude.{slice_get}

@@ -1,4 +1,4 @@
--- The code of calls, strict calls and loops stands as it is written down.
+-- The code of calls, strict calls and loops is laid out as it is written down.
 use Rattle.std.proofs.Common.{◌≡◌, ℕ, zero, suc, ◌+◌, ◌-◌, ◌<◌, ◌≤◌, true, false, List, [], ◌∷◌, ◌++◌, length, refl, sym, ap, ◌∙◌, subst, arith, append-nil}
 use Rattle.std.proofs.Common.{append_assoc, Some, All, length-append}
 use Rattle.std.specs.Prelude.{slice_get}

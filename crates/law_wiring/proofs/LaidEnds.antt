@@ -1,4 +1,4 @@
--- The ends of each region stand as they are written down.
+-- The ends of each region are laid out as they are written down.
 use Rattle.std.proofs.Common.{◌≡◌, ℕ, suc, ◌+◌, Bool, true, false, not, ◌&&◌, List, [], ◌∷◌, ◌++◌, length, refl, sym, ap, ◌∙◌, subst, arith, append-nil}
 use Rattle.std.proofs.Common.{append_assoc, if◌then◌else◌, Some, None, Option}
 use Rattle.std.specs.Prelude.{slice_get, ⊤}

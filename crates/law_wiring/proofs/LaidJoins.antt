@@ -1,4 +1,4 @@
--- The chains that join the ends of a region, and the ends of conditionals, stand as they are written down.
+-- The chains that join the ends of a region, and the ends of conditionals, are laid out as they are written down.
 use Rattle.std.proofs.Common.{◌≡◌, ℕ, ◌+◌, Bool, true, false, List, [], ◌∷◌, ◌++◌, length, refl, sym, ap, ◌∙◌, subst, arith, append-nil, append_assoc}
 use Rattle.std.proofs.Common.{if◌then◌else◌, Some, None, Option, ◌⊎◌, inl, inr, length-append}
 use Rattle.std.specs.Prelude.{slice_get}

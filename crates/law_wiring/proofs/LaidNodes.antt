@@ -1,4 +1,4 @@
--- The code of each kind of node stands as it is written down, but for calls and loops.
+-- The code of each kind of node, except calls and loops, is laid out as it is written down.
 use Rattle.std.proofs.Common.{◌≡◌, ℕ, suc, ◌+◌, ◌<◌, Bool, true, false, List, [], ◌∷◌, ◌++◌, length, refl, sym, ap, ◌∙◌, subst, arith, append-nil, append_assoc}
 use Rattle.std.proofs.Common.{if◌then◌else◌, Some, None, Option, All}
 use Rattle.std.specs.Prelude.{slice_get}
@@ -110,14 +110,14 @@ module _ (fl : Flow) (s : Site) (place : Part → ℕ) (apart : (r q : Part) →
     entry = out_more rs (r ∷ []) (first_of 0) (side Entry false) h.entry;
   }
 
-  -- the part that came last
+  -- the part that was added last
   pub out_here : (c : Build) (rs : List Part) (r : Part) (second : Bool) → length c.instrs ≡ length rs
       → OutAt (rs ++ r ∷ []) (outlet (length c.instrs) 0 second) (side r second)
   out_here c rs r second size =
       let zeroless : length c.instrs + 0 ≡ length rs = omega (arith, size) in
       record { part = ap (slice_get (rs ++ r ∷ [])) zeroless ∙ get_new rs r; second = refl }
 
-  -- SOURCES, to the part that came last
+  -- SOURCES, to the part that was added last
   abbrev Sources : Build → List Part → ℕ → Type 0
   Sources c rs n = (x : Source) → Before n x → OutAt rs (outlet_of c x) (leaves s x)
 
@@ -186,7 +186,7 @@ module _ (fl : Flow) (s : Site) (place : Part → ℕ) (apart : (r q : Part) →
       → kind_ports fl (length node.sources) node.kind ≡ 1 → cond_kind node.kind ≡ false → LeavesAt n t
   leaves_by n node t e f p c = record { at = λ q. its_exit n q node e ∙ f q; one = its_ports n node e ∙ p; no_cond = its_cond n node e ∙ c }
 
-  -- a node's exit, at the part that came last
+  -- a node's exit, at the part that was added last
   pub leaves_there : (c : Build) (rs : List Part) (r : Part) (ws : List Wire) (n at : ℕ) (second : Bool) → Grown c (rs ++ r ∷ []) ws n → at ≡ length rs
       → LeavesAt n (side r second)
       → Grown (exited c (outlet at 0 second)) (rs ++ r ∷ []) ws (n + 1)

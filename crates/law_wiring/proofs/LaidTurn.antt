@@ -1,4 +1,4 @@
--- The code of a loop's turn stands as it is written down.
+-- The code of a loop's turn is laid out as it is written down.
 use Rattle.std.proofs.Common.{◌≡◌, ℕ, zero, suc, ◌+◌, ◌<◌, ◌≤◌, Bool, true, false, List, [], ◌∷◌, ◌++◌, length, refl, sym, ap, ◌∙◌, subst, arith, append-nil}
 use Rattle.std.proofs.Common.{append_assoc, All, length-append}
 use Rattle.std.specs.Prelude.{slice_get}

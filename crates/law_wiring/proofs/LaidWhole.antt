@@ -1,4 +1,4 @@
--- The whole code of a block stands as it is written down.
+-- The whole code of a block is laid out as it is written down.
 use Rattle.std.proofs.Common.{◌≡◌, ℕ, suc, ◌+◌, Bool, true, false, List, [], ◌∷◌, ◌++◌, length, refl, sym, ap, ◌∙◌, subst, arith, append_assoc, if◌then◌else◌}
 use Rattle.std.proofs.Common.{Some, None, length-append}
 use Rattle.std.specs.Prelude.{slice_get}

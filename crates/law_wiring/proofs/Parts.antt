@@ -1,4 +1,4 @@
--- Which parts the nodes of a block have: each that is there stands once among those that are written down.
+-- Which parts the nodes of a block have: each that is there occurs once among those that are written down.
 use Rattle.std.proofs.Common.{◌≡◌, ◌≢◌, ℕ, zero, suc, ◌+◌, ◌-◌, ◌<◌, ◌≤◌, ◌⊎◌, inl, inr, Bool, true, false, ◌&&◌, List, [], ◌∷◌, ◌++◌, length, refl, sym, ap}
 use Rattle.std.proofs.Common.{◌∙◌, arith, if◌then◌else◌, Some, None, Option, nat_lt, ◌==◌}
 use Rattle.std.specs.Prelude.{slice_get}
@@ -320,7 +320,7 @@ module _ (fl : Flow) (s : Site) where
       let l = ap one (h (LoopDone j) (equal_itself j)) in
       omega (arith, a, i, o, g, t, d, l)
 
-  -- how often a part stands among those of a node
+  -- how often a part occurs among those of a node
   pub kind_count : (r : Part) (k m : ℕ) (x : Kind ℕ) → tally (same_part r) (kind_parts fl s k m x) ≡ one (kind_has fl s k m x r && of_node k r)
   kind_count r k m Cond = cond_count r k (is_triggered b k)
   kind_count r k m Enter = enter_count r k
@@ -400,7 +400,7 @@ module _ (fl : Flow) (s : Site) where
           (λ j x l f. other j x (λ q. let g = sym f ∙ ap (node_at s.block) q ∙ e in absurd (cc)) f)
       go (Some x) e = let w = node_within s.block k x e in nodes_one fl s p s.block.inputs k x s.block.nodes (follow s.block) w.0 w.1 e other ∙ here x e
 
-  -- a part of a node stands among the nodes' parts if the node has it
+  -- a part of a node occurs among the nodes' parts if the node has it
   pub node_count_is : (r : Part) (k : ℕ) → of_node k r ≡ true → tally (same_part r) nodes_of ≡ one (has_node (λ m x. kind_has fl s k m x r) s.block k)
   node_count_is r k h =
       at_node (same_part r) (λ m x. kind_has fl s k m x r) k

@@ -127,7 +127,7 @@ module _ (fl : Flow) (S : Site) (fit : IsFit fl S.block) (turned : HasTurns S) w
       Blocks_side : ℕ → Side
       Blocks_side k = record { part = CondEnd k; second = false }
 
-  -- the parts of the ends so far, after what came before
+  -- the parts of the ends so far, after what was before
   record Matches (x : Ended) (q : Ending) (y : Ended) : Type 0 where
     parts : x.parts ++ q.parts ≡ y.parts
     regions : q.regions ≡ map region y.ends

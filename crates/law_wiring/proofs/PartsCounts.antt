@@ -1,4 +1,4 @@
--- How often a part stands in the parts of a block: once, if it is there, and else never.
+-- How often a part occurs in the parts of a block: once, if it is there, and otherwise never.
 use Rattle.std.proofs.Common.{◌≡◌, ◌≢◌, ℕ, zero, suc, ◌+◌, ◌<◌, ◌≤◌, ◌⊎◌, inl, inr, Bool, true, false, List, [], ◌∷◌, ◌++◌, length, refl, sym, ap, ◌∙◌, arith}
 use Rattle.std.proofs.Common.{if◌then◌else◌, Some, None, nat_lt, ◌==◌}
 use Rattle.std.specs.Prelude.{slice_get, count_by}

@@ -1,4 +1,4 @@
--- Each part of a block stands once, and in its place.
+-- Each part of a block occurs once, and in its place.
 use Rattle.std.proofs.Common.{◌≡◌, ◌≢◌, ℕ, suc, ◌+◌, ◌-◌, ◌<◌, ◌≤◌, ◌⊎◌, inl, inr, Bool, true, false, not, ◌&&◌, ◌||◌, List, [], ◌∷◌, ◌++◌, length, refl, sym}
 use Rattle.std.proofs.Common.{ap, ◌∙◌, subst, arith, append_assoc, if◌then◌else◌, Some, None, nat_lt, ◌==◌}
 use Rattle.std.specs.Prelude.{slice_get, count_by}

@@ -1,4 +1,4 @@
--- Where the parts of a list stand, and the wires of a side read off its destinations.
+-- Where the parts of a list are, and the wires of a side read off its destinations.
 use Rattle.std.proofs.Common.{◌≡◌, ℕ, zero, suc, ◌+◌, ◌-◌, ◌<◌, ◌≤◌, ◌⊎◌, inl, inr, Bool, true, false, List, [], ◌∷◌, map, length, refl, sym, ap, ◌∙◌, arith}
 use Rattle.std.proofs.Common.{if◌then◌else◌, Some, Contains}
 use Rattle.std.specs.Prelude.{slice_get, slice_index_or, ⊤}
@@ -82,7 +82,7 @@ module _ (P : List Part) (placed : Stand (λ r. place_from r 0 P) 0 P) where
   pub found : (m : ℕ) (r : Part) → place r ≡ m → m < length P → slice_get P m ≡ Some r
   found m r e l = at_place r 0 m P (e ∙ omega arith) l
 
-  -- what stands at a place
+  -- what is at a place
   back : (m : ℕ) → m < length P → place (slice_index_or P m Entry) ≡ m
   back m l = let x = some P m l in ap place (index_is P m x.0 Entry x.1) ∙ stand_get place 0 m P x.0 placed x.1 ∙ omega arith
     where

@@ -1,10 +1,10 @@
--- Parts that stand one after the other, and rows of them.
+-- Parts that are placed one after the other, and rows of them.
 use Rattle.std.proofs.Common.{◌≡◌, ℕ, zero, suc, ◌+◌, ◌<◌, List, [], ◌∷◌, ◌++◌, length, refl, ap, ◌∙◌, subst, arith}
 use Rattle.std.specs.Prelude.{⊤}
 use Rattle.law_net.specs.ContextsParts.{Part}
 use Rattle.law_net.specs.ContextsExpanded.{row}
 
--- parts stand one after the other, from a place on
+-- parts are placed one after the other, from a place on
 abbrev pub Stand : (Part → ℕ) → ℕ → List Part → Type 0
 Stand place m [] = ⊤
 Stand place m (r ∷ rs) = (place r ≡ m) × Stand place (suc m) rs

@@ -1,4 +1,4 @@
--- A part stands once among the parts that are written down if it is there, and else never.
+-- A part occurs once among the parts that are written down if it is there, and otherwise never.
 use Rattle.std.proofs.Common.{◌≡◌, ◌≢◌, ℕ, ◌+◌, ◌-◌, ◌<◌, ◌≤◌, Bool, true, false, ◌&&◌, ◌||◌, List, [], ◌∷◌, ◌++◌, length, refl, sym, ap, ◌∙◌, arith}
 use Rattle.std.proofs.Common.{if◌then◌else◌, Some, None, Option, nat_lt, ◌==◌}
 use Rattle.std.specs.Prelude.{count_by}
@@ -175,7 +175,7 @@ module _ (fl : Flow) (S : Site) (is : List Instr) where
       let d = joins_none p Root (root_ends fl S) (λ i. h.0 Root i) in
       omega (arith, a, c, d, f)
 
-  -- where a part stands that is none of the ends
+  -- where a part is that is none of the ends
   pub inner_is : (p : Part → Bool) → Misses p → p Parts.End ≡ false
       → tally p (parts_in fl S) ≡ (one (p Entry) + (tally p (row Line 0 b.inputs) + tally p (node_parts fl S b.inputs b.nodes)))
       + tally p (tail_parts b S.turns)

@@ -27,7 +27,7 @@ use Rattle.law_wiring.proofs.PartsThere.{region_self, region_other}
 use Rattle.law_wiring.proofs.WrittenMembers.{region_is}
 use Rattle.law_wiring.proofs.LaidArcsMore.{size, size_both}
 
--- how often a side stands among sides
+-- how often a side occurs among sides
 abbrev hits : Side → List Side → ℕ
 hits t [] = 0
 hits t (u ∷ us) = one (same_side t u) + hits t us

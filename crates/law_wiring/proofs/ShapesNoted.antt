@@ -1,4 +1,4 @@
--- One wire at most leaves inside a block where a node leaves whose answer has no copy: its uses were counted.
+-- At most one wire leaves inside a block where a node leaves whose answer has no copy: its uses were counted.
 use Rattle.std.proofs.Common.{◌≡◌, ◌≢◌, ℕ, zero, suc, ◌+◌, ◌<◌, ◌≤◌, Bool, true, false, List, [], ◌∷◌, ◌++◌, length, Option}
 use Rattle.std.proofs.Common.{Some, None, refl, sym, ap, ◌∙◌, subst, arith, if◌then◌else◌, ◌==◌}
 use Rattle.std.specs.Prelude.{slice_get, slice_set, slice_index_or, replicate}

@@ -1,5 +1,5 @@
--- In every context that runs a loop's turn what leaves goes to its uses, and the wires stay in their arms. The code of a turn is another
--- one than that of a call, and that of another loop's turn.
+-- In every context that runs a loop's turn what leaves goes to its uses, and the wires stay in their arms. The code of a turn is
+-- other code than that of a call, and than that of another loop's turn.
 use Rattle.std.proofs.Common.{◌≡◌, ℕ, zero, suc, ◌-◌, ◌<◌, ◌≤◌, Bool, true, List, [], ◌∷◌, map, length, refl, sym, ap, ◌∙◌, arith, Some, lt-ltb}
 use Rattle.std.specs.Prelude.{slice_get, count_by, sum}
 use Rattle.std.proofs.lemmas.List.Sums.{sum-map}

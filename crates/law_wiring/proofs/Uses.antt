@@ -45,7 +45,7 @@ along_both b t (x ∷ xs) ys = go (same_side t x.from) (along_both b t xs ys)
     go true h = ap (λ zs. inlet_of b x ∷ zs) h
     go false h = h
 
--- PORTS. A node that invokes nothing has one port alone; else the ports leave apart.
+-- PORTS. A node that invokes nothing has only one port; otherwise the ports leave apart.
 module _ (s : Site) where
   abbrev pub IsPort : ℕ → ℕ → Type 0
   IsPort n q = invokes s.block n ≡ false → q ≡ 0
@@ -100,11 +100,11 @@ module _ (s : Site) where
               absurd (cc)
 
 module _ (fl : Flow) (s : Site) (fit : IsFit fl s.block) (c : Context) (v : Value) where
-  -- what a wire tells
+  -- what a wire stands for
   abbrev pub tells : Wire → List Tagged
   tells w = meant_at fl c (inlet_of s.block w).part (inlet_of s.block w).port (inlet_of s.block w).way v
 
-  -- what the wires of a side tell
+  -- what the wires of a side stand for
   abbrev pub heard : Side → List Wire → List Tagged
   heard t ws = meant_along fl c v (along s.block t ws)
 
@@ -121,7 +121,7 @@ module _ (fl : Flow) (s : Site) (fit : IsFit fl s.block) (c : Context) (v : Valu
       go true = refl
       go false = refl
 
-  -- QUIET wires: those of another side, or those that tell nothing
+  -- QUIET wires: those of another side, or those that stand for no token
   abbrev pub Quiet : Side → Wire → Type 0
   Quiet t w = (tells w ≡ []) ⊎ (t ≢ w.from)
 
@@ -195,7 +195,7 @@ module _ (fl : Flow) (s : Site) (fit : IsFit fl s.block) (c : Context) (v : Valu
     abbrev pub used : ℕ → List Source → List Tagged
     used m xs = settle (made (map (λ i. (AtNode m, Operand i)) (positions n q 0 xs)))
 
-    -- what a gate's predicate tells, and whether the value decides a conditional
+    -- what a gate's predicate stands for, and whether the value decides a conditional
     abbrev pub gated : ℕ → Kind ℕ → Region → List Tagged
     gated m Enter (Arm k t) = if same_side T (leaves s (predicate_of s.block k)) then tagged c (AtNode m) Predicate v ∷ [] else []
     gated m k r = []
@@ -223,7 +223,7 @@ module _ (fl : Flow) (s : Site) (fit : IsFit fl s.block) (c : Context) (v : Valu
       used_cons i ps true = ap (λ zs. zs ++ used_at m ps) (operand_settled m i x e k)
       used_cons i ps false = refl
 
-      -- a source whose wire tells the operand, before others
+      -- a source whose wire stands for the operand, before others
       one_more : (i : ℕ) (y : Source) (ys : List Source) (w : Wire) (ws : List Wire) → IsPrior fl s.block m y → w.from ≡ leaves s y
           → tells w ≡ operand c m i v ∷ [] → heard T ws ≡ used_at m (positions n q (i + 1) ys)
           → heard T (w ∷ ws) ≡ used_at m (positions n q i (y ∷ ys))
@@ -308,7 +308,7 @@ module _ (fl : Flow) (s : Site) (fit : IsFit fl s.block) (c : Context) (v : Valu
           ∙ ap (λ zs. heard T (operand_wires s (Line m) 0 ys) ++ zs) (quiet T (answer_wires m (is_shared s m)) (copies_quiet h (is_shared s m) refl))
           ∙ append-nil (heard T (operand_wires s (Line m) 0 ys)) ∙ row
 
-    -- a conditional's source goes to its trigger besides, which tells nothing
+    -- a conditional's source goes to its trigger besides, which stands for no token
     trigger_quiet : (m : ℕ) (t : Bool) (x : Source) → heard T (trigger_wires s m t x) ≡ []
     trigger_quiet m true x = quiet T (trigger_wires s m true x) (inl refl, (inl refl, tt))
     trigger_quiet m false x = refl
@@ -333,7 +333,8 @@ module _ (fl : Flow) (s : Site) (fit : IsFit fl s.block) (c : Context) (v : Valu
         heard T (kind_wires s m x.region k xs) ++ (if decides k xs then predicates_from c m v s.block.inputs s.block.nodes else []) ≡ used m xs
         ++ gated m k x.region
 
-    -- what a node's wires tell, and the predicates of its use as a conditional's: its uses, and what a gate's predicate tells
+    -- what a node's wires stand for, and the predicates of its use as a conditional's: its uses, and what a gate's predicate
+    -- stands for
     pub kind_row : (m : ℕ) (x : Node ℕ) → node_at s.block m ≡ Some x → Row m x x.kind x.sources
     kind_row m x e = go x.kind refl (fit.nodes m x e).takes (fit.nodes m x e).lies
       where

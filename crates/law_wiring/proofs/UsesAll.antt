@@ -43,7 +43,7 @@ module _ (fl : Flow) (s : Site) (fit : IsFit fl s.block) (c : Context) (v : Valu
   abbrev D : Node ℕ → Bool
   D x = decides fl s fit c v there n q port x.kind x.sources
 
-  -- the predicates of the conditionals that the value decides, among some nodes; those that gates tell; and the uses
+  -- the predicates of the conditionals that the value decides, among some nodes; those for which gates stand; and the uses
   abbrev conds : ℕ → List (Node ℕ) → ℕ → List (Node ℕ) → List Tagged
   conds m [] g gs = []
   conds m (x ∷ xs) g gs = (if D x then predicates_from c m v g gs else []) ++ conds (m + 1) xs g gs
@@ -226,7 +226,7 @@ module _ (fl : Flow) (s : Site) (fit : IsFit fl s.block) (c : Context) (v : Valu
   abbrev pub after : ℕ → List Source → List Tagged
   after from xs = settle fl s fit c v (made fl s fit c v (flat_map (λ j. result_uses c s.block.inputs j) (positions n q from xs)))
 
-  -- where the results' wires tell their uses
+  -- where the results' wires stand for their uses
   pub all_told : IsPermutation (H (tail_wires s s.turns)) (after 0 s.block.results)
       → IsPermutation (meant_along fl c v (along s.block (leaves_at s n q) (wires_in fl s))) (settled_sent fl c n q v)
   all_told last =

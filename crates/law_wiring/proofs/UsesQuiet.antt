@@ -1,4 +1,4 @@
--- Only the wires of nodes and results tell anything: those after the ends tell nothing.
+-- Only the wires of nodes and results stand for tokens: those after the ends stand for none.
 use Rattle.std.proofs.Common.{◌≡◌, ℕ, ◌+◌, inl, Bool, true, false, List, [], ◌∷◌, ◌++◌, refl, ap, ◌∙◌, append-nil}
 use Rattle.tags.specs.declared.value.Value.{Value}
 use Rattle.tags.specs.declared.token.Port.TheVariants.{Left, Right}
@@ -68,7 +68,7 @@ module _ (fl : Flow) (s : Site) (fit : IsFit fl s.block) (c : Context) (v : Valu
   flag_heard true x = close_heard (node_count s.block) x
   flag_heard false x = refl
 
-  -- the first wires alone tell anything
+  -- only the first wires stand for tokens
   pub all_heard : H (wires_in fl s) ≡ H (inner_wires s)
   all_heard =
       let last : List Wire = wire (side Entry false) Parts.End Left ∷ signal_wires Root (root_ends fl s) Parts.End Right in

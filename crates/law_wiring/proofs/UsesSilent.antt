@@ -1,4 +1,4 @@
--- Whatever is no node's value tells nothing.
+-- What is no node's value stands for no token.
 use Rattle.std.proofs.Common.{◌≡◌, ◌≢◌, ℕ, zero, suc, ◌+◌, ◌⊎◌, inl, inr, Bool, true, false, List, [], ◌∷◌, ◌++◌, length, refl, sym, ap, ◌∙◌, subst}
 use Rattle.tags.specs.declared.value.Value.{Value}
 use Rattle.tags.specs.declared.token.Port.TheVariants.{Left}
@@ -23,7 +23,7 @@ use Rattle.law_wiring.proofs.Uses.{tells, heard, Quiet, quiet}
 use Rattle.law_wiring.proofs.UsesQuiet.{all_heard}
 
 module _ (fl : Flow) (s : Site) (fit : IsFit fl s.block) (c : Context) (v : Value) where
-  -- a wire tells nothing, or a node's value leaves along it, or it comes from a part that speaks by itself
+  -- a wire stands for no token, or a node's value leaves along it, or it comes from a part that speaks by itself
   abbrev Says : Wire → Type 0
   Says u = (tells fl s fit c v u ≡ []) ⊎ (((x : Source) × (u.from ≡ leaves s x)) ⊎ (IsSilent u.from.part → ⊥))
 

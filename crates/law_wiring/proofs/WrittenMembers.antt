@@ -305,7 +305,7 @@ used_by v (w ∷ ws) (inl e) = ap (λ s. if s then false else is_open v.from ws)
 used_by v (w ∷ ws) (inr h) = used_later v.from w ws (used_by v ws h)
 
 -- ALONG a side
--- what stands along a side is the inlet of a wire from there
+-- what is along a side is the inlet of a wire from there
 pub along_all : (P : Wire → Type 0) (b : Block ℕ) (t : Side) (ws : List Wire) (x : Inlet) → AllW P ws → Contains (along b t ws) x
     → (w : Wire) × P w × (t ≡ w.from) × (inlet_of b w ≡ x)
 along_all P b t [] x h c = absurd (contains_none x c)

@@ -137,7 +137,7 @@ module _ (fl : Flow) (b : Block ℕ) (fit : IsFit fl b) where
       go None e h = absurd (cc)
       go (Some line) e h = (fit.nodes n line e).round k t h
 
-  -- the predicate of a conditional comes before, and lies where the conditional does
+  -- the predicate of a conditional is before it, and lies where the conditional does
   pub predicate_before : (k : ℕ) → is_kind cond_kind b k ≡ true → IsPrior fl b k (predicate_of b k) × (lies_in b (predicate_of b k).node ≡ lies_in b k)
   predicate_before k h =
       let x = node_some b cond_kind k h in

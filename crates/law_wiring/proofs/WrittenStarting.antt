@@ -1,5 +1,5 @@
 -- What starts a call, a loop or the next turn: a call that is not strict, and a loop, wait for nothing but the entry or the trigger of their
--- arm, and a turn asks for a credit after its flag. All arguments are sent before a result comes.
+-- arm, and a turn asks for a credit after its flag. All arguments are sent before a result arrives.
 use Rattle.std.proofs.Common.{◌≡◌, ◌≢◌, ℕ, ◌<◌, ◌⊎◌, inl, inr, Bool, true, false, List, [], ◌∷◌, ◌++◌, length, refl, sym, ap, ◌∙◌, subst, arith, Contains}
 use Rattle.lemmas.proofs.Contains.{contains_cases, contains_none}
 use Rattle.tags.specs.declared.token.Port.TheVariants.{Left, Right}

@@ -85,7 +85,7 @@ module _ (s : Site) (n : ℕ) where
           (leads_right mine later (side (Strict n from) false) (wait_after n count from)
           (start_leads from count (side (Strict n from) false) xs ys (omega (arith, e))))
 
-  -- the arguments come to the joins
+  -- the arguments go to the joins
   argument_joins : (from : ℕ) (t : Side) (xs : List Source) (i : ℕ) (x : Source) → slice_get xs i ≡ Some x
       → InW (wire (leaves s x) (Strict n (from + i)) Right) (strict_wires s n from t xs)
   argument_joins from t [] i x e = absurd (cc)

@@ -1,4 +1,4 @@
--- What the plan of every graph keeps to.
+-- What the plan of every graph keeps.
 use Rattle.semantics.specs.Graph.{Flow}
 use Rattle.semantics.specs.Cause.{HasBounds}
 use Rattle.schemas.specs.Expanded.{expanded}
@@ -12,6 +12,6 @@ LoopsKeepBounds = (fl : Flow) → HasBounds fl (expanded fl).program
 abbrev pub SwitchesAreMarked : Type 0
 SwitchesAreMarked = (fl : Flow) → MarksFit (expanded fl)
 
--- the holders of each code block are numbered in order of its instructions, and `slots` is how many they are
+-- the holders of each code block are numbered in order of its instructions, and `slots` is their number
 abbrev pub HoldersAreNumbered : Type 0
 HoldersAreNumbered = (fl : Flow) → HoldersInOrder (expanded fl)

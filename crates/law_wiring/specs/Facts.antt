@@ -1,4 +1,4 @@
--- What the plan of every graph keeps to besides its destinations: what its instructions name, its holders, its marks.
+-- What the plan of every graph keeps, apart from its destinations: what its instructions name, its holders, its marks.
 use Rattle.std.specs.Prelude.{◌≡◌, ◌≢◌, ℕ, ◌+◌, ◌<◌, ◌≤◌, length, sum, Some, slice_get, All, Contains}
 use Rattle.semantics.specs.declared.program.Mark.TheVariants.{Unmarked}
 use Rattle.semantics.specs.declared.program.Op.TheVariants.{Switch}
@@ -34,7 +34,7 @@ pub record NamesAllRightly (p : Program) : Type 0 where
 abbrev pub PlansNameRightly : Type 0
 PlansNameRightly = (g : Graph) → HasText g → WellFormed g → NamesAllRightly (expanded (flow_of g)).program
 
--- HOLDERS. Two instructions of one holder belong to one loop, each holder is told by an instruction, and they are as many as
+-- HOLDERS. Two instructions of one holder belong to one loop, an instruction identifies each holder, and they are as many as
 -- the block says.
 pub record HoldsRightly (c : CodeBlock) : Type 0 where
   pub holders : OneHolder c

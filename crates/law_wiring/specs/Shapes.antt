@@ -46,10 +46,10 @@ abbrev pub is_release : Op → Bool
 is_release (Release o) = true
 is_release op = false
 
--- an instruction is `release` just where it is the last one
+-- an instruction is `release` exactly if it is the last one
 abbrev pub EndsInRelease : List Instr → Type 0
 EndsInRelease is = (p : ℕ) (i : Instr) → slice_get is p ≡ Some i → (is_release i.op ≡ true → p + 1 ≡ length is) × (p + 1 ≡ length is → is_release i.op ≡ true)
 
--- the code blocks of the plan of every well-formed graph end in `release`, which stands nowhere else
+-- the code blocks of the plan of every well-formed graph end in `release`, which occurs nowhere else
 abbrev pub PlansEndInRelease : Type 0
 PlansEndInRelease = (g : Graph) → WellFormed g → (b : ℕ) (c : CodeBlock) → slice_get (expanded (flow_of g)).program.blocks b ≡ Some c → EndsInRelease c.instrs

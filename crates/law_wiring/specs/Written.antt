@@ -20,7 +20,7 @@ use Rattle.law_net.specs.ContextsBlocks.{Side, side, Site, leaves_in, is_switch,
 use Rattle.law_net.specs.ContextsWires.{has_no_wire}
 use Rattle.law_net.specs.ContextsExpanded.{row, way_in, invoked, turn_parts}
 
--- A wire: from a side to a port of a part. Its way is told by where it comes from.
+-- A wire: from a side to a port of a part. Its way is determined by where it comes from.
 pub record Wire : Type 0 where
   pub from : Side
   pub part : Part

@@ -84,6 +84,6 @@ pub record IsFit (fl : Flow) (b : Block ℕ) : Type 0 where
   pub results : All (IsPrior fl b (node_count b)) b.results
   pub in_root : All (LiesIn b Root) b.results
 
--- every block of a well-formed graph is so
+-- every block of a well-formed graph is such a block
 abbrev pub BlocksFit : Type 0
 BlocksFit = (g : Graph) → WellFormed g → (i : ℕ) (b : Block ℕ) → slice_get (flow_of g).blocks i ≡ Some b → IsFit (flow_of g) b

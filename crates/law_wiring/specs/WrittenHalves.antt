@@ -20,7 +20,7 @@ pub record IsWritten (fl : Flow) (s : Site) (w : Wiring) : Type 0 where
   pub triggers : (k : ℕ) → w.triggers k ≡ (is_kind cond_kind s.block k && is_triggered s.block k)
   pub joins : (r : Region) → w.joins r ≡ count_by (is_join_of r) (parts_in fl s)
   pub ends : (k : ℕ) → w.ends k ≡ has_part (CondEnd k) (parts_in fl s)
-  -- each part stands once
+  -- each part occurs once
   pub there : (r : Part) → there_in fl s w r ≡ has_part r (parts_in fl s)
   pub once : (r : Part) → count_by (same_part r) (parts_in fl s) ≤ 1
   pub wire : (t : Side) → there_in fl s w t.part ≡ true → w.wire t ≡ along s.block t (wires_in fl s)
@@ -29,7 +29,7 @@ pub record IsWritten (fl : Flow) (s : Site) (w : Wiring) : Type 0 where
   pub lands : (t : Side) (x : Inlet) → there_in fl s w t.part ≡ true → Contains (w.wire t) x → there_in fl s w x.part ≡ true
   pub forward : (t : Side) (x : Inlet) → there_in fl s w t.part ≡ true → Contains (answered_at t.part ++ w.wire t) x → w.place t.part < w.place x.part
   pub last : (r : Part) → there_in fl s w r ≡ true → w.place r ≤ w.place End
-  -- what sends the arguments of an invocation stands before what its results come to
+  -- what sends the arguments of an invocation is before what its results go to
   pub sends : (n i : ℕ) → invokes s.block n ≡ true → i < source_count s.block n → w.place (Sender n i) < w.place (Landing n 0)
 
 -- FIRST HALF, of the code: a plain block's wiring is the written one, and its code is laid out by it

@@ -1,4 +1,4 @@
-//! What the plan of every graph keeps to besides its destinations.
+//! What the plan of every graph keeps, apart from its destinations.
 
 ghost use Rattle.law_wiring.specs.Facts.{PlansHoldRightly, PlansMarkRightly, PlansNameRightly};
 
