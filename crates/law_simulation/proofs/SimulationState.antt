@@ -245,7 +245,7 @@ module _ (p q : Plan) (S : Relates p q) (wired : IsWired p) (orderly : Orderly p
           where
             pick : (G : Filled P (taken V.part.done) f k (Slot.Left l)) {A B : Type 0} → (G.n ≡ F.n) ⊎ ((is_credit G.i.op ≡ true) × A × B) → G.n ≡ F.n
             pick G (inl e) = e
-            pick G (inr c) = absurd (true≢false (sym c.0 ∙ dyadic_not_credit G.i.op G.tells.0))
+            pick G (inr c) = absurd (true≢false (sym c.0 ∙ dyadic_not_credit G.i.op G.asserts.0))
 
     pub arrives : (f a : ℕ) (r : Port) (w : Word) (i : Instr) → instr_at P a ≡ Some i → Contains V.part.last.pool (token (To.Instr f a r) w)
         → Arrives P Q h i.op (slot_in V.part.last.store f (slot_of i i.op)) r w

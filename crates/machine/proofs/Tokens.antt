@@ -22,11 +22,11 @@ nat_of (pos n) = n
 nat_of (negsuc n) = 0
 
 abbrev code_port : Port → ℤ
-code_port Port.Departure = pos 0
+code_port Port.Left = pos 0
 code_port Port.Right = pos 1
 
 abbrev port_of : ℤ → Port
-port_of (pos zero) = Port.Departure
+port_of (pos zero) = Port.Left
 port_of n = Port.Right
 
 abbrev code_cont : Cont → List ℤ
@@ -85,7 +85,7 @@ to_of (pos (suc (suc (suc (suc (suc zero))))) ∷ j ∷ []) = To.Host (nat_of j)
 to_of n = To.Manager
 
 same_port : (p : Port) → port_of (code_port p) ≡ p
-same_port Port.Departure = refl
+same_port Port.Left = refl
 same_port Port.Right = refl
 
 same_kind : (k : FaultKind) → kind_of (code_kind k) ≡ k
