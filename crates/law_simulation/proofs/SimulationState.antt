@@ -230,7 +230,7 @@ module _ (p q : Plan) (S : Relates p q) (wired : IsWired p) (orderly : Orderly p
         go (inl d) = absurd (no_left (V.part.last.store.slots f k) d e)
         go (inr G0) =
             let G : Filled P (taken V.part.done) f k (Slot.Left l) = subst (Filled P (taken V.part.done) f k) e G0 in
-            let T : Contains (taken V.part.done) (at_port P f G.b G.n Left l) = G.tells.1 in
+            let T : Contains (taken V.part.done) (at_port P f G.b G.n Left l) = G.asserts.1 in
             let inside_b : Contains V.part.last.pool (at_port P f F.b F.n r w) =
             subst (λ (x : ℕ). Contains V.part.last.pool (token (To.Instr f x r) w)) F.place inside in
             let same_b : G.b ≡ F.b = one_frame p (taken V.part.done) V.part.last.pool
