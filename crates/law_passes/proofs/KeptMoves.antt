@@ -243,7 +243,7 @@ module _ (p : Plan) (s : IsSound p) (b : ℕ) (c : CodeBlock) (at_b : slice_get 
     ready_side t f w =
         record {
           value = λ v. clumped t f w (whole IsValue (λ z. (Int z, refl)) t f w (λ x k. value_moved w v));
-          asserts =
+          tells =
               go (wanted p c n (dests_of i t)) refl;
         }
       where

@@ -56,7 +56,7 @@ module _ (p q : Program) (g h : ℕ → ℕ) where
 
   pub ready_join : (w : Word) (new more old others : List Token) → Ready p q g h w new old → Ready p q g h w more others
       → Ready p q g h w (new ++ more) (old ++ others)
-  ready_join w new more old others A B = record { value = λ v. clumped_join new more old others (A.value v) (B.value v); asserts = go A.asserts B.asserts }
+  ready_join w new more old others A B = record { value = λ v. clumped_join new more old others (A.value v) (B.value v); tells = go A.tells B.tells }
     where
       go : Clumped p q g h new old ⊎ Pairs p old w → Clumped p q g h more others ⊎ Pairs p others w
           → Clumped p q g h (new ++ more) (old ++ others) ⊎ Pairs p (old ++ others) w

@@ -120,7 +120,7 @@ module _ (p q : Plan) (S : Spreads p q) where
 
   pub leads_on : (ip a : ℕ) (ds es : List Dest) → Leads Q h ip ds a es → LeadsOn P Q h h ip ds a es
   leads_on ip a ds es L = record {
-    made = λ f w. record { value = λ v. made f w; asserts = inl (made f w) };
+    made = λ f w. record { value = λ v. made f w; tells = inl (made f w) };
     ways = λ e inside K.
         (let D = leads_pick Q h ip a ds es L e inside in
         record { d = D.d; named = D.named; leads = ends (ip + D.d.ahead) D.d.port D.xs (a + e.ahead, e.port) D.stands D.among });
