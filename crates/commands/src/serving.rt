@@ -361,7 +361,7 @@ fn answer<R: Threads + Wait + Sync, A: Allocator + Clone + Send + Sync, G: Gate 
             literals: Literals::Omitted,
         } => print_listing(input, writer),
         Request::Dis {
-            literals: Literals::ReportedRun,
+            literals: Literals::Included,
         } => print_listing_with_literals(input, writer),
         Request::Asm => print_assembled(alloc, input, writer),
         Request::Lower(Lowering::Graph) => print_lowered(alloc, input, writer),
