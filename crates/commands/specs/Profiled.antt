@@ -19,7 +19,7 @@ use Rattle.driver.specs.ListedEvents.{IsWatched}
 use Rattle.driver.specs.Objects.{RunsObject}
 use Rattle.driver.specs.Orders.{RunsByRounds}
 use Rattle.driver.specs.Refused.{IsGoodText, IsRefused, IsRefusedMeaning}
-use Rattle.commands.specs.declared.profiling.Measure.{Measure}
+use Rattle.commands.specs.declared.profiling.Quantity.{Quantity}
 use Rattle.outcomes.specs.declared.refusal.Refusal.{Refusal}
 use Rattle.commands.specs.Input.{integers_of}
 use Rattle.commands.specs.Served.{Parts, Prints, Refuses, IsReportedAs, IsRefusedLine}
@@ -32,10 +32,10 @@ abbrev pub config_with : RunOptions → ℕ → Config
 config_with o elements = record { elements = elements; frames = o.frames; steps = o.steps; turn = 1 }
 
 -- what is counted in a moment
-abbrev pub measure_in : Measure → Moment → ℕ
-measure_in Measure.Tokens x = x.tokens
-measure_in Measure.Slots x = x.full_slots
-measure_in Measure.Frames x = x.frames_out
+abbrev pub quantity_in : Quantity → Moment → ℕ
+quantity_in Quantity.Tokens x = x.tokens
+quantity_in Quantity.Slots x = x.full_slots
+quantity_in Quantity.Frames x = x.frames_out
 
 -- What a run on that number of elements took: it is a run in rounds, in each of which every element makes one event if it has a token; these are exactly its
 -- rounds, and the tokens, the full slots and the frames out are the most that there were at any moment. At the start there are a token
@@ -50,9 +50,9 @@ pub record IsRow (text : List ℕ) (inputs : List ℤ) (o : RunOptions) (element
   pub kept : report.end ≢ End.Memory
   pub number : row.elements ≡ elements
   pub rounds : RunsObject bytes inputs (config_with o elements) (RunsByRounds false row.rounds) report
-  pub tokens : row.tokens ≡ greatest_from (length inputs + 1) (map (measure_in Measure.Tokens) moments)
-  pub slots : row.slots ≡ greatest_from 0 (map (measure_in Measure.Slots) moments)
-  pub frames : row.frames ≡ greatest_from 1 (map (measure_in Measure.Frames) moments)
+  pub tokens : row.tokens ≡ greatest_from (length inputs + 1) (map (quantity_in Quantity.Tokens) moments)
+  pub slots : row.slots ≡ greatest_from 0 (map (quantity_in Quantity.Slots) moments)
+  pub frames : row.frames ≡ greatest_from 1 (map (quantity_in Quantity.Frames) moments)
 
 -- a row for each of these numbers of elements, in order
 abbrev pub AreRows : List ℕ → List ℤ → RunOptions → List ℕ → List MachineRow → Type 0

@@ -8,7 +8,7 @@ ghost use Rattle.sink.specs.Sends.{Sends};
 ghost use Rattle.outcomes.specs.declared.refusal.Refusal.{Refusal as AsRefusal};
 ghost use Rattle.driver.specs.Refused.{IsCompiled, IsGoodText, IsRefused};
 ghost use Rattle.commands.specs.Served.{IsReportedAs};
-ghost use Rattle.commands.specs.Profiled.{AreRows, IsChosen, IsNoProfileOf, IsNoRow, IsProfileOf, IsRow, PrintsProfile, config_with, measure_in, profiled, sizes_below, text_of};
+ghost use Rattle.commands.specs.Profiled.{AreRows, IsChosen, IsNoProfileOf, IsNoRow, IsProfileOf, IsRow, PrintsProfile, config_with, quantity_in, profiled, sizes_below, text_of};
 
 use crate::feed::read_feed;
 use crate::refusal::fault_refusal;
@@ -49,30 +49,30 @@ fn config_with(options: &RunOptions, elements: u64) -> Config
 
 /// What a machine holds, and a moment counts.
 #[derive(Clone, Copy)]
-enum Measure {
+enum Quantity {
     Tokens,
     Slots,
     Frames,
 }
 
 /// How much of it there is after an event.
-fn measure_in(held: Measure, moment: &Moment) -> u64
-    ensures { result ≡ measure_in held moment.now }
+fn quantity_in(quantity: Quantity, moment: &Moment) -> u64
+    ensures { result ≡ quantity_in quantity moment.now }
 {
-    match held {
-        Measure::Tokens => moment.tokens,
-        Measure::Slots => moment.full_slots,
-        Measure::Frames => moment.frames_out,
+    match quantity {
+        Quantity::Tokens => moment.tokens,
+        Quantity::Slots => moment.full_slots,
+        Quantity::Frames => moment.frames_out,
     }
 }
 
 /// The greatest amount of it at any time, where there was this much at the start.
-fn most_of(held: Measure, first: u64, moments: &[Moment]) -> u64
-    ensures { result ≡ greatest_from first (map (measure_in held) moments.now) }
+fn most_of(quantity: Quantity, first: u64, moments: &[Moment]) -> u64
+    ensures { result ≡ greatest_from first (map (quantity_in quantity) moments.now) }
 {
     let mut most = first;
     for moment in moments {
-        let number = measure_in(held, moment);
+        let number = quantity_in(quantity, moment);
         if most < number {
             most = number;
         }
@@ -84,16 +84,16 @@ fn most_of(held: Measure, first: u64, moments: &[Moment]) -> u64
 fn row_of(elements: u64, inputs: &[i64], rounds: u64, moments: &[Moment]) -> MachineRow
     ensures number { result.elements ≡ elements }
     ensures rounds { result.rounds ≡ rounds }
-    ensures tokens { result.tokens ≡ greatest_from (length inputs.now + 1) (map (measure_in Measure.Tokens) moments.now) }
-    ensures slots { result.slots ≡ greatest_from 0 (map (measure_in Measure.Slots) moments.now) }
-    ensures frames { result.frames ≡ greatest_from 1 (map (measure_in Measure.Frames) moments.now) }
+    ensures tokens { result.tokens ≡ greatest_from (length inputs.now + 1) (map (quantity_in Quantity.Tokens) moments.now) }
+    ensures slots { result.slots ≡ greatest_from 0 (map (quantity_in Quantity.Slots) moments.now) }
+    ensures frames { result.frames ≡ greatest_from 1 (map (quantity_in Quantity.Frames) moments.now) }
 {
     MachineRow {
         elements,
         rounds,
-        tokens: most_of(Measure::Tokens, inputs.len() as u64 + 1, moments),
-        slots: most_of(Measure::Slots, 0, moments),
-        frames: most_of(Measure::Frames, 1, moments),
+        tokens: most_of(Quantity::Tokens, inputs.len() as u64 + 1, moments),
+        slots: most_of(Quantity::Slots, 0, moments),
+        frames: most_of(Quantity::Frames, 1, moments),
     }
 }
 

@@ -9,8 +9,8 @@ use Rattle.driver.specs.Orders.{RunsByRounds}
 use Rattle.driver.specs.Refused.{IsRefused}
 use Rattle.driver.proofs.TextObjects.{refused_as_text}
 use Rattle.driver.proofs.Truth.{is_watched_in_rounds}
-use Rattle.commands.specs.declared.profiling.Measure.{Measure}
-use Rattle.commands.specs.Profiled.{config_with, measure_in}
+use Rattle.commands.specs.declared.profiling.Quantity.{Quantity}
+use Rattle.commands.specs.Profiled.{config_with, quantity_in}
 use Rattle.commands.proofs.profiling.measure.Goals as goal
 
 pub returns : goal.returns
@@ -32,10 +32,10 @@ returns g c = λ text gr compiled.
       number = c.row_of.ensures.number;
       rounds = subst (λ (n : ℕ). RunsObject bytes c.args.inputs.now config (RunsByRounds false n) report) (sym c.row_of.ensures.rounds)
           (subst (λ (d : Config). RunsObject bytes c.args.inputs.now d (RunsByRounds false rounds) report) c.config_with-config.ensures c.in-Ok.ensures.rounds);
-      tokens = subst (λ (l : List Moment). c.row_of.result.tokens ≡ greatest_from (length c.args.inputs.now + 1) (map (measure_in Measure.Tokens) l)) c.deref.ensures.value c.row_of.ensures.tokens;
-      slots = subst (λ (l : List Moment). c.row_of.result.slots ≡ greatest_from 0 (map (measure_in Measure.Slots) l)) c.deref.ensures.value
+      tokens = subst (λ (l : List Moment). c.row_of.result.tokens ≡ greatest_from (length c.args.inputs.now + 1) (map (quantity_in Quantity.Tokens) l)) c.deref.ensures.value c.row_of.ensures.tokens;
+      slots = subst (λ (l : List Moment). c.row_of.result.slots ≡ greatest_from 0 (map (quantity_in Quantity.Slots) l)) c.deref.ensures.value
           c.row_of.ensures.slots;
-      frames = subst (λ (l : List Moment). c.row_of.result.frames ≡ greatest_from 1 (map (measure_in Measure.Frames) l)) c.deref.ensures.value c.row_of.ensures.frames;
+      frames = subst (λ (l : List Moment). c.row_of.result.frames ≡ greatest_from 1 (map (quantity_in Quantity.Frames) l)) c.deref.ensures.value c.row_of.ensures.frames;
     }
 
 pub returns-then-wants_memory : goal.returns-then-wants_memory
