@@ -8,9 +8,9 @@ use Rattle.schedule.specs.declared.config.Config.{Config}
 use Rattle.schedule.specs.Unlisted.{with_events}
 use Rattle.command_line.specs.declared.Mode.{Mode}
 use Rattle.law_confluence.proofs.Equations.{runs_at_rest}
+use Rattle.law_confluence.proofs.EquationsNoneWaits.{none_waits}
 use Rattle.driver.specs.Headline.{ReportsOf, ReportsTruthIn, ReportsQuietly}
 use Rattle.driver.specs.Values.{ReportsValues}
-use Rattle.driver.proofs.Waiting.{none_waits}
 
 pub reports_values : (text : List ℕ) (g : Graph) (inputs : List ℤ) (z : Size) (steps : ℕ) (by_list may_stop : Bool) (r : Report)
     → ReportsOf text g inputs z steps by_list may_stop r → r.end ≡ Rest → r.deferred ≡ 0 → ReportsValues (flow_of g) inputs r

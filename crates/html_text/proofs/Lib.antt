@@ -1,3 +1,2 @@
-mod Pairs
 pub mod Bytes
 pub mod PlainTexts

@@ -6,10 +6,12 @@ use Rattle.std.proofs.lemmas.Option.{same_Some}
 use Rattle.lemmas.proofs.Contains.{contains_cases, contains_head, contains_mapped, contains_none, contains_tail, get_contains}
 use Rattle.semantics.specs.Meaning.{Context, Main}
 use Rattle.law_confluence.specs.OrdersTotals.{one, total}
-use Rattle.law_net.specs.ContextsParts.{Entry, inlet, Item, item, signal, Spot, spot_of, same_inlet, same_context}
+use Rattle.law_confluence.specs.EquationsContexts.{same_context}
+use Rattle.law_confluence.proofs.EquationsContexts.{same_context_is, same_itself}
+use Rattle.law_net.specs.ContextsParts.{Entry, inlet, Item, item, signal, Spot, spot_of, same_inlet}
 use Rattle.tags.specs.declared.token.Port.TheVariants.{Left}
 use Rattle.law_confluence.proofs.Orders.{one_of_both}
-use Rattle.law_net.proofs.ContextsSames.{hits_at, same_context-true, same_context-refl}
+use Rattle.law_net.proofs.ContextsSames.{hits_at}
 use Rattle.law_net.proofs.WiredNets.{count_total}
 use Rattle.law_net.proofs.RunsPigeons.{few_pigeons}
 
@@ -25,7 +27,7 @@ often_some c [] h = absurd (contains_none c h)
 often_some c (x ∷ xs) h = pick (contains_cases x xs c h) (often_some c xs)
   where
     pick : (x ≡ c) ⊎ Contains xs c → (Contains xs c → 0 < often c xs) → 0 < one (same_context c x) + often c xs
-    pick (inl e) more = let a = ap (λ (d : Context). one (same_context c d)) e ∙ ap one (same_context-refl c) in omega (arith, a)
+    pick (inl e) more = let a = ap (λ (d : Context). one (same_context c d)) e ∙ ap one (same_itself c) in omega (arith, a)
     pick (inr d) more = let a = more d in omega (arith, a)
 
 pub often_none : (c : Context) (xs : List Context) → (Contains xs c → ⊥) → often c xs ≡ 0
@@ -33,7 +35,7 @@ often_none c [] h = refl
 often_none c (x ∷ xs) h = pick (same_context c x) refl (often_none c xs (λ d. h (contains_tail x xs c d)))
   where
     pick : (t : Bool) → same_context c x ≡ t → often c xs ≡ 0 → one t + often c xs ≡ 0
-    pick true e more = absurd (h (subst (λ (y : Context). Contains (x ∷ xs) y) (sym (same_context-true c x e)) (contains_head x xs)))
+    pick true e more = absurd (h (subst (λ (y : Context). Contains (x ∷ xs) y) (sym (same_context_is c x e)) (contains_head x xs)))
     pick false e more = omega (arith, more)
 
 -- EACH ONCE
@@ -46,7 +48,7 @@ has_contains c [] e = absurd (true≢false (sym e))
 has_contains c (x ∷ xs) e = go (same_context c x) refl e (has_contains c xs)
   where
     go : (t : Bool) → same_context c x ≡ t → (if t then true else has c xs) ≡ true → (has c xs ≡ true → Contains xs c) → Contains (x ∷ xs) c
-    go true s f more = subst (λ (y : Context). Contains (x ∷ xs) y) (sym (same_context-true c x s)) (contains_head x xs)
+    go true s f more = subst (λ (y : Context). Contains (x ∷ xs) y) (sym (same_context_is c x s)) (contains_head x xs)
     go false s f more = contains_tail x xs c (more f)
 
 has_not : (c : Context) (xs : List Context) → has c xs ≡ false → often c xs ≡ 0
@@ -98,12 +100,12 @@ once_apart (x ∷ xs) c = go (has x (each_once xs)) refl (once_apart xs c)
       where
         pick : (s : Bool) → same_context c x ≡ s → one s + often c (each_once xs) ≤ 1
         pick true s =
-            let n = has_not x (each_once xs) e in let same = ap (λ (d : Context). often d (each_once xs)) (same_context-true c x s) in omega (arith, n, same)
+            let n = has_not x (each_once xs) e in let same = ap (λ (d : Context). often d (each_once xs)) (same_context_is c x s) in omega (arith, n, same)
         pick false s = omega (arith, more)
 
 twice : (x : Context) (xs : List Context) → Apart (x ∷ xs) → (j : ℕ) (c : Context) → x ≡ c → slice_get xs j ≡ Some c → ⊥
 twice x xs few j c same f =
-    let a = few c in let b = ap (λ (d : Context). one (same_context c d)) same ∙ ap one (same_context-refl c) in
+    let a = few c in let b = ap (λ (d : Context). one (same_context c d)) same ∙ ap one (same_itself c) in
     let d = often_some c xs (get_contains xs j c f) in omega (arith, a, b, d)
 
 pub places_apart : (xs : List Context) → Apart xs → (i j : ℕ) (c : Context) → slice_get xs i ≡ Some c → slice_get xs j ≡ Some c → i ≡ j

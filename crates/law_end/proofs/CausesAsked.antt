@@ -19,8 +19,10 @@ use Rattle.semantics.specs.Machine.{Machine}
 use Rattle.semantics.specs.Cause.{is_request, seeks_credit, is_credit_event, is_turn}
 use Rattle.law_confluence.specs.OrdersTotals.{one, total}
 use Rattle.law_confluence.proofs.Orders.{total-append, total-map, total-IsPermutation}
+use Rattle.law_confluence.specs.EquationsContexts.{same_context}
+use Rattle.law_confluence.proofs.EquationsContexts.{same_context_is}
 use Rattle.law_net.specs.ContextsParts as Parts
-use Rattle.law_net.specs.ContextsParts.{Part, Line, Opener, Taker, Asked, NextAsked, InCell, Item, Spot, spot_of, same_spot, same_context}
+use Rattle.law_net.specs.ContextsParts.{Part, Line, Opener, Taker, Asked, NextAsked, InCell, Item, Spot, spot_of, same_spot}
 use Rattle.law_net.specs.ContextsBlocks.{Site, there_in, op_of, kind_op, line_op, is_loop}
 use Rattle.law_net.specs.Contexts.{Wires, block_in, site_in, wiring_in, child, next}
 use Rattle.law_net.specs.ContextsLaws.{Fits, spot_there, way_fits, port_fits}
@@ -28,7 +30,7 @@ use Rattle.law_net.specs.ContextsFirings.{Config}
 use Rattle.law_net.specs.ContextsMirror.{Past, ip_of, to_of, token_of, is_in_cell, is_cell_token, but_cells, events_taken, only, came}
 use Rattle.law_net.specs.ContextsTheorem.{IsGood}
 use Rattle.law_net.specs.ContextsPackages.{Keeps}
-use Rattle.law_net.proofs.ContextsSames.{hits_at, same_context-true}
+use Rattle.law_net.proofs.ContextsSames.{hits_at}
 use Rattle.law_net.proofs.WiredNets.{all_of, count_total, came_all, came_total, cells_apart, only_contains, only_total, one_passes, once_all, total_below}
 use Rattle.law_net.proofs.RunsArrives.{laid, instr_here, fits_in}
 use Rattle.law_end.specs.CausesCounted.{frame_for, credit_for, frames, credits, IsCounted}
@@ -67,7 +69,7 @@ alone_has : (c d : Context) → has c (d ∷ []) ≡ true → c ≡ d
 alone_has c d e = go (same_context c d) refl e
   where
     go : (t : Bool) → same_context c d ≡ t → (if t then true else false) ≡ true → c ≡ d
-    go true q e = same_context-true c d q
+    go true q e = same_context_is c d q
     go false q e = absurd (true≢false (sym e))
 
 -- WHICH INSTRUCTIONS seek a credit

@@ -9,11 +9,12 @@ use Rattle.semantics.specs.Graph.{Flow}
 use Rattle.semantics.specs.Meaning.{Context, Main, Called, Turned}
 use Rattle.semantics.specs.Cause.{is_turn}
 use Rattle.law_confluence.specs.OrdersTotals.{total}
-use Rattle.law_net.specs.ContextsParts.{Part, Entry, Linker, Sender, NextSender, End, Asked, NextAsked, Freed, Inlet, Firing, same_context}
+use Rattle.law_confluence.specs.EquationsContexts.{same_context}
+use Rattle.law_confluence.proofs.EquationsContexts.{same_context_is}
+use Rattle.law_net.specs.ContextsParts.{Part, Entry, Linker, Sender, NextSender, End, Asked, NextAsked, Freed, Inlet, Firing}
 use Rattle.law_net.specs.ContextsBlocks.{invokes, source_count, lies_in, entered, flag}
 use Rattle.law_net.specs.Contexts.{block_in, child, next}
 use Rattle.law_net.specs.ContextsFirings.{handed_to, frame_if, frame_at}
-use Rattle.law_net.proofs.ContextsSames.{same_context-true}
 use Rattle.law_net.proofs.WiredInvoked.{Child, ByCall, ByLoop, child_cases}
 use Rattle.law_end.specs.Over.{IsOpen}
 use Rattle.law_end.proofs.OverMade.{first_in, taken_stands}
@@ -38,7 +39,7 @@ handed_step fl h fired c g None e at more = handed_later fl h fired c (more at)
 handed_step fl h fired c g (Some d) e at more = go (same_context d c) refl at
   where
     go : (t : Bool) → same_context d c ≡ t → (if t then Some h.frame else frame_at fl fired c) ≡ Some g → HandedOut fl (h ∷ fired) c
-    go true s at = By h (contains_head h fired) (e ∙ ap Some (same_context-true d c s))
+    go true s at = By h (contains_head h fired) (e ∙ ap Some (same_context_is d c s))
     go false s at = handed_later fl h fired c (more at)
 
 handed_out : (fl : Flow) (fired : List Firing) (c : Context) (g : ℕ) → frame_at fl fired c ≡ Some g → (c ≡ Main → ⊥) → HandedOut fl fired c

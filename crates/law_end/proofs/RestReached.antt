@@ -13,9 +13,11 @@ use Rattle.semantics.specs.Plan.{Plan}
 use Rattle.semantics.specs.Meaning.{Context, Main, Called, Turned}
 use Rattle.semantics.specs.Cause.{is_turn}
 use Rattle.semantics.specs.Machine.{Machine, Resting, Wants}
+use Rattle.law_confluence.specs.EquationsContexts.{same_context}
+use Rattle.law_confluence.proofs.EquationsContexts.{same_context_is}
 use Rattle.law_net.specs.ContextsParts.{Part, Entry, Trigger, Opener, Framer, Fanned, Linker, Sender, Taker, TurnCont, TurnFlag, Asker, NextFramer, NextFanned}
 use Rattle.law_net.specs.ContextsParts.{NextSender, Result, LastReturn, Landing, Asked, NextAsked, Inlet, inlet, BackTo, FrameOf, ToHost, signal, Item, item}
-use Rattle.law_net.specs.ContextsParts.{Firing, Spot, same_context}
+use Rattle.law_net.specs.ContextsParts.{Firing, Spot}
 use Rattle.law_net.specs.ContextsBlocks.{Side, side, waits_in, invokes, is_call, is_loop, is_strict, lies_in, region_of, entered, leaves_in, flag}
 use Rattle.law_net.specs.Contexts.{Wires, block_in, wiring_in, IsContext, child, next}
 use Rattle.law_net.specs.ContextsWires.{ItsReturn, ChildFrame, goes_from, is_unwired, wired_way, wired_port, decider, predicate_at, arrives_at, Carried, Suits}
@@ -25,7 +27,6 @@ use Rattle.law_net.specs.ContextsLaws.{spot_there, maker_of}
 use Rattle.law_net.specs.ContextsMirror.{Past, is_in_cell}
 use Rattle.law_net.specs.ContextsTheorem.{IsGood}
 use Rattle.law_net.specs.ContextsPackages.{Keeps, InputsFit}
-use Rattle.law_net.proofs.ContextsSames.{same_context-true}
 use Rattle.law_net.proofs.WiredSends.{gives_by, first_taken, takes_first, first_context}
 use Rattle.law_net.proofs.WiredNets.{taken_in}
 use Rattle.law_end.specs.Over.{is_turning, IsDecided, IsOpen}
@@ -50,7 +51,7 @@ by_frame fl f rest c g (Some d) e h = go (same_context d c) refl h
   where
     go : (t : Bool) → same_context d c ≡ t → (if t then Some f.frame else frame_at fl rest c) ≡ Some g
         → (frame_at fl rest c ≡ Some g) ⊎ (handed_to fl f.context f.part ≡ Some c)
-    go true s h = inr (e ∙ ap Some (same_context-true d c s))
+    go true s h = inr (e ∙ ap Some (same_context_is d c s))
     go false s h = inl h
 
 abbrev Hander : Flow → List Firing → Context → Type 0

@@ -14,7 +14,9 @@ use Rattle.semantics.specs.Holders.{Holder, same_holder}
 use Rattle.semantics.specs.Credits.{granted_at, released_at}
 use Rattle.semantics.proofs.Stores.{slot_filled}
 use Rattle.law_confluence.proofs.NetSlots.{InSlots, with_base, slots_turn, slot_other}
-use Rattle.law_net.specs.ContextsParts.{Part, Opener, Giver, Taker, Drainer, Drained, Landing, signal, Item, Firing, same_context}
+use Rattle.law_confluence.specs.EquationsContexts.{same_context}
+use Rattle.law_confluence.proofs.EquationsContexts.{same_context_is, same_itself}
+use Rattle.law_net.specs.ContextsParts.{Part, Opener, Giver, Taker, Drainer, Drained, Landing, signal, Item, Firing}
 use Rattle.law_net.specs.ContextsBlocks.{is_loop, waits_in, bound_at}
 use Rattle.law_net.specs.Contexts.{block_in, code_in, wiring_in, or_zero, IsContext}
 use Rattle.law_net.specs.ContextsCredits.{slot_for}
@@ -22,7 +24,6 @@ use Rattle.law_net.specs.ContextsFirings.{Config, frame_at}
 use Rattle.law_net.specs.ContextsMirror.{frame_of, ip_of, word_of, token_of, on_side, in_slot, slot_of, only, is_in_cell, reads, is_item_at, items_at}
 use Rattle.law_net.specs.ContextsMirror.{granted_of}
 use Rattle.law_net.specs.ContextsMirror.{ledger, KeepsCredits, Mirrors, named_by, is_instr, is_entry_part}
-use Rattle.law_net.proofs.ContextsSames.{same_context-true, same_context-refl}
 use Rattle.law_net.proofs.RunsPigeons.{item_there}
 use Rattle.law_net.proofs.RunsMatching.{wait_holds}
 use Rattle.law_machine_refines_net.specs.MovesCases.{Taking, IsCaused, net_of, Followed, is_quiet}
@@ -91,9 +92,9 @@ module _ (s : Taking) (c : Context) (con : IsContext s.fl c) (n : ℕ) (l : is_l
   same_loop d m = pick (cases_Bool (same_context c d)) (cases_eq n m)
     where
       pick : (same_context c d ≡ true) ⊎ (same_context c d ≡ false) → (n ≡ m) ⊎ (n ≡ m → ⊥) → ((c ≡ d) × (n ≡ m)) ⊎ (d ≡ c → m ≡ n → ⊥)
-      pick (inl e) (inl k) = inl (same_context-true c d e, k)
+      pick (inl e) (inl k) = inl (same_context_is c d e, k)
       pick a (inr k) = inr (λ x y. k (sym y))
-      pick (inr e) b = inr (λ x y. true≢false (sym (ap (same_context c) x ∙ same_context-refl c) ∙ e))
+      pick (inr e) b = inr (λ x y. true≢false (sym (ap (same_context c) x ∙ same_itself c) ∙ e))
 
   -- no other loop has its slot
   pub slots_apart : (d : Context) (m h : ℕ) → is_loop (block_in s.fl d) m ≡ true → frame_at s.fl net.fired d ≡ Some h → (d ≡ c → m ≡ n → ⊥) → g ≡ h

@@ -18,12 +18,13 @@ use Rattle.semantics.specs.Rule.{token}
 use Rattle.semantics.proofs.Stores.{put_other}
 use Rattle.law_confluence.proofs.NetSlots.{put_same}
 use Rattle.law_confluence.proofs.Orders.{at_first, at_last}
-use Rattle.law_net.specs.ContextsParts.{Freed, inlet, FrameOf, Item, item, Firing, same_context}
+use Rattle.law_confluence.specs.EquationsContexts.{same_context}
+use Rattle.law_confluence.proofs.EquationsContexts.{same_context_is, same_itself}
+use Rattle.law_net.specs.ContextsParts.{Freed, inlet, FrameOf, Item, item, Firing}
 use Rattle.law_net.specs.Contexts.{or_zero}
 use Rattle.law_net.specs.ContextsFirings.{Config, takes, handed_to, frame_at, frame_if, frames_of, frames_if, HasFired}
 use Rattle.law_net.specs.ContextsLaws.{is_main}
 use Rattle.law_net.specs.ContextsMirror.{frame_of, ip_of, word_of, token_of, only, is_in_cell, but_cells, WasUsed, Mirrors}
-use Rattle.law_net.proofs.ContextsSames.{same_context-true, same_context-refl}
 use Rattle.law_machine_refines_net.specs.MovesCases.{Taking, IsCaused, net_of, Followed}
 use Rattle.law_machine_refines_net.proofs.MovesLists.{one_holds}
 use Rattle.law_machine_refines_net.proofs.MovesParts.{is_credit, is_lending}
@@ -47,9 +48,9 @@ frame_now : (fl : Flow) (f : Firing) (fired : List Firing) (d : Context) → is_
     → frame_at fl (f ∷ fired) d ≡ Some f.frame
 frame_now fl f fired Main m e = absurd (true≢false m)
 frame_now fl f fired (Called c n) m e = ap (λ (o : Option Context). frame_if o (Called c n) f.frame (frame_at fl fired (Called c n))) e
-    ∙ ap (λ t. if t then Some f.frame else frame_at fl fired (Called c n)) (same_context-refl (Called c n))
+    ∙ ap (λ t. if t then Some f.frame else frame_at fl fired (Called c n)) (same_itself (Called c n))
 frame_now fl f fired (Turned c n i) m e = ap (λ (o : Option Context). frame_if o (Turned c n i) f.frame (frame_at fl fired (Turned c n i))) e
-    ∙ ap (λ t. if t then Some f.frame else frame_at fl fired (Turned c n i)) (same_context-refl (Turned c n i))
+    ∙ ap (λ t. if t then Some f.frame else frame_at fl fired (Turned c n i)) (same_itself (Turned c n i))
 
 frame_else : (fl : Flow) (f : Firing) (fired : List Firing) (d c : Context) → handed_to fl f.context f.part ≡ Some d → same_context d c ≡ false
     → frame_at fl (f ∷ fired) c ≡ frame_at fl fired c
@@ -105,14 +106,14 @@ module _ (s : Taking) (k : Hands s) (g : ℕ) (made : s.event.made ≡ answer (c
   grows d n e = go (same_context k.to d) refl
     where
       go : (t : Bool) → same_context k.to d ≡ t → frame_at s.fl grown.fired d ≡ Some n
-      go true x = absurd (k.unframed n (ap (frame_at s.fl net.fired) (same_context-true k.to d x) ∙ e))
+      go true x = absurd (k.unframed n (ap (frame_at s.fl net.fired) (same_context_is k.to d x) ∙ e))
       go false x = frame_else s.fl f net.fired k.to d k.hands x ∙ e
 
   newer : (d : Context) (n : ℕ) → frame_at s.fl grown.fired d ≡ Some n → (frame_at s.fl net.fired d ≡ Some n) ⊎ ((d ≡ k.to) × (n ≡ g))
   newer d n e = go (same_context k.to d) refl
     where
       go : (t : Bool) → same_context k.to d ≡ t → (frame_at s.fl net.fired d ≡ Some n) ⊎ ((d ≡ k.to) × (n ≡ g))
-      go true x = let same = sym (same_context-true k.to d x) in let z : Some n ≡ Some g = sym e ∙ ap (frame_at s.fl grown.fired) same ∙ at_to in inr (same, cc)
+      go true x = let same = sym (same_context_is k.to d x) in let z : Some n ≡ Some g = sym e ∙ ap (frame_at s.fl grown.fired) same ∙ at_to in inr (same, cc)
       go false x = inl (sym (frame_else s.fl f net.fired k.to d k.hands x) ∙ e)
 
   frames : Frames s grown

@@ -10,7 +10,9 @@ use Rattle.lemmas.proofs.Contains.{contains_head, contains_tail}
 use Rattle.semantics.specs.Graph.{Flow}
 use Rattle.semantics.specs.Meaning.{Context, Main, Called, Turned}
 use Rattle.semantics.specs.Cause.{is_turn}
-use Rattle.law_net.specs.ContextsParts.{Part, Asked, NextAsked, Drained, Item, Firing, spot_of, same_context}
+use Rattle.law_confluence.specs.EquationsContexts.{same_context}
+use Rattle.law_confluence.proofs.EquationsContexts.{same_context_is}
+use Rattle.law_net.specs.ContextsParts.{Part, Asked, NextAsked, Drained, Item, Firing, spot_of}
 use Rattle.law_net.specs.ContextsBlocks.{is_loop}
 use Rattle.law_net.specs.Contexts.{block_in, child, next}
 use Rattle.law_net.specs.ContextsFirings.{Config, takes, handed_to, frame_at, frame_if, times}
@@ -18,7 +20,6 @@ use Rattle.law_net.specs.ContextsLaws.{is_main, spot_there}
 use Rattle.law_net.specs.ContextsMirror.{is_item_at, items_at, came, Mirrors}
 use Rattle.law_machine_refines_net.specs.MovesCases.{Taking, net_of}
 use Rattle.law_machine_refines_net.proofs.MovesLists.{count_none}
-use Rattle.law_net.proofs.ContextsSames.{same_context-true}
 use Rattle.law_net.proofs.WiredSends.{first_taken, takes_first, first_context, part_there}
 use Rattle.law_net.proofs.WiredNets.{not_twice, taken_in, came_all}
 use Rattle.law_net.proofs.RunsArrives.{fired_fit}
@@ -31,7 +32,7 @@ from_if None c g k other e = inr e
 from_if (Some d) c g k other e = pick (same_context d c) refl e
   where
     pick : (t : Bool) → same_context d c ≡ t → (if t then Some g else other) ≡ Some k → ((Some d ≡ Some c) × (g ≡ k)) ⊎ (other ≡ Some k)
-    pick true s e = inl (ap (λ (x : Context). Some x) (same_context-true d c s), cc)
+    pick true s e = inl (ap (λ (x : Context). Some x) (same_context_is d c s), cc)
     pick false s e = inr e
 
 abbrev Hander : Flow → List Firing → Context → ℕ → Type 0

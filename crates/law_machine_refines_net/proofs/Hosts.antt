@@ -21,7 +21,8 @@ use Rattle.semantics.specs.Credits.{granted_at, released_at}
 use Rattle.semantics.specs.Plan.{Plan}
 use Rattle.semantics.proofs.Stores.{put_other}
 use Rattle.law_confluence.proofs.NetSlots.{InSlots, put_same}
-use Rattle.law_net.specs.ContextsParts.{Shown, Done, Freed, same_context, Note, Datum, FrameOf, BackTo, ToHost, signal, Item, Firing}
+use Rattle.law_confluence.specs.EquationsContexts.{same_context}
+use Rattle.law_net.specs.ContextsParts.{Shown, Done, Freed, Note, Datum, FrameOf, BackTo, ToHost, signal, Item, Firing}
 use Rattle.law_net.specs.Contexts.{Wires, block_in, or_zero}
 use Rattle.law_net.specs.ContextsFirings.{Config, takes, makes, frame_at, frame_if, frames_of, frames_if, handed_to, HasFired, memory_of}
 use Rattle.law_net.specs.ContextsFirings as Firings

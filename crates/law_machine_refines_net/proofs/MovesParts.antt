@@ -8,9 +8,10 @@ use Rattle.tags.specs.declared.value.Value.{Value}
 use Rattle.tags.specs.declared.token.Port.TheVariants.{Right}
 use Rattle.semantics.specs.Graph.{Block, Flow}
 use Rattle.semantics.specs.Meaning.{Context}
+use Rattle.law_confluence.specs.EquationsContexts.{same_context}
 use Rattle.law_net.specs.ContextsParts.{Part, Framer, Opener, Giver, Taker, Drainer, Sender, Asked, NextAsked, InCell, Drained, inlet, Datum, Item}
 use Rattle.law_net.specs.ContextsParts.{item, Firing}
-use Rattle.law_net.specs.ContextsParts.{same_context, same_part}
+use Rattle.law_net.specs.ContextsParts.{same_part}
 use Rattle.law_net.specs.ContextsBlocks.{waits_in}
 use Rattle.law_net.specs.Contexts.{is_strict_in}
 use Rattle.law_net.specs.ContextsFirings.{renewed, arguments_from}

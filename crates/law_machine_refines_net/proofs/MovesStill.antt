@@ -5,8 +5,9 @@ use Rattle.tags.specs.declared.token.To.{To}
 use Rattle.semantics.specs.Graph.{Flow}
 use Rattle.semantics.specs.Meaning.{Context}
 use Rattle.semantics.specs.Plan.{Plan}
+use Rattle.law_confluence.specs.EquationsContexts.{same_context}
 use Rattle.law_net.specs.ContextsParts.{Part, Framer, Opener, Giver, Taker, Drainer, Asked, NextAsked, InCell, Drained, Shown, Done, Freed, Item, Firing}
-use Rattle.law_net.specs.ContextsParts.{same_context, same_part}
+use Rattle.law_net.specs.ContextsParts.{same_part}
 use Rattle.law_net.specs.Contexts.{Wires}
 use Rattle.law_net.specs.ContextsFirings.{handed_to, renewed, ProperAt, is_firing, times}
 use Rattle.law_net.specs.ContextsMirror.{frame_of, ip_of, to_of, is_instr}

@@ -19,7 +19,8 @@ use Rattle.semantics.specs.Machine.{Fires}
 use Rattle.semantics.specs.Orderly.{is_at}
 use Rattle.semantics.specs.Credits.{released_at, released_by}
 use Rattle.law_confluence.specs.OrdersTotals.{one}
-use Rattle.law_net.specs.ContextsParts.{Part, End, Giver, CallDone, Landing, Freed, inlet, Note, BackTo, signal, Item, item, each, same_context}
+use Rattle.law_confluence.specs.EquationsContexts.{same_context}
+use Rattle.law_net.specs.ContextsParts.{Part, End, Giver, CallDone, Landing, Freed, inlet, Note, BackTo, signal, Item, item, each}
 use Rattle.law_net.specs.ContextsBlocks.{side, is_call, is_loop, op_of, there_in, result_count}
 use Rattle.law_net.specs.Contexts.{block_in, site_in, wiring_in, or_zero, IsContext, return_of}
 use Rattle.law_net.specs.ContextsWires.{ip_and_port}
@@ -49,11 +50,6 @@ at_there f ip g jp h = let a = and_parts _ _ h in let d = and_parts _ _ a.0 in (
 
 pub at_here : (f ip g jp : ℕ) → g ≡ f → jp ≡ ip → is_at f ip Left (To.Instr g jp Left) ≡ true
 at_here f ip g jp a b = and_from _ _ (and_from _ _ (eq-eqb g f a) (eq-eqb jp ip b)) refl
-
-pub bool_same : (a b : Bool) → (a ≡ true → b ≡ true) → (b ≡ true → a ≡ true) → a ≡ b
-bool_same true b f g = sym (f refl)
-bool_same false true f g = g refl
-bool_same false false f g = refl
 
 -- AN END, described by the part to which it goes back, and the offset
 module _ (s : Taking) (c d : Context) (n o t : ℕ) (q : Part) (in_c : s.i.context ≡ c) (e : s.i.inlet.part ≡ End) where

@@ -4,7 +4,8 @@ use Rattle.std.proofs.lemmas.Bool.{and_from, or_right}
 use Rattle.lemmas.proofs.Bools.{and_false}
 use Rattle.tags.specs.declared.token.Port.TheVariants.{Left}
 use Rattle.semantics.specs.Meaning.{Context, Turned}
-use Rattle.law_net.specs.ContextsParts.{Part, LastReturn, DrainReturn, Giver, Taker, Drainer, Landing, inlet, Note, Item, item, same_context}
+use Rattle.law_confluence.specs.EquationsContexts.{same_context}
+use Rattle.law_net.specs.ContextsParts.{Part, LastReturn, DrainReturn, Giver, Taker, Drainer, Landing, inlet, Note, Item, item}
 use Rattle.law_net.specs.ContextsBlocks.{is_call, is_loop, there_in, result_count}
 use Rattle.law_net.specs.Contexts.{block_in, site_in, wiring_in, IsContext}
 use Rattle.law_net.specs.ContextsMirror.{is_instr, is_item_at, items_at, granted_of}

@@ -22,11 +22,12 @@ use Rattle.law_net.specs.ContextsParts.{inlet, Note, Item, item}
 use Rattle.law_net.specs.Contexts.{block_in, site_in}
 use Rattle.law_net.specs.ContextsFirings.{Config}
 use Rattle.law_net.specs.ContextsMirror.{is_instr, frame_of, word_of, on_side, in_slot, slot_of, only, Mirrors}
+use Rattle.law_net.proofs.ContextsBlocks.{waits_dyadic}
 use Rattle.law_machine_refines_net.specs.MovesCases.{Taking, net_of, IsFree, Halts}
 use Rattle.law_machine_refines_net.proofs.MovesLists.{kept_in, kept_out, kept_yes, taken_out, contains_one}
 use Rattle.law_machine_refines_net.proofs.MovesSpots.{one_waits}
 use Rattle.law_machine_refines_net.proofs.MovesFitted.{IsHere, bare, bare_item, one_part, no_base, waiting_here, taken_here, pair_instr, instr_held}
-use Rattle.law_machine_refines_net.proofs.SendsRules.{at, instr, stood, word, happens_pair, pair_dyadic, dyadic_grants, free_from}
+use Rattle.law_machine_refines_net.proofs.SendsRules.{at, instr, stood, word, happens_pair, dyadic_grants, free_from}
 
 -- what lies in a slot shows its side
 side_same : (q p : Port) (k l : Word) → on_side q k ≡ on_side p l → q ≡ p
@@ -67,7 +68,7 @@ module _ (s : Taking) (two : in_slot s.fl s.i ≡ true) (rw : ℕ) (ways : Ways 
   slot = slot_of s.fl s.w s.i
 
   pub dyadic : is_dyadic (instr s is).op ≡ true
-  dyadic = ap is_dyadic (stood s is).is.op ∙ pair_dyadic s.w.variant (site_in s.fl s.w s.i.context) s.i.inlet.part two
+  dyadic = ap is_dyadic (stood s is).is.op ∙ waits_dyadic s.w.variant (site_in s.fl s.w s.i.context) s.i.inlet.part two
 
   abbrev Met : SlotState → Port → Type 0
   Met x q = Fires s.m.store (F s.i) (Some slot) (meets s.p.program (at s is) (instr s is) x q (word s is)) s.event.made s.new.store

@@ -24,8 +24,9 @@ use Rattle.semantics.specs.Machine.{Fires, with_slot}
 use Rattle.semantics.specs.Arcs.{UsesArc, UsesBy}
 use Rattle.law_fresh_frames.specs.Alike.{plain_dests}
 use Rattle.law_fresh_frames.proofs.FreshArcs.{arc_used}
+use Rattle.law_confluence.specs.EquationsContexts.{same_context}
 use Rattle.law_net.specs.ContextsParts.{Part, Asker, NextFramer, NextSender, Giver, Taker, Drainer, Landing, Inlet, inlet, Note, FrameOf, BackTo, signal, Item}
-use Rattle.law_net.specs.ContextsParts.{item, each, same_context}
+use Rattle.law_net.specs.ContextsParts.{item, each}
 use Rattle.law_net.specs.ContextsBlocks.{side, result_count}
 use Rattle.law_net.specs.Contexts.{block_in, code_in, wiring_in, IsContext}
 use Rattle.law_net.specs.ContextsWires.{leads_to, ip_and_port}

@@ -13,7 +13,8 @@ use Rattle.semantics.specs.Meaning.{Context}
 use Rattle.semantics.specs.Rule.{token, fires, fire_two}
 use Rattle.semantics.specs.Machine.{Fires}
 use Rattle.law_fresh_frames.specs.Alike.{plain_dests}
-use Rattle.law_net.specs.ContextsParts.{Part, Giver, Landing, inlet, Note, Datum, BackTo, signal, Item, item, each, same_part, same_context}
+use Rattle.law_confluence.specs.EquationsContexts.{same_context}
+use Rattle.law_net.specs.ContextsParts.{Part, Giver, Landing, inlet, Note, Datum, BackTo, signal, Item, item, each, same_part}
 use Rattle.law_net.specs.ContextsBlocks.{waits_in, is_switch, op_of}
 use Rattle.law_net.specs.Contexts.{block_in, site_in}
 use Rattle.law_net.specs.ContextsWires.{answered_at}

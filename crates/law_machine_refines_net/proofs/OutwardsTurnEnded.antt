@@ -1,5 +1,6 @@
 -- The end of a turn: its credit goes back to the loop, which counts it as released.
 use Rattle.std.proofs.Common.{◌≡◌, ℕ, ◌+◌, ◌<◌, true, refl, sym, ap, ◌∙◌, subst, arith, Some}
+use Rattle.std.proofs.lemmas.Bool.Decides.{same_from_decides}
 use Rattle.tags.specs.declared.token.Port.TheVariants.{Left}
 use Rattle.tags.specs.declared.token.To.{To}
 use Rattle.semantics.specs.Meaning.{Context, Turned}
@@ -14,7 +15,7 @@ use Rattle.law_net.proofs.RunsPigeons.{item_there, item_here}
 use Rattle.law_machine_refines_net.specs.MovesCases.{Taking, net_of, Followed}
 use Rattle.law_machine_refines_net.proofs.MovesLoops.{Books}
 use Rattle.law_machine_refines_net.proofs.OutwardsChildren.{turn_landing}
-use Rattle.law_machine_refines_net.proofs.OutwardsEnded.{at_here, bool_same, context, last, ending, of_both, ends_follow, one_landing, loop_lands}
+use Rattle.law_machine_refines_net.proofs.OutwardsEnded.{at_here, context, last, ending, of_both, ends_follow, one_landing, loop_lands}
 use Rattle.law_machine_refines_net.proofs.OutwardsTurning.{gives_granted}
 
 module _ (s : Taking) (d : Context) (n i : ℕ) (in_turn : s.i.context ≡ Turned d n i) (e : s.i.inlet.part ≡ End) where
@@ -50,15 +51,18 @@ module _ (s : Taking) (d : Context) (n i : ℕ) (in_turn : s.i.context ≡ Turne
       → frame_at s.fl (net_of s).fired x ≡ Some g
       → is_at g (ip_of s.fl s.p s.w x (Landing m 0) + inputs) Left
       (To.Instr (frame_of s.fl (net_of s).fired d) (ip_of s.fl s.p s.w d (Landing n 0) + inputs) Left) ≡ is_item_at x (Giver m) given
-  counts h own x m g l f = bool_same _ _ (λ k.
-      let a = one_landing s d n inputs h own x m g f k in let loop = subst (λ (x : Context). is_loop (block_in s.fl x) m ≡ true) a.0 l in
-      let same = (code_at s.fl s.p s.w s.good d turned.0).laid.apart (Landing n 0) (Landing m 0) (loop_lands s d n inputs h own n turned.0 turned.1)
-      (loop_lands s d n inputs h own m turned.0 loop) a.1 in
-      let z : n ≡ m = cc in item_here x (Giver m) given (sym a.0) (ap Giver z)) (λ k.
-      let a = item_there x (Giver m) given k in let o : d ≡ x = a.0 in let y = a.1 in let z : n ≡ m = cc in
-      let frame : Some h ≡ Some g = sym own ∙ ap (frame_at s.fl (net_of s).fired) o ∙ f in
-      at_here g (ip_of s.fl s.p s.w x (Landing m 0) + inputs) (frame_of s.fl (net_of s).fired d) (ip_of s.fl s.p s.w d (Landing n 0) + inputs)
-      (ap or_zero (own ∙ frame)) (λ t. ip_of s.fl s.p s.w (o t) (Landing (z t) 0) + inputs))
+  counts h own x m g l f = same_from_decides {P = is_item_at x (Giver m) given ≡ true} _ _ (
+    λ k.
+        let a = one_landing s d n inputs h own x m g f k in let loop = subst (λ (x : Context). is_loop (block_in s.fl x) m ≡ true) a.0 l in
+        let same = (code_at s.fl s.p s.w s.good d turned.0).laid.apart (Landing n 0) (Landing m 0) (loop_lands s d n inputs h own n turned.0 turned.1)
+        (loop_lands s d n inputs h own m turned.0 loop) a.1 in
+        let z : n ≡ m = cc in item_here x (Giver m) given (sym a.0) (ap Giver z),
+    λ k.
+        let a = item_there x (Giver m) given k in let o : d ≡ x = a.0 in let y = a.1 in let z : n ≡ m = cc in
+        let frame : Some h ≡ Some g = sym own ∙ ap (frame_at s.fl (net_of s).fired) o ∙ f in
+        at_here g (ip_of s.fl s.p s.w x (Landing m 0) + inputs) (frame_of s.fl (net_of s).fired d) (ip_of s.fl s.p s.w d (Landing n 0) + inputs)
+        (ap or_zero (own ∙ frame)) (λ t. ip_of s.fl s.p s.w (o t) (Landing (z t) 0) + inputs),
+  ) (λ k. k, λ k. k)
 
   pub turn_ends : Followed s
   turn_ends = ends_follow s (Turned d n i) d n inputs i (Giver n) in_turn e (record {

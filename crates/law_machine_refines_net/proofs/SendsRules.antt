@@ -1,62 +1,27 @@
 -- What the machine does with an item's token at its instruction.
-use Rattle.std.proofs.Common.{◌≡◌, ℕ, ◌*◌, Bool, true, false, ◌&&◌, List, refl, sym, ap, ◌∙◌, subst, true≢false, Option, Some, None, ◌==◌}
+use Rattle.std.proofs.Common.{◌≡◌, ℕ, ◌*◌, Bool, true, false, ◌&&◌, List, refl, sym, ap, ◌∙◌, subst, true≢false, Option, Some, ◌==◌}
 use Rattle.lemmas.proofs.Bools.{zero_if}
 use Rattle.tags.specs.declared.token.Port.{Port}
 use Rattle.tags.specs.declared.token.Word.{Word}
 use Rattle.tags.specs.declared.token.To.{To}
 use Rattle.tags.specs.declared.token.Token.{Token}
 use Rattle.tags.specs.declared.slot.SlotState.{SlotState}
-use Rattle.semantics.specs.declared.graph.Kind.{Kind}
-use Rattle.semantics.specs.declared.graph.Kind.TheVariants as Kinds
 use Rattle.semantics.specs.declared.program.Op.{Op}
 use Rattle.semantics.specs.declared.program.Op.TheVariants as Ops
-use Rattle.semantics.specs.Graph.{Node, node_at}
 use Rattle.semantics.specs.Program.{Instr, Program, instr_at}
 use Rattle.semantics.specs.Rule.{Point, meets, outcome_of, rule_at, slot_of}
 use Rattle.semantics.specs.Machine.{Happens, Fires, slot_used, slot_in}
 use Rattle.semantics.specs.Wired.{is_dyadic}
 use Rattle.semantics.specs.Holders.{Holder, same_holder, holder_at}
 use Rattle.semantics.specs.Credits.{granted_at, granted_in, granted_by, released_at, released_in, released_by}
-use Rattle.law_net.specs.ContextsParts.{Part, Line, Trigger, Gate, Sender, Strict, Result, TurnCont, TurnFlag, TurnValue, Asker, NextSender, LastReturn}
-use Rattle.law_net.specs.ContextsParts.{DrainReturn, Join, End}
-use Rattle.law_net.specs.ContextsBlocks.{Site, waits_in, op_of, kind_op, pair_kind}
+use Rattle.law_net.specs.ContextsParts.{Part}
 use Rattle.law_net.specs.ContextsMirror.{frame_of, ip_of, word_of, is_instr}
 use Rattle.law_machine_refines_net.specs.MovesCases.{Taking, net_of, IsFree}
 use Rattle.law_machine_refines_net.proofs.MovesStill.{to_instr}
 use Rattle.law_machine_refines_net.proofs.MovesSites.{Seated}
 use Rattle.law_machine_refines_net.proofs.MovesFitted.{point, taken_here}
 
--- PAIRS
-kind_dyadic : (k : Kind ℕ) → pair_kind k ≡ true → is_dyadic (kind_op k) ≡ true
-kind_dyadic (Kinds.Apply2 op) e = refl
-kind_dyadic (Kinds.Store a) e = refl
-kind_dyadic k e = absurd (true≢false (sym e))
-
-line_dyadic : (x : Option (Node ℕ)) → elim x as (λ y. Bool) [ None ↦ false | Some line ↦ pair_kind line.kind ] ≡ true
-    → is_dyadic (elim x as (λ y. Op) [ None ↦ Op.Copy | Some line ↦ kind_op line.kind ]) ≡ true
-line_dyadic None e = absurd (true≢false (sym e))
-line_dyadic (Some line) e = kind_dyadic line.kind e
-
--- a part where two words meet has a dyadic instruction
-pub pair_dyadic : (variant : ℕ → ℕ) (s : Site) (r : Part) → waits_in s.block r ≡ true → is_dyadic (op_of variant s r) ≡ true
-pair_dyadic variant s (Line n) e = line_dyadic (node_at s.block n) e
-pair_dyadic variant s (Trigger k) e = refl
-pair_dyadic variant s (Gate k) e = refl
-pair_dyadic variant s (Sender n i) e = refl
-pair_dyadic variant s (Strict n i) e = refl
-pair_dyadic variant s (Result j) e = refl
-pair_dyadic variant s TurnCont e = refl
-pair_dyadic variant s TurnFlag e = refl
-pair_dyadic variant s (TurnValue j) e = refl
-pair_dyadic variant s Asker e = refl
-pair_dyadic variant s (NextSender j) e = refl
-pair_dyadic variant s (LastReturn j) e = refl
-pair_dyadic variant s DrainReturn e = refl
-pair_dyadic variant s (Join r i) e = refl
-pair_dyadic variant s End e = refl
-pair_dyadic variant s r e = absurd (true≢false (sym e))
-
--- such an instruction uses its slot, and its words meet there
+-- PAIRS: an instruction with two operands uses its slot, and its words meet there
 pub dyadic_meets : (p : Program) (s : Point) (i : Instr) (op : Op) → is_dyadic op ≡ true
     → (slot_of i op ≡ Some i.slot) × ((slot : SlotState) (port : Port) (w : Word) → outcome_of p s i op slot port w ≡ meets p s i slot port w)
 dyadic_meets p s i (Ops.Apply2 op) h = (refl, λ slot port w. refl)

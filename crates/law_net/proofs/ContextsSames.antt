@@ -8,13 +8,13 @@ use Rattle.tags.specs.declared.token.Port.{Port}
 use Rattle.tags.specs.declared.token.Port.TheVariants.{Left, Right}
 use Rattle.semantics.specs.declared.graph.Region.{Region}
 use Rattle.semantics.specs.declared.graph.Region.TheVariants.{Root, Arm}
-use Rattle.semantics.specs.Meaning.{Context, Main, Called, Turned}
 use Rattle.law_confluence.specs.OrdersTotals.{one, total}
 use Rattle.law_confluence.proofs.OrdersTotals.{one-cases}
+use Rattle.law_confluence.proofs.EquationsContexts.{same_context_is, same_itself}
 use Rattle.law_net.specs.ContextsParts.{Part, Entry, Line, Answer, Trigger, Gate, Merge, Opener, Framer, Fanned, Linker, Sender, Landing, CallDone, Giver}
 use Rattle.law_net.specs.ContextsParts.{Taker, Drainer, LoopDone, Strict, Result, TurnCont, TurnFlag, TurnValue, Asker, NextFramer, NextFanned, NextSender}
 use Rattle.law_net.specs.ContextsParts.{LastReturn, DrainReturn, Join, CondEnd, End, Asked, NextAsked, InCell, Drained, Shown, Done, Freed, Inlet, Item, Key}
-use Rattle.law_net.specs.ContextsParts.{region_key, part_key, same_key, same_part, same_port, same_inlet, same_context, Spot, spot_of, same_spot}
+use Rattle.law_net.specs.ContextsParts.{region_key, part_key, same_key, same_part, same_port, same_inlet, Spot, spot_of, same_spot}
 
 -- PARTS, by their keys: the numbers determine all but a join's region
 pub region_apart : (r s : Region) → region_key r ≡ region_key s → r ≡ s
@@ -100,33 +100,14 @@ same_inlet-true x y h =
 pub same_inlet-refl : (x : Inlet) → same_inlet x x ≡ true
 same_inlet-refl x = and_from _ _ (same_part-refl x.part) (and_from _ _ (same_port-refl x.port) (eq-eqb x.way x.way refl))
 
-pub same_context-true : (c d : Context) → same_context c d ≡ true → c ≡ d
-same_context-true Main Main h = refl
-same_context-true Main (Called d n) h = absurd (true≢false (sym h))
-same_context-true Main (Turned d n j) h = absurd (true≢false (sym h))
-same_context-true (Called c m) Main h = absurd (true≢false (sym h))
-same_context-true (Called c m) (Called d n) h =
-    let k = and_parts _ _ h in let e = same_context-true c d k.1 in let g = eqb-true m n k.0 in λ t. Called (e t) (g t)
-same_context-true (Called c m) (Turned d n j) h = absurd (true≢false (sym h))
-same_context-true (Turned c m i) Main h = absurd (true≢false (sym h))
-same_context-true (Turned c m i) (Called d n) h = absurd (true≢false (sym h))
-same_context-true (Turned c m i) (Turned d n j) h =
-    let k = and_parts _ _ h in let q = and_parts _ _ k.1 in let e = same_context-true c d q.1 in let g = eqb-true m n k.0 in let f = eqb-true i j q.0 in
-    λ t. Turned (e t) (g t) (f t)
-
-pub same_context-refl : (c : Context) → same_context c c ≡ true
-same_context-refl Main = refl
-same_context-refl (Called c n) = and_from _ _ (eq-eqb n n refl) (same_context-refl c)
-same_context-refl (Turned c n i) = and_from _ _ (eq-eqb n n refl) (and_from _ _ (eq-eqb i i refl) (same_context-refl c))
-
 pub spot_is : (x y : Spot) → x.context ≡ y.context → x.inlet ≡ y.inlet → x ≡ y
 spot_is x y a b = λ t. record { context = a t; inlet = b t }
 
 pub same_spot-true : (x y : Spot) → same_spot x y ≡ true → x ≡ y
-same_spot-true x y h = let k = and_parts _ _ h in spot_is x y (same_context-true x.context y.context k.0) (same_inlet-true x.inlet y.inlet k.1)
+same_spot-true x y h = let k = and_parts _ _ h in spot_is x y (same_context_is x.context y.context k.0) (same_inlet-true x.inlet y.inlet k.1)
 
 pub same_spot-refl : (x : Spot) → same_spot x x ≡ true
-same_spot-refl x = and_from _ _ (same_context-refl x.context) (same_inlet-refl x.inlet)
+same_spot-refl x = and_from _ _ (same_itself x.context) (same_inlet-refl x.inlet)
 
 -- HOW OFTEN something occurs in a list
 module _ {X Y : Type 0} (same : X → X → Bool) (at : Y → X) (sound : (a b : X) → same a b ≡ true → a ≡ b) (self : (a : X) → same a a ≡ true) where

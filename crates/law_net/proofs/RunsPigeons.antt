@@ -6,10 +6,12 @@ use Rattle.lemmas.proofs.Contains.{contains_cases, contains_head, contains_none,
 use Rattle.law_confluence.specs.OrdersTotals.{one, total}
 use Rattle.law_confluence.proofs.Orders.{total-append}
 use Rattle.semantics.specs.Meaning.{Context}
-use Rattle.law_net.specs.ContextsParts.{Part, Item, Firing, Spot, spot_of, same_spot, same_context, same_part}
+use Rattle.law_confluence.specs.EquationsContexts.{same_context}
+use Rattle.law_confluence.proofs.EquationsContexts.{same_context_is, same_itself}
+use Rattle.law_net.specs.ContextsParts.{Part, Item, Firing, Spot, spot_of, same_spot, same_part}
 use Rattle.law_net.specs.ContextsFirings.{is_firing, times}
 use Rattle.law_net.specs.ContextsMirror.{is_item_at, items_at}
-use Rattle.law_net.proofs.ContextsSames.{hits_at, same_spot-refl, same_context-refl, same_context-true, same_part-refl, same_part-true}
+use Rattle.law_net.proofs.ContextsSames.{hits_at, same_spot-refl, same_part-refl, same_part-true}
 use Rattle.law_net.proofs.WiredNets.{count_total}
 
 abbrev pub sum_to : (ℕ → ℕ) → ℕ → ℕ
@@ -61,10 +63,10 @@ pub items_total : (c : Context) (r : Part) (items : List Item) → items_at c r 
 items_total c r items = count_total (is_item_at c r) items
 
 pub item_there : (c : Context) (r : Part) (i : Item) → is_item_at c r i ≡ true → (i.context ≡ c) × (i.inlet.part ≡ r)
-item_there c r i h = let k = and_parts _ _ h in (same_context-true i.context c k.0, same_part-true i.inlet.part r k.1)
+item_there c r i h = let k = and_parts _ _ h in (same_context_is i.context c k.0, same_part-true i.inlet.part r k.1)
 
 pub item_here : (c : Context) (r : Part) (i : Item) → i.context ≡ c → i.inlet.part ≡ r → is_item_at c r i ≡ true
-item_here c r i a b = and_from _ _ (ap (λ (d : Context). same_context d c) a ∙ same_context-refl c) (ap (λ (q : Part). same_part q r) b ∙ same_part-refl r)
+item_here c r i a b = and_from _ _ (ap (λ (d : Context). same_context d c) a ∙ same_itself c) (ap (λ (q : Part). same_part q r) b ∙ same_part-refl r)
 
 pub some_item : (c : Context) (r : Part) (items : List Item) (i : Item) → Contains items i → i.context ≡ c → i.inlet.part ≡ r
     → 0 < total (λ (i : Item). one (is_item_at c r i)) items
@@ -80,10 +82,10 @@ pub times_total : (c : Context) (r : Part) (fired : List Firing) → times c r f
 times_total c r fired = count_total (is_firing c r) fired
 
 pub firing_there : (c : Context) (r : Part) (f : Firing) → is_firing c r f ≡ true → (f.context ≡ c) × (f.part ≡ r)
-firing_there c r f h = let k = and_parts _ _ h in (same_context-true f.context c k.0, same_part-true f.part r k.1)
+firing_there c r f h = let k = and_parts _ _ h in (same_context_is f.context c k.0, same_part-true f.part r k.1)
 
 pub firing_here : (c : Context) (r : Part) (f : Firing) → f.context ≡ c → f.part ≡ r → is_firing c r f ≡ true
-firing_here c r f a b = and_from _ _ (ap (λ (d : Context). same_context d c) a ∙ same_context-refl c) (ap (λ (q : Part). same_part q r) b ∙ same_part-refl r)
+firing_here c r f a b = and_from _ _ (ap (λ (d : Context). same_context d c) a ∙ same_itself c) (ap (λ (q : Part). same_part q r) b ∙ same_part-refl r)
 
 -- each firing of a part took an item there
 pub times_items : (c : Context) (r : Part) (g : Firing → List Item) (fired : List Firing)

@@ -13,10 +13,11 @@ use Rattle.semantics.specs.Graph.{Block, Flow, Node, node_at}
 use Rattle.semantics.specs.Meaning.{Context}
 use Rattle.law_confluence.specs.OrdersTotals.{one, total}
 use Rattle.law_confluence.proofs.Orders.{total-append}
+use Rattle.law_confluence.specs.EquationsContexts.{same_context}
 use Rattle.law_net.specs.ContextsParts.{Part, Entry, Line, Trigger, Gate, Framer, Fanned, Linker, Sender, Landing, Giver, Taker, Drainer, LoopDone, Result}
 use Rattle.law_net.specs.ContextsParts.{TurnCont, TurnFlag, TurnValue, Asker, NextFramer, NextFanned, NextSender, LastReturn, DrainReturn, End, Asked}
 use Rattle.law_net.specs.ContextsParts.{NextAsked, InCell, Drained, Shown, Done, Freed, Inlet, inlet, Note, Datum, FrameOf, BackTo, ToHost, signal, Item, item}
-use Rattle.law_net.specs.ContextsParts.{each, Firing, Spot, spot_of, same_context, same_inlet, same_spot}
+use Rattle.law_net.specs.ContextsParts.{each, Firing, Spot, spot_of, same_inlet, same_spot}
 use Rattle.law_net.specs.ContextsBlocks.{is_switch, Side, side, is_cell, is_store, is_kind, cell_kind, plain_kind, is_plain, waits_in, there_in, is_loop}
 use Rattle.law_net.specs.Contexts.{Wires, block_in, wiring_in, site_in, child, next, IsContext}
 use Rattle.law_net.specs.ContextsFirings.{left_way, right_way, left_item, own_takes, renewed, takes, request_of, given_back, arguments, sent_word, along}

@@ -10,10 +10,11 @@ use Rattle.semantics.specs.Graph.{Flow, first_cell, array_len}
 use Rattle.semantics.specs.Meaning.{Context, Main, Called, Turned, Memory, with_cell, with_output, origin_at, node_of}
 use Rattle.law_confluence.proofs.Net.{NetConfig, NetMove, Waits, Fires}
 use Rattle.law_confluence.proofs.NetChains.{NetMoves}
+use Rattle.law_confluence.specs.EquationsContexts.{same_context}
 use Rattle.law_net.specs.ContextsParts.{Part, Entry, Line, Trigger, Gate, Merge, Opener, Framer, Fanned, Linker, Sender, Landing, CallDone, Giver, Taker}
 use Rattle.law_net.specs.ContextsParts.{Drainer, LoopDone, Strict, Result, TurnCont, TurnFlag, TurnValue, Asker, NextFramer, NextFanned, NextSender, LastReturn}
 use Rattle.law_net.specs.ContextsParts.{DrainReturn, Join, CondEnd, End, Asked, NextAsked, InCell, Drained, Shown, Done, Freed, Inlet, inlet, Note, Datum}
-use Rattle.law_net.specs.ContextsParts.{FrameOf, BackTo, ToHost, signal, Item, item, each, Firing, same_part, same_context}
+use Rattle.law_net.specs.ContextsParts.{FrameOf, BackTo, ToHost, signal, Item, item, each, Firing, same_part}
 use Rattle.law_net.specs.ContextsBlocks.{side, is_cell, is_store, waits_in, source_count}
 use Rattle.law_net.specs.Contexts.{Wires, block_in, wiring_in, child, next, is_strict_in}
 

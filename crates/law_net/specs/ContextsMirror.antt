@@ -24,8 +24,9 @@ use Rattle.semantics.specs.Credits.{granted_at, released_at}
 use Rattle.semantics.specs.Orderly.{readers_of}
 use Rattle.semantics.specs.Plan.{Plan, landing}
 use Rattle.law_confluence.proofs.NetSlots.{InSlots}
+use Rattle.law_confluence.specs.EquationsContexts.{same_context}
 use Rattle.law_net.specs.ContextsParts.{Part, Entry, Line, Opener, Giver, Taker, Drainer, Landing, Asked, NextAsked, InCell, Drained, Shown, Done, Freed, Inlet}
-use Rattle.law_net.specs.ContextsParts.{Note, Datum, FrameOf, BackTo, ToHost, Item, Firing, same_context, same_part}
+use Rattle.law_net.specs.ContextsParts.{Note, Datum, FrameOf, BackTo, ToHost, Item, Firing, same_part}
 use Rattle.law_net.specs.ContextsBlocks.{waits_in, is_store, is_loop, bound_at, callee_code}
 use Rattle.law_net.specs.Contexts.{Wires, block_in, code_in, wiring_in, or_zero, IsContext}
 use Rattle.law_net.specs.ContextsCredits.{Ledger, slot_for, CreditLaw}

@@ -36,12 +36,12 @@ use Rattle.schemas.specs.Expanded.{plain_code, variant_code, expanded}
 use Rattle.schemas.proofs.Small.{small_flow}
 use Rattle.law_net.specs.ContextsParts.{Part, Entry, Line, Framer, Fanned, Linker, Landing, CallDone, Giver, Taker, Drainer, LoopDone, Asker, NextFramer}
 use Rattle.law_net.specs.ContextsParts.{NextFanned, Inlet, inlet}
-use Rattle.law_net.specs.ContextsParts as Parts
 use Rattle.law_net.specs.ContextsBlocks as Blocks
 use Rattle.law_net.specs.ContextsBlocks.{Side, side, Wiring, Site, there_in, waits_in, op_of, kind_op, is_kind, is_call, is_loop, invokes, result_count}
 use Rattle.law_net.specs.ContextsBlocks.{kind_results, code_called, callee_code, outputs_in}
 use Rattle.law_net.specs.ContextsWires.{answered_at, is_unwired, wired_port, leads_to, ip_and_port}
 use Rattle.law_net.specs.ContextsExpanded.{variant_in}
+use Rattle.law_net.proofs.ContextsBlocks.{waits_dyadic}
 use Rattle.law_wiring.specs.WrittenFit.{IsCallee, Takes}
 use Rattle.law_wiring.proofs.BoundsWholes.{same_looped}
 use Rattle.law_wiring.proofs.FactsCodes.{plain_at, variant_at}
@@ -153,35 +153,6 @@ given_behind b r h = refl
 landing_behind : (b : Block ℕ) (n j : ℕ) → 0 < j → is_behind b (Landing n j) ≡ true
 landing_behind b n zero l = absurd (omega (arith, l))
 landing_behind b n (suc j) l = refl
-
-pair_dyadic : (k : Kind ℕ) → Blocks.pair_kind k ≡ true → is_dyadic (kind_op k) ≡ true
-pair_dyadic (Kind.Apply2 op) h = refl
-pair_dyadic (Kind.Store a) h = refl
-pair_dyadic k h = absurd (cc)
-
-line_dyadic : (o : Option (Node ℕ)) → elim o as (λ x. Bool) [ None ↦ false | Some line ↦ Blocks.pair_kind line.kind ] ≡ true
-    → is_dyadic (elim o as (λ x. Op) [ None ↦ Op.Copy | Some line ↦ kind_op line.kind ]) ≡ true
-line_dyadic None h = absurd (cc)
-line_dyadic (Some x) h = pair_dyadic x.kind h
-
--- where two words meet, there is an instruction with two operands
-waits_dyadic : (v : ℕ → ℕ) (s : Site) (r : Part) → waits_in s.block r ≡ true → is_dyadic (op_of v s r) ≡ true
-waits_dyadic v s (Line n) h = line_dyadic (node_at s.block n) h
-waits_dyadic v s (Parts.Trigger k) h = refl
-waits_dyadic v s (Parts.Gate n) h = refl
-waits_dyadic v s (Parts.Sender n j) h = refl
-waits_dyadic v s (Parts.Strict n j) h = refl
-waits_dyadic v s (Parts.Result j) h = refl
-waits_dyadic v s Parts.TurnCont h = refl
-waits_dyadic v s Parts.TurnFlag h = refl
-waits_dyadic v s (Parts.TurnValue j) h = refl
-waits_dyadic v s Asker h = refl
-waits_dyadic v s (Parts.NextSender j) h = refl
-waits_dyadic v s (Parts.LastReturn j) h = refl
-waits_dyadic v s Parts.DrainReturn h = refl
-waits_dyadic v s (Parts.Join q j) h = refl
-waits_dyadic v s Parts.End h = refl
-waits_dyadic v s r h = absurd (cc)
 
 line_links_not : (o : Option (Node ℕ)) (k : ℕ) → elim o as (λ x. Op) [ None ↦ Op.Copy | Some line ↦ kind_op line.kind ] ≡ Link k → ⊥
 line_links_not None k e = absurd (cc)

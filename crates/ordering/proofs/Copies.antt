@@ -4,7 +4,8 @@ use Rattle.std.specs.Prelude.{IsPermutation, if◌then◌else◌}
 use Rattle.std.proofs.lemmas.List.Sums.{sum_by-cons, sum_by-append, sum_by_more}
 use Rattle.std.proofs.lemmas.List.Sorted.{IsPermutation-refl, IsPermutation-trans, IsPermutation-cons, IsPermutation-middle, sum_by-IsPermutation}
 use Rattle.tags.specs.declared.token.Token.{Token}
-use Rattle.ordering.specs.Keys.{same, same_exact, same_itself}
+use Rattle.tags.specs.contracts.token.TokenEq.TheImpl.Laws.{laws-law}
+use Rattle.ordering.specs.Keys.{same, same_exact}
 use Rattle.ordering.specs.Pools.{copies, all_copies, more_than_one}
 
 -- how often q is t, as a function of t
@@ -21,7 +22,7 @@ pub copies_permuted : (q : Token) (ts us : List Token) → IsPermutation ts us �
 copies_permuted q ts us p = sum_by-IsPermutation (ticks q) ts us p
 
 pub once : (t : Token) → copies t t ≡ 1
-once t = ap (λ (b : Bool). if b then 1 else 0) (same_itself t)
+once t = ap (λ (b : Bool). if b then 1 else 0) (laws-law.refl t)
 
 -- a token that is in the list
 pub found : (t : Token) (ts : List Token) → 0 < all_copies t ts → (rest : List Token) × IsPermutation ts (t ∷ rest)

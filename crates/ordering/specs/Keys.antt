@@ -1,7 +1,7 @@
 -- Equal tokens are one token, so they have the same numbers.
-use Rattle.std.specs.Prelude.{◌≡◌, ℕ, ℤ, Bool, true, false, ◌&&◌, ◌==◌, IsTrue, ◌++◌}
+use Rattle.std.specs.Prelude.{◌≡◌, ℕ, ℤ, Bool, ◌&&◌, ◌==◌, IsTrue, ◌++◌}
 use Rattle.std.proofs.Common.{refl, sym, ap, ap₂, true≢false}
-use Rattle.std.proofs.lemmas.Bool.{eqb-true, eq-eqb}
+use Rattle.std.proofs.lemmas.Bool.{and_parts, eqb-true}
 use Rattle.std.specs.Cmp.{signed_Decides}
 use Rattle.tags.specs.declared.token.Token.{Token}
 use Rattle.tags.specs.declared.token.To.{To}
@@ -26,103 +26,57 @@ use Rattle.tags.specs.contracts.value.ValuePartialEq.TheImpl as value_eq
 abbrev pub same : Token → Token → Bool
 same = (token_eq.ghosts).eq
 
-both : (a b : Bool) → IsTrue (a && b) → IsTrue a × IsTrue b
-both true b e = (refl, e)
-both false b e = absurd (true≢false (sym e))
-
-no : {X : Type 0} → IsTrue false → X
-no e = absurd (true≢false (sym e))
-
 port_exact : (p q : Port) → IsTrue ((port_eq.ghosts).eq p q) → p ≡ q
 port_exact Port.Left Port.Left e = refl
-port_exact Port.Left Port.Right e = no e
-port_exact Port.Right Port.Left e = no e
 port_exact Port.Right Port.Right e = refl
+port_exact p q e = absurd (true≢false (sym e))
 
 kind_exact : (k l : FaultKind) → IsTrue ((kind_eq.ghosts).eq k l) → k ≡ l
 kind_exact FaultKind.Zero FaultKind.Zero e = refl
-kind_exact FaultKind.Zero FaultKind.Range e = no e
-kind_exact FaultKind.Range FaultKind.Zero e = no e
 kind_exact FaultKind.Range FaultKind.Range e = refl
+kind_exact k l e = absurd (true≢false (sym e))
 
 origin_exact : (o p : Origin) → IsTrue ((origin_eq.ghosts).eq o p) → o ≡ p
 origin_exact Origin.Untold Origin.Untold e = refl
-origin_exact Origin.Untold (Origin.At c m) e = no e
-origin_exact (Origin.At b n) Origin.Untold e = no e
-origin_exact (Origin.At b n) (Origin.At c m) e = let h = both (b == c) (n == m) e in ap₂ (λ (x y : ℕ). Origin.At x y) (eqb-true b c h.0) (eqb-true n m h.1)
+origin_exact (Origin.At b n) (Origin.At c m) e = let h = and_parts (b == c) (n == m) e in ap₂ (λ (x y : ℕ). Origin.At x y) (eqb-true b c h.0) (eqb-true n m h.1)
+origin_exact o p e = absurd (true≢false (sym e))
 
 value_exact : (v w : Value) → IsTrue ((value_eq.ghosts).eq v w) → v ≡ w
 value_exact (Value.Int z) (Value.Int y) e = ap (λ (x : ℤ). Value.Int x) ((signed_Decides z y).0 e)
-value_exact (Value.Int z) (Value.Fault l p) e = no e
-value_exact (Value.Fault k o) (Value.Int y) e = no e
 value_exact (Value.Fault k o) (Value.Fault l p) e =
-    let h = both ((kind_eq.ghosts).eq k l) ((origin_eq.ghosts).eq o p) e in
+    let h = and_parts ((kind_eq.ghosts).eq k l) ((origin_eq.ghosts).eq o p) e in
     ap₂ (λ (x : FaultKind) (y : Origin). Value.Fault x y) (kind_exact k l h.0) (origin_exact o p h.1)
+value_exact v w e = absurd (true≢false (sym e))
 
 placed : (f g i j : ℕ) (p q : Port) → IsTrue ((f == g) && ((i == j) && (port_eq.ghosts).eq p q)) → (f ≡ g) × (i ≡ j) × (p ≡ q)
 placed f g i j p q e =
-    let h = both (f == g) ((i == j) && (port_eq.ghosts).eq p q) e in
-    let k = both (i == j) ((port_eq.ghosts).eq p q) h.1 in
+    let h = and_parts (f == g) ((i == j) && (port_eq.ghosts).eq p q) e in
+    let k = and_parts (i == j) ((port_eq.ghosts).eq p q) h.1 in
     (eqb-true f g h.0, eqb-true i j k.0, port_exact p q k.1)
 
 cont_exact : (c d : Cont) → IsTrue ((cont_eq.ghosts).eq c d) → c ≡ d
 cont_exact (Cont.Frame f i p) (Cont.Frame g j q) e = let h = placed f g i j p q e in ap₂ (λ (x : ℕ) (y : ℕ × Port). Cont.Frame x y.0 y.1) h.0 (ap₂ (λ (x : ℕ) (y : Port). (x, y)) h.1 h.2)
-cont_exact (Cont.Frame f i p) (Cont.Host q) e = no e
-cont_exact (Cont.Host p) (Cont.Frame g j q) e = no e
 cont_exact (Cont.Host p) (Cont.Host q) e = ap (λ (x : ℕ). Cont.Host x) (eqb-true p q e)
+cont_exact c d e = absurd (true≢false (sym e))
 
 word_exact : (u v : Word) → IsTrue ((word_eq.ghosts).eq u v) → u ≡ v
 word_exact (Word.Val v) (Word.Val w) e = ap (λ (x : Value). Word.Val x) (value_exact v w e)
-word_exact (Word.Val v) (Word.Frame g) e = no e
-word_exact (Word.Val v) (Word.Back d) e = no e
-word_exact (Word.Frame f) (Word.Val w) e = no e
 word_exact (Word.Frame f) (Word.Frame g) e = ap (λ (x : ℕ). Word.Frame x) (eqb-true f g e)
-word_exact (Word.Frame f) (Word.Back d) e = no e
-word_exact (Word.Back c) (Word.Val w) e = no e
-word_exact (Word.Back c) (Word.Frame g) e = no e
 word_exact (Word.Back c) (Word.Back d) e = ap (λ (x : Cont). Word.Back x) (cont_exact c d e)
+word_exact u v e = absurd (true≢false (sym e))
 
 to_exact : (a b : To) → IsTrue ((to_eq.ghosts).eq a b) → a ≡ b
 to_exact (To.Instr f ip p) (To.Instr g iq q) e = let h = placed f g ip iq p q e in ap₂ (λ (x : ℕ) (y : ℕ × Port). To.Instr x y.0 y.1) h.0 (ap₂ (λ (x : ℕ) (y : Port). (x, y)) h.1 h.2)
-to_exact (To.Instr f ip p) (To.Fetch y) e = no e
-to_exact (To.Instr f ip p) (To.Store y w) e = no e
-to_exact (To.Instr f ip p) To.Manager e = no e
-to_exact (To.Instr f ip p) (To.Release g) e = no e
-to_exact (To.Instr f ip p) (To.Host q) e = no e
-to_exact (To.Fetch x) (To.Instr g iq q) e = no e
 to_exact (To.Fetch x) (To.Fetch y) e = ap (λ (z : ℕ). To.Fetch z) (eqb-true x y e)
-to_exact (To.Fetch x) (To.Store y w) e = no e
-to_exact (To.Fetch x) To.Manager e = no e
-to_exact (To.Fetch x) (To.Release g) e = no e
-to_exact (To.Fetch x) (To.Host q) e = no e
-to_exact (To.Store x v) (To.Instr g iq q) e = no e
-to_exact (To.Store x v) (To.Fetch y) e = no e
-to_exact (To.Store x v) (To.Store y w) e = let h = both (x == y) ((value_eq.ghosts).eq v w) e in ap₂ (λ (z : ℕ) (u : Value). To.Store z u) (eqb-true x y h.0) (value_exact v w h.1)
-to_exact (To.Store x v) To.Manager e = no e
-to_exact (To.Store x v) (To.Release g) e = no e
-to_exact (To.Store x v) (To.Host q) e = no e
-to_exact To.Manager (To.Instr g iq q) e = no e
-to_exact To.Manager (To.Fetch y) e = no e
-to_exact To.Manager (To.Store y w) e = no e
+to_exact (To.Store x v) (To.Store y w) e = let h = and_parts (x == y) ((value_eq.ghosts).eq v w) e in ap₂ (λ (z : ℕ) (u : Value). To.Store z u) (eqb-true x y h.0) (value_exact v w h.1)
 to_exact To.Manager To.Manager e = refl
-to_exact To.Manager (To.Release g) e = no e
-to_exact To.Manager (To.Host q) e = no e
-to_exact (To.Release f) (To.Instr g iq q) e = no e
-to_exact (To.Release f) (To.Fetch y) e = no e
-to_exact (To.Release f) (To.Store y w) e = no e
-to_exact (To.Release f) To.Manager e = no e
 to_exact (To.Release f) (To.Release g) e = ap (λ (z : ℕ). To.Release z) (eqb-true f g e)
-to_exact (To.Release f) (To.Host q) e = no e
-to_exact (To.Host p) (To.Instr g iq q) e = no e
-to_exact (To.Host p) (To.Fetch y) e = no e
-to_exact (To.Host p) (To.Store y w) e = no e
-to_exact (To.Host p) To.Manager e = no e
-to_exact (To.Host p) (To.Release g) e = no e
 to_exact (To.Host p) (To.Host q) e = ap (λ (z : ℕ). To.Host z) (eqb-true p q e)
+to_exact a b e = absurd (true≢false (sym e))
 
 pub same_exact : (t u : Token) → IsTrue (same t u) → t ≡ u
 same_exact t u e =
-    let h = both ((to_eq.ghosts).eq t.to u.to) ((word_eq.ghosts).eq t.word u.word) e in
+    let h = and_parts ((to_eq.ghosts).eq t.to u.to) ((word_eq.ghosts).eq t.word u.word) e in
     ap₂ (λ (x : To) (y : Word). record { to = x; word = y }) (to_exact t.to u.to h.0) (word_exact t.word u.word h.1)
 
 -- what a map makes its number of a token from
@@ -131,50 +85,3 @@ hashed t = fed.u64 (to_number t.to) ++ fed.u64 (word_number t.word)
 
 pub same_hashed : (t u : Token) → IsTrue (same t u) → hashed t ≡ hashed u
 same_hashed t u e = ap hashed (same_exact t u e)
-
--- EACH IS EQUAL TO ITSELF
-two : (a b : Bool) → IsTrue a → IsTrue b → IsTrue (a && b)
-two true b e f = f
-two false b e f = e
-
-number_itself : (n : ℕ) → IsTrue (n == n)
-number_itself n = eq-eqb n n refl
-
-port_itself : (p : Port) → IsTrue ((port_eq.ghosts).eq p p)
-port_itself Port.Left = refl
-port_itself Port.Right = refl
-
-kind_itself : (k : FaultKind) → IsTrue ((kind_eq.ghosts).eq k k)
-kind_itself FaultKind.Zero = refl
-kind_itself FaultKind.Range = refl
-
-origin_itself : (o : Origin) → IsTrue ((origin_eq.ghosts).eq o o)
-origin_itself Origin.Untold = refl
-origin_itself (Origin.At b n) = two (b == b) (n == n) (number_itself b) (number_itself n)
-
-value_itself : (v : Value) → IsTrue ((value_eq.ghosts).eq v v)
-value_itself (Value.Int z) = (signed_Decides z z).1 refl
-value_itself (Value.Fault k o) = two ((kind_eq.ghosts).eq k k) ((origin_eq.ghosts).eq o o) (kind_itself k) (origin_itself o)
-
-placed_itself : (f i : ℕ) (p : Port) → IsTrue ((f == f) && ((i == i) && (port_eq.ghosts).eq p p))
-placed_itself f i p = two (f == f) ((i == i) && (port_eq.ghosts).eq p p) (number_itself f) (two (i == i) ((port_eq.ghosts).eq p p) (number_itself i) (port_itself p))
-
-cont_itself : (c : Cont) → IsTrue ((cont_eq.ghosts).eq c c)
-cont_itself (Cont.Frame f i p) = placed_itself f i p
-cont_itself (Cont.Host p) = number_itself p
-
-word_itself : (w : Word) → IsTrue ((word_eq.ghosts).eq w w)
-word_itself (Word.Val v) = value_itself v
-word_itself (Word.Frame f) = number_itself f
-word_itself (Word.Back c) = cont_itself c
-
-to_itself : (a : To) → IsTrue ((to_eq.ghosts).eq a a)
-to_itself (To.Instr f i p) = placed_itself f i p
-to_itself (To.Fetch x) = number_itself x
-to_itself (To.Store x v) = two (x == x) ((value_eq.ghosts).eq v v) (number_itself x) (value_itself v)
-to_itself To.Manager = refl
-to_itself (To.Release f) = number_itself f
-to_itself (To.Host p) = number_itself p
-
-pub same_itself : (t : Token) → same t t ≡ true
-same_itself t = two ((to_eq.ghosts).eq t.to t.to) ((word_eq.ghosts).eq t.word t.word) (to_itself t.to) (word_itself t.word)

@@ -1,2 +1,2 @@
 mod Objects
-mod Pairs
+pub mod Pairs

@@ -5,7 +5,7 @@ use Rattle.std.proofs.lemmas.Option.{slice_get_read, slice_get-get_or, slice_get
 use Rattle.trace_text.specs.TraceText.{paired}
 use Rattle.html_text.specs.DataText.{event_text}
 use Rattle.sink.proofs.Sent.{sends_from, sends_other, sends_same}
-use Rattle.html_text.proofs.Pairs.{less_left, stopped, none_left, next_pair, no_event, no_moment}
+use Rattle.trace_text.proofs.Pairs.{less_left, stopped, none_left, next_pair, no_event, no_moment}
 use Rattle.html_text.proofs.data.send_events.Goals as goal
 
 pub returns-in_default : goal.returns-in_default

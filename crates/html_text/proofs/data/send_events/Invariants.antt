@@ -1,7 +1,7 @@
 use Rattle.std.proofs.Common.{◌+◌, drop}
 use Rattle.html_text.specs.DataText.{event_text}
 use Rattle.trace_text.specs.TraceText.{paired}
-use Rattle.html_text.proofs.Pairs.{IsLeft}
+use Rattle.trace_text.proofs.Pairs.{IsLeft}
 use Rattle.html_text.proofs.data.send_events.Given as goal
 
 abbrev pub invariant-loop-place : goal.invariant-loop-place
