@@ -2,6 +2,7 @@ pub mod Setting
 pub mod State
 pub mod Steps
 pub mod Runs
+pub mod Alone
 pub mod Starts
 pub mod Reported
 pub mod Unlisted

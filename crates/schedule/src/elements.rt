@@ -7,10 +7,12 @@ ghost use Rattle.semantics.specs.Report.{sum_below};
 ghost use Rattle.element.specs.Holding.{Holding, held_of};
 ghost use Rattle.schedule.specs.Setting.{total};
 ghost use Rattle.schedule.specs.Reported.{credits_below, ShowsLaneParts};
-ghost use Rattle.schedule.specs.State.{state_of, IsWell, IsSoundState, tokens_in};
+ghost use Rattle.schedule.specs.State.{State, state_of, IsWell, IsSoundState, tokens_in};
+ghost use Rattle.schedule.specs.Alone.{LeadsTo};
 ghost use Rattle.schedule.specs.Steps.{Steps, logged};
 ghost use Rattle.schedule.specs.Runs.{HasToken, IsHalt, Advances, Plays, rounds_of};
 
+use crate::alone::make_events;
 use crate::counting::{credits_in, deferred, frames_out, full_cells, requests};
 use crate::delivery::{deliver, has_token_for};
 use crate::halt::Halt;
@@ -26,6 +28,11 @@ use tags::value::Value;
 
 /// The site of the loop of one element, which has the code of a step built into it.
 struct Alone<L: Log> {
+    _log: PhantomData<L>,
+}
+
+/// The site of that loop where each event is listed.
+struct Listed<L: Log> {
     _log: PhantomData<L>,
 }
 
@@ -244,10 +251,48 @@ impl<'m, C: MainCode, A: Allocator> Elements<'m, C, A> {
         }
     }
 
-    // The same as `play_in_turn`, of one element, which is always in turn. After as many steps as there may be events it goes on
-    // as with any number of elements. That steps are counted lets each way through an event lead straight on to the next one.
+    // Lets the one element make one event after another where no token is on its way, and answers why it makes no more.
+    #[inline(always)]
+    fn run_alone<Site>(&mut self) -> Option<Stepped>
+    where
+        A: Clone,
+        requires well { IsWell C.program C.width self.old }
+        requires one { self.old.shape.elements ≡ 1 }
+        requires sent { self.old.sent.items ≡ [] }
+        requires arrived { self.old.arrived ≡ 0 }
+        ensures well { IsWell C.program C.width self.new }
+        ensures shape { self.new.shape ≡ self.old.shape }
+        ensures exact { (made : Events) × (last : State) × LeadsTo 1 (state_of C.program C.width self.old) made last × (events : Events) × Steps last 0 0 result (state_of C.program C.width self.new) events }
+    {
+        let lane = &mut self.lanes[0];
+        make_events::<C, A, Site>(lane, &mut self.sent)
+    }
+
+    // The same as `play_in_turn`, of one element, where no event is listed: the element is always in turn.
     #[inline(never)]
     fn play_alone<L: Log>(&mut self, log: &mut EventLog<A, L>) -> Halt
+    where
+        A: Clone,
+        requires well { IsWell C.program C.width self.old }
+        requires one { self.old.shape.elements ≡ 1 }
+        requires quiet { L.KEEPS_EVENTS ≡ false }
+        ensures well { IsWell C.program C.width self.new }
+        ensures exact { (rounds : ℕ) × (events : Events) × Plays false (rounds_of rounds self.old.shape.elements) (state_of C.program C.width self.old) (state_of C.program C.width self.new) result events × (log.new.events.items ≡ logged L.KEEPS_EVENTS log.old.events.items events) }
+    {
+        if self.settle().is_err() {
+            return self.play_passes(log);
+        }
+        let stepped = self.run_alone::<Alone<L>>();
+        match self.halts(false, stepped) {
+            None => self.play_passes(log),
+            Some(halt) => halt,
+        }
+    }
+
+    // The same as `play_in_turn`, of one element, where each event is listed. After as many steps as there may be events it goes on
+    // as with any number of elements. That steps are counted lets each way through an event lead straight on to the next one.
+    #[inline(never)]
+    fn play_listed<L: Log>(&mut self, log: &mut EventLog<A, L>) -> Halt
     where
         A: Clone,
         requires well { IsWell C.program C.width self.old }
@@ -257,7 +302,7 @@ impl<'m, C: MainCode, A: Allocator> Elements<'m, C, A> {
     {
         let mut left = self.shape.steps;
         'events: while left != 0 {
-            match self.advance::<L, Alone<L>>(false, 0, 0, log) {
+            match self.advance::<L, Listed<L>>(false, 0, 0, log) {
                 None => {}
                 Some(halt) => return halt,
             }
@@ -293,10 +338,12 @@ impl<'m, C: MainCode, A: Allocator> Elements<'m, C, A> {
         ensures well { IsWell C.program C.width self.new }
         ensures exact { (rounds : ℕ) × (events : Events) × Plays false (rounds_of rounds self.old.shape.elements) (state_of C.program C.width self.old) (state_of C.program C.width self.new) result events × (log.new.events.items ≡ logged L.KEEPS_EVENTS log.old.events.items events) }
     {
-        if self.shape.elements == 1 {
-            self.play_alone(log)
-        } else {
+        if self.shape.elements != 1 {
             self.play_passes(log)
+        } else if L::KEEPS_EVENTS {
+            self.play_listed(log)
+        } else {
+            self.play_alone(log)
         }
     }
 

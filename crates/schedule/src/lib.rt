@@ -2,6 +2,7 @@
 //! order that the caller picks.
 #![tactic(auto)]
 
+mod alone;
 pub mod config;
 mod counting;
 mod delivery;

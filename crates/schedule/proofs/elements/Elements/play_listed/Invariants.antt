@@ -4,7 +4,7 @@ use Rattle.schedule.specs.declared.halt.Halt.{Halt}
 use Rattle.schedule.specs.State.{State, state_of, IsWell}
 use Rattle.schedule.specs.Steps.{logged}
 use Rattle.schedule.specs.Runs.{Plays, rounds_of}
-use Rattle.schedule.proofs.elements.Elements.play_alone.Given as goal
+use Rattle.schedule.proofs.elements.Elements.play_listed.Given as goal
 
 abbrev pub invariant-events : goal.invariant-events
 invariant-events g l = record {
