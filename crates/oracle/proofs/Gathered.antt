@@ -1,5 +1,5 @@
 -- A token's partners: those that are there are all taken, each once, and nothing is left that did not wait.
-use Rattle.std.proofs.Common.{◌≡◌, ℕ, zero, suc, ◌+◌, ◌<◌, ◌⊎◌, inl, inr, Bool, true, false, ◌&&◌, ◌||◌, List, [], ◌∷◌, ◌++◌, length, Option, Some, None, if◌then◌else◌, IsPermutation, refl, sym, ap, ◌∙◌, subst, arith, eq-eqb, ⊎_elim}
+use Rattle.std.proofs.Common.{◌≡◌, ℕ, zero, suc, ◌+◌, ◌<◌, inl, inr, Bool, true, false, ◌&&◌, ◌||◌, List, [], ◌∷◌, ◌++◌, length, Option, Some, None, if◌then◌else◌, IsPermutation, refl, sym, ap, ◌∙◌, subst, arith, eq-eqb, ⊎_elim}
 use Rattle.std.specs.Prelude.{remove, is_some}
 use Rattle.std.proofs.lemmas.List.{length-append}
 use Rattle.std.proofs.lemmas.List.Sorted.{IsPermutation-sym}

@@ -5,6 +5,7 @@ mod Complete
 pub mod Counting
 mod DeedLaws
 mod Doing
+mod Earlier
 mod Enabled
 mod Entering
 mod Filling

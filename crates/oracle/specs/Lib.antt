@@ -5,6 +5,7 @@ pub mod Lines
 pub mod Meant
 pub mod Naming
 pub mod Numbering
+pub mod Pairing
 pub mod Reporting
 pub mod Rows
 pub mod Running

@@ -1,5 +1,5 @@
 -- The tokens that an activity adds.
-use Rattle.std.specs.Prelude.{ℕ, ◌+◌, zero, suc, Bool, false, ◌&&◌, ◌==◌, List, [], ◌∷◌, ◌++◌, if◌then◌else◌}
+use Rattle.std.specs.Prelude.{◌≡◌, ◌<◌, Some, slice_get, ℕ, ◌+◌, zero, suc, Bool, false, ◌&&◌, ◌==◌, List, [], ◌∷◌, ◌++◌, if◌then◌else◌}
 use Rattle.tags.specs.declared.value.Value.{Value}
 use Rattle.semantics.specs.declared.graph.Region.{Region}
 use Rattle.semantics.specs.declared.graph.Region.TheVariants.{Root, Arm}
@@ -19,6 +19,10 @@ token_at x s = record { context = x.context; spot = s; value = x.value }
 
 abbrev pub is_port_of : Source → ℕ → ℕ → Bool
 is_port_of s n p = (s.node == n) && (s.port == p)
+
+-- the sources of each node are earlier ones; the first of the nodes has number m
+abbrev pub AreOrdered : ℕ → List (Node (List ℕ)) → Type 0
+AreOrdered m nodes = (k : ℕ) (node : Node (List ℕ)) (i : ℕ) (s : Source) → slice_get nodes k ≡ Some node → slice_get node.sources i ≡ Some s → s.node < m + k
 
 -- for each operand of node m that comes from port p of node n
 abbrev pub operand_tokens : Sent → ℕ → ℕ → ℕ → ℕ → List Source → List Token

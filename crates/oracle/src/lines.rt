@@ -54,6 +54,7 @@ fn resolved<'a, A: Allocator>(checked: &Checked<'a, A>, kind: &Kind<Name<'a>>) -
 }
 
 /// What is at that number in the block at that place.
+#[inline(always)]
 pub fn line_at<'a, A: Allocator>(checked: &Checked<'a, A>, block: usize, node: usize) -> Line
     ensures { result ≡ Lines.line_of checked.now block node }
 {

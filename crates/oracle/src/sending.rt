@@ -25,6 +25,7 @@ fn is_port(source: Source, node: usize, port: usize) -> bool
     source.node as usize == node && source.port as usize == port
 }
 
+#[inline(always)]
 fn push<A: Allocator>(
     fresh: &mut VecDeque<Token, A>,
     sent: &Sent,
@@ -74,6 +75,26 @@ fn send_to_nodes<'a, A: Allocator>(
         send_to_operands(fresh, sent, node, port, inputs + i, &line.sources)?;
     }
     Ok(())
+}
+
+/// A token for each of the nodes' operands that comes from the port. No node before that one has it for a source.
+fn send_to_later<'a, A: Allocator>(
+    fresh: &mut VecDeque<Token, A>,
+    sent: &Sent,
+    node: usize,
+    port: usize,
+    inputs: usize,
+    nodes: &[Node<'a, A>],
+) -> Result<(), AllocError>
+    requires few { inputs + length nodes.now < 2 ^ 64 }
+    requires ordered { Sending.AreOrdered inputs nodes.now }
+    ensures { OnOk result (fresh.new.items ≡ fresh.old.items ++ Sending.node_tokens sent.now node port inputs nodes.now) }
+{
+    if node < inputs || node - inputs >= nodes.len() {
+        return send_to_nodes(fresh, sent, node, port, inputs, nodes);
+    }
+    let later = &nodes[node - inputs + 1..];
+    send_to_nodes(fresh, sent, node, port, node + 1, later)
 }
 
 /// The flag of an iteration goes to each of its turns.
@@ -138,10 +159,11 @@ pub fn send<'a, A: Allocator>(
     port: usize,
     block: &Block<'a, A>,
 ) -> Result<(), AllocError>
+    requires ordered { Sending.AreOrdered block.now.1.inputs block.now.1.nodes }
     ensures { OnOk result (fresh.new.items ≡ fresh.old.items ++ Sending.sent_tokens sent.now made node port block.now.1) }
 {
     let inputs = block.inputs as usize;
-    send_to_nodes(fresh, sent, node, port, inputs, &block.nodes)?;
+    send_to_later(fresh, sent, node, port, inputs, &block.nodes)?;
     send_to_results(fresh, sent, made, inputs, (node, port), &block.results)
 }
 

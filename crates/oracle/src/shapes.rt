@@ -3,6 +3,7 @@
 ghost use Rattle.std.specs.Prelude.{◌≡◌, ◌++◌, Some, OnOk};
 ghost use Rattle.semantics.specs.Graph.{Graph};
 ghost use Rattle.oracle.specs.Lines as Lines;
+ghost use Rattle.oracle.specs.Pairing.{IsPartner};
 
 use crate::invocations::{Invocation, Made};
 use crate::lines::{block_at, node_at};
@@ -27,6 +28,19 @@ pub enum Shape {
     Turns { number: usize },
     /// A result of main.
     Outputs { number: usize },
+}
+
+/// What an activity takes beside a token.
+#[derive(Clone, Copy, Debug)]
+pub enum Partner {
+    /// The activity takes the token alone.
+    Nothing,
+    /// The token, and then one at this spot.
+    Then(Spot),
+    /// One at this spot, and then the token.
+    First(Spot),
+    /// Whatever is at all its spots.
+    Listed,
 }
 
 /// A node that takes all its operands at once, and has as many as it takes.
@@ -142,6 +156,55 @@ pub fn shape_of<'a, A: Allocator>(
         }
         Spot::Out { number } => shape_of_result(invocation.made, number),
         Spot::Flag { number } | Spot::Carried { number } => shape_of_turn(invocation.made, number),
+    }
+}
+
+/// What a node takes beside one of its operands.
+fn partner_of_operand(node: usize, count: usize, position: usize) -> Partner
+    ensures { IsPartner (Shape.Fires node count) (Spot.Operand node position) result }
+{
+    match (count, position) {
+        (1, 0) => Partner::Nothing,
+        (2, 0) => Partner::Then(Spot::Operand { node, position: 1 }),
+        (2, 1) => Partner::First(Spot::Operand { node, position: 0 }),
+        _ => Partner::Listed,
+    }
+}
+
+/// What an activity takes beside the token at one of its spots.
+pub fn partner_of(shape: Shape, spot: Spot) -> Partner
+    ensures { IsPartner shape spot result }
+{
+    match (shape, spot) {
+        (Shape::Fires { node, count }, Spot::Operand { node: at, position }) if at == node => {
+            partner_of_operand(node, count, position)
+        }
+        (
+            Shape::Gates { node },
+            Spot::Operand {
+                node: at,
+                position: 0,
+            },
+        ) if at == node => { Partner::Then(Spot::Predicate { node }) }
+        (Shape::Gates { node }, Spot::Predicate { node: at }) if at == node => {
+            Partner::First(Spot::Operand { node, position: 0 })
+        }
+        (
+            Shape::Passes { node, position },
+            Spot::Operand {
+                node: at,
+                position: i,
+            },
+        ) if at == node && i == position => Partner::Nothing,
+        (Shape::Returns { number } | Shape::Outputs { number }, Spot::Out { number: at })
+            if at == number => { Partner::Nothing }
+        (Shape::Turns { number }, Spot::Flag { number: at }) if at == number => {
+            Partner::Then(Spot::Carried { number })
+        }
+        (Shape::Turns { number }, Spot::Carried { number: at }) if at == number => {
+            Partner::First(Spot::Flag { number })
+        }
+        _ => Partner::Listed,
     }
 }
 

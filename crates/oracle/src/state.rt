@@ -1,19 +1,19 @@
 //! A state of a run: the tokens, the cells, and the outputs.
 
-ghost use Rattle.std.specs.Prelude.{◌≡◌, ◌≢◌, ◌≤◌, ◌∷◌, ◌++◌, [], map, Some, slice_get, IfOk, OnOk, MatchOption, MatchResult};
-ghost use Rattle.oracle.specs.Lines.{total_of, spots_in};
+ghost use Rattle.std.specs.Prelude.{◌≡◌, ◌≢◌, ◌≤◌, ◌∷◌, ◌++◌, [], map, None, Some, slice_get, IfOk, OnOk, MatchOption, MatchResult};
+ghost use Rattle.oracle.specs.Lines.{total_of};
 ghost use Rattle.oracle.specs.Acting as Acting;
 ghost use Rattle.oracle.specs.Running.{plain, join_of, Alone, Joins, Fails, entered, performed};
 ghost use Rattle.oracle.specs.Running as Running;
 ghost use Rattle.oracle.specs.Rows.{rows_of, with_row, next_among, Goes, Stays, Breaks};
 
 use crate::deeds::{Deed, deed_of};
-use crate::gather::{Row, all_there, reach, take_out};
+use crate::gather::{Row, reach, take_partners};
 use crate::invocations::{Invocation, Invocations, Made};
 use crate::lines::block_at;
 use crate::report::MeanEnd;
 use crate::sending::{Sent, enter, enter_all, send, steer};
-use crate::shapes::{Shape, list_spots, shape_of};
+use crate::shapes::{Shape, shape_of};
 use crate::tokens::{Spot, Token};
 use graph_check::Checked;
 use std::alloc::{AllocError, Allocator};
@@ -60,27 +60,22 @@ pub enum Gate {
     Clashes { array: usize, index: u32 },
 }
 
-/// Takes the partners of a token, all of which wait.
-fn take_all<'a, A: Allocator + Clone>(
+/// The activity that takes the listed values.
+fn act_on<'a, A: Allocator + Clone>(
     checked: &Checked<'a, A>,
-    waiting: &mut Vec<Token, A>,
-    token: &Token,
+    context: usize,
     invocation: &Invocation,
     shape: &Shape,
-    spare: &mut Spare<A>,
+    listed: &mut Vec<Value, A>,
 ) -> Result<Act<A>, AllocError>
     requires few { total_of checked.now.arrays ≤ 65536 }
-    requires spots { spare.old.spots.items ≡ spots_in shape.now }
-    requires never_fails { Running.join_all checked.now waiting.old.items token.now invocation.now shape.now ≢ Fails }
-    ensures { IfOk result (λ act. Running.join_all checked.now waiting.old.items token.now invocation.now shape.now ≡ Joins waiting.new.items act.values.items act.deed) }
+    requires known { Acting.deed_in checked.now context invocation.now shape.now listed.old.items ≢ None }
+    ensures values { IfOk result (λ act. act.values.items ≡ listed.old.items) }
+    ensures deed { IfOk result (λ act. Acting.deed_in checked.now context invocation.now shape.now listed.old.items ≡ Some act.deed) }
 {
-    let none = Vec::new(waiting.allocator().clone()?);
-    let values = mem::replace(&mut spare.values, none);
-    let values = take_out(values, waiting, token, &spare.spots)?;
-    if values.len() != spare.spots.len() {
-        unreachable!()
-    }
-    match deed_of(checked, token.context, *invocation, *shape, &values) {
+    let none = Vec::new(listed.allocator().clone()?);
+    let values = mem::replace(listed, none);
+    match deed_of(checked, context, *invocation, *shape, &values) {
         Some(deed) => Ok(Act { values, deed }),
         None => unreachable!(),
     }
@@ -101,13 +96,13 @@ fn join_for<'a, A: Allocator + Clone>(
         ((Running.join_shape checked.now waiting.old.items token.now invocation.now (Some shape.now) ≡ Alone) × (waiting.new.items ≡ waiting.old.items ++ token.now ∷ []))
         (λ act. Running.join_shape checked.now waiting.old.items token.now invocation.now (Some shape.now) ≡ Joins waiting.new.items act.values.items act.deed)) }
 {
-    list_spots(&mut spare.spots, *shape)?;
-    if all_there(waiting, token, &spare.spots) {
-        let act = take_all(checked, waiting, token, invocation, shape, spare)?;
-        return Ok(Some(act));
+    let Spare { spots, values } = spare;
+    if !take_partners(spots, values, waiting, token, *shape)? {
+        waiting.push(*token)?;
+        return Ok(None);
     }
-    waiting.push(*token)?;
-    Ok(None)
+    let act = act_on(checked, token.context, invocation, shape, values)?;
+    Ok(Some(act))
 }
 
 /// Joins a token with its partners, which are taken out. Where one is missing, or where no activity takes the token, it is
@@ -221,6 +216,7 @@ pub fn next_act<'a, A: Allocator + Clone>(
 }
 
 /// Sends a value on a port of a node of an invocation.
+#[tactic(auto, using(crate::proofs::Earlier::ordered_in))]
 fn send_at<'a, A: Allocator>(
     checked: &Checked<'a, A>,
     fresh: &mut VecDeque<Token, A>,
