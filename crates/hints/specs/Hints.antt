@@ -16,7 +16,7 @@ hint_text None cause = hint_line cause
 hint_text (Some place) cause = hint_line place ++ hint_line cause
 
 -- WHERE A HINT IS WANTED: where a write failed, of a refusal, and of a mistake in the command line; of a report of which the exit status is
--- not 0, of orders that differ, and of a page of many events. A picture and events as data do not report how a run ended.
+-- not 0, of orders that differ, and of a page of many events. A picture and events as data do not tell how a run ended.
 abbrev pub wants_hint : Option Outcome → Bool
 wants_hint None = true
 wants_hint (Some Outcome.Done) = false

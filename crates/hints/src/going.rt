@@ -1,6 +1,5 @@
-//! How far the first tokens of some program have been read: what is open there, and what comes next.
+//! How far tokens have come with which some program begins: what is open there, and what comes next.
 
-use source::token::{Keyword, Sign, Token, TokenKind};
 use std::alloc::{AllocError, Allocator};
 
 /// What is open, from its first token on.
@@ -10,24 +9,22 @@ pub enum Part {
     Function,
     /// The arm of an `if` before its `else`.
     Then,
-    Else,
-    /// The turn of a loop that tests before its body.
-    Turn,
     /// The turn of a loop that tests after its body.
     FirstTurn,
+    /// Another block: the arm after `else`, or the turn of a loop that tests before its body.
+    Block,
     /// The values of a `let`, up to its `;`.
     Let,
+    /// An expression in brackets, or the test of a loop after its body.
     Group,
     Arguments,
     Index,
     /// The test of an `if`, up to the brace after it.
     Test,
     /// The test of a loop before its body, up to the brace after it.
-    WhileTest,
+    LoopTest,
     /// A first value of a loop.
     FirstValue,
-    /// The test of a loop after its body.
-    LastTest,
 }
 
 /// What is open, and the place of the token that opened it.
@@ -65,33 +62,43 @@ pub enum Next {
     AfterOperand,
 }
 
-/// How far the tokens have been read.
+impl Part {
+    pub fn is_block(self) -> bool {
+        matches!(
+            self,
+            Part::Function | Part::Then | Part::FirstTurn | Part::Block
+        )
+    }
+
+    /// The part that a word opens where this comes next and that was opened last, if it opens one.
+    fn opened(next: Next, word: &str, innermost: Option<Part>) -> Option<Part> {
+        let part = match (next, word) {
+            (_, "if") => Part::Test,
+            (Next::Form(Form::LastTest), "while") => return None,
+            (_, "while") => Part::LoopTest,
+            (Next::Form(Form::Function), "{") => Part::Function,
+            (Next::Form(Form::Let), "=") => Part::Let,
+            (Next::Form(Form::Loop), "=") => Part::FirstValue,
+            (Next::Form(Form::Loop), "{") => Part::FirstTurn,
+            (Next::Form(Form::LastTest), "(") => Part::Group,
+            (Next::Form(Form::Else), "{") => Part::Block,
+            (Next::Form(Form::StrictCall) | Next::AfterOperand, "(") => Part::Arguments,
+            (Next::Form(_), _) => return None,
+            (_, "(") => Part::Group,
+            (_, "[") => Part::Index,
+            (_, "{") if matches!(innermost, Some(Part::LoopTest)) => Part::Block,
+            (_, "{") => Part::Then,
+            _ => return None,
+        };
+        Some(part)
+    }
+}
+
+/// How far the tokens have come.
 #[derive(Drop)]
 pub struct Going<A: Allocator> {
     pub next: Next,
     open: Vec<Opened, A>,
-}
-
-impl Part {
-    /// Whether it is a block.
-    pub fn is_block(self) -> bool {
-        matches!(
-            self,
-            Part::Function | Part::Then | Part::Else | Part::Turn | Part::FirstTurn
-        )
-    }
-
-    /// What comes after it.
-    fn after(self) -> Next {
-        match self {
-            Part::Function => Next::Form(Form::Item),
-            Part::Then => Next::Form(Form::Else),
-            Part::FirstTurn => Next::Form(Form::LastTest),
-            Part::FirstValue => Next::Form(Form::Loop),
-            Part::Let => Next::Step,
-            _ => Next::AfterOperand,
-        }
-    }
 }
 
 impl<A: Allocator> Going<A> {
@@ -108,94 +115,56 @@ impl<A: Allocator> Going<A> {
         self.open.last().copied()
     }
 
-    fn push(&mut self, part: Part, at: usize) -> Result<(), AllocError> {
-        self.next = if part.is_block() {
-            Next::Step
-        } else {
-            Next::Expression
-        };
-        Ok(self.open.push(Opened { part, at })?)
-    }
-
-    /// Closes what was opened last.
-    fn pop(&mut self) {
-        self.next = match self.open.pop() {
-            Some(closed) => closed.part.after(),
+    /// Closes what was opened last. Gives what comes after it.
+    fn close(&mut self) -> Next {
+        match self.open.pop() {
+            Some(Opened { part, .. }) => match part {
+                Part::Function => Next::Form(Form::Item),
+                Part::Then => Next::Form(Form::Else),
+                Part::FirstTurn => Next::Form(Form::LastTest),
+                Part::FirstValue => Next::Form(Form::Loop),
+                Part::Let => Next::Step,
+                _ => Next::AfterOperand,
+            },
             None => Next::AfterOperand,
-        };
+        }
     }
 
     /// Goes on by a token.
-    pub fn take(&mut self, token: Token) -> Result<(), AllocError> {
-        match (self.next, token.kind) {
-            (_, TokenKind::Word { keyword }) => self.take_word(keyword, token.at),
-            (Next::Form(form), TokenKind::Mark { sign }) => self.take_in(form, sign, token.at),
-            (_, TokenKind::Mark { sign }) => self.take_sign(sign, token.at),
-            (Next::Form(_), _) => Ok(()),
-            _ => {
-                self.next = Next::AfterOperand;
-                Ok(())
-            }
-        }
-    }
-
-    fn take_word(&mut self, keyword: Keyword, at: usize) -> Result<(), AllocError> {
-        let form = match (keyword, self.next) {
-            (Keyword::Array, _) => Form::Array,
-            (Keyword::Fn, _) => Form::Function,
-            (Keyword::Let, _) => Form::Let,
-            (Keyword::Strict, _) => Form::StrictCall,
-            (Keyword::Loop, _) => Form::Loop,
-            (Keyword::Else, _) => Form::Else,
-            (Keyword::If, _) => return self.push(Part::Test, at),
-            (Keyword::While, Next::Form(Form::LastTest)) => Form::LastTest,
-            (Keyword::While, _) => return self.push(Part::WhileTest, at),
-            (Keyword::Inputs, _) => return Ok(()),
-        };
-        self.next = Next::Form(form);
-        Ok(())
-    }
-
-    /// Goes on by a sign in this form.
-    fn take_in(&mut self, form: Form, sign: Sign, at: usize) -> Result<(), AllocError> {
-        let part = match (form, sign) {
-            (Form::Function, Sign::OpenBrace) => Part::Function,
-            (Form::Let, Sign::Equals) => Part::Let,
-            (Form::Loop, Sign::Equals) => Part::FirstValue,
-            (Form::Loop, Sign::OpenBrace) => Part::FirstTurn,
-            (Form::LastTest, Sign::OpenParen) => Part::LastTest,
-            (Form::Else, Sign::OpenBrace) => Part::Else,
-            (Form::StrictCall, Sign::OpenParen) => Part::Arguments,
-            (Form::Array, Sign::Semicolon) => {
-                self.next = Next::Form(Form::Item);
-                return Ok(());
-            }
-            _ => return Ok(()),
-        };
-        self.push(part, at)
-    }
-
-    /// Goes on by a sign outside forms.
-    fn take_sign(&mut self, sign: Sign, at: usize) -> Result<(), AllocError> {
+    pub fn take(&mut self, word: &str, at: usize) -> Result<(), AllocError> {
         let innermost = self.innermost().map(|opened| opened.part);
-        match (sign, self.next, innermost) {
-            (Sign::OpenParen, Next::AfterOperand, _) => return self.push(Part::Arguments, at),
-            (Sign::OpenParen, _, _) => return self.push(Part::Group, at),
-            (Sign::OpenBracket, _, _) => return self.push(Part::Index, at),
-            (Sign::OpenBrace, _, Some(Part::WhileTest)) => {
-                self.pop();
-                return self.push(Part::Turn, at);
+        if let Some(part) = Part::opened(self.next, word, innermost) {
+            if word == "{" && !matches!(self.next, Next::Form(_)) {
+                self.open.pop();
             }
-            (Sign::OpenBrace, _, _) => {
-                self.pop();
-                return self.push(Part::Then, at);
-            }
-            (Sign::CloseParen | Sign::CloseBracket | Sign::CloseBrace, _, _)
-            | (Sign::Comma, _, Some(Part::FirstValue))
-            | (Sign::Semicolon, _, Some(Part::Let)) => self.pop(),
-            (Sign::Semicolon, _, _) => self.next = Next::Step,
-            _ => self.next = Next::Expression,
+            let is_block = part.is_block();
+            self.next = if is_block {
+                Next::Step
+            } else {
+                Next::Expression
+            };
+            return Ok(self.open.push(Opened { part, at })?);
         }
+        let is_sign = word
+            .as_bytes()
+            .iter()
+            .all(|byte| byte.is_ascii_punctuation());
+        self.next = match (self.next, word, innermost) {
+            (_, "array", _) => Next::Form(Form::Array),
+            (_, "fn", _) => Next::Form(Form::Function),
+            (_, "let", _) => Next::Form(Form::Let),
+            (_, "strict", _) => Next::Form(Form::StrictCall),
+            (_, "loop", _) => Next::Form(Form::Loop),
+            (_, "else", _) => Next::Form(Form::Else),
+            (Next::Form(Form::Array), ";", _) => Next::Form(Form::Item),
+            (Next::Form(form), _, _) => Next::Form(form),
+            (_, ")" | "]" | "}", _)
+            | (_, ",", Some(Part::FirstValue))
+            | (_, ";", Some(Part::Let)) => self.close(),
+            (_, ";", _) => Next::Step,
+            _ if is_sign => Next::Expression,
+            _ => Next::AfterOperand,
+        };
         Ok(())
     }
 }

@@ -9,8 +9,7 @@ use std::alloc::{AllocError, Allocator};
 use std::io::{self, Write};
 use std::marker::Model;
 
-/// The text of a line of a hint, without the `hint: ` before it and without its line feed. Contracts see its bytes, all of
-/// which are printable.
+/// The text of a line of a hint, without the `hint: ` before it and without its line feed. Contracts see its bytes, all of which are printable.
 #[derive(Drop)]
 pub struct Line<A: Allocator> {
     bytes: Vec<u8, A>,

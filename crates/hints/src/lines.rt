@@ -2,21 +2,24 @@
 
 use std::str;
 
-/// The byte between two fields.
-pub const SPACE: u8 = b' ';
-/// The byte at the end of a line.
-pub const LINE_FEED: u8 = b'\n';
+pub fn is_space(byte: &u8) -> bool {
+    *byte == b' '
+}
+
+pub fn is_line_feed(byte: &u8) -> bool {
+    *byte == b'\n'
+}
 
 /// Line `number` of the text, counted from 1; empty where there is no such line.
 pub fn line_at(text: &[u8], number: u64) -> &[u8] {
     let place = number.saturating_sub(1) as usize;
-    let mut lines = text.split(|byte| *byte == LINE_FEED);
+    let mut lines = text.split(is_line_feed);
     lines.nth(place).unwrap_or(b"")
 }
 
 /// The field at `place` in a line, counted from 0.
 pub fn field_at(line: &[u8], place: usize) -> Option<&[u8]> {
-    line.split(|byte| *byte == SPACE).nth(place)
+    line.split(is_space).nth(place)
 }
 
 /// The field at `place` in a line, where that is text; empty where it is not.
@@ -25,15 +28,15 @@ pub fn text_at(line: &[u8], place: usize) -> &str {
 }
 
 /// How many fields a line has after the first ones.
-pub fn fields_behind(line: &[u8], first: u64) -> u64 {
-    (line.split(|byte| *byte == SPACE).count() as u64).saturating_sub(first)
+pub fn fields_after(line: &[u8], first: u64) -> u64 {
+    (line.split(is_space).count() as u64).saturating_sub(first)
 }
 
 /// Splits the input in two: the graph's text, up to the end of the first line that begins with `main `, and what follows it.
 pub fn split_graph(input: &[u8]) -> (&[u8], &[u8]) {
     let mut is_main = input.starts_with(b"main ");
     for (i, byte) in input.iter().enumerate() {
-        if *byte == LINE_FEED {
+        if *byte == b'\n' {
             let (before, after) = input.split_at(i + 1);
             if is_main {
                 return (before, after);
@@ -45,7 +48,7 @@ pub fn split_graph(input: &[u8]) -> (&[u8], &[u8]) {
 }
 
 /// Where in a graph a line is.
-#[derive(Clone, Copy, PartialEq, Eq)]
+#[derive(Clone, Copy)]
 pub enum Spot {
     /// Outside a block, before the first one.
     Arrays,
@@ -70,33 +73,34 @@ pub struct Context<'a> {
 }
 
 impl<'a> Context<'a> {
-    /// Goes on by this line.
-    fn take(&mut self, line: &'a [u8]) {
-        match (self.spot, text_at(line, 0)) {
-            (Spot::Arrays, "array") => self.arrays = self.arrays.saturating_add(1),
-            (Spot::Arrays | Spot::Blocks, "block") => {
-                self.spot = Spot::Nodes;
-                self.block = field_at(line, 1).unwrap_or(b"");
-                self.blocks = self.blocks.saturating_add(1);
+    /// What is before line `number`, counted from 1. Each line before it is in order.
+    pub fn before(text: &'a [u8], number: u64) -> Context<'a> {
+        let (mut spot, mut block): (Spot, &[u8]) = (Spot::Arrays, b"");
+        let (mut arrays, mut blocks) = (0u64, 0u64);
+        let count = number.saturating_sub(1) as usize;
+        for line in text.split(is_line_feed).take(count) {
+            match text_at(line, 0) {
+                "array" => arrays = arrays.saturating_add(1),
+                "block" => {
+                    spot = Spot::Nodes;
+                    block = field_at(line, 1).unwrap_or(b"");
+                    blocks = blocks.saturating_add(1);
+                }
+                "out" => spot = Spot::Closing,
+                "end" => spot = Spot::Blocks,
+                _ => (),
             }
-            (Spot::Nodes, "out") => self.spot = Spot::Closing,
-            (Spot::Closing, "end") => self.spot = Spot::Blocks,
-            _ => (),
+        }
+        Context {
+            spot,
+            block,
+            arrays,
+            blocks,
         }
     }
 
-    /// What is before line `number`, counted from 1. The first line is the header.
-    pub fn before(text: &'a [u8], number: u64) -> Context<'a> {
-        let mut context = Context {
-            spot: Spot::Arrays,
-            block: b"",
-            arrays: 0,
-            blocks: 0,
-        };
-        let count = number.saturating_sub(1) as usize;
-        for line in text.split(|byte| *byte == LINE_FEED).take(count).skip(1) {
-            context.take(line);
-        }
-        context
+    /// Whether the line is outside a block.
+    pub fn is_outside(&self) -> bool {
+        matches!(self.spot, Spot::Arrays | Spot::Blocks)
     }
 }

@@ -1,5 +1,7 @@
-//! Messages: a text, with the values that it shows.
+//! Messages: a text, with the values that it shows, and where its cause is.
 
+use crate::catalog::found;
+use crate::lines::is_space;
 use graph_check::CheckFaultKind;
 use graph_file::ReadFaultKind;
 use semantics::graph::{Region, Source};
@@ -16,14 +18,14 @@ pub enum Piece<'a> {
     Word(&'a str),
     /// Bytes of a text.
     Bytes(&'a [u8]),
-    /// Bytes of the line at the message's place, which are shown there.
+    /// Bytes of the line at the message's place, which are to be seen there.
     Field(&'a [u8]),
     Number(u64),
-    /// A column of the line at the message's place, from 1, which is shown there.
+    /// A column of the line at the message's place, from 1, which is to be seen there.
     Column(u64),
     /// A line, of which the part round a column, from 1, is shown where the line is long.
     Line(&'a [u8], u64),
-    /// How many of something there are: `1 source`, `2 sources`.
+    /// How many of a thing there are: `1 source`, `2 sources`.
     Count(u64, &'static str),
     /// A region: `the root`, or `arm 3+`.
     Lies(Region),
@@ -34,6 +36,8 @@ pub enum Piece<'a> {
     Programming(FaultKind),
 }
 
+use Piece::{Column, Field, Line, Nothing, Number, Word};
+
 /// Shows bytes: one that is not printable as `\xHH`, and only the beginning where there are many.
 fn show_bytes<W: fmt::Write>(bytes: &[u8], f: &mut fmt::Formatter<W>) -> fmt::Result {
     for byte in bytes.iter().take(MOST) {
@@ -42,10 +46,7 @@ fn show_bytes<W: fmt::Write>(bytes: &[u8], f: &mut fmt::Formatter<W>) -> fmt::Re
             other => write!(f, "\\x{other:02x}")?,
         }
     }
-    if bytes.len() > MOST {
-        f.write_str("..")?;
-    }
-    Ok(())
+    f.write_str(if bytes.len() > MOST { ".." } else { "" })
 }
 
 fn show_line<W: fmt::Write>(line: &[u8], column: u64, f: &mut fmt::Formatter<W>) -> fmt::Result {
@@ -70,11 +71,11 @@ fn show_region<W: fmt::Write>(region: Region, f: &mut fmt::Formatter<W>) -> fmt:
 impl Display for Piece<'_> {
     fn fmt<W: fmt::Write>(&self, f: &mut fmt::Formatter<W>) -> fmt::Result {
         match *self {
-            Piece::Nothing => Ok(()),
-            Piece::Word(word) => f.write_str(word),
-            Piece::Bytes(bytes) | Piece::Field(bytes) => show_bytes(bytes, f),
-            Piece::Number(number) | Piece::Column(number) => write!(f, "{number}"),
-            Piece::Line(line, column) => show_line(line, column, f),
+            Nothing => Ok(()),
+            Word(word) => f.write_str(word),
+            Piece::Bytes(bytes) | Field(bytes) => show_bytes(bytes, f),
+            Number(number) | Column(number) => write!(f, "{number}"),
+            Line(line, column) => show_line(line, column, f),
             Piece::Count(1, noun) => write!(f, "1 {noun}"),
             Piece::Count(count, noun) => write!(f, "{count} {noun}s"),
             Piece::Lies(region) => show_region(region, f),
@@ -86,7 +87,7 @@ impl Display for Piece<'_> {
     }
 }
 
-/// A text, in which each `{}` stands for the next of the pieces.
+/// A text, and the pieces that it shows.
 #[derive(Clone, Copy)]
 pub struct Message<'a> {
     text: &'static str,
@@ -96,39 +97,36 @@ pub struct Message<'a> {
     fourth: Piece<'a>,
 }
 
-/// A message that shows nothing.
-pub fn say<'a>(text: &'static str) -> Message<'a> {
-    one(text, Piece::Nothing)
+/// The message of this name, which shows nothing.
+pub fn say<'a>(name: &'static str) -> Message<'a> {
+    one(name, Nothing)
 }
 
-/// A message that shows one piece.
-pub fn one<'a>(text: &'static str, first: Piece<'a>) -> Message<'a> {
-    two(text, first, Piece::Nothing)
+pub fn one<'a>(name: &'static str, first: Piece<'a>) -> Message<'a> {
+    two(name, first, Nothing)
 }
 
-/// A message that shows two pieces.
-pub fn two<'a>(text: &'static str, first: Piece<'a>, second: Piece<'a>) -> Message<'a> {
-    three(text, first, second, Piece::Nothing)
+pub fn two<'a>(name: &'static str, first: Piece<'a>, second: Piece<'a>) -> Message<'a> {
+    three(name, first, second, Nothing)
 }
 
-/// A message that shows three pieces.
 pub fn three<'a>(
-    text: &'static str,
+    name: &'static str,
     first: Piece<'a>,
     second: Piece<'a>,
     third: Piece<'a>,
 ) -> Message<'a> {
-    four(text, first, second, third, Piece::Nothing)
+    four(name, first, second, third, Nothing)
 }
 
-/// A message that shows four pieces.
 pub fn four<'a>(
-    text: &'static str,
+    name: &'static str,
     first: Piece<'a>,
     second: Piece<'a>,
     third: Piece<'a>,
     fourth: Piece<'a>,
 ) -> Message<'a> {
+    let text = found("", name).unwrap_or("");
     Message {
         text,
         first,
@@ -138,51 +136,91 @@ pub fn four<'a>(
     }
 }
 
-/// The column of the first field of the line that has these bytes, from 1; 1 where none has.
-fn column_at(line: &[u8], field: &[u8]) -> u64 {
-    let mut column = 1u64;
-    for other in line.split(|byte| *byte == b' ') {
-        if other == field {
-            return column;
-        }
-        column = column.saturating_add(other.len() as u64).saturating_add(1);
-    }
-    1
-}
-
-impl Message<'_> {
-    /// The column of its line that is shown, from 1.
-    pub fn column(&self, line: &[u8]) -> u64 {
-        match self.first {
-            Piece::Field(field) => column_at(line, field),
-            Piece::Column(column) => column,
-            _ => 1,
-        }
+/// The message with this text, which shows one piece.
+pub fn showing<'a>(text: &'static str, first: Piece<'a>) -> Message<'a> {
+    Message {
+        text,
+        first,
+        second: Nothing,
+        third: Nothing,
+        fourth: Nothing,
     }
 }
 
-/// Writes the text up to its first `{}`, and the piece in place of that. Gives the text that is left.
-fn write_piece<'t, W: fmt::Write>(
-    text: &'t str,
-    piece: &Piece<'_>,
-    f: &mut fmt::Formatter<W>,
-) -> Result<&'t str, fmt::Error> {
-    match text.split_once("{}") {
-        Some((before, after)) => {
-            f.write_str(before)?;
-            Display::fmt(piece, f)?;
-            Ok(after)
-        }
-        None => Ok(text),
+/// The message of this name for a value that is not within these limits.
+pub fn outside<'a>(
+    name: &'static str,
+    what: &'static str,
+    value: u64,
+    least: u64,
+    most: u64,
+) -> Option<Message<'a>> {
+    if least <= value && value <= most {
+        return None;
     }
+    Some(four(name, Word(what), Number(value), Number(least), Number(most)))
+}
+
+/// What is reported where no more is known than what the output says; this part of the formats explains that.
+pub fn unknown<'a>(part: &'static str) -> Message<'a> {
+    one("unknown", Word(part))
 }
 
 impl Display for Message<'_> {
     fn fmt<W: fmt::Write>(&self, f: &mut fmt::Formatter<W>) -> fmt::Result {
-        let rest = write_piece(self.text, &self.first, f)?;
-        let rest = write_piece(rest, &self.second, f)?;
-        let rest = write_piece(rest, &self.third, f)?;
-        let rest = write_piece(rest, &self.fourth, f)?;
-        f.write_str(rest)
+        let mut parts = self.text.split('$');
+        f.write_str(parts.next().unwrap_or(""))?;
+        for part in parts {
+            match part.as_bytes().first() {
+                Some(b'1') => Display::fmt(&self.first, f)?,
+                Some(b'2') => Display::fmt(&self.second, f)?,
+                Some(b'3') => Display::fmt(&self.third, f)?,
+                _ => Display::fmt(&self.fourth, f)?,
+            }
+            f.write_str(part.get(1..).unwrap_or(""))?;
+        }
+        Ok(())
     }
+}
+
+/// The column of the first field of the line that has these bytes, from 1.
+pub fn column_at(line: &[u8], field: &[u8]) -> Option<u64> {
+    let mut column = 1u64;
+    for other in line.split(is_space) {
+        if other == field {
+            return Some(column);
+        }
+        column = column.saturating_add(other.len() as u64).saturating_add(1);
+    }
+    None
+}
+
+/// What a person reads: a cause, and its place if that is known.
+#[derive(Clone, Copy)]
+pub struct Found<'a> {
+    pub place: Option<Message<'a>>,
+    pub cause: Message<'a>,
+}
+
+/// A cause without a place.
+pub fn nowhere<'a>(cause: Message<'a>) -> Found<'a> {
+    Found { place: None, cause }
+}
+
+/// A cause at this place.
+pub fn at<'a>(place: Message<'a>, cause: Message<'a>) -> Found<'a> {
+    let place = Some(place);
+    Found { place, cause }
+}
+
+/// A cause at line `number` of a text, counted from 1, which is this line.
+pub fn at_line<'a>(number: u64, line: &'a [u8], cause: Message<'a>) -> Found<'a> {
+    let column = match cause.first {
+        Field(field) => column_at(line, field).unwrap_or(1),
+        Column(column) => column,
+        _ => 1,
+    };
+    let empty = line.is_empty();
+    let name = if empty { "empty-line" } else { "line" };
+    at(two(name, Number(number), Line(line, column)), cause)
 }

@@ -1,59 +1,53 @@
 //! What is wrong with the program of a text, for each kind of fault.
 
+use crate::catalog::found;
 use crate::going::{Form, Going, Next, Opened, Part};
-use crate::lines::line_at;
+use crate::lines::{is_line_feed, line_at};
 use crate::message::Piece::{Bytes, Count, Line, Number, Programming, Word};
-use crate::message::{Message, four, one, say, three, two};
+use crate::message::{Found, Message, at, four, nowhere, one, say, three, two};
 use crate::others::other_input;
-use crate::place::{Found, at, nowhere};
 use source::fault::{FaultKind, ProgramFault};
-use source::token::{Keyword, Sign, Token, TokenKind};
+use source::token::{Keyword, Sign, TokenKind};
 use source_tokens::{lex, position, split};
 use std::alloc::Allocator;
 use std::str;
 
-fn is_run_byte(byte: u8) -> bool {
-    byte.is_ascii_alphanumeric() || byte == b'_'
-}
-
-/// Whether a sign of two bytes begins with these.
-fn is_double(first: u8, second: u8) -> bool {
-    match second {
-        b'=' => matches!(first, b':' | b'=' | b'!' | b'<' | b'>'),
-        b'>' => matches!(first, b'-' | b'>'),
-        _ => second == b'<' && first == b'<',
-    }
-}
-
 /// The token, or the bad token, that begins at this place: a run of letters, digits and `_`, or a sign. Empty at the end.
 fn token_at(text: &[u8], at: usize) -> &[u8] {
     let bytes = text.get(at..).unwrap_or(b"");
-    let run = bytes.iter().take_while(|byte| is_run_byte(**byte)).count();
+    let is_run_byte = |byte: &&u8| byte.is_ascii_alphanumeric() || **byte == b'_';
+    let run = bytes.iter().take_while(is_run_byte).count();
     let len = match bytes {
         _ if run > 0 => run,
-        [first, second, ..] if is_double(*first, *second) => 2,
+        [b':' | b'=' | b'!' | b'<' | b'>', b'=', ..] => 2,
+        [b'-' | b'>', b'>', ..] | [b'<', b'<', ..] => 2,
         _ => 1,
     };
     bytes.get(..len).unwrap_or(bytes)
 }
 
-/// How many bytes are before this line and column.
+/// The token at this place as a word; empty where it is no text.
+fn word_at(text: &[u8], at: usize) -> &str {
+    str::from_utf8(token_at(text, at)).unwrap_or("")
+}
+
+/// How many bytes stand before this line and column.
 fn offset_of(text: &[u8], place: ProgramFault) -> usize {
-    let mut before = 0usize;
-    let lines = text.split(|byte| *byte == b'\n');
+    let mut before = place.column.saturating_sub(1);
+    let lines = text.split(is_line_feed);
     for line in lines.take(place.line.saturating_sub(1)) {
         before = before.saturating_add(line.len()).saturating_add(1);
     }
-    before.saturating_add(place.column.saturating_sub(1))
+    before
 }
 
-/// What is seen at the place of a fault: the token that is there and the one before it, if there are any; what comes next after that;
+/// What is seen at the place of a fault: the token there and the one before it, if there are any; what comes next after that;
 /// and what was opened last, and is open.
 #[derive(Clone, Copy)]
 struct Seen<'a> {
     text: &'a [u8],
-    stands: Option<Token>,
-    before: Option<Token>,
+    stands: &'a str,
+    before: &'a str,
     next: Next,
     innermost: Option<Opened>,
 }
@@ -62,234 +56,130 @@ struct Seen<'a> {
 fn look<'a, A: Allocator + Clone>(alloc: &A, text: &'a [u8], at: usize) -> Option<Seen<'a>> {
     let tokens = lex(alloc.clone().ok()?, text).ok()?;
     let mut going = Going::new(alloc.clone().ok()?);
-    let mut before = None;
-    let mut stands = None;
+    let mut before = "";
     for token in &tokens {
         if token.at >= at {
-            stands = Some(*token);
             break;
         }
-        going.take(*token).ok()?;
-        before = Some(*token);
+        before = word_at(text, token.at);
+        going.take(before, token.at).ok()?;
     }
     Some(Seen {
         text,
-        stands,
+        stands: word_at(text, at),
         before,
         next: going.next,
         innermost: going.innermost(),
     })
 }
 
-fn sign_of(token: Option<Token>) -> Option<Sign> {
-    match token?.kind {
-        TokenKind::Mark { sign } => Some(sign),
-        _ => None,
-    }
-}
-
-fn keyword_of(token: Option<Token>) -> Option<Keyword> {
-    match token?.kind {
-        TokenKind::Word { keyword } => Some(keyword),
-        _ => None,
-    }
-}
-
-/// How a part of a program is written.
-fn form_text(form: Form) -> &'static str {
+/// The name of the text that says how a part of a program is written.
+fn name_of(form: Form) -> &'static str {
     match form {
-        Form::Item =>
-            "a program has items: `array NAME[CELLS];` and `fn NAME(PARAMETERS) { BODY }`, with `-> N` before the body where there are N results",
-        Form::Array => "an array is written `array A[8];`, with a number of cells",
-        Form::Function =>
-            "a function is written `fn f(x, y) { BODY }`, or with two results `fn f(x, y) -> 2 { BODY }`, and has at least one parameter",
-        Form::Let =>
-            "`let` is written `let x = VALUE;`, or `let x, _ = VALUES;` where `_` drops a value",
-        Form::Loop =>
-            "a loop is written `loop 4 (i = 0, s = 0) while i < n { BODY }`, or `loop 4 (i = 0, s = 0) { BODY } while (i < n)`",
-        Form::LastTest =>
-            "a loop with its test behind the body is written `loop 4 (i = 0) { BODY } while (i < n)`, with the brackets",
-        Form::Else =>
-            "each `if` has an `else`: `if p { a } else { b }`, or `if p { a } else if q { b } else { c }`",
-        Form::StrictCall => "after `strict` stands a call: `strict f(x)`",
+        Form::Item => "item",
+        Form::Array => "array",
+        Form::Function => "function",
+        Form::Let => "let",
+        Form::Loop => "loop",
+        Form::LastTest => "last-test",
+        Form::Else => "else",
+        Form::StrictCall => "strict",
     }
 }
 
-/// What could be after an operand besides an operator.
+/// The name of the text that says what could stand after an operand besides an operator.
 fn rest_after(innermost: Option<Part>) -> &'static str {
     match innermost {
-        Some(Part::Let) => ", `,`, or the `;` that ends the `let`",
-        Some(Part::Group | Part::LastTest) => ", or the `)` that closes the bracket",
-        Some(Part::Arguments) => ", `,`, or the `)` that ends the call",
-        Some(Part::Index) => ", or the `]` that ends the index",
-        Some(Part::Test) => ", or the `{` of the arm",
-        Some(Part::WhileTest) => ", or the `{` of the loop's body",
-        Some(Part::FirstValue) => ", `,`, or the `)` that ends the loop's names",
-        _ => ", `,`, `;`, or the `}` that ends the block",
+        Some(Part::Let) => "after-value-of-let",
+        Some(Part::Group) => "after-grouped",
+        Some(Part::Arguments) => "after-argument",
+        Some(Part::Index) => "after-index",
+        Some(Part::Test) => "after-test",
+        Some(Part::LoopTest) => "after-loop-test",
+        Some(Part::FirstValue) => "after-first-value",
+        _ => "after-value",
     }
 }
 
 impl<'a> Seen<'a> {
-    /// The bytes of this token; of none where there is none.
-    fn shown(&self, token: Option<Token>) -> &'a [u8] {
-        match token {
-            Some(token) => token_at(self.text, token.at),
-            None => b"",
-        }
-    }
-
     fn part(&self) -> Option<Part> {
         Some(self.innermost?.part)
     }
 
     /// That what was opened last is not closed, where a bracket or a brace opened it.
     fn unclosed(&self) -> Option<Message<'a>> {
-        let Opened { part, at } = self.innermost?;
-        if matches!(
-            part,
-            Part::Let | Part::Test | Part::WhileTest | Part::FirstValue
-        ) {
-            return None;
-        }
-        let line = position(self.text, at).line as u64;
-        let opening = Bytes(token_at(self.text, at));
-        Some(two("the `{}` of line {} is not closed", opening, Number(line)))
+        let at = self.innermost?.at;
+        let (opening, line) = (word_at(self.text, at), position(self.text, at).line as u64);
+        let is_bracket = matches!(opening, "(" | "[" | "{");
+        is_bracket.then_some(two("unclosed", Word(opening), Number(line)))
     }
 
     /// Whether a name comes next.
     fn wants_name(&self) -> bool {
-        let is_begun = matches!(
-            keyword_of(self.before),
-            Some(Keyword::Array | Keyword::Fn | Keyword::Let | Keyword::Strict)
-        );
-        let is_listed = matches!(sign_of(self.before), Some(Sign::OpenParen | Sign::Comma));
-        matches!(self.next, Next::Form(_)) && (is_begun || is_listed)
+        let names = matches!(self.before, "array" | "fn" | "let" | "strict" | "(" | ",");
+        names && matches!(self.next, Next::Form(_))
     }
 
     /// What is wrong with a word here, where something is known.
-    fn wrong_word(&self, keyword: Keyword) -> Option<Message<'a>> {
-        let stands = Bytes(self.shown(self.stands));
-        match (keyword, self.next, self.part()) {
-            (Keyword::Inputs, _, _) => Some(say(
-                "`inputs` ends the program where it stands alone in its line, with no space before or after it",
-            )),
-            _ if self.wants_name() => Some(one(
-                "`{}` is a word of the language, and no name",
-                stands,
-            )),
-            (Keyword::Fn | Keyword::Array, _, _) => self.unclosed(),
-            (Keyword::While, Next::Step | Next::Expression, _) => Some(say(form_text(Form::Loop))),
-            (Keyword::Else, Next::Step | Next::Expression, _) => Some(say(form_text(Form::Else))),
-            (Keyword::Let, Next::AfterOperand, Some(part))
-                if part.is_block() || matches!(part, Part::Let) => {
-                Some(say("before `let` a `;` is missing"))
-            }
-            _ => None,
-        }
-    }
-
-    /// What is wrong with a sign after the operand before it, or after an item.
-    fn wrong_behind(&self, sign: Sign) -> Option<&'static str> {
-        match (self.next, sign) {
-            (Next::Form(Form::Item), Sign::CloseBrace) => Some(
-                "no block is open that this `}` could close",
-            ),
-            (Next::Form(Form::Item), Sign::Semicolon) => Some(
-                "no `;` stands behind the body of a function",
-            ),
-            (
-                Next::AfterOperand,
-                Sign::EqualTo
-                | Sign::NotEqualTo
-                | Sign::Less
-                | Sign::AtMost
-                | Sign::Greater
-                | Sign::AtLeast,
-            ) => Some("comparisons do not chain: `a < b < c` is written `(a < b) & (b < c)`"),
-            (Next::AfterOperand, Sign::OpenParen) => Some(
-                "only the name of a function stands before the bracket of a call",
-            ),
-            (Next::AfterOperand, Sign::OpenBracket) => Some(
-                "only the name of an array stands before `[`",
-            ),
-            (Next::AfterOperand | Next::Step | Next::Expression, Sign::Equals) => Some(
-                "`=` stands in `let x = ..` and in the head of a loop; a comparison is `==`, and a cell is filled by `A[i] := v`",
-            ),
-            _ => None,
-        }
+    fn wrong_word(&self) -> Option<Message<'a>> {
+        let is_after_values = match self.part() {
+            Some(part) => part.is_block() || matches!(part, Part::Let),
+            None => false,
+        };
+        let name = match (self.stands, self.next) {
+            ("inputs", _) => "inputs-line",
+            _ if self.wants_name() => return Some(one("word-as-name", Word(self.stands))),
+            ("fn" | "array", _) => return self.unclosed(),
+            ("while", Next::Step | Next::Expression) => "loop",
+            ("else", Next::Step | Next::Expression) => "else",
+            ("let", Next::AfterOperand) if is_after_values => "let-unseparated",
+            _ => return None,
+        };
+        Some(say(name))
     }
 
     /// What is wrong with a sign here, where something is known.
-    fn wrong_sign(&self, sign: Sign) -> Option<&'static str> {
-        if matches!(self.next, Next::Form(_) | Next::AfterOperand) {
-            return self.wrong_behind(sign);
-        }
-        match (sign_of(self.before), sign) {
-            (Some(Sign::Semicolon), Sign::CloseBrace) => Some(
-                "a block ends with its values, and no `;` stands after them",
-            ),
-            (Some(Sign::OpenBrace), Sign::CloseBrace) => Some(
-                "a block is not empty: it ends with its values",
-            ),
-            (
-                Some(Sign::Comma),
-                Sign::CloseBrace | Sign::CloseParen | Sign::CloseBracket | Sign::Semicolon,
-            ) => Some("after `,` another value stands: no list ends with a `,`"),
-            (Some(Sign::OpenParen), Sign::CloseParen)
-                if matches!(self.part(), Some(Part::Arguments)) => Some(
-                "a call has at least one argument, as a function has at least one parameter",
-            ),
-            (Some(Sign::Ampersand), Sign::Ampersand) | (Some(Sign::Bar), Sign::Bar) => Some(
-                "`&` and `|` stand once, and work on bits, so that `1 & 2` is 0: two tests are joined as `(a != 0) & (b < c)`",
-            ),
-            _ => self.wrong_behind(sign),
-        }
-    }
-
-    /// What is wrong here, where something is known of what is here.
-    fn wrong(&self) -> Option<Message<'a>> {
-        match self.stands?.kind {
-            TokenKind::Word { keyword } => self.wrong_word(keyword),
-            TokenKind::Mark { sign } => Some(say(self.wrong_sign(sign)?)),
-            TokenKind::Number { .. } | TokenKind::Name { .. } => None,
-        }
-    }
-
-    /// What could be here.
-    fn wanted(&self) -> Message<'a> {
-        let text = match self.next {
-            Next::Form(form) => form_text(form),
-            Next::Step =>
-                "after `{}` stands a `let`, or an expression begins: with a number, a name, `(`, `-`, `~`, `if`, `loop` or `strict`",
-            Next::Expression =>
-                "after `{}` an expression begins: with a number, a name, `(`, `-`, `~`, `if`, `loop` or `strict`",
-            Next::AfterOperand => "after `{}` could stand an operator{}",
+    fn wrong_sign(&self) -> Option<&'static str> {
+        let name = match (self.next, self.before, self.stands) {
+            (Next::Form(Form::Item), _, "}") => "brace-unopened",
+            (Next::Form(Form::Item), _, ";") => "semicolon-after-body",
+            (Next::Form(_), _, _) => return None,
+            (_, _, "=") => "equals",
+            (Next::AfterOperand, _, "==" | "!=" | "<" | "<=" | ">" | ">=") => "comparison-chain",
+            (Next::AfterOperand, _, "(") => "called",
+            (Next::AfterOperand, _, "[") => "indexed",
+            (_, ";", "}") => "semicolon-at-end",
+            (_, "{", "}") => "empty-block",
+            (_, ",", "}" | ")" | "]" | ";") => "comma-at-end",
+            (_, "(", ")") if matches!(self.part(), Some(Part::Arguments)) => "no-argument",
+            (_, "&", "&") | (_, "|", "|") => "doubled",
+            _ => return None,
         };
-        two(
-            text,
-            Bytes(self.shown(self.before)),
-            Word(rest_after(self.part())),
-        )
+        Some(name)
     }
-}
 
-/// What is missing at the end of the text.
-fn missing_at_end<'a, A: Allocator + Clone>(alloc: &A, text: &'a [u8]) -> Message<'a> {
-    let Some(seen) = look(alloc, text, text.len()) else {
-        return say(kind_text(FaultKind::Unended));
-    };
-    match seen.next {
-        Next::Form(_) => seen.wanted(),
-        _ => seen.unclosed().unwrap_or(seen.wanted()),
+    /// What is wrong here, where something is known of what is here, or what is missing at the end.
+    fn wrong(&self) -> Option<Message<'a>> {
+        match (self.stands, self.next) {
+            ("", Next::Form(_)) => None,
+            ("", _) => self.unclosed(),
+            ("array" | "fn" | "let" | "if" | "else" | "loop" | "while" | "strict" | "inputs", _) =>
+                self.wrong_word(),
+            _ => Some(say(self.wrong_sign()?)),
+        }
     }
-}
 
-/// What is wrong at the place `at` of the text, or could be there. An item where memory is refused.
-fn unexpected<'a, A: Allocator + Clone>(alloc: &A, text: &'a [u8], at: usize) -> Message<'a> {
-    let Some(seen) = look(alloc, text, at) else {
-        return say(form_text(Form::Item));
-    };
-    seen.wrong().unwrap_or(seen.wanted())
+    /// What could stand here.
+    fn wanted(&self) -> Message<'a> {
+        let name = match self.next {
+            Next::Form(form) => name_of(form),
+            Next::Step => "step",
+            Next::Expression => "expression",
+            Next::AfterOperand => "operator",
+        };
+        let rest = found("", rest_after(self.part())).unwrap_or("");
+        two(name, Word(self.before), Word(rest))
+    }
 }
 
 /// The byte that follows the token at this place, and the spaces after that.
@@ -314,7 +204,7 @@ enum Spot {
     Named,
     Parameters,
     /// After its parameters.
-    Behind,
+    After,
 }
 
 /// How many parameters and results the function of this name has. None where there is no such function, or memory is refused.
@@ -331,17 +221,17 @@ fn head_of<A: Allocator + Clone>(alloc: &A, text: &[u8], name: &[u8]) -> Option<
             (Spot::Named, _) => spot = Spot::Outside,
             (Spot::Parameters, TokenKind::Name { .. }) => parameters = parameters.saturating_add(1),
             (Spot::Parameters, TokenKind::Mark { sign }) if matches!(sign, Sign::CloseParen) => {
-                spot = Spot::Behind;
+                spot = Spot::After;
             }
-            (Spot::Behind, TokenKind::Mark { sign }) if matches!(sign, Sign::Arrow) => (),
-            (Spot::Behind, TokenKind::Number { number }) => {
+            (Spot::After, TokenKind::Mark { sign }) if matches!(sign, Sign::Arrow) => (),
+            (Spot::After, TokenKind::Number { number }) => {
                 let results = number;
                 return Some(Head {
                     parameters,
                     results,
                 });
             }
-            (Spot::Behind, _) => return Some(Head {
+            (Spot::After, _) => return Some(Head {
                 parameters,
                 results: 1,
             }),
@@ -351,82 +241,53 @@ fn head_of<A: Allocator + Clone>(alloc: &A, text: &[u8], name: &[u8]) -> Option<
     None
 }
 
-/// Which number of values is wrong at the place `at` of the program, where this token is.
-fn count<'a, A: Allocator + Clone>(
-    alloc: &A,
-    program: &'a [u8],
-    at: usize,
-    stands: &'a [u8],
-) -> Message<'a> {
-    let text = match str::from_utf8(stands).unwrap_or("") {
-        "let" => "after `=` stand more or fewer values than `let` has names; `_` drops one",
-        "{" =>
-            "the function's body gives another number of values than its head says: N after `-> N`, and one where that is left out",
-        "if" =>
-            "the arms of this `if` give different numbers of values, or it stands where one value has to be, and gives more",
-        "loop" =>
-            "a turn of this loop gives more or fewer values than the loop has names, or it stands where one value has to be, and has more names",
-        _ =>
-            "one value has to stand here: an operand, an index, what is stored, a test or a loop's first value",
+/// Which number of values is wrong at this token of the program.
+fn count<'a, A: Allocator + Clone>(alloc: &A, program: &[u8], stands: &'a str) -> Message<'a> {
+    let name = match stands {
+        "let" => "values-of-let",
+        "{" => "values-of-body",
+        "if" => "values-of-arms",
+        "loop" => "values-of-loop",
+        _ => "one-value",
     };
-    if !stands
-        .first()
-        .copied()
-        .unwrap_or(b' ')
-        .is_ascii_alphabetic()
-        || byte_after(program, at) != Some(b'(')
-    {
-        return say(text);
-    }
-    let Some(head) = head_of(alloc, program, stands) else {
-        return say(text);
+    let Some(head) = head_of(alloc, program, stands.as_bytes()) else {
+        return say(name);
     };
-    let text = if head.results == 1 {
-        "`{}` has {}, and this call gives more or fewer values"
-    } else {
-        "`{}` has {} and {}: the call gives more or fewer values, or stands where one value has to be"
-    };
+    let is_one = head.results == 1;
+    let name = if is_one { "one-result" } else { "call-results" };
+    let parameters = Count(head.parameters, "parameter");
     three(
-        text,
-        Bytes(stands),
-        Count(head.parameters, "parameter"),
+        name,
+        Word(stands),
+        parameters,
         Count(head.results, "result"),
     )
 }
 
-/// The text for a fault of which the kind says all.
-fn kind_text(kind: FaultKind) -> &'static str {
-    match kind {
-        FaultKind::BadByte =>
-            "no token begins so: other bytes stand only in comments, from `//` to the end of the line",
-        FaultKind::BadNumber =>
-            "a number is decimal, without leading zeros, at most 9223372036854775807; directly after `-` also 9223372036854775808",
-        FaultKind::Unended =>
-            "the program ends before all that was begun is closed: look for a `}`, `)`, `]` or `;` that is missing",
-        FaultKind::TooDeep =>
-            "more than 200 expressions, signs and `if`s are open here: give a part a name by `let`, or put it into a function",
-        FaultKind::NotACell =>
-            "only a cell is filled, and only as a whole expression: `A[i] := v`; within another expression it stands in brackets",
-        FaultKind::BadBound => "a loop's bound, how many turns are under way at once, is 2 to 64",
-        FaultKind::BadCount => "an array has 1 to 65536 cells, and a function 1 to 16 results",
-        FaultKind::TooMany =>
-            "a program has at most 64 arrays with 65536 cells together, and a function at most 16 parameters",
-        FaultKind::TooWide =>
-            "a turn carries at most 15 values: the loop's names, and the names from outside that it uses",
-        FaultKind::TooBig =>
-            "a function or a loop makes at most 1024 nodes, and a program at most 256 functions and loops: put a part into a function",
-        FaultKind::NoMain =>
-            "a program has a function `main`: its parameters are the inputs, and its results the outputs",
-        _ => "",
-    }
+/// What is said of a fault of this kind in a program of which no more is known.
+pub fn kind_message<'a>(kind: FaultKind) -> Message<'a> {
+    say(match kind {
+        FaultKind::BadByte => "bad-byte",
+        FaultKind::BadNumber => "bad-number",
+        FaultKind::Unended => "program-unended",
+        FaultKind::TooDeep => "too-deep",
+        FaultKind::NotACell => "not-a-cell",
+        FaultKind::BadBound => "bad-bound",
+        FaultKind::BadCount => "bad-count",
+        FaultKind::TooMany => "too-many",
+        FaultKind::TooWide => "too-wide",
+        FaultKind::TooBig => "too-big",
+        FaultKind::NoMain => "main-unknown",
+        _ => return one("kind", Programming(kind)),
+    })
 }
 
-/// The text for a fault of this kind in a program of which no more is known.
-pub fn kind_message<'a>(kind: FaultKind) -> Message<'a> {
-    match kind_text(kind) {
-        "" => one("{}", Programming(kind)),
-        text => say(text),
-    }
+/// What is wrong at the place `at` of the program, or could stand there.
+fn unexpected<'a, A: Allocator + Clone>(alloc: &A, program: &'a [u8], at: usize) -> Message<'a> {
+    let Some(seen) = look(alloc, program, at) else {
+        return say("item");
+    };
+    seen.wrong().unwrap_or(seen.wanted())
 }
 
 /// The cause of a fault of this kind at the place `at` of the program.
@@ -437,21 +298,18 @@ fn cause_at<'a, A: Allocator + Clone>(
     at: usize,
 ) -> Message<'a> {
     let stands = token_at(program, at);
-    let text = match (kind, byte_after(program, at)) {
+    let name = match (kind, byte_after(program, at)) {
         (FaultKind::Unexpected, _) => return unexpected(alloc, program, at),
-        (FaultKind::Unended, _) => return missing_at_end(alloc, program),
-        (FaultKind::Arity, _) => return count(alloc, program, at, stands),
-        (FaultKind::BadName, _) =>
-            "`{}` is no name: one has at most 24 letters, digits and `_`, begins with a letter, has no `__`, and is no word that is kept for later",
-        (FaultKind::SameName, _) =>
-            "`{}` stands for an array or a function, or stands before in this list: take another name",
-        (FaultKind::NoSuchName, Some(b'(')) => "there is no function `{}`",
-        (FaultKind::NoSuchName, Some(b'[')) => "there is no array `{}`",
-        (FaultKind::NoSuchName, _) =>
-            "no value is called `{}` here: a `let` comes before, in this block or around it; a loop's name stands only in the loop",
+        (FaultKind::Unended, _) => return unexpected(alloc, program, program.len()),
+        (FaultKind::Arity, _) => return count(alloc, program, word_at(program, at)),
+        (FaultKind::BadName, _) => "bad-name",
+        (FaultKind::SameName, _) => "same-name",
+        (FaultKind::NoSuchName, Some(b'(')) => "function-unknown",
+        (FaultKind::NoSuchName, Some(b'[')) => "array-unknown",
+        (FaultKind::NoSuchName, _) => "value-unknown",
         _ => return kind_message(kind),
     };
-    one(text, Bytes(stands))
+    one(name, Bytes(stands))
 }
 
 /// Why the text has no program that is lowered.
@@ -465,22 +323,13 @@ pub fn program_fault<'a, A: Allocator + Clone>(
     }
     let program = split(text).program;
     let offset = offset_of(program, fault);
-    let stands = token_at(program, offset);
     let (line, column) = (fault.line as u64, fault.column as u64);
-    let place = if stands.is_empty() {
-        two(
-            "the program ends at line {}, column {}",
-            Number(line),
-            Number(column),
-        )
-    } else {
-        four(
-            "line {} is `{}`; at column {} stands `{}`",
-            Number(line),
-            Line(line_at(program, line), column),
-            Number(column),
-            Bytes(stands),
-        )
-    };
+    let (shown, stands) = (
+        Line(line_at(program, line), column),
+        token_at(program, offset),
+    );
+    let is_end = stands.is_empty();
+    let name = if is_end { "at-end" } else { "at-token" };
+    let place = four(name, Number(line), Number(column), shown, Bytes(stands));
     at(place, cause_at(alloc, program, fault.kind, offset))
 }

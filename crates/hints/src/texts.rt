@@ -1,194 +1,157 @@
 //! What is wrong with the text of a graph, for each kind of fault.
 
-use crate::fields::{
-    length_fault, literal_fault, name_fault, no_number, number_fault, source_fault,
-};
-use crate::kinds::{form_of, operands_in, outer_form};
-use crate::lines::{Context, SPACE, Spot, field_at, fields_behind, line_at, text_at};
-use crate::message::Piece::{Bytes, Column, Count, Number, Word};
-use crate::message::{Message, one, say, three, two};
+use crate::catalog::found;
+use crate::fields::{length_fault, literal_fault, name_fault, number_fault, source_fault};
+use crate::lines::{Context, Spot, field_at, fields_after, is_space, line_at, text_at};
+use crate::message::Piece::{Bytes, Column, Count, Field, Number, Word};
+use crate::message::{Found, Message, at_line, column_at, nowhere, one, say, three, two};
 use crate::others::other_input;
-use crate::place::{CARRIAGE_RETURN, Found, at_line, nowhere};
 use graph_file::{ReadFault, ReadFaultKind, literal, number};
+use semantics::words::{Operator, operator_of};
+use std::str;
 
-/// The most sources of a line, and the most inputs and the most outputs of a block.
-const PORTS: u64 = 16;
-/// That a text has no line feed at its end.
-const LINE_UNENDED: &str = "this last line has no line feed at its end";
+/// The most sources of a line.
+const SOURCES: u64 = 16;
+
+/// The form of a node line of this kind, after its region: the kind, its operands, and its sources `S`, `T` or `S..`.
+fn form_of(kind: &[u8]) -> Option<&'static str> {
+    match operator_of(kind) {
+        Some(Operator::One(_)) => Some("OP S"),
+        Some(Operator::Two(_)) => Some("OP S T"),
+        None => found("node/", str::from_utf8(kind).ok()?),
+    }
+}
+
+/// How many operands stand before the sources in a line of this form.
+fn operands_in(form: &str) -> u64 {
+    let words = form
+        .split(' ')
+        .filter(|word| !word.starts_with('S') && *word != "T");
+    (words.count() as u64).saturating_sub(1)
+}
+
+/// The form of a line outside a block that begins with `word`.
+fn outer_form(word: &[u8]) -> Option<&'static str> {
+    found("outer/", str::from_utf8(word).ok()?)
+}
 
 /// The cause for a text whose first line is not the header of a graph.
 fn header(first: &[u8]) -> Message<'_> {
-    let text = if first.starts_with(b"\xef\xbb\xbf") {
-        "the text begins with a byte order mark, which no graph has"
-    } else if first.ends_with(b"\r") {
-        CARRIAGE_RETURN
-    } else if first == b"etsgraph 1".as_slice() || first == b"etsgraph 2".as_slice() {
-        LINE_UNENDED
-    } else {
-        "a graph begins with the line `etsgraph 1` or `etsgraph 2`"
+    let name = match first {
+        [0xef, 0xbb, 0xbf, ..] => "byte-order-mark",
+        [.., b'\r'] => "carriage-return",
+        [front @ .., b'1' | b'2'] if front == b"etsgraph ".as_slice() => "no-line-feed",
+        _ => "no-header",
     };
-    one(text, Word("a graph"))
+    one(name, Word("a graph"))
 }
 
 /// The cause for the first byte that no line may contain.
 fn stray_byte<'a>(line: &[u8]) -> Option<Message<'a>> {
     let place = line.iter().position(|byte| !matches!(*byte, b' '..=b'~'))?;
     let column = (place as u64).saturating_add(1);
-    let cause = match line.get(place).copied()? {
-        b'\r' if column == line.len() as u64 => one(CARRIAGE_RETURN, Word("a graph")),
-        b'\t' => one(
-            "column {} has a tab: fields are parted by one space",
-            Column(column),
-        ),
-        byte => {
-            let text = "column {} has byte {}: a line is of the bytes 32 to 126";
-            two(text, Column(column), Number(u64::from(byte)))
-        }
-    };
-    Some(cause)
+    Some(match line.get(place).copied()? {
+        b'\r' if column == line.len() as u64 => one("carriage-return", Word("a graph")),
+        b'\t' => one("tab-in-graph", Column(column)),
+        byte => two("byte-in-graph", Column(column), Number(u64::from(byte))),
+    })
 }
 
 /// The cause for the first space that does not separate two fields.
 fn spacing<'a>(line: &[u8]) -> Option<Message<'a>> {
-    let mut column = 1u64;
-    for field in line.split(|byte| *byte == SPACE) {
-        if field.is_empty() {
-            let last = line.len() as u64;
-            let text =
-                "fields are parted by one space, and none stands at the ends of a line: see column {}";
-            return Some(one(text, Column(column.min(last))));
-        }
-        column = column.saturating_add(field.len() as u64).saturating_add(1);
-    }
-    None
+    let column = column_at(line, b"")?.min(line.len() as u64);
+    Some(one("spacing", Column(column)))
 }
 
 /// The cause for a line of this form, which begins with `word` and has another number of fields after.
 fn bad_form<'a>(form: &'static str, word: &'a [u8], has: u64) -> Message<'a> {
-    three(
-        "the form is `{}`: this line has {} behind `{}`",
-        Word(form),
-        Count(has, "field"),
-        Bytes(word),
-    )
+    three("form", Word(form), Count(has, "field"), Bytes(word))
 }
 
-/// The cause for a line that has none of the forms that are allowed outside a block.
+/// The cause for a line that has none of the forms that may stand outside a block.
 fn outside<'a>(line: &'a [u8], word: &'a [u8], spot: Spot) -> Message<'a> {
     let Some(form) = outer_form(word) else {
-        let others = if spot == Spot::Arrays {
-            "`array`, `block` and `main`"
+        let is_first = matches!(spot, Spot::Arrays);
+        let name = if is_first {
+            "no-block-yet"
         } else {
-            "`block` and `main`"
+            "no-block-open"
         };
-        let text = "`{}` begins no line here: {} do, and nodes stand inside a block";
-        return two(text, Bytes(word), Word(others));
+        return one(name, Bytes(word));
     };
-    if spot == Spot::Blocks && text_at(line, 0) == "array" {
-        return say("`array` lines stand before the first block");
+    if matches!(spot, Spot::Blocks) && text_at(line, 0) == "array" {
+        return say("late-array");
     }
-    bad_form(form, word, fields_behind(line, 1))
+    bad_form(form, word, fields_after(line, 1))
 }
 
 fn is_region(word: &[u8]) -> bool {
-    match word.split_last() {
-        Some((b'+', front)) => number(front).is_some(),
-        Some((b'-', front)) => front.is_empty() || number(front).is_some(),
+    match word {
+        [front @ .., b'+'] => number(front).is_some(),
+        [front @ .., b'-'] => front.is_empty() || number(front).is_some(),
         _ => false,
     }
 }
 
-/// The cause for a node line with a good region but with none of the forms that are allowed there.
+/// The cause for a node line with a good region but with none of the forms that may stand there.
 fn bad_kind<'a>(line: &'a [u8], is_second: bool) -> Message<'a> {
     let Some(kind) = field_at(line, 1) else {
-        return say("behind the region comes the kind of the node, as in `- add 0.0 1.0`");
+        return say("no-kind");
     };
-    if text_at(line, 1) == "scall" && !is_second {
-        return say("`scall` stands under the header `etsgraph 2` alone");
+    if kind == b"scall".as_slice() && !is_second {
+        return say("strict-call");
     }
-    let has = fields_behind(line, 2);
+    let has = fields_after(line, 2);
     match form_of(kind) {
-        None => {
-            one(
-                "`{}` is no kind of node: lit, cond, enter, merge, fetch, store, call, loop, neg, not, add, sub, ..",
-                Bytes(kind),
-            )
-        }
+        None => one("unknown-kind", Bytes(kind)),
         Some(form) if operands_in(form) == 0 => {
-            let wants = Count(fields_behind(form.as_bytes(), 1), "source");
-            three(
-                "{} wants {}, this line has {}",
-                Bytes(kind),
-                wants,
-                Number(has),
-            )
+            let wants = Count(fields_after(form.as_bytes(), 1), "source");
+            three("wants-sources", Bytes(kind), wants, Number(has))
         }
         Some(form) => bad_form(form, kind, has),
     }
 }
 
-/// The cause for a line that has none of the forms that are allowed in a block.
+/// The cause for a line that has none of the forms that may stand in a block.
 fn inside<'a>(line: &'a [u8], word: &'a [u8], block: &'a [u8], is_second: bool) -> Message<'a> {
-    if text_at(line, 0) == "end" {
-        one(
-            "the `out` line of block {} comes before its `end`",
-            Bytes(block),
-        )
+    if word == b"end".as_slice() {
+        one("end-before-out", Bytes(block))
     } else if outer_form(word).is_some() {
-        let text = "block {} is open here: before `{}` come its `out` line and `end`";
-        two(text, Bytes(block), Bytes(word))
+        two("block-open", Bytes(block), Bytes(word))
     } else if is_region(word) {
         bad_kind(line, is_second)
     } else if form_of(word).is_some() {
-        one(
-            "a node line begins with its region, in the root `-`: `- {} ..`",
-            Bytes(word),
-        )
+        one("region-missing", Bytes(word))
     } else {
-        one(
-            "`{}` is no region: that is `-`, or `K+` or `K-` for an arm of the conditional at node K",
-            Bytes(word),
-        )
+        one("no-region", Bytes(word))
     }
 }
 
-/// The cause for a line that has none of the forms that are allowed at its place. `is_second` says that the text has the header
-/// of version 2.
+/// The cause for a line that has none of the forms that may stand at its place. `is_second` says that the text has the header of version 2.
 fn bad_line<'a>(line: &'a [u8], context: &Context<'a>, is_second: bool) -> Message<'a> {
     if line.is_empty() || line.starts_with(b"#") {
-        return say("a graph has no empty lines and no comments");
+        return say("comment");
     }
     if let Some(cause) = stray_byte(line).or(spacing(line)) {
         return cause;
     }
     let word = field_at(line, 0).unwrap_or(line);
-    let block = context.block;
     match context.spot {
         Spot::Arrays | Spot::Blocks => outside(line, word, context.spot),
-        Spot::Nodes => inside(line, word, block, is_second),
-        Spot::Closing => {
-            one(
-                "behind the `out` line of block {} comes the line `end`",
-                Bytes(block),
-            )
-        }
+        Spot::Nodes => inside(line, word, context.block, is_second),
+        Spot::Closing => one("end-missing", Bytes(context.block)),
     }
 }
 
 /// The first bad source, from field `first` on.
 fn source_from(line: &[u8], first: usize) -> Option<Message<'_>> {
-    for field in line.split(|byte| *byte == SPACE).skip(first) {
-        if let Some(fault) = source_fault(field) {
-            return Some(fault);
-        }
-    }
-    None
+    let mut fields = line.split(is_space).skip(first);
+    fields.find_map(|field| source_fault(field))
 }
 
 /// The first bad number, literal or source of a line.
-fn bad_number<'a>(line: &'a [u8], spot: Spot) -> Option<Message<'a>> {
-    let is_outer = matches!(spot, Spot::Arrays | Spot::Blocks);
-    match (is_outer, text_at(line, 0), text_at(line, 1)) {
+fn bad_number<'a>(line: &'a [u8], is_outside: bool) -> Option<Message<'a>> {
+    match (is_outside, text_at(line, 0), text_at(line, 1)) {
         (true, "array", _) => length_fault(field_at(line, 2)?),
         (true, _, _) => number_fault(field_at(line, 2)?).or(number_fault(field_at(line, 3)?)),
         (_, "out", _) => source_from(line, 1),
@@ -201,51 +164,51 @@ fn bad_number<'a>(line: &'a [u8], spot: Spot) -> Option<Message<'a>> {
 }
 
 /// The bad name of a line.
-fn bad_name<'a>(line: &'a [u8], spot: Spot) -> Option<Message<'a>> {
-    let is_outer = matches!(spot, Spot::Arrays | Spot::Blocks);
-    name_fault(field_at(line, if is_outer { 1 } else { 2 })?)
+fn bad_name<'a>(line: &'a [u8], is_outside: bool) -> Option<Message<'a>> {
+    name_fault(field_at(line, if is_outside { 1 } else { 2 })?)
 }
 
 /// The limit that a line exceeds.
 fn too_many<'a>(line: &[u8], context: &Context<'a>) -> Message<'a> {
+    let first = text_at(line, 0);
     let form = form_of(field_at(line, 1).unwrap_or(b"")).unwrap_or("");
-    let before = operands_in(form).saturating_add(2);
-    let (most, what) = match (context.spot, text_at(line, 0)) {
-        (Spot::Nodes, "out") if fields_behind(line, 1) > PORTS => (PORTS, "sources of a line"),
-        (Spot::Nodes, first) if first != "out" && fields_behind(line, before) > PORTS => {
-            (PORTS, "sources of a line")
-        }
-        (Spot::Nodes, _) => (1_024, "nodes of a block, inputs counted,"),
-        (_, "array") if context.arrays >= 64 => (64, "arrays"),
-        (_, "array") => (65_536, "cells, of one array and of all of them,"),
-        _ if context.blocks >= 256 => (256, "blocks"),
-        _ => (PORTS, "inputs or outputs of a block"),
+    let operands = if first == "out" {
+        0
+    } else {
+        operands_in(form).saturating_add(1)
     };
-    two("the limit of {} {} is passed", Number(most), Word(what))
+    let sources = fields_after(line, operands.saturating_add(1));
+    say(match (context.spot, first) {
+        (Spot::Nodes, _) if sources > SOURCES => "many-sources",
+        (Spot::Nodes, _) => "many-nodes",
+        (_, "array") if context.arrays >= 64 => "many-arrays",
+        (_, "array") => "many-cells",
+        _ if context.blocks >= 256 => "many-blocks",
+        _ => "many-ports",
+    })
 }
 
 /// The cause for a text that ends inside a block, or without a line feed.
 fn unended<'a>(text: &[u8], context: &Context<'a>) -> Message<'a> {
-    if !text.ends_with(b"\n") {
-        return say(LINE_UNENDED);
-    }
-    let wanted = if context.spot == Spot::Closing {
-        "the line `end`"
+    let is_closing = matches!(context.spot, Spot::Closing);
+    let name = if is_closing {
+        "open-block"
     } else {
-        "its `out` line and `end`"
+        "open-nodes"
     };
-    let text = "the text ends inside block {}, before {}";
-    two(text, Bytes(context.block), Word(wanted))
+    let is_whole = text.ends_with(b"\n");
+    one(
+        if is_whole { name } else { "no-line-feed" },
+        Bytes(context.block),
+    )
 }
 
 /// The cause for a line after the `main` line.
 fn trailing<'a>(line: &[u8], command: &'a str) -> Message<'a> {
     if literal(line).is_none() {
-        return say("the `main` line is the last one of a graph");
+        return say("after-main");
     }
-    let text =
-        "the inputs begin here, and `ets {}` reads the graph alone: `sed '/^main /q' FILE | ets {}`";
-    two(text, Word(command), Word(command))
+    one("inputs-begin", Word(command))
 }
 
 /// The cause for a fault of this kind at a line, which has this before it.
@@ -259,14 +222,16 @@ fn cause_of<'a>(
     match kind {
         ReadFaultKind::NoHeader => header(line),
         ReadFaultKind::BadLine => bad_line(line, context, text.starts_with(b"etsgraph 2\n")),
-        ReadFaultKind::BadNumber => bad_number(line, context.spot).unwrap_or(no_number(line)),
-        ReadFaultKind::BadName => bad_name(line, context.spot).unwrap_or(no_number(line)),
+        ReadFaultKind::BadNumber => {
+            bad_number(line, context.is_outside()).unwrap_or(one("no-number", Field(line)))
+        }
+        ReadFaultKind::BadName => {
+            bad_name(line, context.is_outside()).unwrap_or(one("no-number", Field(line)))
+        }
         ReadFaultKind::Unended => unended(text, context),
         ReadFaultKind::TooMany => too_many(line, context),
         ReadFaultKind::TrailingText => trailing(line, command),
-        ReadFaultKind::NoMain | ReadFaultKind::Memory => {
-            say("the text ends without a line `main NAME`, which names the block to be run")
-        }
+        ReadFaultKind::NoMain | ReadFaultKind::Memory => say("main-missing"),
     }
 }
 
