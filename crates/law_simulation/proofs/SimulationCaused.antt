@@ -22,7 +22,24 @@ use Rattle.law_fresh_frames.specs.Alike.{LandsRightly}
 use Rattle.law_fresh_frames.proofs.BoundedWeights.{tot_append, tot_perm}
 use Rattle.law_fresh_frames.proofs.BoundedRows.{unit, count_tot}
 use Rattle.law_simulation.specs.Places.{Spot, ip_to}
-use Rattle.law_simulation.specs.Simulates.{Fits, Fresh, Leaf, Node, Pend, Plain, Relates, Stands, at_moved, behind, hands_on, left, moved, next, right, straight}
+use Rattle.law_simulation.specs.Simulates.{
+  Fits,
+  Fresh,
+  Leaf,
+  Node,
+  Pend,
+  Plain,
+  Relates,
+  Stands,
+  at_moved,
+  behind,
+  hands_on,
+  left,
+  moved,
+  next,
+  right,
+  straight,
+}
 use Rattle.law_simulation.specs.Simulates.{through, top}
 use Rattle.law_simulation.proofs.SimulationAgree.{Lone}
 use Rattle.law_simulation.proofs.SimulationArcs.{same_to}

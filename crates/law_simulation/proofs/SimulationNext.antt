@@ -295,7 +295,8 @@ module _ (p q : Plan) (S : Relates p q) (wired : IsWired p) (orderly : Orderly p
           } (λ cl. subst (λ (l : List Token). Known (taken events ++ t ∷ []) (taken V.part.done ++ l) (cl ++ others)) one
           (counted_event P Q g h S.apart S.pairs_apart (taken events) (taken V.part.done) c cl others t same K)) new
         where
-          told_both : Clumped P Q g h ev.made A.tokens → (k a : ℕ) (r : Port) → Told p q S steps_after after.pool k a r ⊎ UsesArc p k a r u A.tokens record { store = A.after; pool = A.tokens ++ meant_in others }
+          told_both : Clumped P Q g h ev.made A.tokens → (k a : ℕ) (r : Port) → Told p q S steps_after after.pool k a r
+              ⊎ UsesArc p k a r u A.tokens record { store = A.after; pool = A.tokens ++ meant_in others }
               → Told p q S steps_after after.pool k a r
           told_both X k a r (inl e) = e
           told_both X k a r (inr U) =

@@ -174,7 +174,8 @@ module _ (p q : Plan) (g h : ℕ → ℕ) (answers : (a : ℕ) (i : Instr) → i
         words = (joined made rest fit.0 (λ t k. R.words.0 t (Contains-permutation _ _ t (IsPermutation-sym _ _ there) (contains_tail u rest t k))), fit.1);
       }
     where
-      uses : (f a : ℕ) (r : Port) → SomeEvent (UsesArc p f a r) P z first R.done R.last R.run ⊎ UsesArc p f a r u made record { store = after; pool = made ++ rest }
+      uses : (f a : ℕ) (r : Port) → SomeEvent (UsesArc p f a r) P z first R.done R.last R.run
+          ⊎ UsesArc p f a r u made record { store = after; pool = made ++ rest }
           → T.arcs f a r ⊎ UsesArc p f a r u made record { store = after; pool = made ++ rest }
       uses f a r (inl k) = inl (R.arcs f a r k)
       uses f a r (inr k) = inr k
@@ -204,14 +205,16 @@ module _ (p q : Plan) (g h : ℕ → ℕ) (answers : (a : ℕ) (i : Instr) → i
         arcs = λ k b t e. taken_in k b t e;
       }
     where
-      taken_in : (k b : ℕ) (t : Port) → T.arcs k b t ⊎ UsesArc p k b t (token (To.Instr f a r) w) made record { store = after; pool = made ++ rest } → T.arcs k b t
+      taken_in : (k b : ℕ) (t : Port) → T.arcs k b t ⊎ UsesArc p k b t (token (To.Instr f a r) w) made record { store = after; pool = made ++ rest }
+          → T.arcs k b t
       taken_in k b t (inl e) = e
       taken_in k b t (inr e) = uses k b t e
 
   -- the arcs of what may pass on are known already
   abbrev pub Absorbs : (ℕ → ℕ → Type 0) → Sums → Type 0
   Absorbs may T = (f l : ℕ) → may f l → (is_entry P.blocks l ≡ false → T.arcs f l Left) → (w v : Word) (i : Instr) → instr_at P l ≡ Some i
-      → hands_on i.op ≡ true → (k b : ℕ) (t : Port) → (m : Machine) → UsesArc p k b t (token (To.Instr f l Left) w) (to_all record { frame = f; ip = l } v i) m → T.arcs k b t
+      → hands_on i.op ≡ true → (k b : ℕ) (t : Port) → (m : Machine)
+      → UsesArc p k b t (token (To.Instr f l Left) w) (to_all record { frame = f; ip = l } v i) m → T.arcs k b t
 
   -- what passes on does so
   pub settle : (may : ℕ → ℕ → Type 0) (xs ys : List Token) → Settles may P xs ys → (s : MStore) (rest : List Token) (T : Sums) → Absorbs may T
@@ -221,7 +224,8 @@ module _ (p q : Plan) (g h : ℕ → ℕ) (answers : (a : ℕ) (i : Instr) → i
       let takes : IsPermutation (xs ++ rest) (token (To.Instr f a Left) w ∷ (beside ++ rest)) =
       IsPermutation-append_left rest xs (token (To.Instr f a Left) w ∷ beside) e in
       let happens : Happens P total s (To.Instr f a Left) w (to_all record { frame = f; ip = a } v i) s =
-      subst (λ (o : Option Instr). Fires s f (slot_used o) (rule_at P record { frame = f; ip = a } o (slot_in s f (slot_used o)) Left w) (to_all record { frame = f; ip = a } v i) s)
+      subst (λ (o : Option Instr). Fires s f (slot_used o) (rule_at P record { frame = f; ip = a } o (slot_in s f (slot_used o)) Left w)
+      (to_all record { frame = f; ip = a } v i) s)
       (sym at) (hands_fires (λ w. ⊤) P f a w v i s is) in
       let inside : Contains R.last.pool (token (To.Instr f a Left) w) = Contains-permutation _ _ _ (IsPermutation-sym _ _ R.pool)
       (Contains-permutation _ _ _ (IsPermutation-sym _ _ takes) (contains_head (token (To.Instr f a Left) w) (beside ++ rest))) in
@@ -234,8 +238,10 @@ module _ (p q : Plan) (g h : ℕ → ℕ) (answers : (a : ℕ) (i : Instr) → i
       (no_seek (instr_at P a) i i.op at refl (none_seeks i.op none))
       (λ k b t U. told f a does arrived w v i at on k b t record { store = s; pool = to_all record { frame = f; ip = a } v i ++ (beside ++ rest) } U) in
       let regrouped : Reached s ((to_all record { frame = f; ip = a } v i ++ beside) ++ rest) T =
-      again s (to_all record { frame = f; ip = a } v i ++ (beside ++ rest)) ((to_all record { frame = f; ip = a } v i ++ beside) ++ rest) (with_spent T (token (To.Instr f a Left) w ∷ [])) T fired_one
-      (subst (IsPermutation (to_all record { frame = f; ip = a } v i ++ (beside ++ rest))) (sym (append_assoc (to_all record { frame = f; ip = a } v i) beside rest)) (IsPermutation-refl _)) record {
+      again s (to_all record { frame = f; ip = a } v i ++ (beside ++ rest)) ((to_all record { frame = f; ip = a } v i ++ beside) ++ rest) (with_spent T
+      (token (To.Instr f a Left) w ∷ [])) T fired_one
+      (subst (IsPermutation (to_all record { frame = f; ip = a } v i ++ (beside ++ rest))) (sym (append_assoc
+      (to_all record { frame = f; ip = a } v i) beside rest)) (IsPermutation-refl _)) record {
         gone = refl;
         asked = refl;
         credited = refl;

@@ -39,7 +39,8 @@ pub settles_beside : (R : ℕ → ℕ → Type 0) (p : Program) (xs ys zs : List
 settles_beside R p xs ys zs (settled us vs d) = settled (xs ++ zs) (ys ++ zs) (IsPermutation-append_left zs xs ys d)
 settles_beside R p xs ys zs (fired us vs f a w v i rest d at is k may) =
     fired (xs ++ zs) (ys ++ zs) f a w v i (rest ++ zs) (IsPermutation-append_left zs xs (token (To.Instr f a Left) w ∷ rest) d) at is
-    (subst (λ (l : List Token). Settles R p l (ys ++ zs)) (append_assoc (to_all record { frame = f; ip = a } v i) rest zs) (settles_beside R p (to_all record { frame = f; ip = a } v i ++ rest) ys zs k))
+    (subst (λ (l : List Token). Settles R p l (ys ++ zs)) (append_assoc (to_all record { frame = f; ip = a } v i) rest zs) (settles_beside R p
+    (to_all record { frame = f; ip = a } v i ++ rest) ys zs k))
     may
 
 pub settles_then : (R : ℕ → ℕ → Type 0) (p : Program) (xs ys zs : List Token) → Settles R p xs ys → IsPermutation ys zs → Settles R p xs zs

@@ -208,7 +208,8 @@ module _ (p q : Plan) (S : Relates p q) (wired : IsWired p) (orderly : Orderly p
       let fired : Past first.store (X.meant ++ []) (sums [] [] [] (at_start Q inputs).pool [] []) =
       settle p q g h S.answers wired orderly inputs z start (Sends P Q h (at_start Q inputs).pool) first.pool X.meant X.settles first.store []
       (sums [] [] [] (at_start Q inputs).pool [] [])
-      (λ f l sends came w v i at is k b r m U. told_behind p q S [] (at_start Q inputs).pool f l sends came w i at is k b r (to_all record { frame = f; ip = l } v i) m U)
+      (λ f l sends came w v i at is k b r m U. told_behind p q S [] (at_start Q inputs).pool f l sends came w i at is k b r
+      (to_all record { frame = f; ip = l } v i) m U)
       begun
       single in
       let cl = clumps_of P Q g h (at_start Q inputs).pool X.meant X.stand in

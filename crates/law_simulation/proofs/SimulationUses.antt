@@ -42,7 +42,24 @@ use Rattle.law_fresh_frames.proofs.FreshArcs.{uses_new}
 use Rattle.lemmas.proofs.Contains.{contains_map}
 use Rattle.semantics.specs.Rule.{to_all}
 use Rattle.law_simulation.specs.Places.{Spot, ip_slot, ip_store, ip_to, ip_token, ip_word, is_answered}
-use Rattle.law_simulation.specs.Simulates.{Arrives, FitsSlot, FitsWord, Fresh, IsMoved, Leads, Node, Path, Pend, Plain, Reaches, Relates, Skips, Way, at_end, hands_on}
+use Rattle.law_simulation.specs.Simulates.{
+  Arrives,
+  FitsSlot,
+  FitsWord,
+  Fresh,
+  IsMoved,
+  Leads,
+  Node,
+  Path,
+  Pend,
+  Plain,
+  Reaches,
+  Relates,
+  Skips,
+  Way,
+  at_end,
+  hands_on,
+}
 use Rattle.law_simulation.specs.Simulates.{is_pair, next, onward, over, straight, top}
 use Rattle.law_simulation.proofs.SimulationArcs.{UseAt, use_at}
 use Rattle.law_simulation.proofs.SimulationCame.{sent_by}
@@ -505,12 +522,15 @@ pub moved_used : (p q : Plan) (S : Relates p q) (sizes : (b : ℕ) → landing q
     → FitsSlot p.program q.program S.h (slot_in before f (slot_of i i.op)) → FitsWord p.program q.program S.h w
     → (k b : ℕ) (t : Port) (x : Spot) → Reaches p.program q.program S.h b t x → UsesArc p k b t (token (To.Instr f a r) w) old_made old
     → UsesArc q k (S.h x.0) x.1 taken made new ⊎ Pend p.program q.program S.h k x.0 x.1 made
-moved_used p q S sizes rows unskipped wired total before f a r w i at M made old_made new old taken to happens was same arrives fits_slot fits_word k b t x W U =
+moved_used p q S sizes rows unskipped wired total before f a r w i at M made old_made new old taken to happens was same arrives fits_slot fits_word
+    k b t x W U =
     let T = sent_by p q S.g S.h total before f a r w i M made new.store happens S.arrays at arrives fits_slot fits_word old_made old.store was in
     let old_slot : (n : ℕ) → i.op ≡ Give n → old.store.slots f i.slot ≡ T.v = λ (n : ℕ) (e : i.op ≡ Give n).
     give_leaves i f n before old.store T.v e T.leaves in
-    spent_by p q S sizes rows unskipped f a i at M (shape_of p wired a i at) T.v old_made made T.sent r (token (To.Instr f a r) w) taken refl to old new old_slot
-    (λ n e. ap (λ (m : MStore). m.slots f M.j.slot) same ∙ ap (λ (x : ℕ). ip_slot S.h (old.store.slots f x)) M.slot ∙ ap (ip_slot S.h) (old_slot n e)) k b t U x W
+    spent_by p q S sizes rows unskipped f a i at M (shape_of p wired a i at) T.v old_made made T.sent r (token
+    (To.Instr f a r) w) taken refl to old new old_slot
+    (λ n e. ap (λ (m : MStore). m.slots f M.j.slot) same ∙ ap (λ (x : ℕ). ip_slot S.h (old.store.slots f x)) M.slot
+    ∙ ap (ip_slot S.h) (old_slot n e)) k b t U x W
 
 -- And so does that of an operator with a literal operand.
 pub pair_used : (p q : Plan) (S : Relates p q) (f a : ℕ) (r : Port) (w v : Word) (i j : Instr) (o : Binary) (made old_made : List Token) (new old : Machine)

@@ -12,7 +12,8 @@ use Rattle.schedule.specs.Runs.{Plays, rounds_of}
 -- So many events of a lane, one after another, each with its oldest token. None makes a token for another element.
 abbrev pub MakesEvents : Program → ℕ → ℕ → Holding → Holding → Type 0
 MakesEvents p steps zero old new = new ≡ old
-MakesEvents p steps (suc n) old new = (mid : Holding) × MakesEvents p steps n old mid × (mid.made < steps) × IsSoundLane p new × (new.made ≤ steps) × one.Does p mid 0 [] new []
+MakesEvents p steps (suc n) old new = (mid : Holding) × MakesEvents p steps n old mid × (mid.made < steps) × IsSoundLane p new × (new.made ≤ steps)
+    × one.Does p mid 0 [] new []
 
 -- what a lane answers that is asked for one more event
 abbrev pub LaneAnswers : Program → ℕ → Holding → Option Stepped → Holding → Type 0

@@ -16,14 +16,18 @@ returns-in-None-clause-exact g c =
     let rest = c.play_passes-in-None.ensures.exact in
     let one = c.requires.one in
     let same = c.settle.ensures.same in
-    let elements : c.run_alone-stepped.new.self.shape.elements ≡ 1 = ap (λ z. z.elements) c.run_alone-stepped.ensures.shape ∙ ap (λ (s : State). s.setting.elements) same ∙ one in
+    let elements : c.run_alone-stepped.new.self.shape.elements ≡ 1 = ap (λ z. z.elements) c.run_alone-stepped.ensures.shape
+    ∙ ap (λ (s : State). s.setting.elements) same ∙ one in
     let plays = subst (λ (k : ℕ). Plays false (rounds_of rest.0 k) next last halt rest.1) elements rest.2 in
-    let all = leads_on settled x.1 next x.0 x.3 x.2 (record { answer = c.run_alone-stepped.result; step = x.4; halts = c.in-None.ensures }) rest.0 last halt rest.1 plays in (
+    let all = leads_on settled x.1 next x.0 x.3 x.2
+    (record { answer = c.run_alone-stepped.result; step = x.4; halts = c.in-None.ensures }) rest.0 last halt rest.1 plays in (
       all.0,
       (x.0 ++ x.3) ++ rest.1,
-      subst (λ (k : ℕ). Plays false (rounds_of all.0 k) (state_of g.C.Instructions.program g.C.Instructions.width c.args.self.now) last halt ((x.0 ++ x.3) ++ rest.1)) (sym one)
+      subst (λ (k : ℕ). Plays false (rounds_of all.0 k) (state_of g.C.Instructions.program g.C.Instructions.width c.args.self.now) last halt
+          ((x.0 ++ x.3) ++ rest.1)) (sym one)
           (subst (λ (s : State). Plays false (rounds_of all.0 1) s last halt ((x.0 ++ x.3) ++ rest.1)) same all.1),
-      unlisted g.L.Log.KEEPS_EVENTS c.args.log.now.events.items rest.1 ((x.0 ++ x.3) ++ rest.1) c.play_passes-in-None.new.log.events.items c.requires.quiet rest.3,
+      unlisted g.L.Log.KEEPS_EVENTS c.args.log.now.events.items rest.1
+          ((x.0 ++ x.3) ++ rest.1) c.play_passes-in-None.new.log.events.items c.requires.quiet rest.3,
     )
 
 pub returns-in-Some-clause-exact : goal.returns-in-Some-clause-exact
@@ -37,7 +41,8 @@ returns-in-Some-clause-exact g c =
     let all = leads_last settled x.1 next x.0 x.3 halt x.2 (record { answer = c.run_alone-stepped.result; step = x.4; halts = c.in-Some.ensures }) in (
       all.0,
       x.0 ++ x.3,
-      subst (λ (k : ℕ). Plays false (rounds_of all.0 k) (state_of g.C.Instructions.program g.C.Instructions.width c.args.self.now) next halt (x.0 ++ x.3)) (sym c.requires.one)
+      subst (λ (k : ℕ). Plays false (rounds_of all.0 k) (state_of g.C.Instructions.program g.C.Instructions.width c.args.self.now) next halt (x.0 ++ x.3))
+          (sym c.requires.one)
           (subst (λ (s : State). Plays false (rounds_of all.0 1) s next halt (x.0 ++ x.3)) same all.1),
       unlisted g.L.Log.KEEPS_EVENTS before [] (x.0 ++ x.3) before c.requires.quiet (logged_none g.L.Log.KEEPS_EVENTS before),
     )

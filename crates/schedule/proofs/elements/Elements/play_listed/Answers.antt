@@ -23,7 +23,8 @@ returns-in-Some-clause-exact g c =
     let one = c.requires.one in
     let low : 0 < n = omega arith in
     let whole : n - 0 ≡ n = omega arith in
-    let all = played.1 1 next c.in-Some.halt x.0 (subst (λ (m : ℕ). Plays false (in_turn 0 m ++ rounds_of 0 n) s next c.in-Some.halt x.0) whole (turn_last s next 0 n x.0 c.in-Some.halt low x.1)) in
+    let all = played.1 1 next c.in-Some.halt x.0 (subst
+    (λ (m : ℕ). Plays false (in_turn 0 m ++ rounds_of 0 n) s next c.in-Some.halt x.0) whole (turn_last s next 0 n x.0 c.in-Some.halt low x.1)) in
     (all.0, played.0 ++ x.0, all.1, logged_more g.L.Log.KEEPS_EVENTS c.args.log.now.events.items c.events.log.events.items c.advance.new.log.events.items played.0 x.0 played.2 x.2)
 
 pub events-preserved : goal.events-preserved
@@ -44,7 +45,8 @@ events-preserved g c =
         played.0 ++ x.0,
         (λ rounds last halt later rest.
             let on = turn_on s next last 0 n rounds x.0 later halt low x.1 (turn_done next last (0 + 1) n rounds later halt (omega arith) rest) in
-            let all = played.1 (suc rounds) last halt (x.0 ++ later) (subst (λ (m : ℕ). Plays false (in_turn 0 m ++ rounds_of rounds n) s last halt (x.0 ++ later)) whole on) in
+            let all = played.1 (suc rounds) last halt (x.0 ++ later) (subst
+            (λ (m : ℕ). Plays false (in_turn 0 m ++ rounds_of rounds n) s last halt (x.0 ++ later)) whole on) in
             (all.0, subst (λ (l : Events). Plays false (rounds_of all.0 n) s0 last halt l) (sym (append_assoc played.0 x.0 later)) all.1)),
         logged_more g.L.Log.KEEPS_EVENTS c.args.log.now.events.items c.events.log.events.items c.advance.new.log.events.items played.0 x.0 played.2 x.2,
       );
