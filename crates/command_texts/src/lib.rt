@@ -7,7 +7,7 @@
 #![tactic(auto)]
 
 use clap::builder::ValueParser;
-use clap::error::ErrorKind;
+use clap::error::{Error, ErrorKind};
 use clap::{Arg, ArgAction, Command, value_parser};
 use command_line::Topic;
 use std::alloc::{AllocError, Global};
@@ -308,20 +308,12 @@ pub fn program_command<'a>(alloc: Global) -> Result<Command<'a>, AllocError> {
         .subcommand(orders_command(alloc)?)
 }
 
-/// The text that `clap` gives instead of a reading of the words, if it takes them for a mistake exactly where `is_mistake`
-/// is true.
-fn text_of<S: AsStr>(
-    alloc: Global,
-    words: &[S],
-    is_mistake: bool,
-) -> Result<Option<String>, AllocError> {
+/// What `clap` gives instead of a reading of the words, if it has none.
+fn error_of<S: AsStr>(alloc: Global, words: &[S]) -> Result<Option<Error>, AllocError> {
     match program_command(alloc)?.try_get_matches_from(words) {
         Ok(_matches) => Ok(None),
         Err(error) if error.kind() == ErrorKind::OutOfMemory => Err(AllocError),
-        Err(error) if error.use_stderr() == is_mistake => {
-            Ok(Some(format!(in alloc; "{error}")?))
-        }
-        Err(_error) => Ok(None),
+        Err(error) => Ok(Some(error)),
     }
 }
 
@@ -359,10 +351,16 @@ fn words_of<'a>(alloc: Global, program: &'a str, topic: Topic) -> Result<Vec<&'a
 /// The help text on the topic.
 pub fn help_text(alloc: Global, program: &str, topic: Topic) -> Result<Option<String>, AllocError> {
     let words = words_of(alloc, program, topic)?;
-    text_of(alloc, words.as_slice(), false)
+    match error_of(alloc, words.as_slice())? {
+        Some(error) if !error.use_stderr() => Ok(Some(format!(in alloc; "{error}")?)),
+        _ => Ok(None),
+    }
 }
 
 /// What is wrong with the words. The first of them is the program's name.
 pub fn mistake_text<S: AsStr>(alloc: Global, words: &[S]) -> Result<Option<String>, AllocError> {
-    text_of(alloc, words, true)
+    match error_of(alloc, words)? {
+        Some(error) if error.use_stderr() => Ok(Some(format!(in alloc; "{error}")?)),
+        _ => Ok(None),
+    }
 }

@@ -220,18 +220,17 @@ loop: a loop is written `loop 4 (i = 0, s = 0) while i < n { BODY }`, or `loop 4
 last-test: a loop with its test behind the body is written `loop 4 (i = 0) { BODY } while (i < n)`, with the brackets
 else: each `if` has an `else`: `if p { a } else { b }`, or `if p { a } else if q { b } else { c }`
 strict: after `strict` stands a call: `strict f(x)`
-step: after `$1` stands a `let`, or an expression begins: with a number, a name, `(`, `-`, `~`, `if`, `loop` or `strict`
-expression: after `$1` an expression begins: with a number, a name, `(`, `-`, `~`, `if`, `loop` or `strict`
-operator: after `$1` could stand an operator$2
-after-value-of-let: , `,`, or the `;` that ends the `let`
-after-grouped: , or the `)` that closes the bracket
-after-argument: , `,`, or the `)` that ends the call
-after-index: , or the `]` that ends the index
-after-test: , or the `{` of the arm
-after-loop-test: , or the `{` of the loop's body
-after-first-value: , `,`, or the `)` that ends the loop's names
-after-value: , `,`, `;`, or the `}` that ends the block
-unclosed: the `$1` of line $2 is not closed
+step: after `$2` stands a `let`, or an expression begins: with a number, a name, `(`, `-`, `~`, `if`, `loop` or `strict`
+expression: after `$2` an expression begins: with a number, a name, `(`, `-`, `~`, `if`, `loop` or `strict`
+operator-in-let: after `$2` could stand an operator, `,`, or the `;` that ends the `let`
+operator-in-group: after `$2` could stand an operator, or the `)` that closes the bracket
+operator-in-arguments: after `$2` could stand an operator, `,`, or the `)` that ends the call
+operator-in-index: after `$2` could stand an operator, or the `]` that ends the index
+operator-in-test: after `$2` could stand an operator, or the `{` of the arm
+operator-in-loop-test: after `$2` could stand an operator, or the `{` of the loop's body
+operator-in-first-value: after `$2` could stand an operator, `,`, or the `)` that ends the loop's names
+operator-in-block: after `$2` could stand an operator, `,`, `;`, or the `}` that ends the block
+unclosed: the `$3` of line $4 is not closed
 inputs-line: `inputs` ends the program where it stands alone in its line, with no space before or after it
 word-as-name: `$1` is a word of the language, and no name
 let-unseparated: before `let` a `;` is missing

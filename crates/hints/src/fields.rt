@@ -18,7 +18,7 @@ fn zero_or<'a>(field: &'a [u8], digits: &[u8], name: &'static str) -> Message<'a
 }
 
 /// What is wrong with a number.
-pub fn number_fault(field: &[u8]) -> Option<Message<'_>> {
+fn number_fault(field: &[u8]) -> Option<Message<'_>> {
     if number(field).is_some() {
         None
     } else if are_digits(field) {
@@ -29,7 +29,7 @@ pub fn number_fault(field: &[u8]) -> Option<Message<'_>> {
 }
 
 /// What is wrong with the length of an array.
-pub fn length_fault(field: &[u8]) -> Option<Message<'_>> {
+fn length_fault(field: &[u8]) -> Option<Message<'_>> {
     match number(field) {
         Some(0) => Some(say("no-cells")),
         _ => number_fault(field),
@@ -51,7 +51,7 @@ pub fn literal_fault(field: &[u8]) -> Option<Message<'_>> {
 }
 
 /// What is wrong with a source.
-pub fn source_fault(field: &[u8]) -> Option<Message<'_>> {
+fn source_fault(field: &[u8]) -> Option<Message<'_>> {
     let mut parts = field.splitn(2, |byte| *byte == b'.');
     let node = parts.next().unwrap_or(b"");
     match parts.next() {
@@ -63,7 +63,7 @@ pub fn source_fault(field: &[u8]) -> Option<Message<'_>> {
 }
 
 /// What is wrong with a name.
-pub fn name_fault(field: &[u8]) -> Option<Message<'_>> {
+fn name_fault(field: &[u8]) -> Option<Message<'_>> {
     let is_name_byte = |byte: &u8| byte.is_ascii_alphanumeric() || *byte == b'_';
     let name = if !field.first().copied().unwrap_or(b' ').is_ascii_alphabetic() {
         "name-letter"
@@ -75,4 +75,18 @@ pub fn name_fault(field: &[u8]) -> Option<Message<'_>> {
         return None;
     };
     Some(two(name, Field(field), Number(field.len() as u64)))
+}
+
+/// What is wrong with the field that stands where a form has this word.
+pub fn field_fault<'a>(word: &str, field: &'a [u8]) -> Option<Message<'a>> {
+    match word {
+        "V" => literal_fault(field),
+        "NAME" | "A" | "F" => name_fault(field),
+        "LEN" => length_fault(field),
+        "S" | "S.." | "T" => source_fault(field),
+        "K" | "k" | "INPUTS" | "OUTPUTS" | "VERSION" | "BLOCK" | "I" | "O" | "CELLS" => {
+            number_fault(field)
+        }
+        _ => None,
+    }
 }

@@ -6,9 +6,10 @@
 ghost use Rattle.std.specs.Prelude.{◌≡◌, IfOk, is_some};
 ghost use Rattle.hints.specs.Hints.{wants_hint};
 
+mod blocks;
 mod catalog;
 mod fields;
-mod going;
+mod forms;
 mod graphs;
 mod line;
 mod lines;
@@ -50,7 +51,7 @@ fn refusal_fault<'a, S: AsStr, A: Allocator + Clone>(
         _ => first.as_str(),
     };
     match (refusal, command) {
-        (Refusal::Start(fault), _) => return start_fault(&alloc, case, fault),
+        (Refusal::Start(fault), _) => return start_fault(case, fault),
         (Refusal::InputLine(number), "exec") => return given_fault(rest, number),
         _ => (),
     }
@@ -62,12 +63,12 @@ fn refusal_fault<'a, S: AsStr, A: Allocator + Clone>(
     };
     match refusal {
         Refusal::Read(fault) => Some(text_fault(fault, text, command)),
-        Refusal::Check(fault) => graph_fault(&alloc, text, fault),
-        Refusal::TooManySlots(block) => code_fault(&alloc, text, block, say("too-many-slots")),
-        Refusal::TooFar(block) => code_fault(&alloc, text, block, say("too-far")),
-        Refusal::Object(fault) => object_fault(fault, input, command),
+        Refusal::Check(fault) => graph_fault(text, fault),
+        Refusal::TooManySlots(block) => code_fault(text, block, say("too-many-slots")),
+        Refusal::TooFar(block) => code_fault(text, block, say("too-far")),
+        Refusal::Object(_fault) => object_fault(input, command),
         Refusal::Asm(fault) => Some(listing_fault(fault, input)),
-        Refusal::Program(fault) => Some(program_fault(&alloc, input, fault)),
+        Refusal::Program(refusal) => Some(program_fault(input, refusal)),
         Refusal::InputLine(number) => Some(input_fault(input, number)),
         Refusal::Input | Refusal::Start(_) | Refusal::Memory => None,
     }
@@ -80,7 +81,7 @@ fn unlocated<'a>(case: &Case<'_, '_>, refusal: Refusal) -> Message<'a> {
         Refusal::Memory => return memory_cause(case),
         Refusal::Read(fault) => return one("kind", Reading(fault.kind)),
         Refusal::Check(fault) => return one("kind", Checking(fault.kind)),
-        Refusal::Program(fault) => return kind_message(fault.kind),
+        Refusal::Program(refusal) => return kind_message(refusal.fault.kind),
         Refusal::Asm(_fault) => "Faults of assembling",
         Refusal::Object(_fault) => "Refusals of an object",
         _ => "Refusals",

@@ -1,4 +1,4 @@
-//! The lines of a text, their fields, and where in a graph a line is.
+//! The lines of a text and their words.
 
 use std::str;
 
@@ -17,19 +17,30 @@ pub fn line_at(text: &[u8], number: u64) -> &[u8] {
     lines.nth(place).unwrap_or(b"")
 }
 
-/// The field at `place` in a line, counted from 0.
-pub fn field_at(line: &[u8], place: usize) -> Option<&[u8]> {
-    line.split(is_space).nth(place)
+/// The field at `place` in a line of a graph, counted from 0; empty where there is no such field.
+pub fn field_at(line: &[u8], place: usize) -> &[u8] {
+    line.split(is_space).nth(place).unwrap_or(b"")
 }
 
-/// The field at `place` in a line, where that is text; empty where it is not.
-pub fn text_at(line: &[u8], place: usize) -> &str {
-    str::from_utf8(field_at(line, place).unwrap_or(b"")).unwrap_or("")
+/// The word as text; empty where it is not.
+pub fn text_of(word: &[u8]) -> &str {
+    str::from_utf8(word).unwrap_or("")
 }
 
-/// How many fields a line has after the first ones.
+/// How many fields a line of a graph has after the first ones.
 pub fn fields_after(line: &[u8], first: u64) -> u64 {
     (line.split(is_space).count() as u64).saturating_sub(first)
+}
+
+/// What a line of a listing says, before its comment.
+pub fn said(line: &[u8]) -> &[u8] {
+    line.split(|byte| *byte == b';').next().unwrap_or(line)
+}
+
+/// The word at `place` of what a line of a listing says, counted from 0; empty where there is no such word.
+pub fn word_at(line: &[u8], place: usize) -> &[u8] {
+    let mut words = said(line).split(is_space).filter(|word| !word.is_empty());
+    words.nth(place).unwrap_or(b"")
 }
 
 /// Splits the input in two: the graph's text, up to the end of the first line that begins with `main `, and what follows it.
@@ -47,60 +58,48 @@ pub fn split_graph(input: &[u8]) -> (&[u8], &[u8]) {
     (input, b"")
 }
 
-/// Where in a graph a line is.
+/// What the lines before a line of a graph or of a listing say, each of which is in order.
 #[derive(Clone, Copy)]
-pub enum Spot {
-    /// Outside a block, before the first one.
-    Arrays,
-    /// Outside a block, after the first one.
-    Blocks,
-    /// In a block, before its `out` line.
-    Nodes,
-    /// In a block, after its `out` line.
-    Closing,
-}
-
-/// What the lines before a line of a graph say.
-#[derive(Clone, Copy)]
-pub struct Context<'a> {
-    pub spot: Spot,
-    /// The name in the last `block` line.
-    pub block: &'a [u8],
-    /// How many `array` lines there are.
+pub struct Before<'a> {
+    /// The first word of the last one; empty before the first one.
+    pub last: &'a [u8],
     pub arrays: u64,
-    /// How many `block` lines there are.
+    pub literals: u64,
     pub blocks: u64,
+    /// The last line of a block's own.
+    pub block: &'a [u8],
+    /// How many lines come after that one, those of arrays and literals not counted.
+    pub after: u64,
 }
 
-impl<'a> Context<'a> {
-    /// What is before line `number`, counted from 1. Each line before it is in order.
-    pub fn before(text: &'a [u8], number: u64) -> Context<'a> {
-        let (mut spot, mut block): (Spot, &[u8]) = (Spot::Arrays, b"");
-        let (mut arrays, mut blocks) = (0u64, 0u64);
+impl<'a> Before<'a> {
+    /// What is before line `number`, counted from 1.
+    pub fn of(text: &'a [u8], number: u64) -> Before<'a> {
+        let (mut last, mut block): (&[u8], &[u8]) = (b"", b"");
+        let (mut arrays, mut literals, mut blocks, mut after) = (0u64, 0u64, 0u64, 0u64);
         let count = number.saturating_sub(1) as usize;
         for line in text.split(is_line_feed).take(count) {
-            match text_at(line, 0) {
+            let word = word_at(line, 0);
+            match text_of(word) {
+                "" => continue,
                 "array" => arrays = arrays.saturating_add(1),
+                "literal" => literals = literals.saturating_add(1),
                 "block" => {
-                    spot = Spot::Nodes;
-                    block = field_at(line, 1).unwrap_or(b"");
                     blocks = blocks.saturating_add(1);
+                    block = line;
+                    after = 0;
                 }
-                "out" => spot = Spot::Closing,
-                "end" => spot = Spot::Blocks,
-                _ => (),
+                _ => after = after.saturating_add(1),
             }
+            last = word;
         }
-        Context {
-            spot,
-            block,
+        Before {
+            last,
             arrays,
+            literals,
             blocks,
+            block,
+            after,
         }
-    }
-
-    /// Whether the line is outside a block.
-    pub fn is_outside(&self) -> bool {
-        matches!(self.spot, Spot::Arrays | Spot::Blocks)
     }
 }

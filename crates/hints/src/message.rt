@@ -4,7 +4,7 @@ use crate::catalog::found;
 use crate::lines::is_space;
 use graph_check::CheckFaultKind;
 use graph_file::ReadFaultKind;
-use semantics::graph::{Region, Source};
+use semantics::graph::Region;
 use source::fault::FaultKind;
 use std::fmt::{self, Display};
 
@@ -29,8 +29,6 @@ pub enum Piece<'a> {
     Count(u64, &'static str),
     /// A region: `the root`, or `arm 3+`.
     Lies(Region),
-    /// A source as a text has it: `N.P`.
-    Names(Source),
     Reading(ReadFaultKind),
     Checking(CheckFaultKind),
     Programming(FaultKind),
@@ -79,7 +77,6 @@ impl Display for Piece<'_> {
             Piece::Count(1, noun) => write!(f, "1 {noun}"),
             Piece::Count(count, noun) => write!(f, "{count} {noun}s"),
             Piece::Lies(region) => show_region(region, f),
-            Piece::Names(source) => write!(f, "{}.{}", source.node, source.port),
             Piece::Reading(kind) => Display::fmt(&kind, f),
             Piece::Checking(kind) => Display::fmt(&kind, f),
             Piece::Programming(kind) => Display::fmt(&kind, f),

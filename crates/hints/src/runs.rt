@@ -3,20 +3,18 @@
 ghost use Rattle.std.specs.Prelude.{◌≡◌, ◌==◌, is_some, nat_lt, not};
 ghost use Rattle.outcomes.specs.Outcomes.{ending_status, exit_status, meaning_status};
 
+use crate::blocks::Block;
 use crate::fields::literal_fault;
-use crate::graphs::block_named;
 use crate::lines::{field_at, is_line_feed, line_at, split_graph};
 use crate::message::Piece::{Bytes, Count, Number, Word};
 use crate::message::{Found, Message, at, nowhere, one, outside, say, three, two};
-use crate::objects::{Entry, word_at};
 use crate::words::input_in;
 use command_line::{Inputs, Request, RunOptions, Sizes};
-use graph_file::read;
+use object_view::Object;
 use oracle::MeanEnd;
 use outcomes::Ending;
 use schedule::config::StartFault;
 use semantics::report::End;
-use std::alloc::Allocator;
 use std::convert::AsStr;
 
 /// The most steps of an element.
@@ -60,24 +58,25 @@ fn line_count(lines: &[u8]) -> u64 {
     (parts.count() as u64).saturating_sub(ended)
 }
 
-/// The cause for a run of this graph that was given another number of inputs than main has. None where memory is refused.
-fn inputs_cause<'a, A: Allocator + Clone>(alloc: &A, input: &'a [u8]) -> Option<Message<'a>> {
+/// The cause for a run of this graph that was given another number of inputs than main has.
+fn inputs_cause(input: &[u8]) -> Option<Message<'_>> {
     let (text, lines) = split_graph(input);
-    let graph = read(alloc.clone().ok()?, text).ok()?;
-    let main = block_named(&graph, &graph.main)?;
-    let wants = Count(u64::from(main.inputs), "input");
+    let count = text.split(is_line_feed).count() as u64;
+    let name = field_at(line_at(text, count.saturating_sub(1)), 1);
+    let wants = Count(Block::of(text, Some(name), 0)?.inputs, "input");
     let has = Count(line_count(lines), "integer");
-    Some(three("graph-inputs", Bytes(main.name.bytes), wants, has))
+    Some(three("graph-inputs", Bytes(name), wants, has))
 }
 
 /// The cause for a run of an object that was given these inputs, where its main block wants another number.
 fn object_inputs_cause<'a>(object: &[u8], inputs: &Inputs) -> Option<Message<'a>> {
-    let main = word_at(object, 5);
-    let wants = Count(Entry::of(object, main).inputs, "input");
+    let object = Object::open(object).ok()?;
+    let main = object.main();
+    let wants = Count(u64::from(object.block(main)?.inputs), "input");
     match inputs {
         Inputs::Integers(integers) => {
             let has = Count(integers.len() as u64, "integer");
-            Some(three("object-inputs", Number(main), wants, has))
+            Some(three("object-inputs", Number(u64::from(main)), wants, has))
         }
         Inputs::TooMany => Some(say("too-many-inputs")),
         Inputs::NoInteger(_) => None,
@@ -134,11 +133,7 @@ fn option_cause<'a>(request: &Request) -> Option<Message<'a>> {
 }
 
 /// Why a run of this case does not start. `None` where that is not known, as where the input was not kept.
-pub fn start_fault<'a, A: Allocator + Clone>(
-    alloc: &A,
-    case: &Case<'_, 'a>,
-    fault: StartFault,
-) -> Option<Found<'a>> {
+pub fn start_fault<'a>(case: &Case<'_, 'a>, fault: StartFault) -> Option<Found<'a>> {
     let request = case.request?;
     match fault {
         StartFault::NoFrames => return Some(nowhere(frames_cause(options_of(request)?)?)),
@@ -150,7 +145,7 @@ pub fn start_fault<'a, A: Allocator + Clone>(
     if let Request::Exec { inputs, .. } = request {
         return Some(nowhere(object_inputs_cause(input, inputs)?));
     }
-    Some(nowhere(inputs_cause(alloc, input)?))
+    Some(nowhere(inputs_cause(input)?))
 }
 
 /// What is said where memory is refused.
@@ -207,7 +202,7 @@ fn clash_cause<'a>(case: &Case<'_, 'a>, array: u64, index: u32) -> Message<'a> {
     let piece = match case.input {
         Some(text) if !is_of_object(case) => {
             let line = line_at(text, array.saturating_add(2));
-            Bytes(field_at(line, 1).unwrap_or(b""))
+            Bytes(field_at(line, 1))
         }
         _ => Number(array),
     };

@@ -13,20 +13,24 @@ fn waits(word: &str) -> bool {
     word.starts_with("--") && !is_alone && !word.contains('=')
 }
 
-/// The first word that is not taken whatever the options are: one that is neither an option nor the value of one, and after `exec`,
-/// which takes inputs, an integer below 0 before `--`.
-fn stray_in<'a, S: AsStr>(words: &'a [S], is_exec: bool) -> Option<&'a str> {
+/// What a command takes besides its options.
+#[derive(Clone, Copy)]
+enum Takes {
+    Nothing,
+    Inputs,
+}
+
+/// The first word that is not taken whatever the options are: one that is neither an option nor the value of one, and where inputs
+/// are taken, an integer below 0 before `--`.
+fn stray_in<'a, S: AsStr>(words: &'a [S], takes: Takes) -> Option<&'a str> {
     let mut is_value = false;
     for word in words {
         let word = word.as_str();
-        let is_stray = if is_exec {
-            word.starts_with('-') && literal(word.as_bytes()).is_some()
-        } else {
-            !word.is_empty() && !word.starts_with('-')
+        let is_stray = match takes {
+            Takes::Inputs if word == "--" => return None,
+            Takes::Inputs => word.starts_with('-') && literal(word.as_bytes()).is_some(),
+            Takes::Nothing => !word.is_empty() && !word.starts_with('-'),
         };
-        if is_exec && word == "--" {
-            return None;
-        }
         if is_stray && !is_value {
             return Some(word);
         }
@@ -70,7 +74,11 @@ fn reading<'a, S: AsStr>(command: &'a str, words: &[S]) -> &'a str {
 /// What is wrong with the words after a command.
 fn after_command<'a, S: AsStr>(command: &'a str, words: &'a [S]) -> Message<'a> {
     let named = Word(command);
-    match (command, stray_in(words, command == "exec")) {
+    let takes = match command {
+        "exec" => Takes::Inputs,
+        _ => Takes::Nothing,
+    };
+    match (command, stray_in(words, takes)) {
         ("exec", Some(word)) => one("negative-input", Word(word)),
         ("run" | "mean" | "trace" | "profile" | "orders", Some(word))
             if literal(word.as_bytes()).is_some() => one("no-inputs", named),

@@ -1,5 +1,5 @@
 -- What was read, and what is refused.
-use Rattle.std.proofs.Common.{◌≡◌, ◌≢◌, ◌∙◌, ◌⊎◌, inl, inr, refl, sym, ap, subst, ℕ, List, Ok, Err}
+use Rattle.std.proofs.Common.{◌≡◌, ◌∙◌, ◌⊎◌, inl, inr, sym, ap, subst, ℕ, List}
 use Rattle.source.specs.declared.fault.Fault.{Fault}
 use Rattle.source.specs.declared.fault.FaultKind.TheVariants.{Memory}
 use Rattle.source.specs.declared.word.Word.{Word}
@@ -16,8 +16,8 @@ pub reported_of : (text program : List ℕ) (fault : Fault) (reported : LowerFau
     → (fault.kind ≡ Memory) ⊎ IsFirstFault text fault → IsUntold (placed program fault) reported → IsRefusedProgram text reported
 reported_of text program fault reported is first (inl (k, t)) = subst (IsRefusedProgram text) (sym t) tt
 reported_of text program fault reported is (inl m) (inr (n, t)) = elim (n m) [ ]
-reported_of text program fault reported is (inr f) (inr (n, t)) =
-    subst (IsRefusedProgram text) (sym (t ∙ ap (λ (p : List ℕ). LowerFault.Program (placed p fault)) is)) (fault, f, n, refl)
+reported_of text program fault (LowerFault.Program refusal) is (inr f) (inr (n, t)) = (fault, f, n, t ∙ ap (λ (p : List ℕ). placed p fault) is)
+reported_of text program fault LowerFault.Memory is (inr f) (inr (n, t)) = tt
 
 pub read_fault : (text : List ℕ) (fault : Fault) → HasFault (program_of text) fault → (fault.kind ≡ Memory) ⊎ IsFirstFault text fault
 read_fault text fault (inl m) = inl m

@@ -4,7 +4,6 @@ use Rattle.semantics.specs.Graph.{Graph}
 use Rattle.semantics.specs.WellFormed.{WellFormed}
 use Rattle.source.specs.declared.fault.Fault.{Fault}
 use Rattle.source.specs.declared.fault.FaultKind.TheVariants.{Memory}
-use Rattle.source.specs.declared.fault.ProgramFault.{ProgramFault}
 use Rattle.source.specs.declared.token.Token.{Token}
 use Rattle.source.specs.Tokens.{program_of, lexed}
 use Rattle.source.specs.Tree.{Program}
@@ -44,5 +43,5 @@ pub data IsFirstFault (text : List ℕ) (fault : Fault) : Type 0 where
 
 -- WHY NO GRAPH IS GIVEN. `Memory` may be the refusal of any text: no definition says when an allocator refuses a growth.
 abbrev pub IsRefusedProgram : List ℕ → LowerFault → Type 0
-IsRefusedProgram text (LowerFault.Program f) = (fault : Fault) × IsFirstFault text fault × (fault.kind ≢ Memory) × (f ≡ placed (program_of text) fault)
+IsRefusedProgram text (LowerFault.Program f) = (fault : Fault) × IsFirstFault text fault × (fault.kind ≢ Memory) × (f.fault ≡ placed (program_of text) fault)
 IsRefusedProgram text LowerFault.Memory = ⊤

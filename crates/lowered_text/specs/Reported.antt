@@ -10,6 +10,11 @@ use Rattle.lowered_text.specs.declared.fault.LowerFault.{LowerFault}
 abbrev pub placed : List ℕ → Fault → ProgramFault
 placed program fault = record { kind = fault.kind; line = (position program fault.at).line; column = (position program fault.at).column }
 
+-- that it is of a program's fault
+abbrev pub IsOfProgram : ProgramFault → LowerFault → Type 0
+IsOfProgram f (LowerFault.Program refusal) = refusal.fault ≡ f
+IsOfProgram f LowerFault.Memory = ⊥
+
 -- of a program
 abbrev pub IsUntold : ProgramFault → LowerFault → Type 0
-IsUntold f reported = ((f.kind ≡ FaultKind.Memory) × (reported ≡ LowerFault.Memory)) ⊎ ((f.kind ≢ FaultKind.Memory) × (reported ≡ LowerFault.Program f))
+IsUntold f reported = ((f.kind ≡ FaultKind.Memory) × (reported ≡ LowerFault.Memory)) ⊎ ((f.kind ≢ FaultKind.Memory) × IsOfProgram f reported)

@@ -4,7 +4,8 @@ ghost use Rattle.std.specs.Prelude.{◌≡◌};
 ghost use Rattle.lowered_text.specs.Reported.{IsUntold};
 ghost use Rattle.lowered_text.specs.declared.fault.LowerFault.TheVariants.{Memory};
 
-use source::fault::{FaultKind, ProgramFault};
+use source::fault::FaultKind;
+use source_tokens::ProgramRefusal;
 use std::alloc::AllocError;
 use std::io;
 
@@ -12,7 +13,7 @@ use std::io;
 #[derive(Debug, Drop)]
 pub enum LowerFault {
     /// The text has no program, or one that breaks a rule or is too big: this is its first fault. Lack of memory is never this fault.
-    Program(ProgramFault),
+    Program(ProgramRefusal),
     Memory,
 }
 
@@ -24,13 +25,13 @@ impl From<AllocError> for LowerFault {
     }
 }
 
-impl From<ProgramFault> for LowerFault {
-    ghost from_gives = { λ fault reported. IsUntold fault reported };
+impl From<ProgramRefusal> for LowerFault {
+    ghost from_gives = { λ refusal reported. IsUntold refusal.fault reported };
 
-    fn from(fault: ProgramFault) -> LowerFault {
-        match fault.kind {
+    fn from(refusal: ProgramRefusal) -> LowerFault {
+        match refusal.fault.kind {
             FaultKind::Memory => LowerFault::Memory,
-            _ => LowerFault::Program(fault),
+            _ => LowerFault::Program(refusal),
         }
     }
 }

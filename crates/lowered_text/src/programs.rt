@@ -14,8 +14,9 @@ use lowering::{Lowered, Named, Places, lower, name_loops};
 use semantics::version::Version;
 use source::fault::{Fault, ProgramFault};
 use source::program::Program;
+use source_check::check;
 use source_text::{SourceText, read_program};
-use source_tokens::position;
+use source_tokens::{Detail, ProgramRefusal, position};
 use std::alloc::Allocator;
 
 /// The two parts of a text.
@@ -34,15 +35,19 @@ pub struct Made<'a, A: Allocator> {
     pub places: Vec<Places<A>, A>,
 }
 
-/// The fault with its line and its column in the program's text.
-fn reported(program: &[u8], fault: Fault) -> LowerFault
+/// The fault with its line and its column in the program's text, and what is known of it.
+fn reported(program: &[u8], fault: Fault, detail: Option<Detail>) -> LowerFault
     ensures { IsUntold (placed program.now fault) result }
 {
     let place = position(program, fault.at);
-    LowerFault::from(ProgramFault {
-        kind: fault.kind,
-        line: place.line,
-        column: place.column,
+    LowerFault::from(ProgramRefusal {
+        fault: ProgramFault {
+            kind: fault.kind,
+            line: place.line,
+            column: place.column,
+        },
+        at: fault.at,
+        detail,
     })
 }
 
@@ -59,9 +64,9 @@ fn good_source<'a, A: Allocator + Clone>(
         program,
         inputs,
     } = source;
-    let checked = match source_check::check(alloc, text.len(), program) {
+    let checked = match check(alloc, text.len(), program) {
         Ok(checked) => checked,
-        Err(fault) => return Err(reported(text, fault)),
+        Err(broken) => return Err(reported(text, broken.fault, broken.detail)),
     };
     match name_loops(alloc, checked) {
         Ok(named) => Ok((
@@ -71,7 +76,7 @@ fn good_source<'a, A: Allocator + Clone>(
                 inputs,
             },
         )),
-        Err(fault) => Err(reported(text, fault)),
+        Err(fault) => Err(reported(text, fault, None)),
     }
 }
 
@@ -124,7 +129,7 @@ pub fn make<'a, A: Allocator + Clone>(
         places,
     } = match lower(alloc, named) {
         Ok(lowered) => lowered,
-        Err(fault) => return Err(reported(program, fault)),
+        Err(fault) => return Err(reported(program, fault, None)),
     };
     let _names = names_of(&named.checked.program);
     let graph = graph_of(arrays, blocks);

@@ -9,6 +9,7 @@ mod Facts
 mod Lawful
 mod Tabulated
 mod Numbers
+mod Opcodes
 mod Passed
 pub mod Places
 mod Sound

@@ -1,5 +1,6 @@
 pub mod Fields
 pub mod Checks
+pub mod Flaws
 pub mod Reading
 pub mod Sending
 pub mod Taking

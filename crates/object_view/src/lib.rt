@@ -11,7 +11,8 @@ mod taking;
 mod words;
 mod writing;
 
-pub use fault::ObjectFault;
+pub use checks::find_flaw;
+pub use fault::{Flaw, ObjectFault, Place, Wrong};
 pub use instr::{CodeInstr, PackedInstr};
 pub use object::{BlockView, Object, one_spelling};
 pub use owned::OwnedObject;

@@ -1,6 +1,6 @@
 //! An object whose header, block table and length were looked at: its parts can be read by their numbers.
 
-ghost use Rattle.std.specs.Prelude.{◌≡◌, ◌+◌, ◌*◌, ◌<◌, ◌≤◌, ◌^◌, length, take, drop, Ok, Err, IfOk, IfErr};
+ghost use Rattle.std.specs.Prelude.{◌≡◌, ◌+◌, ◌*◌, ◌<◌, ◌≤◌, ◌^◌, length, take, drop, Ok, Err, IfOk, IfErr, IsSome};
 ghost use Rattle.object_view.specs.Fields as Fields;
 ghost use Rattle.semantics.specs.Opcodes as Opcodes;
 ghost use Rattle.object_view.specs.Reading as Reading;
@@ -180,15 +180,19 @@ impl<'a> Tables<'a> {
     }
 
     #[tactic(auto, unfolding(crate::specs::Reading::instr_in))]
-    /// An instruction, with its destinations and its origin as they are there.
+    /// An instruction whose opcode exists, as in each object that was checked, with its destinations and its origin as they are
+    /// there.
     #[inline(always)]
     pub fn packed(&self, ip: usize) -> PackedInstr
-        requires { ip < self.now.instrs }
+        requires there { ip < self.now.instrs }
+        requires opcode { IsSome (Fields.opcode_in (Fields.word_at self.now.bytes.now (Reading.instr_place (Fields.word_at self.now.bytes.now) ip))) }
         ensures { Reading.unpacked result ≡ Reading.instr_in (Fields.word_at self.now.bytes.now) ip }
     {
         let head = self.head(ip);
         let word = self.operand_word(ip);
-        let opcode = head.opcode().unwrap_or(Opcode::Copy);
+        let Some(opcode) = head.opcode() else {
+            unreachable!()
+        };
         let (op, origin) = self.read_op(opcode, word);
         PackedInstr {
             origin,
@@ -199,9 +203,10 @@ impl<'a> Tables<'a> {
         }
     }
 
-    /// An instruction.
+    /// An instruction whose opcode exists.
     pub fn instr(&self, ip: usize) -> CodeInstr
-        requires { ip < self.now.instrs }
+        requires there { ip < self.now.instrs }
+        requires opcode { IsSome (Fields.opcode_in (Fields.word_at self.now.bytes.now (Reading.instr_place (Fields.word_at self.now.bytes.now) ip))) }
         ensures { result ≡ Reading.instr_in (Fields.word_at self.now.bytes.now) ip }
     {
         self.packed(ip).unpacked()

@@ -7,7 +7,7 @@ use graph_check::CheckFault;
 use graph_file::ReadFault;
 use object_view::ObjectFault;
 use schedule::config::StartFault;
-use source::fault::ProgramFault;
+use source_tokens::ProgramRefusal;
 use std::alloc::AllocError;
 
 /// Why a command has no result: the fault as it was found, with its place.
@@ -29,7 +29,7 @@ pub enum Refusal {
     /// Standard input is no listing of an object.
     Asm(AsmFault),
     /// Standard input has no program that can be lowered.
-    Program(ProgramFault),
+    Program(ProgramRefusal),
     Memory,
 }
 

@@ -14,16 +14,26 @@ use graph::Name;
 use source::fault::{Fault, FaultKind};
 use source::program::Program;
 use source::word::Word;
+use source_tokens::Detail;
 use std::alloc::Allocator;
 
 mod bindings;
+mod detail;
 mod frame;
 mod machine;
 mod table;
 
+use detail::detail_at;
 use frame::Entry;
 use machine::check_functions;
 use table::{Table, must, read_heads};
+
+/// Why a program is refused: its first fault, and what was known where that was found.
+#[derive(Clone, Copy)]
+pub struct Broken {
+    pub fault: Fault,
+    pub detail: Option<Detail>,
+}
 
 /// A program that keeps the static rules.
 #[derive(Drop)]
@@ -83,11 +93,16 @@ pub fn check<'a, A: Allocator + Clone>(
     alloc: &A,
     end: usize,
     program: Program<'a, A>,
-) -> Result<Checked<'a, A>, Fault>
+) -> Result<Checked<'a, A>, Broken>
     ensures same { IfOk result (λ c. c.program ≡ program.entry) }
-    ensures refused { (p : tree.Program) → IsProgram program.entry.names program.entry.words p → IfErr result (λ f. (f ≡ out_of_memory) ⊎ (checked end p ≡ Err f)) }
+    ensures refused { (p : tree.Program) → IsProgram program.entry.names program.entry.words p → IfErr result (λ b. (b.fault ≡ out_of_memory) ⊎ (checked end p ≡ Err b.fault)) }
 {
     let main = main_number(&program.names);
-    check_words(alloc, main, end, &program.words)?;
-    Ok(Checked { program })
+    match check_words(alloc, main, end, &program.words) {
+        Ok(()) => Ok(Checked { program }),
+        Err(fault) => Err(Broken {
+            fault,
+            detail: detail_at(&program.words, fault.at),
+        }),
+    }
 }

@@ -130,33 +130,33 @@ module _ (text : List ℕ) (ts : List Token) (n : ℕ) (numbers : BTreeMap (Bor 
     ends_badly fault h reading (inl memory) = inl memory
     ends_badly fault h reading (inr is) = inr (ended_so table h reading (extends_itself table) ∙ is)
 
-    pub finishes : {P : Type 0} (names_of : P → List Name) (words_of : P → List (Word ℕ)) (r : Result P Fault) → length ts ≤ n
+    pub finishes : {P E : Type 0} (names_of : P → List Name) (words_of : P → List (Word ℕ)) (fault_of : E → Fault) (r : Result P E) → length ts ≤ n
         → IsReading text ts n numbers table stack words
         → MatchResult r (λ p. (names_of p ≡ table) × ((names : List Name) → ending (length text) (state names stack words) ≡ Ok
         (words_named names (words_of p))))
-        (λ fault. IsFault fault (ending (length text) (state table stack words)))
-        → MatchResult r (λ p. AreParsed text ts (names_of p) (words_of p)) (λ fault. IsFault fault (parsed text ts))
-    finishes names_of words_of (Ok p) h reading end = subst (λ names. AreParsed text ts names (words_of p)) (sym end.0) (ends_well (words_of p) h reading end.1)
-    finishes names_of words_of (Err fault) h reading end = ends_badly fault h reading end
+        (λ e. IsFault (fault_of e) (ending (length text) (state table stack words)))
+        → MatchResult r (λ p. AreParsed text ts (names_of p) (words_of p)) (λ e. IsFault (fault_of e) (parsed text ts))
+    finishes names_of words_of fault_of (Ok p) h reading end = subst (λ names. AreParsed text ts names (words_of p)) (sym end.0) (ends_well (words_of p) h reading end.1)
+    finishes names_of words_of fault_of (Err e) h reading end = ends_badly (fault_of e) h reading end
 
 -- ONE TOKEN
-pub advances : {U : Type 0} (at : ℕ) (l : Lexeme) (meant : spelled.Lexeme) (numbers : BTreeMap (Bor (List ℕ)) ℕ) (old table : List Name)
-    (s : List (Symbol ℕ)) (w : List (Word ℕ)) (s' : List (Symbol ℕ)) (w' : List (Word ℕ)) (r : Result U FaultKind) → IsSaid old numbers table meant l
+pub advances : {U E : Type 0} (kind_of : E → FaultKind) (at : ℕ) (l : Lexeme) (meant : spelled.Lexeme) (numbers : BTreeMap (Bor (List ℕ)) ℕ) (old table : List Name)
+    (s : List (Symbol ℕ)) (w : List (Word ℕ)) (s' : List (Symbol ℕ)) (w' : List (Word ℕ)) (r : Result U E) → IsSaid old numbers table meant l
     → ((names : List Name) → MatchResult r (λ _. onward at (lexeme_named names l) (state names s w) ≡ Ok (state names s' w'))
-    (λ kind. IsKind kind (onward at (lexeme_named names l) (state names s w))))
+    (λ e. IsKind (kind_of e) (onward at (lexeme_named names l) (state names s w))))
     → OnOk r (All IsShallow s')
-    → MatchResult r (λ _. IsAdvanced at meant old s w numbers table s' w') (λ kind. IsStopped at meant old s w kind)
-advances at l meant numbers old table s w s' w' (Ok u) said took shallow = record {
+    → MatchResult r (λ _. IsAdvanced at meant old s w numbers table s' w') (λ e. IsStopped at meant old s w (kind_of e))
+advances kind_of at l meant numbers old table s w s' w' (Ok u) said took shallow = record {
   indexed = said.table;
   extends = said.extends;
   spelled = said.spelled;
   shallow = shallow;
   moved = λ names e. ap (λ l. onward at l (state names s w)) (sym (said.says names e)) ∙ took names;
 }
-advances at l meant numbers old table s w s' w' (Err kind) said took shallow = record {
+advances kind_of at l meant numbers old table s w s' w' (Err e) said took shallow = record {
   names = table;
   extends = said.extends;
-  cause = subst (λ l. IsKind kind (onward at l (state table s w))) (said.says table (extends_itself table)) (took table);
+  cause = subst (λ l. IsKind (kind_of e) (onward at l (state table s w))) (said.says table (extends_itself table)) (took table);
 }
 
 pub same_read : {X : Type 0} (xs : List X) (i : ℕ) (d e : X) → i < length xs → get_or xs i d ≡ get_or xs i e

@@ -34,11 +34,11 @@ module _ (text : List ℕ) (ts : List Token) where
   reported fault (inl memory) = inl memory
   reported fault (inr is) = inr (parsed_fault text ts fault is)
 
-  pub read_so : {P : Type 0} (names_of : P → List Name) (words_of : P → List (Word ℕ)) (r : Result P Fault)
-      → MatchResult r (λ p. AreParsed text ts (names_of p) (words_of p)) (λ fault. IsFault fault (parsed text ts))
-      → MatchResult r (λ p. AreRead text ts (names_of p) (words_of p)) (λ fault. IsParseFault text ts fault)
-  read_so names_of words_of (Ok p) are = are_read (names_of p) (words_of p) are
-  read_so names_of words_of (Err fault) is = reported fault is
+  pub read_so : {P E : Type 0} (names_of : P → List Name) (words_of : P → List (Word ℕ)) (fault_of : E → Fault) (r : Result P E)
+      → MatchResult r (λ p. AreParsed text ts (names_of p) (words_of p)) (λ e. IsFault (fault_of e) (parsed text ts))
+      → MatchResult r (λ p. AreRead text ts (names_of p) (words_of p)) (λ e. IsParseFault text ts (fault_of e))
+  read_so names_of words_of fault_of (Ok p) are = are_read (names_of p) (words_of p) are
+  read_so names_of words_of fault_of (Err e) is = reported (fault_of e) is
 
   -- with the text's tokens
   pub has_fault : (fault : Fault) → lexed text ≡ Ok ts → IsParseFault text ts fault → HasFault text fault

@@ -10,3 +10,18 @@ pub(crate) enum Lexeme {
     Number { number: u64 },
     Name { name: usize },
 }
+
+/// A name that was read, by its number in the table of names, and its place.
+#[derive(Clone, Copy)]
+pub(crate) struct Named {
+    pub at: usize,
+    pub name: usize,
+}
+
+/// A call whose arguments are read.
+#[derive(Clone, Copy)]
+pub(crate) struct Called {
+    pub at: usize,
+    pub strict: bool,
+    pub function: usize,
+}

@@ -3,6 +3,7 @@
 
 mod after;
 mod bodies;
+mod expected;
 mod items;
 mod lexeme;
 mod names;
@@ -15,5 +16,5 @@ mod reading;
 mod signs;
 mod texts;
 
-pub use reading::{Parsed, parse};
+pub use reading::{Parsed, Unread, parse};
 pub use texts::{SourceText, read_program};

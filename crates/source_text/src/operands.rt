@@ -7,7 +7,7 @@ ghost use Rattle.source_text.specs.declared.lexeme.Lexeme.TheVariants.{Number};
 ghost use Rattle.law_language.specs.GrammarNamed.{named_symbol};
 ghost use Rattle.source_text.specs.Outcomes.{lexeme_named, Does, IsShallow, AreShallow};
 
-use crate::lexeme::Lexeme;
+use crate::lexeme::{Called, Lexeme};
 use crate::numbers::{LARGEST, is_small, too_large};
 use crate::outcome::{Outcome, Pushes, refuses, takes, unexpected};
 use law_language::symbol::Symbol;
@@ -237,18 +237,16 @@ pub(crate) fn callee(pushes: &mut Pushes, depth: u8, at: usize, lexeme: Lexeme) 
     }
 }
 
-pub(crate) fn call_end(
-    pushes: &mut Pushes,
-    at: usize,
-    strict: bool,
-    function: usize,
-    depth: u8,
-    lexeme: Lexeme,
-) -> Outcome
+pub(crate) fn call_end(pushes: &mut Pushes, called: Called, depth: u8, lexeme: Lexeme) -> Outcome
     requires { depth < 200 }
-    ensures does { Does result pushes.new (λ names. automaton.call_end at strict (name_of names function) depth (lexeme_named names lexeme)) }
+    ensures does { Does result pushes.new (λ names. automaton.call_end called.at called.strict (name_of names called.function) depth (lexeme_named names lexeme)) }
     ensures shallow { AreShallow result pushes.new }
 {
+    let Called {
+        at,
+        strict,
+        function,
+    } = called;
     match lexeme {
         Lexeme::Mark { sign: Sign::Comma } => takes(
             pushes,

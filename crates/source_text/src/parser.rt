@@ -8,13 +8,22 @@ ghost use Rattle.source.specs.declared.fault.FaultKind.TheVariants.{Memory};
 ghost use Rattle.source_text.specs.Outcomes.{lexeme_named, reaction_named, IsShallow, AreAllShallow};
 ghost use Rattle.source_text.specs.Running.{words_named, state, onward, reacted, ending, IsKind, IsFault};
 
+use crate::expected::expected;
 use crate::lexeme::Lexeme;
 use crate::outcome::{Outcome, Pushes};
 use crate::reaction::{Reaction, react};
 use law_language::symbol::Symbol;
-use source::fault::{Fault, FaultKind};
+use source::fault::FaultKind;
 use source::word::Word;
+use source_tokens::Expected;
 use std::alloc::Allocator;
+
+/// Why a token, or the end, is refused, and what was expected there.
+#[derive(Clone, Copy)]
+pub(crate) struct Stopped {
+    pub kind: FaultKind,
+    pub expected: Option<Expected>,
+}
 
 /// What is expected, the top last, and the words of what was read.
 #[derive(Drop)]
@@ -104,21 +113,33 @@ impl<A: Allocator> Parser<A> {
         pushes: &mut Pushes,
         at: usize,
         lexeme: Lexeme,
-    ) -> Result<(), FaultKind>
+    ) -> Result<(), Stopped>
         requires { All IsShallow self.old.stack.items }
         ensures took { (names : List Name) → MatchResult result
             (λ _. onward at (lexeme_named names lexeme) (state names self.old.stack.items self.old.words.items)
             ≡ Ok (state names self.new.stack.items self.new.words.items))
-            (λ kind. IsKind kind (onward at (lexeme_named names lexeme) (state names self.old.stack.items self.old.words.items))) }
+            (λ stopped. IsKind stopped.kind (onward at (lexeme_named names lexeme) (state names self.old.stack.items self.old.words.items))) }
         ensures shallow { OnOk result (All IsShallow self.new.stack.items) }
     {
         while let Some(symbol) = self.stack.pop() {
             let reaction = react(pushes, symbol, at, lexeme);
-            if self.act(reaction, pushes)? {
+            let taken = match self.act(reaction, pushes) {
+                Ok(taken) => taken,
+                Err(kind) => {
+                    return Err(Stopped {
+                        kind,
+                        expected: Some(expected(symbol, &self.stack)),
+                    });
+                }
+            };
+            if taken {
                 return Ok(());
             }
         }
-        Err(FaultKind::Unexpected)
+        Err(Stopped {
+            kind: FaultKind::Unexpected,
+            expected: None,
+        })
     }
 
     /// Does what a symbol that was on top of the stack does at the end: it may add words, and begins no further item.
@@ -137,14 +158,17 @@ impl<A: Allocator> Parser<A> {
     }
 
     /// The words, where no token is left.
-    pub(crate) fn finish(mut self, end: usize) -> Result<Vec<Word<usize>, A>, Fault>
-        ensures { (names : List Name) → MatchResult result
+    pub(crate) fn finish(mut self) -> Result<Vec<Word<usize>, A>, Stopped>
+        ensures { (names : List Name) (end : ℕ) → MatchResult result
             (λ words. ending end (state names self.stack.items self.words.items) ≡ Ok (words_named names words.items))
-            (λ fault. IsFault fault (ending end (state names self.stack.items self.words.items))) }
+            (λ stopped. IsFault (record { kind = stopped.kind; at = end }) (ending end (state names self.stack.items self.words.items))) }
     {
         while let Some(symbol) = self.stack.pop() {
             if let Err(kind) = self.end(symbol) {
-                return Err(Fault { kind, at: end });
+                return Err(Stopped {
+                    kind,
+                    expected: Some(expected(symbol, &self.stack)),
+                });
             }
         }
         Ok(self.words)

@@ -16,7 +16,7 @@ use crate::items::{
     array_length, array_name, function_body, function_name, items, parameter, parameters,
     result_count, results,
 };
-use crate::lexeme::Lexeme;
+use crate::lexeme::{Called, Lexeme, Named};
 use crate::operands::{LIMIT, call_end, callee, negated, operand, otherwise};
 use crate::outcome::{Outcome, Pushes, passes, refuses, takes, unexpected};
 use law_language::symbol::Symbol;
@@ -47,26 +47,28 @@ fn plain(outcome: Outcome) -> Reaction
 /// A name is that of a function before `(`, of an array before `[`, and else of a value.
 fn after_name(
     pushes: &mut Pushes,
-    named: usize,
-    name: usize,
+    named: Named,
     level: u8,
     depth: u8,
     at: usize,
     lexeme: Lexeme,
 ) -> Reaction
     requires { depth ≤ 200 }
-    ensures does { Reacts result pushes.new (λ names. automaton.after_name 200 named (name_of names name) level depth at (lexeme_named names lexeme)) }
+    ensures does { Reacts result pushes.new (λ names. automaton.after_name 200 named.at (name_of names named.name) level depth at (lexeme_named names lexeme)) }
     ensures shallow { AreAllShallow result pushes.new }
 {
     match lexeme {
         Lexeme::Mark {
             sign: Sign::OpenParen,
-        } => plain(call(pushes, named, name, level, depth)),
+        } => plain(call(pushes, named.at, named.name, level, depth)),
         Lexeme::Mark {
             sign: Sign::OpenBracket,
-        } => plain(cell(pushes, named, name, level, depth)),
+        } => plain(cell(pushes, named.at, named.name, level, depth)),
         _ => Reaction {
-            before: Some(Word::Name { at: named, name }),
+            before: Some(Word::Name {
+                at: named.at,
+                name: named.name,
+            }),
             outcome: after(pushes, level, 9, depth, at, lexeme),
             below: None,
         },
@@ -136,15 +138,14 @@ fn cell(pushes: &mut Pushes, at: usize, array: usize, level: u8, depth: u8) -> O
 /// A store is any expression, and no operand.
 fn after_index(
     pushes: &mut Pushes,
-    cell: usize,
-    array: usize,
+    cell: Named,
     level: u8,
     depth: u8,
     at: usize,
     lexeme: Lexeme,
 ) -> Reaction
     requires { depth < 200 }
-    ensures does { Reacts result pushes.new (λ names. automaton.after_index cell (name_of names array) level depth at (lexeme_named names lexeme)) }
+    ensures does { Reacts result pushes.new (λ names. automaton.after_index cell.at (name_of names cell.name) level depth at (lexeme_named names lexeme)) }
     ensures shallow { AreAllShallow result pushes.new }
 {
     match lexeme {
@@ -159,12 +160,18 @@ fn after_index(
                     depth: depth + 1,
                 },
                 Symbol::Emit {
-                    word: Word::Store { at: cell, array },
+                    word: Word::Store {
+                        at: cell.at,
+                        array: cell.name,
+                    },
                 },
             ],
         )),
         _ => Reaction {
-            before: Some(Word::Fetch { at: cell, array }),
+            before: Some(Word::Fetch {
+                at: cell.at,
+                array: cell.name,
+            }),
             outcome: after(pushes, level, 9, depth, at, lexeme),
             below: None,
         },
@@ -236,13 +243,13 @@ pub(crate) fn react(
             name,
             level,
             depth,
-        } => after_name(pushes, named, name, level, depth, at, lexeme),
+        } => after_name(pushes, Named { at: named, name }, level, depth, at, lexeme),
         Symbol::AfterIndex {
             at: cell,
-            array,
+            array: name,
             level,
             depth,
-        } => after_index(pushes, cell, array, level, depth, at, lexeme),
+        } => after_index(pushes, Named { at: cell, name }, level, depth, at, lexeme),
         Symbol::Sign { sign } => plain(one_sign(pushes, sign, lexeme)),
         Symbol::Keyword { keyword } => plain(one_word(pushes, keyword, lexeme)),
         Symbol::Items => plain(items(pushes, lexeme)),
@@ -265,11 +272,18 @@ pub(crate) fn react(
         )),
         Symbol::Callee { depth } => plain(callee(pushes, depth, at, lexeme)),
         Symbol::CallEnd {
-            at: called,
+            at,
             strict,
             function,
             depth,
-        } => plain(call_end(pushes, called, strict, function, depth, lexeme)),
+        } => {
+            let called = Called {
+                at,
+                strict,
+                function,
+            };
+            plain(call_end(pushes, called, depth, lexeme))
+        }
         Symbol::Otherwise { depth } => plain(otherwise(pushes, depth, at, lexeme)),
         Symbol::Bound { at: begun, depth } => plain(bound(pushes, begun, depth, at, lexeme)),
         Symbol::Start { depth } => plain(start(pushes, depth, at, lexeme)),

@@ -1,6 +1,6 @@
 //! Programs that are read.
 
-ghost use Rattle.std.specs.Prelude.{◌≡◌, List, All, Ok, IfOk, MatchResult};
+ghost use Rattle.std.specs.Prelude.{◌≡◌, List, All, Ok, IfOk, MatchResult, length};
 ghost use Rattle.source.specs.Tree.{Name};
 ghost use Rattle.source.specs.Spelled.{lexeme};
 ghost use Rattle.source_text.specs.Naming.{IsTable};
@@ -10,12 +10,13 @@ ghost use Rattle.source_text.specs.Reading.{IsStart, IsAdvanced, IsStopped, AreR
 
 use crate::names::Names;
 use crate::outcome::Pushes;
-use crate::parser::Parser;
+use crate::parser::{Parser, Stopped};
 use graph::Name;
 use law_language::symbol::Symbol;
 use source::fault::{Fault, FaultKind};
-use source::token::Token;
+use source::token::{Sign, Token, TokenKind};
 use source::word::Word;
+use source_tokens::{Detail, Opened, Stop, position};
 use std::alloc::{AllocError, Allocator};
 
 /// The names of a program, each once, and its words, which give a name by its number among these.
@@ -23,6 +24,68 @@ use std::alloc::{AllocError, Allocator};
 pub struct Parsed<'a, A: Allocator> {
     pub names: Vec<Name<'a>, A>,
     pub words: Vec<Word<usize>, A>,
+}
+
+/// The first fault of a program's tokens, and what is known of it.
+#[derive(Clone, Copy)]
+pub struct Unread {
+    pub fault: Fault,
+    pub detail: Option<Detail>,
+}
+
+/// A growth was refused.
+pub(crate) const OUT_OF_MEMORY: Unread = Unread {
+    fault: Fault {
+        kind: FaultKind::Memory,
+        at: 0,
+    },
+    detail: None,
+};
+
+/// The bracket or the brace that was opened last of those that these tokens leave open.
+fn opened_last(text: &[u8], tokens: &[Token]) -> Option<Opened> {
+    let mut closed = 0usize;
+    for token in tokens.iter().rev() {
+        match token.kind {
+            TokenKind::Mark {
+                sign: Sign::CloseParen | Sign::CloseBracket | Sign::CloseBrace,
+            } => closed = closed.saturating_add(1),
+            TokenKind::Mark {
+                sign: Sign::OpenParen | Sign::OpenBracket | Sign::OpenBrace,
+            } => {
+                if closed == 0 {
+                    return Some(Opened {
+                        at: token.at,
+                        line: position(text, token.at).line,
+                    });
+                }
+                closed = closed.saturating_sub(1);
+            }
+            _ => (),
+        }
+    }
+    None
+}
+
+/// The fault of a text with these tokens that is at this place.
+fn refused_at(text: &[u8], tokens: &[Token], stopped: Stopped, at: usize) -> Unread
+    ensures { result.fault ≡ record { kind = stopped.kind; at = at } }
+{
+    let Stopped { kind, expected } = stopped;
+    let count = tokens.iter().take_while(|token| token.at < at).count();
+    let before = tokens.get(..count).unwrap_or(tokens);
+    let detail = match expected {
+        Some(expected) => Some(Detail::Stop(Stop {
+            expected,
+            before: before.last().map(|token| token.at),
+            open: opened_last(text, before),
+        })),
+        None => None,
+    };
+    Unread {
+        fault: Fault { kind, at },
+        detail,
+    }
 }
 
 /// What was read of a text.
@@ -48,32 +111,42 @@ impl<'a, A: Allocator + Clone> Reader<'a, A> {
     }
 
     /// Reads a token, or returns why it does not go on.
-    fn read(&mut self, pushes: &mut Pushes, text: &'a [u8], token: &Token) -> Result<(), FaultKind>
+    fn read(&mut self, pushes: &mut Pushes, text: &'a [u8], token: &Token) -> Result<(), Stopped>
         requires table { IsTable self.old.names.numbers self.old.names.table.items }
         requires shallow { All IsShallow self.old.parser.stack.items }
         ensures { MatchResult result
             (λ _. IsAdvanced token.now.at (lexeme text.now token.now) self.old.names.table.items self.old.parser.stack.items self.old.parser.words.items
             self.new.names.numbers self.new.names.table.items self.new.parser.stack.items self.new.parser.words.items)
-            (λ kind. IsStopped token.now.at (lexeme text.now token.now) self.old.names.table.items self.old.parser.stack.items
-            self.old.parser.words.items kind) }
+            (λ stopped. IsStopped token.now.at (lexeme text.now token.now) self.old.names.table.items self.old.parser.stack.items
+            self.old.parser.words.items stopped.kind) }
     {
-        let lexeme = self.names.lexeme(text, token)?;
+        let lexeme = match self.names.lexeme(text, token) {
+            Ok(lexeme) => lexeme,
+            Err(kind) => {
+                return Err(Stopped {
+                    kind,
+                    expected: None,
+                });
+            }
+        };
         self.parser.take(pushes, token.at, lexeme)
     }
 
-    /// The program, where no token is left.
-    fn finish(self, end: usize) -> Result<Parsed<'a, A>, Fault>
+    /// The program, where no token of the text is left.
+    fn finish(self, text: &[u8], tokens: &[Token]) -> Result<Parsed<'a, A>, Unread>
         ensures { MatchResult result
             (λ p. (p.names.items ≡ self.entry.names.table.items)
-            × ((names : List Name) → ending end (state names self.entry.parser.stack.items self.entry.parser.words.items)
+            × ((names : List Name) → ending (length text.now) (state names self.entry.parser.stack.items self.entry.parser.words.items)
             ≡ Ok (words_named names p.words.items)))
-            (λ fault. IsFault fault (ending end (state self.entry.names.table.items self.entry.parser.stack.items self.entry.parser.words.items))) }
+            (λ u. IsFault u.fault (ending (length text.now) (state self.entry.names.table.items self.entry.parser.stack.items self.entry.parser.words.items))) }
     {
-        let words = self.parser.finish(end)?;
-        Ok(Parsed {
-            names: self.names.table,
-            words,
-        })
+        match self.parser.finish() {
+            Ok(words) => Ok(Parsed {
+                names: self.names.table,
+                words,
+            }),
+            Err(stopped) => Err(refused_at(text, tokens, stopped, text.len())),
+        }
     }
 }
 
@@ -84,20 +157,17 @@ pub fn parse<'a, A: Allocator + Clone>(
     alloc: A,
     text: &'a [u8],
     tokens: &[Token],
-) -> Result<Parsed<'a, A>, Fault>
-    ensures { MatchResult result (λ p. AreRead text.now tokens.now p.names.items p.words.items) (λ fault. IsParseFault text.now tokens.now fault) }
+) -> Result<Parsed<'a, A>, Unread>
+    ensures { MatchResult result (λ p. AreRead text.now tokens.now p.names.items p.words.items) (λ u. IsParseFault text.now tokens.now u.fault) }
 {
     let Ok(mut reader) = Reader::new(alloc) else {
-        return Err(Fault {
-            kind: FaultKind::Memory,
-            at: 0,
-        });
+        return Err(OUT_OF_MEMORY);
     };
     let mut pushes = Pushes::new();
     for token in tokens {
-        if let Err(kind) = reader.read(&mut pushes, text, token) {
-            return Err(Fault { kind, at: token.at });
+        if let Err(stopped) = reader.read(&mut pushes, text, token) {
+            return Err(refused_at(text, tokens, stopped, token.at));
         }
     }
-    reader.finish(text.len())
+    reader.finish(text, tokens)
 }

@@ -4,10 +4,10 @@ ghost use Rattle.std.specs.Prelude.{◌≡◌, MatchResult};
 ghost use Rattle.source.specs.Tokens.{position};
 ghost use Rattle.source_text.specs.Reading.{HasProgram, HasFault, IsRead, IsReported};
 
-use crate::reading::parse;
-use source::fault::{Fault, FaultKind, ProgramFault};
+use crate::reading::{OUT_OF_MEMORY, Unread, parse};
+use source::fault::ProgramFault;
 use source::program::Program;
-use source_tokens::{lex, position, split};
+use source_tokens::{ProgramRefusal, lex, position, split};
 use std::alloc::Allocator;
 
 /// A text that was read.
@@ -21,28 +21,38 @@ pub struct SourceText<'a, A: Allocator> {
 }
 
 /// A fault of the program's text, with its line and its column.
-fn reported(text: &[u8], fault: Fault) -> ProgramFault
-    ensures { result ≡ record { kind = fault.kind; line = (position text.now fault.at).line; column = (position text.now fault.at).column } }
+fn reported(text: &[u8], unread: Unread) -> ProgramRefusal
+    ensures { result.fault ≡ record { kind = unread.fault.kind; line = (position text.now unread.fault.at).line; column = (position text.now unread.fault.at).column } }
 {
+    let Unread { fault, detail } = unread;
     let place = position(text, fault.at);
-    ProgramFault {
-        kind: fault.kind,
-        line: place.line,
-        column: place.column,
+    ProgramRefusal {
+        fault: ProgramFault {
+            kind: fault.kind,
+            line: place.line,
+            column: place.column,
+        },
+        at: fault.at,
+        detail,
     }
 }
 
 /// The program that a text without inputs has, or its first fault.
-fn read<'a, A: Allocator + Clone>(alloc: A, text: &'a [u8]) -> Result<Program<'a, A>, Fault>
-    ensures { MatchResult result (λ p. HasProgram text.now p.names p.words) (λ fault. HasFault text.now fault) }
+fn read<'a, A: Allocator + Clone>(alloc: A, text: &'a [u8]) -> Result<Program<'a, A>, Unread>
+    ensures { MatchResult result (λ p. HasProgram text.now p.names p.words) (λ u. HasFault text.now u.fault) }
 {
     let Ok(own) = alloc.clone() else {
-        return Err(Fault {
-            kind: FaultKind::Memory,
-            at: 0,
-        });
+        return Err(OUT_OF_MEMORY);
     };
-    let tokens = lex(own, text)?;
+    let tokens = match lex(own, text) {
+        Ok(tokens) => tokens,
+        Err(fault) => {
+            return Err(Unread {
+                fault,
+                detail: None,
+            });
+        }
+    };
     let parsed = parse(alloc, text, &tokens)?;
     Ok(Program {
         names: parsed.names,
@@ -54,8 +64,8 @@ fn read<'a, A: Allocator + Clone>(alloc: A, text: &'a [u8]) -> Result<Program<'a
 pub fn read_program<'a, A: Allocator + Clone>(
     alloc: A,
     text: &'a [u8],
-) -> Result<SourceText<'a, A>, ProgramFault>
-    ensures { MatchResult result (λ s. IsRead text.now s.text.now s.program.names s.program.words s.inputs.now) (λ fault. IsReported text.now fault) }
+) -> Result<SourceText<'a, A>, ProgramRefusal>
+    ensures { MatchResult result (λ s. IsRead text.now s.text.now s.program.names s.program.words s.inputs.now) (λ refusal. IsReported text.now refusal.fault) }
 {
     let parted = split(text);
     match read(alloc, parted.program) {
@@ -64,6 +74,6 @@ pub fn read_program<'a, A: Allocator + Clone>(
             program,
             inputs: parted.inputs,
         }),
-        Err(fault) => Err(reported(parted.program, fault)),
+        Err(unread) => Err(reported(parted.program, unread)),
     }
 }

@@ -5,9 +5,11 @@ mod beginning;
 mod lexing;
 mod parting;
 mod placing;
+mod refusal;
 mod runs;
 mod signs;
 
 pub use lexing::{lex, name_at};
 pub use parting::{Parted, split};
 pub use placing::{LineColumn, Reached, first_place, position, reach};
+pub use refusal::{Detail, Expected, Form, Head, Opened, ProgramRefusal, Stop, Within};

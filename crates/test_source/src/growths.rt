@@ -65,7 +65,7 @@ fn refused_growths_of_a_program(rt: HostRuntime) -> Result<(), Fail> {
         let heap = Rationed::new(rt.alloc(), growth);
         let fault = match read_program(&heap, PROGRAM) {
             Ok(_) => None,
-            Err(fault) => Some(fault.kind),
+            Err(refusal) => Some(refusal.fault.kind),
         };
         whole = is_next_refused(&heap);
         if whole {
@@ -95,7 +95,7 @@ fn refused_growths_of_a_check(rt: HostRuntime) -> Result<(), Fail> {
         let source = read_program(&plenty, PROGRAM)?;
         let fault = match check(&&heap, source.text.len(), source.program) {
             Ok(_) => None,
-            Err(fault) => Some(fault),
+            Err(broken) => Some(broken.fault),
         };
         whole = is_next_refused(&heap);
         if whole {

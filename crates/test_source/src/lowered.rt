@@ -16,10 +16,10 @@ use std::test::Fail;
 use test_inputs::rationed::{Rationed, is_next_refused};
 
 /// A number, and what follows it.
-fn write_number<W: Write>(writer: &mut W, number: u32, behind: &[u8]) -> io::Result<()> {
+fn write_number<W: Write>(writer: &mut W, number: u32, after: &[u8]) -> io::Result<()> {
     let mut buffer = Buffer::new();
     writer.write_all(buffer.format(number).as_bytes())?;
-    writer.write_all(behind)
+    writer.write_all(after)
 }
 
 fn write_sources<W: Write>(writer: &mut W, sources: &[Source]) -> io::Result<()> {
@@ -103,11 +103,14 @@ fn lower_text<A: Allocator + Clone, W: Write>(
     };
     match read_program(own, text) {
         Ok(read) => {
-            let checked = check(alloc, read.text.len(), read.program)?;
+            let checked = match check(alloc, read.text.len(), read.program) {
+                Ok(checked) => checked,
+                Err(broken) => return Err(broken.fault),
+            };
             lower_named(alloc, name_loops(alloc, checked)?, writer)
         }
-        Err(fault) => Err(Fault {
-            kind: fault.kind,
+        Err(refusal) => Err(Fault {
+            kind: refusal.fault.kind,
             at: 0,
         }),
     }

@@ -3,6 +3,7 @@
 use source::fault::FaultKind;
 use source_check::check;
 use source_text::read_program;
+use source_tokens::ProgramRefusal;
 use std::alloc::{AllocError, Allocator, Global};
 use std::io::{self, Write};
 use std::test::Fail;
@@ -82,7 +83,7 @@ fn brackets(rt: HostRuntime) -> Result<(), Fail> {
     let text = nested(rt.alloc(), b"(", b")", 200)?;
     match read_program(rt.alloc(), &text) {
         Ok(_) => assert!(rt; false, "201 are open"),
-        Err(fault) => {
+        Err(ProgramRefusal { fault, .. }) => {
             assert_eq!(rt; fault.kind, FaultKind::TooDeep);
             // The bracket that cannot be had is the last one.
             assert_eq!(rt; (fault.line, fault.column), (1, 13 + 200));
@@ -99,7 +100,7 @@ fn signs(rt: HostRuntime) -> Result<(), Fail> {
     let text = nested(rt.alloc(), b"-", b"", 201)?;
     match read_program(rt.alloc(), &text) {
         Ok(_) => assert!(rt; false, "201 are open"),
-        Err(fault) => {
+        Err(ProgramRefusal { fault, .. }) => {
             assert_eq!(rt; fault.kind, FaultKind::TooDeep);
             assert_eq!(rt; (fault.line, fault.column), (1, 13 + 201));
         }
@@ -128,7 +129,7 @@ fn a_long_chain(rt: HostRuntime) -> Result<(), Fail> {
     let text = chain(rt.alloc(), 199)?;
     match read_program(rt.alloc(), &text) {
         Ok(_) => assert!(rt; false, "201 are open"),
-        Err(fault) => {
+        Err(ProgramRefusal { fault, .. }) => {
             assert_eq!(rt; fault.kind, FaultKind::TooDeep);
             // The word `if` that cannot be had is the last one.
             assert_eq!(rt; (fault.line, fault.column), (1, 14 + 16 * 198));

@@ -222,10 +222,10 @@ const ACCEPTED: [&[u8]; 13] = [
 fn fault_of(alloc: Global, text: &[u8]) -> Option<ProgramFault> {
     let source = match read_program(alloc, text) {
         Ok(source) => source,
-        Err(fault) => return Some(fault),
+        Err(refusal) => return Some(refusal.fault),
     };
     let text = source.text;
-    let Fault { kind, at } = check(&alloc, text.len(), source.program).err()?;
+    let Fault { kind, at } = check(&alloc, text.len(), source.program).err()?.fault;
     let place = position(text, at);
     Some(ProgramFault {
         kind,

@@ -58,9 +58,9 @@ fn a_function(rt: HostRuntime) -> Result<(), Fail> {
     Ok(())
 }
 
-/// Each word and each sign, with the least space between.
+/// Each word, and names that begin as words do.
 #[test]
-fn words_and_signs(rt: HostRuntime) -> Result<(), Fail> {
+fn each_word(rt: HostRuntime) -> Result<(), Fail> {
     let words = lex(
         rt.alloc(),
         b"array fn let if else loop while strict inputs iff Let",
@@ -79,6 +79,12 @@ fn words_and_signs(rt: HostRuntime) -> Result<(), Fail> {
         name(3, 50),
     ];
     assert_eq!(rt; words.as_slice(), expected.as_slice());
+    Ok(())
+}
+
+/// Each sign, with the least space between.
+#[test]
+fn each_sign(rt: HostRuntime) -> Result<(), Fail> {
     let signs = lex(rt.alloc(), b"->:=<<>>==!=<=>=< > = + -*/%&^|~()[]{},;_")?;
     let expected = [
         mark(Sign::Arrow, 0),

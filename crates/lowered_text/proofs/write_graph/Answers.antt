@@ -1,4 +1,4 @@
-use Rattle.std.proofs.Common.{◌≡◌, ap, List, ℕ, ◌++◌}
+use Rattle.std.proofs.Common.{ap, List, ℕ, ◌++◌}
 use Rattle.semantics.specs.Text.{text_of}
 use Rattle.lowered_text.specs.Parts.{IsMade}
 use Rattle.lowered_text.proofs.Writing.{all_of, front_of}

@@ -1,4 +1,4 @@
-use Rattle.std.proofs.Common.{◌≡◌, ◌∙◌, ap, map, List, ℕ}
+use Rattle.std.proofs.Common.{◌∙◌, ap, map, List, ℕ}
 use Rattle.sink.specs.Numbered.{numbered}
 use Rattle.source.specs.Lowered.{made_blocks}
 use Rattle.lowering.specs.Built.{Places, places_of}

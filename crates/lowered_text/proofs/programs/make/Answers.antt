@@ -6,7 +6,6 @@ use Rattle.source.specs.Words.{HasTree}
 use Rattle.source.specs.Counts.{IsGood}
 use Rattle.source.specs.Lowered.{lowered, graph_of, arrays_of}
 use Rattle.law_language.proofs.LoweredWellFormed.{lowering_is_well_formed}
-use Rattle.lowering.specs.Built.{IsLowered}
 use Rattle.lowered_text.specs.Lowers.{of_sizes}
 use Rattle.law_language.proofs.LoweredTables.{names_are_spelled, spelled_names_are_single}
 use Rattle.lowered_text.proofs.Refused.{reported_of, later_fault}

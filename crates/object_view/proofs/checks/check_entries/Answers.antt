@@ -10,9 +10,9 @@ pub returns-in-Err-clause-checked : goal.returns-in-Err-clause-checked
 returns-in-Err-clause-checked c =
     let w = word_at c.args.bytes.now in
     let l = c.loop-block in
-    let bad : entry_checked w l.block ≡ Err c.in-Err.fault =
+    let bad : entry_checked w l.block ≡ Err c.in-Err.flaw.fault =
     ap (λ x. unless (entry_fits x) BadTable) (sym c.entry_at-entry.ensures) ∙ ap (λ b. unless b BadTable) (sym c.fits.ensures) ∙ sym c.in-Err.ensures in
-    sym l.invariant.passed ∙ each_failed (entry_checked w) l.block c.args.blocks c.in-Err.fault (omega arith) bad
+    sym l.invariant.passed ∙ each_failed (entry_checked w) l.block c.args.blocks c.in-Err.flaw.fault (omega arith) bad
 
 pub loop-block-preserved : goal.loop-block-preserved
 loop-block-preserved c =

@@ -1,4 +1,5 @@
-use Rattle.std.proofs.Common.{◌<◌, ◌≤◌, length, arith}
+use Rattle.std.proofs.Common.{◌<◌, ◌≤◌, length, sym, subst, arith}
+use Rattle.source_text.specs.Reading.{IsParseFault}
 use Rattle.source_text.proofs.Tokens.{reads_on, stops, finishes, same_read}
 use Rattle.source_text.proofs.Trees.{reported, read_so}
 use Rattle.source_text.proofs.reading.parse.Goals as goal
@@ -8,9 +9,9 @@ returns-in-Err g c =
     let reader = c.loop-token.reader in
     let tokens = c.args.tokens.now in
     let h : c.loop-token.token-index < length tokens = omega arith in
-    reported c.args.text.now tokens _ (stops c.args.text.now tokens c.loop-token.token-index _ reader.names.numbers reader.names.table.items
+    subst (IsParseFault c.args.text.now tokens) (sym c.refused_at.ensures) (reported c.args.text.now tokens _ (stops c.args.text.now tokens c.loop-token.token-index _ reader.names.numbers reader.names.table.items
     reader.parser.stack.items reader.parser.words.items
-    c.in-Err.kind h (same_read tokens c.loop-token.token-index _ _ h) c.loop-token.invariant c.in-Err.ensures)
+    c.in-Err.stopped.kind h (same_read tokens c.loop-token.token-index _ _ h) c.loop-token.invariant c.in-Err.ensures))
 
 pub loop-token-preserved : goal.loop-token-preserved
 loop-token-preserved g c =
@@ -26,7 +27,7 @@ returns g c =
     let reader = c.loop-token.reader in
     let tokens = c.args.tokens.now in
     let h : length tokens ≤ c.loop-token.token-index = omega arith in
-    read_so c.args.text.now tokens (λ p. p.names.items) (λ p. p.words.items) c.finish.result
+    read_so c.args.text.now tokens (λ p. p.names.items) (λ p. p.words.items) (λ u. u.fault) c.finish.result
     (finishes c.args.text.now tokens c.loop-token.token-index reader.names.numbers reader.names.table.items reader.parser.stack.items
     reader.parser.words.items
-    (λ p. p.names.items) (λ p. p.words.items) c.finish.result h c.loop-token.invariant c.finish.ensures)
+    (λ p. p.names.items) (λ p. p.words.items) (λ u. u.fault) c.finish.result h c.loop-token.invariant c.finish.ensures)

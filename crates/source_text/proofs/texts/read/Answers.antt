@@ -1,5 +1,6 @@
 use Rattle.std.proofs.Common.{Ok, sym, ap, subst, ◌∙◌}
 use Rattle.std.proofs.lemmas.Result.{err_from_is_err_and}
+use Rattle.source_text.specs.declared.reading.Unread.{Unread}
 use Rattle.source_text.specs.Reading.{HasFault}
 use Rattle.source_text.proofs.Acting.{errs}
 use Rattle.source_text.proofs.Trees.{has_fault}
@@ -7,7 +8,7 @@ use Rattle.source_text.proofs.texts.read.Goals as goal
 
 pub returns-in_err-parsed : goal.returns-in_err-parsed
 returns-in_err-parsed g c =
-    let r = err_from_is_err_and c.from_residual-in_err-parsed.result c.from_residual-in_err-parsed.ensures.1 in
-    let tokens = c.in_ok-tokens.ensures.exact ∙ ap Ok (sym c.deref.ensures.value) in
-    errs c.from_residual-in_err-parsed.result r.0 _ _ r.1
-    (subst (HasFault c.args.text.now) (sym r.2) (has_fault c.args.text.now c.deref.result.now _ tokens c.in_err-parsed.ensures))
+    let r = err_from_is_err_and c.from_residual.result c.from_residual.ensures.1 in
+    let tokens = c.in-Ok-lex.ensures.exact ∙ ap Ok (sym c.deref.ensures.value) in
+    errs c.from_residual.result r.0 _ _ r.1
+    (subst (λ (u : Unread). HasFault c.args.text.now u.fault) (sym r.2) (has_fault c.args.text.now c.deref.result.now _ tokens c.in_err-parsed.ensures))

@@ -6,7 +6,7 @@ use Rattle.source_text.proofs.texts.read_program.Goals as goal
 
 pub returns-in-Err : goal.returns-in-Err
 returns-in-Err g c =
-    let fault = c.in-Err.fault in
+    let fault = c.in-Err.unread.fault in
     record {
       fault = fault;
       has = subst (λ program. HasFault program fault) c.split-parted.ensures.program c.in-Err.ensures;

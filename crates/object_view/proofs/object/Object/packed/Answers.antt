@@ -4,7 +4,13 @@ use Rattle.object_view.proofs.Tabulated.{instr_there, instr_not_there}
 use Rattle.object_view.proofs.Views.{blocks_seen}
 use Rattle.std.proofs.Common.{◌≡◌, ◌+◌, Some, sym, ap, ◌∙◌, arith}
 use Rattle.semantics.specs.Program.{instr_from}
+use Rattle.object_view.proofs.Opcodes.{opcode_read}
 use Rattle.object_view.proofs.object.Object.packed.Goals as goal
+
+pub packed-requires-clause-opcode : goal.packed-requires-clause-opcode
+packed-requires-clause-opcode c =
+    let t = c.self.inside.tables in
+    opcode_read t.bytes.now c.args.ip c.self.invariant.0 (omega (arith, t.instrs_parsed))
 
 pub returns-then-ip-self : goal.returns-then-ip-self
 returns-then-ip-self c =

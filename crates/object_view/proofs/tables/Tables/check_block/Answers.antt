@@ -1,6 +1,7 @@
-use Rattle.std.proofs.Common.{◌+◌, sym, ◌∙◌, arith}
+use Rattle.std.proofs.Common.{◌≡◌, ◌+◌, Err, sym, ap, ◌∙◌, arith}
+use Rattle.object_view.specs.declared.fault.ObjectFault.{ObjectFault}
 use Rattle.object_view.specs.Fields.{word_at}
-use Rattle.object_view.specs.Checks.{instr_checked}
+use Rattle.object_view.specs.Checks.{Checked, each, instr_checked}
 use Rattle.object_view.proofs.Each.{each_passed, each_failed}
 use Rattle.object_view.proofs.tables.Tables.check_block.Goals as goal
 
@@ -10,7 +11,9 @@ returns-in-Err c =
     let l = c.loop-ip in
     let end = c.args.first + c.args.count in
     let check = instr_checked w c.args.slots end in
-    sym (sym l.invariant.passed ∙ each_failed check l.ip end c.in-Err.fault (omega arith) (sym c.in-Err.ensures))
+    let bad : each check c.args.first c.args.count ≡ Err c.in-Err.flaw.fault = sym l.invariant.passed ∙ each_failed check l.ip end c.in-Err.flaw.fault (omega arith) (sym c.in-Err.ensures) in
+    let failed : ObjectFault → Checked = λ fault. Err fault in
+    ap failed c.at.ensures ∙ sym bad
 
 pub loop-ip-preserved : goal.loop-ip-preserved
 loop-ip-preserved c =

@@ -3,13 +3,13 @@ use Rattle.source_text.proofs.Acting.{ends, same_fault}
 use Rattle.source_text.proofs.parser.Parser.finish.Goals as goal
 
 pub returns-in-Err : goal.returns-in-Err
-returns-in-Err g c = λ names.
-    same_fault _ _ _ (c.loop-symbol.invariant names) (c.in-Err.ensures.ends names c.args.end c.loop-symbol.self.stack.items c.in-Some.ensures.items)
+returns-in-Err g c = λ names end.
+    same_fault _ _ _ (c.loop-symbol.invariant names end) (c.in-Err.ensures.ends names end c.loop-symbol.self.stack.items c.in-Some.ensures.items)
 
 pub loop-symbol-preserved : goal.loop-symbol-preserved
-loop-symbol-preserved g c = λ names.
-    c.loop-symbol.invariant names ∙ c.in_default-end.ensures.ends names c.args.end c.loop-symbol.self.stack.items c.in-Some.ensures.items
+loop-symbol-preserved g c = λ names end.
+    c.loop-symbol.invariant names end ∙ c.in_default-end.ensures.ends names end c.loop-symbol.self.stack.items c.in-Some.ensures.items
 
 pub returns : goal.returns
-returns g c = λ names. c.loop-symbol.invariant names
-    ∙ ends names c.args.end c.loop-symbol.self.stack.items c.loop-symbol.self.words.items (omega (arith, c.in_default.ensures.cases.0))
+returns g c = λ names end. c.loop-symbol.invariant names end
+    ∙ ends names end c.loop-symbol.self.stack.items c.loop-symbol.self.words.items (omega (arith, c.in_default.ensures.cases.0))

@@ -2,7 +2,7 @@ use Rattle.std.proofs.Common.{arith, rules, ap, ◌∙◌}
 use Rattle.object_view.specs.Fields.{word_at}
 use Rattle.object_view.specs.Reading.{instrs_below}
 use Rattle.object_view.proofs.Facts.{counts_from}
-use Rattle.object_view.proofs.tables.Tables.read.Goals as goal
+use Rattle.object_view.proofs.tables.Tables.find.Goals as goal
 
 pub invariant_of-result : goal.invariant_of-result
 invariant_of-result c =
