@@ -23,11 +23,11 @@ pub opens_none : (d b : ℕ) (block : Block (List ℕ)) (r : Region) (k : ℕ) (
 opens_none zero b block r k side e none = ap (opens zero b block) e
 opens_none (suc d) b block r k side e none = absurd (none (omega arith))
 
-pub opens_more : (d a b : ℕ) (block : Block (List ℕ)) (r : Region) (k : ℕ) (side : Bool) → r ≡ Arm k side → 1 ≤ d → a ≡ d - 1 → opens d b block r ≡ opens a b block (region_of block k) ++ arm_opens b k side
+pub opens_more : (d a b : ℕ) (block : Block (List ℕ)) (r : Region) (k : ℕ) (side : Bool) → r ≡ Arm k side → 1 ≤ d → a ≡ d - 1 → opens d b block r ≡ opens a b block (region_of block k) ++ arm_opens b (Arm k side)
 opens_more zero a b block r k side e some less = absurd (omega (arith, some))
 opens_more (suc d) a b block r k side e some less =
     let same : a ≡ d = omega (arith, less) in
-    ap (opens (suc d) b block) e ∙ ap (λ (n : ℕ). opens n b block (region_of block k) ++ arm_opens b k side) (sym same)
+    ap (opens (suc d) b block) e ∙ ap (λ (n : ℕ). opens n b block (region_of block k) ++ arm_opens b (Arm k side)) (sym same)
 
 pub closes_root : (d : ℕ) (block : Block (List ℕ)) (r : Region) → r ≡ Root → closes d block r ≡ []
 closes_root zero block r e = ap (closes zero block) e

@@ -17,23 +17,27 @@ region_in (Some node) = node.region
 abbrev pub region_of : Block (List ℕ) → ℕ → Region
 region_of block n = region_in (node_at block n)
 
-abbrev pub side_letter : Bool → List ℕ
-side_letter true = codes "t"
-side_letter false = codes "f"
+-- the letter of an arm in the name of its box, and its sign on it
+abbrev pub arm_letter : Region → List ℕ
+arm_letter Root = []
+arm_letter (Arm k true) = codes "t"
+arm_letter (Arm k false) = codes "f"
 
-abbrev pub side_sign : Bool → List ℕ
-side_sign true = codes "+"
-side_sign false = codes "-"
+abbrev pub arm_sign : Region → List ℕ
+arm_sign Root = []
+arm_sign (Arm k true) = codes "+"
+arm_sign (Arm k false) = codes "-"
 
 -- an arm is a dotted box with the name that the text has for it
-abbrev pub arm_opens : ℕ → ℕ → Bool → List ℕ
-arm_opens b k side = codes "subgraph cluster_b" ++ decimal b ++ side_letter side ++ decimal k ++ codes " { style=dotted label=\"" ++ decimal k ++ side_sign side ++ codes "\" "
+abbrev pub arm_opens : ℕ → Region → List ℕ
+arm_opens b Root = []
+arm_opens b (Arm k side) = codes "subgraph cluster_b" ++ decimal b ++ arm_letter (Arm k side) ++ decimal k ++ codes " { style=dotted label=\"" ++ decimal k ++ arm_sign (Arm k side) ++ codes "\" "
 
 -- the boxes that begin around a node: `depth` conditionals at most
 abbrev pub opens : ℕ → ℕ → Block (List ℕ) → Region → List ℕ
 opens depth b block Root = []
 opens zero b block (Arm k side) = []
-opens (suc depth) b block (Arm k side) = opens depth b block (region_of block k) ++ arm_opens b k side
+opens (suc depth) b block (Arm k side) = opens depth b block (region_of block k) ++ arm_opens b (Arm k side)
 
 abbrev pub closes : ℕ → Block (List ℕ) → Region → List ℕ
 closes depth block Root = []

@@ -4,7 +4,7 @@ ghost use Rattle.std.specs.Prelude.{◌≡◌, ◌<◌, ◌++◌, ◌∷◌, [],
 ghost use Rattle.semantics.specs.Text.{kind_text};
 ghost use Rattle.sink.specs.Numbered.{numbered};
 ghost use Rattle.sink.specs.Sends.{Sends};
-ghost use Rattle.dot.specs.GraphDot.{region_of, side_letter, side_sign, arm_opens, opens, closes, node_box, style_of, edge, node_place, node_dot, input_box, inputs_dot, result_dot, block_head, block_dot, graph_head, graph_dot};
+ghost use Rattle.dot.specs.GraphDot.{region_of, arm_letter, arm_sign, arm_opens, opens, closes, node_box, style_of, edge, node_place, node_dot, input_box, inputs_dot, result_dot, block_head, block_dot, graph_head, graph_dot};
 
 use graph::{Block, Graph, Name, Node};
 use graph_file::send_kind;
@@ -27,37 +27,50 @@ fn region_of<A: Allocator>(block: &Block<'_, A>, node: u32) -> Region
     }
 }
 
-fn side_letter(side: bool) -> &'static [u8]
-    ensures { result.now ≡ side_letter side }
+/// The letter of an arm in the name of its box.
+fn arm_letter(arm: Region) -> &'static [u8]
+    ensures { result.now ≡ arm_letter arm }
 {
-    if side { b"t" } else { b"f" }
+    match arm {
+        Region::Arm { side: true, .. } => b"t",
+        Region::Arm { side: false, .. } => b"f",
+        Region::Root => b"",
+    }
 }
 
-fn side_sign(side: bool) -> &'static [u8]
-    ensures { result.now ≡ side_sign side }
+/// The sign of an arm on its box.
+fn arm_sign(arm: Region) -> &'static [u8]
+    ensures { result.now ≡ arm_sign arm }
 {
-    if side { b"+" } else { b"-" }
+    match arm {
+        Region::Arm { side: true, .. } => b"+",
+        Region::Arm { side: false, .. } => b"-",
+        Region::Root => b"",
+    }
 }
 
 /// The beginning of an arm's box.
-fn open_arm<W: Write>(writer: &mut W, place: usize, cond: u32, side: bool) -> io::Result<()>
-    ensures { Sends result (W.contents writer.old) (W.contents writer.new) (arm_opens place cond side) }
+fn open_arm<W: Write>(writer: &mut W, place: usize, arm: Region) -> io::Result<()>
+    ensures { Sends result (W.contents writer.old) (W.contents writer.new) (arm_opens place arm) }
 {
+    let Region::Arm { cond, .. } = arm else {
+        return Ok(());
+    };
     let mut block = Buffer::new();
-    let mut arm = Buffer::new();
+    let mut number = Buffer::new();
     let block = block.format(place).as_bytes();
-    let arm = arm.format(cond).as_bytes();
-    let letter = side_letter(side);
-    let sign = side_sign(side);
+    let number = number.format(cond).as_bytes();
+    let letter = arm_letter(arm);
+    let sign = arm_sign(arm);
     send_all(
         writer,
         &[
             b"subgraph cluster_b",
             block,
             letter,
-            arm,
+            number,
             b" { style=dotted label=\"",
-            arm,
+            number,
             sign,
             b"\" ",
         ],
@@ -74,14 +87,14 @@ fn open_arms<A: Allocator, W: Write>(
 ) -> io::Result<()>
     ensures { Sends result (W.contents writer.old) (W.contents writer.new) (opens depth place block.now.1 region) }
 {
-    let Region::Arm { cond, side } = region else {
+    let Region::Arm { cond, .. } = region else {
         return Ok(());
     };
     let Some(around) = depth.checked_sub(1) else {
         return Ok(());
     };
     open_arms(writer, around, place, block, region_of(block, cond))?;
-    open_arm(writer, place, cond, side)
+    open_arm(writer, place, region)
 }
 
 /// The ends of these boxes.
@@ -197,21 +210,27 @@ fn send_edges<W: Write>(
     Ok(())
 }
 
+/// Where a node is: under a number in the block at a place, and in a region of that block.
+#[derive(Clone, Copy)]
+struct Spot {
+    place: usize,
+    number: u64,
+    region: Region,
+}
+
 /// A node's box within the boxes of its arms.
 fn send_place<A: Allocator, W: Write>(
     writer: &mut W,
     depth: usize,
-    place: usize,
     block: &Block<'_, A>,
-    region: Region,
-    node: u64,
+    spot: Spot,
     kind: &Kind<Name<'_>>,
 ) -> io::Result<()>
-    ensures { Sends result (W.contents writer.old) (W.contents writer.new) (node_place depth place block.now.1 region node kind.now) }
+    ensures { Sends result (W.contents writer.old) (W.contents writer.new) (node_place depth spot.place block.now.1 spot.region spot.number kind.now) }
 {
-    open_arms(writer, depth, place, block, region)?;
-    send_box(writer, place, node, kind)?;
-    close_arms(writer, depth, block, region)?;
+    open_arms(writer, depth, spot.place, block, spot.region)?;
+    send_box(writer, spot.place, spot.number, kind)?;
+    close_arms(writer, depth, block, spot.region)?;
     send(writer, b"\n")
 }
 
@@ -228,7 +247,12 @@ fn send_node<A: Allocator, W: Write>(
 {
     let depth = block.nodes.len();
     let number = u64::from(block.inputs) + line as u64;
-    send_place(writer, depth, place, block, node.region, number, &node.kind)?;
+    let spot = Spot {
+        place,
+        number,
+        region: node.region,
+    };
+    send_place(writer, depth, block, spot, &node.kind)?;
     send_edges(writer, place, number, style_of(&node.kind), &node.sources)
 }
 

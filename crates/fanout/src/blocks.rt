@@ -3,6 +3,7 @@
 ghost use Rattle.std.specs.Prelude.{◌≡◌, ◌++◌, [], IfOk, OnOk, replicate};
 ghost use Rattle.semantics.specs.declared.program.Mark.TheVariants.{Unmarked};
 ghost use Rattle.fanout.specs.Narrowed as of_blocks;
+ghost use Rattle.fanout.specs.Rows as of_rows;
 
 use crate::layout::{Layout, size};
 use crate::sides::part_all;
@@ -11,16 +12,17 @@ use code::{CodeBlock, Instr, Plan};
 use semantics::program::Mark;
 use std::alloc::{AllocError, Allocator};
 
-/// What waits follows an instruction that is not tied to the next one.
+/// What waits follows the instruction of that number, if it is not tied to the next one.
 fn release<T, A: Allocator>(
-    tied: bool,
+    layout: &Layout<A>,
+    number: usize,
     waiting: &mut Vec<T, A>,
     list: &mut Vec<T, A>,
 ) -> Result<(), AllocError>
-    ensures list { OnOk result (list.new.items ≡ list.old.items ++ of_blocks.released tied waiting.old.items) }
-    ensures waiting { OnOk result (waiting.new.items ≡ of_blocks.held tied waiting.old.items) }
+    ensures list { OnOk result (list.new.items ≡ list.old.items ++ of_blocks.released (of_rows.is_tied layout.now.tied number) waiting.old.items) }
+    ensures waiting { OnOk result (waiting.new.items ≡ of_blocks.held (of_rows.is_tied layout.now.tied number) waiting.old.items) }
 {
-    if !tied {
+    if !layout.is_tied(number) {
         list.append(waiting)?;
     }
     Ok(())
@@ -39,7 +41,7 @@ fn spread<A: Allocator + Clone>(
     for (number, instr) in instrs.iter().enumerate() {
         list.push(moved(alloc.clone()?, layout, number, instr)?)?;
         push_copies(alloc.clone()?, layout, number, instr, &mut waiting)?;
-        release(layout.is_tied(number), &mut waiting, &mut list)?;
+        release(layout, number, &mut waiting, &mut list)?;
     }
     list.append(&mut waiting)?;
     Ok(list)
@@ -78,7 +80,7 @@ fn spread_marks<A: Allocator + Clone>(
     for (number, instr) in instrs.iter().enumerate() {
         list.push(mark_of(marks, number))?;
         push_unmarked(size(instr)?, &mut waiting)?;
-        release(layout.is_tied(number), &mut waiting, &mut list)?;
+        release(layout, number, &mut waiting, &mut list)?;
     }
     list.append(&mut waiting)?;
     Ok(list)

@@ -1,6 +1,6 @@
 //! Who names each port of a block.
 
-ghost use Rattle.std.specs.Prelude.{◌≡◌, ◌+◌, ◌<◌, ◌≤◌, ◌^◌, IfOk, length, slice_set, true};
+ghost use Rattle.std.specs.Prelude.{◌≡◌, ◌+◌, ◌<◌, ◌≤◌, ◌^◌, IfOk, length, slice_set, true, false};
 ghost use Rattle.semantics.specs.Plan as of_plans;
 ghost use Rattle.folding.specs.declared.namers.Namer.TheVariants.{One, Many};
 ghost use Rattle.folding.specs.Namers as of_namers;
@@ -126,19 +126,36 @@ impl<A: Allocator> Namers<A> {
         }
     }
 
-    /// Notes the first or the second destinations of the instruction of that number.
-    fn note_dests(&mut self, number: usize, second: bool, dests: &[Dest])
+    /// Notes the first destinations of the instruction of that number.
+    fn note_firsts(&mut self, number: usize, firsts: &[Dest])
         requires lefts { number ≤ length self.old.lefts }
         requires rights { number ≤ length self.old.rights }
-        ensures exact { self.new ≡ of_namers.note_dests self.old number second dests.now }
+        ensures exact { self.new ≡ of_namers.note_dests self.old number false firsts.now }
         ensures all_lefts { length self.new.lefts ≡ length self.old.lefts }
         ensures all_rights { length self.new.rights ≡ length self.old.rights }
     {
         let namer = Namer::One {
             from: number,
-            second,
+            second: false,
         };
-        for dest in dests {
+        for dest in firsts {
+            self.note(number, *dest, namer);
+        }
+    }
+
+    /// Notes the second destinations of the instruction of that number.
+    fn note_seconds(&mut self, number: usize, seconds: &[Dest])
+        requires lefts { number ≤ length self.old.lefts }
+        requires rights { number ≤ length self.old.rights }
+        ensures exact { self.new ≡ of_namers.note_dests self.old number true seconds.now }
+        ensures all_lefts { length self.new.lefts ≡ length self.old.lefts }
+        ensures all_rights { length self.new.rights ≡ length self.old.rights }
+    {
+        let namer = Namer::One {
+            from: number,
+            second: true,
+        };
+        for dest in seconds {
             self.note(number, *dest, namer);
         }
     }
@@ -151,8 +168,8 @@ impl<A: Allocator> Namers<A> {
         ensures all_lefts { length self.new.lefts ≡ length self.old.lefts }
         ensures all_rights { length self.new.rights ≡ length self.old.rights }
     {
-        self.note_dests(number, false, &instr.firsts);
-        self.note_dests(number, true, &instr.seconds);
+        self.note_firsts(number, &instr.firsts);
+        self.note_seconds(number, &instr.seconds);
         if let Op::Link { block } = instr.op {
             note_landings(&mut self.lefts, number, landing(plan, block), &instr.firsts);
         }

@@ -2,6 +2,8 @@
 use Rattle.std.proofs.Common.{min, ◌≡◌, ℕ, zero, suc, ◌+◌, ◌<◌, ◌≤◌, Bool, ◌⊎◌, inl, inr, get_or, drop, map, add-one, List, [], ◌∷◌, ◌++◌, length, refl, sym, ◌∙◌, ap, arith, length-append, append-nil, append_assoc, add-zero}
 use Rattle.std.proofs.Math.Seq.{drop-cons}
 use Rattle.std.proofs.lemmas.List.{drop_all}
+use Rattle.semantics.specs.declared.graph.Region.{Region}
+use Rattle.semantics.specs.declared.graph.Region.TheVariants.{Arm}
 use Rattle.semantics.specs.declared.graph.Source.{Source}
 use Rattle.semantics.specs.declared.graph.Kind.{Kind}
 use Rattle.semantics.specs.declared.graph.Kind.TheVariants as node
@@ -144,14 +146,21 @@ pub all_enters : (s : State) (at : ℕ) (scope : Scope) (predicate : Source) (xs
 all_enters s at scope predicate xs = alike s _ _ _ _ _ _ _ _ _ _ refl (sym (add-zero s.spot.loops)) refl refl refl
 
 -- an arm that takes what is given makes its enters
-pub arm_enters : (s t n : State) (arms brms : Arms) (side : Bool) (at : ℕ) (xs : List Name) (taken : List Source) → t ≡ s → brms ≡ arms
-    → n ≡ with_merges (record t { site = arm_site brms.site brms.cond side t.spot }) (entered_nodes (arm_site brms.site brms.cond side t.spot) at taken)
+pub arm_enters : (s t n : State) (arms brms : Arms) (side : Bool) (region : Region) (at : ℕ) (xs : List Name) (taken : List Source) → t ≡ s
+    → brms ≡ arms → region ≡ Arm brms.cond side
+    → n ≡ with_merges (record t { site = record { function = brms.site.function; region = region; trigger = port t.spot.next 0 } })
+    (entered_nodes (record { function = brms.site.function; region = region; trigger = port t.spot.next 0 }) at taken)
     → taken ≡ or_predicate (first_of arms.predicate) (map (source_in arms.scope) xs)
     → n ≡ with_enters s arms side at xs
-arm_enters s t n arms brms side at xs taken p q e h =
-    e ∙ (λ i. made_of (p i) (q i) (h i))
+arm_enters s t n arms brms side region at xs taken p q r e h =
+    e ∙ ap within r ∙ (λ i. made_of (p i) (q i) (h i))
     ∙ all_enters (record s { site = arm_site arms.site arms.cond side s.spot }) at arms.scope (first_of arms.predicate) xs
   where
+    within : Region → State
+    within g =
+        let site : Site = record { function = brms.site.function; region = g; trigger = port t.spot.next 0 } in
+        with_merges (record t { site = site }) (entered_nodes site at taken)
+
     made_of : State → Arms → List Source → State
     made_of z a ss = with_merges (record z { site = arm_site a.site a.cond side z.spot }) (entered_nodes (arm_site a.site a.cond side z.spot) at ss)
 

@@ -1,11 +1,12 @@
 -- CONDITIONALS in the machine: the node of the predicate, the enters of each arm, and the merges.
-use Rattle.std.specs.Prelude.{ℕ, ◌+◌, Bool, true, false, List, [], ◌∷◌, ◌++◌, length, map}
+use Rattle.std.specs.Prelude.{ℕ, ◌+◌, Bool, true, false, List, [], ◌∷◌, ◌++◌, length, map, Option, None, Some}
 use Rattle.semantics.specs.declared.graph.Source.{Source}
 use Rattle.semantics.specs.declared.graph.Kind.TheVariants as node
 use Rattle.source.specs.Tree.{Name}
 use Rattle.source.specs.Lowered.{Made, Lowered, Site, spot_after, inputs_from, made, entered_names, arm_site, arm_scope, merges, first_of, next_spot}
 use Rattle.lowering.specs.Plans.{Plan}
-use Rattle.lowering.specs.State.{popped, Arms, State, Frame, FirstArm, Right}
+use Rattle.lowering.specs.State.{popped, Arms, State, Frame, Right}
+use Rattle.lowering.specs.Innermost.{first_arm_in, second_arm_in}
 use Rattle.lowering.specs.Operators.{before_last, last_of}
 
 -- with the nodes of a part, and with nodes
@@ -47,13 +48,13 @@ first_arm s frame (q ∷ ps) =
     let arms : Arms = arms_of s 1 in
     record (entered (chosen_by s arms q.at) arms true q.at q.names) { plans = ps; frames = frame arms ∷ s.frames }
 
-abbrev pub second_arm_of : State → Arms → List Frame → List Plan → State
-second_arm_of s arms fs [] = record s { frames = fs }
-second_arm_of s arms fs (q ∷ ps) = record (entered s arms false q.at q.names) { plans = ps; frames = Right arms s.sources ∷ fs }
+abbrev pub second_arm_of : State → Option Arms → List Plan → State
+second_arm_of s None ps = s
+second_arm_of s (Some arms) [] = s
+second_arm_of s (Some arms) (q ∷ ps) = record (entered s arms false q.at q.names) { plans = ps; frames = Right arms s.sources ∷ s.frames }
 
 abbrev pub second_arm : State → List Plan → List Frame → State
-second_arm s ps (FirstArm arms ∷ fs) = second_arm_of s arms fs ps
-second_arm s ps fs = popped s fs
+second_arm s ps fs = second_arm_of (popped s fs) (first_arm_in fs) ps
 
 -- the merges of the values of both arms
 abbrev pub merged : State → Arms → ℕ → List Source → List Source → State
@@ -70,6 +71,9 @@ merged s arms at left right =
 abbrev pub with_outer : List Source → State → State
 with_outer outer s = record s { sources = outer ++ s.sources }
 
+abbrev pub if_ended_of : State → ℕ → Option (Arms × List Source) → State
+if_ended_of s at None = s
+if_ended_of s at (Some second) = with_outer second.0.outer (merged s second.0 at second.1 s.sources)
+
 abbrev pub if_ended : State → ℕ → List Frame → State
-if_ended s at (Right arms left ∷ fs) = record (with_outer arms.outer (merged s arms at left s.sources)) { frames = fs }
-if_ended s at fs = popped s fs
+if_ended s at fs = if_ended_of (popped s fs) at (second_arm_in fs)

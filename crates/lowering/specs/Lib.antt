@@ -1,6 +1,7 @@
 pub mod Plans
 pub mod Counts
 pub mod State
+pub mod Innermost
 pub mod Operators
 pub mod Lists
 pub mod Conditionals

@@ -8,7 +8,7 @@ use Rattle.source.specs.Tree.{Name, NameAt, Bind, Drop, Program}
 use Rattle.source.specs.Words.{Words}
 use Rattle.source.specs.Rules.{function_in}
 use Rattle.source.specs.Evaluates.{signed}
-use Rattle.source.specs.Lowered.{source_in, only, operator_of, operands, literal, results_of}
+use Rattle.source.specs.Lowered.{source_in, only, operator_of, operands, literal, call_kind, results_of}
 use Rattle.lowering.specs.State.{after, noted, State, Header, FirstArm, Looping}
 use Rattle.lowering.specs.Operators.{operated, as_they_are, prefix}
 use Rattle.lowering.specs.Lists.{list_begun, called, dropped, given, let_begun, targeted, let_ended}
@@ -39,7 +39,7 @@ act_with results (word.Fetch at a) s = operated s at (node.Fetch a) 1 as_they_ar
 act_with results word.Index s = s
 act_with results (word.Store at a) s = operated s at (node.Store a) 2 as_they_are
 act_with results (word.Callee at f) s = s
-act_with results (word.Call at strict f) s = called s at strict f results s.frames
+act_with results (word.Call at strict f) s = called s at (call_kind strict f) results s.frames
 act_with results word.Then s = first_arm s FirstArm s.plans
 act_with results word.Else s = second_arm s s.plans s.frames
 act_with results (word.EndIf at) s = if_ended s at s.frames

@@ -51,6 +51,11 @@ pub data Frame : Type 0 where
   Looping : (arms : Arms) → Frame
   Ending : (values : List Source) → Frame
 
+-- what ends with a loop: the arm after its test, or its test after a body with these values
+pub data LoopEnd : Type 0 where
+  InArm : (arms : Arms) → LoopEnd
+  InTest : (values : List Source) → LoopEnd
+
 pub record State : Type 0 where
   pub site : Site
   pub spot : Spot
@@ -67,10 +72,14 @@ pub record State : Type 0 where
   -- the blocks of the functions before, each with its function's name
   pub done : List (Name × MadeBlock)
 
--- without the innermost frame: where a word closes what is not open, which is in no program
+-- the frames around the innermost one, which each word that closes a frame leaves, also where it closes what is not open; that is
+-- in no program
+abbrev pub around : List Frame → List Frame
+around [] = []
+around (f ∷ fs) = fs
+
 abbrev pub popped : State → List Frame → State
-popped s [] = record s { frames = [] }
-popped s (f ∷ fs) = record s { frames = fs }
+popped s fs = record s { frames = around fs }
 
 -- with what a part is lowered to
 abbrev pub after : State → Lowered → State

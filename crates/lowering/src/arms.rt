@@ -1,19 +1,20 @@
 //! Conditionals.
 
 ghost use Rattle.std.specs.Prelude.{◌≡◌, ◌+◌, ◌∷◌, ◌++◌, [], OnOk, IfOk, length, map};
-ghost use Rattle.source.specs.Lowered.{first_of, merges, inputs_from, or_predicate, source_in, scoped};
+ghost use Rattle.source.specs.Lowered.{first_of, merges, inputs_from, or_predicate, source_in};
 ghost use Rattle.lowering.specs.Operators.{with_node};
 ghost use Rattle.lowering.specs.Conditionals.{entered, chosen_by, arms_of, first_arm, second_arm, if_ended, with_merges, entered_nodes, enters_of, with_enters};
+ghost use Rattle.lowering.specs.Opened.{is_first};
 ghost use Rattle.lowering.specs.State.{FirstArm, Looping};
 ghost use Rattle.semantics.specs.declared.graph.Kind.TheVariants as node;
 
-use crate::frame::{Arms, Frame, Open, Site};
+use crate::frame::{Arms, Open, SecondArm, Side, Site};
 use crate::loops::all_sources;
 use crate::machine::Machine;
-use crate::scope::Scope;
-use crate::values::{inputs, single};
+use crate::scope::{Scope, scope_of};
+use crate::values::{copied, inputs, single};
 use graph::Name;
-use semantics::graph::{Kind, Region, Source};
+use semantics::graph::{Kind, Source};
 use std::alloc::{AllocError, Allocator};
 use std::mem;
 
@@ -27,19 +28,6 @@ fn first(sources: &[Source]) -> Source
     }
 }
 
-/// The scope of these names alone.
-fn scope_of<'a, A: Allocator + Clone>(
-    alloc: &A,
-    names: &[Name<'a>],
-    sources: &[Source],
-) -> Result<Scope<'a, A>, AllocError>
-    ensures { IfOk result (λ s. s ≡ scoped names.now sources.now []) }
-{
-    let mut scope = Scope::new(alloc)?;
-    scope.bind_all(names, sources)?;
-    Ok(scope)
-}
-
 impl<'a, A: Allocator + Clone> Machine<'a, A> {
     /// The node of a conditional of the last value.
     fn choose(&mut self, at: usize) -> Result<Arms<'a, A>, AllocError>
@@ -48,11 +36,9 @@ impl<'a, A: Allocator + Clone> Machine<'a, A> {
     {
         let cond = self.spot.next;
         let predicate = self.last(1)?;
-        let mut gathered = Vec::new(self.alloc.clone()?);
-        gathered.extend_from_slice(&predicate)?;
+        let gathered = copied(&self.alloc, &predicate)?;
         self.put(at, Kind::Cond, gathered)?;
-        let none = Vec::new(self.alloc.clone()?);
-        let outer = mem::replace(&mut self.sources, none);
+        let outer = self.take_sources()?;
         let empty = Scope::new(&self.alloc)?;
         let scope = mem::replace(&mut self.scope, empty);
         Ok(Arms {
@@ -67,7 +53,7 @@ impl<'a, A: Allocator + Clone> Machine<'a, A> {
     fn put_enter(&mut self, at: usize, source: Source) -> Result<(), AllocError>
         ensures { OnOk result (self.new ≡ with_node self.old at node.Enter (source ∷ [])) }
     {
-        let sources = single(self.alloc.clone()?, source)?;
+        let sources = single(&self.alloc, source)?;
         self.put(at, Kind::Enter, sources)
     }
 
@@ -92,35 +78,31 @@ impl<'a, A: Allocator + Clone> Machine<'a, A> {
         ensures { IfOk result (λ v. v.items ≡ or_predicate (first_of arms.now.predicate) (map (source_in arms.now.scope) names.now)) }
     {
         if names.is_empty() {
-            return single(self.alloc.clone()?, first(&arms.predicate));
+            return single(&self.alloc, first(&arms.predicate));
         }
-        all_sources(self.alloc.clone()?, &arms.scope, names)
+        all_sources(&self.alloc, &arms.scope, names)
     }
 
     /// An `enter` of each source that an arm takes from outside, within the arm. What the arm has are their values.
     pub fn enter_all(
         &mut self,
         arms: &Arms<'a, A>,
-        side: bool,
+        side: Side,
         at: usize,
         names: &[Name<'a>],
     ) -> Result<Vec<Source, A>, AllocError>
-        ensures entered { OnOk result (self.new ≡ with_enters self.old arms.now side at names.now) }
-        ensures values { IfOk result (λ v. v.items ≡ (enters_of self.old arms.now side at names.now).sources) }
+        ensures entered { OnOk result (self.new ≡ with_enters self.old arms.now (is_first side) at names.now) }
+        ensures values { IfOk result (λ v. v.items ≡ (enters_of self.old arms.now (is_first side) at names.now).sources) }
     {
         let node = self.spot.next;
-        let region = Region::Arm {
-            cond: arms.cond,
-            side,
-        };
         self.site = Site {
             function: arms.site.function,
-            region,
+            region: side.arm(arms.cond),
             trigger: Source { node, port: 0 },
         };
         let taken = self.taken(arms, names)?;
         self.put_enters(at, &taken)?;
-        let values = inputs(self.alloc.clone()?, node, taken.len())?;
+        let values = inputs(&self.alloc, node, taken.len())?;
         Ok(values)
     }
 
@@ -128,11 +110,11 @@ impl<'a, A: Allocator + Clone> Machine<'a, A> {
     fn enter(
         &mut self,
         arms: &Arms<'a, A>,
-        side: bool,
+        side: Side,
         at: usize,
         names: &[Name<'a>],
     ) -> Result<(), AllocError>
-        ensures { OnOk result (self.new ≡ entered self.old arms.now side at names.now) }
+        ensures { OnOk result (self.new ≡ entered self.old arms.now (is_first side) at names.now) }
     {
         let enters = self.enter_all(arms, side, at, names)?;
         let scope = scope_of(&self.alloc, names, &enters)?;
@@ -148,8 +130,8 @@ impl<'a, A: Allocator + Clone> Machine<'a, A> {
     {
         if let Some(plan) = self.plans.pop_front() {
             let arms = self.choose(plan.at)?;
-            self.enter(&arms, true, plan.at, &plan.names)?;
-            self.begin(Open::FirstArm { arms })?;
+            self.enter(&arms, Side::First, plan.at, &plan.names)?;
+            self.frames.push(Open::FirstArm { arms })?;
         }
         Ok(())
     }
@@ -160,8 +142,8 @@ impl<'a, A: Allocator + Clone> Machine<'a, A> {
     {
         if let Some(plan) = self.plans.pop_front() {
             let arms = self.choose(plan.at)?;
-            self.enter(&arms, true, plan.at, &plan.names)?;
-            self.begin(Open::Looping { arms })?;
+            self.enter(&arms, Side::First, plan.at, &plan.names)?;
+            self.frames.push(Open::Looping { arms })?;
         }
         Ok(())
     }
@@ -170,17 +152,12 @@ impl<'a, A: Allocator + Clone> Machine<'a, A> {
     pub fn begin_else(&mut self) -> Result<(), AllocError>
         ensures { OnOk result (self.new ≡ second_arm self.old self.old.plans self.old.frames) }
     {
-        if let Some(
-            Frame {
-                open: Open::FirstArm { arms },
-            },
-        ) = self.frames.pop_front()
-        {
+        if let Some(arms) = self.frames.pop_first_arm() {
             if let Some(plan) = self.plans.pop_front() {
-                let none = Vec::new(self.alloc.clone()?);
-                let left = mem::replace(&mut self.sources, none);
-                self.enter(&arms, false, plan.at, &plan.names)?;
-                self.begin(Open::Right { arms, left })?;
+                let left = self.take_sources()?;
+                self.enter(&arms, Side::Second, plan.at, &plan.names)?;
+                let second = SecondArm { arms, left };
+                self.frames.push(Open::Right { second })?;
             }
         }
         Ok(())
@@ -201,27 +178,22 @@ impl<'a, A: Allocator + Clone> Machine<'a, A> {
         let node = self.spot.next;
         let count = left.len().min(right.len());
         for i in 0..count {
-            let mut sources = single(self.alloc.clone()?, left[i])?;
+            let mut sources = single(&self.alloc, left[i])?;
             sources.push(right[i])?;
             self.put(at, Kind::Merge { cond }, sources)?;
         }
-        inputs(self.alloc.clone()?, node, count)
+        inputs(&self.alloc, node, count)
     }
 
     /// A conditional ends.
     pub fn end_if(&mut self, at: usize) -> Result<(), AllocError>
         ensures { OnOk result (self.new ≡ if_ended self.old at self.old.frames) }
     {
-        if let Some(
-            Frame {
-                open: Open::Right { arms, left },
-            },
-        ) = self.frames.pop_front()
-        {
-            let none = Vec::new(self.alloc.clone()?);
-            let right = mem::replace(&mut self.sources, none);
+        if let Some(second) = self.frames.pop_second_arm() {
+            let arms = second.arms;
+            let right = self.take_sources()?;
             self.site = arms.site;
-            let values = self.merge(arms.cond, at, &left, &right)?;
+            let values = self.merge(arms.cond, at, &second.left, &right)?;
             let _inner = mem::replace(&mut self.scope, arms.scope);
             self.sources = arms.outer;
             self.give_all(values)?;

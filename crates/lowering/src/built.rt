@@ -31,13 +31,6 @@ impl<A: Allocator> Model for Places<A> {
     ghost view = { λ p. record { block = p.block; inputs = p.inputs; nodes = p.nodes.items } };
 }
 
-/// A block, and where it came from.
-#[derive(Drop)]
-struct Built<'a, A: Allocator> {
-    block: Block<'a, A>,
-    places: Places<A>,
-}
-
 /// The first block that is too big, if one is.
 pub fn sizes<'a, A: Allocator>(blocks: &[OfFunction<'a, A>]) -> Result<(), Fault>
     ensures { result ≡ lowered.sizes 0 (map (λ (b : tree.Name × lowered.MadeBlock). b.1) blocks.now) }
@@ -81,31 +74,42 @@ fn name_of_block<'a, A: Allocator>(
     }
 }
 
-/// Node lines, and their places.
-fn parted<'a, A: Allocator + Clone>(
+/// The places of node lines.
+fn places_of_lines<'a, A: Allocator + Clone>(
+    alloc: &A,
+    made: &[Made<'a, A>],
+) -> Result<Vec<usize, A>, AllocError>
+    ensures { IfOk result (λ v. v.items ≡ map (λ (m : lowered.Made). m.at) made.now) }
+{
+    let mut places = Vec::new(alloc.clone()?);
+    for line in made {
+        places.push(line.at)?;
+    }
+    Ok(places)
+}
+
+/// Node lines without their places.
+fn nodes_of_lines<'a, A: Allocator + Clone>(
     alloc: &A,
     made: Vec<Made<'a, A>, A>,
-) -> Result<(Vec<Node<'a, A>, A>, Vec<usize, A>), AllocError>
-    ensures nodes { IfOk result (λ r. r.0.items ≡ map lowered.node_of made.entry.items) }
-    ensures places { IfOk result (λ r. r.1.items ≡ map (λ (m : lowered.Made). m.at) made.entry.items) }
+) -> Result<Vec<Node<'a, A>, A>, AllocError>
+    ensures { IfOk result (λ v. v.items ≡ map lowered.node_of made.entry.items) }
 {
     let mut nodes = Vec::new(alloc.clone()?);
-    let mut places = Vec::new(alloc.clone()?);
     let mut rest = VecDeque::from_vec(made);
     while let Some(line) = rest.pop_front() {
-        places.push(line.at)?;
         nodes.push(line.node)?;
     }
-    Ok((nodes, places))
+    Ok(nodes)
 }
 
 /// A block of the graph.
-fn one_built<'a, A: Allocator + Clone>(
+fn one_block<'a, A: Allocator + Clone>(
     alloc: &A,
     name: Name<'a>,
     made: MadeBlock<'a, A>,
-) -> Result<Built<'a, A>, AllocError>
-    ensures block { IfOk result (λ r. r.block ≡ (
+) -> Result<Block<'a, A>, AllocError>
+    ensures { IfOk result (λ r. r ≡ (
       name.entry,
       record {
         inputs = made.entry.inputs;
@@ -114,44 +118,62 @@ fn one_built<'a, A: Allocator + Clone>(
         results = made.entry.results;
       },
     )) }
-    ensures places { IfOk result (λ r. r.places ≡ places_of made.entry) }
 {
     let inputs = number_of(made.inputs)?;
     let outputs = number_of(made.results.len())?;
-    let (nodes, places) = parted(alloc, made.nodes)?;
-    Ok(Built {
-        block: Block {
-            name,
-            inputs,
-            outputs,
-            nodes,
-            results: made.results,
-        },
-        places: Places {
-            block: made.at,
-            inputs,
-            nodes: places,
-        },
+    let nodes = nodes_of_lines(alloc, made.nodes)?;
+    Ok(Block {
+        name,
+        inputs,
+        outputs,
+        nodes,
+        results: made.results,
     })
 }
 
-/// The blocks of the graph, and the places from which they came.
-pub fn all_built<'a, A: Allocator + Clone>(
+/// The places from which a block came.
+fn places_of_block<'a, A: Allocator + Clone>(
+    alloc: &A,
+    made: &MadeBlock<'a, A>,
+) -> Result<Places<A>, AllocError>
+    ensures { IfOk result (λ r. r ≡ places_of made.now) }
+{
+    let inputs = number_of(made.inputs)?;
+    let nodes = places_of_lines(alloc, &made.nodes)?;
+    Ok(Places {
+        block: made.at,
+        inputs,
+        nodes,
+    })
+}
+
+/// The blocks of the graph.
+pub fn all_blocks<'a, A: Allocator + Clone>(
     alloc: &A,
     mut loops: VecDeque<LoopName<'a>, A>,
     made: Vec<OfFunction<'a, A>, A>,
-) -> Result<(Vec<Block<'a, A>, A>, Vec<Places<A>, A>), AllocError>
-    ensures blocks { IfOk result (λ r. r.0.items ≡ map (λ (b : tree.Name × lowered.MadeBlock). lowered.graph_block b.0 b.1) made.entry.items) }
-    ensures places { IfOk result (λ r. r.1.items ≡ map (λ (b : tree.Name × lowered.MadeBlock). places_of b.1) made.entry.items) }
+) -> Result<Vec<Block<'a, A>, A>, AllocError>
+    ensures { IfOk result (λ v. v.items ≡ map (λ (b : tree.Name × lowered.MadeBlock). lowered.graph_block b.0 b.1) made.entry.items) }
 {
     let mut blocks = Vec::new(alloc.clone()?);
-    let mut places = Vec::new(alloc.clone()?);
     let mut rest = VecDeque::from_vec(made);
     while let Some(of_function) = rest.pop_front() {
         let name = name_of_block(&mut loops, of_function.function, of_function.block.number)?;
-        let done = one_built(alloc, name, of_function.block)?;
-        blocks.push(done.block)?;
-        places.push(done.places)?;
+        blocks.push(one_block(alloc, name, of_function.block)?)?;
     }
-    Ok((blocks, places))
+    Ok(blocks)
+}
+
+/// The places from which the blocks came.
+pub fn all_places<'a, A: Allocator + Clone>(
+    alloc: &A,
+    made: &[OfFunction<'a, A>],
+) -> Result<Vec<Places<A>, A>, AllocError>
+    ensures { IfOk result (λ v. v.items ≡ map (λ (b : tree.Name × lowered.MadeBlock). places_of b.1) made.now) }
+{
+    let mut places = Vec::new(alloc.clone()?);
+    for of_function in made {
+        places.push(places_of_block(alloc, &of_function.block)?)?;
+    }
+    Ok(places)
 }

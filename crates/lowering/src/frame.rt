@@ -1,5 +1,9 @@
 //! What is open while words are gone over.
 
+ghost use Rattle.std.specs.Prelude.{◌≡◌};
+ghost use Rattle.semantics.specs.declared.graph.Region.TheVariants.{Arm};
+ghost use Rattle.lowering.specs.Opened.{is_first};
+
 use crate::made::{Made, MadeBlock};
 use crate::names::{NameAt, Target};
 use crate::scope::Scope;
@@ -21,6 +25,25 @@ pub struct Site<'a> {
 pub struct Spot {
     pub next: u32,
     pub loops: usize,
+}
+
+/// The two arms of a conditional.
+#[derive(Clone, Copy)]
+pub enum Side {
+    First,
+    Second,
+}
+
+impl Side {
+    /// The region of this arm of the conditional at a node.
+    pub fn arm(self, cond: u32) -> Region
+        ensures { result ≡ Arm cond (is_first self) }
+    {
+        match self {
+            Side::First => Region::Arm { cond, side: true },
+            Side::Second => Region::Arm { cond, side: false },
+        }
+    }
 }
 
 /// An open conditional: where it is, the sources before its predicate, the predicate's, and its node.
@@ -102,47 +125,67 @@ impl<'a, A: Allocator> Model for Turning<'a, A> {
     ghost invariant = { λ t. t.block ≡ loop_name t.site.function.now (t.spot.loops + 1) };
 }
 
+/// A function that is open: its name, and its parameters so far.
+#[derive(Drop)]
+pub struct Header<'a, A: Allocator> {
+    pub function: NameAt<'a>,
+    pub params: Vec<NameAt<'a>, A>,
+}
+
+impl<'a, A: Allocator> Model for Header<'a, A> {
+    ghost use Rattle.std.specs.Prelude.{List};
+    ghost use Rattle.source.specs.Tree.{NameAt};
+
+    ghost Value = { NameAt × List NameAt };
+
+    ghost view = { λ h. (h.function, h.params.items) };
+}
+
+/// A conditional whose second arm is open, with the values of the first.
+#[derive(Drop)]
+pub struct SecondArm<'a, A: Allocator> {
+    pub arms: Arms<'a, A>,
+    pub left: Vec<Source, A>,
+}
+
+impl<'a, A: Allocator> Model for SecondArm<'a, A> {
+    ghost use Rattle.std.specs.Prelude.{List};
+    ghost use Rattle.semantics.specs.declared.graph.Source.{Source};
+    ghost use Rattle.lowering.specs.State.{Arms};
+
+    ghost Value = { Arms × List Source };
+
+    ghost view = { λ s. (s.arms, s.left.items) };
+}
+
+/// What ends with a loop: the arm after its test, or its test after a body with these values.
+#[derive(Drop)]
+pub enum LoopEnd<'a, A: Allocator> {
+    Arm { arms: Arms<'a, A> },
+    Test { values: Vec<Source, A> },
+}
+
 /// What is open.
 #[derive(Drop)]
 pub enum Open<'a, A: Allocator> {
-    /// A function: its name, and its parameters so far.
-    Header {
-        function: NameAt<'a>,
-        params: Vec<NameAt<'a>, A>,
-    },
+    /// A function.
+    Header { header: Header<'a, A> },
     /// A list: the sources before it.
-    InList {
-        outer: Vec<Source, A>,
-    },
+    InList { outer: Vec<Source, A> },
     /// A `let`: its targets so far.
-    Targets {
-        targets: Vec<Target<'a>, A>,
-    },
+    Targets { targets: Vec<Target<'a>, A> },
     /// The first arm of a conditional.
-    FirstArm {
-        arms: Arms<'a, A>,
-    },
-    /// The second arm, with the values of the first.
-    Right {
-        arms: Arms<'a, A>,
-        left: Vec<Source, A>,
-    },
+    FirstArm { arms: Arms<'a, A> },
+    /// The second arm.
+    Right { second: SecondArm<'a, A> },
     /// The first values of a loop.
-    Firsts {
-        begun: Begun<'a, A>,
-    },
+    Firsts { begun: Begun<'a, A> },
     /// The turn of a loop.
-    Turned {
-        turn: Turning<'a, A>,
-    },
+    Turned { turn: Turning<'a, A> },
     /// Within a turn: the arm after a test.
-    Looping {
-        arms: Arms<'a, A>,
-    },
+    Looping { arms: Arms<'a, A> },
     /// Within a turn: the test after a body, with the body's values.
-    Ending {
-        values: Vec<Source, A>,
-    },
+    Ending { values: Vec<Source, A> },
 }
 
 /// A part that is open.

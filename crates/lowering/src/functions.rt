@@ -3,14 +3,15 @@
 ghost use Rattle.std.specs.Prelude.{◌≡◌, ◌+◌, ◌∷◌, ◌++◌, [], OnOk, IfOk, length};
 ghost use Rattle.source.specs.Lowered.{scoped, inputs_from};
 ghost use Rattle.source.specs.Outside.{bare};
-ghost use Rattle.lowering.specs.State.{Header};
+ghost use Rattle.lowering.specs.State as state;
 ghost use Rattle.lowering.specs.Functions.{between, with_parameter, body_begun, function_ended, of_function};
 
-use crate::frame::{Frame, Open, Site, Spot};
+use crate::frame::{Header, Open, Site, Spot};
+use crate::frames::Frames;
 use crate::machine::Machine;
 use crate::made::{MadeBlock, OfFunction};
 use crate::names::{NameAt, nameless};
-use crate::scope::Scope;
+use crate::scope::{Scope, scope_of};
 use crate::turns::{bare_names, number_of};
 use crate::values::inputs;
 use semantics::graph::{Region, Source};
@@ -20,42 +21,33 @@ use std::mem;
 
 /// What names stand for when a function begins: its parameters, inputs of its block.
 fn function_scope<'a, A: Allocator + Clone>(
-    alloc: A,
+    alloc: &A,
     params: &[NameAt<'a>],
 ) -> Result<Scope<'a, A>, AllocError>
     ensures { IfOk result (λ s. s ≡ scoped (bare params.now) (inputs_from 0 (length params.now)) []) }
 {
-    let names = bare_names(alloc.clone()?, params)?;
-    let values = inputs(alloc.clone()?, 0, params.len())?;
-    let mut scope = Scope::new(&alloc)?;
-    scope.bind_all(&names, &values)?;
-    Ok(scope)
+    let names = bare_names(alloc, params)?;
+    let values = inputs(alloc, 0, params.len())?;
+    scope_of(alloc, &names, &values)
 }
 
 impl<'a, A: Allocator + Clone> Machine<'a, A> {
     /// A function begins.
     pub fn begin_function(&mut self, function: NameAt<'a>) -> Result<(), AllocError>
-        ensures { OnOk result (self.new ≡ record self.old { frames = Header function.entry [] ∷ self.old.frames }) }
+        ensures { OnOk result (self.new ≡ record self.old { frames = state.Header function.entry [] ∷ self.old.frames }) }
     {
         let params = Vec::new(self.alloc.clone()?);
-        self.begin(Open::Header { function, params })
+        let header = Header { function, params };
+        self.frames.push(Open::Header { header })
     }
 
     /// A parameter of it.
     pub fn add_parameter(&mut self, x: NameAt<'a>) -> Result<(), AllocError>
         ensures { OnOk result (self.new ≡ with_parameter self.old x.entry self.old.frames) }
     {
-        if let Some(
-            Frame {
-                open: Open::Header {
-                    function,
-                    mut params,
-                },
-            },
-        ) = self.frames.pop_front()
-        {
-            params.push(x)?;
-            self.begin(Open::Header { function, params })?;
+        if let Some(mut header) = self.frames.pop_header() {
+            header.params.push(x)?;
+            self.frames.push(Open::Header { header })?;
         }
         Ok(())
     }
@@ -64,28 +56,23 @@ impl<'a, A: Allocator + Clone> Machine<'a, A> {
     pub fn begin_body(&mut self) -> Result<(), AllocError>
         ensures { OnOk result (self.new ≡ body_begun self.old self.old.frames) }
     {
-        if let Some(
-            Frame {
-                open: Open::Header { function, params },
-            },
-        ) = self.frames.pop_front()
-        {
-            let next = number_of(params.len())?;
-            let scope = function_scope(self.alloc.clone()?, &params)?;
+        if let Some(header) = self.frames.pop_header() {
+            let next = number_of(header.params.len())?;
+            let scope = function_scope(&self.alloc, &header.params)?;
             let _before = mem::replace(&mut self.scope, scope);
             self.site = Site {
-                function: function.name,
+                function: header.function.name,
                 region: Region::Root,
                 trigger: Source { node: 0, port: 0 },
             };
             self.spot = Spot { next, loops: 0 };
-            self.begin(Open::Header { function, params })?;
+            self.frames.push(Open::Header { header })?;
         }
         Ok(())
     }
 
     /// Takes the blocks of a function out of the machine, its own first.
-    fn take_blocks(
+    fn take_function(
         &mut self,
         at: usize,
         inputs: usize,
@@ -94,20 +81,18 @@ impl<'a, A: Allocator + Clone> Machine<'a, A> {
         ensures blocks { IfOk result (λ v. v.items
             ≡ record { at = at; loop = 0; inputs = inputs; nodes = self.old.nodes; results = self.old.sources } ∷ self.old.blocks) }
     {
-        let no_nodes = Vec::new(self.alloc.clone()?);
-        let no_sources = Vec::new(self.alloc.clone()?);
-        let no_blocks = Vec::new(self.alloc.clone()?);
-        let mut all = Vec::new(self.alloc.clone()?);
-        all.push(MadeBlock {
+        let nodes = self.take_nodes()?;
+        let results = self.take_sources()?;
+        let mut blocks = self.take_blocks()?;
+        let block = MadeBlock {
             at,
             number: 0,
             inputs,
-            nodes: mem::replace(&mut self.nodes, no_nodes),
-            results: mem::replace(&mut self.sources, no_sources),
-        })?;
-        let mut inner = mem::replace(&mut self.blocks, no_blocks);
-        all.append(&mut inner)?;
-        Ok(all)
+            nodes,
+            results,
+        };
+        blocks.insert(0, block)?;
+        Ok(blocks)
     }
 
     /// Nothing is open.
@@ -120,7 +105,8 @@ impl<'a, A: Allocator + Clone> Machine<'a, A> {
     {
         let empty = Scope::new(&self.alloc)?;
         let _inner = mem::replace(&mut self.scope, empty);
-        self.frames = VecDeque::new(self.alloc.clone()?);
+        let none = Frames::new(self.alloc.clone()?);
+        let _open = mem::replace(&mut self.frames, none);
         self.site = Site {
             function: nameless(),
             region: Region::Root,
@@ -135,14 +121,9 @@ impl<'a, A: Allocator + Clone> Machine<'a, A> {
     pub fn end_function(&mut self) -> Result<(), AllocError>
         ensures { OnOk result (self.new ≡ function_ended self.old self.old.frames) }
     {
-        if let Some(
-            Frame {
-                open: Open::Header { function, params },
-            },
-        ) = self.frames.pop_front()
-        {
-            let blocks = self.take_blocks(function.at, params.len())?;
-            add_blocks(&mut self.done, function.name, blocks)?;
+        if let Some(header) = self.frames.pop_header() {
+            let blocks = self.take_function(header.function.at, header.params.len())?;
+            add_blocks(&mut self.done, header.function.name, blocks)?;
             self.close()?;
         }
         Ok(())

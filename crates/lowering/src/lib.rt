@@ -14,6 +14,7 @@ ghost use Rattle.lowering.specs.Lowers.{MachineLowers, BlocksAreMade, BlocksOfGr
 mod arms;
 mod built;
 mod frame;
+mod frames;
 mod functions;
 mod items;
 mod lists;
@@ -31,7 +32,7 @@ mod turns;
 mod values;
 
 pub use built::Places;
-use built::{all_built, sizes};
+use built::{all_blocks, all_places, sizes};
 use graph::{Array, Block};
 use items::gather;
 use loop_names::OUT_OF_MEMORY;
@@ -77,7 +78,7 @@ fn go_over<'a, A: Allocator + Clone>(
     let names = &named.checked.program.names;
     let words = &named.checked.program.words;
     let gathered = gather(alloc, names, words)?;
-    let loops = named.loop_names(alloc.clone()?)?;
+    let loops = named.loop_names(alloc)?;
     let mut machine = Machine::new(alloc, gathered.plans, loops)?;
     let names = Names {
         names,
@@ -101,8 +102,9 @@ fn build<'a, A: Allocator + Clone>(
         ≡ map (λ (b : tree.Name × definition.MadeBlock). definition.graph_block b.0 b.1) parts.entry.blocks.items) }
     ensures places { IfOk result (λ l. l.places.items ≡ map (λ (b : tree.Name × definition.MadeBlock). places_of b.1) parts.entry.blocks.items) }
 {
-    let loops = named.loop_names(alloc.clone()?)?;
-    let (blocks, places) = all_built(alloc, loops, parts.blocks)?;
+    let places = all_places(alloc, &parts.blocks)?;
+    let loops = named.loop_names(alloc)?;
+    let blocks = all_blocks(alloc, loops, parts.blocks)?;
     Ok(Lowered {
         arrays: parts.arrays,
         blocks,

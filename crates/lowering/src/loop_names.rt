@@ -46,15 +46,15 @@ pub struct Named<'a, A: Allocator> {
 }
 
 /// The bytes of a loop's name.
-fn spelling<A: Allocator>(
-    alloc: A,
+fn spelling<A: Allocator + Clone>(
+    alloc: &A,
     function: &[u8],
     number: usize,
 ) -> Result<Vec<u8, A>, AllocError>
     ensures { IfOk result (λ v. v.items ≡ loop_name function.now number) }
 {
     let mut buffer = Buffer::new();
-    let mut bytes = Vec::new(alloc);
+    let mut bytes = Vec::new(alloc.clone()?);
     bytes.extend_from_slice(function)?;
     bytes.extend_from_slice(b"__")?;
     bytes.extend_from_slice(buffer.format(number).as_bytes())?;
@@ -78,7 +78,7 @@ fn all_loops<'a, A: Allocator + Clone>(
             }
             Word::TestFirst | Word::BodyFirst => {
                 number = number.wrapping_add(1);
-                let bytes = spelling(alloc.clone()?, function, number)?;
+                let bytes = spelling(alloc, function, number)?;
                 loops.push(Owned {
                     function,
                     number,
@@ -109,9 +109,9 @@ impl<'t, A: Allocator + Clone> Named<'t, A> {
     /// All names of loops, in order.
     pub(crate) fn loop_names<'a>(
         &'a self,
-        alloc: A,
+        alloc: &A,
     ) -> Result<VecDeque<LoopName<'a>, A>, AllocError> {
-        let mut names = VecDeque::new(alloc);
+        let mut names = VecDeque::new(alloc.clone()?);
         for owned in &self.loops {
             names.push_back(LoopName {
                 function: owned.function,

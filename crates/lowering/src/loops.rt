@@ -3,9 +3,9 @@
 ghost use Rattle.std.specs.Prelude.{◌≡◌, ◌+◌, ◌∷◌, ◌++◌, [], OnOk, IfOk, length, map};
 ghost use Rattle.source.specs.Lowered.{source_in, turn_block};
 ghost use Rattle.source.specs.Outside.{bare};
-ghost use Rattle.lowering.specs.Loops.{turn_ended, arm_closed, turn_closed, loop_ended};
+ghost use Rattle.lowering.specs.Loops.{resumed, turn_ended, arm_closed, turn_closed, loop_ended};
 
-use crate::frame::{Arms, Begun, Frame, Open, Turning};
+use crate::frame::{Arms, Begun, LoopEnd, Turning};
 use crate::machine::Machine;
 use crate::made::MadeBlock;
 use crate::scope::Scope;
@@ -32,13 +32,13 @@ fn add_sources<'a, A: Allocator + Clone>(
 
 /// What names stand for.
 pub fn all_sources<'a, A: Allocator + Clone>(
-    alloc: A,
+    alloc: &A,
     scope: &Scope<'a, A>,
     names: &[Name<'a>],
 ) -> Result<Vec<Source, A>, AllocError>
     ensures { IfOk result (λ v. v.items ≡ map (source_in scope.now) names.now) }
 {
-    let mut sources = Vec::new(alloc);
+    let mut sources = Vec::new(alloc.clone()?);
     add_sources(scope, names, &mut sources)?;
     Ok(sources)
 }
@@ -77,16 +77,15 @@ impl<'a, A: Allocator + Clone> Machine<'a, A> {
     {
         let first = own(begun)?;
         let inputs_of_block = width(begun)?;
-        let mut through = inputs(self.alloc.clone()?, first, begun.outs.len())?;
-        let no_nodes = Vec::new(self.alloc.clone()?);
-        let no_sources = Vec::new(self.alloc.clone()?);
-        let mut results = mem::replace(&mut self.sources, no_sources);
+        let mut through = inputs(&self.alloc, first, begun.outs.len())?;
+        let mut results = self.take_sources()?;
         results.append(&mut through)?;
+        let nodes = self.take_nodes()?;
         Ok(MadeBlock {
             at: begun.at,
             number,
             inputs: inputs_of_block as usize,
-            nodes: mem::replace(&mut self.nodes, no_nodes),
+            nodes,
             results,
         })
     }
@@ -105,6 +104,27 @@ impl<'a, A: Allocator + Clone> Machine<'a, A> {
         Ok(())
     }
 
+    /// The machine is at a loop again, whose turn became this block. Returns what the loop's node takes.
+    fn resume(
+        &mut self,
+        turn: Turning<'a, A>,
+        block: MadeBlock<'a, A>,
+    ) -> Result<Vec<Source, A>, AllocError>
+        ensures resumed { OnOk result (self.new ≡ resumed self.old turn.entry block.entry) }
+        ensures sources { IfOk result (λ v. v.items ≡ turn.entry.firsts ++ map (source_in turn.entry.scope) turn.entry.outs) }
+    {
+        self.add_block(turn.blocks, block)?;
+        let begun = turn.begun;
+        let mut sources = turn.firsts;
+        add_sources(&turn.scope, &begun.outs, &mut sources)?;
+        let _inner = mem::replace(&mut self.scope, turn.scope);
+        self.site = turn.site;
+        self.spot.next = turn.spot.next;
+        self.nodes = turn.nodes;
+        self.sources = begun.outer;
+        Ok(sources)
+    }
+
     /// A turn ends: its block, and the node of the loop.
     pub fn end_turn(
         &mut self,
@@ -114,20 +134,14 @@ impl<'a, A: Allocator + Clone> Machine<'a, A> {
     ) -> Result<(), AllocError>
         ensures { OnOk result (self.new ≡ turn_ended self.old at bound turn.entry self.old.frames) }
     {
-        let block = turn.block;
-        let begun = turn.begun;
-        let names = own(&begun)?;
+        let names = own(&turn.begun)?;
         let number = next_loop(turn.spot.loops)?;
-        let made = self.take_block(&begun, number)?;
-        self.add_block(turn.blocks, made)?;
-        let mut sources = turn.firsts;
-        add_sources(&turn.scope, &begun.outs, &mut sources)?;
-        let values = ports(self.alloc.clone()?, turn.spot.next, u64::from(names))?;
-        let _inner = mem::replace(&mut self.scope, turn.scope);
-        self.site = turn.site;
-        self.spot.next = turn.spot.next;
-        self.nodes = turn.nodes;
-        self.sources = begun.outer;
+        let made = self.take_block(&turn.begun, number)?;
+        let values = ports(&self.alloc, turn.spot.next, u64::from(names))?;
+        let block = Name {
+            bytes: turn.block.bytes,
+        };
+        let sources = self.resume(turn, made)?;
         self.put(at, Kind::Loop { block, bound }, sources)?;
         self.give_all(values)
     }
@@ -136,12 +150,7 @@ impl<'a, A: Allocator + Clone> Machine<'a, A> {
     fn close_arm(&mut self, at: usize, bound: u32, arms: Arms<'a, A>) -> Result<(), AllocError>
         ensures { OnOk result (self.new ≡ arm_closed self.old at bound arms.entry self.old.frames) }
     {
-        if let Some(
-            Frame {
-                open: Open::Turned { turn },
-            },
-        ) = self.frames.pop_front()
-        {
+        if let Some(turn) = self.frames.pop_turn() {
             self.come_back(arms, turn.begun.at, &turn.begun.names)?;
             self.end_turn(at, bound, turn)?;
         }
@@ -158,12 +167,7 @@ impl<'a, A: Allocator + Clone> Machine<'a, A> {
         ensures { OnOk result (self.new ≡ turn_closed (record self.old { sources = self.old.sources ++ values.items }) at bound self.old.frames) }
     {
         self.sources.append(&mut values)?;
-        if let Some(
-            Frame {
-                open: Open::Turned { turn },
-            },
-        ) = self.frames.pop_front()
-        {
+        if let Some(turn) = self.frames.pop_turn() {
             self.end_turn(at, bound, turn)?;
         }
         Ok(())
@@ -174,18 +178,10 @@ impl<'a, A: Allocator + Clone> Machine<'a, A> {
         ensures { OnOk result (self.new ≡ loop_ended self.old at bound self.old.frames) }
     {
         let bound = bound_of(bound)?;
-        match self.frames.pop_front() {
-            Some(
-                Frame {
-                    open: Open::Looping { arms },
-                },
-            ) => self.close_arm(at, bound, arms),
-            Some(
-                Frame {
-                    open: Open::Ending { values },
-                },
-            ) => self.close_test(at, bound, values),
-            _ => Ok(()),
+        match self.frames.pop_loop_end() {
+            Some(LoopEnd::Arm { arms }) => self.close_arm(at, bound, arms),
+            Some(LoopEnd::Test { values }) => self.close_test(at, bound, values),
+            None => Ok(()),
         }
     }
 }

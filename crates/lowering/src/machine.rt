@@ -4,7 +4,8 @@ ghost use Rattle.std.specs.Prelude.{◌≡◌, ◌+◌, ◌-◌, ◌∷◌, ◌+
 ghost use Rattle.lowering.specs.State.{after};
 ghost use Rattle.lowering.specs.Operators.{one_node, before_last, last_of, with_node, with_sources};
 
-use crate::frame::{Frame, Site, Spot};
+use crate::frame::{Site, Spot};
+use crate::frames::Frames;
 use crate::loop_names::LoopName;
 use crate::made::{Made, MadeBlock, OfFunction};
 use crate::plan::Plan;
@@ -14,6 +15,7 @@ use semantics::graph::{Kind, Source};
 use std::alloc::{AllocError, Allocator};
 use std::collections::VecDeque;
 use std::marker::Model;
+use std::mem;
 
 /// Where the machine is, what is open, and what is made.
 #[derive(Drop)]
@@ -26,7 +28,7 @@ pub struct Machine<'a, A: Allocator> {
     pub nodes: Vec<Made<'a, A>, A>,
     pub blocks: Vec<MadeBlock<'a, A>, A>,
     pub plans: VecDeque<Plan<'a, A>, A>,
-    pub frames: VecDeque<Frame<'a, A>, A>,
+    pub frames: Frames<'a, A>,
     pub done: Vec<OfFunction<'a, A>, A>,
     /// The names of the loops whose turns did not begin yet.
     pub loops: VecDeque<LoopName<'a>, A>,
@@ -47,7 +49,7 @@ impl<'a, A: Allocator> Model for Machine<'a, A> {
       nodes = m.nodes.items;
       blocks = m.blocks.items;
       plans = m.plans.items;
-      frames = m.frames.items;
+      frames = m.frames;
       done = m.done.items;
     } };
 }
@@ -68,6 +70,33 @@ impl<'a, A: Allocator + Clone> Machine<'a, A> {
         ensures { result.items ≡ self.entry.done }
     {
         self.done
+    }
+
+    /// Takes all values.
+    pub fn take_sources(&mut self) -> Result<Vec<Source, A>, AllocError>
+        ensures taken { OnOk result (self.new ≡ record self.old { sources = [] }) }
+        ensures sources { IfOk result (λ v. v.items ≡ self.old.sources) }
+    {
+        let none = Vec::new(self.alloc.clone()?);
+        Ok(mem::replace(&mut self.sources, none))
+    }
+
+    /// Takes all nodes.
+    pub fn take_nodes(&mut self) -> Result<Vec<Made<'a, A>, A>, AllocError>
+        ensures taken { OnOk result (self.new ≡ record self.old { nodes = [] }) }
+        ensures nodes { IfOk result (λ v. v.items ≡ self.old.nodes) }
+    {
+        let none = Vec::new(self.alloc.clone()?);
+        Ok(mem::replace(&mut self.nodes, none))
+    }
+
+    /// Takes the blocks of all loops.
+    pub fn take_blocks(&mut self) -> Result<Vec<MadeBlock<'a, A>, A>, AllocError>
+        ensures taken { OnOk result (self.new ≡ record self.old { blocks = [] }) }
+        ensures blocks { IfOk result (λ v. v.items ≡ self.old.blocks) }
+    {
+        let none = Vec::new(self.alloc.clone()?);
+        Ok(mem::replace(&mut self.blocks, none))
     }
 
     /// One node more, without its values.

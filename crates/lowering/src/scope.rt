@@ -120,3 +120,16 @@ impl<'a, A: Allocator + Clone> Scope<'a, A> {
         Ok(())
     }
 }
+
+/// The scope of these names alone.
+pub fn scope_of<'a, A: Allocator + Clone>(
+    alloc: &A,
+    names: &[Name<'a>],
+    sources: &[Source],
+) -> Result<Scope<'a, A>, AllocError>
+    ensures { IfOk result (λ s. s ≡ scoped names.now sources.now []) }
+{
+    let mut scope = Scope::new(alloc)?;
+    scope.bind_all(names, sources)?;
+    Ok(scope)
+}

@@ -10,6 +10,7 @@ ghost use Rattle.lowering.specs.Machine as state;
 ghost use Rattle.lowering.specs.Numbered.{act_numbered, run_numbered};
 
 use crate::frame::{Site, Spot};
+use crate::frames::Frames;
 use crate::loop_names::LoopName;
 use crate::machine::Machine;
 use crate::names::{NameAt, Target, name_of, nameless};
@@ -79,7 +80,7 @@ impl<'a, A: Allocator + Clone> Machine<'a, A> {
             nodes: Vec::new(alloc.clone()?),
             blocks: Vec::new(alloc.clone()?),
             plans,
-            frames: VecDeque::new(alloc.clone()?),
+            frames: Frames::new(alloc.clone()?),
             done: Vec::new(alloc.clone()?),
             loops,
             alloc: alloc.clone()?,
@@ -118,9 +119,20 @@ impl<'a, A: Allocator + Clone> Machine<'a, A> {
             }
             Word::Call {
                 at,
-                strict,
+                strict: false,
                 function,
-            } => self.call(at, strict, names.name(function), names.results(function)),
+            } => {
+                let block = names.name(function);
+                self.call(at, Kind::Call { block }, names.results(function))
+            }
+            Word::Call {
+                at,
+                strict: true,
+                function,
+            } => {
+                let block = names.name(function);
+                self.call(at, Kind::StrictCall { block }, names.results(function))
+            }
             Word::Then => self.begin_if(),
             Word::Else => self.begin_else(),
             Word::EndIf { at } => self.end_if(at),

@@ -6,11 +6,11 @@ ghost use Rattle.source.specs.Outside.{bare};
 ghost use Rattle.lowering.specs.Conditionals.{with_all};
 ghost use Rattle.lowering.specs.Loops.{loop_begun, named_first, turning, turn_begun, tested, came_back, passing, passed};
 
-use crate::frame::{Arms, Begun, Frame, Open, Site, Spot, Turning};
+use crate::frame::{Arms, Begun, Open, Side, Site, Spot, Turning};
 use crate::loop_names::next_loop_name;
 use crate::machine::Machine;
 use crate::names::NameAt;
-use crate::scope::Scope;
+use crate::scope::{Scope, scope_of};
 use crate::values::inputs;
 use graph::Name;
 use semantics::graph::{Region, Source};
@@ -18,13 +18,13 @@ use std::alloc::{AllocError, Allocator};
 use std::mem;
 
 /// Names without their places.
-pub fn bare_names<'a, A: Allocator>(
-    alloc: A,
+pub fn bare_names<'a, A: Allocator + Clone>(
+    alloc: &A,
     names: &[NameAt<'a>],
 ) -> Result<Vec<Name<'a>, A>, AllocError>
     ensures { IfOk result (λ v. v.items ≡ bare names.now) }
 {
-    let mut all = Vec::new(alloc);
+    let mut all = Vec::new(alloc.clone()?);
     for x in names {
         all.push(Name { bytes: x.name })?;
     }
@@ -32,8 +32,8 @@ pub fn bare_names<'a, A: Allocator>(
 }
 
 /// The names that a loop carries: its own, and then the outside names of its turn.
-fn carried<'a, A: Allocator>(
-    alloc: A,
+fn carried<'a, A: Allocator + Clone>(
+    alloc: &A,
     names: &[NameAt<'a>],
     outs: &[Name<'a>],
 ) -> Result<Vec<Name<'a>, A>, AllocError>
@@ -80,27 +80,25 @@ pub fn width<'a, A: Allocator>(begun: &Begun<'a, A>) -> Result<u32, AllocError>
 /// What names stand for when a turn begins: inputs of its block.
 #[tactic(auto, using(crate::proofs::Nodes::turn_inputs))]
 fn first_scope<'a, A: Allocator + Clone>(
-    alloc: A,
+    alloc: &A,
     begun: &Begun<'a, A>,
 ) -> Result<Scope<'a, A>, AllocError>
     ensures { IfOk result (λ s. s ≡ turn_scope (bare begun.now.names) begun.now.outs) }
 {
-    let names = carried(alloc.clone()?, &begun.names, &begun.outs)?;
-    let values = inputs(alloc.clone()?, 0, names.len())?;
-    let mut scope = Scope::new(&alloc)?;
-    scope.bind_all(&names, &values)?;
-    Ok(scope)
+    let names = carried(alloc, &begun.names, &begun.outs)?;
+    let values = inputs(alloc, 0, names.len())?;
+    scope_of(alloc, &names, &values)
 }
 
 /// What names stand for in a test after a body with these values.
 fn test_scope<'a, A: Allocator + Clone>(
-    alloc: A,
+    alloc: &A,
     begun: &Begun<'a, A>,
     values: &[Source],
 ) -> Result<Scope<'a, A>, AllocError>
     ensures { IfOk result (λ s. s ≡ scoped (bare begun.now.names) values.now (turn_scope (bare begun.now.names) begun.now.outs)) }
 {
-    let names = bare_names(alloc.clone()?, &begun.names)?;
+    let names = bare_names(alloc, &begun.names)?;
     let mut scope = first_scope(alloc, begun)?;
     scope.bind_all(&names, values)?;
     Ok(scope)
@@ -112,8 +110,7 @@ impl<'a, A: Allocator + Clone> Machine<'a, A> {
         ensures { OnOk result (self.new ≡ loop_begun self.old at self.old.plans) }
     {
         if let Some(plan) = self.plans.pop_front() {
-            let none = Vec::new(self.alloc.clone()?);
-            let outer = mem::replace(&mut self.sources, none);
+            let outer = self.take_sources()?;
             let names = Vec::new(self.alloc.clone()?);
             let begun = Begun {
                 at,
@@ -121,7 +118,7 @@ impl<'a, A: Allocator + Clone> Machine<'a, A> {
                 names,
                 outs: plan.names,
             };
-            self.begin(Open::Firsts { begun })?;
+            self.frames.push(Open::Firsts { begun })?;
         }
         Ok(())
     }
@@ -130,21 +127,9 @@ impl<'a, A: Allocator + Clone> Machine<'a, A> {
     pub fn add_name(&mut self, x: NameAt<'a>) -> Result<(), AllocError>
         ensures { OnOk result (self.new ≡ named_first self.old x.entry self.old.frames) }
     {
-        if let Some(
-            Frame {
-                open: Open::Firsts { begun },
-            },
-        ) = self.frames.pop_front()
-        {
-            let mut names = begun.names;
-            names.push(x)?;
-            let begun = Begun {
-                at: begun.at,
-                outer: begun.outer,
-                names,
-                outs: begun.outs,
-            };
-            self.begin(Open::Firsts { begun })?;
+        if let Some(mut begun) = self.frames.pop_firsts() {
+            begun.names.push(x)?;
+            self.frames.push(Open::Firsts { begun })?;
         }
         Ok(())
     }
@@ -160,17 +145,17 @@ impl<'a, A: Allocator + Clone> Machine<'a, A> {
         ensures parked { OnOk result (self.new ≡ record self.old { scope = scope.entry; sources = []; nodes = []; blocks = [] }) }
         ensures kept { IfOk result (λ t. t ≡ turning self.old begun.entry) }
     {
-        let no_sources = Vec::new(self.alloc.clone()?);
-        let no_nodes = Vec::new(self.alloc.clone()?);
-        let no_blocks = Vec::new(self.alloc.clone()?);
+        let firsts = self.take_sources()?;
+        let nodes = self.take_nodes()?;
+        let blocks = self.take_blocks()?;
         Ok(Turning {
             begun,
-            firsts: mem::replace(&mut self.sources, no_sources),
+            firsts,
             site: self.site,
             spot: self.spot,
             scope: mem::replace(&mut self.scope, scope),
-            nodes: mem::replace(&mut self.nodes, no_nodes),
-            blocks: mem::replace(&mut self.blocks, no_blocks),
+            nodes,
+            blocks,
             block,
         })
     }
@@ -179,15 +164,10 @@ impl<'a, A: Allocator + Clone> Machine<'a, A> {
     pub fn begin_turn(&mut self) -> Result<(), AllocError>
         ensures { OnOk result (self.new ≡ turn_begun self.old self.old.frames) }
     {
-        if let Some(
-            Frame {
-                open: Open::Firsts { begun },
-            },
-        ) = self.frames.pop_front()
-        {
+        if let Some(begun) = self.frames.pop_firsts() {
             let next = width(&begun)?;
             let loops = next_loop(self.spot.loops)?;
-            let scope = first_scope(self.alloc.clone()?, &begun)?;
+            let scope = first_scope(&self.alloc, &begun)?;
             let block = next_loop_name(&mut self.loops, self.site.function, loops)?;
             let turn = self.park(begun, scope, block)?;
             self.site = Site {
@@ -196,7 +176,7 @@ impl<'a, A: Allocator + Clone> Machine<'a, A> {
                 trigger: Source { node: 0, port: 0 },
             };
             self.spot = Spot { next, loops };
-            self.begin(Open::Turned { turn })?;
+            self.frames.push(Open::Turned { turn })?;
         }
         Ok(())
     }
@@ -205,18 +185,12 @@ impl<'a, A: Allocator + Clone> Machine<'a, A> {
     pub fn begin_test(&mut self) -> Result<(), AllocError>
         ensures { OnOk result (self.new ≡ tested self.old self.old.frames) }
     {
-        if let Some(
-            Frame {
-                open: Open::Turned { turn },
-            },
-        ) = self.frames.pop_front()
-        {
-            let none = Vec::new(self.alloc.clone()?);
-            let values = mem::replace(&mut self.sources, none);
-            let scope = test_scope(self.alloc.clone()?, &turn.begun, &values)?;
+        if let Some(turn) = self.frames.pop_turn() {
+            let values = self.take_sources()?;
+            let scope = test_scope(&self.alloc, &turn.begun, &values)?;
             let _body = mem::replace(&mut self.scope, scope);
-            self.begin(Open::Turned { turn })?;
-            self.begin(Open::Ending { values })?;
+            self.frames.push(Open::Turned { turn })?;
+            self.frames.push(Open::Ending { values })?;
         }
         Ok(())
     }
@@ -231,8 +205,8 @@ impl<'a, A: Allocator + Clone> Machine<'a, A> {
         ensures entered { OnOk result (self.new ≡ with_all (record self.old { site = passing self.old arms.now }) (passed self.old arms.now at names.now)) }
         ensures values { IfOk result (λ v. v.items ≡ (passed self.old arms.now at names.now).sources) }
     {
-        let own = bare_names(self.alloc.clone()?, names)?;
-        let values = self.enter_all(arms, false, at, &own)?;
+        let own = bare_names(&self.alloc, names)?;
+        let values = self.enter_all(arms, Side::Second, at, &own)?;
         Ok(values)
     }
 
@@ -246,8 +220,7 @@ impl<'a, A: Allocator + Clone> Machine<'a, A> {
         ensures { OnOk result (self.new ≡ came_back self.old arms.entry at names.now) }
     {
         let right = self.pass(&arms, at, names)?;
-        let none = Vec::new(self.alloc.clone()?);
-        let left = mem::replace(&mut self.sources, none);
+        let left = self.take_sources()?;
         self.site = arms.site;
         let values = self.merge(arms.cond, at, &left, &right)?;
         let _inner = mem::replace(&mut self.scope, arms.scope);

@@ -17,10 +17,14 @@ use std::alloc::{AllocError, Allocator};
 
 /// The first ports of a node.
 #[tactic(auto, using(crate::proofs::Nodes::ports_more))]
-pub fn ports<A: Allocator>(alloc: A, node: u32, count: u64) -> Result<Vec<Source, A>, AllocError>
+pub fn ports<A: Allocator + Clone>(
+    alloc: &A,
+    node: u32,
+    count: u64,
+) -> Result<Vec<Source, A>, AllocError>
     ensures { IfOk result (λ v. v.items ≡ ports_from node 0 count) }
 {
-    let mut sources = Vec::new(alloc);
+    let mut sources = Vec::new(alloc.clone()?);
     let mut port = 0;
     for _ in 0..count {
         sources.push(Source { node, port })?;
@@ -31,14 +35,14 @@ pub fn ports<A: Allocator>(alloc: A, node: u32, count: u64) -> Result<Vec<Source
 
 /// The first ports of so many nodes, one after another.
 #[tactic(auto, using(crate::proofs::Nodes::inputs_more))]
-pub fn inputs<A: Allocator>(
-    alloc: A,
+pub fn inputs<A: Allocator + Clone>(
+    alloc: &A,
     first: u32,
     count: usize,
 ) -> Result<Vec<Source, A>, AllocError>
     ensures { IfOk result (λ v. v.items ≡ inputs_from first count) }
 {
-    let mut sources = Vec::new(alloc);
+    let mut sources = Vec::new(alloc.clone()?);
     let mut node = first;
     for _ in 0..count {
         sources.push(Source { node, port: 0 })?;
@@ -48,12 +52,24 @@ pub fn inputs<A: Allocator>(
 }
 
 /// A list of one source.
-pub fn single<A: Allocator>(alloc: A, source: Source) -> Result<Vec<Source, A>, AllocError>
+pub fn single<A: Allocator + Clone>(alloc: &A, source: Source) -> Result<Vec<Source, A>, AllocError>
     ensures { IfOk result (λ v. v.items ≡ source ∷ []) }
 {
-    let mut sources = Vec::new(alloc);
+    let mut sources = Vec::new(alloc.clone()?);
     sources.push(source)?;
     Ok(sources)
+}
+
+/// The same sources.
+pub fn copied<A: Allocator + Clone>(
+    alloc: &A,
+    sources: &[Source],
+) -> Result<Vec<Source, A>, AllocError>
+    ensures { IfOk result (λ v. v.items ≡ sources.now) }
+{
+    let mut all = Vec::new(alloc.clone()?);
+    all.extend_from_slice(sources)?;
+    Ok(all)
 }
 
 /// A literal with its sign.
@@ -87,12 +103,19 @@ fn with_sign<'a, A: Allocator>(at: usize, made: Made<'a, A>) -> Made<'a, A>
 }
 
 impl<'a, A: Allocator + Clone> Machine<'a, A> {
+    /// What a literal waits for.
+    fn trigger(&self) -> Result<Vec<Source, A>, AllocError>
+        ensures { IfOk result (λ v. v.items ≡ self.now.site.trigger ∷ []) }
+    {
+        single(&self.alloc, self.site.trigger)
+    }
+
     /// A literal, which waits for the trigger.
     #[tactic(auto, using(crate::proofs::Nodes::literal_more))]
     pub fn literal(&mut self, at: usize, number: u64) -> Result<(), AllocError>
         ensures { OnOk result (self.new ≡ after self.old (literal self.old.site self.old.spot at (node.Lit (signed number)))) }
     {
-        let trigger = single(self.alloc.clone()?, self.site.trigger)?;
+        let trigger = self.trigger()?;
         let value = number.cast_signed();
         self.put_one(at, Kind::Lit { value }, trigger)
     }
@@ -156,7 +179,7 @@ impl<'a, A: Allocator + Clone> Machine<'a, A> {
     ) -> Result<(), AllocError>
         ensures { OnOk result (self.new ≡ after self.old (one_node self.old.site self.old.spot at kind.entry sources.items count)) }
     {
-        let values = ports(self.alloc.clone()?, self.spot.next, count)?;
+        let values = ports(&self.alloc, self.spot.next, count)?;
         self.put(at, kind, sources)?;
         self.give_all(values)
     }

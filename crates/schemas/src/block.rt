@@ -78,7 +78,7 @@ fn operated<A: Allocator + Clone>(
     rows::operator(builder, op, origin, region, sources)
 }
 
-/// A conditional. Where calls in its arms need a trigger, it gives them one.
+/// A conditional. Where calls in its arms need a trigger, it gives them one, and else it has no instruction.
 fn divided<A: Allocator + Clone>(
     builder: &mut Builder<A>,
     scope: &Scope<'_, A>,
@@ -91,10 +91,14 @@ fn divided<A: Allocator + Clone>(
     ensures exact { OnOk result (builder.new ≡ Rows.conditional builder.old (Triggers.has_trigger scope.now.triggers number) number region sources.now) }
     ensures longer { OnOk result (length builder.new.instrs ≤ length builder.old.instrs + 1) }
 {
-    let triggered = has_trigger(scope.triggers, number);
-    rows::conditional(builder, triggered, number, region, sources)
+    if has_trigger(scope.triggers, number) {
+        rows::trigger_switch(builder, number, region, sources)
+    } else {
+        builder.exit(Outlet::first(0))
+    }
 }
 
+/// An `enter` of an arm. It leaves by the side of its arm.
 fn entered<A: Allocator + Clone>(
     builder: &mut Builder<A>,
     scope: &Scope<'_, A>,
@@ -108,7 +112,12 @@ fn entered<A: Allocator + Clone>(
     match region {
         Region::Arm { cond, side } => {
             let predicate = predicate_of(scope.block, cond);
-            rows::enter(builder, cond, side, sources, predicate)
+            let place = rows::enter(builder, cond, region, sources, predicate)?;
+            builder.exit(if side {
+                Outlet::first(place)
+            } else {
+                Outlet::second(place)
+            })
         }
         Region::Root => Ok(()),
     }

@@ -81,11 +81,11 @@ fn is_open(op: Op) -> bool
     matches!(op, Op::Open { .. })
 }
 
-/// Adds a destination to an instruction.
-fn add_dest<A: Allocator>(instr: &mut Instr<A>, second: bool, dest: Dest) -> Result<(), AllocError>
-    ensures { OnOk result (instr.new ≡ Builds.with_dest instr.old second dest) }
+/// Adds a destination to the instruction that leaves there.
+fn add_dest<A: Allocator>(instr: &mut Instr<A>, from: Outlet, dest: Dest) -> Result<(), AllocError>
+    ensures { OnOk result (instr.new ≡ Builds.with_dest instr.old from.second dest) }
 {
-    if second {
+    if from.second {
         instr.seconds.push(dest)?;
     } else {
         instr.firsts.push(dest)?;
@@ -177,7 +177,7 @@ impl<A: Allocator + Clone> Builder<A> {
             port,
         };
         if place < self.instrs.len() {
-            add_dest(&mut self.instrs[place], from.second, dest)?;
+            add_dest(&mut self.instrs[place], from, dest)?;
         }
         Ok(())
     }

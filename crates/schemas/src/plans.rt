@@ -11,7 +11,7 @@ use crate::block::{self, Coded};
 use crate::flow::{Block, Flow};
 use crate::scope::Scope;
 use crate::triggers::triggers_of;
-use crate::uses::uses_of;
+use crate::uses::{plain_uses, variant_uses};
 use crate::variants::{looped_of, variants_of};
 use code::{CodeBlock, Plan, Program};
 use semantics::program::Mark;
@@ -62,7 +62,7 @@ fn plain_code<A: Allocator + Clone>(
 {
     let nodes = block.inputs as usize + block.nodes.len();
     let triggers = triggers_of(alloc.clone()?, block, nodes)?;
-    let uses = uses_of(alloc.clone()?, block, &triggers, nodes, false)?;
+    let uses = plain_uses(alloc.clone()?, block, &triggers, nodes)?;
     let scope = Scope {
         version,
         number,
@@ -91,7 +91,7 @@ fn variant_code<A: Allocator + Clone>(
 {
     let nodes = block.inputs as usize + block.nodes.len();
     let triggers = triggers_of(alloc.clone()?, block, nodes)?;
-    let uses = uses_of(alloc.clone()?, block, &triggers, nodes, true)?;
+    let uses = variant_uses(alloc.clone()?, block, &triggers, nodes)?;
     let scope = Scope {
         version,
         number,

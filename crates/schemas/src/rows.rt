@@ -1,6 +1,8 @@
 //! The code of each kind of node.
 
 ghost use Rattle.std.specs.Prelude.{◌≡◌, ◌+◌, ◌<◌, ◌≤◌, ◌^◌, length, IfOk, OnOk};
+ghost use Rattle.semantics.specs.declared.program.Mark.TheVariants.{OfCond};
+ghost use Rattle.semantics.specs.declared.program.Op.TheVariants.{Switch};
 ghost use Rattle.schemas.specs.Builds as Builds;
 ghost use Rattle.schemas.specs.Rows as Rows;
 
@@ -46,8 +48,8 @@ pub(crate) fn shared_answer<A: Allocator + Clone>(
     builder.exit(Outlet::first(copy))
 }
 
-/// The switch of a conditional's source by its source, which gives the triggers of the arms.
-fn trigger_switch<A: Allocator + Clone>(
+/// A conditional of whose triggers something takes one: the switch of its source by its source, which gives them.
+pub(crate) fn trigger_switch<A: Allocator + Clone>(
     builder: &mut Builder<A>,
     cond: u32,
     region: Region,
@@ -68,46 +70,23 @@ fn trigger_switch<A: Allocator + Clone>(
     builder.exit(Outlet::first(place))
 }
 
-/// A conditional: the switch of its triggers, if something takes one of them, and else no instruction.
-pub(crate) fn conditional<A: Allocator + Clone>(
-    builder: &mut Builder<A>,
-    triggered: bool,
-    cond: u32,
-    region: Region,
-    sources: &[Source],
-) -> Result<(), AllocError>
-    requires room { length builder.old.instrs < 2 ^ 30 }
-    ensures exact { OnOk result (builder.new ≡ Rows.conditional builder.old triggered cond region sources.now) }
-    ensures longer { OnOk result (length builder.new.instrs ≤ length builder.old.instrs + 1) }
-{
-    if triggered {
-        trigger_switch(builder, cond, region, sources)
-    } else {
-        builder.exit(Outlet::first(0))
-    }
-}
-
-/// An `enter` in an arm: a switch of its source by the conditional's source. Its other side is an end of the other arm.
+/// An `enter` in an arm of that conditional: a switch of its source by the conditional's source, whose place is returned.
+/// The side of the other arm is an end there.
 pub(crate) fn enter<A: Allocator + Clone>(
     builder: &mut Builder<A>,
     cond: u32,
-    side: bool,
+    arm: Region,
     sources: &[Source],
     predicate: Source,
-) -> Result<(), AllocError>
+) -> Result<u32, AllocError>
     requires room { length builder.old.instrs < 2 ^ 30 }
-    ensures exact { OnOk result (builder.new ≡ Rows.enter builder.old cond side sources.now predicate) }
+    ensures place { IfOk result (λ p. p ≡ length builder.old.instrs) }
+    ensures exact { OnOk result (builder.new ≡ Builds.meeting builder.old Switch (OfCond cond) arm (Builds.outlet_of builder.old (Builds.first_source sources.now)) (Builds.outlet_of builder.old predicate)) }
     ensures longer { OnOk result (length builder.new.instrs ≡ length builder.old.instrs + 1) }
 {
-    let region = Region::Arm { cond, side };
     let value = builder.outlet(first_source(sources));
     let by = builder.outlet(predicate);
-    let place = builder.meet(Op::Switch, Mark::OfCond { cond }, region, value, by)?;
-    builder.exit(if side {
-        Outlet::first(place)
-    } else {
-        Outlet::second(place)
-    })
+    builder.meet(Op::Switch, Mark::OfCond { cond }, arm, value, by)
 }
 
 /// A merge: a copy that both sources go to.

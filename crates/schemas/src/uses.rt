@@ -1,8 +1,9 @@
 //! How often the outputs of nodes are used.
 
-ghost use Rattle.std.specs.Prelude.{◌≡◌, ℕ, ◌+◌, ◌≤◌, length, replicate, IfOk};
+ghost use Rattle.std.specs.Prelude.{◌≡◌, ℕ, ◌+◌, ◌≤◌, length, replicate, true, false, IfOk};
 ghost use Rattle.semantics.specs.Graph.{node_count};
 ghost use Rattle.schemas.specs.declared.uses.Uses.TheVariants.{Never};
+ghost use Rattle.schemas.specs.Triggers as Triggers;
 ghost use Rattle.schemas.specs.UseCounts as UseCounts;
 
 use crate::flow::{Block, Node};
@@ -55,21 +56,29 @@ fn note(uses: &mut [Uses], source: Source)
     }
 }
 
-/// Notes a use that is one destination, or more.
-fn note_use(uses: &mut [Uses], source: Source, twice: bool)
-    ensures { uses.new ≡ UseCounts.noted_use uses.old source twice }
+/// Notes a use that is two destinations.
+fn note_twice(uses: &mut [Uses], source: Source)
+    ensures { uses.new ≡ UseCounts.noted_use uses.old source true }
 {
     note(uses, source);
-    if twice {
-        note(uses, source);
+    note(uses, source);
+}
+
+/// Notes a use of each of the sources.
+fn note_sources(uses: &mut [Uses], sources: &[Source])
+    ensures { uses.new ≡ UseCounts.noted_sources uses.old sources.now false }
+{
+    for source in sources {
+        note(uses, *source);
     }
 }
 
-fn note_sources(uses: &mut [Uses], sources: &[Source], twice: bool)
-    ensures { uses.new ≡ UseCounts.noted_sources uses.old sources.now twice }
+/// Notes a use of each of the sources that is two destinations.
+fn note_sources_twice(uses: &mut [Uses], sources: &[Source])
+    ensures { uses.new ≡ UseCounts.noted_sources uses.old sources.now true }
 {
     for source in sources {
-        note_use(uses, *source, twice);
+        note_twice(uses, *source);
     }
 }
 
@@ -83,11 +92,11 @@ fn note_predicate<A: Allocator>(uses: &mut [Uses], block: &Block<A>, region: Reg
 }
 
 /// Notes the source of a conditional: the switch of its triggers, if it has one, takes it at both ports.
-fn note_conditional(uses: &mut [Uses], triggered: bool, sources: &[Source])
-    ensures { uses.new ≡ UseCounts.noted_conditional uses.old triggered sources.now }
+fn note_conditional(uses: &mut [Uses], triggers: &[bool], cond: u32, sources: &[Source])
+    ensures { uses.new ≡ UseCounts.noted_conditional uses.old (Triggers.has_trigger triggers.now cond) sources.now }
 {
-    if triggered {
-        note_sources(uses, sources, true);
+    if has_trigger(triggers, cond) {
+        note_sources_twice(uses, sources);
     }
 }
 
@@ -102,13 +111,13 @@ fn note_node<A: Allocator>(
     ensures { uses.new ≡ UseCounts.noted_node uses.old block.now triggers.now number node.now }
 {
     match &node.kind {
-        Kind::Cond => note_conditional(uses, has_trigger(triggers, number), &node.sources),
+        Kind::Cond => note_conditional(uses, triggers, number, &node.sources),
         Kind::Enter => {
-            note_sources(uses, &node.sources, false);
+            note_sources(uses, &node.sources);
             note_predicate(uses, block, node.region);
         }
-        Kind::StrictCall { .. } => note_sources(uses, &node.sources, true),
-        _ => note_sources(uses, &node.sources, false),
+        Kind::StrictCall { .. } => note_sources_twice(uses, &node.sources),
+        _ => note_sources(uses, &node.sources),
     }
 }
 
@@ -128,29 +137,65 @@ fn note_nodes<A: Allocator>(
     }
 }
 
-/// Notes the results. The first one of an iteration is the flag, which each switch takes.
-fn note_results(uses: &mut [Uses], results: &[Source], turns: bool)
-    ensures { uses.new ≡ UseCounts.noted_results uses.old turns results.now }
-{
-    if let Some((first, others)) = results.split_first() {
-        note_use(uses, *first, turns);
-        note_sources(uses, others, false);
-    }
-}
-
-/// How often each node of a block is used; in an iteration, or in a call.
-pub(crate) fn uses_of<A: Allocator>(
+/// How often the nodes of a block use each node.
+fn uses_by_nodes<A: Allocator>(
     alloc: A,
     block: &Block<A>,
     triggers: &[bool],
     nodes: usize,
-    turns: bool,
 ) -> Result<Vec<Uses, A>, AllocError>
     requires { block.now.inputs + length block.now.nodes ≤ 1024 }
-    ensures { IfOk result (λ v. v.items ≡ UseCounts.uses_of block.now triggers.now turns nodes) }
+    ensures { IfOk result (λ v. v.items ≡ UseCounts.noted_nodes (replicate nodes Never) block.now triggers.now block.now.inputs block.now.nodes) }
 {
     let mut uses = vec![in alloc; Uses::Never; nodes]?;
     note_nodes(&mut uses, block, triggers, block.inputs, &block.nodes);
-    note_results(&mut uses, &block.results, turns);
+    Ok(uses)
+}
+
+/// Notes the results of a call: each is returned.
+#[tactic(auto, using(crate::proofs::Results::plain_results))]
+fn note_returns(uses: &mut [Uses], results: &[Source])
+    ensures { uses.new ≡ UseCounts.noted_results uses.old false results.now }
+{
+    note_sources(uses, results);
+}
+
+/// Notes the results of an iteration: the first one is the flag, which each switch takes.
+fn note_turn(uses: &mut [Uses], results: &[Source])
+    ensures { uses.new ≡ UseCounts.noted_results uses.old true results.now }
+{
+    if let Some((flag, values)) = results.split_first() {
+        note_twice(uses, *flag);
+        note_sources(uses, values);
+    }
+}
+
+/// How often each node of a block is used in a call.
+pub(crate) fn plain_uses<A: Allocator>(
+    alloc: A,
+    block: &Block<A>,
+    triggers: &[bool],
+    nodes: usize,
+) -> Result<Vec<Uses, A>, AllocError>
+    requires { block.now.inputs + length block.now.nodes ≤ 1024 }
+    ensures { IfOk result (λ v. v.items ≡ UseCounts.uses_of block.now triggers.now false nodes) }
+{
+    let mut uses = uses_by_nodes(alloc, block, triggers, nodes)?;
+    note_returns(&mut uses, &block.results);
+    Ok(uses)
+}
+
+/// How often each node of a block is used in an iteration.
+pub(crate) fn variant_uses<A: Allocator>(
+    alloc: A,
+    block: &Block<A>,
+    triggers: &[bool],
+    nodes: usize,
+) -> Result<Vec<Uses, A>, AllocError>
+    requires { block.now.inputs + length block.now.nodes ≤ 1024 }
+    ensures { IfOk result (λ v. v.items ≡ UseCounts.uses_of block.now triggers.now true nodes) }
+{
+    let mut uses = uses_by_nodes(alloc, block, triggers, nodes)?;
+    note_turn(&mut uses, &block.results);
     Ok(uses)
 }

@@ -1,6 +1,6 @@
 //! Which arcs are chosen, for 64 choices at once. A word has one lane, that is one bit, for each choice.
 
-ghost use Rattle.std.specs.Prelude.{◌≡◌, if◌then◌else◌};
+ghost use Rattle.std.specs.Prelude.{◌≡◌, true, false, if◌then◌else◌};
 ghost use Rattle.semantics.specs.Rule.{slot_of};
 ghost use Rattle.semantics.specs.Sharing.{ends_with};
 ghost use Rattle.slot_alloc.specs.Passes.{same_mark, mark_of as of_marks, is_marked as of_marked};
@@ -20,32 +20,48 @@ pub(crate) enum Choice {
 }
 
 impl Choice {
-    /// The lanes in which the first or the second destinations of an instruction with that mark are chosen.
-    pub fn lanes<A: Allocator>(
-        self,
-        known: &[Mark],
-        instr: &Instr<A>,
-        mark: Mark,
-        second: bool,
-    ) -> u64
-        ensures { result ≡ of_words.lanes self known.now instr.now mark second }
+    /// The lanes in which the first destinations of an instruction with that mark are chosen.
+    pub fn firsts<A: Allocator>(self, known: &[Mark], instr: &Instr<A>, mark: Mark) -> u64
+        ensures { result ≡ of_words.lanes self known.now instr.now mark false }
     {
         match self {
-            Choice::Ends { first } => {
-                if ends(instr.op) {
-                    holder_lane(first, holder_of(instr))
-                } else {
-                    0
-                }
-            }
-            Choice::Sides { side } => {
-                if second != side && is_marked(mark) {
-                    mark_lanes(known, mark)
-                } else {
-                    0
-                }
-            }
+            Choice::Ends { first } => end_lane(first, instr),
+            Choice::Sides { side: true } => side_lanes(known, mark),
+            Choice::Sides { side: false } => 0,
         }
+    }
+
+    /// The lanes in which the second destinations of an instruction with that mark are chosen.
+    pub fn seconds<A: Allocator>(self, known: &[Mark], instr: &Instr<A>, mark: Mark) -> u64
+        ensures { result ≡ of_words.lanes self known.now instr.now mark true }
+    {
+        match self {
+            Choice::Ends { first } => end_lane(first, instr),
+            Choice::Sides { side: true } => 0,
+            Choice::Sides { side: false } => side_lanes(known, mark),
+        }
+    }
+}
+
+/// The lane in which the arcs of an instruction are end arcs of its holder.
+fn end_lane<A: Allocator>(first: usize, instr: &Instr<A>) -> u64
+    ensures { result ≡ (if ends_with instr.now.op then of_words.holder_lane first (slot_of instr.now instr.now.op) else 0) }
+{
+    if ends(instr.op) {
+        holder_lane(first, holder_of(instr))
+    } else {
+        0
+    }
+}
+
+/// The lanes in which the arcs on one side of an instruction with that mark are chosen, where that side is.
+fn side_lanes(known: &[Mark], mark: Mark) -> u64
+    ensures { result ≡ (if of_marked mark then of_words.mark_lanes known.now mark 64 else 0) }
+{
+    if is_marked(mark) {
+        mark_lanes(known, mark)
+    } else {
+        0
     }
 }
 

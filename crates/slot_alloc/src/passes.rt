@@ -2,7 +2,7 @@
 //! each arc is chosen or starts at an instruction with such a port. No arc goes back, so all arcs into an instruction except
 //! its own are known when it is reached.
 
-ghost use Rattle.std.specs.Prelude.{◌≡◌, ℕ, ◌+◌, ◌<◌, ◌≤◌, ◌^◌, IfOk, length, replicate, if◌then◌else◌};
+ghost use Rattle.std.specs.Prelude.{◌≡◌, ℕ, ◌+◌, ◌<◌, ◌≤◌, ◌^◌, IfOk, length, replicate};
 ghost use Rattle.semantics.specs.Plan as of_plans;
 ghost use Rattle.slot_alloc.specs.Words as of_words;
 
@@ -66,13 +66,6 @@ impl Flows {
                 right: self.right.with(lanes),
             },
         }
-    }
-
-    /// With one more arc into a port, where there is one.
-    fn with_if(self, there: bool, port: Port, lanes: u64) -> Flows
-        ensures { result ≡ (if there then of_words.flows_with self port lanes else self) }
-    {
-        if there { self.with(port, lanes) } else { self }
     }
 
     /// The lanes in which the arcs that start at the instruction lead by one of its ports.
@@ -166,7 +159,9 @@ fn own_each(flows: Flows, lanes: u64, dests: &[Dest]) -> Flows
 {
     let mut own = flows;
     for dest in dests {
-        own = own.with_if(dest.ahead == 0, dest.port, lanes);
+        if dest.ahead == 0 {
+            own = own.with(dest.port, lanes);
+        }
     }
     own
 }
@@ -177,7 +172,9 @@ fn own_landings(flows: Flows, lanes: u64, size: u64, dests: &[Dest]) -> Flows
 {
     let mut own = flows;
     for dest in dests {
-        own = own.with_if(dest.ahead == 0 && size > 0, Port::Left, lanes);
+        if dest.ahead == 0 && size > 0 {
+            own = own.with(Port::Left, lanes);
+        }
     }
     own
 }
@@ -247,8 +244,8 @@ pub(crate) fn pass<A: Allocator>(
     let mut flows = vec![in alloc; NONE; block.instrs.len()]?;
     for (place, instr) in block.instrs.iter().enumerate() {
         let mark = mark_of(marks, place);
-        let firsts = choice.lanes(known, instr, mark, false);
-        let seconds = choice.lanes(known, instr, mark, true);
+        let firsts = choice.firsts(known, instr, mark);
+        let seconds = choice.seconds(known, instr, mark);
         enter_instr(plan, &mut flows, place, firsts, seconds, instr);
     }
     Ok(flows)

@@ -127,14 +127,12 @@ fn after_rows<A: Allocator + Clone>(
     Ok(rows)
 }
 
-/// Notes that a holder that may not share lies in that slot.
-fn note_blocked(blocked: &mut [bool], slot: usize, may_share: bool)
-    requires { slot < length blocked.old }
-    ensures { blocked.new ≡ (if may_share then blocked.old else slice_set blocked.old slot true) }
-{
-    if !may_share {
-        blocked[slot] = true;
-    }
+/// The holder that gets a slot next.
+#[derive(Clone, Copy)]
+struct NextHolder {
+    number: usize,
+    /// Whether the switches of some mark have it on one of their sides.
+    is_sided: bool,
 }
 
 /// Says of any two holders of a block whether they may share a slot.
@@ -243,43 +241,61 @@ impl<A: Allocator> Table<A> {
         true
     }
 
-    /// The same, where it is known whether the second one is on a side.
-    fn is_apart_from(&self, is_sided: bool, g: usize, h: usize) -> bool
-        requires { is_sided ≡ list_any (of_tables.is_sided h) self.now.splits }
-        ensures { result ≡ list_any (of_tables.is_apart g h) self.now.splits }
+    /// Whether the switches of one mark put a holder and the next one on different sides.
+    fn next_is_apart(&self, holder: usize, next: NextHolder) -> bool
+        requires { next.is_sided ≡ list_any (of_tables.is_sided next.number) self.now.splits }
+        ensures { result ≡ list_any (of_tables.is_apart holder next.number) self.now.splits }
     {
-        is_sided && self.are_apart(g, h)
+        next.is_sided && self.are_apart(holder, next.number)
     }
 
     /// Whether a holder may share a slot with the next one. A lane of its group says whether the next one is after it.
-    fn next_may_share(&self, lanes: u64, is_sided: bool, holder: usize, next: usize) -> bool
-        requires lanes { lanes ≡ of_tables.after_word self.now.after next (holder / 64) }
-        requires sided { is_sided ≡ list_any (of_tables.is_sided next) self.now.splits }
-        ensures { result ≡ of_tables.may_share self.now holder next }
+    fn next_may_share(&self, lanes: u64, holder: usize, next: NextHolder) -> bool
+        requires lanes { lanes ≡ of_tables.after_word self.now.after next.number (holder / 64) }
+        requires sided { next.is_sided ≡ list_any (of_tables.is_sided next.number) self.now.splits }
+        ensures { result ≡ of_tables.may_share self.now holder next.number }
     {
         (lanes >> (holder % 64)) & 1 == 1
-            || self.comes_after(holder, next)
-            || self.is_apart_from(is_sided, holder, next)
+            || self.comes_after(holder, next.number)
+            || self.next_is_apart(holder, next)
+    }
+
+    /// Notes that the slot of a holder is blocked, if the next one may not share it.
+    fn note_holder(
+        &self,
+        blocked: &mut [bool],
+        slot: usize,
+        lanes: u64,
+        holder: usize,
+        next: NextHolder,
+    )
+        requires slot { slot < length blocked.old }
+        requires lanes { lanes ≡ of_tables.after_word self.now.after next.number (holder / 64) }
+        requires sided { next.is_sided ≡ list_any (of_tables.is_sided next.number) self.now.splits }
+        ensures { blocked.new ≡ (if of_tables.may_share self.now holder next.number then blocked.old else slice_set blocked.old slot true) }
+    {
+        if !self.next_may_share(lanes, holder, next) {
+            blocked[slot] = true;
+        }
     }
 
     /// Notes at which slots the next holder meets one of 64 earlier holders with which it may not share.
-    fn note_group(&self, blocked: &mut [bool], slots: &[u16], group: usize, is_sided: bool)
+    fn note_group(&self, blocked: &mut [bool], slots: &[u16], group: usize, next: NextHolder)
         requires all { length blocked.old ≡ 512 }
         requires below { All (λ s. s < 512) slots.now }
-        requires sided { is_sided ≡ list_any (of_tables.is_sided (length slots.now)) self.now.splits }
+        requires next { next.number ≡ length slots.now }
+        requires sided { next.is_sided ≡ list_any (of_tables.is_sided next.number) self.now.splits }
         requires start { group * 64 < length slots.now }
         ensures all { length blocked.new ≡ 512 }
         ensures exact { of_tables.blocked_from self.now slots.now blocked.new (group * 64 + 64) ≡ of_tables.blocked_from self.now slots.now blocked.old (group * 64) }
     {
-        let next = slots.len();
-        let lanes = self.after_lanes(next, group);
+        let lanes = self.after_lanes(next.number, group);
         let start = group * 64;
         if lanes == u64::MAX {
             return;
         }
-        for holder in start..next.min(start + 64) {
-            let may_share = self.next_may_share(lanes, is_sided, holder, next);
-            note_blocked(blocked, slots[holder] as usize, may_share);
+        for holder in start..slots.len().min(start + 64) {
+            self.note_holder(blocked, slots[holder] as usize, lanes, holder, next);
         }
     }
 
@@ -288,10 +304,13 @@ impl<A: Allocator> Table<A> {
         requires { All (λ s. s < 512) slots.now }
         ensures { result ≡ of_tables.blocked_by self.now (length slots.now) (replicate 512 false) 0 slots.now }
     {
-        let is_sided = self.is_sided(slots.len());
+        let next = NextHolder {
+            number: slots.len(),
+            is_sided: self.is_sided(slots.len()),
+        };
         let mut blocked = [false; SLOTS];
         for group in 0..groups(slots.len()) {
-            self.note_group(&mut blocked, slots, group, is_sided);
+            self.note_group(&mut blocked, slots, group, next);
         }
         blocked
     }

@@ -1,6 +1,7 @@
 use Rattle.std.proofs.Common.{◌≡◌, ◌++◌, ℕ, List, [], Option, Err, Ok, refl, sym, ap, ◌∙◌, arith}
 use Rattle.std.specs.Prelude.{codes}
 use Rattle.std.proofs.lemmas.Result.{err_from_is_err_and}
+use Rattle.semantics.specs.declared.graph.Region.TheVariants.{Arm}
 use Rattle.sink.proofs.Sent.{appends_none, sends_from, sends_more, sends_less, sends_other, sends_same, sends_whole}
 use Rattle.dot.specs.GraphDot.{region_of, arm_opens, opens, closes}
 use Rattle.dot.proofs.Around.{opens_root, opens_none, opens_more, closes_root, closes_none, closes_more}
@@ -23,7 +24,7 @@ pub returns-in_err-open_arms : goal.returns-in_err-open_arms
 returns-in_err-open_arms g t c =
     let p = err_from_is_err_and c.from_residual.result c.from_residual.ensures.1 in
     let t1 : List ℕ = opens c.in-Some.around c.args.place c.args.block.now.1 (region_of c.args.block.now.1 c.in-Arm.cond) in
-    let t2 : List ℕ = arm_opens c.args.place c.in-Arm.cond c.in-Arm.side in
+    let t2 : List ℕ = arm_opens c.args.place (Arm c.in-Arm.cond c.in-Arm.side) in
     let w0 : Option (List ℕ) = g.W.Write.contents c.args.writer.now in
     let w1 : Option (List ℕ) = g.W.Write.contents c.open_arms.new.writer in
     let sent = sends_same (Err c.in_err-open_arms.field-0.0) w0 w1 _ t1 (ap (opens c.in-Some.around c.args.place c.args.block.now.1) c.region_of.ensures) c.in_err-open_arms.ensures in
@@ -32,7 +33,7 @@ returns-in_err-open_arms g t c =
 pub returns : goal.returns
 returns g t c =
     let t1 : List ℕ = opens c.in-Some.around c.args.place c.args.block.now.1 (region_of c.args.block.now.1 c.in-Arm.cond) in
-    let t2 : List ℕ = arm_opens c.args.place c.in-Arm.cond c.in-Arm.side in
+    let t2 : List ℕ = arm_opens c.args.place (Arm c.in-Arm.cond c.in-Arm.side) in
     let w0 : Option (List ℕ) = g.W.Write.contents c.args.writer.now in
     let w1 : Option (List ℕ) = g.W.Write.contents c.open_arms.new.writer in
     let w2 : Option (List ℕ) = g.W.Write.contents c.open_arm.new.writer in

@@ -8,15 +8,21 @@ use Rattle.semantics.specs.Text.{field, kind_text}
 use Rattle.sink.specs.Numbered.{numbered}
 use Rattle.sink.proofs.Sent.{appends_then, appends_none, sends_from, sends_more, sends_less, sends_other, sends_same, sends_whole}
 use Rattle.sink.proofs.Numbered.{more, stop, done, outside}
-use Rattle.dot.specs.GraphDot.{region_of, side_letter, side_sign, arm_opens, opens, closes, node_box, style_of, edge, node_place, node_dot, input_box, inputs_dot, result_dot, block_head, block_dot, graph_head, graph_dot}
+use Rattle.dot.specs.GraphDot.{region_of, arm_letter, arm_sign, arm_opens, opens, closes, node_box, style_of, edge, node_place, node_dot, input_box, inputs_dot, result_dot, block_head, block_dot, graph_head, graph_dot}
 use Rattle.dot.specs.CodeDot as C
 use Rattle.disassembler.specs.Listing as L
 use Rattle.dot.proofs.graph_dot.open_arm.Goals as goal
 
+pub returns-in_default : goal.returns-in_default
+returns-in_default g c =
+    let w0 : Option (List ℕ) = g.W.Write.contents c.args.writer.now in
+    sends_same (Ok tt) w0 w0 ([]) _ (sym (ap (arm_opens c.args.place) c.in_default.is)) (sends_whole (Ok tt) tt w0 w0 ([]) refl (appends_none w0))
+
 pub returns : goal.returns
 returns g c =
     let x0 = c.as_bytes-block.ensures.value ∙ c.format.ensures.text in
-    let x1 = c.as_bytes-arm.ensures.value ∙ c.format-2.ensures.text in
-    let y0 = c.side_letter-letter.ensures in
-    let y1 = c.side_sign-sign.ensures in
-    sends_same c.send_all.result _ _ _ _ (simp (x0, x1, y0, y1, append_assoc)) c.send_all.ensures
+    let x1 = c.as_bytes-number.ensures.value ∙ c.format-2.ensures.text in
+    let y0 = c.arm_letter-letter.ensures in
+    let y1 = c.arm_sign-sign.ensures in
+    let same = sym (ap (arm_opens c.args.place) c.in-Arm.is) in
+    sends_same c.send_all.result _ _ _ _ same (sends_same c.send_all.result _ _ _ _ (simp (x0, x1, y0, y1, append_assoc)) c.send_all.ensures)

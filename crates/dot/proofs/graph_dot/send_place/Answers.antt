@@ -8,7 +8,7 @@ use Rattle.semantics.specs.Text.{field, kind_text}
 use Rattle.sink.specs.Numbered.{numbered}
 use Rattle.sink.proofs.Sent.{appends_then, appends_none, sends_from, sends_more, sends_less, sends_other, sends_same, sends_whole}
 use Rattle.sink.proofs.Numbered.{more, stop, done, outside}
-use Rattle.dot.specs.GraphDot.{region_of, side_letter, side_sign, arm_opens, opens, closes, node_box, style_of, edge, node_place, node_dot, input_box, inputs_dot, result_dot, block_head, block_dot, graph_head, graph_dot}
+use Rattle.dot.specs.GraphDot.{region_of, arm_letter, arm_sign, arm_opens, opens, closes, node_box, style_of, edge, node_place, node_dot, input_box, inputs_dot, result_dot, block_head, block_dot, graph_head, graph_dot}
 use Rattle.dot.specs.CodeDot as C
 use Rattle.disassembler.specs.Listing as L
 use Rattle.dot.proofs.graph_dot.send_place.Goals as goal
@@ -16,9 +16,9 @@ use Rattle.dot.proofs.graph_dot.send_place.Goals as goal
 pub returns-in_err-open_arms : goal.returns-in_err-open_arms
 returns-in_err-open_arms g c =
     let p = err_from_is_err_and c.from_residual.result c.from_residual.ensures.1 in
-    let t1 : List ℕ = opens c.args.depth c.args.place c.args.block.now.1 c.args.region in
-    let t2 : List ℕ = node_box c.args.place c.args.node c.args.kind.now in
-    let t3 : List ℕ = closes c.args.depth c.args.block.now.1 c.args.region in
+    let t1 : List ℕ = opens c.args.depth c.args.spot.place c.args.block.now.1 c.args.spot.region in
+    let t2 : List ℕ = node_box c.args.spot.place c.args.spot.number c.args.kind.now in
+    let t3 : List ℕ = closes c.args.depth c.args.block.now.1 c.args.spot.region in
     let t4 : List ℕ = codes "\n" in
     let w0 : Option (List ℕ) = g.W.Write.contents c.args.writer.now in
     let w1 : Option (List ℕ) = g.W.Write.contents c.open_arms.new.writer in
@@ -27,9 +27,9 @@ returns-in_err-open_arms g c =
 pub returns-in_err-send_box : goal.returns-in_err-send_box
 returns-in_err-send_box g c =
     let p = err_from_is_err_and c.from_residual-in_err-send_box.result c.from_residual-in_err-send_box.ensures.1 in
-    let t1 : List ℕ = opens c.args.depth c.args.place c.args.block.now.1 c.args.region in
-    let t2 : List ℕ = node_box c.args.place c.args.node c.args.kind.now in
-    let t3 : List ℕ = closes c.args.depth c.args.block.now.1 c.args.region in
+    let t1 : List ℕ = opens c.args.depth c.args.spot.place c.args.block.now.1 c.args.spot.region in
+    let t2 : List ℕ = node_box c.args.spot.place c.args.spot.number c.args.kind.now in
+    let t3 : List ℕ = closes c.args.depth c.args.block.now.1 c.args.spot.region in
     let t4 : List ℕ = codes "\n" in
     let w0 : Option (List ℕ) = g.W.Write.contents c.args.writer.now in
     let w1 : Option (List ℕ) = g.W.Write.contents c.open_arms.new.writer in
@@ -39,9 +39,9 @@ returns-in_err-send_box g c =
 pub returns-in_err-close_arms : goal.returns-in_err-close_arms
 returns-in_err-close_arms g c =
     let p = err_from_is_err_and c.from_residual-in_err-close_arms.result c.from_residual-in_err-close_arms.ensures.1 in
-    let t1 : List ℕ = opens c.args.depth c.args.place c.args.block.now.1 c.args.region in
-    let t2 : List ℕ = node_box c.args.place c.args.node c.args.kind.now in
-    let t3 : List ℕ = closes c.args.depth c.args.block.now.1 c.args.region in
+    let t1 : List ℕ = opens c.args.depth c.args.spot.place c.args.block.now.1 c.args.spot.region in
+    let t2 : List ℕ = node_box c.args.spot.place c.args.spot.number c.args.kind.now in
+    let t3 : List ℕ = closes c.args.depth c.args.block.now.1 c.args.spot.region in
     let t4 : List ℕ = codes "\n" in
     let w0 : Option (List ℕ) = g.W.Write.contents c.args.writer.now in
     let w1 : Option (List ℕ) = g.W.Write.contents c.open_arms.new.writer in
@@ -51,9 +51,9 @@ returns-in_err-close_arms g c =
 
 pub returns : goal.returns
 returns g c =
-    let t1 : List ℕ = opens c.args.depth c.args.place c.args.block.now.1 c.args.region in
-    let t2 : List ℕ = node_box c.args.place c.args.node c.args.kind.now in
-    let t3 : List ℕ = closes c.args.depth c.args.block.now.1 c.args.region in
+    let t1 : List ℕ = opens c.args.depth c.args.spot.place c.args.block.now.1 c.args.spot.region in
+    let t2 : List ℕ = node_box c.args.spot.place c.args.spot.number c.args.kind.now in
+    let t3 : List ℕ = closes c.args.depth c.args.block.now.1 c.args.spot.region in
     let t4 : List ℕ = codes "\n" in
     let w0 : Option (List ℕ) = g.W.Write.contents c.args.writer.now in
     let w1 : Option (List ℕ) = g.W.Write.contents c.open_arms.new.writer in

@@ -1,0 +1,6 @@
+use Rattle.std.proofs.Common.{◌≡◌, true, drop}
+use Rattle.schemas.specs.UseCounts.{noted_sources}
+use Rattle.schemas.proofs.uses.note_sources_twice.Given as goal
+
+abbrev pub invariant-loop-source : goal.invariant-loop-source
+invariant-loop-source l = noted_sources l.uses (drop l.source-index l.sources) true ≡ noted_sources l.fn.uses l.sources true
