@@ -1,5 +1,5 @@
 -- What the code's outcomes stand for in the definitions.
-use Rattle.std.specs.Prelude.{ℕ, Bool, true, false, Option, Some, None, ◌<◌, ◌^◌, List, [], ◌∷◌, ◌++◌, option_to_list, ⊤}
+use Rattle.std.specs.Prelude.{ℕ, Option, Some, None, ◌<◌, ◌^◌, List, [], ◌∷◌, ◌++◌, option_to_list, ⊤}
 use Rattle.tags.specs.declared.token.Cont.{Cont}
 use Rattle.tags.specs.declared.token.Word.{Word}
 use Rattle.tags.specs.declared.token.To.{To}
@@ -17,6 +17,8 @@ use Rattle.element.specs.declared.firing.passing.Passed.{Passed}
 use Rattle.element.specs.declared.firing.leaving.Leaving.{Leaving}
 use Rattle.element.specs.declared.firing.arrays.Indexed.{Indexed}
 use Rattle.element.specs.declared.firing.arrays.Indexed.TheVariants.{Place, Outside}
+use Rattle.element.specs.declared.firing.outcomes.Firing.{Firing}
+use Rattle.element.specs.declared.firing.outcomes.Firing.TheVariants.{Fired, WrongKind}
 use Rattle.element.specs.declared.firing.outcomes.Outcome.{Outcome}
 use Rattle.element.specs.declared.firing.outcomes.Outcome.TheVariants.{Becomes, Excluded}
 
@@ -57,9 +59,9 @@ IsWithin len (Place x) = x < len
 IsWithin len (Outside v) = ⊤
 
 -- the tokens, where it fired
-abbrev pub fired_by : Bool → List Token → Option (List Token)
-fired_by true made = Some made
-fired_by false made = None
+abbrev pub fired_by : Firing → List Token → Option (List Token)
+fired_by Fired made = Some made
+fired_by WrongKind made = None
 
 abbrev pub outcome_by : Outcome → List Token → rule.Outcome
 outcome_by (Becomes v) made = rule.Becomes v made

@@ -12,6 +12,7 @@ use crate::firing::Point;
 use crate::instructions::Instructions;
 use crate::lane::Stepped;
 use arrayvec::ArrayVec;
+use executing::Arrival;
 use frame_manager::Manager;
 use frame_store::bank::BankMut;
 use istructure::Cells;
@@ -213,7 +214,8 @@ impl<'m, A: Allocator> Contents<'m, A> {
         let to = token.to;
         match to {
             To::Instr { frame, ip, port } => {
-                self.read_again(code, at, token, Point { frame, ip }, port, sent)
+                let point = Point { frame, ip };
+                self.read_again(code, token, &Arrival { at, point, port }, sent)
             }
             To::Fetch { cell } => self.at_fetch(at, *token, cell, sent),
             To::Store { cell, value } => self.at_store(at, *token, cell, &value, sent),

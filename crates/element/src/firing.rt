@@ -36,6 +36,13 @@ use tags::token::{Port, Word};
 use two_inputs::meets;
 pub use two_inputs::{Meeting, fire_two, meet};
 
+/// A word that comes to an instruction on one of its ports.
+#[derive(Clone, Copy, Debug, PartialEq, Eq)]
+pub struct Operand {
+    pub port: Port,
+    pub word: Word,
+}
+
 /// The result of a word at an instruction whose slot has this state; an instruction that uses no slot leaves the state as
 /// it is.
 pub fn fire<C: Instructions>(
@@ -43,14 +50,13 @@ pub fn fire<C: Instructions>(
     point: Point,
     instr: &Instruction,
     slot: SlotState,
-    port: Port,
-    word: Word,
+    operand: Operand,
     made: &mut Made,
 ) -> Outcome
     requires short { IsShort (C.width code.now) point.ip instr.now }
     requires slot_room { HasRoomInSlot slot }
-    requires word_room { HasRoomInWord word }
-    ensures { outcome_by result (tokens_of (point_of point) made.new) ≡ Rule.outcome_of (C.program code.now) (point_of point) (instr_of instr.now) instr.now.op slot port word }
+    requires word_room { HasRoomInWord operand.word }
+    ensures { outcome_by result (tokens_of (point_of point) made.new) ≡ Rule.outcome_of (C.program code.now) (point_of point) (instr_of instr.now) instr.now.op slot operand.port operand.word }
 {
     match instr.op {
         Op::Apply2 { .. }
@@ -60,9 +66,9 @@ pub fn fire<C: Instructions>(
         | Op::Send { .. }
         | Op::Return { .. }
         | Op::Ask { .. }
-        | Op::Release { .. } => meets(code, point, instr, slot, port, word, made),
-        _ => match port {
-            Port::Left => fire_left(code, point, instr, slot, word, made),
+        | Op::Release { .. } => meets(code, point, instr, slot, operand, made),
+        _ => match operand.port {
+            Port::Left => fire_left(code, point, instr, slot, operand.word, made),
             Port::Right => excluded(2),
         },
     }

@@ -15,7 +15,7 @@ use crate::fault::ReplayRefusal;
 use crate::moment::Deed;
 use crate::slots::Slots;
 use crate::state::{Did, State};
-use element::firing::{Made, NONE, Outcome, Point, fire};
+use element::firing::{Made, NONE, Operand, Outcome, Point, fire};
 use element::instructions::{Instruction, Instructions, dest_in};
 use semantics::program::Op;
 use std::alloc::{AllocError, Allocator};
@@ -135,7 +135,8 @@ impl<A: Allocator> State<A> {
             return Err(ReplayRefusal::NotARun);
         }
         let mut made = NONE;
-        match fire(code, point, &instr, state, port, word, &mut made) {
+        let operand = Operand { port, word };
+        match fire(code, point, &instr, state, operand, &mut made) {
             Outcome::Becomes { slot: after } => {
                 self.slots.set_in(point.frame, slot, after)?;
                 let made = count_made(&made);

@@ -1,6 +1,6 @@
 //! The books of a run while they are kept.
 
-ghost use Rattle.std.specs.Prelude.{◌≡◌, ◌<◌, ◌≤◌, ◌+◌, ◌++◌, ◌^◌, true, false, drop, length, slice_get, IfOk, IfErr, IfSome, IfNone, OnOk, Contains};
+ghost use Rattle.std.specs.Prelude.{◌≡◌, ◌<◌, ◌≤◌, ◌+◌, ◌++◌, ◌^◌, true, false, drop, length, nat_lt, slice_get, IfOk, IfErr, IfSome, IfNone, OnOk, Contains};
 ghost use Rattle.std.specs.List.{range_with_len};
 ghost use Rattle.semantics.specs.Program.{Program};
 ghost use Rattle.replay.specs.Books.{frame_change, host_change};
@@ -119,15 +119,17 @@ fn request_change(word: Word, answer: Option<Token>) -> Change
     }
 }
 
-fn host_change(is_output: bool, port: u32, word: Word) -> Change
-    ensures { result ≡ host_change is_output port word }
+// A word for a port below the outputs fills that output; the port after them takes the done signal.
+fn host_change(outputs: u32, port: u32, word: Word) -> Change
+    ensures { result ≡ host_change (nat_lt port outputs) port word }
 {
-    if !is_output {
-        return Change::Done { port, word };
-    }
-    match word {
-        Word::Val(value) => Change::Output { port, value },
-        _ => Change::Nothing,
+    if port < outputs {
+        match word {
+            Word::Val(value) => Change::Output { port, value },
+            _ => Change::Nothing,
+        }
+    } else {
+        Change::Done { port, word }
     }
 }
 
@@ -148,7 +150,7 @@ fn change_by(
         To::Manager => request_change(token.word, made.first().copied()),
         To::Release { frame } if made.is_empty() => Change::Free { frame },
         To::Release { frame } => Change::Handed { frame },
-        To::Host { port } => host_change(port < outputs, port, token.word),
+        To::Host { port } => host_change(outputs, port, token.word),
     }
 }
 

@@ -10,6 +10,8 @@ use Rattle.element.specs.declared.lane.Stepped.{Stepped}
 use Rattle.element.specs.declared.lane.Stepped.TheVariants as stepped
 use Rattle.element.specs.Holding.{Holding}
 use Rattle.frame_order.specs.InOrder.{OrderedRun}
+use Rattle.schedule.specs.declared.elements.Order.{Order}
+use Rattle.schedule.specs.declared.elements.Order.TheVariants.{ByList, InTurn}
 use Rattle.schedule.specs.declared.halt.Halt.{Halt}
 use Rattle.schedule.specs.Setting.{size}
 use Rattle.schedule.specs.State.{State, AllFrom, tokens_in, AreParts}
@@ -35,6 +37,10 @@ BeganIfNoted false inputs k = Unit {0}
 
 abbrev pub HasToken : State → Type 0
 HasToken s = 0 < length (tokens_in s.lanes)
+
+abbrev pub is_by_list : Order → Bool
+is_by_list ByList = true
+is_by_list InTurn = false
 
 -- Whether a run halts after an answer. Where no token is left it halts at the next element that has none. Where an
 -- element has made all its events, a run over a list goes on, and another halts.

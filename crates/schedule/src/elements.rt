@@ -10,7 +10,7 @@ ghost use Rattle.schedule.specs.Reported.{credits_below, ShowsLaneParts};
 ghost use Rattle.schedule.specs.State.{State, state_of, IsWell, IsSoundState, tokens_in};
 ghost use Rattle.schedule.specs.Alone.{LeadsTo};
 ghost use Rattle.schedule.specs.Steps.{Steps, logged};
-ghost use Rattle.schedule.specs.Runs.{HasToken, IsHalt, Advances, Plays, rounds_of};
+ghost use Rattle.schedule.specs.Runs.{HasToken, is_by_list, IsHalt, Advances, Plays, rounds_of};
 
 use crate::alone::make_events;
 use crate::counting::{credits_in, deferred, frames_out, full_cells, requests};
@@ -34,6 +34,15 @@ struct Alone<L: Log> {
 /// The site of that loop where each event is listed.
 struct Listed<L: Log> {
     _log: PhantomData<L>,
+}
+
+/// The order in which the elements make their events.
+#[derive(Clone, Copy, Debug, PartialEq, Eq)]
+pub enum Order {
+    /// That of a list. An element that has made all its events is passed over.
+    ByList,
+    /// In turn, up to the first element that has a token and has made all its events.
+    InTurn,
 }
 
 /// The lanes of all elements, and the tokens that are on their way.
@@ -179,7 +188,7 @@ impl<'m, C: MainCode, A: Allocator> Elements<'m, C, A> {
     #[inline(always)]
     fn advance<L: Log, Site>(
         &mut self,
-        by_list: bool,
+        order: Order,
         element: u32,
         pick: u64,
         log: &mut EventLog<A, L>,
@@ -189,39 +198,42 @@ impl<'m, C: MainCode, A: Allocator> Elements<'m, C, A> {
         requires well { IsWell C.program C.width self.old }
         requires element { element < self.old.shape.elements }
         ensures well { IsWell C.program C.width self.new }
-        ensures exact { (events : Events) × Advances by_list (state_of C.program C.width self.old) element pick (state_of C.program C.width self.new) events result × (log.new.events.items ≡ logged L.KEEPS_EVENTS log.old.events.items events) }
+        ensures exact { (events : Events) × Advances (is_by_list order) (state_of C.program C.width self.old) element pick (state_of C.program C.width self.new) events result × (log.new.events.items ≡ logged L.KEEPS_EVENTS log.old.events.items events) }
     {
         if !self.is_ready(log) {
             let refused = self.refused(element);
-            return self.halts(by_list, refused);
+            return self.halts(order, refused);
         }
         match self.step_lane::<L, Site>(element, pick, log) {
-            None => self.halts(by_list, None),
+            None => self.halts(order, None),
             Some(Stepped::Did) => None,
-            Some(other) => self.halts(by_list, Some(other)),
+            Some(other) => self.halts(order, Some(other)),
         }
     }
 
     // The same as `halted`. What has to lie in memory to go out of line is made here, and not at each event.
     #[inline(always)]
-    fn halts(&self, by_list: bool, stepped: Option<Stepped>) -> Option<Halt>
+    fn halts(&self, order: Order, stepped: Option<Stepped>) -> Option<Halt>
         requires well { IsWell C.program C.width self.now }
-        ensures { IsHalt by_list stepped (state_of C.program C.width self.now) result }
+        ensures { IsHalt (is_by_list order) stepped (state_of C.program C.width self.now) result }
     {
         let other = stepped;
-        self.halted(by_list, other)
+        self.halted(order, other)
     }
 
     // Whether a run halts at a step that made no event.
     #[cold]
     #[inline(never)]
-    fn halted(&self, by_list: bool, stepped: Option<Stepped>) -> Option<Halt>
+    fn halted(&self, order: Order, stepped: Option<Stepped>) -> Option<Halt>
         requires well { IsWell C.program C.width self.now }
-        ensures { IsHalt by_list stepped (state_of C.program C.width self.now) result }
+        ensures { IsHalt (is_by_list order) stepped (state_of C.program C.width self.now) result }
     {
         match stepped {
             Some(Stepped::Did) => None,
-            None => (!by_list).then_some(Halt::Steps),
+            None => match order {
+                Order::ByList => None,
+                Order::InTurn => Some(Halt::Steps),
+            },
             Some(Stepped::Idle) => (!self.has_tokens()).then_some(Halt::NoToken),
             Some(Stepped::Clash { cell }) => Some(Halt::Clash { cell }),
             Some(Stepped::Stuck { rule }) => Some(Halt::Stuck { rule }),
@@ -239,7 +251,7 @@ impl<'m, C: MainCode, A: Allocator> Elements<'m, C, A> {
         ensures exact { (events : Events) × Plays true picks.now (state_of C.program C.width self.old) (state_of C.program C.width self.new) result events × (log.new.events.items ≡ logged L.KEEPS_EVENTS log.old.events.items events) }
     {
         for (element, pick) in picks {
-            match self.advance::<L, ()>(true, *element, *pick, log) {
+            match self.advance::<L, ()>(Order::ByList, *element, *pick, log) {
                 None => {}
                 Some(halt) => return halt,
             }
@@ -283,7 +295,7 @@ impl<'m, C: MainCode, A: Allocator> Elements<'m, C, A> {
             return self.play_passes(log);
         }
         let stepped = self.run_alone::<Alone<L>>();
-        match self.halts(false, stepped) {
+        match self.halts(Order::InTurn, stepped) {
             None => self.play_passes(log),
             Some(halt) => halt,
         }
@@ -302,7 +314,7 @@ impl<'m, C: MainCode, A: Allocator> Elements<'m, C, A> {
     {
         let mut left = self.shape.steps;
         'events: while left != 0 {
-            match self.advance::<L, Listed<L>>(false, 0, 0, log) {
+            match self.advance::<L, Listed<L>>(Order::InTurn, 0, 0, log) {
                 None => {}
                 Some(halt) => return halt,
             }
@@ -321,7 +333,7 @@ impl<'m, C: MainCode, A: Allocator> Elements<'m, C, A> {
     {
         'passes: loop {
             for element in 0..self.shape.elements {
-                match self.advance::<L, ()>(false, element, 0, log) {
+                match self.advance::<L, ()>(Order::InTurn, element, 0, log) {
                     None => {}
                     Some(halt) => return halt,
                 }

@@ -1,13 +1,15 @@
 -- What is done in a ring, as seen in its list.
-use Rattle.std.proofs.Common.{◌≡◌, ℕ, ◌+◌, ◌-◌, ◌%◌, ◌<◌, ◌≤◌, ◌⊎◌, List, [], ◌∷◌, ◌++◌, length, get_or, take, drop, set, bit_and, sym, ap, ◌∙◌, subst, inl, inr, mod-eq_of_lt, arith, length-append, length-drop, length-set, length-take-le, get_or-drop, get_or-take, append_assoc}
+use Rattle.std.proofs.Common.{◌≡◌, refl, ℕ, ◌+◌, ◌-◌, ◌%◌, ◌^◌, ◌<◌, ◌≤◌, ◌⊎◌, List, [], ◌∷◌, ◌++◌, length, get_or, take, drop, set, bit_and, sym, ap, ◌∙◌, subst, inl, inr, mod-eq_of_lt, arith, length-append, length-drop, length-set, length-take-le, get_or-drop, get_or-take, append_assoc}
 use native.Mathlib.Nat.{mod-eq-sub-mod, mod-add-mod}
 use Rattle.std.specs.List.{remove}
-use Rattle.std.proofs.lemmas.List.{same_lists, get_or_append_left, get_or-append_right, take_all, take_at, take-take, set_at, take_more, drop_more, length-take}
+use Rattle.std.proofs.lemmas.List.{append-nil, take-append-le, same_lists, get_or_append_left, get_or-append_right, take_all, take_at, take-take, set_at, take_more, drop_more, length-take}
 use Rattle.std.proofs.lemmas.List.Edits.{length-remove, get_or-remove_above}
-use Rattle.std.proofs.lemmas.Nat.{and_mask}
+use Rattle.std.proofs.lemmas.Nat.{and_mask, pow_below}
+use lib.Pow.{pow_pos, mod-mod-pow}
+use Rattle.std.proofs.Math.Nat.{mod-lt, zero-mod}
 use Rattle.std.proofs.lemmas.Bool.{cases_lt}
 use Rattle.std.proofs.lemmas.Grind.{common_steps}
-use Rattle.token_queue.specs.Ring.{ring, IsPower}
+use Rattle.token_queue.specs.Ring.{ring, between, held, IsPower}
 
 -- a place below two rounds is past the end once at most
 rounds : (N j : ℕ) → j < N + N → ((j < N) × (j % N ≡ j)) ⊎ ((N ≤ j) × (j % N ≡ j - N))
@@ -19,8 +21,12 @@ rounds N j below = elim (cases_lt j N) [
 pub masked : (n x : ℕ) → IsPower n → bit_and x (n - 1) ≡ x % n
 masked n x (k, is) = subst (λ (m : ℕ). bit_and x (m - 1) ≡ x % m) (sym is) (and_mask x k)
 
+-- the places turned round are as many
+turned_long : {X : Type 0} (k n : ℕ) (xs : List X) → n ≤ length xs → n ≤ length (drop k xs ++ take k xs)
+turned_long k n xs fits = simp (length-append, length-drop) (omega (arith, length-take k xs))
+
 pub ring_long : {X : Type 0} (k n : ℕ) (xs : List X) → n ≤ length xs → length (ring k n xs) ≡ n
-ring_long k n xs fits = length-take-le n _ (simp (length-append, length-drop) (omega (arith, length-take k xs)))
+ring_long k n xs fits = length-take-le n _ (turned_long k n xs fits)
 
 module _ {X : Type 0} (N k n : ℕ) (xs : List X) (head : k < N) (count : n ≤ N) (places : length xs ≡ N) where
   length-ring : length (ring k n xs) ≡ n
@@ -33,6 +39,76 @@ module _ {X : Type 0} (N k n : ℕ) (xs : List X) (head : k < N) (count : n ≤ 
         | inl low ↦ get_or_append_left _ _ d i (omega arith) ∙ get_or-drop k xs i d ∙ ap (λ j. get_or xs j d) (omega arith)
         | inr high ↦ get_or-append_right _ _ (N - k) i d (omega arith) (omega arith) ∙ get_or-take k xs _ d (omega arith) ∙ ap (λ j. get_or xs j d) (omega arith)
       ]
+
+-- COUNTS THAT BEGIN AGAIN AT 2 ^ 64
+pub power_some : (n : ℕ) → IsPower n → 0 < n
+power_some n (k, is) = subst (λ (m : ℕ). 0 < m) (sym is) (pow_pos k)
+
+pub is_power : (n : ℕ) → 0 < n → (n ≡ 0) ⊎ IsPower n → IsPower n
+is_power n some (inl none) = absurd (omega arith)
+is_power n some (inr power) = power
+
+few_bits : (k : ℕ) → 2 ^ k ≤ 2 ^ 63 → k ≤ 63
+few_bits k few = elim (cases_lt 63 k) [
+  | inl high ↦ let more = pow_below 63 k high in absurd (omega arith)
+  | inr low ↦ low
+]
+
+-- the places are as many for a count that began again
+begun_again : (n x : ℕ) → IsPower n → n ≤ 2 ^ 63 → x % 2 ^ 64 % n ≡ x % n
+begun_again n x (k, is) few =
+    let low : k ≤ 63 = few_bits k (subst (λ (m : ℕ). m ≤ 2 ^ 63) is few) in
+    let all : 64 - k + k ≡ 64 = omega arith in
+    let same : x % 2 ^ 64 % 2 ^ k ≡ x % 2 ^ k = subst (λ (j : ℕ). x % 2 ^ j % 2 ^ k ≡ x % 2 ^ k) all (mod-mod-pow x (64 - k) k) in
+    subst (λ (m : ℕ). x % 2 ^ 64 % m ≡ x % m) (sym is) same
+
+-- the place of a count that is `i` on from another
+pub place_on : (n h i : ℕ) → IsPower n → n ≤ 2 ^ 63 → (h + i) % 2 ^ 64 % n ≡ (h % n + i) % n
+place_on n h i power few = begun_again n (h + i) power few ∙ sym (mod-add-mod h n i)
+
+-- the place of the count after the last
+pub place_after : (n h t : ℕ) → IsPower n → n ≤ 2 ^ 63 → h < 2 ^ 64 → t < 2 ^ 64 → t % n ≡ (h % n + between h t) % n
+place_after n h t power few begun ended =
+    let there : (h + between h t) % 2 ^ 64 ≡ t = omega arith in
+    ap (λ (x : ℕ). x % n) (sym there) ∙ place_on n h (between h t) power few
+
+pub between_pushed : (h t : ℕ) → h < 2 ^ 64 → t < 2 ^ 64 → between h t < 2 ^ 63 → between h ((t + 1) % 2 ^ 64) ≡ between h t + 1
+between_pushed h t begun ended few = omega arith
+
+pub between_popped : (h t : ℕ) → h < 2 ^ 64 → t < 2 ^ 64 → 0 < between h t → between ((h + 1) % 2 ^ 64) t ≡ between h t - 1
+between_popped h t begun ended some = omega arith
+
+pub between_removed : (h t : ℕ) → h < 2 ^ 64 → t < 2 ^ 64 → 0 < between h t → between h ((t + (2 ^ 64 - 1)) % 2 ^ 64) ≡ between h t - 1
+between_removed h t begun ended some = omega arith
+
+pub held_long : {X : Type 0} (h t : ℕ) (xs : List X) → between h t ≤ length xs → length (held h t xs) ≡ between h t
+held_long h t xs fits = ring_long (h % length xs) (between h t) xs fits
+
+-- what is counted from 0 on is a beginning
+pub held_first : {X : Type 0} (n : ℕ) (xs : List X) → n < 2 ^ 64 → held 0 n xs ≡ take n xs
+held_first n xs few =
+    let first : 0 % length xs ≡ 0 = zero-mod (length xs) in
+    let all : between 0 n ≡ n = omega arith in
+    ap (λ h. ring h (between 0 n) xs) first ∙ ap (λ m. ring 0 m xs) all ∙ ap (λ ys. take n ys) (append-nil xs)
+
+-- and what is counted from elsewhere on is one of the places turned round
+pub held_turned : {X : Type 0} (h t mask : ℕ) (xs : List X) → (length xs ≡ 0) ⊎ IsPower (length xs) → mask ≡ length xs - 1 → between h t ≤ length xs
+    → held h t xs ≡ take (between h t) (drop (bit_and h mask) xs ++ take (bit_and h mask) xs)
+held_turned h t mask xs (inl none) e fits =
+    let zero : between h t ≡ 0 = omega arith in
+    ap (λ n. take n (drop (h % length xs) xs ++ take (h % length xs) xs)) zero ∙ sym (ap (λ n. take n (drop (bit_and h mask) xs ++ take (bit_and h mask) xs)) zero)
+held_turned h t mask xs (inr power) e fits =
+    let is : bit_and h mask ≡ h % length xs = ap (λ m. bit_and h m) e ∙ masked (length xs) h power in
+    ap (λ k. ring k (between h t) xs) (sym is)
+
+-- the places turned round, with more places after them
+pub held_grown : {X : Type 0} (h t mask n m : ℕ) (xs zs : List X) → (length xs ≡ 0) ⊎ IsPower (length xs) → mask ≡ length xs - 1 → between h t ≤ length xs → n ≡ between h t → n ≤ m → n < 2 ^ 64
+    → held 0 n (take m (drop (bit_and h mask) xs ++ take (bit_and h mask) xs) ++ zs) ≡ held h t xs
+held_grown h t mask n m xs zs power e fits count large few =
+    let rs = drop (bit_and h mask) xs ++ take (bit_and h mask) xs in
+    let within : n ≤ length rs = turned_long (bit_and h mask) n xs (omega arith) in
+    let kept : n ≤ length (take m rs) = omega (arith, length-take m rs) in
+    held_first n (take m rs ++ zs) few ∙ take-append-le n (take m rs) zs kept ∙ take-take n m rs large ∙ ap (λ k. take k rs) count ∙ sym (held_turned h t mask xs power e fits)
 
 -- these use those above at other rings
 module _ {X : Type 0} (N k n : ℕ) (xs : List X) (head : k < N) (count : n ≤ N) (places : length xs ≡ N) where
@@ -114,3 +190,26 @@ module _ {X : Type 0} where
       sym (take-take n m (drop k ys ++ take k ys) (omega arith)) ∙ ap (take n) was
       ∙ take_at (take n (remove xs at)) (drop n xs) n (front xs at n (omega arith) (omega arith))
       ∙ take_all n (remove xs at) (omega (arith, length-remove xs at (omega arith)))
+
+-- WHAT IS HELD
+module _ {X : Type 0} (h t : ℕ) (xs : List X) (power : IsPower (length xs)) (few : length xs ≤ 2 ^ 63) (begun : h < 2 ^ 64) (ended : t < 2 ^ 64) (fits : between h t ≤ length xs) where
+  low : h % length xs < length xs
+  low = mod-lt h (power_some _ power)
+
+  pub get_or-held : (i : ℕ) (d : X) → i < between h t → get_or (held h t xs) i d ≡ get_or xs ((h + i) % 2 ^ 64 % length xs) d
+  get_or-held i d within =
+      get_or-ring (length xs) (h % length xs) (between h t) xs low fits refl i d within ∙ ap (λ j. get_or xs j d) (sym (place_on (length xs) h i power few))
+
+  pub held_pushed : (x : X) → between h t < length xs → held h ((t + 1) % 2 ^ 64) (set xs (t % length xs) x) ≡ held h t xs ++ x ∷ []
+  held_pushed x room =
+      let more : between h ((t + 1) % 2 ^ 64) ≡ between h t + 1 = between_pushed h t begun ended (omega arith) in
+      ap (λ n. ring (h % n) (between h ((t + 1) % 2 ^ 64)) (set xs (t % length xs) x)) (length-set xs (t % length xs) x)
+      ∙ ap (λ n. ring (h % length xs) n (set xs (t % length xs) x)) more
+      ∙ ap (λ at. ring (h % length xs) (between h t + 1) (set xs at x)) (place_after (length xs) h t power few begun ended)
+      ∙ ring_pushed (length xs) (h % length xs) (between h t) xs low fits refl x room
+
+  pub held_popped : 0 < between h t → held ((h + 1) % 2 ^ 64) t xs ≡ drop 1 (held h t xs)
+  held_popped some =
+      ap (λ n. ring ((h + 1) % 2 ^ 64 % length xs) n xs) (between_popped h t begun ended some)
+      ∙ ap (λ at. ring at (between h t - 1) xs) (place_on (length xs) h 1 power few)
+      ∙ ring_popped (length xs) (h % length xs) (between h t) xs low fits refl some

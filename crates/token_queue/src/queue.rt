@@ -18,41 +18,40 @@ const FILLER: Token = Token {
 /// The fewest places that are taken at once.
 const FEWEST: usize = 4;
 
-/// Tokens, oldest first. The number of places is 0 or a power of two; the tokens lie from the place `head` on, and on from
-/// the first place.
+/// Tokens, oldest first. The number of places is 0 or a power of two. Tokens are counted as they come and as they go, and the
+/// counts begin again at 2 ^ 64: a token is in the place of its count modulo the number of places.
 #[derive(Drop)]
 pub struct TokenQueue<A: Allocator> {
     places: Vec<PackedToken, A>,
     /// One less than the number of places; 0 where there are none.
     mask: usize,
+    /// How many were taken out.
     head: usize,
-    count: usize,
+    /// How many were put in.
+    tail: usize,
 }
 
 impl<A: Allocator> Model for TokenQueue<A> {
     ghost use Rattle.std.specs.Prelude.{length};
     ghost use Rattle.token_queue.specs.Tokens.{Tokens};
-    ghost use Rattle.token_queue.specs.Ring.{ring, IsRing};
+    ghost use Rattle.token_queue.specs.Ring.{held, IsRing};
 
     ghost Value = { Tokens };
 
-    ghost view = { λ q. record { items = ring q.head q.count q.places.items; room = length q.places.items } };
+    ghost view = { λ q. record { items = held q.head q.tail q.places.items; room = length q.places.items } };
 
-    ghost invariant = { λ q. IsRing (length q.places.items) q.mask q.head q.count };
+    ghost invariant = { λ q. IsRing (length q.places.items) q.mask q.head q.tail };
 }
 
-/// The place of the token of this number, the oldest being 0.
+/// The place of the token of this count.
 #[inline(always)]
-fn place(_places: usize, mask: usize, head: usize, at: usize) -> usize
+fn place(_places: usize, mask: usize, count: usize) -> usize
     requires power { IsPower _places }
-    requires few { _places ≤ 2 ^ 63 }
     requires mask { mask ≡ _places - 1 }
-    requires head { head < _places }
-    requires at { at ≤ _places }
-    ensures exact { result ≡ (head + at) % _places }
+    ensures exact { result ≡ count % _places }
     ensures within { result < _places }
 {
-    (head + at) & mask
+    count & mask
 }
 
 impl<A: Allocator> TokenQueue<A> {
@@ -65,7 +64,7 @@ impl<A: Allocator> TokenQueue<A> {
             places: Vec::new(alloc),
             mask: 0,
             head: 0,
-            count: 0,
+            tail: 0,
         }
     }
 
@@ -74,7 +73,7 @@ impl<A: Allocator> TokenQueue<A> {
     pub fn len(&self) -> usize
         ensures { result ≡ length self.now.items }
     {
-        self.count
+        self.tail.wrapping_sub(self.head)
     }
 
     /// Whether there is room for `tokens` more tokens.
@@ -83,7 +82,7 @@ impl<A: Allocator> TokenQueue<A> {
         ensures yes { result ≡ true → length self.now.items + tokens ≤ self.now.room }
         ensures no { result ≡ false → self.now.room < length self.now.items + tokens }
     {
-        tokens <= self.places.len() - self.count
+        tokens <= self.places.len() - self.len()
     }
 
     /// Makes room for `tokens` more tokens; room that is there already stays as it is. After an error nothing is changed.
@@ -103,6 +102,7 @@ impl<A: Allocator> TokenQueue<A> {
     }
 
     // Takes at least twice the room, and enough for `tokens` more tokens.
+    #[tactic(auto, using(crate::proofs::Rings::held_first, crate::proofs::Rings::held_turned, crate::proofs::Rings::held_long))]
     #[inline(never)]
     fn grow(&mut self, tokens: usize) -> Result<(), AllocError>
         ensures items { self.new.items ≡ self.old.items }
@@ -110,15 +110,17 @@ impl<A: Allocator> TokenQueue<A> {
         ensures doubled { OnOk result (2 * self.old.room ≤ self.new.room) }
         ensures err { OnErr result (self.new ≡ self.old) }
     {
-        let needed = self.count.checked_add(tokens).ok_or(AllocError)?;
+        let count = self.len();
+        let needed = count.checked_add(tokens).ok_or(AllocError)?;
         let doubled = self.places.len().saturating_mul(2);
         let places = doubled
             .max(needed)
             .max(FEWEST)
             .checked_next_power_of_two()
             .ok_or(AllocError)?;
-        self.places.rotate_left(self.head);
+        self.places.rotate_left(self.head & self.mask);
         self.head = 0;
+        self.tail = count;
         self.places.resize(places, PackedToken::pack(FILLER))?;
         self.mask = places - 1;
         Ok(())
@@ -143,9 +145,9 @@ impl<A: Allocator> TokenQueue<A> {
         ensures len { length self.new.items ≡ length self.old.items + 1 }
         ensures room { self.new.room ≡ self.old.room }
     {
-        let at = place(self.places.len(), self.mask, self.head, self.count);
+        let at = place(self.places.len(), self.mask, self.tail);
         self.places[at] = token;
-        self.count += 1;
+        self.tail = self.tail.wrapping_add(1);
     }
 
     /// The token of this number, the oldest being 0.
@@ -163,7 +165,7 @@ impl<A: Allocator> TokenQueue<A> {
         requires { at < length self.now.items }
         ensures { result ≡ slice_index_or self.now.items at result }
     {
-        self.places[place(self.places.len(), self.mask, self.head, at)]
+        self.places[place(self.places.len(), self.mask, self.head.wrapping_add(at))]
     }
 
     /// Takes the oldest token out.
@@ -174,8 +176,7 @@ impl<A: Allocator> TokenQueue<A> {
         ensures len { length self.new.items + 1 ≡ length self.old.items }
         ensures room { self.new.room ≡ self.old.room }
     {
-        self.head = place(self.places.len(), self.mask, self.head, 1);
-        self.count -= 1;
+        self.head = self.head.wrapping_add(1);
     }
 
     /// Takes the token of this number out, the oldest being 0. Those after it close up.
@@ -187,11 +188,11 @@ impl<A: Allocator> TokenQueue<A> {
         ensures room { self.new.room ≡ self.old.room }
     {
         let places = self.places.len();
-        let last = self.count - 1;
+        let last = self.len() - 1;
         for before in at..last {
-            let next = self.places[place(places, self.mask, self.head, before + 1)];
-            self.places[place(places, self.mask, self.head, before)] = next;
+            let next = self.places[place(places, self.mask, self.head.wrapping_add(before + 1))];
+            self.places[place(places, self.mask, self.head.wrapping_add(before))] = next;
         }
-        self.count = last;
+        self.tail = self.tail.wrapping_sub(1);
     }
 }

@@ -19,9 +19,9 @@ ghost use Rattle.tags.specs.declared.token.Token.{Token};
 
 use super::Contents;
 use crate::firing::{
-    Asks, Credit, Leaving, Meeting, NONE, Operates, Outcome, Pair, Passed, Point, Releases,
-    Returns, SIGNAL, Sends, Stores, Switches, Syncs, credit_at_once, fire, frame_request, meet,
-    pass_one,
+    Asks, Credit, Leaving, Meeting, NONE, Operand, Operates, Outcome, Pair, Passed, Point,
+    Releases, Returns, SIGNAL, Sends, Stores, Switches, Syncs, credit_at_once, fire, frame_request,
+    meet, pass_one,
 };
 use crate::instructions::{Instruction, Instructions};
 use crate::lane::Stepped;
@@ -37,6 +37,21 @@ pub struct OnLeft;
 
 /// The way of a token on the right port.
 pub struct OnRight;
+
+/// A token's arrival at an instruction: its place in the queue, where the instruction is, and the port.
+#[derive(Clone, Copy)]
+pub struct Arrival {
+    pub at: usize,
+    pub point: Point,
+    pub port: Port,
+}
+
+/// The two words that meet at an instruction.
+#[derive(Clone, Copy)]
+pub struct Matched {
+    pub left: PackedWord,
+    pub right: PackedWord,
+}
 
 impl<'m, A: Allocator> Contents<'m, A> {
     // What a token does at once, and whether it does: most that need no more than the words as they lie, a slot and room for a
@@ -83,31 +98,28 @@ impl<'m, A: Allocator> Contents<'m, A> {
             return false;
         };
         let port = Port::Left;
+        let arrival = Arrival { at, point, port };
         match instr.op {
             Op::Apply2 { .. } => {
-                self.at_pair::<C, Operates, Site>(code, at, token, point, &instr, port)
+                self.at_pair::<C, Operates, Site>(code, token, &arrival, &instr)
             }
-            Op::Sync => self.at_pair::<C, Syncs, Site>(code, at, token, point, &instr, port),
-            Op::Switch => self.at_pair::<C, Switches, Site>(code, at, token, point, &instr, port),
-            Op::Send { .. } => self.at_pair::<C, Sends, Site>(code, at, token, point, &instr, port),
-            Op::Return { .. } => {
-                self.at_pair::<C, Returns, Site>(code, at, token, point, &instr, port)
-            }
-            Op::Ask { .. } => self.at_pair::<C, Asks, Site>(code, at, token, point, &instr, port),
-            Op::Store { .. } => {
-                self.at_pair::<C, Stores, Site>(code, at, token, point, &instr, port)
-            }
+            Op::Sync => self.at_pair::<C, Syncs, Site>(code, token, &arrival, &instr),
+            Op::Switch => self.at_pair::<C, Switches, Site>(code, token, &arrival, &instr),
+            Op::Send { .. } => self.at_pair::<C, Sends, Site>(code, token, &arrival, &instr),
+            Op::Return { .. } => { self.at_pair::<C, Returns, Site>(code, token, &arrival, &instr) }
+            Op::Ask { .. } => self.at_pair::<C, Asks, Site>(code, token, &arrival, &instr),
+            Op::Store { .. } => { self.at_pair::<C, Stores, Site>(code, token, &arrival, &instr) }
             Op::Release { .. } => {
-                self.at_pair::<C, Releases, Site>(code, at, token, point, &instr, port)
+                self.at_pair::<C, Releases, Site>(code, token, &arrival, &instr)
             }
-            Op::Apply1 { .. } => self.at_lone(code, at, token, point, &instr, port),
-            Op::Apply2Right { .. } => self.at_lone(code, at, token, point, &instr, port),
-            Op::Apply2Left { .. } => self.at_lone(code, at, token, point, &instr, port),
-            Op::Lit { .. } => self.at_lone(code, at, token, point, &instr, port),
-            Op::Copy => self.at_lone(code, at, token, point, &instr, port),
-            Op::Take { .. } => self.at_credit(code, at, token, point, &instr, port),
-            Op::Give { .. } => self.at_credit(code, at, token, point, &instr, port),
-            Op::Frame => self.at_frame(code, at, token, point, &instr, port),
+            Op::Apply1 { .. } => self.at_lone(code, token, &arrival, &instr),
+            Op::Apply2Right { .. } => self.at_lone(code, token, &arrival, &instr),
+            Op::Apply2Left { .. } => self.at_lone(code, token, &arrival, &instr),
+            Op::Lit { .. } => self.at_lone(code, token, &arrival, &instr),
+            Op::Copy => self.at_lone(code, token, &arrival, &instr),
+            Op::Take { .. } => self.at_credit(code, token, &arrival, &instr),
+            Op::Give { .. } => self.at_credit(code, token, &arrival, &instr),
+            Op::Frame => self.at_frame(code, token, &arrival, &instr),
             _ => false,
         }
     }
@@ -129,22 +141,19 @@ impl<'m, A: Allocator> Contents<'m, A> {
             return false;
         };
         let port = Port::Right;
+        let arrival = Arrival { at, point, port };
         match instr.op {
             Op::Apply2 { .. } => {
-                self.at_pair::<C, Operates, Site>(code, at, token, point, &instr, port)
+                self.at_pair::<C, Operates, Site>(code, token, &arrival, &instr)
             }
-            Op::Sync => self.at_pair::<C, Syncs, Site>(code, at, token, point, &instr, port),
-            Op::Switch => self.at_pair::<C, Switches, Site>(code, at, token, point, &instr, port),
-            Op::Send { .. } => self.at_pair::<C, Sends, Site>(code, at, token, point, &instr, port),
-            Op::Return { .. } => {
-                self.at_pair::<C, Returns, Site>(code, at, token, point, &instr, port)
-            }
-            Op::Ask { .. } => self.at_pair::<C, Asks, Site>(code, at, token, point, &instr, port),
-            Op::Store { .. } => {
-                self.at_pair::<C, Stores, Site>(code, at, token, point, &instr, port)
-            }
+            Op::Sync => self.at_pair::<C, Syncs, Site>(code, token, &arrival, &instr),
+            Op::Switch => self.at_pair::<C, Switches, Site>(code, token, &arrival, &instr),
+            Op::Send { .. } => self.at_pair::<C, Sends, Site>(code, token, &arrival, &instr),
+            Op::Return { .. } => { self.at_pair::<C, Returns, Site>(code, token, &arrival, &instr) }
+            Op::Ask { .. } => self.at_pair::<C, Asks, Site>(code, token, &arrival, &instr),
+            Op::Store { .. } => { self.at_pair::<C, Stores, Site>(code, token, &arrival, &instr) }
             Op::Release { .. } => {
-                self.at_pair::<C, Releases, Site>(code, at, token, point, &instr, port)
+                self.at_pair::<C, Releases, Site>(code, token, &arrival, &instr)
             }
             _ => false,
         }
@@ -156,29 +165,30 @@ impl<'m, A: Allocator> Contents<'m, A> {
     fn at_pair<C: Instructions, K: Pair, Site>(
         &mut self,
         code: &C,
-        at: usize,
         token: &PackedToken,
-        point: Point,
+        arrival: &Arrival,
         instr: &Instruction,
-        port: Port,
     ) -> bool
-        requires can { CanAct (C.program code.now) (C.width code.now) (held_in self.old) at token.now }
-        requires address { token.now.to ≡ To.Instr point.frame point.ip port }
-        requires found { instr_at (C.program code.now) point.ip ≡ Some (instr_of instr.now) }
-        requires short { IsShort (C.width code.now) point.ip instr.now }
+        requires can { CanAct (C.program code.now) (C.width code.now) (held_in self.old) arrival.now.at token.now }
+        requires address { token.now.to ≡ To.Instr arrival.now.point.frame arrival.now.point.ip arrival.now.port }
+        requires found { instr_at (C.program code.now) arrival.now.point.ip ≡ Some (instr_of instr.now) }
+        requires short { IsShort (C.width code.now) arrival.now.point.ip instr.now }
         requires pair { IsPair instr.now.op }
-        ensures did { result ≡ true → (before : List Token) → ActsAs (C.program code.now) (held_in self.old) at token.now before Did (held_in self.new) before }
+        ensures did { result ≡ true → (before : List Token) → ActsAs (C.program code.now) (held_in self.old) arrival.now.at token.now before Did (held_in self.new) before }
         ensures not { result ≡ false → held_in self.new ≡ held_in self.old }
     {
-        let place = self.place_of_slot(point.frame, instr.slot);
+        let place = self.place_of_slot(arrival.point.frame, instr.slot);
         let held = self.slot_at(place);
-        match meet(&held, point, port, token) {
-            Meeting::Waits { slot } => self.wait(at, place, slot),
+        match meet(&held, arrival.point, arrival.port, token) {
+            Meeting::Waits { slot } => self.wait(arrival.at, place, slot),
             Meeting::Apart => false,
-            Meeting::Both { left, right } => match port {
-                Port::Left => self.both::<C, K>(code, at, place, point, instr, &left, &right),
-                Port::Right => self.both::<C, K>(code, at, place, point, instr, &left, &right),
-            },
+            Meeting::Both { left, right } => {
+                let matched = Matched { left, right };
+                match arrival.port {
+                    Port::Left => self.both::<C, K>(code, arrival, place, instr, &matched),
+                    Port::Right => self.both::<C, K>(code, arrival, place, instr, &matched),
+                }
+            }
         }
     }
 
@@ -188,24 +198,22 @@ impl<'m, A: Allocator> Contents<'m, A> {
     fn at_lone<C: Instructions>(
         &mut self,
         code: &C,
-        at: usize,
         token: &PackedToken,
-        point: Point,
+        arrival: &Arrival,
         instr: &Instruction,
-        port: Port,
     ) -> bool
-        requires can { CanAct (C.program code.now) (C.width code.now) (held_in self.old) at token.now }
-        requires address { token.now.to ≡ To.Instr point.frame point.ip port }
-        requires found { instr_at (C.program code.now) point.ip ≡ Some (instr_of instr.now) }
-        requires short { IsShort (C.width code.now) point.ip instr.now }
+        requires can { CanAct (C.program code.now) (C.width code.now) (held_in self.old) arrival.now.at token.now }
+        requires address { token.now.to ≡ To.Instr arrival.now.point.frame arrival.now.point.ip arrival.now.port }
+        requires found { instr_at (C.program code.now) arrival.now.point.ip ≡ Some (instr_of instr.now) }
+        requires short { IsShort (C.width code.now) arrival.now.point.ip instr.now }
         requires lone { IsLone instr.now.op }
-        ensures did { result ≡ true → (before : List Token) → ActsAs (C.program code.now) (held_in self.old) at token.now before Did (held_in self.new) before }
+        ensures did { result ≡ true → (before : List Token) → ActsAs (C.program code.now) (held_in self.old) arrival.now.at token.now before Did (held_in self.new) before }
         ensures not { result ≡ false → held_in self.new ≡ held_in self.old }
     {
         match pass_one(instr, &token.word()) {
-            Some(passed) => match port {
+            Some(passed) => match arrival.port {
                 Port::Right => false,
-                Port::Left => self.pass(at, point, None, &passed),
+                Port::Left => self.pass(arrival.at, arrival.point, None, &passed),
             },
             None => false,
         }
@@ -216,31 +224,29 @@ impl<'m, A: Allocator> Contents<'m, A> {
     fn at_credit<C: Instructions>(
         &mut self,
         code: &C,
-        at: usize,
         token: &PackedToken,
-        point: Point,
+        arrival: &Arrival,
         instr: &Instruction,
-        port: Port,
     ) -> bool
-        requires can { CanAct (C.program code.now) (C.width code.now) (held_in self.old) at token.now }
-        requires address { token.now.to ≡ To.Instr point.frame point.ip port }
-        requires found { instr_at (C.program code.now) point.ip ≡ Some (instr_of instr.now) }
-        requires short { IsShort (C.width code.now) point.ip instr.now }
+        requires can { CanAct (C.program code.now) (C.width code.now) (held_in self.old) arrival.now.at token.now }
+        requires address { token.now.to ≡ To.Instr arrival.now.point.frame arrival.now.point.ip arrival.now.port }
+        requires found { instr_at (C.program code.now) arrival.now.point.ip ≡ Some (instr_of instr.now) }
+        requires short { IsShort (C.width code.now) arrival.now.point.ip instr.now }
         requires credit { IsCredit instr.now.op }
-        ensures did { result ≡ true → (before : List Token) → ActsAs (C.program code.now) (held_in self.old) at token.now before Did (held_in self.new) before }
+        ensures did { result ≡ true → (before : List Token) → ActsAs (C.program code.now) (held_in self.old) arrival.now.at token.now before Did (held_in self.new) before }
         ensures not { result ≡ false → held_in self.new ≡ held_in self.old }
     {
-        let place = self.place_of_slot(point.frame, instr.slot);
+        let place = self.place_of_slot(arrival.point.frame, instr.slot);
         let held = self.slot_at(place);
         match credit_at_once(instr, &held, &token.word()) {
             Credit::Later => false,
-            Credit::SlotOnly { slot } => match port {
+            Credit::SlotOnly { slot } => match arrival.port {
                 Port::Right => false,
-                Port::Left => self.wait(at, place, slot),
+                Port::Left => self.wait(arrival.at, place, slot),
             },
-            Credit::Answered { slot, token } => match port {
+            Credit::Answered { slot, token } => match arrival.port {
                 Port::Right => false,
-                Port::Left => self.answer(at, place, slot, token),
+                Port::Left => self.answer(arrival.at, place, slot, token),
             },
         }
     }
@@ -250,23 +256,26 @@ impl<'m, A: Allocator> Contents<'m, A> {
     fn at_frame<C: Instructions>(
         &mut self,
         code: &C,
-        at: usize,
         token: &PackedToken,
-        point: Point,
+        arrival: &Arrival,
         instr: &Instruction,
-        port: Port,
     ) -> bool
-        requires can { CanAct (C.program code.now) (C.width code.now) (held_in self.old) at token.now }
-        requires address { token.now.to ≡ To.Instr point.frame point.ip port }
-        requires found { instr_at (C.program code.now) point.ip ≡ Some (instr_of instr.now) }
-        requires short { IsShort (C.width code.now) point.ip instr.now }
+        requires can { CanAct (C.program code.now) (C.width code.now) (held_in self.old) arrival.now.at token.now }
+        requires address { token.now.to ≡ To.Instr arrival.now.point.frame arrival.now.point.ip arrival.now.port }
+        requires found { instr_at (C.program code.now) arrival.now.point.ip ≡ Some (instr_of instr.now) }
+        requires short { IsShort (C.width code.now) arrival.now.point.ip instr.now }
         requires frame { instr.now.op ≡ Op.Frame }
-        ensures did { result ≡ true → (before : List Token) → ActsAs (C.program code.now) (held_in self.old) at token.now before Did (held_in self.new) before }
+        ensures did { result ≡ true → (before : List Token) → ActsAs (C.program code.now) (held_in self.old) arrival.now.at token.now before Did (held_in self.new) before }
         ensures not { result ≡ false → held_in self.new ≡ held_in self.old }
     {
-        match port {
+        match arrival.port {
             Port::Right => false,
-            Port::Left => self.ask(at, PackedToken::pack(frame_request(point, instr))),
+            Port::Left => {
+                self.ask(
+                    arrival.at,
+                    PackedToken::pack(frame_request(arrival.point, instr)),
+                )
+            }
         }
     }
 
@@ -327,29 +336,29 @@ impl<'m, A: Allocator> Contents<'m, A> {
     fn both<C: Instructions, K: Pair>(
         &mut self,
         code: &C,
-        at: usize,
+        arrival: &Arrival,
         place: usize,
-        point: Point,
         instr: &Instruction,
-        left: &PackedWord,
-        right: &PackedWord,
+        matched: &Matched,
     ) -> bool
         requires some { 0 < self.old.elements }
         requires place { place < length (bank_states self.old.bank) }
-        requires short { IsShort (C.width code.now) point.ip instr.now }
-        requires own { point.frame % self.old.elements ≡ self.old.element }
-        requires there { at < length self.old.queue.items }
+        requires short { IsShort (C.width code.now) arrival.now.point.ip instr.now }
+        requires own { arrival.now.point.frame % self.old.elements ≡ self.old.element }
+        requires there { arrival.now.at < length self.old.queue.items }
         requires few { self.old.made < 2 ^ 63 }
-        requires room { HasRoomInWord left.now }
-        ensures did { result ≡ true → (before : List Token) → FiresAs (fire_two (C.program code.now) (point_of point) (instr_of instr.now) instr.now.op left.now right.now) (with_state (part_of self.old) place Empty) (held_in self.old) at before Did (held_in self.new) before }
+        requires room { HasRoomInWord matched.now.left }
+        ensures did { result ≡ true → (before : List Token) → FiresAs (fire_two (C.program code.now) (point_of arrival.now.point) (instr_of instr.now) instr.now.op matched.now.left matched.now.right) (with_state (part_of self.old) place Empty) (held_in self.old) arrival.now.at before Did (held_in self.new) before }
         ensures not { result ≡ false → held_in self.new ≡ held_in self.old }
     {
+        let left = &matched.left;
+        let right = &matched.right;
         match K::passes(instr, left, right) {
-            Some(passed) => self.pass(at, point, Some(place), &passed),
-            None => match K::leave(code, point, instr, left, right) {
-                Some(leaving) => self.pass_out(at, point, place, leaving),
-                None => match K::release(point, instr, left, right) {
-                    Some(after) => self.release(at, place, point.frame, after),
+            Some(passed) => self.pass(arrival.at, arrival.point, Some(place), &passed),
+            None => match K::leave(code, arrival.point, instr, left, right) {
+                Some(leaving) => self.pass_out(arrival.at, arrival.point, place, leaving),
+                None => match K::release(arrival.point, instr, left, right) {
+                    Some(after) => self.release(arrival.at, place, arrival.point.frame, after),
                     None => false,
                 },
             },
@@ -431,50 +440,50 @@ impl<'m, A: Allocator> Contents<'m, A> {
     pub(super) fn read_again<C: Instructions>(
         &mut self,
         code: &C,
-        at: usize,
         token: &Token,
-        point: Point,
-        port: Port,
+        arrival: &Arrival,
         sent: &mut Vec<Token, A>,
     ) -> Stepped
-        requires can { CanAct (C.program code.now) (C.width code.now) (held_in self.old) at token.now }
-        requires address { token.now.to ≡ To.Instr point.frame point.ip port }
-        ensures { ActsAs (C.program code.now) (held_in self.old) at token.now sent.old.items result (held_in self.new) sent.new.items }
+        requires can { CanAct (C.program code.now) (C.width code.now) (held_in self.old) arrival.now.at token.now }
+        requires address { token.now.to ≡ To.Instr arrival.now.point.frame arrival.now.point.ip arrival.now.port }
+        ensures { ActsAs (C.program code.now) (held_in self.old) arrival.now.at token.now sent.old.items result (held_in self.new) sent.new.items }
     {
-        let Some(instr) = code.instr(point.ip) else {
+        let Some(instr) = code.instr(arrival.point.ip) else {
             return Stepped::Stuck { rule: 1 };
         };
-        self.at_any(code, at, token, point, instr, port, sent)
+        self.at_any(code, token, arrival, &instr, sent)
     }
 
     // Any instruction that was read.
     fn at_any<C: Instructions>(
         &mut self,
         code: &C,
-        at: usize,
         token: &Token,
-        point: Point,
-        instr: Instruction,
-        port: Port,
+        arrival: &Arrival,
+        instr: &Instruction,
         sent: &mut Vec<Token, A>,
     ) -> Stepped
-        requires can { CanAct (C.program code.now) (C.width code.now) (held_in self.old) at token.now }
-        requires address { token.now.to ≡ To.Instr point.frame point.ip port }
-        requires found { instr_at (C.program code.now) point.ip ≡ Some (instr_of instr) }
-        requires short { IsShort (C.width code.now) point.ip instr }
-        ensures { ActsAs (C.program code.now) (held_in self.old) at token.now sent.old.items result (held_in self.new) sent.new.items }
+        requires can { CanAct (C.program code.now) (C.width code.now) (held_in self.old) arrival.now.at token.now }
+        requires address { token.now.to ≡ To.Instr arrival.now.point.frame arrival.now.point.ip arrival.now.port }
+        requires found { instr_at (C.program code.now) arrival.now.point.ip ≡ Some (instr_of instr.now) }
+        requires short { IsShort (C.width code.now) arrival.now.point.ip instr.now }
+        ensures { ActsAs (C.program code.now) (held_in self.old) arrival.now.at token.now sent.old.items result (held_in self.new) sent.new.items }
     {
-        let slot = self.slot_of(point.frame, &instr);
+        let slot = self.slot_of(arrival.point.frame, instr);
+        let operand = Operand {
+            port: arrival.port,
+            word: token.word,
+        };
         let mut made = NONE;
-        match fire(code, point, &instr, slot, port, token.word, &mut made) {
+        match fire(code, arrival.point, instr, slot, operand, &mut made) {
             Outcome::Excluded { rule } => Stepped::Stuck { rule },
             Outcome::Becomes { slot } => {
                 if self.make_room(4, sent).is_err() {
                     return Stepped::Memory;
                 }
-                self.keep(point.frame, &instr, slot);
-                self.take(at);
-                self.send_all(point, &made, sent);
+                self.keep(arrival.point.frame, instr, slot);
+                self.take(arrival.at);
+                self.send_all(arrival.point, &made, sent);
                 Stepped::Did
             }
         }

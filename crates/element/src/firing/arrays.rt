@@ -12,6 +12,13 @@ use crate::instructions::{Instruction, Instructions};
 use tags::token::{To, Token, Word};
 use tags::value::{FaultKind, Origin, Value};
 
+/// An element of an array, as an instruction names it.
+#[derive(Clone, Copy, Debug, PartialEq, Eq)]
+pub struct Element {
+    pub array: u8,
+    pub index: Value,
+}
+
 /// What an index names in an array.
 #[derive(Clone, Copy, Debug, PartialEq, Eq)]
 pub enum Indexed {
@@ -46,15 +53,14 @@ pub(super) fn asks_for<C: Instructions>(
     code: &C,
     point: Point,
     instr: &Instruction,
-    array: u8,
-    index: Value,
+    element: Element,
     made: &mut Made,
 )
     requires short { IsShort (C.width code.now) point.ip instr.now }
-    ensures { tokens_of (point_of point) made.new ≡ Rule.asks_for (C.program code.now) (point_of point) (instr_of instr.now) array (Values.index_in (Rule.array_len (C.program code.now) array) index (origin_in instr.now.origin)) }
+    ensures { tokens_of (point_of point) made.new ≡ Rule.asks_for (C.program code.now) (point_of point) (instr_of instr.now) element.array (Values.index_in (Rule.array_len (C.program code.now) element.array) element.index (origin_in instr.now.origin)) }
 {
-    let cells = code.array(array);
-    match index_in(cells.len, index, instr.origin()) {
+    let cells = code.array(element.array);
+    match index_in(cells.len, element.index, instr.origin()) {
         Indexed::Place(place) => one(
             Token {
                 to: To::Fetch {
@@ -74,16 +80,15 @@ pub(super) fn puts<C: Instructions>(
     code: &C,
     point: Point,
     instr: &Instruction,
-    array: u8,
-    index: Value,
+    element: Element,
     value: Value,
     made: &mut Made,
 )
     requires short { IsShort (C.width code.now) point.ip instr.now }
-    ensures { tokens_of (point_of point) made.new ≡ Rule.puts (C.program code.now) (point_of point) (instr_of instr.now) array value (Values.index_in (Rule.array_len (C.program code.now) array) index (origin_in instr.now.origin)) }
+    ensures { tokens_of (point_of point) made.new ≡ Rule.puts (C.program code.now) (point_of point) (instr_of instr.now) element.array value (Values.index_in (Rule.array_len (C.program code.now) element.array) element.index (origin_in instr.now.origin)) }
 {
-    let cells = code.array(array);
-    match index_in(cells.len, index, instr.origin()) {
+    let cells = code.array(element.array);
+    match index_in(cells.len, element.index, instr.origin()) {
         Indexed::Place(place) => one(
             Token {
                 to: To::Store {

@@ -8,16 +8,17 @@ ghost use Rattle.semantics.specs.Rule as Rule;
 ghost use Rattle.element.specs.Decoded.{instr_of, dest_in, IsShort};
 ghost use Rattle.element.specs.Fired.{point_of, tokens_of, fired_by};
 
-use super::arrays::asks_for;
+use super::arrays::{Element, asks_for};
 use super::continuations::{answer_to, landing_at};
 use super::made::{Made, Point, SIGNAL, one, to_all, to_second};
+use super::outcomes::Firing;
 use crate::instructions::{Instruction, Instructions};
 use operators::{apply1, apply2_at};
 use semantics::program::Op;
 use tags::token::{FrameId, Port, To, Token, Word};
 use tags::value::Value;
 
-/// What an instruction with one input makes of its word; false where the word is of a wrong kind.
+/// What an instruction with one input makes of its word.
 #[inline(always)]
 pub(super) fn fire_one<C: Instructions>(
     code: &C,
@@ -25,7 +26,7 @@ pub(super) fn fire_one<C: Instructions>(
     instr: &Instruction,
     word: Word,
     made: &mut Made,
-) -> bool
+) -> Firing
     requires short { IsShort (C.width code.now) point.ip instr.now }
     ensures { fired_by result (tokens_of (point_of point) made.new) ≡ Rule.fire_one (C.program code.now) (point_of point) (instr_of instr.now) instr.now.op word }
 {
@@ -40,24 +41,24 @@ pub(super) fn fire_one<C: Instructions>(
         (Op::Lit { literal }, _) => Value::Int(literal),
         (Op::Copy, _) => {
             to_all(point, word, instr, made);
-            return true;
+            return Firing::Fired;
         }
         (Op::Fetch { array }, Word::Val(index)) => {
-            asks_for(code, point, instr, array, index, made);
-            return true;
+            asks_for(code, point, instr, Element { array, index }, made);
+            return Firing::Fired;
         }
         (Op::Frame, _) => {
             one(frame_request(point, instr), made);
-            return true;
+            return Firing::Fired;
         }
         (Op::Link { block }, Word::Frame(frame)) => {
             link(code.entry(block), frame, point, instr, made);
-            return true;
+            return Firing::Fired;
         }
-        _ => return false,
+        _ => return Firing::WrongKind,
     };
     to_all(point, Word::Val(value), instr, made);
-    true
+    Firing::Fired
 }
 
 /// The request for a frame.

@@ -20,14 +20,22 @@ pub enum Outcome {
     Excluded { rule: u8 },
 }
 
+/// Whether an instruction fired on its words.
+#[derive(Clone, Copy, Debug, PartialEq, Eq)]
+pub enum Firing {
+    /// It did, and made tokens.
+    Fired,
+    /// A word is of a wrong kind.
+    WrongKind,
+}
+
 // The slot changes where the instruction fired.
-pub(super) fn fires(slot: SlotState, fired: bool) -> Outcome
-    ensures { (made : List Token) → outcome_by result made ≡ Rule.fires slot (fired_by fired made) }
+pub(super) fn fires(slot: SlotState, firing: Firing) -> Outcome
+    ensures { (made : List Token) → outcome_by result made ≡ Rule.fires slot (fired_by firing made) }
 {
-    if fired {
-        Outcome::Becomes { slot }
-    } else {
-        Outcome::Excluded { rule: 4 }
+    match firing {
+        Firing::Fired => Outcome::Becomes { slot },
+        Firing::WrongKind => Outcome::Excluded { rule: 4 },
     }
 }
 

@@ -9,10 +9,11 @@ ghost use Rattle.element.specs.Fired.{point_of, tokens_of, fired_by, outcome_by,
 ghost use Rattle.semantics.specs.Program.{Program, Instr};
 ghost use Rattle.element.specs.Outcomes.{MeetingIs, LeftHasRoom};
 
-use super::arrays::puts;
+use super::Operand;
+use super::arrays::{Element, puts};
 use super::continuations::{answer_to, beyond};
 use super::made::{Made, Point, SIGNAL, and_signals, one, to_all};
-use super::outcomes::{Outcome, becomes, excluded, fires};
+use super::outcomes::{Firing, Outcome, becomes, excluded, fires};
 use crate::instructions::{Instruction, Instructions};
 use frame_store::slot::Slot;
 use operators::{apply2_at, truth};
@@ -71,16 +72,16 @@ pub(super) fn meets<C: Instructions>(
     point: Point,
     instr: &Instruction,
     slot: SlotState,
-    port: Port,
-    word: Word,
+    operand: Operand,
     made: &mut Made,
 ) -> Outcome
     requires short { IsShort (C.width code.now) point.ip instr.now }
     requires slot_room { HasRoomInSlot slot }
-    requires word_room { HasRoomInWord word }
-    ensures { outcome_by result (tokens_of (point_of point) made.new) ≡ Rule.meets (C.program code.now) (point_of point) (instr_of instr.now) slot port word }
+    requires word_room { HasRoomInWord operand.word }
+    ensures { outcome_by result (tokens_of (point_of point) made.new) ≡ Rule.meets (C.program code.now) (point_of point) (instr_of instr.now) slot operand.port operand.word }
 {
-    match (slot, port) {
+    let word = operand.word;
+    match (slot, operand.port) {
         (SlotState::Empty, Port::Left) => becomes(SlotState::Left(word), made),
         (SlotState::Empty, Port::Right) => becomes(SlotState::Right(word), made),
         (SlotState::Left(left), Port::Right) => {
@@ -95,7 +96,7 @@ pub(super) fn meets<C: Instructions>(
     }
 }
 
-/// What an instruction with two inputs makes of its words; false where one is of a wrong kind.
+/// What an instruction with two inputs makes of its words.
 #[inline(always)]
 pub fn fire_two<C: Instructions>(
     code: &C,
@@ -104,7 +105,7 @@ pub fn fire_two<C: Instructions>(
     left: Word,
     right: Word,
     made: &mut Made,
-) -> bool
+) -> Firing
     requires short { IsShort (C.width code.now) point.ip instr.now }
     requires room { HasRoomInWord left }
     ensures { fired_by result (tokens_of (point_of point) made.new) ≡ Rule.fire_two (C.program code.now) (point_of point) (instr_of instr.now) instr.now.op left right }
@@ -113,41 +114,41 @@ pub fn fire_two<C: Instructions>(
         (Op::Apply2 { op }, Word::Val(x), Word::Val(y)) => {
             let value = apply2_at(op, x, y, instr.origin());
             to_all(point, Word::Val(value), instr, made);
-            true
+            Firing::Fired
         }
         (Op::Sync, _, _) => {
             to_all(point, SIGNAL, instr, made);
-            true
+            Firing::Fired
         }
         (Op::Switch, _, Word::Val(value)) => {
             choose(truth(value), point, left, instr, made);
-            true
+            Firing::Fired
         }
         (Op::Store { array }, Word::Val(index), Word::Val(value)) => {
-            puts(code, point, instr, array, index, value, made);
-            true
+            puts(code, point, instr, Element { array, index }, value, made);
+            Firing::Fired
         }
         (Op::Send { block, entry }, Word::Frame(frame), _) => {
             let to = left_of(frame, entry_at(code.entry(block), entry));
             and_signals(Token { to, word: right }, point, instr, made);
-            true
+            Firing::Fired
         }
         (Op::Return { offset }, Word::Back(cont), Word::Val(_)) => {
             let to = beyond(cont, offset);
             and_signals(Token { to, word: right }, point, instr, made);
-            true
+            Firing::Fired
         }
         (Op::Ask { offset }, Word::Back(cont), _) => {
             let to = beyond(cont, offset);
             let word = Word::Back(answer_to(point, instr));
             one(Token { to, word }, made);
-            true
+            Firing::Fired
         }
         (Op::Release { offset }, Word::Back(cont), _) => {
             released(beyond(cont, offset), point.frame, made);
-            true
+            Firing::Fired
         }
-        _ => false,
+        _ => Firing::WrongKind,
     }
 }
 

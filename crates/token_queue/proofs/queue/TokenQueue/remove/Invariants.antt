@@ -1,5 +1,5 @@
 use Rattle.std.proofs.Common.{◌≡◌, length}
-use Rattle.token_queue.specs.Ring.{ring}
+use Rattle.token_queue.specs.Ring.{held}
 use Rattle.token_queue.proofs.Rings.{closing}
 use Rattle.token_queue.proofs.queue.TokenQueue.remove.Given as goal
 
@@ -8,6 +8,6 @@ invariant-loop-before g l = record {
   places : length l.self-inside.places.items ≡ length l.initial.self-inside.places.items;
   mask : l.self-inside.mask ≡ l.initial.self-inside.mask;
   head : l.self-inside.head ≡ l.initial.self-inside.head;
-  count : l.self-inside.count ≡ l.initial.self-inside.count;
-  items : ring l.self-inside.head l.self-inside.count l.self-inside.places.items ≡ closing l.fn.self.items l.at l.before;
+  tail : l.self-inside.tail ≡ l.initial.self-inside.tail;
+  items : held l.initial.self-inside.head l.initial.self-inside.tail l.self-inside.places.items ≡ closing l.fn.self.items l.at l.before;
 }
