@@ -20,6 +20,7 @@ use Rattle.driver.specs.Headline.{ReportsQuietly}
 use Rattle.driver.specs.ListedEvents.{ListsEvents, IsWatched, HasBooks}
 use Rattle.driver.specs.Refused.{IsGoodText, IsReady, IsRefused, IsRefusedMeaning}
 use Rattle.outcomes.specs.declared.refusal.Refusal.{Refusal}
+use Rattle.commands.specs.declared.profiling.ProfileFormat.{ProfileFormat}
 use Rattle.commands.specs.Input.{integers_of}
 use Rattle.commands.specs.Refusals.{refused_as}
 use Rattle.commands.specs.Feed.{IsFeed, IsNoFeed}
@@ -40,9 +41,10 @@ no_order : (text : List ℕ) (z : Result (List ℤ) ℕ) (o : RunOptions) (count
 no_order text z o count f (inl memory) = inl memory
 no_order text z o count f (inr bad) = inr (subst (λ (y : Result (List ℤ) ℕ). WhyNoOrder y text o count f) (sym bad.1) bad.2)
 
-no_profile : (text : List ℕ) (z : Result (List ℤ) ℕ) (o : RunOptions) (s : Sizes) (svg : Bool) (f : Refusal) → (f ≡ Refusal.Memory) ⊎ Bad text z f → (f ≡ Refusal.Memory) ⊎ WhyNoProfile z text o s svg f
-no_profile text z o s svg f (inl memory) = inl memory
-no_profile text z o s svg f (inr bad) = inr (subst (λ (y : Result (List ℤ) ℕ). WhyNoProfile y text o s svg f) (sym bad.1) bad.2)
+no_profile : (text : List ℕ) (z : Result (List ℤ) ℕ) (o : RunOptions) (s : Sizes) (format : ProfileFormat) (f : Refusal)
+    → (f ≡ Refusal.Memory) ⊎ Bad text z f → (f ≡ Refusal.Memory) ⊎ WhyNoProfile z text o s format f
+no_profile text z o s format f (inl memory) = inl memory
+no_profile text z o s format f (inr bad) = inr (subst (λ (y : Result (List ℤ) ℕ). WhyNoProfile y text o s format f) (sym bad.1) bad.2)
 
 module _ (input : List ℕ) (f : Refusal) (none : IsNoFeed input f) where
   pub not_run : (o : RunOptions) → IsNoRunOf input o f
@@ -51,8 +53,8 @@ module _ (input : List ℕ) (f : Refusal) (none : IsNoFeed input f) where
   pub not_ordered : (o : RunOptions) (count : ℕ) → IsNoOrderOf input o count f
   not_ordered o count = record { parts = none.parts; why = no_order none.parts.text (integers_of none.parts.lines) o count f none.why }
 
-  pub not_profiled : (o : RunOptions) (s : Sizes) (svg : Bool) → IsNoProfileOf input o s svg f
-  not_profiled o s svg = record { parts = none.parts; why = no_profile none.parts.text (integers_of none.parts.lines) o s svg f none.why }
+  pub not_profiled : (o : RunOptions) (s : Sizes) (format : ProfileFormat) → IsNoProfileOf input o s format f
+  not_profiled o s format = record { parts = none.parts; why = no_profile none.parts.text (integers_of none.parts.lines) o s format f none.why }
 
 -- why options are refused where they are read last
 abbrev pub IsRefusedOption : List ℕ → List ℤ → Config → Refusal → Type 0
@@ -79,9 +81,13 @@ module _ (input text : List ℕ) (inputs : List ℤ) (feed : IsFeed input text i
   unfolding parts
   stopped_order o count f why = record { parts = parts; why = inr (subst (λ (z : Result (List ℤ) ℕ). WhyNoOrder z text o count f) (sym feed.integers) why) }
 
-  stopped_profile : (o : RunOptions) (s : Sizes) (svg : Bool) (f : Refusal) → WhyNoProfile (Ok inputs) text o s svg f → IsNoProfileOf input o s svg f
+  stopped_profile : (o : RunOptions) (s : Sizes) (format : ProfileFormat) (f : Refusal)
+      → WhyNoProfile (Ok inputs) text o s format f → IsNoProfileOf input o s format f
   unfolding parts
-  stopped_profile o s svg f why = record { parts = parts; why = inr (subst (λ (z : Result (List ℤ) ℕ). WhyNoProfile z text o s svg f) (sym feed.integers) why) }
+  stopped_profile o s format f why = record {
+    parts = parts;
+    why = inr (subst (λ (z : Result (List ℤ) ℕ). WhyNoProfile z text o s format f) (sym feed.integers) why);
+  }
 
   -- RUN AND TRACE
   pub run_of : (o : RunOptions) (g : Graph) (r : Report) (mode : Mode) → o.mode ≡ Some mode → (c : Config) → c ≡ config_of o
@@ -139,17 +145,28 @@ module _ (input text : List ℕ) (inputs : List ℤ) (feed : IsFeed input text i
       stopped_order o count f (no_count_of text inputs o count f (subst (λ (d : Config). IsGood d → count ≡ 0) same none) (subst (λ (d : Config). IsRefusedOption text inputs d f) same why))
 
   -- PROFILE
-  pub waves_refused : (o : RunOptions) (s : Sizes) (svg : Bool) (fault : Fault) → IsRefusedMeaning text inputs fault → (f : Refusal) → f ≡ refused_as fault → IsNoProfileOf input o s svg f
-  waves_refused o s svg fault refused f reported = stopped_profile o s svg f (inl (fault, refused, reported))
+  pub waves_refused : (o : RunOptions) (s : Sizes) (format : ProfileFormat) (fault : Fault) → IsRefusedMeaning text inputs fault
+      → (f : Refusal) → f ≡ refused_as fault → IsNoProfileOf input o s format f
+  waves_refused o s format fault refused f reported = stopped_profile o s format f (inl (fault, refused, reported))
 
-  pub no_room_for_profile : (o : RunOptions) (s : Sizes) (svg : Bool) (f : Refusal) → f ≡ Refusal.Memory → IsNoProfileOf input o s svg f
-  no_room_for_profile o s svg f memory = record { parts = parts; why = inl memory }
+  pub no_room_for_profile : (o : RunOptions) (s : Sizes) (format : ProfileFormat) (f : Refusal) → f ≡ Refusal.Memory → IsNoProfileOf input o s format f
+  no_room_for_profile o s format f memory = record { parts = parts; why = inl memory }
 
-  pub rows_refused : (o : RunOptions) (s : Sizes) (svg : Bool) (g : Graph) (e : MeanEnd) (counts : List ℕ) → IsGoodText text g → AreWavesOf g inputs o.steps e counts
-      → (f : Refusal) → (f ≡ Refusal.Memory) ⊎ ((svg ≡ false) × IsNoRow text inputs o s f) → IsNoProfileOf input o s svg f
-  rows_refused o s svg g e counts good waves f (inl memory) = no_room_for_profile o s svg f memory
-  rows_refused o s svg g e counts good waves f (inr none) = stopped_profile o s svg f (inr ((g, e, counts, good, waves), none.0, none.1))
+  pub rows_refused : (o : RunOptions) (s : Sizes) (format : ProfileFormat) (g : Graph) (e : MeanEnd) (counts : List ℕ)
+      → IsGoodText text g → AreWavesOf g inputs o.steps e counts
+      → (f : Refusal) → (f ≡ Refusal.Memory) ⊎ ((format ≡ ProfileFormat.Lines) × IsNoRow text inputs o s f) → IsNoProfileOf input o s format f
+  rows_refused o s format g e counts good waves f (inl memory) = no_room_for_profile o s format f memory
+  rows_refused o s format g e counts good waves f (inr none) = stopped_profile o s format f (inr ((g, e, counts, good, waves), none.0, none.1))
 
-  pub profile_of : (o : RunOptions) (s : Sizes) (svg : Bool) (g : Graph) (e : MeanEnd) (counts : List ℕ) (rows : List MachineRow) → IsGoodText text g → AreWavesOf g inputs o.steps e counts → wave_counts g inputs o.steps ≡ Some (e, counts)
-      → (svg ≡ false → AreRows text inputs o (sizes_below s 64) rows) → IsProfileOf input o s svg g e counts rows
-  profile_of o s svg g e counts rows good waves reported machine = record { text = text; inputs = inputs; feed = feed; good = good; waves = waves; reported = reported; machine = machine }
+  pub profile_of : (o : RunOptions) (s : Sizes) (format : ProfileFormat) (g : Graph) (e : MeanEnd) (counts : List ℕ) (rows : List MachineRow)
+      → IsGoodText text g → AreWavesOf g inputs o.steps e counts → wave_counts g inputs o.steps ≡ Some (e, counts)
+      → (format ≡ ProfileFormat.Lines → AreRows text inputs o (sizes_below s 64) rows) → IsProfileOf input o s format g e counts rows
+  profile_of o s format g e counts rows good waves reported machine = record {
+    text = text;
+    inputs = inputs;
+    feed = feed;
+    good = good;
+    waves = waves;
+    reported = reported;
+    machine = machine;
+  }

@@ -1,6 +1,7 @@
 -- Rows, one after the other.
+use Rattle.std.proofs.Common.{◌⊎◌, inl, inr}
 use Rattle.std.proofs.Common.{◌≡◌, ℕ, suc, ◌+◌, ◌∷◌, [], ◌++◌, ℤ, Bool, true, false, List, refl, sym, ap, ◌∙◌, subst, append-nil, add-one, arith, ◌≤◌}
-use Rattle.std.specs.Prelude.{if◌then◌else◌}
+use Rattle.std.specs.Prelude.{if◌then◌else◌, Result, Ok, Err, MatchResult}
 use Rattle.profile_text.specs.declared.lines.MachineRow.{MachineRow}
 use Rattle.command_line.specs.declared.RunOptions.{RunOptions}
 use Rattle.command_line.specs.declared.sizes.Sizes.{Sizes}
@@ -72,3 +73,11 @@ no_row_of text inputs o z g good chosen fault large f reported = record {
   rows = [];
   earlier = subst (λ (ns : List ℕ). AreRows text inputs o ns []) (sym chosen.3) tt;
 }
+
+-- what lines have, where they are asked for
+pub rows_in_lines : {V : Type 0} (result : Result V Refusal) (Lines : Type 0) → Lines → (Rows : V → Type 0) (NoRow : Refusal → Type 0)
+    → MatchResult result Rows (λ f. (f ≡ Refusal.Memory) ⊎ NoRow f)
+    → MatchResult result (λ v. Lines → Rows v) (λ f. (f ≡ Refusal.Memory) ⊎ (Lines × NoRow f))
+rows_in_lines (Ok v) Lines asked Rows NoRow rows = λ _. rows
+rows_in_lines (Err f) Lines asked Rows NoRow (inl memory) = inl memory
+rows_in_lines (Err f) Lines asked Rows NoRow (inr none) = inr (asked, none)

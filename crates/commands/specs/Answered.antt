@@ -16,7 +16,7 @@ use Rattle.commands.specs.Assembled.{PrintsAssembled}
 use Rattle.commands.specs.Lowered.{PrintsLowered}
 use Rattle.commands.specs.Agreed.{PrintsOrders}
 use Rattle.commands.specs.Traced.{PrintsTrace}
-use Rattle.commands.specs.Profiled.{PrintsProfile}
+use Rattle.commands.specs.Profiled.{format_of, PrintsProfile}
 use Rattle.commands.specs.Refusals.{unread_as}
 use Rattle.commands.specs.Served.{Prints, Refuses, PrintsCheck, PrintsObject, PrintsRun, PrintsOf, PrintsMeaning, PrintsDot, PrintsExec}
 
@@ -34,7 +34,7 @@ Answers result old new input (Request.Exec o ins) = PrintsExec result old new in
 Answers result old new input Request.Asm = PrintsAssembled result old new input
 Answers result old new input (Request.Orders o count seed) = PrintsOrders result old new input o count seed
 Answers result old new input (Request.Trace o last format) = PrintsTrace result old new input o last format
-Answers result old new input (Request.Profile o sizes svg) = PrintsProfile result old new input o sizes svg
+Answers result old new input (Request.Profile o sizes svg) = PrintsProfile result old new input o sizes (format_of svg)
 Answers result old new input (Request.Lower Lowering.Graph) = PrintsLowered graph_and_inputs result old new input
 Answers result old new input (Request.Lower Lowering.Map) = PrintsLowered map_of result old new input
 

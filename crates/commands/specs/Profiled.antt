@@ -19,6 +19,7 @@ use Rattle.driver.specs.ListedEvents.{IsWatched}
 use Rattle.driver.specs.Objects.{RunsObject}
 use Rattle.driver.specs.Orders.{RunsByRounds}
 use Rattle.driver.specs.Refused.{IsGoodText, IsRefused, IsRefusedMeaning}
+use Rattle.commands.specs.declared.profiling.ProfileFormat.{ProfileFormat}
 use Rattle.commands.specs.declared.profiling.Quantity.{Quantity}
 use Rattle.outcomes.specs.declared.refusal.Refusal.{Refusal}
 use Rattle.commands.specs.Input.{integers_of}
@@ -80,7 +81,8 @@ pub record IsNoRow (text : List ℕ) (inputs : List ℤ) (o : RunOptions) (z : S
 
 -- The waves of the graph that the input has, on the integers that follow it, and how they end; and a row for each number of elements in
 -- the set. A picture has no rows.
-pub record IsProfileOf (input : List ℕ) (o : RunOptions) (z : Sizes) (svg : Bool) (g : Graph) (end : MeanEnd) (counts : List ℕ) (rows : List MachineRow) : Type 0 where
+pub record IsProfileOf (input : List ℕ) (o : RunOptions) (z : Sizes) (format : ProfileFormat) (g : Graph) (end : MeanEnd)
+    (counts : List ℕ) (rows : List MachineRow) : Type 0 where
   pub text : List ℕ
   pub inputs : List ℤ
   pub feed : IsFeed input text inputs
@@ -88,31 +90,37 @@ pub record IsProfileOf (input : List ℕ) (o : RunOptions) (z : Sizes) (svg : Bo
   pub waves : AreWavesOf g inputs o.steps end counts
   -- and they are the ones that the definition gives, which finds all that is enabled and then does it
   pub reported : wave_counts g inputs o.steps ≡ Some (end, counts)
-  pub machine : svg ≡ false → AreRows text inputs o (sizes_below z 64) rows
+  pub machine : format ≡ ProfileFormat.Lines → AreRows text inputs o (sizes_below z 64) rows
 
 -- Why there is no profile: the first cause in the order of the work.
-abbrev pub WhyNoProfile : Result (List ℤ) ℕ → List ℕ → RunOptions → Sizes → Bool → Refusal → Type 0
-WhyNoProfile (Ok inputs) text o z svg f =
+abbrev pub WhyNoProfile : Result (List ℤ) ℕ → List ℕ → RunOptions → Sizes → ProfileFormat → Refusal → Type 0
+WhyNoProfile (Ok inputs) text o z format f =
     IsReportedAs (IsRefusedMeaning text inputs) f
-    ⊎ (((g : Graph) × (end : MeanEnd) × (counts : List ℕ) × IsGoodText text g × AreWavesOf g inputs o.steps end counts) × (svg ≡ false) × IsNoRow text inputs o z f)
-WhyNoProfile (Err n) text o z svg f = IsRefusedLine text n f
+    ⊎ (((g : Graph) × (end : MeanEnd) × (counts : List ℕ) × IsGoodText text g × AreWavesOf g inputs o.steps end counts)
+    × (format ≡ ProfileFormat.Lines) × IsNoRow text inputs o z f)
+WhyNoProfile (Err n) text o z format f = IsRefusedLine text n f
 
-pub record IsNoProfileOf (input : List ℕ) (o : RunOptions) (z : Sizes) (svg : Bool) (f : Refusal) : Type 0 where
+pub record IsNoProfileOf (input : List ℕ) (o : RunOptions) (z : Sizes) (format : ProfileFormat) (f : Refusal) : Type 0 where
   pub parts : Parts input
-  pub why : (f ≡ Refusal.Memory) ⊎ WhyNoProfile (integers_of parts.lines) parts.text o z svg f
+  pub why : (f ≡ Refusal.Memory) ⊎ WhyNoProfile (integers_of parts.lines) parts.text o z format f
 
-abbrev pub text_of : Bool → Graph → MeanEnd → List ℕ → List MachineRow → List ℕ
-text_of true g end counts rows = svg_text counts
-text_of false g end counts rows = profile_text g.arrays counts rows end
+-- what the option `--svg` asks for
+abbrev pub format_of : Bool → ProfileFormat
+format_of true = ProfileFormat.Picture
+format_of false = ProfileFormat.Lines
+
+abbrev pub text_of : ProfileFormat → Graph → MeanEnd → List ℕ → List MachineRow → List ℕ
+text_of ProfileFormat.Lines g end counts rows = profile_text g.arrays counts rows end
+text_of ProfileFormat.Picture g end counts rows = svg_text counts
 
 -- the outcome: a picture does not report how the meaning ended
-abbrev pub profiled : Bool → MeanEnd → Outcome
-profiled true end = Outcome.Drawn (Ending.Meaning end)
-profiled false end = Outcome.Reported (Ending.Meaning end)
+abbrev pub profiled : ProfileFormat → MeanEnd → Outcome
+profiled ProfileFormat.Lines end = Outcome.Reported (Ending.Meaning end)
+profiled ProfileFormat.Picture end = Outcome.Drawn (Ending.Meaning end)
 
 -- THE COMMAND
-abbrev pub PrintsProfile : {E : Type 0} → Result Outcome E → Option (List ℕ) → Option (List ℕ) → List ℕ → RunOptions → Sizes → Bool → Type 0
-PrintsProfile result old new input o z svg =
-    ((g : Graph) × (end : MeanEnd) × (counts : List ℕ) × (rows : List MachineRow) × IsProfileOf input o z svg g end counts rows
-    × Prints result old new (text_of svg g end counts rows) (profiled svg end))
-    ⊎ ((f : Refusal) × IsNoProfileOf input o z svg f × Refuses result old new f)
+abbrev pub PrintsProfile : {E : Type 0} → Result Outcome E → Option (List ℕ) → Option (List ℕ) → List ℕ → RunOptions → Sizes → ProfileFormat → Type 0
+PrintsProfile result old new input o z format =
+    ((g : Graph) × (end : MeanEnd) × (counts : List ℕ) × (rows : List MachineRow) × IsProfileOf input o z format g end counts rows
+    × Prints result old new (text_of format g end counts rows) (profiled format end))
+    ⊎ ((f : Refusal) × IsNoProfileOf input o z format f × Refuses result old new f)

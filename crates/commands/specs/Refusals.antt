@@ -103,7 +103,7 @@ cause_text (Refusal.InputLine n) = codes "input line " ++ decimal n
 cause_text (Refusal.Start f) = codes "start " ++ start_word f
 cause_text (Refusal.Object f) = codes "object " ++ object_word f
 cause_text (Refusal.Asm f) = codes "asm " ++ asm_word f.kind ++ codes " line " ++ decimal f.line
-cause_text (Refusal.Program f) = codes "program " ++ program_word f.kind ++ codes " line " ++ decimal f.line ++ codes " column " ++ decimal f.column
+cause_text (Refusal.Program r) = codes "program " ++ program_word r.fault.kind ++ codes " line " ++ decimal r.fault.line ++ codes " column " ++ decimal r.fault.column
 cause_text Refusal.Memory = codes "memory"
 
 abbrev pub refusal_line : Refusal → List ℕ

@@ -23,6 +23,7 @@ use driver::books::books_of;
 use driver::compiling::{Compiled, compile};
 use driver::emulation::emulate_object;
 use driver::fault::Fault;
+use driver::resources::Resources;
 use graph::Graph;
 use html_text::{Part, write_data, write_mark, write_part};
 use object_view::Object;
@@ -67,29 +68,6 @@ fn write_result<'a, A: Allocator, W: Write>(
     write_report(writer, graph, report)
 }
 
-/// Writes the data of the events from number `first` on.
-fn write_run<A: Allocator, W: Write>(
-    writer: &mut W,
-    options: &RunOptions,
-    first: usize,
-    report: &Report<A>,
-    books: &Books<A>,
-) -> io::Result<()>
-    requires elements { options.now.elements ≤ 16 }
-    requires frames { options.now.frames ≤ 1024 }
-    ensures { Sends result (W.contents writer.old) (W.contents writer.new) (part_text ToData ++ data_text options.now.elements (options.now.elements * options.now.frames) first (drop first report.now.events) books.now) }
-{
-    write_part(writer, Part::ToData)?;
-    write_data(
-        writer,
-        options.elements as u32,
-        (options.elements * options.frames) as u32,
-        first as u64,
-        events_from(&report.events, first),
-        books,
-    )
-}
-
 /// A run of the graph of an input, with the books of its events.
 #[derive(Drop)]
 struct Paged<'a, A: Allocator> {
@@ -100,30 +78,53 @@ struct Paged<'a, A: Allocator> {
     books: Books<A>,
 }
 
-/// Writes the page.
-fn write_page<'a, A: Allocator, W: Write>(
+/// Writes the data of the events that are shown.
+fn write_run<A: Allocator, W: Write>(
     writer: &mut W,
-    input: &[u8],
     options: &RunOptions,
-    object: &Object<'_>,
-    graph: &Graph<'a, A>,
-    report: &Report<A>,
-    first: usize,
-    books: &Books<A>,
+    run: &Paged<'_, A>,
 ) -> io::Result<()>
     requires elements { options.now.elements ≤ 16 }
     requires frames { options.now.frames ≤ 1024 }
-    ensures { Sends result (W.contents writer.old) (W.contents writer.new) (page_text input.now options.now first graph.now object.now.bytes report.now books.now) }
+    ensures { Sends result (W.contents writer.old) (W.contents writer.new)
+        (part_text ToData ++ data_text options.now.elements (options.now.elements * options.now.frames) run.now.first
+        (drop run.now.first run.now.report.events) run.now.books) }
 {
+    write_part(writer, Part::ToData)?;
+    let report = &run.report;
+    write_data(
+        writer,
+        options.elements as u32,
+        (options.elements * options.frames) as u32,
+        run.first as u64,
+        events_from(&report.events, run.first),
+        &run.books,
+    )
+}
+
+/// Writes the page.
+fn write_page<A: Allocator, W: Write>(
+    writer: &mut W,
+    input: &[u8],
+    options: &RunOptions,
+    run: &Paged<'_, A>,
+) -> io::Result<()>
+    requires elements { options.now.elements ≤ 16 }
+    requires frames { options.now.frames ≤ 1024 }
+    ensures { Sends result (W.contents writer.old) (W.contents writer.new)
+        (page_text input.now options.now run.now.first run.now.compiled.checked run.now.compiled.object.bytes run.now.report run.now.books) }
+{
+    let object = run.compiled.object.as_object();
     // What the bytes promise: they are the object.
     let _bytes = object.bytes();
     write_source(writer, input)?;
-    write_listing(writer, object)?;
-    write_result(writer, graph, report)?;
-    write_run(writer, options, first, report, books)?;
+    write_listing(writer, &object)?;
+    let report = &run.report;
+    write_result(writer, run.compiled.checked.graph(), report)?;
+    write_run(writer, options, run)?;
     write_part(writer, Part::Script)?;
     let events: &[(u32, Token)] = &report.events;
-    write_mark(writer, events.len().saturating_sub(first))
+    write_mark(writer, events.len().saturating_sub(run.first))
 }
 
 /// A run of a text's graph whose report lists the events.
@@ -135,32 +136,29 @@ struct ReportedRun<'a, A: Allocator> {
 
 /// Compiles the graph of the text, and runs it in the given mode.
 fn list_text<'a, R: Threads + Wait + Sync, A: Allocator + Clone + Send + Sync, G: Gate + Sync>(
-    alloc: A,
+    resources: Resources<'_, A, R, G>,
     text: &'a [u8],
     inputs: &[i64],
     config: Config,
     mode: Mode,
-    rt: &R,
-    gate: &G,
 ) -> Result<ReportedRun<'a, A>, Fault>
     ensures { MatchResult result
         (λ l. ListsEvents mode text.now l.compiled.checked l.compiled.object.bytes inputs.now config G.may_stop l.report)
         (IsRefused text.now inputs.now config) }
 {
-    let compiled = compile(alloc.clone()?, text)?;
+    let compiled = compile(resources.alloc.clone()?, text)?;
     let bytes = compiled.object.bytes();
+    let Resources { alloc, rt, gate } = resources;
     let report = emulate_object(alloc, bytes, inputs, config, mode, rt, gate)?;
     Ok(ReportedRun { compiled, report })
 }
 
 /// Runs the graph of the input on the integers after it, and keeps the books of its events, or of the last ones.
 fn page_input<'a, R: Threads + Wait + Sync, A: Allocator + Clone + Send + Sync, G: Gate + Sync>(
-    alloc: A,
+    resources: Resources<'_, A, R, G>,
     input: &'a [u8],
     options: &RunOptions,
     last: Option<u64>,
-    rt: &R,
-    gate: &G,
 ) -> Result<Paged<'a, A>, Refusal>
     requires { G.may_stop ≡ false }
     ensures page { MatchResult result
@@ -168,18 +166,18 @@ fn page_input<'a, R: Threads + Wait + Sync, A: Allocator + Clone + Send + Sync, 
         (IsNoRunOf input.now options.now) }
     ensures first { IfOk result (λ p. p.first ≡ first_of (length p.report.events) last) }
 {
-    let feed = match read_feed(&alloc, input) {
+    let feed = match read_feed(&resources.alloc, input) {
         Ok(feed) => feed,
         Err(refusal) => return Err(refusal),
     };
     let config = config_of(options);
     let Some(mode) = options.mode else {
-        return Err(option_refusal(alloc, feed.text, &feed.integers, config));
+        return Err(option_refusal(resources.alloc, feed.text, &feed.integers, config));
     };
-    let Ok(room) = alloc.clone() else {
+    let Ok(alloc) = resources.alloc.clone() else {
         return Err(Refusal::Memory);
     };
-    let reported_run = match list_text(room, feed.text, &feed.integers, config, mode, rt, gate) {
+    let reported_run = match list_text(resources, feed.text, &feed.integers, config, mode) {
         Ok(reported_run) => reported_run,
         Err(fault) => return Err(fault_refusal(fault)),
     };
@@ -223,38 +221,21 @@ pub(crate) fn print_page<
     G: Gate + Sync,
     W: Write,
 >(
-    alloc: A,
+    resources: Resources<'_, A, R, G>,
     input: &[u8],
     options: &RunOptions,
     last: Option<u64>,
     writer: &mut W,
-    rt: &R,
-    gate: &G,
 ) -> io::Result<Outcome>
     requires { G.may_stop ≡ false }
     ensures { PrintsPage result (W.contents writer.old) (W.contents writer.new) input.now options.now last }
 {
-    let paged = match page_input(alloc, input, options, last, rt, gate) {
-        Ok(paged) => paged,
+    let run = match page_input(resources, input, options, last) {
+        Ok(run) => run,
         Err(refusal) => return refuse(writer, &refusal),
     };
-    let Paged {
-        compiled,
-        report,
-        first,
-        books,
-    } = paged;
-    match write_page(
-        writer,
-        input,
-        options,
-        &compiled.object.as_object(),
-        compiled.checked.graph(),
-        &report,
-        first,
-        &books,
-    ) {
-        Ok(()) => Ok(shown(&report, first)),
+    match write_page(writer, input, options, &run) {
+        Ok(()) => Ok(shown(&run.report, run.first)),
         Err(fault) => Err(fault),
     }
 }

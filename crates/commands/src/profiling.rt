@@ -8,7 +8,7 @@ ghost use Rattle.sink.specs.Sends.{Sends};
 ghost use Rattle.outcomes.specs.declared.refusal.Refusal.{Refusal as AsRefusal};
 ghost use Rattle.driver.specs.Refused.{IsCompiled, IsGoodText, IsRefused};
 ghost use Rattle.commands.specs.Served.{IsReportedAs};
-ghost use Rattle.commands.specs.Profiled.{AreRows, IsChosen, IsNoProfileOf, IsNoRow, IsProfileOf, IsRow, PrintsProfile, config_with, quantity_in, profiled, sizes_below, text_of};
+ghost use Rattle.commands.specs.Profiled.{AreRows, IsChosen, IsNoProfileOf, IsNoRow, IsProfileOf, IsRow, PrintsProfile, config_with, format_of, quantity_in, profiled, sizes_below, text_of};
 
 use crate::feed::read_feed;
 use crate::refusal::fault_refusal;
@@ -16,6 +16,7 @@ use crate::serving::refuse;
 use command_line::{RunOptions, Sizes};
 use driver::compiling::compile_graph;
 use driver::meaning::{Waved, waves_text};
+use driver::resources::Resources;
 use driver::watching::{WatchedRounds, watch_rounds};
 use graph_check::Checked;
 use loaded::Loaded;
@@ -23,7 +24,7 @@ use oracle::MeanEnd;
 use outcomes::{Ending, Outcome, Refusal};
 use profile_text::{MachineRow, write_profile, write_svg};
 use replay::Moment;
-use rounds::Open;
+use rounds::{Gate, Open};
 use schedule::config::Config;
 use schedule::report::Report;
 use semantics::report::End;
@@ -34,6 +35,26 @@ use std::thread::Threads;
 
 /// How many numbers of elements there may be.
 const SIZES: u64 = 64;
+
+/// What a profile is printed as.
+#[derive(Clone, Copy)]
+pub enum ProfileFormat {
+    /// Lines, with a row for each number of elements.
+    Lines,
+    /// A picture of the waves.
+    Picture,
+}
+
+/// What the option `--svg` asks for.
+pub(crate) fn format_of(svg: bool) -> ProfileFormat
+    ensures { result ≡ format_of svg }
+{
+    if svg {
+        ProfileFormat::Picture
+    } else {
+        ProfileFormat::Lines
+    }
+}
 
 /// What the machine is set to for a row.
 fn config_with(options: &RunOptions, elements: u64) -> Config
@@ -104,21 +125,27 @@ fn wants_memory<A: Allocator>(report: &Report<A>) -> bool
     matches!(report.end, End::Memory)
 }
 
-/// The row of the object's run in rounds on this number of elements. A run that was refused memory has none.
-fn measure<R: Threads + Wait + Sync, A: Allocator + Clone + Send + Sync>(
-    alloc: A,
+/// The row of the object's run in rounds on this number of elements, which asks no gate. A run that was refused memory has none.
+fn measure<R: Threads + Wait + Sync, A: Allocator + Clone + Send + Sync, G: Gate + Sync>(
+    resources: &Resources<'_, A, R, G>,
     code: &Loaded<'_, A>,
     inputs: &[i64],
     options: &RunOptions,
     elements: u64,
-    rt: &R,
 ) -> Result<MachineRow, Refusal>
     ensures { (text : List ℕ) (g : Graph) → IsCompiled text g code.now.bytes → MatchResult result (IsRow text inputs.now options.now elements) (IsReportedAs (IsRefused text inputs.now (config_with options.now elements))) }
 {
     let config = config_with(options, elements);
-    let WatchedRounds { watched, rounds } = match watch_rounds(
-        alloc, code, inputs, config, rt, &Open,
-    ) {
+    let Ok(alloc) = resources.alloc.clone() else {
+        return Err(Refusal::Memory);
+    };
+    let rt = resources.rt;
+    let ungated = Resources {
+        alloc,
+        rt,
+        gate: &Open,
+    };
+    let WatchedRounds { watched, rounds } = match watch_rounds(ungated, code, inputs, config) {
         Ok(counted) => counted,
         Err(fault) => return Err(fault_refusal(fault)),
     };
@@ -129,28 +156,24 @@ fn measure<R: Threads + Wait + Sync, A: Allocator + Clone + Send + Sync>(
 }
 
 /// A row of the object for each number of elements, in order.
-fn rows_of<R: Threads + Wait + Sync, A: Allocator + Clone + Send + Sync>(
-    alloc: A,
+fn rows_of<R: Threads + Wait + Sync, A: Allocator + Clone + Send + Sync, G: Gate + Sync>(
+    resources: &Resources<'_, A, R, G>,
     code: &Loaded<'_, A>,
     inputs: &[i64],
     options: &RunOptions,
     sizes: Sizes,
-    rt: &R,
 ) -> Result<Vec<MachineRow, A>, Refusal>
     ensures { (text : List ℕ) (g : Graph) → IsCompiled text g code.now.bytes → MatchResult result
         (λ v. AreRows text inputs.now options.now (sizes_below sizes 64) v.items)
         (λ f. (f ≡ AsRefusal.Memory) ⊎ IsNoRow text inputs.now options.now sizes f) }
 {
-    let Ok(room) = alloc.clone() else {
+    let Ok(room) = resources.alloc.clone() else {
         return Err(Refusal::Memory);
     };
     let mut rows = Vec::new(room);
     for elements in 0..SIZES {
         if sizes.has(elements) {
-            let Ok(room) = alloc.clone() else {
-                return Err(Refusal::Memory);
-            };
-            let row = match measure(room, code, inputs, options, elements, rt) {
+            let row = match measure(resources, code, inputs, options, elements) {
                 Ok(row) => row,
                 Err(refusal) => return Err(refusal),
             };
@@ -176,57 +199,55 @@ fn has_none(sizes: Sizes) -> bool
 }
 
 /// Compiles the graph, and makes a row for each number of elements, in order. Where there is no number, nothing is compiled.
-fn rows_of_graph<'a, R: Threads + Wait + Sync, A: Allocator + Clone + Send + Sync>(
-    alloc: A,
+fn rows_of_graph<'a, R: Threads + Wait + Sync, A: Allocator + Clone + Send + Sync, G: Gate + Sync>(
+    resources: &Resources<'_, A, R, G>,
     checked: &Checked<'a, A>,
     inputs: &[i64],
     options: &RunOptions,
     sizes: Sizes,
-    rt: &R,
 ) -> Result<Vec<MachineRow, A>, Refusal>
     ensures { (text : List ℕ) → IsGoodText text checked.now → MatchResult result
         (λ v. AreRows text inputs.now options.now (sizes_below sizes 64) v.items)
         (λ f. (f ≡ AsRefusal.Memory) ⊎ IsNoRow text inputs.now options.now sizes f) }
 {
-    if has_none(sizes) {
-        return Ok(Vec::new(alloc));
-    }
-    let Ok(room) = alloc.clone() else {
+    let Ok(room) = resources.alloc.clone() else {
         return Err(Refusal::Memory);
     };
+    if has_none(sizes) {
+        return Ok(Vec::new(room));
+    }
     let object = match compile_graph(room, checked) {
         Ok(object) => object,
         Err(fault) => return Err(fault_refusal(fault)),
     };
-    let Ok(room) = alloc.clone() else {
+    let Ok(room) = resources.alloc.clone() else {
         return Err(Refusal::Memory);
     };
     let Ok(code) = Loaded::new(room, object.as_object()) else {
         return Err(Refusal::Memory);
     };
-    rows_of(alloc, &code, inputs, options, sizes, rt)
+    rows_of(resources, &code, inputs, options, sizes)
 }
 
 /// The rows that are printed: none with a picture.
-fn rows_beside<'a, R: Threads + Wait + Sync, A: Allocator + Clone + Send + Sync>(
-    alloc: A,
+fn rows_beside<'a, R: Threads + Wait + Sync, A: Allocator + Clone + Send + Sync, G: Gate + Sync>(
+    resources: &Resources<'_, A, R, G>,
     checked: &Checked<'a, A>,
     inputs: &[i64],
     options: &RunOptions,
     sizes: Sizes,
-    svg: bool,
-    rt: &R,
+    format: ProfileFormat,
 ) -> Result<Vec<MachineRow, A>, Refusal>
     ensures { (text : List ℕ) → IsGoodText text checked.now → MatchResult result
-        (λ v. svg ≡ false → AreRows text inputs.now options.now (sizes_below sizes 64) v.items)
-        (λ f. (f ≡ AsRefusal.Memory) ⊎ ((svg ≡ false) × IsNoRow text inputs.now options.now sizes f)) }
+        (λ v. format ≡ ProfileFormat.Lines → AreRows text inputs.now options.now (sizes_below sizes 64) v.items)
+        (λ f. (f ≡ AsRefusal.Memory) ⊎ ((format ≡ ProfileFormat.Lines) × IsNoRow text inputs.now options.now sizes f)) }
 {
-    if svg {
-        return Ok(Vec::new(alloc));
-    }
-    match rows_of_graph(alloc, checked, inputs, options, sizes, rt) {
-        Ok(rows) => Ok(rows),
-        Err(refusal) => Err(refusal),
+    match format {
+        ProfileFormat::Lines => rows_of_graph(resources, checked, inputs, options, sizes),
+        ProfileFormat::Picture => match resources.alloc.clone() {
+            Ok(room) => Ok(Vec::new(room)),
+            Err(_refused) => Err(Refusal::Memory),
+        },
     }
 }
 
@@ -238,23 +259,22 @@ struct Profile<'a, A: Allocator> {
 }
 
 /// The profile of the graph of the input on the integers after it. The causes of a refusal are checked in the order of the work.
-fn make_profile<'a, R: Threads + Wait + Sync, A: Allocator + Clone + Send + Sync>(
-    alloc: A,
+fn make_profile<'a, R: Threads + Wait + Sync, A: Allocator + Clone + Send + Sync, G: Gate + Sync>(
+    resources: &Resources<'_, A, R, G>,
     input: &'a [u8],
     options: &RunOptions,
     sizes: Sizes,
-    svg: bool,
-    rt: &R,
+    format: ProfileFormat,
 ) -> Result<Profile<'a, A>, Refusal>
     ensures { MatchResult result
-        (λ p. IsProfileOf input.now options.now sizes svg p.waves.checked p.waves.report.end p.waves.report.counts.items p.rows.items)
-        (IsNoProfileOf input.now options.now sizes svg) }
+        (λ p. IsProfileOf input.now options.now sizes format p.waves.checked p.waves.report.end p.waves.report.counts.items p.rows.items)
+        (IsNoProfileOf input.now options.now sizes format) }
 {
-    let feed = match read_feed(&alloc, input) {
+    let feed = match read_feed(&resources.alloc, input) {
         Ok(feed) => feed,
         Err(refusal) => return Err(refusal),
     };
-    let Ok(room) = alloc.clone() else {
+    let Ok(room) = resources.alloc.clone() else {
         return Err(Refusal::Memory);
     };
     let waves = match waves_text(room, feed.text, &feed.integers, options.steps) {
@@ -262,7 +282,7 @@ fn make_profile<'a, R: Threads + Wait + Sync, A: Allocator + Clone + Send + Sync
         Err(fault) => return Err(fault_refusal(fault)),
     };
     let inputs = &feed.integers;
-    match rows_beside(alloc, &waves.checked, inputs, options, sizes, svg, rt) {
+    match rows_beside(resources, &waves.checked, inputs, options, sizes, format) {
         Ok(rows) => Ok(Profile { waves, rows }),
         Err(refusal) => Err(refusal),
     }
@@ -271,50 +291,55 @@ fn make_profile<'a, R: Threads + Wait + Sync, A: Allocator + Clone + Send + Sync
 /// Writes the lines of a profile, or the picture of its waves.
 fn write_made<A: Allocator, W: Write>(
     writer: &mut W,
-    svg: bool,
-    waves: &Waved<'_, A>,
-    rows: &[MachineRow],
+    profile: &Profile<'_, A>,
+    format: ProfileFormat,
 ) -> io::Result<()>
-    ensures { Sends result (W.contents writer.old) (W.contents writer.new) (text_of svg waves.now.checked waves.now.report.end waves.now.report.counts.items rows.now) }
+    ensures { Sends result (W.contents writer.old) (W.contents writer.new)
+        (text_of format profile.now.waves.checked profile.now.waves.report.end profile.now.waves.report.counts.items profile.now.rows.items) }
 {
-    if svg {
-        write_svg(writer, &waves.report.counts)
-    } else {
-        write_profile(writer, waves.checked.graph(), &waves.report, rows)
+    let waves = &profile.waves;
+    match format {
+        ProfileFormat::Lines => {
+            write_profile(writer, waves.checked.graph(), &waves.report, &profile.rows)
+        }
+        ProfileFormat::Picture => write_svg(writer, &waves.report.counts),
     }
 }
 
 /// The outcome of a profile. A picture does not report how the meaning ended.
-fn profiled(svg: bool, end: MeanEnd) -> Outcome
-    ensures { result ≡ profiled svg end }
+fn profiled(format: ProfileFormat, end: MeanEnd) -> Outcome
+    ensures { result ≡ profiled format end }
 {
     let ending = Ending::Meaning(end);
-    if svg {
-        Outcome::Drawn(ending)
-    } else {
-        Outcome::Reported(ending)
+    match format {
+        ProfileFormat::Lines => Outcome::Reported(ending),
+        ProfileFormat::Picture => Outcome::Drawn(ending),
     }
 }
 
 /// Prints how much parallelism the graph of the input has, on the integers after it: its waves as a picture, or as lines, with a row
-/// for each number of elements; or why there is none. Gives the outcome.
-pub fn print_profile<R: Threads + Wait + Sync, A: Allocator + Clone + Send + Sync, W: Write>(
-    alloc: A,
+/// for each number of elements; or why there is none. The runs of the rows ask no gate. Gives the outcome.
+pub fn print_profile<
+    R: Threads + Wait + Sync,
+    A: Allocator + Clone + Send + Sync,
+    G: Gate + Sync,
+    W: Write,
+>(
+    resources: Resources<'_, A, R, G>,
     input: &[u8],
     options: &RunOptions,
     sizes: Sizes,
-    svg: bool,
+    format: ProfileFormat,
     writer: &mut W,
-    rt: &R,
 ) -> io::Result<Outcome>
-    ensures { PrintsProfile result (W.contents writer.old) (W.contents writer.new) input.now options.now sizes svg }
+    ensures { PrintsProfile result (W.contents writer.old) (W.contents writer.new) input.now options.now sizes format }
 {
-    let Profile { waves, rows } = match make_profile(alloc, input, options, sizes, svg, rt) {
+    let profile = match make_profile(&resources, input, options, sizes, format) {
         Ok(profile) => profile,
         Err(refusal) => return refuse(writer, &refusal),
     };
-    match write_made(writer, svg, &waves, &rows) {
-        Ok(()) => Ok(profiled(svg, waves.report.end)),
+    match write_made(writer, &profile, format) {
+        Ok(()) => Ok(profiled(format, profile.waves.report.end)),
         Err(fault) => Err(fault),
     }
 }

@@ -38,7 +38,7 @@ pub(crate) fn lower_refusal(fault: LowerFault) -> Refusal
     ensures { result ≡ unlowered_as fault }
 {
     match fault {
-        LowerFault::Program(fault) => Refusal::Program(fault),
+        LowerFault::Program(refusal) => Refusal::Program(refusal),
         LowerFault::Memory => Refusal::Memory,
     }
 }

@@ -14,7 +14,8 @@ use object_view::ObjectFault;
 use outcomes::Refusal;
 use schedule::config::StartFault;
 use sink::{send, send_all};
-use source::fault::{FaultKind, ProgramFault};
+use source::fault::FaultKind;
+use source_tokens::ProgramRefusal;
 use std::io::{self, Write};
 
 fn read_word(kind: ReadFaultKind) -> &'static [u8]
@@ -150,9 +151,10 @@ fn program_word(kind: FaultKind) -> &'static [u8]
     }
 }
 
-fn write_program_fault<W: Write>(writer: &mut W, fault: ProgramFault) -> io::Result<()>
-    ensures { Sends result (W.contents writer.old) (W.contents writer.new) (refusal_line (Program fault)) }
+fn write_program_fault<W: Write>(writer: &mut W, refusal: ProgramRefusal) -> io::Result<()>
+    ensures { Sends result (W.contents writer.old) (W.contents writer.new) (refusal_line (Program refusal)) }
 {
+    let fault = refusal.fault;
     let mut first = Buffer::new();
     let mut second = Buffer::new();
     let kind = program_word(fault.kind);
@@ -223,7 +225,7 @@ pub fn write_refusal<W: Write>(writer: &mut W, refusal: &Refusal) -> io::Result<
             send_all(writer, &[b"refused: object ", object_word(*fault), b"\n"])
         }
         Refusal::Asm(fault) => write_asm_fault(writer, *fault),
-        Refusal::Program(fault) => write_program_fault(writer, *fault),
+        Refusal::Program(refusal) => write_program_fault(writer, *refusal),
         Refusal::Memory => send(writer, b"refused: memory\n"),
     }
 }

@@ -11,7 +11,7 @@ use crate::feed::{option_refusal, read_feed};
 use crate::input::{LinesFault, parse_integers, read_input, split_at_main};
 use crate::lowered::{print_lowered, print_map};
 use crate::orders::print_orders;
-use crate::profiling::print_profile;
+use crate::profiling::{format_of, print_profile};
 use crate::refusal::{fault_refusal, input_refusal};
 use crate::refusal_text::write_refusal;
 use crate::tracing::print_trace;
@@ -26,6 +26,7 @@ use driver::meaning::{Meant, mean_text};
 use driver::objects::{
     ObjectRefusal, disassemble, disassemble_with_literals, draw_object, upgrade_object,
 };
+use driver::resources::Resources;
 use driver::running::{check_start, open_code, run_code_quietly};
 use loaded::Loaded;
 use outcomes::{Ending, Outcome, Refusal};
@@ -61,24 +62,22 @@ pub(crate) fn config_of(options: &RunOptions) -> Config
 /// Runs the graph of the input on the integers after it. The causes of a refusal are checked in the order of the work; whether
 /// the mode exists is checked last.
 fn run_input<'a, R: Threads + Wait + Sync, A: Allocator + Clone + Send + Sync, G: Gate + Sync>(
-    alloc: A,
+    resources: Resources<'_, A, R, G>,
     input: &'a [u8],
     options: &RunOptions,
-    rt: &R,
-    gate: &G,
 ) -> Result<Emulated<'a, A>, Refusal>
     requires { G.may_stop ≡ false }
     ensures { MatchResult result (λ e. IsRunOf input.now options.now e.checked e.report) (IsNoRunOf input.now options.now) }
 {
-    let feed = match read_feed(&alloc, input) {
+    let feed = match read_feed(&resources.alloc, input) {
         Ok(feed) => feed,
         Err(refusal) => return Err(refusal),
     };
     let config = config_of(options);
     let Some(mode) = options.mode else {
-        return Err(option_refusal(alloc, feed.text, &feed.integers, config));
+        return Err(option_refusal(resources.alloc, feed.text, &feed.integers, config));
     };
-    match run_text(alloc, feed.text, &feed.integers, config, mode, rt, gate) {
+    match run_text(resources, feed.text, &feed.integers, config, mode) {
         Ok(emulated) => Ok(emulated),
         Err(fault) => Err(fault_refusal(fault)),
     }
@@ -101,17 +100,15 @@ pub fn print_run<
     G: Gate + Sync,
     W: Write,
 >(
-    alloc: A,
+    resources: Resources<'_, A, R, G>,
     input: &[u8],
     options: &RunOptions,
     writer: &mut W,
-    rt: &R,
-    gate: &G,
 ) -> io::Result<Outcome>
     requires { G.may_stop ≡ false }
     ensures { PrintsRun result (W.contents writer.old) (W.contents writer.new) input.now options.now }
 {
-    match run_input(alloc, input, options, rt, gate) {
+    match run_input(resources, input, options) {
         Ok(emulated) => match write_report(writer, emulated.checked.graph(), &emulated.report) {
             Ok(()) => Ok(Outcome::Reported(Ending::of(&emulated.report))),
             Err(fault) => Err(fault),
@@ -263,12 +260,10 @@ pub fn print_code_picture<W: Write>(bytes: &[u8], writer: &mut W) -> io::Result<
 
 /// Runs the object on these inputs. Whether the mode exists is checked last.
 fn exec_object<R: Threads + Wait + Sync, A: Allocator + Clone + Send + Sync, G: Gate + Sync>(
-    alloc: A,
+    resources: Resources<'_, A, R, G>,
     code: &Loaded<'_, A>,
     options: &RunOptions,
     inputs: &[i64],
-    rt: &R,
-    gate: &G,
 ) -> Result<Report<A>, Refusal>
     requires { G.may_stop ≡ false }
     ensures { MatchResult result
@@ -277,11 +272,11 @@ fn exec_object<R: Threads + Wait + Sync, A: Allocator + Clone + Send + Sync, G: 
 {
     let config = config_of(options);
     match options.mode {
-        Some(mode) => match run_code_quietly(alloc, code, inputs, config, mode, rt, gate) {
+        Some(mode) => match run_code_quietly(resources, code, inputs, config, mode) {
             Ok(report) => Ok(report),
             Err(fault) => Err(fault_refusal(fault)),
         },
-        None => match check_start(alloc, code, inputs, config) {
+        None => match check_start(resources.alloc, code, inputs, config) {
             Ok(_ready) => Err(Refusal::Start(StartFault::BadConfig)),
             Err(fault) => Err(fault_refusal(fault)),
         },
@@ -290,21 +285,17 @@ fn exec_object<R: Threads + Wait + Sync, A: Allocator + Clone + Send + Sync, G: 
 
 /// Runs the object on the inputs of the command line, if these are good.
 fn exec_inputs<R: Threads + Wait + Sync, A: Allocator + Clone + Send + Sync, G: Gate + Sync>(
-    alloc: A,
+    resources: Resources<'_, A, R, G>,
     code: &Loaded<'_, A>,
     options: &RunOptions,
     inputs: &Inputs,
-    rt: &R,
-    gate: &G,
 ) -> Result<Report<A>, Refusal>
     requires may_stop { G.may_stop ≡ false }
     requires object { first_refusal code.now.bytes ≡ None }
     ensures { MatchResult result (λ r. IsExecOf code.now.bytes options.now inputs.now r) (IsNoExecOf code.now.bytes options.now inputs.now) }
 {
     match inputs {
-        Inputs::Integers(integers) => {
-            exec_object(alloc, code, options, integers.as_slice(), rt, gate)
-        }
+        Inputs::Integers(integers) => exec_object(resources, code, options, integers.as_slice()),
         Inputs::NoInteger(number) => Err(Refusal::InputLine(*number)),
         Inputs::TooMany => Err(Refusal::Start(StartFault::WrongInputs)),
     }
@@ -318,22 +309,20 @@ pub fn print_exec<
     G: Gate + Sync,
     W: Write,
 >(
-    alloc: A,
+    resources: Resources<'_, A, R, G>,
     bytes: &[u8],
     options: &RunOptions,
     inputs: &Inputs,
     writer: &mut W,
-    rt: &R,
-    gate: &G,
 ) -> io::Result<Outcome>
     requires { G.may_stop ≡ false }
     ensures { PrintsExec result (W.contents writer.old) (W.contents writer.new) bytes.now options.now inputs.now }
 {
-    let code = match open_code(&alloc, bytes) {
+    let code = match open_code(&resources.alloc, bytes) {
         Ok(code) => code,
         Err(fault) => return refuse(writer, &fault_refusal(fault)),
     };
-    match exec_inputs(alloc, &code, options, inputs, rt, gate) {
+    match exec_inputs(resources, &code, options, inputs) {
         Ok(report) => match write_object_report(writer, code.object(), &report) {
             Ok(()) => Ok(Outcome::Reported(Ending::of(&report))),
             Err(fault) => Err(fault),
@@ -347,48 +336,44 @@ fn answer<R: Threads + Wait + Sync, A: Allocator + Clone + Send + Sync, G: Gate 
     request: &Request,
     input: &[u8],
     writer: &mut W,
-    alloc: A,
-    rt: &R,
-    gate: &G,
+    resources: Resources<'_, A, R, G>,
 ) -> io::Result<Outcome>
     requires { G.may_stop ≡ false }
     ensures { Answers result (W.contents writer.old) (W.contents writer.new) input.now request.now }
 {
     match request {
-        Request::Check => print_check(alloc, input, writer),
-        Request::Compile => print_object(alloc, input, writer),
+        Request::Check => print_check(resources.alloc, input, writer),
+        Request::Compile => print_object(resources.alloc, input, writer),
         Request::Dis {
             literals: Literals::Omitted,
         } => print_listing(input, writer),
         Request::Dis {
             literals: Literals::Included,
         } => print_listing_with_literals(input, writer),
-        Request::Asm => print_assembled(alloc, input, writer),
-        Request::Lower(Lowering::Graph) => print_lowered(alloc, input, writer),
-        Request::Lower(Lowering::Map) => print_map(alloc, input, writer),
+        Request::Asm => print_assembled(resources.alloc, input, writer),
+        Request::Lower(Lowering::Graph) => print_lowered(resources.alloc, input, writer),
+        Request::Lower(Lowering::Map) => print_map(resources.alloc, input, writer),
         Request::Upgrade => print_upgrade(input, writer),
-        Request::Run(options) => print_run(alloc, input, options, writer, rt, gate),
-        Request::Mean { steps } => print_meaning(alloc, input, *steps, writer),
+        Request::Run(options) => print_run(resources, input, options, writer),
+        Request::Mean { steps } => print_meaning(resources.alloc, input, *steps, writer),
         Request::Dot { code: true } => print_code_picture(input, writer),
-        Request::Dot { code: false } => print_graph_picture(alloc, input, writer),
-        Request::Exec { options, inputs } => {
-            print_exec(alloc, input, options, inputs, writer, rt, gate)
-        }
+        Request::Dot { code: false } => print_graph_picture(resources.alloc, input, writer),
+        Request::Exec { options, inputs } => print_exec(resources, input, options, inputs, writer),
         Request::Orders {
             options,
             count,
             seed,
-        } => print_orders(alloc, input, options, *count, *seed, writer),
+        } => print_orders(resources.alloc, input, options, *count, *seed, writer),
         Request::Trace {
             options,
             last,
             format,
-        } => print_trace(alloc, input, options, *last, *format, writer, rt, gate),
+        } => print_trace(resources, input, options, *last, *format, writer),
         Request::Profile {
             options,
             sizes,
             svg,
-        } => print_profile(alloc, input, options, *sizes, *svg, writer, rt),
+        } => print_profile(resources, input, options, *sizes, format_of(*svg), writer),
     }
 }
 
@@ -403,18 +388,16 @@ pub fn serve_request<
     request: &Request,
     reader: &mut I,
     writer: &mut W,
-    alloc: A,
-    rt: &R,
-    gate: &G,
+    resources: Resources<'_, A, R, G>,
 ) -> io::Result<Outcome>
     requires { G.may_stop ≡ false }
     ensures { ServesRequest (I.remaining reader.old) result (W.contents writer.old) (W.contents writer.new) request.now }
 {
-    let Ok(room) = alloc.clone() else {
+    let Ok(room) = resources.alloc.clone() else {
         return refuse(writer, &Refusal::Memory);
     };
     match read_input(room, reader) {
-        Ok(input) => answer(request, &input, writer, alloc, rt, gate),
+        Ok(input) => answer(request, &input, writer, resources),
         Err(fault) => refuse(writer, &input_refusal(fault)),
     }
 }
@@ -477,16 +460,14 @@ fn serve_asked<
     words: &[S],
     reader: &mut I,
     writer: &mut W,
-    alloc: A,
+    resources: Resources<'_, A, R, G>,
     global: Global,
-    rt: &R,
-    gate: &G,
 ) -> io::Result<Outcome>
     requires { G.may_stop ≡ false }
     ensures { ServesAsked (I.remaining reader.old) result (W.contents writer.old) (W.contents writer.new) asked.now }
 {
     match asked {
-        Asked::Request(request) => serve_request(request, reader, writer, alloc, rt, gate),
+        Asked::Request(request) => serve_request(request, reader, writer, resources),
         Asked::Help(topic) => say(
             writer,
             help_text(global, program_of(words), *topic),
@@ -509,16 +490,14 @@ pub fn serve_words<
     words: &[S],
     reader: &mut I,
     writer: &mut W,
-    alloc: A,
+    resources: Resources<'_, A, R, G>,
     global: Global,
-    rt: &R,
-    gate: &G,
 ) -> io::Result<Outcome>
     requires { G.may_stop ≡ false }
     ensures { ServesWords (map S.text (drop 1 words.now)) (I.remaining reader.old) result (W.contents writer.old) (W.contents writer.new) }
 {
     let asked = read_words(arguments_of(words));
-    serve_asked(&asked, words, reader, writer, alloc, global, rt, gate)
+    serve_asked(&asked, words, reader, writer, resources, global)
 }
 
 /// The whole program over a reader and a writer. `words` are the words of the command line, the program's name first. The
@@ -535,7 +514,8 @@ pub fn serve<
     requires { G.may_stop ≡ false }
     ensures { Serves (map S.text (drop 1 words.now)) (I.remaining reader.old) (W.contents writer.old) (W.contents writer.new) result }
 {
-    match serve_words(words, reader, writer, alloc, global, rt, gate) {
+    let resources = Resources { alloc, rt, gate };
+    match serve_words(words, reader, writer, resources, global) {
         Ok(outcome) => outcome.status(),
         Err(_fault) => UNWRITTEN,
     }

@@ -1,10 +1,11 @@
 //! The events of a run.
 
 ghost use Rattle.std.specs.Prelude.{◌≡◌, ◌≤◌, ◌++◌, drop, false, length, MatchResult};
+ghost use Rattle.object_view.specs.Reading.{opened};
 ghost use Rattle.driver.specs.ListedEvents.{IsWatched};
 ghost use Rattle.driver.specs.Refused.{IsRefused};
 ghost use Rattle.sink.specs.Sends.{Sends};
-ghost use Rattle.trace_text.specs.TraceText.{trace_text};
+ghost use Rattle.trace_text.specs.TraceText.{chrome_text, trace_text};
 ghost use Rattle.report_text.specs.ReportText.{report_text};
 ghost use Rattle.commands.specs.Served.{IsNoRunOf};
 ghost use Rattle.commands.specs.Traced.{IsTraceOf, PrintsEvents, PrintsTrace, events_text, first_of, traced};
@@ -16,9 +17,8 @@ use crate::serving::{config_of, refuse};
 use command_line::{EventFormat, Format, Mode, RunOptions};
 use driver::compiling::{Compiled, compile};
 use driver::fault::Fault;
+use driver::resources::Resources;
 use driver::watching::{Watched, watch_object};
-use graph::Graph;
-use object_view::Object;
 use outcomes::{Ending, Outcome, Refusal};
 use replay::Moment;
 use report_text::write_report;
@@ -64,62 +64,6 @@ fn moments_from(moments: &[Moment], first: usize) -> &[Moment]
     }
 }
 
-/// Writes lines of events, and after them the report.
-fn write_lines<'a, A: Allocator, W: Write>(
-    writer: &mut W,
-    object: &Object<'_>,
-    first: u64,
-    events: &[(u32, Token)],
-    moments: &[Moment],
-    graph: &Graph<'a, A>,
-    report: &Report<A>,
-) -> io::Result<()>
-    ensures { Sends result (W.contents writer.old) (W.contents writer.new) (trace_text object.now.code.program first events.now moments.now ++ report_text graph.now.arrays report.now) }
-{
-    write_events(writer, object, first, events, moments)?;
-    write_report(writer, graph, report)
-}
-
-/// Writes the events from number `first` on in the format, and after lines the report.
-fn write_trace<'a, A: Allocator, W: Write>(
-    writer: &mut W,
-    object: &Object<'_>,
-    graph: &Graph<'a, A>,
-    report: &Report<A>,
-    moments: &[Moment],
-    elements: u64,
-    last: Option<u64>,
-    format: EventFormat,
-) -> io::Result<()>
-    requires { elements ≤ 16 }
-    ensures { Sends result (W.contents writer.old) (W.contents writer.new) (events_text format (first_of (length report.now.events) last) elements graph.now object.now.bytes report.now moments.now) }
-{
-    // What the bytes promise: they are the object.
-    let _bytes = object.bytes();
-    let first = first_of_last(report.events.len(), last);
-    let events = events_from(&report.events, first);
-    let moments = moments_from(moments, first);
-    match format {
-        EventFormat::Lines => write_lines(
-            writer,
-            object,
-            first as u64,
-            events,
-            moments,
-            graph,
-            report,
-        ),
-        EventFormat::Chrome => write_chrome(
-            writer,
-            object,
-            elements as u32,
-            first as u64,
-            events,
-            moments,
-        ),
-    }
-}
-
 /// A run of the graph of an input, with what each of its events did.
 #[derive(Drop)]
 struct Traced<'a, A: Allocator> {
@@ -127,48 +71,114 @@ struct Traced<'a, A: Allocator> {
     watched: Watched<A>,
 }
 
+/// Writes the events from number `first` on as lines, and after them the report.
+fn write_lines<A: Allocator, W: Write>(
+    writer: &mut W,
+    run: &Traced<'_, A>,
+    first: usize,
+) -> io::Result<()>
+    ensures { Sends result (W.contents writer.old) (W.contents writer.new)
+        (trace_text (opened run.now.compiled.object.bytes).code.program first
+        (drop first run.now.watched.report.events) (drop first run.now.watched.moments.items)
+        ++ report_text run.now.compiled.checked.arrays run.now.watched.report) }
+{
+    let object = run.compiled.object.as_object();
+    // What the bytes promise: they are the object.
+    let _bytes = object.bytes();
+    let report = &run.watched.report;
+    let events = events_from(&report.events, first);
+    let moments = moments_from(&run.watched.moments, first);
+    write_events(writer, &object, first as u64, events, moments)?;
+    write_report(writer, run.compiled.checked.graph(), report)
+}
+
+/// Writes the events from number `first` on as JSON.
+fn write_json<A: Allocator, W: Write>(
+    writer: &mut W,
+    run: &Traced<'_, A>,
+    elements: u64,
+    first: usize,
+) -> io::Result<()>
+    requires { elements ≤ 16 }
+    ensures { Sends result (W.contents writer.old) (W.contents writer.new)
+        (chrome_text (opened run.now.compiled.object.bytes).code.program elements first
+        (drop first run.now.watched.report.events) (drop first run.now.watched.moments.items)) }
+{
+    let object = run.compiled.object.as_object();
+    // What the bytes promise: they are the object.
+    let _bytes = object.bytes();
+    let report = &run.watched.report;
+    let events = events_from(&report.events, first);
+    let moments = moments_from(&run.watched.moments, first);
+    write_chrome(
+        writer,
+        &object,
+        elements as u32,
+        first as u64,
+        events,
+        moments,
+    )
+}
+
+/// Writes the run's events, or only the last ones, in the format, and after lines the report.
+fn write_trace<A: Allocator, W: Write>(
+    writer: &mut W,
+    run: &Traced<'_, A>,
+    elements: u64,
+    last: Option<u64>,
+    format: EventFormat,
+) -> io::Result<()>
+    requires { elements ≤ 16 }
+    ensures { Sends result (W.contents writer.old) (W.contents writer.new)
+        (events_text format (first_of (length run.now.watched.report.events) last) elements
+        run.now.compiled.checked run.now.compiled.object.bytes run.now.watched.report run.now.watched.moments.items) }
+{
+    let report = &run.watched.report;
+    let first = first_of_last(report.events.len(), last);
+    match format {
+        EventFormat::Lines => write_lines(writer, run, first),
+        EventFormat::Chrome => write_json(writer, run, elements, first),
+    }
+}
+
 /// Compiles the graph of the text, runs it in the given mode, and says what each event did.
 fn watch_text<'a, R: Threads + Wait + Sync, A: Allocator + Clone + Send + Sync, G: Gate + Sync>(
-    alloc: A,
+    resources: Resources<'_, A, R, G>,
     text: &'a [u8],
     inputs: &[i64],
     config: Config,
     mode: Mode,
-    rt: &R,
-    gate: &G,
 ) -> Result<Traced<'a, A>, Fault>
     ensures { MatchResult result
         (λ t. IsWatched mode text.now t.compiled.checked t.compiled.object.bytes inputs.now config G.may_stop t.watched.report t.watched.moments.items)
         (IsRefused text.now inputs.now config) }
 {
-    let compiled = compile(alloc.clone()?, text)?;
-    let watched = watch_object(alloc, &compiled.object, inputs, config, mode, rt, gate)?;
+    let compiled = compile(resources.alloc.clone()?, text)?;
+    let watched = watch_object(resources, &compiled.object, inputs, config, mode)?;
     Ok(Traced { compiled, watched })
 }
 
 /// Runs the graph of the input on the integers after it, and says what each event did. The causes of a refusal are checked in the order of
 /// the work; whether the mode exists is checked last.
 fn watch_input<'a, R: Threads + Wait + Sync, A: Allocator + Clone + Send + Sync, G: Gate + Sync>(
-    alloc: A,
+    resources: Resources<'_, A, R, G>,
     input: &'a [u8],
     options: &RunOptions,
-    rt: &R,
-    gate: &G,
 ) -> Result<Traced<'a, A>, Refusal>
     requires { G.may_stop ≡ false }
     ensures { MatchResult result
         (λ t. IsTraceOf input.now options.now t.compiled.checked t.compiled.object.bytes t.watched.report t.watched.moments.items)
         (IsNoRunOf input.now options.now) }
 {
-    let feed = match read_feed(&alloc, input) {
+    let feed = match read_feed(&resources.alloc, input) {
         Ok(feed) => feed,
         Err(refusal) => return Err(refusal),
     };
     let config = config_of(options);
     let Some(mode) = options.mode else {
-        return Err(option_refusal(alloc, feed.text, &feed.integers, config));
+        return Err(option_refusal(resources.alloc, feed.text, &feed.integers, config));
     };
-    match watch_text(alloc, feed.text, &feed.integers, config, mode, rt, gate) {
+    match watch_text(resources, feed.text, &feed.integers, config, mode) {
         Ok(traced) => Ok(traced),
         Err(fault) => Err(fault_refusal(fault)),
     }
@@ -192,34 +202,22 @@ fn print_events<
     G: Gate + Sync,
     W: Write,
 >(
-    alloc: A,
+    resources: Resources<'_, A, R, G>,
     input: &[u8],
     options: &RunOptions,
     last: Option<u64>,
     format: EventFormat,
     writer: &mut W,
-    rt: &R,
-    gate: &G,
 ) -> io::Result<Outcome>
     requires { G.may_stop ≡ false }
     ensures { PrintsEvents result (W.contents writer.old) (W.contents writer.new) input.now options.now last format }
 {
-    let Traced { compiled, watched } = match watch_input(alloc, input, options, rt, gate) {
-        Ok(traced) => traced,
+    let run = match watch_input(resources, input, options) {
+        Ok(run) => run,
         Err(refusal) => return refuse(writer, &refusal),
     };
-    let Watched { report, moments } = watched;
-    match write_trace(
-        writer,
-        &compiled.object.as_object(),
-        compiled.checked.graph(),
-        &report,
-        &moments,
-        options.elements,
-        last,
-        format,
-    ) {
-        Ok(()) => Ok(outcome_of(format, &report)),
+    match write_trace(writer, &run, options.elements, last, format) {
+        Ok(()) => Ok(outcome_of(format, &run.watched.report)),
         Err(fault) => Err(fault),
     }
 }
@@ -232,22 +230,18 @@ pub fn print_trace<
     G: Gate + Sync,
     W: Write,
 >(
-    alloc: A,
+    resources: Resources<'_, A, R, G>,
     input: &[u8],
     options: &RunOptions,
     last: Option<u64>,
     format: Format,
     writer: &mut W,
-    rt: &R,
-    gate: &G,
 ) -> io::Result<Outcome>
     requires { G.may_stop ≡ false }
     ensures { PrintsTrace result (W.contents writer.old) (W.contents writer.new) input.now options.now last format }
 {
     match format {
-        Format::Events(format) => {
-            print_events(alloc, input, options, last, format, writer, rt, gate)
-        }
-        Format::Html => print_page(alloc, input, options, last, writer, rt, gate),
+        Format::Events(format) => print_events(resources, input, options, last, format, writer),
+        Format::Html => print_page(resources, input, options, last, writer),
     }
 }

@@ -11,6 +11,7 @@ ghost use Rattle.driver.specs.Orders.{RunsByTurns, RunsByList};
 
 use crate::compiling::{Compiled, compile};
 use crate::fault::Fault;
+use crate::resources::Resources;
 use crate::running::{check_start, open_code, run_code, run_code_picks, run_code_quietly};
 use command_line::Mode;
 use graph_check::Checked;
@@ -44,7 +45,7 @@ pub fn emulate_object<R: Threads + Wait + Sync, A: Allocator + Clone + Send + Sy
     ensures turns { mode ≡ Mode.One → IfOk result (RunsObject bytes.now inputs.now config RunsByTurns) }
 {
     let code = open_code(&alloc, bytes)?;
-    run_code(alloc, &code, inputs, config, mode, rt, gate)
+    run_code(Resources { alloc, rt, gate }, &code, inputs, config, mode)
 }
 
 /// Like `emulate_object`, also in the order of the mode `One`, but the report lists no events, so a long run takes no more memory
@@ -54,18 +55,16 @@ pub fn emulate_object_quietly<
     A: Allocator + Clone + Send + Sync,
     G: Gate + Sync,
 >(
-    alloc: A,
+    resources: Resources<'_, A, R, G>,
     bytes: &[u8],
     inputs: &[i64],
     config: Config,
     mode: Mode,
-    rt: &R,
-    gate: &G,
 ) -> Result<Report<A>, Fault>
     ensures { MatchResult result (Quietly (ShowsObjectIn mode bytes.now inputs.now config G.may_stop)) (IsRefusedObject bytes.now inputs.now config) }
 {
-    let code = open_code(&alloc, bytes)?;
-    run_code_quietly(alloc, &code, inputs, config, mode, rt, gate)
+    let code = open_code(&resources.alloc, bytes)?;
+    run_code_quietly(resources, &code, inputs, config, mode)
 }
 
 /// The report of a run, in the order of a list, of the object with these bytes. Each entry of the list names an element, and
@@ -103,19 +102,17 @@ pub fn start_text<A: Allocator + Clone>(
 /// Runs the text's graph in the given mode. Gives the graph, and a report that lists no events, so a long run takes no more
 /// memory than a short one. In the mode `One` the elements take turns, and each takes its oldest token.
 pub fn run_text<'a, R: Threads + Wait + Sync, A: Allocator + Clone + Send + Sync, G: Gate + Sync>(
-    alloc: A,
+    resources: Resources<'_, A, R, G>,
     text: &'a [u8],
     inputs: &[i64],
     config: Config,
     mode: Mode,
-    rt: &R,
-    gate: &G,
 ) -> Result<Emulated<'a, A>, Fault>
     ensures { MatchResult result (λ e. ReportsQuietly mode text.now e.checked inputs.now config G.may_stop e.report) (IsRefused text.now inputs.now config) }
 {
-    let Compiled { checked, object } = compile(alloc.clone()?, text)?;
-    let code = Loaded::new(alloc.clone()?, object.as_object())?;
-    let report = run_code_quietly(alloc, &code, inputs, config, mode, rt, gate)?;
+    let Compiled { checked, object } = compile(resources.alloc.clone()?, text)?;
+    let code = Loaded::new(resources.alloc.clone()?, object.as_object())?;
+    let report = run_code_quietly(resources, &code, inputs, config, mode)?;
     Ok(Emulated { checked, report })
 }
 

@@ -9,6 +9,7 @@ pub mod fault;
 pub mod meaning;
 pub mod modes;
 pub mod objects;
+pub mod resources;
 pub mod running;
 pub mod values;
 pub mod watching;

@@ -12,6 +12,7 @@ ghost use Rattle.driver.specs.Refused.{IsNoObject, IsReadyObject, IsRefusedObjec
 
 use crate::fault::Fault;
 use crate::modes::{run_in, run_quietly_in};
+use crate::resources::Resources;
 use command_line::Mode;
 use frame_store::store::Store;
 use loaded::Loaded;
@@ -70,17 +71,16 @@ pub fn check_start<A: Allocator + Clone>(
 /// The report of a run of the object in the given mode. In the mode `One` the elements take turns, and each takes its oldest
 /// token.
 pub fn run_code<R: Threads + Wait + Sync, A: Allocator + Clone + Send + Sync, G: Gate + Sync>(
-    alloc: A,
+    resources: Resources<'_, A, R, G>,
     code: &Loaded<'_, A>,
     inputs: &[i64],
     config: Config,
     mode: Mode,
-    rt: &R,
-    gate: &G,
 ) -> Result<Report<A>, Fault>
     ensures shows { MatchResult result (ShowsObject code.now.bytes inputs.now config false (stops_in mode G.may_stop)) (IsRefusedObject code.now.bytes inputs.now config) }
     ensures turns { mode ≡ Mode.One → IfOk result (RunsObject code.now.bytes inputs.now config RunsByTurns) }
 {
+    let Resources { alloc, rt, gate } = resources;
     let mut store = None;
     let machine = start_code(alloc, &mut store, code, inputs, config)?;
     Ok(run_in(machine, mode, rt, gate))
@@ -93,16 +93,15 @@ pub fn run_code_quietly<
     A: Allocator + Clone + Send + Sync,
     G: Gate + Sync,
 >(
-    alloc: A,
+    resources: Resources<'_, A, R, G>,
     code: &Loaded<'_, A>,
     inputs: &[i64],
     config: Config,
     mode: Mode,
-    rt: &R,
-    gate: &G,
 ) -> Result<Report<A>, Fault>
     ensures { MatchResult result (Quietly (ShowsObjectIn mode code.now.bytes inputs.now config G.may_stop)) (IsRefusedObject code.now.bytes inputs.now config) }
 {
+    let Resources { alloc, rt, gate } = resources;
     let mut store = None;
     let machine = start_code(alloc, &mut store, code, inputs, config)?;
     Ok(run_quietly_in(machine, mode, rt, gate))
@@ -132,16 +131,15 @@ pub fn run_code_counted<
     A: Allocator + Clone + Send + Sync,
     G: Gate + Sync,
 >(
-    alloc: A,
+    resources: Resources<'_, A, R, G>,
     code: &Loaded<'_, A>,
     inputs: &[i64],
     config: Config,
-    rt: &R,
-    gate: &G,
 ) -> Result<Counted<A>, Fault>
     ensures shows { MatchResult result (λ c. ShowsObject code.now.bytes inputs.now config false G.may_stop c.report) (IsRefusedObject code.now.bytes inputs.now config) }
     ensures rounds { IfOk result (λ c. RunsObject code.now.bytes inputs.now config (RunsByRounds G.may_stop c.rounds) c.report) }
 {
+    let Resources { alloc, rt, gate } = resources;
     let mut store = None;
     let machine = start_code(alloc, &mut store, code, inputs, config)?;
     Ok(run_counted(machine, rt, gate))

@@ -9,6 +9,7 @@ ghost use Rattle.driver.specs.Orders.{RunsByTurns, RunsByRounds};
 ghost use Rattle.driver.specs.Refused.{IsRefusedObject};
 
 use crate::fault::Fault;
+use crate::resources::Resources;
 use crate::running::{run_code, run_code_counted};
 use command_line::Mode;
 use loaded::Loaded;
@@ -56,39 +57,36 @@ fn moments_of<A: Allocator + Clone>(
 /// Runs the object in the given mode, lists the events, and says what each of them did. In the mode `One` the elements take turns,
 /// and each takes its oldest token.
 pub fn watch_code<R: Threads + Wait + Sync, A: Allocator + Clone + Send + Sync, G: Gate + Sync>(
-    alloc: A,
+    resources: Resources<'_, A, R, G>,
     code: &Loaded<'_, A>,
     inputs: &[i64],
     config: Config,
     mode: Mode,
-    rt: &R,
-    gate: &G,
 ) -> Result<Watched<A>, Fault>
     ensures shows { MatchResult result (λ w. ShowsObject code.now.bytes inputs.now config false (stops_in mode G.may_stop) w.report) (IsRefusedObject code.now.bytes inputs.now config) }
     ensures turns { mode ≡ Mode.One → IfOk result (λ w. RunsObject code.now.bytes inputs.now config RunsByTurns w.report) }
     ensures moments { IfOk result (λ w. AreMoments code.now.bytes inputs.now config w.report w.moments.items) }
 {
-    let report = run_code(alloc.clone()?, code, inputs, config, mode, rt, gate)?;
+    let alloc = resources.alloc.clone()?;
+    let report = run_code(resources, code, inputs, config, mode)?;
     let moments = moments_of(alloc, code, inputs, config, &report)?;
     Ok(Watched { report, moments })
 }
 
 /// Like `watch_code`, of an object that is not ready yet.
 pub fn watch_object<R: Threads + Wait + Sync, A: Allocator + Clone + Send + Sync, G: Gate + Sync>(
-    alloc: A,
+    resources: Resources<'_, A, R, G>,
     object: &OwnedObject<A>,
     inputs: &[i64],
     config: Config,
     mode: Mode,
-    rt: &R,
-    gate: &G,
 ) -> Result<Watched<A>, Fault>
     ensures shows { MatchResult result (λ w. ShowsObject object.now.bytes inputs.now config false (stops_in mode G.may_stop) w.report) (IsRefusedObject object.now.bytes inputs.now config) }
     ensures turns { mode ≡ Mode.One → IfOk result (λ w. RunsObject object.now.bytes inputs.now config RunsByTurns w.report) }
     ensures moments { IfOk result (λ w. AreMoments object.now.bytes inputs.now config w.report w.moments.items) }
 {
-    let code = Loaded::new(alloc.clone()?, object.as_object())?;
-    watch_code(alloc, &code, inputs, config, mode, rt, gate)
+    let code = Loaded::new(resources.alloc.clone()?, object.as_object())?;
+    watch_code(resources, &code, inputs, config, mode)
 }
 
 /// A run of an object in rounds, with the moment of each of its events.
@@ -101,18 +99,17 @@ pub struct WatchedRounds<A: Allocator> {
 
 /// Runs the object in rounds, lists the events, and says what each of them did, and how many rounds there were.
 pub fn watch_rounds<R: Threads + Wait + Sync, A: Allocator + Clone + Send + Sync, G: Gate + Sync>(
-    alloc: A,
+    resources: Resources<'_, A, R, G>,
     code: &Loaded<'_, A>,
     inputs: &[i64],
     config: Config,
-    rt: &R,
-    gate: &G,
 ) -> Result<WatchedRounds<A>, Fault>
     ensures shows { MatchResult result (λ w. ShowsObject code.now.bytes inputs.now config false G.may_stop w.watched.report) (IsRefusedObject code.now.bytes inputs.now config) }
     ensures rounds { IfOk result (λ w. RunsObject code.now.bytes inputs.now config (RunsByRounds G.may_stop w.rounds) w.watched.report) }
     ensures moments { IfOk result (λ w. AreMoments code.now.bytes inputs.now config w.watched.report w.watched.moments.items) }
 {
-    let counted = run_code_counted(alloc.clone()?, code, inputs, config, rt, gate)?;
+    let alloc = resources.alloc.clone()?;
+    let counted = run_code_counted(resources, code, inputs, config)?;
     let Counted { report, rounds } = counted;
     let moments = moments_of(alloc, code, inputs, config, &report)?;
     Ok(WatchedRounds {

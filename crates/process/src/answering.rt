@@ -6,6 +6,7 @@ ghost use Rattle.std.specs.Io.KnownBytes.{Keeps};
 ghost use Rattle.process.specs.Process.{Answers};
 
 use commands::serving::serve_words;
+use driver::resources::Resources;
 use outcomes::Outcome;
 use rounds::Open;
 use std::alloc::{Allocator, Global};
@@ -33,11 +34,11 @@ pub fn answer<S: AsStr, I: Read, W: Write + Drop, R: Threads + Wait + Sync>(
     words: &[S],
     reader: &mut I,
     writer: &mut BufWriter<W>,
-    alloc: Global,
-    rt: &R,
+    resources: Resources<'_, Global, R, Open>,
 ) -> Option<Outcome>
     ensures { Answers (map S.text (drop 1 words.now)) (I.remaining reader.old) (writer_contents W.contents writer.old) (W.contents (writer_inner writer.new)) result }
 {
-    let served = serve_words(words, reader, writer, alloc, alloc, rt, &Open);
+    let global = resources.alloc;
+    let served = serve_words(words, reader, writer, resources, global);
     flushed(writer, served)
 }

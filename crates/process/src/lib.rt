@@ -15,9 +15,11 @@ ghost use Rattle.process.specs.Process.{Ends, IsWanted, exits};
 ghost use Rattle.process.specs.Hinted.{accounts_by_hint};
 
 use answering::answer;
+use driver::resources::Resources;
 pub use explaining::{Explain, Hints};
 use keeping::{KeepingReader, Start};
 use outcomes::Outcome;
+use rounds::Open;
 pub use sending::HintSent;
 use sending::send_hint;
 use std::alloc::Global;
@@ -70,17 +72,17 @@ fn run_from<
     writer: W,
     errors: &mut E,
     explainer: &X,
-    alloc: Global,
-    rt: &R,
+    resources: Resources<'_, Global, R, Open>,
 ) -> io::Result<Ended<I, W>>
     requires { B.remaining ≡ I.remaining reader }
     ensures { MatchResult result
         (λ e. Ends X.accounts (map S.text (drop 1 words.now)) (I.remaining reader) (I.remaining e.reader) (W.contents writer) (W.contents e.writer) (E.contents errors.old) (E.contents errors.new) e.outcome e.status e.hint_sent)
         (λ e. (error_kind e ≡ ErrorKind.OutOfMemory) × Keeps (E.contents errors.old) (E.contents errors.new)) }
 {
+    let alloc = resources.alloc;
     let mut reader: KeepingReader<I, Global, B> = KeepingReader::new(alloc, reader);
     let mut writer = BufWriter::new(alloc, writer)?;
-    let outcome = answer(words, &mut reader, &mut writer, alloc, rt);
+    let outcome = answer(words, &mut reader, &mut writer, resources);
     let (writer, _unwritten) = writer.into_parts();
     let input = reader.kept();
     let hint_sent = send_hint(explainer, alloc, words, input, outcome, errors);
@@ -108,14 +110,13 @@ pub fn run_explained<
     writer: W,
     errors: &mut E,
     explainer: &X,
-    alloc: Global,
-    rt: &R,
+    resources: Resources<'_, Global, R, Open>,
 ) -> io::Result<Ended<I, W>>
     ensures { MatchResult result
         (λ e. Ends X.accounts (map S.text (drop 1 words.now)) (I.remaining reader) (I.remaining e.reader) (W.contents writer) (W.contents e.writer) (E.contents errors.old) (E.contents errors.new) e.outcome e.status e.hint_sent)
         (λ e. (error_kind e ≡ ErrorKind.OutOfMemory) × Keeps (E.contents errors.old) (E.contents errors.new)) }
 {
-    run_from::<Brand, X, S, I, W, E, R>(words, reader, writer, errors, explainer, alloc, rt)
+    run_from::<Brand, X, S, I, W, E, R>(words, reader, writer, errors, explainer, resources)
 }
 
 /// Runs the process: `words` are the words of the command line, the program's name first, and the others are standard input,
@@ -134,5 +135,7 @@ pub fn run_process<S: AsStr, I: Read + Drop, W: Write + Drop, E: Write, R: Threa
         (λ e. (error_kind e ≡ ErrorKind.OutOfMemory) × Keeps (E.contents errors.old) (E.contents errors.new)) }
     ensures wants { IfOk result (λ e. IsWanted (wants_hint e.outcome) e.hint_sent) }
 {
-    run_explained(words, reader, writer, errors, &Hints, alloc, rt)
+    let gate = &Open;
+    let resources = Resources { alloc, rt, gate };
+    run_explained(words, reader, writer, errors, &Hints, resources)
 }

@@ -6,14 +6,14 @@ ghost use Rattle.programs.specs.declared.fault.RunRefusal.TheVariants.{Memory};
 
 use driver::fault::Fault;
 use lowered_text::fault::LowerFault;
-use source::fault::ProgramFault;
+use source_tokens::ProgramRefusal;
 use std::alloc::AllocError;
 
 /// Why a text has no report of a run of its program.
 #[derive(Debug, Drop)]
 pub enum RunRefusal {
     /// The text has no program, or one that breaks a rule or is too big: this is its first fault. Lack of memory is never reported so.
-    Program(ProgramFault),
+    Program(ProgramRefusal),
     /// The program's graph has no object, or the run cannot start. Lack of memory is never reported so.
     Graph(Fault),
     Memory,
@@ -32,7 +32,7 @@ impl From<LowerFault> for RunRefusal {
 
     fn from(fault: LowerFault) -> RunRefusal {
         match fault {
-            LowerFault::Program(fault) => RunRefusal::Program(fault),
+            LowerFault::Program(refusal) => RunRefusal::Program(refusal),
             LowerFault::Memory => RunRefusal::Memory,
         }
     }

@@ -7,6 +7,7 @@ ghost use Rattle.programs.specs.Refused.{IsRefusedRun};
 use crate::compiling::compile_program;
 use crate::fault::RunRefusal;
 use command_line::Mode;
+use driver::resources::Resources;
 use driver::running::run_code_quietly;
 use loaded::Loaded;
 use rounds::Gate;
@@ -20,18 +21,16 @@ use std::thread::Threads;
 /// mode. What follows a line `inputs` in the text is no part of it. Gives a report that lists no events, so a long run takes no
 /// more memory than a short one. In the mode `One` the elements take turns, and each takes its oldest token.
 pub fn run_program<R: Threads + Wait + Sync, A: Allocator + Clone + Send + Sync, G: Gate + Sync>(
-    alloc: A,
+    resources: Resources<'_, A, R, G>,
     text: &[u8],
     inputs: &[i64],
     config: Config,
     mode: Mode,
-    rt: &R,
-    gate: &G,
 ) -> Result<Report<A>, RunRefusal>
     ensures { MatchResult result (ReportsProgram mode text.now inputs.now config G.may_stop) (IsRefusedRun text.now inputs.now config) }
 {
-    let object = compile_program(alloc.clone()?, text)?;
-    let code = Loaded::new(alloc.clone()?, object.as_object())?;
-    let report = run_code_quietly(alloc, &code, inputs, config, mode, rt, gate)?;
+    let object = compile_program(resources.alloc.clone()?, text)?;
+    let code = Loaded::new(resources.alloc.clone()?, object.as_object())?;
+    let report = run_code_quietly(resources, &code, inputs, config, mode)?;
     Ok(report)
 }

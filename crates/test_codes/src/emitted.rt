@@ -90,25 +90,27 @@ struct Shape {
     slot: u32,
     first: Option<Dest>,
     second: Option<Dest>,
-    stated: bool,
+    has_origin: bool,
 }
 
-const fn make_shape(slot: u32, first: Option<Dest>, second: Option<Dest>, stated: bool) -> Shape {
-    Shape {
-        slot,
-        first,
-        second,
-        stated,
+impl Shape {
+    const fn without_origin(slot: u32, first: Option<Dest>, second: Option<Dest>) -> Shape {
+        Shape {
+            slot,
+            first,
+            second,
+            has_origin: false,
+        }
     }
-}
 
-fn shape_of<A: Allocator>(instr: &Instr<A>) -> Shape {
-    make_shape(
-        instr.slot,
-        instr.firsts.first().copied(),
-        instr.seconds.first().copied(),
-        instr.origin == node_seven(),
-    )
+    fn of<A: Allocator>(instr: &Instr<A>) -> Shape {
+        Shape {
+            slot: instr.slot,
+            first: instr.firsts.first().copied(),
+            second: instr.seconds.first().copied(),
+            has_origin: instr.origin == node_seven(),
+        }
+    }
 }
 
 /// The shapes of the instructions of the first block.
@@ -119,7 +121,7 @@ fn shapes_of<A: Allocator, B: Allocator>(
     let mut shapes = Vec::new(alloc);
     if let Some(block) = code.program.blocks.first() {
         for instr in &block.instrs {
-            shapes.push(shape_of(instr))?;
+            shapes.push(Shape::of(instr))?;
         }
     }
     Ok(shapes)
@@ -144,20 +146,26 @@ fn an_adder_and_dividers(rt: HostRuntime) -> Result<(), Fail> {
     let add = Op::Apply2 { op: Binary::Add };
     let shapes = emitted_shapes(rt.alloc(), add, &[0, 1, 2], Version::One)?;
     let wanted = [
-        make_shape(0, Some(left(4)), Some(left(5)), false),
-        make_shape(0, Some(left(2)), None, false),
-        make_shape(0, Some(right(1)), None, false),
-        make_shape(0, Some(right(1)), None, false),
-        make_shape(1, Some(right(1)), None, false),
-        make_shape(2, None, None, false),
+        Shape::without_origin(0, Some(left(4)), Some(left(5))),
+        Shape::without_origin(0, Some(left(2)), None),
+        Shape::without_origin(0, Some(right(1)), None),
+        Shape::without_origin(0, Some(right(1)), None),
+        Shape::without_origin(1, Some(right(1)), None),
+        Shape::without_origin(2, None, None),
     ];
     assert!(rt; shapes.as_slice() == wanted.as_slice());
     let divide = Op::Apply2 { op: Binary::Div };
     let shapes = emitted_shapes(rt.alloc(), divide, &[2, 0, 1], Version::Two)?;
-    assert!(rt; shapes.get(3) == Some(&make_shape(2, Some(right(1)), None, true)));
-    assert!(rt; shapes.get(4) == Some(&make_shape(0, Some(right(1)), None, false)));
+    let divider = Shape {
+        slot: 2,
+        first: Some(right(1)),
+        second: None,
+        has_origin: true,
+    };
+    assert!(rt; shapes.get(3) == Some(&divider));
+    assert!(rt; shapes.get(4) == Some(&Shape::without_origin(0, Some(right(1)), None)));
     let shapes = emitted_shapes(rt.alloc(), divide, &[0, 1, 2], Version::One)?;
-    assert!(rt; shapes.get(3) == Some(&make_shape(0, Some(right(1)), None, false)));
+    assert!(rt; shapes.get(3) == Some(&Shape::without_origin(0, Some(right(1)), None)));
     Ok(())
 }
 

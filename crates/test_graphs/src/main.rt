@@ -43,6 +43,13 @@ enum Next {
     Free,
 }
 
+/// A graph, and how often free elements run it.
+#[derive(Clone, Copy)]
+struct Subject<'a> {
+    graph: &'a Graph,
+    free: u64,
+}
+
 /// The numbers that the words give.
 fn sizes_in(words: &[String]) -> Option<Sizes> {
     let mut numbers = [500, 1_000];
@@ -86,9 +93,9 @@ fn graph_agrees<R: Threads + Wait + Sync, W: Write>(
     out: &mut W,
     tally: &mut Tally,
     dice: &mut Dice,
-    graph: &Graph,
-    free: u64,
+    subject: Subject<'_>,
 ) -> io::Result<bool> {
+    let Subject { graph, free } = subject;
     let Ok(meant) = mean_text(alloc, &graph.text, &graph.inputs, ACTIVITIES) else {
         writeln!(out, "refused:")?;
         return Ok(false);
@@ -120,10 +127,13 @@ fn part_agrees<R: Threads + Wait + Sync, W: Write>(
     let mut tally = Tally::new();
     let mut dice = Dice::new(sizes.seed);
     for number in 0..graphs {
-        let free = sizes.free.unwrap_or(u64::from(number % 8 == 0));
         let seed = dice.throw(u64::MAX).wrapping_add(number);
         let graph = Graph::random(alloc, part, seed)?;
-        if !graph_agrees(rt, alloc, out, &mut tally, &mut dice, &graph, free)? {
+        let subject = Subject {
+            graph: &graph,
+            free: sizes.free.unwrap_or(u64::from(number % 8 == 0)),
+        };
+        if !graph_agrees(rt, alloc, out, &mut tally, &mut dice, subject)? {
             out.write_all(&graph.text)?;
             for input in &graph.inputs {
                 writeln!(out, "{input}")?;

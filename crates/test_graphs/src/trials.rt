@@ -7,6 +7,7 @@ use crate::verdict::{Verdict, verdict_of};
 use command_line::Mode;
 use driver::emulation::{emulate, emulate_picks, run_text};
 use driver::fault::Fault;
+use driver::resources::Resources;
 use oracle::MeanReport;
 use rounds::Open;
 use schedule::config::Config;
@@ -117,7 +118,12 @@ impl<'a> Trials<'a> {
         self.way = "free";
         let text = &self.graph.text;
         let inputs = &self.graph.inputs;
-        let run = run_text(alloc, text, inputs, config, Mode::Free, rt, &Open).map(
+        let resources = Resources {
+            alloc,
+            rt,
+            gate: &Open,
+        };
+        let run = run_text(resources, text, inputs, config, Mode::Free).map(
             |emulated| emulated.report,
         );
         self.judge(runs, config, &run) != Verdict::Differs

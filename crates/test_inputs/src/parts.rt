@@ -15,13 +15,13 @@ fn is_name(word: &str, names: &[&str]) -> bool {
 }
 
 /// The words after word `place`, up to the next name.
-fn words_behind<'a>(words: &'a [String], place: usize, names: &[&str]) -> &'a [String] {
-    let behind = words.get(place.wrapping_add(1)..).unwrap_or(&[]);
-    let end = behind
+fn words_after<'a>(words: &'a [String], place: usize, names: &[&str]) -> &'a [String] {
+    let after = words.get(place.wrapping_add(1)..).unwrap_or(&[]);
+    let end = after
         .iter()
         .position(|word| is_name(word.as_str(), names))
-        .unwrap_or(behind.len());
-    behind.get(..end).unwrap_or(behind)
+        .unwrap_or(after.len());
+    after.get(..end).unwrap_or(after)
 }
 
 /// The parts that the words of a command line name, in their order. What is before the first name is left out.
@@ -35,7 +35,7 @@ pub fn named_parts<'a>(
         if is_name(word.as_str(), names) {
             parts.push(Named {
                 name: word.as_str(),
-                words: words_behind(words, place, names),
+                words: words_after(words, place, names),
             })?;
         }
     }

@@ -15,7 +15,7 @@ fn digit_value(digit: u8) -> u8 {
 }
 
 /// The byte that two hexadecimal digits spell.
-fn byte_of(high: u8, low: u8) -> u8 {
+pub fn byte_of(high: u8, low: u8) -> u8 {
     digit_value(high).wrapping_mul(16) | digit_value(low)
 }
 
@@ -89,6 +89,17 @@ pub fn changed(
     append(&mut changed, piece, 0)?;
     changed.extend_from_slice(rest)?;
     Ok(Some(changed))
+}
+
+/// Overwrites the text from this place on. Says whether it is as long as that.
+pub fn overwrite(text: &mut [u8], place: usize, bytes: &[u8]) -> bool {
+    let Some(rest) = text.get_mut(place..) else {
+        return false;
+    };
+    for (old, new) in rest.iter_mut().zip(bytes) {
+        *old = *new;
+    }
+    true
 }
 
 /// Appends the bytes of a word, the lowest first. `digits` has the highest digits first.

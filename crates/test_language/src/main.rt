@@ -11,7 +11,7 @@ mod tally;
 mod trial;
 
 use growths::refuse_each;
-use runs::Subject;
+use runs::{Subject, Ways};
 use std::alloc::Global;
 use std::env;
 use std::io::{self, Write};
@@ -22,8 +22,8 @@ use tally::Tally;
 use test_inputs::random_graphs::dice::Dice;
 use test_random_programs::damage::{Changed, change, unchanged};
 use test_random_programs::evaluation::MeantEnd;
-use test_random_programs::program;
-use trial::{Reading, Wrong, first_wrong, lower_text, some_inputs};
+use test_random_programs::{Scale, program};
+use trial::{Reading, Sample, Wrong, first_wrong, lower_text, some_inputs};
 
 /// How many texts there are of each part, and the seed.
 #[derive(Clone, Copy)]
@@ -50,6 +50,15 @@ impl Part {
             Part::Growths => "growths",
         }
     }
+
+    /// The ways in which the program of this number is run: every eighth is also run by free elements.
+    fn ways(self, number: u64) -> Ways {
+        if self == Part::Programs && number % 8 == 0 {
+            Ways::All
+        } else {
+            Ways::Repeatable
+        }
+    }
 }
 
 /// The numbers that the words give.
@@ -70,7 +79,12 @@ fn sizes_in(words: &[String]) -> Option<Sizes> {
 /// The random text of this number.
 fn some_text(alloc: Global, dice: &mut Dice, number: u64, part: Part) -> io::Result<Changed> {
     let seed = dice.throw(u64::MAX).wrapping_add(number);
-    let text = program(alloc, seed, part == Part::Growths)?;
+    let scale = if part == Part::Growths {
+        Scale::Small
+    } else {
+        Scale::Large
+    };
+    let text = program(alloc, seed, scale)?;
     if part == Part::Changed {
         Ok(change(alloc, dice, &text)?)
     } else {
@@ -83,10 +97,9 @@ fn wrong_growth<R: Threads + Wait + Sync>(
     rt: &R,
     alloc: Global,
     tally: &mut Tally,
-    text: &[u8],
-    inputs: &mut Vec<i64>,
+    sample: &mut Sample,
 ) -> io::Result<Option<Wrong>> {
-    let lowered = match lower_text(alloc, tally, text, inputs)? {
+    let lowered = match lower_text(alloc, tally, &sample.changed.text, &mut sample.inputs)? {
         Reading::Lowered(lowered) => lowered,
         Reading::Refused(_) => return Ok(None),
     };
@@ -95,9 +108,9 @@ fn wrong_growth<R: Threads + Wait + Sync>(
         return Ok(None);
     }
     let subject = Subject {
-        text,
+        text: &sample.changed.text,
         graph: &lowered.graph,
-        inputs: inputs.as_slice(),
+        inputs: sample.inputs.as_slice(),
         meaning: &lowered.meaning,
     };
     match refuse_each(rt, alloc, subject) {
@@ -110,17 +123,11 @@ fn wrong_growth<R: Threads + Wait + Sync>(
 }
 
 /// Prints a text that differs, with its inputs.
-fn tell<W: Write>(
-    out: &mut W,
-    number: u64,
-    wrong: Wrong,
-    text: &[u8],
-    inputs: &[i64],
-) -> io::Result<()> {
+fn tell<W: Write>(out: &mut W, number: u64, wrong: Wrong, sample: &Sample) -> io::Result<()> {
     writeln!(out, "number {number} {wrong}:")?;
-    out.write_all(text)?;
+    out.write_all(&sample.changed.text)?;
     writeln!(out, "\ninputs")?;
-    for input in inputs {
+    for input in &sample.inputs {
         writeln!(out, "{input}")?;
     }
     Ok(())
@@ -138,16 +145,19 @@ fn part_agrees<R: Threads + Wait + Sync, W: Write>(
     let mut tally = Tally::new(alloc);
     let mut dice = Dice::new(seed);
     for number in 0..count {
-        let text = some_text(alloc, &mut dice, number, part)?;
-        let mut inputs = some_inputs(alloc, &mut dice)?;
-        let wrong = if part == Part::Growths {
-            wrong_growth(rt, alloc, &mut tally, &text.text, &mut inputs)?
-        } else {
-            let free = part == Part::Programs && number % 8 == 0;
-            first_wrong(rt, alloc, &mut tally, &mut dice, &text, &mut inputs, free)?
+        let mut sample = Sample {
+            changed: some_text(alloc, &mut dice, number, part)?,
+            inputs: some_inputs(alloc, &mut dice)?,
+        };
+        let wrong = match part {
+            Part::Growths => wrong_growth(rt, alloc, &mut tally, &mut sample)?,
+            Part::Programs | Part::Changed => {
+                let ways = part.ways(number);
+                first_wrong(rt, alloc, &mut tally, &mut dice, &mut sample, ways)?
+            }
         };
         if let Some(wrong) = wrong {
-            tell(out, number, wrong, &text.text, &inputs)?;
+            tell(out, number, wrong, &sample)?;
             return Ok(false);
         }
     }

@@ -42,6 +42,15 @@ pub enum Verdict {
     Differs,
 }
 
+/// The ways in which a program is run.
+#[derive(Clone, Copy, PartialEq, Eq)]
+pub enum Ways {
+    /// In turn, in rounds and in a random order, on some numbers of elements.
+    Repeatable,
+    /// Also by free elements, whose threads may meet in another order each time.
+    All,
+}
+
 /// The way in which a run was made.
 #[derive(Clone, Copy)]
 pub struct Way {
@@ -196,15 +205,14 @@ fn run_at_random(
     Ok((run_listed(alloc, subject, elements, &picks), elements))
 }
 
-/// The first way in which a run of the program does not report what it means, on some numbers of elements and in a random order. Free
-/// elements run it where that is asked for.
+/// The first of these ways in which a run of the program does not report what it means.
 pub fn first_other<R: Threads + Wait + Sync>(
     rt: &R,
     alloc: Global,
     tally: &mut Tally,
     subject: Subject<'_>,
     dice: &mut Dice,
-    free: bool,
+    ways: Ways,
 ) -> Result<Option<Way>, AllocError> {
     let elements = some_elements(dice);
     let (verdict, events) = run_in(rt, alloc, subject, Mode::One, elements);
@@ -220,7 +228,7 @@ pub fn first_other<R: Threads + Wait + Sync>(
     if let Some(way) = counted(&mut tally.listed, verdict, "in a random order", elements)? {
         return Ok(Some(way));
     }
-    if !free {
+    if ways == Ways::Repeatable {
         return Ok(None);
     }
     let elements = some_elements(dice);

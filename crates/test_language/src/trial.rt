@@ -1,6 +1,6 @@
 //! One text: it is refused, or it is lowered, evaluated and run.
 
-use crate::runs::{Subject, Way, first_other};
+use crate::runs::{Subject, Way, Ways, first_other};
 use crate::tally::Tally;
 use graph::Name;
 use graph_file::write;
@@ -22,6 +22,13 @@ use test_random_programs::evaluation::{Meaning, MeantEnd, evaluate};
 
 /// Inputs besides small ones.
 const INPUTS: [i64; 4] = [-1, 100, i64::MIN, i64::MAX];
+
+/// A text, and inputs for its program.
+#[derive(Drop)]
+pub struct Sample {
+    pub changed: Changed,
+    pub inputs: Vec<i64>,
+}
 
 /// As many inputs as a program may have.
 pub fn some_inputs(alloc: Global, dice: &mut Dice) -> Result<Vec<i64>, AllocError> {
@@ -70,7 +77,7 @@ pub enum Reading {
 
 fn refused(fault: LowerFault) -> io::Result<Reading> {
     match fault {
-        LowerFault::Program(fault) => Ok(Reading::Refused(fault)),
+        LowerFault::Program(refusal) => Ok(Reading::Refused(refusal.fault)),
         LowerFault::Memory => Err(io::Error::from(AllocError)),
     }
 }
@@ -188,15 +195,14 @@ pub fn first_wrong<R: Threads + Wait + Sync>(
     alloc: Global,
     tally: &mut Tally,
     dice: &mut Dice,
-    text: &Changed,
-    inputs: &mut Vec<i64>,
-    free: bool,
+    sample: &mut Sample,
+    ways: Ways,
 ) -> io::Result<Option<Wrong>> {
-    let lowered = match lower_text(alloc, tally, &text.text, inputs)? {
+    let lowered = match lower_text(alloc, tally, &sample.changed.text, &mut sample.inputs)? {
         Reading::Lowered(lowered) => lowered,
         Reading::Refused(fault) => {
             tally.count_refusal(fault.kind)?;
-            return Ok((!text.admits(fault)).then_some(Wrong::Refused(fault)));
+            return Ok((!sample.changed.admits(fault)).then_some(Wrong::Refused(fault)));
         }
     };
     tally.count_meaning(&lowered.meaning)?;
@@ -204,12 +210,12 @@ pub fn first_wrong<R: Threads + Wait + Sync>(
         return Ok(None);
     }
     let subject = Subject {
-        text: &text.text,
+        text: &sample.changed.text,
         graph: &lowered.graph,
-        inputs: inputs.as_slice(),
+        inputs: sample.inputs.as_slice(),
         meaning: &lowered.meaning,
     };
-    match first_other(rt, alloc, tally, subject, dice, free)? {
+    match first_other(rt, alloc, tally, subject, dice, ways)? {
         Some(way) => Ok(Some(Wrong::Run(way))),
         None => Ok(None),
     }

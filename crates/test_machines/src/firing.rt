@@ -7,7 +7,7 @@ use crate::operations::operation_of;
 use crate::part::Part;
 use crate::shown::{push_origin, push_state, push_token, side_of};
 use crate::words::Words;
-use element::firing::{Made, NONE, Outcome, Point, SIGNAL, fire};
+use element::firing::{Made, NONE, Operand, Outcome, Point, SIGNAL, fire};
 use element::instructions::{Array, Instruction, Instructions, dest_in};
 use semantics::program::Op;
 use std::alloc::AllocError;
@@ -88,7 +88,8 @@ fn fired(op: Op, slot: &SlotState, port: Port, word: &Word) -> Option<(Outcome, 
         second: 2,
     };
     let mut made = NONE;
-    let outcome = fire(&NoProgram, SEAT, &instr, *slot, port, *word, &mut made);
+    let operand = Operand { port, word: *word };
+    let outcome = fire(&NoProgram, SEAT, &instr, *slot, operand, &mut made);
     Some((outcome, made))
 }
 

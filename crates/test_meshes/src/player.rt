@@ -12,6 +12,9 @@ use tags::token::{Port, To, Token, Word};
 
 const MOST: u64 = 1 << 40;
 
+/// The start tokens of element `e` have the numbers from `e * NUMBERS` on.
+pub const NUMBERS: u32 = 100_000;
+
 /// The tokens that came back to their first element. Their numbers should be those from `first` on, each once, in order.
 #[derive(Clone, Copy, Drop)]
 pub struct Tally {
@@ -166,7 +169,6 @@ impl Player {
         element: u32,
         elements: u32,
         start: &[Token],
-        first: u32,
     ) -> Result<Player, AllocError>
         requires mesh { (elements ≡ mesh.now.elements) × (start.now ≡ mesh.now.start) × (element < elements) × (elements ≤ 16) }
         requires seat { seat ≡ fresh_seat mesh.now element }
@@ -181,7 +183,7 @@ impl Player {
             previous: (element + elements - 1) % elements,
             made: 0,
             tally: Tally {
-                first,
+                first: element * NUMBERS,
                 arrived: 0,
                 astray: false,
             },

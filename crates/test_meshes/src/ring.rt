@@ -4,7 +4,7 @@ ghost use Rattle.mesh.specs.Seats.{AreFresh};
 ghost use Rattle.crossbeam_utils.specs.Padded.{padded_value};
 ghost use Rattle.test_meshes.specs.Playing.{IsPlaying};
 
-use crate::player::Player;
+use crate::player::{NUMBERS, Player};
 use crossbeam_utils::CachePadded;
 use mesh::{Mesh, Seat};
 use std::alloc::{AllocError, Global};
@@ -29,7 +29,7 @@ fn start_tokens(alloc: Global, elements: u32, each: u32) -> Result<Vec<Token>, A
                     ip: 0,
                     port: Port::Left,
                 },
-                word: Word::Frame(frame * 100000 + k),
+                word: Word::Frame(frame * NUMBERS + k),
             };
             start.push(token)?;
         }
@@ -55,8 +55,7 @@ fn players(
     let mut all = Vec::new(alloc);
     while let Some(seat) = seats.pop() {
         let element = seats.len() as u32;
-        let first = element * 100000;
-        let player = Player::new(alloc, mesh, seat, element, elements, start, first)?;
+        let player = Player::new(alloc, mesh, seat, element, elements, start)?;
         all.push(CachePadded::new(player))?;
     }
     Ok(all)

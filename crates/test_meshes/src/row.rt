@@ -30,31 +30,46 @@ fn token(frame: u32, number: u32) -> Token
     }
 }
 
-/// Element 0 spends t to make u and v, and posts u. Then the box is full, so v is returned.
-fn spend_and_post<'h>(
+/// Element 0 spends t to make u and v.
+fn spend<'h>(
     rt: &impl Abort,
-    heap: Heap<'h>,
     mesh: &Mesh<Heap<'h>>,
     seat: &mut Seat<Heap<'h>>,
     t: &Token,
     u: &Token,
     v: &Token,
-) -> Vec<Token, Heap<'h>>
+)
     requires mesh { mesh.now.elements ≡ 2 }
     requires seat { (seat.old.own.element ≡ 0) × (created seat.old.own.deeds ≡ 0) × Holds mesh.now seat.old (t.now ∷ []) }
-    requires tokens { (element_of 2 t.now.to ≡ 0) × (element_of 2 u.now.to ≡ 1) × (element_of 2 v.now.to ≡ 1) }
-    ensures back { result.items ≡ v.now ∷ [] }
-    ensures seat { (seat.new.own.element ≡ 0) × Holds mesh.now seat.new (v.now ∷ []) }
+    requires token { element_of 2 t.now.to ≡ 0 }
+    ensures seat { (seat.new.own.element ≡ 0) × Holds mesh.now seat.new (u.now ∷ v.now ∷ []) }
 {
     let spent = [*t];
     let made = [*u, *v];
+    assert_eq!(rt; live(mesh, seat, &spent), 1);
+    commit(mesh, seat, &spent, &made, &[]);
+    assert_eq!(rt; live(mesh, seat, &made), 2);
+}
+
+/// Element 0 posts u. Then the box is full, so v is returned.
+fn post_both<'h>(
+    rt: &impl Abort,
+    heap: Heap<'h>,
+    mesh: &Mesh<Heap<'h>>,
+    seat: &mut Seat<Heap<'h>>,
+    u: &Token,
+    v: &Token,
+) -> Vec<Token, Heap<'h>>
+    requires mesh { mesh.now.elements ≡ 2 }
+    requires seat { (seat.old.own.element ≡ 0) × Holds mesh.now seat.old (u.now ∷ v.now ∷ []) }
+    requires tokens { (element_of 2 u.now.to ≡ 1) × (element_of 2 v.now.to ≡ 1) }
+    ensures back { result.items ≡ v.now ∷ [] }
+    ensures seat { (seat.new.own.element ≡ 0) × Holds mesh.now seat.new (v.now ∷ []) }
+{
     let later = [*v];
     let first = vec![in heap; *u].expect(rt, "memory");
     let second = vec![in heap; *v].expect(rt, "memory");
     let left = heap.left();
-    assert_eq!(rt; live(mesh, seat, &spent), 1);
-    commit(mesh, seat, &spent, &made, &[]);
-    assert_eq!(rt; live(mesh, seat, &made), 2);
     let Ok(()) = post(mesh, seat, 1, first, &later) else {
         panic!(rt; "the box is empty")
     };
@@ -156,7 +171,10 @@ fn the_row<'h>(
     let v = token(1, 2);
     let only_u = [token(1, 1)];
     let only_v = [token(1, 2)];
-    let back = spend_and_post(rt, heap, mesh, &mut zero, t, &u, &v);
+    let left = heap.left();
+    spend(rt, mesh, &mut zero, t, &u, &v);
+    assert_eq!(rt; heap.left(), left);
+    let back = post_both(rt, heap, mesh, &mut zero, &u, &v);
     assert_eq!(rt; back.as_slice(), only_v.as_slice());
     let left = heap.left();
     let first = take_one(rt, mesh, &mut one);

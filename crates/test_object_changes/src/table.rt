@@ -5,21 +5,13 @@ use crate::outcome::outcome_of;
 use std::alloc::{AllocError, Global};
 use std::io::{self, Write};
 use std::str;
-
-/// The value of a hexadecimal digit; 0 for any other byte.
-fn digit_value(digit: u8) -> u8 {
-    match digit {
-        b'0'..=b'9' => digit - b'0',
-        b'a'..=b'f' => digit - b'a' + 10,
-        _ => 0,
-    }
-}
+use test_inputs::pieces::{byte_of, overwrite};
 
 /// Appends the bytes that these words spell, one for each word of two digits.
 fn append_hex(bytes: &mut Vec<u8>, words: &[u8]) -> Result<(), AllocError> {
     for word in words.split(|byte| *byte == b' ') {
         if let [high, low] = word {
-            bytes.push(digit_value(*high).wrapping_mul(16) | digit_value(*low))?;
+            bytes.push(byte_of(*high, *low))?;
         }
     }
     Ok(())
@@ -40,15 +32,6 @@ fn without_comment(line: &[u8]) -> &[u8] {
     match line.iter().position(|byte| *byte == b'#') {
         Some(end) => line.get(..end).unwrap_or(line).trim_ascii_end(),
         None => line,
-    }
-}
-
-/// Overwrites the bytes from `place` on, where there are any.
-fn overwrite(object: &mut [u8], place: usize, bytes: &[u8]) {
-    if let Some(rest) = object.get_mut(place..) {
-        for (old, new) in rest.iter_mut().zip(bytes) {
-            *old = *new;
-        }
     }
 }
 

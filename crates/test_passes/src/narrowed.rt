@@ -47,13 +47,13 @@ fn marks_of<A: Allocator>(alloc: A, lines: &[Line]) -> Result<Vec<Mark, A>, Allo
     Ok(marks)
 }
 
-/// A plan whose first block has these instructions. The second block, which links may name, has two inputs and three outputs,
-/// and is plain or not.
+/// A plan whose first block has these instructions. The second block, which links may name, has two inputs and three outputs.
+/// The blocks below number `plain` are plain.
 fn plan_of<A: Allocator + Clone>(
     alloc: A,
     inputs: u32,
     lines: &[Line],
-    is_plain: bool,
+    plain: u32,
 ) -> Result<Plan<A>, AllocError> {
     let mut blocks = Vec::new(alloc.clone()?);
     blocks.push(block_of(alloc.clone()?, inputs, 1, lines)?)?;
@@ -67,7 +67,7 @@ fn plan_of<A: Allocator + Clone>(
             arrays,
             main: 0,
         },
-        plain: if is_plain { 2 } else { 1 },
+        plain,
         marks,
     })
 }
@@ -132,7 +132,7 @@ static CASES: [Case; 5] = [
         ],
     },
     Case {
-        name: "copies of entries stand behind the last one",
+        name: "copies of entries are after the last one",
         inputs: 2,
         lines: &[
             (Op::Copy, &[(3, L), (4, L), (4, R)], NONE),
@@ -209,10 +209,10 @@ static CASES: [Case; 5] = [
 
 /// Only a switch has a mark afterwards, too.
 #[test]
-fn copies_stand_where_they_should(rt: HostRuntime) -> Result<(), Fail> {
+fn copies_are_where_they_should_be(rt: HostRuntime) -> Result<(), Fail> {
     let alloc = rt.alloc();
     for case in &CASES {
-        let plan = plan_of(alloc, case.inputs, case.lines, true)?;
+        let plan = plan_of(alloc, case.inputs, case.lines, 2)?;
         let narrowed = narrow(alloc, &plan)?;
         assert!(rt; has_lines(&narrowed, case.wanted), "{}", case.name);
         let marks = marks_of(alloc, case.wanted)?;
@@ -224,7 +224,7 @@ fn copies_stand_where_they_should(rt: HostRuntime) -> Result<(), Fail> {
 #[test]
 fn a_landing_of_a_loop_has_its_values_and_three_more(rt: HostRuntime) -> Result<(), Fail> {
     let alloc = rt.alloc();
-    let plan = plan_of(alloc, 0, &LINKED, false)?;
+    let plan = plan_of(alloc, 0, &LINKED, 1)?;
     let narrowed = narrow(alloc, &plan)?;
     match narrowed.program.blocks.first() {
         None => assert!(rt; false, "no block"),
@@ -294,7 +294,7 @@ fn each_growth_is_refused_in_turn(rt: HostRuntime) -> Result<(), Fail> {
     for growth in 1..10_000u64 {
         let plenty = Rationed::new(rt.alloc(), 0);
         let scarce = Rationed::new(rt.alloc(), growth);
-        let plan = plan_of(&plenty, 0, &LINKED, true)?;
+        let plan = plan_of(&plenty, 0, &LINKED, 2)?;
         let narrowed = narrow(&scarce, &plan);
         whole = is_next_refused(&scarce);
         assert_eq!(rt; narrowed.is_ok(), whole, "{growth}");

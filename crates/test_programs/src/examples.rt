@@ -9,6 +9,7 @@ use command_line::Mode;
 use commands::input::{parse_integers, split_at_main};
 use driver::emulation::run_text;
 use driver::meaning::mean_text;
+use driver::resources::Resources;
 use report_text::{write_meaning, write_report};
 use rounds::Open;
 use schedule::config::Config;
@@ -54,7 +55,12 @@ fn report_of<R: Threads + Wait + Sync>(
         steps: STEPS,
         turn: 1_024,
     };
-    let emulated = run_text(alloc, text, &integers, config, mode, rt, &Open).ok()?;
+    let resources = Resources {
+        alloc,
+        rt,
+        gate: &Open,
+    };
+    let emulated = run_text(resources, text, &integers, config, mode).ok()?;
     let mut report = Vec::new(alloc);
     write_report(&mut report, emulated.checked.graph(), &emulated.report).ok()?;
     Some(report)

@@ -88,13 +88,13 @@ fn change_token<'a>(dice: &mut Dice, text: &'a [u8], tokens: &[Token]) -> Edit<'
     let number = some_place(dice, tokens.len());
     let from = place_of(text, tokens, number);
     let next = place_of(text, tokens, number.wrapping_add(1));
-    let behind = place_of(text, tokens, number.wrapping_add(2));
+    let after = place_of(text, tokens, number.wrapping_add(2));
     let other = some_place(dice, tokens.len());
     let bytes = part(text, from, next);
     let (to, one, two) = match dice.throw(5) {
         0 => (next, b"".as_slice(), b"".as_slice()),
         1 => (from, bytes, b"".as_slice()),
-        2 => (behind, part(text, next, behind), bytes),
+        2 => (after, part(text, next, after), bytes),
         3 => {
             let start = place_of(text, tokens, other);
             let end = place_of(text, tokens, other.wrapping_add(1));

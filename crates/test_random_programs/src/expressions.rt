@@ -106,8 +106,8 @@ impl Writer {
         match self.dice.throw(12) {
             0 if self.may_store() => self.plan("WHOLE", of),
             1 => {
-                let behind = array.len.wrapping_add(self.dice.throw(3));
-                self.put_number(behind)
+                let outside = array.len.wrapping_add(self.dice.throw(3));
+                self.put_number(outside)
             }
             2 => self.plan("- 1", of),
             3 => {
@@ -159,7 +159,7 @@ impl Writer {
     fn call(&mut self, number: u64, of: Form) -> io::Result<()> {
         let function = self.function(number);
         let of = of.with_count(function.params).with_item(number);
-        if function.falls {
+        if function.partner.is_some() {
             self.plan("STRICT CALLEE ( AND & 3 MORE )", of)
         } else {
             self.plan("STRICT CALLEE ( LIST )", of)

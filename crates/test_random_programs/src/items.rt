@@ -4,6 +4,14 @@ use crate::writer::{Array, Form, Function, MAIN, Writer};
 use std::alloc::{AllocError, Global};
 use std::{io, mem};
 
+/// Which programs are written.
+#[derive(Clone, Copy, PartialEq, Eq)]
+pub enum Scale {
+    /// A program has one function besides `main`, or two that call each other, and one array, at most.
+    Small,
+    Large,
+}
+
 /// How large a program is: how deep its parts nest, and how many operators, brackets and conditionals an item has, at most.
 #[derive(Clone, Copy)]
 struct Size {
@@ -20,13 +28,12 @@ struct Items {
 }
 
 impl Writer {
-    /// Some shape of a function that calls this partner, if it falls.
-    fn some_shape(&mut self, falls: bool, partner: u64) -> Function {
+    /// Some shape of a function that has this partner.
+    fn some_shape(&mut self, partner: Option<u64>) -> Function {
         let most = if self.dice.throw(30) == 0 { 16 } else { 3 };
         Function {
             params: self.dice.throw(most).wrapping_add(1),
             results: self.dice.throw(most).wrapping_add(1),
-            falls,
             partner,
         }
     }
@@ -75,7 +82,7 @@ impl Writer {
 
     /// Writes `main`, which fills the arrays, at its beginning or after other statements.
     fn put_main(&mut self, size: Size) -> io::Result<()> {
-        let main = self.some_shape(false, MAIN);
+        let main = self.some_shape(None);
         let of = self.put_head(MAIN, main, size)?;
         let early = self.dice.throw(2) == 0;
         self.plan(
@@ -109,7 +116,7 @@ impl Items {
             self.writer.callable = number;
             match self.writer.dice.throw(3) {
                 0 => {
-                    let function = self.writer.some_shape(false, number);
+                    let function = self.writer.some_shape(None);
                     self.writer.functions.push(function)?;
                     self.put_function(number, "BLOCK")?;
                 }
@@ -134,7 +141,7 @@ impl Items {
     fn put_pair(&mut self, number: u64, partner: u64) -> io::Result<()> {
         for one in number..partner.wrapping_add(1) {
             let other = number.wrapping_add(partner).wrapping_sub(one);
-            let function = self.writer.some_shape(true, other);
+            let function = self.writer.some_shape(Some(other));
             self.writer.functions.push(function)?;
         }
         for one in number..partner.wrapping_add(1) {
@@ -191,32 +198,35 @@ impl Items {
     }
 }
 
-/// The text of the program that this seed chooses. It obeys the rules, but may be too wide or too big. A small one has one function
-/// besides `main`, or two that call each other, and one array, at most.
-pub fn program(alloc: Global, seed: u64, is_small: bool) -> io::Result<Vec<u8>> {
+/// The text of the program that this seed chooses. It obeys the rules, but may be too wide or too big.
+pub fn program(alloc: Global, seed: u64, scale: Scale) -> io::Result<Vec<u8>> {
     let mut writer = Writer::new(alloc, seed);
-    let depth = if is_small {
-        1
-    } else {
-        writer.dice.throw(3).wrapping_add(2)
+    let size = match scale {
+        Scale::Small => Size { depth: 1, fuel: 6 },
+        Scale::Large => Size {
+            depth: writer.dice.throw(3).wrapping_add(2),
+            fuel: 60,
+        },
     };
-    let fuel = if is_small { 6 } else { 60 };
+    let (functions, arrays) = match scale {
+        Scale::Small => (2, 2),
+        Scale::Large => (3, 4),
+    };
     writer.wild = writer.dice.throw(3) == 0;
-    let size = Size { depth, fuel };
     let mut items = Items {
         writer,
         items: Vec::new(alloc),
         size,
     };
-    let count = items.writer.dice.throw(if is_small { 2 } else { 3 });
+    let count = items.writer.dice.throw(functions);
     items.put_functions(count)?;
     items.writer.plain = items.writer.functions.len() as u64;
-    let arrays = items.writer.dice.throw(if is_small { 2 } else { 4 });
+    let arrays = items.writer.dice.throw(arrays);
     for array in 0..arrays {
         items.put_array(array)?;
     }
     items.writer.readable = arrays;
-    if !is_small {
+    if scale == Scale::Large {
         let count = items.writer.dice.throw(3);
         items.put_functions(count)?;
     }

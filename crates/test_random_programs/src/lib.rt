@@ -11,4 +11,4 @@ mod parts;
 mod statements;
 mod writer;
 
-pub use items::program;
+pub use items::{Scale, program};

@@ -54,7 +54,7 @@ impl Writer {
         let callee = if self.dice.throw(2) == 0 {
             of.item
         } else {
-            own.partner
+            own.partner.unwrap_or(of.item)
         };
         let function = self.function(callee);
         self.put_targets(function.results, of)?;

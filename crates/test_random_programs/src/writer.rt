@@ -9,9 +9,8 @@ use test_inputs::random_graphs::dice::Dice;
 pub struct Function {
     pub params: u64,
     pub results: u64,
-    /// It calls itself or its partner, with a first argument that falls to 0.
-    pub falls: bool,
-    pub partner: u64,
+    /// Where it calls itself or its partner, with a first argument that falls to 0: the partner.
+    pub partner: Option<u64>,
 }
 
 /// The number that stands for `main`.
@@ -220,8 +219,7 @@ impl Writer {
             None => Function {
                 params: 1,
                 results: 1,
-                falls: false,
-                partner: number,
+                partner: None,
             },
         }
     }

@@ -2,6 +2,7 @@
 
 use command_line::Mode;
 use driver::emulation::run_text;
+use driver::resources::Resources;
 use rounds::Gate;
 use schedule::config::Config;
 use semantics::report::End;
@@ -68,16 +69,14 @@ fn two(rt: HostRuntime) -> Result<(), Fail> {
         turn: 1,
     };
     let text = call_beside_chain(rt.alloc())?;
-    let emulated = run_text(
-        rt.alloc(),
-        &text,
-        [7].as_slice(),
-        config,
-        Mode::Free,
-        &rt,
-        &gate,
-    )
-    .map_err(|_| "a report")?;
+    let resources = Resources {
+        alloc: rt.alloc(),
+        rt: &rt,
+        gate: &gate,
+    };
+    let emulated = run_text(resources, &text, [7].as_slice(), config, Mode::Free).map_err(
+        |_| "a report",
+    )?;
     assert_eq!(rt; emulated.report.end, End::Rest);
     assert!(rt; gate.saw[0].load(Ordering::SeqCst) && gate.saw[1].load(Ordering::SeqCst));
     Ok(())

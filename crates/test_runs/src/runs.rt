@@ -2,6 +2,7 @@
 
 use command_line::Mode;
 use driver::fault::Fault;
+use driver::resources::Resources;
 use programs::fault::RunRefusal;
 use programs::running::run_program;
 use rounds::Open;
@@ -42,7 +43,12 @@ fn report_in<R: Threads + Wait + Sync>(
     input: i64,
     mode: Mode,
 ) -> Result<Report<Global>, RunRefusal> {
-    run_program(alloc, text, &[input], CONFIG, mode, rt, &Open)
+    let resources = Resources {
+        alloc,
+        rt,
+        gate: &Open,
+    };
+    run_program(resources, text, &[input], CONFIG, mode)
 }
 
 /// Whether the report has these outputs and cells, at rest, with no reader waiting and no event listed.
@@ -84,8 +90,15 @@ fn is_nameless(fault: &ProgramFault) -> bool {
 #[test]
 fn refusals_are_told(rt: HostRuntime) -> Result<(), Fail> {
     let nameless = report_in(&rt, rt.alloc(), NAMELESS, 1, Mode::One);
-    assert!(rt; matches!(nameless, Err(RunRefusal::Program(fault)) if is_nameless(&fault)));
-    let empty = run_program(rt.alloc(), FACTORIAL, &[], CONFIG, Mode::One, &rt, &Open);
+    assert!(rt;
+        matches!(nameless, Err(RunRefusal::Program(refusal)) if is_nameless(&refusal.fault))
+    );
+    let resources = Resources {
+        alloc: rt.alloc(),
+        rt: &rt,
+        gate: &Open,
+    };
+    let empty = run_program(resources, FACTORIAL, &[], CONFIG, Mode::One);
     assert!(rt;
         matches!(
             empty,

@@ -133,13 +133,12 @@ fn are_sizes(sizes: Sizes, words: &[&str]) -> bool {
     })
 }
 
-/// Whether `clap` reads this profile.
-fn is_profile(matches: &ArgMatches<'_>, options: &RunOptions, sizes: Sizes, svg: bool) -> bool {
+/// Whether `clap` reads these options and sizes of a profile.
+fn are_profile_options(matches: &ArgMatches<'_>, options: &RunOptions, sizes: Sizes) -> bool {
     matches.get_one::<u64>("frames") == Some(options.frames)
         && matches.get_one::<u64>("steps") == Some(options.steps)
         && options.elements == 1
         && options.mode == Some(Mode::One)
-        && matches.get_flag("svg") == svg
         && are_sizes(sizes, matches.get_strs("elements").unwrap_or(&[]))
 }
 
@@ -223,7 +222,7 @@ fn is_read(request: &Request, matches: &ArgMatches<'_>) -> bool {
                 svg,
             },
             Some(("profile", profile)),
-        ) => is_profile(profile, options, *sizes, *svg),
+        ) => are_profile_options(profile, options, *sizes) && profile.get_flag("svg") == *svg,
         _ => match request_in(matches) {
             Some(other) => is_same(request, &other),
             None => false,

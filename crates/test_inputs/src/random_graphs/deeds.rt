@@ -20,6 +20,20 @@ const DEPTH: u64 = 4;
 /// How often a block calls its own team at most.
 const RECURSIONS: u64 = 2;
 
+/// How a block invokes another one.
+#[derive(Clone, Copy, PartialEq, Eq)]
+enum Invocation {
+    Call,
+    Loop,
+}
+
+/// The teams whose blocks may be invoked.
+#[derive(Clone, Copy)]
+enum Teams {
+    Own,
+    Earlier,
+}
+
 impl Graph {
     /// Adds some nodes, where they are allowed in the region that is chosen.
     pub fn add_some(&mut self) -> io::Result<()> {
@@ -40,12 +54,10 @@ impl Graph {
                 let place = self.some_conditional();
                 self.merge(place)
             }
-            15..=17 => self.invoke(region, None, false),
+            15..=17 => self.invoke(region, None, Invocation::Call),
             18..=19 => self.recur(),
-            20..=21 => {
-                let has_loops = self.part == Part::All;
-                self.invoke(region, None, has_loops)
-            }
+            20..=21 if self.part == Part::All => self.invoke(region, None, Invocation::Loop),
+            20..=21 => self.invoke(region, None, Invocation::Call),
             22..=23 => self.add_fetch(region),
             _ => self.add_store(region),
         }
@@ -147,19 +159,18 @@ impl Graph {
         Ok(())
     }
 
-    /// Some block of the own team or of an earlier one; it has the form of an iteration where `is_turned` is true, and any form
-    /// else.
-    fn callee(&mut self, is_own: bool, is_turned: bool) -> Option<(u64, Shape)> {
+    /// Some block of these teams that may be invoked in this way. A loop's block has the form of an iteration, and the block of a
+    /// call has any form.
+    fn callee(&mut self, teams: Teams, invocation: Invocation) -> Option<(u64, Shape)> {
         let team = self.shape(self.block).team;
         let mut seen = 0u64;
         let mut chosen = None;
         for (number, shape) in self.shapes.iter().enumerate() {
-            let fits = if is_own {
-                shape.team == team
-            } else {
-                shape.team < team
+            let is_candidate = match teams {
+                Teams::Own => shape.team == team,
+                Teams::Earlier => shape.team < team,
             };
-            if fits && (shape.turns || !is_turned) {
+            if is_candidate && (shape.turns || invocation == Invocation::Call) {
                 seen = seen.wrapping_add(1);
                 if self.dice.throw(seen) == 0 {
                     chosen = Some((number as u64, *shape));
@@ -180,8 +191,17 @@ impl Graph {
     }
 
     /// Adds a call or a loop. With fuel it invokes a block of the own team, else one of an earlier team.
-    fn invoke(&mut self, region: u64, fuel: Option<Source>, is_loop: bool) -> io::Result<()> {
-        let Some((number, shape)) = self.callee(fuel.is_some(), is_loop) else {
+    fn invoke(
+        &mut self,
+        region: u64,
+        fuel: Option<Source>,
+        invocation: Invocation,
+    ) -> io::Result<()> {
+        let teams = match fuel {
+            Some(_) => Teams::Own,
+            None => Teams::Earlier,
+        };
+        let Some((number, shape)) = self.callee(teams, invocation) else {
             return Ok(());
         };
         let Some(value) = self.value(region) else {
@@ -192,7 +212,7 @@ impl Graph {
             None => self.fresh_fuel(region, value)?,
         };
         let arguments = self.arguments(region, first, shape.inputs)?;
-        let (kind, ports) = if is_loop {
+        let (kind, ports) = if invocation == Invocation::Loop {
             let bounds = if self.dice.throw(4) == 0 { 63 } else { 3 };
             let bound = self.dice.throw(bounds).wrapping_add(2);
             (Kind::Loop(number, bound), shape.inputs)
@@ -211,7 +231,12 @@ impl Graph {
             Some((arm, left)) if self.recursions < RECURSIONS => {
                 self.recursions = self.recursions.wrapping_add(1);
                 let is_loop = self.part == Part::All && self.dice.throw(3) == 0;
-                self.invoke(arm, Some(left), is_loop)
+                let invocation = if is_loop {
+                    Invocation::Loop
+                } else {
+                    Invocation::Call
+                };
+                self.invoke(arm, Some(left), invocation)
             }
             _ => Ok(()),
         }

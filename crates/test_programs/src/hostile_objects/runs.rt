@@ -8,6 +8,7 @@ use command_line::Mode;
 use driver::emulation::{emulate_object, emulate_object_picks, emulate_object_quietly};
 use driver::fault::Fault;
 use driver::objects::upgrade_object;
+use driver::resources::Resources;
 use rounds::Open;
 use schedule::config::Config;
 use schedule::report::Report;
@@ -104,7 +105,12 @@ impl Runnable<'_> {
         config: Config,
         mode: Mode,
     ) -> Result<Report<Global>, Fault> {
-        emulate_object_quietly(alloc, self.object, self.inputs, config, mode, rt, &Open)
+        let resources = Resources {
+            alloc,
+            rt,
+            gate: &Open,
+        };
+        emulate_object_quietly(resources, self.object, self.inputs, config, mode)
     }
 
     /// Whether a run that lists no events has the same report, except for the events.

@@ -48,6 +48,13 @@ struct Around {
     here: Here,
 }
 
+/// The arguments that a call waits for.
+#[derive(Clone, Copy)]
+enum Awaited {
+    Any,
+    All,
+}
+
 /// An evaluation. What waits has no value.
 #[derive(Drop)]
 pub struct Evaluator<'a> {
@@ -365,7 +372,7 @@ impl<'a> Evaluator<'a> {
     }
 
     /// Ends the innermost loop: it gives what its names stand for, where the test is known. Gives the place after it.
-    fn end_loop(&mut self, is_known: bool) -> Result<usize, AllocError> {
+    fn end_loop(&mut self, test: &Option<Value>) -> Result<usize, AllocError> {
         let (turn, from, count) = self.loop_around();
         let names = match self.around.last() {
             Some(around) => around.names,
@@ -373,7 +380,7 @@ impl<'a> Evaluator<'a> {
         };
         for i in 0..count {
             let value = match self.scope.get(names.wrapping_add(i)) {
-                Some(bound) if is_known => bound.value,
+                Some(bound) if test.is_some() => bound.value,
                 _ => None,
             };
             self.values.push(value)?;
@@ -405,7 +412,7 @@ impl<'a> Evaluator<'a> {
                     self.begin_arm(place);
                     return Ok(next);
                 }
-                self.end_loop(test.is_some())
+                self.end_loop(&test)
             }
             Word::Until => {
                 self.rename()?;
@@ -423,28 +430,31 @@ impl<'a> Evaluator<'a> {
         } else {
             let test = self.pop();
             if !is_true(test) {
-                return self.end_loop(test.is_some());
+                return self.end_loop(&test);
             }
         }
         self.begin_turn();
         Ok(turn.wrapping_add(1))
     }
 
-    /// Goes into a function, or after the call where the function has nothing to begin with. Gives the place of the next word.
-    fn call(&mut self, next: usize, strict: bool, name: usize) -> Result<usize, AllocError> {
-        let first = self.marks.pop().unwrap_or(0);
-        let mut some = false;
-        let mut all = true;
-        if let Some(values) = self.values.get(first..) {
-            for value in values {
-                some = some || value.is_some();
-                all = all && value.is_some();
+    /// Whether there are the arguments that a call waits for. They are the values from `first` on.
+    fn has_arguments(&self, first: usize, awaited: Awaited) -> bool {
+        let arguments = self.values.get(first..).unwrap_or(&[]);
+        match awaited {
+            Awaited::Any => arguments.iter().any(|value| value.is_some()),
+            Awaited::All => {
+                !arguments.is_empty() && arguments.iter().all(|value| value.is_some())
             }
         }
+    }
+
+    /// Goes into a function, or after the call where it waits for arguments. Gives the place of the next word.
+    fn call(&mut self, next: usize, awaited: Awaited, name: usize) -> Result<usize, AllocError> {
+        let first = self.marks.pop().unwrap_or(0);
         let Some(function) = self.layout.function(name) else {
             return Ok(next);
         };
-        if !some || strict && !all {
+        if !self.has_arguments(first, awaited) {
             self.values.truncate(first);
             for _ in 0..function.results {
                 self.values.push(None)?;
@@ -492,7 +502,10 @@ impl<'a> Evaluator<'a> {
                 strict,
                 function,
                 ..
-            } => Ok(Some(self.call(next, strict, function)?)),
+            } => {
+                let awaited = if strict { Awaited::All } else { Awaited::Any };
+                Ok(Some(self.call(next, awaited, function)?))
+            }
             Word::EndFunction => Ok(self.come_back()),
             _ => {
                 self.operand(word)?;

@@ -42,13 +42,19 @@ pub struct Layout<'a> {
     beginnings: Vec<Beginning>,
 }
 
+#[derive(Clone, Copy, PartialEq, Eq)]
+enum Part {
+    Arm,
+    Loop,
+}
+
 /// A part that has begun and not ended.
 #[derive(Clone, Copy)]
 struct Open {
+    part: Part,
     place: usize,
     /// How many names were in scope.
     names: usize,
-    is_arm: bool,
 }
 
 /// Goes over the words.
@@ -194,17 +200,17 @@ impl Scan<'_> {
 
     fn part(&mut self, place: usize, word: Word<usize>) -> Result<(), AllocError> {
         match word {
-            Word::Then | Word::While => self.begin(place, true),
+            Word::Then | Word::While => self.begin(Part::Arm, place),
             Word::Else => {
                 self.end(place);
-                self.begin(place, true)
+                self.begin(Part::Arm, place)
             }
             Word::TestFirst | Word::BodyFirst => {
-                self.begin(place, false)?;
+                self.begin(Part::Loop, place)?;
                 self.come()
             }
             Word::EndLoop { .. } => {
-                if self.open.last().is_some_and(|open| open.is_arm) {
+                if self.open.last().is_some_and(|open| open.part == Part::Arm) {
                     self.end(place);
                 }
                 self.end(place);
@@ -217,11 +223,11 @@ impl Scan<'_> {
         }
     }
 
-    fn begin(&mut self, place: usize, is_arm: bool) -> Result<(), AllocError> {
+    fn begin(&mut self, part: Part, place: usize) -> Result<(), AllocError> {
         self.open.push(Open {
+            part,
             place,
             names: self.scope.len(),
-            is_arm,
         })?;
         Ok(())
     }
@@ -255,7 +261,7 @@ impl Scan<'_> {
             }
         }
         for open in &self.open {
-            if open.is_arm && place < open.names {
+            if open.part == Part::Arm && place < open.names {
                 if let Some(beginning) = self.layout.beginnings.get_mut(open.place) {
                     if beginning.outside.is_none() {
                         beginning.outside = Some(name);

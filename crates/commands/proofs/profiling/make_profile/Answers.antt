@@ -1,34 +1,47 @@
-use Rattle.std.proofs.Common.{◌≡◌, ◌⊎◌, false, ℤ, List, subst}
+use Rattle.std.proofs.Common.{◌≡◌, ◌⊎◌, ℤ, List, subst}
 use Rattle.std.specs.Prelude.{Some}
 use Rattle.oracle.specs.Gathering.{wave_counts}
 use Rattle.oracle.specs.Waves.{AreWavesOf}
 use Rattle.driver.specs.Refused.{IsRefusedMeaning}
 use Rattle.outcomes.specs.declared.refusal.Refusal.{Refusal}
+use Rattle.commands.specs.declared.profiling.ProfileFormat.{ProfileFormat}
 use Rattle.commands.specs.Profiled.{AreRows, IsNoRow, sizes_below}
 use Rattle.commands.proofs.Feeds.{not_profiled, profile_of, rows_refused, waves_refused}
 use Rattle.commands.proofs.profiling.make_profile.Goals as goal
 
 pub returns-in-Err : goal.returns-in-Err
-returns-in-Err g c = not_profiled c.args.input.now c.in-Err.refusal c.in-Err.ensures c.args.options.now c.args.sizes c.args.svg
+returns-in-Err g c = not_profiled c.args.input.now c.in-Err.refusal c.in-Err.ensures c.args.options.now c.args.sizes c.args.format
 
 pub returns-in-Err-waves_text : goal.returns-in-Err-waves_text
 returns-in-Err-waves_text g c =
-    waves_refused c.args.input.now _ _ c.in-Ok.ensures c.args.options.now c.args.sizes c.args.svg c.in-Err-waves_text.fault
-    (subst (λ (zs : List ℤ). IsRefusedMeaning c.in-Ok.feed.text.now zs c.in-Err-waves_text.fault) c.deref.ensures.value c.in-Err-waves_text.ensures.refused) c.fault_refusal.result c.fault_refusal.ensures
+    waves_refused c.args.input.now _ _ c.in-Ok.ensures c.args.options.now c.args.sizes c.args.format c.in-Err-waves_text.fault
+    (subst (λ (zs : List ℤ). IsRefusedMeaning c.in-Ok.feed.text.now zs c.in-Err-waves_text.fault) c.deref.ensures.value
+    c.in-Err-waves_text.ensures.refused) c.fault_refusal.result c.fault_refusal.ensures
 
 pub returns : goal.returns
 returns g c =
     let w = c.in-Ok-waves_text.waves in
     let f = c.in-Err-rows_beside.refusal in
-    rows_refused c.args.input.now _ _ c.in-Ok.ensures c.args.options.now c.args.sizes c.args.svg w.checked w.report.end w.report.counts.items c.in-Ok-waves_text.ensures.good
-    (subst (λ (zs : List ℤ). AreWavesOf w.checked zs c.args.options.now.steps w.report.end w.report.counts.items) c.deref.ensures.value c.in-Ok-waves_text.ensures.waves) f
-    (subst (λ (zs : List ℤ). (f ≡ Refusal.Memory) ⊎ ((c.args.svg ≡ false) × IsNoRow c.in-Ok.feed.text.now zs c.args.options.now c.args.sizes f)) c.deref-2.ensures.value (c.in-Err-rows_beside.ensures c.in-Ok.feed.text.now c.in-Ok-waves_text.ensures.good))
+    let o = c.args.options.now in
+    let text = c.in-Ok.feed.text.now in
+    rows_refused c.args.input.now _ _ c.in-Ok.ensures o c.args.sizes c.args.format w.checked w.report.end w.report.counts.items
+    c.in-Ok-waves_text.ensures.good
+    (subst (λ (zs : List ℤ). AreWavesOf w.checked zs o.steps w.report.end w.report.counts.items) c.deref.ensures.value
+    c.in-Ok-waves_text.ensures.waves) f
+    (subst (λ (zs : List ℤ). (f ≡ Refusal.Memory) ⊎ ((c.args.format ≡ ProfileFormat.Lines) × IsNoRow text zs o c.args.sizes f))
+    c.deref-2.ensures.value (c.in-Err-rows_beside.ensures text c.in-Ok-waves_text.ensures.good))
 
 pub returns-in-Ok-rows_beside : goal.returns-in-Ok-rows_beside
 returns-in-Ok-rows_beside g c =
     let w = c.in-Ok-waves_text.waves in
     let rows = c.in-Ok-rows_beside.rows.items in
-    profile_of c.args.input.now _ _ c.in-Ok.ensures c.args.options.now c.args.sizes c.args.svg w.checked w.report.end w.report.counts.items rows c.in-Ok-waves_text.ensures.good
-    (subst (λ (zs : List ℤ). AreWavesOf w.checked zs c.args.options.now.steps w.report.end w.report.counts.items) c.deref.ensures.value c.in-Ok-waves_text.ensures.waves)
-    (subst (λ (zs : List ℤ). wave_counts w.checked zs c.args.options.now.steps ≡ Some (w.report.end, w.report.counts.items)) c.deref.ensures.value c.in-Ok-waves_text.ensures.reported)
-    (subst (λ (zs : List ℤ). c.args.svg ≡ false → AreRows c.in-Ok.feed.text.now zs c.args.options.now (sizes_below c.args.sizes 64) rows) c.deref-2.ensures.value (c.in-Ok-rows_beside.ensures c.in-Ok.feed.text.now c.in-Ok-waves_text.ensures.good))
+    let o = c.args.options.now in
+    let text = c.in-Ok.feed.text.now in
+    profile_of c.args.input.now _ _ c.in-Ok.ensures o c.args.sizes c.args.format w.checked w.report.end w.report.counts.items rows
+    c.in-Ok-waves_text.ensures.good
+    (subst (λ (zs : List ℤ). AreWavesOf w.checked zs o.steps w.report.end w.report.counts.items) c.deref.ensures.value
+    c.in-Ok-waves_text.ensures.waves)
+    (subst (λ (zs : List ℤ). wave_counts w.checked zs o.steps ≡ Some (w.report.end, w.report.counts.items)) c.deref.ensures.value
+    c.in-Ok-waves_text.ensures.reported)
+    (subst (λ (zs : List ℤ). c.args.format ≡ ProfileFormat.Lines → AreRows text zs o (sizes_below c.args.sizes 64) rows) c.deref-2.ensures.value
+    (c.in-Ok-rows_beside.ensures text c.in-Ok-waves_text.ensures.good))

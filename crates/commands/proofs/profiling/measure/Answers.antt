@@ -15,10 +15,10 @@ use Rattle.commands.proofs.profiling.measure.Goals as goal
 
 pub returns : goal.returns
 returns g c = λ text gr compiled.
-    let report = c.in-Ok.counted.watched.report in
-    let moments = c.in-Ok.counted.watched.moments.items in
+    let report = c.in-Ok-watch_rounds.counted.watched.report in
+    let moments = c.in-Ok-watch_rounds.counted.watched.moments.items in
     let bytes = c.args.code.now.bytes in
-    let rounds = c.in-Ok.counted.rounds in
+    let rounds = c.in-Ok-watch_rounds.counted.rounds in
     let config = config_with c.args.options.now c.args.elements in
     record {
       graph = gr;
@@ -26,17 +26,22 @@ returns g c = λ text gr compiled.
       report = report;
       moments = moments;
       watched = is_watched_in_rounds text gr bytes c.args.inputs.now config false report moments compiled
-          (subst (λ (d : Config). ShowsObject bytes c.args.inputs.now d false false report) c.config_with-config.ensures c.in-Ok.ensures.shows)
-          (subst (λ (d : Config). AreMoments bytes c.args.inputs.now d report moments) c.config_with-config.ensures c.in-Ok.ensures.moments);
+          (subst (λ (d : Config). ShowsObject bytes c.args.inputs.now d false false report) c.config_with-config.ensures c.in-Ok-watch_rounds.ensures.shows)
+          (subst (λ (d : Config). AreMoments bytes c.args.inputs.now d report moments) c.config_with-config.ensures c.in-Ok-watch_rounds.ensures.moments);
       kept = c.wants_memory.ensures c.if-wants_memory.false;
       number = c.row_of.ensures.number;
       rounds = subst (λ (n : ℕ). RunsObject bytes c.args.inputs.now config (RunsByRounds false n) report) (sym c.row_of.ensures.rounds)
-          (subst (λ (d : Config). RunsObject bytes c.args.inputs.now d (RunsByRounds false rounds) report) c.config_with-config.ensures c.in-Ok.ensures.rounds);
-      tokens = subst (λ (l : List Moment). c.row_of.result.tokens ≡ greatest_from (length c.args.inputs.now + 1) (map (quantity_in Quantity.Tokens) l)) c.deref.ensures.value c.row_of.ensures.tokens;
+          (subst (λ (d : Config). RunsObject bytes c.args.inputs.now d (RunsByRounds false rounds) report) c.config_with-config.ensures
+          c.in-Ok-watch_rounds.ensures.rounds);
+      tokens = subst (λ (l : List Moment). c.row_of.result.tokens ≡ greatest_from (length c.args.inputs.now + 1) (map (quantity_in Quantity.Tokens) l))
+          c.deref.ensures.value c.row_of.ensures.tokens;
       slots = subst (λ (l : List Moment). c.row_of.result.slots ≡ greatest_from 0 (map (quantity_in Quantity.Slots) l)) c.deref.ensures.value
           c.row_of.ensures.slots;
       frames = subst (λ (l : List Moment). c.row_of.result.frames ≡ greatest_from 1 (map (quantity_in Quantity.Frames) l)) c.deref.ensures.value c.row_of.ensures.frames;
     }
+
+pub returns-in_default : goal.returns-in_default
+returns-in_default g c = λ text gr compiled. (Fault.Memory, tt, refl)
 
 pub returns-then-wants_memory : goal.returns-then-wants_memory
 returns-then-wants_memory g c = λ text gr compiled. (Fault.Memory, tt, refl)

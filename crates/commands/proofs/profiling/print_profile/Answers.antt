@@ -1,6 +1,5 @@
-use Rattle.std.proofs.Common.{inl, ap, List}
-use Rattle.profile_text.specs.declared.lines.MachineRow.{MachineRow}
-use Rattle.commands.specs.Profiled.{profiled, text_of}
+use Rattle.std.proofs.Common.{inl, refl}
+use Rattle.commands.specs.Profiled.{profiled}
 use Rattle.commands.proofs.Served.{printed, stopped}
 use Rattle.commands.proofs.profiling.print_profile.Goals as goal
 
@@ -13,7 +12,7 @@ returns-in-Ok-write_made g c =
       p.waves.report.counts.items,
       p.rows.items,
       c.in-Ok.ensures,
-      printed _ _ _ _ _ _ _ (profiled c.args.svg p.waves.report.end) (ap (λ (l : List MachineRow). text_of c.args.svg p.waves.checked p.waves.report.end p.waves.report.counts.items l) c.deref.ensures.value) c.profiled.ensures c.in-Ok-write_made.ensures,
+      printed _ _ _ _ _ _ _ (profiled c.args.format p.waves.report.end) refl c.profiled.ensures c.in-Ok-write_made.ensures,
     )
 
 pub returns : goal.returns
@@ -25,5 +24,5 @@ returns g c =
       p.waves.report.counts.items,
       p.rows.items,
       c.in-Ok.ensures,
-      stopped _ _ _ _ _ _ (profiled c.args.svg p.waves.report.end) (ap (λ (l : List MachineRow). text_of c.args.svg p.waves.checked p.waves.report.end p.waves.report.counts.items l) c.deref.ensures.value) c.in-Err-write_made.ensures,
+      stopped _ _ _ _ _ _ (profiled c.args.format p.waves.report.end) refl c.in-Err-write_made.ensures,
     )
