@@ -4,6 +4,9 @@
 //! Build: rustc --edition 2021 -O plain_machine.rs. Run: plain_machine OBJECT INPUT [ELEMENTS [FRAMES [LOOK]]]. An object is taken to be
 //! sound. With LOOK each element runs in a thread of its own, and looks at its boxes each time it has made that number of events.
 
+mod sound_object;
+
+use sound_object::Code;
 use std::collections::VecDeque;
 use std::sync::Mutex;
 use std::sync::atomic::{AtomicI64, Ordering::SeqCst};
@@ -81,59 +84,6 @@ fn unpack(slot: [u64; 2]) -> Word {
         4 => Word::Frame(slot[1] as u32),
         5 => Word::Back(Cont::Frame { frame: slot[1] as u32, ip: (slot[0] >> 32) as u32, right: slot[0] >> 16 & 1 == 1 }),
         _ => Word::Back(Cont::Host { port: (slot[0] >> 32) as u32 }),
-    }
-}
-
-/// An object that is taken to be sound.
-struct Code<'a> {
-    bytes: &'a [u8],
-    version: u64,
-    instrs: usize,
-    literals: usize,
-    entries: Vec<u32>,
-    arrays: Vec<(u32, u32)>,
-    cells: u32,
-    outputs: usize,
-    slots: usize,
-    main: usize,
-}
-
-impl<'a> Code<'a> {
-    fn new(bytes: &'a [u8]) -> Code<'a> {
-        let word = |place: usize| u64::from_le_bytes(bytes[8 * place..8 * place + 8].try_into().unwrap());
-        let (blocks, literals, arrays, main) = (word(2) as usize, word(3) as usize, word(4) as usize, word(5) as usize);
-        let mut entries = Vec::new();
-        let mut first = 0;
-        let mut slots = 1;
-        for block in 0..blocks {
-            entries.push(first);
-            first += word(6 + block) as u32;
-            slots = slots.max((word(6 + block) >> 48) as usize);
-        }
-        let instrs = first as usize;
-        let mut base = 0;
-        let mut places = Vec::new();
-        for array in 0..arrays {
-            let len = word(6 + blocks + 2 * instrs + literals + array) as u32;
-            places.push((base, len));
-            base += len;
-        }
-        Code {
-            bytes,
-            version: word(1),
-            instrs,
-            literals: 6 + blocks + 2 * instrs,
-            outputs: (word(6 + main) >> 40 & 255) as usize,
-            entries,
-            arrays: places,
-            cells: base,
-            slots,
-            main,
-        }
-    }
-
-    fn word(&self, place: usize) -> u64 {
-        u64::from_le_bytes(self.bytes[8 * place..8 * place + 8].try_into().unwrap())
     }
 }
 
@@ -276,7 +226,7 @@ impl Lane {
         if ip as usize >= code.instrs {
             return Err(End::Stuck(1));
         }
-        let place = 6 + code.entries.len() + 2 * ip as usize;
+        let place = code.first_instr() + 2 * ip as usize;
         let head = code.word(place);
         let second = code.word(place + 1);
         let opcode = head as u8;
