@@ -1,4 +1,4 @@
-# Completion of ets for bash. share/check holds it to the table of `ets help`.
+# Completion of ets for bash. share/check compares it with the table of `ets help`.
 
 # The options of a command that take a value, and then those that take none.
 _ets_options() {
@@ -22,7 +22,7 @@ _ets_values() {
     esac
 }
 
-# Whether the option wants a value.
+# Whether the option takes a value.
 _ets_wants_value() {
     case $1 in
         --elements | --frames | --steps | --mode | --last | --format | --count | --seed) return 0 ;;
@@ -36,7 +36,7 @@ _ets() {
     local -a words=("${COMP_WORDS[@]:0:COMP_CWORD}")
     COMPREPLY=()
 
-    # Behind a redirection stands a file.
+    # After a redirection comes a file.
     case $cur in
         '<' | '>' | '>>' | '>|') cur= prev=\< ;;
     esac
@@ -66,7 +66,7 @@ _ets() {
         return
     fi
 
-    # The options that were not given yet. Behind `--` stand inputs alone.
+    # The options that were not given yet. After `--` there are only inputs.
     [[ " ${words[*]} " == *" -- "* ]] && return
     local option options=
     for option in $(_ets_options "$command"); do

@@ -1,4 +1,4 @@
-# Completion of ets for fish. share/check holds it to the table of `ets help`.
+# Completion of ets for fish. share/check compares it with the table of `ets help`.
 
 # Whether the command is one of these.
 function __ets_is
@@ -6,7 +6,7 @@ function __ets_is
     test (count $words) -ge 2; and contains -- $words[2] $argv
 end
 
-# Whether the command is one of these, behind the name of an option that was not given yet: each may be given once.
+# Whether the command is one of these, which follow the name of an option that was not given yet: each may be given once.
 function __ets_takes
     set -l words (commandline -opc)
     __ets_is $argv[2..]; or return 1
@@ -19,7 +19,7 @@ function __ets_takes
     return 0
 end
 
-# Whether no command stands there yet.
+# Whether no command is there yet.
 function __ets_begins
     test (count (commandline -opc)) -eq 1
 end

@@ -1,5 +1,5 @@
 " Vim syntax file
-" Language: the text of a dataflow graph, as `ets` reads it, and the inputs behind it
+" Language: the text of a dataflow graph, as `ets` reads it, and the inputs after it
 " A line that has no form of docs/FORMATS.md is shown as an error, and so is a space too many.
 
 if exists("b:current_syntax")
@@ -8,7 +8,7 @@ endif
 
 syn case match
 
-" Of the items that match a line the last one that stands here is taken.
+" Of the items that match a line the last one in this file is taken.
 syn match etsgraphError "^.\+$"
 syn match etsgraphInput "^\%(0\|-\=[1-9]\d*\)$"
 syn match etsgraphLine "^etsgraph [12]$" contains=etsgraphWord

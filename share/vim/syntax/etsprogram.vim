@@ -1,6 +1,6 @@
 " Vim syntax file
-" Language: a program of the dataflow language, as `ets lower` reads it, and the inputs behind it
-" What begins no token of docs/LANGUAGE.md is shown as an error, and so are a word that is kept for later and a bad name or number.
+" Language: a program of the dataflow language, as `ets lower` reads it, and the inputs after it
+" What begins no token of docs/LANGUAGE.md is shown as an error, and so are a word that is reserved for later and a bad name or number.
 
 if exists("b:current_syntax")
   finish
@@ -8,7 +8,7 @@ endif
 
 syn case match
 
-" Of the items that match at one place the last one that stands here is taken.
+" Of the items that match at one place the last one in this file is taken.
 syn match etsprogramError "[^ \t\r]"
 syn match etsprogramSign "[()\[\]{},;]"
 syn match etsprogramOperator "->\|:=\|<<\|>>\|==\|!=\|<=\|>=\|[-<>=+*/%&^|~]"
@@ -27,7 +27,7 @@ syn keyword etsprogramControl if else loop while strict
 syn keyword etsprogramError and as break case const do end false for in match mod not or return then true type use where with xor
 syn match etsprogramComment "//.*$"
 
-" Behind the line `inputs` each line is an integer.
+" After the line `inputs` each line is an integer.
 syn match etsprogramNoInput "^.\+$" contained
 syn match etsprogramInput "^\%(0\|-\=[1-9]\d*\)$" contained
 syn region etsprogramInputs matchgroup=etsprogramWord start="^inputs$" end="\%$" contains=etsprogramNoInput,etsprogramInput
