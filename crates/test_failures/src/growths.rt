@@ -16,13 +16,21 @@ use test_inputs::graph_texts::{with_change, with_inputs};
 use test_served::answer;
 use trials::{Refusals, refuse_each};
 
-/// Prints, in a line, the outcome of a command line's trials: with the numbers of refusals, if they are asked for. These depend
-/// on how many growths the program has at present.
+/// What is printed of the trials of a command line.
+#[derive(Clone, Copy)]
+pub enum Detail {
+    /// How the refusals were reported.
+    Reports,
+    /// The numbers of refusals. They depend on how many growths the program has at present.
+    Figures,
+}
+
+/// Prints, in a line, the outcome of a command line's trials.
 fn print_trials<W: Write>(
     out: &mut W,
     name: &str,
     refusals: Result<Refusals, u64>,
-    has_figures: bool,
+    detail: Detail,
 ) -> io::Result<bool> {
     match refusals {
         Ok(refusals) if refusals.before == 0 => {
@@ -30,15 +38,13 @@ fn print_trials<W: Write>(
             Ok(false)
         }
         Ok(refusals) => {
-            if has_figures {
-                writeln!(out, "{name}: {refusals}")?;
-            } else if refusals.within > 0 {
-                writeln!(
+            match detail {
+                Detail::Figures => writeln!(out, "{name}: {refusals}")?,
+                Detail::Reports if refusals.within > 0 => writeln!(
                     out,
                     "{name}: refused before the run and in it, and then whole"
-                )?;
-            } else {
-                writeln!(out, "{name}: refused, and then whole")?;
+                )?,
+                Detail::Reports => writeln!(out, "{name}: refused, and then whole")?,
             }
             Ok(true)
         }
@@ -65,7 +71,7 @@ fn examples_agree<R: Threads + Wait + Sync, W: Write>(
     rt: &R,
     alloc: Global,
     out: &mut W,
-    has_figures: bool,
+    detail: Detail,
 ) -> io::Result<bool> {
     for example in EXAMPLES {
         let input = input_of(alloc, &example)?;
@@ -78,7 +84,7 @@ fn examples_agree<R: Threads + Wait + Sync, W: Write>(
             status: example.status,
         };
         let refusals = refuse_each(rt, alloc, &row);
-        if !print_trials(out, row.name, refusals, has_figures)? {
+        if !print_trials(out, row.name, refusals, detail)? {
             return Ok(false);
         }
     }
@@ -103,7 +109,7 @@ fn commands_agree<R: Threads + Wait + Sync, W: Write>(
     rt: &R,
     alloc: Global,
     out: &mut W,
-    has_figures: bool,
+    detail: Detail,
 ) -> io::Result<bool> {
     for command in COMMANDS {
         let name = command.name;
@@ -122,22 +128,21 @@ fn commands_agree<R: Threads + Wait + Sync, W: Write>(
             status: 0,
         };
         let refusals = refuse_each(rt, alloc, &row);
-        if !print_trials(out, name, refusals, has_figures)? {
+        if !print_trials(out, name, refusals, detail)? {
             return Ok(false);
         }
     }
     Ok(true)
 }
 
-/// Whether all answers agree. Prints how the refusals were reported; with figures, also how often.
+/// Whether all answers agree. Prints how the refusals were reported, or how often growths were refused.
 pub fn agree<R: Threads + Wait + Sync, W: Write>(
     rt: &R,
     alloc: Global,
     out: &mut W,
-    has_figures: bool,
+    detail: Detail,
 ) -> io::Result<bool> {
-    let agrees = examples_agree(rt, alloc, out, has_figures)?
-        && commands_agree(rt, alloc, out, has_figures)?;
+    let agrees = examples_agree(rt, alloc, out, detail)? && commands_agree(rt, alloc, out, detail)?;
     if agrees {
         writeln!(out, "agree")?;
     }

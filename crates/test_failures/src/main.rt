@@ -6,6 +6,7 @@
 mod growths;
 mod streams;
 
+use growths::Detail;
 use std::alloc::Global;
 use std::env;
 use std::io::{self, Write};
@@ -25,10 +26,14 @@ fn part_agrees<R: Threads + Wait + Sync, W: Write>(
     part: Named<'_>,
 ) -> io::Result<bool> {
     if part.name == "streams" {
-        streams::agree(rt, alloc, out)
-    } else {
-        growths::agree(rt, alloc, out, !part.words.is_empty())
+        return streams::agree(rt, alloc, out);
     }
+    let detail = if part.words.is_empty() {
+        Detail::Reports
+    } else {
+        Detail::Figures
+    };
+    growths::agree(rt, alloc, out, detail)
 }
 
 fn main(rt: HostRuntime) -> io::Result<ExitCode> {

@@ -5,6 +5,7 @@
 
 mod tools;
 
+use crate::lines::count;
 use command_line::Mode;
 use commands::input::{parse_integers, split_at_main};
 use driver::emulation::run_text;
@@ -93,13 +94,6 @@ fn shared(alloc: Global, report: &[u8]) -> Result<Vec<u8>, AllocError> {
     Ok(lines)
 }
 
-/// How many lines of the text begin so.
-fn count_of(text: &[u8], word: &[u8]) -> usize {
-    text.split(|byte| *byte == b'\n')
-        .filter(|line| line.starts_with(word))
-        .count()
-}
-
 /// Whether a line of a run that starves is the end or a missing output, or a line of the meaning, too.
 fn is_within(line: &[u8], meaning: &[u8]) -> bool {
     line.starts_with(b"end ")
@@ -111,8 +105,8 @@ fn is_within(line: &[u8], meaning: &[u8]) -> bool {
 
 /// Whether a run is right to starve: a request waits, and the meaning has all outputs and cells that the run has.
 fn starves_within(report: &[u8], lines: &[u8], meaning: &[u8]) -> bool {
-    count_of(report, b"waiting 0 0") == 0
-        && count_of(lines, b"output ") == count_of(meaning, b"output ")
+    count(report, b"waiting 0 0") == 0
+        && count(lines, b"output ") == count(meaning, b"output ")
         && lines
             .split(|byte| *byte == b'\n')
             .all(|line| is_within(line, meaning))

@@ -7,6 +7,7 @@
 mod dots;
 mod examples;
 mod hostile_objects;
+mod lines;
 mod programs;
 mod sizes;
 mod workbench;

@@ -49,12 +49,22 @@ fn computed(name: &str) -> Option<&'static [u8]> {
     Some(known.prints)
 }
 
-/// What a program is compared with, as a line says it.
-fn beside(has_graph: bool) -> &'static str {
-    if has_graph {
-        "tells what its graph tells"
-    } else {
-        "tells what is known"
+/// What a program is compared with.
+#[derive(Clone, Copy)]
+enum Reference {
+    /// The graph of the same name.
+    Graph,
+    /// What is known of its runs.
+    Known,
+}
+
+impl Reference {
+    /// What a line says of a program that agrees with it.
+    fn agreement(self) -> &'static str {
+        match self {
+            Reference::Graph => "tells what its graph tells",
+            Reference::Known => "tells what is known",
+        }
     }
 }
 
@@ -62,7 +72,7 @@ fn beside(has_graph: bool) -> &'static str {
 fn write_out<W: Write>(
     out: &mut W,
     name: &str,
-    has_graph: bool,
+    reference: Reference,
     fault: Option<Fault>,
 ) -> anyhow::Result<bool> {
     match fault {
@@ -71,7 +81,7 @@ fn write_out<W: Write>(
             Ok(false)
         }
         None => {
-            writeln!(out, "{name} {}", beside(has_graph))?;
+            writeln!(out, "{name} {}", reference.agreement())?;
             Ok(true)
         }
     }
@@ -88,12 +98,12 @@ fn agrees<R: Threads + Wait + Sync, W: Write>(
     let program = on_short(alloc, name, fs::read(files, name)?)?;
     if let Some(graph) = graph_beside(files, name)? {
         let fault = fault_beside(rt, alloc, &program, &graph)?;
-        return write_out(out, name, true, fault);
+        return write_out(out, name, Reference::Graph, fault);
     }
     match computed(name) {
         Some(prints) => {
             let fault = fault_of(rt, alloc, &program, prints)?;
-            write_out(out, name, false, fault)
+            write_out(out, name, Reference::Known, fault)
         }
         None => {
             writeln!(out, "{name} is not known")?;

@@ -4,7 +4,6 @@
 //! `agree`, or the first graph that differs.
 
 mod known;
-mod lines;
 mod objects;
 mod orders;
 mod profiles;

@@ -62,16 +62,28 @@ const LAST: i64 = 20;
 
 const SUM: i64 = 210;
 
-/// The report of a run in this mode.
-fn report_in<R: Threads + Wait + Sync, A: Allocator + Clone + Send + Sync, G: Gate + Sync>(
-    rt: &R,
-    alloc: A,
-    text: &[u8],
-    inputs: &[i64],
+/// A graph, its inputs, and how it is run on them.
+#[derive(Clone, Copy)]
+struct Run<'a> {
+    text: &'a [u8],
+    inputs: &'a [i64],
     config: Config,
     mode: Mode,
+}
+
+/// The report of a run at this gate.
+fn report_of<R: Threads + Wait + Sync, A: Allocator + Clone + Send + Sync, G: Gate + Sync>(
+    rt: &R,
+    alloc: A,
+    run: Run<'_>,
     gate: &G,
 ) -> Option<Report<A>> {
+    let Run {
+        text,
+        inputs,
+        config,
+        mode,
+    } = run;
     emulate(alloc, text, inputs, config, mode, rt, gate).ok()
 }
 
@@ -83,16 +95,13 @@ fn two_elements_meet(rt: HostRuntime) -> Result<(), Fail> {
             came: [AtomicBool::new(false), AtomicBool::new(false)],
             saw: [AtomicBool::new(false), AtomicBool::new(false)],
         };
-        let report = report_in(
-            &rt,
-            rt.alloc(),
-            ADD,
-            [2, 3].as_slice(),
-            config(2, 64),
+        let run = Run {
+            text: ADD,
+            inputs: &[2, 3],
+            config: config(2, 64),
             mode,
-            &gate,
-        )
-        .ok_or("a report")?;
+        };
+        let report = report_of(&rt, rt.alloc(), run, &gate).ok_or("a report")?;
         assert_eq!(rt; report.end, End::Rest);
         assert!(rt; gate.saw[0].load(Ordering::SeqCst) && gate.saw[1].load(Ordering::SeqCst));
     }
@@ -138,16 +147,13 @@ impl Gate for Stopper {
 fn each_turn_asks(rt: HostRuntime) -> Result<(), Fail> {
     for mode in MODES {
         let gate = Stopper::after(1_000_000);
-        let report = report_in(
-            &rt,
-            rt.alloc(),
-            ADD,
-            [2, 3].as_slice(),
-            config(1, 1),
+        let run = Run {
+            text: ADD,
+            inputs: &[2, 3],
+            config: config(1, 1),
             mode,
-            &gate,
-        )
-        .ok_or("a report")?;
+        };
+        let report = report_of(&rt, rt.alloc(), run, &gate).ok_or("a report")?;
         assert_eq!(rt; report.end, End::Rest);
         let events = report.events.len() as u64;
         assert_eq!(rt; events, 12);
@@ -176,16 +182,13 @@ fn rests_after<R: Abort + Threads + Wait + Sync>(
     count: u64,
 ) -> Result<bool, Fail> {
     let gate = Stopper::after(count);
-    let report = report_in(
-        rt,
-        alloc,
-        SUM_LOOP,
-        [LAST].as_slice(),
-        config(2, 4),
+    let run = Run {
+        text: SUM_LOOP,
+        inputs: &[LAST],
+        config: config(2, 4),
         mode,
-        &gate,
-    )
-    .ok_or("a report")?;
+    };
+    let report = report_of(rt, alloc, run, &gate).ok_or("a report")?;
     let was_stopped = gate.left.load(Ordering::SeqCst) > count;
     assert_eq!(rt; was_stopped, report.end == End::Stop, "{count}");
     if report.end == End::Rest {

@@ -1,16 +1,9 @@
 //! Lists of picks: which element makes the next event, and which of its tokens it takes.
 
-ghost use Rattle.std.specs.Prelude.{◌≡◌, ◌<◌, All, IfOk};
+ghost use Rattle.std.specs.Prelude.{◌<◌, All, IfOk};
 
 use std::alloc::{AllocError, Global};
-
-/// The element that a number stands for: its remainder modulo `elements`.
-fn element_of(number: u64, elements: u32) -> u32
-    requires { 0 < elements }
-    ensures { result < elements }
-{
-    (number % elements as u64) as u32
-}
+use test_inputs::random_graphs::orders::element_of;
 
 /// A list of `count` picks. Number i, counted from 0, is of element `first + i * step` modulo `elements`, and of token `seed * 31 + i * 17`.
 pub fn picks(

@@ -5,7 +5,7 @@ use std::alloc::{AllocError, Global};
 use std::io::{self, Write};
 use std::sync::Wait;
 use std::thread::Threads;
-use test_inputs::pieces::{append, append_repeated, changed};
+use test_inputs::pieces::{append, append_repeated, changed, overwrite};
 use test_served::answer;
 
 /// A session, up to the line that was read last.
@@ -91,17 +91,6 @@ fn write_statuses<W: Write>(out: &mut W, statuses: &[u8]) -> io::Result<()> {
 fn split_number(words: &str) -> Option<(usize, &str)> {
     let (number, rest) = words.split_once(' ')?;
     Some((number.parse().ok()?, rest))
-}
-
-/// Overwrites the input from this place on. Says whether it is as long as that.
-fn overwrite(input: &mut [u8], place: usize, bytes: &[u8]) -> bool {
-    let Some(rest) = input.get_mut(place..) else {
-        return false;
-    };
-    for (old, new) in rest.iter_mut().zip(bytes) {
-        *old = *new;
-    }
-    true
 }
 
 /// Appends a line, and its end.

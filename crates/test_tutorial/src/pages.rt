@@ -39,28 +39,28 @@ pub fn made_page<R: Threads + Wait + Sync>(
 #[derive(Clone, Copy)]
 pub struct Difference<'a> {
     line: usize,
-    stands: &'a str,
+    found: &'a str,
     wanted: &'a str,
 }
 
 impl fmt::Display for Difference<'_> {
     fn fmt<W: fmt::Write>(&self, f: &mut fmt::Formatter<W>) -> fmt::Result {
         let line = self.line;
-        let stands = self.stands;
+        let found = self.found;
         let wanted = self.wanted;
-        write!(f, "line {line} has: {stands}\nit has to be: {wanted}")
+        write!(f, "line {line} has: {found}\nit has to be: {wanted}")
     }
 }
 
 /// The first place where `page` differs from `wanted`.
 pub fn first_difference<'a>(page: &'a str, wanted: &'a str) -> Option<Difference<'a>> {
     let mut last = 0usize;
-    for (number, (stands, wanted)) in page.lines().zip(wanted.lines()).enumerate() {
+    for (number, (found, wanted)) in page.lines().zip(wanted.lines()).enumerate() {
         last = number.wrapping_add(1);
-        if stands != wanted {
+        if found != wanted {
             return Some(Difference {
                 line: last,
-                stands,
+                found,
                 wanted,
             });
         }
@@ -70,7 +70,7 @@ pub fn first_difference<'a>(page: &'a str, wanted: &'a str) -> Option<Difference
     }
     Some(Difference {
         line: last,
-        stands: "this line, and the page or what is wanted ends",
+        found: "this line, and the page or what is wanted ends",
         wanted: "",
     })
 }

@@ -9,10 +9,7 @@ const CHANGES: usize = 7;
 
 /// Word number `place`; 0 where there is none.
 fn word_at(words: &[u64], place: usize) -> u64 {
-    match words.get(place) {
-        Some(word) => *word,
-        None => 0,
-    }
+    words.get(place).copied().unwrap_or(0)
 }
 
 /// What takes the place of a word: 0, 1, all ones, the word before it, the word after it, or the numbers one above and one

@@ -67,6 +67,13 @@ fn sent_by(opcode: u64, carried: Carried) -> Carried {
     }
 }
 
+/// Whether an instruction works without a destination.
+#[derive(Clone, Copy, PartialEq, Eq)]
+enum Need {
+    Required,
+    Optional,
+}
+
 /// A block of random instructions.
 #[derive(Drop)]
 struct Block {
@@ -127,8 +134,8 @@ impl Block {
     }
 
     /// A port of some later instruction; none where there is no later one. It is one to which nothing goes yet and which
-    /// takes the word, if such a port is soon found. Else it is any port if a destination is needed, and rarely one if not.
-    fn dest(&mut self, dice: &mut Dice, place: usize, sent: Carried, is_needed: bool) -> Dest {
+    /// takes the word, if such a port is soon found. Else it is any port if a destination is required, and rarely one if not.
+    fn dest(&mut self, dice: &mut Dice, place: usize, sent: Carried, need: Need) -> Dest {
         let last = self.codes.len().saturating_sub(1);
         let room = last.saturating_sub(place).min(6) as u64;
         if room == 0 {
@@ -136,7 +143,7 @@ impl Block {
         }
         let mut ahead = 1;
         let mut port = 0;
-        let mut is_found = is_needed || dice.throw(16) == 0;
+        let mut is_found = need == Need::Required || dice.throw(16) == 0;
         for _ in 0..THROWS {
             ahead = dice.throw(room).wrapping_add(1);
             let target = place.wrapping_add(ahead as usize);
@@ -163,18 +170,18 @@ impl Block {
         let sent = sent_by(opcode, came);
         match opcode {
             29 | 32 => (NONE, NONE),
-            21 | 22 | 23 | 27 => (self.dest(dice, place, sent, true), NONE),
-            30 | 31 => (self.dest(dice, place, sent, false), NONE),
+            21 | 22 | 23 | 27 => (self.dest(dice, place, sent, Need::Required), NONE),
+            30 | 31 => (self.dest(dice, place, sent, Need::Optional), NONE),
             24 => {
-                let landing = self.dest(dice, place, sent, true);
-                ((landing.0, 0), self.dest(dice, place, sent, false))
+                let landing = self.dest(dice, place, sent, Need::Required);
+                ((landing.0, 0), self.dest(dice, place, sent, Need::Optional))
             }
             _ => {
-                let first = self.dest(dice, place, sent, false);
+                let first = self.dest(dice, place, sent, Need::Optional);
                 if first == NONE {
                     (NONE, NONE)
                 } else {
-                    (first, self.dest(dice, place, sent, false))
+                    (first, self.dest(dice, place, sent, Need::Optional))
                 }
             }
         }
@@ -233,10 +240,7 @@ impl Named<'_> {
     /// A block and one of its entries.
     fn entry(self, dice: &mut Dice) -> u64 {
         let number = dice.throw(self.inputs.len() as u64);
-        let inputs = match self.inputs.get(number as usize) {
-            Some(inputs) => *inputs,
-            None => 0,
-        };
+        let inputs = self.inputs.get(number as usize).copied().unwrap_or(0);
         let entry = dice.throw(inputs.wrapping_add(1));
         number.wrapping_mul(1 << 16).wrapping_add(entry)
     }

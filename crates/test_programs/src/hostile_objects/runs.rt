@@ -3,7 +3,7 @@
 ghost use Rattle.std.specs.Prelude.{◌≡◌, ◌<◌, All};
 
 use crate::hostile_objects::orders::in_turn;
-use crate::hostile_objects::sound::{has_end, is_sound};
+use crate::hostile_objects::sound::{Order, has_end, is_sound};
 use command_line::Mode;
 use driver::emulation::{emulate_object, emulate_object_picks, emulate_object_quietly};
 use driver::fault::Fault;
@@ -191,7 +191,7 @@ impl Runnable<'_> {
             let picks = random_picks(alloc, dice, elements, count)?;
             let run = emulate_object_picks(alloc, self.object, self.inputs, config, &picks);
             let is_well = match run {
-                Ok(report) => is_sound(alloc, &report, self.arrays, config, true)?,
+                Ok(report) => is_sound(alloc, &report, self.arrays, config, Order::List)?,
                 Err(_fault) => false,
             };
             if !is_well {
@@ -219,8 +219,8 @@ impl Runnable<'_> {
         ) else {
             return Ok((Verdict::Refused, None));
         };
-        if !is_sound(alloc, &one, self.arrays, config, false)?
-            || !is_sound(alloc, &first, self.arrays, config, false)?
+        if !is_sound(alloc, &one, self.arrays, config, Order::Mode)?
+            || !is_sound(alloc, &first, self.arrays, config, Order::Mode)?
             || !has_end(&free, self.arrays)
         {
             return Ok((Verdict::Unsound, None));

@@ -393,7 +393,7 @@ pub const SCENES: [Scene; 14] = [
         among: BRINGS_ANOTHER_KIND,
     },
     Scene {
-        name: "a return behind the last instruction",
+        name: "a return after the last instruction",
         blocks: &[
             (
                 1,

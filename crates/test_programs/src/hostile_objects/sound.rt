@@ -59,20 +59,28 @@ fn made_by(
     Ok(Some(made))
 }
 
+/// What a run takes its order of events from.
+#[derive(Clone, Copy, PartialEq, Eq)]
+pub enum Order {
+    Mode,
+    /// A list of picks, which may be used up.
+    List,
+}
+
 /// Whether each event is made by the element to which its token is addressed; no element makes more events than it may; and
 /// where the end is `Steps` and no list was used up, one element made all that it may.
 fn has_few_events(
     alloc: Global,
     report: &Report<Global>,
     config: Config,
-    by_list: bool,
+    order: Order,
 ) -> Result<bool, AllocError> {
     let Some(made) = made_by(alloc, &report.events, config.elements)? else {
         return Ok(false);
     };
     let is_few = made.iter().all(|count| *count <= config.steps);
     let is_full = made.iter().any(|count| *count == config.steps);
-    Ok(is_few && (by_list || report.end != End::Steps || is_full))
+    Ok(is_few && (order == Order::List || report.end != End::Steps || is_full))
 }
 
 /// Whether cell `index` of array `array` is full. Cells are numbered through all arrays.
@@ -130,11 +138,11 @@ pub fn is_sound(
     report: &Report<Global>,
     arrays: &[u64],
     config: Config,
-    by_list: bool,
+    order: Order,
 ) -> Result<bool, AllocError> {
     Ok(
         has_end(report, arrays)
             && has_made(report, config)
-            && has_few_events(alloc, report, config, by_list)?,
+            && has_few_events(alloc, report, config, order)?,
     )
 }

@@ -1,6 +1,6 @@
 //! Graphs whose profile is known, and an object that was typed.
 
-use crate::workbench::lines::{count, sum};
+use crate::lines::{count, sum};
 use std::alloc::{AllocError, Global};
 use std::sync::Wait;
 use std::thread::Threads;

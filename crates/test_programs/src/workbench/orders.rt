@@ -1,7 +1,7 @@
 //! Runs in random orders, and runs of the object.
 
+use crate::lines::after;
 use crate::workbench::STEPS;
-use crate::workbench::lines::behind;
 use std::alloc::Global;
 use std::sync::Wait;
 use std::thread::Threads;
@@ -17,6 +17,6 @@ pub fn agree<R: Threads + Wait + Sync>(rt: &R, alloc: Global, input: &[u8]) -> b
         input,
     );
     orders.text.starts_with(b"orders 5 same\n")
-        && behind(&orders.text, b"orders 5 same") == run.text.as_slice()
+        && after(&orders.text, b"orders 5 same") == run.text.as_slice()
         && orders.status == run.status
 }

@@ -1,7 +1,7 @@
 //! Profiles, as lines and as pictures.
 
+use crate::lines::{count, number, sum};
 use crate::workbench::STEPS;
-use crate::workbench::lines::{count, number, sum};
 use crate::workbench::traces::Traced;
 use std::alloc::Global;
 use std::sync::Wait;
@@ -69,18 +69,10 @@ pub fn look<R: Threads + Wait + Sync>(
     traced: &Traced,
     sizes: &str,
 ) -> Result<u64, &'static str> {
-    let profile = answer(
-        rt,
-        alloc,
-        &["ets", "profile", "--steps", STEPS, "--elements", sizes],
-        input,
-    );
-    let picture = answer(
-        rt,
-        alloc,
-        &["ets", "profile", "--steps", STEPS, "--svg"],
-        input,
-    );
+    let rows = ["ets", "profile", "--steps", STEPS, "--elements", sizes];
+    let profile = answer(rt, alloc, &rows, input);
+    let drawing = ["ets", "profile", "--steps", STEPS, "--svg"];
+    let picture = answer(rt, alloc, &drawing, input);
     if profile.status != picture.status {
         return Err("a picture has another status than its profile");
     }

@@ -1,7 +1,7 @@
 //! Traces, as lines and as JSON.
 
+use crate::lines::{after, count};
 use crate::workbench::STEPS;
-use crate::workbench::lines::{behind, count};
 use serde_json::Value;
 use std::alloc::Global;
 use std::str;
@@ -41,7 +41,7 @@ pub fn look<R: Threads + Wait + Sync>(
     if trace.status != run.status {
         return Err("a trace has another status than its run");
     }
-    let report = behind(&trace.text, b"event ");
+    let report = after(&trace.text, b"event ");
     if report != run.text.as_slice() {
         return Err("a trace has another report than its run");
     }

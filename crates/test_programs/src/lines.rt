@@ -2,17 +2,12 @@
 
 /// How many lines begin so.
 pub fn count(text: &[u8], front: &[u8]) -> u64 {
-    let mut lines = 0u64;
-    for line in text.split(|byte| *byte == b'\n') {
-        if line.starts_with(front) {
-            lines = lines.wrapping_add(1);
-        }
-    }
-    lines
+    let lines = text.split(|byte| *byte == b'\n');
+    lines.filter(|line| line.starts_with(front)).count() as u64
 }
 
 /// The text from its first line on that does not begin so.
-pub fn behind<'a>(text: &'a [u8], front: &[u8]) -> &'a [u8] {
+pub fn after<'a>(text: &'a [u8], front: &[u8]) -> &'a [u8] {
     let mut end = 0usize;
     for line in text.split(|byte| *byte == b'\n') {
         if !line.starts_with(front) {
@@ -20,10 +15,7 @@ pub fn behind<'a>(text: &'a [u8], front: &[u8]) -> &'a [u8] {
         }
         end = end.saturating_add(line.len()).saturating_add(1);
     }
-    match text.get(end..) {
-        Some(rest) => rest,
-        None => &[],
-    }
+    text.get(end..).unwrap_or(&[])
 }
 
 /// The number of word `place` of a line, counted from 0; 0 where there is none.
