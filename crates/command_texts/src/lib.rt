@@ -45,8 +45,8 @@ Programs and graphs to try: examples/README.md.
 
 Exit status: 0 done, or a run that ended at rest; 1 a refusal, a mistake in the command line, or a failed write;
   2 a run that starved; 3 a cell that was filled twice; 4 out of steps; 5 stuck; 6 out of memory in a run.
-After a refusal, a mistake, and a report or a profile that does not end at rest, a hint stands on standard
-  error; profile --svg and trace --format chrome or html tell no end, so there only after a refusal or a mistake.";
+After a refusal, a mistake, a failed write, and a report or a profile that does not end at rest, there is a
+  hint on standard error; after profile --svg and trace --format chrome or html there is none for the end.";
 
 /// The end of the help of `ets lower`.
 const AFTER_LOWER: &str = "\
