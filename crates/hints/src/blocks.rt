@@ -76,12 +76,8 @@ impl<'a> Block<'a> {
 
     /// Whether some loop names it.
     fn is_looped(&self) -> bool {
-        for line in self.text.split(is_line_feed) {
-            if text_at(line, 1) == "loop" && text_at(line, 2) == self.name {
-                return true;
-            }
-        }
-        false
+        let mut lines = self.text.split(is_line_feed);
+        lines.any(|line| text_at(line, 1) == "loop" && text_at(line, 2) == self.name)
     }
 
     /// Node `number`, or the line of results, which has the number of nodes.

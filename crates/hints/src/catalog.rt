@@ -55,17 +55,8 @@ options/dot: --code, at most once
 options/lower: --map, at most once
 
 input-line: line $1 of the inputs is `$2`
-no-line: line $1 of the inputs is empty
-integers: inputs are integers, one a line, and no empty lines
-given-input: input $1 of the command line is `$2`
-graph-inputs: block $1 has $2, and the lines behind the graph have $3
 object-inputs: code block $1, which is run, has $2, and the command line has $3
 too-many-inputs: the command line has more than 16 inputs, and no object takes more than 16
-option-range: --$1 is $3 to $4, and not $2
-large-elements: --elements is 1 to 16, and not above 62
-count: --count is at least 1, and not 0
-mode: --mode is `one`, `rounds` or `free`
-memory: memory was refused: this input wants more than there is
 memory-of-run: memory was refused: fewer --elements and --frames take less of it
 memory-of-events: memory was refused: fewer --elements, --frames and --steps take less of it
 steps: an element made its $1, and had more to do: raise --steps ($2 at most), if the run ends at all
@@ -102,26 +93,21 @@ outer/block: block NAME INPUTS OUTPUTS
 outer/main: main NAME
 byte-order-mark: the text begins with a byte order mark, which no graph has
 no-line-feed: this last line has no line feed at its end
-tab-in-graph: column $1 has a tab: fields are parted by one space
 byte-in-graph: column $1 has byte $2: a line is of the bytes 32 to 126
 spacing: fields are parted by one space, and none stands at the ends of a line: see column $1
 form: the form is `$1`: this line has $2 behind `$3`
 no-block-yet: `$1` begins no line here: `array`, `block` and `main` do, and nodes stand inside a block
 no-block-open: `$1` begins no line here: `block` and `main` do, and nodes stand inside a block
-no-kind: behind the region comes the kind of the node, as in `- add 0.0 1.0`
 strict-call: `scall` stands under the header `etsgraph 2` alone
 unknown-kind: `$1` is no kind of node: lit, cond, enter, merge, fetch, store, call, loop, neg, not, add, sub, ..
-block-open: block $2 is open here: before `$1` come its `out` line and `end`
 region-missing: a node line begins with its region, in the root `-`: `- $1 ..`
 no-region: `$1` is no region: that is `-`, or `K+` or `K-` for an arm of the conditional at node K
-end-missing: behind the `out` line of block $1 comes the line `end`
 after-main: the `main` line is the last one of a graph
 inputs-begin: the inputs begin here, and `ets $1` reads the graph alone: `sed '/^main /q' FILE | ets $1`
 main-missing: the text ends without a line `main NAME`, which names the block to be run
 no-number: `$1` is no number: that is digits alone
 no-literal: `$1` is no literal: that is digits, and `-` before them if it is below 0
 large-literal: `$1` is not within 64 bits, from -9223372036854775808 to 9223372036854775807
-no-source: `$1` is no source: that is `N.P`, for port P of node N
 
 iterations: code block $1 is that of the iterations of block $2
 enter-in-root: `enter` stands in an arm, `K+` or `K-`, and not in the root

@@ -41,7 +41,7 @@ fn source_fault(field: &[u8]) -> Option<Message<'_>> {
         Some(port) if are_digits(node) && (are_digits(port) || number(node).is_none()) => {
             number_fault(node).or(number_fault(port))
         }
-        _ => Some(show("no-source", &[Bytes(field)])),
+        _ => Some(show("`$1` is no source: that is `N.P`, for port P of node N", &[Bytes(field)])),
     }
 }
 

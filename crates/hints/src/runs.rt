@@ -35,18 +35,18 @@ pub struct Case<'r, 'a> {
 pub fn input_fault(input: &[u8], number: u64) -> Found<'_> {
     let line = line_at(split_graph(input).1, number);
     let (place, cause) = match line {
-        [] => ("no-line", None),
+        [] => ("line $1 of the inputs is empty", None),
         [.., b'\r'] => ("input-line", Some(show("carriage-return", &[Word("inputs")]))),
         _ => ("input-line", literal_fault(line)),
     };
     let place = show(place, &[Number(number), Bytes(line)]);
-    at(place, cause.unwrap_or(say("integers")))
+    at(place, cause.unwrap_or(say("inputs are integers, one a line, and no empty lines")))
 }
 
 /// The cause for input `number` of the words after `exec`, which is not an integer.
 pub fn given_fault<'a, S: AsStr>(words: &'a [S], number: u64) -> Option<Found<'a>> {
     let input = input_in(words, number)?.as_bytes();
-    let place = show("given-input", &[Number(number), Bytes(input)]);
+    let place = show("input $1 of the command line is `$2`", &[Number(number), Bytes(input)]);
     Some(at(place, literal_fault(input)?))
 }
 
@@ -57,7 +57,7 @@ fn inputs_cause(input: &[u8]) -> Option<Message<'_>> {
     let wants = Count(Block::of(text, Some(name), 0)?.inputs, "input");
     let inputs = lines.split(is_line_feed).filter(|line| !line.is_empty());
     let has = Count(inputs.count() as u64, "integer");
-    Some(show("graph-inputs", &[Word(name), wants, has]))
+    Some(show("block $1 has $2, and the lines behind the graph have $3", &[Word(name), wants, has]))
 }
 
 /// The cause for a run of an object that was given these inputs, where its main block wants another number.
@@ -78,7 +78,7 @@ fn object_inputs_cause<'a>(object: &[u8], inputs: &Inputs) -> Option<Message<'a>
 /// The cause for an option with this value, if that is not within these limits.
 fn range<'a>(option: &'static str, value: u64, least: u64, most: u64) -> Option<Message<'a>> {
     let pieces = [Word(option), Number(value), Number(least), Number(most)];
-    (value < least || most < value).then_some(show("option-range", &pieces))
+    (value < least || most < value).then_some(show("--$1 is $3 to $4, and not $2", &pieces))
 }
 
 /// What is wrong with numbers of elements.
@@ -89,7 +89,7 @@ fn sizes_cause<'a>(sizes: Sizes) -> Option<Message<'a>> {
             return cause;
         }
     }
-    sizes.has(63).then_some(say("large-elements"))
+    sizes.has(63).then_some(say("--elements is 1 to 16, and not above 62"))
 }
 
 /// The options of a request that can be refused because of them.
@@ -108,14 +108,14 @@ fn options_of(request: &Request) -> Option<&RunOptions> {
 fn option_cause<'a>(request: &Request, options: &RunOptions) -> Message<'a> {
     let last = match request {
         Request::Profile { sizes, .. } => sizes_cause(*sizes),
-        Request::Orders { count: 0, .. } => Some(say("count")),
+        Request::Orders { count: 0, .. } => Some(say("--count is at least 1, and not 0")),
         _ => None,
     };
     range("elements", options.elements, 1, 16)
         .or(range("frames", options.frames, 1, 1_024))
         .or(range("steps", options.steps, 0, STEPS))
         .or(last)
-        .unwrap_or(say("mode"))
+        .unwrap_or(say("--mode is `one`, `rounds` or `free`"))
 }
 
 /// Why a run of this case does not start. `None` where that is not known, as where the input was not kept.
@@ -139,7 +139,7 @@ pub fn memory_cause<'a>(request: &Request) -> Message<'a> {
         Request::Trace { .. } | Request::Orders { .. } | Request::Profile { svg: false, .. } => {
             "memory-of-events"
         }
-        _ => "memory",
+        _ => "memory was refused: this input wants more than there is",
     })
 }
 

@@ -53,7 +53,7 @@ fn stray_byte<'a>(line: &[u8]) -> Option<Message<'a>> {
     let column = Number((place as u64).saturating_add(1));
     match line.get(place..)? {
         [b'\r'] => Some(show("carriage-return", &[Word("a graph")])),
-        [b'\t', ..] => Some(show("tab-in-graph", &[column])),
+        [b'\t', ..] => Some(show("column $1 has a tab: fields are parted by one space", &[column])),
         [byte, ..] => Some(show("byte-in-graph", &[column, Number(u64::from(*byte))])),
         [] => None,
     }
@@ -70,21 +70,12 @@ fn bad_form<'a>(form: &'static str, word: &'a [u8], has: u64) -> Message<'a> {
     show("form", &[Word(form), Count(has, "field"), Bytes(word)])
 }
 
-/// The cause for a line that has none of the forms that may stand outside a block, where a line of no form has this cause.
-fn outside<'a>(line: &'a [u8], formless: &str) -> Message<'a> {
-    let word = word_at(line, 0);
-    match outer_form(word) {
-        Some(form) => bad_form(form, word, words_after(line, 1)),
-        None => show(formless, &[Bytes(word)]),
-    }
-}
-
 /// The cause for a node line with a good region but with none of the forms that may stand there, in a text with this header.
 fn bad_kind<'a>(line: &'a [u8], header: &[u8]) -> Message<'a> {
     let kind = word_at(line, 1);
     let has = words_after(line, 2);
     match (text_of(kind), node_form(kind)) {
-        ("", _) => say("no-kind"),
+        ("", _) => say("behind the region comes the kind of the node, as in `- add 0.0 1.0`"),
         ("scall", _) if text_of(header) == "etsgraph 1" => say("strict-call"),
         (_, None) => show("unknown-kind", &[Bytes(kind)]),
         (_, Some(form)) if text_at(form.as_bytes(), 1) == "S" => {
@@ -95,17 +86,24 @@ fn bad_kind<'a>(line: &'a [u8], header: &[u8]) -> Message<'a> {
     }
 }
 
-/// The cause for a line that has none of the forms that may stand in this block, in a text with this header.
-fn inside<'a>(line: &'a [u8], block: &'a [u8], header: &[u8]) -> Message<'a> {
+/// The cause for a line of good fields that has none of the forms that may stand at its place in the text.
+fn misplaced<'a>(text: &[u8], line: &'a [u8], before: &Before<'a>) -> Message<'a> {
     let word = word_at(line, 0);
-    let name = match text_of(word) {
-        "end" => "the `out` line of block $2 comes before its `end`",
-        _ if outer_form(word).is_some() => "block-open",
-        _ if region_in(word).is_some() => return bad_kind(line, header),
+    let name = match (before.last, text_of(word), outer_form(word)) {
+        ("end", "array", _) => return say("`array` lines stand before the first block"),
+        ("etsgraph" | "array" | "end", _, Some(form)) => {
+            return bad_form(form, word, words_after(line, 1));
+        }
+        ("etsgraph" | "array", ..) => "no-block-yet",
+        ("end", ..) => "no-block-open",
+        ("out", ..) => "behind the `out` line of block $2 comes the line `end`",
+        (_, "end", _) => "the `out` line of block $2 comes before its `end`",
+        (.., Some(_form)) => "block $2 is open here: before `$1` come its `out` line and `end`",
+        _ if region_in(word).is_some() => return bad_kind(line, line_at(text, 1)),
         _ if node_form(word).is_some() => "region-missing",
         _ => "no-region",
     };
-    show(name, &[Bytes(word), Bytes(block)])
+    show(name, &[Bytes(word), Bytes(before.block)])
 }
 
 /// The cause for a line that has none of the forms that may stand at its place in the text.
@@ -113,16 +111,8 @@ fn bad_line<'a>(text: &[u8], line: &'a [u8], before: &Before<'a>) -> Message<'a>
     if line.is_empty() || line.starts_with(b"#") {
         return say("a graph has no empty lines and no comments");
     }
-    if let Some(cause) = stray_byte(line).or(spacing(line)) {
-        return cause;
-    }
-    match before.last {
-        "etsgraph" | "array" => outside(line, "no-block-yet"),
-        "end" if text_at(line, 0) == "array" => say("`array` lines stand before the first block"),
-        "end" => outside(line, "no-block-open"),
-        "out" => show("end-missing", &[Bytes(before.block)]),
-        _ => inside(line, before.block, line_at(text, 1)),
-    }
+    let stray = stray_byte(line).or(spacing(line));
+    stray.unwrap_or(misplaced(text, line, before))
 }
 
 /// The cause for the first field of a line that is not what its form wants there.
