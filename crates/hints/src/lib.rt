@@ -125,20 +125,17 @@ fn cause_of<'a, S: AsStr>(
     let request = request_of(words);
     let request = &request;
     let case = Case { request, input };
-    let Some(outcome) = outcome else {
-        return Some(nowhere(say("unwritten")));
-    };
     match outcome {
-        Outcome::Done => None,
-        Outcome::Mistake => Some(nowhere(words::mistake(words))),
-        Outcome::Refused(refusal) => {
+        None => Some(nowhere(say("unwritten"))),
+        Some(Outcome::Done | Outcome::Drawn(_)) => None,
+        Some(Outcome::Mistake) => Some(nowhere(words::mistake(words))),
+        Some(Outcome::Refused(refusal)) => {
             let found = refusal_fault(&case, words, refusal);
             Some(found.unwrap_or(nowhere(unlocated(&case, refusal))))
         }
-        Outcome::Reported(ending) => end_fault(&case, ending),
-        Outcome::Drawn(_ending) => None,
-        Outcome::Paged { events, .. } => page_fault(events),
-        Outcome::Differed => Some(nowhere(say("orders-differ"))),
+        Some(Outcome::Reported(ending)) => end_fault(&case, ending),
+        Some(Outcome::Paged { events, .. }) => page_fault(events),
+        Some(Outcome::Differed) => Some(nowhere(say("orders-differ"))),
     }
 }
 

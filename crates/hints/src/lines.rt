@@ -76,37 +76,41 @@ pub fn split_graph(input: &[u8]) -> (&[u8], &[u8]) {
     (input, b"")
 }
 
+/// What a line with this first word is about: the word itself, or an instruction or a node of a block.
+pub fn subject_of(word: &str) -> &str {
+    match word {
+        "array" | "block" | "literal" => word,
+        _ => "instruction",
+    }
+}
+
 /// What the lines before a line of a graph or of a listing say, each of which is in order.
 #[derive(Clone, Copy, Default)]
 pub struct Before<'a> {
     /// The first word of the last one; empty before the first one.
     pub last: &'a str,
-    pub arrays: u64,
-    pub literals: u64,
-    pub blocks: u64,
     /// The second word of the last block's first line.
     pub block: &'a [u8],
-    /// How many lines come after that one, those of arrays and literals not counted.
-    pub after: u64,
+    /// How many have the subject of the line; of instructions and nodes those of the last block.
+    pub count: u64,
 }
 
 impl<'a> Before<'a> {
     /// What is before line `number`, counted from 1.
     pub fn of(text: &'a [u8], number: u64) -> Before<'a> {
+        let own = subject_of(text_at(said(line_at(text, number)), 0));
         let mut before = Before::default();
         let count = number.saturating_sub(1) as usize;
         for line in text.split(is_line_feed).take(count) {
             let word = text_at(said(line), 0);
-            match word {
-                "" => continue,
-                "array" => before.arrays = before.arrays.saturating_add(1),
-                "literal" => before.literals = before.literals.saturating_add(1),
-                "block" => {
-                    before.blocks = before.blocks.saturating_add(1);
-                    before.block = word_at(line, 1);
-                    before.after = 0;
-                }
-                _ => before.after = before.after.saturating_add(1),
+            match subject_of(word) {
+                _ if word.is_empty() => continue,
+                subject if subject == own => before.count = before.count.saturating_add(1),
+                "block" if own == "instruction" => before.count = 0,
+                _ => (),
+            }
+            if word == "block" {
+                before.block = word_at(line, 1);
             }
             before.last = word;
         }

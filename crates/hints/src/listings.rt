@@ -2,22 +2,11 @@
 
 use crate::catalog::found;
 use crate::fields::field_fault;
-use crate::lines::{Before, line_at, said, text_at, text_of, word_at, words_after};
+use crate::lines::{Before, line_at, said, subject_of, text_at, text_of, word_at, words_after};
 use crate::message::{Bytes, Count, Found, Message, Number, Word, at_line, nowhere, say, show};
 use assembler::{AsmFault, AsmFaultKind};
 use graph_file::{literal, number};
 use semantics::opcode::Opcode;
-
-/// What a line is about: its first word, or `instruction` where it is one; the first one is about `ets`.
-fn subject_of(line: &[u8], before: &Before<'_>) -> &'static str {
-    match text_at(line, 0) {
-        _ if before.last.is_empty() => "ets",
-        "block" => "block",
-        "array" => "array",
-        "literal" => "literal",
-        _ => "instruction",
-    }
-}
 
 /// The text of a line about this in this group.
 fn text_on(group: &str, subject: &str) -> &'static str {
@@ -49,14 +38,8 @@ fn bad_line<'a>(line: &[u8], before: &Before<'_>, subject: &str) -> Message<'a> 
     show("the form is `$1`, and this line has $2", &[Word(form), Count(has, "word")])
 }
 
-/// The cause for a word that is not the number of a line about this.
-fn count_fault<'a>(word: &'a [u8], before: &Before<'_>, subject: &str) -> Option<Message<'a>> {
-    let wanted = match subject {
-        "block" => before.blocks,
-        "array" => before.arrays,
-        "literal" => before.literals,
-        _ => before.after,
-    };
+/// The cause for a word that is not the number that the line is to have.
+fn count_fault(word: &[u8], wanted: u64) -> Option<Message<'_>> {
     let is_wanted = literal(word) == i64::try_from(wanted).ok();
     (!is_wanted).then_some(show("line-number", &[Bytes(word), Number(wanted)]))
 }
@@ -66,7 +49,7 @@ fn bad_number<'a>(line: &'a [u8], before: &Before<'_>, subject: &str) -> Message
     for (place, form) in text_on("listing/", subject).split(' ').enumerate() {
         let word = word_at(line, place);
         let cause = match form {
-            "NUMBER" => count_fault(word, before, subject),
+            "NUMBER" => count_fault(word, before.count),
             "S" => field_fault("I", word),
             form => field_fault(form, word),
         };
@@ -123,7 +106,10 @@ fn bad_slot<'a>(line: &'a [u8], name: &'a [u8]) -> Message<'a> {
 
 /// The cause for a fault of this kind at a line, which has these before it.
 fn line_cause<'a>(kind: AsmFaultKind, line: &'a [u8], before: &Before<'_>) -> Message<'a> {
-    let (subject, name) = (subject_of(line, before), word_at(line, 1));
+    let (subject, name) = match before.last {
+        "" => ("ets", word_at(line, 1)),
+        _ => (subject_of(text_at(line, 0)), word_at(line, 1)),
+    };
     match kind {
         AsmFaultKind::BadLine => bad_line(line, before, subject),
         AsmFaultKind::BadNumber => bad_number(line, before, subject),

@@ -35,27 +35,24 @@ fn cause_of<'a>(wrong: Wrong, bytes: u64) -> Message<'a> {
     }
 }
 
-/// The cause at this place.
-fn at_place<'a>(place: Place, cause: Message<'a>) -> Found<'a> {
-    match place {
-        Place::Length => nowhere(cause),
-        Place::Word(word) => at(show("at-byte", &[Number(word.saturating_mul(8))]), cause),
+/// Why the bytes are not an object.
+pub fn object_fault<'a>(bytes: &[u8]) -> Option<Found<'a>> {
+    if bytes.len() >= 8 && !bytes.starts_with(b"ETSOBJCT") {
+        return Some(at(show("at-byte", &[Number(0)]), say("magic")));
+    }
+    let flaw = find_flaw(bytes)?;
+    let cause = cause_of(flaw.wrong, bytes.len() as u64);
+    let place = match flaw.place {
+        Place::Length => return Some(nowhere(cause)),
+        Place::Word(word) => show("at-byte", &[Number(word.saturating_mul(8))]),
         Place::Instr {
             block,
             number,
             word,
         } => {
             let byte = Number(word.saturating_mul(8));
-            at(show("at-instruction", &[Number(number), Number(block), byte]), cause)
+            show("at-instruction", &[Number(number), Number(block), byte])
         }
-    }
-}
-
-/// Why the bytes are not an object.
-pub fn object_fault<'a>(bytes: &[u8]) -> Option<Found<'a>> {
-    if bytes.len() >= 8 && !bytes.starts_with(b"ETSOBJCT") {
-        return Some(at_place(Place::Word(0), say("magic")));
-    }
-    let flaw = find_flaw(bytes)?;
-    Some(at_place(flaw.place, cause_of(flaw.wrong, bytes.len() as u64)))
+    };
+    Some(at(place, cause))
 }

@@ -8,7 +8,7 @@ use crate::fields::literal_fault;
 use crate::lines::{is_line_feed, last_line, line_at, split_graph, text_at, word_at};
 use crate::message::Piece::{Bytes, Count, Number, Word};
 use crate::message::{Found, Message, at, nowhere, say, show};
-use crate::words::input_in;
+use crate::words::bad_input_in;
 use command_line::{Inputs, Request, RunOptions, Sizes};
 use object_view::Object;
 use oracle::MeanEnd;
@@ -43,9 +43,9 @@ pub fn input_fault(input: &[u8], number: u64) -> Found<'_> {
     at(place, cause.unwrap_or(say("inputs are integers, one a line, and no empty lines")))
 }
 
-/// The cause for input `number` of the words after `exec`, which is not an integer.
+/// The cause for input `number` of the words after `exec`, which is the first that is not an integer.
 pub fn given_fault<'a, S: AsStr>(words: &'a [S], number: u64) -> Option<Found<'a>> {
-    let input = input_in(words, number)?.as_bytes();
+    let input = bad_input_in(words)?.as_bytes();
     let place = show("input $1 of the command line is `$2`", &[Number(number), Bytes(input)]);
     Some(at(place, literal_fault(input)?))
 }

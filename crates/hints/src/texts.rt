@@ -20,11 +20,6 @@ fn node_form(kind: &[u8]) -> Option<&'static str> {
     }
 }
 
-/// The form of a line outside a block that begins with `word`.
-fn outer_form(word: &[u8]) -> Option<&'static str> {
-    found("outer/", text_of(word))
-}
-
 /// The form of a line that has one, and how many fields are before what has that form.
 fn form_at(line: &[u8]) -> (u64, &'static str) {
     match text_at(line, 0) {
@@ -40,7 +35,7 @@ fn form_at(line: &[u8]) -> (u64, &'static str) {
 fn header<'a>(first: &[u8]) -> Message<'a> {
     let name = match text_of(first) {
         "etsgraph 1" | "etsgraph 2" => "no-line-feed",
-        _ if first.starts_with(b"\xef\xbb\xbf") => "byte-order-mark",
+        _ if first.starts_with(&[0xef, 0xbb, 0xbf]) => "byte-order-mark",
         _ if first.ends_with(b"\r") => "carriage-return",
         _ => "a graph begins with the line `etsgraph 1` or `etsgraph 2`",
     };
@@ -89,16 +84,16 @@ fn bad_kind<'a>(line: &'a [u8], header: &[u8]) -> Message<'a> {
 /// The cause for a line of good fields that has none of the forms that may stand at its place in the text.
 fn misplaced<'a>(text: &[u8], line: &'a [u8], before: &Before<'a>) -> Message<'a> {
     let word = word_at(line, 0);
-    let name = match (before.last, text_of(word), outer_form(word)) {
+    let name = match (before.last, text_of(word), found("outer/", text_of(word))) {
         ("end", "array", _) => return say("`array` lines stand before the first block"),
         ("etsgraph" | "array" | "end", _, Some(form)) => {
             return bad_form(form, word, words_after(line, 1));
         }
-        ("etsgraph" | "array", ..) => "no-block-yet",
-        ("end", ..) => "no-block-open",
-        ("out", ..) => "behind the `out` line of block $2 comes the line `end`",
+        ("etsgraph" | "array", _, _) => "no-block-yet",
+        ("end", _, _) => "no-block-open",
+        ("out", _, _) => "behind the `out` line of block $2 comes the line `end`",
         (_, "end", _) => "the `out` line of block $2 comes before its `end`",
-        (.., Some(_form)) => "block $2 is open here: before `$1` come its `out` line and `end`",
+        (_, _, Some(_form)) => "block $2 is open here: before `$1` come its `out` line and `end`",
         _ if region_in(word).is_some() => return bad_kind(line, line_at(text, 1)),
         _ if node_form(word).is_some() => "region-missing",
         _ => "no-region",
@@ -132,9 +127,9 @@ fn too_many<'a>(line: &[u8], before: &Before<'_>) -> Message<'a> {
     let (first, form) = form_at(line);
     let sources = words_after(line, words_after(form.as_bytes(), 1).saturating_add(first));
     say(match text_at(line, 0) {
-        "array" if before.arrays >= 64 => "the limit of 64 arrays is passed",
+        "array" if before.count >= 64 => "the limit of 64 arrays is passed",
         "array" => "the limit of 65536 cells, of one array and of all of them, is passed",
-        "block" if before.blocks >= 256 => "the limit of 256 blocks is passed",
+        "block" if before.count >= 256 => "the limit of 256 blocks is passed",
         "block" => "the limit of 16 inputs or outputs of a block is passed",
         _ if sources > SOURCES => "the limit of 16 sources of a line is passed",
         _ => "the limit of 1024 nodes of a block, inputs counted, is passed",
