@@ -38,18 +38,13 @@ fn bad_line<'a>(line: &[u8], before: &Before<'_>, subject: &str) -> Message<'a> 
     show("the form is `$1`, and this line has $2", &[Word(form), Count(has, "word")])
 }
 
-/// The cause for a word that is not the number that the line is to have.
-fn count_fault(word: &[u8], wanted: u64) -> Option<Message<'_>> {
-    let is_wanted = literal(word) == i64::try_from(wanted).ok();
-    (!is_wanted).then_some(show("line-number", &[Bytes(word), Number(wanted)]))
-}
-
 /// The cause for the first number of the line that is not well written, or is not the next one.
 fn bad_number<'a>(line: &'a [u8], before: &Before<'_>, subject: &str) -> Message<'a> {
     for (place, form) in text_on("listing/", subject).split(' ').enumerate() {
         let word = word_at(line, place);
         let cause = match form {
-            "NUMBER" => count_fault(word, before.count),
+            "NUMBER" if literal(word) == i64::try_from(before.count).ok() => None,
+            "NUMBER" => Some(show("line-number", &[Bytes(word), Number(before.count)])),
             "S" => field_fault("I", word),
             form => field_fault(form, word),
         };
@@ -76,19 +71,15 @@ fn operand_form(name: &[u8]) -> &'static str {
     }
 }
 
-/// Whether the word is written as a destination.
-fn is_destination(word: &[u8]) -> bool {
-    match word {
-        [b'+', digits @ .., b'l' | b'r'] => number(digits).is_some(),
-        _ => text_of(word) == "-",
-    }
-}
-
 /// The cause for a bad destination, of an operation with this name.
 fn bad_destination<'a>(line: &'a [u8], name: &'a [u8]) -> Message<'a> {
     for place in [3, 4] {
         let word = word_at(line, place);
-        if !is_destination(word) {
+        let is_written = match word {
+            [b'+', digits @ .., b'l' | b'r'] => number(digits).is_some(),
+            _ => text_of(word) == "-",
+        };
+        if !is_written {
             return show("no-destination", &[Bytes(word)]);
         }
     }
@@ -129,7 +120,7 @@ fn line_cause<'a>(kind: AsmFaultKind, line: &'a [u8], before: &Before<'_>) -> Me
 
 /// Why the text is not a listing of an object.
 pub fn listing_fault<'a>(fault: AsmFault, text: &'a [u8]) -> Found<'a> {
-    if fault.kind == AsmFaultKind::Unended {
+    if matches!(fault.kind, AsmFaultKind::Unended) {
         return nowhere(say("listing-unended"));
     }
     let (line, before) = (line_at(text, fault.line), Before::of(text, fault.line));

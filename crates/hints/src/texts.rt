@@ -42,9 +42,12 @@ fn header<'a>(first: &[u8]) -> Message<'a> {
     show(name, &[Word("a graph")])
 }
 
-/// The cause for the first byte that no line may contain.
+/// The cause for the first byte that no line may contain, or else for the first space that does not separate two fields.
 fn stray_byte<'a>(line: &[u8]) -> Option<Message<'a>> {
-    let place = line.iter().position(|byte| !matches!(*byte, b' '..=b'~'))?;
+    let Some(place) = line.iter().position(|byte| !matches!(*byte, b' '..=b'~')) else {
+        let column = column_at(line, b"")?.min(line.len() as u64);
+        return Some(show("spacing", &[Number(column)]));
+    };
     let column = Number((place as u64).saturating_add(1));
     match line.get(place..)? {
         [b'\r'] => Some(show("carriage-return", &[Word("a graph")])),
@@ -52,12 +55,6 @@ fn stray_byte<'a>(line: &[u8]) -> Option<Message<'a>> {
         [byte, ..] => Some(show("byte-in-graph", &[column, Number(u64::from(*byte))])),
         [] => None,
     }
-}
-
-/// The cause for the first space that does not separate two fields.
-fn spacing<'a>(line: &[u8]) -> Option<Message<'a>> {
-    let column = column_at(line, b"")?.min(line.len() as u64);
-    Some(show("spacing", &[Number(column)]))
 }
 
 /// The cause for a line of this form, which begins with `word` and has another number of fields after.
@@ -81,8 +78,14 @@ fn bad_kind<'a>(line: &'a [u8], header: &[u8]) -> Message<'a> {
     }
 }
 
-/// The cause for a line of good fields that has none of the forms that may stand at its place in the text.
-fn misplaced<'a>(text: &[u8], line: &'a [u8], before: &Before<'a>) -> Message<'a> {
+/// The cause for a line that has none of the forms that may stand at its place in the text.
+fn bad_line<'a>(text: &[u8], line: &'a [u8], before: &Before<'a>) -> Message<'a> {
+    if line.is_empty() || line.starts_with(b"#") {
+        return say("a graph has no empty lines and no comments");
+    }
+    if let Some(cause) = stray_byte(line) {
+        return cause;
+    }
     let word = word_at(line, 0);
     let name = match (before.last, text_of(word), found("outer/", text_of(word))) {
         ("end", "array", _) => return say("`array` lines stand before the first block"),
@@ -99,15 +102,6 @@ fn misplaced<'a>(text: &[u8], line: &'a [u8], before: &Before<'a>) -> Message<'a
         _ => "no-region",
     };
     show(name, &[Bytes(word), Bytes(before.block)])
-}
-
-/// The cause for a line that has none of the forms that may stand at its place in the text.
-fn bad_line<'a>(text: &[u8], line: &'a [u8], before: &Before<'a>) -> Message<'a> {
-    if line.is_empty() || line.starts_with(b"#") {
-        return say("a graph has no empty lines and no comments");
-    }
-    let stray = stray_byte(line).or(spacing(line));
-    stray.unwrap_or(misplaced(text, line, before))
 }
 
 /// The cause for the first field of a line that is not what its form wants there.
