@@ -4,9 +4,6 @@ use crate::lines::text_of;
 use crate::message::{Bytes, Message, Number, say, show};
 use graph_file::{literal, number};
 
-/// The most bytes of a name.
-const NAME: usize = 32;
-
 fn are_digits(bytes: &[u8]) -> bool {
     !bytes.is_empty() && bytes.iter().all(|byte| byte.is_ascii_digit())
 }
@@ -51,7 +48,7 @@ fn name_fault(field: &[u8]) -> Option<Message<'_>> {
         "`$1` is no name: that begins with a letter"
     } else if !field.iter().all(is_name_byte) {
         "`$1` is no name: that has letters, digits and `_` alone"
-    } else if field.len() > NAME {
+    } else if field.len() > 32 {
         "the name `$1` has $2 bytes, and 32 are the most"
     } else {
         return None;

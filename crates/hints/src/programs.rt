@@ -1,8 +1,7 @@
 //! What is wrong with the program of a text, for each kind of fault.
 
 use crate::lines::{line_at, text_of};
-use crate::message::{Bytes, Count, Line, Number, Programming, Word};
-use crate::message::{Found, Message, at, say, show};
+use crate::message::{Bytes, Count, Found, Line, Message, Number, Programming, Word, at, say, show};
 use source::fault::FaultKind;
 use source_tokens::{Detail, Expected, Form, ProgramRefusal, Stop, Within, split};
 
@@ -109,7 +108,7 @@ fn unexpected<'a>(program: &'a [u8], word: &'a str, stop: Stop) -> Message<'a> {
     show(text, &[Word(word), Word(before), opened, Number(line as u64)])
 }
 
-/// Which number of values is wrong at this word, which is the name of a function with this head, if there is one.
+/// Which number of values is wrong at this word, of which this is known.
 fn miscounted<'a>(word: &'a str, detail: Option<Detail>) -> Message<'a> {
     if let Some(Detail::Function(Some(head))) = detail {
         let is_one = head.results == 1;

@@ -6,8 +6,7 @@ ghost use Rattle.outcomes.specs.Outcomes.{ending_status, exit_status, meaning_st
 use crate::blocks::Block;
 use crate::fields::literal_fault;
 use crate::lines::{is_line_feed, last_line, line_at, split_graph, text_at, word_at};
-use crate::message::Piece::{Bytes, Count, Number, Word};
-use crate::message::{Found, Message, at, nowhere, say, show};
+use crate::message::{Bytes, Count, Found, Message, Number, Word, at, nowhere, say, show};
 use crate::words::bad_input_in;
 use command_line::{Inputs, Request, RunOptions, Sizes};
 use object_view::Object;
@@ -21,8 +20,6 @@ use std::convert::AsStr;
 const STEPS: u64 = 4_294_967_296;
 /// The most picks of an order.
 const PICKS: u64 = 4_194_304;
-/// The most events of a page that is quick to open.
-const PAGE: u64 = 200_000;
 
 /// What was asked for, and the input that was read for it, if that was kept.
 #[derive(Clone, Copy)]
@@ -237,5 +234,5 @@ pub fn end_fault<'a>(case: &Case<'_, 'a>, ending: Ending) -> Option<Found<'a>>
 pub fn page_fault<'a>(events: u64) -> Option<Found<'a>>
     ensures { is_some result ≡ nat_lt 200000 events }
 {
-    (events > PAGE).then_some(nowhere(say("large-page")))
+    (events > 200_000).then_some(nowhere(say("large-page")))
 }

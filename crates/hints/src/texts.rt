@@ -8,9 +8,6 @@ use crate::message::{Bytes, Count, Found, Message, Number, Word, at_line, nowher
 use graph_file::{ReadFault, ReadFaultKind, literal};
 use semantics::words::{Operator, operator_of};
 
-/// The most sources of a line.
-const SOURCES: u64 = 16;
-
 /// The form of a node line of this kind, after its region: the kind, its operands, and its sources `S`, `T` or `S..`.
 fn node_form(kind: &[u8]) -> Option<&'static str> {
     match operator_of(kind) {
@@ -125,7 +122,7 @@ fn too_many<'a>(line: &[u8], before: &Before<'_>) -> Message<'a> {
         "array" => "the limit of 65536 cells, of one array and of all of them, is passed",
         "block" if before.count >= 256 => "the limit of 256 blocks is passed",
         "block" => "the limit of 16 inputs or outputs of a block is passed",
-        _ if sources > SOURCES => "the limit of 16 sources of a line is passed",
+        _ if sources > 16 => "the limit of 16 sources of a line is passed",
         _ => "the limit of 1024 nodes of a block, inputs counted, is passed",
     })
 }
