@@ -152,7 +152,7 @@ pub fn graph_fault(text: &[u8], fault: CheckFault) -> Option<Found<'_>> {
 /// Why the graph of the text has no code, at code block `number`: the plain codes of all blocks come first, then the codes of
 /// iterations, one for each block that some loop names.
 pub fn code_fault<'a>(text: &'a [u8], number: u64, cause: Message<'a>) -> Option<Found<'a>> {
-    let blocks = text.split(is_line_feed).filter(|line| text_at(line, 0) == "block");
+    let blocks = text.split(is_line_feed).filter(|line| text_at(*line, 0) == "block");
     let (place, block) = match number.checked_sub(blocks.count() as u64) {
         None => ("code block $1 is that of block $2", Block::of(text, None, number)?),
         Some(after) => ("iterations", Block::looped(text, after)?),
