@@ -88,13 +88,13 @@ impl<'a> Block<'a> {
             Some(_after) => line_at(self.text, place),
             None => b"".as_slice(),
         };
-        let word = text_at(line, 0);
+        let is_out = text_at(line, 0) == "out";
         Node {
             block: *self,
             number,
             place,
             line,
-            kind: if word == "out" { word } else { text_at(line, 1) },
+            kind: if is_out { "out" } else { text_at(line, 1) },
             region: region_in(word_at(line, 0)).unwrap_or(Region::Root),
         }
     }

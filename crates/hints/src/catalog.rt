@@ -54,7 +54,9 @@ options/dis: --literals, at most once
 options/dot: --code, at most once
 options/lower: --map, at most once
 
+no-line: line $1 of the inputs is empty
 input-line: line $1 of the inputs is `$2`
+graph-inputs: block $1 has $2, and the lines behind the graph have $3
 object-inputs: code block $1, which is run, has $2, and the command line has $3
 too-many-inputs: the command line has more than 16 inputs, and no object takes more than 16
 memory-of-run: memory was refused: fewer --elements and --frames take less of it
@@ -93,6 +95,7 @@ outer/block: block NAME INPUTS OUTPUTS
 outer/main: main NAME
 byte-order-mark: the text begins with a byte order mark, which no graph has
 no-line-feed: this last line has no line feed at its end
+tab-in-graph: column $1 has a tab: fields are parted by one space
 byte-in-graph: column $1 has byte $2: a line is of the bytes 32 to 126
 spacing: fields are parted by one space, and none stands at the ends of a line: see column $1
 form: the form is `$1`: this line has $2 behind `$3`
@@ -107,8 +110,10 @@ inputs-begin: the inputs begin here, and `ets $1` reads the graph alone: `sed '/
 main-missing: the text ends without a line `main NAME`, which names the block to be run
 no-number: `$1` is no number: that is digits alone
 no-literal: `$1` is no literal: that is digits, and `-` before them if it is below 0
+no-source: `$1` is no source: that is `N.P`, for port P of node N
 large-literal: `$1` is not within 64 bits, from -9223372036854775808 to 9223372036854775807
 
+code-block: code block $1 is that of block $2
 iterations: code block $1 is that of the iterations of block $2
 enter-in-root: `enter` stands in an arm, `K+` or `K-`, and not in the root
 merge-elsewhere: a merge lies where its `cond` lies: node $1 lies in $2, this line in $3
@@ -117,7 +122,7 @@ late-source: `$1` is of no earlier node: a source names a node whose number is l
 late-result: `$1` is of no node: block $4 has $3, from 0 on
 crossing-source: `$1` lies in $2, and a source here lies in $3: `enter` leads into an arm, `merge` out of it
 result-in-arm: `$1` lies in $2, and a result lies in the root: `merge` leads out of an arm
-loop-bound: a loop's bound k is 2 to 64, and not $1
+bound: a loop's bound k is 2 to 64, and not $1
 
 listing/ets: ets VERSION main BLOCK
 listing/block: block NUMBER inputs I outputs O slots S
@@ -149,7 +154,7 @@ numbered: $1 $2, where the object has $3, from 0 on
 object-header: the object has $1, and its header and the table of its blocks take $2 at least
 object-length: the object has $1, and its tables want $2
 no-opcode: opcode $1 with flag $2, where no such instruction is
-no-operand: an operand $1, which opcode $2 does not have
+operand: an operand $1, which opcode $2 does not have
 no-slot: slot $1 in a block that has $2, from 0 on
 slotless: slot $1, where opcode $2 has none, so 0 is wanted
 past-end: a destination $1 further on, past the end of its block

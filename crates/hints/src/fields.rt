@@ -1,7 +1,7 @@
 //! What is wrong with a field of a line.
 
 use crate::lines::text_of;
-use crate::message::{Bytes, Message, Number, say, show};
+use crate::message::{Bytes, Message, Number, say};
 use graph_file::{literal, number};
 
 fn are_digits(bytes: &[u8]) -> bool {
@@ -19,7 +19,8 @@ fn digits_text(digits: &[u8], none: &'static str, large: &'static str) -> &'stat
 
 fn number_fault(field: &[u8]) -> Option<Message<'_>> {
     let text = digits_text(field, "no-number", "`$1` is above 4294967295");
-    number(field).is_none().then_some(show(text, &[Bytes(field)]))
+    let cause = say(text).with(&[Bytes(field)]);
+    number(field).is_none().then_some(cause)
 }
 
 pub fn literal_fault(field: &[u8]) -> Option<Message<'_>> {
@@ -28,7 +29,8 @@ pub fn literal_fault(field: &[u8]) -> Option<Message<'_>> {
         "-0" => "`$1` is written `0`",
         _ => digits_text(digits, "no-literal", "large-literal"),
     };
-    literal(field).is_none().then_some(show(text, &[Bytes(field)]))
+    let cause = say(text).with(&[Bytes(field)]);
+    literal(field).is_none().then_some(cause)
 }
 
 fn source_fault(field: &[u8]) -> Option<Message<'_>> {
@@ -38,7 +40,7 @@ fn source_fault(field: &[u8]) -> Option<Message<'_>> {
         Some(port) if are_digits(node) && (are_digits(port) || number(node).is_none()) => {
             number_fault(node).or(number_fault(port))
         }
-        _ => Some(show("`$1` is no source: that is `N.P`, for port P of node N", &[Bytes(field)])),
+        _ => Some(say("no-source").with(&[Bytes(field)])),
     }
 }
 
@@ -53,7 +55,7 @@ fn name_fault(field: &[u8]) -> Option<Message<'_>> {
     } else {
         return None;
     };
-    Some(show(text, &[Bytes(field), Number(field.len() as u64)]))
+    Some(say(text).with(&[Bytes(field), Number(field.len() as u64)]))
 }
 
 /// What is wrong with the field that stands where a form has this word.

@@ -3,7 +3,7 @@
 use crate::blocks::{Block, Node, is_source, number_in};
 use crate::lines::{is_line_feed, is_space, last_line, line_at, text_at, text_of, word_at};
 use crate::message::{Bytes, Checking, Count, Lies, Number, Word};
-use crate::message::{Found, Message, at, at_line, say, show};
+use crate::message::{Found, Message, at, at_line, say};
 use graph_check::{CheckFault, CheckFaultKind};
 use graph_file::number;
 use semantics::graph::Region;
@@ -29,10 +29,10 @@ impl<'a> Node<'a> {
         };
         let node = Number(u64::from(cond));
         if !self.is_earlier_cond(cond) {
-            return show("node $1 is no `cond` before this line, so it has no arms", &[node]);
+            return say("node $1 is no `cond` before this line, so it has no arms").with(&[node]);
         }
         let lies = Lies(self.block.node(u64::from(cond)).region);
-        show("merge-elsewhere", &[node, lies, Lies(self.region)])
+        say("merge-elsewhere").with(&[node, lies, Lies(self.region)])
     }
 
     /// The cause for another number of sources than the block has outputs, or the one that the node names has inputs.
@@ -44,9 +44,10 @@ impl<'a> Node<'a> {
         };
         let (name, wanted) = (Word(block.name), Count(wants, noun));
         if has != wants {
-            return show("block $1 has $2, this line has $3", &[name, wanted, Count(has, "source")]);
+            let pieces = [name, wanted, Count(has, "source")];
+            return say("block $1 has $2, this line has $3").with(&pieces);
         }
-        show("looped-block", &[name, wanted, Count(block.outputs, "output")])
+        say("looped-block").with(&[name, wanted, Count(block.outputs, "output")])
     }
 
     /// The region in which the source at `place` of the line has to lie.
@@ -72,13 +73,14 @@ impl<'a> Node<'a> {
         };
         if number >= self.number {
             let (nodes, name) = (Count(self.number, "node"), Word(self.block.name));
-            return Some(show(late, &[Bytes(source), Number(self.number), nodes, name]));
+            return Some(say(late).with(&[Bytes(source), Number(self.number), nodes, name]));
         }
         if port >= node.ports() {
-            let pieces = [Number(number), Count(node.ports(), "output port"), Number(port)];
-            return Some(show("node $1 has $2, and no port $3", &pieces));
+            let ports = Count(node.ports(), "output port");
+            let pieces = [Number(number), ports, Number(port)];
+            return Some(say("node $1 has $2, and no port $3").with(&pieces));
         }
-        let cause = show(apart, &[Bytes(source), Lies(node.region), Lies(wanted)]);
+        let cause = say(apart).with(&[Bytes(source), Lies(node.region), Lies(wanted)]);
         (node.region != wanted).then_some(cause)
     }
 
@@ -87,11 +89,11 @@ impl<'a> Node<'a> {
         match kind {
             CheckFaultKind::Arity => return self.arity_cause(),
             CheckFaultKind::BadRegion => return self.region_cause(),
-            CheckFaultKind::BadBound => return show("loop-bound", &[Word(text_at(self.line, 3))]),
+            CheckFaultKind::BadBound => return say("bound").with(&[Word(text_at(self.line, 3))]),
             CheckFaultKind::NoSuchName => {
                 let is_array = matches!(self.kind, "fetch" | "store");
                 let noun = if is_array { "array" } else { "block" };
-                return show("there is no $1 $2", &[Word(noun), Word(text_at(self.line, 2))]);
+                return say("there is no $1 $2").with(&[Word(noun), Word(text_at(self.line, 2))]);
             }
             _ => (),
         }
@@ -100,7 +102,7 @@ impl<'a> Node<'a> {
                 return cause;
             }
         }
-        show("kind", &[Checking(kind)])
+        say("kind").with(&[Checking(kind)])
     }
 
     /// A fault of this kind there.
@@ -110,7 +112,7 @@ impl<'a> Node<'a> {
             "out" => "in block $2, line $3 is `$4`",
             _ => "node $1 of block $2, line $3, is `$4`",
         };
-        let place = show(place, &[number, name, Number(self.place), Bytes(self.line)]);
+        let place = say(place).with(&[number, name, Number(self.place), Bytes(self.line)]);
         at(place, self.cause(kind))
     }
 }
@@ -146,17 +148,18 @@ pub fn graph_fault(text: &[u8], fault: CheckFault) -> Option<Found<'_>> {
         }
     };
     let line = line_at(text, number);
-    Some(at_line(number, line, show(name, &[Bytes(word_at(line, 1))])))
+    Some(at_line(number, line, say(name).with(&[Bytes(word_at(line, 1))])))
 }
 
 /// Why the graph of the text has no code, at code block `number`: the plain codes of all blocks come first, then the codes of
 /// iterations, one for each block that some loop names.
 pub fn code_fault<'a>(text: &'a [u8], number: u64, cause: Message<'a>) -> Option<Found<'a>> {
-    let blocks = text.split(is_line_feed).filter(|line| text_at(*line, 0) == "block");
-    let (place, block) = match number.checked_sub(blocks.count() as u64) {
-        None => ("code block $1 is that of block $2", Block::of(text, None, number)?),
+    let is_block = |line: &&[u8]| text_at(*line, 0) == "block";
+    let blocks = text.split(is_line_feed).filter(is_block).count();
+    let (place, block) = match number.checked_sub(blocks as u64) {
+        None => ("code-block", Block::of(text, None, number)?),
         Some(after) => ("iterations", Block::looped(text, after)?),
     };
-    let place = show(place, &[Number(number), Word(block.name)]);
+    let place = say(place).with(&[Number(number), Word(block.name)]);
     Some(at(place, cause))
 }

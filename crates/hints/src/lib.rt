@@ -26,7 +26,7 @@ use graphs::{code_fault, graph_fault};
 pub use line::{Hint, Line};
 use lines::split_graph;
 use listings::listing_fault;
-use message::{Checking, Found, Message, Reading, Word, nowhere, say, show};
+use message::{Checking, Found, Message, Reading, Word, nowhere, say};
 use objects::object_fault;
 use outcomes::{Outcome, Refusal};
 use programs::{kind_message, program_fault};
@@ -48,7 +48,7 @@ fn other_input<'a>(input: &[u8], command: &'a str) -> Option<Message<'a>> {
     };
     let reads = found("reads/", command).unwrap_or("graph");
     let text = found(group, command).or(found(group, reads))?;
-    Some(show(text, &[Word(command)]))
+    Some(say(text).with(&[Word(command)]))
 }
 
 /// Why the request of this case, which these words are, was refused. `None` where the place cannot be found, because the input
@@ -96,14 +96,14 @@ fn unlocated<'a>(case: &Case<'_, '_>, refusal: Refusal) -> Message<'a> {
     let part = match refusal {
         Refusal::Input => return say("unread"),
         Refusal::Memory => return memory_cause(case.request),
-        Refusal::Read(fault) => return show("kind", &[Reading(fault.kind)]),
-        Refusal::Check(fault) => return show("kind", &[Checking(fault.kind)]),
+        Refusal::Read(fault) => return say("kind").with(&[Reading(fault.kind)]),
+        Refusal::Check(fault) => return say("kind").with(&[Checking(fault.kind)]),
         Refusal::Program(refusal) => return kind_message(refusal.fault.kind),
         Refusal::Asm(_fault) => "Faults of assembling",
         Refusal::Object(_fault) => "Refusals of an object",
         _ => "Refusals",
     };
-    show("docs/FORMATS.md says what that means, under `$1`", &[Word(part)])
+    say("docs/FORMATS.md says what that means, under `$1`").with(&[Word(part)])
 }
 
 /// What the words ask for. Words that ask for nothing have a mistake, and no other outcome.

@@ -62,7 +62,7 @@ impl<A: Allocator> Hint<A> {
     {
         let cause = self.cause.bytes.as_slice();
         match &self.place {
-            Some(place) => send_all(writer, &[b"hint: ", &place.bytes, b"\nhint: ", cause, b"\n"]),
+            Some(line) => send_all(writer, &[b"hint: ", &line.bytes, b"\nhint: ", cause, b"\n"]),
             None => send_all(writer, &[b"hint: ", cause, b"\n"]),
         }
     }

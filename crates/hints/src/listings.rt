@@ -3,7 +3,7 @@
 use crate::catalog::found;
 use crate::fields::field_fault;
 use crate::lines::{Before, line_at, said, subject_of, text_at, text_of, word_at, words_after};
-use crate::message::{Bytes, Count, Found, Message, Number, Word, at_line, nowhere, say, show};
+use crate::message::{Bytes, Count, Found, Message, Number, Word, at_line, nowhere, say};
 use assembler::{AsmFault, AsmFaultKind};
 use graph_file::{literal, number};
 use semantics::opcode::Opcode;
@@ -16,11 +16,11 @@ fn text_on(group: &str, subject: &str) -> &'static str {
 /// The cause for a byte that separates no words, though it looks so.
 fn stray_byte<'a>(line: &[u8]) -> Option<Message<'a>> {
     if line.ends_with(b"\r") {
-        return Some(show("carriage-return", &[Word("a listing")]));
+        return Some(say("carriage-return").with(&[Word("a listing")]));
     }
     let place = line.iter().position(|byte| *byte == b'\t')?;
     let column = Number((place as u64).saturating_add(1));
-    Some(show("column $1 has a tab: words are parted by spaces", &[column]))
+    Some(say("column $1 has a tab: words are parted by spaces").with(&[column]))
 }
 
 /// The cause for a line of no form that may stand there.
@@ -35,7 +35,7 @@ fn bad_line<'a>(line: &[u8], before: &Before<'_>, subject: &str) -> Message<'a> 
         return say("line-order");
     }
     let (form, has) = (text_on("listing/", subject), words_after(line, 0));
-    show("the form is `$1`, and this line has $2", &[Word(form), Count(has, "word")])
+    say("the form is `$1`, and this line has $2").with(&[Word(form), Count(has, "word")])
 }
 
 /// The cause for the first number of the line that is not well written, or is not the next one.
@@ -44,7 +44,7 @@ fn bad_number<'a>(line: &'a [u8], before: &Before<'_>, subject: &str) -> Message
         let word = word_at(line, place);
         let cause = match form {
             "NUMBER" if literal(word) == i64::try_from(before.count).ok() => None,
-            "NUMBER" => Some(show("line-number", &[Bytes(word), Number(before.count)])),
+            "NUMBER" => Some(say("line-number").with(&[Bytes(word), Number(before.count)])),
             "S" => field_fault("I", word),
             form => field_fault(form, word),
         };
@@ -52,7 +52,7 @@ fn bad_number<'a>(line: &'a [u8], before: &Before<'_>, subject: &str) -> Message
             return cause;
         }
     }
-    show("no-number", &[Bytes(line)])
+    say("no-number").with(&[Bytes(line)])
 }
 
 /// How the operand of the operation with this name is written.
@@ -80,10 +80,10 @@ fn bad_destination<'a>(line: &'a [u8], name: &'a [u8]) -> Message<'a> {
             _ => text_of(word) == "-",
         };
         if !is_written {
-            return show("no-destination", &[Bytes(word)]);
+            return say("no-destination").with(&[Bytes(word)]);
         }
     }
-    show("bad-destination", &[Bytes(name)])
+    say("bad-destination").with(&[Bytes(name)])
 }
 
 /// The cause for a bad slot, of an operation with this name, which has none beside a literal operand.
@@ -92,7 +92,7 @@ fn bad_slot<'a>(line: &'a [u8], name: &'a [u8]) -> Message<'a> {
         Some(opcode) if opcode.uses_slot() && !text_at(line, 5).contains('#') => "slot-wanted",
         _ => "slotless-name",
     };
-    show(cause, &[Bytes(name), Bytes(word_at(line, 2))])
+    say(cause).with(&[Bytes(name), Bytes(word_at(line, 2))])
 }
 
 /// The cause for a fault of this kind at a line, which has these before it.
@@ -104,17 +104,17 @@ fn line_cause<'a>(kind: AsmFaultKind, line: &'a [u8], before: &Before<'_>) -> Me
     match kind {
         AsmFaultKind::BadLine => bad_line(line, before, subject),
         AsmFaultKind::BadNumber => bad_number(line, before, subject),
-        AsmFaultKind::BadVersion => show("version $1, where 1 and 2 are known", &[Bytes(name)]),
+        AsmFaultKind::BadVersion => say("version $1, where 1 and 2 are known").with(&[Bytes(name)]),
         AsmFaultKind::BadLiteral => say(text_on("literals/", subject)),
         AsmFaultKind::BadTable => say(text_on("tables/", subject)),
         AsmFaultKind::BadSlot => bad_slot(line, name),
         AsmFaultKind::BadDestination => bad_destination(line, name),
         AsmFaultKind::BadOperand => {
-            let pieces = [Bytes(name), Word(operand_form(name)), Bytes(word_at(line, 5))];
-            show("the operand of $1 is $2, and not `$3`", &pieces)
+            let (form, operand) = (Word(operand_form(name)), Bytes(word_at(line, 5)));
+            say("the operand of $1 is $2, and not `$3`").with(&[Bytes(name), form, operand])
         }
-        AsmFaultKind::BadOrigin => show("origin", &[Bytes(word_at(line, 6))]),
-        _ => show("operation", &[Bytes(name)]),
+        AsmFaultKind::BadOrigin => say("origin").with(&[Bytes(word_at(line, 6))]),
+        _ => say("operation").with(&[Bytes(name)]),
     }
 }
 

@@ -83,17 +83,21 @@ fn piece_at<'a>(pieces: &[Piece<'a>], place: usize) -> Piece<'a> {
     pieces.get(place).copied().unwrap_or(Word(""))
 }
 
-/// The message with this text, or with the text of this name, which shows these pieces, four at most.
-pub fn show<'a>(name: &'static str, pieces: &[Piece<'a>]) -> Message<'a> {
-    let (first, second) = (piece_at(pieces, 0), piece_at(pieces, 1));
-    let pieces = [first, second, piece_at(pieces, 2), piece_at(pieces, 3)];
+/// The message with this text, or with the text of this name, which shows nothing.
+pub fn say<'a>(name: &'static str) -> Message<'a> {
     let text = found("", name).unwrap_or(name);
+    let pieces = [Word(""); 4];
     Message { text, pieces }
 }
 
-/// The message with this text, or with the text of this name, which shows nothing.
-pub fn say<'a>(name: &'static str) -> Message<'a> {
-    show(name, &[])
+impl<'a> Message<'a> {
+    /// The message with these pieces, four at most.
+    pub fn with(self, pieces: &[Piece<'a>]) -> Message<'a> {
+        let (first, second) = (piece_at(pieces, 0), piece_at(pieces, 1));
+        let pieces = [first, second, piece_at(pieces, 2), piece_at(pieces, 3)];
+        let text = self.text;
+        Message { text, pieces }
+    }
 }
 
 impl Display for Message<'_> {
@@ -136,7 +140,8 @@ pub fn at_line<'a>(number: u64, line: &'a [u8], cause: Message<'a>) -> Found<'a>
         Number(column) => column,
         _ => 1,
     };
-    let empty = line.is_empty();
-    let text = if empty { "line $1 is empty" } else { "line $1 is `$2`" };
-    at(show(text, &[Number(number), Line(line, column)]), cause)
+    let (full, bare) = ("line $1 is `$2`", "line $1 is empty");
+    let text = if line.is_empty() { bare } else { full };
+    let place = say(text).with(&[Number(number), Line(line, column)]);
+    at(place, cause)
 }

@@ -1,7 +1,7 @@
 //! What is wrong with the program of a text, for each kind of fault.
 
 use crate::lines::{line_at, text_of};
-use crate::message::{Bytes, Count, Found, Line, Message, Number, Programming, Word, at, say, show};
+use crate::message::{Bytes, Count, Found, Line, Message, Number, Programming, Word, at, say};
 use source::fault::FaultKind;
 use source_tokens::{Detail, Expected, Form, ProgramRefusal, Stop, Within, split};
 
@@ -105,7 +105,7 @@ fn unexpected<'a>(program: &'a [u8], word: &'a str, stop: Stop) -> Message<'a> {
     };
     let text = wrong(stop, before, word).unwrap_or(wanted(stop.expected));
     let opened = Bytes(token_at(program, opened));
-    show(text, &[Word(word), Word(before), opened, Number(line as u64)])
+    say(text).with(&[Word(word), Word(before), opened, Number(line as u64)])
 }
 
 /// Which number of values is wrong at this word, of which this is known.
@@ -114,7 +114,7 @@ fn miscounted<'a>(word: &'a str, detail: Option<Detail>) -> Message<'a> {
         let is_one = head.results == 1;
         let name = if is_one { "one-result" } else { "call-results" };
         let parameters = Count(head.parameters as u64, "parameter");
-        return show(name, &[Word(word), parameters, Count(head.results, "result")]);
+        return say(name).with(&[Word(word), parameters, Count(head.results, "result")]);
     }
     say(match word {
         "let" => "values-of-let",
@@ -139,7 +139,7 @@ pub fn kind_message<'a>(kind: FaultKind) -> Message<'a> {
         FaultKind::TooWide => "too-wide",
         FaultKind::TooBig => "too-big",
         FaultKind::NoMain => "main-unknown",
-        _ => return show("kind", &[Programming(kind)]),
+        _ => return say("kind").with(&[Programming(kind)]),
     })
 }
 
@@ -158,7 +158,7 @@ fn cause_of<'a>(program: &'a [u8], refusal: ProgramRefusal, token: &'a [u8]) -> 
         (FaultKind::NoSuchName, _) => "value-unknown",
         (kind, _) => return kind_message(kind),
     };
-    show(text, &[Bytes(token)])
+    say(text).with(&[Bytes(token)])
 }
 
 /// Why the text has no program that is lowered.
@@ -169,6 +169,6 @@ pub fn program_fault<'a>(text: &'a [u8], refusal: ProgramRefusal) -> Found<'a> {
     let is_end = token.is_empty();
     let name = if is_end { "at-end" } else { "at-token" };
     let shown = Line(line_at(program, line), column);
-    let place = show(name, &[Number(line), Number(column), shown, Bytes(token)]);
+    let place = say(name).with(&[Number(line), Number(column), shown, Bytes(token)]);
     at(place, cause_of(program, refusal, token))
 }

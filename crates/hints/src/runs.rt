@@ -6,7 +6,7 @@ ghost use Rattle.outcomes.specs.Outcomes.{ending_status, exit_status, meaning_st
 use crate::blocks::Block;
 use crate::fields::literal_fault;
 use crate::lines::{is_line_feed, last_line, line_at, split_graph, text_at, word_at};
-use crate::message::{Bytes, Count, Found, Message, Number, Word, at, nowhere, say, show};
+use crate::message::{Bytes, Count, Found, Message, Number, Word, at, nowhere, say};
 use crate::words::bad_input_in;
 use command_line::{Inputs, Request, RunOptions, Sizes};
 use object_view::Object;
@@ -31,19 +31,21 @@ pub struct Case<'r, 'a> {
 /// The cause for line `number` of the inputs, which is not an integer.
 pub fn input_fault(input: &[u8], number: u64) -> Found<'_> {
     let line = line_at(split_graph(input).1, number);
-    let (place, cause) = match line {
-        [] => ("line $1 of the inputs is empty", None),
-        [.., b'\r'] => ("input-line", Some(show("carriage-return", &[Word("inputs")]))),
-        _ => ("input-line", literal_fault(line)),
+    let empty = line.is_empty();
+    let place = say(if empty { "no-line" } else { "input-line" });
+    let cause = match line {
+        [] => None,
+        [.., b'\r'] => Some(say("carriage-return").with(&[Word("inputs")])),
+        _ => literal_fault(line),
     };
-    let place = show(place, &[Number(number), Bytes(line)]);
-    at(place, cause.unwrap_or(say("inputs are integers, one a line, and no empty lines")))
+    let cause = cause.unwrap_or(say("inputs are integers, one a line, and no empty lines"));
+    at(place.with(&[Number(number), Bytes(line)]), cause)
 }
 
 /// The cause for input `number` of the words after `exec`, which is the first that is not an integer.
 pub fn given_fault<'a, S: AsStr>(words: &'a [S], number: u64) -> Option<Found<'a>> {
     let input = bad_input_in(words)?.as_bytes();
-    let place = show("input $1 of the command line is `$2`", &[Number(number), Bytes(input)]);
+    let place = say("input $1 of the command line is `$2`").with(&[Number(number), Bytes(input)]);
     Some(at(place, literal_fault(input)?))
 }
 
@@ -54,7 +56,7 @@ fn inputs_cause(input: &[u8]) -> Option<Message<'_>> {
     let wants = Count(Block::of(text, Some(name), 0)?.inputs, "input");
     let inputs = lines.split(is_line_feed).filter(|line| !line.is_empty());
     let has = Count(inputs.count() as u64, "integer");
-    Some(show("block $1 has $2, and the lines behind the graph have $3", &[Word(name), wants, has]))
+    Some(say("graph-inputs").with(&[Word(name), wants, has]))
 }
 
 /// The cause for a run of an object that was given these inputs, where its main block wants another number.
@@ -65,7 +67,7 @@ fn object_inputs_cause<'a>(object: &[u8], inputs: &Inputs) -> Option<Message<'a>
     match inputs {
         Inputs::Integers(integers) => {
             let has = Count(integers.len() as u64, "integer");
-            Some(show("object-inputs", &[Number(u64::from(main)), wants, has]))
+            Some(say("object-inputs").with(&[Number(u64::from(main)), wants, has]))
         }
         Inputs::TooMany => Some(say("too-many-inputs")),
         Inputs::NoInteger(_) => None,
@@ -75,7 +77,7 @@ fn object_inputs_cause<'a>(object: &[u8], inputs: &Inputs) -> Option<Message<'a>
 /// The cause for an option with this value, if that is not within these limits.
 fn range<'a>(option: &'static str, value: u64, least: u64, most: u64) -> Option<Message<'a>> {
     let pieces = [Word(option), Number(value), Number(least), Number(most)];
-    (value < least || most < value).then_some(show("--$1 is $3 to $4, and not $2", &pieces))
+    (value < least || most < value).then_some(say("--$1 is $3 to $4, and not $2").with(&pieces))
 }
 
 /// What is wrong with numbers of elements.
@@ -86,7 +88,8 @@ fn sizes_cause<'a>(sizes: Sizes) -> Option<Message<'a>> {
             return cause;
         }
     }
-    sizes.has(63).then_some(say("--elements is 1 to 16, and not above 62"))
+    let large = say("--elements is 1 to 16, and not above 62");
+    sizes.has(63).then_some(large)
 }
 
 /// The options of a request that can be refused because of them.
@@ -142,9 +145,10 @@ pub fn memory_cause<'a>(request: &Request) -> Message<'a> {
 
 /// What ran out. In an order with one element each pick is an event, and with more no element makes more events than there are picks.
 fn steps_cause<'a>(request: &Request) -> Message<'a> {
+    let most = Number(STEPS);
     match request {
         Request::Run(options) | Request::Exec { options, .. } | Request::Trace { options, .. } => {
-            show("steps", &[Count(options.steps, "step"), Number(STEPS)])
+            say("steps").with(&[Count(options.steps, "step"), most])
         }
         Request::Orders { options, .. } => {
             let name = match options.elements {
@@ -152,11 +156,11 @@ fn steps_cause<'a>(request: &Request) -> Message<'a> {
                 1 => "steps",
                 _ => "steps-or-picks",
             };
-            show(name, &[Count(options.steps, "step"), Number(PICKS)])
+            say(name).with(&[Count(options.steps, "step"), Number(PICKS)])
         }
-        Request::Profile { options, .. } => show("wave", &[Number(options.steps), Number(STEPS)]),
-        Request::Mean { steps } => show("activities", &[Number(*steps)]),
-        _ => show("activities", &[Number(0)]),
+        Request::Profile { options, .. } => say("wave").with(&[Number(options.steps), most]),
+        Request::Mean { steps } => say("activities").with(&[Number(*steps)]),
+        _ => say("activities").with(&[Number(0)]),
     }
 }
 
@@ -173,7 +177,7 @@ fn starved_cause<'a>(request: &Request, frames: u64, credits: u64) -> Message<'a
         (0, _) => "no-credit",
         _ => "no-frame-no-credit",
     };
-    show(name, &[Count(frames, "request"), Count(credits, "request")])
+    say(name).with(&[Count(frames, "request"), Count(credits, "request")])
 }
 
 /// Why a run clashed: at this cell of array number `array`, whose name is known where a graph was read that was kept.
@@ -184,7 +188,7 @@ fn clash_cause<'a>(case: &Case<'_, 'a>, array: u64, index: u32) -> Message<'a> {
         }
         _ => Number(array),
     };
-    show("clash", &[Number(u64::from(index)), array])
+    say("clash").with(&[Number(u64::from(index)), array])
 }
 
 /// Why a rule excludes a token, and whose fault that is.

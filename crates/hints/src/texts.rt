@@ -4,7 +4,7 @@ use crate::blocks::region_in;
 use crate::catalog::found;
 use crate::fields::field_fault;
 use crate::lines::{Before, column_at, is_space, line_at, text_at, text_of, word_at, words_after};
-use crate::message::{Bytes, Count, Found, Message, Number, Word, at_line, nowhere, say, show};
+use crate::message::{Bytes, Count, Found, Message, Number, Word, at_line, nowhere, say};
 use graph_file::{ReadFault, ReadFaultKind, literal};
 use semantics::words::{Operator, operator_of};
 
@@ -36,27 +36,27 @@ fn header<'a>(first: &[u8]) -> Message<'a> {
         _ if first.ends_with(b"\r") => "carriage-return",
         _ => "a graph begins with the line `etsgraph 1` or `etsgraph 2`",
     };
-    show(name, &[Word("a graph")])
+    say(name).with(&[Word("a graph")])
 }
 
 /// The cause for the first byte that no line may contain, or else for the first space that does not separate two fields.
 fn stray_byte<'a>(line: &[u8]) -> Option<Message<'a>> {
     let Some(place) = line.iter().position(|byte| !matches!(*byte, b' '..=b'~')) else {
         let column = column_at(line, b"")?.min(line.len() as u64);
-        return Some(show("spacing", &[Number(column)]));
+        return Some(say("spacing").with(&[Number(column)]));
     };
     let column = Number((place as u64).saturating_add(1));
     match line.get(place..)? {
-        [b'\r'] => Some(show("carriage-return", &[Word("a graph")])),
-        [b'\t', ..] => Some(show("column $1 has a tab: fields are parted by one space", &[column])),
-        [byte, ..] => Some(show("byte-in-graph", &[column, Number(u64::from(*byte))])),
+        [b'\r'] => Some(say("carriage-return").with(&[Word("a graph")])),
+        [b'\t', ..] => Some(say("tab-in-graph").with(&[column])),
+        [byte, ..] => Some(say("byte-in-graph").with(&[column, Number(u64::from(*byte))])),
         [] => None,
     }
 }
 
 /// The cause for a line of this form, which begins with `word` and has another number of fields after.
 fn bad_form<'a>(form: &'static str, word: &'a [u8], has: u64) -> Message<'a> {
-    show("form", &[Word(form), Count(has, "field"), Bytes(word)])
+    say("form").with(&[Word(form), Count(has, "field"), Bytes(word)])
 }
 
 /// The cause for a node line with a good region but with none of the forms that may stand there, in a text with this header.
@@ -66,10 +66,10 @@ fn bad_kind<'a>(line: &'a [u8], header: &[u8]) -> Message<'a> {
     match (text_of(kind), node_form(kind)) {
         ("", _) => say("behind the region comes the kind of the node, as in `- add 0.0 1.0`"),
         ("scall", _) if text_of(header) == "etsgraph 1" => say("strict-call"),
-        (_, None) => show("unknown-kind", &[Bytes(kind)]),
+        (_, None) => say("unknown-kind").with(&[Bytes(kind)]),
         (_, Some(form)) if text_at(form.as_bytes(), 1) == "S" => {
             let wants = Count(words_after(form.as_bytes(), 1), "source");
-            show("$1 wants $2, this line has $3", &[Bytes(kind), wants, Number(has)])
+            say("$1 wants $2, this line has $3").with(&[Bytes(kind), wants, Number(has)])
         }
         (_, Some(form)) => bad_form(form, kind, has),
     }
@@ -98,7 +98,7 @@ fn bad_line<'a>(text: &[u8], line: &'a [u8], before: &Before<'a>) -> Message<'a>
         _ if node_form(word).is_some() => "region-missing",
         _ => "no-region",
     };
-    show(name, &[Bytes(word), Bytes(before.block)])
+    say(name).with(&[Bytes(word), Bytes(before.block)])
 }
 
 /// The cause for the first field of a line that is not what its form wants there.
@@ -110,7 +110,7 @@ fn bad_field(line: &[u8]) -> Message<'_> {
             return cause;
         }
     }
-    show("no-number", &[Bytes(line)])
+    say("no-number").with(&[Bytes(line)])
 }
 
 /// The limit that a line exceeds.
@@ -141,10 +141,10 @@ pub fn text_fault<'a>(fault: ReadFault, text: &'a [u8], command: &'a str) -> Fou
                 "out" => "the text ends inside block $1, before the line `end`",
                 _ => "the text ends inside block $1, before its `out` line and `end`",
             };
-            return nowhere(show(name, &[Bytes(before.block)]));
+            return nowhere(say(name).with(&[Bytes(before.block)]));
         }
         ReadFaultKind::TrailingText if literal(line).is_none() => say("after-main"),
-        ReadFaultKind::TrailingText => show("inputs-begin", &[Word(command)]),
+        ReadFaultKind::TrailingText => say("inputs-begin").with(&[Word(command)]),
         ReadFaultKind::NoMain | ReadFaultKind::Memory => return nowhere(say("main-missing")),
     };
     at_line(fault.line, line, cause)

@@ -1,7 +1,7 @@
 //! The words of a command line: what is wrong with them, and the inputs among them.
 
 use crate::catalog::found;
-use crate::message::{Message, Word, say, show};
+use crate::message::{Message, Word, say};
 use command_line::{Asked, read_words};
 use graph_file::literal;
 use std::convert::AsStr;
@@ -63,13 +63,13 @@ fn reading<'a, S: AsStr>(command: &'a str, words: &[S]) -> &'a str {
 fn after_command<'a, S: AsStr>(command: &'a str, words: &'a [S]) -> Message<'a> {
     let named = Word(command);
     match (command, stray_in(command, words)) {
-        ("exec", Some(word)) => show("negative-input", &[Word(word)]),
+        ("exec", Some(word)) => say("negative-input").with(&[Word(word)]),
         ("run" | "mean" | "trace" | "profile" | "orders", Some(word))
-            if literal(word.as_bytes()).is_some() => show("no-inputs", &[named]),
-        (_, Some(word)) => show("file", &[Word(reading(command, words)), Word(word)]),
+            if literal(word.as_bytes()).is_some() => say("no-inputs").with(&[named]),
+        (_, Some(word)) => say("file").with(&[Word(reading(command, words)), Word(word)]),
         (_, None) => match found("options/", command) {
-            Some(options) => show("the options of `ets $1` are $2", &[named, Word(options)]),
-            None => show("no-options", &[named]),
+            Some(options) => say("the options of `ets $1` are $2").with(&[named, Word(options)]),
+            None => say("no-options").with(&[named]),
         },
     }
 }
@@ -90,5 +90,5 @@ pub fn mistake<'a, S: AsStr>(words: &'a [S]) -> Message<'a> {
         _ if word.contains('.') || word.contains('/') => "run",
         _ => return say("commands"),
     };
-    show("file", &[Word(reads), Word(word)])
+    say("file").with(&[Word(reads), Word(word)])
 }
