@@ -2,8 +2,9 @@
 
 use crate::blocks::{Block, Node, is_source, number_in};
 use crate::lines::{is_line_feed, is_space, last_line, line_at, text_at, text_of, word_at};
-use crate::message::{Bytes, Checking, Count, Lies, Number, Word};
-use crate::message::{Found, Message, at, at_line, say};
+use crate::message::{
+    Bytes, Checking, Count, Found, Lies, Message, Number, Word, at, at_line, say,
+};
 use graph_check::{CheckFault, CheckFaultKind};
 use graph_file::number;
 use semantics::graph::Region;
