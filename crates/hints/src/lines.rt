@@ -85,7 +85,7 @@ pub fn subject_of(word: &str) -> &str {
 }
 
 /// What the lines before a line of a graph or of a listing say, each of which is in order.
-#[derive(Clone, Copy, Default)]
+#[derive(Clone, Copy)]
 pub struct Before<'a> {
     /// The first word of the last one; empty before the first one.
     pub last: &'a str,
@@ -99,21 +99,25 @@ impl<'a> Before<'a> {
     /// What is before line `number`, counted from 1.
     pub fn of(text: &'a [u8], number: u64) -> Before<'a> {
         let own = subject_of(text_at(said(line_at(text, number)), 0));
-        let mut before = Before::default();
-        let count = number.saturating_sub(1) as usize;
-        for line in text.split(is_line_feed).take(count) {
-            let word = text_at(said(line), 0);
-            match subject_of(word) {
-                _ if word.is_empty() => continue,
-                subject if subject == own => before.count = before.count.saturating_add(1),
-                "block" if own == "instruction" => before.count = 0,
+        let (mut last, mut block): (&[u8], &[u8]) = (b"", b"");
+        let mut count = 0u64;
+        let lines = number.saturating_sub(1) as usize;
+        for line in text.split(is_line_feed).take(lines) {
+            let word = word_at(said(line), 0);
+            let subject = subject_of(text_of(word));
+            match text_of(word) {
+                "" => continue,
+                "block" => block = word_at(line, 1),
                 _ => (),
             }
-            if word == "block" {
-                before.block = word_at(line, 1);
+            if subject == own {
+                count = count.saturating_add(1);
+            } else if subject == "block" && own == "instruction" {
+                count = 0;
             }
-            before.last = word;
+            last = word;
         }
-        before
+        let last = text_of(last);
+        Before { last, block, count }
     }
 }

@@ -14,6 +14,7 @@ const MOST: usize = 60;
 /// A value that a message shows.
 #[derive(Clone, Copy)]
 pub enum Piece<'a> {
+    Nothing,
     Word(&'a str),
     /// Bytes of a text.
     Bytes(&'a [u8]),
@@ -56,6 +57,7 @@ fn show_line<W: fmt::Write>(line: &[u8], column: u64, f: &mut fmt::Formatter<W>)
 impl Display for Piece<'_> {
     fn fmt<W: fmt::Write>(&self, f: &mut fmt::Formatter<W>) -> fmt::Result {
         match *self {
+            Piece::Nothing => Ok(()),
             Word(word) => f.write_str(word),
             Bytes(bytes) => show_bytes(bytes, f),
             Number(number) => write!(f, "{number}"),
@@ -76,27 +78,38 @@ impl Display for Piece<'_> {
 #[derive(Clone, Copy)]
 pub struct Message<'a> {
     text: &'static str,
-    pieces: [Piece<'a>; 4],
+    first: Piece<'a>,
+    second: Piece<'a>,
+    third: Piece<'a>,
+    fourth: Piece<'a>,
 }
 
 fn piece_at<'a>(pieces: &[Piece<'a>], place: usize) -> Piece<'a> {
-    pieces.get(place).copied().unwrap_or(Word(""))
+    pieces.get(place).copied().unwrap_or(Piece::Nothing)
 }
 
 /// The message with this text, or with the text of this name, which shows nothing.
 pub fn say<'a>(name: &'static str) -> Message<'a> {
     let text = found("", name).unwrap_or(name);
-    let pieces = [Word(""); 4];
-    Message { text, pieces }
+    Message::of(text, &[])
 }
 
 impl<'a> Message<'a> {
+    fn of(text: &'static str, pieces: &[Piece<'a>]) -> Message<'a> {
+        let (first, second) = (piece_at(pieces, 0), piece_at(pieces, 1));
+        let (third, fourth) = (piece_at(pieces, 2), piece_at(pieces, 3));
+        Message {
+            text,
+            first,
+            second,
+            third,
+            fourth,
+        }
+    }
+
     /// The message with these pieces, four at most.
     pub fn with(self, pieces: &[Piece<'a>]) -> Message<'a> {
-        let (first, second) = (piece_at(pieces, 0), piece_at(pieces, 1));
-        let pieces = [first, second, piece_at(pieces, 2), piece_at(pieces, 3)];
-        let text = self.text;
-        Message { text, pieces }
+        Message::of(self.text, pieces)
     }
 }
 
@@ -105,9 +118,12 @@ impl Display for Message<'_> {
         let mut parts = self.text.split('$');
         f.write_str(parts.next().unwrap_or(""))?;
         for part in parts {
-            let digit = part.as_bytes().first().copied().unwrap_or(b'1');
-            let place = usize::from(digit.saturating_sub(b'1'));
-            Display::fmt(&piece_at(&self.pieces, place), f)?;
+            match part.as_bytes().first() {
+                Some(b'1') => Display::fmt(&self.first, f)?,
+                Some(b'2') => Display::fmt(&self.second, f)?,
+                Some(b'3') => Display::fmt(&self.third, f)?,
+                _ => Display::fmt(&self.fourth, f)?,
+            }
             f.write_str(part.get(1..).unwrap_or(""))?;
         }
         Ok(())
@@ -135,7 +151,7 @@ pub fn at<'a>(place: Message<'a>, cause: Message<'a>) -> Found<'a> {
 /// A cause at line `number` of a text, counted from 1, which is this line. What the cause shows first is to be seen there, if it
 /// is a word of the line, or a number, which is a column.
 pub fn at_line<'a>(number: u64, line: &'a [u8], cause: Message<'a>) -> Found<'a> {
-    let column = match piece_at(&cause.pieces, 0) {
+    let column = match cause.first {
         Bytes(word) => column_at(line, word).unwrap_or(1),
         Number(column) => column,
         _ => 1,

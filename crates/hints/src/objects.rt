@@ -36,7 +36,7 @@ fn cause_of<'a>(wrong: Wrong, bytes: u64) -> Message<'a> {
 }
 
 /// Why the bytes are not an object.
-pub fn object_fault<'a>(bytes: &[u8]) -> Option<Found<'a>> {
+pub fn object_fault(bytes: &[u8]) -> Option<Found<'_>> {
     if bytes.len() >= 8 && !bytes.starts_with(b"ETSOBJCT") {
         return Some(at(say("at-byte").with(&[Number(0)]), say("magic")));
     }

@@ -104,32 +104,38 @@ fn options_of(request: &Request) -> Option<&RunOptions> {
     }
 }
 
+/// What is wrong with what this request alone has: the numbers of elements of a profile, or how many orders there are to be.
+fn own_cause<'a>(request: &Request) -> Option<Message<'a>> {
+    if let Request::Profile { sizes, .. } = request {
+        return sizes_cause(*sizes);
+    }
+    let cause = say("--count is at least 1, and not 0");
+    matches!(request, Request::Orders { count: 0, .. }).then_some(cause)
+}
+
 /// The first option whose value is outside its limits.
-fn option_cause<'a>(request: &Request, options: &RunOptions) -> Message<'a> {
-    let last = match request {
-        Request::Profile { sizes, .. } => sizes_cause(*sizes),
-        Request::Orders { count: 0, .. } => Some(say("--count is at least 1, and not 0")),
-        _ => None,
-    };
+fn option_cause<'a>(request: &Request) -> Option<Message<'a>> {
+    let options = options_of(request)?;
     range("elements", options.elements, 1, 16)
         .or(range("frames", options.frames, 1, 1_024))
         .or(range("steps", options.steps, 0, STEPS))
-        .or(last)
-        .unwrap_or(say("--mode is `one`, `rounds` or `free`"))
+        .or(own_cause(request))
+        .or(Some(say("--mode is `one`, `rounds` or `free`")))
 }
 
 /// Why a run of this case does not start. `None` where that is not known, as where the input was not kept.
 pub fn start_cause<'a>(case: &Case<'_, 'a>, fault: StartFault) -> Option<Message<'a>> {
-    let request = case.request;
-    match (fault, request) {
-        (StartFault::NoFrames, _) => range("frames", options_of(request)?.frames, 1, 1_024),
-        (StartFault::BadConfig, _) => Some(option_cause(request, options_of(request)?)),
-        (StartFault::WrongInputs, Request::Exec { inputs, .. }) => {
-            object_inputs_cause(case.input?, inputs)
-        }
-        (StartFault::WrongInputs, _) => inputs_cause(case.input?),
-        (StartFault::Memory, _) => None,
+    match fault {
+        StartFault::NoFrames => return range("frames", options_of(case.request)?.frames, 1, 1_024),
+        StartFault::BadConfig => return option_cause(case.request),
+        StartFault::Memory => return None,
+        StartFault::WrongInputs => (),
     }
+    let input = case.input?;
+    if let Request::Exec { inputs, .. } = case.request {
+        return object_inputs_cause(input, inputs);
+    }
+    inputs_cause(input)
 }
 
 /// What is said where memory is refused.

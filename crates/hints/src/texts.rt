@@ -29,7 +29,7 @@ fn form_at(line: &[u8]) -> (u64, &'static str) {
 }
 
 /// The cause for a text whose first line is not the header of a graph.
-fn header<'a>(first: &[u8]) -> Message<'a> {
+fn header(first: &[u8]) -> Message<'_> {
     let name = match text_of(first) {
         "etsgraph 1" | "etsgraph 2" => "no-line-feed",
         _ if first.starts_with(&[0xef, 0xbb, 0xbf]) => "byte-order-mark",
@@ -61,18 +61,21 @@ fn bad_form<'a>(form: &'static str, word: &'a [u8], has: u64) -> Message<'a> {
 
 /// The cause for a node line with a good region but with none of the forms that may stand there, in a text with this header.
 fn bad_kind<'a>(line: &'a [u8], header: &[u8]) -> Message<'a> {
-    let kind = word_at(line, 1);
-    let has = words_after(line, 2);
-    match (text_of(kind), node_form(kind)) {
-        ("", _) => say("behind the region comes the kind of the node, as in `- add 0.0 1.0`"),
-        ("scall", _) if text_of(header) == "etsgraph 1" => say("strict-call"),
-        (_, None) => say("unknown-kind").with(&[Bytes(kind)]),
-        (_, Some(form)) if text_at(form.as_bytes(), 1) == "S" => {
-            let wants = Count(words_after(form.as_bytes(), 1), "source");
-            say("$1 wants $2, this line has $3").with(&[Bytes(kind), wants, Number(has)])
-        }
-        (_, Some(form)) => bad_form(form, kind, has),
+    let (kind, has) = (word_at(line, 1), words_after(line, 2));
+    if kind.is_empty() {
+        return say("behind the region comes the kind of the node, as in `- add 0.0 1.0`");
     }
+    let Some(form) = node_form(kind) else {
+        return say("unknown-kind").with(&[Bytes(kind)]);
+    };
+    if text_of(kind) == "scall" && text_of(header) == "etsgraph 1" {
+        return say("strict-call");
+    }
+    if text_at(form.as_bytes(), 1) != "S" {
+        return bad_form(form, kind, has);
+    }
+    let wants = Count(words_after(form.as_bytes(), 1), "source");
+    say("$1 wants $2, this line has $3").with(&[Bytes(kind), wants, Number(has)])
 }
 
 /// The cause for a line that has none of the forms that may stand at its place in the text.
@@ -127,25 +130,50 @@ fn too_many<'a>(line: &[u8], before: &Before<'_>) -> Message<'a> {
     })
 }
 
+/// The cause for a text that ends inside a block, or without a line feed.
+fn unended<'a>(text: &[u8], before: &Before<'a>) -> Message<'a> {
+    let name = match before.last {
+        _ if !text.ends_with(b"\n") => "no-line-feed",
+        "out" => "the text ends inside block $1, before the line `end`",
+        _ => "the text ends inside block $1, before its `out` line and `end`",
+    };
+    say(name).with(&[Bytes(before.block)])
+}
+
+/// The cause for a line after the `main` line.
+fn trailing<'a>(line: &[u8], command: &'a str) -> Message<'a> {
+    if literal(line).is_none() {
+        return say("after-main");
+    }
+    say("inputs-begin").with(&[Word(command)])
+}
+
+/// The cause for a fault of this kind at a line of the text, which has these before it.
+fn cause_of<'a>(
+    kind: ReadFaultKind,
+    text: &'a [u8],
+    line: &'a [u8],
+    before: &Before<'a>,
+    command: &'a str,
+) -> Message<'a> {
+    match kind {
+        ReadFaultKind::NoHeader => header(line),
+        ReadFaultKind::BadLine => bad_line(text, line, before),
+        ReadFaultKind::BadNumber | ReadFaultKind::BadName => bad_field(line),
+        ReadFaultKind::TooMany => too_many(line, before),
+        ReadFaultKind::Unended => unended(text, before),
+        ReadFaultKind::TrailingText => trailing(line, command),
+        ReadFaultKind::NoMain | ReadFaultKind::Memory => say("main-missing"),
+    }
+}
+
 /// Why `text` is not the text of a graph. `command` is the command that was asked for.
 pub fn text_fault<'a>(fault: ReadFault, text: &'a [u8], command: &'a str) -> Found<'a> {
     let (line, before) = (line_at(text, fault.line), Before::of(text, fault.line));
-    let cause = match fault.kind {
-        ReadFaultKind::NoHeader => header(line),
-        ReadFaultKind::BadLine => bad_line(text, line, &before),
-        ReadFaultKind::BadNumber | ReadFaultKind::BadName => bad_field(line),
-        ReadFaultKind::TooMany => too_many(line, &before),
-        ReadFaultKind::Unended if !text.ends_with(b"\n") => say("no-line-feed"),
-        ReadFaultKind::Unended => {
-            let name = match before.last {
-                "out" => "the text ends inside block $1, before the line `end`",
-                _ => "the text ends inside block $1, before its `out` line and `end`",
-            };
-            return nowhere(say(name).with(&[Bytes(before.block)]));
-        }
-        ReadFaultKind::TrailingText if literal(line).is_none() => say("after-main"),
-        ReadFaultKind::TrailingText => say("inputs-begin").with(&[Word(command)]),
-        ReadFaultKind::NoMain | ReadFaultKind::Memory => return nowhere(say("main-missing")),
-    };
+    let cause = cause_of(fault.kind, text, line, &before, command);
+    let may_end = matches!(fault.kind, ReadFaultKind::Unended | ReadFaultKind::NoMain);
+    if may_end && text.ends_with(b"\n") {
+        return nowhere(cause);
+    }
     at_line(fault.line, line, cause)
 }
