@@ -1,11 +1,9 @@
-//! The texts of all messages, by name. In a text `$1` to `$4` stand for the values that it shows.
+//! The texts of messages that are long or have several uses, by name; others stand where their cause is found. In a text `$1` to
+//! `$4` stand for the values that it shows.
 
 /// Each line is a name, `: ` and its text. What is before the last `/` of a name is its group.
 const TEXTS: &str = r#"
-line: line $1 is `$2`
-empty-line: line $1 is empty
 carriage-return: lines end with CR LF here, and with LF alone in $1: `tr -d '\r'` takes the CRs out
-unknown: docs/FORMATS.md says what that means, under `$1`
 kind: $1
 unwritten: a write failed, and what was to be printed was not written whole
 unread: standard input is longer than 67108864 bytes, or could not be read, as a folder cannot
@@ -46,7 +44,6 @@ file: `ets $1` reads standard input: give it the file by `<`, as in `ets $1 < $2
 negative-input: `$1` is read as an option: an input below 0 stands behind `--`, as in `ets exec -- $1`
 no-inputs: `ets $1` takes no inputs from the command line: they stand behind the graph on standard input, one a line
 no-options: `ets $1` has no options, and reads standard input: `ets $1 < FILE`
-options: the options of `ets $1` are $2
 options/run: --elements N (1 to 16), --frames N (1 to 1024), --steps N (at most 4294967296) and --mode one, rounds or free, each at most once
 options/exec: --elements N (1 to 16), --frames N (1 to 1024), --steps N (at most 4294967296) and --mode one, rounds or free, each at most once; all other words are inputs
 options/trace: --last N, --format text, chrome or html, --elements N (1 to 16), --frames N (1 to 1024), --steps N (at most 4294967296) and --mode one, rounds or free, each at most once
@@ -57,18 +54,11 @@ options/dis: --literals, at most once
 options/dot: --code, at most once
 options/lower: --map, at most once
 
-input-line: line $1 of the inputs is `$2`
 no-line: line $1 of the inputs is empty
-integers: inputs are integers, one a line, and no empty lines
-given-input: input $1 of the command line is `$2`
+input-line: line $1 of the inputs is `$2`
 graph-inputs: block $1 has $2, and the lines behind the graph have $3
 object-inputs: code block $1, which is run, has $2, and the command line has $3
 too-many-inputs: the command line has more than 16 inputs, and no object takes more than 16
-option-range: --$1 is $3 to $4, and not $2
-large-elements: --elements is 1 to 16, and not above 62
-count: --count is at least 1, and not 0
-mode: --mode is `one`, `rounds` or `free`
-memory: memory was refused: this input wants more than there is
 memory-of-run: memory was refused: fewer --elements and --frames take less of it
 memory-of-events: memory was refused: fewer --elements, --frames and --steps take less of it
 steps: an element made its $1, and had more to do: raise --steps ($2 at most), if the run ends at all
@@ -105,76 +95,40 @@ outer/block: block NAME INPUTS OUTPUTS
 outer/main: main NAME
 byte-order-mark: the text begins with a byte order mark, which no graph has
 no-line-feed: this last line has no line feed at its end
-no-header: a graph begins with the line `etsgraph 1` or `etsgraph 2`
 tab-in-graph: column $1 has a tab: fields are parted by one space
 byte-in-graph: column $1 has byte $2: a line is of the bytes 32 to 126
 spacing: fields are parted by one space, and none stands at the ends of a line: see column $1
-comment: a graph has no empty lines and no comments
 form: the form is `$1`: this line has $2 behind `$3`
 no-block-yet: `$1` begins no line here: `array`, `block` and `main` do, and nodes stand inside a block
 no-block-open: `$1` begins no line here: `block` and `main` do, and nodes stand inside a block
-late-array: `array` lines stand before the first block
-no-kind: behind the region comes the kind of the node, as in `- add 0.0 1.0`
 strict-call: `scall` stands under the header `etsgraph 2` alone
 unknown-kind: `$1` is no kind of node: lit, cond, enter, merge, fetch, store, call, loop, neg, not, add, sub, ..
-wants-sources: $1 wants $2, this line has $3
-end-before-out: the `out` line of block $1 comes before its `end`
-block-open: block $1 is open here: before `$2` come its `out` line and `end`
 region-missing: a node line begins with its region, in the root `-`: `- $1 ..`
 no-region: `$1` is no region: that is `-`, or `K+` or `K-` for an arm of the conditional at node K
-end-missing: behind the `out` line of block $1 comes the line `end`
-many-sources: the limit of 16 sources of a line is passed
-many-nodes: the limit of 1024 nodes of a block, inputs counted, is passed
-many-arrays: the limit of 64 arrays is passed
-many-cells: the limit of 65536 cells, of one array and of all of them, is passed
-many-blocks: the limit of 256 blocks is passed
-many-ports: the limit of 16 inputs or outputs of a block is passed
-open-nodes: the text ends inside block $1, before its `out` line and `end`
-open-block: the text ends inside block $1, before the line `end`
 after-main: the `main` line is the last one of a graph
 inputs-begin: the inputs begin here, and `ets $1` reads the graph alone: `sed '/^main /q' FILE | ets $1`
 main-missing: the text ends without a line `main NAME`, which names the block to be run
 no-number: `$1` is no number: that is digits alone
-leading-zero: `$1` has a leading zero
-large-number: `$1` is above 4294967295
-no-cells: an array has at least one cell
 no-literal: `$1` is no literal: that is digits, and `-` before them if it is below 0
-negative-zero: `-0` is written `0`
-large-literal: `$1` is not within 64 bits, from -9223372036854775808 to 9223372036854775807
 no-source: `$1` is no source: that is `N.P`, for port P of node N
-name-letter: `$1` is no name: that begins with a letter
-name-byte: `$1` is no name: that has letters, digits and `_` alone
-name-length: the name `$1` has $2 bytes, and 32 are the most
+large-literal: `$1` is not within 64 bits, from -9223372036854775808 to 9223372036854775807
 
-node-line: node $1 of block $2, line $3, is `$4`
-out-line: in block $1, line $2 is `$3`
 code-block: code block $1 is that of block $2
 iterations: code block $1 is that of the iterations of block $2
-same-block: a block before it is called $1, too
-same-array: an array before it is called $1, too
-no-main: there is no block $1 to be run
-no-array: there is no array $1
-no-block: there is no block $1
-no-input: a block has at least one input
-no-output: a block has at least one output
 enter-in-root: `enter` stands in an arm, `K+` or `K-`, and not in the root
-no-conditional: node $1 is no `cond` before this line, so it has no arms
 merge-elsewhere: a merge lies where its `cond` lies: node $1 lies in $2, this line in $3
-source-count: block $1 has $2, this line has $3
 looped-block: a block that is looped has one output more than inputs: $1 has $2 and $3
 late-source: `$1` is of no earlier node: a source names a node whose number is lower than this one's, $2
-late-result: `$1` is of no node: block $3 has $2, from 0 on
-no-port: node $1 has $2, and no port $3
+late-result: `$1` is of no node: block $4 has $3, from 0 on
 crossing-source: `$1` lies in $2, and a source here lies in $3: `enter` leads into an arm, `merge` out of it
 result-in-arm: `$1` lies in $2, and a result lies in the root: `merge` leads out of an arm
-loop-bound: a loop's bound k is 2 to 64, and not $1
+bound: a loop's bound k is 2 to 64, and not $1
 
 listing/ets: ets VERSION main BLOCK
 listing/block: block NUMBER inputs I outputs O slots S
 listing/array: array NUMBER CELLS
 listing/literal: literal NUMBER V
-tab-in-listing: column $1 has a tab: words are parted by spaces
-line-form: the form is `$1`, and this line has $2
+listing/instruction: NUMBER NAME SLOT FIRST SECOND OPERAND
 line-order: behind the first line come the blocks, each with its instructions, then the arrays, then the literals
 line-number: `$1` stands where $2 is wanted: blocks, arrays, literals, and the instructions of a block, are numbered from 0 on
 listing-unended: the text ends before its first block: behind the line `ets VERSION main BLOCK` comes `block 0 inputs I outputs O slots S`
@@ -184,14 +138,13 @@ slot-wanted: $1 has a slot, a number below the slots of its block, and `$2` is n
 slotless-name: $1 has no slot with this operand, so `-` is wanted, and not `$2`
 no-destination: `$1` is no destination: that is `-`, or `+N` with `l` or `r` behind it, as `+1l`
 bad-destination: a destination is a later instruction of the block, with `r` only where that takes two tokens; how many $1 has docs/FORMATS.md says, under `Object file`
-operand: the operand of $1 is $2, and not `$3`
 origin: `$1` is no origin that may stand here: that is `@B.N`, for node N, below 1024, of graph block B, below 256, in version 2, behind div, rem, fetch and store
-literal-order: literals ascend, and this one is not above the one before
-literal-missing: the literal of this instruction stands in no line `literal N V`, and where there are such lines all literals do
-many-literals: the instructions have more than 65536 different literals, or the table has more
-block-table: a block has 1 to 16 inputs, 1 to 16 outputs, at most 512 slots, and more instructions than inputs, up to 32768
-array-table: an array has 1 to 65536 cells, and all arrays have 65536 together at most
-table: a listing has 1 to 512 blocks, of which this line names one, and at most 64 arrays
+literals/literal: literals ascend, and this one is not above the one before
+literals/instruction: the literal of this instruction stands in no line `literal N V`, and where there are such lines all literals do
+literals/ets: the instructions have more than 65536 different literals, or the table has more
+tables/block: a block has 1 to 16 inputs, 1 to 16 outputs, at most 512 slots, and more instructions than inputs, up to 32768
+tables/array: an array has 1 to 65536 cells, and all arrays have 65536 together at most
+tables/ets: a listing has 1 to 512 blocks, of which this line names one, and at most 64 arrays
 
 at-byte: at byte $1 of the object
 at-instruction: instruction $1 of code block $2, at byte $3 of the object
@@ -201,10 +154,9 @@ numbered: $1 $2, where the object has $3, from 0 on
 object-header: the object has $1, and its header and the table of its blocks take $2 at least
 object-length: the object has $1, and its tables want $2
 no-opcode: opcode $1 with flag $2, where no such instruction is
-no-operand: an operand $1, which opcode $2 does not have
+operand: an operand $1, which opcode $2 does not have
 no-slot: slot $1 in a block that has $2, from 0 on
 slotless: slot $1, where opcode $2 has none, so 0 is wanted
-no-distance: a destination without a distance, but with a right port
 past-end: a destination $1 further on, past the end of its block
 right-port: a right port of the instruction $1 further on, which takes one token
 destinations: opcode $1 does not have these destinations
@@ -225,23 +177,13 @@ expression: after `$2` an expression begins: with a number, a name, `(`, `-`, `~
 operator-in-let: after `$2` could stand an operator, `,`, or the `;` that ends the `let`
 operator-in-group: after `$2` could stand an operator, or the `)` that closes the bracket
 operator-in-arguments: after `$2` could stand an operator, `,`, or the `)` that ends the call
-operator-in-index: after `$2` could stand an operator, or the `]` that ends the index
-operator-in-test: after `$2` could stand an operator, or the `{` of the arm
 operator-in-loop-test: after `$2` could stand an operator, or the `{` of the loop's body
 operator-in-first-value: after `$2` could stand an operator, `,`, or the `)` that ends the loop's names
 operator-in-block: after `$2` could stand an operator, `,`, `;`, or the `}` that ends the block
-unclosed: the `$3` of line $4 is not closed
 inputs-line: `inputs` ends the program where it stands alone in its line, with no space before or after it
-word-as-name: `$1` is a word of the language, and no name
-let-unseparated: before `let` a `;` is missing
-brace-unopened: no block is open that this `}` could close
-semicolon-after-body: no `;` stands behind the body of a function
 comparison-chain: comparisons do not chain: `a < b < c` is written `(a < b) & (b < c)`
 called: only the name of a function stands before the bracket of a call
-indexed: only the name of an array stands before `[`
 equals: `=` stands in `let x = ..` and in the head of a loop; a comparison is `==`, and a cell is filled by `A[i] := v`
-semicolon-at-end: a block ends with its values, and no `;` stands after them
-empty-block: a block is not empty: it ends with its values
 comma-at-end: after `,` another value stands: no list ends with a `,`
 no-argument: a call has at least one argument, as a function has at least one parameter
 doubled: `&` and `|` stand once, and work on bits, so that `1 & 2` is 0: two tests are joined as `(a != 0) & (b < c)`
@@ -254,16 +196,12 @@ one-result: `$1` has $2, and this call gives more or fewer values
 call-results: `$1` has $2 and $3: the call gives more or fewer values, or stands where one value has to be
 bad-name: `$1` is no name: one has at most 24 letters, digits and `_`, begins with a letter, has no `__`, and is no word that is kept for later
 same-name: `$1` stands for an array or a function, or stands before in this list: take another name
-function-unknown: there is no function `$1`
-array-unknown: there is no array `$1`
 value-unknown: no value is called `$1` here: a `let` comes before, in this block or around it; a loop's name stands only in the loop
 bad-byte: no token begins so: other bytes stand only in comments, from `//` to the end of the line
 bad-number: a number is decimal, without leading zeros, at most 9223372036854775807; directly after `-` also 9223372036854775808
 program-unended: the program ends before all that was begun is closed: look for a `}`, `)`, `]` or `;` that is missing
 too-deep: more than 200 expressions, signs and `if`s are open here: give a part a name by `let`, or put it into a function
 not-a-cell: only a cell is filled, and only as a whole expression: `A[i] := v`; within another expression it stands in brackets
-bad-bound: a loop's bound, how many turns are under way at once, is 2 to 64
-bad-count: an array has 1 to 65536 cells, and a function 1 to 16 results
 too-many: a program has at most 64 arrays with 65536 cells together, and a function at most 16 parameters
 too-wide: a turn carries at most 15 values: the loop's names, and the names from outside that it uses
 too-big: a function or a loop makes at most 1024 nodes, and a program at most 256 functions and loops: put a part into a function

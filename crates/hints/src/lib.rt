@@ -9,53 +9,70 @@ ghost use Rattle.hints.specs.Hints.{wants_hint};
 mod blocks;
 mod catalog;
 mod fields;
-mod forms;
 mod graphs;
 mod line;
 mod lines;
 mod listings;
 mod message;
 mod objects;
-mod others;
 mod programs;
 mod runs;
 mod texts;
 mod words;
 
+use catalog::found;
 use command_line::{Asked, Request, read_words};
 use graphs::{code_fault, graph_fault};
 pub use line::{Hint, Line};
 use lines::split_graph;
 use listings::listing_fault;
-use message::Piece::{Checking, Reading};
-use message::{Found, Message, nowhere, one, say, unknown};
+use message::{Checking, Found, Message, Reading, Word, nowhere, say};
 use objects::object_fault;
 use outcomes::{Outcome, Refusal};
 use programs::{kind_message, program_fault};
-use runs::{Case, end_fault, given_fault, input_fault, memory_cause, page_fault, start_fault};
+use runs::{Case, end_fault, given_fault, input_fault, memory_cause, page_fault, start_cause};
 use std::alloc::{AllocError, Allocator};
 use std::convert::AsStr;
 use texts::text_fault;
 
+/// What the input is, where it is something else than what the command reads.
+fn other_input<'a>(input: &[u8], command: &'a str) -> Option<Message<'a>> {
+    let group = match input {
+        [] => "other/empty/",
+        _ if input.starts_with(b"etsgraph ") => "other/graph/",
+        _ if input.starts_with(b"ETSOBJCT") => "other/object/",
+        _ if input.starts_with(b"ets ") => "other/listing/",
+        _ if input.starts_with(b"fn ") || input.starts_with(b"array ") => "other/program/",
+        [b'/', b'/', ..] => "other/program/",
+        _ => return None,
+    };
+    let reads = found("reads/", command).unwrap_or("graph");
+    let text = found(group, command).or(found(group, reads))?;
+    Some(say(text).with(&[Word(command)]))
+}
+
 /// Why the request of this case, which these words are, was refused. `None` where the place cannot be found, because the input
 /// was not kept or memory was refused.
-fn refusal_fault<'a, S: AsStr, A: Allocator + Clone>(
-    alloc: A,
+fn refusal_fault<'a, S: AsStr>(
     case: &Case<'_, 'a>,
     words: &'a [S],
     refusal: Refusal,
 ) -> Option<Found<'a>> {
     let (first, rest) = words.split_first()?;
-    let command = match case.request? {
+    let command = match case.request {
         Request::Dot { code: true } => "dot --code",
         _ => first.as_str(),
     };
     match (refusal, command) {
-        (Refusal::Start(fault), _) => return start_fault(case, fault),
+        (Refusal::Input | Refusal::Memory, _) => return None,
+        (Refusal::Start(fault), _) => return Some(nowhere(start_cause(case, fault)?)),
         (Refusal::InputLine(number), "exec") => return given_fault(rest, number),
         _ => (),
     }
     let input = case.input?;
+    if let Some(cause) = other_input(input, command) {
+        return Some(nowhere(cause));
+    }
     // Commands that run the graph read the inputs of the run after it.
     let text = match command {
         "run" | "mean" | "trace" | "profile" | "orders" => split_graph(input).0,
@@ -66,7 +83,7 @@ fn refusal_fault<'a, S: AsStr, A: Allocator + Clone>(
         Refusal::Check(fault) => graph_fault(text, fault),
         Refusal::TooManySlots(block) => code_fault(text, block, say("too-many-slots")),
         Refusal::TooFar(block) => code_fault(text, block, say("too-far")),
-        Refusal::Object(_fault) => object_fault(input, command),
+        Refusal::Object(_fault) => object_fault(input),
         Refusal::Asm(fault) => Some(listing_fault(fault, input)),
         Refusal::Program(refusal) => Some(program_fault(input, refusal)),
         Refusal::InputLine(number) => Some(input_fault(input, number)),
@@ -78,66 +95,47 @@ fn refusal_fault<'a, S: AsStr, A: Allocator + Clone>(
 fn unlocated<'a>(case: &Case<'_, '_>, refusal: Refusal) -> Message<'a> {
     let part = match refusal {
         Refusal::Input => return say("unread"),
-        Refusal::Memory => return memory_cause(case),
-        Refusal::Read(fault) => return one("kind", Reading(fault.kind)),
-        Refusal::Check(fault) => return one("kind", Checking(fault.kind)),
+        Refusal::Memory => return memory_cause(case.request),
+        Refusal::Read(fault) => return say("kind").with(&[Reading(fault.kind)]),
+        Refusal::Check(fault) => return say("kind").with(&[Checking(fault.kind)]),
         Refusal::Program(refusal) => return kind_message(refusal.fault.kind),
         Refusal::Asm(_fault) => "Faults of assembling",
         Refusal::Object(_fault) => "Refusals of an object",
         _ => "Refusals",
     };
-    unknown(part)
+    say("docs/FORMATS.md says what that means, under `$1`").with(&[Word(part)])
 }
 
-/// Why the request of this case was refused.
-fn refusal_found<'a, S: AsStr, A: Allocator + Clone>(
-    alloc: A,
-    case: &Case<'_, 'a>,
-    words: &'a [S],
-    refusal: Refusal,
-) -> Found<'a> {
-    let found = refusal_fault(alloc, case, words, refusal);
-    found.unwrap_or(nowhere(unlocated(case, refusal)))
-}
-
-fn request_of(asked: &Asked) -> Option<&Request> {
-    match asked {
-        Asked::Request(request) => Some(request),
-        _ => None,
-    }
-}
-
-/// The words after the first one, which is the program's name or that of the command.
-fn after_first<S>(words: &[S]) -> &[S] {
-    match words.split_first() {
-        Some((_first, rest)) => rest,
-        None => words,
+/// What the words ask for. Words that ask for nothing have a mistake, and no other outcome.
+fn request_of<S: AsStr>(words: &[S]) -> Request {
+    match read_words(words) {
+        Asked::Request(request) => request,
+        _ => Request::Check,
     }
 }
 
 /// Why the words did not get what they asked for, where there is something to say.
-fn cause_of<'a, S: AsStr, A: Allocator + Clone>(
-    alloc: A,
+fn cause_of<'a, S: AsStr>(
     words: &'a [S],
     input: Option<&'a [u8]>,
     outcome: Option<Outcome>,
 ) -> Option<Found<'a>>
     ensures { is_some result ≡ wants_hint outcome }
 {
-    let asked = read_words(words);
-    let request = request_of(&asked);
+    let request = request_of(words);
+    let request = &request;
     let case = Case { request, input };
-    let Some(outcome) = outcome else {
-        return Some(nowhere(say("unwritten")));
-    };
     match outcome {
-        Outcome::Done => None,
-        Outcome::Mistake => Some(nowhere(words::mistake(words))),
-        Outcome::Refused(refusal) => Some(refusal_found(alloc, &case, words, refusal)),
-        Outcome::Reported(ending) => end_fault(&case, ending),
-        Outcome::Drawn(_ending) => None,
-        Outcome::Paged { events, .. } => page_fault(events),
-        Outcome::Differed => Some(nowhere(say("orders-differ"))),
+        None => Some(nowhere(say("unwritten"))),
+        Some(Outcome::Done | Outcome::Drawn(_)) => None,
+        Some(Outcome::Mistake) => Some(nowhere(words::mistake(words))),
+        Some(Outcome::Refused(refusal)) => {
+            let found = refusal_fault(&case, words, refusal);
+            Some(found.unwrap_or(nowhere(unlocated(&case, refusal))))
+        }
+        Some(Outcome::Reported(ending)) => end_fault(&case, ending),
+        Some(Outcome::Paged { events, .. }) => page_fault(events),
+        Some(Outcome::Differed) => Some(nowhere(say("orders-differ"))),
     }
 }
 
@@ -168,7 +166,7 @@ pub fn explain<S: AsStr, A: Allocator + Clone>(
 ) -> Result<Option<Hint<A>>, AllocError>
     ensures { IfOk result (λ hint. is_some hint ≡ wants_hint outcome) }
 {
-    match cause_of(alloc.clone()?, after_first(words), input, outcome) {
+    match cause_of(words.get(1..).unwrap_or(words), input, outcome) {
         Some(found) => Ok(Some(hint_of(alloc, &found)?)),
         None => Ok(None),
     }

@@ -1,8 +1,7 @@
 //! A hint as it is written.
 
-ghost use Rattle.std.specs.Prelude.{◌++◌};
 ghost use Rattle.sink.specs.Sends.{Sends};
-ghost use Rattle.hints.specs.Hints.{IsPrinted, hint_line, hint_text};
+ghost use Rattle.hints.specs.Hints.{IsPrinted, hint_text};
 
 use sink::send_all;
 use std::alloc::{AllocError, Allocator};
@@ -54,12 +53,6 @@ impl<A: Allocator> Line<A> {
         }
         Ok(Line { bytes })
     }
-
-    fn write<W: Write>(&self, writer: &mut W) -> io::Result<()>
-        ensures { Sends result (W.contents writer.old) (W.contents writer.new) (hint_line self.now) }
-    {
-        send_all(writer, &[b"hint: ", &self.bytes, b"\n"])
-    }
 }
 
 impl<A: Allocator> Hint<A> {
@@ -67,30 +60,10 @@ impl<A: Allocator> Hint<A> {
     pub fn write<W: Write>(&self, writer: &mut W) -> io::Result<()>
         ensures { Sends result (W.contents writer.old) (W.contents writer.new) (hint_text self.now.place self.now.cause) }
     {
+        let cause = self.cause.bytes.as_slice();
         match &self.place {
-            Some(place) => write_both(writer, place, &self.cause),
-            None => self.cause.write(writer),
+            Some(line) => send_all(writer, &[b"hint: ", &line.bytes, b"\nhint: ", cause, b"\n"]),
+            None => send_all(writer, &[b"hint: ", cause, b"\n"]),
         }
     }
-}
-
-/// Writes the two lines of a hint.
-fn write_both<W: Write, A: Allocator>(
-    writer: &mut W,
-    place: &Line<A>,
-    cause: &Line<A>,
-) -> io::Result<()>
-    ensures { Sends result (W.contents writer.old) (W.contents writer.new) (hint_line place.now ++ hint_line cause.now) }
-{
-    send_all(
-        writer,
-        &[
-            b"hint: ",
-            &place.bytes,
-            b"\n",
-            b"hint: ",
-            &cause.bytes,
-            b"\n",
-        ],
-    )
 }

@@ -17,30 +17,48 @@ pub fn line_at(text: &[u8], number: u64) -> &[u8] {
     lines.nth(place).unwrap_or(b"")
 }
 
-/// The field at `place` in a line of a graph, counted from 0; empty where there is no such field.
-pub fn field_at(line: &[u8], place: usize) -> &[u8] {
-    line.split(is_space).nth(place).unwrap_or(b"")
+/// The number of the last line of a text in which each line has a line feed.
+pub fn last_line(text: &[u8]) -> u64 {
+    (text.split(is_line_feed).count() as u64).saturating_sub(1)
 }
 
-/// The word as text; empty where it is not.
-pub fn text_of(word: &[u8]) -> &str {
-    str::from_utf8(word).unwrap_or("")
+/// The bytes as text; empty where they are none.
+pub fn text_of(bytes: &[u8]) -> &str {
+    str::from_utf8(bytes).unwrap_or("")
 }
 
-/// How many fields a line of a graph has after the first ones.
-pub fn fields_after(line: &[u8], first: u64) -> u64 {
-    (line.split(is_space).count() as u64).saturating_sub(first)
+/// The word at `place` of a line, counted from 0; empty where there is no such word.
+pub fn word_at(line: &[u8], place: usize) -> &[u8] {
+    let mut words = line.split(is_space).filter(|word| !word.is_empty());
+    words.nth(place).unwrap_or(b"")
+}
+
+/// That word as text; empty where it is none.
+pub fn text_at(line: &[u8], place: usize) -> &str {
+    text_of(word_at(line, place))
+}
+
+/// How many words a line has after the first ones.
+pub fn words_after(line: &[u8], first: u64) -> u64 {
+    let words = line.split(is_space).filter(|word| !word.is_empty());
+    (words.count() as u64).saturating_sub(first)
+}
+
+/// The column of the first field of the line that has these bytes, from 1.
+pub fn column_at(line: &[u8], field: &[u8]) -> Option<u64> {
+    let mut column = 1u64;
+    for other in line.split(is_space) {
+        if other == field {
+            return Some(column);
+        }
+        column = column.saturating_add(other.len() as u64).saturating_add(1);
+    }
+    None
 }
 
 /// What a line of a listing says, before its comment.
 pub fn said(line: &[u8]) -> &[u8] {
     line.split(|byte| *byte == b';').next().unwrap_or(line)
-}
-
-/// The word at `place` of what a line of a listing says, counted from 0; empty where there is no such word.
-pub fn word_at(line: &[u8], place: usize) -> &[u8] {
-    let mut words = said(line).split(is_space).filter(|word| !word.is_empty());
-    words.nth(place).unwrap_or(b"")
 }
 
 /// Splits the input in two: the graph's text, up to the end of the first line that begins with `main `, and what follows it.
@@ -58,48 +76,48 @@ pub fn split_graph(input: &[u8]) -> (&[u8], &[u8]) {
     (input, b"")
 }
 
+/// What a line with this first word is about: the word itself, or an instruction or a node of a block.
+pub fn subject_of(word: &str) -> &str {
+    match word {
+        "array" | "block" | "literal" => word,
+        _ => "instruction",
+    }
+}
+
 /// What the lines before a line of a graph or of a listing say, each of which is in order.
 #[derive(Clone, Copy)]
 pub struct Before<'a> {
     /// The first word of the last one; empty before the first one.
-    pub last: &'a [u8],
-    pub arrays: u64,
-    pub literals: u64,
-    pub blocks: u64,
-    /// The last line of a block's own.
+    pub last: &'a str,
+    /// The second word of the last block's first line.
     pub block: &'a [u8],
-    /// How many lines come after that one, those of arrays and literals not counted.
-    pub after: u64,
+    /// How many have the subject of the line; of instructions and nodes those of the last block.
+    pub count: u64,
 }
 
 impl<'a> Before<'a> {
     /// What is before line `number`, counted from 1.
     pub fn of(text: &'a [u8], number: u64) -> Before<'a> {
+        let own = subject_of(text_at(said(line_at(text, number)), 0));
         let (mut last, mut block): (&[u8], &[u8]) = (b"", b"");
-        let (mut arrays, mut literals, mut blocks, mut after) = (0u64, 0u64, 0u64, 0u64);
-        let count = number.saturating_sub(1) as usize;
-        for line in text.split(is_line_feed).take(count) {
-            let word = word_at(line, 0);
+        let mut count = 0u64;
+        let lines = number.saturating_sub(1) as usize;
+        for line in text.split(is_line_feed).take(lines) {
+            let word = word_at(said(line), 0);
+            let subject = subject_of(text_of(word));
             match text_of(word) {
                 "" => continue,
-                "array" => arrays = arrays.saturating_add(1),
-                "literal" => literals = literals.saturating_add(1),
-                "block" => {
-                    blocks = blocks.saturating_add(1);
-                    block = line;
-                    after = 0;
-                }
-                _ => after = after.saturating_add(1),
+                "block" => block = word_at(line, 1),
+                _ => (),
+            }
+            if subject == own {
+                count = count.saturating_add(1);
+            } else if subject == "block" && own == "instruction" {
+                count = 0;
             }
             last = word;
         }
-        Before {
-            last,
-            arrays,
-            literals,
-            blocks,
-            block,
-            after,
-        }
+        let last = text_of(last);
+        Before { last, block, count }
     }
 }

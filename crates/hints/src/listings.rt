@@ -2,76 +2,49 @@
 
 use crate::catalog::found;
 use crate::fields::field_fault;
-use crate::lines::{Before, is_space, line_at, said, text_of, word_at};
-use crate::message::Piece::{Bytes, Column, Count, Number, Word};
-use crate::message::{Found, Message, at_line, nowhere, one, say, three, two, unknown};
-use crate::others::other_input;
+use crate::lines::{Before, line_at, said, subject_of, text_at, text_of, word_at, words_after};
+use crate::message::{Bytes, Count, Found, Message, Number, Word, at_line, nowhere, say};
 use assembler::{AsmFault, AsmFaultKind};
 use graph_file::{literal, number};
 use semantics::opcode::Opcode;
 
-/// What a line is about: its first word, or `instruction` where it is one; the first one is about `ets`.
-fn subject_of(line: &[u8], before: &Before<'_>) -> &'static str {
-    match text_of(word_at(line, 0)) {
-        _ if before.last.is_empty() => "ets",
-        "block" => "block",
-        "array" => "array",
-        "literal" => "literal",
-        _ => "instruction",
-    }
-}
-
-/// The form of a line about this.
-fn form_of(subject: &str) -> &'static str {
-    found("listing/", subject).unwrap_or("NUMBER NAME SLOT FIRST SECOND OPERAND")
+/// The text of a line about this in this group.
+fn text_on(group: &str, subject: &str) -> &'static str {
+    found(group, subject).unwrap_or("")
 }
 
 /// The cause for a byte that separates no words, though it looks so.
 fn stray_byte<'a>(line: &[u8]) -> Option<Message<'a>> {
     if line.ends_with(b"\r") {
-        return Some(one("carriage-return", Word("a listing")));
+        return Some(say("carriage-return").with(&[Word("a listing")]));
     }
     let place = line.iter().position(|byte| *byte == b'\t')?;
-    let column = (place as u64).saturating_add(1);
-    Some(one("tab-in-listing", Column(column)))
+    let column = Number((place as u64).saturating_add(1));
+    Some(say("column $1 has a tab: words are parted by spaces").with(&[column]))
 }
 
 /// The cause for a line of no form that may stand there.
 fn bad_line<'a>(line: &[u8], before: &Before<'_>, subject: &str) -> Message<'a> {
-    let are_blocks = before.arrays == 0 && before.literals == 0;
-    let may_come = match subject {
-        "ets" => true,
-        "block" => are_blocks,
-        "literal" => before.blocks > 0,
-        "array" => before.blocks > 0 && before.literals == 0,
-        _ => before.blocks > 0 && are_blocks,
+    let may_come = match before.last {
+        "ets" => subject == "block",
+        "array" => matches!(subject, "array" | "literal"),
+        "literal" => subject == "literal",
+        _ => true,
     };
     if !may_come {
         return say("line-order");
     }
-    let words = line.split(is_space).filter(|word| !word.is_empty());
-    let count = Count(words.count() as u64, "word");
-    two("line-form", Word(form_of(subject)), count)
-}
-
-/// The cause for a word that is not the number of a line about this.
-fn count_fault<'a>(word: &'a [u8], before: &Before<'_>, subject: &str) -> Option<Message<'a>> {
-    let wanted = match subject {
-        "block" => before.blocks,
-        "array" => before.arrays,
-        "literal" => before.literals,
-        _ => before.after,
-    };
-    let is_wanted = literal(word) == i64::try_from(wanted).ok();
-    (!is_wanted).then_some(two("line-number", Bytes(word), Number(wanted)))
+    let (form, has) = (text_on("listing/", subject), words_after(line, 0));
+    say("the form is `$1`, and this line has $2").with(&[Word(form), Count(has, "word")])
 }
 
 /// The cause for the first number of the line that is not well written, or is not the next one.
 fn bad_number<'a>(line: &'a [u8], before: &Before<'_>, subject: &str) -> Message<'a> {
-    for (place, form) in form_of(subject).split(' ').enumerate() {
+    for (place, form) in text_on("listing/", subject).split(' ').enumerate() {
         let word = word_at(line, place);
         let cause = match form {
-            "NUMBER" => count_fault(word, before, subject),
+            "NUMBER" if literal(word) == i64::try_from(before.count).ok() => None,
+            "NUMBER" => Some(say("line-number").with(&[Bytes(word), Number(before.count)])),
             "S" => field_fault("I", word),
             form => field_fault(form, word),
         };
@@ -79,7 +52,7 @@ fn bad_number<'a>(line: &'a [u8], before: &Before<'_>, subject: &str) -> Message
             return cause;
         }
     }
-    unknown("Faults of assembling")
+    say("no-number").with(&[Bytes(line)])
 }
 
 /// How the operand of the operation with this name is written.
@@ -98,80 +71,60 @@ fn operand_form(name: &[u8]) -> &'static str {
     }
 }
 
-/// Whether the word is written as a destination.
-fn is_destination(word: &[u8]) -> bool {
-    match word {
-        [b'-'] => true,
-        [b'+', digits @ .., b'l' | b'r'] => number(digits).is_some(),
-        _ => false,
-    }
-}
-
 /// The cause for a bad destination, of an operation with this name.
 fn bad_destination<'a>(line: &'a [u8], name: &'a [u8]) -> Message<'a> {
     for place in [3, 4] {
         let word = word_at(line, place);
-        if !is_destination(word) {
-            return one("no-destination", Bytes(word));
+        let is_written = match word {
+            [b'+', digits @ .., b'l' | b'r'] => number(digits).is_some(),
+            _ => text_of(word) == "-",
+        };
+        if !is_written {
+            return say("no-destination").with(&[Bytes(word)]);
         }
     }
-    one("bad-destination", Bytes(name))
+    say("bad-destination").with(&[Bytes(name)])
 }
 
-/// The cause for a bad slot, of an operation with this name.
+/// The cause for a bad slot, of an operation with this name, which has none beside a literal operand.
 fn bad_slot<'a>(line: &'a [u8], name: &'a [u8]) -> Message<'a> {
-    let has_slot = match Opcode::of_word(name) {
-        Some(Opcode::Apply2 { .. }) => text_of(word_at(line, 5)) == "-",
-        Some(opcode) => opcode.uses_slot(),
-        None => false,
+    let cause = match Opcode::of_word(name) {
+        Some(opcode) if opcode.uses_slot() && !text_at(line, 5).contains('#') => "slot-wanted",
+        _ => "slotless-name",
     };
-    let cause = if has_slot {
-        "slot-wanted"
-    } else {
-        "slotless-name"
-    };
-    two(cause, Bytes(name), Bytes(word_at(line, 2)))
+    say(cause).with(&[Bytes(name), Bytes(word_at(line, 2))])
 }
 
 /// The cause for a fault of this kind at a line, which has these before it.
 fn line_cause<'a>(kind: AsmFaultKind, line: &'a [u8], before: &Before<'_>) -> Message<'a> {
-    let subject = subject_of(line, before);
-    let (name, operand) = (word_at(line, 1), word_at(line, 5));
+    let (subject, name) = match before.last {
+        "" => ("ets", word_at(line, 1)),
+        _ => (subject_of(text_at(line, 0)), word_at(line, 1)),
+    };
     match kind {
         AsmFaultKind::BadLine => bad_line(line, before, subject),
         AsmFaultKind::BadNumber => bad_number(line, before, subject),
-        AsmFaultKind::BadVersion => one("version", Bytes(name)),
-        AsmFaultKind::BadLiteral => say(match subject {
-            "literal" => "literal-order",
-            "instruction" => "literal-missing",
-            _ => "many-literals",
-        }),
-        AsmFaultKind::BadTable => say(match subject {
-            "block" => "block-table",
-            "array" => "array-table",
-            _ => "table",
-        }),
+        AsmFaultKind::BadVersion => say("version $1, where 1 and 2 are known").with(&[Bytes(name)]),
+        AsmFaultKind::BadLiteral => say(text_on("literals/", subject)),
+        AsmFaultKind::BadTable => say(text_on("tables/", subject)),
         AsmFaultKind::BadSlot => bad_slot(line, name),
         AsmFaultKind::BadDestination => bad_destination(line, name),
         AsmFaultKind::BadOperand => {
-            let form = Word(operand_form(name));
-            three("operand", Bytes(name), form, Bytes(operand))
+            let (form, operand) = (Word(operand_form(name)), Bytes(word_at(line, 5)));
+            say("the operand of $1 is $2, and not `$3`").with(&[Bytes(name), form, operand])
         }
-        AsmFaultKind::BadOrigin => one("origin", Bytes(word_at(line, 6))),
-        _ => one("operation", Bytes(name)),
+        AsmFaultKind::BadOrigin => say("origin").with(&[Bytes(word_at(line, 6))]),
+        _ => say("operation").with(&[Bytes(name)]),
     }
 }
 
 /// Why the text is not a listing of an object.
 pub fn listing_fault<'a>(fault: AsmFault, text: &'a [u8]) -> Found<'a> {
-    if let Some(cause) = other_input(text, "asm") {
-        return nowhere(cause);
-    }
-    if fault.kind == AsmFaultKind::Unended {
+    if matches!(fault.kind, AsmFaultKind::Unended) {
         return nowhere(say("listing-unended"));
     }
-    let line = line_at(text, fault.line);
-    let before = Before::of(text, fault.line);
-    let cause = stray_byte(said(line)).unwrap_or(line_cause(fault.kind, said(line), &before));
+    let (line, before) = (line_at(text, fault.line), Before::of(text, fault.line));
+    let words = said(line);
+    let cause = stray_byte(words).unwrap_or(line_cause(fault.kind, words, &before));
     at_line(fault.line, line, cause)
 }

@@ -1,7 +1,7 @@
 //! Messages: a text, with the values that it shows, and where its cause is.
 
 use crate::catalog::found;
-use crate::lines::is_space;
+use crate::lines::column_at;
 use graph_check::CheckFaultKind;
 use graph_file::ReadFaultKind;
 use semantics::graph::Region;
@@ -18,11 +18,7 @@ pub enum Piece<'a> {
     Word(&'a str),
     /// Bytes of a text.
     Bytes(&'a [u8]),
-    /// Bytes of the line at the message's place, which are to be seen there.
-    Field(&'a [u8]),
     Number(u64),
-    /// A column of the line at the message's place, from 1, which is to be seen there.
-    Column(u64),
     /// A line, of which the part round a column, from 1, is shown where the line is long.
     Line(&'a [u8], u64),
     /// How many of a thing there are: `1 source`, `2 sources`.
@@ -34,7 +30,7 @@ pub enum Piece<'a> {
     Programming(FaultKind),
 }
 
-use Piece::{Column, Field, Line, Nothing, Number, Word};
+pub use Piece::{Bytes, Checking, Count, Lies, Line, Number, Programming, Reading, Word};
 
 /// Shows bytes: one that is not printable as `\xHH`, and only the beginning where there are many.
 fn show_bytes<W: fmt::Write>(bytes: &[u8], f: &mut fmt::Formatter<W>) -> fmt::Result {
@@ -58,33 +54,27 @@ fn show_line<W: fmt::Write>(line: &[u8], column: u64, f: &mut fmt::Formatter<W>)
     show_bytes(line.get(start..).unwrap_or(b""), f)
 }
 
-fn show_region<W: fmt::Write>(region: Region, f: &mut fmt::Formatter<W>) -> fmt::Result {
-    match region {
-        Region::Root => f.write_str("the root"),
-        Region::Arm { cond, side: true } => write!(f, "arm {cond}+"),
-        Region::Arm { cond, side: false } => write!(f, "arm {cond}-"),
-    }
-}
-
 impl Display for Piece<'_> {
     fn fmt<W: fmt::Write>(&self, f: &mut fmt::Formatter<W>) -> fmt::Result {
         match *self {
-            Nothing => Ok(()),
+            Piece::Nothing => Ok(()),
             Word(word) => f.write_str(word),
-            Piece::Bytes(bytes) | Field(bytes) => show_bytes(bytes, f),
-            Number(number) | Column(number) => write!(f, "{number}"),
+            Bytes(bytes) => show_bytes(bytes, f),
+            Number(number) => write!(f, "{number}"),
             Line(line, column) => show_line(line, column, f),
-            Piece::Count(1, noun) => write!(f, "1 {noun}"),
-            Piece::Count(count, noun) => write!(f, "{count} {noun}s"),
-            Piece::Lies(region) => show_region(region, f),
-            Piece::Reading(kind) => Display::fmt(&kind, f),
-            Piece::Checking(kind) => Display::fmt(&kind, f),
-            Piece::Programming(kind) => Display::fmt(&kind, f),
+            Count(1, noun) => write!(f, "1 {noun}"),
+            Count(count, noun) => write!(f, "{count} {noun}s"),
+            Lies(Region::Root) => f.write_str("the root"),
+            Lies(Region::Arm { cond, side: true }) => write!(f, "arm {cond}+"),
+            Lies(Region::Arm { cond, side: false }) => write!(f, "arm {cond}-"),
+            Reading(kind) => Display::fmt(&kind, f),
+            Checking(kind) => Display::fmt(&kind, f),
+            Programming(kind) => Display::fmt(&kind, f),
         }
     }
 }
 
-/// A text, and the pieces that it shows.
+/// A text, and the pieces that it shows, of which `$1` is the first.
 #[derive(Clone, Copy)]
 pub struct Message<'a> {
     text: &'static str,
@@ -94,73 +84,33 @@ pub struct Message<'a> {
     fourth: Piece<'a>,
 }
 
-/// The message of this name, which shows nothing.
+fn piece_at<'a>(pieces: &[Piece<'a>], place: usize) -> Piece<'a> {
+    pieces.get(place).copied().unwrap_or(Piece::Nothing)
+}
+
+/// The message with this text, or with the text of this name, which shows nothing.
 pub fn say<'a>(name: &'static str) -> Message<'a> {
-    one(name, Nothing)
+    let text = found("", name).unwrap_or(name);
+    Message::of(text, &[])
 }
 
-pub fn one<'a>(name: &'static str, first: Piece<'a>) -> Message<'a> {
-    two(name, first, Nothing)
-}
-
-pub fn two<'a>(name: &'static str, first: Piece<'a>, second: Piece<'a>) -> Message<'a> {
-    three(name, first, second, Nothing)
-}
-
-pub fn three<'a>(
-    name: &'static str,
-    first: Piece<'a>,
-    second: Piece<'a>,
-    third: Piece<'a>,
-) -> Message<'a> {
-    four(name, first, second, third, Nothing)
-}
-
-pub fn four<'a>(
-    name: &'static str,
-    first: Piece<'a>,
-    second: Piece<'a>,
-    third: Piece<'a>,
-    fourth: Piece<'a>,
-) -> Message<'a> {
-    let text = found("", name).unwrap_or("");
-    Message {
-        text,
-        first,
-        second,
-        third,
-        fourth,
+impl<'a> Message<'a> {
+    fn of(text: &'static str, pieces: &[Piece<'a>]) -> Message<'a> {
+        let (first, second) = (piece_at(pieces, 0), piece_at(pieces, 1));
+        let (third, fourth) = (piece_at(pieces, 2), piece_at(pieces, 3));
+        Message {
+            text,
+            first,
+            second,
+            third,
+            fourth,
+        }
     }
-}
 
-/// The message with this text, which shows one piece.
-pub fn showing<'a>(text: &'static str, first: Piece<'a>) -> Message<'a> {
-    Message {
-        text,
-        first,
-        second: Nothing,
-        third: Nothing,
-        fourth: Nothing,
+    /// The message with these pieces, four at most.
+    pub fn with(self, pieces: &[Piece<'a>]) -> Message<'a> {
+        Message::of(self.text, pieces)
     }
-}
-
-/// The message of this name for a value that is not within these limits.
-pub fn outside<'a>(
-    name: &'static str,
-    what: &'static str,
-    value: u64,
-    least: u64,
-    most: u64,
-) -> Option<Message<'a>> {
-    if least <= value && value <= most {
-        return None;
-    }
-    Some(four(name, Word(what), Number(value), Number(least), Number(most)))
-}
-
-/// What is reported where no more is known than what the output says; this part of the formats explains that.
-pub fn unknown<'a>(part: &'static str) -> Message<'a> {
-    one("unknown", Word(part))
 }
 
 impl Display for Message<'_> {
@@ -178,18 +128,6 @@ impl Display for Message<'_> {
         }
         Ok(())
     }
-}
-
-/// The column of the first field of the line that has these bytes, from 1.
-pub fn column_at(line: &[u8], field: &[u8]) -> Option<u64> {
-    let mut column = 1u64;
-    for other in line.split(is_space) {
-        if other == field {
-            return Some(column);
-        }
-        column = column.saturating_add(other.len() as u64).saturating_add(1);
-    }
-    None
 }
 
 /// What a person reads: a cause, and its place if that is known.
@@ -210,14 +148,16 @@ pub fn at<'a>(place: Message<'a>, cause: Message<'a>) -> Found<'a> {
     Found { place, cause }
 }
 
-/// A cause at line `number` of a text, counted from 1, which is this line.
+/// A cause at line `number` of a text, counted from 1, which is this line. What the cause shows first is to be seen there, if it
+/// is a word of the line, or a number, which is a column.
 pub fn at_line<'a>(number: u64, line: &'a [u8], cause: Message<'a>) -> Found<'a> {
     let column = match cause.first {
-        Field(field) => column_at(line, field).unwrap_or(1),
-        Column(column) => column,
+        Bytes(word) => column_at(line, word).unwrap_or(1),
+        Number(column) => column,
         _ => 1,
     };
-    let empty = line.is_empty();
-    let name = if empty { "empty-line" } else { "line" };
-    at(two(name, Number(number), Line(line, column)), cause)
+    let (full, bare) = ("line $1 is `$2`", "line $1 is empty");
+    let text = if line.is_empty() { bare } else { full };
+    let place = say(text).with(&[Number(number), Line(line, column)]);
+    at(place, cause)
 }

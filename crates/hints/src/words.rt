@@ -1,8 +1,7 @@
 //! The words of a command line: what is wrong with them, and the inputs among them.
 
 use crate::catalog::found;
-use crate::message::Piece::Word;
-use crate::message::{Message, one, say, two};
+use crate::message::{Message, Word, say};
 use command_line::{Asked, read_words};
 use graph_file::literal;
 use std::convert::AsStr;
@@ -13,23 +12,16 @@ fn waits(word: &str) -> bool {
     word.starts_with("--") && !is_alone && !word.contains('=')
 }
 
-/// What a command takes besides its options.
-#[derive(Clone, Copy)]
-enum Takes {
-    Nothing,
-    Inputs,
-}
-
-/// The first word that is not taken whatever the options are: one that is neither an option nor the value of one, and where inputs
-/// are taken, an integer below 0 before `--`.
-fn stray_in<'a, S: AsStr>(words: &'a [S], takes: Takes) -> Option<&'a str> {
+/// The first word after the command that is not taken whatever the options are: one that is neither an option nor the value of
+/// one, and where inputs are taken, an integer below 0 before `--`.
+fn stray_in<'a, S: AsStr>(command: &str, words: &'a [S]) -> Option<&'a str> {
     let mut is_value = false;
     for word in words {
         let word = word.as_str();
-        let is_stray = match takes {
-            Takes::Inputs if word == "--" => return None,
-            Takes::Inputs => word.starts_with('-') && literal(word.as_bytes()).is_some(),
-            Takes::Nothing => !word.is_empty() && !word.starts_with('-'),
+        let is_stray = match command {
+            "exec" if word == "--" => return None,
+            "exec" => word.starts_with('-') && literal(word.as_bytes()).is_some(),
+            _ => !word.is_empty() && !word.starts_with('-'),
         };
         if is_stray && !is_value {
             return Some(word);
@@ -39,19 +31,15 @@ fn stray_in<'a, S: AsStr>(words: &'a [S], takes: Takes) -> Option<&'a str> {
     None
 }
 
-/// Input `number`, counted from 1, of the words after `exec`, in which there is no mistake.
-pub fn input_in<'a, S: AsStr>(words: &'a [S], number: u64) -> Option<&'a str> {
-    let mut left = number;
-    let mut is_value = false;
-    let mut is_ended = false;
+/// The first input that is no integer among the words after `exec`, in which there is no mistake.
+pub fn bad_input_in<'a, S: AsStr>(words: &'a [S]) -> Option<&'a str> {
+    let (mut is_value, mut is_ended) = (false, false);
     for word in words {
         let word = word.as_str();
         let is_option = word.starts_with('-') && word != "-";
-        if is_ended || !(is_value || is_option) {
-            left = left.saturating_sub(1);
-            if left == 0 {
-                return Some(word);
-            }
+        let is_input = is_ended || !(is_value || is_option);
+        if is_input && literal(word.as_bytes()).is_none() {
+            return Some(word);
         }
         is_value = !is_value && waits(word);
         is_ended = is_ended || word == "--";
@@ -74,18 +62,14 @@ fn reading<'a, S: AsStr>(command: &'a str, words: &[S]) -> &'a str {
 /// What is wrong with the words after a command.
 fn after_command<'a, S: AsStr>(command: &'a str, words: &'a [S]) -> Message<'a> {
     let named = Word(command);
-    let takes = match command {
-        "exec" => Takes::Inputs,
-        _ => Takes::Nothing,
-    };
-    match (command, stray_in(words, takes)) {
-        ("exec", Some(word)) => one("negative-input", Word(word)),
+    match (command, stray_in(command, words)) {
+        ("exec", Some(word)) => say("negative-input").with(&[Word(word)]),
         ("run" | "mean" | "trace" | "profile" | "orders", Some(word))
-            if literal(word.as_bytes()).is_some() => one("no-inputs", named),
-        (_, Some(word)) => two("file", Word(reading(command, words)), Word(word)),
+            if literal(word.as_bytes()).is_some() => say("no-inputs").with(&[named]),
+        (_, Some(word)) => say("file").with(&[Word(reading(command, words)), Word(word)]),
         (_, None) => match found("options/", command) {
-            Some(options) => two("options", named, Word(options)),
-            None => one("no-options", named),
+            Some(options) => say("the options of `ets $1` are $2").with(&[named, Word(options)]),
+            None => say("no-options").with(&[named]),
         },
     }
 }
@@ -106,5 +90,5 @@ pub fn mistake<'a, S: AsStr>(words: &'a [S]) -> Message<'a> {
         _ if word.contains('.') || word.contains('/') => "run",
         _ => return say("commands"),
     };
-    two("file", Word(reads), Word(word))
+    say("file").with(&[Word(reads), Word(word)])
 }
