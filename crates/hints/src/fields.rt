@@ -58,7 +58,7 @@ fn name_fault(field: &[u8]) -> Option<Message<'_>> {
     Some(say(text).with(&[Bytes(field), Number(field.len() as u64)]))
 }
 
-/// What is wrong with the field that stands where a form has this word.
+/// What is wrong with the field where a form has this word.
 pub fn field_fault<'a>(word: &str, field: &'a [u8]) -> Option<Message<'a>> {
     match word {
         "V" => literal_fault(field),

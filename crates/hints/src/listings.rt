@@ -20,10 +20,10 @@ fn stray_byte<'a>(line: &[u8]) -> Option<Message<'a>> {
     }
     let place = line.iter().position(|byte| *byte == b'\t')?;
     let column = Number((place as u64).saturating_add(1));
-    Some(say("column $1 has a tab: words are parted by spaces").with(&[column]))
+    Some(say("column $1 has a tab: spaces separate words").with(&[column]))
 }
 
-/// The cause for a line of no form that may stand there.
+/// The cause for a line of no form that is allowed there.
 fn bad_line<'a>(line: &[u8], before: &Before<'_>, subject: &str) -> Message<'a> {
     let may_come = match before.last {
         "ets" => subject == "block",

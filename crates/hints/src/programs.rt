@@ -19,7 +19,7 @@ fn token_at(text: &[u8], at: usize) -> &[u8] {
     bytes.get(..len).unwrap_or(bytes)
 }
 
-/// The text that says what could stand where this is expected.
+/// The text that says what could come where this is expected.
 fn wanted(expected: Expected) -> &'static str {
     match expected {
         Expected::Item => "item",
@@ -32,15 +32,15 @@ fn wanted(expected: Expected) -> &'static str {
             Form::Loop => "loop",
             Form::LastTest => "last-test",
             Form::Else => "else",
-            Form::StrictCall => "after `strict` stands a call: `strict f(x)`",
+            Form::StrictCall => "after `strict` comes a call: `strict f(x)`",
         },
         Expected::Operator(within) => match within {
             Within::Block => "operator-in-block",
             Within::Let => "operator-in-let",
             Within::Group => "operator-in-group",
             Within::Arguments => "operator-in-arguments",
-            Within::Index => "after `$2` could stand an operator, or the `]` that ends the index",
-            Within::Test => "after `$2` could stand an operator, or the `{` of the arm",
+            Within::Index => "after `$2` could come an operator, or the `]` that ends the index",
+            Within::Test => "after `$2` could come an operator, or the `{` of the arm",
             Within::LoopTest => "operator-in-loop-test",
             Within::FirstValue => "operator-in-first-value",
         },
@@ -60,7 +60,7 @@ fn wrong_operand(within: Within, before: &str, word: &str) -> Option<&'static st
     let text = match (before, word) {
         (_, "while") => "loop",
         (_, "else") => "else",
-        (";", "}") => "a block ends with its values, and no `;` stands after them",
+        (";", "}") => "a block ends with its values, and no `;` comes after them",
         ("{", "}") => "a block is not empty: it ends with its values",
         (",", "}" | ")" | "]" | ";") => "comma-at-end",
         ("(", ")") if matches!(within, Within::Arguments) => "no-argument",
@@ -77,7 +77,7 @@ fn wrong(stop: Stop, before: &str, word: &str) -> Option<&'static str> {
         (Expected::Name(_), "array" | "fn" | "let" | "if" | "else" | "loop" | "while" | "strict") =>
             "`$1` is a word of the language, and no name",
         (Expected::Item, "}") => "no block is open that this `}` could close",
-        (Expected::Item, ";") => "no `;` stands behind the body of a function",
+        (Expected::Item, ";") => "no `;` comes after the body of a function",
         (Expected::Item | Expected::Name(_) | Expected::Next(_), _) => return None,
         (Expected::Operand(within) | Expected::Operator(within), "" | "fn" | "array")
             if !is_closed_after(within) => return None,
@@ -89,14 +89,14 @@ fn wrong(stop: Stop, before: &str, word: &str) -> Option<&'static str> {
         (Expected::Operand(within), _) => return wrong_operand(within, before, word),
         (Expected::Operator(_), "==" | "!=" | "<" | "<=" | ">" | ">=") => "comparison-chain",
         (Expected::Operator(_), "(") => "called",
-        (Expected::Operator(_), "[") => "only the name of an array stands before `[`",
+        (Expected::Operator(_), "[") => "only the name of an array comes before `[`",
         (Expected::Operator(Within::Block | Within::Let), "let") => "before `let` a `;` is missing",
         (Expected::Operator(_), _) => return None,
     };
     Some(text)
 }
 
-/// What is wrong with the word where the parser stopped, or what could stand there.
+/// What is wrong with the word where the parser stopped, or what could come there.
 fn unexpected<'a>(program: &'a [u8], word: &'a str, stop: Stop) -> Message<'a> {
     let before = text_of(token_at(program, stop.before.unwrap_or(usize::MAX)));
     let (opened, line) = match stop.open {

@@ -59,11 +59,11 @@ fn bad_form<'a>(form: &'static str, word: &'a [u8], has: u64) -> Message<'a> {
     say("form").with(&[Word(form), Count(has, "field"), Bytes(word)])
 }
 
-/// The cause for a node line with a good region but with none of the forms that may stand there, in a text with this header.
+/// The cause for a node line with a good region but with none of the forms that are allowed there, in a text with this header.
 fn bad_kind<'a>(line: &'a [u8], header: &[u8]) -> Message<'a> {
     let (kind, has) = (word_at(line, 1), words_after(line, 2));
     if kind.is_empty() {
-        return say("behind the region comes the kind of the node, as in `- add 0.0 1.0`");
+        return say("after the region comes the kind of the node, as in `- add 0.0 1.0`");
     }
     let Some(form) = node_form(kind) else {
         return say("unknown-kind").with(&[Bytes(kind)]);
@@ -78,7 +78,7 @@ fn bad_kind<'a>(line: &'a [u8], header: &[u8]) -> Message<'a> {
     say("$1 wants $2, this line has $3").with(&[Bytes(kind), wants, Number(has)])
 }
 
-/// The cause for a line that has none of the forms that may stand at its place in the text.
+/// The cause for a line that has none of the forms that are allowed at its place in the text.
 fn bad_line<'a>(text: &[u8], line: &'a [u8], before: &Before<'a>) -> Message<'a> {
     if line.is_empty() || line.starts_with(b"#") {
         return say("a graph has no empty lines and no comments");
@@ -88,13 +88,13 @@ fn bad_line<'a>(text: &[u8], line: &'a [u8], before: &Before<'a>) -> Message<'a>
     }
     let word = word_at(line, 0);
     let name = match (before.last, text_of(word), found("outer/", text_of(word))) {
-        ("end", "array", _) => return say("`array` lines stand before the first block"),
+        ("end", "array", _) => return say("`array` lines come before the first block"),
         ("etsgraph" | "array" | "end", _, Some(form)) => {
             return bad_form(form, word, words_after(line, 1));
         }
         ("etsgraph" | "array", _, _) => "no-block-yet",
         ("end", _, _) => "no-block-open",
-        ("out", _, _) => "behind the `out` line of block $2 comes the line `end`",
+        ("out", _, _) => "after the `out` line of block $2 comes the line `end`",
         (_, "end", _) => "the `out` line of block $2 comes before its `end`",
         (_, _, Some(_form)) => "block $2 is open here: before `$1` come its `out` line and `end`",
         _ if region_in(word).is_some() => return bad_kind(line, line_at(text, 1)),
