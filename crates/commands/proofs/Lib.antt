@@ -7,3 +7,6 @@ mod Decided
 mod Feeds
 mod Agreeing
 mod Rowed
+mod GraphEnds
+mod IntegerLines
+mod PipedRuns

@@ -10,3 +10,4 @@ pub mod Profiled
 pub mod Answered
 pub mod Assembled
 pub mod Lowered
+pub mod Piped

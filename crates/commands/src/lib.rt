@@ -10,6 +10,7 @@ pub mod input;
 pub mod lowered;
 pub mod orders;
 mod paging;
+pub mod piped;
 pub mod profiling;
 mod refusal;
 pub mod refusal_text;
