@@ -186,6 +186,7 @@ shows_any p z inputs steps keeps_events may_stop r s = record {
   run = s.run;
   picture = s.picture;
   ends = end_any p z steps keeps_events may_stop r.events s.last r.end s.ends;
+  within = s.within;
 }
 
 -- the report of the machine before its first event

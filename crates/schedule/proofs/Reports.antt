@@ -29,7 +29,7 @@ use Rattle.schedule.specs.Unlisted.{with_events, Quietly, ReportsSoFar, so_far_w
 use Rattle.schedule.specs.Shown.{ShowsInOrder}
 use Rattle.schedule.proofs.Places.{first_get, to_map}
 use Rattle.schedule.proofs.Pictures.{IsKnown, known_lanes, pictured}
-use Rattle.schedule.proofs.Showing.{picked, shows_here}
+use Rattle.schedule.proofs.Showing.{picked, shows_here, within_steps}
 
 only_first : (n : ℕ) (f : ℕ → ℕ) → ((x : ℕ) → f (suc x) ≡ 0) → sum_below (suc n) f ≡ f 0
 only_first zero f none = omega arith
@@ -62,6 +62,7 @@ shows_opening s inputs by_list outputs sound is =
       run = (IsPermutation-refl (at_start s.setting.program inputs).pool, refl);
       picture = opening_pictured s.setting.program (size s.setting) inputs some;
       ends = tt;
+      within = λ e low. let none : 0 ≤ s.setting.steps = omega arith in none;
     })
 
 -- lanes with tokens that are on their way, each seen where it is addressed to
@@ -192,7 +193,7 @@ pub stopped_lanes : (g : Setting) (raw : List Holding) (ts : List Token) (list :
     → (shown : Events) × ShowsInOrder g.program (size g) inputs g.steps by_list true (with_events r shown) × (list ≡ evs → r.events ≡ shown)
 stopped_lanes g raw ts list r sound (inl is) inputs by_list evs began =
     let shown = shows_opening (arriving g raw ts) inputs by_list (outputs_of g.program) sound refl in
-    ([], subst (λ (x : Report). ShowsInOrder g.program (size g) inputs g.steps by_list true (with_events x [])) (sym is) (record { last = shown.last; run = shown.run; picture = shown.picture; ends = tt }), λ same. ap (λ (x : Report). x.events) is)
+    ([], subst (λ (x : Report). ShowsInOrder g.program (size g) inputs g.steps by_list true (with_events x [])) (sym is) (record { last = shown.last; run = shown.run; picture = shown.picture; ends = tt; within = shown.within }), λ same. ap (λ (x : Report). x.events) is)
 stopped_lanes g raw ts list r sound (inr (has, ends, reported)) inputs by_list evs began = (
   evs,
   record {
@@ -200,6 +201,7 @@ stopped_lanes g raw ts list r sound (inr (has, ends, reported)) inputs by_list e
     run = began.run;
     picture = lanes_pictured g raw ts began.machine (with_events r evs) sound began.stands reported;
     ends = subst (λ (e : End). HasEnd g.program (size g) g.steps by_list true evs began.machine e) (sym ends) refl;
+    within = within_steps (arriving g raw ts) evs sound began.counts;
   },
   λ same. has ∙ same,
 )

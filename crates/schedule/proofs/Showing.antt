@@ -7,6 +7,7 @@ use Rattle.std.proofs.lemmas.List.{nil_from_length}
 use Rattle.std.proofs.lemmas.List.Elements.{Contains-append_left, Contains-append_right}
 use Rattle.std.proofs.lemmas.List.Sorted.{IsPermutation-sym, Contains-permutation, length_permutation}
 use Rattle.std.proofs.lemmas.Option.{get_or_from_slice_get}
+use Rattle.lemmas.proofs.SliceGet.{get_some}
 use Rattle.tags.specs.declared.token.Cont.{Cont}
 use Rattle.tags.specs.declared.token.To.{To}
 use Rattle.tags.specs.declared.token.Token.{Token}
@@ -16,7 +17,7 @@ use Rattle.tags.specs.Addresses.{element_of}
 use Rattle.semantics.specs.declared.report.End.{End}
 use Rattle.semantics.specs.Machine.{Machine, Size, Events, Wants, at_start}
 use Rattle.semantics.specs.Program.{Program}
-use Rattle.semantics.specs.Report.{Report, IsPicture, Shows, HasEnd, HasTokenFor, sum_below, waiters}
+use Rattle.semantics.specs.Report.{Report, IsPicture, Shows, HasEnd, IsWithinSteps, HasTokenFor, sum_below, waiters}
 use Rattle.semantics.specs.Faithful.{HasStoreOfFull}
 use Rattle.semantics.proofs.Sums.{sum_zero}
 use Rattle.element.specs.Parts.{IsPart}
@@ -146,6 +147,15 @@ module _ (s : State) (m : Machine) (r : Report) (sound : IsSoundState s) (stands
   has_end by_list evs Halt.Memory counts halts e = subst (λ (x : End). HasEnd g.program (size g) g.steps by_list false evs m x) (sym e) tt
   has_end by_list evs Halt.Stop counts halts e = absurd halts
 
+-- each element has counted its events, and made no more than it may
+pub within_steps : (s : State) (evs : Events) → IsSoundState s → AllFrom (λ (i : ℕ) (h : Holding). h.made ≡ count_by (λ (ev : ℕ × Token). ev.0 == i) evs) 0 s.lanes
+    → IsWithinSteps (size s.setting) s.setting.steps evs
+within_steps s evs sound counts e low =
+    let x = get_some s.lanes e (subst (λ (n : ℕ). e < n) (sym sound.count) low) in
+    let few : x.0.made ≤ s.setting.steps = (first_get (IsPlaced s.setting) s.lanes e x.0 sound.lanes x.1).made in
+    let same = first_get (λ (i : ℕ) (h : Holding). h.made ≡ count_by (λ (ev : ℕ × Token). ev.0 == i) evs) s.lanes e x.0 counts x.1 in
+    subst (λ (n : ℕ). n ≤ s.setting.steps) same few
+
 -- the report of a run that halts here shows it
 pub shows_here : (inputs : List ℤ) (s : State) (evs : Events) (by_list : Bool) (halt : Halt) (r : Report) → IsSoundState s → (b : Began inputs s evs) → HaltsAs s by_list halt → EndsAs s.setting.program r halt → r.events ≡ evs
     → IsPicture s.setting.program (size s.setting) b.machine r → ShowsInOrder s.setting.program (size s.setting) inputs s.setting.steps by_list false r
@@ -156,6 +166,7 @@ shows_here inputs s evs by_list halt r sound b halts ends reported picture =
       run = subst (λ (l : Events). OrderedRun s.setting.program (size s.setting) (at_start s.setting.program inputs) l b.machine) (sym reported) b.run;
       picture = picture;
       ends = subst (λ (l : Events). HasEnd s.setting.program (size s.setting) s.setting.steps by_list false l b.machine r.end) (sym reported) end;
+      within = subst (λ (l : Events). IsWithinSteps (size s.setting) s.setting.steps l) (sym reported) (within_steps s evs sound b.counts);
     }
 
 -- what it shows in order it shows
@@ -166,4 +177,5 @@ shown p z inputs steps by_list may_stop r s = record {
   run = run_of p z (at_start p inputs) s.last r.events s.run;
   picture = s.picture;
   ends = s.ends;
+  within = s.within;
 }

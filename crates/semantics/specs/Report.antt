@@ -1,5 +1,5 @@
 -- What a report says of a run.
-use Rattle.std.specs.Prelude.{◌≡◌, ◌↔◌, ℕ, zero, suc, ◌+◌, ◌*◌, ◌<◌, Bool, true, false, ◌⊎◌, ℤ, List, length, Option, Some, slice_get, ◌==◌, Contains, count_by, ⊤}
+use Rattle.std.specs.Prelude.{◌≡◌, ◌↔◌, ℕ, zero, suc, ◌+◌, ◌*◌, ◌<◌, ◌≤◌, Bool, true, false, ◌⊎◌, ℤ, List, length, Option, Some, slice_get, ◌==◌, Contains, count_by, ⊤}
 use Rattle.tags.specs.declared.value.Value.{Value}
 use Rattle.semantics.specs.declared.report.End.{End}
 use Rattle.semantics.specs.declared.report.End.TheVariants.{Rest, Starved, Clash, Steps, Stuck, Memory, Stop}
@@ -61,8 +61,13 @@ HasEnd p z steps by_list may_stop events m (Stuck n) = (t : Token) × Contains m
 HasEnd p z steps by_list may_stop events m Memory = ⊤
 HasEnd p z steps by_list may_stop events m Stop = may_stop ≡ true
 
+-- no element made more events than it may
+abbrev pub IsWithinSteps : Size → ℕ → Events → Type 0
+IsWithinSteps z steps events = (e : ℕ) → e < z.elements → count_by (λ (ev : ℕ × Token). ev.0 == e) events ≤ steps
+
 pub record Shows (p : Program) (z : Size) (inputs : List ℤ) (steps : ℕ) (by_list may_stop : Bool) (r : Report) : Type 0 where
   pub last : Machine
   pub run : Run p z (at_start p inputs) r.events last
   pub picture : IsPicture p z last r
   pub ends : HasEnd p z steps by_list may_stop r.events last r.end
+  pub within : IsWithinSteps z steps r.events
