@@ -20,18 +20,18 @@ use Rattle.semantics.specs.Bytes.{is_dyadic, IsDest, HasOperand, HasDests, IsOri
 use Rattle.semantics.specs.Opcodes.{may_fault}
 use Rattle.graph_file.specs.Giving.{◌>>=◌}
 use Rattle.graph_file.proofs.Binds.{bind_ok}
-use Rattle.assembler.specs.declared.fault.AsmFaultKind.{AsmFaultKind}
-use Rattle.assembler.specs.declared.fault.AsmFaultKind.TheVariants.{BadVersion, BadTable, BadLiteral, BadOperand, BadSlot, BadDestination, BadOrigin}
+use Rattle.assembler.specs.declared.cause.Unfit.{Unfit}
+use Rattle.assembler.specs.declared.cause.Unfit.TheVariants.{BadVersion, BadCounts, ManyLiterals, BadBlock, BadArray, LiteralOrder, NoLiteral, BadOperand, BadSlot, BadDestination, BadOrigin}
 use Rattle.assembler.specs.Checks.{Checked, unless, each, is_same, has_literal, is_bound, enters, literal_fits, operand_fits, slot_fits, is_left, shape_fits, dest_fits, dests_fit, origin_fits, instr_checked, entry_fits, block_checked, lines_before, arrays_checked, literals_checked, counts_fit, head_checked, blocks_checked, code_checked}
 
-unless_ok : (b : Bool) (kind : AsmFaultKind) (n : ℕ) (x : ⊤) → unless b kind n ≡ Ok x → b ≡ true
-unless_ok true kind n x e = refl
-unless_ok false kind n x e = absurd cc
+unless_ok : (b : Bool) (unfit : Unfit) (n : ℕ) (x : ⊤) → unless b unfit n ≡ Ok x → b ≡ true
+unless_ok true unfit n x e = refl
+unless_ok false unfit n x e = absurd cc
 
 -- one check of several, and those after it
-then_ok : (b : Bool) (kind : AsmFaultKind) (n : ℕ) (next : ⊤ → Checked) (x : ⊤) → (unless b kind n >>= next) ≡ Ok x → (b ≡ true) × (next tt ≡ Ok x)
-then_ok true kind n next x e = (refl, e)
-then_ok false kind n next x e = absurd cc
+then_ok : (b : Bool) (unfit : Unfit) (n : ℕ) (next : ⊤ → Checked) (x : ⊤) → (unless b unfit n >>= next) ≡ Ok x → (b ≡ true) × (next tt ≡ Ok x)
+then_ok true unfit n next x e = (refl, e)
+then_ok false unfit n next x e = absurd cc
 
 -- ---- operands
 pub same_int : (z y : ℤ) → is_same z y ≡ true → z ≡ y
@@ -160,7 +160,7 @@ is_origin version op (At b n) e =
 is_instr : (version : ℕ) (c : Code) (b : CodeBlock) (index n : ℕ) (i : Instr) (x : ⊤) → instr_checked version c b index n i ≡ Ok x → IsInstr version c b n i
 unfolding instr_checked
 is_instr version c b index n i x e =
-    let l = then_ok (literal_fits c i.op) BadLiteral (index + n) (λ _. unless (operand_fits c i.op) BadOperand (index + n) >>= λ _. unless (slot_fits b.slots (slot_of i i.op) i.slot) BadSlot (index + n) >>= λ _. unless (dests_fit b n i) BadDestination (index + n) >>= λ _. unless (origin_fits version i.op i.origin) BadOrigin (index + n)) x e in
+    let l = then_ok (literal_fits c i.op) NoLiteral (index + n) (λ _. unless (operand_fits c i.op) BadOperand (index + n) >>= λ _. unless (slot_fits b.slots (slot_of i i.op) i.slot) BadSlot (index + n) >>= λ _. unless (dests_fit b n i) BadDestination (index + n) >>= λ _. unless (origin_fits version i.op i.origin) BadOrigin (index + n)) x e in
     let o = then_ok (operand_fits c i.op) BadOperand (index + n) (λ _. unless (slot_fits b.slots (slot_of i i.op) i.slot) BadSlot (index + n) >>= λ _. unless (dests_fit b n i) BadDestination (index + n) >>= λ _. unless (origin_fits version i.op i.origin) BadOrigin (index + n)) x l.1 in
     let s = then_ok (slot_fits b.slots (slot_of i i.op) i.slot) BadSlot (index + n) (λ _. unless (dests_fit b n i) BadDestination (index + n) >>= λ _. unless (origin_fits version i.op i.origin) BadOrigin (index + n)) x o.1 in
     let d = then_ok (dests_fit b n i) BadDestination (index + n) (λ _. unless (origin_fits version i.op i.origin) BadOrigin (index + n)) x s.1 in
@@ -199,7 +199,7 @@ each_all P check n (y ∷ ys) t f e =
 is_block : (version : ℕ) (c : Code) (index : ℕ) (b : CodeBlock) → block_checked version c index b ≡ Ok tt → IsCodeBlock version c b
 unfolding block_checked
 is_block version c index b e =
-    let h = then_ok (entry_fits b) BadTable index (λ _. each (instr_checked version c b (index + 1)) 0 b.instrs) tt e in
+    let h = then_ok (entry_fits b) BadBlock index (λ _. each (instr_checked version c b (index + 1)) 0 b.instrs) tt e in
     let a = and_parts (leb 1 b.inputs && leb b.inputs 16 && leb 1 b.outputs && leb b.outputs 16 && leb (b.inputs + 1) (length b.instrs) && leb (length b.instrs) 32768) (leb b.slots 512) h.0 in
     let d = and_parts (leb 1 b.inputs && leb b.inputs 16 && leb 1 b.outputs && leb b.outputs 16 && leb (b.inputs + 1) (length b.instrs)) (leb (length b.instrs) 32768) a.0 in
     let f = and_parts (leb 1 b.inputs && leb b.inputs 16 && leb 1 b.outputs && leb b.outputs 16) (leb (b.inputs + 1) (length b.instrs)) d.0 in
@@ -225,7 +225,7 @@ arrays_fit : (index cells : ℕ) (ns : List ℕ) (t : ⊤) → cells ≤ 65536 �
 arrays_fit index cells [] t few e = (All-nil IsArray, omega arith)
 arrays_fit index cells (n ∷ ns) t few e =
     let fits = leb 1 n && leb n 65536 && leb (cells + n) 65536 in
-    let h = then_ok fits BadTable index (λ _. arrays_checked (index + 1) (cells + n) ns) t e in
+    let h = then_ok fits BadArray index (λ _. arrays_checked (index + 1) (cells + n) ns) t e in
     let p = and_parts (leb 1 n && leb n 65536) (leb (cells + n) 65536) h.0 in
     let q = and_parts (leb 1 n) (leb n 65536) p.0 in
     let rest = arrays_fit (index + 1) (cells + n) ns t (leb-true (cells + n) 65536 p.1) h.1 in
@@ -236,12 +236,12 @@ ascend index [] t e k y z a b = absurd cc
 ascend index (x ∷ []) t e zero y z a b = absurd cc
 ascend index (x ∷ []) t e (suc k) y z a b = absurd cc
 ascend index (x ∷ w ∷ ws) t e zero y z a b =
-    let h = then_ok (int_lt x w) BadLiteral (index + 1) (λ _. literals_checked (index + 1) (w ∷ ws)) t e in
+    let h = then_ok (int_lt x w) LiteralOrder (index + 1) (λ _. literals_checked (index + 1) (w ∷ ws)) t e in
     let first : x ≡ y = cc (a) in
     let second : w ≡ z = cc (b) in
     subst (λ (v : ℤ). int_lt v z ≡ true) first (subst (λ (v : ℤ). int_lt x v ≡ true) second h.0)
 ascend index (x ∷ w ∷ ws) t e (suc k) y z a b =
-    let h = then_ok (int_lt x w) BadLiteral (index + 1) (λ _. literals_checked (index + 1) (w ∷ ws)) t e in
+    let h = then_ok (int_lt x w) LiteralOrder (index + 1) (λ _. literals_checked (index + 1) (w ∷ ws)) t e in
     let next : suc k + 1 ≡ suc (k + 1) = omega arith in
     let later : slice_get (w ∷ ws) (k + 1) ≡ Some z = sym (ap (slice_get (x ∷ w ∷ ws)) next) ∙ b in
     ascend (index + 1) (w ∷ ws) t h.1 k y z a later
@@ -262,9 +262,9 @@ has_object version c fit e =
     let h = bind_ok (head_checked version c) (λ _. blocks_checked version c >>= λ _. arrays_checked (before_arrays c) 0 c.program.arrays >>= λ _. literals_checked (before_arrays c + length c.program.arrays) c.literals) tt e in
     let b = bind_ok (blocks_checked version c) (λ _. arrays_checked (before_arrays c) 0 c.program.arrays >>= λ _. literals_checked (before_arrays c + length c.program.arrays) c.literals) tt h.2 in
     let a = bind_ok (arrays_checked (before_arrays c) 0 c.program.arrays) (λ _. literals_checked (before_arrays c + length c.program.arrays) c.literals) tt b.2 in
-    let v = then_ok (eqb version 1 || eqb version 2) BadVersion 0 (λ _. unless (counts_fit c) BadTable 0 >>= λ _. unless (leb (length c.literals) 65536) BadLiteral 0) h.0 h.1 in
-    let n = then_ok (counts_fit c) BadTable 0 (λ _. unless (leb (length c.literals) 65536) BadLiteral 0) h.0 v.1 in
-    let l = unless_ok (leb (length c.literals) 65536) BadLiteral 0 h.0 n.1 in
+    let v = then_ok (eqb version 1 || eqb version 2) BadVersion 0 (λ _. unless (counts_fit c) BadCounts 0 >>= λ _. unless (leb (length c.literals) 65536) ManyLiterals 0) h.0 h.1 in
+    let n = then_ok (counts_fit c) BadCounts 0 (λ _. unless (leb (length c.literals) 65536) ManyLiterals 0) h.0 v.1 in
+    let l = unless_ok (leb (length c.literals) 65536) ManyLiterals 0 h.0 n.1 in
     let p = and_parts (leb 1 (length c.program.blocks) && leb (length c.program.blocks) 512 && ltb c.program.main (length c.program.blocks)) (leb (length c.program.arrays) 64) n.0 in
     let q = and_parts (leb 1 (length c.program.blocks) && leb (length c.program.blocks) 512) (ltb c.program.main (length c.program.blocks)) p.0 in
     let r = and_parts (leb 1 (length c.program.blocks)) (leb (length c.program.blocks) 512) q.0 in

@@ -18,13 +18,13 @@ use Rattle.semantics.specs.Rule.{slot_of}
 use Rattle.semantics.specs.Bytes.{is_dyadic, IsDest, HasOperand, HasDests, IsOrigin, IsSlot, IsInstr, IsCodeBlock, IsCode}
 use Rattle.semantics.specs.Opcodes.{may_fault}
 use Rattle.graph_file.specs.Giving.{◌>>=◌}
-use Rattle.assembler.specs.declared.fault.AsmFaultKind.{AsmFaultKind}
-use Rattle.assembler.specs.declared.fault.AsmFaultKind.TheVariants.{BadVersion, BadTable, BadLiteral}
+use Rattle.assembler.specs.declared.cause.Unfit.{Unfit}
+use Rattle.assembler.specs.declared.cause.Unfit.TheVariants.{BadVersion, BadCounts, ManyLiterals, BadBlock, BadArray, LiteralOrder}
 use Rattle.assembler.specs.Checks.{Checked, unless, each, is_same, has_literal, is_bound, enters, literal_fits, operand_fits, slot_fits, is_left, shape_fits, dest_fits, origin_fits, instr_checked, entry_fits, block_checked, lines_before, arrays_checked, literals_checked, counts_fit, head_checked, blocks_checked, code_checked}
 
 -- one check that is passed, and those after it
-passes : (b : Bool) (kind : AsmFaultKind) (n : ℕ) → b ≡ true → unless b kind n ≡ Ok tt
-passes b kind n e = ap (λ (t : Bool). unless t kind n) e
+passes : (b : Bool) (unfit : Unfit) (n : ℕ) → b ≡ true → unless b unfit n ≡ Ok tt
+passes b unfit n e = ap (λ (t : Bool). unless t unfit n) e
 
 then_passes : (first : Checked) (next : ⊤ → Checked) → first ≡ Ok tt → next tt ≡ Ok tt → (first >>= next) ≡ Ok tt
 then_passes first next e h = ap (λ (r : Checked). r >>= next) e ∙ h
@@ -184,7 +184,7 @@ entry_there version c b h =
 block_passes : (version : ℕ) (c : Code) (index : ℕ) (b : CodeBlock) → IsCodeBlock version c b → block_checked version c index b ≡ Ok tt
 unfolding block_checked
 block_passes version c index b h =
-    then_passes (unless (entry_fits b) BadTable index) (λ _. each (instr_checked version c b (index + 1)) 0 b.instrs) (passes (entry_fits b) BadTable index (entry_there version c b h))
+    then_passes (unless (entry_fits b) BadBlock index) (λ _. each (instr_checked version c b (index + 1)) 0 b.instrs) (passes (entry_fits b) BadBlock index (entry_there version c b h))
     (from_zero (instr_checked version c b (index + 1)) b.instrs (λ n i at. instr_passes version c b (index + 1) n i (h.instrs n i at)))
 
 -- ---- arrays and literals
@@ -197,15 +197,15 @@ arrays_pass index cells (n ∷ ns) all few =
     let one = All-head IsArray n ns all in
     let total = sum_by-cons (λ (x : ℕ). x) n ns in
     let fits = leb 1 n && leb n 65536 && leb (cells + n) 65536 in
-    then_passes (unless fits BadTable index) (λ _. arrays_checked (index + 1) (cells + n) ns)
-    (passes fits BadTable index (and_from _ _ (and_from _ _ (le-leb 1 n one.0) (le-leb n 65536 one.1)) (le-leb (cells + n) 65536 (omega (arith, total)))))
+    then_passes (unless fits BadArray index) (λ _. arrays_checked (index + 1) (cells + n) ns)
+    (passes fits BadArray index (and_from _ _ (and_from _ _ (le-leb 1 n one.0) (le-leb n 65536 one.1)) (le-leb (cells + n) 65536 (omega (arith, total)))))
     (arrays_pass (index + 1) (cells + n) ns (All-tail IsArray n ns all) (omega (arith, total)))
 
 literals_pass : (index : ℕ) (zs : List ℤ) → ((k : ℕ) (y z : ℤ) → slice_get zs k ≡ Some y → slice_get zs (k + 1) ≡ Some z → int_lt y z ≡ true) → literals_checked index zs ≡ Ok tt
 literals_pass index [] h = refl
 literals_pass index (y ∷ []) h = refl
 literals_pass index (y ∷ z ∷ zs) h =
-    then_passes (unless (int_lt y z) BadLiteral (index + 1)) (λ _. literals_checked (index + 1) (z ∷ zs)) (passes (int_lt y z) BadLiteral (index + 1) (h 0 y z refl refl))
+    then_passes (unless (int_lt y z) LiteralOrder (index + 1)) (λ _. literals_checked (index + 1) (z ∷ zs)) (passes (int_lt y z) LiteralOrder (index + 1) (h 0 y z refl refl))
     (literals_pass (index + 1) (z ∷ zs) (λ k a b at next. let e : suc k + 1 ≡ suc (k + 1) = omega arith in h (suc k) a b at (ap (slice_get (y ∷ z ∷ zs)) e ∙ next)))
 
 -- ---- the whole
@@ -217,9 +217,9 @@ head_passes : (version : ℕ) (c : Code) → IsCode version c → head_checked v
 unfolding head_checked
 head_passes version c h =
     let counts = and_from _ _ (and_from _ _ (and_from _ _ (le-leb 1 (length c.program.blocks) h.some_block.0) (le-leb (length c.program.blocks) 512 h.some_block.1)) (lt-ltb c.program.main (length c.program.blocks) h.main)) (le-leb (length c.program.arrays) 64 h.few_arrays) in
-    then_passes (unless (eqb version 1 || eqb version 2) BadVersion 0) (λ _. unless (counts_fit c) BadTable 0 >>= λ _. unless (leb (length c.literals) 65536) BadLiteral 0) (passes (eqb version 1 || eqb version 2) BadVersion 0 (known version h.version_known))
-    (then_passes (unless (counts_fit c) BadTable 0) (λ _. unless (leb (length c.literals) 65536) BadLiteral 0) (passes (counts_fit c) BadTable 0 counts)
-    (passes (leb (length c.literals) 65536) BadLiteral 0 (le-leb (length c.literals) 65536 h.few_literals)))
+    then_passes (unless (eqb version 1 || eqb version 2) BadVersion 0) (λ _. unless (counts_fit c) BadCounts 0 >>= λ _. unless (leb (length c.literals) 65536) ManyLiterals 0) (passes (eqb version 1 || eqb version 2) BadVersion 0 (known version h.version_known))
+    (then_passes (unless (counts_fit c) BadCounts 0) (λ _. unless (leb (length c.literals) 65536) ManyLiterals 0) (passes (counts_fit c) BadCounts 0 counts)
+    (passes (leb (length c.literals) 65536) ManyLiterals 0 (le-leb (length c.literals) 65536 h.few_literals)))
 
 blocks_pass : (version : ℕ) (c : Code) → IsCode version c → blocks_checked version c ≡ Ok tt
 unfolding blocks_checked

@@ -6,6 +6,7 @@ use Rattle.graph_file.specs.Lines.{parts}
 use Rattle.assembler.specs.declared.fault.AsmFault.{AsmFault}
 use Rattle.assembler.specs.declared.fault.AsmFaultKind.TheVariants.{Memory}
 use Rattle.assembler.specs.declared.checks.Refusal.{Refusal}
+use Rattle.assembler.specs.Causes.{unfit_kind}
 use Rattle.assembler.specs.Words.{words_of, has_words}
 use Rattle.assembler.specs.Reading.{text_from}
 use Rattle.assembler.specs.Checks.{Checked, code_checked}
@@ -18,7 +19,7 @@ line_at n index (line ∷ lines) =
     else line_at (n + 1) index lines
 
 abbrev pub refused : List ℕ → Refusal → AsmFault
-refused text r = record { kind = r.kind; line = line_at 0 r.index (parts 10 text) }
+refused text r = record { kind = unfit_kind r.unfit; line = line_at 0 r.index (parts 10 text) }
 
 abbrev pub unless_refused : List ℕ → ℕ × Code → Checked → Result (ℕ × Code) AsmFault
 unless_refused text r (Ok x) = Ok r

@@ -16,15 +16,15 @@ use Rattle.semantics.specs.Rule.{slot_of}
 use Rattle.semantics.specs.Bytes.{is_dyadic}
 use Rattle.semantics.specs.Opcodes.{may_fault}
 use Rattle.graph_file.specs.Giving.{◌>>=◌}
-use Rattle.assembler.specs.declared.fault.AsmFaultKind.{AsmFaultKind}
-use Rattle.assembler.specs.declared.fault.AsmFaultKind.TheVariants.{BadVersion, BadTable, BadLiteral, BadOperand, BadSlot, BadDestination, BadOrigin}
+use Rattle.assembler.specs.declared.cause.Unfit.{Unfit}
+use Rattle.assembler.specs.declared.cause.Unfit.TheVariants.{BadVersion, BadCounts, ManyLiterals, BadBlock, BadArray, LiteralOrder, NoLiteral, BadOperand, BadSlot, BadDestination, BadOrigin}
 use Rattle.assembler.specs.declared.checks.Refusal.{Refusal}
 
 abbrev pub Checked : Type 0
 Checked = Result ⊤ Refusal
 
-abbrev pub unless : Bool → AsmFaultKind → ℕ → Checked
-unless fits kind index = if fits then Ok tt else Err record { kind = kind; index = index }
+abbrev pub unless : Bool → Unfit → ℕ → Checked
+unless fits unfit index = if fits then Ok tt else Err record { unfit = unfit; index = index }
 
 -- a check of each, numbered from n on
 abbrev pub each : {X : Type 0} → (ℕ → X → Checked) → ℕ → List X → Checked
@@ -100,7 +100,7 @@ origin_fits version op (At b n) = version == 2 && may_fault op && nat_lt b 256 &
 
 unfoldable pub instr_checked : ℕ → Code → CodeBlock → ℕ → ℕ → Instr → Checked
 instr_checked version c b index n i = do
-  literal ← unless (literal_fits c i.op) BadLiteral (index + n)
+  literal ← unless (literal_fits c i.op) NoLiteral (index + n)
   operand ← unless (operand_fits c i.op) BadOperand (index + n)
   slot ← unless (slot_fits b.slots (slot_of i i.op) i.slot) BadSlot (index + n)
   dests ← unless (dests_fit b n i) BadDestination (index + n)
@@ -113,7 +113,7 @@ entry_fits b = nat_le 1 b.inputs && nat_le b.inputs 16 && nat_le 1 b.outputs && 
 
 unfoldable pub block_checked : ℕ → Code → ℕ → CodeBlock → Checked
 block_checked version c index b = do
-  entry ← unless (entry_fits b) BadTable index
+  entry ← unless (entry_fits b) BadBlock index
   each (instr_checked version c b (index + 1)) 0 b.instrs
 
 -- how many lines are before the block of that number, or after the last one
@@ -128,13 +128,13 @@ Counts (Err e) spec lines = spec ≡ Err e
 -- THE ARRAYS, and the cells of those before
 abbrev pub arrays_checked : ℕ → ℕ → List ℕ → Checked
 arrays_checked index cells [] = Ok tt
-arrays_checked index cells (n ∷ ns) = unless (nat_le 1 n && nat_le n 65536 && nat_le (cells + n) 65536) BadTable index >>= λ _. arrays_checked (index + 1) (cells + n) ns
+arrays_checked index cells (n ∷ ns) = unless (nat_le 1 n && nat_le n 65536 && nat_le (cells + n) 65536) BadArray index >>= λ _. arrays_checked (index + 1) (cells + n) ns
 
 -- THE LITERALS
 abbrev pub literals_checked : ℕ → List ℤ → Checked
 literals_checked index [] = Ok tt
 literals_checked index (y ∷ []) = Ok tt
-literals_checked index (y ∷ z ∷ zs) = unless (int_lt y z) BadLiteral (index + 1) >>= λ _. literals_checked (index + 1) (z ∷ zs)
+literals_checked index (y ∷ z ∷ zs) = unless (int_lt y z) LiteralOrder (index + 1) >>= λ _. literals_checked (index + 1) (z ∷ zs)
 
 -- THE COUNTS
 abbrev pub counts_fit : Code → Bool
@@ -143,8 +143,8 @@ counts_fit c = nat_le 1 (length c.program.blocks) && nat_le (length c.program.bl
 unfoldable pub head_checked : ℕ → Code → Checked
 head_checked version c = do
   known ← unless (version == 1 || version == 2) BadVersion 0
-  counts ← unless (counts_fit c) BadTable 0
-  unless (nat_le (length c.literals) 65536) BadLiteral 0
+  counts ← unless (counts_fit c) BadCounts 0
+  unless (nat_le (length c.literals) 65536) ManyLiterals 0
 
 unfoldable pub blocks_checked : ℕ → Code → Checked
 blocks_checked version c = each (λ n b. block_checked version c (lines_before c.program.blocks n) b) 0 c.program.blocks

@@ -1,3 +1,4 @@
+pub mod Causes
 pub mod Words
 pub mod Grammar
 pub mod Giving

@@ -6,11 +6,13 @@ ghost use Rattle.object_view.specs.Reading.{opened};
 ghost use Rattle.object_view.specs.Checks.{first_refusal};
 ghost use Rattle.semantics.specs.Program as Program;
 ghost use Rattle.semantics.specs.Bytes.{IsCode};
+ghost use Rattle.assembler.specs.Causes.{fault_kind, fault_of};
 ghost use Rattle.assembler.specs.Grammar.{IsListingOf};
 ghost use Rattle.assembler.specs.Assembling as Assembling;
 ghost use Rattle.assembler.specs.Laws.{IsExact, IsUnique, AllHaveListings, RoundTrips, Reassembles};
 ghost use Rattle.assembler.specs.declared.fault.AsmFaultKind.TheVariants.{Memory};
 
+use crate::cause::{AsmCause, AsmRefusal};
 use crate::checks::check_code;
 use crate::fault::AsmFault;
 use crate::reading::{line_at, read_text};
@@ -48,17 +50,35 @@ pub fn assemble<A: Allocator + Clone>(alloc: A, text: &[u8]) -> Result<Assembled
     // Which fault it is.
     ensures exact { MatchResult result (λ a. Assembling.assembled text.now ≡ Ok (version_number a.version, a.code)) (λ e. Assembling.IsFirstFault e (Assembling.assembled text.now)) }
 {
+    match assemble_listing(alloc, text) {
+        Ok(assembled) => Ok(assembled),
+        Err(refusal) => Err(refusal.fault()),
+    }
+}
+
+/// The version and the code that a text is a listing of, or why there is no object of it: what `assemble` returns, with what was known
+/// where the fault was found.
+pub fn assemble_listing<A: Allocator + Clone>(
+    alloc: A,
+    text: &[u8],
+) -> Result<Assembled<A>, AsmRefusal>
+    ensures object { IfOk result (λ a. IsListingOf text.now (version_number a.version) a.code × IsCode (version_number a.version) a.code) }
+    ensures complete { (version : ℕ) (c : Program.Code) → IsListingOf text.now version c → IsCode version c → MatchResult result
+        (λ a. (version_number a.version ≡ version) × (a.code ≡ c))
+        (λ r. fault_kind r.cause ≡ Memory) }
+    ensures exact { MatchResult result (λ a. Assembling.assembled text.now ≡ Ok (version_number a.version, a.code)) (λ r. Assembling.IsFirstFault (fault_of r) (Assembling.assembled text.now)) }
+{
     let read = match read_text(alloc, text) {
         Ok(read) => read,
-        Err(fault) => return Err(fault),
+        Err(refusal) => return Err(refusal),
     };
     match check_code(read.version, &read.code) {
         Ok(()) => Ok(Assembled {
             version: version_of(read.version),
             code: read.code,
         }),
-        Err(refusal) => Err(AsmFault {
-            kind: refusal.kind,
+        Err(refusal) => Err(AsmRefusal {
+            cause: AsmCause::Unfit(refusal.unfit),
             line: line_at(text, refusal.index),
         }),
     }

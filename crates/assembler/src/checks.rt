@@ -7,7 +7,7 @@ ghost use Rattle.semantics.specs.Bytes as Bytes;
 ghost use Rattle.semantics.specs.Rule.{slot_of};
 ghost use Rattle.assembler.specs.Checks as Checks;
 
-use crate::fault::AsmFaultKind;
+use crate::cause::Unfit;
 use code::{Code, CodeBlock, Instr};
 use semantics::program::{Dest, Op};
 use std::alloc::Allocator;
@@ -17,18 +17,18 @@ use tags::value::Origin;
 /// Why a code has no object, and the index of the line that says so among those with words.
 #[derive(Clone, Copy, Debug, PartialEq, Eq)]
 pub(crate) struct Refusal {
-    pub(crate) kind: AsmFaultKind,
+    pub(crate) unfit: Unfit,
     pub(crate) index: u64,
 }
 
-/// A refusal of that kind, unless it fits.
-fn unless(fits: bool, kind: AsmFaultKind, index: u64) -> Result<(), Refusal>
-    ensures { result ≡ Checks.unless fits kind index }
+/// A refusal for that reason, unless it fits.
+fn unless(fits: bool, unfit: Unfit, index: u64) -> Result<(), Refusal>
+    ensures { result ≡ Checks.unless fits unfit index }
 {
     if fits {
         Ok(())
     } else {
-        Err(Refusal { kind, index })
+        Err(Refusal { unfit, index })
     }
 }
 
@@ -180,17 +180,13 @@ fn check_instr<A: Allocator>(
     ensures { result ≡ Checks.instr_checked version code.now block.now index number instr.now }
 {
     let line = index + u64::from(number);
-    unless(literal_fits(code, instr.op), AsmFaultKind::BadLiteral, line)?;
-    unless(operand_fits(code, instr.op), AsmFaultKind::BadOperand, line)?;
-    unless(slot_fits(block.slots, instr), AsmFaultKind::BadSlot, line)?;
-    unless(
-        dests_fit(block, number, instr),
-        AsmFaultKind::BadDestination,
-        line,
-    )?;
+    unless(literal_fits(code, instr.op), Unfit::NoLiteral, line)?;
+    unless(operand_fits(code, instr.op), Unfit::BadOperand, line)?;
+    unless(slot_fits(block.slots, instr), Unfit::BadSlot, line)?;
+    unless(dests_fit(block, number, instr), Unfit::BadDestination, line)?;
     unless(
         origin_fits(version, instr.op, instr.origin),
-        AsmFaultKind::BadOrigin,
+        Unfit::BadOrigin,
         line,
     )
 }
@@ -238,7 +234,7 @@ fn check_block<A: Allocator>(
     ensures exact { result ≡ Checks.block_checked version code.now index block.now }
     ensures few { OnOk result (length block.now.instrs ≤ 32768) }
 {
-    unless(entry_fits(block), AsmFaultKind::BadTable, index)?;
+    unless(entry_fits(block), Unfit::BadBlock, index)?;
     check_instrs(version, code, block, index + 1)
 }
 
@@ -267,7 +263,7 @@ fn check_arrays(index: u64, arrays: &[u32]) -> Result<(), Refusal>
     for length in arrays {
         let more = cells + u64::from(*length);
         let fits = 1 <= *length && *length <= 65_536 && more <= 65_536;
-        unless(fits, AsmFaultKind::BadTable, line)?;
+        unless(fits, Unfit::BadArray, line)?;
         cells = more;
         line += 1;
     }
@@ -284,7 +280,7 @@ fn check_literals(index: u64, literals: &[i64]) -> Result<(), Refusal>
     let mut rest = literals;
     while let [first, second, ..] = rest {
         line += 1;
-        unless(*first < *second, AsmFaultKind::BadLiteral, line)?;
+        unless(*first < *second, Unfit::LiteralOrder, line)?;
         rest = &rest[1..];
     }
     Ok(())
@@ -310,9 +306,9 @@ fn check_head<A: Allocator>(version: u32, code: &Code<A>) -> Result<(), Refusal>
     ensures arrays { OnOk result (length code.now.program.arrays ≤ 64) }
     ensures literals { OnOk result (length code.now.literals ≤ 65536) }
 {
-    unless(version == 1 || version == 2, AsmFaultKind::BadVersion, 0)?;
-    unless(counts_fit(code), AsmFaultKind::BadTable, 0)?;
-    unless(code.literals.len() <= 65_536, AsmFaultKind::BadLiteral, 0)
+    unless(version == 1 || version == 2, Unfit::BadVersion, 0)?;
+    unless(counts_fit(code), Unfit::BadCounts, 0)?;
+    unless(code.literals.len() <= 65_536, Unfit::ManyLiterals, 0)
 }
 
 /// Literals are integers of 64 bits.

@@ -1,9 +1,5 @@
 //! Why a text is no listing of an object.
 
-ghost use Rattle.std.specs.Prelude.{◌≡◌};
-ghost use Rattle.assembler.specs.declared.fault.AsmFaultKind.TheVariants.{Memory};
-
-use std::alloc::{AllocError, AllocFailed};
 use thiserror::Error;
 
 /// What is wrong with a listing first.
@@ -54,20 +50,4 @@ pub enum AsmFaultKind {
 pub struct AsmFault {
     pub kind: AsmFaultKind,
     pub line: u64,
-}
-
-impl From<AllocError> for AsmFaultKind {
-    ghost from_gives = { λ _ e. e ≡ Memory };
-
-    fn from(_e: AllocError) -> AsmFaultKind {
-        AsmFaultKind::Memory
-    }
-}
-
-impl<T: Drop> From<AllocFailed<T>> for AsmFaultKind {
-    ghost from_gives = { λ _ e. e ≡ Memory };
-
-    fn from(_e: AllocFailed<T>) -> AsmFaultKind {
-        AsmFaultKind::Memory
-    }
 }

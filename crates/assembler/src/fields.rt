@@ -1,6 +1,7 @@
 //! What a word says: an operand, a slot, a destination, an origin.
 
 ghost use Rattle.std.specs.Prelude.{◌≡◌, option_map};
+ghost use Rattle.semantics.specs.Program.{uses_slot};
 ghost use Rattle.assembler.specs.Fields as Fields;
 
 use graph_file::{Parts, literal, number};
@@ -148,12 +149,12 @@ pub(crate) fn op_of(opcode: Opcode, bytes: &[u8]) -> Option<Op>
     }
 }
 
-/// The slot that is there, if one is allowed, or `-`.
+/// The slot of the operation, or `-` where it uses none.
 #[tactic(auto, unfolding(crate::specs::Fields::slot_from))]
-pub(crate) fn slot_from(used: bool, bytes: &[u8]) -> Option<u32>
-    ensures { result ≡ Fields.slot_from used bytes.now }
+pub(crate) fn slot_from(op: Op, bytes: &[u8]) -> Option<u32>
+    ensures { result ≡ Fields.slot_from (uses_slot op) bytes.now }
 {
-    if used {
+    if op.uses_slot() {
         number(bytes)
     } else if bytes == b"-".as_slice() {
         Some(0)

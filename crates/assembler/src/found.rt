@@ -5,7 +5,7 @@ ghost use Rattle.assembler.specs.Giving.{Gives};
 ghost use Rattle.assembler.specs.Grammar.{with_literal};
 ghost use Rattle.assembler.specs.Reading as Lines;
 
-use crate::fault::AsmFaultKind;
+use crate::cause::{AsmCause, AsmLineCause};
 use crate::lines::{array_from, block_from, head_from, instr_from, literal_from, word_from};
 use crate::words::Words;
 use code::{Code, CodeBlock, Program};
@@ -59,7 +59,7 @@ pub(crate) struct Said<A: Allocator> {
     pub(crate) code: Code<A>,
 }
 
-type Step<A> = Result<(Found<A>, Part), AsmFaultKind>;
+type Step<A> = Result<(Found<A>, Part), AsmCause>;
 
 /// A block without instructions.
 fn blank<A: Allocator>(alloc: A) -> CodeBlock<A>
@@ -74,10 +74,7 @@ fn blank<A: Allocator>(alloc: A) -> CodeBlock<A>
 }
 
 /// The literals of a set, in ascending order.
-fn in_order<A: Allocator + Clone>(
-    alloc: A,
-    set: BTreeSet<i64, A>,
-) -> Result<Vec<i64, A>, AsmFaultKind>
+fn in_order<A: Allocator + Clone>(alloc: A, set: BTreeSet<i64, A>) -> Result<Vec<i64, A>, AsmCause>
     ensures { Gives (λ v. v.items) result (Ok set.keys) }
 {
     let mut literals = Vec::with_capacity(alloc, set.len())?;
@@ -91,7 +88,7 @@ fn in_order<A: Allocator + Clone>(
 fn with_literal<A: Allocator + Clone>(
     set: BTreeSet<i64, A>,
     literal: Option<i64>,
-) -> Result<BTreeSet<i64, A>, AsmFaultKind>
+) -> Result<BTreeSet<i64, A>, AsmCause>
     ensures { Gives (λ s. s.keys) result (Ok (with_literal literal set.keys)) }
 {
     let mut set = set;
@@ -103,7 +100,7 @@ fn with_literal<A: Allocator + Clone>(
 
 impl<A: Allocator + Clone> Found<A> {
     /// Nothing yet.
-    pub(crate) fn nothing(alloc: A) -> Result<Found<A>, AsmFaultKind>
+    pub(crate) fn nothing(alloc: A) -> Result<Found<A>, AsmCause>
         ensures { Gives (λ f. f) result (Ok Lines.nothing) }
     {
         Ok(Found {
@@ -141,12 +138,12 @@ impl<A: Allocator + Clone> Found<A> {
             self.block_line(part, rest)
         } else if word == b"array".as_slice() {
             if !takes_array(part) {
-                return Err(AsmFaultKind::BadLine);
+                return Err(AsmCause::BadLine(misplaced(part)));
             }
             self.array_line(rest)
         } else if word == b"literal".as_slice() {
             if !takes_literal(part) {
-                return Err(AsmFaultKind::BadLine);
+                return Err(AsmCause::BadLine(misplaced(part)));
             }
             self.literal_line(rest)
         } else {
@@ -158,7 +155,10 @@ impl<A: Allocator + Clone> Found<A> {
     fn head_line(mut self, words: Words<'_>) -> Step<A>
         ensures { Gives (λ x. (x.0, x.1)) result (Lines.head_line self words.entry) }
     {
-        let (version, main) = head_from(words)?;
+        let (version, main) = match head_from(words) {
+            Ok(head) => head,
+            Err(cause) => return Err(cause.at_head()),
+        };
         self.version = version;
         self.main = main;
         Ok((self, Part::Start))
@@ -209,7 +209,9 @@ impl<A: Allocator + Clone> Found<A> {
         match part {
             Part::Start => self.first_block(words),
             Part::Blocks => self.next_block(words),
-            Part::Head | Part::Arrays | Part::Literals => Err(AsmFaultKind::BadLine),
+            Part::Head | Part::Arrays | Part::Literals => {
+                Err(AsmCause::BadLine(misplaced(part)))
+            }
         }
     }
 
@@ -279,24 +281,26 @@ impl<A: Allocator + Clone> Found<A> {
         match part {
             Part::Head => self.head_line(words),
             Part::Blocks => self.instr_line(words),
-            Part::Start | Part::Arrays | Part::Literals => Err(AsmFaultKind::BadLine),
+            Part::Start | Part::Arrays | Part::Literals => {
+                Err(AsmCause::BadLine(misplaced(part)))
+            }
         }
     }
 
     /// The code, if a text may end here.
     #[tactic(auto, unfolding(crate::specs::Reading::end_from))]
-    pub(crate) fn end(self, part: Part) -> Result<Said<A>, AsmFaultKind>
+    pub(crate) fn end(self, part: Part) -> Result<Said<A>, AsmCause>
         ensures { Gives (λ r. (r.version, r.code)) result (Lines.end_from self part) }
     {
         match part {
-            Part::Head | Part::Start => Err(AsmFaultKind::Unended),
+            Part::Head | Part::Start => Err(AsmCause::Unended),
             Part::Blocks | Part::Arrays => self.with_used(),
             Part::Literals => self.with_table(),
         }
     }
 
     /// The code with the literals that its instructions use.
-    fn with_used(self) -> Result<Said<A>, AsmFaultKind>
+    fn with_used(self) -> Result<Said<A>, AsmCause>
         ensures { Gives (λ r. (r.version, r.code)) result (Ok (Lines.code_with self self.used)) }
     {
         let Found {
@@ -315,7 +319,7 @@ impl<A: Allocator + Clone> Found<A> {
     }
 
     /// The code with the table that the listing has.
-    fn with_table(self) -> Result<Said<A>, AsmFaultKind>
+    fn with_table(self) -> Result<Said<A>, AsmCause>
         ensures { Gives (λ r. (r.version, r.code)) result (Ok (Lines.code_with self self.literals)) }
     {
         let Found {
@@ -352,6 +356,14 @@ fn said_of<A: Allocator>(
     Said {
         version,
         code: Code { program, literals },
+    }
+}
+
+/// What is wrong with a line that may not come after one of this part.
+fn misplaced(part: Part) -> AsmLineCause {
+    match part {
+        Part::Head => AsmLineCause::NoHead,
+        Part::Start | Part::Blocks | Part::Arrays | Part::Literals => AsmLineCause::Misplaced,
     }
 }
 

@@ -3,6 +3,7 @@
 #![tactic(auto)]
 
 mod assembling;
+mod cause;
 mod checks;
 mod fault;
 mod fields;
@@ -11,5 +12,6 @@ mod lines;
 mod reading;
 mod words;
 
-pub use assembling::{Assembled, assemble, one_object, reassembles};
+pub use assembling::{Assembled, assemble, assemble_listing, one_object, reassembles};
+pub use cause::{AsmCause, AsmLineCause, AsmNumberCause, AsmRefusal, InstrWord, SlotCause, Unfit};
 pub use fault::{AsmFault, AsmFaultKind};

@@ -1,23 +1,24 @@
 //! The lines of a listing, one after the other.
 
 ghost use Rattle.std.specs.Prelude.{◌≡◌, Ok, MatchResult};
+ghost use Rattle.assembler.specs.Causes.{fault_of};
 ghost use Rattle.assembler.specs.Reading.{text_from};
 ghost use Rattle.assembler.specs.Assembling.{IsFirstFault, line_at};
 ghost use Rattle.graph_file.specs.Lines.{parts};
 
-use crate::fault::AsmFault;
+use crate::cause::AsmRefusal;
 use crate::found::{Found, Part, Said};
 use crate::words::Words;
 use graph_file::Parts;
 use std::alloc::Allocator;
 
 /// The version and the code that a text says, or its first fault.
-pub(crate) fn read_text<A: Allocator + Clone>(alloc: A, text: &[u8]) -> Result<Said<A>, AsmFault>
-    ensures { MatchResult result (λ r. text_from text.now ≡ Ok (r.version, r.code)) (λ e. IsFirstFault e (text_from text.now)) }
+pub(crate) fn read_text<A: Allocator + Clone>(alloc: A, text: &[u8]) -> Result<Said<A>, AsmRefusal>
+    ensures { MatchResult result (λ s. text_from text.now ≡ Ok (s.version, s.code)) (λ r. IsFirstFault (fault_of r) (text_from text.now)) }
 {
     let mut state = match Found::nothing(alloc) {
         Ok(found) => (found, Part::Head),
-        Err(kind) => return Err(AsmFault { kind, line: 0 }),
+        Err(cause) => return Err(AsmRefusal { cause, line: 0 }),
     };
     let mut lines = Parts::of(text, b'\n');
     let mut line = 0;
@@ -26,14 +27,14 @@ pub(crate) fn read_text<A: Allocator + Clone>(alloc: A, text: &[u8]) -> Result<S
         line += 1;
         state = match found.line(part, Words::of(bytes)) {
             Ok(next) => next,
-            Err(kind) => return Err(AsmFault { kind, line }),
+            Err(cause) => return Err(AsmRefusal { cause, line }),
         };
         lines = rest;
     }
     let (found, part) = state;
     match found.end(part) {
         Ok(read) => Ok(read),
-        Err(kind) => Err(AsmFault { kind, line }),
+        Err(cause) => Err(AsmRefusal { cause, line }),
     }
 }
 

@@ -3,7 +3,7 @@
 ghost use Rattle.std.specs.Prelude.{◌≡◌, [], ◌∷◌, MatchOption};
 ghost use Rattle.assembler.specs.Words.{words_of, has_words};
 
-use graph_file::Parts;
+use graph_file::{FieldPlace, Parts};
 use std::marker::Model;
 
 /// The words of a line from the first that was not taken. Contracts see the list of them.
@@ -44,6 +44,11 @@ impl<'a> Words<'a> {
         Words {
             parts: self.parts.again(),
         }
+    }
+
+    /// The place of this word, where these are the words after it.
+    pub(crate) fn place_of(&self, word: &[u8]) -> FieldPlace {
+        self.parts.place_of(word)
     }
 
     /// Whether a word is left.

@@ -4,7 +4,8 @@ use Rattle.semantics.specs.Program.{Code}
 use Rattle.semantics.specs.Bytes.{IsCode, bytes_of}
 use Rattle.assembler.specs.Assembling.{assembled, IsFirstFault}
 use Rattle.assembler.specs.Grammar.{IsListingOf}
-use Rattle.assembler.specs.declared.fault.AsmFault.{AsmFault}
+use Rattle.assembler.specs.Causes.{fault_of}
+use Rattle.assembler.specs.declared.cause.AsmRefusal.{AsmRefusal}
 use Rattle.outcomes.specs.declared.outcome.Outcome.{Outcome}
 use Rattle.commands.specs.Refusals.{unassembled_as}
 use Rattle.commands.specs.Served.{Prints, Refuses}
@@ -13,4 +14,4 @@ use Rattle.commands.specs.Served.{Prints, Refuses}
 abbrev pub PrintsAssembled : {E : Type 0} → Result Outcome E → Option (List ℕ) → Option (List ℕ) → List ℕ → Type 0
 PrintsAssembled result old new text =
     ((version : ℕ) × (code : Code) × IsListingOf text version code × IsCode version code × (assembled text ≡ Ok (version, code)) × Prints result old new (bytes_of version code) Outcome.Done)
-    ⊎ ((fault : AsmFault) × IsFirstFault fault (assembled text) × Refuses result old new (unassembled_as fault))
+    ⊎ ((refusal : AsmRefusal) × IsFirstFault (fault_of refusal) (assembled text) × Refuses result old new (unassembled_as refusal))

@@ -4,7 +4,14 @@ use Rattle.semantics.specs.Text.{line}
 use Rattle.graph_file.specs.declared.fault.ReadFaultKind.{ReadFaultKind}
 use Rattle.graph_check.specs.declared.faults.CheckFaultKind.{CheckFaultKind}
 use Rattle.object_view.specs.declared.fault.ObjectFault.{ObjectFault}
+use Rattle.graph_file.specs.declared.fault.ReadFault.{ReadFault}
+use Rattle.graph_file.specs.Causes as ReadCauses
+use Rattle.graph_check.specs.declared.faults.CheckFault.{CheckFault}
+use Rattle.graph_check.specs.Causes as CheckCauses
+use Rattle.assembler.specs.Causes as AsmCauses
 use Rattle.assembler.specs.declared.fault.AsmFault.{AsmFault}
+use Rattle.assembler.specs.declared.cause.AsmCause.{AsmCause}
+use Rattle.assembler.specs.declared.cause.AsmRefusal.{AsmRefusal}
 use Rattle.assembler.specs.declared.fault.AsmFaultKind.{AsmFaultKind}
 use Rattle.schedule.specs.declared.config.StartFault.{StartFault}
 use Rattle.source.specs.declared.fault.FaultKind.{FaultKind}
@@ -93,16 +100,28 @@ abbrev pub number_or_dash : Option ℕ → List ℕ
 number_or_dash None = codes "-"
 number_or_dash (Some n) = decimal n
 
+-- of a text that is no graph
+abbrev pub read_text : ReadFault → List ℕ
+read_text f = codes "read " ++ read_word f.kind ++ codes " line " ++ decimal f.line
+
+-- of a graph that is not well formed
+abbrev pub check_text : CheckFault → List ℕ
+check_text f = codes "check " ++ check_word f.kind ++ codes " block " ++ number_or_dash f.block ++ codes " node " ++ number_or_dash f.node
+
+-- of a text that is no listing of an object
+abbrev pub asm_text : AsmFault → List ℕ
+asm_text f = codes "asm " ++ asm_word f.kind ++ codes " line " ++ decimal f.line
+
 abbrev pub cause_text : Refusal → List ℕ
 cause_text Refusal.Input = codes "input"
-cause_text (Refusal.Read f) = codes "read " ++ read_word f.kind ++ codes " line " ++ decimal f.line
-cause_text (Refusal.Check f) = codes "check " ++ check_word f.kind ++ codes " block " ++ number_or_dash f.block ++ codes " node " ++ number_or_dash f.node
+cause_text (Refusal.Read r) = read_text (ReadCauses.fault_of r)
+cause_text (Refusal.Check r) = check_text (CheckCauses.fault_of r)
 cause_text (Refusal.TooManySlots b) = codes "slots TooManySlots block " ++ decimal b
 cause_text (Refusal.TooFar b) = codes "emit TooFar block " ++ decimal b
 cause_text (Refusal.InputLine n) = codes "input line " ++ decimal n
 cause_text (Refusal.Start f) = codes "start " ++ start_word f
 cause_text (Refusal.Object f) = codes "object " ++ object_word f
-cause_text (Refusal.Asm f) = codes "asm " ++ asm_word f.kind ++ codes " line " ++ decimal f.line
+cause_text (Refusal.Asm r) = asm_text (AsmCauses.fault_of r)
 cause_text (Refusal.Program r) = codes "program " ++ program_word r.fault.kind ++ codes " line " ++ decimal r.fault.line ++ codes " column " ++ decimal r.fault.column
 cause_text Refusal.Memory = codes "memory"
 
@@ -111,8 +130,8 @@ refusal_line f = line (codes "refused: " ++ cause_text f)
 
 -- the refusal that a fault is reported as
 abbrev pub refused_as : Fault → Refusal
-refused_as (Fault.Read f) = Refusal.Read f
-refused_as (Fault.Check f) = Refusal.Check f
+refused_as (Fault.Read r) = Refusal.Read r
+refused_as (Fault.Check r) = Refusal.Check r
 refused_as (Fault.TooManySlots b) = Refusal.TooManySlots b
 refused_as (Fault.TooFar b) = Refusal.TooFar b
 refused_as (Fault.Object f) = Refusal.Object f
@@ -130,9 +149,9 @@ unread_as InputFault.Input = Refusal.Input
 unread_as InputFault.Memory = Refusal.Memory
 
 -- and that a fault of a listing is reported as
-abbrev pub of_kind : AsmFault → AsmFaultKind → Refusal
-of_kind fault AsmFaultKind.Memory = Refusal.Memory
-of_kind fault kind = Refusal.Asm fault
+abbrev pub of_cause : AsmRefusal → AsmCause → Refusal
+of_cause r AsmCause.Memory = Refusal.Memory
+of_cause r cause = Refusal.Asm r
 
-abbrev pub unassembled_as : AsmFault → Refusal
-unassembled_as fault = of_kind fault fault.kind
+abbrev pub unassembled_as : AsmRefusal → Refusal
+unassembled_as r = of_cause r r.cause

@@ -5,20 +5,19 @@ ghost use Rattle.commands.specs.Assembled.{PrintsAssembled};
 ghost use Rattle.commands.specs.Refusals.{unassembled_as};
 
 use crate::serving::refuse;
-use assembler::{AsmFault, AsmFaultKind, assemble};
+use assembler::{AsmCause, AsmRefusal, assemble_listing};
 use object_view::write;
 use outcomes::{Outcome, Refusal};
 use std::alloc::Allocator;
 use std::io::{self, Write};
 
-/// The refusal that a fault is reported as.
-fn asm_refusal(fault: AsmFault) -> Refusal
-    ensures { result ≡ unassembled_as fault }
+/// The refusal that is reported of a text that is no listing of an object.
+fn asm_refusal(refusal: AsmRefusal) -> Refusal
+    ensures { result ≡ unassembled_as refusal }
 {
-    if fault.kind == AsmFaultKind::Memory {
-        Refusal::Memory
-    } else {
-        Refusal::Asm(fault)
+    match refusal.cause {
+        AsmCause::Memory => Refusal::Memory,
+        _ => Refusal::Asm(refusal),
     }
 }
 
@@ -30,11 +29,11 @@ pub fn print_assembled<A: Allocator + Clone, W: Write>(
 ) -> io::Result<Outcome>
     ensures { PrintsAssembled result (W.contents writer.old) (W.contents writer.new) text.now }
 {
-    match assemble(alloc, text) {
+    match assemble_listing(alloc, text) {
         Ok(assembled) => match write(&assembled.code, assembled.version, writer) {
             Ok(()) => Ok(Outcome::Done),
             Err(fault) => Err(fault),
         },
-        Err(fault) => refuse(writer, &asm_refusal(fault)),
+        Err(refusal) => refuse(writer, &asm_refusal(refusal)),
     }
 }

@@ -23,8 +23,8 @@ pub(crate) fn fault_refusal(fault: Fault) -> Refusal
     ensures { result ≡ refused_as fault }
 {
     match fault {
-        Fault::Read(fault) => Refusal::Read(fault),
-        Fault::Check(fault) => Refusal::Check(fault),
+        Fault::Read(refusal) => Refusal::Read(refusal),
+        Fault::Check(refusal) => Refusal::Check(refusal),
         Fault::TooManySlots(block) => Refusal::TooManySlots(block),
         Fault::TooFar(block) => Refusal::TooFar(block),
         Fault::Object(fault) => Refusal::Object(fault),

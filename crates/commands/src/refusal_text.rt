@@ -1,9 +1,9 @@
 //! The line that reports a refusal.
 
-ghost use Rattle.std.specs.Prelude.{◌≡◌, ◌++◌, decimal};
+ghost use Rattle.std.specs.Prelude.{◌≡◌, ◌++◌, codes, decimal};
 ghost use Rattle.semantics.specs.Text.{line};
-ghost use Rattle.outcomes.specs.declared.refusal.Refusal.TheVariants.{Asm, Read, Check, Program};
-ghost use Rattle.commands.specs.Refusals.{asm_word, read_word, check_word, object_word, start_word, program_word, number_or_dash, refusal_line};
+ghost use Rattle.outcomes.specs.declared.refusal.Refusal.TheVariants.{Program};
+ghost use Rattle.commands.specs.Refusals.{asm_text, asm_word, read_text, read_word, check_text, check_word, object_word, start_word, program_word, number_or_dash, refusal_line};
 ghost use Rattle.sink.specs.Sends.{Sends};
 
 use assembler::{AsmFault, AsmFaultKind};
@@ -91,7 +91,7 @@ fn number_or_dash(buffer: &mut Buffer, number: Option<u64>) -> &[u8]
 }
 
 fn write_read_fault<W: Write>(writer: &mut W, fault: ReadFault) -> io::Result<()>
-    ensures { Sends result (W.contents writer.old) (W.contents writer.new) (refusal_line (Read fault)) }
+    ensures { Sends result (W.contents writer.old) (W.contents writer.new) (line (codes "refused: " ++ read_text fault)) }
 {
     let mut digits = Buffer::new();
     let kind = read_word(fault.kind);
@@ -119,7 +119,7 @@ fn asm_word(kind: AsmFaultKind) -> &'static [u8]
 }
 
 fn write_asm_fault<W: Write>(writer: &mut W, fault: AsmFault) -> io::Result<()>
-    ensures { Sends result (W.contents writer.old) (W.contents writer.new) (refusal_line (Asm fault)) }
+    ensures { Sends result (W.contents writer.old) (W.contents writer.new) (line (codes "refused: " ++ asm_text fault)) }
 {
     let mut digits = Buffer::new();
     let kind = asm_word(fault.kind);
@@ -175,7 +175,7 @@ fn write_program_fault<W: Write>(writer: &mut W, refusal: ProgramRefusal) -> io:
 }
 
 fn write_check_fault<W: Write>(writer: &mut W, fault: CheckFault) -> io::Result<()>
-    ensures { Sends result (W.contents writer.old) (W.contents writer.new) (refusal_line (Check fault)) }
+    ensures { Sends result (W.contents writer.old) (W.contents writer.new) (line (codes "refused: " ++ check_text fault)) }
 {
     let mut first = Buffer::new();
     let mut second = Buffer::new();
@@ -211,8 +211,8 @@ pub fn write_refusal<W: Write>(writer: &mut W, refusal: &Refusal) -> io::Result<
 {
     match refusal {
         Refusal::Input => send(writer, b"refused: input\n"),
-        Refusal::Read(fault) => write_read_fault(writer, *fault),
-        Refusal::Check(fault) => write_check_fault(writer, *fault),
+        Refusal::Read(refusal) => write_read_fault(writer, refusal.fault()),
+        Refusal::Check(refusal) => write_check_fault(writer, refusal.fault()),
         Refusal::TooManySlots(block) => {
             write_numbered(writer, b"refused: slots TooManySlots block ", *block)
         }
@@ -224,7 +224,7 @@ pub fn write_refusal<W: Write>(writer: &mut W, refusal: &Refusal) -> io::Result<
         Refusal::Object(fault) => {
             send_all(writer, &[b"refused: object ", object_word(*fault), b"\n"])
         }
-        Refusal::Asm(fault) => write_asm_fault(writer, *fault),
+        Refusal::Asm(refusal) => write_asm_fault(writer, refusal.fault()),
         Refusal::Program(refusal) => write_program_fault(writer, *refusal),
         Refusal::Memory => send(writer, b"refused: memory\n"),
     }

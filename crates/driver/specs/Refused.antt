@@ -6,8 +6,10 @@ use Rattle.semantics.specs.WellFormed.{WellFormed}
 use Rattle.semantics.specs.Program.{Code}
 use Rattle.semantics.specs.Bytes.{IsObject}
 use Rattle.graph_file.specs.declared.fault.ReadFaultKind.TheVariants as ReadFaultKind
+use Rattle.graph_file.specs.Causes as ReadCauses
 use Rattle.graph_file.specs.Reading.{text_from}
 use Rattle.graph_check.specs.declared.faults.CheckFaultKind.TheVariants as CheckFaultKind
+use Rattle.graph_check.specs.Causes as CheckCauses
 use Rattle.graph_check.specs.FirstFault.{first_fault}
 use Rattle.schedule.specs.declared.config.Config.{Config}
 use Rattle.schedule.specs.declared.config.StartFault.{StartFault}
@@ -52,8 +54,8 @@ pub record IsReadyObject (bytes : List ℕ) (inputs : List ℤ) (config : Config
 -- Why a text has no well-formed graph: it has no graph at all, or one that is not well formed. `Memory` may be answered of any text: no definition
 -- says when an allocator refuses a growth.
 abbrev pub IsBadText : List ℕ → Fault → Type 0
-IsBadText text (Fault.Read f) = (text_from text ≡ Err f) × (f.kind ≢ ReadFaultKind.Memory) × ((g : Graph) → IsText text g → ⊥)
-IsBadText text (Fault.Check f) = (g : Graph) × IsText text g × (first_fault g ≡ Some f) × (f.kind ≢ CheckFaultKind.Memory) × (WellFormed g → ⊥)
+IsBadText text (Fault.Read r) = (text_from text ≡ Err (ReadCauses.fault_of r)) × ((ReadCauses.fault_of r).kind ≢ ReadFaultKind.Memory) × ((g : Graph) → IsText text g → ⊥)
+IsBadText text (Fault.Check r) = (g : Graph) × IsText text g × (first_fault g ≡ Some (CheckCauses.fault_of r)) × ((CheckCauses.fault_of r).kind ≢ CheckFaultKind.Memory) × (WellFormed g → ⊥)
 IsBadText text Fault.Memory = ⊤
 IsBadText text fault = ⊥
 

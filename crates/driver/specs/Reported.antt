@@ -1,8 +1,10 @@
 -- The fault that is reported where a pass or a part gives one of its own: lack of memory as such, and another fault as it is.
 use Rattle.std.specs.Prelude.{◌≡◌, ◌≢◌, ◌⊎◌}
-use Rattle.graph_file.specs.declared.fault.ReadFault.{ReadFault}
+use Rattle.graph_file.specs.declared.cause.ReadRefusal.{ReadRefusal}
+use Rattle.graph_file.specs.Causes as ReadCauses
 use Rattle.graph_file.specs.declared.fault.ReadFaultKind.TheVariants as ReadFaultKind
-use Rattle.graph_check.specs.declared.faults.CheckFault.{CheckFault}
+use Rattle.graph_check.specs.declared.causes.CheckRefusal.{CheckRefusal}
+use Rattle.graph_check.specs.Causes as CheckCauses
 use Rattle.graph_check.specs.declared.faults.CheckFaultKind.TheVariants as CheckFaultKind
 use Rattle.slot_alloc.specs.declared.faults.AssignFault.{AssignFault}
 use Rattle.select.specs.declared.fault.EmitFault.{EmitFault}
@@ -11,12 +13,16 @@ use Rattle.schedule.specs.declared.config.StartFault.{StartFault}
 use Rattle.driver.specs.declared.fault.Fault.{Fault}
 
 -- of a text that is not read
-abbrev pub IsUnread : ReadFault → Fault → Type 0
-IsUnread f reported = ((f.kind ≡ ReadFaultKind.Memory) × (reported ≡ Fault.Memory)) ⊎ ((f.kind ≢ ReadFaultKind.Memory) × (reported ≡ Fault.Read f))
+abbrev pub IsUnread : ReadRefusal → Fault → Type 0
+IsUnread r reported =
+    (((ReadCauses.fault_of r).kind ≡ ReadFaultKind.Memory) × (reported ≡ Fault.Memory))
+    ⊎ (((ReadCauses.fault_of r).kind ≢ ReadFaultKind.Memory) × (reported ≡ Fault.Read r))
 
 -- of a graph that is not well formed
-abbrev pub IsUnchecked : CheckFault → Fault → Type 0
-IsUnchecked f reported = ((f.kind ≡ CheckFaultKind.Memory) × (reported ≡ Fault.Memory)) ⊎ ((f.kind ≢ CheckFaultKind.Memory) × (reported ≡ Fault.Check f))
+abbrev pub IsUnchecked : CheckRefusal → Fault → Type 0
+IsUnchecked r reported =
+    (((CheckCauses.fault_of r).kind ≡ CheckFaultKind.Memory) × (reported ≡ Fault.Memory))
+    ⊎ (((CheckCauses.fault_of r).kind ≢ CheckFaultKind.Memory) × (reported ≡ Fault.Check r))
 
 -- of a plan without slots
 abbrev pub unassigned_as : AssignFault → Fault

@@ -13,8 +13,8 @@ use code::{Code, Plan};
 use fanout::narrow;
 use folding::fold;
 use graph::Graph;
-use graph_check::{Checked, check};
-use graph_file::read;
+use graph_check::{Checked, check_graph};
+use graph_file::read_graph;
 use object_view::{OwnedObject, write};
 use schemas::expand;
 use select::emit;
@@ -37,8 +37,8 @@ pub fn check_text<'a, A: Allocator + Clone>(
 ) -> Result<Checked<'a, A>, Fault>
     ensures { MatchResult result (IsGoodText text.now) (IsBadText text.now) }
 {
-    let graph = read(alloc, text)?;
-    Ok(check(graph)?)
+    let graph = read_graph(alloc, text)?;
+    Ok(check_graph(graph)?)
 }
 
 /// Makes the plan of a graph, pass by pass: first with any number of destinations at an instruction, then with literal

@@ -5,8 +5,8 @@ ghost use Rattle.driver.specs.Refused.{refusal_of};
 ghost use Rattle.driver.specs.Reported.{IsUnread, IsUnchecked, unassigned_as, unemitted_as, unmeant_as};
 ghost use Rattle.driver.specs.declared.fault.Fault.TheVariants.{Memory, Object};
 
-use graph_check::{CheckFault, CheckFaultKind};
-use graph_file::{ReadFault, ReadFaultKind};
+use graph_check::{CheckFaultKind, CheckRefusal};
+use graph_file::{ReadFaultKind, ReadRefusal};
 use object_view::ObjectFault;
 use oracle::MeanFault;
 use schedule::config::StartFault;
@@ -18,9 +18,9 @@ use std::alloc::AllocError;
 #[derive(Debug, Drop)]
 pub enum Fault {
     /// The text is not the text of a graph: this is its first fault. Lack of memory is never reported so.
-    Read(ReadFault),
+    Read(ReadRefusal),
     /// The graph is not well formed: this is its first fault. Lack of memory is never reported so.
-    Check(CheckFault),
+    Check(CheckRefusal),
     /// The code block of this number is the first in which a holder finds no slot of a frame open, where each takes the least that it may share.
     TooManySlots(u64),
     /// The code block with this number is the first that is too long for an object, or the first with which there are too many
@@ -41,24 +41,24 @@ impl From<AllocError> for Fault {
     }
 }
 
-impl From<ReadFault> for Fault {
-    ghost from_gives = { λ fault reported. IsUnread fault reported };
+impl From<ReadRefusal> for Fault {
+    ghost from_gives = { λ refusal reported. IsUnread refusal reported };
 
-    fn from(fault: ReadFault) -> Fault {
-        match fault.kind {
+    fn from(refusal: ReadRefusal) -> Fault {
+        match refusal.fault().kind {
             ReadFaultKind::Memory => Fault::Memory,
-            _ => Fault::Read(fault),
+            _ => Fault::Read(refusal),
         }
     }
 }
 
-impl From<CheckFault> for Fault {
-    ghost from_gives = { λ fault reported. IsUnchecked fault reported };
+impl From<CheckRefusal> for Fault {
+    ghost from_gives = { λ refusal reported. IsUnchecked refusal reported };
 
-    fn from(fault: CheckFault) -> Fault {
-        match fault.kind {
+    fn from(refusal: CheckRefusal) -> Fault {
+        match refusal.fault().kind {
             CheckFaultKind::Memory => Fault::Memory,
-            _ => Fault::Check(fault),
+            _ => Fault::Check(refusal),
         }
     }
 }

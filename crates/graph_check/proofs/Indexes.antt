@@ -2,14 +2,16 @@
 use Rattle.std.proofs.Common.{◌≡◌, ℕ, ◌+◌, ◌<◌, Bool, true, false, not, List, [], ◌∷◌, ◌++◌, length, map, get_or, take, Option, Some, None, Result, Err, if◌then◌else◌, inl, refl, sym, ap, ◌∙◌, subst, arith, Bor}
 use Rattle.std.specs.BTreeMap.{BTreeMap}
 use Rattle.std.proofs.lemmas.List.{take_more, length-map, length-take-le, get_or-map}
+use Rattle.graph_check.specs.declared.causes.CheckRefusal.{CheckRefusal}
 use Rattle.graph_check.specs.declared.faults.CheckFault.{CheckFault}
 use Rattle.graph_check.specs.declared.faults.CheckFaultKind.TheVariants.{SameName}
+use Rattle.graph_check.specs.Causes.{fault_of}
 use Rattle.graph_check.specs.Names.{is_name, IsIndexOf}
 use Rattle.graph_check.specs.FirstFault.{repeat_fault, out_of_memory, IsIndexed}
 
-pub refused : (f : ℕ → List ℕ → Option CheckFault) (names : List (List ℕ)) (r : Result (BTreeMap (Bor (List ℕ)) ℕ) CheckFault) (e y : CheckFault)
-    → r ≡ Err y → y ≡ e → e ≡ out_of_memory → IsIndexed f names r
-refused f names r e y is same memory = subst (λ r. IsIndexed f names r) (sym is) (inl (same ∙ memory))
+pub refused : (f : ℕ → List ℕ → Option CheckFault) (names : List (List ℕ)) (r : Result (BTreeMap (Bor (List ℕ)) ℕ) CheckRefusal) (e y : CheckRefusal)
+    → r ≡ Err y → y ≡ e → fault_of e ≡ out_of_memory → IsIndexed f names r
+refused f names r e y is same memory = subst (λ r. IsIndexed f names r) (sym is) (inl (ap fault_of same ∙ memory))
 
 pub named_item : {X : Type 0} (f : X → List ℕ) (items : List X) (i : ℕ) (x : X) (name : List ℕ) → i < length items → x ≡ get_or items i x → name ≡ f x
     → get_or (map f items) i name ≡ name

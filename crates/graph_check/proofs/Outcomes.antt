@@ -2,15 +2,17 @@
 use Rattle.std.proofs.Common.{◌≡◌, ℕ, ◌⊎◌, List, Some, None, Result, Err, IfErr, inl, inr, sym, ap, ◌∙◌, subst}
 use Rattle.semantics.specs.Graph.{Block, Graph}
 use Rattle.semantics.specs.WellFormed.{WellFormed}
+use Rattle.graph_check.specs.declared.causes.CheckRefusal.{CheckRefusal}
 use Rattle.graph_check.specs.declared.faults.CheckFault.{CheckFault}
+use Rattle.graph_check.specs.Causes.{fault_of}
 use Rattle.graph_check.specs.FirstFault.{names_fault, main_fault, all_blocks_fault, blocks_fault, first_fault, out_of_memory, IsRefusal}
 use Rattle.graph_check.proofs.Firsts.{or_later_none, or_later_some}
 use Rattle.graph_check.proofs.NoFault.{none_later}
 use Rattle.graph_check.proofs.Exact.{well_formed, not_well_formed}
 use Rattle.graph_check.proofs.NotMemory.{first_never_memory}
 
-pub answered : {X : Type 0} (g : Graph) (r : Result X CheckFault) (e y : CheckFault) → r ≡ Err y → y ≡ e → IsRefusal g e → IfErr r (IsRefusal g)
-answered g r e y is same h = subst (λ r. IfErr r (IsRefusal g)) (sym is) (subst (λ y. IsRefusal g y) (sym same) h)
+pub answered : {X : Type 0} (g : Graph) (r : Result X CheckRefusal) (e y : CheckRefusal) → r ≡ Err y → y ≡ e → IsRefusal g (fault_of e) → IfErr r (λ r. IsRefusal g (fault_of r))
+answered g r e y is same h = subst (λ r. IfErr r (λ r. IsRefusal g (fault_of r))) (sym is) (subst (λ y. IsRefusal g (fault_of y)) (sym same) h)
 
 refusal : (g : Graph) (e : CheckFault) → first_fault g ≡ Some e → IsRefusal g e
 refusal g e is = inr (is, first_never_memory g e is, not_well_formed g e is)

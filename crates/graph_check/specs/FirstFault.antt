@@ -3,7 +3,7 @@
 -- order, the line of its results. At a node: its region, what it names, the number of its sources and the shape of the
 -- block that it names, its bound, then its sources from left to right. At the line of results: the number of sources,
 -- then the sources from left to right.
-use Rattle.std.specs.Prelude.{◌≡◌, ◌≢◌, ◌⊎◌, MatchResult, ℕ, ◌+◌, Bool, true, false, List, [], ◌∷◌, length, Option, Some, None, Result, Ok, Err, nat_eq, nat_lt, slice_get, take, if◌then◌else◌}
+use Rattle.std.specs.Prelude.{◌≡◌, ◌≢◌, ◌⊎◌, MatchResult, ℕ, ◌+◌, Bool, true, false, List, [], ◌∷◌, length, Option, Some, None, Result, nat_eq, nat_lt, slice_get, take, if◌then◌else◌}
 use Rattle.semantics.specs.declared.graph.Region.{Region}
 use Rattle.semantics.specs.declared.graph.Region.TheVariants.{Root, Arm}
 use Rattle.semantics.specs.declared.graph.Source.{Source}
@@ -14,6 +14,8 @@ use Rattle.semantics.specs.WellFormed.{region_of, arm_outside, WellFormed}
 use Rattle.graph_check.specs.Names.{is_name, IsIndexOf}
 use Rattle.std.specs.BTreeMap.{BTreeMap}
 use denote.Ref.{Bor}
+use Rattle.graph_check.specs.Causes.{fault_of}
+use Rattle.graph_check.specs.declared.causes.CheckRefusal.{CheckRefusal}
 use Rattle.graph_check.specs.declared.faults.CheckFault.{CheckFault}
 use Rattle.graph_check.specs.declared.faults.CheckFaultKind.{CheckFaultKind}
 use Rattle.graph_check.specs.declared.faults.CheckFaultKind.TheVariants.{SameName, NoSuchName, Arity, SourceNotEarlier, NoSuchPort, BadRegion, CrossesRegion, BadBound, OutNotRoot, NoInput, NoOutput, Memory}
@@ -27,11 +29,6 @@ or_later None later = later
 abbrev pub first_in : {X F : Type 0} → (ℕ → X → Option F) → ℕ → List X → Option F
 first_in f i [] = None
 first_in f i (x ∷ xs) = or_later (f i x) (first_in f (i + 1) xs)
-
--- the fault of an answer
-abbrev pub fault_of : {T F : Type 0} → Result T F → Option F
-fault_of (Ok x) = None
-fault_of (Err f) = Some f
 
 -- a fault of that kind, unless the test holds
 abbrev pub unless : Bool → CheckFaultKind → Option CheckFaultKind
@@ -230,7 +227,7 @@ abbrev pub IsRefusal : Graph → CheckFault → Type 0
 IsRefusal g e = (e ≡ out_of_memory) ⊎ ((first_fault g ≡ Some e) × (e.kind ≢ Memory) × ¬ WellFormed g)
 
 -- names are looked up from now on, or the first one with a fault is reported
-abbrev pub IsIndexed : (ℕ → List ℕ → Option CheckFault) → List (List ℕ) → Result (BTreeMap (Bor (List ℕ)) ℕ) CheckFault → Type 0
+abbrev pub IsIndexed : (ℕ → List ℕ → Option CheckFault) → List (List ℕ) → Result (BTreeMap (Bor (List ℕ)) ℕ) CheckRefusal → Type 0
 IsIndexed f names r =
     MatchResult r (λ m. IsIndexOf m names × (first_in f 0 names ≡ None))
-    (λ e. (e ≡ out_of_memory) ⊎ (first_in f 0 names ≡ Some e))
+    (λ r. (fault_of r ≡ out_of_memory) ⊎ (first_in f 0 names ≡ Some (fault_of r)))

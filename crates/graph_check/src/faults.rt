@@ -55,12 +55,3 @@ pub struct CheckFault {
     /// nodes as its node.
     pub node: Option<u64>,
 }
-
-impl CheckFault {
-    /// What is returned where a growth was refused.
-    pub(crate) const MEMORY: CheckFault = CheckFault {
-        kind: CheckFaultKind::Memory,
-        block: None,
-        node: None,
-    };
-}

@@ -5,18 +5,21 @@ ghost use Rattle.std.specs.Prelude.{◌≡◌, IfOk, IfErr, OnOk};
 ghost use Rattle.semantics.specs.Graph.{place_of, array_names, block_names};
 ghost use Rattle.semantics.specs.WellFormed.{WellFormed};
 ghost use Rattle.semantics.specs.Text.{HasText};
-ghost use Rattle.graph_check.specs.FirstFault.{main_fault, all_blocks_fault, fault_of, IsRefusal};
+ghost use Rattle.graph_check.specs.Causes.{fault_in, fault_of};
+ghost use Rattle.graph_check.specs.FirstFault.{main_fault, all_blocks_fault, IsRefusal};
 
 use graph::{Block, Graph, Name};
 use std::alloc::Allocator;
 use std::marker::Model;
 
 mod blocks;
+mod causes;
 mod faults;
 mod names;
 mod nodes;
 
 use blocks::{check_block, located};
+pub use causes::{ArityCause, CheckCause, CheckRefusal, NameOf, RegionCause};
 pub use faults::{CheckFault, CheckFaultKind};
 use names::Named;
 use nodes::require;
@@ -72,22 +75,19 @@ impl<'a, A: Allocator> Checked<'a, A> {
 }
 
 /// The block to run exists.
-fn check_main<'a, A: Allocator>(named: &Named<'a, A>) -> Result<(), CheckFault>
-    ensures { fault_of result ≡ main_fault named.now }
+fn check_main<'a, A: Allocator>(named: &Named<'a, A>) -> Result<(), CheckRefusal>
+    ensures { fault_in result ≡ main_fault named.now }
 {
-    located(
-        require(named.has_main(), CheckFaultKind::NoSuchName),
-        None,
-        None,
-    )
+    let cause = CheckCause::NoSuchName(NameOf::Main);
+    located(require(named.has_main(), cause), None, None)
 }
 
 /// The blocks in order.
 fn check_blocks<'a, A: Allocator>(
     named: &Named<'a, A>,
     blocks: &[Block<'a, A>],
-) -> Result<(), CheckFault>
-    ensures { fault_of result ≡ all_blocks_fault named.now blocks.now }
+) -> Result<(), CheckRefusal>
+    ensures { fault_in result ≡ all_blocks_fault named.now blocks.now }
 {
     for (i, block) in blocks.iter().enumerate() {
         check_block(named, i as u64, block)?;
@@ -116,6 +116,20 @@ pub fn check<'a, A: Allocator + Clone>(graph: Graph<'a, A>) -> Result<Checked<'a
     ensures checked { IfOk result (λ c. c ≡ graph.entry) }
     ensures well { OnOk result (WellFormed graph.entry) }
     ensures refused { IfErr result (IsRefusal graph.entry) }
+{
+    match check_graph(graph) {
+        Ok(checked) => Ok(checked),
+        Err(refusal) => Err(refusal.fault()),
+    }
+}
+
+/// Returns a well-formed graph as checked, or why it is refused: what `check` returns, with what was known where the fault was found.
+pub fn check_graph<'a, A: Allocator + Clone>(
+    graph: Graph<'a, A>,
+) -> Result<Checked<'a, A>, CheckRefusal>
+    ensures checked { IfOk result (λ c. c ≡ graph.entry) }
+    ensures well { OnOk result (WellFormed graph.entry) }
+    ensures refused { IfErr result (λ r. IsRefusal graph.entry (fault_of r)) }
 {
     let named = Named::of(graph)?;
     check_main(&named)?;

@@ -3,9 +3,10 @@
 ghost use Rattle.std.specs.Prelude.{◌≡◌, ◌⊎◌, ℕ, List, [], ◌∷◌, ◌++◌, length, Bool, true, not, None, Some, MatchResult, vec_len, map, slice_get};
 ghost use Rattle.semantics.specs.Graph.{place_of, array_names, block_names};
 ghost use Rattle.graph_check.specs.Names.{is_name, place_if, names_of_arrays, names_of_blocks, IsIndexOf};
+ghost use Rattle.graph_check.specs.Causes.{fault_of};
 ghost use Rattle.graph_check.specs.FirstFault.{names_fault, first_in, array_name_fault, block_name_fault, shape_of, shape_in, IsIndexed, out_of_memory};
 
-use crate::faults::{CheckFault, CheckFaultKind};
+use crate::causes::{CheckCause, CheckRefusal};
 use graph::{Array, Block, Graph, Name};
 use std::alloc::{AllocError, Allocator};
 use std::collections::BTreeMap;
@@ -19,13 +20,13 @@ fn add<'a, A: Allocator + Clone>(
     index: &mut Index<'a, A>,
     name: &'a [u8],
     place: usize,
-) -> Result<bool, CheckFault>
+) -> Result<bool, CheckRefusal>
     ensures added { (names : List (List ℕ)) → IsIndexOf index.old names → place ≡ length names
-        → MatchResult result (λ new. (new ≡ not (is_name name.entry.now names)) × (new ≡ true → IsIndexOf index.new (names ++ name.entry.now ∷ []))) (λ e. e ≡ out_of_memory) }
+        → MatchResult result (λ new. (new ≡ not (is_name name.entry.now names)) × (new ≡ true → IsIndexOf index.new (names ++ name.entry.now ∷ []))) (λ r. fault_of r ≡ out_of_memory) }
 {
     match index.insert(name, place) {
         Ok(old) => Ok(old.is_none()),
-        Err(_) => Err(CheckFault::MEMORY),
+        Err(_) => Err(CheckRefusal::MEMORY),
     }
 }
 
@@ -44,17 +45,17 @@ fn block_name<'a, A: Allocator>(block: &Block<'a, A>) -> &'a [u8]
 /// Where each array is, or the first double name.
 fn index_arrays<'a, A: Allocator + Clone>(
     arrays: &Vec<Array<'a>, A>,
-) -> Result<Index<'a, A>, CheckFault>
+) -> Result<Index<'a, A>, CheckRefusal>
     ensures { let names = names_of_arrays arrays.now.items in IsIndexed (array_name_fault names) names result }
 {
     let Ok(alloc) = arrays.allocator().clone() else {
-        return Err(CheckFault::MEMORY);
+        return Err(CheckRefusal::MEMORY);
     };
     let mut index = BTreeMap::new(alloc);
     for (i, array) in arrays.iter().enumerate() {
         if !add(&mut index, array_name(array), i)? {
-            return Err(CheckFault {
-                kind: CheckFaultKind::SameName,
+            return Err(CheckRefusal {
+                cause: CheckCause::SameName { place: i as u64 },
                 block: None,
                 node: None,
             });
@@ -66,18 +67,19 @@ fn index_arrays<'a, A: Allocator + Clone>(
 /// Where each block is, or the first double name.
 fn index_blocks<'a, A: Allocator + Clone>(
     blocks: &Vec<Block<'a, A>, A>,
-) -> Result<Index<'a, A>, CheckFault>
+) -> Result<Index<'a, A>, CheckRefusal>
     ensures { let names = names_of_blocks blocks.now.items in IsIndexed (block_name_fault names) names result }
 {
     let Ok(alloc) = blocks.allocator().clone() else {
-        return Err(CheckFault::MEMORY);
+        return Err(CheckRefusal::MEMORY);
     };
     let mut index = BTreeMap::new(alloc);
     for (i, block) in blocks.iter().enumerate() {
         if !add(&mut index, block_name(block), i)? {
-            return Err(CheckFault {
-                kind: CheckFaultKind::SameName,
-                block: Some(i as u64),
+            let place = i as u64;
+            return Err(CheckRefusal {
+                cause: CheckCause::SameName { place },
+                block: Some(place),
                 node: None,
             });
         }
@@ -140,10 +142,10 @@ impl<'a, A: Allocator> Model for Named<'a, A> {
 
 impl<'a, A: Allocator> Named<'a, A> {
     /// Looks up the names of a graph, or returns the first double name.
-    pub(crate) fn of(graph: Graph<'a, A>) -> Result<Named<'a, A>, CheckFault>
+    pub(crate) fn of(graph: Graph<'a, A>) -> Result<Named<'a, A>, CheckRefusal>
     where
         A: Clone,
-        ensures { MatchResult result (λ n. (n ≡ graph.entry) × (names_fault graph.entry ≡ None)) (λ e. (e ≡ out_of_memory) ⊎ (names_fault graph.entry ≡ Some e)) }
+        ensures { MatchResult result (λ n. (n ≡ graph.entry) × (names_fault graph.entry ≡ None)) (λ r. (fault_of r ≡ out_of_memory) ⊎ (names_fault graph.entry ≡ Some (fault_of r))) }
     {
         let arrays = index_arrays(&graph.arrays)?;
         let blocks = index_blocks(&graph.blocks)?;

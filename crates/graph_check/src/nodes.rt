@@ -3,19 +3,21 @@
 ghost use Rattle.std.specs.Prelude.{◌≡◌, ℕ, ◌<◌, ◌+◌, ◌^◌, Bool, length, option_copied};
 ghost use Rattle.semantics.specs.Graph as of_graphs;
 ghost use Rattle.semantics.specs.WellFormed as of_regions;
+ghost use Rattle.graph_check.specs.Causes.{fault_kind, kind_in, crossing_kind};
 ghost use Rattle.graph_check.specs.FirstFault as of_faults;
+ghost use Rattle.graph_check.specs.declared.faults.CheckFaultKind.TheVariants.{Arity, NoSuchPort};
 
-use crate::faults::CheckFaultKind;
+use crate::causes::{ArityCause, CheckCause, NameOf, RegionCause, Taker};
 use crate::names::Named;
 use graph::{Block, Name, Node};
 use semantics::graph::{Kind, Region, Source};
 use std::alloc::Allocator;
 
-/// A fault of that kind, unless the test holds.
-pub(crate) fn require(holds: bool, kind: CheckFaultKind) -> Result<(), CheckFaultKind>
-    ensures { of_faults.fault_of result ≡ of_faults.unless holds kind }
+/// A fault of that cause, unless the test holds.
+pub(crate) fn require(holds: bool, cause: CheckCause) -> Result<(), CheckCause>
+    ensures { kind_in result ≡ of_faults.unless holds (fault_kind cause) }
 {
-    if holds { Ok(()) } else { Err(kind) }
+    if holds { Ok(()) } else { Err(cause) }
 }
 
 /// The node line of that number, if it is one.
@@ -112,6 +114,59 @@ fn fits_region<'a, A: Allocator>(
     }
 }
 
+/// Why node `n`, which merges the arms of this conditional, may not lie in this region.
+fn merge_cause<'a, A: Allocator>(
+    block: &Block<'a, A>,
+    n: u64,
+    region: Region,
+    cond: u32,
+) -> RegionCause {
+    if is_earlier_cond(block, n, cond) {
+        let lies = region_of(block, cond);
+        RegionCause::MergeElsewhere { cond, lies, region }
+    } else {
+        RegionCause::NoConditional { cond }
+    }
+}
+
+/// Why node `n` may not lie in its region.
+fn region_cause<'a, A: Allocator>(block: &Block<'a, A>, n: u64, node: &Node<'a, A>) -> RegionCause {
+    if let Region::Arm { cond, .. } = node.region
+        && !is_earlier_cond(block, n, cond)
+    {
+        return RegionCause::NoConditional { cond };
+    }
+    match &node.kind {
+        Kind::Merge { cond } => merge_cause(block, n, node.region, *cond),
+        _ => RegionCause::EnterInRoot,
+    }
+}
+
+/// Node `n` may lie in its region.
+fn check_region<'a, A: Allocator>(
+    block: &Block<'a, A>,
+    n: u64,
+    node: &Node<'a, A>,
+) -> Result<(), CheckCause>
+    ensures { kind_in result ≡ of_faults.region_fault block.now.1 n node.now.region node.now.kind }
+{
+    if !is_good_region(block, n, node.region) {
+        return Err(CheckCause::BadRegion(region_cause(block, n, node)));
+    }
+    if !fits_region(block, n, node.region, &node.kind) {
+        return Err(CheckCause::BadRegion(region_cause(block, n, node)));
+    }
+    Ok(())
+}
+
+/// What a node names.
+fn name_of(kind: &Kind<Name<'_>>) -> NameOf {
+    match kind {
+        Kind::Fetch { .. } | Kind::Store { .. } => NameOf::Array,
+        _ => NameOf::Block,
+    }
+}
+
 /// The array or block that a node names exists.
 fn is_named<'a, A: Allocator>(named: &Named<'a, A>, kind: &Kind<Name<'a>>) -> bool
     ensures { result ≡ of_faults.is_named named.now kind.now }
@@ -156,6 +211,53 @@ fn has_arity<'a, A: Allocator>(named: &Named<'a, A>, kind: &Kind<Name<'a>>, n: u
             takes(shape, n) && gives(shape, n + 1)
         }
         _ => n == 1,
+    }
+}
+
+/// Which number is wrong at a node with `has` sources.
+fn arity_cause<'a, A: Allocator>(
+    named: &Named<'a, A>,
+    kind: &Kind<Name<'a>>,
+    has: u64,
+) -> ArityCause {
+    let shape = match kind {
+        Kind::Call { block } | Kind::StrictCall { block } | Kind::Loop { block, .. } => {
+            named.shape_of(block)
+        }
+        _ => None,
+    };
+    let Some((inputs, outputs)) = shape else {
+        return ArityCause::Sources { has };
+    };
+    let (inputs, outputs) = (u64::from(inputs), u64::from(outputs));
+    if has == inputs {
+        ArityCause::Looped { inputs, outputs }
+    } else {
+        ArityCause::Inputs { has, wants: inputs }
+    }
+}
+
+/// A node takes `n` sources.
+fn check_arity<'a, A: Allocator>(
+    named: &Named<'a, A>,
+    kind: &Kind<Name<'a>>,
+    n: u64,
+) -> Result<(), CheckCause>
+    requires { n < 2 ^ 63 }
+    ensures { kind_in result ≡ of_faults.unless (of_faults.has_arity named.now kind.now n) Arity }
+{
+    if has_arity(named, kind, n) {
+        Ok(())
+    } else {
+        Err(CheckCause::Arity(arity_cause(named, kind, n)))
+    }
+}
+
+/// The bound of a loop.
+fn bound_of(kind: &Kind<Name<'_>>) -> u32 {
+    match kind {
+        Kind::Loop { bound, .. } => *bound,
+        _ => 0,
     }
 }
 
@@ -213,22 +315,53 @@ fn has_port<'a, A: Allocator>(named: &Named<'a, A>, block: &Block<'a, A>, source
     }
 }
 
-/// A source of node `n` is an output port of an earlier node that lies in the wanted region.
+/// How many output ports the source's node has, if that one is none of them.
+fn port_count<'a, A: Allocator>(named: &Named<'a, A>, block: &Block<'a, A>, source: Source) -> u32 {
+    let node = source.node;
+    for port in 0..source.port {
+        if !has_port(named, block, Source { node, port }) {
+            return port;
+        }
+    }
+    source.port
+}
+
+/// The source's node has that output port.
+fn check_port<'a, A: Allocator>(
+    named: &Named<'a, A>,
+    block: &Block<'a, A>,
+    source: Source,
+) -> Result<(), CheckCause>
+    ensures { kind_in result ≡ of_faults.unless (of_faults.has_port named.now (of_graphs.node_at block.now.1 source.node) source.port) NoSuchPort }
+{
+    if has_port(named, block, source) {
+        Ok(())
+    } else {
+        let ports = port_count(named, block, source);
+        Err(CheckCause::NoSuchPort { source, ports })
+    }
+}
+
+/// A source of node `n`, or of the line of outputs, is an output port of an earlier node that lies in the wanted region.
 pub(crate) fn check_source<'a, A: Allocator>(
     named: &Named<'a, A>,
     block: &Block<'a, A>,
     n: u64,
     wanted: Region,
-    otherwise: CheckFaultKind,
+    taker: Taker,
     source: Source,
-) -> Result<(), CheckFaultKind>
-    ensures { of_faults.fault_of result ≡ of_faults.source_fault named.now block.now.1 n wanted otherwise source }
+) -> Result<(), CheckCause>
+    ensures { kind_in result ≡ of_faults.source_fault named.now block.now.1 n wanted (crossing_kind taker) source }
 {
-    require(u64::from(source.node) < n, CheckFaultKind::SourceNotEarlier)?;
-    require(has_port(named, block, source), CheckFaultKind::NoSuchPort)?;
     require(
-        same_region(region_of(block, source.node), wanted),
-        otherwise,
+        u64::from(source.node) < n,
+        CheckCause::SourceNotEarlier(source),
+    )?;
+    check_port(named, block, source)?;
+    let lies = region_of(block, source.node);
+    require(
+        same_region(lies, wanted),
+        taker.crossing(source, lies, wanted),
     )
 }
 
@@ -262,19 +395,12 @@ fn check_sources<'a, A: Allocator>(
     region: Region,
     kind: &Kind<Name<'a>>,
     sources: &[Source],
-) -> Result<(), CheckFaultKind>
-    ensures { of_faults.fault_of result ≡ of_faults.sources_fault named.now block.now.1 n region kind.now sources.now }
+) -> Result<(), CheckCause>
+    ensures { kind_in result ≡ of_faults.sources_fault named.now block.now.1 n region kind.now sources.now }
 {
     for (i, source) in sources.iter().enumerate() {
         let wanted = wanted_region(block, region, kind, i);
-        check_source(
-            named,
-            block,
-            n,
-            wanted,
-            CheckFaultKind::CrossesRegion,
-            *source,
-        )?;
+        check_source(named, block, n, wanted, Taker::Node, *source)?;
     }
     Ok(())
 }
@@ -285,20 +411,14 @@ pub(crate) fn check_node<'a, A: Allocator>(
     block: &Block<'a, A>,
     n: u64,
     node: &Node<'a, A>,
-) -> Result<(), CheckFaultKind>
-    ensures { of_faults.fault_of result ≡ of_faults.node_fault named.now block.now.1 n node.now }
+) -> Result<(), CheckCause>
+    ensures { kind_in result ≡ of_faults.node_fault named.now block.now.1 n node.now }
 {
-    require(
-        is_good_region(block, n, node.region),
-        CheckFaultKind::BadRegion,
-    )?;
-    require(
-        fits_region(block, n, node.region, &node.kind),
-        CheckFaultKind::BadRegion,
-    )?;
-    require(is_named(named, &node.kind), CheckFaultKind::NoSuchName)?;
+    check_region(block, n, node)?;
+    let kind = &node.kind;
+    require(is_named(named, kind), CheckCause::NoSuchName(name_of(kind)))?;
     let count = node.sources.len() as u64;
-    require(has_arity(named, &node.kind, count), CheckFaultKind::Arity)?;
-    require(is_bounded(&node.kind), CheckFaultKind::BadBound)?;
-    check_sources(named, block, n, node.region, &node.kind, &node.sources)
+    check_arity(named, kind, count)?;
+    require(is_bounded(kind), CheckCause::BadBound(bound_of(kind)))?;
+    check_sources(named, block, n, node.region, kind, &node.sources)
 }

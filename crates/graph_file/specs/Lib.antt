@@ -1,3 +1,4 @@
+pub mod Causes
 pub mod Giving
 pub mod Lines
 pub mod Fields

@@ -1,9 +1,5 @@
 //! Why a text could not be read.
 
-ghost use Rattle.std.specs.Prelude.{◌≡◌};
-ghost use Rattle.graph_file.specs.declared.fault.ReadFaultKind.TheVariants.{Memory};
-
-use std::alloc::{AllocError, AllocFailed};
 use thiserror::Error;
 
 /// What is wrong with a text: the first fault of its lines in order.
@@ -44,20 +40,4 @@ pub enum ReadFaultKind {
 pub struct ReadFault {
     pub kind: ReadFaultKind,
     pub line: u64,
-}
-
-impl From<AllocError> for ReadFaultKind {
-    ghost from_gives = { λ _ e. e ≡ Memory };
-
-    fn from(_e: AllocError) -> ReadFaultKind {
-        ReadFaultKind::Memory
-    }
-}
-
-impl<T: Drop> From<AllocFailed<T>> for ReadFaultKind {
-    ghost from_gives = { λ _ e. e ≡ Memory };
-
-    fn from(_e: AllocFailed<T>) -> ReadFaultKind {
-        ReadFaultKind::Memory
-    }
 }

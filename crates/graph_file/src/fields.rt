@@ -6,7 +6,7 @@ ghost use Rattle.std.specs.Char.{is_ascii_digit};
 ghost use Rattle.graph_file.specs.Giving.{Gives};
 ghost use Rattle.graph_file.specs.Fields.{is_numeral, number_of, is_literal, literal_of, is_letter, is_name_rest, is_name, source_of, region_of, field_from, number_from, literal_from, name_from, sources_from};
 
-use crate::fault::ReadFaultKind;
+use crate::cause::{LineCause, NumberCause, ReadCause};
 use crate::parts::Parts;
 use graph::Name;
 use semantics::graph::{Region, Source};
@@ -129,42 +129,52 @@ pub(crate) fn region(bytes: &[u8]) -> Option<Region>
     Some(Region::Arm { cond, side })
 }
 
-/// The first field, and the fields after it.
+/// The first field, and the fields after it. The one field that may be missing is the kind of a node: each line has a first one, and
+/// a line with too few fields for its form is refused before they are read.
 #[tactic(auto, unfolding(crate::specs::Fields::field_from))]
-pub(crate) fn field_of<'a>(fields: Parts<'a>) -> Result<(&'a [u8], Parts<'a>), ReadFaultKind>
+pub(crate) fn field_of<'a>(fields: Parts<'a>) -> Result<(&'a [u8], Parts<'a>), ReadCause>
     ensures { Gives (λ x. (x.0.now, x.1)) result (field_from fields.entry) }
 {
-    fields.split_first().ok_or(ReadFaultKind::BadLine)
+    match fields.split_first() {
+        Some((field, rest)) => Ok((field, rest)),
+        None => Err(ReadCause::BadLine(LineCause::NoKind)),
+    }
 }
 
 /// A number, and the fields after it.
 #[tactic(auto, unfolding(crate::specs::Fields::number_from))]
-pub(crate) fn number_field<'a>(fields: Parts<'a>) -> Result<(u32, Parts<'a>), ReadFaultKind>
+pub(crate) fn number_field<'a>(fields: Parts<'a>) -> Result<(u32, Parts<'a>), ReadCause>
     ensures { Gives (λ x. (x.0, x.1)) result (number_from fields.entry) }
 {
     let (field, rest) = field_of(fields)?;
-    let n = number(field).ok_or(ReadFaultKind::BadNumber)?;
+    let Some(n) = number(field) else {
+        let place = rest.place_of(field);
+        return Err(ReadCause::BadNumber(NumberCause::Number(place)));
+    };
     Ok((n, rest))
 }
 
 /// A literal, and the fields after it.
 #[tactic(auto, unfolding(crate::specs::Fields::literal_from))]
-pub(crate) fn literal_field<'a>(fields: Parts<'a>) -> Result<(i64, Parts<'a>), ReadFaultKind>
+pub(crate) fn literal_field<'a>(fields: Parts<'a>) -> Result<(i64, Parts<'a>), ReadCause>
     ensures { Gives (λ x. (x.0, x.1)) result (literal_from fields.entry) }
 {
     let (field, rest) = field_of(fields)?;
-    let z = literal(field).ok_or(ReadFaultKind::BadNumber)?;
+    let Some(z) = literal(field) else {
+        let place = rest.place_of(field);
+        return Err(ReadCause::BadNumber(NumberCause::Literal(place)));
+    };
     Ok((z, rest))
 }
 
 /// A name, and the fields after it.
 #[tactic(auto, unfolding(crate::specs::Fields::name_from))]
-pub(crate) fn name_field<'a>(fields: Parts<'a>) -> Result<(Name<'a>, Parts<'a>), ReadFaultKind>
+pub(crate) fn name_field<'a>(fields: Parts<'a>) -> Result<(Name<'a>, Parts<'a>), ReadCause>
     ensures { Gives (λ x. (x.0, x.1)) result (name_from fields.entry) }
 {
     let (field, rest) = field_of(fields)?;
     if !is_name(field) {
-        return Err(ReadFaultKind::BadName);
+        return Err(ReadCause::BadName(rest.place_of(field)));
     }
     Ok((Name { bytes: field }, rest))
 }
@@ -173,14 +183,15 @@ pub(crate) fn name_field<'a>(fields: Parts<'a>) -> Result<(Name<'a>, Parts<'a>),
 pub(crate) fn source_fields<A: Allocator>(
     alloc: A,
     fields: Parts<'_>,
-) -> Result<Vec<Source, A>, ReadFaultKind>
+) -> Result<Vec<Source, A>, ReadCause>
     ensures { Gives (λ v. v.items) result (sources_from fields.entry) }
 {
     let mut sources = Vec::new(alloc);
     let mut rest = fields;
     while let Some((field, after)) = rest.split_first() {
         let Some(source) = source(field) else {
-            return Err(ReadFaultKind::BadNumber);
+            let place = after.place_of(field);
+            return Err(ReadCause::BadNumber(NumberCause::Source(place)));
         };
         sources.push(source)?;
         rest = after;

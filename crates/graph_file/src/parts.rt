@@ -57,6 +57,23 @@ impl<'a> Parts<'a> {
         Some((part, Parts { rest, separator }))
     }
 
+    /// The place of this field, where these are the fields after it.
+    pub fn place_of(&self, field: &[u8]) -> FieldPlace {
+        let rest = match self.rest {
+            None => field.len(),
+            Some(bytes) => field.len().saturating_add(1).saturating_add(bytes.len()),
+        };
+        FieldPlace { rest }
+    }
+
+    /// How many parts are left.
+    pub(crate) fn count(&self) -> u64 {
+        match self.rest {
+            None => 0,
+            Some(bytes) => (count_of(bytes, self.separator) as u64).saturating_add(1),
+        }
+    }
+
     /// Whether exactly `n` parts are left.
     #[tactic(auto, using(crate::proofs::Taking::count_parts))]
     pub fn has(&self, n: usize) -> bool
@@ -76,6 +93,41 @@ impl<'a> Parts<'a> {
         match self.rest {
             None => n != 0,
             Some(bytes) => n != 0 && count_of(bytes, self.separator) < n - 1,
+        }
+    }
+}
+
+/// Where in its line a field is, or a byte.
+#[derive(Clone, Copy, Debug)]
+pub struct FieldPlace {
+    /// How many bytes the line has from there on.
+    rest: usize,
+}
+
+impl FieldPlace {
+    /// The place in this line with that many bytes before it.
+    pub(crate) fn after(before: usize, line: &[u8]) -> FieldPlace {
+        FieldPlace {
+            rest: line.len().saturating_sub(before),
+        }
+    }
+
+    /// How many bytes of the line are before it.
+    fn before(self, line: &[u8]) -> usize {
+        line.len().saturating_sub(self.rest)
+    }
+
+    /// Its column in the line, from 1.
+    pub fn column(self, line: &[u8]) -> u64 {
+        (self.before(line) as u64).saturating_add(1)
+    }
+
+    /// The field of the line that begins there.
+    pub fn field<'a>(self, line: &'a [u8]) -> &'a [u8] {
+        let rest = line.get(self.before(line)..).unwrap_or(b"");
+        match Parts::of(rest, b' ').split_first() {
+            Some((field, _)) => field,
+            None => rest,
         }
     }
 }
@@ -110,7 +162,7 @@ pub(crate) fn is_line(line: &[u8]) -> bool
 }
 
 /// Whether a line may have the byte.
-fn is_printed(b: u8) -> bool
+pub(crate) fn is_printed(b: u8) -> bool
     ensures { result ≡ is_printed b }
 {
     b' ' <= b && b <= b'~'

@@ -3,6 +3,7 @@
 ghost use Rattle.std.specs.Prelude.{◌≡◌, ◌+◌, ℕ, length};
 ghost use Rattle.graph_file.specs.Words.{operator_of, common_of, word_of, operand_count, source_count, has_form, has_room};
 
+use crate::cause::LineCause;
 use crate::parts::Parts;
 use operators::{Binary, Unary};
 use semantics::version::Version;
@@ -73,7 +74,19 @@ impl Word {
         }
     }
 
-    /// Whether these are more fields than the most sources leave room for.
+    /// What is wrong with as many fields as these after the word, where a line may not have so many.
+    pub(crate) fn misfit(self, fields: &Parts<'_>) -> LineCause {
+        let has = fields.count();
+        match (self.operands(), self.sources()) {
+            (0, Some(sources)) => LineCause::Sources {
+                has,
+                wants: sources as u64,
+            },
+            _ => LineCause::Operands(has),
+        }
+    }
+
+    /// Whether these are not more fields than the most sources leave room for.
     #[tactic(auto, unfolding(crate::specs::Words::has_room))]
     pub(crate) fn has_room(self, fields: &Parts<'_>) -> bool
         ensures { result ≡ has_room self (length fields.now) }

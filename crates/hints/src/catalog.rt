@@ -100,6 +100,7 @@ byte-in-graph: column $1 has byte $2: a line is of the bytes 32 to 126
 spacing: one space separates two fields, and a line neither begins nor ends with a space: see column $1
 form: the form is `$1`: this line has $2 after `$3`
 no-block-yet: `$1` begins no line here: `array`, `block` and `main` do, and nodes are inside a block
+late-array: `array` lines come before the first block
 no-block-open: `$1` begins no line here: `block` and `main` do, and nodes are inside a block
 strict-call: only a graph with the header `etsgraph 2` has `scall`
 unknown-kind: `$1` is no kind of node: lit, cond, enter, merge, fetch, store, call, loop, neg, not, add, sub, ..
@@ -114,8 +115,10 @@ no-source: `$1` is no source: that is `N.P`, for port P of node N
 large-literal: `$1` is not within 64 bits, from -9223372036854775808 to 9223372036854775807
 
 code-block: code block $1 is that of block $2
+same-array: an array before it is called $1, too
 iterations: code block $1 is that of the iterations of block $2
 enter-in-root: an `enter` is in an arm, `K+` or `K-`, and not in the root
+no-cond: node $1 is no `cond` before this line, so it has no arms
 merge-elsewhere: a merge lies where its `cond` lies: node $1 lies in $2, this line in $3
 looped-block: a block that is looped has one output more than inputs: $1 has $2 and $3
 late-source: `$1` is of no earlier node: a source names a node whose number is lower than this one's, $2

@@ -1,8 +1,8 @@
-//! What is wrong with a field of a line.
+//! Why a field of a line, or an input, is not what is wanted there.
 
 use crate::lines::text_of;
 use crate::message::{Bytes, Message, Number, say};
-use graph_file::{literal, number};
+use graph_file::number;
 
 fn are_digits(bytes: &[u8]) -> bool {
     !bytes.is_empty() && bytes.iter().all(|byte| byte.is_ascii_digit())
@@ -17,57 +17,42 @@ fn digits_text(digits: &[u8], none: &'static str, large: &'static str) -> &'stat
     }
 }
 
-fn number_fault(field: &[u8]) -> Option<Message<'_>> {
+/// Why the field is no number.
+pub fn number_fault(field: &[u8]) -> Message<'_> {
     let text = digits_text(field, "no-number", "`$1` is above 4294967295");
-    let cause = say(text).with(&[Bytes(field)]);
-    number(field).is_none().then_some(cause)
+    say(text).with(&[Bytes(field)])
 }
 
-pub fn literal_fault(field: &[u8]) -> Option<Message<'_>> {
+/// Why the field is no literal.
+pub fn literal_fault(field: &[u8]) -> Message<'_> {
     let digits = field.strip_prefix(b"-".as_slice()).unwrap_or(field);
     let text = match text_of(field) {
         "-0" => "`$1` is written `0`",
         _ => digits_text(digits, "no-literal", "large-literal"),
     };
-    let cause = say(text).with(&[Bytes(field)]);
-    literal(field).is_none().then_some(cause)
+    say(text).with(&[Bytes(field)])
 }
 
-fn source_fault(field: &[u8]) -> Option<Message<'_>> {
+/// Why the field is no source.
+pub fn source_fault(field: &[u8]) -> Message<'_> {
     let mut parts = field.splitn(2, |byte| *byte == b'.');
     let node = parts.next().unwrap_or(b"");
     match parts.next() {
-        Some(port) if are_digits(node) && (are_digits(port) || number(node).is_none()) => {
-            number_fault(node).or(number_fault(port))
-        }
-        _ => Some(say("no-source").with(&[Bytes(field)])),
+        Some(_port) if are_digits(node) && number(node).is_none() => number_fault(node),
+        Some(port) if are_digits(node) && are_digits(port) => number_fault(port),
+        _ => say("no-source").with(&[Bytes(field)]),
     }
 }
 
-fn name_fault(field: &[u8]) -> Option<Message<'_>> {
+/// Why the field is no name.
+pub fn name_fault(field: &[u8]) -> Message<'_> {
     let is_name_byte = |byte: &u8| byte.is_ascii_alphanumeric() || *byte == b'_';
     let text = if !field.first().copied().unwrap_or(b' ').is_ascii_alphabetic() {
         "`$1` is no name: that begins with a letter"
     } else if !field.iter().all(is_name_byte) {
         "`$1` is no name: that has letters, digits and `_` alone"
-    } else if field.len() > 32 {
-        "the name `$1` has $2 bytes, and 32 are the most"
     } else {
-        return None;
+        "the name `$1` has $2 bytes, and 32 are the most"
     };
-    Some(say(text).with(&[Bytes(field), Number(field.len() as u64)]))
-}
-
-/// What is wrong with the field where a form has this word.
-pub fn field_fault<'a>(word: &str, field: &'a [u8]) -> Option<Message<'a>> {
-    match word {
-        "V" => literal_fault(field),
-        "NAME" | "A" | "F" => name_fault(field),
-        "LEN" if text_of(field) == "0" => Some(say("an array has at least one cell")),
-        "S" | "S.." | "T" => source_fault(field),
-        "LEN" | "K" | "k" | "INPUTS" | "OUTPUTS" | "VERSION" | "BLOCK" | "I" | "O" | "CELLS" => {
-            number_fault(field)
-        }
-        _ => None,
-    }
+    say(text).with(&[Bytes(field), Number(field.len() as u64)])
 }

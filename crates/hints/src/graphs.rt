@@ -1,148 +1,109 @@
 //! What is wrong with a graph that is not well formed, or that has no code.
 
-use crate::blocks::{Block, Node, is_source, number_in};
-use crate::lines::{is_line_feed, is_space, last_line, line_at, text_at, text_of, word_at};
+use crate::blocks::Block;
+use crate::lines::{is_line_feed, last_line, line_at, text_at, word_at};
 use crate::message::{
-    Bytes, Checking, Count, Found, Lies, Message, Number, Word, at, at_line, say,
+    Bytes, Checking, Count, Found, Lies, Message, Number, Output, Word, at, at_line, say,
 };
-use graph_check::{CheckFault, CheckFaultKind};
-use graph_file::number;
-use semantics::graph::Region;
+use graph_check::{ArityCause, CheckCause, CheckFaultKind, CheckRefusal, NameOf, RegionCause};
 
-impl<'a> Node<'a> {
-    /// Whether node `cond` is a conditional before this one.
-    fn is_earlier_cond(&self, cond: u32) -> bool {
-        let cond = u64::from(cond);
-        cond < self.number && self.block.node(cond).kind == "cond"
-    }
-
-    /// The conditional that a merge names.
-    fn merged(&self) -> u32 {
-        number(word_at(self.line, 2)).unwrap_or(0)
-    }
-
-    /// The cause for a region that is bad, or that a node like this may not lie in.
-    fn region_cause(&self) -> Message<'a> {
-        let cond = match (self.region, self.kind) {
-            (Region::Arm { cond, .. }, _) if !self.is_earlier_cond(cond) => cond,
-            (_, "enter") => return say("enter-in-root"),
-            _ => self.merged(),
-        };
-        let node = Number(u64::from(cond));
-        if !self.is_earlier_cond(cond) {
-            return say("node $1 is no `cond` before this line, so it has no arms").with(&[node]);
+/// The cause for a region that is bad, or that a node may not lie in.
+fn region_cause<'a>(cause: RegionCause) -> Message<'a> {
+    match cause {
+        RegionCause::NoConditional { cond } => say("no-cond").with(&[Number(u64::from(cond))]),
+        RegionCause::EnterInRoot => say("enter-in-root"),
+        RegionCause::MergeElsewhere { cond, lies, region } => {
+            say("merge-elsewhere").with(&[Number(u64::from(cond)), Lies(lies), Lies(region)])
         }
-        let lies = Lies(self.block.node(u64::from(cond)).region);
-        say("merge-elsewhere").with(&[node, lies, Lies(self.region)])
-    }
-
-    /// The cause for another number of sources than the block has outputs, or the one that the node names has inputs.
-    fn arity_cause(&self) -> Message<'a> {
-        let (block, has) = (self.called(), self.source_count());
-        let (wants, noun) = match self.kind {
-            "out" => (block.outputs, "output"),
-            _ => (block.inputs, "input"),
-        };
-        let (name, wanted) = (Word(block.name), Count(wants, noun));
-        if has != wants {
-            let pieces = [name, wanted, Count(has, "source")];
-            return say("block $1 has $2, this line has $3").with(&pieces);
-        }
-        say("looped-block").with(&[name, wanted, Count(block.outputs, "output")])
-    }
-
-    /// The region in which the source at `place` of the line has to lie.
-    fn wanted_region(&self, place: usize) -> Region {
-        match (self.kind, self.region) {
-            ("enter", Region::Arm { cond, .. }) => self.block.node(u64::from(cond)).region,
-            ("merge", _) => {
-                let (cond, side) = (self.merged(), place == 0);
-                Region::Arm { cond, side }
-            }
-            (_, region) => region,
-        }
-    }
-
-    /// The cause for the source at `place` of the line, if that is not in order.
-    fn source_cause(&self, place: usize, source: &'a [u8]) -> Option<Message<'a>> {
-        let (number, port) = text_of(source).split_once('.')?;
-        let (number, port) = (number_in(number), number_in(port));
-        let (node, wanted) = (self.block.node(number), self.wanted_region(place));
-        let (late, apart) = match self.kind {
-            "out" => ("late-result", "result-in-arm"),
-            _ => ("late-source", "crossing-source"),
-        };
-        if number >= self.number {
-            let (nodes, name) = (Count(self.number, "node"), Word(self.block.name));
-            return Some(say(late).with(&[Bytes(source), Number(self.number), nodes, name]));
-        }
-        if port >= node.ports() {
-            let ports = Count(node.ports(), "output port");
-            let pieces = [Number(number), ports, Number(port)];
-            return Some(say("node $1 has $2, and no port $3").with(&pieces));
-        }
-        let cause = say(apart).with(&[Bytes(source), Lies(node.region), Lies(wanted)]);
-        (node.region != wanted).then_some(cause)
-    }
-
-    /// The cause of a fault of this kind.
-    fn cause(&self, kind: CheckFaultKind) -> Message<'a> {
-        match kind {
-            CheckFaultKind::Arity => return self.arity_cause(),
-            CheckFaultKind::BadRegion => return self.region_cause(),
-            CheckFaultKind::BadBound => return say("bound").with(&[Word(text_at(self.line, 3))]),
-            CheckFaultKind::NoSuchName => {
-                let is_array = matches!(self.kind, "fetch" | "store");
-                let noun = if is_array { "array" } else { "block" };
-                return say("there is no $1 $2").with(&[Word(noun), Word(text_at(self.line, 2))]);
-            }
-            _ => (),
-        }
-        for (place, source) in self.line.split(is_space).filter(is_source).enumerate() {
-            if let Some(cause) = self.source_cause(place, source) {
-                return cause;
-            }
-        }
-        say("kind").with(&[Checking(kind)])
-    }
-
-    /// A fault of this kind there.
-    fn fault(&self, kind: CheckFaultKind) -> Found<'a> {
-        let (number, name) = (Number(self.number), Word(self.block.name));
-        let place = match self.kind {
-            "out" => "in block $2, line $3 is `$4`",
-            _ => "node $1 of block $2, line $3, is `$4`",
-        };
-        let place = say(place).with(&[number, name, Number(self.place), Bytes(self.line)]);
-        at(place, self.cause(kind))
     }
 }
 
-/// The number of the first line whose second word is that of a line before it.
-fn same_name(text: &[u8]) -> u64 {
-    for (place, line) in text.split(is_line_feed).enumerate() {
-        for other in text.split(is_line_feed).take(place) {
-            if word_at(other, 1) == word_at(line, 1) {
-                return (place as u64).saturating_add(1);
-            }
+/// The cause for another number of sources than the block has outputs, or the named one has inputs.
+fn arity_cause<'a>(cause: ArityCause, block: &'a str, named: &'a str) -> Message<'a> {
+    let (name, wants, has) = match cause {
+        ArityCause::Outputs { has, wants } => (block, Count(wants, "output"), has),
+        ArityCause::Inputs { has, wants } => (named, Count(wants, "input"), has),
+        ArityCause::Looped { inputs, outputs } => {
+            let (inputs, outputs) = (Count(inputs, "input"), Count(outputs, "output"));
+            return say("looped-block").with(&[Word(named), inputs, outputs]);
         }
+        // Lines of texts that were read have as many sources as their kinds take.
+        ArityCause::Sources { .. } => return say("kind").with(&[Checking(CheckFaultKind::Arity)]),
+    };
+    say("block $1 has $2, this line has $3").with(&[Word(name), wants, Count(has, "source")])
+}
+
+/// The cause for a name that nothing has.
+fn name_cause<'a>(of: NameOf, name: &'a str) -> Message<'a> {
+    let is_array = matches!(of, NameOf::Array);
+    let noun = if is_array { "array" } else { "block" };
+    say("there is no $1 $2").with(&[Word(noun), Word(name)])
+}
+
+/// The cause of a refusal for which no name is shown.
+fn nameless_cause<'a>(refusal: CheckRefusal) -> Message<'a> {
+    match refusal.cause {
+        CheckCause::BadRegion(cause) => region_cause(cause),
+        CheckCause::BadBound(bound) => say("bound").with(&[Number(u64::from(bound))]),
+        CheckCause::NoSuchPort { source, ports } => {
+            let (node, port) = (u64::from(source.node), u64::from(source.port));
+            let ports = Count(u64::from(ports), "output port");
+            say("node $1 has $2, and no port $3").with(&[Number(node), ports, Number(port)])
+        }
+        CheckCause::CrossesRegion {
+            source,
+            lies,
+            wanted,
+        } => say("crossing-source").with(&[Output(source), Lies(lies), Lies(wanted)]),
+        CheckCause::OutNotRoot { source, lies } => {
+            say("result-in-arm").with(&[Output(source), Lies(lies)])
+        }
+        _ => say("kind").with(&[Checking(refusal.fault().kind)]),
     }
-    0
+}
+
+/// The cause of a refusal at a node of this block, whose line has this as its third word.
+fn node_cause<'a>(refusal: CheckRefusal, block: &'a str, named: &'a str) -> Message<'a> {
+    match refusal.cause {
+        CheckCause::Arity(cause) => arity_cause(cause, block, named),
+        CheckCause::NoSuchName(of) => name_cause(of, named),
+        _ => nameless_cause(refusal),
+    }
+}
+
+/// Why a node of this block is not in order, or the line of results, whose number is that of nodes.
+fn node_fault<'a>(text: &'a [u8], block: Block<'a>, refusal: CheckRefusal) -> Option<Found<'a>> {
+    let number = refusal.node?;
+    let place = block.line.saturating_add(1).saturating_add(number);
+    let place = place.saturating_sub(block.inputs);
+    let line = line_at(text, place);
+    let (shown, late) = match text_at(line, 0) {
+        "out" => ("in block $2, line $3 is `$4`", "late-result"),
+        _ => ("node $1 of block $2, line $3, is `$4`", "late-source"),
+    };
+    let (node, name) = (Number(number), Word(block.name));
+    let shown = say(shown).with(&[node, name, Number(place), Bytes(line)]);
+    if let CheckCause::SourceNotEarlier(source) = refusal.cause {
+        let nodes = Count(number, "node");
+        return Some(at(shown, say(late).with(&[Output(source), node, nodes, name])));
+    }
+    Some(at(shown, node_cause(refusal, block.name, text_at(line, 2))))
 }
 
 /// Why the graph of the text is not well formed.
-pub fn graph_fault(text: &[u8], fault: CheckFault) -> Option<Found<'_>> {
-    let (number, name) = match (fault.block, fault.kind) {
-        (None, CheckFaultKind::NoSuchName) => (last_line(text), "there is no block $1 to be run"),
-        (None, _) => (same_name(text), "an array before it is called $1, too"),
-        (Some(place), kind) => {
+pub fn graph_fault(text: &[u8], refusal: CheckRefusal) -> Option<Found<'_>> {
+    let (number, name) = match (refusal.block, refusal.cause) {
+        // The arrays are in the lines after the first one.
+        (None, CheckCause::SameName { place }) => (place.saturating_add(2), "same-array"),
+        (None, _) => (last_line(text), "there is no block $1 to be run"),
+        (Some(place), cause) => {
             let block = Block::of(text, None, place)?;
-            if let Some(number) = fault.node {
-                return Some(block.node(number).fault(kind));
+            if refusal.node.is_some() {
+                return node_fault(text, block, refusal);
             }
-            let name = match kind {
-                CheckFaultKind::SameName => "a block before it is called $1, too",
-                CheckFaultKind::NoInput => "a block has at least one input",
+            let name = match cause {
+                CheckCause::SameName { .. } => "a block before it is called $1, too",
+                CheckCause::NoInput => "a block has at least one input",
                 _ => "a block has at least one output",
             };
             (block.line, name)

@@ -79,12 +79,12 @@ fn refusal_fault<'a, S: AsStr>(
         _ => input,
     };
     match refusal {
-        Refusal::Read(fault) => Some(text_fault(fault, text, command)),
-        Refusal::Check(fault) => graph_fault(text, fault),
+        Refusal::Read(refusal) => Some(text_fault(refusal, text, command)),
+        Refusal::Check(refusal) => graph_fault(text, refusal),
         Refusal::TooManySlots(block) => code_fault(text, block, say("too-many-slots")),
         Refusal::TooFar(block) => code_fault(text, block, say("too-far")),
         Refusal::Object(_fault) => object_fault(input),
-        Refusal::Asm(fault) => Some(listing_fault(fault, input)),
+        Refusal::Asm(refusal) => Some(listing_fault(refusal, input)),
         Refusal::Program(refusal) => Some(program_fault(input, refusal)),
         Refusal::InputLine(number) => Some(input_fault(input, number)),
         Refusal::Input | Refusal::Start(_) | Refusal::Memory => None,
@@ -96,10 +96,10 @@ fn unlocated<'a>(case: &Case<'_, '_>, refusal: Refusal) -> Message<'a> {
     let part = match refusal {
         Refusal::Input => return say("unread"),
         Refusal::Memory => return memory_cause(case.request),
-        Refusal::Read(fault) => return say("kind").with(&[Reading(fault.kind)]),
-        Refusal::Check(fault) => return say("kind").with(&[Checking(fault.kind)]),
+        Refusal::Read(refusal) => return say("kind").with(&[Reading(refusal.fault().kind)]),
+        Refusal::Check(refusal) => return say("kind").with(&[Checking(refusal.fault().kind)]),
         Refusal::Program(refusal) => return kind_message(refusal.fault.kind),
-        Refusal::Asm(_fault) => "Faults of assembling",
+        Refusal::Asm(_refusal) => "Faults of assembling",
         Refusal::Object(_fault) => "Refusals of an object",
         _ => "Refusals",
     };

@@ -2,7 +2,7 @@
 
 use std::str;
 
-pub fn is_space(byte: &u8) -> bool {
+fn is_space(byte: &u8) -> bool {
     *byte == b' '
 }
 
@@ -38,10 +38,10 @@ pub fn text_at(line: &[u8], place: usize) -> &str {
     text_of(word_at(line, place))
 }
 
-/// How many words a line has after the first ones.
-pub fn words_after(line: &[u8], first: u64) -> u64 {
+/// How many words a line has.
+pub fn word_count(line: &[u8]) -> u64 {
     let words = line.split(is_space).filter(|word| !word.is_empty());
-    (words.count() as u64).saturating_sub(first)
+    words.count() as u64
 }
 
 /// The column of the first field of the line that has these bytes, from 1.
@@ -61,6 +61,15 @@ pub fn said(line: &[u8]) -> &[u8] {
     line.split(|byte| *byte == b';').next().unwrap_or(line)
 }
 
+/// The name of the last block that begins before line `number`; empty where there is none.
+pub fn block_before(text: &[u8], number: u64) -> &[u8] {
+    let lines = text
+        .split(is_line_feed)
+        .take(number.saturating_sub(1) as usize);
+    let head = lines.filter(|line| text_at(*line, 0) == "block").last();
+    word_at(head.unwrap_or(b""), 1)
+}
+
 /// Splits the input in two: the graph's text, up to the end of the first line that begins with `main `, and what follows it.
 pub fn split_graph(input: &[u8]) -> (&[u8], &[u8]) {
     let mut is_main = input.starts_with(b"main ");
@@ -74,50 +83,4 @@ pub fn split_graph(input: &[u8]) -> (&[u8], &[u8]) {
         }
     }
     (input, b"")
-}
-
-/// What a line with this first word is about: the word itself, or an instruction or a node of a block.
-pub fn subject_of(word: &str) -> &str {
-    match word {
-        "array" | "block" | "literal" => word,
-        _ => "instruction",
-    }
-}
-
-/// What the lines before a line of a graph or of a listing say, each of which is in order.
-#[derive(Clone, Copy)]
-pub struct Before<'a> {
-    /// The first word of the last one; empty before the first one.
-    pub last: &'a str,
-    /// The second word of the last block's first line.
-    pub block: &'a [u8],
-    /// How many have the subject of the line; of instructions and nodes those of the last block.
-    pub count: u64,
-}
-
-impl<'a> Before<'a> {
-    /// What is before line `number`, counted from 1.
-    pub fn of(text: &'a [u8], number: u64) -> Before<'a> {
-        let own = subject_of(text_at(said(line_at(text, number)), 0));
-        let (mut last, mut block): (&[u8], &[u8]) = (b"", b"");
-        let mut count = 0u64;
-        let lines = number.saturating_sub(1) as usize;
-        for line in text.split(is_line_feed).take(lines) {
-            let word = word_at(said(line), 0);
-            let subject = subject_of(text_of(word));
-            match text_of(word) {
-                "" => continue,
-                "block" => block = word_at(line, 1),
-                _ => (),
-            }
-            if subject == own {
-                count = count.saturating_add(1);
-            } else if subject == "block" && own == "instruction" {
-                count = 0;
-            }
-            last = word;
-        }
-        let last = text_of(last);
-        Before { last, block, count }
-    }
 }

@@ -1,17 +1,11 @@
-//! What is wrong with a listing, for each kind of fault.
+//! What is wrong with a listing, for each cause of a refusal.
 
 use crate::catalog::found;
-use crate::fields::field_fault;
-use crate::lines::{Before, line_at, said, subject_of, text_at, text_of, word_at, words_after};
-use crate::message::{Bytes, Count, Found, Message, Number, Word, at_line, nowhere, say};
-use assembler::{AsmFault, AsmFaultKind};
-use graph_file::{literal, number};
+use crate::fields::{literal_fault, number_fault};
+use crate::lines::{line_at, said, text_at, word_at, word_count};
+use crate::message::{Bytes, Count, Found, Message, Number, Piece, Word, at_line, nowhere, say};
+use assembler::{AsmCause, AsmLineCause, AsmNumberCause, AsmRefusal, InstrWord, SlotCause, Unfit};
 use semantics::opcode::Opcode;
-
-/// The text of a line about this in this group.
-fn text_on(group: &str, subject: &str) -> &'static str {
-    found(group, subject).unwrap_or("")
-}
 
 /// The cause for a byte that separates no words, though it looks so.
 fn stray_byte<'a>(line: &[u8]) -> Option<Message<'a>> {
@@ -24,35 +18,31 @@ fn stray_byte<'a>(line: &[u8]) -> Option<Message<'a>> {
 }
 
 /// The cause for a line of no form that is allowed there.
-fn bad_line<'a>(line: &[u8], before: &Before<'_>, subject: &str) -> Message<'a> {
-    let may_come = match before.last {
-        "ets" => subject == "block",
-        "array" => matches!(subject, "array" | "literal"),
-        "literal" => subject == "literal",
-        _ => true,
+fn bad_line<'a>(cause: AsmLineCause, line: &[u8]) -> Message<'a> {
+    let subject = match cause {
+        AsmLineCause::Misplaced => return say("line-order"),
+        AsmLineCause::NoHead => "ets",
+        AsmLineCause::Misshapen => text_at(line, 0),
     };
-    if !may_come {
-        return say("line-order");
-    }
-    let (form, has) = (text_on("listing/", subject), words_after(line, 0));
-    say("the form is `$1`, and this line has $2").with(&[Word(form), Count(has, "word")])
+    let form = found("listing/", subject).or(found("listing/", "instruction"));
+    let pieces = [Word(form.unwrap_or("")), Count(word_count(line), "word")];
+    say("the form is `$1`, and this line has $2").with(&pieces)
 }
 
-/// The cause for the first number of the line that is not well written, or is not the next one.
-fn bad_number<'a>(line: &'a [u8], before: &Before<'_>, subject: &str) -> Message<'a> {
-    for (place, form) in text_on("listing/", subject).split(' ').enumerate() {
-        let word = word_at(line, place);
-        let cause = match form {
-            "NUMBER" if literal(word) == i64::try_from(before.count).ok() => None,
-            "NUMBER" => Some(say("line-number").with(&[Bytes(word), Number(before.count)])),
-            "S" => field_fault("I", word),
-            form => field_fault(form, word),
-        };
-        if let Some(cause) = cause {
-            return cause;
+/// The cause for a word of the line that is not the number that is wanted there.
+fn bad_number<'a>(cause: AsmNumberCause, line: &'a [u8]) -> Message<'a> {
+    match cause {
+        AsmNumberCause::Number(place) => number_fault(place.field(line)),
+        AsmNumberCause::Literal(place) => literal_fault(place.field(line)),
+        AsmNumberCause::Next { place, wanted } => {
+            say("line-number").with(&[Bytes(place.field(line)), Number(wanted)])
         }
     }
-    say("no-number").with(&[Bytes(line)])
+}
+
+/// That word of an instruction's line.
+fn shown<'a>(line: &'a [u8], word: InstrWord) -> Piece<'a> {
+    Bytes(word_at(line, word.index()))
 }
 
 /// How the operand of the operation with this name is written.
@@ -71,60 +61,65 @@ fn operand_form(name: &[u8]) -> &'static str {
     }
 }
 
-/// The cause for a bad destination, of an operation with this name.
-fn bad_destination<'a>(line: &'a [u8], name: &'a [u8]) -> Message<'a> {
-    for place in [3, 4] {
-        let word = word_at(line, place);
-        let is_written = match word {
-            [b'+', digits @ .., b'l' | b'r'] => number(digits).is_some(),
-            _ => text_of(word) == "-",
-        };
-        if !is_written {
-            return say("no-destination").with(&[Bytes(word)]);
-        }
+/// The cause for an operand that the operation of the line does not have.
+fn bad_operand<'a>(line: &'a [u8]) -> Message<'a> {
+    let form = Word(operand_form(word_at(line, InstrWord::Name.index())));
+    let (name, operand) = (
+        shown(line, InstrWord::Name),
+        shown(line, InstrWord::Operand),
+    );
+    say("the operand of $1 is $2, and not `$3`").with(&[name, form, operand])
+}
+
+/// The cause for a word in the place of a slot.
+fn bad_slot<'a>(cause: SlotCause, line: &'a [u8]) -> Message<'a> {
+    let text = match cause {
+        SlotCause::Wanted => "slot-wanted",
+        SlotCause::Unwanted => "slotless-name",
+    };
+    say(text).with(&[shown(line, InstrWord::Name), shown(line, InstrWord::Slot)])
+}
+
+/// The cause for a line that is well written, and for which the code has no object.
+fn unfit_cause<'a>(unfit: Unfit, line: &'a [u8]) -> Message<'a> {
+    match unfit {
+        Unfit::BadVersion => say("version").with(&[shown(line, InstrWord::Name)]),
+        Unfit::BadCounts => say("tables/ets"),
+        Unfit::ManyLiterals => say("literals/ets"),
+        Unfit::BadBlock => say("tables/block"),
+        Unfit::BadArray => say("tables/array"),
+        Unfit::LiteralOrder => say("literals/literal"),
+        Unfit::NoLiteral => say("literals/instruction"),
+        Unfit::BadOperand => bad_operand(line),
+        Unfit::BadSlot => bad_slot(SlotCause::Wanted, line),
+        Unfit::BadDestination => say("bad-destination").with(&[shown(line, InstrWord::Name)]),
+        Unfit::BadOrigin => say("origin").with(&[shown(line, InstrWord::Origin)]),
     }
-    say("bad-destination").with(&[Bytes(name)])
 }
 
-/// The cause for a bad slot, of an operation with this name, which has none beside a literal operand.
-fn bad_slot<'a>(line: &'a [u8], name: &'a [u8]) -> Message<'a> {
-    let cause = match Opcode::of_word(name) {
-        Some(opcode) if opcode.uses_slot() && !text_at(line, 5).contains('#') => "slot-wanted",
-        _ => "slotless-name",
-    };
-    say(cause).with(&[Bytes(name), Bytes(word_at(line, 2))])
-}
-
-/// The cause for a fault of this kind at a line, which has these before it.
-fn line_cause<'a>(kind: AsmFaultKind, line: &'a [u8], before: &Before<'_>) -> Message<'a> {
-    let (subject, name) = match before.last {
-        "" => ("ets", word_at(line, 1)),
-        _ => (subject_of(text_at(line, 0)), word_at(line, 1)),
-    };
-    match kind {
-        AsmFaultKind::BadLine => bad_line(line, before, subject),
-        AsmFaultKind::BadNumber => bad_number(line, before, subject),
-        AsmFaultKind::BadVersion => say("version $1, where 1 and 2 are known").with(&[Bytes(name)]),
-        AsmFaultKind::BadLiteral => say(text_on("literals/", subject)),
-        AsmFaultKind::BadTable => say(text_on("tables/", subject)),
-        AsmFaultKind::BadSlot => bad_slot(line, name),
-        AsmFaultKind::BadDestination => bad_destination(line, name),
-        AsmFaultKind::BadOperand => {
-            let (form, operand) = (Word(operand_form(name)), Bytes(word_at(line, 5)));
-            say("the operand of $1 is $2, and not `$3`").with(&[Bytes(name), form, operand])
+/// The cause of a refusal of a listing at this line.
+fn line_cause<'a>(cause: AsmCause, line: &'a [u8]) -> Message<'a> {
+    match cause {
+        AsmCause::BadLine(cause) => bad_line(cause, line),
+        AsmCause::BadNumber(cause) => bad_number(cause, line),
+        AsmCause::BadSlot(cause) => bad_slot(cause, line),
+        AsmCause::BadDestination(word) => say("no-destination").with(&[shown(line, word)]),
+        AsmCause::BadOperand => bad_operand(line),
+        AsmCause::BadOrigin => say("origin").with(&[shown(line, InstrWord::Origin)]),
+        AsmCause::Unfit(unfit) => unfit_cause(unfit, line),
+        AsmCause::BadName | AsmCause::Unended | AsmCause::Memory => {
+            say("operation").with(&[shown(line, InstrWord::Name)])
         }
-        AsmFaultKind::BadOrigin => say("origin").with(&[Bytes(word_at(line, 6))]),
-        _ => say("operation").with(&[Bytes(name)]),
     }
 }
 
 /// Why the text is not a listing of an object.
-pub fn listing_fault<'a>(fault: AsmFault, text: &'a [u8]) -> Found<'a> {
-    if matches!(fault.kind, AsmFaultKind::Unended) {
+pub fn listing_fault<'a>(refusal: AsmRefusal, text: &'a [u8]) -> Found<'a> {
+    if matches!(refusal.cause, AsmCause::Unended) {
         return nowhere(say("listing-unended"));
     }
-    let (line, before) = (line_at(text, fault.line), Before::of(text, fault.line));
+    let line = line_at(text, refusal.line);
     let words = said(line);
-    let cause = stray_byte(words).unwrap_or(line_cause(fault.kind, words, &before));
-    at_line(fault.line, line, cause)
+    let cause = stray_byte(words).unwrap_or(line_cause(refusal.cause, words));
+    at_line(refusal.line, line, cause)
 }

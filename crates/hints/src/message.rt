@@ -4,7 +4,7 @@ use crate::catalog::found;
 use crate::lines::column_at;
 use graph_check::CheckFaultKind;
 use graph_file::ReadFaultKind;
-use semantics::graph::Region;
+use semantics::graph::{Region, Source};
 use source::fault::FaultKind;
 use std::fmt::{self, Display};
 
@@ -25,12 +25,14 @@ pub enum Piece<'a> {
     Count(u64, &'static str),
     /// A region: `the root`, or `arm 3+`.
     Lies(Region),
+    /// An output port of a node, as it is written: `3.0`.
+    Output(Source),
     Reading(ReadFaultKind),
     Checking(CheckFaultKind),
     Programming(FaultKind),
 }
 
-pub use Piece::{Bytes, Checking, Count, Lies, Line, Number, Programming, Reading, Word};
+pub use Piece::{Bytes, Checking, Count, Lies, Line, Number, Output, Programming, Reading, Word};
 
 /// Shows bytes: one that is not printable as `\xHH`, and only the beginning where there are many.
 fn show_bytes<W: fmt::Write>(bytes: &[u8], f: &mut fmt::Formatter<W>) -> fmt::Result {
@@ -67,6 +69,7 @@ impl Display for Piece<'_> {
             Lies(Region::Root) => f.write_str("the root"),
             Lies(Region::Arm { cond, side: true }) => write!(f, "arm {cond}+"),
             Lies(Region::Arm { cond, side: false }) => write!(f, "arm {cond}-"),
+            Output(Source { node, port }) => write!(f, "{node}.{port}"),
             Reading(kind) => Display::fmt(&kind, f),
             Checking(kind) => Display::fmt(&kind, f),
             Programming(kind) => Display::fmt(&kind, f),

@@ -36,7 +36,7 @@ pub fn input_fault(input: &[u8], number: u64) -> Found<'_> {
     let cause = match line {
         [] => None,
         [.., b'\r'] => Some(say("carriage-return").with(&[Word("inputs")])),
-        _ => literal_fault(line),
+        _ => Some(literal_fault(line)),
     };
     let cause = cause.unwrap_or(say("inputs are integers, one a line, and no empty lines"));
     at(place.with(&[Number(number), Bytes(line)]), cause)
@@ -46,7 +46,7 @@ pub fn input_fault(input: &[u8], number: u64) -> Found<'_> {
 pub fn given_fault<'a, S: AsStr>(words: &'a [S], number: u64) -> Option<Found<'a>> {
     let input = bad_input_in(words)?.as_bytes();
     let place = say("input $1 of the command line is `$2`").with(&[Number(number), Bytes(input)]);
-    Some(at(place, literal_fault(input)?))
+    Some(at(place, literal_fault(input)))
 }
 
 /// The cause for a run of this graph that was given another number of inputs than main has.

@@ -1,32 +1,13 @@
-//! What is wrong with the text of a graph, for each kind of fault.
+//! What is wrong with the text of a graph, for each cause of a refusal.
 
-use crate::blocks::region_in;
 use crate::catalog::found;
-use crate::fields::field_fault;
-use crate::lines::{Before, column_at, is_space, line_at, text_at, text_of, word_at, words_after};
+use crate::fields::{literal_fault, name_fault, number_fault, source_fault};
+use crate::lines::{block_before, line_at, text_of, word_at};
 use crate::message::{Bytes, Count, Found, Message, Number, Word, at_line, nowhere, say};
-use graph_file::{ReadFault, ReadFaultKind, literal};
-use semantics::words::{Operator, operator_of};
-
-/// The form of a node line of this kind, after its region: the kind, its operands, and its sources `S`, `T` or `S..`.
-fn node_form(kind: &[u8]) -> Option<&'static str> {
-    match operator_of(kind) {
-        Some(Operator::One(_)) => Some("OP S"),
-        Some(Operator::Two(_)) => Some("OP S T"),
-        None => found("node/", text_of(kind)),
-    }
-}
-
-/// The form of a line that has one, and how many fields are before what has that form.
-fn form_at(line: &[u8]) -> (u64, &'static str) {
-    match text_at(line, 0) {
-        "out" => (0, "out S.."),
-        word => match found("outer/", word) {
-            Some(form) => (0, form),
-            None => (1, node_form(word_at(line, 1)).unwrap_or("")),
-        },
-    }
-}
+use graph_file::{
+    FieldPlace, Limit, LineCause, NumberCause, ReadCause, ReadRefusal, Unended, literal,
+};
+use semantics::words::operator_of;
 
 /// The cause for a text whose first line is not the header of a graph.
 fn header(first: &[u8]) -> Message<'_> {
@@ -39,141 +20,126 @@ fn header(first: &[u8]) -> Message<'_> {
     say(name).with(&[Word("a graph")])
 }
 
-/// The cause for the first byte that no line may contain, or else for the first space that does not separate two fields.
-fn stray_byte<'a>(line: &[u8]) -> Option<Message<'a>> {
-    let Some(place) = line.iter().position(|byte| !matches!(*byte, b' '..=b'~')) else {
-        let column = column_at(line, b"")?.min(line.len() as u64);
-        return Some(say("spacing").with(&[Number(column)]));
+/// The cause for the byte at this place, which no line may contain.
+fn stray_byte<'a>(place: FieldPlace, line: &[u8]) -> Message<'a> {
+    let column = place.column(line);
+    let rest = line.get(column.saturating_sub(1) as usize..).unwrap_or(b"");
+    let name = match rest {
+        [b'\r'] => return say("carriage-return").with(&[Word("a graph")]),
+        [b'\t', ..] => "tab-in-graph",
+        _ => "byte-in-graph",
     };
-    let column = Number((place as u64).saturating_add(1));
-    match line.get(place..)? {
-        [b'\r'] => Some(say("carriage-return").with(&[Word("a graph")])),
-        [b'\t', ..] => Some(say("tab-in-graph").with(&[column])),
-        [byte, ..] => Some(say("byte-in-graph").with(&[column, Number(u64::from(*byte))])),
-        [] => None,
-    }
+    let byte = rest.first().copied().unwrap_or(0);
+    say(name).with(&[Number(column), Number(u64::from(byte))])
 }
 
-/// The cause for a line of this form, which begins with `word` and has another number of fields after.
-fn bad_form<'a>(form: &'static str, word: &'a [u8], has: u64) -> Message<'a> {
+/// The cause for a line of which the form has this name in this group, and which has another number of fields after the word.
+fn bad_form<'a>(group: &str, word: &'a [u8], has: u64) -> Message<'a> {
+    let form = found(group, text_of(word)).unwrap_or("");
     say("form").with(&[Word(form), Count(has, "field"), Bytes(word)])
 }
 
-/// The cause for a node line with a good region but with none of the forms that are allowed there, in a text with this header.
-fn bad_kind<'a>(line: &'a [u8], header: &[u8]) -> Message<'a> {
-    let (kind, has) = (word_at(line, 1), words_after(line, 2));
-    if kind.is_empty() {
-        return say("after the region comes the kind of the node, as in `- add 0.0 1.0`");
+/// What is said of a line inside a block that begins with this word, which is no region.
+fn no_region(word: &[u8]) -> &'static str {
+    let text = text_of(word);
+    if text == "end" {
+        "the `out` line of block $2 comes before its `end`"
+    } else if found("outer/", text).is_some() {
+        "block $2 is open here: before `$1` come its `out` line and `end`"
+    } else if found("node/", text).is_some() || operator_of(word).is_some() {
+        "region-missing"
+    } else {
+        "no-region"
     }
-    let Some(form) = node_form(kind) else {
-        return say("unknown-kind").with(&[Bytes(kind)]);
-    };
-    if text_of(kind) == "scall" && text_of(header) == "etsgraph 1" {
-        return say("strict-call");
-    }
-    if text_at(form.as_bytes(), 1) != "S" {
-        return bad_form(form, kind, has);
-    }
-    let wants = Count(words_after(form.as_bytes(), 1), "source");
-    say("$1 wants $2, this line has $3").with(&[Bytes(kind), wants, Number(has)])
 }
 
-/// The cause for a line that has none of the forms that are allowed at its place in the text.
-fn bad_line<'a>(text: &[u8], line: &'a [u8], before: &Before<'a>) -> Message<'a> {
+/// The cause for a line of no form that is allowed there. `block` is the name of the block that is open there.
+fn bad_line<'a>(cause: LineCause, line: &'a [u8], block: &'a [u8]) -> Message<'a> {
     if line.is_empty() || line.starts_with(b"#") {
         return say("a graph has no empty lines and no comments");
     }
-    if let Some(cause) = stray_byte(line) {
-        return cause;
-    }
-    let word = word_at(line, 0);
-    let name = match (before.last, text_of(word), found("outer/", text_of(word))) {
-        ("end", "array", _) => return say("`array` lines come before the first block"),
-        ("etsgraph" | "array" | "end", _, Some(form)) => {
-            return bad_form(form, word, words_after(line, 1));
+    let (word, kind) = (word_at(line, 0), word_at(line, 1));
+    let name = match cause {
+        LineCause::Byte(place) => return stray_byte(place, line),
+        LineCause::Space(place) => return say("spacing").with(&[Number(place.column(line))]),
+        LineCause::Fields(has) => return bad_form("outer/", word, has),
+        LineCause::Operands(has) => return bad_form("node/", kind, has),
+        LineCause::Sources { has, wants } => {
+            let wants = Count(wants, "source");
+            return say("$1 wants $2, this line has $3").with(&[Bytes(kind), wants, Number(has)]);
         }
-        ("etsgraph" | "array", _, _) => "no-block-yet",
-        ("end", _, _) => "no-block-open",
-        ("out", _, _) => "after the `out` line of block $2 comes the line `end`",
-        (_, "end", _) => "the `out` line of block $2 comes before its `end`",
-        (_, _, Some(_form)) => "block $2 is open here: before `$1` come its `out` line and `end`",
-        _ if region_in(word).is_some() => return bad_kind(line, line_at(text, 1)),
-        _ if node_form(word).is_some() => "region-missing",
-        _ => "no-region",
+        LineCause::UnknownKind if text_of(kind) == "scall" => "strict-call",
+        LineCause::UnknownKind => return say("unknown-kind").with(&[Bytes(kind)]),
+        LineCause::NoKind => "after the region comes the kind of the node, as in `- add 0.0 1.0`",
+        LineCause::NoItem => "no-block-yet",
+        LineCause::NoBlock if text_of(word) == "array" => "late-array",
+        LineCause::NoBlock => "no-block-open",
+        LineCause::NoEnd => "after the `out` line of block $2 comes the line `end`",
+        LineCause::NoRegion => no_region(word),
     };
-    say(name).with(&[Bytes(word), Bytes(before.block)])
+    say(name).with(&[Bytes(word), Bytes(block)])
 }
 
-/// The cause for the first field of a line that is not what its form wants there.
-fn bad_field(line: &[u8]) -> Message<'_> {
-    let (first, form) = form_at(line);
-    let mut words = form.split(' ');
-    for field in line.split(is_space).skip(first as usize) {
-        if let Some(cause) = field_fault(words.next().unwrap_or("S"), field) {
-            return cause;
-        }
+/// The cause for a field of the line that is not what is wanted there.
+fn bad_number<'a>(cause: NumberCause, line: &'a [u8]) -> Message<'a> {
+    match cause {
+        NumberCause::Number(place) => number_fault(place.field(line)),
+        NumberCause::Literal(place) => literal_fault(place.field(line)),
+        NumberCause::Source(place) => source_fault(place.field(line)),
+        NumberCause::NoCells => say("an array has at least one cell"),
     }
-    say("no-number").with(&[Bytes(line)])
 }
 
-/// The limit that a line exceeds.
-fn too_many<'a>(line: &[u8], before: &Before<'_>) -> Message<'a> {
-    let (first, form) = form_at(line);
-    let sources = words_after(line, words_after(form.as_bytes(), 1).saturating_add(first));
-    say(match text_at(line, 0) {
-        "array" if before.count >= 64 => "the limit of 64 arrays is passed",
-        "array" => "the limit of 65536 cells, of one array and of all of them, is passed",
-        "block" if before.count >= 256 => "the limit of 256 blocks is passed",
-        "block" => "the limit of 16 inputs or outputs of a block is passed",
-        _ if sources > 16 => "the limit of 16 sources of a line is passed",
-        _ => "the limit of 1024 nodes of a block, inputs counted, is passed",
+/// The cause for a limit that is passed.
+fn too_many<'a>(limit: Limit) -> Message<'a> {
+    say(match limit {
+        Limit::Arrays => "the limit of 64 arrays is passed",
+        Limit::Cells => "the limit of 65536 cells, of one array and of all of them, is passed",
+        Limit::Blocks => "the limit of 256 blocks is passed",
+        Limit::Ports => "the limit of 16 inputs or outputs of a block is passed",
+        Limit::Nodes => "the limit of 1024 nodes of a block, inputs counted, is passed",
+        Limit::Sources => "the limit of 16 sources of a line is passed",
     })
-}
-
-/// The cause for a text that ends inside a block, or without a line feed.
-fn unended<'a>(text: &[u8], before: &Before<'a>) -> Message<'a> {
-    let name = match before.last {
-        _ if !text.ends_with(b"\n") => "no-line-feed",
-        "out" => "the text ends inside block $1, before the line `end`",
-        _ => "the text ends inside block $1, before its `out` line and `end`",
-    };
-    say(name).with(&[Bytes(before.block)])
 }
 
 /// The cause for a line after the `main` line.
 fn trailing<'a>(line: &[u8], command: &'a str) -> Message<'a> {
-    if literal(line).is_none() {
-        return say("after-main");
-    }
-    say("inputs-begin").with(&[Word(command)])
+    let is_int = literal(line).is_some();
+    let name = if is_int { "inputs-begin" } else { "after-main" };
+    say(name).with(&[Word(command)])
 }
 
-/// The cause for a fault of this kind at a line of the text, which has these before it.
-fn cause_of<'a>(
-    kind: ReadFaultKind,
-    text: &'a [u8],
-    line: &'a [u8],
-    before: &Before<'a>,
-    command: &'a str,
-) -> Message<'a> {
-    match kind {
-        ReadFaultKind::NoHeader => header(line),
-        ReadFaultKind::BadLine => bad_line(text, line, before),
-        ReadFaultKind::BadNumber | ReadFaultKind::BadName => bad_field(line),
-        ReadFaultKind::TooMany => too_many(line, before),
-        ReadFaultKind::Unended => unended(text, before),
-        ReadFaultKind::TrailingText => trailing(line, command),
-        ReadFaultKind::NoMain | ReadFaultKind::Memory => say("main-missing"),
+/// The cause for a text that ends too early, where the last block to begin has this name.
+fn unended<'a>(cause: Unended, block: &'a [u8]) -> Message<'a> {
+    let name = match cause {
+        Unended::Line => "no-line-feed",
+        Unended::Nodes => "the text ends inside block $1, before its `out` line and `end`",
+        Unended::Block => "the text ends inside block $1, before the line `end`",
+    };
+    say(name).with(&[Bytes(block)])
+}
+
+/// The cause of a refusal at this line, where the last block to begin before it has this name.
+fn cause_of<'a>(cause: ReadCause, line: &'a [u8], last: &'a [u8], command: &'a str) -> Message<'a> {
+    match cause {
+        ReadCause::NoHeader => header(line),
+        ReadCause::BadLine(cause) => bad_line(cause, line, last),
+        ReadCause::BadNumber(cause) => bad_number(cause, line),
+        ReadCause::BadName(place) => name_fault(place.field(line)),
+        ReadCause::TooMany(limit) => too_many(limit),
+        ReadCause::Unended(cause) => unended(cause, last),
+        ReadCause::TrailingText => trailing(line, command),
+        ReadCause::NoMain | ReadCause::Memory => say("main-missing"),
     }
 }
 
 /// Why `text` is not the text of a graph. `command` is the command that was asked for.
-pub fn text_fault<'a>(fault: ReadFault, text: &'a [u8], command: &'a str) -> Found<'a> {
-    let (line, before) = (line_at(text, fault.line), Before::of(text, fault.line));
-    let cause = cause_of(fault.kind, text, line, &before, command);
-    let may_end = matches!(fault.kind, ReadFaultKind::Unended | ReadFaultKind::NoMain);
-    if may_end && text.ends_with(b"\n") {
-        return nowhere(cause);
+pub fn text_fault<'a>(refusal: ReadRefusal, text: &'a [u8], command: &'a str) -> Found<'a> {
+    let line = line_at(text, refusal.line);
+    let last = block_before(text, refusal.line);
+    let cause = cause_of(refusal.cause, line, last, command);
+    match refusal.cause {
+        ReadCause::Unended(Unended::Nodes | Unended::Block) | ReadCause::NoMain => nowhere(cause),
+        _ => at_line(refusal.line, line, cause),
     }
-    at_line(fault.line, line, cause)
 }

@@ -2,21 +2,21 @@
 
 ghost use Rattle.std.specs.Prelude.{◌≡◌};
 
-use assembler::AsmFault;
-use graph_check::CheckFault;
-use graph_file::ReadFault;
+use assembler::AsmRefusal;
+use graph_check::CheckRefusal;
+use graph_file::ReadRefusal;
 use object_view::ObjectFault;
 use schedule::config::StartFault;
 use source_tokens::ProgramRefusal;
 use std::alloc::AllocError;
 
-/// Why a command has no result: the fault as it was found, with its place.
+/// Why a command has no result: the fault as it was found, with its place and its cause.
 #[derive(Clone, Copy, Debug)]
 pub enum Refusal {
     /// Standard input is too long, or a read failed.
     Input,
-    Read(ReadFault),
-    Check(CheckFault),
+    Read(ReadRefusal),
+    Check(CheckRefusal),
     /// In the code block with this number a holder finds no slot of a frame open, where each takes the least that it may share.
     TooManySlots(u64),
     /// The code block with this number is too long for an object, or has too many literals.
@@ -27,7 +27,7 @@ pub enum Refusal {
     /// Standard input is not an object.
     Object(ObjectFault),
     /// Standard input is no listing of an object.
-    Asm(AsmFault),
+    Asm(AsmRefusal),
     /// Standard input has no program that can be lowered.
     Program(ProgramRefusal),
     Memory,

@@ -5,7 +5,9 @@ use Rattle.semantics.specs.Program.{Code}
 use Rattle.semantics.specs.Text.{HasText, text_of}
 use Rattle.schedule.specs.declared.config.Config.{Config}
 use Rattle.schedule.specs.Starts.{IsCause}
+use Rattle.graph_check.specs.declared.causes.CheckRefusal.{CheckRefusal}
 use Rattle.graph_check.specs.declared.faults.CheckFault.{CheckFault}
+use Rattle.graph_check.specs.Causes.{fault_of}
 use Rattle.graph_check.specs.declared.faults.CheckFaultKind.TheVariants as CheckFaultKind
 use Rattle.semantics.specs.WellFormed.{WellFormed}
 use Rattle.graph_check.specs.FirstFault.{IsRefusal}
@@ -20,10 +22,10 @@ use Rattle.programs.specs.declared.fault.RunRefusal.{RunRefusal}
 use Rattle.programs.specs.Refused.{IsNotRun, IsNotCompiled, IsRefusedRun, OfGraph, unlowered_as, IsUnrun}
 
 -- a graph that is well formed is refused only for lack of memory
-pub refused_memory : (g : Graph) (f : CheckFault) (reported : Fault) → WellFormed g → IsRefusal g f → IsUnchecked f reported → reported ≡ Fault.Memory
-refused_memory g f reported well h (inl (m, is)) = is
-refused_memory g f reported well (inl e) (inr (n, is)) = absurd (n (ap (λ (f : CheckFault). f.kind) e))
-refused_memory g f reported well (inr (e, n, ill)) (inr k) = absurd (ill well)
+pub refused_memory : (g : Graph) (r : CheckRefusal) (reported : Fault) → WellFormed g → IsRefusal g (fault_of r) → IsUnchecked r reported → reported ≡ Fault.Memory
+refused_memory g r reported well h (inl (m, is)) = is
+refused_memory g r reported well (inl e) (inr (n, is)) = absurd (n (ap (λ (f : CheckFault). f.kind) e))
+refused_memory g r reported well (inr (e, n, ill)) (inr k) = absurd (ill well)
 
 pub memory_is_too_large : (g : Graph) (f : Fault) → f ≡ Fault.Memory → IsTooLarge g f
 memory_is_too_large g f e = subst (λ f. IsTooLarge g f) (sym e) tt

@@ -14,7 +14,7 @@ use crate::fault::RunRefusal;
 use driver::compiling::compile_graph;
 use driver::fault::Fault;
 use graph::Graph;
-use graph_check::{Checked, check};
+use graph_check::{Checked, check_graph};
 use lowered_text::programs::{Made, make, read_good};
 use lowering::Named;
 use object_view::OwnedObject;
@@ -24,7 +24,7 @@ use std::alloc::Allocator;
 fn check_good<'a, A: Allocator + Clone>(graph: Graph<'a, A>) -> Result<Checked<'a, A>, Fault>
     ensures { WellFormed graph.entry → MatchResult result (λ c. (c ≡ graph.entry) × HasText graph.entry) (λ fault. fault ≡ Faults.Memory) }
 {
-    let checked = check(graph)?;
+    let checked = check_graph(graph)?;
     // What it promises: the text is within the limits.
     let _graph = checked.graph();
     Ok(checked)

@@ -1,6 +1,6 @@
 //! The outcome of a command, as the table gives it.
 
-use assembler::{AsmFault, AsmFaultKind};
+use assembler::{AsmCause, AsmRefusal, Unfit};
 use outcomes::{Ending, Outcome, Refusal};
 use semantics::report::End;
 
@@ -26,8 +26,8 @@ fn refusal_of(part: &str, place: u64) -> Refusal {
         "input" => Refusal::Input,
         "slots" => Refusal::TooManySlots(place),
         "far" => Refusal::TooFar(place),
-        "listing" => Refusal::Asm(AsmFault {
-            kind: AsmFaultKind::BadLiteral,
+        "listing" => Refusal::Asm(AsmRefusal {
+            cause: AsmCause::Unfit(Unfit::ManyLiterals),
             line: place,
         }),
         _ => Refusal::Memory,

@@ -6,7 +6,7 @@
 //! - `@DIGITS` is a word of its input, of 16 hexadecimal digits, in 8 bytes, the lowest first;
 //! - `>LINE` is a line of an output that takes the place of what the program writes, and `=WORDS` is the outcome: `done`,
 //!   `differed`, `steps`, `memory`, `starved FRAMES CREDITS`, `stuck RULE`, `refused input`, `refused memory`, `refused slots
-//!   BLOCK`, `refused far BLOCK`, `refused listing LINE` (a bad literal), or `unwritten`;
+//!   BLOCK`, `refused far BLOCK`, `refused listing LINE` (too many literals), or `unwritten`;
 //! - `# WORDS` is a comment.
 //!
 //! In a line or a piece `%` is the number (in a line 0), and `\HH` the byte that these two hexadecimal digits are. Each command

@@ -1,31 +1,14 @@
-use Rattle.std.proofs.Common.{ℕ, sym, ap, ◌∙◌}
-use Rattle.std.specs.Prelude.{Ok}
-use Rattle.assembler.proofs.Placed.{refused_text, given, unfit}
-use Rattle.std.proofs.Common.{inr}
-use Rattle.std.specs.Prelude.{Err}
-use Rattle.semantics.specs.Versions.{version_number}
-use Rattle.assembler.proofs.Sound.{sound}
-use Rattle.assembler.proofs.Complete.{only_code, only_memory}
+use Rattle.std.proofs.Common.{sym, ap, subst, ◌∙◌}
+use Rattle.assembler.specs.declared.fault.AsmFault.{AsmFault}
+use Rattle.assembler.specs.Assembling.{assembled, IsFirstFault}
 use Rattle.assembler.proofs.assembling.assemble.Goals as goal
 
+pub returns-in-Ok : goal.returns-in-Ok
+returns-in-Ok g c = record { object = c.in-Ok.ensures.object; complete = c.in-Ok.ensures.complete; exact = c.in-Ok.ensures.exact }
+
 pub returns-in-Err : goal.returns-in-Err
-returns-in-Err g c =
-    let exact = refused_text c.args.text.now c.in-Err.fault c.in-Err.ensures in
-    record { object = tt; complete = λ w d h k. only_memory c.args.text.now w d c.in-Err.fault exact h k; exact = exact }
-
-pub returns-in-Ok-check_code : goal.returns-in-Ok-check_code
-returns-in-Ok-check_code g c =
-    let r = c.in-Ok.read in
-    let exact = given c.args.text.now (r.version, r.code) c.in-Ok.ensures (sym c.in-Ok-check_code.ensures.exact) ∙ ap (λ (v : ℕ). Ok (v, r.code)) (sym c.version_of.ensures) in
-    record {
-      object = sound c.args.text.now r.version (version_number c.version_of.result) r.code (sym c.version_of.ensures) c.in-Ok-check_code.ensures.words c.in-Ok.ensures (sym c.in-Ok-check_code.ensures.exact);
-      complete = λ w d h k. only_code c.args.text.now (version_number c.version_of.result) w r.code d exact h k;
-      exact = exact;
-    }
-
-pub returns-in-Err-check_code : goal.returns-in-Err-check_code
-returns-in-Err-check_code g c =
-    let r = c.in-Ok.read in
-    let f = c.in-Err-check_code.refusal in
-    let exact = inr (unfit c.args.text.now (r.version, r.code) f c.in-Ok.ensures (sym c.in-Err-check_code.ensures.exact) ∙ ap (λ (n : ℕ). Err record { kind = f.kind; line = n }) (sym c.line_at.ensures)) in
-    record { object = tt; complete = λ w d h k. only_memory c.args.text.now w d record { kind = f.kind; line = c.line_at.result } exact h k; exact = exact }
+returns-in-Err g c = record {
+  object = tt;
+  complete = λ w d h k. ap (λ (f : AsmFault). f.kind) c.fault.ensures ∙ c.in-Err.ensures.complete w d h k;
+  exact = subst (λ (f : AsmFault). IsFirstFault f (assembled c.args.text.now)) (sym c.fault.ensures) c.in-Err.ensures.exact;
+}

@@ -1,5 +1,6 @@
 use Rattle.std.proofs.Common.{◌≡◌, refl, sym, ap, ◌∙◌, arith}
 use Rattle.graph_file.proofs.Loops.{few_parts}
+use Rattle.assembler.specs.Causes.{fault_kind}
 use Rattle.assembler.specs.Reading.{nothing, line_from, end_from, text_from}
 use Rattle.assembler.proofs.Placed.{reads_on, reads_to_end, ended_well, ended_badly, stopped, fewer}
 use Rattle.assembler.proofs.reading.read_text.Goals as goal
@@ -13,7 +14,7 @@ loop-bytes-init g c =
 pub returns-in-Err-line : goal.returns-in-Err-line
 returns-in-Err-line g c =
     let l = c.loop-bytes in
-    stopped l.line l.state.0 l.state.1 l.lines c.in-Some.rest c.in-Some.bytes.now c.in-Err-line.kind _ c.in-Some.ensures (rw (← c.of.ensures) c.in-Err-line.ensures) l.invariant.so_far
+    stopped l.line l.state.0 l.state.1 l.lines c.in-Some.rest c.in-Some.bytes.now (fault_kind c.in-Err-line.cause) _ c.in-Some.ensures (rw (← c.of.ensures) c.in-Err-line.ensures) l.invariant.so_far
 
 pub loop-bytes-preserved : goal.loop-bytes-preserved
 loop-bytes-preserved g c =
@@ -31,4 +32,4 @@ returns-in-Ok-end g c =
 pub returns-in-Err-end : goal.returns-in-Err-end
 returns-in-Err-end g c =
     let l = c.loop-bytes in
-    ended_badly l.line (end_from l.state.0 l.state.1) _ c.in-Err-end.kind (reads_to_end l.line l.state.0 l.state.1 l.lines _ c.in_default.ensures l.invariant.so_far) c.in-Err-end.ensures
+    ended_badly l.line (end_from l.state.0 l.state.1) _ (fault_kind c.in-Err-end.cause) (reads_to_end l.line l.state.0 l.state.1 l.lines _ c.in_default.ensures l.invariant.so_far) c.in-Err-end.ensures

@@ -15,4 +15,4 @@ returns-in-Ok g c =
 
 pub returns : goal.returns
 returns g c =
-    inr (c.in-Err.fault, c.in-Err.ensures.exact, subst (λ (f : Refusal). Refuses c.refuse.result (g.W.Write.contents c.args.writer.now) (g.W.Write.contents c.refuse.new.writer) f) c.asm_refusal.ensures c.refuse.ensures)
+    inr (c.in-Err.refusal, c.in-Err.ensures.exact, subst (λ (f : Refusal). Refuses c.refuse.result (g.W.Write.contents c.args.writer.now) (g.W.Write.contents c.refuse.new.writer) f) c.asm_refusal.ensures c.refuse.ensures)

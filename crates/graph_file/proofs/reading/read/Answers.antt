@@ -1,17 +1,13 @@
-use Rattle.std.proofs.Common.{Ok, Err, sym, subst, ◌∙◌}
-use Rattle.semantics.specs.Text.{IsText}
-use Rattle.graph_file.proofs.Sound.{text_takes}
-use Rattle.graph_file.proofs.Ends.{is_only}
+use Rattle.std.proofs.Common.{sym, ap, subst, ◌∙◌}
+use Rattle.graph_file.specs.declared.fault.ReadFault.{ReadFault}
+use Rattle.graph_file.specs.Reading.{text_from, IsFirstFault}
 use Rattle.graph_file.proofs.reading.read.Goals as goal
 
-pub graph-requires : goal.graph-requires
-graph-requires g c = record { limits = (text_takes c.args.text.now c.in-Ok.whole c.in-Ok.ensures).1 }
-
-pub returns-in-Ok-clause-found : goal.returns-in-Ok-clause-found
-returns-in-Ok-clause-found g c = subst (IsText c.args.text.now) (sym c.graph.ensures) (text_takes c.args.text.now c.in-Ok.whole c.in-Ok.ensures)
-
 pub returns-in-Ok-clause-only : goal.returns-in-Ok-clause-only
-returns-in-Ok-clause-only g c = λ h is. c.graph.ensures ∙ is_only c.args.text.now (Ok c.in-Ok.whole) c.in-Ok.ensures h is
+returns-in-Ok-clause-only g c = c.in-Ok.ensures.only
 
 pub returns-in-Err-clause-only : goal.returns-in-Err-clause-only
-returns-in-Err-clause-only g c = λ h is. is_only c.args.text.now (Err c.in-Err.fault) c.in-Err.ensures h is
+returns-in-Err-clause-only g c = λ h is. ap (λ (f : ReadFault). f.kind) c.fault.ensures ∙ c.in-Err.ensures.only h is
+
+pub returns-in-Err-clause-exact : goal.returns-in-Err-clause-exact
+returns-in-Err-clause-exact g c = subst (λ (f : ReadFault). IsFirstFault f (text_from c.args.text.now)) (sym c.fault.ensures) c.in-Err.ensures.exact

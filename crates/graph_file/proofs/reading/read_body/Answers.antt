@@ -1,4 +1,5 @@
 use Rattle.std.proofs.Common.{◌≡◌, [], length, List, ℕ, sym, ap, inr, refl, arith}
+use Rattle.graph_file.specs.Causes.{fault_kind}
 use Rattle.graph_file.specs.Found.{Found}
 use Rattle.graph_file.specs.Reading.{body_from, end_from}
 use Rattle.graph_file.proofs.Loops.{last_line, ends_with, ends_badly, one_more, stops_at, no_line, few_parts}
@@ -24,14 +25,14 @@ pub returns-in-Err-end : goal.returns-in-Err-end
 returns-in-Err-end g c =
     let l = c.loop-text in
     let total = body_from c.args.version c.args.body.now in
-    ends_badly l.line (end_from l.state.0 l.state.1 c.in-Some.text.now) total c.in-Err-end.kind
+    ends_badly l.line (end_from l.state.0 l.state.1 c.in-Some.text.now) total (fault_kind c.in-Err-end.cause)
     (last_line l.line l.state.0 l.state.1 l.lines c.in-Some.text.now c.in-Some.rest total c.in-Some.ensures (sym c.if-has.ensures) l.invariant.so_far) c.in-Err-end.ensures
 
 pub returns-in-Err-line : goal.returns-in-Err-line
 returns-in-Err-line g c =
     let l = c.loop-text in
     let total = body_from c.args.version c.args.body.now in
-    stops_at l.line l.state.0 l.state.1 l.lines c.in-Some.text.now c.in-Some.rest total c.in-Err-line.kind c.in-Some.ensures (sym c.if-has.ensures) c.in-Err-line.ensures l.invariant.so_far
+    stops_at l.line l.state.0 l.state.1 l.lines c.in-Some.text.now c.in-Some.rest total (fault_kind c.in-Err-line.cause) c.in-Some.ensures (sym c.if-has.ensures) c.in-Err-line.ensures l.invariant.so_far
 
 pub loop-text-preserved : goal.loop-text-preserved
 loop-text-preserved g c =
