@@ -13,7 +13,7 @@ use Rattle.semantics.specs.declared.program.Dest.{Dest}
 use Rattle.semantics.specs.Program.{Instr, Program, instr_at}
 use Rattle.semantics.specs.Rule.{Point, Outcome, Becomes, Excluded, outcome_of, slot_of, fires, meets, alone, rule_at, fire_one, to_each}
 use Rattle.semantics.specs.Machine.{slot_in, slot_used, excluded_by, stuck_rule}
-use Rattle.element.specs.declared.instructions.Instruction.{Instruction}
+use Rattle.element.specs.Short.{ShortInstr}
 use Rattle.element.specs.declared.lane.Stepped.{Stepped}
 use Rattle.element.specs.declared.lane.Stepped.TheVariants as Step
 use Rattle.element.specs.Decoded.{instr_of, dest_in, IsShort, IsPair, IsLone, IsCredit}
@@ -84,14 +84,14 @@ to_two : (s : Point) (w : Word) (a b : Option Dest) → to_each s w (option_to_l
 to_two s w None b = refl
 to_two s w (Some d) b = refl
 
-pub copied : (p : Program) (s : Point) (i : Instruction) (w : Word) → i.op ≡ Copy → fire_one p s (instr_of i) i.op w ≡ Some (to_half s w i.first ++ to_half s w i.second)
+pub copied : (p : Program) (s : Point) (i : ShortInstr) (w : Word) → i.op ≡ Copy → fire_one p s (instr_of i) i.op w ≡ Some (to_half s w i.first ++ to_half s w i.second)
 copied p s i w is = ap (λ (op : Op). fire_one p s (instr_of i) op w) is ∙ ap (λ (ts : List Token). Some ts) (to_two s w (dest_in i.first) (dest_in i.second))
 
 -- THE RESULT OF A TOKEN
 abbrev point : ℕ → ℕ → Point
 point f ip = record { frame = f; ip = ip }
 
-module _ (p : Program) (width : ℕ) (old : Holding) (t : Token) (f ip : ℕ) (port : Port) (i : Instruction) (r : Option ℕ) (slot : SlotState) (sound : IsSound p old.part) (wide : width ≤ old.part.shape.width)
+module _ (p : Program) (width : ℕ) (old : Holding) (t : Token) (f ip : ℕ) (port : Port) (i : ShortInstr) (r : Option ℕ) (slot : SlotState) (sound : IsSound p old.part) (wide : width ≤ old.part.shape.width)
     (to_is : t.to ≡ To.Instr f ip port) (near : IsNearToken (bounds p old.part.shape) t) (addressed : element_of old.part.shape.elements t.to ≡ old.part.shape.element) (short : IsShort width ip i)
     (found : instr_at p ip ≡ Some (instr_of i)) (uses : slot_of (instr_of i) i.op ≡ r) (slot_is : slot ≡ state_in old.part f r) where
   there : f < old.part.shape.elements * old.part.shape.frames

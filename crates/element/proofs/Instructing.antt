@@ -19,7 +19,7 @@ use Rattle.semantics.specs.declared.program.Op.{Op}
 use Rattle.semantics.specs.declared.program.Op.TheVariants.{Apply2, Sync, Switch, Store, Send, Return, Ask, Open, Take, Give, Drain, Release}
 use Rattle.semantics.specs.Program.{Instr, Program, instr_at}
 use Rattle.semantics.specs.Rule.{Outcome, Becomes, outcome_of, slot_of, answer_to, landing_at}
-use Rattle.element.specs.declared.instructions.Instruction.{Instruction}
+use Rattle.element.specs.Short.{ShortInstr}
 use Rattle.element.specs.Decoded.{instr_of, dest_in, IsShort}
 use Rattle.element.specs.Fired.{HasRoom, HasRoomInWord, HasRoomInSlot}
 use Rattle.element.specs.Near.{Bounds, IsNearCont, IsNearWord, IsNearTo, IsNearToken, IsNearSlot}
@@ -83,7 +83,7 @@ cell_there arrays a x l = ⊎_elim
     (λ (past : length arrays ≤ a). absurd (let none = get_or_past arrays a 0 past in omega arith))
     (cases_lt a (length arrays))
 
-pub instructed : (p : Program) (width : ℕ) (h : Part) (t : Token) (f ip : ℕ) (port : Port) (i : Instruction) (v : SlotState) (made : List Token) (slot : SlotState) → IsSound p h → width ≤ h.shape.width
+pub instructed : (p : Program) (width : ℕ) (h : Part) (t : Token) (f ip : ℕ) (port : Port) (i : ShortInstr) (v : SlotState) (made : List Token) (slot : SlotState) → IsSound p h → width ≤ h.shape.width
     → t.to ≡ To.Instr f ip port → IsNearToken (bounds p h.shape) t → element_of h.shape.elements t.to ≡ h.shape.element → IsShort width ip i → instr_at p ip ≡ Some (instr_of i)
     → slot ≡ state_in h f (slot_of (instr_of i) i.op) → outcome_of p record { frame = f; ip = ip } (instr_of i) i.op slot port t.word ≡ Becomes v made
     → Changes p h t made (with_state_in h f (slot_of (instr_of i) i.op) v)

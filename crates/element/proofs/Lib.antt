@@ -5,6 +5,7 @@ pub mod Changing
 pub mod Acting
 pub mod Instructing
 pub mod Stepping
+pub mod Turns
 pub mod Opening
 pub mod Quotients
 pub mod Classes

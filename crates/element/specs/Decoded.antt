@@ -8,7 +8,7 @@ use Rattle.semantics.specs.declared.program.Dest.{Dest}
 use Rattle.semantics.specs.declared.program.Op.{Op}
 use Rattle.semantics.specs.declared.program.Op.TheVariants.{Apply1, Apply2, Apply2Right, Apply2Left, Lit, Copy, Sync, Switch, Fetch, Store, Frame, Link, Send, Return, Ask, Open, Take, Give, Drain, Release}
 use Rattle.semantics.specs.Program.{Instr}
-use Rattle.element.specs.declared.instructions.Instruction.{Instruction}
+use Rattle.element.specs.Short.{ShortInstr}
 
 abbrev pub port_in : ℕ → Port
 port_in b = if b == 0 then Left else Right
@@ -21,11 +21,11 @@ dest_in h = if h % 2 ^ 15 == 0 then None else Some record { ahead = h % 2 ^ 15; 
 abbrev pub origin_in : ℕ → Origin
 origin_in n = if n == 0 then Untold else At ((n - 1) / 1024 % 256) ((n - 1) % 1024)
 
-abbrev pub instr_of : Instruction → Instr
+abbrev pub instr_of : ShortInstr → Instr
 instr_of i = record { op = i.op; origin = origin_in i.origin; slot = i.slot; firsts = option_to_list (dest_in i.first); seconds = option_to_list (dest_in i.second) }
 
 -- its numbers leave room for sums
-pub record IsShort (width ip : ℕ) (i : Instruction) : Type 0 where
+pub record IsShort (width ip : ℕ) (i : ShortInstr) : Type 0 where
   pub near : ip < 2 ^ 30
   pub slot : i.slot < width
   pub first : IfSome (dest_in i.first) (λ (d : Dest). d.ahead < 2 ^ 30)

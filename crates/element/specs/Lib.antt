@@ -1,3 +1,4 @@
+pub mod Short
 pub mod Decoded
 pub mod Fired
 pub mod Near

@@ -1,5 +1,5 @@
 -- What a step does.
-use Rattle.std.specs.Prelude.{◌≡◌, ℕ, ◌+◌, ◌<◌, ◌%◌, List, [], ◌++◌, length, remove, All, Some, slice_get, IsPermutation}
+use Rattle.std.specs.Prelude.{◌≡◌, ℕ, zero, suc, ◌+◌, ◌<◌, ◌≤◌, ◌%◌, List, [], ◌++◌, length, remove, All, Some, slice_get, IsPermutation}
 use Rattle.tags.specs.declared.token.Token.{Token}
 use Rattle.semantics.specs.Program.{Program}
 use Rattle.semantics.specs.Machine.{Machine, Size, Event}
@@ -7,7 +7,7 @@ use Rattle.element.specs.declared.lane.Stepped.{Stepped}
 use Rattle.element.specs.declared.lane.Stepped.TheVariants.{Idle, Did, Clash, Stuck, Memory}
 use Rattle.element.specs.Near.{IsNearToken}
 use Rattle.element.specs.Parts.{Shape, IsPart, SameElsewhere, bounds}
-use Rattle.element.specs.Holding.{Holding, here, elsewhere}
+use Rattle.element.specs.Holding.{Holding, here, elsewhere, IsSoundLane}
 use Rattle.element.specs.Acts.{ServesFirst, IsStuck, IsSecond}
 
 abbrev pub size_of : Shape → Size
@@ -70,3 +70,9 @@ Steps p old pick before Did new after = Does p old pick before new after
 Steps p old pick before (Clash cell) new after = Clashes old pick cell × Stays old before new after
 Steps p old pick before (Stuck rule) new after = Excludes p old pick rule × Stays old before new after
 Steps p old pick before Memory new after = (0 < length old.queue) × Stays old before new after
+
+-- So many events of a lane, one after another, each with its oldest token. None makes a token for another element.
+abbrev pub MakesEvents : Program → ℕ → ℕ → Holding → Holding → Type 0
+MakesEvents p steps zero old new = new ≡ old
+MakesEvents p steps (suc n) old new = (mid : Holding) × MakesEvents p steps n old mid × (mid.made < steps) × IsSoundLane p new × (new.made ≤ steps)
+    × Does p mid 0 [] new []

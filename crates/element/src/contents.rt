@@ -1,13 +1,14 @@
 //! What an element holds, and what it does with a token. During an event it is not sound.
 
-ghost use Rattle.std.specs.Prelude.{◌≡◌, ◌+◌, ◌%◌, ◌<◌, ◌≤◌, ◌^◌, [], ◌∷◌, ◌++◌, OnOk, OnErr, IfOk, IfSome, IfNone, None, replicate};
+ghost use Rattle.std.specs.Prelude.{◌≡◌, ℕ, ◌+◌, ◌*◌, ◌%◌, ◌<◌, ◌≤◌, ◌^◌, true, [], ◌∷◌, ◌++◌, length, OnOk, OnErr, IfOk, IfSome, IfNone, None, replicate};
 ghost use Rattle.element.specs.Holding.{held_in, part_of, shape_of, with_queue, IsSoundLane};
 ghost use Rattle.frame_store.specs.BankViews.{bank_states};
 ghost use Rattle.semantics.specs.Program.{Program};
 ghost use Rattle.element.specs.Acts.{CanAct, ActsAs};
-ghost use Rattle.element.specs.Steps.{Steps, Picks};
+ghost use Rattle.element.specs.Steps.{Steps, Picks, MakesEvents};
 ghost use Rattle.element.specs.Openings.{opened, shape_at, IsOpening, StartsAs};
 
+use crate::company::{Company, Together};
 use crate::firing::Point;
 use crate::instructions::Instructions;
 use crate::lane::Stepped;
@@ -22,6 +23,7 @@ use tags::token::{Cont, To, Token};
 use tags::value::Value;
 use token_queue::queue::TokenQueue;
 
+mod away;
 mod executing;
 mod host;
 mod memory;
@@ -156,7 +158,7 @@ impl<'m, A: Allocator> Contents<'m, A> {
         requires { CanAct (C.program code.now) (C.width code.now) (held_in self.old) at token }
         ensures { ActsAs (C.program code.now) (held_in self.old) at token sent.old.items result (held_in self.new) sent.new.items }
     {
-        if self.acts_at_once::<C, Site>(code, at, &token) {
+        if self.queue.has_room(3) && self.acts_at_once::<C, Together, Site>(code, at, &token) {
             return Stepped::Did;
         }
         self.act_otherwise(code, at, token, sent)
@@ -254,5 +256,54 @@ impl<'m, A: Allocator> Contents<'m, A> {
         let at = among(pick, waiting);
         let token = self.queue.packed(at);
         self.act::<C, Site>(code, at, token, sent)
+    }
+
+    /// The element takes its oldest token in the way that is for any token, as `step` does with the pick 0.
+    #[inline(always)]
+    pub fn step_otherwise<C: Instructions>(&mut self, code: &C, sent: &mut Vec<Token, A>) -> Stepped
+    where
+        A: Clone,
+        requires sound { IsSoundLane (C.program code.now) (held_in self.old) }
+        requires width { C.width code.now ≤ self.old.bank.width }
+        requires few { self.old.made < 2 ^ 63 }
+        requires some { 0 < length self.old.queue.items }
+        ensures exact { Steps (C.program code.now) (held_in self.old) 0 sent.old.items result (held_in self.new) sent.new.items }
+        ensures sound { IsSoundLane (C.program code.now) (held_in self.new) }
+        ensures shape { shape_of self.new ≡ shape_of self.old }
+        ensures made { self.new.made ≤ self.old.made + 1 }
+    {
+        let token = self.queue.packed(0);
+        self.act_otherwise(code, 0, token, sent)
+    }
+
+    /// Makes so many events, each at once and with the oldest token, and answers whether it made them all: it stops where there is
+    /// no token, and before one that is not done at once. None makes a token for another element.
+    #[inline(always)]
+    pub fn make_at_once<C: Instructions, T: Company, Site>(&mut self, code: &C, events: u64) -> bool
+    where
+        A: Clone,
+        requires alone { T.ALONE ≡ true → self.old.elements ≡ 1 }
+        requires sound { IsSoundLane (C.program code.now) (held_in self.old) }
+        requires width { C.width code.now ≤ self.old.bank.width }
+        requires few { self.old.made + events < 2 ^ 63 }
+        requires room { length self.old.queue.items + 2 * events + 1 ≤ self.old.queue.room }
+        ensures exact { (steps : ℕ) → self.old.made + events ≤ steps → (made : ℕ) × MakesEvents (C.program code.now) steps made (held_in self.old) (held_in self.new) }
+        ensures sound { IsSoundLane (C.program code.now) (held_in self.new) }
+        ensures shape { shape_of self.new ≡ shape_of self.old }
+        ensures all { result ≡ true → self.new.made ≡ self.old.made + events }
+        ensures most { self.new.made ≤ self.old.made + events }
+    {
+        let mut left = events;
+        'events: while left != 0 {
+            if self.queue.len() == 0 {
+                return false;
+            }
+            let token = self.queue.packed(0);
+            if !self.acts_at_once::<C, T, Site>(code, 0, &token) {
+                return false;
+            }
+            left -= 1;
+        }
+        true
     }
 }

@@ -20,16 +20,16 @@ mod two_inputs;
 
 use crate::instructions::{Instruction, Instructions};
 pub use continuations::answer;
-pub use credits::{Credit, credit_at_once};
-use credits::{drains, gives, opens, takes};
-pub use leaving::Leaving;
+pub use credits::{Counts, Credit, Gives, Takes};
+use credits::{drains, gives_credit, opens, takes_credit};
+pub use leaving::{Fetches, Leaves, Leaving, Links};
 pub use made::{Made, NONE, Point, SIGNAL};
 use one_input::fire_one;
 pub use one_input::frame_request;
 pub use outcomes::Outcome;
 use outcomes::{excluded, fires};
 pub use pairs::{Asks, Operates, Pair, Releases, Returns, Sends, Stores, Switches, Syncs};
-pub use passing::{Passed, pass_one};
+pub use passing::{AppliesLeft, AppliesRight, Computes, Copies, Literals, Passed, Passes};
 use semantics::program::Op;
 use tags::slot::SlotState;
 use tags::token::{Port, Word};
@@ -91,8 +91,8 @@ fn fire_left<C: Instructions>(
 {
     match instr.op {
         Op::Open { bound } => opens(point, instr, bound, slot, made),
-        Op::Take { .. } => takes(slot, word, made),
-        Op::Give { bound } => gives(point, instr, bound, slot, made),
+        Op::Take { .. } => takes_credit(slot, word, made),
+        Op::Give { bound } => gives_credit(point, instr, bound, slot, made),
         Op::Drain { bound } => drains(point, instr, bound, slot, made),
         Op::Apply1 { .. }
         | Op::Apply2Right { .. }

@@ -1,6 +1,6 @@
 //! The code that an element runs, as it reads it.
 
-ghost use Rattle.std.specs.Prelude.{◌≡◌, ℕ, ◌+◌, ◌<◌, ◌^◌, IfSome};
+ghost use Rattle.std.specs.Prelude.{◌≡◌, ℕ, ◌+◌, ◌<◌, ◌≤◌, ◌^◌, IfSome};
 ghost use Rattle.std.specs.Option.{option_map};
 ghost use Rattle.semantics.specs.Program.{Program, instr_at, first_of};
 ghost use Rattle.semantics.specs.Rule.{array_base, array_len};
@@ -8,27 +8,67 @@ ghost use Rattle.element.specs.Decoded as Decoded;
 ghost use Rattle.element.specs.Decoded.{instr_of, origin_in, IsShort};
 
 use semantics::program::{Dest, Op};
+use std::marker::Model;
 use tags::token::Port;
 use tags::value::{NodeNumber, Origin};
 
 /// An instruction with at most two destinations. A switch sends to the first where it is true and else to the second; a
 /// link has its landing in the first and a signal to the second; any other sends to both. Destinations and origin are the
 /// bits of an object, so that only what is needed of them is unpacked.
-#[derive(Clone, Copy, Debug, PartialEq, Eq)]
+#[derive(Clone, Copy, Debug)]
 pub struct Instruction {
     pub op: Op,
     /// The number of the origin: 0 for one that is not given, else one more than 1,024 times the block and the node.
     pub origin: u64,
-    /// The slot of its frame in which its operands meet; 0 where it has none.
-    pub slot: u32,
-    /// The half word of the first destination: 15 bits of how many instructions it lies ahead, 0 where there is none, and
-    /// above them the bit of the right port.
-    pub first: u32,
-    /// That of the second one.
-    pub second: u32,
+    /// The slot of its frame in which its operands meet, 0 where it has none, in the lowest 16 bits, and in the next 32 the half words
+    /// of its destinations. They are taken apart where they are used: what is done to each instruction as it is read would part the
+    /// two choices that it leads to.
+    pub bits: u64,
+}
+
+impl Model for Instruction {
+    ghost use Rattle.std.specs.Prelude.{ℕ, ◌+◌, ◌*◌, ◌/◌, ◌%◌, ◌<◌};
+    ghost use Rattle.std.proofs.Common.{ap, ◌∙◌};
+    ghost use Rattle.std.proofs.Math.Nat.{mod-add-div};
+    ghost use Rattle.element.specs.Short.{ShortInstr};
+
+    ghost Value = { ShortInstr };
+
+    ghost view = { λ i. record { op = i.op; origin = i.origin; slot = i.bits % 65536; first = i.bits / 65536 % 65536; second = i.bits / 65536 / 65536 } };
+
+    ghost invariant = { λ i. i.bits < 281474976710656 };
+
+    ghost inverse = { λ i. record { op = i.op; origin = i.origin; bits = i.slot + 65536 * (i.first + 65536 * i.second) } };
+
+    ghost inverse_ok = { λ i h j. record { op = i.op; origin = i.origin; bits = (ap (λ (upper : ℕ). i.bits % 65536 + 65536 * upper) (mod-add-div (i.bits / 65536) 65536) ∙ mod-add-div i.bits 65536) j } };
 }
 
 impl Instruction {
+    /// The slot of its frame in which its operands meet; 0 where it has none.
+    #[inline(always)]
+    pub fn slot(&self) -> u32
+        ensures { result ≡ self.now.slot }
+    {
+        (self.bits % 65_536) as u32
+    }
+
+    /// The half word of the first destination: 15 bits of how many instructions it lies ahead, 0 where there is none, and
+    /// above them the bit of the right port.
+    #[inline(always)]
+    pub fn first(&self) -> u32
+        ensures { result ≡ self.now.first }
+    {
+        (self.bits / 65_536 % 65_536) as u32
+    }
+
+    /// That of the second one.
+    #[inline(always)]
+    pub fn second(&self) -> u32
+        ensures { result ≡ self.now.second }
+    {
+        (self.bits / 4_294_967_296) as u32
+    }
+
     /// The origin of a fault that the instruction makes.
     #[inline(always)]
     pub fn origin(&self) -> Origin
@@ -76,6 +116,13 @@ pub trait Instructions {
     ghost program: { Self → Program };
 
     ghost width: { Self → ℕ };
+
+    /// A number of instructions from the first one on, at most all of them, whose tokens may be looked at in packed form.
+    fn count(&self) -> usize
+        ensures { result ≤ 2 ^ 31 }
+    {
+        0
+    }
 
     /// The instruction of this number.
     fn instr(&self, ip: u32) -> Option<Instruction>

@@ -1,13 +1,14 @@
 //! The lane of an element: what it holds, with the code that it runs. It is sound between its events.
 
-ghost use Rattle.std.specs.Prelude.{◌≡◌, ◌<◌, ◌≤◌, ◌*◌, ◌^◌, true, false, [], ◌∷◌, length, All, OnOk, OnErr, IfOk, IfSome, IfNone, slice_index_or};
+ghost use Rattle.std.specs.Prelude.{◌≡◌, ℕ, ◌<◌, ◌≤◌, ◌*◌, ◌^◌, true, false, [], ◌∷◌, length, All, OnOk, OnErr, IfOk, IfSome, IfNone, slice_index_or};
 ghost use Rattle.tags.specs.declared.slot.SlotState.TheVariants.{Empty};
 ghost use Rattle.frame_store.specs.BankViews.{bank_states};
 ghost use Rattle.element.specs.Parts.{slot_place};
 ghost use Rattle.element.specs.Holding.{fixed_of, with_more, IsFor, IsSpent, IsSoundLane};
-ghost use Rattle.element.specs.Steps.{Steps, Stays, Picks};
+ghost use Rattle.element.specs.Steps.{Steps, Stays, Picks, MakesEvents};
 ghost use Rattle.element.specs.Openings.{opened, shape_at, IsOpening, StartsAs};
 
+use crate::company::Alone;
 use crate::contents::Contents;
 use crate::instructions::Instructions;
 use arrayvec::ArrayVec;
@@ -204,5 +205,69 @@ impl<'m, C: Instructions, A: Allocator> Lane<'m, C, A> {
             return None;
         }
         Some(self.contents.step::<C, Site>(pick, self.code, sent))
+    }
+
+    /// As `step` with the pick 0, in the way that is for any token: after a turn the oldest one mostly needs it.
+    #[inline(always)]
+    pub fn step_otherwise(&mut self, sent: &mut Vec<Token, A>) -> Option<Stepped>
+    where
+        A: Clone,
+        ensures exact { IfSome result (λ stepped. Steps self.old.program self.old.held 0 sent.old.items stepped self.new.held sent.new.items) }
+        ensures allowed { IfSome result (λ stepped. 0 < length self.old.held.queue → self.old.held.made < self.old.steps) }
+        ensures spent { IfNone result (IsSpent self.old × (0 < length self.old.held.queue) × Stays self.old.held sent.old.items self.new.held sent.new.items) }
+        ensures sound { IsSoundLane self.new.program self.new.held }
+        ensures most { self.new.held.made ≤ self.new.steps }
+        ensures fixed { fixed_of self.new ≡ fixed_of self.old }
+    {
+        if self.contents.queue.len() == 0 {
+            return Some(Stepped::Idle);
+        }
+        if self.is_spent() {
+            return None;
+        }
+        Some(self.contents.step_otherwise(self.code, sent))
+    }
+
+    /// The element makes one event after another, each at once and with its oldest token, as long as it has one, it may make one
+    /// more event, and the token is one that is done at once. It is the only element, so no token is made for another one. It ends
+    /// with an error where more room was refused; then it has a token, and may make one more event. `Site` stands for where it is
+    /// called, as in `step`.
+    #[inline(always)]
+    pub fn turn<Site>(&mut self) -> Result<(), AllocError>
+    where
+        A: Clone,
+        requires one { self.old.held.part.shape.elements ≡ 1 }
+        ensures exact { (events : ℕ) × MakesEvents self.old.program self.old.steps events self.old.held self.new.held }
+        ensures refused { OnErr result ((0 < length self.new.held.queue) × (self.new.held.made < self.new.steps)) }
+        ensures sound { IsSoundLane self.new.program self.new.held }
+        ensures most { self.new.held.made ≤ self.new.steps }
+        ensures fixed { fixed_of self.new ≡ fixed_of self.old }
+    {
+        'rations: while self.makes_ration::<Site>()? {}
+        Ok(())
+    }
+
+    // Makes as many such events as there is room for, and answers whether it made them all, and some.
+    #[inline(always)]
+    fn makes_ration<Site>(&mut self) -> Result<bool, AllocError>
+    where
+        A: Clone,
+        requires one { self.old.held.part.shape.elements ≡ 1 }
+        ensures exact { (events : ℕ) × MakesEvents self.old.program self.old.steps events self.old.held self.new.held }
+        ensures some { IfOk result (λ all. all ≡ true → self.old.held.made < self.new.held.made) }
+        ensures refused { OnErr result ((0 < length self.new.held.queue) × (self.new.held.made < self.new.steps)) }
+        ensures sound { IsSoundLane self.new.program self.new.held }
+        ensures most { self.new.held.made ≤ self.new.steps }
+        ensures fixed { fixed_of self.new ≡ fixed_of self.old }
+    {
+        let allowed = self.steps - self.contents.made;
+        if allowed == 0 || self.contents.queue.len() == 0 {
+            return Ok(false);
+        }
+        let events = allowed.min(self.contents.ration()?);
+        Ok(
+            self.contents
+                .make_at_once::<C, Alone, Site>(self.code, events),
+        )
     }
 }

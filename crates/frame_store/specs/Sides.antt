@@ -1,6 +1,5 @@
 -- The word that waits in a slot, and on which side.
 use Rattle.std.specs.Prelude.{Option, Some, None}
-use Rattle.tags.specs.declared.value.Value.TheVariants.{Int}
 use Rattle.tags.specs.declared.token.Port.{Port}
 use Rattle.tags.specs.declared.token.Port.TheVariants as port
 use Rattle.tags.specs.declared.token.Word.{Word}

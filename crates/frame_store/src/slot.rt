@@ -32,8 +32,10 @@ impl Model for Slot {
 }
 
 impl Slot {
-    ghost use Rattle.std.specs.Prelude.{◌≡◌, ◌↔◌, true, IsSome, slice_index};
-    ghost use Rattle.tags.specs.declared.slot.SlotState.TheVariants.{Empty};
+    ghost use Rattle.std.specs.Prelude.{◌≡◌, ◌≢◌, ◌↔◌, ℕ, true, IsSome, IfSome, IfNone, slice_index};
+    ghost use Rattle.tags.specs.declared.slot.SlotState.TheVariants.{Empty, Credits, Waiter};
+    ghost use Rattle.tags.specs.declared.token.Cont.{Cont};
+    ghost use Rattle.tags.specs.declared.token.Word.TheVariants.{Back};
     ghost use Rattle.packed.specs.Packing.{slot_words};
     ghost use Rattle.packed.specs.PackedTokens.{waits_as, IsForInstr};
     ghost use Rattle.frame_store.specs.Sides.{side_of, word_of};
@@ -86,6 +88,42 @@ impl Slot {
         ensures { result ≡ word_of self.now }
     {
         PackedWord::from_words(self.head, self.body)
+    }
+
+    /// A slot that holds so many credits.
+    #[inline(always)]
+    pub fn with_credits(count: u32) -> Slot
+        ensures { result ≡ Credits count }
+    {
+        Slot {
+            head: 3,
+            body: u64::from(count),
+        }
+    }
+
+    /// How many credits it holds, if it holds credits.
+    #[inline(always)]
+    pub fn credits(&self) -> Option<u32>
+        ensures some { IfSome result (λ n. self.now ≡ Credits n) }
+        ensures none { IfNone result ((n : ℕ) → self.now ≢ Credits n) }
+    {
+        if self.head % 256 == 3 {
+            Some((self.body % 4_294_967_296) as u32)
+        } else {
+            None
+        }
+    }
+
+    /// The continuation that waits for a credit, if one does.
+    #[inline(always)]
+    pub fn waiter(&self) -> Option<PackedWord>
+        ensures some { IfSome result (λ w. (c : Cont) × (self.now ≡ Waiter c) × (w ≡ Back c)) }
+    {
+        if self.head % 256 == 4 {
+            Some(PackedWord::from_words(self.head, self.body))
+        } else {
+            None
+        }
     }
 
     /// What the slot holds.

@@ -10,7 +10,7 @@ use Rattle.semantics.specs.declared.program.Op.TheVariants.{Apply1, Apply2, Appl
 use Rattle.semantics.specs.Program.{Instr, CodeBlock, Code, first_of, instr_from, instr_at}
 use Rattle.semantics.specs.Rule.{slot_of, array_base, array_len}
 use Rattle.semantics.specs.Bytes.{IsCode, IsCodeBlock, IsInstr, IsSlot, IsDest}
-use Rattle.element.specs.declared.instructions.Instruction.{Instruction}
+use Rattle.element.specs.Short.{ShortInstr}
 use Rattle.element.specs.Decoded.{instr_of, dest_in, IsShort}
 use Rattle.loaded.specs.Ready.{widest}
 
@@ -72,7 +72,7 @@ near_dest : (b : CodeBlock) (n : ℕ) (o : Option Dest) → length b.instrs ≤ 
 near_dest b n None size all = tt
 near_dest b n (Some d) size all = let is : IsDest b n d = All-head (IsDest b n) d [] all in let inside = is.inside in omega arith
 
-pub short : (v : ℕ) (c : Code) (ip : ℕ) (i : Instruction) → IsCode v c → instr_at c.program ip ≡ Some (instr_of i) → IsShort (widest c.program.blocks) ip i
+pub short : (v : ℕ) (c : Code) (ip : ℕ) (i : ShortInstr) → IsCode v c → instr_at c.program ip ≡ Some (instr_of i) → IsShort (widest c.program.blocks) ip i
 short v c ip i code h =
     let f = found v c c.program.blocks ip (instr_of i) code.blocks h in
     let is : IsInstr v c f.block f.place (instr_of i) = f.lawful.instrs f.place (instr_of i) f.here in

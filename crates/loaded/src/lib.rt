@@ -54,9 +54,7 @@ fn instruction_of(instr: PackedInstr) -> Instruction
     Instruction {
         op: instr.op,
         origin: instr.origin,
-        slot: instr.slot,
-        first: instr.first,
-        second: instr.second,
+        bits: instr.bits % 281_474_976_710_656,
     }
 }
 
@@ -96,6 +94,11 @@ impl<'a, A: Allocator> Instructions for Loaded<'a, A> {
     ghost program = { λ l. l.code.program };
 
     ghost width = { λ l. widest l.code.program.blocks };
+
+    #[inline(always)]
+    fn count(&self) -> usize {
+        self.object.instrs()
+    }
 
     #[inline(always)]
     fn instr(&self, ip: u32) -> Option<Instruction> {

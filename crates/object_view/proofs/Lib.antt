@@ -3,6 +3,8 @@ mod BackInstr
 mod BackLists
 mod BackWords
 mod ByteWords
+mod CodeWords
+mod Codes
 mod Complete
 mod Each
 mod Facts

@@ -1,5 +1,5 @@
 -- The code that is read from an object's words.
-use Rattle.std.specs.Prelude.{ℕ, zero, suc, ◌+◌, ◌*◌, ◌==◌, nat_lt, if◌then◌else◌, unwrap_or, ℤ, pos, List, [], ◌∷◌, length, option_to_list, flat_map, slice_index, ◌<◌}
+use Rattle.std.specs.Prelude.{ℕ, zero, suc, ◌+◌, ◌*◌, ◌/◌, ◌%◌, ◌==◌, nat_lt, if◌then◌else◌, unwrap_or, ℤ, pos, List, [], ◌∷◌, length, option_to_list, flat_map, slice_index, ◌<◌}
 use Rattle.std.specs.Int.{w64, cast_signed, to_le_bytes}
 use Rattle.semantics.specs.Program.{Instr, CodeBlock, Code}
 use Rattle.semantics.specs.Bytes.{instr_words}
@@ -25,7 +25,7 @@ shown i = record { op = i.op; origin = i.origin; slot = i.slot; firsts = option_
 
 -- an instruction whose destinations and origin are bits
 abbrev pub unpacked : PackedInstr → CodeInstr
-unpacked i = record { op = i.op; origin = origin_of i.origin; slot = i.slot; first = dest_of i.first; second = dest_of i.second }
+unpacked i = record { op = i.op; origin = origin_of i.origin; slot = i.bits % 65536; first = dest_of (i.bits / 65536 % 65536); second = dest_of (i.bits / 4294967296 % 65536) }
 
 -- WHERE THINGS ARE. Word 0 is the mark, word 1 the version, word 2 the number of blocks, word 3 of literals, word 4 of
 -- arrays, and word 5 the block that is run.

@@ -250,6 +250,7 @@ impl<'a> Tables<'a> {
         }
         Ok(Tables {
             bytes,
+            code: &bytes[8 * (HEADER + blocks)..],
             version: version_of(words::word_at(bytes, 1)),
             blocks,
             instrs,

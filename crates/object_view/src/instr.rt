@@ -26,12 +26,9 @@ pub struct PackedInstr {
     pub op: Op,
     /// The number of the origin: 0 for one that is not recorded, else one more than 1,024 times the block and the node.
     pub origin: u64,
-    pub slot: u32,
-    /// The half word of the first destination: 15 bits of how many instructions it lies ahead, 0 where there is none, and
-    /// above them the bit of the right port.
-    pub first: u32,
-    /// That of the second one.
-    pub second: u32,
+    /// The slot in the lowest 16 bits, and in the next 32 the half words of the destinations: each has 15 bits of how many instructions
+    /// it lies ahead, 0 where there is none, and above them the bit of the right port.
+    pub bits: u64,
 }
 
 impl PackedInstr {
@@ -43,9 +40,9 @@ impl PackedInstr {
         CodeInstr {
             op: self.op,
             origin: words::origin_of(self.origin),
-            slot: self.slot,
-            first: words::dest_of(self.first),
-            second: words::dest_of(self.second),
+            slot: (self.bits % 65_536) as u32,
+            first: words::dest_of((self.bits / 65_536 % 65_536) as u32),
+            second: words::dest_of((self.bits / 4_294_967_296 % 65_536) as u32),
         }
     }
 }

@@ -108,7 +108,16 @@ impl<'a> Object<'a> {
     pub fn instr_count(&self) -> u32
         ensures { result ≡ first_of self.now.code.program (length self.now.code.program.blocks) }
     {
-        self.tables.instrs as u32
+        self.instrs() as u32
+    }
+
+    /// The same, as it is compared with the number of an instruction that is run.
+    #[inline(always)]
+    pub fn instrs(&self) -> usize
+        ensures exact { result ≡ first_of self.now.code.program (length self.now.code.program.blocks) }
+        ensures few { result ≤ 16777216 }
+    {
+        self.tables.instrs
     }
 
     /// How many literals it has.

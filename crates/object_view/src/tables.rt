@@ -18,6 +18,8 @@ pub const HEADER: usize = 6;
 #[derive(Clone, Copy, Debug)]
 pub struct Tables<'a> {
     pub bytes: &'a [u8],
+    /// The bytes from the first instruction on.
+    pub code: &'a [u8],
     pub version: Version,
     pub blocks: usize,
     pub instrs: usize,
@@ -30,6 +32,7 @@ pub struct Tables<'a> {
     ghost literals_parsed: { literals ≡ Fields.word_at bytes.now 3 },
     ghost arrays_parsed: { arrays ≡ Fields.word_at bytes.now 4 },
     ghost main_parsed: { main ≡ Fields.word_at bytes.now 5 },
+    ghost code_follows: { code.now ≡ drop (8 * (6 + blocks)) bytes.now },
     ghost instrs_parsed: { instrs ≡ Reading.instr_count (Fields.word_at bytes.now) },
     ghost whole: { length bytes.now ≡ 8 * (6 + blocks + 2 * instrs + literals + arrays) },
     ghost main_there: { main < blocks },
@@ -57,7 +60,7 @@ impl<'a> Tables<'a> {
         ensures { result.word ≡ Fields.word_at self.now.bytes.now (Reading.instr_place (Fields.word_at self.now.bytes.now) ip) }
     {
         Head {
-            word: words::word_at(self.bytes, HEADER + self.blocks + 2 * ip),
+            word: words::word_at(self.code, 2 * ip),
         }
     }
 
@@ -67,7 +70,7 @@ impl<'a> Tables<'a> {
         requires { ip < self.now.instrs }
         ensures { result ≡ Fields.word_at self.now.bytes.now (Reading.instr_place (Fields.word_at self.now.bytes.now) ip + 1) }
     {
-        words::word_at(self.bytes, HEADER + self.blocks + 2 * ip + 1)
+        words::word_at(self.code, 2 * ip + 1)
     }
 
     #[inline(always)]
@@ -144,38 +147,39 @@ impl<'a> Tables<'a> {
         }
     }
 
-    /// The operation of this opcode with this second word, and the number of its origin. The table of literals is read where
-    /// the operand is a literal. Each opcode has its own path to the end, so that no second choice is made where the operation
-    /// is looked at next.
+    /// The operation of an instruction with this opcode, and the number of its origin. The second word is read where it is
+    /// needed, and the table of literals where the operand is a literal. Each opcode has its own path to the end, so that no
+    /// second choice is made where the operation is looked at next.
     #[inline(always)]
-    fn read_op(&self, opcode: Opcode, word: u64) -> (Op, u64)
-        ensures op { result.0 ≡ Opcodes.with opcode (Fields.operand_in self.now.version opcode word) (Reading.literal_or_zero (Fields.word_at self.now.bytes.now) (Fields.operand_in self.now.version opcode word)) }
-        ensures origin { result.1 ≡ Fields.origin_number self.now.version opcode word }
+    fn read_op(&self, opcode: Opcode, ip: usize) -> (Op, u64)
+        requires { ip < self.now.instrs }
+        ensures op { let word = Fields.word_at self.now.bytes.now (Reading.instr_place (Fields.word_at self.now.bytes.now) ip + 1) in result.0 ≡ Opcodes.with opcode (Fields.operand_in self.now.version opcode word) (Reading.literal_or_zero (Fields.word_at self.now.bytes.now) (Fields.operand_in self.now.version opcode word)) }
+        ensures origin { result.1 ≡ Fields.origin_number self.now.version opcode (Fields.word_at self.now.bytes.now (Reading.instr_place (Fields.word_at self.now.bytes.now) ip + 1)) }
     {
         match opcode {
             Opcode::Apply2 { op } => {
-                let (_, origin) = self.parted(opcode, word);
+                let (_, origin) = self.parted(opcode, self.operand_word(ip));
                 (Op::Apply2 { op }, origin)
             }
             Opcode::Apply2Right { op } => {
-                let (operand, origin) = self.parted(opcode, word);
+                let (operand, origin) = self.parted(opcode, self.operand_word(ip));
                 let literal = self.literal_or_zero(operand);
                 (Op::Apply2Right { op, literal }, origin)
             }
             Opcode::Apply2Left { op } => {
-                let (operand, origin) = self.parted(opcode, word);
+                let (operand, origin) = self.parted(opcode, self.operand_word(ip));
                 let literal = self.literal_or_zero(operand);
                 (Op::Apply2Left { op, literal }, origin)
             }
             Opcode::Lit => {
-                let literal = self.literal_or_zero(word);
+                let literal = self.literal_or_zero(self.operand_word(ip));
                 (Op::Lit { literal }, 0)
             }
             Opcode::Fetch | Opcode::Store => {
-                let (operand, origin) = self.parted(opcode, word);
+                let (operand, origin) = self.parted(opcode, self.operand_word(ip));
                 (opcode.with(operand, 0), origin)
             }
-            _ => (opcode.with(word, 0), 0),
+            _ => (opcode.with(self.operand_word(ip), 0), 0),
         }
     }
 
@@ -189,16 +193,10 @@ impl<'a> Tables<'a> {
         ensures { Reading.unpacked result ≡ Reading.instr_in (Fields.word_at self.now.bytes.now) ip }
     {
         let head = self.head(ip);
-        let word = self.operand_word(ip);
-        let Some(opcode) = head.opcode() else {
-            unreachable!()
-        };
-        let (op, origin) = self.read_op(opcode, word);
+        let (op, origin) = self.read_op(head.known_opcode(), ip);
         PackedInstr {
             origin,
-            slot: head.slot(),
-            first: head.first(),
-            second: head.second(),
+            bits: head.word / 65_536,
             op,
         }
     }

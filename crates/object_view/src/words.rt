@@ -1,9 +1,11 @@
 //! The words of an object's bytes.
 
-ghost use Rattle.std.specs.Prelude.{◌≡◌, ◌+◌, ◌*◌, ◌≤◌, length, option_map};
+ghost use Rattle.std.specs.Prelude.{◌≡◌, ◌+◌, ◌*◌, ◌≤◌, Some, IsSome, length, option_map};
 ghost use Rattle.object_view.specs.Fields as Fields;
+ghost use Rattle.semantics.specs.Opcodes as Opcodes;
 
 use byteorder::{ByteOrder, LittleEndian};
+use operators::{Binary, Unary};
 use semantics::opcode::Opcode;
 use semantics::program::Dest;
 use tags::token::Port;
@@ -52,6 +54,19 @@ impl Entry {
     }
 }
 
+// The opcode of an operator with a flag that exists.
+#[inline(always)]
+fn with_flag(op: Binary, flag: u64) -> Opcode
+    requires { IsSome (Opcodes.flagged op flag) }
+    ensures { Opcodes.flagged op flag ≡ Some result }
+{
+    match flag {
+        0 => Opcode::Apply2 { op },
+        1 => Opcode::Apply2Right { op },
+        _ => Opcode::Apply2Left { op },
+    }
+}
+
 /// The first word of an instruction.
 #[derive(Clone, Copy, Debug, PartialEq, Eq)]
 pub struct Head {
@@ -65,6 +80,50 @@ impl Head {
         ensures { result ≡ Fields.opcode_in self.word }
     {
         Opcode::of_code((self.word % 256) as u8, (self.word / 256 % 256) as u8)
+    }
+
+    /// The same, where they exist. The low five bits of a code tell it from all others, so that one jump leads to its opcode.
+    #[inline(always)]
+    pub fn known_opcode(self) -> Opcode
+        requires { IsSome (Fields.opcode_in self.word) }
+        ensures { Fields.opcode_in self.word ≡ Some result }
+    {
+        let flag = self.word / 256 % 256;
+        match self.word % 32 {
+            0 => Opcode::Release,
+            1 => with_flag(Binary::Add, flag),
+            2 => with_flag(Binary::Sub, flag),
+            3 => with_flag(Binary::Mul, flag),
+            4 => with_flag(Binary::Div, flag),
+            5 => with_flag(Binary::Rem, flag),
+            6 => with_flag(Binary::And, flag),
+            7 => with_flag(Binary::Or, flag),
+            8 => with_flag(Binary::Xor, flag),
+            9 => with_flag(Binary::Shl, flag),
+            10 => with_flag(Binary::Shr, flag),
+            11 => with_flag(Binary::Eq, flag),
+            12 => with_flag(Binary::Ne, flag),
+            13 => with_flag(Binary::Lt, flag),
+            14 => with_flag(Binary::Le, flag),
+            15 => Opcode::Apply1 { op: Unary::Neg },
+            16 => Opcode::Apply1 { op: Unary::Not },
+            17 => Opcode::Lit,
+            18 => Opcode::Copy,
+            19 => Opcode::Sync,
+            20 => Opcode::Switch,
+            21 => Opcode::Fetch,
+            22 => Opcode::Store,
+            23 => Opcode::Frame,
+            24 => Opcode::Link,
+            25 => Opcode::Send,
+            26 => Opcode::Return,
+            27 => Opcode::Ask,
+            28 => Opcode::Open,
+            29 => Opcode::Take,
+            30 => Opcode::Give,
+            31 => Opcode::Drain,
+            _ => unreachable!(),
+        }
     }
 
     #[inline(always)]

@@ -1,5 +1,5 @@
 -- A token that was packed is what is unpacked.
-use Rattle.std.proofs.Common.{◌≡◌, ℕ, ◌+◌, ◌-◌, ◌*◌, ◌/◌, ◌%◌, ◌<◌, List, [], ◌∷◌, sym, ap, ◌∙◌, refl, arith, cond, eqb, get_or, subst}
+use Rattle.std.proofs.Common.{◌≡◌, ℕ, ◌+◌, ◌*◌, ◌/◌, ◌%◌, ◌<◌, List, [], ◌∷◌, sym, ap, ◌∙◌, refl, arith, get_or, subst}
 use Rattle.std.specs.Int.{w64}
 use Rattle.std.proofs.lemmas.Int.{to_z-of_z}
 use Rattle.tags.specs.declared.value.Value.{Value}
@@ -12,8 +12,8 @@ use Rattle.tags.specs.declared.token.To.{To}
 use Rattle.tags.specs.declared.token.Token.{Token}
 use Rattle.tags.specs.declared.slot.SlotState.TheVariants.{Left, Right}
 use Rattle.tags.specs.Packed.{IsValue}
-use Rattle.packed.specs.Packing.{Parts, head_of, word_parts, word_from, parts_from, state_from, origin_from, slot_from, slot_words, IsWord}
-use Rattle.packed.specs.PackedTokens.{port_state, to_state, to_place, to_value, token_words, value_from, to_from, token_from, word_in, waits_as, IsTo, IsToken, IsForInstr, AreWordsOf, AreTokenWordsOf, AreWords, TokenPackingIsExact}
+use Rattle.packed.specs.Packing.{Parts, head_of, word_parts, word_from, parts_from, state_from, slot_from, slot_words, IsWord}
+use Rattle.packed.specs.PackedTokens.{port_state, elsewhere, to_state, to_place, to_value, token_words, value_from, to_from, token_from, word_in, waits_as, IsTo, IsToken, IsForInstr, AreWordsOf, AreTokenWordsOf, AreWords, TokenPackingIsExact}
 use Rattle.packed.proofs.Unpacked.{IsSmall, small_word, word_back, origin_back}
 
 -- THE FIELDS OF WORD 0
@@ -103,20 +103,28 @@ pub instr_back : (f ip v : ℕ) (p : Port) → ip < 4294967296 → to_from (port
 instr_back f ip v port.Left h = ap (λ k. To.Instr k ((ip + 4294967296 * f) % 4294967296) port.Left) (high ip f h) ∙ ap (λ k. To.Instr f k port.Left) (low ip f h)
 instr_back f ip v port.Right h = ap (λ k. To.Instr k ((ip + 4294967296 * f) % 4294967296) port.Right) (high ip f h) ∙ ap (λ k. To.Instr f k port.Right) (low ip f h)
 
-same : (x : ℕ) → x < 4294967296 → x % 4294967296 ≡ x
-same x h = omega arith
+far : (x k : ℕ) → k < 2147483648 → (elsewhere x + k) / 4294967296 ≡ x
+far x k h = omega arith
+
+near : (x k : ℕ) → k < 2147483648 → (elsewhere x + k) % 2147483648 ≡ k
+near x k h = omega arith
+
+same : (x : ℕ) → elsewhere x / 4294967296 ≡ x
+same x = omega arith
 
 to_back : (to : To) → IsTo to → to_from (to_state to) (to_place to) (to_value to) ≡ to
 to_back (To.Instr f ip p) h = instr_back f ip 0 p h.1
-to_back (To.Fetch x) h = ap To.Fetch (same x h)
+to_back (To.Fetch x) h = ap To.Fetch (same x)
 to_back (To.Store x v) h =
     let k : ℕ = (word_parts (Word.Val v)).kind in
     let y : ℕ = (word_parts (Word.Val v)).body in
-    ap (λ j. To.Store j (value_from ((x + 4294967296 * k) / 4294967296) y)) (low x k h.0)
-    ∙ ap (λ j. To.Store x (value_from j y)) (high x k h.0) ∙ ap (To.Store x) (value_back v h.1)
+    let small : k < 256 = (small_word (Word.Val v)).kind in
+    let less : k < 2147483648 = omega arith in
+    ap (λ j. To.Store j (value_from ((elsewhere x + k) % 2147483648) y)) (far x k less)
+    ∙ ap (λ j. To.Store x (value_from j y)) (near x k less) ∙ ap (To.Store x) (value_back v h.1)
 to_back To.Manager h = refl
-to_back (To.Release f) h = ap To.Release (same f h)
-to_back (To.Host p) h = ap To.Host (same p h)
+to_back (To.Release f) h = ap To.Release (same f)
+to_back (To.Host p) h = ap To.Host (same p)
 
 -- TOKENS
 abbrev token_at : To → Word → Token
@@ -184,3 +192,20 @@ from_list ws = token_from (nth 0 ws) (nth 1 ws) (nth 2 ws) (nth 3 ws)
 
 pub token_packing_exact : TokenPackingIsExact
 token_packing_exact s t hs ht e = sym (token_back s _ _ _ _ hs (own_words s)) ∙ ap from_list e ∙ token_back t _ _ _ _ ht (own_words t)
+
+-- WHERE A TOKEN GOES, READ FROM ITS WORDS
+state_in : (x y p v : ℕ) → AreTokenWordsOf (token_from x y p v) x y p v → x % 256 ≡ to_state (token_from x y p v).to
+state_in x y p v are = ap (λ k. k % 256) are.head ∙ state_back (to_state (token_from x y p v).to) (word_parts (token_from x y p v).word) (small_state (token_from x y p v).to)
+
+framed : (to : To) (s p v : ℕ) → to_from s p v ≡ to → s ≡ to_state to → s < 3 → (ip : ℕ) × (q : Port) × (to ≡ To.Instr (p / 4294967296) ip q)
+framed (To.Instr f ip port.Left) s p v is e below = (p % 4294967296, port.Left, sym is ∙ ap (λ k. to_from k p v) e)
+framed (To.Instr f ip port.Right) s p v is e below = (p % 4294967296, port.Right, sym is ∙ ap (λ k. to_from k p v) e)
+framed (To.Fetch x) s p v is e below = absurd (omega arith)
+framed (To.Store x w) s p v is e below = absurd (omega arith)
+framed To.Manager s p v is e below = absurd (omega arith)
+framed (To.Release f) s p v is e below = absurd (omega arith)
+framed (To.Host q) s p v is e below = absurd (omega arith)
+
+-- the states of the two ports are the lowest, so a token whose state is below 3 goes to an instruction
+pub low_is_instr : (x y p v : ℕ) → AreTokenWordsOf (token_from x y p v) x y p v → x % 256 < 3 → (ip : ℕ) × (q : Port) × ((token_from x y p v).to ≡ To.Instr (p / 4294967296) ip q)
+low_is_instr x y p v are below = framed (token_from x y p v).to (x % 256) p v refl (state_in x y p v are) below

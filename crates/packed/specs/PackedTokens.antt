@@ -1,7 +1,7 @@
 -- A token as four words of 64 bits. Words 0 and 1 are those of a slot in which the token's word lies, except that bits 0 to 7
 -- say where the token goes. To an instruction they are those of the slot where the word waits: 1 for the left port, 2 for
--- the right one. Word 2 has the frame and the instruction, the cell, the frame or the host's port, and in a store the kind
--- of the value; word 3 is word 1 of that value.
+-- the right one. Word 2 has in its high half the frame, the cell, or the host's port, and in its low half the instruction, or a
+-- number above those of all instructions, and in a store the kind of the value; word 3 is word 1 of that value.
 use Rattle.std.specs.Prelude.{◌≡◌, ◌==◌, ℕ, ◌+◌, ◌*◌, ◌/◌, ◌%◌, ◌<◌, List, [], ◌∷◌, ⊤, if◌then◌else◌}
 use Rattle.std.specs.Int.{w64, cast_signed}
 use Rattle.tags.specs.declared.value.Value.{Value}
@@ -15,7 +15,7 @@ use Rattle.tags.specs.declared.token.Token.{Token}
 use Rattle.tags.specs.declared.slot.SlotState.{SlotState}
 use Rattle.tags.specs.declared.slot.SlotState.TheVariants.{Empty, Left, Right}
 use Rattle.tags.specs.Packed.{IsValue}
-use Rattle.packed.specs.Packing.{Parts, head_of, word_parts, word_from, parts_from, origin_from, IsWord}
+use Rattle.packed.specs.Packing.{head_of, word_parts, word_from, parts_from, origin_from, IsWord}
 
 abbrev pub port_state : Port → ℕ
 port_state port.Left = 1
@@ -29,13 +29,17 @@ to_state To.Manager = 5
 to_state (To.Release f) = 6
 to_state (To.Host p) = 7
 
+-- word 2 of a token that goes to no instruction: its low half is no number of an instruction
+abbrev pub elsewhere : ℕ → ℕ
+elsewhere n = 2147483648 + 4294967296 * n
+
 abbrev pub to_place : To → ℕ
 to_place (To.Instr f ip p) = ip + 4294967296 * f
-to_place (To.Fetch x) = x
-to_place (To.Store x v) = x + 4294967296 * (word_parts (Word.Val v)).kind
-to_place To.Manager = 0
-to_place (To.Release f) = f
-to_place (To.Host p) = p
+to_place (To.Fetch x) = elsewhere x
+to_place (To.Store x v) = elsewhere x + (word_parts (Word.Val v)).kind
+to_place To.Manager = elsewhere 0
+to_place (To.Release f) = elsewhere f
+to_place (To.Host p) = elsewhere p
 
 abbrev pub to_value : To → ℕ
 to_value (To.Store x v) = (word_parts (Word.Val v)).body
@@ -49,7 +53,7 @@ abbrev pub value_from : ℕ → ℕ → Value
 value_from kind body = if kind == 1 then Int (cast_signed w64 body) else (if kind == 2 then Fault Zero (origin_from body) else Fault Range (origin_from body))
 
 abbrev pub to_from : ℕ → ℕ → ℕ → To
-to_from state place value = if state == 1 then To.Instr (place / 4294967296) (place % 4294967296) port.Left else (if state == 2 then To.Instr (place / 4294967296) (place % 4294967296) port.Right else (if state == 3 then To.Fetch (place % 4294967296) else (if state == 4 then To.Store (place % 4294967296) (value_from (place / 4294967296) value) else (if state == 5 then To.Manager else (if state == 6 then To.Release (place % 4294967296) else To.Host (place % 4294967296))))))
+to_from state place value = if state == 1 then To.Instr (place / 4294967296) (place % 4294967296) port.Left else (if state == 2 then To.Instr (place / 4294967296) (place % 4294967296) port.Right else (if state == 3 then To.Fetch (place / 4294967296) else (if state == 4 then To.Store (place / 4294967296) (value_from (place % 2147483648) value) else (if state == 5 then To.Manager else (if state == 6 then To.Release (place / 4294967296) else To.Host (place / 4294967296))))))
 
 abbrev pub token_from : ℕ → ℕ → ℕ → ℕ → Token
 token_from head body place value = record { to = to_from (head % 256) place value; word = word_from (parts_from head body) }

@@ -1,6 +1,6 @@
 //! Tokens, packed.
 
-ghost use Rattle.std.specs.Prelude.{◌≡◌, ◌≢◌, ℕ, ◌+◌, ◌*◌, ◌/◌, ◌%◌, IfSome, IfNone, slice_index};
+ghost use Rattle.std.specs.Prelude.{◌≡◌, ◌≢◌, ℕ, ◌+◌, ◌*◌, ◌/◌, ◌%◌, ◌<◌, ◌≤◌, IfSome, IfNone, slice_index};
 ghost use Rattle.tags.specs.declared.token.Port.{Port};
 ghost use Rattle.tags.specs.declared.token.To.{To};
 ghost use Rattle.tags.specs.declared.value.Value.{Value};
@@ -13,6 +13,9 @@ use crate::word::PackedWord;
 use std::marker::Model;
 use tags::token::{FrameId, Port, To, Token};
 use tags::value::{FaultKind, Value};
+
+/// What is in the low half of word 2 of a token that goes to no instruction: a number above those of all instructions.
+const ELSEWHERE: u64 = 2_147_483_648;
 
 /// A token in four words of 64 bits. One for an instruction has the words of the slot in which it waits.
 #[derive(Clone, Copy)]
@@ -56,15 +59,23 @@ struct Address {
     value: u64,
 }
 
-// What is in bits 0 to 7 where a word waits on the port.
+// What is in bits 0 to 7 where a word waits on the port. It is a sum, so that a port that was read from a bit is that bit again.
 #[inline(always)]
 fn state_of(port: Port) -> u8
     ensures { result ≡ port_state port }
 {
-    match port {
-        Port::Left => 1,
-        Port::Right => 2,
+    1 + match port {
+        Port::Left => 0,
+        Port::Right => 1,
     }
+}
+
+// Word 2 of a token that goes to no instruction, but to a cell, a frame or a port of the host that has this number.
+#[inline(always)]
+fn elsewhere(number: u32) -> u64
+    ensures { result ≡ 2147483648 + 4294967296 * number }
+{
+    ELSEWHERE + 4_294_967_296 * u64::from(number)
 }
 
 impl Address {
@@ -78,18 +89,14 @@ impl Address {
                 u64::from(ip) + 4_294_967_296 * u64::from(frame),
                 0,
             ),
-            To::Fetch { cell } => (3, u64::from(cell), 0),
+            To::Fetch { cell } => (3, elsewhere(cell), 0),
             To::Store { cell, value } => {
                 let fields = Fields::of_value(value);
-                (
-                    4,
-                    u64::from(cell) + 4_294_967_296 * u64::from(fields.kind),
-                    fields.body,
-                )
+                (4, elsewhere(cell) + u64::from(fields.kind), fields.body)
             }
-            To::Manager => (5, 0, 0),
-            To::Release { frame } => (6, u64::from(frame), 0),
-            To::Host { port } => (7, u64::from(port), 0),
+            To::Manager => (5, elsewhere(0), 0),
+            To::Release { frame } => (6, elsewhere(frame), 0),
+            To::Host { port } => (7, elsewhere(port), 0),
         };
         Address {
             state,
@@ -134,14 +141,14 @@ fn to_of(state: u64, place: u64, value: u64) -> To
             ip: low,
             port: Port::Right,
         },
-        3 => To::Fetch { cell: low },
+        3 => To::Fetch { cell: high },
         4 => To::Store {
-            cell: low,
-            value: value_of(u64::from(high), value),
+            cell: high,
+            value: value_of(place % ELSEWHERE, value),
         },
         5 => To::Manager,
-        6 => To::Release { frame: low },
-        _ => To::Host { port: low },
+        6 => To::Release { frame: high },
+        _ => To::Host { port: high },
     }
 }
 
@@ -175,33 +182,74 @@ impl PackedToken {
         }
     }
 
+    /// The token that brings a word to an instruction of the same frame, so far ahead of the one that this token goes to.
+    #[inline(always)]
+    pub fn onward(&self, ahead: u32, port: Port, word: &PackedWord) -> PackedToken
+        requires { IsForInstr self.now.to × ((f ip : ℕ) (p : Port) → self.now.to ≡ To.Instr f ip p → ip + ahead < 4294967296) }
+        ensures { (f ip : ℕ) (p : Port) → self.now.to ≡ To.Instr f ip p → result ≡ record { to = To.Instr f (ip + ahead) port; word = word.now } }
+    {
+        let words = word.words(state_of(port));
+        PackedToken {
+            head: words[0],
+            body: words[1],
+            place: self.place + u64::from(ahead),
+            value: 0,
+        }
+    }
+
     /// The token.
     #[inline(always)]
     pub fn unpack(&self) -> Token
         ensures { result ≡ self.now }
     {
         Token {
-            to: to_of(self.head % 256, self.place, self.value),
+            to: self.to(),
             word: Fields::from_words(self.head, self.body).word(),
         }
     }
 
-    /// The input of an instruction that it goes to, if it goes to one.
+    /// Where it goes.
     #[inline(always)]
-    pub fn input(&self) -> Option<Input>
-        ensures some { IfSome result (λ i. self.now.to ≡ To.Instr i.frame i.ip i.port) }
-        ensures none { IfNone result ((f ip : ℕ) (p : Port) → self.now.to ≢ To.Instr f ip p) }
+    pub fn to(&self) -> To
+        ensures { result ≡ self.now.to }
     {
-        let port = match self.head % 256 {
-            1 => Port::Left,
-            2 => Port::Right,
-            _ => return None,
+        to_of(self.head % 256, self.place, self.value)
+    }
+
+    /// The input of an instruction that it goes to, if it goes to one whose number is below the limit. That it goes to no
+    /// instruction, and that the number is too great, are one test.
+    #[inline(always)]
+    pub fn input_below(&self, limit: usize) -> Option<Input>
+        requires { limit ≤ 2147483648 }
+        ensures some { IfSome result (λ i. (self.now.to ≡ To.Instr i.frame i.ip i.port) × (i.ip < limit)) }
+        ensures none { IfNone result ((f ip : ℕ) (p : Port) → self.now.to ≡ To.Instr f ip p → limit ≤ ip) }
+    {
+        let ip = (self.place % 4_294_967_296) as u32;
+        if limit <= ip as usize {
+            return None;
+        }
+        let port = if self.head % 256 == 1 {
+            Port::Left
+        } else {
+            Port::Right
         };
         Some(Input {
             frame: (self.place / 4_294_967_296) as u32,
-            ip: (self.place % 4_294_967_296) as u32,
+            ip,
             port,
         })
+    }
+
+    /// The frame of the instruction that it goes to, if it goes to one.
+    #[inline(always)]
+    pub fn frame(&self) -> Option<FrameId>
+        ensures some { IfSome result (λ f. (ip : ℕ) × (p : Port) × (self.now.to ≡ To.Instr f ip p)) }
+        ensures none { IfNone result ((f ip : ℕ) (p : Port) → self.now.to ≢ To.Instr f ip p) }
+    {
+        if 3 <= self.head % 256 {
+            return None;
+        }
+        Some((self.place / 4_294_967_296) as u32)
     }
 
     /// Its word.

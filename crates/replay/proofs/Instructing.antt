@@ -15,7 +15,7 @@ use Rattle.semantics.specs.Program.{Instr, Program, instr_at}
 use Rattle.semantics.specs.Rule.{Point, Outcome, Becomes, alone, fires, fire_one, outcome_of, rule_at, slot_of, answer_to, landing_at}
 use Rattle.semantics.specs.Machine.{Store, Happens, Fires, slot_in, slot_used, with_slot_in, put_at}
 use Rattle.semantics.proofs.Stores.{put_same}
-use Rattle.element.specs.declared.instructions.Instruction.{Instruction}
+use Rattle.element.specs.Short.{ShortInstr}
 use Rattle.element.specs.Decoded.{instr_of, dest_in, IsShort}
 use Rattle.element.specs.Near.{Bounds, IsNearCont, IsNearWord, IsNearSlot}
 use Rattle.element.proofs.Nearness.{IsNearPoint, NearOutcome, outcome_near}
@@ -80,7 +80,7 @@ slot_then s f i v r r_is none = by r r_is where
       ∙ put_same (s.slots f) q q v refl in
       sym (ap (λ (x : Option ℕ). slot_in (with_slot_in s f r v) f x) is ∙ ap (λ (x : Option ℕ). slot_in (with_slot_in s f x v) f (Some q)) used ∙ put)
 
-abbrev pub slot_at : Instruction → Option ℕ
+abbrev pub slot_at : ShortInstr → Option ℕ
 slot_at i = slot_of (instr_of i) i.op
 
 module _ {A : Type 0} (p : Program) (h : State A) (s : Store) (holds : Holds h s) (near : IsNearStore (bounds_of p h.frames) s) where
@@ -107,7 +107,7 @@ module _ {A : Type 0} (p : Program) (h : State A) (s : Store) (holds : Holds h s
       ∙ ap (λ (x : SlotState). at_slot (slot_in s f (slot_of i i.op)) x) (slot_then s f i v r r_is none)
       ∙ ap (λ (x : Option Instr). at_slot (slot_in s f (slot_used x)) (slot_in (with_slot_in s f r v) f (slot_used x))) e
 
-  point_near : (width f ip : ℕ) (i : Instruction) → f < h.frames → IsShort width ip i → IsNearPoint p b (point f ip) (instr_of i)
+  point_near : (width f ip : ℕ) (i : ShortInstr) → f < h.frames → IsShort width ip i → IsNearPoint p b (point f ip) (instr_of i)
   point_near width f ip i there short = record {
     frame = there;
     back = answer_near b f ip (dest_in i.first) there short.near short.first;
@@ -115,7 +115,7 @@ module _ {A : Type 0} (p : Program) (h : State A) (s : Store) (holds : Holds h s
     cells = λ a x l. cell_there p.arrays a x l;
   }
 
-  pub fired : (width f ip : ℕ) (port : Port) (w : Word) (i : Instruction) (u v : SlotState) (ts : List Token) (slots : Slots A) (did : Did) (made : List Token)
+  pub fired : (width f ip : ℕ) (port : Port) (w : Word) (i : ShortInstr) (u v : SlotState) (ts : List Token) (slots : Slots A) (did : Did) (made : List Token)
       (n : Store) → width ≤ 512 → f < h.frames → IsNearWord b w → IsShort width ip i → Some (instr_of i) ≡ instr_at p ip
       → u ≡ held_in h.slots f (slot_of (instr_of i) i.op) → Becomes v ts ≡ outcome_of p (point f ip) (instr_of i) i.op u port w
       → Sets h.slots f (slot_of (instr_of i) i.op) v slots → did.made ≡ length ts → did.deed ≡ at_slot u v

@@ -129,7 +129,7 @@ impl<A: Allocator> State<A> {
         let Some(instr) = code.instr(point.ip) else {
             return Err(ReplayRefusal::NotARun);
         };
-        let slot = instr.op.slot_in(instr.slot);
+        let slot = instr.op.slot_in(instr.slot());
         let state = self.slots.state_in(point.frame, slot);
         if !has_room(&word) || !has_room_in_slot(&state) {
             return Err(ReplayRefusal::NotARun);

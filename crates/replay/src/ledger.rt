@@ -52,7 +52,7 @@ fn place_used<C: Instructions>(code: &C, to: &To) -> Option<Place>
     let Some(instr) = code.instr(ip) else {
         return None;
     };
-    match instr.op.slot_in(instr.slot) {
+    match instr.op.slot_in(instr.slot()) {
         Some(slot) => Some(Place { frame, slot }),
         None => None,
     }

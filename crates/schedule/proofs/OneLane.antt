@@ -1,12 +1,11 @@
 -- A run of the one element.
-use Rattle.std.proofs.Common.{◌≡◌, refl, sym, ◌∙◌, ap, subst, ℕ, zero, suc, ◌+◌, ◌%◌, ◌<◌, ◌≤◌, Bool, true, false, cond, List, [], ◌∷◌, ◌++◌, length, map, drop, Option, Some, None, arith, append_assoc}
+use Rattle.std.proofs.Common.{◌≡◌, refl, sym, ◌∙◌, ap, subst, ℕ, zero, suc, ◌+◌, ◌<◌, ◌≤◌, Bool, true, false, cond, List, [], ◌∷◌, ◌++◌, length, map, drop, Option, Some, None, arith, append_assoc}
 use Rattle.std.specs.Prelude.{slice_get, slice_set}
-use Rattle.std.proofs.Math.Nat.{mod-lt}
 use Rattle.std.proofs.lemmas.Bool.{eq-eqb, not_from_true}
 use Rattle.std.proofs.lemmas.List.{append-nil, map-set}
 use Rattle.tags.specs.declared.token.Token.{Token}
-use Rattle.tags.specs.declared.token.To.{To}
 use Rattle.tags.specs.Addresses.{element_of}
+use Rattle.tags.proofs.Elements.{element_below}
 use Rattle.semantics.specs.Program.{Program}
 use Rattle.semantics.specs.Machine.{Events}
 use Rattle.element.specs.declared.lane.Stepped.{Stepped}
@@ -14,34 +13,24 @@ use Rattle.element.specs.declared.lane.Stepped.TheVariants.{Idle, Did, Clash, St
 use Rattle.element.specs.Parts.{Shape}
 use Rattle.element.specs.Holding.{Holding, LaneView, Fixed, held_of, fixed_of, is_here, elsewhere, IsSoundLane}
 use Rattle.element.specs.Steps as one
+use Rattle.element.specs.Steps.{MakesEvents}
 use Rattle.schedule.specs.declared.halt.Halt.{Halt}
 use Rattle.schedule.specs.Setting.{Setting}
 use Rattle.schedule.specs.State.{State, RunsAs, IsSoundState, delivered, lanes_of}
 use Rattle.schedule.specs.Steps.{Steps, logged}
 use Rattle.schedule.specs.Runs.{Advances, Plays, rounds_of}
-use Rattle.schedule.specs.Alone.{MakesEvents, LaneAnswers, LeadsTo}
+use Rattle.schedule.specs.Alone.{LaneAnswers, LeadsTo}
 use Rattle.schedule.proofs.Tokens.{delivered_none}
 use Rattle.schedule.proofs.Memory.{none_arriving}
 use Rattle.schedule.proofs.Stepping.{answered, is_idle, is_used_up, is_refused}
 use Rattle.schedule.proofs.Playing.{turn_last, turn_on, turn_done}
 
 -- NO TOKEN IS FOR ANOTHER ELEMENT
-first_takes : (n : ℕ) → n ≡ 1 → (to : To) → element_of n to ≡ 0
-first_takes n one (To.Instr f ip port) = rest_none n one f
-  where
-    rest_none : (n : ℕ) → n ≡ 1 → (f : ℕ) → f % n ≡ 0
-    rest_none n one f = let some : 0 < n = omega arith in let low : f % n < n = mod-lt f some in omega arith
-first_takes n one (To.Fetch x) = let some : 0 < n = omega arith in let low : x % n < n = mod-lt x some in omega arith
-first_takes n one (To.Store x v) = let some : 0 < n = omega arith in let low : x % n < n = mod-lt x some in omega arith
-first_takes n one To.Manager = refl
-first_takes n one (To.Release f) = refl
-first_takes n one (To.Host port) = refl
-
 none_elsewhere : (z : Shape) (ts : List Token) → z.elements ≡ 1 → z.element < z.elements → elsewhere z ts ≡ []
 none_elsewhere z [] single there = refl
 none_elsewhere z (t ∷ ts) single there =
-    let first : z.element ≡ 0 = omega arith in
-    let here : is_here z t ≡ true = eq-eqb (element_of z.elements t.to) z.element (first_takes z.elements single t.to ∙ sym first) in
+    let some : 0 < z.elements = omega arith in
+    let here : is_here z t ≡ true = eq-eqb (element_of z.elements t.to) z.element (omega (arith, element_below z.elements t.to some)) in
     ap (λ (b : Bool). cond b (t ∷ elsewhere z ts) (elsewhere z ts)) (not_from_true (is_here z t) here) ∙ none_elsewhere z ts single there
 
 -- so a step sends nothing
@@ -60,29 +49,40 @@ sent_none : (p : Program) (old new : Holding) (before after : List Token) (answe
 sent_none p old new before after answer none same step =
     subst (λ (ts : List Token). one.Steps p old 0 [] answer new ts) (same ∙ none) (subst (λ (ts : List Token). one.Steps p old 0 ts answer new after) none step)
 
--- an event of a lane that is the only one, as it lies in memory
+-- a step of a lane that is the only one, as it lies in memory
+pub one_answer : (start old next : LaneView) (before after : List Token) (answer : Stepped) → fixed_of old ≡ fixed_of start → fixed_of next ≡ fixed_of old
+    → start.held.part.shape.elements ≡ 1 → IsSoundLane next.program next.held → before ≡ []
+    → (0 < length old.held.queue → old.held.made < old.steps) → one.Steps old.program old.held 0 before answer next.held after
+    → (after ≡ []) × LaneAnswers start.program start.steps old.held (Some answer) next.held
+one_answer start old next before after answer fixed stays only sound none allowed step =
+    let single = ap (λ (f : Fixed). f.shape.elements) fixed ∙ only in
+    let there = subst (λ (z : Shape). z.element < z.elements) (ap (λ (f : Fixed). f.shape) stays) sound.part.there in
+    let same = sends_none old.program old.held next.held 0 before after answer single there step in
+    let steps = ap (λ (f : Fixed). f.steps) fixed in (
+      same ∙ none,
+      (
+        λ some. subst (λ (n : ℕ). old.held.made < n) steps (allowed some),
+        subst
+            (λ (p : Program). one.Steps p old.held 0 [] answer next.held []) (ap (λ (f : Fixed). f.program) fixed)
+            (sent_none old.program old.held next.held before after answer none same step),
+      ),
+    )
+
+-- so of an event
 pub one_more : (start old next : LaneView) (before after : List Token) → fixed_of old ≡ fixed_of start → fixed_of next ≡ fixed_of old
     → start.held.part.shape.elements ≡ 1 → IsSoundLane next.program next.held → next.held.made ≤ next.steps → before ≡ []
     → (0 < length old.held.queue → old.held.made < old.steps) → one.Steps old.program old.held 0 before Did next.held after
     → (after ≡ []) × (old.held.made < start.steps) × IsSoundLane start.program next.held × (next.held.made ≤ start.steps)
     × one.Does start.program old.held 0 [] next.held []
 one_more start old next before after fixed stays only sound most none allowed step =
-    let single = ap (λ (f : Fixed). f.shape.elements) fixed ∙ only in
-    let there = subst (λ (z : Shape). z.element < z.elements) (ap (λ (f : Fixed). f.shape) stays) sound.part.there in
-    let same = sends_none old.program old.held next.held 0 before after Did single there step in
-    let does = sent_none old.program old.held next.held before after Did none same step in
+    let answers = one_answer start old next before after Did fixed stays only sound none allowed step in
     let all = stays ∙ fixed in
-    let steps = ap (λ (f : Fixed). f.steps) fixed in
-    let steps_next = ap (λ (f : Fixed). f.steps) all in
-    let few_here = allowed does.picks.some in
-    let few : old.held.made < start.steps = omega arith in
-    let within : next.held.made ≤ start.steps = omega arith in (
-      same ∙ none,
-      few,
+    let does : one.Does start.program old.held 0 [] next.held [] = answers.1.1 in (
+      answers.0,
+      answers.1.0 does.picks.some,
       subst (λ (p : Program). IsSoundLane p next.held) (ap (λ (f : Fixed). f.program) all) sound,
-      within,
-      subst
-          (λ (p : Program). one.Does p old.held 0 [] next.held []) (ap (λ (f : Fixed). f.program) fixed) does,
+      subst (λ (n : ℕ). next.held.made ≤ n) (ap (λ (f : Fixed). f.steps) all) most,
+      does,
     )
 
 -- THE MACHINE OF ONE LANE

@@ -1,19 +1,13 @@
 -- The run of an element that has no other beside it.
-use Rattle.std.specs.Prelude.{◌≡◌, ℕ, zero, suc, ◌<◌, ◌≤◌, false, [], ◌++◌, length, Option, Some, None}
+use Rattle.std.specs.Prelude.{◌≡◌, ℕ, ◌<◌, false, [], ◌++◌, length, Option, Some, None}
 use Rattle.semantics.specs.Program.{Program}
 use Rattle.semantics.specs.Machine.{Events}
 use Rattle.element.specs.declared.lane.Stepped.{Stepped}
-use Rattle.element.specs.Holding.{Holding, IsSoundLane}
+use Rattle.element.specs.Holding.{Holding}
 use Rattle.element.specs.Steps as one
 use Rattle.schedule.specs.declared.halt.Halt.{Halt}
 use Rattle.schedule.specs.State.{State}
 use Rattle.schedule.specs.Runs.{Plays, rounds_of}
-
--- So many events of a lane, one after another, each with its oldest token. None makes a token for another element.
-abbrev pub MakesEvents : Program → ℕ → ℕ → Holding → Holding → Type 0
-MakesEvents p steps zero old new = new ≡ old
-MakesEvents p steps (suc n) old new = (mid : Holding) × MakesEvents p steps n old mid × (mid.made < steps) × IsSoundLane p new × (new.made ≤ steps)
-    × one.Does p mid 0 [] new []
 
 -- what a lane answers that is asked for one more event
 abbrev pub LaneAnswers : Program → ℕ → Holding → Option Stepped → Holding → Type 0

@@ -2,16 +2,16 @@
 
 ghost use Rattle.std.specs.Prelude.{◌≡◌, ℕ, ◌≤◌, []};
 ghost use Rattle.element.specs.Holding.{Holding, fixed_of, IsSoundLane};
-ghost use Rattle.schedule.specs.Alone.{MakesEvents, LaneAnswers};
+ghost use Rattle.element.specs.Steps.{MakesEvents};
+ghost use Rattle.schedule.specs.Alone.{LaneAnswers};
 
 use element::instructions::Instructions;
 use element::lane::{Lane, Stepped};
 use std::alloc::Allocator;
 use tags::token::Token;
 
-/// The lane makes one event after another, each with its oldest token, and answers why it makes no more, or `Did` after as many as
-/// can be counted. It is the only one, so no token is for another element, and between two events nothing but the lane is looked
-/// at. That events are counted lets each way through an event lead straight on to the next one.
+/// The lane makes one event after another, each with its oldest token, and answers why it makes no more. It is the only one, so no
+/// token is for another element, and between two events nothing but the lane is looked at.
 #[inline(always)]
 pub fn make_events<C: Instructions, A: Allocator + Clone, Site>(
     lane: &mut Lane<'_, C, A>,
@@ -25,16 +25,13 @@ pub fn make_events<C: Instructions, A: Allocator + Clone, Site>(
     ensures most { lane.new.held.made ≤ lane.new.steps }
     ensures fixed { fixed_of lane.new ≡ fixed_of lane.old }
 {
-    let mut left = u64::MAX;
     'events: loop {
-        match lane.step::<Site>(0, sent) {
+        if lane.turn::<Site>().is_err() {
+            return Some(Stepped::Memory);
+        }
+        match lane.step_otherwise(sent) {
             None => return None,
-            Some(Stepped::Did) => {
-                left -= 1;
-                if left == 0 {
-                    return Some(Stepped::Did);
-                }
-            }
+            Some(Stepped::Did) => {}
             Some(other) => return Some(other),
         }
     }

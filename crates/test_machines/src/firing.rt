@@ -83,9 +83,7 @@ fn fired(op: Op, slot: &SlotState, port: Port, word: &Word) -> Option<(Outcome, 
     let instr = Instruction {
         op,
         origin: 0,
-        slot: 0,
-        first: 1,
-        second: 2,
+        bits: 65_536 * (1 + 65_536 * 2),
     };
     let mut made = NONE;
     let operand = Operand { port, word: *word };
@@ -163,9 +161,7 @@ fn push_origin_of(answer: &mut String, origin: u64) -> Result<(), AllocError> {
     let instr = Instruction {
         op: Op::Copy,
         origin,
-        slot: 0,
-        first: 0,
-        second: 0,
+        bits: 0,
     };
     push_origin(answer, instr.origin())
 }

@@ -50,11 +50,10 @@ fn push_destinations(answer: &mut String, instr: Option<Instruction>) -> Result<
     let Some(instr) = instr else {
         return answer.push_str("none");
     };
-    push_dest(answer, instr.first)?;
+    let (first, second) = (instr.first(), instr.second());
+    push_dest(answer, first)?;
     answer.push_str(", ")?;
-    push_dest(answer, instr.second)?;
-    let first = instr.first;
-    let second = instr.second;
+    push_dest(answer, second)?;
     write!(answer, ", from {first} {second}")
 }
 

@@ -76,13 +76,21 @@ impl<A: Allocator> TokenQueue<A> {
         self.tail.wrapping_sub(self.head)
     }
 
+    /// For how many more tokens there is room.
+    #[inline(always)]
+    pub fn spare(&self) -> usize
+        ensures { length self.now.items + result ≡ self.now.room }
+    {
+        self.places.len() - self.len()
+    }
+
     /// Whether there is room for `tokens` more tokens.
     #[inline(always)]
     pub fn has_room(&self, tokens: usize) -> bool
         ensures yes { result ≡ true → length self.now.items + tokens ≤ self.now.room }
         ensures no { result ≡ false → self.now.room < length self.now.items + tokens }
     {
-        tokens <= self.places.len() - self.len()
+        tokens <= self.spare()
     }
 
     /// Makes room for `tokens` more tokens; room that is there already stays as it is. After an error nothing is changed.

@@ -1,6 +1,6 @@
 //! What an element does with a token for an instruction.
 
-ghost use Rattle.std.specs.Prelude.{◌≡◌, ◌%◌, ◌<◌, ◌^◌, true, false, List, [], ◌∷◌, length, IfSome, Some};
+ghost use Rattle.std.specs.Prelude.{◌≡◌, ◌+◌, ◌%◌, ◌<◌, ◌≤◌, ◌^◌, true, false, List, [], ◌∷◌, length, IfSome, Some};
 ghost use Rattle.tags.specs.declared.token.Port.TheVariants.{Left, Right};
 ghost use Rattle.tags.specs.declared.token.To.{To};
 ghost use Rattle.semantics.specs.declared.program.Op.{Op};
@@ -18,10 +18,12 @@ ghost use Rattle.element.specs.declared.lane.Stepped.TheVariants.{Did};
 ghost use Rattle.tags.specs.declared.token.Token.{Token};
 
 use super::Contents;
+use crate::company::Company;
 use crate::firing::{
-    Asks, Credit, Leaving, Meeting, NONE, Operand, Operates, Outcome, Pair, Passed, Point,
-    Releases, Returns, SIGNAL, Sends, Stores, Switches, Syncs, credit_at_once, fire, frame_request,
-    meet, pass_one,
+    AppliesLeft, AppliesRight, Asks, Computes, Copies, Counts, Credit, Fetches, Gives, Leaves,
+    Leaving, Links, Literals, Meeting, NONE, Operand, Operates, Outcome, Pair, Passed, Passes,
+    Point, Releases, Returns, SIGNAL, Sends, Stores, Switches, Syncs, Takes, fire, frame_request,
+    meet,
 };
 use crate::instructions::{Instruction, Instructions};
 use crate::lane::Stepped;
@@ -46,6 +48,15 @@ pub struct Arrival {
     pub port: Port,
 }
 
+/// The arrival of a packed token, with the token.
+#[derive(Clone, Copy)]
+pub struct PackedArrival {
+    pub at: usize,
+    pub point: Point,
+    pub port: Port,
+    pub token: PackedToken,
+}
+
 /// The two words that meet at an instruction.
 #[derive(Clone, Copy)]
 pub struct Matched {
@@ -54,107 +65,127 @@ pub struct Matched {
 }
 
 impl<'m, A: Allocator> Contents<'m, A> {
-    // What a token does at once, and whether it does: most that need no more than the words as they lie, a slot and room for a
-    // few tokens here. Else nothing is changed. Each port has a way of its own, and each site of the call code of its own.
+    // What a token does at once, and whether it does: most that need no more than the words as they lie, a slot and room for
+    // three tokens here, which there has to be, and on the only element those that go to no instruction. Else nothing is changed.
+    // Each port has a way of its own, and each site of the call code of its own.
     #[inline(always)]
-    pub(super) fn acts_at_once<C: Instructions, Site>(
+    pub(super) fn acts_at_once<C: Instructions, T: Company, Site>(
         &mut self,
         code: &C,
         at: usize,
         token: &PackedToken,
     ) -> bool
-        requires { CanAct (C.program code.now) (C.width code.now) (held_in self.old) at token.now }
+    where
+        A: Clone,
+        requires alone { T.ALONE ≡ true → self.old.elements ≡ 1 }
+        requires can { CanAct (C.program code.now) (C.width code.now) (held_in self.old) at token.now }
+        requires spare { length self.old.queue.items + 3 ≤ self.old.queue.room }
         ensures did { result ≡ true → (before : List Token) → ActsAs (C.program code.now) (held_in self.old) at token.now before Did (held_in self.new) before }
         ensures not { result ≡ false → held_in self.new ≡ held_in self.old }
+        ensures len { length self.new.queue.items ≤ length self.old.queue.items + 2 }
+        ensures capacity { self.new.queue.room ≡ self.old.queue.room }
     {
-        let Some(input) = token.input() else {
-            return false;
+        let Some(input) = token.input_below(code.count()) else {
+            return T::ALONE && self.acts_elsewhere(code, at, token);
         };
         let point = Point {
             frame: input.frame,
             ip: input.ip,
         };
         match input.port {
-            Port::Left => self.acts_left::<C, (Site, OnLeft)>(code, at, token, point),
-            Port::Right => self.acts_right::<C, (Site, OnRight)>(code, at, token, point),
+            Port::Left => self.acts_left::<C, T, (Site, OnLeft)>(code, at, token, point),
+            Port::Right => self.acts_right::<C, T, (Site, OnRight)>(code, at, token, point),
         }
     }
 
     // The same on the left port. Arms that say the same let each operation go straight on to its end.
-    #[inline(always)]
-    fn acts_left<C: Instructions, Site>(
+    fn acts_left<C: Instructions, T: Company, Site>(
         &mut self,
         code: &C,
         at: usize,
         token: &PackedToken,
         point: Point,
     ) -> bool
+        requires alone { T.ALONE ≡ true → self.old.elements ≡ 1 }
         requires can { CanAct (C.program code.now) (C.width code.now) (held_in self.old) at token.now }
         requires address { token.now.to ≡ To.Instr point.frame point.ip Left }
+        requires spare { length self.old.queue.items + 3 ≤ self.old.queue.room }
         ensures did { result ≡ true → (before : List Token) → ActsAs (C.program code.now) (held_in self.old) at token.now before Did (held_in self.new) before }
         ensures not { result ≡ false → held_in self.new ≡ held_in self.old }
+        ensures len { length self.new.queue.items ≤ length self.old.queue.items + 2 }
+        ensures capacity { self.new.queue.room ≡ self.old.queue.room }
     {
         let Some(instr) = code.instr(point.ip) else {
             return false;
         };
-        let port = Port::Left;
-        let arrival = Arrival { at, point, port };
+        let arrival = PackedArrival {
+            at,
+            point,
+            port: Port::Left,
+            token: *token,
+        };
         match instr.op {
-            Op::Apply2 { .. } => {
-                self.at_pair::<C, Operates, Site>(code, token, &arrival, &instr)
+            Op::Apply2 { .. } => { self.at_pair::<C, Operates, T, Site>(code, &arrival, &instr) }
+            Op::Sync => self.at_pair::<C, Syncs, T, Site>(code, &arrival, &instr),
+            Op::Switch => self.at_pair::<C, Switches, T, Site>(code, &arrival, &instr),
+            Op::Send { .. } => self.at_pair::<C, Sends, T, Site>(code, &arrival, &instr),
+            Op::Return { .. } => { self.at_pair::<C, Returns, T, Site>(code, &arrival, &instr) }
+            Op::Ask { .. } => self.at_pair::<C, Asks, T, Site>(code, &arrival, &instr),
+            Op::Store { .. } => { self.at_pair::<C, Stores, T, Site>(code, &arrival, &instr) }
+            Op::Release { .. } => { self.at_pair::<C, Releases, T, Site>(code, &arrival, &instr) }
+            Op::Apply1 { .. } => { self.at_lone::<C, Computes, Site>(code, &arrival, &instr) }
+            Op::Apply2Right { .. } => {
+                self.at_lone::<C, AppliesRight, Site>(code, &arrival, &instr)
             }
-            Op::Sync => self.at_pair::<C, Syncs, Site>(code, token, &arrival, &instr),
-            Op::Switch => self.at_pair::<C, Switches, Site>(code, token, &arrival, &instr),
-            Op::Send { .. } => self.at_pair::<C, Sends, Site>(code, token, &arrival, &instr),
-            Op::Return { .. } => { self.at_pair::<C, Returns, Site>(code, token, &arrival, &instr) }
-            Op::Ask { .. } => self.at_pair::<C, Asks, Site>(code, token, &arrival, &instr),
-            Op::Store { .. } => { self.at_pair::<C, Stores, Site>(code, token, &arrival, &instr) }
-            Op::Release { .. } => {
-                self.at_pair::<C, Releases, Site>(code, token, &arrival, &instr)
+            Op::Apply2Left { .. } => {
+                self.at_lone::<C, AppliesLeft, Site>(code, &arrival, &instr)
             }
-            Op::Apply1 { .. } => self.at_lone(code, token, &arrival, &instr),
-            Op::Apply2Right { .. } => self.at_lone(code, token, &arrival, &instr),
-            Op::Apply2Left { .. } => self.at_lone(code, token, &arrival, &instr),
-            Op::Lit { .. } => self.at_lone(code, token, &arrival, &instr),
-            Op::Copy => self.at_lone(code, token, &arrival, &instr),
-            Op::Take { .. } => self.at_credit(code, token, &arrival, &instr),
-            Op::Give { .. } => self.at_credit(code, token, &arrival, &instr),
-            Op::Frame => self.at_frame(code, token, &arrival, &instr),
+            Op::Lit { .. } => { self.at_lone::<C, Literals, Site>(code, &arrival, &instr) }
+            Op::Copy => self.at_lone::<C, Copies, Site>(code, &arrival, &instr),
+            Op::Take { .. } => { self.at_credit::<C, Takes, T, Site>(code, &arrival, &instr) }
+            Op::Give { .. } => { self.at_credit::<C, Gives, T, Site>(code, &arrival, &instr) }
+            Op::Frame => self.at_frame::<C, Site>(code, &arrival, &instr),
+            Op::Link { .. } => { self.at_leaving::<C, Links, T, Site>(code, &arrival, &instr) }
+            Op::Fetch { .. } => { self.at_leaving::<C, Fetches, T, Site>(code, &arrival, &instr) }
             _ => false,
         }
     }
 
     // The same on the right port, which only an instruction with two inputs has.
-    fn acts_right<C: Instructions, Site>(
+    fn acts_right<C: Instructions, T: Company, Site>(
         &mut self,
         code: &C,
         at: usize,
         token: &PackedToken,
         point: Point,
     ) -> bool
+        requires alone { T.ALONE ≡ true → self.old.elements ≡ 1 }
         requires can { CanAct (C.program code.now) (C.width code.now) (held_in self.old) at token.now }
         requires address { token.now.to ≡ To.Instr point.frame point.ip Right }
+        requires spare { length self.old.queue.items + 3 ≤ self.old.queue.room }
         ensures did { result ≡ true → (before : List Token) → ActsAs (C.program code.now) (held_in self.old) at token.now before Did (held_in self.new) before }
         ensures not { result ≡ false → held_in self.new ≡ held_in self.old }
+        ensures len { length self.new.queue.items ≤ length self.old.queue.items + 2 }
+        ensures capacity { self.new.queue.room ≡ self.old.queue.room }
     {
         let Some(instr) = code.instr(point.ip) else {
             return false;
         };
-        let port = Port::Right;
-        let arrival = Arrival { at, point, port };
+        let arrival = PackedArrival {
+            at,
+            point,
+            port: Port::Right,
+            token: *token,
+        };
         match instr.op {
-            Op::Apply2 { .. } => {
-                self.at_pair::<C, Operates, Site>(code, token, &arrival, &instr)
-            }
-            Op::Sync => self.at_pair::<C, Syncs, Site>(code, token, &arrival, &instr),
-            Op::Switch => self.at_pair::<C, Switches, Site>(code, token, &arrival, &instr),
-            Op::Send { .. } => self.at_pair::<C, Sends, Site>(code, token, &arrival, &instr),
-            Op::Return { .. } => { self.at_pair::<C, Returns, Site>(code, token, &arrival, &instr) }
-            Op::Ask { .. } => self.at_pair::<C, Asks, Site>(code, token, &arrival, &instr),
-            Op::Store { .. } => { self.at_pair::<C, Stores, Site>(code, token, &arrival, &instr) }
-            Op::Release { .. } => {
-                self.at_pair::<C, Releases, Site>(code, token, &arrival, &instr)
-            }
+            Op::Apply2 { .. } => { self.at_pair::<C, Operates, T, Site>(code, &arrival, &instr) }
+            Op::Sync => self.at_pair::<C, Syncs, T, Site>(code, &arrival, &instr),
+            Op::Switch => self.at_pair::<C, Switches, T, Site>(code, &arrival, &instr),
+            Op::Send { .. } => self.at_pair::<C, Sends, T, Site>(code, &arrival, &instr),
+            Op::Return { .. } => { self.at_pair::<C, Returns, T, Site>(code, &arrival, &instr) }
+            Op::Ask { .. } => self.at_pair::<C, Asks, T, Site>(code, &arrival, &instr),
+            Op::Store { .. } => { self.at_pair::<C, Stores, T, Site>(code, &arrival, &instr) }
+            Op::Release { .. } => { self.at_pair::<C, Releases, T, Site>(code, &arrival, &instr) }
             _ => false,
         }
     }
@@ -162,31 +193,34 @@ impl<'m, A: Allocator> Contents<'m, A> {
     // An instruction with two inputs: the first token waits in the slot for the second, as it lies. Two arms do the same where
     // what was asked lets each be compiled shorter: on either port it is known which of the words is the token's.
     #[inline(always)]
-    fn at_pair<C: Instructions, K: Pair, Site>(
+    fn at_pair<C: Instructions, K: Pair, T: Company, Site>(
         &mut self,
         code: &C,
-        token: &PackedToken,
-        arrival: &Arrival,
+        arrival: &PackedArrival,
         instr: &Instruction,
     ) -> bool
-        requires can { CanAct (C.program code.now) (C.width code.now) (held_in self.old) arrival.now.at token.now }
-        requires address { token.now.to ≡ To.Instr arrival.now.point.frame arrival.now.point.ip arrival.now.port }
+        requires alone { T.ALONE ≡ true → self.old.elements ≡ 1 }
+        requires can { CanAct (C.program code.now) (C.width code.now) (held_in self.old) arrival.now.at arrival.now.token }
+        requires address { arrival.now.token.to ≡ To.Instr arrival.now.point.frame arrival.now.point.ip arrival.now.port }
         requires found { instr_at (C.program code.now) arrival.now.point.ip ≡ Some (instr_of instr.now) }
         requires short { IsShort (C.width code.now) arrival.now.point.ip instr.now }
         requires pair { IsPair instr.now.op }
-        ensures did { result ≡ true → (before : List Token) → ActsAs (C.program code.now) (held_in self.old) arrival.now.at token.now before Did (held_in self.new) before }
+        requires spare { length self.old.queue.items + 3 ≤ self.old.queue.room }
+        ensures did { result ≡ true → (before : List Token) → ActsAs (C.program code.now) (held_in self.old) arrival.now.at arrival.now.token before Did (held_in self.new) before }
         ensures not { result ≡ false → held_in self.new ≡ held_in self.old }
+        ensures len { length self.new.queue.items ≤ length self.old.queue.items + 2 }
+        ensures capacity { self.new.queue.room ≡ self.old.queue.room }
     {
-        let place = self.place_of_slot(arrival.point.frame, instr.slot);
+        let place = self.place_of_slot::<T>(arrival.point.frame, instr.slot());
         let held = self.slot_at(place);
-        match meet(&held, arrival.point, arrival.port, token) {
+        match meet(&held, arrival.point, arrival.port, &arrival.token) {
             Meeting::Waits { slot } => self.wait(arrival.at, place, slot),
             Meeting::Apart => false,
             Meeting::Both { left, right } => {
                 let matched = Matched { left, right };
                 match arrival.port {
-                    Port::Left => self.both::<C, K>(code, arrival, place, instr, &matched),
-                    Port::Right => self.both::<C, K>(code, arrival, place, instr, &matched),
+                    Port::Left => self.both::<C, K, T>(code, arrival, place, instr, &matched),
+                    Port::Right => self.both::<C, K, T>(code, arrival, place, instr, &matched),
                 }
             }
         }
@@ -195,25 +229,56 @@ impl<'m, A: Allocator> Contents<'m, A> {
     // An instruction with one input, whose word goes to its own destinations. The port is looked at last, so that the choice
     // of the instruction goes straight on into what it does.
     #[inline(always)]
-    fn at_lone<C: Instructions>(
+    fn at_lone<C: Instructions, K: Passes, Site>(
         &mut self,
         code: &C,
-        token: &PackedToken,
-        arrival: &Arrival,
+        arrival: &PackedArrival,
         instr: &Instruction,
     ) -> bool
-        requires can { CanAct (C.program code.now) (C.width code.now) (held_in self.old) arrival.now.at token.now }
-        requires address { token.now.to ≡ To.Instr arrival.now.point.frame arrival.now.point.ip arrival.now.port }
+        requires can { CanAct (C.program code.now) (C.width code.now) (held_in self.old) arrival.now.at arrival.now.token }
+        requires address { arrival.now.token.to ≡ To.Instr arrival.now.point.frame arrival.now.point.ip arrival.now.port }
         requires found { instr_at (C.program code.now) arrival.now.point.ip ≡ Some (instr_of instr.now) }
         requires short { IsShort (C.width code.now) arrival.now.point.ip instr.now }
         requires lone { IsLone instr.now.op }
-        ensures did { result ≡ true → (before : List Token) → ActsAs (C.program code.now) (held_in self.old) arrival.now.at token.now before Did (held_in self.new) before }
+        requires spare { length self.old.queue.items + 3 ≤ self.old.queue.room }
+        ensures did { result ≡ true → (before : List Token) → ActsAs (C.program code.now) (held_in self.old) arrival.now.at arrival.now.token before Did (held_in self.new) before }
         ensures not { result ≡ false → held_in self.new ≡ held_in self.old }
+        ensures len { length self.new.queue.items ≤ length self.old.queue.items + 2 }
+        ensures capacity { self.new.queue.room ≡ self.old.queue.room }
     {
-        match pass_one(instr, &token.word()) {
+        match K::passes(instr, &arrival.token.word()) {
             Some(passed) => match arrival.port {
                 Port::Right => false,
-                Port::Left => self.pass(arrival.at, arrival.point, None, &passed),
+                Port::Left => self.pass(arrival, None, &passed),
+            },
+            None => false,
+        }
+    }
+
+    // An instruction with one input that makes a token for another frame or for a cell.
+    #[inline(always)]
+    fn at_leaving<C: Instructions, K: Leaves, T: Company, Site>(
+        &mut self,
+        code: &C,
+        arrival: &PackedArrival,
+        instr: &Instruction,
+    ) -> bool
+        requires alone { T.ALONE ≡ true → self.old.elements ≡ 1 }
+        requires can { CanAct (C.program code.now) (C.width code.now) (held_in self.old) arrival.now.at arrival.now.token }
+        requires address { arrival.now.token.to ≡ To.Instr arrival.now.point.frame arrival.now.point.ip arrival.now.port }
+        requires found { instr_at (C.program code.now) arrival.now.point.ip ≡ Some (instr_of instr.now) }
+        requires short { IsShort (C.width code.now) arrival.now.point.ip instr.now }
+        requires lone { IsLone instr.now.op }
+        requires spare { length self.old.queue.items + 3 ≤ self.old.queue.room }
+        ensures did { result ≡ true → (before : List Token) → ActsAs (C.program code.now) (held_in self.old) arrival.now.at arrival.now.token before Did (held_in self.new) before }
+        ensures not { result ≡ false → held_in self.new ≡ held_in self.old }
+        ensures len { length self.new.queue.items ≤ length self.old.queue.items + 2 }
+        ensures capacity { self.new.queue.room ≡ self.old.queue.room }
+    {
+        match K::leave(code, arrival.point, instr, &arrival.token.word()) {
+            Some(leaving) => match arrival.port {
+                Port::Right => false,
+                Port::Left => self.pass_out::<T>(arrival, None, leaving),
             },
             None => false,
         }
@@ -221,24 +286,27 @@ impl<'m, A: Allocator> Contents<'m, A> {
 
     // An instruction that takes or gives a credit.
     #[inline(always)]
-    fn at_credit<C: Instructions>(
+    fn at_credit<C: Instructions, K: Counts, T: Company, Site>(
         &mut self,
         code: &C,
-        token: &PackedToken,
-        arrival: &Arrival,
+        arrival: &PackedArrival,
         instr: &Instruction,
     ) -> bool
-        requires can { CanAct (C.program code.now) (C.width code.now) (held_in self.old) arrival.now.at token.now }
-        requires address { token.now.to ≡ To.Instr arrival.now.point.frame arrival.now.point.ip arrival.now.port }
+        requires alone { T.ALONE ≡ true → self.old.elements ≡ 1 }
+        requires can { CanAct (C.program code.now) (C.width code.now) (held_in self.old) arrival.now.at arrival.now.token }
+        requires address { arrival.now.token.to ≡ To.Instr arrival.now.point.frame arrival.now.point.ip arrival.now.port }
         requires found { instr_at (C.program code.now) arrival.now.point.ip ≡ Some (instr_of instr.now) }
         requires short { IsShort (C.width code.now) arrival.now.point.ip instr.now }
         requires credit { IsCredit instr.now.op }
-        ensures did { result ≡ true → (before : List Token) → ActsAs (C.program code.now) (held_in self.old) arrival.now.at token.now before Did (held_in self.new) before }
+        requires spare { length self.old.queue.items + 3 ≤ self.old.queue.room }
+        ensures did { result ≡ true → (before : List Token) → ActsAs (C.program code.now) (held_in self.old) arrival.now.at arrival.now.token before Did (held_in self.new) before }
         ensures not { result ≡ false → held_in self.new ≡ held_in self.old }
+        ensures len { length self.new.queue.items ≤ length self.old.queue.items + 2 }
+        ensures capacity { self.new.queue.room ≡ self.old.queue.room }
     {
-        let place = self.place_of_slot(arrival.point.frame, instr.slot);
+        let place = self.place_of_slot::<T>(arrival.point.frame, instr.slot());
         let held = self.slot_at(place);
-        match credit_at_once(instr, &held, &token.word()) {
+        match K::at_once(instr, &held, &arrival.token.word()) {
             Credit::Later => false,
             Credit::SlotOnly { slot } => match arrival.port {
                 Port::Right => false,
@@ -246,27 +314,29 @@ impl<'m, A: Allocator> Contents<'m, A> {
             },
             Credit::Answered { slot, token } => match arrival.port {
                 Port::Right => false,
-                Port::Left => self.answer(arrival.at, place, slot, token),
+                Port::Left => self.answer::<T>(arrival.at, place, slot, token),
             },
         }
     }
 
     // An instruction that asks for a frame, on the element of the frame manager.
     #[inline(always)]
-    fn at_frame<C: Instructions>(
+    fn at_frame<C: Instructions, Site>(
         &mut self,
         code: &C,
-        token: &PackedToken,
-        arrival: &Arrival,
+        arrival: &PackedArrival,
         instr: &Instruction,
     ) -> bool
-        requires can { CanAct (C.program code.now) (C.width code.now) (held_in self.old) arrival.now.at token.now }
-        requires address { token.now.to ≡ To.Instr arrival.now.point.frame arrival.now.point.ip arrival.now.port }
+        requires can { CanAct (C.program code.now) (C.width code.now) (held_in self.old) arrival.now.at arrival.now.token }
+        requires address { arrival.now.token.to ≡ To.Instr arrival.now.point.frame arrival.now.point.ip arrival.now.port }
         requires found { instr_at (C.program code.now) arrival.now.point.ip ≡ Some (instr_of instr.now) }
         requires short { IsShort (C.width code.now) arrival.now.point.ip instr.now }
         requires frame { instr.now.op ≡ Op.Frame }
-        ensures did { result ≡ true → (before : List Token) → ActsAs (C.program code.now) (held_in self.old) arrival.now.at token.now before Did (held_in self.new) before }
+        requires spare { length self.old.queue.items + 3 ≤ self.old.queue.room }
+        ensures did { result ≡ true → (before : List Token) → ActsAs (C.program code.now) (held_in self.old) arrival.now.at arrival.now.token before Did (held_in self.new) before }
         ensures not { result ≡ false → held_in self.new ≡ held_in self.old }
+        ensures len { length self.new.queue.items ≤ length self.old.queue.items + 2 }
+        ensures capacity { self.new.queue.room ≡ self.old.queue.room }
     {
         match arrival.port {
             Port::Right => false,
@@ -279,17 +349,20 @@ impl<'m, A: Allocator> Contents<'m, A> {
         }
     }
 
-    // The token is taken out, and one for this element is made; nothing is done where there is no room.
+    // The token is taken out, and one for this element is made; nothing is done on another element than that of the frame manager.
     #[inline(always)]
     fn ask(&mut self, at: usize, token: PackedToken) -> bool
         requires some { 0 < self.old.elements }
         requires manager { token.to ≡ To.Manager }
         requires there { at < length self.old.queue.items }
         requires few { self.old.made < 2 ^ 63 }
+        requires spare { length self.old.queue.items + 3 ≤ self.old.queue.room }
         ensures did { result ≡ true → (before : List Token) → FiresAs (Some (token ∷ [])) (part_of self.old) (held_in self.old) at before Did (held_in self.new) before }
         ensures not { result ≡ false → held_in self.new ≡ held_in self.old }
+        ensures len { length self.new.queue.items ≤ length self.old.queue.items + 2 }
+        ensures capacity { self.new.queue.room ≡ self.old.queue.room }
     {
-        if self.element != 0 || !self.queue.has_room(1) {
+        if self.element != 0 {
             return false;
         }
         self.take(at);
@@ -298,17 +371,27 @@ impl<'m, A: Allocator> Contents<'m, A> {
     }
 
     // The slot at the place changes, the token is taken out, and one is made; nothing is done where that is for another
-    // element, or there is no room.
+    // element.
     #[inline(always)]
-    fn answer(&mut self, at: usize, place: usize, held: Slot, token: PackedToken) -> bool
-        requires some { 0 < self.old.elements }
+    fn answer<T: Company>(
+        &mut self,
+        at: usize,
+        place: usize,
+        held: Slot,
+        token: PackedToken,
+    ) -> bool
+        requires alone { T.ALONE ≡ true → self.old.elements ≡ 1 }
+        requires some { self.old.element < self.old.elements }
         requires place { place < length (bank_states self.old.bank) }
         requires there { at < length self.old.queue.items }
         requires few { self.old.made < 2 ^ 63 }
+        requires spare { length self.old.queue.items + 3 ≤ self.old.queue.room }
         ensures did { result ≡ true → (before : List Token) → FiresAs (Some (token ∷ [])) (with_state (part_of self.old) place held) (held_in self.old) at before Did (held_in self.new) before }
         ensures not { result ≡ false → held_in self.new ≡ held_in self.old }
+        ensures len { length self.new.queue.items ≤ length self.old.queue.items + 2 }
+        ensures capacity { self.new.queue.room ≡ self.old.queue.room }
     {
-        if !self.keeps(&token) || !self.queue.has_room(1) {
+        if !self.keeps::<T>(&token) {
             return false;
         }
         self.take(at);
@@ -325,6 +408,8 @@ impl<'m, A: Allocator> Contents<'m, A> {
         requires few { self.old.made < 2 ^ 63 }
         ensures held { held_in self.new ≡ taken (with_part (held_in self.old) (with_state (part_of self.old) place held)) at }
         ensures did { result ≡ true }
+        ensures len { length self.new.queue.items ≤ length self.old.queue.items + 2 }
+        ensures capacity { self.new.queue.room ≡ self.old.queue.room }
     {
         self.take(at);
         self.put_at(place, held);
@@ -333,99 +418,137 @@ impl<'m, A: Allocator> Contents<'m, A> {
 
     // Both words are there. The result is the same on both ports; the caller keeps the ports apart.
     #[inline(always)]
-    fn both<C: Instructions, K: Pair>(
+    fn both<C: Instructions, K: Pair, T: Company>(
         &mut self,
         code: &C,
-        arrival: &Arrival,
+        arrival: &PackedArrival,
         place: usize,
         instr: &Instruction,
         matched: &Matched,
     ) -> bool
-        requires some { 0 < self.old.elements }
+        requires alone { T.ALONE ≡ true → self.old.elements ≡ 1 }
+        requires some { self.old.element < self.old.elements }
         requires place { place < length (bank_states self.old.bank) }
         requires short { IsShort (C.width code.now) arrival.now.point.ip instr.now }
+        requires address { (q : Port) × (arrival.now.token.to ≡ To.Instr arrival.now.point.frame arrival.now.point.ip q) }
         requires own { arrival.now.point.frame % self.old.elements ≡ self.old.element }
         requires there { arrival.now.at < length self.old.queue.items }
         requires few { self.old.made < 2 ^ 63 }
         requires room { HasRoomInWord matched.now.left }
+        requires spare { length self.old.queue.items + 3 ≤ self.old.queue.room }
         ensures did { result ≡ true → (before : List Token) → FiresAs (fire_two (C.program code.now) (point_of arrival.now.point) (instr_of instr.now) instr.now.op matched.now.left matched.now.right) (with_state (part_of self.old) place Empty) (held_in self.old) arrival.now.at before Did (held_in self.new) before }
         ensures not { result ≡ false → held_in self.new ≡ held_in self.old }
+        ensures len { length self.new.queue.items ≤ length self.old.queue.items + 2 }
+        ensures capacity { self.new.queue.room ≡ self.old.queue.room }
     {
         let left = &matched.left;
         let right = &matched.right;
         match K::passes(instr, left, right) {
-            Some(passed) => self.pass(arrival.at, arrival.point, Some(place), &passed),
+            Some(passed) => self.pass(arrival, Some(place), &passed),
             None => match K::leave(code, arrival.point, instr, left, right) {
-                Some(leaving) => self.pass_out(arrival.at, arrival.point, place, leaving),
+                Some(leaving) => { self.pass_out::<T>(arrival, Some(place), leaving) }
                 None => match K::release(arrival.point, instr, left, right) {
-                    Some(after) => self.release(arrival.at, place, arrival.point.frame, after),
+                    Some(after) => self.release::<T>(arrival.at, place, arrival.point.frame, after),
                     None => false,
                 },
             },
         }
     }
 
-    // The slot at the place, if there is one, is empty then, the token is taken out, and a word goes to two destinations of
-    // its frame; but nothing is done where there is no room for them.
+    // The slot at the place, if there is one, is empty then.
     #[inline(always)]
-    fn pass(&mut self, at: usize, point: Point, cleared: Option<usize>, passed: &Passed) -> bool
-        requires near { point.ip < 2 ^ 30 }
-        requires own { point.frame % self.old.elements ≡ self.old.element }
+    fn clear(&mut self, cleared: Option<usize>)
         requires place { IfSome cleared (λ place. place < length (bank_states self.old.bank)) }
-        requires there { at < length self.old.queue.items }
-        requires few { self.old.made < 2 ^ 63 }
-        ensures did { result ≡ true → (before : List Token) → FiresAs (Some (passed_on (point_of point) passed.now)) (with_place (part_of self.old) cleared Empty) (held_in self.old) at before Did (held_in self.new) before }
-        ensures not { result ≡ false → held_in self.new ≡ held_in self.old }
+        ensures held { held_in self.new ≡ with_part (held_in self.old) (with_place (part_of self.old) cleared Empty) }
+        ensures queue { self.new.queue ≡ self.old.queue }
+        ensures elements { self.new.elements ≡ self.old.elements }
+        ensures element { self.new.element ≡ self.old.element }
     {
-        if !self.queue.has_room(2) {
-            return false;
-        }
-        self.take(at);
         if let Some(place) = cleared {
             self.put_at(place, Slot::empty());
         }
-        self.send_near(point, &passed.word, passed.first);
-        self.send_near(point, &passed.word, passed.second);
+    }
+
+    // The slot at the place, if there is one, is empty then, the token is taken out, and a word goes to two destinations of
+    // its frame.
+    #[inline(always)]
+    fn pass(&mut self, arrival: &PackedArrival, cleared: Option<usize>, passed: &Passed) -> bool
+        requires near { arrival.now.point.ip < 2 ^ 30 }
+        requires address { (q : Port) × (arrival.now.token.to ≡ To.Instr arrival.now.point.frame arrival.now.point.ip q) }
+        requires own { arrival.now.point.frame % self.old.elements ≡ self.old.element }
+        requires place { IfSome cleared (λ place. place < length (bank_states self.old.bank)) }
+        requires there { arrival.now.at < length self.old.queue.items }
+        requires few { self.old.made < 2 ^ 63 }
+        requires spare { length self.old.queue.items + 3 ≤ self.old.queue.room }
+        ensures did { result ≡ true → (before : List Token) → FiresAs (Some (passed_on (point_of arrival.now.point) passed.now)) (with_place (part_of self.old) cleared Empty) (held_in self.old) arrival.now.at before Did (held_in self.new) before }
+        ensures not { result ≡ false → held_in self.new ≡ held_in self.old }
+        ensures len { length self.new.queue.items ≤ length self.old.queue.items + 2 }
+        ensures capacity { self.new.queue.room ≡ self.old.queue.room }
+    {
+        self.take(arrival.at);
+        self.clear(cleared);
+        self.send_near(arrival, &passed.word, passed.first);
+        self.send_near(arrival, &passed.word, passed.second);
         true
     }
 
-    // The slot at the place is empty then, the token is taken out, a token goes into a frame, and signals to two destinations
-    // of the own frame; but nothing is done where the token is for another element, or there is no room.
+    // The slot at the place, if there is one, is empty then, the token is taken out, a token goes away, and signals go to two
+    // destinations of the own frame; but nothing is done where the token is for another element.
     #[inline(always)]
-    fn pass_out(&mut self, at: usize, point: Point, place: usize, leaving: Leaving) -> bool
-        requires some { 0 < self.old.elements }
-        requires near { point.ip < 2 ^ 30 }
-        requires own { point.frame % self.old.elements ≡ self.old.element }
-        requires place { place < length (bank_states self.old.bank) }
-        requires there { at < length self.old.queue.items }
+    fn pass_out<T: Company>(
+        &mut self,
+        arrival: &PackedArrival,
+        cleared: Option<usize>,
+        leaving: Leaving,
+    ) -> bool
+        requires alone { T.ALONE ≡ true → self.old.elements ≡ 1 }
+        requires some { self.old.element < self.old.elements }
+        requires near { arrival.now.point.ip < 2 ^ 30 }
+        requires address { (q : Port) × (arrival.now.token.to ≡ To.Instr arrival.now.point.frame arrival.now.point.ip q) }
+        requires own { arrival.now.point.frame % self.old.elements ≡ self.old.element }
+        requires place { IfSome cleared (λ place. place < length (bank_states self.old.bank)) }
+        requires there { arrival.now.at < length self.old.queue.items }
         requires few { self.old.made < 2 ^ 63 }
-        ensures did { result ≡ true → (before : List Token) → FiresAs (Some (left_on (point_of point) leaving)) (with_state (part_of self.old) place Empty) (held_in self.old) at before Did (held_in self.new) before }
+        requires spare { length self.old.queue.items + 3 ≤ self.old.queue.room }
+        ensures did { result ≡ true → (before : List Token) → FiresAs (Some (left_on (point_of arrival.now.point) leaving)) (with_place (part_of self.old) cleared Empty) (held_in self.old) arrival.now.at before Did (held_in self.new) before }
         ensures not { result ≡ false → held_in self.new ≡ held_in self.old }
+        ensures len { length self.new.queue.items ≤ length self.old.queue.items + 2 }
+        ensures capacity { self.new.queue.room ≡ self.old.queue.room }
     {
-        if !self.keeps(&leaving.token) || !self.queue.has_room(3) {
+        if !self.keeps::<T>(&leaving.token) {
             return false;
         }
-        self.take(at);
-        self.put_at(place, Slot::empty());
+        self.take(arrival.at);
+        self.clear(cleared);
         self.send_here(leaving.token);
         let signal = PackedWord::int(0);
-        self.send_near(point, &signal, leaving.first);
-        self.send_near(point, &signal, leaving.second);
+        self.send_near(arrival, &signal, leaving.first);
+        self.send_near(arrival, &signal, leaving.second);
         true
     }
 
     // The slot at the place is empty then, the token is taken out, one releases the frame, and one goes into another frame; but
-    // nothing is done where either is for another element, or there is no room.
+    // nothing is done where either is for another element.
     #[inline(always)]
-    fn release(&mut self, at: usize, place: usize, frame: FrameId, after: PackedToken) -> bool
-        requires some { 0 < self.old.elements }
+    fn release<T: Company>(
+        &mut self,
+        at: usize,
+        place: usize,
+        frame: FrameId,
+        after: PackedToken,
+    ) -> bool
+        requires alone { T.ALONE ≡ true → self.old.elements ≡ 1 }
+        requires some { self.old.element < self.old.elements }
         requires place { place < length (bank_states self.old.bank) }
         requires there { at < length self.old.queue.items }
         requires few { self.old.made < 2 ^ 63 }
+        requires spare { length self.old.queue.items + 3 ≤ self.old.queue.room }
         ensures did { result ≡ true → (before : List Token) → FiresAs (Some (Rule.token (To.Release frame) Rule.signal ∷ after ∷ [])) (with_state (part_of self.old) place Empty) (held_in self.old) at before Did (held_in self.new) before }
         ensures not { result ≡ false → held_in self.new ≡ held_in self.old }
+        ensures len { length self.new.queue.items ≤ length self.old.queue.items + 2 }
+        ensures capacity { self.new.queue.room ≡ self.old.queue.room }
     {
-        if self.element != 0 || !self.keeps(&after) || !self.queue.has_room(2) {
+        if self.element != 0 || !self.keeps::<T>(&after) {
             return false;
         }
         self.take(at);

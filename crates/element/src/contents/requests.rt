@@ -85,7 +85,7 @@ impl<'m, A: Allocator> Contents<'m, A> {
 }
 
 // Asks the manager for a frame.
-fn request<A: Allocator>(
+pub(super) fn request<A: Allocator>(
     manager: &mut Option<Manager<A>>,
     cont: Cont,
 ) -> Result<Option<FrameId>, AllocError>
@@ -98,7 +98,7 @@ fn request<A: Allocator>(
     }
 }
 
-fn release<A: Allocator>(
+pub(super) fn release<A: Allocator>(
     manager: &mut Option<Manager<A>>,
     frame: FrameId,
 ) -> Result<Option<(Cont, FrameId)>, NotOut>

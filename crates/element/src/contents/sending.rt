@@ -1,13 +1,17 @@
 //! Tokens are taken out of the queue, and sent: into the queue, or to other elements.
 
-ghost use Rattle.std.specs.Prelude.{◌≡◌, ◌+◌, ◌<◌, ◌≤◌, ◌^◌, ◌%◌, [], ◌∷◌, ◌++◌, ◌==◌, true, length, OnOk, vec_len};
+ghost use Rattle.std.specs.Prelude.{◌≡◌, ◌+◌, ◌*◌, ◌<◌, ◌≤◌, ◌^◌, ◌%◌, [], ◌∷◌, ◌++◌, ◌==◌, true, length, OnOk, IfOk, vec_len};
 ghost use Rattle.std.specs.Vec.{vec_capacity};
 ghost use Rattle.element.specs.Holding.{held_in, shape_of, elsewhere, queued, taken};
 ghost use Rattle.tags.specs.Addresses.{element_of};
+ghost use Rattle.tags.specs.declared.token.Port.{Port};
+ghost use Rattle.tags.specs.declared.token.To.{To};
 ghost use Rattle.element.specs.Fired.{point_of, tokens_of, outside_of, to_half};
 
 use super::Contents;
+use super::executing::PackedArrival;
 use crate::bundled::{element_for, owner_of};
+use crate::company::Company;
 use crate::firing::{Made, Point, SIGNAL};
 use crate::instructions::dest_in;
 use packed::token::PackedToken;
@@ -15,7 +19,23 @@ use packed::word::PackedWord;
 use std::alloc::{AllocError, Allocator};
 use tags::token::{To, Token, Word};
 
+/// For how many tokens room is made at once.
+const ROOM: usize = 64;
+
 impl<'m, A: Allocator> Contents<'m, A> {
+    /// Makes room, and answers for how many events there is room: each takes a token out, and puts at most three in. After an
+    /// error nothing is changed.
+    #[inline(always)]
+    pub fn ration(&mut self) -> Result<u64, AllocError>
+        ensures held { held_in self.new ≡ held_in self.old }
+        ensures some { IfOk result (λ events. 0 < events) }
+        ensures room { IfOk result (λ events. length self.new.queue.items + 2 * events + 1 ≤ self.new.queue.room) }
+    {
+        self.queue.reserve(ROOM)?;
+        let spare = self.queue.spare();
+        Ok(((spare - 1) / 2) as u64)
+    }
+
     // Makes room for `tokens` more tokens. After an error nothing is changed.
     #[inline(always)]
     pub(super) fn make_room(
@@ -38,7 +58,7 @@ impl<'m, A: Allocator> Contents<'m, A> {
         requires there { at < length self.old.queue.items }
         requires few { self.old.made < 2 ^ 63 }
         ensures held { held_in self.new ≡ taken (held_in self.old) at }
-        ensures len { length self.new.queue.items ≤ length self.old.queue.items }
+        ensures len { length self.new.queue.items + 1 ≡ length self.old.queue.items }
         ensures capacity { self.new.queue.room ≡ self.old.queue.room }
     {
         if at == 0 {
@@ -104,30 +124,34 @@ impl<'m, A: Allocator> Contents<'m, A> {
 
     // The same, where the frame lies on this element: so does the destination, and no token goes to another element.
     #[inline(always)]
-    pub(super) fn send_near(&mut self, point: Point, word: &PackedWord, half: u32)
-        requires near { point.ip < 2 ^ 30 }
-        requires own { point.frame % self.old.elements ≡ self.old.element }
+    pub(super) fn send_near(&mut self, arrival: &PackedArrival, word: &PackedWord, half: u32)
+        requires near { arrival.now.point.ip < 2 ^ 30 }
+        requires address { (q : Port) × (arrival.now.token.to ≡ To.Instr arrival.now.point.frame arrival.now.point.ip q) }
+        requires own { arrival.now.point.frame % self.old.elements ≡ self.old.element }
         requires room { length self.old.queue.items < self.old.queue.room }
-        ensures held { held_in self.new ≡ queued (held_in self.old) (to_half (point_of point) word.now half) }
-        ensures none { elsewhere (shape_of self.old) (to_half (point_of point) word.now half) ≡ [] }
+        ensures held { held_in self.new ≡ queued (held_in self.old) (to_half (point_of arrival.now.point) word.now half) }
+        ensures none { elsewhere (shape_of self.old) (to_half (point_of arrival.now.point) word.now half) ≡ [] }
         ensures len { length self.new.queue.items ≤ length self.old.queue.items + 1 }
         ensures capacity { self.new.queue.room ≡ self.old.queue.room }
     {
         if let Some(dest) = dest_in(half) {
-            let ip = point.ip + dest.ahead;
-            let token = PackedToken::to_instr(point.frame, ip, dest.port, word);
+            let token = arrival.token.onward(dest.ahead, dest.port, word);
             self.queue.push_packed(token);
         }
     }
 
     // Whether a packed token goes to an instruction of a frame that lies here.
     #[inline(always)]
-    pub(super) fn keeps(&self, token: &PackedToken) -> bool
-        requires some { 0 < self.now.elements }
+    pub(super) fn keeps<T: Company>(&self, token: &PackedToken) -> bool
+        requires alone { T.ALONE ≡ true → self.now.elements ≡ 1 }
+        requires there { self.now.element < self.now.elements }
         ensures { result ≡ true → element_of self.now.elements token.now.to ≡ self.now.element }
     {
-        match token.input() {
-            Some(input) => owner_of(input.frame, self.elements) == self.element,
+        if T::ALONE {
+            return true;
+        }
+        match token.frame() {
+            Some(frame) => owner_of(frame, self.elements) == self.element,
             None => false,
         }
     }

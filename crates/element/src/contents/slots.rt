@@ -1,6 +1,6 @@
 //! The slots of the frames that lie on an element.
 
-ghost use Rattle.std.specs.Prelude.{◌≡◌, ◌*◌, ◌<◌, ◌/◌, length, slice_index_or};
+ghost use Rattle.std.specs.Prelude.{◌≡◌, ◌*◌, ◌<◌, ◌/◌, true, length, slice_index_or};
 ghost use Rattle.element.specs.Holding.{held_in, part_of, shape_of, with_part};
 ghost use Rattle.tags.specs.declared.slot.SlotState.TheVariants.{Empty};
 ghost use Rattle.frame_store.specs.BankViews.{bank_states, IsBank};
@@ -11,6 +11,7 @@ ghost use Rattle.element.specs.Changed.{with_state, with_state_in, state_in};
 
 use super::Contents;
 use crate::bundled::place_of;
+use crate::company::Company;
 use crate::instructions::Instruction;
 use frame_store::slot::Slot;
 use std::alloc::Allocator;
@@ -39,9 +40,19 @@ impl<'m, A: Allocator> Contents<'m, A> {
         self.bank.state(self.own_frame(frame), slot as usize)
     }
 
+    // How many elements there are: one where it is known that there are no others.
+    #[inline(always)]
+    pub(super) fn team<T: Company>(&self) -> u32
+        requires alone { T.ALONE ≡ true → self.now.elements ≡ 1 }
+        ensures { result ≡ self.now.elements }
+    {
+        if T::ALONE { 1 } else { self.elements }
+    }
+
     // Where the slot of an instruction is, in a frame on this element.
     #[inline(always)]
-    pub(super) fn place_of_slot(&self, frame: FrameId, slot: u32) -> usize
+    pub(super) fn place_of_slot<T: Company>(&self, frame: FrameId, slot: u32) -> usize
+        requires alone { T.ALONE ≡ true → self.now.elements ≡ 1 }
         requires some { 0 < self.now.elements }
         requires bank { IsBank self.now.bank }
         requires frame { frame < self.now.elements * self.now.bank.frames }
@@ -49,7 +60,8 @@ impl<'m, A: Allocator> Contents<'m, A> {
         ensures exact { result ≡ slot_place (shape_of self.now) frame slot }
         ensures within { result < length (bank_states self.now.bank) }
     {
-        self.bank.place(self.own_frame(frame), slot as usize)
+        let own = place_of(frame, self.team::<T>()) as usize;
+        self.bank.place(own, slot as usize)
     }
 
     // The slot at a place, as it lies there.
@@ -96,7 +108,7 @@ impl<'m, A: Allocator> Contents<'m, A> {
         ensures { result ≡ state_in (part_of self.now) frame (slot_of (instr_of instr.now) instr.now.op) }
     {
         if instr.op.uses_slot() {
-            self.slot_state(frame, instr.slot)
+            self.slot_state(frame, instr.slot())
         } else {
             SlotState::Empty
         }
@@ -111,7 +123,7 @@ impl<'m, A: Allocator> Contents<'m, A> {
         ensures queue { self.new.queue ≡ self.old.queue }
     {
         if instr.op.uses_slot() {
-            self.set_slot(frame, instr.slot, state);
+            self.set_slot(frame, instr.slot(), state);
         }
     }
 }

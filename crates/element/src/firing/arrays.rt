@@ -28,7 +28,7 @@ pub enum Indexed {
 }
 
 #[inline(always)]
-fn index_in(len: u32, index: Value, origin: Origin) -> Indexed
+pub(super) fn index_in(len: u32, index: Value, origin: Origin) -> Indexed
     ensures exact { indexed_of result ≡ Values.index_in len index origin }
     ensures within { IsWithin len result }
 {

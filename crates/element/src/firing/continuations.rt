@@ -53,7 +53,7 @@ pub(super) fn answer_to(point: Point, instr: &Instruction) -> Cont
     requires short { IfSome (dest_in instr.now.first) (λ d. d.ahead < 2 ^ 30) }
     ensures { result ≡ Rule.answer_to (point_of point) (instr_of instr.now).firsts }
 {
-    match dest_in(instr.first) {
+    match dest_in(instr.first()) {
         Some(dest) => Cont::Frame {
             frame: point.frame,
             ip: point.ip + dest.ahead,
@@ -74,7 +74,7 @@ pub(super) fn landing_at(point: Point, instr: &Instruction) -> Cont
     requires short { IfSome (dest_in instr.now.first) (λ d. d.ahead < 2 ^ 30) }
     ensures { result ≡ Rule.landing_at (point_of point) (instr_of instr.now).firsts }
 {
-    let ip = match dest_in(instr.first) {
+    let ip = match dest_in(instr.first()) {
         Some(dest) => point.ip + dest.ahead,
         None => point.ip,
     };

@@ -1,8 +1,11 @@
 //! The instructions that keep the credits of a loop.
 
-ghost use Rattle.std.specs.Prelude.{◌≡◌};
+ghost use Rattle.std.specs.Prelude.{◌≡◌, IfSome};
 ghost use Rattle.tags.specs.declared.token.Port.TheVariants.{Left};
-ghost use Rattle.semantics.specs.Program.{Program, Instr};
+ghost use Rattle.tags.specs.declared.token.Cont.{Cont};
+ghost use Rattle.tags.specs.declared.token.Word.{Word};
+ghost use Rattle.tags.specs.declared.slot.SlotState.TheVariants.{Credits};
+ghost use Rattle.semantics.specs.Program.{Program};
 ghost use Rattle.semantics.specs.Rule as Rule;
 ghost use Rattle.element.specs.Decoded.{instr_of};
 ghost use Rattle.element.specs.Fired.{point_of, tokens_of, outcome_by};
@@ -17,7 +20,7 @@ use packed::token::PackedToken;
 use packed::word::PackedWord;
 use semantics::program::Op;
 use tags::slot::SlotState;
-use tags::token::Word;
+use tags::token::{Cont, Word};
 
 /// The immediate result of a credit that is taken or given.
 #[derive(Clone, Copy)]
@@ -40,55 +43,91 @@ fn holding(state: SlotState) -> Slot
     slot
 }
 
-// A credit is taken, or the continuation that asks for it waits.
+// The signal to a continuation in a frame, if it is one.
 #[inline(always)]
-fn taken(slot: SlotState, word: Word) -> Credit
-    ensures { CreditIs (Rule.takes slot word) result }
+fn signal_to(back: &PackedWord) -> Option<PackedToken>
+    ensures { IfSome result (λ t. (c : Cont) × (back.now ≡ Word.Back c) × (t ≡ Rule.token (Rule.back_to c) Rule.signal)) }
 {
-    match (slot, word) {
-        (SlotState::Credits(0), Word::Back(cont)) => Credit::SlotOnly {
+    match back.unpack() {
+        Word::Back(Cont::Frame { frame, ip, port }) => {
+            let signal = PackedWord::int(0);
+            Some(PackedToken::to_instr(frame, ip, port, &signal))
+        }
+        _ => None,
+    }
+}
+
+// The continuation waits for a credit.
+#[inline(always)]
+fn kept_waiting(word: &PackedWord) -> Credit
+    ensures { CreditIs (Rule.takes (Credits 0) word.now) result }
+{
+    match word.unpack() {
+        Word::Back(cont) => Credit::SlotOnly {
             slot: holding(SlotState::Waiter(cont)),
-        },
-        (SlotState::Credits(credits), Word::Back(cont)) => Credit::Answered {
-            slot: holding(SlotState::Credits(credits - 1)),
-            token: PackedToken::pack(answer(cont, SIGNAL)),
         },
         _ => Credit::Later,
     }
 }
 
-// A credit is given back while the loop goes on.
-#[inline(always)]
-fn given(slot: SlotState, bound: u8) -> Credit
-    ensures { (s : Rule.Point) (i : Instr) → CreditIs (Rule.gives s i bound slot) result }
-{
-    match slot {
-        SlotState::Credits(credits) => {
-            if credits < u32::from(bound) {
+/// A kind of instruction that takes or gives a credit.
+pub trait Counts {
+    /// Its immediate result of a left token, where it is of this kind.
+    fn at_once(instr: &Instruction, held: &Slot, word: &PackedWord) -> Credit
+        ensures { (p : Program) (s : Rule.Point) → CreditIs (Rule.outcome_of p s (instr_of instr.now) instr.now.op held.now Left word.now) result };
+}
+
+/// `take`: a credit is taken, or the continuation that asks for it waits.
+pub struct Takes;
+
+impl Counts for Takes {
+    #[inline(always)]
+    fn at_once(instr: &Instruction, held: &Slot, word: &PackedWord) -> Credit {
+        let Op::Take { .. } = instr.op else {
+            return Credit::Later;
+        };
+        match held.credits() {
+            None => Credit::Later,
+            Some(0) => kept_waiting(word),
+            Some(credits) => match signal_to(word) {
+                None => Credit::Later,
+                Some(token) => Credit::Answered {
+                    slot: Slot::with_credits(credits - 1),
+                    token,
+                },
+            },
+        }
+    }
+}
+
+/// `give`: a credit is given back while the loop goes on.
+pub struct Gives;
+
+impl Counts for Gives {
+    #[inline(always)]
+    fn at_once(instr: &Instruction, held: &Slot, _word: &PackedWord) -> Credit {
+        let Op::Give { bound } = instr.op else {
+            return Credit::Later;
+        };
+        if let Some(credits) = held.credits() {
+            return if credits < u32::from(bound) {
                 Credit::SlotOnly {
-                    slot: holding(SlotState::Credits(credits + 1)),
+                    slot: Slot::with_credits(credits + 1),
                 }
             } else {
                 Credit::Later
-            }
+            };
         }
-        SlotState::Waiter(cont) => Credit::Answered {
-            slot: holding(SlotState::Credits(0)),
-            token: PackedToken::pack(answer(cont, SIGNAL)),
-        },
-        _ => Credit::Later,
-    }
-}
-
-/// The immediate result of a left token at an instruction that takes or gives a credit.
-#[inline(always)]
-pub fn credit_at_once(instr: &Instruction, held: &Slot, word: &PackedWord) -> Credit
-    ensures { (p : Program) (s : Rule.Point) → CreditIs (Rule.outcome_of p s (instr_of instr.now) instr.now.op held.now Left word.now) result }
-{
-    match instr.op {
-        Op::Take { .. } => taken(held.state(), word.unpack()),
-        Op::Give { bound } => given(held.state(), bound),
-        _ => Credit::Later,
+        let Some(back) = held.waiter() else {
+            return Credit::Later;
+        };
+        match signal_to(&back) {
+            None => Credit::Later,
+            Some(token) => Credit::Answered {
+                slot: Slot::with_credits(0),
+                token,
+            },
+        }
     }
 }
 
@@ -112,7 +151,7 @@ pub(super) fn opens(
 }
 
 // A credit is taken, or the continuation that asks for it waits.
-pub(super) fn takes(slot: SlotState, word: Word, made: &mut Made) -> Outcome
+pub(super) fn takes_credit(slot: SlotState, word: Word, made: &mut Made) -> Outcome
     ensures { (s : Rule.Point) → outcome_by result (tokens_of s made.new) ≡ Rule.takes slot word }
 {
     match (slot, word) {
@@ -126,7 +165,7 @@ pub(super) fn takes(slot: SlotState, word: Word, made: &mut Made) -> Outcome
 }
 
 // A credit is given back.
-pub(super) fn gives(
+pub(super) fn gives_credit(
     point: Point,
     instr: &Instruction,
     bound: u8,

@@ -73,8 +73,8 @@ fn before_all(
     made.released = None;
     made.outside = outside;
     made.word = word;
-    made.first = instr.first;
-    made.second = instr.second;
+    made.first = instr.first();
+    made.second = instr.second();
 }
 
 #[inline(always)]
@@ -91,7 +91,7 @@ pub(super) fn to_first(point: Point, word: Word, instr: &Instruction, made: &mut
     made.released = None;
     made.outside = None;
     made.word = word;
-    made.first = instr.first;
+    made.first = instr.first();
     made.second = 0;
 }
 
@@ -109,7 +109,7 @@ pub(super) fn to_second(
     made.outside = Some(outside);
     made.word = word;
     made.first = 0;
-    made.second = instr.second;
+    made.second = instr.second();
 }
 
 // A token, and then a signal to each destination.

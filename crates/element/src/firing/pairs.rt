@@ -7,8 +7,9 @@ ghost use Rattle.semantics.specs.Rule as Rule;
 ghost use Rattle.element.specs.Decoded.{instr_of, IsShort};
 ghost use Rattle.element.specs.Fired.{point_of, passed_on, left_on, HasRoomInWord};
 
+use super::arrays::{Indexed, index_in};
 use super::continuations::answer_to;
-use super::leaving::Leaving;
+use super::leaving::{Leaving, alone};
 use super::made::Point;
 use super::passing::{Passed, to_both};
 use super::two_inputs::entry_at;
@@ -17,7 +18,7 @@ use operators::{apply2_at, truth};
 use packed::token::PackedToken;
 use packed::word::PackedWord;
 use semantics::program::Op;
-use tags::token::{Cont, Port, Word};
+use tags::token::{Cont, Port, To, Token, Word};
 use tags::value::Value;
 
 /// A kind of instruction with two inputs: what it makes of its words, where it is of this kind and they are of the kinds that
@@ -27,7 +28,7 @@ pub trait Pair {
     fn passes(instr: &Instruction, left: &PackedWord, right: &PackedWord) -> Option<Passed>
         ensures { IfSome result (λ x. (p : Program) (s : Rule.Point) → Rule.fire_two p s (instr_of instr.now) instr.now.op left.now right.now ≡ Some (passed_on s x)) };
 
-    /// A token that it sends into a frame, and signals.
+    /// A token that it sends away, and signals.
     fn leave<C: Instructions>(
         code: &C,
         point: Point,
@@ -117,9 +118,9 @@ impl Pair for Switches {
                 Some(Passed {
                     word: *left,
                     first: if truth(value) {
-                        instr.first
+                        instr.first()
                     } else {
-                        instr.second
+                        instr.second()
                     },
                     second: 0,
                 })
@@ -163,8 +164,8 @@ impl Pair for Sends {
                 let token = PackedToken::to_instr(frame, ip, Port::Left, right);
                 Some(Leaving {
                     token,
-                    first: instr.first,
-                    second: instr.second,
+                    first: instr.first(),
+                    second: instr.second(),
                 })
             }
             _ => None,
@@ -191,11 +192,11 @@ impl Pair for Returns {
     ) -> Option<Leaving> {
         match (instr.op, left.unpack(), right.unpack()) {
             (Op::Return { offset }, Word::Back(Cont::Frame { frame, ip, .. }), Word::Val(_)) => {
-                let token = PackedToken::to_instr(frame, ip + u32::from(offset), Port::Left, right);
+                let token = PackedToken::to_instr(frame, further(ip, offset), Port::Left, right);
                 Some(Leaving {
                     token,
-                    first: instr.first,
-                    second: instr.second,
+                    first: instr.first(),
+                    second: instr.second(),
                 })
             }
             _ => None,
@@ -237,18 +238,14 @@ impl Pair for Asks {
                 let ip = further(ip, offset);
                 let answer = PackedWord::pack(Word::Back(answer_to(point, instr)));
                 let token = PackedToken::to_instr(frame, ip, Port::Left, &answer);
-                Some(Leaving {
-                    token,
-                    first: 0,
-                    second: 0,
-                })
+                Some(alone(token))
             }
             _ => None,
         }
     }
 }
 
-/// `store`: its first word waits, and no more is done at once.
+/// `store`.
 pub struct Stores;
 
 impl Pair for Stores {
@@ -259,13 +256,29 @@ impl Pair for Stores {
 
     #[inline(always)]
     fn leave<C: Instructions>(
-        _code: &C,
-        _point: Point,
-        _instr: &Instruction,
-        _left: &PackedWord,
-        _right: &PackedWord,
+        code: &C,
+        point: Point,
+        instr: &Instruction,
+        left: &PackedWord,
+        right: &PackedWord,
     ) -> Option<Leaving> {
-        None
+        match (instr.op, left.as_int(), right.unpack()) {
+            (Op::Store { array }, Some(index), Word::Val(value)) => {
+                let cells = code.array(array);
+                match index_in(cells.len, Value::Int(index), instr.origin()) {
+                    Indexed::Outside(_) => None,
+                    Indexed::Place(place) => {
+                        let to = To::Store {
+                            cell: cells.base + place,
+                            value,
+                        };
+                        let word = Word::Back(answer_to(point, instr));
+                        Some(alone(PackedToken::pack(Token { to, word })))
+                    }
+                }
+            }
+            _ => None,
+        }
     }
 }
 

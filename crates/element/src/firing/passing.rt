@@ -21,28 +21,86 @@ pub struct Passed {
     pub second: u32,
 }
 
-/// What an instruction with one input passes on to its destinations, where it is one that does and has no use of its word, or
-/// the word is an integer.
-#[inline(always)]
-pub fn pass_one(instr: &Instruction, word: &PackedWord) -> Option<Passed>
-    ensures { IfSome result (λ x. (p : Program) (s : Rule.Point) → Rule.fire_one p s (instr_of instr.now) instr.now.op word.now ≡ Some (passed_on s x)) }
-{
-    match (instr.op, word.as_int()) {
-        (Op::Apply1 { op }, Some(number)) => {
-            let value = apply1(op, Value::Int(number));
-            Some(to_both(instr, PackedWord::pack(Word::Val(value))))
+/// A kind of instruction with one input that passes a word on.
+pub trait Passes {
+    /// What it passes on to its destinations, where it is of this kind and has no use of its word, or the word is an integer.
+    fn passes(instr: &Instruction, word: &PackedWord) -> Option<Passed>
+        ensures { IfSome result (λ x. (p : Program) (s : Rule.Point) → Rule.fire_one p s (instr_of instr.now) instr.now.op word.now ≡ Some (passed_on s x)) };
+}
+
+/// An operator on one value.
+pub struct Computes;
+
+impl Passes for Computes {
+    #[inline(always)]
+    fn passes(instr: &Instruction, word: &PackedWord) -> Option<Passed> {
+        match (instr.op, word.as_int()) {
+            (Op::Apply1 { op }, Some(number)) => {
+                let value = apply1(op, Value::Int(number));
+                Some(to_both(instr, PackedWord::pack(Word::Val(value))))
+            }
+            _ => None,
         }
-        (Op::Apply2Right { op, literal }, Some(number)) => {
-            let value = apply2_at(op, Value::Int(number), Value::Int(literal), instr.origin());
-            Some(to_both(instr, PackedWord::pack(Word::Val(value))))
+    }
+}
+
+/// An operator with a literal on the right.
+pub struct AppliesRight;
+
+impl Passes for AppliesRight {
+    #[inline(always)]
+    fn passes(instr: &Instruction, word: &PackedWord) -> Option<Passed> {
+        match (instr.op, word.as_int()) {
+            (Op::Apply2Right { op, literal }, Some(number)) => {
+                let right = Value::Int(literal);
+                let value = apply2_at(op, Value::Int(number), right, instr.origin());
+                Some(to_both(instr, PackedWord::pack(Word::Val(value))))
+            }
+            _ => None,
         }
-        (Op::Apply2Left { op, literal }, Some(number)) => {
-            let value = apply2_at(op, Value::Int(literal), Value::Int(number), instr.origin());
-            Some(to_both(instr, PackedWord::pack(Word::Val(value))))
+    }
+}
+
+/// An operator with a literal on the left.
+pub struct AppliesLeft;
+
+impl Passes for AppliesLeft {
+    #[inline(always)]
+    fn passes(instr: &Instruction, word: &PackedWord) -> Option<Passed> {
+        match (instr.op, word.as_int()) {
+            (Op::Apply2Left { op, literal }, Some(number)) => {
+                let left = Value::Int(literal);
+                let value = apply2_at(op, left, Value::Int(number), instr.origin());
+                Some(to_both(instr, PackedWord::pack(Word::Val(value))))
+            }
+            _ => None,
         }
-        (Op::Lit { literal }, _) => Some(to_both(instr, PackedWord::int(literal))),
-        (Op::Copy, _) => Some(to_both(instr, *word)),
-        _ => None,
+    }
+}
+
+/// `lit`.
+pub struct Literals;
+
+impl Passes for Literals {
+    #[inline(always)]
+    fn passes(instr: &Instruction, _word: &PackedWord) -> Option<Passed> {
+        match instr.op {
+            Op::Lit { literal } => Some(to_both(instr, PackedWord::int(literal))),
+            _ => None,
+        }
+    }
+}
+
+/// `copy`.
+pub struct Copies;
+
+impl Passes for Copies {
+    #[inline(always)]
+    fn passes(instr: &Instruction, word: &PackedWord) -> Option<Passed> {
+        match instr.op {
+            Op::Copy => Some(to_both(instr, *word)),
+            _ => None,
+        }
     }
 }
 
@@ -53,7 +111,7 @@ pub(super) fn to_both(instr: &Instruction, word: PackedWord) -> Passed
 {
     Passed {
         word,
-        first: instr.first,
-        second: instr.second,
+        first: instr.first(),
+        second: instr.second(),
     }
 }

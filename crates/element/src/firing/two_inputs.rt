@@ -157,7 +157,7 @@ pub fn fire_two<C: Instructions>(
 fn choose(holds: bool, point: Point, word: Word, instr: &Instruction, made: &mut Made)
     ensures { tokens_of (point_of point) made.new ≡ Rule.to_each (point_of point) word (if holds then (instr_of instr.now).firsts else (instr_of instr.now).seconds) }
 {
-    let side = if holds { instr.first } else { instr.second };
+    let side = if holds { instr.first() } else { instr.second() };
     made.released = None;
     made.outside = None;
     made.word = word;

@@ -1,41 +1,83 @@
-use Rattle.std.proofs.Common.{◌∙◌, subst, suc, arith}
+use Rattle.std.proofs.Common.{◌≡◌, refl, ◌∙◌, ap, subst, ℕ, suc, ◌+◌, ◌<◌, ◌≤◌, true, Result, Ok, Err, arith}
+use Rattle.std.specs.Prelude.{OnErr, is_err}
 use Rattle.element.specs.declared.lane.Stepped.{Stepped}
+use Rattle.element.specs.Holding.{Fixed}
 use Rattle.element.specs.Steps.{Steps}
-use Rattle.schedule.proofs.OneLane.{one_more}
+use Rattle.element.proofs.Turns.{lane_events_more, events_grow}
+use Rattle.schedule.proofs.OneLane.{one_answer, one_more}
 use Rattle.schedule.proofs.alone.make_events.Goals as goal
 
 pub events-preserved : goal.events-preserved
 events-preserved g c =
     let inv = c.events.invariant in
-    let old = c.events.lane in
-    let next = c.step.new.self in
+    let start = c.args.lane.now in
+    let mid = c.turn.new.self in
+    let next = c.step_otherwise.new.self in
+    let fixed = c.turn.ensures.fixed ∙ inv.fixed in
+    let events = lane_events_more start c.events.lane mid inv.fixed inv.made c.turn.ensures.exact in
     let made = c.in-Some-Did.ensures in
-    let step = subst (λ (s : Stepped). Steps old.program old.held 0 c.events.sent.items s next.held c.step.new.sent.items) c.in-Some-Did.field-0-is made.exact in
-    let more = one_more c.args.lane.now old next c.events.sent.items c.step.new.sent.items inv.fixed c.step.ensures.fixed c.requires.one c.step.ensures.sound c.step.ensures.most inv.none made.allowed step in
-    let some = inv.left in
-    let past = c.if-left-eq0.false in
+    let step = subst (λ (s : Stepped). Steps mid.program mid.held 0 c.events.sent.items s next.held c.step_otherwise.new.sent.items) c.in-Some-Did.field-0-is made.exact in
+    let more = one_more start mid next c.events.sent.items c.step_otherwise.new.sent.items fixed c.step_otherwise.ensures.fixed c.requires.one c.step_otherwise.ensures.sound c.step_otherwise.ensures.most inv.none made.allowed step in
     record {
-      made = (suc inv.made.0, (old.held, inv.made.1, more.1, more.2, more.3, more.4));
-      left = omega arith;
+      made = (suc events.0, (mid.held, events.1, more.1, more.2, more.3, more.4));
       none = more.0;
-      fixed = c.step.ensures.fixed ∙ inv.fixed;
+      fixed = c.step_otherwise.ensures.fixed ∙ fixed;
     }
 
-pub returns-then-left-eq0-clause-exact : goal.returns-then-left-eq0-clause-exact
-returns-then-left-eq0-clause-exact g c =
+pub events-smaller : goal.events-smaller
+events-smaller g c =
     let inv = c.events.invariant in
+    let start = c.args.lane.now in
     let old = c.events.lane in
-    let next = c.step.new.self in
-    let made = c.in-Some-Did.ensures in
-    let step = subst (λ (s : Stepped). Steps old.program old.held 0 c.events.sent.items s next.held c.step.new.sent.items) c.in-Some-Did.field-0-is made.exact in
-    let more = one_more c.args.lane.now old next c.events.sent.items c.step.new.sent.items inv.fixed c.step.ensures.fixed c.requires.one c.step.ensures.sound c.step.ensures.most inv.none made.allowed step in
-    (inv.made.0, old.held, inv.made.1, ((λ _. more.1), more.4))
+    let mid = c.turn.new.self in
+    let next = c.step_otherwise.new.self in
+    let fixed = c.step_otherwise.ensures.fixed ∙ (c.turn.ensures.fixed ∙ inv.fixed) in
+    let grows : old.held.made ≤ mid.held.made = events_grow old.program old.steps c.turn.ensures.exact.0 old.held mid.held c.turn.ensures.exact.1 in
+    let step = subst (λ (s : Stepped). Steps mid.program mid.held 0 c.events.sent.items s next.held c.step_otherwise.new.sent.items) c.in-Some-Did.field-0-is c.in-Some-Did.ensures.exact in
+    let count : next.held.made ≡ mid.held.made + 1 = step.count in
+    let steps : next.steps ≡ start.steps = ap (λ (f : Fixed). f.steps) fixed in
+    let most : next.held.made ≤ next.steps = c.step_otherwise.ensures.most in
+    omega arith
 
-pub returns-then-left-eq0-clause-none : goal.returns-then-left-eq0-clause-none
-returns-then-left-eq0-clause-none g c =
+on_error : {T E : Type 0} (r : Result T E) (P : Type 0) → OnErr r P → is_err r ≡ true → P
+on_error (Ok x) P h e = absurd (let no : ⊥ = cc in no)
+on_error (Err x) P h e = h
+
+pub returns-then-is_err-clause-exact : goal.returns-then-is_err-clause-exact
+returns-then-is_err-clause-exact g c =
     let inv = c.events.invariant in
-    let old = c.events.lane in
-    let next = c.step.new.self in
-    let made = c.in-Some-Did.ensures in
-    let step = subst (λ (s : Stepped). Steps old.program old.held 0 c.events.sent.items s next.held c.step.new.sent.items) c.in-Some-Did.field-0-is made.exact in
-    (one_more c.args.lane.now old next c.events.sent.items c.step.new.sent.items inv.fixed c.step.ensures.fixed c.requires.one c.step.ensures.sound c.step.ensures.most inv.none made.allowed step).0
+    let mid = c.turn.new.self in
+    let events = lane_events_more c.args.lane.now c.events.lane mid inv.fixed inv.made c.turn.ensures.exact in
+    let value = c.is_err.ensures.value in
+    let true_here = c.if-is_err.true in
+    let failed : is_err c.turn.result ≡ true = cc in
+    let refused = on_error c.turn.result _ c.turn.ensures.refused failed in
+    let steps = ap (λ (f : Fixed). f.steps) (c.turn.ensures.fixed ∙ inv.fixed) in
+    (events.0, mid.held, events.1, ((λ _. subst (λ (n : ℕ). mid.held.made < n) steps refused.1), (refused.0, record { held = refl; sent = refl })))
+
+pub returns-in-None-clause-exact : goal.returns-in-None-clause-exact
+returns-in-None-clause-exact g c =
+    let inv = c.events.invariant in
+    let mid = c.turn.new.self in
+    let events = lane_events_more c.args.lane.now c.events.lane mid inv.fixed inv.made c.turn.ensures.exact in
+    let spent = c.in-None.ensures.spent in
+    let steps = ap (λ (f : Fixed). f.steps) (c.turn.ensures.fixed ∙ inv.fixed) in
+    (events.0, mid.held, events.1, (spent.1, spent.0 ∙ steps, spent.2.held))
+
+pub returns-in-Some : goal.returns-in-Some
+returns-in-Some g c =
+    let inv = c.events.invariant in
+    let start = c.args.lane.now in
+    let mid = c.turn.new.self in
+    let next = c.step_otherwise.new.self in
+    let fixed = c.turn.ensures.fixed ∙ inv.fixed in
+    let events = lane_events_more start c.events.lane mid inv.fixed inv.made c.turn.ensures.exact in
+    let made = c.in-Some.ensures in
+    let answers = one_answer start mid next c.events.sent.items c.step_otherwise.new.sent.items c.in-Some.other fixed c.step_otherwise.ensures.fixed c.requires.one c.step_otherwise.ensures.sound inv.none made.allowed made.exact in
+    record {
+      exact = (events.0, mid.held, events.1, answers.1);
+      none = answers.0;
+      sound = c.step_otherwise.ensures.sound;
+      most = c.step_otherwise.ensures.most;
+      fixed = c.step_otherwise.ensures.fixed ∙ fixed;
+    }

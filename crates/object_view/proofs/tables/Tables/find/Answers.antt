@@ -1,4 +1,5 @@
-use Rattle.std.proofs.Common.{arith, rules, ap, ◌∙◌}
+use Rattle.std.proofs.Common.{◌+◌, ◌*◌, arith, rules, ap, ◌∙◌, length-drop}
+use Rattle.std.proofs.lemmas.List.{take_all}
 use Rattle.object_view.specs.Fields.{word_at}
 use Rattle.object_view.specs.Reading.{instrs_below}
 use Rattle.object_view.proofs.Facts.{counts_from}
@@ -14,6 +15,7 @@ invariant_of-result c =
       literals_parsed = c.word_at-2.ensures;
       arrays_parsed = c.word_at-3.ensures;
       main_parsed = c.word_at-4.ensures;
+      code_follows = take_all _ _ (omega (arith, length-drop (8 * (6 + c.word_at-blocks.result)) c.args.bytes.now));
       instrs_parsed = c.in-Ok.ensures.counted ∙ ap (instrs_below w) c.word_at-blocks.ensures;
       whole = omega (arith, c.in_default-check_length.ensures.whole, c.in-Ok.ensures.counted, ap (instrs_below w) c.word_at-blocks.ensures, c.word_at-blocks.ensures, c.word_at-2.ensures, c.word_at-3.ensures);
       main_there = omega (arith, f.main_there, c.word_at-blocks.ensures, c.word_at-4.ensures);

@@ -1,7 +1,6 @@
 use Rattle.std.proofs.Common.{◌≡◌, ap, ◌∙◌, get_or}
-use Rattle.packed.specs.Packing.{words_of, head_of, word_parts}
-use Rattle.packed.specs.FieldsOf.{parts_of}
-use Rattle.packed.specs.PackedTokens.{to_state, token_from, AreTokenWordsOf}
+use Rattle.packed.specs.Packing.{head_of, word_parts}
+use Rattle.packed.specs.PackedTokens.{token_from, AreTokenWordsOf}
 use Rattle.packed.proofs.TokensBack.{token_back, token_words_back}
 use Rattle.packed.proofs.token.PackedToken.pack.Goals as goal
 

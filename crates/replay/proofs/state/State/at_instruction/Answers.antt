@@ -1,5 +1,8 @@
-use Rattle.std.proofs.Common.{◌∙◌, refl, subst, ap, ℕ, Option, List}
+use Rattle.std.proofs.Common.{◌≡◌, ◌∙◌, sym, subst, ap, ℕ, Option, List}
+use Rattle.semantics.specs.declared.program.Op.{Op}
+use Rattle.semantics.specs.Rule.{slot_of}
 use Rattle.element.specs.Decoded.{instr_of}
+use Rattle.element.specs.Short.{ShortInstr}
 use Rattle.tags.specs.declared.token.Token.{Token}
 use Rattle.element.specs.Fired.{tokens_of, point_of}
 use Rattle.replay.specs.DoesAs.{held_in, Sets}
@@ -13,7 +16,8 @@ returns-in_ok-set_in-in-Becomes-clause-does_as g c s n made holds near token hap
     let slots = c.args.self.now.slots in
     let f = c.args.point.frame in
     let ts : List Token = tokens_of (point_of c.args.point) c.fire.new.made in
-    let used = c.slot_in-slot.ensures (instr_of i) refl in
+    let same : c.instr-2.inside.op ≡ i.op = ap (λ (x : ShortInstr). x.op) c.instr-2.view_is in
+    let used = c.slot_in-slot.ensures (instr_of i) (sym c.slot.ensures) ∙ ap (λ (o : Op). slot_of (instr_of i) o) same in
     let count = c.count_made-made.ensures (point_of c.args.point) in
     fired p c.args.self.now s holds near
     (g.C.Instructions.width c.args.code.now) f c.args.point.ip c.args.port c.args.word i c.state_in-state.result c.in-Becomes.after

@@ -4,10 +4,10 @@ use Rattle.object_view.proofs.Tabulated.{length_tabulated, first_of_tabulated}
 use Rattle.object_view.proofs.Views.{blocks_seen}
 use Rattle.std.proofs.Common.{length, sym, ap, ◌∙◌, arith}
 use Rattle.semantics.specs.Program.{first_of}
-use Rattle.object_view.proofs.object.Object.instr_count.Goals as goal
+use Rattle.object_view.proofs.object.Object.instrs.Goals as goal
 
-pub returns : goal.returns
-returns c =
+pub returns-clause-exact : goal.returns-clause-exact
+returns-clause-exact c =
     let t = c.self.inside.tables in
     let w = word_at t.bytes.now in
     let b = blocks_seen t.bytes.now _ c.self.view_is in

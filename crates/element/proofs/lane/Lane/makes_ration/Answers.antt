@@ -1,0 +1,19 @@
+use Rattle.std.proofs.Common.{◌≡◌, ap, subst, ◌+◌, ◌≤◌, arith}
+use Rattle.std.proofs.lemmas.Grind.{common_steps}
+use Rattle.element.specs.Holding.{Holding, LaneView, held_in}
+use Rattle.element.specs.Steps.{MakesEvents}
+use Rattle.element.proofs.lane.Lane.makes_ration.Goals as goal
+
+pub returns-clause-exact : goal.returns-clause-exact
+returns-clause-exact g c =
+    let lane = c.self.inside in
+    let p = g.C.Instructions.program lane.code.now in
+    let new : Holding = held_in c.make_at_once.new.self in
+    let held : held_in c.ration.new.self ≡ held_in lane.contents = c.ration.ensures.held in
+    let same : c.ration.new.self.made ≡ lane.contents.made = ap (λ (h : Holding). h.made) held in
+    let within : c.ration.new.self.made + c.min-events.result ≤ lane.steps = grind (arith, common_steps) in
+    let all = c.make_at_once.ensures.exact lane.steps within in
+    let view : LaneView = record { program = p; steps = lane.steps; held = held_in lane.contents } in
+    let seen = c.self.view_is in
+    let is : view ≡ c.args.self.now = cc in
+    (all.0, subst (λ (l : LaneView). MakesEvents l.program l.steps all.0 l.held new) is (subst (λ (h : Holding). MakesEvents p lane.steps all.0 h new) held all.1))

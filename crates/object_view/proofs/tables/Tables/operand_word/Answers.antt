@@ -1,0 +1,8 @@
+use Rattle.std.proofs.Common.{◌*◌, ◌+◌, ◌∙◌, arith}
+use Rattle.object_view.proofs.CodeWords.{word_after}
+use Rattle.object_view.proofs.tables.Tables.operand_word.Goals as goal
+
+pub returns : goal.returns
+returns c =
+    let s = c.args.self.now in
+    c.word_at.ensures ∙ word_after s.bytes.now s.code.now (6 + s.blocks) (2 * c.args.ip + 1) _ s.code_follows (omega (arith, s.blocks_parsed))
