@@ -20,8 +20,7 @@ use Rattle.oracle.specs.declared.lines.Line.{Line}
 use Rattle.oracle.specs.declared.lines.Line.TheVariants.{Input, Nothing}
 use Rattle.oracle.specs.declared.shapes.Shape.{Shape}
 use Rattle.oracle.specs.declared.shapes.Shape.TheVariants.{Fires, Gates, Passes, Returns, Turns, Outputs}
-use Rattle.oracle.specs.declared.deeds.Deed.{Deed}
-use Rattle.oracle.specs.declared.deeds.Deed.TheVariants.{Sends, Enters, Stops}
+use Rattle.oracle.specs.Deeds.{Deed, Sends, Enters, Stops}
 use Rattle.oracle.specs.Lines.{line_of, line_in, line_of_row, resolved_in, origin_of}
 use Rattle.oracle.specs.Acting.{line_deed, fires_deed, input_deed, fired_deed, gated_deed, passed_deed, turned_deed, returned_deed, shown_deed, next_turn, deed_in, node_gated}
 use Rattle.oracle.specs.Meant.{name_in, deed_of, activity_of}

@@ -5,8 +5,7 @@ use Rattle.semantics.specs.Graph.{Graph, flow_of, array_len}
 use Rattle.semantics.specs.Meaning.{Context, Tagged, State, Activity, taken, deed, Clashes}
 use Rattle.semantics.specs.Meaning as Meaning
 use Rattle.law_confluence.proofs.ActivityShapes.{storing}
-use Rattle.oracle.specs.declared.deeds.Deed.{Deed}
-use Rattle.oracle.specs.declared.deeds.Deed.TheVariants.{Fills}
+use Rattle.oracle.specs.Deeds.{Deed, Fills}
 use Rattle.oracle.specs.declared.state.Gate.TheVariants.{Clashes as GateClashes}
 use Rattle.oracle.specs.Acting.{gate_of, held_in}
 use Rattle.oracle.specs.Meant.{name_in, deed_of}

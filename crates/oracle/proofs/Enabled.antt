@@ -20,7 +20,7 @@ use Rattle.law_confluence.proofs.OutcomeRest.{takes_some, some_taken}
 use Rattle.law_confluence.proofs.HistoryRuns.{activity_once, step_of}
 use Rattle.law_confluence.proofs.Outcome.{reached_unique}
 use Rattle.oracle.specs.declared.invocations.Invocation.{Invocation}
-use Rattle.oracle.specs.declared.deeds.Deed.{Deed}
+use Rattle.oracle.specs.Deeds.{Deed}
 use Rattle.oracle.specs.declared.state.Gate.TheVariants.{Free}
 use Rattle.oracle.specs.declared.tokens.Token.{Token}
 use Rattle.oracle.specs.Acting.{gate_of, held_in}

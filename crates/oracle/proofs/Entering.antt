@@ -24,7 +24,7 @@ made_same (Turned c n i) (Turned d m j) h =
     ap (λ k. Turned k n i) (eqb-true c d q.0) ∙ ap (λ k. Turned d k i) (eqb-true n m q.1) ∙ ap (λ k. Turned d m k) (eqb-true i j p.1)
 made_same a b h = cc
 
-made_found : (made : Made) (i k : ℕ) (xs : List Invocation) → made_from made i xs ≡ Some k → (j : ℕ) × (x : Invocation) × (k ≡ i + j) × (slice_get xs j ≡ Some x) × (x.made ≡ made)
+pub made_found : (made : Made) (i k : ℕ) (xs : List Invocation) → made_from made i xs ≡ Some k → (j : ℕ) × (x : Invocation) × (k ≡ i + j) × (slice_get xs j ≡ Some x) × (x.made ≡ made)
 made_found made i k [] h = cc
 made_found made i k (x ∷ xs) h =
     let Goal : Type 0 = (j : ℕ) × (y : Invocation) × (k ≡ i + j) × (slice_get (x ∷ xs) j ≡ Some y) × (y.made ≡ made) in

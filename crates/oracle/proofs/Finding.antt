@@ -10,8 +10,7 @@ use Rattle.semantics.specs.Meaning.{Context, State, Activity, Same, Clashes}
 use Rattle.lemmas.proofs.Permutations.{each_append_back, each_permutation}
 use Rattle.law_confluence.proofs.OutcomeDeterminacy.{same_sym, same_trans}
 use Rattle.oracle.specs.declared.invocations.Invocation.{Invocation}
-use Rattle.oracle.specs.declared.deeds.Deed.{Deed}
-use Rattle.oracle.specs.declared.deeds.Deed.TheVariants.{Sends, Steers, Enters, EntersAll, Stops, Reads, Fills, Puts}
+use Rattle.oracle.specs.Deeds.{Deed, Sends, Steers, Enters, EntersAll, Stops, Reads, Fills, Puts}
 use Rattle.oracle.specs.declared.report.MeanEnd.TheVariants.{Rest, Clash, Steps}
 use Rattle.oracle.specs.declared.state.Gate.{Gate}
 use Rattle.oracle.specs.declared.state.Gate.TheVariants.{Free, Defers, Clashes as GateClashes}

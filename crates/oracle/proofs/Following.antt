@@ -8,8 +8,7 @@ use Rattle.semantics.specs.Meaning.{Context, State, Activity, taken, deed, Run, 
 use Rattle.lemmas.proofs.Permutations.{Each, permutation_exchange}
 use Rattle.oracle.specs.declared.report.MeanEnd.{MeanEnd}
 use Rattle.oracle.specs.declared.report.MeanEnd.TheVariants.{Rest, Clash, Steps}
-use Rattle.oracle.specs.declared.deeds.Deed.{Deed}
-use Rattle.oracle.specs.declared.deeds.Deed.TheVariants.{Puts}
+use Rattle.oracle.specs.Deeds.{Deed, Puts}
 use Rattle.oracle.specs.declared.state.Gate.TheVariants.{Free}
 use Rattle.oracle.specs.declared.tokens.Token.{Token}
 use Rattle.oracle.specs.Lines.{total_of, outputs_at}

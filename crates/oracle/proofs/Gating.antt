@@ -9,8 +9,7 @@ use Rattle.semantics.specs.Meaning.{Context, AtNode, Tagged, tagged, Activity, t
 use Rattle.semantics.specs.Meaning as Meaning
 use Rattle.lemmas.proofs.Permutations.{Within, put_first, within_permutation, permutation_cancel}
 use Rattle.law_confluence.proofs.ActivityShapes.{fires_deed, gates_said, passes_said}
-use Rattle.oracle.specs.declared.deeds.Deed.{Deed}
-use Rattle.oracle.specs.declared.deeds.Deed.TheVariants.{Reads, Fills}
+use Rattle.oracle.specs.Deeds.{Deed, Reads, Fills}
 use Rattle.oracle.specs.declared.state.Gate.TheVariants.{Free, Defers, Clashes as GateClashes}
 use Rattle.oracle.specs.Acting.{gate_of, held_in}
 

@@ -7,7 +7,7 @@ use Rattle.semantics.specs.Text.{HasText}
 use Rattle.semantics.specs.Meaning.{Context, block_number}
 use Rattle.oracle.specs.declared.invocations.Invocation.{Invocation}
 use Rattle.oracle.specs.declared.shapes.Shape.{Shape}
-use Rattle.oracle.specs.declared.deeds.Deed.{Deed}
+use Rattle.oracle.specs.Deeds.{Deed}
 use Rattle.oracle.specs.declared.tokens.Token.{Token}
 use Rattle.oracle.specs.Lines.{shape_in, spots_in}
 use Rattle.oracle.specs.Acting.{all_there, values_of, remaining_of, deed_in}

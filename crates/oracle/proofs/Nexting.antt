@@ -15,8 +15,7 @@ use Rattle.law_confluence.proofs.ActivityShapes.{storing, showing}
 use Rattle.law_confluence.proofs.HistoryRuns.{run_to_same}
 use Rattle.law_confluence.proofs.Outcome.{reached_unique}
 use Rattle.oracle.specs.declared.invocations.Invocation.{Invocation}
-use Rattle.oracle.specs.declared.deeds.Deed.{Deed}
-use Rattle.oracle.specs.declared.deeds.Deed.TheVariants.{Sends, Steers, Enters, EntersAll, Stops, Reads, Fills, Puts}
+use Rattle.oracle.specs.Deeds.{Deed, Sends, Steers, Enters, EntersAll, Stops, Reads, Fills, Puts}
 use Rattle.oracle.specs.declared.report.MeanEnd.TheVariants.{Clash}
 use Rattle.oracle.specs.declared.state.Gate.{Gate}
 use Rattle.oracle.specs.declared.state.Gate.TheVariants.{Free, Defers, Clashes as GateClashes}

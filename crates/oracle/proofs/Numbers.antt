@@ -1,6 +1,7 @@
 -- The map that finds invocations grows with them.
-use Rattle.std.proofs.Common.{◌≡◌, ℕ, suc, ◌+◌, Bool, true, false, List, [], ◌∷◌, ◌++◌, length, Option, Some, None, if◌then◌else◌, refl, sym, ap, ◌∙◌, subst, arith}
-use Rattle.std.specs.Prelude.{cond}
+use Rattle.std.proofs.Common.{◌≡◌, ◌≢◌, ℕ, suc, ◌+◌, ◌<◌, Bool, true, false, List, [], ◌∷◌, ◌++◌, length, Option, Some, None, if◌then◌else◌, refl, sym, ap, ◌∙◌, subst, arith}
+use Rattle.std.specs.Prelude.{cond, unwrap_or}
+use Rattle.std.proofs.lemmas.Option.{slice_get_within}
 use Rattle.std.specs.Ordering.{is_eq}
 use Rattle.std.specs.declared.cmp.Ordering.{Ordering}
 use Rattle.std.specs.BTreeMap.{BTreeMap, get, Updates}
@@ -8,7 +9,7 @@ use Rattle.oracle.specs.declared.invocations.Made.{Made}
 use Rattle.oracle.specs.declared.invocations.Invocation.{Invocation}
 use Rattle.oracle.specs.Running.{same_made, made_from}
 use Rattle.oracle.specs.Numbering.{IsNumbering}
-use Rattle.oracle.proofs.Entering.{made_same}
+use Rattle.oracle.proofs.Entering.{made_same, made_found}
 use Rattle.oracle.proofs.Apart.{made_refl}
 
 -- whether two are equal in the order
@@ -48,6 +49,40 @@ numbers_more cmp m n xs made block apart numbers absent updates q =
         let same : length xs ≡ 0 + length xs = omega arith in
         ap (λ k. Some k) same ∙ sym (ap (λ v. or_later v (Some (0 + length xs))) none)
     go false e = numbers q ∙ later (made_from q 0 xs)
+
+-- the map has one of its numbers written again
+pub numbers_same : (cmp : Made → Made → Ordering) (m n : BTreeMap Made ℕ) (xs : List Invocation) (made : Made) (k : ℕ) → DealsApart cmp → IsNumbering cmp m xs → made_from made 0 xs ≡ Some k
+    → Updates cmp m n made (Some k) → IsNumbering cmp n xs
+numbers_same cmp m n xs made k apart numbers there updates q = updates.0 q ∙ ap (λ b. cond b (Some k) (get cmp m q)) (apart made q) ∙ go (same_made made q) refl
+  where
+    go : (t : Bool) → same_made made q ≡ t → cond t (Some k) (get cmp m q) ≡ made_from q 0 xs
+    go true e = sym there ∙ ap (λ a. made_from a 0 xs) (made_same made q e)
+    go false e = numbers q
+
+made_below : (made : Made) (xs : List Invocation) (k : ℕ) → made_from made 0 xs ≡ Some k → k < length xs
+made_below made xs k h =
+    let r = made_found made 0 k xs h in
+    let is = r.2 in
+    let low = slice_get_within xs r.0 r.1 r.3 in
+    omega (arith, is, low)
+
+-- the number for a place is that of the invocation that was made there, or the next one
+pub kept_old : (xs : List Invocation) (made : Made) (k : ℕ) → k ≡ unwrap_or (made_from made 0 xs) (length xs) → k ≢ length xs → made_from made 0 xs ≡ Some k
+kept_old xs made k e h = go (made_from made 0 xs) refl
+  where
+    go : (o : Option ℕ) → made_from made 0 xs ≡ o → made_from made 0 xs ≡ Some k
+    go None q = absurd (h (e ∙ ap (λ o. unwrap_or o (length xs)) q))
+    go (Some j) q = q ∙ ap (λ i. Some i) (sym (e ∙ ap (λ o. unwrap_or o (length xs)) q))
+
+pub kept_new : (xs : List Invocation) (made : Made) (k : ℕ) → k ≡ unwrap_or (made_from made 0 xs) (length xs) → k ≡ length xs → made_from made 0 xs ≡ None
+kept_new xs made k e h = go (made_from made 0 xs) refl
+  where
+    go : (o : Option ℕ) → made_from made 0 xs ≡ o → made_from made 0 xs ≡ None
+    go None q = q
+    go (Some j) q =
+        let low = made_below made xs j q in
+        let same : k ≡ j = e ∙ ap (λ o. unwrap_or o (length xs)) q in
+        absurd (omega (arith, low, same, h))
 
 -- the one that is added is the first that was made there, if no other was
 pub made_last : (xs : List Invocation) (made : Made) (block : ℕ) → made_from made 0 xs ≡ None → made_from made 0 (xs ++ record { made = made; block = block } ∷ []) ≡ Some (length xs)

@@ -12,8 +12,7 @@ use Rattle.law_confluence.proofs.ActivityDiamond.{effect_of}
 use Rattle.law_confluence.proofs.OutcomeDeterminacy.{same_refl}
 use Rattle.law_confluence.proofs.HistoryRuns.{run_append, step_of}
 use Rattle.oracle.specs.declared.invocations.Made.{Made}
-use Rattle.oracle.specs.declared.deeds.Deed.{Deed}
-use Rattle.oracle.specs.declared.deeds.Deed.TheVariants.{Sends, Steers, Enters, EntersAll, Stops, Reads, Fills, Puts}
+use Rattle.oracle.specs.Deeds.{Deed, Sends, Steers, Enters, EntersAll, Stops, Reads, Fills, Puts}
 use Rattle.oracle.specs.declared.state.Gate.TheVariants.{Free, Defers, Clashes}
 use Rattle.oracle.specs.declared.tokens.Spot.TheVariants.{Operand}
 use Rattle.oracle.specs.declared.tokens.Token.{Token}

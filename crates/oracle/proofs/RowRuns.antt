@@ -1,11 +1,10 @@
 -- A run over rows reports what the run over one list reports.
-use Rattle.std.proofs.Common.{◌≡◌, ℕ, zero, suc, ◌+◌, ◌-◌, ◌<◌, Bool, true, false, ◌==◌, ℤ, List, [], ◌∷◌, ◌++◌, map, length, Option, Some, None, Result, Ok, Err, slice_get, slice_set, slice_index_or, if◌then◌else◌, refl, sym, ap, ◌∙◌, subst, eqb-true, eq-eqb}
+use Rattle.std.proofs.Common.{◌≡◌, ℕ, zero, suc, ◌-◌, ◌<◌, Bool, true, false, ◌==◌, ℤ, List, [], ◌∷◌, ◌++◌, map, length, Option, Some, None, Result, Ok, Err, slice_get, slice_set, slice_index_or, if◌then◌else◌, refl, sym, ap, ◌∙◌, subst, arith, eqb-true, eq-eqb}
 use Rattle.tags.specs.declared.value.Value.{Value}
 use Rattle.semantics.specs.Graph.{Graph}
 use Rattle.oracle.specs.declared.invocations.Invocation.{Invocation}
 use Rattle.oracle.specs.declared.shapes.Shape.{Shape}
-use Rattle.oracle.specs.declared.deeds.Deed.{Deed}
-use Rattle.oracle.specs.declared.deeds.Deed.TheVariants.{Sends, Steers, Enters, EntersAll, Stops, Reads, Fills, Puts}
+use Rattle.oracle.specs.Deeds.{Deed, Sends, Steers, Enters, EntersAll, Stops, Reads, Fills, Puts}
 use Rattle.oracle.specs.declared.state.Gate.{Gate}
 use Rattle.oracle.specs.declared.state.Gate.TheVariants.{Free, Defers, Clashes}
 use Rattle.oracle.specs.declared.tokens.Spot.{Spot}
@@ -20,7 +19,6 @@ use Rattle.oracle.proofs.RowLists.{row_here, row_set, set_here}
 use Rattle.oracle.specs.Rows.{rows_of, with_row, no_rows, Next, Goes, Stays, Breaks, row_next, next_among, run_among}
 use Rattle.oracle.proofs.Views.{joined_view}
 use Rattle.oracle.proofs.Rows.{keep, mine, there_mine, left_mine, left_other, values_mine}
-use Rattle.oracle.proofs.Counting.{less_one}
 
 -- JOINING
 
@@ -227,10 +225,23 @@ result_among g inputs steps = go (run_of g steps (start_of g inputs)) ∙ sym (a
     go (Some r) = refl
 
 -- a step of a run
-pub run_goes : (g : Graph) (s t : Plain) (rows rows' : ℕ → List Token) (vs : List Value) (d : Deed) (i n : ℕ) (all : Option (MeanEnd × Plain)) → i < n → all ≡ run_among g (n - i) s rows
-    → next_among g s rows ≡ Goes t rows' vs d → all ≡ run_among g (n - (i + 1)) (performed g t vs d) rows'
-run_goes g s t rows rows' vs d i n all h e is =
-    e ∙ ap (λ k. run_among g k s rows) (less_one i n h) ∙ ap (went g (n - (i + 1))) is
+pub run_goes : (g : Graph) (s t : Plain) (rows rows' : ℕ → List Token) (vs : List Value) (d : Deed) (n : ℕ) (all : Option (MeanEnd × Plain)) → 0 < n → all ≡ run_among g n s rows
+    → next_among g s rows ≡ Goes t rows' vs d → all ≡ run_among g (n - 1) (performed g t vs d) rows'
+run_goes g s t rows rows' vs d n all h e is =
+    let one : n ≡ suc (n - 1) = omega (arith, h) in
+    e ∙ ap (λ k. run_among g k s rows) one ∙ ap (went g (n - 1)) is
+
+-- the ends of a run
+pub run_stops : (g : Graph) (s t : Plain) (rows rows' : ℕ → List Token) (vs : List Value) (d : Deed) (n : ℕ) → n ≡ 0 → next_among g s rows ≡ Goes t rows' vs d → run_among g n s rows ≡ Some (Steps, t)
+run_stops g s t rows rows' vs d n h is = ap (λ k. run_among g k s rows) h ∙ ap ended is
+
+pub run_stays : (g : Graph) (s t : Plain) (rows : ℕ → List Token) (e : MeanEnd) (n : ℕ) → next_among g s rows ≡ Stays t e → run_among g n s rows ≡ Some (e, t)
+run_stays g s t rows e zero is = ap ended is
+run_stays g s t rows e (suc n) is = ap (went g n) is
+
+pub run_breaks : (g : Graph) (s : Plain) (rows : ℕ → List Token) (n : ℕ) → next_among g s rows ≡ Breaks → run_among g n s rows ≡ None
+run_breaks g s rows zero is = ap ended is
+run_breaks g s rows (suc n) is = ap (went g n) is
 
 -- the same run, by equal states and equal rows
 pub run_kept : {V : Type 0} (g : Graph) (k : ℕ) (q r : Plain) (w v : List V) (f : V → List Token) → q ≡ r → v ≡ w → run_among g k q (rows_of (map f w)) ≡ run_among g k r (rows_of (map f v))

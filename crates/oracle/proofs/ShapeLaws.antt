@@ -14,7 +14,7 @@ use Rattle.oracle.specs.declared.lines.Line.{Line}
 use Rattle.oracle.specs.declared.lines.Line.TheVariants.{Input, Node, Nothing}
 use Rattle.oracle.specs.declared.shapes.Shape.{Shape}
 use Rattle.oracle.specs.declared.shapes.Shape.TheVariants.{Fires, Gates, Passes, Returns, Turns, Outputs}
-use Rattle.oracle.specs.declared.deeds.Deed.{Deed}
+use Rattle.oracle.specs.Deeds.{Deed}
 use Rattle.oracle.specs.declared.tokens.Spot.{Spot}
 use Rattle.oracle.specs.declared.tokens.Spot.TheVariants.{Operand, Predicate, Out, Flag, Carried}
 use Rattle.oracle.specs.Lines.{same_spot, operand_spots, spots_in, takes_all, node_shape, fires_shape, operand_shape, enter_shape, predicate_shape, out_shape, turn_shape, shape_in, line_of}

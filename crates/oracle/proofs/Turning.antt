@@ -27,8 +27,7 @@ use Rattle.oracle.specs.declared.lines.Line.{Line}
 use Rattle.oracle.specs.declared.lines.Line.TheVariants.{Input, Node, Nothing}
 use Rattle.oracle.specs.declared.shapes.Shape.{Shape}
 use Rattle.oracle.specs.declared.shapes.Shape.TheVariants.{Fires, Gates, Passes, Returns, Turns, Outputs}
-use Rattle.oracle.specs.declared.deeds.Deed.{Deed}
-use Rattle.oracle.specs.declared.deeds.Deed.TheVariants.{Sends, Enters, EntersAll, Stops}
+use Rattle.oracle.specs.Deeds.{Deed, Sends, Enters, EntersAll, Stops}
 use Rattle.oracle.specs.Lines.{line_of, origin_of, first_of, len_of, inputs_in as own_inputs, inputs_at, outputs_at, outputs_in}
 use Rattle.oracle.specs.Acting.{fetch_deed, store_deed, one_deed, two_deed, input_deed, fired_deed, line_deed, node_gated, gated_deed, node_passed, passed_deed, next_turn, turned_deed, returned_deed, shown_deed, deed_in}
 use Rattle.oracle.specs.Running.{main_place}

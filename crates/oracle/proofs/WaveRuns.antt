@@ -13,7 +13,7 @@ use Rattle.law_confluence.specs.Outcome.{NoClash}
 use Rattle.law_confluence.proofs.OutcomeDeterminacy.{same_refl, same_sym, same_trans, run_same}
 use Rattle.law_confluence.proofs.HistoryRuns.{run_append, reached_leads, run_to_same}
 use Rattle.law_confluence.proofs.Outcome.{determinacy, second_store_from}
-use Rattle.oracle.specs.declared.deeds.Deed.{Deed}
+use Rattle.oracle.specs.Deeds.{Deed}
 use Rattle.oracle.specs.declared.state.Gate.{Gate}
 use Rattle.oracle.specs.declared.state.Gate.TheVariants.{Free, Defers, Clashes as GateClashes}
 use Rattle.oracle.specs.declared.report.MeanEnd.{MeanEnd}

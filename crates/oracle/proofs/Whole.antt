@@ -15,7 +15,7 @@ use Rattle.law_confluence.proofs.OutcomeResolved.{flow_well}
 use Rattle.law_confluence.proofs.Outcome.{determinacy, second_store_from}
 use Rattle.oracle.specs.declared.invocations.Made.TheVariants.{Main}
 use Rattle.oracle.specs.declared.invocations.Invocation.{Invocation}
-use Rattle.oracle.specs.declared.deeds.Deed.{Deed}
+use Rattle.oracle.specs.Deeds.{Deed}
 use Rattle.oracle.specs.declared.report.MeanEnd.{MeanEnd}
 use Rattle.oracle.specs.declared.report.MeanEnd.TheVariants.{Rest, Clash, Steps}
 use Rattle.oracle.specs.declared.report.Full.{Full}

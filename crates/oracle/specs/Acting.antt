@@ -17,8 +17,7 @@ use Rattle.oracle.specs.declared.lines.Line.{Line}
 use Rattle.oracle.specs.declared.lines.Line.TheVariants.{Input, Node, Nothing}
 use Rattle.oracle.specs.declared.shapes.Shape.{Shape}
 use Rattle.oracle.specs.declared.shapes.Shape.TheVariants.{Fires, Gates, Passes, Returns, Turns, Outputs}
-use Rattle.oracle.specs.declared.deeds.Deed.{Deed}
-use Rattle.oracle.specs.declared.deeds.Deed.TheVariants.{Sends, Steers, Enters, EntersAll, Stops, Reads, Fills, Puts}
+use Rattle.oracle.specs.Deeds.{Deed, Sends, Steers, Enters, EntersAll, Stops, Reads, Fills, Puts}
 use Rattle.oracle.specs.declared.deeds.Index.{Index}
 use Rattle.oracle.specs.declared.deeds.Index.TheVariants.{Within, Beyond}
 use Rattle.oracle.specs.declared.state.Gate.{Gate}

@@ -1,5 +1,6 @@
 pub mod Acting
 pub mod Agreeing
+pub mod Deeds
 pub mod Gathering
 pub mod Lines
 pub mod Meant
@@ -10,4 +11,5 @@ pub mod Reporting
 pub mod Rows
 pub mod Running
 pub mod Sending
+pub mod Telling
 pub mod Waves

@@ -10,8 +10,7 @@ use Rattle.oracle.specs.declared.tokens.Spot.TheVariants.{Operand, Predicate, Ou
 use Rattle.oracle.specs.declared.tokens.Token.{Token}
 use Rattle.oracle.specs.declared.shapes.Shape.{Shape}
 use Rattle.oracle.specs.declared.shapes.Shape.TheVariants.{Fires, Gates, Passes, Returns, Turns, Outputs}
-use Rattle.oracle.specs.declared.deeds.Deed.{Deed}
-use Rattle.oracle.specs.declared.deeds.Deed.TheVariants.{Sends, Steers, Enters, EntersAll, Stops, Reads, Fills, Puts}
+use Rattle.oracle.specs.Deeds.{Deed, Sends, Steers, Enters, EntersAll, Stops, Reads, Fills, Puts}
 
 -- the invocation with that number
 abbrev pub name_in : List Context → ℕ → Context

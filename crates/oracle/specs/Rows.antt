@@ -3,7 +3,7 @@ use Rattle.std.specs.Prelude.{ℕ, zero, suc, ◌==◌, List, [], ◌∷◌, ◌
 use Rattle.tags.specs.declared.value.Value.{Value}
 use Rattle.semantics.specs.Graph.{Graph}
 use Rattle.oracle.specs.declared.invocations.Invocation.{Invocation}
-use Rattle.oracle.specs.declared.deeds.Deed.{Deed}
+use Rattle.oracle.specs.Deeds.{Deed}
 use Rattle.oracle.specs.declared.state.Gate.TheVariants.{Free, Defers, Clashes}
 use Rattle.oracle.specs.declared.tokens.Token.{Token}
 use Rattle.oracle.specs.declared.report.MeanEnd.{MeanEnd}

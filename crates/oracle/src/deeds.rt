@@ -4,6 +4,8 @@ ghost use Rattle.std.specs.Prelude.{◌≡◌, ◌≤◌, Some};
 ghost use Rattle.operators.specs.Values as Values;
 ghost use Rattle.oracle.specs.Lines.{total_of};
 ghost use Rattle.oracle.specs.Acting as Acting;
+ghost use Rattle.oracle.specs.Deeds as Deeds;
+ghost use Rattle.oracle.specs.Telling.{told, told_if};
 
 use crate::invocations::{Invocation, Made};
 use crate::lines::{Line, array_len, arrays_of, cell_of, line_at, origin_at, version_of};
@@ -14,28 +16,25 @@ use semantics::graph::{Kind, Region};
 use std::alloc::Allocator;
 use tags::value::{FaultKind, Origin, Value};
 
-/// What an activity does. Each invocation is given by its number.
+/// What an activity does, beside the value that it sends or stores. Each invocation is given by its number.
 #[derive(Clone, Copy, Debug)]
-pub enum Deed {
-    /// A value goes out on a port of a node.
+pub enum Task {
+    /// The value goes out on a port of a node.
     Sends {
         context: usize,
         node: usize,
         port: usize,
-        value: Value,
     },
-    /// A predicate goes to the arms of a conditional.
+    /// The value, a predicate, goes to the arms of a conditional.
     Steers {
         context: usize,
         cond: usize,
-        value: Value,
     },
-    /// One value goes to that input of an invocation of a block.
+    /// The value goes to that input of an invocation of a block.
     Enters {
         made: Made,
         block: usize,
         input: usize,
-        value: Value,
     },
     /// All values that were taken go to the inputs of an invocation of a block.
     EntersAll {
@@ -57,13 +56,33 @@ pub enum Deed {
         cell: usize,
         array: usize,
         index: u32,
-        value: Value,
     },
     /// An output becomes the value.
     Puts {
         number: usize,
-        value: Value,
     },
+}
+
+/// What an activity does, with the value that it sends or stores. The value of a task that has no use for one is any value.
+#[derive(Clone, Copy, Debug)]
+pub struct Act {
+    pub task: Task,
+    pub value: Value,
+}
+
+/// A value that goes out on a port of a node.
+#[inline(always)]
+fn sends(context: usize, node: usize, port: usize, value: Value) -> Act
+    ensures { told result ≡ Deeds.Sends context node port value }
+{
+    Act {
+        task: Task::Sends {
+            context,
+            node,
+            port,
+        },
+        value,
+    }
 }
 
 /// What an index names in an array.
@@ -73,6 +92,7 @@ enum Index {
     Beyond(Value),
 }
 
+#[inline(always)]
 fn index_in(len: u32, index: Value, origin: Origin) -> Index
     ensures { Acting.indexed_of result ≡ Values.index_in len index origin }
 {
@@ -91,6 +111,7 @@ fn index_in(len: u32, index: Value, origin: Origin) -> Index
     }
 }
 
+#[inline(always)]
 fn fetch<'a, A: Allocator>(
     checked: &Checked<'a, A>,
     context: usize,
@@ -98,26 +119,29 @@ fn fetch<'a, A: Allocator>(
     array: usize,
     index: Value,
     origin: Origin,
-) -> Deed
+) -> Act
     requires { total_of checked.now.arrays ≤ 65536 }
-    ensures { result ≡ Acting.fetch_deed context node (Acting.first_in checked.now array) (Values.index_in (Acting.len_in checked.now array) index origin) }
+    ensures { told result ≡ Acting.fetch_deed context node (Acting.first_in checked.now array) (Values.index_in (Acting.len_in checked.now array) index origin) }
 {
     let arrays = arrays_of(checked);
     match index_in(array_len(arrays, array), index, origin) {
-        Index::Beyond(value) => Deed::Sends {
-            context,
-            node,
-            port: 0,
-            value,
-        },
-        Index::Within(place) => Deed::Reads {
-            context,
-            node,
-            cell: cell_of(arrays, array, place),
-        },
+        Index::Beyond(value) => sends(context, node, 0, value),
+        Index::Within(place) => {
+            let cell = cell_of(arrays, array, place);
+            let task = Task::Reads {
+                context,
+                node,
+                cell,
+            };
+            Act {
+                task,
+                value: Value::Int(0),
+            }
+        }
     }
 }
 
+#[inline(always)]
 fn store<'a, A: Allocator>(
     checked: &Checked<'a, A>,
     context: usize,
@@ -125,31 +149,30 @@ fn store<'a, A: Allocator>(
     array: usize,
     operands: (Value, Value),
     origin: Origin,
-) -> Deed
+) -> Act
     requires { total_of checked.now.arrays ≤ 65536 }
-    ensures { result ≡ Acting.store_deed context node (Acting.first_in checked.now array) array operands.1 (Values.index_in (Acting.len_in checked.now array) operands.0 origin) }
+    ensures { told result ≡ Acting.store_deed context node (Acting.first_in checked.now array) array operands.1 (Values.index_in (Acting.len_in checked.now array) operands.0 origin) }
 {
     let (index, value) = operands;
     let arrays = arrays_of(checked);
     match index_in(array_len(arrays, array), index, origin) {
-        Index::Beyond(value) => Deed::Sends {
-            context,
-            node,
-            port: 0,
-            value,
-        },
-        Index::Within(index) => Deed::Fills {
-            context,
-            node,
-            cell: cell_of(arrays, array, index),
-            array,
-            index,
-            value,
-        },
+        Index::Beyond(value) => sends(context, node, 0, value),
+        Index::Within(index) => {
+            let cell = cell_of(arrays, array, index);
+            let task = Task::Fills {
+                context,
+                node,
+                cell,
+                array,
+                index,
+            };
+            Act { task, value }
+        }
     }
 }
 
 /// What a node does with one operand.
+#[inline(always)]
 fn fired_one<'a, A: Allocator>(
     checked: &Checked<'a, A>,
     context: usize,
@@ -157,26 +180,18 @@ fn fired_one<'a, A: Allocator>(
     kind: &Kind<usize>,
     value: Value,
     origin: Origin,
-) -> Option<Deed>
+) -> Option<Act>
     requires { total_of checked.now.arrays ≤ 65536 }
-    ensures { result ≡ Acting.one_deed checked.now context node kind.now value origin }
+    ensures { told_if result ≡ Acting.one_deed checked.now context node kind.now value origin }
 {
     match kind {
-        Kind::Lit { value } => Some(Deed::Sends {
-            context,
-            node,
-            port: 0,
-            value: Value::Int(*value),
-        }),
-        Kind::Apply1 { op } => Some(Deed::Sends {
-            context,
-            node,
-            port: 0,
-            value: apply1(*op, value),
-        }),
-        Kind::Cond => Some(Deed::Steers {
-            context,
-            cond: node,
+        Kind::Lit { value } => Some(sends(context, node, 0, Value::Int(*value))),
+        Kind::Apply1 { op } => Some(sends(context, node, 0, apply1(*op, value))),
+        Kind::Cond => Some(Act {
+            task: Task::Steers {
+                context,
+                cond: node,
+            },
             value,
         }),
         Kind::Fetch { array } => Some(fetch(checked, context, node, *array, value, origin)),
@@ -185,6 +200,7 @@ fn fired_one<'a, A: Allocator>(
 }
 
 /// What a node does with two operands.
+#[inline(always)]
 fn fired_two<'a, A: Allocator>(
     checked: &Checked<'a, A>,
     context: usize,
@@ -192,23 +208,24 @@ fn fired_two<'a, A: Allocator>(
     kind: &Kind<usize>,
     operands: (Value, Value),
     origin: Origin,
-) -> Option<Deed>
+) -> Option<Act>
     requires { total_of checked.now.arrays ≤ 65536 }
-    ensures { result ≡ Acting.two_deed checked.now context node kind.now operands.0 operands.1 origin }
+    ensures { told_if result ≡ Acting.two_deed checked.now context node kind.now operands.0 operands.1 origin }
 {
     match kind {
-        Kind::Apply2 { op } => Some(Deed::Sends {
+        Kind::Apply2 { op } => Some(sends(
             context,
             node,
-            port: 0,
-            value: apply2_at(*op, operands.0, operands.1, origin),
-        }),
+            0,
+            apply2_at(*op, operands.0, operands.1, origin),
+        )),
         Kind::Store { array } => Some(store(checked, context, node, *array, operands, origin)),
         _ => None,
     }
 }
 
 /// What a node does with all its operands.
+#[inline(always)]
 fn fired<'a, A: Allocator>(
     checked: &Checked<'a, A>,
     context: usize,
@@ -216,14 +233,18 @@ fn fired<'a, A: Allocator>(
     kind: &Kind<usize>,
     values: &[Value],
     origin: Origin,
-) -> Option<Deed>
+) -> Option<Act>
     requires { total_of checked.now.arrays ≤ 65536 }
-    ensures { result ≡ Acting.fired_deed checked.now context node kind.now values.now origin }
+    ensures { told_if result ≡ Acting.fired_deed checked.now context node kind.now values.now origin }
 {
     if let Kind::StrictCall { block } = kind {
-        return Some(Deed::EntersAll {
-            made: Made::Called { by: context, node },
-            block: *block,
+        let made = Made::Called { by: context, node };
+        return Some(Act {
+            task: Task::EntersAll {
+                made,
+                block: *block,
+            },
+            value: Value::Int(0),
         });
     }
     match values {
@@ -234,24 +255,20 @@ fn fired<'a, A: Allocator>(
 }
 
 /// What a node or an input does with all its operands.
+#[inline(always)]
 fn fired_at<'a, A: Allocator>(
     checked: &Checked<'a, A>,
     context: usize,
     block: usize,
     node: usize,
     values: &[Value],
-) -> Option<Deed>
+) -> Option<Act>
     requires { total_of checked.now.arrays ≤ 65536 }
-    ensures { result ≡ Acting.fires_deed checked.now context block node values.now }
+    ensures { told_if result ≡ Acting.fires_deed checked.now context block node values.now }
 {
     match line_at(checked, block, node) {
         Line::Input => match values {
-            [value] => Some(Deed::Sends {
-                context,
-                node,
-                port: 0,
-                value: *value,
-            }),
+            [value] => Some(sends(context, node, 0, *value)),
             _ => None,
         },
         Line::Node { kind, arity, .. } => {
@@ -266,8 +283,9 @@ fn fired_at<'a, A: Allocator>(
 }
 
 /// What an `enter` does with its source and its predicate.
-fn gated(context: usize, node: usize, line: &Line, value: Value, predicate: Value) -> Option<Deed>
-    ensures { result ≡ Acting.gated_deed context node line.now value predicate }
+#[inline(always)]
+fn gated(context: usize, node: usize, line: &Line, value: Value, predicate: Value) -> Option<Act>
+    ensures { told_if result ≡ Acting.gated_deed context node line.now value predicate }
 {
     match line {
         Line::Node {
@@ -276,14 +294,12 @@ fn gated(context: usize, node: usize, line: &Line, value: Value, predicate: Valu
             ..
         } => {
             if truth(predicate) == *side {
-                Some(Deed::Sends {
-                    context,
-                    node,
-                    port: 0,
+                Some(sends(context, node, 0, value))
+            } else {
+                Some(Act {
+                    task: Task::Stops,
                     value,
                 })
-            } else {
-                Some(Deed::Stops)
             }
         }
         _ => None,
@@ -291,39 +307,39 @@ fn gated(context: usize, node: usize, line: &Line, value: Value, predicate: Valu
 }
 
 /// What a merge, a call or a loop does with an operand.
-fn passed(context: usize, node: usize, position: usize, line: &Line, value: Value) -> Option<Deed>
-    ensures { result ≡ Acting.passed_deed context node position line.now value }
+#[inline(always)]
+fn passed(context: usize, node: usize, position: usize, line: &Line, value: Value) -> Option<Act>
+    ensures { told_if result ≡ Acting.passed_deed context node position line.now value }
 {
     match line {
         Line::Node {
             kind: Kind::Merge { .. },
             ..
-        } => Some(Deed::Sends {
-            context,
-            node,
-            port: 0,
-            value,
-        }),
+        } => Some(sends(context, node, 0, value)),
         Line::Node {
             kind: Kind::Call { block },
             ..
-        } => Some(Deed::Enters {
-            made: Made::Called { by: context, node },
-            block: *block,
-            input: position,
+        } => Some(Act {
+            task: Task::Enters {
+                made: Made::Called { by: context, node },
+                block: *block,
+                input: position,
+            },
             value,
         }),
         Line::Node {
             kind: Kind::Loop { block, .. },
             ..
-        } => Some(Deed::Enters {
-            made: Made::Turned {
-                by: context,
-                node,
-                turn: 0,
+        } => Some(Act {
+            task: Task::Enters {
+                made: Made::Turned {
+                    by: context,
+                    node,
+                    turn: 0,
+                },
+                block: *block,
+                input: position,
             },
-            block: *block,
-            input: position,
             value,
         }),
         _ => None,
@@ -331,69 +347,69 @@ fn passed(context: usize, node: usize, position: usize, line: &Line, value: Valu
 }
 
 /// What a turn of an iteration does. There is no number for a turn beyond the last u64.
-fn turned(invocation: Invocation, number: usize, flag: Value, value: Value) -> Option<Deed>
-    ensures { result ≡ Acting.turned_deed invocation.made invocation.block number flag value }
+#[inline(always)]
+fn turned(invocation: Invocation, number: usize, flag: Value, value: Value) -> Option<Act>
+    ensures { told_if result ≡ Acting.turned_deed invocation.made invocation.block number flag value }
 {
     let Made::Turned { by, node, turn } = invocation.made else {
         return None;
     };
     let place = number.saturating_sub(1);
     if truth(flag) {
-        Some(Deed::Enters {
-            made: Made::Turned {
-                by,
-                node,
-                turn: turn.checked_add(1)?,
+        let made = Made::Turned {
+            by,
+            node,
+            turn: turn.checked_add(1)?,
+        };
+        Some(Act {
+            task: Task::Enters {
+                made,
+                block: invocation.block,
+                input: place,
             },
-            block: invocation.block,
-            input: place,
             value,
         })
     } else {
-        Some(Deed::Sends {
-            context: by,
-            node,
-            port: place,
-            value,
-        })
+        Some(sends(by, node, place, value))
     }
 }
 
 /// What a result of a call does.
-fn returned(invocation: Invocation, number: usize, value: Value) -> Option<Deed>
-    ensures { result ≡ Acting.returned_deed invocation.made number value }
+#[inline(always)]
+fn returned(invocation: Invocation, number: usize, value: Value) -> Option<Act>
+    ensures { told_if result ≡ Acting.returned_deed invocation.made number value }
 {
     match invocation.made {
-        Made::Called { by, node } => Some(Deed::Sends {
-            context: by,
-            node,
-            port: number,
+        Made::Called { by, node } => Some(sends(by, node, number, value)),
+        _ => None,
+    }
+}
+
+/// What a result of main does.
+#[inline(always)]
+fn shown(invocation: Invocation, number: usize, value: Value) -> Option<Act>
+    ensures { told_if result ≡ Acting.shown_deed invocation.made number value }
+{
+    match invocation.made {
+        Made::Main => Some(Act {
+            task: Task::Puts { number },
             value,
         }),
         _ => None,
     }
 }
 
-/// What a result of main does.
-fn shown(invocation: Invocation, number: usize, value: Value) -> Option<Deed>
-    ensures { result ≡ Acting.shown_deed invocation.made number value }
-{
-    match invocation.made {
-        Made::Main => Some(Deed::Puts { number, value }),
-        _ => None,
-    }
-}
-
 /// What an activity of that shape does in an invocation.
+#[inline(always)]
 pub fn deed_of<'a, A: Allocator>(
     checked: &Checked<'a, A>,
     context: usize,
     invocation: Invocation,
     shape: Shape,
     values: &[Value],
-) -> Option<Deed>
+) -> Option<Act>
     requires { total_of checked.now.arrays ≤ 65536 }
-    ensures { result ≡ Acting.deed_in checked.now context invocation shape values.now }
+    ensures { told_if result ≡ Acting.deed_in checked.now context invocation shape values.now }
 {
     let block = invocation.block;
     match (shape, values) {

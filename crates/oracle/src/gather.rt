@@ -30,6 +30,7 @@ pub fn reach<A: Allocator + Clone>(
 }
 
 /// Whether the token is at that spot of that invocation.
+#[inline(always)]
 fn is_at(context: usize, spot: Spot, token: Token) -> bool
     ensures { result ≡ Acting.is_at context spot token }
 {
@@ -37,6 +38,7 @@ fn is_at(context: usize, spot: Spot, token: Token) -> bool
 }
 
 /// Where a token waits at that spot of that invocation.
+#[inline(always)]
 fn find(waiting: &[Token], context: usize, spot: Spot) -> Option<usize>
     ensures first { result ≡ Acting.find_from context spot 0 waiting.now }
     ensures within { IfSome result (λ i. i < length waiting.now) }
@@ -155,6 +157,7 @@ fn take_listed<A: Allocator>(
 
 /// Takes the partners of a token for an activity, and lists the values that it takes in order. Where one is missing, nothing is
 /// taken.
+#[inline(always)]
 pub fn take_partners<A: Allocator>(
     spots: &mut Vec<Spot, A>,
     values: &mut Vec<Value, A>,

@@ -1,6 +1,7 @@
 //! The invocations of blocks, numbered: each is named by the place where it was made, and found by it in a map.
 
-ghost use Rattle.std.specs.Prelude.{◌≡◌, ◌++◌, ◌∷◌, [], None, Some, length, slice_get, IfOk, IfSome, OnOk, OnErr};
+ghost use Rattle.std.specs.Prelude.{◌≡◌, ◌++◌, ◌∷◌, [], None, Some, length, slice_get, unwrap_or, IfOk, IfSome, OnOk, OnErr};
+ghost use Rattle.std.specs.BTreeMap.{get, Updates, IsUnchanged};
 ghost use Rattle.oracle.specs.Running as Running;
 
 use std::alloc::{AllocError, Allocator};
@@ -51,6 +52,7 @@ impl<A: Allocator> Model for Invocations<A> {
 }
 
 /// Whether both are one place.
+#[inline(always)]
 fn is_same(left: Made, right: Made) -> bool
     ensures { result ≡ Running.same_made left right }
 {
@@ -73,6 +75,19 @@ fn is_same(left: Made, right: Made) -> bool
     }
 }
 
+/// The number that the map has for a place. The given one is put there where it has none.
+fn kept_at<A: Allocator + Clone>(
+    numbers: &mut BTreeMap<Made, usize, A>,
+    made: &Made,
+    number: usize,
+) -> Result<usize, AllocError>
+    ensures number { IfOk result (λ n. n ≡ unwrap_or (get ⟦<Made as Ord>⟧.cmp numbers.old made.now) number) }
+    ensures kept { IfOk result (λ n. Updates ⟦<Made as Ord>⟧.cmp numbers.old numbers.new made.now (Some n)) }
+    ensures refused { OnErr result (IsUnchanged numbers.old numbers.new) }
+{
+    Ok(*numbers.entry(*made)?.or_insert(number))
+}
+
 impl<A: Allocator + Clone> Invocations<A> {
     /// The invocation of main alone.
     pub fn of_main(alloc: A, block: usize) -> Result<Self, AllocError>
@@ -83,11 +98,12 @@ impl<A: Allocator + Clone> Invocations<A> {
             numbers: BTreeMap::new(alloc),
             last: None,
         };
-        invocations.add(&Made::Main, block)?;
+        invocations.number_at(&Made::Main, block)?;
         Ok(invocations)
     }
 
     /// The invocation with that number.
+    #[inline(always)]
     pub fn get(&self, number: usize) -> Option<Invocation>
         ensures { result ≡ slice_get self.now number }
     {
@@ -95,6 +111,7 @@ impl<A: Allocator + Clone> Invocations<A> {
     }
 
     /// The number of the invocation that was made there, if it was asked for last.
+    #[inline(always)]
     fn recall(&self, made: &Made) -> Option<usize>
         ensures { IfSome result (λ n. Running.made_from made.now 0 self.now ≡ Some n) }
     {
@@ -104,22 +121,6 @@ impl<A: Allocator + Clone> Invocations<A> {
         }
     }
 
-    /// The number of the invocation that was made there, if there is one.
-    fn find(&mut self, made: &Made) -> Option<usize>
-        ensures number { result ≡ Running.made_from made.now 0 self.old }
-        ensures kept { self.new ≡ self.old }
-    {
-        if let Some(number) = self.recall(made) {
-            return Some(number);
-        }
-        let number = *self.numbers.get(made)?;
-        self.last = Some(Numbered {
-            made: *made,
-            number,
-        });
-        Some(number)
-    }
-
     /// How many there are.
     fn len(&self) -> usize
         ensures { result ≡ length self.now }
@@ -127,21 +128,24 @@ impl<A: Allocator + Clone> Invocations<A> {
         self.table.len()
     }
 
-    /// Adds an invocation that is new.
-    fn add(&mut self, made: &Made, block: usize) -> Result<usize, AllocError>
-        requires { Running.made_from made.now 0 self.old ≡ None }
-        ensures number { IfOk result (λ n. n ≡ length self.old) }
-        ensures added { OnOk result (self.new ≡ self.old ++ record { made = made.now; block = block } ∷ []) }
+    /// The number of the invocation that was made there, by the map. It is added where it is new.
+    fn number_at(&mut self, made: &Made, block: usize) -> Result<usize, AllocError>
+        ensures number { IfOk result (λ n. n ≡ Running.number_in self.old made.now) }
+        ensures added { OnOk result (self.new ≡ Running.with_made self.old made.now block) }
         ensures kept { OnErr result (self.new ≡ self.old) }
     {
-        let number = self.len();
+        let next = self.len();
         self.table.push(Invocation { made: *made, block })?;
-        match self.numbers.insert(*made, number) {
-            Ok(_) => {
+        match kept_at(&mut self.numbers, made, next) {
+            Ok(number) => {
                 self.last = Some(Numbered {
                     made: *made,
                     number,
                 });
+                if number != next {
+                    self.table.pop();
+                    return Ok(number);
+                }
                 Ok(number)
             }
             Err(_) => {
@@ -152,14 +156,15 @@ impl<A: Allocator + Clone> Invocations<A> {
     }
 
     /// The number of the invocation that was made there. It is added where it is new.
+    #[inline(always)]
     pub fn number_of(&mut self, made: &Made, block: usize) -> Result<usize, AllocError>
         ensures number { IfOk result (λ n. n ≡ Running.number_in self.old made.now) }
         ensures added { OnOk result (self.new ≡ Running.with_made self.old made.now block) }
         ensures kept { OnErr result (self.new ≡ self.old) }
     {
-        match self.find(made) {
+        match self.recall(made) {
             Some(number) => Ok(number),
-            None => self.add(made, block),
+            None => self.number_at(made, block),
         }
     }
 }

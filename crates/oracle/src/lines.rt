@@ -65,6 +65,7 @@ pub fn line_at<'a, A: Allocator>(checked: &Checked<'a, A>, block: usize, node: u
 }
 
 /// The block at that place.
+#[inline(always)]
 pub fn block_at<'b, 'a, A: Allocator>(
     graph: &'b Graph<'a, A>,
     place: usize,
@@ -75,6 +76,7 @@ pub fn block_at<'b, 'a, A: Allocator>(
 }
 
 /// The node at that place of a block.
+#[inline(always)]
 pub fn node_at<'b, 'a, A: Allocator>(
     block: &'b Block<'a, A>,
     place: usize,
@@ -84,6 +86,7 @@ pub fn node_at<'b, 'a, A: Allocator>(
     block.nodes.get(place)
 }
 
+#[inline(always)]
 fn line_in<'a, A: Allocator>(checked: &Checked<'a, A>, block: &Block<'a, A>, node: usize) -> Line
     ensures { result ≡ Lines.line_in checked.now (Some block.now) node }
 {

@@ -84,15 +84,12 @@ pub fn start<'a, A: Allocator + Clone>(
         waiting: Vec::new(alloc.clone()?),
         deferred: Vec::new(alloc.clone()?),
         cells: empty_cells(alloc.clone()?, arrays_of(checked))?,
-        outputs: empty(alloc.clone()?, output_count(checked.graph(), main))?,
-        spare: Spare {
-            spots: Vec::new(alloc.clone()?),
-            values: Vec::new(alloc),
-        },
+        outputs: empty(alloc, output_count(checked.graph(), main))?,
     })
 }
 
 /// Does at most `steps` activities.
+#[tactic(auto, using(crate::proofs::RowRuns::run_stops, crate::proofs::RowRuns::run_stays, crate::proofs::RowRuns::run_breaks))]
 fn run<'a, A: Allocator + Clone>(
     checked: &Checked<'a, A>,
     state: &mut State<A>,
@@ -104,18 +101,19 @@ fn run<'a, A: Allocator + Clone>(
         let new = plain state.new.invocations state.new.fresh.items [] state.new.deferred.items state.new.cells.items state.new.outputs.items in
         IfOk result (λ e. run_among checked.now steps old (rows_of (map (λ v. v.items) state.old.waiting.items)) ≡ Some (e, new)) }
 {
-    for _step in 0..steps {
-        match next_act(checked, state)? {
+    let mut spare = Spare::new(state.waiting.allocator().clone()?)?;
+    let mut left = steps;
+    loop {
+        match next_act(checked, state, &mut spare)? {
             Ok(act) => {
-                perform(checked, state, &act.deed, &act.values)?;
-                state.spare.values = act.values;
+                if left == 0 {
+                    return Ok(MeanEnd::Steps);
+                }
+                left -= 1;
+                perform(checked, state, &act, &spare.values)?;
             }
             Err(end) => return Ok(end),
         }
-    }
-    match next_act(checked, state)? {
-        Ok(_) => Ok(MeanEnd::Steps),
-        Err(end) => Ok(end),
     }
 }
 
@@ -193,7 +191,6 @@ fn run_to_end<'a, A: Allocator + Clone>(
         deferred: _,
         cells: _,
         outputs,
-        spare: _,
     } = state;
     Ok(MeanReport {
         end,

@@ -44,6 +44,7 @@ pub enum Partner {
 }
 
 /// A node that takes all its operands at once, and has as many as it takes.
+#[inline(always)]
 fn fires<'a>(kind: &Kind<Name<'a>>, arity: usize) -> bool
     ensures each { (g : Graph) → result ≡ Lines.takes_all (Lines.resolved_in g kind.now) arity }
 {
@@ -55,6 +56,7 @@ fn fires<'a>(kind: &Kind<Name<'a>>, arity: usize) -> bool
     }
 }
 
+#[inline(always)]
 fn shape_at_node<'a>(
     kind: &Kind<Name<'a>>,
     arity: usize,
@@ -85,6 +87,7 @@ fn shape_at_node<'a>(
 }
 
 /// The activity that takes an operand of a node.
+#[inline(always)]
 fn shape_of_operand<'a, A: Allocator>(
     block: &Block<'a, A>,
     node: usize,
@@ -119,6 +122,7 @@ fn shape_of_predicate<'a, A: Allocator>(block: &Block<'a, A>, node: usize) -> Op
 }
 
 /// The activity that takes a result of an invocation.
+#[inline(always)]
 fn shape_of_result(made: Made, number: usize) -> Option<Shape>
     ensures { result ≡ Lines.out_shape made number }
 {
@@ -130,6 +134,7 @@ fn shape_of_result(made: Made, number: usize) -> Option<Shape>
 }
 
 /// The activity that takes what is at a turn of an iteration.
+#[inline(always)]
 fn shape_of_turn(made: Made, number: usize) -> Option<Shape>
     ensures { result ≡ Lines.turn_shape made number }
 {
@@ -140,6 +145,7 @@ fn shape_of_turn(made: Made, number: usize) -> Option<Shape>
 }
 
 /// The activity that takes a token at that spot of an invocation.
+#[inline(always)]
 pub fn shape_of<'a, A: Allocator>(
     checked: &Checked<'a, A>,
     invocation: Invocation,
@@ -160,6 +166,7 @@ pub fn shape_of<'a, A: Allocator>(
 }
 
 /// What a node takes beside one of its operands.
+#[inline(always)]
 fn partner_of_operand(node: usize, count: usize, position: usize) -> Partner
     ensures { IsPartner (Shape.Fires node count) (Spot.Operand node position) result }
 {
@@ -172,6 +179,7 @@ fn partner_of_operand(node: usize, count: usize, position: usize) -> Partner
 }
 
 /// What an activity takes beside the token at one of its spots.
+#[inline(always)]
 pub fn partner_of(shape: Shape, spot: Spot) -> Partner
     ensures { IsPartner shape spot result }
 {

@@ -3,11 +3,13 @@
 ghost use Rattle.std.specs.Prelude.{◌≡◌, ◌≢◌, ◌≤◌, ◌∷◌, ◌++◌, [], map, None, Some, slice_get, IfOk, OnOk, MatchOption, MatchResult};
 ghost use Rattle.oracle.specs.Lines.{total_of};
 ghost use Rattle.oracle.specs.Acting as Acting;
+ghost use Rattle.oracle.specs.Deeds as Deeds;
+ghost use Rattle.oracle.specs.Telling.{told};
 ghost use Rattle.oracle.specs.Running.{plain, join_of, Alone, Joins, Fails, entered, performed};
 ghost use Rattle.oracle.specs.Running as Running;
 ghost use Rattle.oracle.specs.Rows.{rows_of, with_row, next_among, Goes, Stays, Breaks};
 
-use crate::deeds::{Deed, deed_of};
+use crate::deeds::{Act, Task, deed_of};
 use crate::gather::{Row, reach, take_partners};
 use crate::invocations::{Invocation, Invocations, Made};
 use crate::lines::block_at;
@@ -18,7 +20,6 @@ use crate::tokens::{Spot, Token};
 use graph_check::Checked;
 use std::alloc::{AllocError, Allocator};
 use std::collections::VecDeque;
-use std::mem;
 use tags::value::Value;
 
 /// The list of tokens has three parts, in this order. A token that was looked at and could not act goes to a later part.
@@ -33,21 +34,22 @@ pub struct State<A: Allocator> {
     pub deferred: Vec<Token, A>,
     pub cells: Vec<Option<Value>, A>,
     pub outputs: Vec<Option<Value>, A>,
-    pub spare: Spare<A>,
 }
 
-/// Lists that are used again: of the spots of the last activity, and for the values of the next one.
+/// Lists that are used again: of the spots of an activity, and of the values that it takes.
 #[derive(Drop)]
 pub struct Spare<A: Allocator> {
     pub spots: Vec<Spot, A>,
     pub values: Vec<Value, A>,
 }
 
-/// An activity with the values that it took, and what it does.
-#[derive(Drop)]
-pub struct Act<A: Allocator> {
-    pub values: Vec<Value, A>,
-    pub deed: Deed,
+impl<A: Allocator + Clone> Spare<A> {
+    pub fn new(alloc: A) -> Result<Self, AllocError> {
+        Ok(Spare {
+            spots: Vec::new(alloc.clone()?),
+            values: Vec::new(alloc),
+        })
+    }
 }
 
 /// What the memory says to a deed.
@@ -60,65 +62,65 @@ pub enum Gate {
     Clashes { array: usize, index: u32 },
 }
 
-/// The activity that takes the listed values.
-fn act_on<'a, A: Allocator + Clone>(
+/// What the activity does that takes these values.
+#[inline(always)]
+fn act_on<'a, A: Allocator>(
     checked: &Checked<'a, A>,
     context: usize,
     invocation: &Invocation,
     shape: &Shape,
-    listed: &mut Vec<Value, A>,
-) -> Result<Act<A>, AllocError>
+    values: &[Value],
+) -> Act
     requires few { total_of checked.now.arrays ≤ 65536 }
-    requires known { Acting.deed_in checked.now context invocation.now shape.now listed.old.items ≢ None }
-    ensures values { IfOk result (λ act. act.values.items ≡ listed.old.items) }
-    ensures deed { IfOk result (λ act. Acting.deed_in checked.now context invocation.now shape.now listed.old.items ≡ Some act.deed) }
+    requires known { Acting.deed_in checked.now context invocation.now shape.now values.now ≢ None }
+    ensures { Acting.deed_in checked.now context invocation.now shape.now values.now ≡ Some (told result) }
 {
-    let none = Vec::new(listed.allocator().clone()?);
-    let values = mem::replace(listed, none);
-    match deed_of(checked, context, *invocation, *shape, &values) {
-        Some(deed) => Ok(Act { values, deed }),
+    match deed_of(checked, context, *invocation, *shape, values) {
+        Some(act) => act,
         None => unreachable!(),
     }
 }
 
-/// Joins a token with its partners for an activity. Where one is missing the token is left to wait.
-fn join_for<'a, A: Allocator + Clone>(
+/// Joins a token with its partners for an activity, and lists the values that it takes. Where one is missing the token is left to
+/// wait.
+#[inline(always)]
+fn join_for<'a, A: Allocator>(
     checked: &Checked<'a, A>,
     waiting: &mut Vec<Token, A>,
     token: &Token,
     invocation: &Invocation,
     shape: &Shape,
     spare: &mut Spare<A>,
-) -> Result<Option<Act<A>>, AllocError>
+) -> Result<Option<Act>, AllocError>
     requires few { total_of checked.now.arrays ≤ 65536 }
     requires never_fails { Running.join_shape checked.now waiting.old.items token.now invocation.now (Some shape.now) ≢ Fails }
     ensures { IfOk result (λ r. MatchOption r
         ((Running.join_shape checked.now waiting.old.items token.now invocation.now (Some shape.now) ≡ Alone) × (waiting.new.items ≡ waiting.old.items ++ token.now ∷ []))
-        (λ act. Running.join_shape checked.now waiting.old.items token.now invocation.now (Some shape.now) ≡ Joins waiting.new.items act.values.items act.deed)) }
+        (λ act. Running.join_shape checked.now waiting.old.items token.now invocation.now (Some shape.now) ≡ Joins waiting.new.items spare.new.values.items (told act))) }
 {
-    let Spare { spots, values } = spare;
-    if !take_partners(spots, values, waiting, token, *shape)? {
+    if !take_partners(&mut spare.spots, &mut spare.values, waiting, token, *shape)? {
         waiting.push(*token)?;
         return Ok(None);
     }
-    let act = act_on(checked, token.context, invocation, shape, values)?;
+    let act = act_on(checked, token.context, invocation, shape, &spare.values);
     Ok(Some(act))
 }
 
 /// Joins a token with its partners, which are taken out. Where one is missing, or where no activity takes the token, it is
 /// left to wait.
+#[inline(always)]
 fn join<'a, A: Allocator + Clone>(
     checked: &Checked<'a, A>,
     invocations: &Invocations<A>,
     waiting: &mut Vec<Token, A>,
     token: &Token,
     spare: &mut Spare<A>,
-) -> Result<Option<Act<A>>, AllocError>
+) -> Result<Option<Act>, AllocError>
     requires few { total_of checked.now.arrays ≤ 65536 }
     requires never_fails { join_of checked.now invocations.now waiting.old.items token.now ≢ Fails }
     ensures { IfOk result (λ r. MatchOption r
         ((join_of checked.now invocations.now waiting.old.items token.now ≡ Alone) × (waiting.new.items ≡ waiting.old.items ++ token.now ∷ []))
-        (λ act. join_of checked.now invocations.now waiting.old.items token.now ≡ Joins waiting.new.items act.values.items act.deed)) }
+        (λ act. join_of checked.now invocations.now waiting.old.items token.now ≡ Joins waiting.new.items spare.new.values.items (told act))) }
 {
     if let Some(invocation) = invocations.get(token.context) {
         if let Some(shape) = shape_of(checked, invocation, token.spot) {
@@ -130,6 +132,7 @@ fn join<'a, A: Allocator + Clone>(
 }
 
 /// What the cell holds.
+#[inline(always)]
 pub fn held(cells: &[Option<Value>], cell: usize) -> Option<Value>
     ensures { result ≡ Acting.held_in cells.now cell }
 {
@@ -140,18 +143,19 @@ pub fn held(cells: &[Option<Value>], cell: usize) -> Option<Value>
 }
 
 /// Asks the cell of a fetch or a store.
-pub fn ask(cells: &[Option<Value>], deed: &Deed) -> Gate
-    ensures { result ≡ Acting.gate_of cells.now deed.now }
+#[inline(always)]
+pub fn ask(cells: &[Option<Value>], act: &Act) -> Gate
+    ensures { result ≡ Acting.gate_of cells.now (told act.now) }
 {
-    match *deed {
-        Deed::Reads { cell, .. } => {
+    match act.task {
+        Task::Reads { cell, .. } => {
             if held(cells, cell).is_none() {
                 Gate::Defers
             } else {
                 Gate::Free
             }
         }
-        Deed::Fills {
+        Task::Fills {
             cell,
             array,
             index,
@@ -168,13 +172,14 @@ pub fn ask(cells: &[Option<Value>], deed: &Deed) -> Gate
 }
 
 /// Joins a token with its partners, which wait in its invocation's row.
+#[inline(always)]
 pub fn join_among<'a, A: Allocator + Clone>(
     checked: &Checked<'a, A>,
     invocations: &Invocations<A>,
     rows: &mut Vec<Row<A>, A>,
     token: &Token,
     spare: &mut Spare<A>,
-) -> Result<Option<Act<A>>, AllocError>
+) -> Result<Option<Act>, AllocError>
     requires few { total_of checked.now.arrays ≤ 65536 }
     requires never_fails { join_of checked.now invocations.now (rows_of (map (λ v. v.items) rows.old.items) token.now.context) token.now ≢ Fails }
     ensures { let old = rows_of (map (λ v. v.items) rows.old.items) in
@@ -182,30 +187,31 @@ pub fn join_among<'a, A: Allocator + Clone>(
         let row = old token.now.context in
         IfOk result (λ r. MatchOption r
         ((join_of checked.now invocations.now row token.now ≡ Alone) × (with_row old token.now.context (row ++ token.now ∷ []) ≡ new))
-        (λ act. (join_of checked.now invocations.now row token.now ≡ Joins (new token.now.context) act.values.items act.deed) × (with_row old token.now.context (new token.now.context) ≡ new))) }
+        (λ act. (join_of checked.now invocations.now row token.now ≡ Joins (new token.now.context) spare.new.values.items (told act)) × (with_row old token.now.context (new token.now.context) ≡ new))) }
 {
     reach(rows, token.context)?;
     join(checked, invocations, &mut rows[token.context], token, spare)
 }
 
-/// The first activity of the first token in the list that can act.
+/// The first activity of the first token in the list that can act. The values that it takes are listed.
+#[inline(always)]
 pub fn next_act<'a, A: Allocator + Clone>(
     checked: &Checked<'a, A>,
     state: &mut State<A>,
-) -> Result<Result<Act<A>, MeanEnd>, AllocError>
+    spare: &mut Spare<A>,
+) -> Result<Result<Act, MeanEnd>, AllocError>
     requires few { total_of checked.now.arrays ≤ 65536 }
     requires never_broken { next_among checked.now (plain state.old.invocations state.old.fresh.items [] state.old.deferred.items state.old.cells.items state.old.outputs.items) (rows_of (map (λ v. v.items) state.old.waiting.items)) ≢ Breaks }
     ensures { let old = plain state.old.invocations state.old.fresh.items [] state.old.deferred.items state.old.cells.items state.old.outputs.items in
         let new = plain state.new.invocations state.new.fresh.items [] state.new.deferred.items state.new.cells.items state.new.outputs.items in
         let from = rows_of (map (λ v. v.items) state.old.waiting.items) in
         let to = rows_of (map (λ v. v.items) state.new.waiting.items) in
-        IfOk result (λ r. MatchResult r (λ act. next_among checked.now old from ≡ Goes new to act.values.items act.deed) (λ e. next_among checked.now old from ≡ Stays new e)) }
+        IfOk result (λ r. MatchResult r (λ act. next_among checked.now old from ≡ Goes new to spare.new.values.items (told act)) (λ e. next_among checked.now old from ≡ Stays new e)) }
 {
     while let Some(token) = state.fresh.pop_front() {
         let waiting = &mut state.waiting;
-        let spare = &mut state.spare;
         if let Some(act) = join_among(checked, &state.invocations, waiting, &token, spare)? {
-            match ask(&state.cells, &act.deed) {
+            match ask(&state.cells, &act) {
                 Gate::Free => return Ok(Ok(act)),
                 Gate::Defers => state.deferred.push(token)?,
                 Gate::Clashes { array, index } => return Ok(Err(MeanEnd::Clash { array, index })),
@@ -217,6 +223,7 @@ pub fn next_act<'a, A: Allocator + Clone>(
 
 /// Sends a value on a port of a node of an invocation.
 #[tactic(auto, using(crate::proofs::Earlier::ordered_in))]
+#[inline(always)]
 fn send_at<'a, A: Allocator>(
     checked: &Checked<'a, A>,
     fresh: &mut VecDeque<Token, A>,
@@ -234,6 +241,7 @@ fn send_at<'a, A: Allocator>(
 }
 
 /// Sends a value on a port of a node.
+#[inline(always)]
 fn send_from<'a, A: Allocator + Clone>(
     checked: &Checked<'a, A>,
     invocations: &Invocations<A>,
@@ -313,6 +321,7 @@ fn fill(places: &mut [Option<Value>], place: usize, value: Value)
 }
 
 /// Sends a value on a port of a node.
+#[inline(always)]
 fn send_value<'a, A: Allocator + Clone>(
     checked: &Checked<'a, A>,
     state: &mut State<A>,
@@ -323,7 +332,7 @@ fn send_value<'a, A: Allocator + Clone>(
 ) -> Result<(), AllocError>
     ensures { let old = plain state.old.invocations state.old.fresh.items [] state.old.deferred.items state.old.cells.items state.old.outputs.items in
         let new = plain state.new.invocations state.new.fresh.items [] state.new.deferred.items state.new.cells.items state.new.outputs.items in
-        OnOk result ((new ≡ performed checked.now old [] (Deed.Sends context node port value)) × (state.new.waiting.items ≡ state.old.waiting.items)) }
+        OnOk result ((new ≡ performed checked.now old [] (Deeds.Sends context node port value)) × (state.new.waiting.items ≡ state.old.waiting.items)) }
 {
     let sent = Sent { context, value };
     let invocations = &state.invocations;
@@ -340,13 +349,14 @@ fn steer_value<'a, A: Allocator + Clone>(
 ) -> Result<(), AllocError>
     ensures { let old = plain state.old.invocations state.old.fresh.items [] state.old.deferred.items state.old.cells.items state.old.outputs.items in
         let new = plain state.new.invocations state.new.fresh.items [] state.new.deferred.items state.new.cells.items state.new.outputs.items in
-        OnOk result ((new ≡ performed checked.now old [] (Deed.Steers context cond value)) × (state.new.waiting.items ≡ state.old.waiting.items)) }
+        OnOk result ((new ≡ performed checked.now old [] (Deeds.Steers context cond value)) × (state.new.waiting.items ≡ state.old.waiting.items)) }
 {
     let sent = Sent { context, value };
     steer_from(checked, &state.invocations, &mut state.fresh, &sent, cond)
 }
 
 /// Sends a value to an input of the invocation of that name, which is made if it does not exist.
+#[inline(always)]
 fn enter_value<A: Allocator + Clone>(
     state: &mut State<A>,
     made: &Made,
@@ -363,53 +373,44 @@ fn enter_value<A: Allocator + Clone>(
     enter(&mut state.fresh, &sent, input)
 }
 
-/// Does what the activity does.
+/// Does what the activity does with these values.
+#[inline(always)]
 pub fn perform<'a, A: Allocator + Clone>(
     checked: &Checked<'a, A>,
     state: &mut State<A>,
-    deed: &Deed,
+    act: &Act,
     values: &[Value],
 ) -> Result<(), AllocError>
     ensures { let old = plain state.old.invocations state.old.fresh.items [] state.old.deferred.items state.old.cells.items state.old.outputs.items in
         let new = plain state.new.invocations state.new.fresh.items [] state.new.deferred.items state.new.cells.items state.new.outputs.items in
-        OnOk result ((new ≡ performed checked.now old values.now deed.now) × (state.new.waiting.items ≡ state.old.waiting.items)) }
+        OnOk result ((new ≡ performed checked.now old values.now (told act.now)) × (state.new.waiting.items ≡ state.old.waiting.items)) }
 {
-    match *deed {
-        Deed::Sends {
+    let value = act.value;
+    match act.task {
+        Task::Sends {
             context,
             node,
             port,
-            value,
         } => send_value(checked, state, context, node, port, value),
-        Deed::Steers {
-            context,
-            cond,
-            value,
-        } => steer_value(checked, state, context, cond, value),
-        Deed::Enters {
-            made,
-            block,
-            input,
-            value,
-        } => enter_value(state, &made, block, input, value),
-        Deed::EntersAll { made, block } => {
+        Task::Steers { context, cond } => steer_value(checked, state, context, cond, value),
+        Task::Enters { made, block, input } => enter_value(state, &made, block, input, value),
+        Task::EntersAll { made, block } => {
             let context = state.invocations.number_of(&made, block)?;
             enter_all(&mut state.fresh, context, values)
         }
-        Deed::Stops => Ok(()),
-        Deed::Reads {
+        Task::Stops => Ok(()),
+        Task::Reads {
             context,
             node,
             cell,
         } => answer(checked, state, context, node, cell),
-        Deed::Fills {
+        Task::Fills {
             context,
             node,
             cell,
-            value,
             ..
         } => fill_cell(checked, state, context, node, cell, value),
-        Deed::Puts { number, value } => {
+        Task::Puts { number } => {
             fill(&mut state.outputs, number, value);
             Ok(())
         }
@@ -426,7 +427,7 @@ fn answer<'a, A: Allocator + Clone>(
 ) -> Result<(), AllocError>
     ensures { let old = plain state.old.invocations state.old.fresh.items [] state.old.deferred.items state.old.cells.items state.old.outputs.items in
         let new = plain state.new.invocations state.new.fresh.items [] state.new.deferred.items state.new.cells.items state.new.outputs.items in
-        OnOk result ((new ≡ performed checked.now old [] (Deed.Reads context node cell)) × (state.new.waiting.items ≡ state.old.waiting.items)) }
+        OnOk result ((new ≡ performed checked.now old [] (Deeds.Reads context node cell)) × (state.new.waiting.items ≡ state.old.waiting.items)) }
 {
     match held(&state.cells, cell) {
         Some(value) => send_value(checked, state, context, node, 0, value),
@@ -445,7 +446,7 @@ fn fill_cell<'a, A: Allocator + Clone>(
 ) -> Result<(), AllocError>
     ensures { let old = plain state.old.invocations state.old.fresh.items [] state.old.deferred.items state.old.cells.items state.old.outputs.items in
         let new = plain state.new.invocations state.new.fresh.items [] state.new.deferred.items state.new.cells.items state.new.outputs.items in
-        OnOk result ((new ≡ performed checked.now old [] (Deed.Fills context node cell 0 0 value)) × (state.new.waiting.items ≡ state.old.waiting.items)) }
+        OnOk result ((new ≡ performed checked.now old [] (Deeds.Fills context node cell 0 0 value)) × (state.new.waiting.items ≡ state.old.waiting.items)) }
 {
     let sent = Sent { context, value };
     fill(&mut state.cells, cell, sent.value);

@@ -24,6 +24,7 @@ pub struct Token {
 }
 
 /// Whether both are one spot.
+#[inline(always)]
 pub fn same_spot(left: Spot, right: Spot) -> bool
     ensures { result ≡ Lines.same_spot left right }
 {

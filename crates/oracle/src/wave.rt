@@ -4,33 +4,59 @@ ghost use Rattle.std.specs.Prelude.{◌≡◌, ◌≢◌, ◌≤◌, ◌<◌, []
 ghost use Rattle.oracle.specs.Lines.{total_of};
 ghost use Rattle.oracle.specs.Running.{plain};
 ghost use Rattle.oracle.specs.Rows.{rows_of};
+ghost use Rattle.oracle.specs.Telling.{told};
 ghost use Rattle.oracle.specs.Gathering.{gathered, Found, Clashed, Failed, performed_all, Does, Hits, wave_among, Passes, Halts, Breaks};
 
+use crate::deeds::Act;
 use crate::report::MeanEnd;
-use crate::state::{Act, Gate, State, ask, join_among, perform};
+use crate::state::{Gate, Spare, State, ask, join_among, perform};
 use graph_check::Checked;
 use std::alloc::{AllocError, Allocator};
+use std::mem;
+use tags::value::Value;
+
+/// An activity with the values that it took.
+#[derive(Drop)]
+struct Activity<A: Allocator> {
+    values: Vec<Value, A>,
+    act: Act,
+}
+
+/// An activity with the listed values. The list is empty then.
+fn with_values<A: Allocator + Clone>(
+    act: Act,
+    spare: &mut Spare<A>,
+) -> Result<Activity<A>, AllocError>
+    ensures { IfOk result (λ a. (a.values.items ≡ spare.old.values.items) × (a.act ≡ act)) }
+{
+    let none = Vec::new(spare.values.allocator().clone()?);
+    let values = mem::replace(&mut spare.values, none);
+    Ok(Activity { values, act })
+}
 
 /// Looks at all fresh tokens, and returns the activities that act. None is done yet. A store to a full cell is the end.
 fn gather<'a, A: Allocator + Clone>(
     checked: &Checked<'a, A>,
     state: &mut State<A>,
-) -> Result<Result<Vec<Act<A>, A>, MeanEnd>, AllocError>
+) -> Result<Result<Vec<Activity<A>, A>, MeanEnd>, AllocError>
     requires few { total_of checked.now.arrays ≤ 65536 }
     requires never_failed { gathered checked.now state.old.invocations state.old.cells.items state.old.fresh.items (rows_of (map (λ v. v.items) state.old.waiting.items)) state.old.deferred.items [] ≢ Failed }
     ensures found { let all = gathered checked.now state.old.invocations state.old.cells.items state.old.fresh.items (rows_of (map (λ v. v.items) state.old.waiting.items)) state.old.deferred.items [] in
         IfOk result (λ r. MatchResult r
-        (λ acts. all ≡ Found (rows_of (map (λ v. v.items) state.new.waiting.items)) state.new.deferred.items (map (λ a. (a.values.items, a.deed)) acts.items))
+        (λ acts. all ≡ Found (rows_of (map (λ v. v.items) state.new.waiting.items)) state.new.deferred.items (map (λ a. (a.values.items, told a.act)) acts.items))
         (λ e. all ≡ Clashed e)) }
     ensures kept { IfOk result (λ r. IfOk r (λ acts. plain state.new.invocations state.new.fresh.items [] [] state.new.cells.items state.new.outputs.items ≡ plain state.old.invocations [] [] [] state.old.cells.items state.old.outputs.items)) }
 {
     let mut acts = Vec::new(state.waiting.allocator().clone()?);
+    let mut spare = Spare::new(state.waiting.allocator().clone()?)?;
     while let Some(token) = state.fresh.pop_front() {
         let waiting = &mut state.waiting;
-        let spare = &mut state.spare;
-        if let Some(act) = join_among(checked, &state.invocations, waiting, &token, spare)? {
-            match ask(&state.cells, &act.deed) {
-                Gate::Free => acts.push(act)?,
+        if let Some(act) = join_among(checked, &state.invocations, waiting, &token, &mut spare)? {
+            match ask(&state.cells, &act) {
+                Gate::Free => {
+                    let activity = with_values(act, &mut spare)?;
+                    acts.push(activity)?;
+                }
                 Gate::Defers => state.deferred.push(token)?,
                 Gate::Clashes { array, index } => return Ok(Err(MeanEnd::Clash { array, index })),
             }
@@ -43,19 +69,19 @@ fn gather<'a, A: Allocator + Clone>(
 fn perform_all<'a, A: Allocator + Clone>(
     checked: &Checked<'a, A>,
     state: &mut State<A>,
-    acts: &[Act<A>],
+    acts: &[Activity<A>],
 ) -> Result<Result<(), MeanEnd>, AllocError>
     ensures done { let old = plain state.old.invocations state.old.fresh.items [] state.old.deferred.items state.old.cells.items state.old.outputs.items in
         let new = plain state.new.invocations state.new.fresh.items [] state.new.deferred.items state.new.cells.items state.new.outputs.items in
-        let all = performed_all checked.now old (map (λ a. (a.values.items, a.deed)) acts.now) in
+        let all = performed_all checked.now old (map (λ a. (a.values.items, told a.act)) acts.now) in
         IfOk result (λ r. MatchResult r (λ u. all ≡ Does new) (λ e. all ≡ Hits e)) }
     ensures waiting { IfOk result (λ r. state.new.waiting.items ≡ state.old.waiting.items) }
 {
-    for act in acts {
-        if let Gate::Clashes { array, index } = ask(&state.cells, &act.deed) {
+    for activity in acts {
+        if let Gate::Clashes { array, index } = ask(&state.cells, &activity.act) {
             return Ok(Err(MeanEnd::Clash { array, index }));
         }
-        perform(checked, state, &act.deed, &act.values)?;
+        perform(checked, state, &activity.act, &activity.values)?;
     }
     Ok(Ok(()))
 }
