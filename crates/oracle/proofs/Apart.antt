@@ -1,5 +1,6 @@
 -- Different invocations have different names, and different spots different places.
-use Rattle.std.proofs.Common.{◌≡◌, ℕ, zero, suc, ◌+◌, ◌<◌, inl, inr, Bool, true, false, ◌&&◌, ◌==◌, List, [], ◌∷◌, ◌++◌, length, Option, Some, None, slice_get, if◌then◌else◌, refl, sym, ap, ◌∙◌, subst, eq-eqb}
+use Rattle.std.proofs.Common.{◌≡◌, ℕ, zero, suc, ◌+◌, ◌<◌, inl, inr, Bool, true, false, ◌&&◌, ◌==◌, List, [], ◌∷◌, ◌++◌, length, Option, Some, None}
+use Rattle.std.proofs.Common.{slice_get, if◌then◌else◌, refl, sym, ap, ◌∙◌, subst, eq-eqb}
 use Rattle.lemmas.proofs.SliceGet.{get_some}
 use Rattle.semantics.specs.Graph.{Graph}
 use Rattle.semantics.specs.Meaning.{Context}
@@ -72,7 +73,8 @@ pub made_refl : (a : Made) → same_made a a ≡ true
 made_refl Main = refl
 made_refl (Called c n) = ap (λ b. b && (n == n)) (eq-eqb c c refl) ∙ ap (λ b. true && b) (eq-eqb n n refl)
 made_refl (Turned c n i) =
-    ap (λ b. (b && (n == n)) && (i == i)) (eq-eqb c c refl) ∙ ap (λ b. (true && b) && (i == i)) (eq-eqb n n refl) ∙ ap (λ b. (true && true) && b) (eq-eqb i i refl)
+    ap (λ b. (b && (n == n)) && (i == i)) (eq-eqb c c refl) ∙ ap (λ b. (true && b) && (i == i)) (eq-eqb n n refl)
+    ∙ ap (λ b. (true && true) && b) (eq-eqb i i refl)
 
 none_made : (made : Made) (k : ℕ) (xs : List Invocation) → made_from made k xs ≡ None → (i : ℕ) (x : Invocation) → slice_get xs i ≡ Some x → x.made ≡ made → ⊥
 none_made made k [] e i x h is = cc
@@ -86,7 +88,8 @@ none_made made k (y ∷ xs) e (suc i) x h is =
     = λ b. elim b as (λ b. (if b then Some k else made_from made (k + 1) xs) ≡ None → made_from made (k + 1) xs ≡ None) [ true ↦ λ q. cc | false ↦ λ q. q ] in
     none_made made (k + 1) xs (cases (same_made y.made made) e) i x h is
 
-mades_added : (xs : List Invocation) (made : Made) (block : ℕ) → MadesDiffer xs → made_from made 0 xs ≡ None → MadesDiffer (xs ++ record { made = made; block = block } ∷ [])
+mades_added : (xs : List Invocation) (made : Made) (block : ℕ) → MadesDiffer xs → made_from made 0 xs ≡ None
+    → MadesDiffer (xs ++ record { made = made; block = block } ∷ [])
 mades_added xs made block differ none i j x y h k e =
     let z : Invocation = record { made = made; block = block } in
     elim (get_last xs z i x h) as (λ r. i ≡ j) [
@@ -103,7 +106,11 @@ mades_added xs made block differ none i j x y h k e =
 pub mades_more : (xs : List Invocation) (made : Made) (block : ℕ) → MadesDiffer xs → MadesDiffer (with_made xs made block)
 mades_more xs made block differ =
     let cases : (o : Option ℕ) → made_from made 0 xs ≡ o → MadesDiffer (more_if xs made block o)
-    = λ o. elim o as (λ o. made_from made 0 xs ≡ o → MadesDiffer (more_if xs made block o)) [ None ↦ λ e. mades_added xs made block differ e | Some k ↦ λ e. differ ] in
+    = λ o. elim o as (λ o. made_from made 0 xs ≡ o → MadesDiffer (more_if xs made block o)) [
+      | None ↦ λ e. mades_added xs made block differ e
+      | Some k
+          ↦ λ e. differ
+    ] in
     cases (made_from made 0 xs) refl
 
 -- what holds of each place that an invocation was made at

@@ -14,7 +14,8 @@ use Rattle.oracle.specs.Reporting.{cell_at}
 use Rattle.oracle.proofs.Gating.{gate_clashes}
 use Rattle.oracle.proofs.Resolved.{firsts_same, lens_same}
 
-pub clash_of : (g : Graph) (cs : List Context) (m : ℕ) (vs : List Value) (d : Deed) (cells : List (Option Value)) (state : State) (act : Activity) (rest : List Tagged)
+pub clash_of : (g : Graph) (cs : List Context) (m : ℕ) (vs : List Value) (d : Deed) (cells : List (Option Value)) (state : State) (act : Activity)
+    (rest : List Tagged)
     → deed (flow_of g) act ≡ Some (deed_of cs vs d) → IsKnown g cs m vs d → IsPermutation state.tokens (taken act ++ rest) → state.memory.cells ≡ held_in cells
     → (a i : ℕ) → gate_of cells d ≡ GateClashes a i → (i < array_len (flow_of g) a) × Clashes (flow_of g) state (cell_at g a i)
 clash_of g cs m vs d cells state act rest does is_known takes memory a i gate =

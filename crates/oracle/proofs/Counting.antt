@@ -14,15 +14,19 @@ use Rattle.oracle.specs.Sending.{flag_tokens, token_at}
 pub less_one : (i n : ℕ) → i < n → n - i ≡ suc (n - (i + 1))
 less_one i n h = omega (arith, h)
 
-pub spots_more : (n i count : ℕ) (all so_far : List Spot) → i < count → all ≡ so_far ++ operand_spots n i (count - i) → all ≡ (so_far ++ Operand n i ∷ []) ++ operand_spots n (i + 1) (count - (i + 1))
-spots_more n i count all so_far h e = e ∙ ap (λ k. so_far ++ operand_spots n i k) (less_one i count h) ∙ sym (append_assoc so_far (Operand n i ∷ []) (operand_spots n (i + 1) (count - (i + 1))))
+pub spots_more : (n i count : ℕ) (all so_far : List Spot) → i < count → all ≡ so_far ++ operand_spots n i (count - i) → all
+    ≡ (so_far ++ Operand n i ∷ []) ++ operand_spots n (i + 1) (count - (i + 1))
+spots_more n i count all so_far h e = e ∙ ap (λ k. so_far ++ operand_spots n i k) (less_one i count h)
+    ∙ sym (append_assoc so_far (Operand n i ∷ []) (operand_spots n (i + 1) (count - (i + 1))))
 
 pub flags_more : (x : Sent) (i count : ℕ) (all so_far : List Token) → i < count → all ≡ so_far ++ flag_tokens x (i + 1) (count - i)
     → all ≡ (so_far ++ token_at x (Flag (i + 1)) ∷ []) ++ flag_tokens x (i + 1 + 1) (count - (i + 1))
 flags_more x i count all so_far h e =
-    e ∙ ap (λ k. so_far ++ flag_tokens x (i + 1) k) (less_one i count h) ∙ sym (append_assoc so_far (token_at x (Flag (i + 1)) ∷ []) (flag_tokens x (i + 1 + 1) (count - (i + 1))))
+    e ∙ ap (λ k. so_far ++ flag_tokens x (i + 1) k) (less_one i count h)
+    ∙ sym (append_assoc so_far (token_at x (Flag (i + 1)) ∷ []) (flag_tokens x (i + 1 + 1) (count - (i + 1))))
 
-pub nones_more : (i count : ℕ) (all so_far : List (Option Value)) → i < count → all ≡ so_far ++ nones (count - i) → all ≡ (so_far ++ None ∷ []) ++ nones (count - (i + 1))
+pub nones_more : (i count : ℕ) (all so_far : List (Option Value)) → i < count → all ≡ so_far ++ nones (count - i) → all ≡ (so_far ++ None ∷ [])
+    ++ nones (count - (i + 1))
 nones_more i count all so_far h e = e ∙ ap (λ k. so_far ++ nones k) (less_one i count h) ∙ sym (append_assoc so_far (None ∷ []) (nones (count - (i + 1))))
 
 next_place : (x i : ℕ) → x + i + 1 ≡ x + (i + 1)

@@ -13,16 +13,19 @@ use Rattle.oracle.specs.Acting.{fired_deed, one_deed, two_deed, fetch_deed, stor
 use Rattle.oracle.specs.Meant.{name_in, deed_of}
 use Rattle.oracle.proofs.Resolved.{firsts_same, lens_same}
 
-fetched_same : (cs : List Context) (vs : List Value) (c n base : ℕ) (i : Indexed) → deed_of cs vs (fetch_deed c n base i) ≡ Meaning.fetched (name_in cs c) n base i
+fetched_same : (cs : List Context) (vs : List Value) (c n base : ℕ) (i : Indexed) → deed_of cs vs (fetch_deed c n base i)
+    ≡ Meaning.fetched (name_in cs c) n base i
 fetched_same cs vs c n base (Outside v) = refl
 fetched_same cs vs c n base (Place i) = refl
 
-stored_same : (cs : List Context) (vs : List Value) (c n base a : ℕ) (w : Value) (i : Indexed) → deed_of cs vs (store_deed c n base a w i) ≡ Meaning.stored (name_in cs c) n base w i
+stored_same : (cs : List Context) (vs : List Value) (c n base a : ℕ) (w : Value) (i : Indexed) → deed_of cs vs (store_deed c n base a w i)
+    ≡ Meaning.stored (name_in cs c) n base w i
 stored_same cs vs c n base a w (Outside v) = refl
 stored_same cs vs c n base a w (Place i) = refl
 
 fetch_same : (g : Graph) (cs : List Context) (c n a : ℕ) (v : Value)
-    → option_map (deed_of cs (v ∷ [])) (one_deed g c n (Fetch a) v (origin_at (flow_of g) (name_in cs c) n)) ≡ Meaning.fired (flow_of g) (name_in cs c) n (Fetch a) (v ∷ [])
+    → option_map (deed_of cs (v ∷ [])) (one_deed g c n (Fetch a) v (origin_at (flow_of g) (name_in cs c) n))
+    ≡ Meaning.fired (flow_of g) (name_in cs c) n (Fetch a) (v ∷ [])
 fetch_same g cs c n a v =
     let o = origin_at (flow_of g) (name_in cs c) n in
     ap Some (fetched_same cs (v ∷ []) c n (first_of g.arrays a) (index_in (len_of g.arrays a) v o))
@@ -30,7 +33,8 @@ fetch_same g cs c n a v =
     ∙ ap (λ k. Some (Meaning.fetched (name_in cs c) n (first_cell (flow_of g) a) (index_in k v o))) (lens_same g.arrays a)
 
 store_same : (g : Graph) (cs : List Context) (c n a : ℕ) (v w : Value)
-    → option_map (deed_of cs (v ∷ w ∷ [])) (two_deed g c n (Store a) v w (origin_at (flow_of g) (name_in cs c) n)) ≡ Meaning.fired (flow_of g) (name_in cs c) n (Store a) (v ∷ w ∷ [])
+    → option_map (deed_of cs (v ∷ w ∷ [])) (two_deed g c n (Store a) v w (origin_at (flow_of g) (name_in cs c) n))
+    ≡ Meaning.fired (flow_of g) (name_in cs c) n (Store a) (v ∷ w ∷ [])
 store_same g cs c n a v w =
     let o = origin_at (flow_of g) (name_in cs c) n in
     ap Some (stored_same cs (v ∷ w ∷ []) c n (first_of g.arrays a) a w (index_in (len_of g.arrays a) v o))
@@ -52,7 +56,8 @@ fired_same g cs c n kind (v ∷ []) = refl
 fired_same g cs c n kind (v ∷ w ∷ []) = refl
 fired_same g cs c n kind (v ∷ w ∷ u ∷ us) = refl
 
-pub passed_same : (cs : List Context) (c n i : ℕ) (kind : Kind ℕ) (v : Value) → option_map (deed_of cs (v ∷ [])) (node_passed c n i kind v) ≡ Meaning.passed (name_in cs c) n i v kind
+pub passed_same : (cs : List Context) (c n i : ℕ) (kind : Kind ℕ) (v : Value) → option_map (deed_of cs (v ∷ [])) (node_passed c n i kind v)
+    ≡ Meaning.passed (name_in cs c) n i v kind
 passed_same cs c n i kind v = elim kind as (λ kind. option_map (deed_of cs (v ∷ [])) (node_passed c n i kind v) ≡ Meaning.passed (name_in cs c) n i v kind) [
   | Lit z ↦ refl
   | Apply1 op ↦ refl

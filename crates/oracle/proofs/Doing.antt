@@ -1,5 +1,6 @@
 -- The activities that were found are done, one after the other.
-use Rattle.std.proofs.Common.{◌≡◌, ℕ, zero, suc, ◌+◌, ◌<◌, ℤ, Bool, true, false, ◌==◌, List, [], ◌∷◌, ◌++◌, map, length, Option, Some, None, nat_lt, slice_get, if◌then◌else◌, IsPermutation, refl, sym, ap, ◌∙◌, subst, arith, append_assoc, ltb-true}
+use Rattle.std.proofs.Common.{◌≡◌, ℕ, zero, suc, ◌+◌, ◌<◌, ℤ, Bool, true, false, ◌==◌, List, [], ◌∷◌, ◌++◌, map, length, Option, Some, None, nat_lt}
+use Rattle.std.proofs.Common.{slice_get, if◌then◌else◌, IsPermutation, refl, sym, ap, ◌∙◌, subst, arith, append_assoc, ltb-true}
 use Rattle.std.specs.Prelude.{is_some, slice_set}
 use Rattle.std.proofs.lemmas.List.{map-append}
 use Rattle.std.proofs.lemmas.List.Sorted.{IsPermutation-refl}
@@ -36,17 +37,23 @@ abbrev pub ahead : List Token → Plain → Plain
 ahead held s = plain s.invocations (held ++ s.fresh) s.waiting s.deferred s.cells s.outputs
 
 behind : (g : Graph) (held : List Token) (s : Plain) (vs : List Value) (d : Deed) → performed g (ahead held s) vs d ≡ ahead held (performed g s vs d)
-behind g held s vs (Sends c n p v) = ap (λ l. plain s.invocations l s.waiting s.deferred s.cells s.outputs) (append_assoc held s.fresh (sent_in g s.invocations (sent_of c v) n p))
-behind g held s vs (Steers c k v) = ap (λ l. plain s.invocations l s.waiting s.deferred s.cells s.outputs) (append_assoc held s.fresh (steered_in g s.invocations (sent_of c v) k))
+behind g held s vs (Sends c n p v) = ap (λ l. plain s.invocations l s.waiting s.deferred s.cells s.outputs)
+    (append_assoc held s.fresh (sent_in g s.invocations (sent_of c v) n p))
+behind g held s vs (Steers c k v) = ap (λ l. plain s.invocations l s.waiting s.deferred s.cells s.outputs)
+    (append_assoc held s.fresh (steered_in g s.invocations (sent_of c v) k))
 behind g held s vs (Enters made f i v) =
-    ap (λ l. plain (with_made s.invocations made f) l s.waiting s.deferred s.cells s.outputs) (append_assoc held s.fresh (token_at (sent_of (number_in s.invocations made) v) (Operand i 0) ∷ []))
+    ap (λ l. plain (with_made s.invocations made f) l s.waiting s.deferred s.cells s.outputs)
+    (append_assoc held s.fresh (token_at (sent_of (number_in s.invocations made) v) (Operand i 0) ∷ []))
 behind g held s vs (EntersAll made f) =
-    ap (λ l. plain (with_made s.invocations made f) l s.waiting s.deferred s.cells s.outputs) (append_assoc held s.fresh (entering_tokens (number_in s.invocations made) 0 vs))
+    ap (λ l. plain (with_made s.invocations made f) l s.waiting s.deferred s.cells s.outputs)
+    (append_assoc held s.fresh (entering_tokens (number_in s.invocations made) 0 vs))
 behind g held s vs Stops = refl
-behind g held s vs (Reads c n x) = ap (λ l. plain s.invocations l s.waiting s.deferred s.cells s.outputs) (append_assoc held s.fresh (answered g s.invocations c n (held_in s.cells x)))
+behind g held s vs (Reads c n x) = ap (λ l. plain s.invocations l s.waiting s.deferred s.cells s.outputs)
+    (append_assoc held s.fresh (answered g s.invocations c n (held_in s.cells x)))
 behind g held s vs (Fills c n x a i v) =
     let new = sent_in g s.invocations (sent_of c v) n 0 in
-    ap (λ l. plain s.invocations l s.waiting [] (filled_in s.cells x v) s.outputs) (ap (λ l. l ++ new) (append_assoc held s.fresh s.deferred) ∙ append_assoc held (s.fresh ++ s.deferred) new)
+    ap (λ l. plain s.invocations l s.waiting [] (filled_in s.cells x v) s.outputs) (ap (λ l. l ++ new) (append_assoc held s.fresh s.deferred)
+    ∙ append_assoc held (s.fresh ++ s.deferred) new)
 behind g held s vs (Puts j v) = refl
 
 -- INVOCATIONS stay
@@ -120,13 +127,15 @@ module _ (g : Graph) (inputs : List ℤ) where
   IsDone k old as' (Hits (Clash a i)) = (i < array_len (flow_of g) a) × ((t : State) × Leads (flow_of g) old t × Clashes (flow_of g) t (cell_at g a i))
   IsDone k old as' (Hits Steps) = ⊥
 
-  one_more : (k : ℕ) (old mid : State) (a : Activity) (as' : List Activity) (p : Performed) → Step (flow_of g) a old mid → IsDone (suc k) mid as' p → IsDone k old (a ∷ as') p
+  one_more : (k : ℕ) (old mid : State) (a : Activity) (as' : List Activity) (p : Performed) → Step (flow_of g) a old mid → IsDone (suc k) mid as' p
+      → IsDone k old (a ∷ as') p
   one_more k old mid a as' (Does t) step h = let count = h.1 in (h.0, omega (arith, count), h.2, (mid, step, h.3))
   one_more k old mid a as' (Hits Rest) step h = h
   one_more k old mid a as' (Hits (Clash b i)) step h = (h.0, (h.1.0, (a ∷ h.1.1.0, (mid, step, h.1.1.1)), h.1.2))
   one_more k old mid a as' (Hits Steps) step h = h
 
-  module _ (act : List Value × Deed) (acts' : List (List Value × Deed)) (a : Activity) (as' : List Activity) (k : ℕ) (held : List Token) (s : Plain) (f : RunsSoFar g inputs k (ahead held s))
+  module _ (act : List Value × Deed) (acts' : List (List Value × Deed)) (a : Activity) (as' : List Activity) (k : ℕ) (held : List Token) (s : Plain)
+      (f : RunsSoFar g inputs k (ahead held s))
       (own rest : List Token) (is : held ≡ own ++ rest) (t : Taking g k f.sound.names (length s.invocations) own act a) (can : CanDo s.cells act.1)
       (more : AreTaking g k f.sound.names (length s.invocations) (CanDo s.cells) rest acts' as') where
     abbrev cs : List Context
@@ -146,7 +155,8 @@ module _ (g : Graph) (inputs : List ℤ) where
     takes : IsPermutation (map (tagged_of cs) (all_tokens (ahead held s))) (taken a ++ map (tagged_of cs) (all_tokens now))
     takes =
         subst (λ l. IsPermutation (map (tagged_of cs) (all_tokens (ahead held s))) l)
-        (ap (map (tagged_of cs)) parts ∙ map-append (tagged_of cs) own (all_tokens now) ∙ ap (λ l. l ++ map (tagged_of cs) (all_tokens now)) t.takes) (IsPermutation-refl _)
+        (ap (map (tagged_of cs)) parts ∙ map-append (tagged_of cs) own (all_tokens now) ∙ ap (λ l. l ++ map (tagged_of cs) (all_tokens now)) t.takes)
+        (IsPermutation-refl _)
 
     ready : gate_of s.cells act.1 ≡ Free → Ready g inputs k now act.0 act.1
     ready free =
@@ -179,22 +189,30 @@ module _ (g : Graph) (inputs : List ℤ) where
         }
 
     abbrev Next : Type 0
-    Next = (k : ℕ) (held : List Token) (s : Plain) (f : RunsSoFar g inputs k (ahead held s)) → AreTaking g k f.sound.names (length s.invocations) (CanDo s.cells) held acts' as' → IsDone k (meant f.sound.names (ahead held s)) as' (performed_all g s acts')
+    Next = (k : ℕ) (held : List Token) (s : Plain) (f : RunsSoFar g inputs k (ahead held s)) → AreTaking g k f.sound.names (length s.invocations)
+        (CanDo s.cells) held acts' as' → IsDone k (meant f.sound.names (ahead held s)) as' (performed_all g s acts')
 
     does_it : Next → gate_of s.cells act.1 ≡ Free → IsDone k old (a ∷ as') (performed_all g (performed g s act.0 act.1) acts')
     unfolding ready
     does_it next free =
         let r = ready free in
         let s' = performed g s act.0 act.1 in
-        let A : Acted g inputs k now act.0 act.1 r (ahead rest s') = subst (λ u. Acted g inputs k now act.0 act.1 r u) (behind g rest s act.0 act.1) (acts g inputs k now act.0 act.1 r) in
+        let A : Acted g inputs k now act.0 act.1 r (ahead rest s') = subst (λ u. Acted g inputs k now act.0 act.1 r u) (behind g rest s act.0 act.1)
+        (acts g inputs k now act.0 act.1 r) in
         let ds = A.follows.sound.names in
         let mid = meant ds (ahead rest s') in
         one_more k old mid a as' (performed_all g s' acts') A.step
         (next (suc k) rest s' A.follows
-        (taking_moved g k s.invocations s'.invocations cs ds f.sound.named A.follows.sound.named (starts g s act.0 act.1) (suc k) (CanDo s.cells) (CanDo s'.cells) (λ e h. turn_later k e h) (λ e h. can_later g s act.0 act.1 e h) rest acts' as' more))
+        (taking_moved g k s.invocations s'.invocations cs ds f.sound.named A.follows.sound.named (starts g s act.0 act.1) (suc k) (CanDo s.cells)
+        (CanDo s'.cells) (λ e h. turn_later k e h) (λ e h. can_later g s act.0 act.1 e h) rest acts' as' more))
 
     by_gate : Next → (gate : Gate) → gate_of s.cells act.1 ≡ gate
-        → IsDone k old (a ∷ as') (elim gate [ Free ↦ performed_all g (performed g s act.0 act.1) acts' | Defers ↦ performed_all g (performed g s act.0 act.1) acts' | GateClashes b i ↦ Hits (Clash b i) ])
+        → IsDone k old (a ∷ as') (elim gate [
+          | Free ↦ performed_all g (performed g s act.0 act.1) acts'
+          | Defers
+              ↦ performed_all g (performed g s act.0 act.1) acts'
+          | GateClashes b i ↦ Hits (Clash b i)
+        ])
     by_gate next Free q = does_it next q
     by_gate next Defers q = absurd (can q)
     by_gate next (GateClashes b i) q =
@@ -202,10 +220,12 @@ module _ (g : Graph) (inputs : List ℤ) where
         (c.0, (old, ([], same_refl old), c.1))
 
   pub done_law : (acts' : List (List Value × Deed)) (as' : List Activity) (k : ℕ) (held : List Token) (s : Plain) (f : RunsSoFar g inputs k (ahead held s))
-      → AreTaking g k f.sound.names (length s.invocations) (CanDo s.cells) held acts' as' → IsDone k (meant f.sound.names (ahead held s)) as' (performed_all g s acts')
+      → AreTaking g k f.sound.names (length s.invocations) (CanDo s.cells) held acts' as' → IsDone k (meant f.sound.names (ahead held s)) as'
+      (performed_all g s acts')
   done_law [] [] k held s f h =
       let f' : RunsSoFar g inputs k s = subst (λ l. RunsSoFar g inputs k (ahead l s)) h f in
-      let p : IsPermutation (all_tokens (ahead held s)) (all_tokens s) = subst (λ l. IsPermutation (all_tokens (ahead held s)) (all_tokens (ahead l s))) h (IsPermutation-refl _) in
+      let p : IsPermutation (all_tokens (ahead held s)) (all_tokens s) = subst
+      (λ l. IsPermutation (all_tokens (ahead held s)) (all_tokens (ahead l s))) h (IsPermutation-refl _) in
       (k, omega arith, f', state_same g (ahead held s) s f.sound.names f'.sound.names f.sound.named f'.sound.named (λ i x e. e) f.sound.known p refl refl)
   done_law (act ∷ acts') [] k held s f h = absurd h
   done_law [] (a ∷ as') k held s f h = absurd h

@@ -1,5 +1,6 @@
 -- A node's sources are earlier nodes, so what is sent from a node goes to later ones.
-use Rattle.std.proofs.Common.{◌≡◌, ℕ, zero, suc, ◌+◌, ◌<◌, ◌≤◌, Bool, true, false, ◌&&◌, ◌==◌, List, [], ◌∷◌, ◌++◌, drop, Some, slice_get, if◌then◌else◌, refl, ap, ◌∙◌, arith, eqb-true}
+use Rattle.std.proofs.Common.{◌≡◌, ℕ, zero, suc, ◌+◌, ◌<◌, ◌≤◌, Bool, true, false, ◌&&◌, ◌==◌, List, [], ◌∷◌, ◌++◌, drop, Some, slice_get}
+use Rattle.std.proofs.Common.{if◌then◌else◌, refl, ap, ◌∙◌, arith, eqb-true}
 use Rattle.semantics.specs.declared.graph.Source.{Source}
 use Rattle.semantics.specs.Graph.{Node, Block, Graph}
 use Rattle.semantics.specs.WellFormed.{WellFormed, IsBlockWell, IsEarlier}
@@ -30,7 +31,8 @@ ordered_rest m node nodes ordered = λ k z i s e f.
     omega (arith, low)
 
 -- the nodes up to node n have no token from it
-pub skipped : (x : Sent) (n p k m : ℕ) (nodes : List (Node (List ℕ))) → AreOrdered m nodes → m + k ≤ n + 1 → node_tokens x n p m nodes ≡ node_tokens x n p (m + k) (drop k nodes)
+pub skipped : (x : Sent) (n p k m : ℕ) (nodes : List (Node (List ℕ))) → AreOrdered m nodes → m + k ≤ n + 1 → node_tokens x n p m nodes
+    ≡ node_tokens x n p (m + k) (drop k nodes)
 skipped x n p zero m nodes ordered le =
     let e : m + 0 ≡ m = omega arith in
     rw e refl

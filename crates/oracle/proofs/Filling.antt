@@ -1,5 +1,6 @@
 -- Cells and outputs as lists, and as the memory of a state.
-use Rattle.std.proofs.Common.{◌≡◌, ℕ, zero, suc, ◌+◌, ◌<◌, Bool, true, false, ◌==◌, List, [], ◌∷◌, ◌++◌, length, Option, Some, None, slice_get, if◌then◌else◌, refl, sym, ap, ◌∙◌, subst, arith, lt-ltb, eq-eqb, eqb-true}
+use Rattle.std.proofs.Common.{◌≡◌, ℕ, zero, suc, ◌+◌, ◌<◌, Bool, true, false, ◌==◌, List, [], ◌∷◌, ◌++◌, length, Option, Some, None, slice_get}
+use Rattle.std.proofs.Common.{if◌then◌else◌, refl, sym, ap, ◌∙◌, subst, arith, lt-ltb, eq-eqb, eqb-true}
 use Rattle.std.specs.Prelude.{slice_set}
 use Rattle.std.proofs.lemmas.List.{length-append}
 use Rattle.std.proofs.lemmas.Option.{slice_get_within}
@@ -37,7 +38,8 @@ filled_is places x v h = ap (λ b. if b then slice_set places x (Some v) else pl
 pub filled_long : (places : List (Option Value)) (x : ℕ) (v : Value) → x < length places → length (filled_in places x v) ≡ length places
 filled_long places x v h = ap length (filled_is places x v h) ∙ set_long places x (Some v)
 
-filled_one : (places : List (Option Value)) (x : ℕ) (v : Value) → x < length places → (y : ℕ) → held_in (filled_in places x v) y ≡ at_place (held_in places) x v y
+filled_one : (places : List (Option Value)) (x : ℕ) (v : Value) → x < length places → (y : ℕ) → held_in (filled_in places x v) y
+    ≡ at_place (held_in places) x v y
 filled_one places x v h y =
     let cases : (b : Bool) → (x == y) ≡ b → held_in (slice_set places x (Some v)) y ≡ (if b then Some v else held_in places y)
     = λ b. elim b as (λ b. (x == y) ≡ b → held_in (slice_set places x (Some v)) y ≡ (if b then Some v else held_in places y)) [

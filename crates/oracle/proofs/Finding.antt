@@ -1,5 +1,6 @@
 -- What was found when all tokens were looked at: activities of the meaning whose tokens are out.
-use Rattle.std.proofs.Common.{◌≡◌, ℕ, ◌<◌, ◌^◌, ℤ, List, [], ◌∷◌, ◌++◌, map, length, Option, Some, slice_get, IsPermutation, refl, sym, ap, ◌∙◌, subst, subst₂, append_assoc}
+use Rattle.std.proofs.Common.{◌≡◌, ℕ, ◌<◌, ◌^◌, ℤ, List, [], ◌∷◌, ◌++◌, map, length, Option, Some, slice_get, IsPermutation, refl, sym, ap, ◌∙◌}
+use Rattle.std.proofs.Common.{subst, subst₂, append_assoc}
 use Rattle.std.proofs.lemmas.List.Sorted.{IsPermutation-sym, IsPermutation-trans}
 use Rattle.tags.specs.declared.value.Value.{Value}
 use Rattle.semantics.specs.Graph.{Graph, flow_of, array_len}
@@ -42,7 +43,8 @@ use Rattle.oracle.proofs.Views.{IsMatched, never_fails}
 
 -- Activities were found whose tokens are out, and none is done. With these tokens after the fresh ones the state is that at
 -- the beginning of the wave.
-pub record Gathers (g : Graph) (inputs : List ℤ) (k : ℕ) (old : State) (xs : List Invocation) (cells outputs : List (Option Value)) (ts w d : List Token) (acts : List (List Value × Deed)) : Type 0 where
+pub record Gathers (g : Graph) (inputs : List ℤ) (k : ℕ) (old : State) (xs : List Invocation) (cells outputs : List (Option Value))
+    (ts w d : List Token) (acts : List (List Value × Deed)) : Type 0 where
   pub held : List Token
   pub activities : List Activity
   pub follows : RunsSoFar g inputs k (plain xs (ts ++ held) w d cells outputs)
@@ -72,7 +74,8 @@ module _ (g : Graph) (text : HasText g) (well : WellFormed g) (inputs : List ℤ
   IsFound Failed = ⊥
 
   -- the same activities with the other tokens in other lists
-  again : (ts w d ts' w' d' : List Token) (acts : List (List Value × Deed)) (h : Has ts w d acts) → RunsSoFar g inputs k (plain xs (ts' ++ h.held) w' d' cells outputs)
+  again : (ts w d ts' w' d' : List Token) (acts : List (List Value × Deed)) (h : Has ts w d acts)
+      → RunsSoFar g inputs k (plain xs (ts' ++ h.held) w' d' cells outputs)
       → IsPermutation ((ts ++ h.held) ++ (w ++ d)) ((ts' ++ h.held) ++ (w' ++ d')) → Has ts' w' d' acts
   again ts w d ts' w' d' acts h f p =
       let s = plain xs (ts ++ h.held) w d cells outputs in
@@ -83,8 +86,10 @@ module _ (g : Graph) (text : HasText g) (well : WellFormed g) (inputs : List ℤ
         held = h.held;
         activities = h.activities;
         follows = f;
-        taking = taking_moved g k xs xs cs f.sound.names h.follows.sound.named f.sound.named (λ i y e. e) k P P (λ e t. t) (λ e t. t) h.held acts h.activities h.taking;
-        same = same_trans old (meant cs s) (meant f.sound.names s') h.same (state_same g s s' cs f.sound.names h.follows.sound.named f.sound.named (λ i y e. e) h.follows.sound.known p refl refl);
+        taking = taking_moved g k xs xs cs f.sound.names h.follows.sound.named f.sound.named (λ i y e. e) k P P (λ e t. t) (λ e t. t) h.held acts
+            h.activities h.taking;
+        same = same_trans old (meant cs s) (meant f.sound.names s') h.same (state_same g s s' cs f.sound.names h.follows.sound.named f.sound.named
+            (λ i y e. e) h.follows.sound.known p refl refl);
       }
 
   module _ (t : Token) (ts w d : List Token) (acts : List (List Value × Deed)) (h : Has (t ∷ ts) w d acts) where
@@ -107,7 +112,8 @@ module _ (g : Graph) (text : HasText g) (well : WellFormed g) (inputs : List ℤ
       gains_defers : gate_of cells deed' ≡ Defers → Has ts left (d ++ t ∷ []) acts
       gains_defers gate =
           let r = gate_defers cells deed' gate in
-          let known : IsKnown g cs (length xs) vs (Reads r.0 r.1 r.2) = subst (IsKnown g cs (length xs) vs) r.3 (is_known g text well inputs fit k low xs cells outputs t later w d f left vs deed' e) in
+          let known : IsKnown g cs (length xs) vs (Reads r.0 r.1 r.2) = subst (IsKnown g cs (length xs) vs) r.3
+          (is_known g text well inputs fit k low xs cells outputs t later w d f left vs deed' e) in
           let same = left_same g text well inputs fit k low xs cells outputs t later w d f left vs deed' e known.1 in
           again (t ∷ ts) w d ts left (d ++ t ∷ []) acts h (defers g text well inputs fit k low xs cells outputs t later w d f left vs deed' e gate)
           (subst (λ l. IsPermutation ((t ∷ later) ++ (w ++ d)) (later ++ (l ++ (d ++ t ∷ [])))) (sym same) (to_deferred t later w d))
@@ -117,7 +123,8 @@ module _ (g : Graph) (text : HasText g) (well : WellFormed g) (inputs : List ℤ
           let state = meant cs (plain xs (t ∷ later) w d cells outputs) in
           let j = join g text well inputs fit k low xs cells outputs t later w d f left vs deed' e in
           let c = clash_of g cs (length xs) vs deed' cells state j.0 (map (tagged_of cs) (later ++ (left ++ d))) j.2
-          (is_known g text well inputs fit k low xs cells outputs t later w d f left vs deed' e) (takes g text well inputs fit k low xs cells outputs t later w d f left vs deed' e) refl a i gate in
+          (is_known g text well inputs fit k low xs cells outputs t later w d f left vs deed' e) (takes g text well inputs fit k low xs cells outputs
+          t later w d f left vs deed' e) refl a i gate in
           (c.0, clash_same (flow_of g) state old (cell_at g a i) (same_sym old state h.same) c.1)
 
       abbrev its_view : IsMatched g w t its.0 left vs deed'
@@ -155,7 +162,8 @@ module _ (g : Graph) (text : HasText g) (well : WellFormed g) (inputs : List ℤ
             does = act_law g text cs t.context its.0 is_block v.shape vs deed' v.deed;
             is_known = is_known g text well inputs fit k low xs cells outputs t later w d f left vs deed' e;
             turn = turn_law g k t.context its.0 (f.sound.turns t.context its.0 its.1) v.shape vs deed' v.deed;
-            put = shown_of g deed' (plain xs later left d cells outputs) f.sound.output_count (put_low g text well inputs fit k low xs cells outputs t later w d f left vs deed' e deed' refl);
+            put = shown_of g deed' (plain xs later left d cells outputs) f.sound.output_count (put_low g text well inputs fit k low xs cells outputs t
+                later w d f left vs deed' e deed' refl);
           }
 
       gains_free : gate_of cells deed' ≡ Free → Has ts left d (acts ++ (vs, deed') ∷ [])
@@ -164,7 +172,8 @@ module _ (g : Graph) (text : HasText g) (well : WellFormed g) (inputs : List ℤ
           let s = f.sound in
           let old' = plain xs (t ∷ later) w d cells outputs in
           let new' = plain xs (ts ++ (h.held ++ own)) left d cells outputs in
-          let known : AreKnown (length xs) ((ts ++ (h.held ++ own)) ++ (left ++ d)) = each_permutation P ((t ∷ later) ++ (w ++ d)) ((ts ++ (h.held ++ own)) ++ (left ++ d)) order s.known in
+          let known : AreKnown (length xs) ((ts ++ (h.held ++ own)) ++ (left ++ d)) = each_permutation P ((t ∷ later) ++ (w ++ d))
+          ((ts ++ (h.held ++ own)) ++ (left ++ d)) order s.known in
           record {
             held = h.held ++ own;
             activities = h.activities ++ activity ∷ [];
@@ -191,14 +200,17 @@ module _ (g : Graph) (text : HasText g) (well : WellFormed g) (inputs : List ℤ
     abbrev Later : Type 0
     Later = (w d : List Token) (acts : List (List Value × Deed)) → Has ts w d acts → IsFound (gathered g xs cells ts (λ c. mine c w) d acts)
 
-    gates : Later → (left : List Token) (vs : List Value) (deed' : Deed) → join_in g w t (Some its.0) ≡ Joins left vs deed' → (gate : Gate) → gate_of cells deed' ≡ gate
+    gates : Later → (left : List Token) (vs : List Value) (deed' : Deed) → join_in g w t (Some its.0) ≡ Joins left vs deed' → (gate : Gate)
+        → gate_of cells deed' ≡ gate
         → IsFound (gated g xs cells t ts (λ c. mine c w) d acts (mine t.context left) vs deed' gate)
     gates next left vs deed' e Free q =
         let by = left_by g w t (Some its.0) left vs deed' e in
-        subst (λ rows. IsFound (gathered g xs cells ts rows d (acts ++ (vs, deed') ∷ []))) (sym (rows_left w t by.0 left by.1)) (next left d (acts ++ (vs, deed') ∷ []) (gains_free left vs deed' e q))
+        subst (λ rows. IsFound (gathered g xs cells ts rows d (acts ++ (vs, deed') ∷ []))) (sym (rows_left w t by.0 left by.1))
+        (next left d (acts ++ (vs, deed') ∷ []) (gains_free left vs deed' e q))
     gates next left vs deed' e Defers q =
         let by = left_by g w t (Some its.0) left vs deed' e in
-        subst (λ rows. IsFound (gathered g xs cells ts rows (d ++ t ∷ []) acts)) (sym (rows_left w t by.0 left by.1)) (next left (d ++ t ∷ []) acts (gains_defers left vs deed' e q))
+        subst (λ rows. IsFound (gathered g xs cells ts rows (d ++ t ∷ []) acts)) (sym (rows_left w t by.0 left by.1))
+        (next left (d ++ t ∷ []) acts (gains_defers left vs deed' e q))
     gates next left vs deed' e (GateClashes a i) q = gains_clash left vs deed' e a i q
 
     cases : Later → (j : Matched) → join_in g w t (Some its.0) ≡ j → IsFound (joined g xs cells t ts (λ c. mine c w) d acts (cut t.context j))
@@ -208,7 +220,8 @@ module _ (g : Graph) (text : HasText g) (well : WellFormed g) (inputs : List ℤ
 
     looked : Later → IsFound (gathered g xs cells (t ∷ ts) (λ c. mine c w) d acts)
     looked next =
-        subst (λ j. IsFound (joined g xs cells t ts (λ c. mine c w) d acts j)) (sym (in_mine g w t (slice_get xs t.context) ∙ ap (λ o. cut t.context (join_in g w t o)) its.1))
+        subst (λ j. IsFound (joined g xs cells t ts (λ c. mine c w) d acts j))
+        (sym (in_mine g w t (slice_get xs t.context) ∙ ap (λ o. cut t.context (join_in g w t o)) its.1))
         (cases next (join_in g w t (Some its.0)) refl)
 
   pub found_law : (ts w d : List Token) (acts : List (List Value × Deed)) → Has ts w d acts → IsFound (gathered g xs cells ts (λ c. mine c w) d acts)

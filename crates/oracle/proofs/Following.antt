@@ -98,21 +98,25 @@ moved_first t ts rest = permutation_exchange (t ∷ []) ts rest
 pub to_waiting : {X : Type 0} (t : X) (ts w d : List X) → IsPermutation ((t ∷ ts) ++ (w ++ d)) (ts ++ ((w ++ t ∷ []) ++ d))
 to_waiting t ts w d =
     IsPermutation-trans _ _ _ (moved_first t ts (w ++ d))
-    (IsPermutation-append_right ts (t ∷ (w ++ d)) ((w ++ t ∷ []) ++ d) (subst (λ l. IsPermutation (t ∷ (w ++ d)) l) (sym (append_assoc w (t ∷ []) d)) (moved_first t w d)))
+    (IsPermutation-append_right ts (t ∷ (w ++ d)) ((w ++ t ∷ []) ++ d) (subst (λ l. IsPermutation (t ∷ (w ++ d)) l) (sym (append_assoc w (t ∷ []) d))
+    (moved_first t w d)))
 
 -- the first of the fresh ones is deferred
 pub to_deferred : {X : Type 0} (t : X) (ts w d : List X) → IsPermutation ((t ∷ ts) ++ (w ++ d)) (ts ++ (w ++ (d ++ t ∷ [])))
 to_deferred {X} t ts w d =
     let one : IsPermutation (t ∷ (w ++ d)) (w ++ (t ∷ d)) = moved_first t w d in
     let last : IsPermutation (t ∷ d) (d ++ t ∷ []) = subst (λ l. IsPermutation (t ∷ l) (d ++ t ∷ [])) (append-nil d) (moved_first t d []) in
-    IsPermutation-trans _ _ _ (moved_first t ts (w ++ d)) (IsPermutation-append_right ts _ _ (IsPermutation-trans _ _ _ one (IsPermutation-append_right w _ _ last)))
+    IsPermutation-trans _ _ _ (moved_first t ts (w ++ d))
+    (IsPermutation-append_right ts _ _ (IsPermutation-trans _ _ _ one (IsPermutation-append_right w _ _ last)))
 
 -- the first of the fresh ones and its partners are taken out
-pub to_taken : {X : Type 0} (t : X) (ts w d aa left : List X) → IsPermutation (t ∷ w) (aa ++ left) → IsPermutation ((t ∷ ts) ++ (w ++ d)) (aa ++ (ts ++ (left ++ d)))
+pub to_taken : {X : Type 0} (t : X) (ts w d aa left : List X) → IsPermutation (t ∷ w) (aa ++ left)
+    → IsPermutation ((t ∷ ts) ++ (w ++ d)) (aa ++ (ts ++ (left ++ d)))
 to_taken t ts w d aa left p =
     let one : IsPermutation ((t ∷ w) ++ d) ((aa ++ left) ++ d) = IsPermutation-append_left d (t ∷ w) (aa ++ left) p in
     let two : IsPermutation (t ∷ (w ++ d)) (aa ++ (left ++ d)) = subst (λ l. IsPermutation (t ∷ (w ++ d)) l) (append_assoc aa left d) one in
-    IsPermutation-trans _ _ _ (moved_first t ts (w ++ d)) (IsPermutation-trans _ _ _ (IsPermutation-append_right ts _ _ two) (permutation_exchange ts aa (left ++ d)))
+    IsPermutation-trans _ _ _ (moved_first t ts (w ++ d)) (IsPermutation-trans _ _ _ (IsPermutation-append_right ts _ _ two)
+    (permutation_exchange ts aa (left ++ d)))
 
 -- new ones are after the fresh ones
 pub to_fresh : {X : Type 0} (fresh new rest : List X) → IsPermutation ((fresh ++ new) ++ rest) (new ++ (fresh ++ rest))
@@ -123,5 +127,7 @@ pub to_woken : {X : Type 0} (fresh w d new : List X) → IsPermutation (((fresh 
 to_woken {X} fresh w d new =
     let one : IsPermutation (((fresh ++ d) ++ new) ++ (w ++ [])) (new ++ ((fresh ++ d) ++ (w ++ []))) = to_fresh (fresh ++ d) new (w ++ []) in
     let two : IsPermutation (d ++ (w ++ [])) (w ++ (d ++ [])) = permutation_exchange d w [] in
-    let three : IsPermutation (fresh ++ (d ++ (w ++ []))) (fresh ++ (w ++ d)) = IsPermutation-append_right fresh _ _ (subst (λ l. IsPermutation (d ++ (w ++ [])) (w ++ l)) (append-nil d) two) in
-    IsPermutation-trans _ _ _ one (IsPermutation-append_right new _ _ (subst (λ l. IsPermutation l (fresh ++ (w ++ d))) (sym (append_assoc fresh d (w ++ []))) three))
+    let three : IsPermutation (fresh ++ (d ++ (w ++ []))) (fresh ++ (w ++ d)) = IsPermutation-append_right fresh _ _
+    (subst (λ l. IsPermutation (d ++ (w ++ [])) (w ++ l)) (append-nil d) two) in
+    IsPermutation-trans _ _ _ one (IsPermutation-append_right new _ _ (subst (λ l. IsPermutation l (fresh ++ (w ++ d)))
+    (sym (append_assoc fresh d (w ++ []))) three))

@@ -1,10 +1,12 @@
 -- The list of full cells has exactly the full cells, each once.
-use Rattle.std.proofs.Common.{◌≡◌, ℕ, zero, suc, ◌+◌, ◌<◌, ◌≤◌, ◌⊎◌, inl, inr, Bool, true, false, List, [], ◌∷◌, length, Option, Some, None, nat_lt, slice_get, refl, sym, ap, ◌∙◌, subst, arith, ⊎_elim, ltb-true, ltb-false}
+use Rattle.std.proofs.Common.{◌≡◌, ℕ, zero, suc, ◌+◌, ◌<◌, ◌≤◌, ◌⊎◌, inl, inr, Bool, true, false, List, [], ◌∷◌, length, Option, Some, None, nat_lt}
+use Rattle.std.proofs.Common.{slice_get, refl, sym, ap, ◌∙◌, subst, arith, ⊎_elim, ltb-true, ltb-false}
 use Rattle.std.proofs.lemmas.Bool.{cases_eq}
 use Rattle.std.proofs.lemmas.Option.{same_Some}
 use Rattle.tags.specs.declared.value.Value.{Value}
 use Rattle.semantics.specs.Graph.{Graph}
-use Rattle.lemmas.proofs.Permutations.{Within, Each, Spread, put_first, put_later, each_within, each_append, each_weaker, spread_append, within_left, within_right}
+use Rattle.lemmas.proofs.Permutations.{Within, Each, Spread, put_first, put_later, each_within, each_append, each_weaker, spread_append}
+use Rattle.lemmas.proofs.Permutations.{within_left, within_right}
 use Rattle.oracle.specs.declared.report.Full.{Full}
 use Rattle.oracle.specs.Lines.{first_of, len_of, total_of}
 use Rattle.oracle.specs.Acting.{held_in}
@@ -28,7 +30,8 @@ slot_of f [] h = absurd h.1
 slot_of f (h ∷ fs) (zs, inl p) = (0, ap Some (sym p.0))
 slot_of f (h ∷ fs) (zs, inr p) = let r = slot_of f fs (p.0, p.2) in (suc r.0, r.1)
 
-spread_slots : (R : Full → Full → Type 0) (fs : List Full) → Spread R fs → (j k : ℕ) (f h : Full) → slice_get fs j ≡ Some f → slice_get fs k ≡ Some h → j < k → R f h
+spread_slots : (R : Full → Full → Type 0) (fs : List Full) → Spread R fs → (j k : ℕ) (f h : Full) → slice_get fs j ≡ Some f → slice_get fs k ≡ Some h
+    → j < k → R f h
 spread_slots R [] s j k f h e g low = cc
 spread_slots R (x ∷ fs) s j zero f h e g low = absurd (omega (arith, low))
 spread_slots R (x ∷ fs) s zero (suc k) f h e g low = subst (λ x. R x h) (same_Some x f e) (each_within (R x) h fs (within_slot h fs k g) s.0)
@@ -48,10 +51,12 @@ row_each cells a base i (suc n) x e =
       | Some v ↦ λ q. ((refl, omega arith, omega arith, ap (held_in cells) (sym e) ∙ q), tt)
     ] in
     each_append (InRow cells a base i (suc n)) (full_if a i (held_in cells x)) (full_from cells a (x + 1) (i + 1) n) (first (held_in cells x) refl)
-    (each_weaker (InRow cells a base (i + 1) n) (InRow cells a base i (suc n)) (λ f h. let up = h.1 in let down = h.2 in (h.0, omega (arith, up), omega (arith, down), h.3)) (full_from cells a (x + 1) (i + 1) n)
+    (each_weaker (InRow cells a base (i + 1) n) (InRow cells a base i (suc n)) (λ f h. let up = h.1 in let down = h.2
+    in (h.0, omega (arith, up), omega (arith, down), h.3)) (full_from cells a (x + 1) (i + 1) n)
     (row_each cells a base (i + 1) n (x + 1) (omega (arith, e))))
 
-row_all : (cells : List (Option Value)) (a base i n x j : ℕ) (v : Value) → x ≡ base + i → i ≤ j → j < i + n → held_in cells (base + j) ≡ Some v → Within (full a j v) (full_from cells a x i n)
+row_all : (cells : List (Option Value)) (a base i n x j : ℕ) (v : Value) → x ≡ base + i → i ≤ j → j < i + n → held_in cells (base + j) ≡ Some v
+    → Within (full a j v) (full_from cells a x i n)
 row_all cells a base i zero x j v e low high h = absurd (omega (arith, low, high))
 row_all cells a base i (suc n) x j v e low high h =
     ⊎_elim
@@ -59,7 +64,8 @@ row_all cells a base i (suc n) x j v e low high h =
     let place : base + j ≡ x = omega (arith, e, same) in
     let held : held_in cells x ≡ Some v = ap (held_in cells) (sym place) ∙ h in
     within_left (full a j v) (full_if a i (held_in cells x)) (full_from cells a (x + 1) (i + 1) n)
-    (subst (λ o. Within (full a j v) (full_if a i o)) (sym held) (subst (λ k. Within (full a j v) (full a k v ∷ [])) (sym same) ([], put_first (full a j v) []))))
+    (subst (λ o. Within (full a j v) (full_if a i o)) (sym held) (subst (λ k. Within (full a j v) (full a k v ∷ [])) (sym same)
+    ([], put_first (full a j v) []))))
     (λ other.
     within_right (full a j v) (full_if a i (held_in cells x)) (full_from cells a (x + 1) (i + 1) n)
     (row_all cells a base (i + 1) n (x + 1) j v (omega (arith, e)) (above i j low other) (omega (arith, high)) h))
@@ -80,7 +86,14 @@ row_spread cells a base i (suc n) x e =
     let first : (o : Option Value) → Spread Before (full_if a i o) × Each (λ f. Each (Before f) rest) (full_if a i o)
     = λ o. elim o as (λ o. Spread Before (full_if a i o) × Each (λ f. Each (Before f) rest) (full_if a i o)) [
       | None ↦ (tt, tt)
-      | Some v ↦ ((tt, tt), (each_weaker (InRow cells a base (i + 1) n) (Before (full a i v)) (λ f h. let up = h.1 in inr (sym h.0, omega (arith, up))) rest later, tt))
+      | Some v ↦ (
+        (tt, tt),
+        (
+          each_weaker (InRow cells a base (i + 1) n) (Before (full a i v)) (λ f h. let up = h.1
+              in inr (sym h.0, omega (arith, up))) rest later,
+          tt,
+        ),
+      )
     ] in
     let r = first (held_in cells x) in
     spread_append Before (full_if a i (held_in cells x)) rest r.0 (row_spread cells a base (i + 1) n (x + 1) next) r.1
@@ -111,7 +124,8 @@ all_each cells a x (b ∷ bs) =
 abbrev IsAmong : List (Option Value) → ℕ → ℕ → List (List ℕ × ℕ) → ℕ → Value → Type 0
 IsAmong cells a x bs y v = (k : ℕ) × (j : ℕ) × Within (full (a + k) j v) (full_in cells a x bs) × (y ≡ first_of bs k + j)
 
-all_all : (cells : List (Option Value)) (a x : ℕ) (bs : List (List ℕ × ℕ)) (y : ℕ) (v : Value) → y < total_of bs → held_in cells (x + y) ≡ Some v → IsAmong cells a x bs y v
+all_all : (cells : List (Option Value)) (a x : ℕ) (bs : List (List ℕ × ℕ)) (y : ℕ) (v : Value) → y < total_of bs → held_in cells (x + y) ≡ Some v
+    → IsAmong cells a x bs y v
 all_all cells a x [] y v low h = absurd (omega (arith, low))
 all_all cells a x (b ∷ bs) y v low h =
     let here : y < b.1 → IsAmong cells a x (b ∷ bs) y v =
@@ -120,7 +134,8 @@ all_all cells a x (b ∷ bs) y v low h =
       0,
       y,
       subst (λ a'. Within (full a' y v) (full_in cells a x (b ∷ bs))) array
-          (within_left (full a y v) (full_from cells a x 0 b.1) (full_in cells (a + 1) (x + b.1) bs) (row_all cells a x 0 b.1 x y v (omega arith) (omega arith) (omega (arith, less)) h)),
+          (within_left (full a y v) (full_from cells a x 0 b.1) (full_in cells (a + 1) (x + b.1) bs)
+          (row_all cells a x 0 b.1 x y v (omega arith) (omega arith) (omega (arith, less)) h)),
       omega arith,
     ) in
     let there : b.1 ≤ y → IsAmong cells a x (b ∷ bs) y v =
@@ -133,7 +148,8 @@ all_all cells a x (b ∷ bs) y v low h =
     let cell = r.3 in (
       suc r.0,
       r.1,
-      subst (λ a'. Within (full a' r.1 v) (full_in cells a x (b ∷ bs))) array (within_right (full (a + 1 + r.0) r.1 v) (full_from cells a x 0 b.1) (full_in cells (a + 1) (x + b.1) bs) r.2),
+      subst (λ a'. Within (full a' r.1 v) (full_in cells a x (b ∷ bs))) array (within_right (full (a + 1 + r.0) r.1 v) (full_from cells a x 0 b.1)
+          (full_in cells (a + 1) (x + b.1) bs) r.2),
       omega (arith, is, cell),
     ) in
     let cases : (t : Bool) → nat_lt y b.1 ≡ t → IsAmong cells a x (b ∷ bs) y v
@@ -153,7 +169,8 @@ all_spread cells a x (b ∷ bs) =
     let place : x ≡ x + 0 = omega arith in
     spread_append Before (full_from cells a x 0 b.1) rest (row_spread cells a x 0 b.1 x place) (all_spread cells (a + 1) (x + b.1) bs)
     (each_weaker (InRow cells a x 0 b.1) (λ f. Each (Before f) rest)
-    (λ f h. each_weaker (InAll cells (a + 1) (x + b.1) bs) (Before f) (λ l k. let mine = h.0 in let its = k.1 in inl (omega (arith, mine, its))) rest (all_each cells (a + 1) (x + b.1) bs))
+    (λ f h. each_weaker (InAll cells (a + 1) (x + b.1) bs) (Before f) (λ l k. let mine = h.0 in let its = k.1 in inl (omega (arith, mine, its))) rest
+    (all_each cells (a + 1) (x + b.1) bs))
     (full_from cells a x 0 b.1) (row_each cells a x 0 b.1 x place))
 
 -- THE WHOLE LIST
@@ -165,7 +182,8 @@ full_law g cells long =
       each = λ k f e.
           let r = each_within (InAll cells 0 0 g.arrays) f fs (within_slot f fs k e) (all_each cells 0 0 g.arrays) in
           let array : r.0 ≡ f.array = let is = r.1 in omega (arith, is) in
-          let place : cell_at g f.array f.index ≡ 0 + (first_of g.arrays r.0 + f.index) = sym (cell f.array f.index) ∙ ap (λ a. first_of g.arrays a + f.index) (sym array) ∙ plain_sum (first_of g.arrays r.0 + f.index) in
+          let place : cell_at g f.array f.index ≡ 0 + (first_of g.arrays r.0 + f.index) = sym (cell f.array f.index)
+          ∙ ap (λ a. first_of g.arrays a + f.index) (sym array) ∙ plain_sum (first_of g.arrays r.0 + f.index) in
           (subst (λ n. f.index < n) (lens_same g.arrays f.array) (subst (λ a. f.index < len_of g.arrays a) array r.2), ap (held_in cells) place ∙ r.3);
       all = λ x v h.
           let low = held_low cells x v h in

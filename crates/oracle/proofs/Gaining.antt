@@ -36,21 +36,24 @@ module _ (g : Graph) (xs : List Invocation) (cells : List (Option Value)) where
         let b = subst (λ o. Among g xs t rows new values deed o) is h in
         ap (λ j. joined t ts rows d acts j) b.0 ∙ ap (λ r. gathered g xs cells ts r d acts) b.1
 
-    pub gain_free : {X : Type 0} (o : Option X) (a : X) (values : X → List Value) (deed : X → Deed) → o ≡ Some a → Among g xs t rows new values deed o → gate_of cells (deed a) ≡ Free
+    pub gain_free : {X : Type 0} (o : Option X) (a : X) (values : X → List Value) (deed : X → Deed) → o ≡ Some a → Among g xs t rows new values deed o
+        → gate_of cells (deed a) ≡ Free
         → gathered g xs cells (t ∷ ts) rows d acts ≡ gathered g xs cells ts new d (acts ++ (values a, deed a) ∷ [])
     gain_free o a values deed is h gate =
         let b = subst (λ o. Among g xs t rows new values deed o) is h in
         ap (λ j. joined t ts rows d acts j) b.0 ∙ ap (λ k. gated t ts rows d acts (new t.context) (values a) (deed a) k) gate
         ∙ ap (λ r. gathered g xs cells ts r d (acts ++ (values a, deed a) ∷ [])) b.1
 
-    pub gain_defers : {X : Type 0} (o : Option X) (a : X) (values : X → List Value) (deed : X → Deed) → o ≡ Some a → Among g xs t rows new values deed o → gate_of cells (deed a) ≡ Defers
+    pub gain_defers : {X : Type 0} (o : Option X) (a : X) (values : X → List Value) (deed : X → Deed) → o ≡ Some a
+        → Among g xs t rows new values deed o → gate_of cells (deed a) ≡ Defers
         → gathered g xs cells (t ∷ ts) rows d acts ≡ gathered g xs cells ts new (d ++ t ∷ []) acts
     gain_defers o a values deed is h gate =
         let b = subst (λ o. Among g xs t rows new values deed o) is h in
         ap (λ j. joined t ts rows d acts j) b.0 ∙ ap (λ k. gated t ts rows d acts (new t.context) (values a) (deed a) k) gate
         ∙ ap (λ r. gathered g xs cells ts r (d ++ t ∷ []) acts) b.1
 
-    pub gain_clashes : {X : Type 0} (o : Option X) (a : X) (values : X → List Value) (deed : X → Deed) (k i : ℕ) → o ≡ Some a → Among g xs t rows new values deed o → gate_of cells (deed a) ≡ Clashes k i
+    pub gain_clashes : {X : Type 0} (o : Option X) (a : X) (values : X → List Value) (deed : X → Deed) (k i : ℕ) → o ≡ Some a
+        → Among g xs t rows new values deed o → gate_of cells (deed a) ≡ Clashes k i
         → gathered g xs cells (t ∷ ts) rows d acts ≡ Clashed (Clash k i)
     gain_clashes o a values deed k i is h gate =
         let b = subst (λ o. Among g xs t rows new values deed o) is h in

@@ -1,5 +1,6 @@
 -- A token's partners: those that are there are all taken, each once, and nothing is left that did not wait.
-use Rattle.std.proofs.Common.{◌≡◌, ℕ, zero, suc, ◌+◌, ◌<◌, inl, inr, Bool, true, false, ◌&&◌, ◌||◌, List, [], ◌∷◌, ◌++◌, length, Option, Some, None, if◌then◌else◌, IsPermutation, refl, sym, ap, ◌∙◌, subst, arith, eq-eqb, ⊎_elim}
+use Rattle.std.proofs.Common.{◌≡◌, ℕ, zero, suc, ◌+◌, ◌<◌, inl, inr, Bool, true, false, ◌&&◌, ◌||◌, List, [], ◌∷◌, ◌++◌, length, Option, Some, None}
+use Rattle.std.proofs.Common.{if◌then◌else◌, IsPermutation, refl, sym, ap, ◌∙◌, subst, arith, eq-eqb, ⊎_elim}
 use Rattle.std.specs.Prelude.{remove, is_some}
 use Rattle.std.proofs.lemmas.List.{length-append}
 use Rattle.std.proofs.lemmas.List.Sorted.{IsPermutation-sym}
@@ -42,8 +43,11 @@ found_at c s ts h =
     = λ o. elim o as (λ o. find_from c s 0 ts ≡ o → is_some o ≡ true → HasAt c s ts) [
       | None ↦ λ e q. cc
       | Some k ↦ λ e q.
-          let r = removed c s k ts e in
-          (r.0, within_permutation (token_of c s r.0) (token_of c s r.0 ∷ remove ts k) ts (IsPermutation-sym _ _ r.2) (remove ts k, put_first (token_of c s r.0) (remove ts k)))
+          let r = removed c s k ts e in (
+            r.0,
+            within_permutation (token_of c s r.0) (token_of c s r.0 ∷ remove ts k) ts (IsPermutation-sym _ _ r.2)
+                (remove ts k, put_first (token_of c s r.0) (remove ts k)),
+          )
     ] in
     cases (find_from c s 0 ts) refl h
 
@@ -58,7 +62,11 @@ left_cases t s ts P same out =
       | None ↦ λ e. same
       | Some k ↦ λ e. let r = removed t.context s k ts e in out r.0 (remove ts k) r.2
     ] in
-    elim (same_spot s t.spot) as (λ b. P (if b then ts else without ts (find_from t.context s 0 ts))) [ true ↦ same | false ↦ cases (find_from t.context s 0 ts) refl ]
+    elim (same_spot s t.spot) as (λ b. P (if b then ts else without ts (find_from t.context s 0 ts))) [
+      | true ↦ same
+      | false
+          ↦ cases (find_from t.context s 0 ts) refl
+    ]
 
 within_later : (x y : Token) (rest : List Token) → Within x rest → Within x (y ∷ rest)
 within_later x y rest h = (y ∷ h.0, inr (h.0, refl, h.1))
@@ -66,7 +74,8 @@ within_later x y rest h = (y ∷ h.0, inr (h.0, refl, h.1))
 pub left_within : (t : Token) (ss : List Spot) (ts : List Token) (x : Token) → Within x (remaining_of t ss ts) → Within x ts
 left_within t [] ts x h = h
 left_within t (s ∷ ss) ts x h =
-    left_cases t s ts (λ rest. Within x rest → Within x ts) (λ k. k) (λ v rest p k. within_permutation x (token_of t.context s v ∷ rest) ts (IsPermutation-sym _ _ p) (within_later x _ rest k))
+    left_cases t s ts (λ rest. Within x rest → Within x ts) (λ k. k) (λ v rest p k. within_permutation x (token_of t.context s v ∷ rest) ts
+    (IsPermutation-sym _ _ p) (within_later x _ rest k))
     (left_within t ss (remaining_after t s ts) x h)
 
 has_left : (t : Token) (s r : Spot) (ts : List Token) → SpotsDiffer s r → HasAt t.context r ts → HasAt t.context r (remaining_after t s ts)
@@ -93,7 +102,8 @@ there_left t s r ts other h =
     (λ e. other_there t r (remaining_after t s ts) (has_left t s r ts other (found_at t.context r ts e)))
     (or_cases (same_spot r t.spot) (is_some (find_from t.context r 0 ts)) h)
 
-all_left : (t : Token) (s : Spot) (ss : List Spot) (ts : List Token) → Each (SpotsDiffer s) ss → all_there t ss ts ≡ true → all_there t ss (remaining_after t s ts) ≡ true
+all_left : (t : Token) (s : Spot) (ss : List Spot) (ts : List Token) → Each (SpotsDiffer s) ss → all_there t ss ts ≡ true
+    → all_there t ss (remaining_after t s ts) ≡ true
 all_left t s [] ts other h = refl
 all_left t s (r ∷ ss) ts other h =
     let p = if_parts (is_there t r ts) (all_there t ss ts) h in
@@ -106,8 +116,10 @@ here_one t s ts h =
       | None ↦ λ e q. cc
       | Some k ↦ λ e q. let r = removed t.context s k ts e in ap (λ o. length (value_of o)) r.1
     ] in
-    let cases : (b : Bool) → (b || is_some (find_from t.context s 0 ts)) ≡ true → length (if b then t.value ∷ [] else value_at ts (find_from t.context s 0 ts)) ≡ 1
-    = λ b. elim b as (λ b. (b || is_some (find_from t.context s 0 ts)) ≡ true → length (if b then t.value ∷ [] else value_at ts (find_from t.context s 0 ts)) ≡ 1) [
+    let cases : (b : Bool) → (b || is_some (find_from t.context s 0 ts)) ≡ true
+    → length (if b then t.value ∷ [] else value_at ts (find_from t.context s 0 ts)) ≡ 1
+    = λ b. elim b as (λ b. (b || is_some (find_from t.context s 0 ts)) ≡ true
+    → length (if b then t.value ∷ [] else value_at ts (find_from t.context s 0 ts)) ≡ 1) [
       | true ↦ λ q. refl
       | false ↦ λ q. found (find_from t.context s 0 ts) refl q
     ] in
@@ -144,7 +156,8 @@ pub one_own : (q : Spot) (ss : List Spot) → own q ss ≡ 1 → length ss ≡ 1
 one_own q [] h l = cc
 one_own q (s ∷ []) h l =
     let cases : (b : Bool) → same_spot s q ≡ b → (if b then suc (own q []) else own q []) ≡ 1 → s ∷ [] ≡ q ∷ []
-    = λ b. elim b as (λ b. same_spot s q ≡ b → (if b then suc (own q []) else own q []) ≡ 1 → s ∷ [] ≡ q ∷ []) [ true ↦ λ e z. ap (λ s. s ∷ []) (spot_same s q e) | false ↦ λ e z. cc ] in
+    = λ b. elim b as (λ b. same_spot s q ≡ b → (if b then suc (own q []) else own q []) ≡ 1 → s ∷ [] ≡ q ∷ [])
+    [ true ↦ λ e z. ap (λ s. s ∷ []) (spot_same s q e) | false ↦ λ e z. cc ] in
     cases (same_spot s q) refl h
 one_own q (s ∷ r ∷ ss) h l = absurd (omega (arith, l))
 

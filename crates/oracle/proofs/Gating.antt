@@ -1,5 +1,6 @@
 -- What the memory says to a deed: a fetch of an empty cell is deferred, and takes one token; a store to a full cell clashes.
-use Rattle.std.proofs.Common.{◌≡◌, ℕ, inl, inr, Bool, true, false, List, [], ◌∷◌, ◌++◌, Option, Some, None, if◌then◌else◌, IsPermutation, refl, ap, ◌∙◌, subst, arith}
+use Rattle.std.proofs.Common.{◌≡◌, ℕ, inl, inr, Bool, true, false, List, [], ◌∷◌, ◌++◌, Option, Some, None, if◌then◌else◌, IsPermutation, refl, ap}
+use Rattle.std.proofs.Common.{◌∙◌, subst, arith}
 use Rattle.std.specs.Prelude.{is_some}
 use Rattle.std.proofs.lemmas.List.{length-append}
 use Rattle.std.proofs.lemmas.List.Sorted.{IsPermutation-trans, IsPermutation-append_comm, length_permutation}
@@ -13,7 +14,8 @@ use Rattle.oracle.specs.Deeds.{Deed, Reads, Fills}
 use Rattle.oracle.specs.declared.state.Gate.TheVariants.{Free, Defers, Clashes as GateClashes}
 use Rattle.oracle.specs.Acting.{gate_of, held_in}
 
-pub gate_defers : (cells : List (Option Value)) (d : Deed) → gate_of cells d ≡ Defers → (c : ℕ) × (n : ℕ) × (x : ℕ) × (d ≡ Reads c n x) × (held_in cells x ≡ None)
+pub gate_defers : (cells : List (Option Value)) (d : Deed) → gate_of cells d ≡ Defers → (c : ℕ) × (n : ℕ) × (x : ℕ) × (d ≡ Reads c n x)
+    × (held_in cells x ≡ None)
 gate_defers cells (Reads c n x) h = (c, n, x, refl, go (held_in cells x) h)
   where
     go : (o : Option Value) → (if is_some o then Free else Defers) ≡ Defers → o ≡ None
@@ -59,7 +61,8 @@ reading fl (Meaning.Outputs j w) c n x e = cc
 
 same_one : (t u : Tagged) (ws : List Tagged) → IsPermutation (t ∷ ws) (u ∷ ws) → t ≡ u
 same_one t u ws p =
-    let turned : IsPermutation (ws ++ t ∷ []) (ws ++ u ∷ []) = IsPermutation-trans _ _ _ (IsPermutation-append_comm ws (t ∷ [])) (IsPermutation-trans _ _ _ p (IsPermutation-append_comm (u ∷ []) ws)) in
+    let turned : IsPermutation (ws ++ t ∷ []) (ws ++ u ∷ []) = IsPermutation-trans _ _ _ (IsPermutation-append_comm ws (t ∷ []))
+    (IsPermutation-trans _ _ _ p (IsPermutation-append_comm (u ∷ []) ws)) in
     let one = permutation_cancel ws (t ∷ []) (u ∷ []) turned in
     only (within_permutation t (t ∷ []) (u ∷ []) one ([], put_first t []))
   where
@@ -68,7 +71,8 @@ same_one t u ws p =
     only (zs, inr p) = absurd p.2
 
 -- a fetch takes one token
-pub fetch_of : (fl : Flow) (a : Activity) (c : Context) (n x : ℕ) (t : Tagged) (ws : List Tagged) → deed fl a ≡ Some (Meaning.Reads c n x) → IsPermutation (t ∷ ws) (taken a ++ ws)
+pub fetch_of : (fl : Flow) (a : Activity) (c : Context) (n x : ℕ) (t : Tagged) (ws : List Tagged) → deed fl a ≡ Some (Meaning.Reads c n x)
+    → IsPermutation (t ∷ ws) (taken a ++ ws)
     → (v : Value) × (t ≡ tagged c (AtNode n) (Meaning.Operand 0) v) × (deed fl (Meaning.Fires c n (v ∷ [])) ≡ Some (Meaning.Reads c n x))
 fetch_of fl a c n x t ws e p =
     let r = reading fl a c n x e in

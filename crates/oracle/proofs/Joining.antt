@@ -1,5 +1,6 @@
 -- A join is an activity of the meaning.
-use Rattle.std.proofs.Common.{◌≡◌, Bool, true, false, ◌==◌, List, ◌∷◌, ◌++◌, map, length, Option, Some, None, if◌then◌else◌, IsPermutation, refl, ap, ◌∙◌, subst, eqb-true}
+use Rattle.std.proofs.Common.{◌≡◌, Bool, true, false, ◌==◌, List, ◌∷◌, ◌++◌, map, length, Option, Some, None, if◌then◌else◌, IsPermutation, refl}
+use Rattle.std.proofs.Common.{ap, ◌∙◌, subst, eqb-true}
 use Rattle.std.proofs.lemmas.List.{map-append}
 use Rattle.std.proofs.lemmas.List.Sorted.{IsPermutation-map}
 use Rattle.semantics.specs.Graph.{Graph, flow_of}
@@ -18,31 +19,43 @@ use Rattle.oracle.proofs.Acts.{act_law}
 use Rattle.oracle.proofs.Partners.{taken_out}
 use Rattle.oracle.proofs.ShapeLaws.{own_law, taken_law}
 
-module _ (g : Graph) (text : HasText g) (cs : List Context) (t : Token) (x : Invocation) (made : made_of cs x.made ≡ name_in cs t.context) (block : block_number (flow_of g) (name_in cs t.context) ≡ Some x.block) (w : List Token) where
+module _ (g : Graph) (text : HasText g) (cs : List Context) (t : Token) (x : Invocation) (made : made_of cs x.made ≡ name_in cs t.context)
+    (block : block_number (flow_of g) (name_in cs t.context) ≡ Some x.block) (w : List Token) where
   deeds : (shape : Shape) → shape_in g x.made x.block t.spot ≡ Some shape → length (values_of t (spots_in shape) w) ≡ length (spots_in shape)
-      → (o : Option Deed) → deed_in g t.context x shape (values_of t (spots_in shape) w) ≡ o → IsJoin g cs t w (joins (remaining_of t (spots_in shape) w) (values_of t (spots_in shape) w) o)
+      → (o : Option Deed) → deed_in g t.context x shape (values_of t (spots_in shape) w) ≡ o
+      → IsJoin g cs t w (joins (remaining_of t (spots_in shape) w) (values_of t (spots_in shape) w) o)
   deeds shape e long None z = tt
   deeds shape e long (Some d) z =
       let ss = spots_in shape in
       let vs = values_of t ss w in
       let left = remaining_of t ss w in
       let whole = IsPermutation-map (tagged_of cs) (t ∷ w) (zipped t.context ss vs ++ left) (taken_out t ss w (own_law g x.made x.block t.spot shape e) long) in
-      let parts = map-append (tagged_of cs) (zipped t.context ss vs) left ∙ ap (λ z. z ++ map (tagged_of cs) left) (taken_law g cs t.context x made shape vs d z long) in
-      (activity_of cs t.context x.made shape vs, subst (λ zs. IsPermutation (map (tagged_of cs) (t ∷ w)) zs) parts whole, act_law g text cs t.context x block shape vs d z)
+      let parts = map-append (tagged_of cs) (zipped t.context ss vs) left ∙ ap (λ z. z ++ map (tagged_of cs) left)
+      (taken_law g cs t.context x made shape vs d z long) in (
+        activity_of cs t.context x.made shape vs,
+        subst (λ zs. IsPermutation (map (tagged_of cs) (t ∷ w)) zs) parts whole,
+        act_law g text cs t.context
+            x block shape vs d z,
+      )
 
   shapes : (o : Option Shape) → shape_in g x.made x.block t.spot ≡ o → IsJoin g cs t w (join_shape g w t x o)
   shapes None e = tt
   shapes (Some shape) e =
       let ss = spots_in shape in
       let vs = values_of t ss w in
-      let counted : (b : Bool) → (length vs == length ss) ≡ b → IsJoin g cs t w (if b then joins (remaining_of t ss w) vs (deed_in g t.context x shape vs) else Fails)
+      let counted : (b : Bool) → (length vs == length ss) ≡ b
+      → IsJoin g cs t w (if b then joins (remaining_of t ss w) vs (deed_in g t.context x shape vs) else Fails)
       = λ b. elim b as (λ b. (length vs == length ss) ≡ b
       → IsJoin g cs t w (if b then joins (remaining_of t ss w) vs (deed_in g t.context x shape vs) else Fails)) [
         | true ↦ λ q. deeds shape e (eqb-true (length vs) (length ss) q) (deed_in g t.context x shape vs) refl
         | false ↦ λ q. tt
       ] in
-      elim (all_there t ss w) as (λ b. IsJoin g cs t w (if b then join_all g w t x shape else Alone)) [ true ↦ counted (length vs == length ss) refl | false ↦ tt ]
+      elim (all_there t ss w) as (λ b. IsJoin g cs t w (if b then join_all g w t x shape else Alone)) [
+        | true ↦ counted (length vs == length ss) refl
+        | false ↦ tt
+      ]
 
-pub join_law : (g : Graph) → HasText g → (cs : List Context) (t : Token) (x : Invocation) → made_of cs x.made ≡ name_in cs t.context → block_number (flow_of g) (name_in cs t.context) ≡ Some x.block
+pub join_law : (g : Graph) → HasText g → (cs : List Context) (t : Token) (x : Invocation) → made_of cs x.made ≡ name_in cs t.context
+    → block_number (flow_of g) (name_in cs t.context) ≡ Some x.block
     → (w : List Token) → IsJoin g cs t w (join_in g w t (Some x))
 join_law g text cs t x made block w = shapes g text cs t x made block w (shape_in g x.made x.block t.spot) refl

@@ -1,5 +1,6 @@
 -- What a deed names exists.
-use Rattle.std.proofs.Common.{◌≡◌, ℕ, ◌+◌, ◌-◌, ◌<◌, ◌^◌, Bool, true, false, ◌==◌, List, [], ◌∷◌, length, Option, Some, None, nat_lt, slice_get, if◌then◌else◌, refl, ap, ◌∙◌, subst, ltb-true}
+use Rattle.std.proofs.Common.{◌≡◌, ℕ, ◌+◌, ◌-◌, ◌<◌, ◌^◌, Bool, true, false, ◌==◌, List, [], ◌∷◌, length, Option, Some, None, nat_lt, slice_get}
+use Rattle.std.proofs.Common.{if◌then◌else◌, refl, ap, ◌∙◌, subst, ltb-true}
 use Rattle.std.specs.Prelude.{option_map, ⊤, pos, negsuc}
 use Rattle.tags.specs.declared.value.Value.{Value}
 use Rattle.tags.specs.declared.value.Value.TheVariants.{Int, Fault}
@@ -22,7 +23,8 @@ use Rattle.oracle.specs.declared.shapes.Shape.{Shape}
 use Rattle.oracle.specs.declared.shapes.Shape.TheVariants.{Fires, Gates, Passes, Returns, Turns, Outputs}
 use Rattle.oracle.specs.Deeds.{Deed, Sends, Enters, Stops}
 use Rattle.oracle.specs.Lines.{line_of, line_in, line_of_row, resolved_in, origin_of, first_of, len_of}
-use Rattle.oracle.specs.Acting.{line_deed, fires_deed, input_deed, fired_deed, one_deed, two_deed, fetch_deed, store_deed, gated_deed, passed_deed, turned_deed, returned_deed, shown_deed, next_turn, deed_in, node_gated, node_passed}
+use Rattle.oracle.specs.Acting.{line_deed, fires_deed, input_deed, fired_deed, one_deed, two_deed, fetch_deed, store_deed, gated_deed, passed_deed}
+use Rattle.oracle.specs.Acting.{turned_deed, returned_deed, shown_deed, next_turn, deed_in, node_gated, node_passed}
 use Rattle.oracle.specs.Meant.{name_in, made_of}
 use Rattle.oracle.specs.Agreeing.{block_in, row_in}
 use Rattle.oracle.specs.Naming.{IsBelow, IsKnown}
@@ -36,7 +38,8 @@ fetch_known : (g : Graph) (cs : List Context) (m c n first : ℕ) (v : Value) (i
 fetch_known g cs m c n first v (Outside w) h = h
 fetch_known g cs m c n first v (Place i) h = (h, refl)
 
-store_known : (g : Graph) (cs : List Context) (vs : List Value) (m c n a len : ℕ) (v w : Value) (o : Origin) → len ≡ len_of g.arrays a → c < m → IsKnown g cs m vs (store_deed c n (first_of g.arrays a) a w (index_in len v o))
+store_known : (g : Graph) (cs : List Context) (vs : List Value) (m c n a len : ℕ) (v w : Value) (o : Origin) → len ≡ len_of g.arrays a → c < m
+    → IsKnown g cs m vs (store_deed c n (first_of g.arrays a) a w (index_in len v o))
 store_known g cs vs m c n a len (Int (pos i)) w o e h =
     let cases : (b : Bool) → nat_lt i len ≡ b → IsKnown g cs m vs (store_deed c n (first_of g.arrays a) a w (if b then Place i else Outside (Fault Range o)))
     = λ b. elim b as (λ b. nat_lt i len ≡ b → IsKnown g cs m vs (store_deed c n (first_of g.arrays a) a w (if b then Place i else Outside (Fault Range o)))) [
@@ -53,7 +56,8 @@ module _ (g : Graph) (cs : List Context) (m c block : ℕ) (low : c < m) (is : b
 
   -- by what is at a number; a node line that invokes a block invokes it in the meaning
   line_cases : (n : ℕ) (P : Line → Type 0) → P Input → P Nothing
-      → ((row : Row (List ℕ)) → callee_in (block_of (flow_of g) (name_in cs c)) n ≡ callee (resolved_in g row.kind) → P (line_of_row g (Some row))) → P (line_of g block n)
+      → ((row : Row (List ℕ)) → callee_in (block_of (flow_of g) (name_in cs c)) n ≡ callee (resolved_in g row.kind) → P (line_of_row g (Some row)))
+      → P (line_of g block n)
   line_cases n P at_input at_none rows =
       let goal_in : Option (List ℕ × Block (List ℕ)) → Type 0 = λ o. block_of (flow_of g) (name_in cs c) ≡ option_map (block_in g) o → P (line_in g o n) in
       let blocks : (o : Option (List ℕ × Block (List ℕ))) → goal_in o
@@ -92,7 +96,8 @@ module _ (g : Graph) (cs : List Context) (m c block : ℕ) (low : c < m) (is : b
   two_known n (Store a) v w o = store_known g cs (v ∷ w ∷ []) m c n a (len_of g.arrays a) v w o refl low
   two_known n kind v w o = tt
 
-  fired_known : (n : ℕ) (kind : Kind ℕ) (vs : List Value) (o : Origin) → callee_in (block_of (flow_of g) (name_in cs c)) n ≡ callee kind → KnownIf g cs m vs (fired_deed g c n kind vs o)
+  fired_known : (n : ℕ) (kind : Kind ℕ) (vs : List Value) (o : Origin) → callee_in (block_of (flow_of g) (name_in cs c)) n ≡ callee kind
+      → KnownIf g cs m vs (fired_deed g c n kind vs o)
   fired_known n (StrictCall f) vs o e = (low, e)
   fired_known n kind [] o e = tt
   fired_known n kind (v ∷ []) o e = one_known n kind v o
@@ -110,37 +115,43 @@ module _ (g : Graph) (cs : List Context) (m c block : ℕ) (low : c < m) (is : b
 
   gate_known : (n : ℕ) (v b : Value) (r : Region) (kind : Kind ℕ) → KnownIf g cs m (v ∷ b ∷ []) (node_gated c n r kind v b)
   gate_known n v b Root kind = tt
-  gate_known n v b (Arm k side) Enter = elim (same_side (truth b) side) as (λ t. IsKnown g cs m (v ∷ b ∷ []) (if t then Sends c n 0 v else Stops)) [ true ↦ low | false ↦ tt ]
+  gate_known n v b (Arm k side) Enter = elim (same_side (truth b) side) as (λ t. IsKnown g cs m (v ∷ b ∷ []) (if t then Sends c n 0 v else Stops))
+      [ true ↦ low | false ↦ tt ]
   gate_known n v b (Arm k side) kind = tt
 
-  pass_known : (n i : ℕ) (v : Value) (kind : Kind ℕ) → callee_in (block_of (flow_of g) (name_in cs c)) n ≡ callee kind → KnownIf g cs m (v ∷ []) (node_passed c n i kind v)
-  pass_known n i v kind = elim kind as (λ kind. callee_in (block_of (flow_of g) (name_in cs c)) n ≡ callee kind → KnownIf g cs m (v ∷ []) (node_passed c n i kind v)) [
-    | Lit z ↦ λ e. tt
-    | Apply1 op ↦ λ e. tt
-    | Apply2 op ↦ λ e. tt
-    | Cond ↦ λ e. tt
-    | Enter ↦ λ e. tt
-    | Merge k ↦ λ e. low
-    | Fetch a ↦ λ e. tt
-    | Store a ↦ λ e. tt
-    | Call f ↦ λ e. (low, e)
-    | StrictCall f ↦ λ e. tt
-    | Loop f k ↦ λ e. (low, e)
-  ]
+  pass_known : (n i : ℕ) (v : Value) (kind : Kind ℕ) → callee_in (block_of (flow_of g) (name_in cs c)) n ≡ callee kind
+      → KnownIf g cs m (v ∷ []) (node_passed c n i kind v)
+  pass_known n i v kind = elim kind as (λ kind. callee_in (block_of (flow_of g) (name_in cs c)) n ≡ callee kind
+      → KnownIf g cs m (v ∷ []) (node_passed c n i kind v)) [
+        | Lit z ↦ λ e. tt
+        | Apply1 op ↦ λ e. tt
+        | Apply2 op ↦ λ e. tt
+        | Cond ↦ λ e. tt
+        | Enter ↦ λ e. tt
+        | Merge k ↦ λ e. low
+        | Fetch a ↦ λ e. tt
+        | Store a ↦ λ e. tt
+        | Call f ↦ λ e. (low, e)
+        | StrictCall f ↦ λ e. tt
+        | Loop f k ↦ λ e. (low, e)
+      ]
 
   gates_known : (n : ℕ) (v b : Value) → KnownIf g cs m (v ∷ b ∷ []) (gated_deed c n (line_of g block n) v b)
-  gates_known n v b = line_cases n (λ l. KnownIf g cs m (v ∷ b ∷ []) (gated_deed c n l v b)) tt tt (λ row e. gate_known n v b row.region (resolved_in g row.kind))
+  gates_known n v b = line_cases n (λ l. KnownIf g cs m (v ∷ b ∷ []) (gated_deed c n l v b)) tt tt
+      (λ row e. gate_known n v b row.region (resolved_in g row.kind))
 
   passes_known : (n i : ℕ) (v : Value) → KnownIf g cs m (v ∷ []) (passed_deed c n i (line_of g block n) v)
   passes_known n i v = line_cases n (λ l. KnownIf g cs m (v ∷ []) (passed_deed c n i l v)) tt tt (λ row e. pass_known n i v (resolved_in g row.kind) e)
 
-  turn_known : (made : Made) (j : ℕ) (b v : Value) → IsBelow m made → made_of cs made ≡ name_in cs c → KnownIf g cs m (b ∷ v ∷ []) (turned_deed made block j b v)
+  turn_known : (made : Made) (j : ℕ) (b v : Value) → IsBelow m made → made_of cs made ≡ name_in cs c
+      → KnownIf g cs m (b ∷ v ∷ []) (turned_deed made block j b v)
   turn_known Main j b v h e = tt
   turn_known (Called by n) j b v h e = tt
   turn_known (Turned by n i) j b v h e =
       let same : block_number (flow_of g) (Meaning.Turned (name_in cs by) n i) ≡ Some block = ap (block_number (flow_of g)) e ∙ is in
       elim (truth b) as (λ t. KnownIf g cs m (b ∷ v ∷ []) (if t then next_turn by n i block j v else Some (Sends by n (j - 1) v))) [
-        | true ↦ elim (nat_lt (i + 1) (2 ^ 64)) as (λ u. KnownIf g cs m (b ∷ v ∷ []) (if u then Some (Enters (Turned by n (i + 1)) block (j - 1) v) else None)) [ true ↦ (h, same) | false ↦ tt ]
+        | true ↦ elim (nat_lt (i + 1) (2 ^ 64)) as (λ u. KnownIf g cs m (b ∷ v ∷ []) (if u then Some (Enters (Turned by n (i + 1)) block (j - 1) v)
+            else None)) [ true ↦ (h, same) | false ↦ tt ]
         | false ↦ h
       ]
 
@@ -154,7 +165,8 @@ module _ (g : Graph) (cs : List Context) (m c block : ℕ) (low : c < m) (is : b
   show_known (Called by n) j v = tt
   show_known (Turned by n i) j v = tt
 
-known_in : (g : Graph) (cs : List Context) (m c : ℕ) (x : Invocation) → c < m → IsBelow m x.made → made_of cs x.made ≡ name_in cs c → block_number (flow_of g) (name_in cs c) ≡ Some x.block
+known_in : (g : Graph) (cs : List Context) (m c : ℕ) (x : Invocation) → c < m → IsBelow m x.made → made_of cs x.made ≡ name_in cs c
+    → block_number (flow_of g) (name_in cs c) ≡ Some x.block
     → (shape : Shape) (vs : List Value) → KnownIf g cs m vs (deed_in g c x shape vs)
 known_in g cs m c x low by made is (Fires n k) vs = fires_known g cs m c x.block low is n vs
 known_in g cs m c x low by made is (Gates n) [] = tt
@@ -175,6 +187,7 @@ known_in g cs m c x low by made is (Outputs j) [] = tt
 known_in g cs m c x low by made is (Outputs j) (v ∷ []) = show_known g cs m c x.block low is x.made j v
 known_in g cs m c x low by made is (Outputs j) (v ∷ w ∷ vs) = tt
 
-pub known_law : (g : Graph) (cs : List Context) (m c : ℕ) (x : Invocation) → c < m → IsBelow m x.made → made_of cs x.made ≡ name_in cs c → block_number (flow_of g) (name_in cs c) ≡ Some x.block
+pub known_law : (g : Graph) (cs : List Context) (m c : ℕ) (x : Invocation) → c < m → IsBelow m x.made → made_of cs x.made ≡ name_in cs c
+    → block_number (flow_of g) (name_in cs c) ≡ Some x.block
     → (shape : Shape) (vs : List Value) (d : Deed) → deed_in g c x shape vs ≡ Some d → IsKnown g cs m vs d
 known_law g cs m c x low by made is shape vs d e = let P : Option Deed → Type 0 = KnownIf g cs m vs in subst P e (known_in g cs m c x low by made is shape vs)

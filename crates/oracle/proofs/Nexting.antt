@@ -9,7 +9,8 @@ use Rattle.semantics.specs.WellFormed.{WellFormed}
 use Rattle.semantics.specs.Faithful.{inputs_of}
 use Rattle.semantics.specs.Meaning.{Context, Statement, AtNode, AtOut, Tagged, tagged, State, Activity, taken, operands_from, deed, Run, Same, start, Clashes}
 use Rattle.semantics.specs.Meaning as Meaning
-use Rattle.lemmas.proofs.Permutations.{Within, Each, put_first, each_from, each_within, each_permutation, each_append, each_append_back, within_permutation, within_left}
+use Rattle.lemmas.proofs.Permutations.{Within, Each, put_first, each_from, each_within, each_permutation, each_append, each_append_back}
+use Rattle.lemmas.proofs.Permutations.{within_permutation, within_left}
 use Rattle.lemmas.proofs.SliceGet.{get_some}
 use Rattle.law_confluence.proofs.ActivityShapes.{storing, showing}
 use Rattle.law_confluence.proofs.HistoryRuns.{run_to_same}
@@ -72,7 +73,8 @@ module _ (g : Graph) (text : HasText g) (well : WellFormed g) (inputs : List ℤ
       }
 
   -- the same state, with its tokens in other lists
-  pub moved : (s : Plain) (ts w d : List Token) (cs : List Context) (run : List Activity) → Run (flow_of g) (start inputs) run (meant cs s) → IsPermutation (all_tokens s) (ts ++ (w ++ d)) → s.cells ≡ cells → s.outputs ≡ outputs
+  pub moved : (s : Plain) (ts w d : List Token) (cs : List Context) (run : List Activity) → Run (flow_of g) (start inputs) run (meant cs s)
+      → IsPermutation (all_tokens s) (ts ++ (w ++ d)) → s.cells ≡ cells → s.outputs ≡ outputs
       → Run (flow_of g) (start inputs) run (meant cs (plain xs ts w d cells outputs))
   moved s ts w d cs run r p e h =
       run_to_same (flow_of g) (start inputs) (meant cs s) (meant cs (plain xs ts w d cells outputs)) run r
@@ -137,7 +139,8 @@ module _ (g : Graph) (text : HasText g) (well : WellFormed g) (inputs : List ℤ
       left_known = subst (AreKnown (length xs)) view.rest (known_left (spots_in view.shape) w others_known.1)
         where
           known_left : (ss : List Spot) (w : List Token) → AreKnown (length xs) w → AreKnown (length xs) (remaining_of t ss w)
-          known_left ss w h = each_from (λ (u : Token). u.context < length xs) (remaining_of t ss w) (λ u k. each_within (λ (u : Token). u.context < length xs) u w (left_within t ss w u k) h)
+          known_left ss w h = each_from (λ (u : Token). u.context < length xs) (remaining_of t ss w)
+              (λ u k. each_within (λ (u : Token). u.context < length xs) u w (left_within t ss w u k) h)
 
       pub left_stuck : Stuck (flow_of g) (map (tagged_of cs) left)
       left_stuck = subst (λ l. Stuck (flow_of g) (map (tagged_of cs) l)) view.rest (stuck_left (flow_of g) (tagged_of cs) t (spots_in view.shape) w s.stuck)
@@ -146,10 +149,13 @@ module _ (g : Graph) (text : HasText g) (well : WellFormed g) (inputs : List ℤ
       pub takes : IsPermutation (meant cs (plain xs (t ∷ ts) w d cells outputs)).tokens (taken join.0 ++ map (tagged_of cs) (ts ++ (left ++ d)))
       takes =
           let h = tagged_of cs in
-          let old : map h ((t ∷ ts) ++ (w ++ d)) ≡ (h t ∷ map h ts) ++ (map h w ++ map h d) = ap (λ l. h t ∷ l) (map-append h ts (w ++ d) ∙ ap (λ l. map h ts ++ l) (map-append h w d)) in
-          let new : map h (ts ++ (left ++ d)) ≡ map h ts ++ (map h left ++ map h d) = map-append h ts (left ++ d) ∙ ap (λ l. map h ts ++ l) (map-append h left d) in
+          let old : map h ((t ∷ ts) ++ (w ++ d)) ≡ (h t ∷ map h ts) ++ (map h w ++ map h d) = ap (λ l. h t ∷ l) (map-append h ts (w ++ d)
+          ∙ ap (λ l. map h ts ++ l) (map-append h w d)) in
+          let new : map h (ts ++ (left ++ d)) ≡ map h ts ++ (map h left ++ map h d) = map-append h ts (left ++ d)
+          ∙ ap (λ l. map h ts ++ l) (map-append h left d) in
           subst (λ l. IsPermutation l (taken join.0 ++ map h (ts ++ (left ++ d)))) (sym old)
-          (subst (λ l. IsPermutation ((h t ∷ map h ts) ++ (map h w ++ map h d)) (taken join.0 ++ l)) (sym new) (to_taken (h t) (map h ts) (map h w) (map h d) (taken join.0) (map h left) join.1))
+          (subst (λ l. IsPermutation ((h t ∷ map h ts) ++ (map h w ++ map h d)) (taken join.0 ++ l)) (sym new)
+          (to_taken (h t) (map h ts) (map h w) (map h d) (taken join.0) (map h left) join.1))
 
       pub put_low : (e : Deed) → e ≡ deed' → PutLow e (plain xs ts left d cells outputs)
       put_low (Puts j v) q =
@@ -157,8 +163,10 @@ module _ (g : Graph) (text : HasText g) (well : WellFormed g) (inputs : List ℤ
           let is : a ≡ Meaning.Outputs j v = showing (flow_of g) a j v (join.2 ∙ ap (λ e. Some (deed_of cs vs e)) (sym q)) in
           let y = tagged Meaning.Main (AtOut j) (Meaning.Operand 0) v in
           let first : Within y (taken a) = subst (λ a. Within y (taken a)) (sym is) ([], put_first y []) in
-          let there : Within y (meant cs (plain xs (t ∷ ts) w d cells outputs)).tokens = within_permutation y _ _ (IsPermutation-sym _ _ takes) (within_left y (taken a) (map (tagged_of cs) (ts ++ (left ++ d))) first) in
-          subst (λ n. j < n) (sym s.output_count) (out_low g well inputs fit (meant cs (plain xs (t ∷ ts) w d cells outputs)) f.run f.is_run j (Meaning.Operand 0) v there)
+          let there : Within y (meant cs (plain xs (t ∷ ts) w d cells outputs)).tokens = within_permutation y _ _ (IsPermutation-sym _ _ takes)
+          (within_left y (taken a) (map (tagged_of cs) (ts ++ (left ++ d))) first) in
+          subst (λ n. j < n) (sym s.output_count) (out_low g well inputs fit (meant cs (plain xs (t ∷ ts) w d cells outputs)) f.run f.is_run j
+          (Meaning.Operand 0) v there)
       put_low (Sends c n p v) q = tt
       put_low (Steers c n v) q = tt
       put_low (Enters m b i v) q = tt
@@ -174,7 +182,8 @@ module _ (g : Graph) (text : HasText g) (well : WellFormed g) (inputs : List ℤ
           named = s.named;
           differ = s.differ;
           turns = s.turns;
-          known = each_append (λ (t : Token). t.context < length xs) ts (left ++ d) others_known.0 (each_append (λ (t : Token). t.context < length xs) left d left_known others_known.2);
+          known = each_append (λ (t : Token). t.context < length xs) ts (left ++ d) others_known.0 (each_append (λ (t : Token). t.context < length xs)
+              left d left_known others_known.2);
           stuck = left_stuck;
           defers = s.defers;
           cell_count = s.cell_count;
@@ -208,9 +217,20 @@ module _ (g : Graph) (text : HasText g) (well : WellFormed g) (inputs : List ℤ
           let same = left_same known.1 in
           let c = name_in cs r.0 in
           let does : deed (flow_of g) join.0 ≡ Some (Meaning.Reads c r.1 r.2) = join.2 ∙ ap (λ e. Some (deed_of cs vs e)) r.3 in
-          let fetch = fetch_of (flow_of g) join.0 c r.1 r.2 (tagged_of cs t) (map (tagged_of cs) w) does (subst (λ l. IsPermutation (map (tagged_of cs) (t ∷ w)) (taken join.0 ++ map (tagged_of cs) l)) same join.1) in
-          let mine : IsDeferred (flow_of g) (held_in cells) (tagged_of cs t) = record { context = c; node = r.1; cell = r.2; value = fetch.0; is = fetch.1; fetch = fetch.2; empty = r.4 } in
-          let order : IsPermutation ((t ∷ ts) ++ (w ++ d)) (ts ++ (left ++ (d ++ t ∷ []))) = subst (λ l. IsPermutation ((t ∷ ts) ++ (w ++ d)) (ts ++ (l ++ (d ++ t ∷ [])))) (sym same) (to_deferred t ts w d) in
+          let fetch = fetch_of (flow_of g) join.0 c r.1 r.2 (tagged_of cs t) (map (tagged_of cs) w) does
+          (subst (λ l. IsPermutation (map (tagged_of cs) (t ∷ w)) (taken join.0 ++ map (tagged_of cs) l)) same join.1) in
+          let mine : IsDeferred (flow_of g) (held_in cells) (tagged_of cs t) = record {
+            context = c;
+            node = r.1;
+            cell = r.2;
+            value = fetch.0;
+            is =
+                fetch.1;
+            fetch = fetch.2;
+            empty = r.4;
+          } in
+          let order : IsPermutation ((t ∷ ts) ++ (w ++ d)) (ts ++ (left ++ (d ++ t ∷ []))) = subst
+          (λ l. IsPermutation ((t ∷ ts) ++ (w ++ d)) (ts ++ (l ++ (d ++ t ∷ [])))) (sym same) (to_deferred t ts w d) in
           record {
             sound = record {
               names = cs;
@@ -219,7 +239,8 @@ module _ (g : Graph) (text : HasText g) (well : WellFormed g) (inputs : List ℤ
               turns = s.turns;
               known = each_permutation (λ (t : Token). t.context < length xs) ((t ∷ ts) ++ (w ++ d)) (ts ++ (left ++ (d ++ t ∷ []))) order s.known;
               stuck = left_stuck;
-              defers = subst (Each (IsDeferred (flow_of g) (held_in cells))) (sym (map-append (tagged_of cs) d (t ∷ []))) (each_append (IsDeferred (flow_of g) (held_in cells)) (map (tagged_of cs) d) (tagged_of cs t ∷ []) s.defers (mine, tt));
+              defers = subst (Each (IsDeferred (flow_of g) (held_in cells))) (sym (map-append (tagged_of cs) d (t ∷ [])))
+                  (each_append (IsDeferred (flow_of g) (held_in cells)) (map (tagged_of cs) d) (tagged_of cs t ∷ []) s.defers (mine, tt));
               cell_count = s.cell_count;
               output_count = s.output_count;
             };

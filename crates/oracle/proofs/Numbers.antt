@@ -1,49 +1,56 @@
 -- The map that finds invocations grows with them.
-use Rattle.std.proofs.Common.{◌≡◌, ◌≢◌, ℕ, suc, ◌+◌, ◌<◌, Bool, true, false, List, [], ◌∷◌, ◌++◌, length, Option, Some, None, if◌then◌else◌, refl, sym, ap, ◌∙◌, subst, arith}
+use Rattle.std.proofs.Common.{◌≡◌, ◌≢◌, ℕ, suc, ◌+◌, ◌<◌, Bool, true, false, List, [], ◌∷◌, ◌++◌, length, Option, Some, None, if◌then◌else◌, refl}
+use Rattle.std.proofs.Common.{sym, ap, ◌∙◌, subst, arith}
 use Rattle.std.specs.Prelude.{cond, unwrap_or}
 use Rattle.std.proofs.lemmas.Option.{slice_get_within}
 use Rattle.std.specs.Ordering.{is_eq}
 use Rattle.std.specs.declared.cmp.Ordering.{Ordering}
+use Rattle.std.specs.declared.cmp.Reverse.{Reverse}
 use Rattle.std.specs.BTreeMap.{BTreeMap, get, Updates}
 use Rattle.oracle.specs.declared.invocations.Made.{Made}
 use Rattle.oracle.specs.declared.invocations.Invocation.{Invocation}
 use Rattle.oracle.specs.Running.{same_made, made_from}
-use Rattle.oracle.specs.Numbering.{IsNumbering}
+use Rattle.oracle.specs.Numbering.{key, IsNumbering}
 use Rattle.oracle.proofs.Entering.{made_same, made_found}
 use Rattle.oracle.proofs.Apart.{made_refl}
 
 -- whether two are equal in the order
-abbrev pub DealsApart : (Made → Made → Ordering) → Type 0
-DealsApart cmp = (x y : Made) → is_eq (cmp x y) ≡ same_made x y
+abbrev pub DealsApart : (Reverse Made → Reverse Made → Ordering) → Type 0
+DealsApart cmp = (x y : Made) → is_eq (cmp (key x) (key y)) ≡ same_made x y
 
 abbrev or_later : Option ℕ → Option ℕ → Option ℕ
 or_later None o = o
 or_later (Some i) o = Some i
 
-last_from : (made : Made) (i : ℕ) (x : Invocation) (xs : List Invocation) → made_from made i (xs ++ x ∷ []) ≡ or_later (made_from made i xs) (if same_made x.made made then Some (i + length xs) else None)
+last_from : (made : Made) (i : ℕ) (x : Invocation) (xs : List Invocation) → made_from made i (xs ++ x ∷ [])
+    ≡ or_later (made_from made i xs) (if same_made x.made made then Some (i + length xs) else None)
 last_from made i x [] =
     let e : i + 0 ≡ i = omega arith in
     rw e refl
 last_from made i x (y ∷ ys) = go (same_made y.made made) (last_from made (i + 1) x ys)
   where
-    go : (t : Bool) → made_from made (i + 1) (ys ++ x ∷ []) ≡ or_later (made_from made (i + 1) ys) (if same_made x.made made then Some (i + 1 + length ys) else None)
-        → (if t then Some i else made_from made (i + 1) (ys ++ x ∷ [])) ≡ or_later (if t then Some i else made_from made (i + 1) ys) (if same_made x.made made then Some (i + suc (length ys)) else None)
+    go : (t : Bool) → made_from made (i + 1) (ys ++ x ∷ [])
+        ≡ or_later (made_from made (i + 1) ys) (if same_made x.made made then Some (i + 1 + length ys) else None)
+        → (if t then Some i else made_from made (i + 1) (ys ++ x ∷ [])) ≡ or_later (if t then Some i else made_from made (i + 1) ys)
+        (if same_made x.made made then Some (i + suc (length ys)) else None)
     go true ih = refl
     go false ih =
         let e : i + suc (length ys) ≡ i + 1 + length ys = omega arith in
         rw e ih
 
-pub numbers_more : (cmp : Made → Made → Ordering) (m n : BTreeMap Made ℕ) (xs : List Invocation) (made : Made) (block : ℕ) → DealsApart cmp → IsNumbering cmp m xs → made_from made 0 xs ≡ None
-    → Updates cmp m n made (Some (length xs)) → IsNumbering cmp n (xs ++ record { made = made; block = block } ∷ [])
+pub numbers_more : (cmp : Reverse Made → Reverse Made → Ordering) (m n : BTreeMap (Reverse Made) ℕ) (xs : List Invocation) (made : Made) (block : ℕ)
+    → DealsApart cmp → IsNumbering cmp m xs → made_from made 0 xs ≡ None
+    → Updates cmp m n (key made) (Some (length xs)) → IsNumbering cmp n (xs ++ record { made = made; block = block } ∷ [])
 numbers_more cmp m n xs made block apart numbers absent updates q =
-    updates.0 q ∙ ap (λ b. cond b (Some (length xs)) (get cmp m q)) (apart made q) ∙ go (same_made made q) refl
+    updates.0 (key q) ∙ ap (λ b. cond b (Some (length xs)) (get cmp m (key q))) (apart made q) ∙ go (same_made made q) refl
     ∙ sym (last_from q 0 (record { made = made; block = block }) xs)
   where
     later : (v : Option ℕ) → v ≡ or_later v None
     later None = refl
     later (Some i) = refl
 
-    go : (t : Bool) → same_made made q ≡ t → cond t (Some (length xs)) (get cmp m q) ≡ or_later (made_from q 0 xs) (if t then Some (0 + length xs) else None)
+    go : (t : Bool) → same_made made q ≡ t → cond t (Some (length xs)) (get cmp m (key q))
+        ≡ or_later (made_from q 0 xs) (if t then Some (0 + length xs) else None)
     go true e =
         let none : made_from q 0 xs ≡ None = subst (λ a. made_from a 0 xs ≡ None) (made_same made q e) absent in
         let same : length xs ≡ 0 + length xs = omega arith in
@@ -51,11 +58,13 @@ numbers_more cmp m n xs made block apart numbers absent updates q =
     go false e = numbers q ∙ later (made_from q 0 xs)
 
 -- the map has one of its numbers written again
-pub numbers_same : (cmp : Made → Made → Ordering) (m n : BTreeMap Made ℕ) (xs : List Invocation) (made : Made) (k : ℕ) → DealsApart cmp → IsNumbering cmp m xs → made_from made 0 xs ≡ Some k
-    → Updates cmp m n made (Some k) → IsNumbering cmp n xs
-numbers_same cmp m n xs made k apart numbers there updates q = updates.0 q ∙ ap (λ b. cond b (Some k) (get cmp m q)) (apart made q) ∙ go (same_made made q) refl
+pub numbers_same : (cmp : Reverse Made → Reverse Made → Ordering) (m n : BTreeMap (Reverse Made) ℕ) (xs : List Invocation) (made : Made) (k : ℕ)
+    → DealsApart cmp → IsNumbering cmp m xs → made_from made 0 xs ≡ Some k
+    → Updates cmp m n (key made) (Some k) → IsNumbering cmp n xs
+numbers_same cmp m n xs made k apart numbers there updates q = updates.0 (key q) ∙ ap (λ b. cond b (Some k) (get cmp m (key q))) (apart made q)
+    ∙ go (same_made made q) refl
   where
-    go : (t : Bool) → same_made made q ≡ t → cond t (Some k) (get cmp m q) ≡ made_from q 0 xs
+    go : (t : Bool) → same_made made q ≡ t → cond t (Some k) (get cmp m (key q)) ≡ made_from q 0 xs
     go true e = sym there ∙ ap (λ a. made_from a 0 xs) (made_same made q e)
     go false e = numbers q
 
@@ -85,7 +94,8 @@ kept_new xs made k e h = go (made_from made 0 xs) refl
         absurd (omega (arith, low, same, h))
 
 -- the one that is added is the first that was made there, if no other was
-pub made_last : (xs : List Invocation) (made : Made) (block : ℕ) → made_from made 0 xs ≡ None → made_from made 0 (xs ++ record { made = made; block = block } ∷ []) ≡ Some (length xs)
+pub made_last : (xs : List Invocation) (made : Made) (block : ℕ) → made_from made 0 xs ≡ None
+    → made_from made 0 (xs ++ record { made = made; block = block } ∷ []) ≡ Some (length xs)
 made_last xs made block absent =
     let first : 0 + length xs ≡ length xs = omega arith in
     last_from made 0 (record { made = made; block = block }) xs ∙ ap (λ v. or_later v (if same_made made made then Some (0 + length xs) else None)) absent

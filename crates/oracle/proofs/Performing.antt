@@ -1,11 +1,13 @@
 -- What an activity does in a run is what it does in the meaning.
-use Rattle.std.proofs.Common.{◌≡◌, ℕ, suc, ◌+◌, ◌<◌, ◌≤◌, ℤ, List, [], ◌∷◌, ◌++◌, map, length, Option, Some, None, if◌then◌else◌, IsPermutation, refl, sym, ap, ◌∙◌, subst, arith}
+use Rattle.std.proofs.Common.{◌≡◌, ℕ, suc, ◌+◌, ◌<◌, ◌≤◌, ℤ, List, [], ◌∷◌, ◌++◌, map, length, Option, Some, None, if◌then◌else◌, IsPermutation}
+use Rattle.std.proofs.Common.{refl, sym, ap, ◌∙◌, subst, arith}
 use Rattle.std.specs.Prelude.{is_some}
 use Rattle.std.proofs.lemmas.List.{map-append, length-append}
 use Rattle.std.proofs.lemmas.List.Sorted.{IsPermutation-refl, IsPermutation-map}
 use Rattle.tags.specs.declared.value.Value.{Value}
 use Rattle.semantics.specs.Graph.{Graph, flow_of}
-use Rattle.semantics.specs.Meaning.{Context, Tagged, Memory, Effect, State, Activity, taken, effect, done, adds, tokens_of, with_cell, with_output, when_full, when_empty, Step, Run, start}
+use Rattle.semantics.specs.Meaning.{Context, Tagged, Memory, Effect, State, Activity, taken, effect, done, adds, tokens_of, with_cell, with_output}
+use Rattle.semantics.specs.Meaning.{when_full, when_empty, Step, Run, start}
 use Rattle.semantics.specs.Meaning as Meaning
 use Rattle.lemmas.proofs.Permutations.{Each, each_append, each_append_back, each_weaker}
 use Rattle.law_confluence.proofs.ActivityDiamond.{effect_of}
@@ -84,7 +86,8 @@ module _ (g : Graph) (inputs : List ℤ) (k : ℕ) (s : Plain) (vs : List Value)
 
     -- the run goes on to a state that stands for what the effect makes
     goes : (E : Effect) → done (flow_of g) m (deed_of names vs d) ≡ Some E → (t : Plain) (sound : Sound g (suc k) t)
-        → IsPermutation (map (tagged_of sound.names) (all_tokens t)) (E.added ++ map (tagged_of names) (all_tokens s)) → memory_of t.cells t.outputs ≡ E.memory → Acted g inputs k s vs d r t
+        → IsPermutation (map (tagged_of sound.names) (all_tokens t)) (E.added ++ map (tagged_of names) (all_tokens s)) → memory_of t.cells t.outputs
+        ≡ E.memory → Acted g inputs k s vs d r t
     goes E h t sound tokens memory =
         let step : Step (flow_of g) r.activity r.old (meant sound.names t) = record {
           does = E;
@@ -100,14 +103,16 @@ module _ (g : Graph) (inputs : List ℤ) (k : ℕ) (s : Plain) (vs : List Value)
           follows = record {
             sound = sound;
             run = r.run ++ r.activity ∷ [];
-            is_run = run_append (flow_of g) (start inputs) r.old (meant sound.names t) r.run (r.activity ∷ []) r.is_run (meant sound.names t, step, same_refl (meant sound.names t));
+            is_run = run_append (flow_of g) (start inputs) r.old (meant sound.names t) r.run (r.activity ∷ []) r.is_run
+                (meant sound.names t, step, same_refl (meant sound.names t));
             count = omega (arith, long, count);
           };
           step = step;
         }
 
     -- MORE TOKENS, and nothing else
-    sent_sound : (new : List Token) → AreKnown (length s.invocations) new → Sound g (suc k) (plain s.invocations (s.fresh ++ new) s.waiting s.deferred s.cells s.outputs)
+    sent_sound : (new : List Token) → AreKnown (length s.invocations) new
+        → Sound g (suc k) (plain s.invocations (s.fresh ++ new) s.waiting s.deferred s.cells s.outputs)
     sent_sound new known =
         let P : Token → Type 0 = λ t. t.context < length s.invocations in
         let old = each_append_back P s.fresh (s.waiting ++ s.deferred) r.sound.known in
@@ -123,17 +128,21 @@ module _ (g : Graph) (inputs : List ℤ) (k : ℕ) (s : Plain) (vs : List Value)
           output_count = r.sound.output_count;
         }
 
-    fresh_order : (cs : List Context) (new : List Token) → IsPermutation (map (tagged_of cs) ((s.fresh ++ new) ++ (s.waiting ++ s.deferred))) (map (tagged_of cs) new ++ map (tagged_of cs) (all_tokens s))
+    fresh_order : (cs : List Context) (new : List Token) → IsPermutation (map (tagged_of cs) ((s.fresh ++ new) ++ (s.waiting ++ s.deferred)))
+        (map (tagged_of cs) new ++ map (tagged_of cs) (all_tokens s))
     fresh_order cs new =
         subst (λ l. IsPermutation (map (tagged_of cs) ((s.fresh ++ new) ++ (s.waiting ++ s.deferred))) l) (map-append (tagged_of cs) new (all_tokens s))
-        (IsPermutation-map (tagged_of cs) ((s.fresh ++ new) ++ (s.waiting ++ s.deferred)) (new ++ all_tokens s) (to_fresh s.fresh new (s.waiting ++ s.deferred)))
+        (IsPermutation-map (tagged_of cs) ((s.fresh ++ new) ++ (s.waiting ++ s.deferred)) (new ++ all_tokens s)
+        (to_fresh s.fresh new (s.waiting ++ s.deferred)))
 
-    sent_more : (new : List Token) (added : List Tagged) → AreKnown (length s.invocations) new → map (tagged_of names) new ≡ added → done (flow_of g) m (deed_of names vs d) ≡ Some record { added = added; memory = m }
+    sent_more : (new : List Token) (added : List Tagged) → AreKnown (length s.invocations) new → map (tagged_of names) new ≡ added
+        → done (flow_of g) m (deed_of names vs d) ≡ Some record { added = added; memory = m }
         → Acted g inputs k s vs d r (plain s.invocations (s.fresh ++ new) s.waiting s.deferred s.cells s.outputs)
     unfolding sent_sound
     sent_more new added known same h =
         goes record { added = added; memory = m } h (plain s.invocations (s.fresh ++ new) s.waiting s.deferred s.cells s.outputs) (sent_sound new known)
-        (subst (λ l. IsPermutation (map (tagged_of names) ((s.fresh ++ new) ++ (s.waiting ++ s.deferred))) (l ++ map (tagged_of names) (all_tokens s))) same (fresh_order names new)) refl
+        (subst (λ l. IsPermutation (map (tagged_of names) ((s.fresh ++ new) ++ (s.waiting ++ s.deferred)))
+        (l ++ map (tagged_of names) (all_tokens s))) same (fresh_order names new)) refl
 
     stops : done (flow_of g) m (deed_of names vs d) ≡ Some record { added = []; memory = m } → Acted g inputs k s vs d r s
     stops h =
@@ -151,7 +160,8 @@ module _ (g : Graph) (inputs : List ℤ) (k : ℕ) (s : Plain) (vs : List Value)
         goes record { added = []; memory = m } h s sound (IsPermutation-refl _) refl
 
     -- A CELL IS FILLED
-    fills : (x : ℕ) (v : Value) (new : List Token) (added : List Tagged) → x < length s.cells → AreKnown (length s.invocations) new → map (tagged_of names) new ≡ added
+    fills : (x : ℕ) (v : Value) (new : List Token) (added : List Tagged) → x < length s.cells → AreKnown (length s.invocations) new
+        → map (tagged_of names) new ≡ added
         → done (flow_of g) m (deed_of names vs d) ≡ Some record { added = added; memory = with_cell m x v }
         → Acted g inputs k s vs d r (plain s.invocations ((s.fresh ++ s.deferred) ++ new) s.waiting [] (filled_in s.cells x v) s.outputs)
     fills x v new added low known same h =
@@ -164,7 +174,8 @@ module _ (g : Graph) (inputs : List ℤ) (k : ℕ) (s : Plain) (vs : List Value)
           named = r.sound.named;
           differ = r.sound.differ;
           turns = turns_more k s r.sound.turns;
-          known = each_append P ((s.fresh ++ s.deferred) ++ new) (s.waiting ++ []) (each_append P (s.fresh ++ s.deferred) new (each_append P s.fresh s.deferred one.0 two.1) known) (each_append P s.waiting [] two.0 tt);
+          known = each_append P ((s.fresh ++ s.deferred) ++ new) (s.waiting ++ [])
+              (each_append P (s.fresh ++ s.deferred) new (each_append P s.fresh s.deferred one.0 two.1) known) (each_append P s.waiting [] two.0 tt);
           stuck = r.sound.stuck;
           defers = tt;
           cell_count = filled_long s.cells x v low ∙ r.sound.cell_count;
@@ -197,7 +208,8 @@ module _ (g : Graph) (inputs : List ℤ) (k : ℕ) (s : Plain) (vs : List Value)
         (ap (λ (f : ℕ → Option Value). record { cells = held_in s.cells; outputs = f }) (filled_same s.outputs j v low))
 
     -- AN INVOCATION IS ENTERED
-    enters : (made : Made) (f : ℕ) (new : List Token) (added : List Tagged) → CanEnter g names (length s.invocations) made f → TurnBelow (suc k) made → AreOf (number_in s.invocations made) new
+    enters : (made : Made) (f : ℕ) (new : List Token) (added : List Tagged) → CanEnter g names (length s.invocations) made f → TurnBelow (suc k) made
+        → AreOf (number_in s.invocations made) new
         → ((cs : List Context) → name_in cs (number_in s.invocations made) ≡ made_of names made → map (tagged_of cs) new ≡ added)
         → done (flow_of g) m (deed_of names vs d) ≡ Some record { added = added; memory = m }
         → Acted g inputs k s vs d r (plain (with_made s.invocations made f) (s.fresh ++ new) s.waiting s.deferred s.cells s.outputs)
@@ -221,7 +233,8 @@ module _ (g : Graph) (inputs : List ℤ) (k : ℕ) (s : Plain) (vs : List Value)
           named = e.named;
           differ = mades_more s.invocations made f r.sound.differ;
           turns = made_more (TurnBelow (suc k)) s.invocations made f (turns_more k s r.sound.turns) turn;
-          known = each_append Q (s.fresh ++ new) (s.waiting ++ s.deferred) (each_append Q s.fresh new (later s.fresh one.0) (known_of (number_in s.invocations made) _ here new of)) (later (s.waiting ++ s.deferred) one.1);
+          known = each_append Q (s.fresh ++ new) (s.waiting ++ s.deferred) (each_append Q s.fresh new (later s.fresh one.0)
+              (known_of (number_in s.invocations made) _ here new of)) (later (s.waiting ++ s.deferred) one.1);
           stuck = subst (Stuck (flow_of g)) (sym (kept s.waiting two.0)) r.sound.stuck;
           defers = subst (Each (IsDeferred (flow_of g) (held_in s.cells))) (sym (kept s.deferred two.1)) r.sound.defers;
           cell_count = r.sound.cell_count;
@@ -229,7 +242,8 @@ module _ (g : Graph) (inputs : List ℤ) (k : ℕ) (s : Plain) (vs : List Value)
         } in
         goes record { added = added; memory = m } h t sound
         (subst (λ l. IsPermutation (map (tagged_of e.names) (all_tokens t)) (added ++ l)) (kept (all_tokens s) r.sound.known)
-        (subst (λ l. IsPermutation (map (tagged_of e.names) (all_tokens t)) (l ++ map (tagged_of e.names) (all_tokens s))) (same e.names e.name) (fresh_order e.names new))) refl
+        (subst (λ l. IsPermutation (map (tagged_of e.names) (all_tokens t)) (l ++ map (tagged_of e.names) (all_tokens s))) (same e.names e.name)
+        (fresh_order e.names new))) refl
 
   -- Each deed in its turn.
   pub acts : (d : Deed) (r : Ready g inputs k s vs d) → Acted g inputs k s vs d r (performed g s vs d)
@@ -252,13 +266,15 @@ module _ (g : Graph) (inputs : List ℤ) (k : ℕ) (s : Plain) (vs : List Value)
       let cs = r.sound.names in
       let held = free_reads (held_in s.cells x) r.free in
       let q = sends_same g s.invocations cs r.sound.named c r.is_known.0 held.0 n 0 in
-      subst (λ o. Acted g inputs k s vs (Reads c n x) r (plain s.invocations (s.fresh ++ answered g s.invocations c n o) s.waiting s.deferred s.cells s.outputs)) (sym held.1)
+      subst (λ o. Acted g inputs k s vs (Reads c n x) r (plain s.invocations (s.fresh ++ answered g s.invocations c n o) s.waiting s.deferred s.cells
+      s.outputs)) (sym held.1)
       (sent_more (Reads c n x) r (sent_in g s.invocations (sent_of c held.0) n 0) _ (known_of c _ r.is_known.0 _ q.1) q.0
       (ap (λ o. when_full o (λ v. adds (tokens_of (flow_of g) (Meaning.Sends (name_in cs c) n 0 v)) m)) held.1))
   acts (Fills c n x a i v) r =
       let cs = r.sound.names in
       let q = sends_same g s.invocations cs r.sound.named c r.is_known.0 v n 0 in
-      let low : x < length s.cells = subst (λ y. y < length s.cells) (sym r.is_known.1) (subst (λ l. first_of g.arrays a + i < l) (sym r.sound.cell_count) (cell_low g.arrays a i r.is_known.2)) in
+      let low : x < length s.cells = subst (λ y. y < length s.cells) (sym r.is_known.1)
+      (subst (λ l. first_of g.arrays a + i < l) (sym r.sound.cell_count) (cell_low g.arrays a i r.is_known.2)) in
       fills (Fills c n x a i v) r x v (sent_in g s.invocations (sent_of c v) n 0) _ low (known_of c _ r.is_known.0 _ q.1) q.0
       (ap (λ o. when_empty o (adds (tokens_of (flow_of g) (Meaning.Sends (name_in cs c) n 0 v)) (with_cell m x v))) (free_fills (held_in s.cells x) a i r.free))
   acts (Puts j v) r = puts (Puts j v) r j v r.put refl

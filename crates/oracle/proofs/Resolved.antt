@@ -1,5 +1,6 @@
 -- Looking up in a graph with names, and in the graph with places.
-use Rattle.std.proofs.Common.{◌≡◌, ℕ, zero, suc, ◌+◌, ◌-◌, Bool, false, List, [], ◌∷◌, map, sum, take, None, nat_lt, slice_get, slice_index_or, if◌then◌else◌, ◌≤◌, refl, sym, ap, ◌∙◌, arith}
+use Rattle.std.proofs.Common.{◌≡◌, ℕ, zero, suc, ◌+◌, ◌-◌, Bool, false, List, [], ◌∷◌, map, sum, take, None, nat_lt, slice_get, slice_index_or}
+use Rattle.std.proofs.Common.{if◌then◌else◌, ◌≤◌, refl, sym, ap, ◌∙◌, arith}
 use Rattle.std.specs.Prelude.{option_map}
 use Rattle.std.proofs.lemmas.Option.{slice_get-map}
 use Rattle.std.proofs.lemmas.List.Sums.{sum_by-cons}
@@ -11,8 +12,10 @@ use Rattle.oracle.specs.Agreeing.{block_in, row_in}
 pub block_same : (g : Graph) (k : ℕ) → slice_get (flow_of g).blocks k ≡ option_map (block_in g) (slice_get g.blocks k)
 block_same g k = slice_get-map (block_in g) g.blocks k
 
-pub rows_same : (g : Graph) (b : List ℕ × Block (List ℕ)) (n : ℕ) → nat_lt n b.1.inputs ≡ false → node_at (block_in g b) n ≡ option_map (row_in g) (slice_get b.1.nodes (n - b.1.inputs))
-rows_same g b n h = ap (λ (t : Bool). if t then None else slice_get (block_in g b).nodes (n - b.1.inputs)) h ∙ slice_get-map (row_in g) b.1.nodes (n - b.1.inputs)
+pub rows_same : (g : Graph) (b : List ℕ × Block (List ℕ)) (n : ℕ) → nat_lt n b.1.inputs ≡ false → node_at (block_in g b) n
+    ≡ option_map (row_in g) (slice_get b.1.nodes (n - b.1.inputs))
+rows_same g b n h = ap (λ (t : Bool). if t then None else slice_get (block_in g b).nodes (n - b.1.inputs)) h
+    ∙ slice_get-map (row_in g) b.1.nodes (n - b.1.inputs)
 
 -- CELLS
 pub firsts_same : (arrays : List (List ℕ × ℕ)) (a : ℕ) → first_of arrays a ≡ sum (take a (map (λ (x : List ℕ × ℕ). x.1) arrays))

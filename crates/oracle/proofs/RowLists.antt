@@ -1,5 +1,6 @@
 -- Rows in a list of lists.
-use Rattle.std.proofs.Common.{◌≡◌, ℕ, zero, suc, ◌<◌, Bool, true, false, ◌==◌, List, [], ◌∷◌, ◌++◌, map, length, slice_set, slice_index_or, if◌then◌else◌, refl, sym, ap, ◌∙◌, arith, eqb-true}
+use Rattle.std.proofs.Common.{◌≡◌, ℕ, zero, suc, ◌<◌, Bool, true, false, ◌==◌, List, [], ◌∷◌, ◌++◌, map, length, slice_set, slice_index_or}
+use Rattle.std.proofs.Common.{if◌then◌else◌, refl, sym, ap, ◌∙◌, arith, eqb-true}
 use Rattle.std.proofs.lemmas.Bool.{eqb-false}
 use Rattle.std.proofs.lemmas.List.{map-append}
 use Rattle.oracle.specs.declared.tokens.Token.{Token}
@@ -29,7 +30,8 @@ set_other f (w ∷ vs) (suc i) zero v other = refl
 set_other f (w ∷ vs) (suc i) (suc d) v other = set_other f vs i d v (λ e. other (ap suc e))
 
 -- a row is written
-pub row_set : {V : Type 0} (f : V → List Token) (vs : List V) (i : ℕ) (v : V) → i < length vs → with_row (rows_of (map f vs)) i (f v) ≡ rows_of (map f (slice_set vs i v))
+pub row_set : {V : Type 0} (f : V → List Token) (vs : List V) (i : ℕ) (v : V) → i < length vs → with_row (rows_of (map f vs)) i (f v)
+    ≡ rows_of (map f (slice_set vs i v))
 row_set f vs i v h = λ k d. at d k
   where
     at : (d : ℕ) → with_row (rows_of (map f vs)) i (f v) d ≡ rows_of (map f (slice_set vs i v)) d

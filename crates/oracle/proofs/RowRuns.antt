@@ -1,5 +1,6 @@
 -- A run over rows reports what the run over one list reports.
-use Rattle.std.proofs.Common.{◌≡◌, ℕ, zero, suc, ◌-◌, ◌<◌, Bool, true, false, ◌==◌, ℤ, List, [], ◌∷◌, ◌++◌, map, length, Option, Some, None, Result, Ok, Err, slice_get, slice_set, slice_index_or, if◌then◌else◌, refl, sym, ap, ◌∙◌, subst, arith, eqb-true, eq-eqb}
+use Rattle.std.proofs.Common.{◌≡◌, ℕ, zero, suc, ◌-◌, ◌<◌, Bool, true, false, ◌==◌, ℤ, List, [], ◌∷◌, ◌++◌, map, length, Option, Some, None, Result}
+use Rattle.std.proofs.Common.{Ok, Err, slice_get, slice_set, slice_index_or, if◌then◌else◌, refl, sym, ap, ◌∙◌, subst, arith, eqb-true, eq-eqb}
 use Rattle.tags.specs.declared.value.Value.{Value}
 use Rattle.semantics.specs.Graph.{Graph}
 use Rattle.oracle.specs.declared.invocations.Invocation.{Invocation}
@@ -13,7 +14,8 @@ use Rattle.oracle.specs.declared.report.MeanEnd.{MeanEnd}
 use Rattle.oracle.specs.declared.report.MeanEnd.TheVariants.{Clash, Steps}
 use Rattle.oracle.specs.Lines.{spots_in, shape_in}
 use Rattle.oracle.specs.Acting.{all_there, remaining_of, values_of, deed_in, gate_of}
-use Rattle.oracle.specs.Running.{Plain, plain, Matched, Alone, Joins, Fails, joins, join_values, join_all, join_shape, join_in, join_of, Came, Acts, Ends, Broken, next_of, next_in, run_of, performed, start_of, end_result_of, run_result}
+use Rattle.oracle.specs.Running.{Plain, plain, Matched, Alone, Joins, Fails, joins, join_values, join_all, join_shape, join_in, join_of, Came, Acts}
+use Rattle.oracle.specs.Running.{Ends, Broken, next_of, next_in, run_of, performed, start_of, end_result_of, run_result}
 use Rattle.std.specs.Prelude.{MatchOption, IfOk}
 use Rattle.oracle.proofs.RowLists.{row_here, row_set, set_here}
 use Rattle.oracle.specs.Rows.{rows_of, with_row, no_rows, Next, Goes, Stays, Breaks, row_next, next_among, run_among}
@@ -47,7 +49,8 @@ module _ (g : Graph) (w : List Token) (t : Token) where
       go : (b : Bool) → (if b then join_all g (mine t.context w) t x shape else Alone) ≡ cut t.context (if b then join_all g w t x shape else Alone)
       go true =
           let vs = values_of t (spots_in shape) w in
-          ap (λ vs. join_values g (mine t.context w) t x shape vs) (values_mine t (spots_in shape) w) ∙ counted_mine x shape vs (length vs == length (spots_in shape))
+          ap (λ vs. join_values g (mine t.context w) t x shape vs) (values_mine t (spots_in shape) w)
+          ∙ counted_mine x shape vs (length vs == length (spots_in shape))
       go false = refl
 
   pub in_mine : (o : Option Invocation) → join_in g (mine t.context w) t o ≡ cut t.context (join_in g w t o)
@@ -55,7 +58,8 @@ module _ (g : Graph) (w : List Token) (t : Token) where
   in_mine (Some x) = shape_mine x (shape_in g x.made x.block t.spot)
 
   -- what is left when some of the token's partners are out
-  pub left_by : (o : Option Invocation) (left : List Token) (vs : List Value) (d : Deed) → join_in g w t o ≡ Joins left vs d → (ss : List Spot) × (remaining_of t ss w ≡ left)
+  pub left_by : (o : Option Invocation) (left : List Token) (vs : List Value) (d : Deed) → join_in g w t o ≡ Joins left vs d → (ss : List Spot)
+      × (remaining_of t ss w ≡ left)
   left_by None left vs d e = cc
   left_by (Some x) left vs d e = let v = joined_view g w t x left vs d e in (spots_in v.shape, v.rest)
 
@@ -94,7 +98,8 @@ rows_alone w t = λ i d. at d i
             ap (λ k. mine k w ++ t ∷ []) same ∙ sym (ap (λ b. mine d w ++ keep b t []) (eq-eqb t.context d same))
         go false p = nil_right (mine d w) ∙ sym (ap (λ b. mine d w ++ keep b t []) (flip d t.context p))
 
-pub rows_left : (w : List Token) (t : Token) (ss : List Spot) (left : List Token) → remaining_of t ss w ≡ left → with_row (λ c. mine c w) t.context (mine t.context left) ≡ (λ c. mine c left)
+pub rows_left : (w : List Token) (t : Token) (ss : List Spot) (left : List Token) → remaining_of t ss w ≡ left
+    → with_row (λ c. mine c w) t.context (mine t.context left) ≡ (λ c. mine c left)
 rows_left w t ss left e = λ i d. at d i
   where
     at : (d : ℕ) → with_row (λ c. mine c w) t.context (mine t.context left) d ≡ mine d left
@@ -146,13 +151,15 @@ module _ (g : Graph) (xs : List Invocation) (cells outputs : List (Option Value)
   abbrev Same : List Token → Type 0
   Same ts = (w d : List Token) → row_next g xs cells outputs ts (λ c. mine c w) d ≡ rowed (next_of g xs cells outputs ts w d)
 
-  gated_same : (t : Token) (ts w d : List Token) → Same ts → (left : List Token) (vs : List Value) (deed : Deed) → with_row (λ c. mine c w) t.context (mine t.context left) ≡ (λ c. mine c left)
+  gated_same : (t : Token) (ts w d : List Token) → Same ts → (left : List Token) (vs : List Value) (deed : Deed)
+      → with_row (λ c. mine c w) t.context (mine t.context left) ≡ (λ c. mine c left)
       → (gate : Gate) → row_gated t ts (λ c. mine c w) d (mine t.context left) vs deed gate ≡ rowed (list_gated t ts d left vs deed gate)
   gated_same t ts w d ih left vs deed rows Free = ap (λ r. Goes (plain xs ts [] d cells outputs) r vs deed) rows
   gated_same t ts w d ih left vs deed rows Defers = ap (λ r. row_next g xs cells outputs ts r (d ++ t ∷ [])) rows ∙ ih left (d ++ t ∷ [])
   gated_same t ts w d ih left vs deed rows (Clashes a i) = refl
 
-  joined_same : (t : Token) (ts w d : List Token) → Same ts → (j : Matched) → join_of g xs w t ≡ j → row_matched t ts (λ c. mine c w) d (cut t.context j) ≡ rowed (list_joined t ts w d j)
+  joined_same : (t : Token) (ts w d : List Token) → Same ts → (j : Matched) → join_of g xs w t ≡ j
+      → row_matched t ts (λ c. mine c w) d (cut t.context j) ≡ rowed (list_joined t ts w d j)
   joined_same t ts w d ih Alone e = ap (λ r. row_next g xs cells outputs ts r d) (rows_alone w t) ∙ ih (w ++ t ∷ []) d
   joined_same t ts w d ih (Joins left vs deed) e =
       let by = left_by g w t (slice_get xs t.context) left vs deed e in
@@ -225,14 +232,16 @@ result_among g inputs steps = go (run_of g steps (start_of g inputs)) ∙ sym (a
     go (Some r) = refl
 
 -- a step of a run
-pub run_goes : (g : Graph) (s t : Plain) (rows rows' : ℕ → List Token) (vs : List Value) (d : Deed) (n : ℕ) (all : Option (MeanEnd × Plain)) → 0 < n → all ≡ run_among g n s rows
+pub run_goes : (g : Graph) (s t : Plain) (rows rows' : ℕ → List Token) (vs : List Value) (d : Deed) (n : ℕ) (all : Option (MeanEnd × Plain)) → 0 < n
+    → all ≡ run_among g n s rows
     → next_among g s rows ≡ Goes t rows' vs d → all ≡ run_among g (n - 1) (performed g t vs d) rows'
 run_goes g s t rows rows' vs d n all h e is =
     let one : n ≡ suc (n - 1) = omega (arith, h) in
     e ∙ ap (λ k. run_among g k s rows) one ∙ ap (went g (n - 1)) is
 
 -- the ends of a run
-pub run_stops : (g : Graph) (s t : Plain) (rows rows' : ℕ → List Token) (vs : List Value) (d : Deed) (n : ℕ) → n ≡ 0 → next_among g s rows ≡ Goes t rows' vs d → run_among g n s rows ≡ Some (Steps, t)
+pub run_stops : (g : Graph) (s t : Plain) (rows rows' : ℕ → List Token) (vs : List Value) (d : Deed) (n : ℕ) → n ≡ 0 → next_among g s rows
+    ≡ Goes t rows' vs d → run_among g n s rows ≡ Some (Steps, t)
 run_stops g s t rows rows' vs d n h is = ap (λ k. run_among g k s rows) h ∙ ap ended is
 
 pub run_stays : (g : Graph) (s t : Plain) (rows : ℕ → List Token) (e : MeanEnd) (n : ℕ) → next_among g s rows ≡ Stays t e → run_among g n s rows ≡ Some (e, t)
@@ -244,15 +253,18 @@ run_breaks g s rows zero is = ap ended is
 run_breaks g s rows (suc n) is = ap (went g n) is
 
 -- the same run, by equal states and equal rows
-pub run_kept : {V : Type 0} (g : Graph) (k : ℕ) (q r : Plain) (w v : List V) (f : V → List Token) → q ≡ r → v ≡ w → run_among g k q (rows_of (map f w)) ≡ run_among g k r (rows_of (map f v))
+pub run_kept : {V : Type 0} (g : Graph) (k : ℕ) (q r : Plain) (w v : List V) (f : V → List Token) → q ≡ r → v ≡ w
+    → run_among g k q (rows_of (map f w)) ≡ run_among g k r (rows_of (map f v))
 run_kept g k q r w v f e h = ap (λ s. run_among g k s (rows_of (map f w))) e ∙ ap (λ w. run_among g k r (rows_of (map f w))) (sym h)
 
 -- from the start, with no row
-pub told_from : {V : Type 0} (g : Graph) (inputs : List ℤ) (steps : ℕ) (s : Plain) (w : List V) (f : V → List Token) → s ≡ start_of g inputs → w ≡ [] → run_result g inputs steps ≡ end_result_of g (run_among g steps s (rows_of (map f w)))
+pub told_from : {V : Type 0} (g : Graph) (inputs : List ℤ) (steps : ℕ) (s : Plain) (w : List V) (f : V → List Token) → s ≡ start_of g inputs → w ≡ []
+    → run_result g inputs steps ≡ end_result_of g (run_among g steps s (rows_of (map f w)))
 told_from {V} g inputs steps s w f e h =
     result_among g inputs steps ∙ ap (end_result_of g) (run_kept g steps (start_of g inputs) s [] w f (sym e) h)
 
-pub told_none : {V : Type 0} (g : Graph) (inputs : List ℤ) (steps : ℕ) (s : Plain) (w : List V) (f : V → List Token) → s ≡ start_of g inputs → w ≡ [] → run_among g steps s (rows_of (map f w)) ≡ None → run_result g inputs steps ≡ None
+pub told_none : {V : Type 0} (g : Graph) (inputs : List ℤ) (steps : ℕ) (s : Plain) (w : List V) (f : V → List Token) → s ≡ start_of g inputs → w ≡ []
+    → run_among g steps s (rows_of (map f w)) ≡ None → run_result g inputs steps ≡ None
 told_none g inputs steps s w f e h n = told_from g inputs steps s w f e h ∙ ap (end_result_of g) n
 
 -- A TOKEN AND THE RESULT OF JOINING IT
@@ -262,19 +274,22 @@ Among g xs t rows new values deed o =
     (λ a. (join_of g xs (rows t.context) t ≡ Joins (new t.context) (values a) (deed a)) × (with_row rows t.context (new t.context) ≡ new))
 
 module _ (g : Graph) (xs : List Invocation) (cells outputs : List (Option Value)) (t : Token) (ts d : List Token) (rows new : ℕ → List Token) where
-  pub next_alone : {X : Type 0} (o : Option X) (values : X → List Value) (deed : X → Deed) → o ≡ None → Among g xs t rows new values deed o → row_next g xs cells outputs (t ∷ ts) rows d ≡ row_next g xs cells outputs ts new d
+  pub next_alone : {X : Type 0} (o : Option X) (values : X → List Value) (deed : X → Deed) → o ≡ None → Among g xs t rows new values deed o
+      → row_next g xs cells outputs (t ∷ ts) rows d ≡ row_next g xs cells outputs ts new d
   next_alone o values deed is h =
       let a = subst (λ o. Among g xs t rows new values deed o) is h in
       ap (λ j. row_matched g xs cells outputs t ts rows d j) a.0 ∙ ap (λ r. row_next g xs cells outputs ts r d) a.1
 
-  pub next_free : {X : Type 0} (o : Option X) (a : X) (values : X → List Value) (deed : X → Deed) → o ≡ Some a → Among g xs t rows new values deed o → gate_of cells (deed a) ≡ Free
+  pub next_free : {X : Type 0} (o : Option X) (a : X) (values : X → List Value) (deed : X → Deed) → o ≡ Some a → Among g xs t rows new values deed o
+      → gate_of cells (deed a) ≡ Free
       → row_next g xs cells outputs (t ∷ ts) rows d ≡ Goes (plain xs ts [] d cells outputs) new (values a) (deed a)
   next_free o a values deed is h gate =
       let b = subst (λ o. Among g xs t rows new values deed o) is h in
       ap (λ j. row_matched g xs cells outputs t ts rows d j) b.0 ∙ ap (λ k. row_gated g xs cells outputs t ts rows d (new t.context) (values a) (deed a) k) gate
       ∙ ap (λ r. Goes (plain xs ts [] d cells outputs) r (values a) (deed a)) b.1
 
-  pub next_defers : {X : Type 0} (o : Option X) (a : X) (values : X → List Value) (deed : X → Deed) → o ≡ Some a → Among g xs t rows new values deed o → gate_of cells (deed a) ≡ Defers
+  pub next_defers : {X : Type 0} (o : Option X) (a : X) (values : X → List Value) (deed : X → Deed) → o ≡ Some a → Among g xs t rows new values deed o
+      → gate_of cells (deed a) ≡ Defers
       → row_next g xs cells outputs (t ∷ ts) rows d ≡ row_next g xs cells outputs ts new (d ++ t ∷ [])
   next_defers o a values deed is h gate =
       let b = subst (λ o. Among g xs t rows new values deed o) is h in
@@ -282,7 +297,8 @@ module _ (g : Graph) (xs : List Invocation) (cells outputs : List (Option Value)
       ∙ ap (λ r. row_next g xs cells outputs ts r (d ++ t ∷ [])) b.1
 
 -- what holds of a row, stated of all rows
-pub among : {V X E : Type 0} (g : Graph) (xs : List Invocation) (t : Token) (r : Result (Option X) E) (old mid : List V) (row v : V) (f : V → List Token) (values : X → List Value) (deed : X → Deed)
+pub among : {V X E : Type 0} (g : Graph) (xs : List Invocation) (t : Token) (r : Result (Option X) E) (old mid : List V) (row v : V)
+    (f : V → List Token) (values : X → List Value) (deed : X → Deed)
     → rows_of (map f mid) ≡ rows_of (map f old) → t.context < length mid → row ≡ slice_index_or mid t.context row
     → IfOk r (λ o. MatchOption o ((join_of g xs (f row) t ≡ Alone) × (f v ≡ f row ++ t ∷ [])) (λ a. join_of g xs (f row) t ≡ Joins (f v) (values a) (deed a)))
     → IfOk r (λ o. Among g xs t (rows_of (map f old)) (rows_of (map f (slice_set mid t.context v))) values deed o)

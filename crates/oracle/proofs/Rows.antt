@@ -1,5 +1,6 @@
 -- A run over rows is the run over one list: only tokens of its own invocation are partners of a token.
-use Rattle.std.proofs.Common.{◌≡◌, ℕ, suc, ◌+◌, Bool, true, false, ◌&&◌, ◌||◌, ◌==◌, List, [], ◌∷◌, ◌++◌, Option, Some, None, slice_get, if◌then◌else◌, refl, sym, ap, ap₂, ◌∙◌, subst, arith, eqb-true}
+use Rattle.std.proofs.Common.{◌≡◌, ℕ, suc, ◌+◌, Bool, true, false, ◌&&◌, ◌||◌, ◌==◌, List, [], ◌∷◌, ◌++◌, Option, Some, None, slice_get}
+use Rattle.std.proofs.Common.{if◌then◌else◌, refl, sym, ap, ap₂, ◌∙◌, subst, arith, eqb-true}
 use Rattle.std.specs.Prelude.{remove, is_some}
 use Rattle.tags.specs.declared.value.Value.{Value}
 use Rattle.oracle.specs.declared.tokens.Spot.{Spot}
@@ -48,8 +49,13 @@ seen_later : (c : ℕ) (s : Spot) (i : ℕ) (t : Token) (ts : List Token) → is
 seen_later c s i t ts e None h =
     (ap (λ b. leave b t ts (out c s ts)) e ∙ ap (λ r. t ∷ r) h.0, ap (λ b. give b t (first c s ts)) e ∙ h.1, ap (λ b. b || has c s ts) e ∙ h.2)
 seen_later c s i t ts e (Some k) h =
-    let is = h.1 in
-    (suc h.0, omega (arith, is), ap (λ r. t ∷ r) h.2 ∙ sym (ap (λ b. leave b t ts (out c s ts)) e), h.3 ∙ sym (ap (λ b. give b t (first c s ts)) e), ap (λ b. b || has c s ts) e ∙ h.4)
+    let is = h.1 in (
+      suc h.0,
+      omega (arith, is),
+      ap (λ r. t ∷ r) h.2 ∙ sym (ap (λ b. leave b t ts (out c s ts)) e),
+      h.3 ∙ sym (ap (λ b. give b t (first c s ts)) e),
+      ap (λ b. b || has c s ts) e ∙ h.4,
+    )
 
 seen : (c : ℕ) (s : Spot) (i : ℕ) (ts : List Token) → Seen c s i ts (find_from c s i ts)
 seen c s i [] = (refl, refl, refl)
@@ -97,7 +103,8 @@ module _ (c : ℕ) (s : Spot) where
   out_mine [] = refl
   out_mine (t ∷ ts) = go (out_mine ts) (t.context == c) refl
     where
-      inner : out c s (mine c ts) ≡ mine c (out c s ts) → (t.context == c) ≡ true → (a : Bool) → leave a t (mine c ts) (out c s (mine c ts)) ≡ mine c (leave a t ts (out c s ts))
+      inner : out c s (mine c ts) ≡ mine c (out c s ts) → (t.context == c) ≡ true → (a : Bool) → leave a t (mine c ts) (out c s (mine c ts))
+          ≡ mine c (leave a t ts (out c s ts))
       inner ih p true = refl
       inner ih p false = ap (λ r. t ∷ r) ih ∙ sym (ap (λ b. keep b t (mine c (out c s ts))) p)
 
@@ -149,7 +156,8 @@ module _ (t : Token) where
   after_mine : (s : Spot) (ts : List Token) → remaining_after t s (mine t.context ts) ≡ mine t.context (remaining_after t s ts)
   after_mine s ts = go (same_spot s t.spot)
     where
-      go : (b : Bool) → (if b then mine t.context ts else without (mine t.context ts) (find_from t.context s 0 (mine t.context ts))) ≡ mine t.context (if b then ts else without ts (find_from t.context s 0 ts))
+      go : (b : Bool) → (if b then mine t.context ts else without (mine t.context ts) (find_from t.context s 0 (mine t.context ts)))
+          ≡ mine t.context (if b then ts else without ts (find_from t.context s 0 ts))
       go true = refl
       go false = without_out t.context s (mine t.context ts) ∙ out_mine t.context s ts ∙ sym (ap (λ r. mine t.context r) (without_out t.context s ts))
 
@@ -163,7 +171,8 @@ module _ (t : Token) where
   here_mine : (s : Spot) (ts : List Token) → value_here t s (mine t.context ts) ≡ value_here t s ts
   here_mine s ts = go (same_spot s t.spot)
     where
-      go : (b : Bool) → (if b then t.value ∷ [] else value_at (mine t.context ts) (find_from t.context s 0 (mine t.context ts))) ≡ (if b then t.value ∷ [] else value_at ts (find_from t.context s 0 ts))
+      go : (b : Bool) → (if b then t.value ∷ [] else value_at (mine t.context ts) (find_from t.context s 0 (mine t.context ts)))
+          ≡ (if b then t.value ∷ [] else value_at ts (find_from t.context s 0 ts))
       go true = refl
       go false = value_first t.context s (mine t.context ts) ∙ first_mine t.context s ts ∙ sym (value_first t.context s ts)
 

@@ -108,9 +108,11 @@ module _ (g : Graph) (xs ys : List Invocation) (cs ds : List Context) (old : Nam
   known_same vs (Puts j v) h = tt
 
 -- the same tokens in another order, and the same memory: the same state
-pub state_same : (g : Graph) (s t : Plain) (cs ds : List Context) → Named g s.invocations cs → Named g t.invocations ds → StartsWith t.invocations s.invocations → AreKnown (length s.invocations) (all_tokens s)
+pub state_same : (g : Graph) (s t : Plain) (cs ds : List Context) → Named g s.invocations cs → Named g t.invocations ds
+    → StartsWith t.invocations s.invocations → AreKnown (length s.invocations) (all_tokens s)
     → IsPermutation (all_tokens s) (all_tokens t) → s.cells ≡ t.cells → s.outputs ≡ t.outputs → Same (meant cs s) (meant ds t)
 state_same g s t cs ds old new more known p e h = (
-  subst (λ l. IsPermutation l (map (tagged_of ds) (all_tokens t))) (tokens_same g s.invocations t.invocations cs ds old new more (all_tokens s) known) (IsPermutation-map (tagged_of ds) (all_tokens s) (all_tokens t) p),
+  subst (λ l. IsPermutation l (map (tagged_of ds) (all_tokens t))) (tokens_same g s.invocations t.invocations cs ds old new more (all_tokens s) known)
+      (IsPermutation-map (tagged_of ds) (all_tokens s) (all_tokens t) p),
   ap (λ c. memory_of c s.outputs) e ∙ ap (memory_of t.cells) h,
 )

@@ -19,7 +19,8 @@ abbrev at_uses : Context → Value → List (Statement × Port) → List Tagged
 at_uses c v us = map (λ (u : Statement × Port). tagged c u.0 u.1 v) us
 
 operands_sent : (cs : List Context) (x : Sent) (n p m i : ℕ) (ss : List Source)
-    → map (tagged_of cs) (operand_tokens x n p m i ss) ≡ at_uses (name_in cs x.context) x.value (map (λ i. (Meaning.AtNode m, Meaning.Operand i)) (positions n p i ss))
+    → map (tagged_of cs) (operand_tokens x n p m i ss) ≡ at_uses (name_in cs x.context) x.value (map (λ i. (Meaning.AtNode m, Meaning.Operand i))
+    (positions n p i ss))
 operands_sent cs x n p m i [] = refl
 operands_sent cs x n p m i (s ∷ ss) =
     let c = name_in cs x.context in
@@ -43,11 +44,13 @@ nodes_sent g cs x n p m (line ∷ lines) =
     ∙ ap (λ zs. at_uses c x.value u ++ zs) (nodes_sent g cs x n p (m + 1) lines)
     ∙ sym (map-append (λ (u : Statement × Port). tagged c u.0 u.1 x.value) u (uses_at n p (m + 1) (map (row_in g) lines)))
 
-flags_sent : (cs : List Context) (x : Sent) (from k : ℕ) → map (tagged_of cs) (flag_tokens x from k) ≡ at_uses (name_in cs x.context) x.value (turns_from from k)
+flags_sent : (cs : List Context) (x : Sent) (from k : ℕ) → map (tagged_of cs) (flag_tokens x from k) ≡ at_uses (name_in cs x.context) x.value
+    (turns_from from k)
 flags_sent cs x from zero = refl
 flags_sent cs x from (suc k) = ap (λ zs. tagged (name_in cs x.context) (Meaning.AtTurn from) Meaning.Flag x.value ∷ zs) (flags_sent cs x (from + 1) k)
 
-turned_sent : (cs : List Context) (x : Sent) (inputs j : ℕ) → map (tagged_of cs) (turned_tokens x inputs j) ≡ at_uses (name_in cs x.context) x.value (turns_of inputs j)
+turned_sent : (cs : List Context) (x : Sent) (inputs j : ℕ) → map (tagged_of cs) (turned_tokens x inputs j) ≡ at_uses (name_in cs x.context) x.value
+    (turns_of inputs j)
 turned_sent cs x inputs zero = flags_sent cs x 1 inputs
 turned_sent cs x inputs (suc j) = refl
 
@@ -58,7 +61,8 @@ result_sent cs x (Called by n) inputs j = refl
 result_sent cs x (Turned by n i) inputs j = turned_sent cs x inputs j
 
 results_sent : (cs : List Context) (x : Sent) (made : Made) (inputs n p j : ℕ) (ss : List Source)
-    → map (tagged_of cs) (results_tokens x made inputs n p j ss) ≡ at_uses (name_in cs x.context) x.value (flat_map (λ j. result_uses (made_of cs made) inputs j) (positions n p j ss))
+    → map (tagged_of cs) (results_tokens x made inputs n p j ss) ≡ at_uses (name_in cs x.context) x.value
+    (flat_map (λ j. result_uses (made_of cs made) inputs j) (positions n p j ss))
 results_sent cs x made inputs n p j [] = refl
 results_sent cs x made inputs n p j (s ∷ ss) =
     let c = name_in cs x.context in

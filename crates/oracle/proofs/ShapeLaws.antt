@@ -1,5 +1,6 @@
 -- The tokens that an activity takes.
-use Rattle.std.proofs.Common.{◌≡◌, ℕ, zero, suc, ◌+◌, ◌<◌, ◌≤◌, Bool, true, false, ◌&&◌, ◌==◌, List, [], ◌∷◌, length, map, Some, None, nat_lt, if◌then◌else◌, refl, sym, ap, ◌∙◌, subst, arith, eqb-true, ltb-true, eq-eqb, ne_eqb}
+use Rattle.std.proofs.Common.{◌≡◌, ℕ, zero, suc, ◌+◌, ◌<◌, ◌≤◌, Bool, true, false, ◌&&◌, ◌==◌, List, [], ◌∷◌, length, map, Some, None, nat_lt}
+use Rattle.std.proofs.Common.{if◌then◌else◌, refl, sym, ap, ◌∙◌, subst, arith, eqb-true, ltb-true, eq-eqb, ne_eqb}
 use Rattle.std.proofs.lemmas.Option.{same_Some}
 use Rattle.tags.specs.declared.value.Value.{Value}
 use Rattle.semantics.specs.declared.graph.Kind.{Kind}
@@ -17,7 +18,8 @@ use Rattle.oracle.specs.declared.shapes.Shape.TheVariants.{Fires, Gates, Passes,
 use Rattle.oracle.specs.Deeds.{Deed}
 use Rattle.oracle.specs.declared.tokens.Spot.{Spot}
 use Rattle.oracle.specs.declared.tokens.Spot.TheVariants.{Operand, Predicate, Out, Flag, Carried}
-use Rattle.oracle.specs.Lines.{same_spot, operand_spots, spots_in, takes_all, node_shape, fires_shape, operand_shape, enter_shape, predicate_shape, out_shape, turn_shape, shape_in, line_of}
+use Rattle.oracle.specs.Lines.{same_spot, operand_spots, spots_in, takes_all, node_shape, fires_shape, operand_shape, enter_shape, predicate_shape}
+use Rattle.oracle.specs.Lines.{out_shape, turn_shape, shape_in, line_of}
 use Rattle.oracle.specs.Acting.{deed_in, returned_deed, turned_deed, shown_deed}
 use Rattle.oracle.specs.Agreeing.{own, zipped}
 use Rattle.oracle.specs.Meant.{name_in, made_of, tagged_of, activity_of}
@@ -151,7 +153,8 @@ operands_taken cs c n from (suc k) (v ∷ vs) h =
     ap (λ ts. tagged (name_in cs c) (Meaning.AtNode n) (Meaning.Operand from) v ∷ ts) (operands_taken cs c n (from + 1) k vs (omega (arith, h)))
 
 -- What is joined is what the activity takes.
-pub taken_law : (g : Graph) (cs : List Context) (c : ℕ) (x : Invocation) → made_of cs x.made ≡ name_in cs c → (shape : Shape) (vs : List Value) (d : Deed) → deed_in g c x shape vs ≡ Some d
+pub taken_law : (g : Graph) (cs : List Context) (c : ℕ) (x : Invocation) → made_of cs x.made ≡ name_in cs c
+    → (shape : Shape) (vs : List Value) (d : Deed) → deed_in g c x shape vs ≡ Some d
     → length vs ≡ length (spots_in shape) → map (tagged_of cs) (zipped c (spots_in shape) vs) ≡ taken (activity_of cs c x.made shape vs)
 taken_law g cs c x is (Fires n k) vs d e h = operands_taken cs c n 0 k vs h
 taken_law g cs c x is (Gates n) [] d e h = cc

@@ -1,5 +1,6 @@
 -- The tokens that a deed adds, by numbers of invocations and by their names.
-use Rattle.std.proofs.Common.{◌≡◌, ℕ, zero, suc, ◌+◌, ◌<◌, Bool, true, false, List, [], ◌∷◌, ◌++◌, map, length, Option, Some, None, slice_get, if◌then◌else◌, refl, sym, ap, ◌∙◌, subst}
+use Rattle.std.proofs.Common.{◌≡◌, ℕ, zero, suc, ◌+◌, ◌<◌, Bool, true, false, List, [], ◌∷◌, ◌++◌, map, length, Option, Some, None, slice_get}
+use Rattle.std.proofs.Common.{if◌then◌else◌, refl, sym, ap, ◌∙◌, subst}
 use Rattle.std.specs.Prelude.{option_map}
 use Rattle.tags.specs.declared.value.Value.{Value}
 use Rattle.semantics.specs.declared.graph.Region.{Region}
@@ -19,7 +20,8 @@ use Rattle.oracle.specs.declared.sending.Sent.{Sent}
 use Rattle.oracle.specs.declared.tokens.Token.{Token}
 use Rattle.oracle.specs.declared.tokens.Spot.TheVariants.{Operand, Predicate}
 use Rattle.oracle.specs.Lines.{resolved_in}
-use Rattle.oracle.specs.Sending.{token_at, is_port_of, operand_tokens, node_tokens, flag_tokens, turned_tokens, result_tokens, results_tokens, is_gate_of, steered_tokens, entering_tokens}
+use Rattle.oracle.specs.Sending.{token_at, is_port_of, operand_tokens, node_tokens, flag_tokens, turned_tokens, result_tokens, results_tokens}
+use Rattle.oracle.specs.Sending.{is_gate_of, steered_tokens, entering_tokens}
 use Rattle.oracle.specs.Running.{sent_of, sent_by, sent_if, sent_in, steered_by, steered_if, steered_in}
 use Rattle.oracle.specs.Meant.{name_in, tagged_of}
 use Rattle.oracle.specs.Naming.{Named}
@@ -67,7 +69,8 @@ told_same g cs x k m (line ∷ lines) =
       | true ↦ ap (λ zs. tagged c (Meaning.AtNode m) Meaning.Predicate x.value ∷ zs) ih
       | false ↦ ih
     ] in
-    cases (is_gate_of k line.region line.kind) ∙ ap (λ b. if b then tagged c (Meaning.AtNode m) Meaning.Predicate x.value ∷ later else later) (gate_test g k line.region line.kind)
+    cases (is_gate_of k line.region line.kind) ∙ ap (λ b. if b then tagged c (Meaning.AtNode m) Meaning.Predicate x.value ∷ later else later)
+    (gate_test g k line.region line.kind)
 
 -- WHAT AN INVOCATION TAKES
 
@@ -84,11 +87,13 @@ operands_of : (x : Sent) (n p m i : ℕ) (ss : List Source) → AreOf x.context 
 operands_of x n p m i [] = tt
 operands_of x n p m i (s ∷ ss) =
     let ih = operands_of x n p m (i + 1) ss in
-    elim (is_port_of s n p) as (λ b. AreOf x.context (if b then token_at x (Operand m i) ∷ operand_tokens x n p m (i + 1) ss else operand_tokens x n p m (i + 1) ss)) [ true ↦ (refl, ih) | false ↦ ih ]
+    elim (is_port_of s n p) as (λ b. AreOf x.context (if b then token_at x (Operand m i) ∷ operand_tokens x n p m (i + 1) ss else operand_tokens x n p
+    m (i + 1) ss)) [ true ↦ (refl, ih) | false ↦ ih ]
 
 nodes_of : (x : Sent) (n p m : ℕ) (lines : List (Node (List ℕ))) → AreOf x.context (node_tokens x n p m lines)
 nodes_of x n p m [] = tt
-nodes_of x n p m (line ∷ lines) = each_append (λ (t : Token). t.context ≡ x.context) (operand_tokens x n p m 0 line.sources) (node_tokens x n p (m + 1) lines) (operands_of x n p m 0 line.sources) (nodes_of x n p (m + 1) lines)
+nodes_of x n p m (line ∷ lines) = each_append (λ (t : Token). t.context ≡ x.context) (operand_tokens x n p m 0 line.sources)
+    (node_tokens x n p (m + 1) lines) (operands_of x n p m 0 line.sources) (nodes_of x n p (m + 1) lines)
 
 flags_of : (x : Sent) (from k : ℕ) → AreOf x.context (flag_tokens x from k)
 flags_of x from zero = tt
@@ -107,8 +112,10 @@ results_of : (x : Sent) (made : Made) (inputs n p j : ℕ) (ss : List Source) �
 results_of x made inputs n p j [] = tt
 results_of x made inputs n p j (s ∷ ss) =
     let ih = results_of x made inputs n p (j + 1) ss in
-    elim (is_port_of s n p) as (λ b. AreOf x.context (if b then result_tokens x made inputs j ++ results_tokens x made inputs n p (j + 1) ss else results_tokens x made inputs n p (j + 1) ss)) [
-      | true ↦ each_append (λ (t : Token). t.context ≡ x.context) (result_tokens x made inputs j) (results_tokens x made inputs n p (j + 1) ss) (result_of x made inputs j) ih
+    elim (is_port_of s n p) as (λ b. AreOf x.context (if b then result_tokens x made inputs j ++ results_tokens x made inputs n p (j + 1) ss else
+    results_tokens x made inputs n p (j + 1) ss)) [
+      | true ↦ each_append (λ (t : Token). t.context ≡ x.context) (result_tokens x made inputs j) (results_tokens x made inputs n p (j + 1) ss)
+          (result_of x made inputs j) ih
       | false ↦ ih
     ]
 
@@ -116,7 +123,8 @@ end_result_of : (x : Sent) (k m : ℕ) (lines : List (Node (List ℕ))) → AreO
 end_result_of x k m [] = tt
 end_result_of x k m (line ∷ lines) =
     let ih = end_result_of x k (m + 1) lines in
-    elim (is_gate_of k line.region line.kind) as (λ b. AreOf x.context (if b then token_at x (Predicate m) ∷ steered_tokens x k (m + 1) lines else steered_tokens x k (m + 1) lines)) [ true ↦ (refl, ih) | false ↦ ih ]
+    elim (is_gate_of k line.region line.kind) as (λ b. AreOf x.context (if b then token_at x (Predicate m)
+    ∷ steered_tokens x k (m + 1) lines else steered_tokens x k (m + 1) lines)) [ true ↦ (refl, ih) | false ↦ ih ]
 
 pub entering_of : (c i : ℕ) (vs : List Value) → AreOf c (entering_tokens c i vs)
 entering_of c i [] = tt
@@ -131,15 +139,19 @@ module _ (g : Graph) (xs : List Invocation) (cs : List Context) (named : Named g
   block : block_of (flow_of g) (name_in cs c) ≡ option_map (block_in g) (slice_get g.blocks x.0.block)
   block = ap (block_numbered (flow_of g)) (named.block c x.0 x.1) ∙ block_same g x.0.block
 
-  pub sends_same : (n p : ℕ) → (map (tagged_of cs) (sent_in g xs (sent_of c v) n p) ≡ sent (flow_of g) (name_in cs c) n p v) × AreOf c (sent_in g xs (sent_of c v) n p)
+  pub sends_same : (n p : ℕ) → (map (tagged_of cs) (sent_in g xs (sent_of c v) n p) ≡ sent (flow_of g) (name_in cs c) n p v)
+      × AreOf c (sent_in g xs (sent_of c v) n p)
   sends_same n p =
       let made = x.0.made in
-      let blocks : (o : Option (List ℕ × Block (List ℕ))) → (map (tagged_of cs) (sent_by (sent_of c v) made n p o) ≡ Meaning.sent_in (option_map (block_in g) o) (name_in cs c) n p v) × AreOf c (sent_by (sent_of c v) made n p o)
-      = λ o. elim o as (λ o. (map (tagged_of cs) (sent_by (sent_of c v) made n p o) ≡ Meaning.sent_in (option_map (block_in g) o) (name_in cs c) n p v) × AreOf c (sent_by (sent_of c v) made n p o)) [
+      let blocks : (o : Option (List ℕ × Block (List ℕ))) → (map (tagged_of cs) (sent_by (sent_of c v) made n p o)
+      ≡ Meaning.sent_in (option_map (block_in g) o) (name_in cs c) n p v) × AreOf c (sent_by (sent_of c v) made n p o)
+      = λ o. elim o as (λ o. (map (tagged_of cs) (sent_by (sent_of c v) made n p o) ≡ Meaning.sent_in (option_map (block_in g) o) (name_in cs c) n p
+      v) × AreOf c (sent_by (sent_of c v) made n p o)) [
         | None ↦ (refl, tt)
         | Some b ↦ (
           all_sent g cs (sent_of c v) made n p b (named.made c x.0 x.1),
-          each_append (λ (t : Token). t.context ≡ c) (node_tokens (sent_of c v) n p b.1.inputs b.1.nodes) (results_tokens (sent_of c v) made b.1.inputs n p 0 b.1.results)
+          each_append (λ (t : Token). t.context ≡ c) (node_tokens (sent_of c v) n p b.1.inputs b.1.nodes)
+              (results_tokens (sent_of c v) made b.1.inputs n p 0 b.1.results)
               (nodes_of (sent_of c v) n p b.1.inputs b.1.nodes) (results_of (sent_of c v) made b.1.inputs n p 0 b.1.results),
         )
       ] in
@@ -148,10 +160,13 @@ module _ (g : Graph) (xs : List Invocation) (cs : List Context) (named : Named g
         subst (λ o. AreOf c (sent_if g (sent_of c v) n p o)) (sym x.1) r.1,
       )
 
-  pub tells_same : (k : ℕ) → (map (tagged_of cs) (steered_in g xs (sent_of c v) k) ≡ predicates_in (block_of (flow_of g) (name_in cs c)) (name_in cs c) k v) × AreOf c (steered_in g xs (sent_of c v) k)
+  pub tells_same : (k : ℕ) → (map (tagged_of cs) (steered_in g xs (sent_of c v) k) ≡ predicates_in (block_of (flow_of g) (name_in cs c))
+      (name_in cs c) k v) × AreOf c (steered_in g xs (sent_of c v) k)
   tells_same k =
-      let blocks : (o : Option (List ℕ × Block (List ℕ))) → (map (tagged_of cs) (steered_by (sent_of c v) k o) ≡ predicates_in (option_map (block_in g) o) (name_in cs c) k v) × AreOf c (steered_by (sent_of c v) k o)
-      = λ o. elim o as (λ o. (map (tagged_of cs) (steered_by (sent_of c v) k o) ≡ predicates_in (option_map (block_in g) o) (name_in cs c) k v) × AreOf c (steered_by (sent_of c v) k o)) [
+      let blocks : (o : Option (List ℕ × Block (List ℕ))) → (map (tagged_of cs) (steered_by (sent_of c v) k o)
+      ≡ predicates_in (option_map (block_in g) o) (name_in cs c) k v) × AreOf c (steered_by (sent_of c v) k o)
+      = λ o. elim o as (λ o. (map (tagged_of cs) (steered_by (sent_of c v) k o) ≡ predicates_in (option_map (block_in g) o) (name_in cs c) k v)
+      × AreOf c (steered_by (sent_of c v) k o)) [
         | None ↦ (refl, tt)
         | Some b ↦ (told_same g cs (sent_of c v) k b.1.inputs b.1.nodes, end_result_of (sent_of c v) k b.1.inputs b.1.nodes)
       ] in

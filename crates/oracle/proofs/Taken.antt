@@ -1,7 +1,8 @@
 -- The tokens that an activity takes, one by one.
 use Rattle.std.proofs.Common.{◌≡◌, ℕ, suc, ◌+◌, ◌<◌, ◌⊎◌, inl, inr, List, [], ◌∷◌, length, refl, ap, ◌∙◌, arith}
 use Rattle.tags.specs.declared.value.Value.{Value}
-use Rattle.semantics.specs.Meaning.{Context, Statement, AtNode, AtOut, AtTurn, Port, Tagged, tagged, Activity, taken, operands_from, deed, on_block, on_node, fired, fired_in, input_passed, gated, passed, block_number, block_numbered, block_of}
+use Rattle.semantics.specs.Meaning.{Context, Statement, AtNode, AtOut, AtTurn, Port, Tagged, tagged, Activity, taken, operands_from, deed, on_block}
+use Rattle.semantics.specs.Meaning.{on_node, fired, fired_in, input_passed, gated, passed, block_number, block_numbered, block_of}
 use Rattle.semantics.specs.Meaning as Meaning
 use Rattle.lemmas.proofs.Permutations.{Within, Each, put_first, each_weaker}
 use Rattle.law_confluence.proofs.ActivityKeys.{within_one}
@@ -13,8 +14,14 @@ OperandAt c s from vs y = (i : ℕ) × (y.context ≡ c) × (y.statement ≡ s) 
 
 pub operand_at : (c : Context) (s : Statement) (from : ℕ) (vs : List Value) (y : Tagged) → Within y (operands_from c s from vs) → OperandAt c s from vs y
 operand_at c s from [] y h = absurd h.1
-operand_at c s from (v ∷ vs) y (zs, inl p) =
-    (0, ap (λ (t : Tagged). t.context) p.0, ap (λ (t : Tagged). t.statement) p.0, ap (λ (t : Tagged). t.port) p.0 ∙ ap Meaning.Operand (omega arith), omega arith)
+operand_at c s from (v ∷ vs) y (zs, inl p) = (
+  0,
+  ap (λ (t : Tagged). t.context) p.0,
+  ap (λ (t : Tagged). t.statement) p.0,
+  ap (λ (t : Tagged). t.port) p.0
+      ∙ ap Meaning.Operand (omega arith),
+  omega arith,
+)
 operand_at c s from (v ∷ vs) y (zs, inr p) =
     let r = operand_at c s (from + 1) vs y (p.0, p.2) in
     let low = r.4 in
@@ -23,7 +30,8 @@ operand_at c s from (v ∷ vs) y (zs, inr p) =
 pub no_more : (i : ℕ) → 0 + i ≡ i
 no_more i = omega arith
 
-pub operands_each : (c : Context) (n from : ℕ) (vs : List Value) → Each (λ s. (v : Value) × Within (tagged c (statement_of s) (port_of s) v) (operands_from c (AtNode n) from vs)) (operand_spots n from (length vs))
+pub operands_each : (c : Context) (n from : ℕ) (vs : List Value)
+    → Each (λ s. (v : Value) × Within (tagged c (statement_of s) (port_of s) v) (operands_from c (AtNode n) from vs)) (operand_spots n from (length vs))
 operands_each c n from [] = tt
 operands_each c n from (v ∷ vs) =
     let first = tagged c (AtNode n) (Meaning.Operand from) v in (

@@ -1,5 +1,6 @@
 -- Activities whose tokens are out, and which are not done yet.
-use Rattle.std.proofs.Common.{◌≡◌, ℕ, zero, suc, ◌<◌, List, [], ◌∷◌, ◌++◌, map, flat_map, length, Some, slice_get, IsPermutation, inl, inr, refl, sym, ap, ap₂, ◌∙◌, subst, arith, ⊎_elim, append_assoc, append-nil}
+use Rattle.std.proofs.Common.{◌≡◌, ℕ, zero, suc, ◌<◌, List, [], ◌∷◌, ◌++◌, map, flat_map, length, Some, slice_get, IsPermutation, inl, inr, refl}
+use Rattle.std.proofs.Common.{sym, ap, ap₂, ◌∙◌, subst, arith, ⊎_elim, append_assoc, append-nil}
 use Rattle.std.specs.Prelude.{⊤}
 use Rattle.std.proofs.lemmas.List.{map-append}
 use Rattle.std.proofs.lemmas.List.Sorted.{IsPermutation-refl, IsPermutation-trans, IsPermutation-append_right}
@@ -37,11 +38,14 @@ abbrev pub AreTaking : Graph → ℕ → List Context → ℕ → (Deed → Type
 AreTaking g k cs m P held [] [] = held ≡ []
 AreTaking g k cs m P held (act ∷ acts) [] = ⊥
 AreTaking g k cs m P held [] (a ∷ as') = ⊥
-AreTaking g k cs m P held (act ∷ acts) (a ∷ as') = (own : List Token) × (rest : List Token) × (held ≡ own ++ rest) × Taking g k cs m own act a × P act.1 × AreTaking g k cs m P rest acts as'
+AreTaking g k cs m P held (act ∷ acts) (a ∷ as') = (own : List Token) × (rest : List Token) × (held ≡ own ++ rest) × Taking g k cs m own act a
+    × P act.1 × AreTaking g k cs m P rest acts as'
 
 -- one more at the end
-pub taking_more : (g : Graph) (k : ℕ) (cs : List Context) (m : ℕ) (P : Deed → Type 0) (held : List Token) (acts : List (List Value × Deed)) (as' : List Activity) → AreTaking g k cs m P held acts as'
-    → (own : List Token) (act : List Value × Deed) (a : Activity) → Taking g k cs m own act a → P act.1 → AreTaking g k cs m P (held ++ own) (acts ++ act ∷ []) (as' ++ a ∷ [])
+pub taking_more : (g : Graph) (k : ℕ) (cs : List Context) (m : ℕ) (P : Deed → Type 0) (held : List Token) (acts : List (List Value × Deed))
+    (as' : List Activity) → AreTaking g k cs m P held acts as'
+    → (own : List Token) (act : List Value × Deed) (a : Activity) → Taking g k cs m own act a → P act.1
+    → AreTaking g k cs m P (held ++ own) (acts ++ act ∷ []) (as' ++ a ∷ [])
 taking_more g k cs m P held [] [] h own act a t p = (own, [], ap (λ l. l ++ own) h ∙ sym (append-nil own), t, p, refl)
 taking_more g k cs m P held (b ∷ acts) [] h own act a t p = absurd h
 taking_more g k cs m P held [] (b ∷ as') h own act a t p = absurd h
@@ -64,7 +68,8 @@ module _ (g : Graph) (k : ℕ) (xs ys : List Invocation) (cs ds : List Context) 
   known_more [] h = tt
   known_more (t ∷ ts) h = let long = as_long xs ys more in let low = h.0 in (omega (arith, low, long), known_more ts h.1)
 
-  pub taking_one : (j : ℕ) (own : List Token) (act : List Value × Deed) (a : Activity) → (DeedTurn k act.1 → DeedTurn j act.1) → Taking g k cs (length xs) own act a → Taking g j ds (length ys) own act a
+  pub taking_one : (j : ℕ) (own : List Token) (act : List Value × Deed) (a : Activity) → (DeedTurn k act.1 → DeedTurn j act.1)
+      → Taking g k cs (length xs) own act a → Taking g j ds (length ys) own act a
   taking_one j own act a turn t = record {
     known = known_more own t.known;
     takes = tokens_same g xs ys cs ds old new more own t.known ∙ t.takes;
@@ -75,7 +80,8 @@ module _ (g : Graph) (k : ℕ) (xs ys : List Invocation) (cs ds : List Context) 
   }
 
   pub taking_moved : (j : ℕ) (P Q : Deed → Type 0) → ((d : Deed) → DeedTurn k d → DeedTurn j d) → ((d : Deed) → P d → Q d)
-      → (held : List Token) (acts : List (List Value × Deed)) (as' : List Activity) → AreTaking g k cs (length xs) P held acts as' → AreTaking g j ds (length ys) Q held acts as'
+      → (held : List Token) (acts : List (List Value × Deed)) (as' : List Activity) → AreTaking g k cs (length xs) P held acts as'
+      → AreTaking g j ds (length ys) Q held acts as'
   taking_moved j P Q turn to held [] [] h = h
   taking_moved j P Q turn to held (b ∷ acts) [] h = absurd h
   taking_moved j P Q turn to held [] (b ∷ as') h = absurd h
@@ -83,7 +89,8 @@ module _ (g : Graph) (k : ℕ) (xs ys : List Invocation) (cs ds : List Context) 
       (h.0, h.1, h.2, taking_one j h.0 b c (turn b.1) h.3, to b.1 h.4, taking_moved j P Q turn to h.1 acts as' h.5)
 
 -- WHAT IS TAKEN in all
-pub all_taken : (g : Graph) (k : ℕ) (cs : List Context) (m : ℕ) (P : Deed → Type 0) (held : List Token) (acts : List (List Value × Deed)) (as' : List Activity) → AreTaking g k cs m P held acts as'
+pub all_taken : (g : Graph) (k : ℕ) (cs : List Context) (m : ℕ) (P : Deed → Type 0) (held : List Token) (acts : List (List Value × Deed))
+    (as' : List Activity) → AreTaking g k cs m P held acts as'
     → map (tagged_of cs) held ≡ flat_map taken as'
 all_taken g k cs m P held [] [] h = ap (map (tagged_of cs)) h
 all_taken g k cs m P held (b ∷ acts) [] h = absurd h
@@ -91,7 +98,8 @@ all_taken g k cs m P held [] (b ∷ as') h = absurd h
 all_taken g k cs m P held (b ∷ acts) (c ∷ as') h =
     ap (map (tagged_of cs)) h.2 ∙ map-append (tagged_of cs) h.0 h.1 ∙ ap₂ (λ (a b : List Tagged). a ++ b) h.3.takes (all_taken g k cs m P h.1 acts as' h.5)
 
-pub as_many : (g : Graph) (k : ℕ) (cs : List Context) (m : ℕ) (P : Deed → Type 0) (held : List Token) (acts : List (List Value × Deed)) (as' : List Activity) → AreTaking g k cs m P held acts as'
+pub as_many : (g : Graph) (k : ℕ) (cs : List Context) (m : ℕ) (P : Deed → Type 0) (held : List Token) (acts : List (List Value × Deed))
+    (as' : List Activity) → AreTaking g k cs m P held acts as'
     → length as' ≡ length acts
 as_many g k cs m P held [] [] h = refl
 as_many g k cs m P held (b ∷ acts) [] h = absurd h
@@ -99,7 +107,8 @@ as_many g k cs m P held [] (b ∷ as') h = absurd h
 as_many g k cs m P held (b ∷ acts) (c ∷ as') h = ap suc (as_many g k cs m P h.1 acts as' h.5)
 
 -- each activity of the list
-pub taking_at : (g : Graph) (k : ℕ) (cs : List Context) (m : ℕ) (P : Deed → Type 0) (held : List Token) (acts : List (List Value × Deed)) (as' : List Activity) → AreTaking g k cs m P held acts as'
+pub taking_at : (g : Graph) (k : ℕ) (cs : List Context) (m : ℕ) (P : Deed → Type 0) (held : List Token) (acts : List (List Value × Deed))
+    (as' : List Activity) → AreTaking g k cs m P held acts as'
     → (a : Activity) → Within a as' → (own : List Token) × (act : List Value × Deed) × Taking g k cs m own act a × P act.1
 taking_at g k cs m P held [] [] h a w = absurd w.1
 taking_at g k cs m P held (b ∷ acts) [] h a w = absurd h
@@ -111,12 +120,18 @@ taking_at g k cs m P held (b ∷ acts) (c ∷ as') h a (zs, inr p) = taking_at g
 pub flat_within : (u : Tagged) (as' : List Activity) → Within u (flat_map taken as') → (a : Activity) × Within a as' × Within u (taken a)
 flat_within u [] w = absurd w.1
 flat_within u (a ∷ as') w =
-    ⊎_elim (λ l. (a, (as', put_first a as'), l)) (λ r. let h = flat_within u as' r in (h.0, (a ∷ h.1.0, put_later h.0 a h.1.0 as' h.1.1), h.2)) (within_append u (taken a) (flat_map taken as') w)
+    ⊎_elim (λ l. (a, (as', put_first a as'), l)) (λ r. let h = flat_within u as' r in (h.0, (a ∷ h.1.0, put_later h.0 a h.1.0 as' h.1.1), h.2))
+    (within_append u (taken a) (flat_map taken as') w)
 
 -- one of the activities and what the others take
-pub one_taken : (as' : List Activity) (i : ℕ) (a : Activity) → slice_get as' i ≡ Some a → (others : List Tagged) × IsPermutation (flat_map taken as') (taken a ++ others)
+pub one_taken : (as' : List Activity) (i : ℕ) (a : Activity) → slice_get as' i ≡ Some a → (others : List Tagged)
+    × IsPermutation (flat_map taken as') (taken a ++ others)
 one_taken [] i a e = cc
-one_taken (b ∷ as') zero a e = let same : b ≡ a = cc in (flat_map taken as', subst (λ x. IsPermutation (taken b ++ flat_map taken as') (taken x ++ flat_map taken as')) same (IsPermutation-refl _))
+one_taken (b ∷ as') zero a e = let same : b ≡ a = cc
+    in (flat_map taken as', subst (λ x. IsPermutation (taken b ++ flat_map taken as') (taken x ++ flat_map taken as')) same (IsPermutation-refl _))
 one_taken (b ∷ as') (suc i) a e =
-    let h = one_taken as' i a e in
-    (taken b ++ h.0, IsPermutation-trans _ _ _ (IsPermutation-append_right (taken b) (flat_map taken as') (taken a ++ h.0) h.1) (permutation_exchange (taken b) (taken a) h.0))
+    let h = one_taken as' i a e in (
+      taken b ++ h.0,
+      IsPermutation-trans _ _ _ (IsPermutation-append_right (taken b) (flat_map taken as') (taken a ++ h.0) h.1)
+          (permutation_exchange (taken b) (taken a) h.0),
+    )

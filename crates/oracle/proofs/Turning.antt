@@ -1,6 +1,7 @@
 -- What else a deed may name: the turn of an iteration, which no run brings above its length, and an output, which main
 -- has.
-use Rattle.std.proofs.Common.{◌≡◌, ℕ, suc, ◌+◌, ◌-◌, ◌<◌, ◌^◌, ℤ, true, false, ◌==◌, List, [], ◌∷◌, length, Option, Some, None, nat_lt, slice_get, if◌then◌else◌, refl, sym, ap, ◌∙◌, subst, arith, ⊎_elim}
+use Rattle.std.proofs.Common.{◌≡◌, ℕ, suc, ◌+◌, ◌-◌, ◌<◌, ◌^◌, ℤ, true, false, ◌==◌, List, [], ◌∷◌, length, Option, Some, None, nat_lt, slice_get}
+use Rattle.std.proofs.Common.{if◌then◌else◌, refl, sym, ap, ◌∙◌, subst, arith, ⊎_elim}
 use Rattle.std.specs.Prelude.{⊤, option_map}
 use Rattle.std.proofs.lemmas.Option.{same_Some}
 use Rattle.tags.specs.declared.value.Value.{Value}
@@ -29,7 +30,8 @@ use Rattle.oracle.specs.declared.shapes.Shape.{Shape}
 use Rattle.oracle.specs.declared.shapes.Shape.TheVariants.{Fires, Gates, Passes, Returns, Turns, Outputs}
 use Rattle.oracle.specs.Deeds.{Deed, Sends, Enters, EntersAll, Stops}
 use Rattle.oracle.specs.Lines.{line_of, origin_of, first_of, len_of, inputs_in as own_inputs, inputs_at, outputs_at, outputs_in}
-use Rattle.oracle.specs.Acting.{fetch_deed, store_deed, one_deed, two_deed, input_deed, fired_deed, line_deed, node_gated, gated_deed, node_passed, passed_deed, next_turn, turned_deed, returned_deed, shown_deed, deed_in}
+use Rattle.oracle.specs.Acting.{fetch_deed, store_deed, one_deed, two_deed, input_deed, fired_deed, line_deed, node_gated, gated_deed, node_passed}
+use Rattle.oracle.specs.Acting.{passed_deed, next_turn, turned_deed, returned_deed, shown_deed, deed_in}
 use Rattle.oracle.specs.Running.{main_place}
 use Rattle.oracle.specs.Agreeing.{block_in}
 use Rattle.oracle.proofs.Resolved.{block_same}
@@ -86,7 +88,8 @@ module _ (g : Graph) (k c n : ℕ) where
 
   line_turn : (l : Line) (vs : List Value) (o : Origin) → TurnIf k (line_deed g c n l vs o)
   line_turn Input vs o = input_turn vs
-  line_turn (Node r kind arity) vs o = elim (length vs == arity) as (λ b. TurnIf k (if b then fired_deed g c n kind vs o else None)) [ true ↦ fired_turn kind vs o | false ↦ tt ]
+  line_turn (Node r kind arity) vs o = elim (length vs == arity) as (λ b. TurnIf k (if b then fired_deed g c n kind vs o else None))
+      [ true ↦ fired_turn kind vs o | false ↦ tt ]
   line_turn Nothing vs o = tt
 
   gated_turn : (r : Region) (kind : Kind ℕ) (v b : Value) → TurnIf k (node_gated c n r kind v b)
@@ -115,7 +118,8 @@ turns_turn k Main h block j b v = tt
 turns_turn k (Called by n) h block j b v = tt
 turns_turn k (Turned by n i) h block j b v =
     elim (truth b) as (λ t. TurnIf k (if t then next_turn by n i block j v else Some (Sends by n (j - 1) v))) [
-      | true ↦ elim (nat_lt (i + 1) (2 ^ 64)) as (λ u. TurnIf k (if u then Some (Enters (Turned by n (i + 1)) block (j - 1) v) else None)) [ true ↦ omega (arith, h) | false ↦ tt ]
+      | true ↦ elim (nat_lt (i + 1) (2 ^ 64)) as (λ u. TurnIf k (if u then Some (Enters (Turned by n (i + 1)) block (j - 1) v) else None))
+          [ true ↦ omega (arith, h) | false ↦ tt ]
       | false ↦ tt
     ]
 
@@ -149,14 +153,16 @@ turn_in g k c x h (Outputs j) [] = tt
 turn_in g k c x h (Outputs j) (v ∷ []) = show_turn k x.made j v
 turn_in g k c x h (Outputs j) (v ∷ w ∷ vs) = tt
 
-pub turn_law : (g : Graph) (k c : ℕ) (x : Invocation) → TurnBelow k x.made → (shape : Shape) (vs : List Value) (d : Deed) → deed_in g c x shape vs ≡ Some d → DeedTurn k d
+pub turn_law : (g : Graph) (k c : ℕ) (x : Invocation) → TurnBelow k x.made → (shape : Shape) (vs : List Value) (d : Deed) → deed_in g c x shape vs
+    ≡ Some d → DeedTurn k d
 turn_law g k c x h shape vs d e = let P : Option Deed → Type 0 = TurnIf k in subst P e (turn_in g k c x h shape vs)
 
 -- INPUTS AND OUTPUTS
 
 pub inputs_same : (g : Graph) → inputs_at g (main_place g) ≡ inputs_of (flow_of g)
 inputs_same g =
-    let cases : (o : Option (List ℕ × Block (List ℕ))) → slice_get g.blocks (main_place g) ≡ o → inputs_at g (main_place g) ≡ inputs_in (option_map (block_in g) o)
+    let cases : (o : Option (List ℕ × Block (List ℕ))) → slice_get g.blocks (main_place g) ≡ o → inputs_at g (main_place g)
+    ≡ inputs_in (option_map (block_in g) o)
     = λ o. elim o as (λ o. slice_get g.blocks (main_place g) ≡ o → inputs_at g (main_place g) ≡ inputs_in (option_map (block_in g) o)) [
       | None ↦ λ e. ap own_inputs e
       | Some b ↦ λ e. ap own_inputs e
@@ -172,12 +178,14 @@ use_low b c n p j q (AsCarried i es eq low src) = cc
 module _ (g : Graph) (well : WellFormed g) where
   main_results : (b : Block ℕ) → block_of (flow_of g) Meaning.Main ≡ Some b → length b.results ≡ outputs_at g (main_place g)
   main_results b e =
-      let cases : (o : Option (List ℕ × Block (List ℕ))) → slice_get g.blocks (main_place g) ≡ o → option_map (block_in g) o ≡ Some b → length b.results ≡ outputs_at g (main_place g)
+      let cases : (o : Option (List ℕ × Block (List ℕ))) → slice_get g.blocks (main_place g) ≡ o → option_map (block_in g) o ≡ Some b
+      → length b.results ≡ outputs_at g (main_place g)
       = λ o. elim o as (λ o. slice_get g.blocks (main_place g) ≡ o → option_map (block_in g) o ≡ Some b → length b.results ≡ outputs_at g (main_place g)) [
         | None ↦ λ q h. cc
         | Some named ↦ λ q h.
             let same : block_in g named ≡ b = same_Some (block_in g named) b h in
-            let here : IsBlockWell g named.1 = all_at (λ (named : List ℕ × Block (List ℕ)). IsBlockWell g named.1) g.blocks (main_place g) named well.blocks q in
+            let here : IsBlockWell g named.1 = all_at (λ (named : List ℕ × Block (List ℕ)). IsBlockWell g named.1) g.blocks (main_place g) named
+            well.blocks q in
             ap (λ (b : Block ℕ). length b.results) (sym same) ∙ here.result_count ∙ ap outputs_in (sym q)
       ] in
       cases (slice_get g.blocks (main_place g)) refl (sym (block_same g (main_place g)) ∙ e)

@@ -1,11 +1,13 @@
 -- Among the tokens that wait, no activity has all that it takes; and where only they and deferred fetches are left, no
 -- activity is enabled and no store clashes.
-use Rattle.std.proofs.Common.{◌≡◌, ℕ, ◌<◌, ◌⊎◌, inl, inr, true, false, List, [], ◌∷◌, ◌++◌, map, length, Option, Some, None, slice_get, if◌then◌else◌, refl, sym, ap, ◌∙◌, subst, arith, ⊎_elim}
+use Rattle.std.proofs.Common.{◌≡◌, ℕ, ◌<◌, ◌⊎◌, inl, inr, true, false, List, [], ◌∷◌, ◌++◌, map, length, Option, Some, None, slice_get}
+use Rattle.std.proofs.Common.{if◌then◌else◌, refl, sym, ap, ◌∙◌, subst, arith, ⊎_elim}
 use Rattle.std.proofs.lemmas.List.{map-append}
 use Rattle.std.proofs.lemmas.Option.{same_Some}
 use Rattle.tags.specs.declared.value.Value.{Value}
 use Rattle.semantics.specs.Graph.{Graph, Flow, flow_of}
-use Rattle.semantics.specs.Meaning.{Context, Statement, AtNode, Port, Tagged, tagged, Memory, State, Effect, Activity, taken, deed, done, adds, tokens_of, block_number, Step, AtRest, Clashes}
+use Rattle.semantics.specs.Meaning.{Context, Statement, AtNode, Port, Tagged, tagged, Memory, State, Effect, Activity, taken, deed, done, adds}
+use Rattle.semantics.specs.Meaning.{tokens_of, block_number, Step, AtRest, Clashes}
 use Rattle.semantics.specs.Meaning as Meaning
 use Rattle.law_confluence.specs.Outcome.{NoClash}
 use Rattle.lemmas.proofs.Permutations.{Within, Each, put_first, put_later, each_within, within_append, within_right, each_weaker, within_map}
@@ -64,7 +66,8 @@ stuck_left fl f t ss w stuck a d e h =
     subst (λ y. Within y (map f w)) b.2 (within_map f b.0 w (left_within t ss w b.0 b.1)))
     (taken a) h)
 
-module _ (g : Graph) (xs : List Invocation) (cs : List Context) (named : Named g xs cs) (differ : MadesDiffer xs) (t : Token) (x : Invocation) (at : slice_get xs t.context ≡ Some x) (low : t.context < length xs)
+module _ (g : Graph) (xs : List Invocation) (cs : List Context) (named : Named g xs cs) (differ : MadesDiffer xs) (t : Token) (x : Invocation)
+    (at : slice_get xs t.context ≡ Some x) (low : t.context < length xs)
     (w : List Token) (known : AreKnown (length xs) w) where
   made : made_of cs x.made ≡ name_in cs t.context
   made = named.made t.context x at
@@ -94,7 +97,8 @@ module _ (g : Graph) (xs : List Invocation) (cs : List Context) (named : Named g
       only u (zs, inl p) = p.0
       only u (zs, inr p) = absurd p.2
 
-  there_all : (a : Activity) (ss : List Spot) → Held (map (tagged_of cs) (w ++ t ∷ [])) (taken a) → Each (TakesAt a (name_in cs t.context)) ss → all_there t ss w ≡ true
+  there_all : (a : Activity) (ss : List Spot) → Held (map (tagged_of cs) (w ++ t ∷ [])) (taken a) → Each (TakesAt a (name_in cs t.context)) ss
+      → all_there t ss w ≡ true
   there_all a [] held h = refl
   there_all a (s ∷ ss) held h = ap (λ b. if b then all_there t ss w else false) (there_one a s held h.0) ∙ there_all a ss held h.1
 
@@ -104,7 +108,8 @@ module _ (g : Graph) (xs : List Invocation) (cs : List Context) (named : Named g
       let f = tagged_of cs in
       let sides : Each (λ y. Within y (map f w) ⊎ (y ≡ f t)) (taken a) =
       each_weaker (λ y. Within y (map f (w ++ t ∷ []))) (λ y. Within y (map f w) ⊎ (y ≡ f t))
-      (λ y k. ⊎_elim (λ p. inl p) (λ p. inr (last y p)) (within_append y (map f w) (f t ∷ []) (subst (λ l. Within y l) (map-append f w (t ∷ [])) k))) (taken a) held in
+      (λ y k. ⊎_elim (λ p. inl p) (λ p. inr (last y p)) (within_append y (map f w) (f t ∷ []) (subst (λ l. Within y l) (map-append f w (t ∷ [])) k)))
+      (taken a) held in
       ⊎_elim (λ all. stuck a d e all)
       (λ one.
       let has = shaped g cs t x made block a d e (subst (λ y. Within y (taken a)) one.2 one.1) in
@@ -131,18 +136,21 @@ pub record IsDeferred (fl : Flow) (cells : ℕ → Option Value) (t : Tagged) : 
 abbrev ReadsEmpty : (ℕ → Option Value) → Meaning.Deed → Type 0
 ReadsEmpty cells d = (c : Context) × (n : ℕ) × (x : ℕ) × (d ≡ Meaning.Reads c n x) × (cells x ≡ None)
 
-module _ (fl : Flow) (cells : ℕ → Option Value) (ts waiting deferred : List Tagged) (all : Unique ts) (here : ts ≡ waiting ++ deferred) (stuck : Stuck fl waiting) (defers : Each (IsDeferred fl cells) deferred) where
+module _ (fl : Flow) (cells : ℕ → Option Value) (ts waiting deferred : List Tagged) (all : Unique ts) (here : ts ≡ waiting ++ deferred)
+    (stuck : Stuck fl waiting) (defers : Each (IsDeferred fl cells) deferred) where
   reads_empty : (a : Activity) (d : Meaning.Deed) → deed fl a ≡ Some d → Held ts (taken a) → ReadsEmpty cells d
   reads_empty a d e held =
       let sides : Each (λ y. Within y waiting ⊎ Within y deferred) (taken a) =
-      each_weaker (λ y. Within y ts) (λ y. Within y waiting ⊎ Within y deferred) (λ y k. within_append y waiting deferred (subst (λ l. Within y l) here k)) (taken a) held in
+      each_weaker (λ y. Within y ts) (λ y. Within y waiting ⊎ Within y deferred)
+      (λ y k. within_append y waiting deferred (subst (λ l. Within y l) here k)) (taken a) held in
       ⊎_elim (λ k. absurd (stuck a d e k))
       (λ one.
       let f = each_within (IsDeferred fl cells) one.0 deferred one.2 defers in
       let b = Meaning.Fires f.context f.node (f.value ∷ []) in
       let y = tagged f.context (AtNode f.node) (Meaning.Operand 0) f.value in
       let mine : Within y ts = subst (λ z. Within z ts) f.is (subst (λ l. Within one.0 l) (sym here) (within_right one.0 waiting deferred one.2)) in
-      let same = same_activity fl ts all a b d (Meaning.Reads f.context f.node f.cell) e f.fetch held (mine, tt) one.0 one.1 (subst (λ z. Within z (y ∷ [])) (sym f.is) ([], put_first y [])) in
+      let same = same_activity fl ts all a b d (Meaning.Reads f.context f.node f.cell) e f.fetch held (mine, tt) one.0 one.1
+      (subst (λ z. Within z (y ∷ [])) (sym f.is) ([], put_first y [])) in
       let deeds : d ≡ Meaning.Reads f.context f.node f.cell = same_Some _ _ (sym e ∙ ap (λ k. deed fl k) same ∙ f.fetch) in
       (f.context, f.node, f.cell, deeds, f.empty))
       (each_either (λ y. Within y waiting) (λ y. Within y deferred) (taken a) sides)

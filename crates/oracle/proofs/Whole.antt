@@ -1,5 +1,6 @@
 -- A whole run of numbered invocations is a run of the meaning, and what it reports is true.
-use Rattle.std.proofs.Common.{◌≡◌, ℕ, zero, suc, ◌+◌, ◌<◌, ◌≤◌, ◌^◌, ℤ, List, [], ◌∷◌, ◌++◌, map, length, Option, Some, None, slice_get, IsPermutation, refl, sym, ap, ◌∙◌, subst, arith, append-nil}
+use Rattle.std.proofs.Common.{◌≡◌, ℕ, zero, suc, ◌+◌, ◌<◌, ◌≤◌, ◌^◌, ℤ, List, [], ◌∷◌, ◌++◌, map, length, Option, Some, None, slice_get}
+use Rattle.std.proofs.Common.{IsPermutation, refl, sym, ap, ◌∙◌, subst, arith, append-nil}
 use Rattle.std.proofs.lemmas.List.Sorted.{IsPermutation-refl}
 use Rattle.std.proofs.lemmas.Option.{same_Some}
 use Rattle.tags.specs.declared.value.Value.{Value}
@@ -54,7 +55,8 @@ module _ (g : Graph) (well : WellFormed g) (inputs : List ℤ) where
   first_named = record {
     count = refl;
     made = λ i y e. let o = only x y i e in subst (λ y. made_of cs y.made ≡ name_in cs i) o.1 (ap (name_in cs) (sym o.0));
-    block = λ i y e. let o = only x y i e in subst (λ y. Meaning.block_number (flow_of g) (name_in cs i) ≡ Some y.block) o.1 (ap (λ i. Meaning.block_number (flow_of g) (name_in cs i)) o.0);
+    block = λ i y e. let o = only x y i e in subst (λ y. Meaning.block_number (flow_of g) (name_in cs i) ≡ Some y.block) o.1
+        (ap (λ i. Meaning.block_number (flow_of g) (name_in cs i)) o.0);
     below = λ i y e. subst (λ y. IsBelow 1 y.made) (only x y i e).1 tt;
   }
 
@@ -68,17 +70,23 @@ module _ (g : Graph) (well : WellFormed g) (inputs : List ℤ) where
         named = first_named;
         differ = λ i j y z e f h. (only x y i e).0 ∙ sym (only x z j f).0;
         turns = λ i y e. subst (λ y. TurnBelow 0 y.made) (only x y i e).1 tt;
-        known = each_append (λ (t : Token). t.context < 1) (entering_tokens 0 0 values) [] (each_weaker (λ (t : Token). t.context ≡ 0) (λ (t : Token). t.context < 1) (λ t e. omega (arith, e)) (entering_tokens 0 0 values) (entering_of 0 0 values)) tt;
+        known = each_append (λ (t : Token). t.context < 1) (entering_tokens 0 0 values) []
+            (each_weaker (λ (t : Token). t.context ≡ 0) (λ (t : Token). t.context < 1) (λ t e. omega (arith, e)) (entering_tokens 0 0 values)
+            (entering_of 0 0 values)) tt;
         stuck = stuck_none (flow_of g) (flow_well g well);
         defers = tt;
         cell_count = cells_long g.arrays;
         output_count = nones_long (outputs_at g (main_place g));
       } in
-      let tokens : map (tagged_of cs) (entering_tokens 0 0 values ++ []) ≡ entering Meaning.Main 0 values = ap (map (tagged_of cs)) (append-nil (entering_tokens 0 0 values)) ∙ entering_same cs 0 0 values in
+      let tokens : map (tagged_of cs) (entering_tokens 0 0 values ++ []) ≡ entering Meaning.Main 0 values = ap (map (tagged_of cs))
+      (append-nil (entering_tokens 0 0 values)) ∙ entering_same cs 0 0 values in
       record {
         sound = sound;
         run = [];
-        is_run = (subst (λ l. IsPermutation (entering Meaning.Main 0 values) l) (sym tokens) (IsPermutation-refl (entering Meaning.Main 0 values)), sym (empty_at_start g.arrays (outputs_at g (main_place g))));
+        is_run = (
+          subst (λ l. IsPermutation (entering Meaning.Main 0 values) l) (sym tokens) (IsPermutation-refl (entering Meaning.Main 0 values)),
+          sym (empty_at_start g.arrays (outputs_at g (main_place g))),
+        );
         count = refl;
       }
 
@@ -118,8 +126,10 @@ module _ (g : Graph) (text : HasText g) (well : WellFormed g) (inputs : List ℤ
   run_law zero k n whole_count low s f =
       let same : k ≡ n = omega (arith, whole_count) in
       let less : k < 2 ^ 64 = omega (arith, whole_count, low) in
-      let cases : (c : Came) → Outcome g inputs k c → RunOut g inputs n (elim c as (λ c. Option (MeanEnd × Plain)) [ Acts t vs d ↦ Some (Steps, t) | Ends t e ↦ Some (e, t) | Broken ↦ None ])
-      = λ c. elim c as (λ c. Outcome g inputs k c → RunOut g inputs n (elim c as (λ c. Option (MeanEnd × Plain)) [ Acts t vs d ↦ Some (Steps, t) | Ends t e ↦ Some (e, t) | Broken ↦ None ])) [
+      let cases : (c : Came) → Outcome g inputs k c
+      → RunOut g inputs n (elim c as (λ c. Option (MeanEnd × Plain)) [ Acts t vs d ↦ Some (Steps, t) | Ends t e ↦ Some (e, t) | Broken ↦ None ])
+      = λ c. elim c as (λ c. Outcome g inputs k c
+      → RunOut g inputs n (elim c as (λ c. Option (MeanEnd × Plain)) [ Acts t vs d ↦ Some (Steps, t) | Ends t e ↦ Some (e, t) | Broken ↦ None ])) [
         | Acts t vs d ↦ λ h. steps_out n t vs d (subst (λ k. Ready g inputs k t vs d) same h)
         | Ends t e ↦ λ h. ends_out k n (omega (arith, same)) t e h
         | Broken ↦ λ h. h
@@ -127,8 +137,18 @@ module _ (g : Graph) (text : HasText g) (well : WellFormed g) (inputs : List ℤ
       cases (next_in g s) (next_law g text well inputs fit k less s.invocations s.cells s.outputs s.fresh s.waiting s.deferred f)
   run_law (suc steps) k n whole_count low s f =
       let less : k < 2 ^ 64 = omega (arith, whole_count, low) in
-      let cases : (c : Came) → Outcome g inputs k c → RunOut g inputs n (elim c as (λ c. Option (MeanEnd × Plain)) [ Acts t vs d ↦ run_of g steps (performed g t vs d) | Ends t e ↦ Some (e, t) | Broken ↦ None ])
-      = λ c. elim c as (λ c. Outcome g inputs k c → RunOut g inputs n (elim c as (λ c. Option (MeanEnd × Plain)) [ Acts t vs d ↦ run_of g steps (performed g t vs d) | Ends t e ↦ Some (e, t) | Broken ↦ None ])) [
+      let cases : (c : Came) → Outcome g inputs k c
+      → RunOut g inputs n (elim c as (λ c. Option (MeanEnd × Plain)) [
+        | Acts t vs d ↦ run_of g steps (performed g t vs d)
+        | Ends t e ↦ Some (e, t)
+        | Broken ↦ None
+      ])
+      = λ c. elim c as (λ c. Outcome g inputs k c
+      → RunOut g inputs n (elim c as (λ c. Option (MeanEnd × Plain)) [
+        | Acts t vs d ↦ run_of g steps (performed g t vs d)
+        | Ends t e ↦ Some (e, t)
+        | Broken ↦ None
+      ])) [
         | Acts t vs d ↦ λ h. run_law steps (suc k) n (omega (arith, whole_count)) low (performed g t vs d) (acted g inputs k t vs d h)
         | Ends t e ↦ λ h. ends_out k n (omega (arith, whole_count)) t e h
         | Broken ↦ λ h. h
@@ -166,15 +186,18 @@ module _ (g : Graph) (text : HasText g) (well : WellFormed g) (inputs : List ℤ
         outcome = outcome_of steps e.run e.state r.0 record { run = e.run; is_run = e.is_run } h.3;
       }
 
-  true_told : (steps : ℕ) (end : MeanEnd) (outputs : List (Option Value)) (as_list : List Full) (o : Option (MeanEnd × Plain)) → RunOut g inputs steps o → end_result_of g o ≡ Some (end, outputs, as_list) → IsMeant g inputs steps end outputs as_list
+  true_told : (steps : ℕ) (end : MeanEnd) (outputs : List (Option Value)) (as_list : List Full) (o : Option (MeanEnd × Plain))
+      → RunOut g inputs steps o → end_result_of g o ≡ Some (end, outputs, as_list) → IsMeant g inputs steps end outputs as_list
   true_told steps end outputs as_list None h e = absurd h
   true_told steps end outputs as_list (Some r) h e =
       let same = same_Some (r.0, r.1.outputs, full_in r.1.cells 0 0 g.arrays) (end, outputs, as_list) e in
       subst (λ (q : MeanEnd × List (Option Value) × List Full). IsMeant g inputs steps q.0 q.1 q.2) same (true_in steps r h)
 
 pub runs_end : RunsEnd
-runs_end g inputs steps text well fit low = ends_in g text well inputs (fit ∙ inputs_same g) steps (run_of g steps (start_of g inputs)) (whole g text well inputs (fit ∙ inputs_same g) steps low)
+runs_end g inputs steps text well fit low = ends_in g text well inputs (fit ∙ inputs_same g) steps (run_of g steps (start_of g inputs))
+    (whole g text well inputs (fit ∙ inputs_same g) steps low)
 
 pub reports_true : ReportsAreTrue
 reports_true g inputs steps end outputs as_list text well fit low e =
-    true_told g text well inputs (fit ∙ inputs_same g) steps end outputs as_list (run_of g steps (start_of g inputs)) (whole g text well inputs (fit ∙ inputs_same g) steps low) e
+    true_told g text well inputs (fit ∙ inputs_same g) steps end outputs as_list (run_of g steps (start_of g inputs))
+    (whole g text well inputs (fit ∙ inputs_same g) steps low) e

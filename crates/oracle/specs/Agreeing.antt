@@ -49,5 +49,6 @@ IsJoin g cs t waiting Fails = ⊤
 
 -- Each join is one, where the token's invocation has the name and the block that its number stands for.
 abbrev pub JoinsAgree : Type 0
-JoinsAgree = (g : Graph) → HasText g → (cs : List Context) (t : Token) (x : Invocation) → made_of cs x.made ≡ name_in cs t.context → block_number (flow_of g) (name_in cs t.context) ≡ Some x.block
+JoinsAgree = (g : Graph) → HasText g → (cs : List Context) (t : Token) (x : Invocation) → made_of cs x.made ≡ name_in cs t.context
+    → block_number (flow_of g) (name_in cs t.context) ≡ Some x.block
     → (waiting : List Token) → IsJoin g cs t waiting (join_in g waiting t (Some x))

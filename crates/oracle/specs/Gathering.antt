@@ -58,7 +58,8 @@ waved_by (Hits e) rows n = Halts e
 
 abbrev pub wave_of_acts : Graph → ℕ → Plain → (ℕ → List Token) → List (List Value × Deed) → Waved
 wave_of_acts g left s rows [] = Halts Rest
-wave_of_acts g left s rows (act ∷ acts) = if nat_lt left (length (act ∷ acts)) then Halts Steps else waved_by (performed_all g s (act ∷ acts)) rows (length (act ∷ acts))
+wave_of_acts g left s rows (act ∷ acts) = if nat_lt left (length (act ∷ acts)) then Halts Steps else waved_by (performed_all g s (act ∷ acts)) rows
+    (length (act ∷ acts))
 
 abbrev pub wave_found : Graph → ℕ → Plain → Gathered → Waved
 wave_found g left s (Found rows d acts) = wave_of_acts g left (plain s.invocations [] [] d s.cells s.outputs) rows acts

@@ -1,5 +1,6 @@
 -- What is at a node's number, and which activity takes a token.
-use Rattle.std.specs.Prelude.{ℕ, ◌+◌, ◌-◌, zero, suc, Bool, true, false, ◌&&◌, ◌==◌, List, [], ◌∷◌, length, Option, Some, None, nat_lt, slice_get, if◌then◌else◌}
+use Rattle.std.specs.Prelude.{ℕ, ◌+◌, ◌-◌, zero, suc, Bool, true, false, ◌&&◌, ◌==◌, List, [], ◌∷◌, length, Option, Some, None, nat_lt, slice_get}
+use Rattle.std.specs.Prelude.{if◌then◌else◌}
 use Rattle.tags.specs.declared.value.Origin.{Origin}
 use Rattle.tags.specs.declared.value.Origin.TheVariants.{Untold, At}
 use Rattle.semantics.specs.declared.graph.Kind.{Kind}

@@ -51,9 +51,11 @@ pub record IsEntered (g : Graph) (xs : List Invocation) (cs : List Context) (mad
 
 -- A deed names what is there: invocations that have numbers, blocks that they invoke, and cells of their arrays.
 abbrev pub DeedsAreKnown : Type 0
-DeedsAreKnown = (g : Graph) (cs : List Context) (m c : ℕ) (x : Invocation) → c < m → IsBelow m x.made → made_of cs x.made ≡ name_in cs c → block_number (flow_of g) (name_in cs c) ≡ Some x.block
+DeedsAreKnown = (g : Graph) (cs : List Context) (m c : ℕ) (x : Invocation) → c < m → IsBelow m x.made → made_of cs x.made ≡ name_in cs c
+    → block_number (flow_of g) (name_in cs c) ≡ Some x.block
     → (shape : Shape) (vs : List Value) (d : Deed) → deed_in g c x shape vs ≡ Some d → IsKnown g cs m vs d
 
 -- Each invocation that is entered has one number, which stands for its name.
 abbrev pub EnteringAgrees : Type 0
-EnteringAgrees = (g : Graph) (xs : List Invocation) (cs : List Context) (made : Made) (block : ℕ) → Named g xs cs → CanEnter g cs (length xs) made block → IsEntered g xs cs made block
+EnteringAgrees = (g : Graph) (xs : List Invocation) (cs : List Context) (made : Made) (block : ℕ) → Named g xs cs
+    → CanEnter g cs (length xs) made block → IsEntered g xs cs made block

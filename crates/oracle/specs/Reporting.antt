@@ -26,7 +26,8 @@ pub record AreFull (g : Graph) (cells : ℕ → Option Value) (cells_in_order : 
   pub all : (x : ℕ) (v : Value) → cells x ≡ Some v → (k : ℕ) × (f : Full) × (slice_get cells_in_order k ≡ Some f) × (x ≡ cell_at g f.array f.index)
       × (f.value ≡ v)
   -- in order of arrays and indexes, so each once
-  pub ascend : (j k : ℕ) (f h : Full) → slice_get cells_in_order j ≡ Some f → slice_get cells_in_order k ≡ Some h → j < k → (f.array < h.array) ⊎ ((f.array ≡ h.array) × (f.index < h.index))
+  pub ascend : (j k : ℕ) (f h : Full) → slice_get cells_in_order j ≡ Some f → slice_get cells_in_order k ≡ Some h → j < k
+      → (f.array < h.array) ⊎ ((f.array ≡ h.array) × (f.index < h.index))
 
 -- why a run ended in the state
 abbrev pub IsEnd : Graph → ℕ → List Activity → State → MeanEnd → Type 0
@@ -62,5 +63,6 @@ RunsEnd = (g : Graph) (inputs : List ℤ) (steps : ℕ) → HasText g → WellFo
 
 -- Whatever it reports is true.
 abbrev pub ReportsAreTrue : Type 0
-ReportsAreTrue = (g : Graph) (inputs : List ℤ) (steps : ℕ) (end : MeanEnd) (outputs : List (Option Value)) (cells_in_order : List Full) → HasText g → WellFormed g → length inputs ≡ inputs_at g (main_place g) → steps < 2 ^ 64
+ReportsAreTrue = (g : Graph) (inputs : List ℤ) (steps : ℕ) (end : MeanEnd) (outputs : List (Option Value)) (cells_in_order : List Full) → HasText g
+    → WellFormed g → length inputs ≡ inputs_at g (main_place g) → steps < 2 ^ 64
     → run_result g inputs steps ≡ Some (end, outputs, cells_in_order) → IsMeant g inputs steps end outputs cells_in_order

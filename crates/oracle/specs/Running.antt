@@ -1,5 +1,6 @@
 -- A run, one activity at a time, of the first token in the list that can act.
-use Rattle.std.specs.Prelude.{ℕ, zero, suc, ◌+◌, Bool, true, false, ◌&&◌, ◌==◌, ℤ, List, [], ◌∷◌, ◌++◌, map, length, Option, Some, None, slice_get, if◌then◌else◌}
+use Rattle.std.specs.Prelude.{ℕ, zero, suc, ◌+◌, Bool, true, false, ◌&&◌, ◌==◌, ℤ, List, [], ◌∷◌, ◌++◌, map, length, Option, Some, None, slice_get}
+use Rattle.std.specs.Prelude.{if◌then◌else◌}
 use Rattle.tags.specs.declared.value.Value.{Value}
 use Rattle.tags.specs.declared.value.Value.TheVariants.{Int}
 use Rattle.semantics.specs.Graph.{Graph, Block, place_of, block_names}
@@ -28,7 +29,14 @@ pub record Plain : Type 0 where
   pub outputs : List (Option Value)
 
 abbrev pub plain : List Invocation → List Token → List Token → List Token → List (Option Value) → List (Option Value) → Plain
-plain xs fresh waiting deferred cells outputs = record { invocations = xs; fresh = fresh; waiting = waiting; deferred = deferred; cells = cells; outputs = outputs }
+plain xs fresh waiting deferred cells outputs = record {
+  invocations = xs;
+  fresh = fresh;
+  waiting = waiting;
+  deferred = deferred;
+  cells = cells;
+  outputs = outputs;
+}
 
 -- JOINING a token with its partners
 pub data Matched : Type 0 where
@@ -135,16 +143,19 @@ answered g xs c n (Some v) = sent_in g xs (sent_of c v) n 0
 
 -- a value enters an invocation, which is made if it does not exist
 abbrev pub entered : Plain → Made → ℕ → ℕ → Value → Plain
-entered s made f i v = plain (with_made s.invocations made f) (s.fresh ++ token_at (sent_of (number_in s.invocations made) v) (Operand i 0) ∷ []) s.waiting s.deferred s.cells s.outputs
+entered s made f i v = plain (with_made s.invocations made f) (s.fresh ++ token_at (sent_of (number_in s.invocations made) v) (Operand i 0) ∷ [])
+    s.waiting s.deferred s.cells s.outputs
 
 abbrev pub performed : Graph → Plain → List Value → Deed → Plain
 performed g s vs (Sends c n p v) = plain s.invocations (s.fresh ++ sent_in g s.invocations (sent_of c v) n p) s.waiting s.deferred s.cells s.outputs
 performed g s vs (Steers c k v) = plain s.invocations (s.fresh ++ steered_in g s.invocations (sent_of c v) k) s.waiting s.deferred s.cells s.outputs
 performed g s vs (Enters made f i v) = entered s made f i v
-performed g s vs (EntersAll made f) = plain (with_made s.invocations made f) (s.fresh ++ entering_tokens (number_in s.invocations made) 0 vs) s.waiting s.deferred s.cells s.outputs
+performed g s vs (EntersAll made f) = plain (with_made s.invocations made f) (s.fresh ++ entering_tokens (number_in s.invocations made) 0 vs)
+    s.waiting s.deferred s.cells s.outputs
 performed g s vs Stops = s
 performed g s vs (Reads c n x) = plain s.invocations (s.fresh ++ answered g s.invocations c n (held_in s.cells x)) s.waiting s.deferred s.cells s.outputs
-performed g s vs (Fills c n x a i v) = plain s.invocations ((s.fresh ++ s.deferred) ++ sent_in g s.invocations (sent_of c v) n 0) s.waiting [] (filled_in s.cells x v) s.outputs
+performed g s vs (Fills c n x a i v) = plain s.invocations ((s.fresh ++ s.deferred) ++ sent_in g s.invocations (sent_of c v) n 0) s.waiting []
+    (filled_in s.cells x v) s.outputs
 performed g s vs (Puts j v) = plain s.invocations s.fresh s.waiting s.deferred s.cells (filled_in s.outputs j v)
 
 -- A RUN of at most a given number of activities

@@ -49,7 +49,8 @@ result_tokens x (Turned c n i) inputs j = turned_tokens x inputs j
 
 abbrev pub results_tokens : Sent → Made → ℕ → ℕ → ℕ → ℕ → List Source → List Token
 results_tokens x made inputs n p j [] = []
-results_tokens x made inputs n p j (s ∷ ss) = if is_port_of s n p then result_tokens x made inputs j ++ results_tokens x made inputs n p (j + 1) ss else results_tokens x made inputs n p (j + 1) ss
+results_tokens x made inputs n p j (s ∷ ss) = if is_port_of s n p then result_tokens x made inputs j ++ results_tokens x made inputs n p (j + 1) ss
+    else results_tokens x made inputs n p (j + 1) ss
 
 -- one token for each use of port p of node n
 abbrev pub sent_tokens : Sent → Made → ℕ → ℕ → Block (List ℕ) → List Token
@@ -66,7 +67,8 @@ is_gate_of k r kind = false
 -- a predicate for each `enter` of an arm of conditional k
 abbrev pub steered_tokens : Sent → ℕ → ℕ → List (Node (List ℕ)) → List Token
 steered_tokens x k m [] = []
-steered_tokens x k m (line ∷ lines) = if is_gate_of k line.region line.kind then token_at x (Predicate m) ∷ steered_tokens x k (m + 1) lines else steered_tokens x k (m + 1) lines
+steered_tokens x k m (line ∷ lines) = if is_gate_of k line.region line.kind then token_at x (Predicate m)
+    ∷ steered_tokens x k (m + 1) lines else steered_tokens x k (m + 1) lines
 
 -- the inputs of an invocation, from a first one on
 abbrev pub entering_tokens : ℕ → ℕ → List Value → List Token

@@ -121,7 +121,8 @@ fn fetch<'a, A: Allocator>(
     origin: Origin,
 ) -> Act
     requires { total_of checked.now.arrays ≤ 65536 }
-    ensures { told result ≡ Acting.fetch_deed context node (Acting.first_in checked.now array) (Values.index_in (Acting.len_in checked.now array) index origin) }
+    ensures { told result ≡ Acting.fetch_deed context node (Acting.first_in checked.now array) (Values.index_in (Acting.len_in checked.now array)
+        index origin) }
 {
     let arrays = arrays_of(checked);
     match index_in(array_len(arrays, array), index, origin) {
@@ -151,7 +152,8 @@ fn store<'a, A: Allocator>(
     origin: Origin,
 ) -> Act
     requires { total_of checked.now.arrays ≤ 65536 }
-    ensures { told result ≡ Acting.store_deed context node (Acting.first_in checked.now array) array operands.1 (Values.index_in (Acting.len_in checked.now array) operands.0 origin) }
+    ensures { told result ≡ Acting.store_deed context node (Acting.first_in checked.now array) array operands.1
+        (Values.index_in (Acting.len_in checked.now array) operands.0 origin) }
 {
     let (index, value) = operands;
     let arrays = arrays_of(checked);

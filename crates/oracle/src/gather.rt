@@ -15,6 +15,7 @@ use tags::value::Value;
 pub type Row<A> = Vec<Token, A>;
 
 /// Adds empty rows, up to that of the invocation.
+#[inline(always)]
 pub fn reach<A: Allocator + Clone>(
     rows: &mut Vec<Row<A>, A>,
     context: usize,

@@ -2,9 +2,11 @@
 
 ghost use Rattle.std.specs.Prelude.{◌≡◌, ◌++◌, ◌∷◌, [], None, Some, length, slice_get, unwrap_or, IfOk, IfSome, OnOk, OnErr};
 ghost use Rattle.std.specs.BTreeMap.{get, Updates, IsUnchanged};
+ghost use Rattle.oracle.specs.Numbering.{key};
 ghost use Rattle.oracle.specs.Running as Running;
 
 use std::alloc::{AllocError, Allocator};
+use std::cmp::Reverse;
 use std::collections::BTreeMap;
 use std::marker::Model;
 
@@ -30,12 +32,13 @@ pub struct Numbered {
     pub number: usize,
 }
 
-/// The invocations in the order in which they were made, and the number of each by the place where it was made. Values enter an
-/// invocation one after the other, so the one that was asked for last is looked at first.
+/// The invocations in the order in which they were made, and the number of each by the place where it was made. The newest come first
+/// in the map, since most of those that are asked for are new. Values enter an invocation one after the other, so the one that was
+/// asked for last is looked at first.
 #[derive(Drop)]
 pub struct Invocations<A: Allocator> {
     table: Vec<Invocation, A>,
-    numbers: BTreeMap<Made, usize, A>,
+    numbers: BTreeMap<Reverse<Made>, usize, A>,
     last: Option<Numbered>,
 }
 
@@ -48,7 +51,7 @@ impl<A: Allocator> Model for Invocations<A> {
 
     ghost view = { λ s. s.table.items };
 
-    ghost invariant = { λ s. IsNumbering ⟦<Made as Ord>⟧.cmp s.numbers s.table.items × IsNumbered s.table.items s.last };
+    ghost invariant = { λ s. IsNumbering ⟦<Reverse<Made> as Ord>⟧.cmp s.numbers s.table.items × IsNumbered s.table.items s.last };
 }
 
 /// Whether both are one place.
@@ -77,15 +80,15 @@ fn is_same(left: Made, right: Made) -> bool
 
 /// The number that the map has for a place. The given one is put there where it has none.
 fn kept_at<A: Allocator + Clone>(
-    numbers: &mut BTreeMap<Made, usize, A>,
+    numbers: &mut BTreeMap<Reverse<Made>, usize, A>,
     made: &Made,
     number: usize,
 ) -> Result<usize, AllocError>
-    ensures number { IfOk result (λ n. n ≡ unwrap_or (get ⟦<Made as Ord>⟧.cmp numbers.old made.now) number) }
-    ensures kept { IfOk result (λ n. Updates ⟦<Made as Ord>⟧.cmp numbers.old numbers.new made.now (Some n)) }
+    ensures number { IfOk result (λ n. n ≡ unwrap_or (get ⟦<Reverse<Made> as Ord>⟧.cmp numbers.old (key made.now)) number) }
+    ensures kept { IfOk result (λ n. Updates ⟦<Reverse<Made> as Ord>⟧.cmp numbers.old numbers.new (key made.now) (Some n)) }
     ensures refused { OnErr result (IsUnchanged numbers.old numbers.new) }
 {
-    Ok(*numbers.entry(*made)?.or_insert(number))
+    Ok(*numbers.entry(Reverse(*made))?.or_insert(number))
 }
 
 impl<A: Allocator + Clone> Invocations<A> {

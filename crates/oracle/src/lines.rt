@@ -24,6 +24,7 @@ pub enum Line {
 }
 
 /// The kind with the places of its array or block for their names.
+#[inline(always)]
 fn resolved<'a, A: Allocator>(checked: &Checked<'a, A>, kind: &Kind<Name<'a>>) -> Kind<usize>
     ensures { result ≡ Lines.resolved_in checked.now kind.now }
 {
@@ -100,6 +101,7 @@ fn line_in<'a, A: Allocator>(checked: &Checked<'a, A>, block: &Block<'a, A>, nod
     }
 }
 
+#[inline(always)]
 fn line_of_node<'a, A: Allocator>(checked: &Checked<'a, A>, node: &Node<'a, A>) -> Line
     ensures { result ≡ Lines.line_of_row checked.now (Some node.now) }
 {

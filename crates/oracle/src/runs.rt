@@ -75,7 +75,8 @@ pub fn start<'a, A: Allocator + Clone>(
     checked: &Checked<'a, A>,
     inputs: &[i64],
 ) -> Result<State<A>, AllocError>
-    ensures { IfOk result (λ s. (plain s.invocations s.fresh.items [] s.deferred.items s.cells.items s.outputs.items ≡ start_of checked.now inputs.now) × (s.waiting.items ≡ [])) }
+    ensures { IfOk result (λ s. (plain s.invocations s.fresh.items [] s.deferred.items s.cells.items s.outputs.items
+        ≡ start_of checked.now inputs.now) × (s.waiting.items ≡ [])) }
 {
     let main = checked.main_place();
     Ok(State {
@@ -96,7 +97,8 @@ fn run<'a, A: Allocator + Clone>(
     steps: u64,
 ) -> Result<MeanEnd, AllocError>
     requires few { total_of checked.now.arrays ≤ 65536 }
-    requires has_end { run_among checked.now steps (plain state.old.invocations state.old.fresh.items [] state.old.deferred.items state.old.cells.items state.old.outputs.items) (rows_of (map (λ v. v.items) state.old.waiting.items)) ≢ None }
+    requires has_end { run_among checked.now steps (plain state.old.invocations state.old.fresh.items [] state.old.deferred.items
+        state.old.cells.items state.old.outputs.items) (rows_of (map (λ v. v.items) state.old.waiting.items)) ≢ None }
     ensures { let old = plain state.old.invocations state.old.fresh.items [] state.old.deferred.items state.old.cells.items state.old.outputs.items in
         let new = plain state.new.invocations state.new.fresh.items [] state.new.deferred.items state.new.cells.items state.new.outputs.items in
         IfOk result (λ e. run_among checked.now steps old (rows_of (map (λ v. v.items) state.old.waiting.items)) ≡ Some (e, new)) }

@@ -19,6 +19,7 @@ pub struct Sent {
 }
 
 /// Whether the source is that port of that node.
+#[inline(always)]
 fn is_port(source: Source, node: usize, port: usize) -> bool
     ensures { result ≡ Sending.is_port_of source node port }
 {
@@ -42,6 +43,7 @@ fn push<A: Allocator>(
 }
 
 /// A token for each of a node's operands that comes from the port.
+#[inline(always)]
 fn send_to_operands<A: Allocator>(
     fresh: &mut VecDeque<Token, A>,
     sent: &Sent,
@@ -78,6 +80,7 @@ fn send_to_nodes<'a, A: Allocator>(
 }
 
 /// A token for each of the nodes' operands that comes from the port. No node before that one has it for a source.
+#[inline(always)]
 fn send_to_later<'a, A: Allocator>(
     fresh: &mut VecDeque<Token, A>,
     sent: &Sent,
@@ -111,6 +114,7 @@ fn send_flags<A: Allocator>(
     Ok(())
 }
 
+#[inline(always)]
 fn send_as_result<A: Allocator>(
     fresh: &mut VecDeque<Token, A>,
     sent: &Sent,
@@ -132,6 +136,7 @@ fn send_as_result<A: Allocator>(
     }
 }
 
+#[inline(always)]
 fn send_to_results<A: Allocator>(
     fresh: &mut VecDeque<Token, A>,
     sent: &Sent,
@@ -151,6 +156,7 @@ fn send_to_results<A: Allocator>(
 }
 
 /// A token for each use of the port in the block.
+#[inline(always)]
 pub fn send<'a, A: Allocator>(
     fresh: &mut VecDeque<Token, A>,
     sent: &Sent,
@@ -236,6 +242,7 @@ pub fn enter_all<A: Allocator>(
 }
 
 /// The value, for that input of an invocation.
+#[inline(always)]
 pub fn enter<A: Allocator>(
     fresh: &mut VecDeque<Token, A>,
     sent: &Sent,

@@ -95,8 +95,10 @@ fn join_for<'a, A: Allocator>(
     requires few { total_of checked.now.arrays ≤ 65536 }
     requires never_fails { Running.join_shape checked.now waiting.old.items token.now invocation.now (Some shape.now) ≢ Fails }
     ensures { IfOk result (λ r. MatchOption r
-        ((Running.join_shape checked.now waiting.old.items token.now invocation.now (Some shape.now) ≡ Alone) × (waiting.new.items ≡ waiting.old.items ++ token.now ∷ []))
-        (λ act. Running.join_shape checked.now waiting.old.items token.now invocation.now (Some shape.now) ≡ Joins waiting.new.items spare.new.values.items (told act))) }
+        ((Running.join_shape checked.now waiting.old.items token.now invocation.now (Some shape.now) ≡ Alone)
+        × (waiting.new.items ≡ waiting.old.items ++ token.now ∷ []))
+        (λ act. Running.join_shape checked.now waiting.old.items token.now invocation.now (Some shape.now)
+        ≡ Joins waiting.new.items spare.new.values.items (told act))) }
 {
     if !take_partners(&mut spare.spots, &mut spare.values, waiting, token, *shape)? {
         waiting.push(*token)?;
@@ -187,7 +189,8 @@ pub fn join_among<'a, A: Allocator + Clone>(
         let row = old token.now.context in
         IfOk result (λ r. MatchOption r
         ((join_of checked.now invocations.now row token.now ≡ Alone) × (with_row old token.now.context (row ++ token.now ∷ []) ≡ new))
-        (λ act. (join_of checked.now invocations.now row token.now ≡ Joins (new token.now.context) spare.new.values.items (told act)) × (with_row old token.now.context (new token.now.context) ≡ new))) }
+        (λ act. (join_of checked.now invocations.now row token.now ≡ Joins (new token.now.context) spare.new.values.items (told act))
+        × (with_row old token.now.context (new token.now.context) ≡ new))) }
 {
     reach(rows, token.context)?;
     join(checked, invocations, &mut rows[token.context], token, spare)
@@ -201,12 +204,14 @@ pub fn next_act<'a, A: Allocator + Clone>(
     spare: &mut Spare<A>,
 ) -> Result<Result<Act, MeanEnd>, AllocError>
     requires few { total_of checked.now.arrays ≤ 65536 }
-    requires never_broken { next_among checked.now (plain state.old.invocations state.old.fresh.items [] state.old.deferred.items state.old.cells.items state.old.outputs.items) (rows_of (map (λ v. v.items) state.old.waiting.items)) ≢ Breaks }
+    requires never_broken { next_among checked.now (plain state.old.invocations state.old.fresh.items [] state.old.deferred.items
+        state.old.cells.items state.old.outputs.items) (rows_of (map (λ v. v.items) state.old.waiting.items)) ≢ Breaks }
     ensures { let old = plain state.old.invocations state.old.fresh.items [] state.old.deferred.items state.old.cells.items state.old.outputs.items in
         let new = plain state.new.invocations state.new.fresh.items [] state.new.deferred.items state.new.cells.items state.new.outputs.items in
         let from = rows_of (map (λ v. v.items) state.old.waiting.items) in
         let to = rows_of (map (λ v. v.items) state.new.waiting.items) in
-        IfOk result (λ r. MatchResult r (λ act. next_among checked.now old from ≡ Goes new to spare.new.values.items (told act)) (λ e. next_among checked.now old from ≡ Stays new e)) }
+        IfOk result (λ r. MatchResult r (λ act. next_among checked.now old from ≡ Goes new to spare.new.values.items (told act))
+        (λ e. next_among checked.now old from ≡ Stays new e)) }
 {
     while let Some(token) = state.fresh.pop_front() {
         let waiting = &mut state.waiting;

@@ -40,12 +40,16 @@ fn gather<'a, A: Allocator + Clone>(
     state: &mut State<A>,
 ) -> Result<Result<Vec<Activity<A>, A>, MeanEnd>, AllocError>
     requires few { total_of checked.now.arrays ≤ 65536 }
-    requires never_failed { gathered checked.now state.old.invocations state.old.cells.items state.old.fresh.items (rows_of (map (λ v. v.items) state.old.waiting.items)) state.old.deferred.items [] ≢ Failed }
-    ensures found { let all = gathered checked.now state.old.invocations state.old.cells.items state.old.fresh.items (rows_of (map (λ v. v.items) state.old.waiting.items)) state.old.deferred.items [] in
+    requires never_failed { gathered checked.now state.old.invocations state.old.cells.items state.old.fresh.items
+        (rows_of (map (λ v. v.items) state.old.waiting.items)) state.old.deferred.items [] ≢ Failed }
+    ensures found { let all = gathered checked.now state.old.invocations state.old.cells.items state.old.fresh.items
+        (rows_of (map (λ v. v.items) state.old.waiting.items)) state.old.deferred.items [] in
         IfOk result (λ r. MatchResult r
-        (λ acts. all ≡ Found (rows_of (map (λ v. v.items) state.new.waiting.items)) state.new.deferred.items (map (λ a. (a.values.items, told a.act)) acts.items))
+        (λ acts. all ≡ Found (rows_of (map (λ v. v.items) state.new.waiting.items)) state.new.deferred.items
+        (map (λ a. (a.values.items, told a.act)) acts.items))
         (λ e. all ≡ Clashed e)) }
-    ensures kept { IfOk result (λ r. IfOk r (λ acts. plain state.new.invocations state.new.fresh.items [] [] state.new.cells.items state.new.outputs.items ≡ plain state.old.invocations [] [] [] state.old.cells.items state.old.outputs.items)) }
+    ensures kept { IfOk result (λ r. IfOk r (λ acts. plain state.new.invocations state.new.fresh.items [] [] state.new.cells.items
+        state.new.outputs.items ≡ plain state.old.invocations [] [] [] state.old.cells.items state.old.outputs.items)) }
 {
     let mut acts = Vec::new(state.waiting.allocator().clone()?);
     let mut spare = Spare::new(state.waiting.allocator().clone()?)?;
@@ -94,7 +98,8 @@ pub fn next_wave<'a, A: Allocator + Clone>(
     left: u64,
 ) -> Result<Result<u64, MeanEnd>, AllocError>
     requires few { total_of checked.now.arrays ≤ 65536 }
-    requires never_broken { wave_among checked.now left (plain state.old.invocations state.old.fresh.items [] state.old.deferred.items state.old.cells.items state.old.outputs.items) (rows_of (map (λ v. v.items) state.old.waiting.items)) ≢ Breaks }
+    requires never_broken { wave_among checked.now left (plain state.old.invocations state.old.fresh.items [] state.old.deferred.items
+        state.old.cells.items state.old.outputs.items) (rows_of (map (λ v. v.items) state.old.waiting.items)) ≢ Breaks }
     ensures wave { let old = plain state.old.invocations state.old.fresh.items [] state.old.deferred.items state.old.cells.items state.old.outputs.items in
         let new = plain state.new.invocations state.new.fresh.items [] state.new.deferred.items state.new.cells.items state.new.outputs.items in
         let all = wave_among checked.now left old (rows_of (map (λ v. v.items) state.old.waiting.items)) in

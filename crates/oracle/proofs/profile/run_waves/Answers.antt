@@ -10,7 +10,8 @@ loop-counts-init g c =
     let first = plain s.invocations s.fresh.items [] s.deferred.items s.cells.items s.outputs.items in (
       suc c.args.steps,
       omega arith,
-      waves_from c.args.checked.now c.args.inputs.now c.args.steps first s.waiting.items (λ v. v.items) c.new-counts.result.items c.in_ok-state.ensures.0 c.in_ok-state.ensures.1 c.new-counts.ensures.items,
+      waves_from c.args.checked.now c.args.inputs.now c.args.steps first s.waiting.items (λ v. v.items) c.new-counts.result.items
+          c.in_ok-state.ensures.0 c.in_ok-state.ensures.1 c.new-counts.ensures.items,
     )
 
 pub next_wave-requires-clause-never_broken : goal.next_wave-requires-clause-never_broken
@@ -18,7 +19,8 @@ next_wave-requires-clause-never_broken g c =
     let s = c.loop-counts.state in
     let now = plain s.invocations s.fresh.items [] s.deferred.items s.cells.items s.outputs.items in
     let rows = rows_of (map (λ v. v.items) s.waiting.items) in
-    λ e. c.requires.has_end (c.loop-counts.invariant.2 ∙ waves_none c.args.checked.now now rows c.loop-counts.counts.items c.loop-counts.invariant.0 c.loop-counts.left e)
+    λ e. c.requires.has_end (c.loop-counts.invariant.2 ∙ waves_none c.args.checked.now now rows c.loop-counts.counts.items c.loop-counts.invariant.0
+    c.loop-counts.left e)
 
 pub loop-counts-preserved : goal.loop-counts-preserved
 loop-counts-preserved g c =
@@ -32,8 +34,10 @@ loop-counts-preserved g c =
     let rows = rows_of (map (λ v. v.items) s.waiting.items) in
     let rs = rows_of (map (λ v. v.items) t.waiting.items) in
     let run_result = c.in_ok-count.ensures in
-    waves_next checked now rows c.loop-counts.counts.items c.loop-counts.invariant.0 left n c.loop-counts.invariant.1 (some_by c.in_ok-count.field-0 n c.in-Ok.is run_result.some) (few_by left c.in_ok-count.field-0 n c.in-Ok.is run_result.few)
-    next rs (passed_by checked left now next rows rs c.in_ok-count.field-0 n c.in-Ok.is run_result.wave) _ c.loop-counts.invariant.2 c.push.new.self.items c.in_ok-push-in-Ok.ensures.items
+    waves_next checked now rows c.loop-counts.counts.items c.loop-counts.invariant.0 left n c.loop-counts.invariant.1
+    (some_by c.in_ok-count.field-0 n c.in-Ok.is run_result.some) (few_by left c.in_ok-count.field-0 n c.in-Ok.is run_result.few)
+    next rs (passed_by checked left now next rows rs c.in_ok-count.field-0 n c.in-Ok.is run_result.wave) _ c.loop-counts.invariant.2
+    c.push.new.self.items c.in_ok-push-in-Ok.ensures.items
 
 pub returns-in-Err : goal.returns-in-Err
 returns-in-Err g c =

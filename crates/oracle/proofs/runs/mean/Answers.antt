@@ -24,4 +24,5 @@ returns-in-Ok-clause-meant g c =
     let fit : length c.args.inputs.now ≡ inputs_at checked (main_place checked) = c.if-inputs-input_count.false ∙ c.input_count.ensures
     ∙ ap (λ g. inputs_at g c.main_place.result) c.graph.ensures.same ∙ ap (inputs_at checked) c.main_place.ensures in
     let low = c.ranges.steps.fits in
-    reports_true checked c.args.inputs.now c.args.steps r.end r.outputs.items r.cells.items c.graph.ensures.limits c.graph.ensures.well fit (omega (arith, low)) c.in-Ok.ensures
+    reports_true checked c.args.inputs.now c.args.steps r.end r.outputs.items r.cells.items c.graph.ensures.limits c.graph.ensures.well fit
+    (omega (arith, low)) c.in-Ok.ensures

@@ -21,7 +21,9 @@ loop-spare-preserved g c =
     let checked = c.args.checked.now in
     let left = c.loop-spare.left in
     let some = c.if-left-eq0.false in
-    let came = subst (λ r. MatchResult r (λ act. next_among checked old from ≡ Goes mid to vs (told act)) (λ e. next_among checked old from ≡ Stays mid e)) c.in-Ok.is c.in_ok-act.ensures in
-    run_goes checked old mid from to vs (told act) left (run_among checked c.args.steps first (rows_of (map (λ v. v.items) f.waiting.items))) (omega (arith, some)) c.loop-spare.invariant came
+    let came = subst (λ r. MatchResult r (λ act. next_among checked old from ≡ Goes mid to vs (told act)) (λ e. next_among checked old from
+    ≡ Stays mid e)) c.in-Ok.is c.in_ok-act.ensures in
+    run_goes checked old mid from to vs (told act) left (run_among checked c.args.steps first (rows_of (map (λ v. v.items) f.waiting.items)))
+    (omega (arith, some)) c.loop-spare.invariant came
     ∙ run_kept checked (left - 1) (performed checked mid vs (told act)) _ t.waiting.items _ (λ v. v.items)
     (ap (λ vs. performed checked mid vs (told act)) (sym c.deref.ensures.value) ∙ sym (c.in_ok-perform-in-Ok.ensures.0)) (c.in_ok-perform-in-Ok.ensures.1)

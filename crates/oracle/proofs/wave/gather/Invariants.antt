@@ -11,7 +11,8 @@ invariant-loop-token g l =
     let t = l.state in
     (
     gathered l.checked s.invocations s.cells.items s.fresh.items (rows_of (map (λ v. v.items) s.waiting.items)) s.deferred.items []
-    ≡ gathered l.checked t.invocations t.cells.items t.fresh.items (rows_of (map (λ v. v.items) t.waiting.items)) t.deferred.items (map (λ a. (a.values.items, told a.act)) l.acts.items)
+    ≡ gathered l.checked t.invocations t.cells.items t.fresh.items (rows_of (map (λ v. v.items) t.waiting.items)) t.deferred.items
+    (map (λ a. (a.values.items, told a.act)) l.acts.items)
     )
     × (t.invocations ≡ s.invocations) × (t.cells.items ≡ s.cells.items) × (t.outputs.items ≡ s.outputs.items)
 

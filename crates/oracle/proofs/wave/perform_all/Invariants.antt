@@ -9,7 +9,9 @@ invariant-loop-activity g l =
     let s = l.fn.state in
     let t = l.state in
     (
-    performed_all l.checked (plain s.invocations s.fresh.items [] s.deferred.items s.cells.items s.outputs.items) (map (λ a. (a.values.items, told a.act)) l.acts)
-    ≡ performed_all l.checked (plain t.invocations t.fresh.items [] t.deferred.items t.cells.items t.outputs.items) (map (λ a. (a.values.items, told a.act)) (drop l.activity-index l.acts))
+    performed_all l.checked (plain s.invocations s.fresh.items [] s.deferred.items s.cells.items s.outputs.items)
+    (map (λ a. (a.values.items, told a.act)) l.acts)
+    ≡ performed_all l.checked (plain t.invocations t.fresh.items [] t.deferred.items t.cells.items t.outputs.items)
+    (map (λ a. (a.values.items, told a.act)) (drop l.activity-index l.acts))
     )
     × (t.waiting.items ≡ s.waiting.items)
