@@ -1,5 +1,6 @@
 -- Events in any machine of which the part is the element's.
-use Rattle.std.proofs.Common.{◌≡◌, refl, sym, ◌∙◌, ap, subst, ℕ, ◌+◌, ◌*◌, ◌/◌, ◌%◌, ◌<◌, ◌≤◌, Bool, true, false, List, [], ◌∷◌, ◌++◌, length, get_or, set, Option, Some, None, Ok, inl, inr, arith, length-set}
+use Rattle.std.proofs.Common.{◌≡◌, refl, sym, ◌∙◌, ap, subst, ℕ, ◌+◌, ◌*◌, ◌/◌, ◌%◌, ◌<◌, ◌≤◌, Bool, true, false, List, [], ◌∷◌, ◌++◌, length}
+use Rattle.std.proofs.Common.{get_or, set, Option, Some, None, Ok, inl, inr, arith, length-set}
 use Rattle.std.specs.Prelude.{All, slice_get, option_and_then}
 use Rattle.std.proofs.lemmas.Option.{same_Some, get_or_from_slice_get, slice_get_within}
 use Rattle.std.proofs.lemmas.List.Elements.{All-nil, All-map, All-set, All-push, All-head, All-tail}
@@ -12,7 +13,8 @@ use Rattle.tags.specs.declared.token.Token.{Token}
 use Rattle.tags.specs.declared.slot.SlotState.{SlotState}
 use Rattle.semantics.specs.Program.{Instr, Program, instr_at}
 use Rattle.semantics.specs.Rule.{back_to, Point, Outcome, Becomes, rule_at, outcome_of, slot_of}
-use Rattle.semantics.specs.Machine.{Store, CellState, Vacant, Full, Deferred, Happens, Fires, Stores, Requests, slot_in, slot_used, with_slot_in, answer, answers, outputs_of, put_at, with_output, with_done}
+use Rattle.semantics.specs.Machine.{Store, CellState, Vacant, Full, Deferred, Happens, Fires, Stores, Requests, slot_in, slot_used, with_slot_in}
+use Rattle.semantics.specs.Machine.{answer, answers, outputs_of, put_at, with_output, with_done}
 use Rattle.semantics.proofs.Stores.{put_other}
 use Rattle.istructure.specs.declared.FetchAnswer.{FetchAnswer}
 use Rattle.istructure.specs.declared.StoreAnswer.{StoreAnswer}
@@ -24,11 +26,13 @@ use Rattle.element.specs.declared.contents.host.HostChange.{HostChange}
 use Rattle.element.specs.declared.contents.host.HostChange.TheVariants.{Output, Done}
 use Rattle.element.specs.Near.{Bounds, IsNearCont, IsNearWord, IsNearToken, IsNearSlot, IsNearCell}
 use Rattle.element.specs.Parts.{Part, Manages, IsPart, IsSoundManager, SameElsewhere, IsSound, bounds}
-use Rattle.element.specs.Changed.{state_in, with_state_in, with_cells, with_manager, IsRequested, IsReleased, IsHostChange, filled, with_output as part_output, with_done as part_done}
+use Rattle.element.specs.Changed.{state_in, with_state_in, with_cells, with_manager, IsRequested, IsReleased, IsHostChange, filled}
+use Rattle.element.specs.Changed.{with_output as part_output, with_done as part_done}
 use Rattle.element.specs.Acts.{Changes, ServesFirst}
 use Rattle.frame_manager.specs.Managed.{Managed}
 use Rattle.frame_manager.proofs.Counts.{flag_inside}
-use Rattle.element.proofs.Only.{fetch_only, store_only, request_only, release_only, manages_as, part_with_cells, cells_elsewhere, part_with_manager, frames_elsewhere}
+use Rattle.element.proofs.Only.{fetch_only, store_only, request_only, release_only, manages_as, part_with_cells, cells_elsewhere, part_with_manager}
+use Rattle.element.proofs.Only.{frames_elsewhere}
 use Rattle.element.proofs.Nearness.{back_near, one_near}
 use Rattle.element.proofs.Places.{set_at, slot_then, agree}
 
@@ -43,7 +47,8 @@ IsLow width (Some r) = r < width
 positive : (a b : ℕ) → a < b → 0 < b
 positive a b l = omega arith
 
-module _ (p : Program) (h : Part) (f : ℕ) (v : SlotState) (sound : IsSound p h) (ours : f % h.shape.elements ≡ h.shape.element) (there : f < h.shape.elements * h.shape.frames) where
+module _ (p : Program) (h : Part) (f : ℕ) (v : SlotState) (sound : IsSound p h) (ours : f % h.shape.elements ≡ h.shape.element)
+    (there : f < h.shape.elements * h.shape.frames) where
   some : 0 < h.shape.elements
   some = positive h.shape.element h.shape.elements sound.there
 
@@ -58,7 +63,15 @@ module _ (p : Program) (h : Part) (f : ℕ) (v : SlotState) (sound : IsSound p h
   }
 
   slot_elsewhere : (r : Option ℕ) (s : Store) → SameElsewhere h.shape s (with_slot_in s f r v)
-  slot_elsewhere None s = record { slots = λ g q ne. refl; cells = λ x ne. refl; out = λ ne. refl; requests = λ ne. refl; outputs = λ ne. refl; done = λ ne. refl }
+  slot_elsewhere None s = record {
+    slots = λ g q ne. refl;
+    cells = λ x ne. refl;
+    out = λ ne. refl;
+    requests = λ ne. refl;
+    outputs = λ ne. refl;
+    done =
+        λ ne. refl;
+  }
   slot_elsewhere (Some r) s = record {
     slots = λ g q ne. ap (λ (k : ℕ → SlotState). k q) (put_other s.slots f g _ (λ e. ne (subst (λ (x : ℕ). x % h.shape.elements ≡ h.shape.element) e ours)));
     cells = λ x ne. refl;
@@ -90,8 +103,10 @@ module _ (p : Program) (h : Part) (f : ℕ) (v : SlotState) (sound : IsSound p h
   slot_same None s low part = refl
   slot_same (Some r) s low part = part.slots f r ours there low
 
-  pub instr_changes : (t : Token) (ip : ℕ) (port : Port) (i : Instr) (made : List Token) → t.to ≡ To.Instr f ip port → instr_at p ip ≡ Some i → IsLow h.shape.width (slot_of i i.op)
-      → outcome_of p (point f ip) i i.op (state_in h f (slot_of i i.op)) port t.word ≡ Becomes v made → IsNearSlot (bounds p h.shape) v → All (IsNearToken (bounds p h.shape)) made
+  pub instr_changes : (t : Token) (ip : ℕ) (port : Port) (i : Instr) (made : List Token) → t.to ≡ To.Instr f ip port → instr_at p ip ≡ Some i
+      → IsLow h.shape.width (slot_of i i.op)
+      → outcome_of p (point f ip) i i.op (state_in h f (slot_of i i.op)) port t.word ≡ Becomes v made → IsNearSlot (bounds p h.shape) v
+      → All (IsNearToken (bounds p h.shape)) made
       → Changes p h t made (with_state_in h f (slot_of i i.op) v)
   instr_changes t ip port i made to_is found low comes near all_near = record {
     shape = slot_shape (slot_of i i.op);
@@ -104,8 +119,10 @@ module _ (p : Program) (h : Part) (f : ℕ) (v : SlotState) (sound : IsSound p h
       happens : (s : Store) → IsPart h s → Happens p (h.shape.elements * h.shape.frames) s t.to t.word made (with_slot_in s f (slot_of i i.op) v)
       happens s part =
           let n : Store = with_slot_in s f (slot_of i i.op) v in
-          let at_slot = subst (λ (x : SlotState). outcome_of p (point f ip) i i.op x port t.word ≡ Becomes v made) (sym (slot_same (slot_of i i.op) s low part)) comes in
-          let fired : Fires s f (slot_of i i.op) (outcome_of p (point f ip) i i.op (slot_in s f (slot_of i i.op)) port t.word) made n = subst (λ (o : Outcome). Fires s f (slot_of i i.op) o made n) (sym at_slot) (refl, refl) in
+          let at_slot = subst (λ (x : SlotState). outcome_of p (point f ip) i i.op x port t.word ≡ Becomes v made)
+          (sym (slot_same (slot_of i i.op) s low part)) comes in
+          let fired : Fires s f (slot_of i i.op) (outcome_of p (point f ip) i i.op (slot_in s f (slot_of i i.op)) port t.word) made n = subst
+          (λ (o : Outcome). Fires s f (slot_of i i.op) o made n) (sym at_slot) (refl, refl) in
           let here : Happens p (h.shape.elements * h.shape.frames) s (To.Instr f ip port) t.word made n
           = subst (λ (x : Option Instr). Fires s f (slot_used x) (rule_at p (point f ip) x (slot_in s f (slot_used x)) port t.word) made n) (sym found) fired in
           subst (λ (to : To). Happens p (h.shape.elements * h.shape.frames) s to t.word made n) (sym to_is) here
@@ -119,7 +136,8 @@ waiting_near b Vacant readers n e = subst (λ (rs : List Cont). All (IsNearCont 
 waiting_near b (Full v) readers n e = absurd (let bad : ⊥ = cc in bad)
 waiting_near b (Deferred rs) readers n e = subst (λ (xs : List Cont). All (IsNearCont b) xs) (same_Some rs readers e) n
 
-state_near : (b : Bounds) (own : OwnCells) (o : Option ℕ) (readers : List Cont) → All (IsNearCell b) own.states → option_and_then waiting_in (option_and_then (slice_get own.states) o) ≡ Some readers → All (IsNearCont b) readers
+state_near : (b : Bounds) (own : OwnCells) (o : Option ℕ) (readers : List Cont) → All (IsNearCell b) own.states
+    → option_and_then waiting_in (option_and_then (slice_get own.states) o) ≡ Some readers → All (IsNearCont b) readers
 state_near b own None readers all e = absurd (let bad : ⊥ = cc in bad)
 state_near b own (Some k) readers all e = go (slice_get own.states k) refl e
   where
@@ -127,10 +145,12 @@ state_near b own (Some k) readers all e = go (slice_get own.states k) refl e
     go None h e = absurd (let bad : ⊥ = cc in bad)
     go (Some state) h e = waiting_near b state readers (All-slice_get (IsNearCell b) own.states k state h all) e
 
-pub readers_near : (b : Bounds) (own : OwnCells) (x : ℕ) (readers : List Cont) → All (IsNearCell b) own.states → waiting_at own x ≡ Some readers → All (IsNearCont b) readers
+pub readers_near : (b : Bounds) (own : OwnCells) (x : ℕ) (readers : List Cont) → All (IsNearCell b) own.states → waiting_at own x ≡ Some readers
+    → All (IsNearCont b) readers
 readers_near b own x readers all e = state_near b own (place_of own x) readers all e
 
-cells_sound : (p : Program) (h : Part) (x : ℕ) (state : CellState) (cells : OwnCells) → IsSound p h → IsNearCell (bounds p h.shape) state → cells ≡ with_cell_at h.cells x state → IsSound p (with_cells h cells)
+cells_sound : (p : Program) (h : Part) (x : ℕ) (state : CellState) (cells : OwnCells) → IsSound p h → IsNearCell (bounds p h.shape) state → cells
+    ≡ with_cell_at h.cells x state → IsSound p (with_cells h cells)
 cells_sound p h x state cells sound near e = subst (λ (k : OwnCells). IsSound p (with_cells h k)) (sym e) (record {
   there = sound.there;
   bank = sound.bank;
@@ -143,10 +163,12 @@ cells_sound p h x state cells sound near e = subst (λ (k : OwnCells). IsSound p
   outputs = sound.outputs;
 })
 
-pub fetched_sound : (p : Program) (h : Part) (x : ℕ) (c : Cont) (a : FetchAnswer) (cells : OwnCells) → IsSound p h → IsNearCont (bounds p h.shape) c → IsFetchAnswer a → FetchedAt h.cells x c a cells → IsSound p (with_cells h cells)
+pub fetched_sound : (p : Program) (h : Part) (x : ℕ) (c : Cont) (a : FetchAnswer) (cells : OwnCells) → IsSound p h → IsNearCont (bounds p h.shape) c
+    → IsFetchAnswer a → FetchedAt h.cells x c a cells → IsSound p (with_cells h cells)
 fetched_sound p h x c (FetchAnswer.Now v) cells sound near good at = subst (λ (k : OwnCells). IsSound p (with_cells h k)) (sym at.1) sound
 fetched_sound p h x c FetchAnswer.Deferred cells sound near good at =
-    cells_sound p h x (Deferred (at.0 ++ c ∷ [])) cells sound (All-push (IsNearCont (bounds p h.shape)) at.0 c (readers_near (bounds p h.shape) h.cells x at.0 sound.readers at.1) near) at.2
+    cells_sound p h x (Deferred (at.0 ++ c ∷ [])) cells sound (All-push (IsNearCont (bounds p h.shape)) at.0 c
+    (readers_near (bounds p h.shape) h.cells x at.0 sound.readers at.1) near) at.2
 fetched_sound p h x c FetchAnswer.NotHere cells sound near good at = absurd good
 fetched_sound p h x c FetchAnswer.Memory cells sound near good at = absurd good
 
@@ -159,8 +181,10 @@ fetch_tokens_near b c FetchAnswer.Memory near good = absurd good
 word_near : (b : Bounds) (t : Token) (c : Cont) → IsNearToken b t → t.word ≡ Word.Back c → IsNearCont b c
 word_near b t c n e = subst (λ (w : Word). IsNearWord b w) e n.word
 
-pub fetch_changes : (p : Program) (h : Part) (t : Token) (x : ℕ) (c : Cont) (a : FetchAnswer) (cells : OwnCells) → IsSound p h → t.to ≡ To.Fetch x → t.word ≡ Word.Back c → IsNearToken (bounds p h.shape) t
-    → x % h.shape.elements ≡ h.shape.element → IsFetchAnswer a → FetchedAt h.cells x c a cells → FetchIsEvent h.cells x c a cells → Changes p h t (fetch_tokens c a) (with_cells h cells)
+pub fetch_changes : (p : Program) (h : Part) (t : Token) (x : ℕ) (c : Cont) (a : FetchAnswer) (cells : OwnCells) → IsSound p h → t.to ≡ To.Fetch x
+    → t.word ≡ Word.Back c → IsNearToken (bounds p h.shape) t
+    → x % h.shape.elements ≡ h.shape.element → IsFetchAnswer a → FetchedAt h.cells x c a cells → FetchIsEvent h.cells x c a cells
+    → Changes p h t (fetch_tokens c a) (with_cells h cells)
 fetch_changes p h t x c a cells sound to_is word_is near ours good at event = record {
   shape = refl;
   sound = fetched_sound p h x c a cells sound (word_near (bounds p h.shape) t c near word_is) good at;
@@ -170,30 +194,46 @@ fetch_changes p h t x c a cells sound to_is word_is near ours good at event = re
       let e = event good s part.cells in
       let only = fetch_only s x c (s.cells x) (fetch_tokens c a) e.0 e.1 in
       let at_to : Happens p total s (To.Fetch x) (Word.Back c) (fetch_tokens c a) e.0 = e.1 in
-      let at_word = subst (λ (w : Word). Happens p total s (To.Fetch x) w (fetch_tokens c a) e.0) (sym word_is) at_to in
-      (e.0, subst (λ (to : To). Happens p total s to t.word (fetch_tokens c a) e.0) (sym to_is) at_word, part_with_cells h x s e.0 cells only e.2 part, cells_elsewhere h.shape x s e.0 ours only);
+      let at_word = subst (λ (w : Word). Happens p total s (To.Fetch x) w (fetch_tokens c a) e.0) (sym word_is) at_to in (
+        e.0,
+        subst (λ (to : To). Happens p total s to t.word (fetch_tokens c a) e.0) (sym to_is) at_word,
+        part_with_cells h x s e.0 cells only e.2
+            part,
+        cells_elsewhere h.shape x s e.0 ours only,
+      );
 }
   where
     total : ℕ
     total = h.shape.elements * h.shape.frames
 
 pub answers_near : (b : Bounds) (cs : List Cont) (v : Value) → All (IsNearCont b) cs → All (IsNearToken b) (answers cs v)
-answers_near b cs v all = All-map (IsNearToken b) (λ (c : Cont). answer c (Word.Val v)) cs (λ k d low. record { to = back_near b (get_or cs k d) (all k d low); word = tt })
+answers_near b cs v all = All-map (IsNearToken b) (λ (c : Cont). answer c (Word.Val v)) cs
+    (λ k d low. record { to = back_near b (get_or cs k d) (all k d low); word = tt })
 
-pub store_changes : (p : Program) (h : Part) (t : Token) (x : ℕ) (v : Value) (c : Cont) (room : ℕ) (cells : OwnCells) (listed : List Cont) → IsSound p h → t.to ≡ To.Store x v → t.word ≡ Word.Back c → IsNearToken (bounds p h.shape) t
-    → x % h.shape.elements ≡ h.shape.element → StoredAt h.cells x v room [] StoreAnswer.Stored cells listed → StoreIsEvent h.cells x v StoreAnswer.Stored cells [] listed → Changes p h t (answers (listed ++ c ∷ []) v) (with_cells h cells)
+pub store_changes : (p : Program) (h : Part) (t : Token) (x : ℕ) (v : Value) (c : Cont) (room : ℕ) (cells : OwnCells) (listed : List Cont)
+    → IsSound p h → t.to ≡ To.Store x v → t.word ≡ Word.Back c → IsNearToken (bounds p h.shape) t
+    → x % h.shape.elements ≡ h.shape.element → StoredAt h.cells x v room [] StoreAnswer.Stored cells listed
+    → StoreIsEvent h.cells x v StoreAnswer.Stored cells [] listed → Changes p h t (answers (listed ++ c ∷ []) v) (with_cells h cells)
 store_changes p h t x v c room cells listed sound to_is word_is near ours at event = record {
   shape = refl;
   sound = cells_sound p h x (Full v) cells sound tt at.2;
-  near = answers_near b (listed ++ c ∷ []) v (All-push (IsNearCont b) listed c (subst (λ (rs : List Cont). All (IsNearCont b) rs) (sym at.3) (readers_near b h.cells x at.0 sound.readers at.1)) (word_near b t c near word_is));
+  near = answers_near b (listed ++ c ∷ []) v
+      (All-push (IsNearCont b) listed c (subst (λ (rs : List Cont). All (IsNearCont b) rs) (sym at.3)
+      (readers_near b h.cells x at.0 sound.readers at.1)) (word_near b t c near word_is));
   first = subst (λ (to : To). ServesFirst h to t.word (answers (listed ++ c ∷ []) v) (with_cells h cells)) (sym to_is) tt;
   event = λ s part.
       let e = event c s part.cells in
-      let stores : Stores s x v c (s.cells x) (answers (listed ++ c ∷ []) v) e.1 = subst (λ (rs : List Cont). Stores s x v c (s.cells x) (answers (rs ++ c ∷ []) v) e.1) (sym e.2) e.3 in
+      let stores : Stores s x v c (s.cells x) (answers (listed ++ c ∷ []) v) e.1 = subst
+      (λ (rs : List Cont). Stores s x v c (s.cells x) (answers (rs ++ c ∷ []) v) e.1) (sym e.2) e.3 in
       let only = store_only s x v c (s.cells x) (answers (listed ++ c ∷ []) v) e.1 stores in
       let at_to : Happens p total s (To.Store x v) (Word.Back c) (answers (listed ++ c ∷ []) v) e.1 = stores in
-      let at_word = subst (λ (w : Word). Happens p total s (To.Store x v) w (answers (listed ++ c ∷ []) v) e.1) (sym word_is) at_to in
-      (e.1, subst (λ (to : To). Happens p total s to t.word (answers (listed ++ c ∷ []) v) e.1) (sym to_is) at_word, part_with_cells h x s e.1 cells only e.4 part, cells_elsewhere h.shape x s e.1 ours only);
+      let at_word = subst (λ (w : Word). Happens p total s (To.Store x v) w (answers (listed ++ c ∷ []) v) e.1) (sym word_is) at_to in (
+        e.1,
+        subst (λ (to : To). Happens p total s to t.word (answers (listed ++ c ∷ []) v) e.1) (sym to_is) at_word,
+        part_with_cells h x s e.1 cells
+            only e.4 part,
+        cells_elsewhere h.shape x s e.1 ours only,
+      );
 }
   where
     b : Bounds
@@ -203,7 +243,8 @@ store_changes p h t x v c room cells listed sound to_is word_is near ours at eve
     total = h.shape.elements * h.shape.frames
 
 -- FRAMES
-frames_sound : (p : Program) (h : Part) (m : Managed) → IsSound p h → length m.out ≡ (bounds p h.shape).frames → All (IsNearCont (bounds p h.shape)) m.requests → IsSound p (with_manager h (Some m))
+frames_sound : (p : Program) (h : Part) (m : Managed) → IsSound p h → length m.out ≡ (bounds p h.shape).frames
+    → All (IsNearCont (bounds p h.shape)) m.requests → IsSound p (with_manager h (Some m))
 frames_sound p h m sound len near = record {
   there = sound.there;
   bank = sound.bank;
@@ -216,7 +257,8 @@ frames_sound p h m sound len near = record {
   outputs = sound.outputs;
 }
 
-requested_sound : (b : Bounds) (m n : Managed) (c : Cont) (given : Option ℕ) → length m.out ≡ b.frames → All (IsNearCont b) m.requests → IsNearCont b c → Requested m c (Ok given) n
+requested_sound : (b : Bounds) (m n : Managed) (c : Cont) (given : Option ℕ) → length m.out ≡ b.frames → All (IsNearCont b) m.requests
+    → IsNearCont b c → Requested m c (Ok given) n
     → (length n.out ≡ b.frames) × All (IsNearCont b) n.requests × All (IsNearToken b) (request_tokens c given)
 requested_sound b m n c (Some f) len all near r = (
   ap (λ (k : Managed). length k.out) r.1 ∙ length-set m.out f true ∙ len,
@@ -229,8 +271,10 @@ requested_sound b m n c None len all near r = (
   All-nil (IsNearToken b),
 )
 
-pub request_changes : (p : Program) (h : Part) (t : Token) (c : Cont) (m n : Managed) (given : Option ℕ) → IsSound p h → t.to ≡ To.Manager → t.word ≡ Word.Back c → IsNearToken (bounds p h.shape) t
-    → h.shape.element ≡ 0 → h.manager ≡ Some m → Requested m c (Ok given) n → RequestIsEvent m c (Ok given) n → Changes p h t (request_tokens c given) (with_manager h (Some n))
+pub request_changes : (p : Program) (h : Part) (t : Token) (c : Cont) (m n : Managed) (given : Option ℕ) → IsSound p h → t.to ≡ To.Manager → t.word
+    ≡ Word.Back c → IsNearToken (bounds p h.shape) t
+    → h.shape.element ≡ 0 → h.manager ≡ Some m → Requested m c (Ok given) n → RequestIsEvent m c (Ok given) n → Changes p h t (request_tokens c given)
+    (with_manager h (Some n))
 request_changes p h t c m n given sound to_is word_is near zero has r event = record {
   shape = refl;
   sound = frames_sound p h n sound after.0 after.1;
@@ -244,8 +288,13 @@ request_changes p h t c m n given sound to_is word_is near zero has r event = re
       let asks : Requests total s c (request_tokens c given) e.0 = subst (λ (k : ℕ). Requests k s c (request_tokens c given) e.0) manager.0 e.1 in
       let only = request_only total s c (request_tokens c given) e.0 asks in
       let at_to : Happens p total s To.Manager (Word.Back c) (request_tokens c given) e.0 = asks in
-      let at_word = subst (λ (w : Word). Happens p total s To.Manager w (request_tokens c given) e.0) (sym word_is) at_to in
-      (e.0, subst (λ (to : To). Happens p total s to t.word (request_tokens c given) e.0) (sym to_is) at_word, part_with_manager h s e.0 n only e.2 part, frames_elsewhere h.shape s e.0 zero only);
+      let at_word = subst (λ (w : Word). Happens p total s To.Manager w (request_tokens c given) e.0) (sym word_is) at_to in (
+        e.0,
+        subst (λ (to : To). Happens p total s to t.word (request_tokens c given) e.0) (sym to_is) at_word,
+        part_with_manager h s e.0 n only e.2
+            part,
+        frames_elsewhere h.shape s e.0 zero only,
+      );
 }
   where
     b : Bounds
@@ -260,14 +309,16 @@ request_changes p h t c m n given sound to_is word_is near zero has r event = re
     after : (length n.out ≡ b.frames) × All (IsNearCont b) n.requests × All (IsNearToken b) (request_tokens c given)
     after = requested_sound b m n c given manager.0 manager.1 (word_near b t c near word_is) r
 
-released_sound : (b : Bounds) (m n : Managed) (f : ℕ) (given : Option (Cont × ℕ)) → length m.out ≡ b.frames → All (IsNearCont b) m.requests → Released m f (Ok given) n
+released_sound : (b : Bounds) (m n : Managed) (f : ℕ) (given : Option (Cont × ℕ)) → length m.out ≡ b.frames → All (IsNearCont b) m.requests
+    → Released m f (Ok given) n
     → (length n.out ≡ b.frames) × All (IsNearCont b) n.requests × All (IsNearToken b) (release_tokens given)
 released_sound b m n f (Some g) len all r =
     let whole : All (IsNearCont b) (g.0 ∷ n.requests) = subst (λ (cs : List Cont). All (IsNearCont b) cs) r.2 all in
     let there : f < b.frames = subst (λ (k : ℕ). f < k) len (flag_inside m.out f r.0) in (
       ap (λ (k : List Bool). length k) r.3 ∙ len,
       All-tail (IsNearCont b) g.0 n.requests whole,
-      one_near b (back_to g.0) (Word.Frame g.1) (back_near b g.0 (All-head (IsNearCont b) g.0 n.requests whole)) (subst (λ (k : ℕ). k < b.frames) (sym r.1) there),
+      one_near b (back_to g.0) (Word.Frame g.1) (back_near b g.0 (All-head (IsNearCont b) g.0 n.requests whole))
+          (subst (λ (k : ℕ). k < b.frames) (sym r.1) there),
     )
 released_sound b m n f None len all r = (
   ap (λ (k : Managed). length k.out) r.2 ∙ length-set m.out f false ∙ len,
@@ -276,7 +327,8 @@ released_sound b m n f None len all r = (
 )
 
 pub release_changes : (p : Program) (h : Part) (t : Token) (f : ℕ) (m n : Managed) (given : Option (Cont × ℕ)) → IsSound p h → t.to ≡ To.Release f
-    → h.shape.element ≡ 0 → h.manager ≡ Some m → Released m f (Ok given) n → ReleaseIsEvent m f (Ok given) n → Changes p h t (release_tokens given) (with_manager h (Some n))
+    → h.shape.element ≡ 0 → h.manager ≡ Some m → Released m f (Ok given) n → ReleaseIsEvent m f (Ok given) n
+    → Changes p h t (release_tokens given) (with_manager h (Some n))
 release_changes p h t f m n given sound to_is zero has r event = record {
   shape = refl;
   sound = frames_sound p h n sound after.0 after.1;
@@ -287,8 +339,12 @@ release_changes p h t f m n given sound to_is zero has r event = record {
       let held : HoldsFrames m s = subst (λ (k : Option Managed). Manages k s) has (part.manager zero) in
       let e = event s held in
       let only = release_only s f (release_tokens given) e.0 e.1 in
-      let at_to : Happens p total s (To.Release f) t.word (release_tokens given) e.0 = e.1 in
-      (e.0, subst (λ (to : To). Happens p total s to t.word (release_tokens given) e.0) (sym to_is) at_to, part_with_manager h s e.0 n only e.2 part, frames_elsewhere h.shape s e.0 zero only);
+      let at_to : Happens p total s (To.Release f) t.word (release_tokens given) e.0 = e.1 in (
+        e.0,
+        subst (λ (to : To). Happens p total s to t.word (release_tokens given) e.0) (sym to_is) at_to,
+        part_with_manager h s e.0 n only e.2 part,
+        frames_elsewhere h.shape s e.0 zero only,
+      );
 }
   where
     b : Bounds
@@ -344,7 +400,8 @@ output_changes p h t j v sound to_is word_is zero there empty = record {
     outputs_then : (s : Store) → IsPart h s → (k : ℕ) → put_at s.outputs j (Some v) k ≡ get_or (set h.outputs j (Some v)) k None
     outputs_then s part k = ap (λ (g : ℕ → Option Value). put_at g j (Some v) k) (agree (part.outputs zero)) ∙ set_at h.outputs j k (Some v) None there
 
-pub done_changes : (p : Program) (h : Part) (t : Token) (j : ℕ) → IsSound p h → t.to ≡ To.Host j → h.shape.element ≡ 0 → j ≡ length h.outputs → h.done ≡ false → Changes p h t [] (part_done h)
+pub done_changes : (p : Program) (h : Part) (t : Token) (j : ℕ) → IsSound p h → t.to ≡ To.Host j → h.shape.element ≡ 0 → j ≡ length h.outputs → h.done
+    ≡ false → Changes p h t [] (part_done h)
 done_changes p h t j sound to_is zero last open_ = record {
   shape = refl;
   sound = record {
@@ -380,7 +437,8 @@ done_changes p h t j sound to_is zero last open_ = record {
     total = h.shape.elements * h.shape.frames
 
 -- the same of a manager that may not be there
-pub requested : (p : Program) (h : Part) (t : Token) (c : Cont) (m n : Option Managed) (given : Option ℕ) → IsSound p h → t.to ≡ To.Manager → t.word ≡ Word.Back c → IsNearToken (bounds p h.shape) t
+pub requested : (p : Program) (h : Part) (t : Token) (c : Cont) (m n : Option Managed) (given : Option ℕ) → IsSound p h → t.to ≡ To.Manager → t.word
+    ≡ Word.Back c → IsNearToken (bounds p h.shape) t
     → h.shape.element ≡ 0 → h.manager ≡ m → IsRequested m c (Ok given) n → Changes p h t (request_tokens c given) (with_manager h n)
 requested p h t c (Some m) (Some n) given sound to_is word_is near zero has r = request_changes p h t c m n given sound to_is word_is near zero has r.0 r.1
 requested p h t c (Some m) None given sound to_is word_is near zero has r = absurd r
@@ -392,6 +450,7 @@ released p h t f (Some m) (Some n) given sound to_is zero has r = release_change
 released p h t f (Some m) None given sound to_is zero has r = absurd r
 released p h t f None n given sound to_is zero has r = absurd r
 
-pub host_changes : (p : Program) (h : Part) (t : Token) (j : ℕ) (change : HostChange) → IsSound p h → t.to ≡ To.Host j → h.shape.element ≡ 0 → IsHostChange h j t.word (Ok change) → Changes p h t [] (filled h j change)
+pub host_changes : (p : Program) (h : Part) (t : Token) (j : ℕ) (change : HostChange) → IsSound p h → t.to ≡ To.Host j → h.shape.element ≡ 0
+    → IsHostChange h j t.word (Ok change) → Changes p h t [] (filled h j change)
 host_changes p h t j (Output v) sound to_is zero c = output_changes p h t j v sound to_is c.2 zero c.0 c.1
 host_changes p h t j Done sound to_is zero c = done_changes p h t j sound to_is zero c.0 c.1

@@ -47,7 +47,8 @@ state_near : (p : Program) (h : Part) (f : ℕ) (r : Option ℕ) → IsSound p h
 state_near p h f None sound = tt
 state_near p h f (Some r) sound = ⊎_elim
     (λ (l : slot_place h.shape f r < length h.states). sound.slots (slot_place h.shape f r) Empty l)
-    (λ (l : length h.states ≤ slot_place h.shape f r). subst (λ (v : SlotState). IsNearSlot (bounds p h.shape) v) (sym (get_or_past h.states (slot_place h.shape f r) Empty l)) tt)
+    (λ (l : length h.states ≤ slot_place h.shape f r). subst (λ (v : SlotState). IsNearSlot (bounds p h.shape) v)
+    (sym (get_or_past h.states (slot_place h.shape f r) Empty l)) tt)
     (cases_lt (slot_place h.shape f r) (length h.states))
 
 pub room_in_slot : (p : Program) (h : Part) (f : ℕ) (r : Option ℕ) → IsSound p h → HasRoomInSlot (state_in h f r)
@@ -68,27 +69,33 @@ low_slot i (Give k) width l = l
 low_slot i (Drain k) width l = l
 low_slot i op width l = tt
 
-answer_near : (b : Bounds) (f ip : ℕ) (first : Option Dest) → f < b.frames → ip < 2 ^ 30 → IfSome first (λ (d : Dest). d.ahead < 2 ^ 30) → IsNearCont b (answer_to record { frame = f; ip = ip } (option_to_list first))
+answer_near : (b : Bounds) (f ip : ℕ) (first : Option Dest) → f < b.frames → ip < 2 ^ 30 → IfSome first (λ (d : Dest). d.ahead < 2 ^ 30)
+    → IsNearCont b (answer_to record { frame = f; ip = ip } (option_to_list first))
 answer_near b f ip None l m n = (l, omega arith)
 answer_near b f ip (Some d) l m n = (l, omega arith)
 
-landing_near : (b : Bounds) (f ip : ℕ) (first : Option Dest) → f < b.frames → ip < 2 ^ 30 → IfSome first (λ (d : Dest). d.ahead < 2 ^ 30) → IsNearCont b (landing_at record { frame = f; ip = ip } (option_to_list first))
+landing_near : (b : Bounds) (f ip : ℕ) (first : Option Dest) → f < b.frames → ip < 2 ^ 30 → IfSome first (λ (d : Dest). d.ahead < 2 ^ 30)
+    → IsNearCont b (landing_at record { frame = f; ip = ip } (option_to_list first))
 landing_near b f ip None l m n = (l, omega arith)
 landing_near b f ip (Some d) l m n = (l, omega arith)
 
 -- a place in an array is a cell
 pub cell_there : (arrays : List ℕ) (a x : ℕ) → x < slice_index_or arrays a 0 → sum (take a arrays) + x < sum arrays
 cell_there arrays a x l = ⊎_elim
-    (λ (low : a < length arrays). let whole = sum_by-take-drop (λ (n : ℕ). n) arrays a in let rest = sum_by-drop_more (λ (n : ℕ). n) arrays a 0 low in grind (arith, common_steps, whole, rest, l))
+    (λ (low : a < length arrays). let whole = sum_by-take-drop (λ (n : ℕ). n) arrays a in let rest = sum_by-drop_more (λ (n : ℕ). n) arrays a 0 low
+    in grind (arith, common_steps, whole, rest, l))
     (λ (past : length arrays ≤ a). absurd (let none = get_or_past arrays a 0 past in omega arith))
     (cases_lt a (length arrays))
 
-pub instructed : (p : Program) (width : ℕ) (h : Part) (t : Token) (f ip : ℕ) (port : Port) (i : ShortInstr) (v : SlotState) (made : List Token) (slot : SlotState) → IsSound p h → width ≤ h.shape.width
-    → t.to ≡ To.Instr f ip port → IsNearToken (bounds p h.shape) t → element_of h.shape.elements t.to ≡ h.shape.element → IsShort width ip i → instr_at p ip ≡ Some (instr_of i)
+pub instructed : (p : Program) (width : ℕ) (h : Part) (t : Token) (f ip : ℕ) (port : Port) (i : ShortInstr) (v : SlotState) (made : List Token)
+    (slot : SlotState) → IsSound p h → width ≤ h.shape.width
+    → t.to ≡ To.Instr f ip port → IsNearToken (bounds p h.shape) t → element_of h.shape.elements t.to ≡ h.shape.element → IsShort width ip i
+    → instr_at p ip ≡ Some (instr_of i)
     → slot ≡ state_in h f (slot_of (instr_of i) i.op) → outcome_of p record { frame = f; ip = ip } (instr_of i) i.op slot port t.word ≡ Becomes v made
     → Changes p h t made (with_state_in h f (slot_of (instr_of i) i.op) v)
 instructed p width h t f ip port i v made slot sound wide to_is near addressed short found slot_is comes =
-    instr_changes p h f v sound ours there t ip port (instr_of i) made to_is found (low_slot (instr_of i) i.op h.shape.width (omega (arith, short.slot))) at_slot after.0 after.1
+    instr_changes p h f v sound ours there t ip port (instr_of i) made to_is found
+    (low_slot (instr_of i) i.op h.shape.width (omega (arith, short.slot))) at_slot after.0 after.1
   where
     b : Bounds
     b = bounds p h.shape
@@ -103,7 +110,14 @@ instructed p width h t f ip port i v made slot sound wide to_is near addressed s
     at_slot = subst (λ (s : SlotState). outcome_of p record { frame = f; ip = ip } (instr_of i) i.op s port t.word ≡ Becomes v made) slot_is comes
 
     at_point : IsNearPoint p b record { frame = f; ip = ip } (instr_of i)
-    at_point = record { frame = there; back = answer_near b f ip (dest_in i.first) there short.near short.first; land = landing_near b f ip (dest_in i.first) there short.near short.first; cells = λ a x l. cell_there p.arrays a x l }
+    at_point = record {
+      frame = there;
+      back = answer_near b f ip (dest_in i.first) there short.near short.first;
+      land = landing_near b f ip
+          (dest_in i.first) there short.near short.first;
+      cells = λ a x l. cell_there p.arrays a x l;
+    }
 
     after : NearOutcome b (Becomes v made)
-    after = subst (λ (o : Outcome). NearOutcome b o) at_slot (outcome_near p b record { frame = f; ip = ip } (instr_of i) at_point i.op (state_in h f (slot_of (instr_of i) i.op)) port t.word (state_near p h f (slot_of (instr_of i) i.op) sound) near.word)
+    after = subst (λ (o : Outcome). NearOutcome b o) at_slot (outcome_near p b record { frame = f; ip = ip } (instr_of i) at_point i.op
+        (state_in h f (slot_of (instr_of i) i.op)) port t.word (state_near p h f (slot_of (instr_of i) i.op) sound) near.word)

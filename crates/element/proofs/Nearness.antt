@@ -18,9 +18,12 @@ use Rattle.tags.specs.declared.slot.SlotState.TheVariants.{Empty, Credits, Waite
 use Rattle.operators.specs.Values.{Place, Outside, index_in, truth}
 use Rattle.semantics.specs.declared.program.Dest.{Dest}
 use Rattle.semantics.specs.declared.program.Op.{Op}
-use Rattle.semantics.specs.declared.program.Op.TheVariants.{Apply1, Apply2, Apply2Right, Apply2Left, Lit, Copy, Sync, Switch, Fetch, Store, Frame, Link, Send, Return, Ask, Open, Take, Give, Drain, Release}
+use Rattle.semantics.specs.declared.program.Op.TheVariants.{Apply1, Apply2, Apply2Right, Apply2Left, Lit, Copy, Sync, Switch, Fetch, Store, Frame}
+use Rattle.semantics.specs.declared.program.Op.TheVariants.{Link, Send, Return, Ask, Open, Take, Give, Drain, Release}
 use Rattle.semantics.specs.Program.{Instr, Program, first_of}
-use Rattle.semantics.specs.Rule.{Point, Outcome, Becomes, Excluded, token, signal, at_dest, to_each, to_all, beyond, back_to, answer_to, landing_at, fires, array_base, array_len, asks_for, puts, fire_one, fire_two, meets, opens, takes, gives, drains, alone, outcome_of}
+use Rattle.semantics.specs.Rule.{Point, Outcome, Becomes, Excluded, token, signal, at_dest, to_each, to_all, beyond, back_to, answer_to, landing_at}
+use Rattle.semantics.specs.Rule.{fires, array_base, array_len, asks_for, puts, fire_one, fire_two, meets, opens, takes, gives, drains, alone}
+use Rattle.semantics.specs.Rule.{outcome_of}
 use Rattle.element.specs.Near.{Bounds, IsNearCont, IsNearWord, IsNearTo, IsNearToken, IsNearSlot}
 
 abbrev pub NearMade : Bounds → Option (List Token) → Type 0
@@ -42,7 +45,8 @@ beyond_near b (Cont.Host p) o h = tt
 pub one_near : (b : Bounds) (to : To) (w : Word) → IsNearTo b to → IsNearWord b w → All (IsNearToken b) (token to w ∷ [])
 one_near b to w h k = All-cons (IsNearToken b) (token to w) [] (record { to = h; word = k }) (All-nil (IsNearToken b))
 
-more_near : (b : Bounds) (to : To) (w : Word) (ts : List Token) → IsNearTo b to → IsNearWord b w → All (IsNearToken b) ts → All (IsNearToken b) (token to w ∷ ts)
+more_near : (b : Bounds) (to : To) (w : Word) (ts : List Token) → IsNearTo b to → IsNearWord b w → All (IsNearToken b) ts
+    → All (IsNearToken b) (token to w ∷ ts)
 more_near b to w ts h k all = All-cons (IsNearToken b) (token to w) ts (record { to = h; word = k }) all
 
 fired_near : (b : Bounds) (v : SlotState) (o : Option (List Token)) → IsNearSlot b v → NearMade b o → NearOutcome b (fires v o)
@@ -71,7 +75,8 @@ module _ (p : Program) (b : Bounds) (s : Point) (i : Instr) (at : IsNearPoint p 
   asks_near a (Int (negsuc n)) = each_near (Word.Val (Fault Range i.origin)) (take 1 i.firsts) tt
   asks_near a (Fault k o) = each_near (Word.Val (Fault k o)) (take 1 i.firsts) tt
 
-  puts_at : (a n : ℕ) (w : Value) (t : Bool) → nat_lt n (array_len p a) ≡ t → All (IsNearToken b) (puts p s i a w (if t then Place n else Outside (Fault Range i.origin)))
+  puts_at : (a n : ℕ) (w : Value) (t : Bool) → nat_lt n (array_len p a) ≡ t
+      → All (IsNearToken b) (puts p s i a w (if t then Place n else Outside (Fault Range i.origin)))
   puts_at a n w true e = one_near b (To.Store (array_base p a + n) w) (Word.Back (answer_to s i.firsts)) (at.cells a n (ltb-true n (array_len p a) e)) at.back
   puts_at a n w false e = each_near (Word.Val (Fault Range i.origin)) (take 1 i.firsts) tt
 
@@ -88,7 +93,8 @@ module _ (p : Program) (b : Bounds) (s : Point) (i : Instr) (at : IsNearPoint p 
   one_fired Copy w n = all_near w n
   one_fired (Fetch a) (Word.Val v) n = asks_near a v
   one_fired Frame w n = one_near b To.Manager (Word.Back (answer_to s i.firsts)) tt at.back
-  one_fired (Link k) (Word.Frame f) n = more_near b (To.Instr f (first_of p k) Left) (Word.Back (landing_at s i.firsts)) (to_each s signal i.seconds) n at.land (each_near signal i.seconds tt)
+  one_fired (Link k) (Word.Frame f) n = more_near b (To.Instr f (first_of p k) Left) (Word.Back (landing_at s i.firsts)) (to_each s signal i.seconds)
+      n at.land (each_near signal i.seconds tt)
   one_fired op w n = tt
 
   side_near : (t : Bool) (w : Word) → IsNearWord b w → All (IsNearToken b) (to_each s w (if t then i.firsts else i.seconds))
@@ -103,7 +109,8 @@ module _ (p : Program) (b : Bounds) (s : Point) (i : Instr) (at : IsNearPoint p 
   two_fired (Send k e) (Word.Frame f) w n m = more_near b (To.Instr f (first_of p k + e) Left) w (to_all s signal i) n m (all_near signal tt)
   two_fired (Return o) (Word.Back c) (Word.Val v) n m = more_near b (beyond c o) (Word.Val v) (to_all s signal i) (beyond_near b c o n) tt (all_near signal tt)
   two_fired (Ask o) (Word.Back c) w n m = one_near b (beyond c o) (Word.Back (answer_to s i.firsts)) (beyond_near b c o n) at.back
-  two_fired (Release o) (Word.Back c) w n m = more_near b (To.Release s.frame) signal (token (beyond c o) signal ∷ []) tt tt (one_near b (beyond c o) signal (beyond_near b c o n) tt)
+  two_fired (Release o) (Word.Back c) w n m = more_near b (To.Release s.frame) signal (token (beyond c o) signal ∷ []) tt tt
+      (one_near b (beyond c o) signal (beyond_near b c o n) tt)
   two_fired op l r n m = tt
 
   met_near : (slot : SlotState) (port : Port) (w : Word) → IsNearSlot b slot → IsNearWord b w → NearOutcome b (meets p s i slot port w)
@@ -150,7 +157,8 @@ module _ (p : Program) (b : Bounds) (s : Point) (i : Instr) (at : IsNearPoint p 
   alone_near slot Left w n m = fired_near b slot (fire_one p s i i.op w) n (one_fired i.op w m)
   alone_near slot Right w n m = tt
 
-  pub outcome_near : (op : Op) (slot : SlotState) (port : Port) (w : Word) → IsNearSlot b slot → IsNearWord b w → NearOutcome b (outcome_of p s i op slot port w)
+  pub outcome_near : (op : Op) (slot : SlotState) (port : Port) (w : Word) → IsNearSlot b slot → IsNearWord b w
+      → NearOutcome b (outcome_of p s i op slot port w)
   outcome_near (Apply2 op) slot port w n m = met_near slot port w n m
   outcome_near Sync slot port w n m = met_near slot port w n m
   outcome_near Switch slot port w n m = met_near slot port w n m

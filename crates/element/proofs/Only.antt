@@ -75,7 +75,8 @@ frames_are s n k h e = subst (λ (m : Store). OnlyFrames s m) (sym e) h
 
 pub request_only : (total : ℕ) (s : Store) (c : Cont) (made : List Token) (n : Store) → Requests total s c made n → OnlyFrames s n
 request_only total s c made n (inl h) = frames_are s n (with_out s h.0 true) (record { slots = refl; cells = refl; outputs = refl; done = refl }) h.4
-request_only total s c made n (inr h) = frames_are s n (with_requests s (s.requests ++ c ∷ [])) (record { slots = refl; cells = refl; outputs = refl; done = refl }) h.2
+request_only total s c made n (inr h) = frames_are s n (with_requests s (s.requests ++ c ∷ []))
+    (record { slots = refl; cells = refl; outputs = refl; done = refl }) h.2
 
 release_by : (s : Store) (f : ℕ) (made : List Token) (n : Store) → Releases s f made n → OnlyFrames s n
 release_by s f made n h = ⊎_elim

@@ -1,5 +1,6 @@
 -- A lane before the first event, and lanes that make none.
-use Rattle.std.proofs.Common.{◌≡◌, ◌≢◌, refl, sym, ◌∙◌, ap, subst, ℕ, zero, suc, ◌-◌, ◌*◌, ◌/◌, ◌%◌, ◌<◌, ◌≤◌, Bool, false, List, [], ◌∷◌, ◌++◌, length, get_or, replicate, Option, Some, None, arith, ⊎_elim}
+use Rattle.std.proofs.Common.{◌≡◌, ◌≢◌, refl, sym, ◌∙◌, ap, subst, ℕ, zero, suc, ◌-◌, ◌*◌, ◌/◌, ◌%◌, ◌<◌, ◌≤◌, Bool, false, List, [], ◌∷◌, ◌++◌}
+use Rattle.std.proofs.Common.{length, get_or, replicate, Option, Some, None, arith, ⊎_elim}
 use Rattle.std.specs.Prelude.{All, sum, ◌==◌}
 use Rattle.std.proofs.lemmas.List.{get_or_past, length-replicate}
 use Rattle.std.proofs.lemmas.Option.{get_or_from_slice_get}
@@ -40,10 +41,12 @@ others_stay p z h old new same elements ne own_element own_elements part = recor
     not_zero first e = ne (first ∙ sym e)
 
     cell_ours : (x : ℕ) (state : CellState) → cell_at h.cells x ≡ Some state → x % h.shape.elements ≡ h.shape.element
-    cell_ours x state e = let w = place_from_state h.cells x state e in let q = place_is h.cells x w.0 w.1 in subst (λ (n : ℕ). x % n ≡ h.shape.element) own_elements (q.ours ∙ own_element)
+    cell_ours x state e = let w = place_from_state h.cells x state e in let q = place_is h.cells x w.0 w.1
+        in subst (λ (n : ℕ). x % n ≡ h.shape.element) own_elements (q.ours ∙ own_element)
 
 -- a received token
-pub received_sound : (p : Program) (h : Holding) (t : Token) → IsSoundLane p h → IsNearToken (bounds p h.part.shape) t → element_of h.part.shape.elements t.to ≡ h.part.shape.element → IsSoundLane p (with_queue h (h.queue ++ t ∷ []))
+pub received_sound : (p : Program) (h : Holding) (t : Token) → IsSoundLane p h → IsNearToken (bounds p h.part.shape) t
+    → element_of h.part.shape.elements t.to ≡ h.part.shape.element → IsSoundLane p (with_queue h (h.queue ++ t ∷ []))
 received_sound p h t sound near ours = record {
   part = sound.part;
   near = All-push (IsNearToken (bounds p h.part.shape)) h.queue t sound.near near;
@@ -52,7 +55,8 @@ received_sound p h t sound near ours = record {
 }
 
 -- ALL IS EMPTY
-own_there : (z : Shape) (n x : ℕ) → z.element < z.elements → x % z.elements ≡ z.element → x < n → x / z.elements < length (all_vacant n z.element z.elements).states
+own_there : (z : Shape) (n x : ℕ) → z.element < z.elements → x % z.elements ≡ z.element → x < n
+    → x / z.elements < length (all_vacant n z.element z.elements).states
 own_there z n x there ours low =
     let own = all_vacant n z.element z.elements in
     let w = place_from_state own x Vacant (vacant_here n z.element z.elements x there low ours) in
@@ -67,7 +71,8 @@ vacant_held z n s none x state e =
     let own = all_vacant n z.element z.elements in
     let w = place_from_state own x state e in
     let count : ℕ = own_count n z.element z.elements in
-    none x ∙ all_of (replicate count Vacant) Vacant w.0 (All-replicate (λ (c : CellState). c ≡ Vacant) count Vacant refl) ∙ get_or_from_slice_get own.states w.0 state Vacant w.2
+    none x ∙ all_of (replicate count Vacant) Vacant w.0 (All-replicate (λ (c : CellState). c ≡ Vacant) count Vacant refl)
+    ∙ get_or_from_slice_get own.states w.0 state Vacant w.2
 
 first_out : (n f : ℕ) → (f == 0) ≡ is_out (at_first n) f
 first_out n zero = refl
@@ -84,8 +89,13 @@ opening_sound p h o = record {
   own_element = ap (λ (c : OwnCells). c.element) o.cells;
   own_elements = ap (λ (c : OwnCells). c.elements) o.cells;
   own = λ x ours low. subst (λ (c : OwnCells). x / h.shape.elements < length c.states) (sym o.cells) (own_there h.shape (sum p.arrays) x o.there ours low);
-  readers = subst (λ (c : OwnCells). All (IsNearCell b) c.states) (sym o.cells) (All-replicate (IsNearCell b) (own_count (sum p.arrays) h.shape.element h.shape.elements) Vacant tt);
-  manager = λ first. subst (λ (m : Option Managed). IsSoundManager b m) (sym (o.manager first)) (first_count (h.shape.elements * h.shape.frames) o.some, All-nil (IsNearCont b));
+  readers = subst (λ (c : OwnCells). All (IsNearCell b) c.states) (sym o.cells)
+      (All-replicate (IsNearCell b) (own_count (sum p.arrays) h.shape.element h.shape.elements) Vacant tt);
+  manager = λ first. subst (λ (m : Option Managed). IsSoundManager b m) (sym (o.manager first)) (
+    first_count (h.shape.elements * h.shape.frames)
+        o.some,
+    All-nil (IsNearCont b),
+  );
   outputs = o.outputs;
 }
   where
@@ -95,8 +105,10 @@ opening_sound p h o = record {
 opening_part : (p : Program) (h : Part) → IsOpening p h → StartsAs p h
 opening_part p h o inputs = record {
   slots = λ f r ours there low. all_of h.states Empty _ o.empty;
-  cells = subst (λ (c : OwnCells). HoldsCells c (at_start p inputs).store) (sym o.cells) (vacant_held h.shape (sum p.arrays) (at_start p inputs).store (λ x. refl));
-  manager = λ first. subst (λ (m : Option Managed). Manages m (at_start p inputs).store) (sym (o.manager first)) (record { out = λ f. first_out (h.shape.elements * h.shape.frames) f; requests = refl });
+  cells = subst (λ (c : OwnCells). HoldsCells c (at_start p inputs).store) (sym o.cells) (vacant_held h.shape (sum p.arrays) (at_start p inputs).store
+      (λ x. refl));
+  manager = λ first. subst (λ (m : Option Managed). Manages m (at_start p inputs).store) (sym (o.manager first))
+      (record { out = λ f. first_out (h.shape.elements * h.shape.frames) f; requests = refl });
   outputs = λ first j. all_of h.outputs None j o.none;
   done = λ first. sym o.done;
 }
@@ -106,7 +118,8 @@ lane_opens p h queue answered o = (
   record {
     part = opening_sound p h.part o;
     near = subst (λ (ts : List Token). All (IsNearToken (bounds p h.part.shape)) ts) (sym queue) (All-nil (IsNearToken (bounds p h.part.shape)));
-    addressed = subst (λ (ts : List Token). All (λ (t : Token). element_of h.part.shape.elements t.to ≡ h.part.shape.element) ts) (sym queue) (All-nil (λ (t : Token). element_of h.part.shape.elements t.to ≡ h.part.shape.element));
+    addressed = subst (λ (ts : List Token). All (λ (t : Token). element_of h.part.shape.elements t.to ≡ h.part.shape.element) ts) (sym queue)
+        (All-nil (λ (t : Token). element_of h.part.shape.elements t.to ≡ h.part.shape.element));
     answered = answered;
   },
   opening_part p h.part o,

@@ -1,5 +1,6 @@
 -- Where slots are, and what a change of one place leaves.
-use Rattle.std.proofs.Common.{◌≡◌, sym, ◌∙◌, ap, subst, ℕ, ◌+◌, ◌*◌, ◌/◌, ◌%◌, ◌<◌, ◌≤◌, List, length, get_or, set, arith, get_or-set_other, get_or-set_same, ⊎_elim}
+use Rattle.std.proofs.Common.{◌≡◌, sym, ◌∙◌, ap, subst, ℕ, ◌+◌, ◌*◌, ◌/◌, ◌%◌, ◌<◌, ◌≤◌, List, length, get_or, set, arith, get_or-set_other}
+use Rattle.std.proofs.Common.{get_or-set_same, ⊎_elim}
 use Rattle.std.proofs.lemmas.Bool.{cases_eq, cases_lt}
 use Rattle.std.proofs.Math.Nat.{mul-le-mul_left}
 use Rattle.tags.specs.declared.slot.SlotState.{SlotState}
@@ -47,7 +48,8 @@ module _ (z : Shape) (states : List SlotState) (some : 0 < z.elements) (bank : z
       → put_at slots f (put_at (slots f) r v) g q ≡ get_or (set states (slot_place z f r) v) (slot_place z g q) Empty
   slot_then slots f r v ours there low g q ours2 low2 was = ⊎_elim
       (λ (e : f ≡ g). ap (λ (k : ℕ → SlotState). k q) (put_same slots f g (put_at (slots f) r v) e) ∙ in_frame e)
-      (λ (n : f ≡ g → ⊥). ap (λ (k : ℕ → SlotState). k q) (put_other slots f g (put_at (slots f) r v) n) ∙ was ∙ sym (get_or-set_other states (slot_place z f r) (slot_place z g q) v Empty (λ e. n (sym (frames_are (sym e))))))
+      (λ (n : f ≡ g → ⊥). ap (λ (k : ℕ → SlotState). k q) (put_other slots f g (put_at (slots f) r v) n) ∙ was
+      ∙ sym (get_or-set_other states (slot_place z f r) (slot_place z g q) v Empty (λ e. n (sym (frames_are (sym e))))))
       (cases_eq f g)
     where
       frames_are : slot_place z f r ≡ slot_place z g q → g ≡ f
@@ -61,6 +63,9 @@ module _ (z : Shape) (states : List SlotState) (some : 0 < z.elements) (bank : z
 
       in_frame : f ≡ g → put_at (slots f) r v q ≡ get_or (set states (slot_place z f r) v) (slot_place z g q) Empty
       in_frame e = ⊎_elim
-          (λ (same : r ≡ q). put_same (slots f) r q v same ∙ sym (subst (λ (k : ℕ). get_or (set states (slot_place z f r) v) k Empty ≡ v) (place_is e same) (get_or-set_same states (slot_place z f r) v Empty (place_there f r there low))))
-          (λ (n : r ≡ q → ⊥). put_other (slots f) r q v n ∙ ap (λ (k : ℕ). slots k q) e ∙ was ∙ sym (get_or-set_other states (slot_place z f r) (slot_place z g q) v Empty (λ same. n (slots_are (sym same)))))
+          (λ (same : r ≡ q). put_same (slots f) r q v same
+          ∙ sym (subst (λ (k : ℕ). get_or (set states (slot_place z f r) v) k Empty ≡ v) (place_is e same)
+          (get_or-set_same states (slot_place z f r) v Empty (place_there f r there low))))
+          (λ (n : r ≡ q → ⊥). put_other (slots f) r q v n ∙ ap (λ (k : ℕ). slots k q) e ∙ was
+          ∙ sym (get_or-set_other states (slot_place z f r) (slot_place z g q) v Empty (λ same. n (slots_are (sym same)))))
           (cases_eq r q)

@@ -4,7 +4,8 @@ use Rattle.std.specs.Prelude.{All, remove, IsPermutation}
 use Rattle.std.proofs.Math.Nat.{mod-lt}
 use Rattle.std.proofs.lemmas.Bool.{eqb-true}
 use Rattle.std.proofs.lemmas.List.Elements.{All-append, All-tail, All-filter, All-weaker, filter_passes}
-use Rattle.std.proofs.lemmas.List.Sorted.{IsPermutation-refl, IsPermutation-trans, IsPermutation-remove, IsPermutation-append_left, IsPermutation-append_right, IsPermutation-append_comm, IsPermutation-filter_both, All-permutation}
+use Rattle.std.proofs.lemmas.List.Sorted.{IsPermutation-refl, IsPermutation-trans, IsPermutation-remove, IsPermutation-append_left}
+use Rattle.std.proofs.lemmas.List.Sorted.{IsPermutation-append_right, IsPermutation-append_comm, IsPermutation-filter_both, All-permutation}
 use Rattle.std.proofs.lemmas.Option.{slice_get-get_or}
 use Rattle.tags.specs.declared.token.Token.{Token}
 use Rattle.tags.specs.Addresses.{element_of}
@@ -24,7 +25,8 @@ module _ (z : Shape) (made : List Token) where
   parted = IsPermutation-filter_both (is_here z) (λ (t : Token). not (is_here z t)) (λ t. refl) made
 
   -- what was made goes after the queue and after those for others
-  pub placed : (q before others : List Token) → IsPermutation (made ++ (q ++ (before ++ others))) ((q ++ here z made) ++ ((before ++ elsewhere z made) ++ others))
+  pub placed : (q before others : List Token) → IsPermutation (made ++ (q ++ (before ++ others))) ((q ++ here z made)
+      ++ ((before ++ elsewhere z made) ++ others))
   placed q before others =
       IsPermutation-trans _ _ _ (IsPermutation-append_left (q ++ (before ++ others)) made (here z made ++ elsewhere z made) parted) by_parts
     where
@@ -39,7 +41,8 @@ module _ (z : Shape) (made : List Token) where
       first = IsPermutation-trans _ _ _ (same (sym (append_assoc e q (before ++ others))))
           (IsPermutation-trans _ _ _ (IsPermutation-append_left (before ++ others) (e ++ q) (q ++ e) (IsPermutation-append_comm e q))
           (IsPermutation-trans _ _ _ (same (append_assoc q e (before ++ others)))
-          (IsPermutation-append_right q _ _ (IsPermutation-trans _ _ _ (same (sym (append_assoc e before others))) (IsPermutation-append_left others (e ++ before) (before ++ e) (IsPermutation-append_comm e before))))))
+          (IsPermutation-append_right q _ _ (IsPermutation-trans _ _ _ (same (sym (append_assoc e before others)))
+          (IsPermutation-append_left others (e ++ before) (before ++ e) (IsPermutation-append_comm e before))))))
         where
           same : {xs ys : List Token} → xs ≡ ys → IsPermutation xs ys
           same {xs} d = subst (λ (l : List Token). IsPermutation xs l) d (IsPermutation-refl xs)
@@ -50,7 +53,8 @@ module _ (z : Shape) (made : List Token) where
           (subst (λ (l : List Token). IsPermutation l ((q ++ h) ++ ((before ++ e) ++ others))) (append_assoc h q ((before ++ e) ++ others))
           (IsPermutation-append_left ((before ++ e) ++ others) (h ++ q) (q ++ h) (IsPermutation-append_comm h q))))
 
-module _ (p : Program) (old : Holding) (pick : ℕ) (t : Token) (before : List Token) (sound : IsSoundLane p old) (some : 0 < length old.queue) (is : t ≡ get_or old.queue (place_of old pick) t) where
+module _ (p : Program) (old : Holding) (pick : ℕ) (t : Token) (before : List Token) (sound : IsSoundLane p old) (some : 0 < length old.queue)
+    (is : t ≡ get_or old.queue (place_of old pick) t) where
   abbrev z : Shape
   z = old.part.shape
 
@@ -69,7 +73,8 @@ module _ (p : Program) (old : Holding) (pick : ℕ) (t : Token) (before : List T
   addressed : element_of z.elements t.to ≡ z.element
   addressed = subst (λ (x : Token). element_of z.elements x.to ≡ z.element) (sym is) (sound.addressed (place_of old pick) t within)
 
-  after_event : (new : Holding) (after : List Token) (acts : Acts p old (place_of old pick) t before new after) (m : Machine) (others : List Token) → IsPart old.part m.store → HoldsTokens old before others m
+  after_event : (new : Holding) (after : List Token) (acts : Acts p old (place_of old pick) t before new after) (m : Machine) (others : List Token)
+      → IsPart old.part m.store → HoldsTokens old before others m
       → IsAfter p old t new after others acts.made m
   after_event new after acts m others part pool =
       let e = acts.changes.event m.store part in
@@ -83,7 +88,8 @@ module _ (p : Program) (old : Holding) (pick : ℕ) (t : Token) (before : List T
           made = acts.made;
           rest = rest ++ (before ++ others);
           addressed = addressed;
-          takes = IsPermutation-trans m.pool (old.queue ++ (before ++ others)) (t ∷ (rest ++ (before ++ others))) pool (IsPermutation-append_left (before ++ others) old.queue (t ∷ rest) takes);
+          takes = IsPermutation-trans m.pool (old.queue ++ (before ++ others)) (t ∷ (rest ++ (before ++ others))) pool
+              (IsPermutation-append_left (before ++ others) old.queue (t ∷ rest) takes);
           happens = e.1;
           leaves = IsPermutation-refl (acts.made ++ (rest ++ (before ++ others)));
         };
@@ -91,7 +97,8 @@ module _ (p : Program) (old : Holding) (pick : ℕ) (t : Token) (before : List T
         part = subst (λ (k : Part). IsPart k e.0) (sym held_part) e.2;
         same = e.3;
         tokens = subst (λ (q : List Token). IsPermutation next.pool (q ++ (after ++ others))) (sym queue_is)
-            (subst (λ (a : List Token). IsPermutation next.pool ((rest ++ here z acts.made) ++ (a ++ others))) (sym acts.sent) (placed z acts.made rest before others));
+            (subst (λ (a : List Token). IsPermutation next.pool ((rest ++ here z acts.made) ++ (a ++ others))) (sym acts.sent)
+            (placed z acts.made rest before others));
       }
 
   does : (new : Holding) (after : List Token) → Acts p old (place_of old pick) t before new after → Does p old pick before new after
@@ -108,17 +115,20 @@ module _ (p : Program) (old : Holding) (pick : ℕ) (t : Token) (before : List T
     event = λ m others part pool. after_event new after acts m others part pool;
   }
 
-  pub steps_as : (result : Stepped) (new : Holding) (after : List Token) → ActsAs p old (place_of old pick) t before result new after → Steps p old pick before result new after
+  pub steps_as : (result : Stepped) (new : Holding) (after : List Token) → ActsAs p old (place_of old pick) t before result new after
+      → Steps p old pick before result new after
   steps_as Idle new after acts = absurd acts
   steps_as Did new after acts = does new after acts
   steps_as (Clash cell) new after acts = (record { token = t; picks = picks; second = acts.0 }, record { held = acts.1.0; sent = acts.1.1 })
   steps_as (Stuck rule) new after acts = (record { token = t; picks = picks; excluded = acts.0 }, record { held = acts.1.0; sent = acts.1.1 })
   steps_as Memory new after acts = (some, record { held = acts.0; sent = acts.1 })
 
-  sound_after : (part : Part) (made : List Token) → Changes p old.part t made part → IsSoundLane p (queued (taken (with_part old part) (place_of old pick)) made)
+  sound_after : (part : Part) (made : List Token) → Changes p old.part t made part
+      → IsSoundLane p (queued (taken (with_part old part) (place_of old pick)) made)
   sound_after part made changes = record {
     part = changes.sound;
-    near = All-append (IsNearToken b) rest (here part.shape made) rest_near (All-filter (is_here part.shape) (IsNearToken b) made (at_shape (λ (s : Shape). All (IsNearToken (bounds p s)) made) changes.near));
+    near = All-append (IsNearToken b) rest (here part.shape made) rest_near (All-filter (is_here part.shape) (IsNearToken b) made
+        (at_shape (λ (s : Shape). All (IsNearToken (bounds p s)) made) changes.near));
     addressed = All-append IsOurs rest (here part.shape made) rest_ours here_ours;
     answered = sound.answered;
   }
@@ -133,13 +143,16 @@ module _ (p : Program) (old : Holding) (pick : ℕ) (t : Token) (before : List T
       IsOurs x = element_of part.shape.elements x.to ≡ part.shape.element
 
       rest_near : All (IsNearToken b) rest
-      rest_near = All-tail (IsNearToken b) t rest (All-permutation (IsNearToken b) old.queue (t ∷ rest) takes (at_shape (λ (s : Shape). All (IsNearToken (bounds p s)) old.queue) sound.near))
+      rest_near = All-tail (IsNearToken b) t rest (All-permutation (IsNearToken b) old.queue (t ∷ rest) takes
+          (at_shape (λ (s : Shape). All (IsNearToken (bounds p s)) old.queue) sound.near))
 
       rest_ours : All IsOurs rest
-      rest_ours = All-tail IsOurs t rest (All-permutation IsOurs old.queue (t ∷ rest) takes (at_shape (λ (s : Shape). All (λ (x : Token). element_of s.elements x.to ≡ s.element) old.queue) sound.addressed))
+      rest_ours = All-tail IsOurs t rest (All-permutation IsOurs old.queue (t ∷ rest) takes
+          (at_shape (λ (s : Shape). All (λ (x : Token). element_of s.elements x.to ≡ s.element) old.queue) sound.addressed))
 
       here_ours : All IsOurs (here part.shape made)
-      here_ours = All-weaker (λ (x : Token). is_here part.shape x ≡ true) IsOurs (λ x e. eqb-true (element_of part.shape.elements x.to) part.shape.element e) (here part.shape made) (filter_passes (is_here part.shape) made)
+      here_ours = All-weaker (λ (x : Token). is_here part.shape x ≡ true) IsOurs (λ x e. eqb-true (element_of part.shape.elements x.to)
+          part.shape.element e) (here part.shape made) (filter_passes (is_here part.shape) made)
 
   pub sound_as : (result : Stepped) (new : Holding) (after : List Token) → ActsAs p old (place_of old pick) t before result new after → IsSoundLane p new
   sound_as Idle new after acts = absurd acts
@@ -148,7 +161,8 @@ module _ (p : Program) (old : Holding) (pick : ℕ) (t : Token) (before : List T
   sound_as (Stuck rule) new after acts = subst (λ (h : Holding). IsSoundLane p h) (sym acts.1.0) sound
   sound_as Memory new after acts = subst (λ (h : Holding). IsSoundLane p h) (sym acts.0) sound
 
-  pub shape_as : (result : Stepped) (new : Holding) (after : List Token) → ActsAs p old (place_of old pick) t before result new after → new.part.shape ≡ old.part.shape
+  pub shape_as : (result : Stepped) (new : Holding) (after : List Token) → ActsAs p old (place_of old pick) t before result new after → new.part.shape
+      ≡ old.part.shape
   shape_as Idle new after acts = absurd acts
   shape_as Did new after acts = ap (λ (h : Holding). h.part.shape) acts.held ∙ acts.changes.shape
   shape_as (Clash cell) new after acts = ap (λ (h : Holding). h.part.shape) acts.1.0

@@ -45,7 +45,8 @@ pub lane_events_more : (start mid new : LaneView) → fixed_of mid ≡ fixed_of 
 lane_events_more start mid new fixed (n, before) (m, more) =
     let program = ap (λ (f : Fixed). f.program) fixed in
     let steps = ap (λ (f : Fixed). f.steps) fixed in
-    let here = subst (λ (k : ℕ). MakesEvents start.program k m mid.held new.held) steps (subst (λ (p : Program). MakesEvents p mid.steps m mid.held new.held) program more) in
+    let here = subst (λ (k : ℕ). MakesEvents start.program k m mid.held new.held) steps
+    (subst (λ (p : Program). MakesEvents p mid.steps m mid.held new.held) program more) in
     events_more start.program start.steps n m start.held mid.held new.held before here
 
 -- each event is counted

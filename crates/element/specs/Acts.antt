@@ -38,7 +38,8 @@ pub record Changes (p : Program) (old : Part) (t : Token) (made : List Token) (n
   pub sound : IsSound p new
   pub near : All (IsNearToken (bounds p old.shape)) made
   pub first : ServesFirst old t.to t.word made new
-  pub event : (s : Store) → IsPart old s → (n : Store) × Happens p (old.shape.elements * old.shape.frames) s t.to t.word made n × IsPart new n × SameElsewhere old.shape s n
+  pub event : (s : Store) → IsPart old s → (n : Store) × Happens p (old.shape.elements * old.shape.frames) s t.to t.word made n × IsPart new n
+      × SameElsewhere old.shape s n
 
 -- The token is taken out of the queue. What it makes goes last: into the queue, or to the others.
 pub record Acts (p : Program) (old : Holding) (at : ℕ) (t : Token) (before : List Token) (new : Holding) (after : List Token) : Type 0 where
@@ -70,7 +71,8 @@ ActsAs p old at t before Memory new after = Still old before new after
 
 -- The result of a token where these tokens are made, if any, and the part is this then.
 abbrev pub FiresAs : Option (List Token) → Part → Holding → ℕ → List Token → Stepped → Holding → List Token → Type 0
-FiresAs fired part old at before Did new after = (made : List Token) × (fired ≡ Some made) × (new ≡ queued (taken (with_part old part) at) made) × (after ≡ before ++ elsewhere old.part.shape made)
+FiresAs fired part old at before Did new after = (made : List Token) × (fired ≡ Some made) × (new ≡ queued (taken (with_part old part) at) made)
+    × (after ≡ before ++ elsewhere old.part.shape made)
 FiresAs fired part old at before (Stuck rule) new after = (fired ≡ None) × (rule ≡ 4) × Still old before new after
 FiresAs fired part old at before Memory new after = Still old before new after
 FiresAs fired part old at before Idle new after = ⊥

@@ -61,7 +61,8 @@ OwnsCell h x = IsSome (cell_at h.cells x)
 abbrev pub IsHostChange : Part → ℕ → Word → Result HostChange ℕ → Type 0
 IsHostChange h j w (Ok (Output v)) = (j < length h.outputs) × (slice_index_or h.outputs j None ≡ None) × (w ≡ Word.Val v)
 IsHostChange h j w (Ok Done) = (j ≡ length h.outputs) × (h.done ≡ false)
-IsHostChange h j w (Err rule) = (s : Store) → ((k : ℕ) → s.outputs k ≡ slice_index_or h.outputs k None) → s.done ≡ h.done → host_rule (length h.outputs) s j w ≡ Some rule
+IsHostChange h j w (Err rule) = (s : Store) → ((k : ℕ) → s.outputs k ≡ slice_index_or h.outputs k None) → s.done ≡ h.done
+    → host_rule (length h.outputs) s j w ≡ Some rule
 
 abbrev pub CanFill : Part → ℕ → HostChange → Type 0
 CanFill h j (Output v) = j < length h.outputs

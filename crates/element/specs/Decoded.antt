@@ -6,7 +6,8 @@ use Rattle.tags.specs.declared.value.Origin.{Origin}
 use Rattle.tags.specs.declared.value.Origin.TheVariants.{Untold, At}
 use Rattle.semantics.specs.declared.program.Dest.{Dest}
 use Rattle.semantics.specs.declared.program.Op.{Op}
-use Rattle.semantics.specs.declared.program.Op.TheVariants.{Apply1, Apply2, Apply2Right, Apply2Left, Lit, Copy, Sync, Switch, Fetch, Store, Frame, Link, Send, Return, Ask, Open, Take, Give, Drain, Release}
+use Rattle.semantics.specs.declared.program.Op.TheVariants.{Apply1, Apply2, Apply2Right, Apply2Left, Lit, Copy, Sync, Switch, Fetch, Store, Frame}
+use Rattle.semantics.specs.declared.program.Op.TheVariants.{Link, Send, Return, Ask, Open, Take, Give, Drain, Release}
 use Rattle.semantics.specs.Program.{Instr}
 use Rattle.element.specs.Short.{ShortInstr}
 
@@ -22,7 +23,14 @@ abbrev pub origin_in : ℕ → Origin
 origin_in n = if n == 0 then Untold else At ((n - 1) / 1024 % 256) ((n - 1) % 1024)
 
 abbrev pub instr_of : ShortInstr → Instr
-instr_of i = record { op = i.op; origin = origin_in i.origin; slot = i.slot; firsts = option_to_list (dest_in i.first); seconds = option_to_list (dest_in i.second) }
+instr_of i = record {
+  op = i.op;
+  origin = origin_in i.origin;
+  slot = i.slot;
+  firsts = option_to_list (dest_in i.first);
+  seconds = option_to_list
+      (dest_in i.second);
+}
 
 -- its numbers leave room for sums
 pub record IsShort (width ip : ℕ) (i : ShortInstr) : Type 0 where

@@ -26,7 +26,7 @@ abbrev pub part_of : {A : Type 0} → Contents A → Part
 part_of c = record { shape = shape_of c; states = bank_states c.bank; cells = c.cells; manager = c.manager; outputs = c.outputs.items; done = c.done }
 
 abbrev pub held_in : {A : Type 0} → Contents A → Holding
-held_in c = record { part = part_of c; queue = c.queue.items; made = c.made; answered = c.answered.items }
+held_in c = record { part = part_of c; queue = c.queue.items; made = c.queue.gone; answered = c.answered.items }
 
 abbrev pub is_here : Shape → Token → Bool
 is_here z t = element_of z.elements t.to == z.element

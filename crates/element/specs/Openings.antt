@@ -15,7 +15,20 @@ abbrev pub shape_at : ℕ → ℕ → BankMut → Shape
 shape_at element elements b = record { element = element; elements = elements; start = b.start; frames = b.frames; width = b.width }
 
 abbrev pub opened : Shape → List SlotState → OwnCells → Option Managed → ℕ → Holding
-opened z states cells manager outputs = record { part = record { shape = z; states = states; cells = cells; manager = manager; outputs = replicate outputs None; done = false }; queue = []; made = 0; answered = [] }
+opened z states cells manager outputs = record {
+  part = record {
+    shape = z;
+    states = states;
+    cells = cells;
+    manager = manager;
+    outputs = replicate
+        outputs None;
+    done = false;
+  };
+  queue = [];
+  made = 0;
+  answered = [];
+}
 
 -- All is empty, and on element 0 frame 0 is out.
 pub record IsOpening (p : Program) (h : Part) : Type 0 where

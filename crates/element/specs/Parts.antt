@@ -39,7 +39,8 @@ Manages (Some m) s = HoldsFrames m s
 -- The part is the machine's for this element: the slots of its frames, its cells, and on element 0 which frames are out,
 -- who waits for one, the outputs and the done mark.
 pub record IsPart (h : Part) (s : Store) : Type 0 where
-  pub slots : (f r : ℕ) → f % h.shape.elements ≡ h.shape.element → f < h.shape.elements * h.shape.frames → r < h.shape.width → s.slots f r ≡ slice_index_or h.states (slot_place h.shape f r) Empty
+  pub slots : (f r : ℕ) → f % h.shape.elements ≡ h.shape.element → f < h.shape.elements * h.shape.frames → r < h.shape.width → s.slots f r
+      ≡ slice_index_or h.states (slot_place h.shape f r) Empty
   pub cells : HoldsCells h.cells s
   pub manager : h.shape.element ≡ 0 → Manages h.manager s
   pub outputs : h.shape.element ≡ 0 → (j : ℕ) → s.outputs j ≡ slice_index_or h.outputs j None

@@ -1,6 +1,6 @@
 //! What an element holds, and what it does with a token. During an event it is not sound.
 
-ghost use Rattle.std.specs.Prelude.{◌≡◌, ℕ, ◌+◌, ◌*◌, ◌%◌, ◌<◌, ◌≤◌, ◌^◌, true, [], ◌∷◌, ◌++◌, length, OnOk, OnErr, IfOk, IfSome, IfNone, None, replicate};
+ghost use Rattle.std.specs.Prelude.{◌≡◌, ℕ, ◌+◌, ◌*◌, ◌%◌, ◌<◌, ◌≤◌, ◌^◌, true, false, [], ◌∷◌, ◌++◌, length, OnOk, OnErr, IfOk, IfSome, IfNone, None, replicate};
 ghost use Rattle.element.specs.Holding.{held_in, part_of, shape_of, with_queue, IsSoundLane};
 ghost use Rattle.frame_store.specs.BankViews.{bank_states};
 ghost use Rattle.semantics.specs.Program.{Program};
@@ -44,8 +44,6 @@ pub struct Contents<'m, A: Allocator> {
     pub queue: TokenQueue<A>,
     pub outputs: ArrayVec<Option<Value>, 16>,
     pub done: bool,
-    /// How many events it has made.
-    pub made: u64,
     /// The readers that a store answers; empty between the events.
     pub answered: Vec<Cont, A>,
 }
@@ -103,7 +101,6 @@ impl<'m, A: Allocator> Contents<'m, A> {
             queue,
             outputs: no_outputs(outputs),
             done: false,
-            made: 0,
             answered: Vec::new(alloc),
         })
     }
@@ -128,6 +125,14 @@ impl<'m, A: Allocator> Contents<'m, A> {
         self.queue.reserve(1)?;
         self.queue.push_back_reserved(token);
         Ok(())
+    }
+
+    /// How many events it has made: each takes a token out of the queue, and nothing else does.
+    #[inline(always)]
+    pub fn made(&self) -> u64
+        ensures { result ≡ (held_in self.now).made }
+    {
+        self.queue.gone() as u64
     }
 
     /// The token that `pick` names, as `step` takes it.
@@ -243,11 +248,11 @@ impl<'m, A: Allocator> Contents<'m, A> {
         A: Clone,
         requires sound { IsSoundLane (C.program code.now) (held_in self.old) }
         requires width { C.width code.now ≤ self.old.bank.width }
-        requires few { self.old.made < 2 ^ 63 }
+        requires few { self.old.queue.gone < 2 ^ 63 }
         ensures exact { Steps (C.program code.now) (held_in self.old) pick sent.old.items result (held_in self.new) sent.new.items }
         ensures sound { IsSoundLane (C.program code.now) (held_in self.new) }
         ensures shape { shape_of self.new ≡ shape_of self.old }
-        ensures made { self.new.made ≤ self.old.made + 1 }
+        ensures made { self.new.queue.gone ≤ self.old.queue.gone + 1 }
     {
         let waiting = self.queue.len();
         if waiting == 0 {
@@ -265,12 +270,12 @@ impl<'m, A: Allocator> Contents<'m, A> {
         A: Clone,
         requires sound { IsSoundLane (C.program code.now) (held_in self.old) }
         requires width { C.width code.now ≤ self.old.bank.width }
-        requires few { self.old.made < 2 ^ 63 }
+        requires few { self.old.queue.gone < 2 ^ 63 }
         requires some { 0 < length self.old.queue.items }
         ensures exact { Steps (C.program code.now) (held_in self.old) 0 sent.old.items result (held_in self.new) sent.new.items }
         ensures sound { IsSoundLane (C.program code.now) (held_in self.new) }
         ensures shape { shape_of self.new ≡ shape_of self.old }
-        ensures made { self.new.made ≤ self.old.made + 1 }
+        ensures made { self.new.queue.gone ≤ self.old.queue.gone + 1 }
     {
         let token = self.queue.packed(0);
         self.act_otherwise(code, 0, token, sent)
@@ -285,13 +290,15 @@ impl<'m, A: Allocator> Contents<'m, A> {
         requires alone { T.ALONE ≡ true → self.old.elements ≡ 1 }
         requires sound { IsSoundLane (C.program code.now) (held_in self.old) }
         requires width { C.width code.now ≤ self.old.bank.width }
-        requires few { self.old.made + events < 2 ^ 63 }
+        requires few { self.old.queue.gone + events < 2 ^ 63 }
         requires room { length self.old.queue.items + 2 * events + 1 ≤ self.old.queue.room }
-        ensures exact { (steps : ℕ) → self.old.made + events ≤ steps → (made : ℕ) × MakesEvents (C.program code.now) steps made (held_in self.old) (held_in self.new) }
+        ensures exact { (steps : ℕ) → self.old.queue.gone + events ≤ steps → (made : ℕ) × MakesEvents (C.program code.now) steps made (held_in self.old)
+            (held_in self.new) }
         ensures sound { IsSoundLane (C.program code.now) (held_in self.new) }
         ensures shape { shape_of self.new ≡ shape_of self.old }
-        ensures all { result ≡ true → self.new.made ≡ self.old.made + events }
-        ensures most { self.new.made ≤ self.old.made + events }
+        ensures all { result ≡ true → self.new.queue.gone ≡ self.old.queue.gone + events }
+        ensures most { self.new.queue.gone ≤ self.old.queue.gone + events }
+        ensures part { result ≡ false → self.new.queue.gone < self.old.queue.gone + events }
     {
         let mut left = events;
         'events: while left != 0 {

@@ -56,7 +56,8 @@ pub fn fire<C: Instructions>(
     requires short { IsShort (C.width code.now) point.ip instr.now }
     requires slot_room { HasRoomInSlot slot }
     requires word_room { HasRoomInWord operand.word }
-    ensures { outcome_by result (tokens_of (point_of point) made.new) ≡ Rule.outcome_of (C.program code.now) (point_of point) (instr_of instr.now) instr.now.op slot operand.port operand.word }
+    ensures { outcome_by result (tokens_of (point_of point) made.new) ≡ Rule.outcome_of (C.program code.now) (point_of point) (instr_of instr.now)
+        instr.now.op slot operand.port operand.word }
 {
     match instr.op {
         Op::Apply2 { .. }
@@ -87,7 +88,8 @@ fn fire_left<C: Instructions>(
     requires slot_room { HasRoomInSlot slot }
     requires word_room { HasRoomInWord word }
     requires left { TakesLeftAlone instr.now.op }
-    ensures { outcome_by result (tokens_of (point_of point) made.new) ≡ Rule.outcome_of (C.program code.now) (point_of point) (instr_of instr.now) instr.now.op slot Left word }
+    ensures { outcome_by result (tokens_of (point_of point) made.new) ≡ Rule.outcome_of (C.program code.now) (point_of point) (instr_of instr.now)
+        instr.now.op slot Left word }
 {
     match instr.op {
         Op::Open { bound } => opens(point, instr, bound, slot, made),

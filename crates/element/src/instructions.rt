@@ -40,7 +40,12 @@ impl Model for Instruction {
 
     ghost inverse = { λ i. record { op = i.op; origin = i.origin; bits = i.slot + 65536 * (i.first + 65536 * i.second) } };
 
-    ghost inverse_ok = { λ i h j. record { op = i.op; origin = i.origin; bits = (ap (λ (upper : ℕ). i.bits % 65536 + 65536 * upper) (mod-add-div (i.bits / 65536) 65536) ∙ mod-add-div i.bits 65536) j } };
+    ghost inverse_ok = { λ i h j. record {
+      op = i.op;
+      origin = i.origin;
+      bits = (ap (λ (upper : ℕ). i.bits % 65536 + 65536 * upper)
+          (mod-add-div (i.bits / 65536) 65536) ∙ mod-add-div i.bits 65536) j;
+    } };
 }
 
 impl Instruction {

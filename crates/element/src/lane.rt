@@ -1,6 +1,6 @@
 //! The lane of an element: what it holds, with the code that it runs. It is sound between its events.
 
-ghost use Rattle.std.specs.Prelude.{◌≡◌, ℕ, ◌<◌, ◌≤◌, ◌*◌, ◌^◌, true, false, [], ◌∷◌, length, All, OnOk, OnErr, IfOk, IfSome, IfNone, slice_index_or};
+ghost use Rattle.std.specs.Prelude.{◌≡◌, ◌==◌, ℕ, ◌+◌, ◌<◌, ◌≤◌, ◌*◌, ◌^◌, true, false, [], ◌∷◌, length, All, OnOk, OnErr, IfOk, IfSome, IfNone, slice_index_or};
 ghost use Rattle.tags.specs.declared.slot.SlotState.TheVariants.{Empty};
 ghost use Rattle.frame_store.specs.BankViews.{bank_states};
 ghost use Rattle.element.specs.Parts.{slot_place};
@@ -77,7 +77,13 @@ impl<'m, C: Instructions, A: Allocator> Lane<'m, C, A> {
         requires opening { IsOpening (C.program code.now) (opened (shape_at element elements bank) (bank_states bank) cells manager outputs).part }
         requires width { C.width code.now ≤ bank.width }
         requires few { steps < 2 ^ 63 }
-        ensures exact { IfOk result (λ lane. lane ≡ record { program = C.program code.now; steps = steps; held = opened (shape_at element elements bank.entry) (bank_states bank.entry) cells manager outputs }) }
+        ensures exact { IfOk result (λ lane. lane
+            ≡ record {
+              program = C.program code.now;
+              steps = steps;
+              held = opened (shape_at element elements bank.entry) (bank_states bank.entry)
+                  cells manager outputs;
+            }) }
         ensures sound { IfOk result (λ lane. IsSoundLane lane.program lane.held) }
         ensures starts { IfOk result (λ lane. StartsAs lane.program lane.held.part) }
     {
@@ -102,7 +108,7 @@ impl<'m, C: Instructions, A: Allocator> Lane<'m, C, A> {
     pub fn made(&self) -> u64
         ensures { result ≡ self.now.held.made }
     {
-        self.contents.made
+        self.contents.made()
     }
 
     /// Whether it has made all its events.
@@ -111,7 +117,7 @@ impl<'m, C: Instructions, A: Allocator> Lane<'m, C, A> {
         ensures yes { result ≡ true → IsSpent self.now }
         ensures no { result ≡ false → self.now.held.made < self.now.steps }
     {
-        self.contents.made == self.steps
+        self.contents.made() == self.steps
     }
 
     /// Its tokens, oldest first.
@@ -201,7 +207,7 @@ impl<'m, C: Instructions, A: Allocator> Lane<'m, C, A> {
         if self.contents.queue.len() == 0 {
             return Some(Stepped::Idle);
         }
-        if self.contents.made == self.steps {
+        if self.contents.made() == self.steps {
             return None;
         }
         Some(self.contents.step::<C, Site>(pick, self.code, sent))
@@ -228,6 +234,14 @@ impl<'m, C: Instructions, A: Allocator> Lane<'m, C, A> {
         Some(self.contents.step_otherwise(self.code, sent))
     }
 
+    /// Whether it is the only element.
+    #[inline(always)]
+    pub fn is_alone(&self) -> bool
+        ensures { result ≡ (self.now.held.part.shape.elements == 1) }
+    {
+        self.contents.elements == 1
+    }
+
     /// The element makes one event after another, each at once and with its oldest token, as long as it has one, it may make one
     /// more event, and the token is one that is done at once. It is the only element, so no token is made for another one. It ends
     /// with an error where more room was refused; then it has a token, and may make one more event. `Site` stands for where it is
@@ -243,28 +257,33 @@ impl<'m, C: Instructions, A: Allocator> Lane<'m, C, A> {
         ensures most { self.new.held.made ≤ self.new.steps }
         ensures fixed { fixed_of self.new ≡ fixed_of self.old }
     {
-        'rations: while self.makes_ration::<Site>()? {}
+        'rations: while self.makes_ration::<Site>(u64::MAX)? {}
         Ok(())
     }
 
-    // Makes as many such events as there is room for, and answers whether it made them all, and some.
+    /// As `turn`, but it makes up to `most` events, and no more than there is room for at once. It answers whether it made some and
+    /// may go on: where it did not, it made fewer than `most`, and there is no token for which it could make one.
     #[inline(always)]
-    fn makes_ration<Site>(&mut self) -> Result<bool, AllocError>
+    pub fn makes_ration<Site>(&mut self, most: u64) -> Result<bool, AllocError>
     where
         A: Clone,
         requires one { self.old.held.part.shape.elements ≡ 1 }
+        requires some { 0 < most }
         ensures exact { (events : ℕ) × MakesEvents self.old.program self.old.steps events self.old.held self.new.held }
         ensures some { IfOk result (λ all. all ≡ true → self.old.held.made < self.new.held.made) }
+        ensures within { self.new.held.made ≤ self.old.held.made + most }
+        ensures fewer { OnErr result (self.new.held.made < self.old.held.made + most) }
+        ensures part { IfOk result (λ all. all ≡ false → self.new.held.made < self.old.held.made + most) }
         ensures refused { OnErr result ((0 < length self.new.held.queue) × (self.new.held.made < self.new.steps)) }
         ensures sound { IsSoundLane self.new.program self.new.held }
         ensures most { self.new.held.made ≤ self.new.steps }
         ensures fixed { fixed_of self.new ≡ fixed_of self.old }
     {
-        let allowed = self.steps - self.contents.made;
+        let allowed = self.steps - self.contents.made();
         if allowed == 0 || self.contents.queue.len() == 0 {
             return Ok(false);
         }
-        let events = allowed.min(self.contents.ration()?);
+        let events = allowed.min(self.contents.ration()?).min(most);
         Ok(
             self.contents
                 .make_at_once::<C, Alone, Site>(self.code, events),

@@ -66,12 +66,14 @@ spent_more (SawStop found ∷ ds) d = spent_more ds d
 taken_still : (n : ℕ) (ds : List Deed) (d : Deed) → ((a : ℕ) → a < n → takes_from a d ≡ []) → all_taken n (ds ++ d ∷ []) ≡ all_taken n ds
 taken_still zero ds d none = refl
 taken_still (suc n) ds d none =
-    ap (λ (l : Ts). l ++ joined (taken n (ds ++ d ∷ []))) (taken_still n ds d (λ a l. none a (omega (arith, l)))) ∙ ap (λ (l : List Bundle). all_taken n ds ++ joined l) (taken_same n ds d (none n (omega arith)))
+    ap (λ (l : Ts). l ++ joined (taken n (ds ++ d ∷ []))) (taken_still n ds d (λ a l. none a (omega (arith, l))))
+    ∙ ap (λ (l : List Bundle). all_taken n ds ++ joined l) (taken_same n ds d (none n (omega arith)))
 
 posted_still : (n : ℕ) (ds : List Deed) (d : Deed) → ((a : ℕ) → a < n → posts a d ≡ []) → all_posted n (ds ++ d ∷ []) ≡ all_posted n ds
 posted_still zero ds d none = refl
 posted_still (suc n) ds d none =
-    ap (λ (l : Ts). l ++ joined (posted n (ds ++ d ∷ []))) (posted_still n ds d (λ a l. none a (omega (arith, l)))) ∙ ap (λ (l : List Bundle). all_posted n ds ++ joined l) (posted_same n ds d (none n (omega arith)))
+    ap (λ (l : Ts). l ++ joined (posted n (ds ++ d ∷ []))) (posted_still n ds d (λ a l. none a (omega (arith, l))))
+    ∙ ap (λ (l : List Bundle). all_posted n ds ++ joined l) (posted_same n ds d (none n (omega arith)))
 
 -- a bundle more at the end of one row
 row_more : (row : List Bundle) (x : Bundle) → joined (row ++ x ∷ []) ≡ joined row ++ x
@@ -84,29 +86,37 @@ taken_grows : (n : ℕ) (ds : List Deed) (a : ℕ) (x : Bundle) → a < n → Is
 taken_grows zero ds a x low = absurd (omega (arith, low))
 taken_grows (suc n) ds a x low = dite (ℕ_discrete n a)
     (λ hit.
-    let still : all_taken n (ds ++ Took a x ∷ []) ≡ all_taken n ds = taken_still n ds (Took a x) (λ b l. takes_else b a x (λ (s : a ≡ b). omega (arith, l, s, hit))) in
-    let row : taken n (ds ++ Took a x ∷ []) ≡ taken n ds ++ x ∷ [] = taken_more n ds (Took a x) ∙ ap (λ (l : List Bundle). taken n ds ++ l) (ap (λ (k : ℕ). takes_from k (Took a x)) hit ∙ takes_here a x) in
-    at_first (ap (λ (l : Ts). l ++ joined (taken n (ds ++ Took a x ∷ []))) still ∙ ap (λ (l : List Bundle). all_taken n ds ++ joined l) row ∙ ap (λ (l : Ts). all_taken n ds ++ l) (row_more (taken n ds) x))
+    let still : all_taken n (ds ++ Took a x ∷ []) ≡ all_taken n ds = taken_still n ds (Took a x)
+    (λ b l. takes_else b a x (λ (s : a ≡ b). omega (arith, l, s, hit))) in
+    let row : taken n (ds ++ Took a x ∷ []) ≡ taken n ds ++ x ∷ [] = taken_more n ds (Took a x) ∙ ap (λ (l : List Bundle). taken n ds ++ l)
+    (ap (λ (k : ℕ). takes_from k (Took a x)) hit ∙ takes_here a x) in
+    at_first (ap (λ (l : Ts). l ++ joined (taken n (ds ++ Took a x ∷ []))) still ∙ ap (λ (l : List Bundle). all_taken n ds ++ joined l) row
+    ∙ ap (λ (l : Ts). all_taken n ds ++ l) (row_more (taken n ds) x))
     (at_first (sym (append_assoc (all_taken n ds) (joined (taken n ds)) x)) (IsPermutation-refl ((all_taken n ds ++ joined (taken n ds)) ++ x))))
     (λ miss.
     let below : a < n = omega (arith, low, miss) in
     let row : taken n (ds ++ Took a x ∷ []) ≡ taken n ds = taken_same n ds (Took a x) (takes_else n a x (λ (s : a ≡ n). miss (sym s))) in
     at_first (ap (λ (l : List Bundle). all_taken n (ds ++ Took a x ∷ []) ++ joined l) row)
-    (IsPermutation-trans _ _ _ (IsPermutation-append_left (joined (taken n ds)) (all_taken n (ds ++ Took a x ∷ [])) (all_taken n ds ++ x) (taken_grows n ds a x below)) (behind_row (all_taken n ds) x (joined (taken n ds)))))
+    (IsPermutation-trans _ _ _ (IsPermutation-append_left (joined (taken n ds)) (all_taken n (ds ++ Took a x ∷ [])) (all_taken n ds ++ x)
+    (taken_grows n ds a x below)) (behind_row (all_taken n ds) x (joined (taken n ds)))))
 
 posted_grows : (n : ℕ) (ds : List Deed) (a : ℕ) (x : Bundle) → a < n → IsPermutation (all_posted n (ds ++ Posted a x ∷ [])) (all_posted n ds ++ x)
 posted_grows zero ds a x low = absurd (omega (arith, low))
 posted_grows (suc n) ds a x low = dite (ℕ_discrete n a)
     (λ hit.
-    let still : all_posted n (ds ++ Posted a x ∷ []) ≡ all_posted n ds = posted_still n ds (Posted a x) (λ b l. posts_else b a x (λ (s : a ≡ b). omega (arith, l, s, hit))) in
-    let row : posted n (ds ++ Posted a x ∷ []) ≡ posted n ds ++ x ∷ [] = posted_more n ds (Posted a x) ∙ ap (λ (l : List Bundle). posted n ds ++ l) (ap (λ (k : ℕ). posts k (Posted a x)) hit ∙ posts_here a x) in
-    at_first (ap (λ (l : Ts). l ++ joined (posted n (ds ++ Posted a x ∷ []))) still ∙ ap (λ (l : List Bundle). all_posted n ds ++ joined l) row ∙ ap (λ (l : Ts). all_posted n ds ++ l) (row_more (posted n ds) x))
+    let still : all_posted n (ds ++ Posted a x ∷ []) ≡ all_posted n ds = posted_still n ds (Posted a x)
+    (λ b l. posts_else b a x (λ (s : a ≡ b). omega (arith, l, s, hit))) in
+    let row : posted n (ds ++ Posted a x ∷ []) ≡ posted n ds ++ x ∷ [] = posted_more n ds (Posted a x) ∙ ap (λ (l : List Bundle). posted n ds ++ l)
+    (ap (λ (k : ℕ). posts k (Posted a x)) hit ∙ posts_here a x) in
+    at_first (ap (λ (l : Ts). l ++ joined (posted n (ds ++ Posted a x ∷ []))) still ∙ ap (λ (l : List Bundle). all_posted n ds ++ joined l) row
+    ∙ ap (λ (l : Ts). all_posted n ds ++ l) (row_more (posted n ds) x))
     (at_first (sym (append_assoc (all_posted n ds) (joined (posted n ds)) x)) (IsPermutation-refl ((all_posted n ds ++ joined (posted n ds)) ++ x))))
     (λ miss.
     let below : a < n = omega (arith, low, miss) in
     let row : posted n (ds ++ Posted a x ∷ []) ≡ posted n ds = posted_same n ds (Posted a x) (posts_else n a x (λ (s : a ≡ n). miss (sym s))) in
     at_first (ap (λ (l : List Bundle). all_posted n (ds ++ Posted a x ∷ []) ++ joined l) row)
-    (IsPermutation-trans _ _ _ (IsPermutation-append_left (joined (posted n ds)) (all_posted n (ds ++ Posted a x ∷ [])) (all_posted n ds ++ x) (posted_grows n ds a x below)) (behind_row (all_posted n ds) x (joined (posted n ds)))))
+    (IsPermutation-trans _ _ _ (IsPermutation-append_left (joined (posted n ds)) (all_posted n (ds ++ Posted a x ∷ [])) (all_posted n ds ++ x)
+    (posted_grows n ds a x below)) (behind_row (all_posted n ds) x (joined (posted n ds)))))
 
 -- THE BALANCE
 abbrev pub Balance : ℕ → Ts → List Deed → Ts → Type 0
@@ -121,21 +131,26 @@ still_balanced n began held ds d quiet b =
     at_first (ap (λ (l : Ts). began ++ (l ++ all_taken n (ds ++ d ∷ []))) made ∙ ap (λ (l : Ts). began ++ (made_of ds ++ l)) took)
     (at_last b (ap (λ (l : Ts). held ++ (l ++ all_posted n ds)) (sym spent) ∙ ap (λ (l : Ts). held ++ (spent_of (ds ++ d ∷ []) ++ l)) (sym post)))
 
-pub taken_balanced : (n : ℕ) (began held : Ts) (ds : List Deed) (a : ℕ) (x : Bundle) → a < n → Balance n began ds held → Balance n began (ds ++ Took a x ∷ []) (x ++ held)
+pub taken_balanced : (n : ℕ) (began held : Ts) (ds : List Deed) (a : ℕ) (x : Bundle) → a < n → Balance n began ds held
+    → Balance n began (ds ++ Took a x ∷ []) (x ++ held)
 taken_balanced n began held ds a x low b =
     let d : Deed = Took a x in
     let m = made_of ds in let s = spent_of ds in let t = all_taken n ds in let p = all_posted n ds in
     let made : made_of (ds ++ d ∷ []) ≡ m = made_more ds d ∙ append-nil m in
     let spent : spent_of (ds ++ d ∷ []) ≡ s = spent_more ds d ∙ append-nil s in
     let post : all_posted n (ds ++ d ∷ []) ≡ p = posted_still n ds d (λ k l. refl) in
-    let grown : IsPermutation (began ++ (m ++ all_taken n (ds ++ d ∷ []))) (began ++ (m ++ (t ++ x))) = IsPermutation-append_right began _ _ (IsPermutation-append_right m _ _ (taken_grows n ds a x low)) in
-    let turn : IsPermutation (began ++ (m ++ (t ++ x))) (x ++ (began ++ (m ++ t))) = shuffled (began ∷ m ∷ t ∷ x ∷ []) (Piece 0 ⊕ (Piece 1 ⊕ (Piece 2 ⊕ Piece 3))) (Piece 3 ⊕ (Piece 0 ⊕ (Piece 1 ⊕ Piece 2))) refl in
+    let grown : IsPermutation (began ++ (m ++ all_taken n (ds ++ d ∷ []))) (began ++ (m ++ (t ++ x))) = IsPermutation-append_right began _ _
+    (IsPermutation-append_right m _ _ (taken_grows n ds a x low)) in
+    let turn : IsPermutation (began ++ (m ++ (t ++ x))) (x ++ (began ++ (m ++ t))) = shuffled (began ∷ m ∷ t ∷ x ∷ [])
+    (Piece 0 ⊕ (Piece 1 ⊕ (Piece 2 ⊕ Piece 3))) (Piece 3 ⊕ (Piece 0 ⊕ (Piece 1 ⊕ Piece 2))) refl in
     let both : IsPermutation (x ++ (began ++ (m ++ t))) (x ++ (held ++ (s ++ p))) = IsPermutation-append_right x _ _ b in
     at_first (ap (λ (l : Ts). began ++ (l ++ all_taken n (ds ++ d ∷ []))) made)
     (at_last (IsPermutation-trans _ _ _ grown (IsPermutation-trans _ _ _ turn both))
-    (sym (append_assoc x held (s ++ p)) ∙ ap (λ (l : Ts). (x ++ held) ++ (l ++ p)) (sym spent) ∙ ap (λ (l : Ts). (x ++ held) ++ (spent_of (ds ++ d ∷ []) ++ l)) (sym post)))
+    (sym (append_assoc x held (s ++ p)) ∙ ap (λ (l : Ts). (x ++ held) ++ (l ++ p)) (sym spent)
+    ∙ ap (λ (l : Ts). (x ++ held) ++ (spent_of (ds ++ d ∷ []) ++ l)) (sym post)))
 
-pub posted_balanced : (n : ℕ) (began held unposted : Ts) (ds : List Deed) (a : ℕ) (x : Bundle) → a < n → IsPermutation held (x ++ unposted) → Balance n began ds held → Balance n began (ds ++ Posted a x ∷ []) unposted
+pub posted_balanced : (n : ℕ) (began held unposted : Ts) (ds : List Deed) (a : ℕ) (x : Bundle) → a < n → IsPermutation held (x ++ unposted)
+    → Balance n began ds held → Balance n began (ds ++ Posted a x ∷ []) unposted
 posted_balanced n began held unposted ds a x low out b =
     let d : Deed = Posted a x in
     let m = made_of ds in let s = spent_of ds in let t = all_taken n ds in let p = all_posted n ds in
@@ -143,12 +158,16 @@ posted_balanced n began held unposted ds a x low out b =
     let spent : spent_of (ds ++ d ∷ []) ≡ s = spent_more ds d ∙ append-nil s in
     let took : all_taken n (ds ++ d ∷ []) ≡ t = taken_still n ds d (λ k l. refl) in
     let less : IsPermutation (held ++ (s ++ p)) ((x ++ unposted) ++ (s ++ p)) = IsPermutation-append_left (s ++ p) held (x ++ unposted) out in
-    let turn : IsPermutation ((x ++ unposted) ++ (s ++ p)) (unposted ++ (s ++ (p ++ x))) = shuffled (x ∷ unposted ∷ s ∷ p ∷ []) ((Piece 0 ⊕ Piece 1) ⊕ (Piece 2 ⊕ Piece 3)) (Piece 1 ⊕ (Piece 2 ⊕ (Piece 3 ⊕ Piece 0))) refl in
-    let grown : IsPermutation (unposted ++ (s ++ (p ++ x))) (unposted ++ (s ++ all_posted n (ds ++ d ∷ []))) = IsPermutation-append_right unposted _ _ (IsPermutation-append_right s _ _ (IsPermutation-sym _ _ (posted_grows n ds a x low))) in
+    let turn : IsPermutation ((x ++ unposted) ++ (s ++ p)) (unposted ++ (s ++ (p ++ x))) = shuffled (x ∷ unposted ∷ s ∷ p ∷ [])
+    ((Piece 0 ⊕ Piece 1) ⊕ (Piece 2 ⊕ Piece 3)) (Piece 1 ⊕ (Piece 2 ⊕ (Piece 3 ⊕ Piece 0))) refl in
+    let grown : IsPermutation (unposted ++ (s ++ (p ++ x))) (unposted ++ (s ++ all_posted n (ds ++ d ∷ []))) = IsPermutation-append_right unposted _ _
+    (IsPermutation-append_right s _ _ (IsPermutation-sym _ _ (posted_grows n ds a x low))) in
     at_first (ap (λ (l : Ts). began ++ (l ++ all_taken n (ds ++ d ∷ []))) made ∙ ap (λ (l : Ts). began ++ (m ++ l)) took)
-    (at_last (IsPermutation-trans _ _ _ b (IsPermutation-trans _ _ _ less (IsPermutation-trans _ _ _ turn grown))) (ap (λ (l : Ts). unposted ++ (l ++ all_posted n (ds ++ d ∷ []))) (sym spent)))
+    (at_last (IsPermutation-trans _ _ _ b (IsPermutation-trans _ _ _ less (IsPermutation-trans _ _ _ turn grown)))
+    (ap (λ (l : Ts). unposted ++ (l ++ all_posted n (ds ++ d ∷ []))) (sym spent)))
 
-pub committed_balanced : (n : ℕ) (began held unposted spent made : Ts) (ds : List Deed) → IsPermutation held (spent ++ unposted) → Balance n began ds held → Balance n began (ds ++ Committed spent made ∷ []) (made ++ unposted)
+pub committed_balanced : (n : ℕ) (began held unposted spent made : Ts) (ds : List Deed) → IsPermutation held (spent ++ unposted)
+    → Balance n began ds held → Balance n began (ds ++ Committed spent made ∷ []) (made ++ unposted)
 committed_balanced n began held unposted spent made ds out b =
     let d : Deed = Committed spent made in
     let m = made_of ds in let s = spent_of ds in let t = all_taken n ds in let p = all_posted n ds in
@@ -156,10 +175,13 @@ committed_balanced n began held unposted spent made ds out b =
     let spends : spent_of (ds ++ d ∷ []) ≡ s ++ spent = spent_more ds d ∙ ap (λ (l : Ts). s ++ l) (append-nil spent) in
     let took : all_taken n (ds ++ d ∷ []) ≡ t = taken_still n ds d (λ k l. refl) in
     let post : all_posted n (ds ++ d ∷ []) ≡ p = posted_still n ds d (λ k l. refl) in
-    let front : IsPermutation (began ++ ((m ++ made) ++ t)) (made ++ (began ++ (m ++ t))) = shuffled (began ∷ m ∷ made ∷ t ∷ []) (Piece 0 ⊕ ((Piece 1 ⊕ Piece 2) ⊕ Piece 3)) (Piece 2 ⊕ (Piece 0 ⊕ (Piece 1 ⊕ Piece 3))) refl in
+    let front : IsPermutation (began ++ ((m ++ made) ++ t)) (made ++ (began ++ (m ++ t))) = shuffled (began ∷ m ∷ made ∷ t ∷ [])
+    (Piece 0 ⊕ ((Piece 1 ⊕ Piece 2) ⊕ Piece 3)) (Piece 2 ⊕ (Piece 0 ⊕ (Piece 1 ⊕ Piece 3))) refl in
     let mid : IsPermutation (made ++ (began ++ (m ++ t))) (made ++ (held ++ (s ++ p))) = IsPermutation-append_right made _ _ b in
-    let less : IsPermutation (made ++ (held ++ (s ++ p))) (made ++ ((spent ++ unposted) ++ (s ++ p))) = IsPermutation-append_right made _ _ (IsPermutation-append_left (s ++ p) held (spent ++ unposted) out) in
-    let turn : IsPermutation (made ++ ((spent ++ unposted) ++ (s ++ p))) ((made ++ unposted) ++ ((s ++ spent) ++ p)) = shuffled (made ∷ spent ∷ unposted ∷ s ∷ p ∷ []) (Piece 0 ⊕ ((Piece 1 ⊕ Piece 2) ⊕ (Piece 3 ⊕ Piece 4))) ((Piece 0 ⊕ Piece 2) ⊕ ((Piece 3 ⊕ Piece 1) ⊕ Piece 4)) refl in
+    let less : IsPermutation (made ++ (held ++ (s ++ p))) (made ++ ((spent ++ unposted) ++ (s ++ p))) = IsPermutation-append_right made _ _
+    (IsPermutation-append_left (s ++ p) held (spent ++ unposted) out) in
+    let turn : IsPermutation (made ++ ((spent ++ unposted) ++ (s ++ p))) ((made ++ unposted) ++ ((s ++ spent) ++ p)) = shuffled (made ∷ spent
+    ∷ unposted ∷ s ∷ p ∷ []) (Piece 0 ⊕ ((Piece 1 ⊕ Piece 2) ⊕ (Piece 3 ⊕ Piece 4))) ((Piece 0 ⊕ Piece 2) ⊕ ((Piece 3 ⊕ Piece 1) ⊕ Piece 4)) refl in
     at_first (ap (λ (l : Ts). began ++ (l ++ all_taken n (ds ++ d ∷ []))) makes ∙ ap (λ (l : Ts). began ++ ((m ++ made) ++ l)) took)
     (at_last (IsPermutation-trans _ _ _ front (IsPermutation-trans _ _ _ mid (IsPermutation-trans _ _ _ less turn)))
     (ap (λ (l : Ts). (made ++ unposted) ++ (l ++ p)) (sym spends) ∙ ap (λ (l : Ts). (made ++ unposted) ++ (spent_of (ds ++ d ∷ []) ++ l)) (sym post)))

@@ -39,10 +39,12 @@ none_pass n e k [] ne all = refl
 none_pass n e k (t ∷ ts) ne all =
     let head : element_of n t.to ≡ k = All-head (λ (t : Token). element_of n t.to ≡ k) t ts all in
     let tail = none_pass n e k ts ne (All-tail (λ (t : Token). element_of n t.to ≡ k) t ts all) in
-    ap (λ (b : Bool). if b then t ∷ filter (to_be n e) ts else filter (to_be n e) ts) (ne_eqb (element_of n t.to) e (λ (s : element_of n t.to ≡ e). ne (sym head ∙ s))) ∙ tail
+    ap (λ (b : Bool). if b then t ∷ filter (to_be n e) ts else filter (to_be n e) ts)
+    (ne_eqb (element_of n t.to) e (λ (s : element_of n t.to ≡ e). ne (sym head ∙ s))) ∙ tail
 
 addressed : (g : Setting) (k : ℕ) (h : Holding) → IsPlaced g k h → All (λ (t : Token). element_of g.elements t.to ≡ k) h.queue
-addressed g k h p = subst (λ (m : ℕ). All (λ (t : Token). element_of g.elements t.to ≡ m) h.queue) p.element (subst (λ (n : ℕ). All (λ (t : Token). element_of n t.to ≡ h.part.shape.element) h.queue) p.elements p.sound.addressed)
+addressed g k h p = subst (λ (m : ℕ). All (λ (t : Token). element_of g.elements t.to ≡ m) h.queue) p.element
+    (subst (λ (n : ℕ). All (λ (t : Token). element_of n t.to ≡ h.part.shape.element) h.queue) p.elements p.sound.addressed)
 
 none_later : (g : Setting) (e k : ℕ) (lanes : List Holding) → e < k → AllFrom (IsPlaced g) k lanes → filter (to_be g.elements e) (tokens_in lanes) ≡ []
 none_later g e k [] low placed = refl
@@ -51,12 +53,14 @@ none_later g e k (h ∷ hs) low placed =
     let rest = none_later g e (suc k) hs (omega (arith, low)) placed.1 in
     filter-append (to_be g.elements e) h.queue (tokens_in hs) ∙ ap (λ (l : List Token). l ++ filter (to_be g.elements e) (tokens_in hs)) own ∙ rest
 
-own_from : (g : Setting) (e k i : ℕ) (lanes : List Holding) (h : Holding) → e ≡ k + i → AllFrom (IsPlaced g) k lanes → slice_get lanes i ≡ Some h → filter (to_be g.elements e) (tokens_in lanes) ≡ h.queue
+own_from : (g : Setting) (e k i : ℕ) (lanes : List Holding) (h : Holding) → e ≡ k + i → AllFrom (IsPlaced g) k lanes → slice_get lanes i ≡ Some h
+    → filter (to_be g.elements e) (tokens_in lanes) ≡ h.queue
 own_from g e k i [] h at placed there = absurd (let no : ⊥ = cc in no)
 own_from g e k zero (x ∷ xs) h at placed there =
     let same : x ≡ h = cc in
     let here : e ≡ k = omega (arith, at) in
-    let own = all_pass g.elements e x.queue (subst (λ (m : ℕ). All (λ (t : Token). element_of g.elements t.to ≡ m) x.queue) (sym here) (addressed g k x placed.0)) in
+    let own = all_pass g.elements e x.queue (subst (λ (m : ℕ). All (λ (t : Token). element_of g.elements t.to ≡ m) x.queue) (sym here)
+    (addressed g k x placed.0)) in
     let rest = none_later g e (suc k) xs (omega (arith, here)) placed.1 in
     filter-append (to_be g.elements e) x.queue (tokens_in xs) ∙ ap (λ (l : List Token). l ++ filter (to_be g.elements e) (tokens_in xs)) own
     ∙ ap (λ (l : List Token). x.queue ++ l) rest ∙ append-nil x.queue ∙ ap (λ (y : Holding). y.queue) same
@@ -65,7 +69,8 @@ own_from g e k (suc i) (x ∷ xs) h at placed there =
     filter-append (to_be g.elements e) x.queue (tokens_in xs) ∙ ap (λ (l : List Token). l ++ filter (to_be g.elements e) (tokens_in xs)) own
     ∙ own_from g e (suc k) i xs h (omega (arith, at)) placed.1 there
 
-pub own_tokens : (g : Setting) (e : ℕ) (lanes : List Holding) (h : Holding) → AllFrom (IsPlaced g) 0 lanes → slice_get lanes e ≡ Some h → filter (to_be g.elements e) (tokens_in lanes) ≡ h.queue
+pub own_tokens : (g : Setting) (e : ℕ) (lanes : List Holding) (h : Holding) → AllFrom (IsPlaced g) 0 lanes → slice_get lanes e ≡ Some h
+    → filter (to_be g.elements e) (tokens_in lanes) ≡ h.queue
 own_tokens g e lanes h placed there = own_from g e 0 e lanes h (omega arith) placed there
 
 -- EMPTY BUNDLES
@@ -73,7 +78,8 @@ module _ {A : Type 0} where
   no_tokens : (unposted : List (Vec Token A)) → All (λ (v : Vec Token A). v.items ≡ []) unposted → flat_map (λ (v : Vec Token A). v.items) unposted ≡ []
   no_tokens [] all = refl
   no_tokens (v ∷ vs) all =
-      ap (λ (l : List Token). l ++ flat_map (λ (v : Vec Token A). v.items) vs) (All-head (λ (v : Vec Token A). v.items ≡ []) v vs all) ∙ no_tokens vs (All-tail (λ (v : Vec Token A). v.items ≡ []) v vs all)
+      ap (λ (l : List Token). l ++ flat_map (λ (v : Vec Token A). v.items) vs) (All-head (λ (v : Vec Token A). v.items ≡ []) v vs all)
+      ∙ no_tokens vs (All-tail (λ (v : Vec Token A). v.items ≡ []) v vs all)
 
 module _ {C A L : Type 0} where
   nothing_beside : (r : Runner C A L) → IsClear r → All (λ (v : Vec Token A). v.items ≡ []) r.unposted.items → away r ≡ []
@@ -83,13 +89,15 @@ module _ {C A L : Type 0} where
       ∙ ap (λ (n : ℕ). drop n r.sent.items) bundled ∙ sent
 
   -- a lane with its fresh seat
-  pub new_running : (keeps_events : Bool) (g : Setting) (mesh : MeshId) (e : ℕ) (lanes : List Holding) (r : Runner C A L) → mesh.elements ≡ g.elements → mesh.start ≡ tokens_in lanes → AllFrom (IsPlaced g) 0 lanes → slice_get lanes e ≡ Some (held_of r.lane) → RunsAs g (fixed_of r.lane)
+  pub new_running : (keeps_events : Bool) (g : Setting) (mesh : MeshId) (e : ℕ) (lanes : List Holding) (r : Runner C A L) → mesh.elements ≡ g.elements
+      → mesh.start ≡ tokens_in lanes → AllFrom (IsPlaced g) 0 lanes → slice_get lanes e ≡ Some (held_of r.lane) → RunsAs g (fixed_of r.lane)
       → r.seat ≡ fresh_seat mesh e → IsNew g.elements r → IsRunning keeps_events g mesh (held_of r.lane) r
   new_running keeps_events g mesh e lanes r elements start placed there runs seat new =
       let h : Holding = held_of r.lane in
       let element : r.seat.own.element ≡ e = ap (λ (s : SeatView). s.own.element) seat in
       let deeds : r.seat.own.deeds ≡ [] = ap (λ (s : SeatView). s.own.deeds) seat in
-      let mine : filter (to_be mesh.elements e) mesh.start ≡ h.queue = ap (λ (n : ℕ). filter (to_be n e) mesh.start) elements ∙ ap (λ (l : List Token). filter (to_be g.elements e) l) start ∙ own_tokens g e lanes h placed there in
+      let mine : filter (to_be mesh.elements e) mesh.start ≡ h.queue = ap (λ (n : ℕ). filter (to_be n e) mesh.start) elements
+      ∙ ap (λ (l : List Token). filter (to_be g.elements e) l) start ∙ own_tokens g e lanes h placed there in
       let held : r.seat.own.held ≡ h.queue = ap (λ (s : SeatView). s.own.held) seat ∙ mine in
       let beside : away r ≡ [] = nothing_beside r new.clear new.unposted.1 in
       record {
@@ -105,7 +113,8 @@ module _ {C A L : Type 0} where
           leads = refl;
           count = omega arith;
           commits = ap (λ (ds : List Deed). commits_of r.seat.own.element ds) (sym deeds);
-          balanced = subst (λ (ds : List Deed). Balance g.elements h.queue ds r.seat.own.held) (sym deeds) (subst (λ (l : List Token). Balance g.elements h.queue [] l) (sym held) (first_balanced g.elements h.queue));
+          balanced = subst (λ (ds : List Deed). Balance g.elements h.queue ds r.seat.own.held) (sym deeds)
+              (subst (λ (l : List Token). Balance g.elements h.queue [] l) (sym held) (first_balanced g.elements h.queue));
           holds = at_last (at_first held (IsPermutation-refl h.queue)) (sym (append-nil h.queue) ∙ ap (λ (l : List Token). h.queue ++ l) (sym beside));
         };
         tidy = record {

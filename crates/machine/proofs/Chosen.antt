@@ -6,7 +6,8 @@ abbrev pick : {X : Type 0} (n e : ℕ) (d : X) (P : ℕ → X → Type 0) → ((
 pick n e d P all (inl low) = (all e low).0
 pick n e d P all (inr over) = d
 
-picked : {X : Type 0} (n e : ℕ) (d : X) (P : ℕ → X → Type 0) (all : (i : ℕ) → i < n → (x : X) × P i x) (c : (e < n) ⊎ (n ≤ e)) → e < n → P e (pick n e d P all c)
+picked : {X : Type 0} (n e : ℕ) (d : X) (P : ℕ → X → Type 0) (all : (i : ℕ) → i < n → (x : X) × P i x) (c : (e < n) ⊎ (n ≤ e)) → e < n
+    → P e (pick n e d P all c)
 picked n e d P all (inl low) within = (all e low).1
 picked n e d P all (inr over) within = absurd (let no : ⊥ = omega (arith, over, within) in no)
 

@@ -1,5 +1,6 @@
 -- A block is committed.
-use Rattle.std.proofs.Common.{◌≡◌, sym, ◌∙◌, ap, subst, ℕ, ◌+◌, ◌-◌, ◌^◌, ◌<◌, ◌≤◌, List, [], ◌∷◌, ◌++◌, length, drop, get_or, arith, append_assoc, ◌⊎◌, inl, inr, Bool, true, false, take, refl, None}
+use Rattle.std.proofs.Common.{◌≡◌, sym, ◌∙◌, ap, subst, ℕ, ◌+◌, ◌-◌, ◌^◌, ◌<◌, ◌≤◌, List, [], ◌∷◌, ◌++◌, length, drop, get_or, arith, append_assoc}
+use Rattle.std.proofs.Common.{◌⊎◌, inl, inr, Bool, true, false, take, refl, None}
 use Rattle.std.specs.Prelude.{IsPermutation, flat_map, min, Vec, if◌then◌else◌}
 use Rattle.std.proofs.lemmas.Bool.{cases_lt}
 use Rattle.std.proofs.lemmas.List.{length-append, length-map, append-nil, take-append-drop}
@@ -29,7 +30,8 @@ use Rattle.rounds.proofs.Counting.{grown}
 use Rattle.machine.specs.Runners.{Ran, IsRunning, IsClear, HasNoReason, HasMade, NotesBlock, left_last, still_first, away, tokens_of, behind_all}
 use Rattle.machine.proofs.Tokens.{minus}
 use Rattle.machine.proofs.Flowing.{acts_take}
-use Rattle.machine.proofs.Steps.{Parted, acts, cut, ran_as, first_gone, minus_gone, gone_count, left_count, gone_has, gone_mine, block, ran_committed, ran_still}
+use Rattle.machine.proofs.Steps.{Parted, acts, cut, ran_as, first_gone, minus_gone, gone_count, left_count, gone_has, gone_mine, block}
+use Rattle.machine.proofs.Steps.{ran_committed, ran_still}
 
 pub by_min : (m a b : ℕ) → m ≡ min a b → (m ≤ a) × (m ≤ b) × ((m ≡ a) ⊎ (m ≡ b))
 by_min m a b is = (omega (arith, is), omega (arith, is), by_case (cases_lt a b))
@@ -48,17 +50,21 @@ tokens_by e (t ∷ ts) = ap (λ (l : List Token). t ∷ l) (tokens_by e ts)
 abbrev pub gone_in : {C A L : Type 0} → Bool → Runner C A L → ℕ → ℕ → List Token
 gone_in keeps_events r spent made = if keeps_events then take spent (tokens_of r.log.events.items) else minus r.seat.own.held (still_first r made)
 
-more_logs : (n : Noted) (blocks : List Block) (b : Block) (taken made : List Token) (events spent left : ℕ) → taken ≡ taken_in b → made ≡ b.made → events ≡ length b.acts → spent ≡ length b.spent → left ≡ length b.made → SpendsOldest b → Logs n blocks
+more_logs : (n : Noted) (blocks : List Block) (b : Block) (taken made : List Token) (events spent left : ℕ) → taken ≡ taken_in b → made ≡ b.made
+    → events ≡ length b.acts → spent ≡ length b.spent → left ≡ length b.made → SpendsOldest b → Logs n blocks
     → Logs (behind_all n taken made (record { events = events; spent = spent; made = left })) (blocks ++ b ∷ [])
 more_logs n blocks b taken made events spent left took makes many gone stay oldest logs =
     let open_one : Noted = record { taken = n.taken ++ taken; made = n.made ++ made; blocks = n.blocks } in
     let notes : Notes open_one blocks (taken_in b) b.made = record {
-      taken = ap (λ (l : List Token). l ++ taken) (logs.taken ∙ append-nil (flat_map taken_in blocks)) ∙ ap (λ (l : List Token). flat_map taken_in blocks ++ l) took;
-      made = ap (λ (l : List Token). l ++ made) (logs.made ∙ append-nil (flat_map made_in blocks)) ∙ ap (λ (l : List Token). flat_map made_in blocks ++ l) makes;
+      taken = ap (λ (l : List Token). l ++ taken) (logs.taken ∙ append-nil (flat_map taken_in blocks))
+          ∙ ap (λ (l : List Token). flat_map taken_in blocks ++ l) took;
+      made = ap (λ (l : List Token). l ++ made) (logs.made ∙ append-nil (flat_map made_in blocks)) ∙ ap (λ (l : List Token). flat_map made_in blocks
+          ++ l) makes;
       counts = logs.counts;
       oldest = logs.oldest;
     } in
-    let counts : counts_of b ≡ record { events = events; spent = spent; made = left } = λ i. (let c : Counts = record { events = sym many i; spent = sym gone i; made = sym stay i } in c) in
+    let counts : counts_of b ≡ record { events = events; spent = spent; made = left } = λ i.
+    (let c : Counts = record { events = sym many i; spent = sym gone i; made = sym stay i } in c) in
     subst (λ (c : Counts). Logs (with_block open_one c) (blocks ++ b ∷ [])) counts (ends_block open_one blocks b notes oldest)
 
 -- a lane that made its whole turn, or has no token left, has no reason to halt
@@ -66,14 +72,16 @@ pub no_reason : (g : Setting) (old new : Holding) → IsWhole g.turn old new Non
 no_reason g old new (inl made) = inr (omega arith)
 no_reason g old new (inr none) = inl none
 
-module _ {C A L : Type 0} (keeps_events : Bool) (g : Setting) (mesh : MeshId) (start old : Holding) (before events : ℕ) (r : Runner C A L) (h : HasMade keeps_events g mesh start old before events r) where
+module _ {C A L : Type 0} (keeps_events : Bool) (g : Setting) (mesh : MeshId) (start old : Holding) (before events : ℕ) (r : Runner C A L)
+    (h : HasMade keeps_events g mesh start old before events r) where
   abbrev pub beside : List Token
   beside = r.unqueued.items ++ flat_map (λ v. v.items) r.unposted.items
 
   abbrev new : Holding
   new = held_of r.lane
 
-  abbrev pub parts : Parted old (held_of r.lane) r.sent.items (acts g mesh start r.seat.own.element old r.seat.own.deeds r.seat.own.held beside h.ran h.taken (held_of r.lane) r.sent.items h.turns) h.taken
+  abbrev pub parts : Parted old (held_of r.lane) r.sent.items (acts g mesh start r.seat.own.element old r.seat.own.deeds r.seat.own.held beside h.ran
+      h.taken (held_of r.lane) r.sent.items h.turns) h.taken
   parts = cut g mesh start r.seat.own.element old r.seat.own.deeds r.seat.own.held beside h.ran h.taken new r.sent.items h.turns
 
   -- a block of some events takes a token of the queue
@@ -88,10 +96,12 @@ module _ {C A L : Type 0} (keeps_events : Bool) (g : Setting) (mesh : MeshId) (s
     pub spent_is : spent ≡ length parts.spent
     spent_is = by_case whole parts.many.2
       where
-        by_case : (spent ≡ events) ⊎ (spent ≡ before) → (length parts.spent ≡ length h.taken) ⊎ (length parts.spent ≡ length old.queue) → spent ≡ length parts.spent
+        by_case : (spent ≡ events) ⊎ (spent ≡ before) → (length parts.spent ≡ length h.taken) ⊎ (length parts.spent ≡ length old.queue) → spent
+            ≡ length parts.spent
         by_case a b = let m = parts.many in let e = h.events_are in let q = h.before_is in both a b (omega (arith, m.0, e)) (omega (arith, m.1, q))
           where
-            both : (spent ≡ events) ⊎ (spent ≡ before) → (length parts.spent ≡ length h.taken) ⊎ (length parts.spent ≡ length old.queue) → length parts.spent ≤ events → length parts.spent ≤ before → spent ≡ length parts.spent
+            both : (spent ≡ events) ⊎ (spent ≡ before) → (length parts.spent ≡ length h.taken) ⊎ (length parts.spent ≡ length old.queue)
+                → length parts.spent ≤ events → length parts.spent ≤ before → spent ≡ length parts.spent
             both (inl a) (inl b) l k = let e = h.events_are in omega (arith, a, b, e)
             both (inl a) (inr b) l k = let q = h.before_is in omega (arith, a, b, q, l, within)
             both (inr a) (inl b) l k = let e = h.events_are in omega (arith, a, b, e, k, few)
@@ -123,58 +133,87 @@ module _ {C A L : Type 0} (keeps_events : Bool) (g : Setting) (mesh : MeshId) (s
       left = left_last r made
 
       log_tokens : keeps_events ≡ true → tokens_of r.log.events.items ≡ h.taken
-      log_tokens on = ap (λ (l : Events). tokens_of l) (h.log ∙ ap (λ (b : Bool). logged b [] (by old.part.shape.element h.taken)) on) ∙ tokens_by old.part.shape.element h.taken
+      log_tokens on = ap (λ (l : Events). tokens_of l) (h.log ∙ ap (λ (b : Bool). logged b [] (by old.part.shape.element h.taken)) on)
+          ∙ tokens_by old.part.shape.element h.taken
 
       gone_noted : keeps_events ≡ true → gone ≡ take spent h.taken
-      gone_noted on = ap (λ (b : Bool). if b then take spent (tokens_of r.log.events.items) else minus r.seat.own.held (still_first r made)) on ∙ ap (λ (l : List Token). take spent l) (log_tokens on)
+      gone_noted on = ap (λ (b : Bool). if b then take spent (tokens_of r.log.events.items) else minus r.seat.own.held (still_first r made)) on
+          ∙ ap (λ (l : List Token). take spent l) (log_tokens on)
 
       gone_is : IsPermutation gone parts.spent
       gone_is = by_keeping keeps_events refl
         where
           by_keeping : (b : Bool) → keeps_events ≡ b → IsPermutation gone parts.spent
-          by_keeping true on = permutation_same _ _ (gone_noted on ∙ first_gone g mesh start r.seat.own.element old r.seat.own.deeds r.seat.own.held beside h.ran h.taken new r.sent.items h.turns spent made spent_is count_is)
-          by_keeping false off = at_first (ap (λ (b : Bool). if b then take spent (tokens_of r.log.events.items) else minus r.seat.own.held (still_first r made)) off) (minus_gone g mesh start r.seat.own.element old r.seat.own.deeds r.seat.own.held beside h.ran h.taken new r.sent.items h.turns spent made spent_is count_is)
+          by_keeping true on = permutation_same _ _ (gone_noted on ∙ first_gone g mesh start r.seat.own.element old r.seat.own.deeds r.seat.own.held
+              beside h.ran h.taken new r.sent.items h.turns spent made spent_is count_is)
+          by_keeping false off = at_first (ap (λ (b : Bool). if b then take spent (tokens_of r.log.events.items) else minus r.seat.own.held
+              (still_first r made)) off) (minus_gone g mesh start r.seat.own.element old r.seat.own.deeds r.seat.own.held beside h.ran h.taken new
+              r.sent.items h.turns spent made spent_is count_is)
 
       pub asked : (length gone ≡ spent) × (length left ≡ made)
-      asked = (gone_count g mesh start r.seat.own.element old r.seat.own.deeds r.seat.own.held beside h.ran h.taken new r.sent.items h.turns spent made spent_is count_is gone gone_is, left_count g mesh start r.seat.own.element old r.seat.own.deeds r.seat.own.held beside h.ran h.taken new r.sent.items h.turns spent made spent_is count_is gone gone_is)
+      asked = (
+        gone_count g mesh start r.seat.own.element old r.seat.own.deeds r.seat.own.held beside h.ran h.taken new r.sent.items h.turns spent
+            made spent_is count_is gone gone_is,
+        left_count g mesh start r.seat.own.element old r.seat.own.deeds r.seat.own.held beside h.ran h.taken
+            new r.sent.items h.turns spent made spent_is count_is gone gone_is,
+      )
 
       pub addressed : AllTo mesh.elements r.seat.own.element gone
-      addressed = subst (λ (n : ℕ). AllTo n r.seat.own.element gone) (sym h.ran.elements) (gone_mine g mesh start r.seat.own.element old r.seat.own.deeds r.seat.own.held beside h.ran h.taken new r.sent.items h.turns spent made spent_is count_is gone gone_is)
+      addressed = subst (λ (n : ℕ). AllTo n r.seat.own.element gone) (sym h.ran.elements)
+          (gone_mine g mesh start r.seat.own.element old r.seat.own.deeds r.seat.own.held beside h.ran h.taken new r.sent.items h.turns spent made
+          spent_is count_is gone gone_is)
 
       pub has : Has r.seat.own.held gone
-      has = (still_first r made, gone_has g mesh start r.seat.own.element old r.seat.own.deeds r.seat.own.held beside h.ran h.taken new r.sent.items h.turns spent made spent_is count_is gone gone_is)
+      has = (
+        still_first r made,
+        gone_has g mesh start r.seat.own.element old r.seat.own.deeds r.seat.own.held beside h.ran h.taken new r.sent.items
+            h.turns spent made spent_is count_is gone gone_is,
+      )
 
       abbrev the_block : Block
-      the_block = block g mesh start r.seat.own.element old r.seat.own.deeds r.seat.own.held beside h.ran h.taken new r.sent.items h.turns spent made spent_is count_is gone gone_is
+      the_block = block g mesh start r.seat.own.element old r.seat.own.deeds r.seat.own.held beside h.ran h.taken new r.sent.items h.turns spent made
+          spent_is count_is gone gone_is
 
       -- the block is noted
-      logs_more : keeps_events ≡ true → Logs (behind_all (noted_in r.notes) (tokens_of r.log.events.items) left (record { events = length r.log.events.items; spent = spent; made = made })) (h.blocks ++ the_block ∷ [])
+      logs_more : keeps_events ≡ true → Logs (behind_all (noted_in r.notes) (tokens_of r.log.events.items) left
+          (record { events = length r.log.events.items; spent = spent; made = made })) (h.blocks ++ the_block ∷ [])
       logs_more on =
           let took : taken_in the_block ≡ h.taken = acts_take g.program g.steps old [] h.taken new r.sent.items h.turns in
           let tokens : tokens_of r.log.events.items ≡ taken_in the_block = log_tokens on ∙ sym took in
-          let events : length r.log.events.items ≡ length the_block.acts = sym (length-map r.log.events.items (λ (ev : ℕ × Token). ev.1)) ∙ ap (λ (l : List Token). length l) tokens ∙ length-map the_block.acts (λ (a : Act). a.token) in
-          let oldest : taken_in the_block ≡ gone ++ drop spent h.taken = took ∙ sym (take-append-drop spent h.taken) ∙ ap (λ (l : List Token). l ++ drop spent h.taken) (sym (gone_noted on)) in
-          more_logs (noted_in r.notes) h.blocks the_block (tokens_of r.log.events.items) left (length r.log.events.items) spent made tokens refl events (sym asked.0) (sym asked.1) (drop spent h.taken, oldest) (h.noted on)
+          let events : length r.log.events.items ≡ length the_block.acts = sym (length-map r.log.events.items (λ (ev : ℕ × Token). ev.1))
+          ∙ ap (λ (l : List Token). length l) tokens ∙ length-map the_block.acts (λ (a : Act). a.token) in
+          let oldest : taken_in the_block ≡ gone ++ drop spent h.taken = took ∙ sym (take-append-drop spent h.taken)
+          ∙ ap (λ (l : List Token). l ++ drop spent h.taken) (sym (gone_noted on)) in
+          more_logs (noted_in r.notes) h.blocks the_block (tokens_of r.log.events.items) left (length r.log.events.items) spent made tokens refl
+          events (sym asked.0) (sym asked.1) (drop spent h.taken, oldest) (h.noted on)
 
-      pub committed : (s last : Runner C A L) → s ≡ record r { seat = s.seat } → Commits gone left r.seat s.seat → r.created + made ≤ 2 ^ 40 → NotesBlock keeps_events spent made (record s { created = s.created + made }) last → IsRunning keeps_events g mesh start last
+      pub committed : (s last : Runner C A L) → s ≡ record r { seat = s.seat } → Commits gone left r.seat s.seat → r.created + made ≤ 2 ^ 40
+          → NotesBlock keeps_events spent made (record s { created = s.created + made }) last → IsRunning keeps_events g mesh start last
       committed s last others commits small notes =
           let own = r.seat.own in
           let unposted = commits.0 in
           let is = commits.3 in
           let ds : List Deed = own.deeds ++ Committed gone left ∷ [] in
-          let ran = ran_committed g mesh start r.seat.own.element old r.seat.own.deeds r.seat.own.held beside h.ran h.taken new r.sent.items h.turns spent made spent_is count_is gone gone_is unposted commits.2 in
+          let ran = ran_committed g mesh start r.seat.own.element old r.seat.own.deeds r.seat.own.held beside h.ran h.taken new r.sent.items h.turns
+          spent made spent_is count_is gone gone_is unposted commits.2 in
           let unbundled : drop r.bundled r.sent.items ≡ r.sent.items = ap (λ (n : ℕ). drop n r.sent.items) h.unbundled in
-          let same_away : away s ≡ beside ++ r.sent.items = ap (λ (z : Runner C A L). away z) others ∙ ap (λ (l : List Token). r.unqueued.items ++ (flat_map (λ v. v.items) r.unposted.items ++ l)) unbundled ∙ sym (append_assoc r.unqueued.items (flat_map (λ v. v.items) r.unposted.items) r.sent.items) in
+          let same_away : away s ≡ beside ++ r.sent.items = ap (λ (z : Runner C A L). away z) others
+          ∙ ap (λ (l : List Token). r.unqueued.items ++ (flat_map (λ v. v.items) r.unposted.items ++ l)) unbundled
+          ∙ sym (append_assoc r.unqueued.items (flat_map (λ v. v.items) r.unposted.items) r.sent.items) in
           let lane : held_of s.lane ≡ new = ap (λ (z : Runner C A L). held_of z.lane) others in
           let deeds : s.seat.own.deeds ≡ ds = ap (λ (z : SeatView). z.own.deeds) is in
-          let counted : created s.seat.own.deeds ≡ s.created + made = (let more = created_more own.deeds (Committed gone left) in let same : created s.seat.own.deeds ≡ created ds = ap created deeds in let c = h.tidy.created in let n = asked.1 in let o : s.created ≡ r.created = ap (λ (z : Runner C A L). z.created) others in omega arith) in
-          let as_noted = ap (λ (z : Runner C A L). behind_all (noted_in z.notes) (tokens_of z.log.events.items) (left_last z made) (record { events = length z.log.events.items; spent = spent; made = made })) others in
+          let counted : created s.seat.own.deeds ≡ s.created + made = (let more = created_more own.deeds (Committed gone left)
+          in let same : created s.seat.own.deeds ≡ created ds = ap created deeds in let c = h.tidy.created in let n = asked.1 in let o : s.created
+          ≡ r.created = ap (λ (z : Runner C A L). z.created) others in omega arith) in
+          let as_noted = ap (λ (z : Runner C A L). behind_all (noted_in z.notes) (tokens_of z.log.events.items) (left_last z made)
+          (record { events = length z.log.events.items; spent = spent; made = made })) others in
           subst (λ (z : Runner C A L). IsRunning keeps_events g mesh start z) (sym notes.others) (record {
             at = ap (λ (z : SeatView). z.mesh) is ∙ h.at;
             alone = ap (λ (z : SeatView). z.joined) is ∙ h.alone;
             runs = subst (λ (z : Runner C A L). RunsAs g (fixed_of z.lane)) (sym others) h.runs;
             blocks = h.blocks ++ the_block ∷ [];
-            ran = ran_as g mesh start own.element s.seat.own.element new (held_of s.lane) ds s.seat.own.deeds (left ++ unposted) s.seat.own.held (beside ++ r.sent.items) (away s)
+            ran = ran_as g mesh start own.element s.seat.own.element new (held_of s.lane) ds s.seat.own.deeds (left ++ unposted) s.seat.own.held
+                (beside ++ r.sent.items) (away s)
                 (ap (λ (z : SeatView). z.own.element) is) lane deeds (ap (λ (z : SeatView). z.own.held) is) same_away ran;
             tidy = record {
               count = ap (λ (z : Runner C A L). length z.unposted.items) others ∙ h.tidy.count;
@@ -187,9 +226,12 @@ module _ {C A L : Type 0} (keeps_events : Bool) (g : Setting) (mesh : MeshId) (s
             unlogged = by_keeping keeps_events s last refl notes (ap (λ (z : Runner C A L). z.log.events.items) others);
           })
         where
-          by_keeping : (b : Bool) (s last : Runner C A L) → keeps_events ≡ b → NotesBlock keeps_events spent made (record s { created = s.created + made }) last → s.log.events.items ≡ r.log.events.items → last.log.events.items ≡ []
+          by_keeping : (b : Bool) (s last : Runner C A L) → keeps_events ≡ b
+              → NotesBlock keeps_events spent made (record s { created = s.created + made }) last → s.log.events.items ≡ r.log.events.items
+              → last.log.events.items ≡ []
           by_keeping true s last on notes log = notes.log ∙ ap (λ (b : Bool). if b then [] else s.log.events.items) on
-          by_keeping false s last off notes log = notes.log ∙ ap (λ (b : Bool). if b then [] else s.log.events.items) off ∙ log ∙ h.log ∙ ap (λ (b : Bool). logged b [] (by old.part.shape.element h.taken)) off
+          by_keeping false s last off notes log = notes.log ∙ ap (λ (b : Bool). if b then [] else s.log.events.items) off ∙ log ∙ h.log
+              ∙ ap (λ (b : Bool). logged b [] (by old.part.shape.element h.taken)) off
 
   -- no event was made
   pub nothing_made : events ≡ 0 → IsRunning keeps_events g mesh start r
@@ -197,13 +239,15 @@ module _ {C A L : Type 0} (keeps_events : Bool) (g : Setting) (mesh : MeshId) (s
       let n : length h.taken ≡ 0 = sym h.events_are ∙ none in
       let still = ran_still g mesh start r.seat.own.element old r.seat.own.deeds r.seat.own.held beside h.ran h.taken new r.sent.items h.turns n in
       let all : List Token = flat_map (λ v. v.items) r.unposted.items in
-      let same : away r ≡ beside = ap (λ (k : ℕ). r.unqueued.items ++ (all ++ drop k r.sent.items)) h.unbundled ∙ ap (λ (l : List Token). r.unqueued.items ++ (all ++ l)) still.1 ∙ ap (λ (l : List Token). r.unqueued.items ++ l) (append-nil all) in
+      let same : away r ≡ beside = ap (λ (k : ℕ). r.unqueued.items ++ (all ++ drop k r.sent.items)) h.unbundled
+      ∙ ap (λ (l : List Token). r.unqueued.items ++ (all ++ l)) still.1 ∙ ap (λ (l : List Token). r.unqueued.items ++ l) (append-nil all) in
       record {
         at = h.at;
         alone = h.alone;
         runs = h.runs;
         blocks = h.blocks;
-        ran = ran_as g mesh start r.seat.own.element r.seat.own.element old new r.seat.own.deeds r.seat.own.deeds r.seat.own.held r.seat.own.held beside (away r) refl still.0 refl refl same h.ran;
+        ran = ran_as g mesh start r.seat.own.element r.seat.own.element old new r.seat.own.deeds r.seat.own.deeds r.seat.own.held r.seat.own.held
+            beside (away r) refl still.0 refl refl same h.ran;
         tidy = record { count = h.tidy.count; addressed = h.tidy.addressed; created = h.tidy.created; few = h.tidy.few };
         noted = h.noted;
         unlogged = h.log ∙ ap (λ (l : List Token). logged keeps_events [] (by old.part.shape.element l)) (none_taken h.taken n) ∙ nothing_logged keeps_events;
@@ -218,23 +262,32 @@ module _ {C A L : Type 0} (keeps_events : Bool) (g : Setting) (mesh : MeshId) (s
       nothing_logged false = refl
 
 -- A turn has been taken, and is not committed.
-module _ {C A L : Type 0} (keeps_events : Bool) (g : Setting) (mesh : MeshId) (start : Holding) (r : Runner C A L) (run : IsRunning keeps_events g mesh start r) (clear : IsClear r) where
+module _ {C A L : Type 0} (keeps_events : Bool) (g : Setting) (mesh : MeshId) (start : Holding) (r : Runner C A L)
+    (run : IsRunning keeps_events g mesh start r) (clear : IsClear r) where
   -- the lane runs the code of the machine
-  turned : (lane : LaneView) (sent : Vec Token A) (taken : List Token) → Turns r.lane.program r.lane.steps r.lane.held r.sent.items taken lane.held sent.items → Turns g.program g.steps (held_of r.lane) r.sent.items taken (held_of lane) sent.items
+  turned : (lane : LaneView) (sent : Vec Token A) (taken : List Token) → Turns r.lane.program r.lane.steps r.lane.held r.sent.items taken lane.held
+      sent.items → Turns g.program g.steps (held_of r.lane) r.sent.items taken (held_of lane) sent.items
   turned lane sent taken turns =
       subst (λ (p : Program). Turns p g.steps (held_of r.lane) r.sent.items taken (held_of lane) sent.items) run.runs.program
       (subst (λ (n : ℕ). Turns r.lane.program n (held_of r.lane) r.sent.items taken (held_of lane) sent.items) run.runs.steps turns)
 
-  pub has_made : (lane : LaneView) (sent : Vec Token A) (log : EventLog A L) (taken : List Token) (before events : ℕ) → Turns r.lane.program r.lane.steps r.lane.held r.sent.items taken lane.held sent.items → (IsSoundLane r.lane.program r.lane.held → IsSoundLane lane.program lane.held) → fixed_of lane ≡ fixed_of r.lane
-      → before ≡ length r.lane.held.queue → events ≡ lane.held.made - r.lane.held.made → log.events.items ≡ logged keeps_events r.log.events.items (by r.lane.held.part.shape.element taken) → HasMade keeps_events g mesh start (held_of r.lane) before events (record r { lane = lane; sent = sent; log = log })
+  pub has_made : (lane : LaneView) (sent : Vec Token A) (log : EventLog A L) (taken : List Token) (before events : ℕ)
+      → Turns r.lane.program r.lane.steps r.lane.held r.sent.items taken lane.held sent.items
+      → (IsSoundLane r.lane.program r.lane.held → IsSoundLane lane.program lane.held) → fixed_of lane ≡ fixed_of r.lane
+      → before ≡ length r.lane.held.queue → events ≡ lane.held.made - r.lane.held.made → log.events.items ≡ logged keeps_events r.log.events.items
+      (by r.lane.held.part.shape.element taken) → HasMade keeps_events g mesh start (held_of r.lane) before events
+      (record r { lane = lane; sent = sent; log = log })
   has_made lane sent log taken before events as_turns as_sound fixed before_is events_is logs =
       let old : Holding = held_of r.lane in
       let turns = turned lane sent taken as_turns in
-      let sound : IsSoundLane g.program (held_of lane) = subst (λ (p : Program). IsSoundLane p (held_of lane)) (ap (λ (f : Fixed). f.program) fixed ∙ run.runs.program) (as_sound (subst (λ (p : Program). IsSoundLane p (held_of r.lane)) (sym run.runs.program) run.ran.placed.sound)) in
-      let fresh : Turns g.program g.steps old [] taken (held_of lane) sent.items = subst (λ (l : List Token). Turns g.program g.steps old l taken (held_of lane) sent.items) clear.1 turns in
+      let sound : IsSoundLane g.program (held_of lane) = subst (λ (p : Program). IsSoundLane p (held_of lane)) (ap (λ (f : Fixed). f.program) fixed
+      ∙ run.runs.program) (as_sound (subst (λ (p : Program). IsSoundLane p (held_of r.lane)) (sym run.runs.program) run.ran.placed.sound)) in
+      let fresh : Turns g.program g.steps old [] taken (held_of lane) sent.items = subst (λ (l : List Token). Turns g.program g.steps old l taken
+      (held_of lane) sent.items) clear.1 turns in
       let count : lane.held.made ≡ r.lane.held.made + length taken = grown g.program g.steps old [] taken (held_of lane) sent.items fresh in
       let all : List Token = flat_map (λ v. v.items) r.unposted.items in
-      let less : away r ≡ r.unqueued.items ++ all = ap (λ (n : ℕ). r.unqueued.items ++ (all ++ drop n r.sent.items)) clear.2 ∙ ap (λ (l : List Token). r.unqueued.items ++ (all ++ l)) clear.1 ∙ ap (λ (l : List Token). r.unqueued.items ++ l) (append-nil all) in
+      let less : away r ≡ r.unqueued.items ++ all = ap (λ (n : ℕ). r.unqueued.items ++ (all ++ drop n r.sent.items)) clear.2
+      ∙ ap (λ (l : List Token). r.unqueued.items ++ (all ++ l)) clear.1 ∙ ap (λ (l : List Token). r.unqueued.items ++ l) (append-nil all) in
       record {
         at = run.at;
         alone = run.alone;
@@ -252,5 +305,7 @@ module _ {C A L : Type 0} (keeps_events : Bool) (g : Setting) (mesh : MeshId) (s
         unbundled = clear.2;
       }
 
-  pub more_made : (lane : LaneView) (sent : Vec Token A) (taken : List Token) → Turns r.lane.program r.lane.steps r.lane.held r.sent.items taken lane.held sent.items → r.lane.held.made ≤ lane.held.made
-  more_made lane sent taken as_turns = let turns = turned lane sent taken as_turns in let count : lane.held.made ≡ r.lane.held.made + length taken = grown g.program g.steps (held_of r.lane) r.sent.items taken (held_of lane) sent.items turns in omega (arith, count)
+  pub more_made : (lane : LaneView) (sent : Vec Token A) (taken : List Token) → Turns r.lane.program r.lane.steps r.lane.held r.sent.items taken
+      lane.held sent.items → r.lane.held.made ≤ lane.held.made
+  more_made lane sent taken as_turns = let turns = turned lane sent taken as_turns in let count : lane.held.made
+      ≡ r.lane.held.made + length taken = grown g.program g.steps (held_of r.lane) r.sent.items taken (held_of lane) sent.items turns in omega (arith, count)

@@ -1,5 +1,6 @@
 -- From runners that have left to one run of the machine, and its report.
-use Rattle.std.proofs.Common.{◌≡◌, ◌≢◌, refl, sym, ◌∙◌, ap, subst, ℕ, zero, suc, ◌+◌, ◌<◌, ◌⊎◌, inl, inr, Bool, true, false, ℤ, List, [], ◌∷◌, ◌++◌, length, map, get_or, Option, Some, arith}
+use Rattle.std.proofs.Common.{◌≡◌, ◌≢◌, refl, sym, ◌∙◌, ap, subst, ℕ, zero, suc, ◌+◌, ◌<◌, ◌⊎◌, inl, inr, Bool, true, false, ℤ, List, [], ◌∷◌, ◌++◌}
+use Rattle.std.proofs.Common.{length, map, get_or, Option, Some, arith}
 use Rattle.std.specs.Prelude.{All, IsPermutation, slice_get}
 use Rattle.std.specs.Option.{option_map}
 use Rattle.std.proofs.lemmas.List.{length-map, get_or-map}
@@ -41,7 +42,8 @@ use Rattle.machine.specs.declared.runner.Runner.{Runner}
 use Rattle.machine.specs.Runners.{Ran, IsRunning, Runs, IsClear, IsDeparture, away}
 use Rattle.machine.specs.Ends.{reason_of, reasons_of, IsOwn, EndsFreely, EndsOn}
 use Rattle.rounds.specs.Counted.{IsFirst, NoneHalts}
-use Rattle.machine.specs.Starts.{lane_in, seat_of, departure_of, notes_of, lane_fixed, lanes_in, lanes_fixed, seats_in, departures_in, logs_in, IsNew, IsHaltOf, AllEnded, Lists}
+use Rattle.machine.specs.Starts.{lane_in, seat_of, departure_of, notes_of, lane_fixed, lanes_in, lanes_fixed, seats_in, departures_in, logs_in}
+use Rattle.machine.specs.Starts.{IsNew, IsHaltOf, AllEnded, Lists}
 use Rattle.machine.proofs.Beginning.{new_running}
 use Rattle.machine.proofs.Chosen.{chosen}
 use Rattle.machine.proofs.Freeing.{left_at, halted_at, reason_at}
@@ -81,7 +83,23 @@ reported_with : (s : State) (after all : Events) (halt : Halt) (r : Report) → 
 reported_with s after all halt r kept (inl is) = absurd (kept (ap (λ (x : Report). x.end) is))
 reported_with s after all halt r kept (inr (has, ends, (first, t))) = (
   has,
-  inr (refl, ends, (first, record { there = t.there; outputs = t.outputs; cells = t.cells; deferred = t.deferred; requests = t.requests; credits = t.credits; out = t.out })),
+  inr (
+    refl,
+    ends,
+    (
+      first,
+      record {
+        there = t.there;
+        outputs = t.outputs;
+        cells = t.cells;
+        deferred = t.deferred;
+        requests = t.requests;
+        credits =
+            t.credits;
+        out = t.out;
+      },
+    ),
+  ),
 )
 
 pub ends_in_memory : (k : SoFar) (r : Report) → IsReportOf k Halt.Memory r → r.end ≡ End.Memory
@@ -109,7 +127,9 @@ module _ {C A L : Type 0} where
     pub fresh : AreFresh mesh (seats_in ps)
     pub new : All (λ (p : CachePadded (Runner C A L)). IsNew g.elements (padded_value p)) ps
 
-  pub are_ready : (g : Setting) (mesh : MeshId) (ps : List (CachePadded (Runner C A L))) (raw : List Holding) (fixed : List Fixed) → IsSoundState (arriving g raw []) → All (RunsAs g) fixed → lanes_fixed ps ≡ fixed → (mesh.elements ≡ g.elements) × (mesh.start ≡ tokens_in raw) → (lanes_in ps ≡ raw) × (length ps ≡ g.elements)
+  pub are_ready : (g : Setting) (mesh : MeshId) (ps : List (CachePadded (Runner C A L))) (raw : List Holding) (fixed : List Fixed)
+      → IsSoundState (arriving g raw []) → All (RunsAs g) fixed → lanes_fixed ps ≡ fixed → (mesh.elements ≡ g.elements) × (mesh.start ≡ tokens_in raw)
+      → (lanes_in ps ≡ raw) × (length ps ≡ g.elements)
       → AreFresh mesh (seats_in ps) → All (λ (p : CachePadded (Runner C A L)). IsNew g.elements (padded_value p)) ps → AreReady g mesh ps
   are_ready g mesh ps raw fixed sound runs same is lanes fresh new = record {
     runs = subst (λ (l : List Fixed). All (RunsAs g) l) (sym same) runs;
@@ -128,20 +148,25 @@ module _ {C A L : Type 0} where
     running : (i : ℕ) (d : CachePadded (Runner C A L)) → i < length olds
         → IsRunning keeps_events g mesh (lane_in (get_or olds i d)) (padded_value (get_or olds i d))
     running i d low =
-        new_running keeps_events g mesh i (lanes_in olds) (padded_value (get_or olds i d)) ready.elements ready.start (raw_sound g (lanes_in olds) [] ready.sound).lanes (slice_map lane_in olds i d low)
-        (subst (λ (f : Fixed). RunsAs g f) (get_or-map lane_fixed olds i d (lane_fixed d) low) (All-get_or (RunsAs g) (lanes_fixed olds) i (lane_fixed d) (let count = length-map olds lane_fixed in omega (arith, low, count)) ready.runs)) (fresh_at i d low) (ready.new i d low)
+        new_running keeps_events g mesh i (lanes_in olds) (padded_value (get_or olds i d)) ready.elements ready.start
+        (raw_sound g (lanes_in olds) [] ready.sound).lanes (slice_map lane_in olds i d low)
+        (subst (λ (f : Fixed). RunsAs g f) (get_or-map lane_fixed olds i d (lane_fixed d) low)
+        (All-get_or (RunsAs g) (lanes_fixed olds) i (lane_fixed d) (let count = length-map olds lane_fixed in omega (arith, low, count))
+        ready.runs)) (fresh_at i d low) (ready.new i d low)
 
     pub all_run : All (λ (p : CachePadded (Runner C A L)). Runs keeps_events g mesh (padded_value p) × IsClear (padded_value p)) olds
     all_run = λ i d low. ((lane_in (get_or olds i d), running i d low), (ready.new i d low).clear)
 
     -- RUNNERS THAT HAVE LEFT
-    module _ (may_stop : Bool) (news : List (CachePadded (Runner C A L))) (ended : AllEnded keeps_events g mesh may_stop olds news) (count : length news ≡ length olds) (none_lost : (i : ℕ) → slice_get (departures_in news) i ≡ Some Departure.Lost → ⊥) where
+    module _ (may_stop : Bool) (news : List (CachePadded (Runner C A L))) (ended : AllEnded keeps_events g mesh may_stop olds news)
+        (count : length news ≡ length olds) (none_lost : (i : ℕ) → slice_get (departures_in news) i ≡ Some Departure.Lost → ⊥) where
       within : (i : ℕ) → i < length olds → i < length news
       within i low = omega (arith, low, count)
 
       ran : (i : ℕ) (d : CachePadded (Runner C A L)) → i < length olds
           → IsRunning keeps_events g mesh (lane_in (get_or olds i d)) (padded_value (get_or news i d))
-      ran i d low = (ended i d low).keeps (λ (is : departure_of (get_or news i d) ≡ Departure.Lost). none_lost i (left_at news i d Departure.Lost (within i low) is)) (lane_in (get_or olds i d)) (running i d low)
+      ran i d low = (ended i d low).keeps (λ (is : departure_of (get_or news i d) ≡ Departure.Lost). none_lost i
+          (left_at news i d Departure.Lost (within i low) is)) (lane_in (get_or olds i d)) (running i d low)
 
       element : (i : ℕ) (d : CachePadded (Runner C A L)) → i < length olds → (own_of (get_or news i d)).element ≡ i
       element i d low = (ended i d low).stays.2 ∙ ap (λ (s : SeatView). s.own.element) (fresh_at i d low)
@@ -164,7 +189,8 @@ module _ {C A L : Type 0} where
         placed_at = subst (λ (n : ℕ). IsPlaced g n (lane_in p)) element_at ran_at.ran.placed
 
         ran_here : Ran g mesh i (lane_in (get_or olds i p)) (lane_in p) (own_of p).deeds (own_of p).held (away (padded_value p)) ran_at.blocks
-        ran_here = subst (λ (n : ℕ). Ran g mesh n (lane_in (get_or olds i p)) (lane_in p) (own_of p).deeds (own_of p).held (away (padded_value p)) ran_at.blocks) element_at ran_at.ran
+        ran_here = subst (λ (n : ℕ). Ran g mesh n (lane_in (get_or olds i p)) (lane_in p) (own_of p).deeds (own_of p).held (away (padded_value p))
+            ran_at.blocks) element_at ran_at.ran
 
         did : ends.Ran g i (lane_in (get_or olds i p)) (own_of p) (lane_in p) (away (padded_value p)) ran_at.blocks
         did = record {
@@ -201,7 +227,8 @@ module _ {C A L : Type 0} where
 
       -- THE RUN
       abbrev RanAs : ℕ → List Token × List Block → Type 0
-      RanAs i x = (old new : Holding) (a : Account) → slice_get (lanes_in olds) i ≡ Some old → get_elem? (owns news) i ≡ some a → slice_get (lanes_in news) i ≡ Some new → ends.Ran g i old a new x.0 x.1
+      RanAs i x = (old new : Holding) (a : Account) → slice_get (lanes_in olds) i ≡ Some old → get_elem? (owns news) i ≡ some a
+          → slice_get (lanes_in news) i ≡ Some new → ends.Ran g i old a new x.0 x.1
 
       abbrev HasNoted : ℕ → List Block → Type 0
       HasNoted i blocks = (l : BlockLog A) → keeps_events ≡ true → slice_get (logs_in news) i ≡ Some l → Logs (noted_in l) blocks
@@ -211,18 +238,24 @@ module _ {C A L : Type 0} where
 
       noted_at : (i : ℕ) (p : CachePadded (Runner C A L)) (low : i < length news) (is : get_or news i p ≡ p) → HasNoted i (ran_at i p low is).blocks
       noted_at i p low is = λ l on w.
-          let notes : notes_of p ≡ l = ap (λ (q : CachePadded (Runner C A L)). notes_of q) (sym is) ∙ same_Some (notes_of (get_or news i p)) l (sym (slice_map notes_of news i p low) ∙ w) in
+          let notes : notes_of p ≡ l = ap (λ (q : CachePadded (Runner C A L)). notes_of q) (sym is) ∙ same_Some (notes_of (get_or news i p)) l
+          (sym (slice_map notes_of news i p low) ∙ w) in
           subst (λ (z : BlockLog A). Logs (noted_in z) (ran_at i p low is).blocks) notes ((ran_at i p low is).noted on)
 
-      did_at : (i : ℕ) (p : CachePadded (Runner C A L)) (low : i < length news) (is : get_or news i p ≡ p) → RanAs i (away (padded_value p), (ran_at i p low is).blocks)
+      did_at : (i : ℕ) (p : CachePadded (Runner C A L)) (low : i < length news) (is : get_or news i p ≡ p)
+          → RanAs i (away (padded_value p), (ran_at i p low is).blocks)
       did_at i p low is = λ old new a o n w.
           let d = did i p low is in
           let first : lane_in (get_or olds i p) ≡ old = same_Some (lane_in (get_or olds i p)) old (sym (slice_map lane_in olds i p (low_old i p low is)) ∙ o) in
-          let last : lane_in p ≡ new = ap (λ (q : CachePadded (Runner C A L)). lane_in q) (sym is) ∙ same_Some (lane_in (get_or news i p)) new (sym (slice_map lane_in news i p low) ∙ w) in
-          let own : own_of p ≡ a = ap (λ (q : CachePadded (Runner C A L)). own_of q) (sym is) ∙ same_some (own_of (get_or news i p)) a (sym (get_map own_of news i p low) ∙ n) in
+          let last : lane_in p ≡ new = ap (λ (q : CachePadded (Runner C A L)). lane_in q) (sym is) ∙ same_Some (lane_in (get_or news i p)) new
+          (sym (slice_map lane_in news i p low) ∙ w) in
+          let own : own_of p ≡ a = ap (λ (q : CachePadded (Runner C A L)). own_of q) (sym is) ∙ same_some (own_of (get_or news i p)) a
+          (sym (get_map own_of news i p low) ∙ n) in
           let kept : List Token = away (padded_value p) in
           let blocks : List Block = (ran_at i p low is).blocks in
-          subst (λ (x : Holding). ends.Ran g i x a new kept blocks) first (subst (λ (x : Account). ends.Ran g i (lane_in (get_or olds i p)) x new kept blocks) own (subst (λ (x : Holding). ends.Ran g i (lane_in (get_or olds i p)) (own_of p) x kept blocks) last d))
+          subst (λ (x : Holding). ends.Ran g i x a new kept blocks) first
+          (subst (λ (x : Account). ends.Ran g i (lane_in (get_or olds i p)) x new kept blocks) own
+          (subst (λ (x : Holding). ends.Ran g i (lane_in (get_or olds i p)) (own_of p) x kept blocks) last d))
 
       pub choice : (f : ℕ → List Token × List Block) × ((i : ℕ) → i < g.elements → Did i (f i))
       choice = chosen g.elements ([], []) Did (λ i low.
@@ -237,11 +270,14 @@ module _ {C A L : Type 0} where
       blocks_of i = (choice.0 i).1
 
       -- WHY IT HALTS
-      lane_halts : (halt : Halt) (tokens : List Token) (e : ℕ) → slice_get (departures_in news) e ≡ Some (Departure.Halted halt) → IsHalted (arriving g (lanes_in news) tokens) may_stop halt
+      lane_halts : (halt : Halt) (tokens : List Token) (e : ℕ) → slice_get (departures_in news) e ≡ Some (Departure.Halted halt)
+          → IsHalted (arriving g (lanes_in news) tokens) may_stop halt
       lane_halts halt tokens e is =
           let f = slice_found departure_of news e (Departure.Halted halt) is in
-          let why : HaltsLane g.program g.steps may_stop (lane_in f.0) (Some halt) = subst (λ (l : Departure). IsDeparture g may_stop (padded_value f.0) l) (sym f.2) (left_is e f.0 f.1 f.3) in
-          halts_as g may_stop (lanes_in news) tokens e (lane_in f.0) halt (slice_map lane_in news e f.0 f.1 ∙ ap (λ (q : CachePadded (Runner C A L)). Some (lane_in q)) f.3) why
+          let why : HaltsLane g.program g.steps may_stop (lane_in f.0) (Some halt) = subst
+          (λ (l : Departure). IsDeparture g may_stop (padded_value f.0) l) (sym f.2) (left_is e f.0 f.1 f.3) in
+          halts_as g may_stop (lanes_in news) tokens e (lane_in f.0) halt (slice_map lane_in news e f.0 f.1
+          ∙ ap (λ (q : CachePadded (Runner C A L)). Some (lane_in q)) f.3) why
 
       -- what each says of itself is so
       own_said : (r : Runner C A L) (departure : Departure) → (departure ≡ Departure.Lost → ⊥) → IsDeparture g may_stop r departure
@@ -251,14 +287,17 @@ module _ {C A L : Type 0} where
       own_said r Departure.Rested none is = is.1
       own_said r Departure.Stopped none is = is
 
-      own_reason : (e : ℕ) (h : Holding) (reason : Option Halt) → slice_get (lanes_in news) e ≡ Some h → slice_get (reasons_of (departures_in news)) e ≡ Some reason → IsOwn g may_stop h reason
+      own_reason : (e : ℕ) (h : Holding) (reason : Option Halt) → slice_get (lanes_in news) e ≡ Some h → slice_get (reasons_of (departures_in news)) e
+          ≡ Some reason → IsOwn g may_stop h reason
       own_reason e h reason lane said =
           let f = slice_found lane_in news e h lane in
           let p : CachePadded (Runner C A L) = f.0 in
-          let there : slice_get (departures_in news) e ≡ Some (departure_of p) = left_at news e p (departure_of p) f.1 (ap (λ (q : CachePadded (Runner C A L)). departure_of q) f.3) in
+          let there : slice_get (departures_in news) e ≡ Some (departure_of p) = left_at news e p (departure_of p) f.1
+          (ap (λ (q : CachePadded (Runner C A L)). departure_of q) f.3) in
           let same : reason ≡ reason_of (departure_of p) =
           same_Some reason (reason_of (departure_of p)) (sym said ∙ reason_at (departures_in news) e (departure_of p) there) in
-          let own = own_said (padded_value p) (departure_of p) (λ (is : departure_of p ≡ Departure.Lost). none_lost e (there ∙ ap (λ (l : Departure). Some l) is)) (left_is e p f.1 f.3) in
+          let own = own_said (padded_value p) (departure_of p) (λ (is : departure_of p ≡ Departure.Lost). none_lost e
+          (there ∙ ap (λ (l : Departure). Some l) is)) (left_is e p f.1 f.3) in
           subst (λ (o : Option Halt). IsOwn g may_stop h o) (sym same) (subst (λ (x : Holding). IsOwn g may_stop x (reason_of (departure_of p))) (sym f.2) own)
 
       pub cell : (halt : Halt) → IsHaltOf (departures_in news) halt → NamesCell g.program halt
@@ -268,11 +307,13 @@ module _ {C A L : Type 0} where
           by_halt (inl halts) = clash_cell (arriving g (lanes_in news) []) false halt (none_sound g (lanes_in news) sound_last) halts
           by_halt (inr (stop, may)) = subst (λ (h : Halt). NamesCell g.program h) (sym stop) tt
 
-          by_left : IsFirst (reasons_of (departures_in news)) halt ⊎ (((e : ℕ) × (slice_get (departures_in news) e ≡ Some Departure.Rested)) × NoneHalts (reasons_of (departures_in news)) × (halt ≡ Halt.NoToken)) → NamesCell g.program halt
+          by_left : IsFirst (reasons_of (departures_in news)) halt ⊎ (((e : ℕ) × (slice_get (departures_in news) e ≡ Some Departure.Rested))
+              × NoneHalts (reasons_of (departures_in news)) × (halt ≡ Halt.NoToken)) → NamesCell g.program halt
           by_left (inl least) = by_halt (lane_halts halt [] least.0 (halted_at (departures_in news) least.0 halt least.1))
           by_left (inr (at, silent, none)) = subst (λ (h : Halt). NamesCell g.program h) (sym none) tt
 
-      module _ (s : SeatView) (mesh_is : s.mesh ≡ mesh) (seats : accounts s ≡ map (λ (x : SeatView). x.own) (seats_in news)) (history : (n : ℕ) × Leaves s.mesh s.seen n) (commits : HasCommits s) (agree : Agree s) (final : IsFinal s) where
+      module _ (s : SeatView) (mesh_is : s.mesh ≡ mesh) (seats : accounts s ≡ map (λ (x : SeatView). x.own) (seats_in news)) (history : (n : ℕ)
+          × Leaves s.mesh s.seen n) (commits : HasCommits s) (agree : Agree s) (final : IsFinal s) where
         accounts_are : accounts s ≡ owns news
         accounts_are = seats ∙ owns_are news
 
@@ -282,34 +323,44 @@ module _ {C A L : Type 0} where
             let low : e < g.elements = (let l = f.1 in let n = ready.count in omega (arith, l, n, count)) in
             (choice.1 e low).0 old new a o (subst (λ (l : List Account). get_elem? l e ≡ some a) accounts_are n) w
 
-        pub the_end : (inputs : List ℤ) (before : Events) → Began inputs (arriving g (lanes_in olds) []) before → ends.Ended g s inputs before (lanes_in news) blocks_of
+        pub the_end : (inputs : List ℤ) (before : Events) → Began inputs (arriving g (lanes_in olds) []) before
+            → ends.Ended g s inputs before (lanes_in news) blocks_of
         the_end inputs before began =
             ends_freely g ready.sound.setting s history.0 (lanes_in olds) (lanes_in news) kept_by blocks_of
             (ap (λ (m : MeshId). m.elements) mesh_is ∙ ready.elements)
-            (subst (λ (l : List Token). IsPermutation l (tokens_in (lanes_in olds))) (sym (ap (λ (m : MeshId). m.start) mesh_is ∙ ready.start)) (IsPermutation-refl (tokens_in (lanes_in olds))))
+            (subst (λ (l : List Token). IsPermutation l (tokens_in (lanes_in olds))) (sym (ap (λ (m : MeshId). m.start) mesh_is ∙ ready.start))
+            (IsPermutation-refl (tokens_in (lanes_in olds))))
             history.1 commits agree final
             (ap (λ (l : List Account). length l) accounts_are ∙ length-map news own_of ∙ count ∙ ready.count)
             ready.sound (length-map news lane_in ∙ count ∙ ready.count) all_did inputs before began
 
-        rests : (inputs : List ℤ) (before : Events) (x : ends.Ended g s inputs before (lanes_in news) blocks_of) (e : ℕ) → slice_get (departures_in news) e ≡ Some Departure.Rested → tokens_in (arriving g (lanes_in news) x.tokens).lanes ≡ []
+        rests : (inputs : List ℤ) (before : Events) (x : ends.Ended g s inputs before (lanes_in news) blocks_of) (e : ℕ)
+            → slice_get (departures_in news) e ≡ Some Departure.Rested → tokens_in (arriving g (lanes_in news) x.tokens).lanes ≡ []
         rests inputs before x e is =
             let f = slice_found departure_of news e Departure.Rested is in
-            let seen : Leaves (seat_of f.0).mesh (own_of f.0).last 0 = (subst (λ (l : Departure). IsDeparture g may_stop (padded_value f.0) l) (sym f.2) (left_is e f.0 f.1 f.3)).0 in
-            let there : get_elem? (owns news) e ≡ some (own_of f.0) = get_map own_of news e f.0 f.1 ∙ ap (λ (q : CachePadded (Runner C A L)). some (own_of q)) f.3 in
+            let seen : Leaves (seat_of f.0).mesh (own_of f.0).last 0 = (subst (λ (l : Departure). IsDeparture g may_stop (padded_value f.0) l)
+            (sym f.2) (left_is e f.0 f.1 f.3)).0 in
+            let there : get_elem? (owns news) e ≡ some (own_of f.0) = get_map own_of news e f.0 f.1
+            ∙ ap (λ (q : CachePadded (Runner C A L)). some (own_of q)) f.3 in
             x.rest e (own_of f.0) (subst (λ (l : List Account). get_elem? l e ≡ some (own_of f.0)) (sym accounts_are) there)
             (subst (λ (m : MeshId). Leaves m (own_of f.0).last 0) ((ran_at e f.0 f.1 f.3).at ∙ sym mesh_is) seen)
 
-        halted : (halt : Halt) → IsHaltOf (departures_in news) halt → (inputs : List ℤ) (before : Events) (x : ends.Ended g s inputs before (lanes_in news) blocks_of) → IsHalted (arriving g (lanes_in news) x.tokens) may_stop halt
+        halted : (halt : Halt) → IsHaltOf (departures_in news) halt
+            → (inputs : List ℤ) (before : Events) (x : ends.Ended g s inputs before (lanes_in news) blocks_of)
+            → IsHalted (arriving g (lanes_in news) x.tokens) may_stop halt
         halted halt truth inputs before x = by_left truth.1
           where
-            by_left : IsFirst (reasons_of (departures_in news)) halt ⊎ (((e : ℕ) × (slice_get (departures_in news) e ≡ Some Departure.Rested)) × NoneHalts (reasons_of (departures_in news)) × (halt ≡ Halt.NoToken)) → IsHalted (arriving g (lanes_in news) x.tokens) may_stop halt
+            by_left : IsFirst (reasons_of (departures_in news)) halt ⊎ (((e : ℕ) × (slice_get (departures_in news) e ≡ Some Departure.Rested))
+                × NoneHalts (reasons_of (departures_in news)) × (halt ≡ Halt.NoToken)) → IsHalted (arriving g (lanes_in news) x.tokens) may_stop halt
             by_left (inl least) = lane_halts halt x.tokens least.0 (halted_at (departures_in news) least.0 halt least.1)
-            by_left (inr (at, silent, none)) = inl (subst (λ (h : Halt). HaltsAs (arriving g (lanes_in news) x.tokens) false h) (sym none) (rests inputs before x at.0 at.1))
+            by_left (inr (at, silent, none)) = inl (subst (λ (h : Halt). HaltsAs (arriving g (lanes_in news) x.tokens) false h) (sym none)
+                (rests inputs before x at.0 at.1))
 
         logs_count : length (logs_in news) ≡ g.elements
         logs_count = length-map news notes_of ∙ count ∙ ready.count
 
-        history_of : keeps_events ≡ true → (inputs : List ℤ) (before : Events) (x : ends.Ended g s inputs before (lanes_in news) blocks_of) → IsHistory (logs_in news) x.log s.mesh.start x.last
+        history_of : keeps_events ≡ true → (inputs : List ℤ) (before : Events) (x : ends.Ended g s inputs before (lanes_in news) blocks_of)
+            → IsHistory (logs_in news) x.log s.mesh.start x.last
         history_of on inputs before x = record {
           leaves = subst (λ (n : ℕ). LeavesTokens n s.mesh.start x.log x.last) (sym logs_count) x.legal;
           below = subst (λ (n : ℕ). AreBelow n x.log) (sym logs_count) x.below;
@@ -320,23 +371,36 @@ module _ {C A L : Type 0} where
         }
 
         -- the events that are listed are those of a run that leads to these lanes
-        ordered : keeps_events ≡ true → (kept after : Events) (opening : List Token) → opening ≡ tokens_in (lanes_in olds) → Lists (logs_in news) opening kept after → (inputs : List ℤ) (before : Events) (x : ends.Ended g s inputs before (lanes_in news) blocks_of)
+        ordered : keeps_events ≡ true → (kept after : Events) (opening : List Token) → opening ≡ tokens_in (lanes_in olds)
+            → Lists (logs_in news) opening kept after → (inputs : List ℤ) (before : Events) (x : ends.Ended g s inputs before (lanes_in news) blocks_of)
             → (made : Events) × Began inputs (arriving g (lanes_in news) x.tokens) (before ++ made) × (after ≡ kept ++ made)
         ordered on kept after opening opens lists inputs before x =
             let start : opening ≡ s.mesh.start = opens ∙ sym (ap (λ (m : MeshId). m.start) mesh_is ∙ ready.start) in
-            let l = lists x.log s.mesh.start x.last (history_of on inputs before x) (subst (λ (ts : List Token). IsPermutation opening ts) start (IsPermutation-refl opening)) in
+            let l = lists x.log s.mesh.start x.last (history_of on inputs before x) (subst (λ (ts : List Token). IsPermutation opening ts) start
+            (IsPermutation-refl opening)) in
             let o = l.1 in
-            let leaves : LeavesTokens g.elements s.mesh.start o.history x.last = subst (λ (n : ℕ). LeavesTokens n s.mesh.start o.history x.last) logs_count o.leaves in
-            let below : AreBelow g.elements o.history = subst (λ (n : ℕ). AreBelow n o.history) logs_count o.below in
-            (l.0, subst (λ (evs : Events). Began inputs (arriving g (lanes_in news) x.tokens) (before ++ evs)) (sym o.events) (x.any o.history leaves below o.blocks), l.2)
+            let leaves : LeavesTokens g.elements s.mesh.start o.history x.last = subst (λ (n : ℕ). LeavesTokens n s.mesh.start o.history x.last)
+            logs_count o.leaves in
+            let below : AreBelow g.elements o.history = subst (λ (n : ℕ). AreBelow n o.history) logs_count o.below in (
+              l.0,
+              subst (λ (evs : Events). Began inputs (arriving g (lanes_in news) x.tokens) (before ++ evs)) (sym o.events)
+                  (x.any o.history leaves below o.blocks),
+              l.2,
+            )
 
         -- the report of these lanes
-        pub shows_last : (halt : Halt) → IsHaltOf (departures_in news) halt → (now : Setting) → now ≡ g → (raw : List Holding) → raw ≡ lanes_in news → (logs : List (BlockLog A)) → logs ≡ logs_in news → (opening : List Token) → opening ≡ tokens_in (lanes_in olds)
+        pub shows_last : (halt : Halt) → IsHaltOf (departures_in news) halt → (now : Setting) → now ≡ g → (raw : List Holding) → raw ≡ lanes_in news
+            → (logs : List (BlockLog A)) → logs ≡ logs_in news → (opening : List Token) → opening ≡ tokens_in (lanes_in olds)
             → (kept after : Events) (r : Report) → (keeps_events ≡ true → Lists logs opening kept after)
-            → ((inputs : List ℤ) (in_list : Bool) (ts : List Token) (evs : Events) → IsSoundState (arriving now raw ts) → Began inputs (arriving now raw ts) evs → HaltsAs (arriving now raw ts) in_list halt → ShowsBut now.program (size now) inputs now.steps in_list false after evs r)
-            → (halt ≡ Halt.Stop → (inputs : List ℤ) (in_list : Bool) (ts : List Token) (evs : Events) → IsSoundState (arriving now raw ts) → Began inputs (arriving now raw ts) evs → ShowsBut now.program (size now) inputs now.steps in_list true after evs r)
-            → (inputs : List ℤ) (before : Events) → Began inputs (arriving g (lanes_in olds) []) before → ShowsOn keeps_events g.program (size g) inputs g.steps may_stop kept before r
-        shows_last halt truth now setting raw is logs logs_are opening opens kept after r lists shows stopped inputs before began = by_end (the_end inputs before began)
+            → ((inputs : List ℤ) (in_list : Bool) (ts : List Token) (evs : Events) → IsSoundState (arriving now raw ts)
+            → Began inputs (arriving now raw ts) evs → HaltsAs (arriving now raw ts) in_list halt → ShowsBut now.program (size now) inputs
+            now.steps in_list false after evs r)
+            → (halt ≡ Halt.Stop → (inputs : List ℤ) (in_list : Bool) (ts : List Token) (evs : Events) → IsSoundState (arriving now raw ts)
+            → Began inputs (arriving now raw ts) evs → ShowsBut now.program (size now) inputs now.steps in_list true after evs r)
+            → (inputs : List ℤ) (before : Events) → Began inputs (arriving g (lanes_in olds) []) before → ShowsOn keeps_events g.program (size g)
+            inputs g.steps may_stop kept before r
+        shows_last halt truth now setting raw is logs logs_are opening opens kept after r lists shows stopped inputs before began = by_end
+            (the_end inputs before began)
           where
             by_end : ends.Ended g s inputs before (lanes_in news) blocks_of → ShowsOn keeps_events g.program (size g) inputs g.steps may_stop kept before r
             by_end x = by_keeping keeps_events refl
@@ -347,46 +411,61 @@ module _ {C A L : Type 0} where
                 sound : IsSoundState (arriving now raw x.tokens)
                 sound = subst (λ (w : State). IsSoundState w) same x.sound
 
-                by_halt : (all : Events) → Began inputs (arriving now raw x.tokens) all → IsHalted (arriving now raw x.tokens) may_stop halt → ShowsBut now.program (size now) inputs now.steps false may_stop after all r
+                by_halt : (all : Events) → Began inputs (arriving now raw x.tokens) all → IsHalted (arriving now raw x.tokens) may_stop halt
+                    → ShowsBut now.program (size now) inputs now.steps false may_stop after all r
                 by_halt all last (inl halts) =
                     let shown = shows inputs false x.tokens all sound last halts in
                     (shown.0, shows_any now.program (size now) inputs now.steps false may_stop (with_events r shown.0) shown.1, shown.2)
                 by_halt all last (inr (stop, may)) =
-                    let shown = stopped stop inputs false x.tokens all sound last in
-                    (shown.0, subst (λ (m : Bool). ShowsInOrder now.program (size now) inputs now.steps false m (with_events r shown.0)) (sym may) shown.1, shown.2)
+                    let shown = stopped stop inputs false x.tokens all sound last in (
+                      shown.0,
+                      subst (λ (m : Bool). ShowsInOrder now.program (size now) inputs now.steps false m (with_events r shown.0)) (sym may)
+                          shown.1,
+                      shown.2,
+                    )
 
-                reported : (all : Events) → Began inputs (arriving g (lanes_in news) x.tokens) all → ShowsBut g.program (size g) inputs g.steps false may_stop after all r
+                reported : (all : Events) → Began inputs (arriving g (lanes_in news) x.tokens) all → ShowsBut g.program (size g) inputs g.steps false
+                    may_stop after all r
                 reported all last = subst (λ (z : Setting). ShowsBut z.program (size z) inputs z.steps false may_stop after all r) setting
-                    (by_halt all (subst (λ (w : State). Began inputs w all) same last) (subst (λ (w : State). IsHalted w may_stop halt) same (halted halt truth inputs before x)))
+                    (by_halt all (subst (λ (w : State). Began inputs w all) same last) (subst (λ (w : State). IsHalted w may_stop halt) same
+                    (halted halt truth inputs before x)))
 
                 by_keeping : (b : Bool) → keeps_events ≡ b → ShowsOn keeps_events g.program (size g) inputs g.steps may_stop kept before r
                 by_keeping false off =
                     let t = reported (before ++ events_in x.log) x.began in
                     (t.0, t.1, λ on same. absurd (let no : ⊥ = cc in no))
                 by_keeping true on =
-                    let o = ordered on kept after opening opens (subst (λ (l : List (BlockLog A)). Lists l opening kept after) logs_are (lists on)) inputs before x in
+                    let o = ordered on kept after opening opens (subst (λ (l : List (BlockLog A)). Lists l opening kept after) logs_are (lists on))
+                    inputs before x in
                     let t = reported (before ++ o.0) o.1 in
                     (t.0, t.1, λ yes at. t.2 (o.2 ∙ ap (λ (l : Events). l ++ o.0) at))
 
         -- and how the run ended
-        pub ends_last : (halt : Halt) → IsHaltOf (departures_in news) halt → (now : Setting) → now ≡ g → (raw : List Holding) → raw ≡ lanes_in news → (logs : List (BlockLog A)) → logs ≡ logs_in news → (opening : List Token) → opening ≡ tokens_in (lanes_in olds)
+        pub ends_last : (halt : Halt) → IsHaltOf (departures_in news) halt → (now : Setting) → now ≡ g → (raw : List Holding) → raw ≡ lanes_in news
+            → (logs : List (BlockLog A)) → logs ≡ logs_in news → (opening : List Token) → opening ≡ tokens_in (lanes_in olds)
             → (kept after : Events) (r : Report) → (keeps_events ≡ true → Lists logs opening kept after)
             → (let w : State = record { setting = now; lanes = raw } in let k : SoFar = record { state = w; events = after } in IsReportOf k halt r)
-            → (inputs : List ℤ) (before : Events) → Began inputs (arriving g (lanes_in olds) []) before → r.end ≢ End.Memory → EndsOn keeps_events g inputs may_stop kept before r
-        ends_last halt truth now setting raw is logs logs_are opening opens kept after r lists reported inputs before began ne = by_end (the_end inputs before began)
+            → (inputs : List ℤ) (before : Events) → Began inputs (arriving g (lanes_in olds) []) before → r.end ≢ End.Memory
+            → EndsOn keeps_events g inputs may_stop kept before r
+        ends_last halt truth now setting raw is logs logs_are opening opens kept after r lists reported inputs before began ne = by_end
+            (the_end inputs before began)
           where
             last_state : State
             last_state = record { setting = g; lanes = lanes_in news }
 
             reported_here : let k : SoFar = record { state = last_state; events = after } in IsReportOf k halt r
-            reported_here = subst (λ (z : Setting). let w : State = record { setting = z; lanes = lanes_in news } in let k : SoFar = record { state = w; events = after } in IsReportOf k halt r) setting
-                (subst (λ (l : List Holding). let w : State = record { setting = now; lanes = l } in let k : SoFar = record { state = w; events = after } in IsReportOf k halt r) is reported)
+            reported_here = subst (λ (z : Setting). let w : State = record { setting = z; lanes = lanes_in news }
+                in let k : SoFar = record { state = w; events = after } in IsReportOf k halt r) setting
+                (subst (λ (l : List Holding). let w : State = record { setting = now; lanes = l }
+                in let k : SoFar = record { state = w; events = after } in IsReportOf k halt r) is reported)
 
             by_end : ends.Ended g s inputs before (lanes_in news) blocks_of → EndsOn keeps_events g inputs may_stop kept before r
             by_end x = by_keeping keeps_events refl
               where
-                by_why : IsFirst (reasons_of (departures_in news)) halt ⊎ (((e : ℕ) × (slice_get (departures_in news) e ≡ Some Departure.Rested)) × NoneHalts (reasons_of (departures_in news)) × (halt ≡ Halt.NoToken))
-                    → IsFirst (reasons_of (departures_in news)) halt ⊎ (NoneHalts (reasons_of (departures_in news)) × (tokens_in (arriving g (lanes_in news) x.tokens).lanes ≡ []) × (halt ≡ Halt.NoToken))
+                by_why : IsFirst (reasons_of (departures_in news)) halt ⊎ (((e : ℕ) × (slice_get (departures_in news) e ≡ Some Departure.Rested))
+                    × NoneHalts (reasons_of (departures_in news)) × (halt ≡ Halt.NoToken))
+                    → IsFirst (reasons_of (departures_in news)) halt ⊎ (NoneHalts (reasons_of (departures_in news))
+                    × (tokens_in (arriving g (lanes_in news) x.tokens).lanes ≡ []) × (halt ≡ Halt.NoToken))
                 by_why (inl least) = inl least
                 by_why (inr (at, silent, none)) = inr (silent, rests inputs before x at.0 at.1, none)
 
@@ -406,5 +485,10 @@ module _ {C A L : Type 0} where
                 by_keeping : (b : Bool) → keeps_events ≡ b → EndsOn keeps_events g inputs may_stop kept before r
                 by_keeping false off = (before ++ events_in x.log, ending (before ++ events_in x.log) x.began, λ on same. absurd (let no : ⊥ = cc in no))
                 by_keeping true on =
-                    let o = ordered on kept after opening opens (subst (λ (l : List (BlockLog A)). Lists l opening kept after) logs_are (lists on)) inputs before x in
-                    (before ++ o.0, ending (before ++ o.0) o.1, λ yes at. (reported_with last_state after after halt r ne reported_here).0 ∙ o.2 ∙ ap (λ (l : Events). l ++ o.0) at)
+                    let o = ordered on kept after opening opens (subst (λ (l : List (BlockLog A)). Lists l opening kept after) logs_are (lists on))
+                    inputs before x in (
+                      before ++ o.0,
+                      ending (before ++ o.0) o.1,
+                      λ yes at. (reported_with last_state after after halt r ne reported_here).0 ∙ o.2
+                          ∙ ap (λ (l : Events). l ++ o.0) at,
+                    )

@@ -1,5 +1,6 @@
 -- What is reported of runners that have left, and of what they did.
-use Rattle.std.proofs.Common.{◌≡◌, refl, sym, ◌∙◌, ap, subst, ℕ, zero, suc, ◌+◌, ◌<◌, ◌≤◌, ◌⊎◌, inl, inr, List, [], ◌∷◌, length, get_or, Option, Some, None, arith}
+use Rattle.std.proofs.Common.{◌≡◌, refl, sym, ◌∙◌, ap, subst, ℕ, zero, suc, ◌+◌, ◌<◌, ◌≤◌, ◌⊎◌, inl, inr, List, [], ◌∷◌, length, get_or, Option}
+use Rattle.std.proofs.Common.{Some, None, arith}
 use Rattle.std.specs.Prelude.{slice_get}
 use Rattle.std.proofs.lemmas.Bool.{cases_lt}
 use Rattle.crossbeam_utils.specs.declared.cache_padded.CachePadded.{CachePadded}
@@ -39,17 +40,21 @@ unhalted Departure.Stopped none = refl
 
 module _ {C A L : Type 0} where
   -- why the runner at this place left
-  pub left_at : (ps : List (CachePadded (Runner C A L))) (i : ℕ) (d : CachePadded (Runner C A L)) (departure : Departure) → i < length ps → (padded_value (get_or ps i d)).departure ≡ departure → slice_get (departures_in ps) i ≡ Some departure
+  pub left_at : (ps : List (CachePadded (Runner C A L))) (i : ℕ) (d : CachePadded (Runner C A L)) (departure : Departure) → i < length ps
+      → (padded_value (get_or ps i d)).departure ≡ departure → slice_get (departures_in ps) i ≡ Some departure
   left_at [] i d departure low is = absurd (let no : ⊥ = omega (arith, low) in no)
   left_at (p ∷ ps) zero d departure low is = ap (λ (l : Departure). Some l) is
   left_at (p ∷ ps) (suc i) d departure low is = left_at ps i d departure (omega (arith, low)) is
 
   -- the same, as it is read there
-  pub left_is : (ps : List (CachePadded (Runner C A L))) (i : ℕ) (p : CachePadded (Runner C A L)) (r : Runner C A L) (departure : Departure) → i < length ps → p ≡ get_or ps i p → r ≡ padded_value p → r.departure ≡ departure → slice_get (departures_in ps) i ≡ Some departure
-  left_is ps i p r departure low at read is = left_at ps i p departure low (ap (λ (q : CachePadded (Runner C A L)). (padded_value q).departure) (sym at) ∙ ap (λ (x : Runner C A L). x.departure) (sym read) ∙ is)
+  pub left_is : (ps : List (CachePadded (Runner C A L))) (i : ℕ) (p : CachePadded (Runner C A L)) (r : Runner C A L) (departure : Departure)
+      → i < length ps → p ≡ get_or ps i p → r ≡ padded_value p → r.departure ≡ departure → slice_get (departures_in ps) i ≡ Some departure
+  left_is ps i p r departure low at read is = left_at ps i p departure low (ap (λ (q : CachePadded (Runner C A L)). (padded_value q).departure)
+      (sym at) ∙ ap (λ (x : Runner C A L). x.departure) (sym read) ∙ is)
 
   -- none of the first k + 1 is lost
-  pub found_more : (ps : List (CachePadded (Runner C A L))) (k : ℕ) (p : CachePadded (Runner C A L)) (r : Runner C A L) → k < length ps → p ≡ get_or ps k p → r ≡ padded_value p → (r.departure ≡ Departure.Lost → ⊥)
+  pub found_more : (ps : List (CachePadded (Runner C A L))) (k : ℕ) (p : CachePadded (Runner C A L)) (r : Runner C A L) → k < length ps → p
+      ≡ get_or ps k p → r ≡ padded_value p → (r.departure ≡ Departure.Lost → ⊥)
       → ((i : ℕ) → i < k → slice_get (departures_in ps) i ≡ Some Departure.Lost → ⊥) → (i : ℕ) → i < k + 1
       → slice_get (departures_in ps) i ≡ Some Departure.Lost → ⊥
   found_more ps k p r low at read here before i within is = by_place (cases_lt i k)
@@ -58,7 +63,8 @@ module _ {C A L : Type 0} where
       by_place (inl l) = before i l is
       by_place (inr l) =
           let same : i ≡ k = omega (arith, within, l) in
-          let there : Some r.departure ≡ Some Departure.Lost = sym (left_is ps k p r r.departure low at read refl) ∙ subst (λ (n : ℕ). slice_get (departures_in ps) n ≡ Some Departure.Lost) same is in
+          let there : Some r.departure ≡ Some Departure.Lost = sym (left_is ps k p r r.departure low at read refl)
+          ∙ subst (λ (n : ℕ). slice_get (departures_in ps) n ≡ Some Departure.Lost) same is in
           here cc
 
   past : (ps : List (CachePadded (Runner C A L))) (i : ℕ) (departure : Departure) → slice_get (departures_in ps) i ≡ Some departure → i < length ps
@@ -66,11 +72,13 @@ module _ {C A L : Type 0} where
   past (p ∷ ps) zero departure is = omega arith
   past (p ∷ ps) (suc i) departure is = let low = past ps i departure is in omega (arith, low)
 
-  pub none_lost : (ps : List (CachePadded (Runner C A L))) (k : ℕ) → length ps ≤ k → ((i : ℕ) → i < k → slice_get (departures_in ps) i ≡ Some Departure.Lost → ⊥) → (i : ℕ) → slice_get (departures_in ps) i ≡ Some Departure.Lost → ⊥
+  pub none_lost : (ps : List (CachePadded (Runner C A L))) (k : ℕ) → length ps ≤ k → ((i : ℕ) → i < k → slice_get (departures_in ps) i
+      ≡ Some Departure.Lost → ⊥) → (i : ℕ) → slice_get (departures_in ps) i ≡ Some Departure.Lost → ⊥
   none_lost ps k all none i is = none i (let low = past ps i Departure.Lost is in omega (arith, low, all)) is
 
   -- none of the first k + 1 has a reason
-  pub silent_more : (ps : List (CachePadded (Runner C A L))) (k : ℕ) (p : CachePadded (Runner C A L)) (r : Runner C A L) → k < length ps → p ≡ get_or ps k p → r ≡ padded_value p → ((halt : Halt) → r.departure ≡ Departure.Halted halt → ⊥)
+  pub silent_more : (ps : List (CachePadded (Runner C A L))) (k : ℕ) (p : CachePadded (Runner C A L)) (r : Runner C A L) → k < length ps → p
+      ≡ get_or ps k p → r ≡ padded_value p → ((halt : Halt) → r.departure ≡ Departure.Halted halt → ⊥)
       → ((i : ℕ) → i < k → slice_get (reasons_of (departures_in ps)) i ≡ Some None) → (i : ℕ) → i < k + 1
       → slice_get (reasons_of (departures_in ps)) i ≡ Some None
   silent_more ps k p r low at read here before i within = by_place (cases_lt i k)
@@ -82,5 +90,7 @@ module _ {C A L : Type 0} where
           let there = reason_at (departures_in ps) k r.departure (left_is ps k p r r.departure low at read refl) in
           subst (λ (n : ℕ). slice_get (reasons_of (departures_in ps)) n ≡ Some None) same (there ∙ ap (λ (o : Option Halt). Some o) (unhalted r.departure here))
 
-  pub none_halts : (ps : List (CachePadded (Runner C A L))) (k : ℕ) → length ps ≤ k → ((i : ℕ) → i < k → slice_get (reasons_of (departures_in ps)) i ≡ Some None) → NoneHalts (reasons_of (departures_in ps))
-  none_halts ps k all none = λ e low. none e (let one = length-map (departures_in ps) reason_of in let two = length-map ps (departure_of {C = C} {A = A}) in omega (arith, low, all, one, two))
+  pub none_halts : (ps : List (CachePadded (Runner C A L))) (k : ℕ) → length ps ≤ k → ((i : ℕ) → i < k → slice_get (reasons_of (departures_in ps)) i
+      ≡ Some None) → NoneHalts (reasons_of (departures_in ps))
+  none_halts ps k all none = λ e low. none e (let one = length-map (departures_in ps) reason_of
+      in let two = length-map ps (departure_of {C = C} {A = A}) in omega (arith, low, all, one, two))

@@ -1,5 +1,6 @@
 -- An element runs on, from whatever it started.
-use Rattle.std.proofs.Common.{◌≡◌, ◌≢◌, refl, sym, ◌∙◌, ap, subst, ℕ, zero, suc, ◌+◌, ◌^◌, ◌<◌, ◌≤◌, Bool, List, [], ◌∷◌, ◌++◌, length, drop, get_or, arith, append_assoc, true}
+use Rattle.std.proofs.Common.{◌≡◌, ◌≢◌, refl, sym, ◌∙◌, ap, subst, ℕ, zero, suc, ◌+◌, ◌^◌, ◌<◌, ◌≤◌, Bool, List, [], ◌∷◌, ◌++◌, length, drop}
+use Rattle.std.proofs.Common.{get_or, arith, append_assoc, true}
 use Rattle.std.specs.Prelude.{IsPermutation, flat_map, slice_set, Vec, Option, Some, None, IfSome, IfNone, Result, OnErr, OnOk}
 use Rattle.std.proofs.lemmas.List.{append-nil, drop_more, drop_all, length-set}
 use Rattle.std.proofs.lemmas.List.Elements.{All-nil, All-cons, All-append}
@@ -47,7 +48,8 @@ module _ {C A L : Type 0} (keeps_events : Bool) (g : Setting) (mesh : MeshId) wh
   pub keeps_twice : (old mid new : Runner C A L) → Keeps keeps_events g mesh old mid → Keeps keeps_events g mesh mid new → Keeps keeps_events g mesh old new
   keeps_twice old mid new one two = λ start r. two start (one start r)
 
-  pub keeps_on : {X Y : Type 0} (r : Result X Y) (old mid new : Runner C A L) → Keeps keeps_events g mesh old mid → OnOk r (Keeps keeps_events g mesh mid new) → OnOk r (Keeps keeps_events g mesh old new)
+  pub keeps_on : {X Y : Type 0} (r : Result X Y) (old mid new : Runner C A L) → Keeps keeps_events g mesh old mid
+      → OnOk r (Keeps keeps_events g mesh mid new) → OnOk r (Keeps keeps_events g mesh old new)
   keeps_on r old mid new one two = ok_then r (Keeps keeps_events g mesh mid new) (Keeps keeps_events g mesh old new) (λ k. keeps_twice old mid new one k) two
 
   -- how many blocks it asked for plays no role
@@ -90,7 +92,8 @@ module _ {C A L : Type 0} (keeps_events : Bool) (g : Setting) (mesh : MeshId) wh
   }
 
   -- one more deed that moves no token
-  pub keeps_noting : (old : Runner C A L) (s : SeatView) (d : Deed) → IsQuiet d → made_in d ≡ 0 → s ≡ noting old.seat d → Keeps keeps_events g mesh old (record old { seat = s })
+  pub keeps_noting : (old : Runner C A L) (s : SeatView) (d : Deed) → IsQuiet d → made_in d ≡ 0 → s ≡ noting old.seat d
+      → Keeps keeps_events g mesh old (record old { seat = s })
   keeps_noting old s d quiet none is = λ start r.
       let own = old.seat.own in
       record {
@@ -100,7 +103,8 @@ module _ {C A L : Type 0} (keeps_events : Bool) (g : Setting) (mesh : MeshId) wh
         blocks = r.blocks;
         noted = r.noted;
         unlogged = r.unlogged;
-        ran = ran_as g mesh start own.element s.own.element (held_of old.lane) (held_of old.lane) (own.deeds ++ d ∷ []) s.own.deeds own.held s.own.held (away old) (away old)
+        ran = ran_as g mesh start own.element s.own.element (held_of old.lane) (held_of old.lane) (own.deeds ++ d ∷ []) s.own.deeds own.held
+            s.own.held (away old) (away old)
             (ap (λ (z : SeatView). z.own.element) is) refl (ap (λ (z : SeatView). z.own.deeds) is) (ap (λ (z : SeatView). z.own.held) is) refl
             (ran_quiet g mesh start own.element (held_of old.lane) own.deeds own.held (away old) r.ran d quiet);
         tidy = record {
@@ -124,7 +128,8 @@ module _ {C A L : Type 0} (keeps_events : Bool) (g : Setting) (mesh : MeshId) wh
         blocks = r.blocks;
         noted = r.noted;
         unlogged = r.unlogged;
-        ran = ran_as g mesh start own.element s.own.element (held_of old.lane) (held_of old.lane) (own.deeds ++ d ∷ []) s.own.deeds own.held s.own.held (away old) (away old)
+        ran = ran_as g mesh start own.element s.own.element (held_of old.lane) (held_of old.lane) (own.deeds ++ d ∷ []) s.own.deeds own.held
+            s.own.held (away old) (away old)
             (ap (λ (z : SeatView). z.own.element) is) refl (ap (λ (z : SeatView). z.own.deeds) is) (ap (λ (z : SeatView). z.own.held) is) refl
             (ran_quiet g mesh start own.element (held_of old.lane) own.deeds own.held (away old) r.ran d (saw_live count));
         tidy = record {
@@ -136,7 +141,8 @@ module _ {C A L : Type 0} (keeps_events : Bool) (g : Setting) (mesh : MeshId) wh
       }
 
   -- a bundle was taken, and lies in the queue
-  pub keeps_received : (old new : Runner C A L) (s : SeatView) (from : ℕ) (x : Bundle) → from < g.elements → s ≡ having_taken old.seat from x → AllTo mesh.elements old.seat.own.element x → Receives g (record old { seat = s }) x new → Keeps keeps_events g mesh old new
+  pub keeps_received : (old new : Runner C A L) (s : SeatView) (from : ℕ) (x : Bundle) → from < g.elements → s ≡ having_taken old.seat from x
+      → AllTo mesh.elements old.seat.own.element x → Receives g (record old { seat = s }) x new → Keeps keeps_events g mesh old new
   keeps_received old new s from x low is to received = λ start r.
       let own = old.seat.own in
       let seat : new.seat ≡ s = ap (λ (z : Runner C A L). z.seat) received.others in
@@ -149,22 +155,28 @@ module _ {C A L : Type 0} (keeps_events : Bool) (g : Setting) (mesh : MeshId) wh
         blocks = r.blocks;
         noted = subst (λ (z : Runner C A L). keeps_events ≡ true → Logs (noted_in z.notes) r.blocks) (sym received.others) r.noted;
         unlogged = ap (λ (z : Runner C A L). z.log.events.items) received.others ∙ r.unlogged;
-        ran = ran_as g mesh start own.element new.seat.own.element (with_queue (held_of old.lane) ((held_of old.lane).queue ++ x)) (held_of new.lane) (own.deeds ++ Took from x ∷ []) new.seat.own.deeds (x ++ own.held) new.seat.own.held (away old) (away new)
-            (ap (λ (z : SeatView). z.own.element) whole) received.lane (ap (λ (z : SeatView). z.own.deeds) whole) (ap (λ (z : SeatView). z.own.held) whole) (ap (λ (z : Runner C A L). away z) received.others)
+        ran = ran_as g mesh start own.element new.seat.own.element (with_queue (held_of old.lane) ((held_of old.lane).queue ++ x)) (held_of new.lane)
+            (own.deeds ++ Took from x ∷ []) new.seat.own.deeds (x ++ own.held) new.seat.own.held (away old) (away new)
+            (ap (λ (z : SeatView). z.own.element) whole) received.lane (ap (λ (z : SeatView). z.own.deeds) whole)
+            (ap (λ (z : SeatView). z.own.held) whole) (ap (λ (z : Runner C A L). away z) received.others)
             (ran_received g mesh start own.element (held_of old.lane) own.deeds own.held (away old) r.ran from x low received.near mine);
         tidy = record {
           count = ap (λ (z : Runner C A L). length z.unposted.items) received.others ∙ r.tidy.count;
-          addressed = λ i d within. subst (λ (z : Runner C A L). AllTo g.elements i (get_or z.unposted.items i d).items) (sym received.others) (r.tidy.addressed i d within);
-          created = created_same own.deeds new.seat.own.deeds (Took from x) new.created (ap (λ (z : SeatView). z.own.deeds) whole) refl (r.tidy.created ∙ ap (λ (z : Runner C A L). z.created) (sym received.others));
+          addressed = λ i d within. subst (λ (z : Runner C A L). AllTo g.elements i (get_or z.unposted.items i d).items) (sym received.others)
+              (r.tidy.addressed i d within);
+          created = created_same own.deeds new.seat.own.deeds (Took from x) new.created (ap (λ (z : SeatView). z.own.deeds) whole) refl
+              (r.tidy.created ∙ ap (λ (z : Runner C A L). z.created) (sym received.others));
           few = subst (λ (z : Runner C A L). z.created ≤ 2 ^ 40) (sym received.others) r.tidy.few;
         };
       }
 
   -- a bundle was taken, and is not in the queue
-  pub keeps_unqueued : (old : Runner C A L) (s : SeatView) (from : ℕ) (x : Vec Token A) (lane : LaneView) → from < g.elements → IsClear old → s ≡ having_taken old.seat from x.items → lane ≡ old.lane → Keeps keeps_events g mesh old (record old { seat = s; lane = lane; unqueued = x })
+  pub keeps_unqueued : (old : Runner C A L) (s : SeatView) (from : ℕ) (x : Vec Token A) (lane : LaneView) → from < g.elements → IsClear old → s
+      ≡ having_taken old.seat from x.items → lane ≡ old.lane → Keeps keeps_events g mesh old (record old { seat = s; lane = lane; unqueued = x })
   keeps_unqueued old s from x lane low clear is same = λ start r.
       let own = old.seat.own in
-      let beside : x.items ++ (bundles old.unposted.items ++ drop old.bundled old.sent.items) ≡ x.items ++ away old = ap (λ (l : List Token). x.items ++ (l ++ (bundles old.unposted.items ++ drop old.bundled old.sent.items))) (sym clear.0) in
+      let beside : x.items ++ (bundles old.unposted.items ++ drop old.bundled old.sent.items) ≡ x.items
+      ++ away old = ap (λ (l : List Token). x.items ++ (l ++ (bundles old.unposted.items ++ drop old.bundled old.sent.items))) (sym clear.0) in
       record {
         at = ap (λ (z : SeatView). z.mesh) is ∙ r.at;
         alone = ap (λ (z : SeatView). z.joined) is ∙ r.alone;
@@ -172,8 +184,10 @@ module _ {C A L : Type 0} (keeps_events : Bool) (g : Setting) (mesh : MeshId) wh
         blocks = r.blocks;
         noted = r.noted;
         unlogged = r.unlogged;
-        ran = ran_as g mesh start own.element s.own.element (held_of old.lane) (held_of lane) (own.deeds ++ Took from x.items ∷ []) s.own.deeds (x.items ++ own.held) s.own.held (x.items ++ away old) (x.items ++ (bundles old.unposted.items ++ drop old.bundled old.sent.items))
-            (ap (λ (z : SeatView). z.own.element) is) (ap (λ (l : LaneView). held_of l) same) (ap (λ (z : SeatView). z.own.deeds) is) (ap (λ (z : SeatView). z.own.held) is) beside
+        ran = ran_as g mesh start own.element s.own.element (held_of old.lane) (held_of lane) (own.deeds ++ Took from x.items ∷ []) s.own.deeds
+            (x.items ++ own.held) s.own.held (x.items ++ away old) (x.items ++ (bundles old.unposted.items ++ drop old.bundled old.sent.items))
+            (ap (λ (z : SeatView). z.own.element) is) (ap (λ (l : LaneView). held_of l) same) (ap (λ (z : SeatView). z.own.deeds) is)
+            (ap (λ (z : SeatView). z.own.held) is) beside
             (ran_unqueued g mesh start own.element (held_of old.lane) own.deeds own.held (away old) r.ran from x.items low);
         tidy = record {
           count = r.tidy.count;
@@ -183,16 +197,21 @@ module _ {C A L : Type 0} (keeps_events : Bool) (g : Setting) (mesh : MeshId) wh
         };
       }
 
-  pub keeps_taken : (old new : Runner C A L) (s : SeatView) (from : ℕ) (x : Vec Token A) (o : Option Halt) → from < g.elements → IsClear old → s ≡ having_taken old.seat from x.items → AllTo mesh.elements old.seat.own.element x.items
-      → IfNone o (Receives g (record old { seat = s }) x.items new) → IfSome o (λ halt. (halt ≡ Halt.Memory) × (new.lane ≡ old.lane) × (new ≡ record old { seat = s; lane = new.lane; unqueued = x })) → Keeps keeps_events g mesh old new
+  pub keeps_taken : (old new : Runner C A L) (s : SeatView) (from : ℕ) (x : Vec Token A) (o : Option Halt) → from < g.elements → IsClear old → s
+      ≡ having_taken old.seat from x.items → AllTo mesh.elements old.seat.own.element x.items
+      → IfNone o (Receives g (record old { seat = s }) x.items new) → IfSome o (λ halt. (halt ≡ Halt.Memory) × (new.lane ≡ old.lane)
+      × (new ≡ record old { seat = s; lane = new.lane; unqueued = x })) → Keeps keeps_events g mesh old new
   keeps_taken old new s from x None low clear is to none some_one = keeps_received old new s from x.items low is to none
-  keeps_taken old new s from x (Some halt) low clear is to none some_one = subst (λ (z : Runner C A L). Keeps keeps_events g mesh old z) (sym some_one.2) (keeps_unqueued old s from x new.lane low clear is some_one.1)
+  keeps_taken old new s from x (Some halt) low clear is to none some_one = subst (λ (z : Runner C A L). Keeps keeps_events g mesh old z)
+      (sym some_one.2) (keeps_unqueued old s from x new.lane low clear is some_one.1)
 
   -- FILLING BUNDLES
-  pub keeps_bundled : (old : Runner C A L) (unposted : Vec (Vec Token A) A) (t : Token) → KeepsTokens g.elements old.unposted.items unposted.items (t ∷ []) → old.bundled < length old.sent.items → t ≡ get_or old.sent.items old.bundled t
+  pub keeps_bundled : (old : Runner C A L) (unposted : Vec (Vec Token A) A) (t : Token) → KeepsTokens g.elements old.unposted.items unposted.items
+      (t ∷ []) → old.bundled < length old.sent.items → t ≡ get_or old.sent.items old.bundled t
       → Keeps keeps_events g mesh old (record old { unposted = unposted; bundled = old.bundled + 1 })
   keeps_bundled old unposted t keeps low is = λ start r.
-      let first : drop old.bundled old.sent.items ≡ t ∷ drop (old.bundled + 1) old.sent.items = drop_more old.sent.items old.bundled t low ∙ ap (λ (u : Token). u ∷ drop (old.bundled + 1) old.sent.items) (sym is) in
+      let first : drop old.bundled old.sent.items ≡ t ∷ drop (old.bundled + 1) old.sent.items = drop_more old.sent.items old.bundled t low
+      ∙ ap (λ (u : Token). u ∷ drop (old.bundled + 1) old.sent.items) (sym is) in
       let rest = drop (old.bundled + 1) old.sent.items in
       let beside : IsPermutation (away old) (old.unqueued.items ++ (bundles unposted.items ++ rest)) =
       IsPermutation-append_right old.unqueued.items _ _ (at_first (ap (λ (l : List Token). bundles old.unposted.items ++ l) first)
@@ -206,24 +225,29 @@ module _ {C A L : Type 0} (keeps_events : Bool) (g : Setting) (mesh : MeshId) wh
         blocks = r.blocks;
         noted = r.noted;
         unlogged = r.unlogged;
-        ran = ran_beside g mesh start old.seat.own.element (held_of old.lane) old.seat.own.deeds old.seat.own.held (away old) r.ran (old.unqueued.items ++ (bundles unposted.items ++ rest)) beside;
+        ran = ran_beside g mesh start old.seat.own.element (held_of old.lane) old.seat.own.deeds old.seat.own.held (away old) r.ran
+            (old.unqueued.items ++ (bundles unposted.items ++ rest)) beside;
         tidy = record { count = keeps.count ∙ r.tidy.count; addressed = keeps.addressed r.tidy.addressed; created = r.tidy.created; few = r.tidy.few };
       }
 
-  pub keeps_bundled_at : (old : Runner C A L) (unposted : Vec (Vec Token A) A) (t : Token) (at : ℕ) → old.bundled ≡ at → KeepsTokens g.elements old.unposted.items unposted.items (t ∷ []) → at < length old.sent.items → t ≡ get_or old.sent.items at t
+  pub keeps_bundled_at : (old : Runner C A L) (unposted : Vec (Vec Token A) A) (t : Token) (at : ℕ) → old.bundled ≡ at
+      → KeepsTokens g.elements old.unposted.items unposted.items (t ∷ []) → at < length old.sent.items → t ≡ get_or old.sent.items at t
       → Keeps keeps_events g mesh old (record old { unposted = unposted; bundled = at + 1 })
   keeps_bundled_at old unposted t at there keeps low is =
       subst (λ (n : ℕ). Keeps keeps_events g mesh old (record old { unposted = unposted; bundled = n + 1 })) there
-      (keeps_bundled old unposted t keeps (subst (λ (n : ℕ). n < length old.sent.items) (sym there) low) (subst (λ (n : ℕ). t ≡ get_or old.sent.items n t) (sym there) is))
+      (keeps_bundled old unposted t keeps (subst (λ (n : ℕ). n < length old.sent.items) (sym there) low)
+      (subst (λ (n : ℕ). t ≡ get_or old.sent.items n t) (sym there) is))
 
   pub kept_count : (old : Runner C A L) → Runs keeps_events g mesh old → length old.unposted.items ≡ g.elements
   kept_count old runs = runs.1.tidy.count
 
   -- the bundles have the same tokens
-  pub keeps_bundles : (old : Runner C A L) (unposted : Vec (Vec Token A) A) → KeepsTokens g.elements old.unposted.items unposted.items [] → Keeps keeps_events g mesh old (record old { unposted = unposted })
+  pub keeps_bundles : (old : Runner C A L) (unposted : Vec (Vec Token A) A) → KeepsTokens g.elements old.unposted.items unposted.items []
+      → Keeps keeps_events g mesh old (record old { unposted = unposted })
   keeps_bundles old unposted keeps = λ start r.
       let rest = drop old.bundled old.sent.items in
-      let same : IsPermutation (bundles old.unposted.items) (bundles unposted.items) = IsPermutation-sym _ _ (at_last keeps.tokens (append-nil (bundles old.unposted.items))) in
+      let same : IsPermutation (bundles old.unposted.items) (bundles unposted.items) = IsPermutation-sym _ _
+      (at_last keeps.tokens (append-nil (bundles old.unposted.items))) in
       record {
         at = r.at;
         alone = r.alone;
@@ -231,13 +255,15 @@ module _ {C A L : Type 0} (keeps_events : Bool) (g : Setting) (mesh : MeshId) wh
         blocks = r.blocks;
         noted = r.noted;
         unlogged = r.unlogged;
-        ran = ran_beside g mesh start old.seat.own.element (held_of old.lane) old.seat.own.deeds old.seat.own.held (away old) r.ran (old.unqueued.items ++ (bundles unposted.items ++ rest))
+        ran = ran_beside g mesh start old.seat.own.element (held_of old.lane) old.seat.own.deeds old.seat.own.held (away old) r.ran
+            (old.unqueued.items ++ (bundles unposted.items ++ rest))
             (IsPermutation-append_right old.unqueued.items _ _ (IsPermutation-append_left rest _ _ same));
         tidy = record { count = keeps.count ∙ r.tidy.count; addressed = keeps.addressed r.tidy.addressed; created = r.tidy.created; few = r.tidy.few };
       }
 
   -- all are bundled
-  pub keeps_cleared : (old : Runner C A L) (sent : Vec Token A) → length old.sent.items ≤ old.bundled → sent.items ≡ [] → Keeps keeps_events g mesh old (record old { sent = sent; bundled = 0 })
+  pub keeps_cleared : (old : Runner C A L) (sent : Vec Token A) → length old.sent.items ≤ old.bundled → sent.items ≡ []
+      → Keeps keeps_events g mesh old (record old { sent = sent; bundled = 0 })
   keeps_cleared old sent past none = λ start r.
       let same : drop old.bundled old.sent.items ≡ sent.items = drop_all old.bundled old.sent.items past ∙ sym none in
       record {
@@ -247,7 +273,8 @@ module _ {C A L : Type 0} (keeps_events : Bool) (g : Setting) (mesh : MeshId) wh
         blocks = r.blocks;
         noted = r.noted;
         unlogged = r.unlogged;
-        ran = ran_beside g mesh start old.seat.own.element (held_of old.lane) old.seat.own.deeds old.seat.own.held (away old) r.ran (old.unqueued.items ++ (bundles old.unposted.items ++ sent.items))
+        ran = ran_beside g mesh start old.seat.own.element (held_of old.lane) old.seat.own.deeds old.seat.own.held (away old) r.ran
+            (old.unqueued.items ++ (bundles old.unposted.items ++ sent.items))
             (permutation_same _ _ (ap (λ (l : List Token). old.unqueued.items ++ (bundles old.unposted.items ++ l)) same));
         tidy = record { count = r.tidy.count; addressed = r.tidy.addressed; created = r.tidy.created; few = r.tidy.few };
       }
@@ -258,12 +285,14 @@ module _ {A : Type 0} where
   in_all vs = flat_map (λ (v : Vec Token A). v.items) vs
 
   -- one bundle for another
-  pub bundle_set : (vs : List (Vec Token A)) (i : ℕ) (d v : Vec Token A) → i < length vs → IsPermutation (in_all vs ++ v.items) (in_all (slice_set vs i v) ++ (get_or vs i d).items)
+  pub bundle_set : (vs : List (Vec Token A)) (i : ℕ) (d v : Vec Token A) → i < length vs
+      → IsPermutation (in_all vs ++ v.items) (in_all (slice_set vs i v) ++ (get_or vs i d).items)
   bundle_set [] i d v low = absurd (omega (arith, low))
   bundle_set (x ∷ xs) zero d v low = shuffled (x.items ∷ in_all xs ∷ v.items ∷ []) ((Piece 0 ⊕ Piece 1) ⊕ Piece 2) ((Piece 2 ⊕ Piece 1) ⊕ Piece 0) refl
   bundle_set (x ∷ xs) (suc i) d v low =
       let rest = bundle_set xs i d v (omega arith) in
-      at_first (append_assoc x.items (in_all xs) v.items) (at_last (IsPermutation-append_right x.items _ _ rest) (sym (append_assoc x.items (in_all (slice_set xs i v)) (get_or xs i d).items)))
+      at_first (append_assoc x.items (in_all xs) v.items) (at_last (IsPermutation-append_right x.items _ _ rest)
+      (sym (append_assoc x.items (in_all (slice_set xs i v)) (get_or xs i d).items)))
 
   pub get_same : (vs : List (Vec Token A)) (i : ℕ) (d v : Vec Token A) → i < length vs → get_or (slice_set vs i v) i d ≡ v
   get_same [] i d v low = absurd (omega (arith, low))
@@ -278,15 +307,21 @@ module _ {A : Type 0} where
   get_other (x ∷ xs) (suc i) (suc k) d v ne = get_other xs i k d v (λ (s : k ≡ i). ne (ap (λ (n : ℕ). suc n) s))
 
   -- one bundle has other tokens
-  changed : (n : ℕ) (vs : List (Vec Token A)) (i : ℕ) (x new : Vec Token A) (more : List Token) → length vs ≡ n → i < length vs → x ≡ get_or vs i x → new.items ≡ x.items ++ more → AllTo n i more → KeepsTokens n vs (slice_set vs i new) more
+  changed : (n : ℕ) (vs : List (Vec Token A)) (i : ℕ) (x new : Vec Token A) (more : List Token) → length vs ≡ n → i < length vs → x ≡ get_or vs i x
+      → new.items ≡ x.items ++ more → AllTo n i more → KeepsTokens n vs (slice_set vs i new) more
   changed n vs i x new more count low is items to =
       let set = slice_set vs i new in
-      let swap : IsPermutation (in_all vs ++ (x.items ++ more)) (in_all set ++ x.items) = at_first (ap (λ (l : List Token). in_all vs ++ l) (sym items)) (at_last (bundle_set vs i x new low) (ap (λ (v : Vec Token A). in_all set ++ v.items) (sym is))) in
-      let front : IsPermutation (x.items ++ (in_all vs ++ more)) (in_all vs ++ (x.items ++ more)) = shuffled (x.items ∷ in_all vs ∷ more ∷ []) (Piece 0 ⊕ (Piece 1 ⊕ Piece 2)) (Piece 1 ⊕ (Piece 0 ⊕ Piece 2)) refl in
-      let back : IsPermutation (in_all set ++ x.items) (x.items ++ in_all set) = shuffled (in_all set ∷ x.items ∷ []) (Piece 0 ⊕ Piece 1) (Piece 1 ⊕ Piece 0) refl in
+      let swap : IsPermutation (in_all vs ++ (x.items ++ more)) (in_all set ++ x.items) = at_first
+      (ap (λ (l : List Token). in_all vs ++ l) (sym items))
+      (at_last (bundle_set vs i x new low) (ap (λ (v : Vec Token A). in_all set ++ v.items) (sym is))) in
+      let front : IsPermutation (x.items ++ (in_all vs ++ more)) (in_all vs ++ (x.items ++ more)) = shuffled (x.items ∷ in_all vs ∷ more ∷ [])
+      (Piece 0 ⊕ (Piece 1 ⊕ Piece 2)) (Piece 1 ⊕ (Piece 0 ⊕ Piece 2)) refl in
+      let back : IsPermutation (in_all set ++ x.items) (x.items ++ in_all set) = shuffled (in_all set ∷ x.items ∷ []) (Piece 0 ⊕ Piece 1)
+      (Piece 1 ⊕ Piece 0) refl in
       record {
         count = length-set vs i new;
-        tokens = IsPermutation-sym _ _ (permutation_cancel x.items (in_all vs ++ more) (in_all set) (IsPermutation-trans _ _ _ front (IsPermutation-trans _ _ _ swap back)));
+        tokens = IsPermutation-sym _ _ (permutation_cancel x.items (in_all vs ++ more) (in_all set)
+            (IsPermutation-trans _ _ _ front (IsPermutation-trans _ _ _ swap back)));
         addressed = λ all k d within. dite (ℕ_discrete k i)
             (λ hit.
             let own : AllTo n i x.items = subst (λ (v : Vec Token A). AllTo n i v.items) (sym is) (all i x (omega (arith, low, count))) in
@@ -297,16 +332,23 @@ module _ {A : Type 0} where
             (λ miss. subst (λ (v : Vec Token A). AllTo n k v.items) (sym (get_other vs i k d new miss)) (all k d within));
       }
 
-  pub keeps_more : (n : ℕ) (vs : List (Vec Token A)) (i : ℕ) (x new : Vec Token A) (t : Token) → length vs ≡ n → i < length vs → x ≡ get_or vs i x → new.items ≡ x.items ++ t ∷ [] → element_of n t.to ≡ i → KeepsTokens n vs (slice_set vs i new) (t ∷ [])
-  keeps_more n vs i x new t count low is items to = changed n vs i x new (t ∷ []) count low is items (All-cons (λ (u : Token). element_of n u.to ≡ i) t [] to (All-nil (λ (u : Token). element_of n u.to ≡ i)))
+  pub keeps_more : (n : ℕ) (vs : List (Vec Token A)) (i : ℕ) (x new : Vec Token A) (t : Token) → length vs ≡ n → i < length vs → x ≡ get_or vs i x
+      → new.items ≡ x.items ++ t ∷ [] → element_of n t.to ≡ i → KeepsTokens n vs (slice_set vs i new) (t ∷ [])
+  keeps_more n vs i x new t count low is items to = changed n vs i x new (t ∷ []) count low is items (All-cons (λ (u : Token). element_of n u.to ≡ i)
+      t [] to (All-nil (λ (u : Token). element_of n u.to ≡ i)))
 
-  pub keeps_as_many : (n : ℕ) (vs : List (Vec Token A)) (i : ℕ) (x new : Vec Token A) → length vs ≡ n → i < length vs → x ≡ get_or vs i x → new.items ≡ x.items → KeepsTokens n vs (slice_set vs i new) []
-  keeps_as_many n vs i x new count low is items = changed n vs i x new [] count low is (items ∙ sym (append-nil x.items)) (All-nil (λ (u : Token). element_of n u.to ≡ i))
+  pub keeps_as_many : (n : ℕ) (vs : List (Vec Token A)) (i : ℕ) (x new : Vec Token A) → length vs ≡ n → i < length vs → x ≡ get_or vs i x → new.items
+      ≡ x.items → KeepsTokens n vs (slice_set vs i new) []
+  keeps_as_many n vs i x new count low is items = changed n vs i x new [] count low is (items ∙ sym (append-nil x.items))
+      (All-nil (λ (u : Token). element_of n u.to ≡ i))
 
   -- a bundle is taken out for a post
-  out_of : (vs : List (Vec Token A)) (i : ℕ) (x empty : Vec Token A) → i < length vs → x ≡ get_or vs i x → empty.items ≡ [] → IsPermutation (in_all vs) (x.items ++ in_all (slice_set vs i empty))
+  out_of : (vs : List (Vec Token A)) (i : ℕ) (x empty : Vec Token A) → i < length vs → x ≡ get_or vs i x → empty.items ≡ []
+      → IsPermutation (in_all vs) (x.items ++ in_all (slice_set vs i empty))
   out_of vs i x empty low is none =
-      let one : IsPermutation (in_all vs) (in_all (slice_set vs i empty) ++ x.items) = at_first (sym (append-nil (in_all vs)) ∙ ap (λ (l : List Token). in_all vs ++ l) (sym none)) (at_last (bundle_set vs i x empty low) (ap (λ (v : Vec Token A). in_all (slice_set vs i empty) ++ v.items) (sym is))) in
+      let one : IsPermutation (in_all vs) (in_all (slice_set vs i empty) ++ x.items) = at_first (sym (append-nil (in_all vs))
+      ∙ ap (λ (l : List Token). in_all vs ++ l) (sym none))
+      (at_last (bundle_set vs i x empty low) (ap (λ (v : Vec Token A). in_all (slice_set vs i empty) ++ v.items) (sym is))) in
       IsPermutation-trans _ _ _ one (shuffled (in_all (slice_set vs i empty) ∷ x.items ∷ []) (Piece 0 ⊕ Piece 1) (Piece 1 ⊕ Piece 0) refl)
 
   set_again : (vs : List (Vec Token A)) (i : ℕ) (a b : Vec Token A) → slice_set (slice_set vs i a) i b ≡ slice_set vs i b
@@ -314,7 +356,8 @@ module _ {A : Type 0} where
   set_again (x ∷ xs) zero a b = refl
   set_again (x ∷ xs) (suc i) a b = ap (λ (l : List (Vec Token A)). x ∷ l) (set_again xs i a b)
 
-  module _ {C L : Type 0} (keeps_events : Bool) (g : Setting) (mesh : MeshId) (old : Runner C A L) (i : ℕ) (x empty : Vec Token A) (low : i < length old.unposted.items) (is : x ≡ get_or old.unposted.items i x) (none : empty.items ≡ []) where
+  module _ {C L : Type 0} (keeps_events : Bool) (g : Setting) (mesh : MeshId) (old : Runner C A L) (i : ℕ) (x empty : Vec Token A)
+      (low : i < length old.unposted.items) (is : x ≡ get_or old.unposted.items i x) (none : empty.items ≡ []) where
     abbrev others : List Token
     others = in_all (slice_set old.unposted.items i empty) ++ drop old.bundled old.sent.items
 
@@ -322,8 +365,10 @@ module _ {A : Type 0} where
     beside_out =
         let rest = drop old.bundled old.sent.items in
         let set = slice_set old.unposted.items i empty in
-        IsPermutation-trans _ _ _ (IsPermutation-append_right old.unqueued.items _ _ (IsPermutation-append_left rest _ _ (out_of old.unposted.items i x empty low is none)))
-        (shuffled (old.unqueued.items ∷ x.items ∷ in_all set ∷ rest ∷ []) (Piece 0 ⊕ ((Piece 1 ⊕ Piece 2) ⊕ Piece 3)) (Piece 1 ⊕ (Piece 0 ⊕ (Piece 2 ⊕ Piece 3))) refl)
+        IsPermutation-trans _ _ _ (IsPermutation-append_right old.unqueued.items _ _
+        (IsPermutation-append_left rest _ _ (out_of old.unposted.items i x empty low is none)))
+        (shuffled (old.unqueued.items ∷ x.items ∷ in_all set ∷ rest ∷ []) (Piece 0 ⊕ ((Piece 1 ⊕ Piece 2) ⊕ Piece 3))
+        (Piece 1 ⊕ (Piece 0 ⊕ (Piece 2 ⊕ Piece 3))) refl)
 
     pub may_post : Runs keeps_events g mesh old → Has old.seat.own.held x.items
     may_post (start, r) =
@@ -333,11 +378,13 @@ module _ {A : Type 0} where
               (shuffled (q ∷ x.items ∷ (old.unqueued.items ++ others) ∷ []) (Piece 0 ⊕ (Piece 1 ⊕ Piece 2)) (Piece 1 ⊕ (Piece 0 ⊕ Piece 2)) refl)),
         )
 
-    pub keeps_posted : (unposted : Vec (Vec Token A) A) (s : SeatView) → unposted.items ≡ slice_set old.unposted.items i empty → i < g.elements → Posts i x.items old.seat s → Keeps keeps_events g mesh old (record old { unposted = unposted; seat = s })
+    pub keeps_posted : (unposted : Vec (Vec Token A) A) (s : SeatView) → unposted.items ≡ slice_set old.unposted.items i empty → i < g.elements
+        → Posts i x.items old.seat s → Keeps keeps_events g mesh old (record old { unposted = unposted; seat = s })
     keeps_posted unposted s kept_is within posts = λ start r.
         let own = old.seat.own in
         let whole = posts.2 in
-        let beside : old.unqueued.items ++ (in_all unposted.items ++ drop old.bundled old.sent.items) ≡ old.unqueued.items ++ others = ap (λ (l : List (Vec Token A)). old.unqueued.items ++ (in_all l ++ drop old.bundled old.sent.items)) kept_is in
+        let beside : old.unqueued.items ++ (in_all unposted.items ++ drop old.bundled old.sent.items) ≡ old.unqueued.items
+        ++ others = ap (λ (l : List (Vec Token A)). old.unqueued.items ++ (in_all l ++ drop old.bundled old.sent.items)) kept_is in
         record {
           at = ap (λ (z : SeatView). z.mesh) whole ∙ r.at;
           alone = ap (λ (z : SeatView). z.joined) whole ∙ r.alone;
@@ -345,30 +392,40 @@ module _ {A : Type 0} where
           blocks = r.blocks;
           noted = r.noted;
           unlogged = r.unlogged;
-          ran = ran_as g mesh start own.element s.own.element (held_of old.lane) (held_of old.lane) (own.deeds ++ Posted i x.items ∷ []) s.own.deeds posts.0 s.own.held (old.unqueued.items ++ others) (old.unqueued.items ++ (in_all unposted.items ++ drop old.bundled old.sent.items))
+          ran = ran_as g mesh start own.element s.own.element (held_of old.lane) (held_of old.lane) (own.deeds ++ Posted i x.items ∷ []) s.own.deeds
+              posts.0 s.own.held (old.unqueued.items ++ others) (old.unqueued.items ++ (in_all unposted.items ++ drop old.bundled old.sent.items))
               (ap (λ (z : SeatView). z.own.element) whole) refl (ap (λ (z : SeatView). z.own.deeds) whole) (ap (λ (z : SeatView). z.own.held) whole) beside
-              (ran_posted g mesh start own.element (held_of old.lane) own.deeds own.held (away old) r.ran i x.items posts.0 (old.unqueued.items ++ others) within posts.1 beside_out);
+              (ran_posted g mesh start own.element (held_of old.lane) own.deeds own.held (away old) r.ran i x.items posts.0 (old.unqueued.items
+              ++ others) within posts.1 beside_out);
           tidy = record {
             count = ap (λ (l : List (Vec Token A)). length l) kept_is ∙ length-set old.unposted.items i empty ∙ r.tidy.count;
             addressed = λ k d below. subst (λ (l : List (Vec Token A)). AllTo g.elements k (get_or l k d).items) (sym kept_is)
                 (dite (ℕ_discrete k i)
                 (λ hit. subst (λ (j : ℕ). AllTo g.elements j (get_or (slice_set old.unposted.items i empty) j d).items) (sym hit)
-                (subst (λ (v : Vec Token A). AllTo g.elements i v.items) (sym (get_same old.unposted.items i d empty low)) (subst (λ (l : List Token). AllTo g.elements i l) (sym none) (All-nil (λ (t : Token). element_of g.elements t.to ≡ i)))))
-                (λ miss. subst (λ (v : Vec Token A). AllTo g.elements k v.items) (sym (get_other old.unposted.items i k d empty miss)) (r.tidy.addressed k d below)));
+                (subst (λ (v : Vec Token A). AllTo g.elements i v.items) (sym (get_same old.unposted.items i d empty low))
+                (subst (λ (l : List Token). AllTo g.elements i l) (sym none) (All-nil (λ (t : Token). element_of g.elements t.to ≡ i)))))
+                (λ miss. subst (λ (v : Vec Token A). AllTo g.elements k v.items) (sym (get_other old.unposted.items i k d empty miss))
+                (r.tidy.addressed k d below)));
             created = created_same own.deeds s.own.deeds (Posted i x.items) old.created (ap (λ (z : SeatView). z.own.deeds) whole) refl r.tidy.created;
             few = r.tidy.few;
           };
         }
 
-    pub keeps_refused : (unposted : Vec (Vec Token A) A) (back : Vec Token A) (s : SeatView) → length old.unposted.items ≡ g.elements → unposted.items ≡ slice_set (slice_set old.unposted.items i empty) i back → back ≡ x → s ≡ noting old.seat (FoundFull i x.items) → Keeps keeps_events g mesh old (record old { unposted = unposted; seat = s })
+    pub keeps_refused : (unposted : Vec (Vec Token A) A) (back : Vec Token A) (s : SeatView) → length old.unposted.items ≡ g.elements → unposted.items
+        ≡ slice_set (slice_set old.unposted.items i empty) i back → back ≡ x → s ≡ noting old.seat (FoundFull i x.items)
+        → Keeps keeps_events g mesh old (record old { unposted = unposted; seat = s })
     keeps_refused unposted back s count kept_is same found =
         let all : unposted.items ≡ slice_set old.unposted.items i back = kept_is ∙ set_again old.unposted.items i empty back in
-        let keeps : KeepsTokens g.elements old.unposted.items unposted.items [] = subst (λ (l : List (Vec Token A)). KeepsTokens g.elements old.unposted.items l []) (sym all) (keeps_as_many g.elements old.unposted.items i x back count low is (ap (λ (v : Vec Token A). v.items) same)) in
-        keeps_twice keeps_events g mesh old (record old { unposted = unposted }) (record old { unposted = unposted; seat = s }) (keeps_bundles keeps_events g mesh old unposted keeps) (keeps_noting keeps_events g mesh (record old { unposted = unposted }) s (FoundFull i x.items) (found_full i x.items) refl found)
+        let keeps : KeepsTokens g.elements old.unposted.items unposted.items [] = subst (λ (l : List (Vec Token A)). KeepsTokens g.elements
+        old.unposted.items l []) (sym all) (keeps_as_many g.elements old.unposted.items i x back count low is (ap (λ (v : Vec Token A). v.items) same)) in
+        keeps_twice keeps_events g mesh old (record old { unposted = unposted }) (record old { unposted = unposted; seat = s })
+        (keeps_bundles keeps_events g mesh old unposted keeps) (keeps_noting keeps_events g mesh (record old { unposted = unposted }) s
+        (FoundFull i x.items) (found_full i x.items) refl found)
 
 -- THE END
 module _ {C A L : Type 0} (keeps_events : Bool) (g : Setting) (mesh : MeshId) (may_stop : Bool) where
-  left_as : (old new : Runner C A L) (departure : Departure) → held_of new.lane ≡ held_of old.lane → new.seat.mesh ≡ old.seat.mesh → new.seat.own.last ≡ old.seat.own.last → IsDeparture g may_stop old departure → IsDeparture g may_stop new departure
+  left_as : (old new : Runner C A L) (departure : Departure) → held_of new.lane ≡ held_of old.lane → new.seat.mesh ≡ old.seat.mesh → new.seat.own.last
+      ≡ old.seat.own.last → IsDeparture g may_stop old departure → IsDeparture g may_stop new departure
   left_as old new Departure.Lost lane at last is = tt
   left_as old new (Departure.Halted halt) lane at last is = subst (λ (h : Holding). HaltsLane g.program g.steps may_stop h (Some halt)) (sym lane) is
   left_as old new Departure.Rested lane at last is = (
@@ -380,9 +437,11 @@ module _ {C A L : Type 0} (keeps_events : Bool) (g : Setting) (mesh : MeshId) (m
   -- it left, and then called for a stop if it had to
   pub ended : (old mid new : Runner C A L) (departure : Departure) → StaysAt old mid → (departure ≢ Departure.Lost → Keeps keeps_events g mesh old mid)
       → IsDeparture g may_stop mid departure
-      → StaysAt (record mid { departure = departure }) new → Keeps keeps_events g mesh (record mid { departure = departure }) new → held_of new.lane ≡ held_of mid.lane → new.seat.own.last ≡ mid.seat.own.last → new.departure ≡ departure → Ended keeps_events g mesh may_stop old new
+      → StaysAt (record mid { departure = departure }) new → Keeps keeps_events g mesh (record mid { departure = departure }) new → held_of new.lane
+      ≡ held_of mid.lane → new.seat.own.last ≡ mid.seat.own.last → new.departure ≡ departure → Ended keeps_events g mesh may_stop old new
   ended old mid new departure first keeps is second again lane last same = record {
     stays = (second.0 ∙ first.0, second.1 ∙ first.1, second.2 ∙ first.2);
-    keeps = λ ne. keeps_twice keeps_events g mesh old mid new (keeps (λ (e : departure ≡ Departure.Lost). ne (same ∙ e))) (keeps_twice keeps_events g mesh mid (record mid { departure = departure }) new (keeps_leaving keeps_events g mesh mid departure) again);
+    keeps = λ ne. keeps_twice keeps_events g mesh old mid new (keeps (λ (e : departure ≡ Departure.Lost). ne (same ∙ e)))
+        (keeps_twice keeps_events g mesh mid (record mid { departure = departure }) new (keeps_leaving keeps_events g mesh mid departure) again);
     departure = subst (λ (l : Departure). IsDeparture g may_stop new l) (sym same) (left_as mid new departure lane second.0 last is);
   }

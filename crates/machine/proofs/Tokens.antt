@@ -148,21 +148,26 @@ without_put : (t : Token) (held : List Token) → Within t held → IsPermutatio
 without_put t [] within = absurd within.1
 without_put t (u ∷ us) within = by_case (is_same t u) refl within.1 (λ w. without_put t us w)
   where
-    by_case : (b : Bool) → is_same t u ≡ b → Put t within.0 (u ∷ us) → (Within t us → IsPermutation us (t ∷ without t us)) → IsPermutation (u ∷ us) (t ∷ without t (u ∷ us))
+    by_case : (b : Bool) → is_same t u ≡ b → Put t within.0 (u ∷ us) → (Within t us → IsPermutation us (t ∷ without t us))
+        → IsPermutation (u ∷ us) (t ∷ without t (u ∷ us))
     by_case true is put again =
         let this : without t (u ∷ us) ≡ us = ap (λ (b : Bool). if b then us else u ∷ without t us) is in
-        subst (λ (l : List Token). IsPermutation (u ∷ us) (t ∷ l)) (sym this) (subst (λ (x : Token). IsPermutation (u ∷ us) (x ∷ us)) (sym (same_token t u is)) (IsPermutation-refl (u ∷ us)))
-    by_case false is (inl here) again = absurd (let self : is_same t u ≡ true = subst (λ (x : Token). is_same t x ≡ true) here.0 (is_self t) in let no : ⊥ = cc in no)
+        subst (λ (l : List Token). IsPermutation (u ∷ us) (t ∷ l)) (sym this) (subst (λ (x : Token). IsPermutation (u ∷ us) (x ∷ us))
+        (sym (same_token t u is)) (IsPermutation-refl (u ∷ us)))
+    by_case false is (inl here) again = absurd (let self : is_same t u ≡ true = subst (λ (x : Token). is_same t x ≡ true) here.0 (is_self t)
+        in let no : ⊥ = cc in no)
     by_case false is (inr later) again =
         let this : without t (u ∷ us) ≡ u ∷ without t us = ap (λ (b : Bool). if b then us else u ∷ without t us) is in
         let rest = again (later.0, later.2) in
         subst (λ (l : List Token). IsPermutation (u ∷ us) (t ∷ l)) (sym this)
-        (IsPermutation-trans _ _ _ (IsPermutation-cons u us (t ∷ without t us) rest) (shuffled ((u ∷ []) ∷ (t ∷ []) ∷ without t us ∷ []) (Piece 0 ⊕ (Piece 1 ⊕ Piece 2)) (Piece 1 ⊕ (Piece 0 ⊕ Piece 2)) refl))
+        (IsPermutation-trans _ _ _ (IsPermutation-cons u us (t ∷ without t us) rest) (shuffled ((u ∷ []) ∷ (t ∷ []) ∷ without t us ∷ [])
+        (Piece 0 ⊕ (Piece 1 ⊕ Piece 2)) (Piece 1 ⊕ (Piece 0 ⊕ Piece 2)) refl))
 
 -- what is left of a list without some of its tokens
 pub minus_is : (held ts rest : List Token) → IsPermutation held (ts ++ rest) → IsPermutation (minus held ts) rest
 minus_is held [] rest p = p
 minus_is held (t ∷ ts) rest p =
-    let within : Within t held = within_permutation t (t ∷ (ts ++ rest)) held (IsPermutation-sym held (t ∷ (ts ++ rest)) p) (ts ++ rest, put_first t (ts ++ rest)) in
+    let within : Within t held = within_permutation t (t ∷ (ts ++ rest)) held (IsPermutation-sym held (t ∷ (ts ++ rest)) p)
+    (ts ++ rest, put_first t (ts ++ rest)) in
     let out : IsPermutation (t ∷ without t held) (t ∷ (ts ++ rest)) = IsPermutation-trans _ _ _ (IsPermutation-sym _ _ (without_put t held within)) p in
     minus_is (without t held) ts rest (permutation_cancel (t ∷ []) (without t held) (ts ++ rest) out)

@@ -51,4 +51,5 @@ pub record EndsFreely (g : Setting) (inputs : List ℤ) (may_stop : Bool) (r : R
 
 -- The report ends so with the events of some run; where events are listed, and these are those that were noted, it lists those of the run.
 abbrev pub EndsOn : Bool → Setting → List ℤ → Bool → Events → Events → Report → Type 0
-EndsOn keeps_events g inputs may_stop kept events r = (shown : Events) × EndsFreely g inputs may_stop (with_events r shown) × (keeps_events ≡ true → kept ≡ events → r.events ≡ shown)
+EndsOn keeps_events g inputs may_stop kept events r = (shown : Events) × EndsFreely g inputs may_stop (with_events r shown)
+    × (keeps_events ≡ true → kept ≡ events → r.events ≡ shown)

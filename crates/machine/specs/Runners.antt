@@ -1,5 +1,6 @@
 -- What holds of an element that runs freely.
-use Rattle.std.specs.Prelude.{◌≡◌, ◌≢◌, ℕ, ◌+◌, ◌-◌, ◌≤◌, ◌<◌, ◌^◌, ◌⊎◌, List, [], ◌++◌, map, take, drop, length, Bool, Some, IsPermutation, All, slice_index_or, ⊤, Vec, true, if◌then◌else◌, ◌∷◌}
+use Rattle.std.specs.Prelude.{◌≡◌, ◌≢◌, ℕ, ◌+◌, ◌-◌, ◌≤◌, ◌<◌, ◌^◌, ◌⊎◌, List, [], ◌++◌, map, take, drop, length, Bool, Some, IsPermutation, All}
+use Rattle.std.specs.Prelude.{slice_index_or, ⊤, Vec, true, if◌then◌else◌, ◌∷◌}
 use Rattle.std.specs.List.{flat_map}
 use Rattle.tags.specs.declared.token.Token.{Token}
 use Rattle.element.specs.Near.{Bounds, IsNearToken}
@@ -135,7 +136,8 @@ still_first r made = take (length r.lane.held.queue - (made - length r.sent.item
 pub record KeepsTokens {A : Type 0} (n : ℕ) (old new : List (Vec Token A)) (more : List Token) : Type 0 where
   pub count : length new ≡ length old
   pub tokens : IsPermutation (flat_map (λ v. v.items) new) (flat_map (λ v. v.items) old ++ more)
-  pub addressed : ((i : ℕ) (d : Vec Token A) → i < n → AllTo n i (slice_index_or old i d).items) → (i : ℕ) (d : Vec Token A) → i < n → AllTo n i (slice_index_or new i d).items
+  pub addressed : ((i : ℕ) (d : Vec Token A) → i < n → AllTo n i (slice_index_or old i d).items) → (i : ℕ) (d : Vec Token A) → i < n
+      → AllTo n i (slice_index_or new i d).items
 
 -- a log with one block more: the tokens that its events took, those that it made, and its counts
 abbrev pub behind_all : Noted → List Token → List Token → Counts → Noted
@@ -145,4 +147,5 @@ behind_all n taken made c = record { taken = n.taken ++ taken; made = n.made ++ 
 pub record NotesBlock {C A L : Type 0} (keeps_events : Bool) (spent made : ℕ) (old new : Runner C A L) : Type 0 where
   pub others : new ≡ record old { log = new.log; notes = new.notes }
   pub log : new.log.events.items ≡ (if keeps_events then [] else old.log.events.items)
-  pub notes : keeps_events ≡ true → noted_in new.notes ≡ behind_all (noted_in old.notes) (tokens_of old.log.events.items) (left_last old made) (record { events = length old.log.events.items; spent = spent; made = made })
+  pub notes : keeps_events ≡ true → noted_in new.notes ≡ behind_all (noted_in old.notes) (tokens_of old.log.events.items) (left_last old made)
+      (record { events = length old.log.events.items; spent = spent; made = made })

@@ -52,7 +52,8 @@ logs_in ps = map notes_of ps
 -- Of each history that has these logs the list has the events after those that it had, in some legal order of the same blocks.
 abbrev pub Lists : {A : Type 0} → List (BlockLog A) → List Token → Events → Events → Type 0
 Lists logs opening old new =
-    (log : List Block) (start last : List Token) → IsHistory logs log start last → IsPermutation opening start → (made : Events) × IsOrdered (length logs) log start last made × (new ≡ old ++ made)
+    (log : List Block) (start last : List Token) → IsHistory logs log start last → IsPermutation opening start → (made : Events)
+    × IsOrdered (length logs) log start last made × (new ≡ old ++ made)
 
 -- n bundles, all empty
 abbrev pub AreEmpty : {A : Type 0} → ℕ → List (Vec Token A) → Type 0
@@ -83,4 +84,5 @@ IsHaltOf departures halt =
 
 -- all have run
 abbrev pub AllEnded : {C A L : Type 0} → Bool → Setting → MeshId → Bool → List (CachePadded (Runner C A L)) → List (CachePadded (Runner C A L)) → Type 0
-AllEnded keeps_events g mesh may_stop olds news = (i : ℕ) (d : _) → i < length olds → Ended keeps_events g mesh may_stop (padded_value (slice_index_or olds i d)) (padded_value (slice_index_or news i d))
+AllEnded keeps_events g mesh may_stop olds news = (i : ℕ) (d : _) → i < length olds
+    → Ended keeps_events g mesh may_stop (padded_value (slice_index_or olds i d)) (padded_value (slice_index_or news i d))

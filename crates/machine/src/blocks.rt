@@ -48,7 +48,11 @@ fn commit_counts<J: Ask, C: Instructions, A: Allocator, L: Log>(
 
 // Notes the tokens that events took.
 fn note_taken<A: Allocator>(notes: &mut BlockLog<A>, log: &[(u32, Token)]) -> Result<(), AllocError>
-    ensures { OnOk result (noted_in notes.new ≡ record { taken = (noted_in notes.old).taken ++ tokens_of log.now; made = (noted_in notes.old).made; blocks = (noted_in notes.old).blocks }) }
+    ensures { OnOk result (noted_in notes.new ≡ record {
+      taken = (noted_in notes.old).taken ++ tokens_of log.now;
+      made = (noted_in notes.old).made;
+      blocks = (noted_in notes.old).blocks;
+    }) }
 {
     for entry in log {
         notes.reserve(1, 0, 0)?;
@@ -64,7 +68,12 @@ fn note_queue<A: Allocator>(
     from: usize,
 ) -> Result<(), AllocError>
     requires { from ≤ length queue.now.items }
-    ensures { OnOk result (noted_in notes.new ≡ record { taken = (noted_in notes.old).taken; made = (noted_in notes.old).made ++ drop from queue.now.items; blocks = (noted_in notes.old).blocks }) }
+    ensures { OnOk result (noted_in notes.new ≡ record {
+      taken = (noted_in notes.old).taken;
+      made = (noted_in notes.old).made
+          ++ drop from queue.now.items;
+      blocks = (noted_in notes.old).blocks;
+    }) }
 {
     for behind in 0..queue.len() - from {
         notes.reserve(0, 1, 0)?;
@@ -75,7 +84,12 @@ fn note_queue<A: Allocator>(
 
 // Notes that these tokens were made.
 fn note_sent<A: Allocator>(notes: &mut BlockLog<A>, sent: &[Token]) -> Result<(), AllocError>
-    ensures { OnOk result (noted_in notes.new ≡ record { taken = (noted_in notes.old).taken; made = (noted_in notes.old).made ++ sent.now; blocks = (noted_in notes.old).blocks }) }
+    ensures { OnOk result (noted_in notes.new ≡ record {
+      taken = (noted_in notes.old).taken;
+      made = (noted_in notes.old).made
+          ++ sent.now;
+      blocks = (noted_in notes.old).blocks;
+    }) }
 {
     for token in sent {
         notes.reserve(0, 1, 0)?;
@@ -129,9 +143,11 @@ fn commit<C: MainCode, A: Allocator, L: Log>(
     before: u64,
     events: u64,
 ) -> Result<(), Lost>
-    requires made { (start : Holding) × (old : Holding) × HasMade L.KEEPS_EVENTS (setting_in C.program C.width shape.now) mesh.now start old before events runner.old }
+    requires made { (start : Holding) × (old : Holding) × HasMade L.KEEPS_EVENTS (setting_in C.program C.width shape.now) mesh.now start old before
+        events runner.old }
     ensures stays { StaysAt runner.old runner.new }
-    ensures keeps { OnOk result ((start : Holding) (old : Holding) → HasMade L.KEEPS_EVENTS (setting_in C.program C.width shape.now) mesh.now start old before events runner.old → IsRunning L.KEEPS_EVENTS (setting_in C.program C.width shape.now) mesh.now start runner.new) }
+    ensures keeps { OnOk result ((start : Holding) (old : Holding) → HasMade L.KEEPS_EVENTS (setting_in C.program C.width shape.now) mesh.now start
+        old before events runner.old → IsRunning L.KEEPS_EVENTS (setting_in C.program C.width shape.now) mesh.now start runner.new) }
     ensures lane { held_of runner.new.lane ≡ held_of runner.old.lane }
     ensures others { (runner.new.unqueued.items ≡ runner.old.unqueued.items) × (runner.new.bundled ≡ runner.old.bundled) }
 {

@@ -68,8 +68,10 @@ fn run_each<
         runners,
         threads,
         &|_: usize, padded: &mut CachePadded<Runner<'_, C, A, L>>| -> ()
-            requires { IsGoodSetting (setting_in C.program C.width shape.now) × Runs L.KEEPS_EVENTS (setting_in C.program C.width shape.now) mesh.now (padded_value padded.old) × IsClear (padded_value padded.old) }
-            ensures { Ended L.KEEPS_EVENTS (setting_in C.program C.width shape.entry.now) mesh.entry.now G.may_stop (padded_value padded.old) (padded_value padded.new) }
+            requires { IsGoodSetting (setting_in C.program C.width shape.now) × Runs L.KEEPS_EVENTS (setting_in C.program C.width shape.now) mesh.now
+                (padded_value padded.old) × IsClear (padded_value padded.old) }
+            ensures { Ended L.KEEPS_EVENTS (setting_in C.program C.width shape.entry.now) mesh.entry.now G.may_stop (padded_value padded.old)
+                (padded_value padded.new) }
         {
             let runner: &mut Runner<'_, C, A, L> = padded;
             turns::run(rt, runner, mesh, shape, gate);
@@ -93,7 +95,8 @@ fn run_all<
 )
     requires some { 0 < length runners.old.items }
     requires good { IsGoodSetting (setting_in C.program C.width shape.now) }
-    requires ready { All (λ p. Runs L.KEEPS_EVENTS (setting_in C.program C.width shape.now) mesh.now (padded_value p) × IsClear (padded_value p)) runners.old.items }
+    requires ready { All (λ p. Runs L.KEEPS_EVENTS (setting_in C.program C.width shape.now) mesh.now (padded_value p) × IsClear (padded_value p))
+        runners.old.items }
     ensures each { AllEnded L.KEEPS_EVENTS (setting_in C.program C.width shape.now) mesh.now G.may_stop runners.old.items runners.new.items }
     ensures count { length runners.new.items ≡ length runners.old.items }
 {
@@ -244,8 +247,13 @@ fn run_apart<
     requires sound { IsSoundState (arriving (setting_in C.program C.width setup.shape) (map held_of lanes.items) []) }
     requires runs { All (RunsAs (setting_in C.program C.width setup.shape)) (map fixed_of lanes.items) }
     ensures unlisted { L.KEEPS_EVENTS ≡ false → setup.entry.log.events.items ≡ [] → result.events ≡ [] }
-    ensures ends { (inputs : List ℤ) (events : Events) → Began inputs (arriving (setting_in C.program C.width setup.entry.shape) (map held_of lanes.entry.items) []) events → result.end ≢ End.Memory → EndsOn L.KEEPS_EVENTS (setting_in C.program C.width setup.entry.shape) inputs G.may_stop setup.entry.log.events.items events result }
-    ensures shows { (inputs : List ℤ) (events : Events) → Began inputs (arriving (setting_in C.program C.width setup.entry.shape) (map held_of lanes.entry.items) []) events → ShowsOn L.KEEPS_EVENTS (C.program setup.entry.shape.code.now) (size (setting_in C.program C.width setup.entry.shape)) inputs setup.entry.shape.steps G.may_stop setup.entry.log.events.items events result }
+    ensures ends { (inputs : List ℤ) (events : Events)
+        → Began inputs (arriving (setting_in C.program C.width setup.entry.shape) (map held_of lanes.entry.items) []) events → result.end ≢ End.Memory
+        → EndsOn L.KEEPS_EVENTS (setting_in C.program C.width setup.entry.shape) inputs G.may_stop setup.entry.log.events.items events result }
+    ensures shows { (inputs : List ℤ) (events : Events)
+        → Began inputs (arriving (setting_in C.program C.width setup.entry.shape) (map held_of lanes.entry.items) []) events
+        → ShowsOn L.KEEPS_EVENTS (C.program setup.entry.shape.code.now) (size (setting_in C.program C.width setup.entry.shape)) inputs
+        setup.entry.shape.steps G.may_stop setup.entry.log.events.items events result }
 {
     let Ok(ready) = make_ready::<C, A, L>(&setup.alloc, lanes, setup.shape.elements) else {
         return setup.refused();
@@ -281,8 +289,11 @@ fn run_machine<
     G: Gate + Sync,
 >(machine: Machine<'_, C, A, L>, rt: &R, gate: &G) -> Report<A>
     ensures unlisted { L.KEEPS_EVENTS ≡ false → machine.entry.events ≡ [] → result.events ≡ [] }
-    ensures ends { (inputs : List ℤ) (events : Events) → Began inputs machine.entry.state events → result.end ≢ End.Memory → EndsOn L.KEEPS_EVENTS machine.entry.state.setting inputs G.may_stop machine.entry.events events result }
-    ensures shows { (inputs : List ℤ) (events : Events) → Began inputs machine.entry.state events → ShowsOn L.KEEPS_EVENTS machine.entry.state.setting.program (size machine.entry.state.setting) inputs machine.entry.state.setting.steps G.may_stop machine.entry.events events result }
+    ensures ends { (inputs : List ℤ) (events : Events) → Began inputs machine.entry.state events → result.end ≢ End.Memory
+        → EndsOn L.KEEPS_EVENTS machine.entry.state.setting inputs G.may_stop machine.entry.events events result }
+    ensures shows { (inputs : List ℤ) (events : Events) → Began inputs machine.entry.state events
+        → ShowsOn L.KEEPS_EVENTS machine.entry.state.setting.program (size machine.entry.state.setting) inputs machine.entry.state.setting.steps
+        G.may_stop machine.entry.events events result }
 {
     match machine.into_lanes() {
         Ok((setup, lanes)) => run_apart(setup, lanes, rt, gate),
@@ -299,8 +310,10 @@ pub fn run<
     A: Allocator + Clone + Send + Sync,
     G: Gate + Sync,
 >(machine: Machine<'_, C, A>, rt: &R, gate: &G) -> Report<A>
-    ensures shows { (inputs : List ℤ) → Began inputs machine.entry.state machine.entry.events → ShowsInOrder machine.entry.state.setting.program (size machine.entry.state.setting) inputs machine.entry.state.setting.steps false G.may_stop result }
-    ensures ends { (inputs : List ℤ) → Began inputs machine.entry.state machine.entry.events → result.end ≢ End.Memory → EndsFreely machine.entry.state.setting inputs G.may_stop result }
+    ensures shows { (inputs : List ℤ) → Began inputs machine.entry.state machine.entry.events → ShowsInOrder machine.entry.state.setting.program
+        (size machine.entry.state.setting) inputs machine.entry.state.setting.steps false G.may_stop result }
+    ensures ends { (inputs : List ℤ) → Began inputs machine.entry.state machine.entry.events → result.end ≢ End.Memory
+        → EndsFreely machine.entry.state.setting inputs G.may_stop result }
 {
     run_machine(machine, rt, gate)
 }
@@ -312,8 +325,10 @@ pub fn run_quietly<
     A: Allocator + Clone + Send + Sync,
     G: Gate + Sync,
 >(machine: Machine<'_, C, A>, rt: &R, gate: &G) -> Report<A>
-    ensures shows { (inputs : List ℤ) → Began inputs machine.entry.state machine.entry.events → ShowsQuietly machine.entry.state.setting.program (size machine.entry.state.setting) inputs machine.entry.state.setting.steps false G.may_stop result }
-    ensures ends { (inputs : List ℤ) → Began inputs machine.entry.state machine.entry.events → result.end ≢ End.Memory → (events : Events) × EndsFreely machine.entry.state.setting inputs G.may_stop (with_events result events) }
+    ensures shows { (inputs : List ℤ) → Began inputs machine.entry.state machine.entry.events → ShowsQuietly machine.entry.state.setting.program
+        (size machine.entry.state.setting) inputs machine.entry.state.setting.steps false G.may_stop result }
+    ensures ends { (inputs : List ℤ) → Began inputs machine.entry.state machine.entry.events → result.end ≢ End.Memory → (events : Events)
+        × EndsFreely machine.entry.state.setting inputs G.may_stop (with_events result events) }
 {
     run_machine(machine.without_events(), rt, gate)
 }

@@ -49,7 +49,8 @@ fn receive_or_hold<C: MainCode, A: Allocator, L: Log>(
     requires runs { RunsAs (setting_in C.program C.width shape.now) (fixed_of runner.old.lane) }
     requires addressed { All (λ t. element_of runner.old.lane.held.part.shape.elements t.to ≡ runner.old.lane.held.part.shape.element) bundle.items }
     ensures none { IfNone result (Receives (setting_in C.program C.width shape.now) runner.old bundle.items runner.new) }
-    ensures some { IfSome result (λ halt. (halt ≡ Halt.Memory) × (runner.new.lane ≡ runner.old.lane) × (runner.new ≡ record runner.old { lane = runner.new.lane; unqueued = bundle })) }
+    ensures some { IfSome result (λ halt. (halt ≡ Halt.Memory) × (runner.new.lane ≡ runner.old.lane)
+        × (runner.new ≡ record runner.old { lane = runner.new.lane; unqueued = bundle })) }
 {
     let near = are_near(&bundle, reach_of(shape));
     if near && runner.lane.receive_all(&bundle).is_ok() {

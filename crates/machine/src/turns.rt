@@ -27,13 +27,16 @@ use std::thread;
 // others posted, and those in which it posts what it has for others.
 const LOOK: u64 = 128;
 
-// Whether the element has tokens for a whole turn, and looked at the mailboxes a short while ago.
+// Whether the element has tokens for a whole turn, and looked at the mailboxes a short while ago, or has nobody who would post any.
 fn is_busy<C: MainCode, A: Allocator, L: Log>(
     runner: &Runner<'_, C, A, L>,
     shape: &Shape<'_, C>,
 ) -> bool
     requires { IsGoodSetting (setting_in C.program C.width shape.now) }
 {
+    if shape.elements == 1 {
+        return true;
+    }
     let every = LOOK / shape.turn;
     every > 1 && runner.blocks % every != 0 && runner.lane.queue().len() as u64 >= shape.turn
 }

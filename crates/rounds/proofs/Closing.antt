@@ -1,5 +1,6 @@
 -- What a round leaves once its tokens are delivered.
-use Rattle.std.proofs.Common.{◌≡◌, refl, sym, ◌∙◌, ap, subst, ℕ, ◌+◌, ◌<◌, ◌≤◌, ◌⊎◌, inl, inr, ℤ, List, [], ◌∷◌, ◌++◌, length, map, take, drop, append_assoc, Option, Some, None, Bool, true, false, arith}
+use Rattle.std.proofs.Common.{◌≡◌, refl, sym, ◌∙◌, ap, subst, ℕ, ◌+◌, ◌<◌, ◌≤◌, ◌⊎◌, inl, inr, ℤ, List, [], ◌∷◌, ◌++◌, length, map, take, drop}
+use Rattle.std.proofs.Common.{append_assoc, Option, Some, None, Bool, true, false, arith}
 use Rattle.std.specs.Prelude.{All, slice_get}
 use Rattle.std.proofs.lemmas.List.{append-nil, drop_all, take_all, length-map}
 use Rattle.lemmas.proofs.Alls.{all_left}
@@ -46,7 +47,8 @@ module _ {C A L : Type 0} where
       let some : 0 < g.elements = between.sound.setting.some in
       omega (arith, count, one, two, some)
 
-  module _ (g : Setting) (keeps_events may_stop : Bool) (olds news : List (Turner C A L)) (before after : Events) (tokens : List Token) (made : MadeRound g keeps_events may_stop olds before news after tokens) where
+  module _ (g : Setting) (keeps_events may_stop : Bool) (olds news : List (Turner C A L)) (before after : Events) (tokens : List Token)
+      (made : MadeRound g keeps_events may_stop olds before news after tokens) where
     pub count_all : length news ≡ g.elements
     count_all =
         let count : length (delivered tokens (lanes_held news)) ≡ g.elements = made.sound.count in
@@ -55,23 +57,34 @@ module _ {C A L : Type 0} where
         omega (arith, count, one, two)
 
     pub at_all : AllFrom (IsAt g.elements) 0 (lanes_held news)
-    at_all = to_map (λ (i : ℕ) (h : Holding). IsAt g.elements i h) (IsPlaced g) (λ (h : Holding). queued h tokens) (λ (i : ℕ) (h : Holding) p. (p.element, p.elements)) 0 (lanes_held news) made.sound.lanes
+    at_all = to_map (λ (i : ℕ) (h : Holding). IsAt g.elements i h) (IsPlaced g) (λ (h : Holding). queued h tokens)
+        (λ (i : ℕ) (h : Holding) p. (p.element, p.elements)) 0 (lanes_held news) made.sound.lanes
 
     -- it is a round, whatever tokens were delivered
     makes_one : (last : List (Turner C A L)) (rest : List Token) (halt : Option Halt) → delivered rest (lanes_held last) ≡ delivered tokens (lanes_held news)
-        → IsWhy (delivered rest (lanes_held last)) (answers made.turned) halt ⊎ (halt ≡ Some Halt.Memory) → MakesRounds g may_stop 1 (lanes_held olds) (delivered rest (lanes_held last)) made.made halt
+        → IsWhy (delivered rest (lanes_held last)) (answers made.turned) halt ⊎ (halt ≡ Some Halt.Memory) → MakesRounds g may_stop 1 (lanes_held olds)
+        (delivered rest (lanes_held last)) made.made halt
     makes_one last rest halt handed halts = one_round g may_stop (lanes_held olds) (delivered rest (lanes_held last)) made.made halt (record {
       keeps_events = keeps_events;
       turned = made.turned;
       round = made.round;
-      handed = handed ∙ ap (λ (l : List Token). delivered l (lanes_held news)) made.sent ∙ ap (λ (l : List Holding). delivered (all_sent made.turned) l) made.lanes;
+      handed = handed ∙ ap (λ (l : List Token). delivered l (lanes_held news)) made.sent
+          ∙ ap (λ (l : List Holding). delivered (all_sent made.turned) l) made.lanes;
       events = made.events;
       halts = halts;
     })
 
     -- memory was refused
     pub refused_round : Rounds g keeps_events may_stop 1 olds before news after (Some Halt.Memory)
-    refused_round = record { rest = tokens; made = made.made; goes = (made.sound, inl tt); noted = made.noted; leads = made.leads; makes = makes_one news tokens (Some Halt.Memory) refl (inr refl) }
+    refused_round = record {
+      rest = tokens;
+      made = made.made;
+      goes = (made.sound, inl tt);
+      noted = made.noted;
+      leads = made.leads;
+      makes = makes_one
+          news tokens (Some Halt.Memory) refl (inr refl);
+    }
 
     module _ (last : List (Turner C A L)) (rest : List Token) (handed : delivered rest (lanes_held last) ≡ delivered tokens (lanes_held news)) where
       same : arriving g (lanes_held news) tokens ≡ arriving g (lanes_held last) rest
@@ -85,14 +98,32 @@ module _ {C A L : Type 0} where
 
       -- memory was refused while tokens were delivered
       pub refused_delivering : Rounds g keeps_events may_stop 1 olds before last after (Some Halt.Memory)
-      refused_delivering = record { rest = rest; made = made.made; goes = (sound_last, inl tt); noted = made.noted; leads = leads_last; makes = makes_one last rest (Some Halt.Memory) handed (inr refl) }
+      refused_delivering = record {
+        rest = rest;
+        made = made.made;
+        goes = (sound_last, inl tt);
+        noted = made.noted;
+        leads = leads_last;
+        makes =
+            makes_one last rest (Some Halt.Memory) handed (inr refl);
+      }
 
-      pub closed_round : All (RunsAs g) (lanes_fixed last) → rest ≡ [] → tokens_sent last ≡ [] → events_noted last ≡ [] → halts_in last ≡ halts_in news → (halt : Option Halt) → IsWhy (lanes_held last) (halts_in last) halt
+      pub closed_round : All (RunsAs g) (lanes_fixed last) → rest ≡ [] → tokens_sent last ≡ [] → events_noted last ≡ [] → halts_in last
+          ≡ halts_in news → (halt : Option Halt) → IsWhy (lanes_held last) (halts_in last) halt
           → Rounds g keeps_events may_stop 1 olds before last after halt
-      closed_round runs none sent noted halts halt why = record { rest = rest; made = made.made; goes = goes halt why; noted = made.noted; leads = leads_last; makes = makes_one last rest halt handed (inl why_then) }
+      closed_round runs none sent noted halts halt why = record {
+        rest = rest;
+        made = made.made;
+        goes = goes halt why;
+        noted = made.noted;
+        leads =
+            leads_last;
+        makes = makes_one last rest halt handed (inl why_then);
+      }
         where
           why_then : IsWhy (delivered rest (lanes_held last)) (answers made.turned) halt
-          why_then = subst (λ (l : List Holding). IsWhy l (answers made.turned) halt) (sym (ap (λ (l : List Token). delivered l (lanes_held last)) none ∙ delivered_none (lanes_held last)))
+          why_then = subst (λ (l : List Holding). IsWhy l (answers made.turned) halt)
+              (sym (ap (λ (l : List Token). delivered l (lanes_held last)) none ∙ delivered_none (lanes_held last)))
               (subst (λ (l : List (Option Halt)). IsWhy (lanes_held last) l halt) (halts ∙ made.answered) why)
 
           goes : (halt : Option Halt) → IsWhy (lanes_held last) (halts_in last) halt → GoesOn g may_stop last rest halt
@@ -105,11 +136,16 @@ module _ {C A L : Type 0} where
             },
             none,
           )
-          goes (Some h) (inl at) = (sound_last, subst (λ (s : State). IsHalted s may_stop h) same (made.halts at.0 h (subst (λ (l : List (Option Halt)). slice_get l at.0 ≡ Some (Some h)) halts at.1)))
+          goes (Some h) (inl at) = (
+            sound_last,
+            subst (λ (s : State). IsHalted s may_stop h) same
+                (made.halts at.0 h (subst (λ (l : List (Option Halt)). slice_get l at.0 ≡ Some (Some h)) halts at.1)),
+          )
           goes (Some h) (inr idle) = (
             sound_last,
             inl (subst (λ (w : Halt). HaltsAs (arriving g (lanes_held last) rest) false w) (sym idle.2)
-                (subst (λ (l : List Token). tokens_in (delivered l (lanes_held last)) ≡ []) (sym none) (ap (λ (l : List Holding). tokens_in l) (delivered_none (lanes_held last)) ∙ idle.1))),
+                (subst (λ (l : List Token). tokens_in (delivered l (lanes_held last)) ≡ []) (sym none)
+                (ap (λ (l : List Holding). tokens_in l) (delivered_none (lanes_held last)) ∙ idle.1))),
           )
 
 -- MANY ROUNDS
@@ -118,23 +154,30 @@ module _ {C A L : Type 0} where
   leads_none g ts = λ inputs evs b. subst (λ (l : Events). Began inputs (arriving g (lanes_held ts) []) l) (sym (append-nil evs)) b
 
   -- one more round after others
-  pub rounds_twice : (g now : Setting) (setting : now ≡ g) (keeps_events may_stop : Bool) (n : ℕ) (olds mids news : List (Turner C A L)) (before mid after made : Events) (halt : Option Halt)
-      → mid ≡ logged keeps_events before made → Leads g olds mids [] made → MakesRounds g may_stop n (lanes_held olds) (lanes_held mids) made None → Rounds now keeps_events may_stop 1 mids mid news after halt
+  pub rounds_twice : (g now : Setting) (setting : now ≡ g) (keeps_events may_stop : Bool) (n : ℕ) (olds mids news : List (Turner C A L))
+      (before mid after made : Events) (halt : Option Halt)
+      → mid ≡ logged keeps_events before made → Leads g olds mids [] made → MakesRounds g may_stop n (lanes_held olds) (lanes_held mids) made None
+      → Rounds now keeps_events may_stop 1 mids mid news after halt
       → Rounds g keeps_events may_stop (n + 1) olds before news after halt
-  rounds_twice g now setting keeps_events may_stop n olds mids news before mid after made halt noted leads makes next = subst (λ (x : Setting). Rounds x keeps_events may_stop (n + 1) olds before news after halt) setting (record {
-    rest = next.rest;
-    made = made ++ next.made;
-    goes = next.goes;
-    noted = next.noted ∙ ap (λ (l : Events). logged keeps_events l next.made) noted ∙ logged_twice keeps_events before made next.made;
-    leads = λ inputs evs b. subst (λ (l : Events). Began inputs (arriving now (lanes_held news) next.rest) l) (append_assoc evs made next.made) (next.leads inputs (evs ++ made) (subst (λ (x : Setting). Leads x olds mids [] made) (sym setting) leads inputs evs b));
-    makes = makes_more now may_stop n (lanes_held olds) (lanes_held mids) (delivered next.rest (lanes_held news)) made next.made halt (subst (λ (x : Setting). MakesRounds x may_stop n (lanes_held olds) (lanes_held mids) made None) (sym setting) makes) next.makes;
-  })
+  rounds_twice g now setting keeps_events may_stop n olds mids news before mid after made halt noted leads makes next = subst
+      (λ (x : Setting). Rounds x keeps_events may_stop (n + 1) olds before news after halt) setting (record {
+        rest = next.rest;
+        made = made ++ next.made;
+        goes = next.goes;
+        noted = next.noted ∙ ap (λ (l : Events). logged keeps_events l next.made) noted ∙ logged_twice keeps_events before made next.made;
+        leads = λ inputs evs b. subst (λ (l : Events). Began inputs (arriving now (lanes_held news) next.rest) l) (append_assoc evs made next.made)
+            (next.leads inputs (evs ++ made) (subst (λ (x : Setting). Leads x olds mids [] made) (sym setting) leads inputs evs b));
+        makes = makes_more now may_stop n (lanes_held olds) (lanes_held mids) (delivered next.rest (lanes_held news)) made next.made halt
+            (subst (λ (x : Setting). MakesRounds x may_stop n (lanes_held olds) (lanes_held mids) made None) (sym setting) makes) next.makes;
+      })
 
   -- what holds between rounds, after those in which nothing halted
-  pub leads_on : (g : Setting) (keeps_events may_stop : Bool) (n : ℕ) (olds news : List (Turner C A L)) (before after : Events) (rounds : Rounds g keeps_events may_stop n olds before news after None) → Leads g olds news [] rounds.made
+  pub leads_on : (g : Setting) (keeps_events may_stop : Bool) (n : ℕ) (olds news : List (Turner C A L)) (before after : Events)
+      (rounds : Rounds g keeps_events may_stop n olds before news after None) → Leads g olds news [] rounds.made
   leads_on g keeps_events may_stop n olds news before after rounds = subst (λ (l : List Token). Leads g olds news l rounds.made) rounds.goes.1 rounds.leads
 
-  pub makes_on : (g : Setting) (keeps_events may_stop : Bool) (n : ℕ) (olds news : List (Turner C A L)) (before after : Events) (rounds : Rounds g keeps_events may_stop n olds before news after None)
+  pub makes_on : (g : Setting) (keeps_events may_stop : Bool) (n : ℕ) (olds news : List (Turner C A L)) (before after : Events)
+      (rounds : Rounds g keeps_events may_stop n olds before news after None)
       → MakesRounds g may_stop n (lanes_held olds) (lanes_held news) rounds.made None
   makes_on g keeps_events may_stop n olds news before after rounds = subst (λ (l : List Holding). MakesRounds g may_stop n (lanes_held olds) l rounds.made None)
       (ap (λ (l : List Token). delivered l (lanes_held news)) rounds.goes.1 ∙ delivered_none (lanes_held news)) rounds.makes
@@ -171,7 +214,8 @@ none_sound g raw sound = subst (λ (l : List Holding). IsSoundState (record { se
 
 -- THE REPORT
 -- an end of which no gate is the cause
-end_any : (p : Program) (z : Size) (steps : ℕ) (keeps_events may_stop : Bool) (evs : Events) (m : Machine) (e : End) → HasEnd p z steps keeps_events false evs m e → HasEnd p z steps keeps_events may_stop evs m e
+end_any : (p : Program) (z : Size) (steps : ℕ) (keeps_events may_stop : Bool) (evs : Events) (m : Machine) (e : End)
+    → HasEnd p z steps keeps_events false evs m e → HasEnd p z steps keeps_events may_stop evs m e
 end_any p z steps keeps_events may_stop evs m End.Rest h = h
 end_any p z steps keeps_events may_stop evs m End.Starved h = h
 end_any p z steps keeps_events may_stop evs m (End.Clash a i) h = h
@@ -180,7 +224,8 @@ end_any p z steps keeps_events may_stop evs m (End.Stuck n) h = h
 end_any p z steps keeps_events may_stop evs m End.Memory h = h
 end_any p z steps keeps_events may_stop evs m End.Stop h = absurd (let no : ⊥ = cc in no)
 
-pub shows_any : (p : Program) (z : Size) (inputs : List ℤ) (steps : ℕ) (keeps_events may_stop : Bool) (r : Report) → ShowsInOrder p z inputs steps keeps_events false r → ShowsInOrder p z inputs steps keeps_events may_stop r
+pub shows_any : (p : Program) (z : Size) (inputs : List ℤ) (steps : ℕ) (keeps_events may_stop : Bool) (r : Report)
+    → ShowsInOrder p z inputs steps keeps_events false r → ShowsInOrder p z inputs steps keeps_events may_stop r
 shows_any p z inputs steps keeps_events may_stop r s = record {
   last = s.last;
   run = s.run;
@@ -190,25 +235,42 @@ shows_any p z inputs steps keeps_events may_stop r s = record {
 }
 
 -- the report of the machine before its first event
-pub refused_shows : (s : State) (inputs : List ℤ) (keeps_events may_stop : Bool) (kept evs : Events) (r : Report) → IsSoundState s → r ≡ opening_picture (outputs_of s.setting.program)
+pub refused_shows : (s : State) (inputs : List ℤ) (keeps_events may_stop : Bool) (kept evs : Events) (r : Report) → IsSoundState s → r
+    ≡ opening_picture (outputs_of s.setting.program)
     → ShowsOn keeps_events s.setting.program (size s.setting) inputs s.setting.steps may_stop kept evs r
 refused_shows s inputs keeps_events may_stop kept evs r sound is =
     let p = s.setting.program in
-    let shown = shows_any p (size s.setting) inputs s.setting.steps false may_stop (opening_picture (outputs_of p)) (shows_opening s inputs false (outputs_of p) sound refl) in
-    ([], subst (λ (x : Report). ShowsInOrder p (size s.setting) inputs s.setting.steps false may_stop (with_events x [])) (sym is) shown, λ l same. ap (λ (x : Report). x.events) is)
+    let shown = shows_any p (size s.setting) inputs s.setting.steps false may_stop (opening_picture (outputs_of p))
+    (shows_opening s inputs false (outputs_of p) sound refl) in (
+      [],
+      subst (λ (x : Report). ShowsInOrder p (size s.setting) inputs s.setting.steps false may_stop (with_events x [])) (sym is) shown,
+      λ l same. ap
+          (λ (x : Report). x.events) is,
+    )
 
 -- what is reported of a run whose events are listed, and of one whose events are not
-pub reported_run : (p : Program) (z : Size) (inputs : List ℤ) (steps : ℕ) (may_stop : Bool) (evs : Events) (r : Report) → ShowsOn true p z inputs steps may_stop evs evs r → ShowsInOrder p z inputs steps false may_stop r
-reported_run p z inputs steps may_stop evs r (shown, shows, lists) = subst (λ (l : Events). ShowsInOrder p z inputs steps false may_stop (with_events r l)) (sym (lists refl refl)) shows
+pub reported_run : (p : Program) (z : Size) (inputs : List ℤ) (steps : ℕ) (may_stop : Bool) (evs : Events) (r : Report)
+    → ShowsOn true p z inputs steps may_stop evs evs r → ShowsInOrder p z inputs steps false may_stop r
+reported_run p z inputs steps may_stop evs r (shown, shows, lists) = subst (λ (l : Events). ShowsInOrder p z inputs steps false may_stop
+    (with_events r l)) (sym (lists refl refl)) shows
 
-pub reported_quietly : (p : Program) (z : Size) (inputs : List ℤ) (steps : ℕ) (may_stop : Bool) (kept evs : Events) (r : Report) → r.events ≡ [] → ShowsOn false p z inputs steps may_stop kept evs r → ShowsQuietly p z inputs steps false may_stop r
+pub reported_quietly : (p : Program) (z : Size) (inputs : List ℤ) (steps : ℕ) (may_stop : Bool) (kept evs : Events) (r : Report) → r.events ≡ []
+    → ShowsOn false p z inputs steps may_stop kept evs r → ShowsQuietly p z inputs steps false may_stop r
 reported_quietly p z inputs steps may_stop kept evs r none (shown, shows, lists) = record { unlisted = none; events = shown; shows = shows }
 
 module _ {C A L : Type 0} where
-  pub between_start : (g : Setting) (ts : List (Turner C A L)) (raw : List Holding) → lanes_held ts ≡ raw → tokens_sent ts ≡ [] → events_noted ts ≡ [] → IsSoundState (arriving g raw []) → All (RunsAs g) (lanes_fixed ts) → IsBetween g ts
-  between_start g ts raw is sent noted sound runs = record { runs = runs; sound = subst (λ (l : List Holding). IsSoundState (arriving g l [])) (sym is) sound; sent = sent; noted = noted }
+  pub between_start : (g : Setting) (ts : List (Turner C A L)) (raw : List Holding) → lanes_held ts ≡ raw → tokens_sent ts ≡ [] → events_noted ts ≡ []
+      → IsSoundState (arriving g raw []) → All (RunsAs g) (lanes_fixed ts) → IsBetween g ts
+  between_start g ts raw is sent noted sound runs = record {
+    runs = runs;
+    sound = subst (λ (l : List Holding). IsSoundState (arriving g l []))
+        (sym is) sound;
+    sent = sent;
+    noted = noted;
+  }
 
-  module _ (g now : Setting) (setting : now ≡ g) (keeps_events may_stop : Bool) (n : ℕ) (olds news : List (Turner C A L)) (before after : Events) (halt : Halt) (rounds : Rounds g keeps_events may_stop n olds before news after (Some halt)) (raw : List Holding) (lanes : raw ≡ lanes_held news) where
+  module _ (g now : Setting) (setting : now ≡ g) (keeps_events may_stop : Bool) (n : ℕ) (olds news : List (Turner C A L)) (before after : Events)
+      (halt : Halt) (rounds : Rounds g keeps_events may_stop n olds before news after (Some halt)) (raw : List Holding) (lanes : raw ≡ lanes_held news) where
     same_state : arriving g (lanes_held news) rounds.rest ≡ arriving now raw rounds.rest
     same_state = ap (λ (x : Setting). arriving x (lanes_held news) rounds.rest) (sym setting)
         ∙ ap (λ (l : List Holding). arriving now l rounds.rest) (sym lanes)
@@ -233,16 +295,21 @@ module _ {C A L : Type 0} where
     pub end_unlisted : (r : Report) → (after ≡ [] → r.events ≡ []) → keeps_events ≡ false → before ≡ [] → r.events ≡ []
     end_unlisted r unlisted off none = unlisted (rounds.noted ∙ ap (λ (b : Bool). logged b before rounds.made) off ∙ none)
 
-    pub end_reports : (start : List Holding) → lanes_held olds ≡ start → (r : Report) → IsReportOf (record { state = record { setting = now; lanes = raw }; events = after }) halt r
+    pub end_reports : (start : List Holding) → lanes_held olds ≡ start → (r : Report)
+        → IsReportOf (record { state = record { setting = now; lanes = raw }; events = after }) halt r
         → ReportsRounds keeps_events may_stop (record { state = record { setting = g; lanes = start }; events = before }) n r
     end_reports start is r reported = reports_rounds keeps_events may_stop g start raw rounds.rest n before after rounds.made halt r
         (subst (λ (l : List Holding). MakesRounds g may_stop n l (delivered rounds.rest raw) rounds.made (Some halt)) is
-        (subst (λ (l : List Holding). MakesRounds g may_stop n (lanes_held olds) (delivered rounds.rest l) rounds.made (Some halt)) (sym lanes) rounds.makes)) rounds.noted
+        (subst (λ (l : List Holding). MakesRounds g may_stop n (lanes_held olds) (delivered rounds.rest l) rounds.made (Some halt)) (sym lanes)
+        rounds.makes)) rounds.noted
         (subst (λ (x : Setting). IsReportOf (record { state = record { setting = x; lanes = raw }; events = after }) halt r) setting reported)
 
     pub end_shows : (start : List Holding) → lanes_held olds ≡ start → (r : Report)
-        → ((inputs : List ℤ) (in_list : Bool) (ts : List Token) (evs : Events) → IsSoundState (arriving now raw ts) → Began inputs (arriving now raw ts) evs → HaltsAs (arriving now raw ts) in_list halt → ShowsBut now.program (size now) inputs now.steps in_list false after evs r)
-        → (halt ≡ Halt.Stop → (inputs : List ℤ) (in_list : Bool) (ts : List Token) (evs : Events) → IsSoundState (arriving now raw ts) → Began inputs (arriving now raw ts) evs → ShowsBut now.program (size now) inputs now.steps in_list true after evs r)
+        → ((inputs : List ℤ) (in_list : Bool) (ts : List Token) (evs : Events) → IsSoundState (arriving now raw ts)
+        → Began inputs (arriving now raw ts) evs → HaltsAs (arriving now raw ts) in_list halt → ShowsBut now.program (size now) inputs now.steps
+        in_list false after evs r)
+        → (halt ≡ Halt.Stop → (inputs : List ℤ) (in_list : Bool) (ts : List Token) (evs : Events) → IsSoundState (arriving now raw ts)
+        → Began inputs (arriving now raw ts) evs → ShowsBut now.program (size now) inputs now.steps in_list true after evs r)
         → (inputs : List ℤ) (evs : Events) → Began inputs (arriving g start []) evs
         → ShowsOn keeps_events g.program (size g) inputs g.steps may_stop before evs r
     end_shows start is r shows stopped inputs evs b =
@@ -252,7 +319,8 @@ module _ {C A L : Type 0} where
         all = evs ++ rounds.made
 
         last : Began inputs (arriving now raw rounds.rest) all
-        last = subst (λ (s : State). Began inputs s all) same_state (rounds.leads inputs evs (subst (λ (l : List Holding). Began inputs (arriving g l []) evs) (sym is) b))
+        last = subst (λ (s : State). Began inputs s all) same_state
+            (rounds.leads inputs evs (subst (λ (l : List Holding). Began inputs (arriving g l []) evs) (sym is) b))
 
         kept : keeps_events ≡ true → before ≡ evs → after ≡ all
         kept on same = rounds.noted ∙ ap (λ (l : Bool). logged l before rounds.made) on ∙ ap (λ (l : Events). l ++ rounds.made) same
@@ -262,5 +330,9 @@ module _ {C A L : Type 0} where
             let s = shows inputs false rounds.rest all now_sound last halts in
             (s.0, shows_any now.program (size now) inputs now.steps false may_stop (with_events r s.0) s.1, λ on same. s.2 (kept on same))
         by_halt (inr (stop, may)) =
-            let s = stopped stop inputs false rounds.rest all now_sound last in
-            (s.0, subst (λ (m : Bool). ShowsInOrder now.program (size now) inputs now.steps false m (with_events r s.0)) (sym may) s.1, λ on same. s.2 (kept on same))
+            let s = stopped stop inputs false rounds.rest all now_sound last in (
+              s.0,
+              subst (λ (m : Bool). ShowsInOrder now.program (size now) inputs now.steps false m (with_events r s.0)) (sym may) s.1,
+              λ on same. s.2
+                  (kept on same),
+            )

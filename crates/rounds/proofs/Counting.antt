@@ -1,5 +1,6 @@
 -- How many rounds there can be, and what a report says of them.
-use Rattle.std.proofs.Common.{◌≡◌, refl, sym, ◌∙◌, ap, subst, ℕ, zero, suc, ◌+◌, ◌*◌, ◌^◌, ◌<◌, ◌≤◌, ◌⊎◌, inl, inr, Bool, true, false, List, [], ◌∷◌, ◌++◌, length, Option, Some, None, arith}
+use Rattle.std.proofs.Common.{◌≡◌, refl, sym, ◌∙◌, ap, subst, ℕ, zero, suc, ◌+◌, ◌*◌, ◌^◌, ◌<◌, ◌≤◌, ◌⊎◌, inl, inr, Bool, true, false, List, []}
+use Rattle.std.proofs.Common.{◌∷◌, ◌++◌, length, Option, Some, None, arith}
 use Rattle.std.proofs.lemmas.Bool.{cases_lt}
 use Rattle.std.proofs.lemmas.List.{append-nil}
 use Rattle.tags.specs.declared.token.Token.{Token}
@@ -27,7 +28,8 @@ total_delivered : (ts : List Token) (hs : List Holding) → total (delivered ts 
 total_delivered ts [] = refl
 total_delivered ts (h ∷ hs) = ap (λ (n : ℕ). h.made + n) (total_delivered ts hs)
 
-pub grown : (p : Program) (steps : ℕ) (old : Holding) (before ts : List Token) (new : Holding) (after : List Token) → Turns p steps old before ts new after → new.made ≡ old.made + length ts
+pub grown : (p : Program) (steps : ℕ) (old : Holding) (before ts : List Token) (new : Holding) (after : List Token)
+    → Turns p steps old before ts new after → new.made ≡ old.made + length ts
 grown p steps old before [] new after turns = let e = ap (λ (h : Holding). h.made) turns.0 in omega (arith, e)
 grown p steps old before (t ∷ ts) new after (mid, sent, does, is, few, sound, rest) =
     let e = grown p steps mid sent ts new after rest in
@@ -45,7 +47,8 @@ never_less g keeps_events may_stop (h ∷ hs) (t ∷ ts) (turn, rest) =
     omega (arith, e, l)
 
 -- A lane that made no event and does not halt has no token, and made none for others.
-lane_idle : (p : Program) (steps turn : ℕ) (old : Holding) (taken : List Token) (new : Holding) (sent : List Token) (halt : Option Halt) → 0 < turn → Turns p steps old [] taken new sent → IsWhole turn old new halt → halt ≡ None → new.made ≤ old.made
+lane_idle : (p : Program) (steps turn : ℕ) (old : Holding) (taken : List Token) (new : Holding) (sent : List Token) (halt : Option Halt) → 0 < turn
+    → Turns p steps old [] taken new sent → IsWhole turn old new halt → halt ≡ None → new.made ≤ old.made
     → (new.queue ≡ []) × (sent ≡ [])
 lane_idle p steps turn old [] new sent None some turns (inl all) none few = absurd (omega (arith, all, some, few))
 lane_idle p steps turn old [] new sent None some turns (inr idle) none few = (idle, turns.1)
@@ -63,7 +66,8 @@ later_none t ts none = λ e low. none (suc e) (omega (arith, low))
 both_nil : {X : Type 0} (xs ys : List X) → xs ≡ [] → ys ≡ [] → xs ++ ys ≡ []
 both_nil xs ys a b = ap (λ (l : List _). l ++ ys) a ∙ b
 
-all_idle : (g : Setting) (keeps_events may_stop : Bool) (olds : List Holding) (ts : List Turned) → 0 < g.turn → Round g keeps_events may_stop olds ts → NoneHalts (answers ts) → total (helds ts) ≤ total olds → (tokens_in (helds ts) ≡ []) × (all_sent ts ≡ [])
+all_idle : (g : Setting) (keeps_events may_stop : Bool) (olds : List Holding) (ts : List Turned) → 0 < g.turn → Round g keeps_events may_stop olds ts
+    → NoneHalts (answers ts) → total (helds ts) ≤ total olds → (tokens_in (helds ts) ≡ []) × (all_sent ts ≡ [])
 all_idle g keeps_events may_stop [] [] some round none few = (refl, refl)
 all_idle g keeps_events may_stop [] (t ∷ ts) some round none few = absurd round
 all_idle g keeps_events may_stop (h ∷ hs) [] some round none few = absurd round
@@ -77,7 +81,8 @@ all_idle g keeps_events may_stop (h ∷ hs) (t ∷ ts) some (turn, rest) none fe
     (both_nil t.held.queue (tokens_in (helds ts)) one.0 all.0, both_nil t.sent (all_sent ts) one.1 all.1)
 
 -- A round after which the run goes on has an event.
-round_more : (g : Setting) (may_stop : Bool) (old new : List Holding) (made : Events) → 0 < g.turn → MakesRound g may_stop old new made None → total old < total new
+round_more : (g : Setting) (may_stop : Bool) (old new : List Holding) (made : Events) → 0 < g.turn → MakesRound g may_stop old new made None
+    → total old < total new
 round_more g may_stop old new made some r = by_halts r.halts
   where
     same : total new ≡ total (helds r.turned)
@@ -92,12 +97,14 @@ round_more g may_stop old new made some r = by_halts r.halts
         by_count (inr few) =
             let low : total (helds r.turned) ≤ total old = omega (arith, same, few) in
             let idle = all_idle g r.keeps_events may_stop old r.turned some r.round why.0 low in
-            let none : tokens_in new ≡ [] = ap (λ (l : List Holding). tokens_in l) (r.handed ∙ ap (λ (l : List Token). delivered l (helds r.turned)) idle.1 ∙ delivered_none (helds r.turned)) ∙ idle.0 in
+            let none : tokens_in new ≡ [] = ap (λ (l : List Holding). tokens_in l) (r.handed ∙ ap (λ (l : List Token). delivered l (helds r.turned))
+            idle.1 ∙ delivered_none (helds r.turned)) ∙ idle.0 in
             let l : length (tokens_in new) ≡ 0 = ap (λ (l : List Token). length l) none in
             let has = why.1 in
             absurd (omega (arith, l, has))
 
-pub rounds_few : (g : Setting) (may_stop : Bool) (n : ℕ) (old new : List Holding) (made : Events) → 0 < g.turn → MakesRounds g may_stop n old new made None → n + total old ≤ total new
+pub rounds_few : (g : Setting) (may_stop : Bool) (n : ℕ) (old new : List Holding) (made : Events) → 0 < g.turn
+    → MakesRounds g may_stop n old new made None → n + total old ≤ total new
 rounds_few g may_stop zero old new made some (same, none, why) = let e = ap (λ (l : List Holding). total l) same in omega (arith, e)
 rounds_few g may_stop (suc n) old new made some (mid, before, now, earlier, last, is) =
     let a = rounds_few g may_stop n old mid before some earlier in
@@ -112,7 +119,8 @@ total_most g k (h ∷ hs) few all =
     omega (arith, a, b, few)
 
 -- Their number is small.
-pub few_rounds : (g : Setting) (may_stop : Bool) (n : ℕ) (old new : List Holding) (made : Events) → IsSoundState (arriving g new []) → MakesRounds g may_stop n old new made None → n < 2 ^ 37
+pub few_rounds : (g : Setting) (may_stop : Bool) (n : ℕ) (old new : List Holding) (made : Events) → IsSoundState (arriving g new [])
+    → MakesRounds g may_stop n old new made None → n < 2 ^ 37
 few_rounds g may_stop n old new made sound makes =
     let some = sound.setting.some_turn in
     let a = rounds_few g may_stop n old new made some makes in
@@ -127,14 +135,17 @@ few_rounds g may_stop n old new made sound makes =
 pub no_rounds : (g : Setting) (may_stop : Bool) (old : List Holding) → MakesRounds g may_stop 0 old old [] None
 no_rounds g may_stop old = (refl, refl, refl)
 
-pub one_round : (g : Setting) (may_stop : Bool) (old new : List Holding) (made : Events) (why : Option Halt) → MakesRound g may_stop old new made why → MakesRounds g may_stop 1 old new made why
+pub one_round : (g : Setting) (may_stop : Bool) (old new : List Holding) (made : Events) (why : Option Halt) → MakesRound g may_stop old new made why
+    → MakesRounds g may_stop 1 old new made why
 one_round g may_stop old new made why r = (old, [], made, (refl, refl, refl), r, refl)
 
-pub makes_more : (g : Setting) (may_stop : Bool) (n : ℕ) (old mid new : List Holding) (before now : Events) (why : Option Halt) → MakesRounds g may_stop n old mid before None → MakesRounds g may_stop 1 mid new now why
+pub makes_more : (g : Setting) (may_stop : Bool) (n : ℕ) (old mid new : List Holding) (before now : Events) (why : Option Halt)
+    → MakesRounds g may_stop n old mid before None → MakesRounds g may_stop 1 mid new now why
     → MakesRounds g may_stop (n + 1) old new (before ++ now) why
 makes_more g may_stop n old mid new before now why first (m, b, x, (e1, e2, e3), r, e4) =
     let events : x ≡ now = sym (e4 ∙ ap (λ (l : Events). l ++ x) e2) in
-    let last : MakesRound g may_stop mid new now why = subst (λ (l : List Holding). MakesRound g may_stop l new now why) e1 (subst (λ (l : Events). MakesRound g may_stop m new l why) events r) in
+    let last : MakesRound g may_stop mid new now why = subst (λ (l : List Holding). MakesRound g may_stop l new now why) e1
+    (subst (λ (l : Events). MakesRound g may_stop m new l why) events r) in
     let next : n + 1 ≡ suc n = omega arith in
     subst (λ (k : ℕ). MakesRounds g may_stop k old new (before ++ now) why) (sym next) (mid, before, now, first, last, refl)
 
@@ -156,13 +167,16 @@ reports_none keeps_events may_stop k n r zero_is reported = subst (λ (m : ℕ).
     same true = sym (append-nil k.events)
     same false = refl
 
-pub reports_opening : (keeps_events may_stop : Bool) (k : SoFar) (n : ℕ) (r : Report) → n ≡ 0 → r ≡ opening_picture (outputs_of k.state.setting.program) → ReportsRounds keeps_events may_stop k n r
+pub reports_opening : (keeps_events may_stop : Bool) (k : SoFar) (n : ℕ) (r : Report) → n ≡ 0 → r
+    ≡ opening_picture (outputs_of k.state.setting.program) → ReportsRounds keeps_events may_stop k n r
 reports_opening keeps_events may_stop k n r none is = reports_none keeps_events may_stop k n r none (inl is)
 
 -- of one whose run halted after this number of rounds
-pub reports_rounds : (keeps_events may_stop : Bool) (g : Setting) (start raw : List Holding) (rest : List Token) (n : ℕ) (before after made : Events) (halt : Halt) (r : Report)
+pub reports_rounds : (keeps_events may_stop : Bool) (g : Setting) (start raw : List Holding) (rest : List Token) (n : ℕ) (before after made : Events)
+    (halt : Halt) (r : Report)
     → MakesRounds g may_stop n start (delivered rest raw) made (Some halt) → after ≡ logged keeps_events before made
-    → IsReportOf (record { state = record { setting = g; lanes = raw }; events = after }) halt r → ReportsRounds keeps_events may_stop (record { state = record { setting = g; lanes = start }; events = before }) n r
+    → IsReportOf (record { state = record { setting = g; lanes = raw }; events = after }) halt r
+    → ReportsRounds keeps_events may_stop (record { state = record { setting = g; lanes = start }; events = before }) n r
 reports_rounds keeps_events may_stop g start raw rest n before after made halt r makes noted reported = record {
   last = delivered rest raw;
   made = made;

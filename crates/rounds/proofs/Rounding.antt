@@ -1,5 +1,6 @@
 -- What a round does.
-use Rattle.std.proofs.Common.{◌≡◌, ◌≢◌, refl, sym, ◌∙◌, ap, subst, ℕ, zero, suc, ◌+◌, ◌%◌, ◌<◌, ◌≤◌, ◌⊎◌, inl, inr, Bool, List, [], ◌∷◌, ◌++◌, length, map, drop, get_or, Option, Some, None, Result, arith}
+use Rattle.std.proofs.Common.{◌≡◌, ◌≢◌, refl, sym, ◌∙◌, ap, subst, ℕ, zero, suc, ◌+◌, ◌%◌, ◌<◌, ◌≤◌, ◌⊎◌, inl, inr, Bool, List, [], ◌∷◌, ◌++◌}
+use Rattle.std.proofs.Common.{length, map, drop, get_or, Option, Some, None, Result, arith}
 use Rattle.std.specs.Prelude.{All, slice_get, slice_set, OnOk}
 use Rattle.std.specs.Result.{IsErr}
 use Rattle.tags.specs.Addresses.{element_of}
@@ -60,29 +61,53 @@ picks_stay h ts t p = record {
 there_queued : (raw : List Holding) (ts : List Token) (e : ℕ) (h : Holding) → slice_get raw e ≡ Some h → slice_get (delivered ts raw) e ≡ Some (queued h ts)
 there_queued raw ts e h is = slice_get-map (λ (x : Holding). queued x ts) raw e ∙ ap (λ (o : Option Holding). option_map (λ (x : Holding). queued x ts) o) is
 
-pub halts_as : (g : Setting) (may_stop : Bool) (raw : List Holding) (ts : List Token) (e : ℕ) (h : Holding) (halt : Halt) → slice_get raw e ≡ Some h → HaltsLane g.program g.steps may_stop h (Some halt) → IsHalted (arriving g raw ts) may_stop halt
+pub halts_as : (g : Setting) (may_stop : Bool) (raw : List Holding) (ts : List Token) (e : ℕ) (h : Holding) (halt : Halt) → slice_get raw e ≡ Some h
+    → HaltsLane g.program g.steps may_stop h (Some halt) → IsHalted (arriving g raw ts) may_stop halt
 halts_as g may_stop raw ts e h Halt.NoToken is halts = absurd halts
 halts_as g may_stop raw ts e h (Halt.Clash cell) is (some, few, clash) =
-    inl (e, 0, (queued h ts, (record { there = there_queued raw ts e h is }, more_queue h ts some, few), record { token = clash.token; picks = picks_stay h ts clash.token clash.picks; second = clash.second }))
-halts_as g may_stop raw ts e h Halt.Steps is (some, made) = inl (inl (e, (queued h ts, record { there = there_queued raw ts e h is }, more_queue h ts some, made)))
+    inl (
+      e,
+      0,
+      (
+        queued h ts,
+        (record { there = there_queued raw ts e h is }, more_queue h ts some, few),
+        record
+            { token = clash.token; picks = picks_stay h ts clash.token clash.picks; second = clash.second },
+      ),
+    )
+halts_as g may_stop raw ts e h Halt.Steps is (some, made) = inl
+    (inl (e, (queued h ts, record { there = there_queued raw ts e h is }, more_queue h ts some, made)))
 halts_as g may_stop raw ts e h (Halt.Stuck rule) is (some, few, stuck) =
-    inl (e, 0, (queued h ts, (record { there = there_queued raw ts e h is }, more_queue h ts some, few), record { token = stuck.token; picks = picks_stay h ts stuck.token stuck.picks; excluded = stuck.excluded }))
+    inl (
+      e,
+      0,
+      (
+        queued h ts,
+        (record { there = there_queued raw ts e h is }, more_queue h ts some, few),
+        record
+            { token = stuck.token; picks = picks_stay h ts stuck.token stuck.picks; excluded = stuck.excluded },
+      ),
+    )
 halts_as g may_stop raw ts e h Halt.Memory is halts = inl tt
 halts_as g may_stop raw ts e h Halt.Stop is halts = inr (refl, halts)
 
 some_some : (o : Option Halt) (halt : Halt) → Some o ≡ Some (Some halt) → o ≡ Some halt
 some_some o halt e = cc
 
-halts_round : (g : Setting) (keeps_events may_stop : Bool) (olds : List Holding) (ts : List Turned) (e : ℕ) (halt : Halt) → Round g keeps_events may_stop olds ts → slice_get (map (λ (t : Turned). t.halt) ts) e ≡ Some (Some halt)
+halts_round : (g : Setting) (keeps_events may_stop : Bool) (olds : List Holding) (ts : List Turned) (e : ℕ) (halt : Halt)
+    → Round g keeps_events may_stop olds ts → slice_get (map (λ (t : Turned). t.halt) ts) e ≡ Some (Some halt)
     → (h : Holding) × (slice_get (helds ts) e ≡ Some h) × HaltsLane g.program g.steps may_stop h (Some halt)
 halts_round g keeps_events may_stop olds [] e halt round is = absurd (let no : ⊥ = cc in no)
 halts_round g keeps_events may_stop [] (t ∷ ts) e halt round is = absurd round
-halts_round g keeps_events may_stop (o ∷ os) (t ∷ ts) zero halt round is = (t.held, refl, subst (λ (w : Option Halt). HaltsLane g.program g.steps may_stop t.held w) (some_some t.halt halt is) round.0.halts)
+halts_round g keeps_events may_stop (o ∷ os) (t ∷ ts) zero halt round is =
+    (t.held, refl, subst (λ (w : Option Halt). HaltsLane g.program g.steps may_stop t.held w) (some_some t.halt halt is) round.0.halts)
 halts_round g keeps_events may_stop (o ∷ os) (t ∷ ts) (suc e) halt round is = halts_round g keeps_events may_stop os ts e halt round.1 is
 
 -- THE ROUND IN MEMORY
 module _ {C A L : Type 0} where
-  fresh_turn : (p : Program) (steps turns : ℕ) (keeps_events may_stop : Bool) (x : Turner C A L) (t : Turned) → x.sent.items ≡ [] → x.log.events.items ≡ [] → TakesTurn p steps turns keeps_events may_stop (turned_of x) t → TakesTurn p steps turns keeps_events may_stop (record { held = lane_held x; sent = []; log = []; halt = None }) t
+  fresh_turn : (p : Program) (steps turns : ℕ) (keeps_events may_stop : Bool) (x : Turner C A L) (t : Turned) → x.sent.items ≡ [] → x.log.events.items
+      ≡ [] → TakesTurn p steps turns keeps_events may_stop (turned_of x) t → TakesTurn p steps turns keeps_events may_stop
+      (record { held = lane_held x; sent = []; log = []; halt = None }) t
   fresh_turn p steps turns keeps_events may_stop x t sent log turn = record {
     taken = turn.taken;
     turns = subst (λ (l : List Token). Turns p steps (lane_held x) l turn.taken t.held t.sent) sent turn.turns;
@@ -92,29 +117,38 @@ module _ {C A L : Type 0} where
     halts = turn.halts;
   }
 
-  to_round : (g : Setting) (keeps_events may_stop : Bool) (olds news : List (Turner C A L)) → length news ≡ length olds → tokens_sent olds ≡ [] → events_noted olds ≡ []
-      → ((i : ℕ) (d : Turner C A L) → i < length olds → TakesTurn g.program g.steps g.turn keeps_events may_stop (turned_of (get_or olds i d)) (turned_of (get_or news i d))) → Round g keeps_events may_stop (lanes_held olds) (map turned_of news)
+  to_round : (g : Setting) (keeps_events may_stop : Bool) (olds news : List (Turner C A L)) → length news ≡ length olds → tokens_sent olds ≡ []
+      → events_noted olds ≡ []
+      → ((i : ℕ) (d : Turner C A L) → i < length olds → TakesTurn g.program g.steps g.turn keeps_events may_stop (turned_of (get_or olds i d))
+      (turned_of (get_or news i d))) → Round g keeps_events may_stop (lanes_held olds) (map turned_of news)
   to_round g keeps_events may_stop [] [] count sent noted each = tt
   to_round g keeps_events may_stop [] (y ∷ ys) count sent noted each = absurd (omega (arith, count))
   to_round g keeps_events may_stop (x ∷ xs) [] count sent noted each = absurd (omega (arith, count))
   to_round g keeps_events may_stop (x ∷ xs) (y ∷ ys) count sent noted each = (
-    fresh_turn g.program g.steps g.turn keeps_events may_stop x (turned_of y) (nothing_before x.sent.items (tokens_sent xs) sent) (nothing_before x.log.events.items (events_noted xs) noted) (each 0 x (omega arith)),
-    to_round g keeps_events may_stop xs ys (omega arith) (nothing_after x.sent.items (tokens_sent xs) sent) (nothing_after x.log.events.items (events_noted xs) noted) (λ i d low. each (suc i) d (omega arith)),
+    fresh_turn g.program g.steps g.turn keeps_events may_stop x (turned_of y) (nothing_before x.sent.items (tokens_sent xs) sent)
+        (nothing_before x.log.events.items (events_noted xs) noted) (each 0 x (omega arith)),
+    to_round g keeps_events may_stop xs ys (omega arith) (nothing_after x.sent.items (tokens_sent xs) sent)
+        (nothing_after x.log.events.items (events_noted xs) noted) (λ i d low. each (suc i) d (omega arith)),
   )
 
   -- the lanes run the code of the machine
-  took : (g : Setting) (keeps_events may_stop : Bool) (olds news : List (Turner C A L)) → All (RunsAs g) (lanes_fixed olds) → ((i : ℕ) (d : Turner C A L) → i < length olds → TookTurn g.turn keeps_events may_stop (get_or olds i d) (get_or news i d))
-      → (i : ℕ) (d : Turner C A L) → i < length olds → TakesTurn g.program g.steps g.turn keeps_events may_stop (turned_of (get_or olds i d)) (turned_of (get_or news i d))
+  took : (g : Setting) (keeps_events may_stop : Bool) (olds news : List (Turner C A L)) → All (RunsAs g) (lanes_fixed olds)
+      → ((i : ℕ) (d : Turner C A L) → i < length olds → TookTurn g.turn keeps_events may_stop (get_or olds i d) (get_or news i d))
+      → (i : ℕ) (d : Turner C A L) → i < length olds → TakesTurn g.program g.steps g.turn keeps_events may_stop (turned_of (get_or olds i d))
+      (turned_of (get_or news i d))
   took g keeps_events may_stop olds news runs each i d low =
       let x : Turner C A L = get_or olds i d in
       let y : Turner C A L = get_or news i d in
       let count = length-map olds lane_fixed in
       let within : i < length (lanes_fixed olds) = omega arith in
-      let run : RunsAs g (fixed_of x.lane) = subst (λ (f : Fixed). RunsAs g f) (get_or-map lane_fixed olds i d (lane_fixed d) low) (All-get_or (RunsAs g) (lanes_fixed olds) i (lane_fixed d) within runs) in
+      let run : RunsAs g (fixed_of x.lane) = subst (λ (f : Fixed). RunsAs g f) (get_or-map lane_fixed olds i d (lane_fixed d) low)
+      (All-get_or (RunsAs g) (lanes_fixed olds) i (lane_fixed d) within runs) in
       subst (λ (p : Program). TakesTurn p g.steps g.turn keeps_events may_stop (turned_of x) (turned_of y)) run.program
       (subst (λ (n : ℕ). TakesTurn x.lane.program n g.turn keeps_events may_stop (turned_of x) (turned_of y)) run.steps (each i d low).takes)
 
-  same_fixed : (turn : ℕ) (keeps_events may_stop : Bool) (olds news : List (Turner C A L)) → length news ≡ length olds → ((i : ℕ) (d : Turner C A L) → i < length olds → TookTurn turn keeps_events may_stop (get_or olds i d) (get_or news i d)) → lanes_fixed news ≡ lanes_fixed olds
+  same_fixed : (turn : ℕ) (keeps_events may_stop : Bool) (olds news : List (Turner C A L)) → length news ≡ length olds
+      → ((i : ℕ) (d : Turner C A L) → i < length olds → TookTurn turn keeps_events may_stop (get_or olds i d) (get_or news i d)) → lanes_fixed news
+      ≡ lanes_fixed olds
   same_fixed turn keeps_events may_stop [] [] count each = refl
   same_fixed turn keeps_events may_stop [] (y ∷ ys) count each = absurd (omega (arith, count))
   same_fixed turn keeps_events may_stop (x ∷ xs) [] count each = absurd (omega (arith, count))
@@ -138,7 +172,9 @@ module _ {C A L : Type 0} where
   halts_are [] = refl
   halts_are (t ∷ ts) = ap (λ (l : List (Option Halt)). t.halt ∷ l) (halts_are ts)
 
-  module _ (g : Setting) (keeps_events may_stop : Bool) (olds news : List (Turner C A L)) (between : IsBetween g olds) (count : length news ≡ length olds) (each : (i : ℕ) (d : Turner C A L) → i < length olds → TakesTurn g.program g.steps g.turn keeps_events may_stop (turned_of (get_or olds i d)) (turned_of (get_or news i d))) where
+  module _ (g : Setting) (keeps_events may_stop : Bool) (olds news : List (Turner C A L)) (between : IsBetween g olds) (count : length news
+      ≡ length olds) (each : (i : ℕ) (d : Turner C A L) → i < length olds → TakesTurn g.program g.steps g.turn keeps_events may_stop
+      (turned_of (get_or olds i d)) (turned_of (get_or news i d))) where
     pub round : Round g keeps_events may_stop (lanes_held olds) (map turned_of news)
     round = to_round g keeps_events may_stop olds news count between.sent between.noted each
 
@@ -151,10 +187,13 @@ module _ {C A L : Type 0} where
     }
 
     stood : Standing g (lanes_held news) (tokens_sent news)
-    stood = subst (λ (l : List Holding). Standing g l (tokens_sent news)) (helds_are news) (subst (λ (l : List Token). Standing g (helds (map turned_of news)) l) (sent_are news) (stands_round g keeps_events may_stop 0 [] (lanes_held olds) (map turned_of news) [] refl standing round))
+    stood = subst (λ (l : List Holding). Standing g l (tokens_sent news)) (helds_are news)
+        (subst (λ (l : List Token). Standing g (helds (map turned_of news)) l) (sent_are news)
+        (stands_round g keeps_events may_stop 0 [] (lanes_held olds) (map turned_of news) [] refl standing round))
 
     pub sound_then : IsSoundState (arriving g (lanes_held news) (tokens_sent news))
-    sound_then = delivered_sound (record { setting = g; lanes = lanes_held news }) (tokens_sent news) stood.near (record { setting = stood.good; count = stood.count; lanes = stood.sound })
+    sound_then = delivered_sound (record { setting = g; lanes = lanes_held news }) (tokens_sent news) stood.near
+        (record { setting = stood.good; count = stood.count; lanes = stood.sound })
 
     abbrev pub made : Events
     made = made_in g keeps_events may_stop (lanes_held olds) (map turned_of news) round
@@ -168,34 +207,43 @@ module _ {C A L : Type 0} where
         subst (λ (l : List Holding). Began inputs (arriving g l (tokens_sent news)) (evs ++ made)) (helds_are news)
         (subst (λ (l : List Token). Began inputs (arriving g (helds (map turned_of news)) l) (evs ++ made)) (sent_are news) all)
 
-    pub halts_then : (e : ℕ) (halt : Halt) → slice_get (halts_in news) e ≡ Some (Some halt) → IsHalted (arriving g (lanes_held news) (tokens_sent news)) may_stop halt
+    pub halts_then : (e : ℕ) (halt : Halt) → slice_get (halts_in news) e ≡ Some (Some halt)
+        → IsHalted (arriving g (lanes_held news) (tokens_sent news)) may_stop halt
     halts_then e halt is =
-        let found = halts_round g keeps_events may_stop (lanes_held olds) (map turned_of news) e halt round (subst (λ (l : List (Option Halt)). slice_get l e ≡ Some (Some halt)) (sym (halts_are news)) is) in
-        halts_as g may_stop (lanes_held news) (tokens_sent news) e found.0 halt (subst (λ (l : List Holding). slice_get l e ≡ Some found.0) (helds_are news) found.1) found.2
+        let found = halts_round g keeps_events may_stop (lanes_held olds) (map turned_of news) e halt round
+        (subst (λ (l : List (Option Halt)). slice_get l e ≡ Some (Some halt)) (sym (halts_are news)) is) in
+        halts_as g may_stop (lanes_held news) (tokens_sent news) e found.0 halt (subst (λ (l : List Holding). slice_get l e ≡ Some found.0)
+        (helds_are news) found.1) found.2
 
   pub held_at : (ts : List (Turner C A L)) (i : ℕ) (x : Turner C A L) → i < length ts → x ≡ get_or ts i x → slice_get (lanes_held ts) i ≡ Some (lane_held x)
-  held_at ts i x low is = slice_get-map lane_held ts i ∙ ap (λ (o : Option (Turner C A L)). option_map lane_held o) (slice_get_read ts (length ts) i x refl low is)
+  held_at ts i x low is = slice_get-map lane_held ts i ∙ ap (λ (o : Option (Turner C A L)). option_map lane_held o)
+      (slice_get_read ts (length ts) i x refl low is)
 
-  pub received : (ts : List (Turner C A L)) (n i : ℕ) (x new : Turner C A L) (t : Token) → AllFrom (IsAt n) 0 (lanes_held ts) → element_of n t.to ≡ i → i < length ts → x ≡ get_or ts i x
+  pub received : (ts : List (Turner C A L)) (n i : ℕ) (x new : Turner C A L) (t : Token) → AllFrom (IsAt n) 0 (lanes_held ts) → element_of n t.to ≡ i
+      → i < length ts → x ≡ get_or ts i x
       → lane_held new ≡ with_queue (lane_held x) (x.lane.held.queue ++ t ∷ []) → lanes_held (slice_set ts i new) ≡ delivered (t ∷ []) (lanes_held ts)
   received ts n i x new t all at low is e =
       let place : element_of n t.to ≡ 0 + i = omega arith in
-      map-set lane_held ts i new ∙ ap (λ (h : Holding). slice_set (lanes_held ts) i h) e ∙ sym (delivered_one n 0 (lanes_held ts) i t (lane_held x) all place (held_at ts i x low is))
+      map-set lane_held ts i new ∙ ap (λ (h : Holding). slice_set (lanes_held ts) i h) e
+      ∙ sym (delivered_one n 0 (lanes_held ts) i t (lane_held x) all place (held_at ts i x low is))
 
   -- one more token has arrived
-  pub arrived_more : (items new : List (Turner C A L)) (sent : List Token) (k : ℕ) (t : Token) → k < length sent → t ≡ get_or sent k t → lanes_held new ≡ delivered (t ∷ []) (lanes_held items)
+  pub arrived_more : (items new : List (Turner C A L)) (sent : List Token) (k : ℕ) (t : Token) → k < length sent → t ≡ get_or sent k t
+      → lanes_held new ≡ delivered (t ∷ []) (lanes_held items)
       → delivered (drop (k + 1) sent) (lanes_held new) ≡ delivered (drop k sent) (lanes_held items)
   arrived_more items new sent k t low is e =
       ap (λ (l : List Holding). delivered (drop (k + 1) sent) l) e ∙ delivered_twice (t ∷ []) (drop (k + 1) sent) (lanes_held items)
       ∙ ap (λ (l : List Token). delivered l (lanes_held items)) (ap (λ (u : Token). u ∷ drop (k + 1) sent) is ∙ sym (drop_more sent k t low))
 
-  pub halt_at : (ts : List (Turner C A L)) (i : ℕ) (d : Turner C A L) (halt : Halt) → i < length ts → (get_or ts i d).halt ≡ Some halt → slice_get (halts_in ts) i ≡ Some (Some halt)
+  pub halt_at : (ts : List (Turner C A L)) (i : ℕ) (d : Turner C A L) (halt : Halt) → i < length ts → (get_or ts i d).halt ≡ Some halt
+      → slice_get (halts_in ts) i ≡ Some (Some halt)
   halt_at [] i d halt low is = absurd (omega (arith, low))
   halt_at (t ∷ ts) zero d halt low is = ap (λ (o : Option Halt). Some o) is
   halt_at (t ∷ ts) (suc i) d halt low is = halt_at ts i d halt (omega arith) is
 
   -- none of the first k + 1 halts
-  pub none_more : (ts : List (Turner C A L)) (k : ℕ) (d : Turner C A L) → k < length ts → (get_or ts k d).halt ≡ None → ((i : ℕ) → i < k → slice_get (halts_in ts) i ≡ Some None) → (i : ℕ) → i < k + 1 → slice_get (halts_in ts) i ≡ Some None
+  pub none_more : (ts : List (Turner C A L)) (k : ℕ) (d : Turner C A L) → k < length ts → (get_or ts k d).halt ≡ None
+      → ((i : ℕ) → i < k → slice_get (halts_in ts) i ≡ Some None) → (i : ℕ) → i < k + 1 → slice_get (halts_in ts) i ≡ Some None
   none_more ts k d low none before i within = by_place (cases_lt i k)
     where
       none_at : (ts : List (Turner C A L)) (k : ℕ) → k < length ts → (get_or ts k d).halt ≡ None → slice_get (halts_in ts) k ≡ Some None
@@ -213,7 +261,8 @@ module _ {C A L : Type 0} where
   queue_at (t ∷ ts) zero d h is = let same : lane_held t ≡ h = cc in sym (ap (λ (x : Holding). x.queue) same)
   queue_at (t ∷ ts) (suc i) d h is = queue_at ts i d h is
 
-  pub idle_more : (ts : List (Turner C A L)) (k : ℕ) (d : Turner C A L) → length (get_or ts k d).lane.held.queue ≡ 0 → ((i : ℕ) (h : Holding) → i < k → slice_get (lanes_held ts) i ≡ Some h → h.queue ≡ [])
+  pub idle_more : (ts : List (Turner C A L)) (k : ℕ) (d : Turner C A L) → length (get_or ts k d).lane.held.queue ≡ 0
+      → ((i : ℕ) (h : Holding) → i < k → slice_get (lanes_held ts) i ≡ Some h → h.queue ≡ [])
       → (i : ℕ) (h : Holding) → i < k + 1 → slice_get (lanes_held ts) i ≡ Some h → h.queue ≡ []
   idle_more ts k d none before i h low is = by_place (cases_lt i k)
     where
@@ -225,7 +274,8 @@ module _ {C A L : Type 0} where
           q ∙ nil_from_length (get_or ts k d).lane.held.queue none
 
   -- where a lane has a token there is one
-  pub some_token : (ts : List (Turner C A L)) (k : ℕ) (d : Turner C A L) → k < length ts → 0 < length (get_or ts k d).lane.held.queue → 0 < length (tokens_in (lanes_held ts))
+  pub some_token : (ts : List (Turner C A L)) (k : ℕ) (d : Turner C A L) → k < length ts → 0 < length (get_or ts k d).lane.held.queue
+      → 0 < length (tokens_in (lanes_held ts))
   some_token [] k d low some = absurd (omega (arith, low))
   some_token (t ∷ ts) zero d low some = let l = length-append t.lane.held.queue (tokens_in (lanes_held ts)) in omega (arith, l, some)
   some_token (t ∷ ts) (suc k) d low some =
@@ -233,24 +283,31 @@ module _ {C A L : Type 0} where
       let m = some_token ts k d (omega arith) some in
       omega (arith, l, m)
 
-  pub idle_all : (ts : List (Turner C A L)) (k : ℕ) → length ts ≤ k → ((i : ℕ) (h : Holding) → i < k → slice_get (lanes_held ts) i ≡ Some h → h.queue ≡ []) → tokens_in (lanes_held ts) ≡ []
+  pub idle_all : (ts : List (Turner C A L)) (k : ℕ) → length ts ≤ k → ((i : ℕ) (h : Holding) → i < k → slice_get (lanes_held ts) i ≡ Some h → h.queue
+      ≡ []) → tokens_in (lanes_held ts) ≡ []
   idle_all ts k past none = tokens_none (lanes_held ts) (λ i h low is. none i h (let l = length-map ts lane_held in omega arith) is)
 
   -- the turns, and what was gathered of them
-  pub made_round : (g : Setting) (keeps_events may_stop : Bool) (olds news last : List (Turner C A L)) (before after : Events) (tokens : List Token) → IsBetween g olds → length news ≡ length olds
+  pub made_round : (g : Setting) (keeps_events may_stop : Bool) (olds news last : List (Turner C A L)) (before after : Events) (tokens : List Token)
+      → IsBetween g olds → length news ≡ length olds
       → ((i : ℕ) (d : Turner C A L) → i < length olds → TookTurn g.turn keeps_events may_stop (get_or olds i d) (get_or news i d))
-      → lanes_held last ≡ lanes_held news → lanes_fixed last ≡ lanes_fixed news → halts_in last ≡ halts_in news → tokens ≡ tokens_sent news → after ≡ before ++ events_noted news → events_noted last ≡ [] → length last ≡ length olds
+      → lanes_held last ≡ lanes_held news → lanes_fixed last ≡ lanes_fixed news → halts_in last ≡ halts_in news → tokens ≡ tokens_sent news → after
+      ≡ before ++ events_noted news → events_noted last ≡ [] → length last ≡ length olds
       → MadeRound g keeps_events may_stop olds before last after tokens
   made_round g keeps_events may_stop olds news last before after tokens between count took_turn lanes fixed halts sent events none length_is =
       let each = took g keeps_events may_stop olds news between.runs took_turn in
-      let same : arriving g (lanes_held news) (tokens_sent news) ≡ arriving g (lanes_held last) tokens = ap (λ (l : List Holding). arriving g l (tokens_sent news)) (sym lanes) ∙ ap (λ (l : List Token). arriving g (lanes_held last) l) (sym sent) in
+      let same : arriving g (lanes_held news) (tokens_sent news) ≡ arriving g (lanes_held last) tokens = ap
+      (λ (l : List Holding). arriving g l (tokens_sent news)) (sym lanes) ∙ ap (λ (l : List Token). arriving g (lanes_held last) l) (sym sent) in
       record {
         runs = subst (λ (l : List Fixed). All (RunsAs g) l) (sym (fixed ∙ same_fixed g.turn keeps_events may_stop olds news count took_turn)) between.runs;
         sound = subst (λ (s : State). IsSoundState s) same (sound_then g keeps_events may_stop olds news between count each);
         made = made g keeps_events may_stop olds news between count each;
-        noted = events ∙ ap (λ (l : Events). before ++ l) (noted_then g keeps_events may_stop olds news between count each) ∙ logged_from keeps_events before (made g keeps_events may_stop olds news between count each);
-        leads = λ inputs evs b. subst (λ (s : State). Began inputs s (evs ++ made g keeps_events may_stop olds news between count each)) same (began_then g keeps_events may_stop olds news between count each inputs evs b);
-        halts = λ e halt is. subst (λ (s : State). IsHalted s may_stop halt) same (halts_then g keeps_events may_stop olds news between count each e halt (subst (λ (l : List (Option Halt)). slice_get l e ≡ Some (Some halt)) halts is));
+        noted = events ∙ ap (λ (l : Events). before ++ l) (noted_then g keeps_events may_stop olds news between count each)
+            ∙ logged_from keeps_events before (made g keeps_events may_stop olds news between count each);
+        leads = λ inputs evs b. subst (λ (s : State). Began inputs s (evs ++ made g keeps_events may_stop olds news between count each)) same
+            (began_then g keeps_events may_stop olds news between count each inputs evs b);
+        halts = λ e halt is. subst (λ (s : State). IsHalted s may_stop halt) same (halts_then g keeps_events may_stop olds news between count each e
+            halt (subst (λ (l : List (Option Halt)). slice_get l e ≡ Some (Some halt)) halts is));
         cleared = none;
         count = length_is;
         turned = map turned_of news;

@@ -44,7 +44,8 @@ pub record MakesRound (g : Setting) (may_stop : Bool) (old new : List Holding) (
 abbrev pub MakesRounds : Setting → Bool → ℕ → List Holding → List Holding → Events → Option Halt → Type 0
 MakesRounds g may_stop zero old new made why = (new ≡ old) × (made ≡ []) × (why ≡ None)
 MakesRounds g may_stop (suc n) old new made why =
-    (mid : List Holding) × (before : Events) × (now : Events) × MakesRounds g may_stop n old mid before None × MakesRound g may_stop mid new now why × (made ≡ before ++ now)
+    (mid : List Holding) × (before : Events) × (now : Events) × MakesRounds g may_stop n old mid before None × MakesRound g may_stop mid new now why
+    × (made ≡ before ++ now)
 
 -- The run from here made exactly so many rounds, and halted after the last, unless memory was refused between two rounds. The report is of the machine as it
 -- is then, with these events after those that were noted; or, where its lists were refused, of the machine before its first event.

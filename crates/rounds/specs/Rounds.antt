@@ -64,10 +64,12 @@ GoesOn g may_stop ts rest (Some halt) = IsSoundState (arriving g (lanes_held ts)
 
 -- what is known of the machine with these tokens on their way, if it was known with none
 abbrev pub Leads : {C A L : Type 0} → Setting → List (Turner C A L) → List (Turner C A L) → List Token → Events → Type 0
-Leads g old new rest made = (inputs : List ℤ) (before : Events) → Began inputs (arriving g (lanes_held old) []) before → Began inputs (arriving g (lanes_held new) rest) (before ++ made)
+Leads g old new rest made = (inputs : List ℤ) (before : Events) → Began inputs (arriving g (lanes_held old) []) before
+    → Began inputs (arriving g (lanes_held new) rest) (before ++ made)
 
 -- what this number of rounds does, with the events that they made
-pub record Rounds {C A L : Type 0} (g : Setting) (keeps_events may_stop : Bool) (rounds : ℕ) (old : List (Turner C A L)) (before : Events) (new : List (Turner C A L)) (after : Events) (halt : Option Halt) : Type 0 where
+pub record Rounds {C A L : Type 0} (g : Setting) (keeps_events may_stop : Bool) (rounds : ℕ) (old : List (Turner C A L)) (before : Events)
+    (new : List (Turner C A L)) (after : Events) (halt : Option Halt) : Type 0 where
   pub rest : List Token
   pub made : Events
   pub goes : GoesOn g may_stop new rest halt
@@ -76,7 +78,8 @@ pub record Rounds {C A L : Type 0} (g : Setting) (keeps_events may_stop : Bool) 
   pub makes : MakesRounds g may_stop rounds (lanes_held old) (delivered rest (lanes_held new)) made halt
 
 -- what the turns of a round leave, with all tokens that are on their way
-pub record MadeRound {C A L : Type 0} (g : Setting) (keeps_events may_stop : Bool) (old : List (Turner C A L)) (before : Events) (new : List (Turner C A L)) (after : Events) (tokens : List Token) : Type 0 where
+pub record MadeRound {C A L : Type 0} (g : Setting) (keeps_events may_stop : Bool) (old : List (Turner C A L)) (before : Events)
+    (new : List (Turner C A L)) (after : Events) (tokens : List Token) : Type 0 where
   pub sound : IsSoundState (arriving g (lanes_held new) tokens)
   pub runs : All (RunsAs g) (lanes_fixed new)
   pub made : Events
@@ -95,4 +98,5 @@ pub record MadeRound {C A L : Type 0} (g : Setting) (keeps_events may_stop : Boo
 -- The report shows a run that went on from these events; where events are listed, and these are those that were noted, it
 -- lists those of the run.
 abbrev pub ShowsOn : Bool → Program → Size → List ℤ → ℕ → Bool → Events → Events → Report → Type 0
-ShowsOn keeps_events p z inputs steps may_stop kept events r = (shown : Events) × ShowsInOrder p z inputs steps false may_stop (with_events r shown) × (keeps_events ≡ true → kept ≡ events → r.events ≡ shown)
+ShowsOn keeps_events p z inputs steps may_stop kept events r = (shown : Events) × ShowsInOrder p z inputs steps false may_stop (with_events r shown)
+    × (keeps_events ≡ true → kept ≡ events → r.events ≡ shown)

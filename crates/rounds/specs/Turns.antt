@@ -1,5 +1,5 @@
 -- What a lane does in its turn, and what lanes do in a round.
-use Rattle.std.specs.Prelude.{◌≡◌, ℕ, ◌+◌, ◌<◌, ◌≤◌, ◌⊎◌, Bool, true, false, List, [], ◌∷◌, ◌++◌, map, length, Option, Some, None, ⊤}
+use Rattle.std.specs.Prelude.{◌≡◌, ℕ, ◌+◌, ◌<◌, ◌≤◌, ◌⊎◌, Bool, true, List, [], ◌∷◌, ◌++◌, map, length, Option, Some, None, ⊤}
 use Rattle.std.specs.List.{flat_map}
 use Rattle.tags.specs.declared.token.Token.{Token}
 use Rattle.semantics.specs.Program.{Program}
@@ -71,7 +71,8 @@ pub record TookTurn {C A L : Type 0} (turn : ℕ) (keeps_events may_stop : Bool)
 -- lanes before, and after their turns
 abbrev pub Round : Setting → Bool → Bool → List Holding → List Turned → Type 0
 Round g keeps_events may_stop [] [] = ⊤
-Round g keeps_events may_stop (h ∷ hs) (t ∷ ts) = TakesTurn g.program g.steps g.turn keeps_events may_stop (record { held = h; sent = []; log = []; halt = None }) t × Round g keeps_events may_stop hs ts
+Round g keeps_events may_stop (h ∷ hs) (t ∷ ts) = TakesTurn g.program g.steps g.turn keeps_events may_stop
+    (record { held = h; sent = []; log = []; halt = None }) t × Round g keeps_events may_stop hs ts
 Round g keeps_events may_stop hs ts = ⊥
 
 -- the events of a round, those of one element after those of another

@@ -62,7 +62,8 @@ pub fn deliver_all<C: Instructions, A: Allocator, L: Log>(
     requires at { AllFrom (IsAt elements) 0 (lanes_held turners.old.items) }
     requires near { All (IsNearIn (lanes_fixed turners.old.items)) tokens.old.items }
     ensures fixed { lanes_fixed turners.new.items ≡ lanes_fixed turners.old.items }
-    ensures same { (rest : List Token) × (delivered rest (lanes_held turners.new.items) ≡ delivered tokens.old.items (lanes_held turners.old.items)) × OnOk result (rest ≡ []) }
+    ensures same { (rest : List Token) × (delivered rest (lanes_held turners.new.items) ≡ delivered tokens.old.items (lanes_held turners.old.items))
+        × OnOk result (rest ≡ []) }
     ensures tokens { OnOk result (tokens.new.items ≡ []) }
     ensures sent { tokens_sent turners.new.items ≡ tokens_sent turners.old.items }
     ensures events { events_noted turners.new.items ≡ events_noted turners.old.items }

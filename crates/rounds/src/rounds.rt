@@ -41,7 +41,8 @@ fn make_turns<
     G: Gate + Sync,
 >(rt: &R, turners: &mut [Turner<'_, C, A, L>], gate: &G, turn: u64)
     requires { 0 < length turners.old }
-    ensures each { (i : ℕ) (d : _) → i < length turners.old → TookTurn turn L.KEEPS_EVENTS G.may_stop (slice_index_or turners.old i d) (slice_index_or turners.new i d) }
+    ensures each { (i : ℕ) (d : _) → i < length turners.old → TookTurn turn L.KEEPS_EVENTS G.may_stop (slice_index_or turners.old i d)
+        (slice_index_or turners.new i d) }
     ensures count { length turners.new ≡ length turners.old }
 {
     let threads = turners.len();
@@ -117,7 +118,8 @@ fn make_round<
     requires between { IsBetween (setting_in C.program C.width setup.old.shape) turners.old }
     requires tokens { tokens.old.items ≡ [] }
     ensures setting { setting_in C.program C.width setup.new.shape ≡ setting_in C.program C.width setup.old.shape }
-    ensures made { OnOk result (MadeRound (setting_in C.program C.width setup.old.shape) L.KEEPS_EVENTS G.may_stop turners.old setup.old.log.events.items turners.new setup.new.log.events.items (tokens.new.items ++ tokens_sent turners.new)) }
+    ensures made { OnOk result (MadeRound (setting_in C.program C.width setup.old.shape) L.KEEPS_EVENTS G.may_stop turners.old
+        setup.old.log.events.items turners.new setup.new.log.events.items (tokens.new.items ++ tokens_sent turners.new)) }
     ensures all { IfOk result (λ all. all ≡ true → tokens_sent turners.new ≡ []) }
     ensures count { length turners.new ≡ length turners.old }
 {
@@ -147,7 +149,8 @@ fn make_whole_round<
     requires between { IsBetween (setting_in C.program C.width setup.old.shape) turners.old.items }
     requires tokens { tokens.old.items ≡ [] }
     ensures setting { setting_in C.program C.width setup.new.shape ≡ setting_in C.program C.width setup.old.shape }
-    ensures made { OnOk result (MadeRound (setting_in C.program C.width setup.old.shape) L.KEEPS_EVENTS G.may_stop turners.old.items setup.old.log.events.items turners.new.items setup.new.log.events.items (tokens.new.items ++ tokens_sent turners.new.items)) }
+    ensures made { OnOk result (MadeRound (setting_in C.program C.width setup.old.shape) L.KEEPS_EVENTS G.may_stop turners.old.items
+        setup.old.log.events.items turners.new.items setup.new.log.events.items (tokens.new.items ++ tokens_sent turners.new.items)) }
     ensures all { IfOk result (λ all. all ≡ true → tokens_sent turners.new.items ≡ []) }
     ensures count { length turners.new.items ≡ length turners.old.items }
 {
@@ -171,7 +174,8 @@ fn round<
     requires between { IsBetween (setting_in C.program C.width setup.old.shape) turners.old.items }
     requires tokens { tokens.old.items ≡ [] }
     ensures setting { setting_in C.program C.width setup.new.shape ≡ setting_in C.program C.width setup.old.shape }
-    ensures rounds { IfOk result (λ halt. Rounds (setting_in C.program C.width setup.old.shape) L.KEEPS_EVENTS G.may_stop 1 turners.old.items setup.old.log.events.items turners.new.items setup.new.log.events.items halt) }
+    ensures rounds { IfOk result (λ halt. Rounds (setting_in C.program C.width setup.old.shape) L.KEEPS_EVENTS G.may_stop 1 turners.old.items
+        setup.old.log.events.items turners.new.items setup.new.log.events.items halt) }
     ensures tokens { IfOk result (λ halt. halt ≡ None → tokens.new.items ≡ []) }
 {
     let all = make_whole_round(rt, setup, turners, tokens, gate)?;
@@ -208,7 +212,8 @@ fn play<
     requires between { IsBetween (setting_in C.program C.width setup.old.shape) turners.old.items }
     requires tokens { tokens.old.items ≡ [] }
     ensures setting { setting_in C.program C.width setup.new.shape ≡ setting_in C.program C.width setup.old.shape }
-    ensures rounds { IfOk result (λ p. Rounds (setting_in C.program C.width setup.old.shape) L.KEEPS_EVENTS G.may_stop p.rounds turners.old.items setup.old.log.events.items turners.new.items setup.new.log.events.items (Some p.halt)) }
+    ensures rounds { IfOk result (λ p. Rounds (setting_in C.program C.width setup.old.shape) L.KEEPS_EVENTS G.may_stop p.rounds turners.old.items
+        setup.old.log.events.items turners.new.items setup.new.log.events.items (Some p.halt)) }
 {
     let mut rounds = 0;
     'rounds: for _ in rt.forever() {
@@ -313,7 +318,10 @@ fn run_apart<
     requires sound { IsSoundState (arriving (setting_in C.program C.width setup.shape) (map held_of lanes.items) []) }
     requires runs { All (RunsAs (setting_in C.program C.width setup.shape)) (map fixed_of lanes.items) }
     ensures unlisted { L.KEEPS_EVENTS ≡ false → setup.entry.log.events.items ≡ [] → result.report.events ≡ [] }
-    ensures shows { (inputs : List ℤ) (events : Events) → Began inputs (arriving (setting_in C.program C.width setup.entry.shape) (map held_of lanes.entry.items) []) events → ShowsOn L.KEEPS_EVENTS (C.program setup.entry.shape.code.now) (size (setting_in C.program C.width setup.entry.shape)) inputs setup.entry.shape.steps G.may_stop setup.entry.log.events.items events result.report }
+    ensures shows { (inputs : List ℤ) (events : Events)
+        → Began inputs (arriving (setting_in C.program C.width setup.entry.shape) (map held_of lanes.entry.items) []) events
+        → ShowsOn L.KEEPS_EVENTS (C.program setup.entry.shape.code.now) (size (setting_in C.program C.width setup.entry.shape)) inputs
+        setup.entry.shape.steps G.may_stop setup.entry.log.events.items events result.report }
     ensures truth { ReportsRounds L.KEEPS_EVENTS G.may_stop (so_far_of C.program C.width setup.entry lanes.entry.items) result.rounds result.report }
 {
     let Ok((mut turners, mut tokens, mut spare)) = ready(&setup.alloc, lanes) else {
@@ -348,7 +356,9 @@ fn run_machine<
     G: Gate + Sync,
 >(machine: Machine<'_, C, A, L>, rt: &R, gate: &G) -> Counted<A>
     ensures unlisted { L.KEEPS_EVENTS ≡ false → machine.entry.events ≡ [] → result.report.events ≡ [] }
-    ensures shows { (inputs : List ℤ) (events : Events) → Began inputs machine.entry.state events → ShowsOn L.KEEPS_EVENTS machine.entry.state.setting.program (size machine.entry.state.setting) inputs machine.entry.state.setting.steps G.may_stop machine.entry.events events result.report }
+    ensures shows { (inputs : List ℤ) (events : Events) → Began inputs machine.entry.state events
+        → ShowsOn L.KEEPS_EVENTS machine.entry.state.setting.program (size machine.entry.state.setting) inputs machine.entry.state.setting.steps
+        G.may_stop machine.entry.events events result.report }
     ensures truth { ReportsRounds L.KEEPS_EVENTS G.may_stop machine.entry result.rounds result.report }
 {
     match machine.into_lanes() {
@@ -366,7 +376,8 @@ pub fn run<
     A: Allocator + Clone + Send,
     G: Gate + Sync,
 >(machine: Machine<'_, C, A>, rt: &R, gate: &G) -> Report<A>
-    ensures shows { (inputs : List ℤ) → Began inputs machine.entry.state machine.entry.events → ShowsInOrder machine.entry.state.setting.program (size machine.entry.state.setting) inputs machine.entry.state.setting.steps false G.may_stop result }
+    ensures shows { (inputs : List ℤ) → Began inputs machine.entry.state machine.entry.events → ShowsInOrder machine.entry.state.setting.program
+        (size machine.entry.state.setting) inputs machine.entry.state.setting.steps false G.may_stop result }
     ensures truth { (rounds : ℕ) × ReportsRounds true G.may_stop machine.entry rounds result }
 {
     run_counted(machine, rt, gate).report
@@ -379,7 +390,8 @@ pub fn run_counted<
     A: Allocator + Clone + Send,
     G: Gate + Sync,
 >(machine: Machine<'_, C, A>, rt: &R, gate: &G) -> Counted<A>
-    ensures shows { (inputs : List ℤ) → Began inputs machine.entry.state machine.entry.events → ShowsInOrder machine.entry.state.setting.program (size machine.entry.state.setting) inputs machine.entry.state.setting.steps false G.may_stop result.report }
+    ensures shows { (inputs : List ℤ) → Began inputs machine.entry.state machine.entry.events → ShowsInOrder machine.entry.state.setting.program
+        (size machine.entry.state.setting) inputs machine.entry.state.setting.steps false G.may_stop result.report }
     ensures truth { ReportsRounds true G.may_stop machine.entry result.rounds result.report }
 {
     run_machine(machine, rt, gate)
@@ -392,7 +404,8 @@ pub fn run_quietly<
     A: Allocator + Clone + Send,
     G: Gate + Sync,
 >(machine: Machine<'_, C, A>, rt: &R, gate: &G) -> Report<A>
-    ensures shows { (inputs : List ℤ) → Began inputs machine.entry.state machine.entry.events → ShowsQuietly machine.entry.state.setting.program (size machine.entry.state.setting) inputs machine.entry.state.setting.steps false G.may_stop result }
+    ensures shows { (inputs : List ℤ) → Began inputs machine.entry.state machine.entry.events → ShowsQuietly machine.entry.state.setting.program
+        (size machine.entry.state.setting) inputs machine.entry.state.setting.steps false G.may_stop result }
     ensures truth { (rounds : ℕ) × ReportsRounds false G.may_stop (without_events machine.entry.state) rounds result }
 {
     run_machine(machine.without_events(), rt, gate).report

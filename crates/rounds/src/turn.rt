@@ -1,6 +1,6 @@
 //! The turn of one element.
 
-ghost use Rattle.std.specs.Prelude.{◌≡◌, ◌<◌, ◌≤◌, ◌^◌, List, length, true, false};
+ghost use Rattle.std.specs.Prelude.{◌≡◌, ◌+◌, ◌<◌, ◌≤◌, ◌^◌, List, [], length, true, false, Some, IfOk, IfErr};
 ghost use Rattle.tags.specs.declared.token.Token.{Token};
 ghost use Rattle.element.specs.Holding.{fixed_of, IsSoundLane};
 ghost use Rattle.schedule.specs.Steps.{logged};
@@ -12,7 +12,13 @@ use element::lane::{Lane, Stepped};
 use schedule::halt::Halt;
 use schedule::log::{EventLog, Log};
 use std::alloc::Allocator;
+use std::marker::PhantomData;
 use tags::token::Token;
+
+/// The site of the turn of one element, which has the code of a step built into it.
+struct Turn<L: Log> {
+    _log: PhantomData<L>,
+}
 
 /// A lane with what it made in its turn.
 #[derive(Drop)]
@@ -36,7 +42,91 @@ pub fn take_turn<C: Instructions, A: Allocator + Clone, L: Log>(
     turn: u64,
 ) -> Option<Halt>
     ensures sound { IsSoundLane lane.old.program lane.old.held → IsSoundLane lane.new.program lane.new.held }
-    ensures turns { (taken : List Token) × Turns lane.old.program lane.old.steps lane.old.held sent.old.items taken lane.new.held sent.new.items × (log.new.events.items ≡ logged L.KEEPS_EVENTS log.old.events.items (by lane.old.held.part.shape.element taken)) × (length taken ≤ turn) }
+    ensures turns { (taken : List Token) × Turns lane.old.program lane.old.steps lane.old.held sent.old.items taken lane.new.held sent.new.items
+        × (log.new.events.items ≡ logged L.KEEPS_EVENTS log.old.events.items (by lane.old.held.part.shape.element taken)) × (length taken ≤ turn) }
+    ensures whole { IsWhole turn lane.old.held lane.new.held result }
+    ensures halts { HaltsLane lane.old.program lane.old.steps false lane.new.held result }
+    ensures fixed { fixed_of lane.new ≡ fixed_of lane.old }
+{
+    if !L::KEEPS_EVENTS && lane.is_alone() {
+        take_alone::<C, A, L>(lane, sent, turn)
+    } else {
+        take_each(lane, sent, log, turn)
+    }
+}
+
+// The only element makes some events, up to `most`; false where it has no token.
+#[inline(always)]
+fn make_some<C: Instructions, A: Allocator + Clone, L: Log>(
+    lane: &mut Lane<'_, C, A>,
+    sent: &mut Vec<Token, A>,
+    most: u64,
+) -> Result<bool, Halt>
+    requires one { lane.old.held.part.shape.elements ≡ 1 }
+    requires some { 0 < most }
+    ensures sound { IsSoundLane lane.new.program lane.new.held }
+    ensures turns { (taken : List Token) × Turns lane.old.program lane.old.steps lane.old.held sent.old.items taken lane.new.held sent.new.items
+        × (lane.new.held.made ≡ lane.old.held.made + length taken) }
+    ensures within { lane.new.held.made ≤ lane.old.held.made + most }
+    ensures some { IfOk result (λ some. some ≡ true → lane.old.held.made < lane.new.held.made) }
+    ensures none { IfOk result (λ some. some ≡ false → lane.new.held.queue ≡ []) }
+    ensures fewer { IfErr result (λ halt. lane.new.held.made < lane.old.held.made + most) }
+    ensures halts { IfErr result (λ halt. HaltsLane lane.old.program lane.old.steps false lane.new.held (Some halt)) }
+    ensures fixed { fixed_of lane.new ≡ fixed_of lane.old }
+{
+    match lane.makes_ration::<Turn<L>>(most) {
+        Err(_) => Err(Halt::Memory),
+        Ok(true) => Ok(true),
+        Ok(false) => match lane.step_otherwise(sent) {
+            None => Err(Halt::Steps),
+            Some(Stepped::Did) => Ok(true),
+            Some(Stepped::Idle) => Ok(false),
+            Some(Stepped::Clash { cell }) => Err(Halt::Clash { cell }),
+            Some(Stepped::Stuck { rule }) => Err(Halt::Stuck { rule }),
+            Some(Stepped::Memory) => Err(Halt::Memory),
+        },
+    }
+}
+
+// The same of the only element, where no event is listed: between two events nothing but the lane is looked at.
+#[inline(never)]
+fn take_alone<C: Instructions, A: Allocator + Clone, L: Log>(
+    lane: &mut Lane<'_, C, A>,
+    sent: &mut Vec<Token, A>,
+    turn: u64,
+) -> Option<Halt>
+    requires one { lane.old.held.part.shape.elements ≡ 1 }
+    ensures sound { IsSoundLane lane.old.program lane.old.held → IsSoundLane lane.new.program lane.new.held }
+    ensures turns { (taken : List Token) × Turns lane.old.program lane.old.steps lane.old.held sent.old.items taken lane.new.held sent.new.items
+        × (length taken ≤ turn) }
+    ensures whole { IsWhole turn lane.old.held lane.new.held result }
+    ensures halts { HaltsLane lane.old.program lane.old.steps false lane.new.held result }
+    ensures fixed { fixed_of lane.new ≡ fixed_of lane.old }
+{
+    let first = lane.made();
+    'events: loop {
+        let left = turn - (lane.made() - first);
+        if left == 0 {
+            return None;
+        }
+        match make_some::<C, A, L>(lane, sent, left) {
+            Ok(true) => {}
+            Ok(false) => return None,
+            Err(halt) => return Some(halt),
+        }
+    }
+}
+
+// The same of any element: it takes one token after another.
+fn take_each<C: Instructions, A: Allocator + Clone, L: Log>(
+    lane: &mut Lane<'_, C, A>,
+    sent: &mut Vec<Token, A>,
+    log: &mut EventLog<A, L>,
+    turn: u64,
+) -> Option<Halt>
+    ensures sound { IsSoundLane lane.old.program lane.old.held → IsSoundLane lane.new.program lane.new.held }
+    ensures turns { (taken : List Token) × Turns lane.old.program lane.old.steps lane.old.held sent.old.items taken lane.new.held sent.new.items
+        × (log.new.events.items ≡ logged L.KEEPS_EVENTS log.old.events.items (by lane.old.held.part.shape.element taken)) × (length taken ≤ turn) }
     ensures whole { IsWhole turn lane.old.held lane.new.held result }
     ensures halts { HaltsLane lane.old.program lane.old.steps false lane.new.held result }
     ensures fixed { fixed_of lane.new ≡ fixed_of lane.old }

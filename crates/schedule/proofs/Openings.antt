@@ -1,5 +1,6 @@
 -- Lanes before the first event.
-use Rattle.std.proofs.Common.{◌≡◌, refl, sym, ◌∙◌, ap, subst, ℕ, zero, suc, ◌+◌, ◌-◌, ◌*◌, ◌<◌, ◌≤◌, List, length, take, drop, replicate, Option, Some, None, Result, arith}
+use Rattle.std.proofs.Common.{◌≡◌, refl, sym, ◌∙◌, ap, subst, ℕ, zero, suc, ◌+◌, ◌-◌, ◌*◌, ◌<◌, ◌≤◌, List, length, take, drop, replicate, Option}
+use Rattle.std.proofs.Common.{Some, None, Result, arith}
 use Rattle.std.specs.Prelude.{All, sum, IfOk}
 use Rattle.std.proofs.Math.Nat.{one-le-mul, suc-mul}
 use Rattle.std.proofs.lemmas.List.{length-replicate, take-replicate, drop-replicate}
@@ -20,12 +21,14 @@ pub three_ok : {X Y : Type 0} (r : Result X Y) (P Q S R : X → Type 0) → ((x 
 three_ok (Result.Ok x) P Q S R f p q s = f x p q s
 three_ok (Result.Err e) P Q S R f p q s = tt
 
-module _ (p : Program) (z : Shape) (states : List SlotState) (cells : OwnCells) (manager : Option Managed) (outputs : ℕ) (h : Holding) (is : h ≡ opened z states cells manager outputs) where
+module _ (p : Program) (z : Shape) (states : List SlotState) (cells : OwnCells) (manager : Option Managed) (outputs : ℕ) (h : Holding)
+    (is : h ≡ opened z states cells manager outputs) where
   shape_is : h.part.shape ≡ z
   shape_is = ap (λ (x : Holding). x.part.shape) is
 
   pub opening : z.element < z.elements → 0 < z.frames → z.start + z.frames * z.width ≤ length states → All (λ (s : SlotState). s ≡ Empty) states
-      → cells ≡ all_vacant (sum p.arrays) z.element z.elements → (z.element ≡ 0 → manager ≡ Some (at_first (z.elements * z.frames))) → outputs ≡ outputs_of p → IsOpening p h.part
+      → cells ≡ all_vacant (sum p.arrays) z.element z.elements → (z.element ≡ 0 → manager ≡ Some (at_first (z.elements * z.frames))) → outputs
+      ≡ outputs_of p → IsOpening p h.part
   opening there frames bank empty cells_are manager_is outputs_are =
       let some : 1 ≤ z.elements * z.frames = one-le-mul {a = z.elements} {b = z.frames} (omega arith) (omega arith) in
       subst (λ (x : Holding). IsOpening p x.part) (sym is) (record {
@@ -68,12 +71,14 @@ one_less (suc j) s some =
 pub bank_states_are : (k s : ℕ) (states left : List SlotState) → 0 < k → left ≡ replicate (k * s) Empty → states ≡ take s left → states ≡ replicate s Empty
 bank_states_are k s states left some left_is is = is ∙ ap (λ (l : List SlotState). take s l) left_is ∙ take-replicate s (k * s) Empty (at_least k s some)
 
-pub banks_left : (n e s : ℕ) (left new : List SlotState) → e < n → left ≡ replicate ((n - e) * s) Empty → new ≡ drop s left → new ≡ replicate ((n - (e + 1)) * s) Empty
+pub banks_left : (n e s : ℕ) (left new : List SlotState) → e < n → left ≡ replicate ((n - e) * s) Empty → new ≡ drop s left → new
+    ≡ replicate ((n - (e + 1)) * s) Empty
 banks_left n e s left new low left_is is =
     let some : 0 < n - e = omega arith in
     let less : (n - e) * s - s ≡ (n - e - 1) * s = one_less (n - e) s some in
     let count : n - e - 1 ≡ n - (e + 1) = omega arith in
-    is ∙ ap (λ (l : List SlotState). drop s l) left_is ∙ drop-replicate s ((n - e) * s) Empty ∙ ap (λ (m : ℕ). replicate m Empty) (less ∙ ap (λ (m : ℕ). m * s) count)
+    is ∙ ap (λ (l : List SlotState). drop s l) left_is ∙ drop-replicate s ((n - e) * s) Empty
+    ∙ ap (λ (m : ℕ). replicate m Empty) (less ∙ ap (λ (m : ℕ). m * s) count)
 
 pub banks_arrived : (n e s : ℕ) (left : List SlotState) → e < n → left ≡ replicate ((n - e) * s) Empty → s ≤ length left
 banks_arrived n e s left low left_is =

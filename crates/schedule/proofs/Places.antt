@@ -31,12 +31,14 @@ module _ {X : Type 0} (P : ℕ → X → Type 0) where
   from_all f k [] = tt
   from_all f k (x ∷ xs) = (f k x, from_all f (suc k) xs)
 
-  pub from_map : {Y : Type 0} (Q : ℕ → Y → Type 0) (f : X → Y) → ((i : ℕ) (x : X) → P i x → Q i (f x)) → (k : ℕ) (xs : List X) → AllFrom P k xs → AllFrom Q k (map f xs)
+  pub from_map : {Y : Type 0} (Q : ℕ → Y → Type 0) (f : X → Y) → ((i : ℕ) (x : X) → P i x → Q i (f x)) → (k : ℕ) (xs : List X) → AllFrom P k xs
+      → AllFrom Q k (map f xs)
   from_map Q f step k [] all = tt
   from_map Q f step k (x ∷ xs) all = (step k x all.0, from_map Q f step (suc k) xs all.1)
 
   -- what was so of the image
-  pub to_map : {Y : Type 0} (Q : ℕ → Y → Type 0) (f : X → Y) → ((i : ℕ) (x : X) → Q i (f x) → P i x) → (k : ℕ) (xs : List X) → AllFrom Q k (map f xs) → AllFrom P k xs
+  pub to_map : {Y : Type 0} (Q : ℕ → Y → Type 0) (f : X → Y) → ((i : ℕ) (x : X) → Q i (f x) → P i x) → (k : ℕ) (xs : List X) → AllFrom Q k (map f xs)
+      → AllFrom P k xs
   to_map Q f step k [] all = tt
   to_map Q f step k (x ∷ xs) all = (step k x all.0, to_map Q f step (suc k) xs all.1)
 

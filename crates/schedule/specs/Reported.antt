@@ -79,7 +79,17 @@ ShowsLaneParts g lanes outputs cells deferred requests credits out =
 
 -- the report of the machine before its first event, with `outputs` outputs
 abbrev pub opening_picture : ℕ → Report
-opening_picture outputs = record { end = End.Memory; outputs = replicate outputs None; cells = []; deferred = 0; waiting_frames = 0; waiting_credits = 0; frames_out = 1; events = [] }
+opening_picture outputs = record {
+  end = End.Memory;
+  outputs = replicate outputs None;
+  cells = [];
+  deferred = 0;
+  waiting_frames = 0;
+  waiting_credits =
+      0;
+  frames_out = 1;
+  events = [];
+}
 
 -- The report has the events and the end, and says what the lanes hold; where its own lists were refused it is that of the machine
 -- before its first event.

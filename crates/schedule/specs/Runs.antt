@@ -105,7 +105,8 @@ HaltsAs s by_list Halt.Stop = ⊥
 -- how a run ends that halts so, by the numbers of requests for frames and credits that wait; and which array a cell is in
 abbrev pub EndsWith : Program → End → ℕ → ℕ → Halt → Type 0
 EndsWith p end frames credits Halt.NoToken = ((end ≡ End.Rest) × (frames ≡ 0) × (credits ≡ 0)) ⊎ ((end ≡ End.Starved) × ((0 < frames) ⊎ (0 < credits)))
-EndsWith p end frames credits (Halt.Clash cell) = (a : ℕ) × (i : ℕ) × (end ≡ End.Clash a i) × (a < length p.arrays) × (i < array_len p a) × (array_base p a + i ≡ cell)
+EndsWith p end frames credits (Halt.Clash cell) = (a : ℕ) × (i : ℕ) × (end ≡ End.Clash a i) × (a < length p.arrays) × (i < array_len p a)
+    × (array_base p a + i ≡ cell)
 EndsWith p end frames credits Halt.Steps = end ≡ End.Steps
 EndsWith p end frames credits (Halt.Stuck rule) = end ≡ End.Stuck rule
 EndsWith p end frames credits Halt.Memory = end ≡ End.Memory

@@ -76,7 +76,15 @@ pub record AreParts (s : State) (m : Machine) : Type 0 where
 
 -- THE MACHINE IN MEMORY
 abbrev pub setting_in : {C : Type 0} → (C → Program) → (C → ℕ) → Shape C → Setting
-setting_in program width s = record { program = program s.code.now; elements = s.elements; frames = s.frames; width = width s.code.now; steps = s.steps; turn = s.turn }
+setting_in program width s = record {
+  program = program s.code.now;
+  elements = s.elements;
+  frames = s.frames;
+  width = width s.code.now;
+  steps =
+      s.steps;
+  turn = s.turn;
+}
 
 -- Tokens that are on their way are seen where they are addressed to.
 abbrev pub state_of : {C A : Type 0} → (C → Program) → (C → ℕ) → Elements C A → State

@@ -12,7 +12,16 @@ use Rattle.schedule.specs.Shown.{ShowsInOrder}
 
 -- the report with these events in place of its own
 abbrev pub with_events : Report → Events → Report
-with_events r evs = record { end = r.end; outputs = r.outputs; cells = r.cells; deferred = r.deferred; waiting_frames = r.waiting_frames; waiting_credits = r.waiting_credits; frames_out = r.frames_out; events = evs }
+with_events r evs = record {
+  end = r.end;
+  outputs = r.outputs;
+  cells = r.cells;
+  deferred = r.deferred;
+  waiting_frames = r.waiting_frames;
+  waiting_credits = r.waiting_credits;
+  frames_out = r.frames_out;
+  events = evs;
+}
 
 -- RUNS OF ANY LENGTH. The report lists no events; with those of some run in their place it is a report of which `ShowsLanes` holds.
 abbrev pub Quietly : (Report → Type 0) → Report → Type 0
@@ -27,12 +36,14 @@ pub record ShowsQuietly (p : Program) (z : Size) (inputs : List ℤ) (steps : �
 -- The report shows a run with these events, or its own lists were refused; and if they are those that were noted, it lists the
 -- run that it shows.
 abbrev pub ShowsBut : Program → Size → List ℤ → ℕ → Bool → Bool → Events → Events → Report → Type 0
-ShowsBut p z inputs steps by_list may_stop kept evs r = (shown : Events) × ShowsInOrder p z inputs steps by_list may_stop (with_events r shown) × (kept ≡ evs → r.events ≡ shown)
+ShowsBut p z inputs steps by_list may_stop kept evs r = (shown : Events) × ShowsInOrder p z inputs steps by_list may_stop (with_events r shown)
+    × (kept ≡ evs → r.events ≡ shown)
 
 -- The report is of this machine, which halted so: it has its events and its end, says what its lanes hold, and shows the run that led there.
 pub record ReportsSoFar (k : SoFar) (halt : Halt) (r : Report) : Type 0 where
   pub reported : IsReportOf k halt r
-  pub shows : (inputs : List ℤ) (by_list : Bool) → Began inputs k.state k.events → HaltsAs k.state by_list halt → ShowsInOrder k.state.setting.program (size k.state.setting) inputs k.state.setting.steps by_list false r
+  pub shows : (inputs : List ℤ) (by_list : Bool) → Began inputs k.state k.events → HaltsAs k.state by_list halt
+      → ShowsInOrder k.state.setting.program (size k.state.setting) inputs k.state.setting.steps by_list false r
 
 -- the machine with these events
 abbrev pub so_far_with : State → Events → SoFar
@@ -52,4 +63,5 @@ pub record RunsInTurn (first : SoFar) (r : Report) : Type 0 where
   pub plays : Plays false (rounds_of rounds first.state.setting.elements) first.state last.state halt made
   pub events : last.events ≡ first.events ++ made
   pub reported : IsReportOf last halt r
-  pub shows : (inputs : List ℤ) → Began inputs first.state first.events → ShowsInOrder first.state.setting.program (size first.state.setting) inputs first.state.setting.steps false false r
+  pub shows : (inputs : List ℤ) → Began inputs first.state first.events → ShowsInOrder first.state.setting.program (size first.state.setting) inputs
+      first.state.setting.steps false false r

@@ -19,7 +19,8 @@ pub fn make_events<C: Instructions, A: Allocator + Clone, Site>(
 ) -> Option<Stepped>
     requires one { lane.old.held.part.shape.elements ≡ 1 }
     requires sent { sent.old.items ≡ [] }
-    ensures exact { (events : ℕ) × (last : Holding) × MakesEvents lane.old.program lane.old.steps events lane.old.held last × LaneAnswers lane.old.program lane.old.steps last result lane.new.held }
+    ensures exact { (events : ℕ) × (last : Holding) × MakesEvents lane.old.program lane.old.steps events lane.old.held last
+        × LaneAnswers lane.old.program lane.old.steps last result lane.new.held }
     ensures none { sent.new.items ≡ [] }
     ensures sound { IsSoundLane lane.new.program lane.new.held }
     ensures most { lane.new.held.made ≤ lane.new.steps }

@@ -136,7 +136,8 @@ impl<'m, C: MainCode, A: Allocator> Elements<'m, C, A> {
         requires arrived { self.old.arrived ≡ 0 }
         requires room { L.KEEPS_EVENTS ≡ true → vec_len log.old.events < vec_capacity log.old.events }
         ensures well { IsWell C.program C.width self.new }
-        ensures exact { (events : Events) × Steps (state_of C.program C.width self.old) element pick result (state_of C.program C.width self.new) events × (log.new.events.items ≡ logged L.KEEPS_EVENTS log.old.events.items events) }
+        ensures exact { (events : Events) × Steps (state_of C.program C.width self.old) element pick result (state_of C.program C.width self.new)
+            events × (log.new.events.items ≡ logged L.KEEPS_EVENTS log.old.events.items events) }
     {
         let lane = &mut self.lanes[element as usize];
         let Some(token) = lane.token(pick) else {
@@ -161,7 +162,8 @@ impl<'m, C: MainCode, A: Allocator> Elements<'m, C, A> {
         requires well { IsWell C.program C.width self.old }
         requires element { element < self.old.shape.elements }
         ensures well { IsWell C.program C.width self.new }
-        ensures exact { (events : Events) × Steps (state_of C.program C.width self.old) element pick result (state_of C.program C.width self.new) events × (log.new.events.items ≡ logged L.KEEPS_EVENTS log.old.events.items events) }
+        ensures exact { (events : Events) × Steps (state_of C.program C.width self.old) element pick result (state_of C.program C.width self.new)
+            events × (log.new.events.items ≡ logged L.KEEPS_EVENTS log.old.events.items events) }
     {
         if !self.is_ready(log) {
             return self.refused(element);
@@ -198,7 +200,8 @@ impl<'m, C: MainCode, A: Allocator> Elements<'m, C, A> {
         requires well { IsWell C.program C.width self.old }
         requires element { element < self.old.shape.elements }
         ensures well { IsWell C.program C.width self.new }
-        ensures exact { (events : Events) × Advances (is_by_list order) (state_of C.program C.width self.old) element pick (state_of C.program C.width self.new) events result × (log.new.events.items ≡ logged L.KEEPS_EVENTS log.old.events.items events) }
+        ensures exact { (events : Events) × Advances (is_by_list order) (state_of C.program C.width self.old) element pick
+            (state_of C.program C.width self.new) events result × (log.new.events.items ≡ logged L.KEEPS_EVENTS log.old.events.items events) }
     {
         if !self.is_ready(log) {
             let refused = self.refused(element);
@@ -248,7 +251,8 @@ impl<'m, C: MainCode, A: Allocator> Elements<'m, C, A> {
         requires well { IsWell C.program C.width self.old }
         requires elements { All (λ pick. pick.0 < self.old.shape.elements) picks.now }
         ensures well { IsWell C.program C.width self.new }
-        ensures exact { (events : Events) × Plays true picks.now (state_of C.program C.width self.old) (state_of C.program C.width self.new) result events × (log.new.events.items ≡ logged L.KEEPS_EVENTS log.old.events.items events) }
+        ensures exact { (events : Events) × Plays true picks.now (state_of C.program C.width self.old) (state_of C.program C.width self.new) result
+            events × (log.new.events.items ≡ logged L.KEEPS_EVENTS log.old.events.items events) }
     {
         for (element, pick) in picks {
             match self.advance::<L, ()>(Order::ByList, *element, *pick, log) {
@@ -274,7 +278,8 @@ impl<'m, C: MainCode, A: Allocator> Elements<'m, C, A> {
         requires arrived { self.old.arrived ≡ 0 }
         ensures well { IsWell C.program C.width self.new }
         ensures shape { self.new.shape ≡ self.old.shape }
-        ensures exact { (made : Events) × (last : State) × LeadsTo 1 (state_of C.program C.width self.old) made last × (events : Events) × Steps last 0 0 result (state_of C.program C.width self.new) events }
+        ensures exact { (made : Events) × (last : State) × LeadsTo 1 (state_of C.program C.width self.old) made last × (events : Events)
+            × Steps last 0 0 result (state_of C.program C.width self.new) events }
     {
         let lane = &mut self.lanes[0];
         make_events::<C, A, Site>(lane, &mut self.sent)
@@ -289,7 +294,9 @@ impl<'m, C: MainCode, A: Allocator> Elements<'m, C, A> {
         requires one { self.old.shape.elements ≡ 1 }
         requires quiet { L.KEEPS_EVENTS ≡ false }
         ensures well { IsWell C.program C.width self.new }
-        ensures exact { (rounds : ℕ) × (events : Events) × Plays false (rounds_of rounds self.old.shape.elements) (state_of C.program C.width self.old) (state_of C.program C.width self.new) result events × (log.new.events.items ≡ logged L.KEEPS_EVENTS log.old.events.items events) }
+        ensures exact { (rounds : ℕ) × (events : Events) × Plays false (rounds_of rounds self.old.shape.elements)
+            (state_of C.program C.width self.old) (state_of C.program C.width self.new) result events
+            × (log.new.events.items ≡ logged L.KEEPS_EVENTS log.old.events.items events) }
     {
         if self.settle().is_err() {
             return self.play_passes(log);
@@ -310,7 +317,9 @@ impl<'m, C: MainCode, A: Allocator> Elements<'m, C, A> {
         requires well { IsWell C.program C.width self.old }
         requires one { self.old.shape.elements ≡ 1 }
         ensures well { IsWell C.program C.width self.new }
-        ensures exact { (rounds : ℕ) × (events : Events) × Plays false (rounds_of rounds self.old.shape.elements) (state_of C.program C.width self.old) (state_of C.program C.width self.new) result events × (log.new.events.items ≡ logged L.KEEPS_EVENTS log.old.events.items events) }
+        ensures exact { (rounds : ℕ) × (events : Events) × Plays false (rounds_of rounds self.old.shape.elements)
+            (state_of C.program C.width self.old) (state_of C.program C.width self.new) result events
+            × (log.new.events.items ≡ logged L.KEEPS_EVENTS log.old.events.items events) }
     {
         let mut left = self.shape.steps;
         'events: while left != 0 {
@@ -329,7 +338,9 @@ impl<'m, C: MainCode, A: Allocator> Elements<'m, C, A> {
         A: Clone,
         requires { IsWell C.program C.width self.old }
         ensures well { IsWell C.program C.width self.new }
-        ensures exact { (rounds : ℕ) × (events : Events) × Plays false (rounds_of rounds self.old.shape.elements) (state_of C.program C.width self.old) (state_of C.program C.width self.new) result events × (log.new.events.items ≡ logged L.KEEPS_EVENTS log.old.events.items events) }
+        ensures exact { (rounds : ℕ) × (events : Events) × Plays false (rounds_of rounds self.old.shape.elements)
+            (state_of C.program C.width self.old) (state_of C.program C.width self.new) result events
+            × (log.new.events.items ≡ logged L.KEEPS_EVENTS log.old.events.items events) }
     {
         'passes: loop {
             for element in 0..self.shape.elements {
@@ -348,7 +359,9 @@ impl<'m, C: MainCode, A: Allocator> Elements<'m, C, A> {
         A: Clone,
         requires { IsWell C.program C.width self.old }
         ensures well { IsWell C.program C.width self.new }
-        ensures exact { (rounds : ℕ) × (events : Events) × Plays false (rounds_of rounds self.old.shape.elements) (state_of C.program C.width self.old) (state_of C.program C.width self.new) result events × (log.new.events.items ≡ logged L.KEEPS_EVENTS log.old.events.items events) }
+        ensures exact { (rounds : ℕ) × (events : Events) × Plays false (rounds_of rounds self.old.shape.elements)
+            (state_of C.program C.width self.old) (state_of C.program C.width self.new) result events
+            × (log.new.events.items ≡ logged L.KEEPS_EVENTS log.old.events.items events) }
     {
         if self.shape.elements != 1 {
             self.play_passes(log)
@@ -362,7 +375,8 @@ impl<'m, C: MainCode, A: Allocator> Elements<'m, C, A> {
     // How many requests for credits wait.
     fn credits(&self) -> u64
         requires { IsSoundState (state_of C.program C.width self.now) }
-        ensures { result ≡ sum_below (total (state_of C.program C.width self.now).setting) (λ f. credits_below self.now.shape.elements (map held_of self.now.lanes.items) (C.width self.now.shape.code.now) f) }
+        ensures { result ≡ sum_below (total (state_of C.program C.width self.now).setting)
+            (λ f. credits_below self.now.shape.elements (map held_of self.now.lanes.items) (C.width self.now.shape.code.now) f) }
     {
         let width = self.shape.code.slots();
         let mut count: u64 = 0;
@@ -376,7 +390,8 @@ impl<'m, C: MainCode, A: Allocator> Elements<'m, C, A> {
     /// What the lanes hold, for a report.
     pub fn add_up(self, alloc: A) -> Result<LaneTotals<A>, AllocError>
         requires { IsSoundState (state_of C.program C.width self) }
-        ensures { IfOk result (λ reported. ShowsLaneParts (state_of C.program C.width self.entry).setting (map held_of self.entry.lanes.items) reported.outputs.items reported.cells.items reported.deferred reported.requests reported.credits reported.out) }
+        ensures { IfOk result (λ reported. ShowsLaneParts (state_of C.program C.width self.entry).setting (map held_of self.entry.lanes.items)
+            reported.outputs.items reported.cells.items reported.deferred reported.requests reported.credits reported.out) }
     {
         let number = self.shape.code.cells();
         let cells = full_cells(alloc, &self.lanes, self.shape.elements, number)?;

@@ -14,7 +14,8 @@ pub struct Place {
 
 /// The array that a cell is in, and its place there.
 pub fn locate<C: MainCode>(code: &C, cell: u32) -> Option<Place>
-    ensures some { IfSome result (λ at. (at.array < length (C.program code.now).arrays) × (at.index < array_len (C.program code.now) at.array) × (array_base (C.program code.now) at.array + at.index ≡ cell)) }
+    ensures some { IfSome result (λ at. (at.array < length (C.program code.now).arrays) × (at.index < array_len (C.program code.now) at.array)
+        × (array_base (C.program code.now) at.array + at.index ≡ cell)) }
     ensures none { IfNone result (sum (C.program code.now).arrays ≤ cell) }
 {
     for number in 0..code.arrays() {

@@ -169,7 +169,8 @@ impl<'m, C: MainCode, A: Allocator> Machine<'m, C, A> {
     ) -> Result<Machine<'m, C, A>, StartFault>
     where
         A: Clone,
-        ensures { MatchResult result (λ machine. Opens (C.program code.now) (C.width code.now) config inputs.now machine) (IsCause (C.program code.now) config inputs.now) }
+        ensures { MatchResult result (λ machine. Opens (C.program code.now) (C.width code.now) config inputs.now machine)
+            (IsCause (C.program code.now) config inputs.now) }
     {
         if inputs.len() != code.inputs() as usize {
             return Err(StartFault::WrongInputs);
@@ -193,8 +194,10 @@ impl<'m, C: MainCode, A: Allocator> Machine<'m, C, A> {
     where
         A: Clone,
         requires { All (λ pick. pick.0 < self.state.setting.elements) picks.now }
-        ensures plays { (last : SoFar) × (halt : Halt) × (made : Events) × Plays true picks.now self.entry.state last.state halt made × (last.events ≡ self.entry.events ++ made) × IsReportOf last halt result }
-        ensures shows { (inputs : List ℤ) → Began inputs self.entry.state self.entry.events → ShowsInOrder self.entry.state.setting.program (size self.entry.state.setting) inputs self.entry.state.setting.steps true false result }
+        ensures plays { (last : SoFar) × (halt : Halt) × (made : Events) × Plays true picks.now self.entry.state last.state halt made
+            × (last.events ≡ self.entry.events ++ made) × IsReportOf last halt result }
+        ensures shows { (inputs : List ℤ) → Began inputs self.entry.state self.entry.events → ShowsInOrder self.entry.state.setting.program
+            (size self.entry.state.setting) inputs self.entry.state.setting.steps true false result }
     {
         let halt = self.play(picks);
         self.report(halt)
@@ -206,8 +209,11 @@ impl<'m, C: MainCode, A: Allocator> Machine<'m, C, A> {
     pub fn run_one(mut self) -> Report<A>
     where
         A: Clone,
-        ensures plays { (last : SoFar) × (halt : Halt) × (rounds : ℕ) × (made : Events) × Plays false (rounds_of rounds self.entry.state.setting.elements) self.entry.state last.state halt made × (last.events ≡ self.entry.events ++ made) × IsReportOf last halt result }
-        ensures shows { (inputs : List ℤ) → Began inputs self.entry.state self.entry.events → ShowsInOrder self.entry.state.setting.program (size self.entry.state.setting) inputs self.entry.state.setting.steps false false result }
+        ensures plays { (last : SoFar) × (halt : Halt) × (rounds : ℕ) × (made : Events)
+            × Plays false (rounds_of rounds self.entry.state.setting.elements) self.entry.state last.state halt made
+            × (last.events ≡ self.entry.events ++ made) × IsReportOf last halt result }
+        ensures shows { (inputs : List ℤ) → Began inputs self.entry.state self.entry.events → ShowsInOrder self.entry.state.setting.program
+            (size self.entry.state.setting) inputs self.entry.state.setting.steps false false result }
     {
         let halt = self.play_in_turn();
         self.report(halt)
@@ -250,7 +256,9 @@ impl<'m, C: MainCode, A: Allocator, L: Log> Machine<'m, C, A, L> {
     where
         A: Clone,
         requires { element < self.old.state.setting.elements }
-        ensures steps { (made : Events) × Steps self.old.state element pick result self.new.state made × (self.new.events ≡ logged L.KEEPS_EVENTS self.old.events made) × ((inputs : List ℤ) (before : Events) → Began inputs self.old.state before → Began inputs self.new.state (before ++ made)) }
+        ensures steps { (made : Events) × Steps self.old.state element pick result self.new.state made
+            × (self.new.events ≡ logged L.KEEPS_EVENTS self.old.events made)
+            × ((inputs : List ℤ) (before : Events) → Began inputs self.old.state before → Began inputs self.new.state (before ++ made)) }
         ensures began { (inputs : List ℤ) → BeganIfNoted L.KEEPS_EVENTS inputs self.old → BeganIfNoted L.KEEPS_EVENTS inputs self.new }
         ensures setting { self.new.state.setting ≡ self.old.state.setting }
     {
@@ -264,7 +272,9 @@ impl<'m, C: MainCode, A: Allocator, L: Log> Machine<'m, C, A, L> {
     where
         A: Clone,
         requires { All (λ pick. pick.0 < self.old.state.setting.elements) picks.now }
-        ensures plays { (made : Events) × Plays true picks.now self.old.state self.new.state result made × (self.new.events ≡ logged L.KEEPS_EVENTS self.old.events made) × ((inputs : List ℤ) (before : Events) → Began inputs self.old.state before → Began inputs self.new.state (before ++ made)) }
+        ensures plays { (made : Events) × Plays true picks.now self.old.state self.new.state result made
+            × (self.new.events ≡ logged L.KEEPS_EVENTS self.old.events made)
+            × ((inputs : List ℤ) (before : Events) → Began inputs self.old.state before → Began inputs self.new.state (before ++ made)) }
         ensures began { (inputs : List ℤ) → BeganIfNoted L.KEEPS_EVENTS inputs self.old → BeganIfNoted L.KEEPS_EVENTS inputs self.new }
         ensures halts { HaltsAs self.new.state true result }
         ensures setting { self.new.state.setting ≡ self.old.state.setting }
@@ -279,7 +289,9 @@ impl<'m, C: MainCode, A: Allocator, L: Log> Machine<'m, C, A, L> {
     pub fn play_in_turn(&mut self) -> Halt
     where
         A: Clone,
-        ensures plays { (rounds : ℕ) × (made : Events) × Plays false (rounds_of rounds self.old.state.setting.elements) self.old.state self.new.state result made × (self.new.events ≡ logged L.KEEPS_EVENTS self.old.events made) × ((inputs : List ℤ) (before : Events) → Began inputs self.old.state before → Began inputs self.new.state (before ++ made)) }
+        ensures plays { (rounds : ℕ) × (made : Events) × Plays false (rounds_of rounds self.old.state.setting.elements) self.old.state self.new.state
+            result made × (self.new.events ≡ logged L.KEEPS_EVENTS self.old.events made)
+            × ((inputs : List ℤ) (before : Events) → Began inputs self.old.state before → Began inputs self.new.state (before ++ made)) }
         ensures began { (inputs : List ℤ) → BeganIfNoted L.KEEPS_EVENTS inputs self.old → BeganIfNoted L.KEEPS_EVENTS inputs self.new }
         ensures halts { HaltsAs self.new.state false result }
         ensures setting { self.new.state.setting ≡ self.old.state.setting }
@@ -296,8 +308,11 @@ impl<'m, C: MainCode, A: Allocator, L: Log> Machine<'m, C, A, L> {
         requires { NamesCell self.state.setting.program halt }
         ensures reported { IsReportOf self.entry halt result }
         ensures quietly { self.entry.events ≡ [] → (events : Events) → Quietly (ReportsSoFar (so_far_with self.entry.state events) halt) result }
-        ensures any { (inputs : List ℤ) (by_list : Bool) (events : Events) → Began inputs self.entry.state events → HaltsAs self.entry.state by_list halt → ShowsBut self.entry.state.setting.program (size self.entry.state.setting) inputs self.entry.state.setting.steps by_list false self.entry.events events result }
-        ensures shows { (inputs : List ℤ) (by_list : Bool) → Began inputs self.entry.state self.entry.events → HaltsAs self.entry.state by_list halt → ShowsInOrder self.entry.state.setting.program (size self.entry.state.setting) inputs self.entry.state.setting.steps by_list false result }
+        ensures any { (inputs : List ℤ) (by_list : Bool) (events : Events) → Began inputs self.entry.state events
+            → HaltsAs self.entry.state by_list halt → ShowsBut self.entry.state.setting.program (size self.entry.state.setting) inputs
+            self.entry.state.setting.steps by_list false self.entry.events events result }
+        ensures shows { (inputs : List ℤ) (by_list : Bool) → Began inputs self.entry.state self.entry.events → HaltsAs self.entry.state by_list halt
+            → ShowsInOrder self.entry.state.setting.program (size self.entry.state.setting) inputs self.entry.state.setting.steps by_list false result }
     {
         let Machine {
             elements,
@@ -312,7 +327,8 @@ impl<'m, C: MainCode, A: Allocator, L: Log> Machine<'m, C, A, L> {
     /// After an error it is as before.
     pub fn into_lanes(self) -> Result<Apart<'m, C, A, L>, Machine<'m, C, A, L>>
     where
-        ensures apart { MatchResult result (λ apart. (so_far_of C.program C.width apart.0 apart.1.items ≡ self.entry) × IsSoundState (state_in C.program C.width apart.0 apart.1.items)) (λ machine. machine ≡ self.entry) }
+        ensures apart { MatchResult result (λ apart. (so_far_of C.program C.width apart.0 apart.1.items ≡ self.entry)
+            × IsSoundState (state_in C.program C.width apart.0 apart.1.items)) (λ machine. machine ≡ self.entry) }
         ensures runs { IfOk result (λ apart. All (RunsAs (setting_in C.program C.width apart.0.shape)) (map fixed_of apart.1.items)) }
     {
         let Machine {

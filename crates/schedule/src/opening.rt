@@ -91,8 +91,10 @@ where
     requires slots { C.width code.now ≤ store.old.width }
     requires steps { steps < 2 ^ 63 }
     ensures count { IfOk result (λ lanes. length lanes.items ≡ store.old.elements) }
-    ensures fresh { IfOk result (λ lanes. AllFrom (IsFresh (sized (C.program code.now) store.old.elements store.old.frames store.old.width 0)) 0 (map held_of lanes.items)) }
-    ensures runs { IfOk result (λ lanes. All (RunsAs (sized (C.program code.now) store.old.elements store.old.frames store.old.width steps)) (map fixed_of lanes.items)) }
+    ensures fresh { IfOk result (λ lanes. AllFrom (IsFresh (sized (C.program code.now) store.old.elements store.old.frames store.old.width 0)) 0
+        (map held_of lanes.items)) }
+    ensures runs { IfOk result (λ lanes. All (RunsAs (sized (C.program code.now) store.old.elements store.old.frames store.old.width steps))
+        (map fixed_of lanes.items)) }
 {
     let elements = store.elements() as u32;
     let mut lanes = Vec::with_capacity(alloc.clone()?, elements as usize)?;

@@ -32,5 +32,15 @@ impl<A: Allocator> Model for Report<A> {
 
     ghost Value = { Report };
 
-    ghost view = { λ r. record { end = r.end; outputs = r.outputs.items; cells = r.cells.items; deferred = r.deferred; waiting_frames = r.waiting_frames; waiting_credits = r.waiting_credits; frames_out = r.frames_out; events = r.events.items } };
+    ghost view = { λ r. record {
+      end = r.end;
+      outputs = r.outputs.items;
+      cells = r.cells.items;
+      deferred = r.deferred;
+      waiting_frames =
+          r.waiting_frames;
+      waiting_credits = r.waiting_credits;
+      frames_out = r.frames_out;
+      events = r.events.items;
+    } };
 }

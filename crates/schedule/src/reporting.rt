@@ -74,7 +74,8 @@ fn add_up<C: MainCode, A: Allocator>(
 where
     A: Clone,
     requires { IsSoundState (state_of C.program C.width elements) }
-    ensures { IfOk result (λ reported. ShowsLaneParts (state_of C.program C.width elements.entry).setting (map held_of elements.entry.lanes.items) reported.outputs.items reported.cells.items reported.deferred reported.requests reported.credits reported.out) }
+    ensures { IfOk result (λ reported. ShowsLaneParts (state_of C.program C.width elements.entry).setting (map held_of elements.entry.lanes.items)
+        reported.outputs.items reported.cells.items reported.deferred reported.requests reported.credits reported.out) }
 {
     elements.add_up(alloc.clone()?)
 }

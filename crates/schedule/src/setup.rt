@@ -45,8 +45,17 @@ impl<'m, C: MainCode, A: Allocator, L: Log> Setup<'m, C, A, L> {
         requires cell { NamesCell (C.program self.shape.code.now) halt }
         ensures reported { IsReportOf (so_far_of C.program C.width self.entry lanes.entry.items) halt result }
         ensures unlisted { self.entry.log.events.items ≡ [] → result.events ≡ [] }
-        ensures shows { (inputs : List ℤ) (by_list : Bool) (arriving : List Token) (events : Events) → IsSoundState (with_arriving (state_in C.program C.width self.entry lanes.entry.items) arriving) → Began inputs (with_arriving (state_in C.program C.width self.entry lanes.entry.items) arriving) events → HaltsAs (with_arriving (state_in C.program C.width self.entry lanes.entry.items) arriving) by_list halt → ShowsBut (C.program self.entry.shape.code.now) (size (setting_in C.program C.width self.entry.shape)) inputs self.entry.shape.steps by_list false self.entry.log.events.items events result }
-        ensures stopped { halt ≡ Halt.Stop → (inputs : List ℤ) (by_list : Bool) (arriving : List Token) (events : Events) → IsSoundState (with_arriving (state_in C.program C.width self.entry lanes.entry.items) arriving) → Began inputs (with_arriving (state_in C.program C.width self.entry lanes.entry.items) arriving) events → ShowsBut (C.program self.entry.shape.code.now) (size (setting_in C.program C.width self.entry.shape)) inputs self.entry.shape.steps by_list true self.entry.log.events.items events result }
+        ensures shows { (inputs : List ℤ) (by_list : Bool) (arriving : List Token) (events : Events)
+            → IsSoundState (with_arriving (state_in C.program C.width self.entry lanes.entry.items) arriving)
+            → Began inputs (with_arriving (state_in C.program C.width self.entry lanes.entry.items) arriving) events
+            → HaltsAs (with_arriving (state_in C.program C.width self.entry lanes.entry.items) arriving) by_list halt
+            → ShowsBut (C.program self.entry.shape.code.now) (size (setting_in C.program C.width self.entry.shape)) inputs self.entry.shape.steps
+            by_list false self.entry.log.events.items events result }
+        ensures stopped { halt ≡ Halt.Stop → (inputs : List ℤ) (by_list : Bool) (arriving : List Token) (events : Events)
+            → IsSoundState (with_arriving (state_in C.program C.width self.entry lanes.entry.items) arriving)
+            → Began inputs (with_arriving (state_in C.program C.width self.entry lanes.entry.items) arriving) events
+            → ShowsBut (C.program self.entry.shape.code.now) (size (setting_in C.program C.width self.entry.shape)) inputs self.entry.shape.steps
+            by_list true self.entry.log.events.items events result }
     {
         let Setup {
             shape,

@@ -1,8 +1,11 @@
 -- What is done in a ring, as seen in its list.
-use Rattle.std.proofs.Common.{◌≡◌, refl, ℕ, ◌+◌, ◌-◌, ◌%◌, ◌^◌, ◌<◌, ◌≤◌, ◌⊎◌, List, [], ◌∷◌, ◌++◌, length, get_or, take, drop, set, bit_and, sym, ap, ◌∙◌, subst, inl, inr, mod-eq_of_lt, arith, length-append, length-drop, length-set, length-take-le, get_or-drop, get_or-take, append_assoc}
+use Rattle.std.proofs.Common.{◌≡◌, refl, ℕ, ◌+◌, ◌-◌, ◌%◌, ◌^◌, ◌<◌, ◌≤◌, ◌⊎◌, List, [], ◌∷◌, ◌++◌, length, get_or, take, drop, set, bit_and, sym}
+use Rattle.std.proofs.Common.{ap, ◌∙◌, subst, inl, inr, mod-eq_of_lt, arith, length-append, length-drop, length-set, length-take-le, get_or-drop}
+use Rattle.std.proofs.Common.{get_or-take, append_assoc}
 use native.Mathlib.Nat.{mod-eq-sub-mod, mod-add-mod}
 use Rattle.std.specs.List.{remove}
-use Rattle.std.proofs.lemmas.List.{append-nil, take-append-le, same_lists, get_or_append_left, get_or-append_right, take_all, take_at, take-take, set_at, take_more, drop_more, length-take}
+use Rattle.std.proofs.lemmas.List.{append-nil, take-append-le, same_lists, get_or_append_left, get_or-append_right, take_all, take_at, take-take}
+use Rattle.std.proofs.lemmas.List.{set_at, take_more, drop_more, length-take}
 use Rattle.std.proofs.lemmas.List.Edits.{length-remove, get_or-remove_above}
 use Rattle.std.proofs.lemmas.Nat.{and_mask, pow_below}
 use lib.Pow.{pow_pos, mod-mod-pow}
@@ -37,7 +40,8 @@ module _ {X : Type 0} (N k n : ℕ) (xs : List X) (head : k < N) (count : n ≤ 
       let length_tail = length-drop k xs in
       get_or-take n _ i d within ∙ elim (rounds N (k + i) (omega arith)) [
         | inl low ↦ get_or_append_left _ _ d i (omega arith) ∙ get_or-drop k xs i d ∙ ap (λ j. get_or xs j d) (omega arith)
-        | inr high ↦ get_or-append_right _ _ (N - k) i d (omega arith) (omega arith) ∙ get_or-take k xs _ d (omega arith) ∙ ap (λ j. get_or xs j d) (omega arith)
+        | inr high ↦ get_or-append_right _ _ (N - k) i d (omega arith) (omega arith) ∙ get_or-take k xs _ d (omega arith)
+            ∙ ap (λ j. get_or xs j d) (omega arith)
       ]
 
 -- COUNTS THAT BEGIN AGAIN AT 2 ^ 64
@@ -96,19 +100,22 @@ pub held_turned : {X : Type 0} (h t mask : ℕ) (xs : List X) → (length xs ≡
     → held h t xs ≡ take (between h t) (drop (bit_and h mask) xs ++ take (bit_and h mask) xs)
 held_turned h t mask xs (inl none) e fits =
     let zero : between h t ≡ 0 = omega arith in
-    ap (λ n. take n (drop (h % length xs) xs ++ take (h % length xs) xs)) zero ∙ sym (ap (λ n. take n (drop (bit_and h mask) xs ++ take (bit_and h mask) xs)) zero)
+    ap (λ n. take n (drop (h % length xs) xs ++ take (h % length xs) xs)) zero
+    ∙ sym (ap (λ n. take n (drop (bit_and h mask) xs ++ take (bit_and h mask) xs)) zero)
 held_turned h t mask xs (inr power) e fits =
     let is : bit_and h mask ≡ h % length xs = ap (λ m. bit_and h m) e ∙ masked (length xs) h power in
     ap (λ k. ring k (between h t) xs) (sym is)
 
 -- the places turned round, with more places after them
-pub held_grown : {X : Type 0} (h t mask n m : ℕ) (xs zs : List X) → (length xs ≡ 0) ⊎ IsPower (length xs) → mask ≡ length xs - 1 → between h t ≤ length xs → n ≡ between h t → n ≤ m → n < 2 ^ 64
+pub held_grown : {X : Type 0} (h t mask n m : ℕ) (xs zs : List X) → (length xs ≡ 0) ⊎ IsPower (length xs) → mask ≡ length xs - 1
+    → between h t ≤ length xs → n ≡ between h t → n ≤ m → n < 2 ^ 64
     → held 0 n (take m (drop (bit_and h mask) xs ++ take (bit_and h mask) xs) ++ zs) ≡ held h t xs
 held_grown h t mask n m xs zs power e fits count large few =
     let rs = drop (bit_and h mask) xs ++ take (bit_and h mask) xs in
     let within : n ≤ length rs = turned_long (bit_and h mask) n xs (omega arith) in
     let kept : n ≤ length (take m rs) = omega (arith, length-take m rs) in
-    held_first n (take m rs ++ zs) few ∙ take-append-le n (take m rs) zs kept ∙ take-take n m rs large ∙ ap (λ k. take k rs) count ∙ sym (held_turned h t mask xs power e fits)
+    held_first n (take m rs ++ zs) few ∙ take-append-le n (take m rs) zs kept ∙ take-take n m rs large ∙ ap (λ k. take k rs) count
+    ∙ sym (held_turned h t mask xs power e fits)
 
 -- these use those above at other rings
 module _ {X : Type 0} (N k n : ℕ) (xs : List X) (head : k < N) (count : n ≤ N) (places : length xs ≡ N) where
@@ -178,12 +185,14 @@ module _ {X : Type 0} where
       get_or-append_right (take i (remove xs at)) (drop i xs) i (i + 1) d (front xs at i (omega arith) (omega arith)) (omega arith)
       ∙ get_or-drop i xs (i + 1 - i) d ∙ ap (λ j. get_or xs j d) (omega arith)
 
-  pub closed_more : (N k n : ℕ) (ys xs : List X) (at i : ℕ) (x : X) → k < N → n ≤ N → length ys ≡ N → n ≡ length xs → ring k n ys ≡ closing xs at i → at ≤ i → i + 1 < n
+  pub closed_more : (N k n : ℕ) (ys xs : List X) (at i : ℕ) (x : X) → k < N → n ≤ N → length ys ≡ N → n ≡ length xs → ring k n ys ≡ closing xs at i
+      → at ≤ i → i + 1 < n
       → x ≡ get_or ys ((k + (i + 1)) % N) x → ring k n (set ys ((k + i) % N) x) ≡ closing xs at (i + 1)
   closed_more N k n ys xs at i x head count places long was behind within is =
       let is_next : x ≡ get_or xs (i + 1) x =
       is ∙ sym (get_or-ring N k n ys head count places (i + 1) x within) ∙ ap (λ zs. get_or zs (i + 1) x) was ∙ read xs at i x behind (omega arith) in
-      ring_set N k n ys head count places i x (omega arith) ∙ ap (λ zs. set zs i x) was ∙ ap (set (closing xs at i) i) is_next ∙ closing_more xs at i x behind (omega arith)
+      ring_set N k n ys head count places i x (omega arith) ∙ ap (λ zs. set zs i x) was ∙ ap (set (closing xs at i) i) is_next
+      ∙ closing_more xs at i x behind (omega arith)
 
   pub closed_all : (k m n : ℕ) (ys xs : List X) (at : ℕ) → m ≡ length xs → n + 1 ≡ m → ring k m ys ≡ closing xs at n → at < m → ring k n ys ≡ remove xs at
   closed_all k m n ys xs at long more was there =
@@ -191,8 +200,19 @@ module _ {X : Type 0} where
       ∙ take_at (take n (remove xs at)) (drop n xs) n (front xs at n (omega arith) (omega arith))
       ∙ take_all n (remove xs at) (omega (arith, length-remove xs at (omega arith)))
 
+-- HOW MANY WERE TAKEN OUT: a count in two parts
+gone_more : (more head : ℕ) → (more + head) % 2 ^ 64 < 2 ^ 63 → (more + head + 1) % 2 ^ 64 ≡ (more + head) % 2 ^ 64 + 1
+gone_more more head few = sym (mod-add-mod (more + head) (2 ^ 64) 1) ∙ mod-eq_of_lt (omega arith)
+
+pub gone_removed : (more head : ℕ) → (more + head) % 2 ^ 64 < 2 ^ 63 → ((more + 1) % 2 ^ 64 + head) % 2 ^ 64 ≡ (more + head) % 2 ^ 64 + 1
+gone_removed more head few = mod-add-mod (more + 1) (2 ^ 64) head ∙ ap (λ (n : ℕ). n % 2 ^ 64) (the_next more head) ∙ gone_more more head few
+  where
+    the_next : (a b : ℕ) → a + 1 + b ≡ a + b + 1
+    the_next a b = omega arith
+
 -- WHAT IS HELD
-module _ {X : Type 0} (h t : ℕ) (xs : List X) (power : IsPower (length xs)) (few : length xs ≤ 2 ^ 63) (begun : h < 2 ^ 64) (ended : t < 2 ^ 64) (fits : between h t ≤ length xs) where
+module _ {X : Type 0} (h t : ℕ) (xs : List X) (power : IsPower (length xs)) (few : length xs ≤ 2 ^ 63) (begun : h < 2 ^ 64) (ended : t < 2 ^ 64)
+    (fits : between h t ≤ length xs) where
   low : h % length xs < length xs
   low = mod-lt h (power_some _ power)
 

@@ -29,16 +29,22 @@ pub struct TokenQueue<A: Allocator> {
     head: usize,
     /// How many were put in.
     tail: usize,
+    /// What the count of all that were taken out is more than `head`.
+    more: usize,
 }
 
 impl<A: Allocator> Model for TokenQueue<A> {
-    ghost use Rattle.std.specs.Prelude.{length};
+    ghost use Rattle.std.specs.Prelude.{◌+◌, ◌%◌, ◌^◌, length};
     ghost use Rattle.token_queue.specs.Tokens.{Tokens};
     ghost use Rattle.token_queue.specs.Ring.{held, IsRing};
 
     ghost Value = { Tokens };
 
-    ghost view = { λ q. record { items = held q.head q.tail q.places.items; room = length q.places.items } };
+    ghost view = { λ q. record {
+      items = held q.head q.tail q.places.items;
+      room = length q.places.items;
+      gone = (q.more + q.head) % 2 ^ 64;
+    } };
 
     ghost invariant = { λ q. IsRing (length q.places.items) q.mask q.head q.tail };
 }
@@ -59,12 +65,14 @@ impl<A: Allocator> TokenQueue<A> {
     pub fn new(alloc: A) -> TokenQueue<A>
         ensures items { result.items ≡ [] }
         ensures room { result.room ≡ 0 }
+        ensures gone { result.gone ≡ 0 }
     {
         TokenQueue {
             places: Vec::new(alloc),
             mask: 0,
             head: 0,
             tail: 0,
+            more: 0,
         }
     }
 
@@ -74,6 +82,14 @@ impl<A: Allocator> TokenQueue<A> {
         ensures { result ≡ length self.now.items }
     {
         self.tail.wrapping_sub(self.head)
+    }
+
+    /// How many tokens were taken out, modulo 2 ^ 64.
+    #[inline(always)]
+    pub fn gone(&self) -> usize
+        ensures { result ≡ self.now.gone }
+    {
+        self.more.wrapping_add(self.head)
     }
 
     /// For how many more tokens there is room.
@@ -97,6 +113,7 @@ impl<A: Allocator> TokenQueue<A> {
     #[inline(always)]
     pub fn reserve(&mut self, tokens: usize) -> Result<(), AllocError>
         ensures items { self.new.items ≡ self.old.items }
+        ensures gone { self.new.gone ≡ self.old.gone }
         ensures room { OnOk result (length self.new.items + tokens ≤ self.new.room) }
         ensures enough { length self.old.items + tokens ≤ self.old.room → OnOk result (self.new ≡ self.old) }
         ensures doubled { OnOk result ((self.new ≡ self.old) ⊎ (2 * self.old.room ≤ self.new.room)) }
@@ -114,6 +131,7 @@ impl<A: Allocator> TokenQueue<A> {
     #[inline(never)]
     fn grow(&mut self, tokens: usize) -> Result<(), AllocError>
         ensures items { self.new.items ≡ self.old.items }
+        ensures gone { self.new.gone ≡ self.old.gone }
         ensures room { OnOk result (length self.new.items + tokens ≤ self.new.room) }
         ensures doubled { OnOk result (2 * self.old.room ≤ self.new.room) }
         ensures err { OnErr result (self.new ≡ self.old) }
@@ -127,6 +145,7 @@ impl<A: Allocator> TokenQueue<A> {
             .checked_next_power_of_two()
             .ok_or(AllocError)?;
         self.places.rotate_left(self.head & self.mask);
+        self.more = self.more.wrapping_add(self.head);
         self.head = 0;
         self.tail = count;
         self.places.resize(places, PackedToken::pack(FILLER))?;
@@ -141,6 +160,7 @@ impl<A: Allocator> TokenQueue<A> {
         ensures items { self.new.items ≡ self.old.items ++ token ∷ [] }
         ensures len { length self.new.items ≡ length self.old.items + 1 }
         ensures room { self.new.room ≡ self.old.room }
+        ensures gone { self.new.gone ≡ self.old.gone }
     {
         self.push_packed(PackedToken::pack(token));
     }
@@ -152,6 +172,7 @@ impl<A: Allocator> TokenQueue<A> {
         ensures items { self.new.items ≡ self.old.items ++ token ∷ [] }
         ensures len { length self.new.items ≡ length self.old.items + 1 }
         ensures room { self.new.room ≡ self.old.room }
+        ensures gone { self.new.gone ≡ self.old.gone }
     {
         let at = place(self.places.len(), self.mask, self.tail);
         self.places[at] = token;
@@ -183,6 +204,7 @@ impl<A: Allocator> TokenQueue<A> {
         ensures items { self.new.items ≡ remove self.old.items 0 }
         ensures len { length self.new.items + 1 ≡ length self.old.items }
         ensures room { self.new.room ≡ self.old.room }
+        ensures gone { self.old.gone < 2 ^ 63 → self.new.gone ≡ self.old.gone + 1 }
     {
         self.head = self.head.wrapping_add(1);
     }
@@ -194,6 +216,7 @@ impl<A: Allocator> TokenQueue<A> {
         ensures items { self.new.items ≡ remove self.old.items at }
         ensures len { length self.new.items + 1 ≡ length self.old.items }
         ensures room { self.new.room ≡ self.old.room }
+        ensures gone { self.old.gone < 2 ^ 63 → self.new.gone ≡ self.old.gone + 1 }
     {
         let places = self.places.len();
         let last = self.len() - 1;
@@ -202,5 +225,6 @@ impl<A: Allocator> TokenQueue<A> {
             self.places[place(places, self.mask, self.head.wrapping_add(before))] = next;
         }
         self.tail = self.tail.wrapping_sub(1);
+        self.more = self.more.wrapping_add(1);
     }
 }

@@ -75,11 +75,12 @@ impl<'m, A: Allocator> Contents<'m, A> {
         requires one { self.old.elements ≡ 1 }
         requires here { cell % self.old.elements ≡ self.old.element }
         requires there { at < length self.old.queue.items }
-        requires few { self.old.made < 2 ^ 63 }
+        requires few { self.old.queue.gone < 2 ^ 63 }
         requires address { token.now.to ≡ To.Fetch cell }
         requires own { OwnsCell (part_of self.old) cell }
         requires spare { length self.old.queue.items + 3 ≤ self.old.queue.room }
-        ensures did { result ≡ true → (p : Program) (before : List Token) → IsSoundLane p (held_in self.old) → IsNearToken (bounds p (shape_of self.old)) token.now → ActsAs p (held_in self.old) at token.now before Did (held_in self.new) before }
+        ensures did { result ≡ true → (p : Program) (before : List Token) → IsSoundLane p (held_in self.old)
+            → IsNearToken (bounds p (shape_of self.old)) token.now → ActsAs p (held_in self.old) at token.now before Did (held_in self.new) before }
         ensures not { result ≡ false → held_in self.new ≡ held_in self.old }
         ensures len { length self.new.queue.items ≤ length self.old.queue.items + 2 }
         ensures capacity { self.new.queue.room ≡ self.old.queue.room }
@@ -103,12 +104,13 @@ impl<'m, A: Allocator> Contents<'m, A> {
         requires one { self.old.elements ≡ 1 }
         requires here { cell % self.old.elements ≡ self.old.element }
         requires there { at < length self.old.queue.items }
-        requires few { self.old.made < 2 ^ 63 }
+        requires few { self.old.queue.gone < 2 ^ 63 }
         requires address { token.now.to ≡ To.Store cell value.now }
         requires own { OwnsCell (part_of self.old) cell }
         requires answered { self.old.answered.items ≡ [] }
         requires spare { length self.old.queue.items + 3 ≤ self.old.queue.room }
-        ensures did { result ≡ true → (p : Program) (before : List Token) → IsSoundLane p (held_in self.old) → IsNearToken (bounds p (shape_of self.old)) token.now → ActsAs p (held_in self.old) at token.now before Did (held_in self.new) before }
+        ensures did { result ≡ true → (p : Program) (before : List Token) → IsSoundLane p (held_in self.old)
+            → IsNearToken (bounds p (shape_of self.old)) token.now → ActsAs p (held_in self.old) at token.now before Did (held_in self.new) before }
         ensures not { result ≡ false → held_in self.new ≡ held_in self.old }
         ensures len { length self.new.queue.items ≤ length self.old.queue.items + 2 }
         ensures capacity { self.new.queue.room ≡ self.old.queue.room }
@@ -131,12 +133,13 @@ impl<'m, A: Allocator> Contents<'m, A> {
     fn grants(&mut self, at: usize, token: &PackedToken) -> bool
         requires one { self.old.elements ≡ 1 }
         requires there { at < length self.old.queue.items }
-        requires few { self.old.made < 2 ^ 63 }
+        requires few { self.old.queue.gone < 2 ^ 63 }
         requires address { token.now.to ≡ To.Manager }
         requires served { self.old.element ≡ 0 }
         requires manager { IsSome self.old.manager }
         requires spare { length self.old.queue.items + 3 ≤ self.old.queue.room }
-        ensures did { result ≡ true → (p : Program) (before : List Token) → IsSoundLane p (held_in self.old) → IsNearToken (bounds p (shape_of self.old)) token.now → ActsAs p (held_in self.old) at token.now before Did (held_in self.new) before }
+        ensures did { result ≡ true → (p : Program) (before : List Token) → IsSoundLane p (held_in self.old)
+            → IsNearToken (bounds p (shape_of self.old)) token.now → ActsAs p (held_in self.old) at token.now before Did (held_in self.new) before }
         ensures not { result ≡ false → held_in self.new ≡ held_in self.old }
         ensures len { length self.new.queue.items ≤ length self.old.queue.items + 2 }
         ensures capacity { self.new.queue.room ≡ self.old.queue.room }
@@ -156,12 +159,13 @@ impl<'m, A: Allocator> Contents<'m, A> {
     fn frees(&mut self, at: usize, _token: &PackedToken, frame: FrameId) -> bool
         requires one { self.old.elements ≡ 1 }
         requires there { at < length self.old.queue.items }
-        requires few { self.old.made < 2 ^ 63 }
+        requires few { self.old.queue.gone < 2 ^ 63 }
         requires address { _token.now.to ≡ To.Release frame }
         requires served { self.old.element ≡ 0 }
         requires manager { IsSome self.old.manager }
         requires spare { length self.old.queue.items + 3 ≤ self.old.queue.room }
-        ensures did { result ≡ true → (p : Program) (before : List Token) → IsSoundLane p (held_in self.old) → ActsAs p (held_in self.old) at _token.now before Did (held_in self.new) before }
+        ensures did { result ≡ true → (p : Program) (before : List Token) → IsSoundLane p (held_in self.old)
+            → ActsAs p (held_in self.old) at _token.now before Did (held_in self.new) before }
         ensures not { result ≡ false → held_in self.new ≡ held_in self.old }
         ensures len { length self.new.queue.items ≤ length self.old.queue.items + 2 }
         ensures capacity { self.new.queue.room ≡ self.old.queue.room }
@@ -179,7 +183,7 @@ impl<'m, A: Allocator> Contents<'m, A> {
         requires one { self.old.elements ≡ 1 }
         requires served { self.old.element ≡ 0 }
         requires there { at < length self.old.queue.items }
-        requires few { self.old.made < 2 ^ 63 }
+        requires few { self.old.queue.gone < 2 ^ 63 }
         requires spare { length self.old.queue.items + 3 ≤ self.old.queue.room }
         ensures held { held_in self.new ≡ queued (taken (held_in self.old) at) (Rule.token (Rule.back_to cont) word ∷ []) }
         ensures none { elsewhere (shape_of self.old) (Rule.token (Rule.back_to cont) word ∷ []) ≡ [] }
@@ -196,7 +200,7 @@ impl<'m, A: Allocator> Contents<'m, A> {
     #[inline(always)]
     fn is_taken(&mut self, at: usize) -> bool
         requires there { at < length self.old.queue.items }
-        requires few { self.old.made < 2 ^ 63 }
+        requires few { self.old.queue.gone < 2 ^ 63 }
         ensures held { held_in self.new ≡ taken (held_in self.old) at }
         ensures did { result ≡ true }
         ensures len { length self.new.queue.items ≤ length self.old.queue.items + 2 }

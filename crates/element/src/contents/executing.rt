@@ -206,7 +206,8 @@ impl<'m, A: Allocator> Contents<'m, A> {
         requires short { IsShort (C.width code.now) arrival.now.point.ip instr.now }
         requires pair { IsPair instr.now.op }
         requires spare { length self.old.queue.items + 3 ≤ self.old.queue.room }
-        ensures did { result ≡ true → (before : List Token) → ActsAs (C.program code.now) (held_in self.old) arrival.now.at arrival.now.token before Did (held_in self.new) before }
+        ensures did { result ≡ true → (before : List Token) → ActsAs (C.program code.now) (held_in self.old) arrival.now.at arrival.now.token before
+            Did (held_in self.new) before }
         ensures not { result ≡ false → held_in self.new ≡ held_in self.old }
         ensures len { length self.new.queue.items ≤ length self.old.queue.items + 2 }
         ensures capacity { self.new.queue.room ≡ self.old.queue.room }
@@ -241,7 +242,8 @@ impl<'m, A: Allocator> Contents<'m, A> {
         requires short { IsShort (C.width code.now) arrival.now.point.ip instr.now }
         requires lone { IsLone instr.now.op }
         requires spare { length self.old.queue.items + 3 ≤ self.old.queue.room }
-        ensures did { result ≡ true → (before : List Token) → ActsAs (C.program code.now) (held_in self.old) arrival.now.at arrival.now.token before Did (held_in self.new) before }
+        ensures did { result ≡ true → (before : List Token) → ActsAs (C.program code.now) (held_in self.old) arrival.now.at arrival.now.token before
+            Did (held_in self.new) before }
         ensures not { result ≡ false → held_in self.new ≡ held_in self.old }
         ensures len { length self.new.queue.items ≤ length self.old.queue.items + 2 }
         ensures capacity { self.new.queue.room ≡ self.old.queue.room }
@@ -270,7 +272,8 @@ impl<'m, A: Allocator> Contents<'m, A> {
         requires short { IsShort (C.width code.now) arrival.now.point.ip instr.now }
         requires lone { IsLone instr.now.op }
         requires spare { length self.old.queue.items + 3 ≤ self.old.queue.room }
-        ensures did { result ≡ true → (before : List Token) → ActsAs (C.program code.now) (held_in self.old) arrival.now.at arrival.now.token before Did (held_in self.new) before }
+        ensures did { result ≡ true → (before : List Token) → ActsAs (C.program code.now) (held_in self.old) arrival.now.at arrival.now.token before
+            Did (held_in self.new) before }
         ensures not { result ≡ false → held_in self.new ≡ held_in self.old }
         ensures len { length self.new.queue.items ≤ length self.old.queue.items + 2 }
         ensures capacity { self.new.queue.room ≡ self.old.queue.room }
@@ -299,7 +302,8 @@ impl<'m, A: Allocator> Contents<'m, A> {
         requires short { IsShort (C.width code.now) arrival.now.point.ip instr.now }
         requires credit { IsCredit instr.now.op }
         requires spare { length self.old.queue.items + 3 ≤ self.old.queue.room }
-        ensures did { result ≡ true → (before : List Token) → ActsAs (C.program code.now) (held_in self.old) arrival.now.at arrival.now.token before Did (held_in self.new) before }
+        ensures did { result ≡ true → (before : List Token) → ActsAs (C.program code.now) (held_in self.old) arrival.now.at arrival.now.token before
+            Did (held_in self.new) before }
         ensures not { result ≡ false → held_in self.new ≡ held_in self.old }
         ensures len { length self.new.queue.items ≤ length self.old.queue.items + 2 }
         ensures capacity { self.new.queue.room ≡ self.old.queue.room }
@@ -333,7 +337,8 @@ impl<'m, A: Allocator> Contents<'m, A> {
         requires short { IsShort (C.width code.now) arrival.now.point.ip instr.now }
         requires frame { instr.now.op ≡ Op.Frame }
         requires spare { length self.old.queue.items + 3 ≤ self.old.queue.room }
-        ensures did { result ≡ true → (before : List Token) → ActsAs (C.program code.now) (held_in self.old) arrival.now.at arrival.now.token before Did (held_in self.new) before }
+        ensures did { result ≡ true → (before : List Token) → ActsAs (C.program code.now) (held_in self.old) arrival.now.at arrival.now.token before
+            Did (held_in self.new) before }
         ensures not { result ≡ false → held_in self.new ≡ held_in self.old }
         ensures len { length self.new.queue.items ≤ length self.old.queue.items + 2 }
         ensures capacity { self.new.queue.room ≡ self.old.queue.room }
@@ -355,9 +360,10 @@ impl<'m, A: Allocator> Contents<'m, A> {
         requires some { 0 < self.old.elements }
         requires manager { token.to ≡ To.Manager }
         requires there { at < length self.old.queue.items }
-        requires few { self.old.made < 2 ^ 63 }
+        requires few { self.old.queue.gone < 2 ^ 63 }
         requires spare { length self.old.queue.items + 3 ≤ self.old.queue.room }
-        ensures did { result ≡ true → (before : List Token) → FiresAs (Some (token ∷ [])) (part_of self.old) (held_in self.old) at before Did (held_in self.new) before }
+        ensures did { result ≡ true → (before : List Token) → FiresAs (Some (token ∷ [])) (part_of self.old) (held_in self.old) at before Did
+            (held_in self.new) before }
         ensures not { result ≡ false → held_in self.new ≡ held_in self.old }
         ensures len { length self.new.queue.items ≤ length self.old.queue.items + 2 }
         ensures capacity { self.new.queue.room ≡ self.old.queue.room }
@@ -384,9 +390,10 @@ impl<'m, A: Allocator> Contents<'m, A> {
         requires some { self.old.element < self.old.elements }
         requires place { place < length (bank_states self.old.bank) }
         requires there { at < length self.old.queue.items }
-        requires few { self.old.made < 2 ^ 63 }
+        requires few { self.old.queue.gone < 2 ^ 63 }
         requires spare { length self.old.queue.items + 3 ≤ self.old.queue.room }
-        ensures did { result ≡ true → (before : List Token) → FiresAs (Some (token ∷ [])) (with_state (part_of self.old) place held) (held_in self.old) at before Did (held_in self.new) before }
+        ensures did { result ≡ true → (before : List Token) → FiresAs (Some (token ∷ [])) (with_state (part_of self.old) place held)
+            (held_in self.old) at before Did (held_in self.new) before }
         ensures not { result ≡ false → held_in self.new ≡ held_in self.old }
         ensures len { length self.new.queue.items ≤ length self.old.queue.items + 2 }
         ensures capacity { self.new.queue.room ≡ self.old.queue.room }
@@ -405,7 +412,7 @@ impl<'m, A: Allocator> Contents<'m, A> {
     fn wait(&mut self, at: usize, place: usize, held: Slot) -> bool
         requires place { place < length (bank_states self.old.bank) }
         requires there { at < length self.old.queue.items }
-        requires few { self.old.made < 2 ^ 63 }
+        requires few { self.old.queue.gone < 2 ^ 63 }
         ensures held { held_in self.new ≡ taken (with_part (held_in self.old) (with_state (part_of self.old) place held)) at }
         ensures did { result ≡ true }
         ensures len { length self.new.queue.items ≤ length self.old.queue.items + 2 }
@@ -433,10 +440,12 @@ impl<'m, A: Allocator> Contents<'m, A> {
         requires address { (q : Port) × (arrival.now.token.to ≡ To.Instr arrival.now.point.frame arrival.now.point.ip q) }
         requires own { arrival.now.point.frame % self.old.elements ≡ self.old.element }
         requires there { arrival.now.at < length self.old.queue.items }
-        requires few { self.old.made < 2 ^ 63 }
+        requires few { self.old.queue.gone < 2 ^ 63 }
         requires room { HasRoomInWord matched.now.left }
         requires spare { length self.old.queue.items + 3 ≤ self.old.queue.room }
-        ensures did { result ≡ true → (before : List Token) → FiresAs (fire_two (C.program code.now) (point_of arrival.now.point) (instr_of instr.now) instr.now.op matched.now.left matched.now.right) (with_state (part_of self.old) place Empty) (held_in self.old) arrival.now.at before Did (held_in self.new) before }
+        ensures did { result ≡ true → (before : List Token) → FiresAs (fire_two (C.program code.now) (point_of arrival.now.point) (instr_of instr.now)
+            instr.now.op matched.now.left matched.now.right) (with_state (part_of self.old) place Empty) (held_in self.old) arrival.now.at before Did
+            (held_in self.new) before }
         ensures not { result ≡ false → held_in self.new ≡ held_in self.old }
         ensures len { length self.new.queue.items ≤ length self.old.queue.items + 2 }
         ensures capacity { self.new.queue.room ≡ self.old.queue.room }
@@ -478,9 +487,10 @@ impl<'m, A: Allocator> Contents<'m, A> {
         requires own { arrival.now.point.frame % self.old.elements ≡ self.old.element }
         requires place { IfSome cleared (λ place. place < length (bank_states self.old.bank)) }
         requires there { arrival.now.at < length self.old.queue.items }
-        requires few { self.old.made < 2 ^ 63 }
+        requires few { self.old.queue.gone < 2 ^ 63 }
         requires spare { length self.old.queue.items + 3 ≤ self.old.queue.room }
-        ensures did { result ≡ true → (before : List Token) → FiresAs (Some (passed_on (point_of arrival.now.point) passed.now)) (with_place (part_of self.old) cleared Empty) (held_in self.old) arrival.now.at before Did (held_in self.new) before }
+        ensures did { result ≡ true → (before : List Token) → FiresAs (Some (passed_on (point_of arrival.now.point) passed.now))
+            (with_place (part_of self.old) cleared Empty) (held_in self.old) arrival.now.at before Did (held_in self.new) before }
         ensures not { result ≡ false → held_in self.new ≡ held_in self.old }
         ensures len { length self.new.queue.items ≤ length self.old.queue.items + 2 }
         ensures capacity { self.new.queue.room ≡ self.old.queue.room }
@@ -508,9 +518,10 @@ impl<'m, A: Allocator> Contents<'m, A> {
         requires own { arrival.now.point.frame % self.old.elements ≡ self.old.element }
         requires place { IfSome cleared (λ place. place < length (bank_states self.old.bank)) }
         requires there { arrival.now.at < length self.old.queue.items }
-        requires few { self.old.made < 2 ^ 63 }
+        requires few { self.old.queue.gone < 2 ^ 63 }
         requires spare { length self.old.queue.items + 3 ≤ self.old.queue.room }
-        ensures did { result ≡ true → (before : List Token) → FiresAs (Some (left_on (point_of arrival.now.point) leaving)) (with_place (part_of self.old) cleared Empty) (held_in self.old) arrival.now.at before Did (held_in self.new) before }
+        ensures did { result ≡ true → (before : List Token) → FiresAs (Some (left_on (point_of arrival.now.point) leaving))
+            (with_place (part_of self.old) cleared Empty) (held_in self.old) arrival.now.at before Did (held_in self.new) before }
         ensures not { result ≡ false → held_in self.new ≡ held_in self.old }
         ensures len { length self.new.queue.items ≤ length self.old.queue.items + 2 }
         ensures capacity { self.new.queue.room ≡ self.old.queue.room }
@@ -541,9 +552,10 @@ impl<'m, A: Allocator> Contents<'m, A> {
         requires some { self.old.element < self.old.elements }
         requires place { place < length (bank_states self.old.bank) }
         requires there { at < length self.old.queue.items }
-        requires few { self.old.made < 2 ^ 63 }
+        requires few { self.old.queue.gone < 2 ^ 63 }
         requires spare { length self.old.queue.items + 3 ≤ self.old.queue.room }
-        ensures did { result ≡ true → (before : List Token) → FiresAs (Some (Rule.token (To.Release frame) Rule.signal ∷ after ∷ [])) (with_state (part_of self.old) place Empty) (held_in self.old) at before Did (held_in self.new) before }
+        ensures did { result ≡ true → (before : List Token) → FiresAs (Some (Rule.token (To.Release frame) Rule.signal ∷ after ∷ []))
+            (with_state (part_of self.old) place Empty) (held_in self.old) at before Did (held_in self.new) before }
         ensures not { result ≡ false → held_in self.new ≡ held_in self.old }
         ensures len { length self.new.queue.items ≤ length self.old.queue.items + 2 }
         ensures capacity { self.new.queue.room ≡ self.old.queue.room }

@@ -24,10 +24,11 @@ pub enum HostChange {
 impl<'m, A: Allocator> Contents<'m, A> {
     pub(super) fn at_host(&mut self, at: usize, token: Token, port: u32) -> Stepped
         requires there { at < length self.old.queue.items }
-        requires few { self.old.made < 2 ^ 63 }
+        requires few { self.old.queue.gone < 2 ^ 63 }
         requires address { token.to ≡ To.Host port }
         requires served { self.old.element ≡ 0 }
-        ensures { (p : Program) (before : List Token) → IsSoundLane p (held_in self.old) → ActsAs p (held_in self.old) at token before result (held_in self.new) before }
+        ensures { (p : Program) (before : List Token) → IsSoundLane p (held_in self.old) → ActsAs p (held_in self.old) at token before result
+            (held_in self.new) before }
     {
         match self.host_change(port, token.word) {
             Ok(change) => {

@@ -32,10 +32,11 @@ impl<'m, A: Allocator> Contents<'m, A> {
         requires some { 0 < self.old.elements }
         requires here { cell % self.old.elements ≡ self.old.element }
         requires there { at < length self.old.queue.items }
-        requires few { self.old.made < 2 ^ 63 }
+        requires few { self.old.queue.gone < 2 ^ 63 }
         requires address { token.to ≡ To.Fetch cell }
         requires own { OwnsCell (part_of self.old) cell }
-        ensures { (p : Program) → IsSoundLane p (held_in self.old) → IsNearToken (bounds p (shape_of self.old)) token → ActsAs p (held_in self.old) at token sent.old.items result (held_in self.new) sent.new.items }
+        ensures { (p : Program) → IsSoundLane p (held_in self.old) → IsNearToken (bounds p (shape_of self.old)) token
+            → ActsAs p (held_in self.old) at token sent.old.items result (held_in self.new) sent.new.items }
     {
         let Word::Back(cont) = token.word else {
             return Stepped::Stuck { rule: 4 };
@@ -71,11 +72,12 @@ impl<'m, A: Allocator> Contents<'m, A> {
         requires some { 0 < self.old.elements }
         requires here { cell % self.old.elements ≡ self.old.element }
         requires there { at < length self.old.queue.items }
-        requires few { self.old.made < 2 ^ 63 }
+        requires few { self.old.queue.gone < 2 ^ 63 }
         requires address { token.to ≡ To.Store cell value.now }
         requires own { OwnsCell (part_of self.old) cell }
         requires answered { self.old.answered.items ≡ [] }
-        ensures { (p : Program) → IsSoundLane p (held_in self.old) → IsNearToken (bounds p (shape_of self.old)) token → ActsAs p (held_in self.old) at token sent.old.items result (held_in self.new) sent.new.items }
+        ensures { (p : Program) → IsSoundLane p (held_in self.old) → IsNearToken (bounds p (shape_of self.old)) token
+            → ActsAs p (held_in self.old) at token sent.old.items result (held_in self.new) sent.new.items }
     {
         let Word::Back(cont) = token.word else {
             return Stepped::Stuck { rule: 4 };

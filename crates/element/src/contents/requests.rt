@@ -25,11 +25,12 @@ impl<'m, A: Allocator> Contents<'m, A> {
     ) -> Stepped
         requires some { 0 < self.old.elements }
         requires there { at < length self.old.queue.items }
-        requires few { self.old.made < 2 ^ 63 }
+        requires few { self.old.queue.gone < 2 ^ 63 }
         requires address { token.to ≡ To.Manager }
         requires served { self.old.element ≡ 0 }
         requires manager { IsSome self.old.manager }
-        ensures { (p : Program) → IsSoundLane p (held_in self.old) → IsNearToken (bounds p (shape_of self.old)) token → ActsAs p (held_in self.old) at token sent.old.items result (held_in self.new) sent.new.items }
+        ensures { (p : Program) → IsSoundLane p (held_in self.old) → IsNearToken (bounds p (shape_of self.old)) token
+            → ActsAs p (held_in self.old) at token sent.old.items result (held_in self.new) sent.new.items }
     {
         let Word::Back(cont) = token.word else {
             return Stepped::Stuck { rule: 4 };
@@ -60,11 +61,12 @@ impl<'m, A: Allocator> Contents<'m, A> {
     ) -> Stepped
         requires some { 0 < self.old.elements }
         requires there { at < length self.old.queue.items }
-        requires few { self.old.made < 2 ^ 63 }
+        requires few { self.old.queue.gone < 2 ^ 63 }
         requires address { token.to ≡ To.Release frame }
         requires served { self.old.element ≡ 0 }
         requires manager { IsSome self.old.manager }
-        ensures { (p : Program) → IsSoundLane p (held_in self.old) → ActsAs p (held_in self.old) at token sent.old.items result (held_in self.new) sent.new.items }
+        ensures { (p : Program) → IsSoundLane p (held_in self.old) → ActsAs p (held_in self.old) at token sent.old.items result (held_in self.new)
+            sent.new.items }
     {
         if self.make_room(1, sent).is_err() {
             return Stepped::Memory;

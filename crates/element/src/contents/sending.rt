@@ -56,7 +56,7 @@ impl<'m, A: Allocator> Contents<'m, A> {
     #[inline(always)]
     pub(super) fn take(&mut self, at: usize)
         requires there { at < length self.old.queue.items }
-        requires few { self.old.made < 2 ^ 63 }
+        requires few { self.old.queue.gone < 2 ^ 63 }
         ensures held { held_in self.new ≡ taken (held_in self.old) at }
         ensures len { length self.new.queue.items + 1 ≡ length self.old.queue.items }
         ensures capacity { self.new.queue.room ≡ self.old.queue.room }
@@ -66,7 +66,6 @@ impl<'m, A: Allocator> Contents<'m, A> {
         } else {
             self.queue.remove(at);
         }
-        self.made += 1;
     }
 
     // Whether this element takes tokens with this address.

@@ -119,7 +119,8 @@ impl<'m, A: Allocator> Contents<'m, A> {
         requires bank { IsBank self.old.bank }
         requires frame { frame < self.old.elements * self.old.bank.frames }
         requires slot { instr.now.slot < self.old.bank.width }
-        ensures held { held_in self.new ≡ with_part (held_in self.old) (with_state_in (part_of self.old) frame (slot_of (instr_of instr.now) instr.now.op) state) }
+        ensures held { held_in self.new ≡ with_part (held_in self.old)
+            (with_state_in (part_of self.old) frame (slot_of (instr_of instr.now) instr.now.op) state) }
         ensures queue { self.new.queue ≡ self.old.queue }
     {
         if instr.op.uses_slot() {

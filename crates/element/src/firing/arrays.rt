@@ -57,7 +57,8 @@ pub(super) fn asks_for<C: Instructions>(
     made: &mut Made,
 )
     requires short { IsShort (C.width code.now) point.ip instr.now }
-    ensures { tokens_of (point_of point) made.new ≡ Rule.asks_for (C.program code.now) (point_of point) (instr_of instr.now) element.array (Values.index_in (Rule.array_len (C.program code.now) element.array) element.index (origin_in instr.now.origin)) }
+    ensures { tokens_of (point_of point) made.new ≡ Rule.asks_for (C.program code.now) (point_of point) (instr_of instr.now) element.array
+        (Values.index_in (Rule.array_len (C.program code.now) element.array) element.index (origin_in instr.now.origin)) }
 {
     let cells = code.array(element.array);
     match index_in(cells.len, element.index, instr.origin()) {
@@ -85,7 +86,8 @@ pub(super) fn puts<C: Instructions>(
     made: &mut Made,
 )
     requires short { IsShort (C.width code.now) point.ip instr.now }
-    ensures { tokens_of (point_of point) made.new ≡ Rule.puts (C.program code.now) (point_of point) (instr_of instr.now) element.array value (Values.index_in (Rule.array_len (C.program code.now) element.array) element.index (origin_in instr.now.origin)) }
+    ensures { tokens_of (point_of point) made.new ≡ Rule.puts (C.program code.now) (point_of point) (instr_of instr.now) element.array value
+        (Values.index_in (Rule.array_len (C.program code.now) element.array) element.index (origin_in instr.now.origin)) }
 {
     let cells = code.array(element.array);
     match index_in(cells.len, element.index, instr.origin()) {

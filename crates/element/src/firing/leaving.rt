@@ -46,7 +46,8 @@ pub trait Leaves {
         word: &PackedWord,
     ) -> Option<Leaving>
         requires short { IsShort (C.width code.now) point.ip instr.now }
-        ensures { IfSome result (λ x. Rule.fire_one (C.program code.now) (point_of point) (instr_of instr.now) instr.now.op word.now ≡ Some (left_on (point_of point) x)) };
+        ensures { IfSome result (λ x. Rule.fire_one (C.program code.now) (point_of point) (instr_of instr.now) instr.now.op word.now
+            ≡ Some (left_on (point_of point) x)) };
 }
 
 /// `link`.

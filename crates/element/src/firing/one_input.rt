@@ -28,7 +28,8 @@ pub(super) fn fire_one<C: Instructions>(
     made: &mut Made,
 ) -> Firing
     requires short { IsShort (C.width code.now) point.ip instr.now }
-    ensures { fired_by result (tokens_of (point_of point) made.new) ≡ Rule.fire_one (C.program code.now) (point_of point) (instr_of instr.now) instr.now.op word }
+    ensures { fired_by result (tokens_of (point_of point) made.new) ≡ Rule.fire_one (C.program code.now) (point_of point) (instr_of instr.now)
+        instr.now.op word }
 {
     let value = match (instr.op, word) {
         (Op::Apply1 { op }, Word::Val(value)) => apply1(op, value),
@@ -79,7 +80,8 @@ pub fn frame_request(point: Point, instr: &Instruction) -> Token
 fn link(first: u32, frame: FrameId, point: Point, instr: &Instruction, made: &mut Made)
     requires near { point.ip < 2 ^ 30 }
     requires short { IfSome (dest_in instr.now.first) (λ d. d.ahead < 2 ^ 30) }
-    ensures { tokens_of (point_of point) made.new ≡ Rule.token (To.Instr frame first Left) (Word.Back (Rule.landing_at (point_of point) (instr_of instr.now).firsts)) ∷ Rule.to_each (point_of point) Rule.signal (instr_of instr.now).seconds }
+    ensures { tokens_of (point_of point) made.new ≡ Rule.token (To.Instr frame first Left)
+        (Word.Back (Rule.landing_at (point_of point) (instr_of instr.now).firsts)) ∷ Rule.to_each (point_of point) Rule.signal (instr_of instr.now).seconds }
 {
     let token = Token {
         to: To::Instr {

@@ -26,7 +26,8 @@ use tags::value::Value;
 pub trait Pair {
     /// A word that it passes on to its own destinations.
     fn passes(instr: &Instruction, left: &PackedWord, right: &PackedWord) -> Option<Passed>
-        ensures { IfSome result (λ x. (p : Program) (s : Rule.Point) → Rule.fire_two p s (instr_of instr.now) instr.now.op left.now right.now ≡ Some (passed_on s x)) };
+        ensures { IfSome result (λ x. (p : Program) (s : Rule.Point) → Rule.fire_two p s (instr_of instr.now) instr.now.op left.now right.now
+            ≡ Some (passed_on s x)) };
 
     /// A token that it sends away, and signals.
     fn leave<C: Instructions>(
@@ -38,7 +39,8 @@ pub trait Pair {
     ) -> Option<Leaving>
         requires short { IsShort (C.width code.now) point.ip instr.now }
         requires room { HasRoomInWord left.now }
-        ensures { IfSome result (λ x. Rule.fire_two (C.program code.now) (point_of point) (instr_of instr.now) instr.now.op left.now right.now ≡ Some (left_on (point_of point) x)) };
+        ensures { IfSome result (λ x. Rule.fire_two (C.program code.now) (point_of point) (instr_of instr.now) instr.now.op left.now right.now
+            ≡ Some (left_on (point_of point) x)) };
 
     /// The token that it sends after the one that releases its frame.
     #[inline(always)]
@@ -49,7 +51,8 @@ pub trait Pair {
         right: &PackedWord,
     ) -> Option<PackedToken>
         requires room { HasRoomInWord left.now }
-        ensures { IfSome result (λ t. (p : Program) → Rule.fire_two p (point_of point) (instr_of instr.now) instr.now.op left.now right.now ≡ Some (Rule.token (To.Release point.frame) Rule.signal ∷ t ∷ [])) }
+        ensures { IfSome result (λ t. (p : Program) → Rule.fire_two p (point_of point) (instr_of instr.now) instr.now.op left.now right.now
+            ≡ Some (Rule.token (To.Release point.frame) Rule.signal ∷ t ∷ [])) }
     {
         None
     }

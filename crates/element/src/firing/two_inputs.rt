@@ -78,7 +78,8 @@ pub(super) fn meets<C: Instructions>(
     requires short { IsShort (C.width code.now) point.ip instr.now }
     requires slot_room { HasRoomInSlot slot }
     requires word_room { HasRoomInWord operand.word }
-    ensures { outcome_by result (tokens_of (point_of point) made.new) ≡ Rule.meets (C.program code.now) (point_of point) (instr_of instr.now) slot operand.port operand.word }
+    ensures { outcome_by result (tokens_of (point_of point) made.new) ≡ Rule.meets (C.program code.now) (point_of point) (instr_of instr.now) slot
+        operand.port operand.word }
 {
     let word = operand.word;
     match (slot, operand.port) {
@@ -108,7 +109,8 @@ pub fn fire_two<C: Instructions>(
 ) -> Firing
     requires short { IsShort (C.width code.now) point.ip instr.now }
     requires room { HasRoomInWord left }
-    ensures { fired_by result (tokens_of (point_of point) made.new) ≡ Rule.fire_two (C.program code.now) (point_of point) (instr_of instr.now) instr.now.op left right }
+    ensures { fired_by result (tokens_of (point_of point) made.new) ≡ Rule.fire_two (C.program code.now) (point_of point) (instr_of instr.now)
+        instr.now.op left right }
 {
     match (instr.op, left, right) {
         (Op::Apply2 { op }, Word::Val(x), Word::Val(y)) => {
@@ -155,7 +157,8 @@ pub fn fire_two<C: Instructions>(
 // A switch sends its left word to one side.
 #[inline(always)]
 fn choose(holds: bool, point: Point, word: Word, instr: &Instruction, made: &mut Made)
-    ensures { tokens_of (point_of point) made.new ≡ Rule.to_each (point_of point) word (if holds then (instr_of instr.now).firsts else (instr_of instr.now).seconds) }
+    ensures { tokens_of (point_of point) made.new
+        ≡ Rule.to_each (point_of point) word (if holds then (instr_of instr.now).firsts else (instr_of instr.now).seconds) }
 {
     let side = if holds { instr.first() } else { instr.second() };
     made.released = None;

@@ -16,7 +16,9 @@ overflow_sub-events g c =
     let t = c.take_turn-halt.ensures.turns in
     let first = c.made-first.ensures in
     let last = c.made.ensures in
-    let more = more_made {C = g.row.C.Denot} {A = g.row.A.Denot} {L = g.row.L.Denot} g.L.Log.KEEPS_EVENTS (setting_in g.C.Instructions.program g.C.Instructions.width c.args.shape.now) c.args.mesh.now run.0 c.args.runner.now run.1 c.requires.clear c.take_turn-halt.new.lane c.take_turn-halt.new.sent t.0 t.1 in
+    let more = more_made {C = g.row.C.Denot} {A = g.row.A.Denot} {L = g.row.L.Denot} g.L.Log.KEEPS_EVENTS
+    (setting_in g.C.Instructions.program g.C.Instructions.width c.args.shape.now) c.args.mesh.now run.0 c.args.runner.now run.1 c.requires.clear
+    c.take_turn-halt.new.lane c.take_turn-halt.new.sent t.0 t.1 in
     omega arith
 
 pub commit-requires : goal.commit-requires
@@ -26,8 +28,13 @@ commit-requires g c =
       made = (
         run.0,
         held_of c.args.runner.now.lane,
-        has_made {C = g.row.C.Denot} {A = g.row.A.Denot} {L = g.row.L.Denot} g.L.Log.KEEPS_EVENTS (setting_in g.C.Instructions.program g.C.Instructions.width c.args.shape.now) c.args.mesh.now run.0 c.args.runner.now run.1 c.requires.clear c.take_turn-halt.new.lane c.take_turn-halt.new.sent c.take_turn-halt.new.log t.0 c.len-before.result (c.made.result - c.made-first.result)
-            t.1 c.take_turn-halt.ensures.sound c.take_turn-halt.ensures.fixed (c.len-before.ensures ∙ ap (λ (q : List Token). length q) c.queue.ensures) (ap (λ (n : ℕ). n - c.made-first.result) c.made.ensures ∙ ap (λ (n : ℕ). c.take_turn-halt.new.lane.held.made - n) c.made-first.ensures) t.2,
+        has_made {C = g.row.C.Denot} {A = g.row.A.Denot} {L = g.row.L.Denot} g.L.Log.KEEPS_EVENTS
+            (setting_in g.C.Instructions.program g.C.Instructions.width c.args.shape.now) c.args.mesh.now run.0 c.args.runner.now run.1
+            c.requires.clear c.take_turn-halt.new.lane c.take_turn-halt.new.sent c.take_turn-halt.new.log t.0 c.len-before.result
+            (c.made.result - c.made-first.result)
+            t.1 c.take_turn-halt.ensures.sound c.take_turn-halt.ensures.fixed (c.len-before.ensures
+            ∙ ap (λ (q : List Token). length q) c.queue.ensures) (ap (λ (n : ℕ). n - c.made-first.result) c.made.ensures
+            ∙ ap (λ (n : ℕ). c.take_turn-halt.new.lane.held.made - n) c.made-first.ensures) t.2,
       );
     }
 
@@ -35,8 +42,11 @@ pub returns-clause-keeps : goal.returns-clause-keeps
 returns-clause-keeps g c = λ start run.
     let t = c.take_turn-halt.ensures.turns in
     c.in_ok-commit.ensures.keeps start (held_of c.args.runner.now.lane)
-    (has_made {C = g.row.C.Denot} {A = g.row.A.Denot} {L = g.row.L.Denot} g.L.Log.KEEPS_EVENTS (setting_in g.C.Instructions.program g.C.Instructions.width c.args.shape.now) c.args.mesh.now start c.args.runner.now run c.requires.clear c.take_turn-halt.new.lane c.take_turn-halt.new.sent c.take_turn-halt.new.log t.0 c.len-before.result (c.made.result - c.made-first.result)
-    t.1 c.take_turn-halt.ensures.sound c.take_turn-halt.ensures.fixed (c.len-before.ensures ∙ ap (λ (q : List Token). length q) c.queue.ensures) (ap (λ (n : ℕ). n - c.made-first.result) c.made.ensures ∙ ap (λ (n : ℕ). c.take_turn-halt.new.lane.held.made - n) c.made-first.ensures) t.2)
+    (has_made {C = g.row.C.Denot} {A = g.row.A.Denot} {L = g.row.L.Denot} g.L.Log.KEEPS_EVENTS
+    (setting_in g.C.Instructions.program g.C.Instructions.width c.args.shape.now) c.args.mesh.now start c.args.runner.now run c.requires.clear
+    c.take_turn-halt.new.lane c.take_turn-halt.new.sent c.take_turn-halt.new.log t.0 c.len-before.result (c.made.result - c.made-first.result)
+    t.1 c.take_turn-halt.ensures.sound c.take_turn-halt.ensures.fixed (c.len-before.ensures ∙ ap (λ (q : List Token). length q) c.queue.ensures)
+    (ap (λ (n : ℕ). n - c.made-first.result) c.made.ensures ∙ ap (λ (n : ℕ). c.take_turn-halt.new.lane.held.made - n) c.made-first.ensures) t.2)
 
 pub returns-clause-halts : goal.returns-clause-halts
 returns-clause-halts g c =

@@ -9,7 +9,8 @@ returns-in_err-push-clause-err g c =
     let e = c.element_for-to.ensures in
     let n = c.requires.count in
     let low : c.element_for-to.result < length c.args.unposted.now.items = omega (arith, below, e, n) in
-    on_err c.from_residual.result _ (keeps_as_many c.args.elements c.args.unposted.now.items c.element_for-to.result c.index_mut.result.now c.push.new.self n low c.index_mut.ensures.value c.in_err-push.ensures.items)
+    on_err c.from_residual.result _ (keeps_as_many c.args.elements c.args.unposted.now.items c.element_for-to.result c.index_mut.result.now
+    c.push.new.self n low c.index_mut.ensures.value c.in_err-push.ensures.items)
 
 pub returns-clause-ok : goal.returns-clause-ok
 returns-clause-ok g c =
@@ -17,4 +18,5 @@ returns-clause-ok g c =
     let e = c.element_for-to.ensures in
     let n = c.requires.count in
     let low : c.element_for-to.result < length c.args.unposted.now.items = omega (arith, below, e, n) in
-    keeps_more c.args.elements c.args.unposted.now.items c.element_for-to.result c.index_mut.result.now c.push.new.self c.args.token n low c.index_mut.ensures.value c.in_ok-push.ensures.items (sym e)
+    keeps_more c.args.elements c.args.unposted.now.items c.element_for-to.result c.index_mut.result.now c.push.new.self c.args.token n low
+    c.index_mut.ensures.value c.in_ok-push.ensures.items (sym e)

@@ -5,28 +5,37 @@ use Rattle.machine.proofs.bundling.post_bundle.Goals as goal
 
 pub post-requires-clause-held : goal.post-requires-clause-held
 post-requires-clause-held g c =
-    let count = kept_count {C = g.row.C.Denot} {A = g.row.A.Denot} {L = g.row.L.Denot} g.L.Log.KEEPS_EVENTS (setting_in g.C.Instructions.program g.C.Instructions.width c.args.shape.now) c.args.mesh.now c.args.runner.now c.requires.runs in
+    let count = kept_count {C = g.row.C.Denot} {A = g.row.A.Denot} {L = g.row.L.Denot} g.L.Log.KEEPS_EVENTS
+    (setting_in g.C.Instructions.program g.C.Instructions.width c.args.shape.now) c.args.mesh.now c.args.runner.now c.requires.runs in
     let to = c.requires.to in
     let low : c.args.to < length c.args.runner.now.unposted.items = omega (arith, count, to) in
     let value = subst (λ v. v ≡ get_or c.args.runner.now.unposted.items c.args.to v) (sym c.replace-bundle.ensures.value) c.index_mut.ensures.value in
     let none = ap (λ v. v.items) c.replace-bundle.ensures.after ∙ c.requires.empty in
-    may_post {A = g.row.A.Denot} {C = g.row.C.Denot} {L = g.row.L.Denot} g.L.Log.KEEPS_EVENTS (setting_in g.C.Instructions.program g.C.Instructions.width c.args.shape.now) c.args.mesh.now c.args.runner.now c.args.to c.replace-bundle.result c.replace-bundle.new.dest low value none c.requires.runs
+    may_post {A = g.row.A.Denot} {C = g.row.C.Denot} {L = g.row.L.Denot} g.L.Log.KEEPS_EVENTS
+    (setting_in g.C.Instructions.program g.C.Instructions.width c.args.shape.now) c.args.mesh.now c.args.runner.now c.args.to
+    c.replace-bundle.result c.replace-bundle.new.dest low value none c.requires.runs
 
 pub returns-in-Err-clause-keeps : goal.returns-in-Err-clause-keeps
 returns-in-Err-clause-keeps g c =
-    let count = kept_count {C = g.row.C.Denot} {A = g.row.A.Denot} {L = g.row.L.Denot} g.L.Log.KEEPS_EVENTS (setting_in g.C.Instructions.program g.C.Instructions.width c.args.shape.now) c.args.mesh.now c.args.runner.now c.requires.runs in
+    let count = kept_count {C = g.row.C.Denot} {A = g.row.A.Denot} {L = g.row.L.Denot} g.L.Log.KEEPS_EVENTS
+    (setting_in g.C.Instructions.program g.C.Instructions.width c.args.shape.now) c.args.mesh.now c.args.runner.now c.requires.runs in
     let to = c.requires.to in
     let low : c.args.to < length c.args.runner.now.unposted.items = omega (arith, count, to) in
     let value = subst (λ v. v ≡ get_or c.args.runner.now.unposted.items c.args.to v) (sym c.replace-bundle.ensures.value) c.index_mut.ensures.value in
     let none = ap (λ v. v.items) c.replace-bundle.ensures.after ∙ c.requires.empty in
     let e = c.in-Err.ensures.err in
-    keeps_refused {A = g.row.A.Denot} {C = g.row.C.Denot} {L = g.row.L.Denot} g.L.Log.KEEPS_EVENTS (setting_in g.C.Instructions.program g.C.Instructions.width c.args.shape.now) c.args.mesh.now c.args.runner.now c.args.to c.replace-bundle.result c.replace-bundle.new.dest low value none _ c.in-Err.back c.post.new.seat count refl e.0 e.1
+    keeps_refused {A = g.row.A.Denot} {C = g.row.C.Denot} {L = g.row.L.Denot} g.L.Log.KEEPS_EVENTS
+    (setting_in g.C.Instructions.program g.C.Instructions.width c.args.shape.now) c.args.mesh.now c.args.runner.now c.args.to
+    c.replace-bundle.result c.replace-bundle.new.dest low value none _ c.in-Err.back c.post.new.seat count refl e.0 e.1
 
 pub returns-in_default-clause-keeps : goal.returns-in_default-clause-keeps
 returns-in_default-clause-keeps g c =
-    let count = kept_count {C = g.row.C.Denot} {A = g.row.A.Denot} {L = g.row.L.Denot} g.L.Log.KEEPS_EVENTS (setting_in g.C.Instructions.program g.C.Instructions.width c.args.shape.now) c.args.mesh.now c.args.runner.now c.requires.runs in
+    let count = kept_count {C = g.row.C.Denot} {A = g.row.A.Denot} {L = g.row.L.Denot} g.L.Log.KEEPS_EVENTS
+    (setting_in g.C.Instructions.program g.C.Instructions.width c.args.shape.now) c.args.mesh.now c.args.runner.now c.requires.runs in
     let to = c.requires.to in
     let low : c.args.to < length c.args.runner.now.unposted.items = omega (arith, count, to) in
     let value = subst (λ v. v ≡ get_or c.args.runner.now.unposted.items c.args.to v) (sym c.replace-bundle.ensures.value) c.index_mut.ensures.value in
     let none = ap (λ v. v.items) c.replace-bundle.ensures.after ∙ c.requires.empty in
-    keeps_posted {A = g.row.A.Denot} {C = g.row.C.Denot} {L = g.row.L.Denot} g.L.Log.KEEPS_EVENTS (setting_in g.C.Instructions.program g.C.Instructions.width c.args.shape.now) c.args.mesh.now c.args.runner.now c.args.to c.replace-bundle.result c.replace-bundle.new.dest low value none _ c.post.new.seat refl to c.in_default.ensures.ok
+    keeps_posted {A = g.row.A.Denot} {C = g.row.C.Denot} {L = g.row.L.Denot} g.L.Log.KEEPS_EVENTS
+    (setting_in g.C.Instructions.program g.C.Instructions.width c.args.shape.now) c.args.mesh.now c.args.runner.now c.args.to
+    c.replace-bundle.result c.replace-bundle.new.dest low value none _ c.post.new.seat refl to c.in_default.ensures.ok

@@ -17,7 +17,8 @@ pub returns-clause-lanes : goal.returns-clause-lanes
 returns-clause-lanes g c =
     let is = c.in_ok-runners.ensures.lanes in (
       is,
-      sym (length-map c.in_ok-runners.runners.items (lane_in {C = g.row.C.Denot} {A = g.row.A.Denot} {L = g.row.L.Denot})) ∙ ap (λ (l : List Holding). length l) is ∙ length-map c.args.lanes.items held_of ∙ c.requires.count,
+      sym (length-map c.in_ok-runners.runners.items (lane_in {C = g.row.C.Denot} {A = g.row.A.Denot} {L = g.row.L.Denot}))
+          ∙ ap (λ (l : List Holding). length l) is ∙ length-map c.args.lanes.items held_of ∙ c.requires.count,
     )
 
 pub returns-clause-seats : goal.returns-clause-seats

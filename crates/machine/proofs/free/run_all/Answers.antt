@@ -11,16 +11,19 @@ run_each-requires-clause-some g c κs within = subst (λ ps. 0 < length ps) (sym
 
 pub run_each-requires-clause-ready : goal.run_each-requires-clause-ready
 run_each-requires-clause-ready g c κs within =
-    subst (λ ps. All (λ p. Runs g.L.Log.KEEPS_EVENTS (setting_in g.C.Instructions.program g.C.Instructions.width c.args.shape.now) c.args.mesh.now (padded_value p) × IsClear (padded_value p)) ps) (sym c.deref_mut.ensures.value) c.requires.ready
+    subst (λ ps. All (λ p. Runs g.L.Log.KEEPS_EVENTS (setting_in g.C.Instructions.program g.C.Instructions.width c.args.shape.now) c.args.mesh.now
+    (padded_value p) × IsClear (padded_value p)) ps) (sym c.deref_mut.ensures.value) c.requires.ready
 
 pub returns-clause-each : goal.returns-clause-each
 returns-clause-each g c =
     let old = c.args.runners.now.items in
     let is = c.deref_mut.ensures.value in
-    let each = subst (λ ps. AllEnded g.L.Log.KEEPS_EVENTS (setting_in g.C.Instructions.program g.C.Instructions.width c.args.shape.now) c.args.mesh.now g.G.Gate.may_stop ps c.run_each.new.runners) is c.run_each.ensures.each in
+    let each = subst (λ ps. AllEnded g.L.Log.KEEPS_EVENTS (setting_in g.C.Instructions.program g.C.Instructions.width c.args.shape.now)
+    c.args.mesh.now g.G.Gate.may_stop ps c.run_each.new.runners) is c.run_each.ensures.each in
     subst (λ ps. AllEnded g.L.Log.KEEPS_EVENTS (setting_in g.C.Instructions.program g.C.Instructions.width c.args.shape.now) c.args.mesh.now
     g.G.Gate.may_stop old ps)
-    (sym (written_back c.args.runners.now.len old c.run_each.new.runners (sym (ap length is) ∙ c.deref_mut.ensures.len) (c.run_each.ensures.count ∙ ap length is))) each
+    (sym (written_back c.args.runners.now.len old c.run_each.new.runners (sym (ap length is) ∙ c.deref_mut.ensures.len) (c.run_each.ensures.count
+    ∙ ap length is))) each
 
 pub returns-clause-count : goal.returns-clause-count
 returns-clause-count g c =

@@ -27,26 +27,32 @@ returns-in-Ok-clause-shows g c =
     let s : Setting = setting_in g.C.Instructions.program g.C.Instructions.width c.in-Ok.setup.shape in
     let raw : List Holding = map held_of c.in-Ok.lanes.items in
     let r = c.run_apart.result in
-    subst (λ (k : SoFar). (inputs : List ℤ) (events : Events) → Began inputs k.state events → ShowsOn g.L.Log.KEEPS_EVENTS k.state.setting.program (size k.state.setting) inputs k.state.setting.steps g.G.Gate.may_stop k.events events r) c.in-Ok.ensures.apart.0
-    (λ inputs events b. c.run_apart.ensures.shows inputs events (subst (λ (l : List Holding). Began inputs (let x : State = record { setting = s; lanes = l } in x) events) (sym (delivered_none raw)) b))
+    subst (λ (k : SoFar). (inputs : List ℤ) (events : Events) → Began inputs k.state events → ShowsOn g.L.Log.KEEPS_EVENTS k.state.setting.program
+    (size k.state.setting) inputs k.state.setting.steps g.G.Gate.may_stop k.events events r) c.in-Ok.ensures.apart.0
+    (λ inputs events b. c.run_apart.ensures.shows inputs events
+    (subst (λ (l : List Holding). Began inputs (let x : State = record { setting = s; lanes = l } in x) events) (sym (delivered_none raw)) b))
 
 pub returns-in-Ok-clause-ends : goal.returns-in-Ok-clause-ends
 returns-in-Ok-clause-ends g c =
     let s : Setting = setting_in g.C.Instructions.program g.C.Instructions.width c.in-Ok.setup.shape in
     let raw : List Holding = map held_of c.in-Ok.lanes.items in
     let r = c.run_apart.result in
-    subst (λ (k : SoFar). (inputs : List ℤ) (events : Events) → Began inputs k.state events → r.end ≢ End.Memory → EndsOn g.L.Log.KEEPS_EVENTS k.state.setting inputs g.G.Gate.may_stop k.events events r) c.in-Ok.ensures.apart.0
-    (λ inputs events b. c.run_apart.ensures.ends inputs events (subst (λ (l : List Holding). Began inputs (let x : State = record { setting = s; lanes = l } in x) events) (sym (delivered_none raw)) b))
+    subst (λ (k : SoFar). (inputs : List ℤ) (events : Events) → Began inputs k.state events → r.end ≢ End.Memory
+    → EndsOn g.L.Log.KEEPS_EVENTS k.state.setting inputs g.G.Gate.may_stop k.events events r) c.in-Ok.ensures.apart.0
+    (λ inputs events b. c.run_apart.ensures.ends inputs events
+    (subst (λ (l : List Holding). Began inputs (let x : State = record { setting = s; lanes = l } in x) events) (sym (delivered_none raw)) b))
 
 pub returns-in-Err-clause-unlisted : goal.returns-in-Err-clause-unlisted
 returns-in-Err-clause-unlisted g c =
-    subst (λ (k : SoFar). g.L.Log.KEEPS_EVENTS ≡ false → k.events ≡ [] → (c.report.result).events ≡ []) c.in-Err.ensures.apart (λ off none. (c.report.ensures.quietly none []).0)
+    subst (λ (k : SoFar). g.L.Log.KEEPS_EVENTS ≡ false → k.events ≡ [] → (c.report.result).events ≡ []) c.in-Err.ensures.apart
+    (λ off none. (c.report.ensures.quietly none []).0)
 
 pub returns-in-Err-clause-shows : goal.returns-in-Err-clause-shows
 returns-in-Err-clause-shows g c =
     let r = c.report.result in
     let may = g.G.Gate.may_stop in
-    subst (λ (k : SoFar). (inputs : List ℤ) (events : Events) → Began inputs k.state events → ShowsOn g.L.Log.KEEPS_EVENTS k.state.setting.program (size k.state.setting) inputs k.state.setting.steps may k.events events r) c.in-Err.ensures.apart
+    subst (λ (k : SoFar). (inputs : List ℤ) (events : Events) → Began inputs k.state events → ShowsOn g.L.Log.KEEPS_EVENTS k.state.setting.program
+    (size k.state.setting) inputs k.state.setting.steps may k.events events r) c.in-Err.ensures.apart
     (λ inputs events b.
     let z = c.in-Err.machine.state.setting in
     let but = c.report.ensures.any inputs false events b tt in

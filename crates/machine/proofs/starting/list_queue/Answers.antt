@@ -14,4 +14,5 @@ pub loop-at-preserved : goal.loop-at-preserved
 loop-at-preserved g c =
     let all = c.queue-queue.result.now.items in
     let low : c.loop-at.at < length all = (let t = c.loop-at-test.true in let n = c.len-at-end.ensures in omega arith) in
-    list_more all c.args.tokens.now.items c.loop-at.tokens.items c.push.new.self.items c.loop-at.at c.get.result low c.get.ensures c.loop-at.invariant c.in_ok-push.ensures.items
+    list_more all c.args.tokens.now.items c.loop-at.tokens.items c.push.new.self.items c.loop-at.at c.get.result low c.get.ensures c.loop-at.invariant
+    c.in_ok-push.ensures.items

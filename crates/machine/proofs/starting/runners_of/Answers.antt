@@ -19,7 +19,9 @@ each-init g c =
       held = ap (λ (l : List (CachePadded (Runner g.row.C.Denot g.row.A.Denot g.row.L.Denot))). lanes_in l ++ map held_of c.args.lanes.items) none;
       fixed = ap (λ (l : List (CachePadded (Runner g.row.C.Denot g.row.A.Denot g.row.L.Denot))). lanes_fixed l ++ map fixed_of c.args.lanes.items) none;
       seats = ap (λ (l : List (CachePadded (Runner g.row.C.Denot g.row.A.Denot g.row.L.Denot))). seats_in l ++ c.args.seats.items) none;
-      new = subst (λ (l : List (CachePadded (Runner g.row.C.Denot g.row.A.Denot g.row.L.Denot))). All (λ (p : CachePadded (Runner g.row.C.Denot g.row.A.Denot g.row.L.Denot)). IsNew n (padded_value p)) l) (sym none) (All-nil (λ (p : CachePadded (Runner g.row.C.Denot g.row.A.Denot g.row.L.Denot)). IsNew n (padded_value p)));
+      new = subst (λ (l : List (CachePadded (Runner g.row.C.Denot g.row.A.Denot g.row.L.Denot))). All
+          (λ (p : CachePadded (Runner g.row.C.Denot g.row.A.Denot g.row.L.Denot)). IsNew n (padded_value p)) l) (sym none)
+          (All-nil (λ (p : CachePadded (Runner g.row.C.Denot g.row.A.Denot g.row.L.Denot)). IsNew n (padded_value p)));
       count = omega arith;
       seat_count = c.requires;
     }
@@ -47,14 +49,20 @@ each-preserved g c =
     let k = c.remove-lane.ensures.len in
     let m = c.remove-seat.ensures.len in
     record {
-      held = ap (λ (l : List (CachePadded (Runner g.row.C.Denot g.row.A.Denot g.row.L.Denot))). lanes_in l ++ map held_of c.remove-lane.new.self.items) all ∙ ap (λ (l : List LaneView). lanes_in (ps ++ p ∷ []) ++ map held_of l) fewer
+      held = ap (λ (l : List (CachePadded (Runner g.row.C.Denot g.row.A.Denot g.row.L.Denot))). lanes_in l
+          ++ map held_of c.remove-lane.new.self.items) all ∙ ap (λ (l : List LaneView). lanes_in (ps ++ p ∷ []) ++ map held_of l) fewer
           ∙ moved_first lane_in held_of ps p xs c.remove-lane.result some c.remove-lane.ensures.value (ap (λ (l : LaneView). held_of l) lane) ∙ inv.held;
-      fixed = ap (λ (l : List (CachePadded (Runner g.row.C.Denot g.row.A.Denot g.row.L.Denot))). lanes_fixed l ++ map fixed_of c.remove-lane.new.self.items) all ∙ ap (λ (l : List LaneView). lanes_fixed (ps ++ p ∷ []) ++ map fixed_of l) fewer
+      fixed = ap (λ (l : List (CachePadded (Runner g.row.C.Denot g.row.A.Denot g.row.L.Denot))). lanes_fixed l
+          ++ map fixed_of c.remove-lane.new.self.items) all ∙ ap (λ (l : List LaneView). lanes_fixed (ps ++ p ∷ []) ++ map fixed_of l) fewer
           ∙ moved_first lane_fixed fixed_of ps p xs c.remove-lane.result some c.remove-lane.ensures.value (ap (λ (l : LaneView). fixed_of l) lane) ∙ inv.fixed;
-      seats = ap (λ (l : List (CachePadded (Runner g.row.C.Denot g.row.A.Denot g.row.L.Denot))). seats_in l ++ c.remove-seat.new.self.items) all ∙ ap (λ (l : List SeatView). seats_in (ps ++ p ∷ []) ++ l) fewer_seats
-          ∙ seats_more ps p seats c.remove-seat.result c.args.seats.items some_seat c.remove-seat.ensures.value (ap (λ (r : Runner g.row.C.Denot g.row.A.Denot g.row.L.Denot). r.seat) value ∙ made.parts.1) inv.seats;
-      new = subst (λ (l : List (CachePadded (Runner g.row.C.Denot g.row.A.Denot g.row.L.Denot))). All (λ (q : CachePadded (Runner g.row.C.Denot g.row.A.Denot g.row.L.Denot)). IsNew n (padded_value q)) l) (sym all)
-          (All-push (λ (q : CachePadded (Runner g.row.C.Denot g.row.A.Denot g.row.L.Denot)). IsNew n (padded_value q)) ps p inv.new (subst (λ (r : Runner g.row.C.Denot g.row.A.Denot g.row.L.Denot). IsNew n r) (sym value) (made.new n c.in_ok-belongings.ensures)));
+      seats = ap (λ (l : List (CachePadded (Runner g.row.C.Denot g.row.A.Denot g.row.L.Denot))). seats_in l ++ c.remove-seat.new.self.items) all
+          ∙ ap (λ (l : List SeatView). seats_in (ps ++ p ∷ []) ++ l) fewer_seats
+          ∙ seats_more ps p seats c.remove-seat.result c.args.seats.items some_seat c.remove-seat.ensures.value
+          (ap (λ (r : Runner g.row.C.Denot g.row.A.Denot g.row.L.Denot). r.seat) value ∙ made.parts.1) inv.seats;
+      new = subst (λ (l : List (CachePadded (Runner g.row.C.Denot g.row.A.Denot g.row.L.Denot))). All
+          (λ (q : CachePadded (Runner g.row.C.Denot g.row.A.Denot g.row.L.Denot)). IsNew n (padded_value q)) l) (sym all)
+          (All-push (λ (q : CachePadded (Runner g.row.C.Denot g.row.A.Denot g.row.L.Denot)). IsNew n (padded_value q)) ps p inv.new
+          (subst (λ (r : Runner g.row.C.Denot g.row.A.Denot g.row.L.Denot). IsNew n r) (sym value) (made.new n c.in_ok-belongings.ensures)));
       count = omega arith;
       seat_count = omega arith;
     }
@@ -66,7 +74,8 @@ returns-clause-lanes g c =
     let end = c.len-at-end.ensures in
     let past = c.each-test.false in
     let none : length c.each.lanes.items ≡ 0 = omega arith in
-    sym (append-nil (lanes_in c.each.runners.items)) ∙ ap (λ (l : List LaneView). lanes_in c.each.runners.items ++ map held_of l) (sym (nil_from_length c.each.lanes.items none)) ∙ inv.held
+    sym (append-nil (lanes_in c.each.runners.items)) ∙ ap (λ (l : List LaneView). lanes_in c.each.runners.items ++ map held_of l)
+    (sym (nil_from_length c.each.lanes.items none)) ∙ inv.held
 
 pub returns-clause-fixed : goal.returns-clause-fixed
 returns-clause-fixed g c =
@@ -75,7 +84,8 @@ returns-clause-fixed g c =
     let end = c.len-at-end.ensures in
     let past = c.each-test.false in
     let none : length c.each.lanes.items ≡ 0 = omega arith in
-    sym (append-nil (lanes_fixed c.each.runners.items)) ∙ ap (λ (l : List LaneView). lanes_fixed c.each.runners.items ++ map fixed_of l) (sym (nil_from_length c.each.lanes.items none)) ∙ inv.fixed
+    sym (append-nil (lanes_fixed c.each.runners.items)) ∙ ap (λ (l : List LaneView). lanes_fixed c.each.runners.items ++ map fixed_of l)
+    (sym (nil_from_length c.each.lanes.items none)) ∙ inv.fixed
 
 pub returns-clause-seats : goal.returns-clause-seats
 returns-clause-seats g c =

@@ -14,7 +14,8 @@ receive_all-requires g c =
     let s : Setting = setting_in g.C.Instructions.program g.C.Instructions.width c.args.shape.now in
     let f : Fixed = fixed_of c.args.runner.now.lane in
     let tokens : List Token = c.args.bundle.items in
-    let near = subst (λ (b : Bounds). All (IsNearToken b) tokens) c.reach_of.ensures (subst (λ (l : List Token). All (IsNearToken (bounds_within c.reach_of.result)) l) c.deref.ensures.value (c.are_near-near.ensures c.if-near.true)) in
+    let near = subst (λ (b : Bounds). All (IsNearToken b) tokens) c.reach_of.ensures
+    (subst (λ (l : List Token). All (IsNearToken (bounds_within c.reach_of.result)) l) c.deref.ensures.value (c.are_near-near.ensures c.if-near.true)) in
     subst (λ (l : List Token). All (IsFor f) l) (sym c.deref-then-near.ensures.value)
     (λ k d low. record {
       near = subst (λ (b : Bounds). IsNearToken b (get_or tokens k d)) (sym (bounds_as s f c.requires.runs)) (near k d low);

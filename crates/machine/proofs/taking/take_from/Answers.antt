@@ -11,12 +11,16 @@ use Rattle.machine.proofs.taking.take_from.Goals as goal
 
 pub returns-in-Some-clause-keeps : goal.returns-in-Some-clause-keeps
 returns-in-Some-clause-keeps g c =
-    keeps_taken {C = g.row.C.Denot} {A = g.row.A.Denot} {L = g.row.L.Denot} g.L.Log.KEEPS_EVENTS (setting_in g.C.Instructions.program g.C.Instructions.width c.args.shape.now) c.args.mesh.now c.args.runner.now c.receive_or_hold.new.runner c.take.new.seat c.args.from c.in-Some.bundle c.receive_or_hold.result
+    keeps_taken {C = g.row.C.Denot} {A = g.row.A.Denot} {L = g.row.L.Denot} g.L.Log.KEEPS_EVENTS
+    (setting_in g.C.Instructions.program g.C.Instructions.width c.args.shape.now) c.args.mesh.now c.args.runner.now c.receive_or_hold.new.runner
+    c.take.new.seat c.args.from c.in-Some.bundle c.receive_or_hold.result
     c.requires.from c.requires.clear c.in-Some.ensures.some.0 c.in-Some.ensures.some.1 c.receive_or_hold.ensures.none c.receive_or_hold.ensures.some
 
 pub returns-in-None-clause-keeps : goal.returns-in-None-clause-keeps
 returns-in-None-clause-keeps g c =
-    keeps_noting {C = g.row.C.Denot} {A = g.row.A.Denot} {L = g.row.L.Denot} g.L.Log.KEEPS_EVENTS (setting_in g.C.Instructions.program g.C.Instructions.width c.args.shape.now) c.args.mesh.now c.args.runner.now c.take.new.seat (FoundEmpty c.args.from) (found_empty c.args.from) refl c.in-None.ensures.none
+    keeps_noting {C = g.row.C.Denot} {A = g.row.A.Denot} {L = g.row.L.Denot} g.L.Log.KEEPS_EVENTS
+    (setting_in g.C.Instructions.program g.C.Instructions.width c.args.shape.now) c.args.mesh.now c.args.runner.now c.take.new.seat
+    (FoundEmpty c.args.from) (found_empty c.args.from) refl c.in-None.ensures.none
 
 pub receive_or_hold-requires-clause-runs : goal.receive_or_hold-requires-clause-runs
 receive_or_hold-requires-clause-runs g c = c.requires.runs.1.runs

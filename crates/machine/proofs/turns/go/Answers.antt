@@ -4,10 +4,14 @@ use Rattle.machine.proofs.Keeping.{runs_on, keeps_twice}
 use Rattle.machine.proofs.turns.go.Goals as goal
 
 pub turn-requires-clause-runs : goal.turn-requires-clause-runs
-turn-requires-clause-runs g c = runs_on {C = g.row.C.Denot} {A = g.row.A.Denot} {L = g.row.L.Denot} g.L.Log.KEEPS_EVENTS (setting_in g.C.Instructions.program g.C.Instructions.width c.args.shape.now) c.args.mesh.now c.args.runner.now c.turns.runner c.requires.runs c.turns.invariant.keeps
+turn-requires-clause-runs g c = runs_on {C = g.row.C.Denot} {A = g.row.A.Denot} {L = g.row.L.Denot} g.L.Log.KEEPS_EVENTS
+    (setting_in g.C.Instructions.program g.C.Instructions.width c.args.shape.now) c.args.mesh.now c.args.runner.now c.turns.runner c.requires.runs
+    c.turns.invariant.keeps
 
 pub returns-in-Some-2-clause-keeps : goal.returns-in-Some-2-clause-keeps
-returns-in-Some-2-clause-keeps g c = keeps_twice {C = g.row.C.Denot} {A = g.row.A.Denot} {L = g.row.L.Denot} g.L.Log.KEEPS_EVENTS (setting_in g.C.Instructions.program g.C.Instructions.width c.args.shape.now) c.args.mesh.now c.args.runner.now c.turns.runner c.turn.new.runner c.turns.invariant.keeps c.in_ok-departure.ensures.keeps
+returns-in-Some-2-clause-keeps g c = keeps_twice {C = g.row.C.Denot} {A = g.row.A.Denot} {L = g.row.L.Denot} g.L.Log.KEEPS_EVENTS
+    (setting_in g.C.Instructions.program g.C.Instructions.width c.args.shape.now) c.args.mesh.now c.args.runner.now c.turns.runner c.turn.new.runner
+    c.turns.invariant.keeps c.in_ok-departure.ensures.keeps
 
 pub turns-preserved : goal.turns-preserved
 turns-preserved g c =
@@ -16,6 +20,8 @@ turns-preserved g c =
     let none : c.in_ok-departure.field-0 ≡ None = cc in
     record {
       stays = (e.stays.0 ∙ i.stays.0, e.stays.1 ∙ i.stays.1, e.stays.2 ∙ i.stays.2);
-      keeps = keeps_twice {C = g.row.C.Denot} {A = g.row.A.Denot} {L = g.row.L.Denot} g.L.Log.KEEPS_EVENTS (setting_in g.C.Instructions.program g.C.Instructions.width c.args.shape.now) c.args.mesh.now c.args.runner.now c.turns.runner c.turn.new.runner i.keeps e.keeps;
+      keeps = keeps_twice {C = g.row.C.Denot} {A = g.row.A.Denot} {L = g.row.L.Denot} g.L.Log.KEEPS_EVENTS
+          (setting_in g.C.Instructions.program g.C.Instructions.width c.args.shape.now) c.args.mesh.now c.args.runner.now c.turns.runner
+          c.turn.new.runner i.keeps e.keeps;
       clear = e.clear none;
     }

@@ -12,8 +12,12 @@ use Rattle.rounds.proofs.delivering.deliver_all.Goals as goal
 
 pub returns-in_err-receive-clause-same : goal.returns-in_err-receive-clause-same
 returns-in_err-receive-clause-same g c =
-    let rest = drop c.loop-place.place c.args.tokens.now.items in
-    (rest, ap (λ (l : List Holding). delivered rest l) c.in_err-receive.ensures.err ∙ c.loop-place.invariant.same, err_any c.from_residual.result (rest ≡ []) c.from_residual.ensures.0)
+    let rest = drop c.loop-place.place c.args.tokens.now.items in (
+      rest,
+      ap (λ (l : List Holding). delivered rest l) c.in_err-receive.ensures.err ∙ c.loop-place.invariant.same,
+      err_any c.from_residual.result
+          (rest ≡ []) c.from_residual.ensures.0,
+    )
 
 pub loop-place-preserved : goal.loop-place-preserved
 loop-place-preserved g c =
@@ -44,8 +48,12 @@ pub returns-clause-same : goal.returns-clause-same
 returns-clause-same g c =
     let tokens = c.args.tokens.now.items in
     let end = c.len-place-end.ensures in
-    let past : length tokens ≤ c.loop-place.place = (let t = c.loop-place-test.false in omega arith) in
-    ([], ap (λ (l : List Token). delivered l (lanes_held c.loop-place.turners.items)) (sym (drop_all c.loop-place.place tokens past)) ∙ c.loop-place.invariant.same, refl)
+    let past : length tokens ≤ c.loop-place.place = (let t = c.loop-place-test.false in omega arith) in (
+      [],
+      ap (λ (l : List Token). delivered l (lanes_held c.loop-place.turners.items)) (sym (drop_all c.loop-place.place tokens past))
+          ∙ c.loop-place.invariant.same,
+      refl,
+    )
 
 pub receive-requires-clause-near : goal.receive-requires-clause-near
 receive-requires-clause-near g c =

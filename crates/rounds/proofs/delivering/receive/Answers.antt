@@ -30,7 +30,8 @@ receive_one-requires g c =
     let at = first_get (IsAt n) (lanes_held ts) i (lane_held x) c.requires.at (held_at ts i x low c.index_mut-turner.ensures.value) in
     let same = get_or-map lane_fixed ts i x (lane_fixed x) low ∙ ap (λ y. lane_fixed y) (sym c.index_mut-turner.ensures.value) in
     record {
-      near = subst (λ (f : Fixed). IsNearToken (bounds_at f) t) same (All-get_or (λ (f : Fixed). IsNearToken (bounds_at f) t) (lanes_fixed ts) i (lane_fixed x) within c.requires.near);
+      near = subst (λ (f : Fixed). IsNearToken (bounds_at f) t) same (All-get_or (λ (f : Fixed). IsNearToken (bounds_at f) t) (lanes_fixed ts) i
+          (lane_fixed x) within c.requires.near);
       addressed = ap (λ (m : ℕ). element_of m t.to) at.1 ∙ sym e ∙ sym at.0;
     }
 
@@ -45,8 +46,10 @@ returns-clause-ok g c =
     let count = c.requires.count in
     let low : c.element_for-element.result < length ts = omega arith in
     let at : element_of n t.to ≡ c.element_for-element.result = omega arith in
-    ok_then c.receive_one.result (c.receive_one.new.turner.lane ≡ with_more x.lane (t ∷ [])) (lanes_held (slice_set ts c.element_for-element.result c.receive_one.new.turner) ≡ delivered (t ∷ []) (lanes_held ts))
-    (λ got. received ts n c.element_for-element.result x c.receive_one.new.turner t c.requires.at at low c.index_mut-turner.ensures.value (ap (λ (l : LaneView). held_of l) got)) c.receive_one.ensures.ok
+    ok_then c.receive_one.result (c.receive_one.new.turner.lane ≡ with_more x.lane (t ∷ []))
+    (lanes_held (slice_set ts c.element_for-element.result c.receive_one.new.turner) ≡ delivered (t ∷ []) (lanes_held ts))
+    (λ got. received ts n c.element_for-element.result x c.receive_one.new.turner t c.requires.at at low c.index_mut-turner.ensures.value
+    (ap (λ (l : LaneView). held_of l) got)) c.receive_one.ensures.ok
 
 pub returns-clause-err : goal.returns-clause-err
 returns-clause-err g c =
@@ -57,8 +60,10 @@ returns-clause-err g c =
     let e = c.element_for-element.ensures in
     let count = c.requires.count in
     let low : c.element_for-element.result < length ts = omega arith in
-    err_then c.receive_one.result (c.receive_one.new.turner.lane ≡ x.lane) (lanes_held (slice_set ts c.element_for-element.result c.receive_one.new.turner) ≡ lanes_held ts)
-    (λ same. map_kept (λ t. lane_held t) ts c.element_for-element.result x c.receive_one.new.turner low (ap (λ (l : LaneView). held_of l) same ∙ ap (λ t. lane_held t) c.index_mut-turner.ensures.value)) c.receive_one.ensures.err
+    err_then c.receive_one.result (c.receive_one.new.turner.lane ≡ x.lane)
+    (lanes_held (slice_set ts c.element_for-element.result c.receive_one.new.turner) ≡ lanes_held ts)
+    (λ same. map_kept (λ t. lane_held t) ts c.element_for-element.result x c.receive_one.new.turner low (ap (λ (l : LaneView). held_of l) same
+    ∙ ap (λ t. lane_held t) c.index_mut-turner.ensures.value)) c.receive_one.ensures.err
 
 pub returns-clause-fixed : goal.returns-clause-fixed
 returns-clause-fixed g c =
@@ -83,7 +88,8 @@ returns-clause-sent g c =
     let e = c.element_for-element.ensures in
     let count = c.requires.count in
     let low : c.element_for-element.result < length ts = omega arith in
-    flat_kept (λ t. t.sent.items) ts c.element_for-element.result x c.receive_one.new.turner low (c.receive_one.ensures.sent ∙ ap (λ t. t.sent.items) c.index_mut-turner.ensures.value)
+    flat_kept (λ t. t.sent.items) ts c.element_for-element.result x c.receive_one.new.turner low (c.receive_one.ensures.sent
+    ∙ ap (λ t. t.sent.items) c.index_mut-turner.ensures.value)
 
 pub returns-clause-events : goal.returns-clause-events
 returns-clause-events g c =
@@ -93,7 +99,8 @@ returns-clause-events g c =
     let e = c.element_for-element.ensures in
     let count = c.requires.count in
     let low : c.element_for-element.result < length ts = omega arith in
-    flat_kept (λ t. t.log.events.items) ts c.element_for-element.result x c.receive_one.new.turner low (c.receive_one.ensures.events ∙ ap (λ t. t.log.events.items) c.index_mut-turner.ensures.value)
+    flat_kept (λ t. t.log.events.items) ts c.element_for-element.result x c.receive_one.new.turner low (c.receive_one.ensures.events
+    ∙ ap (λ t. t.log.events.items) c.index_mut-turner.ensures.value)
 
 pub returns-clause-halts : goal.returns-clause-halts
 returns-clause-halts g c =
@@ -103,4 +110,5 @@ returns-clause-halts g c =
     let e = c.element_for-element.ensures in
     let count = c.requires.count in
     let low : c.element_for-element.result < length ts = omega arith in
-    map_kept (λ t. halt_in t) ts c.element_for-element.result x c.receive_one.new.turner low (c.receive_one.ensures.halt ∙ ap (λ t. halt_in t) c.index_mut-turner.ensures.value)
+    map_kept (λ t. halt_in t) ts c.element_for-element.result x c.receive_one.new.turner low (c.receive_one.ensures.halt
+    ∙ ap (λ t. halt_in t) c.index_mut-turner.ensures.value)

@@ -73,12 +73,14 @@ loop-at-preserved g c =
       lanes = map_kept (λ t. lane_held t) ts at old new low e.held ∙ inv.lanes;
       sent = flat_kept (λ t. t.sent.items) ts at old new low e.sent ∙ inv.sent;
       halts = map_kept (λ t. halt_in t) ts at old new low e.halt ∙ inv.halts;
-      events = flat_moved (λ t. t.log.events.items) ts at old new c.loop-at.all.events.items c.take_events.new.all.events.items low inv.cleared e.events ∙ inv.events;
+      events = flat_moved (λ t. t.log.events.items) ts at old new c.loop-at.all.events.items c.take_events.new.all.events.items low inv.cleared
+          e.events ∙ inv.events;
       cleared = flat_taken (λ t. t.log.events.items) ts at new low inv.cleared e.cleared;
       count = length-set ts at new ∙ inv.count;
     }
 
 pub returns-clause-cleared : goal.returns-clause-cleared
 returns-clause-cleared g c =
-    let past : length c.loop-at.turners ≤ c.loop-at.at = (let t = c.loop-at-test.false in let a = c.loop-at.auto.at-end in let n = c.loop-at.invariant.count in omega arith) in
+    let past : length c.loop-at.turners ≤ c.loop-at.at = (let t = c.loop-at-test.false in let a = c.loop-at.auto.at-end
+    in let n = c.loop-at.invariant.count in omega arith) in
     flat_all (λ t. t.log.events.items) c.loop-at.turners c.loop-at.at past c.loop-at.invariant.cleared

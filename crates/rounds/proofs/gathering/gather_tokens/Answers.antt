@@ -80,5 +80,6 @@ loop-at-preserved g c =
 
 pub returns-clause-cleared : goal.returns-clause-cleared
 returns-clause-cleared g c =
-    let past : length c.loop-at.turners ≤ c.loop-at.at = (let t = c.loop-at-test.false in let a = c.loop-at.auto.at-end in let n = c.loop-at.invariant.count in omega arith) in
+    let past : length c.loop-at.turners ≤ c.loop-at.at = (let t = c.loop-at-test.false in let a = c.loop-at.auto.at-end
+    in let n = c.loop-at.invariant.count in omega arith) in
     flat_all (λ t. t.sent.items) c.loop-at.turners c.loop-at.at past c.loop-at.invariant.cleared

@@ -18,7 +18,9 @@ returns-in-Ok-clause-made g c =
     let e = c.gather_events.ensures in
     let s = c.gather_tokens.ensures in
     let none = c.in_ok-gather_events.ensures.cleared in
-    made_round {C = g.row.C.Denot} {A = g.row.A.Denot} {L = g.row.L.Denot} (setting_in g.C.Instructions.program g.C.Instructions.width c.args.setup.now.shape) g.L.Log.KEEPS_EVENTS g.G.Gate.may_stop c.args.turners.now news last before after (c.gather_tokens.new.tokens.items ++ tokens_sent last) c.requires.between t.count t.each
+    made_round {C = g.row.C.Denot} {A = g.row.A.Denot} {L = g.row.L.Denot} (setting_in g.C.Instructions.program g.C.Instructions.width
+    c.args.setup.now.shape) g.L.Log.KEEPS_EVENTS g.G.Gate.may_stop c.args.turners.now news last before after (c.gather_tokens.new.tokens.items
+    ++ tokens_sent last) c.requires.between t.count t.each
     (s.lanes ∙ e.lanes) (s.fixed ∙ e.fixed) (s.halts ∙ e.halts)
     (s.tokens ∙ ap (λ (l : List Token). l ++ tokens_sent first) c.requires.tokens ∙ e.sent)
     (sym (append-nil after) ∙ ap (λ (l : Events). after ++ l) (sym none) ∙ e.events)
@@ -35,7 +37,9 @@ returns-in-Err-clause-made g c =
     let e = c.gather_events.ensures in
     let s = c.gather_tokens.ensures in
     let none = c.in_ok-gather_events.ensures.cleared in
-    made_round {C = g.row.C.Denot} {A = g.row.A.Denot} {L = g.row.L.Denot} (setting_in g.C.Instructions.program g.C.Instructions.width c.args.setup.now.shape) g.L.Log.KEEPS_EVENTS g.G.Gate.may_stop c.args.turners.now news last before after (c.gather_tokens.new.tokens.items ++ tokens_sent last) c.requires.between t.count t.each
+    made_round {C = g.row.C.Denot} {A = g.row.A.Denot} {L = g.row.L.Denot} (setting_in g.C.Instructions.program g.C.Instructions.width
+    c.args.setup.now.shape) g.L.Log.KEEPS_EVENTS g.G.Gate.may_stop c.args.turners.now news last before after (c.gather_tokens.new.tokens.items
+    ++ tokens_sent last) c.requires.between t.count t.each
     (s.lanes ∙ e.lanes) (s.fixed ∙ e.fixed) (s.halts ∙ e.halts)
     (s.tokens ∙ ap (λ (l : List Token). l ++ tokens_sent first) c.requires.tokens ∙ e.sent)
     (sym (append-nil after) ∙ ap (λ (l : Events). after ++ l) (sym none) ∙ e.events)

@@ -8,11 +8,13 @@ use Rattle.rounds.proofs.rounds.play.Given as goal
 
 abbrev pub invariant-rounds : goal.invariant-rounds
 invariant-rounds g l = record {
-  setting : setting_in g.C.Instructions.program g.C.Instructions.width l.setup.shape ≡ setting_in g.C.Instructions.program g.C.Instructions.width l.fn.setup.shape;
+  setting : setting_in g.C.Instructions.program g.C.Instructions.width l.setup.shape ≡ setting_in g.C.Instructions.program g.C.Instructions.width
+      l.fn.setup.shape;
   between : IsBetween (setting_in g.C.Instructions.program g.C.Instructions.width l.fn.setup.shape) l.turners.items;
   tokens : l.tokens.items ≡ [];
   made : Events;
   noted : l.setup.log.events.items ≡ logged g.L.Log.KEEPS_EVENTS l.fn.setup.log.events.items made;
   leads : Leads (setting_in g.C.Instructions.program g.C.Instructions.width l.fn.setup.shape) l.fn.turners.items l.turners.items [] made;
-  makes : MakesRounds (setting_in g.C.Instructions.program g.C.Instructions.width l.fn.setup.shape) g.G.Gate.may_stop l.rounds (lanes_held l.fn.turners.items) (lanes_held l.turners.items) made None;
+  makes : MakesRounds (setting_in g.C.Instructions.program g.C.Instructions.width l.fn.setup.shape) g.G.Gate.may_stop l.rounds
+      (lanes_held l.fn.turners.items) (lanes_held l.turners.items) made None;
 }

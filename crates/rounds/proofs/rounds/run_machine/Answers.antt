@@ -30,8 +30,10 @@ returns-in-Ok g c =
     let n = c.run_apart.result.rounds in
     record {
       unlisted = subst (λ (k : SoFar). on ≡ false → k.events ≡ [] → r.events ≡ []) c.in-Ok.ensures.apart.0 c.run_apart.ensures.unlisted;
-      shows = subst (λ (k : SoFar). (inputs : List ℤ) (events : Events) → Began inputs k.state events → ShowsOn on k.state.setting.program (size k.state.setting) inputs k.state.setting.steps may k.events events r) c.in-Ok.ensures.apart.0
-          (λ inputs events b. c.run_apart.ensures.shows inputs events (subst (λ (l : List Holding). Began inputs (let x : State = record { setting = s; lanes = l } in x) events) (sym (delivered_none raw)) b));
+      shows = subst (λ (k : SoFar). (inputs : List ℤ) (events : Events) → Began inputs k.state events
+          → ShowsOn on k.state.setting.program (size k.state.setting) inputs k.state.setting.steps may k.events events r) c.in-Ok.ensures.apart.0
+          (λ inputs events b. c.run_apart.ensures.shows inputs events
+          (subst (λ (l : List Holding). Began inputs (let x : State = record { setting = s; lanes = l } in x) events) (sym (delivered_none raw)) b));
       truth = subst (λ (k : SoFar). ReportsRounds on may k n r) c.in-Ok.ensures.apart.0 c.run_apart.ensures.truth;
     }
 
@@ -45,12 +47,14 @@ returns-in-Err g c =
     record {
       unlisted = subst (λ (k : SoFar). on ≡ false → k.events ≡ [] → r.events ≡ []) c.in-Err.ensures.apart
           (λ off none. ap (λ (x : Report). x.events) c.unmade.ensures.report ∙ (c.report.ensures.quietly none []).0);
-      shows = subst (λ (k : SoFar). (inputs : List ℤ) (events : Events) → Began inputs k.state events → ShowsOn on k.state.setting.program (size k.state.setting) inputs k.state.setting.steps may k.events events r) c.in-Err.ensures.apart
+      shows = subst (λ (k : SoFar). (inputs : List ℤ) (events : Events) → Began inputs k.state events
+          → ShowsOn on k.state.setting.program (size k.state.setting) inputs k.state.setting.steps may k.events events r) c.in-Err.ensures.apart
           (λ inputs events b.
           let z = c.in-Err.machine.state.setting in
           let but = c.report.ensures.any inputs false events b tt in
           subst (λ (x : Report). ShowsOn on z.program (size z) inputs z.steps may c.in-Err.machine.events events x) same
           (but.0, shows_any z.program (size z) inputs z.steps false may (with_events reported but.0) but.1, λ yes e. but.2 e));
       truth = subst (λ (k : SoFar). ReportsRounds on may k c.unmade.result.rounds r) c.in-Err.ensures.apart
-          (reports_none on may c.in-Err.machine c.unmade.result.rounds r c.unmade.ensures.rounds (subst (λ (x : Report). IsReportOf c.in-Err.machine Halt.Memory x) same c.report.ensures.reported));
+          (reports_none on may c.in-Err.machine c.unmade.result.rounds r c.unmade.ensures.rounds
+          (subst (λ (x : Report). IsReportOf c.in-Err.machine Halt.Memory x) same c.report.ensures.reported));
     }

@@ -16,8 +16,10 @@ events-preserved g c =
     let fixed = c.turn.ensures.fixed ∙ inv.fixed in
     let events = lane_events_more start c.events.lane mid inv.fixed inv.made c.turn.ensures.exact in
     let made = c.in-Some-Did.ensures in
-    let step = subst (λ (s : Stepped). Steps mid.program mid.held 0 c.events.sent.items s next.held c.step_otherwise.new.sent.items) c.in-Some-Did.field-0-is made.exact in
-    let more = one_more start mid next c.events.sent.items c.step_otherwise.new.sent.items fixed c.step_otherwise.ensures.fixed c.requires.one c.step_otherwise.ensures.sound c.step_otherwise.ensures.most inv.none made.allowed step in
+    let step = subst (λ (s : Stepped). Steps mid.program mid.held 0 c.events.sent.items s next.held c.step_otherwise.new.sent.items)
+    c.in-Some-Did.field-0-is made.exact in
+    let more = one_more start mid next c.events.sent.items c.step_otherwise.new.sent.items fixed c.step_otherwise.ensures.fixed c.requires.one
+    c.step_otherwise.ensures.sound c.step_otherwise.ensures.most inv.none made.allowed step in
     record {
       made = (suc events.0, (mid.held, events.1, more.1, more.2, more.3, more.4));
       none = more.0;
@@ -33,7 +35,8 @@ events-smaller g c =
     let next = c.step_otherwise.new.self in
     let fixed = c.step_otherwise.ensures.fixed ∙ (c.turn.ensures.fixed ∙ inv.fixed) in
     let grows : old.held.made ≤ mid.held.made = events_grow old.program old.steps c.turn.ensures.exact.0 old.held mid.held c.turn.ensures.exact.1 in
-    let step = subst (λ (s : Stepped). Steps mid.program mid.held 0 c.events.sent.items s next.held c.step_otherwise.new.sent.items) c.in-Some-Did.field-0-is c.in-Some-Did.ensures.exact in
+    let step = subst (λ (s : Stepped). Steps mid.program mid.held 0 c.events.sent.items s next.held c.step_otherwise.new.sent.items)
+    c.in-Some-Did.field-0-is c.in-Some-Did.ensures.exact in
     let count : next.held.made ≡ mid.held.made + 1 = step.count in
     let steps : next.steps ≡ start.steps = ap (λ (f : Fixed). f.steps) fixed in
     let most : next.held.made ≤ next.steps = c.step_otherwise.ensures.most in
@@ -73,7 +76,8 @@ returns-in-Some g c =
     let fixed = c.turn.ensures.fixed ∙ inv.fixed in
     let events = lane_events_more start c.events.lane mid inv.fixed inv.made c.turn.ensures.exact in
     let made = c.in-Some.ensures in
-    let answers = one_answer start mid next c.events.sent.items c.step_otherwise.new.sent.items c.in-Some.other fixed c.step_otherwise.ensures.fixed c.requires.one c.step_otherwise.ensures.sound inv.none made.allowed made.exact in
+    let answers = one_answer start mid next c.events.sent.items c.step_otherwise.new.sent.items c.in-Some.other fixed c.step_otherwise.ensures.fixed
+    c.requires.one c.step_otherwise.ensures.sound inv.none made.allowed made.exact in
     record {
       exact = (events.0, mid.held, events.1, answers.1);
       none = answers.0;

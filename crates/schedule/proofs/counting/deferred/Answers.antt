@@ -16,5 +16,7 @@ loop-cell-preserved g c =
     let count = c.requires.count in
     let low : x % n < length c.args.lanes.now = omega arith in
     let more = c.in-Some.ensures.1 in
-    let readers = c.readers.ensures ∙ ap (λ (own : OwnCells). readers_in (cell_at own x)) c.cells.ensures ∙ readers_there c.args.lanes.now n x c.index-lanes-cell.result low c.index-lanes-cell.is in
-    more ∙ ap (λ (k : ℕ). k + c.readers.result) c.loop-cell.invariant ∙ ap (λ (k : ℕ). sum_below x (λ y. cell_readers n lanes y) + k) readers ∙ sym (sum_next x (λ y. cell_readers n lanes y))
+    let readers = c.readers.ensures ∙ ap (λ (own : OwnCells). readers_in (cell_at own x)) c.cells.ensures
+    ∙ readers_there c.args.lanes.now n x c.index-lanes-cell.result low c.index-lanes-cell.is in
+    more ∙ ap (λ (k : ℕ). k + c.readers.result) c.loop-cell.invariant ∙ ap (λ (k : ℕ). sum_below x (λ y. cell_readers n lanes y) + k) readers
+    ∙ sym (sum_next x (λ y. cell_readers n lanes y))

@@ -17,8 +17,10 @@ loop-cell-preserved g c =
     let count = c.requires.count in
     let low : x % n < length c.args.lanes.now = omega arith in
     let got = c.in_ok-list_full.ensures in
-    let value = c.value.ensures ∙ ap (λ (own : OwnCells). value_at own x) c.cells.ensures ∙ value_there c.args.lanes.now n x c.index-lanes-cell.result low c.index-lanes-cell.is in
-    got ∙ ap (λ (l : List _). l ++ entry x c.value.result) c.loop-cell.invariant ∙ ap (λ (v : Option Value). full_below n lanes x ++ entry x v) value ∙ sym (full_next n lanes x)
+    let value = c.value.ensures ∙ ap (λ (own : OwnCells). value_at own x) c.cells.ensures ∙ value_there c.args.lanes.now n x c.index-lanes-cell.result
+    low c.index-lanes-cell.is in
+    got ∙ ap (λ (l : List _). l ++ entry x c.value.result) c.loop-cell.invariant ∙ ap (λ (v : Option Value). full_below n lanes x ++ entry x v) value
+    ∙ sym (full_next n lanes x)
 
 pub returns : goal.returns
 returns g c =

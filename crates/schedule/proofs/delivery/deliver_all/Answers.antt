@@ -18,12 +18,15 @@ loop-place-preserved g c =
     let fs = map fixed_of c.args.lanes.now.items in
     let t = c.index-token.result.now in
     let k = c.loop-place.place in
-    let first : drop k c.args.sent.now.items ≡ t ∷ drop (k + 1) c.args.sent.now.items = drop_more c.args.sent.now.items k t low ∙ ap (λ (u : Token). u ∷ drop (k + 1) c.args.sent.now.items) (sym c.index-token.ensures) in
+    let first : drop k c.args.sent.now.items ≡ t ∷ drop (k + 1) c.args.sent.now.items = drop_more c.args.sent.now.items k t low
+    ∙ ap (λ (u : Token). u ∷ drop (k + 1) c.args.sent.now.items) (sym c.index-token.ensures) in
     record {
       fixed = c.receive.ensures.fixed ∙ c.loop-place.invariant.fixed;
-      near = All-tail (IsNearIn fs) t (drop (k + 1) c.args.sent.now.items) (subst (λ (ts : List Token). All (IsNearIn fs) ts) first c.loop-place.invariant.near);
+      near = All-tail (IsNearIn fs) t (drop (k + 1) c.args.sent.now.items) (subst (λ (ts : List Token). All (IsNearIn fs) ts) first
+          c.loop-place.invariant.near);
       count = c.receive.ensures.count ∙ c.loop-place.invariant.count;
-      at = subst (λ (l : List Holding). AllFrom (IsAt c.args.elements) 0 l) (sym got) (delivered_at c.args.elements 0 (c.index-token.result.now ∷ []) (map held_of old) c.loop-place.invariant.at);
+      at = subst (λ (l : List Holding). AllFrom (IsAt c.args.elements) 0 l) (sym got) (delivered_at c.args.elements 0 (c.index-token.result.now ∷ [])
+          (map held_of old) c.loop-place.invariant.at);
       same = arrived_more old new c.args.sent.now.items c.loop-place.place c.index-token.result.now low c.index-token.ensures got ∙ c.loop-place.invariant.same;
     }
 
@@ -34,8 +37,10 @@ receive-requires-clause-near g c =
     let k = c.loop-place.place in
     let end = c.len-place-end.ensures in
     let low : k < length c.args.sent.now.items = omega arith in
-    let first : drop k c.args.sent.now.items ≡ t ∷ drop (k + 1) c.args.sent.now.items = drop_more c.args.sent.now.items k t low ∙ ap (λ (u : Token). u ∷ drop (k + 1) c.args.sent.now.items) (sym c.index-token.ensures) in
-    let near = All-head (IsNearIn fs) t (drop (k + 1) c.args.sent.now.items) (subst (λ (ts : List Token). All (IsNearIn fs) ts) first c.loop-place.invariant.near) in
+    let first : drop k c.args.sent.now.items ≡ t ∷ drop (k + 1) c.args.sent.now.items = drop_more c.args.sent.now.items k t low
+    ∙ ap (λ (u : Token). u ∷ drop (k + 1) c.args.sent.now.items) (sym c.index-token.ensures) in
+    let near = All-head (IsNearIn fs) t (drop (k + 1) c.args.sent.now.items) (subst (λ (ts : List Token). All (IsNearIn fs) ts) first
+    c.loop-place.invariant.near) in
     subst (λ (l : List Fixed). IsNearIn l t) (sym c.loop-place.invariant.fixed) near
 
 pub returns-in-Err-clause-fixed : goal.returns-in-Err-clause-fixed

@@ -6,4 +6,5 @@ use Rattle.schedule.proofs.delivery.has_token_for.Given as goal
 
 -- what is left decides
 abbrev pub invariant-loop-place : goal.invariant-loop-place
-invariant-loop-place l = list_any (λ t. element_of l.elements t.to == l.element) (drop l.place l.tokens) ≡ list_any (λ t. element_of l.elements t.to == l.element) (drop l.start l.tokens)
+invariant-loop-place l = list_any (λ t. element_of l.elements t.to == l.element) (drop l.place l.tokens)
+    ≡ list_any (λ t. element_of l.elements t.to == l.element) (drop l.start l.tokens)

@@ -21,8 +21,10 @@ returns-clause-ok g c =
     let count = c.requires.count in
     let low : c.element_for-element.result < length items = omega arith in
     let at : element_of n t.to ≡ c.element_for-element.result = omega arith in
-    ok_then c.receive.result (c.receive.new.self ≡ with_more x (t ∷ [])) (map held_of (slice_set items c.element_for-element.result c.receive.new.self) ≡ delivered (t ∷ []) (map held_of items))
-    (λ got. received items n c.element_for-element.result x c.receive.new.self t c.requires.at at low c.index_mut-lane.ensures.value (ap (λ (l : LaneView). held_of l) got)) c.receive.ensures.ok
+    ok_then c.receive.result (c.receive.new.self ≡ with_more x (t ∷ []))
+    (map held_of (slice_set items c.element_for-element.result c.receive.new.self) ≡ delivered (t ∷ []) (map held_of items))
+    (λ got. received items n c.element_for-element.result x c.receive.new.self t c.requires.at at low c.index_mut-lane.ensures.value
+    (ap (λ (l : LaneView). held_of l) got)) c.receive.ensures.ok
 
 pub returns-clause-err : goal.returns-clause-err
 returns-clause-err g c =
@@ -34,7 +36,8 @@ returns-clause-err g c =
     let count = c.requires.count in
     let low : c.element_for-element.result < length items = omega arith in
     err_then c.receive.result (c.receive.new.self ≡ x) (map held_of (slice_set items c.element_for-element.result c.receive.new.self) ≡ map held_of items)
-    (λ same. unreceived items c.element_for-element.result x c.receive.new.self low c.index_mut-lane.ensures.value (ap (λ (l : LaneView). held_of l) same)) c.receive.ensures.err
+    (λ same. unreceived items c.element_for-element.result x c.receive.new.self low c.index_mut-lane.ensures.value
+    (ap (λ (l : LaneView). held_of l) same)) c.receive.ensures.err
 
 pub receive-requires : goal.receive-requires
 receive-requires g c =

@@ -24,7 +24,8 @@ loop-input-init g c =
     let got = c.in_ok-receive.ensures.ok in
     record {
       count = c.receive.ensures.count ∙ c.requires.count;
-      at = subst (λ (l : List Holding). AllFrom (IsAt c.args.elements) 0 l) (sym got) (delivered_at c.args.elements 0 (start_tokens c.args.first []) (map held_of c.args.lanes.now.items) c.requires.at);
+      at = subst (λ (l : List Holding). AllFrom (IsAt c.args.elements) 0 l) (sym got) (delivered_at c.args.elements 0 (start_tokens c.args.first [])
+          (map held_of c.args.lanes.now.items) c.requires.at);
       fixed = c.receive.ensures.fixed;
       given = got;
       ip = omega arith;
@@ -56,7 +57,8 @@ receive-requires-in-loop-input-clause-near g c =
     let read : ℤ = get_or c.args.inputs.now c.loop-input.input-index (pos 0) in
     let t : Token = token (To.Instr 0 (c.loop-input.ip + 1) Left) (Word.Val (Int (to_z w64 (of_z w64 read)))) in
     subst (λ (fs : List Fixed). IsNearIn fs t) (sym c.loop-input.invariant.fixed)
-    (All-weaker (λ (f : Fixed). 0 < (bounds_at f).frames) (λ (f : Fixed). IsNearToken (bounds_at f) t) (λ (f : Fixed) some. record { to = some; word = tt }) (map fixed_of c.args.lanes.now.items) c.requires.frames)
+    (All-weaker (λ (f : Fixed). 0 < (bounds_at f).frames) (λ (f : Fixed). IsNearToken (bounds_at f) t)
+    (λ (f : Fixed) some. record { to = some; word = tt }) (map fixed_of c.args.lanes.now.items) c.requires.frames)
 
 pub returns-in_err-receive-2-clause-fixed : goal.returns-in_err-receive-2-clause-fixed
 returns-in_err-receive-2-clause-fixed g c = c.receive-in-loop-input.ensures.fixed ∙ c.loop-input.invariant.fixed

@@ -48,13 +48,17 @@ invariant_of-result g c =
     let stored : v ≡ c.in_ok-made.made = search rules in
     let as_made = stored ∙ c.in_ok-made.ensures in
     let fresh = fresh_over p v k.elements k.frames c.slots.result w lanes as_made c.slots.ensures.exact c.in_ok-lanes.ensures.fresh in
-    let good : IsGoodSetting (setting_of p w k) = good_setting p w c.slots.result k c.requires.good c.requires.some_frame c.slots.ensures.exact c.slots.ensures.some c.slots.ensures.few c.slots.ensures.fits in
+    let good : IsGoodSetting (setting_of p w k) = good_setting p w c.slots.result k c.requires.good c.requires.some_frame c.slots.ensures.exact
+    c.slots.ensures.some c.slots.ensures.few c.slots.ensures.fits in
     let count : length lanes ≡ k.elements = length-map c.in_ok-lanes.lanes.items held_of ∙ c.in_ok-lanes.ensures.count ∙ ap (λ x. x.elements) as_made in
-    let are = lanes_are p c.give_inputs.new.lanes.items c.new-2.result.items c.main_entry.result c.args.inputs.now lanes c.new-2.ensures.items c.main_entry.ensures.exact c.in_ok-give_inputs.ensures.ok in
+    let are = lanes_are p c.give_inputs.new.lanes.items c.new-2.result.items c.main_entry.result c.args.inputs.now lanes c.new-2.ensures.items
+    c.main_entry.ensures.exact c.in_ok-give_inputs.ensures.ok in
     record {
       arrived = omega arith;
-      runs = subst (λ (fs : List Fixed). All (RunsAs (setting_of p w k)) fs) (sym c.give_inputs.ensures.fixed) (runs_good p w k fixed (runs_over p v k.elements k.frames c.slots.result w k.steps fixed as_made c.slots.ensures.exact c.in_ok-lanes.ensures.runs));
-      sound = subst (λ (l : List Holding). IsSoundState (record { setting = setting_of p w k; lanes = l })) are (opens_sound (setting_of p w k) c.args.inputs.now lanes good count fresh);
+      runs = subst (λ (fs : List Fixed). All (RunsAs (setting_of p w k)) fs) (sym c.give_inputs.ensures.fixed)
+          (runs_good p w k fixed (runs_over p v k.elements k.frames c.slots.result w k.steps fixed as_made c.slots.ensures.exact c.in_ok-lanes.ensures.runs));
+      sound = subst (λ (l : List Holding). IsSoundState (record { setting = setting_of p w k; lanes = l })) are
+          (opens_sound (setting_of p w k) c.args.inputs.now lanes good count fresh);
     }
 
 pub returns : goal.returns
@@ -68,17 +72,22 @@ returns g c =
     let stored : v ≡ c.in_ok-made.made = search rules in
     let as_made = stored ∙ c.in_ok-made.ensures in
     let fresh = fresh_over p v k.elements k.frames c.slots.result w lanes as_made c.slots.ensures.exact c.in_ok-lanes.ensures.fresh in
-    let good : IsGoodSetting (setting_of p w k) = good_setting p w c.slots.result k c.requires.good c.requires.some_frame c.slots.ensures.exact c.slots.ensures.some c.slots.ensures.few c.slots.ensures.fits in
+    let good : IsGoodSetting (setting_of p w k) = good_setting p w c.slots.result k c.requires.good c.requires.some_frame c.slots.ensures.exact
+    c.slots.ensures.some c.slots.ensures.few c.slots.ensures.fits in
     let count : length lanes ≡ k.elements = length-map c.in_ok-lanes.lanes.items held_of ∙ c.in_ok-lanes.ensures.count ∙ ap (λ x. x.elements) as_made in
-    let are = lanes_are p c.give_inputs.new.lanes.items c.new-2.result.items c.main_entry.result c.args.inputs.now lanes c.new-2.ensures.items c.main_entry.ensures.exact c.in_ok-give_inputs.ensures.ok in
+    let are = lanes_are p c.give_inputs.new.lanes.items c.new-2.result.items c.main_entry.result c.args.inputs.now lanes c.new-2.ensures.items
+    c.main_entry.ensures.exact c.in_ok-give_inputs.ensures.ok in
     record {
       arity = c.requires.arity;
       some_frame = c.requires.some_frame;
       good = c.requires.good;
       setting = refl;
-      sound = subst (λ (l : List Holding). IsSoundState (record { setting = setting_of p w k; lanes = l })) are (opens_sound (setting_of p w k) c.args.inputs.now lanes good count fresh);
+      sound = subst (λ (l : List Holding). IsSoundState (record { setting = setting_of p w k; lanes = l })) are
+          (opens_sound (setting_of p w k) c.args.inputs.now lanes good count fresh);
       began = subst (λ (l : List Holding). Began c.args.inputs.now (record { setting = setting_of p w k; lanes = l }) c.new-3.result.events.items) are
-          (subst (λ (evs : Events). Began c.args.inputs.now (record { setting = setting_of p w k; lanes = delivered (start_tokens (first_of p p.main) c.args.inputs.now) lanes }) evs) (sym c.new-3.ensures) (opens_began (setting_of p w k) c.args.inputs.now lanes good count fresh));
+          (subst (λ (evs : Events). Began c.args.inputs.now
+          (record { setting = setting_of p w k; lanes = delivered (start_tokens (first_of p p.main) c.args.inputs.now) lanes }) evs)
+          (sym c.new-3.ensures) (opens_began (setting_of p w k) c.args.inputs.now lanes good count fresh));
       lanes = (lanes, fresh, sym are);
       events = c.new-3.ensures;
     }

@@ -17,7 +17,8 @@ use Rattle.schedule.proofs.opening.fresh_lanes.Goals as goal
 
 pub loop-element-init-derived : goal.loop-element-init-derived
 loop-element-init-derived g c =
-    let some : 1 ≤ c.args.store.now.frames * c.args.store.now.width = one-le-mul {a = c.args.store.now.frames} {b = c.args.store.now.width} (omega arith) (omega arith) in
+    let some : 1 ≤ c.args.store.now.frames * c.args.store.now.width = one-le-mul {a = c.args.store.now.frames} {b = c.args.store.now.width}
+    (omega arith) (omega arith) in
     let size = c.banks-banks.ensures.size in
     (omega arith, tt)
 
@@ -33,8 +34,10 @@ loop-element-init g c =
       size = c.banks-banks.ensures.size;
       frames = c.banks-banks.ensures.frames;
       width = c.banks-banks.ensures.width;
-      fresh = subst (λ (l : List _). AllFrom (IsFresh (sized (g.C.Instructions.program c.args.code.now) c.elements-elements.result c.args.store.now.frames c.args.store.now.width 0)) 0 (map held_of l)) (sym none) tt;
-      runs = subst (λ (l : List _). All (RunsAs (sized (g.C.Instructions.program c.args.code.now) c.elements-elements.result c.args.store.now.frames c.args.store.now.width c.args.steps)) (map fixed_of l)) (sym none) (All-nil _);
+      fresh = subst (λ (l : List _). AllFrom (IsFresh (sized (g.C.Instructions.program c.args.code.now) c.elements-elements.result
+          c.args.store.now.frames c.args.store.now.width 0)) 0 (map held_of l)) (sym none) tt;
+      runs = subst (λ (l : List _). All (RunsAs (sized (g.C.Instructions.program c.args.code.now) c.elements-elements.result c.args.store.now.frames
+          c.args.store.now.width c.args.steps)) (map fixed_of l)) (sym none) (All-nil _);
     }
 
 pub unreachable-requires : goal.unreachable-requires
@@ -55,10 +58,12 @@ lane_at-requires-clause-bank g c =
     let b = c.in-Some.bank in
     let size = c.loop-element.invariant.size in
     let some : 0 < c.elements-elements.result - c.loop-element.element = omega arith in
-    let states = bank_states_are (c.elements-elements.result - c.loop-element.element) s (bank_states b) (remaining_of c.loop-element.banks) some c.loop-element.invariant.left (e.0.0 ∙ ap (λ (n : ℕ). take n (remaining_of c.loop-element.banks)) size) in
+    let states = bank_states_are (c.elements-elements.result - c.loop-element.element) s (bank_states b) (remaining_of c.loop-element.banks) some
+    c.loop-element.invariant.left (e.0.0 ∙ ap (λ (n : ℕ). take n (remaining_of c.loop-element.banks)) size) in
     let count : length (bank_states b) ≡ s = ap (λ (l : List SlotState). length l) states ∙ length-replicate s Empty in
     let start : b.start ≡ 0 = e.0.2 in
-    let place : b.frames * b.width ≡ s = ap (λ (n : ℕ). n * b.width) (e.0.3 ∙ c.loop-element.invariant.frames) ∙ ap (λ (n : ℕ). c.args.store.now.frames * n) (e.0.4 ∙ c.loop-element.invariant.width) in
+    let place : b.frames * b.width ≡ s = ap (λ (n : ℕ). n * b.width) (e.0.3 ∙ c.loop-element.invariant.frames)
+    ∙ ap (λ (n : ℕ). c.args.store.now.frames * n) (e.0.4 ∙ c.loop-element.invariant.width) in
     omega arith
 
 pub lane_at-requires-clause-empty : goal.lane_at-requires-clause-empty
@@ -68,7 +73,8 @@ lane_at-requires-clause-empty g c =
     let e = c.in-Some.ensures.steps in
     let b = c.in-Some.bank in
     let some : 0 < c.elements-elements.result - c.loop-element.element = omega arith in
-    let states = bank_states_are (c.elements-elements.result - c.loop-element.element) s (bank_states b) (remaining_of c.loop-element.banks) some c.loop-element.invariant.left (e.0.0 ∙ ap (λ (n : ℕ). take n (remaining_of c.loop-element.banks)) c.loop-element.invariant.size) in
+    let states = bank_states_are (c.elements-elements.result - c.loop-element.element) s (bank_states b) (remaining_of c.loop-element.banks) some
+    c.loop-element.invariant.left (e.0.0 ∙ ap (λ (n : ℕ). take n (remaining_of c.loop-element.banks)) c.loop-element.invariant.size) in
     subst (λ (l : List SlotState). All (λ (x : SlotState). x ≡ Empty) l) (sym states) (All-replicate (λ (x : SlotState). x ≡ Empty) s Empty refl)
 
 pub loop-element-preserved : goal.loop-element-preserved
@@ -84,24 +90,34 @@ loop-element-preserved g c =
     let old = map held_of c.loop-element.lanes.items in
     let one = c.in_ok-lane.ensures.fresh in
     let run = RunsAs (sized p n c.args.store.now.frames c.args.store.now.width c.args.steps) in
-    let runs_frames = subst (λ (f : ℕ). RunsAs (sized p n f b.width c.args.steps) (fixed_of c.in_ok-lane.lane)) (e.0.3 ∙ c.loop-element.invariant.frames) c.in_ok-lane.ensures.runs in
-    let runs_width = subst (λ (w : ℕ). RunsAs (sized p n c.args.store.now.frames w c.args.steps) (fixed_of c.in_ok-lane.lane)) (e.0.4 ∙ c.loop-element.invariant.width) runs_frames in
+    let runs_frames = subst (λ (f : ℕ). RunsAs (sized p n f b.width c.args.steps) (fixed_of c.in_ok-lane.lane))
+    (e.0.3 ∙ c.loop-element.invariant.frames) c.in_ok-lane.ensures.runs in
+    let runs_width = subst (λ (w : ℕ). RunsAs (sized p n c.args.store.now.frames w c.args.steps) (fixed_of c.in_ok-lane.lane))
+    (e.0.4 ∙ c.loop-element.invariant.width) runs_frames in
     let at_frames = subst (λ (f : ℕ). IsFresh (sized p n f b.width 0) k (held_of c.in_ok-lane.lane)) (e.0.3 ∙ c.loop-element.invariant.frames) one in
-    let at_width = subst (λ (w : ℕ). IsFresh (sized p n c.args.store.now.frames w 0) k (held_of c.in_ok-lane.lane)) (e.0.4 ∙ c.loop-element.invariant.width) at_frames in
+    let at_width = subst (λ (w : ℕ). IsFresh (sized p n c.args.store.now.frames w 0) k (held_of c.in_ok-lane.lane))
+    (e.0.4 ∙ c.loop-element.invariant.width) at_frames in
     let place : k ≡ 0 + length old = (let a = length-map c.loop-element.lanes.items held_of in let q = c.loop-element.invariant.count in omega arith) in
-    let more = from_push is 0 old (held_of c.in_ok-lane.lane) c.loop-element.invariant.fresh (subst (λ (m : ℕ). is m (held_of c.in_ok-lane.lane)) place at_width) in
+    let more = from_push is 0 old (held_of c.in_ok-lane.lane) c.loop-element.invariant.fresh (subst (λ (m : ℕ). is m (held_of c.in_ok-lane.lane))
+    place at_width) in
     let items = c.in_ok-push.ensures.items in
     record {
-      count = ap (λ (l : List _). length l) items ∙ (let a = length_push c.loop-element.lanes.items c.in_ok-lane.lane in let q = c.loop-element.invariant.count in omega arith);
-      left = banks_left n k s (remaining_of c.loop-element.banks) (remaining_of c.next.new.self) low c.loop-element.invariant.left (e.0.1 ∙ ap (λ (m : ℕ). drop m (remaining_of c.loop-element.banks)) c.loop-element.invariant.size);
+      count = ap (λ (l : List _). length l) items ∙ (let a = length_push c.loop-element.lanes.items c.in_ok-lane.lane
+          in let q = c.loop-element.invariant.count in omega arith);
+      left = banks_left n k s (remaining_of c.loop-element.banks) (remaining_of c.next.new.self) low c.loop-element.invariant.left
+          (e.0.1 ∙ ap (λ (m : ℕ). drop m (remaining_of c.loop-element.banks)) c.loop-element.invariant.size);
       size = e.1.0 ∙ c.loop-element.invariant.size;
       frames = e.1.1 ∙ c.loop-element.invariant.frames;
       width = e.1.2 ∙ c.loop-element.invariant.width;
-      fresh = subst (λ (l : List _). AllFrom is 0 l) (sym (ap (λ (l : List _). map held_of l) items ∙ map-append held_of c.loop-element.lanes.items (c.in_ok-lane.lane ∷ []))) more;
-      runs = subst (λ (l : List _). All run l) (sym (ap (λ (l : List _). map fixed_of l) items ∙ map-append fixed_of c.loop-element.lanes.items (c.in_ok-lane.lane ∷ []))) (All-push run (map fixed_of c.loop-element.lanes.items) (fixed_of c.in_ok-lane.lane) c.loop-element.invariant.runs runs_width);
+      fresh = subst (λ (l : List _). AllFrom is 0 l)
+          (sym (ap (λ (l : List _). map held_of l) items ∙ map-append held_of c.loop-element.lanes.items (c.in_ok-lane.lane ∷ []))) more;
+      runs = subst (λ (l : List _). All run l) (sym (ap (λ (l : List _). map fixed_of l) items ∙ map-append fixed_of c.loop-element.lanes.items
+          (c.in_ok-lane.lane ∷ []))) (All-push run (map fixed_of c.loop-element.lanes.items) (fixed_of c.in_ok-lane.lane)
+          c.loop-element.invariant.runs runs_width);
     }
 
 pub returns-clause-runs : goal.returns-clause-runs
 returns-clause-runs g c =
     let p = g.C.Instructions.program c.args.code.now in
-    subst (λ (n : ℕ). All (RunsAs (sized p n c.args.store.now.frames c.args.store.now.width c.args.steps)) (map fixed_of c.loop-element.lanes.items)) c.elements-elements.ensures c.loop-element.invariant.runs
+    subst (λ (n : ℕ). All (RunsAs (sized p n c.args.store.now.frames c.args.store.now.width c.args.steps)) (map fixed_of c.loop-element.lanes.items))
+    c.elements-elements.ensures c.loop-element.invariant.runs

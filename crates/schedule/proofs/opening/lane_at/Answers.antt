@@ -19,7 +19,8 @@ new-requires-2-clause-opening g c =
     let cells = c.in_ok-cells.cells in
     let manager = c.in_ok-manager.manager in
     let outputs = c.outputs.result in
-    opening p z (bank_states b) cells manager outputs (opened z (bank_states b) cells manager outputs) refl c.requires.there c.requires.some_frames c.requires.bank c.requires.empty
+    opening p z (bank_states b) cells manager outputs (opened z (bank_states b) cells manager outputs) refl c.requires.there c.requires.some_frames
+    c.requires.bank c.requires.empty
     (c.in_ok-cells.ensures.exact ∙ ap (λ (n : ℕ). all_vacant n c.args.element c.args.elements) c.cells.ensures)
     (λ first. c.in_ok-manager.ensures first ∙ ap (λ (n : ℕ). Some (at_first (c.args.elements * n))) c.frames.ensures) c.outputs.ensures.exact
 
@@ -28,7 +29,12 @@ returns-clause-fresh g c =
     let p = g.C.Instructions.program c.args.code.now in
     let b = c.args.bank in
     let z = shape_at c.args.element c.args.elements b in
-    let view : LaneView = record { program = p; steps = c.args.steps; held = opened z (bank_states b) c.in_ok-cells.cells c.in_ok-manager.manager c.outputs.result } in
+    let view : LaneView = record {
+      program = p;
+      steps = c.args.steps;
+      held = opened z (bank_states b) c.in_ok-cells.cells c.in_ok-manager.manager
+          c.outputs.result;
+    } in
     three_ok c.new-2.result (λ lane. lane ≡ view) (λ lane. IsSoundLane lane.program lane.held) (λ lane. StartsAs lane.program lane.held.part)
     (λ lane. IsFresh (sized p c.args.elements b.frames b.width 0) c.args.element lane.held)
     (λ lane is sound starts.
@@ -42,7 +48,12 @@ returns-clause-runs g c =
     let p = g.C.Instructions.program c.args.code.now in
     let b = c.args.bank in
     let z = shape_at c.args.element c.args.elements b in
-    let view : LaneView = record { program = p; steps = c.args.steps; held = opened z (bank_states b) c.in_ok-cells.cells c.in_ok-manager.manager c.outputs.result } in
+    let view : LaneView = record {
+      program = p;
+      steps = c.args.steps;
+      held = opened z (bank_states b) c.in_ok-cells.cells c.in_ok-manager.manager
+          c.outputs.result;
+    } in
     IfOk-weaker c.new-2.result (λ lane. lane ≡ view) (λ lane. RunsAs (sized p c.args.elements b.frames b.width c.args.steps) (fixed_of lane))
     (λ lane is. record {
       program = ap (λ (l : LaneView). l.program) is;

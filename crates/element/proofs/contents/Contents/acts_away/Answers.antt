@@ -16,8 +16,10 @@ use Rattle.element.proofs.contents.Contents.acts_away.Goals as goal
 owns : (p : Program) (h : Part) (x : ℕ) → IsSound p h → x % h.shape.elements ≡ h.shape.element → x < sum p.arrays → OwnsCell h x
 owns p h x sound ours low =
     let here : x % h.cells.elements ≡ h.cells.element = ap (λ (n : ℕ). x % n) sound.own_elements ∙ ours ∙ sym sound.own_element in
-    let within : x / h.cells.elements < length h.cells.states = subst (λ (n : ℕ). x / n < length h.cells.states) (sym sound.own_elements) (sound.own x ours low) in
-    let there = cell_at-place h.cells x (x / h.cells.elements) (is_place h.cells x (x / h.cells.elements) record { ours = here; here = refl; within = within }) in
+    let within : x / h.cells.elements < length h.cells.states = subst (λ (n : ℕ). x / n < length h.cells.states) (sym sound.own_elements)
+    (sound.own x ours low) in
+    let there = cell_at-place h.cells x (x / h.cells.elements) (is_place h.cells x (x / h.cells.elements) record
+    { ours = here; here = refl; within = within }) in
     subst (λ (o : Option CellState). IsSome o) (sym (there ∙ slice_get-get_or h.cells.states (x / h.cells.elements) Vacant within)) refl
 
 pub stores-requires-clause-own : goal.stores-requires-clause-own

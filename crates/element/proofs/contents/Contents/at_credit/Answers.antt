@@ -23,13 +23,15 @@ returns-in-Left-clause-did g c = λ yes before.
     let i = c.args.instr.now in
     let t = c.args.arrival.now.token in
     let held = c.slot_at-held.result in
-    let place : c.place_of_slot-place.result ≡ slot_place old.part.shape s.frame i.slot = c.place_of_slot-place.ensures.exact ∙ ap (λ (n : ℕ). slot_place old.part.shape s.frame n) c.slot.ensures in
+    let place : c.place_of_slot-place.result ≡ slot_place old.part.shape s.frame i.slot = c.place_of_slot-place.ensures.exact
+    ∙ ap (λ (n : ℕ). slot_place old.part.shape s.frame n) c.slot.ensures in
     let v = c.in-SlotOnly.slot in
     let there : held ≡ slice_index_or old.part.states (slot_place old.part.shape s.frame i.slot) Empty
     = subst (λ (n : ℕ). held ≡ slice_index_or old.part.states n Empty) place c.slot_at-held.ensures in
     let comes : outcome_of p (point_of s) (instr_of i) i.op held Left t.word ≡ Becomes v []
     = subst (λ (w : Word). outcome_of p (point_of s) (instr_of i) i.op held Left w ≡ Becomes v []) c.word.ensures (c.in-SlotOnly.ensures p (point_of s)) in
-    waits_as p width old t s.frame s.ip c.args.arrival.now.port i (Some i.slot) held c.requires.can.sound.part c.requires.can.width c.requires.address c.requires.can.near c.requires.can.addressed c.requires.short
+    waits_as p width old t s.frame s.ip c.args.arrival.now.port i (Some i.slot) held c.requires.can.sound.part c.requires.can.width c.requires.address
+    c.requires.can.near c.requires.can.addressed c.requires.short
     c.requires.found (credit_slot (instr_of i) i.op c.requires.credit) there v c.args.arrival.now.at before (held_in c.wait.new.self)
     (ap (λ (q : Port). outcome_of p (point_of s) (instr_of i) i.op held q t.word) c.in-Left.is ∙ comes)
     (c.wait.ensures.held ∙ ap (λ (n : ℕ). taken (with_part old (with_state old.part n v)) c.args.arrival.now.at) place)
@@ -43,7 +45,8 @@ returns-in-Left-port-clause-did g c = λ yes before.
     let i = c.args.instr.now in
     let t = c.args.arrival.now.token in
     let held = c.slot_at-held.result in
-    let place : c.place_of_slot-place.result ≡ slot_place old.part.shape s.frame i.slot = c.place_of_slot-place.ensures.exact ∙ ap (λ (n : ℕ). slot_place old.part.shape s.frame n) c.slot.ensures in
+    let place : c.place_of_slot-place.result ≡ slot_place old.part.shape s.frame i.slot = c.place_of_slot-place.ensures.exact
+    ∙ ap (λ (n : ℕ). slot_place old.part.shape s.frame n) c.slot.ensures in
     let v = c.in-Answered.slot in
     let made = c.in-Answered.token ∷ [] in
     let there : held ≡ slice_index_or old.part.states (slot_place old.part.shape s.frame i.slot) Empty
@@ -51,7 +54,8 @@ returns-in-Left-port-clause-did g c = λ yes before.
     let comes : outcome_of p (point_of s) (instr_of i) i.op held Left t.word ≡ Becomes v made
     = subst (λ (w : Word). outcome_of p (point_of s) (instr_of i) i.op held Left w ≡ Becomes v made) c.word.ensures (c.in-Answered.ensures p (point_of s)) in
     let new : Holding = held_in c.answer.new.self in
-    fired_as p width old t s.frame s.ip c.args.arrival.now.port i (Some i.slot) held c.requires.can.sound.part c.requires.can.width c.requires.address c.requires.can.near c.requires.can.addressed c.requires.short
+    fired_as p width old t s.frame s.ip c.args.arrival.now.port i (Some i.slot) held c.requires.can.sound.part c.requires.can.width c.requires.address
+    c.requires.can.near c.requires.can.addressed c.requires.short
     c.requires.found (credit_slot (instr_of i) i.op c.requires.credit) there v (Some made) c.args.arrival.now.at before Did new before
     (ap (λ (q : Port). outcome_of p (point_of s) (instr_of i) i.op held q t.word) c.in-Left-port.is ∙ comes)
     (subst (λ (n : ℕ). FiresAs (Some made) (with_state old.part n v) old c.args.arrival.now.at before Did new before) place (c.answer.ensures.did yes before))

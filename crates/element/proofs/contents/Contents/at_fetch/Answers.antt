@@ -25,8 +25,10 @@ returns-in-Now g c = λ p sound near.
     let changes = fetch_changes p old.part c.args.token x cont a cells sound.part c.requires.address c.in-Back.is near c.requires.here tt at event in
     let second = c.take.ensures.held ∙ ap (λ (m : Holding). taken (with_part mid (with_cells m.part cells)) c.args.at) same in
     let new = subst (λ (t : Token). held_in c.send.new.self ≡ queued (held_in c.take.new.self) (t ∷ [])) c.answer.ensures c.send.ensures.held in
-    let sent = subst (λ (t : Token). c.send.new.sent.items ≡ c.make_room.new.sent.items ++ elsewhere (shape_of c.take.new.self) (t ∷ [])) c.answer.ensures c.send.ensures.sent in
-    acts p old mid (held_in c.take.new.self) (held_in c.send.new.self) c.args.at c.args.token (answer cont (Word.Val c.in-Now.value) ∷ []) (with_cells old.part cells) c.args.sent.now.items c.make_room.new.sent.items c.send.new.sent.items
+    let sent = subst (λ (t : Token). c.send.new.sent.items ≡ c.make_room.new.sent.items ++ elsewhere (shape_of c.take.new.self) (t ∷ []))
+    c.answer.ensures c.send.ensures.sent in
+    acts p old mid (held_in c.take.new.self) (held_in c.send.new.self) c.args.at c.args.token (answer cont (Word.Val c.in-Now.value) ∷ [])
+    (with_cells old.part cells) c.args.sent.now.items c.make_room.new.sent.items c.send.new.sent.items
     same c.make_room.ensures.sent changes second new sent
 
 pub returns-in-Deferred : goal.returns-in-Deferred
@@ -42,5 +44,6 @@ returns-in-Deferred g c = λ p sound near.
     let event = subst (λ (m : Holding). FetchIsEvent m.part.cells x cont a cells) same c.in-Deferred.ensures.event in
     let changes = fetch_changes p old.part c.args.token x cont a cells sound.part c.requires.address c.in-Back.is near c.requires.here tt at event in
     let new = c.take-in-Deferred.ensures.held ∙ ap (λ (m : Holding). taken (with_part mid (with_cells m.part cells)) c.args.at) same in
-    acts_none p old mid (held_in c.take-in-Deferred.new.self) c.args.at c.args.token (with_cells old.part cells) c.args.sent.now.items c.make_room.new.sent.items
+    acts_none p old mid (held_in c.take-in-Deferred.new.self) c.args.at c.args.token (with_cells old.part cells) c.args.sent.now.items
+    c.make_room.new.sent.items
     same c.make_room.ensures.sent changes new

@@ -24,6 +24,8 @@ returns-in-Left-clause-did g c = λ yes before.
     let is : c.pack.result ≡ token To.Manager (Word.Back (answer_to (point_of s) (instr_of i).firsts)) = c.pack.ensures ∙ c.frame_request.ensures in
     let fired : fire_one p (point_of s) (instr_of i) i.op w ≡ Some (c.pack.result ∷ [])
     = ap (λ (op : Op). fire_one p (point_of s) (instr_of i) op w) c.requires.frame ∙ ap (λ (x : Token). Some (x ∷ [])) (sym is) in
-    fired_as p (g.C.Instructions.width c.args.code.now) old c.args.arrival.now.token s.frame s.ip c.args.arrival.now.port i None Empty c.requires.can.sound.part c.requires.can.width c.requires.address c.requires.can.near c.requires.can.addressed c.requires.short
+    fired_as p (g.C.Instructions.width c.args.code.now) old c.args.arrival.now.token s.frame s.ip c.args.arrival.now.port i None Empty
+    c.requires.can.sound.part c.requires.can.width c.requires.address c.requires.can.near c.requires.can.addressed c.requires.short
     c.requires.found (lone_slot (instr_of i) i.op lone) refl Empty (Some (c.pack.result ∷ [])) c.args.arrival.now.at before Did (held_in c.ask.new.self) before
-    (lone_alone p (point_of s) (instr_of i) i.op Empty c.args.arrival.now.port w lone ∙ ap (λ (q : Port). alone p (point_of s) (instr_of i) Empty q w) c.in-Left.is ∙ ap (λ (o : Option (List Token)). fires Empty o) fired) (c.ask.ensures.did yes before)
+    (lone_alone p (point_of s) (instr_of i) i.op Empty c.args.arrival.now.port w lone ∙ ap (λ (q : Port). alone p (point_of s) (instr_of i) Empty q w)
+    c.in-Left.is ∙ ap (λ (o : Option (List Token)). fires Empty o) fired) (c.ask.ensures.did yes before)

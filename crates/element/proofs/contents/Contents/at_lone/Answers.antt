@@ -21,8 +21,13 @@ returns-in-Left-clause-did g c = λ yes before.
     let i = c.args.instr.now in
     let w = c.args.arrival.now.token.word in
     let fired : fire_one p (point_of s) (instr_of i) i.op w ≡ Some (passed_on (point_of s) c.in-Some.passed)
-    = subst (λ (v : Word). fire_one p (point_of s) (instr_of i) i.op v ≡ Some (passed_on (point_of s) c.in-Some.passed)) c.word.ensures (c.in-Some.ensures p (point_of s)) in
-    let made : Option (List Token) → Type 0 = λ m. FiresAs m (with_state_in old.part s.frame None Empty) old c.args.arrival.now.at before Did (held_in c.pass.new.self) before in
-    fired_as p (g.C.Instructions.width c.args.code.now) old c.args.arrival.now.token s.frame s.ip c.args.arrival.now.port i None Empty c.requires.can.sound.part c.requires.can.width c.requires.address c.requires.can.near c.requires.can.addressed c.requires.short
-    c.requires.found (lone_slot (instr_of i) i.op c.requires.lone) refl Empty (fire_one p (point_of s) (instr_of i) i.op w) c.args.arrival.now.at before Did (held_in c.pass.new.self) before
-    (lone_alone p (point_of s) (instr_of i) i.op Empty c.args.arrival.now.port w c.requires.lone ∙ ap (λ (q : Port). alone p (point_of s) (instr_of i) Empty q w) c.in-Left.is) (subst made (sym fired) (c.pass.ensures.did yes before))
+    = subst (λ (v : Word). fire_one p (point_of s) (instr_of i) i.op v ≡ Some (passed_on (point_of s) c.in-Some.passed)) c.word.ensures
+    (c.in-Some.ensures p (point_of s)) in
+    let made : Option (List Token) → Type 0 = λ m. FiresAs m (with_state_in old.part s.frame None Empty) old c.args.arrival.now.at before Did
+    (held_in c.pass.new.self) before in
+    fired_as p (g.C.Instructions.width c.args.code.now) old c.args.arrival.now.token s.frame s.ip c.args.arrival.now.port i None Empty
+    c.requires.can.sound.part c.requires.can.width c.requires.address c.requires.can.near c.requires.can.addressed c.requires.short
+    c.requires.found (lone_slot (instr_of i) i.op c.requires.lone) refl Empty (fire_one p (point_of s) (instr_of i) i.op w) c.args.arrival.now.at
+    before Did (held_in c.pass.new.self) before
+    (lone_alone p (point_of s) (instr_of i) i.op Empty c.args.arrival.now.port w c.requires.lone
+    ∙ ap (λ (q : Port). alone p (point_of s) (instr_of i) Empty q w) c.in-Left.is) (subst made (sym fired) (c.pass.ensures.did yes before))

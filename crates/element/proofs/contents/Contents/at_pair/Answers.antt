@@ -20,10 +20,12 @@ returns-in-Waits-clause-did g c = λ yes before.
     let i = c.args.instr.now in
     let t = c.args.arrival.now.token in
     let held = c.slot_at-held.result in
-    let place : c.place_of_slot-place.result ≡ slot_place old.part.shape s.frame i.slot = c.place_of_slot-place.ensures.exact ∙ ap (λ (n : ℕ). slot_place old.part.shape s.frame n) c.slot.ensures in
+    let place : c.place_of_slot-place.result ≡ slot_place old.part.shape s.frame i.slot = c.place_of_slot-place.ensures.exact
+    ∙ ap (λ (n : ℕ). slot_place old.part.shape s.frame n) c.slot.ensures in
     let there : held ≡ slice_index_or old.part.states (slot_place old.part.shape s.frame i.slot) Empty
     = subst (λ (n : ℕ). held ≡ slice_index_or old.part.states n Empty) place c.slot_at-held.ensures in
-    waits_as p width old t s.frame s.ip c.args.arrival.now.port i (Some i.slot) held c.requires.can.sound.part c.requires.can.width c.requires.address c.requires.can.near c.requires.can.addressed c.requires.short
+    waits_as p width old t s.frame s.ip c.args.arrival.now.port i (Some i.slot) held c.requires.can.sound.part c.requires.can.width c.requires.address
+    c.requires.can.near c.requires.can.addressed c.requires.short
     c.requires.found (pair_slot (instr_of i) i.op c.requires.pair) there c.in-Waits.slot c.args.arrival.now.at before (held_in c.wait.new.self)
     (pair_meets p (point_of s) (instr_of i) i.op held c.args.arrival.now.port t.word c.requires.pair ∙ c.in-Waits.ensures.meets p (point_of s) (instr_of i))
     (c.wait.ensures.held ∙ ap (λ (n : ℕ). taken (with_part old (with_state old.part n c.in-Waits.slot)) c.args.arrival.now.at) place)
@@ -37,12 +39,14 @@ returns-in-Left-clause-did g c = λ yes before.
     let i = c.args.instr.now in
     let t = c.args.arrival.now.token in
     let held = c.slot_at-held.result in
-    let place : c.place_of_slot-place.result ≡ slot_place old.part.shape s.frame i.slot = c.place_of_slot-place.ensures.exact ∙ ap (λ (n : ℕ). slot_place old.part.shape s.frame n) c.slot.ensures in
+    let place : c.place_of_slot-place.result ≡ slot_place old.part.shape s.frame i.slot = c.place_of_slot-place.ensures.exact
+    ∙ ap (λ (n : ℕ). slot_place old.part.shape s.frame n) c.slot.ensures in
     let there : held ≡ slice_index_or old.part.states (slot_place old.part.shape s.frame i.slot) Empty
     = subst (λ (n : ℕ). held ≡ slice_index_or old.part.states n Empty) place c.slot_at-held.ensures in
     let fired = fire_two p (point_of s) (instr_of i) i.op c.in-Both.left c.in-Both.right in
     let new : Holding = held_in c.both.new.self in
-    fired_as p width old t s.frame s.ip c.args.arrival.now.port i (Some i.slot) held c.requires.can.sound.part c.requires.can.width c.requires.address c.requires.can.near c.requires.can.addressed c.requires.short
+    fired_as p width old t s.frame s.ip c.args.arrival.now.port i (Some i.slot) held c.requires.can.sound.part c.requires.can.width c.requires.address
+    c.requires.can.near c.requires.can.addressed c.requires.short
     c.requires.found (pair_slot (instr_of i) i.op c.requires.pair) there Empty fired c.args.arrival.now.at before Did new before
     (pair_meets p (point_of s) (instr_of i) i.op held c.args.arrival.now.port t.word c.requires.pair ∙ c.in-Both.ensures.meets p (point_of s) (instr_of i))
     (subst (λ (n : ℕ). FiresAs fired (with_state old.part n Empty) old c.args.arrival.now.at before Did new before) place (c.both.ensures.did yes before))
@@ -56,12 +60,15 @@ returns-in-Right-clause-did g c = λ yes before.
     let i = c.args.instr.now in
     let t = c.args.arrival.now.token in
     let held = c.slot_at-held.result in
-    let place : c.place_of_slot-place.result ≡ slot_place old.part.shape s.frame i.slot = c.place_of_slot-place.ensures.exact ∙ ap (λ (n : ℕ). slot_place old.part.shape s.frame n) c.slot.ensures in
+    let place : c.place_of_slot-place.result ≡ slot_place old.part.shape s.frame i.slot = c.place_of_slot-place.ensures.exact
+    ∙ ap (λ (n : ℕ). slot_place old.part.shape s.frame n) c.slot.ensures in
     let there : held ≡ slice_index_or old.part.states (slot_place old.part.shape s.frame i.slot) Empty
     = subst (λ (n : ℕ). held ≡ slice_index_or old.part.states n Empty) place c.slot_at-held.ensures in
     let fired = fire_two p (point_of s) (instr_of i) i.op c.in-Both.left c.in-Both.right in
     let new : Holding = held_in c.both-in-Right.new.self in
-    fired_as p width old t s.frame s.ip c.args.arrival.now.port i (Some i.slot) held c.requires.can.sound.part c.requires.can.width c.requires.address c.requires.can.near c.requires.can.addressed c.requires.short
+    fired_as p width old t s.frame s.ip c.args.arrival.now.port i (Some i.slot) held c.requires.can.sound.part c.requires.can.width c.requires.address
+    c.requires.can.near c.requires.can.addressed c.requires.short
     c.requires.found (pair_slot (instr_of i) i.op c.requires.pair) there Empty fired c.args.arrival.now.at before Did new before
     (pair_meets p (point_of s) (instr_of i) i.op held c.args.arrival.now.port t.word c.requires.pair ∙ c.in-Both.ensures.meets p (point_of s) (instr_of i))
-    (subst (λ (n : ℕ). FiresAs fired (with_state old.part n Empty) old c.args.arrival.now.at before Did new before) place (c.both-in-Right.ensures.did yes before))
+    (subst (λ (n : ℕ). FiresAs fired (with_state old.part n Empty) old c.args.arrival.now.at before Did new before) place
+    (c.both-in-Right.ensures.did yes before))

@@ -18,11 +18,15 @@ returns-in-Ok-Some g c = λ p sound.
     let manager = c.release.new.manager in
     let asked = subst (λ (r : Option (Cont × ℕ)). IsReleased mid.part.manager f (Ok r) manager) c.in-Ok-Some.field-0-is c.in-Ok-Some.ensures in
     let at = subst (λ (m : Holding). IsReleased m.part.manager f (Ok (Some (c.in-Ok-Some.cont, c.in-Ok-Some.frame))) manager) same asked in
-    let changes = released p old.part c.args.token f old.part.manager manager (Some (c.in-Ok-Some.cont, c.in-Ok-Some.frame)) sound.part c.requires.address c.requires.served refl at in
+    let changes = released p old.part c.args.token f old.part.manager manager (Some (c.in-Ok-Some.cont, c.in-Ok-Some.frame)) sound.part
+    c.requires.address c.requires.served refl at in
     let second = c.take.ensures.held ∙ ap (λ (m : Holding). taken (with_part mid (with_manager m.part manager)) c.args.at) same in
     let new = subst (λ (t : Token). held_in c.send.new.self ≡ queued (held_in c.take.new.self) (t ∷ [])) c.answer.ensures c.send.ensures.held in
-    let sent = subst (λ (t : Token). c.send.new.sent.items ≡ c.make_room.new.sent.items ++ elsewhere (shape_of c.take.new.self) (t ∷ [])) c.answer.ensures c.send.ensures.sent in
-    acts p old mid (held_in c.take.new.self) (held_in c.send.new.self) c.args.at c.args.token (answer c.in-Ok-Some.cont (Word.Frame c.in-Ok-Some.frame) ∷ []) (with_manager old.part manager) c.args.sent.now.items c.make_room.new.sent.items c.send.new.sent.items
+    let sent = subst (λ (t : Token). c.send.new.sent.items ≡ c.make_room.new.sent.items ++ elsewhere (shape_of c.take.new.self) (t ∷ []))
+    c.answer.ensures c.send.ensures.sent in
+    acts p old mid (held_in c.take.new.self) (held_in c.send.new.self) c.args.at c.args.token
+    (answer c.in-Ok-Some.cont (Word.Frame c.in-Ok-Some.frame) ∷ []) (with_manager old.part manager) c.args.sent.now.items
+    c.make_room.new.sent.items c.send.new.sent.items
     same c.make_room.ensures.sent changes second new sent
 
 pub returns-in-Ok-None : goal.returns-in-Ok-None
@@ -36,5 +40,6 @@ returns-in-Ok-None g c = λ p sound.
     let at = subst (λ (m : Holding). IsReleased m.part.manager f (Ok None) manager) same asked in
     let changes = released p old.part c.args.token f old.part.manager manager None sound.part c.requires.address c.requires.served refl at in
     let new = c.take-in-Ok-None.ensures.held ∙ ap (λ (m : Holding). taken (with_part mid (with_manager m.part manager)) c.args.at) same in
-    acts_none p old mid (held_in c.take-in-Ok-None.new.self) c.args.at c.args.token (with_manager old.part manager) c.args.sent.now.items c.make_room.new.sent.items
+    acts_none p old mid (held_in c.take-in-Ok-None.new.self) c.args.at c.args.token (with_manager old.part manager) c.args.sent.now.items
+    c.make_room.new.sent.items
     same c.make_room.ensures.sent changes new

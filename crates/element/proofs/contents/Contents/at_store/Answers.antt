@@ -32,9 +32,13 @@ returns-in-Stored g c = λ p sound near.
     let second = c.take.ensures.held ∙ ap (λ (m : Holding). taken (with_answered (with_part mid (with_cells m.part cells)) listed) c.args.at) same in
     let listed_is : c.take.new.self.answered.items ≡ listed = ap (λ (h : Holding). h.answered) second in
     let new = subst (λ (t : Token). held_in c.send.new.self ≡ queued (held_in c.answer_all.new.self) (t ∷ [])) c.answer.ensures c.send.ensures.held in
-    let sent = subst (λ (t : Token). c.send.new.sent.items ≡ c.answer_all.new.sent.items ++ elsewhere (shape_of c.answer_all.new.self) (t ∷ [])) c.answer.ensures c.send.ensures.sent in
-    let third = subst (λ (cs : List Cont). held_in c.answer_all.new.self ≡ cleared (queued (held_in c.take.new.self) (answers cs v))) listed_is c.answer_all.ensures.held in
-    let half = subst (λ (cs : List Cont). c.answer_all.new.sent.items ≡ c.make_room.new.sent.items ++ elsewhere (shape_of c.take.new.self) (answers cs v)) listed_is c.answer_all.ensures.sent in
-    acts_stored p old mid (held_in c.take.new.self) (held_in c.answer_all.new.self) (held_in c.send.new.self) c.args.at c.args.token listed cont v (with_cells old.part cells)
+    let sent = subst (λ (t : Token). c.send.new.sent.items ≡ c.answer_all.new.sent.items ++ elsewhere (shape_of c.answer_all.new.self) (t ∷ []))
+    c.answer.ensures c.send.ensures.sent in
+    let third = subst (λ (cs : List Cont). held_in c.answer_all.new.self ≡ cleared (queued (held_in c.take.new.self) (answers cs v))) listed_is
+    c.answer_all.ensures.held in
+    let half = subst (λ (cs : List Cont). c.answer_all.new.sent.items ≡ c.make_room.new.sent.items
+    ++ elsewhere (shape_of c.take.new.self) (answers cs v)) listed_is c.answer_all.ensures.sent in
+    acts_stored p old mid (held_in c.take.new.self) (held_in c.answer_all.new.self) (held_in c.send.new.self) c.args.at c.args.token listed cont v
+    (with_cells old.part cells)
     c.args.sent.now.items c.make_room.new.sent.items c.answer_all.new.sent.items c.send.new.sent.items
     same sound.answered c.make_room.ensures.sent changes second third new half sent

@@ -17,8 +17,10 @@ returns-in-Now-clause-did g c = λ yes p before sound near.
     let cells = c.fetch.new.self in
     let cont = c.in-Back.cont in
     let word : t.word ≡ Word.Back cont = sym c.word.ensures ∙ sym c.unpack.ensures ∙ c.in-Back.is in
-    let changes = fetch_changes p old.part t c.args.cell cont (FetchAnswer.Now c.in-Now.value) cells sound.part c.requires.address word near c.requires.here tt c.in-Now.ensures.exact c.in-Now.ensures.event in
-    acts p old old (taken (with_part old (with_cells old.part cells)) c.args.at) (held_in c.answers.new.self) c.args.at t (answer cont (Word.Val c.in-Now.value) ∷ []) (with_cells old.part cells) before before before
+    let changes = fetch_changes p old.part t c.args.cell cont (FetchAnswer.Now c.in-Now.value) cells sound.part c.requires.address word near
+    c.requires.here tt c.in-Now.ensures.exact c.in-Now.ensures.event in
+    acts p old old (taken (with_part old (with_cells old.part cells)) c.args.at) (held_in c.answers.new.self) c.args.at t
+    (answer cont (Word.Val c.in-Now.value) ∷ []) (with_cells old.part cells) before before before
     refl refl changes refl c.answers.ensures.held (sym (ap (λ (ts : List Token). before ++ ts) c.answers.ensures.none ∙ append-nil before))
 
 pub returns-in-Deferred-clause-did : goal.returns-in-Deferred-clause-did
@@ -28,5 +30,6 @@ returns-in-Deferred-clause-did g c = λ yes p before sound near.
     let cells = c.fetch.new.self in
     let cont = c.in-Back.cont in
     let word : t.word ≡ Word.Back cont = sym c.word.ensures ∙ sym c.unpack.ensures ∙ c.in-Back.is in
-    let changes = fetch_changes p old.part t c.args.cell cont FetchAnswer.Deferred cells sound.part c.requires.address word near c.requires.here tt c.in-Deferred.ensures.exact c.in-Deferred.ensures.event in
+    let changes = fetch_changes p old.part t c.args.cell cont FetchAnswer.Deferred cells sound.part c.requires.address word near c.requires.here tt
+    c.in-Deferred.ensures.exact c.in-Deferred.ensures.event in
     acts_none p old old (held_in c.is_taken.new.self) c.args.at t (with_cells old.part cells) before before refl refl changes c.is_taken.ensures.held

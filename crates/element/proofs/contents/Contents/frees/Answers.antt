@@ -1,4 +1,4 @@
-use Rattle.std.proofs.Common.{◌≡◌, refl, sym, ◌∙◌, ap, subst, ℕ, List, [], ◌∷◌, ◌++◌, Option, Some, None, Ok}
+use Rattle.std.proofs.Common.{refl, sym, ◌∙◌, ap, subst, ℕ, List, [], ◌∷◌, ◌++◌, Option, Some, None, Ok}
 use Rattle.std.proofs.lemmas.List.{append-nil}
 use Rattle.tags.specs.declared.token.Cont.{Cont}
 use Rattle.tags.specs.declared.token.Token.{Token}
@@ -19,7 +19,8 @@ returns-in-Ok-Some-clause-did g c = λ yes p before sound.
     let manager = c.release.new.manager in
     let asked = subst (λ (r : Option (Cont × ℕ)). IsReleased old.part.manager f (Ok r) manager) c.in-Ok-Some.field-0-is c.in-Ok-Some.ensures in
     let changes = released p old.part t f old.part.manager manager (Some given) sound.part c.requires.address c.requires.served refl asked in
-    acts p old old (taken (with_part old (with_manager old.part manager)) c.args.at) (held_in c.answers.new.self) c.args.at t (answer c.in-Ok-Some.cont (Word.Frame c.in-Ok-Some.frame) ∷ []) (with_manager old.part manager) before before before
+    acts p old old (taken (with_part old (with_manager old.part manager)) c.args.at) (held_in c.answers.new.self) c.args.at t
+    (answer c.in-Ok-Some.cont (Word.Frame c.in-Ok-Some.frame) ∷ []) (with_manager old.part manager) before before before
     refl refl changes refl c.answers.ensures.held (sym (ap (λ (ts : List Token). before ++ ts) c.answers.ensures.none ∙ append-nil before))
 
 pub returns-in-Ok-None-clause-did : goal.returns-in-Ok-None-clause-did

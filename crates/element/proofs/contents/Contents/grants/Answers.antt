@@ -17,8 +17,10 @@ returns-in-Ok-Some-clause-did g c = λ yes p before sound near.
     let manager = c.request.new.manager in
     let word : t.word ≡ Word.Back cont = sym c.word.ensures ∙ sym c.unpack.ensures ∙ c.in-Back.is in
     let asked = subst (λ (r : Option ℕ). IsRequested old.part.manager cont (Ok r) manager) c.in-Ok-Some.field-0-is c.in-Ok-Some.ensures in
-    let changes = requested p old.part t cont old.part.manager manager (Some c.in-Ok-Some.frame) sound.part c.requires.address word near c.requires.served refl asked in
-    acts p old old (taken (with_part old (with_manager old.part manager)) c.args.at) (held_in c.answers.new.self) c.args.at t (answer cont (Word.Frame c.in-Ok-Some.frame) ∷ []) (with_manager old.part manager) before before before
+    let changes = requested p old.part t cont old.part.manager manager (Some c.in-Ok-Some.frame) sound.part c.requires.address word near
+    c.requires.served refl asked in
+    acts p old old (taken (with_part old (with_manager old.part manager)) c.args.at) (held_in c.answers.new.self) c.args.at t
+    (answer cont (Word.Frame c.in-Ok-Some.frame) ∷ []) (with_manager old.part manager) before before before
     refl refl changes refl c.answers.ensures.held (sym (ap (λ (ts : List Token). before ++ ts) c.answers.ensures.none ∙ append-nil before))
 
 pub returns-in-Ok-None-clause-did : goal.returns-in-Ok-None-clause-did

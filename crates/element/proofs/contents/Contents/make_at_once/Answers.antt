@@ -1,6 +1,5 @@
-use Rattle.std.proofs.Common.{◌≡◌, sym, ◌∙◌, ap, subst, ℕ, suc, ◌+◌, ◌*◌, ◌<◌, ◌≤◌, true, false, List, [], length, get_or, arith}
+use Rattle.std.proofs.Common.{◌≡◌, sym, ◌∙◌, ap, subst, suc, ◌+◌, ◌*◌, ◌<◌, ◌≤◌, true, false, [], length, get_or, arith}
 use Rattle.std.proofs.lemmas.Grind.{common_steps}
-use Rattle.tags.specs.declared.token.Token.{Token}
 use Rattle.element.specs.declared.lane.Stepped.TheVariants.{Did}
 use Rattle.element.specs.Holding.{Holding, held_in}
 use Rattle.element.specs.Acts.{Acts}

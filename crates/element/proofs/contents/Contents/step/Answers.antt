@@ -14,8 +14,10 @@ returns-clause-exact g c =
     let is : c.packed-token.result ≡ get_or old.queue (place_of old c.args.pick) c.packed-token.result = grind (arith, common_steps) in
     let count : c.len-waiting.result ≡ length old.queue = grind (arith, common_steps) in
     let acts : ActsAs p old (place_of old c.args.pick) c.packed-token.result c.args.sent.now.items c.act.result (held_in c.act.new.self) c.act.new.sent.items
-    = subst (λ (n : ℕ). ActsAs p old n c.packed-token.result c.args.sent.now.items c.act.result (held_in c.act.new.self) c.act.new.sent.items) (c.among-at.ensures.exact ∙ ap (λ (n : ℕ). c.args.pick % n) count) c.act.ensures in
-    steps_as p old c.args.pick c.packed-token.result c.args.sent.now.items c.requires.sound some is c.act.result (held_in c.act.new.self) c.act.new.sent.items acts
+    = subst (λ (n : ℕ). ActsAs p old n c.packed-token.result c.args.sent.now.items c.act.result (held_in c.act.new.self) c.act.new.sent.items)
+    (c.among-at.ensures.exact ∙ ap (λ (n : ℕ). c.args.pick % n) count) c.act.ensures in
+    steps_as p old c.args.pick c.packed-token.result c.args.sent.now.items c.requires.sound some is c.act.result (held_in c.act.new.self)
+    c.act.new.sent.items acts
 
 pub returns-clause-sound : goal.returns-clause-sound
 returns-clause-sound g c =
@@ -25,8 +27,10 @@ returns-clause-sound g c =
     let is : c.packed-token.result ≡ get_or old.queue (place_of old c.args.pick) c.packed-token.result = grind (arith, common_steps) in
     let count : c.len-waiting.result ≡ length old.queue = grind (arith, common_steps) in
     let acts : ActsAs p old (place_of old c.args.pick) c.packed-token.result c.args.sent.now.items c.act.result (held_in c.act.new.self) c.act.new.sent.items
-    = subst (λ (n : ℕ). ActsAs p old n c.packed-token.result c.args.sent.now.items c.act.result (held_in c.act.new.self) c.act.new.sent.items) (c.among-at.ensures.exact ∙ ap (λ (n : ℕ). c.args.pick % n) count) c.act.ensures in
-    sound_as p old c.args.pick c.packed-token.result c.args.sent.now.items c.requires.sound some is c.act.result (held_in c.act.new.self) c.act.new.sent.items acts
+    = subst (λ (n : ℕ). ActsAs p old n c.packed-token.result c.args.sent.now.items c.act.result (held_in c.act.new.self) c.act.new.sent.items)
+    (c.among-at.ensures.exact ∙ ap (λ (n : ℕ). c.args.pick % n) count) c.act.ensures in
+    sound_as p old c.args.pick c.packed-token.result c.args.sent.now.items c.requires.sound some is c.act.result (held_in c.act.new.self)
+    c.act.new.sent.items acts
 
 pub returns-clause-shape : goal.returns-clause-shape
 returns-clause-shape g c =
@@ -36,8 +40,10 @@ returns-clause-shape g c =
     let is : c.packed-token.result ≡ get_or old.queue (place_of old c.args.pick) c.packed-token.result = grind (arith, common_steps) in
     let count : c.len-waiting.result ≡ length old.queue = grind (arith, common_steps) in
     let acts : ActsAs p old (place_of old c.args.pick) c.packed-token.result c.args.sent.now.items c.act.result (held_in c.act.new.self) c.act.new.sent.items
-    = subst (λ (n : ℕ). ActsAs p old n c.packed-token.result c.args.sent.now.items c.act.result (held_in c.act.new.self) c.act.new.sent.items) (c.among-at.ensures.exact ∙ ap (λ (n : ℕ). c.args.pick % n) count) c.act.ensures in
-    shape_as p old c.args.pick c.packed-token.result c.args.sent.now.items c.requires.sound some is c.act.result (held_in c.act.new.self) c.act.new.sent.items acts
+    = subst (λ (n : ℕ). ActsAs p old n c.packed-token.result c.args.sent.now.items c.act.result (held_in c.act.new.self) c.act.new.sent.items)
+    (c.among-at.ensures.exact ∙ ap (λ (n : ℕ). c.args.pick % n) count) c.act.ensures in
+    shape_as p old c.args.pick c.packed-token.result c.args.sent.now.items c.requires.sound some is c.act.result (held_in c.act.new.self)
+    c.act.new.sent.items acts
 
 pub returns-clause-made : goal.returns-clause-made
 returns-clause-made g c =
@@ -47,5 +53,7 @@ returns-clause-made g c =
     let is : c.packed-token.result ≡ get_or old.queue (place_of old c.args.pick) c.packed-token.result = grind (arith, common_steps) in
     let count : c.len-waiting.result ≡ length old.queue = grind (arith, common_steps) in
     let acts : ActsAs p old (place_of old c.args.pick) c.packed-token.result c.args.sent.now.items c.act.result (held_in c.act.new.self) c.act.new.sent.items
-    = subst (λ (n : ℕ). ActsAs p old n c.packed-token.result c.args.sent.now.items c.act.result (held_in c.act.new.self) c.act.new.sent.items) (c.among-at.ensures.exact ∙ ap (λ (n : ℕ). c.args.pick % n) count) c.act.ensures in
-    made_as p old c.args.pick c.packed-token.result c.args.sent.now.items c.requires.sound some is c.act.result (held_in c.act.new.self) c.act.new.sent.items acts
+    = subst (λ (n : ℕ). ActsAs p old n c.packed-token.result c.args.sent.now.items c.act.result (held_in c.act.new.self) c.act.new.sent.items)
+    (c.among-at.ensures.exact ∙ ap (λ (n : ℕ). c.args.pick % n) count) c.act.ensures in
+    made_as p old c.args.pick c.packed-token.result c.args.sent.now.items c.requires.sound some is c.act.result (held_in c.act.new.self)
+    c.act.new.sent.items acts

@@ -10,8 +10,10 @@ returns-clause-exact g c =
     let old : Holding = held_in c.args.self.now in
     let t = c.packed-token.result in
     let first : t ≡ get_or old.queue 0 t = c.packed-token.ensures in
-    let acts = oldest_acts p old t c.args.sent.now.items c.act_otherwise.result (held_in c.act_otherwise.new.self) c.act_otherwise.new.sent.items c.act_otherwise.ensures in
-    steps_as p old 0 t c.args.sent.now.items c.requires.sound c.requires.some (oldest old t first) c.act_otherwise.result (held_in c.act_otherwise.new.self) c.act_otherwise.new.sent.items acts
+    let acts = oldest_acts p old t c.args.sent.now.items c.act_otherwise.result (held_in c.act_otherwise.new.self) c.act_otherwise.new.sent.items
+    c.act_otherwise.ensures in
+    steps_as p old 0 t c.args.sent.now.items c.requires.sound c.requires.some (oldest old t first) c.act_otherwise.result
+    (held_in c.act_otherwise.new.self) c.act_otherwise.new.sent.items acts
 
 pub returns-clause-sound : goal.returns-clause-sound
 returns-clause-sound g c =
@@ -19,8 +21,10 @@ returns-clause-sound g c =
     let old : Holding = held_in c.args.self.now in
     let t = c.packed-token.result in
     let first : t ≡ get_or old.queue 0 t = c.packed-token.ensures in
-    let acts = oldest_acts p old t c.args.sent.now.items c.act_otherwise.result (held_in c.act_otherwise.new.self) c.act_otherwise.new.sent.items c.act_otherwise.ensures in
-    sound_as p old 0 t c.args.sent.now.items c.requires.sound c.requires.some (oldest old t first) c.act_otherwise.result (held_in c.act_otherwise.new.self) c.act_otherwise.new.sent.items acts
+    let acts = oldest_acts p old t c.args.sent.now.items c.act_otherwise.result (held_in c.act_otherwise.new.self) c.act_otherwise.new.sent.items
+    c.act_otherwise.ensures in
+    sound_as p old 0 t c.args.sent.now.items c.requires.sound c.requires.some (oldest old t first) c.act_otherwise.result
+    (held_in c.act_otherwise.new.self) c.act_otherwise.new.sent.items acts
 
 pub returns-clause-shape : goal.returns-clause-shape
 returns-clause-shape g c =
@@ -28,8 +32,10 @@ returns-clause-shape g c =
     let old : Holding = held_in c.args.self.now in
     let t = c.packed-token.result in
     let first : t ≡ get_or old.queue 0 t = c.packed-token.ensures in
-    let acts = oldest_acts p old t c.args.sent.now.items c.act_otherwise.result (held_in c.act_otherwise.new.self) c.act_otherwise.new.sent.items c.act_otherwise.ensures in
-    shape_as p old 0 t c.args.sent.now.items c.requires.sound c.requires.some (oldest old t first) c.act_otherwise.result (held_in c.act_otherwise.new.self) c.act_otherwise.new.sent.items acts
+    let acts = oldest_acts p old t c.args.sent.now.items c.act_otherwise.result (held_in c.act_otherwise.new.self) c.act_otherwise.new.sent.items
+    c.act_otherwise.ensures in
+    shape_as p old 0 t c.args.sent.now.items c.requires.sound c.requires.some (oldest old t first) c.act_otherwise.result
+    (held_in c.act_otherwise.new.self) c.act_otherwise.new.sent.items acts
 
 pub returns-clause-made : goal.returns-clause-made
 returns-clause-made g c =
@@ -37,5 +43,7 @@ returns-clause-made g c =
     let old : Holding = held_in c.args.self.now in
     let t = c.packed-token.result in
     let first : t ≡ get_or old.queue 0 t = c.packed-token.ensures in
-    let acts = oldest_acts p old t c.args.sent.now.items c.act_otherwise.result (held_in c.act_otherwise.new.self) c.act_otherwise.new.sent.items c.act_otherwise.ensures in
-    made_as p old 0 t c.args.sent.now.items c.requires.sound c.requires.some (oldest old t first) c.act_otherwise.result (held_in c.act_otherwise.new.self) c.act_otherwise.new.sent.items acts
+    let acts = oldest_acts p old t c.args.sent.now.items c.act_otherwise.result (held_in c.act_otherwise.new.self) c.act_otherwise.new.sent.items
+    c.act_otherwise.ensures in
+    made_as p old 0 t c.args.sent.now.items c.requires.sound c.requires.some (oldest old t first) c.act_otherwise.result
+    (held_in c.act_otherwise.new.self) c.act_otherwise.new.sent.items acts

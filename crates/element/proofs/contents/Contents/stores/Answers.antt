@@ -1,4 +1,4 @@
-use Rattle.std.proofs.Common.{◌≡◌, refl, sym, ◌∙◌, ap, subst, ℕ, List, [], ◌∷◌, ◌++◌, length, Option, Some, None, arith}
+use Rattle.std.proofs.Common.{◌≡◌, refl, sym, ◌∙◌, ap, subst, List, [], ◌∷◌, ◌++◌, length, Option, Some, None, arith}
 use Rattle.std.specs.Prelude.{option_and_then, vec_capacity}
 use Rattle.std.proofs.lemmas.List.{append-nil}
 use Rattle.std.proofs.lemmas.Option.{same_Some}
@@ -47,5 +47,6 @@ returns-in-Stored-clause-did g c = λ yes p before sound near.
     let event = subst (λ (cs : List Cont). StoreIsEvent old.part.cells x v StoreAnswer.Stored cells [] cs) none event_first in
     let changes = store_changes p old.part t x v cont room cells [] sound.part c.requires.address word near c.requires.here at event in
     let second = ap (λ (cs : List Cont). taken (with_answered (with_part old (with_cells old.part cells)) cs) c.args.at) (none ∙ sym answered) in
-    acts p old old (taken (with_answered (with_part old (with_cells old.part cells)) listed) c.args.at) (held_in c.answers.new.self) c.args.at t (answers ([] ++ cont ∷ []) v) (with_cells old.part cells) before before before
+    acts p old old (taken (with_answered (with_part old (with_cells old.part cells)) listed) c.args.at) (held_in c.answers.new.self) c.args.at t
+    (answers ([] ++ cont ∷ []) v) (with_cells old.part cells) before before before
     refl refl changes second c.answers.ensures.held (sym (ap (λ (ts : List Token). before ++ ts) c.answers.ensures.none ∙ append-nil before))

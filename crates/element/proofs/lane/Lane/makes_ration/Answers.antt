@@ -10,10 +10,13 @@ returns-clause-exact g c =
     let p = g.C.Instructions.program lane.code.now in
     let new : Holding = held_in c.make_at_once.new.self in
     let held : held_in c.ration.new.self ≡ held_in lane.contents = c.ration.ensures.held in
-    let same : c.ration.new.self.made ≡ lane.contents.made = ap (λ (h : Holding). h.made) held in
-    let within : c.ration.new.self.made + c.min-events.result ≤ lane.steps = grind (arith, common_steps) in
+    let same : c.ration.new.self.queue.gone ≡ lane.contents.queue.gone = ap (λ (h : Holding). h.made) held in
+    let within : c.ration.new.self.queue.gone + c.min-events.result ≤ lane.steps = grind (arith, common_steps) in
     let all = c.make_at_once.ensures.exact lane.steps within in
     let view : LaneView = record { program = p; steps = lane.steps; held = held_in lane.contents } in
     let seen = c.self.view_is in
-    let is : view ≡ c.args.self.now = cc in
-    (all.0, subst (λ (l : LaneView). MakesEvents l.program l.steps all.0 l.held new) is (subst (λ (h : Holding). MakesEvents p lane.steps all.0 h new) held all.1))
+    let is : view ≡ c.args.self.now = cc in (
+      all.0,
+      subst (λ (l : LaneView). MakesEvents l.program l.steps all.0 l.held new) is (subst (λ (h : Holding). MakesEvents p lane.steps all.0 h new)
+          held all.1),
+    )

@@ -24,7 +24,9 @@ returns-else-waiting-ne0-clause-yes g c = λ yes h there.
     let x = c.index.result.now in
     let count = lane_count items ts m.shape.elements c.requires.well.sound.count in
     let low : c.args.element < length items = (let l = c.requires.element in omega arith) in
-    let at = first_get (IsAt m.shape.elements) (map held_of items) c.args.element (held_of x) (raw_at (state_of g.C.Instructions.program g.C.Instructions.width m).setting items ts c.requires.well.sound.lanes) (held_at items c.args.element x low c.index.ensures) in
+    let at = first_get (IsAt m.shape.elements) (map held_of items) c.args.element (held_of x)
+    (raw_at (state_of g.C.Instructions.program g.C.Instructions.width m).setting items ts c.requires.well.sound.lanes)
+    (held_at items c.args.element x low c.index.ensures) in
     let e = rw c.deref.ensures.value at c.has_token_for.ensures in
     has_arriving items ts m.shape.elements c.args.element x h low c.index.ensures at there (sym e ∙ yes)
 
@@ -36,7 +38,9 @@ returns-else-waiting-ne0-clause-no g c = λ no h there.
     let x = c.index.result.now in
     let count = lane_count items ts m.shape.elements c.requires.well.sound.count in
     let low : c.args.element < length items = (let l = c.requires.element in omega arith) in
-    let at = first_get (IsAt m.shape.elements) (map held_of items) c.args.element (held_of x) (raw_at (state_of g.C.Instructions.program g.C.Instructions.width m).setting items ts c.requires.well.sound.lanes) (held_at items c.args.element x low c.index.ensures) in
+    let at = first_get (IsAt m.shape.elements) (map held_of items) c.args.element (held_of x)
+    (raw_at (state_of g.C.Instructions.program g.C.Instructions.width m).setting items ts c.requires.well.sound.lanes)
+    (held_at items c.args.element x low c.index.ensures) in
     let e = rw c.deref.ensures.value at c.has_token_for.ensures in
     let none : length x.held.queue ≡ 0 = grind (arith, common_steps) in
     has_none items ts m.shape.elements c.args.element x h low c.index.ensures at there (nil_from_length x.held.queue none) (sym e ∙ no)

@@ -12,6 +12,8 @@ invariant-loop-element g l = record {
   well : IsWell g.C.Instructions.program g.C.Instructions.width l.self;
   elements : l.self.shape.elements ≡ l.fn.self.shape.elements;
   played : (made : Events)
-      × ((last : State) (halt : Halt) (later : Events) → Plays true (drop l.element-index l.picks) (state_of g.C.Instructions.program g.C.Instructions.width l.self) last halt later → Plays true l.picks (state_of g.C.Instructions.program g.C.Instructions.width l.fn.self) last halt (made ++ later))
+      × ((last : State) (halt : Halt) (later : Events) → Plays true (drop l.element-index l.picks)
+      (state_of g.C.Instructions.program g.C.Instructions.width l.self) last halt later
+      → Plays true l.picks (state_of g.C.Instructions.program g.C.Instructions.width l.fn.self) last halt (made ++ later))
       × (l.log.events.items ≡ logged g.L.Log.KEEPS_EVENTS l.fn.log.events.items made);
 }

@@ -24,8 +24,13 @@ returns-in-Some-clause-exact g c =
     let low : 0 < n = omega arith in
     let whole : n - 0 ≡ n = omega arith in
     let all = played.1 1 next c.in-Some.halt x.0 (subst
-    (λ (m : ℕ). Plays false (in_turn 0 m ++ rounds_of 0 n) s next c.in-Some.halt x.0) whole (turn_last s next 0 n x.0 c.in-Some.halt low x.1)) in
-    (all.0, played.0 ++ x.0, all.1, logged_more g.L.Log.KEEPS_EVENTS c.args.log.now.events.items c.events.log.events.items c.advance.new.log.events.items played.0 x.0 played.2 x.2)
+    (λ (m : ℕ). Plays false (in_turn 0 m ++ rounds_of 0 n) s next c.in-Some.halt x.0) whole (turn_last s next 0 n x.0 c.in-Some.halt low x.1)) in (
+      all.0,
+      played.0 ++ x.0,
+      all.1,
+      logged_more g.L.Log.KEEPS_EVENTS c.args.log.now.events.items c.events.log.events.items
+          c.advance.new.log.events.items played.0 x.0 played.2 x.2,
+    )
 
 pub events-preserved : goal.events-preserved
 events-preserved g c =
@@ -60,5 +65,10 @@ returns-clause-exact g c =
     let last = state_of g.C.Instructions.program g.C.Instructions.width c.play_passes.new.self in
     let s = state_of g.C.Instructions.program g.C.Instructions.width c.events.self in
     let plays = subst (λ (m : ℕ). Plays false (rounds_of rest.0 m) s last c.play_passes.result rest.1) c.events.invariant.elements rest.2 in
-    let all = played.1 rest.0 last c.play_passes.result rest.1 plays in
-    (all.0, played.0 ++ rest.1, all.1, logged_more g.L.Log.KEEPS_EVENTS c.args.log.now.events.items c.events.log.events.items c.play_passes.new.log.events.items played.0 rest.1 played.2 rest.3)
+    let all = played.1 rest.0 last c.play_passes.result rest.1 plays in (
+      all.0,
+      played.0 ++ rest.1,
+      all.1,
+      logged_more g.L.Log.KEEPS_EVENTS c.args.log.now.events.items c.events.log.events.items
+          c.play_passes.new.log.events.items played.0 rest.1 played.2 rest.3,
+    )

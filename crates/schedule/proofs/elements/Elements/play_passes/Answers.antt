@@ -22,7 +22,12 @@ loop-element-init g c =
     record {
       well = c.passes.invariant.well;
       elements = c.passes.invariant.elements;
-      played = (played.0, (λ rounds last halt later p. played.1 (suc rounds) last halt later (subst (λ (m : ℕ). Plays false (in_turn 0 m ++ rounds_of rounds n) s last halt later) whole p)), played.2);
+      played = (
+        played.0,
+        (λ rounds last halt later p. played.1 (suc rounds) last halt later
+            (subst (λ (m : ℕ). Plays false (in_turn 0 m ++ rounds_of rounds n) s last halt later) whole p)),
+        played.2,
+      );
       passes = inr (refl, (λ i h low e. absurd (omega arith)), (λ l. absurd (omega arith)));
     }
 
@@ -51,7 +56,12 @@ passes-preserved g c =
     record {
       well = c.loop-element.invariant.well;
       elements = c.loop-element.invariant.elements;
-      played = (played.0, (λ rounds last halt later p. played.1 rounds last halt later (turn_done s last c.loop-element.element n rounds later halt all p)), played.2);
+      played = (
+        played.0,
+        (λ rounds last halt later p. played.1 rounds last halt later (turn_done s last c.loop-element.element n rounds later halt
+            all p)),
+        played.2,
+      );
     }
 
 pub returns-in-Some-clause-exact : goal.returns-in-Some-clause-exact
@@ -63,8 +73,13 @@ returns-in-Some-clause-exact g c =
     let next = state_of g.C.Instructions.program g.C.Instructions.width c.advance.new.self in
     let x = c.in-Some.ensures.exact in
     let low : k < n = (let l = c.loop-element-test.true in let b = c.passes.invariant.elements in omega arith) in
-    let all = played.1 0 next c.in-Some.halt x.0 (turn_last s next k n x.0 c.in-Some.halt low x.1) in
-    (all.0, played.0 ++ x.0, all.1, logged_more g.L.Log.KEEPS_EVENTS c.args.log.now.events.items c.loop-element.log.events.items c.advance.new.log.events.items played.0 x.0 played.2 x.2)
+    let all = played.1 0 next c.in-Some.halt x.0 (turn_last s next k n x.0 c.in-Some.halt low x.1) in (
+      all.0,
+      played.0 ++ x.0,
+      all.1,
+      logged_more g.L.Log.KEEPS_EVENTS c.args.log.now.events.items c.loop-element.log.events.items
+          c.advance.new.log.events.items played.0 x.0 played.2 x.2,
+    )
 
 pub loop-element-preserved : goal.loop-element-preserved
 loop-element-preserved g c =

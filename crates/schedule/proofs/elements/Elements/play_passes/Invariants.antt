@@ -12,8 +12,10 @@ invariant-passes g l = record {
   well : IsWell g.C.Instructions.program g.C.Instructions.width l.self;
   elements : l.self.shape.elements ≡ l.fn.self.shape.elements;
   played : (made : Events)
-      × ((rounds : ℕ) (last : State) (halt : Halt) (later : Events) → Plays false (rounds_of rounds l.fn.self.shape.elements) (state_of g.C.Instructions.program g.C.Instructions.width l.self) last halt later
-      → (all : ℕ) × Plays false (rounds_of all l.fn.self.shape.elements) (state_of g.C.Instructions.program g.C.Instructions.width l.fn.self) last halt (made ++ later))
+      × ((rounds : ℕ) (last : State) (halt : Halt) (later : Events) → Plays false (rounds_of rounds l.fn.self.shape.elements)
+      (state_of g.C.Instructions.program g.C.Instructions.width l.self) last halt later
+      → (all : ℕ) × Plays false (rounds_of all l.fn.self.shape.elements) (state_of g.C.Instructions.program g.C.Instructions.width l.fn.self) last
+      halt (made ++ later))
       × (l.log.events.items ≡ logged g.L.Log.KEEPS_EVENTS l.fn.log.events.items made);
 }
 
@@ -25,8 +27,11 @@ invariant-loop-element g l = record {
   well : IsWell g.C.Instructions.program g.C.Instructions.width l.self;
   elements : l.self.shape.elements ≡ l.fn.self.shape.elements;
   played : (made : Events)
-      × ((rounds : ℕ) (last : State) (halt : Halt) (later : Events) → Plays false (in_turn l.element (l.fn.self.shape.elements - l.element) ++ rounds_of rounds l.fn.self.shape.elements) (state_of g.C.Instructions.program g.C.Instructions.width l.self) last halt later
-      → (all : ℕ) × Plays false (rounds_of all l.fn.self.shape.elements) (state_of g.C.Instructions.program g.C.Instructions.width l.fn.self) last halt (made ++ later))
+      × ((rounds : ℕ) (last : State) (halt : Halt) (later : Events) → Plays false (in_turn l.element (l.fn.self.shape.elements - l.element)
+      ++ rounds_of rounds l.fn.self.shape.elements) (state_of g.C.Instructions.program g.C.Instructions.width l.self) last halt later
+      → (all : ℕ) × Plays false (rounds_of all l.fn.self.shape.elements) (state_of g.C.Instructions.program g.C.Instructions.width l.fn.self) last
+      halt (made ++ later))
       × (l.log.events.items ≡ logged g.L.Log.KEEPS_EVENTS l.fn.log.events.items made);
-  passes : Passes (state_of g.C.Instructions.program g.C.Instructions.width l.initial.self) l.element (state_of g.C.Instructions.program g.C.Instructions.width l.self);
+  passes : Passes (state_of g.C.Instructions.program g.C.Instructions.width l.initial.self) l.element
+      (state_of g.C.Instructions.program g.C.Instructions.width l.self);
 }

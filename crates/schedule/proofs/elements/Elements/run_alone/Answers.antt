@@ -24,7 +24,8 @@ returns-clause-well g c =
     let runs = runs_at (RunsAs s.setting) m.lanes.items 0 x c.requires.well.runs low is in
     let first = is_alone s (held_of x) (c.requires.well.sound.count ∙ one) there in
     let made = c.make_events.ensures in
-    let both = ran_alone s.setting x new c.make_events.result (subst (λ (t : State). IsSoundState t) first c.requires.well.sound) runs made.fixed made.sound made.most made.exact.0 made.exact.1 made.exact.2 made.exact.3 in
+    let both = ran_alone s.setting x new c.make_events.result (subst (λ (t : State). IsSoundState t) first c.requires.well.sound) runs made.fixed
+    made.sound made.most made.exact.0 made.exact.1 made.exact.2 made.exact.3 in
     let same = next_alone s.setting m.lanes.items m.sent.items c.make_events.new.sent.items m.arrived
     (held_of x) new c.requires.sent made.none c.requires.arrived (ap (λ (t : State). t.lanes) first) in
     let none = c.requires.arrived in
@@ -49,7 +50,8 @@ returns-clause-exact g c =
     let runs = runs_at (RunsAs s.setting) m.lanes.items 0 x c.requires.well.runs low is in
     let first = is_alone s (held_of x) (c.requires.well.sound.count ∙ one) there in
     let made = c.make_events.ensures in
-    let both = ran_alone s.setting x new c.make_events.result (subst (λ (t : State). IsSoundState t) first c.requires.well.sound) runs made.fixed made.sound made.most made.exact.0 made.exact.1 made.exact.2 made.exact.3 in
+    let both = ran_alone s.setting x new c.make_events.result (subst (λ (t : State). IsSoundState t) first c.requires.well.sound) runs made.fixed
+    made.sound made.most made.exact.0 made.exact.1 made.exact.2 made.exact.3 in
     let same = next_alone s.setting m.lanes.items m.sent.items c.make_events.new.sent.items m.arrived
     (held_of x) new c.requires.sent made.none c.requires.arrived (ap (λ (t : State). t.lanes) first) in
     let all = both.1 in (

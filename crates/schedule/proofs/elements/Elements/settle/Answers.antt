@@ -6,7 +6,8 @@ use Rattle.schedule.proofs.Staying.{near_for, near_arriving}
 use Rattle.schedule.proofs.elements.Elements.settle.Goals as goal
 
 pub deliver-requires-clause-at : goal.deliver-requires-clause-at
-deliver-requires-clause-at g c = let m = c.args.self.now in raw_at (state_of g.C.Instructions.program g.C.Instructions.width m).setting m.lanes.items (drop m.arrived m.sent.items) c.requires.sound.lanes
+deliver-requires-clause-at g c = let m = c.args.self.now in raw_at (state_of g.C.Instructions.program g.C.Instructions.width m).setting m.lanes.items
+    (drop m.arrived m.sent.items) c.requires.sound.lanes
 
 pub deliver-requires-clause-near : goal.deliver-requires-clause-near
 deliver-requires-clause-near g c =

@@ -5,4 +5,5 @@ use Rattle.schedule.proofs.machine.Machine+C+A.run.Goals as goal
 
 pub returns-clause-shows : goal.returns-clause-shows
 returns-clause-shows g c = λ inputs began.
-    subst (λ (z : Setting). ShowsInOrder z.program (size z) inputs z.steps true false c.report.result) c.play-halt.ensures.setting (c.report.ensures.shows inputs true (c.play-halt.ensures.began inputs began) c.play-halt.ensures.halts)
+    subst (λ (z : Setting). ShowsInOrder z.program (size z) inputs z.steps true false c.report.result) c.play-halt.ensures.setting
+    (c.report.ensures.shows inputs true (c.play-halt.ensures.began inputs began) c.play-halt.ensures.halts)

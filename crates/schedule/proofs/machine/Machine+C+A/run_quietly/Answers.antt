@@ -28,6 +28,7 @@ returns g c =
         shows = λ inputs began.
             let at_first = subst (λ (s : State). Began inputs s before) (sym same) began in
             let shown = (q.2).shows inputs false (e.4 inputs before at_first) c.play_in_turn-halt.ensures.halts in
-            subst (λ (z : Setting). ShowsInOrder z.program (size z) inputs z.steps false false (with_events c.report.result q.1)) (c.play_in_turn-halt.ensures.setting ∙ ap (λ (s : State). s.setting) same) shown;
+            subst (λ (z : Setting). ShowsInOrder z.program (size z) inputs z.steps false false (with_events c.report.result q.1))
+            (c.play_in_turn-halt.ensures.setting ∙ ap (λ (s : State). s.setting) same) shown;
       },
     )

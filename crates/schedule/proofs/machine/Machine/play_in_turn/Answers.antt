@@ -15,7 +15,9 @@ returns-clause-plays g c =
     let new = state_of g.C.Instructions.program g.C.Instructions.width c.play_in_turn.new.self in
     let after = c.play_in_turn.new.log.events.items in
     let e = c.play_in_turn.ensures.exact in
-    subst (λ (k : SoFar). (rounds : ℕ) × (made : Events) × Plays false (rounds_of rounds k.state.setting.elements) k.state new c.play_in_turn.result made × (after ≡ logged g.L.Log.KEEPS_EVENTS k.events made) × ((inputs : List ℤ) (before : Events) → Began inputs k.state before → Began inputs new (before ++ made))) c.self.view_is
+    subst (λ (k : SoFar). (rounds : ℕ) × (made : Events) × Plays false (rounds_of rounds k.state.setting.elements) k.state new c.play_in_turn.result
+    made × (after ≡ logged g.L.Log.KEEPS_EVENTS k.events made) × ((inputs : List ℤ) (before : Events) → Began inputs k.state before
+    → Began inputs new (before ++ made))) c.self.view_is
     (e.0, e.1, e.2, e.3, λ inputs before. began_plays inputs false (rounds_of e.0 old.setting.elements) old new c.play_in_turn.result before e.1 e.2)
 
 pub returns-clause-began : goal.returns-clause-began
@@ -25,12 +27,14 @@ returns-clause-began g c = λ inputs began.
     let before = c.self.inside.log.events.items in
     let e = c.play_in_turn.ensures.exact in
     let inside = subst (λ (k : SoFar). BeganIfNoted g.L.Log.KEEPS_EVENTS inputs k) (sym c.self.view_is) began in
-    began_if_noted g.L.Log.KEEPS_EVENTS inputs old new before c.play_in_turn.new.log.events.items e.1 e.3 (began_plays inputs false (rounds_of e.0 old.setting.elements) old new c.play_in_turn.result before e.1 e.2) inside
+    began_if_noted g.L.Log.KEEPS_EVENTS inputs old new before c.play_in_turn.new.log.events.items e.1 e.3
+    (began_plays inputs false (rounds_of e.0 old.setting.elements) old new c.play_in_turn.result before e.1 e.2) inside
 
 pub returns-clause-halts : goal.returns-clause-halts
 returns-clause-halts g c =
     let e = c.play_in_turn.ensures.exact in
-    halts_as false (rounds_of e.0 c.self.inside.elements.shape.elements) (state_of g.C.Instructions.program g.C.Instructions.width c.self.inside.elements) (state_of g.C.Instructions.program g.C.Instructions.width c.play_in_turn.new.self) c.play_in_turn.result e.1 e.2
+    halts_as false (rounds_of e.0 c.self.inside.elements.shape.elements) (state_of g.C.Instructions.program g.C.Instructions.width
+    c.self.inside.elements) (state_of g.C.Instructions.program g.C.Instructions.width c.play_in_turn.new.self) c.play_in_turn.result e.1 e.2
 
 pub returns-clause-setting : goal.returns-clause-setting
 returns-clause-setting g c =
@@ -38,11 +42,13 @@ returns-clause-setting g c =
     let new = state_of g.C.Instructions.program g.C.Instructions.width c.play_in_turn.new.self in
     let e = c.play_in_turn.ensures.exact in
     let z : Setting = new.setting in
-    subst (λ (k : SoFar). z ≡ k.state.setting) c.self.view_is (setting_plays false (rounds_of e.0 c.self.inside.elements.shape.elements) old new c.play_in_turn.result e.1 e.2)
+    subst (λ (k : SoFar). z ≡ k.state.setting) c.self.view_is (setting_plays false (rounds_of e.0 c.self.inside.elements.shape.elements) old new
+    c.play_in_turn.result e.1 e.2)
 
 pub returns-clause-cell : goal.returns-clause-cell
 returns-clause-cell g c =
     let old = state_of g.C.Instructions.program g.C.Instructions.width c.self.inside.elements in
     let new = state_of g.C.Instructions.program g.C.Instructions.width c.play_in_turn.new.self in
     let e = c.play_in_turn.ensures.exact in
-    clash_cell new false c.play_in_turn.result c.play_in_turn.ensures.well.sound (halts_as false (rounds_of e.0 c.self.inside.elements.shape.elements) old new c.play_in_turn.result e.1 e.2)
+    clash_cell new false c.play_in_turn.result c.play_in_turn.ensures.well.sound (halts_as false (rounds_of e.0 c.self.inside.elements.shape.elements)
+    old new c.play_in_turn.result e.1 e.2)

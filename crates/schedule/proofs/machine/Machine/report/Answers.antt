@@ -15,7 +15,8 @@ report_of-requires-clause-cell g c = subst (λ (k : SoFar). NamesCell k.state.se
 pub returns-clause-reported : goal.returns-clause-reported
 returns-clause-reported g c =
     let m = c.self.inside.elements in
-    subst (λ (k : SoFar). IsReportOf k c.args.halt c.report_of.result) c.self.view_is (reported_of g.C.Instructions.program g.C.Instructions.width m c.self.inside.log.events.items c.args.halt c.report_of.result c.report_of.ensures)
+    subst (λ (k : SoFar). IsReportOf k c.args.halt c.report_of.result) c.self.view_is (reported_of g.C.Instructions.program g.C.Instructions.width m
+    c.self.inside.log.events.items c.args.halt c.report_of.result c.report_of.ensures)
 
 pub returns-clause-shows : goal.returns-clause-shows
 returns-clause-shows g c = λ inputs by_list began halts.
@@ -28,7 +29,8 @@ returns-clause-shows g c = λ inputs by_list began halts.
     let found = shows_reported g.C.Instructions.program g.C.Instructions.width m evs c.args.halt r c.self.invariant c.report_of.ensures inputs
     by_list evs b h in
     let shown : ShowsInOrder s.setting.program (size s.setting) inputs s.setting.steps by_list false r =
-    subst (λ (l : Events). ShowsInOrder s.setting.program (size s.setting) inputs s.setting.steps by_list false (with_events r l)) (sym (found.2 refl)) found.1 in
+    subst (λ (l : Events). ShowsInOrder s.setting.program (size s.setting) inputs s.setting.steps by_list false (with_events r l))
+    (sym (found.2 refl)) found.1 in
     subst (λ (k : SoFar). ShowsInOrder k.state.setting.program (size k.state.setting) inputs k.state.setting.steps by_list false r) c.self.view_is shown
 
 pub returns-clause-any : goal.returns-clause-any
@@ -36,7 +38,8 @@ returns-clause-any g c =
     let m = c.self.inside.elements in
     let evs = c.self.inside.log.events.items in
     let r = c.report_of.result in
-    subst (λ (k : SoFar). (inputs : List ℤ) (by_list : Bool) (events : Events) → Began inputs k.state events → HaltsAs k.state by_list c.args.halt → ShowsBut k.state.setting.program (size k.state.setting) inputs k.state.setting.steps by_list false k.events events r) c.self.view_is
+    subst (λ (k : SoFar). (inputs : List ℤ) (by_list : Bool) (events : Events) → Began inputs k.state events → HaltsAs k.state by_list c.args.halt
+    → ShowsBut k.state.setting.program (size k.state.setting) inputs k.state.setting.steps by_list false k.events events r) c.self.view_is
     (shows_reported g.C.Instructions.program g.C.Instructions.width m evs c.args.halt r c.self.invariant c.report_of.ensures)
 
 pub returns-clause-quietly : goal.returns-clause-quietly

@@ -14,7 +14,9 @@ returns-clause-steps g c =
     let new = state_of g.C.Instructions.program g.C.Instructions.width c.step.new.self in
     let after = c.step.new.log.events.items in
     let e = c.step.ensures.exact in
-    subst (λ (k : SoFar). (made : Events) × Steps k.state c.args.element c.args.pick c.step.result new made × (after ≡ logged g.L.Log.KEEPS_EVENTS k.events made) × ((inputs : List ℤ) (before : Events) → Began inputs k.state before → Began inputs new (before ++ made))) c.self.view_is
+    subst (λ (k : SoFar). (made : Events) × Steps k.state c.args.element c.args.pick c.step.result new made
+    × (after ≡ logged g.L.Log.KEEPS_EVENTS k.events made) × ((inputs : List ℤ) (before : Events) → Began inputs k.state before
+    → Began inputs new (before ++ made))) c.self.view_is
     (e.0, e.1, e.2, λ inputs before. began_step inputs old new c.args.element c.args.pick c.step.result before e.0 e.1)
 
 pub returns-clause-began : goal.returns-clause-began
@@ -24,7 +26,8 @@ returns-clause-began g c = λ inputs began.
     let before = c.self.inside.log.events.items in
     let e = c.step.ensures.exact in
     let inside = subst (λ (k : SoFar). BeganIfNoted g.L.Log.KEEPS_EVENTS inputs k) (sym c.self.view_is) began in
-    began_if_noted g.L.Log.KEEPS_EVENTS inputs old new before c.step.new.log.events.items e.0 e.2 (began_step inputs old new c.args.element c.args.pick c.step.result before e.0 e.1) inside
+    began_if_noted g.L.Log.KEEPS_EVENTS inputs old new before c.step.new.log.events.items e.0 e.2
+    (began_step inputs old new c.args.element c.args.pick c.step.result before e.0 e.1) inside
 
 pub returns-clause-setting : goal.returns-clause-setting
 returns-clause-setting g c =

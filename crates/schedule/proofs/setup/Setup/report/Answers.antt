@@ -11,15 +11,18 @@ use Rattle.schedule.proofs.setup.Setup.report.Goals as goal
 pub report_of-requires-clause-sound : goal.report_of-requires-clause-sound
 report_of-requires-clause-sound g c =
     let z = setting_in g.C.Instructions.program g.C.Instructions.width c.args.self.shape in
-    subst (λ (l : List Holding). let s : State = record { setting = z; lanes = l } in IsSoundState s) (sym (none_arriving c.args.lanes.items c.clear.new.self.items 0 c.clear.ensures.items refl)) c.requires.sound
+    subst (λ (l : List Holding). let s : State = record { setting = z; lanes = l } in IsSoundState s)
+    (sym (none_arriving c.args.lanes.items c.clear.new.self.items 0 c.clear.ensures.items refl)) c.requires.sound
 
 pub returns-clause-reported : goal.returns-clause-reported
 returns-clause-reported g c =
-    reported_lanes (setting_in g.C.Instructions.program g.C.Instructions.width c.args.self.shape) (map held_of c.args.lanes.items) c.args.self.log.events.items c.args.halt c.report_of.result c.report_of.ensures
+    reported_lanes (setting_in g.C.Instructions.program g.C.Instructions.width c.args.self.shape) (map held_of c.args.lanes.items)
+    c.args.self.log.events.items c.args.halt c.report_of.result c.report_of.ensures
 
 pub returns-clause-shows : goal.returns-clause-shows
 returns-clause-shows g c = λ inputs by_list arriving evs sound began halts.
-    shows_lanes (setting_in g.C.Instructions.program g.C.Instructions.width c.args.self.shape) (map held_of c.args.lanes.items) arriving c.args.self.log.events.items c.args.halt c.report_of.result sound c.report_of.ensures inputs by_list evs began halts
+    shows_lanes (setting_in g.C.Instructions.program g.C.Instructions.width c.args.self.shape) (map held_of c.args.lanes.items) arriving
+    c.args.self.log.events.items c.args.halt c.report_of.result sound c.report_of.ensures inputs by_list evs began halts
 
 pub returns-clause-stopped : goal.returns-clause-stopped
 returns-clause-stopped g c = λ stop inputs by_list arriving evs sound began.
@@ -30,4 +33,5 @@ returns-clause-stopped g c = λ stop inputs by_list arriving evs sound began.
 
 pub returns-clause-unlisted : goal.returns-clause-unlisted
 returns-clause-unlisted g c = λ none.
-    unlisted_lanes (setting_in g.C.Instructions.program g.C.Instructions.width c.args.self.shape) (map held_of c.args.lanes.items) c.args.self.log.events.items c.args.halt c.report_of.result c.report_of.ensures none
+    unlisted_lanes (setting_in g.C.Instructions.program g.C.Instructions.width c.args.self.shape) (map held_of c.args.lanes.items)
+    c.args.self.log.events.items c.args.halt c.report_of.result c.report_of.ensures none

@@ -1,4 +1,4 @@
-use Rattle.std.proofs.Common.{rules, ◌≡◌, ◌+◌, ◌-◌, ◌≤◌, ◌++◌, length, drop, take, bit_and, List, sym, ap, ◌∙◌, arith}
+use Rattle.std.proofs.Common.{rules, ◌≡◌, ◌-◌, ◌≤◌, ◌++◌, length, drop, take, bit_and, List, sym, ap, ◌∙◌, arith}
 use Rattle.std.specs.Prelude.{replicate, vec_len}
 use Rattle.tags.specs.declared.token.Token.{Token}
 use Rattle.token_queue.specs.Ring.{between, held}
@@ -13,7 +13,8 @@ returns-clause-items g c =
     let ok = c.self.invariant in
     let n = c.len-count.result in
     let m = c.in_ok-places.places in
-    let long : length c.args.self.now.items ≡ between q.head q.tail = ap (λ (t : Tokens). length t.items) (sym c.self.view_is) ∙ held_long q.head q.tail xs ok.fits in
+    let long : length c.args.self.now.items ≡ between q.head q.tail = ap (λ (t : Tokens). length t.items) (sym c.self.view_is)
+    ∙ held_long q.head q.tail xs ok.fits in
     let count : n ≡ between q.head q.tail = c.len-count.ensures ∙ long in
     let fits = ok.fits in
     let few = ok.few in

@@ -9,7 +9,8 @@ returns-clause-items g c =
     let q = c.self.inside in
     let xs = q.places.items in
     let ok = c.self.invariant in
-    let long : length c.args.self.now.items ≡ between q.head q.tail = ap (λ (t : Tokens). length t.items) (sym c.self.view_is) ∙ held_long q.head q.tail xs ok.fits in
+    let long : length c.args.self.now.items ≡ between q.head q.tail = ap (λ (t : Tokens). length t.items) (sym c.self.view_is)
+    ∙ held_long q.head q.tail xs ok.fits in
     let some = c.requires in
     let fits = ok.fits in
     let room : c.args.self.now.room ≡ length xs = ap (λ (t : Tokens). t.room) (sym c.self.view_is) in

@@ -2,7 +2,7 @@ use Rattle.std.proofs.Common.{◌≡◌, ℕ, ◌+◌, ◌-◌, ◌%◌, ◌^◌
 use Rattle.std.proofs.Math.Nat.{mod-lt}
 use Rattle.token_queue.specs.Ring.{ring, between, held, IsPower}
 use Rattle.token_queue.specs.Tokens.{Tokens}
-use Rattle.token_queue.proofs.Rings.{is_power, power_some, held_long, place_on, between_removed, closed_more, closed_all, closing}
+use Rattle.token_queue.proofs.Rings.{is_power, power_some, held_long, place_on, between_removed, closed_more, closed_all, closing, gone_removed}
 use Rattle.token_queue.proofs.queue.TokenQueue.remove.Goals as goal
 
 pub loop-before-preserved : goal.loop-before-preserved
@@ -17,7 +17,8 @@ loop-before-preserved g c =
     let N = c.len-places.result in
     let x = c.index-next.result.now in
     let all : N ≡ length c.self.inside.places.items = c.len-places.ensures ∙ c.self.inside.places.ok.0 in
-    let long : length c.args.self.now.items ≡ b = ap (λ (t : Tokens). length t.items) (sym c.self.view_is) ∙ held_long h c.self.inside.tail c.self.inside.places.items ok.fits in
+    let long : length c.args.self.now.items ≡ b = ap (λ (t : Tokens). length t.items) (sym c.self.view_is)
+    ∙ held_long h c.self.inside.tail c.self.inside.places.items ok.fits in
     let same : length ys ≡ N = inv.places ∙ sym all in
     let some = c.requires in
     let fits = ok.fits in
@@ -28,12 +29,14 @@ loop-before-preserved g c =
     let place : c.place-in-loop-before.result ≡ (h % N + i) % N =
     c.place-in-loop-before.ensures.exact ∙ ap (λ k. (k + i) % 2 ^ 64 % N) inv.head ∙ place_on N h i power (omega arith) in
     let next : x ≡ get_or ys ((h % N + (i + 1)) % N) x =
-    c.index-next.ensures ∙ ap (λ at. get_or ys at x) (c.place.ensures.exact ∙ ap (λ k. (k + (i + 1)) % 2 ^ 64 % N) inv.head ∙ place_on N h (i + 1) power (omega arith)) in
+    c.index-next.ensures ∙ ap (λ at. get_or ys at x) (c.place.ensures.exact ∙ ap (λ k. (k + (i + 1)) % 2 ^ 64 % N) inv.head
+    ∙ place_on N h (i + 1) power (omega arith)) in
     record {
       places = length-set ys c.place-in-loop-before.result x ∙ inv.places;
       mask = inv.mask;
       head = inv.head;
       tail = inv.tail;
+      more = inv.more;
       items =
           ap (λ n. ring (h % n) b (set ys c.place-in-loop-before.result x)) (length-set ys c.place-in-loop-before.result x ∙ same)
           ∙ ap (λ at. ring (h % N) b (set ys at x)) place
@@ -50,7 +53,8 @@ returns-clause-items g c =
     let h = c.self.inside.head in
     let t = c.self.inside.tail in
     let b = between h t in
-    let long : length c.args.self.now.items ≡ b = ap (λ (ts : Tokens). length ts.items) (sym c.self.view_is) ∙ held_long h t c.self.inside.places.items ok.fits in
+    let long : length c.args.self.now.items ≡ b = ap (λ (ts : Tokens). length ts.items) (sym c.self.view_is)
+    ∙ held_long h t c.self.inside.places.items ok.fits in
     let some = c.requires in
     let last = c.len-last.ensures in
     let done = c.loop-before-test.false in
@@ -58,4 +62,15 @@ returns-clause-items g c =
     ap (λ k. held k ((q.tail + (2 ^ 64 - 1)) % 2 ^ 64) ys) inv.head
     ∙ ap (λ k. held h ((k + (2 ^ 64 - 1)) % 2 ^ 64) ys) inv.tail
     ∙ ap (λ n. ring (h % length ys) n ys) (between_removed h t ok.begun ok.ended (omega arith))
-    ∙ closed_all (h % length ys) b (b - 1) ys c.args.self.now.items c.args.at (sym long) (omega arith) (inv.items ∙ ap (λ i. closing c.args.self.now.items c.args.at i) end) (omega arith)
+    ∙ closed_all (h % length ys) b (b - 1) ys c.args.self.now.items c.args.at (sym long) (omega arith) (inv.items
+    ∙ ap (λ i. closing c.args.self.now.items c.args.at i) end) (omega arith)
+
+pub returns-clause-gone : goal.returns-clause-gone
+returns-clause-gone g c = λ few.
+    let inv = c.loop-before.invariant in
+    let m = c.self.inside.more in
+    let h = c.self.inside.head in
+    let seen : (m + h) % 2 ^ 64 ≡ c.args.self.now.gone = ap (λ (ts : Tokens). ts.gone) c.self.view_is in
+    ap (λ k. ((k + 1) % 2 ^ 64 + c.loop-before.self-inside.head) % 2 ^ 64) inv.more
+    ∙ ap (λ k. ((m + 1) % 2 ^ 64 + k) % 2 ^ 64) inv.head
+    ∙ gone_removed m h (subst (λ n. n < 2 ^ 63) (sym seen) few) ∙ ap (λ n. n + 1) seen

@@ -9,5 +9,6 @@ invariant-loop-before g l = record {
   mask : l.self-inside.mask ≡ l.initial.self-inside.mask;
   head : l.self-inside.head ≡ l.initial.self-inside.head;
   tail : l.self-inside.tail ≡ l.initial.self-inside.tail;
+  more : l.self-inside.more ≡ l.initial.self-inside.more;
   items : held l.initial.self-inside.head l.initial.self-inside.tail l.self-inside.places.items ≡ closing l.fn.self.items l.at l.before;
 }
