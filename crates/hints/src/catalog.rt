@@ -10,7 +10,6 @@ unread: standard input is longer than 67108864 bytes, or could not be read, as a
 too-many-slots: one of its loops, or of its places where two words meet, finds none of the 512 slots of a frame open: move some nodes into a block of their own, and call that
 too-far: it has more than 32768 instructions, so move some nodes into a block of their own, and call that; or the object has more than 65536 different literals
 orders-differ: reports differ only where a second store comes to a cell, frames or credits are wanted, steps or memory run out, or readers wait at the end: compare the lines `deferred` and `end` of both
-
 reads/lower: program
 reads/asm: listing
 reads/exec: object
@@ -36,7 +35,6 @@ other/object/listing: standard input is an object: `ets dis` makes a listing of 
 other/listing/graph: standard input is a listing, and `ets $1` reads a graph; `ets asm` makes an object of a listing
 other/listing/program: standard input is a listing, and `ets $1` reads a program; `ets asm` makes an object of a listing
 other/listing/object: standard input is a listing: `ets asm` makes an object of it
-
 no-command: a command comes first; the most used are `ets lower < PROGRAM | ets run`, `ets run < GRAPH`, `ets mean`, `ets trace` and `ets profile`; `ets help` has all
 commands: the commands are lower, run, exec, mean, trace, profile, orders, check, compile, dis, asm, upgrade, dot and help
 help: `ets help` takes at most one command: lower, run, exec, mean, trace, profile, orders, check, compile, dis, asm, upgrade, dot or help
@@ -53,7 +51,6 @@ options/mean: --steps N, at most once
 options/dis: --literals, at most once
 options/dot: --code, at most once
 options/lower: --map, at most once
-
 no-line: line $1 of the inputs is empty
 input-line: line $1 of the inputs is `$2`
 graph-inputs: block $1 has $2, and the lines after the graph have $3
@@ -80,7 +77,6 @@ rule-4: rule 4 excludes a token: its word, or the one that it meets, is of a kin
 rule-5: rule 5 excludes a token: it gives back a frame that is not out
 rule-6: rule 6 excludes a token: it goes to an output of main that has its value, or that is not there
 large-page: a page of more than 200000 events is slow to open: --last K makes one of the last K events
-
 node/lit: lit V S
 node/cond: cond S
 node/enter: enter S
@@ -113,7 +109,6 @@ no-number: `$1` is no number: that is digits alone
 no-literal: `$1` is no literal: that is digits, and `-` before them if it is below 0
 no-source: `$1` is no source: that is `N.P`, for port P of node N
 large-literal: `$1` is not within 64 bits, from -9223372036854775808 to 9223372036854775807
-
 code-block: code block $1 is that of block $2
 same-array: an array before it is called $1, too
 iterations: code block $1 is that of the iterations of block $2
@@ -126,7 +121,6 @@ late-result: `$1` is of no node: block $4 has $3, from 0 on
 crossing-source: `$1` lies in $2, and a source here lies in $3: `enter` leads into an arm, `merge` out of it
 result-in-arm: `$1` lies in $2, and a result lies in the root: `merge` leads out of an arm
 bound: a loop's bound k is 2 to 64, and not $1
-
 listing/ets: ets VERSION main BLOCK
 listing/block: block NUMBER inputs I outputs O slots S
 listing/array: array NUMBER CELLS
@@ -148,7 +142,6 @@ literals/ets: the instructions have more than 65536 different literals, or the t
 tables/block: a block has 1 to 16 inputs, 1 to 16 outputs, at most 512 slots, and more instructions than inputs, up to 32768
 tables/array: an array has 1 to 65536 cells, and all arrays have 65536 together at most
 tables/ets: a listing has 1 to 512 blocks, of which this line names one, and at most 64 arrays
-
 at-byte: at byte $1 of the object
 at-instruction: instruction $1 of code block $2, at byte $3 of the object
 magic: an object begins with the 8 bytes ETSOBJCT
@@ -164,7 +157,6 @@ past-end: a destination $1 further on, past the end of its block
 right-port: a right port of the instruction $1 further on, which takes one token
 destinations: opcode $1 does not have these destinations
 no-target: an operand $1, which names no block, entry or offset that is there
-
 at-token: line $1 is `$3`; at column $2 is `$4`
 at-end: the program ends at line $1, column $2
 item: a program has items: `array NAME[CELLS];` and `fn NAME(PARAMETERS) { BODY }`, with `-> N` before the body where there are N results

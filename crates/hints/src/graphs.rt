@@ -3,7 +3,7 @@
 use crate::blocks::Block;
 use crate::lines::{is_line_feed, last_line, line_at, text_at, word_at};
 use crate::message::{
-    Bytes, Checking, Count, Found, Lies, Message, Number, Output, Word, at, at_line, say,
+    Bytes, Checking, Count, Found, Lies, Message, Number, Output, Piece, Word, at, at_line, say,
 };
 use graph_check::{ArityCause, CheckCause, CheckFaultKind, CheckRefusal, NameOf, RegionCause};
 
@@ -18,19 +18,26 @@ fn region_cause<'a>(cause: RegionCause) -> Message<'a> {
     }
 }
 
+/// The cause for a line with so many sources, where the block of this name wants another number of them.
+fn sources_cause<'a>(name: &'a str, wants: Piece<'a>, has: u64) -> Message<'a> {
+    say("block $1 has $2, this line has $3").with(&[Word(name), wants, Count(has, "source")])
+}
+
 /// The cause for another number of sources than the block has outputs, or the named one has inputs.
 fn arity_cause<'a>(cause: ArityCause, block: &'a str, named: &'a str) -> Message<'a> {
-    let (name, wants, has) = match cause {
-        ArityCause::Outputs { has, wants } => (block, Count(wants, "output"), has),
-        ArityCause::Inputs { has, wants } => (named, Count(wants, "input"), has),
+    match cause {
+        ArityCause::Outputs { has, wants } => sources_cause(block, Count(wants, "output"), has),
+        ArityCause::Inputs { has, wants } => sources_cause(named, Count(wants, "input"), has),
         ArityCause::Looped { inputs, outputs } => {
-            let (inputs, outputs) = (Count(inputs, "input"), Count(outputs, "output"));
-            return say("looped-block").with(&[Word(named), inputs, outputs]);
+            say("looped-block").with(&[
+                Word(named),
+                Count(inputs, "input"),
+                Count(outputs, "output"),
+            ])
         }
         // Lines of texts that were read have as many sources as their kinds take.
-        ArityCause::Sources { .. } => return say("kind").with(&[Checking(CheckFaultKind::Arity)]),
-    };
-    say("block $1 has $2, this line has $3").with(&[Word(name), wants, Count(has, "source")])
+        ArityCause::Sources { .. } => say("kind").with(&[Checking(CheckFaultKind::Arity)]),
+    }
 }
 
 /// The cause for a name that nothing has.

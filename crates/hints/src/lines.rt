@@ -61,15 +61,6 @@ pub fn said(line: &[u8]) -> &[u8] {
     line.split(|byte| *byte == b';').next().unwrap_or(line)
 }
 
-/// The name of the last block that begins before line `number`; empty where there is none.
-pub fn block_before(text: &[u8], number: u64) -> &[u8] {
-    let lines = text
-        .split(is_line_feed)
-        .take(number.saturating_sub(1) as usize);
-    let head = lines.filter(|line| text_at(*line, 0) == "block").last();
-    word_at(head.unwrap_or(b""), 1)
-}
-
 /// Splits the input in two: the graph's text, up to the end of the first line that begins with `main `, and what follows it.
 pub fn split_graph(input: &[u8]) -> (&[u8], &[u8]) {
     let mut is_main = input.starts_with(b"main ");

@@ -3,6 +3,11 @@
 use crate::message::{Count, Found, Message, Number, Word, at, nowhere, say};
 use object_view::{Place, Wrong, find_flaw};
 
+/// The cause of this name, with two numbers, of which its text may show the first alone.
+fn numbers<'a>(name: &'static str, first: u64, second: u64) -> Message<'a> {
+    say(name).with(&[Number(first), Number(second)])
+}
+
 /// The cause for what is wrong with this many bytes.
 fn cause_of<'a>(wrong: Wrong, bytes: u64) -> Message<'a> {
     let has = Count(bytes, "byte");
@@ -10,7 +15,7 @@ fn cause_of<'a>(wrong: Wrong, bytes: u64) -> Message<'a> {
         Wrong::Header { wants } => say("object-header").with(&[has, Number(wants)]),
         Wrong::Length { wants } => say("object-length").with(&[has, Number(wants)]),
         Wrong::Magic => say("magic"),
-        Wrong::Version { version } => say("version").with(&[Number(version)]),
+        Wrong::Version { version } => numbers("version", version, 0),
         Wrong::Count {
             what,
             count,
@@ -23,15 +28,15 @@ fn cause_of<'a>(wrong: Wrong, bytes: u64) -> Message<'a> {
             count,
         } => say("numbered").with(&[Word(noun), Number(number), Count(count, noun)]),
         Wrong::LiteralOrder => say("literals/literal"),
-        Wrong::Opcode { code, flag } => say("no-opcode").with(&[Number(code), Number(flag)]),
-        Wrong::Operand { operand, code } => say("operand").with(&[Number(operand), Number(code)]),
+        Wrong::Opcode { code, flag } => numbers("no-opcode", code, flag),
+        Wrong::Operand { operand, code } => numbers("operand", operand, code),
         Wrong::Slot { slot, slots } => say("no-slot").with(&[Number(slot), Count(slots, "slot")]),
-        Wrong::Slotless { slot, code } => say("slotless").with(&[Number(slot), Number(code)]),
+        Wrong::Slotless { slot, code } => numbers("slotless", slot, code),
         Wrong::Distance => say("a destination without a distance, but with a right port"),
-        Wrong::PastEnd { ahead } => say("past-end").with(&[Number(ahead)]),
-        Wrong::RightPort { ahead } => say("right-port").with(&[Number(ahead)]),
-        Wrong::Destinations { code } => say("destinations").with(&[Number(code)]),
-        Wrong::Target { operand } => say("no-target").with(&[Number(operand)]),
+        Wrong::PastEnd { ahead } => numbers("past-end", ahead, 0),
+        Wrong::RightPort { ahead } => numbers("right-port", ahead, 0),
+        Wrong::Destinations { code } => numbers("destinations", code, 0),
+        Wrong::Target { operand } => numbers("no-target", operand, 0),
     }
 }
 

@@ -57,14 +57,14 @@ fn is_closed_after(within: Within) -> bool {
 
 /// What is wrong with this word after that one, where an operand or a step is expected.
 fn wrong_operand(within: Within, before: &str, word: &str) -> Option<&'static str> {
-    let text = match (before, word) {
-        (_, "while") => "loop",
-        (_, "else") => "else",
-        (";", "}") => "a block ends with its values, and no `;` comes after them",
-        ("{", "}") => "a block is not empty: it ends with its values",
-        (",", "}" | ")" | "]" | ";") => "comma-at-end",
-        ("(", ")") if matches!(within, Within::Arguments) => "no-argument",
-        ("&", "&") | ("|", "|") => "doubled",
+    let text = match word {
+        "while" => "loop",
+        "else" => "else",
+        "}" if before == ";" => "a block ends with its values, and no `;` comes after them",
+        "}" if before == "{" => "a block is not empty: it ends with its values",
+        "}" | ")" | "]" | ";" if before == "," => "comma-at-end",
+        ")" if before == "(" && matches!(within, Within::Arguments) => "no-argument",
+        "&" | "|" if before == word => "doubled",
         _ => return None,
     };
     Some(text)

@@ -95,11 +95,11 @@ fn sizes_cause<'a>(sizes: Sizes) -> Option<Message<'a>> {
 /// The options of a request that can be refused because of them.
 fn options_of(request: &Request) -> Option<&RunOptions> {
     match request {
-        Request::Run(options)
-        | Request::Exec { options, .. }
-        | Request::Trace { options, .. }
-        | Request::Profile { options, .. }
-        | Request::Orders { options, .. } => Some(options),
+        Request::Run(options) => Some(options),
+        Request::Exec { options, .. } => Some(options),
+        Request::Trace { options, .. } => Some(options),
+        Request::Profile { options, .. } => Some(options),
+        Request::Orders { options, .. } => Some(options),
         _ => None,
     }
 }

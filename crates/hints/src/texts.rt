@@ -2,7 +2,7 @@
 
 use crate::catalog::found;
 use crate::fields::{literal_fault, name_fault, number_fault, source_fault};
-use crate::lines::{block_before, line_at, text_of, word_at};
+use crate::lines::{line_at, text_of, word_at};
 use crate::message::{Bytes, Count, Found, Message, Number, Word, at_line, nowhere, say};
 use graph_file::{
     FieldPlace, Limit, LineCause, NumberCause, ReadCause, ReadRefusal, Unended, literal,
@@ -109,7 +109,7 @@ fn trailing<'a>(line: &[u8], command: &'a str) -> Message<'a> {
     say(name).with(&[Word(command)])
 }
 
-/// The cause for a text that ends too early, where the last block to begin has this name.
+/// The cause for a text that ends too early, where the block that is open there has this name.
 fn unended<'a>(cause: Unended, block: &'a [u8]) -> Message<'a> {
     let name = match cause {
         Unended::Line => "no-line-feed",
@@ -119,15 +119,20 @@ fn unended<'a>(cause: Unended, block: &'a [u8]) -> Message<'a> {
     say(name).with(&[Bytes(block)])
 }
 
-/// The cause of a refusal at this line, where the last block to begin before it has this name.
-fn cause_of<'a>(cause: ReadCause, line: &'a [u8], last: &'a [u8], command: &'a str) -> Message<'a> {
+/// The cause of a refusal at this line, where the block that is open there has this name.
+fn cause_of<'a>(
+    cause: ReadCause,
+    line: &'a [u8],
+    block: &'a [u8],
+    command: &'a str,
+) -> Message<'a> {
     match cause {
         ReadCause::NoHeader => header(line),
-        ReadCause::BadLine(cause) => bad_line(cause, line, last),
+        ReadCause::BadLine(cause) => bad_line(cause, line, block),
         ReadCause::BadNumber(cause) => bad_number(cause, line),
         ReadCause::BadName(place) => name_fault(place.field(line)),
         ReadCause::TooMany(limit) => too_many(limit),
-        ReadCause::Unended(cause) => unended(cause, last),
+        ReadCause::Unended(cause) => unended(cause, block),
         ReadCause::TrailingText => trailing(line, command),
         ReadCause::NoMain | ReadCause::Memory => say("main-missing"),
     }
@@ -136,8 +141,8 @@ fn cause_of<'a>(cause: ReadCause, line: &'a [u8], last: &'a [u8], command: &'a s
 /// Why `text` is not the text of a graph. `command` is the command that was asked for.
 pub fn text_fault<'a>(refusal: ReadRefusal, text: &'a [u8], command: &'a str) -> Found<'a> {
     let line = line_at(text, refusal.line);
-    let last = block_before(text, refusal.line);
-    let cause = cause_of(refusal.cause, line, last, command);
+    let head = line_at(text, refusal.head.unwrap_or(u64::MAX));
+    let cause = cause_of(refusal.cause, line, word_at(head, 1), command);
     match refusal.cause {
         ReadCause::Unended(Unended::Nodes | Unended::Block) | ReadCause::NoMain => nowhere(cause),
         _ => at_line(refusal.line, line, cause),

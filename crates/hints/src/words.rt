@@ -8,8 +8,8 @@ use std::convert::AsStr;
 
 /// Whether the next word may be the value of this option.
 fn waits(word: &str) -> bool {
-    let is_alone = matches!(word, "--" | "--literals" | "--code" | "--svg" | "--map");
-    word.starts_with("--") && !is_alone && !word.contains('=')
+    let alone = ["--", "--literals", "--code", "--svg", "--map"];
+    word.starts_with("--") && !alone.contains(&word) && !word.contains('=')
 }
 
 /// The first word after the command that is not taken whatever the options are: one that is neither an option nor the value of
