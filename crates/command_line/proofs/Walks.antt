@@ -54,4 +54,5 @@ no_more ins = refl
 pub told_by : (c : Command) (g more : Collected) (ins all : Inputs) (w waits : Option OptionName) (words rest : List Text) (a : Asked)
     → g ≡ more → ins ≡ all → w ≡ waits → words ≡ rest → asked_of c more all waits rest ≡ a → asked_of c g ins w words ≡ a
 told_by c g more ins all w waits words rest a e f h k q =
-    ap (λ x. asked_of c x ins w words) e ∙ ap (λ x. asked_of c more x w words) f ∙ ap (λ x. asked_of c more all x words) h ∙ ap (asked_of c more all waits) k ∙ q
+    ap (λ x. asked_of c x ins w words) e ∙ ap (λ x. asked_of c more x w words) f ∙ ap (λ x. asked_of c more all x words) h
+    ∙ ap (asked_of c more all waits) k ∙ q

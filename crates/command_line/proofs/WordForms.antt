@@ -1,5 +1,6 @@
 -- What `strip_prefix`, `split_once` and `parse` say of a word, as the functions of specs/Words.antt.
-use Rattle.std.proofs.Common.{◌≡◌, ◌≢◌, ◌<◌, ◌^◌, ◌+◌, suc, ◌==◌, ◌&&◌, ◌||◌, Bool, ap, true, false, ◌∙◌, ℕ, List, [], ◌∷◌, ◌++◌, length, get_or, Option, Some, None, option_map, refl, sym, arith, take, drop}
+use Rattle.std.proofs.Common.{◌≡◌, ◌≢◌, ◌<◌, ◌^◌, ◌+◌, suc, ◌==◌, ◌&&◌, ◌||◌, Bool, ap, true, false, ◌∙◌, ℕ, List, [], ◌∷◌, ◌++◌, length, get_or}
+use Rattle.std.proofs.Common.{Option, Some, None, option_map, refl, sym, arith, take, drop}
 use Rattle.std.specs.Prelude.{MatchOption, nat_lt, if◌then◌else◌}
 use Rattle.std.specs.Borrow.{Bor}
 use Rattle.std.specs.Char.{digit_value}
@@ -47,7 +48,8 @@ list_any-Lacks c (x ∷ xs) h = rw (head_differs c x xs h) (list_any-Lacks c xs 
 
 list_any-at : (c : ℕ) (xs ys : List ℕ) → list_any (λ x. x == c) (xs ++ c ∷ ys) ≡ true
 list_any-at c [] ys = rw (equal_itself c)
-list_any-at c (x ∷ xs) ys = let rest = list_any-at c xs ys in elim (x == c) as (λ b. ◌||◌ b (list_any (λ y. y == c) (xs ++ c ∷ ys)) ≡ true) [ true ↦ refl | false ↦ rest ]
+list_any-at c (x ∷ xs) ys = let rest = list_any-at c xs ys in elim (x == c) as (λ b. ◌||◌ b (list_any (λ y. y == c) (xs ++ c ∷ ys)) ≡ true)
+    [ true ↦ refl | false ↦ rest ]
 
 position_or_len-Lacks : (c : ℕ) (xs : List ℕ) → Lacks c xs → position_or_len (λ x. x == c) xs ≡ length xs
 position_or_len-Lacks c xs h =
@@ -101,7 +103,8 @@ pub number_of-ok : (text : List ℕ) (n : ℕ)
 number_of-ok text n h =
     let ds : List ℕ = without_leading_plus text in
     ap (λ k. Some k) h.1
-    ∙ sym (ap (λ a. number_if ds a (nat_lt (digits_value 10 ds) (2 ^ 64))) (numeral ds h.0.0) ∙ ap (number_if ds true) (lt-ltb (digits_value 10 ds) (2 ^ 64) h.0.1))
+    ∙ sym (ap (λ a. number_if ds a (nat_lt (digits_value 10 ds) (2 ^ 64))) (numeral ds h.0.0)
+    ∙ ap (number_if ds true) (lt-ltb (digits_value 10 ds) (2 ^ 64) h.0.1))
 
 pub number_of-err : (text : List ℕ)
     → ¬ (IsNumeral 10 (without_leading_plus text) × (digits_value 10 (without_leading_plus text) < 2 ^ 64)) → None ≡ number_of text
@@ -110,5 +113,6 @@ number_of-err text none = go (is_numeral (without_leading_plus text)) (nat_lt (d
     go : (a b : Bool) → is_numeral (without_leading_plus text) ≡ a → nat_lt (digits_value 10 (without_leading_plus text)) (2 ^ 64) ≡ b → None ≡ number_of text
     go true true e f = absurd (none (numeral_from _ e, ltb-true _ _ f))
     go true false e f =
-        sym (ap (λ a. number_if (without_leading_plus text) a (nat_lt (digits_value 10 (without_leading_plus text)) (2 ^ 64))) e ∙ ap (number_if (without_leading_plus text) true) f)
+        sym (ap (λ a. number_if (without_leading_plus text) a (nat_lt (digits_value 10 (without_leading_plus text)) (2 ^ 64))) e
+        ∙ ap (number_if (without_leading_plus text) true) f)
     go false b e f = sym (ap (λ a. number_if (without_leading_plus text) a (nat_lt (digits_value 10 (without_leading_plus text)) (2 ^ 64))) e)

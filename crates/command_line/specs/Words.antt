@@ -1,5 +1,6 @@
 -- Which request the words of a command line are. The words are the arguments after the program's name, each a list of bytes.
-use Rattle.std.specs.Prelude.{ℕ, zero, suc, ◌/◌, ◌%◌, min, ◌==◌, ◌+◌, ◌&&◌, ◌||◌, ◌^◌, Bool, true, false, is_some, nat_lt, List, [], ◌∷◌, ◌++◌, length, if◌then◌else◌, Option, Some, None, option_map, option_and_then, unwrap_or, codes}
+use Rattle.std.specs.Prelude.{ℕ, zero, suc, ◌/◌, ◌%◌, min, ◌==◌, ◌+◌, ◌&&◌, ◌||◌, ◌^◌, Bool, true, false, is_some, nat_lt, List, [], ◌∷◌, ◌++◌}
+use Rattle.std.specs.Prelude.{length, if◌then◌else◌, Option, Some, None, option_map, option_and_then, unwrap_or, codes}
 use Rattle.std.specs.Option.{option_map_or}
 use Rattle.std.specs.Char.{digit_value}
 use Rattle.std.specs.List.{list_all, list_any, before_first, after_first}
@@ -360,4 +361,4 @@ asked (word ∷ rest) =
 
 -- what `--version` prints: the version, and the kit that the program is made with
 abbrev pub version_line : Text
-version_line = codes "ets 0.3.0 (rattle-kit-13f)" ++ 10 ∷ []
+version_line = codes "ets 0.3.1 (rattle-kit-13f)" ++ 10 ∷ []

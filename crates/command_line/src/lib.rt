@@ -2,7 +2,8 @@
 #![tactic(auto)]
 
 ghost use Rattle.std.specs.Prelude.{◌≡◌, map};
-ghost use Rattle.command_line.specs.Words.{after_end, asked, asked_of, command_named, ended, help_asked, no_command_asked, no_inputs, nothing, topic_named, version_line, with_inputs};
+ghost use Rattle.command_line.specs.Words.{after_end, asked, asked_of, command_named, ended, help_asked, no_command_asked, no_inputs, nothing};
+ghost use Rattle.command_line.specs.Words.{topic_named, version_line, with_inputs};
 
 mod inputs;
 mod options;
@@ -313,5 +314,5 @@ pub fn read_words<S: AsStr>(words: &[S]) -> Asked
 pub fn version_line() -> &'static [u8]
     ensures { result.now ≡ version_line }
 {
-    b"ets 0.3.0 (rattle-kit-13f)\n"
+    b"ets 0.3.1 (rattle-kit-13f)\n"
 }

@@ -1,7 +1,11 @@
 //! The options of a command, and what one word after it says.
 
 ghost use Rattle.std.specs.Prelude.{◌≡◌, ◌<◌, option_map};
-ghost use Rattle.command_line.specs.Words.{after, asks_help, asks_version, first_mode, first_format, first_number, first_sizes, flag_met, format_named, is_flag, is_short, literals_included, long_of, map_asked, mode_named, named, nothing, number_of, option_met, option_named, option_of, parts_at, plain_met, request_of, run_options, says_how_to_run, sizes_from, takes, takes_inputs, usual_sizes, valued, with_option, without_value, word_met};
+ghost use Rattle.command_line.specs.Words.{after, asks_help, asks_version, first_mode, first_format, first_number, first_sizes, flag_met};
+ghost use Rattle.command_line.specs.Words.{format_named, is_flag, is_short, literals_included, long_of, map_asked, mode_named, named, nothing};
+ghost use Rattle.command_line.specs.Words.{number_of, option_met, option_named, option_of, parts_at, plain_met, request_of, run_options};
+ghost use Rattle.command_line.specs.Words.{says_how_to_run, sizes_from, takes, takes_inputs, usual_sizes, valued, with_option, without_value};
+ghost use Rattle.command_line.specs.Words.{word_met};
 
 use crate::{
     Command, EventFormat, Format, Inputs, Literals, Lowering, Mode, Request, RunOptions, Sizes,

@@ -15,7 +15,8 @@ pub returns-in-End : goal.returns-in-End
 returns-in-End g c =
     let next : c.loop-i.i + 1 ≡ suc c.loop-i.i = omega arith in
     c.after_end.ensures
-    ∙ ap (after_end c.args.command c.loop-i.collected c.loop-i.inputs) (rest_after g.S.AsStr.text c.args.words.now (c.loop-i.i + 1) ∙ ap (λ (n : ℕ). drop n (map g.S.AsStr.text c.args.words.now)) next)
+    ∙ ap (after_end c.args.command c.loop-i.collected c.loop-i.inputs) (rest_after g.S.AsStr.text c.args.words.now (c.loop-i.i + 1)
+    ∙ ap (λ (n : ℕ). drop n (map g.S.AsStr.text c.args.words.now)) next)
     ∙ one_step c.args.command c.loop-i.collected c.loop-i.inputs c.loop-i.waiting _ _ _ Step.End _
     (word_at g.S.AsStr.text c.args.words.now c.loop-i.i c.index-words-i.result c.loop-i-test.true c.index-words-i.is)
     (c.in-End.ensures ∙ ap (word_met c.args.command c.loop-i.collected c.loop-i.waiting) c.as_str.ensures) c.loop-i.invariant
@@ -36,7 +37,8 @@ loop-i-preserved g c =
           (word_at g.S.AsStr.text c.args.words.now c.loop-i.i c.index-words-i.result c.loop-i-test.true c.index-words-i.is)
           (w.in-Next.ensures ∙ ap (word_met c.args.command c.loop-i.collected c.loop-i.waiting) c.as_str.ensures) c.loop-i.invariant)
       | in-Input w ↦
-          told_by c.args.command _ _ _ _ _ _ _ _ _ w.collected-is (w.inputs-is ∙ w.with-inputs.ensures ∙ ap (with_input c.loop-i.inputs) w.as_str-in-Input.ensures) w.waiting-is
+          told_by c.args.command _ _ _ _ _ _ _ _ _ w.collected-is (w.inputs-is ∙ w.with-inputs.ensures
+          ∙ ap (with_input c.loop-i.inputs) w.as_str-in-Input.ensures) w.waiting-is
           (ap (λ (n : ℕ). drop n (map g.S.AsStr.text c.args.words.now)) next)
           (one_step c.args.command c.loop-i.collected c.loop-i.inputs c.loop-i.waiting _ _ _ Step.Input _
           (word_at g.S.AsStr.text c.args.words.now c.loop-i.i c.index-words-i.result c.loop-i-test.true c.index-words-i.is)
@@ -46,5 +48,6 @@ loop-i-preserved g c =
 pub returns : goal.returns
 returns g c =
     c.ended.ensures ∙ sym (at_last c.args.command c.loop-i.collected c.loop-i.inputs c.loop-i.waiting)
-    ∙ ap (asked_of c.args.command c.loop-i.collected c.loop-i.inputs c.loop-i.waiting) (sym (none_after g.S.AsStr.text c.args.words.now c.loop-i.i (omega (arith, c.loop-i-test.false))))
+    ∙ ap (asked_of c.args.command c.loop-i.collected c.loop-i.inputs c.loop-i.waiting)
+    (sym (none_after g.S.AsStr.text c.args.words.now c.loop-i.i (omega (arith, c.loop-i-test.false))))
     ∙ c.loop-i.invariant
