@@ -1,5 +1,6 @@
 -- A word that is written is read again: operands, slots, destinations and origins.
-use Rattle.std.proofs.Common.{◌≡◌, ℕ, ◌+◌, ◌-◌, ◌^◌, ◌<◌, ◌≤◌, eqb, true, false, List, [], ◌∷◌, ◌++◌, length, get_or, Option, Some, None, Ok, ℤ, refl, sym, ap, ◌∙◌, arith}
+use Rattle.std.proofs.Common.{◌≡◌, ℕ, ◌+◌, ◌-◌, ◌^◌, ◌<◌, ◌≤◌, eqb, true, false, List, [], ◌∷◌, ◌++◌, length, get_or, Option, Some, None, Ok, ℤ}
+use Rattle.std.proofs.Common.{refl, sym, ap, ◌∙◌, arith}
 use Rattle.std.specs.Prelude.{⊤, codes, option_to_list}
 use Rattle.std.specs.Int.{w64}
 use Rattle.std.specs.Int.RustNames.{FitsSigned}
@@ -29,7 +30,9 @@ use Rattle.graph_file.specs.Fields.{number_of, literal_of}
 use Rattle.graph_file.proofs.Marks.{number_again, literal_again, decimal_no_dot}
 use Rattle.semantics.proofs.OperatorWords.{named_by}
 use Rattle.assembler.specs.Grammar.{origin_words}
-use Rattle.assembler.specs.Fields.{then_some, tagged, below, small_of, wide_of, small_behind, wide_behind, literal_behind, side_behind, no_operand, sided, binary_from, pair_of, entry_parts, entry_of, entry_behind, op_of, slot_from, dest_to, dest_parts, dest_behind, dest_of, node_of, place_of, place_parts, place_in, origin_of}
+use Rattle.assembler.specs.Fields.{then_some, tagged, below, small_of, wide_of, small_behind, wide_behind, literal_behind, side_behind, no_operand}
+use Rattle.assembler.specs.Fields.{sided, binary_from, pair_of, entry_parts, entry_of, entry_behind, op_of, slot_from, dest_to, dest_parts}
+use Rattle.assembler.specs.Fields.{dest_behind, dest_of, node_of, place_of, place_parts, place_in, origin_of}
 use Rattle.assembler.specs.Lines.{origin_from}
 use Rattle.assembler.proofs.Spelled.{dotted, send_text, at_text}
 
@@ -80,7 +83,8 @@ not_right w = refl
 
 left_again : (op : Binary) (z : ℤ) → FitsSigned w64 z → binary_from op (108 ∷ 35 ∷ literal z) ≡ Some (ops.Apply2Left op z)
 unfolding binary_from
-left_again op z h = ap (λ (o : Option ℤ). sided op o (side_behind 108 (108 ∷ 35 ∷ literal z))) (not_right (35 ∷ literal z)) ∙ ap (λ (o : Option ℤ). sided op None o) (side_again 108 z h)
+left_again op z h = ap (λ (o : Option ℤ). sided op o (side_behind 108 (108 ∷ 35 ∷ literal z))) (not_right (35 ∷ literal z))
+    ∙ ap (λ (o : Option ℤ). sided op None o) (side_again 108 z h)
 
 plain_again : (op : Binary) → binary_from op (codes "-") ≡ Some (ops.Apply2 op)
 unfolding binary_from
@@ -92,7 +96,8 @@ none_again op = refl
 
 two_parts : (b n : ℕ) → b < 2 ^ 32 → n < 2 ^ 32 → parts 46 (dotted b n) ≡ decimal b ∷ decimal n ∷ []
 two_parts b n h k =
-    let first : parts 46 (dotted b n) ≡ decimal b ∷ parts 46 (decimal n) = slice_split_at (λ c. eqb c 46) (decimal b) 46 (decimal n) (decimal_no_dot b (omega arith)) refl in
+    let first : parts 46 (dotted b n) ≡ decimal b ∷ parts 46 (decimal n) = slice_split_at (λ c. eqb c 46) (decimal b) 46 (decimal n)
+    (decimal_no_dot b (omega arith)) refl in
     let second : parts 46 (decimal n) ≡ decimal n ∷ [] = slice_split_none (λ c. eqb c 46) (decimal n) (decimal_no_dot n (omega arith)) in
     first ∙ ap (λ (ps : List (List ℕ)). decimal b ∷ ps) second
 
@@ -158,7 +163,8 @@ unused_again : (s : ℕ) → s ≡ 0 → slot_from false (codes "-") ≡ Some s
 unfolding slot_from
 unused_again s e = ap (λ (n : ℕ). Some n) (sym e)
 
-pub slot_again : (b : CodeBlock) (i : Instr) (op : Op) → b.slots ≤ 512 → IsSlot b i (slot_of i op) → slot_from (uses_slot op) (slot_text (slot_of i op)) ≡ Some i.slot
+pub slot_again : (b : CodeBlock) (i : Instr) (op : Op) → b.slots ≤ 512 → IsSlot b i (slot_of i op)
+    → slot_from (uses_slot op) (slot_text (slot_of i op)) ≡ Some i.slot
 slot_again b i (ops.Apply1 o) few h = unused_again i.slot h
 slot_again b i (ops.Apply2 o) few h = used_again i.slot (omega arith)
 slot_again b i (ops.Apply2Right o z) few h = unused_again i.slot h
@@ -184,7 +190,8 @@ slot_again b i (ops.Release o) few h = used_again i.slot (omega arith)
 abbrev made_dest : ℕ → Port → Dest
 made_dest n port = record { ahead = n; port = port }
 
-behind_again : (n c : ℕ) (port : Port) → n < 2 ^ 32 → dest_parts (decimal n) c ≡ dest_to port (number_of (decimal n)) → dest_behind (decimal n ++ c ∷ []) ≡ Some (Some (made_dest n port))
+behind_again : (n c : ℕ) (port : Port) → n < 2 ^ 32 → dest_parts (decimal n) c ≡ dest_to port (number_of (decimal n))
+    → dest_behind (decimal n ++ c ∷ []) ≡ Some (Some (made_dest n port))
 unfolding dest_behind
 behind_again n c port h e =
     ap (λ (w : List ℕ). dest_parts w (get_or (decimal n ++ c ∷ []) (length (decimal n ++ c ∷ []) - 1) 0)) (front_of (decimal n) c)

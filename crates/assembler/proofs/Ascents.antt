@@ -1,5 +1,6 @@
 -- Tables of literals that ascend: two with the same literals are the same, and a literal that is put in keeps the order.
-use Rattle.std.proofs.Common.{◌≡◌, ℕ, zero, suc, ◌+◌, ◌<◌, ◌≤◌, not, Bool, true, false, cond, List, [], ◌∷◌, length, get_or, Some, ℤ, refl, sym, ap, subst, ◌∙◌, arith, inl, inr, Less, Equal, Greater}
+use Rattle.std.proofs.Common.{◌≡◌, ℕ, zero, suc, ◌+◌, ◌<◌, ◌≤◌, not, Bool, true, false, cond, List, [], ◌∷◌, length, get_or, Some, ℤ, refl, sym, ap}
+use Rattle.std.proofs.Common.{subst, ◌∙◌, arith, inl, inr, Less, Equal, Greater}
 use Rattle.std.specs.Prelude.{⊤, ◌⊎◌, slice_get, int_lt}
 use Rattle.std.specs.Ordering.{int_cmp, match_ordering}
 use Rattle.std.specs.BTreeSet.{insert_key}
@@ -38,7 +39,8 @@ ascends_from [] h = tt
 ascends_from (y ∷ []) h = (tt, tt)
 ascends_from (y ∷ z ∷ zs) h =
     let first : int_lt y z ≡ true = h 0 y z refl refl in
-    let rest = ascends_from (z ∷ zs) (λ k a b at next. let e : suc k + 1 ≡ suc (k + 1) = omega arith in h (suc k) a b at (ap (slice_get (y ∷ z ∷ zs)) e ∙ next)) in
+    let rest = ascends_from (z ∷ zs) (λ k a b at next. let e : suc k + 1 ≡ suc (k + 1) = omega arith
+    in h (suc k) a b at (ap (slice_get (y ∷ z ∷ zs)) e ∙ next)) in
     ((first, above_more y z zs first rest.0), rest)
 
 above_first : (x z : ℤ) (xs : List ℤ) → Above x xs → slice_get xs 0 ≡ Some z → int_lt x z ≡ true

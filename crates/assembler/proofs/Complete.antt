@@ -21,7 +21,8 @@ use Rattle.assembler.proofs.Listings.{lines_has_listing, lines_with_literals}
 use Rattle.assembler.proofs.Table.{table_reread, reread_itself, code_reread}
 
 all_assembled : (text : List ℕ) (version : ℕ) (c : Code) → IsListingOf text version c → IsCode version c → assembled text ≡ Ok (version, c)
-all_assembled text version c is has = given text (version, c) (text_restored text (version, c) (listing_again text version c is has)) (lawful_passes version c has)
+all_assembled text version c is has = given text (version, c) (text_restored text (version, c) (listing_again text version c is has))
+    (lawful_passes version c has)
 
 pub exact : IsExact
 exact text version c = (λ e. all_sound text version c e, λ h. all_assembled text version c h.0 h.1)
@@ -34,7 +35,11 @@ whole_has_listing version c is = go c.literals refl
     none e = subst (λ (zs : List ℤ). All (IsOperand c.program.blocks) zs) e (λ k d lt. absurd (omega arith))
 
     go : (table : List ℤ) → c.literals ≡ table → IsListingOf (listing_with_literals version c) version c
-    go [] e = inr (table_reread version c is (none (sym e)), lines_with_literals version c is ∙ ap (λ (zs : List ℤ). head_words version c.program.main ∷ (block_lines 0 c.program.blocks ++ (numbered_lines array_words 0 c.program.arrays ++ table_lines true zs))) e)
+    go [] e = inr (
+      table_reread version c is (none (sym e)),
+      lines_with_literals version c is ∙ ap (λ (zs : List ℤ). head_words version c.program.main
+          ∷ (block_lines 0 c.program.blocks ++ (numbered_lines array_words 0 c.program.arrays ++ table_lines true zs))) e,
+    )
     go (z ∷ zs) e = inl (subst (λ (t : List ℤ). 0 < length t) (sym e) (omega arith), lines_with_literals version c is)
 
 same_code : (version : ℕ) (c : Code) → IsCode version c → AllOperands c → with_operands c ≡ c
@@ -83,7 +88,8 @@ only_memory text w d f (inr e) h k = differ (sym (all_assembled text w d h k) �
     differ q = absurd cc
 
 -- what opened the bytes says that they are an object
-pub opened_back : (bytes : List ℕ) (r : Result Opened ObjectFault) → MatchResult r (λ o. first_refusal bytes ≡ None) (λ e. first_refusal bytes ≡ Some e) → IfOk r (λ o. o ≡ opened bytes) → IfOk r (λ o. IsObject bytes o.version o.code)
+pub opened_back : (bytes : List ℕ) (r : Result Opened ObjectFault) → MatchResult r (λ o. first_refusal bytes ≡ None) (λ e. first_refusal bytes
+    ≡ Some e) → IfOk r (λ o. o ≡ opened bytes) → IfOk r (λ o. IsObject bytes o.version o.code)
     → first_refusal bytes ≡ None → Reassembles bytes (opened bytes).version (opened bytes).code
 opened_back bytes (Ok o) refused same is e = subst (λ (p : Opened). Reassembles bytes p.version p.code) same (round_trips bytes o.version o.code is)
 opened_back bytes (Err f) refused same is e = absurd (differ (sym refused ∙ e))

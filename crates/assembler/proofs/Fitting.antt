@@ -1,5 +1,6 @@
 -- A code that is not refused has an object.
-use Rattle.std.proofs.Common.{◌≡◌, ℕ, zero, suc, ◌+◌, ◌≤◌, ◌&&◌, ◌||◌, not, eqb, ltb, leb, Bool, true, false, List, [], ◌∷◌, length, get_or, All, Contains, Option, Some, None, Ok, ℤ, pos, negsuc, refl, sym, ap, subst, ◌∙◌, arith, inl, inr}
+use Rattle.std.proofs.Common.{◌≡◌, ℕ, zero, suc, ◌+◌, ◌≤◌, ◌&&◌, ◌||◌, not, eqb, ltb, leb, Bool, true, false, List, [], ◌∷◌, length, get_or, All}
+use Rattle.std.proofs.Common.{Contains, Option, Some, None, Ok, ℤ, pos, negsuc, refl, sym, ap, subst, ◌∙◌, arith, inl, inr}
 use Rattle.std.specs.Prelude.{◌⊎◌, ⊤, slice_get, int_lt, sum, FitsSigned}
 use Rattle.std.specs.Int.{w64}
 use Rattle.std.specs.List.{list_all}
@@ -13,7 +14,8 @@ use Rattle.tags.specs.declared.value.Origin.{Origin}
 use Rattle.tags.specs.declared.value.Origin.TheVariants.{Untold, At}
 use Rattle.semantics.specs.declared.program.Dest.{Dest}
 use Rattle.semantics.specs.declared.program.Op.{Op}
-use Rattle.semantics.specs.declared.program.Op.TheVariants.{Apply1, Apply2, Apply2Right, Apply2Left, Lit, Copy, Sync, Switch, Fetch, Store, Frame, Link, Send, Return, Ask, Open, Take, Give, Drain, Release}
+use Rattle.semantics.specs.declared.program.Op.TheVariants.{Apply1, Apply2, Apply2Right, Apply2Left, Lit, Copy, Sync, Switch, Fetch, Store, Frame}
+use Rattle.semantics.specs.declared.program.Op.TheVariants.{Link, Send, Return, Ask, Open, Take, Give, Drain, Release}
 use Rattle.semantics.specs.Program.{Instr, CodeBlock, Code}
 use Rattle.semantics.specs.Rule.{slot_of}
 use Rattle.semantics.specs.Bytes.{is_dyadic, IsDest, HasOperand, HasDests, IsOrigin, IsSlot, IsInstr, IsCodeBlock, IsCode}
@@ -21,8 +23,11 @@ use Rattle.semantics.specs.Opcodes.{may_fault}
 use Rattle.graph_file.specs.Giving.{◌>>=◌}
 use Rattle.graph_file.proofs.Binds.{bind_ok}
 use Rattle.assembler.specs.declared.cause.Unfit.{Unfit}
-use Rattle.assembler.specs.declared.cause.Unfit.TheVariants.{BadVersion, BadCounts, ManyLiterals, BadBlock, BadArray, LiteralOrder, NoLiteral, BadOperand, BadSlot, BadDestination, BadOrigin}
-use Rattle.assembler.specs.Checks.{Checked, unless, each, is_same, has_literal, is_bound, enters, literal_fits, operand_fits, slot_fits, is_left, shape_fits, dest_fits, dests_fit, origin_fits, instr_checked, entry_fits, block_checked, lines_before, arrays_checked, literals_checked, counts_fit, head_checked, blocks_checked, code_checked}
+use Rattle.assembler.specs.declared.cause.Unfit.TheVariants.{BadVersion, BadCounts, ManyLiterals, BadBlock, BadArray, LiteralOrder, NoLiteral}
+use Rattle.assembler.specs.declared.cause.Unfit.TheVariants.{BadOperand, BadSlot, BadDestination, BadOrigin}
+use Rattle.assembler.specs.Checks.{Checked, unless, each, is_same, has_literal, is_bound, enters, literal_fits, operand_fits, slot_fits, is_left}
+use Rattle.assembler.specs.Checks.{shape_fits, dest_fits, dests_fit, origin_fits, instr_checked, entry_fits, block_checked, lines_before}
+use Rattle.assembler.specs.Checks.{arrays_checked, literals_checked, counts_fit, head_checked, blocks_checked, code_checked}
 
 unless_ok : (b : Bool) (unfit : Unfit) (n : ℕ) (x : ⊤) → unless b unfit n ≡ Ok x → b ≡ true
 unless_ok true unfit n x e = refl
@@ -50,7 +55,8 @@ literal_has c z e = Contains-from_any {eq = is_same} same_int z c.literals e
 bound_is : (k : ℕ) → is_bound k ≡ true → (2 ≤ k) × (k ≤ 64)
 bound_is k e = let p = and_parts (leb 2 k) (leb k 64) e in (leb-true 2 k p.0, leb-true k 64 p.1)
 
-entry_is : (c : Code) (b e : ℕ) (o : Option CodeBlock) → slice_get c.program.blocks b ≡ o → enters o e ≡ true → (x : CodeBlock) × (slice_get c.program.blocks b ≡ Some x) × (e ≤ x.inputs)
+entry_is : (c : Code) (b e : ℕ) (o : Option CodeBlock) → slice_get c.program.blocks b ≡ o → enters o e ≡ true → (x : CodeBlock)
+    × (slice_get c.program.blocks b ≡ Some x) × (e ≤ x.inputs)
 entry_is c b e None k h = absurd cc
 entry_is c b e (Some x) k h = (x, k, leb-true e x.inputs h)
 
@@ -160,9 +166,13 @@ is_origin version op (At b n) e =
 is_instr : (version : ℕ) (c : Code) (b : CodeBlock) (index n : ℕ) (i : Instr) (x : ⊤) → instr_checked version c b index n i ≡ Ok x → IsInstr version c b n i
 unfolding instr_checked
 is_instr version c b index n i x e =
-    let l = then_ok (literal_fits c i.op) NoLiteral (index + n) (λ _. unless (operand_fits c i.op) BadOperand (index + n) >>= λ _. unless (slot_fits b.slots (slot_of i i.op) i.slot) BadSlot (index + n) >>= λ _. unless (dests_fit b n i) BadDestination (index + n) >>= λ _. unless (origin_fits version i.op i.origin) BadOrigin (index + n)) x e in
-    let o = then_ok (operand_fits c i.op) BadOperand (index + n) (λ _. unless (slot_fits b.slots (slot_of i i.op) i.slot) BadSlot (index + n) >>= λ _. unless (dests_fit b n i) BadDestination (index + n) >>= λ _. unless (origin_fits version i.op i.origin) BadOrigin (index + n)) x l.1 in
-    let s = then_ok (slot_fits b.slots (slot_of i i.op) i.slot) BadSlot (index + n) (λ _. unless (dests_fit b n i) BadDestination (index + n) >>= λ _. unless (origin_fits version i.op i.origin) BadOrigin (index + n)) x o.1 in
+    let l = then_ok (literal_fits c i.op) NoLiteral (index + n) (λ _. unless (operand_fits c i.op) BadOperand (index + n) >>= λ _. unless
+    (slot_fits b.slots (slot_of i i.op) i.slot) BadSlot (index + n) >>= λ _. unless (dests_fit b n i) BadDestination (index + n) >>= λ _. unless
+    (origin_fits version i.op i.origin) BadOrigin (index + n)) x e in
+    let o = then_ok (operand_fits c i.op) BadOperand (index + n) (λ _. unless (slot_fits b.slots (slot_of i i.op) i.slot) BadSlot (index + n) >>= λ _.
+    unless (dests_fit b n i) BadDestination (index + n) >>= λ _. unless (origin_fits version i.op i.origin) BadOrigin (index + n)) x l.1 in
+    let s = then_ok (slot_fits b.slots (slot_of i i.op) i.slot) BadSlot (index + n) (λ _. unless (dests_fit b n i) BadDestination (index + n) >>= λ _.
+    unless (origin_fits version i.op i.origin) BadOrigin (index + n)) x o.1 in
     let d = then_ok (dests_fit b n i) BadDestination (index + n) (λ _. unless (origin_fits version i.op i.origin) BadOrigin (index + n)) x s.1 in
     let g = unless_ok (origin_fits version i.op i.origin) BadOrigin (index + n) x d.1 in
     let p = and_parts (shape_fits i.op i.firsts i.seconds && list_all (dest_fits b.instrs n) i.firsts) (list_all (dest_fits b.instrs n) i.seconds) d.0 in
@@ -177,7 +187,8 @@ is_instr version c b index n i x e =
     }
 
 -- ---- each of them
-each_at : {X : Type 0} (check : ℕ → X → Checked) (n : ℕ) (xs : List X) (k : ℕ) (x : X) (t : ⊤) → each check n xs ≡ Ok t → slice_get xs k ≡ Some x → check (n + k) x ≡ Ok tt
+each_at : {X : Type 0} (check : ℕ → X → Checked) (n : ℕ) (xs : List X) (k : ℕ) (x : X) (t : ⊤) → each check n xs ≡ Ok t → slice_get xs k ≡ Some x
+    → check (n + k) x ≡ Ok tt
 each_at check n [] k x t e h = absurd cc
 each_at check n (y ∷ ys) zero x t e h =
     let b = bind_ok (check n y) (λ _. each check (n + 1) ys) t e in
@@ -189,7 +200,8 @@ each_at check n (y ∷ ys) (suc k) x t e h =
     let next : n + 1 + k ≡ n + suc k = omega arith in
     subst (λ (m : ℕ). check m x ≡ Ok tt) next (each_at check (n + 1) ys k x t b.2 h)
 
-each_all : {X : Type 0} (P : X → Type 0) (check : ℕ → X → Checked) (n : ℕ) (xs : List X) (t : ⊤) → ((m : ℕ) (x : X) → check m x ≡ Ok tt → P x) → each check n xs ≡ Ok t → All P xs
+each_all : {X : Type 0} (P : X → Type 0) (check : ℕ → X → Checked) (n : ℕ) (xs : List X) (t : ⊤) → ((m : ℕ) (x : X) → check m x ≡ Ok tt → P x)
+    → each check n xs ≡ Ok t → All P xs
 each_all P check n [] t f e = All-nil P
 each_all P check n (y ∷ ys) t f e =
     let b = bind_ok (check n y) (λ _. each check (n + 1) ys) t e in
@@ -200,8 +212,10 @@ is_block : (version : ℕ) (c : Code) (index : ℕ) (b : CodeBlock) → block_ch
 unfolding block_checked
 is_block version c index b e =
     let h = then_ok (entry_fits b) BadBlock index (λ _. each (instr_checked version c b (index + 1)) 0 b.instrs) tt e in
-    let a = and_parts (leb 1 b.inputs && leb b.inputs 16 && leb 1 b.outputs && leb b.outputs 16 && leb (b.inputs + 1) (length b.instrs) && leb (length b.instrs) 32768) (leb b.slots 512) h.0 in
-    let d = and_parts (leb 1 b.inputs && leb b.inputs 16 && leb 1 b.outputs && leb b.outputs 16 && leb (b.inputs + 1) (length b.instrs)) (leb (length b.instrs) 32768) a.0 in
+    let a = and_parts (leb 1 b.inputs && leb b.inputs 16 && leb 1 b.outputs && leb b.outputs 16 && leb (b.inputs + 1) (length b.instrs)
+    && leb (length b.instrs) 32768) (leb b.slots 512) h.0 in
+    let d = and_parts (leb 1 b.inputs && leb b.inputs 16 && leb 1 b.outputs && leb b.outputs 16 && leb (b.inputs + 1) (length b.instrs))
+    (leb (length b.instrs) 32768) a.0 in
     let f = and_parts (leb 1 b.inputs && leb b.inputs 16 && leb 1 b.outputs && leb b.outputs 16) (leb (b.inputs + 1) (length b.instrs)) d.0 in
     let g = and_parts (leb 1 b.inputs && leb b.inputs 16 && leb 1 b.outputs) (leb b.outputs 16) f.0 in
     let i = and_parts (leb 1 b.inputs && leb b.inputs 16) (leb 1 b.outputs) g.0 in
@@ -211,7 +225,9 @@ is_block version c index b e =
       outputs = (leb-true 1 b.outputs i.1, leb-true b.outputs 16 g.1);
       size = (leb-true (b.inputs + 1) (length b.instrs) f.1, leb-true (length b.instrs) 32768 d.1);
       slots = leb-true b.slots 512 a.1;
-      instrs = λ n x at. is_instr version c b (index + 1) n x tt (let zero-is : 0 + n ≡ n = omega arith in subst (λ (m : ℕ). instr_checked version c b (index + 1) m x ≡ Ok tt) zero-is (each_at (instr_checked version c b (index + 1)) 0 b.instrs n x tt h.1 at));
+      instrs = λ n x at. is_instr version c b (index + 1) n x tt (let zero-is : 0 + n ≡ n = omega arith
+          in subst (λ (m : ℕ). instr_checked version c b (index + 1) m x ≡ Ok tt) zero-is (each_at (instr_checked version c b (index + 1)) 0 b.instrs
+          n x tt h.1 at));
     }
 
 -- ---- arrays and literals
@@ -231,7 +247,8 @@ arrays_fit index cells (n ∷ ns) t few e =
     let rest = arrays_fit (index + 1) (cells + n) ns t (leb-true (cells + n) 65536 p.1) h.1 in
     (All-cons IsArray n ns (leb-true 1 n q.0, leb-true n 65536 q.1) rest.0, omega (arith, rest.1, sum-cons n ns))
 
-ascend : (index : ℕ) (ls : List ℤ) (t : ⊤) → literals_checked index ls ≡ Ok t → (k : ℕ) (y z : ℤ) → slice_get ls k ≡ Some y → slice_get ls (k + 1) ≡ Some z → int_lt y z ≡ true
+ascend : (index : ℕ) (ls : List ℤ) (t : ⊤) → literals_checked index ls ≡ Ok t → (k : ℕ) (y z : ℤ) → slice_get ls k ≡ Some y → slice_get ls (k + 1)
+    ≡ Some z → int_lt y z ≡ true
 ascend index [] t e k y z a b = absurd cc
 ascend index (x ∷ []) t e zero y z a b = absurd cc
 ascend index (x ∷ []) t e (suc k) y z a b = absurd cc
@@ -259,13 +276,18 @@ before_arrays c = lines_before c.program.blocks (length c.program.blocks)
 pub has_object : (version : ℕ) (c : Code) → All (λ (z : ℤ). FitsSigned w64 z) c.literals → code_checked version c ≡ Ok tt → IsCode version c
 unfolding code_checked head_checked blocks_checked
 has_object version c fit e =
-    let h = bind_ok (head_checked version c) (λ _. blocks_checked version c >>= λ _. arrays_checked (before_arrays c) 0 c.program.arrays >>= λ _. literals_checked (before_arrays c + length c.program.arrays) c.literals) tt e in
-    let b = bind_ok (blocks_checked version c) (λ _. arrays_checked (before_arrays c) 0 c.program.arrays >>= λ _. literals_checked (before_arrays c + length c.program.arrays) c.literals) tt h.2 in
-    let a = bind_ok (arrays_checked (before_arrays c) 0 c.program.arrays) (λ _. literals_checked (before_arrays c + length c.program.arrays) c.literals) tt b.2 in
-    let v = then_ok (eqb version 1 || eqb version 2) BadVersion 0 (λ _. unless (counts_fit c) BadCounts 0 >>= λ _. unless (leb (length c.literals) 65536) ManyLiterals 0) h.0 h.1 in
+    let h = bind_ok (head_checked version c) (λ _. blocks_checked version c >>= λ _. arrays_checked (before_arrays c) 0 c.program.arrays >>= λ _.
+    literals_checked (before_arrays c + length c.program.arrays) c.literals) tt e in
+    let b = bind_ok (blocks_checked version c) (λ _. arrays_checked (before_arrays c) 0 c.program.arrays >>= λ _. literals_checked
+    (before_arrays c + length c.program.arrays) c.literals) tt h.2 in
+    let a = bind_ok (arrays_checked (before_arrays c) 0 c.program.arrays) (λ _. literals_checked (before_arrays c + length c.program.arrays)
+    c.literals) tt b.2 in
+    let v = then_ok (eqb version 1 || eqb version 2) BadVersion 0 (λ _. unless (counts_fit c) BadCounts 0 >>= λ _. unless
+    (leb (length c.literals) 65536) ManyLiterals 0) h.0 h.1 in
     let n = then_ok (counts_fit c) BadCounts 0 (λ _. unless (leb (length c.literals) 65536) ManyLiterals 0) h.0 v.1 in
     let l = unless_ok (leb (length c.literals) 65536) ManyLiterals 0 h.0 n.1 in
-    let p = and_parts (leb 1 (length c.program.blocks) && leb (length c.program.blocks) 512 && ltb c.program.main (length c.program.blocks)) (leb (length c.program.arrays) 64) n.0 in
+    let p = and_parts (leb 1 (length c.program.blocks) && leb (length c.program.blocks) 512 && ltb c.program.main (length c.program.blocks))
+    (leb (length c.program.arrays) 64) n.0 in
     let q = and_parts (leb 1 (length c.program.blocks) && leb (length c.program.blocks) 512) (ltb c.program.main (length c.program.blocks)) p.0 in
     let r = and_parts (leb 1 (length c.program.blocks)) (leb (length c.program.blocks) 512) q.0 in
     let arrays = arrays_fit (before_arrays c) 0 c.program.arrays a.0 (omega arith) a.1 in
@@ -279,5 +301,6 @@ has_object version c fit e =
       few_arrays = leb-true (length c.program.arrays) 64 p.1;
       arrays = arrays.0;
       cells = omega (arith, arrays.1);
-      blocks = each_all (IsCodeBlock version c) (λ m x. block_checked version c (lines_before c.program.blocks m) x) 0 c.program.blocks b.0 (λ m x k. is_block version c (lines_before c.program.blocks m) x k) b.1;
+      blocks = each_all (IsCodeBlock version c) (λ m x. block_checked version c (lines_before c.program.blocks m) x) 0 c.program.blocks b.0
+          (λ m x k. is_block version c (lines_before c.program.blocks m) x k) b.1;
     }

@@ -1,5 +1,6 @@
 -- A code that has an object is not refused.
-use Rattle.std.proofs.Common.{◌≡◌, ℕ, zero, suc, ◌+◌, ◌<◌, ◌≤◌, ◌&&◌, ◌||◌, eqb, ltb, leb, Bool, true, false, List, [], ◌∷◌, length, get_or, All, Option, Some, None, Ok, ℤ, pos, negsuc, refl, ap, ◌∙◌, arith, inl, inr}
+use Rattle.std.proofs.Common.{◌≡◌, ℕ, zero, suc, ◌+◌, ◌<◌, ◌≤◌, ◌&&◌, ◌||◌, eqb, ltb, leb, Bool, true, false, List, [], ◌∷◌, length, get_or, All}
+use Rattle.std.proofs.Common.{Option, Some, None, Ok, ℤ, pos, negsuc, refl, ap, ◌∙◌, arith, inl, inr}
 use Rattle.std.specs.Prelude.{◌⊎◌, ⊤, slice_get, int_lt, sum}
 use Rattle.std.specs.List.{list_all}
 use Rattle.std.proofs.lemmas.Bool.{lt-ltb, le-leb, le-ltb, eq-eqb, and_from, or_left, or_right}
@@ -12,7 +13,8 @@ use Rattle.tags.specs.declared.value.Origin.{Origin}
 use Rattle.tags.specs.declared.value.Origin.TheVariants.{Untold, At}
 use Rattle.semantics.specs.declared.program.Dest.{Dest}
 use Rattle.semantics.specs.declared.program.Op.{Op}
-use Rattle.semantics.specs.declared.program.Op.TheVariants.{Apply1, Apply2, Apply2Right, Apply2Left, Lit, Copy, Sync, Switch, Fetch, Store, Frame, Link, Send, Return, Ask, Open, Take, Give, Drain, Release}
+use Rattle.semantics.specs.declared.program.Op.TheVariants.{Apply1, Apply2, Apply2Right, Apply2Left, Lit, Copy, Sync, Switch, Fetch, Store, Frame}
+use Rattle.semantics.specs.declared.program.Op.TheVariants.{Link, Send, Return, Ask, Open, Take, Give, Drain, Release}
 use Rattle.semantics.specs.Program.{Instr, CodeBlock, Code}
 use Rattle.semantics.specs.Rule.{slot_of}
 use Rattle.semantics.specs.Bytes.{is_dyadic, IsDest, HasOperand, HasDests, IsOrigin, IsSlot, IsInstr, IsCodeBlock, IsCode}
@@ -20,7 +22,9 @@ use Rattle.semantics.specs.Opcodes.{may_fault}
 use Rattle.graph_file.specs.Giving.{◌>>=◌}
 use Rattle.assembler.specs.declared.cause.Unfit.{Unfit}
 use Rattle.assembler.specs.declared.cause.Unfit.TheVariants.{BadVersion, BadCounts, ManyLiterals, BadBlock, BadArray, LiteralOrder}
-use Rattle.assembler.specs.Checks.{Checked, unless, each, is_same, has_literal, is_bound, enters, literal_fits, operand_fits, slot_fits, is_left, shape_fits, dest_fits, origin_fits, instr_checked, entry_fits, block_checked, lines_before, arrays_checked, literals_checked, counts_fit, head_checked, blocks_checked, code_checked}
+use Rattle.assembler.specs.Checks.{Checked, unless, each, is_same, has_literal, is_bound, enters, literal_fits, operand_fits, slot_fits, is_left}
+use Rattle.assembler.specs.Checks.{shape_fits, dest_fits, origin_fits, instr_checked, entry_fits, block_checked, lines_before, arrays_checked}
+use Rattle.assembler.specs.Checks.{literals_checked, counts_fit, head_checked, blocks_checked, code_checked}
 
 -- one check that is passed, and those after it
 passes : (b : Bool) (unfit : Unfit) (n : ℕ) → b ≡ true → unless b unfit n ≡ Ok tt
@@ -122,7 +126,8 @@ shape_there Switch ds es h = most_sizes (length ds) (length es) 1 1 h
 shape_there (Fetch a) ds es h = both_sizes (length ds) (length es) 1 0 h
 shape_there (Store a) ds es h = both_sizes (length ds) (length es) 1 0 h
 shape_there Frame ds es h = both_sizes (length ds) (length es) 1 0 h
-shape_there (Link b) ds es h = and_from (eqb (length ds) 1 && list_all is_left ds) (leb (length es) 1) (and_from (eqb (length ds) 1) (list_all is_left ds) (eq-eqb (length ds) 1 h.0) (all_left ds h.1)) (le-leb (length es) 1 h.2)
+shape_there (Link b) ds es h = and_from (eqb (length ds) 1 && list_all is_left ds) (leb (length es) 1)
+    (and_from (eqb (length ds) 1) (list_all is_left ds) (eq-eqb (length ds) 1 h.0) (all_left ds h.1)) (le-leb (length es) 1 h.2)
 shape_there (Send b x) ds es h = most_sizes (length ds) (length es) 1 (length ds) h
 shape_there (Return o) ds es h = most_sizes (length ds) (length es) 1 (length ds) h
 shape_there (Ask o) ds es h = both_sizes (length ds) (length es) 1 0 h
@@ -153,18 +158,28 @@ origin_there : (version : ℕ) (op : Op) (o : Origin) → IsOrigin version op o 
 origin_there version op Untold h = refl
 origin_there version op (At b n) h =
     and_from (eqb version 2 && may_fault op && ltb b 256) (ltb n 1024)
-    (and_from (eqb version 2 && may_fault op) (ltb b 256) (and_from (eqb version 2) (may_fault op) (eq-eqb version 2 h.0) h.1) (lt-ltb b 256 h.2)) (lt-ltb n 1024 h.3)
+    (and_from (eqb version 2 && may_fault op) (ltb b 256) (and_from (eqb version 2) (may_fault op) (eq-eqb version 2 h.0) h.1) (lt-ltb b 256 h.2))
+    (lt-ltb n 1024 h.3)
 
 -- ---- an instruction
 instr_passes : (version : ℕ) (c : Code) (b : CodeBlock) (index n : ℕ) (i : Instr) → IsInstr version c b n i → instr_checked version c b index n i ≡ Ok tt
 unfolding instr_checked
 instr_passes version c b index n i h =
     let dests = and_from (shape_fits i.op i.firsts i.seconds && list_all (dest_fits b.instrs n) i.firsts) (list_all (dest_fits b.instrs n) i.seconds)
-    (and_from (shape_fits i.op i.firsts i.seconds) (list_all (dest_fits b.instrs n) i.firsts) (shape_there i.op i.firsts i.seconds h.dests) (all_there b n i.firsts h.firsts)) (all_there b n i.seconds h.seconds) in
-    rw (literal_there c i.op h.operand, operand_there c i.op h.operand, slot_there b i (slot_of i i.op) h.slot, dests, origin_there version i.op i.origin h.origin) refl
+    (and_from (shape_fits i.op i.firsts i.seconds) (list_all (dest_fits b.instrs n) i.firsts) (shape_there i.op i.firsts i.seconds h.dests)
+    (all_there b n i.firsts h.firsts)) (all_there b n i.seconds h.seconds) in
+    rw (
+      literal_there c i.op h.operand,
+      operand_there c i.op h.operand,
+      slot_there b i (slot_of i i.op) h.slot,
+      dests,
+      origin_there version i.op
+          i.origin h.origin,
+    ) refl
 
 -- ---- each of them
-each_passes : {X : Type 0} (check : ℕ → X → Checked) (n : ℕ) (xs : List X) → ((k : ℕ) (x : X) → slice_get xs k ≡ Some x → check (n + k) x ≡ Ok tt) → each check n xs ≡ Ok tt
+each_passes : {X : Type 0} (check : ℕ → X → Checked) (n : ℕ) (xs : List X) → ((k : ℕ) (x : X) → slice_get xs k ≡ Some x → check (n + k) x ≡ Ok tt)
+    → each check n xs ≡ Ok tt
 each_passes check n [] h = refl
 each_passes check n (x ∷ xs) h =
     let z : n ≡ n + 0 = omega arith in
@@ -184,7 +199,8 @@ entry_there version c b h =
 block_passes : (version : ℕ) (c : Code) (index : ℕ) (b : CodeBlock) → IsCodeBlock version c b → block_checked version c index b ≡ Ok tt
 unfolding block_checked
 block_passes version c index b h =
-    then_passes (unless (entry_fits b) BadBlock index) (λ _. each (instr_checked version c b (index + 1)) 0 b.instrs) (passes (entry_fits b) BadBlock index (entry_there version c b h))
+    then_passes (unless (entry_fits b) BadBlock index) (λ _. each (instr_checked version c b (index + 1)) 0 b.instrs)
+    (passes (entry_fits b) BadBlock index (entry_there version c b h))
     (from_zero (instr_checked version c b (index + 1)) b.instrs (λ n i at. instr_passes version c b (index + 1) n i (h.instrs n i at)))
 
 -- ---- arrays and literals
@@ -201,12 +217,15 @@ arrays_pass index cells (n ∷ ns) all few =
     (passes fits BadArray index (and_from _ _ (and_from _ _ (le-leb 1 n one.0) (le-leb n 65536 one.1)) (le-leb (cells + n) 65536 (omega (arith, total)))))
     (arrays_pass (index + 1) (cells + n) ns (All-tail IsArray n ns all) (omega (arith, total)))
 
-literals_pass : (index : ℕ) (zs : List ℤ) → ((k : ℕ) (y z : ℤ) → slice_get zs k ≡ Some y → slice_get zs (k + 1) ≡ Some z → int_lt y z ≡ true) → literals_checked index zs ≡ Ok tt
+literals_pass : (index : ℕ) (zs : List ℤ) → ((k : ℕ) (y z : ℤ) → slice_get zs k ≡ Some y → slice_get zs (k + 1) ≡ Some z → int_lt y z ≡ true)
+    → literals_checked index zs ≡ Ok tt
 literals_pass index [] h = refl
 literals_pass index (y ∷ []) h = refl
 literals_pass index (y ∷ z ∷ zs) h =
-    then_passes (unless (int_lt y z) LiteralOrder (index + 1)) (λ _. literals_checked (index + 1) (z ∷ zs)) (passes (int_lt y z) LiteralOrder (index + 1) (h 0 y z refl refl))
-    (literals_pass (index + 1) (z ∷ zs) (λ k a b at next. let e : suc k + 1 ≡ suc (k + 1) = omega arith in h (suc k) a b at (ap (slice_get (y ∷ z ∷ zs)) e ∙ next)))
+    then_passes (unless (int_lt y z) LiteralOrder (index + 1)) (λ _. literals_checked (index + 1) (z ∷ zs))
+    (passes (int_lt y z) LiteralOrder (index + 1) (h 0 y z refl refl))
+    (literals_pass (index + 1) (z ∷ zs) (λ k a b at next. let e : suc k + 1 ≡ suc (k + 1) = omega arith
+    in h (suc k) a b at (ap (slice_get (y ∷ z ∷ zs)) e ∙ next)))
 
 -- ---- the whole
 known : (version : ℕ) → (version ≡ 1) ⊎ (version ≡ 2) → (eqb version 1 || eqb version 2) ≡ true
@@ -216,20 +235,27 @@ known version (inr e) = or_right (eqb version 1) (eqb version 2) (eq-eqb version
 head_passes : (version : ℕ) (c : Code) → IsCode version c → head_checked version c ≡ Ok tt
 unfolding head_checked
 head_passes version c h =
-    let counts = and_from _ _ (and_from _ _ (and_from _ _ (le-leb 1 (length c.program.blocks) h.some_block.0) (le-leb (length c.program.blocks) 512 h.some_block.1)) (lt-ltb c.program.main (length c.program.blocks) h.main)) (le-leb (length c.program.arrays) 64 h.few_arrays) in
-    then_passes (unless (eqb version 1 || eqb version 2) BadVersion 0) (λ _. unless (counts_fit c) BadCounts 0 >>= λ _. unless (leb (length c.literals) 65536) ManyLiterals 0) (passes (eqb version 1 || eqb version 2) BadVersion 0 (known version h.version_known))
+    let counts = and_from _ _ (and_from _ _ (and_from _ _ (le-leb 1 (length c.program.blocks) h.some_block.0)
+    (le-leb (length c.program.blocks) 512 h.some_block.1)) (lt-ltb c.program.main (length c.program.blocks) h.main))
+    (le-leb (length c.program.arrays) 64 h.few_arrays) in
+    then_passes (unless (eqb version 1 || eqb version 2) BadVersion 0) (λ _. unless (counts_fit c) BadCounts 0 >>= λ _. unless
+    (leb (length c.literals) 65536) ManyLiterals 0) (passes (eqb version 1 || eqb version 2) BadVersion 0 (known version h.version_known))
     (then_passes (unless (counts_fit c) BadCounts 0) (λ _. unless (leb (length c.literals) 65536) ManyLiterals 0) (passes (counts_fit c) BadCounts 0 counts)
     (passes (leb (length c.literals) 65536) ManyLiterals 0 (le-leb (length c.literals) 65536 h.few_literals)))
 
 blocks_pass : (version : ℕ) (c : Code) → IsCode version c → blocks_checked version c ≡ Ok tt
 unfolding blocks_checked
-blocks_pass version c h = from_zero (λ n b. block_checked version c (lines_before c.program.blocks n) b) c.program.blocks (λ k b at. block_passes version c (lines_before c.program.blocks k) b (all_at (IsCodeBlock version c) c.program.blocks k b h.blocks at))
+blocks_pass version c h = from_zero (λ n b. block_checked version c (lines_before c.program.blocks n) b) c.program.blocks
+    (λ k b at. block_passes version c (lines_before c.program.blocks k) b (all_at (IsCodeBlock version c) c.program.blocks k b h.blocks at))
 
 pub lawful_passes : (version : ℕ) (c : Code) → IsCode version c → code_checked version c ≡ Ok tt
 unfolding code_checked
 lawful_passes version c h =
     let index = lines_before c.program.blocks (length c.program.blocks) in
-    then_passes (head_checked version c) (λ _. blocks_checked version c >>= λ _. arrays_checked index 0 c.program.arrays >>= λ _. literals_checked (index + length c.program.arrays) c.literals) (head_passes version c h)
-    (then_passes (blocks_checked version c) (λ _. arrays_checked index 0 c.program.arrays >>= λ _. literals_checked (index + length c.program.arrays) c.literals) (blocks_pass version c h)
-    (then_passes (arrays_checked index 0 c.program.arrays) (λ _. literals_checked (index + length c.program.arrays) c.literals) (arrays_pass index 0 c.program.arrays h.arrays (let few = h.cells in omega arith))
+    then_passes (head_checked version c) (λ _. blocks_checked version c >>= λ _. arrays_checked index 0 c.program.arrays >>= λ _. literals_checked
+    (index + length c.program.arrays) c.literals) (head_passes version c h)
+    (then_passes (blocks_checked version c) (λ _. arrays_checked index 0 c.program.arrays >>= λ _. literals_checked (index + length c.program.arrays)
+    c.literals) (blocks_pass version c h)
+    (then_passes (arrays_checked index 0 c.program.arrays) (λ _. literals_checked (index + length c.program.arrays) c.literals)
+    (arrays_pass index 0 c.program.arrays h.arrays (let few = h.cells in omega arith))
     (literals_pass (index + length c.program.arrays) c.literals h.ascend)))

@@ -1,5 +1,6 @@
 -- What is written of a code that has an object falls into the lines of this code.
-use Rattle.std.proofs.Common.{◌≡◌, ℕ, ◌+◌, ◌^◌, ◌<◌, ◌≤◌, not, eqb, leb, Bool, true, false, List, [], ◌∷◌, ◌++◌, length, All, Option, Some, None, ℤ, pos, negsuc, refl, sym, ap, subst, ◌∙◌, append_assoc, arith}
+use Rattle.std.proofs.Common.{◌≡◌, ℕ, ◌+◌, ◌^◌, ◌<◌, ◌≤◌, not, eqb, leb, Bool, true, false, List, [], ◌∷◌, ◌++◌, length, All, Option, Some, None, ℤ}
+use Rattle.std.proofs.Common.{pos, negsuc, refl, sym, ap, subst, ◌∙◌, append_assoc, arith}
 use Rattle.std.specs.Prelude.{codes, nat_lt}
 use Rattle.std.specs.Int.{w64}
 use Rattle.std.specs.Int.RustNames.{FitsSigned}
@@ -21,25 +22,29 @@ use Rattle.operators.specs.declared.Binary.{Binary}
 use Rattle.operators.proofs.Every.{all_binary}
 use Rattle.semantics.specs.declared.program.Dest.{Dest}
 use Rattle.semantics.specs.declared.program.Op.{Op}
-use Rattle.semantics.specs.declared.program.Op.TheVariants.{Apply1, Apply2, Apply2Right, Apply2Left, Lit, Copy, Sync, Switch, Fetch, Store, Frame, Link, Send, Return, Ask, Open, Take, Give, Drain, Release}
+use Rattle.semantics.specs.declared.program.Op.TheVariants.{Apply1, Apply2, Apply2Right, Apply2Left, Lit, Copy, Sync, Switch, Fetch, Store, Frame}
+use Rattle.semantics.specs.declared.program.Op.TheVariants.{Link, Send, Return, Ask, Open, Take, Give, Drain, Release}
 use Rattle.semantics.specs.Program.{Instr, CodeBlock, Code}
 use Rattle.semantics.specs.Rule.{slot_of}
 use Rattle.semantics.specs.Text.{field, literal, unary_word, binary_word}
 use Rattle.semantics.specs.Bytes.{IsSlot, IsCode}
 use Rattle.sink.specs.Numbered.{numbered}
-use Rattle.disassembler.specs.Listing.{right_in, left_in, slot_text, port_letter, dest_text, operand_text, origin_text, instr_line, literal_line, block_line, array_line, head_line, listing, listing_with_literals}
+use Rattle.disassembler.specs.Listing.{right_in, left_in, slot_text, port_letter, dest_text, operand_text, origin_text, instr_line, literal_line}
+use Rattle.disassembler.specs.Listing.{block_line, array_line, head_line, listing, listing_with_literals}
 use Rattle.semantics.specs.Opcodes.{op_word}
 use Rattle.disassembler.specs.Listing as Listing
 use Rattle.graph_file.proofs.Numbers.{own, same_digits}
 use Rattle.graph_file.proofs.Marks.{weaker}
 use Rattle.assembler.specs.Words.{Word, lines_in}
-use Rattle.assembler.specs.Grammar.{head_words, block_words, origin_words, instr_words, array_words, literal_words, numbered_lines, block_lines, table_lines, code_lines}
+use Rattle.assembler.specs.Grammar.{head_words, block_words, origin_words, instr_words, array_words, literal_words, numbered_lines, block_lines}
+use Rattle.assembler.specs.Grammar.{table_lines, code_lines}
 use Rattle.assembler.proofs.Prefixes.{Lines}
 use Rattle.assembler.proofs.Again.{HasRoom, IsNear, IsPlace}
 use Rattle.assembler.proofs.LinesAgain.{HasLine}
 use Rattle.assembler.proofs.StepsAgain.{HasNumbers, HasLines}
 use Rattle.assembler.proofs.Room.{all_lines, all_lengths}
-use Rattle.assembler.proofs.Reread.{is_word_byte, IsWord, Says, says_word, says_field, says_right, says_left, says_pair, Rereads, rereads_none, rereads_line, rereads_both, reread}
+use Rattle.assembler.proofs.Reread.{is_word_byte, IsWord, Says, says_word, says_field, says_right, says_left, says_pair, Rereads, rereads_none}
+use Rattle.assembler.proofs.Reread.{rereads_line, rereads_both, reread}
 use Rattle.assembler.proofs.CodeAgain.{version_few}
 
 -- ---- which bytes are words
@@ -51,7 +56,11 @@ digit_word b e =
     and_from (leb 33 b) (not (eqb b 59)) (le-leb 33 b (omega arith)) (not_from_false (eqb b 59) (ne_eqb b 59 (λ z. absurd (omega (arith, z)))))
 
 word_number : (n : ℕ) → n < 2 ^ 64 → IsWord (decimal n)
-word_number n h = record { some = decimal_nonempty n h; plain = weaker is_ascii_digit is_word_byte digit_word (decimal n) (same_digits (decimal n) ∙ digits_decimal own n h) }
+word_number n h = record {
+  some = decimal_nonempty n h;
+  plain = weaker is_ascii_digit is_word_byte digit_word (decimal n) (same_digits (decimal n)
+      ∙ digits_decimal own n h);
+}
 
 known : (w : Word) → 0 < length w → list_all is_word_byte w ≡ true → IsWord w
 known w h e = record { some = h; plain = e }
@@ -113,11 +122,13 @@ word_port Right = known (codes "r") (omega arith) refl
 
 word_dest : (ds : List Dest) → IsNear ds → IsWord (dest_text ds)
 word_dest [] h = word_none
-word_dest (d ∷ ds) h = word_more 43 (decimal d.ahead ++ port_letter d.port) refl (word_both (decimal d.ahead) (port_letter d.port) (word_number d.ahead (let lt = h.0 in omega arith)) (word_port d.port))
+word_dest (d ∷ ds) h = word_more 43 (decimal d.ahead ++ port_letter d.port) refl (word_both (decimal d.ahead) (port_letter d.port)
+    (word_number d.ahead (let lt = h.0 in omega arith)) (word_port d.port))
 
 -- two numbers with a dot between
 word_dotted : (m n : ℕ) → m < 65536 → n < 65536 → IsWord ((decimal m ++ codes ".") ++ decimal n)
-word_dotted m n h k = word_both (decimal m ++ codes ".") (decimal n) (word_both (decimal m) (codes ".") (word_number m (omega arith)) (known (codes ".") (omega arith) refl)) (word_number n (omega arith))
+word_dotted m n h k = word_both (decimal m ++ codes ".") (decimal n) (word_both (decimal m) (codes ".") (word_number m (omega arith))
+    (known (codes ".") (omega arith) refl)) (word_number n (omega arith))
 
 word_operand : (op : Op) → HasRoom op → IsWord (operand_text op)
 word_operand (Apply1 op) h = word_none
@@ -143,10 +154,12 @@ word_operand (Release o) h = word_more 111 (decimal o) refl (word_number o (omeg
 
 -- ---- what a line says
 says_origin : (bs : List ℕ) (ws : List Word) (o : Origin) → IsPlace o → Says bs ws → Says (bs ++ origin_text o) (ws ++ origin_words o)
-says_origin bs ws Untold h says = subst (λ (xs : List ℕ). Says xs (ws ++ [])) (sym (append-nil bs)) (subst (λ (vs : List Word). Says bs vs) (sym (append-nil ws)) says)
+says_origin bs ws Untold h says = subst (λ (xs : List ℕ). Says xs (ws ++ [])) (sym (append-nil bs))
+    (subst (λ (vs : List Word). Says bs vs) (sym (append-nil ws)) says)
 says_origin bs ws (At b n) h says =
     let at : Word = 64 ∷ ((decimal b ++ codes ".") ++ decimal n) in
-    says_field bs at ws (at ∷ []) says (says_word at (word_more 64 ((decimal b ++ codes ".") ++ decimal n) refl (word_dotted b n (let lt = h.0 in omega arith) (let lt = h.1 in omega arith))))
+    says_field bs at ws (at ∷ []) says (says_word at (word_more 64 ((decimal b ++ codes ".") ++ decimal n) refl
+    (word_dotted b n (let lt = h.0 in omega arith) (let lt = h.1 in omega arith))))
 
 -- one more word in a column
 says_column : (bs : List ℕ) (ws : List Word) (width : ℕ) (w : Word) → IsWord w → Says bs ws → Says (bs ++ field (right_in width w)) (ws ++ w ∷ [])
@@ -173,34 +186,42 @@ says_key : (key : Word) (n : ℕ) → IsWord key → n < 2 ^ 32 → Says (key ++
 says_key key n h lt = says_field key (decimal n) (key ∷ []) (decimal n ∷ []) (says_word key h) (says_word (decimal n) (word_number n (omega arith)))
 
 says_last : (bs : List ℕ) (ws : List Word) (w : Word) → IsWord w → Says bs ws → Says ((bs ++ codes " ") ++ w) (ws ++ w ∷ [])
-says_last bs ws w h says = subst (λ (xs : List ℕ). Says xs (ws ++ w ∷ [])) (sym (append_assoc bs (codes " ") w)) (says_field bs w ws (w ∷ []) says (says_word w h))
+says_last bs ws w h says = subst (λ (xs : List ℕ). Says xs (ws ++ w ∷ [])) (sym (append_assoc bs (codes " ") w))
+    (says_field bs w ws (w ∷ []) says (says_word w h))
 
 rereads_head : (v m : ℕ) → v < 2 ^ 32 → m < 2 ^ 32 → Rereads (head_line v m) (head_words v m ∷ [])
 rereads_head v m h k =
     let one = says_key (codes "ets") v (known (codes "ets") (omega arith) refl) h in
-    let all = says_pair (codes "ets " ++ decimal v) (codes "ets" ∷ decimal v ∷ []) (codes "main") (decimal m) (known (codes "main") (omega arith) refl) (word_number m (omega arith)) one in
+    let all = says_pair (codes "ets " ++ decimal v) (codes "ets" ∷ decimal v ∷ []) (codes "main") (decimal m)
+    (known (codes "main") (omega arith) refl) (word_number m (omega arith)) one in
     rereads_line _ (codes "ets") (decimal v ∷ codes "main" ∷ decimal m ∷ []) all
 
 rereads_block_line : (n : ℕ) (b : CodeBlock) → n < 2 ^ 32 → HasNumbers b → Rereads (block_line n b.inputs b.outputs b.slots) (block_words n b ∷ [])
 rereads_block_line n b lt h =
     let one = says_key (codes "block") n (known (codes "block") (omega arith) refl) lt in
-    let two = says_pair (codes "block " ++ decimal n) (codes "block" ∷ decimal n ∷ []) (codes "inputs") (decimal b.inputs) (known (codes "inputs") (omega arith) refl) (word_number b.inputs (let few = h.inputs in omega arith)) one in
-    let three = says_pair _ _ (codes "outputs") (decimal b.outputs) (known (codes "outputs") (omega arith) refl) (word_number b.outputs (let few = h.outputs in omega arith)) two in
-    let four = says_pair _ _ (codes "slots") (decimal b.slots) (known (codes "slots") (omega arith) refl) (word_number b.slots (let few = h.slots in omega arith)) three in
+    let two = says_pair (codes "block " ++ decimal n) (codes "block" ∷ decimal n ∷ []) (codes "inputs") (decimal b.inputs)
+    (known (codes "inputs") (omega arith) refl) (word_number b.inputs (let few = h.inputs in omega arith)) one in
+    let three = says_pair _ _ (codes "outputs") (decimal b.outputs) (known (codes "outputs") (omega arith) refl)
+    (word_number b.outputs (let few = h.outputs in omega arith)) two in
+    let four = says_pair _ _ (codes "slots") (decimal b.slots) (known (codes "slots") (omega arith) refl)
+    (word_number b.slots (let few = h.slots in omega arith)) three in
     rereads_line _ (codes "block") _ four
 
 rereads_array : (n len : ℕ) → n < 2 ^ 32 → len < 2 ^ 32 → Rereads (array_line n len) (array_words n len ∷ [])
 rereads_array n len h k =
     let one = says_key (codes "array") n (known (codes "array") (omega arith) refl) h in
-    rereads_line _ (codes "array") (decimal n ∷ decimal len ∷ []) (says_last (codes "array " ++ decimal n) (codes "array" ∷ decimal n ∷ []) (decimal len) (word_number len (omega arith)) one)
+    rereads_line _ (codes "array") (decimal n ∷ decimal len ∷ []) (says_last (codes "array " ++ decimal n) (codes "array" ∷ decimal n ∷ [])
+    (decimal len) (word_number len (omega arith)) one)
 
 rereads_literal : (n : ℕ) (z : ℤ) → n < 2 ^ 32 → FitsSigned w64 z → Rereads (literal_line n z) (literal_words n z ∷ [])
 rereads_literal n z h k =
     let one = says_key (codes "literal") n (known (codes "literal") (omega arith) refl) h in
-    rereads_line _ (codes "literal") (decimal n ∷ literal z ∷ []) (says_last (codes "literal " ++ decimal n) (codes "literal" ∷ decimal n ∷ []) (literal z) (word_literal z k) one)
+    rereads_line _ (codes "literal") (decimal n ∷ literal z ∷ []) (says_last (codes "literal " ++ decimal n) (codes "literal" ∷ decimal n ∷ [])
+    (literal z) (word_literal z k) one)
 
 -- ---- all lines
-rereads_all : {X : Type 0} (P : X → Type 0) (text : ℕ → X → List ℕ) (words : ℕ → X → List Word) (n : ℕ) (xs : List X) → ((k : ℕ) (x : X) → k < 2 ^ 32 → P x → Rereads (text k x) (words k x ∷ [])) → n + length xs ≤ 2 ^ 32 → All P xs
+rereads_all : {X : Type 0} (P : X → Type 0) (text : ℕ → X → List ℕ) (words : ℕ → X → List Word) (n : ℕ) (xs : List X)
+    → ((k : ℕ) (x : X) → k < 2 ^ 32 → P x → Rereads (text k x) (words k x ∷ [])) → n + length xs ≤ 2 ^ 32 → All P xs
     → Rereads (numbered text n xs) (numbered_lines words n xs)
 unfolding numbered_lines
 rereads_all P text words n [] tell few all = rereads_none
@@ -218,11 +239,13 @@ rereads_blocks : (n : ℕ) (bs : List CodeBlock) → n + length bs ≤ 2 ^ 32 �
 unfolding block_lines
 rereads_blocks n [] few all = rereads_none
 rereads_blocks n (b ∷ bs) few all =
-    rereads_both (Listing.block_lines n b) (numbered Listing.block_lines (n + 1) bs) (block_words n b ∷ numbered_lines instr_words 0 b.instrs) (block_lines (n + 1) bs)
+    rereads_both (Listing.block_lines n b) (numbered Listing.block_lines (n + 1) bs) (block_words n b ∷ numbered_lines instr_words 0 b.instrs)
+    (block_lines (n + 1) bs)
     (rereads_block n b (omega arith) (All-head HasLines b bs all)) (rereads_blocks (n + 1) bs (omega arith) (All-tail HasLines b bs all))
 
 rereads_table : (v : ℕ) (c : Code) → IsCode v c → Rereads (numbered literal_line 0 c.literals) (table_lines true c.literals)
-rereads_table v c is = rereads_all (λ (z : ℤ). FitsSigned w64 z) literal_line literal_words 0 c.literals rereads_literal (let few = is.few_literals in omega arith) is.literals
+rereads_table v c is = rereads_all (λ (z : ℤ). FitsSigned w64 z) literal_line literal_words 0 c.literals rereads_literal (let few = is.few_literals
+    in omega arith) is.literals
 
 abbrev head_and_blocks : ℕ → Code → Lines
 head_and_blocks v c = head_words v c.program.main ∷ block_lines 0 c.program.blocks
@@ -234,16 +257,22 @@ rereads_program : (v : ℕ) (c : Code) → IsCode v c → Rereads (listing v c.p
 rereads_program v c is =
     let m = c.program.main in
     let main-few : m < 2 ^ 32 = let h = is.main in let k = is.some_block.1 in omega arith in
-    let one = rereads_both (head_line v m) (numbered Listing.block_lines 0 c.program.blocks) (head_words v m ∷ []) (block_lines 0 c.program.blocks) (rereads_head v m (version_few v is.version_known) main-few) (rereads_blocks 0 c.program.blocks (let few = is.some_block.1 in omega arith) (all_lines v c is)) in
-    rereads_both (head_line v m ++ numbered Listing.block_lines 0 c.program.blocks) (numbered array_line 0 c.program.arrays) (head_and_blocks v c) (array_part c) one (rereads_all (λ n. n < 2 ^ 32) array_line array_words 0 c.program.arrays rereads_array (let few = is.few_arrays in omega arith) (all_lengths v c is))
+    let one = rereads_both (head_line v m) (numbered Listing.block_lines 0 c.program.blocks) (head_words v m ∷ []) (block_lines 0 c.program.blocks)
+    (rereads_head v m (version_few v is.version_known) main-few) (rereads_blocks 0 c.program.blocks (let few = is.some_block.1 in omega arith)
+    (all_lines v c is)) in
+    rereads_both (head_line v m ++ numbered Listing.block_lines 0 c.program.blocks) (numbered array_line 0 c.program.arrays) (head_and_blocks v c)
+    (array_part c) one (rereads_all (λ n. n < 2 ^ 32) array_line array_words 0 c.program.arrays rereads_array (let few = is.few_arrays
+    in omega arith) (all_lengths v c is))
 
 -- the lines of the listing, and of the listing with the literals
 pub lines_has_listing : (v : ℕ) (c : Code) → IsCode v c → lines_in (listing v c.program) ≡ code_lines false v c
 lines_has_listing v c is =
-    reread (listing v c.program) (head_and_blocks v c ++ array_part c) (rereads_program v c is) ∙ ap (λ (more : Lines). head_and_blocks v c ++ more) (sym (append-nil (array_part c)))
+    reread (listing v c.program) (head_and_blocks v c ++ array_part c) (rereads_program v c is) ∙ ap (λ (more : Lines). head_and_blocks v c ++ more)
+    (sym (append-nil (array_part c)))
 
 pub lines_with_literals : (v : ℕ) (c : Code) → IsCode v c → lines_in (listing_with_literals v c) ≡ code_lines true v c
 lines_with_literals v c is =
     let table : Lines = table_lines true c.literals in
-    let all = rereads_both (listing v c.program) (numbered literal_line 0 c.literals) (head_and_blocks v c ++ array_part c) table (rereads_program v c is) (rereads_table v c is) in
+    let all = rereads_both (listing v c.program) (numbered literal_line 0 c.literals) (head_and_blocks v c ++ array_part c) table
+    (rereads_program v c is) (rereads_table v c is) in
     reread (listing_with_literals v c) ((head_and_blocks v c ++ array_part c) ++ table) all ∙ append_assoc (head_and_blocks v c) (array_part c) table

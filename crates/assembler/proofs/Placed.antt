@@ -1,5 +1,6 @@
 -- Lines of a text, one at a time.
-use Rattle.std.proofs.Common.{◌≡◌, ℕ, ◌+◌, ◌-◌, ◌≤◌, eqb, true, false, cond, List, [], ◌∷◌, length, Result, Ok, Err, refl, sym, ap, ◌∙◌, arith, inl, inr, ◌<◌, ℤ}
+use Rattle.std.proofs.Common.{◌≡◌, ℕ, ◌+◌, ◌-◌, ◌≤◌, eqb, true, false, cond, List, [], ◌∷◌, length, Result, Ok, Err, refl, sym, ap, ◌∙◌, arith, inl}
+use Rattle.std.proofs.Common.{inr, ◌<◌, ℤ}
 use Rattle.std.specs.Prelude.{◌⊎◌}
 use Rattle.semantics.specs.Program.{Code}
 use Rattle.graph_file.specs.Giving.{◌>>=◌}
@@ -16,7 +17,8 @@ use Rattle.assembler.specs.declared.checks.Refusal.{Refusal}
 
 -- ---- the number of a line
 
-at_once : (n index : ℕ) (line : List ℕ) (lines : List (List ℕ)) → line_at n index (line ∷ lines) ≡ cond (has_words (words_of line)) (cond (eqb index 0) (n + 1) (line_at (n + 1) (index - 1) lines)) (line_at (n + 1) index lines)
+at_once : (n index : ℕ) (line : List ℕ) (lines : List (List ℕ)) → line_at n index (line ∷ lines)
+    ≡ cond (has_words (words_of line)) (cond (eqb index 0) (n + 1) (line_at (n + 1) (index - 1) lines)) (line_at (n + 1) index lines)
 unfolding line_at
 at_once n index line lines = refl
 
@@ -25,19 +27,22 @@ unfolding line_at
 at_none n index all [] e h = h
 at_none n index all (l ∷ ls) e h = absurd cc
 
-pub at_blank : (n index all : ℕ) (ls lines : List (List ℕ)) (line : List ℕ) → ls ≡ line ∷ lines → has_words (words_of line) ≡ false → line_at n index ls ≡ all → line_at (n + 1) index lines ≡ all
+pub at_blank : (n index all : ℕ) (ls lines : List (List ℕ)) (line : List ℕ) → ls ≡ line ∷ lines → has_words (words_of line) ≡ false
+    → line_at n index ls ≡ all → line_at (n + 1) index lines ≡ all
 at_blank n index all ls lines line e t h =
     let k : line_at n index (line ∷ lines) ≡ all = ap (line_at n index) (sym e) ∙ h in
     let j : line_at n index (line ∷ lines) ≡ line_at (n + 1) index lines = at_once n index line lines ∙ rw t refl in
     sym j ∙ k
 
-pub at_here : (n index all : ℕ) (ls lines : List (List ℕ)) (line : List ℕ) → ls ≡ line ∷ lines → has_words (words_of line) ≡ true → eqb index 0 ≡ true → line_at n index ls ≡ all → n + 1 ≡ all
+pub at_here : (n index all : ℕ) (ls lines : List (List ℕ)) (line : List ℕ) → ls ≡ line ∷ lines → has_words (words_of line) ≡ true → eqb index 0 ≡ true
+    → line_at n index ls ≡ all → n + 1 ≡ all
 at_here n index all ls lines line e t z h =
     let k : line_at n index (line ∷ lines) ≡ all = ap (line_at n index) (sym e) ∙ h in
     let j : line_at n index (line ∷ lines) ≡ n + 1 = at_once n index line lines ∙ rw (t, z) refl in
     sym j ∙ k
 
-pub at_later : (n index all : ℕ) (ls lines : List (List ℕ)) (line : List ℕ) → ls ≡ line ∷ lines → has_words (words_of line) ≡ true → eqb index 0 ≡ false → line_at n index ls ≡ all → line_at (n + 1) (index - 1) lines ≡ all
+pub at_later : (n index all : ℕ) (ls lines : List (List ℕ)) (line : List ℕ) → ls ≡ line ∷ lines → has_words (words_of line) ≡ true → eqb index 0
+    ≡ false → line_at n index ls ≡ all → line_at (n + 1) (index - 1) lines ≡ all
 at_later n index all ls lines line e t z h =
     let k : line_at n index (line ∷ lines) ≡ all = ap (line_at n index) (sym e) ∙ h in
     let j : line_at n index (line ∷ lines) ≡ line_at (n + 1) (index - 1) lines = at_once n index line lines ∙ rw (t, z) refl in
@@ -50,13 +55,15 @@ fewer n ls lines line limit e h = let k = ap (λ (xs : List (List ℕ)). length 
 abbrev Total : Type 0
 Total = Result (ℕ × Code) AsmFault
 
-pub reads_on : (n : ℕ) (f : Found) (p : Part) (ls lines : List (List ℕ)) (line : List ℕ) (s : Found × Part) (all : Total) → ls ≡ line ∷ lines → line_from f p (words_of line) ≡ Ok s → lines_from n f p ls ≡ all → lines_from (n + 1) s.0 s.1 lines ≡ all
+pub reads_on : (n : ℕ) (f : Found) (p : Part) (ls lines : List (List ℕ)) (line : List ℕ) (s : Found × Part) (all : Total) → ls ≡ line ∷ lines
+    → line_from f p (words_of line) ≡ Ok s → lines_from n f p ls ≡ all → lines_from (n + 1) s.0 s.1 lines ≡ all
 unfolding lines_from
 reads_on n f p ls lines line s all e ok h =
     let k : lines_from n f p (line ∷ lines) ≡ all = ap (lines_from n f p) (sym e) ∙ h in
     sym (ap (λ (r : Result (Found × Part) AsmFaultKind). at_line (n + 1) r >>= λ t. lines_from (n + 1) t.0 t.1 lines) ok) ∙ k
 
-pub reads_badly : (n : ℕ) (f : Found) (p : Part) (ls lines : List (List ℕ)) (line : List ℕ) (kind : AsmFaultKind) (all : Total) → ls ≡ line ∷ lines → line_from f p (words_of line) ≡ Err kind → lines_from n f p ls ≡ all → all ≡ Err record { kind = kind; line = n + 1 }
+pub reads_badly : (n : ℕ) (f : Found) (p : Part) (ls lines : List (List ℕ)) (line : List ℕ) (kind : AsmFaultKind) (all : Total) → ls ≡ line ∷ lines
+    → line_from f p (words_of line) ≡ Err kind → lines_from n f p ls ≡ all → all ≡ Err record { kind = kind; line = n + 1 }
 unfolding lines_from
 reads_badly n f p ls lines line kind all e bad h =
     let k : lines_from n f p (line ∷ lines) ≡ all = ap (lines_from n f p) (sym e) ∙ h in
@@ -70,11 +77,13 @@ reads_to_end n f p (l ∷ ls) all e h = absurd cc
 pub ended_well : (n : ℕ) (r : Result (ℕ × Code) AsmFaultKind) (all : Total) (x : ℕ × Code) → all ≡ at_line n r → r ≡ Ok x → all ≡ Ok x
 ended_well n r all x h e = h ∙ ap (at_line n) e
 
-pub ended_badly : (n : ℕ) (r : Result (ℕ × Code) AsmFaultKind) (all : Total) (kind : AsmFaultKind) → all ≡ at_line n r → (kind ≡ Memory) ⊎ (r ≡ Err kind) → IsFirstFault record { kind = kind; line = n } all
+pub ended_badly : (n : ℕ) (r : Result (ℕ × Code) AsmFaultKind) (all : Total) (kind : AsmFaultKind) → all ≡ at_line n r
+    → (kind ≡ Memory) ⊎ (r ≡ Err kind) → IsFirstFault record { kind = kind; line = n } all
 ended_badly n r all kind h (inl m) = inl m
 ended_badly n r all kind h (inr e) = inr (h ∙ ap (at_line n) e)
 
-pub stopped : (n : ℕ) (f : Found) (p : Part) (ls lines : List (List ℕ)) (line : List ℕ) (kind : AsmFaultKind) (all : Total) → ls ≡ line ∷ lines → (kind ≡ Memory) ⊎ (line_from f p (words_of line) ≡ Err kind) → lines_from n f p ls ≡ all → IsFirstFault record { kind = kind; line = n + 1 } all
+pub stopped : (n : ℕ) (f : Found) (p : Part) (ls lines : List (List ℕ)) (line : List ℕ) (kind : AsmFaultKind) (all : Total) → ls ≡ line ∷ lines
+    → (kind ≡ Memory) ⊎ (line_from f p (words_of line) ≡ Err kind) → lines_from n f p ls ≡ all → IsFirstFault record { kind = kind; line = n + 1 } all
 stopped n f p ls lines line kind all e (inl m) h = inl m
 stopped n f p ls lines line kind all e (inr b) h = inr (reads_badly n f p ls lines line kind all e b h)
 

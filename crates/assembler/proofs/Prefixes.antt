@@ -1,5 +1,6 @@
 -- What was read so far is written so: each line that is read makes it longer by exactly that line.
-use Rattle.std.proofs.Common.{◌≡◌, ℕ, ◌+◌, ◌<◌, Bool, true, false, cond, List, [], ◌∷◌, ◌++◌, length, Result, Ok, ℤ, refl, sym, ap, subst, ◌∙◌, append_assoc, arith, inl, inr}
+use Rattle.std.proofs.Common.{◌≡◌, ℕ, ◌+◌, ◌<◌, Bool, true, false, cond, List, [], ◌∷◌, ◌++◌, length, Result, Ok, ℤ, refl, sym, ap, subst, ◌∙◌}
+use Rattle.std.proofs.Common.{append_assoc, arith, inl, inr}
 use Rattle.std.specs.Prelude.{codes}
 use Rattle.std.specs.Str.{bytes_eq}
 use Rattle.std.proofs.lemmas.List.{append-nil, length-append}
@@ -15,10 +16,12 @@ use Rattle.assembler.specs.declared.found.Part.{Part}
 use Rattle.assembler.specs.declared.found.Part.TheVariants.{Head, Start, Blocks, Arrays, Literals}
 use Rattle.assembler.specs.Words.{Word}
 use Rattle.assembler.specs.Giving.{must}
-use Rattle.assembler.specs.Grammar.{head_words, block_words, instr_words, array_words, literal_words, numbered_lines, block_lines, code_lines, with_literal, used_by, used_in, table_of}
+use Rattle.assembler.specs.Grammar.{head_words, block_words, instr_words, array_words, literal_words, numbered_lines, block_lines, code_lines}
+use Rattle.assembler.specs.Grammar.{with_literal, used_by, used_in, table_of}
 use Rattle.assembler.specs.Found.{Found}
 use Rattle.assembler.specs.Lines.{word_from, head_from, block_from, array_from, literal_from, instr_from}
-use Rattle.assembler.specs.Reading.{all_blocks, with_instr, head_line, first_block, next_block, array_line, literal_line, instr_line, takes_array, takes_literal, block_line, other_line, step, code_with, end_from}
+use Rattle.assembler.specs.Reading.{all_blocks, with_instr, head_line, first_block, next_block, array_line, literal_line, instr_line, takes_array}
+use Rattle.assembler.specs.Reading.{takes_literal, block_line, other_line, step, code_with, end_from}
 use Rattle.assembler.proofs.Taken.{ok_is, head_takes, block_takes, array_takes, literal_takes, instr_takes}
 use Rattle.assembler.proofs.Steps.{steps}
 
@@ -26,7 +29,8 @@ abbrev pub Lines : Type 0
 Lines = List (List Word)
 
 -- ---- one more at the end
-pub numbered_push : {X : Type 0} (words : ℕ → X → List Word) (n : ℕ) (xs : List X) (x : X) → numbered_lines words n (xs ++ x ∷ []) ≡ numbered_lines words n xs ++ words (n + length xs) x ∷ []
+pub numbered_push : {X : Type 0} (words : ℕ → X → List Word) (n : ℕ) (xs : List X) (x : X) → numbered_lines words n (xs ++ x ∷ [])
+    ≡ numbered_lines words n xs ++ words (n + length xs) x ∷ []
 unfolding numbered_lines
 numbered_push words n [] x = let e : n ≡ n + 0 = omega arith in ap (λ (k : ℕ). words k x ∷ []) e
 numbered_push words n (y ∷ ys) x =
@@ -43,7 +47,8 @@ blocks_push n [] b =
     append-nil (of_block n b) ∙ ap (λ (k : ℕ). of_block k b) e
 blocks_push n (c ∷ cs) b =
     let e : n + 1 + length cs ≡ n + length (c ∷ cs) = omega arith in
-    ap (λ (ls : Lines). of_block n c ++ ls) (blocks_push (n + 1) cs b ∙ ap (λ (k : ℕ). block_lines (n + 1) cs ++ of_block k b) e) ∙ sym (append_assoc (of_block n c) (block_lines (n + 1) cs) (of_block (n + length (c ∷ cs)) b))
+    ap (λ (ls : Lines). of_block n c ++ ls) (blocks_push (n + 1) cs b ∙ ap (λ (k : ℕ). block_lines (n + 1) cs ++ of_block k b) e)
+    ∙ sym (append_assoc (of_block n c) (block_lines (n + 1) cs) (of_block (n + length (c ∷ cs)) b))
 
 pub used_by_push : (is : List Instr) (i : Instr) (t : List ℤ) → used_by (is ++ i ∷ []) t ≡ with_literal (literal_of i.op) (used_by is t)
 unfolding used_by
@@ -91,8 +96,11 @@ bare f = head_words f.version f.main ∷ block_lines 0 (all_blocks f)
 
 body_bare : (f : Found) → f.arrays ≡ [] → f.literals ≡ [] → body f ≡ bare f
 body_bare f a l =
-    let e : numbered_lines array_words 0 f.arrays ++ numbered_lines literal_words 0 f.literals ≡ [] = ap (λ (ls : Lines). ls ++ numbered_lines literal_words 0 f.literals) (nothing_numbered array_words f.arrays a) ∙ nothing_numbered literal_words f.literals l in
-    ap (λ (ls : Lines). head_words f.version f.main ∷ (block_lines 0 (all_blocks f) ++ ls)) e ∙ ap (λ (ls : Lines). head_words f.version f.main ∷ ls) (append-nil (block_lines 0 (all_blocks f)))
+    let e : numbered_lines array_words 0 f.arrays ++ numbered_lines literal_words 0 f.literals
+    ≡ [] = ap (λ (ls : Lines). ls ++ numbered_lines literal_words 0 f.literals) (nothing_numbered array_words f.arrays a)
+    ∙ nothing_numbered literal_words f.literals l in
+    ap (λ (ls : Lines). head_words f.version f.main ∷ (block_lines 0 (all_blocks f) ++ ls)) e ∙ ap (λ (ls : Lines). head_words f.version f.main ∷ ls)
+    (append-nil (block_lines 0 (all_blocks f)))
 
 head_leads : (f : Found) (ws : List Word) (s : Found × Part) → head_line f ws ≡ Ok s → IsEmpty f → Leads [] ws s
 unfolding head_line
@@ -120,9 +128,15 @@ first_leads f ws s e h =
     let t = block_takes 0 ws b.0 b.1 in
     let g : Found = record f { last = b.0 } in
     let zero-is : 0 + length f.blocks ≡ 0 = let k = ap (λ (bs : List CodeBlock). length bs) h.0 in omega (arith, k) in
-    let lines : block_lines 0 (all_blocks g) ≡ block_words 0 b.0 ∷ [] = blocks_push 0 f.blocks b.0 ∙ ap (λ (ls : Lines). ls ++ of_block (0 + length f.blocks) b.0) (no_blocks f.blocks h.0) ∙ ap (λ (k : ℕ). of_block k b.0) zero-is ∙ no_instrs 0 b.0 t.1 in
+    let lines : block_lines 0 (all_blocks g) ≡ block_words 0 b.0 ∷ [] = blocks_push 0 f.blocks b.0
+    ∙ ap (λ (ls : Lines). ls ++ of_block (0 + length f.blocks) b.0) (no_blocks f.blocks h.0) ∙ ap (λ (k : ℕ). of_block k b.0) zero-is
+    ∙ no_instrs 0 b.0 t.1 in
     let reread : IsReread g = h.3 ∙ sym (used_in_push f.blocks b.0 [] ∙ nothing_used b.0 (used_in f.blocks []) t.1 ∙ none_used f.blocks h.0) in
-    let made : Leads (said f Start) (codes "block" ∷ ws) (g, Blocks) = ((reread, h.1, h.2), body_bare g h.1 h.2 ∙ ap (λ (ls : Lines). head_words f.version f.main ∷ ls) (lines ∙ ap (λ (l : List Word). l ∷ []) (sym t.0))) in
+    let made : Leads (said f Start) (codes "block" ∷ ws) (g, Blocks) = (
+      (reread, h.1, h.2),
+      body_bare g h.1 h.2
+          ∙ ap (λ (ls : Lines). head_words f.version f.main ∷ ls) (lines ∙ ap (λ (l : List Word). l ∷ []) (sym t.0)),
+    ) in
     subst (Leads (said f Start) (codes "block" ∷ ws)) (ok_is (g, Blocks) s b.2) made
 
 next_leads : (f : Found) (ws : List Word) (s : Found × Part) → next_block f ws ≡ Ok s → IsState f Blocks → Leads (body f) (codes "block" ∷ ws) s
@@ -132,25 +146,42 @@ next_leads f ws s e h =
     let t = block_takes (length f.blocks + 1) ws b.0 b.1 in
     let g : Found = record f { blocks = all_blocks f; last = b.0 } in
     let count : 0 + length (all_blocks f) ≡ length f.blocks + 1 = omega (arith, length-append f.blocks (f.last ∷ [])) in
-    let lines : block_lines 0 (all_blocks g) ≡ block_lines 0 (all_blocks f) ++ block_words (length f.blocks + 1) b.0 ∷ [] = blocks_push 0 (all_blocks f) b.0 ∙ ap (λ (k : ℕ). block_lines 0 (all_blocks f) ++ of_block k b.0) count ∙ ap (λ (ls : Lines). block_lines 0 (all_blocks f) ++ ls) (no_instrs (length f.blocks + 1) b.0 t.1) in
+    let lines : block_lines 0 (all_blocks g) ≡ block_lines 0 (all_blocks f) ++ block_words (length f.blocks + 1) b.0
+    ∷ [] = blocks_push 0 (all_blocks f) b.0 ∙ ap (λ (k : ℕ). block_lines 0 (all_blocks f) ++ of_block k b.0) count
+    ∙ ap (λ (ls : Lines). block_lines 0 (all_blocks f) ++ ls) (no_instrs (length f.blocks + 1) b.0 t.1) in
     let reread : IsReread g = h.0 ∙ sym (used_in_push (all_blocks f) b.0 [] ∙ nothing_used b.0 (table_of (all_blocks f)) t.1) in
-    let text : bare g ≡ bare f ++ (codes "block" ∷ ws) ∷ [] = ap (λ (ls : Lines). head_words f.version f.main ∷ ls) (lines ∙ ap (λ (l : List Word). block_lines 0 (all_blocks f) ++ l ∷ []) (sym t.0)) in
-    let made : Leads (body f) (codes "block" ∷ ws) (g, Blocks) = ((reread, h.1, h.2), body_bare g h.1 h.2 ∙ text ∙ ap (λ (ls : Lines). ls ++ (codes "block" ∷ ws) ∷ []) (sym (body_bare f h.1 h.2))) in
+    let text : bare g ≡ bare f ++ (codes "block" ∷ ws) ∷ [] = ap (λ (ls : Lines). head_words f.version f.main ∷ ls)
+    (lines ∙ ap (λ (l : List Word). block_lines 0 (all_blocks f) ++ l ∷ []) (sym t.0)) in
+    let made : Leads (body f) (codes "block" ∷ ws) (g, Blocks) = (
+      (reread, h.1, h.2),
+      body_bare g h.1 h.2 ∙ text
+          ∙ ap (λ (ls : Lines). ls ++ (codes "block" ∷ ws) ∷ []) (sym (body_bare f h.1 h.2)),
+    ) in
     subst (Leads (body f) (codes "block" ∷ ws)) (ok_is (g, Blocks) s b.2) made
 
 instr_leads : (f : Found) (ws : List Word) (s : Found × Part) → instr_line f ws ≡ Ok s → IsState f Blocks → Leads (body f) ws s
 unfolding instr_line
 instr_leads f ws s e h =
-    let b = bind_ok (instr_from (length f.last.instrs) ws) (λ i. Ok (record f { last = with_instr f.last i; used = with_literal (literal_of i.op) f.used }, Blocks)) s e in
+    let b = bind_ok (instr_from (length f.last.instrs) ws)
+    (λ i. Ok (record f { last = with_instr f.last i; used = with_literal (literal_of i.op) f.used }, Blocks)) s e in
     let i = b.0 in
     let t = instr_takes (length f.last.instrs) ws i b.1 in
     let g : Found = record f { last = with_instr f.last i; used = with_literal (literal_of i.op) f.used } in
     let n = 0 + length f.blocks in
     let zero-is : 0 + length f.last.instrs ≡ length f.last.instrs = omega arith in
-    let more : of_block n (with_instr f.last i) ≡ of_block n f.last ++ ws ∷ [] = ap (λ (ls : Lines). block_words n f.last ∷ ls) (numbered_push instr_words 0 f.last.instrs i ∙ ap (λ (k : ℕ). numbered_lines instr_words 0 f.last.instrs ++ instr_words k i ∷ []) zero-is ∙ ap (λ (l : List Word). numbered_lines instr_words 0 f.last.instrs ++ l ∷ []) (sym t)) in
-    let lines : block_lines 0 (all_blocks g) ≡ block_lines 0 (all_blocks f) ++ ws ∷ [] = blocks_push 0 f.blocks (with_instr f.last i) ∙ ap (λ (ls : Lines). block_lines 0 f.blocks ++ ls) more ∙ sym (append_assoc (block_lines 0 f.blocks) (of_block n f.last) (ws ∷ [])) ∙ ap (λ (ls : Lines). ls ++ ws ∷ []) (sym (blocks_push 0 f.blocks f.last)) in
-    let reread : IsReread g = ap (λ (t : List ℤ). with_literal (literal_of i.op) t) (h.0 ∙ used_in_push f.blocks f.last []) ∙ sym (used_by_push f.last.instrs i (used_in f.blocks [])) ∙ sym (used_in_push f.blocks (with_instr f.last i) []) in
-    let made : Leads (body f) ws (g, Blocks) = ((reread, h.1, h.2), body_bare g h.1 h.2 ∙ ap (λ (ls : Lines). head_words f.version f.main ∷ ls) lines ∙ ap (λ (ls : Lines). ls ++ ws ∷ []) (sym (body_bare f h.1 h.2))) in
+    let more : of_block n (with_instr f.last i) ≡ of_block n f.last ++ ws ∷ [] = ap (λ (ls : Lines). block_words n f.last ∷ ls)
+    (numbered_push instr_words 0 f.last.instrs i ∙ ap (λ (k : ℕ). numbered_lines instr_words 0 f.last.instrs ++ instr_words k i ∷ []) zero-is
+    ∙ ap (λ (l : List Word). numbered_lines instr_words 0 f.last.instrs ++ l ∷ []) (sym t)) in
+    let lines : block_lines 0 (all_blocks g) ≡ block_lines 0 (all_blocks f) ++ ws ∷ [] = blocks_push 0 f.blocks (with_instr f.last i)
+    ∙ ap (λ (ls : Lines). block_lines 0 f.blocks ++ ls) more ∙ sym (append_assoc (block_lines 0 f.blocks) (of_block n f.last) (ws ∷ []))
+    ∙ ap (λ (ls : Lines). ls ++ ws ∷ []) (sym (blocks_push 0 f.blocks f.last)) in
+    let reread : IsReread g = ap (λ (t : List ℤ). with_literal (literal_of i.op) t) (h.0 ∙ used_in_push f.blocks f.last [])
+    ∙ sym (used_by_push f.last.instrs i (used_in f.blocks [])) ∙ sym (used_in_push f.blocks (with_instr f.last i) []) in
+    let made : Leads (body f) ws (g, Blocks) = (
+      (reread, h.1, h.2),
+      body_bare g h.1 h.2 ∙ ap (λ (ls : Lines). head_words f.version f.main ∷ ls) lines
+          ∙ ap (λ (ls : Lines). ls ++ ws ∷ []) (sym (body_bare f h.1 h.2)),
+    ) in
     subst (Leads (body f) ws) (ok_is (g, Blocks) s b.2) made
 
 three : (b a l : Lines) (w : List Word) → b ++ (a ++ (l ++ w ∷ [])) ≡ (b ++ (a ++ l)) ++ w ∷ []
@@ -166,10 +197,14 @@ array_leads f ws s e reread none =
     let al = numbered_lines array_words 0 f.arrays in
     let w : List Word = codes "array" ∷ ws in
     let zero-is : 0 + length f.arrays ≡ length f.arrays = omega arith in
-    let more : numbered_lines array_words 0 g.arrays ≡ al ++ w ∷ [] = numbered_push array_words 0 f.arrays b.0 ∙ ap (λ (k : ℕ). al ++ array_words k b.0 ∷ []) zero-is ∙ ap (λ (l : List Word). al ++ l ∷ []) (sym t) in
+    let more : numbered_lines array_words 0 g.arrays ≡ al ++ w ∷ [] = numbered_push array_words 0 f.arrays b.0
+    ∙ ap (λ (k : ℕ). al ++ array_words k b.0 ∷ []) zero-is ∙ ap (λ (l : List Word). al ++ l ∷ []) (sym t) in
     let no_table : numbered_lines literal_words 0 f.literals ≡ [] = nothing_numbered literal_words f.literals none in
-    let left : bl ++ (numbered_lines array_words 0 g.arrays ++ numbered_lines literal_words 0 f.literals) ≡ bl ++ (al ++ w ∷ []) = ap (λ (ls : Lines). bl ++ (numbered_lines array_words 0 g.arrays ++ ls)) no_table ∙ ap (λ (ls : Lines). bl ++ ls) (append-nil (numbered_lines array_words 0 g.arrays) ∙ more) in
-    let right : bl ++ (al ++ w ∷ []) ≡ (bl ++ (al ++ numbered_lines literal_words 0 f.literals)) ++ w ∷ [] = three bl al [] w ∙ ap (λ (ls : Lines). (bl ++ (al ++ ls)) ++ w ∷ []) (sym no_table) in
+    let left : bl ++ (numbered_lines array_words 0 g.arrays ++ numbered_lines literal_words 0 f.literals) ≡ bl
+    ++ (al ++ w ∷ []) = ap (λ (ls : Lines). bl ++ (numbered_lines array_words 0 g.arrays ++ ls)) no_table
+    ∙ ap (λ (ls : Lines). bl ++ ls) (append-nil (numbered_lines array_words 0 g.arrays) ∙ more) in
+    let right : bl ++ (al ++ w ∷ []) ≡ (bl ++ (al ++ numbered_lines literal_words 0 f.literals)) ++ w ∷ [] = three bl al [] w
+    ∙ ap (λ (ls : Lines). (bl ++ (al ++ ls)) ++ w ∷ []) (sym no_table) in
     let made : Leads (body f) w (g, Arrays) = ((reread, none), ap (λ (ls : Lines). head_words f.version f.main ∷ ls) (left ∙ right)) in
     subst (Leads (body f) w) (ok_is (g, Arrays) s b.2) made
 
@@ -184,8 +219,13 @@ literal_leads f ws s e reread =
     let ll = numbered_lines literal_words 0 f.literals in
     let w : List Word = codes "literal" ∷ ws in
     let zero-is : 0 + length f.literals ≡ length f.literals = omega arith in
-    let more : numbered_lines literal_words 0 g.literals ≡ ll ++ w ∷ [] = numbered_push literal_words 0 f.literals b.0 ∙ ap (λ (k : ℕ). ll ++ literal_words k b.0 ∷ []) zero-is ∙ ap (λ (l : List Word). ll ++ l ∷ []) (sym t) in
-    let made : Leads (body f) w (g, Literals) = ((reread, omega (arith, length-append f.literals (b.0 ∷ []))), ap (λ (ls : Lines). head_words f.version f.main ∷ (bl ++ (al ++ ls))) more ∙ ap (λ (ls : Lines). head_words f.version f.main ∷ ls) (three bl al ll w)) in
+    let more : numbered_lines literal_words 0 g.literals ≡ ll ++ w ∷ [] = numbered_push literal_words 0 f.literals b.0
+    ∙ ap (λ (k : ℕ). ll ++ literal_words k b.0 ∷ []) zero-is ∙ ap (λ (l : List Word). ll ++ l ∷ []) (sym t) in
+    let made : Leads (body f) w (g, Literals) = (
+      (reread, omega (arith, length-append f.literals (b.0 ∷ []))),
+      ap
+          (λ (ls : Lines). head_words f.version f.main ∷ (bl ++ (al ++ ls))) more ∙ ap (λ (ls : Lines). head_words f.version f.main ∷ ls) (three bl al ll w),
+    ) in
     subst (Leads (body f) w) (ok_is (g, Literals) s b.2) made
 
 -- ---- any line
@@ -205,14 +245,16 @@ other_leads f Blocks ws s e h = instr_leads f ws s e h
 other_leads f Arrays ws s e h = absurd cc
 other_leads f Literals ws s e h = absurd cc
 
-arrays_lead : (f : Found) (p : Part) (ws : List Word) (s : Found × Part) → (must (takes_array p) BadLine >>= λ may. array_line f ws) ≡ Ok s → IsState f p → Leads (said f p) (codes "array" ∷ ws) s
+arrays_lead : (f : Found) (p : Part) (ws : List Word) (s : Found × Part) → (must (takes_array p) BadLine >>= λ may. array_line f ws) ≡ Ok s
+    → IsState f p → Leads (said f p) (codes "array" ∷ ws) s
 arrays_lead f Head ws s e h = absurd cc
 arrays_lead f Start ws s e h = absurd cc
 arrays_lead f Blocks ws s e h = array_leads f ws s e h.0 h.2
 arrays_lead f Arrays ws s e h = array_leads f ws s e h.0 h.1
 arrays_lead f Literals ws s e h = absurd cc
 
-literals_lead : (f : Found) (p : Part) (ws : List Word) (s : Found × Part) → (must (takes_literal p) BadLine >>= λ may. literal_line f ws) ≡ Ok s → IsState f p → Leads (said f p) (codes "literal" ∷ ws) s
+literals_lead : (f : Found) (p : Part) (ws : List Word) (s : Found × Part) → (must (takes_literal p) BadLine >>= λ may. literal_line f ws) ≡ Ok s
+    → IsState f p → Leads (said f p) (codes "literal" ∷ ws) s
 literals_lead f Head ws s e h = absurd cc
 literals_lead f Start ws s e h = absurd cc
 literals_lead f Blocks ws s e h = literal_leads f ws s e h.0
@@ -236,7 +278,8 @@ step_leads f p w ws s e h =
     let array = must (takes_array p) BadLine >>= λ may. array_line f ws in
     let table = must (takes_literal p) BadLine >>= λ may. literal_line f ws in
     let rest = cond (bytes_eq w (codes "literal")) table (other_line f p (w ∷ ws)) in
-    elim (cond_cases (bytes_eq w (codes "block")) (block_line f p ws) (cond (bytes_eq w (codes "array")) array rest) (Ok s) e) as (λ _. Leads (said f p) (w ∷ ws) s) [
+    elim (cond_cases (bytes_eq w (codes "block")) (block_line f p ws) (cond (bytes_eq w (codes "array")) array rest) (Ok s) e) as
+    (λ _. Leads (said f p) (w ∷ ws) s) [
       | inl k ↦ named (said f p) w (codes "block") ws s k.0 (block_leads f p ws s k.1 h)
       | inr k ↦ elim (cond_cases (bytes_eq w (codes "array")) array rest (Ok s) k.1) as (λ _. Leads (said f p) (w ∷ ws) s) [
         | inl j ↦ named (said f p) w (codes "array") ws s j.0 (arrays_lead f p ws s j.1 h)
@@ -264,7 +307,12 @@ abbrev pub Says : Lines → ℕ × Code → Type 0
 Says wss r = (reread : Bool) × Fits reread r.1 × (wss ≡ code_lines reread r.0 r.1)
 
 with_used : (f : Found) → IsReread f → f.literals ≡ [] → Says (body f) (code_with f f.used)
-with_used f reread none = (false, reread, ap (λ (ls : Lines). head_words f.version f.main ∷ (block_lines 0 (all_blocks f) ++ (numbered_lines array_words 0 f.arrays ++ ls))) (nothing_numbered literal_words f.literals none))
+with_used f reread none = (
+  false,
+  reread,
+  ap (λ (ls : Lines). head_words f.version f.main
+      ∷ (block_lines 0 (all_blocks f) ++ (numbered_lines array_words 0 f.arrays ++ ls))) (nothing_numbered literal_words f.literals none),
+)
 
 end_says : (f : Found) (p : Part) (r : ℕ × Code) → end_from f p ≡ Ok r → IsState f p → Says (said f p) r
 unfolding end_from
@@ -272,7 +320,8 @@ end_says f Head r e h = absurd cc
 end_says f Start r e h = absurd cc
 end_says f Blocks r e h = subst (Says (body f)) (ok_is (code_with f f.used) r e) (with_used f h.0 h.2)
 end_says f Arrays r e h = subst (Says (body f)) (ok_is (code_with f f.used) r e) (with_used f h.0 h.1)
-end_says f Literals r e h = let made : Says (body f) (code_with f f.literals) = (true, h.1, refl) in subst (Says (body f)) (ok_is (code_with f f.literals) r e) made
+end_says f Literals r e h = let made : Says (body f) (code_with f f.literals) = (true, h.1, refl)
+    in subst (Says (body f)) (ok_is (code_with f f.literals) r e) made
 
 pub steps_say : (f : Found) (p : Part) (wss : Lines) (r : ℕ × Code) → steps f p wss ≡ Ok r → IsState f p → Says (said f p ++ wss) r
 steps_say f p [] r e h = subst (λ (ls : Lines). Says ls r) (sym (append-nil (said f p))) (end_says f p r e h)

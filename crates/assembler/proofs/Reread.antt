@@ -1,5 +1,6 @@
 -- Lines that are written fall into the words that they are written of.
-use Rattle.std.proofs.Common.{◌≡◌, ℕ, zero, suc, ◌-◌, ◌<◌, ◌&&◌, not, eqb, leb, Bool, true, false, cond, List, [], ◌∷◌, ◌++◌, length, map, refl, sym, ap, subst, ◌∙◌, append_assoc, arith}
+use Rattle.std.proofs.Common.{◌≡◌, ℕ, zero, suc, ◌-◌, ◌<◌, ◌&&◌, not, eqb, leb, Bool, true, false, cond, List, [], ◌∷◌, ◌++◌, length, map, refl}
+use Rattle.std.proofs.Common.{sym, ap, subst, ◌∙◌, append_assoc, arith}
 use Rattle.std.specs.List.{list_all, onto_first}
 use Rattle.std.proofs.lemmas.Bool.{leb-true, le-leb, ne_eqb, and_parts, and_from, not-true}
 use Rattle.std.proofs.lemmas.List.{append-nil}
@@ -34,7 +35,8 @@ pub parts_both : (c : ℕ) (bs rest : List ℕ) → eqb c c ≡ true → parts c
 parts_both c [] rest e = rw e refl
 parts_both c (b ∷ bs) rest e = go (eqb b c) (parts_both c bs rest e)
   where
-    go : (t : Bool) → parts c (bs ++ c ∷ rest) ≡ parts c bs ++ parts c rest → cond t ([] ∷ parts c (bs ++ c ∷ rest)) (onto_first b (parts c (bs ++ c ∷ rest))) ≡ cond t ([] ∷ parts c bs) (onto_first b (parts c bs)) ++ parts c rest
+    go : (t : Bool) → parts c (bs ++ c ∷ rest) ≡ parts c bs ++ parts c rest → cond t ([] ∷ parts c (bs ++ c ∷ rest))
+        (onto_first b (parts c (bs ++ c ∷ rest))) ≡ cond t ([] ∷ parts c bs) (onto_first b (parts c bs)) ++ parts c rest
     go true h = ap (λ (ps : List (List ℕ)). [] ∷ ps) h
     go false h = ap (onto_first b) h ∙ onto_more b (parts c bs) (parts c rest) (some_parts c bs)
 
@@ -67,7 +69,8 @@ pub record IsWord (w : Word) : Type 0 where
   pub plain : list_all is_word_byte w ≡ true
 
 line_from_word : (b : ℕ) → is_word_byte b ≡ true → is_line_byte b ≡ true
-line_from_word b e = let p = and_parts (leb 33 b) (not (eqb b 59)) e in and_from (leb 32 b) (not (eqb b 59)) (le-leb 32 b (let h = leb-true 33 b p.0 in omega arith)) p.1
+line_from_word b e = let p = and_parts (leb 33 b) (not (eqb b 59)) e
+    in and_from (leb 32 b) (not (eqb b 59)) (le-leb 32 b (let h = leb-true 33 b p.0 in omega arith)) p.1
 
 not_space : (b : ℕ) → is_word_byte b ≡ true → eqb b 32 ≡ false
 not_space b e = let h = leb-true 33 b (and_parts (leb 33 b) (not (eqb b 59)) e).0 in ne_eqb b 32 (λ z. absurd (omega (arith, h)))
@@ -126,10 +129,12 @@ pub says_left : (width : ℕ) (w : Word) → IsWord w → Says (left_in width w)
 says_left width w h = says_before (width - length w) w h
 
 -- a fixed word between two spaces, and a word after it
-pub says_pair : (bs : List ℕ) (ws : List Word) (key w : Word) → IsWord key → IsWord w → Says bs ws → Says ((bs ++ field (key ++ 32 ∷ [])) ++ w) (ws ++ key ∷ w ∷ [])
+pub says_pair : (bs : List ℕ) (ws : List Word) (key w : Word) → IsWord key → IsWord w → Says bs ws → Says ((bs ++ field (key ++ 32 ∷ [])) ++ w)
+    (ws ++ key ∷ w ∷ [])
 says_pair bs ws key w k h says =
     let pair : Says (key ++ field w) (key ∷ w ∷ []) = says_field key w (key ∷ []) (w ∷ []) (says_word key k) (says_word w h) in
-    let same : (bs ++ field (key ++ 32 ∷ [])) ++ w ≡ bs ++ field (key ++ field w) = append_assoc bs (field (key ++ 32 ∷ [])) w ∙ ap (λ (xs : List ℕ). bs ++ field xs) (append_assoc key (32 ∷ []) w) in
+    let same : (bs ++ field (key ++ 32 ∷ [])) ++ w ≡ bs ++ field (key ++ field w) = append_assoc bs (field (key ++ 32 ∷ [])) w
+    ∙ ap (λ (xs : List ℕ). bs ++ field xs) (append_assoc key (32 ∷ []) w) in
     subst (λ (xs : List ℕ). Says xs (ws ++ key ∷ w ∷ [])) (sym same) (says_field bs (key ++ field w) ws (key ∷ w ∷ []) says pair)
 
 -- ---- lines

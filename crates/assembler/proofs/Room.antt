@@ -9,7 +9,8 @@ use Rattle.tags.specs.declared.value.Origin.{Origin}
 use Rattle.tags.specs.declared.value.Origin.TheVariants.{Untold, At}
 use Rattle.semantics.specs.declared.program.Dest.{Dest}
 use Rattle.semantics.specs.declared.program.Op.{Op}
-use Rattle.semantics.specs.declared.program.Op.TheVariants.{Apply1, Apply2, Apply2Right, Apply2Left, Lit, Copy, Sync, Switch, Fetch, Store, Frame, Link, Send, Return, Ask, Open, Take, Give, Drain, Release}
+use Rattle.semantics.specs.declared.program.Op.TheVariants.{Apply1, Apply2, Apply2Right, Apply2Left, Lit, Copy, Sync, Switch, Fetch, Store, Frame}
+use Rattle.semantics.specs.declared.program.Op.TheVariants.{Link, Send, Return, Ask, Open, Take, Give, Drain, Release}
 use Rattle.semantics.specs.Program.{Instr, CodeBlock, Code}
 use Rattle.semantics.specs.Bytes.{IsDest, HasOperand, HasDests, IsOrigin, IsInstr, IsCodeBlock, IsCode}
 use Rattle.assembler.proofs.Again.{HasRoom, IsNear, IsPlace}
@@ -101,7 +102,12 @@ has_line version c b n i is block it =
 
 block_lines : (version : ℕ) (c : Code) → IsCode version c → (b : CodeBlock) → IsCodeBlock version c b → HasLines b
 block_lines version c is b block = record {
-  numbers = record { inputs = let h = block.inputs.1 in omega arith; outputs = let h = block.outputs.1 in omega arith; slots = let h = block.slots in omega arith };
+  numbers = record {
+    inputs = let h = block.inputs.1 in omega arith;
+    outputs = let h = block.outputs.1 in omega arith;
+    slots = let h = block.slots
+        in omega arith;
+  };
   few = let h = block.size.1 in omega arith;
   instrs = all_from (HasLine b) b.instrs (λ n i at. has_line version c b n i is block (block.instrs n i at));
 }

@@ -22,15 +22,19 @@ use Rattle.assembler.specs.declared.fault.AsmFaultKind.TheVariants.{BadLine, Bad
 use Rattle.assembler.specs.declared.found.Part.{Part}
 use Rattle.assembler.specs.declared.found.Part.TheVariants.{Head, Start, Blocks, Arrays, Literals}
 use Rattle.semantics.specs.declared.opcode.Opcode.{Opcode}
-use Rattle.semantics.specs.declared.opcode.Opcode.TheVariants.{Apply1, Apply2, Apply2Right, Apply2Left, Lit, Copy, Sync, Switch, Fetch, Store, Frame, Link, Send, Return, Ask, Open, Take, Give, Drain, Release}
+use Rattle.semantics.specs.declared.opcode.Opcode.TheVariants.{Apply1, Apply2, Apply2Right, Apply2Left, Lit, Copy, Sync, Switch, Fetch, Store}
+use Rattle.semantics.specs.declared.opcode.Opcode.TheVariants.{Frame, Link, Send, Return, Ask, Open, Take, Give, Drain, Release}
 use Rattle.assembler.specs.Words.{Word, lines_in}
 use Rattle.assembler.specs.Giving.{must}
 use Rattle.assembler.specs.Grammar.{with_literal, IsListingOf}
 use Rattle.assembler.specs.Found.{Found}
 use Rattle.semantics.specs.Opcodes.{opcode_named}
-use Rattle.assembler.specs.Fields.{tagged, small_behind, wide_behind, literal_behind, side_behind, no_operand, sided, binary_from, entry_behind, op_of, slot_from, dest_of}
-use Rattle.assembler.specs.Lines.{word_from, none_from, count_from, head_from, block_from, array_from, literal_from, origin_from, op_from, Tail, tail_from, named_from, instr_from}
-use Rattle.assembler.specs.Reading.{all_blocks, with_instr, nothing, head_line, first_block, next_block, array_line, literal_line, instr_line, takes_array, takes_literal, block_line, other_line, step, code_with, end_from, text_from}
+use Rattle.assembler.specs.Fields.{tagged, small_behind, wide_behind, literal_behind, side_behind, no_operand, sided, binary_from, entry_behind}
+use Rattle.assembler.specs.Fields.{op_of, slot_from, dest_of}
+use Rattle.assembler.specs.Lines.{word_from, none_from, count_from, head_from, block_from, array_from, literal_from, origin_from, op_from, Tail}
+use Rattle.assembler.specs.Lines.{tail_from, named_from, instr_from}
+use Rattle.assembler.specs.Reading.{all_blocks, with_instr, nothing, head_line, first_block, next_block, array_line, literal_line, instr_line}
+use Rattle.assembler.specs.Reading.{takes_array, takes_literal, block_line, other_line, step, code_with, end_from, text_from}
 use Rattle.assembler.specs.Checks.{Checked, code_checked}
 use Rattle.assembler.specs.Assembling.{unless_refused, assembled}
 use Rattle.assembler.proofs.Spelled.{then_is, map_is}
@@ -68,7 +72,8 @@ none_signed op w y h e =
       | inr k ↦ absurd (let q = k.1 in cc)
     ]
 
-sided_signed : (op : Binary) (r l : Option ℤ) (y : Op) → ((z : ℤ) → r ≡ Some z → IsSigned z) → ((z : ℤ) → l ≡ Some z → IsSigned z) → sided op r l ≡ Some y → HasSigned y
+sided_signed : (op : Binary) (r l : Option ℤ) (y : Op) → ((z : ℤ) → r ≡ Some z → IsSigned z) → ((z : ℤ) → l ≡ Some z → IsSigned z) → sided op r l
+    ≡ Some y → HasSigned y
 sided_signed op (Some z) l y right left e = let same : ops.Apply2Right op z ≡ y = cc in subst HasSigned same (right z refl)
 sided_signed op None (Some z) y right left e = let same : ops.Apply2Left op z ≡ y = cc in subst HasSigned same (left z refl)
 sided_signed op None None y right left e = absurd cc
@@ -119,7 +124,8 @@ unfolding named_from
 named_signed name t i e =
     let o = bind_ok (op_from name t.3) (λ op. ok_or (slot_from (uses_slot op) t.0) BadSlot >>= λ slot. dests_from t op slot) i e in
     let s = bind_ok (ok_or (slot_from (uses_slot o.0) t.0) BadSlot) (λ slot. dests_from t o.0 slot) i o.2 in
-    let d = bind_ok (ok_or (dest_of t.1) BadDestination) (λ d. ok_or (dest_of t.2) BadDestination >>= λ x. origin_from t.4 >>= λ origin. Ok (made_instr o.0 s.0 d x origin)) i s.2 in
+    let d = bind_ok (ok_or (dest_of t.1) BadDestination) (λ d. ok_or (dest_of t.2) BadDestination >>= λ x. origin_from t.4 >>= λ origin. Ok
+    (made_instr o.0 s.0 d x origin)) i s.2 in
     let x = bind_ok (ok_or (dest_of t.2) BadDestination) (λ x. origin_from t.4 >>= λ origin. Ok (made_instr o.0 s.0 d.0 x origin)) i d.2 in
     let g = bind_ok (origin_from t.4) (λ origin. Ok (made_instr o.0 s.0 d.0 x.0 origin)) i x.2 in
     subst (λ (j : Instr). HasSigned j.op) (ok_is (made_instr o.0 s.0 d.0 x.0 g.0) i g.2) (from_signed name t.3 o.0 o.1)
@@ -177,13 +183,15 @@ table_signed : (f : Found) (ws : List Word) (s : Found × Part) → literal_line
 unfolding literal_line
 table_signed f ws s e h =
     let b = bind_ok (literal_from (length f.literals) ws) (λ z. Ok (record f { literals = f.literals ++ z ∷ [] }, Literals)) s e in
-    let made : AllSigned (record f { literals = f.literals ++ b.0 ∷ [] }, Literals) = (h.0, All-push IsSigned f.literals b.0 h.1 (literal_signed (length f.literals) ws b.0 b.1)) in
+    let made : AllSigned (record f { literals = f.literals ++ b.0 ∷ [] }, Literals) =
+    (h.0, All-push IsSigned f.literals b.0 h.1 (literal_signed (length f.literals) ws b.0 b.1)) in
     subst AllSigned (ok_is (record f { literals = f.literals ++ b.0 ∷ [] }, Literals) s b.2) made
 
 put_signed : (f : Found) (ws : List Word) (s : Found × Part) → instr_line f ws ≡ Ok s → AllSigned (f, Head) → AllSigned s
 unfolding instr_line
 put_signed f ws s e h =
-    let b = bind_ok (instr_from (length f.last.instrs) ws) (λ i. Ok (record f { last = with_instr f.last i; used = with_literal (Listing.literal_of i.op) f.used }, Blocks)) s e in
+    let b = bind_ok (instr_from (length f.last.instrs) ws)
+    (λ i. Ok (record f { last = with_instr f.last i; used = with_literal (Listing.literal_of i.op) f.used }, Blocks)) s e in
     let g : Found = record f { last = with_instr f.last b.0; used = with_literal (Listing.literal_of b.0.op) f.used } in
     let made : AllSigned (g, Blocks) = (with_signed (Listing.literal_of b.0.op) f.used (instr_signed (length f.last.instrs) ws b.0 b.1) h.0, h.1) in
     subst AllSigned (ok_is (g, Blocks) s b.2) made
@@ -245,7 +253,8 @@ text_signed text r e = steps_signed nothing Head (lines_in text) r (text_strippe
 abbrev IsObjectOf : List ℕ → ℕ × Code → Type 0
 IsObjectOf text r = IsListingOf text r.0 r.1 × IsCode r.0 r.1
 
-accepted : (text : List ℕ) (r q : ℕ × Code) (k : Checked) → code_checked r.0 r.1 ≡ k → text_from text ≡ Ok r → unless_refused text r k ≡ Ok q → IsObjectOf text q
+accepted : (text : List ℕ) (r q : ℕ × Code) (k : Checked) → code_checked r.0 r.1 ≡ k → text_from text ≡ Ok r → unless_refused text r k ≡ Ok q
+    → IsObjectOf text q
 accepted text r q (Ok x) c e h =
     let same : r ≡ q = cc (h) in
     subst (IsObjectOf text) same (is_listing text r e, has_object r.0 r.1 (text_signed text r e) c)

@@ -20,5 +20,6 @@ listing_from text r (false, reread, e) = inr (reread, e)
 pub is_listing : (text : List ℕ) (r : ℕ × Code) → text_from text ≡ Ok r → IsListingOf text r.0 r.1
 is_listing text r e = listing_from text r (steps_say nothing Head (lines_in text) r (text_stripped text r e) (refl, refl, refl, refl))
 
-pub sound : (text : List ℕ) (v w : ℕ) (c : Code) → v ≡ w → All (λ (z : ℤ). FitsSigned w64 z) c.literals → text_from text ≡ Ok (v, c) → code_checked v c ≡ Ok tt → IsListingOf text w c × IsCode w c
+pub sound : (text : List ℕ) (v w : ℕ) (c : Code) → v ≡ w → All (λ (z : ℤ). FitsSigned w64 z) c.literals → text_from text ≡ Ok (v, c)
+    → code_checked v c ≡ Ok tt → IsListingOf text w c × IsCode w c
 sound text v w c same fit read checked = subst (λ (u : ℕ). IsListingOf text u c × IsCode u c) same (is_listing text (v, c) read, has_object v c fit checked)

@@ -1,5 +1,6 @@
 -- A word that is read is the word that is written.
-use Rattle.std.proofs.Common.{◌≡◌, ℕ, ◌-◌, ◌<◌, eqb, ltb, Bool, true, false, cond, List, [], ◌∷◌, ◌++◌, length, get_or, take, Option, Some, None, ℤ, refl, sym, ap, subst, ◌∙◌, append_assoc, arith, inl, inr}
+use Rattle.std.proofs.Common.{◌≡◌, ℕ, ◌-◌, ◌<◌, eqb, ltb, Bool, true, false, cond, List, [], ◌∷◌, ◌++◌, length, get_or, take, Option, Some, None, ℤ}
+use Rattle.std.proofs.Common.{refl, sym, ap, subst, ◌∙◌, append_assoc, arith, inl, inr}
 use Rattle.std.specs.Prelude.{⊤, codes, option_map, option_to_list}
 use Rattle.std.specs.Fmt.{decimal}
 use Rattle.std.specs.List.{join_with_byte}
@@ -26,11 +27,14 @@ use Rattle.graph_file.specs.Lines.{parts}
 use Rattle.graph_file.specs.Fields.{number_of, literal_of}
 use Rattle.graph_file.proofs.Marks.{number_is, literal_is}
 use Rattle.semantics.specs.declared.opcode.Opcode.{Opcode}
-use Rattle.semantics.specs.declared.opcode.Opcode.TheVariants.{Apply1, Apply2, Apply2Right, Apply2Left, Lit, Copy, Sync, Switch, Fetch, Store, Frame, Link, Send, Return, Ask, Open, Take, Give, Drain, Release}
+use Rattle.semantics.specs.declared.opcode.Opcode.TheVariants.{Apply1, Apply2, Apply2Right, Apply2Left, Lit, Copy, Sync, Switch, Fetch, Store}
+use Rattle.semantics.specs.declared.opcode.Opcode.TheVariants.{Frame, Link, Send, Return, Ask, Open, Take, Give, Drain, Release}
 use Rattle.assembler.specs.Grammar.{origin_words}
 use Rattle.semantics.specs.Opcodes.{opcode_word}
 use Rattle.semantics.specs.Opcodes as Opcodes
-use Rattle.assembler.specs.Fields.{then_some, tagged, below, small_of, wide_of, small_behind, wide_behind, literal_behind, side_behind, no_operand, sided, binary_from, pair_of, entry_parts, entry_of, entry_behind, op_of, slot_from, dest_to, dest_parts, dest_behind, dest_of, node_of, place_of, place_parts, place_in, origin_of}
+use Rattle.assembler.specs.Fields.{then_some, tagged, below, small_of, wide_of, small_behind, wide_behind, literal_behind, side_behind, no_operand}
+use Rattle.assembler.specs.Fields.{sided, binary_from, pair_of, entry_parts, entry_of, entry_behind, op_of, slot_from, dest_to, dest_parts}
+use Rattle.assembler.specs.Fields.{dest_behind, dest_of, node_of, place_of, place_parts, place_in, origin_of}
 
 -- ---- small parts
 pub then_is : {A B : Type 0} (o : Option A) (f : A → Option B) (y : B) → then_some o f ≡ Some y → (x : A) × (o ≡ Some x) × (f x ≡ Some y)
@@ -104,7 +108,8 @@ side_behind_is c w z e =
 abbrev Says : Opcode → List ℕ → Op → Type 0
 Says n w op = (opcode_word n ≡ Opcodes.op_word op) × (w ≡ operand_text op)
 
-no_operand_is : (n : Opcode) (op : Op) (w : List ℕ) (y : Op) → opcode_word n ≡ Opcodes.op_word op → operand_text op ≡ codes "-" → no_operand op w ≡ Some y → Says n w y
+no_operand_is : (n : Opcode) (op : Op) (w : List ℕ) (y : Op) → opcode_word n ≡ Opcodes.op_word op → operand_text op ≡ codes "-" → no_operand op w
+    ≡ Some y → Says n w y
 unfolding no_operand
 no_operand_is n op w y name none e =
     elim (cond_cases (bytes_eq w (codes "-")) (Some op) None (Some y) e) as (λ _. Says n w y) [
@@ -114,7 +119,8 @@ no_operand_is n op w y name none e =
       | inr h ↦ absurd (let q = h.1 in cc)
     ]
 
-sided_is : (op : Binary) (w : List ℕ) (r l : Option ℤ) (y : Op) → ((z : ℤ) → r ≡ Some z → w ≡ 114 ∷ 35 ∷ literal z) → ((z : ℤ) → l ≡ Some z → w ≡ 108 ∷ 35 ∷ literal z) → sided op r l ≡ Some y → Says (Apply2 op) w y
+sided_is : (op : Binary) (w : List ℕ) (r l : Option ℤ) (y : Op) → ((z : ℤ) → r ≡ Some z → w ≡ 114 ∷ 35 ∷ literal z)
+    → ((z : ℤ) → l ≡ Some z → w ≡ 108 ∷ 35 ∷ literal z) → sided op r l ≡ Some y → Says (Apply2 op) w y
 sided_is op w (Some z) l y right left e = let k : ops.Apply2Right op z ≡ y = cc in subst (Says (Apply2 op) w) k (refl, right z refl)
 sided_is op w None (Some z) y right left e = let k : ops.Apply2Left op z ≡ y = cc in subst (Says (Apply2 op) w) k (refl, left z refl)
 sided_is op w None None y right left e = absurd cc
@@ -122,7 +128,8 @@ sided_is op w None None y right left e = absurd cc
 binary_is : (op : Binary) (w : List ℕ) (y : Op) → binary_from op w ≡ Some y → Says (Apply2 op) w y
 unfolding binary_from
 binary_is op w y e =
-    elim (cond_cases (bytes_eq w (codes "-")) (Some (ops.Apply2 op)) (sided op (side_behind 114 w) (side_behind 108 w)) (Some y) e) as (λ _. Says (Apply2 op) w y) [
+    elim (cond_cases (bytes_eq w (codes "-")) (Some (ops.Apply2 op)) (sided op (side_behind 114 w) (side_behind 108 w)) (Some y) e) as
+    (λ _. Says (Apply2 op) w y) [
       | inl h ↦
           let k : ops.Apply2 op ≡ y = let q = h.1 in cc in
           subst (Says (Apply2 op) w) k (refl, (bytes_eq-Decides w (codes "-")).0 h.0)
@@ -160,7 +167,8 @@ entry_behind_is w p e =
     let t = then_is (tagged 98 w) entry_of p e in
     tagged_is 98 w t.0 t.1 ∙ ap (λ (xs : List ℕ). 98 ∷ xs) (entry_is t.0 p t.2) ∙ sym (send_text p.0 p.1)
 
-mapped : {A : Type 0} (n : Opcode) (w : List ℕ) (make : A → Op) (o : Option A) (y : Op) → ((x : A) → o ≡ Some x → Says n w (make x)) → option_map make o ≡ Some y → Says n w y
+mapped : {A : Type 0} (n : Opcode) (w : List ℕ) (make : A → Op) (o : Option A) (y : Op) → ((x : A) → o ≡ Some x → Says n w (make x))
+    → option_map make o ≡ Some y → Says n w y
 mapped n w make o y h e =
     let m = map_is make o y e in
     subst (Says n w) m.2 (h m.0 m.1)
@@ -231,7 +239,8 @@ abbrev tail_text : List Dest → List ℕ
 tail_text [] = []
 tail_text (d ∷ ds) = decimal d.ahead ++ port_letter d.port
 
-dest_to_is : (port : Port) (w front : List ℕ) (y : Option Dest) → w ≡ front ++ port_letter port → dest_to port (number_of front) ≡ Some y → (d : Dest) × (y ≡ Some d) × (w ≡ decimal d.ahead ++ port_letter d.port)
+dest_to_is : (port : Port) (w front : List ℕ) (y : Option Dest) → w ≡ front ++ port_letter port → dest_to port (number_of front) ≡ Some y → (d : Dest)
+    × (y ≡ Some d) × (w ≡ decimal d.ahead ++ port_letter d.port)
 dest_to_is port w front y is e = go (number_of front) refl e
   where
     go : (o : Option ℕ) → number_of front ≡ o → dest_to port o ≡ Some y → (d : Dest) × (y ≡ Some d) × (w ≡ decimal d.ahead ++ port_letter d.port)
@@ -240,20 +249,24 @@ dest_to_is port w front y is e = go (number_of front) refl e
         let same : Some record { ahead = n; port = port } ≡ y = cc in
         (record { ahead = n; port = port }, sym same, is ∙ ap (λ (xs : List ℕ). xs ++ port_letter port) (number_is front n k).0)
 
-dest_parts_is : (w front : List ℕ) (last : ℕ) (y : Option Dest) → w ≡ front ++ last ∷ [] → dest_parts front last ≡ Some y → (d : Dest) × (y ≡ Some d) × (w ≡ decimal d.ahead ++ port_letter d.port)
+dest_parts_is : (w front : List ℕ) (last : ℕ) (y : Option Dest) → w ≡ front ++ last ∷ [] → dest_parts front last ≡ Some y → (d : Dest) × (y ≡ Some d)
+    × (w ≡ decimal d.ahead ++ port_letter d.port)
 dest_parts_is w front last y is e =
-    elim (cond_cases (eqb last 108) (dest_to Left (number_of front)) (cond (eqb last 114) (dest_to Right (number_of front)) None) (Some y) e) as (λ _. (d : Dest) × (y ≡ Some d) × (w ≡ decimal d.ahead ++ port_letter d.port)) [
+    elim (cond_cases (eqb last 108) (dest_to Left (number_of front)) (cond (eqb last 114) (dest_to Right (number_of front)) None) (Some y) e) as
+    (λ _. (d : Dest) × (y ≡ Some d) × (w ≡ decimal d.ahead ++ port_letter d.port)) [
       | inl h ↦ dest_to_is Left w front y (is ∙ ap (λ (x : ℕ). front ++ x ∷ []) (eqb-true last 108 h.0)) h.1
-      | inr h ↦ elim (cond_cases (eqb last 114) (dest_to Right (number_of front)) None (Some y) h.1) as (λ _. (d : Dest) × (y ≡ Some d) × (w ≡ decimal d.ahead ++ port_letter d.port)) [
-        | inl k ↦ dest_to_is Right w front y (is ∙ ap (λ (x : ℕ). front ++ x ∷ []) (eqb-true last 114 k.0)) k.1
-        | inr k ↦ absurd (let q = k.1 in cc)
-      ]
+      | inr h ↦ elim (cond_cases (eqb last 114) (dest_to Right (number_of front)) None (Some y) h.1) as (λ _. (d : Dest) × (y ≡ Some d)
+          × (w ≡ decimal d.ahead ++ port_letter d.port)) [
+            | inl k ↦ dest_to_is Right w front y (is ∙ ap (λ (x : ℕ). front ++ x ∷ []) (eqb-true last 114 k.0)) k.1
+            | inr k ↦ absurd (let q = k.1 in cc)
+          ]
     ]
 
 dest_behind_is : (w : List ℕ) (y : Option Dest) → dest_behind w ≡ Some y → (d : Dest) × (y ≡ Some d) × (w ≡ decimal d.ahead ++ port_letter d.port)
 unfolding dest_behind
 dest_behind_is [] y e = absurd cc
-dest_behind_is (x ∷ xs) y e = dest_parts_is (x ∷ xs) (take (length (x ∷ xs) - 1) (x ∷ xs)) (get_or (x ∷ xs) (length (x ∷ xs) - 1) 0) y (front_and_last (x ∷ xs) (omega arith)) e
+dest_behind_is (x ∷ xs) y e = dest_parts_is (x ∷ xs) (take (length (x ∷ xs) - 1) (x ∷ xs)) (get_or (x ∷ xs) (length (x ∷ xs) - 1) 0) y
+    (front_and_last (x ∷ xs) (omega arith)) e
 
 pub dest_is : (w : List ℕ) (y : Option Dest) → dest_of w ≡ Some y → w ≡ dest_text (option_to_list y)
 unfolding dest_of
@@ -287,7 +300,8 @@ place_is w o e = go (parts 46 w) (join_with_byte-slice_split 46 w) e
     go (a ∷ []) j h = absurd cc
     go (a ∷ b ∷ []) j h =
         let q = place_of_is (small_of a) (node_of b) o h in
-        let written : w ≡ dotted q.0 q.1 = sym j ∙ ap (λ (xs : List ℕ). xs ++ (46 ∷ b)) (small_is a q.0 q.2).0 ∙ ap (λ (xs : List ℕ). decimal q.0 ++ (46 ∷ xs)) (node_is b q.1 q.3).0 in
+        let written : w ≡ dotted q.0 q.1 = sym j ∙ ap (λ (xs : List ℕ). xs ++ (46 ∷ b)) (small_is a q.0 q.2).0
+        ∙ ap (λ (xs : List ℕ). decimal q.0 ++ (46 ∷ xs)) (node_is b q.1 q.3).0 in
         ap (λ (xs : List ℕ). (64 ∷ xs) ∷ []) written ∙ sym (at_text q.0 q.1) ∙ ap origin_words q.4
     go (a ∷ b ∷ c ∷ ps) j h = absurd cc
 

@@ -1,5 +1,6 @@
 -- The lines of a code, read one after the other, are this code.
-use Rattle.std.proofs.Common.{◌≡◌, ℕ, ◌+◌, ◌^◌, ◌<◌, ◌≤◌, eqb, Bool, true, false, List, [], ◌∷◌, ◌++◌, length, Result, Ok, ℤ, refl, sym, ap, ◌∙◌, append_assoc, arith, All}
+use Rattle.std.proofs.Common.{◌≡◌, ℕ, ◌+◌, ◌^◌, ◌<◌, ◌≤◌, eqb, Bool, true, false, List, [], ◌∷◌, ◌++◌, length, Result, Ok, ℤ, refl, sym, ap, ◌∙◌}
+use Rattle.std.proofs.Common.{append_assoc, arith, All}
 use Rattle.std.specs.Prelude.{codes}
 use Rattle.std.specs.Int.{w64}
 use Rattle.std.specs.Int.RustNames.{FitsSigned}
@@ -25,7 +26,8 @@ use Rattle.assembler.specs.Giving.{must}
 use Rattle.assembler.specs.Grammar.{head_words, block_words, instr_words, array_words, literal_words, numbered_lines, block_lines, with_literal, used_by}
 use Rattle.assembler.specs.Found.{Found}
 use Rattle.assembler.specs.Lines.{head_from, block_from, array_from, literal_from, instr_from}
-use Rattle.assembler.specs.Reading.{all_blocks, with_instr, head_line, first_block, next_block, array_line, literal_line, instr_line, takes_array, takes_literal, block_line, other_line, step}
+use Rattle.assembler.specs.Reading.{all_blocks, with_instr, head_line, first_block, next_block, array_line, literal_line, instr_line, takes_array}
+use Rattle.assembler.specs.Reading.{takes_literal, block_line, other_line, step}
 use Rattle.assembler.proofs.Steps.{steps}
 use Rattle.assembler.proofs.Prefixes.{Lines, step_is}
 use Rattle.assembler.proofs.LinesAgain.{then_gives, head_gives, empty_block, behind_block, block_gives, array_gives, literal_gives, HasLine, instr_gives}
@@ -60,17 +62,20 @@ pub first_step : (f : Found) (b : CodeBlock) → HasNumbers b → step f Start (
 unfolding block_line first_block
 first_step f b h =
     step_is f Start (codes "block") (behind_block 0 b.inputs b.outputs b.slots)
-    ∙ then_gives (block_from 0 (behind_block 0 b.inputs b.outputs b.slots)) (bare b) (λ x. Ok (record f { last = x }, Blocks)) (Ok (record f { last = bare b }, Blocks)) (block_gives 0 b.inputs b.outputs b.slots (omega arith) h.inputs h.outputs h.slots) refl
+    ∙ then_gives (block_from 0 (behind_block 0 b.inputs b.outputs b.slots)) (bare b) (λ x. Ok (record f { last = x }, Blocks))
+    (Ok (record f { last = bare b }, Blocks)) (block_gives 0 b.inputs b.outputs b.slots (omega arith) h.inputs h.outputs h.slots) refl
 
 abbrev opened : Found → CodeBlock → Found
 opened f b = record f { blocks = all_blocks f; last = b }
 
-next_step : (f : Found) (n : ℕ) (b : CodeBlock) → n ≡ length f.blocks + 1 → n < 2 ^ 32 → HasNumbers b → step f Blocks (block_words n b) ≡ Ok (opened f (bare b), Blocks)
+next_step : (f : Found) (n : ℕ) (b : CodeBlock) → n ≡ length f.blocks + 1 → n < 2 ^ 32 → HasNumbers b → step f Blocks (block_words n b)
+    ≡ Ok (opened f (bare b), Blocks)
 unfolding block_line next_block
 next_step f n b is few h =
     step_is f Blocks (codes "block") (behind_block n b.inputs b.outputs b.slots)
     ∙ ap (λ (k : ℕ). block_from k (behind_block n b.inputs b.outputs b.slots) >>= λ x. Ok (opened f x, Blocks)) (sym is)
-    ∙ then_gives (block_from n (behind_block n b.inputs b.outputs b.slots)) (bare b) (λ x. Ok (opened f x, Blocks)) (Ok (opened f (bare b), Blocks)) (block_gives n b.inputs b.outputs b.slots few h.inputs h.outputs h.slots) refl
+    ∙ then_gives (block_from n (behind_block n b.inputs b.outputs b.slots)) (bare b) (λ x. Ok (opened f x, Blocks)) (Ok (opened f (bare b), Blocks))
+    (block_gives n b.inputs b.outputs b.slots few h.inputs h.outputs h.slots) refl
 
 -- ---- a line of an instruction: it begins with a number
 no_key_at : (ds : List ℕ) (n c : ℕ) (cs : List ℕ) → ds ≡ decimal n → n < 2 ^ 32 → 58 ≤ c → bytes_eq ds (c ∷ cs) ≡ false
@@ -93,7 +98,8 @@ other_word f p n ws h =
 abbrev put : Found → Instr → Found
 put f i = record f { last = with_instr f.last i; used = with_literal (literal_of i.op) f.used }
 
-instr_step : (f : Found) (b : CodeBlock) (n : ℕ) (i : Instr) → n ≡ length f.last.instrs → n < 2 ^ 32 → HasLine b i → step f Blocks (instr_words n i) ≡ Ok (put f i, Blocks)
+instr_step : (f : Found) (b : CodeBlock) (n : ℕ) (i : Instr) → n ≡ length f.last.instrs → n < 2 ^ 32 → HasLine b i → step f Blocks (instr_words n i)
+    ≡ Ok (put f i, Blocks)
 unfolding other_line instr_line
 instr_step f b n i is few h =
     other_word f Blocks n _ few
@@ -113,14 +119,18 @@ put_none f = ap (λ (is : List Instr). record f { last = record f.last { instrs 
 
 put_next : (f : Found) (i : Instr) (is : List Instr) → put_all (put f i) is ≡ put_all f (i ∷ is)
 unfolding used_by
-put_next f i is = ap (λ (js : List Instr). record f { last = record f.last { instrs = js }; used = used_by is (with_literal (literal_of i.op) f.used) }) (append_assoc f.last.instrs (i ∷ []) is)
+put_next f i is = ap (λ (js : List Instr). record f {
+  last = record f.last { instrs = js };
+  used = used_by is (with_literal (literal_of i.op) f.used);
+}) (append_assoc f.last.instrs (i ∷ []) is)
 
 pub instrs_step : (f : Found) (b : CodeBlock) (n : ℕ) (is : List Instr) (wss : Lines) → n ≡ length f.last.instrs → n + length is < 2 ^ 32 → All (HasLine b) is
     → steps f Blocks (numbered_lines instr_words n is ++ wss) ≡ steps (put_all f is) Blocks wss
 unfolding numbered_lines
 instrs_step f b n [] wss is few h = ap (λ (g : Found). steps g Blocks wss) (put_none f)
 instrs_step f b n (i ∷ is) wss at few h =
-    goes_on f Blocks (instr_words n i) (numbered_lines instr_words (n + 1) is ++ wss) (put f i, Blocks) (instr_step f b n i at (omega arith) (All-head (HasLine b) i is h))
+    goes_on f Blocks (instr_words n i) (numbered_lines instr_words (n + 1) is ++ wss) (put f i, Blocks)
+    (instr_step f b n i at (omega arith) (All-head (HasLine b) i is h))
     ∙ instrs_step (put f i) b (n + 1) is wss (omega (arith, at, length-append f.last.instrs (i ∷ []))) (omega arith) (All-tail (HasLine b) i is h)
     ∙ ap (λ (g : Found). steps g Blocks wss) (put_next f i is)
 
@@ -159,21 +169,25 @@ same_arrays (n ∷ ns) = refl
 abbrev pub with_arrays : Found → List ℕ → Found
 with_arrays f ns = record f { arrays = f.arrays ++ ns }
 
-array_step : (f : Found) (p : Part) (n len : ℕ) → takes_array p ≡ true → n ≡ length f.arrays → n < 2 ^ 32 → len < 2 ^ 32 → step f p (array_words n len) ≡ Ok (with_arrays f (len ∷ []), Arrays)
+array_step : (f : Found) (p : Part) (n len : ℕ) → takes_array p ≡ true → n ≡ length f.arrays → n < 2 ^ 32 → len < 2 ^ 32
+    → step f p (array_words n len) ≡ Ok (with_arrays f (len ∷ []), Arrays)
 unfolding array_line
 array_step f p n len may at few h =
     step_is f p (codes "array") (decimal n ∷ decimal len ∷ [])
     ∙ ap (λ (b : Bool). must b BadLine >>= λ yes. array_line f (decimal n ∷ decimal len ∷ [])) may
     ∙ ap (λ (k : ℕ). array_from k (decimal n ∷ decimal len ∷ []) >>= λ x. Ok (with_arrays f (x ∷ []), Arrays)) (sym at)
-    ∙ then_gives (array_from n (decimal n ∷ decimal len ∷ [])) len (λ x. Ok (with_arrays f (x ∷ []), Arrays)) (Ok (with_arrays f (len ∷ []), Arrays)) (array_gives n len few h) refl
+    ∙ then_gives (array_from n (decimal n ∷ decimal len ∷ [])) len (λ x. Ok (with_arrays f (x ∷ []), Arrays)) (Ok (with_arrays f (len ∷ []), Arrays))
+    (array_gives n len few h) refl
 
-pub arrays_step : (f : Found) (p : Part) (n : ℕ) (ns : List ℕ) (wss : Lines) → takes_array p ≡ true → n ≡ length f.arrays → n + length ns < 2 ^ 32 → All (λ k. k < 2 ^ 32) ns
+pub arrays_step : (f : Found) (p : Part) (n : ℕ) (ns : List ℕ) (wss : Lines) → takes_array p ≡ true → n ≡ length f.arrays → n + length ns < 2 ^ 32
+    → All (λ k. k < 2 ^ 32) ns
     → steps f p (numbered_lines array_words n ns ++ wss) ≡ steps (with_arrays f ns) (behind_arrays p ns) wss
 unfolding numbered_lines
 arrays_step f p n [] wss may at few h = ap (λ (ms : List ℕ). steps (record f { arrays = ms }) p wss) (sym (append-nil f.arrays))
 arrays_step f p n (k ∷ ks) wss may at few h =
     let g : Found = with_arrays f (k ∷ []) in
-    goes_on f p (array_words n k) (numbered_lines array_words (n + 1) ks ++ wss) (g, Arrays) (array_step f p n k may at (omega arith) (All-head (λ k. k < 2 ^ 32) k ks h))
+    goes_on f p (array_words n k) (numbered_lines array_words (n + 1) ks ++ wss) (g, Arrays)
+    (array_step f p n k may at (omega arith) (All-head (λ k. k < 2 ^ 32) k ks h))
     ∙ arrays_step g Arrays (n + 1) ks wss refl (omega (arith, at, length-append f.arrays (k ∷ []))) (omega arith) (All-tail (λ k. k < 2 ^ 32) k ks h)
     ∙ ap (λ (q : Part). steps (with_arrays g ks) q wss) (same_arrays ks)
     ∙ ap (λ (ms : List ℕ). steps (record f { arrays = ms }) Arrays wss) (append_assoc f.arrays (k ∷ []) ks)
@@ -189,21 +203,26 @@ same_literals (z ∷ zs) = refl
 abbrev pub with_literals : Found → List ℤ → Found
 with_literals f zs = record f { literals = f.literals ++ zs }
 
-literal_step : (f : Found) (p : Part) (n : ℕ) (z : ℤ) → takes_literal p ≡ true → n ≡ length f.literals → n < 2 ^ 32 → FitsSigned w64 z → step f p (literal_words n z) ≡ Ok (with_literals f (z ∷ []), Literals)
+literal_step : (f : Found) (p : Part) (n : ℕ) (z : ℤ) → takes_literal p ≡ true → n ≡ length f.literals → n < 2 ^ 32 → FitsSigned w64 z
+    → step f p (literal_words n z) ≡ Ok (with_literals f (z ∷ []), Literals)
 unfolding literal_line
 literal_step f p n z may at few h =
     step_is f p (codes "literal") (decimal n ∷ literal z ∷ [])
     ∙ ap (λ (b : Bool). must b BadLine >>= λ yes. literal_line f (decimal n ∷ literal z ∷ [])) may
     ∙ ap (λ (k : ℕ). literal_from k (decimal n ∷ literal z ∷ []) >>= λ x. Ok (with_literals f (x ∷ []), Literals)) (sym at)
-    ∙ then_gives (literal_from n (decimal n ∷ literal z ∷ [])) z (λ x. Ok (with_literals f (x ∷ []), Literals)) (Ok (with_literals f (z ∷ []), Literals)) (literal_gives n z few h) refl
+    ∙ then_gives (literal_from n (decimal n ∷ literal z ∷ [])) z (λ x. Ok (with_literals f (x ∷ []), Literals))
+    (Ok (with_literals f (z ∷ []), Literals)) (literal_gives n z few h) refl
 
-pub literals_step : (f : Found) (p : Part) (n : ℕ) (zs : List ℤ) (wss : Lines) → takes_literal p ≡ true → n ≡ length f.literals → n + length zs < 2 ^ 32 → All (λ (z : ℤ). FitsSigned w64 z) zs
+pub literals_step : (f : Found) (p : Part) (n : ℕ) (zs : List ℤ) (wss : Lines) → takes_literal p ≡ true → n ≡ length f.literals
+    → n + length zs < 2 ^ 32 → All (λ (z : ℤ). FitsSigned w64 z) zs
     → steps f p (numbered_lines literal_words n zs ++ wss) ≡ steps (with_literals f zs) (behind_literals p zs) wss
 unfolding numbered_lines
 literals_step f p n [] wss may at few h = ap (λ (ys : List ℤ). steps (record f { literals = ys }) p wss) (sym (append-nil f.literals))
 literals_step f p n (z ∷ zs) wss may at few h =
     let g : Found = with_literals f (z ∷ []) in
-    goes_on f p (literal_words n z) (numbered_lines literal_words (n + 1) zs ++ wss) (g, Literals) (literal_step f p n z may at (omega arith) (All-head (λ (z : ℤ). FitsSigned w64 z) z zs h))
-    ∙ literals_step g Literals (n + 1) zs wss refl (omega (arith, at, length-append f.literals (z ∷ []))) (omega arith) (All-tail (λ (z : ℤ). FitsSigned w64 z) z zs h)
+    goes_on f p (literal_words n z) (numbered_lines literal_words (n + 1) zs ++ wss) (g, Literals)
+    (literal_step f p n z may at (omega arith) (All-head (λ (z : ℤ). FitsSigned w64 z) z zs h))
+    ∙ literals_step g Literals (n + 1) zs wss refl (omega (arith, at, length-append f.literals (z ∷ []))) (omega arith)
+    (All-tail (λ (z : ℤ). FitsSigned w64 z) z zs h)
     ∙ ap (λ (q : Part). steps (with_literals g zs) q wss) (same_literals zs)
     ∙ ap (λ (ys : List ℤ). steps (record f { literals = ys }) Literals wss) (append_assoc f.literals (z ∷ []) zs)

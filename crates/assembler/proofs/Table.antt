@@ -8,12 +8,14 @@ use Rattle.std.proofs.lemmas.Option.{get_or_from_slice_get}
 use Rattle.std.proofs.lemmas.List.Elements.{All-contains}
 use Rattle.lemmas.proofs.Alls.{all_at, all_from}
 use Rattle.semantics.specs.declared.program.Op.{Op}
-use Rattle.semantics.specs.declared.program.Op.TheVariants.{Apply1, Apply2, Apply2Right, Apply2Left, Lit, Copy, Sync, Switch, Fetch, Store, Frame, Link, Send, Return, Ask, Open, Take, Give, Drain, Release}
+use Rattle.semantics.specs.declared.program.Op.TheVariants.{Apply1, Apply2, Apply2Right, Apply2Left, Lit, Copy, Sync, Switch, Fetch, Store, Frame}
+use Rattle.semantics.specs.declared.program.Op.TheVariants.{Link, Send, Return, Ask, Open, Take, Give, Drain, Release}
 use Rattle.semantics.specs.Program.{Instr, CodeBlock, Code}
 use Rattle.semantics.specs.Bytes.{HasOperand, IsInstr, IsCodeBlock, IsCode}
 use Rattle.disassembler.specs.Listing.{literal_of}
 use Rattle.assembler.specs.Grammar.{with_literal, used_by, used_in, table_of, IsOperand, AllOperands, with_operands}
-use Rattle.assembler.proofs.Ascents.{In, Ascends, ascends_from, steps_up, same_members, no_more, ascends_put, put_has, put_new, put_old, in_from, in_at, place_of}
+use Rattle.assembler.proofs.Ascents.{In, Ascends, ascends_from, steps_up, same_members, no_more, ascends_put, put_has, put_new, put_old, in_from}
+use Rattle.assembler.proofs.Ascents.{in_at, place_of}
 
 -- ---- which literals instructions have
 abbrev UsedBy : ℤ → List Instr → Type 0
@@ -179,17 +181,20 @@ reread_ascends c = ascends_in c.program.blocks [] tt
 pub table_reread : (v : ℕ) (c : Code) → IsCode v c → AllOperands c → c.literals ≡ table_of c.program.blocks
 table_reread v c is reread =
     same_members c.literals (table_of c.program.blocks) (ascends_from c.literals is.ascend) (reread_ascends c)
-    (λ z i. let p = place_of z c.literals i in in_new z c.program.blocks [] (used_from z c.program.blocks (all_at (IsOperand c.program.blocks) c.literals p.0 z reread p.2)))
+    (λ z i. let p = place_of z c.literals i in in_new z c.program.blocks []
+    (used_from z c.program.blocks (all_at (IsOperand c.program.blocks) c.literals p.0 z reread p.2)))
     (λ z i. reread_in v c z is i)
 
 pub reread_itself : (c : Code) → AllOperands (with_operands c)
-reread_itself c = all_from (IsOperand c.program.blocks) (table_of c.program.blocks) (λ k z at. operand_from z c.program.blocks (reread_used z c.program.blocks (in_at z (table_of c.program.blocks) k at)))
+reread_itself c = all_from (IsOperand c.program.blocks) (table_of c.program.blocks)
+    (λ k z at. operand_from z c.program.blocks (reread_used z c.program.blocks (in_at z (table_of c.program.blocks) k at)))
 
 -- ---- with that table a program has an object, too
 contains_from : (z : ℤ) (zs : List ℤ) → In z zs → Contains zs z
 contains_from z zs i = let p = place_of z zs i in (p.0, p.1, get_or_from_slice_get zs p.0 z z p.2)
 
-operand_reread : (c : Code) (op : Op) → ((z : ℤ) → literal_of op ≡ Some z → Contains (table_of c.program.blocks) z) → HasOperand c op → HasOperand (with_operands c) op
+operand_reread : (c : Code) (op : Op) → ((z : ℤ) → literal_of op ≡ Some z → Contains (table_of c.program.blocks) z) → HasOperand c op
+    → HasOperand (with_operands c) op
 operand_reread c (Apply1 op) u h = tt
 operand_reread c (Apply2 op) u h = tt
 operand_reread c (Apply2Right op z) u h = u z refl
@@ -211,9 +216,11 @@ operand_reread c (Give k) u h = h
 operand_reread c (Drain k) u h = h
 operand_reread c (Release o) u h = h
 
-instr_reread : (v : ℕ) (c : Code) (k : ℕ) (b : CodeBlock) (n : ℕ) (i : Instr) → slice_get c.program.blocks k ≡ Some b → slice_get b.instrs n ≡ Some i → IsInstr v c b n i → IsInstr v (with_operands c) b n i
+instr_reread : (v : ℕ) (c : Code) (k : ℕ) (b : CodeBlock) (n : ℕ) (i : Instr) → slice_get c.program.blocks k ≡ Some b → slice_get b.instrs n ≡ Some i
+    → IsInstr v c b n i → IsInstr v (with_operands c) b n i
 instr_reread v c k b n i at here is = record {
-  operand = operand_reread c i.op (λ z e. contains_from z (table_of c.program.blocks) (in_new z c.program.blocks [] (by_block z c.program.blocks k b at (by_instr z b.instrs n i here e)))) is.operand;
+  operand = operand_reread c i.op (λ z e. contains_from z (table_of c.program.blocks)
+      (in_new z c.program.blocks [] (by_block z c.program.blocks k b at (by_instr z b.instrs n i here e)))) is.operand;
   origin = is.origin;
   slot = is.slot;
   dests = is.dests;
@@ -239,10 +246,12 @@ code_reread v c is =
       some_block = is.some_block;
       main = is.main;
       few_literals = (let most = is.few_literals in omega (arith, few, most));
-      literals = all_from (λ (z : ℤ). FitsSigned w64 z) table (λ k z at. All-contains (λ (y : ℤ). FitsSigned w64 y) c.literals z is.literals (reread_contained v c z is (in_at z table k at)));
+      literals = all_from (λ (z : ℤ). FitsSigned w64 z) table (λ k z at. All-contains (λ (y : ℤ). FitsSigned w64 y) c.literals z is.literals
+          (reread_contained v c z is (in_at z table k at)));
       ascend = steps_up table (reread_ascends c);
       few_arrays = is.few_arrays;
       arrays = is.arrays;
       cells = is.cells;
-      blocks = all_from (IsCodeBlock v (with_operands c)) c.program.blocks (λ k b at. block_reread v c k b at (all_at (IsCodeBlock v c) c.program.blocks k b is.blocks at));
+      blocks = all_from (IsCodeBlock v (with_operands c)) c.program.blocks
+          (λ k b at. block_reread v c k b at (all_at (IsCodeBlock v c) c.program.blocks k b is.blocks at));
     }

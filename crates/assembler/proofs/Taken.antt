@@ -25,7 +25,8 @@ use Rattle.assembler.specs.Grammar.{head_words, block_words, origin_words, instr
 use Rattle.semantics.specs.Opcodes.{opcode_named, op_word}
 use Rattle.semantics.proofs.OperatorWords.{opcode_is}
 use Rattle.assembler.specs.Fields.{op_of, slot_from, dest_of, origin_of}
-use Rattle.assembler.specs.Lines.{word_from, none_from, key_from, number_from, count_from, keyed_from, head_from, block_from, array_from, literal_from, origin_from, op_from, Tail, tail_from, named_from, instr_from}
+use Rattle.assembler.specs.Lines.{word_from, none_from, key_from, number_from, count_from, keyed_from, head_from, block_from, array_from}
+use Rattle.assembler.specs.Lines.{literal_from, origin_from, op_from, Tail, tail_from, named_from, instr_from}
 use Rattle.assembler.proofs.Spelled.{op_is, slot_is, dest_is, origin_is}
 
 abbrev done : {A : Type 0} → A → Result A AsmFaultKind
@@ -94,7 +95,8 @@ head_takes ws x e =
     let m = bind_ok (keyed_from (codes "main") v.0.1) (λ m. none_from m.1 >>= λ none. Ok (v.0.0, m.0)) x v.2 in
     let n = bind_ok (none_from m.0.1) (λ none. Ok (v.0.0, m.0.0)) x m.2 in
     keyed_takes (codes "ets") ws v.0 v.1
-    ∙ ap (λ (ys : List Word). codes "ets" ∷ decimal v.0.0 ∷ ys) (keyed_takes (codes "main") v.0.1 m.0 m.1 ∙ ap (λ (ys : List Word). codes "main" ∷ decimal m.0.0 ∷ ys) (none_takes m.0.1 n.0 n.1))
+    ∙ ap (λ (ys : List Word). codes "ets" ∷ decimal v.0.0 ∷ ys) (keyed_takes (codes "main") v.0.1 m.0 m.1
+    ∙ ap (λ (ys : List Word). codes "main" ∷ decimal m.0.0 ∷ ys) (none_takes m.0.1 n.0 n.1))
     ∙ ap (λ (p : ℕ × ℕ). head_words p.0 p.1) (ok_is (v.0.0, m.0.0) x n.2)
 
 abbrev made_block : ℕ → ℕ → ℕ → CodeBlock
@@ -106,17 +108,27 @@ BlockTakes n ws b = (codes "block" ∷ ws ≡ block_words n b) × (b.instrs ≡ 
 pub block_takes : (n : ℕ) (ws : List Word) (b : CodeBlock) → block_from n ws ≡ Ok b → BlockTakes n ws b
 unfolding block_from
 block_takes n ws b e =
-    let r = bind_ok (count_from n ws) (λ rest. keyed_from (codes "inputs") rest >>= λ i. keyed_from (codes "outputs") i.1 >>= λ o. keyed_from (codes "slots") o.1 >>= λ s. none_from s.1 >>= λ none. Ok (made_block i.0 o.0 s.0)) b e in
-    let i = bind_ok (keyed_from (codes "inputs") r.0) (λ i. keyed_from (codes "outputs") i.1 >>= λ o. keyed_from (codes "slots") o.1 >>= λ s. none_from s.1 >>= λ none. Ok (made_block i.0 o.0 s.0)) b r.2 in
-    let o = bind_ok (keyed_from (codes "outputs") i.0.1) (λ o. keyed_from (codes "slots") o.1 >>= λ s. none_from s.1 >>= λ none. Ok (made_block i.0.0 o.0 s.0)) b i.2 in
+    let r = bind_ok (count_from n ws) (λ rest. keyed_from (codes "inputs") rest >>= λ i. keyed_from (codes "outputs") i.1 >>= λ o. keyed_from
+    (codes "slots") o.1 >>= λ s. none_from s.1 >>= λ none. Ok (made_block i.0 o.0 s.0)) b e in
+    let i = bind_ok (keyed_from (codes "inputs") r.0) (λ i. keyed_from (codes "outputs") i.1 >>= λ o. keyed_from (codes "slots") o.1 >>= λ s.
+    none_from s.1 >>= λ none. Ok (made_block i.0 o.0 s.0)) b r.2 in
+    let o = bind_ok (keyed_from (codes "outputs") i.0.1) (λ o. keyed_from (codes "slots") o.1 >>= λ s. none_from s.1 >>= λ none. Ok
+    (made_block i.0.0 o.0 s.0)) b i.2 in
     let s = bind_ok (keyed_from (codes "slots") o.0.1) (λ s. none_from s.1 >>= λ none. Ok (made_block i.0.0 o.0.0 s.0)) b o.2 in
     let z = bind_ok (none_from s.0.1) (λ none. Ok (made_block i.0.0 o.0.0 s.0.0)) b s.2 in
     let k : made_block i.0.0 o.0.0 s.0.0 ≡ b = ok_is (made_block i.0.0 o.0.0 s.0.0) b z.2 in
     let four : s.0.1 ≡ [] = none_takes s.0.1 z.0 z.1 in
-    let three : o.0.1 ≡ codes "slots" ∷ decimal s.0.0 ∷ [] = keyed_takes (codes "slots") o.0.1 s.0 s.1 ∙ ap (λ (ys : List Word). codes "slots" ∷ decimal s.0.0 ∷ ys) four in
-    let two : i.0.1 ≡ codes "outputs" ∷ decimal o.0.0 ∷ codes "slots" ∷ decimal s.0.0 ∷ [] = keyed_takes (codes "outputs") i.0.1 o.0 o.1 ∙ ap (λ (ys : List Word). codes "outputs" ∷ decimal o.0.0 ∷ ys) three in
-    let one : r.0 ≡ codes "inputs" ∷ decimal i.0.0 ∷ codes "outputs" ∷ decimal o.0.0 ∷ codes "slots" ∷ decimal s.0.0 ∷ [] = keyed_takes (codes "inputs") r.0 i.0 i.1 ∙ ap (λ (ys : List Word). codes "inputs" ∷ decimal i.0.0 ∷ ys) two in
-    let all : BlockTakes n ws (made_block i.0.0 o.0.0 s.0.0) = (ap (λ (ys : List Word). codes "block" ∷ ys) (count_takes n ws r.0 r.1 ∙ ap (λ (ys : List Word). decimal n ∷ ys) one), refl) in
+    let three : o.0.1 ≡ codes "slots" ∷ decimal s.0.0 ∷ [] = keyed_takes (codes "slots") o.0.1 s.0 s.1
+    ∙ ap (λ (ys : List Word). codes "slots" ∷ decimal s.0.0 ∷ ys) four in
+    let two : i.0.1 ≡ codes "outputs" ∷ decimal o.0.0 ∷ codes "slots" ∷ decimal s.0.0 ∷ [] = keyed_takes (codes "outputs") i.0.1 o.0 o.1
+    ∙ ap (λ (ys : List Word). codes "outputs" ∷ decimal o.0.0 ∷ ys) three in
+    let one : r.0 ≡ codes "inputs" ∷ decimal i.0.0 ∷ codes "outputs" ∷ decimal o.0.0 ∷ codes "slots" ∷ decimal s.0.0
+    ∷ [] = keyed_takes (codes "inputs") r.0 i.0 i.1 ∙ ap (λ (ys : List Word). codes "inputs" ∷ decimal i.0.0 ∷ ys) two in
+    let all : BlockTakes n ws (made_block i.0.0 o.0.0 s.0.0) = (
+      ap (λ (ys : List Word). codes "block" ∷ ys) (count_takes n ws r.0 r.1
+          ∙ ap (λ (ys : List Word). decimal n ∷ ys) one),
+      refl,
+    ) in
     subst (BlockTakes n ws) k all
 
 pub array_takes : (n : ℕ) (ws : List Word) (len : ℕ) → array_from n ws ≡ Ok len → codes "array" ∷ ws ≡ array_words n len
@@ -126,7 +138,8 @@ array_takes n ws len e =
     let m = bind_ok (number_from r.0) (λ m. none_from m.1 >>= λ none. Ok m.0) len r.2 in
     let z = bind_ok (none_from m.0.1) (λ none. Ok m.0.0) len m.2 in
     let rest : r.0 ≡ decimal m.0.0 ∷ [] = number_takes r.0 m.0 m.1 ∙ ap (λ (ys : List Word). decimal m.0.0 ∷ ys) (none_takes m.0.1 z.0 z.1) in
-    ap (λ (ys : List Word). codes "array" ∷ ys) (count_takes n ws r.0 r.1 ∙ ap (λ (ys : List Word). decimal n ∷ ys) rest) ∙ ap (λ (x : ℕ). array_words n x) (ok_is m.0.0 len z.2)
+    ap (λ (ys : List Word). codes "array" ∷ ys) (count_takes n ws r.0 r.1 ∙ ap (λ (ys : List Word). decimal n ∷ ys) rest)
+    ∙ ap (λ (x : ℕ). array_words n x) (ok_is m.0.0 len z.2)
 
 pub literal_takes : (n : ℕ) (ws : List Word) (z : ℤ) → literal_from n ws ≡ Ok z → codes "literal" ∷ ws ≡ literal_words n z
 unfolding literal_from
@@ -136,8 +149,10 @@ literal_takes n ws z e =
     let y = bind_ok (ok_or (literal_of w.0.0) BadNumber) (λ y. none_from w.0.1 >>= λ none. Ok y) z w.2 in
     let x = bind_ok (none_from w.0.1) (λ none. Ok y.0) z y.2 in
     let l = literal_is w.0.0 y.0 (ok_or_is (literal_of w.0.0) BadNumber y.0 y.1) in
-    let rest : r.0 ≡ literal y.0 ∷ [] = word_takes r.0 w.0 w.1 ∙ ap (λ (v : Word). v ∷ w.0.1) l.0 ∙ ap (λ (ys : List Word). literal y.0 ∷ ys) (none_takes w.0.1 x.0 x.1) in
-    ap (λ (ys : List Word). codes "literal" ∷ ys) (count_takes n ws r.0 r.1 ∙ ap (λ (ys : List Word). decimal n ∷ ys) rest) ∙ ap (λ (v : ℤ). literal_words n v) (ok_is y.0 z x.2)
+    let rest : r.0 ≡ literal y.0 ∷ [] = word_takes r.0 w.0 w.1 ∙ ap (λ (v : Word). v ∷ w.0.1) l.0 ∙ ap (λ (ys : List Word). literal y.0 ∷ ys)
+    (none_takes w.0.1 x.0 x.1) in
+    ap (λ (ys : List Word). codes "literal" ∷ ys) (count_takes n ws r.0 r.1 ∙ ap (λ (ys : List Word). decimal n ∷ ys) rest)
+    ∙ ap (λ (v : ℤ). literal_words n v) (ok_is y.0 z x.2)
 
 origin_takes : (ws : List Word) (o : Origin) → origin_from ws ≡ Ok o → ws ≡ origin_words o
 unfolding origin_from
@@ -163,7 +178,8 @@ tail_takes ws t e =
     let x = bind_ok (word_from d.0.1) (λ x. word_from x.1 >>= λ o. Ok (s.0.0, d.0.0, x.0, o.0, o.1)) t d.2 in
     let o = bind_ok (word_from x.0.1) (λ o. Ok (s.0.0, d.0.0, x.0.0, o.0, o.1)) t x.2 in
     let made : Tail = (s.0.0, d.0.0, x.0.0, o.0.0, o.0.1) in
-    word_takes ws s.0 s.1 ∙ ap (λ (ys : List Word). s.0.0 ∷ ys) (word_takes s.0.1 d.0 d.1 ∙ ap (λ (ys : List Word). d.0.0 ∷ ys) (word_takes d.0.1 x.0 x.1 ∙ ap (λ (ys : List Word). x.0.0 ∷ ys) (word_takes x.0.1 o.0 o.1)))
+    word_takes ws s.0 s.1 ∙ ap (λ (ys : List Word). s.0.0 ∷ ys) (word_takes s.0.1 d.0 d.1
+    ∙ ap (λ (ys : List Word). d.0.0 ∷ ys) (word_takes d.0.1 x.0 x.1 ∙ ap (λ (ys : List Word). x.0.0 ∷ ys) (word_takes x.0.1 o.0 o.1)))
     ∙ ap (λ (y : Tail). y.0 ∷ y.1 ∷ y.2 ∷ y.3 ∷ y.4) (ok_is made t o.2)
 
 five : (a p b q c r d s : Word) (e t : List Word) → a ≡ p → b ≡ q → c ≡ r → d ≡ s → e ≡ t → a ∷ b ∷ c ∷ d ∷ e ≡ p ∷ q ∷ r ∷ s ∷ t
@@ -179,11 +195,14 @@ abbrev NamedTakes : Word → Tail → Instr → Type 0
 NamedTakes name t i = (name ≡ op_word i.op) × (t.0 ∷ t.1 ∷ t.2 ∷ t.3 ∷ t.4 ≡ behind_name i)
 
 abbrev pub dests_from : Tail → Op → ℕ → Result Instr AsmFaultKind
-dests_from t op slot = ok_or (dest_of t.1) BadDestination >>= λ d. ok_or (dest_of t.2) BadDestination >>= λ x. origin_from t.4 >>= λ origin. Ok (made_instr op slot d x origin)
+dests_from t op slot = ok_or (dest_of t.1) BadDestination >>= λ d. ok_or (dest_of t.2) BadDestination >>= λ x. origin_from t.4 >>= λ origin. Ok
+    (made_instr op slot d x origin)
 
-dests_take : (name : Word) (t : Tail) (op : Op) (slot : ℕ) (i : Instr) → OpTakes name t.3 op → slot_from (uses_slot op) t.0 ≡ Some slot → dests_from t op slot ≡ Ok i → NamedTakes name t i
+dests_take : (name : Word) (t : Tail) (op : Op) (slot : ℕ) (i : Instr) → OpTakes name t.3 op → slot_from (uses_slot op) t.0 ≡ Some slot
+    → dests_from t op slot ≡ Ok i → NamedTakes name t i
 dests_take name t op slot i o s e =
-    let d = bind_ok (ok_or (dest_of t.1) BadDestination) (λ d. ok_or (dest_of t.2) BadDestination >>= λ x. origin_from t.4 >>= λ origin. Ok (made_instr op slot d x origin)) i e in
+    let d = bind_ok (ok_or (dest_of t.1) BadDestination) (λ d. ok_or (dest_of t.2) BadDestination >>= λ x. origin_from t.4 >>= λ origin. Ok
+    (made_instr op slot d x origin)) i e in
     let x = bind_ok (ok_or (dest_of t.2) BadDestination) (λ x. origin_from t.4 >>= λ origin. Ok (made_instr op slot d.0 x origin)) i d.2 in
     let g = bind_ok (origin_from t.4) (λ origin. Ok (made_instr op slot d.0 x.0 origin)) i x.2 in
     let made : Instr = made_instr op slot d.0 x.0 g.0 in
@@ -191,7 +210,11 @@ dests_take name t op slot i o s e =
     let first = dest_is t.1 d.0 (ok_or_is (dest_of t.1) BadDestination d.0 d.1) in
     let second = dest_is t.2 x.0 (ok_or_is (dest_of t.2) BadDestination x.0 x.1) in
     let origin = origin_takes t.4 g.0 g.1 in
-    let all : NamedTakes name t made = (o.0, five t.0 (slot_text (slot_of made op)) t.1 (dest_text (option_to_list d.0)) t.2 (dest_text (option_to_list x.0)) t.3 (operand_text op) t.4 (origin_words g.0) written first second o.1 origin) in
+    let all : NamedTakes name t made = (
+      o.0,
+      five t.0 (slot_text (slot_of made op)) t.1 (dest_text (option_to_list d.0)) t.2
+          (dest_text (option_to_list x.0)) t.3 (operand_text op) t.4 (origin_words g.0) written first second o.1 origin,
+    ) in
     subst (NamedTakes name t) (ok_is made i g.2) all
 
 named_takes : (name : Word) (t : Tail) (i : Instr) → named_from name t ≡ Ok i → NamedTakes name t i
@@ -208,5 +231,6 @@ instr_takes n ws i e =
     let m = bind_ok (word_from r.0) (λ name. tail_from name.1 >>= λ t. named_from name.0 t) i r.2 in
     let t = bind_ok (tail_from m.0.1) (λ t. named_from m.0.0 t) i m.2 in
     let k = named_takes m.0.0 t.0 i t.2 in
-    let rest : r.0 ≡ op_word i.op ∷ behind_name i = word_takes r.0 m.0 m.1 ∙ ap (λ (w : Word). w ∷ m.0.1) k.0 ∙ ap (λ (ys : List Word). op_word i.op ∷ ys) (tail_takes m.0.1 t.0 t.1 ∙ k.1) in
+    let rest : r.0 ≡ op_word i.op ∷ behind_name i = word_takes r.0 m.0 m.1 ∙ ap (λ (w : Word). w ∷ m.0.1) k.0
+    ∙ ap (λ (ys : List Word). op_word i.op ∷ ys) (tail_takes m.0.1 t.0 t.1 ∙ k.1) in
     count_takes n ws r.0 r.1 ∙ ap (λ (ys : List Word). decimal n ∷ ys) rest

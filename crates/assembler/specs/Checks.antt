@@ -1,7 +1,8 @@
 -- WHICH CODES HAVE AN OBJECT: the first refusal of a code that was read. Looked at in turn: the version and the counts; the
 -- blocks, each with its instructions; the arrays; the table of literals. At an instruction: its operand, its slot, its
 -- destinations, its origin. Each refusal is of one line: lines with words are numbered from 0.
-use Rattle.std.specs.Prelude.{◌≡◌, ◌≤◌, ℕ, ◌+◌, ◌==◌, ◌&&◌, ◌||◌, not, nat_le, nat_lt, Bool, true, false, ℤ, int_lt, List, [], ◌∷◌, length, sum, map, take, Option, Some, None, slice_get, Result, Ok, Err, ⊤, if◌then◌else◌}
+use Rattle.std.specs.Prelude.{◌≡◌, ◌≤◌, ℕ, ◌+◌, ◌==◌, ◌&&◌, ◌||◌, not, nat_le, nat_lt, Bool, true, false, ℤ, int_lt, List, [], ◌∷◌, length, sum}
+use Rattle.std.specs.Prelude.{map, take, Option, Some, None, slice_get, Result, Ok, Err, ⊤, if◌then◌else◌}
 use Rattle.std.specs.List.{list_any, list_all}
 use Rattle.tags.specs.declared.token.Port.TheVariants.{Left, Right}
 use Rattle.tags.specs.declared.value.Origin.{Origin}
@@ -10,14 +11,16 @@ use Rattle.operators.specs.declared.Binary.{Binary}
 use Rattle.operators.specs.declared.Binary.TheVariants.{Div, Rem}
 use Rattle.semantics.specs.declared.program.Dest.{Dest}
 use Rattle.semantics.specs.declared.program.Op.{Op}
-use Rattle.semantics.specs.declared.program.Op.TheVariants.{Apply2, Apply2Right, Apply2Left, Lit, Sync, Switch, Fetch, Store, Frame, Link, Send, Return, Ask, Open, Take, Give, Drain, Release}
+use Rattle.semantics.specs.declared.program.Op.TheVariants.{Apply2, Apply2Right, Apply2Left, Lit, Sync, Switch, Fetch, Store, Frame, Link, Send}
+use Rattle.semantics.specs.declared.program.Op.TheVariants.{Return, Ask, Open, Take, Give, Drain, Release}
 use Rattle.semantics.specs.Program.{Instr, CodeBlock, Code}
 use Rattle.semantics.specs.Rule.{slot_of}
 use Rattle.semantics.specs.Bytes.{is_dyadic}
 use Rattle.semantics.specs.Opcodes.{may_fault}
 use Rattle.graph_file.specs.Giving.{◌>>=◌}
 use Rattle.assembler.specs.declared.cause.Unfit.{Unfit}
-use Rattle.assembler.specs.declared.cause.Unfit.TheVariants.{BadVersion, BadCounts, ManyLiterals, BadBlock, BadArray, LiteralOrder, NoLiteral, BadOperand, BadSlot, BadDestination, BadOrigin}
+use Rattle.assembler.specs.declared.cause.Unfit.TheVariants.{BadVersion, BadCounts, ManyLiterals, BadBlock, BadArray, LiteralOrder, NoLiteral}
+use Rattle.assembler.specs.declared.cause.Unfit.TheVariants.{BadOperand, BadSlot, BadDestination, BadOrigin}
 use Rattle.assembler.specs.declared.checks.Refusal.{Refusal}
 
 abbrev pub Checked : Type 0
@@ -128,7 +131,8 @@ Counts (Err e) spec lines = spec ≡ Err e
 -- THE ARRAYS, and the cells of those before
 abbrev pub arrays_checked : ℕ → ℕ → List ℕ → Checked
 arrays_checked index cells [] = Ok tt
-arrays_checked index cells (n ∷ ns) = unless (nat_le 1 n && nat_le n 65536 && nat_le (cells + n) 65536) BadArray index >>= λ _. arrays_checked (index + 1) (cells + n) ns
+arrays_checked index cells (n ∷ ns) = unless (nat_le 1 n && nat_le n 65536 && nat_le (cells + n) 65536) BadArray index >>= λ _. arrays_checked
+    (index + 1) (cells + n) ns
 
 -- THE LITERALS
 abbrev pub literals_checked : ℕ → List ℤ → Checked
@@ -138,7 +142,8 @@ literals_checked index (y ∷ z ∷ zs) = unless (int_lt y z) LiteralOrder (inde
 
 -- THE COUNTS
 abbrev pub counts_fit : Code → Bool
-counts_fit c = nat_le 1 (length c.program.blocks) && nat_le (length c.program.blocks) 512 && nat_lt c.program.main (length c.program.blocks) && nat_le (length c.program.arrays) 64
+counts_fit c = nat_le 1 (length c.program.blocks) && nat_le (length c.program.blocks) 512 && nat_lt c.program.main (length c.program.blocks)
+    && nat_le (length c.program.arrays) 64
 
 unfoldable pub head_checked : ℕ → Code → Checked
 head_checked version c = do

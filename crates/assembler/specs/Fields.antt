@@ -1,5 +1,6 @@
 -- What a word says: the name of an operation, an operand, a slot, a destination, an origin.
-use Rattle.std.specs.Prelude.{ℕ, ◌==◌, ◌-◌, nat_lt, Bool, true, false, ℤ, List, [], ◌∷◌, length, take, slice_index, Option, Some, None, option_map, codes, if◌then◌else◌}
+use Rattle.std.specs.Prelude.{ℕ, ◌==◌, ◌-◌, nat_lt, Bool, true, false, ℤ, List, [], ◌∷◌, length, take, slice_index, Option, Some, None, option_map}
+use Rattle.std.specs.Prelude.{codes, if◌then◌else◌}
 use Rattle.std.specs.Str.{bytes_eq}
 use Rattle.tags.specs.declared.token.Port.{Port}
 use Rattle.tags.specs.declared.token.Port.TheVariants.{Left, Right}
@@ -12,7 +13,8 @@ use Rattle.semantics.specs.declared.program.Op.TheVariants as ops
 use Rattle.graph_file.specs.Lines.{parts}
 use Rattle.graph_file.specs.Fields.{number_of, literal_of}
 use Rattle.semantics.specs.declared.opcode.Opcode.{Opcode}
-use Rattle.semantics.specs.declared.opcode.Opcode.TheVariants.{Apply1, Apply2, Apply2Right, Apply2Left, Lit, Copy, Sync, Switch, Fetch, Store, Frame, Link, Send, Return, Ask, Open, Take, Give, Drain, Release}
+use Rattle.semantics.specs.declared.opcode.Opcode.TheVariants.{Apply1, Apply2, Apply2Right, Apply2Left, Lit, Copy, Sync, Switch, Fetch, Store}
+use Rattle.semantics.specs.declared.opcode.Opcode.TheVariants.{Frame, Link, Send, Return, Ask, Open, Take, Give, Drain, Release}
 
 -- SMALL PARTS
 abbrev pub then_some : {A B : Type 0} → Option A → (A → Option B) → Option B

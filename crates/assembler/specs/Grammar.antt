@@ -47,7 +47,8 @@ table_lines true table = numbered_lines literal_words 0 table
 table_lines false table = []
 
 abbrev pub code_lines : Bool → ℕ → Code → List (List Word)
-code_lines reread version c = head_words version c.program.main ∷ (block_lines 0 c.program.blocks ++ (numbered_lines array_words 0 c.program.arrays ++ table_lines reread c.literals))
+code_lines reread version c = head_words version c.program.main
+    ∷ (block_lines 0 c.program.blocks ++ (numbered_lines array_words 0 c.program.arrays ++ table_lines reread c.literals))
 
 -- THE TABLE THAT THE INSTRUCTIONS DETERMINE: each literal that one of them has, once, in ascending order
 abbrev pub with_literal : Option ℤ → List ℤ → List ℤ
@@ -67,7 +68,8 @@ table_of blocks = used_in blocks []
 
 -- some instruction of the blocks has the literal as its operand
 abbrev pub IsOperand : List CodeBlock → ℤ → Type 0
-IsOperand blocks z = (k : ℕ) × (b : CodeBlock) × (slice_get blocks k ≡ Some b) × ((n : ℕ) × (i : Instr) × (slice_get b.instrs n ≡ Some i) × (literal_of i.op ≡ Some z))
+IsOperand blocks z = (k : ℕ) × (b : CodeBlock) × (slice_get blocks k ≡ Some b) × ((n : ℕ) × (i : Instr) × (slice_get b.instrs n ≡ Some i)
+    × (literal_of i.op ≡ Some z))
 
 -- The instructions determine the table: each of its literals is an operand.
 abbrev pub AllOperands : Code → Type 0

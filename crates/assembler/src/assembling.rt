@@ -48,7 +48,8 @@ pub fn assemble<A: Allocator + Clone>(alloc: A, text: &[u8]) -> Result<Assembled
         (λ a. (version_number a.version ≡ version) × (a.code ≡ c))
         (λ e. e.kind ≡ Memory) }
     // Which fault it is.
-    ensures exact { MatchResult result (λ a. Assembling.assembled text.now ≡ Ok (version_number a.version, a.code)) (λ e. Assembling.IsFirstFault e (Assembling.assembled text.now)) }
+    ensures exact { MatchResult result (λ a. Assembling.assembled text.now ≡ Ok (version_number a.version, a.code))
+        (λ e. Assembling.IsFirstFault e (Assembling.assembled text.now)) }
 {
     match assemble_listing(alloc, text) {
         Ok(assembled) => Ok(assembled),
@@ -66,7 +67,8 @@ pub fn assemble_listing<A: Allocator + Clone>(
     ensures complete { (version : ℕ) (c : Program.Code) → IsListingOf text.now version c → IsCode version c → MatchResult result
         (λ a. (version_number a.version ≡ version) × (a.code ≡ c))
         (λ r. fault_kind r.cause ≡ Memory) }
-    ensures exact { MatchResult result (λ a. Assembling.assembled text.now ≡ Ok (version_number a.version, a.code)) (λ r. Assembling.IsFirstFault (fault_of r) (Assembling.assembled text.now)) }
+    ensures exact { MatchResult result (λ a. Assembling.assembled text.now ≡ Ok (version_number a.version, a.code))
+        (λ r. Assembling.IsFirstFault (fault_of r) (Assembling.assembled text.now)) }
 {
     let read = match read_text(alloc, text) {
         Ok(read) => read,

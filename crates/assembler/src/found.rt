@@ -49,7 +49,16 @@ impl<A: Allocator> Model for Found<A> {
 
     ghost Value = { Found };
 
-    ghost view = { λ f. record { version = f.version; main = f.main; blocks = f.blocks.items; last = f.last; arrays = f.arrays.items; literals = f.literals.items; used = f.used.keys } };
+    ghost view = { λ f. record {
+      version = f.version;
+      main = f.main;
+      blocks = f.blocks.items;
+      last = f.last;
+      arrays = f.arrays.items;
+      literals =
+          f.literals.items;
+      used = f.used.keys;
+    } };
 }
 
 /// A version and a code.

@@ -232,7 +232,13 @@ fn named_from<A: Allocator + Clone>(
     name: &[u8],
     tail: Tail<'_>,
 ) -> Result<Instr<A>, AsmCause>
-    ensures { Gives (λ i. i) result (Lines.named_from name.now (tail.entry.slot.now, tail.entry.first.now, tail.entry.second.now, tail.entry.operand.now, tail.entry.rest)) }
+    ensures { Gives (λ i. i) result (Lines.named_from name.now (
+      tail.entry.slot.now,
+      tail.entry.first.now,
+      tail.entry.second.now,
+      tail.entry.operand.now,
+      tail.entry.rest,
+    )) }
 {
     let op = op_from(name, tail.operand)?;
     let Some(slot) = slot_from(op, tail.slot) else {

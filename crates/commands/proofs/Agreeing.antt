@@ -38,7 +38,8 @@ module _ (text : List ℕ) (inputs : List ℤ) (c : Config) (seed : ℕ) (g : Gr
   more n so_far last k (inl low) = so_far.each k low
   more n so_far last k (inr same) = subst (λ (j : ℕ). Agrees j) (sym same) last
 
-  pub go_on : (n : ℕ) → AllAgree text inputs c seed n g r → (h : Graph) (s : Report) → IsOrder text inputs c seed n h s → AreSame r s → AllAgree text inputs c seed (n + 1) g r
+  pub go_on : (n : ℕ) → AllAgree text inputs c seed n g r → (h : Graph) (s : Report) → IsOrder text inputs c seed n h s → AreSame r s
+      → AllAgree text inputs c seed (n + 1) g r
   unfolding Agrees
   go_on n so_far h s order same = record { first = so_far.first; each = λ k low. more n so_far (h, s, order, same) k (split k n low) }
 

@@ -16,5 +16,6 @@ options_decide E e None (Some y) = (λ h. absurd cc, λ h. absurd cc)
 options_decide E e (Some x) None = (λ h. absurd cc, λ h. absurd cc)
 options_decide E e (Some x) (Some y) = (λ h. ap (λ z. Some z) ((e x y).0 h), λ h. (e x y).1 (ap (value_in x) h))
 
-pub lists_decide : {X : Type 0} (E : X → X → Bool) (r : Bool) (xs ys : List X) → r ≡ pointwise E xs ys → ((x y : X) → Decides (E x y) (x ≡ y)) → Decides r (xs ≡ ys)
+pub lists_decide : {X : Type 0} (E : X → X → Bool) (r : Bool) (xs ys : List X) → r ≡ pointwise E xs ys → ((x y : X) → Decides (E x y) (x ≡ y))
+    → Decides r (xs ≡ ys)
 lists_decide E r xs ys e d = Decides-at r (pointwise E xs ys) e (pointwise_decides d xs ys)

@@ -33,11 +33,13 @@ use Rattle.commands.specs.Served.{Parts, IsReportedAs, IsRunOf, IsNoRunOf, IsRef
 abbrev Bad : (parts : List ℕ) → Result (List ℤ) ℕ → Refusal → Type 0
 Bad text z f = (n : ℕ) × (z ≡ Err n) × IsRefusedLine text n f
 
-no_run : (text : List ℕ) (z : Result (List ℤ) ℕ) (o : RunOptions) (f : Refusal) → (f ≡ Refusal.Memory) ⊎ Bad text z f → (f ≡ Refusal.Memory) ⊎ WhyNoRun z text o f
+no_run : (text : List ℕ) (z : Result (List ℤ) ℕ) (o : RunOptions) (f : Refusal) → (f ≡ Refusal.Memory) ⊎ Bad text z f
+    → (f ≡ Refusal.Memory) ⊎ WhyNoRun z text o f
 no_run text z o f (inl memory) = inl memory
 no_run text z o f (inr bad) = inr (subst (λ (y : Result (List ℤ) ℕ). WhyNoRun y text o f) (sym bad.1) bad.2)
 
-no_order : (text : List ℕ) (z : Result (List ℤ) ℕ) (o : RunOptions) (count : ℕ) (f : Refusal) → (f ≡ Refusal.Memory) ⊎ Bad text z f → (f ≡ Refusal.Memory) ⊎ WhyNoOrder z text o count f
+no_order : (text : List ℕ) (z : Result (List ℤ) ℕ) (o : RunOptions) (count : ℕ) (f : Refusal) → (f ≡ Refusal.Memory) ⊎ Bad text z f
+    → (f ≡ Refusal.Memory) ⊎ WhyNoOrder z text o count f
 no_order text z o count f (inl memory) = inl memory
 no_order text z o count f (inr bad) = inr (subst (λ (y : Result (List ℤ) ℕ). WhyNoOrder y text o count f) (sym bad.1) bad.2)
 
@@ -60,11 +62,13 @@ module _ (input : List ℕ) (f : Refusal) (none : IsNoFeed input f) where
 abbrev pub IsRefusedOption : List ℕ → List ℤ → Config → Refusal → Type 0
 IsRefusedOption text inputs c f = IsReportedAs (IsRefused text inputs c) f ⊎ (IsReady text inputs c × (f ≡ Refusal.Start StartFault.BadConfig))
 
-no_mode_of : (text : List ℕ) (inputs : List ℤ) (o : RunOptions) (f : Refusal) → o.mode ≡ None → IsRefusedOption text inputs (config_of o) f → WhyNoRun (Ok inputs) text o f
+no_mode_of : (text : List ℕ) (inputs : List ℤ) (o : RunOptions) (f : Refusal) → o.mode ≡ None → IsRefusedOption text inputs (config_of o) f
+    → WhyNoRun (Ok inputs) text o f
 no_mode_of text inputs o f none (inl reported) = inl reported
 no_mode_of text inputs o f none (inr ready) = inr (ready.0, none, ready.1)
 
-no_count_of : (text : List ℕ) (inputs : List ℤ) (o : RunOptions) (count : ℕ) (f : Refusal) → (IsGood (config_of o) → count ≡ 0) → IsRefusedOption text inputs (config_of o) f → WhyNoOrder (Ok inputs) text o count f
+no_count_of : (text : List ℕ) (inputs : List ℤ) (o : RunOptions) (count : ℕ) (f : Refusal) → (IsGood (config_of o) → count ≡ 0)
+    → IsRefusedOption text inputs (config_of o) f → WhyNoOrder (Ok inputs) text o count f
 no_count_of text inputs o count f none (inl reported) = inl reported
 no_count_of text inputs o count f none (inr ready) = inr (ready.0, none ready.0.good, ready.1)
 
@@ -99,10 +103,12 @@ module _ (input text : List ℕ) (inputs : List ℤ) (feed : IsFeed input text i
     integers = feed.integers;
     mode = mode;
     named = named;
-    truth = subst (λ (b : Bool). ReportsQuietly mode text g inputs (config_of o) b r) never (subst (λ (d : Config). ReportsQuietly mode text g inputs d may_stop r) same truth);
+    truth = subst (λ (b : Bool). ReportsQuietly mode text g inputs (config_of o) b r) never
+        (subst (λ (d : Config). ReportsQuietly mode text g inputs d may_stop r) same truth);
   }
 
-  pub trace_of : (o : RunOptions) (g : Graph) (bytes : List ℕ) (r : Report) (moments : List Moment) (mode : Mode) → o.mode ≡ Some mode → (c : Config) → c ≡ config_of o
+  pub trace_of : (o : RunOptions) (g : Graph) (bytes : List ℕ) (r : Report) (moments : List Moment) (mode : Mode) → o.mode ≡ Some mode → (c : Config)
+      → c ≡ config_of o
       → (may_stop : Bool) → may_stop ≡ false → IsWatched mode text g bytes inputs c may_stop r moments → IsTraceOf input o g bytes r moments
   trace_of o g bytes r moments mode named c same may_stop never watched = record {
     text = text;
@@ -110,7 +116,8 @@ module _ (input text : List ℕ) (inputs : List ℤ) (feed : IsFeed input text i
     feed = feed;
     mode = mode;
     named = named;
-    watched = subst (λ (b : Bool). IsWatched mode text g bytes inputs (config_of o) b r moments) never (subst (λ (d : Config). IsWatched mode text g bytes inputs d may_stop r moments) same watched);
+    watched = subst (λ (b : Bool). IsWatched mode text g bytes inputs (config_of o) b r moments) never
+        (subst (λ (d : Config). IsWatched mode text g bytes inputs d may_stop r moments) same watched);
   }
 
   pub page_of : (o : RunOptions) (first : ℕ) (g : Graph) (bytes : List ℕ) (r : Report) (books : BooksView) (mode : Mode) → o.mode ≡ Some mode → (c : Config)
@@ -130,19 +137,24 @@ module _ (input text : List ℕ) (inputs : List ℤ) (feed : IsFeed input text i
   pub no_room : (o : RunOptions) → IsNoRunOf input o Refusal.Memory
   no_room o = record { parts = parts; why = inl refl }
 
-  pub run_refused : (o : RunOptions) (c : Config) → c ≡ config_of o → (fault : Fault) → IsRefused text inputs c fault → (f : Refusal) → f ≡ refused_as fault → IsNoRunOf input o f
+  pub run_refused : (o : RunOptions) (c : Config) → c ≡ config_of o → (fault : Fault) → IsRefused text inputs c fault → (f : Refusal) → f
+      ≡ refused_as fault → IsNoRunOf input o f
   run_refused o c same fault refused f reported = stopped_run o f (inl (fault, subst (λ (d : Config). IsRefused text inputs d fault) same refused, reported))
 
   pub mode_refused : (o : RunOptions) (c : Config) → c ≡ config_of o → o.mode ≡ None → (f : Refusal) → IsRefusedOption text inputs c f → IsNoRunOf input o f
   mode_refused o c same none f why = stopped_run o f (no_mode_of text inputs o f none (subst (λ (d : Config). IsRefusedOption text inputs d f) same why))
 
   -- ORDERS
-  pub order_refused : (o : RunOptions) (count : ℕ) (c : Config) → c ≡ config_of o → (fault : Fault) → IsRefused text inputs c fault → (f : Refusal) → f ≡ refused_as fault → IsNoOrderOf input o count f
-  order_refused o count c same fault refused f reported = stopped_order o count f (inl (fault, subst (λ (d : Config). IsRefused text inputs d fault) same refused, reported))
+  pub order_refused : (o : RunOptions) (count : ℕ) (c : Config) → c ≡ config_of o → (fault : Fault) → IsRefused text inputs c fault → (f : Refusal)
+      → f ≡ refused_as fault → IsNoOrderOf input o count f
+  order_refused o count c same fault refused f reported = stopped_order o count f
+      (inl (fault, subst (λ (d : Config). IsRefused text inputs d fault) same refused, reported))
 
-  pub count_refused : (o : RunOptions) (count : ℕ) (c : Config) → c ≡ config_of o → (IsGood c → count ≡ 0) → (f : Refusal) → IsRefusedOption text inputs c f → IsNoOrderOf input o count f
+  pub count_refused : (o : RunOptions) (count : ℕ) (c : Config) → c ≡ config_of o → (IsGood c → count ≡ 0) → (f : Refusal)
+      → IsRefusedOption text inputs c f → IsNoOrderOf input o count f
   count_refused o count c same none f why =
-      stopped_order o count f (no_count_of text inputs o count f (subst (λ (d : Config). IsGood d → count ≡ 0) same none) (subst (λ (d : Config). IsRefusedOption text inputs d f) same why))
+      stopped_order o count f (no_count_of text inputs o count f (subst (λ (d : Config). IsGood d → count ≡ 0) same none)
+      (subst (λ (d : Config). IsRefusedOption text inputs d f) same why))
 
   -- PROFILE
   pub waves_refused : (o : RunOptions) (s : Sizes) (format : ProfileFormat) (fault : Fault) → IsRefusedMeaning text inputs fault

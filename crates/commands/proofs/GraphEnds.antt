@@ -1,5 +1,6 @@
 -- The text of a graph ends at its `main` line: all lines before it are whole, and none of them begins with the byte of an `m`.
-use Rattle.std.proofs.Common.{◌≡◌, ℕ, ◌+◌, ◌^◌, ◌<◌, ◌≤◌, ◌⊎◌, inl, inr, eqb, Bool, true, false, List, [], ◌∷◌, ◌++◌, length, get_or, take, map, flat_map, All, refl, sym, ap, subst, ◌∙◌, append_assoc, length-append, arith}
+use Rattle.std.proofs.Common.{◌≡◌, ℕ, ◌+◌, ◌^◌, ◌<◌, ◌≤◌, ◌⊎◌, inl, inr, eqb, Bool, true, false, List, [], ◌∷◌, ◌++◌, length, get_or, take, map}
+use Rattle.std.proofs.Common.{flat_map, All, refl, sym, ap, subst, ◌∙◌, append_assoc, length-append, arith}
 use Rattle.std.specs.Prelude.{codes}
 use Rattle.std.specs.Fmt.{decimal}
 use Rattle.std.proofs.lemmas.Bool.{ne_eqb, eqb-false, false_from_ne_true}
@@ -12,7 +13,8 @@ use Rattle.semantics.specs.declared.version.Version.{Version}
 use Rattle.semantics.specs.declared.version.Version.TheVariants.{One, Two}
 use Rattle.semantics.specs.Versions.{version_number}
 use Rattle.semantics.specs.Graph.{Node, Graph}
-use Rattle.semantics.specs.Text.{field, line, region_text, node_line, block_text, array_line, text_of, IsName, IsWrittenRegion, HasNodeLine, HasBlockText, HasText}
+use Rattle.semantics.specs.Text.{field, line, region_text, node_line, block_text, array_line, text_of, IsName, IsWrittenRegion, HasNodeLine}
+use Rattle.semantics.specs.Text.{HasBlockText, HasText}
 use Rattle.graph_file.specs.Reading.{Named}
 use Rattle.graph_file.proofs.Numbers.{is_numeral_means}
 use Rattle.graph_file.proofs.Marks.{decimal_is_numeral, decimal_field}

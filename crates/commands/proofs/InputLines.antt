@@ -1,5 +1,6 @@
 -- Reading one integer after the other, as a loop does.
-use Rattle.std.proofs.Common.{◌≡◌, ℕ, ◌+◌, ◌==◌, true, ℤ, length, List, [], ◌∷◌, ◌++◌, Option, Some, None, Result, Ok, Err, refl, sym, ap, ◌∙◌, append_assoc, length-append, subst}
+use Rattle.std.proofs.Common.{◌≡◌, ℕ, ◌+◌, ◌==◌, true, ℤ, length, List, [], ◌∷◌, ◌++◌, Option, Some, None, Result, Ok, Err, refl, sym, ap, ◌∙◌}
+use Rattle.std.proofs.Common.{append_assoc, length-append, subst}
 use Rattle.std.proofs.lemmas.List.{append-nil}
 use Rattle.std.specs.Prelude.{IfSome}
 use Rattle.std.specs.Io.KnownBytes.{Consumes, IsAtEnd}
@@ -20,7 +21,8 @@ pub goes_on : (front : List ℤ) (lines : List (List ℕ)) (l : List ℕ) (ls : 
     → with_front (front ++ z ∷ []) (integers_from (length (front ++ z ∷ []) + 1) ls) ≡ total
 unfolding integers_from
 goes_on front lines l ls z total e h so_far =
-    let one : with_front front (integers_from (length front + 1) lines) ≡ with_front (front ++ z ∷ []) (integers_from (length front + 1 + 1) ls) = rw (e, h) (regroup front z (length front + 1) (integers_from (length front + 1 + 1) ls)) in
+    let one : with_front front (integers_from (length front + 1) lines) ≡ with_front (front ++ z ∷ []) (integers_from (length front + 1 + 1) ls) = rw
+    (e, h) (regroup front z (length front + 1) (integers_from (length front + 1 + 1) ls)) in
     let longer : length (front ++ z ∷ []) ≡ length front + 1 = length-append front (z ∷ []) in
     subst (λ (n : ℕ). with_front (front ++ z ∷ []) (integers_from (n + 1) ls) ≡ total) (sym longer) (sym one ∙ so_far)
 
@@ -31,7 +33,8 @@ fails front lines l ls total e h so_far =
     let one : with_front front (integers_from (length front + 1) lines) ≡ Err (length front + 1) = rw (e, h) refl in
     sym so_far ∙ one
 
-pub is_done : (front : List ℤ) (lines : List (List ℕ)) (total : Result (List ℤ) ℕ) → lines ≡ [] → with_front front (integers_from (length front + 1) lines) ≡ total → total ≡ Ok front
+pub is_done : (front : List ℤ) (lines : List (List ℕ)) (total : Result (List ℤ) ℕ) → lines ≡ []
+    → with_front front (integers_from (length front + 1) lines) ≡ total → total ≡ Ok front
 unfolding integers_from
 is_done front lines total e so_far =
     let one : with_front front (integers_from (length front + 1) lines) ≡ Ok front = rw e (ap (λ (xs : List ℤ). Ok xs) (append-nil front)) in

@@ -37,19 +37,24 @@ reported_cut k halt r (inl refused) e = let is = ap (λ (x : Report). x.end) ref
 reported_cut k halt r (inr reported) e = ends_cut k.state.setting.program r halt reported.1 e
 
 pub order_of : (text : List ℕ) (g : Graph) (bytes : List ℕ) (inputs : List ℤ) (c : Config) (seed order first : ℕ) (old new : SoFar) (halt : Halt) (r : Report)
-    → IsCompiled text g bytes → StartsObject bytes inputs c old → first ≡ first_number seed order → PlaysDrawn c.elements first old new halt → IsReportOf new halt r
-    → ((ins : List ℤ) → Began ins new.state new.events → HaltsAs new.state true halt → ShowsInOrder new.state.setting.program (size new.state.setting) ins new.state.setting.steps true false r)
+    → IsCompiled text g bytes → StartsObject bytes inputs c old → first ≡ first_number seed order → PlaysDrawn c.elements first old new halt
+    → IsReportOf new halt r
+    → ((ins : List ℤ) → Began ins new.state new.events → HaltsAs new.state true halt → ShowsInOrder new.state.setting.program (size new.state.setting)
+    ins new.state.setting.steps true false r)
     → IsOrder text inputs c seed order g r
 order_of text g bytes inputs c seed order first old new halt r compiled starts is drawn reported shows =
     let picks : List (ℕ × ℕ) = picks_from c.elements drawn.count first in
     let began = λ (ins : List ℤ) (b : Began ins old.state old.events).
-    subst (λ (l : Events). Began ins new.state l) (sym drawn.events) (began_plays ins true picks old.state new.state halt old.events drawn.made drawn.plays b) in
+    subst (λ (l : Events). Began ins new.state l) (sym drawn.events) (began_plays ins true picks old.state new.state halt old.events drawn.made
+    drawn.plays b) in
     let halts = halts_as true picks old.state new.state halt drawn.made drawn.plays in
     let shown = shows_object bytes inputs c old starts true false r
-    (λ ins b. subst (λ (z : Setting). ShowsInOrder z.program (size z) ins z.steps true false r) (setting_plays true picks old.state new.state halt drawn.made drawn.plays) (shows ins (began ins b) halts)) in
+    (λ ins b. subst (λ (z : Setting). ShowsInOrder z.program (size z) ins z.steps true false r) (setting_plays true picks old.state new.state halt
+    drawn.made drawn.plays) (shows ins (began ins b) halts)) in
     let list = runs_by_list bytes inputs c old starts picks r (new, halt, drawn.made, drawn.plays, drawn.events, reported) in
     record {
       count = drawn.count;
-      truth = subst (λ (n : ℕ). ReportsTruthByList text g inputs c (picks_from c.elements drawn.count n) r) is (reports_by_list text g bytes inputs c picks r compiled shown list);
+      truth = subst (λ (n : ℕ). ReportsTruthByList text g inputs c (picks_from c.elements drawn.count n) r) is
+          (reports_by_list text g bytes inputs c picks r compiled shown list);
       enough = λ e. drawn.enough (reported_cut new halt r reported e);
     }

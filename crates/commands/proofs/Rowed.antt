@@ -15,7 +15,8 @@ use Rattle.outcomes.specs.declared.refusal.Refusal.{Refusal}
 use Rattle.commands.specs.Profiled.{AreRows, IsChosen, IsNoRow, IsRow, config_with, sizes_below}
 use Rattle.commands.specs.Refusals.{refused_as}
 
-with_row : (text : List ℕ) (inputs : List ℤ) (o : RunOptions) (ns : List ℕ) (rows : List MachineRow) (n : ℕ) (row : MachineRow) → AreRows text inputs o ns rows → IsRow text inputs o n row
+with_row : (text : List ℕ) (inputs : List ℤ) (o : RunOptions) (ns : List ℕ) (rows : List MachineRow) (n : ℕ) (row : MachineRow)
+    → AreRows text inputs o ns rows → IsRow text inputs o n row
     → AreRows text inputs o (ns ++ n ∷ []) (rows ++ row ∷ [])
 with_row text inputs o [] [] n row so_far is = (is, tt)
 with_row text inputs o (m ∷ ns) [] n row so_far is = absurd so_far
@@ -35,13 +36,16 @@ module _ (text : List ℕ) (inputs : List ℤ) (o : RunOptions) (z : Sizes) wher
   unfolding sizes_below
   no_rows rows none = subst (λ (l : List MachineRow). AreRows text inputs o [] l) (sym none) tt
 
-  pub row_more : (n : ℕ) (rows all : List MachineRow) (row : MachineRow) (has : Bool) → has ≡ has_size z n → has ≡ true → AreRows text inputs o (sizes_below z n) rows → IsRow text inputs o n row
+  pub row_more : (n : ℕ) (rows all : List MachineRow) (row : MachineRow) (has : Bool) → has ≡ has_size z n → has ≡ true
+      → AreRows text inputs o (sizes_below z n) rows → IsRow text inputs o n row
       → all ≡ rows ++ row ∷ [] → AreRows text inputs o (sizes_below z (n + 1)) all
   row_more n rows all row has truth has_it so_far is pushed =
       subst (λ (l : List MachineRow). AreRows text inputs o (sizes_below z (n + 1)) l) (sym pushed)
-      (subst (λ (ns : List ℕ). AreRows text inputs o ns (rows ++ row ∷ [])) (sym (ap (λ (m : ℕ). sizes_below z m) (add-one n) ∙ there z n has truth has_it)) (with_row text inputs o (sizes_below z n) rows n row so_far is))
+      (subst (λ (ns : List ℕ). AreRows text inputs o ns (rows ++ row ∷ []))
+      (sym (ap (λ (m : ℕ). sizes_below z m) (add-one n) ∙ there z n has truth has_it)) (with_row text inputs o (sizes_below z n) rows n row so_far is))
 
-  pub no_row_more : (n : ℕ) (rows all : List MachineRow) (has : Bool) → has ≡ has_size z n → has ≡ false → AreRows text inputs o (sizes_below z n) rows → all ≡ rows
+  pub no_row_more : (n : ℕ) (rows all : List MachineRow) (has : Bool) → has ≡ has_size z n → has ≡ false → AreRows text inputs o (sizes_below z n)
+      rows → all ≡ rows
       → AreRows text inputs o (sizes_below z (n + 1)) all
   no_row_more n rows all has truth has_none so_far same =
       subst (λ (l : List MachineRow). AreRows text inputs o (sizes_below z (n + 1)) l) (sym same)
@@ -59,12 +63,14 @@ pub none_in_all : (z : Sizes) (n : ℕ) → 64 ≤ n → n ≤ 64 → sizes_belo
 none_in_all z n enough few none = let e : 64 ≡ n = omega (arith, enough, few) in ap (λ (m : ℕ). sizes_below z m) e ∙ none
 
 -- a row for each number of a set that has none
-pub rows_of_none : (text : List ℕ) (inputs : List ℤ) (o : RunOptions) (z : Sizes) (rows : List MachineRow) → sizes_below z 64 ≡ [] → rows ≡ [] → AreRows text inputs o (sizes_below z 64) rows
+pub rows_of_none : (text : List ℕ) (inputs : List ℤ) (o : RunOptions) (z : Sizes) (rows : List MachineRow) → sizes_below z 64 ≡ [] → rows ≡ []
+    → AreRows text inputs o (sizes_below z 64) rows
 rows_of_none text inputs o z rows none empty =
     subst (λ (ns : List ℕ). AreRows text inputs o ns rows) (sym none) (subst (λ (l : List MachineRow). AreRows text inputs o [] l) (sym empty) tt)
 
 -- a graph that has no object has no row of the first number
-pub no_row_of : (text : List ℕ) (inputs : List ℤ) (o : RunOptions) (z : Sizes) (g : Graph) → IsGoodText text g → IsChosen z → (fault : Fault) → IsTooLarge g fault → (f : Refusal) → f ≡ refused_as fault → IsNoRow text inputs o z f
+pub no_row_of : (text : List ℕ) (inputs : List ℤ) (o : RunOptions) (z : Sizes) (g : Graph) → IsGoodText text g → IsChosen z → (fault : Fault)
+    → IsTooLarge g fault → (f : Refusal) → f ≡ refused_as fault → IsNoRow text inputs o z f
 no_row_of text inputs o z g good chosen fault large f reported = record {
   elements = chosen.0;
   low = chosen.1;

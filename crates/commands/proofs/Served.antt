@@ -26,11 +26,13 @@ use Rattle.commands.specs.Refusals.{refused_as}
 use Rattle.commands.specs.Served.{Prints, Parts, config_of, IsRefusedLine, IsNoRunOf, WhyNoRun, IsMeaningOf, IsNoMeaningOf, WhyNoMeaning, IsExecOf, IsNoExecOf}
 
 -- WHAT IS PRINTED
-pub printed : (E : Type 0) (x : ⊤) (o : Outcome) (old new : Option (List ℕ)) (sent text : List ℕ) (outcome : Outcome) → sent ≡ text → o ≡ outcome → Sends {E = E} (Ok x) old new sent → Prints {E = E} (Ok o) old new text outcome
+pub printed : (E : Type 0) (x : ⊤) (o : Outcome) (old new : Option (List ℕ)) (sent text : List ℕ) (outcome : Outcome) → sent ≡ text → o ≡ outcome
+    → Sends {E = E} (Ok x) old new sent → Prints {E = E} (Ok o) old new text outcome
 unfolding Sends
 printed E x o old new sent text outcome same is h = (is, subst (λ (l : List ℕ). Appends old new l) same h)
 
-pub stopped : (E : Type 0) (e : E) (old new : Option (List ℕ)) (sent text : List ℕ) (outcome : Outcome) → sent ≡ text → Sends {E = E} (Err e) old new sent → Prints {E = E} (Err e) old new text outcome
+pub stopped : (E : Type 0) (e : E) (old new : Option (List ℕ)) (sent text : List ℕ) (outcome : Outcome) → sent ≡ text
+    → Sends {E = E} (Err e) old new sent → Prints {E = E} (Err e) old new text outcome
 unfolding Sends
 stopped E e old new sent text outcome same h = (h.0, h.1, sym same ∙ h.2, h.3)
 
@@ -40,24 +42,28 @@ bad_line_of lines f n is bad = subst (λ (x : LinesFault). IsBadInput lines x) i
 
 -- EXEC
 pub executed : (bytes : List ℕ) (o : RunOptions) (inputs : List ℤ) (r : Report) (mode : Mode) → o.mode ≡ Some mode → (c : Config) → c ≡ config_of o
-    → (may_stop : Bool) → may_stop ≡ false → Quietly (ShowsObjectIn mode bytes inputs c may_stop) r → IsExecOf bytes o (Inputs.Integers (record { items = inputs })) r
+    → (may_stop : Bool) → may_stop ≡ false → Quietly (ShowsObjectIn mode bytes inputs c may_stop) r
+    → IsExecOf bytes o (Inputs.Integers (record { items = inputs })) r
 executed bytes o inputs r mode named c same may_stop never shows = record {
   inputs = inputs;
   integers = refl;
   mode = mode;
   named = named;
-  shows = subst (λ (b : Bool). Quietly (ShowsObjectIn mode bytes inputs (config_of o) b) r) never (subst (λ (d : Config). Quietly (ShowsObjectIn mode bytes inputs d may_stop) r) same shows);
+  shows = subst (λ (b : Bool). Quietly (ShowsObjectIn mode bytes inputs (config_of o) b) r) never
+      (subst (λ (d : Config). Quietly (ShowsObjectIn mode bytes inputs d may_stop) r) same shows);
 }
 
 pub refused_exec : (bytes : List ℕ) (o : RunOptions) (inputs : List ℤ) (c : Config) → c ≡ config_of o → (fault : Fault) → IsRefusedObject bytes inputs c fault
     → (f : Refusal) → f ≡ refused_as fault → IsNoExecOf bytes o (Inputs.Integers (record { items = inputs })) f
-refused_exec bytes o inputs c same fault refused f reported = inr (inr (inl (fault, subst (λ (d : Config). IsRefusedObject bytes inputs d fault) same refused, reported)))
+refused_exec bytes o inputs c same fault refused f reported = inr
+    (inr (inl (fault, subst (λ (d : Config). IsRefusedObject bytes inputs d fault) same refused, reported)))
 
 pub no_mode_to_exec : (bytes : List ℕ) (o : RunOptions) (inputs : List ℤ) (c : Config) → c ≡ config_of o → IsReadyObject bytes inputs c → o.mode ≡ None
     → IsNoExecOf bytes o (Inputs.Integers (record { items = inputs })) (Refusal.Start StartFault.BadConfig)
 no_mode_to_exec bytes o inputs c same ready mode = inr (inr (inr (subst (λ (d : Config). IsReadyObject bytes inputs d) same ready, mode, refl)))
 
-pub unopened_exec : (bytes : List ℕ) (o : RunOptions) (ins : Inputs) (fault : Fault) → IsNoObject bytes fault → (f : Refusal) → f ≡ refused_as fault → IsNoExecOf bytes o ins f
+pub unopened_exec : (bytes : List ℕ) (o : RunOptions) (ins : Inputs) (fault : Fault) → IsNoObject bytes fault → (f : Refusal) → f ≡ refused_as fault
+    → IsNoExecOf bytes o ins f
 unopened_exec bytes o ins (Fault.Read x) none f reported = absurd none
 unopened_exec bytes o ins (Fault.Check x) none f reported = absurd none
 unopened_exec bytes o ins (Fault.TooManySlots b) none f reported = absurd none
@@ -74,18 +80,21 @@ module _ (input text lines : List ℕ) (whole : text ++ lines ≡ input) (end : 
   pub no_memory : (o : RunOptions) → IsNoRunOf input o Refusal.Memory
   no_memory o = record { parts = parts; why = inl refl }
 
-  pub refused_run : (o : RunOptions) (inputs : List ℤ) → integers_of lines ≡ Ok inputs → (c : Config) → c ≡ config_of o → (fault : Fault) → IsRefused text inputs c fault
+  pub refused_run : (o : RunOptions) (inputs : List ℤ) → integers_of lines ≡ Ok inputs → (c : Config) → c ≡ config_of o → (fault : Fault)
+      → IsRefused text inputs c fault
       → (f : Refusal) → f ≡ refused_as fault → IsNoRunOf input o f
   refused_run o inputs integers c same fault refused f reported = record {
     parts = parts;
-    why = inr (subst (λ (z : Result (List ℤ) ℕ). WhyNoRun z text o f) (sym integers) (inl (fault, subst (λ (d : Config). IsRefused text inputs d fault) same refused, reported)));
+    why = inr (subst (λ (z : Result (List ℤ) ℕ). WhyNoRun z text o f) (sym integers)
+        (inl (fault, subst (λ (d : Config). IsRefused text inputs d fault) same refused, reported)));
   }
 
   pub no_mode : (o : RunOptions) (inputs : List ℤ) → integers_of lines ≡ Ok inputs → (c : Config) → c ≡ config_of o → IsReady text inputs c → o.mode ≡ None
       → IsNoRunOf input o (Refusal.Start StartFault.BadConfig)
   no_mode o inputs integers c same ready mode = record {
     parts = parts;
-    why = inr (subst (λ (z : Result (List ℤ) ℕ). WhyNoRun z text o (Refusal.Start StartFault.BadConfig)) (sym integers) (inr (subst (λ (d : Config). IsReady text inputs d) same ready, mode, refl)));
+    why = inr (subst (λ (z : Result (List ℤ) ℕ). WhyNoRun z text o (Refusal.Start StartFault.BadConfig)) (sym integers)
+        (inr (subst (λ (d : Config). IsReady text inputs d) same ready, mode, refl)));
   }
 
   pub bad_line : (o : RunOptions) (n : ℕ) (f : Refusal) → integers_of lines ≡ Err n → IsRefusedLine text n f → IsNoRunOf input o f
@@ -102,7 +111,8 @@ module _ (input text lines : List ℕ) (whole : text ++ lines ≡ input) (end : 
   pub no_memory_to_mean : IsNoMeaningOf input Refusal.Memory
   no_memory_to_mean = record { parts = parts; why = inl refl }
 
-  pub refused_meaning : (inputs : List ℤ) → integers_of lines ≡ Ok inputs → (fault : Fault) → IsRefusedMeaning text inputs fault → (f : Refusal) → f ≡ refused_as fault → IsNoMeaningOf input f
+  pub refused_meaning : (inputs : List ℤ) → integers_of lines ≡ Ok inputs → (fault : Fault) → IsRefusedMeaning text inputs fault → (f : Refusal) → f
+      ≡ refused_as fault → IsNoMeaningOf input f
   refused_meaning inputs integers fault refused f reported = record {
     parts = parts;
     why = inr (subst (λ (z : Result (List ℤ) ℕ). WhyNoMeaning z text f) (sym integers) (fault, refused, reported));

@@ -70,7 +70,8 @@ pub record Differ (input : List ℕ) (o : RunOptions) (count seed : ℕ) (g : Gr
 -- Why nothing is reported of any order: the first cause in the order of the work. That no order was asked for is reported only where
 -- a run is ready.
 abbrev pub WhyNoOrder : Result (List ℤ) ℕ → List ℕ → RunOptions → ℕ → Refusal → Type 0
-WhyNoOrder (Ok inputs) text o count f = IsReportedAs (IsRefused text inputs (config_of o)) f ⊎ (IsReady text inputs (config_of o) × (count ≡ 0) × (f ≡ Refusal.Start StartFault.BadConfig))
+WhyNoOrder (Ok inputs) text o count f = IsReportedAs (IsRefused text inputs (config_of o)) f ⊎ (IsReady text inputs (config_of o) × (count ≡ 0)
+    × (f ≡ Refusal.Start StartFault.BadConfig))
 WhyNoOrder (Err n) text o count f = IsRefusedLine text n f
 
 pub record IsNoOrderOf (input : List ℕ) (o : RunOptions) (count : ℕ) (f : Refusal) : Type 0 where
@@ -97,5 +98,6 @@ differing_text g a k h b = line (codes "orders differ") ++ order_text 0 g a ++ o
 abbrev pub PrintsOrders : {E : Type 0} → Result Outcome E → Option (List ℕ) → Option (List ℕ) → List ℕ → RunOptions → ℕ → ℕ → Type 0
 PrintsOrders result old new input o count seed =
     ((g : Graph) × (r : Report) × Agree input o count seed g r × Prints result old new (same_text count g r) (Outcome.Reported (ending_of r)))
-    ⊎ (((g : Graph) × (a : Report) × (k : ℕ) × (h : Graph) × (b : Report) × Differ input o count seed g a k h b × Prints result old new (differing_text g a k h b) Outcome.Differed)
+    ⊎ (((g : Graph) × (a : Report) × (k : ℕ) × (h : Graph) × (b : Report) × Differ input o count seed g a k h b
+    × Prints result old new (differing_text g a k h b) Outcome.Differed)
     ⊎ ((f : Refusal) × IsNoOrderOf input o count f × Refuses result old new f))

@@ -1,5 +1,6 @@
 -- Standard input: a graph's text, and then integers, one a line.
-use Rattle.std.specs.Prelude.{◌≡◌, ℕ, ◌==◌, ◌+◌, ◌-◌, Bool, ℤ, List, [], ◌∷◌, length, take, Option, None, Some, Result, Ok, Err, slice_index, codes, if◌then◌else◌, ⊤}
+use Rattle.std.specs.Prelude.{◌≡◌, ℕ, ◌==◌, ◌+◌, ◌-◌, Bool, ℤ, List, [], ◌∷◌, length, take, Option, None, Some, Result, Ok, Err, slice_index, codes}
+use Rattle.std.specs.Prelude.{if◌then◌else◌, ⊤}
 use Rattle.std.specs.Str.{bytes_eq}
 use Rattle.graph_file.specs.Fields.{literal_of}
 use Rattle.graph_file.specs.Lines.{parts}

@@ -122,7 +122,8 @@ cause_text (Refusal.InputLine n) = codes "input line " ++ decimal n
 cause_text (Refusal.Start f) = codes "start " ++ start_word f
 cause_text (Refusal.Object f) = codes "object " ++ object_word f
 cause_text (Refusal.Asm r) = asm_text (AsmCauses.fault_of r)
-cause_text (Refusal.Program r) = codes "program " ++ program_word r.fault.kind ++ codes " line " ++ decimal r.fault.line ++ codes " column " ++ decimal r.fault.column
+cause_text (Refusal.Program r) = codes "program " ++ program_word r.fault.kind ++ codes " line " ++ decimal r.fault.line ++ codes " column "
+    ++ decimal r.fault.column
 cause_text Refusal.Memory = codes "memory"
 
 abbrev pub refusal_line : Refusal → List ℕ

@@ -70,7 +70,8 @@ abbrev pub IsRefusedLine : List ℕ → ℕ → Refusal → Type 0
 IsRefusedLine text n f = IsReportedAs (IsRefusedText text) f ⊎ (((g : Graph) × (bytes : List ℕ) × IsCompiled text g bytes) × (f ≡ Refusal.InputLine n))
 
 abbrev pub WhyNoRun : Result (List ℤ) ℕ → List ℕ → RunOptions → Refusal → Type 0
-WhyNoRun (Ok inputs) text o f = IsReportedAs (IsRefused text inputs (config_of o)) f ⊎ (IsReady text inputs (config_of o) × (o.mode ≡ None) × (f ≡ Refusal.Start StartFault.BadConfig))
+WhyNoRun (Ok inputs) text o f = IsReportedAs (IsRefused text inputs (config_of o)) f ⊎ (IsReady text inputs (config_of o) × (o.mode ≡ None)
+    × (f ≡ Refusal.Start StartFault.BadConfig))
 WhyNoRun (Err n) text o f = IsRefusedLine text n f
 
 pub record IsNoRunOf (input : List ℕ) (o : RunOptions) (f : Refusal) : Type 0 where
@@ -143,12 +144,14 @@ pub record IsExecOf (bytes : List ℕ) (o : RunOptions) (ins : Inputs) (r : Repo
 -- exist. Of more than 16 inputs no more is said: no object takes more than 16.
 abbrev pub WhyNoExec : Inputs → List ℕ → RunOptions → Refusal → Type 0
 WhyNoExec (Inputs.Integers inputs) bytes o f =
-    IsReportedAs (IsRefusedObject bytes inputs.items (config_of o)) f ⊎ (IsReadyObject bytes inputs.items (config_of o) × (o.mode ≡ None) × (f ≡ Refusal.Start StartFault.BadConfig))
+    IsReportedAs (IsRefusedObject bytes inputs.items (config_of o)) f ⊎ (IsReadyObject bytes inputs.items (config_of o) × (o.mode ≡ None)
+    × (f ≡ Refusal.Start StartFault.BadConfig))
 WhyNoExec (Inputs.NoInteger n) bytes o f = (first_refusal bytes ≡ None) × (f ≡ Refusal.InputLine n)
 WhyNoExec Inputs.TooMany bytes o f = (first_refusal bytes ≡ None) × (f ≡ Refusal.Start StartFault.WrongInputs)
 
 abbrev pub IsNoExecOf : List ℕ → RunOptions → Inputs → Refusal → Type 0
-IsNoExecOf bytes o ins f = (f ≡ Refusal.Memory) ⊎ (((fault : ObjectFault) × (first_refusal bytes ≡ Some fault) × (f ≡ Refusal.Object fault)) ⊎ WhyNoExec ins bytes o f)
+IsNoExecOf bytes o ins f = (f ≡ Refusal.Memory) ⊎ (((fault : ObjectFault) × (first_refusal bytes ≡ Some fault) × (f ≡ Refusal.Object fault)) ⊎
+    WhyNoExec ins bytes o f)
 
 abbrev pub PrintsExec : {E : Type 0} → Result Outcome E → Option (List ℕ) → Option (List ℕ) → List ℕ → RunOptions → Inputs → Type 0
 PrintsExec result old new bytes o ins =

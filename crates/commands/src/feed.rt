@@ -61,7 +61,8 @@ pub(crate) fn option_refusal<A: Allocator + Clone>(
     inputs: &[i64],
     config: Config,
 ) -> Refusal
-    ensures { IsReportedAs (IsRefused text.now inputs.now config) result ⊎ (IsReady text.now inputs.now config × (result ≡ AsRefusal.Start Starting.BadConfig)) }
+    ensures { IsReportedAs (IsRefused text.now inputs.now config) result ⊎ (IsReady text.now inputs.now config
+        × (result ≡ AsRefusal.Start Starting.BadConfig)) }
 {
     match start_text(alloc, text, inputs, config) {
         Ok(()) => Refusal::Start(StartFault::BadConfig),

@@ -4,7 +4,8 @@ ghost use Rattle.std.specs.Prelude.{◌≡◌, ◌<◌, ℕ, List, IfErr, IfOk, 
 ghost use Rattle.semantics.specs.Graph as Graphs;
 ghost use Rattle.driver.specs.Refused.{IsCompiled, IsRefused};
 ghost use Rattle.sink.specs.Sends.{Sends};
-ghost use Rattle.commands.specs.Agreed.{Agree, AllAgree, Differ, IsFirstOther, IsNoOrderOf, IsOrder, PrintsOrders, differing_text, order_text, same_line, same_text};
+ghost use Rattle.commands.specs.Agreed.{Agree, AllAgree, Differ, IsFirstOther, IsNoOrderOf, IsOrder, PrintsOrders, differing_text, order_text};
+ghost use Rattle.commands.specs.Agreed.{same_line, same_text};
 ghost use Rattle.commands.specs.Played.{PlaysDrawn};
 
 use crate::comparing::are_same;
@@ -96,7 +97,8 @@ fn run_order<A: Allocator + Clone>(
     order: u64,
 ) -> Result<Report<A>, Fault>
     requires { 0 < config.elements }
-    ensures { (text : List ℕ) (g : Graphs.Graph) → IsCompiled text g code.now.bytes → MatchResult result (IsOrder text inputs.now config seed order g) (IsRefused text inputs.now config) }
+    ensures { (text : List ℕ) (g : Graphs.Graph) → IsCompiled text g code.now.bytes → MatchResult result (IsOrder text inputs.now config seed order g)
+        (IsRefused text inputs.now config) }
 {
     let mut store = None;
     let mut machine = start_code(alloc.clone()?, &mut store, code, inputs, config)?;
@@ -120,8 +122,10 @@ fn run_code_orders<A: Allocator + Clone>(
 ) -> Result<Reports<A>, Fault>
     requires elements { 0 < config.elements }
     requires some { 0 < count }
-    ensures same { (text : List ℕ) (g : Graphs.Graph) → IsCompiled text g code.now.bytes → IfOk result (λ o. IsNone o.other → AllAgree text inputs.now config seed count g o.first) }
-    ensures other { (text : List ℕ) (g : Graphs.Graph) → IsCompiled text g code.now.bytes → IfOk result (λ o. IfSome o.other (λ x. IsFirstOther text inputs.now config seed count g o.first x.number g x.report)) }
+    ensures same { (text : List ℕ) (g : Graphs.Graph) → IsCompiled text g code.now.bytes
+        → IfOk result (λ o. IsNone o.other → AllAgree text inputs.now config seed count g o.first) }
+    ensures other { (text : List ℕ) (g : Graphs.Graph) → IsCompiled text g code.now.bytes
+        → IfOk result (λ o. IfSome o.other (λ x. IsFirstOther text inputs.now config seed count g o.first x.number g x.report)) }
     ensures refused { (text : List ℕ) (g : Graphs.Graph) → IsCompiled text g code.now.bytes → IfErr result (IsRefused text inputs.now config) }
 {
     let first = run_order(alloc, code, inputs, config, seed, 0)?;
@@ -147,7 +151,8 @@ fn run_orders<'a, A: Allocator + Clone>(
     requires elements { 0 < config.elements }
     requires some { 0 < count }
     ensures same { IfOk result (λ o. IsNone o.reports.other → AllAgree text.now inputs.now config seed count o.checked o.reports.first) }
-    ensures other { IfOk result (λ o. IfSome o.reports.other (λ x. IsFirstOther text.now inputs.now config seed count o.checked o.reports.first x.number o.checked x.report)) }
+    ensures other { IfOk result (λ o. IfSome o.reports.other (λ x. IsFirstOther text.now inputs.now config seed count o.checked o.reports.first
+        x.number o.checked x.report)) }
     ensures refused { IfErr result (IsRefused text.now inputs.now config) }
 {
     let Compiled { checked, object } = compile(alloc.clone()?, text)?;
@@ -166,7 +171,8 @@ fn make_orders<'a, A: Allocator + Clone>(
     seed: u64,
 ) -> Result<Orders<'a, A>, Refusal>
     ensures same { IfOk result (λ o. IsNone o.reports.other → Agree input.now options.now count seed o.checked o.reports.first) }
-    ensures other { IfOk result (λ o. IfSome o.reports.other (λ x. Differ input.now options.now count seed o.checked o.reports.first x.number o.checked x.report)) }
+    ensures other { IfOk result (λ o. IfSome o.reports.other (λ x. Differ input.now options.now count seed o.checked o.reports.first x.number
+        o.checked x.report)) }
     ensures refused { IfErr result (IsNoOrderOf input.now options.now count) }
 {
     let feed = match read_feed(&alloc, input) {

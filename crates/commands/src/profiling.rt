@@ -8,7 +8,8 @@ ghost use Rattle.sink.specs.Sends.{Sends};
 ghost use Rattle.outcomes.specs.declared.refusal.Refusal.{Refusal as AsRefusal};
 ghost use Rattle.driver.specs.Refused.{IsCompiled, IsGoodText, IsRefused};
 ghost use Rattle.commands.specs.Served.{IsReportedAs};
-ghost use Rattle.commands.specs.Profiled.{AreRows, IsChosen, IsNoProfileOf, IsNoRow, IsProfileOf, IsRow, PrintsProfile, config_with, format_of, quantity_in, profiled, sizes_below, text_of};
+ghost use Rattle.commands.specs.Profiled.{AreRows, IsChosen, IsNoProfileOf, IsNoRow, IsProfileOf, IsRow, PrintsProfile, config_with, format_of};
+ghost use Rattle.commands.specs.Profiled.{quantity_in, profiled, sizes_below, text_of};
 
 use crate::feed::read_feed;
 use crate::refusal::fault_refusal;
@@ -133,7 +134,8 @@ fn measure<R: Threads + Wait + Sync, A: Allocator + Clone + Send + Sync, G: Gate
     options: &RunOptions,
     elements: u64,
 ) -> Result<MachineRow, Refusal>
-    ensures { (text : List ℕ) (g : Graph) → IsCompiled text g code.now.bytes → MatchResult result (IsRow text inputs.now options.now elements) (IsReportedAs (IsRefused text inputs.now (config_with options.now elements))) }
+    ensures { (text : List ℕ) (g : Graph) → IsCompiled text g code.now.bytes → MatchResult result (IsRow text inputs.now options.now elements)
+        (IsReportedAs (IsRefused text inputs.now (config_with options.now elements))) }
 {
     let config = config_with(options, elements);
     let Ok(alloc) = resources.alloc.clone() else {

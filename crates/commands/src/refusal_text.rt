@@ -3,7 +3,8 @@
 ghost use Rattle.std.specs.Prelude.{◌≡◌, ◌++◌, codes, decimal};
 ghost use Rattle.semantics.specs.Text.{line};
 ghost use Rattle.outcomes.specs.declared.refusal.Refusal.TheVariants.{Program};
-ghost use Rattle.commands.specs.Refusals.{asm_text, asm_word, read_text, read_word, check_text, check_word, object_word, start_word, program_word, number_or_dash, refusal_line};
+ghost use Rattle.commands.specs.Refusals.{asm_text, asm_word, read_text, read_word, check_text, check_word, object_word, start_word, program_word};
+ghost use Rattle.commands.specs.Refusals.{number_or_dash, refusal_line};
 ghost use Rattle.sink.specs.Sends.{Sends};
 
 use assembler::{AsmFault, AsmFaultKind};

@@ -3,7 +3,8 @@
 ghost use Rattle.std.specs.Prelude.{◌≡◌, MatchResult, None, drop, false, map};
 ghost use Rattle.object_view.specs.Checks.{first_refusal};
 ghost use Rattle.driver.specs.Disassembled.{listing_of, listing_with_literals_of, picture_of, upgrade_of};
-ghost use Rattle.commands.specs.Served.{config_of, IsRunOf, IsNoRunOf, IsMeaningOf, IsNoMeaningOf, Refuses, PrintsRun, PrintsMeaning, PrintsCheck, PrintsObject, PrintsOf, PrintsPicture, PrintsExec, IsExecOf, IsNoExecOf, Prints};
+ghost use Rattle.commands.specs.Served.{config_of, IsRunOf, IsNoRunOf, IsMeaningOf, IsNoMeaningOf, Refuses, PrintsRun, PrintsMeaning, PrintsCheck};
+ghost use Rattle.commands.specs.Served.{PrintsObject, PrintsOf, PrintsPicture, PrintsExec, IsExecOf, IsNoExecOf, Prints};
 ghost use Rattle.commands.specs.Answered.{Answers, ServesRequest, Says, ServesAsked, ServesWords, Serves};
 
 use crate::assembling::print_assembled;
@@ -123,7 +124,8 @@ fn mean_input<'a, A: Allocator + Clone>(
     input: &'a [u8],
     steps: u64,
 ) -> Result<Meant<'a, A>, Refusal>
-    ensures { MatchResult result (λ m. IsMeaningOf input.now steps m.checked m.report.end m.report.outputs.items m.report.cells.items) (IsNoMeaningOf input.now) }
+    ensures { MatchResult result (λ m. IsMeaningOf input.now steps m.checked m.report.end m.report.outputs.items m.report.cells.items)
+        (IsNoMeaningOf input.now) }
 {
     let (text, lines) = split_at_main(input);
     let Ok(room) = alloc.clone() else {

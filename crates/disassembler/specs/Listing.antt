@@ -6,7 +6,8 @@ use Rattle.tags.specs.declared.value.Origin.{Origin}
 use Rattle.tags.specs.declared.value.Origin.TheVariants.{Untold, At}
 use Rattle.semantics.specs.declared.program.Dest.{Dest}
 use Rattle.semantics.specs.declared.program.Op.{Op}
-use Rattle.semantics.specs.declared.program.Op.TheVariants.{Apply1, Apply2, Apply2Right, Apply2Left, Lit, Copy, Sync, Switch, Fetch, Store, Frame, Link, Send, Return, Ask, Open, Take, Give, Drain, Release}
+use Rattle.semantics.specs.declared.program.Op.TheVariants.{Apply1, Apply2, Apply2Right, Apply2Left, Lit, Copy, Sync, Switch, Fetch, Store, Frame}
+use Rattle.semantics.specs.declared.program.Op.TheVariants.{Link, Send, Return, Ask, Open, Take, Give, Drain, Release}
 use Rattle.semantics.specs.Program.{Instr, CodeBlock, Program, Code}
 use Rattle.semantics.specs.Rule.{slot_of}
 use Rattle.sink.specs.Numbered.{numbered}
@@ -83,7 +84,8 @@ literal_line n z = line (codes "literal " ++ decimal n ++ codes " " ++ literal z
 
 -- THE WHOLE
 abbrev pub block_line : ℕ → ℕ → ℕ → ℕ → List ℕ
-block_line n inputs outputs slots = line (codes "block " ++ decimal n ++ codes " inputs " ++ decimal inputs ++ codes " outputs " ++ decimal outputs ++ codes " slots " ++ decimal slots)
+block_line n inputs outputs slots = line (codes "block " ++ decimal n ++ codes " inputs " ++ decimal inputs ++ codes " outputs " ++ decimal outputs
+    ++ codes " slots " ++ decimal slots)
 
 abbrev pub block_lines : ℕ → CodeBlock → List ℕ
 block_lines n b = block_line n b.inputs b.outputs b.slots ++ numbered instr_line 0 b.instrs

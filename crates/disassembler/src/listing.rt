@@ -79,7 +79,8 @@ fn list_arrays<W: Write>(writer: &mut W, object: &Object<'_>) -> io::Result<()>
 
 /// The instruction of that number in a block.
 pub fn instr_in(object: &Object<'_>, block: &BlockView, number: u32) -> Option<CodeInstr>
-    ensures { (k : ℕ) → (b : CodeBlock) → IsBlockAt object.now.code.program k b block.now → number < length b.instrs → option_map shown result ≡ slice_get b.instrs number }
+    ensures { (k : ℕ) → (b : CodeBlock) → IsBlockAt object.now.code.program k b block.now → number < length b.instrs → option_map shown result
+        ≡ slice_get b.instrs number }
 {
     let Some(left) = object.instr_count().checked_sub(block.first) else {
         return None;
@@ -93,7 +94,8 @@ pub fn instr_in(object: &Object<'_>, block: &BlockView, number: u32) -> Option<C
 
 /// The lines of the instructions of a block.
 fn list_instrs<W: Write>(writer: &mut W, object: &Object<'_>, block: &BlockView) -> io::Result<()>
-    ensures { (k : ℕ) → (b : CodeBlock) → IsBlockAt object.now.code.program k b block.now → Sends result (W.contents writer.old) (W.contents writer.new) (numbered instr_line 0 b.instrs) }
+    ensures { (k : ℕ) → (b : CodeBlock) → IsBlockAt object.now.code.program k b block.now
+        → Sends result (W.contents writer.old) (W.contents writer.new) (numbered instr_line 0 b.instrs) }
 {
     for number in 0..block.instrs {
         let Some(instr) = instr_in(object, block, number) else {
@@ -111,7 +113,8 @@ fn list_block<W: Write>(
     number: u32,
     block: &BlockView,
 ) -> io::Result<()>
-    ensures { (b : CodeBlock) → IsBlockAt object.now.code.program number b block.now → Sends result (W.contents writer.old) (W.contents writer.new) (block_lines number b) }
+    ensures { (b : CodeBlock) → IsBlockAt object.now.code.program number b block.now → Sends result (W.contents writer.old) (W.contents writer.new)
+        (block_lines number b) }
 {
     list_block_line(writer, number, block)?;
     list_instrs(writer, object, block)

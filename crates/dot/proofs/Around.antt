@@ -23,7 +23,8 @@ pub opens_none : (d b : ℕ) (block : Block (List ℕ)) (r : Region) (k : ℕ) (
 opens_none zero b block r k side e none = ap (opens zero b block) e
 opens_none (suc d) b block r k side e none = absurd (none (omega arith))
 
-pub opens_more : (d a b : ℕ) (block : Block (List ℕ)) (r : Region) (k : ℕ) (side : Bool) → r ≡ Arm k side → 1 ≤ d → a ≡ d - 1 → opens d b block r ≡ opens a b block (region_of block k) ++ arm_opens b (Arm k side)
+pub opens_more : (d a b : ℕ) (block : Block (List ℕ)) (r : Region) (k : ℕ) (side : Bool) → r ≡ Arm k side → 1 ≤ d → a ≡ d - 1 → opens d b block r
+    ≡ opens a b block (region_of block k) ++ arm_opens b (Arm k side)
 opens_more zero a b block r k side e some less = absurd (omega (arith, some))
 opens_more (suc d) a b block r k side e some less =
     let same : a ≡ d = omega (arith, less) in
@@ -37,7 +38,8 @@ pub closes_none : (d : ℕ) (block : Block (List ℕ)) (r : Region) (k : ℕ) (s
 closes_none zero block r k side e none = ap (closes zero block) e
 closes_none (suc d) block r k side e none = absurd (none (omega arith))
 
-pub closes_more : (d a : ℕ) (block : Block (List ℕ)) (r : Region) (k : ℕ) (side : Bool) → r ≡ Arm k side → 1 ≤ d → a ≡ d - 1 → closes d block r ≡ closes a block (region_of block k) ++ codes "} "
+pub closes_more : (d a : ℕ) (block : Block (List ℕ)) (r : Region) (k : ℕ) (side : Bool) → r ≡ Arm k side → 1 ≤ d → a ≡ d - 1 → closes d block r
+    ≡ closes a block (region_of block k) ++ codes "} "
 closes_more zero a block r k side e some less = absurd (omega (arith, some))
 closes_more (suc d) a block r k side e some less =
     let same : a ≡ d = omega (arith, less) in
@@ -50,7 +52,8 @@ inputs_more b n = let up : n + 1 ≡ suc n = omega arith in ap (inputs_dot b) up
 pub inputs_front : (b n m : ℕ) → n ≤ m → (rest : List ℕ) × (inputs_dot b m ≡ inputs_dot b n ++ rest)
 inputs_front b n zero le = let same : n ≡ 0 = omega (arith, le) in ([], sym (ap (λ (k : ℕ). inputs_dot b k ++ []) same))
 inputs_front b n (suc m) le = by_place (nat_lt n (suc m)) refl (λ l. inputs_front b n m l) where
-  by_place : (t : Bool) → nat_lt n (suc m) ≡ t → (n ≤ m → (rest : List ℕ) × (inputs_dot b m ≡ inputs_dot b n ++ rest)) → (rest : List ℕ) × (inputs_dot b (suc m) ≡ inputs_dot b n ++ rest)
+  by_place : (t : Bool) → nat_lt n (suc m) ≡ t → (n ≤ m → (rest : List ℕ) × (inputs_dot b m ≡ inputs_dot b n ++ rest)) → (rest : List ℕ)
+      × (inputs_dot b (suc m) ≡ inputs_dot b n ++ rest)
   by_place true t h =
       let r = h (omega (arith, ltb-true n (suc m) t)) in
       (r.0 ++ input_box b m, ap (λ (x : List ℕ). x ++ input_box b m) r.1 ∙ append_assoc (inputs_dot b n) r.0 (input_box b m))
@@ -92,7 +95,8 @@ same_place x depth b block j inputs line n m d i v =
     ∙ ap (λ (k : ℕ). node_place depth b block n.region (k + line) n.kind) i
     ∙ ap (λ (o : Node (List ℕ)). node_place depth b block o.region (inputs + line) o.kind) v
 
-pub same_edges : (b j inputs line : ℕ) (n m : Node (List ℕ)) (style : List ℕ) (sources : List Source) → j ≡ inputs → n ≡ m → style ≡ style_of n.kind → sources ≡ n.sources
+pub same_edges : (b j inputs line : ℕ) (n m : Node (List ℕ)) (style : List ℕ) (sources : List Source) → j ≡ inputs → n ≡ m → style ≡ style_of n.kind
+    → sources ≡ n.sources
     → numbered (edge b (j + line) style) 0 sources ≡ numbered (edge b (inputs + line) (style_of m.kind)) 0 m.sources
 same_edges b j inputs line n m style sources i v s e =
     ap (λ (x : List ℕ). numbered (edge b (j + line) x) 0 sources) s

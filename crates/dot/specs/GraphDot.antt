@@ -31,7 +31,8 @@ arm_sign (Arm k false) = codes "-"
 -- an arm is a dotted box with the name that the text has for it
 abbrev pub arm_opens : ℕ → Region → List ℕ
 arm_opens b Root = []
-arm_opens b (Arm k side) = codes "subgraph cluster_b" ++ decimal b ++ arm_letter (Arm k side) ++ decimal k ++ codes " { style=dotted label=\"" ++ decimal k ++ arm_sign (Arm k side) ++ codes "\" "
+arm_opens b (Arm k side) = codes "subgraph cluster_b" ++ decimal b ++ arm_letter (Arm k side) ++ decimal k ++ codes " { style=dotted label=\""
+    ++ decimal k ++ arm_sign (Arm k side) ++ codes "\" "
 
 -- the boxes that begin around a node: `depth` conditionals at most
 abbrev pub opens : ℕ → ℕ → Block (List ℕ) → Region → List ℕ
@@ -64,7 +65,8 @@ node_place depth b block region n kind = opens depth b block region ++ node_box 
 
 -- node lines are numbered after the inputs
 abbrev pub node_dot : ℕ → Block (List ℕ) → ℕ → Node (List ℕ) → List ℕ
-node_dot b block i node = node_place (length block.nodes) b block node.region (block.inputs + i) node.kind ++ numbered (edge b (block.inputs + i) (style_of node.kind)) 0 node.sources
+node_dot b block i node = node_place (length block.nodes) b block node.region (block.inputs + i) node.kind
+    ++ numbered (edge b (block.inputs + i) (style_of node.kind)) 0 node.sources
 
 -- INPUTS AND RESULTS
 abbrev pub input_box : ℕ → ℕ → List ℕ
@@ -75,7 +77,8 @@ inputs_dot b zero = []
 inputs_dot b (suc n) = inputs_dot b n ++ input_box b n
 
 abbrev pub result_dot : ℕ → ℕ → Source → List ℕ
-result_dot b k s = codes "b" ++ decimal b ++ codes "o" ++ decimal k ++ codes " [shape=box label=\"output " ++ decimal k ++ codes "\"]\nb" ++ decimal b ++ codes "n" ++ decimal s.node
+result_dot b k s = codes "b" ++ decimal b ++ codes "o" ++ decimal k ++ codes " [shape=box label=\"output " ++ decimal k ++ codes "\"]\nb" ++ decimal b
+    ++ codes "n" ++ decimal s.node
     ++ codes " -> b" ++ decimal b ++ codes "o" ++ decimal k ++ codes " [taillabel=\"" ++ decimal s.port ++ codes "\"]\n"
 
 -- THE WHOLE
@@ -83,7 +86,8 @@ abbrev pub block_head : ℕ → List ℕ → List ℕ
 block_head b name = codes "subgraph cluster_b" ++ decimal b ++ codes " { label=\"block " ++ name ++ codes "\"\n"
 
 abbrev pub block_dot : ℕ → List ℕ × Block (List ℕ) → List ℕ
-block_dot b named = block_head b named.0 ++ inputs_dot b named.1.inputs ++ numbered (node_dot b named.1) 0 named.1.nodes ++ numbered (result_dot b) 0 named.1.results ++ codes "}\n"
+block_dot b named = block_head b named.0 ++ inputs_dot b named.1.inputs ++ numbered (node_dot b named.1) 0 named.1.nodes
+    ++ numbered (result_dot b) 0 named.1.results ++ codes "}\n"
 
 abbrev pub graph_head : List ℕ → List ℕ
 graph_head main = codes "digraph ets { label=\"main " ++ main ++ codes "\"\nnode [fontname=\"sans-serif\"] edge [fontsize=8 fontname=\"sans-serif\"]\n"

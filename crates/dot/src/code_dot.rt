@@ -21,7 +21,8 @@ use tags::token::Port;
 
 /// What the box of an instruction begins with.
 fn open_box<W: Write>(writer: &mut W, place: u32, number: u32, op: Op) -> io::Result<()>
-    ensures { Sends result (W.contents writer.old) (W.contents writer.new) (codes "b" ++ decimal place ++ codes "i" ++ decimal number ++ codes " [label=\"" ++ decimal number ++ field (op_word op)) }
+    ensures { Sends result (W.contents writer.old) (W.contents writer.new) (codes "b" ++ decimal place ++ codes "i" ++ decimal number
+        ++ codes " [label=\"" ++ decimal number ++ field (op_word op)) }
 {
     let mut block = Buffer::new();
     let mut instr = Buffer::new();
@@ -157,7 +158,8 @@ fn send_far_arc<W: Write>(writer: &mut W, place: u32, number: u32, op: Op) -> io
 
 /// The arcs of an instruction to others of its block.
 fn send_arcs<W: Write>(writer: &mut W, place: u32, number: u32, instr: &CodeInstr) -> io::Result<()>
-    ensures { Sends result (W.contents writer.old) (W.contents writer.new) (arc place number 1 (option_to_list instr.now.first) ++ arc place number 2 (option_to_list instr.now.second)) }
+    ensures { Sends result (W.contents writer.old) (W.contents writer.new) (arc place number 1 (option_to_list instr.now.first)
+        ++ arc place number 2 (option_to_list instr.now.second)) }
 {
     send_arc(writer, place, number, 1, instr.first)?;
     send_arc(writer, place, number, 2, instr.second)
@@ -184,7 +186,8 @@ fn send_instrs<W: Write>(
     place: u32,
     block: &BlockView,
 ) -> io::Result<()>
-    ensures { (k : ℕ) → (b : CodeBlock) → IsBlockAt object.now.code.program k b block.now → Sends result (W.contents writer.old) (W.contents writer.new) (numbered (instr_dot place) 0 b.instrs) }
+    ensures { (k : ℕ) → (b : CodeBlock) → IsBlockAt object.now.code.program k b block.now
+        → Sends result (W.contents writer.old) (W.contents writer.new) (numbered (instr_dot place) 0 b.instrs) }
 {
     for number in 0..block.instrs {
         let Some(instr) = instr_in(object, block, number) else {
@@ -220,7 +223,8 @@ fn send_block<W: Write>(
     place: u32,
     block: &BlockView,
 ) -> io::Result<()>
-    ensures { (b : CodeBlock) → IsBlockAt object.now.code.program place b block.now → Sends result (W.contents writer.old) (W.contents writer.new) (code_block_dot place b) }
+    ensures { (b : CodeBlock) → IsBlockAt object.now.code.program place b block.now → Sends result (W.contents writer.old) (W.contents writer.new)
+        (code_block_dot place b) }
 {
     open_block(writer, place)?;
     send_instrs(writer, object, place, block)?;

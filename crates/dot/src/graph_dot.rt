@@ -4,7 +4,8 @@ ghost use Rattle.std.specs.Prelude.{◌≡◌, ◌<◌, ◌++◌, ◌∷◌, [],
 ghost use Rattle.semantics.specs.Text.{kind_text};
 ghost use Rattle.sink.specs.Numbered.{numbered};
 ghost use Rattle.sink.specs.Sends.{Sends};
-ghost use Rattle.dot.specs.GraphDot.{region_of, arm_letter, arm_sign, arm_opens, opens, closes, node_box, style_of, edge, node_place, node_dot, input_box, inputs_dot, result_dot, block_head, block_dot, graph_head, graph_dot};
+ghost use Rattle.dot.specs.GraphDot.{region_of, arm_letter, arm_sign, arm_opens, opens, closes, node_box, style_of, edge, node_place, node_dot};
+ghost use Rattle.dot.specs.GraphDot.{input_box, inputs_dot, result_dot, block_head, block_dot, graph_head, graph_dot};
 
 use graph::{Block, Graph, Name, Node};
 use graph_file::send_kind;
@@ -118,7 +119,8 @@ fn close_arms<A: Allocator, W: Write>(
 
 /// What the box of a node begins with.
 fn open_box<W: Write>(writer: &mut W, place: usize, node: u64) -> io::Result<()>
-    ensures { Sends result (W.contents writer.old) (W.contents writer.new) (codes "b" ++ decimal place ++ codes "n" ++ decimal node ++ codes " [label=\"" ++ decimal node) }
+    ensures { Sends result (W.contents writer.old) (W.contents writer.new) (codes "b" ++ decimal place ++ codes "n" ++ decimal node
+        ++ codes " [label=\"" ++ decimal node) }
 {
     let mut block = Buffer::new();
     let mut number = Buffer::new();

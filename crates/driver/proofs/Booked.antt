@@ -1,5 +1,6 @@
 -- The books of a run of an object, over the object's code.
-use Rattle.std.proofs.Common.{◌≡◌, ◌+◌, ◌*◌, ◌^◌, ◌<◌, ◌≤◌, ◌∙◌, ◌++◌, ℕ, ℤ, Bool, false, List, length, sym, refl, ap, subst, arith, rules, take, drop, take-append-drop}
+use Rattle.std.proofs.Common.{◌≡◌, ◌+◌, ◌*◌, ◌^◌, ◌<◌, ◌≤◌, ◌∙◌, ◌++◌, ℕ, ℤ, Bool, false, List, length, sym, refl, ap, subst, arith, rules, take}
+use Rattle.std.proofs.Common.{drop, take-append-drop}
 use Rattle.std.specs.Prelude.{sum}
 use Rattle.std.proofs.lemmas.Nat.{mul-le}
 use Rattle.std.proofs.Math.Nat.{one-le-mul}
@@ -60,7 +61,8 @@ pub fitting : (bytes : List ℕ) (inputs : List ℤ) (c : Config) (may_stop : Bo
     → (f : ReplayRefusal) → f ≡ NotARun → Says f (HasNoRun o.code.program x inputs (earlier ++ events)) → ⊥
 fitting bytes inputs c may_stop r o is object shows x elements frames first earlier events front rest f never none =
     let p : Program = o.code.program in
-    let all : earlier ++ events ≡ r.events = ap (λ (es : Events). es ++ events) front ∙ ap (λ (es : Events). take first r.events ++ es) rest ∙ take-append-drop first r.events in
+    let all : earlier ++ events ≡ r.events = ap (λ (es : Events). es ++ events) front ∙ ap (λ (es : Events). take first r.events ++ es) rest
+    ∙ take-append-drop first r.events in
     let code : IsOrdered p (size_of c) inputs r.events = subst (λ (q : Program). IsOrdered q (size_of c) inputs r.events)
     (same bytes inputs c may_stop r o is object shows) shows.in_order in
     let run : IsOrdered p (size_of c) inputs (earlier ++ events) = subst (λ (es : Events). IsOrdered p (size_of c) inputs es) (sym all) code in
@@ -69,7 +71,8 @@ fitting bytes inputs c may_stop r o is object shows x elements frames first earl
 
 -- the books of the machine's extent are those of the report
 pub booked : (bytes : List ℕ) (inputs : List ℤ) (c : Config) (r : Report) (o : Opened) → opened bytes ≡ o → (x : Extent) → x.elements ≡ c.elements
-    → x.frames ≡ c.elements * c.frames → (first : ℕ) (earlier events : Events) (books : BooksView) → earlier ≡ take first r.events → events ≡ drop first r.events
+    → x.frames ≡ c.elements * c.frames → (first : ℕ) (earlier events : Events) (books : BooksView) → earlier ≡ take first r.events → events
+    ≡ drop first r.events
     → AreBooks o.code.program x inputs earlier events books → HasBooks bytes inputs c first r books
 booked bytes inputs c r o is x elements frames first earlier events books front rest books_are =
     let kept : KeepsBooks o.code.program (size_of c) inputs earlier events books = books_are (size_of c) (sym elements) (sym frames) in

@@ -34,12 +34,15 @@ same_inputs v (s ∷ ss) (c ∷ cs) zero e = refl
 same_inputs v (s ∷ ss) (c ∷ cs) (suc i) e = same_inputs v ss cs i (omega (arith, e))
 
 -- the literals of a plan that is the graph's
-pub same_literals : (g : Graph) (p : Plan) (c : Code) → p ≡ plan_of g → c.literals ≡ table_of p.program.blocks → c.literals ≡ table_of (plan_of g).program.blocks
+pub same_literals : (g : Graph) (p : Plan) (c : Code) → p ≡ plan_of g → c.literals ≡ table_of p.program.blocks → c.literals
+    ≡ table_of (plan_of g).program.blocks
 same_literals g p c e h = subst (λ (q : Plan). c.literals ≡ table_of q.program.blocks) e h
 
 -- THE CODE
-pub compiled : (g : Graph) → HasText g → WellFormed g → (slots : List (List ℕ)) → IsAssigned (plan_of g) slots → (version : Version) → version_number version ≡ g.version
-    → (c : Code) → c.program ≡ code_of version (plan_of g) slots → c.literals ≡ table_of (plan_of g).program.blocks → (IsEmittable (plan_of g) slots → IsCode (version_number version) c) → IsCodeFor g c
+pub compiled : (g : Graph) → HasText g → WellFormed g → (slots : List (List ℕ)) → IsAssigned (plan_of g) slots → (version : Version)
+    → version_number version ≡ g.version
+    → (c : Code) → c.program ≡ code_of version (plan_of g) slots → c.literals ≡ table_of (plan_of g).program.blocks
+    → (IsEmittable (plan_of g) slots → IsCode (version_number version) c) → IsCodeFor g c
 compiled g text well slots assigned version same c e literals spelling =
     let p : Plan = plan_of g in
     let B : Program → Type 0 = λ q. HasBounds (flow_of g) q in

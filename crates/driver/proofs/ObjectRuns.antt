@@ -41,7 +41,8 @@ module _ (bytes : List ℕ) (inputs : List ℤ) (c : Config) (k : SoFar) (s : St
   elements_of = ap (λ (g : Setting). g.elements) s.opens.setting
 
   -- the report shows a run on these inputs
-  shown_object : (by_list may_stop : Bool) (r : Report) → ShowsInOrder k.state.setting.program (size k.state.setting) inputs k.state.setting.steps by_list may_stop r
+  shown_object : (by_list may_stop : Bool) (r : Report) → ShowsInOrder k.state.setting.program (size k.state.setting) inputs k.state.setting.steps
+      by_list may_stop r
       → ShowsObject bytes inputs c by_list may_stop r
   shown_object by_list may_stop r shows =
       let here : ShowsInOrder s.code.program (size_of c) inputs c.steps by_list may_stop r
@@ -59,7 +60,8 @@ module _ (bytes : List ℕ) (inputs : List ℤ) (c : Config) (k : SoFar) (s : St
       }
 
   pub shows_object : (by_list may_stop : Bool) (r : Report)
-      → ((ins : List ℤ) → Began ins k.state k.events → ShowsInOrder k.state.setting.program (size k.state.setting) ins k.state.setting.steps by_list may_stop r) → ShowsObject bytes inputs c by_list may_stop r
+      → ((ins : List ℤ) → Began ins k.state k.events → ShowsInOrder k.state.setting.program (size k.state.setting) ins k.state.setting.steps by_list
+      may_stop r) → ShowsObject bytes inputs c by_list may_stop r
   shows_object by_list may_stop r shows = shown_object by_list may_stop r (shows inputs s.opens.began)
 
   shows_object_quietly : (by_list may_stop : Bool) (r : Report)
@@ -71,7 +73,8 @@ module _ (bytes : List ℕ) (inputs : List ℤ) (c : Config) (k : SoFar) (s : St
 
   -- ORDER. What is played from the start on is what the report says.
   follows : (by_list : Bool) (picks : List (ℕ × ℕ)) (r : Report) (last : SoFar) (halt : Halt) (made : Events)
-      → Plays by_list picks k.state last.state halt made → last.events ≡ k.events ++ made → IsReportOf last halt r → RunsBy s.code.program c inputs by_list picks r
+      → Plays by_list picks k.state last.state halt made → last.events ≡ k.events ++ made → IsReportOf last halt r
+      → RunsBy s.code.program c inputs by_list picks r
   follows by_list picks r last halt made plays events reported = record {
     width = s.width;
     start = k;
@@ -88,12 +91,14 @@ module _ (bytes : List ℕ) (inputs : List ℤ) (c : Config) (k : SoFar) (s : St
   runs Ordered r ordered = record { version = s.version; code = s.code; object = s.object; ordered = ordered }
 
   pub runs_by_list : (picks : List (ℕ × ℕ)) (r : Report)
-      → (last : SoFar) × (halt : Halt) × (made : Events) × Plays true picks k.state last.state halt made × (last.events ≡ k.events ++ made) × IsReportOf last halt r
+      → (last : SoFar) × (halt : Halt) × (made : Events) × Plays true picks k.state last.state halt made × (last.events ≡ k.events ++ made)
+      × IsReportOf last halt r
       → RunsObject bytes inputs c (RunsByList picks) r
   runs_by_list picks r h = runs (RunsByList picks) r (follows true picks r h.0 h.1 h.2 h.3 h.4 h.5)
 
   pub runs_by_turns : (r : Report)
-      → (last : SoFar) × (halt : Halt) × (rounds : ℕ) × (made : Events) × Plays false (rounds_of rounds k.state.setting.elements) k.state last.state halt made × (last.events ≡ k.events ++ made) × IsReportOf last halt r
+      → (last : SoFar) × (halt : Halt) × (rounds : ℕ) × (made : Events) × Plays false (rounds_of rounds k.state.setting.elements) k.state last.state
+      halt made × (last.events ≡ k.events ++ made) × IsReportOf last halt r
       → RunsObject bytes inputs c RunsByTurns r
   unfolding elements_of
   runs_by_turns r h =
@@ -101,12 +106,14 @@ module _ (bytes : List ℕ) (inputs : List ℤ) (c : Config) (k : SoFar) (s : St
       let plays = subst P elements_of h.4 in
       runs RunsByTurns r (h.2, follows false (rounds_of h.2 c.elements) r h.0 h.1 h.3 plays h.5 h.6)
 
-  pub runs_by_rounds : (may_stop : Bool) (rounds : ℕ) (r : Report) → ReportsRounds true may_stop k rounds r → RunsObject bytes inputs c (RunsByRounds may_stop rounds) r
+  pub runs_by_rounds : (may_stop : Bool) (rounds : ℕ) (r : Report) → ReportsRounds true may_stop k rounds r
+      → RunsObject bytes inputs c (RunsByRounds may_stop rounds) r
   runs_by_rounds may_stop rounds r truth = runs (RunsByRounds may_stop rounds) r (record { width = s.width; start = k; opens = s.opens; truth = truth })
 
   -- QUIETLY. In each mode: the run in turns that is shown is the one that is followed.
   pub shows_in_quietly : (mode : Mode) (may_stop : Bool) (r : Report)
-      → ((ins : List ℤ) → Began ins k.state k.events → ShowsQuietly k.state.setting.program (size k.state.setting) ins k.state.setting.steps false (stops_in mode may_stop) r)
+      → ((ins : List ℤ) → Began ins k.state k.events → ShowsQuietly k.state.setting.program (size k.state.setting) ins k.state.setting.steps false
+      (stops_in mode may_stop) r)
       → (mode ≡ Mode.One → Quietly (RunsInTurn k) r) → Quietly (ShowsObjectIn mode bytes inputs c may_stop) r
   shows_in_quietly Mode.One may_stop r shows turns =
       let q = turns refl in

@@ -1,5 +1,6 @@
 -- The code of a graph has as many outputs as its main.
-use Rattle.std.proofs.Common.{◌≡◌, ℕ, zero, suc, ◌+◌, ◌<◌, Bool, true, false, List, [], ◌∷◌, ◌++◌, length, map, refl, sym, subst, ◌∙◌, arith, append_assoc, append-nil, if◌then◌else◌, length-append}
+use Rattle.std.proofs.Common.{◌≡◌, ℕ, zero, suc, ◌+◌, ◌<◌, Bool, true, false, List, [], ◌∷◌, ◌++◌, length, map, refl, sym, subst, ◌∙◌, arith}
+use Rattle.std.proofs.Common.{append_assoc, append-nil, if◌then◌else◌, length-append}
 use Rattle.std.specs.Prelude.{slice_get, ⊤}
 use Rattle.semantics.specs.Graph.{Graph, Block, Flow, flow_of}
 use Rattle.semantics.specs.WellFormed.{WellFormed}
@@ -66,7 +67,8 @@ expanded_outputs : (fl : Flow) → fl.main < length fl.blocks → outputs_of (ex
 expanded_outputs fl low =
     let vars : List ℕ = variants_of fl.blocks in
     at (expanded fl).program.blocks fl.blocks fl.main low
-    (variants (plain_codes no_codes fl.version fl.blocks vars 0 fl.blocks) fl.blocks fl.version fl.blocks vars 0 fl.blocks (plains no_codes [] fl.version fl.blocks vars 0 fl.blocks refl tt))
+    (variants (plain_codes no_codes fl.version fl.blocks vars 0 fl.blocks) fl.blocks fl.version fl.blocks vars 0 fl.blocks
+    (plains no_codes [] fl.version fl.blocks vars 0 fl.blocks refl tt))
 
 -- what is made of a block keeps them
 kept : (f : CodeBlock → CodeBlock) → ((c : CodeBlock) → (f c).outputs ≡ c.outputs) → (cs : List CodeBlock) (k : ℕ)
@@ -79,7 +81,8 @@ pub plan_outputs : (g : Graph) → WellFormed g → outputs_of (plan_of g).progr
 plan_outputs g well =
     let p : Plan = expanded (flow_of g) in
     let q : Plan = folded p in
-    kept (narrowed_block q) (λ c. refl) q.program.blocks p.program.main ∙ kept (folded_block p) (λ c. refl) p.program.blocks p.program.main ∙ expanded_outputs (flow_of g) (main_there g well)
+    kept (narrowed_block q) (λ c. refl) q.program.blocks p.program.main ∙ kept (folded_block p) (λ c. refl) p.program.blocks p.program.main
+    ∙ expanded_outputs (flow_of g) (main_there g well)
 
 -- and so does emission
 pub same_outputs : (v : ℕ) (ss : List (List ℕ)) (cs : List CodeBlock) (i : ℕ) → length ss ≡ length cs

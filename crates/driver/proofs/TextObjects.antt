@@ -58,7 +58,8 @@ too_large_to_run text g good inputs c Fault.Memory x = tt
 
 -- RUNNING
 -- a run of the object that can start is a run of the text that can
-pub ready_as_text : (text : List ℕ) (g : Graph) (bytes : List ℕ) (inputs : List ℤ) (c : Config) → IsCompiled text g bytes → IsReadyObject bytes inputs c → IsReady text inputs c
+pub ready_as_text : (text : List ℕ) (g : Graph) (bytes : List ℕ) (inputs : List ℤ) (c : Config) → IsCompiled text g bytes
+    → IsReadyObject bytes inputs c → IsReady text inputs c
 ready_as_text text g bytes inputs c k ready = record {
   graph = g;
   bytes = bytes;
@@ -69,7 +70,8 @@ ready_as_text text g bytes inputs c k ready = record {
 }
 
 -- what refuses a run of the object refuses a run of the text
-pub refused_as_text : (text : List ℕ) (g : Graph) (bytes : List ℕ) (inputs : List ℤ) (c : Config) → IsCompiled text g bytes → (f : Fault) → IsRefusedObject bytes inputs c f → IsRefused text inputs c f
+pub refused_as_text : (text : List ℕ) (g : Graph) (bytes : List ℕ) (inputs : List ℤ) (c : Config) → IsCompiled text g bytes → (f : Fault)
+    → IsRefusedObject bytes inputs c f → IsRefused text inputs c f
 refused_as_text text g bytes inputs c k (Fault.Read f) h = absurd h
 refused_as_text text g bytes inputs c k (Fault.Check f) h = absurd h
 refused_as_text text g bytes inputs c k (Fault.TooManySlots b) h = absurd h
@@ -90,15 +92,20 @@ no_frames_is_no_want e = cc
 bad_config_is_no_want : StartFault.BadConfig ≡ StartFault.Memory → ⊥
 bad_config_is_no_want e = cc
 
-object_is_refused : (bytes : List ℕ) (inputs : List ℤ) (c : Config) (version : ℕ) (code : Code) → IsObject bytes version code → ((v : ℕ) (d : Code) → IsObject bytes v d → code ≡ d)
+object_is_refused : (bytes : List ℕ) (inputs : List ℤ) (c : Config) (version : ℕ) (code : Code) → IsObject bytes version code
+    → ((v : ℕ) (d : Code) → IsObject bytes v d → code ≡ d)
     → (f : StartFault) → IsCause code.program c inputs f → f ≢ StartFault.Memory → IsRefusedObject bytes inputs c (Fault.Start f)
 object_is_refused bytes inputs c version code object only f cause other = (version, code, object, only, cause, other)
 
-pub object_refused : (bytes : List ℕ) (inputs : List ℤ) (c : Config) (version : ℕ) (code : Code) → IsObject bytes version code → ((v : ℕ) (d : Code) → IsObject bytes v d → code ≡ d)
+pub object_refused : (bytes : List ℕ) (inputs : List ℤ) (c : Config) (version : ℕ) (code : Code) → IsObject bytes version code
+    → ((v : ℕ) (d : Code) → IsObject bytes v d → code ≡ d)
     → (f : StartFault) → IsCause code.program c inputs f → IsRefusedObject bytes inputs c (refusal_of f)
-object_refused bytes inputs c version code object only StartFault.WrongInputs h = object_is_refused bytes inputs c version code object only StartFault.WrongInputs h wrong_inputs_is_no_want
-object_refused bytes inputs c version code object only StartFault.NoFrames h = object_is_refused bytes inputs c version code object only StartFault.NoFrames h no_frames_is_no_want
-object_refused bytes inputs c version code object only StartFault.BadConfig h = object_is_refused bytes inputs c version code object only StartFault.BadConfig h bad_config_is_no_want
+object_refused bytes inputs c version code object only StartFault.WrongInputs h = object_is_refused bytes inputs c version code object only
+    StartFault.WrongInputs h wrong_inputs_is_no_want
+object_refused bytes inputs c version code object only StartFault.NoFrames h = object_is_refused bytes inputs c version code object only
+    StartFault.NoFrames h no_frames_is_no_want
+object_refused bytes inputs c version code object only StartFault.BadConfig h = object_is_refused bytes inputs c version code object only
+    StartFault.BadConfig h bad_config_is_no_want
 object_refused bytes inputs c version code object only StartFault.Memory h = tt
 
 -- what is not opened is not run

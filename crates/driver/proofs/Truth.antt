@@ -53,7 +53,8 @@ never_both : (o : Option ℕ) (n : ℕ) → o ≡ None → o ≡ Some n → ⊥
 never_both o n a b = cc
 
 -- each request has its cause, so the bound by requests is one by what the meaning calls for
-bounded_by : (fl : Flow) (inputs : List ℤ) (p : Program) (z : Size) (m : Machine) (r : Report) → IsPicture p z m r → HasCause fl p inputs r.events m → IsBounded p r.events
+bounded_by : (fl : Flow) (inputs : List ℤ) (p : Program) (z : Size) (m : Machine) (r : Report) → IsPicture p z m r → HasCause fl p inputs r.events m
+    → IsBounded p r.events
     → IsBoundedByMeaning fl inputs p r
 bounded_by fl inputs p z m r pic cause bound = record {
   run = cause.run;
@@ -89,7 +90,8 @@ reports_meaning inputs z steps by_list may_stop r fl p fit elements frames faith
             leads = exact.only;
             no_clash = exact.no_clash;
             deferred = deferred_are fl p z m r exact.state faithful.arrays shows.picture exact.readers;
-            frames = no_frame_is_out fl p z m r exact.state faithful.arrays shows.picture exact.readers (faithful.clean inputs z r.events m run ended.0 ended.1);
+            frames = no_frame_is_out fl p z m r exact.state faithful.arrays shows.picture exact.readers
+                (faithful.clean inputs z r.events m run ended.0 ended.1);
           };
       second_store = λ a i e. let ended = ends_at p z steps by_list may_stop r.events m r.end (Clash a i) e shows.ends in
           let same : array_base p a + i ≡ first_cell fl a + i = ap (λ ls. sum (take a ls) + i) faithful.arrays in
@@ -122,12 +124,15 @@ reports_truth text g bytes inputs c by_list may_stop r compiled shown =
       shows = shows;
       truth =
           let P : Program → Type 0 = λ q. Faithful (flow_of g) q in
-          reports_meaning inputs (size_of c) c.steps by_list may_stop r (flow_of g) code.program fit some_element shown.some_frame (subst P (sym made.program) made.promises.faithful) shows;
+          reports_meaning inputs (size_of c) c.steps by_list may_stop r (flow_of g) code.program fit some_element shown.some_frame
+          (subst P (sym made.program) made.promises.faithful) shows;
     }
 
 -- The order of a run of the object's code is that of a run of the graph's code.
-ordered : (text : List ℕ) (g : Graph) (bytes : List ℕ) (inputs : List ℤ) (c : Config) (by_list may_stop : Bool) (r : Report) (Ordered : Program → Config → List ℤ → Report → Type 0)
-    → (compiled : IsCompiled text g bytes) → ShowsObject bytes inputs c by_list may_stop r → RunsObject bytes inputs c Ordered r → Ordered compiled.object.code.program c inputs r
+ordered : (text : List ℕ) (g : Graph) (bytes : List ℕ) (inputs : List ℤ) (c : Config) (by_list may_stop : Bool) (r : Report) (Ordered : Program
+    → Config → List ℤ → Report → Type 0)
+    → (compiled : IsCompiled text g bytes) → ShowsObject bytes inputs c by_list may_stop r → RunsObject bytes inputs c Ordered r
+    → Ordered compiled.object.code.program c inputs r
 ordered text g bytes inputs c by_list may_stop r Ordered compiled shown runs =
     let O : Code → Type 0 = λ x. Ordered x.program c inputs r in
     subst O (sym (shown.only runs.version runs.code runs.object) ∙ shown.only g.version compiled.object.code compiled.object.object) runs.ordered
@@ -135,17 +140,23 @@ ordered text g bytes inputs c by_list may_stop r Ordered compiled shown runs =
 pub reports_in_turn : (text : List ℕ) (g : Graph) (bytes : List ℕ) (inputs : List ℤ) (c : Config) (r : Report)
     → IsCompiled text g bytes → ShowsObject bytes inputs c false false r → RunsObject bytes inputs c RunsByTurns r → ReportsTruth text g inputs c r
 unfolding reports_truth
-reports_in_turn text g bytes inputs c r compiled shown runs = (reports_truth text g bytes inputs c false false r compiled shown, ordered text g bytes inputs c false false r RunsByTurns compiled shown runs)
+reports_in_turn text g bytes inputs c r compiled shown runs = (
+  reports_truth text g bytes inputs c false false r compiled shown,
+  ordered text g bytes
+      inputs c false false r RunsByTurns compiled shown runs,
+)
 
 pub reports_by_list : (text : List ℕ) (g : Graph) (bytes : List ℕ) (inputs : List ℤ) (c : Config) (picks : List (ℕ × ℕ)) (r : Report)
-    → IsCompiled text g bytes → ShowsObject bytes inputs c true false r → RunsObject bytes inputs c (RunsByList picks) r → ReportsTruthByList text g inputs c picks r
+    → IsCompiled text g bytes → ShowsObject bytes inputs c true false r → RunsObject bytes inputs c (RunsByList picks) r
+    → ReportsTruthByList text g inputs c picks r
 unfolding reports_truth
 reports_by_list text g bytes inputs c picks r compiled shown runs =
     (reports_truth text g bytes inputs c true false r compiled shown, ordered text g bytes inputs c true false r (RunsByList picks) compiled shown runs)
 
 -- In each mode: only where the elements take turns on one thread is the order known.
 pub reports_in : (mode : Mode) (text : List ℕ) (g : Graph) (bytes : List ℕ) (inputs : List ℤ) (c : Config) (may_stop : Bool) (r : Report)
-    → IsCompiled text g bytes → ShowsObject bytes inputs c false (stops_in mode may_stop) r → (mode ≡ Mode.One → RunsObject bytes inputs c RunsByTurns r) → ReportsTruthIn mode text g inputs c may_stop r
+    → IsCompiled text g bytes → ShowsObject bytes inputs c false (stops_in mode may_stop) r
+    → (mode ≡ Mode.One → RunsObject bytes inputs c RunsByTurns r) → ReportsTruthIn mode text g inputs c may_stop r
 reports_in Mode.One text g bytes inputs c may_stop r compiled shown runs = reports_in_turn text g bytes inputs c r compiled shown (runs refl)
 reports_in Mode.Rounds text g bytes inputs c may_stop r compiled shown runs = reports_truth text g bytes inputs c false may_stop r compiled shown
 reports_in Mode.Free text g bytes inputs c may_stop r compiled shown runs = reports_truth text g bytes inputs c false may_stop r compiled shown
@@ -161,7 +172,8 @@ reports_quietly Mode.Free text g bytes inputs c may_stop r compiled (none, event
     (shown.good, shown.some_frame, (none, events, reports_truth text g bytes inputs c false may_stop (with_events r events) compiled shown))
 
 -- and a run of the graph's object with the moments of its events
-pub is_watched : (mode : Mode) (text : List ℕ) (g : Graph) (bytes : List ℕ) (inputs : List ℤ) (c : Config) (may_stop : Bool) (r : Report) (moments : List Moment)
+pub is_watched : (mode : Mode) (text : List ℕ) (g : Graph) (bytes : List ℕ) (inputs : List ℤ) (c : Config) (may_stop : Bool) (r : Report)
+    (moments : List Moment)
     → IsCompiled text g bytes → ShowsObject bytes inputs c false (stops_in mode may_stop) r → (mode ≡ Mode.One → RunsObject bytes inputs c RunsByTurns r)
     → AreMoments bytes inputs c r moments → IsWatched mode text g bytes inputs c may_stop r moments
 is_watched mode text g bytes inputs c may_stop r moments compiled shown runs seen = record {
@@ -170,6 +182,7 @@ is_watched mode text g bytes inputs c may_stop r moments compiled shown runs see
 }
 
 pub is_watched_in_rounds : (text : List ℕ) (g : Graph) (bytes : List ℕ) (inputs : List ℤ) (c : Config) (may_stop : Bool) (r : Report) (moments : List Moment)
-    → IsCompiled text g bytes → ShowsObject bytes inputs c false may_stop r → AreMoments bytes inputs c r moments → IsWatched Mode.Rounds text g bytes inputs c may_stop r moments
+    → IsCompiled text g bytes → ShowsObject bytes inputs c false may_stop r → AreMoments bytes inputs c r moments
+    → IsWatched Mode.Rounds text g bytes inputs c may_stop r moments
 is_watched_in_rounds text g bytes inputs c may_stop r moments compiled shown seen =
     is_watched Mode.Rounds text g bytes inputs c may_stop r moments compiled shown (λ one. absurd (let no : ⊥ = cc in no)) seen

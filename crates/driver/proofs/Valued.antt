@@ -21,7 +21,8 @@ reports_values text g inputs z steps by_list may_stop r t rest none =
       state = o.state;
       is_run = o.reached.is_run;
       shown = o.shown;
-      settled = runs_at_rest g inputs t.well_formed t.inputs_fit o.reached.run o.state o.reached.is_run o.at_rest (λ x. o.no_clash o.state x o.reached) (none_waits (flow_of g) o.state.tokens (sym o.deferred ∙ none));
+      settled = runs_at_rest g inputs t.well_formed t.inputs_fit o.reached.run o.state o.reached.is_run o.at_rest
+          (λ x. o.no_clash o.state x o.reached) (none_waits (flow_of g) o.state.tokens (sym o.deferred ∙ none));
     }
 
 pub modes_have : (mode : Mode) (text : List ℕ) (g : Graph) (inputs : List ℤ) (c : Config) (may_stop : Bool) (r : Report)

@@ -28,7 +28,8 @@ module _ (bytes : List ℕ) (inputs : List ℤ) (c : Config) (may_stop : Bool) (
   pub fit : length inputs ≡ inputs_of o.code.program
   fit = shows.inputs_fit ∙ ap inputs_of same
 
-  pub seen : (frames count : ℕ) (moments : List Moment) → c.elements * c.frames ≡ frames → inputs_of o.code.program ≡ count → IsReplay o.code.program frames count r.events (Ok moments)
+  pub seen : (frames count : ℕ) (moments : List Moment) → c.elements * c.frames ≡ frames → inputs_of o.code.program ≡ count
+      → IsReplay o.code.program frames count r.events (Ok moments)
       → AreMoments bytes inputs c r moments
   seen frames count moments all ins replay = (
     shows.shows.last,
@@ -36,7 +37,9 @@ module _ (bytes : List ℕ) (inputs : List ℤ) (c : Config) (may_stop : Bool) (
         (replay (size_of c) inputs shows.shows.last all (fit ∙ ins) run),
   )
 
-  pub is_a_run : (frames count : ℕ) (f : ReplayRefusal) → c.elements * c.frames ≡ frames → inputs_of o.code.program ≡ count → f ≡ NotARun → IsReplay o.code.program frames count r.events (Err f) → ⊥
+  pub is_a_run : (frames count : ℕ) (f : ReplayRefusal) → c.elements * c.frames ≡ frames → inputs_of o.code.program ≡ count → f ≡ NotARun
+      → IsReplay o.code.program frames count r.events (Err f) → ⊥
   is_a_run frames count f all ins never replay =
-      subst (λ (e : ReplayRefusal). OfRun (Err e) (λ moments. Watches o.code.program (size_of c) (at_start o.code.program inputs) r.events moments shows.shows.last)) never
+      subst (λ (e : ReplayRefusal). OfRun (Err e) (λ moments. Watches o.code.program (size_of c) (at_start o.code.program inputs) r.events moments
+      shows.shows.last)) never
       (replay (size_of c) inputs shows.shows.last all (fit ∙ ins) run)

@@ -28,7 +28,8 @@ AreMoments bytes inputs c r moments =
     let p = (opened bytes).code.program in
     (last : Machine) × Watches p (size_of c) (at_start p inputs) r.events moments last
 
-pub record IsWatched (mode : Mode) (text : List ℕ) (g : Graph) (bytes : List ℕ) (inputs : List ℤ) (c : Config) (may_stop : Bool) (r : Report) (moments : List Moment) : Type 0 where
+pub record IsWatched (mode : Mode) (text : List ℕ) (g : Graph) (bytes : List ℕ) (inputs : List ℤ) (c : Config) (may_stop : Bool) (r : Report)
+    (moments : List Moment) : Type 0 where
   pub lists : ListsEvents mode text g bytes inputs c may_stop r
   pub seen : AreMoments bytes inputs c r moments
 

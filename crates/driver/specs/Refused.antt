@@ -54,8 +54,10 @@ pub record IsReadyObject (bytes : List ℕ) (inputs : List ℤ) (config : Config
 -- Why a text has no well-formed graph: it has no graph at all, or one that is not well formed. `Memory` may be answered of any text: no definition
 -- says when an allocator refuses a growth.
 abbrev pub IsBadText : List ℕ → Fault → Type 0
-IsBadText text (Fault.Read r) = (text_from text ≡ Err (ReadCauses.fault_of r)) × ((ReadCauses.fault_of r).kind ≢ ReadFaultKind.Memory) × ((g : Graph) → IsText text g → ⊥)
-IsBadText text (Fault.Check r) = (g : Graph) × IsText text g × (first_fault g ≡ Some (CheckCauses.fault_of r)) × ((CheckCauses.fault_of r).kind ≢ CheckFaultKind.Memory) × (WellFormed g → ⊥)
+IsBadText text (Fault.Read r) = (text_from text ≡ Err (ReadCauses.fault_of r)) × ((ReadCauses.fault_of r).kind ≢ ReadFaultKind.Memory)
+    × ((g : Graph) → IsText text g → ⊥)
+IsBadText text (Fault.Check r) = (g : Graph) × IsText text g × (first_fault g ≡ Some (CheckCauses.fault_of r))
+    × ((CheckCauses.fault_of r).kind ≢ CheckFaultKind.Memory) × (WellFormed g → ⊥)
 IsBadText text Fault.Memory = ⊤
 IsBadText text fault = ⊥
 
@@ -79,7 +81,8 @@ refusal_of StartFault.Memory = Fault.Memory
 
 -- why a run of a text's graph cannot start: the first cause
 abbrev pub IsRefused : List ℕ → List ℤ → Config → Fault → Type 0
-IsRefused text inputs config (Fault.Start f) = (g : Graph) × (bytes : List ℕ) × (c : IsCompiled text g bytes) × IsCause c.object.code.program config inputs f × (f ≢ StartFault.Memory)
+IsRefused text inputs config (Fault.Start f) = (g : Graph) × (bytes : List ℕ) × (c : IsCompiled text g bytes)
+    × IsCause c.object.code.program config inputs f × (f ≢ StartFault.Memory)
 IsRefused text inputs config fault = IsRefusedText text fault
 
 -- why bytes are not opened: they are an object of no code, and this is their first fault
@@ -91,5 +94,6 @@ IsNoObject bytes fault = ⊥
 -- why a run of an object cannot start
 abbrev pub IsRefusedObject : List ℕ → List ℤ → Config → Fault → Type 0
 IsRefusedObject bytes inputs config (Fault.Start f) =
-    (version : ℕ) × (c : Code) × IsObject bytes version c × ((v : ℕ) (d : Code) → IsObject bytes v d → c ≡ d) × IsCause c.program config inputs f × (f ≢ StartFault.Memory)
+    (version : ℕ) × (c : Code) × IsObject bytes version c × ((v : ℕ) (d : Code) → IsObject bytes v d → c ≡ d) × IsCause c.program config inputs f
+    × (f ≢ StartFault.Memory)
 IsRefusedObject bytes inputs config fault = IsNoObject bytes fault

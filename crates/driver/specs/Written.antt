@@ -10,4 +10,5 @@ use Rattle.driver.specs.declared.compiling.CompileRefusal.TheVariants.{Fault, Wr
 abbrev pub WritesObject : Result ⊤ CompileRefusal → Option (List ℕ) → Option (List ℕ) → List ℕ → Type 0
 WritesObject (Ok x) old new text = (g : Graph) × (bytes : List ℕ) × IsCompiled text g bytes × Appends old new bytes
 WritesObject (Err (Fault f)) old new text = IsRefusedText text f × (new ≡ old)
-WritesObject (Err (Write e)) old new text = (g : Graph) × (bytes : List ℕ) × IsCompiled text g bytes × ((front : List ℕ) × (rest : List ℕ) × (bytes ≡ front ++ rest) × Appends old new front)
+WritesObject (Err (Write e)) old new text = (g : Graph) × (bytes : List ℕ) × IsCompiled text g bytes
+    × ((front : List ℕ) × (rest : List ℕ) × (bytes ≡ front ++ rest) × Appends old new front)

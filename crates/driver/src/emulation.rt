@@ -41,7 +41,8 @@ pub fn emulate_object<R: Threads + Wait + Sync, A: Allocator + Clone + Send + Sy
     rt: &R,
     gate: &G,
 ) -> Result<Report<A>, Fault>
-    ensures shows { MatchResult result (ShowsObject bytes.now inputs.now config false (stops_in mode G.may_stop)) (IsRefusedObject bytes.now inputs.now config) }
+    ensures shows { MatchResult result (ShowsObject bytes.now inputs.now config false (stops_in mode G.may_stop))
+        (IsRefusedObject bytes.now inputs.now config) }
     ensures turns { mode ≡ Mode.One → IfOk result (RunsObject bytes.now inputs.now config RunsByTurns) }
 {
     let code = open_code(&alloc, bytes)?;
@@ -127,7 +128,8 @@ pub fn emulate<R: Threads + Wait + Sync, A: Allocator + Clone + Send + Sync, G: 
     rt: &R,
     gate: &G,
 ) -> Result<Report<A>, Fault>
-    ensures { MatchResult result (λ report. (g : Graphs.Graph) × ReportsTruthIn mode text.now g inputs.now config G.may_stop report) (IsRefused text.now inputs.now config) }
+    ensures { MatchResult result (λ report. (g : Graphs.Graph) × ReportsTruthIn mode text.now g inputs.now config G.may_stop report)
+        (IsRefused text.now inputs.now config) }
 {
     let compiled = compile(alloc.clone()?, text)?;
     let bytes = compiled.object.bytes();
@@ -145,7 +147,8 @@ pub fn emulate_picks<A: Allocator + Clone>(
     picks: &[(u32, u64)],
 ) -> Result<Report<A>, Fault>
     requires { All (λ pick. pick.0 < config.elements) picks.now }
-    ensures { MatchResult result (λ report. (g : Graphs.Graph) × ReportsTruthByList text.now g inputs.now config picks.now report) (IsRefused text.now inputs.now config) }
+    ensures { MatchResult result (λ report. (g : Graphs.Graph) × ReportsTruthByList text.now g inputs.now config picks.now report)
+        (IsRefused text.now inputs.now config) }
 {
     let compiled = compile(alloc.clone()?, text)?;
     let bytes = compiled.object.bytes();

@@ -28,8 +28,11 @@ pub fn run_in<
     A: Allocator + Clone + Send + Sync,
     G: Gate + Sync,
 >(machine: Machine<'_, C, A>, mode: Mode, rt: &R, gate: &G) -> Report<A>
-    ensures shows { (inputs : List ℤ) → Began inputs machine.entry.state machine.entry.events → ShowsInOrder machine.entry.state.setting.program (size machine.entry.state.setting) inputs machine.entry.state.setting.steps false (stops_in mode G.may_stop) result }
-    ensures plays { mode ≡ Mode.One → (last : SoFar) × (halt : Halt) × (rounds : ℕ) × (made : Events) × Plays false (rounds_of rounds machine.entry.state.setting.elements) machine.entry.state last.state halt made × (last.events ≡ machine.entry.events ++ made) × IsReportOf last halt result }
+    ensures shows { (inputs : List ℤ) → Began inputs machine.entry.state machine.entry.events → ShowsInOrder machine.entry.state.setting.program
+        (size machine.entry.state.setting) inputs machine.entry.state.setting.steps false (stops_in mode G.may_stop) result }
+    ensures plays { mode ≡ Mode.One → (last : SoFar) × (halt : Halt) × (rounds : ℕ) × (made : Events)
+        × Plays false (rounds_of rounds machine.entry.state.setting.elements) machine.entry.state last.state halt made
+        × (last.events ≡ machine.entry.events ++ made) × IsReportOf last halt result }
 {
     match mode {
         Mode::One => machine.run_one(),
@@ -46,7 +49,8 @@ pub fn run_quietly_in<
     G: Gate + Sync,
 >(machine: Machine<'_, C, A>, mode: Mode, rt: &R, gate: &G) -> Report<A>
     ensures turns { mode ≡ Mode.One → Quietly (RunsInTurn machine.entry) result }
-    ensures shows { (inputs : List ℤ) → Began inputs machine.entry.state machine.entry.events → ShowsQuietly machine.entry.state.setting.program (size machine.entry.state.setting) inputs machine.entry.state.setting.steps false (stops_in mode G.may_stop) result }
+    ensures shows { (inputs : List ℤ) → Began inputs machine.entry.state machine.entry.events → ShowsQuietly machine.entry.state.setting.program
+        (size machine.entry.state.setting) inputs machine.entry.state.setting.steps false (stops_in mode G.may_stop) result }
 {
     match mode {
         Mode::One => machine.run_quietly(),

@@ -77,7 +77,8 @@ pub fn run_code<R: Threads + Wait + Sync, A: Allocator + Clone + Send + Sync, G:
     config: Config,
     mode: Mode,
 ) -> Result<Report<A>, Fault>
-    ensures shows { MatchResult result (ShowsObject code.now.bytes inputs.now config false (stops_in mode G.may_stop)) (IsRefusedObject code.now.bytes inputs.now config) }
+    ensures shows { MatchResult result (ShowsObject code.now.bytes inputs.now config false (stops_in mode G.may_stop))
+        (IsRefusedObject code.now.bytes inputs.now config) }
     ensures turns { mode ≡ Mode.One → IfOk result (RunsObject code.now.bytes inputs.now config RunsByTurns) }
 {
     let Resources { alloc, rt, gate } = resources;
@@ -136,7 +137,8 @@ pub fn run_code_counted<
     inputs: &[i64],
     config: Config,
 ) -> Result<Counted<A>, Fault>
-    ensures shows { MatchResult result (λ c. ShowsObject code.now.bytes inputs.now config false G.may_stop c.report) (IsRefusedObject code.now.bytes inputs.now config) }
+    ensures shows { MatchResult result (λ c. ShowsObject code.now.bytes inputs.now config false G.may_stop c.report)
+        (IsRefusedObject code.now.bytes inputs.now config) }
     ensures rounds { IfOk result (λ c. RunsObject code.now.bytes inputs.now config (RunsByRounds G.may_stop c.rounds) c.report) }
 {
     let Resources { alloc, rt, gate } = resources;

@@ -63,7 +63,8 @@ pub fn watch_code<R: Threads + Wait + Sync, A: Allocator + Clone + Send + Sync, 
     config: Config,
     mode: Mode,
 ) -> Result<Watched<A>, Fault>
-    ensures shows { MatchResult result (λ w. ShowsObject code.now.bytes inputs.now config false (stops_in mode G.may_stop) w.report) (IsRefusedObject code.now.bytes inputs.now config) }
+    ensures shows { MatchResult result (λ w. ShowsObject code.now.bytes inputs.now config false (stops_in mode G.may_stop) w.report)
+        (IsRefusedObject code.now.bytes inputs.now config) }
     ensures turns { mode ≡ Mode.One → IfOk result (λ w. RunsObject code.now.bytes inputs.now config RunsByTurns w.report) }
     ensures moments { IfOk result (λ w. AreMoments code.now.bytes inputs.now config w.report w.moments.items) }
 {
@@ -81,7 +82,8 @@ pub fn watch_object<R: Threads + Wait + Sync, A: Allocator + Clone + Send + Sync
     config: Config,
     mode: Mode,
 ) -> Result<Watched<A>, Fault>
-    ensures shows { MatchResult result (λ w. ShowsObject object.now.bytes inputs.now config false (stops_in mode G.may_stop) w.report) (IsRefusedObject object.now.bytes inputs.now config) }
+    ensures shows { MatchResult result (λ w. ShowsObject object.now.bytes inputs.now config false (stops_in mode G.may_stop) w.report)
+        (IsRefusedObject object.now.bytes inputs.now config) }
     ensures turns { mode ≡ Mode.One → IfOk result (λ w. RunsObject object.now.bytes inputs.now config RunsByTurns w.report) }
     ensures moments { IfOk result (λ w. AreMoments object.now.bytes inputs.now config w.report w.moments.items) }
 {
@@ -104,7 +106,8 @@ pub fn watch_rounds<R: Threads + Wait + Sync, A: Allocator + Clone + Send + Sync
     inputs: &[i64],
     config: Config,
 ) -> Result<WatchedRounds<A>, Fault>
-    ensures shows { MatchResult result (λ w. ShowsObject code.now.bytes inputs.now config false G.may_stop w.watched.report) (IsRefusedObject code.now.bytes inputs.now config) }
+    ensures shows { MatchResult result (λ w. ShowsObject code.now.bytes inputs.now config false G.may_stop w.watched.report)
+        (IsRefusedObject code.now.bytes inputs.now config) }
     ensures rounds { IfOk result (λ w. RunsObject code.now.bytes inputs.now config (RunsByRounds G.may_stop w.rounds) w.watched.report) }
     ensures moments { IfOk result (λ w. AreMoments code.now.bytes inputs.now config w.watched.report w.watched.moments.items) }
 {

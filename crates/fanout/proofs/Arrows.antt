@@ -1,5 +1,6 @@
 -- Destinations of a narrowed plan: each is a later instruction of its block.
-use Rattle.std.proofs.Common.{◌≡◌, ℕ, ◌+◌, ◌-◌, ◌*◌, ◌<◌, ◌≤◌, Bool, true, false, List, ◌∷◌, ◌++◌, map, length, refl, sym, ap, ◌∙◌, subst, inl, inr, ◌⊎◌, arith, Option, Some, None, nat_lt, if◌then◌else◌, []}
+use Rattle.std.proofs.Common.{◌≡◌, ℕ, ◌+◌, ◌-◌, ◌*◌, ◌<◌, ◌≤◌, Bool, true, false, List, ◌∷◌, ◌++◌, map, length, refl, sym, ap, ◌∙◌, subst, inl, inr}
+use Rattle.std.proofs.Common.{◌⊎◌, arith, Option, Some, None, nat_lt, if◌then◌else◌, []}
 use Rattle.std.specs.Prelude.{slice_get, Contains}
 use Rattle.std.proofs.lemmas.Bool.{ltb-true, ltb-false}
 use Rattle.std.specs.Option.{option_map}
@@ -38,7 +39,8 @@ Leaf l n at ds d = (e : Dest) × Contains ds e × (leaf l n at e ≡ d)
 side_cases : (l : Layout) (n at root : ℕ) (ds : List Dest) (d : Dest) → Contains (side l n at root ds) d → Root at root ds d ⊎ Leaf l n at ds d
 side_cases l n at root ds d h = by_test (nat_lt 1 (length ds)) refl h
   where
-    by_test : (t : Bool) → nat_lt 1 (length ds) ≡ t → Contains (if t then dest_at at root Left ∷ [] else map (leaf l n at) ds) d → Root at root ds d ⊎ Leaf l n at ds d
+    by_test : (t : Bool) → nat_lt 1 (length ds) ≡ t → Contains (if t then dest_at at root Left ∷ [] else map (leaf l n at) ds) d
+        → Root at root ds d ⊎ Leaf l n at ds d
     by_test true t h = pick (contains_cases (dest_at at root Left) [] d h)
       where
         pick : (dest_at at root Left ≡ d) ⊎ Contains [] d → Root at root ds d ⊎ Leaf l n at ds d
@@ -46,11 +48,13 @@ side_cases l n at root ds d h = by_test (nat_lt 1 (length ds)) refl h
         pick (inr k) = absurd (contains_none d k)
     by_test false t h = let m = contains_mapped (leaf l n at) ds d h in inr (m.0, m.1, m.2)
 
-child_cases : (l : Layout) (n at j : ℕ) (ds : List Dest) (c : ℕ) → c ≤ 2 * copies ds → 0 < copies ds → ((c < copies ds) × (dest_at j c Left ≡ child l n at j ds c)) ⊎ Leaf l n at ds (child l n at j ds c)
+child_cases : (l : Layout) (n at j : ℕ) (ds : List Dest) (c : ℕ) → c ≤ 2 * copies ds → 0 < copies ds
+    → ((c < copies ds) × (dest_at j c Left ≡ child l n at j ds c)) ⊎ Leaf l n at ds (child l n at j ds c)
 child_cases l n at j ds c high some = by_test (nat_lt c (copies ds)) refl
   where
     by_test : (t : Bool) → nat_lt c (copies ds) ≡ t
-        → ((c < copies ds) × (dest_at j c Left ≡ (if t then dest_at j c Left else leaf_or l n at (slice_get ds (c - copies ds))))) ⊎ Leaf l n at ds (if t then dest_at j c Left else leaf_or l n at (slice_get ds (c - copies ds)))
+        → ((c < copies ds) × (dest_at j c Left ≡ (if t then dest_at j c Left else leaf_or l n at (slice_get ds (c - copies ds))))) ⊎ Leaf l n at ds
+        (if t then dest_at j c Left else leaf_or l n at (slice_get ds (c - copies ds)))
     by_test true t = inl (ltb-true c (copies ds) t, refl)
     by_test false t =
         let k = ltb-false c (copies ds) t in
@@ -65,7 +69,8 @@ Known p c G v i =
     × ((at q ahead : ℕ) → at + ahead ≡ base_of (l p c) v + q → 0 < ahead → q < size (parted i) → G at (record { ahead = ahead; port = Left }))
 
 module _ (p : Plan) (c : CodeBlock) (v : ℕ) (i : Instr) (here : slice_get (is p c) v ≡ Some (parted i))
-    (apart : (d : Dest) → Contains (i.firsts ++ i.seconds) d → AreApart (ts p c) v (v + d.ahead)) (dests : (d : Dest) → Contains (i.firsts ++ i.seconds) d → IsDest c v d) where
+    (apart : (d : Dest) → Contains (i.firsts ++ i.seconds) d → AreApart (ts p c) v (v + d.ahead)) (dests : (d : Dest)
+    → Contains (i.firsts ++ i.seconds) d → IsDest c v d) where
   abbrev made : List Instr
   made = (narrowed_block p c).instrs
 
@@ -101,7 +106,8 @@ module _ (p : Plan) (c : CodeBlock) (v : ℕ) (i : Instr) (here : slice_get (is 
       record {
         later = omega (arith, low, far);
         inside = omega (arith, within, z);
-        right = λ r. ap (λ m. is_dyadic (slice_get made m)) z ∙ ap is_dyadic new ∙ dyadic_same (moved (l p c) t (parted to.0)) to.0 refl refl ∙ sym (ap is_dyadic to.1) ∙ old.right r;
+        right = λ r. ap (λ m. is_dyadic (slice_get made m)) z ∙ ap is_dyadic new ∙ dyadic_same (moved (l p c) t (parted to.0)) to.0 refl refl
+            ∙ sym (ap is_dyadic to.1) ∙ old.right r;
       }
 
   -- a copy, named by what is before it
@@ -135,21 +141,25 @@ module _ (p : Plan) (c : CodeBlock) (v : ℕ) (i : Instr) (here : slice_get (is 
 
         pick : Root (place_of (l p c) v) (base + o) ds d ⊎ Leaf (l p c) v (place_of (l p c) v) ds d → G (place_of (l p c) v) d
         pick (inl (some, e)) =
-            subst (G (place_of (l p c) v)) e (known.1 (place_of (l p c) v) o (base + o - place_of (l p c) v) (omega (arith, first)) (omega (arith, first)) (omega (arith, fits, some)))
+            subst (G (place_of (l p c) v)) e (known.1 (place_of (l p c) v) o (base + o - place_of (l p c) v) (omega (arith, first))
+            (omega (arith, first)) (omega (arith, fits, some)))
         pick (inr (a, k, e)) = subst (G (place_of (l p c) v)) e (known.0 (place_of (l p c) v) a (omega (arith, first)) (part a k))
 
     child_is : (j k : ℕ) → j < copies ds → j < k → k ≤ 2 * copies ds → G (base + o + j) (child (l p c) v (base + o + j) j ds k)
     child_is j k low up high = pick (child_cases (l p c) v (base + o + j) j ds k high (omega (arith, low)))
       where
-        pick : ((k < copies ds) × (dest_at j k Left ≡ child (l p c) v (base + o + j) j ds k)) ⊎ Leaf (l p c) v (base + o + j) ds (child (l p c) v (base + o + j) j ds k)
+        pick : ((k < copies ds) × (dest_at j k Left ≡ child (l p c) v (base + o + j) j ds k)) ⊎ Leaf (l p c) v (base + o + j) ds
+            (child (l p c) v (base + o + j) j ds k)
             → G (base + o + j) (child (l p c) v (base + o + j) j ds k)
-        pick (inl (some, e)) = subst (G (base + o + j)) e (known.1 (base + o + j) (o + k) (k - j) (omega (arith, up)) (omega (arith, up)) (omega (arith, fits, some)))
+        pick (inl (some, e)) = subst (G (base + o + j)) e (known.1 (base + o + j) (o + k) (k - j) (omega (arith, up)) (omega (arith, up))
+            (omega (arith, fits, some)))
         pick (inr (a, h, e)) = subst (G (base + o + j)) e (known.0 (base + o + j) a (omega (arith, fits, low)) (part a h))
 
     abbrev kid : ℕ → ℕ → Dest
     kid j k = child (l p c) v (base + o + j) j ds k
 
-    copy_names : (j : ℕ) (d : Dest) → j < copies ds → Contains ((copy_at (l p c) v (base + o + j) j ds).firsts ++ (copy_at (l p c) v (base + o + j) j ds).seconds) d → G (base + o + j) d
+    copy_names : (j : ℕ) (d : Dest) → j < copies ds → Contains ((copy_at (l p c) v (base + o + j) j ds).firsts
+        ++ (copy_at (l p c) v (base + o + j) j ds).seconds) d → G (base + o + j) d
     copy_names j d low h = pick (contains_cases (kid j (2 * j + 1)) (kid j (2 * j + 2) ∷ []) d h)
       where
         last : (kid j (2 * j + 2) ≡ d) ⊎ Contains [] d → G (base + o + j) d
@@ -182,7 +192,8 @@ module _ (p : Plan) (c : CodeBlock) (v : ℕ) (i : Instr) (here : slice_get (is 
       z = omega arith
 
       pick : Contains (moved (l p c) v (parted i)).firsts d ⊎ Contains (moved (l p c) v (parted i)).seconds d → G (place_of (l p c) v) d
-      pick (inl k) = side_is ones 0 (omega arith) (λ d h. whole d (Contains-append_left ones twos d h)) d (subst (λ root. Contains (side (l p c) v (place_of (l p c) v) root ones) d) (sym z) k)
+      pick (inl k) = side_is ones 0 (omega arith) (λ d h. whole d (Contains-append_left ones twos d h)) d
+          (subst (λ root. Contains (side (l p c) v (place_of (l p c) v) root ones) d) (sym z) k)
       pick (inr k) = side_is twos (copies ones) (omega arith) (λ d h. whole d (Contains-append_right ones twos d h)) d k
 
   copied_names : (j : ℕ) (y : Instr) (d : Dest) → slice_get (copies_of (l p c) v (parted i)) j ≡ Some y → Contains (y.firsts ++ y.seconds) d → G (base + j) d
@@ -201,17 +212,21 @@ module _ (p : Plan) (c : CodeBlock) (v : ℕ) (i : Instr) (here : slice_get (is 
       of_first f =
           let low : j < copies ones = (let k = slice_get_within first_tree j y f in omega (arith, k, long)) in
           let z : base + 0 + j ≡ base + j = omega arith in
-          let same : copy_at (l p c) v (base + 0 + j) j ones ≡ y = ap (λ at. copy_at (l p c) v at j ones) z ∙ some _ _ (sym (get-tree (l p c) v base ones (copies ones) j low) ∙ f) in
+          let same : copy_at (l p c) v (base + 0 + j) j ones ≡ y = ap (λ at. copy_at (l p c) v at j ones) z
+          ∙ some _ _ (sym (get-tree (l p c) v base ones (copies ones) j low) ∙ f) in
           subst (λ at. G at d) z
-          (copy_names ones 0 (omega arith) (λ d h. whole d (Contains-append_left ones twos d h)) j d low (subst (λ (y : Instr). Contains (y.firsts ++ y.seconds) d) (sym same) h))
+          (copy_names ones 0 (omega arith) (λ d h. whole d (Contains-append_left ones twos d h)) j d low
+          (subst (λ (y : Instr). Contains (y.firsts ++ y.seconds) d) (sym same) h))
 
       of_second : (k : ℕ) → j ≡ length first_tree + k → slice_get second_tree k ≡ Some y → G (base + j) d
       of_second k g f =
           let low : k < copies twos = (let m = slice_get_within second_tree k y f in omega (arith, m, long')) in
           let z : base + copies ones + k ≡ base + j = omega (arith, g, long) in
-          let same : copy_at (l p c) v (base + copies ones + k) k twos ≡ y = some _ _ (sym (get-tree (l p c) v (base + copies ones) twos (copies twos) k low) ∙ f) in
+          let same : copy_at (l p c) v (base + copies ones + k) k twos
+          ≡ y = some _ _ (sym (get-tree (l p c) v (base + copies ones) twos (copies twos) k low) ∙ f) in
           subst (λ at. G at d) z
-          (copy_names twos (copies ones) (omega arith) (λ d h. whole d (Contains-append_right ones twos d h)) k d low (subst (λ (y : Instr). Contains (y.firsts ++ y.seconds) d) (sym same) h))
+          (copy_names twos (copies ones) (omega arith) (λ d h. whole d (Contains-append_right ones twos d h)) k d low
+          (subst (λ (y : Instr). Contains (y.firsts ++ y.seconds) d) (sym same) h))
 
       pick : (slice_get first_tree j ≡ Some y) ⊎ ((k : ℕ) × (j ≡ length first_tree + k) × (slice_get second_tree k ≡ Some y)) → G (base + j) d
       pick (inl f) = of_first f
@@ -227,7 +242,8 @@ names_all p c G known n y d there named = pick (comes_here (ts p c) (is p c) (al
         let q = map_get_back parted c.instrs m.v m.i m.there in
         let here : slice_get (is p c) m.v ≡ Some (parted q.0) = m.there ∙ ap Some (sym q.2) in
         subst (λ n. G n d) (sym m.at)
-        (moved_names p c m.v q.0 here G (known m.v q.0 q.1) d (subst (λ (y : Instr). Contains (y.firsts ++ y.seconds) d) (sym (ap (moved (l p c) m.v) q.2 ∙ m.what)) named))
+        (moved_names p c m.v q.0 here G (known m.v q.0 q.1) d (subst (λ (y : Instr). Contains (y.firsts ++ y.seconds) d)
+        (sym (ap (moved (l p c) m.v) q.2 ∙ m.what)) named))
     pick (inr m) =
         let q = map_get_back parted c.instrs m.v m.i m.there in
         let here : slice_get (is p c) m.v ≡ Some (parted q.0) = m.there ∙ ap Some (sym q.2) in
@@ -248,5 +264,6 @@ dests_stay p leaves old b n c d h = of_old o.0 o.1 o.2
     of_old : (x : CodeBlock) → slice_get p.program.blocks b ≡ Some x → narrowed_block p x ≡ c → IsDest c n d
     of_old x at same = subst (λ c. IsDest c n d) same
         (names_all p x (IsDest (narrowed_block p x))
-        (λ v i e. dests_known p x v i (in_parts x v i e) (λ d k. leaves b v x d (record { i = i; block = at; there = e; named = k })) (λ d k. old b v x d (record { i = i; block = at; there = e; named = k })))
+        (λ v i e. dests_known p x v i (in_parts x v i e) (λ d k. leaves b v x d (record { i = i; block = at; there = e; named = k }))
+        (λ d k. old b v x d (record { i = i; block = at; there = e; named = k })))
         n h.i d (ap (λ (c : CodeBlock). slice_get c.instrs n) same ∙ h.there) h.named)

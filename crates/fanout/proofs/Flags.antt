@@ -1,5 +1,6 @@
 -- Which instructions are tied, where there is no link: the entries but the last one.
-use Rattle.std.proofs.Common.{◌≡◌, ℕ, zero, suc, ◌+◌, ◌-◌, ◌<◌, ◌≤◌, Bool, true, false, List, ◌∷◌, length, replicate, refl, sym, ap, ◌∙◌, inl, inr, ◌⊎◌, arith, true≢false, Some, if◌then◌else◌, length-set, []}
+use Rattle.std.proofs.Common.{◌≡◌, ℕ, zero, suc, ◌+◌, ◌-◌, ◌<◌, ◌≤◌, Bool, true, false, List, ◌∷◌, length, replicate, refl, sym, ap, ◌∙◌, inl, inr}
+use Rattle.std.proofs.Common.{◌⊎◌, arith, true≢false, Some, if◌then◌else◌, length-set, []}
 use Rattle.std.specs.Prelude.{slice_get, slice_set}
 use Rattle.std.proofs.lemmas.Bool.{cases_eq}
 use Rattle.std.proofs.lemmas.List.{get_or-set_same, get_or-set_other}
@@ -41,18 +42,22 @@ tie_these ts from (suc c) k l h there = pick (cases_eq k (from + c)) (tie_these 
     len : length (tie ts from c) ≡ length ts
     len = tie_length ts from c
 
-    pick : (k ≡ from + c) ⊎ (k ≡ from + c → ⊥) → (from ≤ k → k < from + c → k < length ts → is_tied (tie ts from c) k ≡ true) → is_tied (slice_set (tie ts from c) (from + c) true) k ≡ true
-    pick (inl e) more = ap (is_tied (slice_set (tie ts from c) (from + c) true)) e ∙ get_or-set_same (tie ts from c) (from + c) true false (omega (arith, there, len, e))
+    pick : (k ≡ from + c) ⊎ (k ≡ from + c → ⊥) → (from ≤ k → k < from + c → k < length ts → is_tied (tie ts from c) k ≡ true)
+        → is_tied (slice_set (tie ts from c) (from + c) true) k ≡ true
+    pick (inl e) more = ap (is_tied (slice_set (tie ts from c) (from + c) true)) e ∙ get_or-set_same (tie ts from c) (from + c) true false
+        (omega (arith, there, len, e))
     pick (inr d) more = get_or-set_other (tie ts from c) (from + c) k true false d ∙ more l (omega (arith, h, d)) there
 
 -- the instructions of the first row keep their places
-pub place_tied : (ts : List Bool) (n before copied : ℕ) (is : List Instr) (v m : ℕ) → ((k : ℕ) → k < v → is_tied ts (n + k) ≡ true) → slice_get (places_from ts n before copied is) v ≡ Some m → m ≡ n + v + before
+pub place_tied : (ts : List Bool) (n before copied : ℕ) (is : List Instr) (v m : ℕ) → ((k : ℕ) → k < v → is_tied ts (n + k) ≡ true)
+    → slice_get (places_from ts n before copied is) v ≡ Some m → m ≡ n + v + before
 place_tied ts n before copied [] v m h e = absurd (cc)
 place_tied ts n before copied (i ∷ is) zero m h e = let k = same_Some (n + before) m e in omega (arith, k)
 place_tied ts n before copied (i ∷ is) (suc v) m h e =
     let z : n + 0 ≡ n = omega arith in
     let t : is_tied ts n ≡ true = sym (ap (is_tied ts) z) ∙ h 0 (omega arith) in
-    let r = place_tied ts (n + 1) before (copied + size i) is v m (λ k l. let y : n + 1 + k ≡ n + suc k = omega arith in ap (is_tied ts) y ∙ h (suc k) (omega (arith, l)))
+    let r = place_tied ts (n + 1) before (copied + size i) is v m (λ k l. let y : n + 1 + k ≡ n + suc k = omega arith in ap (is_tied ts) y
+    ∙ h (suc k) (omega (arith, l)))
     (sym (ap (λ (t : Bool). slice_get (places_from ts (n + 1) (if t then before else copied + size i) (copied + size i) is) v) t) ∙ e) in
     omega (arith, r)
 
@@ -87,4 +92,5 @@ all_keeps p ts n (i ∷ is) k h = all_keeps p (tie_instr p ts n i i.op) (n + 1) 
 pub entries_tied : (p : Plan) (inputs : ℕ) (is : List Instr) (k : ℕ) → k < inputs → k < length is → is_tied (tied_in p inputs is) k ≡ true
 entries_tied p inputs is k h there =
     let len = length_of_falses (length is) in
-    all_keeps p (tie (replicate (length is) false) 0 inputs) 0 is k (tie_these (replicate (length is) false) 0 inputs k (omega arith) (omega (arith, h)) (omega (arith, there, len)))
+    all_keeps p (tie (replicate (length is) false) 0 inputs) 0 is k (tie_these (replicate (length is) false) 0 inputs k (omega arith)
+    (omega (arith, h)) (omega (arith, there, len)))

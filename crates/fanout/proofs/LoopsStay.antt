@@ -64,7 +64,8 @@ block_opens p c = spread_opens (layout_of p c) 0 [] (parts_of c) refl ∙ parts_
 pub still_has_bounds : StillHasBounds
 still_has_bounds fl p h = (
   length-map p.program.blocks (narrowed_block p) ∙ h.0,
-  λ b e g at named. let o = map_get_back (narrowed_block p) p.program.blocks b e at in subst (λ xs. IsPermutation xs (loop_bounds g)) (sym (block_opens p o.0) ∙ ap open_bounds o.2) (h.1 b o.0 g o.1 named),
+  λ b e g at named. let o = map_get_back (narrowed_block p) p.program.blocks b e at in subst (λ xs. IsPermutation xs (loop_bounds g))
+      (sym (block_opens p o.0) ∙ ap open_bounds o.2) (h.1 b o.0 g o.1 named),
 )
 
 pub keeps_arrays : KeepsArrays

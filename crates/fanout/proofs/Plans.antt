@@ -1,5 +1,6 @@
 -- A narrowed plan is a plan: each of its instructions is an old one in its place, or a copy.
-use Rattle.std.proofs.Common.{◌≡◌, ◌≢◌, ℕ, zero, suc, ◌+◌, ◌<◌, Bool, true, false, ◌&&◌, List, ◌∷◌, length, replicate, refl, sym, ap, ◌∙◌, subst, inl, inr, ◌⊎◌, arith, Some, None, not-suc-le-zero, le_of_suc-le-suc, map, []}
+use Rattle.std.proofs.Common.{◌≡◌, ◌≢◌, ℕ, zero, suc, ◌+◌, ◌<◌, Bool, true, false, ◌&&◌, List, ◌∷◌, length, replicate, refl, sym, ap, ◌∙◌, subst}
+use Rattle.std.proofs.Common.{inl, inr, ◌⊎◌, arith, Some, None, not-suc-le-zero, le_of_suc-le-suc, map, []}
 use Rattle.std.specs.Option.{option_map}
 use Rattle.std.specs.Prelude.{slice_get, All}
 use Rattle.std.proofs.lemmas.Option.{slice_get_within, slice_get-get_or, get_or_from_slice_get, slice_get-map}
@@ -36,10 +37,12 @@ Copies i = i.op ≡ Program.Copy
 
 tree_copies : (l : Layout) (n root : ℕ) (ds : List Dest) (k : ℕ) → All Copies (tree l n root ds k)
 tree_copies l n root ds zero = All-nil Copies
-tree_copies l n root ds (suc k) = All-append Copies (tree l n root ds k) (copy_at l n (root + k) k ds ∷ []) (tree_copies l n root ds k) (All-cons Copies (copy_at l n (root + k) k ds) [] refl (All-nil Copies))
+tree_copies l n root ds (suc k) = All-append Copies (tree l n root ds k) (copy_at l n (root + k) k ds ∷ []) (tree_copies l n root ds k)
+    (All-cons Copies (copy_at l n (root + k) k ds) [] refl (All-nil Copies))
 
 pub all_copies : (l : Layout) (n : ℕ) (i : Instr) → All Copies (copies_of l n i)
-all_copies l n i = All-append Copies _ _ (tree_copies l n (base_of l n) i.firsts (copies i.firsts)) (tree_copies l n (base_of l n + copies i.firsts) i.seconds (copies i.seconds))
+all_copies l n i = All-append Copies _ _ (tree_copies l n (base_of l n) i.firsts (copies i.firsts)) (tree_copies l n (base_of l n + copies i.firsts)
+    i.seconds (copies i.seconds))
 
 no_slot : (i : Instr) (h : ℕ) → i.op ≡ Program.Copy → slot_of i i.op ≡ Some h → ⊥
 no_slot i h e s = impossible (sym (ap (slot_of i) e) ∙ s)
@@ -111,10 +114,20 @@ module _ (p : Plan) (c : CodeBlock) where
           })
       pick (inr o) =
           let k = slice_get_within (copies_of l o.v o.i) o.j y o.what in let s = sized l o.v o.i in
-          inr (record { v = o.v; i = o.i; j = o.j; there = o.there; below = omega (arith, k, s); at = o.at; op = all_at Copies (copies_of l o.v o.i) o.j y (all_copies l o.v o.i) o.what })
+          inr (record {
+            v = o.v;
+            i = o.i;
+            j = o.j;
+            there = o.there;
+            below = omega (arith, k, s);
+            at = o.at;
+            op = all_at Copies (copies_of l o.v o.i)
+                o.j y (all_copies l o.v o.i) o.what;
+          })
 
   -- what has a slot is an old instruction
-  held_is_old : (x h : ℕ) (y : Instr) → slice_get (narrowed_block p c).instrs x ≡ Some y → slot_of y y.op ≡ Some h → (o : IsOld x y) × (slot_of o.i o.i.op ≡ Some h)
+  held_is_old : (x h : ℕ) (y : Instr) → slice_get (narrowed_block p c).instrs x ≡ Some y → slot_of y y.op ≡ Some h → (o : IsOld x y)
+      × (slot_of o.i o.i.op ≡ Some h)
   held_is_old x h y e s = pick (origin_of x y e)
     where
       pick : IsOld x y ⊎ IsNew x y → (o : IsOld x y) × (slot_of o.i o.i.op ≡ Some h)
@@ -129,7 +142,8 @@ module _ (p : Plan) (c : CodeBlock) where
       let a = held_is_old m h i e s in let b = held_is_old n h j f t in
       pick a.0 b.0 (old a.0.v b.0.v h a.0.i b.0.i a.0.there b.0.there a.1 b.1)
     where
-      pick : (o : IsOld m i) (q : IsOld n j) → (o.v ≡ q.v) ⊎ ((is_credit o.i.op ≡ true) × (is_credit q.i.op ≡ true) × (is_open o.i.op && is_open q.i.op ≡ false))
+      pick : (o : IsOld m i) (q : IsOld n j) → (o.v ≡ q.v) ⊎ ((is_credit o.i.op ≡ true) × (is_credit q.i.op ≡ true)
+          × (is_open o.i.op && is_open q.i.op ≡ false))
           → (m ≡ n) ⊎ ((is_credit i.op ≡ true) × (is_credit j.op ≡ true) × (is_open i.op && is_open j.op ≡ false))
       pick o q (inl g) = inl (same_place m n i j o q g)
       pick o q (inr (g, k, u)) = inr (ap is_credit o.op ∙ g, ap is_credit q.op ∙ k, (λ z. is_open (o.op z) && is_open (q.op z)) ∙ u)
@@ -137,8 +151,11 @@ module _ (p : Plan) (c : CodeBlock) where
   pub loops : LoopsAgree c → LoopsAgree (narrowed_block p c)
   loops old m n h i j e f s t =
       let a = held_is_old m h i e s in let b = held_is_old n h j f t in
-      let k = old a.0.v b.0.v h a.0.i b.0.i a.0.there b.0.there a.1 b.1 in
-      (ap (λ op. bound_of (part_of op)) a.0.op ∙ k.0 ∙ sym (ap (λ op. bound_of (part_of op)) b.0.op), λ g. same_place m n i j a.0 b.0 (k.1 (sym (ap part_of a.0.op) ∙ g ∙ ap part_of b.0.op)))
+      let k = old a.0.v b.0.v h a.0.i b.0.i a.0.there b.0.there a.1 b.1 in (
+        ap (λ op. bound_of (part_of op)) a.0.op ∙ k.0 ∙ sym (ap (λ op. bound_of (part_of op)) b.0.op),
+        λ g. same_place m n i j a.0 b.0
+            (k.1 (sym (ap part_of a.0.op) ∙ g ∙ ap part_of b.0.op)),
+      )
 
   pub at_place : (n : ℕ) (i : Instr) → slice_get c.instrs n ≡ Some i → slice_get (narrowed_block p c).instrs (place_of l n) ≡ Some (moved l n (parted i))
   at_place n i e = stands ts is all n (parted i) (part_here c.instrs n i e)
@@ -169,7 +186,8 @@ module _ (p : Plan) (c : CodeBlock) where
     old_mark : (x : ℕ) (y : Instr) (o : IsOld x y) → slice_get (narrowed_marks p ms c) x ≡ Some (mark_of ms o.v)
     old_mark x y o =
         let i = slice_here o in
-        ap (slice_get (narrowed_marks p ms c)) o.at ∙ one_at ts (λ n i. mark_of ms n) unmarked (λ n i. length-replicate (size i) Unmarked) is o.v (place_of l o.v) (parted o.i) i (place_is ts is all o.v (parted o.i) i)
+        ap (slice_get (narrowed_marks p ms c)) o.at ∙ one_at ts (λ n i. mark_of ms n) unmarked (λ n i. length-replicate (size i) Unmarked) is o.v
+        (place_of l o.v) (parted o.i) i (place_is ts is all o.v (parted o.i) i)
       where
         slice_here : (o : IsOld x y) → slice_get is o.v ≡ Some (parted o.i)
         slice_here o = slice_get-map parted c.instrs o.v ∙ ap (option_map parted) o.there
@@ -182,13 +200,16 @@ module _ (p : Plan) (c : CodeBlock) where
     new_mark : (x : ℕ) (y : Instr) (o : IsNew x y) → slice_get (narrowed_marks p ms c) x ≡ Some Unmarked
     new_mark x y o =
         ap (slice_get (narrowed_marks p ms c)) o.at
-        ∙ more_at ts (λ n i. mark_of ms n) unmarked (λ n i. length-replicate (size i) Unmarked) is o.v (base_of l o.v) o.j o.i Unmarked all o.there (base_is ts is all o.v o.i o.there) (none_here (size o.i) o.j o.below)
+        ∙ more_at ts (λ n i. mark_of ms n) unmarked (λ n i. length-replicate (size i) Unmarked) is o.v (base_of l o.v) o.j o.i Unmarked all o.there
+        (base_is ts is all o.v o.i o.there) (none_here (size o.i) o.j o.below)
 
 -- ALL BLOCKS
-all_marks_get : (p : Plan) (n : ℕ) (cs : List CodeBlock) (k : ℕ) (c : CodeBlock) → slice_get cs k ≡ Some c → slice_get (all_marks p n cs) k ≡ Some (narrowed_marks p (marks_in p (n + k)) c)
+all_marks_get : (p : Plan) (n : ℕ) (cs : List CodeBlock) (k : ℕ) (c : CodeBlock) → slice_get cs k ≡ Some c → slice_get (all_marks p n cs) k
+    ≡ Some (narrowed_marks p (marks_in p (n + k)) c)
 all_marks_get p n [] k c e = absurd (cc)
 all_marks_get p n (d ∷ cs) zero c e = let z : n ≡ n + 0 = omega arith in let f : d ≡ c = cc in (λ k. Some (narrowed_marks p (marks_in p (z k)) (f k)))
-all_marks_get p n (d ∷ cs) (suc k) c e = let z : n + 1 + k ≡ n + suc k = omega arith in all_marks_get p (n + 1) cs k c e ∙ ap (λ n. Some (narrowed_marks p (marks_in p n) c)) z
+all_marks_get p n (d ∷ cs) (suc k) c e = let z : n + 1 + k ≡ n + suc k = omega arith in all_marks_get p (n + 1) cs k c e
+    ∙ ap (λ n. Some (narrowed_marks p (marks_in p n) c)) z
 
 module _ (p : Plan) (b : ℕ) (c : CodeBlock) (here : slice_get p.program.blocks b ≡ Some c) where
   marks_here : slice_get (all_marks p 0 p.program.blocks) b ≡ Some (narrowed_marks p (marks_in p b) c)
@@ -213,7 +234,8 @@ not_copy i e f = impossible (sym e ∙ f)
 blocks_plan : (p : Plan) (cs : List CodeBlock) → All IsPlanBlock cs → All IsPlanBlock (narrowed_blocks p cs)
 blocks_plan p [] h = All-nil IsPlanBlock
 blocks_plan p (c ∷ cs) h =
-    All-cons IsPlanBlock (narrowed_block p c) (narrowed_blocks p cs) (plan_block p c (All-head IsPlanBlock c cs h)) (blocks_plan p cs (All-tail IsPlanBlock c cs h))
+    All-cons IsPlanBlock (narrowed_block p c) (narrowed_blocks p cs) (plan_block p c (All-head IsPlanBlock c cs h))
+    (blocks_plan p cs (All-tail IsPlanBlock c cs h))
 
 pub stays_plan : StaysPlan
 stays_plan p h = record {
@@ -223,7 +245,8 @@ stays_plan p h = record {
       by_origin b n o.0 i o.1 s (origin_of p o.0 n i (ap (λ (c : CodeBlock). slice_get c.instrs n) o.2 ∙ f));
 }
   where
-    by_origin : (b n : ℕ) (c : CodeBlock) (i : Instr) → slice_get p.program.blocks b ≡ Some c → i.op ≡ Switch → IsOld p c n i ⊎ IsNew p c n i → mark_at (narrowed p) b n ≢ Unmarked
+    by_origin : (b n : ℕ) (c : CodeBlock) (i : Instr) → slice_get p.program.blocks b ≡ Some c → i.op ≡ Switch → IsOld p c n i ⊎ IsNew p c n i
+        → mark_at (narrowed p) b n ≢ Unmarked
     by_origin b n c i e s (inl o) = λ k. h.marked b o.v c o.i e o.there (sym o.op ∙ s) (sym (mark_old p b c e n i o) ∙ k)
     by_origin b n c i e s (inr o) = λ k. not_copy i o.op s
 

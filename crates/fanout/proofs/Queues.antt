@@ -1,6 +1,7 @@
 -- Where the destinations of a tree of copies lead, and how it grows: the copies are made from the last one on, and each
 -- takes the last two of those that still wait for one.
-use Rattle.std.proofs.Common.{◌≡◌, ℕ, zero, suc, ◌+◌, ◌-◌, ◌*◌, ◌<◌, ◌≤◌, Bool, true, false, List, ◌∷◌, ◌++◌, map, length, refl, sym, ap, ◌∙◌, arith, Option, Some, None, if◌then◌else◌, nat_lt, not-suc-le-zero, lt-ltb, []}
+use Rattle.std.proofs.Common.{◌≡◌, ℕ, zero, suc, ◌+◌, ◌-◌, ◌*◌, ◌<◌, ◌≤◌, Bool, true, false, List, ◌∷◌, ◌++◌, map, length, refl, sym, ap, ◌∙◌}
+use Rattle.std.proofs.Common.{arith, Option, Some, None, if◌then◌else◌, nat_lt, not-suc-le-zero, lt-ltb, []}
 use Rattle.std.specs.Prelude.{slice_get}
 use Rattle.std.proofs.lemmas.Bool.{ltb-false, le-ltb}
 use Rattle.lemmas.proofs.SliceGet.{get_some}
@@ -51,11 +52,13 @@ module _ (l : Layout) (n : ℕ) where
   abbrev pub tip : ℕ → List Dest → ℕ → Address
   tip root ds c = if nat_lt c (copies ds) then (root + c, Left) else or_to (slice_get ds (c - copies ds))
 
-  child_goes : (at root j : ℕ) (ds : List Dest) (c : ℕ) → at ≡ root + j → j < c → c ≤ 2 * copies ds → 0 < copies ds → Reaches at ds → leads_to at (child l n at j ds c) ≡ tip root ds c
+  child_goes : (at root j : ℕ) (ds : List Dest) (c : ℕ) → at ≡ root + j → j < c → c ≤ 2 * copies ds → 0 < copies ds → Reaches at ds
+      → leads_to at (child l n at j ds c) ≡ tip root ds c
   child_goes at root j ds c e low high some h = by_test (nat_lt c (copies ds)) refl
     where
       by_test : (t : Bool) → nat_lt c (copies ds) ≡ t
-          → leads_to at (if t then dest_at j c Left else leaf_or l n at (slice_get ds (c - copies ds))) ≡ (if t then (root + c, Left) else or_to (slice_get ds (c - copies ds)))
+          → leads_to at (if t then dest_at j c Left else leaf_or l n at (slice_get ds (c - copies ds)))
+          ≡ (if t then (root + c, Left) else or_to (slice_get ds (c - copies ds)))
       by_test true t = let k : at + (c - j) ≡ root + c = omega (arith, e, low) in ap (λ p. (p, Left)) k
       by_test false t =
           let k = ltb-false c (copies ds) t in
@@ -63,7 +66,8 @@ module _ (l : Layout) (n : ℕ) where
           ap (λ o. leads_to at (leaf_or l n at o)) d.1 ∙ leaf_goes at d.0 (h (c - copies ds) d.0 d.1) ∙ sym (ap or_to d.1)
 
   pub copy_goes : (root j : ℕ) (ds : List Dest) → j < copies ds → Reaches (root + j) ds
-      → map (leads_to (root + j)) ((copy_at l n (root + j) j ds).firsts ++ (copy_at l n (root + j) j ds).seconds) ≡ tip root ds (2 * j + 1) ∷ tip root ds (2 * j + 2) ∷ []
+      → map (leads_to (root + j)) ((copy_at l n (root + j) j ds).firsts ++ (copy_at l n (root + j) j ds).seconds) ≡ tip root ds (2 * j + 1)
+      ∷ tip root ds (2 * j + 2) ∷ []
   copy_goes root j ds low h =
       let a = child_goes (root + j) root j ds (2 * j + 1) refl (omega arith) (omega (arith, low)) (omega (arith, low)) h in
       let b = child_goes (root + j) root j ds (2 * j + 2) refl (omega arith) (omega (arith, low)) (omega (arith, low)) h in
@@ -74,7 +78,8 @@ module _ (l : Layout) (n : ℕ) where
   queue root ds m = window (tip root ds) m (suc m)
 
   -- the next copy takes the last two
-  pub queue_last : (root : ℕ) (ds : List Dest) (m : ℕ) → queue root ds (suc m) ≡ window (tip root ds) (suc m) m ++ tip root ds (2 * m + 1) ∷ tip root ds (2 * m + 2) ∷ []
+  pub queue_last : (root : ℕ) (ds : List Dest) (m : ℕ) → queue root ds (suc m) ≡ window (tip root ds) (suc m) m ++ tip root ds (2 * m + 1)
+      ∷ tip root ds (2 * m + 2) ∷ []
   queue_last root ds m =
       let a : suc m + m ≡ 2 * m + 1 = omega arith in let b : suc m + m + 1 ≡ 2 * m + 2 = omega arith in
       window_end (tip root ds) (suc m) m ∙ (λ k. window (tip root ds) (suc m) m ++ tip root ds (a k) ∷ tip root ds (b k) ∷ [])
@@ -87,7 +92,8 @@ module _ (l : Layout) (n : ℕ) where
       ∙ ap (λ (t : Bool). (if t then (root + m, Left) else or_to (slice_get ds (m - copies ds))) ∷ window (tip root ds) (suc m) m) (lt-ltb m (copies ds) h)
 
   -- At first the destinations wait.
-  tips : (root : ℕ) (ds rest : List Dest) (u x : ℕ) → x ≡ copies ds + u → ((v : ℕ) → slice_get ds (u + v) ≡ slice_get rest v) → window (tip root ds) x (length rest) ≡ map to rest
+  tips : (root : ℕ) (ds rest : List Dest) (u x : ℕ) → x ≡ copies ds + u → ((v : ℕ) → slice_get ds (u + v) ≡ slice_get rest v)
+      → window (tip root ds) x (length rest) ≡ map to rest
   tips root ds [] u x e h = refl
   tips root ds (d ∷ rest) u x e h = (λ k. one k ∷ tips root ds rest (u + 1) (x + 1) (omega (arith, e)) later k)
     where
@@ -111,6 +117,7 @@ module _ (l : Layout) (n : ℕ) where
   side_goes at root (d ∷ []) low h some = ap (λ x. x ∷ []) (leaf_goes at d (h 0 d refl))
   side_goes at root (d ∷ e ∷ ds) low h some =
       let k : at + (root - at) ≡ root + 0 = omega (arith, low) in
-      ap (λ (t : Bool). map (leads_to at) (if t then dest_at at root Left ∷ [] else map (leaf l n at) (d ∷ e ∷ ds))) (lt-ltb 1 (length (d ∷ e ∷ ds)) (omega arith))
+      ap (λ (t : Bool). map (leads_to at) (if t then dest_at at root Left ∷ [] else map (leaf l n at) (d ∷ e ∷ ds)))
+      (lt-ltb 1 (length (d ∷ e ∷ ds)) (omega arith))
       ∙ ap (λ p. (p, Left) ∷ []) k
       ∙ sym (queue_first root (d ∷ e ∷ ds) 0 (omega arith))

@@ -1,5 +1,6 @@
 -- How many destinations the instructions of a narrowed plan have.
-use Rattle.std.proofs.Common.{◌≡◌, ℕ, zero, suc, ◌+◌, ◌-◌, ◌/◌, ◌≤◌, min, Bool, true, false, List, ◌∷◌, ◌++◌, map, length, refl, arith, if◌then◌else◌, nat_lt, length-append, []}
+use Rattle.std.proofs.Common.{◌≡◌, ℕ, zero, suc, ◌+◌, ◌-◌, ◌/◌, ◌≤◌, min, Bool, true, false, List, ◌∷◌, ◌++◌, map, length, refl, arith}
+use Rattle.std.proofs.Common.{if◌then◌else◌, nat_lt, length-append, []}
 use Rattle.std.specs.Prelude.{All, ⊤}
 use Rattle.std.proofs.lemmas.Bool.{ltb-true, ltb-false}
 use Rattle.std.proofs.lemmas.List.{length-map, length-take, length-drop}
@@ -20,25 +21,30 @@ use Rattle.fanout.proofs.Positions.{all_spread}
 use Rattle.fanout.proofs.Spots.{sized}
 
 -- WHAT HOLDS OF EACH, if it holds of each instruction in its place and of each copy
-module _ (P Q R : Instr → Type 0) (of_moved : (l : Layout) (n : ℕ) (i : Instr) → Q i → P (moved l n i)) (of_copy : (l : Layout) (n at j : ℕ) (ds : List Dest) → P (copy_at l n at j ds)) (of_parted : (i : Instr) → R i → Q (parted i)) where
+module _ (P Q R : Instr → Type 0) (of_moved : (l : Layout) (n : ℕ) (i : Instr) → Q i → P (moved l n i))
+    (of_copy : (l : Layout) (n at j : ℕ) (ds : List Dest) → P (copy_at l n at j ds)) (of_parted : (i : Instr) → R i → Q (parted i)) where
   tree_all : (l : Layout) (n root : ℕ) (ds : List Dest) (k : ℕ) → All P (tree l n root ds k)
   tree_all l n root ds zero = All-nil P
-  tree_all l n root ds (suc k) = All-append P (tree l n root ds k) (copy_at l n (root + k) k ds ∷ []) (tree_all l n root ds k) (All-cons P (copy_at l n (root + k) k ds) [] (of_copy l n (root + k) k ds) (All-nil P))
+  tree_all l n root ds (suc k) = All-append P (tree l n root ds k) (copy_at l n (root + k) k ds ∷ []) (tree_all l n root ds k)
+      (All-cons P (copy_at l n (root + k) k ds) [] (of_copy l n (root + k) k ds) (All-nil P))
 
   copies_all : (l : Layout) (n : ℕ) (i : Instr) → All P (copies_of l n i)
-  copies_all l n i = All-append P _ _ (tree_all l n (base_of l n) i.firsts (copies i.firsts)) (tree_all l n (base_of l n + copies i.firsts) i.seconds (copies i.seconds))
+  copies_all l n i = All-append P _ _ (tree_all l n (base_of l n) i.firsts (copies i.firsts)) (tree_all l n (base_of l n + copies i.firsts) i.seconds
+      (copies i.seconds))
 
   parts_all : (is : List Instr) → All R is → All Q (map parted is)
   parts_all [] h = All-nil Q
   parts_all (i ∷ is) h = All-cons Q (parted i) (map parted is) (of_parted i (All-head R i is h)) (parts_all is (All-tail R i is h))
 
   pub block_all : (p : Plan) (c : CodeBlock) → All R c.instrs → All P (narrowed_block p c).instrs
-  block_all p c h = let l = layout_of p c in all_spread l.tied (moved l) (copies_of l) (sized l) P Q (of_moved l) (copies_all l) (parts_of c) (parts_all c.instrs h)
+  block_all p c h = let l = layout_of p c in all_spread l.tied (moved l) (copies_of l) (sized l) P Q (of_moved l) (copies_all l) (parts_of c)
+      (parts_all c.instrs h)
 
   blocks_all : (p : Plan) (cs : List CodeBlock) → All (λ (c : CodeBlock). All R c.instrs) cs → All (λ (c : CodeBlock). All P c.instrs) (narrowed_blocks p cs)
   blocks_all p [] h = All-nil (λ (c : CodeBlock). All P c.instrs)
   blocks_all p (c ∷ cs) h =
-      All-cons (λ (c : CodeBlock). All P c.instrs) (narrowed_block p c) (narrowed_blocks p cs) (block_all p c (All-head (λ (c : CodeBlock). All R c.instrs) c cs h)) (blocks_all p cs (All-tail (λ (c : CodeBlock). All R c.instrs) c cs h))
+      All-cons (λ (c : CodeBlock). All P c.instrs) (narrowed_block p c) (narrowed_blocks p cs)
+      (block_all p c (All-head (λ (c : CodeBlock). All R c.instrs) c cs h)) (blocks_all p cs (All-tail (λ (c : CodeBlock). All R c.instrs) c cs h))
 
   narrowed_all : (p : Plan) → AllInstrs R p.program → AllInstrs P (narrowed p).program
   narrowed_all p h = blocks_all p p.program.blocks h
@@ -65,7 +71,8 @@ moved_few l n i =
     (omega (arith, a), omega (arith, b))
 
 pub narrowed_few : (p : Plan) → AllInstrs HasFew (narrowed p).program
-narrowed_few p = narrowed_all HasFew (λ (i : Instr). ⊤) (λ (i : Instr). ⊤) (λ l n i h. moved_few l n i) (λ l n at j ds. (omega arith, omega arith)) (λ i h. tt) p (every_instr p.program.blocks)
+narrowed_few p = narrowed_all HasFew (λ (i : Instr). ⊤) (λ (i : Instr). ⊤) (λ l n i h. moved_few l n i) (λ l n at j ds. (omega arith, omega arith))
+    (λ i h. tt) p (every_instr p.program.blocks)
 
 -- AS MANY AS THE KIND HAS
 abbrev IsReady : Op → List Dest → List Dest → Type 0
@@ -86,31 +93,46 @@ halves ds =
     let a = length-take (length ds - length ds / 2) ds in let b = length-drop (length ds - length ds / 2) ds in
     (omega (arith, a), omega (arith, b))
 
-part_ready : (op : Op) (ds es : List Dest) → HasShape op (length ds) (length es) × LandsLeft op ds → IsReady op (firsts_of (parting_of op) ds es) (seconds_of (parting_of op) ds es)
-part_ready (Fetch a) ds es h = let n = length-append ds es in let k = halves (ds ++ es) in let x = h.0.0 in let y = h.0.1 in let p = k.0 in let q = k.1 in (omega (arith, n, x, y, p), omega (arith, n, x, y, q))
-part_ready (Store a) ds es h = let n = length-append ds es in let k = halves (ds ++ es) in let x = h.0.0 in let y = h.0.1 in let p = k.0 in let q = k.1 in (omega (arith, n, x, y, p), omega (arith, n, x, y, q))
-part_ready Frame ds es h = let n = length-append ds es in let k = halves (ds ++ es) in let x = h.0.0 in let y = h.0.1 in let p = k.0 in let q = k.1 in (omega (arith, n, x, y, p), omega (arith, n, x, y, q))
-part_ready (Ask o) ds es h = let n = length-append ds es in let k = halves (ds ++ es) in let x = h.0.0 in let y = h.0.1 in let p = k.0 in let q = k.1 in (omega (arith, n, x, y, p), omega (arith, n, x, y, q))
-part_ready (Take k) ds es h = let n = length-append ds es in let k = halves (ds ++ es) in let x = h.0.0 in let y = h.0.1 in let p = k.0 in let q = k.1 in (omega (arith, n, x, y, p), omega (arith, n, x, y, q))
-part_ready (Release o) ds es h = let n = length-append ds es in let k = halves (ds ++ es) in let x = h.0.0 in let y = h.0.1 in let p = k.0 in let q = k.1 in (omega (arith, n, x, y, p), omega (arith, n, x, y, q))
+part_ready : (op : Op) (ds es : List Dest) → HasShape op (length ds) (length es) × LandsLeft op ds → IsReady op (firsts_of (parting_of op) ds es)
+    (seconds_of (parting_of op) ds es)
+part_ready (Fetch a) ds es h = let n = length-append ds es in let k = halves (ds ++ es) in let x = h.0.0 in let y = h.0.1 in let p = k.0
+    in let q = k.1 in (omega (arith, n, x, y, p), omega (arith, n, x, y, q))
+part_ready (Store a) ds es h = let n = length-append ds es in let k = halves (ds ++ es) in let x = h.0.0 in let y = h.0.1 in let p = k.0
+    in let q = k.1 in (omega (arith, n, x, y, p), omega (arith, n, x, y, q))
+part_ready Frame ds es h = let n = length-append ds es in let k = halves (ds ++ es) in let x = h.0.0 in let y = h.0.1 in let p = k.0 in let q = k.1
+    in (omega (arith, n, x, y, p), omega (arith, n, x, y, q))
+part_ready (Ask o) ds es h = let n = length-append ds es in let k = halves (ds ++ es) in let x = h.0.0 in let y = h.0.1 in let p = k.0 in let q = k.1
+    in (omega (arith, n, x, y, p), omega (arith, n, x, y, q))
+part_ready (Take k) ds es h = let n = length-append ds es in let k = halves (ds ++ es) in let x = h.0.0 in let y = h.0.1 in let p = k.0 in let q = k.1
+    in (omega (arith, n, x, y, p), omega (arith, n, x, y, q))
+part_ready (Release o) ds es h = let n = length-append ds es in let k = halves (ds ++ es) in let x = h.0.0 in let y = h.0.1 in let p = k.0
+    in let q = k.1 in (omega (arith, n, x, y, p), omega (arith, n, x, y, q))
 part_ready (Link b) ds es h = h
 part_ready (Give k) ds es h = refl
 part_ready (Drain k) ds es h = refl
 part_ready Switch ds es h = tt
 part_ready op ds es h = let k = halves (ds ++ es) in let p = k.0 in let q = k.1 in omega (arith, p, q)
 
-left_landing : (l : Layout) (n at root : ℕ) (ds : List Dest) → length ds ≡ 1 → All (λ (d : Dest). d.port ≡ Left) ds → All (λ (d : Dest). d.port ≡ Left) (side l n at root ds)
+left_landing : (l : Layout) (n at root : ℕ) (ds : List Dest) → length ds ≡ 1 → All (λ (d : Dest). d.port ≡ Left) ds
+    → All (λ (d : Dest). d.port ≡ Left) (side l n at root ds)
 left_landing l n at root [] h a = absurd (omega (arith, h))
-left_landing l n at root (d ∷ []) h a = All-cons (λ (d : Dest). d.port ≡ Left) (leaf l n at d) [] (All-head (λ (d : Dest). d.port ≡ Left) d [] a) (All-nil (λ (d : Dest). d.port ≡ Left))
+left_landing l n at root (d ∷ []) h a = All-cons (λ (d : Dest). d.port ≡ Left) (leaf l n at d) [] (All-head (λ (d : Dest). d.port ≡ Left) d [] a)
+    (All-nil (λ (d : Dest). d.port ≡ Left))
 left_landing l n at root (d ∷ e ∷ ds) h a = absurd (omega (arith, h))
 
 side_ready : (l : Layout) (n at r s : ℕ) (op : Op) (ds es : List Dest) → IsReady op ds es → HasDests op (side l n at r ds) (side l n at s es)
-side_ready l n at r s (Fetch x) ds es h = let a = side_length l n at r ds in let b = side_length l n at s es in let y = h.0 in let z = h.1 in (omega (arith, a, y), omega (arith, b, z))
-side_ready l n at r s (Store x) ds es h = let a = side_length l n at r ds in let b = side_length l n at s es in let y = h.0 in let z = h.1 in (omega (arith, a, y), omega (arith, b, z))
-side_ready l n at r s Frame ds es h = let a = side_length l n at r ds in let b = side_length l n at s es in let y = h.0 in let z = h.1 in (omega (arith, a, y), omega (arith, b, z))
-side_ready l n at r s (Ask o) ds es h = let a = side_length l n at r ds in let b = side_length l n at s es in let y = h.0 in let z = h.1 in (omega (arith, a, y), omega (arith, b, z))
-side_ready l n at r s (Take k) ds es h = let a = side_length l n at r ds in let b = side_length l n at s es in let y = h.0 in let z = h.1 in (omega (arith, a, y), omega (arith, b, z))
-side_ready l n at r s (Release o) ds es h = let a = side_length l n at r ds in let b = side_length l n at s es in let y = h.0 in let z = h.1 in (omega (arith, a, y), omega (arith, b, z))
+side_ready l n at r s (Fetch x) ds es h = let a = side_length l n at r ds in let b = side_length l n at s es in let y = h.0 in let z = h.1
+    in (omega (arith, a, y), omega (arith, b, z))
+side_ready l n at r s (Store x) ds es h = let a = side_length l n at r ds in let b = side_length l n at s es in let y = h.0 in let z = h.1
+    in (omega (arith, a, y), omega (arith, b, z))
+side_ready l n at r s Frame ds es h = let a = side_length l n at r ds in let b = side_length l n at s es in let y = h.0 in let z = h.1
+    in (omega (arith, a, y), omega (arith, b, z))
+side_ready l n at r s (Ask o) ds es h = let a = side_length l n at r ds in let b = side_length l n at s es in let y = h.0 in let z = h.1
+    in (omega (arith, a, y), omega (arith, b, z))
+side_ready l n at r s (Take k) ds es h = let a = side_length l n at r ds in let b = side_length l n at s es in let y = h.0 in let z = h.1
+    in (omega (arith, a, y), omega (arith, b, z))
+side_ready l n at r s (Release o) ds es h = let a = side_length l n at r ds in let b = side_length l n at s es in let y = h.0 in let z = h.1
+    in (omega (arith, a, y), omega (arith, b, z))
 side_ready l n at r s (Link t) ds es h =
     let a = side_length l n at r ds in let b = side_length l n at s es in let y = h.0 in
     (omega (arith, a, y), left_landing l n at r ds h.0 h.1, omega (arith, b))
@@ -121,14 +143,16 @@ side_ready l n at r s op ds es h = let a = side_length l n at r ds in let b = si
 
 pub narrowed_dests : (p : Plan) → AllInstrs IsShaped p.program → AllInstrs HasItsDests (narrowed p).program
 narrowed_dests p h =
-    narrowed_all HasItsDests (λ (i : Instr). IsReady i.op i.firsts i.seconds) IsShaped (λ l n i r. side_ready l n (place_of l n) (base_of l n) (base_of l n + copies i.firsts) i.op i.firsts i.seconds r)
+    narrowed_all HasItsDests (λ (i : Instr). IsReady i.op i.firsts i.seconds) IsShaped (λ l n i r. side_ready l n (place_of l n) (base_of l n)
+    (base_of l n + copies i.firsts) i.op i.firsts i.seconds r)
     (λ l n at j ds. (omega arith, omega arith)) (λ i s. part_ready i.op i.firsts i.seconds s) p h
 
 -- THE SHAPE OF A PLAN'S INSTRUCTIONS
 abbrev pub ShapedAs : Instr → Type 0
 ShapedAs i = HasShape i.op (length i.firsts) (length i.seconds)
 
-part_shape : (op : Op) (ds es : List Dest) → HasShape op (length ds) (length es) → HasShape op (length (firsts_of (parting_of op) ds es)) (length (seconds_of (parting_of op) ds es))
+part_shape : (op : Op) (ds es : List Dest) → HasShape op (length ds) (length es) → HasShape op (length (firsts_of (parting_of op) ds es))
+    (length (seconds_of (parting_of op) ds es))
 part_shape (Fetch a) ds es h = part_ready (Fetch a) ds es (h, tt)
 part_shape (Store a) ds es h = part_ready (Store a) ds es (h, tt)
 part_shape Frame ds es h = part_ready Frame ds es (h, tt)
@@ -138,7 +162,8 @@ part_shape (Release o) ds es h = part_ready (Release o) ds es (h, tt)
 part_shape (Link b) ds es h = h
 part_shape op ds es h = tt
 
-side_shape : (l : Layout) (n at r s : ℕ) (op : Op) (ds es : List Dest) → HasShape op (length ds) (length es) → HasShape op (length (side l n at r ds)) (length (side l n at s es))
+side_shape : (l : Layout) (n at r s : ℕ) (op : Op) (ds es : List Dest) → HasShape op (length ds) (length es) → HasShape op (length (side l n at r ds))
+    (length (side l n at s es))
 side_shape l n at r s (Fetch a) ds es h = side_ready l n at r s (Fetch a) ds es h
 side_shape l n at r s (Store a) ds es h = side_ready l n at r s (Store a) ds es h
 side_shape l n at r s Frame ds es h = side_ready l n at r s Frame ds es h
@@ -150,4 +175,5 @@ side_shape l n at r s op ds es h = tt
 
 pub block_shapes : (p : Plan) (c : CodeBlock) → All ShapedAs c.instrs → All ShapedAs (narrowed_block p c).instrs
 block_shapes p c h =
-    block_all ShapedAs ShapedAs ShapedAs (λ l n i r. side_shape l n (place_of l n) (base_of l n) (base_of l n + copies i.firsts) i.op i.firsts i.seconds r) (λ l n at j ds. tt) (λ i s. part_shape i.op i.firsts i.seconds s) p c h
+    block_all ShapedAs ShapedAs ShapedAs (λ l n i r. side_shape l n (place_of l n) (base_of l n) (base_of l n + copies i.firsts) i.op i.firsts
+    i.seconds r) (λ l n at j ds. tt) (λ i s. part_shape i.op i.firsts i.seconds s) p c h

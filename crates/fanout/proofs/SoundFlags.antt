@@ -1,5 +1,6 @@
 -- Only a row's instructions are flagged as tied: so each destination of a sound plan leaves its row.
-use Rattle.std.proofs.Common.{◌≡◌, ℕ, zero, suc, ◌+◌, ◌-◌, ◌<◌, ◌≤◌, Bool, true, false, List, ◌∷◌, length, replicate, refl, sym, ap, ◌∙◌, subst, inl, inr, ◌⊎◌, arith, true≢false, Some, []}
+use Rattle.std.proofs.Common.{◌≡◌, ℕ, zero, suc, ◌+◌, ◌-◌, ◌<◌, ◌≤◌, Bool, true, false, List, ◌∷◌, length, replicate, refl, sym, ap, ◌∙◌, subst}
+use Rattle.std.proofs.Common.{inl, inr, ◌⊎◌, arith, true≢false, Some, []}
 use Rattle.std.specs.Prelude.{slice_get, Contains}
 use Rattle.std.proofs.lemmas.Bool.{cases_eq}
 use Rattle.std.proofs.lemmas.List.{get_or-set_other}
@@ -43,7 +44,8 @@ record IsWithin (n size : ℕ) (ds : List Dest) (k : ℕ) : Type 0 where
   pub from : n + dest.ahead ≤ k
   pub to : k < n + dest.ahead + (size - 1)
 
-landings_back : (ts : List Bool) (n size : ℕ) (ds : List Dest) (k : ℕ) → is_tied (tie_landings ts n size ds) k ≡ true → (is_tied ts k ≡ true) ⊎ IsWithin n size ds k
+landings_back : (ts : List Bool) (n size : ℕ) (ds : List Dest) (k : ℕ) → is_tied (tie_landings ts n size ds) k ≡ true
+    → (is_tied ts k ≡ true) ⊎ IsWithin n size ds k
 landings_back ts n size [] k h = inl h
 landings_back ts n size (d ∷ ds) k h = by (landings_back (tie ts (n + d.ahead) (size - 1)) n size ds k h)
   where
@@ -60,7 +62,8 @@ record IsLinked (p : Plan) (n : ℕ) (i : Instr) (op : Op) (k : ℕ) : Type 0 wh
   pub links : op ≡ Link block
   pub within : IsWithin n (landing p block) i.firsts k
 
-instr_back : (p : Plan) (ts : List Bool) (n : ℕ) (i : Instr) (op : Op) (k : ℕ) → is_tied (tie_instr p ts n i op) k ≡ true → (is_tied ts k ≡ true) ⊎ IsLinked p n i op k
+instr_back : (p : Plan) (ts : List Bool) (n : ℕ) (i : Instr) (op : Op) (k : ℕ) → is_tied (tie_instr p ts n i op) k ≡ true
+    → (is_tied ts k ≡ true) ⊎ IsLinked p n i op k
 instr_back p ts n i (Link b) k h = by (landings_back ts n (landing p b) i.firsts k h)
   where
     by : (is_tied ts k ≡ true) ⊎ IsWithin n (landing p b) i.firsts k → (is_tied ts k ≡ true) ⊎ IsLinked p n i (Link b) k
@@ -106,7 +109,8 @@ tied_back p c k h = by (all_back p (tie (replicate (length (parts_of c)) false) 
             block = o.block;
             links = links;
             dest = w.dest;
-            named = subst (λ ds. Contains ds w.dest) (sym (ap (λ (i : Instr). i.firsts) same) ∙ ap (λ op. firsts_of (parting_of op) j.firsts j.seconds) links) w.named;
+            named = subst (λ ds. Contains ds w.dest) (sym (ap (λ (i : Instr). i.firsts) same)
+                ∙ ap (λ op. firsts_of (parting_of op) j.firsts j.seconds) links) w.named;
             from = omega (arith, from);
             to = omega (arith, from, to);
           },

@@ -92,27 +92,32 @@ module _ (p : Plan) (s : IsSound p) (b : ℕ) (c : CodeBlock) (at : slice_get p.
   still_there =
       let size = old.size in
       let x = get_some c.instrs c.inputs (omega (arith, size)) in
-      let up = place_low (ts p c) 0 0 0 (is p c) c.inputs (place_of (l p c) c.inputs) (omega arith) (place_is (ts p c) (is p c) (all p c) c.inputs (parted x.0) (in_parts c c.inputs x.0 x.1)) in
+      let up = place_low (ts p c) 0 0 0 (is p c) c.inputs (place_of (l p c) c.inputs) (omega arith)
+      (place_is (ts p c) (is p c) (all p c) c.inputs (parted x.0) (in_parts c c.inputs x.0 x.1)) in
       let w = slice_get_within (narrowed_block p c).instrs (place_of (l p c) c.inputs) (moved (l p c) c.inputs (parted x.0)) (at_place p c c.inputs x.0 x.1) in
       omega (arith, up, w)
 
   pub sound_block : IsSoundBlock (narrowed p).program (narrowed_block p c)
   sound_block = record { inputs = old.inputs; outputs = old.outputs; size = still_there; instrs = sound_instr }
 
-  pub sound_dest : (n : ℕ) (i : Instr) (d : Dest) → IsInstrAt (narrowed_block p c) n i → Contains (i.firsts ++ i.seconds) d → IsSoundDest (narrowed p) (narrowed_block p c) n d
+  pub sound_dest : (n : ℕ) (i : Instr) (d : Dest) → IsInstrAt (narrowed_block p c) n i → Contains (i.firsts ++ i.seconds) d
+      → IsSoundDest (narrowed p) (narrowed_block p c) n d
   sound_dest n i d e h =
-      let is_dest : IsDest (narrowed_block p c) n d = dests_stay p clear.rows clear.dests b n (narrowed_block p c) d (record { i = i; block = at_new; there = e; named = h }) in
+      let is_dest : IsDest (narrowed_block p c) n d = dests_stay p clear.rows clear.dests b n (narrowed_block p c) d
+      (record { i = i; block = at_new; there = e; named = h }) in
       record { dest = is_dest; past = past_entries p clear b c at n i d e h; apart = stand_apart p s b c at n i d e h is_dest.later }
 
 pub stays_sound : StaysSound
 stays_sound p s = record {
   program = record {
-    some_block = let n = length-map p.program.blocks (narrowed_block p) in let k = s.program.some_block.0 in let m = s.program.some_block.1 in (omega (arith, n, k), omega (arith, n, m));
+    some_block = let n = length-map p.program.blocks (narrowed_block p) in let k = s.program.some_block.0 in let m = s.program.some_block.1
+        in (omega (arith, n, k), omega (arith, n, m));
     main = let n = length-map p.program.blocks (narrowed_block p) in let k = s.program.main in omega (arith, n, k);
     few_arrays = s.program.few_arrays;
     arrays = s.program.arrays;
     cells = s.program.cells;
-    blocks = λ b c e. let o = map_get_back (narrowed_block p) p.program.blocks b c e in subst (IsSoundBlock (narrowed p).program) o.2 (sound_block p s b o.0 o.1);
+    blocks = λ b c e. let o = map_get_back (narrowed_block p) p.program.blocks b c e in subst (IsSoundBlock (narrowed p).program) o.2
+        (sound_block p s b o.0 o.1);
   };
   dests = λ b n c d h.
       let o = map_get_back (narrowed_block p) p.program.blocks b c h.block in

@@ -1,5 +1,6 @@
 -- The rows of a narrowed sound plan: no copy is in one, so what was apart still is.
-use Rattle.std.proofs.Common.{◌≡◌, ℕ, ◌+◌, ◌-◌, ◌<◌, ◌≤◌, Bool, true, false, List, ◌∷◌, ◌++◌, map, length, refl, sym, ap, ◌∙◌, subst, inl, inr, ◌⊎◌, arith, Option, Some, None, nat_lt, if◌then◌else◌, length-append, []}
+use Rattle.std.proofs.Common.{◌≡◌, ℕ, ◌+◌, ◌-◌, ◌<◌, ◌≤◌, Bool, true, false, List, ◌∷◌, ◌++◌, map, length, refl, sym, ap, ◌∙◌, subst, inl, inr, ◌⊎◌}
+use Rattle.std.proofs.Common.{arith, Option, Some, None, nat_lt, if◌then◌else◌, length-append, []}
 use Rattle.std.specs.Prelude.{slice_get, Contains}
 use Rattle.std.specs.Option.{option_map}
 use Rattle.std.proofs.lemmas.Bool.{cases_lt, ltb-true}
@@ -33,7 +34,8 @@ use Rattle.fanout.proofs.SoundFlags.{flag_free}
 
 -- a landing is as long as before
 landing_same : (p : Plan) (t : ℕ) → landing (narrowed p) t ≡ landing p t
-landing_same p t = ap (landing_in (nat_lt t p.plain)) (slice_get-map (narrowed_block p) p.program.blocks t) ∙ by (nat_lt t p.plain) (slice_get p.program.blocks t)
+landing_same p t = ap (landing_in (nat_lt t p.plain)) (slice_get-map (narrowed_block p) p.program.blocks t)
+    ∙ by (nat_lt t p.plain) (slice_get p.program.blocks t)
   where
     by : (u : Bool) (o : Option CodeBlock) → landing_in u (option_map (narrowed_block p) o) ≡ landing_in u o
     by true None = refl
@@ -90,7 +92,8 @@ module _ (p : Plan) (s : IsSound p) (b : ℕ) (c : CodeBlock) (at_b : slice_get 
 
   -- ORDER
   low : (n : ℕ) (i : Instr) → IsInstrAt c n i → n ≤ place n
-  low n i e = let k = place_low (ts p c) 0 0 0 (is p c) n (place n) (omega arith) (place_is (ts p c) (is p c) (all p c) n (parted i) (here n i e)) in omega (arith, k)
+  low n i e = let k = place_low (ts p c) 0 0 0 (is p c) n (place n) (omega arith) (place_is (ts p c) (is p c) (all p c) n (parted i) (here n i e))
+      in omega (arith, k)
 
   ordered : (m n : ℕ) (i j : Instr) → IsInstrAt c m i → IsInstrAt c n j → m < n → place m < place n
   ordered m n i j e f h = in_order (ts p c) (is p c) (all p c) m n (parted i) (parted j) (here m i e) (here n j f) h
@@ -109,7 +112,8 @@ module _ (p : Plan) (s : IsSound p) (b : ℕ) (c : CodeBlock) (at_b : slice_get 
   entry_stays : (k : ℕ) (i : Instr) → IsInstrAt c k i → k ≤ c.inputs → place k ≡ k
   entry_stays k i e h =
       let within = slice_get_within (is p c) k (parted i) (here k i e) in
-      let m = place_tied (ts p c) 0 0 0 (is p c) k (place k) (λ j u. let z : 0 + j ≡ j = omega arith in ap (is_tied (ts p c)) z ∙ entries_tied p c.inputs (is p c) j (omega (arith, h, u)) (omega (arith, within, u)))
+      let m = place_tied (ts p c) 0 0 0 (is p c) k (place k) (λ j u. let z : 0 + j ≡ j = omega arith in ap (is_tied (ts p c)) z
+      ∙ entries_tied p c.inputs (is p c) j (omega (arith, h, u)) (omega (arith, within, u)))
       (place_is (ts p c) (is p c) (all p c) k (parted i) (here k i e)) in
       omega (arith, m)
 
@@ -124,7 +128,8 @@ module _ (p : Plan) (s : IsSound p) (b : ℕ) (c : CodeBlock) (at_b : slice_get 
           absurd (apart_copy (base v + q) v q x.0 i x.1 e h (entry_stays (base v + q) x.0 x.1 k))
 
   -- nor in a landing, even where the block ends before the landing does
-  module _ (v q u t : ℕ) (i j : Instr) (d : Dest) (at_v : IsInstrAt c v i) (copy : q < size (parted i)) (at_u : IsInstrAt c u j) (links : j.op ≡ Link t) (lands : Contains j.firsts d) where
+  module _ (v q u t : ℕ) (i j : Instr) (d : Dest) (at_v : IsInstrAt c v i) (copy : q < size (parted i)) (at_u : IsInstrAt c u j) (links : j.op
+      ≡ Link t) (lands : Contains j.firsts d) where
     beyond : place (u + d.ahead) ≤ base v + q → length c.instrs < u + d.ahead + landing p t → ⊥
     beyond from short =
         let a = a_dest i (omega (arith, copy)) in
@@ -132,16 +137,20 @@ module _ (p : Plan) (s : IsSound p) (b : ℕ) (c : CodeBlock) (at_b : slice_get 
         let within = to.dest.inside in
         pick to.apart.0 to.apart.1 to.apart.2 to.apart.3 (cases_lt to.apart.0 (u + d.ahead)) within
       where
-        pick : (f : ℕ) → v ≤ f → f < v + (a_dest i (omega (arith, copy))).0.ahead → (IsTied p c f → ⊥) → (f < u + d.ahead) ⊎ (u + d.ahead ≤ f) → v + (a_dest i (omega (arith, copy))).0.ahead < length c.instrs → ⊥
+        pick : (f : ℕ) → v ≤ f → f < v + (a_dest i (omega (arith, copy))).0.ahead → (IsTied p c f → ⊥) → (f < u + d.ahead) ⊎ (u + d.ahead ≤ f)
+            → v + (a_dest i (omega (arith, copy))).0.ahead < length c.instrs → ⊥
         pick f above below free (inl k) within =
             let w = (dest_of u j d at_u (Contains-append_left j.firsts j.seconds d lands)).dest.inside in
             let x = get_some c.instrs (u + d.ahead) w in
-            let far = past_copies (ts p c) (is p c) (all p c) v (u + d.ahead) f (parted i) (parted x.0) (here v i at_v) (here (u + d.ahead) x.0 x.1) above k (flag_free p c f free) in
+            let far = past_copies (ts p c) (is p c) (all p c) v (u + d.ahead) f (parted i) (parted x.0) (here v i at_v) (here (u + d.ahead) x.0 x.1)
+            above k (flag_free p c f free) in
             omega (arith, far, from, copy)
-        pick f above below free (inr k) within = free (inr (u, record { link = j; there = at_u; block = t; links = links; dest = d; named = lands; from = k; to = omega (arith, below, within, short) }))
+        pick f above below free (inr k) within = free
+            (inr (u, record { link = j; there = at_u; block = t; links = links; dest = d; named = lands; from = k; to = omega (arith, below, within, short) }))
 
     pub in_no_landing : place (u + d.ahead) ≤ base v + q → base v + q < place (u + d.ahead) + landing p t → ⊥
-    in_no_landing from to = pick (base v + q - place (u + d.ahead)) (omega (arith, from)) (omega (arith, from, to)) (cases_lt (u + d.ahead + (base v + q - place (u + d.ahead))) (length c.instrs))
+    in_no_landing from to = pick (base v + q - place (u + d.ahead)) (omega (arith, from)) (omega (arith, from, to))
+        (cases_lt (u + d.ahead + (base v + q - place (u + d.ahead))) (length c.instrs))
       where
         pick : (k : ℕ) → place (u + d.ahead) + k ≡ base v + q → k < landing p t → (u + d.ahead + k < length c.instrs) ⊎ (length c.instrs ≤ u + d.ahead + k) → ⊥
         pick k z few (inl w) =
@@ -166,7 +175,8 @@ module _ (p : Plan) (s : IsSound p) (b : ℕ) (c : CodeBlock) (at_b : slice_get 
   old_landing m k h = by (comes_here (ts p c) (is p c) (all p c) m h.link h.there)
     where
       of_old : (v : ℕ) (j : Instr) → IsInstrAt c v j → m ≡ place v → moved (l p c) v (parted j) ≡ h.link → IsOldLanding k
-      of_old v j e at what = pick (side_names (l p c) v (place v) (base v) j.firsts h.dest (subst (λ ds. Contains (side (l p c) v (place v) (base v) ds) h.dest) firsts (subst (λ (y : Instr). Contains y.firsts h.dest) (sym what) h.named)))
+      of_old v j e at what = pick (side_names (l p c) v (place v) (base v) j.firsts h.dest
+          (subst (λ ds. Contains (side (l p c) v (place v) (base v) ds) h.dest) firsts (subst (λ (y : Instr). Contains y.firsts h.dest) (sym what) h.named)))
         where
           links : j.op ≡ Link h.block
           links = ap (λ (y : Instr). y.op) what ∙ h.links
@@ -177,7 +187,8 @@ module _ (p : Plan) (s : IsSound p) (b : ℕ) (c : CodeBlock) (at_b : slice_get 
           one : length j.firsts ≡ 1
           one = link_one j.op h.block (length j.firsts) (length j.seconds) links ((s.program.blocks b c at_b).instrs v j e).shape
 
-          pick : ((1 < length j.firsts) × (dest_at (place v) (base v) Left ≡ h.dest)) ⊎ ((d : Dest) × Contains j.firsts d × (leaf (l p c) v (place v) d ≡ h.dest)) → IsOldLanding k
+          pick : ((1 < length j.firsts) × (dest_at (place v) (base v) Left ≡ h.dest)) ⊎ ((d : Dest) × Contains j.firsts d
+              × (leaf (l p c) v (place v) d ≡ h.dest)) → IsOldLanding k
           pick (inl (more, z)) = absurd (omega (arith, more, one))
           pick (inr (d, lands, z)) =
               let old = (dest_of v j d e (Contains-append_left j.firsts j.seconds d lands)).dest in
@@ -203,7 +214,8 @@ module _ (p : Plan) (s : IsSound p) (b : ℕ) (c : CodeBlock) (at_b : slice_get 
       by : IsMoved (ts p c) (is p c) (all p c) m h.link ⊎ IsCopied (ts p c) (is p c) (all p c) m h.link → IsOldLanding k
       by (inl o) = let q = map_get_back parted c.instrs o.v o.i o.there in of_old o.v q.0 q.1 o.at (ap (moved (l p c) o.v) q.2 ∙ o.what)
       by (inr o) =
-          let copied : h.link.op ≡ Program.Copy = all_at (λ (i : Instr). i.op ≡ Program.Copy) (copies_of (l p c) o.v o.i) o.j h.link (all_copies (l p c) o.v o.i) o.what in
+          let copied : h.link.op ≡ Program.Copy = all_at (λ (i : Instr). i.op ≡ Program.Copy) (copies_of (l p c) o.v o.i) o.j h.link
+          (all_copies (l p c) o.v o.i) o.what in
           absurd (no_link h.block (sym copied ∙ h.links))
 
   -- WHAT IS FREE: a copy,
@@ -232,7 +244,8 @@ module _ (p : Plan) (s : IsSound p) (b : ℕ) (c : CodeBlock) (at_b : slice_get 
           pick (inl before) far =
               let x = get_some c.instrs (o.u + o.d.ahead) o.inside in
               let up = ordered k (o.u + o.d.ahead) i x.0 e x.1 before in let from = o.from in omega (arith, up, from)
-          pick (inr past) (inl within) = free (inr (o.u, record { link = o.j; there = o.there; block = o.t; links = o.links; dest = o.d; named = o.lands; from = past; to = within }))
+          pick (inr past) (inl within) = free (inr
+              (o.u, record { link = o.j; there = o.there; block = o.t; links = o.links; dest = o.d; named = o.lands; from = past; to = within }))
           pick (inr past) (inr beyond) =
               let from = o.from in let to = o.to in
               let w = slice_get_within c.instrs k i e in
@@ -265,28 +278,35 @@ module _ (p : Plan) (s : IsSound p) (b : ℕ) (c : CodeBlock) (at_b : slice_get 
             let z = ap (λ (d : Dest). d.ahead) same in
             (place f, a, omega (arith, a, k, z), old_free f x.0 x.1 free)
 
-    of_side : (o : ℕ) (ds : List Dest) (d : Dest) → o + copies ds ≤ size (parted i) → ((e : Dest) → Contains ds e → Contains (i.firsts ++ i.seconds) e) → Contains (side (l p c) v (place v) (base v + o) ds) d
+    of_side : (o : ℕ) (ds : List Dest) (d : Dest) → o + copies ds ≤ size (parted i)
+        → ((e : Dest) → Contains ds e → Contains (i.firsts ++ i.seconds) e) → Contains (side (l p c) v (place v) (base v + o) ds) d
         → StandApart (narrowed p) new (place v) (place v + d.ahead)
     of_side o ds d fits part h = pick (side_names (l p c) v (place v) (base v + o) ds d h)
       where
-        pick : ((1 < length ds) × (dest_at (place v) (base v + o) Left ≡ d)) ⊎ ((e : Dest) × Contains ds e × (leaf (l p c) v (place v) e ≡ d)) → StandApart (narrowed p) new (place v) (place v + d.ahead)
+        pick : ((1 < length ds) × (dest_at (place v) (base v + o) Left ≡ d)) ⊎ ((e : Dest) × Contains ds e × (leaf (l p c) v (place v) e ≡ d))
+            → StandApart (narrowed p) new (place v) (place v + d.ahead)
         pick (inl (more, e)) = to_copy o d (omega (arith, fits, more)) e
         pick (inr (e, k, same)) = to_leaf e d (part e k) same
 
     whole : (d : Dest) → Contains ((parted i).firsts ++ (parted i).seconds) d → Contains (i.firsts ++ i.seconds) d
     whole d h = subst (λ ds. Contains ds d) (parted_all i) h
 
-    of_moved : (d : Dest) → Contains ((moved (l p c) v (parted i)).firsts ++ (moved (l p c) v (parted i)).seconds) d → StandApart (narrowed p) new (place v) (place v + d.ahead)
+    of_moved : (d : Dest) → Contains ((moved (l p c) v (parted i)).firsts ++ (moved (l p c) v (parted i)).seconds) d
+        → StandApart (narrowed p) new (place v) (place v + d.ahead)
     of_moved d h = pick (Contains-append_cases (moved (l p c) v (parted i)).firsts (moved (l p c) v (parted i)).seconds d h)
       where
         z : base v + 0 ≡ base v
         z = omega arith
 
-        pick : Contains (moved (l p c) v (parted i)).firsts d ⊎ Contains (moved (l p c) v (parted i)).seconds d → StandApart (narrowed p) new (place v) (place v + d.ahead)
-        pick (inl k) = of_side 0 (parted i).firsts d (omega arith) (λ e m. whole e (Contains-append_left (parted i).firsts (parted i).seconds e m)) (subst (λ root. Contains (side (l p c) v (place v) root (parted i).firsts) d) (sym z) k)
-        pick (inr k) = of_side (copies (parted i).firsts) (parted i).seconds d (omega arith) (λ e m. whole e (Contains-append_right (parted i).firsts (parted i).seconds e m)) k
+        pick : Contains (moved (l p c) v (parted i)).firsts d ⊎ Contains (moved (l p c) v (parted i)).seconds d
+            → StandApart (narrowed p) new (place v) (place v + d.ahead)
+        pick (inl k) = of_side 0 (parted i).firsts d (omega arith) (λ e m. whole e (Contains-append_left (parted i).firsts (parted i).seconds e m))
+            (subst (λ root. Contains (side (l p c) v (place v) root (parted i).firsts) d) (sym z) k)
+        pick (inr k) = of_side (copies (parted i).firsts) (parted i).seconds d (omega arith)
+            (λ e m. whole e (Contains-append_right (parted i).firsts (parted i).seconds e m)) k
 
-  pub stand_apart : (n : ℕ) (y : Instr) (d : Dest) → slice_get new.instrs n ≡ Some y → Contains (y.firsts ++ y.seconds) d → 0 < d.ahead → StandApart (narrowed p) new n (n + d.ahead)
+  pub stand_apart : (n : ℕ) (y : Instr) (d : Dest) → slice_get new.instrs n ≡ Some y → Contains (y.firsts ++ y.seconds) d → 0 < d.ahead
+      → StandApart (narrowed p) new n (n + d.ahead)
   stand_apart n y d e h later = by (comes_here (ts p c) (is p c) (all p c) n y e)
     where
       by : IsMoved (ts p c) (is p c) (all p c) n y ⊎ IsCopied (ts p c) (is p c) (all p c) n y → StandApart (narrowed p) new n (n + d.ahead)

@@ -1,5 +1,6 @@
 -- The landing of a link stays in a row.
-use Rattle.std.proofs.Common.{◌≡◌, ℕ, zero, suc, ◌+◌, ◌-◌, ◌<◌, Bool, true, false, List, ◌∷◌, length, replicate, sym, ap, ◌∙◌, subst, inl, inr, ◌⊎◌, arith, Some, if◌then◌else◌, []}
+use Rattle.std.proofs.Common.{◌≡◌, ℕ, zero, suc, ◌+◌, ◌-◌, ◌<◌, Bool, true, false, List, ◌∷◌, length, replicate, sym, ap, ◌∙◌, subst, inl, inr, ◌⊎◌}
+use Rattle.std.proofs.Common.{arith, Some, if◌then◌else◌, []}
 use Rattle.std.specs.Prelude.{slice_get, Contains}
 use Rattle.std.proofs.lemmas.Option.{slice_get_within, same_Some}
 use Rattle.lemmas.proofs.Contains.{contains_cases, contains_none}
@@ -20,7 +21,8 @@ use Rattle.fanout.proofs.Plans.{is, ts, l, all, at_place}
 use Rattle.fanout.proofs.Arrows.{in_parts}
 
 -- the next instruction is directly after one that is tied to it
-place_next : (ts : List Bool) (n before copied : ℕ) (is : List Instr) (v m m' : ℕ) → slice_get (places_from ts n before copied is) v ≡ Some m → slice_get (places_from ts n before copied is) (suc v) ≡ Some m' → is_tied ts (n + v) ≡ true → m' ≡ m + 1
+place_next : (ts : List Bool) (n before copied : ℕ) (is : List Instr) (v m m' : ℕ) → slice_get (places_from ts n before copied is) v ≡ Some m
+    → slice_get (places_from ts n before copied is) (suc v) ≡ Some m' → is_tied ts (n + v) ≡ true → m' ≡ m + 1
 place_next ts n before copied [] v m m' e f t = absurd (cc)
 place_next ts n before copied (i ∷ []) zero m m' e f t = absurd (cc)
 place_next ts n before copied (i ∷ j ∷ is) zero m m' e f t =
@@ -34,7 +36,8 @@ place_next ts n before copied (i ∷ is) (suc v) m m' e f t =
     place_next ts (n + 1) (if is_tied ts n then before else copied + size i) (copied + size i) is v m m' e f (ap (is_tied ts) z ∙ t)
 
 -- the instructions of a landing are tied
-landings_tie : (ts : List Bool) (n size : ℕ) (ds : List Dest) (d : Dest) (k : ℕ) → Contains ds d → k + 1 < size → n + d.ahead + k < length ts → is_tied (tie_landings ts n size ds) (n + d.ahead + k) ≡ true
+landings_tie : (ts : List Bool) (n size : ℕ) (ds : List Dest) (d : Dest) (k : ℕ) → Contains ds d → k + 1 < size → n + d.ahead + k < length ts
+    → is_tied (tie_landings ts n size ds) (n + d.ahead + k) ≡ true
 landings_tie ts n size [] d k h low within = absurd (contains_none d h)
 landings_tie ts n size (e ∷ ds) d k h low within = pick (contains_cases e ds d h) (landings_tie (tie ts (n + e.ahead) (size - 1)) n size ds d k)
   where
@@ -42,17 +45,22 @@ landings_tie ts n size (e ∷ ds) d k h low within = pick (contains_cases e ds d
     len = tie_length ts (n + e.ahead) (size - 1)
 
     pick : (e ≡ d) ⊎ Contains ds d
-        → (Contains ds d → k + 1 < size → n + d.ahead + k < length (tie ts (n + e.ahead) (size - 1)) → is_tied (tie_landings (tie ts (n + e.ahead) (size - 1)) n size ds) (n + d.ahead + k) ≡ true)
+        → (Contains ds d → k + 1 < size → n + d.ahead + k < length (tie ts (n + e.ahead) (size - 1))
+        → is_tied (tie_landings (tie ts (n + e.ahead) (size - 1)) n size ds) (n + d.ahead + k) ≡ true)
         → is_tied (tie_landings (tie ts (n + e.ahead) (size - 1)) n size ds) (n + d.ahead + k) ≡ true
     pick (inl q) more =
         let a = ap (λ (d : Dest). d.ahead) q in
-        landings_keep (tie ts (n + e.ahead) (size - 1)) n size ds (n + d.ahead + k) (tie_these ts (n + e.ahead) (size - 1) (n + d.ahead + k) (omega (arith, a)) (omega (arith, a, low)) within)
+        landings_keep (tie ts (n + e.ahead) (size - 1)) n size ds (n + d.ahead + k) (tie_these ts (n + e.ahead) (size - 1) (n + d.ahead + k)
+        (omega (arith, a)) (omega (arith, a, low)) within)
     pick (inr c) more = more c low (omega (arith, within, len))
 
-instr_ties : (p : Plan) (ts : List Bool) (n t : ℕ) (i : Instr) (d : Dest) (k : ℕ) → i.op ≡ Link t → Contains i.firsts d → k + 1 < landing p t → n + d.ahead + k < length ts → is_tied (tie_instr p ts n i i.op) (n + d.ahead + k) ≡ true
-instr_ties p ts n t i d k e h low within = ap (λ op. is_tied (tie_instr p ts n i op) (n + d.ahead + k)) e ∙ landings_tie ts n (landing p t) i.firsts d k h low within
+instr_ties : (p : Plan) (ts : List Bool) (n t : ℕ) (i : Instr) (d : Dest) (k : ℕ) → i.op ≡ Link t → Contains i.firsts d → k + 1 < landing p t
+    → n + d.ahead + k < length ts → is_tied (tie_instr p ts n i i.op) (n + d.ahead + k) ≡ true
+instr_ties p ts n t i d k e h low within = ap (λ op. is_tied (tie_instr p ts n i op) (n + d.ahead + k)) e ∙ landings_tie ts n (landing p t) i.firsts d
+    k h low within
 
-all_tie : (p : Plan) (ts : List Bool) (from : ℕ) (is : List Instr) (v n t : ℕ) (i : Instr) (d : Dest) (k : ℕ) → slice_get is v ≡ Some i → n ≡ from + v → i.op ≡ Link t → Contains i.firsts d → k + 1 < landing p t → n + d.ahead + k < length ts
+all_tie : (p : Plan) (ts : List Bool) (from : ℕ) (is : List Instr) (v n t : ℕ) (i : Instr) (d : Dest) (k : ℕ) → slice_get is v ≡ Some i → n ≡ from + v
+    → i.op ≡ Link t → Contains i.firsts d → k + 1 < landing p t → n + d.ahead + k < length ts
     → is_tied (tie_all p ts from is) (n + d.ahead + k) ≡ true
 all_tie p ts from [] v n t i d k at e o h low within = absurd (cc)
 all_tie p ts from (j ∷ is) zero n t i d k at e o h low within =

@@ -36,10 +36,12 @@ LoopsStay = (p : Plan) → AllLoops p → AllLoops (narrowed p)
 -- WHERE THEY ARE. Each instruction is in its place, with its operation, origin and slot; and a link's landing stays in a
 -- row.
 abbrev pub InstrsStay : Type 0
-InstrsStay = (p : Plan) (c : CodeBlock) (n : ℕ) (i : Instr) → IsInstrAt c n i → IsInstrAt (narrowed_block p c) (place_of (layout_of p c) n) (moved (layout_of p c) n (parted i))
+InstrsStay = (p : Plan) (c : CodeBlock) (n : ℕ) (i : Instr) → IsInstrAt c n i → IsInstrAt (narrowed_block p c) (place_of (layout_of p c) n)
+    (moved (layout_of p c) n (parted i))
 
 abbrev pub LandingsStay : Type 0
-LandingsStay = (p : Plan) (n t k : ℕ) (c : CodeBlock) (i j : Instr) (d : Dest) → IsInstrAt c n i → i.op ≡ Link t → Contains i.firsts d → k < landing p t → IsInstrAt c (n + d.ahead + k) j
+LandingsStay = (p : Plan) (n t k : ℕ) (c : CodeBlock) (i j : Instr) (d : Dest) → IsInstrAt c n i → i.op ≡ Link t → Contains i.firsts d
+    → k < landing p t → IsInstrAt c (n + d.ahead + k) j
     → place_of (layout_of p c) (n + d.ahead + k) ≡ place_of (layout_of p c) (n + d.ahead) + k
 
 -- ROWS. Between the two places an instruction is free of the next one, so they are not of one row.

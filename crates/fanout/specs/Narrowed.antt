@@ -23,7 +23,8 @@ released false xs = xs
 -- some copies of their row wait.
 abbrev pub spread_of : {X : Type 0} → List Bool → (ℕ → Instr → X) → (ℕ → Instr → List X) → ℕ → List X → List Instr → List X
 spread_of ts one more n waiting [] = waiting
-spread_of ts one more n waiting (i ∷ is) = one n i ∷ (released (is_tied ts n) (waiting ++ more n i) ++ spread_of ts one more (n + 1) (held (is_tied ts n) (waiting ++ more n i)) is)
+spread_of ts one more n waiting (i ∷ is) = one n i ∷ (released (is_tied ts n) (waiting ++ more n i)
+    ++ spread_of ts one more (n + 1) (held (is_tied ts n) (waiting ++ more n i)) is)
 
 -- the instructions and their copies
 abbrev pub spread : Layout → ℕ → List Instr → List Instr → List Instr

@@ -78,7 +78,13 @@ module _ (p : Plan) (c : CodeBlock) where
       left_shut z Right = refl
 
       go : (f : Fold) → folds_at (layout_of p c) m ≡ f → FoldCase m
-      go Unchanged e = is_kept record { folded = ap is_folded e; port = λ q. ap (λ (f : Fold). new_port f q) e; op = λ op. ap (λ (f : Fold). new_op f op) e; shut = λ q. ap (λ (f : Fold). is_closed f q) e }
+      go Unchanged e = is_kept record {
+        folded = ap is_folded e;
+        port = λ q. ap (λ (f : Fold). new_port f q) e;
+        op = λ op. ap
+            (λ (f : Fold). new_op f op) e;
+        shut = λ q. ap (λ (f : Fold). is_closed f q) e;
+      }
       go (OnRight z) e =
           let T = folds_on_right p c m z e in
           is_right (
@@ -117,7 +123,8 @@ module _ (p : Plan) (c : CodeBlock) where
   some_op i j e = let d : i ≡ j = cc in ap (λ (x : Instr). x.op) d
 
   -- What names a closed port is the literal that the operator has in its code.
-  pub closed_by : (k x : ℕ) (i : Instr) (s : Bool) (d : Dest) → slice_get c.instrs k ≡ Some i → slice_get (dests_of i s) x ≡ Some d → is_closed (folds_at (layout_of p c) (k + d.ahead)) d.port ≡ true
+  pub closed_by : (k x : ℕ) (i : Instr) (s : Bool) (d : Dest) → slice_get c.instrs k ≡ Some i → slice_get (dests_of i s) x ≡ Some d
+      → is_closed (folds_at (layout_of p c) (k + d.ahead)) d.port ≡ true
       → (i.op ≡ Lit (value_at (k + d.ahead))) × (d.port ≡ port_at (k + d.ahead))
   closed_by k x i s d at there shut = go (folds_at (layout_of p c) (k + d.ahead)) d.port refl refl shut
     where
@@ -125,10 +132,12 @@ module _ (p : Plan) (c : CodeBlock) where
       by q z e T =
           let l = slice_get_within c.instrs (k + d.ahead) T.operator.0 T.operator.2 in
           let named = knows_namers p c k x i s d at there l in
-          let same : k ≡ T.lit = same_number k T.lit s T.lit_side (this_one k T.lit s T.lit_side (namer_of (namers_of p c) (k + d.ahead) d.port) named (ap (namer_of (namers_of p c) (k + d.ahead)) e ∙ T.alone)) in
+          let same : k ≡ T.lit = same_number k T.lit s T.lit_side (this_one k T.lit s T.lit_side (namer_of (namers_of p c) (k + d.ahead) d.port) named
+          (ap (namer_of (namers_of p c) (k + d.ahead)) e ∙ T.alone)) in
           some_op i T.literal.0 (sym at ∙ ap (slice_get c.instrs) same ∙ T.literal.1) ∙ T.literal.2
 
-      go : (f : Fold) (q : Port) → folds_at (layout_of p c) (k + d.ahead) ≡ f → d.port ≡ q → is_closed f q ≡ true → (i.op ≡ Lit (value_at (k + d.ahead))) × (d.port ≡ port_at (k + d.ahead))
+      go : (f : Fold) (q : Port) → folds_at (layout_of p c) (k + d.ahead) ≡ f → d.port ≡ q → is_closed f q ≡ true
+          → (i.op ≡ Lit (value_at (k + d.ahead))) × (d.port ≡ port_at (k + d.ahead))
       go (OnRight z) Right e f h = (by Right z f (folds_on_right p c (k + d.ahead) z e) ∙ ap (λ (y : Fold). Lit (value_in y)) (sym e), f ∙ sym (ap port_in e))
       go (LeftLiteral z) Left e f h = (by Left z f (folds_on_left p c (k + d.ahead) z e) ∙ ap (λ (y : Fold). Lit (value_in y)) (sym e), f ∙ sym (ap port_in e))
       go (OnRight z) Left e f h = absurd (true≢false (sym h))

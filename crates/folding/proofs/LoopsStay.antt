@@ -57,7 +57,8 @@ block_opens p c = opens_from (layout_of p c) 0 c.instrs none
 pub still_has_bounds : StillHasBounds
 still_has_bounds fl p h = (
   length-map p.program.blocks (folded_block p) ∙ h.0,
-  λ b e g at named. let o = block_back p b e at in subst (λ xs. IsPermutation xs (loop_bounds g)) (sym (block_opens p o.0) ∙ ap open_bounds o.2) (h.1 b o.0 g o.1 named),
+  λ b e g at named. let o = block_back p b e at in subst (λ xs. IsPermutation xs (loop_bounds g)) (sym (block_opens p o.0) ∙ ap open_bounds o.2)
+      (h.1 b o.0 g o.1 named),
 )
 
 pub keeps_arrays : KeepsArrays

@@ -18,10 +18,12 @@ use Rattle.folding.specs.Folded.{mark_of, folded_block, folded_marks, all_marks,
 use Rattle.folding.specs.Laws.{KeepsMarks, StillMarksSwitches, StillMarksNoOthers}
 use Rattle.folding.proofs.Standing.{stands_at, has_no_others}
 
-marks_of_block : (p : Plan) (n : ℕ) (cs : List CodeBlock) (b : ℕ) (c : CodeBlock) → slice_get cs b ≡ Some c → slice_get (all_marks p n cs) b ≡ Some (folded_marks p (marks_in p (n + b)) c)
+marks_of_block : (p : Plan) (n : ℕ) (cs : List CodeBlock) (b : ℕ) (c : CodeBlock) → slice_get cs b ≡ Some c → slice_get (all_marks p n cs) b
+    ≡ Some (folded_marks p (marks_in p (n + b)) c)
 marks_of_block p n [] b c at = absurd (cc)
 marks_of_block p n (d ∷ cs) zero c at = let e : d ≡ c = cc in let z : n ≡ n + 0 = omega arith in (λ k. Some (folded_marks p (marks_in p (z k)) (e k)))
-marks_of_block p n (d ∷ cs) (suc b) c at = let z : n + 1 + b ≡ n + suc b = omega arith in marks_of_block p (n + 1) cs b c at ∙ ap (λ m. Some (folded_marks p (marks_in p m) c)) z
+marks_of_block p n (d ∷ cs) (suc b) c at = let z : n + 1 + b ≡ n + suc b = omega arith in marks_of_block p (n + 1) cs b c at
+    ∙ ap (λ m. Some (folded_marks p (marks_in p m) c)) z
 
 mark_is : (ms : List Mark) (n : ℕ) → mark_in (Some ms) n ≡ mark_of ms n
 mark_is ms n = elim (slice_get ms n) as (λ o. (elim o as (λ x. Mark) [ None ↦ Unmarked | Some m ↦ m ]) ≡ unwrap_or o Unmarked) [ None ↦ refl | Some m ↦ refl ]
@@ -50,7 +52,8 @@ switch_before f op e = e
 
 -- an instruction of the folded plan is one of the plan, with its mark
 abbrev Origin : Plan → ℕ → ℕ → Instr → Type 0
-Origin p b m j = (n : ℕ) × (c : CodeBlock) × (i : Instr) × (f : Fold) × (slice_get p.program.blocks b ≡ Some c) × (slice_get c.instrs n ≡ Some i) × (j.op ≡ new_op f i.op) × (mark_at (folded p) b m ≡ mark_at p b n)
+Origin p b m j = (n : ℕ) × (c : CodeBlock) × (i : Instr) × (f : Fold) × (slice_get p.program.blocks b ≡ Some c) × (slice_get c.instrs n ≡ Some i)
+    × (j.op ≡ new_op f i.op) × (mark_at (folded p) b m ≡ mark_at p b n)
 
 origin : (p : Plan) (b m : ℕ) (d : CodeBlock) (j : Instr) → slice_get (folded p).program.blocks b ≡ Some d → slice_get d.instrs m ≡ Some j → Origin p b m j
 origin p b m d j block at = in_block (map_got (folded_block p) p.program.blocks b d block)
@@ -58,8 +61,19 @@ origin p b m d j block at = in_block (map_got (folded_block p) p.program.blocks 
     in_block : (c : CodeBlock) × (slice_get p.program.blocks b ≡ Some c) × (d ≡ folded_block p c) → Origin p b m j
     in_block (c, there, same) = found (has_no_others p c m j (sym (ap (λ (x : CodeBlock). slice_get x.instrs m) same) ∙ at))
       where
-        found : (n : ℕ) × (i : Instr) × (slice_get c.instrs n ≡ Some i) × (gone_at (layout_of p c) n ≡ false) × (new_place (layout_of p c) n ≡ m) × (j ≡ moved (layout_of p c) n i) → Origin p b m j
-        found (n, i, stood, stay, place, e) = (n, c, i, folds_at (layout_of p c) n, there, stood, ap (λ (x : Instr). x.op) e, sym (ap (mark_at (folded p) b) place) ∙ keeps_marks p b c n i there stood stay)
+        found : (n : ℕ) × (i : Instr) × (slice_get c.instrs n ≡ Some i) × (gone_at (layout_of p c) n ≡ false) × (new_place (layout_of p c) n ≡ m)
+            × (j ≡ moved (layout_of p c) n i) → Origin p b m j
+        found (n, i, stood, stay, place, e) = (
+          n,
+          c,
+          i,
+          folds_at (layout_of p c) n,
+          there,
+          stood,
+          ap (λ (x : Instr). x.op) e,
+          sym
+              (ap (mark_at (folded p) b) place) ∙ keeps_marks p b c n i there stood stay,
+        )
 
 pub still_marks_switches : StillMarksSwitches
 still_marks_switches p marked b m d j block at switch = by_origin (origin p b m d j block at)

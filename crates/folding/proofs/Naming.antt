@@ -1,5 +1,6 @@
 -- What the table of namers says.
-use Rattle.std.proofs.Common.{◌≡◌, ℕ, zero, suc, ◌+◌, ◌<◌, ◌≤◌, Bool, true, false, List, ◌∷◌, length, refl, sym, ap, ◌∙◌, subst, inl, inr, ◌⊎◌, arith, Some, length-set, []}
+use Rattle.std.proofs.Common.{◌≡◌, ℕ, zero, suc, ◌+◌, ◌<◌, ◌≤◌, Bool, true, false, List, ◌∷◌, length, refl, sym, ap, ◌∙◌, subst, inl, inr, ◌⊎◌}
+use Rattle.std.proofs.Common.{arith, Some, length-set, []}
 use Rattle.std.specs.Prelude.{slice_get, slice_set}
 use Rattle.std.proofs.lemmas.Bool.{cases_eq, cases_lt}
 use Rattle.std.proofs.lemmas.List.{get_or-set_same, get_or-set_other, get_or_past, length-replicate}
@@ -12,7 +13,8 @@ use Rattle.semantics.specs.Program.{Instr}
 use Rattle.semantics.specs.Plan.{Plan, landing}
 use Rattle.folding.specs.declared.namers.Namer.{Namer}
 use Rattle.folding.specs.declared.namers.Namer.TheVariants.{Nobody, One, Many}
-use Rattle.folding.specs.Namers.{Namers, namer_at, namer_of, again, noted, note_dests, note_row, note_landings, note_link, note_instr, note_all, nobody, entries_noted, namers_of}
+use Rattle.folding.specs.Namers.{Namers, namer_at, namer_of, again, noted, note_dests, note_row, note_landings, note_link, note_instr, note_all}
+use Rattle.folding.specs.Namers.{nobody, entries_noted, namers_of}
 use Rattle.folding.specs.Laws.{dests_of, NamedBy, KnowsNamers}
 
 -- A port that is noted again keeps its namer, or gets many, or had none.
@@ -49,12 +51,14 @@ many_grows ns m k = put_grows ns m Many k (inr (inl refl))
 
 row_grows : (ns : List Namer) (from count k : ℕ) → Grows (namer_at ns k) (namer_at (note_row ns from count) k)
 row_grows ns from zero k = inl refl
-row_grows ns from (suc c) k = grows_then (namer_at ns k) (namer_at (note_row ns from c) k) (namer_at (note_row ns from (suc c)) k) (row_grows ns from c k) (many_grows (note_row ns from c) (from + c) k)
+row_grows ns from (suc c) k = grows_then (namer_at ns k) (namer_at (note_row ns from c) k) (namer_at (note_row ns from (suc c)) k)
+    (row_grows ns from c k) (many_grows (note_row ns from c) (from + c) k)
 
 pub landings_grow : (ns : List Namer) (n size : ℕ) (ds : List Dest) (k : ℕ) → Grows (namer_at ns k) (namer_at (note_landings ns n size ds) k)
 landings_grow ns n size [] k = inl refl
 landings_grow ns n size (d ∷ ds) k =
-    grows_then (namer_at ns k) (namer_at (note_row ns (n + d.ahead) size) k) (namer_at (note_landings ns n size (d ∷ ds)) k) (row_grows ns (n + d.ahead) size k) (landings_grow (note_row ns (n + d.ahead) size) n size ds k)
+    grows_then (namer_at ns k) (namer_at (note_row ns (n + d.ahead) size) k) (namer_at (note_landings ns n size (d ∷ ds)) k)
+    (row_grows ns (n + d.ahead) size k) (landings_grow (note_row ns (n + d.ahead) size) n size ds k)
 
 abbrev pub AllGrow : Namers → Namers → Type 0
 AllGrow ns ms = (k : ℕ) (q : Port) → Grows (namer_of ns k q) (namer_of ms k q)
@@ -71,7 +75,8 @@ noted_grows ns m Right x k Right = put_grows ns.rights m (again (namer_at ns.rig
 dests_grow : (ns : Namers) (n : ℕ) (s : Bool) (ds : List Dest) → AllGrow ns (note_dests ns n s ds)
 dests_grow ns n s [] k q = inl refl
 dests_grow ns n s (d ∷ ds) k q =
-    all_then ns (noted ns (n + d.ahead) d.port (One n s)) (note_dests ns n s (d ∷ ds)) (noted_grows ns (n + d.ahead) d.port (One n s)) (dests_grow (noted ns (n + d.ahead) d.port (One n s)) n s ds) k q
+    all_then ns (noted ns (n + d.ahead) d.port (One n s)) (note_dests ns n s (d ∷ ds)) (noted_grows ns (n + d.ahead) d.port (One n s))
+    (dests_grow (noted ns (n + d.ahead) d.port (One n s)) n s ds) k q
 
 pub link_grows : (p : Plan) (ns : Namers) (n : ℕ) (i : Instr) (op : Op) → AllGrow ns (note_link p ns n i op)
 link_grows p ns n i (Link b) k Left = landings_grow ns.lefts n (landing p b) i.firsts k
@@ -92,7 +97,8 @@ instr_grows p ns n i =
 
 pub all_grow : (p : Plan) (ns : Namers) (n : ℕ) (is : List Instr) → AllGrow ns (note_all p ns n is)
 all_grow p ns n [] k q = inl refl
-all_grow p ns n (i ∷ is) k q = all_then ns (note_instr p ns n i) (note_all p ns n (i ∷ is)) (instr_grows p ns n i) (all_grow p (note_instr p ns n i) (n + 1) is) k q
+all_grow p ns n (i ∷ is) k q = all_then ns (note_instr p ns n i) (note_all p ns n (i ∷ is)) (instr_grows p ns n i)
+    (all_grow p (note_instr p ns n i) (n + 1) is) k q
 
 -- HOW MANY PORTS THERE ARE
 abbrev pub Sized : Namers → ℕ → Type 0
@@ -136,34 +142,44 @@ again_named (One m t) n s = inr refl
 again_named Many n s = inr refl
 
 noted_named : (ns : Namers) (m : ℕ) (q : Port) (n : ℕ) (s : Bool) (c : ℕ) → Sized ns c → m < c → NamedBy n s (namer_of (noted ns m q (One n s)) m q)
-noted_named ns m Left n s c (a, b) h = subst (NamedBy n s) (sym (get_or-set_same ns.lefts m (again (namer_at ns.lefts m) (One n s)) Nobody (omega (arith, h, a)))) (again_named (namer_at ns.lefts m) n s)
-noted_named ns m Right n s c (a, b) h = subst (NamedBy n s) (sym (get_or-set_same ns.rights m (again (namer_at ns.rights m) (One n s)) Nobody (omega (arith, h, b)))) (again_named (namer_at ns.rights m) n s)
+noted_named ns m Left n s c (a, b) h = subst (NamedBy n s)
+    (sym (get_or-set_same ns.lefts m (again (namer_at ns.lefts m) (One n s)) Nobody (omega (arith, h, a)))) (again_named (namer_at ns.lefts m) n s)
+noted_named ns m Right n s c (a, b) h = subst (NamedBy n s)
+    (sym (get_or-set_same ns.rights m (again (namer_at ns.rights m) (One n s)) Nobody (omega (arith, h, b)))) (again_named (namer_at ns.rights m) n s)
 
-dests_named : (ns : Namers) (n : ℕ) (s : Bool) (ds : List Dest) (k : ℕ) (d : Dest) (c : ℕ) → Sized ns c → slice_get ds k ≡ Some d → n + d.ahead < c → NamedBy n s (namer_of (note_dests ns n s ds) (n + d.ahead) d.port)
+dests_named : (ns : Namers) (n : ℕ) (s : Bool) (ds : List Dest) (k : ℕ) (d : Dest) (c : ℕ) → Sized ns c → slice_get ds k ≡ Some d → n + d.ahead < c
+    → NamedBy n s (namer_of (note_dests ns n s ds) (n + d.ahead) d.port)
 dests_named ns n s [] k d c size at h = absurd (cc)
 dests_named ns n s (e ∷ ds) zero d c size at h =
     let same : e ≡ d = cc in
     let ms = noted ns (n + d.ahead) d.port (One n s) in
     subst (λ (x : Dest). NamedBy n s (namer_of (note_dests (noted ns (n + x.ahead) x.port (One n s)) n s ds) (n + d.ahead) d.port)) (sym same)
-    (named_grows n s (namer_of ms (n + d.ahead) d.port) (namer_of (note_dests ms n s ds) (n + d.ahead) d.port) (noted_named ns (n + d.ahead) d.port n s c size h) (dests_grow ms n s ds (n + d.ahead) d.port))
-dests_named ns n s (e ∷ ds) (suc k) d c size at h = dests_named (noted ns (n + e.ahead) e.port (One n s)) n s ds k d c (noted_sized ns (n + e.ahead) e.port (One n s) c size) at h
+    (named_grows n s (namer_of ms (n + d.ahead) d.port) (namer_of (note_dests ms n s ds) (n + d.ahead) d.port)
+    (noted_named ns (n + d.ahead) d.port n s c size h) (dests_grow ms n s ds (n + d.ahead) d.port))
+dests_named ns n s (e ∷ ds) (suc k) d c size at h = dests_named (noted ns (n + e.ahead) e.port (One n s)) n s ds k d c
+    (noted_sized ns (n + e.ahead) e.port (One n s) c size) at h
 
-instr_named : (p : Plan) (ns : Namers) (n : ℕ) (i : Instr) (s : Bool) (k : ℕ) (d : Dest) (c : ℕ) → Sized ns c → slice_get (dests_of i s) k ≡ Some d → n + d.ahead < c → NamedBy n s (namer_of (note_instr p ns n i) (n + d.ahead) d.port)
+instr_named : (p : Plan) (ns : Namers) (n : ℕ) (i : Instr) (s : Bool) (k : ℕ) (d : Dest) (c : ℕ) → Sized ns c → slice_get (dests_of i s) k ≡ Some d
+    → n + d.ahead < c → NamedBy n s (namer_of (note_instr p ns n i) (n + d.ahead) d.port)
 instr_named p ns n i false k d c size at h =
-    named_grows n false (namer_of (mid ns n i) (n + d.ahead) d.port) (namer_of (note_instr p ns n i) (n + d.ahead) d.port) (dests_named ns n false i.firsts k d c size at h)
-    (all_then (mid ns n i) (late ns n i) (note_instr p ns n i) (dests_grow (mid ns n i) n true i.seconds) (link_grows p (late ns n i) n i i.op) (n + d.ahead) d.port)
+    named_grows n false (namer_of (mid ns n i) (n + d.ahead) d.port) (namer_of (note_instr p ns n i) (n + d.ahead) d.port)
+    (dests_named ns n false i.firsts k d c size at h)
+    (all_then (mid ns n i) (late ns n i) (note_instr p ns n i) (dests_grow (mid ns n i) n true i.seconds) (link_grows p (late ns n i) n i i.op)
+    (n + d.ahead) d.port)
 instr_named p ns n i true k d c size at h =
     named_grows n true (namer_of (late ns n i) (n + d.ahead) d.port) (namer_of (note_instr p ns n i) (n + d.ahead) d.port)
     (dests_named (mid ns n i) n true i.seconds k d c (dests_sized ns n false i.firsts c size) at h)
     (link_grows p (late ns n i) n i i.op (n + d.ahead) d.port)
 
 all_named : (p : Plan) (ns : Namers) (n : ℕ) (is : List Instr) (v : ℕ) (i : Instr) (s : Bool) (k : ℕ) (d : Dest) (c : ℕ) → Sized ns c
-    → slice_get is v ≡ Some i → slice_get (dests_of i s) k ≡ Some d → n + v + d.ahead < c → NamedBy (n + v) s (namer_of (note_all p ns n is) (n + v + d.ahead) d.port)
+    → slice_get is v ≡ Some i → slice_get (dests_of i s) k ≡ Some d → n + v + d.ahead < c
+    → NamedBy (n + v) s (namer_of (note_all p ns n is) (n + v + d.ahead) d.port)
 all_named p ns n [] v i s k d c size there at h = absurd (cc)
 all_named p ns n (j ∷ is) zero i s k d c size there at h =
     let e : j ≡ i = cc in let z : n ≡ n + 0 = omega arith in
     let ms = note_instr p ns n i in
-    let one = named_grows n s (namer_of ms (n + d.ahead) d.port) (namer_of (note_all p ms (n + 1) is) (n + d.ahead) d.port) (instr_named p ns n i s k d c size at (omega (arith, h, z))) (all_grow p ms (n + 1) is (n + d.ahead) d.port) in
+    let one = named_grows n s (namer_of ms (n + d.ahead) d.port) (namer_of (note_all p ms (n + 1) is) (n + d.ahead) d.port)
+    (instr_named p ns n i s k d c size at (omega (arith, h, z))) (all_grow p ms (n + 1) is (n + d.ahead) d.port) in
     subst (λ m. NamedBy m s (namer_of (note_all p ns n (j ∷ is)) (m + d.ahead) d.port)) z
     (subst (λ (x : Instr). NamedBy n s (namer_of (note_all p (note_instr p ns n x) (n + 1) is) (n + d.ahead) d.port)) (sym e) one)
 all_named p ns n (j ∷ is) (suc v) i s k d c size there at h =
@@ -178,4 +194,5 @@ pub knows_namers : KnowsNamers
 knows_namers p c n k i s d there at h =
     let z : 0 + n ≡ n = omega arith in
     subst (λ m. NamedBy m s (namer_of (namers_of p c) (m + d.ahead) d.port)) z
-    (all_named p (entries_noted c.inputs (length c.instrs)) 0 c.instrs n i s k d (length c.instrs) (entries_sized c.inputs (length c.instrs)) there at (omega (arith, h, z)))
+    (all_named p (entries_noted c.inputs (length c.instrs)) 0 c.instrs n i s k d (length c.instrs) (entries_sized c.inputs (length c.instrs)) there at
+    (omega (arith, h, z)))

@@ -1,6 +1,7 @@
 -- The literals that one list of destinations triggers give their words to the operators that the list names: each folded
 -- operator that it names gets the one word from it, and the other from a literal that it triggers.
-use Rattle.std.proofs.Common.{◌≡◌, refl, sym, ap, ◌∙◌, subst, ℕ, zero, suc, ◌+◌, ◌<◌, ◌≤◌, ◌⊎◌, inl, inr, Bool, true, false, true≢false, ◌&&◌, ℤ, List, ◌∷◌, ◌++◌, length, Option, Some, None, IsPermutation, arith, if◌then◌else◌, not, []}
+use Rattle.std.proofs.Common.{◌≡◌, refl, sym, ap, ◌∙◌, subst, ℕ, zero, suc, ◌+◌, ◌<◌, ◌≤◌, ◌⊎◌, inl, inr, Bool, true, false, true≢false, ◌&&◌, ℤ}
+use Rattle.std.proofs.Common.{List, ◌∷◌, ◌++◌, length, Option, Some, None, IsPermutation, arith, if◌then◌else◌, not, []}
 use Rattle.std.specs.Prelude.{slice_get, flat_map}
 use Rattle.std.proofs.lemmas.Option.{slice_get_within}
 use Rattle.std.proofs.lemmas.Bool.{cases_eq, eq-eqb, ne_eqb}
@@ -55,7 +56,8 @@ module _ (p : Plan) (c : CodeBlock) where
 
   -- the folded operators of which such destinations name the other port
   abbrev pub wanted_one : ℕ → Dest → List ℕ
-  wanted_one n d = if is_folded (folds_at (layout_of p c) (n + d.ahead)) && not (is_closed (folds_at (layout_of p c) (n + d.ahead)) d.port) then (n + d.ahead) ∷ [] else []
+  wanted_one n d = if is_folded (folds_at (layout_of p c) (n + d.ahead)) && not (is_closed (folds_at (layout_of p c) (n + d.ahead)) d.port) then
+      (n + d.ahead) ∷ [] else []
 
   abbrev pub wanted : ℕ → List Dest → List ℕ
   wanted n ds = flat_map (wanted_one n) ds
@@ -70,7 +72,8 @@ module _ (p : Plan) (c : CodeBlock) where
       go false (inr d) k = sym (ap one (apart d))
 
   -- ---- A FOLDED OPERATOR
-  module _ (x : ℕ) (qc : Port) (shut : (q : Port) → is_closed (folds_at (layout_of p c) x) q ≡ eq_port q qc) (folds : is_folded (folds_at (layout_of p c) x) ≡ true) where
+  module _ (x : ℕ) (qc : Port) (shut : (q : Port) → is_closed (folds_at (layout_of p c) x) q ≡ eq_port q qc)
+      (folds : is_folded (folds_at (layout_of p c) x) ≡ true) where
     names_apart : (n : ℕ) (q : Port) (d : Dest) → (n + d.ahead ≡ x → ⊥) → names n x q d ≡ false
     names_apart n q d apart = ap (λ (t : Bool). t && eq_port d.port q) (ne_eqb (n + d.ahead) x apart)
 
@@ -82,7 +85,8 @@ module _ (p : Plan) (c : CodeBlock) where
     closed_count m (u ∷ us) =
         let a = cnt_join x (closed_one m u) (closed_in m us) in
         let b : cnt x (closed_one m u) ≡ one (names m x qc u) =
-        cnt_if x (m + u.ahead) (is_closed (folds_at (layout_of p c) (m + u.ahead)) u.port) (names m x qc u) (λ e. ap (λ (y : ℕ). is_closed (folds_at (layout_of p c) y) u.port) e ∙ shut u.port ∙ sym (names_at m qc u e)) (names_apart m qc u) in
+        cnt_if x (m + u.ahead) (is_closed (folds_at (layout_of p c) (m + u.ahead)) u.port) (names m x qc u)
+        (λ e. ap (λ (y : ℕ). is_closed (folds_at (layout_of p c) y) u.port) e ∙ shut u.port ∙ sym (names_at m qc u e)) (names_apart m qc u) in
         let k = closed_count m us in
         omega (arith, a, b, k)
 
@@ -97,13 +101,16 @@ module _ (p : Plan) (c : CodeBlock) where
     wanted_count n (d ∷ ds) =
         let a = cnt_join x (wanted_one n d) (wanted n ds) in
         let b : cnt x (wanted_one n d) ≡ one (names n x (other_port qc) d) =
-        cnt_if x (n + d.ahead) (is_folded (folds_at (layout_of p c) (n + d.ahead)) && not (is_closed (folds_at (layout_of p c) (n + d.ahead)) d.port)) (names n x (other_port qc) d)
+        cnt_if x (n + d.ahead) (is_folded (folds_at (layout_of p c) (n + d.ahead)) && not (is_closed (folds_at (layout_of p c) (n + d.ahead)) d.port))
+        (names n x (other_port qc) d)
         (λ e. ap (λ (y : ℕ). is_folded (folds_at (layout_of p c) y) && not (is_closed (folds_at (layout_of p c) y) d.port)) e
-        ∙ ap (λ (t : Bool). t && not (is_closed (folds_at (layout_of p c) x) d.port)) folds ∙ ap not (shut d.port) ∙ other_is d.port qc ∙ sym (names_at n (other_port qc) d e)) (names_apart n (other_port qc) d) in
+        ∙ ap (λ (t : Bool). t && not (is_closed (folds_at (layout_of p c) x) d.port)) folds ∙ ap not (shut d.port) ∙ other_is d.port qc
+        ∙ sym (names_at n (other_port qc) d e)) (names_apart n (other_port qc) d) in
         let k = wanted_count n ds in
         omega (arith, a, b, k)
 
-    module _ (z : ℤ) (T : TakesLiteral p c x qc z) (spares : SparesLiterals c) (inside : (n k : ℕ) (i : Instr) (s : Bool) (d : Dest) → slice_get c.instrs n ≡ Some i → slice_get (dests_of i s) k ≡ Some d → n + d.ahead < length c.instrs) where
+    module _ (z : ℤ) (T : TakesLiteral p c x qc z) (spares : SparesLiterals c) (inside : (n k : ℕ) (i : Instr) (s : Bool) (d : Dest)
+        → slice_get c.instrs n ≡ Some i → slice_get (dests_of i s) k ≡ Some d → n + d.ahead < length c.instrs) where
       abbrev lit : ℕ
       lit = T.lit
 
@@ -112,12 +119,14 @@ module _ (p : Plan) (c : CodeBlock) where
       zero_or (suc a) = inr (omega arith)
 
       -- what names a port that one list names alone is that list
-      its_list : (m : ℕ) (q : Port) (a n : ℕ) (t s : Bool) (i : Instr) → slice_get c.instrs n ≡ Some i → namer_of (namers_of p c) m q ≡ One a t → 1 ≤ named n m q (dests_of i s) → One n s ≡ One a t
+      its_list : (m : ℕ) (q : Port) (a n : ℕ) (t s : Bool) (i : Instr) → slice_get c.instrs n ≡ Some i → namer_of (namers_of p c) m q ≡ One a t
+          → 1 ≤ named n m q (dests_of i s) → One n s ≡ One a t
       its_list m q a n t s i at e h =
           let b = named_by n m q (dests_of i s) h in
           let l = inside n b.0 i s b.1 at b.2 in
           let k : NamedBy n s (namer_of (namers_of p c) m q) =
-          subst (λ (r : Port). NamedBy n s (namer_of (namers_of p c) m r)) b.4 (subst (λ (y : ℕ). NamedBy n s (namer_of (namers_of p c) y (b.1).port)) b.3 (knows_namers p c n b.0 i s b.1 at b.2 l)) in
+          subst (λ (r : Port). NamedBy n s (namer_of (namers_of p c) m r)) b.4 (subst (λ (y : ℕ). NamedBy n s (namer_of (namers_of p c) y (b.1).port))
+          b.3 (knows_namers p c n b.0 i s b.1 at b.2 l)) in
           this_one n a s t (namer_of (namers_of p c) m q) k e
 
       low_x : x < length c.instrs
@@ -137,13 +146,16 @@ module _ (p : Plan) (c : CodeBlock) where
           alone : named T.lit x qc (dests_of j T.lit_side) ≡ 1
           alone = named_once p c x qc T.lit T.lit_side j low_x at T.alone
 
-          go : (named T.lit x qc (dests_of j s) ≡ 0) ⊎ (1 ≤ named T.lit x qc (dests_of j s)) → (a b : Bool) → s ≡ a → T.lit_side ≡ b → named T.lit x qc (dests_of j s) ≡ (if same_bool a b then 1 else 0)
+          go : (named T.lit x qc (dests_of j s) ≡ 0) ⊎ (1 ≤ named T.lit x qc (dests_of j s)) → (a b : Bool) → s ≡ a → T.lit_side ≡ b
+              → named T.lit x qc (dests_of j s) ≡ (if same_bool a b then 1 else 0)
           go o true true e f = ap (λ (t : Bool). named T.lit x qc (dests_of j t)) (e ∙ sym f) ∙ alone
           go o false false e f = ap (λ (t : Bool). named T.lit x qc (dests_of j t)) (e ∙ sym f) ∙ alone
           go (inl none) true false e f = none
           go (inl none) false true e f = none
-          go (inr some) true false e f = absurd (true≢false (sym e ∙ same_list T.lit T.lit s T.lit_side (its_list x qc T.lit T.lit T.lit_side s j at T.alone some) ∙ f))
-          go (inr some) false true e f = absurd (true≢false (sym f ∙ sym (same_list T.lit T.lit s T.lit_side (its_list x qc T.lit T.lit T.lit_side s j at T.alone some)) ∙ e))
+          go (inr some) true false e f = absurd (true≢false
+              (sym e ∙ same_list T.lit T.lit s T.lit_side (its_list x qc T.lit T.lit T.lit_side s j at T.alone some) ∙ f))
+          go (inr some) false true e f = absurd (true≢false
+              (sym f ∙ sym (same_list T.lit T.lit s T.lit_side (its_list x qc T.lit T.lit T.lit_side s j at T.alone some)) ∙ e))
 
       both_sides : (s : Bool) → (if same_bool false s then 1 else 0) + (if same_bool true s then 1 else 0) ≡ 1
       both_sides true = refl
@@ -199,13 +211,16 @@ module _ (p : Plan) (c : CodeBlock) where
           here (inr apart) = from_other (n + d.ahead) apart ∙ sym (ap one (ap (λ (t : Bool). t && eq_port d.port Left) (ne_eqb (n + d.ahead) T.lit apart)))
 
       -- the list that names the literal names the operator
-      same_counts : (n : ℕ) (i : Instr) (s : Bool) → slice_get c.instrs n ≡ Some i → named n T.lit Left (dests_of i s) ≡ named n x (other_port qc) (dests_of i s)
+      same_counts : (n : ℕ) (i : Instr) (s : Bool) → slice_get c.instrs n ≡ Some i → named n T.lit Left (dests_of i s)
+          ≡ named n x (other_port qc) (dests_of i s)
       same_counts n i s at = go (zero_or (named n T.lit Left (dests_of i s))) (zero_or (named n x (other_port qc) (dests_of i s)))
         where
           is_one_of : One n s ≡ One T.source T.source_side → named n T.lit Left (dests_of i s) ≡ named n x (other_port qc) (dests_of i s)
-          is_one_of e = named_once p c T.lit Left n s i low_lit at (T.to_lit ∙ sym e) ∙ sym (named_once p c x (other_port qc) n s i low_x at (T.to_operator ∙ sym e))
+          is_one_of e = named_once p c T.lit Left n s i low_lit at (T.to_lit ∙ sym e)
+              ∙ sym (named_once p c x (other_port qc) n s i low_x at (T.to_operator ∙ sym e))
 
-          go : (named n T.lit Left (dests_of i s) ≡ 0) ⊎ (1 ≤ named n T.lit Left (dests_of i s)) → (named n x (other_port qc) (dests_of i s) ≡ 0) ⊎ (1 ≤ named n x (other_port qc) (dests_of i s))
+          go : (named n T.lit Left (dests_of i s) ≡ 0) ⊎ (1 ≤ named n T.lit Left (dests_of i s)) → (named n x (other_port qc) (dests_of i s) ≡ 0) ⊎
+              (1 ≤ named n x (other_port qc) (dests_of i s))
               → named n T.lit Left (dests_of i s) ≡ named n x (other_port qc) (dests_of i s)
           go (inr some) o = is_one_of (its_list T.lit Left T.source n T.source_side s i at T.to_lit some)
           go (inl none) (inr some) = is_one_of (its_list x (other_port qc) T.source n T.source_side s i at T.to_operator some)
@@ -229,7 +244,8 @@ module _ (p : Plan) (c : CodeBlock) where
   none_closed x m (u ∷ us) off =
       let a = cnt_join x (closed_one m u) (closed_in m us) in
       let b : cnt x (closed_one m u) ≡ one false =
-      cnt_if x (m + u.ahead) (is_closed (folds_at (layout_of p c) (m + u.ahead)) u.port) false (λ e. ap (λ (y : ℕ). is_closed (folds_at (layout_of p c) y) u.port) e ∙ off u.port) (λ d. refl) in
+      cnt_if x (m + u.ahead) (is_closed (folds_at (layout_of p c) (m + u.ahead)) u.port) false
+      (λ e. ap (λ (y : ℕ). is_closed (folds_at (layout_of p c) y) u.port) e ∙ off u.port) (λ d. refl) in
       let k = none_closed x m us off in
       omega (arith, a, b, k)
 
@@ -247,12 +263,14 @@ module _ (p : Plan) (c : CodeBlock) where
       let a = cnt_join x (wanted_one n d) (wanted n ds) in
       let b : cnt x (wanted_one n d) ≡ one false =
       cnt_if x (n + d.ahead) (is_folded (folds_at (layout_of p c) (n + d.ahead)) && not (is_closed (folds_at (layout_of p c) (n + d.ahead)) d.port)) false
-      (λ e. ap (λ (y : ℕ). is_folded (folds_at (layout_of p c) y) && not (is_closed (folds_at (layout_of p c) y) d.port)) e ∙ ap (λ (t : Bool). t && not (is_closed (folds_at (layout_of p c) x) d.port)) off) (λ d. refl) in
+      (λ e. ap (λ (y : ℕ). is_folded (folds_at (layout_of p c) y) && not (is_closed (folds_at (layout_of p c) y) d.port)) e
+      ∙ ap (λ (t : Bool). t && not (is_closed (folds_at (layout_of p c) x) d.port)) off) (λ d. refl) in
       let k = none_wanted x n ds off in
       omega (arith, a, b, k)
 
   -- The words that folded operators want are given.
-  pub pairs_match : SparesLiterals c → ((n k : ℕ) (i : Instr) (s : Bool) (d : Dest) → slice_get c.instrs n ≡ Some i → slice_get (dests_of i s) k ≡ Some d → n + d.ahead < length c.instrs)
+  pub pairs_match : SparesLiterals c → ((n k : ℕ) (i : Instr) (s : Bool) (d : Dest) → slice_get c.instrs n ≡ Some i → slice_get (dests_of i s) k
+      ≡ Some d → n + d.ahead < length c.instrs)
       → (n : ℕ) (i : Instr) (s : Bool) → slice_get c.instrs n ≡ Some i → IsPermutation (given n (dests_of i s)) (wanted n (dests_of i s))
   pairs_match spares inside n i s at = by_counts (given n (dests_of i s)) (wanted n (dests_of i s)) (λ x. go x (folds_at (layout_of p c) x) refl)
     where
@@ -266,5 +284,7 @@ module _ (p : Plan) (c : CodeBlock) where
 
       go : (x : ℕ) (f : Fold) → folds_at (layout_of p c) x ≡ f → cnt x (given n (dests_of i s)) ≡ cnt x (wanted n (dests_of i s))
       go x Unchanged e = none_given x n (dests_of i s) (λ q. ap (λ (f : Fold). is_closed f q) e) ∙ sym (none_wanted x n (dests_of i s) (ap is_folded e))
-      go x (OnRight z) e = counts_agree x Right (λ q. ap (λ (f : Fold). is_closed f q) e ∙ right_shut z q) (ap is_folded e) z (folds_on_right p c x z e) spares inside n i s at
-      go x (LeftLiteral z) e = counts_agree x Left (λ q. ap (λ (f : Fold). is_closed f q) e ∙ left_shut z q) (ap is_folded e) z (folds_on_left p c x z e) spares inside n i s at
+      go x (OnRight z) e = counts_agree x Right (λ q. ap (λ (f : Fold). is_closed f q) e ∙ right_shut z q) (ap is_folded e) z
+          (folds_on_right p c x z e) spares inside n i s at
+      go x (LeftLiteral z) e = counts_agree x Left (λ q. ap (λ (f : Fold). is_closed f q) e ∙ left_shut z q) (ap is_folded e) z
+          (folds_on_left p c x z e) spares inside n i s at

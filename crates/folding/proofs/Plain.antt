@@ -1,6 +1,7 @@
 -- Instructions that fold nothing and of which no word goes to an operator that has it in its code: those that get words from
 -- elsewhere, and those that an instruction with one destination names.
-use Rattle.std.proofs.Common.{◌≡◌, refl, sym, ap, ◌∙◌, subst, ℕ, ℤ, zero, suc, ◌+◌, ◌<◌, ◌≤◌, ◌⊎◌, inl, inr, Bool, true, false, true≢false, ◌&&◌, List, ◌∷◌, ◌++◌, length, Option, Some, arith, []}
+use Rattle.std.proofs.Common.{◌≡◌, refl, sym, ap, ◌∙◌, subst, ℕ, ℤ, zero, suc, ◌+◌, ◌<◌, ◌≤◌, ◌⊎◌, inl, inr, Bool, true, false, true≢false, ◌&&◌}
+use Rattle.std.proofs.Common.{List, ◌∷◌, ◌++◌, length, Option, Some, arith, []}
 use Rattle.std.specs.Prelude.{slice_get, if◌then◌else◌}
 use Rattle.std.proofs.lemmas.Option.{slice_get_within}
 use Rattle.std.proofs.lemmas.List.Concat.{flat_map-append}
@@ -34,12 +35,15 @@ module _ (p : Plan) (c : CodeBlock) where
     pub unused : closed_uses p c m ≡ []
 
   -- some use is in the code, or none is
-  used_or : (m : ℕ) (us : List Dest) → (closed_in p c m us ≡ []) ⊎ ((k : ℕ) × (d : Dest) × (slice_get us k ≡ Some d) × (is_closed (folds_at (layout_of p c) (m + d.ahead)) d.port ≡ true))
+  used_or : (m : ℕ) (us : List Dest) → (closed_in p c m us ≡ []) ⊎ ((k : ℕ) × (d : Dest) × (slice_get us k ≡ Some d)
+      × (is_closed (folds_at (layout_of p c) (m + d.ahead)) d.port ≡ true))
   used_or m [] = inl refl
   used_or m (u ∷ us) = go (is_closed (folds_at (layout_of p c) (m + u.ahead)) u.port) refl (used_or m us)
     where
-      go : (b : Bool) → is_closed (folds_at (layout_of p c) (m + u.ahead)) u.port ≡ b → (closed_in p c m us ≡ []) ⊎ ((k : ℕ) × (d : Dest) × (slice_get us k ≡ Some d) × (is_closed (folds_at (layout_of p c) (m + d.ahead)) d.port ≡ true))
-          → (closed_in p c m (u ∷ us) ≡ []) ⊎ ((k : ℕ) × (d : Dest) × (slice_get (u ∷ us) k ≡ Some d) × (is_closed (folds_at (layout_of p c) (m + d.ahead)) d.port ≡ true))
+      go : (b : Bool) → is_closed (folds_at (layout_of p c) (m + u.ahead)) u.port ≡ b → (closed_in p c m us ≡ []) ⊎ ((k : ℕ) × (d : Dest)
+          × (slice_get us k ≡ Some d) × (is_closed (folds_at (layout_of p c) (m + d.ahead)) d.port ≡ true))
+          → (closed_in p c m (u ∷ us) ≡ []) ⊎ ((k : ℕ) × (d : Dest) × (slice_get (u ∷ us) k ≡ Some d)
+          × (is_closed (folds_at (layout_of p c) (m + d.ahead)) d.port ≡ true))
       go true e r = inr (0, u, refl, e)
       go false e (inl none) = inl (λ k. (if e k then (m + u.ahead) ∷ [] else []) ++ none k)
       go false e (inr r) = inr (suc r.0, r.1, r.2, r.3)
@@ -55,22 +59,30 @@ module _ (p : Plan) (c : CodeBlock) where
   same_instr : (i j : Instr) → Some i ≡ Some j → i ≡ j
   same_instr i j e = cc
 
-  by_use : (m k : ℕ) (j : Instr) (s : Bool) (d : Dest) → slice_get c.instrs m ≡ Some j → slice_get (dests_of j s) k ≡ Some d → is_closed (folds_at (layout_of p c) (m + d.ahead)) d.port ≡ true → Paired m
+  by_use : (m k : ℕ) (j : Instr) (s : Bool) (d : Dest) → slice_get c.instrs m ≡ Some j → slice_get (dests_of j s) k ≡ Some d
+      → is_closed (folds_at (layout_of p c) (m + d.ahead)) d.port ≡ true → Paired m
   by_use m k j s d at there shut = go (closed_takes p c (m + d.ahead) d.port shut)
     where
       go : (z : ℤ) × TakesLiteral p c (m + d.ahead) d.port z → Paired m
       go (z, T) =
           let l = slice_get_within c.instrs (m + d.ahead) T.operator.0 T.operator.2 in
-          let same : m ≡ T.lit = same_number m T.lit s T.lit_side (this_one m T.lit s T.lit_side (namer_of (namers_of p c) (m + d.ahead) d.port) (knows_namers p c m k j s d at there l) T.alone) in
+          let same : m ≡ T.lit = same_number m T.lit s T.lit_side (this_one m T.lit s T.lit_side (namer_of (namers_of p c) (m + d.ahead) d.port)
+          (knows_namers p c m k j s d at there l) T.alone) in
           record { x = m + d.ahead; q = d.port; z = z; takes = T; which = inr same }
 
   pub plain_or : (m : ℕ) (j : Instr) → slice_get c.instrs m ≡ Some j → PlainAt m ⊎ Paired m
   plain_or m j at = by_fold (folds_at (layout_of p c) m) refl
     where
       by_uses : is_folded (folds_at (layout_of p c) m) ≡ false
-          → (closed_in p c m j.firsts ≡ []) ⊎ ((k : ℕ) × (d : Dest) × (slice_get j.firsts k ≡ Some d) × (is_closed (folds_at (layout_of p c) (m + d.ahead)) d.port ≡ true))
-          → (closed_in p c m j.seconds ≡ []) ⊎ ((k : ℕ) × (d : Dest) × (slice_get j.seconds k ≡ Some d) × (is_closed (folds_at (layout_of p c) (m + d.ahead)) d.port ≡ true)) → PlainAt m ⊎ Paired m
-      by_uses f (inl a) (inl b) = inl record { folded = f; unused = ap (λ (o : Option Instr). closed_in p c m (uses_in p c o)) at ∙ flat_map-append (closed_one p c m) j.firsts j.seconds ∙ (λ k. a k ++ b k) }
+          → (closed_in p c m j.firsts ≡ []) ⊎ ((k : ℕ) × (d : Dest) × (slice_get j.firsts k ≡ Some d)
+          × (is_closed (folds_at (layout_of p c) (m + d.ahead)) d.port ≡ true))
+          → (closed_in p c m j.seconds ≡ []) ⊎ ((k : ℕ) × (d : Dest) × (slice_get j.seconds k ≡ Some d)
+          × (is_closed (folds_at (layout_of p c) (m + d.ahead)) d.port ≡ true)) → PlainAt m ⊎ Paired m
+      by_uses f (inl a) (inl b) = inl record {
+        folded = f;
+        unused = ap (λ (o : Option Instr). closed_in p c m (uses_in p c o)) at
+            ∙ flat_map-append (closed_one p c m) j.firsts j.seconds ∙ (λ k. a k ++ b k);
+      }
       by_uses f (inr r) o = inr (by_use m r.0 j false r.1 at r.2 r.3)
       by_uses f (inl a) (inr r) = inr (by_use m r.0 j true r.1 at r.2 r.3)
 
@@ -88,7 +100,8 @@ module _ (p : Plan) (c : CodeBlock) where
     where
       at_operator : (q : Port) → R.q ≡ q → m ≡ R.x → ⊥
       at_operator Left e same = one_many R.takes.lit R.takes.lit_side (sym R.takes.alone ∙ (λ k. namer_of (namers_of p c) (sym same k) (e k)) ∙ many)
-      at_operator Right e same = one_many R.takes.source R.takes.source_side (sym R.takes.to_operator ∙ (λ k. namer_of (namers_of p c) (sym same k) (other_port (e k))) ∙ many)
+      at_operator Right e same = one_many R.takes.source R.takes.source_side (sym R.takes.to_operator
+          ∙ (λ k. namer_of (namers_of p c) (sym same k) (other_port (e k))) ∙ many)
 
       go : (m ≡ R.x) ⊎ (m ≡ R.takes.lit) → ⊥
       go (inl e) = at_operator R.q refl e
@@ -106,17 +119,20 @@ module _ (p : Plan) (c : CodeBlock) where
   entry_plain n h there = let j = get_some c.instrs n there in many_plain n j.0 j.1 (entry_many p c n h there)
 
   -- one of a landing,
-  pub landing_plain : (n k b : ℕ) (i : Instr) (d : Dest) → slice_get c.instrs n ≡ Some i → i.op ≡ Link b → slice_get i.firsts 0 ≡ Some d → k < landing p b → n + d.ahead + k < length c.instrs → PlainAt (n + d.ahead + k)
+  pub landing_plain : (n k b : ℕ) (i : Instr) (d : Dest) → slice_get c.instrs n ≡ Some i → i.op ≡ Link b → slice_get i.firsts 0 ≡ Some d
+      → k < landing p b → n + d.ahead + k < length c.instrs → PlainAt (n + d.ahead + k)
   landing_plain n k b i d at op there h l =
       let z : 0 + n ≡ n = omega arith in
       let many : namer_of (namers_of p c) (n + d.ahead + k) Left ≡ Many =
       subst (λ m. namer_at (namers_of p c).lefts (m + d.ahead + k) ≡ Many) z
-      (all_many p (entries_noted c.inputs (length c.instrs)) 0 c.instrs n i b 0 k (length c.instrs) d (entries_sized c.inputs (length c.instrs)) at op there h (omega (arith, l, z))) in
+      (all_many p (entries_noted c.inputs (length c.instrs)) 0 c.instrs n i b 0 k (length c.instrs) d (entries_sized c.inputs (length c.instrs)) at op
+      there h (omega (arith, l, z))) in
       let j = get_some c.instrs (n + d.ahead + k) l in many_plain (n + d.ahead + k) j.0 j.1 many
 
   -- ---- ONE DESTINATION
   -- what names the operator and the literal by one list has two destinations
-  module _ (spares : SparesLiterals c) (n : ℕ) (i : Instr) (d : Dest) (at : slice_get c.instrs n ≡ Some i) (sole : i.firsts ≡ d ∷ []) (other : (z : ℤ) → i.op ≡ Lit z → ⊥) where
+  module _ (spares : SparesLiterals c) (n : ℕ) (i : Instr) (d : Dest) (at : slice_get c.instrs n ≡ Some i) (sole : i.firsts ≡ d ∷ []) (other : (z : ℤ)
+      → i.op ≡ Lit z → ⊥) where
     only : (x : Dest) (k : ℕ) → slice_get (d ∷ []) k ≡ Some x → x ≡ d
     only x zero e = cc
     only x (suc k) e = absurd (cc)
@@ -124,7 +140,8 @@ module _ (p : Plan) (c : CodeBlock) where
     leads : (x : ℕ) (q : Port) → namer_of (namers_of p c) x q ≡ One n false → n + d.ahead ≡ x
     leads x q e = go (namers_name p c x q n false e)
       where
-        go : (i2 : Instr) × (k : ℕ) × (d2 : Dest) × (slice_get c.instrs n ≡ Some i2) × (slice_get (dests_of i2 false) k ≡ Some d2) × (n + d2.ahead ≡ x) × (d2.port ≡ q) → n + d.ahead ≡ x
+        go : (i2 : Instr) × (k : ℕ) × (d2 : Dest) × (slice_get c.instrs n ≡ Some i2) × (slice_get (dests_of i2 false) k ≡ Some d2)
+            × (n + d2.ahead ≡ x) × (d2.port ≡ q) → n + d.ahead ≡ x
         go (i2, k, d2, at2, also, lead, port) =
             let f : i2 ≡ i = same_instr i2 i (sym at2 ∙ at) in
             let dd : d2 ≡ d = only d2 k (sym (ap (λ ds. slice_get ds k) (ap (λ (x : Instr). x.firsts) f ∙ sole)) ∙ also) in
@@ -153,16 +170,20 @@ module _ (p : Plan) (c : CodeBlock) where
         at_operator : n + d.ahead ≡ R.x → (q r : Port) → R.q ≡ q → d.port ≡ r → ⊥
         at_operator e Left Left a b = by_lit (λ k. namer_of (namers_of p c) (e k) (b k)) (ap (namer_of (namers_of p c) R.x) (sym a) ∙ R.takes.alone)
           where
-            by_lit : namer_of (namers_of p c) (n + d.ahead) d.port ≡ namer_of (namers_of p c) R.x Left → namer_of (namers_of p c) R.x Left ≡ One R.takes.lit R.takes.lit_side → ⊥
+            by_lit : namer_of (namers_of p c) (n + d.ahead) d.port ≡ namer_of (namers_of p c) R.x Left → namer_of (namers_of p c) R.x Left
+                ≡ One R.takes.lit R.takes.lit_side → ⊥
             by_lit u v =
-                let same = same_number n R.takes.lit false R.takes.lit_side (this_one n R.takes.lit false R.takes.lit_side (namer_of (namers_of p c) (n + d.ahead) d.port) mine (u ∙ v)) in
+                let same = same_number n R.takes.lit false R.takes.lit_side
+                (this_one n R.takes.lit false R.takes.lit_side (namer_of (namers_of p c) (n + d.ahead) d.port) mine (u ∙ v)) in
                 let j : R.takes.literal.0 ≡ i = same_instr R.takes.literal.0 i (sym R.takes.literal.1 ∙ ap (slice_get c.instrs) (sym same) ∙ at) in
                 other R.z (sym (ap (λ (x : Instr). x.op) j) ∙ R.takes.literal.2)
         at_operator e Right Right a b = by_lit (λ k. namer_of (namers_of p c) (e k) (b k)) (ap (namer_of (namers_of p c) R.x) (sym a) ∙ R.takes.alone)
           where
-            by_lit : namer_of (namers_of p c) (n + d.ahead) d.port ≡ namer_of (namers_of p c) R.x Right → namer_of (namers_of p c) R.x Right ≡ One R.takes.lit R.takes.lit_side → ⊥
+            by_lit : namer_of (namers_of p c) (n + d.ahead) d.port ≡ namer_of (namers_of p c) R.x Right → namer_of (namers_of p c) R.x Right
+                ≡ One R.takes.lit R.takes.lit_side → ⊥
             by_lit u v =
-                let same = same_number n R.takes.lit false R.takes.lit_side (this_one n R.takes.lit false R.takes.lit_side (namer_of (namers_of p c) (n + d.ahead) d.port) mine (u ∙ v)) in
+                let same = same_number n R.takes.lit false R.takes.lit_side
+                (this_one n R.takes.lit false R.takes.lit_side (namer_of (namers_of p c) (n + d.ahead) d.port) mine (u ∙ v)) in
                 let j : R.takes.literal.0 ≡ i = same_instr R.takes.literal.0 i (sym R.takes.literal.1 ∙ ap (slice_get c.instrs) (sym same) ∙ at) in
                 other R.z (sym (ap (λ (x : Instr). x.op) j) ∙ R.takes.literal.2)
         at_operator e Left Right a b =
@@ -174,8 +195,10 @@ module _ (p : Plan) (c : CodeBlock) where
 
         at_lit : n + d.ahead ≡ R.takes.lit → (r : Port) → d.port ≡ r → ⊥
         at_lit e Left b =
-            no_pair R.x R.q R.z R.takes (this_one n R.takes.source false R.takes.source_side (namer_of (namers_of p c) (n + d.ahead) d.port) mine ((λ k. namer_of (namers_of p c) (e k) (b k)) ∙ R.takes.to_lit))
-        at_lit e Right b = true≢false (sym (spares n 0 i false d R.takes.literal.0 at there (ap (slice_get c.instrs) e ∙ R.takes.literal.1) b) ∙ ap is_dyadic R.takes.literal.2)
+            no_pair R.x R.q R.z R.takes (this_one n R.takes.source false R.takes.source_side (namer_of (namers_of p c) (n + d.ahead) d.port) mine
+            ((λ k. namer_of (namers_of p c) (e k) (b k)) ∙ R.takes.to_lit))
+        at_lit e Right b = true≢false (sym (spares n 0 i false d R.takes.literal.0 at there (ap (slice_get c.instrs) e ∙ R.takes.literal.1) b)
+            ∙ ap is_dyadic R.takes.literal.2)
 
         go : (n + d.ahead ≡ R.x) ⊎ (n + d.ahead ≡ R.takes.lit) → ⊥
         go (inl e) = at_operator e R.q d.port refl refl
@@ -195,7 +218,8 @@ not_all : (fs : List Fold) (n : ℕ) (ds : List Dest) → all_closed fs n ds ≡
 not_all fs n [] e = absurd (true≢false e)
 not_all fs n (d ∷ ds) e = go (closed_to fs n d) refl e (not_all fs n ds)
   where
-    go : (t : Bool) → closed_to fs n d ≡ t → (if t then all_closed fs n ds else false) ≡ false → (all_closed fs n ds ≡ false → (k : ℕ) × (d : Dest) × (slice_get ds k ≡ Some d) × (closed_to fs n d ≡ false))
+    go : (t : Bool) → closed_to fs n d ≡ t → (if t then all_closed fs n ds else false) ≡ false → (all_closed fs n ds ≡ false → (k : ℕ) × (d : Dest)
+        × (slice_get ds k ≡ Some d) × (closed_to fs n d ≡ false))
         → (k : ℕ) × (x : Dest) × (slice_get (d ∷ ds) k ≡ Some x) × (closed_to fs n x ≡ false)
     go true t e more = let r = more e in (suc r.0, r.1, r.2, r.3)
     go false t e more = (0, d, refl, t)
@@ -215,7 +239,8 @@ some_used i k true d e = go i.firsts i.seconds e
     go [] [] e = absurd (cc)
 
 -- A literal that sends somewhere and stays has a destination at which words still arrive.
-pub kept_open : (p : Plan) (c : CodeBlock) (m k : ℕ) (j : Instr) (z : ℤ) (s : Bool) (d : Dest) → slice_get c.instrs m ≡ Some j → j.op ≡ Lit z → slice_get (dests_of j s) k ≡ Some d → gone_at (layout_of p c) m ≡ false
+pub kept_open : (p : Plan) (c : CodeBlock) (m k : ℕ) (j : Instr) (z : ℤ) (s : Bool) (d : Dest) → slice_get c.instrs m ≡ Some j → j.op ≡ Lit z
+    → slice_get (dests_of j s) k ≡ Some d → gone_at (layout_of p c) m ≡ false
     → (t : Bool) × (v : ℕ) × (x : Dest) × (slice_get (dests_of j t) v ≡ Some x) × (is_closed (folds_at (layout_of p c) (m + x.ahead)) x.port ≡ false)
 kept_open p c m k j z s d at op named stays = go (all_closed (folds_of p c) m j.firsts) (all_closed (folds_of p c) m j.seconds) refl refl
   where
@@ -224,7 +249,8 @@ kept_open p c m k j z s d at op named stays = go (all_closed (folds_of p c) m j.
 
     both : (all_closed (folds_of p c) m j.firsts && all_closed (folds_of p c) m j.seconds) ≡ false
     both =
-        sym (ap (λ (b : Bool). b && (is_used j.firsts j.seconds && (all_closed (folds_of p c) m j.firsts && all_closed (folds_of p c) m j.seconds))) (ap is_lit op)
+        sym (ap (λ (b : Bool). b && (is_used j.firsts j.seconds && (all_closed (folds_of p c) m j.firsts && all_closed (folds_of p c) m j.seconds)))
+        (ap is_lit op)
         ∙ ap (λ (b : Bool). b && (all_closed (folds_of p c) m j.firsts && all_closed (folds_of p c) m j.seconds)) (some_used j k s d named))
         ∙ whole
 

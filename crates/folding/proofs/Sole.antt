@@ -1,5 +1,6 @@
 -- An instruction with one destination keeps it.
-use Rattle.std.proofs.Common.{◌≡◌, ℕ, ℤ, zero, suc, ◌+◌, ◌<◌, ◌≤◌, Bool, true, false, ◌||◌, ◌∷◌, ◌++◌, length, refl, sym, ap, ◌∙◌, subst, inl, inr, ◌⊎◌, arith, Some, if◌then◌else◌, true≢false, []}
+use Rattle.std.proofs.Common.{◌≡◌, ℕ, ℤ, zero, suc, ◌+◌, ◌<◌, ◌≤◌, Bool, true, false, ◌||◌, ◌∷◌, ◌++◌, length, refl, sym, ap, ◌∙◌, subst, inl, inr}
+use Rattle.std.proofs.Common.{◌⊎◌, arith, Some, if◌then◌else◌, true≢false, []}
 use Rattle.std.specs.Prelude.{slice_get}
 use Rattle.std.proofs.lemmas.Option.{slice_get_within}
 use Rattle.std.proofs.lemmas.Bool.{cases_lt}
@@ -33,7 +34,8 @@ one_only : (d x : Dest) (k : ℕ) → slice_get (d ∷ []) k ≡ Some x → x �
 one_only d x zero e = cc
 one_only d x (suc k) e = absurd (cc)
 
-module _ (p : Plan) (c : CodeBlock) (spares : SparesLiterals c) (n : ℕ) (i : Instr) (d : Dest) (at : slice_get c.instrs n ≡ Some i) (sole : i.firsts ≡ d ∷ []) (other : (z : ℤ) → i.op ≡ Lit z → ⊥) where
+module _ (p : Plan) (c : CodeBlock) (spares : SparesLiterals c) (n : ℕ) (i : Instr) (d : Dest) (at : slice_get c.instrs n ≡ Some i) (sole : i.firsts
+    ≡ d ∷ []) (other : (z : ℤ) → i.op ≡ Lit z → ⊥) where
   abbrev to : ℕ
   to = n + d.ahead
 
@@ -45,10 +47,12 @@ module _ (p : Plan) (c : CodeBlock) (spares : SparesLiterals c) (n : ℕ) (i : I
   not_closed (z, t) = by_literal t.literal
     where
       same : n ≡ t.lit
-      same = same_number n t.lit false t.lit_side (this_one n t.lit false t.lit_side (namer_of (namers_of p c) to d.port) (knows_namers p c n 0 i false d at there (slice_get_within c.instrs to t.operator.0 t.operator.2)) t.alone)
+      same = same_number n t.lit false t.lit_side (this_one n t.lit false t.lit_side (namer_of (namers_of p c) to d.port)
+          (knows_namers p c n 0 i false d at there (slice_get_within c.instrs to t.operator.0 t.operator.2)) t.alone)
 
       by_literal : (j : Instr) × (slice_get c.instrs t.lit ≡ Some j) × (j.op ≡ Lit z) → ⊥
-      by_literal (j, stands, op) = let e : slice_get c.instrs n ≡ Some j = ap (slice_get c.instrs) same ∙ stands in let f : j ≡ i = cc in other z (sym (ap (λ (x : Instr). x.op) f) ∙ op)
+      by_literal (j, stands, op) = let e : slice_get c.instrs n ≡ Some j = ap (slice_get c.instrs) same ∙ stands in let f : j ≡ i = cc
+          in other z (sym (ap (λ (x : Instr). x.op) f) ∙ op)
 
   -- where it leads, nothing is left out: else it would lead to the operator, too
   not_gone : (j : Instr) → slice_get c.instrs to ≡ Some j → IsDropped p c to j → ⊥
@@ -58,7 +62,8 @@ module _ (p : Plan) (c : CodeBlock) (spares : SparesLiterals c) (n : ℕ) (i : I
       lit_port q (z, op) = absurd (true≢false (sym (spares n 0 i false d j at there stands q) ∙ ap is_dyadic op))
 
       by_name : (x : ℕ) (q : Port) (z : ℤ) → (y : Instr) × (o : Binary) × (slice_get c.instrs x ≡ Some y) × (y.op ≡ Apply2 o) → (w : ℤ) × (j.op ≡ Lit w)
-          → (i : Instr) × (k : ℕ) × (d : Dest) × (slice_get c.instrs n ≡ Some i) × (slice_get (dests_of i false) k ≡ Some d) × (n + d.ahead ≡ x) × (d.port ≡ q) → ⊥
+          → (i : Instr) × (k : ℕ) × (d : Dest) × (slice_get c.instrs n ≡ Some i) × (slice_get (dests_of i false) k ≡ Some d) × (n + d.ahead ≡ x)
+          × (d.port ≡ q) → ⊥
       by_name x q z (y, o, standing, op) (w, lit) (i2, k, d2, at2, also, lead, port) =
           let f : i2 ≡ i = cc in
           let dd : d2 ≡ d = one_only d d2 k (sym (ap (λ ds. slice_get ds k) (ap (λ (x : Instr). x.firsts) f ∙ sole)) ∙ also) in
@@ -70,11 +75,14 @@ module _ (p : Plan) (c : CodeBlock) (spares : SparesLiterals c) (n : ℕ) (i : I
 
       by_take : (s : Bool) (u : Dest) (z : ℤ) → slice_get (dests_of j s) 0 ≡ Some u → d.port ≡ Left → TakesLiteral p c (to + u.ahead) u.port z → ⊥
       by_take s u z e q t =
-          let lit_here = same_number to t.lit s t.lit_side (this_one to t.lit s t.lit_side (namer_of (namers_of p c) (to + u.ahead) u.port) (knows_namers p c to 0 j s u stands e (slice_get_within c.instrs (to + u.ahead) t.operator.0 t.operator.2)) t.alone) in
+          let lit_here = same_number to t.lit s t.lit_side (this_one to t.lit s t.lit_side (namer_of (namers_of p c) (to + u.ahead) u.port)
+          (knows_namers p c to 0 j s u stands e (slice_get_within c.instrs (to + u.ahead) t.operator.0 t.operator.2)) t.alone) in
           let named = ap (λ m. namer_of (namers_of p c) m Left) lit_here ∙ t.to_lit in
-          let mine = subst (λ q. NamedBy n false (namer_of (namers_of p c) to q)) q (knows_namers p c n 0 i false d at there (slice_get_within c.instrs to j stands)) in
+          let mine = subst (λ q. NamedBy n false (namer_of (namers_of p c) to q)) q
+          (knows_namers p c n 0 i false d at there (slice_get_within c.instrs to j stands)) in
           let same = this_one n t.source false t.source_side (namer_of (namers_of p c) to Left) mine named in
-          by_name (to + u.ahead) (other_port u.port) z t.operator out.literal (namers_name p c (to + u.ahead) (other_port u.port) n false (t.to_operator ∙ sym same))
+          by_name (to + u.ahead) (other_port u.port) z t.operator out.literal (namers_name p c (to + u.ahead) (other_port u.port) n false
+          (t.to_operator ∙ sym same))
 
       by_use : d.port ≡ Left → (s : Bool) × (u : Dest) × (slice_get (dests_of j s) 0 ≡ Some u) → ⊥
       by_use q (s, u, e) = taken (closed_takes p c (to + u.ahead) u.port (out.closed s 0 u e))
@@ -92,7 +100,8 @@ module _ (p : Plan) (c : CodeBlock) (spares : SparesLiterals c) (n : ℕ) (i : I
       found : gone_at (layout_of p c) to ≡ true → (j : Instr) × (slice_get c.instrs to ≡ Some j) → ⊥
       found g (j, stands) = not_gone j stands (leaves_out p c to j stands g)
 
-      pick : (t : Bool) → gone_at (layout_of p c) to ≡ t → (u : Bool) → is_closed (folds_at (layout_of p c) to) d.port ≡ u → (to < length c.instrs) ⊎ (length c.instrs ≤ to) → is_shut (layout_of p c) to d.port ≡ false
+      pick : (t : Bool) → gone_at (layout_of p c) to ≡ t → (u : Bool) → is_closed (folds_at (layout_of p c) to) d.port ≡ u
+          → (to < length c.instrs) ⊎ (length c.instrs ≤ to) → is_shut (layout_of p c) to d.port ≡ false
       pick false g false e h = (λ k. g k || e k)
       pick t g true e h = absurd (not_closed (closed_takes p c to d.port e))
       pick true g false e (inl h) = absurd (found g (get_some c.instrs to h))
@@ -100,4 +109,5 @@ module _ (p : Plan) (c : CodeBlock) (spares : SparesLiterals c) (n : ℕ) (i : I
 
 pub keeps_sole : KeepsSole
 keeps_sole p c spares n i d at sole other =
-    ap (moved_dests (layout_of p c) n) sole ∙ ap (λ t. (if t then [] else new_dest (layout_of p c) n (n + d.ahead) d.port ∷ []) ++ []) (open_there p c spares n i d at sole other)
+    ap (moved_dests (layout_of p c) n) sole ∙ ap (λ t. (if t then [] else new_dest (layout_of p c) n (n + d.ahead) d.port ∷ []) ++ [])
+    (open_there p c spares n i d at sole other)

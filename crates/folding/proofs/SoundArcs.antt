@@ -27,7 +27,8 @@ in_instrs : (q : Plan) (from : ℕ) (is : List Instr) (x : Arc) → Contains (ar
 in_instrs q from [] x h = absurd (contains_none x h)
 in_instrs q from (i ∷ is) x h = pick (Contains-append_cases (arcs_from q from i i.op) (arcs_of q (from + 1) is) x h) (in_instrs q (from + 1) is x)
   where
-    pick : Contains (arcs_from q from i i.op) x ⊎ Contains (arcs_of q (from + 1) is) x → (Contains (arcs_of q (from + 1) is) x → Found (from + 1) is x) → Found from (i ∷ is) x
+    pick : Contains (arcs_from q from i i.op) x ⊎ Contains (arcs_of q (from + 1) is) x
+        → (Contains (arcs_of q (from + 1) is) x → Found (from + 1) is x) → Found from (i ∷ is) x
     pick (inl m) more = (0, from, i, omega arith, refl, arcs_from_lead q from i i.op x m)
     pick (inr m) more = let r = more m in let e = r.3 in (suc r.0, r.1, r.2, omega (arith, e), r.4, r.5)
 
@@ -38,13 +39,25 @@ pub record IsSoundArc (q : Plan) (c : CodeBlock) (x : Arc) : Type 0 where
   pub sound : IsSoundDest q c n d
   pub to : (x.to ≡ inlet (n + d.ahead) d.port) ⊎ ((x.to.port ≡ Left) × (n + d.ahead ≤ x.to.place))
 
-module _ (q : Plan) (sound : DestsAreSound q) (b : ℕ) (c : CodeBlock) (at_b : slice_get q.program.blocks b ≡ Some c) (x : Arc) (has : Contains (arcs_of q 0 c.instrs) x) where
+module _ (q : Plan) (sound : DestsAreSound q) (b : ℕ) (c : CodeBlock) (at_b : slice_get q.program.blocks b ≡ Some c) (x : Arc)
+    (has : Contains (arcs_of q 0 c.instrs) x) where
   sound_arc : IsSoundArc q c x
   sound_arc =
       let r = in_instrs q 0 c.instrs x has in
       let e = r.3 in
       let z : r.0 ≡ r.1 = omega (arith, e) in
-      record { n = r.1; d = r.5.0; sound = sound b r.1 c r.5.0 (record { i = r.2; block = at_b; there = sym (ap (slice_get c.instrs) z) ∙ r.4; named = r.5.1 }); to = r.5.2 }
+      record {
+        n = r.1;
+        d = r.5.0;
+        sound = sound b r.1 c r.5.0 (record {
+          i = r.2;
+          block = at_b;
+          there = sym (ap (slice_get c.instrs) z)
+              ∙ r.4;
+          named = r.5.1;
+        });
+        to = r.5.2;
+      }
 
   -- No arc leads to an entry,
   pub past_entries : c.inputs < x.to.place

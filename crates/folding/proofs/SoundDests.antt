@@ -1,5 +1,6 @@
 -- The destinations of a folded plan are sound.
-use Rattle.std.proofs.Common.{◌≡◌, ℕ, ◌+◌, ◌-◌, ◌<◌, ◌≤◌, Bool, true, false, ◌++◌, length, refl, sym, ap, ◌∙◌, subst, inl, inr, ◌⊎◌, arith, Some, None, if◌then◌else◌}
+use Rattle.std.proofs.Common.{◌≡◌, ℕ, ◌+◌, ◌-◌, ◌<◌, ◌≤◌, Bool, true, false, ◌++◌, length, refl, sym, ap, ◌∙◌, subst, inl, inr, ◌⊎◌, arith, Some}
+use Rattle.std.proofs.Common.{None, if◌then◌else◌}
 use Rattle.std.specs.Prelude.{slice_get, Contains}
 use Rattle.std.proofs.lemmas.Option.{slice_get_within}
 use Rattle.std.proofs.lemmas.List.Elements.{Contains-append_left, Contains-append_right, Contains-append_cases}
@@ -51,11 +52,13 @@ right_port Unchanged q e = (refl, e)
 right_port (OnRight z) q e = absurd (cc)
 right_port (LeftLiteral z) q e = absurd (cc)
 
-module _ (p : Plan) (sound : DestsAreSound p) (b : ℕ) (c : CodeBlock) (at_b : slice_get p.program.blocks b ≡ Some c) (size : c.inputs + 1 ≤ length c.instrs) where
+module _ (p : Plan) (sound : DestsAreSound p) (b : ℕ) (c : CodeBlock) (at_b : slice_get p.program.blocks b ≡ Some c)
+    (size : c.inputs + 1 ≤ length c.instrs) where
   abbrev l : Layout
   l = layout_of p c
 
-  module _ (n : ℕ) (i : Instr) (d : Dest) (at : slice_get c.instrs n ≡ Some i) (named : Contains (i.firsts ++ i.seconds) d) (stay : gone_at l n ≡ false) (shut : is_shut l (n + d.ahead) d.port ≡ false) where
+  module _ (n : ℕ) (i : Instr) (d : Dest) (at : slice_get c.instrs n ≡ Some i) (named : Contains (i.firsts ++ i.seconds) d) (stay : gone_at l n
+      ≡ false) (shut : is_shut l (n + d.ahead) d.port ≡ false) where
     abbrev to : ℕ
     to = n + d.ahead
 
@@ -77,7 +80,8 @@ module _ (p : Plan) (sound : DestsAreSound p) (b : ℕ) (c : CodeBlock) (at_b : 
     moved_there : slice_get (folded_block p c).instrs (new_place l to) ≡ Some (moved l to target.0)
     moved_there = keeps_instrs p c to target.0 target.1 stands
 
-    still_right : new_port (folds_at l to) d.port ≡ Right → Bytes.is_dyadic (slice_get (folded_block p c).instrs (new_place l n + (new_place l to - new_place l n))) ≡ true
+    still_right : new_port (folds_at l to) d.port ≡ Right
+        → Bytes.is_dyadic (slice_get (folded_block p c).instrs (new_place l n + (new_place l to - new_place l n))) ≡ true
     still_right e =
         let k = right_port (folds_at l to) d.port e in
         let same : (moved l to target.0).op ≡ target.0.op = ap (λ f. new_op f target.0.op) k.0 in
@@ -103,25 +107,31 @@ module _ (p : Plan) (sound : DestsAreSound p) (b : ℕ) (c : CodeBlock) (at_b : 
           apart = subst (StandApart (folded p) (folded_block p c) (new_place l n)) (sym e) (stand_apart p sound b c at_b size n to stay s.dest.inside s.apart);
         }
 
-pub dests_stay_sound : (p : Plan) → DestsAreSound p → ((b : ℕ) (c : CodeBlock) → slice_get p.program.blocks b ≡ Some c → c.inputs + 1 ≤ length c.instrs) → DestsAreSound (folded p)
+pub dests_stay_sound : (p : Plan) → DestsAreSound p → ((b : ℕ) (c : CodeBlock) → slice_get p.program.blocks b ≡ Some c
+    → c.inputs + 1 ≤ length c.instrs) → DestsAreSound (folded p)
 dests_stay_sound p sound sizes b n e x h = by_block (block_back p b e h.block)
   where
     by_block : (c : CodeBlock) × (slice_get p.program.blocks b ≡ Some c) × (folded_block p c ≡ e) → IsSoundDest (folded p) e n x
     by_block (c, at_b, same) = found (has_no_others p c n h.i (ap (λ (y : CodeBlock). slice_get y.instrs n) same ∙ h.there))
       where
         by_dest : (m : ℕ) (i : Instr) → slice_get c.instrs m ≡ Some i → gone_at (layout_of p c) m ≡ false → new_place (layout_of p c) m ≡ n
-            → (d : Dest) × Contains (i.firsts ++ i.seconds) d × (is_shut (layout_of p c) (m + d.ahead) d.port ≡ false) × (x ≡ new_dest (layout_of p c) m (m + d.ahead) d.port) → IsSoundDest (folded p) e n x
+            → (d : Dest) × Contains (i.firsts ++ i.seconds) d × (is_shut (layout_of p c) (m + d.ahead) d.port ≡ false)
+            × (x ≡ new_dest (layout_of p c) m (m + d.ahead) d.port) → IsSoundDest (folded p) e n x
         by_dest m i at stay place (d, named, shut, new) =
             subst (λ (y : CodeBlock). IsSoundDest (folded p) y n x) same
             (subst (λ k. IsSoundDest (folded p) (folded_block p c) k x) place
-            (subst (IsSoundDest (folded p) (folded_block p c) (new_place (layout_of p c) m)) (sym new) (still_sound p sound b c at_b (sizes b c at_b) m i d at named stay shut)))
+            (subst (IsSoundDest (folded p) (folded_block p c) (new_place (layout_of p c) m)) (sym new)
+            (still_sound p sound b c at_b (sizes b c at_b) m i d at named stay shut)))
 
         by_list : (m : ℕ) (i : Instr) → Contains (moved_dests (layout_of p c) m i.firsts) x ⊎ Contains (moved_dests (layout_of p c) m i.seconds) x
-            → (d : Dest) × Contains (i.firsts ++ i.seconds) d × (is_shut (layout_of p c) (m + d.ahead) d.port ≡ false) × (x ≡ new_dest (layout_of p c) m (m + d.ahead) d.port)
+            → (d : Dest) × Contains (i.firsts ++ i.seconds) d × (is_shut (layout_of p c) (m + d.ahead) d.port ≡ false)
+            × (x ≡ new_dest (layout_of p c) m (m + d.ahead) d.port)
         by_list m i (inl k) = let r = moved_back (layout_of p c) m i.firsts x k in (r.0, Contains-append_left i.firsts i.seconds r.0 r.1, r.2, r.3)
         by_list m i (inr k) = let r = moved_back (layout_of p c) m i.seconds x k in (r.0, Contains-append_right i.firsts i.seconds r.0 r.1, r.2, r.3)
 
-        found : (m : ℕ) × (i : Instr) × (slice_get c.instrs m ≡ Some i) × (gone_at (layout_of p c) m ≡ false) × (new_place (layout_of p c) m ≡ n) × (h.i ≡ moved (layout_of p c) m i) → IsSoundDest (folded p) e n x
+        found : (m : ℕ) × (i : Instr) × (slice_get c.instrs m ≡ Some i) × (gone_at (layout_of p c) m ≡ false) × (new_place (layout_of p c) m ≡ n)
+            × (h.i ≡ moved (layout_of p c) m i) → IsSoundDest (folded p) e n x
         found (m, i, at, stay, place, new) =
             let names = subst (λ (y : Instr). Contains (y.firsts ++ y.seconds) x) new h.named in
-            by_dest m i at stay place (by_list m i (Contains-append_cases (moved_dests (layout_of p c) m i.firsts) (moved_dests (layout_of p c) m i.seconds) x names))
+            by_dest m i at stay place (by_list m i (Contains-append_cases (moved_dests (layout_of p c) m i.firsts)
+            (moved_dests (layout_of p c) m i.seconds) x names))

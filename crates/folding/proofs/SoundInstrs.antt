@@ -61,10 +61,12 @@ left_stays (OnRight z) q e = refl
 left_stays (LeftLiteral z) q e = refl
 
 lands_same : (l : Layout) (n : ℕ) (op : Op) (ds : List Dest) → LandsLeft op ds → LandsLeft op (moved_dests l n ds)
-lands_same l n (Link b) ds h = all_from (λ (d : Dest). d.port ≡ Left) (moved_dests l n ds) (λ k x e. by_old x (moved_back l n ds x (get_contains (moved_dests l n ds) k x e)))
+lands_same l n (Link b) ds h = all_from (λ (d : Dest). d.port ≡ Left) (moved_dests l n ds)
+    (λ k x e. by_old x (moved_back l n ds x (get_contains (moved_dests l n ds) k x e)))
   where
     by_old : (x : Dest) → Stood l n ds x → x.port ≡ Left
-    by_old x (d, has, shut, e) = ap (λ (y : Dest). y.port) e ∙ left_stays (folds_at l (n + d.ahead)) d.port (All-contains (λ (d : Dest). d.port ≡ Left) ds d h has)
+    by_old x (d, has, shut, e) = ap (λ (y : Dest). y.port) e ∙ left_stays (folds_at l (n + d.ahead)) d.port
+        (All-contains (λ (d : Dest). d.port ≡ Left) ds d h has)
 lands_same l n op ds h = h
 
 lands_new : (f : Fold) (op : Op) (ds : List Dest) → LandsLeft op ds → LandsLeft (new_op f op) ds
@@ -123,7 +125,8 @@ module _ (p : Plan) (sound : IsSound p) (b : ℕ) (c : CodeBlock) (at_b : slice_
       let size = block.size in
       let entry = keeps_entries p c c.inputs (omega arith) (omega (arith, size)) in
       let there = get_some c.instrs c.inputs (omega (arith, size)) in
-      let within = slice_get_within (folded_block p c).instrs (new_place l c.inputs) (moved l c.inputs there.0) (keeps_instrs p c c.inputs there.0 there.1 entry.0) in
+      let within = slice_get_within (folded_block p c).instrs (new_place l c.inputs) (moved l c.inputs there.0)
+      (keeps_instrs p c c.inputs there.0 there.1 entry.0) in
       let same = entry.1 in
       omega (arith, within, same)
 

@@ -17,14 +17,17 @@ use Rattle.folding.specs.Folded.{folded_block, folded}
 abbrev pub Stood : Layout → ℕ → List Dest → Dest → Type 0
 Stood l n ds e = (d : Dest) × Contains ds d × (is_shut l (n + d.ahead) d.port ≡ false) × (e ≡ new_dest l n (n + d.ahead) d.port)
 
-one_back : (l : Layout) (n : ℕ) (d e : Dest) → Contains (moved_dest l n d) e → (is_shut l (n + d.ahead) d.port ≡ false) × (e ≡ new_dest l n (n + d.ahead) d.port)
+one_back : (l : Layout) (n : ℕ) (d e : Dest) → Contains (moved_dest l n d) e → (is_shut l (n + d.ahead) d.port ≡ false)
+    × (e ≡ new_dest l n (n + d.ahead) d.port)
 one_back l n d e h = go (is_shut l (n + d.ahead) d.port) refl h
   where
-    pick : is_shut l (n + d.ahead) d.port ≡ false → (new_dest l n (n + d.ahead) d.port ≡ e) ⊎ Contains [] e → (is_shut l (n + d.ahead) d.port ≡ false) × (e ≡ new_dest l n (n + d.ahead) d.port)
+    pick : is_shut l (n + d.ahead) d.port ≡ false → (new_dest l n (n + d.ahead) d.port ≡ e) ⊎ Contains [] e → (is_shut l (n + d.ahead) d.port ≡ false)
+        × (e ≡ new_dest l n (n + d.ahead) d.port)
     pick s (inl q) = (s, sym q)
     pick s (inr q) = absurd (contains_none e q)
 
-    go : (t : Bool) → is_shut l (n + d.ahead) d.port ≡ t → Contains (if t then [] else new_dest l n (n + d.ahead) d.port ∷ []) e → (is_shut l (n + d.ahead) d.port ≡ false) × (e ≡ new_dest l n (n + d.ahead) d.port)
+    go : (t : Bool) → is_shut l (n + d.ahead) d.port ≡ t → Contains (if t then [] else new_dest l n (n + d.ahead) d.port ∷ []) e
+        → (is_shut l (n + d.ahead) d.port ≡ false) × (e ≡ new_dest l n (n + d.ahead) d.port)
     go true s h = absurd (contains_none e h)
     go false s h = pick s (contains_cases (new_dest l n (n + d.ahead) d.port) [] e h)
 
@@ -37,7 +40,8 @@ moved_back l n (d ∷ ds) e h = pick (Contains-append_cases (moved_dest l n d) (
     pick (inr m) more = let r = more m in (r.0, contains_tail d ds r.0 r.1, r.2, r.3)
 
 -- BLOCKS. Each block of a folded plan is a folded one,
-pub block_back : (p : Plan) (b : ℕ) (e : CodeBlock) → slice_get (folded p).program.blocks b ≡ Some e → (c : CodeBlock) × (slice_get p.program.blocks b ≡ Some c) × (folded_block p c ≡ e)
+pub block_back : (p : Plan) (b : ℕ) (e : CodeBlock) → slice_get (folded p).program.blocks b ≡ Some e → (c : CodeBlock)
+    × (slice_get p.program.blocks b ≡ Some c) × (folded_block p c ≡ e)
 block_back p b e h = map_get_back (folded_block p) p.program.blocks b e h
 
 -- and each block has one.

@@ -94,7 +94,8 @@ module _ (p : Plan) (c : CodeBlock) (one : OneHolder c) (below : IsBelow c) (use
           pick (inl e) = let s = same_Some i x (sym there ∙ sym (ap (slice_get c.instrs) e) ∙ at) in of_credit (ap (λ (z : Instr). is_credit z.op) s ∙ credit)
           pick (inr (u, k, v)) = of_credit k
 
-  place_apart : (m n : ℕ) (i j : Instr) → slice_get c.instrs m ≡ Some i → slice_get c.instrs n ≡ Some j → gone_at l m ≡ false → gone_at l n ≡ false → new_place l m ≡ new_place l n → m ≡ n
+  place_apart : (m n : ℕ) (i j : Instr) → slice_get c.instrs m ≡ Some i → slice_get c.instrs n ≡ Some j → gone_at l m ≡ false → gone_at l n ≡ false
+      → new_place l m ≡ new_place l n → m ≡ n
   place_apart m n i j at there stay stays e = pick (cases_lt m n) (cases_lt n m)
     where
       pick : (m < n) ⊎ (n ≤ m) → (n < m) ⊎ (m ≤ n) → m ≡ n
@@ -105,7 +106,8 @@ module _ (p : Plan) (c : CodeBlock) (one : OneHolder c) (below : IsBelow c) (use
   -- Two loops have no holder in common, since the `open` of each identifies it.
   holders_apart : (g h : ℕ) → Opening g → Opening h → new_holder l g ≡ new_holder l h → g ≡ h
   holders_apart g h (m, i, first, opens) (n, j, second, also) e =
-      pick (keeps_holders p c one below (new_place l m) (new_place l n) (new_holder l h) (moved l m i) (moved l n j) (keeps_instrs p c m i first.0 stay) (keeps_instrs p c n j second.0 stays)
+      pick (keeps_holders p c one below (new_place l m) (new_place l n) (new_holder l h) (moved l m i) (moved l n j)
+      (keeps_instrs p c m i first.0 stay) (keeps_instrs p c n j second.0 stays)
       (moved_slot m i g first ∙ ap (λ (k : ℕ). Some k) e) (moved_slot n j h second))
     where
       stay : gone_at l m ≡ false
@@ -120,7 +122,8 @@ module _ (p : Plan) (c : CodeBlock) (one : OneHolder c) (below : IsBelow c) (use
       also_still : is_open (moved l n j).op ≡ true
       also_still = ap is_open (credit_op (folds_at l n) j.op second.1) ∙ also
 
-      pick : (new_place l m ≡ new_place l n) ⊎ ((is_credit (moved l m i).op ≡ true) × (is_credit (moved l n j).op ≡ true) × (is_open (moved l m i).op && is_open (moved l n j).op ≡ false)) → g ≡ h
+      pick : (new_place l m ≡ new_place l n) ⊎ ((is_credit (moved l m i).op ≡ true) × (is_credit (moved l n j).op ≡ true)
+          × (is_open (moved l m i).op && is_open (moved l n j).op ≡ false)) → g ≡ h
       pick (inl place) =
           let same = place_apart m n i j first.0 second.0 stay stays place in
           let s = same_Some i j (sym first.0 ∙ ap (slice_get c.instrs) same ∙ second.0) in
@@ -140,7 +143,8 @@ module _ (p : Plan) (c : CodeBlock) (one : OneHolder c) (below : IsBelow c) (use
           let old = credit_before (folds_at l n) i.op (sym (ap is_credit new) ∙ credit) in
           let op : j.op ≡ i.op = new ∙ credit_op (folds_at l n) i.op old in
           let slots = slot_any i j i.op h (sym (ap (slot_of j) op) ∙ held) in
-          let slot : j.slot ≡ new_holder l i.slot = ap (λ (x : Instr). x.slot) same ∙ ap (λ t. if t then 0 else new_holder l i.slot) (credit_kept n i there old) in
+          let slot : j.slot ≡ new_holder l i.slot = ap (λ (x : Instr). x.slot) same ∙ ap (λ t. if t then 0 else new_holder l i.slot)
+          (credit_kept n i there old) in
           (n, i, (there, old, slots.1), place, op, slots.0 ∙ slot)
 
   pub loops_stay : LoopsAgree (folded_block p c)
@@ -149,9 +153,14 @@ module _ (p : Plan) (c : CodeBlock) (one : OneHolder c) (below : IsBelow c) (use
       found : From m h i → From n h j → (bound_of (part_of i.op) ≡ bound_of (part_of j.op)) × (part_of i.op ≡ part_of j.op → m ≡ n)
       found (a, x, first, place, op, e) (b, y, second, place', op', e') =
           let same = holders_apart x.slot y.slot (opening a x x.slot first) (opening b y y.slot second) (sym e ∙ e') in
-          let r = agree a b y.slot x y first.0 second.0 (first.2 ∙ ap (λ (k : ℕ). Some k) same) second.2 in
-          (ap (λ o. bound_of (part_of o)) op ∙ r.0 ∙ sym (ap (λ o. bound_of (part_of o)) op'), λ k. sym place ∙ ap (new_place l) (r.1 (sym (ap part_of op) ∙ k ∙ ap part_of op')) ∙ place')
+          let r = agree a b y.slot x y first.0 second.0 (first.2 ∙ ap (λ (k : ℕ). Some k) same) second.2 in (
+            ap (λ o. bound_of (part_of o)) op ∙ r.0 ∙ sym (ap (λ o. bound_of (part_of o)) op'),
+            λ k. sym place
+                ∙ ap (new_place l) (r.1 (sym (ap part_of op) ∙ k ∙ ap part_of op')) ∙ place',
+          )
 
-      pick : (m ≡ n) ⊎ ((is_credit i.op ≡ true) × (is_credit j.op ≡ true) × (is_open i.op && is_open j.op ≡ false)) → (bound_of (part_of i.op) ≡ bound_of (part_of j.op)) × (part_of i.op ≡ part_of j.op → m ≡ n)
-      pick (inl e) = let s = same_Some i j (sym at ∙ ap (slice_get (folded_block p c).instrs) e ∙ there) in (ap (λ (x : Instr). bound_of (part_of x.op)) s, λ k. e)
+      pick : (m ≡ n) ⊎ ((is_credit i.op ≡ true) × (is_credit j.op ≡ true) × (is_open i.op && is_open j.op ≡ false))
+          → (bound_of (part_of i.op) ≡ bound_of (part_of j.op)) × (part_of i.op ≡ part_of j.op → m ≡ n)
+      pick (inl e) = let s = same_Some i j (sym at ∙ ap (slice_get (folded_block p c).instrs) e ∙ there)
+          in (ap (λ (x : Instr). bound_of (part_of x.op)) s, λ k. e)
       pick (inr (u, v, w)) = found (from m h i at held u) (from n h j there holds v)

@@ -32,7 +32,8 @@ module _ (p : Plan) (sound : IsSound p) where
 
     plan_block : IsPlanBlock (folded_block p c)
     plan_block = record {
-      shapes = all_from (λ (i : Instr). HasShape i.op (length i.firsts) (length i.seconds)) (folded_block p c).instrs (λ n i at. ((block_sound p sound b c at_b).instrs n i at).shape);
+      shapes = all_from (λ (i : Instr). HasShape i.op (length i.firsts) (length i.seconds)) (folded_block p c).instrs
+          (λ n i at. ((block_sound p sound b c at_b).instrs n i at).shape);
       holders = keeps_holders p c old.holders below;
       below = λ i h has held. let g = contains_get (folded_block p c).instrs i has in keeps_below p c old.holders below g.0 h i g.1 held;
       used = keeps_used p c old.used;

@@ -1,5 +1,6 @@
 -- Rows: what is apart in a block is apart in the folded one.
-use Rattle.std.proofs.Common.{◌≡◌, ℕ, zero, suc, ◌+◌, ◌-◌, ◌<◌, ◌≤◌, Bool, true, false, ◌||◌, ◌++◌, length, refl, sym, ap, ◌∙◌, subst, inl, inr, ◌⊎◌, arith, Some, true≢false}
+use Rattle.std.proofs.Common.{◌≡◌, ℕ, zero, suc, ◌+◌, ◌-◌, ◌<◌, ◌≤◌, Bool, true, false, ◌||◌, ◌++◌, length, refl, sym, ap, ◌∙◌, subst, inl, inr}
+use Rattle.std.proofs.Common.{◌⊎◌, arith, Some, true≢false}
 use Rattle.std.specs.Prelude.{slice_get, Contains}
 use Rattle.std.proofs.lemmas.Bool.{cases_lt}
 use Rattle.std.proofs.lemmas.List.Elements.{Contains-append_left}
@@ -36,7 +37,8 @@ shut_stays l m q h = go (gone_at l m) refl h
     go false e h = e
     go true e h = absurd (true≢false h)
 
-module _ (p : Plan) (sound : DestsAreSound p) (b : ℕ) (c : CodeBlock) (at_b : slice_get p.program.blocks b ≡ Some c) (size : c.inputs + 1 ≤ length c.instrs) where
+module _ (p : Plan) (sound : DestsAreSound p) (b : ℕ) (c : CodeBlock) (at_b : slice_get p.program.blocks b ≡ Some c)
+    (size : c.inputs + 1 ≤ length c.instrs) where
   abbrev l : Layout
   l = layout_of p c
 
@@ -61,7 +63,8 @@ module _ (p : Plan) (sound : DestsAreSound p) (b : ℕ) (c : CodeBlock) (at_b : 
       let low = t.from in let high = t.to in
       let g = contains_get t.link.firsts t.dest t.named in
       let e : m + t.dest.ahead + (k + 1 - (m + t.dest.ahead)) ≡ k + 1 = omega (arith, low) in
-      sym (ap (gone_at l) e) ∙ (keeps_landings p c m g.0 (k + 1 - (m + t.dest.ahead)) t.block t.link t.dest t.there t.links g.1 (omega (arith, low, high)) (omega (arith, e, h))).0
+      sym (ap (gone_at l) e) ∙ (keeps_landings p c m g.0 (k + 1 - (m + t.dest.ahead)) t.block t.link t.dest t.there t.links g.1
+      (omega (arith, low, high)) (omega (arith, e, h))).0
 
   -- before what is left out there is something that stays, and it is free of the next one
   abbrev Front : ℕ → ℕ → Type 0
@@ -93,7 +96,8 @@ module _ (p : Plan) (sound : DestsAreSound p) (b : ℕ) (c : CodeBlock) (at_b : 
 
   -- A folded landing that ties the new place ties the old one.
   module _ (k : ℕ) (there : k < length c.instrs) (stay : gone_at l k ≡ false) (free : IsTied p c k → ⊥) where
-    by_row : (u : ℕ) (i : Instr) (d : Dest) (x : ℕ) → slice_get c.instrs u ≡ Some i → gone_at l u ≡ false → i.op ≡ Link x → Contains i.firsts d → gone_at l (u + d.ahead) ≡ false
+    by_row : (u : ℕ) (i : Instr) (d : Dest) (x : ℕ) → slice_get c.instrs u ≡ Some i → gone_at l u ≡ false → i.op ≡ Link x → Contains i.firsts d
+        → gone_at l (u + d.ahead) ≡ false
         → new_place l (u + d.ahead) ≤ new_place l k → new_place l k + 1 < new_place l (u + d.ahead) + landing p x → ⊥
     by_row u i d x at stays op named stand from to = go (cases_lt k (u + d.ahead)) (cases_lt (k + 1) (u + d.ahead + landing p x))
       where
@@ -112,7 +116,8 @@ module _ (p : Plan) (sound : DestsAreSound p) (b : ℕ) (c : CodeBlock) (at_b : 
             let in_order = keeps_order p c (u + d.ahead + o) k (omega (arith, to, e, past)) there r.0 in
             absurd (omega (arith, same, in_order, e))
 
-    by_landing : (m : ℕ) (t : IsInLanding (folded p) (folded_block p c) m (new_place l k)) → (u : ℕ) (i : Instr) → slice_get c.instrs u ≡ Some i → gone_at l u ≡ false → new_place l u ≡ m → t.link ≡ moved l u i → ⊥
+    by_landing : (m : ℕ) (t : IsInLanding (folded p) (folded_block p c) m (new_place l k)) → (u : ℕ) (i : Instr) → slice_get c.instrs u ≡ Some i
+        → gone_at l u ≡ false → new_place l u ≡ m → t.link ≡ moved l u i → ⊥
     by_landing m t u i at stays place same = by_dest (moved_back l u i.firsts t.dest (subst (λ (x : Instr). Contains x.firsts t.dest) same t.named))
       where
         op : i.op ≡ Link t.block
@@ -126,7 +131,8 @@ module _ (p : Plan) (sound : DestsAreSound p) (b : ℕ) (c : CodeBlock) (at_b : 
             let ahead : t.dest.ahead ≡ new_place l (u + d.ahead) - new_place l u = ap (λ (x : Dest). x.ahead) e in
             let long = landing_same p t.block in
             let low = t.from in let high = t.to in
-            by_row u i d t.block at stays op named (shut_stays l (u + d.ahead) d.port shut) (omega (arith, low, ahead, place, in_order)) (omega (arith, high, ahead, place, in_order, long))
+            by_row u i d t.block at stays op named (shut_stays l (u + d.ahead) d.port shut) (omega (arith, low, ahead, place, in_order))
+            (omega (arith, high, ahead, place, in_order, long))
 
     still_free : IsTied (folded p) (folded_block p c) (new_place l k) → ⊥
     still_free (inl e) = pick (cases_lt k c.inputs)
@@ -139,8 +145,14 @@ module _ (p : Plan) (sound : DestsAreSound p) (b : ℕ) (c : CodeBlock) (at_b : 
         found : (u : ℕ) × (i : Instr) × (slice_get c.instrs u ≡ Some i) × (gone_at l u ≡ false) × (new_place l u ≡ m) × (t.link ≡ moved l u i) → ⊥
         found (u, i, at, stays, place, same) = by_landing m t u i at stays place same
 
-  pub stand_apart : (n m : ℕ) → gone_at l n ≡ false → m < length c.instrs → StandApart p c n m → StandApart (folded p) (folded_block p c) (new_place l n) (new_place l m)
+  pub stand_apart : (n m : ℕ) → gone_at l n ≡ false → m < length c.instrs → StandApart p c n m → StandApart (folded p) (folded_block p c)
+      (new_place l n) (new_place l m)
   stand_apart n m stay there apart = found (between n m stay there apart)
     where
       found : Between n m → StandApart (folded p) (folded_block p c) (new_place l n) (new_place l m)
-      found (k, low, high, stays, free) = (new_place l k, place_low n k low (omega (arith, high, there)) stay, keeps_order p c k m high there stays, still_free k (omega (arith, high, there)) stays free)
+      found (k, low, high, stays, free) = (
+        new_place l k,
+        place_low n k low (omega (arith, high, there)) stay,
+        keeps_order p c k m high there stays,
+        still_free k (omega (arith, high, there)) stays free,
+      )

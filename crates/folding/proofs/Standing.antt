@@ -1,5 +1,6 @@
 -- Where the instructions of a block are in the folded block.
-use Rattle.std.proofs.Common.{◌≡◌, ℕ, zero, suc, ◌+◌, ◌<◌, Bool, true, false, List, ◌∷◌, length, refl, sym, ap, ◌∙◌, arith, Some, if◌then◌else◌, le_of_suc-le-suc, not-suc-le-zero, true≢false, []}
+use Rattle.std.proofs.Common.{◌≡◌, ℕ, zero, suc, ◌+◌, ◌<◌, Bool, true, false, List, ◌∷◌, length, refl, sym, ap, ◌∙◌, arith, Some, if◌then◌else◌}
+use Rattle.std.proofs.Common.{le_of_suc-le-suc, not-suc-le-zero, true≢false, []}
 use Rattle.std.specs.Prelude.{slice_get, slice_index_or}
 use Rattle.std.proofs.lemmas.Option.{slice_get_within, get_or_from_slice_get}
 use Rattle.semantics.specs.Program.{Instr, CodeBlock}
@@ -22,7 +23,8 @@ pub number_is : (at : ℕ) (gs : List Bool) (k : ℕ) → k < length gs → slic
 number_is at [] k h = absurd (not-suc-le-zero h)
 number_is at (g ∷ gs) zero h = let e : at ≡ at + 0 = omega arith in ap (λ (m : ℕ). Some m) e
 number_is at (true ∷ gs) (suc k) h = number_is at gs k (le_of_suc-le-suc h)
-number_is at (false ∷ gs) (suc k) h = let e : at + 1 + before gs k ≡ at + suc (before gs k) = omega arith in number_is (at + 1) gs k (le_of_suc-le-suc h) ∙ ap (λ (m : ℕ). Some m) e
+number_is at (false ∷ gs) (suc k) h = let e : at + 1 + before gs k ≡ at + suc (before gs k) = omega arith
+    in number_is (at + 1) gs k (le_of_suc-le-suc h) ∙ ap (λ (m : ℕ). Some m) e
 
 pub before_grows : (gs : List Bool) (m n : ℕ) → m < n → m < length gs → slice_index_or gs m false ≡ false → before gs m < before gs n
 before_grows [] m n h l stay = absurd (not-suc-le-zero l)
@@ -49,7 +51,8 @@ stands l one n [] (j ∷ is) k i all flags at stay = absurd (omega (arith, all))
 stands l one n (true ∷ gs) (j ∷ is) zero i all flags at stay = absurd (true≢false stay)
 stands l one n (false ∷ gs) (j ∷ is) zero i all flags at stay =
     let e : j ≡ i = cc in let z : n ≡ n + 0 = omega arith in
-    ap (λ t. slice_get (if t then remaining_from l one (n + 1) is else one n j ∷ remaining_from l one (n + 1) is) 0) (flag_here l n false gs flags) ∙ (λ k. Some (one (z k) (e k)))
+    ap (λ t. slice_get (if t then remaining_from l one (n + 1) is else one n j ∷ remaining_from l one (n + 1) is) 0) (flag_here l n false gs flags)
+    ∙ (λ k. Some (one (z k) (e k)))
 stands l one n (true ∷ gs) (j ∷ is) (suc k) i all flags at stay =
     let z : n + 1 + k ≡ n + suc k = omega arith in
     ap (λ t. slice_get (if t then remaining_from l one (n + 1) is else one n j ∷ remaining_from l one (n + 1) is) (before gs k)) (flag_here l n true gs flags)
@@ -64,10 +67,12 @@ stands l one n (false ∷ gs) (j ∷ is) (suc k) i all flags at stay =
 abbrev Source : {X : Type 0} → (ℕ → Instr → X) → ℕ → List Bool → List Instr → ℕ → X → Type 0
 Source one n gs is m x = (k : ℕ) × (i : Instr) × (slice_get is k ≡ Some i) × (slice_index_or gs k false ≡ false) × (before gs k ≡ m) × (x ≡ one (n + k) i)
 
-source_past : {X : Type 0} (one : ℕ → Instr → X) (n : ℕ) (gs : List Bool) (is : List Instr) (m : ℕ) (x : X) (j : Instr) → Source one (n + 1) gs is m x → Source one n (true ∷ gs) (j ∷ is) m x
+source_past : {X : Type 0} (one : ℕ → Instr → X) (n : ℕ) (gs : List Bool) (is : List Instr) (m : ℕ) (x : X) (j : Instr) → Source one (n + 1) gs is m x
+    → Source one n (true ∷ gs) (j ∷ is) m x
 source_past one n gs is m x j (k, i, at, stay, e, y) = let z : n + 1 + k ≡ n + suc k = omega arith in (suc k, i, at, stay, e, y ∙ ap (λ m. one m i) z)
 
-source_next : {X : Type 0} (one : ℕ → Instr → X) (n : ℕ) (gs : List Bool) (is : List Instr) (m : ℕ) (x : X) (j : Instr) → Source one (n + 1) gs is m x → Source one n (false ∷ gs) (j ∷ is) (suc m) x
+source_next : {X : Type 0} (one : ℕ → Instr → X) (n : ℕ) (gs : List Bool) (is : List Instr) (m : ℕ) (x : X) (j : Instr) → Source one (n + 1) gs is m x
+    → Source one n (false ∷ gs) (j ∷ is) (suc m) x
 source_next one n gs is m x j (k, i, at, stay, e, y) = let z : n + 1 + k ≡ n + suc k = omega arith in (suc k, i, at, stay, ap suc e, y ∙ ap (λ m. one m i) z)
 
 comes : {X : Type 0} (l : Layout) (one : ℕ → Instr → X) (n : ℕ) (gs : List Bool) (is : List Instr) (m : ℕ) (x : X) → length gs ≡ length is → Flags l n gs
@@ -78,7 +83,9 @@ comes l one n (true ∷ gs) (j ∷ is) m x all flags at =
     source_past one n gs is m x j (comes l one (n + 1) gs is m x (omega (arith, all)) (flags_next l n true gs flags)
     (sym (ap (λ t. slice_get (if t then remaining_from l one (n + 1) is else one n j ∷ remaining_from l one (n + 1) is) m) (flag_here l n true gs flags)) ∙ at))
 comes l one n (false ∷ gs) (j ∷ is) zero x all flags at =
-    let here : slice_get (one n j ∷ remaining_from l one (n + 1) is) 0 ≡ Some x = sym (ap (λ t. slice_get (if t then remaining_from l one (n + 1) is else one n j ∷ remaining_from l one (n + 1) is) 0) (flag_here l n false gs flags)) ∙ at in
+    let here : slice_get (one n j ∷ remaining_from l one (n + 1) is) 0
+    ≡ Some x = sym (ap (λ t. slice_get (if t then remaining_from l one (n + 1) is else one n j ∷ remaining_from l one (n + 1) is) 0)
+    (flag_here l n false gs flags)) ∙ at in
     let e : x ≡ one n j = cc in let z : n ≡ n + 0 = omega arith in
     (0, j, refl, refl, refl, e ∙ ap (λ m. one m j) z)
 comes l one n (false ∷ gs) (j ∷ is) (suc m) x all flags at =
@@ -106,17 +113,28 @@ module _ (p : Plan) (c : CodeBlock) where
       get_or_from_slice_get l.places n (0 + before l.gone n) n (number_is 0 l.gone n (omega (arith, h, e))) ∙ z
 
   -- what an instruction that is not left out stands for
-  pub stands_at : {X : Type 0} (one : ℕ → Instr → X) (n : ℕ) (i : Instr) → slice_get c.instrs n ≡ Some i → gone_at l n ≡ false → slice_get (remaining_from l one 0 c.instrs) (new_place l n) ≡ Some (one n i)
+  pub stands_at : {X : Type 0} (one : ℕ → Instr → X) (n : ℕ) (i : Instr) → slice_get c.instrs n ≡ Some i → gone_at l n ≡ false
+      → slice_get (remaining_from l one 0 c.instrs) (new_place l n) ≡ Some (one n i)
   stands_at one n i at stay =
       let z : 0 + n ≡ n = omega arith in
-      ap (slice_get (remaining_from l one 0 c.instrs)) (place_is n (slice_get_within c.instrs n i at)) ∙ stands l one 0 l.gone c.instrs n i all flags at stay ∙ ap (λ m. Some (one m i)) z
+      ap (slice_get (remaining_from l one 0 c.instrs)) (place_is n (slice_get_within c.instrs n i at)) ∙ stands l one 0 l.gone c.instrs n i all flags
+      at stay ∙ ap (λ m. Some (one m i)) z
 
   pub comes_from : {X : Type 0} (one : ℕ → Instr → X) (m : ℕ) (x : X) → slice_get (remaining_from l one 0 c.instrs) m ≡ Some x
       → (n : ℕ) × (i : Instr) × (slice_get c.instrs n ≡ Some i) × (gone_at l n ≡ false) × (new_place l n ≡ m) × (x ≡ one n i)
   comes_from one m x at = found (comes l one 0 l.gone c.instrs m x all flags at)
     where
-      found : Source one 0 l.gone c.instrs m x → (n : ℕ) × (i : Instr) × (slice_get c.instrs n ≡ Some i) × (gone_at l n ≡ false) × (new_place l n ≡ m) × (x ≡ one n i)
-      found (n, i, at, stay, e, y) = let z : 0 + n ≡ n = omega arith in (n, i, at, stay, place_is n (slice_get_within c.instrs n i at) ∙ e, y ∙ ap (λ m. one m i) z)
+      found : Source one 0 l.gone c.instrs m x → (n : ℕ) × (i : Instr) × (slice_get c.instrs n ≡ Some i) × (gone_at l n ≡ false) × (new_place l n ≡ m)
+          × (x ≡ one n i)
+      found (n, i, at, stay, e, y) = let z : 0 + n ≡ n = omega arith in (
+        n,
+        i,
+        at,
+        stay,
+        place_is n (slice_get_within c.instrs n i at) ∙ e,
+        y
+            ∙ ap (λ m. one m i) z,
+      )
 
 pub keeps_instrs : KeepsInstrs
 keeps_instrs p c n i at stay = stands_at p c (moved (layout_of p c)) n i at stay

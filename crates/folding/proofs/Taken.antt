@@ -1,5 +1,6 @@
 -- What a folded operator and a literal that is left out are, and that entries stay.
-use Rattle.std.proofs.Common.{◌≡◌, ℕ, ℤ, zero, suc, ◌+◌, ◌<◌, ◌≤◌, Bool, true, false, ◌&&◌, List, ◌∷◌, length, refl, sym, ap, ◌∙◌, subst, inl, inr, ◌⊎◌, arith, Option, Some, None, eqb-true, ◌==◌, if◌then◌else◌, true≢false, le_of_suc-le-suc, not-suc-le-zero, []}
+use Rattle.std.proofs.Common.{◌≡◌, ℕ, ℤ, zero, suc, ◌+◌, ◌<◌, ◌≤◌, Bool, true, false, ◌&&◌, List, ◌∷◌, length, refl, sym, ap, ◌∙◌, subst, inl, inr}
+use Rattle.std.proofs.Common.{◌⊎◌, arith, Option, Some, None, eqb-true, ◌==◌, if◌then◌else◌, true≢false, le_of_suc-le-suc, not-suc-le-zero, []}
 use Rattle.std.specs.Prelude.{slice_get, slice_set, slice_index_or}
 use Rattle.std.proofs.lemmas.Bool.{cases_eq, and_parts}
 use Rattle.std.proofs.lemmas.Option.{slice_get_within}
@@ -18,7 +19,8 @@ use Rattle.folding.specs.declared.namers.Namer.TheVariants.{Nobody, One, Many}
 use Rattle.folding.specs.declared.folds.Fold.{Fold}
 use Rattle.folding.specs.declared.folds.Fold.TheVariants.{Unchanged, OnRight, LeftLiteral}
 use Rattle.folding.specs.Namers.{Namers, namer_at, namer_of, note_row, nobody, entries_noted, namers_of}
-use Rattle.folding.specs.Folds.{literal_in, literal_at, same_side, same_source, literal_by, fold_by, fold_of, folds_from, folds_of, fold_at, is_closed, closed_to, all_closed, is_used, is_lit, is_gone, gone_from}
+use Rattle.folding.specs.Folds.{literal_in, literal_at, same_side, same_source, literal_by, fold_by, fold_of, folds_from, folds_of, fold_at}
+use Rattle.folding.specs.Folds.{is_closed, closed_to, all_closed, is_used, is_lit, is_gone, gone_from}
 use Rattle.folding.specs.Places.{layout_of, gone_at, folds_at}
 use Rattle.folding.specs.Laws.{KeepsEntries, dests_of, NamedBy, other_port, TakesLiteral, FoldsOnRight, FoldsOnLeft, LeavesOut}
 use Rattle.folding.proofs.Standing.{before, all, place_is}
@@ -47,7 +49,8 @@ remaining_of None None z e = absurd (cc)
 
 -- the literal of a port
 abbrev Literal : List Namer → List Instr → Namer → Namer → ℤ → Type 0
-Literal lefts is x other z = (m : ℕ) × (s : Bool) × (i : Instr) × (x ≡ One m s) × (same_source (namer_at lefts m) other ≡ true) × (slice_get is m ≡ Some i) × (i.op ≡ Lit z)
+Literal lefts is x other z = (m : ℕ) × (s : Bool) × (i : Instr) × (x ≡ One m s) × (same_source (namer_at lefts m) other ≡ true)
+    × (slice_get is m ≡ Some i) × (i.op ≡ Lit z)
 
 lit_in : (op : Op) (z : ℤ) → literal_in op ≡ Some z → op ≡ Lit z
 lit_in (Lit y) z e = cc
@@ -65,7 +68,8 @@ literal_is lefts is (One m s) other z e = pick (same_source (namer_at lefts m) o
     found : same_source (namer_at lefts m) other ≡ true → (i : Instr) × (slice_get is m ≡ Some i) × (i.op ≡ Lit z) → Literal lefts is (One m s) other z
     found t (i, at, op) = (m, s, i, refl, t, at, op)
 
-    pick : (t : Bool) → same_source (namer_at lefts m) other ≡ t → (if t then literal_at (slice_get is m) else None) ≡ Some z → Literal lefts is (One m s) other z
+    pick : (t : Bool) → same_source (namer_at lefts m) other ≡ t → (if t then literal_at (slice_get is m) else None) ≡ Some z
+        → Literal lefts is (One m s) other z
     pick true t e = found t (lit_at (slice_get is m) z e)
     pick false t e = absurd (cc)
 
@@ -84,21 +88,25 @@ source_is (One m s) Many e = absurd (true≢false (sym e))
 source_is Nobody y e = absurd (true≢false (sym e))
 source_is Many y e = absurd (true≢false (sym e))
 
-by_right : (ns : Namers) (every : List Instr) (n : ℕ) (op : Op) (z : ℤ) → fold_of ns every n op ≡ OnRight z → (o : Binary) × (op ≡ Apply2 o) × Literal ns.lefts every (namer_at ns.rights n) (namer_at ns.lefts n) z
+by_right : (ns : Namers) (every : List Instr) (n : ℕ) (op : Op) (z : ℤ) → fold_of ns every n op ≡ OnRight z → (o : Binary) × (op ≡ Apply2 o)
+    × Literal ns.lefts every (namer_at ns.rights n) (namer_at ns.lefts n) z
 by_right ns every n (Apply2 o) z e = (
   o,
   refl,
   literal_is ns.lefts every (namer_at ns.rights n) (namer_at ns.lefts n) z
-      (right_of (literal_by ns.lefts every (namer_at ns.lefts n) (namer_at ns.rights n)) (literal_by ns.lefts every (namer_at ns.rights n) (namer_at ns.lefts n)) z e),
+      (right_of (literal_by ns.lefts every (namer_at ns.lefts n) (namer_at ns.rights n)) (literal_by ns.lefts every (namer_at ns.rights n)
+      (namer_at ns.lefts n)) z e),
 )
 by_right ns every n op z e = absurd (cc)
 
-by_left : (ns : Namers) (every : List Instr) (n : ℕ) (op : Op) (z : ℤ) → fold_of ns every n op ≡ LeftLiteral z → (o : Binary) × (op ≡ Apply2 o) × Literal ns.lefts every (namer_at ns.lefts n) (namer_at ns.rights n) z
+by_left : (ns : Namers) (every : List Instr) (n : ℕ) (op : Op) (z : ℤ) → fold_of ns every n op ≡ LeftLiteral z → (o : Binary) × (op ≡ Apply2 o)
+    × Literal ns.lefts every (namer_at ns.lefts n) (namer_at ns.rights n) z
 by_left ns every n (Apply2 o) z e = (
   o,
   refl,
   literal_is ns.lefts every (namer_at ns.lefts n) (namer_at ns.rights n) z
-      (remaining_of (literal_by ns.lefts every (namer_at ns.lefts n) (namer_at ns.rights n)) (literal_by ns.lefts every (namer_at ns.rights n) (namer_at ns.lefts n)) z e),
+      (remaining_of (literal_by ns.lefts every (namer_at ns.lefts n) (namer_at ns.rights n)) (literal_by ns.lefts every (namer_at ns.rights n)
+      (namer_at ns.lefts n)) z e),
 )
 by_left ns every n op z e = absurd (cc)
 
@@ -107,9 +115,11 @@ module _ (p : Plan) (c : CodeBlock) where
   ns = namers_of p c
 
   fold_there : (n : ℕ) → FoldFrom ns c.instrs n c.instrs n (folds_at (layout_of p c) n)
-  fold_there n = let z : 0 + n ≡ n = omega arith in subst (λ m. FoldFrom ns c.instrs m c.instrs n (folds_at (layout_of p c) n)) z (fold_from ns c.instrs 0 c.instrs n)
+  fold_there n = let z : 0 + n ≡ n = omega arith in subst (λ m. FoldFrom ns c.instrs m c.instrs n (folds_at (layout_of p c) n)) z
+      (fold_from ns c.instrs 0 c.instrs n)
 
-  takes : (n : ℕ) (q : Port) (z : ℤ) (i : Instr) → slice_get c.instrs n ≡ Some i → (o : Binary) × (i.op ≡ Apply2 o) × Literal ns.lefts c.instrs (namer_of ns n q) (namer_of ns n (other_port q)) z → TakesLiteral p c n q z
+  takes : (n : ℕ) (q : Port) (z : ℤ) (i : Instr) → slice_get c.instrs n ≡ Some i → (o : Binary) × (i.op ≡ Apply2 o)
+      × Literal ns.lefts c.instrs (namer_of ns n q) (namer_of ns n (other_port q)) z → TakesLiteral p c n q z
   takes n q z i at (o, op, (m, s, j, alone, same, there, lit)) = found (source_is (namer_at ns.lefts m) (namer_of ns n (other_port q)) same)
     where
       found : (a : ℕ) × (t : Bool) × (namer_at ns.lefts m ≡ One a t) × (namer_of ns n (other_port q) ≡ One a t) → TakesLiteral p c n q z
@@ -150,7 +160,8 @@ closed_takes p c n q e = by_fold (folds_at (layout_of p c) n) q refl e
     by_fold Unchanged q f e = absurd (true≢false (sym e))
 
 -- WHAT IS LEFT OUT
-pub gone_is : (fs : List Fold) (n : ℕ) (is : List Instr) (k : ℕ) (i : Instr) → slice_get is k ≡ Some i → slice_index_or (gone_from fs n is) k false ≡ is_gone fs (n + k) i
+pub gone_is : (fs : List Fold) (n : ℕ) (is : List Instr) (k : ℕ) (i : Instr) → slice_get is k ≡ Some i → slice_index_or (gone_from fs n is) k false
+    ≡ is_gone fs (n + k) i
 gone_is fs n [] k i at = absurd (cc)
 gone_is fs n (j ∷ is) zero i at = let e : j ≡ i = cc in let z : n ≡ n + 0 = omega arith in (λ k. is_gone fs (z k) (e k))
 gone_is fs n (j ∷ is) (suc k) i at = let z : n + 1 + k ≡ n + suc k = omega arith in gone_is fs (n + 1) is k i at ∙ ap (λ m. is_gone fs m i) z
@@ -176,12 +187,19 @@ a_use [] [] e = absurd (true≢false (sym e))
 a_use [] (d ∷ es) e = inr (d, refl)
 a_use (d ∷ ds) es e = inl (d, refl)
 
-one_of : (i : Instr) → ((d : Dest) × (slice_get i.firsts 0 ≡ Some d)) ⊎ ((d : Dest) × (slice_get i.seconds 0 ≡ Some d)) → (s : Bool) × (d : Dest) × (slice_get (dests_of i s) 0 ≡ Some d)
+one_of : (i : Instr) → ((d : Dest) × (slice_get i.firsts 0 ≡ Some d)) ⊎ ((d : Dest) × (slice_get i.seconds 0 ≡ Some d)) → (s : Bool) × (d : Dest)
+    × (slice_get (dests_of i s) 0 ≡ Some d)
 one_of i (inl (d, e)) = (false, d, e)
 one_of i (inr (d, e)) = (true, d, e)
 
 pub leaves_out : LeavesOut
-leaves_out p c n i at gone = record { literal = is_lit_of i.op parts.0; source = by_use (a_use i.firsts i.seconds used.0); used = one_of i (a_use i.firsts i.seconds used.0); closed = closed }
+leaves_out p c n i at gone = record {
+  literal = is_lit_of i.op parts.0;
+  source = by_use (a_use i.firsts i.seconds used.0);
+  used = one_of i
+      (a_use i.firsts i.seconds used.0);
+  closed = closed;
+}
   where
     fs : List Fold
     fs = folds_of p c
@@ -207,12 +225,15 @@ leaves_out p c n i at gone = record { literal = is_lit_of i.op parts.0; source =
     this m s t x (inl e) f = cc
     this m s t x (inr e) f = absurd (cc)
 
-    by_port : (s : Bool) (d : Dest) → slice_get (dests_of i s) 0 ≡ Some d → (z : ℤ) × TakesLiteral p c (n + d.ahead) d.port z → (m : ℕ) × (s : Bool) × (namer_of (namers_of p c) n Left ≡ One m s)
+    by_port : (s : Bool) (d : Dest) → slice_get (dests_of i s) 0 ≡ Some d → (z : ℤ) × TakesLiteral p c (n + d.ahead) d.port z → (m : ℕ) × (s : Bool)
+        × (namer_of (namers_of p c) n Left ≡ One m s)
     by_port s d e (z, t) =
-        let same = this t.lit s t.lit_side (namer_of (namers_of p c) (n + d.ahead) d.port) (knows_namers p c n 0 i s d at e (slice_get_within c.instrs (n + d.ahead) t.operator.0 t.operator.2)) t.alone in
+        let same = this t.lit s t.lit_side (namer_of (namers_of p c) (n + d.ahead) d.port)
+        (knows_namers p c n 0 i s d at e (slice_get_within c.instrs (n + d.ahead) t.operator.0 t.operator.2)) t.alone in
         (t.source, t.source_side, sym (ap (λ m. namer_of (namers_of p c) m Left) same) ∙ t.to_lit)
 
-    by_use : ((d : Dest) × (slice_get i.firsts 0 ≡ Some d)) ⊎ ((d : Dest) × (slice_get i.seconds 0 ≡ Some d)) → (m : ℕ) × (s : Bool) × (namer_of (namers_of p c) n Left ≡ One m s)
+    by_use : ((d : Dest) × (slice_get i.firsts 0 ≡ Some d)) ⊎ ((d : Dest) × (slice_get i.seconds 0 ≡ Some d)) → (m : ℕ) × (s : Bool)
+        × (namer_of (namers_of p c) n Left ≡ One m s)
     by_use (inl (d, e)) = by_port false d e (closed_takes p c (n + d.ahead) d.port (closed false 0 d e))
     by_use (inr (d, e)) = by_port true d e (closed_takes p c (n + d.ahead) d.port (closed true 0 d e))
 
@@ -224,8 +245,10 @@ row_many ms from (suc c) k l h there = pick (cases_eq k (from + c)) (row_many ms
     len : length (note_row ms from c) ≡ length ms
     len = row_length ms from c
 
-    pick : (k ≡ from + c) ⊎ (k ≡ from + c → ⊥) → (from ≤ k → k < from + c → k < length ms → namer_at (note_row ms from c) k ≡ Many) → namer_at (slice_set (note_row ms from c) (from + c) Many) k ≡ Many
-    pick (inl e) more = ap (namer_at (slice_set (note_row ms from c) (from + c) Many)) e ∙ get_or-set_same (note_row ms from c) (from + c) Many Nobody (omega (arith, there, len, e))
+    pick : (k ≡ from + c) ⊎ (k ≡ from + c → ⊥) → (from ≤ k → k < from + c → k < length ms → namer_at (note_row ms from c) k ≡ Many)
+        → namer_at (slice_set (note_row ms from c) (from + c) Many) k ≡ Many
+    pick (inl e) more = ap (namer_at (slice_set (note_row ms from c) (from + c) Many)) e ∙ get_or-set_same (note_row ms from c) (from + c) Many Nobody
+        (omega (arith, there, len, e))
     pick (inr d) more = get_or-set_other (note_row ms from c) (from + c) k Many Nobody d ∙ more l (omega (arith, h, d)) there
 
 pub entry_many : (p : Plan) (c : CodeBlock) (n : ℕ) → n ≤ c.inputs → n < length c.instrs → namer_of (namers_of p c) n Left ≡ Many
@@ -237,7 +260,8 @@ entry_many p c n h there = still (all_grow p (entries_noted c.inputs (length c.i
         let len : length (nobody (length c.instrs)) ≡ length c.instrs = size.1 in
         row_many (nobody (length c.instrs)) 0 (c.inputs + 1) n (omega arith) (omega (arith, h)) (omega (arith, there, len))
 
-    still : (namer_of (namers_of p c) n Left ≡ namer_at (entries_noted c.inputs (length c.instrs)).lefts n) ⊎ ((namer_of (namers_of p c) n Left ≡ Many) ⊎ (namer_at (entries_noted c.inputs (length c.instrs)).lefts n ≡ Nobody))
+    still : (namer_of (namers_of p c) n Left ≡ namer_at (entries_noted c.inputs (length c.instrs)).lefts n) ⊎
+        ((namer_of (namers_of p c) n Left ≡ Many) ⊎ (namer_at (entries_noted c.inputs (length c.instrs)).lefts n ≡ Nobody))
         → namer_of (namers_of p c) n Left ≡ Many
     still (inl e) = e ∙ first
     still (inr (inl e)) = e
@@ -261,5 +285,8 @@ before_all (false ∷ gs) (suc n) h l = ap suc (before_all gs n (λ k j. h (suc 
 
 pub keeps_entries : KeepsEntries
 keeps_entries p c n h there =
-    let len = all p c in
-    (entry_stays p c n h there, place_is p c n there ∙ before_all (layout_of p c).gone n (λ k j. entry_stays p c k (omega (arith, j, h)) (omega (arith, j, there))) (omega (arith, len, there)))
+    let len = all p c in (
+      entry_stays p c n h there,
+      place_is p c n there
+          ∙ before_all (layout_of p c).gone n (λ k j. entry_stays p c k (omega (arith, j, h)) (omega (arith, j, there))) (omega (arith, len, there)),
+    )

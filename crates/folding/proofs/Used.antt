@@ -1,5 +1,6 @@
 -- Each holder that is left has its instruction.
-use Rattle.std.proofs.Common.{◌≡◌, ℕ, ℤ, zero, suc, ◌+◌, ◌<◌, Bool, true, false, List, ◌∷◌, length, replicate, refl, sym, ap, ◌∙◌, subst, inl, inr, ◌⊎◌, arith, Some, if◌then◌else◌, true≢false, length-set, not-suc-le-zero, []}
+use Rattle.std.proofs.Common.{◌≡◌, ℕ, ℤ, zero, suc, ◌+◌, ◌<◌, Bool, true, false, List, ◌∷◌, length, replicate, refl, sym, ap, ◌∙◌, subst, inl, inr}
+use Rattle.std.proofs.Common.{◌⊎◌, arith, Some, if◌then◌else◌, true≢false, length-set, not-suc-le-zero, []}
 use Rattle.std.specs.Prelude.{slice_get, slice_set, slice_index_or}
 use Rattle.std.proofs.lemmas.Bool.{cases_eq}
 use Rattle.std.proofs.lemmas.Option.{get_or_from_slice_get}
@@ -20,11 +21,13 @@ use Rattle.folding.proofs.Taken.{leaves_out}
 use Rattle.folding.proofs.Held.{slot_any, freed_length}
 
 -- what is freed stays so
-freed_keeps : (fs : List Fold) (hs : List Bool) (n : ℕ) (is : List Instr) (h : ℕ) → h < length hs → slice_index_or hs h false ≡ true → slice_index_or (freed_from fs hs n is) h false ≡ true
+freed_keeps : (fs : List Fold) (hs : List Bool) (n : ℕ) (is : List Instr) (h : ℕ) → h < length hs → slice_index_or hs h false ≡ true
+    → slice_index_or (freed_from fs hs n is) h false ≡ true
 freed_keeps fs hs n [] h l e = e
 freed_keeps fs hs n (i ∷ is) h l e =
     let len = length-set hs i.slot true in
-    next (is_folded (fold_at fs n)) refl (λ s. freed_keeps fs (slice_set hs i.slot true) (n + 1) is h (omega (arith, l, len)) s) (freed_keeps fs hs (n + 1) is h l e)
+    next (is_folded (fold_at fs n)) refl (λ s. freed_keeps fs (slice_set hs i.slot true) (n + 1) is h (omega (arith, l, len)) s)
+    (freed_keeps fs hs (n + 1) is h l e)
   where
     put : slice_index_or (slice_set hs i.slot true) h false ≡ true
     put = pick (cases_eq h i.slot)
@@ -33,12 +36,14 @@ freed_keeps fs hs n (i ∷ is) h l e =
         pick (inl s) = ap (λ k. slice_index_or (slice_set hs i.slot true) k false) s ∙ get_or-set_same hs i.slot true false (omega (arith, l, s))
         pick (inr d) = get_or-set_other hs i.slot h true false d ∙ e
 
-    next : (t : Bool) → is_folded (fold_at fs n) ≡ t → (slice_index_or (slice_set hs i.slot true) h false ≡ true → slice_index_or (freed_from fs (slice_set hs i.slot true) (n + 1) is) h false ≡ true)
+    next : (t : Bool) → is_folded (fold_at fs n) ≡ t → (slice_index_or (slice_set hs i.slot true) h false ≡ true
+        → slice_index_or (freed_from fs (slice_set hs i.slot true) (n + 1) is) h false ≡ true)
         → slice_index_or (freed_from fs hs (n + 1) is) h false ≡ true → slice_index_or (freed_from fs hs n (i ∷ is)) h false ≡ true
     next true f then_set then_same = ap (λ t. slice_index_or (freed_from fs (if t then slice_set hs i.slot true else hs) (n + 1) is) h false) f ∙ then_set put
     next false f then_set then_same = ap (λ t. slice_index_or (freed_from fs (if t then slice_set hs i.slot true else hs) (n + 1) is) h false) f ∙ then_same
 
-freed_there : (fs : List Fold) (hs : List Bool) (n : ℕ) (is : List Instr) (k : ℕ) (i : Instr) → slice_get is k ≡ Some i → is_folded (fold_at fs (n + k)) ≡ true → i.slot < length hs
+freed_there : (fs : List Fold) (hs : List Bool) (n : ℕ) (is : List Instr) (k : ℕ) (i : Instr) → slice_get is k ≡ Some i
+    → is_folded (fold_at fs (n + k)) ≡ true → i.slot < length hs
     → slice_index_or (freed_from fs hs n is) i.slot false ≡ true
 freed_there fs hs n [] k i at f l = absurd (cc)
 freed_there fs hs n (j ∷ is) zero i at f l =
@@ -50,7 +55,8 @@ freed_there fs hs n (j ∷ is) zero i at f l =
     ∙ freed_keeps fs (slice_set hs i.slot true) (n + 1) is i.slot (omega (arith, l, len)) (get_or-set_same hs i.slot true false l)
 freed_there fs hs n (j ∷ is) (suc k) i at f l =
     let z : n + suc k ≡ n + 1 + k = omega arith in
-    freed_there fs (if is_folded (fold_at fs n) then slice_set hs j.slot true else hs) (n + 1) is k i at (sym (ap (λ m. is_folded (fold_at fs m)) z) ∙ f) (within (is_folded (fold_at fs n)))
+    freed_there fs (if is_folded (fold_at fs n) then slice_set hs j.slot true else hs) (n + 1) is k i at (sym (ap (λ m. is_folded (fold_at fs m)) z)
+    ∙ f) (within (is_folded (fold_at fs n)))
   where
     within : (t : Bool) → i.slot < length (if t then slice_set hs j.slot true else hs)
     within true = let len = length-set hs j.slot true in omega (arith, l, len)
@@ -107,8 +113,15 @@ module _ (p : Plan) (c : CodeBlock) (used : IsUsed c) where
               here : is_folded (folds_at l n) ≡ false → gone_at l n ≡ false → Use m
               here f stay =
                   let op : (moved l n i).op ≡ i.op = ap (λ f. new_op f i.op) (kept (folds_at l n) f) in
-                  let number : (moved l n i).slot ≡ m = ap (λ t. if t then 0 else new_holder l i.slot) f ∙ ap (new_holder l) (sym slot.0) ∙ holder_is g (let s = size in omega (arith, b, s)) ∙ e in
-                  (new_place l n, moved l n i, keeps_instrs p c n i at stay, ap (slot_of (moved l n i)) op ∙ slot.1 ∙ ap (λ (h : ℕ). Some h) number, subst IsFirst (sym op) first)
+                  let number : (moved l n i).slot ≡ m = ap (λ t. if t then 0 else new_holder l i.slot) f ∙ ap (new_holder l) (sym slot.0)
+                  ∙ holder_is g (let s = size in omega (arith, b, s)) ∙ e in (
+                    new_place l n,
+                    moved l n i,
+                    keeps_instrs p c n i at stay,
+                    ap (slot_of (moved l n i)) op ∙ slot.1
+                        ∙ ap (λ (h : ℕ). Some h) number,
+                    subst IsFirst (sym op) first,
+                  )
 
               not_lit : (z : ℤ) → i.op ≡ Lit z → ⊥
               not_lit z op = let w : slot_of i (Lit z) ≡ Some g = sym (ap (slot_of i) op) ∙ held in absurd (cc)
@@ -121,7 +134,8 @@ module _ (p : Plan) (c : CodeBlock) (used : IsUsed c) where
                   let len = length-replicate c.slots false in
                   let s = size in
                   let q = slot.0 in
-                  let there = freed_there (folds_of p c) (replicate c.slots false) 0 c.instrs n i at (ap (λ m. is_folded (fold_at (folds_of p c) m)) z ∙ f) (omega (arith, b, s, len, q)) in
+                  let there = freed_there (folds_of p c) (replicate c.slots false) 0 c.instrs n i at (ap (λ m. is_folded (fold_at (folds_of p c) m)) z
+                  ∙ f) (omega (arith, b, s, len, q)) in
                   absurd (true≢false (sym there ∙ sym (ap (λ h. slice_index_or l.freed h false) q) ∙ free))
 
 pub keeps_used : KeepsUsed

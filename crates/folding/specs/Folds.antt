@@ -45,7 +45,8 @@ fold_by None None = Unchanged
 
 -- what the n-th instruction takes from the code
 abbrev pub fold_of : Namers → List Instr → ℕ → Op → Fold
-fold_of ns is n (Apply2 op) = fold_by (literal_by ns.lefts is (namer_at ns.lefts n) (namer_at ns.rights n)) (literal_by ns.lefts is (namer_at ns.rights n) (namer_at ns.lefts n))
+fold_of ns is n (Apply2 op) = fold_by (literal_by ns.lefts is (namer_at ns.lefts n) (namer_at ns.rights n))
+    (literal_by ns.lefts is (namer_at ns.rights n) (namer_at ns.lefts n))
 fold_of ns is n op = Unchanged
 
 -- the instructions from the n-th on

@@ -27,11 +27,13 @@ KeepsInstrs = (p : Plan) (c : CodeBlock) (n : ℕ) (i : Instr) → slice_get c.i
 -- each instruction of the folded block is such a one,
 abbrev pub HasNoOthers : Type 0
 HasNoOthers = (p : Plan) (c : CodeBlock) (m : ℕ) (j : Instr) → slice_get (folded_block p c).instrs m ≡ Some j
-    → (n : ℕ) × (i : Instr) × (slice_get c.instrs n ≡ Some i) × (gone_at (layout_of p c) n ≡ false) × (new_place (layout_of p c) n ≡ m) × (j ≡ moved (layout_of p c) n i)
+    → (n : ℕ) × (i : Instr) × (slice_get c.instrs n ≡ Some i) × (gone_at (layout_of p c) n ≡ false) × (new_place (layout_of p c) n ≡ m)
+    × (j ≡ moved (layout_of p c) n i)
 
 -- and what was after it is after it: arcs go forward as they did.
 abbrev pub KeepsOrder : Type 0
-KeepsOrder = (p : Plan) (c : CodeBlock) (m n : ℕ) → m < n → n < length c.instrs → gone_at (layout_of p c) m ≡ false → new_place (layout_of p c) m < new_place (layout_of p c) n
+KeepsOrder = (p : Plan) (c : CodeBlock) (m n : ℕ) → m < n → n < length c.instrs → gone_at (layout_of p c) m ≡ false
+    → new_place (layout_of p c) m < new_place (layout_of p c) n
 
 -- The entries stay where they are.
 abbrev pub KeepsEntries : Type 0
@@ -39,7 +41,8 @@ KeepsEntries = (p : Plan) (c : CodeBlock) (n : ℕ) → n ≤ c.inputs → n < l
 
 -- A landing stays a row.
 abbrev pub KeepsLandings : Type 0
-KeepsLandings = (p : Plan) (c : CodeBlock) (n v k b : ℕ) (i : Instr) (d : Dest) → slice_get c.instrs n ≡ Some i → i.op ≡ Link b → slice_get i.firsts v ≡ Some d → k < landing p b → n + d.ahead + k < length c.instrs
+KeepsLandings = (p : Plan) (c : CodeBlock) (n v k b : ℕ) (i : Instr) (d : Dest) → slice_get c.instrs n ≡ Some i → i.op ≡ Link b → slice_get i.firsts v
+    ≡ Some d → k < landing p b → n + d.ahead + k < length c.instrs
     → (gone_at (layout_of p c) (n + d.ahead + k) ≡ false) × (new_place (layout_of p c) (n + d.ahead + k) ≡ new_place (layout_of p c) (n + d.ahead) + k)
 
 -- NAMERS. A port that is named is named by one list of destinations alone, or by more.
@@ -51,7 +54,8 @@ abbrev pub NamedBy : ℕ → Bool → Namer → Type 0
 NamedBy n s x = (x ≡ One n s) ⊎ (x ≡ Many)
 
 abbrev pub KnowsNamers : Type 0
-KnowsNamers = (p : Plan) (c : CodeBlock) (n k : ℕ) (i : Instr) (s : Bool) (d : Dest) → slice_get c.instrs n ≡ Some i → slice_get (dests_of i s) k ≡ Some d → n + d.ahead < length c.instrs
+KnowsNamers = (p : Plan) (c : CodeBlock) (n k : ℕ) (i : Instr) (s : Bool) (d : Dest) → slice_get c.instrs n ≡ Some i → slice_get (dests_of i s) k
+    ≡ Some d → n + d.ahead < length c.instrs
     → NamedBy n s (namer_of (namers_of p c) (n + d.ahead) d.port)
 
 -- What names a port by the table does name it.
@@ -96,24 +100,29 @@ LeavesOut = (p : Plan) (c : CodeBlock) (n : ℕ) (i : Instr) → slice_get c.ins
 
 -- SHAPES. Where right ports are those of dyadic instructions, an instruction with one destination keeps it, if it is no `lit`.
 abbrev pub SparesLiterals : CodeBlock → Type 0
-SparesLiterals c = (n k : ℕ) (i : Instr) (s : Bool) (d : Dest) (j : Instr) → slice_get c.instrs n ≡ Some i → slice_get (dests_of i s) k ≡ Some d → slice_get c.instrs (n + d.ahead) ≡ Some j → d.port ≡ Right → is_dyadic j.op ≡ true
+SparesLiterals c = (n k : ℕ) (i : Instr) (s : Bool) (d : Dest) (j : Instr) → slice_get c.instrs n ≡ Some i → slice_get (dests_of i s) k ≡ Some d
+    → slice_get c.instrs (n + d.ahead) ≡ Some j → d.port ≡ Right → is_dyadic j.op ≡ true
 
 abbrev pub KeepsSole : Type 0
-KeepsSole = (p : Plan) (c : CodeBlock) → SparesLiterals c → (n : ℕ) (i : Instr) (d : Dest) → slice_get c.instrs n ≡ Some i → i.firsts ≡ d ∷ [] → ((z : ℤ) → i.op ≡ Lit z → ⊥)
+KeepsSole = (p : Plan) (c : CodeBlock) → SparesLiterals c → (n : ℕ) (i : Instr) (d : Dest) → slice_get c.instrs n ≡ Some i → i.firsts ≡ d ∷ []
+    → ((z : ℤ) → i.op ≡ Lit z → ⊥)
     → (moved (layout_of p c) n i).firsts ≡ new_dest (layout_of p c) n (n + d.ahead) d.port ∷ []
 
 -- MARKS. An instruction that is not left out keeps its mark,
 abbrev pub KeepsMarks : Type 0
-KeepsMarks = (p : Plan) (b : ℕ) (c : CodeBlock) (n : ℕ) (i : Instr) → slice_get p.program.blocks b ≡ Some c → slice_get c.instrs n ≡ Some i → gone_at (layout_of p c) n ≡ false
+KeepsMarks = (p : Plan) (b : ℕ) (c : CodeBlock) (n : ℕ) (i : Instr) → slice_get p.program.blocks b ≡ Some c → slice_get c.instrs n ≡ Some i
+    → gone_at (layout_of p c) n ≡ false
     → mark_at (folded p) b (new_place (layout_of p c) n) ≡ mark_at p b n
 
 -- so that each switch is marked,
 abbrev pub MarksSwitches : Plan → Type 0
-MarksSwitches p = (b n : ℕ) (c : CodeBlock) (i : Instr) → slice_get p.program.blocks b ≡ Some c → slice_get c.instrs n ≡ Some i → i.op ≡ Switch → mark_at p b n ≢ Unmarked
+MarksSwitches p = (b n : ℕ) (c : CodeBlock) (i : Instr) → slice_get p.program.blocks b ≡ Some c → slice_get c.instrs n ≡ Some i → i.op ≡ Switch
+    → mark_at p b n ≢ Unmarked
 
 -- and nothing else is.
 abbrev pub MarksNoOthers : Plan → Type 0
-MarksNoOthers p = (b n : ℕ) (c : CodeBlock) (i : Instr) → slice_get p.program.blocks b ≡ Some c → slice_get c.instrs n ≡ Some i → mark_at p b n ≢ Unmarked → i.op ≡ Switch
+MarksNoOthers p = (b n : ℕ) (c : CodeBlock) (i : Instr) → slice_get p.program.blocks b ≡ Some c → slice_get c.instrs n ≡ Some i
+    → mark_at p b n ≢ Unmarked → i.op ≡ Switch
 
 abbrev pub StillMarksSwitches : Type 0
 StillMarksSwitches = (p : Plan) → MarksSwitches p → MarksSwitches (folded p)

@@ -30,4 +30,11 @@ new_slot l n h = if is_folded (folds_at l n) then 0 else new_holder l h
 
 -- the n-th instruction
 abbrev pub moved : Layout → ℕ → Instr → Instr
-moved l n i = record { op = new_op (folds_at l n) i.op; origin = i.origin; slot = new_slot l n i.slot; firsts = moved_dests l n i.firsts; seconds = moved_dests l n i.seconds }
+moved l n i = record {
+  op = new_op (folds_at l n) i.op;
+  origin = i.origin;
+  slot = new_slot l n i.slot;
+  firsts = moved_dests l n i.firsts;
+  seconds =
+      moved_dests l n i.seconds;
+}

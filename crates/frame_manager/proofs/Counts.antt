@@ -1,7 +1,9 @@
 -- How many frames are out, and the flags of a new manager.
-use Rattle.std.proofs.Common.{◌≡◌, ◌≢◌, ℕ, zero, suc, ◌+◌, ◌-◌, ◌<◌, ◌≤◌, Bool, true, false, List, ◌∷◌, length, set, get_or, replicate, sym, ap, ◌∙◌, refl, arith, subst, ⊎_elim}
+use Rattle.std.proofs.Common.{◌≡◌, ◌≢◌, ℕ, zero, suc, ◌+◌, ◌-◌, ◌<◌, ◌≤◌, Bool, true, false, List, ◌∷◌, length, set, get_or, replicate, sym, ap}
+use Rattle.std.proofs.Common.{◌∙◌, refl, arith, subst, ⊎_elim}
 use Rattle.std.proofs.lemmas.Bool.{cases_eq, cases_lt}
-use Rattle.std.proofs.lemmas.List.{get_or-set_same, get_or-set_other, get_or_past, same_lists, length-set, get_or-replicate, length-replicate, get_or_default, set-set, set-get_or}
+use Rattle.std.proofs.lemmas.List.{get_or-set_same, get_or-set_other, get_or_past, same_lists, length-set, get_or-replicate, length-replicate}
+use Rattle.std.proofs.lemmas.List.{get_or_default, set-set, set-get_or}
 use Rattle.semantics.specs.Report.{sum_below, one_if}
 use Rattle.semantics.proofs.Sums.{one_if_le, sum_same}
 use Rattle.frame_manager.specs.Flags.{flag_at, out_count}
@@ -32,7 +34,8 @@ flag_inside flags f e = ⊎_elim
     (λ (ge : length flags ≤ f). let no : flag_at flags f ≡ false = get_or_past flags f false ge in cc)
     (cases_lt f (length flags))
 
-changed_count : (flags : List Bool) (f : ℕ) (a b : Bool) → f < length flags → flag_at flags f ≡ a → one_if b ≡ one_if a + 1 → out_count (set flags f b) ≡ out_count flags + 1
+changed_count : (flags : List Bool) (f : ℕ) (a b : Bool) → f < length flags → flag_at flags f ≡ a → one_if b ≡ one_if a + 1
+    → out_count (set flags f b) ≡ out_count flags + 1
 changed_count flags f a b h at e =
     let more : sum_below (length flags) (λ k. one_if (flag_at (set flags f b) k)) ≡ sum_below (length flags) (λ k. one_if (flag_at flags k)) + 1 =
     sum_more (length flags) f (λ k. one_if (flag_at (set flags f b) k)) (λ k. one_if (flag_at flags k)) h
@@ -47,7 +50,8 @@ pub count_freed : (flags : List Bool) (f : ℕ) → flag_at flags f ≡ true →
 count_freed flags f at =
     let h = flag_inside flags f at in
     let inside : f < length (set flags f false) = subst (λ n. f < n) (sym (length-set flags f false)) h in
-    let more : out_count (set (set flags f false) f true) ≡ out_count (set flags f false) + 1 = count_taken (set flags f false) f inside (get_or-set_same flags f false false h) in
+    let more : out_count (set (set flags f false) f true) ≡ out_count (set flags f false) + 1 = count_taken (set flags f false) f inside
+    (get_or-set_same flags f false false h) in
     let back : set (set flags f false) f true ≡ flags = set-set flags f false true ∙ ap (set flags f) (sym at) ∙ set-get_or flags f false in
     sym more ∙ ap out_count back
 

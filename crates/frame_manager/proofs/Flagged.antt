@@ -1,9 +1,11 @@
 -- The flags of the frames, and the set of the words that are not 0.
-use Rattle.std.proofs.Common.{◌≡◌, ◌≢◌, ℕ, ◌+◌, ◌*◌, ◌/◌, ◌%◌, ◌^◌, ◌<◌, ◌≤◌, ◌==◌, Bool, true, false, not, eqb, List, ◌++◌, length, set, get_or, take, drop, replicate, sym, ap, ◌∙◌, refl, arith, subst, ⊎_elim, w64}
+use Rattle.std.proofs.Common.{◌≡◌, ◌≢◌, ℕ, ◌+◌, ◌*◌, ◌/◌, ◌%◌, ◌^◌, ◌<◌, ◌≤◌, ◌==◌, Bool, true, false, not, eqb, List, ◌++◌, length, set, get_or}
+use Rattle.std.proofs.Common.{take, drop, replicate, sym, ap, ◌∙◌, refl, arith, subst, ⊎_elim, w64}
 use Rattle.std.specs.Prelude.{Option, Some, None, IfNone}
 use Rattle.std.specs.Int.{trailing_zeros, bit_at}
 use Rattle.std.proofs.lemmas.Bool.{cases_eq, cases_lt, eq-eqb, ne_eqb}
-use Rattle.std.proofs.lemmas.List.{get_or-set_same, get_or-set_other, get_or_past, same_lists, length-set, drop_all, append-nil, take_all, get_or-replicate, length-replicate}
+use Rattle.std.proofs.lemmas.List.{get_or-set_same, get_or-set_other, get_or_past, same_lists, length-set, drop_all, append-nil, take_all}
+use Rattle.std.proofs.lemmas.List.{get_or-replicate, length-replicate}
 use Rattle.std.proofs.lemmas.List.FromFn.{length-map-range_with_len, get_or-map-range_with_len}
 use Rattle.std.proofs.lemmas.Nat.Bits.{bit_at-lt, bit_at-zero}
 use Rattle.frame_manager.specs.Bits.{bit_of, IsFirst}
@@ -31,12 +33,15 @@ pub flag_by_test : (n : ℕ) (words : List ℕ) (f : ℕ) (r : Bool) → f < n �
 flag_by_test n words f r h e = ap not e ∙ bit_tests (bit_of words f) (bit_at-lt _ _) ∙ sym (flag_within n words f false h)
 
 -- one flag is changed
-pub flags_changed : (n : ℕ) (old new : List ℕ) (f : ℕ) (b : Bool) → f < n → (bit_of new f == 0) ≡ b → ((i : ℕ) → i ≢ f → bit_of new i ≡ bit_of old i) → out_flags n new ≡ set (out_flags n old) f b
+pub flags_changed : (n : ℕ) (old new : List ℕ) (f : ℕ) (b : Bool) → f < n → (bit_of new f == 0) ≡ b → ((i : ℕ) → i ≢ f → bit_of new i ≡ bit_of old i)
+    → out_flags n new ≡ set (out_flags n old) f b
 flags_changed n old new f b h at others =
     same_lists (out_flags n new) (set (out_flags n old) f b) (length_flags n new ∙ sym (length-set (out_flags n old) f b ∙ length_flags n old))
     (λ k d lt. let below : k < n = subst (λ m. k < m) (length_flags n new) lt in ⊎_elim
-    (λ (e : k ≡ f). flag_within n new k d below ∙ ap (λ i. bit_of new i == 0) e ∙ at ∙ sym (ap (λ i. get_or (set (out_flags n old) f b) i d) e ∙ get_or-set_same (out_flags n old) f b d (subst (λ m. f < m) (sym (length_flags n old)) h)))
-    (λ (ne : k ≡ f → ⊥). flag_within n new k d below ∙ ap (λ i. i == 0) (others k ne) ∙ sym (get_or-set_other (out_flags n old) f k b d ne ∙ flag_within n old k d below))
+    (λ (e : k ≡ f). flag_within n new k d below ∙ ap (λ i. bit_of new i == 0) e ∙ at ∙ sym (ap (λ i. get_or (set (out_flags n old) f b) i d) e
+    ∙ get_or-set_same (out_flags n old) f b d (subst (λ m. f < m) (sym (length_flags n old)) h)))
+    (λ (ne : k ≡ f → ⊥). flag_within n new k d below ∙ ap (λ i. i == 0) (others k ne) ∙ sym (get_or-set_other (out_flags n old) f k b d ne
+    ∙ flag_within n old k d below))
     (cases_eq k f))
 
 -- THE LEAST FREE FRAME
@@ -63,9 +68,11 @@ none_below n words groups w s i k h =
     let lower : k / 64 < w = omega arith in
     ap (λ x. bit_at x (k % 64)) (s.used (k / 64) (i.least (k / 64) lower)) ∙ bit_at-zero (k % 64)
 
-pub least_free : (n : ℕ) (words groups : List ℕ) (w : ℕ) → IsSummed n words groups → IsFirst groups w → get_or words w 0 < 2 ^ 64 → IsLeastFree (out_flags n words) (64 * w + trailing_zeros w64 (get_or words w 0))
+pub least_free : (n : ℕ) (words groups : List ℕ) (w : ℕ) → IsSummed n words groups → IsFirst groups w → get_or words w 0 < 2 ^ 64
+    → IsLeastFree (out_flags n words) (64 * w + trailing_zeros w64 (get_or words w 0))
 least_free n words groups w s i fits =
-    let f : IsFirst words (64 * w + trailing_zeros w64 (get_or words w 0)) = first_there words w (get_or words w 0) (none_below n words groups w s i) refl (used_word n words groups w s i.there) fits in
+    let f : IsFirst words (64 * w + trailing_zeros w64 (get_or words w 0)) = first_there words w (get_or words w 0) (none_below n words groups w s i)
+    refl (used_word n words groups w s i.there) fits in
     go (64 * w + trailing_zeros w64 (get_or words w 0)) f where
       go : (g : ℕ) → IsFirst words g → IsLeastFree (out_flags n words) g
       go g f =
@@ -81,7 +88,8 @@ least_free n words groups w s i fits =
 pub lent_whole : (n : ℕ) (xs ys : List ℕ) → length xs ≡ length ys → length ys ≡ n → take n (xs ++ drop (length xs) ys) ≡ xs
 lent_whole n xs ys e f = ap (λ zs. take n (xs ++ zs)) (drop_all (length xs) ys (omega arith)) ∙ ap (take n) (append-nil xs) ∙ take_all n xs (omega arith)
 
-beyond_kept : (n f : ℕ) (words words' : List ℕ) → f < n → ((i : ℕ) → i ≢ f → bit_of words' i ≡ bit_of words i) → ((g : ℕ) → n ≤ g → bit_of words g ≡ 0) → (g : ℕ) → n ≤ g → bit_of words' g ≡ 0
+beyond_kept : (n f : ℕ) (words words' : List ℕ) → f < n → ((i : ℕ) → i ≢ f → bit_of words' i ≡ bit_of words i)
+    → ((g : ℕ) → n ≤ g → bit_of words g ≡ 0) → (g : ℕ) → n ≤ g → bit_of words' g ≡ 0
 beyond_kept n f words words' h others beyond g ge = others g (λ e. absurd (omega arith)) ∙ beyond g ge
 
 -- a frame was put into the set, and its word into the groups

@@ -18,14 +18,16 @@ fits_more flags f out l e h =
     let most = count_le (set flags f true) in
     omega (arith, length-set flags f true)
 
-pub taken_invariant : (flags new : List Bool) (f out : ℕ) → IsLeastFree flags f → out ≡ out_count flags → length flags < 2 ^ 32 → new ≡ set flags f true → (length new < 2 ^ 32) × (out + 1 ≡ out_count new)
+pub taken_invariant : (flags new : List Bool) (f out : ℕ) → IsLeastFree flags f → out ≡ out_count flags → length flags < 2 ^ 32 → new
+    ≡ set flags f true → (length new < 2 ^ 32) × (out + 1 ≡ out_count new)
 taken_invariant flags new f out l e h n =
     (omega (arith, ap length n, length-set flags f true), ap (λ k. k + 1) e ∙ sym (count_taken flags f l.there l.free) ∙ ap out_count (sym n))
 
 pub one_is_out : (flags : List Bool) (f out : ℕ) → flag_at flags f ≡ true → out ≡ out_count flags → 1 ≤ out
 one_is_out flags f out at e = let less = count_freed flags f at in omega arith
 
-pub freed_invariant : (flags new : List Bool) (f out : ℕ) → flag_at flags f ≡ true → out ≡ out_count flags → length flags < 2 ^ 32 → new ≡ set flags f false → (length new < 2 ^ 32) × (out - 1 ≡ out_count new)
+pub freed_invariant : (flags new : List Bool) (f out : ℕ) → flag_at flags f ≡ true → out ≡ out_count flags → length flags < 2 ^ 32 → new
+    ≡ set flags f false → (length new < 2 ^ 32) × (out - 1 ≡ out_count new)
 freed_invariant flags new f out at e h n =
     let less = count_freed flags f at in
     (omega (arith, ap length n, length-set flags f false), omega (arith, ap out_count n))

@@ -11,9 +11,11 @@ module _ (words : List ℕ) (number n : ℕ) (h : number / 64 < length words) wh
   pub bit_there : bit_of (set words (number / 64) n) number ≡ bit_at n (number % 64)
   bit_there = ap (λ w. bit_at w (number % 64)) (get_or-set_same words (number / 64) n 0 h)
 
-  pub bit_elsewhere : (i : ℕ) → (i / 64 ≡ number / 64 → bit_at n (i % 64) ≡ bit_at (get_or words (number / 64) 0) (i % 64)) → bit_of (set words (number / 64) n) i ≡ bit_of words i
+  pub bit_elsewhere : (i : ℕ) → (i / 64 ≡ number / 64 → bit_at n (i % 64) ≡ bit_at (get_or words (number / 64) 0) (i % 64))
+      → bit_of (set words (number / 64) n) i ≡ bit_of words i
   bit_elsewhere i same = ⊎_elim
-      (λ (e : i / 64 ≡ number / 64). ap (λ p. bit_at (get_or (set words (number / 64) n) p 0) (i % 64)) e ∙ ap (λ w. bit_at w (i % 64)) (get_or-set_same words (number / 64) n 0 h) ∙ same e ∙ ap (λ p. bit_at (get_or words p 0) (i % 64)) (sym e))
+      (λ (e : i / 64 ≡ number / 64). ap (λ p. bit_at (get_or (set words (number / 64) n) p 0) (i % 64)) e
+      ∙ ap (λ w. bit_at w (i % 64)) (get_or-set_same words (number / 64) n 0 h) ∙ same e ∙ ap (λ p. bit_at (get_or words p 0) (i % 64)) (sym e))
       (λ (ne : i / 64 ≡ number / 64 → ⊥). ap (λ w. bit_at w (i % 64)) (get_or-set_other words (number / 64) (i / 64) n 0 ne))
       (cases_eq (i / 64) (number / 64))
 
@@ -34,13 +36,15 @@ module _ (words : List ℕ) (number : ℕ) (h : number / 64 < length words) wher
   insert_there = bit_there words number with_more h ∙ bit_at_set_same w64 (get_or words (number / 64) 0) (number % 64) below
 
   pub insert_others : (i : ℕ) → i ≢ number → bit_of (set words (number / 64) with_more) i ≡ bit_of words i
-  insert_others i ne = bit_elsewhere words number with_more h i (λ e. bit_at_set_other w64 (get_or words (number / 64) 0) (number % 64) below (i % 64) (apart i number ne e))
+  insert_others i ne = bit_elsewhere words number with_more h i (λ e. bit_at_set_other w64 (get_or words (number / 64) 0) (number % 64) below (i % 64)
+      (apart i number ne e))
 
   pub remove_gone : bit_of (set words (number / 64) with_less) number ≡ 0
   remove_gone = bit_there words number with_less h ∙ bit_at_clear_same w64 (get_or words (number / 64) 0) (number % 64) below
 
   pub remove_others : (i : ℕ) → i ≢ number → bit_of (set words (number / 64) with_less) i ≡ bit_of words i
-  remove_others i ne = bit_elsewhere words number with_less h i (λ e. bit_at_clear_other w64 (get_or words (number / 64) 0) (number % 64) below (i % 64) (omega arith) (apart i number ne e))
+  remove_others i ne = bit_elsewhere words number with_less h i (λ e. bit_at_clear_other w64 (get_or words (number / 64) 0) (number % 64) below
+      (i % 64) (omega arith) (apart i number ne e))
 
 -- THE LEAST NUMBER. So far all words were 0.
 abbrev pub NoneBelow : List ℕ → ℕ → Type 0
@@ -61,7 +65,8 @@ none_at_all words before k = ⊎_elim
     (λ (ge : 64 * length words ≤ k). bit_in_zero words k (get_or_past words (k / 64) 0 (omega arith)))
     (cases_lt k (64 * length words))
 
-pub first_there : (words : List ℕ) (p n : ℕ) → NoneBelow words (64 * p) → get_or words p 0 ≡ n → 0 < n → n < 2 ^ 64 → IsFirst words (64 * p + trailing_zeros w64 n)
+pub first_there : (words : List ℕ) (p n : ℕ) → NoneBelow words (64 * p) → get_or words p 0 ≡ n → 0 < n → n < 2 ^ 64
+    → IsFirst words (64 * p + trailing_zeros w64 n)
 first_there words p n before e pos fits =
     let z = bit_at-trailing_zeros w64 n pos fits in
     let t : ℕ = trailing_zeros w64 n in
@@ -69,7 +74,8 @@ first_there words p n before e pos fits =
     let q : (64 * p + trailing_zeros w64 n) / 64 ≡ p = omega arith in
     let r : (64 * p + trailing_zeros w64 n) % 64 ≡ trailing_zeros w64 n = omega arith in
     record {
-      there = ap (λ i. bit_at (get_or words i 0) ((64 * p + trailing_zeros w64 n) % 64)) q ∙ ap (λ i. bit_at (get_or words p 0) i) r ∙ ap (λ w. bit_at w (trailing_zeros w64 n)) e ∙ z.1;
+      there = ap (λ i. bit_at (get_or words i 0) ((64 * p + trailing_zeros w64 n) % 64)) q ∙ ap (λ i. bit_at (get_or words p 0) i) r
+          ∙ ap (λ w. bit_at w (trailing_zeros w64 n)) e ∙ z.1;
       least = λ k h. ⊎_elim
           (λ (lt : k < 64 * p). before k lt)
           (λ (ge : 64 * p ≤ k).

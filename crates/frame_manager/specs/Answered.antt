@@ -31,7 +31,8 @@ request_tokens c (Some f) = answer c (Word.Frame f) ∷ []
 request_tokens c None = []
 
 abbrev pub RequestIsEvent : Managed → Cont → Result (Option ℕ) AllocError → Managed → Type 0
-RequestIsEvent old c (Ok given) new = (s : Store) → HoldsFrames old s → (t : Store) × Requests (length old.out) s c (request_tokens c given) t × HoldsFrames new t
+RequestIsEvent old c (Ok given) new = (s : Store) → HoldsFrames old s → (t : Store) × Requests (length old.out) s c (request_tokens c given) t
+    × HoldsFrames new t
 RequestIsEvent old c (Err e) new = Unit {0}
 
 abbrev pub release_tokens : Option (Cont × ℕ) → List Token

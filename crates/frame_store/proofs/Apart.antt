@@ -42,5 +42,6 @@ one_place s e f r d g q is other same =
 pub slots_apart : SlotsStandApart
 slots_apart s e f r is there w = (
   get_or-set_same s.states (place_of s e f r) w Empty there,
-  λ d g q other ne. get_or-set_other s.states (place_of s e f r) (place_of s d g q) w Empty (λ same. let k = one_place s e f r d g q is other (sym same) in ne k.0 k.1 k.2),
+  λ d g q other ne. get_or-set_other s.states (place_of s e f r) (place_of s d g q) w Empty (λ same. let k = one_place s e f r d g q is other
+      (sym same) in ne k.0 k.1 k.2),
 )

@@ -16,7 +16,8 @@ size_of b = chunks_exact_mut_size b.chunks
 -- the next bank is made of the first slots that are left, and no later one has them
 abbrev pub BankComes : Banks → Option BankMut → Banks → Type 0
 BankComes old None new = (length (remaining_of old) < size_of old) × (remaining_of new ≡ remaining_of old)
-BankComes old (Some b) new = (bank_states b ≡ take (size_of old) (remaining_of old)) × (remaining_of new ≡ drop (size_of old) (remaining_of old)) × (b.start ≡ 0) × (b.frames ≡ old.frames) × (b.width ≡ old.width)
+BankComes old (Some b) new = (bank_states b ≡ take (size_of old) (remaining_of old)) × (remaining_of new ≡ drop (size_of old) (remaining_of old))
+    × (b.start ≡ 0) × (b.frames ≡ old.frames) × (b.width ≡ old.width)
 
 abbrev pub KeepsShape : Banks → Banks → Type 0
 KeepsShape old new = (size_of new ≡ size_of old) × (new.frames ≡ old.frames) × (new.width ≡ old.width)

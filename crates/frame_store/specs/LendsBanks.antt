@@ -15,4 +15,5 @@ over b s = record b { store = record b.store { now = s } }
 
 -- the bank's store ends with the state that the slot at the place is left in, and with all others as they were
 abbrev pub LendsSlotIn : (A : RattleType) → Ghosts A.Denot → MutBor (StoreBank A.Denot) → ℕ → MutBor SlotState → Fml
-LendsSlotIn A alloc b place r = Lends (bank.the_row (record { mir = named 1; lft = [] }) A alloc) slot.the_row b r (λ w. over b.now (with_state b.now.store.now place w))
+LendsSlotIn A alloc b place r = Lends (bank.the_row (record { mir = named 1; lft = [] }) A alloc) slot.the_row b r
+    (λ w. over b.now (with_state b.now.store.now place w))

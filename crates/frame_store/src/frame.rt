@@ -61,7 +61,8 @@ impl<'a, A: Allocator> FrameMut<'a, A> {
         requires frame { self.frame < self.store.now.frames }
         requires slot { slot < self.store.now.width }
         ensures* lends { sem 𝓛 (LendsSlotOf A.row A.Allocator self.entry (place_of self.entry.store.now self.entry.element self.entry.frame slot) result) }
-        ensures value { result.now ≡ slice_index_or self.entry.store.now.states (place_of self.entry.store.now self.entry.element self.entry.frame slot) result.now }
+        ensures value { result.now ≡ slice_index_or self.entry.store.now.states (place_of self.entry.store.now self.entry.element self.entry.frame
+            slot) result.now }
         ensures there { place_of self.entry.store.now self.entry.element self.entry.frame slot < length self.entry.store.now.states }
     {
         let element = self.element;

@@ -118,6 +118,7 @@ impl Slot {
     #[inline(always)]
     pub fn waiter(&self) -> Option<PackedWord>
         ensures some { IfSome result (λ w. (c : Cont) × (self.now ≡ Waiter c) × (w ≡ Back c)) }
+        ensures none { IfNone result ((c : Cont) → self.now ≢ Waiter c) }
     {
         if self.head % 256 == 4 {
             Some(PackedWord::from_words(self.head, self.body))

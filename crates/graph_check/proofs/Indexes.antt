@@ -1,5 +1,6 @@
 -- Names that are looked up, one after another.
-use Rattle.std.proofs.Common.{◌≡◌, ℕ, ◌+◌, ◌<◌, Bool, true, false, not, List, [], ◌∷◌, ◌++◌, length, map, get_or, take, Option, Some, None, Result, Err, if◌then◌else◌, inl, refl, sym, ap, ◌∙◌, subst, arith, Bor}
+use Rattle.std.proofs.Common.{◌≡◌, ℕ, ◌+◌, ◌<◌, Bool, true, false, not, List, [], ◌∷◌, ◌++◌, length, map, get_or, take, Option, Some, None, Result}
+use Rattle.std.proofs.Common.{Err, if◌then◌else◌, inl, refl, sym, ap, ◌∙◌, subst, arith, Bor}
 use Rattle.std.specs.BTreeMap.{BTreeMap}
 use Rattle.std.proofs.lemmas.List.{take_more, length-map, length-take-le, get_or-map}
 use Rattle.graph_check.specs.declared.causes.CheckRefusal.{CheckRefusal}

@@ -27,7 +27,8 @@ none_at block line k e = ap (λ k. fault_at block line k) e
 
 -- ---- lists
 
-first_from_none : {X F : Type 0} (f : ℕ → X → Option F) (n : ℕ) (xs : List X) → first_in f n xs ≡ None → (i : ℕ) (x : X) → slice_get xs i ≡ Some x → f (n + i) x ≡ None
+first_from_none : {X F : Type 0} (f : ℕ → X → Option F) (n : ℕ) (xs : List X) → first_in f n xs ≡ None → (i : ℕ) (x : X) → slice_get xs i ≡ Some x
+    → f (n + i) x ≡ None
 first_from_none f n [] e i x at = cc
 first_from_none f n (y ∷ ys) e zero x at =
     let none : f n y ≡ None = (later_none _ _ e).0 in
@@ -43,7 +44,8 @@ first_none f xs e i x at =
     let z : 0 + i ≡ i = omega arith in
     rw z at (first_from_none f 0 xs e i x at)
 
-first_from_yes : {X F : Type 0} (f : ℕ → X → Option F) (n : ℕ) (xs : List X) → ((i : ℕ) (x : X) → slice_get xs i ≡ Some x → f (n + i) x ≡ None) → first_in f n xs ≡ None
+first_from_yes : {X F : Type 0} (f : ℕ → X → Option F) (n : ℕ) (xs : List X) → ((i : ℕ) (x : X) → slice_get xs i ≡ Some x → f (n + i) x ≡ None)
+    → first_in f n xs ≡ None
 first_from_yes f n [] h = refl
 first_from_yes f n (y ∷ ys) h =
     let z : n + 0 ≡ n = omega arith in

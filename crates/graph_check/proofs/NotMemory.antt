@@ -7,9 +7,12 @@ use Rattle.semantics.specs.Graph.{Node, Block, Graph, node_at, node_count, array
 use Rattle.semantics.specs.WellFormed.{region_of}
 use Rattle.graph_check.specs.declared.faults.CheckFault.{CheckFault}
 use Rattle.graph_check.specs.declared.faults.CheckFaultKind.{CheckFaultKind}
-use Rattle.graph_check.specs.declared.faults.CheckFaultKind.TheVariants.{SameName, NoSuchName, Arity, SourceNotEarlier, NoSuchPort, BadRegion, CrossesRegion, BadBound, OutNotRoot, NoInput, NoOutput, Memory}
+use Rattle.graph_check.specs.declared.faults.CheckFaultKind.TheVariants.{SameName, NoSuchName, Arity, SourceNotEarlier, NoSuchPort, BadRegion}
+use Rattle.graph_check.specs.declared.faults.CheckFaultKind.TheVariants.{CrossesRegion, BadBound, OutNotRoot, NoInput, NoOutput, Memory}
 use Rattle.graph_check.specs.Names.{is_name}
-use Rattle.graph_check.specs.FirstFault.{or_later, first_in, unless, same_region, is_good_region, fits_region, is_named, has_arity, is_bounded, has_port, source_fault, wanted_region, node_fault, results_fault, fault_at, block_fault, repeat_fault, array_name_fault, block_name_fault, first_fault}
+use Rattle.graph_check.specs.FirstFault.{or_later, first_in, unless, same_region, is_good_region, fits_region, is_named, has_arity, is_bounded}
+use Rattle.graph_check.specs.FirstFault.{has_port, source_fault, wanted_region, node_fault, results_fault, fault_at, block_fault, repeat_fault}
+use Rattle.graph_check.specs.FirstFault.{array_name_fault, block_name_fault, first_fault}
 
 -- none of these is one
 abbrev Never : {F : Type 0} → (F → Type 0) → Option F → Type 0
@@ -42,15 +45,18 @@ at_never block line (Some k) h f e =
     λ m. h k refl (cc)
 
 module _ (g : Graph) where
-  source_never : (b : Block (List ℕ)) (n : ℕ) (wanted : Region) (otherwise : CheckFaultKind) (s : Source) → otherwise ≢ Memory → Never IsOther (source_fault g b n wanted otherwise s)
+  source_never : (b : Block (List ℕ)) (n : ℕ) (wanted : Region) (otherwise : CheckFaultKind) (s : Source) → otherwise ≢ Memory
+      → Never IsOther (source_fault g b n wanted otherwise s)
   source_never b n wanted otherwise s h =
       later_never IsOther _ _ (unless_never (nat_lt s.node n) SourceNotEarlier (λ e. cc))
-      (later_never IsOther _ _ (unless_never (has_port g (node_at b s.node) s.port) NoSuchPort (λ e. cc)) (unless_never (same_region (region_of b s.node) wanted) otherwise h))
+      (later_never IsOther _ _ (unless_never (has_port g (node_at b s.node) s.port) NoSuchPort (λ e. cc))
+      (unless_never (same_region (region_of b s.node) wanted) otherwise h))
 
   node_never : (b : Block (List ℕ)) (n : ℕ) (node : Node (List ℕ)) → Never IsOther (node_fault g b n node)
   node_never b n node =
       later_never IsOther _ _
-      (later_never IsOther _ _ (unless_never (is_good_region b n node.region) BadRegion (λ e. cc)) (unless_never (fits_region b n node.region node.kind) BadRegion (λ e. cc)))
+      (later_never IsOther _ _ (unless_never (is_good_region b n node.region) BadRegion (λ e. cc))
+      (unless_never (fits_region b n node.region node.kind) BadRegion (λ e. cc)))
       (later_never IsOther _ _ (unless_never (is_named g node.kind) NoSuchName (λ e. cc))
       (later_never IsOther _ _ (unless_never (has_arity g node.kind (length node.sources)) Arity (λ e. cc))
       (later_never IsOther _ _ (unless_never (is_bounded node.kind) BadBound (λ e. cc))
@@ -80,7 +86,8 @@ module _ (g : Graph) where
   pub first_never_memory : (e : CheckFault) → first_fault g ≡ Some e → e.kind ≢ Memory
   first_never_memory =
       later_never HasOther _ _
-      (later_never HasOther _ _ (first_never HasOther (array_name_fault (array_names g)) 0 (array_names g) (λ i name. at_never None None _ (repeat_never (array_names g) i name)))
+      (later_never HasOther _ _ (first_never HasOther (array_name_fault (array_names g)) 0 (array_names g)
+      (λ i name. at_never None None _ (repeat_never (array_names g) i name)))
       (first_never HasOther (block_name_fault (block_names g)) 0 (block_names g) (λ i name. at_never (Some i) None _ (repeat_never (block_names g) i name))))
       (later_never HasOther _ _ (at_never None None _ (unless_never (is_name g.main (block_names g)) NoSuchName (λ e. cc)))
       (first_never HasOther _ 0 g.blocks (λ i named. block_never i named.1)))

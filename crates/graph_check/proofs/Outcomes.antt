@@ -11,7 +11,8 @@ use Rattle.graph_check.proofs.NoFault.{none_later}
 use Rattle.graph_check.proofs.Exact.{well_formed, not_well_formed}
 use Rattle.graph_check.proofs.NotMemory.{first_never_memory}
 
-pub answered : {X : Type 0} (g : Graph) (r : Result X CheckRefusal) (e y : CheckRefusal) → r ≡ Err y → y ≡ e → IsRefusal g (fault_of e) → IfErr r (λ r. IsRefusal g (fault_of r))
+pub answered : {X : Type 0} (g : Graph) (r : Result X CheckRefusal) (e y : CheckRefusal) → r ≡ Err y → y ≡ e → IsRefusal g (fault_of e)
+    → IfErr r (λ r. IsRefusal g (fault_of r))
 answered g r e y is same h = subst (λ r. IfErr r (λ r. IsRefusal g (fault_of r))) (sym is) (subst (λ y. IsRefusal g (fault_of y)) (sym same) h)
 
 refusal : (g : Graph) (e : CheckFault) → first_fault g ≡ Some e → IsRefusal g e

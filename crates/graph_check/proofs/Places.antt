@@ -1,5 +1,6 @@
 -- Names and their places.
-use Rattle.std.proofs.Common.{◌≡◌, ℕ, suc, ◌+◌, ◌<◌, ◌≤◌, Bool, true, false, not, List, [], ◌∷◌, ◌++◌, length, map, Option, Some, None, nat_lt, if◌then◌else◌, refl, sym, ap, ap₂, ◌∙◌, subst, arith, ltb-false, le-ltb, lt-ltb, Bor}
+use Rattle.std.proofs.Common.{◌≡◌, ℕ, suc, ◌+◌, ◌<◌, ◌≤◌, Bool, true, false, not, List, [], ◌∷◌, ◌++◌, length, map, Option, Some, None, nat_lt}
+use Rattle.std.proofs.Common.{if◌then◌else◌, refl, sym, ap, ap₂, ◌∙◌, subst, arith, ltb-false, le-ltb, lt-ltb, Bor}
 use Rattle.std.specs.Prelude.{is_some}
 use Rattle.std.specs.Str.{bytes_eq}
 use Rattle.std.proofs.lemmas.List.{length-map}
@@ -49,23 +50,28 @@ place_found name xs =
     let e : 0 + length xs ≡ length xs = omega arith in
     rw e at (found_is 0 name xs)
 
-found_more : (n : ℕ) (name x : List ℕ) (xs : List (List ℕ)) → found_from n name (xs ++ x ∷ []) ≡ or_later (found_from n name xs) (if same_name name x then Some (n + length xs) else None)
+found_more : (n : ℕ) (name x : List ℕ) (xs : List (List ℕ)) → found_from n name (xs ++ x ∷ [])
+    ≡ or_later (found_from n name xs) (if same_name name x then Some (n + length xs) else None)
 found_more n name x [] =
     let e : n + 0 ≡ n = omega arith in
     rw e refl
 found_more n name x (y ∷ ys) = go (same_name name y) (found_more (n + 1) name x ys)
   where
-    go : (t : Bool) → found_from (n + 1) name (ys ++ x ∷ []) ≡ or_later (found_from (n + 1) name ys) (if same_name name x then Some (n + 1 + length ys) else None)
-        → (if t then Some n else found_from (n + 1) name (ys ++ x ∷ [])) ≡ or_later (if t then Some n else found_from (n + 1) name ys) (if same_name name x then Some (n + suc (length ys)) else None)
+    go : (t : Bool) → found_from (n + 1) name (ys ++ x ∷ [])
+        ≡ or_later (found_from (n + 1) name ys) (if same_name name x then Some (n + 1 + length ys) else None)
+        → (if t then Some n else found_from (n + 1) name (ys ++ x ∷ [])) ≡ or_later (if t then Some n else found_from (n + 1) name ys)
+        (if same_name name x then Some (n + suc (length ys)) else None)
     go true ih = refl
     go false ih =
         let e : n + suc (length ys) ≡ n + 1 + length ys = omega arith in
         rw e ih
 
-pub place_more : (name x : List ℕ) (xs : List (List ℕ)) → place_if name (xs ++ x ∷ []) ≡ or_later (place_if name xs) (if same_name name x then Some (length xs) else None)
+pub place_more : (name x : List ℕ) (xs : List (List ℕ)) → place_if name (xs ++ x ∷ [])
+    ≡ or_later (place_if name xs) (if same_name name x then Some (length xs) else None)
 place_more name x xs =
     let e : 0 + length xs ≡ length xs = omega arith in
-    place_found name (xs ++ x ∷ []) ∙ (rw e at (found_more 0 name x xs)) ∙ ap (λ v. or_later v (if same_name name x then Some (length xs) else None)) (sym (place_found name xs))
+    place_found name (xs ++ x ∷ []) ∙ (rw e at (found_more 0 name x xs)) ∙ ap (λ v. or_later v (if same_name name x then Some (length xs) else None))
+    (sym (place_found name xs))
 
 place_from_le : (n : ℕ) (name : List ℕ) (xs : List (List ℕ)) → (n ≤ place_from n name xs) × (place_from n name xs ≤ n + length xs)
 place_from_le n name [] = (omega arith, omega arith)
@@ -97,7 +103,8 @@ place_none name xs e = go (is_name name xs) refl e
         let h = ltb-false (place_of name xs) (length xs) p in
         (omega (arith, place_le name xs), refl)
 
-pub place_none_count : {X : Type 0} (f : X → List ℕ) (name : List ℕ) (xs : List X) (count : ℕ) → count ≡ length xs → place_if name (map f xs) ≡ None → count ≡ place_of name (map f xs)
+pub place_none_count : {X : Type 0} (f : X → List ℕ) (name : List ℕ) (xs : List X) (count : ℕ) → count ≡ length xs → place_if name (map f xs) ≡ None
+    → count ≡ place_of name (map f xs)
 place_none_count f name xs count e h = e ∙ simp length-map refl ∙ (place_none name (map f xs) h).0
 
 pub is_some_place : (name : List ℕ) (xs : List (List ℕ)) (o : Option ℕ) → o ≡ place_if name xs → is_some o ≡ is_name name xs
@@ -122,11 +129,13 @@ absent_if false new e f = refl
 
 -- ---- a name more
 
-pub index_more : (m n : BTreeMap (Bor (List ℕ)) ℕ) (names : List (List ℕ)) (name : List ℕ) (place : ℕ) → IsIndexOf m names → is_name name names ≡ false → place ≡ length names
+pub index_more : (m n : BTreeMap (Bor (List ℕ)) ℕ) (names : List (List ℕ)) (name : List ℕ) (place : ℕ) → IsIndexOf m names → is_name name names
+    ≡ false → place ≡ length names
     → UpdatesBy (λ x y. slice_cmp nat_cmp x.now y.now) (λ k. slice_cmp nat_cmp name k.now) m n (Some place)
     → IsIndexOf n (names ++ name ∷ [])
 index_more m n names name place index absent at updates q =
-    btree_map_updates_str name m n (Some place) updates q ∙ ap (λ p. if bytes_eq name q then Some p else get_by (λ k. slice_cmp nat_cmp q k.now) m) at ∙ go (bytes_eq name q) refl ∙ sym (place_more q name names)
+    btree_map_updates_str name m n (Some place) updates q ∙ ap (λ p. if bytes_eq name q then Some p else get_by (λ k. slice_cmp nat_cmp q k.now) m) at
+    ∙ go (bytes_eq name q) refl ∙ sym (place_more q name names)
   where
     sides : (bytes_eq name q ≡ true → name ≡ q) × (name ≡ q → bytes_eq name q ≡ true)
     sides = bytes_eq-Decides name q
@@ -134,7 +143,8 @@ index_more m n names name place index absent at updates q =
     none : place_if name names ≡ None
     none = ap (λ (t : Bool). if t then Some (place_of name names) else None) absent
 
-    go : (t : Bool) → bytes_eq name q ≡ t → (if t then Some (length names) else get_by (λ k. slice_cmp nat_cmp q k.now) m) ≡ or_later (place_if q names) (if same_name q name then Some (length names) else None)
+    go : (t : Bool) → bytes_eq name q ≡ t → (if t then Some (length names) else get_by (λ k. slice_cmp nat_cmp q k.now) m)
+        ≡ or_later (place_if q names) (if same_name q name then Some (length names) else None)
     go true p =
         let same : name ≡ q = sides.0 p in
         let other : place_if q names ≡ None = subst (λ q. place_if q names ≡ None) same none in

@@ -1,5 +1,6 @@
 -- Regions, conditionals, names, ports: what each test decides.
-use Rattle.std.proofs.Common.{◌≡◌, ◌≢◌, ℕ, zero, suc, ◌+◌, ◌<◌, ◌≤◌, Bool, true, false, List, [], ◌∷◌, length, Option, Some, None, Contains, nat_eq, nat_lt, if◌then◌else◌, refl, sym, ap, ap₂, ◌∙◌, subst, arith, eqb-true, eq-eqb, ltb-true, ltb-false, lt-ltb, le-ltb}
+use Rattle.std.proofs.Common.{◌≡◌, ◌≢◌, ℕ, zero, suc, ◌+◌, ◌<◌, ◌≤◌, Bool, true, false, List, [], ◌∷◌, length, Option, Some, None, Contains, nat_eq}
+use Rattle.std.proofs.Common.{nat_lt, if◌then◌else◌, refl, sym, ap, ap₂, ◌∙◌, subst, arith, eqb-true, eq-eqb, ltb-true, ltb-false, lt-ltb, le-ltb}
 use Rattle.std.specs.Prelude.{slice_get}
 use Rattle.lemmas.proofs.Alls.{at_all, all_from}
 use Rattle.lemmas.proofs.Bools.{if_parts}
@@ -10,7 +11,9 @@ use Rattle.semantics.specs.declared.graph.Kind.{Kind}
 use Rattle.semantics.specs.declared.graph.Kind.TheVariants.{Lit, Apply1, Apply2, Cond, Enter, Merge, Fetch, Store, Call, StrictCall, Loop}
 use Rattle.semantics.specs.Graph.{Node, Block, Graph, node_at, array_names, block_names}
 use Rattle.semantics.specs.WellFormed.{AllDiffer, IsCondNode, IsCond, IsRegion, region_of, HasPortOf, HasPortIn, arm_outside, AllLieIn, LiesWell, NamesWell}
-use Rattle.graph_check.specs.FirstFault.{is_cond_kind, is_cond_node, is_earlier_cond, same_side, same_region, is_good_region, is_arm, fits_region, is_named, shape_of, takes, gives, has_arity, is_bounded, is_port_of, kind_has_port, has_port, wanted_region}
+use Rattle.graph_check.specs.FirstFault.{is_cond_kind, is_cond_node, is_earlier_cond, same_side, same_region, is_good_region, is_arm, fits_region}
+use Rattle.graph_check.specs.FirstFault.{is_named, shape_of, takes, gives, has_arity, is_bounded, is_port_of, kind_has_port, has_port}
+use Rattle.graph_check.specs.FirstFault.{wanted_region}
 use Rattle.graph_check.proofs.Shapes.{is_name_contains, contains_is_name, shape_has, has_shape, there_shape, has_name}
 
 -- ---- tests in a row
@@ -189,7 +192,8 @@ module _ (g : Graph) where
       let s = shape_has g f k.0 k.1 k.2 in
       (s.0, s.1, omega (arith, k.3, s.3))
 
-  port_call : AllDiffer (block_names g) → (f : List ℕ) (p : ℕ) → (b : Block (List ℕ)) × Contains g.blocks (f, b) × (p < b.outputs) → is_port_of (shape_of g f) p ≡ true
+  port_call : AllDiffer (block_names g) → (f : List ℕ) (p : ℕ) → (b : Block (List ℕ)) × Contains g.blocks (f, b) × (p < b.outputs)
+      → is_port_of (shape_of g f) p ≡ true
   port_call differ f p h = ap (λ o. is_port_of o p) (there_shape g f h.0 differ h.1) ∙ lt-ltb p h.0.outputs h.2
 
   has_port_of : (kind : Kind (List ℕ)) (p : ℕ) (ss : List Source) → kind_has_port g kind (length ss) p ≡ true → HasPortOf g kind p ss
@@ -205,7 +209,8 @@ module _ (g : Graph) where
   has_port_of (StrictCall f) p ss e = call_port f p e
   has_port_of (Loop f k) p ss e = ltb-true p (length ss) e
 
-  port_of_has : AllDiffer (block_names g) → (kind : Kind (List ℕ)) (p : ℕ) (ss : List Source) → HasPortOf g kind p ss → kind_has_port g kind (length ss) p ≡ true
+  port_of_has : AllDiffer (block_names g) → (kind : Kind (List ℕ)) (p : ℕ) (ss : List Source) → HasPortOf g kind p ss
+      → kind_has_port g kind (length ss) p ≡ true
   port_of_has differ (Lit v) p ss h = eq-eqb p 0 h
   port_of_has differ (Apply1 op) p ss h = eq-eqb p 0 h
   port_of_has differ (Apply2 op) p ss h = eq-eqb p 0 h
@@ -232,7 +237,8 @@ module _ (b : Block (List ℕ)) (n : ℕ) where
   abbrev pub LieWanted : Region → Kind (List ℕ) → List Source → Type 0
   LieWanted r kind ss = (i : ℕ) (s : Source) → slice_get ss i ≡ Some s → region_of b s.node ≡ wanted_region b r kind i
 
-  merge_lies : (r : Region) (k : ℕ) (ss : List Source) → is_earlier_cond b n k ≡ true → same_region (region_of b k) r ≡ true → length ss ≡ 2 → LieWanted r (Merge k) ss → LiesWell b n r (Merge k) ss
+  merge_lies : (r : Region) (k : ℕ) (ss : List Source) → is_earlier_cond b n k ≡ true → same_region (region_of b k) r ≡ true → length ss ≡ 2
+      → LieWanted r (Merge k) ss → LiesWell b n r (Merge k) ss
   merge_lies r k [] e f l h = absurd (omega arith)
   merge_lies r k (s ∷ []) e f l h = absurd (omega arith)
   merge_lies r k (s ∷ t ∷ []) e f l h =
@@ -265,7 +271,8 @@ module _ (b : Block (List ℕ)) (n : ℕ) where
   lie_all : (r : Region) (ss : List Source) → AllLieIn b r ss → (i : ℕ) (s : Source) → slice_get ss i ≡ Some s → region_of b s.node ≡ r
   lie_all r ss h = at_all (λ (s : Source). region_of b s.node ≡ r) ss h
 
-  pub lies_well : (g : Graph) (r : Region) (kind : Kind (List ℕ)) (ss : List Source) → fits_region b n r kind ≡ true → NamesWell g kind (length ss) → LieWanted r kind ss → LiesWell b n r kind ss
+  pub lies_well : (g : Graph) (r : Region) (kind : Kind (List ℕ)) (ss : List Source) → fits_region b n r kind ≡ true → NamesWell g kind (length ss)
+      → LieWanted r kind ss → LiesWell b n r kind ss
   lies_well g r (Lit v) ss e l h = all_lie r ss h
   lies_well g r (Apply1 op) ss e l h = all_lie r ss h
   lies_well g r (Apply2 op) ss e l h = all_lie r ss h

@@ -1,5 +1,6 @@
 -- Names that occur once, and what has a name.
-use Rattle.std.proofs.Common.{◌≡◌, ℕ, zero, suc, ◌+◌, ◌<◌, Bool, true, false, List, [], ◌∷◌, length, take, Option, Some, None, Contains, nat_lt, if◌then◌else◌, refl, sym, ap, ap₂, ◌∙◌, subst, arith, ltb-true, ltb-false, lt-ltb}
+use Rattle.std.proofs.Common.{◌≡◌, ℕ, zero, suc, ◌+◌, ◌<◌, Bool, true, false, List, [], ◌∷◌, length, take, Option, Some, None, Contains, nat_lt}
+use Rattle.std.proofs.Common.{if◌then◌else◌, refl, sym, ap, ap₂, ◌∙◌, subst, arith, ltb-true, ltb-false, lt-ltb}
 use Rattle.std.specs.Prelude.{slice_get}
 use Rattle.std.proofs.lemmas.Option.{slice_get_within}
 use Rattle.lemmas.proofs.Contains.{contains_get, get_contains}
@@ -144,7 +145,8 @@ block_there g f b e =
     at_is_name_of : place_of f (block_names g) < length (block_names g) → is_name f (block_names g) ≡ true
     at_is_name_of h = lt-ltb _ _ h
 
-pub there_block : (g : Graph) (f : List ℕ) (b : Block (List ℕ)) → AllDiffer (block_names g) → Contains g.blocks (f, b) → slice_get g.blocks (place_of f (block_names g)) ≡ Some (f, b)
+pub there_block : (g : Graph) (f : List ℕ) (b : Block (List ℕ)) → AllDiffer (block_names g) → Contains g.blocks (f, b)
+    → slice_get g.blocks (place_of f (block_names g)) ≡ Some (f, b)
 there_block g f b h c =
     let k = contains_get g.blocks (f, b) c in
     let at = map_get name_in g.blocks k.0 (f, b) k.1 in
@@ -152,7 +154,8 @@ there_block g f b h c =
     let same = h k.0 (place_of f (block_names g)) f at here in
     subst (λ i. slice_get g.blocks i ≡ Some (f, b)) same k.1
 
-shape_some : (o : Option (List ℕ × Block (List ℕ))) (n m : ℕ) → shape_in o ≡ Some (n, m) → (b : List ℕ × Block (List ℕ)) × (o ≡ Some b) × (b.1.inputs ≡ n) × (b.1.outputs ≡ m)
+shape_some : (o : Option (List ℕ × Block (List ℕ))) (n m : ℕ) → shape_in o ≡ Some (n, m) → (b : List ℕ × Block (List ℕ)) × (o ≡ Some b)
+    × (b.1.inputs ≡ n) × (b.1.outputs ≡ m)
 shape_some None n m e = cc
 shape_some (Some b) n m e =
     let p : (b.1.inputs, b.1.outputs) ≡ (n, m) = cc in
@@ -163,7 +166,8 @@ shape_has g f n m e =
     let k = shape_some _ n m e in
     (k.0.1, block_there g f k.0 k.1, k.2, k.3)
 
-pub there_shape : (g : Graph) (f : List ℕ) (b : Block (List ℕ)) → AllDiffer (block_names g) → Contains g.blocks (f, b) → shape_of g f ≡ Some (b.inputs, b.outputs)
+pub there_shape : (g : Graph) (f : List ℕ) (b : Block (List ℕ)) → AllDiffer (block_names g) → Contains g.blocks (f, b) → shape_of g f
+    ≡ Some (b.inputs, b.outputs)
 there_shape g f b h c = ap shape_in (there_block g f b h c)
 
 pub has_shape : (g : Graph) (f : List ℕ) (n m : ℕ) → AllDiffer (block_names g) → HasShape g f n m → shape_of g f ≡ Some (n, m)

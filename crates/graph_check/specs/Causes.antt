@@ -4,7 +4,8 @@ use Rattle.graph_check.specs.declared.faults.CheckFault.{CheckFault}
 use Rattle.graph_check.specs.declared.faults.CheckFaultKind.{CheckFaultKind}
 use Rattle.graph_check.specs.declared.faults.CheckFaultKind.TheVariants as kinds
 use Rattle.graph_check.specs.declared.causes.CheckCause.{CheckCause}
-use Rattle.graph_check.specs.declared.causes.CheckCause.TheVariants.{SameName, NoSuchName, Arity, SourceNotEarlier, NoSuchPort, BadRegion, CrossesRegion, BadBound, OutNotRoot, NoInput, NoOutput, Memory}
+use Rattle.graph_check.specs.declared.causes.CheckCause.TheVariants.{SameName, NoSuchName, Arity, SourceNotEarlier, NoSuchPort, BadRegion}
+use Rattle.graph_check.specs.declared.causes.CheckCause.TheVariants.{CrossesRegion, BadBound, OutNotRoot, NoInput, NoOutput, Memory}
 use Rattle.graph_check.specs.declared.causes.CheckRefusal.{CheckRefusal}
 use Rattle.graph_check.specs.declared.causes.Taker.{Taker}
 use Rattle.graph_check.specs.declared.causes.Taker.TheVariants as takers

@@ -3,7 +3,8 @@
 -- order, the line of its results. At a node: its region, what it names, the number of its sources and the shape of the
 -- block that it names, its bound, then its sources from left to right. At the line of results: the number of sources,
 -- then the sources from left to right.
-use Rattle.std.specs.Prelude.{◌≡◌, ◌≢◌, ◌⊎◌, MatchResult, ℕ, ◌+◌, Bool, true, false, List, [], ◌∷◌, length, Option, Some, None, Result, nat_eq, nat_lt, slice_get, take, if◌then◌else◌}
+use Rattle.std.specs.Prelude.{◌≡◌, ◌≢◌, ◌⊎◌, MatchResult, ℕ, ◌+◌, Bool, true, false, List, [], ◌∷◌, length, Option, Some, None, Result, nat_eq}
+use Rattle.std.specs.Prelude.{nat_lt, slice_get, take, if◌then◌else◌}
 use Rattle.semantics.specs.declared.graph.Region.{Region}
 use Rattle.semantics.specs.declared.graph.Region.TheVariants.{Root, Arm}
 use Rattle.semantics.specs.declared.graph.Source.{Source}
@@ -18,7 +19,8 @@ use Rattle.graph_check.specs.Causes.{fault_of}
 use Rattle.graph_check.specs.declared.causes.CheckRefusal.{CheckRefusal}
 use Rattle.graph_check.specs.declared.faults.CheckFault.{CheckFault}
 use Rattle.graph_check.specs.declared.faults.CheckFaultKind.{CheckFaultKind}
-use Rattle.graph_check.specs.declared.faults.CheckFaultKind.TheVariants.{SameName, NoSuchName, Arity, SourceNotEarlier, NoSuchPort, BadRegion, CrossesRegion, BadBound, OutNotRoot, NoInput, NoOutput, Memory}
+use Rattle.graph_check.specs.declared.faults.CheckFaultKind.TheVariants.{SameName, NoSuchName, Arity, SourceNotEarlier, NoSuchPort, BadRegion}
+use Rattle.graph_check.specs.declared.faults.CheckFaultKind.TheVariants.{CrossesRegion, BadBound, OutNotRoot, NoInput, NoOutput, Memory}
 
 -- the fault that is found first
 abbrev pub or_later : {F : Type 0} → Option F → Option F → Option F

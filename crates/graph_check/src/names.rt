@@ -22,7 +22,8 @@ fn add<'a, A: Allocator + Clone>(
     place: usize,
 ) -> Result<bool, CheckRefusal>
     ensures added { (names : List (List ℕ)) → IsIndexOf index.old names → place ≡ length names
-        → MatchResult result (λ new. (new ≡ not (is_name name.entry.now names)) × (new ≡ true → IsIndexOf index.new (names ++ name.entry.now ∷ []))) (λ r. fault_of r ≡ out_of_memory) }
+        → MatchResult result (λ new. (new ≡ not (is_name name.entry.now names)) × (new ≡ true → IsIndexOf index.new (names ++ name.entry.now ∷ [])))
+        (λ r. fault_of r ≡ out_of_memory) }
 {
     match index.insert(name, place) {
         Ok(old) => Ok(old.is_none()),
@@ -145,7 +146,8 @@ impl<'a, A: Allocator> Named<'a, A> {
     pub(crate) fn of(graph: Graph<'a, A>) -> Result<Named<'a, A>, CheckRefusal>
     where
         A: Clone,
-        ensures { MatchResult result (λ n. (n ≡ graph.entry) × (names_fault graph.entry ≡ None)) (λ r. (fault_of r ≡ out_of_memory) ⊎ (names_fault graph.entry ≡ Some (fault_of r))) }
+        ensures { MatchResult result (λ n. (n ≡ graph.entry) × (names_fault graph.entry ≡ None))
+            (λ r. (fault_of r ≡ out_of_memory) ⊎ (names_fault graph.entry ≡ Some (fault_of r))) }
     {
         let arrays = index_arrays(&graph.arrays)?;
         let blocks = index_blocks(&graph.blocks)?;

@@ -9,7 +9,8 @@ use Rattle.graph_file.specs.Reading.{text_from, IsFirstFault}
 use Rattle.graph_file.proofs.Sound.{read}
 use Rattle.graph_file.proofs.Complete.{text_gives}
 
-pub is_only : (text : List ℕ) (r : Result Graph ReadFault) → MatchResult r (λ g. text_from text ≡ Ok g) (λ e. IsFirstFault e (text_from text)) → (g : Graph) → IsText text g → MatchResult r (λ h. h ≡ g) (λ e. e.kind ≡ Memory)
+pub is_only : (text : List ℕ) (r : Result Graph ReadFault) → MatchResult r (λ g. text_from text ≡ Ok g) (λ e. IsFirstFault e (text_from text))
+    → (g : Graph) → IsText text g → MatchResult r (λ h. h ≡ g) (λ e. e.kind ≡ Memory)
 is_only text (Ok h) k g is = same h g (sym k ∙ read_is text g is)
   where
     read_is : (text : List ℕ) (g : Graph) → IsText text g → text_from text ≡ Ok g

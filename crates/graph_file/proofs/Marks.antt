@@ -1,5 +1,6 @@
 -- A field that is read is the field that is written, and what is written is read again.
-use Rattle.std.proofs.Common.{◌≡◌, ℕ, zero, suc, ◌+◌, ◌^◌, ◌<◌, ◌≤◌, ◌&&◌, ◌||◌, not, eqb, ltb, leb, Bool, true, false, cond, List, [], ◌∷◌, length, get_or, All, Some, None, ℤ, pos, negsuc, neg_ℤ, refl, sym, ap, subst, ◌∙◌, arith}
+use Rattle.std.proofs.Common.{◌≡◌, ℕ, zero, suc, ◌+◌, ◌^◌, ◌<◌, ◌≤◌, ◌&&◌, ◌||◌, not, eqb, ltb, leb, Bool, true, false, cond, List, [], ◌∷◌, length}
+use Rattle.std.proofs.Common.{get_or, All, Some, None, ℤ, pos, negsuc, neg_ℤ, refl, sym, ap, subst, ◌∙◌, arith}
 use Rattle.std.specs.Prelude.{codes}
 use Rattle.std.specs.Int.{w64}
 use Rattle.std.specs.Int.RustNames.{FitsSigned}
@@ -8,7 +9,8 @@ use Rattle.std.specs.List.{list_all}
 use Rattle.std.specs.Char.{is_ascii_digit}
 use Rattle.std.specs.Str.{all_ascii_digits, bytes_eq}
 use Rattle.std.specs.Str.Parse.{digits_value}
-use Rattle.std.proofs.lemmas.Bool.{false≢true, lt-ltb, ltb-true, le-leb, leb-true, eqb-true, eq-eqb, ne_eqb, and_parts, and_from, or_left, or_right, not-true, not_from_false}
+use Rattle.std.proofs.lemmas.Bool.{false≢true, lt-ltb, ltb-true, le-leb, leb-true, eqb-true, eq-eqb, ne_eqb, and_parts, and_from, or_left, or_right}
+use Rattle.std.proofs.lemmas.Bool.{not-true, not_from_false}
 use Rattle.std.proofs.lemmas.List.Elements.{All-weaker}
 use Rattle.std.proofs.lemmas.List.Sums.{AllPass-from_list_all, list_all-from_AllPass}
 use Rattle.std.proofs.lemmas.Option.{cond_some}
@@ -49,7 +51,8 @@ digit_no_dot b e = let h = digit_bounds b e in ne_eqb b 46 (λ z. absurd (omega 
 pub is_numeral_from : (bs : List ℕ) → all_ascii_digits bs ≡ true → 0 < length bs → (get_or bs 0 0 ≡ 48 → length bs ≡ 1) → is_numeral bs ≡ true
 unfolding is_numeral
 is_numeral_from [] d some short = absurd (omega arith)
-is_numeral_from (b ∷ bs) d some short = and_from (list_all is_ascii_digit (b ∷ bs)) (not (eqb b 48) || eqb (length bs) 0) (same_digits (b ∷ bs) ∙ d) (go (eqb b 48) refl)
+is_numeral_from (b ∷ bs) d some short = and_from (list_all is_ascii_digit (b ∷ bs)) (not (eqb b 48) || eqb (length bs) 0) (same_digits (b ∷ bs) ∙ d)
+    (go (eqb b 48) refl)
   where
     go : (t : Bool) → eqb b 48 ≡ t → (not (eqb b 48) || eqb (length bs) 0) ≡ true
     go true e = or_right (not (eqb b 48)) (eqb (length bs) 0) (let h = short (eqb-true b 48 e) in eq-eqb (length bs) 0 (omega arith))
@@ -81,7 +84,11 @@ number_again n h =
     rw (decimal_is_numeral n wide, v, lt-ltb n (2 ^ 32) h) refl
 
 pub decimal_field : (n : ℕ) → n < 2 ^ 64 → IsField (decimal n)
-decimal_field n h = record { some = decimal_nonempty n h; plain = weaker is_ascii_digit is_plain digit_plain (decimal n) (same_digits (decimal n) ∙ digits_decimal own n h) }
+decimal_field n h = record {
+  some = decimal_nonempty n h;
+  plain = weaker is_ascii_digit is_plain digit_plain (decimal n) (same_digits (decimal n)
+      ∙ digits_decimal own n h);
+}
 
 pub decimal_no_dot : (n : ℕ) → n < 2 ^ 64 → All (λ b. eqb b 46 ≡ false) (decimal n)
 decimal_no_dot n h = apart is_ascii_digit 46 digit_no_dot (decimal n) (same_digits (decimal n) ∙ digits_decimal own n h)
@@ -107,7 +114,8 @@ negative (suc v) z some le e =
     let made : (45 ∷ decimal (suc v) ≡ literal (negsuc v)) × FitsSigned w64 (negsuc v) = (rw one refl, record { sfits = omega arith }) in
     subst (λ (y : ℤ). (45 ∷ decimal (suc v) ≡ literal y) × FitsSigned w64 y) e made
 
-literal_is_at : (c : ℕ) (cs : List ℕ) (z : ℤ) (t : Bool) → eqb c 45 ≡ t → is_literal (c ∷ cs) ≡ true → literal_value (c ∷ cs) ≡ Some z → (c ∷ cs ≡ literal z) × FitsSigned w64 z
+literal_is_at : (c : ℕ) (cs : List ℕ) (z : ℤ) (t : Bool) → eqb c 45 ≡ t → is_literal (c ∷ cs) ≡ true → literal_value (c ∷ cs) ≡ Some z
+    → (c ∷ cs ≡ literal z) × FitsSigned w64 z
 unfolding is_literal
 literal_is_at c cs z true t e h =
     let one : (is_numeral cs && not (bytes_eq cs (codes "0"))) ≡ true = rw t at e in

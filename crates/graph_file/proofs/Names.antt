@@ -1,5 +1,6 @@
 -- Names, sources and regions: what is read is what is written, and what is written is read again.
-use Rattle.std.proofs.Common.{◌≡◌, ℕ, ◌+◌, ◌-◌, ◌^◌, ◌<◌, ◌≤◌, ◌&&◌, ◌||◌, eqb, ltb, leb, Bool, true, false, cond, List, [], ◌∷◌, ◌++◌, length, get_or, take, Option, Some, None, refl, sym, ap, subst, ◌∙◌, append_assoc, arith, inl, inr}
+use Rattle.std.proofs.Common.{◌≡◌, ℕ, ◌+◌, ◌-◌, ◌^◌, ◌<◌, ◌≤◌, ◌&&◌, ◌||◌, eqb, ltb, leb, Bool, true, false, cond, List, [], ◌∷◌, ◌++◌, length}
+use Rattle.std.proofs.Common.{get_or, take, Option, Some, None, refl, sym, ap, subst, ◌∙◌, append_assoc, arith, inl, inr}
 use Rattle.std.specs.Prelude.{codes}
 use Rattle.std.specs.Fmt.{decimal}
 use Rattle.std.specs.List.{list_all, join_with_byte}
@@ -31,7 +32,11 @@ is_between : (a b c : ℕ) → a ≤ c → c ≤ b → (leb a c && leb c b) ≡ 
 is_between a b c h k = and_from (leb a c) (leb c b) (le-leb _ _ h) (le-leb _ _ k)
 
 letter_is : (c : ℕ) → is_letter c ≡ true → IsLetter c
-letter_is c e = elim (or_cases (leb 65 c && leb c 90) (leb 97 c && leb c 122) e) as (λ _. IsLetter c) [ inl h ↦ inl (between 65 90 c h) | inr h ↦ inr (between 97 122 c h) ]
+letter_is c e = elim (or_cases (leb 65 c && leb c 90) (leb 97 c && leb c 122) e) as (λ _. IsLetter c) [
+  | inl h ↦ inl (between 65 90 c h)
+  | inr h
+      ↦ inr (between 97 122 c h)
+]
 
 letter_from : (c : ℕ) → IsLetter c → is_letter c ≡ true
 letter_from c (inl h) = or_left (leb 65 c && leb c 90) (leb 97 c && leb c 122) (is_between 65 90 c h.0 h.1)
@@ -39,13 +44,18 @@ letter_from c (inr h) = or_right (leb 65 c && leb c 90) (leb 97 c && leb c 122) 
 
 rest_is : (c : ℕ) → is_name_rest c ≡ true → IsNameRest c
 rest_is c e = elim (or_cases (is_letter c || (leb 48 c && leb c 57)) (eqb c 95) e) as (λ _. IsNameRest c) [
-  | inl h ↦ elim (or_cases (is_letter c) (leb 48 c && leb c 57) h) as (λ _. IsNameRest c) [ inl k ↦ inl (letter_is c k) | inr k ↦ inr (inl (between 48 57 c k)) ]
+  | inl h ↦ elim (or_cases (is_letter c) (leb 48 c && leb c 57) h) as (λ _. IsNameRest c) [
+    | inl k ↦ inl (letter_is c k)
+    | inr k
+        ↦ inr (inl (between 48 57 c k))
+  ]
   | inr h ↦ inr (inr (eqb-true c 95 h))
 ]
 
 rest_from : (c : ℕ) → IsNameRest c → is_name_rest c ≡ true
 rest_from c (inl h) = or_left (is_letter c || (leb 48 c && leb c 57)) (eqb c 95) (or_left (is_letter c) (leb 48 c && leb c 57) (letter_from c h))
-rest_from c (inr (inl h)) = or_left (is_letter c || (leb 48 c && leb c 57)) (eqb c 95) (or_right (is_letter c) (leb 48 c && leb c 57) (is_between 48 57 c h.0 h.1))
+rest_from c (inr (inl h)) = or_left (is_letter c || (leb 48 c && leb c 57)) (eqb c 95)
+    (or_right (is_letter c) (leb 48 c && leb c 57) (is_between 48 57 c h.0 h.1))
 rest_from c (inr (inr h)) = or_right (is_letter c || (leb 48 c && leb c 57)) (eqb c 95) (eq-eqb c 95 h)
 
 pub name_is : (bs : List ℕ) → is_name bs ≡ true → IsName bs
@@ -61,7 +71,8 @@ unfolding is_name
 name_from [] h = absurd h
 name_from (c ∷ cs) h =
     and_from (is_letter c && list_all is_name_rest cs) (ltb (length cs) 32)
-    (and_from (is_letter c) (list_all is_name_rest cs) (letter_from c h.0) (list_all-from_AllPass is_name_rest cs (All-weaker IsNameRest (λ b. is_name_rest b ≡ true) rest_from cs h.1)))
+    (and_from (is_letter c) (list_all is_name_rest cs) (letter_from c h.0)
+    (list_all-from_AllPass is_name_rest cs (All-weaker IsNameRest (λ b. is_name_rest b ≡ true) rest_from cs h.1)))
     (lt-ltb _ _ h.2)
 
 rest_plain : (b : ℕ) → is_name_rest b ≡ true → is_plain b ≡ true
@@ -77,7 +88,8 @@ pub name_field : (bs : List ℕ) → IsName bs → IsField bs
 name_field [] h = absurd h
 name_field (c ∷ cs) h = record {
   some = omega arith;
-  plain = weaker is_name_rest is_plain rest_plain (c ∷ cs) (and_from (is_name_rest c) (list_all is_name_rest cs) (rest_from c (inl h.0)) (list_all-from_AllPass is_name_rest cs (All-weaker IsNameRest (λ b. is_name_rest b ≡ true) rest_from cs h.1)));
+  plain = weaker is_name_rest is_plain rest_plain (c ∷ cs) (and_from (is_name_rest c) (list_all is_name_rest cs) (rest_from c (inl h.0))
+      (list_all-from_AllPass is_name_rest cs (All-weaker IsNameRest (λ b. is_name_rest b ≡ true) rest_from cs h.1)));
 }
 
 -- ---- sources
@@ -116,9 +128,12 @@ source_is bs s e = go (parts 46 bs) (join_with_byte-slice_split 46 bs) e
 pub source_again : (s : Source) → IsWrittenSource s → source_of (source_text s) ≡ Some s
 unfolding source_of
 source_again s h =
-    let first : parts 46 (decimal s.node ++ (46 ∷ decimal s.port)) ≡ decimal s.node ∷ parts 46 (decimal s.port) = slice_split_at (λ b. eqb b 46) (decimal s.node) 46 (decimal s.port) (decimal_no_dot s.node (let k = h.0 in omega arith)) refl in
-    let second : parts 46 (decimal s.port) ≡ decimal s.port ∷ [] = slice_split_none (λ b. eqb b 46) (decimal s.port) (decimal_no_dot s.port (let k = h.1 in omega arith)) in
-    ap (λ (xs : List ℕ). source_parts (parts 46 xs)) (dotted s) ∙ ap source_parts (first ∙ ap (λ (ps : List (List ℕ)). decimal s.node ∷ ps) second) ∙ rw (number_again s.node h.0, number_again s.port h.1) refl
+    let first : parts 46 (decimal s.node ++ (46 ∷ decimal s.port)) ≡ decimal s.node ∷ parts 46 (decimal s.port) = slice_split_at (λ b. eqb b 46)
+    (decimal s.node) 46 (decimal s.port) (decimal_no_dot s.node (let k = h.0 in omega arith)) refl in
+    let second : parts 46 (decimal s.port) ≡ decimal s.port ∷ [] = slice_split_none (λ b. eqb b 46) (decimal s.port)
+    (decimal_no_dot s.port (let k = h.1 in omega arith)) in
+    ap (λ (xs : List ℕ). source_parts (parts 46 xs)) (dotted s) ∙ ap source_parts (first ∙ ap (λ (ps : List (List ℕ)). decimal s.node ∷ ps) second)
+    ∙ rw (number_again s.node h.0, number_again s.port h.1) refl
 
 pub source_field : (s : Source) → IsWrittenSource s → IsField (source_text s)
 source_field s h =
@@ -126,7 +141,8 @@ source_field s h =
     let b = decimal_field s.port (let k = h.1 in omega arith) in
     let made : IsField (decimal s.node ++ (46 ∷ decimal s.port)) = record {
       some = let k = a.some in omega (arith, k, length-append (decimal s.node) (46 ∷ decimal s.port));
-      plain = list_all-append is_plain (decimal s.node) (46 ∷ decimal s.port) ∙ and_from (list_all is_plain (decimal s.node)) (list_all is_plain (46 ∷ decimal s.port)) a.plain b.plain;
+      plain = list_all-append is_plain (decimal s.node) (46 ∷ decimal s.port) ∙ and_from (list_all is_plain (decimal s.node))
+          (list_all is_plain (46 ∷ decimal s.port)) a.plain b.plain;
     } in
     subst IsField (sym (dotted s)) made
 
@@ -143,7 +159,9 @@ sign_of false = 45
 abbrev arm_text : ℕ → Bool → ℕ → List ℕ
 arm_text k side c = decimal k ++ c ∷ []
 
-arm_reads : (bs front : List ℕ) (c : ℕ) (side : Bool) (r : Region) → region_text (Arm 0 side) ≡ arm_text 0 side c → ((k : ℕ) → region_text (Arm k side) ≡ arm_text k side c) → bs ≡ front ++ c ∷ [] → arm_of side (number_of front) ≡ Some r → (bs ≡ region_text r) × IsWrittenRegion r
+arm_reads : (bs front : List ℕ) (c : ℕ) (side : Bool) (r : Region) → region_text (Arm 0 side) ≡ arm_text 0 side c
+    → ((k : ℕ) → region_text (Arm k side) ≡ arm_text k side c) → bs ≡ front ++ c ∷ [] → arm_of side (number_of front) ≡ Some r → (bs ≡ region_text r)
+    × IsWrittenRegion r
 arm_reads bs front c side r zero-is text b e =
     let a = arm_is side (number_of front) r e in
     let n = number_is front a.0 a.1 in
@@ -152,7 +170,8 @@ arm_reads bs front c side r zero-is text b e =
 
 parts_reads : (bs front : List ℕ) (c : ℕ) (r : Region) → bs ≡ front ++ c ∷ [] → region_parts front c ≡ Some r → (bs ≡ region_text r) × IsWrittenRegion r
 parts_reads bs front c r b e =
-    elim (cond_cases (eqb c 43) (arm_of true (number_of front)) (cond (eqb c 45) (arm_of false (number_of front)) None) (Some r) e) as (λ _. (bs ≡ region_text r) × IsWrittenRegion r) [
+    elim (cond_cases (eqb c 43) (arm_of true (number_of front)) (cond (eqb c 45) (arm_of false (number_of front)) None) (Some r) e) as
+    (λ _. (bs ≡ region_text r) × IsWrittenRegion r) [
       | inl h ↦ arm_reads bs front 43 true r refl (λ k. refl) (b ∙ ap (λ (x : ℕ). front ++ x ∷ []) (eqb-true c 43 h.0)) h.1
       | inr h ↦ elim (cond_cases (eqb c 45) (arm_of false (number_of front)) None (Some r) h.1) as (λ _. (bs ≡ region_text r) × IsWrittenRegion r) [
         | inl k ↦ arm_reads bs front 45 false r refl (λ k. refl) (b ∙ ap (λ (x : ℕ). front ++ x ∷ []) (eqb-true c 45 k.0)) k.1
@@ -163,7 +182,8 @@ parts_reads bs front c r b e =
 pub region_is : (bs : List ℕ) (r : Region) → region_of bs ≡ Some r → (bs ≡ region_text r) × IsWrittenRegion r
 unfolding region_of
 region_is bs r e =
-    elim (cond_cases (bytes_eq bs (codes "-")) (Some Root) (region_parts (take (length bs - 1) bs) (get_or bs (length bs - 1) 0)) (Some r) e) as (λ _. (bs ≡ region_text r) × IsWrittenRegion r) [
+    elim (cond_cases (bytes_eq bs (codes "-")) (Some Root) (region_parts (take (length bs - 1) bs) (get_or bs (length bs - 1) 0)) (Some r) e) as
+    (λ _. (bs ≡ region_text r) × IsWrittenRegion r) [
       | inl h ↦
           let k : Root ≡ r = let q = h.1 in cc in
           let made : (bs ≡ region_text Root) × IsWrittenRegion Root = ((bytes_eq-Decides bs (codes "-")).0 h.0, tt) in
@@ -171,11 +191,14 @@ region_is bs r e =
       | inr h ↦ split bs r h.1
     ]
   where
-    split : (xs : List ℕ) (q : Region) → region_parts (take (length xs - 1) xs) (get_or xs (length xs - 1) 0) ≡ Some q → (xs ≡ region_text q) × IsWrittenRegion q
+    split : (xs : List ℕ) (q : Region) → region_parts (take (length xs - 1) xs) (get_or xs (length xs - 1) 0) ≡ Some q → (xs ≡ region_text q)
+        × IsWrittenRegion q
     split [] q h = absurd cc
-    split (x ∷ xs) q h = parts_reads (x ∷ xs) (take (length (x ∷ xs) - 1) (x ∷ xs)) (get_or (x ∷ xs) (length (x ∷ xs) - 1) 0) q (front_and_last (x ∷ xs) (omega arith)) h
+    split (x ∷ xs) q h = parts_reads (x ∷ xs) (take (length (x ∷ xs) - 1) (x ∷ xs)) (get_or (x ∷ xs) (length (x ∷ xs) - 1) 0) q
+        (front_and_last (x ∷ xs) (omega arith)) h
 
-arm_again : (k c : ℕ) (side : Bool) → k < 2 ^ 32 → region_parts (decimal k) c ≡ arm_of side (number_of (decimal k)) → region_of (decimal k ++ c ∷ []) ≡ Some (Arm k side)
+arm_again : (k c : ℕ) (side : Bool) → k < 2 ^ 32 → region_parts (decimal k) c ≡ arm_of side (number_of (decimal k)) → region_of (decimal k ++ c ∷ [])
+    ≡ Some (Arm k side)
 unfolding region_of
 arm_again k c side h e =
     let n = decimal_nonempty k (omega arith) in
@@ -198,7 +221,8 @@ arm_field k c h p =
     let a = decimal_field k (omega arith) in
     record {
       some = let s = a.some in omega (arith, s, length-append (decimal k) (c ∷ []));
-      plain = list_all-append is_plain (decimal k) (c ∷ []) ∙ and_from (list_all is_plain (decimal k)) (list_all is_plain (c ∷ [])) a.plain (and_from (is_plain c) true p refl);
+      plain = list_all-append is_plain (decimal k) (c ∷ []) ∙ and_from (list_all is_plain (decimal k)) (list_all is_plain (c ∷ [])) a.plain
+          (and_from (is_plain c) true p refl);
     }
 
 pub region_field : (r : Region) → IsWrittenRegion r → IsField (region_text r)

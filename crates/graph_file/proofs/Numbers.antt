@@ -1,5 +1,6 @@
 -- What `parse` reads is what the definitions say.
-use Rattle.std.proofs.Common.{◌≡◌, ℕ, ◌^◌, ◌<◌, ◌≤◌, ◌&&◌, ◌||◌, not, eqb, ltb, leb, Bool, true, false, List, [], ◌∷◌, length, get_or, Some, None, Result, Ok, Err, ℤ, pos, neg_ℤ, refl, sym, ap, subst, ◌∙◌, arith}
+use Rattle.std.proofs.Common.{◌≡◌, ℕ, ◌^◌, ◌<◌, ◌≤◌, ◌&&◌, ◌||◌, not, eqb, ltb, leb, Bool, true, false, List, [], ◌∷◌, length, get_or, Some, None}
+use Rattle.std.proofs.Common.{Result, Ok, Err, ℤ, pos, neg_ℤ, refl, sym, ap, subst, ◌∙◌, arith}
 use Rattle.std.specs.Prelude.{codes}
 use Rattle.std.specs.Int.{w64}
 use Rattle.std.specs.List.{list_all}
@@ -44,7 +45,8 @@ is_numeral_means (d ∷ ds) e =
 pub numeral_is_utf8 : (bs : List ℕ) → is_numeral bs ≡ true → IsUtf8 bs
 numeral_is_utf8 bs e = IsUtf8-from_ascii bs (IsAscii-from_digits bs (own.to bs (is_numeral_means bs e).digits))
 
-number_at : {E : Type 0} (bs : List ℕ) (r : Result ℕ E) → OkIff r ((all_ascii_digits bs ≡ true) × (0 < length bs) × (digits_value 10 bs < 2 ^ 32)) (digits_value 10 bs) → IsNumeral bs → is_numeral bs ≡ true → result_ok r ≡ number_of bs
+number_at : {E : Type 0} (bs : List ℕ) (r : Result ℕ E) → OkIff r ((all_ascii_digits bs ≡ true) × (0 < length bs) × (digits_value 10 bs < 2 ^ 32))
+    (digits_value 10 bs) → IsNumeral bs → is_numeral bs ≡ true → result_ok r ≡ number_of bs
 unfolding number_of
 number_at bs (Ok x) k n e = let t : ltb (digits_value 10 bs) (2 ^ 32) ≡ true = lt-ltb _ _ k.0.2 in rw (e, t, k.1) refl
 number_at bs (Err d) k n e = go (ltb (digits_value 10 bs) (2 ^ 32)) refl
@@ -58,7 +60,8 @@ number_parsed bs r h e =
     let n = is_numeral_means bs e in
     number_at bs r (parse_plain own 32 bs r h (λ z. absurd (omega (arith, n.first)))) n e
 
-plain_at : {E : Type 0} (bs : List ℕ) (r : Result ℤ E) → OkIff r ((all_ascii_digits bs ≡ true) × (0 < length bs) × (digits_value 10 bs < 2 ^ 63)) (pos (digits_value 10 bs)) → IsNumeral bs → result_ok r ≡ literal_in (ltb (digits_value 10 bs) (2 ^ 63)) (pos (digits_value 10 bs))
+plain_at : {E : Type 0} (bs : List ℕ) (r : Result ℤ E) → OkIff r ((all_ascii_digits bs ≡ true) × (0 < length bs) × (digits_value 10 bs < 2 ^ 63))
+    (pos (digits_value 10 bs)) → IsNumeral bs → result_ok r ≡ literal_in (ltb (digits_value 10 bs) (2 ^ 63)) (pos (digits_value 10 bs))
 plain_at bs (Ok x) k n = let t : ltb (digits_value 10 bs) (2 ^ 63) ≡ true = lt-ltb _ _ k.0.2 in rw (t, k.1) refl
 plain_at bs (Err d) k n = go (ltb (digits_value 10 bs) (2 ^ 63)) refl
   where
@@ -66,7 +69,8 @@ plain_at bs (Err d) k n = go (ltb (digits_value 10 bs) (2 ^ 63)) refl
     go true f = absurd (k (n.digits, n.some, ltb-true _ _ f))
     go false f = rw f refl
 
-minus_at : {E : Type 0} (bs : List ℕ) (r : Result ℤ E) → OkIff r ((all_ascii_digits bs ≡ true) × (0 < length bs) × (digits_value 10 bs ≤ 2 ^ 63)) (neg_ℤ (pos (digits_value 10 bs))) → IsNumeral bs → result_ok r ≡ literal_in (leb (digits_value 10 bs) (2 ^ 63)) (neg_ℤ (pos (digits_value 10 bs)))
+minus_at : {E : Type 0} (bs : List ℕ) (r : Result ℤ E) → OkIff r ((all_ascii_digits bs ≡ true) × (0 < length bs) × (digits_value 10 bs ≤ 2 ^ 63))
+    (neg_ℤ (pos (digits_value 10 bs))) → IsNumeral bs → result_ok r ≡ literal_in (leb (digits_value 10 bs) (2 ^ 63)) (neg_ℤ (pos (digits_value 10 bs)))
 minus_at bs (Ok x) k n = let t : leb (digits_value 10 bs) (2 ^ 63) ≡ true = le-leb _ _ k.0.2 in rw (t, k.1) refl
 minus_at bs (Err d) k n = go (leb (digits_value 10 bs) (2 ^ 63)) refl
   where
@@ -74,7 +78,8 @@ minus_at bs (Err d) k n = go (leb (digits_value 10 bs) (2 ^ 63)) refl
     go true f = absurd (k (n.digits, n.some, leb-true _ _ f))
     go false f = rw f refl
 
-literal_cases : {E : Type 0} (c : ℕ) (cs : List ℕ) (r : Result ℤ E) → ParsesSigned w64 10 (c ∷ cs) r → (t : Bool) → eqb c 45 ≡ t → is_literal (c ∷ cs) ≡ true → result_ok r ≡ literal_value (c ∷ cs)
+literal_cases : {E : Type 0} (c : ℕ) (cs : List ℕ) (r : Result ℤ E) → ParsesSigned w64 10 (c ∷ cs) r → (t : Bool) → eqb c 45 ≡ t → is_literal (c ∷ cs)
+    ≡ true → result_ok r ≡ literal_value (c ∷ cs)
 unfolding is_literal
 literal_cases c cs r h true t e =
     let one : (is_numeral cs && not (bytes_eq cs (codes "0"))) ≡ true = rw t at e in

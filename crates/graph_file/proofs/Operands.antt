@@ -68,7 +68,8 @@ AreWords v (e ∷ es) = ((e.0 ≡ word_text e.1) × IsWordIn e.1 v) × AreWords 
 abbrev Spells : Version → List ℕ → Word → Type 0
 Spells v bs w = (bs ≡ word_text w) × IsWordIn w v
 
-word_in_is : (v : Version) (table : List (List ℕ × Word)) (otherwise : Option Word) (bs : List ℕ) (w : Word) → AreWords v table → (otherwise ≡ Some w → Spells v bs w) → word_in table otherwise bs ≡ Some w → Spells v bs w
+word_in_is : (v : Version) (table : List (List ℕ × Word)) (otherwise : Option Word) (bs : List ℕ) (w : Word) → AreWords v table
+    → (otherwise ≡ Some w → Spells v bs w) → word_in table otherwise bs ≡ Some w → Spells v bs w
 word_in_is v [] otherwise bs w h k e = k e
 word_in_is v (x ∷ xs) otherwise bs w h k e = go (bytes_eq bs x.0) refl (word_in_is v xs otherwise bs w h.1 k)
   where
@@ -114,7 +115,8 @@ other_in : (table : List (List ℕ × Word)) (otherwise : Option Word) (w : List
 other_in [] otherwise w e = refl
 other_in (x ∷ xs) otherwise w e = go (bytes_eq w x.0) refl (other_in xs otherwise w)
   where
-    go : (t : Bool) → bytes_eq w x.0 ≡ t → (is_other xs w ≡ true → word_in xs otherwise w ≡ otherwise) → (if t then Some x.1 else word_in xs otherwise w) ≡ otherwise
+    go : (t : Bool) → bytes_eq w x.0 ≡ t → (is_other xs w ≡ true → word_in xs otherwise w ≡ otherwise)
+        → (if t then Some x.1 else word_in xs otherwise w) ≡ otherwise
     go true t rec = absurd (let k : false ≡ true = rw t at e in cc)
     go false t rec = rec (let k : is_other xs w ≡ true = rw t at e in k)
 
@@ -149,7 +151,8 @@ word_again (Apply1 Neg) Two h = refl
 word_again (Apply1 Not) One h = refl
 word_again (Apply1 Not) Two h = refl
 word_again (Apply2 op) One h = operator_common op
-word_again (Apply2 op) Two h = other_in ((codes "scall", StrictCall) ∷ []) (common_of (binary_word op)) (binary_word op) (all_binary (λ o. is_other ((codes "scall", StrictCall) ∷ []) (binary_word o)) refl op) ∙ operator_common op
+word_again (Apply2 op) Two h = other_in ((codes "scall", StrictCall) ∷ []) (common_of (binary_word op)) (binary_word op)
+    (all_binary (λ o. is_other ((codes "scall", StrictCall) ∷ []) (binary_word o)) refl op) ∙ operator_common op
 
 -- ---- kinds
 
@@ -192,7 +195,8 @@ HasOperands (kinds.Call f) = IsName f
 HasOperands (kinds.StrictCall f) = IsName f
 HasOperands (kinds.Loop f k) = IsName f × IsNumber k
 
-mark_is : {X : Type 0} (of : List ℕ → Option X) (fs : List (List ℕ)) (x : X × List (List ℕ)) → (field_from fs >>= λ f. ok_or (of f.0) BadNumber >>= λ n. Ok (n, f.1)) ≡ Ok x → (f : List ℕ) × (fs ≡ f ∷ x.1) × (of f ≡ Some x.0)
+mark_is : {X : Type 0} (of : List ℕ → Option X) (fs : List (List ℕ)) (x : X × List (List ℕ))
+    → (field_from fs >>= λ f. ok_or (of f.0) BadNumber >>= λ n. Ok (n, f.1)) ≡ Ok x → (f : List ℕ) × (fs ≡ f ∷ x.1) × (of f ≡ Some x.0)
 unfolding field_from
 mark_is of [] x e = absurd cc
 mark_is of (f ∷ fs) x e =
@@ -243,14 +247,16 @@ name_gives f fs h = rw (is_name_from f h) refl
 abbrev Takes : Word → List (List ℕ) → Kind (List ℕ) × List (List ℕ) → Type 0
 Takes w fs x = (fs ≡ operand_fields x.0 ++ x.1) × (word_kind x.0 ≡ w) × HasOperands x.0
 
-named : (w : Word) (make : List ℕ → Kind (List ℕ)) → ((f : List ℕ) → IsName f → (fs : List (List ℕ)) → Takes w (f ∷ fs) (make f, fs)) → (fs : List (List ℕ)) (x : Kind (List ℕ) × List (List ℕ)) → (name_from fs >>= λ a. Ok (make a.0, a.1)) ≡ Ok x → Takes w fs x
+named : (w : Word) (make : List ℕ → Kind (List ℕ)) → ((f : List ℕ) → IsName f → (fs : List (List ℕ)) → Takes w (f ∷ fs) (make f, fs))
+    → (fs : List (List ℕ)) (x : Kind (List ℕ) × List (List ℕ)) → (name_from fs >>= λ a. Ok (make a.0, a.1)) ≡ Ok x → Takes w fs x
 named w make h fs x e =
     let b = bind_ok (name_from fs) (λ a. Ok (make a.0, a.1)) x e in
     let n = name_takes fs b.0 b.1 in
     let is = ok_is (make b.0.0, b.0.1) x b.2 in
     subst (Takes w fs) is (subst (λ y. Takes w y (make b.0.0, b.0.1)) (sym n.0) (h b.0.0 n.1 b.0.1))
 
-plain_kind : (w : Word) (k : Kind (List ℕ)) → ((fs : List (List ℕ)) → Takes w fs (k, fs)) → (fs : List (List ℕ)) (x : Kind (List ℕ) × List (List ℕ)) → done (k, fs) ≡ done x → Takes w fs x
+plain_kind : (w : Word) (k : Kind (List ℕ)) → ((fs : List (List ℕ)) → Takes w fs (k, fs)) → (fs : List (List ℕ)) (x : Kind (List ℕ) × List (List ℕ))
+    → done (k, fs) ≡ done x → Takes w fs x
 plain_kind w k h fs x e = subst (Takes w fs) (ok_is (k, fs) x e) (h fs)
 
 pub kind_takes : (w : Word) (fs : List (List ℕ)) (x : Kind (List ℕ) × List (List ℕ)) → kind_from w fs ≡ Ok x → Takes w fs x
@@ -296,7 +302,8 @@ kind_gives (kinds.Loop f k) fs h = rw (name_gives f (decimal k ∷ fs) h.0, numb
 
 pub sources_take : (fs : List (List ℕ)) (ss : List Source) → sources_from fs ≡ Ok ss → (fs ≡ map source_text ss) × All IsWrittenSource ss
 unfolding sources_from
-sources_take [] ss e = let k : [] ≡ ss = ok_is [] ss e in subst (λ (y : List Source). ([] ≡ map source_text y) × All IsWrittenSource y) k (refl, All-nil IsWrittenSource)
+sources_take [] ss e = let k : [] ≡ ss = ok_is [] ss e in subst (λ (y : List Source). ([] ≡ map source_text y) × All IsWrittenSource y) k
+    (refl, All-nil IsWrittenSource)
 sources_take (f ∷ fs) ss e =
     let b = bind_ok (ok_or (source_of f) BadNumber) (λ s. sources_from fs >>= λ rest. Ok (s ∷ rest)) ss e in
     let c = bind_ok (sources_from fs) (λ rest. Ok (b.0 ∷ rest)) ss b.2 in

@@ -1,5 +1,6 @@
 -- Fields with a space between are a line, and the line falls into these fields.
-use Rattle.std.proofs.Common.{◌≡◌, ℕ, ◌<◌, ◌≤◌, ◌&&◌, not, eqb, leb, Bool, true, false, cond, List, [], ◌∷◌, ◌++◌, length, map, All, Ok, refl, sym, ap, ◌∙◌, append_assoc, arith}
+use Rattle.std.proofs.Common.{◌≡◌, ℕ, ◌<◌, ◌≤◌, ◌&&◌, not, eqb, leb, Bool, true, false, cond, List, [], ◌∷◌, ◌++◌, length, map, All, Ok, refl, sym}
+use Rattle.std.proofs.Common.{ap, ◌∙◌, append_assoc, arith}
 use Rattle.std.specs.Prelude.{⊤, codes, flat_map, nat_lt}
 use Rattle.std.specs.Fmt.{decimal}
 use Rattle.std.specs.List.{list_all, join_with_byte}
@@ -51,7 +52,8 @@ no_space f h = apart is_plain 32 not_space f h.plain
 
 pub fields_again : (f : List ℕ) (fs : List (List ℕ)) → AreFields (f ∷ fs) → parts 32 (spaced (f ∷ fs)) ≡ f ∷ fs
 fields_again f [] h = slice_split_none (λ b. eqb b 32) f (no_space f h.0)
-fields_again f (g ∷ gs) h = slice_split_at (λ b. eqb b 32) f 32 (spaced (g ∷ gs)) (no_space f h.0) refl ∙ ap (λ (ys : List (List ℕ)). f ∷ ys) (fields_again g gs h.1)
+fields_again f (g ∷ gs) h = slice_split_at (λ b. eqb b 32) f 32 (spaced (g ∷ gs)) (no_space f h.0) refl
+    ∙ ap (λ (ys : List (List ℕ)). f ∷ ys) (fields_again g gs h.1)
 
 plain_byte : (fresh : Bool) (b : ℕ) (rest : List ℕ) → is_plain b ≡ true → is_well_spaced fresh (b ∷ rest) ≡ is_well_spaced false rest
 unfolding is_well_spaced
@@ -89,7 +91,9 @@ no_line_feed fresh (b ∷ bs) e =
     let low = leb-true 32 b q.0 in
     All-cons (λ b. eqb b 10 ≡ false) b bs (ne_eqb b 10 (λ z. absurd (omega arith))) (go (eqb b 32) p.1 (no_line_feed true bs) (no_line_feed false bs))
   where
-    go : (t : Bool) → cond t (not fresh && is_well_spaced true bs) (is_well_spaced false bs) ≡ true → (is_well_spaced true bs ≡ true → All (λ b. eqb b 10 ≡ false) bs) → (is_well_spaced false bs ≡ true → All (λ b. eqb b 10 ≡ false) bs) → All (λ b. eqb b 10 ≡ false) bs
+    go : (t : Bool) → cond t (not fresh && is_well_spaced true bs) (is_well_spaced false bs) ≡ true
+        → (is_well_spaced true bs ≡ true → All (λ b. eqb b 10 ≡ false) bs) → (is_well_spaced false bs ≡ true → All (λ b. eqb b 10 ≡ false) bs)
+        → All (λ b. eqb b 10 ≡ false) bs
     go true k x y = x (and_parts (not fresh) (is_well_spaced true bs) k).1
     go false k x y = y k
 
@@ -114,7 +118,8 @@ spaced_is f (g ∷ gs) = ap (λ (xs : List ℕ). f ++ (32 ∷ xs)) (spaced_is g 
 
 pub sources_are : (ss : List Source) → sources_text ss ≡ tail (map source_text ss)
 sources_are [] = refl
-sources_are (s ∷ ss) = flat_map-cons (λ (s : Source). field (source_text s)) s ss ∙ ap (λ (xs : List ℕ). field (source_text s) ++ xs) (sources_are ss) ∙ sym (flat_map-cons field (source_text s) (map source_text ss))
+sources_are (s ∷ ss) = flat_map-cons (λ (s : Source). field (source_text s)) s ss ∙ ap (λ (xs : List ℕ). field (source_text s) ++ xs) (sources_are ss)
+    ∙ sym (flat_map-cons field (source_text s) (map source_text ss))
 
 pub one_field : (f : List ℕ) → tail (f ∷ []) ≡ field f
 one_field f = flat_map-cons field f [] ∙ append-nil (field f)
@@ -133,7 +138,8 @@ kind_is_fields (kinds.Fetch a) = ap (λ (xs : List ℕ). codes "fetch" ++ xs) (s
 kind_is_fields (kinds.Store a) = ap (λ (xs : List ℕ). codes "store" ++ xs) (sym (one_field a))
 kind_is_fields (kinds.Call f) = ap (λ (xs : List ℕ). codes "call" ++ xs) (sym (one_field f))
 kind_is_fields (kinds.StrictCall f) = ap (λ (xs : List ℕ). codes "scall" ++ xs) (sym (one_field f))
-kind_is_fields (kinds.Loop f k) = append_assoc (codes "loop") (field f) (field (decimal k)) ∙ ap (λ (xs : List ℕ). codes "loop" ++ xs) (sym (two_fields f (decimal k)))
+kind_is_fields (kinds.Loop f k) = append_assoc (codes "loop") (field f) (field (decimal k)) ∙ ap (λ (xs : List ℕ). codes "loop" ++ xs)
+    (sym (two_fields f (decimal k)))
 
 pub node_line_is : (n : Node (List ℕ)) → node_line n ≡ line (spaced (node_fields n))
 node_line_is n =
@@ -141,10 +147,14 @@ node_line_is n =
     let w = word_text (word_kind n.kind) in
     let a = tail (operand_fields n.kind) in
     let b = tail (map source_text n.sources) in
-    let left : (r ++ field (kind_text n.kind)) ++ sources_text n.sources ≡ (r ++ field (w ++ a)) ++ b = rw (kind_is_fields n.kind, sources_are n.sources) refl in
-    let middle : (r ++ (32 ∷ (w ++ a))) ++ b ≡ r ++ (32 ∷ (w ++ (a ++ b))) = append_assoc r (32 ∷ (w ++ a)) b ∙ ap (λ (xs : List ℕ). r ++ (32 ∷ xs)) (append_assoc w a b) in
+    let left : (r ++ field (kind_text n.kind)) ++ sources_text n.sources ≡ (r ++ field (w ++ a))
+    ++ b = rw (kind_is_fields n.kind, sources_are n.sources) refl in
+    let middle : (r ++ (32 ∷ (w ++ a))) ++ b ≡ r ++ (32 ∷ (w ++ (a ++ b))) = append_assoc r (32 ∷ (w ++ a)) b
+    ∙ ap (λ (xs : List ℕ). r ++ (32 ∷ xs)) (append_assoc w a b) in
     let right : spaced (node_fields n) ≡ r ++ (32 ∷ (w ++ (a ++ b))) =
-    spaced_is r (w ∷ (operand_fields n.kind ++ map source_text n.sources)) ∙ ap (λ (xs : List ℕ). r ++ xs) (flat_map-cons field w (operand_fields n.kind ++ map source_text n.sources) ∙ ap (λ (xs : List ℕ). field w ++ xs) (flat_map-append field (operand_fields n.kind) (map source_text n.sources))) in
+    spaced_is r (w ∷ (operand_fields n.kind ++ map source_text n.sources))
+    ∙ ap (λ (xs : List ℕ). r ++ xs) (flat_map-cons field w (operand_fields n.kind ++ map source_text n.sources)
+    ∙ ap (λ (xs : List ℕ). field w ++ xs) (flat_map-append field (operand_fields n.kind) (map source_text n.sources))) in
     ap line (left ∙ middle ∙ sym right)
 
 -- ---- what is written is fields
@@ -185,5 +195,11 @@ operands_are_fields (kinds.StrictCall f) h = (name_field f h, tt)
 operands_are_fields (kinds.Loop f k) h = (name_field f h.0, (decimal_field k (let q = h.1 in omega arith), tt))
 
 pub node_is_fields : (v : Version) (n : Node (List ℕ)) → HasNodeLine (version_number v) n → AreFields (node_fields n)
-node_is_fields v n h =
-    (region_field n.region h.0, (word_field (word_kind n.kind), AreFields-append (operand_fields n.kind) (map source_text n.sources) (operands_are_fields n.kind (has_line v n.kind (length n.sources) h.1).0) (sources_fields n.sources h.2)))
+node_is_fields v n h = (
+  region_field n.region h.0,
+  (
+    word_field (word_kind n.kind),
+    AreFields-append (operand_fields n.kind) (map source_text n.sources)
+        (operands_are_fields n.kind (has_line v n.kind (length n.sources) h.1).0) (sources_fields n.sources h.2),
+  ),
+)

@@ -31,7 +31,8 @@ main_fields m = codes "main" ∷ m ∷ []
 
 pub array_line_is : (a : List ℕ × ℕ) → array_line a ≡ line (spaced (array_fields a))
 array_line_is a =
-    let e : spaced (array_fields a) ≡ codes "array" ++ (field a.0 ++ field (decimal a.1)) = spaced_is (codes "array") (a.0 ∷ decimal a.1 ∷ []) ∙ ap (λ (xs : List ℕ). codes "array" ++ xs) (two_fields a.0 (decimal a.1)) in
+    let e : spaced (array_fields a) ≡ codes "array" ++ (field a.0 ++ field (decimal a.1)) = spaced_is (codes "array") (a.0 ∷ decimal a.1 ∷ [])
+    ∙ ap (λ (xs : List ℕ). codes "array" ++ xs) (two_fields a.0 (decimal a.1)) in
     ap line (append_assoc (codes "array") (field a.0) (field (decimal a.1)) ∙ sym e)
 
 abbrev pub block_line_text : Named → List ℕ
@@ -41,9 +42,12 @@ pub block_line_is : (b : Named) → block_line_text b ≡ line (spaced (block_fi
 block_line_is b =
     let i = decimal b.1.inputs in
     let o = decimal b.1.outputs in
-    let three : tail (b.0 ∷ i ∷ o ∷ []) ≡ field b.0 ++ (field i ++ field o) = flat_map-cons field b.0 (i ∷ o ∷ []) ∙ ap (λ (xs : List ℕ). field b.0 ++ xs) (two_fields i o) in
-    let e : spaced (block_fields b) ≡ codes "block" ++ (field b.0 ++ (field i ++ field o)) = spaced_is (codes "block") (b.0 ∷ i ∷ o ∷ []) ∙ ap (λ (xs : List ℕ). codes "block" ++ xs) three in
-    let left : ((codes "block" ++ field b.0) ++ field i) ++ field o ≡ codes "block" ++ (field b.0 ++ (field i ++ field o)) = append_assoc (codes "block" ++ field b.0) (field i) (field o) ∙ append_assoc (codes "block") (field b.0) (field i ++ field o) in
+    let three : tail (b.0 ∷ i ∷ o ∷ []) ≡ field b.0 ++ (field i ++ field o) = flat_map-cons field b.0 (i ∷ o ∷ [])
+    ∙ ap (λ (xs : List ℕ). field b.0 ++ xs) (two_fields i o) in
+    let e : spaced (block_fields b) ≡ codes "block" ++ (field b.0 ++ (field i ++ field o)) = spaced_is (codes "block") (b.0 ∷ i ∷ o ∷ [])
+    ∙ ap (λ (xs : List ℕ). codes "block" ++ xs) three in
+    let left : ((codes "block" ++ field b.0) ++ field i) ++ field o ≡ codes "block" ++ (field b.0 ++ (field i ++ field o)) = append_assoc
+    (codes "block" ++ field b.0) (field i) (field o) ∙ append_assoc (codes "block") (field b.0) (field i ++ field o) in
     ap line (left ∙ sym e)
 
 abbrev pub out_text : List Source → List ℕ

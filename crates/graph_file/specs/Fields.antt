@@ -1,5 +1,6 @@
 -- What a field says: a number, a literal, a name, a source, a region.
-use Rattle.std.specs.Prelude.{ℕ, ◌==◌, ◌&&◌, ◌||◌, ◌-◌, ◌^◌, not, nat_le, nat_lt, Bool, true, false, ℤ, pos, neg_ℤ, List, [], ◌∷◌, length, take, slice_index, Option, None, Some, Result, Ok, Err, ok_or, codes, if◌then◌else◌}
+use Rattle.std.specs.Prelude.{ℕ, ◌==◌, ◌&&◌, ◌||◌, ◌-◌, ◌^◌, not, nat_le, nat_lt, Bool, true, false, ℤ, pos, neg_ℤ, List, [], ◌∷◌, length, take}
+use Rattle.std.specs.Prelude.{slice_index, Option, None, Some, Result, Ok, Err, ok_or, codes, if◌then◌else◌}
 use Rattle.std.specs.List.{list_all}
 use Rattle.std.specs.Str.{bytes_eq}
 use Rattle.std.specs.Char.{is_ascii_digit}
@@ -31,7 +32,8 @@ literal_in fits z = if fits then Some z else None
 
 abbrev pub literal_value : List ℕ → Option ℤ
 literal_value [] = None
-literal_value (c ∷ cs) = if c == 45 then literal_in (nat_le (digits_value 10 cs) (2 ^ 63)) (neg_ℤ (pos (digits_value 10 cs))) else literal_in (nat_lt (digits_value 10 (c ∷ cs)) (2 ^ 63)) (pos (digits_value 10 (c ∷ cs)))
+literal_value (c ∷ cs) = if c == 45 then literal_in (nat_le (digits_value 10 cs) (2 ^ 63)) (neg_ℤ (pos (digits_value 10 cs))) else literal_in
+    (nat_lt (digits_value 10 (c ∷ cs)) (2 ^ 63)) (pos (digits_value 10 (c ∷ cs)))
 
 -- within 64 bits with a sign
 unfoldable pub literal_of : List ℕ → Option ℤ

@@ -1,7 +1,8 @@
 -- READING A TEXT, with its first fault. Lines are read in order. In a line the first fault of this list counts: its form
 -- and the number of its fields; the limits on arrays, blocks, nodes and sources; then the fields from left to right, each
 -- with its limit.
-use Rattle.std.specs.Prelude.{◌≡◌, ◌⊎◌, ℕ, ◌+◌, ◌&&◌, ◌==◌, not, nat_le, nat_lt, Bool, true, false, List, [], ◌∷◌, ◌++◌, length, take, drop, Result, Ok, Err, codes, ⊤, if◌then◌else◌}
+use Rattle.std.specs.Prelude.{◌≡◌, ◌⊎◌, ℕ, ◌+◌, ◌&&◌, ◌==◌, not, nat_le, nat_lt, Bool, true, false, List, [], ◌∷◌, ◌++◌, length, take, drop, Result}
+use Rattle.std.specs.Prelude.{Ok, Err, codes, ⊤, if◌then◌else◌}
 use Rattle.std.specs.Str.{bytes_eq}
 use Rattle.semantics.specs.Graph.{Block, Graph}
 use Rattle.semantics.specs.Versions.{version_number}

@@ -4,7 +4,8 @@ ghost use Rattle.std.specs.Prelude.{◌≡◌, ℕ, List};
 ghost use Rattle.std.specs.List.{list_all};
 ghost use Rattle.std.specs.Char.{is_ascii_digit};
 ghost use Rattle.graph_file.specs.Giving.{Gives};
-ghost use Rattle.graph_file.specs.Fields.{is_numeral, number_of, is_literal, literal_of, is_letter, is_name_rest, is_name, source_of, region_of, field_from, number_from, literal_from, name_from, sources_from};
+ghost use Rattle.graph_file.specs.Fields.{is_numeral, number_of, is_literal, literal_of, is_letter, is_name_rest, is_name, source_of, region_of};
+ghost use Rattle.graph_file.specs.Fields.{field_from, number_from, literal_from, name_from, sources_from};
 
 use crate::cause::{LineCause, NumberCause, ReadCause};
 use crate::parts::Parts;

@@ -2,7 +2,8 @@
 
 ghost use Rattle.std.specs.Prelude.{◌≡◌, ◌+◌, ◌≤◌, ℕ, List, [], Ok, IfOk, false, length, true};
 ghost use Rattle.graph_file.specs.Giving.{Gives};
-ghost use Rattle.graph_file.specs.Reading.{len_from, count_from, array_line, block_line, main_line, out_line, node_line, outside, inside, closing, fields_from, line_from, end_from};
+ghost use Rattle.graph_file.specs.Reading.{len_from, count_from, array_line, block_line, main_line, out_line, node_line, outside, inside, closing};
+ghost use Rattle.graph_file.specs.Reading.{fields_from, line_from, end_from};
 
 use crate::cause::{Limit, LineCause, NumberCause, ReadCause, Unended};
 use crate::fields::{field_of, name_field, number_field, source_fields};

@@ -1,7 +1,8 @@
 //! The data of a run.
 
 ghost use Rattle.std.specs.Prelude.{◌≡◌};
-ghost use Rattle.html_text.specs.DataText.{line_lead, event_head, event_text, listed_change, changes_text, listed_number, listed_numbers, size_text, before_text, start_text, data_text};
+ghost use Rattle.html_text.specs.DataText.{line_lead, event_head, event_text, listed_change, changes_text, listed_number, listed_numbers, size_text};
+ghost use Rattle.html_text.specs.DataText.{before_text, start_text, data_text};
 ghost use Rattle.trace_text.specs.TraceText.{paired};
 ghost use Rattle.sink.specs.Sends.{Sends};
 

@@ -26,11 +26,14 @@ module _ (own : OwnCells) (x : ℕ) (old new : CellState) (e : cell_at own x ≡
   state_there state h =
       let w = place_from_state (with_cell_at own x new) x state h in
       let q = place_is own x w.0 (same_place x w.0 w.1) in
-      let f : slice_get (set own.states (x / own.elements) new) (x / own.elements) ≡ Some state = subst (λ n. slice_get (set own.states (x / own.elements) new) n ≡ Some state) (sym q.here) w.2 in
+      let f : slice_get (set own.states (x / own.elements) new) (x / own.elements)
+      ≡ Some state = subst (λ n. slice_get (set own.states (x / own.elements) new) n ≡ Some state) (sym q.here) w.2 in
       let within : x / own.elements < length own.states = subst (λ n. n < length own.states) (sym q.here) q.within in
-      sym (get_or_from_slice_get (set own.states (x / own.elements) new) (x / own.elements) state new f) ∙ get_or-set_same own.states (x / own.elements) new new within
+      sym (get_or_from_slice_get (set own.states (x / own.elements) new) (x / own.elements) state new f)
+      ∙ get_or-set_same own.states (x / own.elements) new new within
 
-  pub state_elsewhere : 0 < own.elements → (y : ℕ) (state : CellState) → (x ≡ y → ⊥) → cell_at (with_cell_at own x new) y ≡ Some state → cell_at own y ≡ Some state
+  pub state_elsewhere : 0 < own.elements → (y : ℕ) (state : CellState) → (x ≡ y → ⊥) → cell_at (with_cell_at own x new) y ≡ Some state → cell_at own y
+      ≡ Some state
   state_elsewhere pos y state ne h =
       let w = place_from_state (with_cell_at own x new) y state h in
       let p = same_place y w.0 w.1 in
@@ -38,7 +41,8 @@ module _ (own : OwnCells) (x : ℕ) (old new : CellState) (e : cell_at own x ≡
       let q = place_is own y w.0 p in
       let r = place_is own x v.0 v.1 in
       let apart : w.0 ≡ x / own.elements → ⊥ = λ same. ne (one_cell own x y w.0 pos record { ours = r.ours; here = sym same; within = q.within } q) in
-      let at_old : get_or own.states w.0 state ≡ state = sym (get_or-set_other own.states (x / own.elements) w.0 new state apart) ∙ get_or_from_slice_get (set own.states (x / own.elements) new) w.0 state state w.2 in
+      let at_old : get_or own.states w.0 state ≡ state = sym (get_or-set_other own.states (x / own.elements) w.0 new state apart)
+      ∙ get_or_from_slice_get (set own.states (x / own.elements) new) w.0 state state w.2 in
       cell_at-place own y w.0 p ∙ slice_get-get_or own.states w.0 state q.within ∙ ap (λ (z : CellState). Some z) at_old
 
   pub holds_changed : 0 < own.elements → (s : Store) → HoldsCells own s → HoldsCells (with_cell_at own x new) (with_cell s x new)
@@ -48,24 +52,32 @@ module _ (own : OwnCells) (x : ℕ) (old new : CellState) (e : cell_at own x ≡
       (cases_eq x y)
 
 -- a cell in which readers wait is vacant or deferred
-fetches_where : (s : Store) (x : ℕ) (c : Cont) (state : CellState) (readers : List Cont) → waiting_in state ≡ Some readers → Fetches s x c state [] (with_cell s x (Deferred (readers ++ c ∷ [])))
+fetches_where : (s : Store) (x : ℕ) (c : Cont) (state : CellState) (readers : List Cont) → waiting_in state ≡ Some readers
+    → Fetches s x c state [] (with_cell s x (Deferred (readers ++ c ∷ [])))
 fetches_where s x c Vacant readers e = (refl, ap (λ rs. with_cell s x (Deferred (rs ++ c ∷ []))) (sym (same_Some _ _ e)))
 fetches_where s x c (Deferred others) readers e = (refl, ap (λ rs. with_cell s x (Deferred (rs ++ c ∷ []))) (sym (same_Some _ _ e)))
 fetches_where s x c (Full v) readers e = cc
 
-stores_where : (s : Store) (x : ℕ) (v : Value) (c : Cont) (state : CellState) (readers : List Cont) → waiting_in state ≡ Some readers → Stores s x v c state (answers (readers ++ c ∷ []) v) (with_cell s x (Full v))
+stores_where : (s : Store) (x : ℕ) (v : Value) (c : Cont) (state : CellState) (readers : List Cont) → waiting_in state ≡ Some readers
+    → Stores s x v c state (answers (readers ++ c ∷ []) v) (with_cell s x (Full v))
 stores_where s x v c Vacant readers e = (ap (λ rs. answers (rs ++ c ∷ []) v) (sym (same_Some _ _ e)), refl)
 stores_where s x v c (Deferred others) readers e = (ap (λ rs. answers (rs ++ c ∷ []) v) (sym (same_Some _ _ e)), refl)
 stores_where s x v c (Full w) readers e = cc
 
 -- the state of a cell in which readers wait
-waiting_state : (o : Option CellState) (readers : List Cont) → option_and_then waiting_in o ≡ Some readers → (state : CellState) × (o ≡ Some state) × (waiting_in state ≡ Some readers)
+waiting_state : (o : Option CellState) (readers : List Cont) → option_and_then waiting_in o ≡ Some readers → (state : CellState) × (o ≡ Some state)
+    × (waiting_in state ≡ Some readers)
 waiting_state None readers e = cc
 waiting_state (Some state) readers e = (state, refl, e)
 
-pub fetch_is_event : (old : OwnCells) (x : ℕ) (c : Cont) (a : FetchAnswer) (new : OwnCells) → 0 < old.elements → FetchedAt old x c a new → FetchIsEvent old x c a new
-fetch_is_event old x c (FetchAnswer.Now v) new pos h = λ good s holds.
-    (s, subst (λ state. Fetches s x c state (fetch_tokens c (FetchAnswer.Now v)) s) (sym (holds x (Full v) h.0)) (refl, refl), subst (λ own. HoldsCells own s) (sym h.1) holds)
+pub fetch_is_event : (old : OwnCells) (x : ℕ) (c : Cont) (a : FetchAnswer) (new : OwnCells) → 0 < old.elements → FetchedAt old x c a new
+    → FetchIsEvent old x c a new
+fetch_is_event old x c (FetchAnswer.Now v) new pos h = λ good s holds. (
+  s,
+  subst (λ state. Fetches s x c state (fetch_tokens c (FetchAnswer.Now v)) s) (sym (holds x (Full v) h.0)) (refl, refl),
+  subst
+      (λ own. HoldsCells own s) (sym h.1) holds,
+)
 fetch_is_event old x c FetchAnswer.Deferred new pos h = λ good s holds.
     let w = waiting_state (cell_at old x) h.0 h.1 in (
       with_cell s x (Deferred (h.0 ++ c ∷ [])),
@@ -75,7 +87,8 @@ fetch_is_event old x c FetchAnswer.Deferred new pos h = λ good s holds.
 fetch_is_event old x c FetchAnswer.NotHere new pos h = λ bad. absurd bad
 fetch_is_event old x c FetchAnswer.Memory new pos h = λ bad. absurd bad
 
-pub store_is_event : (old : OwnCells) (x : ℕ) (v : Value) (room : ℕ) (before after : List Cont) (a : StoreAnswer) (new : OwnCells) → 0 < old.elements → StoredAt old x v room before a new after → StoreIsEvent old x v a new before after
+pub store_is_event : (old : OwnCells) (x : ℕ) (v : Value) (room : ℕ) (before after : List Cont) (a : StoreAnswer) (new : OwnCells) → 0 < old.elements
+    → StoredAt old x v room before a new after → StoreIsEvent old x v a new before after
 store_is_event old x v room before after StoreAnswer.Stored new pos h = λ c s holds.
     let w = waiting_state (cell_at old x) h.0 h.1 in (
       h.0,

@@ -24,7 +24,8 @@ vacant_here cells e es x h below ours =
     let pos : 0 < es = omega arith in
     let at : es * (x / es) + x % es ≡ x = omega arith in
     let within : x / es < own_count cells e es = row_below es (x / es) (cells + es - 1 - e) pos (omega arith) in
-    let inside : x / es < length (replicate (own_count cells e es) Vacant) = subst (λ n. x / es < n) (sym (length-replicate (own_count cells e es) Vacant)) within in
+    let inside : x / es < length (replicate (own_count cells e es) Vacant) = subst (λ n. x / es < n)
+    (sym (length-replicate (own_count cells e es) Vacant)) within in
     cell_at-place (all_vacant cells e es) x (x / es) (is_place (all_vacant cells e es) x (x / es) record { ours = ours; here = refl; within = inside })
     ∙ slice_get-get_or (replicate (own_count cells e es) Vacant) (x / es) Vacant inside
     ∙ ap (λ (z : CellState). Some z) (get_or-replicate (own_count cells e es) (x / es) Vacant Vacant within)

@@ -41,7 +41,8 @@ module _ (own : OwnCells) (x k : ℕ) (old new : CellState) (p : place_of own x 
   fetched_of_cell c FetchAnswer.NotHere h = absurd h
   fetched_of_cell c FetchAnswer.Memory h = ((h.0.0, waits h.0.0 h.0.1), kept h.1)
 
-  pub stored_of_cell : (v : Value) (room : ℕ) (before after : List Cont) (a : StoreAnswer) → CellStored old v room before a new after → StoredAt own x v room before a (with_states own (set own.states k new)) after
+  pub stored_of_cell : (v : Value) (room : ℕ) (before after : List Cont) (a : StoreAnswer) → CellStored old v room before a new after
+      → StoredAt own x v room before a (with_states own (set own.states k new)) after
   stored_of_cell v room before after StoreAnswer.Stored h = (h.0, waits h.0 h.1, changed _ h.2, h.3)
   stored_of_cell v room before after StoreAnswer.Second h = ((h.0.0, at_cell ∙ ap (λ (y : CellState). Some y) h.0.1), kept h.1, h.2)
   stored_of_cell v room before after StoreAnswer.NotHere h = absurd h
@@ -60,7 +61,8 @@ module _ {A : Type 0} (own : OwnCells) (e es : ℕ) (cells : List (Cell A)) (x k
   state_in =
       let within : k < length (map state_of cells) = (place_is (seen e es cells) x k place_in).within in
       let fits : k < length cells = subst (λ n. k < n) (length-map cells state_of) within in
-      slice_get-get_or (map state_of cells) k (state_of held) within ∙ ap (λ (y : CellState). Some y) (get_or-map state_of cells k held (state_of held) fits ∙ ap state_of (sym at))
+      slice_get-get_or (map state_of cells) k (state_of held) within
+      ∙ ap (λ (y : CellState). Some y) (get_or-map state_of cells k held (state_of held) fits ∙ ap state_of (sym at))
 
   pub fetched_of_cells : (c : Cont) (a : FetchAnswer) → CellFetched (state_of held) c a (state_of after) → FetchedAt own x c a (seen e es (set cells k after))
   fetched_of_cells c a h =
@@ -68,16 +70,19 @@ module _ {A : Type 0} (own : OwnCells) (e es : ℕ) (cells : List (Cell A)) (x k
       subst (λ o. FetchedAt o x c a (seen e es (set cells k after))) view_is
       (subst (λ ss. FetchedAt (seen e es cells) x c a record { element = e; elements = es; states = ss }) (sym (map-set state_of cells k after)) one)
 
-  pub stored_of_cells : (v : Value) (room : ℕ) (before later : List Cont) (a : StoreAnswer) → CellStored (state_of held) v room before a (state_of after) later → StoredAt own x v room before a (seen e es (set cells k after)) later
+  pub stored_of_cells : (v : Value) (room : ℕ) (before later : List Cont) (a : StoreAnswer) → CellStored (state_of held) v room before a
+      (state_of after) later → StoredAt own x v room before a (seen e es (set cells k after)) later
   stored_of_cells v room before later a h =
       let one = stored_of_cell (seen e es cells) x k (state_of held) (state_of after) place_in state_in v room before later a h in
       subst (λ o. StoredAt o x v room before a (seen e es (set cells k after)) later) view_is
-      (subst (λ ss. StoredAt (seen e es cells) x v room before a record { element = e; elements = es; states = ss } later) (sym (map-set state_of cells k after)) one)
+      (subst (λ ss. StoredAt (seen e es cells) x v room before a record { element = e; elements = es; states = ss } later)
+      (sym (map-set state_of cells k after)) one)
 
 -- the element's number is below the number of elements
 pub elements_above : {A : Type 0} (own : OwnCells) (e es : ℕ) (cells : List (Cell A)) → seen e es cells ≡ own → e < es → 0 < own.elements
 elements_above own e es cells view_is h = subst (λ o. 0 < o.elements) view_is (omega arith)
 
 -- cells that were all made vacant, as many as the element owns
-pub seen_vacant : {A : Type 0} (count e es : ℕ) (cells : List (Cell A)) (n : ℕ) → map state_of cells ≡ replicate n Vacant → n ≡ own_count count e es → all_vacant count e es ≡ seen e es cells
+pub seen_vacant : {A : Type 0} (count e es : ℕ) (cells : List (Cell A)) (n : ℕ) → map state_of cells ≡ replicate n Vacant → n ≡ own_count count e es
+    → all_vacant count e es ≡ seen e es cells
 seen_vacant count e es cells n h all = ap (with_states (all_vacant count e es)) (sym (h ∙ ap (λ k. replicate k Vacant) all))

@@ -36,12 +36,15 @@ inner false k o h e = cc
 pub is_place : (own : OwnCells) (x k : ℕ) → IsPlace own x k → place_of own x ≡ Some k
 is_place own x k p =
     let within : x / own.elements < length own.states = subst (λ n. n < length own.states) (sym p.here) p.within in
-    inner (eqb (x % own.elements) own.element) k _ (eq-eqb _ _ p.ours) (inner (ltb (x / own.elements) (length own.states)) k _ (lt-ltb _ _ within) (ap (λ (n : ℕ). Some n) p.here))
+    inner (eqb (x % own.elements) own.element) k _ (eq-eqb _ _ p.ours) (inner (ltb (x / own.elements) (length own.states)) k _ (lt-ltb _ _ within)
+    (ap (λ (n : ℕ). Some n) p.here))
 
 -- a cell with a state has a place
-pub place_from_state : (own : OwnCells) (x : ℕ) (state : CellState) → cell_at own x ≡ Some state → (k : ℕ) × (place_of own x ≡ Some k) × (slice_get own.states k ≡ Some state)
+pub place_from_state : (own : OwnCells) (x : ℕ) (state : CellState) → cell_at own x ≡ Some state → (k : ℕ) × (place_of own x ≡ Some k)
+    × (slice_get own.states k ≡ Some state)
 place_from_state own x state e = go (place_of own x) refl e where
-  go : (o : Option ℕ) → place_of own x ≡ o → option_and_then (slice_get own.states) o ≡ Some state → (k : ℕ) × (place_of own x ≡ Some k) × (slice_get own.states k ≡ Some state)
+  go : (o : Option ℕ) → place_of own x ≡ o → option_and_then (slice_get own.states) o ≡ Some state → (k : ℕ) × (place_of own x ≡ Some k)
+      × (slice_get own.states k ≡ Some state)
   go None h e = cc
   go (Some k) h e = (k, h, e)
 

@@ -30,5 +30,6 @@ FetchIsEvent old x c a new = IsFetchAnswer a → (s : Store) → HoldsCells old 
 -- A store that was made is the machine's event: its readers are answered, and last the continuation of the store.
 abbrev pub StoreIsEvent : OwnCells → ℕ → Value → StoreAnswer → OwnCells → List Cont → List Cont → Type 0
 StoreIsEvent old x v StoreAnswer.Stored new before after =
-    (c : Cont) (s : Store) → HoldsCells old s → (readers : List Cont) × (t : Store) × (after ≡ before ++ readers) × Stores s x v c (s.cells x) (answers (readers ++ c ∷ []) v) t × HoldsCells new t
+    (c : Cont) (s : Store) → HoldsCells old s → (readers : List Cont) × (t : Store) × (after ≡ before ++ readers)
+    × Stores s x v c (s.cells x) (answers (readers ++ c ∷ []) v) t × HoldsCells new t
 StoreIsEvent old x v a new before after = Unit {0}

@@ -19,7 +19,9 @@ CellFetched old c FetchAnswer.NotHere new = ⊥
 CellFetched old c FetchAnswer.Memory new = ((readers : List Cont) × (waiting_in old ≡ Some readers)) × (new ≡ old)
 
 abbrev pub CellStored : CellState → Value → (room : ℕ) → List Cont → StoreAnswer → CellState → List Cont → Type 0
-CellStored old v room answers StoreAnswer.Stored new after = (readers : List Cont) × (waiting_in old ≡ Some readers) × (new ≡ Full v) × (after ≡ answers ++ readers)
+CellStored old v room answers StoreAnswer.Stored new after = (readers : List Cont) × (waiting_in old ≡ Some readers) × (new ≡ Full v)
+    × (after ≡ answers ++ readers)
 CellStored old v room answers StoreAnswer.Second new after = ((w : Value) × (old ≡ Full w)) × (new ≡ old) × (after ≡ answers)
 CellStored old v room answers StoreAnswer.NotHere new after = ⊥
-CellStored old v room answers StoreAnswer.Memory new after = ((readers : List Cont) × (waiting_in old ≡ Some readers) × (room < length answers + length readers)) × (new ≡ old) × (after ≡ answers)
+CellStored old v room answers StoreAnswer.Memory new after = ((readers : List Cont) × (waiting_in old ≡ Some readers)
+    × (room < length answers + length readers)) × (new ≡ old) × (after ≡ answers)

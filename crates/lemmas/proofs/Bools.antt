@@ -1,5 +1,6 @@
 -- What a Bool that is made of others says of them, and what is chosen by one.
-use Rattle.std.proofs.Common.{◌&&◌, ◌+◌, ◌==◌, ◌||◌, ◌∙◌, ◌≡◌, ◌≢◌, ◌⊎◌, Bool, ap, arith, cond, eq-eqb, eqb-true, false, if◌then◌else◌, inl, inr, lt-ltb, nat_lt, not, refl, suc, sym, true, true≢false, zero, zero-add, ℕ}
+use Rattle.std.proofs.Common.{◌&&◌, ◌+◌, ◌==◌, ◌||◌, ◌∙◌, ◌≡◌, ◌≢◌, ◌⊎◌, Bool, ap, arith, cond, eq-eqb, eqb-true, false, if◌then◌else◌, inl, inr}
+use Rattle.std.proofs.Common.{lt-ltb, nat_lt, not, refl, suc, sym, true, true≢false, zero, zero-add, ℕ}
 use Rattle.std.proofs.lemmas.Bool.{eqb-false}
 
 -- AND, OR, NOT

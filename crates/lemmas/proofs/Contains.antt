@@ -44,6 +44,7 @@ pub contains_flat_mapped : {X Y : Type 0} (f : X → List Y) (xs : List X) (y : 
 contains_flat_mapped f [] y c = absurd (contains_none y c)
 contains_flat_mapped f (x ∷ xs) y c = pick (Contains-append_cases (f x) (flat_map f xs) y c) (contains_flat_mapped f xs y)
   where
-    pick : Contains (f x) y ⊎ Contains (flat_map f xs) y → (Contains (flat_map f xs) y → (z : _) × Contains xs z × Contains (f z) y) → (z : _) × Contains (x ∷ xs) z × Contains (f z) y
+    pick : Contains (f x) y ⊎ Contains (flat_map f xs) y → (Contains (flat_map f xs) y → (z : _) × Contains xs z × Contains (f z) y) → (z : _)
+        × Contains (x ∷ xs) z × Contains (f z) y
     pick (inl d) more = (x, contains_head x xs, d)
     pick (inr d) more = let m = more d in (m.0, contains_tail x xs m.0 m.1, m.2)

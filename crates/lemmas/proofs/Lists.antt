@@ -1,5 +1,6 @@
 -- Lists that are joined, cut, copied and mapped.
-use Rattle.std.proofs.Common.{[], ◌++◌, ◌+◌, ◌-◌, ◌<◌, ◌∙◌, ◌∷◌, ◌≡◌, List, Some, ap, arith, drop, false, get_or, length, length-append, map, refl, replicate, slice_get, slice_index_or, suc, sym, take, zero, ℕ}
+use Rattle.std.proofs.Common.{[], ◌++◌, ◌+◌, ◌-◌, ◌<◌, ◌∙◌, ◌∷◌, ◌≡◌, List, Some, ap, arith, drop, false, get_or, length, length-append, map, refl}
+use Rattle.std.proofs.Common.{replicate, slice_get, slice_index_or, suc, sym, take, zero, ℕ}
 use Rattle.std.proofs.lemmas.List.{drop_more, get_or-append-add, take_at}
 
 -- OF ONE ELEMENT, AND OF NONE
@@ -39,7 +40,8 @@ take_next zero (y ∷ ys) x e = let same : y ≡ x = cc in ap (λ z. z ∷ []) s
 take_next (suc n) (y ∷ ys) x e = ap (λ zs. y ∷ zs) (take_next n ys x e)
 
 -- a list that is made of the elements of another, one after the other
-pub taken_next : {X : Type 0} (n : ℕ) (xs done next : List X) (x : X) → slice_get xs n ≡ Some x → done ≡ take n xs → next ≡ done ++ x ∷ [] → next ≡ take (n + 1) xs
+pub taken_next : {X : Type 0} (n : ℕ) (xs done next : List X) (x : X) → slice_get xs n ≡ Some x → done ≡ take n xs → next ≡ done ++ x ∷ [] → next
+    ≡ take (n + 1) xs
 taken_next n xs done next x e so made =
     let up : suc n ≡ n + 1 = omega (arith) in
     made ∙ ap (λ zs. zs ++ x ∷ []) so ∙ sym (take_next n xs x e) ∙ ap (λ k. take k xs) up

@@ -1,11 +1,14 @@
 -- Lists in another order, by recursion on the list: for cancelling and for taking common parts out, which
 -- `IsPermutation` does not offer.
-use Rattle.std.proofs.Common.{◌≡◌, ℕ, zero, suc, ◌<◌, ◌⊎◌, List, [], ◌∷◌, ◌++◌, length, get_or, set, swap, IsPermutation, inl, inr, refl, sym, ap, ◌∙◌, subst, arith, Some, append_assoc, slice_get, subst₂}
+use Rattle.std.proofs.Common.{◌≡◌, ℕ, zero, suc, ◌<◌, ◌⊎◌, List, [], ◌∷◌, ◌++◌, length, get_or, set, swap, IsPermutation, inl, inr, refl, sym, ap}
+use Rattle.std.proofs.Common.{◌∙◌, subst, arith, Some, append_assoc, slice_get, subst₂}
 use Rattle.std.specs.Prelude.{⊤}
 use Rattle.std.proofs.lemmas.List.Elements.{Contains-append_left, Contains-append_right}
 use Rattle.std.proofs.Common.{⊎_elim, map, flat_map, length-set, get_or-set_same, get_or-set_other, Contains}
 use Rattle.std.proofs.lemmas.Bool.{cases_eq}
-use Rattle.std.proofs.lemmas.List.Sorted.{Contains-permutation, IsPermutation-refl, IsPermutation-cons, IsPermutation-trans, IsPermutation-sym, IsPermutation-middle, IsPermutation-keeps, IsPermutation-append_comm, IsPermutation-append_left, IsPermutation-append_right}
+use Rattle.std.proofs.lemmas.List.Sorted.{Contains-permutation, IsPermutation-refl, IsPermutation-cons, IsPermutation-trans, IsPermutation-sym}
+use Rattle.std.proofs.lemmas.List.Sorted.{IsPermutation-middle, IsPermutation-keeps, IsPermutation-append_comm, IsPermutation-append_left}
+use Rattle.std.proofs.lemmas.List.Sorted.{IsPermutation-append_right}
 
 -- ys is zs with x put in somewhere
 abbrev pub Put : {X : Type 0} → X → List X → List X → Type 0
@@ -98,13 +101,15 @@ perm_cancel x xs ys zs ws p q r =
 pub perm_cancel_append : {X : Type 0} (as' xs ys : List X) → Perm (as' ++ xs) (as' ++ ys) → Perm xs ys
 perm_cancel_append [] xs ys p = p
 perm_cancel_append (a ∷ as') xs ys p =
-    perm_cancel_append as' xs ys (perm_cancel a (a ∷ (as' ++ xs)) (a ∷ (as' ++ ys)) (as' ++ xs) (as' ++ ys) p (put_first a (as' ++ xs)) (put_first a (as' ++ ys)))
+    perm_cancel_append as' xs ys (perm_cancel a (a ∷ (as' ++ xs)) (a ∷ (as' ++ ys)) (as' ++ xs) (as' ++ ys) p (put_first a (as' ++ xs))
+    (put_first a (as' ++ ys)))
 
 -- TO AND FROM STD'S WORD
 
 pub put_IsPermutation : {X : Type 0} (x : X) (zs ys : List X) → Put x zs ys → IsPermutation (x ∷ zs) ys
 put_IsPermutation x zs [] p = absurd p
-put_IsPermutation x zs (y ∷ ys) (inl p) = subst (λ l. IsPermutation (x ∷ l) (y ∷ ys)) (sym p.1) (subst (λ v. IsPermutation (v ∷ ys) (y ∷ ys)) (sym p.0) (IsPermutation-refl (y ∷ ys)))
+put_IsPermutation x zs (y ∷ ys) (inl p) = subst (λ l. IsPermutation (x ∷ l) (y ∷ ys)) (sym p.1)
+    (subst (λ v. IsPermutation (v ∷ ys) (y ∷ ys)) (sym p.0) (IsPermutation-refl (y ∷ ys)))
 put_IsPermutation x zs (y ∷ ys) (inr p) =
     let ih = IsPermutation-cons y _ _ (put_IsPermutation x p.0 ys p.2) in
     subst (λ l. IsPermutation (x ∷ l) (y ∷ ys)) (sym p.1)
@@ -216,7 +221,8 @@ abbrev pub Spread : {X : Type 0} → (X → X → Type 0) → List X → Type 0
 Spread R [] = ⊤
 Spread R (x ∷ xs) = Each (R x) xs × Spread R xs
 
-pub spread_put : {X : Type 0} (R : X → X → Type 0) (turn : (x y : X) → R x y → R y x) (x : X) (zs ys : List X) → Put x zs ys → Spread R ys → Each (R x) zs × Spread R zs
+pub spread_put : {X : Type 0} (R : X → X → Type 0) (turn : (x y : X) → R x y → R y x) (x : X) (zs ys : List X) → Put x zs ys → Spread R ys
+    → Each (R x) zs × Spread R zs
 spread_put R turn x zs [] p h = absurd p
 spread_put R turn x zs (y ∷ ys) (inl p) h =
     (subst (λ v. Each (R v) zs) (sym p.0) (subst (Each (R y)) (sym p.1) h.0), subst (Spread R) (sym p.1) h.1)
@@ -310,16 +316,19 @@ permutation_same xs ys e = subst (λ l. IsPermutation xs l) e (IsPermutation-ref
 
 pub permutation_exchange : {X : Type 0} (xs ys zs : List X) → IsPermutation (xs ++ (ys ++ zs)) (ys ++ (xs ++ zs))
 permutation_exchange xs ys zs =
-    subst₂ (λ l r. IsPermutation l r) (append_assoc xs ys zs) (append_assoc ys xs zs) (IsPermutation-append_left zs (xs ++ ys) (ys ++ xs) (IsPermutation-append_comm xs ys))
+    subst₂ (λ l r. IsPermutation l r) (append_assoc xs ys zs) (append_assoc ys xs zs) (IsPermutation-append_left zs (xs ++ ys) (ys ++ xs)
+    (IsPermutation-append_comm xs ys))
 
 -- (xs ys) (zs ws) is (xs zs) (ys ws)
 pub permutation_crossed : {X : Type 0} (xs ys zs ws : List X) → IsPermutation ((xs ++ ys) ++ (zs ++ ws)) ((xs ++ zs) ++ (ys ++ ws))
 permutation_crossed xs ys zs ws =
-    subst₂ (λ l r. IsPermutation l r) (sym (append_assoc xs ys (zs ++ ws))) (sym (append_assoc xs zs (ys ++ ws))) (IsPermutation-append_right xs (ys ++ (zs ++ ws)) (zs ++ (ys ++ ws)) (permutation_exchange ys zs ws))
+    subst₂ (λ l r. IsPermutation l r) (sym (append_assoc xs ys (zs ++ ws))) (sym (append_assoc xs zs (ys ++ ws)))
+    (IsPermutation-append_right xs (ys ++ (zs ++ ws)) (zs ++ (ys ++ ws)) (permutation_exchange ys zs ws))
 
 -- one of a list, and the others
 pub one_out : {X : Type 0} (xs : List X) (x : X) → Contains xs x → (rest : List X) × IsPermutation xs (x ∷ rest)
-one_out xs x c = let (rest, put) = within_from x xs c in (rest, perm_to xs (x ∷ rest) (perm_add x xs (x ∷ rest) rest rest (perm_refl rest) put (put_first x rest)))
+one_out xs x c = let (rest, put) = within_from x xs c
+    in (rest, perm_to xs (x ∷ rest) (perm_add x xs (x ∷ rest) rest rest (perm_refl rest) put (put_first x rest)))
 
 -- what is at a place is one of the list's elements
 pub get_within : {X : Type 0} (xs : List X) (i : ℕ) (x : X) → slice_get xs i ≡ Some x → Within x xs

@@ -16,12 +16,14 @@ get_none (x ∷ xs) (suc i) e =
     omega (arith, below)
 
 -- what is in two lists, one after the other, is in one of them
-pub get_append_cases : {X : Type 0} (xs ys : List X) (i : ℕ) (y : X) → slice_get (xs ++ ys) i ≡ Some y → (slice_get xs i ≡ Some y) ⊎ ((j : ℕ) × (i ≡ length xs + j) × (slice_get ys j ≡ Some y))
+pub get_append_cases : {X : Type 0} (xs ys : List X) (i : ℕ) (y : X) → slice_get (xs ++ ys) i ≡ Some y
+    → (slice_get xs i ≡ Some y) ⊎ ((j : ℕ) × (i ≡ length xs + j) × (slice_get ys j ≡ Some y))
 get_append_cases [] ys i y e = inr (i, omega arith, e)
 get_append_cases (x ∷ xs) ys zero y e = inl e
 get_append_cases (x ∷ xs) ys (suc i) y e = shift (get_append_cases xs ys i y e)
   where
-    shift : (slice_get xs i ≡ Some y) ⊎ ((j : ℕ) × (i ≡ length xs + j) × (slice_get ys j ≡ Some y)) → (slice_get xs i ≡ Some y) ⊎ ((j : ℕ) × (suc i ≡ length (x ∷ xs) + j) × (slice_get ys j ≡ Some y))
+    shift : (slice_get xs i ≡ Some y) ⊎ ((j : ℕ) × (i ≡ length xs + j) × (slice_get ys j ≡ Some y))
+        → (slice_get xs i ≡ Some y) ⊎ ((j : ℕ) × (suc i ≡ length (x ∷ xs) + j) × (slice_get ys j ≡ Some y))
     shift (inl h) = inl h
     shift (inr (j, h, g)) = inr (j, omega (arith, h), g)
 

@@ -1,12 +1,14 @@
 -- The numbers of lawful code leave room for sums.
-use Rattle.std.proofs.Common.{◌≡◌, ℕ, zero, suc, ◌+◌, ◌-◌, ◌*◌, ◌^◌, ◌<◌, ◌≤◌, Bool, true, false, nat_lt, if◌then◌else◌, List, [], ◌∷◌, length, map, take, sum, Option, Some, None, refl, arith, All}
+use Rattle.std.proofs.Common.{◌≡◌, ℕ, zero, suc, ◌+◌, ◌-◌, ◌*◌, ◌^◌, ◌<◌, ◌≤◌, Bool, true, false, nat_lt, if◌then◌else◌, List, [], ◌∷◌, length, map}
+use Rattle.std.proofs.Common.{take, sum, Option, Some, None, refl, arith, All}
 use Rattle.std.specs.Prelude.{slice_get, slice_index_or, IfSome, option_to_list}
 use Rattle.std.proofs.lemmas.Bool.{ltb-true}
 use Rattle.std.proofs.lemmas.List.Elements.{All-head, All-tail}
 use Rattle.std.proofs.lemmas.List.Sums.{sum_by-cons, sum_by-take-le}
 use Rattle.semantics.specs.declared.program.Dest.{Dest}
 use Rattle.semantics.specs.declared.program.Op.{Op}
-use Rattle.semantics.specs.declared.program.Op.TheVariants.{Apply1, Apply2, Apply2Right, Apply2Left, Lit, Copy, Sync, Switch, Fetch, Store, Frame, Link, Send, Return, Ask, Open, Take, Give, Drain, Release}
+use Rattle.semantics.specs.declared.program.Op.TheVariants.{Apply1, Apply2, Apply2Right, Apply2Left, Lit, Copy, Sync, Switch, Fetch, Store, Frame}
+use Rattle.semantics.specs.declared.program.Op.TheVariants.{Link, Send, Return, Ask, Open, Take, Give, Drain, Release}
 use Rattle.semantics.specs.Program.{Instr, CodeBlock, Code, first_of, instr_from, instr_at}
 use Rattle.semantics.specs.Rule.{slot_of, array_base, array_len}
 use Rattle.semantics.specs.Bytes.{IsCode, IsCodeBlock, IsInstr, IsSlot, IsDest}
@@ -68,7 +70,8 @@ pub some_width : (bs : List CodeBlock) → 1 ≤ widest bs
 some_width [] = omega arith
 some_width (b ∷ bs) = let rest = some_width bs in omega arith
 
-near_dest : (b : CodeBlock) (n : ℕ) (o : Option Dest) → length b.instrs ≤ 32768 → All (IsDest b n) (option_to_list o) → IfSome o (λ (d : Dest). d.ahead < 2 ^ 30)
+near_dest : (b : CodeBlock) (n : ℕ) (o : Option Dest) → length b.instrs ≤ 32768 → All (IsDest b n) (option_to_list o)
+    → IfSome o (λ (d : Dest). d.ahead < 2 ^ 30)
 near_dest b n None size all = tt
 near_dest b n (Some d) size all = let is : IsDest b n d = All-head (IsDest b n) d [] all in let inside = is.inside in omega arith
 
@@ -86,7 +89,8 @@ short v c ip i code h =
       second = near_dest f.block f.place (dest_in i.second) size is.seconds;
     }
 
-few_from : (v : ℕ) (c : Code) (bs : List CodeBlock) (k : ℕ) → All (IsCodeBlock v c) bs → sum (map (λ (x : CodeBlock). length x.instrs) (take k bs)) ≤ 32768 * length bs
+few_from : (v : ℕ) (c : Code) (bs : List CodeBlock) (k : ℕ) → All (IsCodeBlock v c) bs → sum (map (λ (x : CodeBlock). length x.instrs) (take k bs)) ≤
+    32768 * length bs
 few_from v c [] zero all = omega arith
 few_from v c [] (suc k) all = omega arith
 few_from v c (b ∷ bs) zero all = omega arith

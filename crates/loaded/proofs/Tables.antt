@@ -1,5 +1,6 @@
 -- The tables by their numbers.
-use Rattle.std.proofs.Common.{◌≡◌, ℕ, zero, suc, ◌+◌, ◌<◌, ◌≤◌, List, [], ◌∷◌, length, map, take, sum, Option, Some, None, refl, sym, ap, subst, ◌∙◌, arith, max}
+use Rattle.std.proofs.Common.{◌≡◌, ℕ, zero, suc, ◌+◌, ◌<◌, ◌≤◌, List, [], ◌∷◌, length, map, take, sum, Option, Some, None, refl, sym, ap, subst}
+use Rattle.std.proofs.Common.{◌∙◌, arith, max}
 use Rattle.std.specs.Prelude.{slice_get, slice_index_or, sum_by}
 use Rattle.std.specs.Option.{option_map}
 use Rattle.std.proofs.lemmas.List.{take_all, get_or_past}
@@ -35,18 +36,21 @@ count_entries first [] = refl
 count_entries first (b ∷ bs) = ap (λ n. suc n) (count_entries (first + length b.instrs) bs)
 
 -- the entry of a block that is there
-pub entry_found : (p : Program) (xs table : List ℕ) (k e : ℕ) → xs ≡ table → table ≡ entries_in 0 p.blocks → k < length xs → e ≡ slice_index_or xs k e → e ≡ first_of p k
+pub entry_found : (p : Program) (xs table : List ℕ) (k e : ℕ) → xs ≡ table → table ≡ entries_in 0 p.blocks → k < length xs → e ≡ slice_index_or xs k e
+    → e ≡ first_of p k
 entry_found p xs table k e same parsed low is =
     entry_there p k e (subst (λ (ys : List ℕ). slice_get ys k ≡ Some e) (same ∙ parsed) (slice_get-get_or xs k e low ∙ ap (λ n. Some n) (sym is)))
 
 -- beyond the last block, all instructions are before
-pub entry_beyond : (p : Program) (xs table : List ℕ) (k all : ℕ) → xs ≡ table → table ≡ entries_in 0 p.blocks → all ≡ first_of p (length p.blocks) → length xs ≤ k → all ≡ first_of p k
+pub entry_beyond : (p : Program) (xs table : List ℕ) (k all : ℕ) → xs ≡ table → table ≡ entries_in 0 p.blocks → all ≡ first_of p (length p.blocks)
+    → length xs ≤ k → all ≡ first_of p k
 entry_beyond p xs table k all same parsed total long =
     let count = count_entries 0 p.blocks in
     let long_table = ap (λ (ys : List ℕ). length ys) (same ∙ parsed) in
     total ∙ ap (λ bs. sum (map size bs)) (take_all (length p.blocks) p.blocks (omega arith) ∙ sym (take_all k p.blocks (omega arith)))
 
-get_entry : (first : ℕ) (bs : List CodeBlock) (k : ℕ) (b : CodeBlock) → slice_get bs k ≡ Some b → slice_get (entries_in first bs) k ≡ Some (first + sum_by size (take k bs))
+get_entry : (first : ℕ) (bs : List CodeBlock) (k : ℕ) (b : CodeBlock) → slice_get bs k ≡ Some b → slice_get (entries_in first bs) k
+    ≡ Some (first + sum_by size (take k bs))
 get_entry first [] k b h = cc
 get_entry first (c ∷ bs) zero b h = let none : first ≡ first + sum_by size [] = omega arith in ap (λ n. Some n) none
 get_entry first (c ∷ bs) (suc k) b h =
@@ -55,10 +59,12 @@ get_entry first (c ∷ bs) (suc k) b h =
     get_entry (first + length c.instrs) bs k b h ∙ ap (λ n. Some n) same
 
 -- what an object says of a block's entry is in the table
-pub parsed_entry : (p : Program) (k e : ℕ) → Some e ≡ option_map (λ (b : CodeBlock). first_of p k) (slice_get p.blocks k) → slice_get (entries_in 0 p.blocks) k ≡ Some e
+pub parsed_entry : (p : Program) (k e : ℕ) → Some e ≡ option_map (λ (b : CodeBlock). first_of p k) (slice_get p.blocks k)
+    → slice_get (entries_in 0 p.blocks) k ≡ Some e
 parsed_entry p k e h = by (slice_get p.blocks k) refl h
   where
-    by : (o : Option CodeBlock) → slice_get p.blocks k ≡ o → Some e ≡ option_map (λ (b : CodeBlock). first_of p k) o → slice_get (entries_in 0 p.blocks) k ≡ Some e
+    by : (o : Option CodeBlock) → slice_get p.blocks k ≡ o → Some e ≡ option_map (λ (b : CodeBlock). first_of p k) o
+        → slice_get (entries_in 0 p.blocks) k ≡ Some e
     by None is g = cc
     by (Some b) is g =
         let first : e ≡ first_of p k = cc in
@@ -67,7 +73,8 @@ parsed_entry p k e h = by (slice_get p.blocks k) refl h
         get_entry 0 p.blocks k b is ∙ ap (λ n. Some n) same
 
 -- ARRAYS
-array_from : (base : ℕ) (ns : List ℕ) (k : ℕ) (a : Array) → slice_get (arrays_in base ns) k ≡ Some a → (a.base ≡ base + sum (take k ns)) × (a.len ≡ slice_index_or ns k 0)
+array_from : (base : ℕ) (ns : List ℕ) (k : ℕ) (a : Array) → slice_get (arrays_in base ns) k ≡ Some a → (a.base ≡ base + sum (take k ns))
+    × (a.len ≡ slice_index_or ns k 0)
 array_from base [] k a h = cc
 array_from base (n ∷ ns) zero a h =
     let same : record { base = base; len = n } ≡ a = cc in
@@ -79,10 +86,12 @@ array_from base (n ∷ ns) (suc k) a h =
     let more = sum_by-cons (λ x. x) n (take k ns) in
     (omega (arith, later.0), later.1)
 
-pub array_found : (p : Program) (xs table : List Array) (k : ℕ) (a : Array) → xs ≡ table → table ≡ arrays_in 0 p.arrays → k < length xs → a ≡ slice_index_or xs k a
+pub array_found : (p : Program) (xs table : List Array) (k : ℕ) (a : Array) → xs ≡ table → table ≡ arrays_in 0 p.arrays → k < length xs → a
+    ≡ slice_index_or xs k a
     → (a.base ≡ array_base p k) × (a.len ≡ array_len p k)
 array_found p xs table k a same parsed low is =
-    let t = array_from 0 p.arrays k a (subst (λ (ys : List Array). slice_get ys k ≡ Some a) (same ∙ parsed) (slice_get-get_or xs k a low ∙ ap (λ n. Some n) (sym is))) in
+    let t = array_from 0 p.arrays k a (subst (λ (ys : List Array). slice_get ys k ≡ Some a) (same ∙ parsed) (slice_get-get_or xs k a low
+    ∙ ap (λ n. Some n) (sym is))) in
     (omega (arith, t.0), t.1)
 
 count_arrays : (base : ℕ) (ns : List ℕ) → length (arrays_in base ns) ≡ length ns
@@ -96,10 +105,12 @@ array_beyond p xs table k cells same parsed total long =
     let long_table = ap (λ (ys : List Array). length ys) (same ∙ parsed) in
     (total ∙ ap sum (sym (take_all k p.arrays (omega arith))), sym (get_or_past p.arrays k 0 (omega arith)))
 
-pub parsed_array : (p : Program) (base k n : ℕ) → slice_get p.arrays k ≡ Some n → base ≡ sum (take k p.arrays) → slice_get (arrays_in 0 p.arrays) k ≡ Some (record { base = base; len = n })
+pub parsed_array : (p : Program) (base k n : ℕ) → slice_get p.arrays k ≡ Some n → base ≡ sum (take k p.arrays) → slice_get (arrays_in 0 p.arrays) k
+    ≡ Some (record { base = base; len = n })
 parsed_array p base k n h is = from 0 p.arrays k (omega arith) h
   where
-    from : (at : ℕ) (ns : List ℕ) (j : ℕ) → base ≡ at + sum (take j ns) → slice_get ns j ≡ Some n → slice_get (arrays_in at ns) j ≡ Some (record { base = base; len = n })
+    from : (at : ℕ) (ns : List ℕ) (j : ℕ) → base ≡ at + sum (take j ns) → slice_get ns j ≡ Some n → slice_get (arrays_in at ns) j
+        ≡ Some (record { base = base; len = n })
     from at [] j e g = cc
     from at (m ∷ ns) zero e g =
         let len : m ≡ n = cc in
@@ -133,7 +144,8 @@ widest_next bs k b h = from bs k h ∙ ap (λ j. widest (take j bs)) (let up : s
     from (c ∷ cs) zero g = let same : c ≡ b = cc in let s = ap (λ (x : CodeBlock). x.slots) same in omega arith
     from (c ∷ cs) (suc j) g = let later = from cs j g in omega arith
 
-pub parsed_widest : (bs : List CodeBlock) (k first : ℕ) (v : BlockView) → Some v ≡ option_map (block_shown first) (slice_get bs k) → max (widest (take k bs)) v.slots ≡ widest (take (k + 1) bs)
+pub parsed_widest : (bs : List CodeBlock) (k first : ℕ) (v : BlockView) → Some v ≡ option_map (block_shown first) (slice_get bs k)
+    → max (widest (take k bs)) v.slots ≡ widest (take (k + 1) bs)
 parsed_widest bs k first v h = by (slice_get bs k) refl h
   where
     by : (o : Option CodeBlock) → slice_get bs k ≡ o → Some v ≡ option_map (block_shown first) o → max (widest (take k bs)) v.slots ≡ widest (take (k + 1) bs)

@@ -72,7 +72,8 @@ pub after_operated : (s : State) (l : Lowered) (at : ℕ) (kind : Kind Name) (n 
 after_operated s l at kind n order e =
     let a : before_last n (s.sources ++ l.sources) ≡ s.sources = earlier_values s.sources l.sources n e in
     let b : last_of n (s.sources ++ l.sources) ≡ l.sources = last_values s.sources l.sources n e in
-    ap (λ (xs : List Source). after (record (after s l) { sources = xs }) (one_node s.site (spot_after s.spot l) at kind (order (last_of n (s.sources ++ l.sources))) 1)) a
+    ap (λ (xs : List Source). after (record (after s l) { sources = xs })
+    (one_node s.site (spot_after s.spot l) at kind (order (last_of n (s.sources ++ l.sources))) 1)) a
     ∙ ap (λ (ys : List Source). after (quiet s l) (one_node s.site (spot_after s.spot l) at kind (order ys) 1)) b
     ∙ after_ended s l at kind (order l.sources) 1
 

@@ -4,15 +4,18 @@ use Rattle.std.specs.Prelude.{is_some}
 use Rattle.operators.specs.declared.Unary.{Unary}
 use Rattle.operators.specs.declared.Unary.TheVariants.{Neg, Not}
 use Rattle.source.specs.declared.fault.FaultKind.TheVariants.{Arity, NoMain}
-use Rattle.source.specs.Tree.{Name, NameAt, Expr, Number, Named, Bracket, Prefix, Infix, Fetch, Store, Call, If, Loop, Exprs, One, More, Body, Let, Do, Give, Chain, Turn, Before, After, Function, Item, Cells, Defines, Program, names_of}
+use Rattle.source.specs.Tree.{Name, NameAt, Expr, Number, Named, Bracket, Prefix, Infix, Fetch, Store, Call, If, Loop, Exprs, One, More, Body, Let}
+use Rattle.source.specs.Tree.{Do, Give, Chain, Turn, Before, After, Function, Item, Cells, Defines, Program, names_of}
 use Rattle.source.specs.Spelled.{others}
 use Rattle.source.specs.Fits.{Fits, FitsAll, FitsBody, FitsTurn, FitsProgram, IsLeast}
 use Rattle.source.specs.First.{◌>>=◌, must}
 use Rattle.source.specs.Outside.{bare, bound_by}
-use Rattle.source.specs.Rules.{values, list_values, first_values, body_values, turn_values, function_in, written_or_one, and_first, functions_checked, function_checked, new_names, heads, no_items, main_name, checked}
+use Rattle.source.specs.Rules.{values, list_values, first_values, body_values, turn_values, function_in, written_or_one, and_first}
+use Rattle.source.specs.Rules.{functions_checked, function_checked, new_names, heads, no_items, main_name, checked}
 use Rattle.source.specs.Lowered.{results_of}
 use Rattle.source.proofs.Steps.{then_ok, ok_same}
-use Rattle.source.proofs.Kept.{known_name, in_prefix, in_infix, in_fetch, in_store, in_call, in_if, in_loop, in_more, in_first, in_firsts, in_let, in_do, in_before, in_after}
+use Rattle.source.proofs.Kept.{known_name, in_prefix, in_infix, in_fetch, in_store, in_call, in_if, in_loop, in_more, in_first, in_firsts, in_let}
+use Rattle.source.proofs.Kept.{in_do, in_before, in_after}
 use Rattle.lowering.specs.Counts.{many, list_many, body_many, Counted, ListCounted, BodyCounted, TurnCounted, ItemsCounted}
 
 -- an expression with so many values
@@ -67,7 +70,8 @@ mutual
       let k = in_more p scope e es n h in let a = has p scope e k.0 f.0 k.2 in let b = has_all p scope es k.1 f.1 k.3 in
       ((a.0, b.0), ap (λ (m : ℕ). m + list_many p es) a.1 ∙ ap (λ (m : ℕ). k.0 + m) b.1 ∙ k.4)
 
-  pub has_firsts : (p : Program) (scope before : List Name) (xs : List NameAt) (es : Exprs) → FitsAll es → first_values p scope before xs es ≡ Ok tt → ListCounted p es
+  pub has_firsts : (p : Program) (scope before : List Name) (xs : List NameAt) (es : Exprs) → FitsAll es → first_values p scope before xs es ≡ Ok tt
+      → ListCounted p es
   has_firsts p scope before xs (One e) f h = (has p scope e 1 f (in_first p scope before xs e h).values).0
   has_firsts p scope before xs (More e es) f h =
       let k = in_firsts p scope before xs e es h in
@@ -94,7 +98,8 @@ items_counted p [] fits h = tt
 items_counted p (Cells x len ∷ items) fits h = items_counted p items fits.1 h
 items_counted p (Defines f ∷ items) fits h =
     let s = then_ok (function_checked p f) (λ good. functions_checked p items) tt h in
-    let t = then_ok (new_names p [] f.params) (λ new. body_values p (bare f.params) f.body >>= (λ n. must (n == written_or_one f.results) Arity f.body_at)) tt s.1 in
+    let t = then_ok (new_names p [] f.params) (λ new. body_values p (bare f.params) f.body >>= (λ n. must (n == written_or_one f.results) Arity
+    f.body_at)) tt s.1 in
     let u = then_ok (body_values p (bare f.params) f.body) (λ n. must (n == written_or_one f.results) Arity f.body_at) tt t.2 in
     ((has_body p (bare f.params) false f.body u.0 fits.0.2 u.1).0, items_counted p items fits.1 s.2)
 

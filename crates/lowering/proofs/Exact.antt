@@ -31,7 +31,8 @@ pub blocks_exact : (names : List Name) (ws : List (Word ℕ)) (p : Program) → 
     → gathered_blocks names ws ≡ named_blocks p p
 blocks_exact names ws p c i =
     ap (λ s. s.done) (same_run p names (gathered_table names ws)
-    (λ n h. same_results names ws i.words.distinct i.words.known n h ∙ ap (λ vs. gathered_results vs (name_of names n)) i.words.words ∙ results_are_gathered p (name_of names n))
+    (λ n h. same_results names ws i.words.distinct i.words.known n h ∙ ap (λ vs. gathered_results vs (name_of names n)) i.words.words
+    ∙ results_are_gathered p (name_of names n))
     ws (between (gathered_plans (names_gathered names ws)) []) i.words.known)
     ∙ ap (λ vs. (run p (between (gathered_plans vs) []) vs).done) i.words.words
     ∙ ap (λ s. s.done) (machine_lowers p 0 i.fits (c.checked p 0 i))

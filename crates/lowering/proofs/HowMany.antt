@@ -1,7 +1,8 @@
 -- A part is lowered to a source for each of its values.
 use Rattle.std.proofs.Common.{◌≡◌, ℕ, suc, Bool, true, false, List, [], ◌∷◌, length, refl, sym, ◌∙◌, ap, arith, length-append}
 use Rattle.semantics.specs.declared.graph.Source.{Source}
-use Rattle.source.specs.Tree.{NameAt, Expr, Number, Named, Bracket, Prefix, Infix, Fetch, Store, Call, If, Loop, Exprs, One, More, Body, Let, Do, Give, Chain, Program, names_of}
+use Rattle.source.specs.Tree.{NameAt, Expr, Number, Named, Bracket, Prefix, Infix, Fetch, Store, Call, If, Loop, Exprs, One, More, Body, Let, Do}
+use Rattle.source.specs.Tree.{Give, Chain, Program, names_of}
 use Rattle.source.specs.Outside.{bare, outside_body}
 use Rattle.source.specs.Lowered.{Lowered, Site, Spot, Scope, lower, lower_list, lower_body, merges, spot_after, let_scoped, arm, first_of, next_spot}
 use Rattle.source.proofs.CountedSources.{ports_length, inputs_count, prefixed_one}

@@ -51,7 +51,8 @@ chain_says p e ih s ps = (s.scope, and_then p _ _ _ (words e) (word.Chain ∷ []
 
 -- the targets of a `let`
 targets_say : (p : Program) (s : State) (ts targets : List Target) (fs : List Frame)
-    → run p (record s { frames = Targets ts ∷ fs; number = false }) (map target_word targets) ≡ record s { frames = Targets (ts ++ targets) ∷ fs; number = false }
+    → run p (record s { frames = Targets ts ∷ fs; number = false }) (map target_word targets)
+    ≡ record s { frames = Targets (ts ++ targets) ∷ fs; number = false }
 targets_say p s ts [] fs = ap (λ (us : List Target). record s { frames = Targets us ∷ fs; number = false }) (sym (append-nil ts))
 targets_say p s ts (Drop ∷ targets) fs = targets_say p s (ts ++ Drop ∷ []) targets fs
     ∙ ap (λ (us : List Target). record s { frames = Targets us ∷ fs; number = false }) (append_assoc ts (Drop ∷ []) targets)

@@ -1,5 +1,6 @@
 -- One node more.
-use Rattle.std.proofs.Common.{min, ◌≡◌, ℕ, zero, suc, ◌+◌, ◌<◌, ◌≤◌, Bool, ◌⊎◌, inl, inr, get_or, drop, map, add-one, List, [], ◌∷◌, ◌++◌, length, refl, sym, ◌∙◌, ap, arith, length-append, append-nil, append_assoc, add-zero}
+use Rattle.std.proofs.Common.{min, ◌≡◌, ℕ, zero, suc, ◌+◌, ◌<◌, ◌≤◌, Bool, ◌⊎◌, inl, inr, get_or, drop, map, add-one, List, [], ◌∷◌, ◌++◌, length}
+use Rattle.std.proofs.Common.{refl, sym, ◌∙◌, ap, arith, length-append, append-nil, append_assoc, add-zero}
 use Rattle.std.proofs.Math.Seq.{drop-cons}
 use Rattle.std.proofs.lemmas.List.{drop_all}
 use Rattle.semantics.specs.declared.graph.Region.{Region}
@@ -8,7 +9,8 @@ use Rattle.semantics.specs.declared.graph.Source.{Source}
 use Rattle.semantics.specs.declared.graph.Kind.{Kind}
 use Rattle.semantics.specs.declared.graph.Kind.TheVariants as node
 use Rattle.source.specs.Tree.{Name, NameAt, Target, Bind, Drop}
-use Rattle.source.specs.Lowered.{Made, Site, made, ports_from, inputs_from, port, literal, only, Scope, scoped, let_scoped, merges, entered_names, arm_site, first_of, or_predicate, source_in, turn_scope}
+use Rattle.source.specs.Lowered.{Made, Site, made, ports_from, inputs_from, port, literal, only, Scope, scoped, let_scoped, merges, entered_names}
+use Rattle.source.specs.Lowered.{arm_site, first_of, or_predicate, source_in, turn_scope}
 use Rattle.lowering.specs.State.{Arms, State, after}
 use Rattle.lowering.specs.Operators.{one_node, with_node, with_sources}
 use Rattle.lowering.specs.Conditionals.{with_all, with_merges, entered_nodes, entered, enters_of, with_enters}
@@ -112,7 +114,8 @@ pub merge_step : (s : State) (at cond : ℕ) (ls rs : List Source) (i : ℕ) (a 
     → with_merges (with_node s at (node.Merge cond) (get_or ls i a ∷ get_or rs i b ∷ [])) (merges s.site at cond (drop (i + 1) ls) (drop (i + 1) rs))
     ≡ with_merges s (merges s.site at cond (drop i ls) (drop i rs))
 merge_step s at cond ls rs i a b h k =
-    ap (λ (j : ℕ). with_merges (with_node s at (node.Merge cond) (get_or ls i a ∷ get_or rs i b ∷ [])) (merges s.site at cond (drop j ls) (drop j rs))) (add-one i)
+    ap (λ (j : ℕ). with_merges (with_node s at (node.Merge cond) (get_or ls i a ∷ get_or rs i b ∷ []))
+    (merges s.site at cond (drop j ls) (drop j rs))) (add-one i)
     ∙ one_merge s at (node.Merge cond) (get_or ls i a ∷ get_or rs i b ∷ []) (merges s.site at cond (drop (suc i) ls) (drop (suc i) rs))
     ∙ sym (ap (λ (xs : List Source). with_merges s (merges s.site at cond xs (drop i rs))) (drop-cons ls i a h)
     ∙ ap (λ (ys : List Source). with_merges s (merges s.site at cond (get_or ls i a ∷ drop (suc i) ls) ys)) (drop-cons rs i b k))
@@ -135,14 +138,16 @@ merges_length site at cond (s ∷ ls) (r ∷ rs) = omega (arith, merges_length s
 
 -- enters one after another
 pub enter_step : (s : State) (at : ℕ) (ss : List Source) (i : ℕ) (a : Source) → i < length ss
-    → with_merges (with_node s at node.Enter (get_or ss i a ∷ [])) (entered_nodes s.site at (drop (i + 1) ss)) ≡ with_merges s (entered_nodes s.site at (drop i ss))
+    → with_merges (with_node s at node.Enter (get_or ss i a ∷ [])) (entered_nodes s.site at (drop (i + 1) ss))
+    ≡ with_merges s (entered_nodes s.site at (drop i ss))
 enter_step s at ss i a h =
     ap (λ (j : ℕ). with_merges (with_node s at node.Enter (get_or ss i a ∷ [])) (entered_nodes s.site at (drop j ss))) (add-one i)
     ∙ one_merge s at node.Enter (get_or ss i a ∷ []) (entered_nodes s.site at (drop (suc i) ss))
     ∙ sym (ap (λ (xs : List Source). with_merges s (entered_nodes s.site at xs)) (drop-cons ss i a h))
 
 pub all_enters : (s : State) (at : ℕ) (scope : Scope) (predicate : Source) (xs : List Name)
-    → with_merges s (entered_nodes s.site at (or_predicate predicate (map (source_in scope) xs))) ≡ with_all s (entered_names s.site s.spot at scope predicate xs)
+    → with_merges s (entered_nodes s.site at (or_predicate predicate (map (source_in scope) xs)))
+    ≡ with_all s (entered_names s.site s.spot at scope predicate xs)
 all_enters s at scope predicate xs = alike s _ _ _ _ _ _ _ _ _ _ refl (sym (add-zero s.spot.loops)) refl refl refl
 
 -- an arm that takes what is given makes its enters
@@ -167,7 +172,8 @@ arm_enters s t n arms brms side region at xs taken p q r e h =
 pub arm_values : (s t : State) (arms : Arms) (side : Bool) (at : ℕ) (xs : List Name) (taken vs : List Source) (n : ℕ) → t ≡ s
     → vs ≡ inputs_from t.spot.next n → n ≡ length taken → taken ≡ or_predicate (first_of arms.predicate) (map (source_in arms.scope) xs)
     → vs ≡ (enters_of s arms side at xs).sources
-arm_values s t arms side at xs taken vs n p e k h = e ∙ (λ i. inputs_from (p i).spot.next (k i)) ∙ ap (λ (ss : List Source). inputs_from s.spot.next (length ss)) h
+arm_values s t arms side at xs taken vs n p e k h = e ∙ (λ i. inputs_from (p i).spot.next (k i))
+    ∙ ap (λ (ss : List Source). inputs_from s.spot.next (length ss)) h
 
 -- an arm begins, where its enters are made
 pub arm_begins : (s t : State) (arms : Arms) (side : Bool) (at : ℕ) (xs : List Name) (vs none : List Source) (scope : Scope)
@@ -184,7 +190,8 @@ turn_inputs xs outs = ap (λ (n : ℕ). scoped (xs ++ outs) (inputs_from 0 n) []
 
 -- values alone
 pub only_more : (s : State) (ss : List Source) → with_sources s ss ≡ after s (only ss)
-only_more s ss = alike s _ _ _ _ _ _ _ _ _ _ (sym (add-zero s.spot.next)) (sym (add-zero s.spot.loops)) refl (sym (append-nil s.nodes)) (sym (append-nil s.blocks))
+only_more s ss = alike s _ _ _ _ _ _ _ _ _ _ (sym (add-zero s.spot.next)) (sym (add-zero s.spot.loops)) refl (sym (append-nil s.nodes))
+    (sym (append-nil s.blocks))
 
 -- what an arm takes where it uses a name
 pub some_taken : (f : Name → Source) (predicate : Source) (xs : List Name) → 0 < length xs → or_predicate predicate (map f xs) ≡ map f xs

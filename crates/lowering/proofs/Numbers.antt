@@ -120,7 +120,8 @@ function_gathers names t u x r s d h e o = record {
 
 read_gathers : (names : List Name) (w : Word ℕ) (k : Numbering) (h : Heads) → Distinct names → All (λ n. n < length names) (numbers_of w) → Alike k h
     → Gathers names k.table h.table → Gathers names (kept_read names w k).table (head_read (named names w) h).table
-read_gathers names (word.Function at x) k h d q a o = function_gathers names k.table h.table x k.results h.results d (All-head (λ n. n < length names) x [] q) a.results o
+read_gathers names (word.Function at x) k h d q a o = function_gathers names k.table h.table x k.results h.results d
+    (All-head (λ n. n < length names) x [] q) a.results o
 read_gathers names (word.Array at x) k h d q a o = o
 read_gathers names (word.Length at n) k h d q a o = o
 read_gathers names (word.Results at n) k h d q a o = o

@@ -38,14 +38,18 @@ prefix_step p s at Neg (Number u n) one =
     (last_of_nodes at s.nodes (made s.site u (node.Lit (signed n)) (s.site.trigger ∷ [])))
 prefix_step p s at Neg (Named u x) one = after_operated (noted false s) (lower p s.site s.spot s.scope (Named u x)) at (node.Apply1 Neg) 1 as_they_are one
 prefix_step p s at Neg (Bracket e) one = after_operated (noted false s) (lower p s.site s.spot s.scope (Bracket e)) at (node.Apply1 Neg) 1 as_they_are one
-prefix_step p s at Neg (Prefix u op e) one = after_operated (noted false s) (lower p s.site s.spot s.scope (Prefix u op e)) at (node.Apply1 Neg) 1 as_they_are one
-prefix_step p s at Neg (Infix u g l r) one = after_operated (noted false s) (lower p s.site s.spot s.scope (Infix u g l r)) at (node.Apply1 Neg) 1 as_they_are one
+prefix_step p s at Neg (Prefix u op e) one = after_operated (noted false s) (lower p s.site s.spot s.scope (Prefix u op e)) at (node.Apply1 Neg) 1
+    as_they_are one
+prefix_step p s at Neg (Infix u g l r) one = after_operated (noted false s) (lower p s.site s.spot s.scope (Infix u g l r)) at (node.Apply1 Neg) 1
+    as_they_are one
 prefix_step p s at Neg (Fetch u a e) one = after_operated (noted false s) (lower p s.site s.spot s.scope (Fetch u a e)) at (node.Apply1 Neg) 1 as_they_are one
-prefix_step p s at Neg (Store u a e d) one = after_operated (noted false s) (lower p s.site s.spot s.scope (Store u a e d)) at (node.Apply1 Neg) 1 as_they_are one
+prefix_step p s at Neg (Store u a e d) one = after_operated (noted false s) (lower p s.site s.spot s.scope (Store u a e d)) at (node.Apply1 Neg) 1
+    as_they_are one
 prefix_step p s at Neg (Call u strict f es) one =
     after_operated (noted false s) (lower p s.site s.spot s.scope (Call u strict f es)) at (node.Apply1 Neg) 1 as_they_are one
 prefix_step p s at Neg (If u q l r) one = after_operated (noted false s) (lower p s.site s.spot s.scope (If u q l r)) at (node.Apply1 Neg) 1 as_they_are one
-prefix_step p s at Neg (Loop u k es t) one = after_operated (noted false s) (lower p s.site s.spot s.scope (Loop u k es t)) at (node.Apply1 Neg) 1 as_they_are one
+prefix_step p s at Neg (Loop u k es t) one = after_operated (noted false s) (lower p s.site s.spot s.scope (Loop u k es t)) at (node.Apply1 Neg) 1
+    as_they_are one
 
 pub prefix_says : (p : Program) (at : ℕ) (op : Unary) (e : Expr) → Says p e → Counted p e → many p e ≡ 1 → Says p (Prefix at op e)
 prefix_says p at op e ih c one s ps = and_then p _ _ _ (words e) (word.Prefix at op ∷ []) (ih s ps)

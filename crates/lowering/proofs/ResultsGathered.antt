@@ -3,7 +3,8 @@ use Rattle.std.proofs.Common.{◌≡◌, ℕ, Bool, true, false, List, [], ◌�
 use Rattle.std.specs.Prelude.{if◌then◌else◌}
 use Rattle.semantics.specs.Graph.{same_name}
 use Rattle.source.specs.declared.word.Word.TheVariants as word
-use Rattle.source.specs.Tree.{Name, NameAt, NumberAt, Target, Bind, Drop, Expr, Number, Named, Bracket, Prefix, Infix, Fetch, Store, Call, If, Loop, Exprs, One, More, Body, Let, Do, Give, Chain, Turn, Before, After, Function, Item, Cells, Defines, Program, names_of}
+use Rattle.source.specs.Tree.{Name, NameAt, NumberAt, Target, Bind, Drop, Expr, Number, Named, Bracket, Prefix, Infix, Fetch, Store, Call, If, Loop}
+use Rattle.source.specs.Tree.{Exprs, One, More, Body, Let, Do, Give, Chain, Turn, Before, After, Function, Item, Cells, Defines, Program, names_of}
 use Rattle.source.specs.Words.{Words, words, part_words, first_words, body_words, turn_words, target_word, start_words, item_words, program_words, result_words}
 use Rattle.source.specs.Spelled.{others}
 use Rattle.source.specs.Rules.{function_in, written_or_one}
@@ -42,9 +43,12 @@ mutual
       (both (word.Cell at a ∷ words e) (word.Index ∷ words d) (quiet e) (quiet d)) (λ h. refl)
   quiet (Call at strict f es) = both (word.Callee at f ∷ word.List ∷ part_words es) (word.Call at strict f ∷ []) (quiet_all es) (λ h. refl)
   quiet (If at p l r) = both (words p ++ word.Then ∷ body_words l ++ word.Else ∷ body_words r) (word.EndIf at ∷ [])
-      (both (words p ++ word.Then ∷ body_words l) (word.Else ∷ body_words r) (both (words p) (word.Then ∷ body_words l) (quiet p) (quiet_body l)) (quiet_body r)) (λ h. refl)
-  quiet (Loop at bound firsts turn) = both (word.Loop at ∷ word.Bound bound.at bound.number ∷ first_words (names_of turn) firsts ++ turn_words turn) (word.EndLoop at bound.number ∷ [])
-      (both (word.Loop at ∷ word.Bound bound.at bound.number ∷ first_words (names_of turn) firsts) (turn_words turn) (quiet_firsts (names_of turn) firsts) (quiet_turn turn)) (λ h. refl)
+      (both (words p ++ word.Then ∷ body_words l) (word.Else ∷ body_words r) (both (words p) (word.Then ∷ body_words l) (quiet p) (quiet_body l))
+      (quiet_body r)) (λ h. refl)
+  quiet (Loop at bound firsts turn) = both (word.Loop at ∷ word.Bound bound.at bound.number ∷ first_words (names_of turn) firsts ++ turn_words turn)
+      (word.EndLoop at bound.number ∷ [])
+      (both (word.Loop at ∷ word.Bound bound.at bound.number ∷ first_words (names_of turn) firsts) (turn_words turn)
+      (quiet_firsts (names_of turn) firsts) (quiet_turn turn)) (λ h. refl)
 
   quiet_all : (es : Exprs) → Quiet (part_words es)
   quiet_all (One e) = both (words e) (word.Part ∷ []) (quiet e) (λ h. refl)
@@ -52,7 +56,8 @@ mutual
 
   quiet_firsts : (xs : List NameAt) (es : Exprs) → Quiet (first_words xs es)
   quiet_firsts xs (One e) = both (start_words xs ++ words e) (word.First ∷ []) (both (start_words xs) (words e) (start_quiet xs) (quiet e)) (λ h. refl)
-  quiet_firsts xs (More e es) = both (start_words xs ++ words e) (word.First ∷ first_words (others xs) es) (both (start_words xs) (words e) (start_quiet xs) (quiet e))
+  quiet_firsts xs (More e es) = both (start_words xs ++ words e) (word.First ∷ first_words (others xs) es)
+      (both (start_words xs) (words e) (start_quiet xs) (quiet e))
       (quiet_firsts (others xs) es)
 
   quiet_body : (b : Body) → Quiet (body_words b)

@@ -1,10 +1,12 @@
 -- The scan over the words of a part finds its plans, and what it uses.
-use Rattle.std.proofs.Common.{◌≡◌, ℕ, Bool, true, false, not, ◌||◌, ◌&&◌, List, [], ◌∷◌, ◌++◌, Option, None, Some, map, filter, length, refl, sym, ◌∙◌, ap, arith, append_assoc, append-nil}
+use Rattle.std.proofs.Common.{◌≡◌, ℕ, Bool, true, false, not, ◌||◌, ◌&&◌, List, [], ◌∷◌, ◌++◌, Option, None, Some, map, filter, length, refl, sym}
+use Rattle.std.proofs.Common.{◌∙◌, ap, arith, append_assoc, append-nil}
 use Rattle.std.specs.Prelude.{if◌then◌else◌}
 use Rattle.semantics.specs.Graph.{same_name}
 use Rattle.source.specs.declared.word.Word.{Word}
 use Rattle.source.specs.declared.word.Word.TheVariants as word
-use Rattle.source.specs.Tree.{Name, NameAt, NumberAt, Target, Bind, Drop, Expr, Number, Named, Bracket, Prefix, Infix, Fetch, Store, Call, If, Loop, Exprs, One, More, Body, Let, Do, Give, Chain, Turn, Before, After, Function, Item, Cells, Defines, Program, names_of}
+use Rattle.source.specs.Tree.{Name, NameAt, NumberAt, Target, Bind, Drop, Expr, Number, Named, Bracket, Prefix, Infix, Fetch, Store, Call, If, Loop}
+use Rattle.source.specs.Tree.{Exprs, One, More, Body, Let, Do, Give, Chain, Turn, Before, After, Function, Item, Cells, Defines, Program, names_of}
 use Rattle.source.specs.Words.{Words, words, part_words, first_words, body_words, turn_words, target_word, item_words, program_words, result_words}
 use Rattle.source.specs.Fits.{count}
 use Rattle.source.specs.Outside.{without, is_in, bare, bound_by, uses, list_uses, body_uses, turn_uses, outside_body, outside_turn}
@@ -49,7 +51,8 @@ without_one_more : (x : Name) (xs ys : List Name) → without (x ∷ []) (withou
 without_one_more x xs ys = filter_twice _ _ _ (λ (y : Name). neither (same_name y x) (is_in y xs)) ys
 
 -- equal parts of a scan
-alike : (ps qs : List Plan) (us vs : List Name) (rest : List (List Name)) (at : List ℕ) → ps ≡ qs → us ≡ vs → scan_of ps (us ∷ rest) at ≡ scan_of qs (vs ∷ rest) at
+alike : (ps qs : List Plan) (us vs : List Name) (rest : List (List Name)) (at : List ℕ) → ps ≡ qs → us ≡ vs → scan_of ps (us ∷ rest) at
+    ≡ scan_of qs (vs ∷ rest) at
 alike ps qs us vs rest at e f = cc
 
 abbrev Scans : Words → List Plan → List Name → Type 0
@@ -96,7 +99,8 @@ let_scans : (at : ℕ) (targets : List Target) (es : Exprs) (b : Body) → Scans
     → ScansBody (Let at targets es b)
 let_scans at targets es b f g qs rest places =
     let later : List Plan = body_plans b ++ qs in
-    back _ (scan_of later ([] ∷ body_uses b ∷ rest) places) _ (word.Let at ∷ map target_word targets ++ word.List ∷ part_words es) (word.EndLet at ∷ body_words b)
+    back _ (scan_of later ([] ∷ body_uses b ∷ rest) places) _ (word.Let at ∷ map target_word targets ++ word.List ∷ part_words es) (word.EndLet at
+    ∷ body_words b)
     (ap (read (word.EndLet at)) (g qs rest places))
     (back _ (scan_of (list_plans es ++ later) (list_uses es ∷ body_uses b ∷ rest) places) _ (word.Let at ∷ map target_word targets) (word.List ∷ part_words es)
     (of_all (part_words es) (list_plans es) (list_uses es) f later (body_uses b ∷ rest) places)
@@ -148,7 +152,8 @@ more_first_scans : (x : NameAt) (xs : List NameAt) (e : Expr) (es : Exprs) → S
 more_first_scans x xs e es f g qs us vs rest at =
     ap (read (word.Start x.at x.name)) (back _ _ _ (words e) (word.First ∷ first_words xs es) (g qs us vs rest at)
     (f (list_plans es ++ qs) (list_uses es ++ us) (without (bare xs) vs ∷ rest) at))
-    ∙ ap (λ (ys : List Name). scan_of (plans e ++ (list_plans es ++ qs)) ((uses e ++ (list_uses es ++ us)) ∷ ys ∷ rest) at) (without_one_more x.name (bare xs) vs)
+    ∙ ap (λ (ys : List Name). scan_of (plans e ++ (list_plans es ++ qs)) ((uses e ++ (list_uses es ++ us)) ∷ ys ∷ rest) at)
+    (without_one_more x.name (bare xs) vs)
     ∙ alike _ _ _ _ (without (bare (x ∷ xs)) vs ∷ rest) at (sym (append_assoc (plans e) (list_plans es) qs)) (sym (append_assoc (uses e) (list_uses es) us))
 
 loop_scans : (at : ℕ) (bound : NumberAt) (firsts : Exprs) (turn : Turn) → ScansFirsts (names_of turn) firsts → ScansTurn turn
@@ -162,7 +167,8 @@ loop_scans at bound firsts turn f g same qs vs rest places =
     back z begun _ (word.Loop at ∷ word.Bound bound.at bound.number ∷ first_words xs firsts ++ turn_words turn) (word.EndLoop at bound.number ∷ []) refl
     (back begun _ _ (word.Loop at ∷ word.Bound bound.at bound.number ∷ first_words xs firsts) (turn_words turn) (g at qs (vs ∷ rest) places)
     (ap (read (word.Loop at)) (f later [] (inner_uses turn) (vs ∷ rest) (at ∷ places)
-    ∙ ap (λ (ys : List Name). scan_of (list_plans firsts ++ later) (ys ∷ without (bare xs) (inner_uses turn) ∷ vs ∷ rest) (at ∷ places)) (append-nil (list_uses firsts))
+    ∙ ap (λ (ys : List Name). scan_of (list_plans firsts ++ later) (ys ∷ without (bare xs) (inner_uses turn) ∷ vs ∷ rest) (at ∷ places))
+    (append-nil (list_uses firsts))
     ∙ ap (λ (ys : List Name). scan_of (list_plans firsts ++ later) (list_uses firsts ∷ ys ∷ vs ∷ rest) (at ∷ places)) (sym same))
     ∙ ap (λ (ps : List Plan). scan_of (plan at (outside_turn turn) ∷ ps) (((list_uses firsts ++ turn_uses turn) ++ vs) ∷ rest) places)
     (sym (append_assoc (list_plans firsts) (turn_plans at turn) qs))))
@@ -189,7 +195,8 @@ mutual
   scans p (Call at strict f es) c = behind (word.Call at strict f) (word.Callee at f ∷ word.List ∷ part_words es) (list_plans es) (list_uses es) (λ z. refl)
       (scans_all p es c)
   scans p (If at q l r) c = if_scans at q l r (scans p q c.0) (scans_body p l c.2) (scans_body p r c.3)
-  scans p (Loop at bound firsts turn) c = loop_scans at bound firsts turn (scans_firsts p (names_of turn) firsts c.0 c.1) (scans_turn p turn c.2) (turn_without turn)
+  scans p (Loop at bound firsts turn) c = loop_scans at bound firsts turn (scans_firsts p (names_of turn) firsts c.0 c.1) (scans_turn p turn c.2)
+      (turn_without turn)
 
   pub scans_all : (p : Program) (es : Exprs) → ListCounted p es → Scans (part_words es) (list_plans es) (list_uses es)
   scans_all p (One e) c = behind word.Part (words e) (plans e) (uses e) (λ z. refl) (scans p e c)
@@ -231,7 +238,8 @@ function_scans p f qs c =
     (back _ z z (head ++ result_words f.results) (word.Body f.body_at ∷ body_words f.body) (ap (read (word.Body f.body_at)) (scans_body p f.body c qs [] []))
     (back z z z head (result_words f.results) (results_scan z f.results) (ap (read (word.Function f.name.at f.name.name)) (params_scan z f.params))))
 
-pub program_scans : (p : Program) (items : List Item) → ItemsCounted p items → scanned (scan_of [] [] []) (program_words items) ≡ scan_of (program_plans items) [] []
+pub program_scans : (p : Program) (items : List Item) → ItemsCounted p items → scanned (scan_of [] [] []) (program_words items)
+    ≡ scan_of (program_plans items) [] []
 program_scans p [] c = refl
 program_scans p (Cells x len ∷ items) c = ap (read (word.Array x.at x.name)) (ap (read (word.Length len.at len.number)) (program_scans p items c))
 program_scans p (Defines f ∷ items) c = back _ (scan_of (program_plans items) [] []) _ (item_words (Defines f)) (program_words items)

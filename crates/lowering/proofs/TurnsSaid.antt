@@ -6,7 +6,9 @@ use Rattle.source.specs.declared.word.Word.TheVariants as word
 use Rattle.source.specs.Tree.{Name, NameAt, NumberAt, Expr, Loop, Exprs, Body, Turn, Before, After, Program, names_of}
 use Rattle.source.specs.Words.{words, body_words, first_words, turn_words}
 use Rattle.source.specs.Outside.{outside_body, outside_turn, bare}
-use Rattle.source.specs.Lowered.{Made, MadeBlock, Lowered, Spot, lower, lower_list, lower_body, lower_turn, spot_after, joined, arm_site, entered_names, first_of, merges, chosen, made, ports_from, source_in, loop_name, turn_block, turn_scope, turn_site, scoped, looped}
+use Rattle.source.specs.Lowered.{Made, MadeBlock, Lowered, Spot, lower, lower_list, lower_body, lower_turn, spot_after, joined, arm_site}
+use Rattle.source.specs.Lowered.{entered_names, first_of, merges, chosen, made, ports_from, source_in, loop_name, turn_block, turn_scope, turn_site}
+use Rattle.source.specs.Lowered.{scoped, looped}
 use Rattle.lowering.specs.Counts.{many, Counted}
 use Rattle.lowering.specs.Plans.{Plan, plan, plans, list_plans, body_plans, turn_plans}
 use Rattle.lowering.specs.State.{State, Begun, Arms, Frame, Firsts, Turned, Looping, Ending, after, planned, noted}
@@ -40,7 +42,8 @@ behind s b at bound fs ps t = shut s b at bound fs ps (s.spot.loops + 1 + length
 -- what a turn is lowered to, where its first values have been
 abbrev pub turn_of : Program → State → Begun → Turn → Lowered
 turn_of p s b turn =
-    lower_turn p s.site.function (record { next = length (bare b.names) + length b.outs; loops = s.spot.loops + 1 }) b.at (turn_scope (bare b.names) b.outs) turn
+    lower_turn p s.site.function (record { next = length (bare b.names) + length b.outs; loops = s.spot.loops + 1 }) b.at
+    (turn_scope (bare b.names) b.outs) turn
 
 abbrev pub SaysTurn : Program → Turn → Type 0
 SaysTurn p turn = (s : State) (at : ℕ) (outer : List Source) (outs : List Name) (fs : List Frame) (ps : List Plan)
@@ -78,7 +81,8 @@ before_says p xs q body ih counted one jh s at outer outs fs ps =
     let all : Lowered = joined c (chosen t.site k at c.sources a e) in (
       u,
       both_plans p (record s { frames = Firsts b ∷ fs }) _ (plans q) (plan at (outside_body body) ∷ body_plans body) ps (turn_words (Before xs q body))
-          (and_then p (record s { plans = plans q ++ (plan at (outside_body body) ∷ (body_plans body ++ ps)); frames = Firsts b ∷ fs }) _ _ (word.TestFirst ∷ words q) (word.While ∷ body_words body)
+          (and_then p (record s { plans = plans q ++ (plan at (outside_body body) ∷ (body_plans body ++ ps)); frames = Firsts b ∷ fs }) _ _
+          (word.TestFirst ∷ words q) (word.While ∷ body_words body)
           (ih t (plan at (outside_body body) ∷ (body_plans body ++ ps))) first.1),
       λ place bound. shut_alike s b place bound fs ps _ _ (((((c.nodes) ++ cond ∷ []) ++ a.nodes) ++ e.nodes) ++ ms) all.nodes _ all.sources _ all.blocks
           (omega (arith, length-append c.blocks (a.blocks ++ []), length-append a.blocks []))
@@ -100,7 +104,8 @@ after_says p xs q body ih jh s at outer outs fs ps =
     let c : Lowered = lower p u.site u.spot u.scope q in (
       noted (is_numeral q) (planned (after u c) ps),
       both_plans p (record s { frames = Firsts b ∷ fs }) _ (body_plans body) (plans q) ps (turn_words (After xs body q))
-          (and_then p (record s { plans = body_plans body ++ (plans q ++ ps); frames = Firsts b ∷ fs }) _ _ (word.BodyFirst ∷ body_words body) (word.Until ∷ words q) first.1 (ih u ps)),
+          (and_then p (record s { plans = body_plans body ++ (plans q ++ ps); frames = Firsts b ∷ fs }) _ _ (word.BodyFirst ∷ body_words body)
+          (word.Until ∷ words q) first.1 (ih u ps)),
       λ place bound. shut_alike s b place bound fs ps _ _ _ _ _ _ _ _ (omega (arith, length-append l.blocks c.blocks)) refl refl refl,
     )
 
@@ -120,8 +125,10 @@ loop_says p at bound firsts turn ih jh s ps =
     let w : MadeBlock = turn_block at (t.spot.loops + 1) xs outs v in
     let start : State = planned s (plan at outs ∷ (list_plans firsts ++ (turn_plans at turn ++ ps))) in
     both_plans p s _ (plan at outs ∷ list_plans firsts) (turn_plans at turn) ps (words (Loop at bound firsts turn))
-    (and_then p start rest.0 _ (word.Loop at ∷ word.Bound bound.at bound.number ∷ first_words (names_of turn) firsts ++ turn_words turn) (word.EndLoop at bound.number ∷ [])
-    (and_then p start (planned t (turn_plans at turn ++ ps)) _ (word.Loop at ∷ word.Bound bound.at bound.number ∷ first_words (names_of turn) firsts) (turn_words turn)
+    (and_then p start rest.0 _ (word.Loop at ∷ word.Bound bound.at bound.number ∷ first_words (names_of turn) firsts ++ turn_words turn)
+    (word.EndLoop at bound.number ∷ [])
+    (and_then p start (planned t (turn_plans at turn ++ ps)) _ (word.Loop at ∷ word.Bound bound.at bound.number ∷ first_words (names_of turn) firsts)
+    (turn_words turn)
     (ih (record s { sources = []; number = false }) begun s.frames (turn_plans at turn ++ ps)) rest.1)
     (rest.2 at bound.number ∙ alike (record s { plans = ps; number = false }) _ _ _ _ _ _ ((s.nodes ++ f.nodes) ++ m ∷ []) (s.nodes ++ all.nodes)
     ((s.blocks ++ f.blocks) ++ w ∷ v.blocks) (s.blocks ++ all.blocks)

@@ -1,7 +1,8 @@
 -- The machine on whole programs: over the words of a program, with its plans, it makes the program's blocks.
 use Rattle.std.proofs.Common.{◌≡◌, false, List, [], ◌∷◌, ◌++◌, Option, None, Some, length, map, refl, sym, ◌∙◌, ap, arith, append_assoc, append-nil}
 use Rattle.source.specs.declared.word.Word.TheVariants as word
-use Rattle.source.specs.Tree.{Name, NameAt, NumberAt, Expr, Number, Named, Bracket, Prefix, Infix, Fetch, Store, Call, If, Loop, Exprs, One, More, Body, Let, Do, Give, Chain, Turn, Before, After, Function, Item, Cells, Defines, Program, names_of}
+use Rattle.source.specs.Tree.{Name, NameAt, NumberAt, Expr, Number, Named, Bracket, Prefix, Infix, Fetch, Store, Call, If, Loop, Exprs, One, More}
+use Rattle.source.specs.Tree.{Body, Let, Do, Give, Chain, Turn, Before, After, Function, Item, Cells, Defines, Program, names_of}
 use Rattle.source.specs.Words.{Words, body_words, item_words, program_words, result_words}
 use Rattle.source.specs.Fits.{count}
 use Rattle.source.specs.Lowered.{MadeBlock, function_blocks, function_scope, turn_site}
@@ -88,6 +89,7 @@ items_say p [] ps done c = ap (between ps) (sym (append-nil done))
 items_say p (Cells x len ∷ items) ps done c = items_say p items ps done c
 items_say p (Defines f ∷ items) ps done c =
     both_plans p (between [] done) _ (body_plans f.body) (program_plans items) ps (program_words (Defines f ∷ items))
-    (and_then p (between (body_plans f.body ++ (program_plans items ++ ps)) done) _ _ (item_words (Defines f)) (program_words items) (function_says p f (program_plans items ++ ps) done c.0)
+    (and_then p (between (body_plans f.body ++ (program_plans items ++ ps)) done) _ _ (item_words (Defines f)) (program_words items)
+    (function_says p f (program_plans items ++ ps) done c.0)
     (items_say p items ps (done ++ of_function f.name.name (function_blocks p f)) c.1)
     ∙ ap (between ps) (append_assoc done (of_function f.name.name (function_blocks p f)) (named_blocks p items)))

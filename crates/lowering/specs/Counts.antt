@@ -1,7 +1,8 @@
 -- HOW MANY VALUES A PART HAS, whether or not it keeps the rules; and the parts in which each operand has one value, and each
 -- name of a loop a first value. Only these are lowered.
 use Rattle.std.specs.Prelude.{◌≡◌, ℕ, ◌+◌, List, [], ◌∷◌, length, ⊤}
-use Rattle.source.specs.Tree.{Expr, Number, Named, Bracket, Prefix, Infix, Fetch, Store, Call, If, Loop, Exprs, One, More, Body, Let, Do, Give, Chain, Turn, Before, After, Item, Cells, Defines, Program, names_of}
+use Rattle.source.specs.Tree.{Expr, Number, Named, Bracket, Prefix, Infix, Fetch, Store, Call, If, Loop, Exprs, One, More, Body, Let, Do, Give}
+use Rattle.source.specs.Tree.{Chain, Turn, Before, After, Item, Cells, Defines, Program, names_of}
 use Rattle.source.specs.Rules.{function_in}
 use Rattle.source.specs.Fits.{count}
 use Rattle.source.specs.Lowered.{results_of}

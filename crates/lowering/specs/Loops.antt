@@ -3,7 +3,8 @@ use Rattle.std.specs.Prelude.{ℕ, ◌+◌, false, List, [], ◌∷◌, ◌++◌
 use Rattle.semantics.specs.declared.graph.Kind.TheVariants as node
 use Rattle.source.specs.Tree.{NameAt}
 use Rattle.source.specs.Outside.{bare}
-use Rattle.source.specs.Lowered.{MadeBlock, Lowered, Site, spot_after, ports_from, source_in, scoped, made, entered_names, arm_site, first_of, loop_name, turn_site, turn_block, turn_scope}
+use Rattle.source.specs.Lowered.{MadeBlock, Lowered, Site, spot_after, ports_from, source_in, scoped, made, entered_names, arm_site, first_of}
+use Rattle.source.specs.Lowered.{loop_name, turn_site, turn_block, turn_scope}
 use Rattle.lowering.specs.Plans.{Plan}
 use Rattle.lowering.specs.State.{popped, Arms, Begun, Turning, State, Frame, Firsts, Turned, Ending, LoopEnd, InArm, InTest}
 use Rattle.lowering.specs.Innermost.{firsts_in, turn_in, loop_end_in}

@@ -3,7 +3,8 @@
 -- a loop at its word `Loop`, those of the arms of an `if` at `Then` and `Else`, that of the arm of a loop with its test first at
 -- `While`.
 use Rattle.std.specs.Prelude.{ℕ, List, [], ◌∷◌, ◌++◌, flat_map}
-use Rattle.source.specs.Tree.{Name, Expr, Number, Named, Bracket, Prefix, Infix, Fetch, Store, Call, If, Loop, Exprs, One, More, Body, Let, Do, Give, Chain, Turn, Before, After, Item, Cells, Defines, Program}
+use Rattle.source.specs.Tree.{Name, Expr, Number, Named, Bracket, Prefix, Infix, Fetch, Store, Call, If, Loop, Exprs, One, More, Body, Let, Do}
+use Rattle.source.specs.Tree.{Give, Chain, Turn, Before, After, Item, Cells, Defines, Program}
 use Rattle.source.specs.Outside.{outside_body, outside_turn}
 
 pub record Plan : Type 0 where

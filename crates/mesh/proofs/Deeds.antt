@@ -1,11 +1,13 @@
 -- One more deed.
-use Rattle.std.proofs.Common.{◌≡◌, ◌≢◌, ℕ, Bool, true, false, List, [], ◌∷◌, ◌++◌, refl, ap, sym, append_assoc, eq-eqb, ne_eqb, ◌+◌, ◌∙◌, arith, ◌||◌, IsTrue, ◌⊎◌, inl, inr, ⊎_elim}
+use Rattle.std.proofs.Common.{◌≡◌, ◌≢◌, ℕ, Bool, true, false, List, [], ◌∷◌, ◌++◌, refl, ap, sym, append_assoc, eq-eqb, ne_eqb, ◌+◌, ◌∙◌, arith}
+use Rattle.std.proofs.Common.{◌||◌, IsTrue, ◌⊎◌, inl, inr, ⊎_elim}
 use mathlib.Core.Logic.{dite}
 use native.Mathlib.Decide.{ℕ_discrete}
 use Rattle.std.proofs.lemmas.List.{append-nil}
 use Rattle.mesh.specs.declared.view.Deed.{Deed}
 use Rattle.mesh.specs.declared.view.Deed.TheVariants.{Posted, Took, Stopped, SawStop}
-use Rattle.mesh.specs.Deeds.{Bundle, posts, posted, takes_from, taken, commits_in, commits_of, commits_by, if_by, created, made_in, wins, wins_in, says, Says, gives_reason, knows_reason}
+use Rattle.mesh.specs.Deeds.{Bundle, posts, posted, takes_from, taken, commits_in, commits_of, commits_by, if_by, created, made_in, wins, wins_in}
+use Rattle.mesh.specs.Deeds.{says, Says, gives_reason, knows_reason}
 use Rattle.mesh.specs.declared.view.Commit.{Commit}
 
 pub posted_more : (b : ℕ) (ds : List Deed) (d : Deed) → posted b (ds ++ d ∷ []) ≡ posted b ds ++ posts b d
@@ -80,7 +82,8 @@ either_true false b e = inr e
 
 knows_some : (word : ℕ) (ds : List Deed) → Says word ds → knows_reason ds ≡ true → word ≢ 0
 knows_some word [] s t = absurd (cc (t))
-knows_some word (d ∷ ds) s t = ⊎_elim (λ here. knows_one word d s.0 here) (λ later. knows_some word ds s.1 later) (either_true (gives_reason d) (knows_reason ds) t)
+knows_some word (d ∷ ds) s t = ⊎_elim (λ here. knows_one word d s.0 here) (λ later. knows_some word ds s.1 later)
+    (either_true (gives_reason d) (knows_reason ds) t)
 
 -- what is true of more deeds is true of the first
 says_less : (word : ℕ) (ds more : List Deed) → Says word (ds ++ more) → Says word ds

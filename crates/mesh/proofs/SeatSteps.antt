@@ -1,5 +1,7 @@
 -- The opening, and seats that are split off, joined and settled.
-use Rattle.std.proofs.Common.{◌≡◌, ◌≢◌, ℕ, zero, suc, ◌+◌, ◌*◌, ◌^◌, ◌<◌, ◌≤◌, Bool, true, false, List, [], ◌∷◌, ◌++◌, map, length, replicate, get_or, set, refl, ap, sym, ◌∙◌, subst, ⊎_elim, inl, inr, ◌⊎◌, arith, Option, Some, None, length-append, length-set, get_or-set_other, get_or-set_same, eq-eqb, ne_eqb, ◌==◌, if◌then◌else◌, nat_lt, filter}
+use Rattle.std.proofs.Common.{◌≡◌, ◌≢◌, ℕ, zero, suc, ◌+◌, ◌*◌, ◌^◌, ◌<◌, ◌≤◌, Bool, true, false, List, [], ◌∷◌, ◌++◌, map, length, replicate}
+use Rattle.std.proofs.Common.{get_or, set, refl, ap, sym, ◌∙◌, subst, ⊎_elim, inl, inr, ◌⊎◌, arith, Option, Some, None, length-append, length-set}
+use Rattle.std.proofs.Common.{get_or-set_other, get_or-set_same, eq-eqb, ne_eqb, ◌==◌, if◌then◌else◌, nat_lt, filter}
 use Rattle.std.proofs.lemmas.List.{append-nil}
 use Rattle.std.specs.List.Sorted.{IsPermutation}
 use Rattle.std.proofs.lemmas.List.Sorted.{IsPermutation-refl, IsPermutation-sym, IsPermutation-trans, IsPermutation-cons}
@@ -22,7 +24,8 @@ use Rattle.mesh.specs.declared.view.Commit.{Commit}
 use Rattle.mesh.specs.declared.view.Part.{Part}
 use Rattle.mesh.specs.declared.view.View.{View}
 use Rattle.mesh.specs.Deeds.{Bundle, posted, taken, posting, taking, commits_of, commits_by, wins, Says}
-use Rattle.mesh.specs.Rule.{Fits, BoxIs, Preserved, Past, Stops, Sits, gather, total, held_by, wins_by, fresh, first_view, rest_view, next_view, spent_view, both_views, longer, part_wins}
+use Rattle.mesh.specs.Rule.{Fits, BoxIs, Preserved, Past, Stops, Sits, gather, total, held_by, wins_by, fresh, first_view, rest_view, next_view}
+use Rattle.mesh.specs.Rule.{spent_view, both_views, longer, part_wins}
 use Rattle.mesh.specs.Deeds.{Busy, entry}
 use Rattle.mesh.specs.Plays.{settled}
 use Rattle.mesh.proofs.Deeds.{by_append}
@@ -76,10 +79,12 @@ module _ {A : Type 0} where
   at_end (x ∷ xs) a b zero e = inl (omega arith, e)
   at_end (x ∷ xs) a b (suc j) e = ⊎_elim (λ t. inl (let l = t.0 in omega arith, t.1)) (λ t. inr (ap suc t.0, t.1)) (at_end xs a b j e)
 
-  pub at_append : (l m : List A) (b : A) (j : ℕ) → get_elem? (l ++ m) j ≡ some b → ((j < length l) × (get_elem? l j ≡ some b)) ⊎ ((k : ℕ) × (j ≡ length l + k) × (get_elem? m k ≡ some b))
+  pub at_append : (l m : List A) (b : A) (j : ℕ) → get_elem? (l ++ m) j ≡ some b → ((j < length l) × (get_elem? l j ≡ some b)) ⊎ ((k : ℕ)
+      × (j ≡ length l + k) × (get_elem? m k ≡ some b))
   at_append [] m b j e = inr (j, omega arith, e)
   at_append (x ∷ xs) m b zero e = inl (omega arith, e)
-  at_append (x ∷ xs) m b (suc j) e = ⊎_elim (λ t. inl (let l = t.0 in omega arith, t.1)) (λ t. inr (t.0, let h = t.1 in omega arith, t.2)) (at_append xs m b j e)
+  at_append (x ∷ xs) m b (suc j) e = ⊎_elim (λ t. inl (let l = t.0 in omega arith, t.1)) (λ t. inr (t.0, let h = t.1 in omega arith, t.2))
+      (at_append xs m b j e)
 
   at_there : (l : List A) (b : A) (j : ℕ) → get_elem? l j ≡ some b → j < length l
   at_there [] b j e = absurd (some-ne-none b (sym e))
@@ -110,12 +115,14 @@ none_total : (f : ℕ → ℕ) → total 0 f ≡ 0
 unfolding total
 none_total f = refl
 
-parts_total : (m : ℕ) (f : ℕ → ℕ) (ps : List Part) → length ps ≡ m → ((i : ℕ) (p : Part) → get_elem? ps i ≡ some p → wins p.deeds ≡ f i) → part_wins ps ≡ total m f
+parts_total : (m : ℕ) (f : ℕ → ℕ) (ps : List Part) → length ps ≡ m → ((i : ℕ) (p : Part) → get_elem? ps i ≡ some p → wins p.deeds ≡ f i)
+    → part_wins ps ≡ total m f
 parts_total zero f [] len h = sym (none_total f)
 parts_total zero f (p ∷ ps) len h = absurd (omega arith)
 parts_total (suc m) f [] len h = absurd (omega arith)
 parts_total (suc m) f (p ∷ ps) len h =
-    let here : wins p.deeds ≡ f 0 = h 0 p refl in let rest : part_wins ps ≡ total m (λ i. f (suc i)) = parts_total m (λ i. f (suc i)) ps (omega arith) (λ i q at. h (suc i) q at) in
+    let here : wins p.deeds ≡ f 0 = h 0 p refl in let rest : part_wins ps ≡ total m (λ i. f (suc i)) = parts_total m (λ i. f (suc i)) ps (omega arith)
+    (λ i q at. h (suc i) q at) in
     let t = total_shift m f in omega arith
 
 gather_none : (m : ℕ) (f : ℕ → Ts) → ((j : ℕ) → f j ≡ []) → gather m f ≡ []
@@ -136,13 +143,16 @@ dealt n (t ∷ ts) h =
     (λ hit. (rw (eq-eqb e j (sym hit)) (ap (λ (z : ℕ). t ∷ f z) hit)) ∙ (sym (put_here f e (t ∷ f e)) ∙ ap (put f e (t ∷ f e)) (sym hit)))
     (λ miss. rw (ne_eqb e j (λ z. miss (sym z))) (sym (put_else f e (t ∷ f e) j miss))) in
     let a : IsPermutation (t ∷ ts) (t ∷ gather n f) = IsPermutation-cons t ts (gather n f) (dealt n ts h) in
-    let b : IsPermutation (t ∷ gather n f) (t ∷ (f e ++ gather n (put f e []))) = IsPermutation-cons t (gather n f) (f e ++ gather n (put f e [])) (gather_at n f e le) in
+    let b : IsPermutation (t ∷ gather n f) (t ∷ (f e ++ gather n (put f e []))) = IsPermutation-cons t (gather n f) (f e ++ gather n (put f e []))
+    (gather_at n f e le) in
     let c : IsPermutation (gather n (put f e (t ∷ f e))) ((t ∷ f e) ++ gather n (put f e [])) = gather_put n f e (t ∷ f e) le in
     subst (λ (z : Ts). IsPermutation (t ∷ ts) z) (sym (gather_ext n (theirs n (t ∷ ts)) (put f e (t ∷ f e)) each))
-    (IsPermutation-trans (t ∷ ts) (t ∷ gather n f) (gather n (put f e (t ∷ f e))) a (IsPermutation-trans (t ∷ gather n f) (t ∷ (f e ++ gather n (put f e []))) (gather n (put f e (t ∷ f e))) b (IsPermutation-sym _ _ c)))
+    (IsPermutation-trans (t ∷ ts) (t ∷ gather n f) (gather n (put f e (t ∷ f e))) a
+    (IsPermutation-trans (t ∷ gather n f) (t ∷ (f e ++ gather n (put f e []))) (gather n (put f e (t ∷ f e))) b (IsPermutation-sym _ _ c)))
 
 module _ {B : Type 0} (items : B → Ts) (n : ℕ) (start : Ts) where
-  pub opens : (w h : ℕ) → w ≡ 258 → h ≡ 256 → 0 < n → n ≤ 16 → length start ≤ 2 ^ 40 → Preserved items n start (opening (set (replicate w 0) 256 (length start)) (replicate h None) (first_view n start))
+  pub opens : (w h : ℕ) → w ≡ 258 → h ≡ 256 → 0 < n → n ≤ 16 → length start ≤ 2 ^ 40
+      → Preserved items n start (opening (set (replicate w 0) 256 (length start)) (replicate h None) (first_view n start))
   opens w h wide deep some_element few brief = record {
     part = fresh n start;
     owner = λ _. 0;
@@ -157,8 +167,11 @@ module _ {B : Type 0} (items : B → Ts) (n : ℕ) (start : Ts) where
     past = record {
       pool = start;
       legal = IsPermutation-refl start;
-      size = get_or-set_same (replicate w 0) 256 (length start) 0 (let len : ◌≡◌ {A = ℕ} (length (replicate {A = ℕ} w 0)) w = length-replicate w 0 in omega arith);
-      shares = subst (λ (z : Ts). IsPermutation start z) (sym (ap (λ (z : Ts). gather n (held_by (fresh n start)) ++ z) (gather_none 256 (λ _. []) (λ _. refl)) ∙ append-nil (gather n (held_by (fresh n start))))) (dealt n start some_element);
+      size = get_or-set_same (replicate w 0) 256 (length start) 0 (let len : ◌≡◌ {A = ℕ} (length (replicate {A = ℕ} w 0)) w = length-replicate w 0
+          in omega arith);
+      shares = subst (λ (z : Ts). IsPermutation start z)
+          (sym (ap (λ (z : Ts). gather n (held_by (fresh n start)) ++ z) (gather_none 256 (λ _. []) (λ _. refl))
+          ∙ append-nil (gather n (held_by (fresh n start))))) (dealt n start some_element);
       own = λ e l. refl;
       others = λ e l. refl;
       bound = omega arith;
@@ -167,7 +180,8 @@ module _ {B : Type 0} (items : B → Ts) (n : ℕ) (start : Ts) where
       busy = λ j c at. absurd (some-ne-none c (sym at));
     };
     stops = record {
-      once = subst (λ (z : ℕ). total n (wins_by (fresh n start)) ≡ (if z == 0 then 0 else 1)) (sym (zeros 257 (λ e. absurd (omega arith)))) (total_zero n (wins_by (fresh n start)) (λ _. refl));
+      once = subst (λ (z : ℕ). total n (wins_by (fresh n start)) ≡ (if z == 0 then 0 else 1)) (sym (zeros 257 (λ e. absurd (omega arith))))
+          (total_zero n (wins_by (fresh n start)) (λ _. refl));
       known = λ e l. tt;
     };
     boxes = λ a b la lb. inl (zeros (16 * a + b) (λ e. absurd (omega arith)), refl, refl, all_vacant h (16 * a + b) None (omega arith));
@@ -199,7 +213,8 @@ module _ {B : Type 0} (items : B → Ts) (n : ℕ) (start : Ts) where
     deep = r.deep;
     named = r.named;
     seats = λ j u e. ⊎_elim (λ (t : (j < length vs') × (get_elem? vs' j ≡ some u)). old j u t.0 t.1)
-        (λ (t : (j ≡ length vs') × (next_view v ≡ u)). subst (λ (z : ℕ × View). Fits n start r.part owner' r.log z.0 z.1) (λ i. (sym (t.0 ∙ length-set s.views id (rest_view v)) i, t.1 i)) new)
+        (λ (t : (j ≡ length vs') × (next_view v ≡ u)). subst (λ (z : ℕ × View). Fits n start r.part owner' r.log z.0 z.1)
+        (λ i. (sym (t.0 ∙ length-set s.views id (rest_view v)) i, t.1 i)) new)
         (at_end vs' (next_view v) u j e);
     addressed = r.addressed;
     past = r.past;
@@ -242,7 +257,8 @@ module _ {B : Type 0} (items : B → Ts) (n : ℕ) (start : Ts) where
           f_is = λ i. fresh (sym about.0 i) (sym about.1 i) v.spare
 
           only : (k : ℕ) (q : Part) → get_elem? (f ∷ []) k ≡ some q → (q.element < n) × (owner' q.element ≡ length s.views) × (r.part q.element ≡ q)
-          only zero q is = subst (λ (z : Part). (z.element < n) × (owner' z.element ≡ length s.views) × (r.part z.element ≡ z)) (some-injective f q is) (below, put_here r.owner v.spare (length s.views), its.1 ∙ f_is)
+          only zero q is = subst (λ (z : Part). (z.element < n) × (owner' z.element ≡ length s.views) × (r.part z.element ≡ z))
+              (some-injective f q is) (below, put_here r.owner v.spare (length s.views), its.1 ∙ f_is)
           only (suc k) q is = absurd (some-ne-none q (sym is))
 
           alone : (i j : ℕ) (x y : Part) → get_elem? (f ∷ []) i ≡ some x → get_elem? (f ∷ []) j ≡ some y → x.element ≡ y.element → i ≡ j
@@ -258,13 +274,19 @@ module _ {B : Type 0} (items : B → Ts) (n : ℕ) (start : Ts) where
           none_yet zero q is =
               let all : commits_by v.spare r.log ≡ [] = r.past.own v.spare below ∙ ap (λ (z : Part). commits_of v.spare z.deeds) its.1 in
               let pre = by_prefix v.spare v.seen r.log ok.seen in
-              subst (λ (z : Part). commits_by z.element v.seen ≡ commits_by z.element r.log) (some-injective f q is) (nothing_before (commits_by v.spare v.seen) pre.0 (pre.1 ∙ all) ∙ sym all)
+              subst (λ (z : Part). commits_by z.element v.seen ≡ commits_by z.element r.log) (some-injective f q is)
+              (nothing_before (commits_by v.spare v.seen) pre.0 (pre.1 ∙ all) ∙ sym all)
           none_yet (suc k) q is = absurd (some-ne-none q (sym is))
 
       old : (j : ℕ) (u : View) → j < length vs' → get_elem? vs' j ≡ some u → Fits n start r.part owner' r.log j u
       old j u lj e = ⊎_elim
           (λ (t : (j ≡ id) × (rest_view v ≡ u)). subst (λ (z : ℕ × View). Fits n start r.part owner' r.log z.0 z.1) (λ i. (sym t.0 i, t.1 i)) record {
-            about = λ _. (about.0, about.1, λ x low high. let a = about.2 x (omega arith) high in (put_else r.owner v.spare (length s.views) x (λ h. absurd (omega arith)) ∙ a.0, a.1));
+            about = λ _. (
+              about.0,
+              about.1,
+              λ x low high. let a = about.2 x (omega arith) high
+                  in (put_else r.owner v.spare (length s.views) x (λ h. absurd (omega arith)) ∙ a.0, a.1),
+            );
             parts = λ k p is. absurd (some-ne-none p (sym (ap (λ (ps : List Part). get_elem? ps k) (sym bare) ∙ is)));
             apart = ok.apart;
             seen = ok.seen;
@@ -272,8 +294,14 @@ module _ {B : Type 0} (items : B → Ts) (n : ℕ) (start : Ts) where
             whole = ok.whole;
           })
           (λ (t : (j ≢ id) × (get_elem? s.views j ≡ some u)). let was = r.seats j u t.1 in record {
-            about = λ some_one. let a = was.about some_one in (a.0, a.1, λ x low high. let b = a.2 x low high in (put_else r.owner v.spare (length s.views) x (λ h. t.0 (sym b.0 ∙ (ap r.owner h ∙ its.0))) ∙ b.0, b.1));
-            parts = λ k p is. let a = was.parts k p is in (a.0, put_else r.owner v.spare (length s.views) p.element (λ h. t.0 (sym a.1 ∙ (ap r.owner h ∙ its.0))) ∙ a.1, a.2);
+            about = λ some_one. let a = was.about some_one in (
+              a.0,
+              a.1,
+              λ x low high. let b = a.2 x low high
+                  in (put_else r.owner v.spare (length s.views) x (λ h. t.0 (sym b.0 ∙ (ap r.owner h ∙ its.0))) ∙ b.0, b.1),
+            );
+            parts = λ k p is. let a = was.parts k p is
+                in (a.0, put_else r.owner v.spare (length s.views) p.element (λ h. t.0 (sym a.1 ∙ (ap r.owner h ∙ its.0))) ∙ a.1, a.2);
             apart = was.apart;
             seen = was.seen;
             lasts = was.lasts;
@@ -326,7 +354,12 @@ module _ {B : Type 0} (items : B → Ts) (n : ℕ) (start : Ts) where
         (λ (t : (j ≢ other) × (get_elem? (set s.views id (both_views v w)) j ≡ some u)). ⊎_elim
         (λ (y : (j ≡ id) × (both_views v w ≡ u)). subst (λ (z : ℕ × View). Fits n start r.part owner' r.log z.0 z.1) (λ i. (sym y.0 i, y.1 i)) joined)
         (λ (y : (j ≢ id) × (get_elem? s.views j ≡ some u)). let was = r.seats j u y.1 in record {
-          about = λ some_one. let a = was.about some_one in (a.0, a.1, λ x low high. let b = a.2 x low high in (moved_else r.owner other id x (λ h. t.0 (sym b.0 ∙ h)) ∙ b.0, b.1));
+          about = λ some_one. let a = was.about some_one in (
+            a.0,
+            a.1,
+            λ x low high. let b = a.2 x low high
+                in (moved_else r.owner other id x (λ h. t.0 (sym b.0 ∙ h)) ∙ b.0, b.1),
+          );
           parts = λ k p is. let a = was.parts k p is in (a.0, moved_else r.owner other id p.element (λ h. t.0 (sym a.1 ∙ h)) ∙ a.1, a.2);
           apart = was.apart;
           seen = was.seen;
@@ -348,15 +381,18 @@ module _ {B : Type 0} (items : B → Ts) (n : ℕ) (start : Ts) where
       ok = r.seats id v at
 
       at_other : get_elem? s.views other ≡ some w
-      at_other = ⊎_elim (λ (t : (other ≡ id) × (both_views v w ≡ w)). absurd (apart t.0)) (λ (t : (other ≢ id) × (get_elem? s.views other ≡ some w)). t.1) (at_set s.views id other (both_views v w) w there)
+      at_other = ⊎_elim (λ (t : (other ≡ id) × (both_views v w ≡ w)). absurd (apart t.0)) (λ (t : (other ≢ id) × (get_elem? s.views other ≡ some w)).
+          t.1) (at_set s.views id other (both_views v w) w there)
 
       ok' : Fits n start r.part r.owner r.log other w
       ok' = r.seats other w at_other
 
       longer_seen : IsPrefix (longer v.seen w.seen) r.log × IsPrefix v.seen (longer v.seen w.seen) × IsPrefix w.seen (longer v.seen w.seen)
       longer_seen = ⊎_elim
-          (λ t. subst (λ (z : List Commit). IsPrefix z r.log × IsPrefix v.seen z × IsPrefix w.seen z) (sym t.0) (ok'.seen, prefix_shorter v.seen w.seen r.log ok.seen ok'.seen (let l = t.1 in omega arith), prefix_self w.seen))
-          (λ t. subst (λ (z : List Commit). IsPrefix z r.log × IsPrefix v.seen z × IsPrefix w.seen z) (sym t.0) (ok.seen, prefix_self v.seen, prefix_shorter w.seen v.seen r.log ok'.seen ok.seen t.1))
+          (λ t. subst (λ (z : List Commit). IsPrefix z r.log × IsPrefix v.seen z × IsPrefix w.seen z) (sym t.0)
+          (ok'.seen, prefix_shorter v.seen w.seen r.log ok.seen ok'.seen (let l = t.1 in omega arith), prefix_self w.seen))
+          (λ t. subst (λ (z : List Commit). IsPrefix z r.log × IsPrefix v.seen z × IsPrefix w.seen z) (sym t.0)
+          (ok.seen, prefix_self v.seen, prefix_shorter w.seen v.seen r.log ok'.seen ok.seen t.1))
           (longer_is v.seen w.seen)
 
       joined : Fits n start r.part owner' r.log id (both_views v w)
@@ -365,31 +401,44 @@ module _ {B : Type 0} (items : B → Ts) (n : ℕ) (start : Ts) where
         parts = λ k p is. ⊎_elim (λ t. let a = ok.parts k p t.1 in (a.0, moved_else r.owner other id p.element (λ h. apart (sym h ∙ a.1)) ∙ a.1, a.2))
             (λ t. let a = ok'.parts t.0 p t.2 in (a.0, moved_here r.owner other id p.element a.1, a.2)) (at_append v.parts w.parts p k is);
         apart = λ i j p q a b same. ⊎_elim
-            (λ x. ⊎_elim (λ y. ok.apart i j p q x.1 y.1 same) (λ y. absurd (apart (sym (ok'.parts y.0 q y.2).1 ∙ (ap r.owner (sym same) ∙ (ok.parts i p x.1).1)))) (at_append v.parts w.parts q j b))
+            (λ x. ⊎_elim (λ y. ok.apart i j p q x.1 y.1 same)
+            (λ y. absurd (apart (sym (ok'.parts y.0 q y.2).1 ∙ (ap r.owner (sym same) ∙ (ok.parts i p x.1).1)))) (at_append v.parts w.parts q j b))
             (λ x. ⊎_elim (λ y. absurd (apart (sym (ok'.parts x.0 p x.2).1 ∙ (ap r.owner same ∙ (ok.parts j q y.1).1))))
             (λ y. let e : x.0 ≡ y.0 = ok'.apart x.0 y.0 p q x.2 y.2 same in let l = x.1 in let m = y.1 in omega arith) (at_append v.parts w.parts q j b))
             (at_append v.parts w.parts p i a);
         seen = longer_seen.0;
         lasts = λ k p is. ⊎_elim (λ t. ok.lasts k p t.1) (λ t. ok'.lasts t.0 p t.2) (at_append v.parts w.parts p k is);
         whole = λ k p is. ⊎_elim (λ t. whole_longer p.element v.seen (longer v.seen w.seen) r.log longer_seen.1 longer_seen.0 (ok.whole k p t.1))
-            (λ t. whole_longer p.element w.seen (longer v.seen w.seen) r.log longer_seen.2 longer_seen.0 (ok'.whole t.0 p t.2)) (at_append v.parts w.parts p k is);
+            (λ t. whole_longer p.element w.seen (longer v.seen w.seen) r.log longer_seen.2 longer_seen.0 (ok'.whole t.0 p t.2))
+            (at_append v.parts w.parts p k is);
       }
 
   -- what was taken of a box is a beginning of what was posted
-  begins : (m : ℕ) (h : maybe.Option (maybe.Option (Option B))) (l : Ts) (ps ts : List Bundle) (o : Bool) (hand : Option Bundle) → BoxIs items m h l ps o ts hand → IsPrefix ts ps
+  begins : (m : ℕ) (h : maybe.Option (maybe.Option (Option B))) (l : Ts) (ps ts : List Bundle) (o : Bool) (hand : Option Bundle)
+      → BoxIs items m h l ps o ts hand → IsPrefix ts ps
   begins m h l ps ts true hand box = ([], append-nil ts ∙ sym box.1)
   begins m h l ps ts false (Some x) box = (x ∷ [], sym box.1)
   begins m h l ps ts false None box = ⊎_elim (λ t. ([], append-nil ts ∙ sym t.1)) (λ t. (items t.0 ∷ [], sym t.2)) box
 
-  pub settles : (slots id : ℕ) (v : View) (c : List (ℕ × Option B)) (st : Step (Option B)) → Sits v → Allows (Preserved items n start) slots id (v, c) 256 (λ x. x) (settled st (v, c))
+  pub settles : (slots id : ℕ) (v : View) (c : List (ℕ × Option B)) (st : Step (Option B)) → Sits v → Allows (Preserved items n start) slots id (v, c)
+      256 (λ x. x) (settled st (v, c))
   settles slots id v c st sits s r _ at below =
       let x : ℕ = get_or s.words 256 0 in let ok = r.seats id v at in let about = ok.about sits.0 in let pre = ok.seen in
       let wide : length s.words ≡ 258 = r.wide in let old = r.past in
       let w : View = record v { seen = v.seen ++ pre.0 } in let words' : List ℕ = set s.words 256 x in
-      let same : (i : ℕ) → get_or words' i 0 ≡ get_or s.words i 0 = λ i. dite (ℕ_discrete i 256) (λ hit. ap (λ (z : ℕ). get_or words' z 0) hit ∙ (get_or-set_same s.words 256 x 0 (omega arith) ∙ ap (λ (z : ℕ). get_or s.words z 0) (sym hit)))
+      let same : (i : ℕ) → get_or words' i 0 ≡ get_or s.words i 0 = λ i. dite (ℕ_discrete i 256) (λ hit. ap (λ (z : ℕ). get_or words' z 0) hit
+      ∙ (get_or-set_same s.words 256 x 0 (omega arith) ∙ ap (λ (z : ℕ). get_or s.words z 0) (sym hit)))
       (λ miss. get_or-set_other s.words 256 i x 0 miss) in
       let few : n ≤ 16 = r.few in
-      let mine : Fits n start r.part r.owner r.log id w = record { about = ok.about; parts = ok.parts; apart = ok.apart; seen = ([], append-nil (v.seen ++ pre.0) ∙ pre.1); lasts = ok.lasts; whole = λ k p is. ap (commits_by p.element) pre.1 } in (
+      let mine : Fits n start r.part r.owner r.log id w = record {
+        about = ok.about;
+        parts = ok.parts;
+        apart = ok.apart;
+        seen =
+            ([], append-nil (v.seen ++ pre.0) ∙ pre.1);
+        lasts = ok.lasts;
+        whole = λ k p is. ap (commits_by p.element) pre.1;
+      } in (
         w,
         keeps,
         tt,
@@ -402,25 +451,36 @@ module _ {B : Type 0} (items : B → Ts) (n : ℕ) (start : Ts) where
           wide = length-set s.words 256 x ∙ r.wide;
           deep = r.deep;
           named = r.named;
-          seats = λ j u e. ⊎_elim (λ (t : (j ≡ id) × (w ≡ u)). subst (λ (z : ℕ × View). Fits n start r.part r.owner r.log z.0 z.1) (λ i. (sym t.0 i, t.1 i)) mine)
+          seats = λ j u e. ⊎_elim (λ (t : (j ≡ id) × (w ≡ u)). subst (λ (z : ℕ × View). Fits n start r.part r.owner r.log z.0 z.1)
+              (λ i. (sym t.0 i, t.1 i)) mine)
               (λ (t : (j ≢ id) × (get_elem? s.views j ≡ some u)). r.seats j u t.1) (at_set s.views id j w u e);
           addressed = r.addressed;
           past = subst (Past n start r.part r.load r.log) (sym (same 256)) old;
           stops = subst (Stops n r.part) (sym (same 257)) r.stops;
-          boxes = λ a b la lb. subst (λ (z : ℕ). BoxIs items z (get_elem? s.homes (16 * a + b)) (r.load (16 * a + b)) (posted b (r.part a).deeds) (posting b (r.part a).stage) (taken a (r.part b).deeds) (taking a (r.part b).stage))
+          boxes = λ a b la lb. subst (λ (z : ℕ). BoxIs items z (get_elem? s.homes (16 * a + b)) (r.load (16 * a + b)) (posted b (r.part a).deeds)
+              (posting b (r.part a).stage) (taken a (r.part b).deeds) (taking a (r.part b).stage))
               (sym (same (16 * a + b))) (r.boxes a b la lb);
         },
         (
           pre.0,
           refl,
-          (old.pool, subst (λ (z : ℕ × Ts × List Commit). LeavesPool z.0 z.1 (map entry z.2) old.pool) (λ i. (sym about.0 i, sym about.1 i, sym pre.1 i)) old.legal, sym old.size, subst Busy (sym pre.1) old.busy),
+          (
+            old.pool,
+            subst (λ (z : ℕ × Ts × List Commit). LeavesPool z.0 z.1 (map entry z.2) old.pool)
+                (λ i. (sym about.0 i, sym about.1 i, sym pre.1 i)) old.legal,
+            sym old.size,
+            subst Busy (sym pre.1) old.busy,
+          ),
           (λ i j p q a b. let mp = ok.parts i p a in let mq = ok.parts j q b in
-              subst (λ (z : Part × Part). IsPrefix (taken p.element z.1.deeds) (posted q.element z.0.deeds)) (λ k. (mp.2 k, mq.2 k)) (begins _ _ _ _ _ _ _ (r.boxes p.element q.element mp.0 mq.0))),
-          (λ i p a. let mp = ok.parts i p a in ap (commits_by p.element) pre.1 ∙ (old.own p.element mp.0 ∙ ap (λ (z : Part). commits_of p.element z.deeds) mp.2)),
+              subst (λ (z : Part × Part). IsPrefix (taken p.element z.1.deeds) (posted q.element z.0.deeds)) (λ k. (mp.2 k, mq.2 k))
+              (begins _ _ _ _ _ _ _ (r.boxes p.element q.element mp.0 mq.0))),
+          (λ i p a. let mp = ok.parts i p a in ap (commits_by p.element) pre.1
+              ∙ (old.own p.element mp.0 ∙ ap (λ (z : Part). commits_of p.element z.deeds) mp.2)),
           (
             get_or s.words 257 0,
             (λ i p a. let mp = ok.parts i p a in subst (λ (z : Part). Says (get_or s.words 257 0) z.deeds) mp.2 (r.stops.known p.element mp.0)),
-            (λ all. parts_total v.elements (wins_by r.part) v.parts all.0 (λ i p a. ap (λ (z : Part). wins z.deeds) (sym (ok.parts i p a).2) ∙ ap (wins_by r.part) (all.1 i p a)) ∙ (ap (λ (z : ℕ). total z (wins_by r.part)) about.0 ∙ r.stops.once)),
+            (λ all. parts_total v.elements (wins_by r.part) v.parts all.0 (λ i p a. ap (λ (z : Part). wins z.deeds) (sym (ok.parts i p a).2)
+                ∙ ap (wins_by r.part) (all.1 i p a)) ∙ (ap (λ (z : ℕ). total z (wins_by r.part)) about.0 ∙ r.stops.once)),
           ),
           (λ i p a. subst (λ (z : List Commit). IsPrefix p.last z) (sym pre.1) (ok.lasts i p a)),
           (λ e le. ap (commits_by e) pre.1 ∙ old.others e (subst (λ (z : ℕ). z ≤ e) about.0 le)),

@@ -44,5 +44,9 @@ module _ {S : Type 0} where
   abbrev pub Commits : List Token → List Token → Me S View → Me S View → Type 0
   Commits spent made old new =
       (kept : List Token) × (between : List Commit) × IsPermutation (first_of old.0.parts).held (spent ++ kept)
-      × (new ≡ (with_seen old.0 (after_commit (first_of old.0.parts) spent made kept) ((old.0.seen ++ between) ++ commit (first_of old.0.parts).element spent made ∷ []), []))
+      × (new ≡ (
+        with_seen old.0 (after_commit (first_of old.0.parts) spent made kept) ((old.0.seen ++ between)
+            ++ commit (first_of old.0.parts).element spent made ∷ []),
+        [],
+      ))
       × ((count : ℕ) × Leaves new.0 count)

@@ -56,4 +56,5 @@ module _ {B : Type 0} where
       → (m' ≡ (with_part m.0 (noted p (SawStop found)), m.1)) × Says found (p.deeds ++ SawStop found ∷ [])
 
   abbrev pub settled : At B → Sat B → ℕ → Sat B → Type 0
-  settled st m found m' = (between : List Commit) × (m' ≡ (record m.0 { seen = m.0.seen ++ between }, m.1)) × Leaves m'.0 found × Agree m'.0 × HasCommits m'.0 × OneStop m'.0 × Includes m'.0 × NoOthers m'.0
+  settled st m found m' = (between : List Commit) × (m' ≡ (record m.0 { seen = m.0.seen ++ between }, m.1)) × Leaves m'.0 found × Agree m'.0
+      × HasCommits m'.0 × OneStop m'.0 × Includes m'.0 × NoOthers m'.0

@@ -1,6 +1,7 @@
 -- The rule over the words, the boxes' slots and the views, and what each step shows.
 -- Word 16 * a + b is 1 where the box from a to b is full, and its slot has the same number.
-use Rattle.std.specs.Prelude.{◌≡◌, ◌⊎◌, ℕ, ◌+◌, ◌*◌, ◌^◌, ◌<◌, ◌≤◌, zero, suc, map, Bool, true, false, List, [], ◌∷◌, ◌++◌, length, slice_index, Option, Some, None, ◌==◌, nat_lt, if◌then◌else◌, IsPermutation, filter}
+use Rattle.std.specs.Prelude.{◌≡◌, ◌⊎◌, ℕ, ◌+◌, ◌*◌, ◌^◌, ◌<◌, ◌≤◌, zero, suc, map, Bool, true, false, List, [], ◌∷◌, ◌++◌, length, slice_index}
+use Rattle.std.specs.Prelude.{Option, Some, None, ◌==◌, nat_lt, if◌then◌else◌, IsPermutation, filter}
 use mathlib.Core.Option.{some, none}
 use mathlib.Core.Option as maybe
 use mathlib.Core.List.{IsPrefix}
@@ -97,7 +98,8 @@ module _ {B : Type 0} (items : B → List Token) where
 
   abbrev pub BoxAt : List ℕ → List (maybe.Option (Option B)) → (ℕ → List Token) → (ℕ → Part) → ℕ → ℕ → Type 0
   BoxAt words homes load part a b =
-      BoxIs (slice_index words (16 * a + b)) (get_elem? homes (16 * a + b)) (load (16 * a + b)) (posted b (part a).deeds) (posting b (part a).stage) (taken a (part b).deeds) (taking a (part b).stage)
+      BoxIs (slice_index words (16 * a + b)) (get_elem? homes (16 * a + b)) (load (16 * a + b)) (posted b (part a).deeds) (posting b (part a).stage)
+      (taken a (part b).deeds) (taking a (part b).stage)
 
   pub record Preserved (n : ℕ) (start : List Token) (s : State (Option B) View) : Type 0 where
     pub part : ℕ → Part
@@ -131,7 +133,14 @@ abbrev pub after_take : Part → ℕ → Bundle → Part
 after_take p a x = record { element = p.element; deeds = p.deeds ++ Took a x ∷ []; held = x ++ p.held; stage = Idle; last = p.last }
 
 abbrev pub after_commit : Part → Bundle → Bundle → List Token → Part
-after_commit p spent made kept = record { element = p.element; deeds = p.deeds ++ Committed spent made ∷ []; held = made ++ kept; stage = p.stage; last = p.last }
+after_commit p spent made kept = record {
+  element = p.element;
+  deeds = p.deeds ++ Committed spent made ∷ [];
+  held = made
+      ++ kept;
+  stage = p.stage;
+  last = p.last;
+}
 
 -- the view with this one part and this history seen
 abbrev pub with_seen : View → Part → List Commit → View

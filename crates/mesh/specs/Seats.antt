@@ -68,7 +68,15 @@ abbrev pub having_posted : SeatView → ℕ → Bundle → List Token → SeatVi
 having_posted s to x kept = record s { own = record { element = s.own.element; deeds = s.own.deeds ++ Posted to x ∷ []; held = kept; last = s.own.last } }
 
 abbrev pub having_taken : SeatView → ℕ → Bundle → SeatView
-having_taken s from x = record s { own = record { element = s.own.element; deeds = s.own.deeds ++ Took from x ∷ []; held = x ++ s.own.held; last = s.own.last } }
+having_taken s from x = record s {
+  own = record {
+    element = s.own.element;
+    deeds = s.own.deeds ++ Took from x ∷ [];
+    held = x
+        ++ s.own.held;
+    last = s.own.last;
+  };
+}
 
 abbrev pub having_committed : SeatView → Bundle → Bundle → List Token → List Commit → SeatView
 having_committed s spent made kept seen =
@@ -99,7 +107,8 @@ AreAt mesh seats = (i : ℕ) (s : SeatView) → get_elem? seats i ≡ some s →
 
 -- the seats of all elements of this mesh, in order
 abbrev pub AreAll : MeshId → List SeatView → Type 0
-AreAll mesh seats = (length seats ≡ mesh.elements) × ((i : ℕ) (s : SeatView) → get_elem? seats i ≡ some s → (s.mesh ≡ mesh) × (s.joined ≡ []) × (s.own.element ≡ i))
+AreAll mesh seats = (length seats ≡ mesh.elements) × ((i : ℕ) (s : SeatView) → get_elem? seats i ≡ some s → (s.mesh ≡ mesh) × (s.joined ≡ [])
+    × (s.own.element ≡ i))
 
 abbrev pub accounts : SeatView → List Account
 accounts s = s.own ∷ s.joined
@@ -112,7 +121,8 @@ HasCommits s =
 
 -- what b took from a is a beginning of what a posted to b
 abbrev pub Agree : SeatView → Type 0
-Agree s = (i j : ℕ) (a b : Account) → get_elem? (accounts s) i ≡ some a → get_elem? (accounts s) j ≡ some b → IsPrefix (taken a.element b.deeds) (posted b.element a.deeds)
+Agree s = (i j : ℕ) (a b : Account) → get_elem? (accounts s) i ≡ some a → get_elem? (accounts s) j ≡ some b
+    → IsPrefix (taken a.element b.deeds) (posted b.element a.deeds)
 
 -- each account saw a beginning of the history
 abbrev pub Includes : SeatView → Type 0
@@ -128,7 +138,8 @@ all_wins (a ∷ as_well) = wins a.deeds + all_wins as_well
 
 -- One call set the reason to stop, or none did; what each account set or saw is this reason, or 0
 abbrev pub OneStop : SeatView → Type 0
-OneStop s = (word : ℕ) × ((i : ℕ) (a : Account) → get_elem? (accounts s) i ≡ some a → Says word a.deeds) × (all_wins (accounts s) ≡ (if word == 0 then 0 else 1))
+OneStop s = (word : ℕ) × ((i : ℕ) (a : Account) → get_elem? (accounts s) i ≡ some a → Says word a.deeds)
+    × (all_wins (accounts s) ≡ (if word == 0 then 0 else 1))
 
 -- THE VALUES
 
@@ -150,4 +161,10 @@ abbrev pub mesh_id : TableId → ℕ → List Token → MeshId
 mesh_id table elements start = record { table = table; elements = elements; start = start }
 
 abbrev pub seat_view : TableId → View → SeatView
-seat_view table v = record { mesh = mesh_id table v.elements v.start; seen = v.seen; own = account (first_of v.parts); joined = map account (others_of v.parts) }
+seat_view table v = record {
+  mesh = mesh_id table v.elements v.start;
+  seen = v.seen;
+  own = account (first_of v.parts);
+  joined = map account
+      (others_of v.parts);
+}

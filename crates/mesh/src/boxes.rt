@@ -24,7 +24,8 @@ fn post_as<A: Allocator, J: Offer>(
     requires seat { IsOf element place.old × (element < 16) × (to < 16) × (to < top.now.key.elements) }
     requires held { AllTo place.old.me.0.elements to bundle.items × Has (part_of place.old).held bundle.items }
     ensures table { place.new.table_id ≡ place.old.table_id }
-    ensures ok { OnOk result ((kept : List Token) × IsPermutation (part_of place.old).held (bundle.items ++ kept) × (place.new.me ≡ (with_part place.old.me.0 (after_post (part_of place.old) to bundle.items kept), []))) }
+    ensures ok { OnOk result ((kept : List Token) × IsPermutation (part_of place.old).held (bundle.items ++ kept)
+        × (place.new.me ≡ (with_part place.old.me.0 (after_post (part_of place.old) to bundle.items kept), []))) }
     ensures err { IfErr result (λ b. (b ≡ bundle) × (place.new.me ≡ (with_part place.old.me.0 (noted (part_of place.old) (FoundFull to bundle.items)), []))) }
 {
     let word = 16 * element as usize + to as usize;
@@ -47,7 +48,8 @@ pub(crate) fn post_at<A: Allocator>(
     requires seat { IsOf element place.old × (element < 16) × (to < 16) × (to < top.now.key.elements) }
     requires held { AllTo place.old.me.0.elements to bundle.items × Has (part_of place.old).held bundle.items }
     ensures table { place.new.table_id ≡ place.old.table_id }
-    ensures ok { OnOk result ((kept : List Token) × IsPermutation (part_of place.old).held (bundle.items ++ kept) × (place.new.me ≡ (with_part place.old.me.0 (after_post (part_of place.old) to bundle.items kept), []))) }
+    ensures ok { OnOk result ((kept : List Token) × IsPermutation (part_of place.old).held (bundle.items ++ kept)
+        × (place.new.me ≡ (with_part place.old.me.0 (after_post (part_of place.old) to bundle.items kept), []))) }
     ensures err { IfErr result (λ b. (b ≡ bundle) × (place.new.me ≡ (with_part place.old.me.0 (noted (part_of place.old) (FoundFull to bundle.items)), []))) }
 {
     post_as::<A, Brand>(top, place, element, to, bundle)
@@ -62,7 +64,8 @@ pub(crate) fn take_at<A: Allocator>(
     requires table { IsTop top.now.table_id place.old }
     requires seat { IsOf element place.old × (element < 16) × (from < 16) × (from < top.now.key.elements) }
     ensures table { place.new.table_id ≡ place.old.table_id }
-    ensures some { IfSome result (λ b. (place.new.me ≡ (with_part place.old.me.0 (after_take (part_of place.old) from b.items), [])) × AllTo place.old.me.0.elements element b.items) }
+    ensures some { IfSome result (λ b. (place.new.me ≡ (with_part place.old.me.0 (after_take (part_of place.old) from b.items), []))
+        × AllTo place.old.me.0.elements element b.items) }
     ensures none { IfNone result (place.new.me ≡ (with_part place.old.me.0 (noted (part_of place.old) (FoundEmpty from)), [])) }
 {
     let word = 16 * from as usize + element as usize;

@@ -75,7 +75,8 @@ pub(crate) fn live_at<A: Allocator>(top: &Top<A>, place: &mut Place<A>, element:
     requires table { IsTop top.now.table_id place.old }
     requires seat { IsOf element place.old }
     ensures table { place.new.table_id ≡ place.old.table_id }
-    ensures part { (between : List Commit) × (place.new.me ≡ (with_seen place.old.me.0 (noted (part_of place.old) (SawLive result)) (place.old.me.0.seen ++ between), [])) × Leaves place.new.me.0 result }
+    ensures part { (between : List Commit) × (place.new.me
+        ≡ (with_seen place.old.me.0 (noted (part_of place.old) (SawLive result)) (place.old.me.0.seen ++ between), [])) × Leaves place.new.me.0 result }
     ensures held { length (part_of place.old).held ≤ result }
 {
     top.load::<SeeLive>(place, LIVE)

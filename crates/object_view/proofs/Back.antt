@@ -1,5 +1,6 @@
 -- The bytes of lawful code are read as this code.
-use Rattle.std.proofs.Common.{◌≡◌, ℕ, zero, suc, ◌+◌, ◌<◌, ◌≤◌, Bool, true, nat_lt, if◌then◌else◌, List, ◌∷◌, length, Option, Some, ℤ, pos, sym, ap, ◌∙◌, arith, get_or}
+use Rattle.std.proofs.Common.{◌≡◌, ℕ, zero, suc, ◌+◌, ◌<◌, ◌≤◌, Bool, true, nat_lt, if◌then◌else◌, List, ◌∷◌, length, Option, Some, ℤ, pos, sym, ap}
+use Rattle.std.proofs.Common.{◌∙◌, arith, get_or}
 use Rattle.std.specs.Prelude.{slice_get, FitsSigned, unwrap_or, int_lt}
 use Rattle.std.specs.Int.{w64, cast_signed}
 use Rattle.std.proofs.lemmas.Bool.{lt-ltb}
@@ -13,7 +14,8 @@ use Rattle.semantics.specs.declared.opcode.Opcode.{Opcode}
 use Rattle.semantics.specs.declared.opcode.Opcode.TheVariants.{Copy}
 use Rattle.semantics.specs.Versions.{version_number}
 use Rattle.object_view.specs.Fields.{word_at, count_in, inputs_in, outputs_in, slots_in, opcode_in}
-use Rattle.object_view.specs.Reading.{opened, tabulated, shown, version_in, instrs_below, instr_place, literal_in, literal_or_zero, array_in, instr_as, instr_in, block_in, code_in}
+use Rattle.object_view.specs.Reading.{opened, tabulated, shown, version_in, instrs_below, instr_place, literal_in, literal_or_zero, array_in}
+use Rattle.object_view.specs.Reading.{instr_as, instr_in, block_in, code_in}
 use Rattle.object_view.specs.Checks.{MAGIC}
 use Rattle.object_view.specs.Sending.{IsAscending}
 use Rattle.object_view.proofs.Numbers.{number_stops, number_goes}
@@ -38,7 +40,8 @@ number_there z ls k up lt at =
         omega (arith, goes)
 
 pub literal_back : (v : ℕ) (c : Code) (w : ℕ → ℕ) (j : ℕ) → IsCode v c → IsRead v c w j → (k : ℕ) (z : ℤ) → slice_get c.literals k ≡ Some z → literal_in w k ≡ z
-literal_back v c w j is r k z at = ap (cast_signed w64) (r.literal k z at) ∙ to_z-of_z w64 z (all_at (λ (x : ℤ). FitsSigned w64 x) c.literals k z is.literals at)
+literal_back v c w j is r k z at = ap (cast_signed w64) (r.literal k z at)
+    ∙ to_z-of_z w64 z (all_at (λ (x : ℤ). FitsSigned w64 x) c.literals k z is.literals at)
 
 pub looked : (v : ℕ) (c : Code) (w : ℕ → ℕ) (j : ℕ) → IsCode v c → IsRead v c w j → IsLooked w c.literals
 looked v c w j is r = λ z there.
@@ -49,7 +52,8 @@ looked v c w j is r = λ z there.
     ap (literal_or_zero w) num ∙ ap (λ (t : Bool). if t then literal_in w k else pos 0) in_table ∙ literal_back v c w j is r k z at
 
 -- INSTRUCTIONS
-pub instr_in_back : (v : ℕ) (c : Code) (w : ℕ → ℕ) (j : ℕ) → IsCode v c → IsRead v c w j → (i : Instr) (ip : ℕ) → HasPlace v c i → w (instr_place w ip) ≡ word_one c i → w (instr_place w ip + 1) ≡ word_two c i → shown (instr_in w ip) ≡ i
+pub instr_in_back : (v : ℕ) (c : Code) (w : ℕ → ℕ) (j : ℕ) → IsCode v c → IsRead v c w j → (i : Instr) (ip : ℕ) → HasPlace v c i
+    → w (instr_place w ip) ≡ word_one c i → w (instr_place w ip + 1) ≡ word_two c i → shown (instr_in w ip) ≡ i
 unfolding instr_in
 instr_in_back v c w j is r i ip p one two =
     ap (λ (x : ℕ). shown (instr_as w (unwrap_or (opcode_in x) Copy) x (w (instr_place w ip + 1)))) one
@@ -61,7 +65,8 @@ instr_in_back v c w j is r i ip p one two =
 abbrev block_made : ℕ → ℕ → ℕ → List Instr → CodeBlock
 block_made inputs outputs slots instrs = record { inputs = inputs; outputs = outputs; slots = slots; instrs = instrs }
 
-pub block_back : (v : ℕ) (c : Code) (w : ℕ → ℕ) (j : ℕ) → IsCode v c → IsRead v c w j → (k : ℕ) (b : CodeBlock) → slice_get c.program.blocks k ≡ Some b → block_in w k ≡ b
+pub block_back : (v : ℕ) (c : Code) (w : ℕ → ℕ) (j : ℕ) → IsCode v c → IsRead v c w j → (k : ℕ) (b : CodeBlock) → slice_get c.program.blocks k
+    ≡ Some b → block_in w k ≡ b
 block_back v c w j is r k b at =
     let x = w (6 + k) in
     let f = λ (ip : ℕ). shown (instr_in w ip) in
@@ -74,7 +79,8 @@ block_back v c w j is r k b at =
     let count : count_in x ≡ length b.instrs = ap count_in e ∙ p.count in
     let instrs : tabulated f (instrs_below w k) (count_in x) ≡ b.instrs =
     ap (λ (n : ℕ). tabulated f (instrs_below w k) n) count
-    ∙ tabulated_same f (instrs_below w k) b.instrs (λ n i there. let rd = r.instr k b at n i there in instr_in_back v c w j is r i (instrs_below w k + n) (place_there v c b n i is ok there) rd.0 rd.1) in
+    ∙ tabulated_same f (instrs_below w k) b.instrs (λ n i there. let rd = r.instr k b at n i there
+    in instr_in_back v c w j is r i (instrs_below w k + n) (place_there v c b n i is ok there) rd.0 rd.1) in
     let read : List Instr = tabulated f (instrs_below w k) (count_in x) in
     ap (λ (a : ℕ). block_made a (outputs_in x) (slots_in x) read) inputs
     ∙ ap (λ (a : ℕ). block_made b.inputs a (slots_in x) read) outputs

@@ -1,5 +1,6 @@
 -- An instruction of lawful code is read back from its two words.
-use Rattle.std.proofs.Common.{◌≡◌, ℕ, ◌+◌, ◌-◌, ◌*◌, ◌/◌, ◌%◌, ◌^◌, ◌<◌, ◌≤◌, Bool, true, false, ◌==◌, if◌then◌else◌, List, [], ◌∷◌, length, Option, Some, None, ℤ, refl, sym, ap, subst, ◌∙◌, arith, eqb-true, get_or}
+use Rattle.std.proofs.Common.{◌≡◌, ℕ, ◌+◌, ◌-◌, ◌*◌, ◌/◌, ◌%◌, ◌^◌, ◌<◌, ◌≤◌, Bool, true, false, ◌==◌, if◌then◌else◌, List, [], ◌∷◌, length, Option}
+use Rattle.std.proofs.Common.{Some, None, ℤ, refl, sym, ap, subst, ◌∙◌, arith, eqb-true, get_or}
 use Rattle.std.specs.Prelude.{⊤, option_to_list, Contains, slice_get}
 use Rattle.std.proofs.lemmas.Option.{slice_get_within, get_or_from_slice_get}
 use Rattle.tags.specs.declared.token.Port.{Port}
@@ -10,7 +11,8 @@ use Rattle.operators.specs.declared.Unary.TheVariants.{Neg, Not}
 use Rattle.operators.specs.declared.Binary.{Binary}
 use Rattle.semantics.specs.declared.program.Dest.{Dest}
 use Rattle.semantics.specs.declared.program.Op.{Op}
-use Rattle.semantics.specs.declared.program.Op.TheVariants.{Apply1, Apply2, Apply2Right, Apply2Left, Lit, Copy, Sync, Switch, Fetch, Store, Frame, Link, Send, Return, Ask, Open, Take, Give, Drain, Release}
+use Rattle.semantics.specs.declared.program.Op.TheVariants.{Apply1, Apply2, Apply2Right, Apply2Left, Lit, Copy, Sync, Switch, Fetch, Store, Frame}
+use Rattle.semantics.specs.declared.program.Op.TheVariants.{Link, Send, Return, Ask, Open, Take, Give, Drain, Release}
 use Rattle.semantics.specs.Program.{Instr, CodeBlock, Code}
 use Rattle.semantics.specs.Bytes.{number_from, head_of, dest_word, port_bit, origin_code, HasOperand, IsOrigin, IsCodeBlock, IsCode}
 use Rattle.semantics.specs.declared.version.Version.{Version}
@@ -131,7 +133,11 @@ operand_room v c (Fetch a) is h = omega (arith, h, is.few_arrays)
 operand_room v c (Store a) is h = omega (arith, h, is.few_arrays)
 operand_room v c Frame is h = tt
 operand_room v c (Link b) is h = omega (arith, h, is.some_block.1)
-operand_room v c (Send b e) is h = (omega (arith, slice_get_within c.program.blocks b h.0 h.1, is.some_block.1), omega (arith, few_inputs v c b h.0 is h.1, h.2))
+operand_room v c (Send b e) is h = (
+  omega (arith, slice_get_within c.program.blocks b h.0 h.1, is.some_block.1),
+  omega
+      (arith, few_inputs v c b h.0 is h.1, h.2),
+)
 operand_room v c (Return o) is h = omega (arith, h)
 operand_room v c (Ask o) is h = omega (arith, h)
 operand_room v c (Open k) is h = omega (arith, h.1)
@@ -213,7 +219,8 @@ origin_back (At b n) h =
         go false e = refl
 
 -- the second word: the operand and the origin
-pub second_back : (v : ℕ) (version : Version) (k : ℕ) (op : Op) (o : Opcode) (origin : Origin) → version_in v ≡ version → k < 2 ^ 32 → Opcodes.may_fault op ≡ makes_faults o → IsOrigin v op origin
+pub second_back : (v : ℕ) (version : Version) (k : ℕ) (op : Op) (o : Opcode) (origin : Origin) → version_in v ≡ version → k < 2 ^ 32
+    → Opcodes.may_fault op ≡ makes_faults o → IsOrigin v op origin
     → (operand_in version o (k + 2 ^ 32 * origin_code origin) ≡ k) × (origin_of (origin_number version o (k + 2 ^ 32 * origin_code origin)) ≡ origin)
 second_back v One k op o Untold e few same is = (omega arith, refl)
 second_back v One k op o (At b n) e few same is =
@@ -240,7 +247,8 @@ second_back v Two k op o (At b n) e few same is = go (makes_faults o) (sym same 
         let second : n ≡ m = cc in
         (omega (arith, first, is.2), omega (arith, second, is.3))
 
-    go : (t : Bool) → t ≡ true → ((if t then (k + 2 ^ 32 * origin_code (At b n)) % 2 ^ 32 else k + 2 ^ 32 * origin_code (At b n)) ≡ k) × (origin_of (if t then (k + 2 ^ 32 * origin_code (At b n)) / 2 ^ 32 else 0) ≡ At b n)
+    go : (t : Bool) → t ≡ true → ((if t then (k + 2 ^ 32 * origin_code (At b n)) % 2 ^ 32 else k + 2 ^ 32 * origin_code (At b n)) ≡ k)
+        × (origin_of (if t then (k + 2 ^ 32 * origin_code (At b n)) / 2 ^ 32 else 0) ≡ At b n)
     go true q =
         let z : (k + 2 ^ 32 * origin_code (At b n)) / 2 ^ 32 ≡ origin_code (At b n) = omega (arith, few) in
         (omega (arith, few), ap origin_of z ∙ origin_back (At b n) limits)
@@ -289,8 +297,17 @@ abbrev pub first_word_of : ℕ → ℕ → ℕ → ℕ → ℕ → ℕ
 first_word_of c f s d e = c + 2 ^ 8 * f + 2 ^ 16 * s + 2 ^ 32 * d + 2 ^ 48 * e
 
 pub first_parts : (c f s d e : ℕ) → c < 2 ^ 8 → f < 2 ^ 8 → s < 2 ^ 16 → d < 2 ^ 16 → e < 2 ^ 16
-    → (first_word_of c f s d e % 2 ^ 8 ≡ c) × (first_word_of c f s d e / 2 ^ 8 % 2 ^ 8 ≡ f) × (slot_in (first_word_of c f s d e) ≡ s) × (first_half (first_word_of c f s d e) ≡ d) × (second_half (first_word_of c f s d e) ≡ e) × (first_word_of c f s d e < 2 ^ 64)
-first_parts c f s d e p q r t u = (omega (arith, p), omega (arith, p, q), omega (arith, p, q, r), omega (arith, p, q, r, t), omega (arith, p, q, r, t), omega (arith, p, q, r, t, u))
+    → (first_word_of c f s d e % 2 ^ 8 ≡ c) × (first_word_of c f s d e / 2 ^ 8 % 2 ^ 8 ≡ f) × (slot_in (first_word_of c f s d e) ≡ s)
+    × (first_half (first_word_of c f s d e) ≡ d) × (second_half (first_word_of c f s d e) ≡ e) × (first_word_of c f s d e < 2 ^ 64)
+first_parts c f s d e p q r t u = (
+  omega (arith, p),
+  omega (arith, p, q),
+  omega (arith, p, q, r),
+  omega (arith, p, q, r, t),
+  omega
+      (arith, p, q, r, t),
+  omega (arith, p, q, r, t, u),
+)
 
 -- AN INSTRUCTION that has room in its words
 pub record HasPlace (v : ℕ) (c : Code) (i : Instr) : Type 0 where
@@ -310,7 +327,8 @@ word_two c i = (head_of c.literals i.op).operand + 2 ^ 32 * origin_code i.origin
 pub opcode_parsed : (v : ℕ) (c : Code) (i : Instr) → HasPlace v c i → opcode_in (word_one c i) ≡ Some (opcode_for i.op)
 opcode_parsed v c i p =
     let ls = c.literals in
-    let parts = first_parts (head_of ls i.op).opcode (head_of ls i.op).flag i.slot (dest_word i.firsts) (dest_word i.seconds) (opcode_few ls i.op) (flag_few ls i.op) p.slot (half_few i.firsts p.firsts) (half_few i.seconds p.seconds) in
+    let parts = first_parts (head_of ls i.op).opcode (head_of ls i.op).flag i.slot (dest_word i.firsts) (dest_word i.seconds) (opcode_few ls i.op)
+    (flag_few ls i.op) p.slot (half_few i.firsts p.firsts) (half_few i.seconds p.seconds) in
     ap (λ (x : ℕ). opcode_of x (word_one c i / 2 ^ 8 % 2 ^ 8)) parts.0 ∙ ap (λ (x : ℕ). opcode_of (head_of ls i.op).opcode x) parts.1 ∙ opcode_back ls i.op
 
 abbrev made : Op → Origin → ℕ → List Dest → List Dest → Instr
@@ -322,9 +340,11 @@ fault_named w c op look h r =
     ap Opcodes.may_fault (sym (with_back w c op look h r)) ∙ same_fault (opcode_for op) k (literal_or_zero w k)
 
 pub second_parsed : (w : ℕ → ℕ) (v : ℕ) (c : Code) (i : Instr) → w 1 ≡ v → length c.literals ≤ 65536 → IsLooked w c.literals → HasPlace v c i
-    → (operand_in (version_in (w 1)) (opcode_for i.op) (word_two c i) ≡ (head_of c.literals i.op).operand) × (origin_of (origin_number (version_in (w 1)) (opcode_for i.op) (word_two c i)) ≡ i.origin)
+    → (operand_in (version_in (w 1)) (opcode_for i.op) (word_two c i) ≡ (head_of c.literals i.op).operand)
+    × (origin_of (origin_number (version_in (w 1)) (opcode_for i.op) (word_two c i)) ≡ i.origin)
 second_parsed w v c i e few look p =
-    second_back v (version_in (w 1)) (head_of c.literals i.op).operand i.op (opcode_for i.op) i.origin (ap version_in (sym e)) (operand_few c.literals i.op few p.room) (fault_named w c i.op look p.operand p.room) p.origin
+    second_back v (version_in (w 1)) (head_of c.literals i.op).operand i.op (opcode_for i.op) i.origin (ap version_in (sym e))
+    (operand_few c.literals i.op few p.room) (fault_named w c i.op look p.operand p.room) p.origin
 
 pub instr_back : (w : ℕ → ℕ) (v : ℕ) (c : Code) (i : Instr) → w 1 ≡ v → length c.literals ≤ 65536 → IsLooked w c.literals → HasPlace v c i
     → shown (instr_as w (opcode_for i.op) (word_one c i) (word_two c i)) ≡ i
@@ -334,12 +354,14 @@ instr_back w v c i e few look p =
     let x = word_one c i in
     let y = word_two c i in
     let second = second_parsed w v c i e few look p in
-    let parts = first_parts (head_of ls i.op).opcode (head_of ls i.op).flag i.slot (dest_word i.firsts) (dest_word i.seconds) (opcode_few ls i.op) (flag_few ls i.op) p.slot (half_few i.firsts p.firsts) (half_few i.seconds p.seconds) in
+    let parts = first_parts (head_of ls i.op).opcode (head_of ls i.op).flag i.slot (dest_word i.firsts) (dest_word i.seconds) (opcode_few ls i.op)
+    (flag_few ls i.op) p.slot (half_few i.firsts p.firsts) (half_few i.seconds p.seconds) in
     let k = operand_in (version_in (w 1)) o y in
     let op : with o k (literal_or_zero w k) ≡ i.op = ap (λ (m : ℕ). with o m (literal_or_zero w m)) second.0 ∙ with_back w c i.op look p.operand p.room in
     let firsts : option_to_list (dest_of (first_half x)) ≡ i.firsts = ap (λ (h : ℕ). option_to_list (dest_of h)) parts.3 ∙ dests_back i.firsts p.firsts in
     let seconds : option_to_list (dest_of (second_half x)) ≡ i.seconds = ap (λ (h : ℕ). option_to_list (dest_of h)) parts.4 ∙ dests_back i.seconds p.seconds in
-    ap (λ (a : Op). made a (origin_of (origin_number (version_in (w 1)) o y)) (slot_in x) (option_to_list (dest_of (first_half x))) (option_to_list (dest_of (second_half x)))) op
+    ap (λ (a : Op). made a (origin_of (origin_number (version_in (w 1)) o y)) (slot_in x) (option_to_list (dest_of (first_half x)))
+    (option_to_list (dest_of (second_half x)))) op
     ∙ ap (λ (a : Origin). made i.op a (slot_in x) (option_to_list (dest_of (first_half x))) (option_to_list (dest_of (second_half x)))) second.1
     ∙ ap (λ (a : ℕ). made i.op i.origin a (option_to_list (dest_of (first_half x))) (option_to_list (dest_of (second_half x)))) parts.2
     ∙ ap (λ (a : List Dest). made i.op i.origin i.slot a (option_to_list (dest_of (second_half x)))) firsts

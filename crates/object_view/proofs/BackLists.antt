@@ -1,5 +1,6 @@
 -- The words of lawful code are where they are looked for.
-use Rattle.std.proofs.Common.{◌≡◌, ℕ, zero, suc, ◌+◌, ◌*◌, ◌^◌, ◌<◌, ◌≤◌, List, [], ◌∷◌, ◌++◌, length, map, Some, ℤ, refl, sym, ap, subst, ◌∙◌, append_assoc, arith, ◌⊎◌, inl, inr}
+use Rattle.std.proofs.Common.{◌≡◌, ℕ, zero, suc, ◌+◌, ◌*◌, ◌^◌, ◌<◌, ◌≤◌, List, [], ◌∷◌, ◌++◌, length, map, Some, ℤ, refl, sym, ap, subst, ◌∙◌}
+use Rattle.std.proofs.Common.{append_assoc, arith, ◌⊎◌, inl, inr}
 use Rattle.std.specs.Prelude.{flat_map, slice_get, All, FitsSigned}
 use Rattle.std.specs.Int.{w64, cast_unsigned}
 use mir.ValLaws as laws
@@ -48,7 +49,8 @@ reads_at w i (y ∷ xs) j (suc k) x r p =
     let e : i + suc k ≡ i + 1 + k = omega arith in
     ap w e ∙ reads_at w (i + 1) xs j k x r.1 p
 
-pub reads_map : {X : Type 0} (f : X → ℕ) (w : ℕ → ℕ) (i : ℕ) (xs : List X) (rest : List ℕ) (j k : ℕ) (x : X) → ReadsTo w i (map f xs ++ rest) j → slice_get xs k ≡ Some x → w (i + k) ≡ f x
+pub reads_map : {X : Type 0} (f : X → ℕ) (w : ℕ → ℕ) (i : ℕ) (xs : List X) (rest : List ℕ) (j k : ℕ) (x : X) → ReadsTo w i (map f xs ++ rest) j
+    → slice_get xs k ≡ Some x → w (i + k) ≡ f x
 reads_map f w i [] rest j k x r p = absurd cc
 reads_map {X} f w i (y ∷ xs) rest j zero x r p =
     let e : i + 0 ≡ i = omega arith in
@@ -106,10 +108,18 @@ pub record EntryParts (x n i o s : ℕ) : Type 0 where
   pub few : x < 2 ^ 64
 
 entry_parts : (n i o s : ℕ) → n < 2 ^ 32 → i < 2 ^ 8 → o < 2 ^ 8 → s < 2 ^ 16 → EntryParts (n + 2 ^ 32 * i + 2 ^ 40 * o + 2 ^ 48 * s) n i o s
-entry_parts n i o s p q r t = record { count = omega (arith, p); inputs = omega (arith, p, q); outputs = omega (arith, p, q, r); slots = omega (arith, p, q, r); few = omega (arith, p, q, r, t) }
+entry_parts n i o s p q r t = record {
+  count = omega (arith, p);
+  inputs = omega (arith, p, q);
+  outputs = omega (arith, p, q, r);
+  slots = omega
+      (arith, p, q, r);
+  few = omega (arith, p, q, r, t);
+}
 
 pub entry_back : (v : ℕ) (c : Code) (b : CodeBlock) → IsCodeBlock v c b → EntryParts (block_word b) (length b.instrs) b.inputs b.outputs b.slots
-entry_back v c b ok = entry_parts (length b.instrs) b.inputs b.outputs b.slots (omega (arith, ok.size.1)) (omega (arith, ok.inputs.1)) (omega (arith, ok.outputs.1)) (omega (arith, ok.slots))
+entry_back v c b ok = entry_parts (length b.instrs) b.inputs b.outputs b.slots (omega (arith, ok.size.1)) (omega (arith, ok.inputs.1))
+    (omega (arith, ok.outputs.1)) (omega (arith, ok.slots))
 
 pub origin_few : (v : ℕ) (op : Op) (o : Origin) → IsOrigin v op o → origin_code o ≤ 262144
 origin_few v op Untold h = omega arith
@@ -118,7 +128,8 @@ origin_few v op (At b n) h = omega (arith, h.2, h.3)
 instr_fits : (v : ℕ) (c : Code) (i : Instr) → IsCode v c → HasPlace v c i → AreWords (instr_words c.literals i)
 instr_fits v c i is p =
     let ls = c.literals in
-    let parts = first_parts (Bytes.head_of ls i.op).opcode (Bytes.head_of ls i.op).flag i.slot (Bytes.dest_word i.firsts) (Bytes.dest_word i.seconds) (opcode_few ls i.op) (flag_few ls i.op) p.slot (half_few i.firsts p.firsts) (half_few i.seconds p.seconds) in
+    let parts = first_parts (Bytes.head_of ls i.op).opcode (Bytes.head_of ls i.op).flag i.slot (Bytes.dest_word i.firsts) (Bytes.dest_word i.seconds)
+    (opcode_few ls i.op) (flag_few ls i.op) p.slot (half_few i.firsts p.firsts) (half_few i.seconds p.seconds) in
     (parts.5, (omega (arith, operand_few ls i.op is.few_literals p.room, origin_few v i.op i.origin p.origin), tt))
 
 version_few : (v : ℕ) → (v ≡ 1) ⊎ (v ≡ 2) → v < 2 ^ 64
@@ -128,15 +139,24 @@ version_few v (inr e) = omega (arith, e)
 -- all its words have 64 bits
 pub all_words_fit : (v : ℕ) (c : Code) → IsCode v c → AreWords (words_of v c)
 all_words_fit v c is =
-    let blocks : AreWords (map block_word c.program.blocks) = words_map block_word c.program.blocks (λ k b at. (entry_back v c b (block_there v c k b is at)).few) in
+    let blocks : AreWords (map block_word c.program.blocks) = words_map block_word c.program.blocks
+    (λ k b at. (entry_back v c b (block_there v c k b is at)).few) in
     let instrs : AreWords (flat_map (λ (b : CodeBlock). flat_map (instr_words c.literals) b.instrs) c.program.blocks) =
-    words_flat (λ (b : CodeBlock). flat_map (instr_words c.literals) b.instrs) c.program.blocks (λ k b at. words_flat (instr_words c.literals) b.instrs (λ n i there. instr_fits v c i is (place_there v c b n i is (block_there v c k b is at) there))) in
-    let literals : AreWords (map (cast_unsigned w64) c.literals) = words_map (cast_unsigned w64) c.literals (λ k z at. (laws.of_z_fits w64 z (all_at (λ (x : ℤ). FitsSigned w64 x) c.literals k z is.literals at)).fits) in
+    words_flat (λ (b : CodeBlock). flat_map (instr_words c.literals) b.instrs) c.program.blocks
+    (λ k b at. words_flat (instr_words c.literals) b.instrs
+    (λ n i there. instr_fits v c i is (place_there v c b n i is (block_there v c k b is at) there))) in
+    let literals : AreWords (map (cast_unsigned w64) c.literals) = words_map (cast_unsigned w64) c.literals
+    (λ k z at. (laws.of_z_fits w64 z (all_at (λ (x : ℤ). FitsSigned w64 x) c.literals k z is.literals at)).fits) in
     let arrays : AreWords c.program.arrays =
     words_tabulated c.program.arrays (λ k n at. let few =
     all_at (λ (m : ℕ). (1 ≤ m) × (m ≤ 65536)) c.program.arrays k n is.arrays at in omega (arith, few.1)) in
-    let tail = words_append (map block_word c.program.blocks) _ blocks (words_append _ _ instrs (words_append _ c.program.arrays literals arrays)) in
-    (version_few v is.version_known, (omega (arith, is.some_block.1), (omega (arith, is.few_literals), (omega (arith, is.few_arrays), (omega (arith, is.main, is.some_block.1), tail)))))
+    let tail = words_append (map block_word c.program.blocks) _ blocks (words_append _ _ instrs (words_append _ c.program.arrays literals arrays)) in (
+      version_few v is.version_known,
+      (
+        omega (arith, is.some_block.1),
+        (omega (arith, is.few_literals), (omega (arith, is.few_arrays), (omega (arith, is.main, is.some_block.1), tail))),
+      ),
+    )
 
 -- WHERE THE WORDS ARE
 pub record IsRead (v : ℕ) (c : Code) (w : ℕ → ℕ) (j : ℕ) : Type 0 where
@@ -147,7 +167,8 @@ pub record IsRead (v : ℕ) (c : Code) (w : ℕ → ℕ) (j : ℕ) : Type 0 wher
   pub arrays : w 4 ≡ length c.program.arrays
   pub main : w 5 ≡ c.program.main
   pub entry : (k : ℕ) (b : CodeBlock) → slice_get c.program.blocks k ≡ Some b → w (6 + k) ≡ block_word b
-  pub instr : (k : ℕ) (b : CodeBlock) → slice_get c.program.blocks k ≡ Some b → (n : ℕ) (i : Instr) → slice_get b.instrs n ≡ Some i → (w (instr_place w (instrs_below w k + n)) ≡ word_one c i) × (w (instr_place w (instrs_below w k + n) + 1) ≡ word_two c i)
+  pub instr : (k : ℕ) (b : CodeBlock) → slice_get c.program.blocks k ≡ Some b → (n : ℕ) (i : Instr) → slice_get b.instrs n ≡ Some i
+      → (w (instr_place w (instrs_below w k + n)) ≡ word_one c i) × (w (instr_place w (instrs_below w k + n) + 1) ≡ word_two c i)
   pub literal : (k : ℕ) (z : ℤ) → slice_get c.literals k ≡ Some z → w (literal_place w k) ≡ cast_unsigned w64 z
   pub array : (k n : ℕ) → slice_get c.program.arrays k ≡ Some n → w (array_place w k) ≡ n
   pub long : word_count w ≡ j
@@ -156,7 +177,8 @@ instr_words_long : (ls : List ℤ) (is : List Instr) → length (flat_map (instr
 instr_words_long ls [] = refl
 instr_words_long ls (i ∷ is) = omega (arith, instr_words_long ls is)
 
-instr_reads : (w : ℕ → ℕ) (c : Code) (is : List Instr) (ip : ℕ) (rest : List ℕ) (j n : ℕ) (i : Instr) → ReadsTo w (instr_place w ip) (flat_map (instr_words c.literals) is ++ rest) j → slice_get is n ≡ Some i
+instr_reads : (w : ℕ → ℕ) (c : Code) (is : List Instr) (ip : ℕ) (rest : List ℕ) (j n : ℕ) (i : Instr)
+    → ReadsTo w (instr_place w ip) (flat_map (instr_words c.literals) is ++ rest) j → slice_get is n ≡ Some i
     → (w (instr_place w (ip + n)) ≡ word_one c i) × (w (instr_place w (ip + n) + 1) ≡ word_two c i)
 instr_reads w c [] ip rest j n i r p = absurd cc
 instr_reads w c (h ∷ is) ip rest j zero i r p =
@@ -173,12 +195,15 @@ abbrev words_in : Code → List CodeBlock → List ℕ
 words_in c bs = flat_map (λ (b : CodeBlock). flat_map (instr_words c.literals) b.instrs) bs
 
 -- past a block
-block_past : (w : ℕ → ℕ) (c : Code) (x : CodeBlock) (bs : List CodeBlock) (b : ℕ) (rest : List ℕ) (j : ℕ) → count_in (w (6 + b)) ≡ length x.instrs → ReadsTo w (instr_place w (instrs_below w b)) (words_in c (x ∷ bs) ++ rest) j
-    → ReadsTo w (instr_place w (instrs_below w b)) (flat_map (instr_words c.literals) x.instrs ++ (words_in c bs ++ rest)) j × ReadsTo w (instr_place w (instrs_below w (b + 1))) (words_in c bs ++ rest) j
+block_past : (w : ℕ → ℕ) (c : Code) (x : CodeBlock) (bs : List CodeBlock) (b : ℕ) (rest : List ℕ) (j : ℕ) → count_in (w (6 + b)) ≡ length x.instrs
+    → ReadsTo w (instr_place w (instrs_below w b)) (words_in c (x ∷ bs) ++ rest) j
+    → ReadsTo w (instr_place w (instrs_below w b)) (flat_map (instr_words c.literals) x.instrs ++ (words_in c bs ++ rest)) j
+    × ReadsTo w (instr_place w (instrs_below w (b + 1))) (words_in c bs ++ rest) j
 block_past w c x bs b rest j n r =
     let here : List ℕ = flat_map (instr_words c.literals) x.instrs in
     let first = subst (λ (l : List ℕ). ReadsTo w (instr_place w (instrs_below w b)) l j) (append_assoc here (words_in c bs) rest) r in
-    let to : instr_place w (instrs_below w b) + length here ≡ instr_place w (instrs_below w (b + 1)) = omega (arith, instr_words_long c.literals x.instrs, below_next w b, n) in
+    let to : instr_place w (instrs_below w b) + length here ≡ instr_place w (instrs_below w (b + 1)) = omega
+    (arith, instr_words_long c.literals x.instrs, below_next w b, n) in
     (first, subst (λ (a : ℕ). ReadsTo w a (words_in c bs ++ rest) j) to (reads_past w (instr_place w (instrs_below w b)) here (words_in c bs ++ rest) j first))
 
 abbrev IsCounted : (ℕ → ℕ) → ℕ → List CodeBlock → Type 0
@@ -190,7 +215,8 @@ counted_here w b x bs h = let e : b ≡ b + 0 = omega arith in ap (λ k. count_i
 counted_next : (w : ℕ → ℕ) (b : ℕ) (x : CodeBlock) (bs : List CodeBlock) → IsCounted w b (x ∷ bs) → IsCounted w (b + 1) bs
 counted_next w b x bs h = λ k y p. let e : b + 1 + k ≡ b + suc k = omega arith in ap (λ m. count_in (w (6 + m))) e ∙ h (suc k) y p
 
-blocks_past : (w : ℕ → ℕ) (c : Code) (bs : List CodeBlock) (b : ℕ) (rest : List ℕ) (j : ℕ) → IsCounted w b bs → ReadsTo w (instr_place w (instrs_below w b)) (words_in c bs ++ rest) j → ReadsTo w (instr_place w (instrs_below w (b + length bs))) rest j
+blocks_past : (w : ℕ → ℕ) (c : Code) (bs : List CodeBlock) (b : ℕ) (rest : List ℕ) (j : ℕ) → IsCounted w b bs
+    → ReadsTo w (instr_place w (instrs_below w b)) (words_in c bs ++ rest) j → ReadsTo w (instr_place w (instrs_below w (b + length bs))) rest j
 blocks_past w c [] b rest j h r =
     let e : b ≡ b + 0 = omega arith in
     subst (λ (a : ℕ). ReadsTo w (instr_place w (instrs_below w a)) rest j) e r
@@ -199,8 +225,10 @@ blocks_past w c (x ∷ bs) b rest j h r =
     let p = block_past w c x bs b rest j (counted_here w b x bs h) r in
     subst (λ (a : ℕ). ReadsTo w (instr_place w (instrs_below w a)) rest j) e (blocks_past w c bs (b + 1) rest j (counted_next w b x bs h) p.1)
 
-block_reads : (w : ℕ → ℕ) (c : Code) (bs : List CodeBlock) (b : ℕ) (rest : List ℕ) (j : ℕ) → IsCounted w b bs → ReadsTo w (instr_place w (instrs_below w b)) (words_in c bs ++ rest) j
-    → (k : ℕ) (x : CodeBlock) → slice_get bs k ≡ Some x → (n : ℕ) (i : Instr) → slice_get x.instrs n ≡ Some i → (w (instr_place w (instrs_below w (b + k) + n)) ≡ word_one c i) × (w (instr_place w (instrs_below w (b + k) + n) + 1) ≡ word_two c i)
+block_reads : (w : ℕ → ℕ) (c : Code) (bs : List CodeBlock) (b : ℕ) (rest : List ℕ) (j : ℕ) → IsCounted w b bs
+    → ReadsTo w (instr_place w (instrs_below w b)) (words_in c bs ++ rest) j
+    → (k : ℕ) (x : CodeBlock) → slice_get bs k ≡ Some x → (n : ℕ) (i : Instr) → slice_get x.instrs n ≡ Some i
+    → (w (instr_place w (instrs_below w (b + k) + n)) ≡ word_one c i) × (w (instr_place w (instrs_below w (b + k) + n) + 1) ≡ word_two c i)
 block_reads w c [] b rest j h r k x p n i q = absurd cc
 block_reads w c (y ∷ bs) b rest j h r zero x p n i q =
     let same : y ≡ x = cc in
@@ -225,7 +253,8 @@ is_read v c w j is r =
     let nl = r.1.1.1.0 in
     let na = r.1.1.1.1.0 in
     let six = r.1.1.1.1.1.1 in
-    let entry : (k : ℕ) (b : CodeBlock) → slice_get bs k ≡ Some b → w (6 + k) ≡ block_word b = λ k b at. reads_map block_word w 6 bs (ws ++ (ls ++ lens)) j k b six at in
+    let entry : (k : ℕ) (b : CodeBlock) → slice_get bs k ≡ Some b → w (6 + k) ≡ block_word b = λ k b at. reads_map block_word w 6 bs
+    (ws ++ (ls ++ lens)) j k b six at in
     let counted : IsCounted w 0 bs = λ k b at.
     let z : 0 + k ≡ k = omega arith in
     ap (λ m. count_in (w (6 + m))) z ∙ ap count_in (entry k b at) ∙ (entry_back v c b (block_there v c k b is at)).count in
@@ -246,7 +275,8 @@ is_read v c w j is r =
       entry = entry;
       instr = λ k b at n i there.
           let z : 0 + k ≡ k = omega arith in
-          subst (λ (a : ℕ). (w (instr_place w (instrs_below w a + n)) ≡ word_one c i) × (w (instr_place w (instrs_below w a + n) + 1) ≡ word_two c i)) z (block_reads w c bs 0 (ls ++ lens) j counted r1 k b at n i there);
+          subst (λ (a : ℕ). (w (instr_place w (instrs_below w a + n)) ≡ word_one c i) × (w (instr_place w (instrs_below w a + n) + 1) ≡ word_two c i))
+          z (block_reads w c bs 0 (ls ++ lens) j counted r1 k b at n i there);
       literal = λ k z at.
           let e : literal_place w k ≡ literal_place w 0 + k = omega arith in
           ap w e ∙ reads_map (cast_unsigned w64) w (literal_place w 0) c.literals lens j k z r2 at;

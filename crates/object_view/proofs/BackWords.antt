@@ -26,7 +26,8 @@ word_back x rest few =
     let same : little_number 8 (to_le_bytes w64 x ++ rest) ≡ from_le_bytes w64 (to_le_bytes w64 x) = omega arith in
     same ∙ from_le_bytes-to_le_bytes_8 x few
 
-pub words_back : (bytes : List ℕ) (ws : List ℕ) (i : ℕ) → drop (8 * i) bytes ≡ flat_map (to_le_bytes w64) ws → AreWords ws → ReadsTo (word_at bytes) i ws (i + length ws)
+pub words_back : (bytes : List ℕ) (ws : List ℕ) (i : ℕ) → drop (8 * i) bytes ≡ flat_map (to_le_bytes w64) ws → AreWords ws
+    → ReadsTo (word_at bytes) i ws (i + length ws)
 unfolding word_at
 words_back bytes [] i e few = omega arith
 words_back bytes (x ∷ ws) i e few =

@@ -1,5 +1,6 @@
 -- Words and bytes: a list of words that is read from a place to another one.
-use Rattle.std.proofs.Common.{◌≡◌, ℕ, zero, suc, ◌+◌, ◌-◌, ◌*◌, ◌^◌, ◌<◌, ◌≤◌, List, [], ◌∷◌, ◌++◌, length, take, drop, get_or, refl, sym, ap, subst, ◌∙◌, arith}
+use Rattle.std.proofs.Common.{◌≡◌, ℕ, zero, suc, ◌+◌, ◌-◌, ◌*◌, ◌^◌, ◌<◌, ◌≤◌, List, [], ◌∷◌, ◌++◌, length, take, drop, get_or, refl, sym, ap}
+use Rattle.std.proofs.Common.{subst, ◌∙◌, arith}
 use Rattle.std.specs.Prelude.{flat_map}
 use Rattle.std.specs.Int.{w64, to_le_bytes, from_le_bytes}
 use Rattle.std.proofs.lemmas.Nat.{le_bytes_8}
@@ -56,7 +57,8 @@ length_dropped [] (suc k) = omega arith
 length_dropped (x ∷ xs) (suc k) = omega (arith, length_dropped xs k)
 
 -- where the words are read from the bytes, the bytes are the words'
-pub spelled : (bytes : List ℕ) (ws : List ℕ) (i : ℕ) → AllBytes bytes → length (drop (8 * i) bytes) ≡ 8 * length ws → (j : ℕ) → ReadsTo (word_at bytes) i ws j → drop (8 * i) bytes ≡ flat_map (to_le_bytes w64) ws
+pub spelled : (bytes : List ℕ) (ws : List ℕ) (i : ℕ) → AllBytes bytes → length (drop (8 * i) bytes) ≡ 8 * length ws → (j : ℕ)
+    → ReadsTo (word_at bytes) i ws j → drop (8 * i) bytes ≡ flat_map (to_le_bytes w64) ws
 unfolding word_at
 spelled bytes [] i all len j r = nil_from_length (drop (8 * i) bytes) (omega (arith, len))
 spelled bytes (x ∷ ws) i all len j r =

@@ -6,7 +6,8 @@ use Rattle.operators.specs.declared.Unary.TheVariants.{Neg, Not}
 use Rattle.operators.specs.declared.Binary.{Binary}
 use Rattle.operators.proofs.Every.{all_binary}
 use Rattle.semantics.specs.declared.opcode.Opcode.{Opcode}
-use Rattle.semantics.specs.declared.opcode.Opcode.TheVariants.{Apply1, Apply2, Apply2Right, Apply2Left, Lit, Copy, Sync, Switch, Fetch, Store, Frame, Link, Send, Return, Ask, Open, Take, Give, Drain, Release}
+use Rattle.semantics.specs.declared.opcode.Opcode.TheVariants.{Apply1, Apply2, Apply2Right, Apply2Left, Lit, Copy, Sync, Switch, Fetch, Store}
+use Rattle.semantics.specs.declared.opcode.Opcode.TheVariants.{Frame, Link, Send, Return, Ask, Open, Take, Give, Drain, Release}
 use Rattle.semantics.specs.Opcodes.{binary_code, code_number, binary_of, flagged, unflagged, opcode_from, opcode_of}
 use Rattle.semantics.proofs.OperatorWords.{binary_back}
 use Rattle.object_view.specs.Fields.{opcode_in}
@@ -81,7 +82,8 @@ none_there None e k = absurd cc
 none_there (Some o) e k = absurd cc
 
 -- and one that has no flag
-pub plain_known : (x : ℕ) (o : Opcode) → IsSome (opcode_in x) → x % 32 ≡ code_number o % 32 → binary_of (code_number o) ≡ None → unflagged (code_number o) ≡ Some o → opcode_in x ≡ Some o
+pub plain_known : (x : ℕ) (o : Opcode) → IsSome (opcode_in x) → x % 32 ≡ code_number o % 32 → binary_of (code_number o) ≡ None
+    → unflagged (code_number o) ≡ Some o → opcode_in x ≡ Some o
 plain_known x o h e none plain =
     go (x / 2 ^ 8 % 2 ^ 8 == 0) (code_read x (code_number o) None (code_known x (code_number o) h e (low_number o)) none)
   where

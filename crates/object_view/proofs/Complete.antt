@@ -1,5 +1,6 @@
 -- The bytes of lawful code pass each check.
-use Rattle.std.proofs.Common.{◌≡◌, ℕ, zero, suc, ◌+◌, ◌-◌, ◌*◌, ◌/◌, ◌%◌, ◌^◌, ◌<◌, ◌≤◌, Bool, true, false, ◌&&◌, ◌||◌, ◌==◌, nat_lt, nat_le, if◌then◌else◌, List, [], ◌∷◌, length, Option, Some, None, Ok, Err, ℤ, ◌⊎◌, inl, inr, refl, sym, ap, ◌∙◌, arith, sum}
+use Rattle.std.proofs.Common.{◌≡◌, ℕ, zero, suc, ◌+◌, ◌-◌, ◌*◌, ◌/◌, ◌%◌, ◌^◌, ◌<◌, ◌≤◌, Bool, true, false, ◌&&◌, ◌||◌, ◌==◌, nat_lt, nat_le}
+use Rattle.std.proofs.Common.{if◌then◌else◌, List, [], ◌∷◌, length, Option, Some, None, Ok, Err, ℤ, ◌⊎◌, inl, inr, refl, sym, ap, ◌∙◌, arith, sum}
 use Rattle.std.specs.Prelude.{slice_get, All, Contains, int_lt, sum_by, is_some, is_none}
 use Rattle.std.proofs.lemmas.Bool.{and_from, or_right, or_left, lt-ltb, le-leb, le-ltb, eq-eqb}
 use Rattle.std.proofs.lemmas.Option.{slice_get_within}
@@ -11,27 +12,35 @@ use Rattle.tags.specs.declared.token.Port.TheVariants.{Left, Right}
 use Rattle.operators.specs.declared.Unary.TheVariants.{Neg, Not}
 use Rattle.semantics.specs.declared.program.Dest.{Dest}
 use Rattle.semantics.specs.declared.program.Op.{Op}
-use Rattle.semantics.specs.declared.program.Op.TheVariants.{Apply1, Apply2, Apply2Right, Apply2Left, Lit, Copy, Sync, Switch, Fetch, Store, Frame, Link, Send, Return, Ask, Open, Take, Give, Drain, Release}
+use Rattle.semantics.specs.declared.program.Op.TheVariants.{Apply1, Apply2, Apply2Right, Apply2Left, Lit, Copy, Sync, Switch, Fetch, Store, Frame}
+use Rattle.semantics.specs.declared.program.Op.TheVariants.{Link, Send, Return, Ask, Open, Take, Give, Drain, Release}
 use Rattle.semantics.specs.Program.{Instr, CodeBlock, Code}
 use Rattle.semantics.specs.Rule.{slot_of}
 use Rattle.semantics.specs.Bytes as Bytes
 use Rattle.semantics.specs.Plan as Plan
 use Rattle.semantics.specs.Opcodes as Opcodes
-use Rattle.semantics.specs.Bytes.{number_from, head_of, dest_word, port_bit, origin_code, block_word, words_of, bytes_of, HasOperand, HasDests, IsOrigin, IsSlot, IsDest, IsInstr, IsCodeBlock, IsCode, IsObject}
+use Rattle.semantics.specs.Bytes.{number_from, head_of, dest_word, port_bit, origin_code, block_word, words_of, bytes_of, HasOperand, HasDests}
+use Rattle.semantics.specs.Bytes.{IsOrigin, IsSlot, IsDest, IsInstr, IsCodeBlock, IsCode, IsObject}
 use Rattle.object_view.specs.declared.fault.ObjectFault.{ObjectFault}
-use Rattle.object_view.specs.declared.fault.ObjectFault.TheVariants.{Truncated, Trailing, BadMagic, BadVersion, BadTable, BadOpcode, BadDestination, BadSlot, BadLiteral}
+use Rattle.object_view.specs.declared.fault.ObjectFault.TheVariants.{Truncated, Trailing, BadMagic, BadVersion, BadTable, BadOpcode, BadDestination}
+use Rattle.object_view.specs.declared.fault.ObjectFault.TheVariants.{BadSlot, BadLiteral}
 use Rattle.semantics.specs.declared.version.Version.{Version}
 use Rattle.semantics.specs.declared.version.Version.TheVariants.{One, Two}
-use Rattle.object_view.specs.Fields.{word_at, count_in, inputs_in, outputs_in, slots_in, opcode_in, slot_in, dest_of, first_half, second_half, operand_in, origin_number}
+use Rattle.object_view.specs.Fields.{word_at, count_in, inputs_in, outputs_in, slots_in, opcode_in, slot_in, dest_of, first_half, second_half}
+use Rattle.object_view.specs.Fields.{operand_in, origin_number}
 use Rattle.semantics.specs.Opcodes.{makes_faults, may_have, may_go_to, takes_two}
 use Rattle.object_view.specs.Reading.{tabulated, version_in, instrs_below, instr_place, literal_in, array_in, word_count}
-use Rattle.object_view.specs.Checks.{Checked, first_then, unless, each, MAGIC, counts_fit, header_checked, entry_fits, entry_checked, length_checked, tables_checked, cells_below, array_checked, arrays_checked, literal_checked, literals_checked, operand_fits, slot_fits, may_take_right, dest_fits, dests_fit, target_fits, number_checked, opcode_checked, instr_checked_as, instr_checked, block_checked, opening_checked, content_checked, first_refusal}
+use Rattle.object_view.specs.Checks.{Checked, first_then, unless, each, MAGIC, counts_fit, header_checked, entry_fits, entry_checked}
+use Rattle.object_view.specs.Checks.{length_checked, tables_checked, cells_below, array_checked, arrays_checked, literal_checked, literals_checked}
+use Rattle.object_view.specs.Checks.{operand_fits, slot_fits, may_take_right, dest_fits, dests_fit, target_fits, number_checked, opcode_checked}
+use Rattle.object_view.specs.Checks.{instr_checked_as, instr_checked, block_checked, opening_checked, content_checked, first_refusal}
 use Rattle.object_view.proofs.Each.{passed_first}
 use Rattle.object_view.proofs.Facts.{checked_all, none_refused}
 use Rattle.object_view.proofs.Lawful.{cells_taken, map_same}
 use Rattle.object_view.proofs.BackWords.{length_words}
 use Rattle.semantics.specs.Opcodes.{opcode_for}
-use Rattle.object_view.proofs.BackInstr.{HasHalf, word_one, word_two, opcode_parsed, second_parsed, operand_few, half_few, opcode_few, flag_few, first_parts, dest_back, not_zero}
+use Rattle.object_view.proofs.BackInstr.{HasHalf, word_one, word_two, opcode_parsed, second_parsed, operand_few, half_few, opcode_few, flag_few}
+use Rattle.object_view.proofs.BackInstr.{first_parts, dest_back, not_zero}
 use Rattle.object_view.proofs.BackLists.{IsRead, origin_few, block_there, place_there, entry_back}
 use Rattle.object_view.proofs.Back.{number_there, literal_back, looked, object_read, all_tabulated_back}
 
@@ -46,7 +55,8 @@ each_passes : (check : ℕ → Checked) (i n : ℕ) → ((k : ℕ) → k < n →
 each_passes check i zero h = refl
 each_passes check i (suc n) h =
     let z : i ≡ i + 0 = omega arith in
-    both_pass (check i) (each check (i + 1) n) (ap check z ∙ h 0 (omega arith)) (each_passes check (i + 1) n (λ k lt. let e : i + 1 + k ≡ i + suc k = omega arith in ap check e ∙ h (suc k) (omega (arith, lt))))
+    both_pass (check i) (each check (i + 1) n) (ap check z ∙ h 0 (omega arith))
+    (each_passes check (i + 1) n (λ k lt. let e : i + 1 + k ≡ i + suc k = omega arith in ap check e ∙ h (suc k) (omega (arith, lt))))
 
 from_zero : (check : ℕ → Checked) (n : ℕ) → ((k : ℕ) → k < n → check k ≡ Ok tt) → each check 0 n ≡ Ok tt
 from_zero check n h = each_passes check 0 n (λ k lt. let z : 0 + k ≡ k = omega arith in ap check z ∙ h k lt)
@@ -75,7 +85,8 @@ has_passes c (Give k) h = and_from (nat_le 2 k) (nat_le k 64) (le-leb 2 k h.0) (
 has_passes c (Drain k) h = and_from (nat_le 2 k) (nat_le k 64) (le-leb 2 k h.0) (le-leb k 64 h.1)
 has_passes c (Release o) h = refl
 
-operand_passes : (version : Version) (op : Op) (k n : ℕ) → k < 2 ^ 32 → n ≤ 262144 → may_have (opcode_for op) k ≡ true → operand_in version (opcode_for op) (k + 2 ^ 32 * n) ≡ k → operand_fits version (opcode_for op) (k + 2 ^ 32 * n) ≡ true
+operand_passes : (version : Version) (op : Op) (k n : ℕ) → k < 2 ^ 32 → n ≤ 262144 → may_have (opcode_for op) k ≡ true
+    → operand_in version (opcode_for op) (k + 2 ^ 32 * n) ≡ k → operand_fits version (opcode_for op) (k + 2 ^ 32 * n) ≡ true
 operand_passes One op k n few small h e = ap (may_have (opcode_for op)) e ∙ h
 operand_passes Two op k n few small h e =
     let o = opcode_for op in
@@ -89,7 +100,8 @@ operand_passes Two op k n few small h e =
     go true = omega (arith, few, small)
     go false = omega arith
 
-target_passes : (w : ℕ → ℕ) (v : ℕ) (c : Code) (j : ℕ) → IsCode v c → IsRead v c w j → (op : Op) → HasOperand c op → target_fits w (opcode_for op) (head_of c.literals op).operand ≡ true
+target_passes : (w : ℕ → ℕ) (v : ℕ) (c : Code) (j : ℕ) → IsCode v c → IsRead v c w j → (op : Op) → HasOperand c op
+    → target_fits w (opcode_for op) (head_of c.literals op).operand ≡ true
 target_passes w v c j is r (Apply1 Neg) h = refl
 target_passes w v c j is r (Apply1 Not) h = refl
 target_passes w v c j is r (Apply2 op) h = refl
@@ -122,12 +134,14 @@ target_passes w v c j is r (Give k) h = refl
 target_passes w v c j is r (Drain k) h = refl
 target_passes w v c j is r (Release o) h = le-leb o 255 h
 
-literal_passes : (w : ℕ → ℕ) (v : ℕ) (c : Code) (j : ℕ) → IsCode v c → IsRead v c w j → (z : ℤ) → Contains c.literals z → unless (nat_lt (number_from 0 z c.literals) (w 3)) BadLiteral ≡ Ok tt
+literal_passes : (w : ℕ → ℕ) (v : ℕ) (c : Code) (j : ℕ) → IsCode v c → IsRead v c w j → (z : ℤ) → Contains c.literals z
+    → unless (nat_lt (number_from 0 z c.literals) (w 3)) BadLiteral ≡ Ok tt
 literal_passes w v c j is r z h =
     let num = number_there z c.literals h.0 (record { steps = is.ascend }) h.1 h.2 in
     passes (nat_lt (number_from 0 z c.literals) (w 3)) BadLiteral (lt-ltb _ _ (omega (arith, num, h.1, r.literals)))
 
-number_passes : (w : ℕ → ℕ) (v : ℕ) (c : Code) (j : ℕ) → IsCode v c → IsRead v c w j → (op : Op) → HasOperand c op → number_checked w (opcode_for op) (head_of c.literals op).operand ≡ Ok tt
+number_passes : (w : ℕ → ℕ) (v : ℕ) (c : Code) (j : ℕ) → IsCode v c → IsRead v c w j → (op : Op) → HasOperand c op
+    → number_checked w (opcode_for op) (head_of c.literals op).operand ≡ Ok tt
 number_passes w v c j is r (Apply1 Neg) h = refl
 number_passes w v c j is r (Apply1 Not) h = refl
 number_passes w v c j is r (Apply2 op) h = refl
@@ -229,7 +243,8 @@ go_passes (Give k) ds es h = no_second es h.1
 go_passes (Drain k) ds es h = no_second es h.1
 go_passes (Release o) ds es h = none_there ds es h.0 h.1
 
-dyadic_named : (i : Instr) (op : Op) → (elim (slot_of i op) as (λ x. Bool) [ None ↦ false | Some r ↦ if Plan.is_credit op then false else true ]) ≡ true → takes_two (opcode_for op) ≡ true
+dyadic_named : (i : Instr) (op : Op) → (elim (slot_of i op) as (λ x. Bool) [ None ↦ false | Some r ↦ if Plan.is_credit op then false else true ])
+    ≡ true → takes_two (opcode_for op) ≡ true
 dyadic_named i (Apply1 op) h = absurd cc
 dyadic_named i (Apply2 op) h = refl
 dyadic_named i (Apply2Right op z) h = absurd cc
@@ -251,7 +266,9 @@ dyadic_named i (Give k) h = absurd cc
 dyadic_named i (Drain k) h = absurd cc
 dyadic_named i (Release o) h = refl
 
-right_passes : (w : ℕ → ℕ) (v : ℕ) (c : Code) (j k : ℕ) (b : CodeBlock) → IsCode v c → IsRead v c w j → slice_get c.program.blocks k ≡ Some b → (m : ℕ) → m < length b.instrs → Bytes.is_dyadic (slice_get b.instrs m) ≡ true → may_take_right (opcode_in (w (instr_place w (instrs_below w k + m)))) ≡ true
+right_passes : (w : ℕ → ℕ) (v : ℕ) (c : Code) (j k : ℕ) (b : CodeBlock) → IsCode v c → IsRead v c w j → slice_get c.program.blocks k ≡ Some b
+    → (m : ℕ) → m < length b.instrs → Bytes.is_dyadic (slice_get b.instrs m) ≡ true
+    → may_take_right (opcode_in (w (instr_place w (instrs_below w k + m)))) ≡ true
 right_passes w v c j k b is r at m lt dyadic =
     let ok = block_there v c k b is at in
     let e = get_some b.instrs m lt in
@@ -259,14 +276,16 @@ right_passes w v c j k b is r at m lt dyadic =
     let parsed = ap opcode_in (r.instr k b at m i e.1).0 ∙ opcode_parsed v c i (place_there v c b m i is ok e.1) in
     ap may_take_right parsed ∙ dyadic_named i i.op (ap Bytes.is_dyadic (sym e.1) ∙ dyadic)
 
-dest_passes : (w : ℕ → ℕ) (v : ℕ) (c : Code) (j k : ℕ) (b : CodeBlock) (n : ℕ) (ds : List Dest) → IsCode v c → IsRead v c w j → slice_get c.program.blocks k ≡ Some b → HasHalf ds → All (IsDest b n) ds
+dest_passes : (w : ℕ → ℕ) (v : ℕ) (c : Code) (j k : ℕ) (b : CodeBlock) (n : ℕ) (ds : List Dest) → IsCode v c → IsRead v c w j
+    → slice_get c.program.blocks k ≡ Some b → HasHalf ds → All (IsDest b n) ds
     → dest_fits w (instrs_below w k + length b.instrs) (instrs_below w k + n) (dest_word ds) ≡ true
 dest_passes w v c j k b n [] is r at half all = refl
 dest_passes w v c j k b n (d ∷ ds) is r at half all =
     let one : IsDest b n d = all 0 d (omega arith) in
     ap (λ (t : Bool). if t then h == 0 else inside (h % 2 ^ 15)) (ap (λ (m : ℕ). m == 0) low ∙ not_zero d.ahead half.0)
     ∙ ap inside low
-    ∙ and_from (nat_lt (first + n + d.ahead) end) (h / 2 ^ 15 == 0 || may_take_right (opcode_in (w (instr_place w (first + n + d.ahead))))) (lt-ltb _ _ (omega (arith, one.inside))) (port d.port refl one)
+    ∙ and_from (nat_lt (first + n + d.ahead) end) (h / 2 ^ 15 == 0 || may_take_right (opcode_in (w (instr_place w (first + n + d.ahead)))))
+    (lt-ltb _ _ (omega (arith, one.inside))) (port d.port refl one)
   where
     h : ℕ
     h = d.ahead + 2 ^ 15 * port_bit d.port
@@ -278,12 +297,14 @@ dest_passes w v c j k b n (d ∷ ds) is r at half all =
     end = instrs_below w k + length b.instrs
 
     inside : ℕ → Bool
-    inside a = nat_lt (instrs_below w k + n + a) (instrs_below w k + length b.instrs) && ((d.ahead + 2 ^ 15 * port_bit d.port) / 2 ^ 15 == 0 || may_take_right (opcode_in (w (instr_place w (instrs_below w k + n + a)))))
+    inside a = nat_lt (instrs_below w k + n + a) (instrs_below w k + length b.instrs) && ((d.ahead + 2 ^ 15 * port_bit d.port) / 2 ^ 15 == 0
+        || may_take_right (opcode_in (w (instr_place w (instrs_below w k + n + a)))))
 
     low : (d.ahead + 2 ^ 15 * port_bit d.port) % 2 ^ 15 ≡ d.ahead
     low = omega (arith, half.1)
 
-    port : (p : Port) → d.port ≡ p → IsDest b n d → ((d.ahead + 2 ^ 15 * port_bit d.port) / 2 ^ 15 == 0 || may_take_right (opcode_in (w (instr_place w (instrs_below w k + n + d.ahead))))) ≡ true
+    port : (p : Port) → d.port ≡ p → IsDest b n d → ((d.ahead + 2 ^ 15 * port_bit d.port) / 2 ^ 15 == 0
+        || may_take_right (opcode_in (w (instr_place w (instrs_below w k + n + d.ahead))))) ≡ true
     port Left e one =
         let bit : port_bit d.port ≡ 0 = ap port_bit e in
         let zero_bit : (d.ahead + 2 ^ 15 * port_bit d.port) / 2 ^ 15 ≡ 0 = omega (arith, half.1, bit) in
@@ -294,7 +315,8 @@ dest_passes w v c j k b n (d ∷ ds) is r at half all =
         or_right ((d.ahead + 2 ^ 15 * port_bit d.port) / 2 ^ 15 == 0) _ (ap (λ (m : ℕ). may_take_right (opcode_in (w (instr_place w m)))) (sym same) ∙ right)
 
 -- AN INSTRUCTION
-instr_passes : (w : ℕ → ℕ) (v : ℕ) (c : Code) (j k : ℕ) (b : CodeBlock) (n : ℕ) (i : Instr) → IsCode v c → IsRead v c w j → slice_get c.program.blocks k ≡ Some b → slice_get b.instrs n ≡ Some i
+instr_passes : (w : ℕ → ℕ) (v : ℕ) (c : Code) (j k : ℕ) (b : CodeBlock) (n : ℕ) (i : Instr) → IsCode v c → IsRead v c w j
+    → slice_get c.program.blocks k ≡ Some b → slice_get b.instrs n ≡ Some i
     → opcode_checked w b.slots (instrs_below w k + length b.instrs) (instrs_below w k + n) (opcode_for i.op) (word_one c i) (word_two c i) ≡ Ok tt
 instr_passes w v c j k b n i is r at there =
     let ok = block_there v c k b is at in
@@ -308,10 +330,12 @@ instr_passes w v c j k b n i is r at there =
     let end = instrs_below w k + length b.instrs in
     let ip = instrs_below w k + n in
     let number = (head_of ls i.op).operand in
-    let parts = first_parts (head_of ls i.op).opcode (head_of ls i.op).flag i.slot (dest_word i.firsts) (dest_word i.seconds) (opcode_few ls i.op) (flag_few ls i.op) p.slot (half_few i.firsts p.firsts) (half_few i.seconds p.seconds) in
+    let parts = first_parts (head_of ls i.op).opcode (head_of ls i.op).flag i.slot (dest_word i.firsts) (dest_word i.seconds) (opcode_few ls i.op)
+    (flag_few ls i.op) p.slot (half_few i.firsts p.firsts) (half_few i.seconds p.seconds) in
     let second = second_parsed w v c i r.version is.few_literals (looked v c w j is r) p in
     let operand : operand_fits version o y ≡ true =
-    operand_passes version i.op number (origin_code i.origin) (operand_few ls i.op is.few_literals p.room) (origin_few v i.op i.origin it.origin) (has_passes c i.op it.operand) second.0 in
+    operand_passes version i.op number (origin_code i.origin) (operand_few ls i.op is.few_literals p.room) (origin_few v i.op i.origin it.origin)
+    (has_passes c i.op it.operand) second.0 in
     let slot : slot_fits o (slot_in x) b.slots ≡ true = ap (λ (m : ℕ). slot_fits o m b.slots) parts.2 ∙ slot_passes b i i.op it.slot in
     let first : dest_fits w end ip (first_half x) ≡ true = ap (dest_fits w end ip) parts.3 ∙ dest_passes w v c j k b n i.firsts is r at p.firsts it.firsts in
     let next : dest_fits w end ip (second_half x) ≡ true = ap (dest_fits w end ip) parts.4 ∙ dest_passes w v c j k b n i.seconds is r at p.seconds it.seconds in
@@ -327,7 +351,8 @@ instr_passes w v c j k b n i is r at there =
     (both_pass (unless (dests_fit w end ip o x && target_fits w o (operand_in version o y)) BadDestination) (number_checked w o (operand_in version o y))
     (passes (dests_fit w end ip o x && target_fits w o (operand_in version o y)) BadDestination (and_from _ _ dests target)) numbered))
 
-instr_checks : (w : ℕ → ℕ) (v : ℕ) (c : Code) (j k : ℕ) (b : CodeBlock) (n : ℕ) (i : Instr) → IsCode v c → IsRead v c w j → slice_get c.program.blocks k ≡ Some b → slice_get b.instrs n ≡ Some i
+instr_checks : (w : ℕ → ℕ) (v : ℕ) (c : Code) (j k : ℕ) (b : CodeBlock) (n : ℕ) (i : Instr) → IsCode v c → IsRead v c w j
+    → slice_get c.program.blocks k ≡ Some b → slice_get b.instrs n ≡ Some i
     → instr_checked w b.slots (instrs_below w k + length b.instrs) (instrs_below w k + n) ≡ Ok tt
 unfolding instr_checked
 instr_checks w v c j k b n i is r at there =
@@ -343,7 +368,8 @@ instr_checks w v c j k b n i is r at there =
     ∙ instr_passes w v c j k b n i is r at there
 
 -- BLOCKS
-block_passes : (w : ℕ → ℕ) (v : ℕ) (c : Code) (j k : ℕ) (b : CodeBlock) → IsCode v c → IsRead v c w j → slice_get c.program.blocks k ≡ Some b → block_checked w k ≡ Ok tt
+block_passes : (w : ℕ → ℕ) (v : ℕ) (c : Code) (j k : ℕ) (b : CodeBlock) → IsCode v c → IsRead v c w j → slice_get c.program.blocks k ≡ Some b
+    → block_checked w k ≡ Ok tt
 block_passes w v c j k b is r at =
     let e = r.entry k b at in
     let parts = entry_back v c b (block_there v c k b is at) in
@@ -356,7 +382,8 @@ block_passes w v c j k b is r at =
     let i = get_some b.instrs n lt in
     instr_checks w v c j k b n i.0 is r at i.1)
 
-entry_passes : (w : ℕ → ℕ) (v : ℕ) (c : Code) (j k : ℕ) (b : CodeBlock) → IsCode v c → IsRead v c w j → slice_get c.program.blocks k ≡ Some b → entry_checked w k ≡ Ok tt
+entry_passes : (w : ℕ → ℕ) (v : ℕ) (c : Code) (j k : ℕ) (b : CodeBlock) → IsCode v c → IsRead v c w j → slice_get c.program.blocks k ≡ Some b
+    → entry_checked w k ≡ Ok tt
 entry_passes w v c j k b is r at =
     let ok = block_there v c k b is at in
     let parts = entry_back v c b ok in
@@ -390,7 +417,8 @@ arrays_pass w v c j is r =
     let e = get_some c.program.arrays k (omega (arith, lt, r.arrays)) in
     let few = all_at (λ (m : ℕ). (1 ≤ m) × (m ≤ 65536)) c.program.arrays k e.0 is.arrays e.1 in
     let same : array_in w k ≡ e.0 = r.array k e.0 e.1 in
-    passes (nat_le 1 (array_in w k) && nat_le (array_in w k) 65536) BadTable (and_from _ _ (le-leb 1 (array_in w k) (omega (arith, same, few.0))) (le-leb (array_in w k) 65536 (omega (arith, same, few.1))))))
+    passes (nat_le 1 (array_in w k) && nat_le (array_in w k) 65536) BadTable (and_from _ _ (le-leb 1 (array_in w k) (omega (arith, same, few.0)))
+    (le-leb (array_in w k) 65536 (omega (arith, same, few.1))))))
     (passes (nat_le (cells_below w (w 4)) 65536) BadTable (le-leb (cells_below w (w 4)) 65536 (omega (arith, cells, is.cells))))
 
 literals_pass : (w : ℕ → ℕ) (v : ℕ) (c : Code) (j : ℕ) → IsCode v c → IsRead v c w j → literals_checked w ≡ Ok tt
@@ -398,7 +426,8 @@ literals_pass w v c j is r = from_zero (literal_checked w) (w 3 - 1) (λ k lt.
     let y = get_some c.literals k (omega (arith, lt, r.literals)) in
     let z = get_some c.literals (k + 1) (omega (arith, lt, r.literals)) in
     passes (int_lt (literal_in w k) (literal_in w (k + 1))) BadLiteral
-    (ap (λ (a : ℤ). int_lt a (literal_in w (k + 1))) (literal_back v c w j is r k y.0 y.1) ∙ ap (λ (a : ℤ). int_lt y.0 a) (literal_back v c w j is r (k + 1) z.0 z.1) ∙ is.ascend k y.0 z.0 y.1 z.1))
+    (ap (λ (a : ℤ). int_lt a (literal_in w (k + 1))) (literal_back v c w j is r k y.0 y.1)
+    ∙ ap (λ (a : ℤ). int_lt y.0 a) (literal_back v c w j is r (k + 1) z.0 z.1) ∙ is.ascend k y.0 z.0 y.1 z.1))
 
 -- THE HEADER AND THE WHOLE
 counts_pass : (w : ℕ → ℕ) (v : ℕ) (c : Code) (j : ℕ) → IsCode v c → IsRead v c w j → counts_fit w ≡ true
@@ -428,7 +457,8 @@ length_passes n w e =
 
 tables_pass : (n : ℕ) (w : ℕ → ℕ) (v : ℕ) (c : Code) (j : ℕ) → IsCode v c → IsRead v c w j → n ≡ 8 * word_count w → tables_checked n w ≡ Ok tt
 tables_pass n w v c j is r e =
-    ap (λ (t : Bool). if t then Err Truncated else first_then (each (entry_checked w) 0 (w 2)) (length_checked n w)) (le-ltb n (8 * (6 + w 2)) (omega (arith, e)))
+    ap (λ (t : Bool). if t then Err Truncated else first_then (each (entry_checked w) 0 (w 2)) (length_checked n w))
+    (le-ltb n (8 * (6 + w 2)) (omega (arith, e)))
     ∙ both_pass (each (entry_checked w) 0 (w 2)) (length_checked n w)
     (from_zero (entry_checked w) (w 2) (λ k lt. let b = get_some c.program.blocks k (omega (arith, lt, r.blocks)) in entry_passes w v c j k b.0 is r b.1))
     (length_passes n w e)

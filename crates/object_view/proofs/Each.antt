@@ -46,5 +46,6 @@ failed_first check next e h = ap (λ (c : Checked). first_then c next) h
 pub passed_first : (check : Checked) (next : Checked) → check ≡ Ok tt → first_then check next ≡ next
 passed_first check next h = ap (λ (c : Checked). first_then c next) h
 
-pub block_same : (w : ℕ → ℕ) (b s f n : ℕ) → s ≡ slots_in (w (6 + b)) → f ≡ instrs_below w b → n ≡ count_in (w (6 + b)) → each (instr_checked w s (f + n)) f n ≡ block_checked w b
+pub block_same : (w : ℕ → ℕ) (b s f n : ℕ) → s ≡ slots_in (w (6 + b)) → f ≡ instrs_below w b → n ≡ count_in (w (6 + b))
+    → each (instr_checked w s (f + n)) f n ≡ block_checked w b
 block_same w b s f n p q r = rw (p, q, r) refl

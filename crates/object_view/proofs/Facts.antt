@@ -5,7 +5,8 @@ use Rattle.object_view.specs.declared.fault.ObjectFault.{ObjectFault}
 use Rattle.object_view.specs.declared.fault.ObjectFault.TheVariants.{Truncated, Trailing}
 use Rattle.object_view.specs.Fields.{word_at, count_in, inputs_in, outputs_in, slots_in}
 use Rattle.object_view.specs.Reading.{word_count}
-use Rattle.object_view.specs.Checks.{Checked, unless, first_then, counts_fit, entry_fits, length_checked, checked, opening_checked, content_checked, first_refusal, refusal}
+use Rattle.object_view.specs.Checks.{Checked, unless, first_then, counts_fit, entry_fits, length_checked, checked, opening_checked, content_checked}
+use Rattle.object_view.specs.Checks.{first_refusal, refusal}
 
 pub unless_ok : (b : Bool) (e : ObjectFault) → unless b e ≡ Ok tt → b ≡ true
 unless_ok true e h = refl
@@ -82,7 +83,8 @@ pub refused_early : (bytes : List ℕ) (e : ObjectFault) → opening_checked (le
 unfolding checked
 refused_early bytes e p = ap (λ (c : Checked). refusal (first_then c (content_checked (word_at bytes)))) p
 
-pub refused_late : (bytes : List ℕ) (e : ObjectFault) → opening_checked (length bytes) (word_at bytes) ≡ Ok tt → content_checked (word_at bytes) ≡ Err e → first_refusal bytes ≡ Some e
+pub refused_late : (bytes : List ℕ) (e : ObjectFault) → opening_checked (length bytes) (word_at bytes) ≡ Ok tt → content_checked (word_at bytes)
+    ≡ Err e → first_refusal bytes ≡ Some e
 unfolding checked
 refused_late bytes e p q = ap (λ (c : Checked). refusal (first_then c (content_checked (word_at bytes)))) p ∙ ap refusal q
 

@@ -1,5 +1,7 @@
 -- Bytes that no check refuses are read as a code of the grammar.
-use Rattle.std.proofs.Common.{◌≡◌, ℕ, zero, suc, ◌+◌, ◌-◌, ◌/◌, ◌%◌, ◌^◌, ◌<◌, ◌≤◌, Bool, true, false, ◌&&◌, ◌||◌, ◌==◌, nat_lt, nat_le, if◌then◌else◌, List, [], ◌∷◌, length, get_or, map, Option, Some, None, Ok, ℤ, pos, negsuc, ◌⊎◌, inl, inr, refl, sym, ap, subst, ◌∙◌, arith, eqb-true, sum}
+use Rattle.std.proofs.Common.{◌≡◌, ℕ, zero, suc, ◌+◌, ◌-◌, ◌/◌, ◌%◌, ◌^◌, ◌<◌, ◌≤◌, Bool, true, false, ◌&&◌, ◌||◌, ◌==◌, nat_lt, nat_le}
+use Rattle.std.proofs.Common.{if◌then◌else◌, List, [], ◌∷◌, length, get_or, map, Option, Some, None, Ok, ℤ, pos, negsuc, ◌⊎◌, inl, inr, refl, sym}
+use Rattle.std.proofs.Common.{ap, subst, ◌∙◌, arith, eqb-true, sum}
 use Rattle.std.specs.Prelude.{All, Contains, FitsSigned, unwrap_or, option_to_list, is_some, is_none, slice_get, sum_by}
 use Rattle.std.specs.Int.{w64, cast_signed}
 use mir.Val.{sel}
@@ -19,12 +21,16 @@ use Rattle.object_view.specs.declared.fault.ObjectFault.TheVariants.{BadTable, B
 use Rattle.semantics.specs.declared.version.Version.{Version}
 use Rattle.semantics.specs.declared.version.Version.TheVariants.{One, Two}
 use Rattle.semantics.specs.declared.opcode.Opcode.{Opcode}
-use Rattle.semantics.specs.declared.opcode.Opcode.TheVariants.{Apply1, Apply2, Apply2Right, Apply2Left, Lit, Copy, Sync, Switch, Fetch, Store, Frame, Link, Send, Return, Ask, Open, Take, Give, Drain, Release}
+use Rattle.semantics.specs.declared.opcode.Opcode.TheVariants.{Apply1, Apply2, Apply2Right, Apply2Left, Lit, Copy, Sync, Switch, Fetch, Store}
+use Rattle.semantics.specs.declared.opcode.Opcode.TheVariants.{Frame, Link, Send, Return, Ask, Open, Take, Give, Drain, Release}
 use Rattle.semantics.specs.Versions.{version_number}
-use Rattle.object_view.specs.Fields.{word_at, count_in, inputs_in, slots_in, opcode_in, first_half, second_half, dest_of, port_of, operand_in, origin_number, origin_of}
+use Rattle.object_view.specs.Fields.{word_at, count_in, inputs_in, slots_in, opcode_in, first_half, second_half, dest_of, port_of, operand_in}
+use Rattle.object_view.specs.Fields.{origin_number, origin_of}
 use Rattle.semantics.specs.Opcodes.{with, makes_faults, may_have, may_go_to, goes_left, is_left, takes_two}
-use Rattle.object_view.specs.Reading.{Opened, opened, literal_place, tabulated, shown, version_in, instrs_below, instr_place, literal_in, literal_or_zero, array_in, instr_as, instr_in, block_in, code_in}
-use Rattle.object_view.specs.Checks.{unless, each, entry_fits, entry_checked, array_checked, arrays_checked, cells_below, slot_fits, may_take_right, dest_fits, target_fits, number_checked, instr_checked_as, instr_checked, block_checked, checked}
+use Rattle.object_view.specs.Reading.{Opened, opened, literal_place, tabulated, shown, version_in, instrs_below, instr_place, literal_in}
+use Rattle.object_view.specs.Reading.{literal_or_zero, array_in, instr_as, instr_in, block_in, code_in}
+use Rattle.object_view.specs.Checks.{unless, each, entry_fits, entry_checked, array_checked, arrays_checked, cells_below, slot_fits, may_take_right}
+use Rattle.object_view.specs.Checks.{dest_fits, target_fits, number_checked, instr_checked_as, instr_checked, block_checked, checked}
 use Rattle.object_view.proofs.Each.{cells_next}
 use Rattle.object_view.proofs.Facts.{unless_ok, first_ok, CountsFit, EntryFits, entry_from}
 use Rattle.object_view.proofs.Tabulated.{length_tabulated, get_tabulated}
@@ -71,7 +77,8 @@ arrays_fit : (w : ℕ → ℕ) (k : ℕ) → arrays_checked w ≡ Ok tt → k < 
 arrays_fit w k h lt =
     let a = first_ok (each (array_checked w) 0 (w 4)) (unless (nat_le (cells_below w (w 4)) 65536) BadTable) h in
     let at : 0 + k ≡ k = omega arith in
-    let t = and_parts (nat_le 1 (array_in w k)) (nat_le (array_in w k) 65536) (unless_ok _ BadTable (ap (array_checked w) (sym at) ∙ each_at (array_checked w) 0 (w 4) k a.0 lt)) in
+    let t = and_parts (nat_le 1 (array_in w k)) (nat_le (array_in w k) 65536)
+    (unless_ok _ BadTable (ap (array_checked w) (sym at) ∙ each_at (array_checked w) 0 (w 4) k a.0 lt)) in
     (leb-true _ _ t.0, leb-true _ _ t.1)
 
 cast_fits : (n : ℕ) → n < 2 ^ 64 → FitsSigned w64 (cast_signed w64 n)
@@ -98,7 +105,8 @@ bound_there k h =
     let a = and_parts (nat_le 2 k) (nat_le k 64) h in
     (omega (arith, leb-true 2 k a.0, leb-true k 64 a.1), omega (arith, leb-true 2 k a.0, leb-true k 64 a.1))
 
-operand_there : (w : ℕ → ℕ) (o : Opcode) (k : ℕ) → CountsFit w → may_have o k ≡ true → target_fits w o k ≡ true → number_checked w o k ≡ Ok tt → HasOperand (code_in w) (with o k (literal_or_zero w k))
+operand_there : (w : ℕ → ℕ) (o : Opcode) (k : ℕ) → CountsFit w → may_have o k ≡ true → target_fits w o k ≡ true → number_checked w o k ≡ Ok tt
+    → HasOperand (code_in w) (with o k (literal_or_zero w k))
 unfolding code_in
 operand_there w (Apply1 op) k c m t n = tt
 operand_there w (Apply2 op) k c m t n = tt
@@ -115,8 +123,12 @@ operand_there w Link k c m t n = omega (arith, ltb-true k (w 2) t, c.few_blocks,
 operand_there w Send k c m t n =
     let a = and_parts _ _ t in
     let lt = ltb-true (k / 2 ^ 16) (w 2) a.0 in
-    let e : k / 65536 % 65536 ≡ k / 2 ^ 16 = omega (arith, lt, c.few_blocks) in
-    (block_in w (k / 2 ^ 16), ap (slice_get (tabulated (block_in w) 0 (w 2))) e ∙ get_tabulated (block_in w) 0 (w 2) (k / 2 ^ 16) (k / 2 ^ 16) lt (omega arith), leb-true (k % 2 ^ 16) (inputs_in (w (6 + k / 2 ^ 16))) a.1)
+    let e : k / 65536 % 65536 ≡ k / 2 ^ 16 = omega (arith, lt, c.few_blocks) in (
+      block_in w (k / 2 ^ 16),
+      ap (slice_get (tabulated (block_in w) 0 (w 2))) e ∙ get_tabulated (block_in w) 0 (w 2) (k / 2 ^ 16) (k / 2 ^ 16) lt
+          (omega arith),
+      leb-true (k % 2 ^ 16) (inputs_in (w (6 + k / 2 ^ 16))) a.1,
+    )
 operand_there w Return k c m t n = omega (arith, leb-true k 255 t)
 operand_there w Ask k c m t n = omega (arith, leb-true k 255 t)
 operand_there w Open k c m t n = bound_there k m
@@ -255,11 +267,13 @@ dyadic_same w Give x y h = absurd cc
 dyadic_same w Drain x y h = absurd cc
 dyadic_same w Release x y h = refl
 
-target_dyadic : (w : ℕ → ℕ) (slots end j : ℕ) → instr_checked w slots end j ≡ Ok tt → may_take_right (opcode_in (w (instr_place w j))) ≡ true → Bytes.is_dyadic (Some (shown (instr_in w j))) ≡ true
+target_dyadic : (w : ℕ → ℕ) (slots end j : ℕ) → instr_checked w slots end j ≡ Ok tt → may_take_right (opcode_in (w (instr_place w j))) ≡ true
+    → Bytes.is_dyadic (Some (shown (instr_in w j))) ≡ true
 unfolding instr_in instr_checked
 target_dyadic w slots end j h r = go (opcode_in (w (instr_place w j))) h r
   where
-    go : (m : Option Opcode) → instr_checked_as w slots end j m ≡ Ok tt → may_take_right m ≡ true → Bytes.is_dyadic (Some (shown (instr_as w (unwrap_or m Copy) (w (instr_place w j)) (w (instr_place w j + 1))))) ≡ true
+    go : (m : Option Opcode) → instr_checked_as w slots end j m ≡ Ok tt → may_take_right m ≡ true
+        → Bytes.is_dyadic (Some (shown (instr_as w (unwrap_or m Copy) (w (instr_place w j)) (w (instr_place w j + 1))))) ≡ true
     go None k q = absurd cc
     go (Some o) k q = dyadic_same w o (w (instr_place w j)) (w (instr_place w j + 1)) q
 
@@ -278,7 +292,8 @@ second_of : (a b : Bool) → (a || b) ≡ true → a ≡ false → b ≡ true
 second_of true b h e = absurd cc
 second_of false b h e = h
 
-dest_there : (w : ℕ → ℕ) (b n h : ℕ) → block_checked w b ≡ Ok tt → dest_fits w (instrs_below w b + count_in (w (6 + b))) (instrs_below w b + n) h ≡ true → All (IsDest (block_in w b) n) (option_to_list (dest_of h))
+dest_there : (w : ℕ → ℕ) (b n h : ℕ) → block_checked w b ≡ Ok tt → dest_fits w (instrs_below w b + count_in (w (6 + b))) (instrs_below w b + n) h
+    ≡ true → All (IsDest (block_in w b) n) (option_to_list (dest_of h))
 dest_there w b n h ok fits = go (h % 2 ^ 15 == 0) refl fits
   where
     first : ℕ
@@ -287,26 +302,36 @@ dest_there w b n h ok fits = go (h % 2 ^ 15 == 0) refl fits
     count : ℕ
     count = count_in (w (6 + b))
 
-    go : (t : Bool) → (h % 2 ^ 15 == 0) ≡ t → (if t then h == 0 else nat_lt (instrs_below w b + n + h % 2 ^ 15) (instrs_below w b + count_in (w (6 + b))) && (h / 2 ^ 15 == 0 || may_take_right (opcode_in (w (instr_place w (instrs_below w b + n + h % 2 ^ 15)))))) ≡ true → All (IsDest (block_in w b) n) (option_to_list (if t then None else Some record { ahead = h % 2 ^ 15; port = port_of (h / 2 ^ 15) }))
+    go : (t : Bool) → (h % 2 ^ 15 == 0) ≡ t → (if t then h == 0 else nat_lt (instrs_below w b + n + h % 2 ^ 15)
+        (instrs_below w b + count_in (w (6 + b)))
+        && (h / 2 ^ 15 == 0 || may_take_right (opcode_in (w (instr_place w (instrs_below w b + n + h % 2 ^ 15)))))) ≡ true
+        → All (IsDest (block_in w b) n) (option_to_list (if t then None else Some record { ahead = h % 2 ^ 15; port = port_of (h / 2 ^ 15) }))
     go true e q = λ k d lt. absurd (omega arith)
     go false e q =
-        let a = and_parts (nat_lt (first + n + h % 2 ^ 15) (first + count)) (h / 2 ^ 15 == 0 || may_take_right (opcode_in (w (instr_place w (first + n + h % 2 ^ 15))))) q in
+        let a = and_parts (nat_lt (first + n + h % 2 ^ 15) (first + count)) (h / 2 ^ 15 == 0
+        || may_take_right (opcode_in (w (instr_place w (first + n + h % 2 ^ 15))))) q in
         let len = length_tabulated (λ ip. shown (instr_in w ip)) (instrs_below w b) (count_in (w (6 + b))) in
         let lt = ltb-true (instrs_below w b + n + h % 2 ^ 15) (instrs_below w b + count_in (w (6 + b))) a.0 in
         let small : n + h % 2 ^ 15 < count_in (w (6 + b)) = omega (arith, lt) in
         let at : instrs_below w b + (n + h % 2 ^ 15) ≡ instrs_below w b + n + h % 2 ^ 15 = omega arith in
         let dest : Dest = record { ahead = h % 2 ^ 15; port = port_of (h / 2 ^ 15) } in
-        let there = get_tabulated (λ ip. shown (instr_in w ip)) (instrs_below w b) (count_in (w (6 + b))) (n + h % 2 ^ 15) (instrs_below w b + n + h % 2 ^ 15) small at in
-        let passed = ap (instr_checked w (slots_in (w (6 + b))) (instrs_below w b + count_in (w (6 + b)))) (sym at) ∙ each_at (instr_checked w (slots_in (w (6 + b))) (instrs_below w b + count_in (w (6 + b)))) (instrs_below w b) (count_in (w (6 + b))) (n + h % 2 ^ 15) ok small in
+        let there = get_tabulated (λ ip. shown (instr_in w ip)) (instrs_below w b) (count_in (w (6 + b))) (n + h % 2 ^ 15)
+        (instrs_below w b + n + h % 2 ^ 15) small at in
+        let passed = ap (instr_checked w (slots_in (w (6 + b))) (instrs_below w b + count_in (w (6 + b)))) (sym at)
+        ∙ each_at (instr_checked w (slots_in (w (6 + b))) (instrs_below w b + count_in (w (6 + b)))) (instrs_below w b) (count_in (w (6 + b)))
+        (n + h % 2 ^ 15) ok small in
         let is : IsDest (block_in w b) n dest =
         record {
           later = omega (arith, eqb-false _ _ e);
           inside = omega (arith, small, len);
-          right = λ r. ap Bytes.is_dyadic there ∙ target_dyadic w (slots_in (w (6 + b))) (instrs_below w b + count_in (w (6 + b))) (instrs_below w b + n + h % 2 ^ 15) passed (second_of _ _ a.1 (right_half h r));
+          right = λ r. ap Bytes.is_dyadic there ∙ target_dyadic w (slots_in (w (6 + b))) (instrs_below w b + count_in (w (6 + b)))
+              (instrs_below w b + n + h % 2 ^ 15) passed (second_of _ _ a.1 (right_half h r));
         } in
         single (IsDest (block_in w b) n) dest is
 
-instr_lawful : (w : ℕ → ℕ) (b n : ℕ) (o : Opcode) (x y : ℕ) → CountsFit w → block_checked w b ≡ Ok tt → InstrPassed w (slots_in (w (6 + b))) (instrs_below w b + count_in (w (6 + b))) (instrs_below w b + n) o x y → IsInstr (version_number (version_in (w 1))) (code_in w) (block_in w b) n (shown (instr_as w o x y))
+instr_lawful : (w : ℕ → ℕ) (b n : ℕ) (o : Opcode) (x y : ℕ) → CountsFit w → block_checked w b ≡ Ok tt
+    → InstrPassed w (slots_in (w (6 + b))) (instrs_below w b + count_in (w (6 + b))) (instrs_below w b + n) o x y
+    → IsInstr (version_number (version_in (w 1))) (code_in w) (block_in w b) n (shown (instr_as w o x y))
 instr_lawful w b n o x y c ok p =
     let v = version_in (w 1) in
     let k = operand_in v o y in
@@ -320,16 +345,23 @@ instr_lawful w b n o x y c ok p =
       seconds = dest_there w b n (second_half x) ok p.second;
     }
 
-instr_at_lawful : (w : ℕ → ℕ) (b n : ℕ) → CountsFit w → block_checked w b ≡ Ok tt → instr_checked w (slots_in (w (6 + b))) (instrs_below w b + count_in (w (6 + b))) (instrs_below w b + n) ≡ Ok tt → IsInstr (version_number (version_in (w 1))) (code_in w) (block_in w b) n (shown (instr_in w (instrs_below w b + n)))
+instr_at_lawful : (w : ℕ → ℕ) (b n : ℕ) → CountsFit w → block_checked w b ≡ Ok tt → instr_checked w (slots_in (w (6 + b)))
+    (instrs_below w b + count_in (w (6 + b))) (instrs_below w b + n) ≡ Ok tt → IsInstr (version_number (version_in (w 1))) (code_in w) (block_in w b)
+    n (shown (instr_in w (instrs_below w b + n)))
 unfolding instr_in instr_checked
 instr_at_lawful w b n c ok h = go (opcode_in (w (instr_place w (instrs_below w b + n)))) h
   where
-    go : (m : Option Opcode) → instr_checked_as w (slots_in (w (6 + b))) (instrs_below w b + count_in (w (6 + b))) (instrs_below w b + n) m ≡ Ok tt → IsInstr (version_number (version_in (w 1))) (code_in w) (block_in w b) n (shown (instr_as w (unwrap_or m Copy) (w (instr_place w (instrs_below w b + n))) (w (instr_place w (instrs_below w b + n) + 1))))
+    go : (m : Option Opcode) → instr_checked_as w (slots_in (w (6 + b))) (instrs_below w b + count_in (w (6 + b))) (instrs_below w b + n) m ≡ Ok tt
+        → IsInstr (version_number (version_in (w 1))) (code_in w) (block_in w b) n
+        (shown (instr_as w (unwrap_or m Copy) (w (instr_place w (instrs_below w b + n))) (w (instr_place w (instrs_below w b + n) + 1))))
     go None k = absurd cc
-    go (Some o) k = instr_lawful w b n o (w (instr_place w (instrs_below w b + n))) (w (instr_place w (instrs_below w b + n) + 1)) c ok (instr_passed w (slots_in (w (6 + b))) (instrs_below w b + count_in (w (6 + b))) (instrs_below w b + n) o (w (instr_place w (instrs_below w b + n))) (w (instr_place w (instrs_below w b + n) + 1)) k)
+    go (Some o) k = instr_lawful w b n o (w (instr_place w (instrs_below w b + n))) (w (instr_place w (instrs_below w b + n) + 1)) c ok
+        (instr_passed w (slots_in (w (6 + b))) (instrs_below w b + count_in (w (6 + b))) (instrs_below w b + n) o
+        (w (instr_place w (instrs_below w b + n))) (w (instr_place w (instrs_below w b + n) + 1)) k)
 
 -- BLOCKS, AND THE WHOLE
-block_lawful : (w : ℕ → ℕ) (b : ℕ) → CountsFit w → EntryFits (w (6 + b)) → block_checked w b ≡ Ok tt → IsCodeBlock (version_number (version_in (w 1))) (code_in w) (block_in w b)
+block_lawful : (w : ℕ → ℕ) (b : ℕ) → CountsFit w → EntryFits (w (6 + b)) → block_checked w b ≡ Ok tt → IsCodeBlock (version_number (version_in (w 1)))
+    (code_in w) (block_in w b)
 block_lawful w b c e ok =
     let f = λ (ip : ℕ). shown (instr_in w ip) in
     let first = instrs_below w b in
@@ -344,7 +376,8 @@ block_lawful w b c e ok =
           let lt : n < count = subst (λ m. n < m) len (slice_get_within (tabulated f first count) n i q) in
           let there = get_tabulated f first count n (first + n) lt refl in
           let same : f (first + n) ≡ i = same_some (f (first + n)) i (slice_get (tabulated f first count) n) there q in
-          subst (λ (j : Instr). IsInstr (version_number (version_in (w 1))) (code_in w) (block_in w b) n j) same (instr_at_lawful w b n c ok (each_at (instr_checked w (slots_in (w (6 + b))) (first + count)) first count n ok lt));
+          subst (λ (j : Instr). IsInstr (version_number (version_in (w 1))) (code_in w) (block_in w b) n j) same
+          (instr_at_lawful w b n c ok (each_at (instr_checked w (slots_in (w (6 + b))) (first + count)) first count n ok lt));
     }
 
 either_version : (n v : ℕ) → n ≡ v → (n ≡ 1) ⊎ (n ≡ 2) → (v ≡ 1) ⊎ (v ≡ 2)
@@ -366,7 +399,8 @@ is_code n w p few =
       cells = cells_few w p.arrays;
       blocks = all_tabulated (IsCodeBlock (version_number (version_in (w 1))) (code_in w)) (block_in w) (w 2) (λ k lt.
           let at : 0 + k ≡ k = omega arith in
-          block_lawful w k p.counts (entry_from (w (6 + k)) (unless_ok (entry_fits (w (6 + k))) BadTable (ap (entry_checked w) (sym at) ∙ each_at (entry_checked w) 0 (w 2) k p.entries lt))) (ap (block_checked w) (sym at) ∙ each_at (block_checked w) 0 (w 2) k p.blocks lt));
+          block_lawful w k p.counts (entry_from (w (6 + k)) (unless_ok (entry_fits (w (6 + k))) BadTable (ap (entry_checked w) (sym at)
+          ∙ each_at (entry_checked w) 0 (w 2) k p.entries lt))) (ap (block_checked w) (sym at) ∙ each_at (block_checked w) 0 (w 2) k p.blocks lt));
     }
 
 pub opened_lawful : (bytes : List ℕ) (o : Opened) → AllBytes bytes → checked bytes ≡ Ok tt → opened bytes ≡ o → IsCode o.version o.code

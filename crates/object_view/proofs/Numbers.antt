@@ -49,7 +49,8 @@ head_below n z y ys h = go (int_lt y z) refl
         absurd (omega (arith, s, h))
 
 -- where a literal is below z, the place is later
-pub number_goes : (n : ℕ) (z : ℤ) (ls : List ℤ) (i : ℕ) (d : ℤ) → IsAscending ls → i < length ls → int_lt (get_or ls i d) z ≡ true → n + i + 1 ≤ number_from n z ls
+pub number_goes : (n : ℕ) (z : ℤ) (ls : List ℤ) (i : ℕ) (d : ℤ) → IsAscending ls → i < length ls → int_lt (get_or ls i d) z ≡ true
+    → n + i + 1 ≤ number_from n z ls
 number_goes n z [] i d a h e = absurd (omega arith)
 number_goes n z (x ∷ xs) zero d a h e =
     let s : number_from n z (x ∷ xs) ≡ number_from (n + 1) z xs = rw e refl in

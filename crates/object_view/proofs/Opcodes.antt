@@ -20,7 +20,8 @@ checked_at : (w : ℕ → ℕ) (b n ip : ℕ) → each (block_checked w) b n ≡
 checked_at w b zero ip h from to =
     let same : b + zero ≡ b = omega arith in
     absurd (omega (arith, ap (instrs_below w) same))
-checked_at w b (suc n) ip h from to = go (nat_lt ip (instrs_below w (b + 1))) refl (checked_at w (b + 1) n ip (first_ok (block_checked w b) (each (block_checked w) (b + 1) n) h).1)
+checked_at w b (suc n) ip h from to = go (nat_lt ip (instrs_below w (b + 1))) refl
+    (checked_at w (b + 1) n ip (first_ok (block_checked w b) (each (block_checked w) (b + 1) n) h).1)
   where
     slots : ℕ
     slots = slots_in (w (6 + b))
@@ -36,7 +37,8 @@ checked_at w b (suc n) ip h from to = go (nat_lt ip (instrs_below w (b + 1))) re
         record {
           slots = slots;
           end = end;
-          passed = ap (instr_checked w slots end) (sym at) ∙ each_at (instr_checked w slots end) (instrs_below w b) (count_in (w (6 + b))) (ip - instrs_below w b) a.0 lt;
+          passed = ap (instr_checked w slots end) (sym at) ∙ each_at (instr_checked w slots end) (instrs_below w b) (count_in (w (6 + b)))
+              (ip - instrs_below w b) a.0 lt;
         }
     go false e later =
         let all : b + suc n ≡ b + 1 + n = omega arith in
@@ -50,7 +52,8 @@ opcode_there w slots end ip h = go (opcode_in (w (instr_place w ip))) h
     go None k = absurd cc
     go (Some o) k = refl
 
-pub opcode_read : (bytes : List ℕ) (ip : ℕ) → checked bytes ≡ Ok tt → ip < instr_count (word_at bytes) → IsSome (opcode_in (word_at bytes (instr_place (word_at bytes) ip)))
+pub opcode_read : (bytes : List ℕ) (ip : ℕ) → checked bytes ≡ Ok tt → ip < instr_count (word_at bytes)
+    → IsSome (opcode_in (word_at bytes (instr_place (word_at bytes) ip)))
 opcode_read bytes ip ok lt =
     let w = word_at bytes in
     let p = passed_from bytes ok in

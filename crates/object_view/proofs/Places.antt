@@ -9,7 +9,8 @@ use Rattle.semantics.specs.Program.{CodeBlock, Program, first_of, instr_from, in
 abbrev pub count : List CodeBlock → ℕ
 count bs = sum (map (λ (x : CodeBlock). length x.instrs) bs)
 
-pub here_from : (bs : List CodeBlock) (k : ℕ) (b : CodeBlock) (n : ℕ) → slice_get bs k ≡ Some b → n < length b.instrs → instr_from bs (count (take k bs) + n) ≡ slice_get b.instrs n
+pub here_from : (bs : List CodeBlock) (k : ℕ) (b : CodeBlock) (n : ℕ) → slice_get bs k ≡ Some b → n < length b.instrs
+    → instr_from bs (count (take k bs) + n) ≡ slice_get b.instrs n
 here_from [] zero b n e lt = absurd cc
 here_from [] (suc k) b n e lt = absurd cc
 here_from (x ∷ xs) zero b n e lt =
@@ -28,7 +29,8 @@ here_from (x ∷ xs) (suc k) b n e lt =
     ap (instr_from (x ∷ xs)) start ∙ found
 
 -- the instruction of that number in a block
-pub here : (p : Program) (k : ℕ) (b : CodeBlock) (n : ℕ) → slice_get p.blocks k ≡ Some b → n < length b.instrs → instr_at p (first_of p k + n) ≡ slice_get b.instrs n
+pub here : (p : Program) (k : ℕ) (b : CodeBlock) (n : ℕ) → slice_get p.blocks k ≡ Some b → n < length b.instrs → instr_at p (first_of p k + n)
+    ≡ slice_get b.instrs n
 here p k b n e lt = here_from p.blocks k b n e lt
 
 pub within_from : (bs : List CodeBlock) (k : ℕ) (b : CodeBlock) → slice_get bs k ≡ Some b → count (take k bs) + length b.instrs ≤ count bs

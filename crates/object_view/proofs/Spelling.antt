@@ -1,5 +1,6 @@
 -- An instruction that passed the checks is spelt by its two words.
-use Rattle.std.proofs.Common.{◌≡◌, ℕ, ◌+◌, ◌-◌, ◌*◌, ◌/◌, ◌%◌, ◌^◌, ◌<◌, ◌≤◌, Bool, true, false, ◌==◌, if◌then◌else◌, List, [], ◌∷◌, Option, Some, None, ℤ, refl, sym, ap, subst, ◌∙◌, arith, eqb-true}
+use Rattle.std.proofs.Common.{◌≡◌, ℕ, ◌+◌, ◌-◌, ◌*◌, ◌/◌, ◌%◌, ◌^◌, ◌<◌, ◌≤◌, Bool, true, false, ◌==◌, if◌then◌else◌, List, [], ◌∷◌, Option, Some}
+use Rattle.std.proofs.Common.{None, ℤ, refl, sym, ap, subst, ◌∙◌, arith, eqb-true}
 use Rattle.std.specs.Prelude.{⊤, option_to_list}
 use Rattle.std.proofs.lemmas.Bool.{eqb-false}
 use Rattle.tags.specs.declared.token.Port.TheVariants.{Left, Right}
@@ -9,7 +10,8 @@ use Rattle.operators.specs.declared.Binary.{Binary}
 use Rattle.semantics.specs.Bytes.{number_from, head, head_of, dest_word, port_bit, origin_code}
 use Rattle.semantics.specs.declared.version.Version.{Version}
 use Rattle.semantics.specs.declared.opcode.Opcode.{Opcode}
-use Rattle.semantics.specs.declared.opcode.Opcode.TheVariants.{Apply1, Apply2, Apply2Right, Apply2Left, Lit, Copy, Sync, Switch, Fetch, Store, Frame, Link, Send, Return, Ask, Open, Take, Give, Drain, Release}
+use Rattle.semantics.specs.declared.opcode.Opcode.TheVariants.{Apply1, Apply2, Apply2Right, Apply2Left, Lit, Copy, Sync, Switch, Fetch, Store}
+use Rattle.semantics.specs.declared.opcode.Opcode.TheVariants.{Frame, Link, Send, Return, Ask, Open, Take, Give, Drain, Release}
 use Rattle.semantics.proofs.OperatorWords.{binary_numbered}
 use Rattle.semantics.specs.Opcodes.{binary_code, code_number, flag_number}
 use Rattle.object_view.specs.Fields.{dest_of, port_of, has_origin, operand_in, origin_number, origin_of}
@@ -37,18 +39,56 @@ lookup_holds {X} P c x (p ∷ ps) k h = go (lookup_holds P c x ps k.1) (c == p.0
     go later false e q = later q
 
 abbrev plain : List (ℕ × Opcode)
-plain = (15, Apply1 Neg) ∷ (16, Apply1 Not) ∷ (17, Lit) ∷ (18, Copy) ∷ (19, Sync) ∷ (20, Switch) ∷ (21, Fetch) ∷ (22, Store) ∷ (23, Frame) ∷ (24, Link) ∷ (25, Send) ∷ (26, Return) ∷ (27, Ask) ∷ (28, Open) ∷ (29, Take) ∷ (30, Give) ∷ (31, Drain) ∷ (32, Release) ∷ []
+plain = (15, Apply1 Neg) ∷ (16, Apply1 Not) ∷ (17, Lit) ∷ (18, Copy) ∷ (19, Sync) ∷ (20, Switch) ∷ (21, Fetch) ∷ (22, Store) ∷ (23, Frame)
+    ∷ (24, Link) ∷ (25, Send) ∷ (26, Return) ∷ (27, Ask) ∷ (28, Open) ∷ (29, Take) ∷ (30, Give) ∷ (31, Drain) ∷ (32, Release) ∷ []
 
 abbrev flags : Binary → List (ℕ × Opcode)
 flags op = (0, Apply2 op) ∷ (1, Apply2Right op) ∷ (2, Apply2Left op) ∷ []
 
 plain_numbered : (c : ℕ) (o : Opcode) → unflagged c ≡ Some o → (code_number o ≡ c) × (flag_number o ≡ 0)
 unfolding lookup Holds
-plain_numbered c o h = lookup_holds (λ (n : ℕ) (p : Opcode). (code_number p ≡ n) × (flag_number p ≡ 0)) c o plain ((refl, refl), ((refl, refl), ((refl, refl), ((refl, refl), ((refl, refl), ((refl, refl), ((refl, refl), ((refl, refl), ((refl, refl), ((refl, refl), ((refl, refl), ((refl, refl), ((refl, refl), ((refl, refl), ((refl, refl), ((refl, refl), ((refl, refl), ((refl, refl), tt)))))))))))))))))) h
+plain_numbered c o h = lookup_holds (λ (n : ℕ) (p : Opcode). (code_number p ≡ n) × (flag_number p ≡ 0)) c o plain (
+  (refl, refl),
+  (
+    (refl, refl),
+    (
+      (refl, refl),
+      (
+        (refl, refl),
+        (
+          (refl, refl),
+          (
+            (refl, refl),
+            (
+              (refl, refl),
+              (
+                (refl, refl),
+                (
+                  (refl, refl),
+                  (
+                    (refl, refl),
+                    (
+                      (refl, refl),
+                      (
+                        (refl, refl),
+                        ((refl, refl), ((refl, refl), ((refl, refl), ((refl, refl), ((refl, refl), ((refl, refl), tt)))))),
+                      ),
+                    ),
+                  ),
+                ),
+              ),
+            ),
+          ),
+        ),
+      ),
+    ),
+  ),
+) h
 
 flag_numbered : (op : Binary) (f : ℕ) (o : Opcode) → flagged op f ≡ Some o → (code_number o ≡ binary_code op) × (flag_number o ≡ f)
 unfolding lookup Holds
-flag_numbered op f o h = lookup_holds (λ (n : ℕ) (p : Opcode). (code_number p ≡ binary_code op) × (flag_number p ≡ n)) f o (flags op) ((refl, refl), ((refl, refl), ((refl, refl), tt))) h
+flag_numbered op f o h = lookup_holds (λ (n : ℕ) (p : Opcode). (code_number p ≡ binary_code op) × (flag_number p ≡ n)) f o (flags op)
+    ((refl, refl), ((refl, refl), ((refl, refl), tt))) h
 
 pub numbered : (c f : ℕ) (o : Opcode) → opcode_of c f ≡ Some o → (code_number o ≡ c) × (flag_number o ≡ f)
 unfolding opcode_of
@@ -124,7 +164,8 @@ half_spelt h few none = go (h % 2 ^ 15 == 0) refl
     port true e = omega (arith, eqb-true _ _ e)
     port false e = omega (arith, eqb-false _ _ e)
 
-    go : (t : Bool) → (h % 2 ^ 15 == 0) ≡ t → dest_word (option_to_list (if t then None else Some record { ahead = h % 2 ^ 15; port = port_of (h / 2 ^ 15) })) ≡ h
+    go : (t : Bool) → (h % 2 ^ 15 == 0) ≡ t → dest_word
+        (option_to_list (if t then None else Some record { ahead = h % 2 ^ 15; port = port_of (h / 2 ^ 15) })) ≡ h
     go true e = sym (none (eqb-true _ _ e))
     go false e = port (h / 2 ^ 15 == 0) refl
 

@@ -1,5 +1,6 @@
 -- What a function gives for consecutive numbers, and the instructions of consecutive blocks.
-use Rattle.std.proofs.Common.{◌≡◌, ℕ, zero, suc, ◌+◌, ◌-◌, ◌<◌, ◌≤◌, Bool, true, false, nat_lt, if◌then◌else◌, List, length, map, take, Some, None, sum, refl, ap, ◌∙◌, arith}
+use Rattle.std.proofs.Common.{◌≡◌, ℕ, zero, suc, ◌+◌, ◌-◌, ◌<◌, ◌≤◌, Bool, true, false, nat_lt, if◌then◌else◌, List, length, map, take, Some, None}
+use Rattle.std.proofs.Common.{sum, refl, ap, ◌∙◌, arith}
 use Rattle.std.specs.Prelude.{slice_get}
 use Rattle.std.proofs.lemmas.Bool.{ltb-true, ltb-false}
 use Rattle.std.proofs.lemmas.List.Sums.{sum-map, sum_by-cons}
@@ -26,7 +27,8 @@ past_tabulated f i (suc n) zero h = absurd (omega arith)
 past_tabulated f i (suc n) (suc k) h = past_tabulated f (i + 1) n k (omega arith)
 
 -- THE INSTRUCTIONS BEFORE A BLOCK
-counts_taken : (w : ℕ → ℕ) (i n b : ℕ) → b ≤ n → instrs_below w i + sum_by (λ (x : CodeBlock). length x.instrs) (take b (tabulated (block_in w) i n)) ≡ instrs_below w (i + b)
+counts_taken : (w : ℕ → ℕ) (i n b : ℕ) → b ≤ n → instrs_below w i + sum_by (λ (x : CodeBlock). length x.instrs) (take b (tabulated (block_in w) i n))
+    ≡ instrs_below w (i + b)
 counts_taken w i n zero h =
     let same : i + zero ≡ i = omega arith in
     rw same (omega arith)
@@ -48,7 +50,8 @@ first_of_tabulated w p n b e h =
     ap (λ bs. sum (map (λ (x : CodeBlock). length x.instrs) (take b bs))) e ∙ m ∙ s'
 
 -- AN INSTRUCTION BY ITS NUMBER
-pub instr_there : (w : ℕ → ℕ) (b k j ip : ℕ) → instrs_below w b + j ≡ ip → ip < instrs_below w (b + k) → instr_from (tabulated (block_in w) b k) j ≡ Some (shown (instr_in w ip))
+pub instr_there : (w : ℕ → ℕ) (b k j ip : ℕ) → instrs_below w b + j ≡ ip → ip < instrs_below w (b + k) → instr_from (tabulated (block_in w) b k) j
+    ≡ Some (shown (instr_in w ip))
 instr_there w b zero j ip e h =
     let same : b + zero ≡ b = omega arith in
     absurd (omega (arith, ap (instrs_below w) same))
@@ -57,8 +60,11 @@ instr_there w b (suc k) j ip e h = go (instr_there w (b + 1) k) (nat_lt j (lengt
     here : List Instr
     here = tabulated (λ n. shown (instr_in w n)) (instrs_below w b) (count_in (w (6 + b)))
 
-    go : ((i jp : ℕ) → instrs_below w (b + 1) + i ≡ jp → jp < instrs_below w ((b + 1) + k) → instr_from (tabulated (block_in w) (b + 1) k) i ≡ Some (shown (instr_in w jp))) → (t : Bool) → nat_lt j (length here) ≡ t → (if t then slice_get here j else instr_from (tabulated (block_in w) (b + 1) k) (j - length here)) ≡ Some (shown (instr_in w ip))
-    go later true q = get_tabulated (λ n. shown (instr_in w n)) (instrs_below w b) (count_in (w (6 + b))) j ip (omega (arith, ltb-true _ _ q, length_tabulated (λ n. shown (instr_in w n)) (instrs_below w b) (count_in (w (6 + b))))) e
+    go : ((i jp : ℕ) → instrs_below w (b + 1) + i ≡ jp → jp < instrs_below w ((b + 1) + k) → instr_from (tabulated (block_in w) (b + 1) k) i
+        ≡ Some (shown (instr_in w jp))) → (t : Bool) → nat_lt j (length here) ≡ t
+        → (if t then slice_get here j else instr_from (tabulated (block_in w) (b + 1) k) (j - length here)) ≡ Some (shown (instr_in w ip))
+    go later true q = get_tabulated (λ n. shown (instr_in w n)) (instrs_below w b) (count_in (w (6 + b))) j ip
+        (omega (arith, ltb-true _ _ q, length_tabulated (λ n. shown (instr_in w n)) (instrs_below w b) (count_in (w (6 + b))))) e
     go later false q =
         let len = length_tabulated (λ n. shown (instr_in w n)) (instrs_below w b) (count_in (w (6 + b))) in
         let one : b + 1 ≡ suc b = omega arith in
@@ -72,7 +78,8 @@ instr_not_there w b (suc k) j h = go (instr_not_there w (b + 1) k) (nat_lt j (le
     here : List Instr
     here = tabulated (λ n. shown (instr_in w n)) (instrs_below w b) (count_in (w (6 + b)))
 
-    go : ((i : ℕ) → instrs_below w ((b + 1) + k) ≤ instrs_below w (b + 1) + i → instr_from (tabulated (block_in w) (b + 1) k) i ≡ None) → (t : Bool) → nat_lt j (length here) ≡ t → (if t then slice_get here j else instr_from (tabulated (block_in w) (b + 1) k) (j - length here)) ≡ None
+    go : ((i : ℕ) → instrs_below w ((b + 1) + k) ≤ instrs_below w (b + 1) + i → instr_from (tabulated (block_in w) (b + 1) k) i ≡ None) → (t : Bool)
+        → nat_lt j (length here) ≡ t → (if t then slice_get here j else instr_from (tabulated (block_in w) (b + 1) k) (j - length here)) ≡ None
     go later true q =
         let len = length_tabulated (λ n. shown (instr_in w n)) (instrs_below w b) (count_in (w (6 + b))) in
         let one : b + 1 ≡ suc b = omega arith in

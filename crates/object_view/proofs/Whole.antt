@@ -7,7 +7,8 @@ use Rattle.std.proofs.lemmas.List.Concat.{flat_map-append}
 use Rattle.semantics.specs.declared.program.Dest.{Dest}
 use Rattle.semantics.specs.Program.{Instr, CodeBlock, Code}
 use Rattle.semantics.specs.declared.program.Op.{Op}
-use Rattle.semantics.specs.declared.program.Op.TheVariants.{Apply1, Apply2, Apply2Right, Apply2Left, Lit, Copy, Sync, Switch, Fetch, Store, Frame, Link, Send, Return, Ask, Open, Take, Give, Drain, Release}
+use Rattle.semantics.specs.declared.program.Op.TheVariants.{Apply1, Apply2, Apply2Right, Apply2Left, Lit, Copy, Sync, Switch, Fetch, Store, Frame}
+use Rattle.semantics.specs.declared.program.Op.TheVariants.{Link, Send, Return, Ask, Open, Take, Give, Drain, Release}
 use Rattle.semantics.specs.Rule.{slot_of}
 use Rattle.std.proofs.lemmas.Option.{slice_get-get_or}
 use Rattle.semantics.specs.Bytes.{words_of, bytes_of, block_word, instr_words, HasDests, IsSlot, IsDest, IsInstr, IsCodeBlock, IsCode}
@@ -46,9 +47,12 @@ all_words words = refl
 blocks_words : (c : Code) → flat_map bytes_of_word (flat_map (λ (b : CodeBlock). flat_map (instr_words c.literals) b.instrs) c.program.blocks) ≡ instrs c
 blocks_words c =
     flat_map-flat_map bytes_of_word (λ (b : CodeBlock). flat_map (instr_words c.literals) b.instrs) c.program.blocks
-    ∙ flat_map-same (λ (b : CodeBlock). flat_map bytes_of_word (flat_map (instr_words c.literals) b.instrs)) (bytes_of_block c.literals) c.program.blocks (λ b. flat_map-flat_map bytes_of_word (instr_words c.literals) b.instrs)
+    ∙ flat_map-same (λ (b : CodeBlock). flat_map bytes_of_word (flat_map (instr_words c.literals) b.instrs)) (bytes_of_block c.literals)
+    c.program.blocks (λ b. flat_map-flat_map bytes_of_word (instr_words c.literals) b.instrs)
 
-tail_words : (c : Code) → flat_map bytes_of_word (map block_word c.program.blocks ++ (flat_map (λ (b : CodeBlock). flat_map (instr_words c.literals) b.instrs) c.program.blocks ++ (map (cast_unsigned w64) c.literals ++ c.program.arrays))) ≡ entries c ++ (instrs c ++ (literals c ++ arrays c))
+tail_words : (c : Code) → flat_map bytes_of_word (map block_word c.program.blocks
+    ++ (flat_map (λ (b : CodeBlock). flat_map (instr_words c.literals) b.instrs) c.program.blocks
+    ++ (map (cast_unsigned w64) c.literals ++ c.program.arrays))) ≡ entries c ++ (instrs c ++ (literals c ++ arrays c))
 tail_words c =
     let f = bytes_of_word in
     let ws : List ℕ = flat_map (λ (b : CodeBlock). flat_map (instr_words c.literals) b.instrs) c.program.blocks in
@@ -56,21 +60,28 @@ tail_words c =
     let e3 : flat_map f (ls ++ c.program.arrays) ≡ literals c ++ arrays c =
     flat_map-append f ls c.program.arrays ∙ ap (λ (l : List ℕ). l ++ arrays c) (flat_map-map f (cast_unsigned w64) c.literals) in
     let e2 : flat_map f (ws ++ (ls ++ c.program.arrays)) ≡ instrs c ++ (literals c ++ arrays c) =
-    flat_map-append f ws (ls ++ c.program.arrays) ∙ ap (λ (l : List ℕ). l ++ flat_map f (ls ++ c.program.arrays)) (blocks_words c) ∙ ap (λ (l : List ℕ). instrs c ++ l) e3 in
-    flat_map-append f (map block_word c.program.blocks) (ws ++ (ls ++ c.program.arrays)) ∙ ap (λ (l : List ℕ). l ++ flat_map f (ws ++ (ls ++ c.program.arrays))) (flat_map-map f block_word c.program.blocks) ∙ ap (λ (l : List ℕ). entries c ++ l) e2
+    flat_map-append f ws (ls ++ c.program.arrays) ∙ ap (λ (l : List ℕ). l ++ flat_map f (ls ++ c.program.arrays)) (blocks_words c)
+    ∙ ap (λ (l : List ℕ). instrs c ++ l) e3 in
+    flat_map-append f (map block_word c.program.blocks) (ws ++ (ls ++ c.program.arrays))
+    ∙ ap (λ (l : List ℕ). l ++ flat_map f (ws ++ (ls ++ c.program.arrays))) (flat_map-map f block_word c.program.blocks)
+    ∙ ap (λ (l : List ℕ). entries c ++ l) e2
 
 pub whole : (v : ℕ) (c : Code) → bytes_of v c ≡ bytes_of_header v c ++ (entries c ++ (instrs c ++ (literals c ++ arrays c)))
 whole v c =
     let five : List ℕ = v ∷ length c.program.blocks ∷ length c.literals ∷ length c.program.arrays ∷ c.program.main ∷ [] in
-    let rest : List ℕ = map block_word c.program.blocks ++ (flat_map (λ (b : CodeBlock). flat_map (instr_words c.literals) b.instrs) c.program.blocks ++ (map (cast_unsigned w64) c.literals ++ c.program.arrays)) in
+    let rest : List ℕ = map block_word c.program.blocks ++ (flat_map (λ (b : CodeBlock). flat_map (instr_words c.literals) b.instrs) c.program.blocks
+    ++ (map (cast_unsigned w64) c.literals ++ c.program.arrays)) in
     let all : flat_map (to_le_bytes w64) (words_of v c) ≡ flat_map bytes_of_word five ++ (entries c ++ (instrs c ++ (literals c ++ arrays c))) =
     all_words (five ++ rest) ∙ flat_map-append bytes_of_word five rest ∙ ap (λ (l : List ℕ). flat_map bytes_of_word five ++ l) (tail_words c) in
-    ap (λ (l : List ℕ). codes "ETSOBJCT" ++ l) all ∙ sym (append_assoc (codes "ETSOBJCT") (flat_map bytes_of_word five) (entries c ++ (instrs c ++ (literals c ++ arrays c))))
+    ap (λ (l : List ℕ). codes "ETSOBJCT" ++ l) all
+    ∙ sym (append_assoc (codes "ETSOBJCT") (flat_map bytes_of_word five) (entries c ++ (instrs c ++ (literals c ++ arrays c))))
 
 -- a fault in the middle: what went out is a beginning
-pub stopped : {E : Type 0} (d e : E) (a b c : Option (List ℕ)) (front t rest all : List ℕ) → all ≡ (front ++ t) ++ rest → Appends a b front → Sends (Err d) b c t → Sends (Err e) a c all
+pub stopped : {E : Type 0} (d e : E) (a b c : Option (List ℕ)) (front t rest all : List ℕ) → all ≡ (front ++ t) ++ rest → Appends a b front
+    → Sends (Err d) b c t → Sends (Err e) a c all
 stopped d e a b c front t rest all k p q =
-    sends_same (Err e) a c ((front ++ t) ++ rest) all (sym k) (sends_less e a c (front ++ t) rest (sends_more (Err e) a b c front t p (sends_other d e b c t q)))
+    sends_same (Err e) a c ((front ++ t) ++ rest) all (sym k)
+    (sends_less e a c (front ++ t) rest (sends_more (Err e) a b c front t p (sends_other d e b c t q)))
 
 -- WHAT LAWFUL CODE HAS ROOM FOR
 pub dests_few : (op : Op) (ds es : List Dest) → HasDests op ds es → (length ds ≤ 1) × (length es ≤ 1)

@@ -1,12 +1,15 @@
 -- Which bytes are refused, and why: the first refusal in a fixed order.
-use Rattle.std.specs.Prelude.{ℕ, zero, suc, ◌+◌, ◌-◌, ◌*◌, ◌/◌, ◌%◌, ◌^◌, Bool, true, ◌&&◌, ◌||◌, ◌==◌, nat_lt, nat_le, if◌then◌else◌, int_lt, Option, Some, None, Result, Ok, Err, ⊤, List, length}
+use Rattle.std.specs.Prelude.{ℕ, zero, suc, ◌+◌, ◌-◌, ◌*◌, ◌/◌, ◌%◌, ◌^◌, Bool, true, ◌&&◌, ◌||◌, ◌==◌, nat_lt, nat_le, if◌then◌else◌, int_lt}
+use Rattle.std.specs.Prelude.{Option, Some, None, Result, Ok, Err, ⊤, List, length}
 use Rattle.object_view.specs.declared.fault.ObjectFault.{ObjectFault}
-use Rattle.object_view.specs.declared.fault.ObjectFault.TheVariants.{Truncated, BadMagic, BadVersion, BadTable, BadOpcode, BadDestination, BadSlot, BadLiteral, Trailing}
+use Rattle.object_view.specs.declared.fault.ObjectFault.TheVariants.{Truncated, BadMagic, BadVersion, BadTable, BadOpcode, BadDestination, BadSlot}
+use Rattle.object_view.specs.declared.fault.ObjectFault.TheVariants.{BadLiteral, Trailing}
 use Rattle.semantics.specs.declared.opcode.Opcode.{Opcode}
 use Rattle.semantics.specs.declared.opcode.Opcode.TheVariants.{Apply2Right, Apply2Left, Lit, Fetch, Store, Link, Send, Return, Ask, Release}
 use Rattle.semantics.specs.declared.version.Version.{Version}
 use Rattle.semantics.specs.declared.version.Version.TheVariants.{One, Two}
-use Rattle.object_view.specs.Fields.{word_at, count_in, inputs_in, outputs_in, slots_in, opcode_in, slot_in, dest_of, first_half, second_half, operand_in, origin_number}
+use Rattle.object_view.specs.Fields.{word_at, count_in, inputs_in, outputs_in, slots_in, opcode_in, slot_in, dest_of, first_half, second_half}
+use Rattle.object_view.specs.Fields.{operand_in, origin_number}
 use Rattle.semantics.specs.Opcodes.{may_have, may_go_to, takes_two, takes_slot}
 use Rattle.object_view.specs.Reading.{version_in, instrs_below, instr_place, literal_in, array_in, word_count}
 

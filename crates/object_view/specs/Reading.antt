@@ -1,5 +1,6 @@
 -- The code that is read from an object's words.
-use Rattle.std.specs.Prelude.{ℕ, zero, suc, ◌+◌, ◌*◌, ◌/◌, ◌%◌, ◌==◌, nat_lt, if◌then◌else◌, unwrap_or, ℤ, pos, List, [], ◌∷◌, length, option_to_list, flat_map, slice_index, ◌<◌}
+use Rattle.std.specs.Prelude.{ℕ, zero, suc, ◌+◌, ◌*◌, ◌/◌, ◌%◌, ◌==◌, nat_lt, if◌then◌else◌, unwrap_or, ℤ, pos, List, [], ◌∷◌, length}
+use Rattle.std.specs.Prelude.{option_to_list, flat_map, slice_index, ◌<◌}
 use Rattle.std.specs.Int.{w64, cast_signed, to_le_bytes}
 use Rattle.semantics.specs.Program.{Instr, CodeBlock, Code}
 use Rattle.semantics.specs.Bytes.{instr_words}
@@ -11,7 +12,8 @@ use Rattle.semantics.specs.declared.opcode.Opcode.TheVariants.{Copy}
 use Rattle.object_view.specs.declared.instr.CodeInstr.{CodeInstr}
 use Rattle.object_view.specs.declared.instr.PackedInstr.{PackedInstr}
 use Rattle.semantics.specs.Versions.{version_number}
-use Rattle.object_view.specs.Fields.{word_at, count_in, inputs_in, outputs_in, slots_in, opcode_in, slot_in, dest_of, first_half, second_half, operand_in, origin_number, origin_of}
+use Rattle.object_view.specs.Fields.{word_at, count_in, inputs_in, outputs_in, slots_in, opcode_in, slot_in, dest_of, first_half, second_half}
+use Rattle.object_view.specs.Fields.{operand_in, origin_number, origin_of}
 use Rattle.semantics.specs.Opcodes.{with}
 
 -- what a function gives for numbers in a row, from i on
@@ -25,7 +27,14 @@ shown i = record { op = i.op; origin = i.origin; slot = i.slot; firsts = option_
 
 -- an instruction whose destinations and origin are bits
 abbrev pub unpacked : PackedInstr → CodeInstr
-unpacked i = record { op = i.op; origin = origin_of i.origin; slot = i.bits % 65536; first = dest_of (i.bits / 65536 % 65536); second = dest_of (i.bits / 4294967296 % 65536) }
+unpacked i = record {
+  op = i.op;
+  origin = origin_of i.origin;
+  slot = i.bits % 65536;
+  first = dest_of (i.bits / 65536 % 65536);
+  second = dest_of
+      (i.bits / 4294967296 % 65536);
+}
 
 -- WHERE THINGS ARE. Word 0 is the mark, word 1 the version, word 2 the number of blocks, word 3 of literals, word 4 of
 -- arrays, and word 5 the block that is run.

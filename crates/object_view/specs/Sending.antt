@@ -42,7 +42,8 @@ abbrev pub bytes_of_literal : ℤ → List ℕ
 bytes_of_literal z = bytes_of_word (cast_unsigned w64 z)
 
 abbrev pub bytes_of_header : ℕ → Code → List ℕ
-bytes_of_header version c = codes "ETSOBJCT" ++ flat_map bytes_of_word (version ∷ length c.program.blocks ∷ length c.literals ∷ length c.program.arrays ∷ c.program.main ∷ [])
+bytes_of_header version c = codes "ETSOBJCT" ++ flat_map bytes_of_word (version ∷ length c.program.blocks ∷ length c.literals
+    ∷ length c.program.arrays ∷ c.program.main ∷ [])
 
 -- the bytes with the version 2 in the second word
 abbrev pub upgraded : List ℕ → List ℕ

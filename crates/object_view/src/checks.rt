@@ -378,7 +378,8 @@ impl<'a> Tables<'a> {
     /// Whether a right port may lead to this instruction.
     fn may_take_right(&self, ip: usize) -> bool
         requires { ip < self.now.instrs }
-        ensures { result ≡ Checks.may_take_right (Fields.opcode_in (Fields.word_at self.now.bytes.now (Reading.instr_place (Fields.word_at self.now.bytes.now) ip))) }
+        ensures { result ≡ Checks.may_take_right
+            (Fields.opcode_in (Fields.word_at self.now.bytes.now (Reading.instr_place (Fields.word_at self.now.bytes.now) ip))) }
     {
         match self.head(ip).opcode() {
             Some(opcode) => opcode.takes_two(),

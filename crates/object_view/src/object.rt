@@ -1,6 +1,7 @@
 //! Objects where they lie.
 
-ghost use Rattle.std.specs.Prelude.{◌≡◌, ◌≢◌, ℕ, ◌+◌, ◌*◌, ◌<◌, ◌≤◌, ◌++◌, ◌↔◌, Ok, Err, Some, None, IfOk, IfErr, IfSome, IfNone, IsOk, MatchResult, MatchOption, length, take, drop, slice_get, option_map};
+ghost use Rattle.std.specs.Prelude.{◌≡◌, ◌≢◌, ℕ, ◌+◌, ◌*◌, ◌<◌, ◌≤◌, ◌++◌, ◌↔◌, Ok, Err, Some, None, IfOk, IfErr, IfSome, IfNone, IsOk, MatchResult};
+ghost use Rattle.std.specs.Prelude.{MatchOption, length, take, drop, slice_get, option_map};
 ghost use Rattle.semantics.specs.Program.{Code, first_of, instr_at};
 ghost use Rattle.semantics.specs.Bytes.{IsObject};
 ghost use Rattle.object_view.specs.Unique.{ReadsBack, IsUnique, AllOpen};

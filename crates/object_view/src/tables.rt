@@ -153,8 +153,11 @@ impl<'a> Tables<'a> {
     #[inline(always)]
     fn read_op(&self, opcode: Opcode, ip: usize) -> (Op, u64)
         requires { ip < self.now.instrs }
-        ensures op { let word = Fields.word_at self.now.bytes.now (Reading.instr_place (Fields.word_at self.now.bytes.now) ip + 1) in result.0 ≡ Opcodes.with opcode (Fields.operand_in self.now.version opcode word) (Reading.literal_or_zero (Fields.word_at self.now.bytes.now) (Fields.operand_in self.now.version opcode word)) }
-        ensures origin { result.1 ≡ Fields.origin_number self.now.version opcode (Fields.word_at self.now.bytes.now (Reading.instr_place (Fields.word_at self.now.bytes.now) ip + 1)) }
+        ensures op { let word = Fields.word_at self.now.bytes.now (Reading.instr_place (Fields.word_at self.now.bytes.now) ip + 1) in result.0
+            ≡ Opcodes.with opcode (Fields.operand_in self.now.version opcode word) (Reading.literal_or_zero (Fields.word_at self.now.bytes.now)
+            (Fields.operand_in self.now.version opcode word)) }
+        ensures origin { result.1 ≡ Fields.origin_number self.now.version opcode
+            (Fields.word_at self.now.bytes.now (Reading.instr_place (Fields.word_at self.now.bytes.now) ip + 1)) }
     {
         match opcode {
             Opcode::Apply2 { op } => {

@@ -39,7 +39,8 @@ fn instr_of<A: Allocator + Clone>(alloc: A, instr: CodeInstr) -> Result<Instr<A>
 
 /// The instruction of that number in a block.
 fn instr_in(object: &Object<'_>, block: &BlockView, number: u32) -> Option<CodeInstr>
-    ensures { (k : ℕ) → (b : Told.CodeBlock) → IsBlockAt object.now.code.program k b block.now → number < length b.instrs → option_map shown result ≡ slice_get b.instrs number }
+    ensures { (k : ℕ) → (b : Told.CodeBlock) → IsBlockAt object.now.code.program k b block.now → number < length b.instrs → option_map shown result
+        ≡ slice_get b.instrs number }
 {
     let Some(left) = object.instr_count().checked_sub(block.first) else {
         return None;

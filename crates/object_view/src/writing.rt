@@ -4,7 +4,8 @@ ghost use Rattle.std.specs.Prelude.{◌≡◌, ◌≤◌, ◌+◌, ◌<◌, ◌+
 ghost use Rattle.std.specs.Int.{w64, to_le_bytes};
 ghost use Rattle.semantics.specs.Bytes as Bytes;
 ghost use Rattle.semantics.specs.Versions.{version_number};
-ghost use Rattle.object_view.specs.Sending.{IsAscending, HasRoom, HasWords, HasEntry, bytes_of_instr, bytes_of_block, bytes_of_entry, bytes_of_literal, bytes_of_word, bytes_of_header};
+ghost use Rattle.object_view.specs.Sending.{IsAscending, HasRoom, HasWords, HasEntry, bytes_of_instr, bytes_of_block, bytes_of_entry};
+ghost use Rattle.object_view.specs.Sending.{bytes_of_literal, bytes_of_word, bytes_of_header};
 ghost use Rattle.sink.specs.Sends.{Sends};
 
 use crate::object::Object;

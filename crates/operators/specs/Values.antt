@@ -1,6 +1,8 @@
 -- What the operators do with values, which value is true, and what an index names.
-use Rattle.std.specs.Prelude.{List, [], ◌∷◌, ℕ, ◌-◌, ◌%◌, ◌^◌, Bool, true, false, not, ◌&&◌, ◌||◌, ℤ, pos, negsuc, nat_lt, int_lt, int_le, int_rem, bit_and, bit_or, bit_xor, if◌then◌else◌}
-use Rattle.std.specs.Int.{w64, cast_signed, cast_unsigned, int_wrapping_add, int_wrapping_sub, int_wrapping_mul, int_wrapping_div, int_wrapping_neg, int_shl, int_shr}
+use Rattle.std.specs.Prelude.{List, [], ◌∷◌, ℕ, ◌-◌, ◌%◌, ◌^◌, Bool, true, false, not, ◌&&◌, ◌||◌, ℤ, pos, negsuc, nat_lt, int_lt, int_le, int_rem}
+use Rattle.std.specs.Prelude.{bit_and, bit_or, bit_xor, if◌then◌else◌}
+use Rattle.std.specs.Int.{w64, cast_signed, cast_unsigned, int_wrapping_add, int_wrapping_sub, int_wrapping_mul, int_wrapping_div, int_wrapping_neg}
+use Rattle.std.specs.Int.{int_shl, int_shr}
 use Rattle.tags.specs.declared.value.Value.{Value}
 use Rattle.tags.specs.declared.value.Value.TheVariants.{Int, Fault}
 use Rattle.tags.specs.declared.value.FaultKind.TheVariants.{Zero, Range}

@@ -1,5 +1,6 @@
 -- How often tokens are in lists.
-use Rattle.std.proofs.Common.{◌≡◌, refl, sym, ◌∙◌, ap, subst, ℕ, ◌+◌, ◌<◌, ◌≤◌, Bool, true, false, cond, List, [], ◌∷◌, ◌++◌, length, take, take_all, get_or, Option, arith}
+use Rattle.std.proofs.Common.{◌≡◌, refl, sym, ◌∙◌, ap, subst, ℕ, ◌+◌, ◌<◌, ◌≤◌, Bool, true, false, cond, List, [], ◌∷◌, ◌++◌, length, take}
+use Rattle.std.proofs.Common.{take_all, get_or, Option, arith}
 use Rattle.std.specs.Prelude.{IsPermutation, if◌then◌else◌}
 use Rattle.std.proofs.lemmas.List.Sums.{sum_by-cons, sum_by-append, sum_by_more}
 use Rattle.std.proofs.lemmas.List.Sorted.{IsPermutation-refl, IsPermutation-trans, IsPermutation-cons, IsPermutation-middle, sum_by-IsPermutation}
@@ -28,7 +29,8 @@ once t = ap (λ (b : Bool). if b then 1 else 0) (laws-law.refl t)
 pub found : (t : Token) (ts : List Token) → 0 < all_copies t ts → (rest : List Token) × IsPermutation ts (t ∷ rest)
 found t [] some = absurd (let no : ⊥ = omega (arith, some) in no)
 found t (u ∷ ts) some = go (same u t) refl (λ more. found t ts more) where
-  go : (b : Bool) → same u t ≡ b → (0 < all_copies t ts → (rest : List Token) × IsPermutation ts (t ∷ rest)) → (rest : List Token) × IsPermutation (u ∷ ts) (t ∷ rest)
+  go : (b : Bool) → same u t ≡ b → (0 < all_copies t ts → (rest : List Token) × IsPermutation ts (t ∷ rest)) → (rest : List Token)
+      × IsPermutation (u ∷ ts) (t ∷ rest)
   go true is again = (ts, subst (λ (v : Token). IsPermutation (u ∷ ts) (v ∷ ts)) (same_exact u t is) (IsPermutation-refl (u ∷ ts)))
   go false is again =
       let all = copies_cons t u ts in
@@ -36,7 +38,8 @@ found t (u ∷ ts) some = go (same u t) refl (λ more. found t ts more) where
       let more : 0 < all_copies t ts = omega (arith, some, all, none) in
       let later = again more in (
         u ∷ later.0,
-        IsPermutation-trans (u ∷ ts) (u ∷ (t ∷ later.0)) (t ∷ (u ∷ later.0)) (IsPermutation-cons u ts (t ∷ later.0) later.1) (IsPermutation-middle (u ∷ []) t later.0),
+        IsPermutation-trans (u ∷ ts) (u ∷ (t ∷ later.0)) (t ∷ (u ∷ later.0)) (IsPermutation-cons u ts (t ∷ later.0) later.1)
+            (IsPermutation-middle (u ∷ []) t later.0),
       )
 
 -- a token that a list begins with is in it
@@ -55,31 +58,38 @@ taken_out ts (t ∷ out) left counts =
     let some : 0 < all_copies t ts = (let c = counts t in let cons = copies_cons t t out in let one = once t in omega (arith, c, cons, one)) in
     let first = found t ts some in
     let counted : (q : Token) → all_copies q first.0 ≡ left q + all_copies q out
-    = λ q. (let c = counts q in let cons = copies_cons q t out in let perm = copies_permuted q ts (t ∷ first.0) first.1 in let here = copies_cons q t first.0 in omega (arith, c, cons, perm, here)) in
+    = λ q. (let c = counts q in let cons = copies_cons q t out in let perm = copies_permuted q ts (t ∷ first.0) first.1
+    in let here = copies_cons q t first.0 in omega (arith, c, cons, perm, here)) in
     let later = taken_out first.0 out left counted in (
       later.0,
       IsPermutation-trans ts (t ∷ first.0) (t ∷ (out ++ later.0)) first.1 (IsPermutation-cons t first.0 (out ++ later.0) later.1),
       later.2,
     )
 
-pub copies_more : (q : Token) (ts : List Token) (i : ℕ) (d : Token) → i < length ts → all_copies q (take (i + 1) ts) ≡ all_copies q (take i ts) + copies q (get_or ts i d)
+pub copies_more : (q : Token) (ts : List Token) (i : ℕ) (d : Token) → i < length ts → all_copies q (take (i + 1) ts)
+    ≡ all_copies q (take i ts) + copies q (get_or ts i d)
 copies_more q ts i d low = sum_by_more (ticks q) ts i d low
 
-pub copies_more_at : (q : Token) (ts : List Token) (i : ℕ) (t : Token) → i < length ts → t ≡ get_or ts i t → all_copies q (take (i + 1) ts) ≡ all_copies q (take i ts) + copies q t
-copies_more_at q ts i t low is = subst (λ (u : Token). all_copies q (take (i + 1) ts) ≡ all_copies q (take i ts) + copies q u) (sym is) (copies_more q ts i t low)
+pub copies_more_at : (q : Token) (ts : List Token) (i : ℕ) (t : Token) → i < length ts → t ≡ get_or ts i t → all_copies q (take (i + 1) ts)
+    ≡ all_copies q (take i ts) + copies q t
+copies_more_at q ts i t low is = subst (λ (u : Token). all_copies q (take (i + 1) ts) ≡ all_copies q (take i ts) + copies q u) (sym is)
+    (copies_more q ts i t low)
 
 pub copies_whole : (q : Token) (ts : List Token) (i : ℕ) → length ts ≤ i → all_copies q (take i ts) ≡ all_copies q ts
 copies_whole q ts i past = ap (all_copies q) (take_all i ts past)
 
 -- MAPS
 -- a map that has w at the token t has as often as before what is not t
-pub others_stay : (f g : Token → Option ℕ) (t q : Token) (w : Option ℕ) → g q ≡ cond (same t q) w (f q) → same t q ≡ false → more_than_one (g q) ≡ more_than_one (f q)
+pub others_stay : (f g : Token → Option ℕ) (t q : Token) (w : Option ℕ) → g q ≡ cond (same t q) w (f q) → same t q ≡ false → more_than_one (g q)
+    ≡ more_than_one (f q)
 others_stay f g t q w at is = ap more_than_one (at ∙ ap (λ (b : Bool). cond b w (f q)) is)
 
-pub changed_here : (f g : Token → Option ℕ) (t q : Token) (w : Option ℕ) → g q ≡ cond (same t q) w (f q) → same t q ≡ true → more_than_one (g q) ≡ more_than_one w
+pub changed_here : (f g : Token → Option ℕ) (t q : Token) (w : Option ℕ) → g q ≡ cond (same t q) w (f q) → same t q ≡ true → more_than_one (g q)
+    ≡ more_than_one w
 changed_here f g t q w at is = ap more_than_one (at ∙ ap (λ (b : Bool). cond b w (f q)) is)
 
-pub one_more : (f g : Token → Option ℕ) (t : Token) (w : Option ℕ) → ((q : Token) → g q ≡ cond (same t q) w (f q)) → more_than_one w ≡ more_than_one (f t) + 1 → (q : Token) → more_than_one (g q) ≡ more_than_one (f q) + copies q t
+pub one_more : (f g : Token → Option ℕ) (t : Token) (w : Option ℕ) → ((q : Token) → g q ≡ cond (same t q) w (f q)) → more_than_one w
+    ≡ more_than_one (f t) + 1 → (q : Token) → more_than_one (g q) ≡ more_than_one (f q) + copies q t
 one_more f g t w at more q = go (same t q) refl where
   go : (b : Bool) → same t q ≡ b → more_than_one (g q) ≡ more_than_one (f q) + copies q t
   go true is =
@@ -92,7 +102,8 @@ one_more f g t w at more q = go (same t q) refl where
       let none : copies q t ≡ 0 = ap (λ (b : Bool). if b then 1 else 0) is in
       omega (arith, there, none)
 
-pub one_less : (f g : Token → Option ℕ) (t : Token) (w : Option ℕ) → ((q : Token) → g q ≡ cond (same t q) w (f q)) → more_than_one (f t) ≡ more_than_one w + 1 → (q : Token) → more_than_one (f q) ≡ more_than_one (g q) + copies q t
+pub one_less : (f g : Token → Option ℕ) (t : Token) (w : Option ℕ) → ((q : Token) → g q ≡ cond (same t q) w (f q)) → more_than_one (f t)
+    ≡ more_than_one w + 1 → (q : Token) → more_than_one (f q) ≡ more_than_one (g q) + copies q t
 one_less f g t w at less q = go (same t q) refl where
   go : (b : Bool) → same t q ≡ b → more_than_one (f q) ≡ more_than_one (g q) + copies q t
   go true is =

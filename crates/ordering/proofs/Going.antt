@@ -21,7 +21,8 @@ Tokens = List Token
 abbrev Amounts : Type 0
 Amounts = Token → ℕ
 
-pub goes_nowhere : (n e : ℕ) (tokens : Tokens) (blocks : List Block) (before : Events) (amounts : Amounts) (r : Rest) → Holds amounts tokens → IsRestOf r blocks → GoesOn n e tokens blocks before amounts r before
+pub goes_nowhere : (n e : ℕ) (tokens : Tokens) (blocks : List Block) (before : Events) (amounts : Amounts) (r : Rest) → Holds amounts tokens
+    → IsRestOf r blocks → GoesOn n e tokens blocks before amounts r before
 goes_nowhere n e tokens blocks before amounts r holds stands = record {
   left = tokens;
   later = blocks;
@@ -32,7 +33,8 @@ goes_nowhere n e tokens blocks before amounts r holds stands = record {
   leads = leads_nowhere n e tokens blocks;
 }
 
-pub goes_then : (n e : ℕ) (tokens : Tokens) (blocks : List Block) (one two three : Events) (f g : Amounts) (r s : Rest) → (first : GoesOn n e tokens blocks one f r two) → GoesOn n e first.left first.later two g s three → GoesOn n e tokens blocks one g s three
+pub goes_then : (n e : ℕ) (tokens : Tokens) (blocks : List Block) (one two three : Events) (f g : Amounts) (r s : Rest)
+    → (first : GoesOn n e tokens blocks one f r two) → GoesOn n e first.left first.later two g s three → GoesOn n e tokens blocks one g s three
 goes_then n e tokens blocks one two three f g r s first second = record {
   left = second.left;
   later = second.later;
@@ -44,28 +46,35 @@ goes_then n e tokens blocks one two three f g r s first second = record {
 }
 
 abbrev Goes : ℕ → Amounts → Rest → Events → Amounts → Rest → Events → Type 0
-Goes e before old one after new two = (n : ℕ) (tokens : Tokens) (blocks : List Block) → Holds before tokens → IsRestOf old blocks → GoesOn n e tokens blocks one after new two
+Goes e before old one after new two = (n : ℕ) (tokens : Tokens) (blocks : List Block) → Holds before tokens → IsRestOf old blocks
+    → GoesOn n e tokens blocks one after new two
 
-pub goes_twice : (e : ℕ) (one two three : Events) (f g h : Amounts) (r s t : Rest) → Goes e f r one g s two → Goes e g s two h t three → Goes e f r one h t three
+pub goes_twice : (e : ℕ) (one two three : Events) (f g h : Amounts) (r s t : Rest) → Goes e f r one g s two → Goes e g s two h t three
+    → Goes e f r one h t three
 goes_twice e one two three f g h r s t first second n tokens blocks holds stands =
     let a = first n tokens blocks holds stands in
     goes_then n e tokens blocks one two three g h s t a (second n a.left a.later a.holds a.stands)
 
 -- tokens of the next block are taken out of the pool
-pub goes_aside : (n e : ℕ) (tokens : Tokens) (blocks : List Block) (events : Events) (before after : Amounts) (old new : Rest) → 0 < length old.blocks.now → Holds before tokens → IsRestOf old blocks → TakesNeeded before old after new → GoesOn n e tokens blocks events after new events
-goes_aside n e tokens [] events before after old new some holds stands takes = absurd (let none : length old.blocks.now ≡ 0 = ap (λ (l : List Counts). length l) stands.1 in let no : ⊥ = omega (arith, some, none) in no)
+pub goes_aside : (n e : ℕ) (tokens : Tokens) (blocks : List Block) (events : Events) (before after : Amounts) (old new : Rest)
+    → 0 < length old.blocks.now → Holds before tokens → IsRestOf old blocks → TakesNeeded before old after new
+    → GoesOn n e tokens blocks events after new events
+goes_aside n e tokens [] events before after old new some holds stands takes = absurd (let none : length old.blocks.now
+    ≡ 0 = ap (λ (l : List Counts). length l) stands.1 in let no : ⊥ = omega (arith, some, none) in no)
 goes_aside n e tokens (b ∷ later) events before after old new some holds stands takes =
     let ts : Tokens = takes.0 in
     let need : Tokens = new.needed.now in
     let out = taken_out tokens ts after (λ q. sym (holds q) ∙ takes.2 q) in
     let spent : b.spent ≡ ts ++ need = sym stands.0 ∙ takes.1 in
-    let same : IsLogOf need old.taken.now old.made.now old.blocks.now (with_spent need b ∷ later) = (refl, stands.1, stands.2, stands.3, stands.4, stands.5, stands.6) in
+    let same : IsLogOf need old.taken.now old.made.now old.blocks.now (with_spent need b ∷ later) =
+    (refl, stands.1, stands.2, stands.3, stands.4, stands.5, stands.6) in
     record {
       left = out.0;
       later = with_spent need b ∷ later;
       made = [];
       holds = out.2;
-      stands = stands_same need need new.taken.now old.taken.now new.made.now old.made.now new.blocks.now old.blocks.now (with_spent need b ∷ later) refl takes.3 takes.4 takes.5 same;
+      stands = stands_same need need new.taken.now old.taken.now new.made.now old.made.now new.blocks.now old.blocks.now (with_spent need b ∷ later)
+          refl takes.3 takes.4 takes.5 same;
       noted = sym (append-nil events);
       leads = leads_aside n e b later tokens out.0 ts need spent out.1;
     }
@@ -80,7 +89,8 @@ no_counts c cs e = cc
 -- a block whose tokens were all taken out has its place
 pub goes_block : (n e : ℕ) (tokens : Tokens) (blocks : List Block) (one two : Events) (before after : Amounts) (old new : Rest) (c : Counts) (cs : List Counts)
     → old.blocks.now ≡ c ∷ cs → old.needed.now ≡ [] → Holds before tokens → IsRestOf old blocks
-    → IsWhole (drop c.events old.taken.now) (drop c.made old.made.now) cs new → two ≡ one ++ by e (take c.events old.taken.now) → ((q : Token) → after q ≡ before q + all_copies q (take c.made old.made.now))
+    → IsWhole (drop c.events old.taken.now) (drop c.made old.made.now) cs new → two ≡ one ++ by e (take c.events old.taken.now)
+    → ((q : Token) → after q ≡ before q + all_copies q (take c.made old.made.now))
     → GoesOn n e tokens blocks one after new two
 goes_block n e tokens [] one two before after old new c cs counts none holds stands whole noted amounts = absurd (no_counts c cs (sym stands.1 ∙ counts))
 goes_block n e tokens (b ∷ later) one two before after old new c cs counts none holds stands whole noted amounts =
@@ -90,8 +100,10 @@ goes_block n e tokens (b ∷ later) one two before after old new c cs counts non
     let taken_is : take c.events old.taken.now ≡ taken_in b = subst (λ (d : Counts). take d.events old.taken.now ≡ taken_in b) c_is stands.4 in
     let made_is : take c.made old.made.now ≡ b.made = subst (λ (d : Counts). take d.made old.made.now ≡ b.made) c_is stands.5 in
     let rest : IsLogOf (first_spent (drop c.events old.taken.now) cs) (drop c.events old.taken.now) (drop c.made old.made.now) cs later
-    = subst (λ (ds : List Counts). IsLogOf (first_spent (drop c.events old.taken.now) ds) (drop c.events old.taken.now) (drop c.made old.made.now) ds later) cs_is
-    (subst (λ (d : Counts). IsLogOf (first_spent (drop d.events old.taken.now) stands.2) (drop d.events old.taken.now) (drop d.made old.made.now) stands.2 later) c_is stands.6) in
+    = subst (λ (ds : List Counts). IsLogOf (first_spent (drop c.events old.taken.now) ds) (drop c.events old.taken.now) (drop c.made old.made.now) ds
+    later) cs_is
+    (subst (λ (d : Counts). IsLogOf (first_spent (drop d.events old.taken.now) stands.2) (drop d.events old.taken.now) (drop d.made old.made.now)
+    stands.2 later) c_is stands.6) in
     record {
       left = b.made ++ tokens;
       later = later;

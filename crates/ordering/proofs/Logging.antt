@@ -19,7 +19,8 @@ map_push (c ∷ later) b = ap (λ (l : List Counts). counts_of c ∷ l) (map_pus
 pub notes_nothing : Logs nothing []
 notes_nothing = record { taken = refl; made = refl; counts = refl; oldest = All-nil SpendsOldest }
 
-pub notes_event : (n : Noted) (blocks : List Block) (taken made : List Token) (t : Token) → Notes n blocks taken made → Notes (with_event n t) blocks (taken ++ t ∷ []) made
+pub notes_event : (n : Noted) (blocks : List Block) (taken made : List Token) (t : Token) → Notes n blocks taken made
+    → Notes (with_event n t) blocks (taken ++ t ∷ []) made
 notes_event n blocks taken made t notes = record {
   taken = ap (λ (l : List Token). l ++ t ∷ []) notes.taken ∙ append_assoc (flat_map taken_in blocks) taken (t ∷ []);
   made = notes.made;
@@ -27,7 +28,8 @@ notes_event n blocks taken made t notes = record {
   oldest = notes.oldest;
 }
 
-pub notes_made : (n : Noted) (blocks : List Block) (taken made : List Token) (t : Token) → Notes n blocks taken made → Notes (with_made n t) blocks taken (made ++ t ∷ [])
+pub notes_made : (n : Noted) (blocks : List Block) (taken made : List Token) (t : Token) → Notes n blocks taken made
+    → Notes (with_made n t) blocks taken (made ++ t ∷ [])
 notes_made n blocks taken made t notes = record {
   taken = notes.taken;
   made = ap (λ (l : List Token). l ++ t ∷ []) notes.made ∙ append_assoc (flat_map made_in blocks) made (t ∷ []);
@@ -35,7 +37,8 @@ notes_made n blocks taken made t notes = record {
   oldest = notes.oldest;
 }
 
-pub ends_block : (n : Noted) (blocks : List Block) (b : Block) → Notes n blocks (taken_in b) b.made → SpendsOldest b → Logs (with_block n (counts_of b)) (blocks ++ b ∷ [])
+pub ends_block : (n : Noted) (blocks : List Block) (b : Block) → Notes n blocks (taken_in b) b.made → SpendsOldest b
+    → Logs (with_block n (counts_of b)) (blocks ++ b ∷ [])
 ends_block n blocks b notes oldest = record {
   taken = notes.taken ∙ sym (flat_push taken_in blocks b) ∙ sym (append-nil (flat_map taken_in (blocks ++ b ∷ [])));
   made = notes.made ∙ sym (flat_push made_in blocks b) ∙ sym (append-nil (flat_map made_in (blocks ++ b ∷ [])));

@@ -1,5 +1,6 @@
 -- All elements in turn, from the opening pool to the last block.
-use Rattle.std.proofs.Common.{◌≡◌, ◌≢◌, refl, sym, ◌∙◌, ap, subst, ℕ, zero, suc, ◌<◌, ◌≤◌, List, [], ◌∷◌, ◌++◌, length, drop, get_or, map, ◌⊎◌, inl, inr, ⊎_elim, append_assoc, append-nil, Some, arith}
+use Rattle.std.proofs.Common.{◌≡◌, ◌≢◌, refl, sym, ◌∙◌, ap, subst, ℕ, zero, suc, ◌<◌, ◌≤◌, List, [], ◌∷◌, ◌++◌, length, drop, get_or, map, ◌⊎◌, inl}
+use Rattle.std.proofs.Common.{inr, ⊎_elim, append_assoc, append-nil, Some, arith}
 use Rattle.std.specs.Prelude.{IsPermutation, slice_get, slice_set, ◌==◌}
 use Rattle.std.proofs.lemmas.List.Sorted.{IsPermutation-sym}
 use Rattle.lemmas.proofs.SliceGet.{get_some}
@@ -61,11 +62,13 @@ none_above : (n : ℕ) (log : List Block) (e : ℕ) → AreBelow n log → n ≤
 none_above n [] e below high = refl
 none_above n (b ∷ later) e below high =
     let low : b.element < n = below.0 in
-    first_other b later e (λ (s : b.element ≡ e). let at : b.element ≡ e = s in let no : ⊥ = omega (arith, low, high, at) in no) ∙ none_above n later e below.1 high
+    first_other b later e (λ (s : b.element ≡ e). let at : b.element ≡ e = s in let no : ⊥ = omega (arith, low, high, at) in no)
+    ∙ none_above n later e below.1 high
 
 -- AT THE START
 pub starts : {A : Type 0} (logs : List (BlockLog A)) (log : List Block) (start last opening : Tokens) (amounts : Amounts) (rests : List Rest)
-    → IsHistory logs log start last → IsPermutation opening start → AreWhole logs rests → Holds amounts opening → OrderedSoFar (length logs) log start last amounts rests []
+    → IsHistory logs log start last → IsPermutation opening start → AreWhole logs rests → Holds amounts opening
+    → OrderedSoFar (length logs) log start last amounts rests []
 starts logs log start last opening amounts rests history perm whole holds = record {
   tokens = opening;
   left = log;
@@ -76,16 +79,23 @@ starts logs log start last opening amounts rests history perm whole holds = reco
   back = λ next leaves same. (next, leaves_same (length logs) start opening (map entry_of next) last (IsPermutation-sym opening start perm) leaves, same, refl);
 }
 
-pub whole_pushed : {A : Type 0} (logs : List (BlockLog A)) (rests : List Rest) (l : BlockLog A) (r : Rest) → length rests < length logs → l ≡ get_or logs (length rests) l → IsWhole l.taken.items l.made.items l.blocks.items r
+pub whole_pushed : {A : Type 0} (logs : List (BlockLog A)) (rests : List Rest) (l : BlockLog A) (r : Rest) → length rests < length logs → l
+    ≡ get_or logs (length rests) l → IsWhole l.taken.items l.made.items l.blocks.items r
     → AreWholeSoFar logs rests → AreWholeSoFar logs (rests ++ r ∷ [])
 whole_pushed {A} logs rests l r low is whole so_far e q get =
     ⊎_elim (λ old. so_far e q old)
-    (λ here. (l, ap (slice_get logs) here.0 ∙ get_at logs (length rests) l low is, subst (IsWhole l.taken.items l.made.items l.blocks.items) (sym here.1) whole))
+    (λ here. (
+      l,
+      ap (slice_get logs) here.0 ∙ get_at logs (length rests) l low is,
+      subst (IsWhole l.taken.items l.made.items l.blocks.items)
+          (sym here.1) whole,
+    ))
     (get_pushed rests r e q get)
 
 -- ONE ELEMENT GOES ON
 pub goes_further : (n : ℕ) (log : List Block) (start last : Tokens) (before after : Amounts) (rests : List Rest) (one two : Events) (at : ℕ) (old new : Rest)
-    → at < n → slice_get rests at ≡ Some old → ((tokens : Tokens) (blocks : List Block) → Holds before tokens → IsRestOf old blocks → GoesOn n at tokens blocks one after new two)
+    → at < n → slice_get rests at ≡ Some old → ((tokens : Tokens) (blocks : List Block) → Holds before tokens → IsRestOf old blocks
+    → GoesOn n at tokens blocks one after new two)
     → OrderedSoFar n log start last before rests one → OrderedSoFar n log start last after (slice_set rests at new) two
 goes_further n log start last before after rests one two at old new low get goes s =
     let bs : List Block = blocks_by at s.left in
@@ -100,7 +110,8 @@ goes_further n log start last before after rests one two at old new low get goes
       stands = λ e r there. by_equality (IsRestOf r (blocks_by e next.0)) e at
           (λ (is : e ≡ at).
           let here : r ≡ new = set_same rests at r new (subst (λ (k : ℕ). slice_get (slice_set rests at new) k ≡ Some r) is there) in
-          subst (λ (k : ℕ). IsRestOf r (blocks_by k next.0)) (sym is) (subst (λ (q : Rest). IsRestOf q (blocks_by at next.0)) (sym here) (subst (IsRestOf new) (sym next.2) go.stands)))
+          subst (λ (k : ℕ). IsRestOf r (blocks_by k next.0)) (sym is) (subst (λ (q : Rest). IsRestOf q (blocks_by at next.0)) (sym here)
+          (subst (IsRestOf new) (sym next.2) go.stands)))
           (λ (ne : e ≢ at). subst (IsRestOf r) (sym (next.3 e ne)) (s.stands e r (sym (set_apart rests at e new (λ (is : at ≡ e). ne (sym is))) ∙ there)))
           (e == at) refl;
       back = λ later leaves same.
@@ -108,8 +119,13 @@ goes_further n log start last before after rests one two at old new low get goes
           let b = go.leads.back own later last leaves (same at ∙ next.2) in
           let w = s.back b.0 b.1 (λ e. by_equality (blocks_by e b.0 ≡ blocks_by e s.left) e at
           (λ (is : e ≡ at). subst (λ (k : ℕ). blocks_by k b.0 ≡ blocks_by k s.left) (sym is) b.2)
-          (λ (ne : e ≢ at). b.3 e ne ∙ same e ∙ next.3 e ne) (e == at) refl) in
-          (w.0, w.1, w.2, w.3 ∙ ap (λ (l : Events). one ++ l) b.4 ∙ sym (append_assoc one go.made (events_in later)) ∙ ap (λ (l : Events). l ++ events_in later) (sym go.noted));
+          (λ (ne : e ≢ at). b.3 e ne ∙ same e ∙ next.3 e ne) (e == at) refl) in (
+            w.0,
+            w.1,
+            w.2,
+            w.3 ∙ ap (λ (l : Events). one ++ l) b.4 ∙ sym (append_assoc one go.made (events_in later))
+                ∙ ap (λ (l : Events). l ++ events_in later) (sym go.noted),
+          );
     }
 
 -- AT THE END
@@ -120,7 +136,8 @@ not_first : (t : Token) → slice_get {X = Token} [] 0 ≡ Some t → ⊥
 not_first t e = cc
 
 -- a block whose tokens are in the pool waits for none
-waits : (spent rest tokens : Tokens) (amounts : Amounts) (t : Token) → slice_get spent 0 ≡ Some t → amounts t ≡ 0 → Holds amounts tokens → IsPermutation tokens (spent ++ rest) → ⊥
+waits : (spent rest tokens : Tokens) (amounts : Amounts) (t : Token) → slice_get spent 0 ≡ Some t → amounts t ≡ 0 → Holds amounts tokens
+    → IsPermutation tokens (spent ++ rest) → ⊥
 waits [] rest tokens amounts t first none holds perm = not_first t first
 waits (u ∷ us) rest tokens amounts t first none holds perm =
     let some : 0 < all_copies u tokens = in_front u tokens us rest perm in
@@ -128,23 +145,28 @@ waits (u ∷ us) rest tokens amounts t first none holds perm =
     let held = holds u in
     omega (arith, some, here, held)
 
-stuck_first : (n : ℕ) (b : Block) (later : List Block) (tokens last : Tokens) (amounts : Amounts) (r : Rest) → LeavesTokens n tokens (b ∷ later) last → Holds amounts tokens → IsRestOf r (b ∷ blocks_by b.element later) → IsStuck amounts r → ⊥
+stuck_first : (n : ℕ) (b : Block) (later : List Block) (tokens last : Tokens) (amounts : Amounts) (r : Rest) → LeavesTokens n tokens (b ∷ later) last
+    → Holds amounts tokens → IsRestOf r (b ∷ blocks_by b.element later) → IsStuck amounts r → ⊥
 stuck_first n b later tokens last amounts r leaves holds stands stuck =
     let some : 0 < length r.blocks.now = subst (λ (cs : List Counts). 0 < length cs) (sym stands.3) (omega arith) in
     let waiting = stuck some in
     waits b.spent leaves.0 tokens amounts waiting.0 (subst (λ (ts : Tokens). slice_get ts 0 ≡ Some waiting.0) stands.0 waiting.1) waiting.2 holds leaves.1
 
 -- where no block can be taken, none is left
-none_left : (n : ℕ) (left : List Block) (tokens last : Tokens) (amounts : Amounts) (rests : List Rest) → length rests ≡ n → LeavesTokens n tokens left last → Holds amounts tokens → ((e : ℕ) → n ≤ e → blocks_by e left ≡ [])
-    → ((e : ℕ) (r : Rest) → slice_get rests e ≡ Some r → IsRestOf r (blocks_by e left)) → ((e : ℕ) (r : Rest) → slice_get rests e ≡ Some r → IsStuck amounts r) → left ≡ []
+none_left : (n : ℕ) (left : List Block) (tokens last : Tokens) (amounts : Amounts) (rests : List Rest) → length rests ≡ n
+    → LeavesTokens n tokens left last → Holds amounts tokens → ((e : ℕ) → n ≤ e → blocks_by e left ≡ [])
+    → ((e : ℕ) (r : Rest) → slice_get rests e ≡ Some r → IsRestOf r (blocks_by e left)) → ((e : ℕ) (r : Rest) → slice_get rests e ≡ Some r
+    → IsStuck amounts r) → left ≡ []
 none_left n [] tokens last amounts rests count leaves holds below stands stuck = refl
 none_left n (b ∷ later) tokens last amounts rests count leaves holds below stands stuck =
     let low : b.element < n = (all_below n (b ∷ later) below).0 in
     let here = get_some rests b.element (omega (arith, low, count)) in
-    absurd (stuck_first n b later tokens last amounts here.0 leaves holds (subst (IsRestOf here.0) (by_same b later) (stands b.element here.0 here.1)) (stuck b.element here.0 here.1))
+    absurd (stuck_first n b later tokens last amounts here.0 leaves holds (subst (IsRestOf here.0) (by_same b later) (stands b.element here.0 here.1))
+    (stuck b.element here.0 here.1))
 
 pub ends : {A : Type 0} (logs : List (BlockLog A)) (log : List Block) (start last : Tokens) (amounts : Amounts) (rests : List Rest) (events : Events)
-    → IsHistory logs log start last → length rests ≡ length logs → OrderedSoFar (length logs) log start last amounts rests events → ((e : ℕ) (r : Rest) → slice_get rests e ≡ Some r → IsStuck amounts r) → IsOrdered (length logs) log start last events
+    → IsHistory logs log start last → length rests ≡ length logs → OrderedSoFar (length logs) log start last amounts rests events
+    → ((e : ℕ) (r : Rest) → slice_get rests e ≡ Some r → IsStuck amounts r) → IsOrdered (length logs) log start last events
 ends logs log start last amounts rests events history count s stuck =
     let n : ℕ = length logs in
     let none : s.left ≡ [] = none_left n s.left s.tokens last amounts rests count s.leaves s.holds s.below s.stands stuck in

@@ -55,7 +55,8 @@ placed f g i j p q e =
     (eqb-true f g h.0, eqb-true i j k.0, port_exact p q k.1)
 
 cont_exact : (c d : Cont) → IsTrue ((cont_eq.ghosts).eq c d) → c ≡ d
-cont_exact (Cont.Frame f i p) (Cont.Frame g j q) e = let h = placed f g i j p q e in ap₂ (λ (x : ℕ) (y : ℕ × Port). Cont.Frame x y.0 y.1) h.0 (ap₂ (λ (x : ℕ) (y : Port). (x, y)) h.1 h.2)
+cont_exact (Cont.Frame f i p) (Cont.Frame g j q) e = let h = placed f g i j p q e in ap₂ (λ (x : ℕ) (y : ℕ × Port). Cont.Frame x y.0 y.1) h.0
+    (ap₂ (λ (x : ℕ) (y : Port). (x, y)) h.1 h.2)
 cont_exact (Cont.Host p) (Cont.Host q) e = ap (λ (x : ℕ). Cont.Host x) (eqb-true p q e)
 cont_exact c d e = absurd (true≢false (sym e))
 
@@ -66,9 +67,11 @@ word_exact (Word.Back c) (Word.Back d) e = ap (λ (x : Cont). Word.Back x) (cont
 word_exact u v e = absurd (true≢false (sym e))
 
 to_exact : (a b : To) → IsTrue ((to_eq.ghosts).eq a b) → a ≡ b
-to_exact (To.Instr f ip p) (To.Instr g iq q) e = let h = placed f g ip iq p q e in ap₂ (λ (x : ℕ) (y : ℕ × Port). To.Instr x y.0 y.1) h.0 (ap₂ (λ (x : ℕ) (y : Port). (x, y)) h.1 h.2)
+to_exact (To.Instr f ip p) (To.Instr g iq q) e = let h = placed f g ip iq p q e in ap₂ (λ (x : ℕ) (y : ℕ × Port). To.Instr x y.0 y.1) h.0
+    (ap₂ (λ (x : ℕ) (y : Port). (x, y)) h.1 h.2)
 to_exact (To.Fetch x) (To.Fetch y) e = ap (λ (z : ℕ). To.Fetch z) (eqb-true x y e)
-to_exact (To.Store x v) (To.Store y w) e = let h = and_parts (x == y) ((value_eq.ghosts).eq v w) e in ap₂ (λ (z : ℕ) (u : Value). To.Store z u) (eqb-true x y h.0) (value_exact v w h.1)
+to_exact (To.Store x v) (To.Store y w) e = let h = and_parts (x == y) ((value_eq.ghosts).eq v w) e in ap₂ (λ (z : ℕ) (u : Value). To.Store z u)
+    (eqb-true x y h.0) (value_exact v w h.1)
 to_exact To.Manager To.Manager e = refl
 to_exact (To.Release f) (To.Release g) e = ap (λ (z : ℕ). To.Release z) (eqb-true f g e)
 to_exact (To.Host p) (To.Host q) e = ap (λ (z : ℕ). To.Host z) (eqb-true p q e)

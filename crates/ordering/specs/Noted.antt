@@ -28,4 +28,5 @@ with_block n c = record { taken = n.taken; made = n.made; blocks = n.blocks ++ c
 
 -- there is room for these numbers of further events, made tokens and blocks
 abbrev pub HasRoom : {A : Type 0} → ℕ → ℕ → ℕ → BlockLog A → Type 0
-HasRoom events made blocks l = (vec_len l.taken + events ≤ vec_capacity l.taken) × (vec_len l.made + made ≤ vec_capacity l.made) × (vec_len l.blocks + blocks ≤ vec_capacity l.blocks)
+HasRoom events made blocks l = (vec_len l.taken + events ≤ vec_capacity l.taken) × (vec_len l.made + made ≤ vec_capacity l.made)
+    × (vec_len l.blocks + blocks ≤ vec_capacity l.blocks)

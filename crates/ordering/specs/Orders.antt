@@ -36,7 +36,8 @@ pub record OrderedSoFar (n : ℕ) (log : List Block) (start last : List Token) (
 
 -- of each of the first logs all is left
 abbrev pub AreWholeSoFar : {A : Type 0} → List (BlockLog A) → List Rest → Type 0
-AreWholeSoFar {A} logs rests = (e : ℕ) (r : Rest) → slice_get rests e ≡ Some r → (l : BlockLog A) × (slice_get logs e ≡ Some l) × IsWhole l.taken.items l.made.items l.blocks.items r
+AreWholeSoFar {A} logs rests = (e : ℕ) (r : Rest) → slice_get rests e ≡ Some r → (l : BlockLog A) × (slice_get logs e ≡ Some l)
+    × IsWhole l.taken.items l.made.items l.blocks.items r
 
 -- the same of all logs
 abbrev pub AreWhole : {A : Type 0} → List (BlockLog A) → List Rest → Type 0

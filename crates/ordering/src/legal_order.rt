@@ -36,7 +36,9 @@ fn pass<A: Allocator + Clone>(
     events: &mut Vec<(u32, Token), A>,
 ) -> Result<bool, AllocError>
     requires few { length rests.old.items < 2 ^ 32 }
-    ensures so_far { OnOk result ((log : List Block) (start last : List Token) → OrderedSoFar (length rests.old.items) log start last (amount pool.old) rests.old.items events.old.items → OrderedSoFar (length rests.old.items) log start last (amount pool.new) rests.new.items events.new.items) }
+    ensures so_far { OnOk result ((log : List Block) (start last : List Token) → OrderedSoFar (length rests.old.items) log start last
+        (amount pool.old) rests.old.items events.old.items → OrderedSoFar (length rests.old.items) log start last (amount pool.new) rests.new.items
+        events.new.items) }
     ensures stuck { IfOk result (λ went_on. went_on ≡ false → (e : ℕ) (r : Rest) → slice_get rests.new.items e ≡ Some r → IsStuck (amount pool.new) r) }
     ensures fewer { IfOk result (λ went_on. went_on ≡ true → blocks_left rests.new.items < blocks_left rests.old.items) }
     ensures count { length rests.new.items ≡ length rests.old.items }
@@ -60,7 +62,8 @@ pub fn order<A: Allocator + Clone>(
     alloc: A,
 ) -> Result<Vec<(u32, Token), A>, AllocError>
     requires few { length logs.now < 2 ^ 32 }
-    ensures { IfOk result (λ events. (log : List Block) (start last : List Token) → IsHistory logs.now log start last → IsPermutation opening.now start → IsOrdered (length logs.now) log start last events.items) }
+    ensures { IfOk result (λ events. (log : List Block) (start last : List Token) → IsHistory logs.now log start last
+        → IsPermutation opening.now start → IsOrdered (length logs.now) log start last events.items) }
 {
     let mut pool = Pool::new(alloc.clone()?);
     pool.put_all(opening)?;

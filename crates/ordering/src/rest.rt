@@ -115,7 +115,8 @@ fn take_block<'l, A: Allocator + Clone>(
     pool: &mut Pool<A>,
     events: &mut Vec<(u32, Token), A>,
 ) -> Result<bool, AllocError>
-    ensures goes { OnOk result ((n : ℕ) (tokens : List Token) (blocks : List Block) → Holds (amount pool.old) tokens → IsRestOf rest.old blocks → GoesOn n element tokens blocks events.old.items (amount pool.new) rest.new events.new.items) }
+    ensures goes { OnOk result ((n : ℕ) (tokens : List Token) (blocks : List Block) → Holds (amount pool.old) tokens → IsRestOf rest.old blocks
+        → GoesOn n element tokens blocks events.old.items (amount pool.new) rest.new events.new.items) }
     ensures stuck { IfOk result (λ taken. taken ≡ false → IsStuck (amount pool.new) rest.new) }
     ensures same { IfOk result (λ taken. taken ≡ false → length rest.new.blocks.now ≡ length rest.old.blocks.now) }
     ensures less { IfOk result (λ taken. taken ≡ false → (q : Token) → amount pool.new q ≤ amount pool.old q) }
@@ -139,7 +140,8 @@ pub fn go_on<'l, A: Allocator + Clone>(
     pool: &mut Pool<A>,
     events: &mut Vec<(u32, Token), A>,
 ) -> Result<Rest<'l>, AllocError>
-    ensures goes { IfOk result (λ left. (n : ℕ) (tokens : List Token) (blocks : List Block) → Holds (amount pool.old) tokens → IsRestOf rest.entry blocks → GoesOn n element tokens blocks events.old.items (amount pool.new) left events.new.items) }
+    ensures goes { IfOk result (λ left. (n : ℕ) (tokens : List Token) (blocks : List Block) → Holds (amount pool.old) tokens
+        → IsRestOf rest.entry blocks → GoesOn n element tokens blocks events.old.items (amount pool.new) left events.new.items) }
     ensures stuck { IfOk result (IsStuck (amount pool.new)) }
     ensures fewer { IfOk result (λ left. length left.blocks.now ≤ length rest.entry.blocks.now) }
     ensures less { IfOk result (λ left. length left.blocks.now ≡ length rest.entry.blocks.now → (q : Token) → amount pool.new q ≤ amount pool.old q) }

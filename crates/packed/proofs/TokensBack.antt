@@ -13,7 +13,8 @@ use Rattle.tags.specs.declared.token.Token.{Token}
 use Rattle.tags.specs.declared.slot.SlotState.TheVariants.{Left, Right}
 use Rattle.tags.specs.Packed.{IsValue}
 use Rattle.packed.specs.Packing.{Parts, head_of, word_parts, word_from, parts_from, state_from, slot_from, slot_words, IsWord}
-use Rattle.packed.specs.PackedTokens.{port_state, elsewhere, to_state, to_place, to_value, token_words, value_from, to_from, token_from, word_in, waits_as, IsTo, IsToken, IsForInstr, AreWordsOf, AreTokenWordsOf, AreWords, TokenPackingIsExact}
+use Rattle.packed.specs.PackedTokens.{port_state, elsewhere, to_state, to_place, to_value, token_words, value_from, to_from, token_from, word_in}
+use Rattle.packed.specs.PackedTokens.{waits_as, IsTo, IsToken, IsForInstr, AreWordsOf, AreTokenWordsOf, AreWords, TokenPackingIsExact}
 use Rattle.packed.proofs.Unpacked.{IsSmall, small_word, word_back, origin_back}
 
 -- THE FIELDS OF WORD 0
@@ -72,7 +73,8 @@ words_cleared x y are =
     let of_w : AreWordsOf 0 w (x / 256 * 256) y = record { head = cleared; body = are.words.body } in
     subst (λ v. AreWordsOf 0 v (x / 256 * 256) y) (sym (ap word_from (cleared_parts x y))) of_w
 
-pub words_raised : (s : ℕ) (w : Word) (x y : ℕ) → s < 256 → word_in x y ≡ w → AreWordsOf 0 (word_in x y) x y → AreWordsOf s w (x + s) y × (word_in (x + s) y ≡ w)
+pub words_raised : (s : ℕ) (w : Word) (x y : ℕ) → s < 256 → word_in x y ≡ w → AreWordsOf 0 (word_in x y) x y → AreWordsOf s w (x + s) y
+    × (word_in (x + s) y ≡ w)
 words_raised s w x y hs is are =
     let of_w : AreWordsOf 0 w x y = subst (λ v. AreWordsOf 0 v x y) is are in
     let eh : x ≡ head_of 0 (word_parts w) = of_w.head in
@@ -100,8 +102,10 @@ high : (x k : ℕ) → x < 4294967296 → (x + 4294967296 * k) / 4294967296 ≡ 
 high x k h = omega arith
 
 pub instr_back : (f ip v : ℕ) (p : Port) → ip < 4294967296 → to_from (port_state p) (ip + 4294967296 * f) v ≡ To.Instr f ip p
-instr_back f ip v port.Left h = ap (λ k. To.Instr k ((ip + 4294967296 * f) % 4294967296) port.Left) (high ip f h) ∙ ap (λ k. To.Instr f k port.Left) (low ip f h)
-instr_back f ip v port.Right h = ap (λ k. To.Instr k ((ip + 4294967296 * f) % 4294967296) port.Right) (high ip f h) ∙ ap (λ k. To.Instr f k port.Right) (low ip f h)
+instr_back f ip v port.Left h = ap (λ k. To.Instr k ((ip + 4294967296 * f) % 4294967296) port.Left) (high ip f h)
+    ∙ ap (λ k. To.Instr f k port.Left) (low ip f h)
+instr_back f ip v port.Right h = ap (λ k. To.Instr k ((ip + 4294967296 * f) % 4294967296) port.Right) (high ip f h)
+    ∙ ap (λ k. To.Instr f k port.Right) (low ip f h)
 
 far : (x k : ℕ) → k < 2147483648 → (elsewhere x + k) / 4294967296 ≡ x
 far x k h = omega arith
@@ -148,7 +152,8 @@ instr_token f ip x y p w h are is =
     ap (λ u. token_at (to_from (x % 256) (ip + 4294967296 * f) 0) u) is
     ∙ ap (λ s. token_at (to_from s (ip + 4294967296 * f) 0) w) est ∙ ap (λ to. token_at to w) (instr_back f ip 0 p h)
 
-pub instr_words : (f ip x y : ℕ) (p : Port) (w : Word) → AreWordsOf (port_state p) w x y → AreTokenWordsOf (token_at (To.Instr f ip p) w) x y (ip + 4294967296 * f) 0
+pub instr_words : (f ip x y : ℕ) (p : Port) (w : Word) → AreWordsOf (port_state p) w x y → AreTokenWordsOf (token_at (To.Instr f ip p) w) x y
+    (ip + 4294967296 * f) 0
 instr_words f ip x y p w are = record { head = are.head; body = are.body; place = refl; value = refl }
 
 pub token_has_words : (x y p v : ℕ) → AreTokenWordsOf (token_from x y p v) x y p v → AreWords x y
@@ -159,7 +164,8 @@ token_has_words x y p v are = record {
 }
 
 -- a token for an instruction has the words of the slot in which it waits
-pub waits_there : (x y p v : ℕ) (to : To) (w : Word) → token_from x y p v ≡ token_at to w → AreTokenWordsOf (token_at to w) x y p v → IsForInstr to → slot_from x y ≡ waits_as to w
+pub waits_there : (x y p v : ℕ) (to : To) (w : Word) → token_from x y p v ≡ token_at to w → AreTokenWordsOf (token_at to w) x y p v → IsForInstr to
+    → slot_from x y ≡ waits_as to w
 waits_there x y p v (To.Instr f ip port.Left) w is are h =
     let est : x % 256 ≡ 1 = ap (λ k. k % 256) are.head ∙ state_back 1 (word_parts w) (omega arith) in
     ap (λ s. state_from s (parts_from x y)) est ∙ ap (λ (t : Token). Left t.word) is
@@ -195,7 +201,8 @@ token_packing_exact s t hs ht e = sym (token_back s _ _ _ _ hs (own_words s)) �
 
 -- WHERE A TOKEN GOES, READ FROM ITS WORDS
 state_in : (x y p v : ℕ) → AreTokenWordsOf (token_from x y p v) x y p v → x % 256 ≡ to_state (token_from x y p v).to
-state_in x y p v are = ap (λ k. k % 256) are.head ∙ state_back (to_state (token_from x y p v).to) (word_parts (token_from x y p v).word) (small_state (token_from x y p v).to)
+state_in x y p v are = ap (λ k. k % 256) are.head ∙ state_back (to_state (token_from x y p v).to) (word_parts (token_from x y p v).word)
+    (small_state (token_from x y p v).to)
 
 framed : (to : To) (s p v : ℕ) → to_from s p v ≡ to → s ≡ to_state to → s < 3 → (ip : ℕ) × (q : Port) × (to ≡ To.Instr (p / 4294967296) ip q)
 framed (To.Instr f ip port.Left) s p v is e below = (p % 4294967296, port.Left, sym is ∙ ap (λ k. to_from k p v) e)
@@ -207,5 +214,6 @@ framed (To.Release f) s p v is e below = absurd (omega arith)
 framed (To.Host q) s p v is e below = absurd (omega arith)
 
 -- the states of the two ports are the lowest, so a token whose state is below 3 goes to an instruction
-pub low_is_instr : (x y p v : ℕ) → AreTokenWordsOf (token_from x y p v) x y p v → x % 256 < 3 → (ip : ℕ) × (q : Port) × ((token_from x y p v).to ≡ To.Instr (p / 4294967296) ip q)
+pub low_is_instr : (x y p v : ℕ) → AreTokenWordsOf (token_from x y p v) x y p v → x % 256 < 3 → (ip : ℕ) × (q : Port)
+    × ((token_from x y p v).to ≡ To.Instr (p / 4294967296) ip q)
 low_is_instr x y p v are below = framed (token_from x y p v).to (x % 256) p v refl (state_in x y p v are) below

@@ -14,7 +14,8 @@ use Rattle.tags.specs.declared.token.Word.{Word}
 use Rattle.tags.specs.declared.slot.SlotState.{SlotState}
 use Rattle.tags.specs.declared.slot.SlotState.TheVariants.{Empty, Left, Right, Credits, Waiter, Draining}
 use Rattle.tags.specs.Packed.{origin_code, IsOrigin}
-use Rattle.packed.specs.Packing.{Parts, port_bit, cont_parts, word_parts, count_parts, slot_words, port_from, origin_from, cont_from, word_from, parts_from, state_from, slot_from, IsCont, IsWord, IsSlotState}
+use Rattle.packed.specs.Packing.{Parts, port_bit, cont_parts, word_parts, count_parts, slot_words, port_from, origin_from, cont_from, word_from}
+use Rattle.packed.specs.Packing.{parts_from, state_from, slot_from, IsCont, IsWord, IsSlotState}
 
 port_back : (p : Port) → port_from (port_bit p) ≡ p
 port_back port.Left = refl
@@ -26,7 +27,8 @@ origin_back (At b n) h =
     let test : eqb (1 + 1024 * b + n) 0 ≡ false = ne_eqb (1 + 1024 * b + n) 0 (λ e. absurd (omega arith)) in
     let eb : (1 + 1024 * b + n - 1) / 1024 % 256 ≡ b = omega (arith, h.0, h.1) in
     let en : (1 + 1024 * b + n - 1) % 1024 ≡ n = omega (arith, h.0, h.1) in
-    ap (λ t. cond t Untold (At ((1 + 1024 * b + n - 1) / 1024 % 256) ((1 + 1024 * b + n - 1) % 1024))) test ∙ ap (λ x. At x ((1 + 1024 * b + n - 1) % 1024)) eb ∙ ap (λ y. At b y) en
+    ap (λ t. cond t Untold (At ((1 + 1024 * b + n - 1) / 1024 % 256) ((1 + 1024 * b + n - 1) % 1024))) test
+    ∙ ap (λ x. At x ((1 + 1024 * b + n - 1) % 1024)) eb ∙ ap (λ y. At b y) en
 
 cont_back : (c : Cont) → IsCont c → cont_from (cont_parts c) ≡ c
 cont_back (Cont.Frame f ip p) h =
@@ -59,7 +61,8 @@ fields_back s p hs small =
     let ep : (s + 256 * p.kind + 65536 * p.port + 4294967296 * p.high) / 65536 % 2 ≡ p.port = omega arith in
     let eh : (s + 256 * p.kind + 65536 * p.port + 4294967296 * p.high) / 4294967296 ≡ p.high = omega arith in
     let parts : parts_from (s + 256 * p.kind + 65536 * p.port + 4294967296 * p.high) p.body ≡ p =
-    ap (λ x. make p.body x ((s + 256 * p.kind + 65536 * p.port + 4294967296 * p.high) / 65536 % 2) ((s + 256 * p.kind + 65536 * p.port + 4294967296 * p.high) / 4294967296)) ek
+    ap (λ x. make p.body x ((s + 256 * p.kind + 65536 * p.port + 4294967296 * p.high) / 65536 % 2)
+    ((s + 256 * p.kind + 65536 * p.port + 4294967296 * p.high) / 4294967296)) ek
     ∙ ap (λ x. make p.body p.kind x ((s + 256 * p.kind + 65536 * p.port + 4294967296 * p.high) / 4294967296)) ep
     ∙ ap (λ x. make p.body p.kind p.port x) eh in
     ap (λ x. state_from x (parts_from (s + 256 * p.kind + 65536 * p.port + 4294967296 * p.high) p.body)) es ∙ ap (state_from s) parts
@@ -112,5 +115,6 @@ two_words (Draining n) = refl
 pub set_state : (ws : List ℕ) (s : SlotState) → ws ≡ slot_words s → IsSlotState s → slot_from (get_or ws 0 0) (get_or ws 1 0) ≡ s
 set_state ws s e h = ap (λ xs. slot_from (first_word xs) (second_word xs)) e ∙ slot_back s h
 
-pub set_words : (ws : List ℕ) (s : SlotState) → ws ≡ slot_words s → IsSlotState s → slot_words (slot_from (get_or ws 0 0) (get_or ws 1 0)) ≡ get_or ws 0 0 ∷ get_or ws 1 0 ∷ []
+pub set_words : (ws : List ℕ) (s : SlotState) → ws ≡ slot_words s → IsSlotState s → slot_words (slot_from (get_or ws 0 0) (get_or ws 1 0))
+    ≡ get_or ws 0 0 ∷ get_or ws 1 0 ∷ []
 set_words ws s e h = ap slot_words (set_state ws s e h) ∙ two_words s ∙ ap (λ xs. first_word xs ∷ second_word xs ∷ []) (sym e)

@@ -53,7 +53,10 @@ abbrev pub value_from : ℕ → ℕ → Value
 value_from kind body = if kind == 1 then Int (cast_signed w64 body) else (if kind == 2 then Fault Zero (origin_from body) else Fault Range (origin_from body))
 
 abbrev pub to_from : ℕ → ℕ → ℕ → To
-to_from state place value = if state == 1 then To.Instr (place / 4294967296) (place % 4294967296) port.Left else (if state == 2 then To.Instr (place / 4294967296) (place % 4294967296) port.Right else (if state == 3 then To.Fetch (place / 4294967296) else (if state == 4 then To.Store (place / 4294967296) (value_from (place % 2147483648) value) else (if state == 5 then To.Manager else (if state == 6 then To.Release (place / 4294967296) else To.Host (place / 4294967296))))))
+to_from state place value = if state == 1 then To.Instr (place / 4294967296) (place % 4294967296) port.Left else
+    (if state == 2 then To.Instr (place / 4294967296) (place % 4294967296) port.Right else (if state == 3 then To.Fetch (place / 4294967296) else
+    (if state == 4 then To.Store (place / 4294967296) (value_from (place % 2147483648) value) else
+    (if state == 5 then To.Manager else (if state == 6 then To.Release (place / 4294967296) else To.Host (place / 4294967296))))))
 
 abbrev pub token_from : ℕ → ℕ → ℕ → ℕ → Token
 token_from head body place value = record { to = to_from (head % 256) place value; word = word_from (parts_from head body) }

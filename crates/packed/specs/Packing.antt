@@ -65,13 +65,16 @@ abbrev pub cont_from : Parts → Cont
 cont_from p = if p.kind == 5 then Cont.Frame (p.body % 4294967296) p.high (port_from p.port) else Cont.Host p.high
 
 abbrev pub word_from : Parts → Word
-word_from p = if p.kind == 1 then Word.Val (Int (cast_signed w64 p.body)) else (if p.kind == 2 then Word.Val (Fault Zero (origin_from p.body)) else (if p.kind == 3 then Word.Val (Fault Range (origin_from p.body)) else (if p.kind == 4 then Word.Frame (p.body % 4294967296) else Word.Back (cont_from p))))
+word_from p = if p.kind == 1 then Word.Val (Int (cast_signed w64 p.body)) else (if p.kind == 2 then Word.Val (Fault Zero (origin_from p.body)) else
+    (if p.kind == 3 then Word.Val (Fault Range (origin_from p.body)) else (if p.kind == 4 then Word.Frame (p.body % 4294967296) else Word.Back (cont_from p))))
 
 abbrev pub parts_from : ℕ → ℕ → Parts
 parts_from head body = record { kind = head / 256 % 256; port = head / 65536 % 2; high = head / 4294967296; body = body }
 
 abbrev pub state_from : ℕ → Parts → SlotState
-state_from s p = if s == 0 then Empty else (if s == 1 then Left (word_from p) else (if s == 2 then Right (word_from p) else (if s == 3 then Credits (p.body % 4294967296) else (if s == 4 then Waiter (cont_from p) else Draining (p.body % 4294967296)))))
+state_from s p = if s == 0 then Empty else
+    (if s == 1 then Left (word_from p) else (if s == 2 then Right (word_from p) else (if s == 3 then Credits (p.body % 4294967296) else
+    (if s == 4 then Waiter (cont_from p) else Draining (p.body % 4294967296)))))
 
 abbrev pub slot_from : ℕ → ℕ → SlotState
 slot_from head body = state_from (head % 256) (parts_from head body)

@@ -3,7 +3,8 @@
 ghost use Rattle.std.specs.Prelude.{◌≡◌, ◌<◌, ◌+◌, ◌*◌};
 ghost use Rattle.tags.specs.Packed.{origin_code, IsOrigin, IsValue};
 ghost use Rattle.tags.specs.declared.token.Word.{Word};
-ghost use Rattle.packed.specs.Packing.{Parts, port_bit, cont_parts, word_parts, words_of, slot_words, port_from, origin_from, cont_from, word_from, parts_from, slot_from, IsCont, IsWord, IsSlotState, SlotPackingIsExact};
+ghost use Rattle.packed.specs.Packing.{Parts, port_bit, cont_parts, word_parts, words_of, slot_words, port_from, origin_from, cont_from, word_from};
+ghost use Rattle.packed.specs.Packing.{parts_from, slot_from, IsCont, IsWord, IsSlotState, SlotPackingIsExact};
 
 use tags::slot::SlotState;
 use tags::token::{Cont, Port, Word};

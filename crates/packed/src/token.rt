@@ -38,7 +38,12 @@ impl Model for PackedToken {
 
     ghost invariant = { λ t. AreTokenWordsOf (token_from t.head t.body t.place t.value) t.head t.body t.place t.value };
 
-    ghost inverse = { λ t. record { head = head_of (to_state t.to) (word_parts t.word); body = (word_parts t.word).body; place = to_place t.to; value = to_value t.to } };
+    ghost inverse = { λ t. record {
+      head = head_of (to_state t.to) (word_parts t.word);
+      body = (word_parts t.word).body;
+      place = to_place t.to;
+      value = to_value t.to;
+    } };
 
     ghost inverse_ok = { λ a h i. record { head = sym h.head i; body = sym h.body i; place = sym h.place i; value = sym h.value i } };
 }

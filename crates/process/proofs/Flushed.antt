@@ -10,7 +10,8 @@ pub nothing_more : (known : Option (List ℕ)) → append_known known [] ≡ kno
 nothing_more None = refl
 nothing_more (Some xs) = ap Some (append-nil xs)
 
-pub flushes : {E : Type 0} (all new : Option (List ℕ)) (buffer : List ℕ) (served : Result Outcome E) (outcome : Option Outcome) → Keeps all (append_known new buffer)
+pub flushes : {E : Type 0} (all new : Option (List ℕ)) (buffer : List ℕ) (served : Result Outcome E) (outcome : Option Outcome)
+    → Keeps all (append_known new buffer)
     → IfSome outcome (λ o. (served ≡ Ok o) × (buffer ≡ [])) → Flushes all new served outcome
 flushes all new buffer served None keeps whole = (buffer, keeps)
 flushes all new buffer served (Some o) keeps whole =

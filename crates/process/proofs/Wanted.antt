@@ -8,7 +8,8 @@ use Rattle.process.specs.HintSent.{Speaks}
 use Rattle.process.specs.Hinted.{accounts_by_hint}
 use Rattle.process.specs.Process.{Explains, IsWanted}
 
-pub is_wanted : (words : List (List ℕ)) (remaining left silent spoken : Option (List ℕ)) (outcome : Option Outcome) (hint_sent : HintSent) → Speaks (Explains accounts_by_hint words remaining left outcome) silent spoken hint_sent
+pub is_wanted : (words : List (List ℕ)) (remaining left silent spoken : Option (List ℕ)) (outcome : Option Outcome) (hint_sent : HintSent)
+    → Speaks (Explains accounts_by_hint words remaining left outcome) silent spoken hint_sent
     → IsWanted (wants_hint outcome) hint_sent
 is_wanted words remaining left silent spoken outcome HintSent.Nothing speaks = sym speaks.0.2.0
 is_wanted words remaining left silent spoken outcome HintSent.Hint speaks = sym speaks.1.2.0

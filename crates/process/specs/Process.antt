@@ -32,9 +32,11 @@ Explains accounts words remaining left outcome text =
     (input : Option (List ℕ)) × IfSome input (λ xs. HasRead remaining left xs) × accounts words input outcome text
 
 -- THE PROCESS
--- `remaining` and `left` are what standard input has before and after; `old` and `new` what standard output holds, and `silent` and `spoken` what standard error holds.
+-- `remaining` and `left` are what standard input has before and after; `old` and `new` what standard output holds, and `silent` and `spoken` what
+-- standard error holds.
 -- `outcome` is the outcome of the words, where no write failed.
-pub record Ends (accounts : Account) (words : List (List ℕ)) (remaining left old new silent spoken : Option (List ℕ)) (outcome : Option Outcome) (status : ℕ) (hint_sent : HintSent) : Type 0 where
+pub record Ends (accounts : Account) (words : List (List ℕ)) (remaining left old new silent spoken : Option (List ℕ)) (outcome : Option Outcome)
+    (status : ℕ) (hint_sent : HintSent) : Type 0 where
   pub answers : Answers words remaining old new outcome
   pub exit : status ≡ exits outcome
   pub explains : Speaks (Explains accounts words remaining left outcome) silent spoken hint_sent

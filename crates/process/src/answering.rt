@@ -36,7 +36,8 @@ pub fn answer<S: AsStr, I: Read, W: Write + Drop, R: Threads + Wait + Sync>(
     writer: &mut BufWriter<W>,
     resources: Resources<'_, Global, R, Open>,
 ) -> Option<Outcome>
-    ensures { Answers (map S.text (drop 1 words.now)) (I.remaining reader.old) (writer_contents W.contents writer.old) (W.contents (writer_inner writer.new)) result }
+    ensures { Answers (map S.text (drop 1 words.now)) (I.remaining reader.old) (writer_contents W.contents writer.old)
+        (W.contents (writer_inner writer.new)) result }
 {
     let global = resources.alloc;
     let served = serve_words(words, reader, writer, resources, global);

@@ -76,7 +76,8 @@ fn run_from<
 ) -> io::Result<Ended<I, W>>
     requires { B.remaining ≡ I.remaining reader }
     ensures { MatchResult result
-        (λ e. Ends X.accounts (map S.text (drop 1 words.now)) (I.remaining reader) (I.remaining e.reader) (W.contents writer) (W.contents e.writer) (E.contents errors.old) (E.contents errors.new) e.outcome e.status e.hint_sent)
+        (λ e. Ends X.accounts (map S.text (drop 1 words.now)) (I.remaining reader) (I.remaining e.reader) (W.contents writer) (W.contents e.writer)
+        (E.contents errors.old) (E.contents errors.new) e.outcome e.status e.hint_sent)
         (λ e. (error_kind e ≡ ErrorKind.OutOfMemory) × Keeps (E.contents errors.old) (E.contents errors.new)) }
 {
     let alloc = resources.alloc;
@@ -113,7 +114,8 @@ pub fn run_explained<
     resources: Resources<'_, Global, R, Open>,
 ) -> io::Result<Ended<I, W>>
     ensures { MatchResult result
-        (λ e. Ends X.accounts (map S.text (drop 1 words.now)) (I.remaining reader) (I.remaining e.reader) (W.contents writer) (W.contents e.writer) (E.contents errors.old) (E.contents errors.new) e.outcome e.status e.hint_sent)
+        (λ e. Ends X.accounts (map S.text (drop 1 words.now)) (I.remaining reader) (I.remaining e.reader) (W.contents writer) (W.contents e.writer)
+        (E.contents errors.old) (E.contents errors.new) e.outcome e.status e.hint_sent)
         (λ e. (error_kind e ≡ ErrorKind.OutOfMemory) × Keeps (E.contents errors.old) (E.contents errors.new)) }
 {
     run_from::<Brand, X, S, I, W, E, R>(words, reader, writer, errors, explainer, resources)
@@ -131,7 +133,8 @@ pub fn run_process<S: AsStr, I: Read + Drop, W: Write + Drop, E: Write, R: Threa
     rt: &R,
 ) -> io::Result<Ended<I, W>>
     ensures ends { MatchResult result
-        (λ e. Ends accounts_by_hint (map S.text (drop 1 words.now)) (I.remaining reader) (I.remaining e.reader) (W.contents writer) (W.contents e.writer) (E.contents errors.old) (E.contents errors.new) e.outcome e.status e.hint_sent)
+        (λ e. Ends accounts_by_hint (map S.text (drop 1 words.now)) (I.remaining reader) (I.remaining e.reader) (W.contents writer)
+        (W.contents e.writer) (E.contents errors.old) (E.contents errors.new) e.outcome e.status e.hint_sent)
         (λ e. (error_kind e ≡ ErrorKind.OutOfMemory) × Keeps (E.contents errors.old) (E.contents errors.new)) }
     ensures wants { IfOk result (λ e. IsWanted (wants_hint e.outcome) e.hint_sent) }
 {

@@ -31,7 +31,8 @@ pub fn send_hint<X: Explain, S: AsStr, E: Write>(
     outcome: Option<Outcome>,
     errors: &mut E,
 ) -> HintSent
-    ensures { Speaks (X.accounts (map S.text (drop 1 words.now)) (option_map (λ i. i.now) input.entry) outcome) (E.contents errors.old) (E.contents errors.new) result }
+    ensures { Speaks (X.accounts (map S.text (drop 1 words.now)) (option_map (λ i. i.now) input.entry) outcome) (E.contents errors.old)
+        (E.contents errors.new) result }
 {
     match explainer.explain(alloc, words, input, outcome) {
         Ok(Some(hint)) => match hint.write(errors) {

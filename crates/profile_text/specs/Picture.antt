@@ -28,7 +28,8 @@ height n (suc top) = 300 * n / suc top
 -- A BAR, by its number from 0 on and the number of all bars, that shows a number where the greatest of all is top. The field is flipped, so
 -- that it grows upwards from 0.
 abbrev pub bar_text : ℕ → ℕ → ℕ → ℕ → List ℕ
-bar_text bars k n top = codes "<rect x=\"" ++ decimal (800 * k / bars) ++ codes "\" width=\"" ++ decimal ((799 + bars) / bars) ++ codes "\" height=\"" ++ decimal (height n top) ++ codes "\"/>\n"
+bar_text bars k n top = codes "<rect x=\"" ++ decimal (800 * k / bars) ++ codes "\" width=\"" ++ decimal ((799 + bars) / bars) ++ codes "\" height=\""
+    ++ decimal (height n top) ++ codes "\"/>\n"
 
 -- further bars, of the waves that are left
 unfoldable pub bars_from : ℕ → ℕ → ℕ → ℕ → ℕ → List ℕ → List ℕ
@@ -48,7 +49,8 @@ sizes_text w s = together (codes "work " ∷ decimal w ∷ codes ", span " ∷ d
 
 -- a number with two decimals, between words
 abbrev pub decimals_text : List ℕ → ℕ → ℕ → List ℕ → List ℕ
-decimals_text before whole hundredths behind = together (before ∷ decimal whole ∷ codes "." ∷ decimal (hundredths / 10) ∷ decimal (hundredths % 10) ∷ behind ∷ [])
+decimals_text before whole hundredths behind = together (before ∷ decimal whole ∷ codes "." ∷ decimal (hundredths / 10) ∷ decimal (hundredths % 10)
+    ∷ behind ∷ [])
 
 abbrev pub ratio_text : ℕ → ℕ → List ℕ
 ratio_text w s = decimals_text (codes ", parallelism ") (whole_of w s) (hundredths_of w s) (codes "</text>\n")
@@ -72,4 +74,5 @@ field_text counts = codes "<g transform=\"translate(70 340) scale(1 -1)\" fill=\
 
 -- THE WHOLE
 abbrev pub svg_text : List ℕ → List ℕ
-svg_text counts = open_text ++ legend_text (work counts) (length counts) ++ labels_text (greatest counts) (length counts) (waves_a_bar (length counts)) ++ field_text counts
+svg_text counts = open_text ++ legend_text (work counts) (length counts) ++ labels_text (greatest counts) (length counts)
+    (waves_a_bar (length counts)) ++ field_text counts

@@ -24,7 +24,8 @@ hundredths_of w (suc s) = w % suc s * 100 / suc s
 abbrev pub totals_text : ℕ → ℕ → List ℕ
 totals_text w s =
     together (
-    codes "work " ∷ decimal w ∷ codes "\nspan " ∷ decimal s ∷ codes "\nparallelism " ∷ decimal (whole_of w s) ∷ codes "." ∷ decimal (hundredths_of w s / 10) ∷ decimal (hundredths_of w s % 10) ∷ codes "\n" ∷ []
+    codes "work " ∷ decimal w ∷ codes "\nspan " ∷ decimal s ∷ codes "\nparallelism " ∷ decimal (whole_of w s) ∷ codes "."
+    ∷ decimal (hundredths_of w s / 10) ∷ decimal (hundredths_of w s % 10) ∷ codes "\n" ∷ []
     )
 
 -- THE WAVES, from number 1 on, each with how many activities it has
@@ -38,7 +39,8 @@ waves_text counts = numbered wave_line 0 counts
 abbrev pub row_line : MachineRow → List ℕ
 row_line r =
     together (
-    codes "elements " ∷ decimal r.elements ∷ codes " rounds " ∷ decimal r.rounds ∷ codes " tokens " ∷ decimal r.tokens ∷ codes " slots " ∷ decimal r.slots ∷ codes " frames " ∷ decimal r.frames ∷ codes "\n" ∷ []
+    codes "elements " ∷ decimal r.elements ∷ codes " rounds " ∷ decimal r.rounds ∷ codes " tokens " ∷ decimal r.tokens ∷ codes " slots "
+    ∷ decimal r.slots ∷ codes " frames " ∷ decimal r.frames ∷ codes "\n" ∷ []
     )
 
 -- THE END of the waves, as that of a meaning is reported

@@ -2,7 +2,8 @@
 
 ghost use Rattle.std.specs.Prelude.{◌≡◌, ◌≢◌, [], codes, length};
 ghost use Rattle.oracle.specs.Waves.{work};
-ghost use Rattle.profile_text.specs.Picture.{greatest, waves_a_bar, bar_count, height, bar_text, bars_from, bars_text, open_text, sizes_text, decimals_text, ratio_text, legend_text, label_text, labels_text, field_text, svg_text};
+ghost use Rattle.profile_text.specs.Picture.{greatest, waves_a_bar, bar_count, height, bar_text, bars_from, bars_text, open_text, sizes_text};
+ghost use Rattle.profile_text.specs.Picture.{decimals_text, ratio_text, legend_text, label_text, labels_text, field_text, svg_text};
 ghost use Rattle.sink.specs.Sends.{Sends};
 
 use crate::numbers::{
@@ -100,7 +101,8 @@ fn send_last<W: Write>(writer: &mut W, span: u64) -> io::Result<()>
 
 /// How many waves a bar has.
 fn send_size<W: Write>(writer: &mut W, size: u64) -> io::Result<()>
-    ensures { Sends result (W.contents writer.old) (W.contents writer.new) (label_text (codes "x=\"470\" y=\"385\" text-anchor=\"middle\"") size (codes " wave(s) a bar")) }
+    ensures { Sends result (W.contents writer.old) (W.contents writer.new) (label_text (codes "x=\"470\" y=\"385\" text-anchor=\"middle\"") size
+        (codes " wave(s) a bar")) }
 {
     send_label(
         writer,

@@ -32,14 +32,16 @@ module _ (text : List ℕ) (p : Program) (g : Graph) (origin : ℕ → Origin) (
   main_block =
       block p g origin inputs run s r (runs_at_rest g inputs well count run s r rests once none) well count (graph_is p g low.lowered.graph) m.main m.named
       (places_from_origins origins_are_traced p g origin
-      (record { lowered = low.lowered; apart = spellings_differ text low.tokens p low.spelled (tokens_rise text low.tokens low.read) }) well main_name m.main m.named)
+      (record { lowered = low.lowered; apart = spellings_differ text low.tokens p low.spelled (tokens_rise text low.tokens low.read) }) well main_name
+      m.main m.named)
 
   pub is_main : slice_get (flow_of g).blocks (flow_of g).main ≡ Some main_block
   unfolding main_block
   is_main =
       main_is p g origin inputs run s r (runs_at_rest g inputs well count run s r rests once none) well count (graph_is p g low.lowered.graph) m.main m.named
       (places_from_origins origins_are_traced p g origin
-      (record { lowered = low.lowered; apart = spellings_differ text low.tokens p low.spelled (tokens_rise text low.tokens low.read) }) well main_name m.main m.named)
+      (record { lowered = low.lowered; apart = spellings_differ text low.tokens p low.spelled (tokens_rise text low.tokens low.read) }) well main_name
+      m.main m.named)
 
   pub has_outputs : main_block.outputs ≡ length vs
   unfolding main_block

@@ -22,7 +22,8 @@ use Rattle.programs.specs.declared.fault.RunRefusal.{RunRefusal}
 use Rattle.programs.specs.Refused.{IsNotRun, IsNotCompiled, IsRefusedRun, OfGraph, unlowered_as, IsUnrun}
 
 -- a graph that is well formed is refused only for lack of memory
-pub refused_memory : (g : Graph) (r : CheckRefusal) (reported : Fault) → WellFormed g → IsRefusal g (fault_of r) → IsUnchecked r reported → reported ≡ Fault.Memory
+pub refused_memory : (g : Graph) (r : CheckRefusal) (reported : Fault) → WellFormed g → IsRefusal g (fault_of r) → IsUnchecked r reported → reported
+    ≡ Fault.Memory
 refused_memory g r reported well h (inl (m, is)) = is
 refused_memory g r reported well (inl e) (inr (n, is)) = absurd (n (ap (λ (f : CheckFault). f.kind) e))
 refused_memory g r reported well (inr (e, n, ill)) (inr k) = absurd (ill well)

@@ -51,11 +51,14 @@ report_shows text p g h inputs z steps by_list may_stop r t rest none =
       no_clash = λ x. o.no_clash o.state x o.reached;
       none_waits = waiting;
     } in
-    let k : Computes p (origin_of p) inputs o.state.memory = texts_keep_meaning (program_of text) p g (origin_of p) low t.well_formed inputs t.inputs_fit o.state rests in
+    let k : Computes p (origin_of p) inputs o.state.memory = texts_keep_meaning (program_of text) p g (origin_of p) low t.well_formed inputs
+    t.inputs_fit o.state rests in
     let idle = none_waits (flow_of g) o.state.tokens waiting in
-    let its = is_main (program_of text) p g (origin_of p) low t.well_formed inputs t.inputs_fit o.reached.run o.state o.reached.is_run o.at_rest rests.no_clash idle
+    let its = is_main (program_of text) p g (origin_of p) low t.well_formed inputs t.inputs_fit o.reached.run o.state o.reached.is_run o.at_rest
+    rests.no_clash idle
     o.state.memory.cells _ k.outputs k.stores k.main in
-    let many = has_outputs (program_of text) p g (origin_of p) low t.well_formed inputs t.inputs_fit o.reached.run o.state o.reached.is_run o.at_rest rests.no_clash idle
+    let many = has_outputs (program_of text) p g (origin_of p) low t.well_formed inputs t.inputs_fit o.reached.run o.state o.reached.is_run o.at_rest
+    rests.no_clash idle
     o.state.memory.cells _ k.outputs k.stores k.main in
     let count : length r.outputs ≡ length k.outputs = t.shows.picture.output_count ∙ t.made.outputs ∙ ap outputs_in its ∙ many in
     record {

@@ -8,7 +8,8 @@ use Rattle.semantics.specs.Meaning as Meaning
 use Rattle.semantics.specs.Meaning.{State}
 use Rattle.law_confluence.specs.Outcome.{AreInputsOf}
 use Rattle.source.specs.Tree.{Expr, Exprs, Body, Turn, Program}
-use Rattle.source.specs.Evaluates.{World, Env, Stores, place_in, Evaluates, EvaluatesAll, Runs, Turns, number, named, bracket, prefix, infix_, fetch, store, call, if_true, if_false, loop, one, more, lets, does, gives, chain, leaves, goes, ends, again}
+use Rattle.source.specs.Evaluates.{World, Env, Stores, place_in, Evaluates, EvaluatesAll, Runs, Turns, number, named, bracket, prefix, infix_}
+use Rattle.source.specs.Evaluates.{fetch, store, call, if_true, if_false, loop, one, more, lets, does, gives, chain, leaves, goes, ends, again}
 use Rattle.source.specs.Lowered.{origin_of}
 use Rattle.source.specs.Theorem.{Computes, RestsWell}
 use Rattle.lowered_text.specs.Lowers.{Lowers}

@@ -1,5 +1,6 @@
 -- Where frames are handed out in order, an event has one outcome; so a run goes on from the books of its first events.
-use Rattle.std.proofs.Common.{◌≡◌, refl, sym, ◌∙◌, ap, subst, ℕ, suc, ◌+◌, ◌*◌, ◌<◌, ◌≤◌, ◌⊎◌, inl, inr, true, false, true≢false, List, [], ◌∷◌, ◌++◌, length, take, drop}
+use Rattle.std.proofs.Common.{◌≡◌, refl, sym, ◌∙◌, ap, subst, ℕ, suc, ◌+◌, ◌*◌, ◌<◌, ◌≤◌, ◌⊎◌, inl, inr, true, false, true≢false, List, [], ◌∷◌}
+use Rattle.std.proofs.Common.{◌++◌, length, take, drop}
 use Rattle.std.proofs.Common.{get_or, take-append-drop, Option, arith, ⊎_elim}
 use Rattle.std.specs.Prelude.{IsPermutation}
 use Rattle.std.proofs.lemmas.Bool.{cases_lt}
@@ -107,14 +108,18 @@ releases_one s n m f made more p q (out, inl a) (also, inl b) = (a.1 ∙ sym b.1
 releases_one s n m f made more p q (out, inl a) (also, inr b) = absurd (none_waits s b.0 b.1 a.0 b.2)
 releases_one s n m f made more p q (out, inr a) (also, inl b) = absurd (none_waits s a.0 a.1 b.0 a.2)
 releases_one s n m f made more p q (out, inr a) (also, inr b) =
-    let lists : a.0 ∷ a.1 ≡ b.0 ∷ b.1 = sym (served s n a.0 f a.1 made a.3 a.4 a.2 p) ∙ served s m b.0 f b.1 more b.3 b.4 b.2 q in
-    (a.3 ∙ ap (λ (l : List Cont). answer (first_or a.0 l) (Word.Frame f) ∷ []) lists ∙ sym b.3, a.4 ∙ ap (λ (l : List Cont). with_requests s (rest_in l)) lists ∙ sym b.4)
+    let lists : a.0 ∷ a.1 ≡ b.0 ∷ b.1 = sym (served s n a.0 f a.1 made a.3 a.4 a.2 p) ∙ served s m b.0 f b.1 more b.3 b.4 b.2 q in (
+      a.3 ∙ ap (λ (l : List Cont). answer (first_or a.0 l) (Word.Frame f) ∷ []) lists ∙ sym b.3,
+      a.4
+          ∙ ap (λ (l : List Cont). with_requests s (rest_in l)) lists ∙ sym b.4,
+    )
 
 abbrev value_or : Value → Word → Value
 value_or d (Word.Val v) = v
 value_or d w = d
 
-hosts_one : (results : ℕ) (s n m : Store) (j : ℕ) (w : Word) (made more : List Token) → Hosts results s j w made n → Hosts results s j w more m → One made more n m
+hosts_one : (results : ℕ) (s n m : Store) (j : ℕ) (w : Word) (made more : List Token) → Hosts results s j w made n → Hosts results s j w more m
+    → One made more n m
 hosts_one results s n m j w made more (inl a) (inl b) =
     let words : Word.Val a.2.0 ≡ Word.Val b.2.0 = sym a.2.1 ∙ b.2.1 in
     (a.2.2 ∙ sym b.2.2, a.2.3 ∙ ap (λ (u : Word). with_output s j (value_or a.2.0 u)) words ∙ sym b.2.3)
@@ -139,7 +144,8 @@ one_result p total s n m (To.Host j) w made more a b h k = hosts_one (outputs_of
 one_next : (p : Program) (z : Size) (e : ℕ) (t : Token) (a m n : Machine) → OrderedEvent p z e t a m → OrderedEvent p z e t a n
     → IsPermutation n.pool m.pool × (m.store ≡ n.store)
 one_next p z e t a m n x y =
-    let one = one_result p (z.elements * z.frames) a.store m.store n.store t.to t.word x.event.made y.event.made x.in_order y.in_order x.event.happens y.event.happens in
+    let one = one_result p (z.elements * z.frames) a.store m.store n.store t.to t.word x.event.made y.event.made x.in_order y.in_order x.event.happens
+    y.event.happens in
     let rests : IsPermutation y.event.rest x.event.rest = permutation_cancel (t ∷ []) y.event.rest x.event.rest
     (IsPermutation-trans (t ∷ y.event.rest) a.pool (t ∷ x.event.rest) (IsPermutation-sym a.pool (t ∷ y.event.rest) y.event.takes) x.event.takes) in
     let left : IsPermutation (y.event.made ++ x.event.rest) m.pool = subst (λ (ts : List Token). IsPermutation (ts ++ x.event.rest) m.pool) one.0
@@ -151,8 +157,13 @@ one_next p z e t a m n x y =
     )
 
 -- BOOKS AND RUNS
-entry_event : (p : Program) (z : Size) (e : ℕ) (t : Token) (b n : Book) (x : EntryView) → IsEntry p z e t b n x → OrderedEvent p z e t (machine_of b) (machine_of n)
-entry_event p z e t b n x entry = record { event = entry.event; in_order = subst (λ (ts : List Token). IsInOrder b.store t.to ts n.store) entry.made entry.in_order }
+entry_event : (p : Program) (z : Size) (e : ℕ) (t : Token) (b n : Book) (x : EntryView) → IsEntry p z e t b n x
+    → OrderedEvent p z e t (machine_of b) (machine_of n)
+entry_event p z e t b n x entry = record {
+  event = entry.event;
+  in_order = subst (λ (ts : List Token). IsInOrder b.store t.to ts n.store) entry.made
+      entry.in_order;
+}
 
 -- a run in order goes on from the books of its first events
 pub run_after : (p : Program) (z : Size) (b n : Book) (events later : Events) (xs : List EntryView) (last : Machine) → AreEntries p z b events xs n

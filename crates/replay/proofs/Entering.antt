@@ -158,7 +158,8 @@ module _ (p : Program) (x : Extent) (l k : LaneView) (whole : IsWhole p x l) (z 
   ordered : (made : List Token) → made ≡ does.made → IsInOrder b.store t.to made came.next.store
   ordered made is = subst (λ (ts : List Token). IsInOrder b.store t.to ts came.next.store) (came.makes ∙ sym is)
       (part_in_order p (z.elements * z.frames) l.held.part k.held.part b.store came.next.store t.to t.word came.event.made
-      (subst (λ (u : Token). element_of l.held.part.shape.elements u.to ≡ l.held.part.shape.element) token_same came.event.addressed) does.shape records.part came.part
+      (subst (λ (u : Token). element_of l.held.part.shape.elements u.to ≡ l.held.part.shape.element) token_same came.event.addressed) does.shape
+      records.part came.part
       (subst (λ (ts : List Token). ServesFirst l.held.part t.to t.word ts k.held.part) (sym came.makes)
       (subst (λ (u : Token). ServesFirst l.held.part u.to u.word does.made k.held.part) token_same does.first)) happens)
 

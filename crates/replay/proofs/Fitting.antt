@@ -1,5 +1,6 @@
 -- What is refused is no event of the machine, or no run of it.
-use Rattle.std.proofs.Common.{◌≡◌, refl, sym, ◌∙◌, ap, subst, ℕ, ◌+◌, ◌-◌, ◌*◌, ◌<◌, ◌≤◌, Bool, true, false, true≢false, ℤ, List, [], ◌∷◌, ◌++◌, length, take, get_or}
+use Rattle.std.proofs.Common.{◌≡◌, refl, sym, ◌∙◌, ap, subst, ℕ, ◌+◌, ◌-◌, ◌*◌, ◌<◌, ◌≤◌, Bool, true, false, true≢false, ℤ, List, [], ◌∷◌, ◌++◌}
+use Rattle.std.proofs.Common.{length, take, get_or}
 use Rattle.std.proofs.Common.{Option, Some, None, Result, Err, IfErr, inl, inr, arith, ⊎_elim, length-append}
 use Rattle.std.specs.Prelude.{◌==◌, nat_lt, if◌then◌else◌, remove, slice_get, Contains, IsPermutation, IfSome, IfNone}
 use Rattle.std.specs.List.{range_with_len}
@@ -90,7 +91,8 @@ module _ (l : LaneView) (at : ℕ) (low : at < length l.held.queue) where
   stuck_excluded rule x t there s n total made part h =
       let same = taken_is x.token t x.picks.token there in
       let free : stuck_rule l.program s t.to t.word ≡ None = happens_free l.program total s n t.to t.word made h in
-      let stuck : stuck_rule l.program s t.to t.word ≡ Some rule = subst (λ (u : Token). stuck_rule l.program s u.to u.word ≡ Some rule) same (x.excluded s part) in
+      let stuck : stuck_rule l.program s t.to t.word ≡ Some rule = subst (λ (u : Token). stuck_rule l.program s u.to u.word ≡ Some rule) same
+      (x.excluded s part) in
       let bad : None ≡ Some rule = sym free ∙ stuck in
       let no : ⊥ = cc in no
 
@@ -187,7 +189,8 @@ place_there p x width at l t used whole extent there is short =
 pub token_there : (p : Program) (z : Size) (e : ℕ) (t : Token) (l : LaneView) (numbers : List ℕ) (next : ℕ) (b : Book) (m : Machine) → Records l numbers next b
     → Event p z e t (machine_of b) m → Contains l.held.queue t
 token_there p z e t l numbers next b m records ev = subst (λ (ts : List Token). Contains ts t) records.pool
-    (Contains-permutation (t ∷ ev.rest) b.pool t (IsPermutation-sym b.pool (t ∷ ev.rest) ev.takes) (let some : 0 < length (t ∷ ev.rest) = omega arith in (0, some, refl)))
+    (Contains-permutation (t ∷ ev.rest) b.pool t (IsPermutation-sym b.pool (t ∷ ev.rest) ev.takes) (let some : 0 < length (t ∷ ev.rest) = omega arith
+    in (0, some, refl)))
 
 pub excluded_unfit : (p : Program) (z : Size) (e at : ℕ) (t : Token) (l : LaneView) (numbers : List ℕ) (next : ℕ) (b : Book) (m : Machine) → l.program ≡ p
     → slice_get l.held.queue at ≡ Some t → IsExcluded l at → Records l numbers next b → Event p z e t (machine_of b) m → ⊥
@@ -203,5 +206,7 @@ passed_on {U} P Q result e NotARun is same go said = subst (λ (r : Result U Rep
 passed_on {U} P Q result e Memory is same go said = subst (λ (r : Result U ReplayRefusal). IfErr r (λ fault. Says fault Q)) (sym is)
     (subst (λ (g : ReplayRefusal). Says g Q) (sym same) tt)
 
-pub for_memory : {U : Type 0} (Q : Type 0) (result : Result U ReplayRefusal) (e : ReplayRefusal) → result ≡ Err e → e ≡ Memory → IfErr result (λ fault. Says fault Q)
-for_memory {U} Q result e is same = subst (λ (r : Result U ReplayRefusal). IfErr r (λ fault. Says fault Q)) (sym is) (subst (λ (g : ReplayRefusal). Says g Q) (sym same) tt)
+pub for_memory : {U : Type 0} (Q : Type 0) (result : Result U ReplayRefusal) (e : ReplayRefusal) → result ≡ Err e → e ≡ Memory
+    → IfErr result (λ fault. Says fault Q)
+for_memory {U} Q result e is same = subst (λ (r : Result U ReplayRefusal). IfErr r (λ fault. Says fault Q)) (sym is)
+    (subst (λ (g : ReplayRefusal). Says g Q) (sym same) tt)

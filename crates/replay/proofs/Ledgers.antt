@@ -111,7 +111,8 @@ start_for p x l whole some first inputs =
     (start_tokens first inputs) (start_near (bounds_at (fixed_of l)) few first inputs)
 
 -- a lane that receives tokens is whole still
-pub more_whole : (p : Program) (x : Extent) (l k : LaneView) (ts : List Token) → IsWhole p x l → All (IsFor (fixed_of l)) ts → k ≡ with_more l ts → IsWhole p x k
+pub more_whole : (p : Program) (x : Extent) (l k : LaneView) (ts : List Token) → IsWhole p x l → All (IsFor (fixed_of l)) ts → k ≡ with_more l ts
+    → IsWhole p x k
 more_whole p x l k ts whole all is = subst (λ (v : LaneView). IsWhole p x v) (sym is) (record {
   program = whole.program;
   element = whole.element;

@@ -68,7 +68,8 @@ to_exact : (a b : To) → IsTrue ((to_eq.ghosts).eq a b) → a ≡ b
 to_exact (To.Instr f ip p) (To.Instr g iq q) e = let h = placed f g ip iq p q e in ap₂ (λ (x : ℕ) (y : ℕ × Port). To.Instr x y.0 y.1) h.0
     (ap₂ (λ (x : ℕ) (y : Port). (x, y)) h.1 h.2)
 to_exact (To.Fetch x) (To.Fetch y) e = ap (λ (z : ℕ). To.Fetch z) (eqb-true x y e)
-to_exact (To.Store x v) (To.Store y w) e = let h = and_parts (x == y) ((value_eq.ghosts).eq v w) e in ap₂ (λ (z : ℕ) (u : Value). To.Store z u) (eqb-true x y h.0)
+to_exact (To.Store x v) (To.Store y w) e = let h = and_parts (x == y) ((value_eq.ghosts).eq v w) e in ap₂ (λ (z : ℕ) (u : Value). To.Store z u)
+    (eqb-true x y h.0)
     (value_exact v w h.1)
 to_exact To.Manager To.Manager e = refl
 to_exact (To.Release f) (To.Release g) e = ap (λ (z : ℕ). To.Release z) (eqb-true f g e)

@@ -37,7 +37,8 @@ pub fn write_meaning<'a, A: Allocator, W: Write>(
     graph: &Graph<'a, A>,
     report: &MeanReport<A>,
 ) -> io::Result<()>
-    ensures { Sends result (W.contents writer.old) (W.contents writer.new) (meaning_text graph.now.arrays report.now.outputs.items report.now.cells.items report.now.end) }
+    ensures { Sends result (W.contents writer.old) (W.contents writer.new) (meaning_text graph.now.arrays report.now.outputs.items
+        report.now.cells.items report.now.end) }
 {
     send_outputs(writer, &report.outputs)?;
     send_fulls(writer, &graph.arrays, &report.cells)?;

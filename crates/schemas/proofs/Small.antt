@@ -52,7 +52,8 @@ few_sources v (Call f) n h = h.1
 few_sources v (StrictCall f) n h = h.2
 few_sources v (Loop f k) n h = h.2
 
-small_kind : (g : Graph) (k : Kind (List ℕ)) (n : ℕ) → length (array_names g) ≤ 64 → length (block_names g) ≤ 256 → NamesWell g k n → IsSmallKind (resolved_kind (array_names g) (block_names g) k)
+small_kind : (g : Graph) (k : Kind (List ℕ)) (n : ℕ) → length (array_names g) ≤ 64 → length (block_names g) ≤ 256 → NamesWell g k n
+    → IsSmallKind (resolved_kind (array_names g) (block_names g) k)
 small_kind g (Lit z) n a b h = tt
 small_kind g (Apply1 op) n a b h = tt
 small_kind g (Apply2 op) n a b h = tt
@@ -90,7 +91,11 @@ module _ (g : Graph) (well : WellFormed g) (text : HasText g) where
         nodes = all_from_map IsSmallNode (resolved g) named.1.nodes (λ i n here.
             let line : HasNodeLine g.version n = all_at (HasNodeLine g.version) named.1.nodes i n fits.nodes here in
             let known : IsNodeWell g named.1 (named.1.inputs + i) n = good.nodes (named.1.inputs + i) n (named_line_at named.1 i ∙ here) in
-            record { sources = few_sources g.version n.kind (length n.sources) line.1; kind = small_kind g n.kind (length n.sources) few_arrays few_blocks known.names });
+            record {
+              sources = few_sources g.version n.kind (length n.sources) line.1;
+              kind = small_kind g n.kind (length n.sources) few_arrays
+                  few_blocks known.names;
+            });
         results = fits.results.0;
       }
 
@@ -103,7 +108,8 @@ few_from bs h f = go (slice_get bs f) refl
 
 pub small_flow : (g : Graph) → WellFormed g → HasText g → IsSmallFlow (flow_of g)
 small_flow g well text =
-    let small : All IsSmallBlock (flow_of g).blocks = all_from_map IsSmallBlock (λ (b : Named). resolved_block (array_names g) (block_names g) b.1) g.blocks (small_block g well text) in
+    let small : All IsSmallBlock (flow_of g).blocks = all_from_map IsSmallBlock (λ (b : Named). resolved_block (array_names g) (block_names g) b.1)
+    g.blocks (small_block g well text) in
     let count = length-map g.blocks (λ (b : Named). resolved_block (array_names g) (block_names g) b.1) in
     record {
       few = let e = text.few_blocks in omega (arith, count, e);

@@ -56,7 +56,8 @@ pub record FewOutputs (bs : List (Block ℕ)) : Type 0 where
 
 -- NODES
 abbrev pub answered : Build → Scope → Op → ℕ → Region → List Source → Build
-answered b s op n region ss = if is_often (uses_at s.uses n) then shared_answer b op (origin_in s.version (Some s.number) n) region ss else operator b op (origin_in s.version (Some s.number) n) region ss
+answered b s op n region ss = if is_often (uses_at s.uses n) then shared_answer b op (origin_in s.version (Some s.number) n) region ss else operator b
+    op (origin_in s.version (Some s.number) n) region ss
 
 abbrev pub entered : Build → Scope → Region → List Source → Build
 entered b s Root ss = b

@@ -84,7 +84,8 @@ closing b ends = record { build = b; ends = ends }
 
 -- the copy in which it ends, to which the signals of the arms go
 abbrev pub copied : Build → Option Outlet → Option Outlet → List End → Region → Closing
-copied b first second ends region = closing (signalled (signalled (quieted b Copy region) first (length b.instrs) Left) second (length b.instrs) Left) (ends ++ end_at region (first_of (length b.instrs)) ∷ [])
+copied b first second ends region = closing (signalled (signalled (quieted b Copy region) first (length b.instrs) Left) second (length b.instrs) Left)
+    (ends ++ end_at region (first_of (length b.instrs)) ∷ [])
 
 -- none where neither arm has an end
 abbrev pub ended : Build → Option Outlet → Option Outlet → List End → Region → Closing

@@ -9,7 +9,8 @@ use Rattle.semantics.specs.declared.program.Mark.TheVariants.{Unmarked, OfCond}
 use Rattle.semantics.specs.declared.program.Op.{Op}
 use Rattle.semantics.specs.declared.program.Op.TheVariants.{Copy, Sync, Switch, Frame, Link, Send, Open, Take, Give, Drain}
 use Rattle.schemas.specs.declared.builder.Outlet.{Outlet}
-use Rattle.schemas.specs.Builds.{Build, nowhere, first_of, second_of, added, quieted, connected, outlet_of, trigger_of, exited, behind, meeting, operands, alternatives, copies, first_source}
+use Rattle.schemas.specs.Builds.{Build, nowhere, first_of, second_of, added, quieted, connected, outlet_of, trigger_of, exited, behind, meeting}
+use Rattle.schemas.specs.Builds.{operands, alternatives, copies, first_source}
 
 abbrev pub operator : Build → Op → Origin → Region → List Source → Build
 operator b op origin region ss = exited (operands (added b op origin Unmarked region) (length b.instrs) 0 ss) (first_of (length b.instrs))
@@ -22,7 +23,8 @@ abbrev pub shared_answer : Build → Op → Origin → Region → List Source �
 shared_answer b op origin region ss = copied (operands (added b op origin Unmarked region) (length b.instrs) 0 ss) (length b.instrs) region
 
 abbrev pub trigger_switch : Build → ℕ → Region → List Source → Build
-trigger_switch b k region ss = exited (meeting b Switch (OfCond k) region (outlet_of b (first_source ss)) (outlet_of b (first_source ss))) (first_of (length b.instrs))
+trigger_switch b k region ss = exited (meeting b Switch (OfCond k) region (outlet_of b (first_source ss)) (outlet_of b (first_source ss)))
+    (first_of (length b.instrs))
 
 -- where nothing takes a trigger, it has no instruction
 abbrev pub conditional : Build → Bool → ℕ → Region → List Source → Build
@@ -30,7 +32,8 @@ conditional b triggered k region ss = if triggered then trigger_switch b k regio
 
 abbrev pub enter : Build → ℕ → Bool → List Source → Source → Build
 enter b k side ss predicate =
-    exited (meeting b Switch (OfCond k) (Arm k side) (outlet_of b (first_source ss)) (outlet_of b predicate)) (if side then first_of (length b.instrs) else second_of (length b.instrs))
+    exited (meeting b Switch (OfCond k) (Arm k side) (outlet_of b (first_source ss)) (outlet_of b predicate))
+    (if side then first_of (length b.instrs) else second_of (length b.instrs))
 
 abbrev pub merge : Build → Region → List Source → Build
 merge b region ss = exited (alternatives (quieted b Copy region) (length b.instrs) ss) (first_of (length b.instrs))
@@ -46,7 +49,8 @@ landed b link outputs region = exited (connected (copies b region outputs) (firs
 
 -- with the copy of the frame at that place
 abbrev pub linked : Build → ℕ → ℕ → ℕ → Region → List Source → Build
-linked b copy block outputs region ss = landed (sends (behind b (first_of copy) (Link block) region) (first_of copy) block region 0 ss) (length b.instrs) outputs region
+linked b copy block outputs region ss = landed (sends (behind b (first_of copy) (Link block) region) (first_of copy) block region 0 ss)
+    (length b.instrs) outputs region
 
 abbrev pub invoke : Build → ℕ → ℕ → ℕ → Region → List Source → Build
 invoke b frame block outputs region ss = linked (behind b (first_of frame) Copy region) (length b.instrs) block outputs region ss

@@ -21,11 +21,13 @@ switches b flag (s ∷ ss) = switches (meeting b Switch OfFlag Root (outlet_of b
 
 abbrev pub next_values : Build → ℕ → Region → Outlet → ℕ → ℕ → Build
 next_values b block region frame values zero = b
-next_values b block region frame values (suc n) = meeting (next_values b block region frame values n) (Send block (n + 1)) Unmarked region frame (outlet values n false)
+next_values b block region frame values (suc n) = meeting (next_values b block region frame values n) (Send block (n + 1)) Unmarked region frame
+    (outlet values n false)
 
 abbrev pub last_values : Build → Region → Outlet → ℕ → ℕ → Build
 last_values b region continuation values zero = b
-last_values b region continuation values (suc n) = meeting (last_values b region continuation values n) (Return n) Unmarked region continuation (outlet values n true)
+last_values b region continuation values (suc n) = meeting (last_values b region continuation values n) (Return n) Unmarked region continuation
+    (outlet values n true)
 
 -- the switches of the continuation and of the flag
 abbrev pub turned_continuation : Build → Outlet → Build
@@ -47,7 +49,8 @@ turn_of b flag count = record {
 
 -- with the copy of the frame at that place
 abbrev pub sent : Build → ℕ → ℕ → Region → Turn → Build
-sent b copy block region t = next_values (meeting b (Send block 0) Unmarked region (first_of copy) (first_of t.continuation)) block region (first_of copy) t.values t.count
+sent b copy block region t = next_values (meeting b (Send block 0) Unmarked region (first_of copy) (first_of t.continuation)) block region
+    (first_of copy) t.values t.count
 
 -- with `frame` at that place
 abbrev pub framed : Build → ℕ → ℕ → Region → Turn → Build
@@ -61,7 +64,8 @@ unfoldable pub go_on : Build → ℕ → Region → Turn → Build
 go_on b block region t = asked (meeting b (Ask (t.count + 1)) Unmarked Root (first_of t.continuation) (first_of t.flag)) (length b.instrs) block region t
 
 unfoldable pub stop : Build → Region → Turn → Build
-stop b region t = meeting (last_values b region (second_of t.continuation) t.values t.count) (Return (t.count + 2)) Unmarked region (second_of t.continuation) (second_of t.flag)
+stop b region t = meeting (last_values b region (second_of t.continuation) t.values t.count) (Return (t.count + 2)) Unmarked region
+    (second_of t.continuation) (second_of t.flag)
 
 abbrev pub turned : Build → Turn → ℕ → ℕ → Build
 turned b t block k = stop (go_on b block (Arm k true) t) (Arm k false) t

@@ -70,7 +70,14 @@ impl<A: Allocator> Model for Builder<A> {
 
     ghost Value = { Build };
 
-    ghost view = { λ b. record { instrs = b.instrs.items; marks = b.marks.items; regions = b.regions.items; holders = b.holders; opened = b.opened; exits = b.exits.items } };
+    ghost view = { λ b. record {
+      instrs = b.instrs.items;
+      marks = b.marks.items;
+      regions = b.regions.items;
+      holders = b.holders;
+      opened = b.opened;
+      exits = b.exits.items;
+    } };
 
     ghost invariant = { λ b. b.holders ≤ length b.instrs.items };
 }

@@ -81,7 +81,8 @@ pub(crate) fn enter<A: Allocator + Clone>(
 ) -> Result<u32, AllocError>
     requires room { length builder.old.instrs < 2 ^ 30 }
     ensures place { IfOk result (λ p. p ≡ length builder.old.instrs) }
-    ensures exact { OnOk result (builder.new ≡ Builds.meeting builder.old Switch (OfCond cond) arm (Builds.outlet_of builder.old (Builds.first_source sources.now)) (Builds.outlet_of builder.old predicate)) }
+    ensures exact { OnOk result (builder.new ≡ Builds.meeting builder.old Switch (OfCond cond) arm
+        (Builds.outlet_of builder.old (Builds.first_source sources.now)) (Builds.outlet_of builder.old predicate)) }
     ensures longer { OnOk result (length builder.new.instrs ≡ length builder.old.instrs + 1) }
 {
     let value = builder.outlet(first_source(sources));

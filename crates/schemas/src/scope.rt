@@ -33,7 +33,16 @@ impl<'b, A: Allocator> Model for Scope<'b, A> {
 
     ghost Value = { Scope };
 
-    ghost view = { λ s. record { version = version_number s.version; number = s.number; blocks = s.blocks.now; variants = s.variants.now; block = s.block.now; triggers = s.triggers.now; uses = s.uses.now } };
+    ghost view = { λ s. record {
+      version = version_number s.version;
+      number = s.number;
+      blocks = s.blocks.now;
+      variants = s.variants.now;
+      block =
+          s.block.now;
+      triggers = s.triggers.now;
+      uses = s.uses.now;
+    } };
 }
 
 /// The origin of a fault of that node: only faults of the second version have one.

@@ -13,11 +13,13 @@ use Rattle.semantics.specs.Opcodes.{has_sides}
 use Rattle.select.specs.Literals.{literal_of, as_list, used_by, used_in, table_of, too_far, IsAscending}
 use Rattle.select.specs.Emittable.{IsEmittableInstr, IsEmittableBlock, IsEmittable, with_table}
 use Rattle.select.proofs.Tables.{near, table_has}
-use Rattle.select.proofs.Spelling.{coded, put, each_block, block_count, block_there, needed_low, instr_there, instr_count, dest_there, firsts_all, seconds_all, origin_kept, slot_there, operand_there}
+use Rattle.select.proofs.Spelling.{coded, put, each_block, block_count, block_there, needed_low, instr_there, instr_count, dest_there, firsts_all}
+use Rattle.select.proofs.Spelling.{seconds_all, origin_kept, slot_there, operand_there}
 
 used_at : (P : ℤ → Type 0) (is : List Instr) (n : ℕ) (i : Instr) → All P (used_by is) → slice_get is n ≡ Some i → All P (as_list (literal_of i.op))
 used_at P [] n i a h = cc
-used_at P (j ∷ is) zero i a h = let same : j ≡ i = cc in subst (λ (x : Instr). All P (as_list (literal_of x.op))) same (all_left P (as_list (literal_of j.op)) (used_by is) a)
+used_at P (j ∷ is) zero i a h = let same : j ≡ i = cc in subst (λ (x : Instr). All P (as_list (literal_of x.op))) same
+    (all_left P (as_list (literal_of j.op)) (used_by is) a)
 used_at P (j ∷ is) (suc n) i a h = used_at P is n i (all_right P (as_list (literal_of j.op)) (used_by is) a) h
 
 used_of : (P : ℤ → Type 0) (cs : List CodeBlock) (n : ℕ) (c : CodeBlock) → All P (used_in cs) → slice_get cs n ≡ Some c → All P (used_by c.instrs)
@@ -28,13 +30,15 @@ used_of P (d ∷ cs) (suc n) c a h = used_of P cs n c (all_right P (used_by d.in
 abbrev whole : ℕ → Plan → List (List ℕ) → List ℤ → Code
 whole v p slots ls = with_table (emitted_program v (placed p slots)) ls
 
-instr_spelt : (v : ℕ) (p : Plan) (slots : List (List ℕ)) (ls : List ℤ) (c : CodeBlock) (ss : List ℕ) (n : ℕ) (i : Instr) → length slots ≡ length p.program.blocks
+instr_spelt : (v : ℕ) (p : Plan) (slots : List (List ℕ)) (ls : List ℤ) (c : CodeBlock) (ss : List ℕ) (n : ℕ) (i : Instr) → length slots
+    ≡ length p.program.blocks
     → All (Contains ls) (as_list (literal_of i.op)) → IsEmittableInstr p.program c ss n i → IsInstr v (whole v p slots ls) (coded v ss c) n (put v ss i)
 instr_spelt v p slots ls c ss n i same used e =
     let firsts : All (IsDest (coded v ss c) n) i.firsts = (λ k d lt. dest_there v ss c n _ (e.firsts k d lt)) in
     let seconds : All (IsDest (coded v ss c) n) i.seconds = (λ k d lt. dest_there v ss c n _ (e.seconds k d lt)) in
     record {
-      operand = operand_there p.program (emitted_program v (placed p slots)) ls i.op refl (block_count v slots p.program.blocks same) (λ b x h. block_there v slots p.program.blocks b x same h) used e.operand;
+      operand = operand_there p.program (emitted_program v (placed p slots)) ls i.op refl (block_count v slots p.program.blocks same)
+          (λ b x h. block_there v slots p.program.blocks b x same h) used e.operand;
       origin = origin_kept v i.op (may_fault i.op) i.origin refl e.origin;
       slot = slot_there ss (coded v ss c) i (put v ss i) i.op refl refl e.holder;
       dests = e.dests;
@@ -50,7 +54,8 @@ block_spelt v p slots ls c ss same used short e = record {
   size = let count = instr_count v ss c.instrs in let big = e.size in (omega arith, omega arith);
   slots = needed_low ss e.low;
   instrs = λ n x h. let t = instr_there v ss c.instrs n x h in
-      subst (IsInstr v (whole v p slots ls) (coded v ss c) n) t.2 (instr_spelt v p slots ls c ss n t.0 same (used_at (Contains ls) c.instrs n t.0 used t.1) (e.instrs n t.0 t.1));
+      subst (IsInstr v (whole v p slots ls) (coded v ss c) n) t.2
+      (instr_spelt v p slots ls c ss n t.0 same (used_at (Contains ls) c.instrs n t.0 used t.1) (e.instrs n t.0 t.1));
 }
 
 code_spelt : (v : ℕ) (p : Plan) (slots : List (List ℕ)) (ls : List ℤ) → (v ≡ 1) ⊎ (v ≡ 2) → ls ≡ table_of p.program.blocks → too_far p.program.blocks ≡ None
@@ -73,10 +78,12 @@ code_spelt v p slots ls known table near_all ascend fit e =
       arrays = e.arrays;
       cells = e.cells;
       blocks = each_block (IsCodeBlock v (whole v p slots ls)) v slots bs e.all
-          (λ n c ss here there. block_spelt v p slots ls c ss e.all (used_of (Contains ls) bs n c used here) (all_at (λ (x : CodeBlock). length x.instrs ≤ 32768) bs n c short.0 here) (e.blocks n c ss here there));
+          (λ n c ss here there. block_spelt v p slots ls c ss e.all (used_of (Contains ls) bs n c used here)
+          (all_at (λ (x : CodeBlock). length x.instrs ≤ 32768) bs n c short.0 here) (e.blocks n c ss here there));
     }
 
-pub is_code : (v : ℕ) (p : Plan) (slots : List (List ℕ)) (c : Code) → (v ≡ 1) ⊎ (v ≡ 2) → c.program ≡ emitted_program v (placed p slots) → c.literals ≡ table_of p.program.blocks
+pub is_code : (v : ℕ) (p : Plan) (slots : List (List ℕ)) (c : Code) → (v ≡ 1) ⊎ (v ≡ 2) → c.program ≡ emitted_program v (placed p slots) → c.literals
+    ≡ table_of p.program.blocks
     → too_far p.program.blocks ≡ None → IsAscending c.literals → All (λ (z : ℤ). FitsSigned w64 z) c.literals → IsEmittable p slots → IsCode v c
 is_code v p slots c known program table near_all ascend fit e =
     let whole_is : whole v p slots c.literals ≡ c = ap (λ q. with_table q c.literals) (sym program) in

@@ -1,12 +1,14 @@
 -- The code of a plan has a spelling.
-use Rattle.std.proofs.Common.{◌≡◌, ℕ, zero, suc, ◌+◌, ◌<◌, ◌≤◌, ℤ, Bool, true, false, Some, None, List, [], ◌∷◌, ◌++◌, length, refl, sym, ◌∙◌, subst, All, Contains, cond, arith}
+use Rattle.std.proofs.Common.{◌≡◌, ℕ, zero, suc, ◌+◌, ◌<◌, ◌≤◌, ℤ, Bool, true, false, Some, None, List, [], ◌∷◌, ◌++◌, length, refl, sym, ◌∙◌}
+use Rattle.std.proofs.Common.{subst, All, Contains, cond, arith}
 use Rattle.std.specs.Prelude.{slice_get, slice_index_or, ◌==◌, if◌then◌else◌}
 use Rattle.std.proofs.lemmas.List.Elements.{All-nil, All-cons, All-head, All-tail, All-append, All-take, All-drop}
 use Rattle.tags.specs.declared.value.Origin.{Origin}
 use Rattle.tags.specs.declared.value.Origin.TheVariants.{Untold, At}
 use Rattle.semantics.specs.declared.program.Dest.{Dest}
 use Rattle.semantics.specs.declared.program.Op.{Op}
-use Rattle.semantics.specs.declared.program.Op.TheVariants.{Apply1, Apply2, Apply2Right, Apply2Left, Lit, Copy, Sync, Switch, Fetch, Store, Frame, Link, Send, Return, Ask, Open, Take, Give, Drain, Release}
+use Rattle.semantics.specs.declared.program.Op.TheVariants.{Apply1, Apply2, Apply2Right, Apply2Left, Lit, Copy, Sync, Switch, Fetch, Store, Frame}
+use Rattle.semantics.specs.declared.program.Op.TheVariants.{Link, Send, Return, Ask, Open, Take, Give, Drain, Release}
 use Rattle.semantics.specs.Program.{Instr, CodeBlock, Program}
 use Rattle.semantics.specs.Rule.{slot_of}
 use Rattle.semantics.specs.Plan.{is_credit}
@@ -24,12 +26,15 @@ abbrev pub coded : ℕ → List ℕ → CodeBlock → CodeBlock
 coded v ss c = emitted_block v (record c { slots = needed ss; instrs = placed_instrs ss c.instrs })
 
 pub each_block : (Q : CodeBlock → Type 0) (v : ℕ) (slots : List (List ℕ)) (cs : List CodeBlock) → length slots ≡ length cs
-    → ((n : ℕ) (c : CodeBlock) (ss : List ℕ) → slice_get cs n ≡ Some c → slice_get slots n ≡ Some ss → Q (coded v ss c)) → All Q (emitted_blocks v (placed_blocks slots cs))
+    → ((n : ℕ) (c : CodeBlock) (ss : List ℕ) → slice_get cs n ≡ Some c → slice_get slots n ≡ Some ss → Q (coded v ss c))
+    → All Q (emitted_blocks v (placed_blocks slots cs))
 each_block Q v [] cs same h = All-nil Q
 each_block Q v (ss ∷ slots) [] same h = All-nil Q
-each_block Q v (ss ∷ slots) (c ∷ cs) same h = All-cons Q (coded v ss c) (emitted_blocks v (placed_blocks slots cs)) (h 0 c ss refl refl) (each_block Q v slots cs (omega arith) (λ n. h (suc n)))
+each_block Q v (ss ∷ slots) (c ∷ cs) same h = All-cons Q (coded v ss c) (emitted_blocks v (placed_blocks slots cs)) (h 0 c ss refl refl)
+    (each_block Q v slots cs (omega arith) (λ n. h (suc n)))
 
-pub block_count : (v : ℕ) (slots : List (List ℕ)) (cs : List CodeBlock) → length slots ≡ length cs → length (emitted_blocks v (placed_blocks slots cs)) ≡ length cs
+pub block_count : (v : ℕ) (slots : List (List ℕ)) (cs : List CodeBlock) → length slots ≡ length cs
+    → length (emitted_blocks v (placed_blocks slots cs)) ≡ length cs
 block_count v [] cs same = same
 block_count v (ss ∷ slots) [] same = refl
 block_count v (ss ∷ slots) (c ∷ cs) same = let h = block_count v slots cs (omega arith) in omega arith
@@ -90,7 +95,8 @@ dyadic_same i j (Give k) = refl
 dyadic_same i j (Drain k) = refl
 dyadic_same i j (Release o) = refl
 
-pub dyadic_there : (v : ℕ) (ss : List ℕ) (is : List Instr) (n : ℕ) → is_dyadic (slice_get (emitted_instrs v (placed_instrs ss is)) n) ≡ is_dyadic (slice_get is n)
+pub dyadic_there : (v : ℕ) (ss : List ℕ) (is : List Instr) (n : ℕ) → is_dyadic (slice_get (emitted_instrs v (placed_instrs ss is)) n)
+    ≡ is_dyadic (slice_get is n)
 dyadic_there v ss [] n = refl
 dyadic_there v ss (i ∷ is) zero = dyadic_same (put v ss i) i i.op
 dyadic_there v ss (i ∷ is) (suc n) = dyadic_there v ss is n

@@ -28,7 +28,8 @@ table_step table more all n bs b lt is made so_far =
     ∙ ap (λ (cs : List CodeBlock). entered table (used_in cs)) (sym e) ∙ so_far
 
 far_on : (n : ℕ) (table : List ℤ) (b : CodeBlock) (rest : List CodeBlock) → nat_lt 32768 (length b.instrs) ≡ false
-    → nat_lt 65536 (length (entered table (used_by b.instrs))) ≡ false → first_too_far n table (b ∷ rest) ≡ first_too_far (n + 1) (entered table (used_by b.instrs)) rest
+    → nat_lt 65536 (length (entered table (used_by b.instrs))) ≡ false → first_too_far n table (b ∷ rest)
+    ≡ first_too_far (n + 1) (entered table (used_by b.instrs)) rest
 far_on n table b rest small few = rw (small, few) refl
 
 pub far_step : (table more : List ℤ) (far : Option ℕ) (n : ℕ) (bs : List CodeBlock) (b : CodeBlock) → n < length bs → b ≡ get_or bs n b
@@ -41,7 +42,8 @@ far_step table more far n bs b lt is made small few so_far =
     ∙ sym (far_on n table b (drop (n + 1) bs) (not_over 32768 (length b.instrs) small) (not_over 65536 _ few_made))
     ∙ ap (λ (cs : List CodeBlock). first_too_far n table cs) (sym e) ∙ so_far
 
-pub blocks_step : (v n : ℕ) (done more all : List CodeBlock) (slots : List (List ℕ)) (bs : List CodeBlock) (ss : List ℕ) (b x : CodeBlock) → n < length bs → b ≡ get_or bs n b
+pub blocks_step : (v n : ℕ) (done more all : List CodeBlock) (slots : List (List ℕ)) (bs : List CodeBlock) (ss : List ℕ) (b x : CodeBlock)
+    → n < length bs → b ≡ get_or bs n b
     → slice_get slots n ≡ Some ss → more ≡ done ++ x ∷ [] → x ≡ emitted_block v (record b { slots = needed ss; instrs = placed_instrs ss b.instrs })
     → done ++ emitted_blocks v (placed_blocks (drop n slots) (drop n bs)) ≡ all
     → more ++ emitted_blocks v (placed_blocks (drop (n + 1) slots) (drop (n + 1) bs)) ≡ all
@@ -61,7 +63,8 @@ pub blocks_end : (v n : ℕ) (done all : List CodeBlock) (slots : List (List ℕ
     → done ++ emitted_blocks v (placed_blocks (drop n slots) (drop n bs)) ≡ all → done ≡ all
 blocks_end v n done all slots bs le so_far =
     let e : drop n bs ≡ [] = grind (arith, common_steps) in
-    let f : emitted_blocks v (placed_blocks (drop n slots) (drop n bs)) ≡ [] = ap (λ (cs : List CodeBlock). emitted_blocks v (placed_blocks (drop n slots) cs)) e ∙ ap (emitted_blocks v) (no_blocks (drop n slots)) in
+    let f : emitted_blocks v (placed_blocks (drop n slots) (drop n bs))
+    ≡ [] = ap (λ (cs : List CodeBlock). emitted_blocks v (placed_blocks (drop n slots) cs)) e ∙ ap (emitted_blocks v) (no_blocks (drop n slots)) in
     let g : done ++ emitted_blocks v (placed_blocks (drop n slots) (drop n bs)) ≡ done = ap (λ zs. done ++ zs) f ∙ append_nil done in
     sym g ∙ so_far
   where

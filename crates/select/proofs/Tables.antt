@@ -1,5 +1,6 @@
 -- The table of literals ascends, and has exactly the literals that instructions use.
-use Rattle.std.proofs.Common.{◌≡◌, ℕ, zero, suc, ◌+◌, ◌≤◌, ℤ, Bool, true, false, Some, None, List, [], ◌∷◌, length, refl, ap, sym, ◌∙◌, subst, All, Contains, cond, Ordering, add-one, arith}
+use Rattle.std.proofs.Common.{◌≡◌, ℕ, zero, suc, ◌+◌, ◌≤◌, ℤ, Bool, true, false, Some, None, List, [], ◌∷◌, length, refl, ap, sym, ◌∙◌, subst, All}
+use Rattle.std.proofs.Common.{Contains, cond, Ordering, add-one, arith}
 use Rattle.std.specs.Prelude.{slice_get, int_lt, nat_lt}
 use Rattle.std.specs.Ordering.{int_cmp, match_ordering}
 use Rattle.std.specs.declared.cmp.Ordering.TheVariants.{Less, Equal, Greater}
@@ -24,16 +25,19 @@ has_old : (k : ℤ) (xs : List ℤ) → All (Contains (insert_key int_cmp xs k))
 has_old k [] = All-nil (Contains (k ∷ []))
 has_old k (x ∷ xs) = by (int_cmp k x) (has_old k xs)
   where
-    by : (r : Ordering) → All (Contains (insert_key int_cmp xs k)) xs → All (Contains (match_ordering r (k ∷ x ∷ xs) (x ∷ xs) (x ∷ insert_key int_cmp xs k))) (x ∷ xs)
+    by : (r : Ordering) → All (Contains (insert_key int_cmp xs k)) xs
+        → All (Contains (match_ordering r (k ∷ x ∷ xs) (x ∷ xs) (x ∷ insert_key int_cmp xs k))) (x ∷ xs)
     by Less h = all_with (x ∷ xs) (λ z. stands_later k z (x ∷ xs)) (All-contains_itself (x ∷ xs))
     by Equal h = All-contains_itself (x ∷ xs)
-    by Greater h = All-cons (Contains (x ∷ insert_key int_cmp xs k)) x xs (contains_head x (insert_key int_cmp xs k)) (all_with xs (λ z. stands_later x z (insert_key int_cmp xs k)) h)
+    by Greater h = All-cons (Contains (x ∷ insert_key int_cmp xs k)) x xs (contains_head x (insert_key int_cmp xs k))
+        (all_with xs (λ z. stands_later x z (insert_key int_cmp xs k)) h)
 
 has_new : (k : ℤ) (xs : List ℤ) → Contains (insert_key int_cmp xs k) k
 has_new k [] = contains_head k []
 has_new k (x ∷ xs) = by (int_cmp k x) refl (has_new k xs)
   where
-    by : (r : Ordering) → int_cmp k x ≡ r → Contains (insert_key int_cmp xs k) k → Contains (match_ordering r (k ∷ x ∷ xs) (x ∷ xs) (x ∷ insert_key int_cmp xs k)) k
+    by : (r : Ordering) → int_cmp k x ≡ r → Contains (insert_key int_cmp xs k) k
+        → Contains (match_ordering r (k ∷ x ∷ xs) (x ∷ xs) (x ∷ insert_key int_cmp xs k)) k
     by Less e h = contains_head k (x ∷ xs)
     by Equal e h = let same : k ≡ x = exact_signed k x e in subst (λ (z : ℤ). Contains (z ∷ xs) k) same (contains_head k xs)
     by Greater e h = stands_later x k (insert_key int_cmp xs k) h
@@ -83,7 +87,8 @@ ascending zs s = record { steps = λ k y z hy hz. ascends zs k y z s hy (subst (
 not_above : (m n : ℕ) → nat_lt m n ≡ false → n ≤ m
 not_above m n h = grind arith
 
-none_in : (n : ℕ) (table : List ℤ) (c : CodeBlock) (cs : List CodeBlock) (r s : Bool) → nat_lt 32768 (length c.instrs) ≡ r → nat_lt 65536 (length (entered table (used_by c.instrs))) ≡ s
+none_in : (n : ℕ) (table : List ℤ) (c : CodeBlock) (cs : List CodeBlock) (r s : Bool) → nat_lt 32768 (length c.instrs) ≡ r
+    → nat_lt 65536 (length (entered table (used_by c.instrs))) ≡ s
     → cond r (Some n) (cond s (Some n) (first_too_far (n + 1) (entered table (used_by c.instrs)) cs)) ≡ None
     → (length c.instrs ≤ 32768) × (length (entered table (used_by c.instrs)) ≤ 65536) × (first_too_far (n + 1) (entered table (used_by c.instrs)) cs ≡ None)
 none_in n table c cs true s e f h = cc
@@ -97,5 +102,8 @@ near [] n table few h = (All-nil (λ (c : CodeBlock). length c.instrs ≤ 32768)
 near (c ∷ cs) n table few h =
     let more = entered table (used_by c.instrs) in
     let one = none_in n table c cs (nat_lt 32768 (length c.instrs)) (nat_lt 65536 (length more)) refl refl h in
-    let rest = near cs (n + 1) more one.1 one.2 in
-    (All-cons (λ (b : CodeBlock). length b.instrs ≤ 32768) c cs one.0 rest.0, subst (λ zs. length zs ≤ 65536) (sym (entered_append (used_by c.instrs) (used_in cs) table)) rest.1)
+    let rest = near cs (n + 1) more one.1 one.2 in (
+      All-cons (λ (b : CodeBlock). length b.instrs ≤ 32768) c cs one.0 rest.0,
+      subst (λ zs. length zs ≤ 65536)
+          (sym (entered_append (used_by c.instrs) (used_in cs) table)) rest.1,
+    )

@@ -25,7 +25,12 @@ seconds_of true ds es = es
 seconds_of false ds es = drop 1 (ds ++ es)
 
 abbrev pub emitted : ℕ → Instr → Instr
-emitted version i = record i { origin = stated version (may_fault i.op) i.origin; firsts = firsts_of (has_sides i.op) i.firsts i.seconds; seconds = seconds_of (has_sides i.op) i.firsts i.seconds }
+emitted version i = record i {
+  origin = stated version (may_fault i.op) i.origin;
+  firsts = firsts_of (has_sides i.op) i.firsts i.seconds;
+  seconds =
+      seconds_of (has_sides i.op) i.firsts i.seconds;
+}
 
 abbrev pub emitted_instrs : ℕ → List Instr → List Instr
 emitted_instrs version is = map (emitted version) is

@@ -78,7 +78,8 @@ fn emit_instr<A: Allocator + Clone>(
     slots: &[u16],
     version: Version,
 ) -> Result<Instr<A>, AllocError>
-    ensures { IfOk result (λ i. i ≡ Emitted.emitted (version_number version) (record instr.now { slot = Sharing.placed_slot slots.now (Rule.slot_of instr.now instr.now.op) })) }
+    ensures { IfOk result (λ i. i ≡ Emitted.emitted (version_number version)
+        (record instr.now { slot = Sharing.placed_slot slots.now (Rule.slot_of instr.now instr.now.op) })) }
 {
     let firsts = firsts_of(alloc.clone()?, instr)?;
     let seconds = seconds_of(alloc, instr)?;

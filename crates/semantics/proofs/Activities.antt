@@ -8,14 +8,18 @@ use Rattle.operators.specs.declared.Unary.TheVariants as U
 use Rattle.operators.specs.declared.Binary.TheVariants as B
 use Rattle.semantics.specs.declared.graph.Kind.TheVariants.{Lit, Apply1, Apply2, Cond, Enter, Merge, Fetch, Store, Call, StrictCall, Loop}
 use Rattle.semantics.specs.Graph.{Flow}
-use Rattle.semantics.specs.Meaning.{Main, Called, Turned, AtNode, AtOut, AtTurn, Operand, Predicate, Flag, Carried, tagged, Memory, with_cell, with_output, Fires, Gates, Passes, Returns, Turns, Outputs, taken, adds, Sends, Steers, Enters, Nothing, tokens_of, Says, deed, effect}
+use Rattle.semantics.specs.Meaning.{Main, Called, Turned, AtNode, AtOut, AtTurn, Operand, Predicate, Flag, Carried, tagged, Memory, with_cell}
+use Rattle.semantics.specs.Meaning.{with_output, Fires, Gates, Passes, Returns, Turns, Outputs, taken, adds, Sends, Steers, Enters, Nothing}
+use Rattle.semantics.specs.Meaning.{tokens_of, Says, deed, effect}
 use Rattle.semantics.proofs.Interpreter.{one, two, root, yes, no, block, flow, src}
 
 -- Block 0 gives its second input. Block 1 is a loop's body of two values. Block 2 is main.
 abbrev every_kind : Flow
 every_kind = flow 2 (3 ∷ 5 ∷ []) (block 2 1 [] (one 1) ∷ block 2 3 [] (src 0 0 ∷ src 1 0 ∷ src 0 0 ∷ [])
-    ∷ block 2 1 (root (Lit (pos 7)) (one 0) ∷ root (Apply1 U.Neg) (one 1) ∷ root (Apply2 B.Sub) (two 0 1) ∷ root Cond (one 4) ∷ yes 5 Enter (one 2) ∷ no 5 Enter (one 3) ∷ root (Merge 5) (two 6 7)
-    ∷ root (Fetch 1) (one 2) ∷ root (Store 1) (two 1 3) ∷ root (Call 0) (two 0 1) ∷ root (StrictCall 0) (two 0 1) ∷ root (Loop 1 2) (two 0 1) ∷ []) (one 8) ∷ []) 2
+    ∷ block 2 1 (root (Lit (pos 7)) (one 0) ∷ root (Apply1 U.Neg) (one 1) ∷ root (Apply2 B.Sub) (two 0 1) ∷ root Cond (one 4) ∷ yes 5 Enter (one 2)
+    ∷ no 5 Enter (one 3) ∷ root (Merge 5) (two 6 7)
+    ∷ root (Fetch 1) (one 2) ∷ root (Store 1) (two 1 3) ∷ root (Call 0) (two 0 1) ∷ root (StrictCall 0) (two 0 1) ∷ root (Loop 1 2) (two 0 1) ∷ [])
+    (one 8) ∷ []) 2
 
 abbrev nothing_yet : Memory
 nothing_yet = record { cells = λ x. None; outputs = λ j. None }
@@ -23,7 +27,8 @@ nothing_yet = record { cells = λ x. None; outputs = λ j. None }
 -- SENDING. There is one token for each use of an output port: here at the literal, the operator, the call, the strict
 -- call and the loop
 sends_to_each_use : (v : Value) → tokens_of every_kind (Sends Main 0 0 v)
-    ≡ tagged Main (AtNode 2) (Operand 0) v ∷ tagged Main (AtNode 4) (Operand 0) v ∷ tagged Main (AtNode 11) (Operand 0) v ∷ tagged Main (AtNode 12) (Operand 0) v ∷ tagged Main (AtNode 13) (Operand 0) v ∷ []
+    ≡ tagged Main (AtNode 2) (Operand 0) v ∷ tagged Main (AtNode 4) (Operand 0) v ∷ tagged Main (AtNode 11) (Operand 0) v
+    ∷ tagged Main (AtNode 12) (Operand 0) v ∷ tagged Main (AtNode 13) (Operand 0) v ∷ []
 sends_to_each_use v = refl
 
 -- a result of main or of a call is a use at that result
@@ -93,7 +98,8 @@ fetch_of_empty : effect every_kind nothing_yet (Fires Main 9 (Int (pos 2) ∷ []
 fetch_of_empty = refl
 
 -- a full cell is read, and stays
-fetch_of_full : (v : Value) → effect every_kind (with_cell nothing_yet 5 v) (Fires Main 9 (Int (pos 2) ∷ [])) ≡ adds (tokens_of every_kind (Sends Main 9 0 v)) (with_cell nothing_yet 5 v)
+fetch_of_full : (v : Value) → effect every_kind (with_cell nothing_yet 5 v) (Fires Main 9 (Int (pos 2) ∷ []))
+    ≡ adds (tokens_of every_kind (Sends Main 9 0 v)) (with_cell nothing_yet 5 v)
 fetch_of_full v = refl
 
 -- an index outside the array is a fault of this node
@@ -105,7 +111,8 @@ fetch_by_fault : deed every_kind (Fires Main 9 (Fault Zero Untold ∷ [])) ≡ S
 fetch_by_fault = refl
 
 -- a store fills its cell and gives the value back
-store_in_empty : (v : Value) → effect every_kind nothing_yet (Fires Main 10 (Int (pos 2) ∷ v ∷ [])) ≡ adds (tokens_of every_kind (Sends Main 10 0 v)) (with_cell nothing_yet 5 v)
+store_in_empty : (v : Value) → effect every_kind nothing_yet (Fires Main 10 (Int (pos 2) ∷ v ∷ [])) ≡ adds (tokens_of every_kind (Sends Main 10 0 v))
+    (with_cell nothing_yet 5 v)
 store_in_empty v = refl
 
 -- a second store has no activity

@@ -11,7 +11,8 @@ use Rattle.semantics.specs.Meaning.{start, fetch_count}
 use Rattle.semantics.proofs.Interpreter.{ComesTo, seen, seen_in, first_first, last_first, one, two, root, block, flow, src}
 
 abbrev answers_two : Flow
-answers_two = flow 1 (2 ∷ []) (block 1 3 (root (Lit (pos 0)) (one 0) ∷ root (Fetch 0) (one 1) ∷ root (Fetch 0) (one 1) ∷ root (Store 0) (two 1 0) ∷ []) (src 2 0 ∷ src 3 0 ∷ src 4 0 ∷ []) ∷ []) 0
+answers_two = flow 1 (2 ∷ []) (block 1 3 (root (Lit (pos 0)) (one 0) ∷ root (Fetch 0) (one 1) ∷ root (Fetch 0) (one 1) ∷ root (Store 0) (two 1 0)
+    ∷ []) (src 2 0 ∷ src 3 0 ∷ src 4 0 ∷ []) ∷ []) 0
 
 -- a store answers all fetches of its cell, and gives its value back
 store_answers : ComesTo answers_two (pos 8 ∷ []) (seen (Some (Int (pos 8)) ∷ Some (Int (pos 8)) ∷ Some (Int (pos 8)) ∷ []) (Some (Int (pos 8)) ∷ None ∷ []) 0)
@@ -33,14 +34,17 @@ no_reader : fetch_count waits 0 (first_first 400 waits (start (pos 8 ∷ []))).t
 no_reader = refl
 
 abbrev stores_twice : Flow
-stores_twice = flow 1 (1 ∷ []) (block 2 2 (root (Lit (pos 0)) (one 0) ∷ root (Store 0) (two 2 0) ∷ root (Store 0) (two 2 1) ∷ []) (src 3 0 ∷ src 4 0 ∷ []) ∷ []) 0
+stores_twice = flow 1 (1 ∷ []) (block 2 2 (root (Lit (pos 0)) (one 0) ∷ root (Store 0) (two 2 0) ∷ root (Store 0) (two 2 1) ∷ []) (src 3 0 ∷ src 4 0
+    ∷ []) ∷ []) 0
 
 -- no activity takes a second store: its two tokens are left. Which store is the second one depends on the order
-second_store : seen_in stores_twice (first_first 400 stores_twice (start (pos 5 ∷ pos 6 ∷ []))) ≡ seen (Some (Int (pos 5)) ∷ None ∷ []) (Some (Int (pos 5)) ∷ []) 2
+second_store : seen_in stores_twice (first_first 400 stores_twice (start (pos 5 ∷ pos 6 ∷ [])))
+    ≡ seen (Some (Int (pos 5)) ∷ None ∷ []) (Some (Int (pos 5)) ∷ []) 2
 second_store = refl
 
 -- in the other order the other store is the second one
-other_second_store : seen_in stores_twice (last_first 400 stores_twice (start (pos 5 ∷ pos 6 ∷ []))) ≡ seen (None ∷ Some (Int (pos 6)) ∷ []) (Some (Int (pos 6)) ∷ []) 2
+other_second_store : seen_in stores_twice (last_first 400 stores_twice (start (pos 5 ∷ pos 6 ∷ [])))
+    ≡ seen (None ∷ Some (Int (pos 6)) ∷ []) (Some (Int (pos 6)) ∷ []) 2
 other_second_store = refl
 
 abbrev bad_indexes : ℕ → Flow
@@ -51,12 +55,15 @@ outside : ComesTo (bad_indexes 1) (pos 2 ∷ negsuc 0 ∷ []) (seen (Some (Fault
 outside = (refl, refl)
 
 -- nodes 2 and 3 of block 0
-outside_with_origin : ComesTo (bad_indexes 2) (pos 2 ∷ negsuc 0 ∷ []) (seen (Some (Fault Range (At 0 2)) ∷ Some (Fault Range (At 0 3)) ∷ []) (None ∷ None ∷ []) 0)
+outside_with_origin : ComesTo (bad_indexes 2) (pos 2 ∷ negsuc 0 ∷ []) (seen (Some (Fault Range (At 0 2)) ∷ Some (Fault Range (At 0 3)) ∷ [])
+    (None ∷ None ∷ []) 0)
 outside_with_origin = (refl, refl)
 
 abbrev faulty_index : Flow
-faulty_index = flow 2 (2 ∷ []) (block 2 2 (root (Apply2 B.Div) (two 0 1) ∷ root (Fetch 0) (one 2) ∷ root (Store 0) (two 1 2) ∷ []) (src 3 0 ∷ src 4 0 ∷ []) ∷ []) 0
+faulty_index = flow 2 (2 ∷ []) (block 2 2 (root (Apply2 B.Div) (two 0 1) ∷ root (Fetch 0) (one 2) ∷ root (Store 0) (two 1 2) ∷ []) (src 3 0 ∷ src 4 0
+    ∷ []) ∷ []) 0
 
 -- a faulty index gives that fault, with its own origin; a fault is stored as any value
-fault_passes : ComesTo faulty_index (pos 3 ∷ pos 0 ∷ []) (seen (Some (Fault Zero (At 0 2)) ∷ Some (Fault Zero (At 0 2)) ∷ []) (Some (Fault Zero (At 0 2)) ∷ None ∷ []) 0)
+fault_passes : ComesTo faulty_index (pos 3 ∷ pos 0 ∷ []) (seen (Some (Fault Zero (At 0 2)) ∷ Some (Fault Zero (At 0 2)) ∷ [])
+    (Some (Fault Zero (At 0 2)) ∷ None ∷ []) 0)
 fault_passes = (refl, refl)

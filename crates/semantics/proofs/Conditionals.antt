@@ -18,7 +18,8 @@ adding = (refl, refl)
 
 -- a quotient, and one of the inputs by whether the quotient is true
 abbrev chooses : ℕ → Flow
-chooses version = flow version [] (block 2 2 (root (Apply2 B.Div) (two 0 1) ∷ root Cond (one 2) ∷ yes 3 Enter (one 0) ∷ no 3 Enter (one 1) ∷ root (Merge 3) (two 4 5) ∷ []) (two 2 6) ∷ []) 0
+chooses version = flow version [] (block 2 2 (root (Apply2 B.Div) (two 0 1) ∷ root Cond (one 2) ∷ yes 3 Enter (one 0) ∷ no 3 Enter (one 1)
+    ∷ root (Merge 3) (two 4 5) ∷ []) (two 2 6) ∷ []) 0
 
 -- a true predicate takes the true side
 true_side : ComesTo (chooses 1) (pos 7 ∷ pos 2 ∷ []) (seen (Some (Int (pos 3)) ∷ Some (Int (pos 7)) ∷ []) [] 0)
@@ -41,7 +42,8 @@ absorbed = (refl, refl)
 
 -- the sign of a number, by a conditional in the arm of another
 abbrev sign : Flow
-sign = flow 1 [] (block 1 1 (root (Lit (pos 0)) (one 0) ∷ root (Apply2 B.Lt) (two 0 1) ∷ root Cond (one 2) ∷ yes 3 Enter (one 0) ∷ yes 3 (Lit (negsuc 0)) (one 4) ∷ no 3 Enter (one 0) ∷ no 3 Cond (one 6)
+sign = flow 1 [] (block 1 1 (root (Lit (pos 0)) (one 0) ∷ root (Apply2 B.Lt) (two 0 1) ∷ root Cond (one 2) ∷ yes 3 Enter (one 0)
+    ∷ yes 3 (Lit (negsuc 0)) (one 4) ∷ no 3 Enter (one 0) ∷ no 3 Cond (one 6)
     ∷ yes 7 Enter (one 6) ∷ yes 7 (Lit (pos 1)) (one 8) ∷ no 7 Enter (one 6) ∷ no 3 (Merge 7) (two 9 10) ∷ root (Merge 3) (two 5 11) ∷ []) (one 12) ∷ []) 0
 
 -- the true side of the outer conditional

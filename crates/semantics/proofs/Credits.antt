@@ -19,7 +19,8 @@ use Rattle.semantics.proofs.Emulator.{instr, left, none, one_block}
 
 -- a loop whose parts are at numbers 0 to 3, a release at 4, and a copy at 5
 abbrev code : Program
-code = one_block 1 1 2 (instr (Open 2) 0 (left 5) none ∷ instr (Take 2) 0 none none ∷ instr (Give 2) 0 (left 3) none ∷ instr (Drain 2) 0 (left 2) none ∷ instr (Release 1) 1 none none ∷ instr Copy 0 none none ∷ [])
+code = one_block 1 1 2 (instr (Open 2) 0 (left 5) none ∷ instr (Take 2) 0 none none ∷ instr (Give 2) 0 (left 3) none ∷ instr (Drain 2) 0 (left 2) none
+    ∷ instr (Release 1) 1 none none ∷ instr Copy 0 none none ∷ [])
 
 -- in frame 3
 abbrev at_number : ℕ → Op → SlotState → Word → Outcome

@@ -12,7 +12,8 @@ use Rattle.semantics.specs.declared.program.Dest.{Dest}
 use Rattle.semantics.specs.declared.program.Op.{Op}
 use Rattle.semantics.specs.Program.{Instr, Program, instr_at}
 use Rattle.semantics.specs.Rule.{Outcome, Becomes, Excluded, rule_at}
-use Rattle.semantics.specs.Machine.{Machine, Store, CellState, Vacant, Full, Deferred, slot_in, slot_used, with_slot_in, with_cell, with_out, with_requests, with_output, with_done, answer, answers, outputs_of, at_start, stuck_rule, host_rule}
+use Rattle.semantics.specs.Machine.{Machine, Store, CellState, Vacant, Full, Deferred, slot_in, slot_used, with_slot_in, with_cell, with_out}
+use Rattle.semantics.specs.Machine.{with_requests, with_output, with_done, answer, answers, outputs_of, at_start, stuck_rule, host_rule}
 
 -- the store after an event and the tokens that it makes, or none where the token has no event
 abbrev Done : Type 0
@@ -51,7 +52,8 @@ by_host s m None j (Word.Val v) = if nat_lt j m then Some (with_output s j v, []
 by_host s m None j w = Some (with_done s, [])
 
 abbrev by_token : Program → ℕ → Store → To → Word → Done
-by_token p n s (To.Instr f ip port) w = by_outcome s f (slot_used (instr_at p ip)) (rule_at p record { frame = f; ip = ip } (instr_at p ip) (slot_in s f (slot_used (instr_at p ip))) port w)
+by_token p n s (To.Instr f ip port) w = by_outcome s f (slot_used (instr_at p ip)) (rule_at p record { frame = f; ip = ip } (instr_at p ip)
+    (slot_in s f (slot_used (instr_at p ip))) port w)
 by_token p n s (To.Fetch x) (Word.Back c) = by_fetch s x c (s.cells x)
 by_token p n s (To.Store x v) (Word.Back c) = by_store s x v c (s.cells x)
 by_token p n s To.Manager (Word.Back c) = by_request s c (free_from n 0 s)
@@ -80,7 +82,11 @@ pub record Came : Type 0 where
 
 abbrev came_from : ℕ → Program → ℕ → ℕ → Machine → Came
 came_from zero p n e m = record { machine = m; events = e }
-came_from (suc k) p n e m = elim (event_from p n m.store [] m.pool) as (λ x. Came) [ None ↦ record { machine = m; events = e } | Some u ↦ came_from k p n (e + 1) u.after ]
+came_from (suc k) p n e m = elim (event_from p n m.store [] m.pool) as (λ x. Came) [
+  | None ↦ record { machine = m; events = e }
+  | Some u
+      ↦ came_from k p n (e + 1) u.after
+]
 
 -- a run with that number of frames
 abbrev pub come : Program → ℕ → List ℤ → Came
@@ -104,4 +110,9 @@ abbrev pub none : List Dest
 none = []
 
 abbrev pub one_block : ℕ → ℕ → ℕ → List Instr → Program
-one_block inputs outputs slots instrs = record { blocks = record { inputs = inputs; outputs = outputs; slots = slots; instrs = instrs } ∷ []; arrays = []; main = 0 }
+one_block inputs outputs slots instrs = record {
+  blocks = record { inputs = inputs; outputs = outputs; slots = slots; instrs = instrs }
+      ∷ [];
+  arrays = [];
+  main = 0;
+}

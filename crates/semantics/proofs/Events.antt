@@ -45,11 +45,13 @@ fetch_waits : Does begun (To.Fetch 5) (Word.Back first) [] (with_cell begun 5 (D
 fetch_waits = (refl, refl)
 
 -- a second reader waits after the first one
-next_fetch_waits_behind : Does (with_cell begun 5 (Deferred (first ∷ []))) (To.Fetch 5) (Word.Back second) [] (with_cell (with_cell begun 5 (Deferred (first ∷ []))) 5 (Deferred (first ∷ second ∷ [])))
+next_fetch_waits_behind : Does (with_cell begun 5 (Deferred (first ∷ []))) (To.Fetch 5) (Word.Back second) []
+    (with_cell (with_cell begun 5 (Deferred (first ∷ []))) 5 (Deferred (first ∷ second ∷ [])))
 next_fetch_waits_behind = (refl, refl)
 
 -- a full cell answers at once
-fetch_of_full : (v : Value) → Does (with_cell begun 5 (Full v)) (To.Fetch 5) (Word.Back second) (token (To.Instr 1 8 Right) (Word.Val v) ∷ []) (with_cell begun 5 (Full v))
+fetch_of_full : (v : Value) → Does (with_cell begun 5 (Full v)) (To.Fetch 5) (Word.Back second) (token (To.Instr 1 8 Right) (Word.Val v) ∷ [])
+    (with_cell begun 5 (Full v))
 fetch_of_full v = (refl, refl)
 
 -- a store answers both readers, in the order in which they arrived, and then the storer
@@ -74,7 +76,8 @@ request_answered = inl (1, omega arith, refl, refl, refl)
 out_is_not_answered : (new : Store) → Does (with_out begun 1 true) To.Manager (Word.Back second) (token (To.Instr 1 8 Right) (Word.Frame 1) ∷ []) new → ⊥
 out_is_not_answered new does = elim does [ inl h ↦ taken h.0 h.2 h.3 | inr h ↦ cc ]
   where
-    taken : (f : ℕ) → (with_out begun 1 true).out f ≡ false → token (To.Instr 1 8 Right) (Word.Frame 1) ∷ [] ≡ token (To.Instr 1 8 Right) (Word.Frame f) ∷ [] → ⊥
+    taken : (f : ℕ) → (with_out begun 1 true).out f ≡ false → token (To.Instr 1 8 Right) (Word.Frame 1) ∷ []
+        ≡ token (To.Instr 1 8 Right) (Word.Frame f) ∷ [] → ⊥
     taken f free same =
         let frames : 1 ∷ [] ≡ f ∷ [] = ap (λ (ts : List Token). handed_by To.Manager ts) same in
         let one : f ≡ 1 = cc in
@@ -86,7 +89,8 @@ release_frees : (w : Word) → Does begun (To.Release 0) w [] (with_out begun 0 
 release_frees w = (refl, inl (refl, refl, refl))
 
 -- and else gives it to one that waits, any of them
-release_serves : (w : Word) → Does (with_requests begun (first ∷ [])) (To.Release 0) w (token (To.Instr 0 7 Left) (Word.Frame 0) ∷ []) (with_requests (with_requests begun (first ∷ [])) [])
+release_serves : (w : Word) → Does (with_requests begun (first ∷ [])) (To.Release 0) w (token (To.Instr 0 7 Left) (Word.Frame 0) ∷ [])
+    (with_requests (with_requests begun (first ∷ [])) [])
 release_serves w = (refl, inr (first, [], IsPermutation-refl (first ∷ []), refl, refl))
 
 -- THE HOST. An output is filled once, and then the done mark

@@ -17,7 +17,8 @@ use Rattle.semantics.proofs.Emulator.{instr, none, one_block}
 
 -- numbers 0 to 6
 abbrev code : Program
-code = one_block 1 1 3 (instr Copy 0 none none ∷ instr (Apply2 B.Add) 0 none none ∷ instr Switch 0 none none ∷ instr (Take 2) 1 none none ∷ instr (Give 2) 1 none none ∷ instr (Drain 2) 1 none none ∷ instr (Release 1) 2 none none ∷ [])
+code = one_block 1 1 3 (instr Copy 0 none none ∷ instr (Apply2 B.Add) 0 none none ∷ instr Switch 0 none none ∷ instr (Take 2) 1 none none
+    ∷ instr (Give 2) 1 none none ∷ instr (Drain 2) 1 none none ∷ instr (Release 1) 2 none none ∷ [])
 
 abbrev begun : Store
 begun = (at_start code (pos 4 ∷ [])).store

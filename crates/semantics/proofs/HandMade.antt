@@ -92,8 +92,20 @@ no_such_output_stuck = refl
 -- a called block's release sends its done signal to a number beyond the code
 abbrev goes_beyond : Program
 goes_beyond = record {
-  blocks = record { inputs = 1; outputs = 1; slots = 0; instrs = instr Copy 0 none none ∷ instr Copy 0 (left 1) none ∷ instr Frame 0 (left 1) none ∷ instr (Link 1) 0 (left 1) none ∷ instr Copy 0 none none ∷ [] }
-      ∷ record { inputs = 1; outputs = 1; slots = 1; instrs = instr Copy 0 (left 2) (right 2) ∷ instr Copy 0 none none ∷ instr (Release 255) 0 none none ∷ [] } ∷ [];
+  blocks = record {
+    inputs = 1;
+    outputs = 1;
+    slots = 0;
+    instrs = instr Copy 0 none none ∷ instr Copy 0 (left 1) none ∷ instr Frame 0 (left 1) none
+        ∷ instr (Link 1) 0 (left 1) none ∷ instr Copy 0 none none ∷ [];
+  }
+      ∷ record {
+        inputs = 1;
+        outputs = 1;
+        slots = 1;
+        instrs = instr Copy 0 (left 2) (right 2) ∷ instr Copy 0 none none
+            ∷ instr (Release 255) 0 none none ∷ [];
+      } ∷ [];
   arrays = [];
   main = 0;
 }
@@ -122,7 +134,8 @@ forgets_result_in_10_events = refl
 -- Each of its runs wants a credit: so the clauses on runs that rest without wanting say nothing of it, and only the clause
 -- on credits, with the one on the bounds of loops, refuses it.
 abbrev wants_for_ever : Program
-wants_for_ever = one_block 2 1 2 (instr Copy 0 (left 3) (left 4) ∷ instr Copy 0 none none ∷ instr Copy 0 none none ∷ instr (Open 1) 0 (right 1) none ∷ instr Switch 1 none (left 1) ∷ instr (Take 1) 0 none none ∷ [])
+wants_for_ever = one_block 2 1 2 (instr Copy 0 (left 3) (left 4) ∷ instr Copy 0 none none ∷ instr Copy 0 none none ∷ instr (Open 1) 0 (right 1) none
+    ∷ instr Switch 1 none (left 1) ∷ instr (Take 1) 0 none none ∷ [])
 
 -- its slot has a waiter for ever
 wants_a_credit : (on_2_and_3 wants_for_ever).machine.store.slots 0 0 ≡ Waiter (Cont.Host 0)

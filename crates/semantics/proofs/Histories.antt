@@ -23,7 +23,8 @@ abbrev addressed : ℕ → Token → Type 0
 addressed e t = element_of 2 t.to ≡ e
 
 -- element 0 spends its token and makes one for element 1, which spends that: the pool is empty again
-two_commits : LeavesPool 2 (for_0 ∷ []) (record { element = 0; spent = for_0 ∷ []; made = for_1 ∷ [] } ∷ record { element = 1; spent = for_1 ∷ []; made = [] } ∷ []) []
+two_commits : LeavesPool 2 (for_0 ∷ []) (record { element = 0; spent = for_0 ∷ []; made = for_1 ∷ [] }
+    ∷ record { element = 1; spent = for_1 ∷ []; made = [] } ∷ []) []
 two_commits = (
   [],
   IsPermutation-refl (for_0 ∷ []),

@@ -8,7 +8,8 @@ use Rattle.semantics.specs.declared.graph.Source.{Source}
 use Rattle.semantics.specs.declared.graph.Kind.{Kind}
 use Rattle.semantics.specs.declared.graph.Kind.TheVariants.{Enter, Merge, Call, Loop}
 use Rattle.semantics.specs.Graph.{Node, Block, Flow}
-use Rattle.semantics.specs.Meaning.{Context, Main, Called, Turned, Statement, AtNode, AtOut, AtTurn, Port, Operand, Predicate, Flag, Carried, Tagged, State, start, Activity, Fires, Gates, Passes, Returns, Turns, Outputs, taken, Effect, effect, node_of}
+use Rattle.semantics.specs.Meaning.{Context, Main, Called, Turned, Statement, AtNode, AtOut, AtTurn, Port, Operand, Predicate, Flag, Carried}
+use Rattle.semantics.specs.Meaning.{Tagged, State, start, Activity, Fires, Gates, Passes, Returns, Turns, Outputs, taken, Effect, effect, node_of}
 
 -- TAGS
 abbrev same_context : Context → Context → Bool
@@ -138,7 +139,12 @@ total [] = 0
 total (n ∷ ns) = n + total ns
 
 abbrev pub seen_in : Flow → State → Seen
-seen_in fl s = record { outputs = values_from 0 (outputs_in (slice_get fl.blocks fl.main)) s.memory.outputs; cells = values_from 0 (total fl.arrays) s.memory.cells; left = length s.tokens }
+seen_in fl s = record {
+  outputs = values_from 0 (outputs_in (slice_get fl.blocks fl.main)) s.memory.outputs;
+  cells = values_from 0 (total fl.arrays)
+      s.memory.cells;
+  left = length s.tokens;
+}
 
 abbrev pub seen : List (Option Value) → List (Option Value) → ℕ → Seen
 seen outputs cells left = record { outputs = outputs; cells = cells; left = left }

@@ -1,5 +1,6 @@
 -- Lines of a block, names and numbers of blocks.
-use Rattle.std.proofs.Common.{[], ◌+◌, ◌-◌, ◌∙◌, ◌∷◌, ◌≡◌, ◌⊎◌, Bool, List, None, Option, Some, ap, ap₂, arith, false, if◌then◌else◌, inl, inr, le-ltb, lt-ltb, ltb-false, map, nat_lt, refl, slice_get, sum, true, ℕ}
+use Rattle.std.proofs.Common.{[], ◌+◌, ◌-◌, ◌∙◌, ◌∷◌, ◌≡◌, ◌⊎◌, Bool, List, None, Option, Some, ap, ap₂, arith, false, if◌then◌else◌, inl, inr}
+use Rattle.std.proofs.Common.{le-ltb, lt-ltb, ltb-false, map, nat_lt, refl, slice_get, sum, true, ℕ}
 use Rattle.std.specs.Prelude.{count_by}
 use Rattle.std.proofs.lemmas.List.Sums.{sum-map}
 use Rattle.semantics.specs.declared.graph.Kind.{Kind}
@@ -41,7 +42,8 @@ block_is_there fl None b e = absurd (cc)
 block_is_there fl (Some i) b e = (i, refl, e)
 
 -- a loop's body is looped
-pub body_is_looped : (fl : Flow) (i n f : ℕ) (b : Block ℕ) (line : Node ℕ) → slice_get fl.blocks i ≡ Some b → node_at b n ≡ Some line → loops_to f line.kind ≡ true → is_looped fl f ≡ true
+pub body_is_looped : (fl : Flow) (i n f : ℕ) (b : Block ℕ) (line : Node ℕ) → slice_get fl.blocks i ≡ Some b → node_at b n ≡ Some line
+    → loops_to f line.kind ≡ true → is_looped fl f ≡ true
 body_is_looped fl i n f b line e g h =
     let counts = λ (b : Block ℕ). count_by (λ (n : Node ℕ). loops_to f n.kind) b.nodes in
     let one = one_of_count (λ (n : Node ℕ). loops_to f n.kind) b.nodes (n - b.inputs) line (line_listed b n line g) h in
@@ -56,7 +58,8 @@ same_name_is [] (b ∷ y) e = cc
 same_name_is (a ∷ x) [] e = cc
 same_name_is (a ∷ x) (b ∷ y) e = go (nat_lt a b) (nat_lt b a) refl refl e (same_name_is x y)
   where
-    go : (s t : Bool) → nat_lt a b ≡ s → nat_lt b a ≡ t → (if s then false else if t then false else same_name x y) ≡ true → (same_name x y ≡ true → x ≡ y) → a ∷ x ≡ b ∷ y
+    go : (s t : Bool) → nat_lt a b ≡ s → nat_lt b a ≡ t → (if s then false else if t then false else same_name x y) ≡ true
+        → (same_name x y ≡ true → x ≡ y) → a ∷ x ≡ b ∷ y
     go true t p q f ih = cc
     go false true p q f ih = cc
     go false false p q f ih =

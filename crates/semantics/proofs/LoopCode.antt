@@ -11,7 +11,8 @@ use Rattle.tags.specs.declared.slot.SlotState.TheVariants.{Waiter}
 use Rattle.operators.specs.declared.Binary.TheVariants as B
 use Rattle.semantics.specs.declared.program.Dest.{Dest}
 use Rattle.semantics.specs.declared.program.Op.{Op}
-use Rattle.semantics.specs.declared.program.Op.TheVariants.{Apply2, Lit, Copy, Sync, Switch, Fetch, Frame, Link, Send, Return, Ask, Open, Take, Give, Drain, Release}
+use Rattle.semantics.specs.declared.program.Op.TheVariants.{Apply2, Lit, Copy, Sync, Switch, Fetch, Frame, Link, Send, Return, Ask, Open, Take}
+use Rattle.semantics.specs.declared.program.Op.TheVariants.{Give, Drain, Release}
 use Rattle.semantics.specs.Program.{Instr, CodeBlock, Program, instr_at}
 use Rattle.semantics.specs.Plan.{Plan}
 use Rattle.semantics.specs.Machine.{Machine, Store, at_start}
@@ -90,7 +91,8 @@ code = code_with (Give 2) (variant_with 17 [] (r 1) (instr (Release 1) 11 [] [] 
 
 -- the same, except that each iteration also fetches the cell of its value, which no store fills: so none is released
 abbrev code_that_waits : Program
-code_that_waits = code_with (Give 2) (variant_with 19 (l 14 ∷ []) (l 2) (instr (Fetch 0) 0 (r 1 ∷ []) [] ∷ instr Sync 12 (r 1 ∷ []) [] ∷ instr (Release 1) 11 [] [] ∷ []))
+code_that_waits = code_with (Give 2) (variant_with 19 (l 14 ∷ []) (l 2) (instr (Fetch 0) 0 (r 1 ∷ []) [] ∷ instr Sync 12 (r 1 ∷ []) []
+    ∷ instr (Release 1) 11 [] [] ∷ []))
 
 -- the same, except that a credit is never given back: the signal of an iteration's `release` goes to a copy
 abbrev code_that_keeps : Program
@@ -136,7 +138,11 @@ watched p w old to made new =
 abbrev watch : ℕ → Program → ℕ → Machine → Watch → Watch
 watch zero p frames m w = w
 watch (suc k) p frames m w =
-    elim (event_from p frames m.store [] m.pool) as (λ x. Watch) [ None ↦ w | Some e ↦ watch k p frames e.after (watched p w m.store e.token.to e.made e.after.store) ]
+    elim (event_from p frames m.store [] m.pool) as (λ x. Watch) [
+      | None ↦ w
+      | Some e
+          ↦ watch k p frames e.after (watched p w m.store e.token.to e.made e.after.store)
+    ]
 
 abbrev watch_all : Program → ℕ → ℕ → Watch
 watch_all p frames input = watch 200 p frames (at_start p (pos input ∷ [])) record { granted = 0; released = 0; most_out = 0; holds = None; own = true }
@@ -204,7 +210,11 @@ one_out = refl
 -- the tokens that are taken by element 0 of four, where main's frame is alone
 abbrev taken_from : ℕ → Program → ℕ → Machine → List Token
 taken_from zero p frames m = []
-taken_from (suc k) p frames m = elim (event_from p frames m.store [] m.pool) as (λ x. List Token) [ None ↦ [] | Some e ↦ if element_of 4 e.token.to == 0 then e.token ∷ taken_from k p frames e.after else taken_from k p frames e.after ]
+taken_from (suc k) p frames m = elim (event_from p frames m.store [] m.pool) as (λ x. List Token) [
+  | None ↦ []
+  | Some e
+      ↦ if element_of 4 e.token.to == 0 then e.token ∷ taken_from k p frames e.after else taken_from k p frames e.after
+]
 
 abbrev is_there : To → List Token → Bool
 is_there (To.Instr f ip q) [] = false

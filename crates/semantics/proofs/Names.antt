@@ -53,5 +53,6 @@ origin_in_version_1 : origin_at (flow 1 [] (block 1 1 [] (one 0) ∷ []) 0) Main
 origin_in_version_1 = refl
 
 -- ARMS. Node 6 lies in the false arm of the conditional at 4, which lies in the true arm of the one at 1
-nested : arms_at (Some (block 1 1 (root Cond (one 0) ∷ yes 1 Enter (one 0) ∷ yes 1 (Lit (pos 1)) (one 2) ∷ yes 1 Cond (one 3) ∷ no 4 Enter (one 3) ∷ no 4 (Apply1 U.Neg) (one 5) ∷ []) (one 0))) 6 ≡ (4, false) ∷ (1, true) ∷ []
+nested : arms_at (Some (block 1 1 (root Cond (one 0) ∷ yes 1 Enter (one 0) ∷ yes 1 (Lit (pos 1)) (one 2) ∷ yes 1 Cond (one 3) ∷ no 4 Enter (one 3)
+    ∷ no 4 (Apply1 U.Neg) (one 5) ∷ []) (one 0))) 6 ≡ (4, false) ∷ (1, true) ∷ []
 nested = refl

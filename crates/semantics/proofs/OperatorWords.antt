@@ -17,7 +17,8 @@ use Rattle.semantics.specs.declared.opcode.Opcode.TheVariants.{Apply1, Apply2}
 use Rattle.semantics.specs.declared.words.Operator.{Operator}
 use Rattle.semantics.specs.declared.words.Operator.TheVariants.{One, Two}
 use Rattle.semantics.specs.Words.{operator_word, operators, operator_in, operator_of}
-use Rattle.semantics.specs.Opcodes.{binary_code, coded, binary_of, opcode_word, op_word, opcode_for, other_opcodes, with_operator, opcode_among, operator_named, opcode_named}
+use Rattle.semantics.specs.Opcodes.{binary_code, coded, binary_of, opcode_word, op_word, opcode_for, other_opcodes, with_operator, opcode_among}
+use Rattle.semantics.specs.Opcodes.{operator_named, opcode_named}
 
 operator_in_is : (os : List Operator) (bytes : List ℕ) (o : Operator) → operator_in os bytes ≡ Some o → bytes ≡ operator_word o
 operator_in_is [] bytes o e = absurd cc
@@ -38,11 +39,13 @@ pub operator_again : (o : Operator) → operator_of (operator_word o) ≡ Some o
 unfolding operator_of
 operator_again (One Neg) = refl
 operator_again (One Not) = refl
-operator_again (Two op) = each_binary (λ o. operator_of (operator_word (Two o)) ≡ Some (Two o)) (refl, (refl, (refl, (refl, (refl, (refl, (refl, (refl, (refl, (refl, (refl, (refl, (refl, (refl, tt)))))))))))))) op
+operator_again (Two op) = each_binary (λ o. operator_of (operator_word (Two o)) ≡ Some (Two o))
+    (refl, (refl, (refl, (refl, (refl, (refl, (refl, (refl, (refl, (refl, (refl, (refl, (refl, (refl, tt)))))))))))))) op
 
 -- and a number of its own
 pub binary_back : (op : Binary) → binary_of (binary_code op) ≡ Some op
-binary_back = each_binary (λ op. binary_of (binary_code op) ≡ Some op) (refl, (refl, (refl, (refl, (refl, (refl, (refl, (refl, (refl, (refl, (refl, (refl, (refl, (refl, tt))))))))))))))
+binary_back = each_binary (λ op. binary_of (binary_code op) ≡ Some op)
+    (refl, (refl, (refl, (refl, (refl, (refl, (refl, (refl, (refl, (refl, (refl, (refl, (refl, (refl, tt))))))))))))))
 
 pub binary_few : (op : Binary) → binary_code op < 2 ^ 8
 binary_few op = ltb-true (binary_code op) (2 ^ 8) (all_binary (λ o. nat_lt (binary_code o) (2 ^ 8)) refl op)
@@ -62,7 +65,8 @@ binary_numbered c op e = in_list binaries e
         go false t rec = rec (let k : coded os c ≡ Some op = rw t at e in k)
 
 -- THE WORDS OF ALL OPCODES
-among_is : (os : List Opcode) (otherwise : Option Opcode) (w : List ℕ) (o : Opcode) → (otherwise ≡ Some o → w ≡ opcode_word o) → opcode_among os otherwise w ≡ Some o → w ≡ opcode_word o
+among_is : (os : List Opcode) (otherwise : Option Opcode) (w : List ℕ) (o : Opcode) → (otherwise ≡ Some o → w ≡ opcode_word o)
+    → opcode_among os otherwise w ≡ Some o → w ≡ opcode_word o
 among_is [] otherwise w o k e = k e
 among_is (x ∷ xs) otherwise w o k e = go (bytes_eq w (opcode_word x)) refl (among_is xs otherwise w o k)
   where
@@ -105,7 +109,8 @@ unary_again Not = refl
 
 binary_again : (op : Binary) → opcode_named (binary_word op) ≡ Some (Apply2 op)
 unfolding opcode_named operator_named operator_of
-binary_again = each_binary (λ op. opcode_named (binary_word op) ≡ Some (Apply2 op)) (refl, (refl, (refl, (refl, (refl, (refl, (refl, (refl, (refl, (refl, (refl, (refl, (refl, (refl, tt))))))))))))))
+binary_again = each_binary (λ op. opcode_named (binary_word op) ≡ Some (Apply2 op))
+    (refl, (refl, (refl, (refl, (refl, (refl, (refl, (refl, (refl, (refl, (refl, (refl, (refl, (refl, tt))))))))))))))
 
 pub word_again : (op : Op) → opcode_named (op_word op) ≡ Some (named_by op)
 unfolding opcode_named operator_named operator_of

@@ -35,7 +35,13 @@ main = record {
 }
 
 abbrev variant : CodeBlock
-variant = record { inputs = 2; outputs = 3; slots = 2; instrs = instr Copy 0 none none ∷ instr Copy 0 none none ∷ instr Copy 0 none none ∷ instr Switch 0 none none ∷ instr (Release 2) 1 none none ∷ [] }
+variant = record {
+  inputs = 2;
+  outputs = 3;
+  slots = 2;
+  instrs = instr Copy 0 none none ∷ instr Copy 0 none none ∷ instr Copy 0 none none
+      ∷ instr Switch 0 none none ∷ instr (Release 2) 1 none none ∷ [];
+}
 
 abbrev plan : Plan
 plan = record {
@@ -63,7 +69,8 @@ no_mark = refl
 -- a link has an arc to each instruction of its landing, and by its second destination
 arcs : arcs_in plan (Some main)
     ≡ arc 0 false (inlet 2 Left) ∷ arc 1 false (inlet 2 Left) ∷ arc 1 true (inlet 8 Right)
-    ∷ arc 2 false (inlet 3 Left) ∷ arc 2 false (inlet 4 Left) ∷ arc 2 false (inlet 5 Left) ∷ arc 2 false (inlet 6 Left) ∷ arc 2 false (inlet 7 Left) ∷ arc 2 true (inlet 9 Right)
+    ∷ arc 2 false (inlet 3 Left) ∷ arc 2 false (inlet 4 Left) ∷ arc 2 false (inlet 5 Left) ∷ arc 2 false (inlet 6 Left) ∷ arc 2 false (inlet 7 Left)
+    ∷ arc 2 true (inlet 9 Right)
     ∷ arc 5 false (inlet 8 Left) ∷ arc 7 false (inlet 8 Left) ∷ []
 arcs = refl
 
@@ -136,12 +143,14 @@ third_use : use_of 8 (λ g. 3) 5 ≡ 29
 third_use = refl
 
 -- the frame of a token and that of its continuation
-renamed : re_token (use_of 8 (λ g. 3)) (token (To.Instr 5 40 Right) (Word.Back (Cont.Frame 2 9 Left))) ≡ token (To.Instr 29 40 Right) (Word.Back (Cont.Frame 26 9 Left))
+renamed : re_token (use_of 8 (λ g. 3)) (token (To.Instr 5 40 Right) (Word.Back (Cont.Frame 2 9 Left)))
+    ≡ token (To.Instr 29 40 Right) (Word.Back (Cont.Frame 26 9 Left))
 renamed = refl
 
 -- COUNTS
 abbrev events : Events
-events = (0, token To.Manager (Word.Back (Cont.Frame 0 7 Left))) ∷ (0, token (To.Instr 0 6 Left) (Word.Back (Cont.Host 0))) ∷ (0, token (To.Instr 0 5 Left) signal) ∷ (1, token (To.Instr 1 10 Left) signal) ∷ []
+events = (0, token To.Manager (Word.Back (Cont.Frame 0 7 Left))) ∷ (0, token (To.Instr 0 6 Left) (Word.Back (Cont.Host 0)))
+    ∷ (0, token (To.Instr 0 5 Left) signal) ∷ (1, token (To.Instr 1 10 Left) signal) ∷ []
 
 -- one of these tokens is a request
 one_request : request_count events ≡ 1
@@ -160,7 +169,8 @@ abbrev looping : Flow
 looping = flow 1 [] (block 1 2 [] (two 0 0) ∷ block 1 1 (root (Loop 0 7) (one 0) ∷ root (Loop 0 3) (one 1) ∷ []) (one 2) ∷ []) 1
 
 -- block 0 is there twice: plain, and as a loop variant
-code_blocks : coded_blocks looping ≡ block 1 2 [] (two 0 0) ∷ block 1 1 (root (Loop 0 7) (one 0) ∷ root (Loop 0 3) (one 1) ∷ []) (one 2) ∷ block 1 2 [] (two 0 0) ∷ []
+code_blocks : coded_blocks looping ≡ block 1 2 [] (two 0 0) ∷ block 1 1 (root (Loop 0 7) (one 0) ∷ root (Loop 0 3) (one 1) ∷ []) (one 2)
+    ∷ block 1 2 [] (two 0 0) ∷ []
 code_blocks = refl
 
 -- main's loops have the bounds 7 and 3
@@ -168,5 +178,11 @@ bounds_of_main : loop_bounds (block 1 1 (root (Loop 0 7) (one 0) ∷ root (Loop 
 bounds_of_main = refl
 
 -- the code opens them in any order
-bounds_opened : open_bounds record { inputs = 1; outputs = 1; slots = 2; instrs = instr (Open 3) 0 none none ∷ instr Copy 0 none none ∷ instr (Open 7) 1 none none ∷ [] } ≡ 3 ∷ 7 ∷ []
+bounds_opened : open_bounds record {
+  inputs = 1;
+  outputs = 1;
+  slots = 2;
+  instrs = instr (Open 3) 0 none none ∷ instr Copy 0 none none
+      ∷ instr (Open 7) 1 none none ∷ [];
+} ≡ 3 ∷ 7 ∷ []
 bounds_opened = refl

@@ -55,7 +55,15 @@ taken = record { store = with_slot opened.store 0 0 (Credits 0); pool = token (T
 
 -- the continuation goes to both
 copies : Event code size 0 (asks 0) begun copied
-copies = record { made = asks 2 ∷ asks 3 ∷ []; rest = input ∷ []; addressed = refl; takes = IsPermutation-refl _; happens = (refl, refl); leaves = IsPermutation-refl _ }
+copies = record {
+  made = asks 2 ∷ asks 3 ∷ [];
+  rest = input ∷ [];
+  addressed = refl;
+  takes = IsPermutation-refl _;
+  happens = (refl, refl);
+  leaves =
+      IsPermutation-refl _;
+}
 
 -- the loop opens, with one credit left
 opens : Event code size 0 (asks 2) copied opened
@@ -63,7 +71,14 @@ opens = record { made = []; rest = asks 3 ∷ input ∷ []; addressed = refl; ta
 
 -- the credit is taken, and the host gets the signal
 takes_one : Event code size 0 (asks 3) opened taken
-takes_one = record { made = token (To.Host 0) signal ∷ []; rest = input ∷ []; addressed = refl; takes = IsPermutation-refl _; happens = (refl, refl); leaves = IsPermutation-refl _ }
+takes_one = record {
+  made = token (To.Host 0) signal ∷ [];
+  rest = input ∷ [];
+  addressed = refl;
+  takes = IsPermutation-refl _;
+  happens = (refl, refl);
+  leaves = IsPermutation-refl _;
+}
 
 abbrev events : Events
 events = (0, asks 0) ∷ (0, asks 2) ∷ (0, asks 3) ∷ []
@@ -94,7 +109,8 @@ IsNone ev = ev.1.to ≡ To.Release 0 → ⊥
 -- none of the three tokens is a release
 no_release : NoRelease 0 events
 no_release =
-    All-cons IsNone (0, asks 0) ((0, asks 2) ∷ (0, asks 3) ∷ []) (λ e. cc) (All-cons IsNone (0, asks 2) ((0, asks 3) ∷ []) (λ e. cc) (All-cons IsNone (0, asks 3) [] (λ e. cc) (All-nil IsNone)))
+    All-cons IsNone (0, asks 0) ((0, asks 2) ∷ (0, asks 3) ∷ []) (λ e. cc) (All-cons IsNone (0, asks 2) ((0, asks 3) ∷ []) (λ e. cc)
+    (All-cons IsNone (0, asks 3) [] (λ e. cc) (All-nil IsNone)))
 
 -- it begins at the start
 tenure : Tenure code size (pos 4 ∷ []) 0 taken

@@ -17,7 +17,8 @@ use Rattle.operators.specs.declared.Unary.TheVariants as U
 use Rattle.operators.specs.declared.Binary.TheVariants as B
 use Rattle.semantics.specs.declared.program.Dest.{Dest}
 use Rattle.semantics.specs.declared.program.Op.{Op}
-use Rattle.semantics.specs.declared.program.Op.TheVariants.{Apply1, Apply2, Apply2Right, Apply2Left, Lit, Copy, Sync, Switch, Fetch, Store, Frame, Link, Send, Return, Ask, Release}
+use Rattle.semantics.specs.declared.program.Op.TheVariants.{Apply1, Apply2, Apply2Right, Apply2Left, Lit, Copy, Sync, Switch, Fetch, Store, Frame}
+use Rattle.semantics.specs.declared.program.Op.TheVariants.{Link, Send, Return, Ask, Release}
 use Rattle.semantics.specs.Program.{Program}
 use Rattle.semantics.specs.Rule.{token, signal, Outcome, Becomes, rule_at}
 use Rattle.semantics.proofs.Emulator.{instr}
@@ -25,7 +26,8 @@ use Rattle.semantics.proofs.Emulator.{instr}
 -- two blocks, the second one from number 2 on; two arrays, the second one from cell 3 on
 abbrev code : Program
 code = record {
-  blocks = record { inputs = 1; outputs = 1; slots = 0; instrs = instr Copy 0 [] [] ∷ instr Copy 0 [] [] ∷ [] } ∷ record { inputs = 1; outputs = 1; slots = 0; instrs = instr Copy 0 [] [] ∷ [] } ∷ [];
+  blocks = record { inputs = 1; outputs = 1; slots = 0; instrs = instr Copy 0 [] [] ∷ instr Copy 0 [] [] ∷ [] }
+      ∷ record { inputs = 1; outputs = 1; slots = 0; instrs = instr Copy 0 [] [] ∷ [] } ∷ [];
   arrays = 3 ∷ 5 ∷ [];
   main = 0;
 }
@@ -37,11 +39,25 @@ abbrev to_12_right : Dest
 to_12_right = record { ahead = 2; port = Right }
 
 abbrev with_both : Op → SlotState → Port → Word → Outcome
-with_both op slot port w = rule_at code record { frame = 3; ip = 10 } (Some record { op = op; origin = At 1 2; slot = 0; firsts = to_11_left ∷ []; seconds = to_12_right ∷ [] }) slot port w
+with_both op slot port w = rule_at code record { frame = 3; ip = 10 } (Some record {
+  op = op;
+  origin = At 1 2;
+  slot = 0;
+  firsts = to_11_left
+      ∷ [];
+  seconds = to_12_right ∷ [];
+}) slot port w
 
 -- one destination
 abbrev with_one : Op → SlotState → Port → Word → Outcome
-with_one op slot port w = rule_at code record { frame = 3; ip = 10 } (Some record { op = op; origin = At 1 2; slot = 0; firsts = to_12_right ∷ []; seconds = [] }) slot port w
+with_one op slot port w = rule_at code record { frame = 3; ip = 10 } (Some record {
+  op = op;
+  origin = At 1 2;
+  slot = 0;
+  firsts = to_12_right
+      ∷ [];
+  seconds = [];
+}) slot port w
 
 -- the result: the slot is left as it is, or becomes empty; and the tokens to 11 left and to 12 right
 abbrev sends : Word → Outcome
@@ -115,11 +131,13 @@ fetch_outside : with_one (Fetch 1) Empty Left (number 5) ≡ Becomes Empty (toke
 fetch_outside = refl
 
 -- a store request carries the value
-store : (v : Value) → with_one (Store 1) (Slot.Left (number 2)) Right (Word.Val v) ≡ Becomes Empty (token (To.Store 5 v) (Word.Back (Cont.Frame 3 12 Right)) ∷ [])
+store : (v : Value) → with_one (Store 1) (Slot.Left (number 2)) Right (Word.Val v)
+    ≡ Becomes Empty (token (To.Store 5 v) (Word.Back (Cont.Frame 3 12 Right)) ∷ [])
 store v = refl
 
 -- and a faulty index makes no request
-store_by_fault : (v : Value) → with_one (Store 1) (Slot.Left (Word.Val (Fault Zero (At 0 0)))) Right (Word.Val v) ≡ Becomes Empty (token (To.Instr 3 12 Right) (Word.Val (Fault Zero (At 0 0))) ∷ [])
+store_by_fault : (v : Value) → with_one (Store 1) (Slot.Left (Word.Val (Fault Zero (At 0 0)))) Right (Word.Val v)
+    ≡ Becomes Empty (token (To.Instr 3 12 Right) (Word.Val (Fault Zero (At 0 0))) ∷ [])
 store_by_fault v = refl
 
 -- CALLS. A request for a frame carries where its answer goes
@@ -127,7 +145,8 @@ frame : (w : Word) → with_one Frame Empty Left w ≡ Becomes Empty (token To.M
 frame w = refl
 
 -- a link sends to the other frame where the landing begins, always at a left port, and signals to the second destination
-link : with_both (Link 1) Empty Left (Word.Frame 8) ≡ Becomes Empty (token (To.Instr 8 2 Left) (Word.Back (Cont.Frame 3 11 Left)) ∷ token (To.Instr 3 12 Right) signal ∷ [])
+link : with_both (Link 1) Empty Left (Word.Frame 8) ≡ Becomes Empty (token (To.Instr 8 2 Left) (Word.Back (Cont.Frame 3 11 Left))
+    ∷ token (To.Instr 3 12 Right) signal ∷ [])
 link = refl
 
 -- entry 1 of block 1 takes its first input
@@ -136,17 +155,21 @@ send : (w : Word) → with_both (Send 1 1) (Slot.Left (Word.Frame 8)) Right w
 send w = refl
 
 -- a return goes to its continuation plus the offset, always on the left, and signals
-return_to_frame : (v : Value) → with_one (Return 2) (Slot.Left (Word.Back (Cont.Frame 8 40 Right))) Right (Word.Val v) ≡ Becomes Empty (token (To.Instr 8 42 Left) (Word.Val v) ∷ token (To.Instr 3 12 Right) signal ∷ [])
+return_to_frame : (v : Value) → with_one (Return 2) (Slot.Left (Word.Back (Cont.Frame 8 40 Right))) Right (Word.Val v)
+    ≡ Becomes Empty (token (To.Instr 8 42 Left) (Word.Val v) ∷ token (To.Instr 3 12 Right) signal ∷ [])
 return_to_frame v = refl
 
 -- to the host it goes to a port
-return_to_host : (v : Value) → with_one (Return 2) (Slot.Left (Word.Back (Cont.Host 0))) Right (Word.Val v) ≡ Becomes Empty (token (To.Host 2) (Word.Val v) ∷ token (To.Instr 3 12 Right) signal ∷ [])
+return_to_host : (v : Value) → with_one (Return 2) (Slot.Left (Word.Back (Cont.Host 0))) Right (Word.Val v)
+    ≡ Becomes Empty (token (To.Host 2) (Word.Val v) ∷ token (To.Instr 3 12 Right) signal ∷ [])
 return_to_host v = refl
 
 -- an ask sends where its answer goes, port and all
-ask : (w : Word) → with_one (Ask 2) (Slot.Left (Word.Back (Cont.Frame 8 40 Left))) Right w ≡ Becomes Empty (token (To.Instr 8 42 Left) (Word.Back (Cont.Frame 3 12 Right)) ∷ [])
+ask : (w : Word) → with_one (Ask 2) (Slot.Left (Word.Back (Cont.Frame 8 40 Left))) Right w
+    ≡ Becomes Empty (token (To.Instr 8 42 Left) (Word.Back (Cont.Frame 3 12 Right)) ∷ [])
 ask w = refl
 
 -- a release frees its own frame and signals to its continuation plus the offset
-release : (w : Word) → with_both (Release 1) (Slot.Left (Word.Back (Cont.Host 0))) Right w ≡ Becomes Empty (token (To.Release 3) signal ∷ token (To.Host 1) signal ∷ [])
+release : (w : Word) → with_both (Release 1) (Slot.Left (Word.Back (Cont.Host 0))) Right w
+    ≡ Becomes Empty (token (To.Release 3) signal ∷ token (To.Host 1) signal ∷ [])
 release w = refl

@@ -12,7 +12,8 @@ use Rattle.semantics.specs.declared.program.Mark.{Mark}
 use Rattle.semantics.specs.declared.program.Mark.TheVariants.{Unmarked, OfCond}
 use Rattle.semantics.specs.Plan.{Plan, mark_at, instr_in}
 use Rattle.semantics.specs.Machine.{slot_used}
-use Rattle.semantics.specs.Sharing.{Inlet, inlet, Arc, arc, arcs_in, IsAfter, is_after, Leads, by_choice, by_port, Holds, IsEnd, IsSide, IsHolderPort, AllAfter, AllOnSide, MayShare}
+use Rattle.semantics.specs.Sharing.{Inlet, inlet, Arc, arc, arcs_in, IsAfter, is_after, Leads, by_choice, by_port, Holds, IsEnd, IsSide}
+use Rattle.semantics.specs.Sharing.{IsHolderPort, AllAfter, AllOnSide, MayShare}
 use Rattle.semantics.proofs.Emulator.{instr}
 
 abbrev l : ℕ → Dest
@@ -22,7 +23,11 @@ abbrev r : ℕ → Dest
 r n = record { ahead = n; port = Right }
 
 abbrev plan_of : List Instr → Plan
-plan_of is = record { program = record { blocks = record { inputs = 1; outputs = 1; slots = 2; instrs = is } ∷ []; arrays = []; main = 0 }; plain = 1; marks = (Unmarked ∷ Unmarked ∷ OfCond 1 ∷ OfCond 1 ∷ []) ∷ [] }
+plan_of is = record {
+  program = record { blocks = record { inputs = 1; outputs = 1; slots = 2; instrs = is } ∷ []; arrays = []; main = 0 };
+  plain = 1;
+  marks = (Unmarked ∷ Unmarked ∷ OfCond 1 ∷ OfCond 1 ∷ []) ∷ [];
+}
 
 abbrev block_of : Plan → Option CodeBlock
 block_of p = slice_get p.program.blocks 0
@@ -64,8 +69,10 @@ ends_or x e = (or, (subst (λ (n : ℕ). instr_in (block_of chain) n ≡ Some or
 
 and_after_or : AllAfter chain 0 1 0
 and_after_or q is =
-    subst (λ (n : ℕ). IsAfter (arcs_in chain (block_of chain)) (IsEnd (block_of chain) 0) (inlet n q.port)) (sym (place_of_and q.place (numbered (block_of chain) 1 q.place is.0 is.1)))
-    (both_follow (arcs_in chain (block_of chain)) (IsEnd (block_of chain) 0) 3 (arc 2 false (inlet 3 Left)) (arc 2 false (inlet 3 Right)) (2, omega arith, refl) refl (3, omega arith, refl) refl
+    subst (λ (n : ℕ). IsAfter (arcs_in chain (block_of chain)) (IsEnd (block_of chain) 0) (inlet n q.port))
+    (sym (place_of_and q.place (numbered (block_of chain) 1 q.place is.0 is.1)))
+    (both_follow (arcs_in chain (block_of chain)) (IsEnd (block_of chain) 0) 3 (arc 2 false (inlet 3 Left)) (arc 2 false (inlet 3 Right))
+    (2, omega arith, refl) refl (3, omega arith, refl) refl
     (λ y there to. ends_or y (All-contains StartsAtOr (arcs_in chain (block_of chain)) y arcs_to_and there to)) q.port)
 
 chain_may_share : MayShare chain 0 0 1
@@ -73,7 +80,8 @@ chain_may_share = inr (inr and_after_or)
 
 -- ON TWO SIDES of one conditional: a switch, an `add` on its true side and a `mul` on its false side
 abbrev choice : Plan
-choice = plan_of (instr Copy 0 [] [] ∷ instr Copy 0 (l 1 ∷ r 1 ∷ []) [] ∷ instr Switch 2 (l 1 ∷ r 1 ∷ []) (l 2 ∷ r 2 ∷ []) ∷ instr (Apply2 B.Add) 0 [] [] ∷ instr (Apply2 B.Mul) 1 [] [] ∷ [])
+choice = plan_of (instr Copy 0 [] [] ∷ instr Copy 0 (l 1 ∷ r 1 ∷ []) [] ∷ instr Switch 2 (l 1 ∷ r 1 ∷ []) (l 2 ∷ r 2 ∷ [])
+    ∷ instr (Apply2 B.Add) 0 [] [] ∷ instr (Apply2 B.Mul) 1 [] [] ∷ [])
 
 place_of_add : (n : ℕ) → slot_used (instr_in (block_of choice) n) ≡ Some 0 → n ≡ 3
 place_of_add zero e = cc
@@ -95,24 +103,30 @@ abbrev BySwitch : ℕ → Bool → Arc → Type 0
 BySwitch n second x = x.to.place ≡ n → (x.from ≡ 2) × (x.second ≡ second)
 
 arcs_to_add : All (BySwitch 3 false) (arcs_in choice (block_of choice))
-arcs_to_add = All-from_recursion (BySwitch 3 false) (arcs_in choice (block_of choice)) ((λ e. (cc, cc)), ((λ e. (cc, cc)), ((λ e. (refl, refl)), ((λ e. (refl, refl)), ((λ e. (cc, cc)), ((λ e. (cc, cc)), tt))))))
+arcs_to_add = All-from_recursion (BySwitch 3 false) (arcs_in choice (block_of choice))
+    ((λ e. (cc, cc)), ((λ e. (cc, cc)), ((λ e. (refl, refl)), ((λ e. (refl, refl)), ((λ e. (cc, cc)), ((λ e. (cc, cc)), tt))))))
 
 arcs_to_mul : All (BySwitch 4 true) (arcs_in choice (block_of choice))
-arcs_to_mul = All-from_recursion (BySwitch 4 true) (arcs_in choice (block_of choice)) ((λ e. (cc, cc)), ((λ e. (cc, cc)), ((λ e. (cc, cc)), ((λ e. (cc, cc)), ((λ e. (refl, refl)), ((λ e. (refl, refl)), tt))))))
+arcs_to_mul = All-from_recursion (BySwitch 4 true) (arcs_in choice (block_of choice))
+    ((λ e. (cc, cc)), ((λ e. (cc, cc)), ((λ e. (cc, cc)), ((λ e. (cc, cc)), ((λ e. (refl, refl)), ((λ e. (refl, refl)), tt))))))
 
 on_side : (side : Bool) (x : Arc) → (x.from ≡ 2) × (x.second ≡ not side) → IsSide choice 0 (OfCond 1) side x
 on_side side x e = (ap (λ (n : ℕ). mark_at choice 0 n) e.0, (λ same. cc), e.1)
 
 add_on_true : AllOnSide choice 0 0 (OfCond 1) true
 add_on_true q is =
-    subst (λ (n : ℕ). IsAfter (arcs_in choice (block_of choice)) (IsSide choice 0 (OfCond 1) true) (inlet n q.port)) (sym (place_of_add q.place (numbered (block_of choice) 0 q.place is.0 is.1)))
-    (both_follow (arcs_in choice (block_of choice)) (IsSide choice 0 (OfCond 1) true) 3 (arc 2 false (inlet 3 Left)) (arc 2 false (inlet 3 Right)) (2, omega arith, refl) refl (3, omega arith, refl) refl
+    subst (λ (n : ℕ). IsAfter (arcs_in choice (block_of choice)) (IsSide choice 0 (OfCond 1) true) (inlet n q.port))
+    (sym (place_of_add q.place (numbered (block_of choice) 0 q.place is.0 is.1)))
+    (both_follow (arcs_in choice (block_of choice)) (IsSide choice 0 (OfCond 1) true) 3 (arc 2 false (inlet 3 Left)) (arc 2 false (inlet 3 Right))
+    (2, omega arith, refl) refl (3, omega arith, refl) refl
     (λ y there to. on_side true y (All-contains (BySwitch 3 false) (arcs_in choice (block_of choice)) y arcs_to_add there to)) q.port)
 
 mul_on_false : AllOnSide choice 0 1 (OfCond 1) false
 mul_on_false q is =
-    subst (λ (n : ℕ). IsAfter (arcs_in choice (block_of choice)) (IsSide choice 0 (OfCond 1) false) (inlet n q.port)) (sym (place_of_mul q.place (numbered (block_of choice) 1 q.place is.0 is.1)))
-    (both_follow (arcs_in choice (block_of choice)) (IsSide choice 0 (OfCond 1) false) 4 (arc 2 true (inlet 4 Left)) (arc 2 true (inlet 4 Right)) (4, omega arith, refl) refl (5, omega arith, refl) refl
+    subst (λ (n : ℕ). IsAfter (arcs_in choice (block_of choice)) (IsSide choice 0 (OfCond 1) false) (inlet n q.port))
+    (sym (place_of_mul q.place (numbered (block_of choice) 1 q.place is.0 is.1)))
+    (both_follow (arcs_in choice (block_of choice)) (IsSide choice 0 (OfCond 1) false) 4 (arc 2 true (inlet 4 Left)) (arc 2 true (inlet 4 Right))
+    (4, omega arith, refl) refl (5, omega arith, refl) refl
     (λ y there to. on_side false y (All-contains (BySwitch 4 true) (arcs_in choice (block_of choice)) y arcs_to_mul there to)) q.port)
 
 arms_may_share : MayShare choice 0 0 1
@@ -133,7 +147,8 @@ others : ◌≡◌ {A = ℕ} 3 1 → ⊥
 others e = omega (arith, e)
 
 arcs_from_input : All FromInput (arcs_in parallel (block_of parallel))
-arcs_from_input = All-from_recursion FromInput (arcs_in parallel (block_of parallel)) ((refl, λ e. numbers e), ((refl, λ e. numbers e), ((refl, λ e. others e), ((refl, λ e. others e), tt))))
+arcs_from_input = All-from_recursion FromInput (arcs_in parallel (block_of parallel))
+    ((refl, λ e. numbers e), ((refl, λ e. numbers e), ((refl, λ e. others e), ((refl, λ e. others e), tt))))
 
 from_input : (x : Arc) → Contains (arcs_in parallel (block_of parallel)) x → FromInput x
 from_input x there = All-contains FromInput (arcs_in parallel (block_of parallel)) x arcs_from_input there
@@ -141,7 +156,8 @@ from_input x there = All-contains FromInput (arcs_in parallel (block_of parallel
 input_follows_nothing : (chosen : Arc → Type 0) (q : Inlet) → q.place ≡ 1 → IsAfter (arcs_in parallel (block_of parallel)) chosen q → ⊥
 input_follows_nothing chosen q e (is_after _ x there to all) = (from_input x there).1 (ap (λ (p : Inlet). p.place) to ∙ e)
 
-input_leads_nothing : (chosen : Arc → Type 0) → ((x : Arc) → x.from ≡ 1 → chosen x → ⊥) → (x : Arc) → x.from ≡ 1 → Leads (arcs_in parallel (block_of parallel)) chosen x → ⊥
+input_leads_nothing : (chosen : Arc → Type 0) → ((x : Arc) → x.from ≡ 1 → chosen x → ⊥) → (x : Arc) → x.from ≡ 1
+    → Leads (arcs_in parallel (block_of parallel)) chosen x → ⊥
 input_leads_nothing chosen none x e (by_choice _ is) = none x e is
 input_leads_nothing chosen none x e (by_port _ side after) = input_follows_nothing chosen (inlet x.from side) e after
 

@@ -10,4 +10,5 @@ pub put_other : {A : Type 0} (f : ℕ → A) (x y : ℕ) (a : A) → (x ≡ y �
 put_other f x y a h = rw (ne_eqb x y h)
 
 pub slot_filled : (s : MStore) (f r : ℕ) (v : SlotState) → (with_slot s f r v).slots f r ≡ v
-slot_filled s f r v = ap (λ (b : Bool). (if b then put_at (s.slots f) r v else s.slots f) r) (eq-eqb f f refl) ∙ ap (λ (b : Bool). if b then v else s.slots f r) (eq-eqb r r refl)
+slot_filled s f r v = ap (λ (b : Bool). (if b then put_at (s.slots f) r v else s.slots f) r) (eq-eqb f f refl)
+    ∙ ap (λ (b : Bool). if b then v else s.slots f r) (eq-eqb r r refl)

@@ -18,10 +18,18 @@ abbrev lf : List ℕ
 lf = 10 ∷ []
 
 abbrev sums : Graph
-sums = record { version = 1; arrays = []; blocks = (codes "m", record { inputs = 2; outputs = 1; nodes = record { region = Root; kind = Apply2 B.Add; sources = two 0 1 } ∷ []; results = one 2 }) ∷ []; main = codes "m" }
+sums = record {
+  version = 1;
+  arrays = [];
+  blocks =
+      (codes "m", record { inputs = 2; outputs = 1; nodes = record { region = Root; kind = Apply2 B.Add; sources = two 0 1 } ∷ []; results = one 2 })
+      ∷ [];
+  main = codes "m";
+}
 
 -- the text of a graph that adds its two inputs
-text_of_sums : text_of sums ≡ codes "etsgraph 1" ++ lf ++ codes "block m 2 1" ++ lf ++ codes "- add 0.0 1.0" ++ lf ++ codes "out 2.0" ++ lf ++ codes "end" ++ lf ++ codes "main m" ++ lf
+text_of_sums : text_of sums ≡ codes "etsgraph 1" ++ lf ++ codes "block m 2 1" ++ lf ++ codes "- add 0.0 1.0" ++ lf ++ codes "out 2.0" ++ lf
+    ++ codes "end" ++ lf ++ codes "main m" ++ lf
 unfolding digits
 text_of_sums = refl
 
@@ -51,10 +59,17 @@ bytes_of_sums = refl
 
 -- an operator with the second literal as its right operand and an origin: opcode 4, flag 1, 5 ahead on the right; the
 -- literal's number, and above it 1 + 1024 * 2 + 3
-words_of_flagged : instr_words (negsuc 8 ∷ negsuc 6 ∷ []) record { op = Apply2Right B.Div (negsuc 6); origin = At 2 3; slot = 0; firsts = right 5; seconds = none }
+words_of_flagged : instr_words (negsuc 8 ∷ negsuc 6 ∷ []) record {
+  op = Apply2Right B.Div (negsuc 6);
+  origin = At 2 3;
+  slot = 0;
+  firsts = right 5;
+  seconds = none;
+}
     ≡ (4 + 256 + 4294967296 * 32773) ∷ (1 + 4294967296 * 2052) ∷ []
 words_of_flagged = refl
 
 -- entry 1 of block 3
-operand_of_send : instr_words [] record { op = Send 3 1; origin = At 0 0; slot = 7; firsts = none; seconds = none } ≡ (25 + 65536 * 7) ∷ (1 + 65536 * 3 + 4294967296) ∷ []
+operand_of_send : instr_words [] record { op = Send 3 1; origin = At 0 0; slot = 7; firsts = none; seconds = none } ≡ (25 + 65536 * 7)
+    ∷ (1 + 65536 * 3 + 4294967296) ∷ []
 operand_of_send = refl

@@ -25,7 +25,8 @@ abbrev chooses : Block (List ℕ)
 chooses = record {
   inputs = 2;
   outputs = 1;
-  nodes = line Root (Apply2 B.Div) (two 0 1) ∷ line Root Cond (one 2) ∷ line (Arm 3 true) Enter (one 0) ∷ line (Arm 3 false) Enter (one 1) ∷ line (Arm 3 false) (Apply1 U.Neg) (one 5)
+  nodes = line Root (Apply2 B.Div) (two 0 1) ∷ line Root Cond (one 2) ∷ line (Arm 3 true) Enter (one 0) ∷ line (Arm 3 false) Enter (one 1)
+      ∷ line (Arm 3 false) (Apply1 U.Neg) (one 5)
       ∷ line Root (Merge 3) (two 4 6) ∷ [];
   results = one 7;
 }
@@ -84,7 +85,8 @@ each_line (suc (suc (suc (suc (suc zero))))) node e = subst (λ (x : Node (List 
 each_line (suc (suc (suc (suc (suc (suc m)))))) node e = cc
 
 -- and so each node that is a line
-line_at : (n : ℕ) (t : Bool) → nat_lt n 2 ≡ t → (node : Node (List ℕ)) → (if t then None else slice_get chooses.nodes (n - 2)) ≡ Some node → IsNodeWell graph chooses n node
+line_at : (n : ℕ) (t : Bool) → nat_lt n 2 ≡ t → (node : Node (List ℕ)) → (if t then None else slice_get chooses.nodes (n - 2)) ≡ Some node
+    → IsNodeWell graph chooses n node
 line_at n true at node e = cc
 line_at n false at node e =
     let same : (n - 2) + 2 ≡ n = grind (arith, at) in
@@ -113,7 +115,8 @@ graph_is_well = record {
   arrays_differ = λ i j x e f. cc;
   blocks_differ = one_name;
   main = (0, omega arith, refl);
-  blocks = All-cons (λ (named : List ℕ × Block (List ℕ)). IsBlockWell graph named.1) (name, chooses) [] block_is_well (All-nil (λ (named : List ℕ × Block (List ℕ)). IsBlockWell graph named.1));
+  blocks = All-cons (λ (named : List ℕ × Block (List ℕ)). IsBlockWell graph named.1) (name, chooses) [] block_is_well
+      (All-nil (λ (named : List ℕ × Block (List ℕ)). IsBlockWell graph named.1));
 }
 
 -- NOT WELL: an arc goes from one arm to the other, or into an arm without an `enter`

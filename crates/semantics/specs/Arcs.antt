@@ -52,6 +52,7 @@ pub record UsesArc (p : Plan) (f ip : ℕ) (q : Port) (taken : Token) (made : Li
   pub uses : UsesBy p f ip q i i.op t new
 
 -- some event of the run is of that kind, which is given what it took, what it made, and the state after it
-abbrev pub SomeEvent : (K : Token → List Token → Machine → Type 0) (p : Program) (z : Size) (old : Machine) (events : Events) (new : Machine) → Run p z old events new → Type 0
+abbrev pub SomeEvent : (K : Token → List Token → Machine → Type 0) (p : Program) (z : Size) (old : Machine) (events : Events) (new : Machine)
+    → Run p z old events new → Type 0
 SomeEvent K p z old [] new run = ⊥
 SomeEvent K p z old (ev ∷ later) new run = K ev.1 run.1.made run.0 ⊎ SomeEvent K p z run.0 later new run.2

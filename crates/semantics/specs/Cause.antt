@@ -1,5 +1,6 @@
 -- Why a run asks: its frame requests and credits are for invocations that the meaning calls for, and loops keep their bounds.
-use Rattle.std.specs.Prelude.{◌≡◌, ◌≢◌, ℕ, ◌+◌, ◌≤◌, Bool, true, false, ℤ, List, [], ◌∷◌, ◌++◌, map, length, Option, Some, None, slice_get, ◌==◌, if◌then◌else◌, flat_map, IsPermutation, All, count_by, sum, nat_lt}
+use Rattle.std.specs.Prelude.{◌≡◌, ◌≢◌, ℕ, ◌+◌, ◌≤◌, Bool, true, false, ℤ, List, [], ◌∷◌, ◌++◌, map, length, Option, Some, None, slice_get, ◌==◌}
+use Rattle.std.specs.Prelude.{if◌then◌else◌, flat_map, IsPermutation, All, count_by, sum, nat_lt}
 use Rattle.tags.specs.declared.token.To.{To}
 use Rattle.tags.specs.declared.token.Token.{Token}
 use Rattle.semantics.specs.declared.graph.Kind.{Kind}
@@ -89,4 +90,5 @@ coded_blocks fl = fl.blocks ++ looped_from fl 0 fl.blocks
 
 abbrev pub HasBounds : Flow → Program → Type 0
 HasBounds fl p = (length p.blocks ≡ length (coded_blocks fl))
-    × ((b : ℕ) (c : CodeBlock) (g : Block ℕ) → slice_get p.blocks b ≡ Some c → slice_get (coded_blocks fl) b ≡ Some g → IsPermutation (open_bounds c) (loop_bounds g))
+    × ((b : ℕ) (c : CodeBlock) (g : Block ℕ) → slice_get p.blocks b ≡ Some c → slice_get (coded_blocks fl) b ≡ Some g
+    → IsPermutation (open_bounds c) (loop_bounds g))

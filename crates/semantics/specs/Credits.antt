@@ -97,7 +97,8 @@ pub record KeepsBound (p : Plan) (q : Program) (z : Size) (inputs : List ℤ) (f
   pub never_above : (loop : Holder) (k ip s : ℕ) → IsPart p q loop (Open k) ip s
       → (base : ℕ) × IsLoop p q loop k s base × (granted p q f loop z t.first t.part m t.run ≤ released q f base z t.first t.part m t.run + k)
   pub all_granted : (s : ℕ) (c : Cont) → Resting m → m.store.slots f s ≡ Waiter c
-      → (loop : Holder) × (k : ℕ) × (base : ℕ) × IsLoop p q loop k s base × (granted p q f loop z t.first t.part m t.run ≡ released q f base z t.first t.part m t.run + k)
+      → (loop : Holder) × (k : ℕ) × (base : ℕ) × IsLoop p q loop k s base
+      × (granted p q f loop z t.first t.part m t.run ≡ released q f base z t.first t.part m t.run + k)
 
 abbrev pub KeepsBounds : Flow → Plan → List (List ℕ) → Type 0
 KeepsBounds fl p slots = (inputs : List ℤ) (z : Size) (events : Events) (m : Machine) (f : ℕ) → IsRun fl (placed p slots) inputs z events m

@@ -31,7 +31,8 @@ UsesEachOnce p z inputs events m run = EachOnce (0 ∷ handed p z (at_start p in
 abbrev pub IsJustOut : Program → Size → List ℤ → ℕ → Machine → Type 0
 IsJustOut p z inputs f first =
     ((f ≡ 0) × (first ≡ at_start p inputs))
-    ⊎ ((before : Events) × (old : Machine) × (e : ℕ) × (t : Token) × (out : Event p z e t old first) × Run p z (at_start p inputs) before old × Contains (handed_by t.to out.made) f)
+    ⊎ ((before : Events) × (old : Machine) × (e : ℕ) × (t : Token) × (out : Event p z e t old first) × Run p z (at_start p inputs) before old
+    × Contains (handed_by t.to out.made) f)
 
 -- no release of the frame is taken
 abbrev pub NoRelease : ℕ → Events → Type 0

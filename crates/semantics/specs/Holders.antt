@@ -23,7 +23,8 @@ holder_of b (Some h) = Some record { block = b; number = h }
 
 abbrev pub holder_from : ℕ → List CodeBlock → ℕ → Option Holder
 holder_from b [] ip = None
-holder_from b (c ∷ cs) ip = if nat_lt ip (length c.instrs) then holder_of b (slot_used (slice_get c.instrs ip)) else holder_from (b + 1) cs (ip - length c.instrs)
+holder_from b (c ∷ cs) ip = if nat_lt ip (length c.instrs) then holder_of b (slot_used (slice_get c.instrs ip)) else holder_from (b + 1) cs
+    (ip - length c.instrs)
 
 abbrev pub holder_at : Plan → ℕ → Option Holder
 holder_at p ip = holder_from 0 p.program.blocks ip
@@ -43,16 +44,20 @@ uses_slot s None = false
 uses_slot s (Some r) = r == s
 
 abbrev pub held_by_event : Plan → Program → ℕ → ℕ → Option Holder → To → Store → Option Holder
-held_by_event p q f s before (To.Instr g ip port) new = if (g == f) && uses_slot s (slot_used (instr_at q ip)) then held_after before (holder_at p ip) (new.slots f s) else before
+held_by_event p q f s before (To.Instr g ip port) new = if (g == f) && uses_slot s (slot_used (instr_at q ip)) then held_after before (holder_at p ip)
+    (new.slots f s) else before
 held_by_event p q f s before to new = before
 
 -- who holds slot s of frame f after a run, if it was held so before
-abbrev pub holds : (p : Plan) (q : Program) (f s : ℕ) (before : Option Holder) (z : Size) (old : Machine) (events : Events) (new : Machine) → Run q z old events new → Option Holder
+abbrev pub holds : (p : Plan) (q : Program) (f s : ℕ) (before : Option Holder) (z : Size) (old : Machine) (events : Events) (new : Machine)
+    → Run q z old events new → Option Holder
 holds p q f s before z old [] new run = before
 holds p q f s before z old (ev ∷ later) new run = holds p q f s (held_by_event p q f s before ev.1.to run.0.store) z run.0 later new run.2
 
 -- Two holders that share a slot never hold it at one moment: an event of a holder finds the slot held by none or by itself.
 abbrev pub HoldsAlone : Flow → Plan → List (List ℕ) → Type 0
 HoldsAlone fl p slots = (inputs : List ℤ) (z : Size) (events : Events) (m next : Machine) (e : ℕ) (t : Token) (r : IsRun fl (placed p slots) inputs z events m)
-    → Event (placed p slots) z e t m next → (f ip s : ℕ) (q : Port) (h : Holder) → t.to ≡ To.Instr f ip q → holder_at p ip ≡ Some h → slot_used (instr_at (placed p slots) ip) ≡ Some s
-    → (holds p (placed p slots) f s None z (at_start (placed p slots) inputs) events m r.run ≡ None) ⊎ (holds p (placed p slots) f s None z (at_start (placed p slots) inputs) events m r.run ≡ Some h)
+    → Event (placed p slots) z e t m next → (f ip s : ℕ) (q : Port) (h : Holder) → t.to ≡ To.Instr f ip q → holder_at p ip ≡ Some h
+    → slot_used (instr_at (placed p slots) ip) ≡ Some s
+    → (holds p (placed p slots) f s None z (at_start (placed p slots) inputs) events m r.run ≡ None) ⊎
+    (holds p (placed p slots) f s None z (at_start (placed p slots) inputs) events m r.run ≡ Some h)

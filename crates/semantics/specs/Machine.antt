@@ -1,6 +1,7 @@
 -- The machine: what it holds, its events, and its runs. An event takes one token that is addressed to an element,
 -- changes only that element's part, and makes tokens.
-use Rattle.std.specs.Prelude.{◌≡◌, ◌≢◌, ℕ, ◌+◌, ◌*◌, ◌<◌, Bool, true, false, ◌⊎◌, ℤ, List, [], ◌∷◌, ◌++◌, map, length, Option, Some, None, nat_lt, ◌==◌, slice_get, if◌then◌else◌, IsPermutation}
+use Rattle.std.specs.Prelude.{◌≡◌, ◌≢◌, ℕ, ◌+◌, ◌*◌, ◌<◌, Bool, true, false, ◌⊎◌, ℤ, List, [], ◌∷◌, ◌++◌, map, length, Option, Some, None, nat_lt}
+use Rattle.std.specs.Prelude.{◌==◌, slice_get, if◌then◌else◌, IsPermutation}
 use Rattle.tags.specs.declared.value.Value.{Value}
 use Rattle.tags.specs.declared.value.Value.TheVariants.{Int}
 use Rattle.tags.specs.declared.token.Port.TheVariants.{Left}
@@ -44,7 +45,15 @@ abbrev pub put_at : {A : Type 0} → (ℕ → A) → ℕ → A → ℕ → A
 put_at f x a y = if x == y then a else f y
 
 abbrev pub with_slot : Store → ℕ → ℕ → SlotState → Store
-with_slot s f r v = record { slots = put_at s.slots f (put_at (s.slots f) r v); cells = s.cells; out = s.out; requests = s.requests; outputs = s.outputs; done = s.done }
+with_slot s f r v = record {
+  slots = put_at s.slots f (put_at (s.slots f) r v);
+  cells = s.cells;
+  out = s.out;
+  requests = s.requests;
+  outputs =
+      s.outputs;
+  done = s.done;
+}
 
 abbrev pub with_cell : Store → ℕ → CellState → Store
 with_cell s x v = record { slots = s.slots; cells = put_at s.cells x v; out = s.out; requests = s.requests; outputs = s.outputs; done = s.done }
@@ -122,7 +131,8 @@ outputs_of p = results_in (slice_get p.blocks p.main)
 
 abbrev pub Happens : Program → ℕ → Store → To → Word → List Token → Store → Type 0
 Happens p total old (To.Instr f ip port) w made new =
-    Fires old f (slot_used (instr_at p ip)) (rule_at p record { frame = f; ip = ip } (instr_at p ip) (slot_in old f (slot_used (instr_at p ip))) port w) made new
+    Fires old f (slot_used (instr_at p ip)) (rule_at p record { frame = f; ip = ip } (instr_at p ip) (slot_in old f (slot_used (instr_at p ip))) port
+    w) made new
 Happens p total old (To.Fetch x) (Word.Back c) made new = Fetches old x c (old.cells x) made new
 Happens p total old (To.Store x v) (Word.Back c) made new = Stores old x v c (old.cells x) made new
 Happens p total old To.Manager (Word.Back c) made new = Requests total old c made new

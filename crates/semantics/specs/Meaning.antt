@@ -1,5 +1,6 @@
 -- What a graph means: tagged tokens, contexts without limit, and one activity at a time in any order.
-use Rattle.std.specs.Prelude.{◌≡◌, ℕ, zero, suc, ◌+◌, ◌-◌, ◌<◌, Bool, true, false, not, ◌&&◌, ◌⊎◌, ℤ, List, [], ◌∷◌, ◌++◌, map, length, Option, Some, None, nat_lt, ◌==◌, slice_get, if◌then◌else◌, flat_map, count_by, Contains, IsPermutation, ⊤}
+use Rattle.std.specs.Prelude.{◌≡◌, ℕ, zero, suc, ◌+◌, ◌-◌, ◌<◌, Bool, true, false, not, ◌&&◌, ◌⊎◌, ℤ, List, [], ◌∷◌, ◌++◌, map, length, Option}
+use Rattle.std.specs.Prelude.{Some, None, nat_lt, ◌==◌, slice_get, if◌then◌else◌, flat_map, count_by, Contains, IsPermutation, ⊤}
 use Rattle.tags.specs.declared.value.Value.{Value}
 use Rattle.tags.specs.declared.value.Value.TheVariants.{Int}
 use Rattle.tags.specs.declared.value.Origin.{Origin}
@@ -181,7 +182,8 @@ is_enter_of k r kind = false
 
 abbrev pub predicates_from : Context → ℕ → Value → ℕ → List (Node ℕ) → List Tagged
 predicates_from c k v m [] = []
-predicates_from c k v m (n ∷ ns) = if is_enter_of k n.region n.kind then tagged c (AtNode m) Predicate v ∷ predicates_from c k v (m + 1) ns else predicates_from c k v (m + 1) ns
+predicates_from c k v m (n ∷ ns) = if is_enter_of k n.region n.kind then tagged c (AtNode m) Predicate v
+    ∷ predicates_from c k v (m + 1) ns else predicates_from c k v (m + 1) ns
 
 abbrev pub predicates_in : Option (Block ℕ) → Context → ℕ → Value → List Tagged
 predicates_in None c k v = []

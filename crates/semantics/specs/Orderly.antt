@@ -1,5 +1,6 @@
 -- What names a frame, what a release finds, and what holds of a run over a plan that hands out each frame once.
-use Rattle.std.specs.Prelude.{◌≡◌, ◌≢◌, ℕ, ◌+◌, ◌-◌, ◌<◌, ◌≤◌, Bool, true, false, ◌&&◌, ℤ, List, [], ◌∷◌, ◌++◌, map, length, Option, Some, None, slice_get, nat_lt, if◌then◌else◌, ◌==◌, count_by, Contains, IsPermutation}
+use Rattle.std.specs.Prelude.{◌≡◌, ◌≢◌, ℕ, ◌+◌, ◌-◌, ◌<◌, ◌≤◌, Bool, true, false, ◌&&◌, ℤ, List, [], ◌∷◌, ◌++◌, map, length, Option, Some, None}
+use Rattle.std.specs.Prelude.{slice_get, nat_lt, if◌then◌else◌, ◌==◌, count_by, Contains, IsPermutation}
 use Rattle.tags.specs.declared.token.Port.{Port}
 use Rattle.tags.specs.declared.token.Port.TheVariants.{Left, Right}
 use Rattle.tags.specs.declared.token.Cont.{Cont}
@@ -87,7 +88,8 @@ same_block (b ∷ bs) ip jp = if nat_lt ip (length b.instrs) then nat_lt jp (len
 
 -- the instruction of that number carries the mark
 abbrev pub IsMarked : Plan → ℕ → Mark → Type 0
-IsMarked p ip m = (b : ℕ) × (n : ℕ) × (c : CodeBlock) × (slice_get p.program.blocks b ≡ Some c) × (n < length c.instrs) × (ip ≡ first_of p.program b + n) × (mark_at p b n ≡ m) × (m ≢ Unmarked)
+IsMarked p ip m = (b : ℕ) × (n : ℕ) × (c : CodeBlock) × (slice_get p.program.blocks b ≡ Some c) × (n < length c.instrs)
+    × (ip ≡ first_of p.program b + n) × (mark_at p b n ≡ m) × (m ≢ Unmarked)
 
 -- ORDERLY. In such a run a frame has one invocation, and so all that arrives at the frame is that invocation's.
 pub record IsOrderlyRun (p : Plan) (z : Size) (old : Machine) (events : Events) (new : Machine) (run : Run p.program z old events new) : Type 0 where
@@ -100,7 +102,8 @@ pub record IsOrderlyRun (p : Plan) (z : Size) (old : Machine) (events : Events) 
   pub agree : (f ip jp : ℕ) (m : Mark) (v w : Word) → IsMarked p ip m → IsMarked p jp m → same_block p.program.blocks ip jp ≡ true
       → Contains (met events new) (token (To.Instr f ip Right) v) → Contains (met events new) (token (To.Instr f jp Right) w) → v ≡ w
   -- one block runs in a frame
-  pub block : (f ip jp : ℕ) (q r : Port) (v w : Word) → Contains (met events new) (token (To.Instr f ip q) v) → Contains (met events new) (token (To.Instr f jp r) w)
+  pub block : (f ip jp : ℕ) (q r : Port) (v w : Word) → Contains (met events new) (token (To.Instr f ip q) v)
+      → Contains (met events new) (token (To.Instr f jp r) w)
       → same_block p.program.blocks ip jp ≡ true
   -- no token is excluded by a rule
   pub matching : (t : Token) → Contains new.pool t → stuck_rule p.program new.store t.to t.word ≡ None

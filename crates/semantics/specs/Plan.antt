@@ -81,4 +81,5 @@ pub record IsPlanBlock (c : CodeBlock) : Type 0 where
 -- the marks are those of the switches
 pub record IsPlan (p : Plan) : Type 0 where
   pub blocks : All IsPlanBlock p.program.blocks
-  pub marked : (b n : ℕ) (c : CodeBlock) (i : Instr) → slice_get p.program.blocks b ≡ Some c → slice_get c.instrs n ≡ Some i → i.op ≡ Switch → mark_at p b n ≢ Unmarked
+  pub marked : (b n : ℕ) (c : CodeBlock) (i : Instr) → slice_get p.program.blocks b ≡ Some c → slice_get c.instrs n ≡ Some i → i.op ≡ Switch
+      → mark_at p b n ≢ Unmarked

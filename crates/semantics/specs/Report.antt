@@ -1,5 +1,6 @@
 -- What a report says of a run.
-use Rattle.std.specs.Prelude.{◌≡◌, ◌↔◌, ℕ, zero, suc, ◌+◌, ◌*◌, ◌<◌, ◌≤◌, Bool, true, false, ◌⊎◌, ℤ, List, length, Option, Some, slice_get, ◌==◌, Contains, count_by, ⊤}
+use Rattle.std.specs.Prelude.{◌≡◌, ◌↔◌, ℕ, zero, suc, ◌+◌, ◌*◌, ◌<◌, ◌≤◌, Bool, true, false, ◌⊎◌, ℤ, List, length, Option, Some, slice_get, ◌==◌}
+use Rattle.std.specs.Prelude.{Contains, count_by, ⊤}
 use Rattle.tags.specs.declared.value.Value.{Value}
 use Rattle.semantics.specs.declared.report.End.{End}
 use Rattle.semantics.specs.declared.report.End.TheVariants.{Rest, Starved, Clash, Steps, Stuck, Memory, Stop}

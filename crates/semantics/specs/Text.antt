@@ -1,5 +1,6 @@
 -- The one text of a graph, and which graphs have one.
-use Rattle.std.specs.Prelude.{◌≡◌, ℕ, ◌+◌, ◌^◌, ◌<◌, ◌≤◌, true, false, ◌⊎◌, ℤ, pos, negsuc, List, [], ◌∷◌, ◌++◌, map, length, sum, flat_map, decimal, codes, All, FitsSigned, ⊤}
+use Rattle.std.specs.Prelude.{◌≡◌, ℕ, ◌+◌, ◌^◌, ◌<◌, ◌≤◌, true, false, ◌⊎◌, ℤ, pos, negsuc, List, [], ◌∷◌, ◌++◌, map, length, sum, flat_map}
+use Rattle.std.specs.Prelude.{decimal, codes, All, FitsSigned, ⊤}
 use Rattle.std.specs.Int.{w64}
 use Rattle.operators.specs.declared.Unary.{Unary}
 use Rattle.operators.specs.declared.Unary.TheVariants.{Neg, Not}

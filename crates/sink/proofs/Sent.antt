@@ -1,5 +1,6 @@
 -- One item sent after another.
-use Rattle.std.proofs.Common.{◌≡◌, ℕ, ◌+◌, ◌<◌, ◌≤◌, List, [], ◌∷◌, ◌++◌, length, get_or, take, drop, Option, Some, None, Result, Ok, Err, sym, ap, ◌∙◌, subst, append_assoc, take-append-drop}
+use Rattle.std.proofs.Common.{◌≡◌, ℕ, ◌+◌, ◌<◌, ◌≤◌, List, [], ◌∷◌, ◌++◌, length, get_or, take, drop, Option, Some, None, Result, Ok, Err, sym, ap}
+use Rattle.std.proofs.Common.{◌∙◌, subst, append_assoc, take-append-drop}
 use Rattle.std.specs.Prelude.{⊤}
 use Rattle.std.specs.Io.KnownBytes.{Appends, Keeps}
 use Rattle.sink.specs.Sends.{Sends}
@@ -55,26 +56,36 @@ sends_whole (Err d) x a b bs e q = absurd cc
 
 -- ---- one item after another in a loop
 
-pub loop_more : {X : Type 0} (text : X → List ℕ) (xs : List X) (i : ℕ) (x : X) (a b c : Option (List ℕ)) → i < length xs → Appends a b (flat_map text (take i xs)) → Appends b c (text (get_or xs i x)) → Appends a c (flat_map text (take (i + 1) xs))
+pub loop_more : {X : Type 0} (text : X → List ℕ) (xs : List X) (i : ℕ) (x : X) (a b c : Option (List ℕ)) → i < length xs
+    → Appends a b (flat_map text (take i xs)) → Appends b c (text (get_or xs i x)) → Appends a c (flat_map text (take (i + 1) xs))
 loop_more text xs i d a b c lt p q =
     let x = get_or xs i d in
-    let same : flat_map text (take (i + 1) xs) ≡ flat_map text (take i xs) ++ text x = ap (flat_map text) (take_more xs i d lt) ∙ flat_map-append text (take i xs) (x ∷ []) ∙ ap (λ (l : List ℕ). flat_map text (take i xs) ++ l) (flat_map-cons text x [] ∙ append-nil (text x)) in
+    let same : flat_map text (take (i + 1) xs) ≡ flat_map text (take i xs) ++ text x = ap (flat_map text) (take_more xs i d lt)
+    ∙ flat_map-append text (take i xs) (x ∷ []) ∙ ap (λ (l : List ℕ). flat_map text (take i xs) ++ l) (flat_map-cons text x [] ∙ append-nil (text x)) in
     subst (Appends a c) (sym same) (appends_then a b c (flat_map text (take i xs)) (text x) p q)
 
-pub loop_stop : {X E : Type 0} (text : X → List ℕ) (xs : List X) (i : ℕ) (x : X) (e : E) (a b c : Option (List ℕ)) → i < length xs → Appends a b (flat_map text (take i xs)) → Sends (Err e) b c (text (get_or xs i x)) → Sends (Err e) a c (flat_map text xs)
+pub loop_stop : {X E : Type 0} (text : X → List ℕ) (xs : List X) (i : ℕ) (x : X) (e : E) (a b c : Option (List ℕ)) → i < length xs
+    → Appends a b (flat_map text (take i xs)) → Sends (Err e) b c (text (get_or xs i x)) → Sends (Err e) a c (flat_map text xs)
 loop_stop text xs i d e a b c lt p q =
     let x = get_or xs i d in
-    let same : flat_map text (take (i + 1) xs) ≡ flat_map text (take i xs) ++ text x = ap (flat_map text) (take_more xs i d lt) ∙ flat_map-append text (take i xs) (x ∷ []) ∙ ap (λ (l : List ℕ). flat_map text (take i xs) ++ l) (flat_map-cons text x [] ∙ append-nil (text x)) in
-    let whole : flat_map text xs ≡ (flat_map text (take i xs) ++ text x) ++ flat_map text (drop (i + 1) xs) = ap (flat_map text) (sym (take-append-drop (i + 1) xs)) ∙ flat_map-append text (take (i + 1) xs) (drop (i + 1) xs) ∙ ap (λ (l : List ℕ). l ++ flat_map text (drop (i + 1) xs)) same in
-    subst (Sends (Err e) a c) (sym whole) (sends_less e a c (flat_map text (take i xs) ++ text x) (flat_map text (drop (i + 1) xs)) (sends_more (Err e) a b c (flat_map text (take i xs)) (text x) p q))
+    let same : flat_map text (take (i + 1) xs) ≡ flat_map text (take i xs) ++ text x = ap (flat_map text) (take_more xs i d lt)
+    ∙ flat_map-append text (take i xs) (x ∷ []) ∙ ap (λ (l : List ℕ). flat_map text (take i xs) ++ l) (flat_map-cons text x [] ∙ append-nil (text x)) in
+    let whole : flat_map text xs ≡ (flat_map text (take i xs) ++ text x) ++ flat_map text (drop (i + 1) xs) = ap (flat_map text)
+    (sym (take-append-drop (i + 1) xs)) ∙ flat_map-append text (take (i + 1) xs) (drop (i + 1) xs)
+    ∙ ap (λ (l : List ℕ). l ++ flat_map text (drop (i + 1) xs)) same in
+    subst (Sends (Err e) a c) (sym whole) (sends_less e a c (flat_map text (take i xs) ++ text x) (flat_map text (drop (i + 1) xs))
+    (sends_more (Err e) a b c (flat_map text (take i xs)) (text x) p q))
 
-pub loop_done : {X E : Type 0} (text : X → List ℕ) (xs : List X) (n : ℕ) (r : Result ⊤ E) (x : ⊤) (a b : Option (List ℕ)) → r ≡ Ok x → length xs ≤ n → Appends a b (flat_map text (take n xs)) → Sends r a b (flat_map text xs)
+pub loop_done : {X E : Type 0} (text : X → List ℕ) (xs : List X) (n : ℕ) (r : Result ⊤ E) (x : ⊤) (a b : Option (List ℕ)) → r ≡ Ok x → length xs ≤ n
+    → Appends a b (flat_map text (take n xs)) → Sends r a b (flat_map text xs)
 loop_done text xs n r x a b e le p = sends_whole r x a b (flat_map text xs) e (subst (λ ys. Appends a b (flat_map text ys)) (take_all n xs le) p)
 
-pub loop_more_at : {X : Type 0} (text : X → List ℕ) (xs : List X) (i : ℕ) (x : X) (a b c : Option (List ℕ)) → i < length xs → x ≡ get_or xs i x → Appends a b (flat_map text (take i xs)) → Appends b c (text x) → Appends a c (flat_map text (take (i + 1) xs))
+pub loop_more_at : {X : Type 0} (text : X → List ℕ) (xs : List X) (i : ℕ) (x : X) (a b c : Option (List ℕ)) → i < length xs → x ≡ get_or xs i x
+    → Appends a b (flat_map text (take i xs)) → Appends b c (text x) → Appends a c (flat_map text (take (i + 1) xs))
 loop_more_at text xs i x a b c lt is p q = loop_more text xs i x a b c lt p (subst (λ y. Appends b c (text y)) is q)
 
-pub loop_stop_at : {X E : Type 0} (text : X → List ℕ) (xs : List X) (i : ℕ) (x : X) (e : E) (a b c : Option (List ℕ)) → i < length xs → x ≡ get_or xs i x → Appends a b (flat_map text (take i xs)) → Sends (Err e) b c (text x) → Sends (Err e) a c (flat_map text xs)
+pub loop_stop_at : {X E : Type 0} (text : X → List ℕ) (xs : List X) (i : ℕ) (x : X) (e : E) (a b c : Option (List ℕ)) → i < length xs → x
+    ≡ get_or xs i x → Appends a b (flat_map text (take i xs)) → Sends (Err e) b c (text x) → Sends (Err e) a c (flat_map text xs)
 loop_stop_at text xs i x e a b c lt is p q = loop_stop text xs i x e a b c lt p (subst (λ y. Sends (Err e) b c (text y)) is q)
 
 -- ---- a few items in a row

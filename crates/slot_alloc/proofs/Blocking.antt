@@ -1,5 +1,6 @@
 -- Which slots are blocked, by 64 earlier holders at a time.
-use Rattle.std.proofs.Common.{◌≡◌, refl, sym, ap, ◌∙◌, ℕ, zero, suc, ◌+◌, ◌*◌, ◌/◌, ◌%◌, ◌^◌, ◌<◌, ◌≤◌, Bool, true, false, not, ◌||◌, ◌==◌, List, [], ◌∷◌, length, drop, get_or, set, cond, ⊎_elim, arith, bit_and, bit_or}
+use Rattle.std.proofs.Common.{◌≡◌, refl, sym, ap, ◌∙◌, ℕ, zero, suc, ◌+◌, ◌*◌, ◌/◌, ◌%◌, ◌^◌, ◌<◌, ◌≤◌, Bool, true, false, not, ◌||◌, ◌==◌, List}
+use Rattle.std.proofs.Common.{[], ◌∷◌, length, drop, get_or, set, cond, ⊎_elim, arith, bit_and, bit_or}
 use Rattle.std.specs.List.{list_any}
 use Rattle.std.proofs.lemmas.Bool.{both_ways, cases_eq, cases_lt, ne_eqb, or_left, or_right}
 use Rattle.std.proofs.lemmas.Nat.{le_or_l, le_or_r, div-mul-add, mod-mul-add}
@@ -29,7 +30,8 @@ pub unsided : (g h : ℕ) (ss : List Split) → list_any (is_sided h) ss ≡ fal
 unsided g h [] e = refl
 unsided g h (s ∷ ss) e = go (is_sided h s) refl (list_any (is_sided h) ss) (λ b. unsided g h ss b) e
   where
-    go : (x : Bool) → is_sided h s ≡ x → (y : Bool) → (y ≡ false → list_any (is_apart g h) ss ≡ false) → (x || y) ≡ false → (is_apart g h s || list_any (is_apart g h) ss) ≡ false
+    go : (x : Bool) → is_sided h s ≡ x → (y : Bool) → (y ≡ false → list_any (is_apart g h) ss ≡ false) → (x || y) ≡ false
+        → (is_apart g h s || list_any (is_apart g h) ss) ≡ false
     go true _ y _ f = absurd (both_ways true f refl)
     go false a true _ f = absurd (both_ways true f refl)
     go false a false b f = ap (λ t. t || list_any (is_apart g h) ss) (one_unsided g h s a) ∙ b refl
@@ -66,5 +68,6 @@ module _ (t : Table) (ss : List ℕ) (bl : List Bool) where
 
       shares : (j : ℕ) → j < 64 → may_share t (group * 64 + j) (length ss) ≡ true
       shares j lt =
-          or_left (comes_after t.after (group * 64 + j) (length ss) || comes_after t.after (length ss) (group * 64 + j)) (list_any (is_apart (group * 64 + j) (length ss)) t.splits)
+          or_left (comes_after t.after (group * 64 + j) (length ss) || comes_after t.after (length ss) (group * 64 + j))
+          (list_any (is_apart (group * 64 + j) (length ss)) t.splits)
           (or_right (comes_after t.after (group * 64 + j) (length ss)) (comes_after t.after (length ss) (group * 64 + j)) (after_all j lt))

@@ -1,5 +1,6 @@
 -- A list that has each number below n has at least n items.
-use Rattle.std.proofs.Common.{◌≡◌, refl, sym, ap, ◌∙◌, ℕ, zero, suc, ◌<◌, ◌≤◌, Bool, true, false, cond, ◌||◌, ◌==◌, List, [], ◌∷◌, length, get_or, ⊎_elim, arith}
+use Rattle.std.proofs.Common.{◌≡◌, refl, sym, ap, ◌∙◌, ℕ, zero, suc, ◌<◌, ◌≤◌, Bool, true, false, cond, ◌||◌, ◌==◌, List, [], ◌∷◌, length, get_or}
+use Rattle.std.proofs.Common.{⊎_elim, arith}
 use Rattle.std.proofs.lemmas.Bool.{both_ways, cases_eq, eq-eqb, ne_eqb, or_cases, or_left, or_right}
 
 abbrev has : ℕ → List ℕ → Bool
@@ -27,7 +28,8 @@ long_with : (n : ℕ) (xs : List ℕ) → has n xs ≡ true → length (without 
 long_with n [] h = absurd (both_ways false refl h)
 long_with n (x ∷ xs) h = by_test (x == n) (λ e. long_with n xs e) h
   where
-    by_test : (t : Bool) → (has n xs ≡ true → length (without n xs) < length xs) → (t || has n xs) ≡ true → length (cond t (without n xs) (x ∷ without n xs)) < suc (length xs)
+    by_test : (t : Bool) → (has n xs ≡ true → length (without n xs) < length xs) → (t || has n xs) ≡ true
+        → length (cond t (without n xs) (x ∷ without n xs)) < suc (length xs)
     by_test true later e = let le = long_without n xs in omega (arith, le)
     by_test false later e = let lt = later e in omega (arith, lt)
 

@@ -1,8 +1,10 @@
 -- Slots by the table: what is blocked, and what one more least slot keeps.
-use Rattle.std.proofs.Common.{◌≡◌, refl, sym, ap, ◌∙◌, subst, ℕ, zero, suc, ◌+◌, ◌<◌, Bool, true, false, List, [], ◌∷◌, ◌++◌, length, replicate, get_or, set, cond, inl, inr, ⊎_elim, arith, ◌⊎◌}
+use Rattle.std.proofs.Common.{◌≡◌, refl, sym, ap, ◌∙◌, subst, ℕ, zero, suc, ◌+◌, ◌<◌, Bool, true, false, List, [], ◌∷◌, ◌++◌, length, replicate}
+use Rattle.std.proofs.Common.{get_or, set, cond, inl, inr, ⊎_elim, arith, ◌⊎◌}
 use Rattle.std.specs.Prelude.{All}
 use Rattle.std.proofs.lemmas.Bool.{both_ways, cases_eq}
-use Rattle.std.proofs.lemmas.List.{get_or_default, length-replicate, get_or-replicate, length_push, get_or_push, get_or_append_left, length-set, get_or-set_same, get_or-set_other}
+use Rattle.std.proofs.lemmas.List.{get_or_default, length-replicate, get_or-replicate, length_push, get_or_push, get_or_append_left, length-set}
+use Rattle.std.proofs.lemmas.List.{get_or-set_same, get_or-set_other}
 use Rattle.std.proofs.lemmas.List.Elements.{All-head, All-tail, All-weaker}
 use Rattle.slot_alloc.specs.Tables.{Table, may_share, Admits, blocked_by, IsClosedAt, IsLeastOpen, IsFilled}
 use Rattle.slot_alloc.proofs.Passed.{bit}
@@ -17,7 +19,8 @@ module _ (t : Table) (n : ℕ) where
       by_test : (b : Bool) → bit (cond b bl (set bl x true)) s ≡ false → (bit bl s ≡ false) × (x ≡ s → b ≡ true)
       by_test true e = (e, λ f. refl)
       by_test false e = ⊎_elim
-          (λ (same : s ≡ x). absurd (both_ways (bit (set bl x true) s) e (subst (λ k. bit (set bl x true) k ≡ true) (sym same) (get_or-set_same bl x true false below))))
+          (λ (same : s ≡ x). absurd (both_ways (bit (set bl x true) s) e (subst (λ k. bit (set bl x true) k ≡ true) (sym same)
+          (get_or-set_same bl x true false below))))
           (λ (ne : s ≡ x → ⊥). (sym (get_or-set_other bl x s true false ne) ∙ e, λ f. absurd (ne (sym f))))
           (cases_eq s x)
 
@@ -44,7 +47,8 @@ module _ (t : Table) (n : ℕ) where
   open_at bl h (x ∷ ss) s all e =
       let len = one_long bl h x in
       let first : x < length bl = All-head (λ y. y < length bl) x ss all in
-      let rest : All (λ y. y < length (after_one bl h x)) ss = All-weaker (λ y. y < length bl) (λ y. y < length (after_one bl h x)) (λ y lt. omega (arith, lt, len)) ss (All-tail (λ y. y < length bl) x ss all) in
+      let rest : All (λ y. y < length (after_one bl h x)) ss = All-weaker (λ y. y < length bl) (λ y. y < length (after_one bl h x))
+      (λ y lt. omega (arith, lt, len)) ss (All-tail (λ y. y < length bl) x ss all) in
       let more = open_at (after_one bl h x) (h + 1) ss s rest e in
       let one = one_false bl h x s first more.0 in
       (one.0, λ k. at_each one.1 more.1 k)
@@ -52,7 +56,8 @@ module _ (t : Table) (n : ℕ) where
       at_each : (x ≡ s → may_share t h n ≡ true) → ((k : ℕ) → k < length ss → get_or ss k 0 ≡ s → may_share t ((h + 1) + k) n ≡ true)
           → (k : ℕ) → k < length (x ∷ ss) → get_or (x ∷ ss) k 0 ≡ s → may_share t (h + k) n ≡ true
       at_each here later zero below f = let m : h ≡ h + zero = omega arith in subst (λ y. may_share t y n ≡ true) m (here f)
-      at_each here later (suc k) below f = let m : (h + 1) + k ≡ h + suc k = omega arith in subst (λ y. may_share t y n ≡ true) m (later k (omega (arith, below)) f)
+      at_each here later (suc k) below f = let m : (h + 1) + k ≡ h + suc k = omega arith in subst (λ y. may_share t y n ≡ true) m
+          (later k (omega (arith, below)) f)
 
   closed_at : (bl : List Bool) (h : ℕ) (ss : List ℕ) (s : ℕ) → bit (blocked_by t n bl h ss) s ≡ true
       → (bit bl s ≡ true) ⊎ ((k : ℕ) × (k < length ss) × (get_or ss k 0 ≡ s) × (may_share t (h + k) n ≡ false))
@@ -62,7 +67,8 @@ module _ (t : Table) (n : ℕ) where
       (λ old. inl old)
       (λ new. let m : h ≡ h + zero = omega arith in inr (zero, omega arith, new.0, subst (λ y. may_share t y n ≡ false) m new.1))
       (one_true bl h x s a))
-      (λ w. let m : (h + 1) + w.0 ≡ h + suc w.0 = omega arith in let lt = w.1 in inr (suc w.0, omega (arith, lt), w.2, subst (λ y. may_share t y n ≡ false) m w.3))
+      (λ w. let m : (h + 1) + w.0 ≡ h + suc w.0 = omega arith in let lt = w.1
+      in inr (suc w.0, omega (arith, lt), w.2, subst (λ y. may_share t y n ≡ false) m w.3))
       (closed_at (after_one bl h x) (h + 1) ss s e)
 
 -- the slots that are blocked at the next holder
@@ -78,13 +84,15 @@ closed_by t ss s below e = ⊎_elim
 pub open_by : (t : Table) (ss : List ℕ) (s : ℕ) → All (λ x. x < 512) ss → bit (blocked_next t ss) s ≡ false → Admits t ss (length ss) s
 open_by t ss s all e = λ h below f.
     let len = length-replicate 512 false in
-    let fits : All (λ x. x < length (replicate 512 false)) ss = All-weaker (λ y. y < 512) (λ y. y < length (replicate 512 false)) (λ y lt. omega (arith, lt, len)) ss all in
+    let fits : All (λ x. x < length (replicate 512 false)) ss = All-weaker (λ y. y < 512) (λ y. y < length (replicate 512 false))
+    (λ y lt. omega (arith, lt, len)) ss all in
     let w = open_at t (length ss) (replicate 512 false) 0 ss s fits e in
     let m : 0 + h ≡ h = omega arith in
     subst (λ y. may_share t y (length ss) ≡ true) m (w.1 h below f)
 
 -- the loop over slots
-pub least_by : (t : Table) (ss : List ℕ) (blocked : List Bool) (s : ℕ) → All (λ x. x < 512) ss → s < 512 → blocked ≡ blocked_next t ss → ((r : ℕ) → r < s → get_or blocked r false ≡ true)
+pub least_by : (t : Table) (ss : List ℕ) (blocked : List Bool) (s : ℕ) → All (λ x. x < 512) ss → s < 512 → blocked ≡ blocked_next t ss
+    → ((r : ℕ) → r < s → get_or blocked r false ≡ true)
     → get_or blocked s false ≡ false → IsLeastOpen t ss s
 least_by t ss blocked s all below e before here = (
   below,
@@ -92,7 +100,8 @@ least_by t ss blocked s all below e before here = (
   λ r lt. closed_by t ss r (omega (arith, lt, below)) (ap (λ bl. bit bl r) (sym e) ∙ before r lt),
 )
 
-pub all_closed : (t : Table) (ss : List ℕ) (blocked : List Bool) → blocked ≡ blocked_next t ss → ((r : ℕ) → r < 512 → get_or blocked r false ≡ true) → (s : ℕ) → s < 512 → IsClosedAt t ss (length ss) s
+pub all_closed : (t : Table) (ss : List ℕ) (blocked : List Bool) → blocked ≡ blocked_next t ss → ((r : ℕ) → r < 512 → get_or blocked r false ≡ true)
+    → (s : ℕ) → s < 512 → IsClosedAt t ss (length ss) s
 all_closed t ss blocked e all s below = closed_by t ss s below (ap (λ bl. bit bl s) (sym e) ∙ all s below)
 
 -- ONE MORE HOLDER
@@ -114,7 +123,8 @@ filled_more t ss s old new = record {
       (λ (e : g ≡ length ss).
       let is : get_or (ss ++ s ∷ []) g 0 ≡ s = get_or_push ss s 0 g (sym e) in (
         subst (λ x. x < 512) (sym is) new.0,
-        λ h lt f. let inside : h < length ss = omega (arith, lt, e) in subst (λ k. may_share t h k ≡ true) (sym e) (new.1 h inside (sym (kept_at ss s h inside) ∙ f ∙ is)),
+        λ h lt f. let inside : h < length ss = omega (arith, lt, e) in subst (λ k. may_share t h k ≡ true) (sym e)
+            (new.1 h inside (sym (kept_at ss s h inside) ∙ f ∙ is)),
       ))
       (λ (ne : g ≡ length ss → ⊥).
       let len = length_push ss s in

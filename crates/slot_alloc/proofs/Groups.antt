@@ -1,5 +1,7 @@
 -- Which lane of which word belongs to a holder, and to a mark.
-use Rattle.std.proofs.Common.{◌≡◌, refl, sym, ap, ◌∙◌, subst, ℕ, zero, suc, ◌+◌, ◌-◌, ◌*◌, ◌/◌, ◌%◌, ◌^◌, ◌<◌, ◌≤◌, Bool, true, false, not, ◌&&◌, ◌||◌, ◌==◌, nat_lt, ◌⊎◌, inl, inr, List, [], ◌∷◌, length, drop, replicate, get_or, cond, Option, Some, None, ⊎_elim, arith, bit_and, bit_or}
+use Rattle.std.proofs.Common.{◌≡◌, refl, sym, ap, ◌∙◌, subst, ℕ, zero, suc, ◌+◌, ◌-◌, ◌*◌, ◌/◌, ◌%◌, ◌^◌, ◌<◌, ◌≤◌, Bool, true, false, not, ◌&&◌}
+use Rattle.std.proofs.Common.{◌||◌, ◌==◌, nat_lt, ◌⊎◌, inl, inr, List, [], ◌∷◌, length, drop, replicate, get_or, cond, Option, Some, None, ⊎_elim}
+use Rattle.std.proofs.Common.{arith, bit_and, bit_or}
 use Rattle.std.specs.Prelude.{All}
 use Rattle.std.specs.Int.{w64, trailing_zeros}
 use Rattle.std.specs.List.{list_any}
@@ -54,7 +56,8 @@ holder_at : (k first : ℕ) (o : Option ℕ) → k < 64 → lane_bit k (words.ho
 holder_at k first None few = lane_zero k
 holder_at k first (Some h) few = number_at k first h few
 
-ends_at : (k first : ℕ) (known : List Mark) → k < 64 → (i : Instr) (m : Mark) (second : Bool) → lane_bit k (words.lanes (choice.Ends first) known i m second) ≡ is_chosen (Ends (first + k)) i m second
+ends_at : (k first : ℕ) (known : List Mark) → k < 64 → (i : Instr) (m : Mark) (second : Bool)
+    → lane_bit k (words.lanes (choice.Ends first) known i m second) ≡ is_chosen (Ends (first + k)) i m second
 ends_at k first known few i m second = go (ends_with i.op)
   where
     go : (t : Bool) → lane_bit k (cond t (words.holder_lane first (slot_of i i.op)) 0) ≡ (is_holder (slot_of i i.op) (first + k) && t)
@@ -70,14 +73,16 @@ or_none false = refl
 abbrev with_lane : List Mark → Mark → ℕ → Bool → ℕ
 with_lane known m j t = cond t (bit_or (words.mark_lanes known m j) (words.one_lane j)) (words.mark_lanes known m j)
 
-other_lane : (k : ℕ) (known : List Mark) (m : Mark) (j : ℕ) (t : Bool) → j < 64 → (j ≡ k → ⊥) → lane_bit k (with_lane known m j t) ≡ lane_bit k (words.mark_lanes known m j)
+other_lane : (k : ℕ) (known : List Mark) (m : Mark) (j : ℕ) (t : Bool) → j < 64 → (j ≡ k → ⊥) → lane_bit k (with_lane known m j t)
+    ≡ lane_bit k (words.mark_lanes known m j)
 other_lane k known m j true few ne =
     lane_or k (words.mark_lanes known m j) (words.one_lane j)
     ∙ ap (λ b. lane_bit k (words.mark_lanes known m j) || b) (lane_one k j few ∙ ne_eqb j k ne)
     ∙ or_none (lane_bit k (words.mark_lanes known m j))
 other_lane k known m j false few ne = refl
 
-this_lane : (k : ℕ) (known : List Mark) (m : Mark) (j : ℕ) (t : Bool) → j < 64 → j ≡ k → lane_bit k (words.mark_lanes known m j) ≡ false → lane_bit k (with_lane known m j t) ≡ t
+this_lane : (k : ℕ) (known : List Mark) (m : Mark) (j : ℕ) (t : Bool) → j < 64 → j ≡ k → lane_bit k (words.mark_lanes known m j) ≡ false
+    → lane_bit k (with_lane known m j t) ≡ t
 this_lane k known m j true few e none =
     lane_or k (words.mark_lanes known m j) (words.one_lane j)
     ∙ or_right (lane_bit k (words.mark_lanes known m j)) (lane_bit k (words.one_lane j)) (lane_one k j few ∙ eq-eqb j k e)
@@ -109,7 +114,8 @@ unmarked OfFlag Unmarked e = refl
 unmarked OfFlag (OfCond d) e = refl
 unmarked OfFlag OfFlag e = absurd (both_ways true e refl)
 
-marks_at : (k : ℕ) (known : List Mark) (m : Mark) → k < 64 → (t : Bool) → lane_bit k (cond (t && is_marked m) (words.mark_lanes known m 64) 0) ≡ (same_mark (mark_of known k) m && t)
+marks_at : (k : ℕ) (known : List Mark) (m : Mark) → k < 64 → (t : Bool) → lane_bit k (cond (t && is_marked m) (words.mark_lanes known m 64) 0)
+    ≡ (same_mark (mark_of known k) m && t)
 marks_at k known m few true = go (is_marked m) refl ∙ sym (and_true (same_mark (mark_of known k) m))
   where
     go : (t : Bool) → is_marked m ≡ t → lane_bit k (cond t (words.mark_lanes known m 64) 0) ≡ same_mark (mark_of known k) m
@@ -117,7 +123,8 @@ marks_at k known m few true = go (is_marked m) refl ∙ sym (and_true (same_mark
     go false e = lane_zero k ∙ sym (unmarked (mark_of known k) m e)
 marks_at k known m few false = lane_zero k ∙ sym (and_false (same_mark (mark_of known k) m))
 
-sides_at : (k : ℕ) (side : Bool) (known : List Mark) → k < 64 → (i : Instr) (m : Mark) (second : Bool) → lane_bit k (words.lanes (choice.Sides side) known i m second) ≡ is_chosen (Side side (mark_of known k)) i m second
+sides_at : (k : ℕ) (side : Bool) (known : List Mark) → k < 64 → (i : Instr) (m : Mark) (second : Bool)
+    → lane_bit k (words.lanes (choice.Sides side) known i m second) ≡ is_chosen (Side side (mark_of known k)) i m second
 sides_at k true known few i m second = marks_at k known m few (not second)
 sides_at k false known few i m second = marks_at k known m few second
 
@@ -137,7 +144,8 @@ kept_small row (Some h) w small = All-set (λ x. x < 2 ^ 64) row h (bit_and (get
 
 row_small : (row : List ℕ) (xs : List Flows) (n : ℕ) (is : List Instr) → Small row → Small (words.row_from row xs n is)
 row_small row xs n [] small = small
-row_small row xs n (i ∷ is) small = row_small (words.noted row i (words.flows_at xs n)) xs (n + 1) is (kept_small row (slot_of i i.op) (words.ports_led i.op (words.flows_at xs n)) small)
+row_small row xs n (i ∷ is) small = row_small (words.noted row i (words.flows_at xs n)) xs (n + 1) is
+    (kept_small row (slot_of i i.op) (words.ports_led i.op (words.flows_at xs n)) small)
 
 word_small : (p : Plan) (ch : Choice) (known ms : List Mark) (c : CodeBlock) (g : ℕ) → get_or (words.row_of p ch known ms c) g 0 < 2 ^ 64
 word_small p ch known ms c g = ⊎_elim
@@ -149,7 +157,8 @@ word_small p ch known ms c g = ⊎_elim
     row = words.row_of p ch known ms c
 
     small : Small (words.row_of p ch known ms c)
-    small = row_small (replicate c.slots words.all_lanes) (words.pass p ch known ms (replicate (length c.instrs) words.bare) 0 c.instrs) 0 c.instrs (All-replicate (λ w. w < 2 ^ 64) c.slots words.all_lanes (omega arith))
+    small = row_small (replicate c.slots words.all_lanes) (words.pass p ch known ms (replicate (length c.instrs) words.bare) 0 c.instrs) 0 c.instrs
+        (All-replicate (λ w. w < 2 ^ 64) c.slots words.all_lanes (omega arith))
 
 some_lane : (w : ℕ) → w < 2 ^ 64 → not (w == 0) ≡ true → (k : ℕ) × (k < 64) × (lane_bit k w ≡ true)
 some_lane w small e = ⊎_elim
@@ -176,7 +185,8 @@ module _ (p : Plan) (c : CodeBlock) (ms : List Mark) where
       let r = words.row_of p (choice.Ends (n * 64)) [] ms c in
       ⊎_elim
       (λ (e : j ≡ n). get_or_push (after_rows p ms c n) r [] j (len ∙ sym e) ∙ ap (λ k. words.row_of p (choice.Ends (k * 64)) [] ms c) (sym e))
-      (λ (ne : j ≡ n → ⊥). let lt : j < n = omega (arith, below, ne) in get_or_append_left (after_rows p ms c n) (r ∷ []) [] j (omega (arith, lt, len)) ∙ row_at n j lt)
+      (λ (ne : j ≡ n → ⊥). let lt : j < n = omega (arith, below, ne) in get_or_append_left (after_rows p ms c n) (r ∷ []) [] j
+      (omega (arith, lt, len)) ∙ row_at n j lt)
       (cases_eq j n)
 
   in_group : (h n : ℕ) → h < n → h / 64 < groups n
@@ -210,11 +220,13 @@ module _ (p : Plan) (c : CodeBlock) (ms : List Mark) where
   abbrev apart_word : List Mark → ℕ → ℕ → ℕ
   apart_word known g h = bit_or (bit_and (side_word true known g) (side_word false known h)) (bit_and (side_word false known g) (side_word true known h))
 
-  side_bit : (k : ℕ) (side : Bool) (known : List Mark) (g : ℕ) → k < 64 → lane_bit k (side_word side known g) ≡ bit (row_of p (Side side (mark_of known k)) ms c) g
+  side_bit : (k : ℕ) (side : Bool) (known : List Mark) (g : ℕ) → k < 64 → lane_bit k (side_word side known g)
+      ≡ bit (row_of p (Side side (mark_of known k)) ms c) g
   side_bit k side known g few = bit_at_row k p (choice.Sides side) known (Side side (mark_of known k)) (sides_at k side known few) few ms c g
 
   both_bits : (k : ℕ) (side other : Bool) (known : List Mark) (g h : ℕ) → k < 64
-      → lane_bit k (bit_and (side_word side known g) (side_word other known h)) ≡ (bit (row_of p (Side side (mark_of known k)) ms c) g && bit (row_of p (Side other (mark_of known k)) ms c) h)
+      → lane_bit k (bit_and (side_word side known g) (side_word other known h)) ≡ (bit (row_of p (Side side (mark_of known k)) ms c) g
+      && bit (row_of p (Side other (mark_of known k)) ms c) h)
   both_bits k side other known g h few =
       lane_and k (side_word side known g) (side_word other known h)
       ∙ ap (λ b. b && lane_bit k (side_word other known h)) (side_bit k side known g few)
@@ -224,7 +236,8 @@ module _ (p : Plan) (c : CodeBlock) (ms : List Mark) where
   apart_bit k known g h few =
       lane_or k (bit_and (side_word true known g) (side_word false known h)) (bit_and (side_word false known g) (side_word true known h))
       ∙ ap (λ b. b || lane_bit k (bit_and (side_word false known g) (side_word true known h))) (both_bits k true false known g h few)
-      ∙ ap (λ b. (bit (row_of p (Side true (mark_of known k)) ms c) g && bit (row_of p (Side false (mark_of known k)) ms c) h) || b) (both_bits k false true known g h few)
+      ∙ ap (λ b. (bit (row_of p (Side true (mark_of known k)) ms c) g && bit (row_of p (Side false (mark_of known k)) ms c) h) || b)
+      (both_bits k false true known g h few)
 
   apart_small : (known : List Mark) (g h : ℕ) → apart_word known g h < 2 ^ 64
   apart_small known g h =
@@ -232,7 +245,8 @@ module _ (p : Plan) (c : CodeBlock) (ms : List Mark) where
       let no_g = word_small p (choice.Sides false) known ms c g in
       let one = and_le_l (side_word true known g) (side_word false known h) in
       let other = and_le_l (side_word false known g) (side_word true known h) in
-      or_lt 64 (bit_and (side_word true known g) (side_word false known h)) (bit_and (side_word false known g) (side_word true known h)) (omega (arith, yes_g, one)) (omega (arith, no_g, other))
+      or_lt 64 (bit_and (side_word true known g) (side_word false known h)) (bit_and (side_word false known g) (side_word true known h))
+      (omega (arith, yes_g, one)) (omega (arith, no_g, other))
 
   pub any_apart : (g h : ℕ) (known : List Mark) (n : ℕ) → list_any (is_apart g h) (splits_of p ms c known n) ≡ true → (m : Mark) × (one_apart g h m ≡ true)
   any_apart g h known zero e = absurd (both_ways false refl e)
@@ -245,9 +259,11 @@ module _ (p : Plan) (c : CodeBlock) (ms : List Mark) where
       (mark_of (drop (n * 64) known) w.0, sym (apart_bit w.0 (drop (n * 64) known) g h w.1) ∙ w.2)))
       (λ none. absurd (both_ways false refl none))
       (or_cases (is_apart g h s) false a))
-      (or_cases (list_any (is_apart g h) (splits_of p ms c known n)) (list_any (is_apart g h) (s ∷ [])) (sym (list_any-append (is_apart g h) (splits_of p ms c known n) (s ∷ [])) ∙ e))
+      (or_cases (list_any (is_apart g h) (splits_of p ms c known n)) (list_any (is_apart g h) (s ∷ []))
+      (sym (list_any-append (is_apart g h) (splits_of p ms c known n) (s ∷ [])) ∙ e))
 
-  split_in : (g h : ℕ) (known : List Mark) (n j : ℕ) → j < n → is_apart g h (split_of p ms c (drop (j * 64) known)) ≡ true → list_any (is_apart g h) (splits_of p ms c known n) ≡ true
+  split_in : (g h : ℕ) (known : List Mark) (n j : ℕ) → j < n → is_apart g h (split_of p ms c (drop (j * 64) known)) ≡ true
+      → list_any (is_apart g h) (splits_of p ms c known n) ≡ true
   split_in g h known zero j below e = let no : ⊥ = omega (arith, below) in absurd no
   split_in g h known (suc n) j below e =
       let s = split_of p ms c (drop (n * 64) known) in
@@ -255,7 +271,8 @@ module _ (p : Plan) (c : CodeBlock) (ms : List Mark) where
       ∙ ⊎_elim
       (λ (at : j ≡ n). or_right (list_any (is_apart g h) (splits_of p ms c known n)) (list_any (is_apart g h) (s ∷ []))
       (or_left (is_apart g h s) false (subst (λ i. is_apart g h (split_of p ms c (drop (i * 64) known)) ≡ true) at e)))
-      (λ (ne : j ≡ n → ⊥). or_left (list_any (is_apart g h) (splits_of p ms c known n)) (list_any (is_apart g h) (s ∷ [])) (split_in g h known n j (omega (arith, below, ne)) e))
+      (λ (ne : j ≡ n → ⊥). or_left (list_any (is_apart g h) (splits_of p ms c known n)) (list_any (is_apart g h) (s ∷ []))
+      (split_in g h known n j (omega (arith, below, ne)) e))
       (cases_eq j n)
 
   place_of : (m : Mark) (known : List Mark) → list_any (same_mark m) known ≡ true → (n : ℕ) × (n < length known) × (mark_of known n ≡ m)
@@ -272,11 +289,13 @@ module _ (p : Plan) (c : CodeBlock) (ms : List Mark) where
       ∙ ap (λ k. get_or known k Unmarked) (div-add-mod' n 64)
       ∙ sym (unwrap_or-slice_get known n Unmarked)
 
-  pub known_apart : (g h : ℕ) (m : Mark) (known : List Mark) → list_any (same_mark m) known ≡ true → one_apart g h m ≡ true → list_any (is_apart g h) (splits_of p ms c known (groups (length known))) ≡ true
+  pub known_apart : (g h : ℕ) (m : Mark) (known : List Mark) → list_any (same_mark m) known ≡ true → one_apart g h m ≡ true
+      → list_any (is_apart g h) (splits_of p ms c known (groups (length known))) ≡ true
   known_apart g h m known there e =
       let w = place_of m known there in
       let j = w.0 / 64 in
       let k = w.0 % 64 in
       let few : k < 64 = mod_below w.0 64 (omega arith) in
       let at : one_apart g h (mark_of (drop (j * 64) known) k) ≡ true = ap (one_apart g h) (mark_in_group known w.0 ∙ w.2) ∙ e in
-      split_in g h known (groups (length known)) j (in_group w.0 (length known) w.1) (lane_some k (apart_word (drop (j * 64) known) g h) (apart_bit k (drop (j * 64) known) g h few ∙ at))
+      split_in g h known (groups (length known)) j (in_group w.0 (length known) w.1) (lane_some k (apart_word (drop (j * 64) known) g h)
+      (apart_bit k (drop (j * 64) known) g h few ∙ at))

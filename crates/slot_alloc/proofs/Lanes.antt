@@ -1,5 +1,6 @@
 -- Each lane of the pass over words is the pass for one choice of arcs.
-use Rattle.std.proofs.Common.{◌≡◌, refl, sym, ap, ◌∙◌, ℕ, zero, suc, ◌+◌, ◌^◌, ◌<◌, min, max, Bool, true, false, not, ◌&&◌, ◌||◌, ◌==◌, nat_lt, List, [], ◌∷◌, map, length, replicate, get_or, set, cond, Option, Some, None, ⊎_elim, arith, bit_and, bit_or}
+use Rattle.std.proofs.Common.{◌≡◌, refl, sym, ap, ◌∙◌, ℕ, zero, suc, ◌+◌, ◌^◌, ◌<◌, min, max, Bool, true, false, not, ◌&&◌, ◌||◌, ◌==◌, nat_lt}
+use Rattle.std.proofs.Common.{List, [], ◌∷◌, map, length, replicate, get_or, set, cond, Option, Some, None, ⊎_elim, arith, bit_and, bit_or}
 use Rattle.std.specs.Int.{bit_at}
 use Rattle.std.proofs.lemmas.Bool.{cases_eq, eq-eqb, ne_eqb}
 use Rattle.std.proofs.lemmas.Nat.{one_shl}
@@ -19,7 +20,9 @@ use Rattle.semantics.specs.Plan.{Plan, landing}
 use Rattle.slot_alloc.specs.declared.passes.Flow.{Flow}
 use Rattle.slot_alloc.specs.declared.passes.Flows.{Flows}
 use Rattle.slot_alloc.specs.declared.choices.Choice.{Choice}
-use Rattle.slot_alloc.specs.Passes.{Inflow, Bare, AllLead, NotAll, Inlets, Chosen, inlets_at, inflow_with, inlets_with, enter, enter_each, enter_row, enter_landings, enter_firsts, all_lead, some_lead, is_chosen, own_each, own_landings, own_firsts, own_instr, enter_instr, mark_of, pass}
+use Rattle.slot_alloc.specs.Passes.{Inflow, Bare, AllLead, NotAll, Inlets, Chosen, inlets_at, inflow_with, inlets_with, enter, enter_each}
+use Rattle.slot_alloc.specs.Passes.{enter_row, enter_landings, enter_firsts, all_lead, some_lead, is_chosen, own_each, own_landings, own_firsts}
+use Rattle.slot_alloc.specs.Passes.{own_instr, enter_instr, mark_of, pass}
 use Rattle.slot_alloc.specs.Rows.{ports_lead, crossed, noted, row_from, row_of}
 use Rattle.slot_alloc.specs.Words as words
 
@@ -91,7 +94,8 @@ module _ (k : ℕ) where
       more false true = refl
       more false false = refl
 
-      go : (bare : Bool) → inflow_of true (lane_bit k (cond bare w (bit_and x.lanes w))) ≡ inflow_with (inflow_of (not bare) (lane_bit k x.lanes)) (lane_bit k w)
+      go : (bare : Bool) → inflow_of true (lane_bit k (cond bare w (bit_and x.lanes w))) ≡ inflow_with (inflow_of (not bare) (lane_bit k x.lanes))
+          (lane_bit k w)
       go true = first (lane_bit k w)
       go false = ap (inflow_of true) (lane_and k x.lanes w) ∙ more (lane_bit k x.lanes) (lane_bit k w)
 
@@ -143,13 +147,15 @@ module _ (k : ℕ) where
       enter_at (words.enter_row xs n w size) (n + size) Left w
       ∙ ap (λ ys. enter ys (n + size) Left (lane_bit k w)) (row_at xs n w size)
 
-  landings_at : (xs : List Flows) (n w size : ℕ) (ds : List Dest) → pairs (words.enter_landings xs n w size ds) ≡ enter_landings (pairs xs) n (lane_bit k w) size ds
+  landings_at : (xs : List Flows) (n w size : ℕ) (ds : List Dest) → pairs (words.enter_landings xs n w size ds)
+      ≡ enter_landings (pairs xs) n (lane_bit k w) size ds
   landings_at xs n w size [] = refl
   landings_at xs n w size (d ∷ ds) =
       landings_at (words.enter_row xs (n + d.ahead) w size) n w size ds
       ∙ ap (λ ys. enter_landings ys n (lane_bit k w) size ds) (row_at xs (n + d.ahead) w size)
 
-  firsts_at : (p : Plan) (xs : List Flows) (n w : ℕ) (ds : List Dest) (op : Op) → pairs (words.enter_firsts p xs n w ds op) ≡ enter_firsts p (pairs xs) n (lane_bit k w) ds op
+  firsts_at : (p : Plan) (xs : List Flows) (n w : ℕ) (ds : List Dest) (op : Op) → pairs (words.enter_firsts p xs n w ds op)
+      ≡ enter_firsts p (pairs xs) n (lane_bit k w) ds op
   firsts_at p xs n w ds (Link t) = landings_at xs n w (landing p t) ds
   firsts_at p xs n w ds op = each_at xs n w ds
 
@@ -165,14 +171,17 @@ module _ (k : ℕ) where
   own_landings_at x w size (d ∷ ds) =
       own_landings_at (cond ((d.ahead == 0) && nat_lt 0 size) (words.flows_with x Left w) x) w size ds
       ∙ ap (λ y. own_landings y (lane_bit k w) size ds)
-      (if_at ((d.ahead == 0) && nat_lt 0 size) (words.flows_with x Left w) x ∙ ap (λ y. cond ((d.ahead == 0) && nat_lt 0 size) y (pair_at x)) (pair_with x Left w))
+      (if_at ((d.ahead == 0) && nat_lt 0 size) (words.flows_with x Left w) x ∙ ap (λ y. cond ((d.ahead == 0) && nat_lt 0 size) y (pair_at x))
+      (pair_with x Left w))
 
-  own_firsts_at : (p : Plan) (x : Flows) (w : ℕ) (ds : List Dest) (op : Op) → pair_at (words.own_firsts p x w ds op) ≡ own_firsts p (pair_at x) (lane_bit k w) ds op
+  own_firsts_at : (p : Plan) (x : Flows) (w : ℕ) (ds : List Dest) (op : Op) → pair_at (words.own_firsts p x w ds op)
+      ≡ own_firsts p (pair_at x) (lane_bit k w) ds op
   own_firsts_at p x w ds (Link t) = own_landings_at x w (landing p t) ds
   own_firsts_at p x w ds op = own_each_at x w ds
 
   -- AN INSTRUCTION whose arcs are chosen in the lane as the choice says
-  module _ (p : Plan) (ch : Chosen) (m : Mark) (i : Instr) (f s : ℕ) (ef : lane_bit k f ≡ is_chosen ch i m false) (es : lane_bit k s ≡ is_chosen ch i m true) where
+  module _ (p : Plan) (ch : Chosen) (m : Mark) (i : Instr) (f s : ℕ) (ef : lane_bit k f ≡ is_chosen ch i m false) (es : lane_bit k s
+      ≡ is_chosen ch i m true) where
     own_instr_at : (x : Flows) → pair_at (words.own_instr p x f s i) ≡ own_instr p ch (pair_at x) m i
     own_instr_at x =
         own_each_at (words.own_firsts p x f i.firsts i.op) s i.seconds
@@ -181,11 +190,13 @@ module _ (k : ℕ) where
         ∙ ap (λ b. own_each (own_firsts p (pair_at x) (is_chosen ch i m false) i.firsts i.op) b i.seconds) es
 
     lead_at : (xs : List Flows) (n w : ℕ) (b : Bool) → lane_bit k w ≡ b
-        → lane_bit k (bit_or (words.some_led (words.own_instr p (words.flows_at xs n) f s i)) w) ≡ (some_lead (own_instr p ch (inlets_at (pairs xs) n) m i) || b)
+        → lane_bit k (bit_or (words.some_led (words.own_instr p (words.flows_at xs n) f s i)) w)
+        ≡ (some_lead (own_instr p ch (inlets_at (pairs xs) n) m i) || b)
     lead_at xs n w b e =
         lane_or k (words.some_led (words.own_instr p (words.flows_at xs n) f s i)) w
         ∙ ap (λ t. t || lane_bit k w)
-        (some_led_at (words.own_instr p (words.flows_at xs n) f s i) ∙ ap some_lead (own_instr_at (words.flows_at xs n) ∙ ap (λ x. own_instr p ch x m i) (at_place xs n)))
+        (some_led_at (words.own_instr p (words.flows_at xs n) f s i) ∙ ap some_lead (own_instr_at (words.flows_at xs n)
+        ∙ ap (λ x. own_instr p ch x m i) (at_place xs n)))
         ∙ ap (λ t. some_lead (own_instr p ch (inlets_at (pairs xs) n) m i) || t) e
 
     instr_at : (xs : List Flows) (n : ℕ) → pairs (words.enter_instr p xs n f s i) ≡ enter_instr p ch (pairs xs) n m i
@@ -196,10 +207,12 @@ module _ (k : ℕ) where
         each_at (words.enter_firsts p xs n v i.firsts i.op) n w i.seconds
         ∙ ap (λ ys. enter_each ys n (lane_bit k w) i.seconds) (firsts_at p xs n v i.firsts i.op)
         ∙ ap (λ b. enter_each (enter_firsts p (pairs xs) n b i.firsts i.op) n (lane_bit k w) i.seconds) (lead_at xs n f (is_chosen ch i m false) ef)
-        ∙ ap (λ b. enter_each (enter_firsts p (pairs xs) n (lead || is_chosen ch i m false) i.firsts i.op) n b i.seconds) (lead_at xs n s (is_chosen ch i m true) es)
+        ∙ ap (λ b. enter_each (enter_firsts p (pairs xs) n (lead || is_chosen ch i m false) i.firsts i.op) n b i.seconds)
+        (lead_at xs n s (is_chosen ch i m true) es)
 
   -- THE PASS AND THE ROW
-  module _ (p : Plan) (choice : Choice) (known : List Mark) (ch : Chosen) (says : (i : Instr) (m : Mark) (second : Bool) → lane_bit k (words.lanes choice known i m second) ≡ is_chosen ch i m second) (few : k < 64) where
+  module _ (p : Plan) (choice : Choice) (known : List Mark) (ch : Chosen) (says : (i : Instr) (m : Mark) (second : Bool)
+      → lane_bit k (words.lanes choice known i m second) ≡ is_chosen ch i m second) (few : k < 64) where
     pass_at : (ms : List Mark) (xs : List Flows) (n : ℕ) (is : List Instr) → pairs (words.pass p choice known ms xs n is) ≡ pass p ch ms (pairs xs) n is
     pass_at ms xs n [] = refl
     pass_at ms xs n (i ∷ is) =
@@ -217,7 +230,8 @@ module _ (k : ℕ) where
     ports_at (Take t) x = lane_all k few
     ports_at (Give t) x = lane_all k few
     ports_at (Drain t) x = lane_all k few
-    ports_at op x = lane_and k (words.led x.left) (words.led x.right) ∙ ap (λ b. b && lane_bit k (words.led x.right)) (led_at x.left) ∙ ap (λ b. all_lead (flow_at x.left) && b) (led_at x.right)
+    ports_at op x = lane_and k (words.led x.left) (words.led x.right) ∙ ap (λ b. b && lane_bit k (words.led x.right)) (led_at x.left)
+        ∙ ap (λ b. all_lead (flow_at x.left) && b) (led_at x.right)
 
     set_at : (row : List Bool) (h : ℕ) (b : Bool) → set row h (get_or row h false && b) ≡ cond b row (set row h false)
     set_at row h true = ap (set row h) (and_true (get_or row h false)) ∙ set-get_or row h false
@@ -230,13 +244,15 @@ module _ (k : ℕ) where
         go true = refl
         go false = refl
     kept_at row (Some h) w =
-        let old : lane_bit k (get_or row h 0) ≡ get_or (row_bits row) h false = sym (get_or-map (lane_bit k) row h 0) ∙ ap (get_or (row_bits row) h) (lane_zero k) in
+        let old : lane_bit k (get_or row h 0) ≡ get_or (row_bits row) h false = sym (get_or-map (lane_bit k) row h 0)
+        ∙ ap (get_or (row_bits row) h) (lane_zero k) in
         map-set (lane_bit k) row h (bit_and (get_or row h 0) w)
         ∙ ap (set (row_bits row) h) (lane_and k (get_or row h 0) w ∙ ap (λ b. b && lane_bit k w) old)
         ∙ set_at (row_bits row) h (lane_bit k w)
 
     noted_at : (row : List ℕ) (i : Instr) (x : Flows) → row_bits (words.noted row i x) ≡ noted (row_bits row) i (pair_at x)
-    noted_at row i x = kept_at row (slot_of i i.op) (words.ports_led i.op x) ∙ ap (λ b. cond b (row_bits row) (crossed (row_bits row) (slot_of i i.op))) (ports_at i.op x)
+    noted_at row i x = kept_at row (slot_of i i.op) (words.ports_led i.op x)
+        ∙ ap (λ b. cond b (row_bits row) (crossed (row_bits row) (slot_of i i.op))) (ports_at i.op x)
 
     row_from_at : (row : List ℕ) (xs : List Flows) (n : ℕ) (is : List Instr) → row_bits (words.row_from row xs n is) ≡ row_from (row_bits row) (pairs xs) n is
     row_from_at row xs n [] = refl
@@ -252,8 +268,10 @@ module _ (k : ℕ) where
     row_of_at ms c =
         let start = replicate (length c.instrs) words.bare in
         row_from_at (replicate c.slots words.all_lanes) (words.pass p choice known ms start 0 c.instrs) 0 c.instrs
-        ∙ ap (λ r. row_from r (pairs (words.pass p choice known ms start 0 c.instrs)) 0 c.instrs) (alike (lane_bit k) c.slots words.all_lanes ∙ ap (replicate c.slots) (lane_all k few))
-        ∙ ap (λ xs. row_from (replicate c.slots true) xs 0 c.instrs) (pass_at ms start 0 c.instrs ∙ ap (λ ys. pass p ch ms ys 0 c.instrs) (alike pair_at (length c.instrs) words.bare))
+        ∙ ap (λ r. row_from r (pairs (words.pass p choice known ms start 0 c.instrs)) 0 c.instrs) (alike (lane_bit k) c.slots words.all_lanes
+        ∙ ap (replicate c.slots) (lane_all k few))
+        ∙ ap (λ xs. row_from (replicate c.slots true) xs 0 c.instrs) (pass_at ms start 0 c.instrs
+        ∙ ap (λ ys. pass p ch ms ys 0 c.instrs) (alike pair_at (length c.instrs) words.bare))
 
     -- the lane of each holder's word
     pub bit_at_row : (ms : List Mark) (c : CodeBlock) (g : ℕ) → lane_bit k (get_or (words.row_of p choice known ms c) g 0) ≡ get_or (row_of p ch ms c) g false

@@ -1,5 +1,6 @@
 -- The whole pass, and the row of all holders: exactly what follows.
-use Rattle.std.proofs.Common.{◌≡◌, refl, sym, ap, ◌∙◌, subst, ℕ, ◌+◌, ◌<◌, ◌≤◌, Bool, true, false, not, ◌||◌, List, [], ◌∷◌, ◌++◌, length, replicate, get_or, cond, Option, Some, None, inl, inr, ⊎_elim, arith, ◌⊎◌}
+use Rattle.std.proofs.Common.{◌≡◌, refl, sym, ap, ◌∙◌, subst, ℕ, ◌+◌, ◌<◌, ◌≤◌, Bool, true, false, not, ◌||◌, List, [], ◌∷◌, ◌++◌, length}
+use Rattle.std.proofs.Common.{replicate, get_or, cond, Option, Some, None, inl, inr, ⊎_elim, arith, ◌⊎◌}
 use Rattle.std.specs.Prelude.{Contains}
 use Rattle.std.specs.Bool.{Decides}
 use Rattle.std.proofs.lemmas.Bool.{cases_eq, both_ways, or_cases, or_left, or_right, and_parts, and_from}
@@ -18,9 +19,11 @@ use Rattle.semantics.specs.Sharing.{Inlet, inlet, Arc, arcs_to, arcs_from, arcs_
 use Rattle.slot_alloc.specs.Passes.{Inflow, Bare, AllLead, NotAll}
 use Rattle.slot_alloc.specs.Passes.{Inlets}
 use Rattle.slot_alloc.specs.Passes.{Chosen}
-use Rattle.slot_alloc.specs.Passes.{bare, inlets_at, enter, enter_each, enter_firsts, own_each, own_instr, all_lead, some_lead, is_chosen, enter_instr, mark_of, pass}
+use Rattle.slot_alloc.specs.Passes.{bare, inlets_at, enter, enter_each, enter_firsts, own_each, own_instr, all_lead, some_lead, is_chosen}
+use Rattle.slot_alloc.specs.Passes.{enter_instr, mark_of, pass}
 use Rattle.slot_alloc.specs.Rows.{ports_lead, crossed, noted, row_from}
-use Rattle.slot_alloc.proofs.Passing.{port_of, enter_arcs, each_as_arcs, firsts_arcs, firsts_as_arcs, from_firsts, IsFrom, is_first, is_second, from_here, from_later, Shown, Shows, arcs_shown, follows_shown, each_own, firsts_own}
+use Rattle.slot_alloc.proofs.Passing.{port_of, enter_arcs, each_as_arcs, firsts_arcs, firsts_as_arcs, from_firsts, IsFrom, is_first, is_second}
+use Rattle.slot_alloc.proofs.Passing.{from_here, from_later, Shown, Shows, arcs_shown, follows_shown, each_own, firsts_own}
 use Rattle.slot_alloc.proofs.Places.{ByPlace}
 
 -- the tables are as long as before
@@ -45,19 +48,22 @@ instr_long p ch xs n m i =
     entered_long p xs n (here || is_chosen ch i m false) (here || is_chosen ch i m true) i
 
 entered_shown : (L : Arc → Type 0) (p : Plan) (done : List Arc) (xs : List Inlets) (n : ℕ) (b d : Bool) (i : Instr)
-    → ((y : Arc) → IsFrom n false y → Decides b (L y)) → ((y : Arc) → IsFrom n true y → Decides d (L y)) → Shows L done xs → Shows L (done ++ arcs_from p n i i.op) (entered p xs n b d i)
+    → ((y : Arc) → IsFrom n false y → Decides b (L y)) → ((y : Arc) → IsFrom n true y → Decides d (L y)) → Shows L done xs
+    → Shows L (done ++ arcs_from p n i i.op) (entered p xs n b d i)
 entered_shown L p done xs n b d i firsts seconds h =
     let ys = firsts_arcs p n i.firsts i.op in
     let zs = arcs_to n true i.seconds in
     let one : Shows L (done ++ ys) (enter_arcs xs b ys) = arcs_shown L done xs b ys (λ y there. firsts y (is_first p n i.firsts i.op y there)) h in
-    let two : Shows L ((done ++ ys) ++ zs) (enter_arcs (enter_arcs xs b ys) d zs) = arcs_shown L (done ++ ys) (enter_arcs xs b ys) d zs (λ y there. seconds y (is_second n i.seconds y there)) one in
+    let two : Shows L ((done ++ ys) ++ zs) (enter_arcs (enter_arcs xs b ys) d zs) = arcs_shown L (done ++ ys) (enter_arcs xs b ys) d zs
+    (λ y there. seconds y (is_second n i.seconds y there)) one in
     let lists : (done ++ ys) ++ zs ≡ done ++ arcs_from p n i i.op = append_assoc done ys zs ∙ ap (λ ws. done ++ ws) (sym (from_firsts p n i i.op)) in
     let tables : enter_arcs (enter_arcs xs b ys) d zs ≡ entered p xs n b d i =
     sym (each_as_arcs (enter_firsts p xs n b i.firsts i.op) n true d i.seconds ∙ ap (λ ws. enter_arcs ws d zs) (firsts_as_arcs p xs n b i.firsts i.op)) in
     subst (λ ws. Shows L ws (entered p xs n b d i)) lists (subst (λ ws. Shows L ((done ++ ys) ++ zs) ws) tables two)
 
 -- what a table shows by one word for leading, it shows by another that agrees on the arcs entered
-shown_alike : (L K : Arc → Type 0) (done : List Arc) (q : Inlet) (v : Inflow) → ((y : Arc) → Contains done y → L y → K y) → ((y : Arc) → Contains done y → K y → L y) → Shown L done q v → Shown K done q v
+shown_alike : (L K : Arc → Type 0) (done : List Arc) (q : Inlet) (v : Inflow) → ((y : Arc) → Contains done y → L y → K y)
+    → ((y : Arc) → Contains done y → K y → L y) → Shown L done q v → Shown K done q v
 shown_alike L K done q Bare to from h = h
 shown_alike L K done q AllLead to from h = (h.0, λ y there e. to y there (h.1 y there e))
 shown_alike L K done q NotAll to from h = (h.0, h.1, h.2, λ k. h.3 (from h.0 h.1 k))
@@ -69,7 +75,8 @@ shown_cases L done q Bare h = inr (inl h)
 shown_cases L done q AllLead h = inl refl
 shown_cases L done q NotAll h = inr (inr h)
 
-shown_leads : (L : Arc → Type 0) (done : List Arc) (q : Inlet) (v : Inflow) → Shown L done q v → all_lead v ≡ true → ((x : Arc) × Contains done x × (x.to ≡ q)) × ((y : Arc) → Contains done y → y.to ≡ q → L y)
+shown_leads : (L : Arc → Type 0) (done : List Arc) (q : Inlet) (v : Inflow) → Shown L done q v → all_lead v ≡ true
+    → ((x : Arc) × Contains done x × (x.to ≡ q)) × ((y : Arc) → Contains done y → y.to ≡ q → L y)
 shown_leads L done q Bare h e = absurd (both_ways false refl e)
 shown_leads L done q AllLead h e = h
 shown_leads L done q NotAll h e = absurd (both_ways false refl e)
@@ -87,14 +94,16 @@ module _ (p : Plan) (ch : Chosen) (ms : List Mark) (arcs : List Arc) (chosen : A
       (earlier : (y : Arc) → Contains done y → y.from < n) (later : (y : Arc) → Contains rest y → (n < y.from) × (y.from ≤ y.to.place))
       (within : n < length xs) (says : Says n i) (h : Shows (Leads arcs chosen) done xs) where
     sub : (y : Arc) → Contains (done ++ arcs_from p n i i.op) y → Contains arcs y
-    sub y there = subst (λ zs. Contains zs y) (append_assoc done (arcs_from p n i i.op) rest ∙ sym e) (Contains-append_left (done ++ arcs_from p n i i.op) rest y there)
+    sub y there = subst (λ zs. Contains zs y) (append_assoc done (arcs_from p n i i.op) rest ∙ sym e)
+        (Contains-append_left (done ++ arcs_from p n i i.op) rest y there)
 
     all : (s : Port) (y : Arc) → Contains arcs y → y.to ≡ inlet n s → Contains (done ++ arcs_from p n i i.op) y
     all s y there to =
         let at : y.to.place ≡ n = ap (λ (q : Inlet). q.place) to in
         ⊎_elim (λ a. a)
         (λ a. let w = later y a in let lt = w.0 in let le = w.1 in absurd (omega (arith, lt, le, at)))
-        (Contains-append_cases (done ++ arcs_from p n i i.op) rest y (subst (λ zs. Contains zs y) (e ∙ sym (append_assoc done (arcs_from p n i i.op) rest)) there))
+        (Contains-append_cases (done ++ arcs_from p n i i.op) rest y
+        (subst (λ zs. Contains zs y) (e ∙ sym (append_assoc done (arcs_from p n i i.op) rest)) there))
 
     -- an own arc taken as leading where it is chosen
     abbrev Led : Arc → Type 0
@@ -106,7 +115,8 @@ module _ (p : Plan) (ch : Chosen) (ms : List Mark) (arcs : List Arc) (chosen : A
 
     led_exact : (s : Bool) (y : Arc) → IsFrom n s y → Decides (is_chosen ch i (mark_of ms n) s) (Led y)
     led_exact s y from =
-        let d : Decides (is_chosen ch i (mark_of ms n) s) (chosen y) = subst (λ t. Decides (is_chosen ch i (mark_of ms n) t) (chosen y)) from.1 (says y from.0) in
+        let d : Decides (is_chosen ch i (mark_of ms n) s) (chosen y) = subst (λ t. Decides (is_chosen ch i (mark_of ms n) t) (chosen y)) from.1
+        (says y from.0) in
         (λ t. inl (from.0, d.0 t), λ l. d.1 (is_led l))
       where
         is_led : Led y → chosen y
@@ -117,17 +127,24 @@ module _ (p : Plan) (ch : Chosen) (ms : List Mark) (arcs : List Arc) (chosen : A
     own_shown s =
         let b = is_chosen ch i (mark_of ms n) false in
         let d = is_chosen ch i (mark_of ms n) true in
-        let old : Shows Led done xs = λ k t below. shown_alike (Leads arcs chosen) Led done (inlet k t) (port_of (inlets_at xs k) t) (λ y there l. inr (earlier y there, l)) (λ y there l. led_leads y l) (h k t below) in
-        let new : Shows Led (done ++ arcs_from p n i i.op) (entered p xs n b d i) = entered_shown Led p done xs n b d i (led_exact false) (led_exact true) old in
+        let old : Shows Led done xs = λ k t below. shown_alike (Leads arcs chosen) Led done (inlet k t) (port_of (inlets_at xs k) t)
+        (λ y there l. inr (earlier y there, l)) (λ y there l. led_leads y l) (h k t below) in
+        let new : Shows Led (done ++ arcs_from p n i i.op) (entered p xs n b d i) = entered_shown Led p done xs n b d i (led_exact false)
+        (led_exact true) old in
         let long = entered_long p xs n b d i in
-        let firsts_long : length (enter_firsts p xs n b i.firsts i.op) ≡ length xs = ap length (firsts_as_arcs p xs n b i.firsts i.op) ∙ arcs_long xs b (firsts_arcs p n i.firsts i.op) in
+        let firsts_long : length (enter_firsts p xs n b i.firsts i.op) ≡ length xs = ap length (firsts_as_arcs p xs n b i.firsts i.op)
+        ∙ arcs_long xs b (firsts_arcs p n i.firsts i.op) in
         let same : inlets_at (entered p xs n b d i) n ≡ own_instr p ch (inlets_at xs n) (mark_of ms n) i =
-        each_own n (enter_firsts p xs n b i.firsts i.op) d i.seconds (omega (arith, within, firsts_long)) ∙ ap (λ x. own_each x d i.seconds) (firsts_own n p xs b i.firsts i.op within) in
+        each_own n (enter_firsts p xs n b i.firsts i.op) d i.seconds (omega (arith, within, firsts_long))
+        ∙ ap (λ x. own_each x d i.seconds) (firsts_own n p xs b i.firsts i.op within) in
         subst (λ x. Shown Led (done ++ arcs_from p n i i.op) (inlet n s) (port_of x s)) same (new n s (omega (arith, within, long)))
 
-    port_leads : (s : Port) → all_lead (port_of (own_instr p ch (inlets_at xs n) (mark_of ms n) i) s) ≡ true → some_lead (own_instr p ch (inlets_at xs n) (mark_of ms n) i) ≡ true
-    port_leads Left t = or_left (all_lead (own_instr p ch (inlets_at xs n) (mark_of ms n) i).left) (all_lead (own_instr p ch (inlets_at xs n) (mark_of ms n) i).right) t
-    port_leads Right t = or_right (all_lead (own_instr p ch (inlets_at xs n) (mark_of ms n) i).left) (all_lead (own_instr p ch (inlets_at xs n) (mark_of ms n) i).right) t
+    port_leads : (s : Port) → all_lead (port_of (own_instr p ch (inlets_at xs n) (mark_of ms n) i) s) ≡ true
+        → some_lead (own_instr p ch (inlets_at xs n) (mark_of ms n) i) ≡ true
+    port_leads Left t = or_left (all_lead (own_instr p ch (inlets_at xs n) (mark_of ms n) i).left)
+        (all_lead (own_instr p ch (inlets_at xs n) (mark_of ms n) i).right) t
+    port_leads Right t = or_right (all_lead (own_instr p ch (inlets_at xs n) (mark_of ms n) i).left)
+        (all_lead (own_instr p ch (inlets_at xs n) (mark_of ms n) i).right) t
 
     port_follows : (s : Port) → all_lead (port_of (own_instr p ch (inlets_at xs n) (mark_of ms n) i) s) ≡ true → IsAfter arcs chosen (inlet n s)
     port_follows s t =
@@ -143,11 +160,13 @@ module _ (p : Plan) (ch : Chosen) (ms : List Mark) (arcs : List Arc) (chosen : A
           (λ a. port_leads s a)
           (λ w. ⊎_elim
           (λ none. absurd (none x (all s x there (to ∙ same)) (to ∙ same)))
-          (λ (u : (y : Arc) × Contains (done ++ arcs_from p n i i.op) y × (y.to ≡ inlet n s) × (Led y → ⊥)). found_by u.0 (from_done u.0 u.1) u.3 (each u.0 (sub u.0 u.1) (u.2 ∙ sym same)))
+          (λ (u : (y : Arc) × Contains (done ++ arcs_from p n i i.op) y × (y.to ≡ inlet n s) × (Led y → ⊥)). found_by u.0 (from_done u.0 u.1) u.3
+          (each u.0 (sub u.0 u.1) (u.2 ∙ sym same)))
           w)
           (shown_cases Led (done ++ arcs_from p n i i.op) (inlet n s) (port_of (own_instr p ch (inlets_at xs n) (mark_of ms n) i) s) (own_shown s))
 
-      found_by : (y : Arc) → (y.from < n) ⊎ (y.from ≡ n) → (Led y → ⊥) → Leads arcs chosen y → some_lead (own_instr p ch (inlets_at xs n) (mark_of ms n) i) ≡ true
+      found_by : (y : Arc) → (y.from < n) ⊎ (y.from ≡ n) → (Led y → ⊥) → Leads arcs chosen y
+          → some_lead (own_instr p ch (inlets_at xs n) (mark_of ms n) i) ≡ true
       found_by y from not (by_choice _ c) = absurd (⊎_elim (λ lt. not (inr (lt, by_choice y c))) (λ at. not (inl (at, c))) from)
       found_by y from not (by_port _ side f) = ⊎_elim
           (λ lt. absurd (not (inr (lt, by_port y side f))))
@@ -161,13 +180,17 @@ module _ (p : Plan) (ch : Chosen) (ms : List Mark) (arcs : List Arc) (chosen : A
       λ w. found (inlet n w.0) w.0 refl w.1,
     )
 
-    leads_from : (y : Arc) (b : Bool) → y.from ≡ n → Leads arcs chosen y → Decides b (chosen y) → (some_lead (own_instr p ch (inlets_at xs n) (mark_of ms n) i) || b) ≡ true
+    leads_from : (y : Arc) (b : Bool) → y.from ≡ n → Leads arcs chosen y → Decides b (chosen y)
+        → (some_lead (own_instr p ch (inlets_at xs n) (mark_of ms n) i) || b) ≡ true
     leads_from y b at (by_choice _ c) d = or_right (some_lead (own_instr p ch (inlets_at xs n) (mark_of ms n) i)) b (d.1 c)
-    leads_from y b at (by_port _ side f) d = or_left (some_lead (own_instr p ch (inlets_at xs n) (mark_of ms n) i)) b (some_port.1 (side, subst (λ m. IsAfter arcs chosen (inlet m side)) at f))
+    leads_from y b at (by_port _ side f) d = or_left (some_lead (own_instr p ch (inlets_at xs n) (mark_of ms n) i)) b
+        (some_port.1 (side, subst (λ m. IsAfter arcs chosen (inlet m side)) at f))
 
-    leads_exact : (s : Bool) (y : Arc) → IsFrom n s y → Decides (some_lead (own_instr p ch (inlets_at xs n) (mark_of ms n) i) || is_chosen ch i (mark_of ms n) s) (Leads arcs chosen y)
+    leads_exact : (s : Bool) (y : Arc) → IsFrom n s y → Decides (some_lead (own_instr p ch (inlets_at xs n) (mark_of ms n) i)
+        || is_chosen ch i (mark_of ms n) s) (Leads arcs chosen y)
     leads_exact s y from =
-        let d : Decides (is_chosen ch i (mark_of ms n) s) (chosen y) = subst (λ t. Decides (is_chosen ch i (mark_of ms n) t) (chosen y)) from.1 (says y from.0) in (
+        let d : Decides (is_chosen ch i (mark_of ms n) s) (chosen y) = subst (λ t. Decides (is_chosen ch i (mark_of ms n) t) (chosen y)) from.1
+        (says y from.0) in (
           λ t. ⊎_elim
               (λ a. let w = some_port.0 a in by_port y w.0 (subst (λ m. IsAfter arcs chosen (inlet m w.0)) (sym from.0) w.1))
               (λ a. by_choice y (d.0 a))
@@ -178,18 +201,21 @@ module _ (p : Plan) (ch : Chosen) (ms : List Mark) (arcs : List Arc) (chosen : A
     pub instr_shown : Shows (Leads arcs chosen) (done ++ arcs_from p n i i.op) (enter_instr p ch xs n (mark_of ms n) i)
     instr_shown =
         let lead = some_lead (own_instr p ch (inlets_at xs n) (mark_of ms n) i) in
-        entered_shown (Leads arcs chosen) p done xs n (lead || is_chosen ch i (mark_of ms n) false) (lead || is_chosen ch i (mark_of ms n) true) i (leads_exact false) (leads_exact true) h
+        entered_shown (Leads arcs chosen) p done xs n (lead || is_chosen ch i (mark_of ms n) false) (lead || is_chosen ch i (mark_of ms n) true) i
+        (leads_exact false) (leads_exact true) h
 
     pub earlier_more : (y : Arc) → Contains (done ++ arcs_from p n i i.op) y → y.from < n + 1
     earlier_more y there = ⊎_elim (λ lt. omega (arith, lt)) (λ at. omega (arith, at)) (from_done y there)
 
-  pub pass_shown : (done : List Arc) (xs : List Inlets) (n : ℕ) (is : List Instr) → arcs ≡ done ++ arcs_of p n is → ((y : Arc) → Contains done y → y.from < n) → n + length is ≤ length xs → ByPlace Says n is
+  pub pass_shown : (done : List Arc) (xs : List Inlets) (n : ℕ) (is : List Instr) → arcs ≡ done ++ arcs_of p n is
+      → ((y : Arc) → Contains done y → y.from < n) → n + length is ≤ length xs → ByPlace Says n is
       → Shows (Leads arcs chosen) done xs → Shows (Leads arcs chosen) arcs (pass p ch ms xs n is)
   pass_shown done xs n [] e earlier long says h = subst (λ zs. Shows (Leads arcs chosen) zs xs) (sym (e ∙ append-nil done)) h
   pass_shown done xs n (i ∷ is) e earlier long says h =
       let rest = arcs_of p (n + 1) is in
       let len = instr_long p ch xs n (mark_of ms n) i in
-      let later : (y : Arc) → Contains rest y → (n < y.from) × (y.from ≤ y.to.place) = λ y there. (let w = from_later p (n + 1) is y there in let f = w.0 in (omega (arith, f), w.1)) in
+      let later : (y : Arc) → Contains rest y → (n < y.from) × (y.from ≤ y.to.place) = λ y there. (let w = from_later p (n + 1) is y there
+      in let f = w.0 in (omega (arith, f), w.1)) in
       let within : n < length xs = omega (arith, long) in
       pass_shown (done ++ arcs_from p n i i.op) (enter_instr p ch xs n (mark_of ms n) i) (n + 1) is
       (e ∙ sym (append_assoc done (arcs_from p n i i.op) rest))
@@ -214,7 +240,8 @@ module _ (p : Plan) (ch : Chosen) (ms : List Mark) (arcs : List Arc) (chosen : A
       let start = length-replicate (length is) bare in
       let len = pass_long p ch ms (replicate (length is) bare) 0 is in
       let all = pass_shown [] (replicate (length is) bare) 0 is e (λ y there. omega (arith, there.1)) (omega (arith, start)) says (none_shown (length is)) in
-      follows_shown arcs chosen arcs (inlet k s) (port_of (inlets_at (pass p ch ms (replicate (length is) bare) 0 is) k) s) (λ y a. a) (λ y a b. a) (all k s (omega (arith, start, len, below)))
+      follows_shown arcs chosen arcs (inlet k s) (port_of (inlets_at (pass p ch ms (replicate (length is) bare) 0 is) k) s) (λ y a. a) (λ y a b. a)
+      (all k s (omega (arith, start, len, below)))
 
 -- THE ROW
 abbrev pub bit : List Bool → ℕ → Bool
@@ -272,7 +299,11 @@ ports_exact (Open k) x = (λ e. on_left e, λ f. f Left refl)
 ports_exact (Take k) x = (λ e. λ s f. absurd (both_ways false refl f), λ f. refl)
 ports_exact (Give k) x = (λ e. λ s f. absurd (both_ways false refl f), λ f. refl)
 ports_exact (Drain k) x = (λ e. λ s f. absurd (both_ways false refl f), λ f. refl)
-ports_exact op x = (λ e. both_sides (and_parts (all_lead x.left) (all_lead x.right) e), λ f. and_from (all_lead x.left) (all_lead x.right) (f Left refl) (f Right refl))
+ports_exact op x = (
+  λ e. both_sides (and_parts (all_lead x.left) (all_lead x.right) e),
+  λ f. and_from (all_lead x.left) (all_lead x.right)
+      (f Left refl) (f Right refl),
+)
   where
     both_sides : (all_lead x.left ≡ true) × (all_lead x.right ≡ true) → (s : Port) → true ≡ true → all_lead (port_of x s) ≡ true
     both_sides h Left f = h.0

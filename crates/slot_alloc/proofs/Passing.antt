@@ -1,10 +1,12 @@
 -- The pass finds exactly the ports that follow: by induction over the instructions, for arcs that go forward.
-use Rattle.std.proofs.Common.{◌≡◌, refl, sym, ap, ◌∙◌, subst, ℕ, zero, suc, ◌+◌, ◌<◌, ◌≤◌, Bool, true, false, List, [], ◌∷◌, ◌++◌, length, set, cond, ◌&&◌, nat_lt, ◌==◌, ⊎_elim, arith}
+use Rattle.std.proofs.Common.{◌≡◌, refl, sym, ap, ◌∙◌, subst, ℕ, zero, suc, ◌+◌, ◌<◌, ◌≤◌, Bool, true, false, List, [], ◌∷◌, ◌++◌, length, set}
+use Rattle.std.proofs.Common.{cond, ◌&&◌, nat_lt, ◌==◌, ⊎_elim, arith}
 use Rattle.std.specs.Prelude.{Contains, All, flat_map}
 use Rattle.std.specs.Bool.{Decides}
 use Rattle.std.proofs.lemmas.Bool.{ne_eqb, lt-ltb, cases_eq, both_ways}
 use Rattle.std.proofs.lemmas.List.{append_assoc, append-nil, get_or-set_same, get_or-set_other, length-set}
-use Rattle.std.proofs.lemmas.List.Elements.{Contains-append_left, Contains-append_right, Contains-append_cases, Contains-push, Contains-push_cases, All-contains, All-nil, All-cons, All-append}
+use Rattle.std.proofs.lemmas.List.Elements.{Contains-append_left, Contains-append_right, Contains-append_cases, Contains-push, Contains-push_cases}
+use Rattle.std.proofs.lemmas.List.Elements.{All-contains, All-nil, All-cons, All-append}
 use Rattle.lemmas.proofs.Contains.{contains_none}
 use Rattle.tags.specs.declared.token.Port.{Port}
 use Rattle.tags.specs.declared.token.Port.TheVariants.{Left, Right}
@@ -16,7 +18,8 @@ use Rattle.semantics.specs.Plan.{Plan, landing}
 use Rattle.semantics.specs.Sharing.{Inlet, inlet, Arc, arc, arcs_to, row, arcs_from, arcs_of, IsAfter, is_after, Leads}
 use Rattle.slot_alloc.specs.Passes.{Inflow, Bare, AllLead, NotAll}
 use Rattle.slot_alloc.specs.Passes.{Inlets}
-use Rattle.slot_alloc.specs.Passes.{bare, inlets_at, inflow_with, inlets_with, enter, enter_each, enter_row, enter_landings, enter_firsts, all_lead, own_each, own_landings, own_firsts}
+use Rattle.slot_alloc.specs.Passes.{bare, inlets_at, inflow_with, inlets_with, enter, enter_each, enter_row, enter_landings, enter_firsts, all_lead}
+use Rattle.slot_alloc.specs.Passes.{own_each, own_landings, own_firsts}
 
 abbrev pub port_of : Inlets → Port → Inflow
 port_of x Left = x.left
@@ -45,7 +48,8 @@ pub row_as_arcs : (xs : List Inlets) (from n : ℕ) (b : Bool) (k : ℕ) → ent
 row_as_arcs xs from n b zero = refl
 row_as_arcs xs from n b (suc k) = sym (row_first xs n b k) ∙ row_as_arcs (enter xs n Left b) from (n + 1) b k
 
-pub landings_as_arcs : (xs : List Inlets) (n : ℕ) (b : Bool) (size : ℕ) (ds : List Dest) → enter_landings xs n b size ds ≡ enter_arcs xs b (flat_map (λ (d : Dest). row n (n + d.ahead) size) ds)
+pub landings_as_arcs : (xs : List Inlets) (n : ℕ) (b : Bool) (size : ℕ) (ds : List Dest) → enter_landings xs n b size ds
+    ≡ enter_arcs xs b (flat_map (λ (d : Dest). row n (n + d.ahead) size) ds)
 landings_as_arcs xs n b size [] = refl
 landings_as_arcs xs n b size (d ∷ ds) =
     landings_as_arcs (enter_row xs (n + d.ahead) b size) n b size ds
@@ -57,7 +61,8 @@ abbrev pub firsts_arcs : Plan → ℕ → List Dest → Op → List Arc
 firsts_arcs p n ds (Link b) = flat_map (λ (d : Dest). row n (n + d.ahead) (landing p b)) ds
 firsts_arcs p n ds op = arcs_to n false ds
 
-pub firsts_as_arcs : (p : Plan) (xs : List Inlets) (n : ℕ) (b : Bool) (ds : List Dest) (op : Op) → enter_firsts p xs n b ds op ≡ enter_arcs xs b (firsts_arcs p n ds op)
+pub firsts_as_arcs : (p : Plan) (xs : List Inlets) (n : ℕ) (b : Bool) (ds : List Dest) (op : Op) → enter_firsts p xs n b ds op
+    ≡ enter_arcs xs b (firsts_arcs p n ds op)
 firsts_as_arcs p xs n b ds (Link t) = landings_as_arcs xs n b (landing p t) ds
 firsts_as_arcs p xs n b ds op = each_as_arcs xs n false b ds
 
@@ -75,11 +80,13 @@ to_from n s (d ∷ ds) = All-cons (IsFrom n s) (arc n s (inlet (n + d.ahead) d.p
 
 row_starts : (n from k : ℕ) → n ≤ from → All (IsFrom n false) (row n from k)
 row_starts n from zero le = All-nil (IsFrom n false)
-row_starts n from (suc k) le = All-cons (IsFrom n false) (arc n false (inlet from Left)) (row n (from + 1) k) (refl, refl, le) (row_starts n (from + 1) k (omega (arith, le)))
+row_starts n from (suc k) le = All-cons (IsFrom n false) (arc n false (inlet from Left)) (row n (from + 1) k) (refl, refl, le)
+    (row_starts n (from + 1) k (omega (arith, le)))
 
 landings_from : (n size : ℕ) (ds : List Dest) → All (IsFrom n false) (flat_map (λ (d : Dest). row n (n + d.ahead) size) ds)
 landings_from n size [] = All-nil (IsFrom n false)
-landings_from n size (d ∷ ds) = All-append (IsFrom n false) (row n (n + d.ahead) size) (flat_map (λ (e : Dest). row n (n + e.ahead) size) ds) (row_starts n (n + d.ahead) size (omega arith)) (landings_from n size ds)
+landings_from n size (d ∷ ds) = All-append (IsFrom n false) (row n (n + d.ahead) size) (flat_map (λ (e : Dest). row n (n + e.ahead) size) ds)
+    (row_starts n (n + d.ahead) size (omega arith)) (landings_from n size ds)
 
 firsts_from : (p : Plan) (n : ℕ) (ds : List Dest) (op : Op) → All (IsFrom n false) (firsts_arcs p n ds op)
 firsts_from p n ds (Link t) = landings_from n (landing p t) ds
@@ -115,7 +122,8 @@ module _ (L : Arc → Type 0) where
   abbrev pub Shows : List Arc → List Inlets → Type 0
   Shows done xs = (k : ℕ) (s : Port) → k < length xs → Shown done (inlet k s) (port_of (inlets_at xs k) s)
 
-  shown_same : (done : List Arc) (q : Inlet) (v : Inflow) (y : Arc) (b : Bool) → y.to ≡ q → Decides b (L y) → Shown done q v → Shown (done ++ y ∷ []) q (inflow_with v b)
+  shown_same : (done : List Arc) (q : Inlet) (v : Inflow) (y : Arc) (b : Bool) → y.to ≡ q → Decides b (L y) → Shown done q v
+      → Shown (done ++ y ∷ []) q (inflow_with v b)
   shown_same done q Bare y true to d h = (
     (y, Contains-push done y, to),
     λ z there e. ⊎_elim (λ a. absurd (h z a e)) (λ same. subst L same (d.0 refl)) (Contains-push_cases done y z there),
@@ -148,14 +156,16 @@ module _ (L : Arc → Type 0) where
   here_shown done k x y Right Left b to d h = shown_other done (inlet k Left) x.left y (λ e. ports_apart y.to k (sym e ∙ to)) (h Left)
   here_shown done k x y Right Right b to d h = shown_same done (inlet k Right) x.right y b to d (h Right)
 
-  enter_shows : (done : List Arc) (xs : List Inlets) (y : Arc) (b : Bool) → Decides b (L y) → Shows done xs → Shows (done ++ y ∷ []) (enter xs y.to.place y.to.port b)
+  enter_shows : (done : List Arc) (xs : List Inlets) (y : Arc) (b : Bool) → Decides b (L y) → Shows done xs
+      → Shows (done ++ y ∷ []) (enter xs y.to.place y.to.port b)
   enter_shows done xs y b d h = λ k s below.
       let lt : k < length xs = subst (λ n. k < n) (length-set xs y.to.place (inlets_with (inlets_at xs y.to.place) y.to.port b)) below in
       let new = inlets_with (inlets_at xs y.to.place) y.to.port b in
       ⊎_elim
       (λ (e : k ≡ y.to.place).
       let within : y.to.place < length xs = subst (λ n. n < length xs) e lt in
-      let at : inlets_at (set xs y.to.place new) k ≡ new = subst (λ n. inlets_at (set xs y.to.place new) n ≡ new) (sym e) (get_or-set_same xs y.to.place new bare within) in
+      let at : inlets_at (set xs y.to.place new) k ≡ new = subst (λ n. inlets_at (set xs y.to.place new) n ≡ new) (sym e)
+      (get_or-set_same xs y.to.place new bare within) in
       subst (λ x. Shown (done ++ y ∷ []) (inlet k s) (port_of x s)) (sym at)
       (subst (λ n. Shown (done ++ y ∷ []) (inlet n s) (port_of new s)) (sym e)
       (here_shown done y.to.place (inlets_at xs y.to.place) y y.to.port s b refl d (λ t. h y.to.place t within))))
@@ -164,7 +174,8 @@ module _ (L : Arc → Type 0) where
       (shown_other done (inlet k s) (port_of (inlets_at xs k) s) y (λ e. ne (sym (ap (λ (q : Inlet). q.place) e))) (h k s lt)))
       (cases_eq k y.to.place)
 
-  pub arcs_shown : (done : List Arc) (xs : List Inlets) (b : Bool) (ys : List Arc) → ((y : Arc) → Contains ys y → Decides b (L y)) → Shows done xs → Shows (done ++ ys) (enter_arcs xs b ys)
+  pub arcs_shown : (done : List Arc) (xs : List Inlets) (b : Bool) (ys : List Arc) → ((y : Arc) → Contains ys y → Decides b (L y)) → Shows done xs
+      → Shows (done ++ ys) (enter_arcs xs b ys)
   arcs_shown done xs b [] d h = subst (λ zs. Shows zs xs) (sym (append-nil done)) h
   arcs_shown done xs b (y ∷ ys) d h =
       subst (λ zs. Shows zs (enter_arcs (enter xs y.to.place y.to.port b) b ys)) (append_assoc done (y ∷ []) ys)
@@ -174,7 +185,8 @@ module _ (L : Arc → Type 0) where
 
 -- a port whose arcs are all entered
 module _ (arcs : List Arc) (chosen : Arc → Type 0) where
-  pub follows_shown : (done : List Arc) (q : Inlet) (v : Inflow) → ((y : Arc) → Contains done y → Contains arcs y) → ((y : Arc) → Contains arcs y → y.to ≡ q → Contains done y)
+  pub follows_shown : (done : List Arc) (q : Inlet) (v : Inflow) → ((y : Arc) → Contains done y → Contains arcs y)
+      → ((y : Arc) → Contains arcs y → y.to ≡ q → Contains done y)
       → Shown (Leads arcs chosen) done q v → Decides (all_lead v) (IsAfter arcs chosen q)
   follows_shown done q Bare sub all h = (λ e. absurd (both_ways false refl e), λ f. absurd (bare_port f))
     where
@@ -188,7 +200,8 @@ module _ (arcs : List Arc) (chosen : Arc → Type 0) where
 
 -- THE OWN ARCS of an instruction are those that lead to its ports when all are entered
 module _ (n : ℕ) where
-  enter_own : (xs : List Inlets) (k : ℕ) (q : Port) (b : Bool) → n < length xs → inlets_at (enter xs (n + k) q b) n ≡ cond (k == 0) (inlets_with (inlets_at xs n) q b) (inlets_at xs n)
+  enter_own : (xs : List Inlets) (k : ℕ) (q : Port) (b : Bool) → n < length xs → inlets_at (enter xs (n + k) q b) n
+      ≡ cond (k == 0) (inlets_with (inlets_at xs n) q b) (inlets_at xs n)
   enter_own xs zero q b within =
       let e : n + zero ≡ n = omega arith in
       subst (λ m. inlets_at (enter xs m q b) n ≡ inlets_with (inlets_at xs n) q b) (sym e) (get_or-set_same xs n (inlets_with (inlets_at xs n) q b) bare within)
@@ -226,7 +239,8 @@ module _ (n : ℕ) where
       let ne : ◌≡◌ {A = ℕ} n (n + suc k) → ⊥ = λ e. omega (arith, e) in
       get_or-set_other ys (n + suc k) n (inlets_with (inlets_at ys (n + suc k)) Left b) bare ne ∙ row_there xs b k within
 
-  row_own : (xs : List Inlets) (a : ℕ) (b : Bool) (k : ℕ) → n < length xs → inlets_at (enter_row xs (n + a) b k) n ≡ cond ((a == 0) && nat_lt 0 k) (inlets_with (inlets_at xs n) Left b) (inlets_at xs n)
+  row_own : (xs : List Inlets) (a : ℕ) (b : Bool) (k : ℕ) → n < length xs → inlets_at (enter_row xs (n + a) b k) n
+      ≡ cond ((a == 0) && nat_lt 0 k) (inlets_with (inlets_at xs n) Left b) (inlets_at xs n)
   row_own xs zero b zero within = refl
   row_own xs zero b (suc k) within =
       let e : n + zero ≡ n = omega arith in
@@ -239,13 +253,15 @@ module _ (n : ℕ) where
       row_beyond xs (n + suc a) b k lt
       ∙ sym (ap (λ t. cond (t && nat_lt 0 k) (inlets_with (inlets_at xs n) Left b) (inlets_at xs n)) (ne_eqb (suc a) 0 off))
 
-  landings_own : (xs : List Inlets) (b : Bool) (size : ℕ) (ds : List Dest) → n < length xs → inlets_at (enter_landings xs n b size ds) n ≡ own_landings (inlets_at xs n) b size ds
+  landings_own : (xs : List Inlets) (b : Bool) (size : ℕ) (ds : List Dest) → n < length xs → inlets_at (enter_landings xs n b size ds) n
+      ≡ own_landings (inlets_at xs n) b size ds
   landings_own xs b size [] within = refl
   landings_own xs b size (d ∷ ds) within =
       let len = row_long xs (n + d.ahead) b size in
       landings_own (enter_row xs (n + d.ahead) b size) b size ds (omega (arith, within, len))
       ∙ ap (λ x. own_landings x b size ds) (row_own xs d.ahead b size within)
 
-  pub firsts_own : (p : Plan) (xs : List Inlets) (b : Bool) (ds : List Dest) (op : Op) → n < length xs → inlets_at (enter_firsts p xs n b ds op) n ≡ own_firsts p (inlets_at xs n) b ds op
+  pub firsts_own : (p : Plan) (xs : List Inlets) (b : Bool) (ds : List Dest) (op : Op) → n < length xs → inlets_at (enter_firsts p xs n b ds op) n
+      ≡ own_firsts p (inlets_at xs n) b ds op
   firsts_own p xs b ds (Link t) within = landings_own xs b (landing p t) ds within
   firsts_own p xs b ds op within = each_own xs b ds within

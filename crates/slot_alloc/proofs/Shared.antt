@@ -1,5 +1,6 @@
 -- The table says exactly which holders may share.
-use Rattle.std.proofs.Common.{◌≡◌, ◌≢◌, refl, sym, ap, ◌∙◌, subst, ℕ, zero, suc, ◌+◌, ◌<◌, Bool, true, false, not, ◌&&◌, ◌||◌, List, [], ◌∷◌, ◌++◌, length, replicate, cond, Option, Some, inl, inr, ⊎_elim, arith, ◌⊎◌}
+use Rattle.std.proofs.Common.{◌≡◌, ◌≢◌, refl, sym, ap, ◌∙◌, subst, ℕ, zero, suc, ◌+◌, ◌<◌, Bool, true, false, not, ◌&&◌, ◌||◌, List, [], ◌∷◌, ◌++◌}
+use Rattle.std.proofs.Common.{length, replicate, cond, Option, Some, inl, inr, ⊎_elim, arith, ◌⊎◌}
 use Rattle.std.specs.Prelude.{slice_get}
 use Rattle.std.specs.Bool.{Decides}
 use Rattle.std.specs.List.{list_any}
@@ -13,7 +14,8 @@ use Rattle.semantics.specs.declared.program.Mark.{Mark}
 use Rattle.semantics.specs.declared.program.Mark.TheVariants.{Unmarked, OfCond, OfFlag}
 use Rattle.semantics.specs.Program.{Instr, CodeBlock}
 use Rattle.semantics.specs.Plan.{Plan}
-use Rattle.semantics.specs.Sharing.{Inlet, inlet, Arc, arcs_of, arcs_in, IsAfter, is_after, Leads, by_choice, by_port, IsEnd, IsSide, IsHolderPort, AllAfter, AllOnSide, MayShare}
+use Rattle.semantics.specs.Sharing.{Inlet, inlet, Arc, arcs_of, arcs_in, IsAfter, is_after, Leads, by_choice, by_port, IsEnd, IsSide, IsHolderPort}
+use Rattle.semantics.specs.Sharing.{AllAfter, AllOnSide, MayShare}
 use Rattle.code.specs.Marks.{marks_in}
 use Rattle.slot_alloc.specs.Passes.{Chosen}
 use Rattle.slot_alloc.specs.Passes.{Ends, Side}
@@ -37,10 +39,12 @@ module _ (p : Plan) (c : CodeBlock) (ms : List Mark) (ch : Chosen) (chosen : Arc
       (λ k i at. let e : k ≡ 0 + k = omega arith in subst (λ n. Says p ch ms (arcs_of p 0 c.instrs) chosen n i) e (says k i at))
 
   port_exact : (k : ℕ) (i : Instr) (s : Port) → slice_get c.instrs k ≡ Some i
-      → Decides (all_lead (port_of (inlets_at (pass p ch ms (replicate (length c.instrs) bare) 0 c.instrs) k) s)) (IsAfter (arcs_of p 0 c.instrs) chosen (inlet k s))
+      → Decides (all_lead (port_of (inlets_at (pass p ch ms (replicate (length c.instrs) bare) 0 c.instrs) k) s))
+      (IsAfter (arcs_of p 0 c.instrs) chosen (inlet k s))
   port_exact k i s at = follows_exact p ch ms (arcs_of p 0 c.instrs) chosen c.instrs refl said k s (slice_get_within c.instrs k i at)
 
-  kept_exact : (g : ℕ) → Decides (bit (row_of p ch ms c) g) ((bit (replicate c.slots true) g ≡ true) × ByPlace (Kept g (pass p ch ms (replicate (length c.instrs) bare) 0 c.instrs)) 0 c.instrs) → g < c.slots
+  kept_exact : (g : ℕ) → Decides (bit (row_of p ch ms c) g) ((bit (replicate c.slots true) g ≡ true)
+      × ByPlace (Kept g (pass p ch ms (replicate (length c.instrs) bare) 0 c.instrs)) 0 c.instrs) → g < c.slots
       → Decides (bit (row_of p ch ms c) g) (AllFollow g)
   kept_exact g d below = (
     λ e q is.
@@ -49,20 +53,23 @@ module _ (p : Plan) (c : CodeBlock) (ms : List Mark) (ch : Chosen) (chosen : Arc
         let kept = at_place (Kept g (pass p ch ms (replicate (length c.instrs) bare) 0 c.instrs)) 0 c.instrs w.1 q.place is.0 is.1.0 in
         let leads : ports_lead is.0.op (inlets_at (pass p ch ms (replicate (length c.instrs) bare) 0 c.instrs) q.place) ≡ true =
         subst (λ n. ports_lead is.0.op (inlets_at (pass p ch ms (replicate (length c.instrs) bare) 0 c.instrs) n) ≡ true) m (kept is.1.1) in
-        (port_exact q.place is.0 q.port is.1.0).0 ((ports_exact is.0.op (inlets_at (pass p ch ms (replicate (length c.instrs) bare) 0 c.instrs) q.place)).0 leads q.port is.2),
+        (port_exact q.place is.0 q.port is.1.0).0
+        ((ports_exact is.0.op (inlets_at (pass p ch ms (replicate (length c.instrs) bare) 0 c.instrs) q.place)).0 leads q.port is.2),
     λ f. d.1 (
       get_or-replicate c.slots g true false below,
       from_places (Kept g (pass p ch ms (replicate (length c.instrs) bare) 0 c.instrs)) 0 c.instrs (λ k i at.
           let m : k ≡ 0 + k = omega arith in
           subst (λ n. Kept g (pass p ch ms (replicate (length c.instrs) bare) 0 c.instrs) n i) m
-          (λ held. (ports_exact i.op (inlets_at (pass p ch ms (replicate (length c.instrs) bare) 0 c.instrs) k)).1 (λ s is. (port_exact k i s at).1 (f (inlet k s) (i, (at, held), is))))),
+          (λ held. (ports_exact i.op (inlets_at (pass p ch ms (replicate (length c.instrs) bare) 0 c.instrs) k)).1
+          (λ s is. (port_exact k i s at).1 (f (inlet k s) (i, (at, held), is))))),
     ),
   )
 
   pub all_follow_exact : (g : ℕ) → g < c.slots → Decides (bit (row_of p ch ms c) g) (AllFollow g)
   all_follow_exact g below =
       let len = length-replicate c.slots true in
-      kept_exact g (row_exact g (pass p ch ms (replicate (length c.instrs) bare) 0 c.instrs) (replicate c.slots true) 0 c.instrs (omega (arith, len, below))) below
+      kept_exact g (row_exact g (pass p ch ms (replicate (length c.instrs) bare) 0 c.instrs) (replicate c.slots true) 0 c.instrs
+      (omega (arith, len, below))) below
 
 -- THE ROWS OF A BLOCK
 module _ (p : Plan) (b : ℕ) (c : CodeBlock) (at : slice_get p.program.blocks b ≡ Some c) where
@@ -129,18 +136,21 @@ module _ (p : Plan) (b : ℕ) (c : CodeBlock) (at : slice_get p.program.blocks b
       by_test : (t : Bool) → list_any (same_mark m) seen ≡ t → list_any (same_mark m) (with_mark seen m) ≡ true
       by_test true e = known_kept m m seen e
       by_test false e =
-          let go : (is_marked m && not (list_any (same_mark m) seen)) ≡ true = and_from (is_marked m) (not (list_any (same_mark m) seen)) (marked m ne) (ap not e) in
+          let go : (is_marked m && not (list_any (same_mark m) seen)) ≡ true = and_from (is_marked m) (not (list_any (same_mark m) seen))
+          (marked m ne) (ap not e) in
           let new : with_mark seen m ≡ seen ++ m ∷ [] = ap (λ t. cond t (seen ++ m ∷ []) seen) go in
           ap (list_any (same_mark m)) new ∙ list_any-append (same_mark m) seen (m ∷ [])
           ∙ or_right (list_any (same_mark m) seen) (list_any (same_mark m) (m ∷ [])) (or_left (same_mark m m) false ((same_mark_exact m m).1 (refl, ne)))
 
   known_mark : (m : Mark) (seen ms : List Mark) (n : ℕ) → m ≢ Unmarked → mark_of ms n ≡ m → list_any (same_mark m) (distinct seen ms) ≡ true
   known_mark m seen [] n ne e = absurd (ne (sym e))
-  known_mark m seen (x ∷ ms) zero ne e = known_after m (with_mark seen x) ms (subst (λ y. list_any (same_mark m) (with_mark seen y) ≡ true) (sym e) (known_new m seen ne))
+  known_mark m seen (x ∷ ms) zero ne e = known_after m (with_mark seen x) ms (subst (λ y. list_any (same_mark m) (with_mark seen y) ≡ true) (sym e)
+      (known_new m seen ne))
   known_mark m seen (x ∷ ms) (suc n) ne e = known_mark m (with_mark seen x) ms n ne e
 
   no_side : (m : Mark) (side : Bool) → list_any (same_mark m) (distinct [] (marks_in p b)) ≡ false → (y : Arc) → IsSide p b m side y → ⊥
-  no_side m side unknown y is = both_ways (list_any (same_mark m) (distinct [] (marks_in p b))) unknown (known_mark m [] (marks_in p b) y.from is.1 (sym (mark_at_of p b y.from) ∙ is.0))
+  no_side m side unknown y is = both_ways (list_any (same_mark m) (distinct [] (marks_in p b))) unknown
+      (known_mark m [] (marks_in p b) y.from is.1 (sym (mark_at_of p b y.from) ∙ is.0))
 
   -- EXACTLY the holders that may share
   abbrev pub shared : ℕ → ℕ → Bool

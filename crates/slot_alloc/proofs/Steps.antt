@@ -27,7 +27,8 @@ good_more p n slots c ss at is old new = λ b d rs below here there. ⊎_elim
     (λ (ne : b ≡ n → ⊥). old b d rs (omega (arith, below, ne)) here there)
     (cases_eq b n)
 
-pub good_all : (p : Plan) (n : ℕ) (slots : List (List ℕ)) → GoodBelow p n slots → length slots ≡ length p.program.blocks → length p.program.blocks ≤ n → Good p slots
+pub good_all : (p : Plan) (n : ℕ) (slots : List (List ℕ)) → GoodBelow p n slots → length slots ≡ length p.program.blocks → length p.program.blocks ≤ n
+    → Good p slots
 good_all p n slots h all end = record {
   all = all;
   blocks = λ b c ss here there. let lt = slice_get_within p.program.blocks b c here in h b c ss (omega (arith, lt, end)) here there;
@@ -35,13 +36,15 @@ good_all p n slots h all end = record {
 
 -- ASSIGNING
 abbrev pub AssignedBelow : Plan → ℕ → List (List ℕ) → Type 0
-AssignedBelow p n lists = (b : ℕ) (c : CodeBlock) → b < n → slice_get p.program.blocks b ≡ Some c → (ss : List ℕ) × (slice_get lists b ≡ Some ss) × IsBlockAssigned p b c ss
+AssignedBelow p n lists = (b : ℕ) (c : CodeBlock) → b < n → slice_get p.program.blocks b ≡ Some c → (ss : List ℕ) × (slice_get lists b ≡ Some ss)
+    × IsBlockAssigned p b c ss
 
 get_old : (lists : List (List ℕ)) (new ss : List ℕ) (b : ℕ) → slice_get lists b ≡ Some ss → slice_get (lists ++ new ∷ []) b ≡ Some ss
 get_old lists new ss b e =
     let lt = slice_get_within lists b ss e in
     let len = length_push lists new in
-    slice_get-get_or (lists ++ new ∷ []) b [] (omega (arith, lt, len)) ∙ ap (λ (x : List ℕ). Some x) (get_or_append_left lists (new ∷ []) [] b lt ∙ get_or_from_slice_get lists b ss [] e)
+    slice_get-get_or (lists ++ new ∷ []) b [] (omega (arith, lt, len)) ∙ ap (λ (x : List ℕ). Some x) (get_or_append_left lists (new ∷ []) [] b lt
+    ∙ get_or_from_slice_get lists b ss [] e)
 
 get_new : (lists : List (List ℕ)) (new : List ℕ) (b : ℕ) → length lists ≡ b → slice_get (lists ++ new ∷ []) b ≡ Some new
 get_new lists new b e =
@@ -76,7 +79,8 @@ assigned_all p n lists h len end = record {
       subst (λ x. AreLeast p b x) (same_Some w.0 ss (sym w.1 ∙ there)) w.2.least;
 }
 
-pub refused_first : (p : Plan) (n : ℕ) (lists : List (List ℕ)) (c : CodeBlock) (e : AssignFault) → slice_get p.program.blocks n ≡ Some c → AssignedBelow p n lists → IsBlockRefused p n c e → IsRefused p e
+pub refused_first : (p : Plan) (n : ℕ) (lists : List (List ℕ)) (c : CodeBlock) (e : AssignFault) → slice_get p.program.blocks n ≡ Some c
+    → AssignedBelow p n lists → IsBlockRefused p n c e → IsRefused p e
 refused_first p n lists c (TooManySlots b) at old h = record {
   block = c;
   here = ap (λ k. slice_get p.program.blocks k) h.0 ∙ at;
@@ -92,7 +96,8 @@ fill_refused p n c at t holders (TooManySlots b) same all h =
     (h.0, crowded_from p n c at h.1.0 (subst (λ k. IsFull (the_table p n c at) k h.1.0) all (subst (λ x. IsFull x holders h.1.0) same h.1.1)))
 fill_refused p n c at t holders Memory same all h = tt
 
-pub full_by : (t : Table) (holders n : ℕ) (ss seen : List ℕ) → seen ≡ ss → IsFilled t ss → length ss ≡ n → n < holders → ((s : ℕ) → s < 512 → IsClosedAt t seen (length seen) s) → IsFull t holders ss
+pub full_by : (t : Table) (holders n : ℕ) (ss seen : List ℕ) → seen ≡ ss → IsFilled t ss → length ss ≡ n → n < holders
+    → ((s : ℕ) → s < 512 → IsClosedAt t seen (length seen) s) → IsFull t holders ss
 full_by t holders n ss seen same filled len left closed = record {
   left = omega (arith, len, left);
   filled = filled;

@@ -1,6 +1,7 @@
 -- One pass over the instructions of a block in their order: of each port it says whether there is an arc into it, and
 -- whether each arc into it is chosen or starts at an instruction with such a port.
-use Rattle.std.specs.Prelude.{ℕ, zero, suc, ◌+◌, Bool, true, false, not, ◌&&◌, ◌||◌, ◌==◌, List, [], ◌∷◌, Option, Some, None, slice_get, slice_set, slice_index_or, unwrap_or, nat_lt, if◌then◌else◌}
+use Rattle.std.specs.Prelude.{ℕ, zero, suc, ◌+◌, Bool, true, false, not, ◌&&◌, ◌||◌, ◌==◌, List, [], ◌∷◌, Option, Some, None, slice_get, slice_set}
+use Rattle.std.specs.Prelude.{slice_index_or, unwrap_or, nat_lt, if◌then◌else◌}
 use Rattle.tags.specs.declared.token.Port.{Port}
 use Rattle.tags.specs.declared.token.Port.TheVariants.{Left, Right}
 use Rattle.semantics.specs.declared.program.Dest.{Dest}
@@ -111,7 +112,8 @@ own_instr p ch x m i = own_each (own_firsts p x (is_chosen ch i m false) i.first
 -- an instruction's arcs lead by a port of its own, or are chosen
 abbrev pub enter_instr : Plan → Chosen → List Inlets → ℕ → Mark → Instr → List Inlets
 enter_instr p ch xs n m i =
-    enter_each (enter_firsts p xs n (some_lead (own_instr p ch (inlets_at xs n) m i) || is_chosen ch i m false) i.firsts i.op) n (some_lead (own_instr p ch (inlets_at xs n) m i) || is_chosen ch i m true) i.seconds
+    enter_each (enter_firsts p xs n (some_lead (own_instr p ch (inlets_at xs n) m i) || is_chosen ch i m false) i.firsts i.op) n
+    (some_lead (own_instr p ch (inlets_at xs n) m i) || is_chosen ch i m true) i.seconds
 
 abbrev pub mark_of : List Mark → ℕ → Mark
 mark_of ms n = unwrap_or (slice_get ms n) Unmarked

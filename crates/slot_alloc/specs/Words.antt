@@ -1,5 +1,6 @@
 -- The pass and the row for 64 choices of arcs at once: a word has one lane, that is one bit, for each.
-use Rattle.std.specs.Prelude.{ℕ, zero, suc, ◌+◌, ◌-◌, ◌*◌, ◌%◌, ◌^◌, Bool, true, false, not, ◌&&◌, ◌==◌, List, [], ◌∷◌, Option, Some, None, length, replicate, slice_set, slice_index_or, nat_lt, bit_and, bit_or, if◌then◌else◌}
+use Rattle.std.specs.Prelude.{ℕ, zero, suc, ◌+◌, ◌-◌, ◌*◌, ◌%◌, ◌^◌, Bool, true, false, not, ◌&&◌, ◌==◌, List, [], ◌∷◌, Option, Some, None, length}
+use Rattle.std.specs.Prelude.{replicate, slice_set, slice_index_or, nat_lt, bit_and, bit_or, if◌then◌else◌}
 use Rattle.tags.specs.declared.token.Port.{Port}
 use Rattle.tags.specs.declared.token.Port.TheVariants.{Left, Right}
 use Rattle.semantics.specs.declared.program.Dest.{Dest}
@@ -82,7 +83,8 @@ own_instr p x firsts seconds i = own_each (own_firsts p x firsts i.firsts i.op) 
 -- an instruction's arcs lead by a port of its own, or are chosen
 abbrev pub enter_instr : Plan → List Flows → ℕ → ℕ → ℕ → Instr → List Flows
 enter_instr p xs n firsts seconds i =
-    enter_each (enter_firsts p xs n (bit_or (some_led (own_instr p (flows_at xs n) firsts seconds i)) firsts) i.firsts i.op) n (bit_or (some_led (own_instr p (flows_at xs n) firsts seconds i)) seconds) i.seconds
+    enter_each (enter_firsts p xs n (bit_or (some_led (own_instr p (flows_at xs n) firsts seconds i)) firsts) i.firsts i.op) n
+    (bit_or (some_led (own_instr p (flows_at xs n) firsts seconds i)) seconds) i.seconds
 
 -- WHICH LANES choose the first or the second destinations of an instruction
 abbrev pub one_lane : ℕ → ℕ
@@ -108,7 +110,8 @@ lanes (Sides false) known i m second = if second && is_marked m then mark_lanes 
 -- the instructions from the n-th on
 abbrev pub pass : Plan → Choice → List Mark → List Mark → List Flows → ℕ → List Instr → List Flows
 pass p ch known ms xs n [] = xs
-pass p ch known ms xs n (i ∷ is) = pass p ch known ms (enter_instr p xs n (lanes ch known i (mark_of ms n) false) (lanes ch known i (mark_of ms n) true) i) (n + 1) is
+pass p ch known ms xs n (i ∷ is) = pass p ch known ms (enter_instr p xs n (lanes ch known i (mark_of ms n) false)
+    (lanes ch known i (mark_of ms n) true) i) (n + 1) is
 
 -- THE ROW: of each holder the lanes in which all its ports are after the chosen arcs
 abbrev pub all_lanes : ℕ

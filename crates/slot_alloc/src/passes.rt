@@ -234,7 +234,8 @@ pub(crate) fn pass<A: Allocator>(
     known: &[Mark],
 ) -> Result<Vec<Flows, A>, AllocError>
     ensures all { IfOk result (λ v. length v.items ≡ length block.now.instrs) }
-    ensures exact { IfOk result (λ v. v.items ≡ of_words.pass plan.now choice known.now marks.now (replicate (length block.now.instrs) of_words.bare) 0 block.now.instrs) }
+    ensures exact { IfOk result (λ v. v.items ≡ of_words.pass plan.now choice known.now marks.now (replicate (length block.now.instrs) of_words.bare)
+        0 block.now.instrs) }
 {
     const BARE: Flow = Flow { arcs: 0, lanes: 0 };
     const NONE: Flows = Flows {

@@ -1,6 +1,7 @@
 //! Which holders of a block may share a slot.
 
-ghost use Rattle.std.specs.Prelude.{◌≡◌, ℕ, ◌+◌, ◌*◌, ◌/◌, ◌<◌, ◌^◌, ◌↔◌, [], length, replicate, IfOk, IfSome, IfNone, IsTrue, All, true, false, slice_get, slice_index_or, slice_set, if◌then◌else◌};
+ghost use Rattle.std.specs.Prelude.{◌≡◌, ℕ, ◌+◌, ◌*◌, ◌/◌, ◌<◌, ◌^◌, ◌↔◌, [], length, replicate, IfOk, IfSome, IfNone, IsTrue, All, true, false};
+ghost use Rattle.std.specs.Prelude.{slice_get, slice_index_or, slice_set, if◌then◌else◌};
 ghost use Rattle.std.specs.List.{list_any};
 ghost use Rattle.slot_alloc.specs.Passes.{same_mark};
 ghost use Rattle.slot_alloc.specs.Tables as of_tables;
@@ -98,7 +99,8 @@ fn splits_of<A: Allocator + Clone>(
     block: &CodeBlock<A>,
     marks: &[Mark],
 ) -> Result<Vec<Split<A>, A>, AllocError>
-    ensures { IfOk result (λ v. v.items ≡ of_tables.splits_of plan.now marks.now block.now (of_tables.distinct [] marks.now) (of_tables.groups (length (of_tables.distinct [] marks.now)))) }
+    ensures { IfOk result (λ v. v.items ≡ of_tables.splits_of plan.now marks.now block.now (of_tables.distinct [] marks.now)
+        (of_tables.groups (length (of_tables.distinct [] marks.now)))) }
 {
     let known = distinct(alloc.clone()?, marks)?;
     let mut splits = Vec::new(alloc.clone()?);
@@ -287,7 +289,8 @@ impl<A: Allocator> Table<A> {
         requires sided { next.is_sided ≡ list_any (of_tables.is_sided next.number) self.now.splits }
         requires start { group * 64 < length slots.now }
         ensures all { length blocked.new ≡ 512 }
-        ensures exact { of_tables.blocked_from self.now slots.now blocked.new (group * 64 + 64) ≡ of_tables.blocked_from self.now slots.now blocked.old (group * 64) }
+        ensures exact { of_tables.blocked_from self.now slots.now blocked.new (group * 64 + 64) ≡ of_tables.blocked_from self.now slots.now
+            blocked.old (group * 64) }
     {
         let lanes = self.after_lanes(next.number, group);
         let start = group * 64;

@@ -10,11 +10,14 @@ use Rattle.source.specs.Spelled.{others}
 use Rattle.source.specs.Fits.{Fits, FitsAll, FitsBody, FitsTurn, FitsProgram, count}
 use Rattle.source.specs.Outside.{bare, bound_by}
 use Rattle.source.specs.First.{◌>>=◌, must}
-use Rattle.source.specs.Rules.{function_in, written_or_one, main_name, values, list_values, first_values, body_values, turn_values, new_names, function_checked, functions_checked, heads, no_items, and_first}
-use Rattle.source.specs.Evaluates.{World, Env, Stores, Evaluates, EvaluatesAll, Runs, Turns, number, named, bracket, prefix, infix_, fetch, store, call, if_true, if_false, loop, one, more, lets, does, gives, chain, leaves, goes, ends, again}
+use Rattle.source.specs.Rules.{function_in, written_or_one, main_name, values, list_values, first_values, body_values, turn_values, new_names}
+use Rattle.source.specs.Rules.{function_checked, functions_checked, heads, no_items, and_first}
+use Rattle.source.specs.Evaluates.{World, Env, Stores, Evaluates, EvaluatesAll, Runs, Turns, number, named, bracket, prefix, infix_, fetch, store}
+use Rattle.source.specs.Evaluates.{call, if_true, if_false, loop, one, more, lets, does, gives, chain, leaves, goes, ends, again}
 use Rattle.source.specs.Counts.{IsGood, CountsHold, MainCounts}
 use Rattle.source.proofs.Steps.{then_ok, ok_same, ok_as}
-use Rattle.source.proofs.Kept.{test_ok, known_name, in_prefix, in_infix, in_fetch, in_store, IsCalled, in_call, in_if, IsTurned, in_loop, in_more, in_first, in_firsts, in_let, in_do, in_before, in_after}
+use Rattle.source.proofs.Kept.{test_ok, known_name, in_prefix, in_infix, in_fetch, in_store, IsCalled, in_call, in_if, IsTurned, in_loop, in_more}
+use Rattle.source.proofs.Kept.{in_first, in_firsts, in_let, in_do, in_before, in_after}
 
 -- the body of each function that a name stands for fits, and has its results
 abbrev pub EachGood : Program → Type 0

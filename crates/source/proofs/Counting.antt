@@ -2,7 +2,8 @@
 use Rattle.std.proofs.Common.{◌≡◌, ℕ, zero, suc, ◌+◌, List, [], ◌∷◌, ◌++◌, length, Option, Ok, sym, ap, ◌∙◌, arith, length-append}
 use Rattle.std.proofs.lemmas.List.{length-map}
 use Rattle.semantics.specs.declared.graph.Source.{Source}
-use Rattle.source.specs.Tree.{Name, NameAt, Expr, Number, Named, Bracket, Prefix, Infix, Fetch, Store, Call, If, Loop, Exprs, One, More, Body, Let, Do, Give, Chain, Program, names_of}
+use Rattle.source.specs.Tree.{Name, NameAt, Expr, Number, Named, Bracket, Prefix, Infix, Fetch, Store, Call, If, Loop, Exprs, One, More, Body, Let}
+use Rattle.source.specs.Tree.{Do, Give, Chain, Program, names_of}
 use Rattle.source.specs.Outside.{bare, bound_by}
 use Rattle.source.specs.Rules.{function_in, values, list_values, body_values}
 use Rattle.source.specs.Lowered.{Lowered, Site, Spot, Scope, spot_after, ports_from, let_scoped, results_of, merges, lower, lower_list, lower_body}

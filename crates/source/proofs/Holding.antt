@@ -1,5 +1,6 @@
 -- What a block holds splits where its lines do, and a block holds all its lines.
-use Rattle.std.proofs.Common.{◌≡◌, ℕ, ◌+◌, ◌-◌, Bool, false, List, [], ◌∷◌, ◌++◌, length, Some, None, nat_lt, if◌then◌else◌, refl, sym, ◌∙◌, ap, subst, arith, le-ltb, append_assoc, length-append}
+use Rattle.std.proofs.Common.{◌≡◌, ℕ, ◌+◌, ◌-◌, Bool, false, List, [], ◌∷◌, ◌++◌, length, Some, None, nat_lt, if◌then◌else◌, refl, sym, ◌∙◌, ap}
+use Rattle.std.proofs.Common.{subst, arith, le-ltb, append_assoc, length-append}
 use Rattle.std.specs.Prelude.{slice_get}
 use Rattle.semantics.specs.Graph.{Node, Block, node_at}
 use Rattle.source.specs.Holds.{Holds}

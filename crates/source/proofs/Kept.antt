@@ -6,11 +6,13 @@ use Rattle.source.specs.declared.word.InfixSign.{InfixSign}
 use Rattle.source.specs.declared.fault.Fault.{Fault}
 use Rattle.source.specs.declared.fault.FaultKind.{FaultKind}
 use Rattle.source.specs.declared.fault.FaultKind.TheVariants.{Arity, NoSuchName, BadBound, TooWide}
-use Rattle.source.specs.Tree.{Name, NameAt, NumberAt, Target, Expr, Named, Prefix, Infix, Fetch, Store, Call, If, Loop, Exprs, One, More, Body, Let, Do, Turn, Before, After, Function, Program, names_of}
+use Rattle.source.specs.Tree.{Name, NameAt, NumberAt, Target, Expr, Named, Prefix, Infix, Fetch, Store, Call, If, Loop, Exprs, One, More, Body, Let}
+use Rattle.source.specs.Tree.{Do, Turn, Before, After, Function, Program, names_of}
 use Rattle.source.specs.Spelled.{others}
 use Rattle.source.specs.Outside.{is_in, bare, bound_by, outside_turn}
 use Rattle.source.specs.First.{◌>>=◌, must}
-use Rattle.source.specs.Rules.{function_in, array_in, written_or_one, one_value, place_of, known_array, known_function, new_targets, new_first, and_first, values, list_values, first_values, body_values, turn_values}
+use Rattle.source.specs.Rules.{function_in, array_in, written_or_one, one_value, place_of, known_array, known_function, new_targets, new_first}
+use Rattle.source.specs.Rules.{and_first, values, list_values, first_values, body_values, turn_values}
 use Rattle.source.proofs.Steps.{then_ok, must_ok, ok_same, ok_as, ok_through}
 
 pub test_ok : (m k : ℕ) (kind : FaultKind) (at : ℕ) (t : ⊤) → must (m == k) kind at ≡ Ok t → m ≡ k
@@ -100,8 +102,12 @@ in_if p scope at q l r n h =
     let u = then_ok (body_values p scope l) (λ left. body_values p scope r >>= (λ right. must (left == right) Arity at >>= (λ same. Ok left))) n t.2 in
     let v = then_ok (body_values p scope r) (λ right. must (u.0 == right) Arity at >>= (λ same. Ok u.0)) n u.2 in
     let x = then_ok (must (u.0 == v.0) Arity at) (λ same. Ok u.0) n v.2 in
-    let o = one_is q s.0 t.0 t.1 in let e = ok_same u.0 n x.2 in let d = test_ok u.0 v.0 Arity at x.0 x.1 in
-    (record { values = ok_as (values p scope q) s.0 1 s.1 o.0 }, ok_as (body_values p scope l) u.0 n u.1 e, ok_through (body_values p scope r) u.0 v.0 n v.1 d e)
+    let o = one_is q s.0 t.0 t.1 in let e = ok_same u.0 n x.2 in let d = test_ok u.0 v.0 Arity at x.0 x.1 in (
+      record { values = ok_as (values p scope q) s.0 1 s.1 o.0 },
+      ok_as (body_values p scope l) u.0 n u.1 e,
+      ok_through (body_values p scope r) u.0 v.0
+          n v.1 d e,
+    )
 
 pub record IsTurned (p : Program) (scope : List Name) (bound : NumberAt) (firsts : Exprs) (turn : Turn) (n : ℕ) : Type 0 where
   pub small : (nat_le 2 bound.number && nat_le bound.number 64) ≡ true

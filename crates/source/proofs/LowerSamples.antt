@@ -11,7 +11,8 @@ use Rattle.semantics.specs.Graph.{Node, Graph}
 use Rattle.std.specs.Fmt.{digits}
 use Rattle.source.specs.Tree.{Name}
 use Rattle.source.specs.Lowered.{port, lowered}
-use Rattle.source.specs.Samples.{literals, least, signs, arithmetic, swapped, cells, stored_twice, pairs, strict_call, factorial, else_if, two_arms, sum_up, count_up, nested, hidden, shared, misses, two_faults}
+use Rattle.source.specs.Samples.{literals, least, signs, arithmetic, swapped, cells, stored_twice, pairs, strict_call, factorial, else_if, two_arms}
+use Rattle.source.specs.Samples.{sum_up, count_up, nested, hidden, shared, misses, two_faults}
 
 abbrev line : Region → Kind Name → List Source → Node Name
 line region kind sources = record { region = region; kind = kind; sources = sources }

@@ -1,11 +1,13 @@
 -- In a part that keeps the rules each name that is used is in scope.
 use Rattle.std.proofs.Common.{◌≡◌, ℕ, Bool, true, false, not, ◌||◌, List, [], ◌∷◌, ◌++◌, length, Ok, if◌then◌else◌, refl}
 use Rattle.semantics.specs.Graph.{same_name}
-use Rattle.source.specs.Tree.{Name, NameAt, Expr, Number, Named, Bracket, Prefix, Infix, Fetch, Store, Call, If, Loop, Exprs, One, More, Body, Let, Do, Give, Chain, Turn, Before, After, Program, names_of}
+use Rattle.source.specs.Tree.{Name, NameAt, Expr, Number, Named, Bracket, Prefix, Infix, Fetch, Store, Call, If, Loop, Exprs, One, More, Body, Let}
+use Rattle.source.specs.Tree.{Do, Give, Chain, Turn, Before, After, Program, names_of}
 use Rattle.source.specs.Spelled.{others}
 use Rattle.source.specs.Outside.{is_in, without, bare, bound_by, uses, list_uses, body_uses, turn_uses}
 use Rattle.source.specs.Rules.{values, list_values, first_values, body_values, turn_values, and_first}
-use Rattle.source.proofs.Kept.{known_name, in_prefix, in_infix, in_fetch, in_store, IsCalled, in_call, in_if, IsTurned, in_loop, in_more, in_first, in_firsts, in_let, in_do, in_before, in_after}
+use Rattle.source.proofs.Kept.{known_name, in_prefix, in_infix, in_fetch, in_store, IsCalled, in_call, in_if, IsTurned, in_loop, in_more, in_first}
+use Rattle.source.proofs.Kept.{in_firsts, in_let, in_do, in_before, in_after}
 use Rattle.lemmas.proofs.Permutations.{Each, each_append}
 
 -- each of these names is one of those

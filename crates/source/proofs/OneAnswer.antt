@@ -7,7 +7,9 @@ use Rattle.operators.specs.declared.Unary.{Unary}
 use Rattle.operators.specs.Values.{truth, apply1, Indexed, Place, Outside}
 use Rattle.source.specs.declared.word.InfixSign.{InfixSign}
 use Rattle.source.specs.Tree.{Name, NameAt, Target, Expr, Exprs, Body, Turn, Function}
-use Rattle.source.specs.Evaluates.{World, Env, Stores, operated, entered, let_in, function, place_in, Reads, answer, filled, Evaluates, EvaluatesAll, Runs, Turns, number, named, bracket, prefix, infix_, fetch, store, call, if_true, if_false, loop, one, more, lets, does, gives, chain, leaves, goes, ends, again}
+use Rattle.source.specs.Evaluates.{World, Env, Stores, operated, entered, let_in, function, place_in, Reads, answer, filled, Evaluates}
+use Rattle.source.specs.Evaluates.{EvaluatesAll, Runs, Turns, number, named, bracket, prefix, infix_, fetch, store, call, if_true, if_false, loop}
+use Rattle.source.specs.Evaluates.{one, more, lets, does, gives, chain, leaves, goes, ends, again}
 use Rattle.source.specs.Once.{OneAnswer, OneOutput}
 
 -- two answers are one

@@ -6,7 +6,11 @@ use Rattle.source.specs.Tokens.{lexed}
 use Rattle.source.specs.Spelled.{program_tokens}
 use Rattle.source.specs.Parses.{Parses}
 use Rattle.source.specs.Rules.{checked}
-use Rattle.source.specs.Samples.{literals_text, literals, least_text, least, signs_text, signs, arithmetic_text, arithmetic, swapped_text, swapped, cells_text, cells, stored_twice_text, stored_twice, pairs_text, pairs, strict_call_text, strict_call, factorial_text, factorial, else_if_text, else_if, two_arms_text, two_arms, sum_up_text, sum_up, count_up_text, count_up, nested_text, nested, hidden_text, hidden, shared_text, shared, misses_text, misses, two_faults_text, two_faults}
+use Rattle.source.specs.Samples.{literals_text, literals, least_text, least, signs_text, signs, arithmetic_text, arithmetic, swapped_text, swapped}
+use Rattle.source.specs.Samples.{cells_text, cells, stored_twice_text, stored_twice, pairs_text, pairs, strict_call_text, strict_call}
+use Rattle.source.specs.Samples.{factorial_text, factorial, else_if_text, else_if, two_arms_text, two_arms, sum_up_text, sum_up, count_up_text}
+use Rattle.source.specs.Samples.{count_up, nested_text, nested, hidden_text, hidden, shared_text, shared, misses_text, misses, two_faults_text}
+use Rattle.source.specs.Samples.{two_faults}
 use Rattle.source.proofs.Spelling.{spelled}
 
 abbrev read : List ℕ → List Token

@@ -4,7 +4,8 @@ use Rattle.source.specs.declared.fault.Fault.{Fault}
 use Rattle.source.specs.declared.fault.FaultKind.{FaultKind}
 use Rattle.source.specs.declared.fault.FaultKind.TheVariants.{BadByte, BadNumber, BadName}
 use Rattle.source.specs.declared.token.Keyword.TheVariants as word
-use Rattle.source.specs.declared.token.Sign.TheVariants.{Arrow, Becomes, ShiftLeft, AtMost, Minus, Tilde, OpenParen, CloseParen, OpenBrace, CloseBrace, Slash, Underscore}
+use Rattle.source.specs.declared.token.Sign.TheVariants.{Arrow, Becomes, ShiftLeft, AtMost, Minus, Tilde, OpenParen, CloseParen, OpenBrace}
+use Rattle.source.specs.declared.token.Sign.TheVariants.{CloseBrace, Slash, Underscore}
 use Rattle.source.specs.declared.token.TokenKind.{TokenKind}
 use Rattle.source.specs.declared.token.TokenKind.TheVariants.{Word, Mark, Number, Name}
 use Rattle.source.specs.declared.token.Token.{Token}

@@ -2,7 +2,8 @@
 use Rattle.std.specs.Prelude.{◌≡◌, ℕ, false, [], ◌∷◌, codes, None, Some, refl}
 use Rattle.operators.specs.declared.Binary.TheVariants.{Add, Sub}
 use Rattle.source.specs.declared.word.InfixSign.TheVariants.{Direct}
-use Rattle.source.specs.Tree.{Name, NameAt, NumberAt, Bind, Number, Named, Infix, Fetch, Call, If, Loop, One, More, Let, Give, Before, After, Cells, Defines, Program}
+use Rattle.source.specs.Tree.{Name, NameAt, NumberAt, Bind, Number, Named, Infix, Fetch, Call, If, Loop, One, More, Let, Give, Before, After, Cells}
+use Rattle.source.specs.Tree.{Defines, Program}
 use Rattle.source.specs.declared.fault.FaultKind.TheVariants.{SameName, NoSuchName, Arity, BadBound, BadCount, TooMany, TooWide, NoMain}
 use Rattle.source.specs.First.{refused}
 use Rattle.source.specs.Rules.{checked}

@@ -5,7 +5,8 @@ use Rattle.operators.specs.declared.Binary.TheVariants.{Add, Sub, Mul, Div, Rem,
 use Rattle.source.specs.declared.word.InfixSign.TheVariants.{Direct, Greater, AtLeast}
 use Rattle.source.specs.declared.word.Word.TheVariants as word
 use Rattle.source.specs.Words.{program_words}
-use Rattle.source.specs.Samples.{literals, least, signs, arithmetic, swapped, cells, stored_twice, pairs, strict_call, factorial, else_if, two_arms, sum_up, count_up, nested, hidden, shared, misses, two_faults}
+use Rattle.source.specs.Samples.{literals, least, signs, arithmetic, swapped, cells, stored_twice, pairs, strict_call, factorial, else_if, two_arms}
+use Rattle.source.specs.Samples.{sum_up, count_up, nested, hidden, shared, misses, two_faults}
 
 -- fn main(n) { 5 - -5 }
 literals_words : program_words literals ≡

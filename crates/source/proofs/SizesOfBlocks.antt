@@ -8,7 +8,14 @@ use Rattle.source.specs.Lowered.{MadeBlock, sizes}
 
 -- a block at place 7 with two inputs and so many node lines
 abbrev with_nodes : ℕ → MadeBlock
-with_nodes n = record { at = 7; loop = 0; inputs = 2; nodes = replicate n (record { at = 0; node = record { region = Root; kind = Enter; sources = [] } }); results = [] }
+with_nodes n = record {
+  at = 7;
+  loop = 0;
+  inputs = 2;
+  nodes = replicate n
+      (record { at = 0; node = record { region = Root; kind = Enter; sources = [] } });
+  results = [];
+}
 
 full_block : sizes 0 (with_nodes 1022 ∷ []) ≡ Ok tt
 full_block = refl

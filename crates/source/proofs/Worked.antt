@@ -3,8 +3,10 @@ use Rattle.std.specs.Prelude.{◌≡◌, ◌↔◌, ℕ, zero, suc, ◌<◌, pos
 use Rattle.std.proofs.Common.{refl, arith, ap, subst}
 use Rattle.tags.specs.declared.value.Value.{Value}
 use Rattle.tags.specs.declared.value.Value.TheVariants.{Int}
-use Rattle.source.specs.Evaluates.{Stores, number, named, bracket, prefix, chain, infix_, fetch, store, call, if_true, if_false, loop, one, more, lets, does, gives, leaves, goes, ends, again}
-use Rattle.source.specs.Examples.{SignsGive, ElseIfGives, StrictCallGives, FactorialGives, SumGives, CountGives, PairsGive, CellsGive, OutsideGives, FaultsGive, eight_at_one, eight_at_both, MemoryIsComputed}
+use Rattle.source.specs.Evaluates.{Stores, number, named, bracket, prefix, chain, infix_, fetch, store, call, if_true, if_false, loop, one, more}
+use Rattle.source.specs.Evaluates.{lets, does, gives, leaves, goes, ends, again}
+use Rattle.source.specs.Examples.{SignsGive, ElseIfGives, StrictCallGives, FactorialGives, SumGives, CountGives, PairsGive, CellsGive, OutsideGives}
+use Rattle.source.specs.Examples.{FaultsGive, eight_at_one, eight_at_both, MemoryIsComputed}
 
 pub signs_give : SignsGive
 signs_give = record {

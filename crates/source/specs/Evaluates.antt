@@ -11,7 +11,8 @@ use Rattle.operators.specs.Values.{truth, apply1, apply2, Indexed, Place, Outsid
 use Rattle.semantics.specs.Graph.{same_name}
 use Rattle.source.specs.declared.word.InfixSign.{InfixSign}
 use Rattle.source.specs.declared.word.InfixSign.TheVariants.{Direct, Greater, AtLeast}
-use Rattle.source.specs.Tree.{Name, NameAt, NumberAt, Target, Bind, Drop, Expr, Number, Named, Bracket, Prefix, Infix, Fetch, Store, Call, If, Loop, Exprs, One, More, Body, Let, Do, Give, Chain, Turn, Before, After, Function, Item, Cells, Defines, Program}
+use Rattle.source.specs.Tree.{Name, NameAt, NumberAt, Target, Bind, Drop, Expr, Number, Named, Bracket, Prefix, Infix, Fetch, Store, Call, If, Loop}
+use Rattle.source.specs.Tree.{Exprs, One, More, Body, Let, Do, Give, Chain, Turn, Before, After, Function, Item, Cells, Defines, Program}
 use Rattle.source.specs.Rules.{function_in, main_name}
 
 -- the surroundings of an evaluation: the program, the origin of a fault that is made at a token, and the memory in the end

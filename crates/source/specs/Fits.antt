@@ -22,7 +22,8 @@ use Rattle.operators.specs.declared.Unary.TheVariants.{Neg}
 use Rattle.operators.specs.declared.Binary.TheVariants.{Add, Sub, Mul, Div, Rem, And, Or, Xor, Shl, Shr, Eq, Ne, Lt, Le}
 use Rattle.source.specs.declared.word.InfixSign.{InfixSign}
 use Rattle.source.specs.declared.word.InfixSign.TheVariants.{Direct, Greater, AtLeast}
-use Rattle.source.specs.Tree.{NumberAt, Expr, Number, Named, Bracket, Prefix, Infix, Fetch, Store, Call, If, Loop, Exprs, One, More, Body, Let, Do, Give, Chain, Turn, Before, After, Item, Cells, Defines, Program, names_of}
+use Rattle.source.specs.Tree.{NumberAt, Expr, Number, Named, Bracket, Prefix, Infix, Fetch, Store, Call, If, Loop, Exprs, One, More, Body, Let, Do}
+use Rattle.source.specs.Tree.{Give, Chain, Turn, Before, After, Item, Cells, Defines, Program, names_of}
 
 -- LEVELS. The level of a rule of the grammar: what binds tighter has a higher one.
 --     expr 0   flag 1   or 2   xor 3   and 4   shift 5   sum 6   term 7   unary 8   primary 9

@@ -1,5 +1,6 @@
 -- THE GRAPH THAT A PROGRAM IS LOWERED TO. Each token is lowered once.
-use Rattle.std.specs.Prelude.{ℕ, zero, suc, ⊤, ◌+◌, nat_le, nat_lt, nat_eq, ◌&&◌, Bool, true, false, List, [], ◌∷◌, ◌++◌, length, map, reverse, decimal, codes, Option, None, Some, Result, Ok, if◌then◌else◌}
+use Rattle.std.specs.Prelude.{ℕ, zero, suc, ⊤, ◌+◌, nat_le, nat_lt, nat_eq, ◌&&◌, Bool, true, false, List, [], ◌∷◌, ◌++◌, length, map, reverse}
+use Rattle.std.specs.Prelude.{decimal, codes, Option, None, Some, Result, Ok, if◌then◌else◌}
 use Rattle.tags.specs.declared.value.Origin.{Origin}
 use Rattle.tags.specs.declared.value.Origin.TheVariants.{At, Untold}
 use Rattle.operators.specs.declared.Unary.{Unary}
@@ -17,7 +18,8 @@ use Rattle.source.specs.declared.word.InfixSign.{InfixSign}
 use Rattle.source.specs.declared.word.InfixSign.TheVariants.{Direct, Greater, AtLeast}
 use Rattle.source.specs.declared.fault.Fault.{Fault}
 use Rattle.source.specs.declared.fault.FaultKind.TheVariants.{TooBig}
-use Rattle.source.specs.Tree.{Name, Target, Bind, Drop, Expr, Number, Named, Bracket, Prefix, Infix, Fetch, Store, Call, If, Loop, Exprs, One, More, Body, Let, Do, Give, Chain, Turn, Before, After, Function, Item, Cells, Defines, Program, names_of}
+use Rattle.source.specs.Tree.{Name, Target, Bind, Drop, Expr, Number, Named, Bracket, Prefix, Infix, Fetch, Store, Call, If, Loop, Exprs, One, More}
+use Rattle.source.specs.Tree.{Body, Let, Do, Give, Chain, Turn, Before, After, Function, Item, Cells, Defines, Program, names_of}
 use Rattle.source.specs.Rules.{function_in, main_name, written_or_one}
 use Rattle.source.specs.Outside.{bare, outside_body, outside_turn}
 use Rattle.source.specs.Evaluates.{signed}

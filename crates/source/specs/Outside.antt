@@ -2,7 +2,8 @@
 use Rattle.std.specs.Prelude.{not, Bool, List, [], ◌∷◌, ◌++◌, map, filter}
 use Rattle.std.specs.List.{list_any}
 use Rattle.semantics.specs.Graph.{same_name}
-use Rattle.source.specs.Tree.{Name, NameAt, Target, Bind, Drop, Expr, Number, Named, Bracket, Prefix, Infix, Fetch, Store, Call, If, Loop, Exprs, One, More, Body, Let, Do, Give, Chain, Turn, Before, After}
+use Rattle.source.specs.Tree.{Name, NameAt, Target, Bind, Drop, Expr, Number, Named, Bracket, Prefix, Infix, Fetch, Store, Call, If, Loop, Exprs}
+use Rattle.source.specs.Tree.{One, More, Body, Let, Do, Give, Chain, Turn, Before, After}
 
 abbrev pub is_in : Name → List Name → Bool
 is_in x xs = list_any (same_name x) xs

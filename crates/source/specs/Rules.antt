@@ -1,10 +1,12 @@
 -- THE STATIC RULES, and the first fault of a program that breaks one. First the heads of the items, in order; then whether
 -- there is a function `main`; then the functions, in order. Sizes are checked by the lowering.
-use Rattle.std.specs.Prelude.{ℕ, ◌+◌, ◌==◌, ◌&&◌, not, nat_le, nat_lt, List, [], ◌∷◌, ◌++◌, length, drop, is_some, Option, None, Some, Result, Ok, ⊤, if◌then◌else◌}
+use Rattle.std.specs.Prelude.{ℕ, ◌+◌, ◌==◌, ◌&&◌, not, nat_le, nat_lt, List, [], ◌∷◌, ◌++◌, length, drop, is_some, Option, None, Some, Result, Ok}
+use Rattle.std.specs.Prelude.{⊤, if◌then◌else◌}
 use Rattle.semantics.specs.Graph.{same_name}
 use Rattle.source.specs.declared.fault.Fault.{Fault}
 use Rattle.source.specs.declared.fault.FaultKind.TheVariants.{SameName, NoSuchName, Arity, BadBound, BadCount, TooMany, TooWide, NoMain}
-use Rattle.source.specs.Tree.{Name, NameAt, NumberAt, Target, Bind, Drop, Expr, Number, Named, Bracket, Prefix, Infix, Fetch, Store, Call, If, Loop, Exprs, One, More, Body, Let, Do, Give, Chain, Turn, Before, After, Function, Item, Cells, Defines, Program, names_of}
+use Rattle.source.specs.Tree.{Name, NameAt, NumberAt, Target, Bind, Drop, Expr, Number, Named, Bracket, Prefix, Infix, Fetch, Store, Call, If, Loop}
+use Rattle.source.specs.Tree.{Exprs, One, More, Body, Let, Do, Give, Chain, Turn, Before, After, Function, Item, Cells, Defines, Program, names_of}
 use Rattle.source.specs.Spelled.{others}
 use Rattle.source.specs.Outside.{is_in, bare, bound_by, outside_turn}
 use Rattle.source.specs.First.{◌>>=◌, refused, must}

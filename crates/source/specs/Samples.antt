@@ -3,7 +3,8 @@ use Rattle.std.specs.Prelude.{ℕ, true, false, List, [], ◌∷◌, ◌++◌, c
 use Rattle.operators.specs.declared.Unary.TheVariants.{Neg, Not}
 use Rattle.operators.specs.declared.Binary.TheVariants.{Add, Sub, Mul, Div, Rem, And, Or, Xor, Shl, Lt, Le}
 use Rattle.source.specs.declared.word.InfixSign.TheVariants.{Direct, Greater, AtLeast}
-use Rattle.source.specs.Tree.{Name, NameAt, NumberAt, Bind, Drop, Number, Named, Bracket, Prefix, Infix, Fetch, Store, Call, If, Loop, One, More, Let, Do, Give, Chain, Before, After, Cells, Defines, Program}
+use Rattle.source.specs.Tree.{Name, NameAt, NumberAt, Bind, Drop, Number, Named, Bracket, Prefix, Infix, Fetch, Store, Call, If, Loop, One, More}
+use Rattle.source.specs.Tree.{Let, Do, Give, Chain, Before, After, Cells, Defines, Program}
 
 abbrev given : ℕ → Name → NameAt
 given at x = record { at = at; name = x }

@@ -1,5 +1,6 @@
 -- THE TEXT OF A PROGRAM, AND ITS TOKENS. A text is its bytes, and a place in it is the number of bytes before it.
-use Rattle.std.specs.Prelude.{◌≡◌, ℕ, zero, suc, ◌+◌, ◌-◌, ◌^◌, ◌==◌, ◌&&◌, ◌||◌, not, nat_le, Bool, true, false, List, [], ◌∷◌, length, take, drop, fold, find, take_while, bytes_eq, codes, Option, None, Some, Result, Ok, Err, if◌then◌else◌}
+use Rattle.std.specs.Prelude.{◌≡◌, ℕ, zero, suc, ◌+◌, ◌-◌, ◌^◌, ◌==◌, ◌&&◌, ◌||◌, not, nat_le, Bool, true, false, List, [], ◌∷◌, length, take, drop}
+use Rattle.std.specs.Prelude.{fold, find, take_while, bytes_eq, codes, Option, None, Some, Result, Ok, Err, if◌then◌else◌}
 use Rattle.std.specs.List.{list_all, list_any}
 use Rattle.std.specs.Char.{is_ascii_digit, is_ascii_alphabetic, is_ascii_alphanumeric}
 use Rattle.std.specs.Str.Parse.{digits_value}
@@ -9,7 +10,9 @@ use Rattle.source.specs.declared.fault.FaultKind.TheVariants.{BadByte, BadNumber
 use Rattle.source.specs.declared.token.Keyword.{Keyword}
 use Rattle.source.specs.declared.token.Keyword.TheVariants as word
 use Rattle.source.specs.declared.token.Sign.{Sign}
-use Rattle.source.specs.declared.token.Sign.TheVariants.{Arrow, Becomes, ShiftLeft, ShiftRight, EqualTo, NotEqualTo, AtMost, AtLeast, Less, Greater, Equals, Plus, Minus, Star, Slash, Percent, Ampersand, Caret, Bar, Tilde, OpenParen, CloseParen, OpenBracket, CloseBracket, OpenBrace, CloseBrace, Comma, Semicolon, Underscore}
+use Rattle.source.specs.declared.token.Sign.TheVariants.{Arrow, Becomes, ShiftLeft, ShiftRight, EqualTo, NotEqualTo, AtMost, AtLeast, Less, Greater}
+use Rattle.source.specs.declared.token.Sign.TheVariants.{Equals, Plus, Minus, Star, Slash, Percent, Ampersand, Caret, Bar, Tilde, OpenParen}
+use Rattle.source.specs.declared.token.Sign.TheVariants.{CloseParen, OpenBracket, CloseBracket, OpenBrace, CloseBrace, Comma, Semicolon, Underscore}
 use Rattle.source.specs.declared.token.TokenKind.{TokenKind}
 use Rattle.source.specs.declared.token.TokenKind.TheVariants.{Word, Mark, Number, Name}
 use Rattle.source.specs.declared.token.Token.{Token}

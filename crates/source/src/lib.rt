@@ -2,7 +2,8 @@
 #![tactic(auto)]
 
 ghost use Rattle.source.specs.Counts.{CountsHold, MainCounts};
-ghost use Rattle.source.specs.Examples.{SignsGive, FactorialGives, ElseIfGives, SumGives, CountGives, PairsGive, StrictCallGives, CellsGive, OutsideGives, FaultsGive, MemoryIsComputed};
+ghost use Rattle.source.specs.Examples.{SignsGive, FactorialGives, ElseIfGives, SumGives, CountGives, PairsGive, StrictCallGives, CellsGive};
+ghost use Rattle.source.specs.Examples.{OutsideGives, FaultsGive, MemoryIsComputed};
 ghost use Rattle.source.specs.Once.{OneAnswer, OneOutput};
 
 pub mod fault;

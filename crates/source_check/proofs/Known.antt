@@ -1,5 +1,6 @@
 -- The items that heads have are those of the program, since no two have one name.
-use Rattle.std.specs.Prelude.{◌≡◌, refl, ℕ, ◌+◌, ◌||◌, ◌&&◌, not, nat_le, nat_lt, drop, ⊤, Bool, true, false, List, [], ◌∷◌, is_some, Option, None, Some, Result, Ok, Err, if◌then◌else◌}
+use Rattle.std.specs.Prelude.{◌≡◌, refl, ℕ, ◌+◌, ◌||◌, ◌&&◌, not, nat_le, nat_lt, drop, ⊤, Bool, true, false, List, [], ◌∷◌, is_some, Option, None}
+use Rattle.std.specs.Prelude.{Some, Result, Ok, Err, if◌then◌else◌}
 use Rattle.std.proofs.Common.{◌∙◌, ap, sym, subst}
 use Rattle.std.proofs.lemmas.Bool.{or_right}
 use Rattle.source.specs.declared.fault.Fault.{Fault}

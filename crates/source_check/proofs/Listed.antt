@@ -9,7 +9,8 @@ use Rattle.source.specs.Tree.{Name, NameAt, Target, Bind, Drop, Expr, Call, Expr
 use Rattle.source.specs.Words.{target_word, words, part_words, first_words}
 use Rattle.source.specs.Outside.{is_in, bare, bound_by, uses, list_uses}
 use Rattle.source.specs.First.{◌>>=◌, must}
-use Rattle.source.specs.Rules.{item_names, function_in, written_or_one, place_of, new_name, new_names, new_targets, known_function, values, list_values, first_values}
+use Rattle.source.specs.Rules.{item_names, function_in, written_or_one, place_of, new_name, new_names, new_targets, known_function, values}
+use Rattle.source.specs.Rules.{list_values, first_values}
 use Rattle.source_check.specs.declared.frame.Entry.{Entry}
 use Rattle.source_check.specs.declared.frame.Frame.TheVariants as frame
 use Rattle.source_check.specs.Steps.{State, since, onto, pushed, ended, bound, shape_at, steps, step}

@@ -12,7 +12,8 @@ use Rattle.source.specs.Fits.{count}
 use Rattle.source.specs.Words.{words, part_words, first_words, body_words}
 use Rattle.source.specs.Outside.{is_in, bare, bound_by, uses, list_uses, body_uses}
 use Rattle.source.specs.First.{◌>>=◌}
-use Rattle.source.specs.Rules.{item_names, array_in, function_in, written_or_one, place_of, one_value, known_array, known_function, values, list_values, first_values, body_values}
+use Rattle.source.specs.Rules.{item_names, array_in, function_in, written_or_one, place_of, one_value, known_array, known_function, values}
+use Rattle.source.specs.Rules.{list_values, first_values, body_values}
 use Rattle.source_check.specs.declared.frame.Entry.{Entry}
 use Rattle.source_check.specs.declared.frame.Frame.TheVariants as frame
 use Rattle.source_check.specs.Steps.{State, Shape, since, onto, pushed, all_noted, is_array, shape_at, steps, step}

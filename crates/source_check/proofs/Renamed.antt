@@ -1,5 +1,6 @@
 -- STEPS DO NOT DEPEND ON WHAT NAMES ARE, but on which are the same.
-use Rattle.std.specs.Prelude.{◌≡◌, refl, ℕ, ◌+◌, ◌-◌, ◌==◌, ◌||◌, ◌&&◌, nat_le, Bool, true, false, List, [], ◌∷◌, length, map, Option, Some, Result, Ok, Err, if◌then◌else◌}
+use Rattle.std.specs.Prelude.{◌≡◌, refl, ℕ, ◌+◌, ◌-◌, ◌==◌, ◌||◌, ◌&&◌, nat_le, Bool, true, false, List, [], ◌∷◌, length, map, Option, Some, Result}
+use Rattle.std.specs.Prelude.{Ok, Err, if◌then◌else◌}
 use Rattle.std.proofs.Common.{◌∙◌, ap}
 use Rattle.std.proofs.lemmas.List.{length-map, take-map, drop-map}
 use Rattle.source.specs.declared.fault.Fault.{Fault}
@@ -11,7 +12,10 @@ use Rattle.source.specs.First.{◌>>=◌, must}
 use Rattle.source_check.specs.declared.frame.Frame.{Frame}
 use Rattle.source_check.specs.declared.frame.Frame.TheVariants as frame
 use Rattle.source_check.specs.declared.frame.Turn.{Turn}
-use Rattle.source_check.specs.Steps.{Names, State, since, back, onto, stands, top, popped, pushed, ended, taken, noted, all_noted, using, entered, named, operated, one_taken, cell, callee, part, call, give, bound, dropped, let_ends, end_let, first_arm, second_arm, end_if, bounded, turned, until, left_turn, closed, end_loop, body, end_function, is_array, shape_at, is_new, step, steps}
+use Rattle.source_check.specs.Steps.{Names, State, since, back, onto, stands, top, popped, pushed, ended, taken, noted, all_noted, using, entered}
+use Rattle.source_check.specs.Steps.{named, operated, one_taken, cell, callee, part, call, give, bound, dropped, let_ends, end_let, first_arm}
+use Rattle.source_check.specs.Steps.{second_arm, end_if, bounded, turned, until, left_turn, closed, end_loop, body, end_function, is_array}
+use Rattle.source_check.specs.Steps.{shape_at, is_new, step, steps}
 use Rattle.source_check.specs.Renamed.{renamed, moved}
 use Rattle.source_check.proofs.Runs.{mapped}
 

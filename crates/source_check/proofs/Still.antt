@@ -4,7 +4,8 @@ use Rattle.std.proofs.Common.{◌∙◌, ap}
 use Rattle.source.specs.declared.word.Word.TheVariants as word
 use Rattle.semantics.specs.Graph.{same_name}
 use Rattle.source.specs.First.{◌>>=◌}
-use Rattle.source.specs.Tree.{Name, NameAt, Target, Bind, Drop, Expr, Number, Named, Bracket, Prefix, Infix, Fetch, Store, Call, If, Loop, Exprs, One, More, Body, Let, Do, Give, Chain, Turn, Before, After, names_of}
+use Rattle.source.specs.Tree.{Name, NameAt, Target, Bind, Drop, Expr, Number, Named, Bracket, Prefix, Infix, Fetch, Store, Call, If, Loop, Exprs}
+use Rattle.source.specs.Tree.{One, More, Body, Let, Do, Give, Chain, Turn, Before, After, names_of}
 use Rattle.source.specs.Spelled.{others}
 use Rattle.source.specs.Words.{Words, target_word, start_words, words, part_words, first_words, body_words, turn_words}
 use Rattle.source_check.specs.Heads.{Heads, through, head_step}

@@ -7,7 +7,8 @@ use Rattle.source.specs.declared.word.Word.{Word}
 use Rattle.source.specs.declared.word.Word.TheVariants as word
 use Rattle.operators.specs.declared.Unary.{Unary}
 use Rattle.operators.specs.declared.Unary.TheVariants.{Neg}
-use Rattle.source.specs.Tree.{Name, NameAt, NumberAt, Expr, Number, Named, Bracket, Prefix, Infix, Fetch, Store, Call, If, Loop, Exprs, One, More, Body, Let, Do, Give, Chain, Turn, Before, After, Function, Item, Cells, Defines, Program}
+use Rattle.source.specs.Tree.{Name, NameAt, NumberAt, Expr, Number, Named, Bracket, Prefix, Infix, Fetch, Store, Call, If, Loop, Exprs, One, More}
+use Rattle.source.specs.Tree.{Body, Let, Do, Give, Chain, Turn, Before, After, Function, Item, Cells, Defines, Program}
 use Rattle.source.specs.Fits.{Fits, FitsAll, FitsBody, FitsTurn, FitsProgram, IsLeast}
 use Rattle.source.specs.Words.{body_words, result_words, item_words, program_words}
 use Rattle.source.specs.Outside.{bare}
@@ -19,7 +20,8 @@ use Rattle.source_check.specs.Steps.{State, begun, onto, ended, body, steps, ste
 use Rattle.source_check.proofs.Runs.{mapped, in_turn}
 use Rattle.source_check.proofs.Stacks.{since-append, back-append, onto-onto}
 use Rattle.source_check.proofs.Noted.{by_bytes}
-use Rattle.source_check.proofs.Over.{Knows, naming, Over, OverList, OverFirsts, OverBody, over_name, over_bracket, over_prefix, over_infix, over_fetch, over_store}
+use Rattle.source_check.proofs.Over.{Knows, naming, Over, OverList, OverFirsts, OverBody, over_name, over_bracket, over_prefix, over_infix}
+use Rattle.source_check.proofs.Over.{over_fetch, over_store}
 use Rattle.source_check.proofs.Listed.{over_one, over_more, over_call, over_params, over_first_one, over_first_more}
 use Rattle.source_check.proofs.Bodies.{over_give, over_chain, over_do, over_let, over_if}
 use Rattle.source_check.proofs.Loops.{OverTurn, over_before, over_after, over_loop}

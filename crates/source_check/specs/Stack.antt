@@ -1,5 +1,6 @@
 -- STACKS IN CODE. A stack of names has the last one first, and each name's last place is looked up in one step.
-use Rattle.std.specs.Prelude.{◌≡◌, ℕ, suc, ◌==◌, ◌⊎◌, Bool, List, [], ◌∷◌, length, map, slice_index_or, Option, None, Result, MatchResult, Ok, Err, ⊤, if◌then◌else◌}
+use Rattle.std.specs.Prelude.{◌≡◌, ℕ, suc, ◌==◌, ◌⊎◌, Bool, List, [], ◌∷◌, length, map, slice_index_or, Option, None, Result, MatchResult, Ok, Err}
+use Rattle.std.specs.Prelude.{⊤, if◌then◌else◌}
 use Rattle.source.specs.declared.fault.Fault.{Fault}
 use Rattle.source.specs.declared.fault.FaultKind.TheVariants.{Memory}
 use Rattle.source_check.specs.declared.bindings.Binding.{Binding}

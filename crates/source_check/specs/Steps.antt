@@ -1,6 +1,7 @@
 -- THE STATIC RULES, WORD BY WORD. The words of functions are gone over once, each by a step. What is open is in a list
 -- of frames, the innermost first.
-use Rattle.std.specs.Prelude.{ℕ, ◌+◌, ◌-◌, ◌==◌, ◌&&◌, ◌||◌, not, nat_le, Bool, true, false, List, [], ◌∷◌, length, take, drop, is_some, Option, None, Some, Result, Ok, ⊤, if◌then◌else◌}
+use Rattle.std.specs.Prelude.{ℕ, ◌+◌, ◌-◌, ◌==◌, ◌&&◌, ◌||◌, not, nat_le, Bool, true, false, List, [], ◌∷◌, length, take, drop, is_some, Option}
+use Rattle.std.specs.Prelude.{None, Some, Result, Ok, ⊤, if◌then◌else◌}
 use Rattle.std.specs.List.{list_any}
 use Rattle.source.specs.declared.fault.Fault.{Fault}
 use Rattle.source.specs.declared.fault.FaultKind.TheVariants.{SameName, NoSuchName, Arity, BadBound, TooWide}

@@ -95,7 +95,8 @@ pub fn check<'a, A: Allocator + Clone>(
     program: Program<'a, A>,
 ) -> Result<Checked<'a, A>, Broken>
     ensures same { IfOk result (λ c. c.program ≡ program.entry) }
-    ensures refused { (p : tree.Program) → IsProgram program.entry.names program.entry.words p → IfErr result (λ b. (b.fault ≡ out_of_memory) ⊎ (checked end p ≡ Err b.fault)) }
+    ensures refused { (p : tree.Program) → IsProgram program.entry.names program.entry.words p
+        → IfErr result (λ b. (b.fault ≡ out_of_memory) ⊎ (checked end p ≡ Err b.fault)) }
 {
     let main = main_number(&program.names);
     match check_words(alloc, main, end, &program.words) {

@@ -539,7 +539,8 @@ pub(crate) fn check_functions<A: Allocator + Clone>(
     table: &Table<A>,
     words: &[Word<usize>],
 ) -> Result<(), Fault>
-    ensures { MatchResult result (λ u. IsOk (steps.steps (numbers table.now) steps.begun words.now)) (λ f. (f ≡ out_of_memory) ⊎ (steps.steps (numbers table.now) steps.begun words.now ≡ Err f)) }
+    ensures { MatchResult result (λ u. IsOk (steps.steps (numbers table.now) steps.begun words.now))
+        (λ f. (f ≡ out_of_memory) ⊎ (steps.steps (numbers table.now) steps.begun words.now ≡ Err f)) }
 {
     let Ok(mut machine) = Machine::new(alloc) else {
         return Err(OUT_OF_MEMORY);

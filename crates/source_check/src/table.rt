@@ -202,7 +202,8 @@ pub(crate) fn read_heads<A: Allocator + Clone>(
     alloc: &A,
     words: &[Word<usize>],
 ) -> Result<Table<A>, Fault>
-    ensures { MatchResult result (λ table. HeadsGive table (heads.through (heads.head_step by_number) heads.no_heads words.now)) (λ f. (f ≡ out_of_memory) ⊎ (heads.through (heads.head_step by_number) heads.no_heads words.now ≡ Err f)) }
+    ensures { MatchResult result (λ table. HeadsGive table (heads.through (heads.head_step by_number) heads.no_heads words.now))
+        (λ f. (f ≡ out_of_memory) ⊎ (heads.through (heads.head_step by_number) heads.no_heads words.now ≡ Err f)) }
 {
     let Ok(own) = alloc.clone() else {
         return Err(OUT_OF_MEMORY);

@@ -1,5 +1,6 @@
 -- WHAT A SYMBOL DOES to a parser's state, with numbers for names.
-use Rattle.std.proofs.Common.{◌≡◌, ℕ, length, arith, Bool, true, false, List, [], ◌∷◌, ◌++◌, map, reverse, Option, None, Some, Result, Ok, Err, MatchResult, if◌then◌else◌, inl, inr, refl, sym, ap, ap₂, ◌∙◌, subst, append_assoc, append-nil}
+use Rattle.std.proofs.Common.{◌≡◌, ℕ, length, arith, Bool, true, false, List, [], ◌∷◌, ◌++◌, map, reverse, Option, None, Some, Result, Ok, Err}
+use Rattle.std.proofs.Common.{MatchResult, if◌then◌else◌, inl, inr, refl, sym, ap, ap₂, ◌∙◌, subst, append_assoc, append-nil}
 use Rattle.std.proofs.lemmas.List.{map-append, reverse-append}
 use Rattle.std.proofs.lemmas.List.Elements.{All-append, All-push, All-head, All-tail}
 use Rattle.std.specs.Prelude.{All, option_to_list}
@@ -12,7 +13,8 @@ use Rattle.source.specs.Spelled.{Lexeme}
 use Rattle.source.specs.Words.{Words, named}
 use Rattle.law_language.specs.declared.symbol.Symbol.{Symbol}
 use Rattle.law_language.specs.declared.symbol.Symbol.TheVariants.{Emit, Items}
-use Rattle.law_language.specs.GrammarAutomaton.{Outcome, Takes, Passes, Refuses, Moved, moved_after, advance, step, ended, ended_then, finish, finished, words_after}
+use Rattle.law_language.specs.GrammarAutomaton.{Outcome, Takes, Passes, Refuses, Moved, moved_after, advance, step, ended, ended_then, finish}
+use Rattle.law_language.specs.GrammarAutomaton.{finished, words_after}
 use Rattle.law_language.specs.GrammarNamed.{named_symbol, named_stack}
 use Rattle.source_text.specs.declared.outcome.Pushes.{Pushes}
 use Rattle.source_text.specs.declared.outcome.Outcome.TheVariants as done

@@ -1,5 +1,6 @@
 -- READING, token by token.
-use Rattle.std.proofs.Common.{◌≡◌, ℕ, zero, suc, ◌+◌, ◌<◌, ◌≤◌, List, [], ◌∷◌, ◌++◌, map, drop, length, get_or, All, Result, Ok, Err, MatchResult, inl, inr, refl, sym, ap, ap₂, ◌∙◌, subst, append_assoc, arith}
+use Rattle.std.proofs.Common.{◌≡◌, ℕ, zero, suc, ◌+◌, ◌<◌, ◌≤◌, List, [], ◌∷◌, ◌++◌, map, drop, length, get_or, All, Result, Ok, Err, MatchResult}
+use Rattle.std.proofs.Common.{inl, inr, refl, sym, ap, ap₂, ◌∙◌, subst, append_assoc, arith}
 use Rattle.std.proofs.lemmas.List.{at_drop_all}
 use Rattle.std.proofs.lemmas.List.Elements.{All-nil, All-cons, All-get_or}
 use Rattle.std.specs.BTreeMap.{BTreeMap}
@@ -136,11 +137,13 @@ module _ (text : List ℕ) (ts : List Token) (n : ℕ) (numbers : BTreeMap (Bor 
         (words_named names (words_of p))))
         (λ e. IsFault (fault_of e) (ending (length text) (state table stack words)))
         → MatchResult r (λ p. AreParsed text ts (names_of p) (words_of p)) (λ e. IsFault (fault_of e) (parsed text ts))
-    finishes names_of words_of fault_of (Ok p) h reading end = subst (λ names. AreParsed text ts names (words_of p)) (sym end.0) (ends_well (words_of p) h reading end.1)
+    finishes names_of words_of fault_of (Ok p) h reading end = subst (λ names. AreParsed text ts names (words_of p)) (sym end.0)
+        (ends_well (words_of p) h reading end.1)
     finishes names_of words_of fault_of (Err e) h reading end = ends_badly (fault_of e) h reading end
 
 -- ONE TOKEN
-pub advances : {U E : Type 0} (kind_of : E → FaultKind) (at : ℕ) (l : Lexeme) (meant : spelled.Lexeme) (numbers : BTreeMap (Bor (List ℕ)) ℕ) (old table : List Name)
+pub advances : {U E : Type 0} (kind_of : E → FaultKind) (at : ℕ) (l : Lexeme) (meant : spelled.Lexeme) (numbers : BTreeMap (Bor (List ℕ)) ℕ)
+    (old table : List Name)
     (s : List (Symbol ℕ)) (w : List (Word ℕ)) (s' : List (Symbol ℕ)) (w' : List (Word ℕ)) (r : Result U E) → IsSaid old numbers table meant l
     → ((names : List Name) → MatchResult r (λ _. onward at (lexeme_named names l) (state names s w) ≡ Ok (state names s' w'))
     (λ e. IsKind (kind_of e) (onward at (lexeme_named names l) (state names s w))))

@@ -6,7 +6,8 @@ use Rattle.source.specs.Tree.{Name}
 use Rattle.source.specs.Spelled as spelled
 use Rattle.source.specs.Words.{name_of, named}
 use Rattle.law_language.specs.declared.symbol.Symbol.{Symbol}
-use Rattle.law_language.specs.declared.symbol.Symbol.TheVariants.{Steps, Targets, LetEnd, StepEnd, Operand, Negated, After, AfterName, AfterIndex, Callee, CallEnd, Otherwise, Bound, Start, Starts, Turn}
+use Rattle.law_language.specs.declared.symbol.Symbol.TheVariants.{Steps, Targets, LetEnd, StepEnd, Operand, Negated, After, AfterName, AfterIndex}
+use Rattle.law_language.specs.declared.symbol.Symbol.TheVariants.{Callee, CallEnd, Otherwise, Bound, Start, Starts, Turn}
 use Rattle.law_language.specs.GrammarAutomaton as automaton
 use Rattle.law_language.specs.GrammarNamed.{named_symbol}
 use Rattle.source_text.specs.declared.lexeme.Lexeme.{Lexeme}

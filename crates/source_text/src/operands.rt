@@ -239,7 +239,8 @@ pub(crate) fn callee(pushes: &mut Pushes, depth: u8, at: usize, lexeme: Lexeme) 
 
 pub(crate) fn call_end(pushes: &mut Pushes, called: Called, depth: u8, lexeme: Lexeme) -> Outcome
     requires { depth < 200 }
-    ensures does { Does result pushes.new (λ names. automaton.call_end called.at called.strict (name_of names called.function) depth (lexeme_named names lexeme)) }
+    ensures does { Does result pushes.new (λ names. automaton.call_end called.at called.strict (name_of names called.function) depth
+        (lexeme_named names lexeme)) }
     ensures shallow { AreShallow result pushes.new }
 {
     let Called {

@@ -22,7 +22,12 @@ pub struct SourceText<'a, A: Allocator> {
 
 /// A fault of the program's text, with its line and its column.
 fn reported(text: &[u8], unread: Unread) -> ProgramRefusal
-    ensures { result.fault ≡ record { kind = unread.fault.kind; line = (position text.now unread.fault.at).line; column = (position text.now unread.fault.at).column } }
+    ensures { result.fault ≡ record {
+      kind = unread.fault.kind;
+      line = (position text.now unread.fault.at).line;
+      column =
+          (position text.now unread.fault.at).column;
+    } }
 {
     let Unread { fault, detail } = unread;
     let place = position(text, fault.at);

@@ -1,5 +1,6 @@
 -- What a text begins with is some bytes, which lie in it, and a token that it begins with says so.
-use Rattle.std.proofs.Common.{◌≡◌, ℕ, ◌+◌, ◌^◌, ◌≤◌, ◌==◌, ◌&&◌, not, nat_le, Bool, true, false, List, [], ◌∷◌, length, Option, Some, None, cond, if◌then◌else◌, codes, refl, sym, ap, subst, ◌∙◌, arith, eqb-true, find, take, bytes_eq, take_while}
+use Rattle.std.proofs.Common.{◌≡◌, ℕ, ◌+◌, ◌^◌, ◌≤◌, ◌==◌, ◌&&◌, not, nat_le, Bool, true, false, List, [], ◌∷◌, length, Option, Some, None, cond}
+use Rattle.std.proofs.Common.{if◌then◌else◌, codes, refl, sym, ap, subst, ◌∙◌, arith, eqb-true, find, take, bytes_eq, take_while}
 use Rattle.std.specs.List.{list_all, prefix_len}
 use Rattle.std.specs.Char.{is_ascii_digit, is_ascii_alphabetic}
 use Rattle.std.specs.Str.Parse.{digits_value}
@@ -15,7 +16,9 @@ use Rattle.source.specs.declared.token.Keyword.{Keyword}
 use Rattle.source.specs.declared.token.Sign.{Sign}
 use Rattle.source.specs.declared.token.Sign.TheVariants.{Underscore}
 use Rattle.source.specs.declared.token.TokenKind.TheVariants.{Mark, Number, Name}
-use Rattle.source.specs.Tokens.{Beginning, Skipped, Read, Refused, begins, line_from, is_blank, is_run_byte, is_numeral, numeral_run, begins_with_letter, is_name, name_run, keyword_text, keywords, keyword_of, keyword_or_name, word_run, run_read, sign_text, signs, sign_read, beginning}
+use Rattle.source.specs.Tokens.{Beginning, Skipped, Read, Refused, begins, line_from, is_blank, is_run_byte, is_numeral, numeral_run}
+use Rattle.source.specs.Tokens.{begins_with_letter, is_name, name_run, keyword_text, keywords, keyword_of, keyword_or_name, word_run, run_read}
+use Rattle.source.specs.Tokens.{sign_text, signs, sign_read, beginning}
 use Rattle.source_tokens.specs.Beginnings.{sign_beginning}
 use Rattle.source_tokens.specs.HasToken.{run_of, BeginsWith}
 

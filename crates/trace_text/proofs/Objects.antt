@@ -31,30 +31,47 @@ join9 : (a b c d e f g h i : List ℕ) → a ++ (b ++ (c ++ (d ++ (e ++ (f ++ (g
 join9 a b c d e f g h i = join3 a b (c ++ (d ++ (e ++ (f ++ (g ++ (h ++ (i))))))) ∙ join8 (a ++ b) c d e f g h i
 
 pub lane : {E : Type 0} (r : Result ⊤ E) (a b : Option (List ℕ)) (e : ℕ) (x : List ℕ) → x ≡ decimal e
-    → Sends r a b (codes "{\"ph\":\"M\",\"pid\":0,\"tid\":" ++ (x ++ (codes ",\"name\":\"thread_name\",\"args\":{\"name\":\"element " ++ (x ++ (codes "\"}},\n")))))
+    → Sends r a b (codes "{\"ph\":\"M\",\"pid\":0,\"tid\":"
+    ++ (x ++ (codes ",\"name\":\"thread_name\",\"args\":{\"name\":\"element " ++ (x ++ (codes "\"}},\n")))))
     → Sends r a b (lane_text e)
 lane r a b e x is h =
-    sends_same r a b (codes "{\"ph\":\"M\",\"pid\":0,\"tid\":" ++ (x ++ (codes ",\"name\":\"thread_name\",\"args\":{\"name\":\"element " ++ (x ++ (codes "\"}},\n"))))) (lane_text e)
-    (join5 (codes "{\"ph\":\"M\",\"pid\":0,\"tid\":") x (codes ",\"name\":\"thread_name\",\"args\":{\"name\":\"element ") x (codes "\"}},\n") ∙ ap (λ (t : List ℕ). (((codes "{\"ph\":\"M\",\"pid\":0,\"tid\":" ++ t) ++ codes ",\"name\":\"thread_name\",\"args\":{\"name\":\"element ") ++ t) ++ codes "\"}},\n") is) h
+    sends_same r a b (codes "{\"ph\":\"M\",\"pid\":0,\"tid\":"
+    ++ (x ++ (codes ",\"name\":\"thread_name\",\"args\":{\"name\":\"element " ++ (x ++ (codes "\"}},\n"))))) (lane_text e)
+    (join5 (codes "{\"ph\":\"M\",\"pid\":0,\"tid\":") x (codes ",\"name\":\"thread_name\",\"args\":{\"name\":\"element ") x (codes "\"}},\n")
+    ∙ ap (λ (t : List ℕ). (((codes "{\"ph\":\"M\",\"pid\":0,\"tid\":" ++ t) ++ codes ",\"name\":\"thread_name\",\"args\":{\"name\":\"element ")
+    ++ t) ++ codes "\"}},\n") is) h
 
-pub opened : {E : Type 0} (r : Result ⊤ E) (a b : Option (List ℕ)) (p : Program) (n e : ℕ) (address : To) (x y z : List ℕ) → x ≡ decimal e → y ≡ decimal n → z ≡ name_text p address
+pub opened : {E : Type 0} (r : Result ⊤ E) (a b : Option (List ℕ)) (p : Program) (n e : ℕ) (address : To) (x y z : List ℕ) → x ≡ decimal e → y
+    ≡ decimal n → z ≡ name_text p address
     → Sends r a b (codes "{\"ph\":\"X\",\"pid\":0,\"tid\":" ++ (x ++ (codes ",\"ts\":" ++ (y ++ (codes ",\"dur\":1,\"name\":\"" ++ ((z ++ [])))))))
     → Sends r a b (slice_open p n e address)
 opened r a b p n e address x y z is_x is_y is_z h =
-    sends_same r a b (codes "{\"ph\":\"X\",\"pid\":0,\"tid\":" ++ (x ++ (codes ",\"ts\":" ++ (y ++ (codes ",\"dur\":1,\"name\":\"" ++ ((z ++ []))))))) (slice_open p n e address)
+    sends_same r a b (codes "{\"ph\":\"X\",\"pid\":0,\"tid\":" ++ (x ++ (codes ",\"ts\":" ++ (y ++ (codes ",\"dur\":1,\"name\":\"" ++ ((z ++ [])))))))
+    (slice_open p n e address)
     (ap (λ (t : List ℕ). codes "{\"ph\":\"X\",\"pid\":0,\"tid\":" ++ (x ++ (codes ",\"ts\":" ++ (y ++ (codes ",\"dur\":1,\"name\":\"" ++ (t)))))) (append-nil z)
     ∙ join6 (codes "{\"ph\":\"X\",\"pid\":0,\"tid\":") x (codes ",\"ts\":") y (codes ",\"dur\":1,\"name\":\"") z
     ∙ ap (λ (t : List ℕ). ((((codes "{\"ph\":\"X\",\"pid\":0,\"tid\":" ++ t) ++ codes ",\"ts\":") ++ y) ++ codes ",\"dur\":1,\"name\":\"") ++ z) is_x
     ∙ ap (λ (t : List ℕ). ((((codes "{\"ph\":\"X\",\"pid\":0,\"tid\":" ++ decimal e) ++ codes ",\"ts\":") ++ t) ++ codes ",\"dur\":1,\"name\":\"") ++ z) is_y
-    ∙ ap (λ (t : List ℕ). ((((codes "{\"ph\":\"X\",\"pid\":0,\"tid\":" ++ decimal e) ++ codes ",\"ts\":") ++ decimal n) ++ codes ",\"dur\":1,\"name\":\"") ++ t) is_z) h
+    ∙ ap (λ (t : List ℕ). ((((codes "{\"ph\":\"X\",\"pid\":0,\"tid\":" ++ decimal e) ++ codes ",\"ts\":") ++ decimal n)
+    ++ codes ",\"dur\":1,\"name\":\"") ++ t) is_z) h
 
-pub counter : {E : Type 0} (r : Result ⊤ E) (a b : Option (List ℕ)) (n : ℕ) (x : Moment) (w t s f : List ℕ) → w ≡ decimal n → t ≡ decimal x.tokens → s ≡ decimal x.full_slots → f ≡ decimal x.frames_out
-    → Sends r a b (codes "{\"ph\":\"C\",\"pid\":0,\"ts\":" ++ (w ++ (codes ",\"name\":\"machine\",\"args\":{\"tokens\":" ++ (t ++ (codes ",\"full slots\":" ++ (s ++ (codes ",\"frames out\":" ++ (f ++ (codes "}},\n")))))))))
+pub counter : {E : Type 0} (r : Result ⊤ E) (a b : Option (List ℕ)) (n : ℕ) (x : Moment) (w t s f : List ℕ) → w ≡ decimal n → t ≡ decimal x.tokens → s
+    ≡ decimal x.full_slots → f ≡ decimal x.frames_out
+    → Sends r a b (codes "{\"ph\":\"C\",\"pid\":0,\"ts\":"
+    ++ (w ++ (codes ",\"name\":\"machine\",\"args\":{\"tokens\":"
+    ++ (t ++ (codes ",\"full slots\":" ++ (s ++ (codes ",\"frames out\":" ++ (f ++ (codes "}},\n")))))))))
     → Sends r a b (counter_text n x)
 counter r a b n x w t s f is_w is_t is_s is_f h =
-    sends_same r a b (codes "{\"ph\":\"C\",\"pid\":0,\"ts\":" ++ (w ++ (codes ",\"name\":\"machine\",\"args\":{\"tokens\":" ++ (t ++ (codes ",\"full slots\":" ++ (s ++ (codes ",\"frames out\":" ++ (f ++ (codes "}},\n"))))))))) (counter_text n x)
-    (join9 (codes "{\"ph\":\"C\",\"pid\":0,\"ts\":") w (codes ",\"name\":\"machine\",\"args\":{\"tokens\":") t (codes ",\"full slots\":") s (codes ",\"frames out\":") f (codes "}},\n")
-    ∙ ap (λ (l : List ℕ). (((((((codes "{\"ph\":\"C\",\"pid\":0,\"ts\":" ++ l) ++ codes ",\"name\":\"machine\",\"args\":{\"tokens\":") ++ t) ++ codes ",\"full slots\":") ++ s) ++ codes ",\"frames out\":") ++ f) ++ codes "}},\n") is_w
-    ∙ ap (λ (l : List ℕ). (((((((codes "{\"ph\":\"C\",\"pid\":0,\"ts\":" ++ decimal n) ++ codes ",\"name\":\"machine\",\"args\":{\"tokens\":") ++ l) ++ codes ",\"full slots\":") ++ s) ++ codes ",\"frames out\":") ++ f) ++ codes "}},\n") is_t
-    ∙ ap (λ (l : List ℕ). (((((((codes "{\"ph\":\"C\",\"pid\":0,\"ts\":" ++ decimal n) ++ codes ",\"name\":\"machine\",\"args\":{\"tokens\":") ++ decimal x.tokens) ++ codes ",\"full slots\":") ++ l) ++ codes ",\"frames out\":") ++ f) ++ codes "}},\n") is_s
-    ∙ ap (λ (l : List ℕ). (((((((codes "{\"ph\":\"C\",\"pid\":0,\"ts\":" ++ decimal n) ++ codes ",\"name\":\"machine\",\"args\":{\"tokens\":") ++ decimal x.tokens) ++ codes ",\"full slots\":") ++ decimal x.full_slots) ++ codes ",\"frames out\":") ++ l) ++ codes "}},\n") is_f) h
+    sends_same r a b (codes "{\"ph\":\"C\",\"pid\":0,\"ts\":"
+    ++ (w ++ (codes ",\"name\":\"machine\",\"args\":{\"tokens\":"
+    ++ (t ++ (codes ",\"full slots\":" ++ (s ++ (codes ",\"frames out\":" ++ (f ++ (codes "}},\n"))))))))) (counter_text n x)
+    (join9 (codes "{\"ph\":\"C\",\"pid\":0,\"ts\":") w (codes ",\"name\":\"machine\",\"args\":{\"tokens\":") t (codes ",\"full slots\":") s
+    (codes ",\"frames out\":") f (codes "}},\n")
+    ∙ ap (λ (l : List ℕ). (((((((codes "{\"ph\":\"C\",\"pid\":0,\"ts\":" ++ l) ++ codes ",\"name\":\"machine\",\"args\":{\"tokens\":") ++ t)
+    ++ codes ",\"full slots\":") ++ s) ++ codes ",\"frames out\":") ++ f) ++ codes "}},\n") is_w
+    ∙ ap (λ (l : List ℕ). (((((((codes "{\"ph\":\"C\",\"pid\":0,\"ts\":" ++ decimal n) ++ codes ",\"name\":\"machine\",\"args\":{\"tokens\":") ++ l)
+    ++ codes ",\"full slots\":") ++ s) ++ codes ",\"frames out\":") ++ f) ++ codes "}},\n") is_t
+    ∙ ap (λ (l : List ℕ). (((((((codes "{\"ph\":\"C\",\"pid\":0,\"ts\":" ++ decimal n) ++ codes ",\"name\":\"machine\",\"args\":{\"tokens\":")
+    ++ decimal x.tokens) ++ codes ",\"full slots\":") ++ l) ++ codes ",\"frames out\":") ++ f) ++ codes "}},\n") is_s
+    ∙ ap (λ (l : List ℕ). (((((((codes "{\"ph\":\"C\",\"pid\":0,\"ts\":" ++ decimal n) ++ codes ",\"name\":\"machine\",\"args\":{\"tokens\":")
+    ++ decimal x.tokens) ++ codes ",\"full slots\":") ++ decimal x.full_slots) ++ codes ",\"frames out\":") ++ l) ++ codes "}},\n") is_f) h

@@ -1,5 +1,6 @@
 -- Items sent one after the other, of which so much is left.
-use Rattle.std.proofs.Common.{◌≡◌, ℕ, zero, suc, ◌+◌, ◌-◌, ◌<◌, ◌≤◌, List, [], ◌∷◌, ◌++◌, length, drop, Option, Some, None, Result, Ok, Err, refl, sym, ap, ◌∙◌, subst, arith, append_assoc}
+use Rattle.std.proofs.Common.{◌≡◌, ℕ, zero, suc, ◌+◌, ◌-◌, ◌<◌, ◌≤◌, List, [], ◌∷◌, ◌++◌, length, drop, Option, Some, None, Result, Ok, Err, refl}
+use Rattle.std.proofs.Common.{sym, ap, ◌∙◌, subst, arith, append_assoc}
 use Rattle.std.specs.Prelude.{⊤, slice_get, option_map, nat_lt, true, false, Bool, if◌then◌else◌}
 use Rattle.std.specs.Io.KnownBytes.{Appends}
 use Rattle.std.proofs.lemmas.List.{append-nil, drop_all}
@@ -22,13 +23,15 @@ less_left a b c whole rest x later is so q = (
   appends_then a b c so.0 x so.2 q,
 )
 
-pub stopped : {E : Type 0} (e : E) (a b c : Option (List ℕ)) (whole rest x later : List ℕ) → rest ≡ x ++ later → IsLeft a b whole rest → Sends (Err e) b c x → Sends (Err e) a c whole
+pub stopped : {E : Type 0} (e : E) (a b c : Option (List ℕ)) (whole rest x later : List ℕ) → rest ≡ x ++ later → IsLeft a b whole rest
+    → Sends (Err e) b c x → Sends (Err e) a c whole
 stopped e a b c whole rest x later is so q =
     sends_same (Err e) a c ((so.0 ++ x) ++ later) whole
     (append_assoc so.0 x later ∙ ap (λ (l : List ℕ). so.0 ++ l) (sym is) ∙ sym so.1)
     (sends_less e a c (so.0 ++ x) later (sends_more (Err e) a b c so.0 x so.2 q))
 
-pub none_left : {E : Type 0} (r : Result ⊤ E) (x : ⊤) (a b : Option (List ℕ)) (whole rest : List ℕ) → r ≡ Ok x → rest ≡ [] → IsLeft a b whole rest → Sends r a b whole
+pub none_left : {E : Type 0} (r : Result ⊤ E) (x : ⊤) (a b : Option (List ℕ)) (whole rest : List ℕ) → r ≡ Ok x → rest ≡ [] → IsLeft a b whole rest
+    → Sends r a b whole
 none_left r x a b whole rest is none so =
     sends_whole r x a b whole is (subst (λ (l : List ℕ). Appends a b l) (sym (so.1 ∙ ap (λ (l : List ℕ). so.0 ++ l) none ∙ append-nil so.0)) so.2)
 
@@ -39,11 +42,13 @@ from_place [] n x e = cc
 from_place (y ∷ xs) zero x e = cc
 from_place (y ∷ xs) (suc n) x e = from_place xs n x e
 
-pair : {X Y : Type 0} (text : ℕ → X → Y → List ℕ) (n : ℕ) (xs xs1 : List X) (ys ys1 : List Y) (x : X) (y : Y) → xs ≡ x ∷ xs1 → ys ≡ y ∷ ys1 → paired text n xs ys ≡ text n x y ++ paired text (n + 1) xs1 ys1
+pair : {X Y : Type 0} (text : ℕ → X → Y → List ℕ) (n : ℕ) (xs xs1 : List X) (ys ys1 : List Y) (x : X) (y : Y) → xs ≡ x ∷ xs1 → ys ≡ y ∷ ys1
+    → paired text n xs ys ≡ text n x y ++ paired text (n + 1) xs1 ys1
 pair text n xs xs1 ys ys1 x y e f = rw (e, f) refl
 
 -- the next pair
-pub next_pair : {X Y : Type 0} (text : ℕ → X → Y → List ℕ) (n i : ℕ) (xs : List X) (ys : List Y) (x : X) (y : Y) → slice_get xs i ≡ Some x → slice_get ys i ≡ Some y
+pub next_pair : {X Y : Type 0} (text : ℕ → X → Y → List ℕ) (n i : ℕ) (xs : List X) (ys : List Y) (x : X) (y : Y) → slice_get xs i ≡ Some x
+    → slice_get ys i ≡ Some y
     → paired text (n + i) (drop i xs) (drop i ys) ≡ text (n + i) x y ++ paired text (n + (i + 1)) (drop (i + 1) xs) (drop (i + 1) ys)
 next_pair text n i xs ys x y e f =
     let up : suc i ≡ i + 1 = omega arith in
@@ -89,11 +94,13 @@ step : (blocks rest : List CodeBlock) (n i : ℕ) (block : CodeBlock) (b : Bool)
     → place_from n blocks i ≡ (if b then Some (n, i) else place_from (n + 1) rest (i - length block.instrs))
 step blocks rest n i block b e h = rw (e, h) refl
 
-pub lies_in : (blocks : List CodeBlock) (n i : ℕ) (block : CodeBlock) (total : Option (ℕ × ℕ)) → slice_get blocks n ≡ Some block → nat_lt i (length block.instrs) ≡ true
+pub lies_in : (blocks : List CodeBlock) (n i : ℕ) (block : CodeBlock) (total : Option (ℕ × ℕ)) → slice_get blocks n ≡ Some block
+    → nat_lt i (length block.instrs) ≡ true
     → place_from n (drop n blocks) i ≡ total → Some (n, i) ≡ total
 lies_in blocks n i block total e h so_far = sym (step (drop n blocks) (drop (suc n) blocks) n i block true (from_place blocks n block e) h) ∙ so_far
 
-pub lies_behind : (blocks : List CodeBlock) (n i : ℕ) (block : CodeBlock) (total : Option (ℕ × ℕ)) → slice_get blocks n ≡ Some block → nat_lt i (length block.instrs) ≡ false
+pub lies_behind : (blocks : List CodeBlock) (n i : ℕ) (block : CodeBlock) (total : Option (ℕ × ℕ)) → slice_get blocks n ≡ Some block
+    → nat_lt i (length block.instrs) ≡ false
     → place_from n (drop n blocks) i ≡ total → place_from (n + 1) (drop (suc n) blocks) (i - length block.instrs) ≡ total
 lies_behind blocks n i block total e h so_far = sym (step (drop n blocks) (drop (suc n) blocks) n i block false (from_place blocks n block e) h) ∙ so_far
 
@@ -102,6 +109,7 @@ pub lies_nowhere : (blocks : List CodeBlock) (n i : ℕ) (total : Option (ℕ ×
 lies_nowhere blocks n i total le so_far = sym (ap (λ (l : List CodeBlock). place_from n l i) (drop_all n blocks le)) ∙ so_far
 
 -- what is seen of a block
-pub seen : {V : Type 0} (show : CodeBlock → V) (o : Option CodeBlock) (v : V) → option_map show o ≡ Some v → (block : CodeBlock) × (o ≡ Some block) × (v ≡ show block)
+pub seen : {V : Type 0} (show : CodeBlock → V) (o : Option CodeBlock) (v : V) → option_map show o ≡ Some v → (block : CodeBlock) × (o ≡ Some block)
+    × (v ≡ show block)
 seen show None v e = absurd cc
 seen show (Some block) v e = (block, refl, cc)

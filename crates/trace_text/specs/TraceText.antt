@@ -125,7 +125,8 @@ trace_text p first events moments = paired (event_line p) first events moments
 
 -- THE TRACE EVENT FORMAT: an array of objects, each on a line. One names the lane of an element.
 abbrev pub lane_text : ℕ → List ℕ
-lane_text e = codes "{\"ph\":\"M\",\"pid\":0,\"tid\":" ++ decimal e ++ codes ",\"name\":\"thread_name\",\"args\":{\"name\":\"element " ++ decimal e ++ codes "\"}},\n"
+lane_text e = codes "{\"ph\":\"M\",\"pid\":0,\"tid\":" ++ decimal e ++ codes ",\"name\":\"thread_name\",\"args\":{\"name\":\"element " ++ decimal e
+    ++ codes "\"}},\n"
 
 -- a number of elements from e on
 abbrev pub lanes_text : ℕ → ℕ → List ℕ
@@ -134,7 +135,8 @@ lanes_text e (suc more) = lane_text e ++ lanes_text (e + 1) more
 
 -- An event is a slice in the lane of its element, one unit long.
 abbrev pub slice_open : Program → ℕ → ℕ → To → List ℕ
-slice_open p n e address = codes "{\"ph\":\"X\",\"pid\":0,\"tid\":" ++ decimal e ++ codes ",\"ts\":" ++ decimal n ++ codes ",\"dur\":1,\"name\":\"" ++ name_text p address
+slice_open p n e address = codes "{\"ph\":\"X\",\"pid\":0,\"tid\":" ++ decimal e ++ codes ",\"ts\":" ++ decimal n ++ codes ",\"dur\":1,\"name\":\""
+    ++ name_text p address
 
 abbrev pub slice_deed : To → Deed → List ℕ
 slice_deed address d = codes "\",\"port\":\"" ++ port_text address ++ codes "\",\"deed\":\"" ++ deed_text d

@@ -1,7 +1,8 @@
 //! A trace in the Trace Event format.
 
 ghost use Rattle.std.specs.Prelude.{◌≡◌};
-ghost use Rattle.trace_text.specs.TraceText.{paired, lane_text, lanes_text, slice_open, slice_deed, slice_place, slice_text, counter_text, event_objects, chrome_text};
+ghost use Rattle.trace_text.specs.TraceText.{paired, lane_text, lanes_text, slice_open, slice_deed, slice_place, slice_text, counter_text};
+ghost use Rattle.trace_text.specs.TraceText.{event_objects, chrome_text};
 ghost use Rattle.sink.specs.Sends.{Sends};
 
 use crate::columns::{deed_word, name_at, port_at, send_at, send_frame};

@@ -5,5 +5,6 @@ use Rattle.folding.proofs.fold.Given as goal
 abbrev pub invariant-loop-number : goal.invariant-loop-number
 invariant-loop-number g l = record {
   blocks : l.blocks.items ++ folded_blocks l.fn.plan (drop l.number l.fn.plan.program.blocks) ≡ folded_blocks l.fn.plan l.fn.plan.program.blocks;
-  marks : map (λ v. v.items) l.marks.items ++ all_marks l.fn.plan l.number (drop l.number l.fn.plan.program.blocks) ≡ all_marks l.fn.plan 0 l.fn.plan.program.blocks;
+  marks : map (λ v. v.items) l.marks.items ++ all_marks l.fn.plan l.number (drop l.number l.fn.plan.program.blocks)
+      ≡ all_marks l.fn.plan 0 l.fn.plan.program.blocks;
 }

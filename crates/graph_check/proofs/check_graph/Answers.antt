@@ -29,13 +29,15 @@ returns-in_err-check_blocks-clause-refused g c =
     let named = c.in_ok-named.ensures in
     let blocks = c.blocks_of.ensures.same ∙ ap (λ (g : Graph). g.blocks) c.graph.ensures in
     answered c.args.graph out.result e r.0 r.1 r.2
-    (blocks_refusal c.args.graph c.in_ok-named.named c.blocks_of.result.now (fault_of e) named.0 named.1 c.in_ok-check_main.ensures blocks c.in_err-check_blocks.ensures)
+    (blocks_refusal c.args.graph c.in_ok-named.named c.blocks_of.result.now (fault_of e) named.0 named.1 c.in_ok-check_main.ensures blocks
+    c.in_err-check_blocks.ensures)
 
 pub invariant_of-result : goal.invariant_of-result
 invariant_of-result g c =
     let named = c.in_ok-named.ensures in
     let blocks = c.blocks_of.ensures.same ∙ ap (λ (g : Graph). g.blocks) c.graph.ensures in
-    let well = accepted c.args.graph c.in_ok-named.named c.blocks_of.result.now named.0 named.1 c.in_ok-check_main.ensures blocks c.in_ok-check_blocks.ensures in
+    let well = accepted c.args.graph c.in_ok-named.named c.blocks_of.result.now named.0 named.1 c.in_ok-check_main.ensures blocks
+    c.in_ok-check_blocks.ensures in
     (subst WellFormed (sym named.0) well, subst HasText c.graph.ensures c.blocks_of.ensures.limits)
 
 pub returns-clause-well : goal.returns-clause-well

@@ -14,6 +14,7 @@ returns-in_err-sizes-clause-refused g c = λ p i.
 pub returns-clause-lowered : goal.returns-clause-lowered
 returns-clause-lowered g c = λ p i.
     good_exact c.args.named.now.checked.program.names c.args.named.now.checked.program.words c.in-Ok-build.lowered.arrays.items c.in-Ok.parts.blocks.items
-    c.deref.result.now c.in-Ok-build.lowered.blocks.items c.in-Ok-build.lowered.places.items c.sizes.result c.in_ok-sizes.field-0 c.args.named.now.checked.checked
+    c.deref.result.now c.in-Ok-build.lowered.blocks.items c.in-Ok-build.lowered.places.items c.sizes.result c.in_ok-sizes.field-0
+    c.args.named.now.checked.checked
     (c.in-Ok-build.ensures.arrays ∙ c.in-Ok.ensures.arrays, c.in-Ok.ensures.blocks) c.deref.ensures.value c.sizes.ensures c.in_ok-sizes.was
     c.in-Ok-build.ensures.blocks c.in-Ok-build.ensures.places p i

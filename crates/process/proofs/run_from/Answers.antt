@@ -21,8 +21,10 @@ returns g c =
     let after = ap contents (sym c.into_parts-writer.ensures.inner) in
     record {
       answers =
-          answers_of words (remaining c.new-reader.result.inner) (remaining c.args.reader) (writer_contents contents c.in_ok-writer.writer) (contents c.args.writer)
-          (contents (writer_inner c.answer-outcome.new.writer)) (contents c.into_parts-writer.result.0) c.answer-outcome.result read before after c.answer-outcome.ensures;
+          answers_of words (remaining c.new-reader.result.inner) (remaining c.args.reader) (writer_contents contents c.in_ok-writer.writer)
+          (contents c.args.writer)
+          (contents (writer_inner c.answer-outcome.new.writer)) (contents c.into_parts-writer.result.0) c.answer-outcome.result read before after
+          c.answer-outcome.ensures;
       exit = c.exit_status.ensures;
       explains =
           explained_run g.X.Explain.accounts words _ _ _ _ (reads_of (λ i. i.now) _ _ _ _ _ c.requires left c.kept-input.ensures)

@@ -13,7 +13,8 @@ returns-clause-wants g c =
     let silent = g.E.Write.contents c.args.errors.now in
     let spoken = g.E.Write.contents c.run_explained.new.errors in
     ok_of c.run_explained.result
-    (λ e. Ends accounts_by_hint words (remaining c.args.reader) (remaining e.reader) (contents c.args.writer) (contents e.writer) silent spoken e.outcome e.status e.hint_sent) _
+    (λ e. Ends accounts_by_hint words (remaining c.args.reader) (remaining e.reader) (contents c.args.writer) (contents e.writer) silent spoken
+    e.outcome e.status e.hint_sent) _
     (λ e. IsWanted (wants_hint e.outcome) e.hint_sent)
     (λ e ends. is_wanted words (remaining c.args.reader) (remaining e.reader) silent spoken e.outcome e.hint_sent ends.explains)
     c.run_explained.ensures

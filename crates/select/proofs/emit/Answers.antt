@@ -24,4 +24,5 @@ returns-clause-spelling g c =
     let bs = c.args.plan.now.program.blocks in
     let table : c.in_ok-literals.literals.items ≡ table_of bs = search rules in
     let far : too_far bs ≡ None = search rules in
-    λ e. is_code (version_number c.args.version) c.args.plan.now c.args.slots.now _ (version_is c.args.version) (search rules) table far c.in_ok-literals.ensures.ascending c.in_ok-literals.ensures.fit e
+    λ e. is_code (version_number c.args.version) c.args.plan.now c.args.slots.now _ (version_is c.args.version) (search rules) table far
+    c.in_ok-literals.ensures.ascending c.in_ok-literals.ensures.fit e

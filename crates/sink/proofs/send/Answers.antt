@@ -12,15 +12,20 @@ returns-in-Ok-eq0 g c =
     let i = c.loop-rest.invariant in
     let rest = c.loop-rest.rest.now in
     sends_some _ _ _ (i.0 ++ take c.in-Ok-eq0.field-0 rest) (drop c.in-Ok-eq0.field-0 rest) c.args.bytes.now
-    (i.1 ∙ ap (λ (l : List ℕ). i.0 ++ l) (sym (take-append-drop c.in-Ok-eq0.field-0 rest)) ∙ sym (append_assoc i.0 (take c.in-Ok-eq0.field-0 rest) (drop c.in-Ok-eq0.field-0 rest)))
+    (i.1 ∙ ap (λ (l : List ℕ). i.0 ++ l) (sym (take-append-drop c.in-Ok-eq0.field-0 rest))
+    ∙ sym (append_assoc i.0 (take c.in-Ok-eq0.field-0 rest) (drop c.in-Ok-eq0.field-0 rest)))
     (appends_then _ _ _ i.0 (take c.in-Ok-eq0.field-0 rest) i.2 c.in-Ok-eq0.ensures.bytes)
 
 pub loop-rest-preserved : goal.loop-rest-preserved
 loop-rest-preserved g c =
     let i = c.loop-rest.invariant in
     let rest = c.loop-rest.rest.now in
-    let n = c.in-Ok.n in
-    (i.0 ++ take n rest, i.1 ∙ ap (λ (l : List ℕ). i.0 ++ l) (sym (take-append-drop n rest)) ∙ sym (append_assoc i.0 (take n rest) (drop n rest)) ∙ ap (λ (l : List ℕ). (i.0 ++ take n rest) ++ l) (sym c.split_at.ensures.back), appends_then _ _ _ i.0 (take n rest) i.2 c.in-Ok.ensures.bytes)
+    let n = c.in-Ok.n in (
+      i.0 ++ take n rest,
+      i.1 ∙ ap (λ (l : List ℕ). i.0 ++ l) (sym (take-append-drop n rest)) ∙ sym (append_assoc i.0 (take n rest) (drop n rest))
+          ∙ ap (λ (l : List ℕ). (i.0 ++ take n rest) ++ l) (sym c.split_at.ensures.back),
+      appends_then _ _ _ i.0 (take n rest) i.2 c.in-Ok.ensures.bytes,
+    )
 
 pub returns-in-Err : goal.returns-in-Err
 returns-in-Err g c =

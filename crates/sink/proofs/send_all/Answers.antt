@@ -7,7 +7,8 @@ pub returns-in_err-send : goal.returns-in_err-send
 returns-in_err-send g c =
     let p = err_from_is_err_and c.from_residual.result c.from_residual.ensures.1 in
     let l = c.loop-piece in
-    rw p.1 (loop_stop (λ q. q.now) c.args.pieces.now l.piece-index _ p.0 _ _ _ c.loop-piece-test.true l.invariant (sends_other c.in_err-send.field-0.0 p.0 _ _ _ c.in_err-send.ensures))
+    rw p.1 (loop_stop (λ q. q.now) c.args.pieces.now l.piece-index _ p.0 _ _ _ c.loop-piece-test.true l.invariant
+    (sends_other c.in_err-send.field-0.0 p.0 _ _ _ c.in_err-send.ensures))
 
 pub loop-piece-preserved : goal.loop-piece-preserved
 loop-piece-preserved g c =

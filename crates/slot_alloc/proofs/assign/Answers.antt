@@ -28,11 +28,13 @@ loop-number-preserved g c =
     let at : slice_get bs n ≡ Some c.block-item.result = slice_get_read bs (length bs) n c.block-item.result refl lt is in
     let old = c.loop-number.lists.items in
     let pushed : c.push.new.self.items ≡ old ++ c.in-Ok.list ∷ [] = c.in_ok-push-in-Ok.ensures.items in
-    let views : map (λ v. v.items) c.push.new.self.items ≡ map (λ v. v.items) old ++ c.in-Ok.list.items ∷ [] = ap (map (λ v. v.items)) pushed ∙ map-append (λ v. v.items) old (c.in-Ok.list ∷ []) in
+    let views : map (λ v. v.items) c.push.new.self.items ≡ map (λ v. v.items) old ++ c.in-Ok.list.items ∷ [] = ap (map (λ v. v.items)) pushed
+    ∙ map-append (λ v. v.items) old (c.in-Ok.list ∷ []) in
     let len = c.loop-number.invariant.1 in
     let more = length_push old c.in-Ok.list in (
       subst (λ zs. AssignedBelow p (n + 1) zs) (sym views)
-          (assigned_more p n (map (λ v. v.items) old) c.block-item.result c.in-Ok.list.items at (length-map old (λ v. v.items) ∙ len) c.loop-number.invariant.0 c.in-Ok.ensures.assigned),
+          (assigned_more p n (map (λ v. v.items) old) c.block-item.result c.in-Ok.list.items at (length-map old (λ v. v.items) ∙ len)
+          c.loop-number.invariant.0 c.in-Ok.ensures.assigned),
       ap length pushed ∙ omega (arith, len, more),
     )
 
@@ -46,4 +48,5 @@ returns-clause-assigned g c =
     let high = c.loop-number.auto.number-end in
     let end : n ≡ length bs = omega (arith, low, high, len) in
     subst (λ zs. IsAssigned p zs) (sym c.of.ensures)
-    (assigned_all p n (map (λ v. v.items) c.loop-number.lists.items) c.loop-number.invariant.0 (length-map c.loop-number.lists.items (λ v. v.items) ∙ c.loop-number.invariant.1) end)
+    (assigned_all p n (map (λ v. v.items) c.loop-number.lists.items) c.loop-number.invariant.0 (length-map c.loop-number.lists.items (λ v. v.items)
+    ∙ c.loop-number.invariant.1) end)

@@ -13,7 +13,8 @@ loop-number-preserved g c =
     let lt : n < length bs = subst (λ zs. n < length zs) items c.loop-number-test.true in
     let is : c.block-item.result ≡ get_or bs n c.block-item.result = c.block-item.is ∙ ap (λ zs. get_or zs n c.block-item.result) items in
     let at : slice_get bs n ≡ Some c.block-item.result = slice_get_read bs (length bs) n c.block-item.result refl lt is in
-    good_more p n c.args.slots.now c.block-item.result c.in-Some.list.now at (sym c.in-Some.ensures) c.loop-number.invariant (c.in_ok-check_block.ensures.0 c.if-not-branch.false)
+    good_more p n c.args.slots.now c.block-item.result c.in-Some.list.now at (sym c.in-Some.ensures) c.loop-number.invariant
+    (c.in_ok-check_block.ensures.0 c.if-not-branch.false)
 
 pub returns : goal.returns
 returns g c =

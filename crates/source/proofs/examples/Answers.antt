@@ -1,4 +1,5 @@
-use Rattle.source.proofs.Worked.{signs_give, else_if_gives, strict_call_gives, factorial_gives, sum_gives, count_gives, pairs_give, cells_give, outside_gives, faults_give, memory_is_computed}
+use Rattle.source.proofs.Worked.{signs_give, else_if_gives, strict_call_gives, factorial_gives, sum_gives, count_gives, pairs_give, cells_give}
+use Rattle.source.proofs.Worked.{outside_gives, faults_give, memory_is_computed}
 use Rattle.source.proofs.examples.Goals as goal
 
 pub returns-clause-factorial : goal.returns-clause-factorial

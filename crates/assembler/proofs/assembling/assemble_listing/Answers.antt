@@ -18,9 +18,11 @@ returns-in-Err g c =
 pub returns-in-Ok-check_code : goal.returns-in-Ok-check_code
 returns-in-Ok-check_code g c =
     let r = c.in-Ok.read in
-    let exact = given c.args.text.now (r.version, r.code) c.in-Ok.ensures (sym c.in-Ok-check_code.ensures.exact) ∙ ap (λ (v : ℕ). Ok (v, r.code)) (sym c.version_of.ensures) in
+    let exact = given c.args.text.now (r.version, r.code) c.in-Ok.ensures (sym c.in-Ok-check_code.ensures.exact)
+    ∙ ap (λ (v : ℕ). Ok (v, r.code)) (sym c.version_of.ensures) in
     record {
-      object = sound c.args.text.now r.version (version_number c.version_of.result) r.code (sym c.version_of.ensures) c.in-Ok-check_code.ensures.words c.in-Ok.ensures (sym c.in-Ok-check_code.ensures.exact);
+      object = sound c.args.text.now r.version (version_number c.version_of.result) r.code (sym c.version_of.ensures) c.in-Ok-check_code.ensures.words
+          c.in-Ok.ensures (sym c.in-Ok-check_code.ensures.exact);
       complete = λ w d h k. only_code c.args.text.now (version_number c.version_of.result) w r.code d exact h k;
       exact = exact;
     }
@@ -29,5 +31,11 @@ pub returns-in-Err-check_code : goal.returns-in-Err-check_code
 returns-in-Err-check_code g c =
     let r = c.in-Ok.read in
     let f = c.in-Err-check_code.refusal in
-    let exact = inr (unfit c.args.text.now (r.version, r.code) f c.in-Ok.ensures (sym c.in-Err-check_code.ensures.exact) ∙ ap (λ (n : ℕ). Err record { kind = unfit_kind f.unfit; line = n }) (sym c.line_at.ensures)) in
-    record { object = tt; complete = λ w d h k. only_memory c.args.text.now w d record { kind = unfit_kind f.unfit; line = c.line_at.result } exact h k; exact = exact }
+    let exact = inr (unfit c.args.text.now (r.version, r.code) f c.in-Ok.ensures (sym c.in-Err-check_code.ensures.exact)
+    ∙ ap (λ (n : ℕ). Err record { kind = unfit_kind f.unfit; line = n }) (sym c.line_at.ensures)) in
+    record {
+      object = tt;
+      complete = λ w d h k. only_memory c.args.text.now w d record { kind = unfit_kind f.unfit; line = c.line_at.result } exact h
+          k;
+      exact = exact;
+    }

@@ -7,20 +7,26 @@ use Rattle.assembler.proofs.Placed.{at_none, at_blank, at_here, at_later, fewer}
 use Rattle.assembler.proofs.reading.line_at.Goals as goal
 
 pub loop-bytes-init : goal.loop-bytes-init
-loop-bytes-init c = record { so_far = ap (line_at 0 c.args.index) c.of-lines.ensures; room = rw c.of-lines.ensures (omega (arith, few_parts 10 c.args.text.now)) }
+loop-bytes-init c = record {
+  so_far = ap (line_at 0 c.args.index) c.of-lines.ensures;
+  room = rw c.of-lines.ensures
+      (omega (arith, few_parts 10 c.args.text.now));
+}
 
 pub returns-then-left-eq0 : goal.returns-then-left-eq0
 returns-then-left-eq0 c =
     let l = c.loop-bytes in
     let t : has_words (words_of c.in-Some.bytes.now) ≡ true = ap has_words (sym c.of.ensures) ∙ sym c.are_some.ensures ∙ c.if-are_some.true in
-    at_here l.line l.left _ l.lines c.in-Some.rest c.in-Some.bytes.now c.in-Some.ensures t (eq-eqb l.left 0 (omega (arith, c.if-left-eq0.true))) l.invariant.so_far
+    at_here l.line l.left _ l.lines c.in-Some.rest c.in-Some.bytes.now c.in-Some.ensures t (eq-eqb l.left 0 (omega (arith, c.if-left-eq0.true)))
+    l.invariant.so_far
 
 pub loop-bytes-preserved-else-left-eq0 : goal.loop-bytes-preserved-else-left-eq0
 loop-bytes-preserved-else-left-eq0 c =
     let l = c.loop-bytes in
     let t : has_words (words_of c.in-Some.bytes.now) ≡ true = ap has_words (sym c.of.ensures) ∙ sym c.are_some.ensures ∙ c.if-are_some.true in
     record {
-      so_far = at_later l.line l.left _ l.lines c.in-Some.rest c.in-Some.bytes.now c.in-Some.ensures t (ne_eqb l.left 0 (λ z. absurd (let h = c.if-left-eq0.false in omega (arith, h, z)))) l.invariant.so_far;
+      so_far = at_later l.line l.left _ l.lines c.in-Some.rest c.in-Some.bytes.now c.in-Some.ensures t
+          (ne_eqb l.left 0 (λ z. absurd (let h = c.if-left-eq0.false in omega (arith, h, z)))) l.invariant.so_far;
       room = fewer l.line l.lines c.in-Some.rest c.in-Some.bytes.now _ c.in-Some.ensures l.invariant.room;
     }
 

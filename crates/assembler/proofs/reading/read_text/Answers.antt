@@ -14,22 +14,26 @@ loop-bytes-init g c =
 pub returns-in-Err-line : goal.returns-in-Err-line
 returns-in-Err-line g c =
     let l = c.loop-bytes in
-    stopped l.line l.state.0 l.state.1 l.lines c.in-Some.rest c.in-Some.bytes.now (fault_kind c.in-Err-line.cause) _ c.in-Some.ensures (rw (← c.of.ensures) c.in-Err-line.ensures) l.invariant.so_far
+    stopped l.line l.state.0 l.state.1 l.lines c.in-Some.rest c.in-Some.bytes.now (fault_kind c.in-Err-line.cause) _ c.in-Some.ensures
+    (rw (← c.of.ensures) c.in-Err-line.ensures) l.invariant.so_far
 
 pub loop-bytes-preserved : goal.loop-bytes-preserved
 loop-bytes-preserved g c =
     let l = c.loop-bytes in
     record {
-      so_far = reads_on l.line l.state.0 l.state.1 l.lines c.in-Some.rest c.in-Some.bytes.now c.in-Ok-line.next _ c.in-Some.ensures (ap (line_from l.state.0 l.state.1) (sym c.of.ensures) ∙ c.in-Ok-line.ensures) l.invariant.so_far;
+      so_far = reads_on l.line l.state.0 l.state.1 l.lines c.in-Some.rest c.in-Some.bytes.now c.in-Ok-line.next _ c.in-Some.ensures
+          (ap (line_from l.state.0 l.state.1) (sym c.of.ensures) ∙ c.in-Ok-line.ensures) l.invariant.so_far;
       room = fewer l.line l.lines c.in-Some.rest c.in-Some.bytes.now _ c.in-Some.ensures l.invariant.room;
     }
 
 pub returns-in-Ok-end : goal.returns-in-Ok-end
 returns-in-Ok-end g c =
     let l = c.loop-bytes in
-    ended_well l.line (end_from l.state.0 l.state.1) _ _ (reads_to_end l.line l.state.0 l.state.1 l.lines _ c.in_default.ensures l.invariant.so_far) c.in-Ok-end.ensures
+    ended_well l.line (end_from l.state.0 l.state.1) _ _ (reads_to_end l.line l.state.0 l.state.1 l.lines _ c.in_default.ensures l.invariant.so_far)
+    c.in-Ok-end.ensures
 
 pub returns-in-Err-end : goal.returns-in-Err-end
 returns-in-Err-end g c =
     let l = c.loop-bytes in
-    ended_badly l.line (end_from l.state.0 l.state.1) _ (fault_kind c.in-Err-end.cause) (reads_to_end l.line l.state.0 l.state.1 l.lines _ c.in_default.ensures l.invariant.so_far) c.in-Err-end.ensures
+    ended_badly l.line (end_from l.state.0 l.state.1) _ (fault_kind c.in-Err-end.cause) (reads_to_end l.line l.state.0 l.state.1 l.lines _
+    c.in_default.ensures l.invariant.so_far) c.in-Err-end.ensures

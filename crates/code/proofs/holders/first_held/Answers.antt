@@ -9,7 +9,8 @@ loop-instr-init g c = refl
 
 pub loop-instr-preserved : goal.loop-instr-preserved
 loop-instr-preserved g c =
-    sym (passed c.args.instrs.now c.args.number c.loop-instr.instr-index c.instr-item.result c.loop-instr-test.true c.instr-item.is c.if-has_holder.ensures) ∙ c.loop-instr.invariant
+    sym (passed c.args.instrs.now c.args.number c.loop-instr.instr-index c.instr-item.result c.loop-instr-test.true c.instr-item.is
+    c.if-has_holder.ensures) ∙ c.loop-instr.invariant
 
 pub returns-then-has_holder : goal.returns-then-has_holder
 returns-then-has_holder g c =

@@ -11,7 +11,9 @@ returns-then-count-eq0-clause-all g c =
     let read = c.in-Ok.ensures.bytes in
     let old = g.R.Read.remaining c.args.reader.now in
     let new = g.R.Read.remaining c.read.new.self in
-    let last : Consumes (g.R.Read.remaining c.loop.reader) new [] = subst (λ (n : ℕ). Consumes (g.R.Read.remaining c.loop.reader) new (take n c.read.new.buf)) none read.0 in
+    let last : Consumes (g.R.Read.remaining c.loop.reader) new [] = subst (λ (n : ℕ). Consumes (g.R.Read.remaining c.loop.reader) new
+    (take n c.read.new.buf)) none read.0 in
     all_read old new c.loop.bytes.items
-    (subst (λ (p : List ℕ). Consumes old new p) (append-nil c.loop.bytes.items) (consumes_more old (g.R.Read.remaining c.loop.reader) new c.loop.bytes.items [] c.loop.invariant.0 last))
+    (subst (λ (p : List ℕ). Consumes old new p) (append-nil c.loop.bytes.items) (consumes_more old (g.R.Read.remaining c.loop.reader) new
+    c.loop.bytes.items [] c.loop.invariant.0 last))
     (read.1 none room)

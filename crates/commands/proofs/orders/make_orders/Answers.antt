@@ -13,9 +13,13 @@ returns-in-Err-clause-refused g c = not_ordered c.args.input.now c.in-Err.refusa
 pub returns-then-count-eq0-clause-refused : goal.returns-then-count-eq0-clause-refused
 returns-then-count-eq0-clause-refused g c =
     count_refused c.args.input.now _ _ c.in-Ok.ensures c.args.options.now c.args.count c.config_of-config.result c.config_of-config.ensures
-    (λ good. elim c.then-count-eq0.branch [ then-count-eq0-via-then-count-eq0 w ↦ w.if-count-eq0.true | then-count-eq0-via-else-count-eq0+then-config-eq0 w ↦ absurd omega (arith, good.elements, w.if-config-eq0.true) ])
+    (λ good. elim c.then-count-eq0.branch [
+      | then-count-eq0-via-then-count-eq0 w ↦ w.if-count-eq0.true
+      | then-count-eq0-via-else-count-eq0+then-config-eq0 w ↦ absurd omega (arith, good.elements, w.if-config-eq0.true)
+    ])
     c.option_refusal.result
-    (subst (λ (zs : List ℤ). IsRefusedOption c.in-Ok.feed.text.now zs c.config_of-config.result c.option_refusal.result) c.deref.ensures.value c.option_refusal.ensures)
+    (subst (λ (zs : List ℤ). IsRefusedOption c.in-Ok.feed.text.now zs c.config_of-config.result c.option_refusal.result) c.deref.ensures.value
+    c.option_refusal.ensures)
 
 pub returns-in-Ok-run_orders-clause-other : goal.returns-in-Ok-run_orders-clause-other
 returns-in-Ok-run_orders-clause-other g c =
@@ -25,12 +29,16 @@ returns-in-Ok-run_orders-clause-other g c =
       text = c.in-Ok.feed.text.now;
       inputs = c.in-Ok.feed.integers.items;
       feed = c.in-Ok.ensures;
-      first_other = subst (λ (d : Config). IsFirstOther c.in-Ok.feed.text.now c.in-Ok.feed.integers.items d c.args.seed c.args.count o.checked o.reports.first x.number o.checked x.report) c.config_of-config.ensures
-          (subst (λ (zs : List ℤ). IsFirstOther c.in-Ok.feed.text.now zs c.config_of-config.result c.args.seed c.args.count o.checked o.reports.first x.number o.checked x.report) c.deref-2.ensures.value h);
+      first_other = subst (λ (d : Config). IsFirstOther c.in-Ok.feed.text.now c.in-Ok.feed.integers.items d c.args.seed c.args.count o.checked
+          o.reports.first x.number o.checked x.report) c.config_of-config.ensures
+          (subst (λ (zs : List ℤ). IsFirstOther c.in-Ok.feed.text.now zs c.config_of-config.result c.args.seed c.args.count o.checked o.reports.first
+          x.number o.checked x.report) c.deref-2.ensures.value h);
     })
     c.in-Ok-run_orders.ensures.other
 
 pub returns-clause-refused : goal.returns-clause-refused
 returns-clause-refused g c =
-    order_refused c.args.input.now _ _ c.in-Ok.ensures c.args.options.now c.args.count c.config_of-config.result c.config_of-config.ensures c.in-Err-run_orders.fault
-    (subst (λ (zs : List ℤ). IsRefused c.in-Ok.feed.text.now zs c.config_of-config.result c.in-Err-run_orders.fault) c.deref-2.ensures.value c.in-Err-run_orders.ensures.refused) c.fault_refusal.result c.fault_refusal.ensures
+    order_refused c.args.input.now _ _ c.in-Ok.ensures c.args.options.now c.args.count c.config_of-config.result c.config_of-config.ensures
+    c.in-Err-run_orders.fault
+    (subst (λ (zs : List ℤ). IsRefused c.in-Ok.feed.text.now zs c.config_of-config.result c.in-Err-run_orders.fault) c.deref-2.ensures.value
+    c.in-Err-run_orders.ensures.refused) c.fault_refusal.result c.fault_refusal.ensures

@@ -7,7 +7,12 @@ use Rattle.commands.proofs.PlayedOn.{begin, begin_at, go_on, halted, next_at, us
 use Rattle.commands.proofs.orders.play_drawn.Goals as goal
 
 pub loop-time-init : goal.loop-time-init
-loop-time-init g c = record { few = omega arith; number = begin_at c.args.elements c.args.first c.args.machine.now; so_far = begin c.args.elements c.args.first c.args.machine.now }
+loop-time-init g c = record {
+  few = omega arith;
+  number = begin_at c.args.elements c.args.first c.args.machine.now;
+  so_far = begin c.args.elements
+      c.args.first c.args.machine.now;
+}
 
 pub play-halt-requires : goal.play-halt-requires
 play-halt-requires g c =
@@ -31,8 +36,10 @@ loop-time-preserved g c =
     let is : c.play-halt.result ≡ Halt.Steps = search rules in
     record {
       few = omega (arith, c.loop-time-test.true);
-      number = next_at c.args.elements c.args.first c.args.machine.now c.loop-time._time c.loop-time.number so.number c.in_ok-drawn.drawn.next c.in_ok-drawn.ensures.next;
-      so_far = go_on c.args.elements c.args.first c.args.machine.now c.loop-time._time c.loop-time.number c.loop-time.machine c.play-halt.new.self so.so_far so.number
+      number = next_at c.args.elements c.args.first c.args.machine.now c.loop-time._time c.loop-time.number so.number c.in_ok-drawn.drawn.next
+          c.in_ok-drawn.ensures.next;
+      so_far = go_on c.args.elements c.args.first c.args.machine.now c.loop-time._time c.loop-time.number c.loop-time.machine c.play-halt.new.self
+          so.so_far so.number
           c.deref.result.now (c.deref.ensures.value ∙ c.in_ok-drawn.ensures.drawn) p.0 p.2
           (subst (λ (h : Halt). Plays true c.deref.result.now c.loop-time.machine.state c.play-halt.new.self.state h p.0) is p.1) c.play-halt.ensures.setting;
     }
@@ -42,4 +49,5 @@ returns g c =
     let so = c.loop-time.invariant in
     let p = c.play.ensures.plays in
     let all : 4096 * c.loop-time._time ≡ most_picks = omega (arith, so.few, c.loop-time-test.false) in
-    used_up c.args.elements c.args.first c.args.machine.now c.loop-time._time c.loop-time.machine c.play.new.self so.so_far all c.play.result [] refl p.0 p.2 p.1 c.play.ensures.cell
+    used_up c.args.elements c.args.first c.args.machine.now c.loop-time._time c.loop-time.machine c.play.new.self so.so_far all c.play.result [] refl
+    p.0 p.2 p.1 c.play.ensures.cell

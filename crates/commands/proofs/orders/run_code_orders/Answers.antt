@@ -12,7 +12,8 @@ loop-number-preserved g c = λ text gr compiled.
     go_on _ _ _ _ _ _ c.loop-number.number (c.loop-number.invariant text gr compiled) _ _ (c.in_ok-report.ensures text gr compiled) (h.0 (search rules))
 
 pub returns-clause-same : goal.returns-clause-same
-returns-clause-same g c = λ text gr compiled none. all _ _ _ _ _ _ c.loop-number.number c.args.count c.loop-number-test.false (c.loop-number.invariant text gr compiled)
+returns-clause-same g c = λ text gr compiled none. all _ _ _ _ _ _ c.loop-number.number c.args.count c.loop-number-test.false
+    (c.loop-number.invariant text gr compiled)
 
 pub returns-then-not-are_same-clause-other : goal.returns-then-not-are_same-clause-other
 returns-then-not-are_same-clause-other g c = λ text gr compiled.

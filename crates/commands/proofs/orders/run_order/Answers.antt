@@ -7,12 +7,14 @@ use Rattle.commands.proofs.orders.run_order.Goals as goal
 
 pub play_drawn-requires-clause-elements : goal.play_drawn-requires-clause-elements
 play_drawn-requires-clause-elements g c =
-    let same : c.in_ok-machine.machine.state.setting.elements ≡ c.args.config.elements = elements_of c.args.code.now.bytes c.args.inputs.now c.args.config c.in_ok-machine.machine c.in_ok-machine.ensures in
+    let same : c.in_ok-machine.machine.state.setting.elements ≡ c.args.config.elements = elements_of c.args.code.now.bytes c.args.inputs.now
+    c.args.config c.in_ok-machine.machine c.in_ok-machine.ensures in
     search (rules, same)
 
 pub returns : goal.returns
 returns g c = λ text gr compiled.
-    order_of text gr c.args.code.now.bytes c.args.inputs.now c.args.config c.args.seed c.args.order c.first_number.result c.in_ok-machine.machine c.play_drawn.new.machine c.in_ok-halt.halt c.report.result
+    order_of text gr c.args.code.now.bytes c.args.inputs.now c.args.config c.args.seed c.args.order c.first_number.result c.in_ok-machine.machine
+    c.play_drawn.new.machine c.in_ok-halt.halt c.report.result
     compiled c.in_ok-machine.ensures c.first_number.ensures c.in_ok-halt.ensures c.report.ensures.reported (λ ins b h. c.report.ensures.shows ins true b h)
 
 pub returns-in_err-machine : goal.returns-in_err-machine

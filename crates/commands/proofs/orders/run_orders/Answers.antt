@@ -14,11 +14,13 @@ pub returns-clause-other : goal.returns-clause-other
 returns-clause-other g c =
     let k = c.in_ok-checked.field-0 in
     let same = ap (λ (x : Opened). x.bytes) (c.in_ok-code.ensures ∙ c.as_object.ensures) in
-    c.in_ok-reports.ensures.other c.args.text.now k.checked (subst (λ (bs : List ℕ). IsCompiled c.args.text.now k.checked bs) (sym same) c.in_ok-checked.ensures)
+    c.in_ok-reports.ensures.other c.args.text.now k.checked (subst (λ (bs : List ℕ). IsCompiled c.args.text.now k.checked bs) (sym same)
+    c.in_ok-checked.ensures)
 
 pub returns-in_err-reports-clause-refused : goal.returns-in_err-reports-clause-refused
 returns-in_err-reports-clause-refused g c =
     let p = err_from_is_err_and c.from_residual-in_err-reports.result c.from_residual-in_err-reports.ensures.1 in
     let k = c.in_ok-checked.field-0 in
     let same = ap (λ (x : Opened). x.bytes) (c.in_ok-code.ensures ∙ c.as_object.ensures) in
-    rw (p.1, p.2) (c.in_err-reports.ensures.refused c.args.text.now k.checked (subst (λ (bs : List ℕ). IsCompiled c.args.text.now k.checked bs) (sym same) c.in_ok-checked.ensures))
+    rw (p.1, p.2) (c.in_err-reports.ensures.refused c.args.text.now k.checked (subst (λ (bs : List ℕ). IsCompiled c.args.text.now k.checked bs)
+    (sym same) c.in_ok-checked.ensures))

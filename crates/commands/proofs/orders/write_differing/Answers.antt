@@ -25,7 +25,9 @@ returns-in_err-write_order g c =
     let w0 : Option (List ℕ) = g.W.Write.contents c.args.writer.now in
     let w1 : Option (List ℕ) = g.W.Write.contents c.send.new.writer in
     let w2 : Option (List ℕ) = g.W.Write.contents c.write_order.new.writer in
-    rw p.1 (sends_less p.0 w0 w2 (t1 ++ t2) t3 (sends_more (Err p.0) w0 w1 w2 t1 t2 (sends_from c.send.result w0 w1 t1 c.in_ok-send.was c.send.ensures) (sends_other c.in_err-write_order.field-0.0 p.0 w1 w2 t2 c.in_err-write_order.ensures)))
+    rw p.1 (sends_less p.0 w0 w2 (t1 ++ t2) t3
+    (sends_more (Err p.0) w0 w1 w2 t1 t2 (sends_from c.send.result w0 w1 t1 c.in_ok-send.was c.send.ensures)
+    (sends_other c.in_err-write_order.field-0.0 p.0 w1 w2 t2 c.in_err-write_order.ensures)))
 
 pub returns : goal.returns
 returns g c =
@@ -36,4 +38,6 @@ returns g c =
     let w1 : Option (List ℕ) = g.W.Write.contents c.send.new.writer in
     let w2 : Option (List ℕ) = g.W.Write.contents c.write_order.new.writer in
     let w3 : Option (List ℕ) = g.W.Write.contents c.write_order-2.new.writer in
-    sends_more c.write_order-2.result w0 w2 w3 (t1 ++ t2) t3 (appends_then w0 w1 w2 t1 t2 (sends_from c.send.result w0 w1 t1 c.in_ok-send.was c.send.ensures) (sends_from c.write_order.result w1 w2 t2 c.in_ok-write_order.was c.write_order.ensures)) c.write_order-2.ensures
+    sends_more c.write_order-2.result w0 w2 w3 (t1 ++ t2) t3
+    (appends_then w0 w1 w2 t1 t2 (sends_from c.send.result w0 w1 t1 c.in_ok-send.was c.send.ensures)
+    (sends_from c.write_order.result w1 w2 t2 c.in_ok-write_order.was c.write_order.ensures)) c.write_order-2.ensures

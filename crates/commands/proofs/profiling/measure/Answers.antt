@@ -37,7 +37,8 @@ returns g c = λ text gr compiled.
           c.deref.ensures.value c.row_of.ensures.tokens;
       slots = subst (λ (l : List Moment). c.row_of.result.slots ≡ greatest_from 0 (map (quantity_in Quantity.Slots) l)) c.deref.ensures.value
           c.row_of.ensures.slots;
-      frames = subst (λ (l : List Moment). c.row_of.result.frames ≡ greatest_from 1 (map (quantity_in Quantity.Frames) l)) c.deref.ensures.value c.row_of.ensures.frames;
+      frames = subst (λ (l : List Moment). c.row_of.result.frames ≡ greatest_from 1 (map (quantity_in Quantity.Frames) l)) c.deref.ensures.value
+          c.row_of.ensures.frames;
     }
 
 pub returns-in_default : goal.returns-in_default

@@ -5,4 +5,5 @@ use Rattle.commands.specs.Profiled.{AreRows, sizes_below}
 use Rattle.commands.proofs.profiling.rows_of.Given as goal
 
 abbrev pub invariant-loop-elements : goal.invariant-loop-elements
-invariant-loop-elements g l = (text : List ℕ) (gr : Graph) → IsCompiled text gr l.code.bytes → AreRows text l.inputs l.options (sizes_below l.sizes l.elements) l.rows.items
+invariant-loop-elements g l = (text : List ℕ) (gr : Graph) → IsCompiled text gr l.code.bytes
+    → AreRows text l.inputs l.options (sizes_below l.sizes l.elements) l.rows.items

@@ -15,7 +15,9 @@ returns-in-Ok-write_meaning g c =
       m.report.outputs.items,
       m.report.cells.items,
       c.in-Ok.ensures,
-      printed _ _ _ _ _ _ _ (Outcome.Reported (Ending.Meaning m.report.end)) (ap (λ (h : Graph). meaning_text h.arrays m.report.outputs.items m.report.cells.items m.report.end) c.graph.ensures.same) refl c.in-Ok-write_meaning.ensures,
+      printed _ _ _ _ _ _ _ (Outcome.Reported (Ending.Meaning m.report.end))
+          (ap (λ (h : Graph). meaning_text h.arrays m.report.outputs.items m.report.cells.items m.report.end) c.graph.ensures.same) refl
+          c.in-Ok-write_meaning.ensures,
     )
 
 pub returns-in-Ok : goal.returns-in-Ok
@@ -27,5 +29,7 @@ returns-in-Ok g c =
       m.report.outputs.items,
       m.report.cells.items,
       c.in-Ok.ensures,
-      stopped _ _ _ _ _ _ (Outcome.Reported (Ending.Meaning m.report.end)) (ap (λ (h : Graph). meaning_text h.arrays m.report.outputs.items m.report.cells.items m.report.end) c.graph.ensures.same) c.in-Err-write_meaning.ensures,
+      stopped _ _ _ _ _ _ (Outcome.Reported (Ending.Meaning m.report.end))
+          (ap (λ (h : Graph). meaning_text h.arrays m.report.outputs.items m.report.cells.items m.report.end) c.graph.ensures.same)
+          c.in-Err-write_meaning.ensures,
     )

@@ -13,7 +13,8 @@ returns-in-Ok-write_report g c =
       e.checked,
       e.report,
       c.in-Ok.ensures,
-      printed _ _ _ _ _ _ _ (Outcome.Reported (ending_of e.report)) (ap (λ (h : Graph). report_text h.arrays e.report) c.graph.ensures.same) (ap Outcome.Reported c.of.ensures) c.in-Ok-write_report.ensures,
+      printed _ _ _ _ _ _ _ (Outcome.Reported (ending_of e.report)) (ap (λ (h : Graph). report_text h.arrays e.report) c.graph.ensures.same)
+          (ap Outcome.Reported c.of.ensures) c.in-Ok-write_report.ensures,
     )
 
 pub returns-in-Ok : goal.returns-in-Ok
@@ -23,5 +24,6 @@ returns-in-Ok g c =
       e.checked,
       e.report,
       c.in-Ok.ensures,
-      stopped _ _ _ _ _ _ (Outcome.Reported (ending_of e.report)) (ap (λ (h : Graph). report_text h.arrays e.report) c.graph.ensures.same) c.in-Err-write_report.ensures,
+      stopped _ _ _ _ _ _ (Outcome.Reported (ending_of e.report)) (ap (λ (h : Graph). report_text h.arrays e.report) c.graph.ensures.same)
+          c.in-Err-write_report.ensures,
     )

@@ -24,7 +24,8 @@ returns-in_err-list_blocks g c =
     let w0 : Option (List ℕ) = g.W.Write.contents c.args.writer.now in
     let w1 : Option (List ℕ) = g.W.Write.contents c.list_head.new.writer in
     let w2 : Option (List ℕ) = g.W.Write.contents c.list_blocks.new.writer in
-    rw p.1 (sends_less p.0 w0 w2 (t1 ++ t2) t3 (sends_more (Err p.0) w0 w1 w2 t1 t2 (sends_from c.list_head.result w0 w1 t1 c.in_ok-list_head.was c.list_head.ensures) (sends_other c.in_err-list_blocks.field-0.0 p.0 w1 w2 t2 c.in_err-list_blocks.ensures)))
+    rw p.1 (sends_less p.0 w0 w2 (t1 ++ t2) t3 (sends_more (Err p.0) w0 w1 w2 t1 t2 (sends_from c.list_head.result w0 w1 t1 c.in_ok-list_head.was
+    c.list_head.ensures) (sends_other c.in_err-list_blocks.field-0.0 p.0 w1 w2 t2 c.in_err-list_blocks.ensures)))
 
 pub returns : goal.returns
 returns g c =
@@ -35,4 +36,6 @@ returns g c =
     let w1 : Option (List ℕ) = g.W.Write.contents c.list_head.new.writer in
     let w2 : Option (List ℕ) = g.W.Write.contents c.list_blocks.new.writer in
     let w3 : Option (List ℕ) = g.W.Write.contents c.list_arrays.new.writer in
-    sends_more c.list_arrays.result w0 w2 w3 (t1 ++ t2) t3 (appends_then w0 w1 w2 t1 t2 (sends_from c.list_head.result w0 w1 t1 c.in_ok-list_head.was c.list_head.ensures) (sends_from c.list_blocks.result w1 w2 t2 c.in_ok-list_blocks.was c.list_blocks.ensures)) c.list_arrays.ensures
+    sends_more c.list_arrays.result w0 w2 w3 (t1 ++ t2) t3
+    (appends_then w0 w1 w2 t1 t2 (sends_from c.list_head.result w0 w1 t1 c.in_ok-list_head.was c.list_head.ensures)
+    (sends_from c.list_blocks.result w1 w2 t2 c.in_ok-list_blocks.was c.list_blocks.ensures)) c.list_arrays.ensures

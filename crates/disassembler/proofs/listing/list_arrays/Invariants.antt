@@ -5,4 +5,5 @@ use Rattle.sink.specs.Numbered.{numbered}
 use Rattle.disassembler.proofs.listing.list_arrays.Given as goal
 
 abbrev pub invariant-loop-number : goal.invariant-loop-number
-invariant-loop-number g l = Appends (g.W.Write.contents l.fn.writer) (g.W.Write.contents l.writer) (numbered array_line 0 (take l.number l.object.code.program.arrays))
+invariant-loop-number g l = Appends (g.W.Write.contents l.fn.writer) (g.W.Write.contents l.writer)
+    (numbered array_line 0 (take l.number l.object.code.program.arrays))

@@ -13,7 +13,9 @@ returns-in_err-list_block_line g c = λ b at.
     let t2 : List ℕ = numbered instr_line 0 b.instrs in
     let w0 : Option (List ℕ) = g.W.Write.contents c.args.writer.now in
     let w1 : Option (List ℕ) = g.W.Write.contents c.list_block_line.new.writer in
-    rw p.1 (sends_less p.0 w0 w1 t1 t2 (sends_other c.in_err-list_block_line.field-0.0 p.0 w0 w1 t1 (sends_same (Err c.in_err-list_block_line.field-0.0) w0 w1 _ t1 (ap (λ (v : BlockView). block_line c.args.number v.inputs v.outputs v.slots) at.1) c.in_err-list_block_line.ensures)))
+    rw p.1 (sends_less p.0 w0 w1 t1 t2 (sends_other c.in_err-list_block_line.field-0.0 p.0 w0 w1 t1
+    (sends_same (Err c.in_err-list_block_line.field-0.0) w0 w1 _ t1 (ap (λ (v : BlockView). block_line c.args.number v.inputs v.outputs v.slots)
+    at.1) c.in_err-list_block_line.ensures)))
 
 pub returns : goal.returns
 returns g c = λ b at.
@@ -22,4 +24,6 @@ returns g c = λ b at.
     let w0 : Option (List ℕ) = g.W.Write.contents c.args.writer.now in
     let w1 : Option (List ℕ) = g.W.Write.contents c.list_block_line.new.writer in
     let w2 : Option (List ℕ) = g.W.Write.contents c.list_instrs.new.writer in
-    sends_more c.list_instrs.result w0 w1 w2 t1 t2 (sends_from c.list_block_line.result w0 w1 t1 c.in_ok-list_block_line.was (sends_same c.list_block_line.result w0 w1 _ t1 (ap (λ (v : BlockView). block_line c.args.number v.inputs v.outputs v.slots) at.1) c.list_block_line.ensures)) (c.list_instrs.ensures c.args.number b at)
+    sends_more c.list_instrs.result w0 w1 w2 t1 t2 (sends_from c.list_block_line.result w0 w1 t1 c.in_ok-list_block_line.was
+    (sends_same c.list_block_line.result w0 w1 _ t1 (ap (λ (v : BlockView). block_line c.args.number v.inputs v.outputs v.slots) at.1)
+    c.list_block_line.ensures)) (c.list_instrs.ensures c.args.number b at)

@@ -12,7 +12,8 @@ use Rattle.disassembler.proofs.listing.list_blocks.Goals as goal
 pub returns-in_default : goal.returns-in_default
 returns-in_default g c =
     let p = c.args.object.now.code.program in
-    let is : slice_get p.blocks c.loop-number.number ≡ None = option_map_none (block_shown (first_of p c.loop-number.number)) (slice_get p.blocks c.loop-number.number) (sym c.block.ensures ∙ c.in_default.is) in
+    let is : slice_get p.blocks c.loop-number.number ≡ None = option_map_none (block_shown (first_of p c.loop-number.number))
+    (slice_get p.blocks c.loop-number.number) (sym c.block.ensures ∙ c.in_default.is) in
     outside block_lines c.loop-number.number p.blocks _ tt _ _ refl is c.loop-number.invariant
 
 pub returns-in_err-list_block : goal.returns-in_err-list_block
@@ -21,7 +22,8 @@ returns-in_err-list_block g c =
     let q = c.args.object.now.code.program in
     let n = c.loop-number.number in
     let b = option_map_some (block_shown (first_of q n)) (slice_get q.blocks n) c.in-Some.block (sym c.block.ensures ∙ c.in-Some.is) in
-    rw p.1 (stop block_lines n q.blocks b.0 p.0 _ _ _ b.1 c.loop-number.invariant (sends_other c.in_err-list_block.field-0.0 p.0 _ _ _ (c.in_err-list_block.ensures b.0 (b.1, b.2))))
+    rw p.1 (stop block_lines n q.blocks b.0 p.0 _ _ _ b.1 c.loop-number.invariant (sends_other c.in_err-list_block.field-0.0 p.0 _ _ _
+    (c.in_err-list_block.ensures b.0 (b.1, b.2))))
 
 pub loop-number-preserved : goal.loop-number-preserved
 loop-number-preserved g c =
@@ -31,4 +33,5 @@ loop-number-preserved g c =
     more block_lines n q.blocks b.0 _ _ _ b.1 c.loop-number.invariant (sends_from _ _ _ _ c.in_ok-list_block.was (c.list_block.ensures b.0 (b.1, b.2)))
 
 pub returns : goal.returns
-returns g c = done block_lines c.loop-number.number c.args.object.now.code.program.blocks _ tt _ _ refl (omega (arith, c.loop-number-test.false, c.block_count-number-end.ensures)) c.loop-number.invariant
+returns g c = done block_lines c.loop-number.number c.args.object.now.code.program.blocks _ tt _ _ refl
+    (omega (arith, c.loop-number-test.false, c.block_count-number-end.ensures)) c.loop-number.invariant

@@ -5,4 +5,5 @@ use Rattle.sink.specs.Numbered.{numbered}
 use Rattle.dot.proofs.code_dot.send_blocks.Given as goal
 
 abbrev pub invariant-loop-place : goal.invariant-loop-place
-invariant-loop-place g l = Appends (g.W.Write.contents l.fn.writer) (g.W.Write.contents l.writer) (numbered code_block_dot 0 (take l.place l.object.code.program.blocks))
+invariant-loop-place g l = Appends (g.W.Write.contents l.fn.writer) (g.W.Write.contents l.writer)
+    (numbered code_block_dot 0 (take l.place l.object.code.program.blocks))

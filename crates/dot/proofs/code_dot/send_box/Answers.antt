@@ -8,7 +8,8 @@ use Rattle.semantics.specs.Text.{field, kind_text}
 use Rattle.sink.specs.Numbered.{numbered}
 use Rattle.sink.proofs.Sent.{appends_then, appends_none, sends_from, sends_more, sends_less, sends_other, sends_same, sends_whole}
 use Rattle.sink.proofs.Numbered.{more, stop, done, outside}
-use Rattle.dot.specs.GraphDot.{region_of, arm_letter, arm_sign, arm_opens, opens, closes, node_box, style_of, edge, node_place, node_dot, input_box, inputs_dot, result_dot, block_head, block_dot, graph_head, graph_dot}
+use Rattle.dot.specs.GraphDot.{region_of, arm_letter, arm_sign, arm_opens, opens, closes, node_box, style_of, edge, node_place, node_dot, input_box}
+use Rattle.dot.specs.GraphDot.{inputs_dot, result_dot, block_head, block_dot, graph_head, graph_dot}
 use Rattle.dot.specs.CodeDot as C
 use Rattle.disassembler.specs.Listing as L
 use Rattle.semantics.specs.Opcodes.{op_word}
@@ -17,7 +18,8 @@ use Rattle.dot.proofs.code_dot.send_box.Goals as goal
 pub returns-in_err-open_box : goal.returns-in_err-open_box
 returns-in_err-open_box g c =
     let p = err_from_is_err_and c.from_residual.result c.from_residual.ensures.1 in
-    let t1 : List ℕ = codes "b" ++ decimal c.args.place ++ codes "i" ++ decimal c.args.number ++ codes " [label=\"" ++ decimal c.args.number ++ field (op_word c.args.op) in
+    let t1 : List ℕ = codes "b" ++ decimal c.args.place ++ codes "i" ++ decimal c.args.number ++ codes " [label=\"" ++ decimal c.args.number
+    ++ field (op_word c.args.op) in
     let t2 : List ℕ = field (L.operand_text c.args.op) in
     let t3 : List ℕ = codes "\"]\n" in
     let w0 : Option (List ℕ) = g.W.Write.contents c.args.writer.now in
@@ -27,21 +29,26 @@ returns-in_err-open_box g c =
 pub returns-in_err-list_operand : goal.returns-in_err-list_operand
 returns-in_err-list_operand g c =
     let p = err_from_is_err_and c.from_residual-in_err-list_operand.result c.from_residual-in_err-list_operand.ensures.1 in
-    let t1 : List ℕ = codes "b" ++ decimal c.args.place ++ codes "i" ++ decimal c.args.number ++ codes " [label=\"" ++ decimal c.args.number ++ field (op_word c.args.op) in
+    let t1 : List ℕ = codes "b" ++ decimal c.args.place ++ codes "i" ++ decimal c.args.number ++ codes " [label=\"" ++ decimal c.args.number
+    ++ field (op_word c.args.op) in
     let t2 : List ℕ = field (L.operand_text c.args.op) in
     let t3 : List ℕ = codes "\"]\n" in
     let w0 : Option (List ℕ) = g.W.Write.contents c.args.writer.now in
     let w1 : Option (List ℕ) = g.W.Write.contents c.open_box.new.writer in
     let w2 : Option (List ℕ) = g.W.Write.contents c.list_operand.new.writer in
-    rw p.1 (sends_less p.0 w0 w2 (t1 ++ t2) t3 (sends_more (Err p.0) w0 w1 w2 t1 t2 (sends_from c.open_box.result w0 w1 t1 c.in_ok-open_box.was c.open_box.ensures) (sends_other c.in_err-list_operand.field-0.0 p.0 w1 w2 t2 c.in_err-list_operand.ensures)))
+    rw p.1 (sends_less p.0 w0 w2 (t1 ++ t2) t3 (sends_more (Err p.0) w0 w1 w2 t1 t2 (sends_from c.open_box.result w0 w1 t1 c.in_ok-open_box.was
+    c.open_box.ensures) (sends_other c.in_err-list_operand.field-0.0 p.0 w1 w2 t2 c.in_err-list_operand.ensures)))
 
 pub returns : goal.returns
 returns g c =
-    let t1 : List ℕ = codes "b" ++ decimal c.args.place ++ codes "i" ++ decimal c.args.number ++ codes " [label=\"" ++ decimal c.args.number ++ field (op_word c.args.op) in
+    let t1 : List ℕ = codes "b" ++ decimal c.args.place ++ codes "i" ++ decimal c.args.number ++ codes " [label=\"" ++ decimal c.args.number
+    ++ field (op_word c.args.op) in
     let t2 : List ℕ = field (L.operand_text c.args.op) in
     let t3 : List ℕ = codes "\"]\n" in
     let w0 : Option (List ℕ) = g.W.Write.contents c.args.writer.now in
     let w1 : Option (List ℕ) = g.W.Write.contents c.open_box.new.writer in
     let w2 : Option (List ℕ) = g.W.Write.contents c.list_operand.new.writer in
     let w3 : Option (List ℕ) = g.W.Write.contents c.send.new.writer in
-    sends_more c.send.result w0 w2 w3 (t1 ++ t2) t3 (appends_then w0 w1 w2 t1 t2 (sends_from c.open_box.result w0 w1 t1 c.in_ok-open_box.was c.open_box.ensures) (sends_from c.list_operand.result w1 w2 t2 c.in_ok-list_operand.was c.list_operand.ensures)) c.send.ensures
+    sends_more c.send.result w0 w2 w3 (t1 ++ t2) t3
+    (appends_then w0 w1 w2 t1 t2 (sends_from c.open_box.result w0 w1 t1 c.in_ok-open_box.was c.open_box.ensures)
+    (sends_from c.list_operand.result w1 w2 t2 c.in_ok-list_operand.was c.list_operand.ensures)) c.send.ensures

@@ -9,7 +9,8 @@ use Rattle.semantics.specs.Text.{field, kind_text}
 use Rattle.sink.specs.Numbered.{numbered}
 use Rattle.sink.proofs.Sent.{appends_then, appends_none, sends_from, sends_more, sends_less, sends_other, sends_same, sends_whole}
 use Rattle.sink.proofs.Numbered.{more, stop, done, outside}
-use Rattle.dot.specs.GraphDot.{region_of, arm_letter, arm_sign, arm_opens, opens, closes, node_box, style_of, edge, node_place, node_dot, input_box, inputs_dot, result_dot, block_head, block_dot, graph_head, graph_dot}
+use Rattle.dot.specs.GraphDot.{region_of, arm_letter, arm_sign, arm_opens, opens, closes, node_box, style_of, edge, node_place, node_dot, input_box}
+use Rattle.dot.specs.GraphDot.{inputs_dot, result_dot, block_head, block_dot, graph_head, graph_dot}
 use Rattle.dot.specs.CodeDot as C
 use Rattle.dot.proofs.Around.{no_far_arc}
 use Rattle.dot.proofs.code_dot.send_far_arc.Goals as goal
@@ -17,4 +18,5 @@ use Rattle.dot.proofs.code_dot.send_far_arc.Goals as goal
 pub returns-in_default : goal.returns-in_default
 returns-in_default g c =
     let w0 : Option (List ℕ) = g.W.Write.contents c.args.writer.now in
-    sends_same (Ok tt) w0 w0 [] _ (sym (no_far_arc c.args.place c.args.number c.args.op c.in_default.not-Link c.in_default.not-Send)) (sends_whole (Ok tt) tt w0 w0 [] refl (appends_none w0))
+    sends_same (Ok tt) w0 w0 [] _ (sym (no_far_arc c.args.place c.args.number c.args.op c.in_default.not-Link c.in_default.not-Send))
+    (sends_whole (Ok tt) tt w0 w0 [] refl (appends_none w0))

@@ -9,7 +9,8 @@ use Rattle.semantics.specs.Text.{field, kind_text}
 use Rattle.sink.specs.Numbered.{numbered}
 use Rattle.sink.proofs.Sent.{appends_then, appends_none, sends_from, sends_more, sends_less, sends_other, sends_same, sends_whole}
 use Rattle.sink.proofs.Numbered.{more, stop, done, outside}
-use Rattle.dot.specs.GraphDot.{region_of, arm_letter, arm_sign, arm_opens, opens, closes, node_box, style_of, edge, node_place, node_dot, input_box, inputs_dot, result_dot, block_head, block_dot, graph_head, graph_dot}
+use Rattle.dot.specs.GraphDot.{region_of, arm_letter, arm_sign, arm_opens, opens, closes, node_box, style_of, edge, node_place, node_dot, input_box}
+use Rattle.dot.specs.GraphDot.{inputs_dot, result_dot, block_head, block_dot, graph_head, graph_dot}
 use Rattle.dot.specs.CodeDot as C
 use Rattle.dot.proofs.code_dot.send_instr.Goals as goal
 
@@ -17,7 +18,8 @@ pub returns-in_err-send_box : goal.returns-in_err-send_box
 returns-in_err-send_box g c =
     let p = err_from_is_err_and c.from_residual.result c.from_residual.ensures.1 in
     let t1 : List ℕ = C.instr_box c.args.place c.args.number c.args.instr.now.op in
-    let t2 : List ℕ = C.arc c.args.place c.args.number 1 (option_to_list c.args.instr.now.first) ++ C.arc c.args.place c.args.number 2 (option_to_list c.args.instr.now.second) in
+    let t2 : List ℕ = C.arc c.args.place c.args.number 1 (option_to_list c.args.instr.now.first)
+    ++ C.arc c.args.place c.args.number 2 (option_to_list c.args.instr.now.second) in
     let t3 : List ℕ = C.far_arc c.args.place c.args.number c.args.instr.now.op in
     let w0 : Option (List ℕ) = g.W.Write.contents c.args.writer.now in
     let w1 : Option (List ℕ) = g.W.Write.contents c.send_box.new.writer in
@@ -27,20 +29,25 @@ pub returns-in_err-send_arcs : goal.returns-in_err-send_arcs
 returns-in_err-send_arcs g c =
     let p = err_from_is_err_and c.from_residual-in_err-send_arcs.result c.from_residual-in_err-send_arcs.ensures.1 in
     let t1 : List ℕ = C.instr_box c.args.place c.args.number c.args.instr.now.op in
-    let t2 : List ℕ = C.arc c.args.place c.args.number 1 (option_to_list c.args.instr.now.first) ++ C.arc c.args.place c.args.number 2 (option_to_list c.args.instr.now.second) in
+    let t2 : List ℕ = C.arc c.args.place c.args.number 1 (option_to_list c.args.instr.now.first)
+    ++ C.arc c.args.place c.args.number 2 (option_to_list c.args.instr.now.second) in
     let t3 : List ℕ = C.far_arc c.args.place c.args.number c.args.instr.now.op in
     let w0 : Option (List ℕ) = g.W.Write.contents c.args.writer.now in
     let w1 : Option (List ℕ) = g.W.Write.contents c.send_box.new.writer in
     let w2 : Option (List ℕ) = g.W.Write.contents c.send_arcs.new.writer in
-    rw p.1 (sends_less p.0 w0 w2 (t1 ++ t2) t3 (sends_more (Err p.0) w0 w1 w2 t1 t2 (sends_from c.send_box.result w0 w1 t1 c.in_ok-send_box.was c.send_box.ensures) (sends_other c.in_err-send_arcs.field-0.0 p.0 w1 w2 t2 c.in_err-send_arcs.ensures)))
+    rw p.1 (sends_less p.0 w0 w2 (t1 ++ t2) t3 (sends_more (Err p.0) w0 w1 w2 t1 t2 (sends_from c.send_box.result w0 w1 t1 c.in_ok-send_box.was
+    c.send_box.ensures) (sends_other c.in_err-send_arcs.field-0.0 p.0 w1 w2 t2 c.in_err-send_arcs.ensures)))
 
 pub returns : goal.returns
 returns g c =
     let t1 : List ℕ = C.instr_box c.args.place c.args.number c.args.instr.now.op in
-    let t2 : List ℕ = C.arc c.args.place c.args.number 1 (option_to_list c.args.instr.now.first) ++ C.arc c.args.place c.args.number 2 (option_to_list c.args.instr.now.second) in
+    let t2 : List ℕ = C.arc c.args.place c.args.number 1 (option_to_list c.args.instr.now.first)
+    ++ C.arc c.args.place c.args.number 2 (option_to_list c.args.instr.now.second) in
     let t3 : List ℕ = C.far_arc c.args.place c.args.number c.args.instr.now.op in
     let w0 : Option (List ℕ) = g.W.Write.contents c.args.writer.now in
     let w1 : Option (List ℕ) = g.W.Write.contents c.send_box.new.writer in
     let w2 : Option (List ℕ) = g.W.Write.contents c.send_arcs.new.writer in
     let w3 : Option (List ℕ) = g.W.Write.contents c.send_far_arc.new.writer in
-    sends_more c.send_far_arc.result w0 w2 w3 (t1 ++ t2) t3 (appends_then w0 w1 w2 t1 t2 (sends_from c.send_box.result w0 w1 t1 c.in_ok-send_box.was c.send_box.ensures) (sends_from c.send_arcs.result w1 w2 t2 c.in_ok-send_arcs.was c.send_arcs.ensures)) c.send_far_arc.ensures
+    sends_more c.send_far_arc.result w0 w2 w3 (t1 ++ t2) t3
+    (appends_then w0 w1 w2 t1 t2 (sends_from c.send_box.result w0 w1 t1 c.in_ok-send_box.was c.send_box.ensures)
+    (sends_from c.send_arcs.result w1 w2 t2 c.in_ok-send_arcs.was c.send_arcs.ensures)) c.send_far_arc.ensures

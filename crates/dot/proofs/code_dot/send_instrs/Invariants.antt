@@ -7,4 +7,5 @@ use Rattle.sink.specs.Numbered.{numbered}
 use Rattle.dot.proofs.code_dot.send_instrs.Given as goal
 
 abbrev pub invariant-loop-number : goal.invariant-loop-number
-invariant-loop-number g l = (k : ℕ) → (b : CodeBlock) → IsBlockAt l.object.code.program k b l.block → Appends (g.W.Write.contents l.fn.writer) (g.W.Write.contents l.writer) (numbered (instr_dot l.place) 0 (take l.number b.instrs))
+invariant-loop-number g l = (k : ℕ) → (b : CodeBlock) → IsBlockAt l.object.code.program k b l.block → Appends (g.W.Write.contents l.fn.writer)
+    (g.W.Write.contents l.writer) (numbered (instr_dot l.place) 0 (take l.number b.instrs))

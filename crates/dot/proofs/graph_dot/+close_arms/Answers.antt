@@ -9,12 +9,14 @@ use Rattle.dot.proofs.graph_dot.+close_arms.Goals as goal
 pub returns-in_default : goal.returns-in_default
 returns-in_default g t c =
     let w0 : Option (List ℕ) = g.W.Write.contents c.args.writer.now in
-    sends_same (Ok tt) w0 w0 ([]) _ (sym (closes_root c.args.depth c.args.block.now.1 c.args.region c.in_default.is)) (sends_whole (Ok tt) tt w0 w0 ([]) refl (appends_none w0))
+    sends_same (Ok tt) w0 w0 ([]) _ (sym (closes_root c.args.depth c.args.block.now.1 c.args.region c.in_default.is))
+    (sends_whole (Ok tt) tt w0 w0 ([]) refl (appends_none w0))
 
 pub returns-in_default-checked_sub : goal.returns-in_default-checked_sub
 returns-in_default-checked_sub g t c =
     let w0 : Option (List ℕ) = g.W.Write.contents c.args.writer.now in
-    sends_same (Ok tt) w0 w0 ([]) _ (sym (closes_none c.args.depth c.args.block.now.1 c.args.region c.in-Arm.cond _ c.in-Arm.is (c.in_default-checked_sub.ensures))) (sends_whole (Ok tt) tt w0 w0 ([]) refl (appends_none w0))
+    sends_same (Ok tt) w0 w0 ([]) _ (sym (closes_none c.args.depth c.args.block.now.1 c.args.region c.in-Arm.cond _ c.in-Arm.is
+    (c.in_default-checked_sub.ensures))) (sends_whole (Ok tt) tt w0 w0 ([]) refl (appends_none w0))
 
 pub close_arms-requires : goal.close_arms-requires
 close_arms-requires g t c κs within = (let less = c.in-Some.ensures in omega (arith, less), (within.0, within.1))
@@ -26,8 +28,10 @@ returns-in_err-close_arms g t c =
     let t2 : List ℕ = codes "} " in
     let w0 : Option (List ℕ) = g.W.Write.contents c.args.writer.now in
     let w1 : Option (List ℕ) = g.W.Write.contents c.close_arms.new.writer in
-    let sent = sends_same (Err c.in_err-close_arms.field-0.0) w0 w1 _ t1 (ap (closes c.in-Some.around c.args.block.now.1) c.region_of.ensures) c.in_err-close_arms.ensures in
-    rw p.1 (sends_same (Err p.0) w0 w1 (t1 ++ t2) _ (sym (closes_more c.args.depth c.in-Some.around c.args.block.now.1 c.args.region c.in-Arm.cond _ c.in-Arm.is (c.in-Some.ensures.0) (c.in-Some.ensures.1))) (sends_less p.0 w0 w1 t1 t2 (sends_other c.in_err-close_arms.field-0.0 p.0 w0 w1 t1 sent)))
+    let sent = sends_same (Err c.in_err-close_arms.field-0.0) w0 w1 _ t1 (ap (closes c.in-Some.around c.args.block.now.1) c.region_of.ensures)
+    c.in_err-close_arms.ensures in
+    rw p.1 (sends_same (Err p.0) w0 w1 (t1 ++ t2) _ (sym (closes_more c.args.depth c.in-Some.around c.args.block.now.1 c.args.region c.in-Arm.cond _
+    c.in-Arm.is (c.in-Some.ensures.0) (c.in-Some.ensures.1))) (sends_less p.0 w0 w1 t1 t2 (sends_other c.in_err-close_arms.field-0.0 p.0 w0 w1 t1 sent)))
 
 pub returns : goal.returns
 returns g t c =
@@ -37,4 +41,6 @@ returns g t c =
     let w1 : Option (List ℕ) = g.W.Write.contents c.close_arms.new.writer in
     let w2 : Option (List ℕ) = g.W.Write.contents c.send.new.writer in
     let sent = sends_same c.close_arms.result w0 w1 _ t1 (ap (closes c.in-Some.around c.args.block.now.1) c.region_of.ensures) c.close_arms.ensures in
-    sends_same c.send.result w0 w2 (t1 ++ t2) _ (sym (closes_more c.args.depth c.in-Some.around c.args.block.now.1 c.args.region c.in-Arm.cond _ c.in-Arm.is (c.in-Some.ensures.0) (c.in-Some.ensures.1))) (sends_more c.send.result w0 w1 w2 t1 t2 (sends_from c.close_arms.result w0 w1 t1 c.in_ok-close_arms.was sent) c.send.ensures)
+    sends_same c.send.result w0 w2 (t1 ++ t2) _ (sym (closes_more c.args.depth c.in-Some.around c.args.block.now.1 c.args.region c.in-Arm.cond _
+    c.in-Arm.is (c.in-Some.ensures.0) (c.in-Some.ensures.1)))
+    (sends_more c.send.result w0 w1 w2 t1 t2 (sends_from c.close_arms.result w0 w1 t1 c.in_ok-close_arms.was sent) c.send.ensures)

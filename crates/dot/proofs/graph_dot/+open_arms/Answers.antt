@@ -10,12 +10,14 @@ use Rattle.dot.proofs.graph_dot.+open_arms.Goals as goal
 pub returns-in_default : goal.returns-in_default
 returns-in_default g t c =
     let w0 : Option (List ℕ) = g.W.Write.contents c.args.writer.now in
-    sends_same (Ok tt) w0 w0 ([]) _ (sym (opens_root c.args.depth c.args.place c.args.block.now.1 c.args.region c.in_default.is)) (sends_whole (Ok tt) tt w0 w0 ([]) refl (appends_none w0))
+    sends_same (Ok tt) w0 w0 ([]) _ (sym (opens_root c.args.depth c.args.place c.args.block.now.1 c.args.region c.in_default.is))
+    (sends_whole (Ok tt) tt w0 w0 ([]) refl (appends_none w0))
 
 pub returns-in_default-checked_sub : goal.returns-in_default-checked_sub
 returns-in_default-checked_sub g t c =
     let w0 : Option (List ℕ) = g.W.Write.contents c.args.writer.now in
-    sends_same (Ok tt) w0 w0 ([]) _ (sym (opens_none c.args.depth c.args.place c.args.block.now.1 c.args.region c.in-Arm.cond c.in-Arm.side c.in-Arm.is (c.in_default-checked_sub.ensures))) (sends_whole (Ok tt) tt w0 w0 ([]) refl (appends_none w0))
+    sends_same (Ok tt) w0 w0 ([]) _ (sym (opens_none c.args.depth c.args.place c.args.block.now.1 c.args.region c.in-Arm.cond c.in-Arm.side
+    c.in-Arm.is (c.in_default-checked_sub.ensures))) (sends_whole (Ok tt) tt w0 w0 ([]) refl (appends_none w0))
 
 pub open_arms-requires : goal.open_arms-requires
 open_arms-requires g t c κs within = (let less = c.in-Some.ensures in omega (arith, less), (within.0, within.1))
@@ -27,8 +29,11 @@ returns-in_err-open_arms g t c =
     let t2 : List ℕ = arm_opens c.args.place (Arm c.in-Arm.cond c.in-Arm.side) in
     let w0 : Option (List ℕ) = g.W.Write.contents c.args.writer.now in
     let w1 : Option (List ℕ) = g.W.Write.contents c.open_arms.new.writer in
-    let sent = sends_same (Err c.in_err-open_arms.field-0.0) w0 w1 _ t1 (ap (opens c.in-Some.around c.args.place c.args.block.now.1) c.region_of.ensures) c.in_err-open_arms.ensures in
-    rw p.1 (sends_same (Err p.0) w0 w1 (t1 ++ t2) _ (sym (opens_more c.args.depth c.in-Some.around c.args.place c.args.block.now.1 c.args.region c.in-Arm.cond c.in-Arm.side c.in-Arm.is (c.in-Some.ensures.0) (c.in-Some.ensures.1))) (sends_less p.0 w0 w1 t1 t2 (sends_other c.in_err-open_arms.field-0.0 p.0 w0 w1 t1 sent)))
+    let sent = sends_same (Err c.in_err-open_arms.field-0.0) w0 w1 _ t1 (ap (opens c.in-Some.around c.args.place c.args.block.now.1)
+    c.region_of.ensures) c.in_err-open_arms.ensures in
+    rw p.1 (sends_same (Err p.0) w0 w1 (t1 ++ t2) _
+    (sym (opens_more c.args.depth c.in-Some.around c.args.place c.args.block.now.1 c.args.region c.in-Arm.cond c.in-Arm.side c.in-Arm.is
+    (c.in-Some.ensures.0) (c.in-Some.ensures.1))) (sends_less p.0 w0 w1 t1 t2 (sends_other c.in_err-open_arms.field-0.0 p.0 w0 w1 t1 sent)))
 
 pub returns : goal.returns
 returns g t c =
@@ -38,4 +43,7 @@ returns g t c =
     let w1 : Option (List ℕ) = g.W.Write.contents c.open_arms.new.writer in
     let w2 : Option (List ℕ) = g.W.Write.contents c.open_arm.new.writer in
     let sent = sends_same c.open_arms.result w0 w1 _ t1 (ap (opens c.in-Some.around c.args.place c.args.block.now.1) c.region_of.ensures) c.open_arms.ensures in
-    sends_same c.open_arm.result w0 w2 (t1 ++ t2) _ (sym (opens_more c.args.depth c.in-Some.around c.args.place c.args.block.now.1 c.args.region c.in-Arm.cond c.in-Arm.side c.in-Arm.is (c.in-Some.ensures.0) (c.in-Some.ensures.1))) (sends_more c.open_arm.result w0 w1 w2 t1 t2 (sends_from c.open_arms.result w0 w1 t1 c.in_ok-open_arms.was sent) c.open_arm.ensures)
+    sends_same c.open_arm.result w0 w2 (t1 ++ t2) _
+    (sym (opens_more c.args.depth c.in-Some.around c.args.place c.args.block.now.1 c.args.region c.in-Arm.cond c.in-Arm.side c.in-Arm.is
+    (c.in-Some.ensures.0) (c.in-Some.ensures.1)))
+    (sends_more c.open_arm.result w0 w1 w2 t1 t2 (sends_from c.open_arms.result w0 w1 t1 c.in_ok-open_arms.was sent) c.open_arm.ensures)

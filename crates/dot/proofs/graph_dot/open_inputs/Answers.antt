@@ -8,7 +8,8 @@ use Rattle.semantics.specs.Text.{field, kind_text}
 use Rattle.sink.specs.Numbered.{numbered}
 use Rattle.sink.proofs.Sent.{appends_then, appends_none, sends_from, sends_more, sends_less, sends_other, sends_same, sends_whole}
 use Rattle.sink.proofs.Numbered.{more, stop, done, outside}
-use Rattle.dot.specs.GraphDot.{region_of, arm_letter, arm_sign, arm_opens, opens, closes, node_box, style_of, edge, node_place, node_dot, input_box, inputs_dot, result_dot, block_head, block_dot, graph_head, graph_dot}
+use Rattle.dot.specs.GraphDot.{region_of, arm_letter, arm_sign, arm_opens, opens, closes, node_box, style_of, edge, node_place, node_dot, input_box}
+use Rattle.dot.specs.GraphDot.{inputs_dot, result_dot, block_head, block_dot, graph_head, graph_dot}
 use Rattle.dot.specs.CodeDot as C
 use Rattle.disassembler.specs.Listing as L
 use Rattle.dot.proofs.graph_dot.open_inputs.Goals as goal

@@ -8,7 +8,8 @@ use Rattle.semantics.specs.Text.{field, kind_text}
 use Rattle.sink.specs.Numbered.{numbered}
 use Rattle.sink.proofs.Sent.{appends_then, appends_none, sends_from, sends_more, sends_less, sends_other, sends_same, sends_whole}
 use Rattle.sink.proofs.Numbered.{more, stop, done, outside}
-use Rattle.dot.specs.GraphDot.{region_of, arm_letter, arm_sign, arm_opens, opens, closes, node_box, style_of, edge, node_place, node_dot, input_box, inputs_dot, result_dot, block_head, block_dot, graph_head, graph_dot}
+use Rattle.dot.specs.GraphDot.{region_of, arm_letter, arm_sign, arm_opens, opens, closes, node_box, style_of, edge, node_place, node_dot, input_box}
+use Rattle.dot.specs.GraphDot.{inputs_dot, result_dot, block_head, block_dot, graph_head, graph_dot}
 use Rattle.dot.specs.CodeDot as C
 use Rattle.disassembler.specs.Listing as L
 use Rattle.dot.proofs.graph_dot.send_box.Goals as goal
@@ -32,7 +33,8 @@ returns-in_err-send_kind g c =
     let w0 : Option (List ℕ) = g.W.Write.contents c.args.writer.now in
     let w1 : Option (List ℕ) = g.W.Write.contents c.open_box.new.writer in
     let w2 : Option (List ℕ) = g.W.Write.contents c.send_kind.new.writer in
-    rw p.1 (sends_less p.0 w0 w2 (t1 ++ t2) t3 (sends_more (Err p.0) w0 w1 w2 t1 t2 (sends_from c.open_box.result w0 w1 t1 c.in_ok-open_box.was c.open_box.ensures) (sends_other c.in_err-send_kind.field-0.0 p.0 w1 w2 t2 c.in_err-send_kind.ensures)))
+    rw p.1 (sends_less p.0 w0 w2 (t1 ++ t2) t3 (sends_more (Err p.0) w0 w1 w2 t1 t2 (sends_from c.open_box.result w0 w1 t1 c.in_ok-open_box.was
+    c.open_box.ensures) (sends_other c.in_err-send_kind.field-0.0 p.0 w1 w2 t2 c.in_err-send_kind.ensures)))
 
 pub returns : goal.returns
 returns g c =
@@ -43,4 +45,6 @@ returns g c =
     let w1 : Option (List ℕ) = g.W.Write.contents c.open_box.new.writer in
     let w2 : Option (List ℕ) = g.W.Write.contents c.send_kind.new.writer in
     let w3 : Option (List ℕ) = g.W.Write.contents c.send.new.writer in
-    sends_more c.send.result w0 w2 w3 (t1 ++ t2) t3 (appends_then w0 w1 w2 t1 t2 (sends_from c.open_box.result w0 w1 t1 c.in_ok-open_box.was c.open_box.ensures) (sends_from c.send_kind.result w1 w2 t2 c.in_ok-send_kind.was c.send_kind.ensures)) c.send.ensures
+    sends_more c.send.result w0 w2 w3 (t1 ++ t2) t3
+    (appends_then w0 w1 w2 t1 t2 (sends_from c.open_box.result w0 w1 t1 c.in_ok-open_box.was c.open_box.ensures)
+    (sends_from c.send_kind.result w1 w2 t2 c.in_ok-send_kind.was c.send_kind.ensures)) c.send.ensures

@@ -9,7 +9,8 @@ use Rattle.semantics.specs.Text.{field, kind_text}
 use Rattle.sink.specs.Numbered.{numbered}
 use Rattle.sink.proofs.Sent.{appends_then, appends_none, sends_from, sends_more, sends_less, sends_other, sends_same, sends_whole}
 use Rattle.sink.proofs.Numbered.{more, stop, done, outside}
-use Rattle.dot.specs.GraphDot.{region_of, arm_letter, arm_sign, arm_opens, opens, closes, node_box, style_of, edge, node_place, node_dot, input_box, inputs_dot, result_dot, block_head, block_dot, graph_head, graph_dot}
+use Rattle.dot.specs.GraphDot.{region_of, arm_letter, arm_sign, arm_opens, opens, closes, node_box, style_of, edge, node_place, node_dot, input_box}
+use Rattle.dot.specs.GraphDot.{inputs_dot, result_dot, block_head, block_dot, graph_head, graph_dot}
 use Rattle.dot.specs.CodeDot as C
 use Rattle.sink.proofs.Sent.{sends_same}
 use Rattle.std.proofs.lemmas.Option.{slice_get-get_or}
@@ -19,12 +20,15 @@ pub returns-in_err-send_edge : goal.returns-in_err-send_edge
 returns-in_err-send_edge g c =
     let p = err_from_is_err_and c.from_residual.result c.from_residual.ensures.1 in
     let l = c.loop-operand in
-    rw p.1 (stop (edge c.args.place c.args.node c.args.style.now) l.operand c.args.sources.now _ p.0 _ _ _ (slice_get-get_or c.args.sources.now l.operand _ c.loop-operand-test.true) l.invariant (sends_other c.in_err-send_edge.field-0.0 p.0 _ _ _ c.in_err-send_edge.ensures))
+    rw p.1 (stop (edge c.args.place c.args.node c.args.style.now) l.operand c.args.sources.now _ p.0 _ _ _
+    (slice_get-get_or c.args.sources.now l.operand _ c.loop-operand-test.true) l.invariant (sends_other c.in_err-send_edge.field-0.0 p.0 _ _ _
+    c.in_err-send_edge.ensures))
 
 pub loop-operand-preserved : goal.loop-operand-preserved
 loop-operand-preserved g c =
     let l = c.loop-operand in
-    more (edge c.args.place c.args.node c.args.style.now) l.operand c.args.sources.now _ _ _ _ (slice_get-get_or c.args.sources.now l.operand _ c.loop-operand-test.true) l.invariant (sends_from _ _ _ _ c.in_ok-send_edge.was c.send_edge.ensures)
+    more (edge c.args.place c.args.node c.args.style.now) l.operand c.args.sources.now _ _ _ _ (slice_get-get_or c.args.sources.now l.operand _
+    c.loop-operand-test.true) l.invariant (sends_from _ _ _ _ c.in_ok-send_edge.was c.send_edge.ensures)
 
 pub returns : goal.returns
 returns g c =

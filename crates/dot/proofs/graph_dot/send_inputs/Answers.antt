@@ -9,7 +9,8 @@ use Rattle.semantics.specs.Text.{field, kind_text}
 use Rattle.sink.specs.Numbered.{numbered}
 use Rattle.sink.proofs.Sent.{appends_then, appends_none, sends_from, sends_more, sends_less, sends_other, sends_same, sends_whole}
 use Rattle.sink.proofs.Numbered.{more, stop, done, outside}
-use Rattle.dot.specs.GraphDot.{region_of, arm_letter, arm_sign, arm_opens, opens, closes, node_box, style_of, edge, node_place, node_dot, input_box, inputs_dot, result_dot, block_head, block_dot, graph_head, graph_dot}
+use Rattle.dot.specs.GraphDot.{region_of, arm_letter, arm_sign, arm_opens, opens, closes, node_box, style_of, edge, node_place, node_dot, input_box}
+use Rattle.dot.specs.GraphDot.{inputs_dot, result_dot, block_head, block_dot, graph_head, graph_dot}
 use Rattle.dot.specs.CodeDot as C
 use Rattle.dot.proofs.Around.{inputs_more, inputs_front, inputs_all}
 use Rattle.dot.proofs.graph_dot.send_inputs.Goals as goal
@@ -23,7 +24,10 @@ returns-in_err-send_input g c =
     let w2 : Option (List ℕ) = g.W.Write.contents c.send_input.new.writer in
     let test = c.loop-input-test.true in
     let rest = inputs_front c.args.place (l.input + 1) c.args.inputs (omega (arith, test)) in
-    rw p.1 (sends_same (Err p.0) w0 w2 _ _ (ap (λ (t : List ℕ). t ++ rest.0) (sym (inputs_more c.args.place l.input)) ∙ sym rest.1) (sends_less p.0 w0 w2 (inputs_dot c.args.place l.input ++ input_box c.args.place l.input) rest.0 (sends_more (Err p.0) w0 w1 w2 (inputs_dot c.args.place l.input) (input_box c.args.place l.input) l.invariant.1 (sends_other c.in_err-send_input.field-0.0 p.0 w1 w2 (input_box c.args.place l.input) c.in_err-send_input.ensures))))
+    rw p.1 (sends_same (Err p.0) w0 w2 _ _ (ap (λ (t : List ℕ). t ++ rest.0) (sym (inputs_more c.args.place l.input)) ∙ sym rest.1)
+    (sends_less p.0 w0 w2 (inputs_dot c.args.place l.input ++ input_box c.args.place l.input) rest.0
+    (sends_more (Err p.0) w0 w1 w2 (inputs_dot c.args.place l.input) (input_box c.args.place l.input) l.invariant.1
+    (sends_other c.in_err-send_input.field-0.0 p.0 w1 w2 (input_box c.args.place l.input) c.in_err-send_input.ensures))))
 
 pub loop-input-preserved : goal.loop-input-preserved
 loop-input-preserved g c =
@@ -31,8 +35,12 @@ loop-input-preserved g c =
     let w0 : Option (List ℕ) = g.W.Write.contents c.args.writer.now in
     let w1 : Option (List ℕ) = g.W.Write.contents l.writer in
     let w2 : Option (List ℕ) = g.W.Write.contents c.send_input.new.writer in
-    let test = c.loop-input-test.true in
-    (omega (arith, test), inputs_all c.args.place l.input w0 w2 (appends_then w0 w1 w2 (inputs_dot c.args.place l.input) (input_box c.args.place l.input) l.invariant.1 (sends_from c.send_input.result w1 w2 (input_box c.args.place l.input) c.in_ok-send_input.was c.send_input.ensures)))
+    let test = c.loop-input-test.true in (
+      omega (arith, test),
+      inputs_all c.args.place l.input w0 w2 (appends_then w0 w1 w2 (inputs_dot c.args.place l.input)
+          (input_box c.args.place l.input) l.invariant.1 (sends_from c.send_input.result w1 w2 (input_box c.args.place l.input) c.in_ok-send_input.was
+          c.send_input.ensures)),
+    )
 
 pub returns : goal.returns
 returns g c =
@@ -42,4 +50,5 @@ returns g c =
     let test = c.loop-input-test.false in
     let at = l.invariant.0 in
     let same : l.input ≡ c.args.inputs = omega (arith, test, at) in
-    sends_same (Ok tt) w0 w1 (inputs_dot c.args.place l.input) _ (ap (inputs_dot c.args.place) same) (sends_whole (Ok tt) tt w0 w1 (inputs_dot c.args.place l.input) refl l.invariant.1)
+    sends_same (Ok tt) w0 w1 (inputs_dot c.args.place l.input) _ (ap (inputs_dot c.args.place) same)
+    (sends_whole (Ok tt) tt w0 w1 (inputs_dot c.args.place l.input) refl l.invariant.1)

@@ -13,9 +13,12 @@ returns g c =
     let k = c.in_ok-compiled.compiled in
     let same = c.bytes-bytes.ensures in (
       k.checked,
-      reports_in c.args.mode c.args.text.now k.checked k.object.bytes c.args.inputs.now c.args.config g.G.Gate.may_stop c.in_ok-report.report c.in_ok-compiled.ensures
-          (subst (λ (bs : List ℕ). ShowsObject bs c.args.inputs.now c.args.config false (stops_in c.args.mode g.G.Gate.may_stop) c.in_ok-report.report) same c.in_ok-report.ensures.shows)
-          (λ one. subst (λ (bs : List ℕ). RunsObject bs c.args.inputs.now c.args.config RunsByTurns c.in_ok-report.report) same (c.in_ok-report.ensures.turns one)),
+      reports_in c.args.mode c.args.text.now k.checked k.object.bytes c.args.inputs.now c.args.config g.G.Gate.may_stop c.in_ok-report.report
+          c.in_ok-compiled.ensures
+          (subst (λ (bs : List ℕ). ShowsObject bs c.args.inputs.now c.args.config false (stops_in c.args.mode g.G.Gate.may_stop)
+          c.in_ok-report.report) same c.in_ok-report.ensures.shows)
+          (λ one. subst (λ (bs : List ℕ). RunsObject bs c.args.inputs.now c.args.config RunsByTurns c.in_ok-report.report) same
+          (c.in_ok-report.ensures.turns one)),
     )
 
 pub returns-in_err-report : goal.returns-in_err-report

@@ -10,12 +10,14 @@ use Rattle.driver.proofs.emulation.emulate_object.Goals as goal
 
 pub returns-clause-shows : goal.returns-clause-shows
 returns-clause-shows g c =
-    subst (λ (bs : List ℕ). MatchResult c.run_code.result (ShowsObject bs c.args.inputs.now c.args.config false (stops_in c.args.mode g.G.Gate.may_stop)) (IsRefusedObject bs c.args.inputs.now c.args.config))
+    subst (λ (bs : List ℕ). MatchResult c.run_code.result (ShowsObject bs c.args.inputs.now c.args.config false
+    (stops_in c.args.mode g.G.Gate.may_stop)) (IsRefusedObject bs c.args.inputs.now c.args.config))
     c.in_ok-code.ensures.bytes c.run_code.ensures.shows
 
 pub returns-clause-turns : goal.returns-clause-turns
 returns-clause-turns g c = λ one.
-    subst (λ (bs : List ℕ). IfOk c.run_code.result (RunsObject bs c.args.inputs.now c.args.config RunsByTurns)) c.in_ok-code.ensures.bytes (c.run_code.ensures.turns one)
+    subst (λ (bs : List ℕ). IfOk c.run_code.result (RunsObject bs c.args.inputs.now c.args.config RunsByTurns)) c.in_ok-code.ensures.bytes
+    (c.run_code.ensures.turns one)
 
 pub returns-in_err-code-clause-shows : goal.returns-in_err-code-clause-shows
 returns-in_err-code-clause-shows g c =

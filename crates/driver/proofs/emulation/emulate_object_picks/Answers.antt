@@ -9,12 +9,14 @@ use Rattle.driver.proofs.emulation.emulate_object_picks.Goals as goal
 
 pub returns-clause-shows : goal.returns-clause-shows
 returns-clause-shows g c =
-    subst (λ (bs : List ℕ). MatchResult c.run_code_picks.result (ShowsObject bs c.args.inputs.now c.args.config true false) (IsRefusedObject bs c.args.inputs.now c.args.config))
+    subst (λ (bs : List ℕ). MatchResult c.run_code_picks.result (ShowsObject bs c.args.inputs.now c.args.config true false)
+    (IsRefusedObject bs c.args.inputs.now c.args.config))
     c.in_ok-code.ensures.bytes c.run_code_picks.ensures.shows
 
 pub returns-clause-list : goal.returns-clause-list
 returns-clause-list g c =
-    subst (λ (bs : List ℕ). IfOk c.run_code_picks.result (RunsObject bs c.args.inputs.now c.args.config (RunsByList c.args.picks.now))) c.in_ok-code.ensures.bytes c.run_code_picks.ensures.list
+    subst (λ (bs : List ℕ). IfOk c.run_code_picks.result (RunsObject bs c.args.inputs.now c.args.config (RunsByList c.args.picks.now)))
+    c.in_ok-code.ensures.bytes c.run_code_picks.ensures.list
 
 pub returns-in_err-code-clause-shows : goal.returns-in_err-code-clause-shows
 returns-in_err-code-clause-shows g c =

@@ -14,7 +14,8 @@ returns g c =
       k.checked,
       reports_by_list c.args.text.now k.checked k.object.bytes c.args.inputs.now c.args.config c.args.picks.now c.in_ok-report.report c.in_ok-compiled.ensures
           (subst (λ (bs : List ℕ). ShowsObject bs c.args.inputs.now c.args.config true false c.in_ok-report.report) same c.in_ok-report.ensures.shows)
-          (subst (λ (bs : List ℕ). RunsObject bs c.args.inputs.now c.args.config (RunsByList c.args.picks.now) c.in_ok-report.report) same c.in_ok-report.ensures.list),
+          (subst (λ (bs : List ℕ). RunsObject bs c.args.inputs.now c.args.config (RunsByList c.args.picks.now) c.in_ok-report.report) same
+          c.in_ok-report.ensures.list),
     )
 
 pub returns-in_err-report : goal.returns-in_err-report

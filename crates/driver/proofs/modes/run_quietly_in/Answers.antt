@@ -14,9 +14,11 @@ returns-in-One-clause-shows g c = λ inputs began.
 pub returns-in-Rounds-clause-shows : goal.returns-in-Rounds-clause-shows
 returns-in-Rounds-clause-shows g c = λ inputs began.
     let z : Setting = c.args.machine.state.setting in
-    subst (λ (m : Mode). ShowsQuietly z.program (size z) inputs z.steps false (stops_in m g.G.Gate.may_stop) c.run_quietly-in-Rounds.result) (sym c.in-Rounds.is) (c.run_quietly-in-Rounds.ensures.shows inputs began)
+    subst (λ (m : Mode). ShowsQuietly z.program (size z) inputs z.steps false (stops_in m g.G.Gate.may_stop) c.run_quietly-in-Rounds.result)
+    (sym c.in-Rounds.is) (c.run_quietly-in-Rounds.ensures.shows inputs began)
 
 pub returns-in-Free-clause-shows : goal.returns-in-Free-clause-shows
 returns-in-Free-clause-shows g c = λ inputs began.
     let z : Setting = c.args.machine.state.setting in
-    subst (λ (m : Mode). ShowsQuietly z.program (size z) inputs z.steps false (stops_in m g.G.Gate.may_stop) c.run_quietly-in-Free.result) (sym c.in-Free.is) (c.run_quietly-in-Free.ensures.shows inputs began)
+    subst (λ (m : Mode). ShowsQuietly z.program (size z) inputs z.steps false (stops_in m g.G.Gate.may_stop) c.run_quietly-in-Free.result)
+    (sym c.in-Free.is) (c.run_quietly-in-Free.ensures.shows inputs began)

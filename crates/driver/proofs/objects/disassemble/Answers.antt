@@ -11,8 +11,12 @@ pub returns : goal.returns
 unfolding Sends
 returns g c =
     let w0 : Option (List ℕ) = g.W.Write.contents c.args.writer.now in
-    let w1 : Option (List ℕ) = g.W.Write.contents c.list.new.writer in
-    (is_opened c.args.bytes.now c.in_ok-object.object c.in_ok-object.ensures.opened c.in_ok-object.ensures.refused c.in_ok-object.ensures.object c.in_ok-object.ensures.complete, subst (λ (o : Opened). Appends w0 w1 (listing o.version o.code.program)) c.in_ok-object.ensures.opened c.in_ok-list.ensures)
+    let w1 : Option (List ℕ) = g.W.Write.contents c.list.new.writer in (
+      is_opened c.args.bytes.now c.in_ok-object.object c.in_ok-object.ensures.opened c.in_ok-object.ensures.refused c.in_ok-object.ensures.object
+          c.in_ok-object.ensures.complete,
+      subst (λ (o : Opened). Appends w0 w1 (listing o.version o.code.program)) c.in_ok-object.ensures.opened
+          c.in_ok-list.ensures,
+    )
 
 pub returns-in_err-list : goal.returns-in_err-list
 unfolding Sends
@@ -20,4 +24,9 @@ returns-in_err-list g c =
     let w0 : Option (List ℕ) = g.W.Write.contents c.args.writer.now in
     let w1 : Option (List ℕ) = g.W.Write.contents c.list.new.writer in
     let p = err_from_is_err_and c.from_residual-in_err-list.result c.from_residual-in_err-list.ensures.1 in
-    rw (p.1, p.2) (is_opened c.args.bytes.now c.in_ok-object.object c.in_ok-object.ensures.opened c.in_ok-object.ensures.refused c.in_ok-object.ensures.object c.in_ok-object.ensures.complete, subst (λ (o : Opened). (front : List ℕ) × (rest : List ℕ) × (listing o.version o.code.program ≡ front ++ rest) × Appends w0 w1 front) c.in_ok-object.ensures.opened c.in_err-list.ensures)
+    rw (p.1, p.2) (
+      is_opened c.args.bytes.now c.in_ok-object.object c.in_ok-object.ensures.opened c.in_ok-object.ensures.refused
+          c.in_ok-object.ensures.object c.in_ok-object.ensures.complete,
+      subst (λ (o : Opened). (front : List ℕ) × (rest : List ℕ)
+          × (listing o.version o.code.program ≡ front ++ rest) × Appends w0 w1 front) c.in_ok-object.ensures.opened c.in_err-list.ensures,
+    )

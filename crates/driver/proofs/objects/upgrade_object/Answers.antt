@@ -11,8 +11,11 @@ pub returns : goal.returns
 unfolding Sends
 returns g c =
     let w0 : Option (List ℕ) = g.W.Write.contents c.args.writer.now in
-    let w1 : Option (List ℕ) = g.W.Write.contents c.upgrade.new.writer in
-    (is_opened c.args.bytes.now c.in_ok-old.old c.in_ok-old.ensures.opened c.in_ok-old.ensures.refused c.in_ok-old.ensures.object c.in_ok-old.ensures.complete, subst (λ (o : Opened). Appends w0 w1 (bytes_of 2 o.code)) c.in_ok-old.ensures.opened c.in_ok-upgrade.ensures)
+    let w1 : Option (List ℕ) = g.W.Write.contents c.upgrade.new.writer in (
+      is_opened c.args.bytes.now c.in_ok-old.old c.in_ok-old.ensures.opened c.in_ok-old.ensures.refused c.in_ok-old.ensures.object
+          c.in_ok-old.ensures.complete,
+      subst (λ (o : Opened). Appends w0 w1 (bytes_of 2 o.code)) c.in_ok-old.ensures.opened c.in_ok-upgrade.ensures,
+    )
 
 pub returns-in_err-upgrade : goal.returns-in_err-upgrade
 unfolding Sends
@@ -20,4 +23,9 @@ returns-in_err-upgrade g c =
     let w0 : Option (List ℕ) = g.W.Write.contents c.args.writer.now in
     let w1 : Option (List ℕ) = g.W.Write.contents c.upgrade.new.writer in
     let p = err_from_is_err_and c.from_residual-in_err-upgrade.result c.from_residual-in_err-upgrade.ensures.1 in
-    rw (p.1, p.2) (is_opened c.args.bytes.now c.in_ok-old.old c.in_ok-old.ensures.opened c.in_ok-old.ensures.refused c.in_ok-old.ensures.object c.in_ok-old.ensures.complete, subst (λ (o : Opened). (front : List ℕ) × (rest : List ℕ) × (bytes_of 2 o.code ≡ front ++ rest) × Appends w0 w1 front) c.in_ok-old.ensures.opened c.in_err-upgrade.ensures)
+    rw (p.1, p.2) (
+      is_opened c.args.bytes.now c.in_ok-old.old c.in_ok-old.ensures.opened c.in_ok-old.ensures.refused c.in_ok-old.ensures.object
+          c.in_ok-old.ensures.complete,
+      subst (λ (o : Opened). (front : List ℕ) × (rest : List ℕ) × (bytes_of 2 o.code ≡ front ++ rest)
+          × Appends w0 w1 front) c.in_ok-old.ensures.opened c.in_err-upgrade.ensures,
+    )

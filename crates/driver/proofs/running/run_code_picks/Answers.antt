@@ -10,8 +10,10 @@ run-requires g c = λ k d h.
 
 pub returns-clause-shows : goal.returns-clause-shows
 returns-clause-shows g c =
-    shows_object c.args.code.now.bytes c.args.inputs.now c.args.config c.in_ok-machine.machine c.in_ok-machine.ensures true false c.run.result c.run.ensures.shows
+    shows_object c.args.code.now.bytes c.args.inputs.now c.args.config c.in_ok-machine.machine c.in_ok-machine.ensures true false c.run.result
+    c.run.ensures.shows
 
 pub returns-clause-list : goal.returns-clause-list
 returns-clause-list g c =
-    runs_by_list c.args.code.now.bytes c.args.inputs.now c.args.config c.in_ok-machine.machine c.in_ok-machine.ensures c.args.picks.now c.run.result c.run.ensures.plays
+    runs_by_list c.args.code.now.bytes c.args.inputs.now c.args.config c.in_ok-machine.machine c.in_ok-machine.ensures c.args.picks.now c.run.result
+    c.run.ensures.plays

@@ -24,5 +24,6 @@ returns-in_err-machine g c =
     let o = c.object.result.now in
     let e = c.bytes-bytes.ensures in
     rw (p.1, p.2)
-    (object_refused code.bytes c.args.inputs.now c.args.config code.version code.code (object_of c.bytes-bytes.result.now o code e.same c.object.ensures e.object)
+    (object_refused code.bytes c.args.inputs.now c.args.config code.version code.code (object_of c.bytes-bytes.result.now o code e.same
+    c.object.ensures e.object)
     (only_of c.bytes-bytes.result.now o code e.same c.object.ensures e.only) c.in_err-machine.field-0.0 c.in_err-machine.ensures)

@@ -11,14 +11,17 @@ use Rattle.driver.proofs.watching.watch_object.Goals as goal
 pub returns-clause-shows : goal.returns-clause-shows
 returns-clause-shows g c =
     let same = ap (λ (x : Opened). x.bytes) (c.in_ok-code.ensures ∙ c.as_object.ensures) in
-    subst (λ (bs : List ℕ). MatchResult c.watch_code.result (λ w. ShowsObject bs c.args.inputs.now c.args.config false (stops_in c.args.mode g.G.Gate.may_stop) w.report) (IsRefusedObject bs c.args.inputs.now c.args.config)) same c.watch_code.ensures.shows
+    subst (λ (bs : List ℕ). MatchResult c.watch_code.result (λ w. ShowsObject bs c.args.inputs.now c.args.config false
+    (stops_in c.args.mode g.G.Gate.may_stop) w.report) (IsRefusedObject bs c.args.inputs.now c.args.config)) same c.watch_code.ensures.shows
 
 pub returns-clause-turns : goal.returns-clause-turns
 returns-clause-turns g c = λ one.
     let same = ap (λ (x : Opened). x.bytes) (c.in_ok-code.ensures ∙ c.as_object.ensures) in
-    subst (λ (bs : List ℕ). IfOk c.watch_code.result (λ w. RunsObject bs c.args.inputs.now c.args.config RunsByTurns w.report)) same (c.watch_code.ensures.turns one)
+    subst (λ (bs : List ℕ). IfOk c.watch_code.result (λ w. RunsObject bs c.args.inputs.now c.args.config RunsByTurns w.report)) same
+    (c.watch_code.ensures.turns one)
 
 pub returns-clause-moments : goal.returns-clause-moments
 returns-clause-moments g c =
     let same = ap (λ (x : Opened). x.bytes) (c.in_ok-code.ensures ∙ c.as_object.ensures) in
-    subst (λ (bs : List ℕ). IfOk c.watch_code.result (λ w. AreMoments bs c.args.inputs.now c.args.config w.report w.moments.items)) same c.watch_code.ensures.moments
+    subst (λ (bs : List ℕ). IfOk c.watch_code.result (λ w. AreMoments bs c.args.inputs.now c.args.config w.report w.moments.items)) same
+    c.watch_code.ensures.moments

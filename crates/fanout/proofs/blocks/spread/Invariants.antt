@@ -3,4 +3,5 @@ use Rattle.fanout.specs.Narrowed as of_blocks
 use Rattle.fanout.proofs.blocks.spread.Given as goal
 
 abbrev pub invariant-loop-number : goal.invariant-loop-number
-invariant-loop-number g l = l.list.items ++ of_blocks.spread l.layout l.number l.waiting.items (drop l.number l.instrs) ≡ of_blocks.spread l.layout 0 [] l.instrs
+invariant-loop-number g l = l.list.items ++ of_blocks.spread l.layout l.number l.waiting.items (drop l.number l.instrs)
+    ≡ of_blocks.spread l.layout 0 [] l.instrs

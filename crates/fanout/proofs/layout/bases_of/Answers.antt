@@ -15,7 +15,8 @@ loop-place-preserved g c =
     let one = c.in_ok-plus.ensures ∙ ap (λ e. e + c.loop-place.copied) end in
     let copied = c.in_ok-copied.ensures ∙ ap (λ s. c.loop-place.copied + s) c.in_ok-size.ensures in
     record {
-      exact = bases_step ts is n c.loop-place.copied c.in_ok-copied.copied c.loop-place.bases.items c.push.new.self.items (bases_from ts 0 0 is) c.index-instrs-place.result there c.index-instrs-place.is
+      exact = bases_step ts is n c.loop-place.copied c.in_ok-copied.copied c.loop-place.bases.items c.push.new.self.items (bases_from ts 0 0 is)
+          c.index-instrs-place.result there c.index-instrs-place.is
           (c.in_ok-push.ensures.items ∙ ap (λ e. c.loop-place.bases.items ++ e ∷ []) one) copied c.loop-place.invariant.exact;
       row = subst (λ e. (n + 1 ≡ e) ⊎ (e ≡ n + 1 + run (drop (n + 1) ts))) (sym end) (run_next ts n (omega (arith, there, all)));
       within = c.row_end-end.ensures.within;

@@ -12,6 +12,7 @@ loop-copy-preserved g c =
     let old = c.args.instrs.now.items in
     let one : c.in_ok-instr.instr ≡ copy_at l n (c.args.root + j) j ds = c.in_ok-instr.ensures ∙ ap (λ at. copy_at l n at j ds) c.in_ok-at.ensures in
     let step : suc j ≡ j + 1 = omega arith in
-    c.in_ok-push.ensures.items ∙ ap (λ (is : List Instr). is ++ c.in_ok-instr.instr ∷ []) c.loop-copy.invariant ∙ append_assoc old (tree l n c.args.root ds j) (c.in_ok-instr.instr ∷ [])
+    c.in_ok-push.ensures.items ∙ ap (λ (is : List Instr). is ++ c.in_ok-instr.instr ∷ []) c.loop-copy.invariant
+    ∙ append_assoc old (tree l n c.args.root ds j) (c.in_ok-instr.instr ∷ [])
     ∙ ap (λ (i : Instr). old ++ (tree l n c.args.root ds j ++ i ∷ [])) one
     ∙ ap (λ k. old ++ tree l n c.args.root ds k) step

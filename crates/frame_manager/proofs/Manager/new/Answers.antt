@@ -13,4 +13,6 @@ invariant_of-result g c =
 pub returns : goal.returns
 returns g c =
     let end : c.loop-frame.frame ≡ c.args.frames = omega arith in
-    ap (seen c.loop-frame.flags) c.new.ensures.items ∙ ap with_flags (opened_all c.loop-frame.flags c.args.frames c.requires (subst (λ i. IsOpened c.loop-frame.flags c.args.frames i) end c.loop-frame.invariant))
+    ap (seen c.loop-frame.flags) c.new.ensures.items
+    ∙ ap with_flags (opened_all c.loop-frame.flags c.args.frames c.requires (subst (λ i. IsOpened c.loop-frame.flags c.args.frames i) end
+    c.loop-frame.invariant))

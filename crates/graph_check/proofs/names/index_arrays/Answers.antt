@@ -26,8 +26,10 @@ returns-then-not-branch g c =
     let name = c.array_name.result.now in
     let h : i < length items = omega arith in
     let e = c.in_ok-add.ensures.added (take i names) c.loop-i.invariant.index (placed name_in items i h) in
-    let fault = ap (λ k. fault_at None None k) (old_name names i name (present_if (is_name name (take i names)) c.in_ok-add.field-0 e.0 c.if-not-branch.true)) in
-    inr (finds (array_name_fault names) names i name _ _ (within name_in items i h) (named_item name_in items i c.array-item.result name h (c.array-item.is ∙ ap (λ l. get_or l i c.array-item.result) c.deref-array-items.ensures.value) c.array_name.ensures) c.loop-i.invariant.before fault)
+    let fault = ap (λ k. fault_at None None k)
+    (old_name names i name (present_if (is_name name (take i names)) c.in_ok-add.field-0 e.0 c.if-not-branch.true)) in
+    inr (finds (array_name_fault names) names i name _ _ (within name_in items i h) (named_item name_in items i c.array-item.result name h
+    (c.array-item.is ∙ ap (λ l. get_or l i c.array-item.result) c.deref-array-items.ensures.value) c.array_name.ensures) c.loop-i.invariant.before fault)
 
 pub loop-i-preserved : goal.loop-i-preserved
 loop-i-preserved g c =
@@ -37,10 +39,12 @@ loop-i-preserved g c =
     let name = c.array_name.result.now in
     let h : i < length items = omega arith in
     let e = c.in_ok-add.ensures.added (take i names) c.loop-i.invariant.index (placed name_in items i h) in
-    let at = named_item name_in items i c.array-item.result name h (c.array-item.is ∙ ap (λ l. get_or l i c.array-item.result) c.deref-array-items.ensures.value) c.array_name.ensures in
+    let at = named_item name_in items i c.array-item.result name h (c.array-item.is ∙ ap (λ l. get_or l i c.array-item.result)
+    c.deref-array-items.ensures.value) c.array_name.ensures in
     let new = c.if-not-branch.false in
     let fault = ap (λ k. fault_at None None k) (new_name names i name (absent_if (is_name name (take i names)) c.in_ok-add.field-0 e.0 new)) in
     record {
       index = indexed_more c.add.new.index names i name (within name_in items i h) at (e.1 new);
-      before = goes_on (array_name_fault names) names i name (first_in (array_name_fault names) 0 names) (within name_in items i h) at c.loop-i.invariant.before fault;
+      before = goes_on (array_name_fault names) names i name (first_in (array_name_fault names) 0 names) (within name_in items i h) at
+          c.loop-i.invariant.before fault;
     }

@@ -19,27 +19,31 @@ returns-in-Ok-end g c =
     let l = c.loop-text in
     let total = body_from c.args.version c.args.body.now in
     ends_with l.line (end_from l.state.0 l.state.1 c.in-Some.text.now) total c.in-Ok-end.whole
-    (last_line l.line l.state.0 l.state.1 l.lines c.in-Some.text.now c.in-Some.rest total c.in-Some.ensures (sym c.if-has.ensures) l.invariant.so_far) c.in-Ok-end.ensures
+    (last_line l.line l.state.0 l.state.1 l.lines c.in-Some.text.now c.in-Some.rest total c.in-Some.ensures (sym c.if-has.ensures) l.invariant.so_far)
+    c.in-Ok-end.ensures
 
 pub returns-in-Err-end : goal.returns-in-Err-end
 returns-in-Err-end g c =
     let l = c.loop-text in
     let total = body_from c.args.version c.args.body.now in
     ends_badly l.line (end_from l.state.0 l.state.1 c.in-Some.text.now) total (fault_kind c.in-Err-end.cause)
-    (last_line l.line l.state.0 l.state.1 l.lines c.in-Some.text.now c.in-Some.rest total c.in-Some.ensures (sym c.if-has.ensures) l.invariant.so_far) c.in-Err-end.ensures
+    (last_line l.line l.state.0 l.state.1 l.lines c.in-Some.text.now c.in-Some.rest total c.in-Some.ensures (sym c.if-has.ensures) l.invariant.so_far)
+    c.in-Err-end.ensures
 
 pub returns-in-Err-line : goal.returns-in-Err-line
 returns-in-Err-line g c =
     let l = c.loop-text in
     let total = body_from c.args.version c.args.body.now in
-    stops_at l.line l.state.0 l.state.1 l.lines c.in-Some.text.now c.in-Some.rest total (fault_kind c.in-Err-line.cause) c.in-Some.ensures (sym c.if-has.ensures) c.in-Err-line.ensures l.invariant.so_far
+    stops_at l.line l.state.0 l.state.1 l.lines c.in-Some.text.now c.in-Some.rest total (fault_kind c.in-Err-line.cause) c.in-Some.ensures
+    (sym c.if-has.ensures) c.in-Err-line.ensures l.invariant.so_far
 
 pub loop-text-preserved : goal.loop-text-preserved
 loop-text-preserved g c =
     let l = c.loop-text in
     let total = body_from c.args.version c.args.body.now in
     record {
-      so_far = one_more l.line l.state.0 l.state.1 l.lines c.in-Some.text.now c.in-Some.rest total c.in-Ok-line.next c.in-Some.ensures (sym c.if-has.ensures) c.in-Ok-line.ensures l.invariant.so_far;
+      so_far = one_more l.line l.state.0 l.state.1 l.lines c.in-Some.text.now c.in-Some.rest total c.in-Ok-line.next c.in-Some.ensures
+          (sym c.if-has.ensures) c.in-Ok-line.ensures l.invariant.so_far;
       room = let k = ap (λ (xs : List (List ℕ)). length xs) c.in-Some.ensures in let r = l.invariant.room in omega (arith, k, r);
     }
 

@@ -8,12 +8,14 @@ pub returns-in_err-send_block : goal.returns-in_err-send_block
 returns-in_err-send_block g c =
     let p = err_from_is_err_and c.from_residual.result c.from_residual.ensures.1 in
     let l = c.loop-block in
-    rw p.1 (loop_stop_at block_text c.args.blocks.now l.block-index c.block-item.result p.0 _ _ _ c.loop-block-test.true c.block-item.is l.invariant (sends_other c.in_err-send_block.field-0.0 p.0 _ _ _ c.in_err-send_block.ensures))
+    rw p.1 (loop_stop_at block_text c.args.blocks.now l.block-index c.block-item.result p.0 _ _ _ c.loop-block-test.true c.block-item.is l.invariant
+    (sends_other c.in_err-send_block.field-0.0 p.0 _ _ _ c.in_err-send_block.ensures))
 
 pub loop-block-preserved : goal.loop-block-preserved
 loop-block-preserved g c =
     let l = c.loop-block in
-    loop_more_at block_text c.args.blocks.now l.block-index c.block-item.result _ _ _ c.loop-block-test.true c.block-item.is l.invariant (sends_from _ _ _ _ c.in_ok-send_block.was c.send_block.ensures)
+    loop_more_at block_text c.args.blocks.now l.block-index c.block-item.result _ _ _ c.loop-block-test.true c.block-item.is l.invariant
+    (sends_from _ _ _ _ c.in_ok-send_block.was c.send_block.ensures)
 
 pub returns : goal.returns
 returns g c =

@@ -24,7 +24,9 @@ returns-in_err-send_sources g c =
     let w0 : Option (List ℕ) = g.W.Write.contents c.args.writer.now in
     let w1 : Option (List ℕ) = g.W.Write.contents c.send.new.writer in
     let w2 : Option (List ℕ) = g.W.Write.contents c.send_sources.new.writer in
-    rw p.1 (sends_less p.0 w0 w2 (t1 ++ t2) t3 (sends_more (Err p.0) w0 w1 w2 t1 t2 (sends_from c.send.result w0 w1 t1 c.in_ok-send.was c.send.ensures) (sends_other c.in_err-send_sources.field-0.0 p.0 w1 w2 t2 c.in_err-send_sources.ensures)))
+    rw p.1 (sends_less p.0 w0 w2 (t1 ++ t2) t3
+    (sends_more (Err p.0) w0 w1 w2 t1 t2 (sends_from c.send.result w0 w1 t1 c.in_ok-send.was c.send.ensures)
+    (sends_other c.in_err-send_sources.field-0.0 p.0 w1 w2 t2 c.in_err-send_sources.ensures)))
 
 pub returns : goal.returns
 returns g c =
@@ -35,4 +37,5 @@ returns g c =
     let w1 : Option (List ℕ) = g.W.Write.contents c.send.new.writer in
     let w2 : Option (List ℕ) = g.W.Write.contents c.send_sources.new.writer in
     let w3 : Option (List ℕ) = g.W.Write.contents c.send-2.new.writer in
-    sends_more c.send-2.result w0 w2 w3 (t1 ++ t2) t3 (appends_then w0 w1 w2 t1 t2 (sends_from c.send.result w0 w1 t1 c.in_ok-send.was c.send.ensures) (sends_from c.send_sources.result w1 w2 t2 c.in_ok-send_sources.was c.send_sources.ensures)) c.send-2.ensures
+    sends_more c.send-2.result w0 w2 w3 (t1 ++ t2) t3 (appends_then w0 w1 w2 t1 t2 (sends_from c.send.result w0 w1 t1 c.in_ok-send.was c.send.ensures)
+    (sends_from c.send_sources.result w1 w2 t2 c.in_ok-send_sources.was c.send_sources.ensures)) c.send-2.ensures

@@ -9,9 +9,11 @@ use Rattle.istructure.proofs.Cells.new.Goals as goal
 pub returns-clause-here : goal.returns-clause-here
 returns-clause-here g c x below ours =
     let all : c.loop.counter ≡ own_count c.args.cells c.args.element c.args.elements = omega arith in
-    subst (λ o. cell_at o x ≡ Some Vacant) (seen_vacant c.args.cells c.args.element c.args.elements _ _ c.loop.invariant all) (vacant_here c.args.cells c.args.element c.args.elements x c.requires below ours)
+    subst (λ o. cell_at o x ≡ Some Vacant) (seen_vacant c.args.cells c.args.element c.args.elements _ _ c.loop.invariant all)
+    (vacant_here c.args.cells c.args.element c.args.elements x c.requires below ours)
 
 pub returns-clause-beyond : goal.returns-clause-beyond
 returns-clause-beyond g c x above =
     let all : c.loop.counter ≡ own_count c.args.cells c.args.element c.args.elements = omega arith in
-    subst (λ o. cell_at o x ≡ None) (seen_vacant c.args.cells c.args.element c.args.elements _ _ c.loop.invariant all) (none_beyond c.args.cells c.args.element c.args.elements x c.requires above)
+    subst (λ o. cell_at o x ≡ None) (seen_vacant c.args.cells c.args.element c.args.elements _ _ c.loop.invariant all)
+    (none_beyond c.args.cells c.args.element c.args.elements x c.requires above)

@@ -7,8 +7,10 @@ use Rattle.istructure.proofs.Cells.store.Goals as goal
 pub returns-clause-exact : goal.returns-clause-exact
 returns-clause-exact g c =
     stored_of_cells c.args.self.now c.self.inside.element c.self.inside.elements c.self.inside.cells.items c.args.cell c.in-Some.place
-    c.index_mut-held.result.now c.store.new.self c.self.view_is (sym c.place.ensures ∙ c.in-Some.is) c.index_mut-held.ensures.value c.args.value _ _ _ c.store.result c.store.ensures
+    c.index_mut-held.result.now c.store.new.self c.self.view_is (sym c.place.ensures ∙ c.in-Some.is) c.index_mut-held.ensures.value c.args.value _ _ _
+    c.store.result c.store.ensures
 
 pub returns-clause-event : goal.returns-clause-event
 returns-clause-event g c =
-    store_is_event c.args.self.now c.args.cell c.args.value _ _ _ c.store.result _ (elements_above _ _ _ _ c.self.view_is c.self.invariant) (returns-clause-exact g c)
+    store_is_event c.args.self.now c.args.cell c.args.value _ _ _ c.store.result _ (elements_above _ _ _ _ c.self.view_is c.self.invariant)
+    (returns-clause-exact g c)

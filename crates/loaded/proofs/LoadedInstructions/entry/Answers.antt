@@ -8,7 +8,8 @@ pub returns-in-Some-clause-exact : goal.returns-in-Some-clause-exact
 returns-in-Some-clause-exact g c =
     let r = ready _ _ _ _ _ _ _ c.self.view_is c.self.invariant in
     let found = c.in-Some.ensures.lookup in
-    entry_found c.args.self.now.code.program c.deref.result.now c.self.inside.entries.items c.args.block c.in-Some.entry.now c.deref.ensures.value r.entries_parsed found.3.0 found.1
+    entry_found c.args.self.now.code.program c.deref.result.now c.self.inside.entries.items c.args.block c.in-Some.entry.now c.deref.ensures.value
+    r.entries_parsed found.3.0 found.1
 
 pub returns-in-Some-clause-short : goal.returns-in-Some-clause-short
 returns-in-Some-clause-short g c =
@@ -19,7 +20,8 @@ pub returns-in-None-clause-exact : goal.returns-in-None-clause-exact
 returns-in-None-clause-exact g c =
     let r = ready _ _ _ _ _ _ _ c.self.view_is c.self.invariant in
     let found = c.in-None.ensures.lookup in
-    entry_beyond c.args.self.now.code.program c.deref.result.now c.self.inside.entries.items c.args.block c.self.inside.instrs c.deref.ensures.value r.entries_parsed r.instrs_parsed found.3
+    entry_beyond c.args.self.now.code.program c.deref.result.now c.self.inside.entries.items c.args.block c.self.inside.instrs c.deref.ensures.value
+    r.entries_parsed r.instrs_parsed found.3
 
 pub returns-in-None-clause-short : goal.returns-in-None-clause-short
 returns-in-None-clause-short g c =

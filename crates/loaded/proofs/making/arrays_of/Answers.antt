@@ -9,12 +9,14 @@ use Rattle.loaded.proofs.making.arrays_of.Goals as goal
 
 pub overflow_cast-len : goal.overflow_cast-len
 overflow_cast-len g c =
-    let few = at_all (λ n. (1 ≤ n) × (n ≤ 65536)) c.args.object.now.code.program.arrays c.bytes-bytes.ensures.object.1.arrays c.loop-number.number c.in-Some.len (sym c.array.ensures ∙ c.in-Some.is) in
+    let few = at_all (λ n. (1 ≤ n) × (n ≤ 65536)) c.args.object.now.code.program.arrays c.bytes-bytes.ensures.object.1.arrays c.loop-number.number
+    c.in-Some.len (sym c.array.ensures ∙ c.in-Some.is) in
     omega (arith, few.1)
 
 pub overflow_cast-base : goal.overflow_cast-base
 overflow_cast-base g c =
-    let few = at_all (λ n. (1 ≤ n) × (n ≤ 65536)) c.args.object.now.code.program.arrays c.bytes-bytes.ensures.object.1.arrays c.loop-number.number c.in-Some.len (sym c.array.ensures ∙ c.in-Some.is) in
+    let few = at_all (λ n. (1 ≤ n) × (n ≤ 65536)) c.args.object.now.code.program.arrays c.bytes-bytes.ensures.object.1.arrays c.loop-number.number
+    c.in-Some.len (sym c.array.ensures ∙ c.in-Some.is) in
     omega (arith, few.1)
 
 pub overflow_add-base : goal.overflow_add-base
@@ -31,10 +33,12 @@ loop-number-preserved g c =
     let is : slice_get p.arrays c.loop-number.number ≡ Some c.in-Some.len = sym c.array.ensures ∙ c.in-Some.is in
     let next = sum_next p.arrays c.loop-number.number c.in-Some.len is in
     let base = c.loop-number.invariant.1 in (
-      taken_next c.loop-number.number (arrays_in 0 p.arrays) c.loop-number.arrays.items c.push.new.self.items (record { base = c.loop-number.base; len = c.in-Some.len })
+      taken_next c.loop-number.number (arrays_in 0 p.arrays) c.loop-number.arrays.items c.push.new.self.items
+          (record { base = c.loop-number.base; len = c.in-Some.len })
           (parsed_array p c.loop-number.base c.loop-number.number c.in-Some.len is base) c.loop-number.invariant.0 c.in_ok-push.ensures.items,
       omega arith,
     )
 
 pub returns : goal.returns
-returns g c = all_arrays c.args.object.now.code.program.arrays c.loop-number.number c.loop-number.arrays.items c.loop-number.invariant.0 (omega (arith, c.loop-number-test.false, c.array_count-number-end.ensures))
+returns g c = all_arrays c.args.object.now.code.program.arrays c.loop-number.number c.loop-number.arrays.items c.loop-number.invariant.0
+    (omega (arith, c.loop-number-test.false, c.array_count-number-end.ensures))

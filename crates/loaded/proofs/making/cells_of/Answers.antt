@@ -6,7 +6,8 @@ use Rattle.loaded.proofs.making.cells_of.Goals as goal
 
 pub overflow_cast-cells : goal.overflow_cast-cells
 overflow_cast-cells c =
-    let few = at_all (λ n. (1 ≤ n) × (n ≤ 65536)) c.args.object.now.code.program.arrays c.bytes-bytes.ensures.object.1.arrays c.loop-number.number c.in-Some.len (sym c.array.ensures ∙ c.in-Some.is) in
+    let few = at_all (λ n. (1 ≤ n) × (n ≤ 65536)) c.args.object.now.code.program.arrays c.bytes-bytes.ensures.object.1.arrays c.loop-number.number
+    c.in-Some.len (sym c.array.ensures ∙ c.in-Some.is) in
     omega (arith, few.1)
 
 pub overflow_add-cells : goal.overflow_add-cells

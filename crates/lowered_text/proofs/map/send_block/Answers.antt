@@ -29,7 +29,8 @@ returns-in_err-send_node-clause-lines g c =
     let nodes = c.deref-at-items.ensures.value ∙ ap (λ (z : Places). z.nodes) c.places.view_is in
     rw p.1 (sends_same (Err p.0) _ _ _ _ (ap (numbered f 0) nodes) (stop f l.line items x p.0 _ _ _
     (slice_get-get_or items l.line 0 c.loop-line-test.true) l.invariant.appended
-    (sends_other c.in_err-send_node.field-0.0 p.0 _ _ (f l.line x) (sends_same (Err c.in_err-send_node.field-0.0) _ _ _ (f l.line x) eq c.in_err-send_node.ensures))))
+    (sends_other c.in_err-send_node.field-0.0 p.0 _ _ (f l.line x) (sends_same (Err c.in_err-send_node.field-0.0) _ _ _ (f l.line x) eq
+    c.in_err-send_node.ensures))))
 
 pub loop-line-preserved : goal.loop-line-preserved
 loop-line-preserved g c =

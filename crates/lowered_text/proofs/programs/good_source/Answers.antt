@@ -13,7 +13,8 @@ returns-in-Err g c = λ text r.
     let s = c.args.source in
     let t : Tree text s.program.names s.program.words = tree_of text s.text.now s.program.names s.program.words s.inputs.now r in
     reported_of text s.text.now c.in-Err.broken.fault c.reported.result r.text_is (later_fault text c.in-Err.broken.fault (of_rules t.tree t.of_text)
-    (subst (λ (xs : List ℕ). (c.in-Err.broken.fault ≡ out_of_memory) ⊎ (checked (length xs) t.tree ≡ Err c.in-Err.broken.fault)) r.text_is (c.in-Err.ensures.refused t.tree t.words)))
+    (subst (λ (xs : List ℕ). (c.in-Err.broken.fault ≡ out_of_memory) ⊎ (checked (length xs) t.tree ≡ Err c.in-Err.broken.fault)) r.text_is
+    (c.in-Err.ensures.refused t.tree t.words)))
     c.reported.ensures
 
 pub returns-in-Ok-name_loops : goal.returns-in-Ok-name_loops

@@ -44,7 +44,8 @@ returns g c = λ text inputs r.
       lowers = record {
         lowered = record { good = r.good; lowered = reported };
         well_formed = lowering_is_well_formed r.tree c.graph_of-graph.result good
-            (spelled_names_are_single r.tree (names_are_spelled c.args.named.now.checked.program.names c.args.named.now.checked.program.words r.tree r.words.words t.spelled)) reported;
+            (spelled_names_are_single r.tree (names_are_spelled c.args.named.now.checked.program.names c.args.named.now.checked.program.words r.tree
+            r.words.words t.spelled)) reported;
       };
       places = l.places;
     }

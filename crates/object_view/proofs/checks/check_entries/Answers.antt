@@ -23,6 +23,7 @@ loop-block-preserved c =
     let fits = entry_from c.entry_at-entry.result.word (sym c.fits.ensures ∙ unless_ok c.fits.result BadTable (sym c.in_default.ensures)) in
     record {
       passed = sym (each_passed (entry_checked w) l.block c.args.blocks (omega arith) good) ∙ l.invariant.passed;
-      counted = ap (λ n. l.instrs + n) (c.instrs.ensures ∙ ap count_in c.entry_at-entry.ensures) ∙ ap (λ n. n + count_in (w (6 + l.block))) l.invariant.counted ∙ sym (below_next w l.block);
+      counted = ap (λ n. l.instrs + n) (c.instrs.ensures ∙ ap count_in c.entry_at-entry.ensures) ∙ ap (λ n. n + count_in (w (6 + l.block)))
+          l.invariant.counted ∙ sym (below_next w l.block);
       few = omega (arith, fits.few, c.instrs.ensures);
     }

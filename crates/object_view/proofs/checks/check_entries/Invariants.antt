@@ -6,4 +6,9 @@ use Rattle.object_view.proofs.checks.check_entries.Given as goal
 
 abbrev pub invariant-loop-block : goal.invariant-loop-block
 invariant-loop-block l =
-    record { passed : each (entry_checked (word_at l.bytes)) l.block (l.blocks - l.block) ≡ each (entry_checked (word_at l.bytes)) 0 l.blocks; counted : l.instrs ≡ instrs_below (word_at l.bytes) l.block; few : l.instrs ≤ 32768 * l.block }
+    record {
+      passed : each (entry_checked (word_at l.bytes)) l.block (l.blocks - l.block) ≡ each (entry_checked (word_at l.bytes)) 0 l.blocks;
+      counted
+          : l.instrs ≡ instrs_below (word_at l.bytes) l.block;
+      few : l.instrs ≤ 32768 * l.block;
+    }

@@ -12,14 +12,16 @@ pub returns-in_default : goal.returns-in_default
 returns-in_default g c = λ k b at.
     let count : c.args.block.now.instrs ≡ length b.instrs = ap (λ (v : BlockView). v.instrs) at.1 in
     let less : c.loop-number.number < length b.instrs = omega (arith, count, c.loop-number-test.true) in
-    let is : slice_get b.instrs c.loop-number.number ≡ None = sym (c.instr_in.ensures k b at less) ∙ ap (λ (o : Option CodeInstr). option_map shown o) c.in_default.is in
+    let is : slice_get b.instrs c.loop-number.number ≡ None = sym (c.instr_in.ensures k b at less) ∙ ap (λ (o : Option CodeInstr). option_map shown o)
+    c.in_default.is in
     outside c.loop-number.number b.instrs c.loop-number.instrs.items is (c.loop-number.invariant k b at)
 
 pub loop-number-preserved : goal.loop-number-preserved
 loop-number-preserved g c = λ k b at.
     let count : c.args.block.now.instrs ≡ length b.instrs = ap (λ (v : BlockView). v.instrs) at.1 in
     let less : c.loop-number.number < length b.instrs = omega (arith, count, c.loop-number-test.true) in
-    let is : slice_get b.instrs c.loop-number.number ≡ Some (shown c.in-Some.instr) = sym (c.instr_in.ensures k b at less) ∙ ap (λ (o : Option CodeInstr). option_map shown o) c.in-Some.is in
+    let is : slice_get b.instrs c.loop-number.number ≡ Some (shown c.in-Some.instr) = sym (c.instr_in.ensures k b at less)
+    ∙ ap (λ (o : Option CodeInstr). option_map shown o) c.in-Some.is in
     let made = c.in_ok-push.ensures.items ∙ ap (λ (i : Instr). c.loop-number.instrs.items ++ i ∷ []) c.in_ok-instr_of.ensures in
     taken_next c.loop-number.number b.instrs c.loop-number.instrs.items c.push.new.self.items (shown c.in-Some.instr) is (c.loop-number.invariant k b at) made
 

@@ -12,4 +12,5 @@ returns-in_err-send g c =
 
 pub returns : goal.returns
 returns g c =
-    sends_more c.send_words.result _ _ _ (codes "ETSOBJCT") _ (sends_from c.send.result _ _ (codes "ETSOBJCT") c.in_ok-send.was c.send.ensures) (sends_same c.send_words.result _ _ _ _ (ap (flat_map bytes_of_word) c.counts.ensures) c.send_words.ensures)
+    sends_more c.send_words.result _ _ _ (codes "ETSOBJCT") _ (sends_from c.send.result _ _ (codes "ETSOBJCT") c.in_ok-send.was c.send.ensures)
+    (sends_same c.send_words.result _ _ _ _ (ap (flat_map bytes_of_word) c.counts.ensures) c.send_words.ensures)

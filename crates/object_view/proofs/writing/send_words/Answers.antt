@@ -8,12 +8,14 @@ pub returns-in_err-send_word : goal.returns-in_err-send_word
 returns-in_err-send_word g c =
     let p = err_from_is_err_and c.from_residual.result c.from_residual.ensures.1 in
     let l = c.loop-word in
-    rw p.1 (loop_stop bytes_of_word c.args.words.now l.word-index 0 p.0 _ _ _ c.loop-word-test.true l.invariant (sends_other c.in_err-send_word.field-0.0 p.0 _ _ _ c.in_err-send_word.ensures))
+    rw p.1 (loop_stop bytes_of_word c.args.words.now l.word-index 0 p.0 _ _ _ c.loop-word-test.true l.invariant
+    (sends_other c.in_err-send_word.field-0.0 p.0 _ _ _ c.in_err-send_word.ensures))
 
 pub loop-word-preserved : goal.loop-word-preserved
 loop-word-preserved g c =
     let l = c.loop-word in
-    loop_more bytes_of_word c.args.words.now l.word-index 0 _ _ _ c.loop-word-test.true l.invariant (sends_from _ _ _ _ c.in_ok-send_word.was c.send_word.ensures)
+    loop_more bytes_of_word c.args.words.now l.word-index 0 _ _ _ c.loop-word-test.true l.invariant
+    (sends_from _ _ _ _ c.in_ok-send_word.was c.send_word.ensures)
 
 pub returns : goal.returns
 returns g c =

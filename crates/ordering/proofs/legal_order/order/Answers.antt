@@ -10,7 +10,8 @@ passes-init g c =
     let whole = c.in_ok-rests.ensures in
     record {
       so_far = λ log start last history perm.
-          subst (λ (events : Events). OrderedSoFar (length c.args.logs.now) log start last (amount c.put_all.new.self) c.in_ok-rests.rests.items events) (sym c.new-events.ensures.items)
+          subst (λ (events : Events). OrderedSoFar (length c.args.logs.now) log start last (amount c.put_all.new.self) c.in_ok-rests.rests.items
+          events) (sym c.new-events.ensures.items)
           (starts c.args.logs.now log start last c.args.opening.now (amount c.put_all.new.self) c.in_ok-rests.rests.items history perm whole
           (λ q. (let put = c.in_ok-put_all.ensures q in let none = c.new-pool.ensures q in omega (arith, put, none))));
       count = whole.0;
@@ -24,7 +25,8 @@ passes-preserved g c =
     let after = amount c.pass.new.pool in
     record {
       so_far = λ log start last history perm.
-          let at_pass = subst (λ (n : ℕ). OrderedSoFar n log start last before c.passes.rests.items c.passes.events.items) (sym inv.count) (inv.so_far log start last history perm) in
+          let at_pass = subst (λ (n : ℕ). OrderedSoFar n log start last before c.passes.rests.items c.passes.events.items) (sym inv.count)
+          (inv.so_far log start last history perm) in
           subst (λ (n : ℕ). OrderedSoFar n log start last after c.pass.new.rests.items c.pass.new.events.items) inv.count (pass.so_far log start last at_pass);
       count = pass.count ∙ inv.count;
     }
@@ -35,6 +37,9 @@ returns g c log start last history perm =
     let pass = c.in_ok-pass.ensures in
     let before = amount c.passes.pool in
     let after = amount c.pass.new.pool in
-    let at_pass = subst (λ (n : ℕ). OrderedSoFar n log start last before c.passes.rests.items c.passes.events.items) (sym inv.count) (inv.so_far log start last history perm) in
-    let so_far = subst (λ (n : ℕ). OrderedSoFar n log start last after c.pass.new.rests.items c.pass.new.events.items) inv.count (pass.so_far log start last at_pass) in
-    ends c.args.logs.now log start last after c.pass.new.rests.items c.pass.new.events.items history (pass.count ∙ inv.count) so_far (pass.stuck c.if-branch.false)
+    let at_pass = subst (λ (n : ℕ). OrderedSoFar n log start last before c.passes.rests.items c.passes.events.items) (sym inv.count)
+    (inv.so_far log start last history perm) in
+    let so_far = subst (λ (n : ℕ). OrderedSoFar n log start last after c.pass.new.rests.items c.pass.new.events.items) inv.count
+    (pass.so_far log start last at_pass) in
+    ends c.args.logs.now log start last after c.pass.new.rests.items c.pass.new.events.items history (pass.count ∙ inv.count) so_far
+    (pass.stuck c.if-branch.false)

@@ -7,7 +7,8 @@ use Rattle.ordering.proofs.legal_order.order.Given as goal
 
 abbrev pub invariant-passes : goal.invariant-passes
 invariant-passes g l = record {
-  so_far : (log : List Block) (start last : List Token) → IsHistory l.logs log start last → IsPermutation l.opening start → OrderedSoFar (length l.logs) log start last (amount l.pool) l.rests.items l.events.items;
+  so_far : (log : List Block) (start last : List Token) → IsHistory l.logs log start last → IsPermutation l.opening start
+      → OrderedSoFar (length l.logs) log start last (amount l.pool) l.rests.items l.events.items;
   count : length l.rests.items ≡ length l.logs;
 }
 

@@ -21,11 +21,13 @@ loop-at-preserved g c =
     let after = amount c.go_on.new.pool in
     record {
       so_far = λ log start last opening.
-          goes_further (length c.args.rests.now.items) log start last before after rests c.loop-at.events.items c.go_on.new.events.items at old new within (get_at rests at old low is)
+          goes_further (length c.args.rests.now.items) log start last before after rests c.loop-at.events.items c.go_on.new.events.items at old new
+          within (get_at rests at old low is)
           (λ tokens blocks holds stands. goes.goes (length c.args.rests.now.items) tokens blocks holds stands) (inv.so_far log start last opening);
       stuck = λ none.
           let fewer = nat_lt (length new.blocks.now) (length old.blocks.now) in
-          stuck_more rests at new before after (goes.less (same_left (length new.blocks.now) (length old.blocks.now) goes.fewer (or_second c.loop-at.went_on fewer none))) goes.stuck (inv.stuck (or_first c.loop-at.went_on fewer none));
+          stuck_more rests at new before after (goes.less (same_left (length new.blocks.now) (length old.blocks.now) goes.fewer
+          (or_second c.loop-at.went_on fewer none))) goes.stuck (inv.stuck (or_first c.loop-at.went_on fewer none));
       left = left_less rests at old new c.loop-at.went_on (blocks_left c.args.rests.now.items) low is goes.fewer inv.left;
       count = length-set rests at new ∙ count;
     }

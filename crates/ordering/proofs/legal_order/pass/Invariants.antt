@@ -9,7 +9,8 @@ use Rattle.ordering.proofs.legal_order.pass.Given as goal
 
 abbrev pub invariant-loop-at : goal.invariant-loop-at
 invariant-loop-at g l = record {
-  so_far : (log : List Block) (start last : List Token) → OrderedSoFar (length l.fn.rests.items) log start last (amount l.fn.pool) l.fn.rests.items l.fn.events.items
+  so_far : (log : List Block) (start last : List Token) → OrderedSoFar (length l.fn.rests.items) log start last (amount l.fn.pool) l.fn.rests.items
+      l.fn.events.items
       → OrderedSoFar (length l.fn.rests.items) log start last (amount l.pool) l.rests.items l.events.items;
   stuck : l.went_on ≡ false → (e : ℕ) (r : Rest) → e < l.at → slice_get l.rests.items e ≡ Some r → IsStuck (amount l.pool) r;
   left : blocks_left l.rests.items + (if l.went_on then 1 else 0) ≤ blocks_left l.fn.rests.items;

@@ -17,9 +17,11 @@ turn-preserved g c =
     let fewer = took.fewer c.if-branch.true in
     let so_far = inv.fewer in
     record {
-      goes = goes_twice c.args.element c.args.events.now.items c.turn.events.items c.take_block.new.events.items (amount c.args.pool.now) (amount c.turn.pool) (amount c.take_block.new.pool) c.args.rest c.turn.left c.take_block.new.rest inv.goes took.goes;
+      goes = goes_twice c.args.element c.args.events.now.items c.turn.events.items c.take_block.new.events.items (amount c.args.pool.now)
+          (amount c.turn.pool) (amount c.take_block.new.pool) c.args.rest c.turn.left c.take_block.new.rest inv.goes took.goes;
       fewer = omega (arith, fewer, so_far);
-      less = λ same q. absurd (let all : length c.take_block.new.rest.blocks.now ≡ length c.args.rest.blocks.now = same in let no : ⊥ = omega (arith, fewer, so_far, all) in no);
+      less = λ same q. absurd (let all : length c.take_block.new.rest.blocks.now ≡ length c.args.rest.blocks.now = same
+          in let no : ⊥ = omega (arith, fewer, so_far, all) in no);
     }
 
 pub returns : goal.returns
@@ -29,7 +31,8 @@ returns g c =
     let as_many = took.same c.if-branch.false in
     let so_far = inv.fewer in
     record {
-      goes = goes_twice c.args.element c.args.events.now.items c.turn.events.items c.take_block.new.events.items (amount c.args.pool.now) (amount c.turn.pool) (amount c.take_block.new.pool) c.args.rest c.turn.left c.take_block.new.rest inv.goes took.goes;
+      goes = goes_twice c.args.element c.args.events.now.items c.turn.events.items c.take_block.new.events.items (amount c.args.pool.now)
+          (amount c.turn.pool) (amount c.take_block.new.pool) c.args.rest c.turn.left c.take_block.new.rest inv.goes took.goes;
       stuck = took.stuck c.if-branch.false;
       fewer = omega (arith, as_many, so_far);
       less = λ same q.

@@ -18,5 +18,9 @@ returns-clause-taken g c =
 
 pub returns-clause-stuck : goal.returns-clause-stuck
 returns-clause-stuck g c some blocks =
-    let first = get_some c.split.result.1.now 0 some in
-    (first.0, first.1, c.take_first-count.ensures.missing first.0 (sym (first_of_dropped c.take_first-count.result c.args.rest.needed.now) ∙ ap (λ (l : List Token). slice_get l 0) (sym c.split.ensures.back) ∙ first.1))
+    let first = get_some c.split.result.1.now 0 some in (
+      first.0,
+      first.1,
+      c.take_first-count.ensures.missing first.0 (sym (first_of_dropped c.take_first-count.result c.args.rest.needed.now)
+          ∙ ap (λ (l : List Token). slice_get l 0) (sym c.split.ensures.back) ∙ first.1),
+    )

@@ -9,5 +9,6 @@ returns g c =
       all,
       c.serve_words-served.result,
       c.serve_words-served.ensures,
-      flushes all (g.W.Write.contents (writer_inner new)) (writer_buffer new) c.serve_words-served.result c.flushed.result c.flushed.ensures.kept c.flushed.ensures.whole,
+      flushes all (g.W.Write.contents (writer_inner new)) (writer_buffer new) c.serve_words-served.result c.flushed.result c.flushed.ensures.kept
+          c.flushed.ensures.whole,
     )

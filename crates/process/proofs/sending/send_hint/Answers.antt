@@ -11,6 +11,7 @@ pub returns-in-Ok-Some : goal.returns-in-Ok-Some
 returns-in-Ok-Some g c = let part = sent_part _ _ _ _ _ c.in-Err-write.ensures in (
   part.0,
   part.1,
-  subst (λ t. g.X.Explain.accounts (map g.S.AsStr.text (drop 1 c.args.words.now)) (option_map (λ i. i.now) c.args.input) c.args.outcome (Some t)) part.2 (rw c.in-Ok-Some.field-0-is at c.in-Ok-Some.ensures),
+  subst (λ t. g.X.Explain.accounts (map g.S.AsStr.text (drop 1 c.args.words.now)) (option_map (λ i. i.now) c.args.input) c.args.outcome (Some t))
+      part.2 (rw c.in-Ok-Some.field-0-is at c.in-Ok-Some.ensures),
   part.3,
 )

@@ -10,7 +10,8 @@ pub returns-in_err-send_wave : goal.returns-in_err-send_wave
 returns-in_err-send_wave g c =
     let p = err_from_is_err_and c.from_residual.result c.from_residual.ensures.1 in
     let l = c.loop-place in
-    rw p.1 (stop_at wave_line l.place c.args.counts.now _ p.0 _ _ _ c.loop-place-test.true l.invariant (sends_other c.in_err-send_wave.field-0.0 p.0 _ _ _ c.in_err-send_wave.ensures))
+    rw p.1 (stop_at wave_line l.place c.args.counts.now _ p.0 _ _ _ c.loop-place-test.true l.invariant
+    (sends_other c.in_err-send_wave.field-0.0 p.0 _ _ _ c.in_err-send_wave.ensures))
 
 pub loop-place-preserved : goal.loop-place-preserved
 loop-place-preserved g c =

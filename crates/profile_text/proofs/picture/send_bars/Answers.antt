@@ -12,7 +12,8 @@ returns-in_err-send_bar g c =
     let bars = c.count_bars-bars.result in
     let top = c.greatest_of-top.result in
     let size = c.size_of_bar-size.result in
-    let sent = sends_same _ _ _ _ _ (ap (λ n. bar_text bars l.place n top) c.greatest_of.ensures) (sends_other c.in_err-send_bar.field-0.0 p.0 _ _ _ c.in_err-send_bar.ensures) in
+    let sent = sends_same _ _ _ _ _ (ap (λ n. bar_text bars l.place n top) c.greatest_of.ensures) (sends_other c.in_err-send_bar.field-0.0 p.0 _ _ _
+    c.in_err-send_bar.ensures) in
     rw p.1 (sends_same _ _ _ _ _ (by_counts c.args.counts.now bars size top c.count_bars-bars.ensures c.size_of_bar-size.ensures c.greatest_of-top.ensures)
     (stopped p.0 bars size top l.place c.args.counts.now l.rest.now c.split.result.0.now _ _ _ c.loop-place-test.true c.split.ensures.first l.invariant sent))
 
@@ -23,7 +24,8 @@ loop-place-preserved g c =
     let top = c.greatest_of-top.result in
     let size = c.size_of_bar-size.result in
     let sent = sends_same _ _ _ _ _ (ap (λ n. bar_text bars l.place n top) c.greatest_of.ensures) c.send_bar.ensures in
-    more_sent bars size top l.place c.args.counts.now l.rest.now c.split.result.0.now c.split.result.1.now _ _ _ c.loop-place-test.true c.split.ensures.first c.split.ensures.rest l.invariant (sends_from _ _ _ _ c.in_ok-send_bar.was sent)
+    more_sent bars size top l.place c.args.counts.now l.rest.now c.split.result.0.now c.split.result.1.now _ _ _ c.loop-place-test.true
+    c.split.ensures.first c.split.ensures.rest l.invariant (sends_from _ _ _ _ c.in_ok-send_bar.was sent)
 
 pub returns : goal.returns
 returns g c =

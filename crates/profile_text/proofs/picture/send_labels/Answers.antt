@@ -24,7 +24,8 @@ returns-in_err-send_last g c =
     let w0 : Option (List ℕ) = g.W.Write.contents c.args.writer.now in
     let w1 : Option (List ℕ) = g.W.Write.contents c.send_top.new.writer in
     let w2 : Option (List ℕ) = g.W.Write.contents c.send_last.new.writer in
-    rw p.1 (sends_less p.0 w0 w2 (t1 ++ t2) t3 (sends_more (Err p.0) w0 w1 w2 t1 t2 (sends_from c.send_top.result w0 w1 t1 c.in_ok-send_top.was c.send_top.ensures) (sends_other c.in_err-send_last.field-0.0 p.0 w1 w2 t2 c.in_err-send_last.ensures)))
+    rw p.1 (sends_less p.0 w0 w2 (t1 ++ t2) t3 (sends_more (Err p.0) w0 w1 w2 t1 t2 (sends_from c.send_top.result w0 w1 t1 c.in_ok-send_top.was
+    c.send_top.ensures) (sends_other c.in_err-send_last.field-0.0 p.0 w1 w2 t2 c.in_err-send_last.ensures)))
 
 pub returns : goal.returns
 returns g c =
@@ -35,4 +36,6 @@ returns g c =
     let w1 : Option (List ℕ) = g.W.Write.contents c.send_top.new.writer in
     let w2 : Option (List ℕ) = g.W.Write.contents c.send_last.new.writer in
     let w3 : Option (List ℕ) = g.W.Write.contents c.send_size.new.writer in
-    sends_more c.send_size.result w0 w2 w3 (t1 ++ t2) t3 (appends_then w0 w1 w2 t1 t2 (sends_from c.send_top.result w0 w1 t1 c.in_ok-send_top.was c.send_top.ensures) (sends_from c.send_last.result w1 w2 t2 c.in_ok-send_last.was c.send_last.ensures)) c.send_size.ensures
+    sends_more c.send_size.result w0 w2 w3 (t1 ++ t2) t3
+    (appends_then w0 w1 w2 t1 t2 (sends_from c.send_top.result w0 w1 t1 c.in_ok-send_top.was c.send_top.ensures)
+    (sends_from c.send_last.result w1 w2 t2 c.in_ok-send_last.was c.send_last.ensures)) c.send_size.ensures

@@ -14,7 +14,8 @@ returns-in_err-send_open g c =
     let t4 : List ℕ = field_text c.args.counts.now in
     let w0 : Option (List ℕ) = g.W.Write.contents c.args.writer.now in
     let w1 : Option (List ℕ) = g.W.Write.contents c.send_open.new.writer in
-    rw p.1 (sends_less p.0 w0 w1 ((t1 ++ t2) ++ t3) t4 (sends_less p.0 w0 w1 (t1 ++ t2) t3 (sends_less p.0 w0 w1 t1 t2 (sends_other c.in_err-send_open.field-0.0 p.0 w0 w1 t1 c.in_err-send_open.ensures))))
+    rw p.1 (sends_less p.0 w0 w1 ((t1 ++ t2) ++ t3) t4
+    (sends_less p.0 w0 w1 (t1 ++ t2) t3 (sends_less p.0 w0 w1 t1 t2 (sends_other c.in_err-send_open.field-0.0 p.0 w0 w1 t1 c.in_err-send_open.ensures))))
 
 pub returns-in_err-send_legend : goal.returns-in_err-send_legend
 returns-in_err-send_legend g c =
@@ -27,7 +28,10 @@ returns-in_err-send_legend g c =
     let w1 : Option (List ℕ) = g.W.Write.contents c.send_open.new.writer in
     let w2 : Option (List ℕ) = g.W.Write.contents c.send_legend.new.writer in
     let e2 = ap (λ w. legend_text w (length c.args.counts.now)) c.work_of-work.ensures in
-    rw p.1 (sends_less p.0 w0 w2 ((t1 ++ t2) ++ t3) t4 (sends_less p.0 w0 w2 (t1 ++ t2) t3 (sends_more (Err p.0) w0 w1 w2 t1 t2 (sends_from c.send_open.result w0 w1 t1 c.in_ok-send_open.was c.send_open.ensures) (sends_other c.in_err-send_legend.field-0.0 p.0 w1 w2 t2 (sends_same (Err c.in_err-send_legend.field-0.0) w1 w2 _ t2 e2 c.in_err-send_legend.ensures)))))
+    rw p.1 (sends_less p.0 w0 w2 ((t1 ++ t2) ++ t3) t4
+    (sends_less p.0 w0 w2 (t1 ++ t2) t3 (sends_more (Err p.0) w0 w1 w2 t1 t2 (sends_from c.send_open.result w0 w1 t1 c.in_ok-send_open.was
+    c.send_open.ensures) (sends_other c.in_err-send_legend.field-0.0 p.0 w1 w2 t2 (sends_same (Err c.in_err-send_legend.field-0.0) w1 w2 _ t2 e2
+    c.in_err-send_legend.ensures)))))
 
 pub returns-in_err-send_labels : goal.returns-in_err-send_labels
 returns-in_err-send_labels g c =
@@ -42,7 +46,11 @@ returns-in_err-send_labels g c =
     let w3 : Option (List ℕ) = g.W.Write.contents c.send_labels.new.writer in
     let e2 = ap (λ w. legend_text w (length c.args.counts.now)) c.work_of-work.ensures in
     let e3 = ap₂ (λ m s. labels_text m (length c.args.counts.now) s) c.greatest_of-top.ensures c.size_of_bar-size.ensures in
-    rw p.1 (sends_less p.0 w0 w3 ((t1 ++ t2) ++ t3) t4 (sends_more (Err p.0) w0 w2 w3 (t1 ++ t2) t3 (appends_then w0 w1 w2 t1 t2 (sends_from c.send_open.result w0 w1 t1 c.in_ok-send_open.was c.send_open.ensures) (sends_from c.send_legend.result w1 w2 t2 c.in_ok-send_legend.was (sends_same c.send_legend.result w1 w2 _ t2 e2 c.send_legend.ensures))) (sends_other c.in_err-send_labels.field-0.0 p.0 w2 w3 t3 (sends_same (Err c.in_err-send_labels.field-0.0) w2 w3 _ t3 e3 c.in_err-send_labels.ensures))))
+    rw p.1 (sends_less p.0 w0 w3 ((t1 ++ t2) ++ t3) t4
+    (sends_more (Err p.0) w0 w2 w3 (t1 ++ t2) t3
+    (appends_then w0 w1 w2 t1 t2 (sends_from c.send_open.result w0 w1 t1 c.in_ok-send_open.was c.send_open.ensures)
+    (sends_from c.send_legend.result w1 w2 t2 c.in_ok-send_legend.was (sends_same c.send_legend.result w1 w2 _ t2 e2 c.send_legend.ensures)))
+    (sends_other c.in_err-send_labels.field-0.0 p.0 w2 w3 t3 (sends_same (Err c.in_err-send_labels.field-0.0) w2 w3 _ t3 e3 c.in_err-send_labels.ensures))))
 
 pub returns : goal.returns
 returns g c =
@@ -57,4 +65,8 @@ returns g c =
     let w4 : Option (List ℕ) = g.W.Write.contents c.send_field.new.writer in
     let e2 = ap (λ w. legend_text w (length c.args.counts.now)) c.work_of-work.ensures in
     let e3 = ap₂ (λ m s. labels_text m (length c.args.counts.now) s) c.greatest_of-top.ensures c.size_of_bar-size.ensures in
-    sends_more c.send_field.result w0 w3 w4 ((t1 ++ t2) ++ t3) t4 (appends_then w0 w2 w3 (t1 ++ t2) t3 (appends_then w0 w1 w2 t1 t2 (sends_from c.send_open.result w0 w1 t1 c.in_ok-send_open.was c.send_open.ensures) (sends_from c.send_legend.result w1 w2 t2 c.in_ok-send_legend.was (sends_same c.send_legend.result w1 w2 _ t2 e2 c.send_legend.ensures))) (sends_from c.send_labels.result w2 w3 t3 c.in_ok-send_labels.was (sends_same c.send_labels.result w2 w3 _ t3 e3 c.send_labels.ensures))) c.send_field.ensures
+    sends_more c.send_field.result w0 w3 w4 ((t1 ++ t2) ++ t3) t4
+    (appends_then w0 w2 w3 (t1 ++ t2) t3 (appends_then w0 w1 w2 t1 t2 (sends_from c.send_open.result w0 w1 t1 c.in_ok-send_open.was
+    c.send_open.ensures) (sends_from c.send_legend.result w1 w2 t2 c.in_ok-send_legend.was
+    (sends_same c.send_legend.result w1 w2 _ t2 e2 c.send_legend.ensures))) (sends_from c.send_labels.result w2 w3 t3 c.in_ok-send_labels.was
+    (sends_same c.send_labels.result w2 w3 _ t3 e3 c.send_labels.ensures))) c.send_field.ensures

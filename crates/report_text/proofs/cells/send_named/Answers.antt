@@ -21,4 +21,5 @@ returns g c =
     let w0 : Option (List ℕ) = g.W.Write.contents c.args.writer.now in
     let w1 : Option (List ℕ) = g.W.Write.contents c.send_place.new.writer in
     let w2 : Option (List ℕ) = g.W.Write.contents c.send_value.new.writer in
-    ended c.send_value.result w0 w1 w2 t1 (field (value_text c.args.value)) (10 ∷ []) (sends_from c.send_place.result w0 w1 t1 c.in_ok-send_place.was c.send_place.ensures) c.send_value.ensures
+    ended c.send_value.result w0 w1 w2 t1 (field (value_text c.args.value)) (10 ∷ []) (sends_from c.send_place.result w0 w1 t1 c.in_ok-send_place.was
+    c.send_place.ensures) c.send_value.ensures

@@ -9,7 +9,8 @@ pub returns-then-from-len : goal.returns-then-from-len
 returns-then-from-len c =
     let lt : c.loop-number.index < c.in-Some.len = omega (arith, c.if-from-len.true, c.from.ensures) in
     let is : nat_lt c.loop-number.index c.in-Some.len ≡ true = grind (arith, nat_tests) in
-    lies_in c.args.object.now.code.program.arrays c.loop-number.number c.in-Some.len c.loop-number.index _ (sym c.array.ensures ∙ c.in-Some.is) is c.loop-number.invariant
+    lies_in c.args.object.now.code.program.arrays c.loop-number.number c.in-Some.len c.loop-number.index _ (sym c.array.ensures ∙ c.in-Some.is) is
+    c.loop-number.invariant
 
 pub loop-number-preserved : goal.loop-number-preserved
 loop-number-preserved c =

@@ -21,4 +21,5 @@ returns g c =
     let w0 : Option (List ℕ) = g.W.Write.contents c.args.writer.now in
     let w1 : Option (List ℕ) = g.W.Write.contents c.send_kind.new.writer in
     let w2 : Option (List ℕ) = g.W.Write.contents c.send_origin.new.writer in
-    ended c.send_origin.result w0 w1 w2 t1 (origin_text c.args.origin) (10 ∷ []) (sends_from c.send_kind.result w0 w1 t1 c.in_ok-send_kind.was c.send_kind.ensures) c.send_origin.ensures
+    ended c.send_origin.result w0 w1 w2 t1 (origin_text c.args.origin) (10 ∷ []) (sends_from c.send_kind.result w0 w1 t1 c.in_ok-send_kind.was
+    c.send_kind.ensures) c.send_origin.ensures

@@ -15,7 +15,9 @@ returns-in_err-send_outputs g c =
     let w0 : Option (List ℕ) = g.W.Write.contents c.args.writer.now in
     let w1 : Option (List ℕ) = g.W.Write.contents c.send_outputs.new.writer in
     let e1 = ap outputs_text c.deref.ensures.value in
-    rw p.1 (sends_less p.0 w0 w1 (t1 ++ t2) t3 (sends_less p.0 w0 w1 t1 t2 (sends_other c.in_err-send_outputs.field-0.0 p.0 w0 w1 t1 (sends_same (Err c.in_err-send_outputs.field-0.0) w0 w1 _ t1 e1 c.in_err-send_outputs.ensures))))
+    rw p.1 (sends_less p.0 w0 w1 (t1 ++ t2) t3
+    (sends_less p.0 w0 w1 t1 t2 (sends_other c.in_err-send_outputs.field-0.0 p.0 w0 w1 t1 (sends_same (Err c.in_err-send_outputs.field-0.0) w0 w1
+    _ t1 e1 c.in_err-send_outputs.ensures))))
 
 pub returns-in_err-send_fulls : goal.returns-in_err-send_fulls
 returns-in_err-send_fulls g c =
@@ -27,8 +29,12 @@ returns-in_err-send_fulls g c =
     let w1 : Option (List ℕ) = g.W.Write.contents c.send_outputs.new.writer in
     let w2 : Option (List ℕ) = g.W.Write.contents c.send_fulls.new.writer in
     let e1 = ap outputs_text c.deref.ensures.value in
-    let e2 = ap (λ (l : Arrays). flat_map (full_line l) c.deref-3.result.now) (c.deref-2.ensures.value ∙ ap (λ (h : Graph). h.arrays) c.graph.view_is) ∙ ap (flat_map (full_line c.args.graph.now.arrays)) c.deref-3.ensures.value in
-    rw p.1 (sends_less p.0 w0 w2 (t1 ++ t2) t3 (sends_more (Err p.0) w0 w1 w2 t1 t2 (sends_from c.send_outputs.result w0 w1 t1 c.in_ok-send_outputs.was (sends_same c.send_outputs.result w0 w1 _ t1 e1 c.send_outputs.ensures)) (sends_other c.in_err-send_fulls.field-0.0 p.0 w1 w2 t2 (sends_same (Err c.in_err-send_fulls.field-0.0) w1 w2 _ t2 e2 c.in_err-send_fulls.ensures))))
+    let e2 = ap (λ (l : Arrays). flat_map (full_line l) c.deref-3.result.now) (c.deref-2.ensures.value ∙ ap (λ (h : Graph). h.arrays) c.graph.view_is)
+    ∙ ap (flat_map (full_line c.args.graph.now.arrays)) c.deref-3.ensures.value in
+    rw p.1 (sends_less p.0 w0 w2 (t1 ++ t2) t3
+    (sends_more (Err p.0) w0 w1 w2 t1 t2 (sends_from c.send_outputs.result w0 w1 t1 c.in_ok-send_outputs.was
+    (sends_same c.send_outputs.result w0 w1 _ t1 e1 c.send_outputs.ensures)) (sends_other c.in_err-send_fulls.field-0.0 p.0 w1 w2 t2
+    (sends_same (Err c.in_err-send_fulls.field-0.0) w1 w2 _ t2 e2 c.in_err-send_fulls.ensures))))
 
 pub returns : goal.returns
 returns g c =
@@ -40,6 +46,10 @@ returns g c =
     let w2 : Option (List ℕ) = g.W.Write.contents c.send_fulls.new.writer in
     let w3 : Option (List ℕ) = g.W.Write.contents c.send_meaning_end.new.writer in
     let e1 = ap outputs_text c.deref.ensures.value in
-    let e2 = ap (λ (l : Arrays). flat_map (full_line l) c.deref-3.result.now) (c.deref-2.ensures.value ∙ ap (λ (h : Graph). h.arrays) c.graph.view_is) ∙ ap (flat_map (full_line c.args.graph.now.arrays)) c.deref-3.ensures.value in
+    let e2 = ap (λ (l : Arrays). flat_map (full_line l) c.deref-3.result.now) (c.deref-2.ensures.value ∙ ap (λ (h : Graph). h.arrays) c.graph.view_is)
+    ∙ ap (flat_map (full_line c.args.graph.now.arrays)) c.deref-3.ensures.value in
     let e3 = ap (λ (l : Arrays). meaning_end l c.args.report.now.end) (c.deref-4.ensures.value ∙ ap (λ (h : Graph). h.arrays) c.graph.view_is) in
-    sends_more c.send_meaning_end.result w0 w2 w3 (t1 ++ t2) t3 (appends_then w0 w1 w2 t1 t2 (sends_from c.send_outputs.result w0 w1 t1 c.in_ok-send_outputs.was (sends_same c.send_outputs.result w0 w1 _ t1 e1 c.send_outputs.ensures)) (sends_from c.send_fulls.result w1 w2 t2 c.in_ok-send_fulls.was (sends_same c.send_fulls.result w1 w2 _ t2 e2 c.send_fulls.ensures))) (sends_same c.send_meaning_end.result w2 w3 _ t3 e3 c.send_meaning_end.ensures)
+    sends_more c.send_meaning_end.result w0 w2 w3 (t1 ++ t2) t3
+    (appends_then w0 w1 w2 t1 t2 (sends_from c.send_outputs.result w0 w1 t1 c.in_ok-send_outputs.was
+    (sends_same c.send_outputs.result w0 w1 _ t1 e1 c.send_outputs.ensures)) (sends_from c.send_fulls.result w1 w2 t2 c.in_ok-send_fulls.was
+    (sends_same c.send_fulls.result w1 w2 _ t2 e2 c.send_fulls.ensures))) (sends_same c.send_meaning_end.result w2 w3 _ t3 e3 c.send_meaning_end.ensures)

@@ -17,7 +17,9 @@ returns-in_err-send_outputs g c =
     let w0 : Option (List ℕ) = g.W.Write.contents c.args.writer.now in
     let w1 : Option (List ℕ) = g.W.Write.contents c.send_outputs.new.writer in
     let e1 = ap outputs_text (c.as_slice.ensures.value ∙ ap (λ (r : Report). r.outputs) c.report.view_is) in
-    rw p.1 (sends_less p.0 w0 w1 ((t1 ++ t2) ++ t3) t4 (sends_less p.0 w0 w1 (t1 ++ t2) t3 (sends_less p.0 w0 w1 t1 t2 (sends_other c.in_err-send_outputs.field-0.0 p.0 w0 w1 t1 (sends_same (Err c.in_err-send_outputs.field-0.0) w0 w1 _ t1 e1 c.in_err-send_outputs.ensures)))))
+    rw p.1 (sends_less p.0 w0 w1 ((t1 ++ t2) ++ t3) t4
+    (sends_less p.0 w0 w1 (t1 ++ t2) t3 (sends_less p.0 w0 w1 t1 t2 (sends_other c.in_err-send_outputs.field-0.0 p.0 w0 w1 t1
+    (sends_same (Err c.in_err-send_outputs.field-0.0) w0 w1 _ t1 e1 c.in_err-send_outputs.ensures)))))
 
 pub returns-in_err-send_cells : goal.returns-in_err-send_cells
 returns-in_err-send_cells g c =
@@ -30,8 +32,12 @@ returns-in_err-send_cells g c =
     let w1 : Option (List ℕ) = g.W.Write.contents c.send_outputs.new.writer in
     let w2 : Option (List ℕ) = g.W.Write.contents c.send_cells.new.writer in
     let e1 = ap outputs_text (c.as_slice.ensures.value ∙ ap (λ (r : Report). r.outputs) c.report.view_is) in
-    let e2 = ap (λ (l : Arrays). flat_map (cell_line l) c.deref-2.result.now) (c.deref.ensures.value ∙ ap (λ (h : Graph). h.arrays) c.graph.view_is) ∙ ap (flat_map (cell_line c.args.graph.now.arrays)) (c.deref-2.ensures.value ∙ ap (λ (r : Report). r.cells) c.report.view_is) in
-    rw p.1 (sends_less p.0 w0 w2 ((t1 ++ t2) ++ t3) t4 (sends_less p.0 w0 w2 (t1 ++ t2) t3 (sends_more (Err p.0) w0 w1 w2 t1 t2 (sends_from c.send_outputs.result w0 w1 t1 c.in_ok-send_outputs.was (sends_same c.send_outputs.result w0 w1 _ t1 e1 c.send_outputs.ensures)) (sends_other c.in_err-send_cells.field-0.0 p.0 w1 w2 t2 (sends_same (Err c.in_err-send_cells.field-0.0) w1 w2 _ t2 e2 c.in_err-send_cells.ensures)))))
+    let e2 = ap (λ (l : Arrays). flat_map (cell_line l) c.deref-2.result.now) (c.deref.ensures.value ∙ ap (λ (h : Graph). h.arrays) c.graph.view_is)
+    ∙ ap (flat_map (cell_line c.args.graph.now.arrays)) (c.deref-2.ensures.value ∙ ap (λ (r : Report). r.cells) c.report.view_is) in
+    rw p.1 (sends_less p.0 w0 w2 ((t1 ++ t2) ++ t3) t4
+    (sends_less p.0 w0 w2 (t1 ++ t2) t3 (sends_more (Err p.0) w0 w1 w2 t1 t2 (sends_from c.send_outputs.result w0 w1 t1 c.in_ok-send_outputs.was
+    (sends_same c.send_outputs.result w0 w1 _ t1 e1 c.send_outputs.ensures)) (sends_other c.in_err-send_cells.field-0.0 p.0 w1 w2 t2
+    (sends_same (Err c.in_err-send_cells.field-0.0) w1 w2 _ t2 e2 c.in_err-send_cells.ensures)))))
 
 pub returns-in_err-send_counts : goal.returns-in_err-send_counts
 returns-in_err-send_counts g c =
@@ -45,8 +51,13 @@ returns-in_err-send_counts g c =
     let w2 : Option (List ℕ) = g.W.Write.contents c.send_cells.new.writer in
     let w3 : Option (List ℕ) = g.W.Write.contents c.send_counts.new.writer in
     let e1 = ap outputs_text (c.as_slice.ensures.value ∙ ap (λ (r : Report). r.outputs) c.report.view_is) in
-    let e2 = ap (λ (l : Arrays). flat_map (cell_line l) c.deref-2.result.now) (c.deref.ensures.value ∙ ap (λ (h : Graph). h.arrays) c.graph.view_is) ∙ ap (flat_map (cell_line c.args.graph.now.arrays)) (c.deref-2.ensures.value ∙ ap (λ (r : Report). r.cells) c.report.view_is) in
-    rw p.1 (sends_less p.0 w0 w3 ((t1 ++ t2) ++ t3) t4 (sends_more (Err p.0) w0 w2 w3 (t1 ++ t2) t3 (appends_then w0 w1 w2 t1 t2 (sends_from c.send_outputs.result w0 w1 t1 c.in_ok-send_outputs.was (sends_same c.send_outputs.result w0 w1 _ t1 e1 c.send_outputs.ensures)) (sends_from c.send_cells.result w1 w2 t2 c.in_ok-send_cells.was (sends_same c.send_cells.result w1 w2 _ t2 e2 c.send_cells.ensures))) (sends_other c.in_err-send_counts.field-0.0 p.0 w2 w3 t3 c.in_err-send_counts.ensures)))
+    let e2 = ap (λ (l : Arrays). flat_map (cell_line l) c.deref-2.result.now) (c.deref.ensures.value ∙ ap (λ (h : Graph). h.arrays) c.graph.view_is)
+    ∙ ap (flat_map (cell_line c.args.graph.now.arrays)) (c.deref-2.ensures.value ∙ ap (λ (r : Report). r.cells) c.report.view_is) in
+    rw p.1 (sends_less p.0 w0 w3 ((t1 ++ t2) ++ t3) t4
+    (sends_more (Err p.0) w0 w2 w3 (t1 ++ t2) t3 (appends_then w0 w1 w2 t1 t2 (sends_from c.send_outputs.result w0 w1 t1 c.in_ok-send_outputs.was
+    (sends_same c.send_outputs.result w0 w1 _ t1 e1 c.send_outputs.ensures)) (sends_from c.send_cells.result w1 w2 t2 c.in_ok-send_cells.was
+    (sends_same c.send_cells.result w1 w2 _ t2 e2 c.send_cells.ensures))) (sends_other c.in_err-send_counts.field-0.0 p.0 w2 w3 t3
+    c.in_err-send_counts.ensures)))
 
 pub returns : goal.returns
 returns g c =
@@ -60,6 +71,12 @@ returns g c =
     let w3 : Option (List ℕ) = g.W.Write.contents c.send_counts.new.writer in
     let w4 : Option (List ℕ) = g.W.Write.contents c.send_end.new.writer in
     let e1 = ap outputs_text (c.as_slice.ensures.value ∙ ap (λ (r : Report). r.outputs) c.report.view_is) in
-    let e2 = ap (λ (l : Arrays). flat_map (cell_line l) c.deref-2.result.now) (c.deref.ensures.value ∙ ap (λ (h : Graph). h.arrays) c.graph.view_is) ∙ ap (flat_map (cell_line c.args.graph.now.arrays)) (c.deref-2.ensures.value ∙ ap (λ (r : Report). r.cells) c.report.view_is) in
-    let e4 = ap (λ (l : Arrays). end_line l c.report.inside.end) (c.deref-3.ensures.value ∙ ap (λ (h : Graph). h.arrays) c.graph.view_is) ∙ ap (end_line c.args.graph.now.arrays) (ap (λ (r : Report). r.end) c.report.view_is) in
-    sends_more c.send_end.result w0 w3 w4 ((t1 ++ t2) ++ t3) t4 (appends_then w0 w2 w3 (t1 ++ t2) t3 (appends_then w0 w1 w2 t1 t2 (sends_from c.send_outputs.result w0 w1 t1 c.in_ok-send_outputs.was (sends_same c.send_outputs.result w0 w1 _ t1 e1 c.send_outputs.ensures)) (sends_from c.send_cells.result w1 w2 t2 c.in_ok-send_cells.was (sends_same c.send_cells.result w1 w2 _ t2 e2 c.send_cells.ensures))) (sends_from c.send_counts.result w2 w3 t3 c.in_ok-send_counts.was c.send_counts.ensures)) (sends_same c.send_end.result w3 w4 _ t4 e4 c.send_end.ensures)
+    let e2 = ap (λ (l : Arrays). flat_map (cell_line l) c.deref-2.result.now) (c.deref.ensures.value ∙ ap (λ (h : Graph). h.arrays) c.graph.view_is)
+    ∙ ap (flat_map (cell_line c.args.graph.now.arrays)) (c.deref-2.ensures.value ∙ ap (λ (r : Report). r.cells) c.report.view_is) in
+    let e4 = ap (λ (l : Arrays). end_line l c.report.inside.end) (c.deref-3.ensures.value ∙ ap (λ (h : Graph). h.arrays) c.graph.view_is)
+    ∙ ap (end_line c.args.graph.now.arrays) (ap (λ (r : Report). r.end) c.report.view_is) in
+    sends_more c.send_end.result w0 w3 w4 ((t1 ++ t2) ++ t3) t4
+    (appends_then w0 w2 w3 (t1 ++ t2) t3 (appends_then w0 w1 w2 t1 t2 (sends_from c.send_outputs.result w0 w1 t1 c.in_ok-send_outputs.was
+    (sends_same c.send_outputs.result w0 w1 _ t1 e1 c.send_outputs.ensures)) (sends_from c.send_cells.result w1 w2 t2 c.in_ok-send_cells.was
+    (sends_same c.send_cells.result w1 w2 _ t2 e2 c.send_cells.ensures))) (sends_from c.send_counts.result w2 w3 t3 c.in_ok-send_counts.was
+    c.send_counts.ensures)) (sends_same c.send_end.result w3 w4 _ t4 e4 c.send_end.ensures)

@@ -17,11 +17,13 @@ returns-clause-exact g c =
     = c.in_ok-array_lengths.ensures ∙ ap (map array_length) (c.deref.ensures.value ∙ arrays) in
     let resolved : c.in_ok-resolve_blocks.field-0.items ≡ map (resolved_named y) y.blocks
     = c.in_ok-resolve_blocks.ensures ∙ ap (map (resolved_named y)) (c.deref-2.ensures.value ∙ blocks) in
-    let mk : ℕ → List ℕ → List (Block ℕ) → ℕ → Flow = λ (v : ℕ) (xs : List ℕ) (bs : List (Block ℕ)) (m : ℕ). record { version = v; arrays = xs; blocks = bs; main = m } in
+    let mk : ℕ → List ℕ → List (Block ℕ) → ℕ → Flow = λ (v : ℕ) (xs : List ℕ) (bs : List (Block ℕ)) (m : ℕ). record
+    { version = v; arrays = xs; blocks = bs; main = m } in
     ap (λ v. mk v c.in_ok-array_lengths.field-0.items c.in_ok-resolve_blocks.field-0.items c.main_place.result) version
     ∙ ap (λ xs. mk y.version xs c.in_ok-resolve_blocks.field-0.items c.main_place.result) lengths
     ∙ ap (λ bs. mk y.version (map array_length y.arrays) bs c.main_place.result) resolved
     ∙ ap (mk y.version (map array_length y.arrays) (map (resolved_named y) y.blocks)) c.main_place.ensures
 
 pub returns-clause-small : goal.returns-clause-small
-returns-clause-small g c = subst IsSmallFlow (sym (returns-clause-exact g c)) (small_flow c.args.checked.now c.graph-graph.ensures.well c.graph-graph.ensures.limits)
+returns-clause-small g c = subst IsSmallFlow (sym (returns-clause-exact g c)) (small_flow c.args.checked.now c.graph-graph.ensures.well
+    c.graph-graph.ensures.limits)

@@ -16,7 +16,8 @@ loop-literal-preserved g c =
     let rest = c.next.new.self in
     let done = c.loop-literal.literals.items in
     let more = c.push.new.self.items in
-    let next : c.loop-literal.literal-iterator ≡ x ∷ rest = rest_more (λ y. y) c.loop-literal.literal-iterator rest c.next.result x c.in-Some.is c.next.ensures.steps in
+    let next : c.loop-literal.literal-iterator ≡ x ∷ rest = rest_more (λ y. y) c.loop-literal.literal-iterator rest c.next.result x c.in-Some.is
+    c.next.ensures.steps in
     let fits : FitsSigned w64 x = (let h = rw c.in-Some.is at c.next.type_inv in search (rules, h)) in
     let made : more ≡ done ++ x ∷ [] = c.in_ok-push.ensures.items ∙ ap (λ (z : ℤ). done ++ z ∷ []) (to_z-of_z w64 x fits) in (
       ap (λ zs. zs ++ rest) made ∙ append_assoc done (x ∷ []) rest ∙ ap (λ zs. done ++ zs) (sym next) ∙ c.loop-literal.invariant.0,
@@ -30,7 +31,9 @@ append_nil (z ∷ zs) = ap (λ ys. z ∷ ys) (append_nil zs)
 pub returns-clause-ascending : goal.returns-clause-ascending
 returns-clause-ascending g c =
     let done = c.loop-literal.literals.items in
-    let rest : c.loop-literal.literal-iterator ≡ [] = rest_all (λ y. y) c.loop-literal.literal-iterator c.next.new.self c.next.result c.in-None.is c.next.ensures.steps in
+    let rest : c.loop-literal.literal-iterator ≡ [] = rest_all (λ y. y) c.loop-literal.literal-iterator c.next.new.self c.next.result c.in-None.is
+    c.next.ensures.steps in
     let all : done ≡ table_of c.args.blocks.now = sym (append_nil done) ∙ ap (λ zs. done ++ zs) (sym rest) ∙ c.loop-literal.invariant.0 in
-    let sorted : IsStrictlySortedBy int_cmp (table_of c.args.blocks.now) = subst (IsStrictlySortedBy int_cmp) c.in_ok-table.ensures.table c.len.ensures.ordered in
+    let sorted : IsStrictlySortedBy int_cmp (table_of c.args.blocks.now) = subst (IsStrictlySortedBy int_cmp) c.in_ok-table.ensures.table
+    c.len.ensures.ordered in
     ascending done (subst (IsStrictlySortedBy int_cmp) (sym all) sorted)

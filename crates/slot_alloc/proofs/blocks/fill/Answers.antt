@@ -10,7 +10,8 @@ returns-in-None-clause-refused g c = (
   refl,
   (
     c.loop-holder.slots.items,
-    full_by c.args.table.now c.args.holders c.loop-holder._holder c.loop-holder.slots.items c.deref.result.now c.deref.ensures.value c.loop-holder.invariant.0 c.loop-holder.invariant.1 c.loop-holder-test.true c.in-None.ensures.none,
+    full_by c.args.table.now c.args.holders c.loop-holder._holder c.loop-holder.slots.items c.deref.result.now c.deref.ensures.value
+        c.loop-holder.invariant.0 c.loop-holder.invariant.1 c.loop-holder-test.true c.in-None.ensures.none,
   ),
 )
 

@@ -9,7 +9,8 @@ returns-in-Err g c =
     let reader = c.loop-token.reader in
     let tokens = c.args.tokens.now in
     let h : c.loop-token.token-index < length tokens = omega arith in
-    subst (IsParseFault c.args.text.now tokens) (sym c.refused_at.ensures) (reported c.args.text.now tokens _ (stops c.args.text.now tokens c.loop-token.token-index _ reader.names.numbers reader.names.table.items
+    subst (IsParseFault c.args.text.now tokens) (sym c.refused_at.ensures)
+    (reported c.args.text.now tokens _ (stops c.args.text.now tokens c.loop-token.token-index _ reader.names.numbers reader.names.table.items
     reader.parser.stack.items reader.parser.words.items
     c.in-Err.stopped.kind h (same_read tokens c.loop-token.token-index _ _ h) c.loop-token.invariant c.in-Err.ensures))
 

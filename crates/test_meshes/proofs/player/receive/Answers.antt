@@ -6,8 +6,16 @@ use Rattle.test_meshes.proofs.Held.{has_more}
 use Rattle.test_meshes.proofs.player.receive.Goals as goal
 
 pub pass_on-requires-clause-at : goal.pass_on-requires-clause-at
-pass_on-requires-clause-at c = let r = c.requires in let e = c.in-Some.ensures.some.0 in
-    (ap (λ (s : SeatView). s.mesh) e ∙ r.0.0, ap (λ (s : SeatView). s.joined) e ∙ r.0.1, r.0.2, r.0.3, r.0.4, r.0.5, created_same _ _ _ _ (ap (λ (s : SeatView). s.own.deeds) e) refl r.0.6)
+pass_on-requires-clause-at c = let r = c.requires in let e = c.in-Some.ensures.some.0 in (
+  ap (λ (s : SeatView). s.mesh) e ∙ r.0.0,
+  ap (λ (s : SeatView). s.joined) e ∙ r.0.1,
+  r.0.2,
+  r.0.3,
+  r.0.4,
+  r.0.5,
+  created_same _ _ _ _
+      (ap (λ (s : SeatView). s.own.deeds) e) refl r.0.6,
+)
 
 pub pass_on-requires-clause-held : goal.pass_on-requires-clause-held
 pass_on-requires-clause-held c = let e = c.in-Some.ensures.some.0 in
@@ -17,7 +25,16 @@ pass_on-requires-clause-held c = let e = c.in-Some.ensures.some.0 in
 
 pub returns-in-None : goal.returns-in-None
 returns-in-None c = let r = c.requires in let e = c.in-None.ensures.none in (
-  (ap (λ (s : SeatView). s.mesh) e ∙ r.0.0, ap (λ (s : SeatView). s.joined) e ∙ r.0.1, r.0.2, r.0.3, r.0.4, r.0.5, created_same _ _ _ _ (ap (λ (s : SeatView). s.own.deeds) e) refl r.0.6),
+  (
+    ap (λ (s : SeatView). s.mesh) e ∙ r.0.0,
+    ap (λ (s : SeatView). s.joined) e ∙ r.0.1,
+    r.0.2,
+    r.0.3,
+    r.0.4,
+    r.0.5,
+    created_same _ _ _ _
+        (ap (λ (s : SeatView). s.own.deeds) e) refl r.0.6,
+  ),
   subst (λ (z : List Token). Has z c.args.p.now.kept.items) (sym (ap (λ (s : SeatView). s.own.held) e)) r.1,
   r.2,
 )

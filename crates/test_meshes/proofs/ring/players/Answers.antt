@@ -12,7 +12,8 @@ use Rattle.test_meshes.proofs.ring.players.Goals as goal
 pub new-requires-clause-seat : goal.new-requires-clause-seat
 new-requires-clause-seat c =
     let is : c.loop-seat.seats.items ≡ c.pop.new.self.items ++ c.in-Some.seat ∷ [] = search rules in
-    (popped_fresh c.args.mesh.now c.pop.new.self.items c.loop-seat.seats.items c.in-Some.seat is c.loop-seat.invariant.1).1 ∙ ap (fresh_seat c.args.mesh.now) (search rules)
+    (popped_fresh c.args.mesh.now c.pop.new.self.items c.loop-seat.seats.items c.in-Some.seat is c.loop-seat.invariant.1).1
+    ∙ ap (fresh_seat c.args.mesh.now) (search rules)
 
 pub loop-seat-preserved : goal.loop-seat-preserved
 loop-seat-preserved c =
@@ -23,5 +24,6 @@ loop-seat-preserved c =
     let P : CachePadded Player → Type 0 = λ (p : CachePadded Player). IsPlaying c.args.mesh.now (padded_value p) in (
       omega arith,
       (popped_fresh c.args.mesh.now c.pop.new.self.items c.loop-seat.seats.items c.in-Some.seat is c.loop-seat.invariant.1).0,
-      subst (All P) (sym items) (All-push P c.loop-seat.all.items c.new-in-Some.result c.loop-seat.invariant.2 (subst (IsPlaying c.args.mesh.now) (sym c.new-in-Some.ensures) c.in_ok-player.ensures)),
+      subst (All P) (sym items) (All-push P c.loop-seat.all.items c.new-in-Some.result c.loop-seat.invariant.2
+          (subst (IsPlaying c.args.mesh.now) (sym c.new-in-Some.ensures) c.in_ok-player.ensures)),
     )

@@ -13,7 +13,8 @@ returns-in_err-send_frame g c =
     let t3 : List ℕ = slice_deed c.args.to.now c.args.deed in
     let w0 : Option (List ℕ) = g.W.Write.contents c.args.writer.now in
     let w1 : Option (List ℕ) = g.W.Write.contents c.send_frame.new.writer in
-    rw p.1 (sends_less p.0 w0 w1 (t1 ++ t2) t3 (sends_less p.0 w0 w1 t1 t2 (sends_other c.in_err-send_frame.field-0.0 p.0 w0 w1 t1 c.in_err-send_frame.ensures)))
+    rw p.1 (sends_less p.0 w0 w1 (t1 ++ t2) t3
+    (sends_less p.0 w0 w1 t1 t2 (sends_other c.in_err-send_frame.field-0.0 p.0 w0 w1 t1 c.in_err-send_frame.ensures)))
 
 pub returns-in_err-send_at : goal.returns-in_err-send_at
 returns-in_err-send_at g c =
@@ -24,7 +25,8 @@ returns-in_err-send_at g c =
     let w0 : Option (List ℕ) = g.W.Write.contents c.args.writer.now in
     let w1 : Option (List ℕ) = g.W.Write.contents c.send_frame.new.writer in
     let w2 : Option (List ℕ) = g.W.Write.contents c.send_at.new.writer in
-    rw p.1 (sends_less p.0 w0 w2 (t1 ++ t2) t3 (sends_more (Err p.0) w0 w1 w2 t1 t2 (sends_from c.send_frame.result w0 w1 t1 c.in_ok-send_frame.was c.send_frame.ensures) (sends_other c.in_err-send_at.field-0.0 p.0 w1 w2 t2 c.in_err-send_at.ensures)))
+    rw p.1 (sends_less p.0 w0 w2 (t1 ++ t2) t3 (sends_more (Err p.0) w0 w1 w2 t1 t2 (sends_from c.send_frame.result w0 w1 t1 c.in_ok-send_frame.was
+    c.send_frame.ensures) (sends_other c.in_err-send_at.field-0.0 p.0 w1 w2 t2 c.in_err-send_at.ensures)))
 
 pub returns : goal.returns
 returns g c =
@@ -35,4 +37,6 @@ returns g c =
     let w1 : Option (List ℕ) = g.W.Write.contents c.send_frame.new.writer in
     let w2 : Option (List ℕ) = g.W.Write.contents c.send_at.new.writer in
     let w3 : Option (List ℕ) = g.W.Write.contents c.send_doing.new.writer in
-    sends_more c.send_doing.result w0 w2 w3 (t1 ++ t2) t3 (appends_then w0 w1 w2 t1 t2 (sends_from c.send_frame.result w0 w1 t1 c.in_ok-send_frame.was c.send_frame.ensures) (sends_from c.send_at.result w1 w2 t2 c.in_ok-send_at.was c.send_at.ensures)) c.send_doing.ensures
+    sends_more c.send_doing.result w0 w2 w3 (t1 ++ t2) t3
+    (appends_then w0 w1 w2 t1 t2 (sends_from c.send_frame.result w0 w1 t1 c.in_ok-send_frame.was c.send_frame.ensures)
+    (sends_from c.send_at.result w1 w2 t2 c.in_ok-send_at.was c.send_at.ensures)) c.send_doing.ensures

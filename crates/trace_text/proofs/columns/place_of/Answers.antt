@@ -12,7 +12,8 @@ pub returns-then-number-view : goal.returns-then-number-view
 returns-then-number-view c =
     let l = c.loop-block in
     let blocks : List CodeBlock = c.args.object.now.code.program.blocks in
-    let s = seen (block_shown (first_of c.args.object.now.code.program l.block)) (slice_get blocks l.block) c.in-Some.view (sym c.block.ensures ∙ c.in-Some.is) in
+    let s = seen (block_shown (first_of c.args.object.now.code.program l.block)) (slice_get blocks l.block) c.in-Some.view (sym c.block.ensures
+    ∙ c.in-Some.is) in
     let long : c.in-Some.view.instrs ≡ length (s.0).instrs = ap (λ (v : BlockView). v.instrs) s.2 in
     let lt : l.number < length (s.0).instrs = omega (arith, long, c.if-number-view.true) in
     let is : nat_lt l.number (length (s.0).instrs) ≡ true = grind (arith, nat_tests) in
@@ -22,7 +23,8 @@ pub loop-block-preserved : goal.loop-block-preserved
 loop-block-preserved c =
     let l = c.loop-block in
     let blocks : List CodeBlock = c.args.object.now.code.program.blocks in
-    let s = seen (block_shown (first_of c.args.object.now.code.program l.block)) (slice_get blocks l.block) c.in-Some.view (sym c.block.ensures ∙ c.in-Some.is) in
+    let s = seen (block_shown (first_of c.args.object.now.code.program l.block)) (slice_get blocks l.block) c.in-Some.view (sym c.block.ensures
+    ∙ c.in-Some.is) in
     let long : c.in-Some.view.instrs ≡ length (s.0).instrs = ap (λ (v : BlockView). v.instrs) s.2 in
     let le : length (s.0).instrs ≤ l.number = omega (arith, long, c.if-number-view.false) in
     let is : nat_lt l.number (length (s.0).instrs) ≡ false = grind (arith, nat_tests) in

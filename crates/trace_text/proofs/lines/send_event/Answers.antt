@@ -15,7 +15,9 @@ returns-in_err-send_head g c =
     let t5 : List ℕ = 10 ∷ [] in
     let w0 : Option (List ℕ) = g.W.Write.contents c.args.writer.now in
     let w1 : Option (List ℕ) = g.W.Write.contents c.send_head.new.writer in
-    rw p.1 (sends_less p.0 w0 w1 (((t1 ++ t2) ++ t3) ++ t4) t5 (sends_less p.0 w0 w1 ((t1 ++ t2) ++ t3) t4 (sends_less p.0 w0 w1 (t1 ++ t2) t3 (sends_less p.0 w0 w1 t1 t2 (sends_other c.in_err-send_head.field-0.0 p.0 w0 w1 t1 c.in_err-send_head.ensures)))))
+    rw p.1 (sends_less p.0 w0 w1 (((t1 ++ t2) ++ t3) ++ t4) t5
+    (sends_less p.0 w0 w1 ((t1 ++ t2) ++ t3) t4
+    (sends_less p.0 w0 w1 (t1 ++ t2) t3 (sends_less p.0 w0 w1 t1 t2 (sends_other c.in_err-send_head.field-0.0 p.0 w0 w1 t1 c.in_err-send_head.ensures)))))
 
 pub returns-in_err-send_place : goal.returns-in_err-send_place
 returns-in_err-send_place g c =
@@ -28,7 +30,10 @@ returns-in_err-send_place g c =
     let w0 : Option (List ℕ) = g.W.Write.contents c.args.writer.now in
     let w1 : Option (List ℕ) = g.W.Write.contents c.send_head.new.writer in
     let w2 : Option (List ℕ) = g.W.Write.contents c.send_place.new.writer in
-    rw p.1 (sends_less p.0 w0 w2 (((t1 ++ t2) ++ t3) ++ t4) t5 (sends_less p.0 w0 w2 ((t1 ++ t2) ++ t3) t4 (sends_less p.0 w0 w2 (t1 ++ t2) t3 (sends_more (Err p.0) w0 w1 w2 t1 t2 (sends_from c.send_head.result w0 w1 t1 c.in_ok-send_head.was c.send_head.ensures) (sends_other c.in_err-send_place.field-0.0 p.0 w1 w2 t2 c.in_err-send_place.ensures)))))
+    rw p.1 (sends_less p.0 w0 w2 (((t1 ++ t2) ++ t3) ++ t4) t5
+    (sends_less p.0 w0 w2 ((t1 ++ t2) ++ t3) t4
+    (sends_less p.0 w0 w2 (t1 ++ t2) t3 (sends_more (Err p.0) w0 w1 w2 t1 t2 (sends_from c.send_head.result w0 w1 t1 c.in_ok-send_head.was
+    c.send_head.ensures) (sends_other c.in_err-send_place.field-0.0 p.0 w1 w2 t2 c.in_err-send_place.ensures)))))
 
 pub returns-in_err-send : goal.returns-in_err-send
 returns-in_err-send g c =
@@ -42,7 +47,12 @@ returns-in_err-send g c =
     let w1 : Option (List ℕ) = g.W.Write.contents c.send_head.new.writer in
     let w2 : Option (List ℕ) = g.W.Write.contents c.send_place.new.writer in
     let w3 : Option (List ℕ) = g.W.Write.contents c.send.new.writer in
-    rw p.1 (sends_less p.0 w0 w3 (((t1 ++ t2) ++ t3) ++ t4) t5 (sends_less p.0 w0 w3 ((t1 ++ t2) ++ t3) t4 (sends_more (Err p.0) w0 w2 w3 (t1 ++ t2) t3 (appends_then w0 w1 w2 t1 t2 (sends_from c.send_head.result w0 w1 t1 c.in_ok-send_head.was c.send_head.ensures) (sends_from c.send_place.result w1 w2 t2 c.in_ok-send_place.was c.send_place.ensures)) (sends_other c.in_err-send.field-0.0 p.0 w2 w3 t3 c.in_err-send.ensures))))
+    rw p.1 (sends_less p.0 w0 w3 (((t1 ++ t2) ++ t3) ++ t4) t5
+    (sends_less p.0 w0 w3 ((t1 ++ t2) ++ t3) t4
+    (sends_more (Err p.0) w0 w2 w3 (t1 ++ t2) t3
+    (appends_then w0 w1 w2 t1 t2 (sends_from c.send_head.result w0 w1 t1 c.in_ok-send_head.was c.send_head.ensures)
+    (sends_from c.send_place.result w1 w2 t2 c.in_ok-send_place.was c.send_place.ensures)) (sends_other c.in_err-send.field-0.0 p.0 w2 w3 t3
+    c.in_err-send.ensures))))
 
 pub returns-in_err-send_carried : goal.returns-in_err-send_carried
 returns-in_err-send_carried g c =
@@ -57,7 +67,11 @@ returns-in_err-send_carried g c =
     let w2 : Option (List ℕ) = g.W.Write.contents c.send_place.new.writer in
     let w3 : Option (List ℕ) = g.W.Write.contents c.send.new.writer in
     let w4 : Option (List ℕ) = g.W.Write.contents c.send_carried.new.writer in
-    rw p.1 (sends_less p.0 w0 w4 (((t1 ++ t2) ++ t3) ++ t4) t5 (sends_more (Err p.0) w0 w3 w4 ((t1 ++ t2) ++ t3) t4 (appends_then w0 w2 w3 (t1 ++ t2) t3 (appends_then w0 w1 w2 t1 t2 (sends_from c.send_head.result w0 w1 t1 c.in_ok-send_head.was c.send_head.ensures) (sends_from c.send_place.result w1 w2 t2 c.in_ok-send_place.was c.send_place.ensures)) (sends_from c.send.result w2 w3 t3 c.in_ok-send.was c.send.ensures)) (sends_other c.in_err-send_carried.field-0.0 p.0 w3 w4 t4 c.in_err-send_carried.ensures)))
+    rw p.1 (sends_less p.0 w0 w4 (((t1 ++ t2) ++ t3) ++ t4) t5 (sends_more (Err p.0) w0 w3 w4 ((t1 ++ t2) ++ t3) t4
+    (appends_then w0 w2 w3 (t1 ++ t2) t3 (appends_then w0 w1 w2 t1 t2 (sends_from c.send_head.result w0 w1 t1 c.in_ok-send_head.was
+    c.send_head.ensures) (sends_from c.send_place.result w1 w2 t2 c.in_ok-send_place.was c.send_place.ensures))
+    (sends_from c.send.result w2 w3 t3 c.in_ok-send.was c.send.ensures)) (sends_other c.in_err-send_carried.field-0.0 p.0 w3 w4 t4
+    c.in_err-send_carried.ensures)))
 
 pub returns : goal.returns
 returns g c =
@@ -72,4 +86,9 @@ returns g c =
     let w3 : Option (List ℕ) = g.W.Write.contents c.send.new.writer in
     let w4 : Option (List ℕ) = g.W.Write.contents c.send_carried.new.writer in
     let w5 : Option (List ℕ) = g.W.Write.contents c.send-2.new.writer in
-    sends_more c.send-2.result w0 w4 w5 (((t1 ++ t2) ++ t3) ++ t4) t5 (appends_then w0 w3 w4 ((t1 ++ t2) ++ t3) t4 (appends_then w0 w2 w3 (t1 ++ t2) t3 (appends_then w0 w1 w2 t1 t2 (sends_from c.send_head.result w0 w1 t1 c.in_ok-send_head.was c.send_head.ensures) (sends_from c.send_place.result w1 w2 t2 c.in_ok-send_place.was c.send_place.ensures)) (sends_from c.send.result w2 w3 t3 c.in_ok-send.was c.send.ensures)) (sends_from c.send_carried.result w3 w4 t4 c.in_ok-send_carried.was c.send_carried.ensures)) c.send-2.ensures
+    sends_more c.send-2.result w0 w4 w5 (((t1 ++ t2) ++ t3) ++ t4) t5
+    (appends_then w0 w3 w4 ((t1 ++ t2) ++ t3) t4
+    (appends_then w0 w2 w3 (t1 ++ t2) t3 (appends_then w0 w1 w2 t1 t2 (sends_from c.send_head.result w0 w1 t1 c.in_ok-send_head.was
+    c.send_head.ensures) (sends_from c.send_place.result w1 w2 t2 c.in_ok-send_place.was c.send_place.ensures))
+    (sends_from c.send.result w2 w3 t3 c.in_ok-send.was c.send.ensures)) (sends_from c.send_carried.result w3 w4 t4 c.in_ok-send_carried.was
+    c.send_carried.ensures)) c.send-2.ensures

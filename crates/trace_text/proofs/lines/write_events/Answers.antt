@@ -12,8 +12,10 @@ returns-in_default g c =
     let l = c.loop-place in
     let text = event_line c.args.object.now.code.program in
     let found = c.in_default.ensures.lookup in
-    none_left _ tt _ _ (paired text c.args.first c.args.events.now c.args.moments.now) (paired text (c.args.first + l.place) (drop l.place c.args.events.now) (drop l.place c.args.moments.now)) refl
-    (no_moment text (c.args.first + l.place) l.place (drop l.place c.args.events.now) c.args.moments.now (slice_get_past c.args.moments.now l.place found.3)) l.invariant
+    none_left _ tt _ _ (paired text c.args.first c.args.events.now c.args.moments.now)
+    (paired text (c.args.first + l.place) (drop l.place c.args.events.now) (drop l.place c.args.moments.now)) refl
+    (no_moment text (c.args.first + l.place) l.place (drop l.place c.args.events.now) c.args.moments.now
+    (slice_get_past c.args.moments.now l.place found.3)) l.invariant
 
 pub returns-in_err-send_event : goal.returns-in_err-send_event
 returns-in_err-send_event g c =
@@ -23,13 +25,18 @@ returns-in_err-send_event g c =
     let event = c.index-events-place.result in
     let moment = c.in-Some.moment.now in
     let found = c.in-Some.ensures.lookup in
-    let e : slice_get c.args.events.now l.place ≡ Some event = slice_get_read c.args.events.now _ l.place event refl c.loop-place-test.true c.index-events-place.is in
-    let f : slice_get c.args.moments.now l.place ≡ Some moment = slice_get-get_or c.args.moments.now l.place moment found.3.0 ∙ ap (λ n. Some n) (sym found.1) in
+    let e : slice_get c.args.events.now l.place ≡ Some event = slice_get_read c.args.events.now _ l.place event refl c.loop-place-test.true
+    c.index-events-place.is in
+    let f : slice_get c.args.moments.now l.place ≡ Some moment = slice_get-get_or c.args.moments.now l.place moment found.3.0
+    ∙ ap (λ n. Some n) (sym found.1) in
     let number : c.from.result + l.place ≡ c.args.first + l.place = omega (arith, c.from.ensures) in
-    rw p.1 (stopped p.0 _ _ _ (paired text c.args.first c.args.events.now c.args.moments.now) (paired text (c.args.first + l.place) (drop l.place c.args.events.now) (drop l.place c.args.moments.now))
-    (text (c.args.first + l.place) event moment) (paired text (c.args.first + (l.place + 1)) (drop (l.place + 1) c.args.events.now) (drop (l.place + 1) c.args.moments.now))
+    rw p.1 (stopped p.0 _ _ _ (paired text c.args.first c.args.events.now c.args.moments.now)
+    (paired text (c.args.first + l.place) (drop l.place c.args.events.now) (drop l.place c.args.moments.now))
+    (text (c.args.first + l.place) event moment) (paired text (c.args.first + (l.place + 1)) (drop (l.place + 1) c.args.events.now)
+    (drop (l.place + 1) c.args.moments.now))
     (next_pair text c.args.first l.place c.args.events.now c.args.moments.now event moment e f) l.invariant
-    (sends_same _ _ _ (text (c.from.result + l.place) event moment) (text (c.args.first + l.place) event moment) (ap (λ (k : ℕ). text k event moment) number) (sends_other c.in_err-send_event.field-0.0 p.0 _ _ _ c.in_err-send_event.ensures)))
+    (sends_same _ _ _ (text (c.from.result + l.place) event moment) (text (c.args.first + l.place) event moment)
+    (ap (λ (k : ℕ). text k event moment) number) (sends_other c.in_err-send_event.field-0.0 p.0 _ _ _ c.in_err-send_event.ensures)))
 
 pub loop-place-preserved : goal.loop-place-preserved
 loop-place-preserved g c =
@@ -38,17 +45,23 @@ loop-place-preserved g c =
     let event = c.index-events-place.result in
     let moment = c.in-Some.moment.now in
     let found = c.in-Some.ensures.lookup in
-    let e : slice_get c.args.events.now l.place ≡ Some event = slice_get_read c.args.events.now _ l.place event refl c.loop-place-test.true c.index-events-place.is in
-    let f : slice_get c.args.moments.now l.place ≡ Some moment = slice_get-get_or c.args.moments.now l.place moment found.3.0 ∙ ap (λ n. Some n) (sym found.1) in
+    let e : slice_get c.args.events.now l.place ≡ Some event = slice_get_read c.args.events.now _ l.place event refl c.loop-place-test.true
+    c.index-events-place.is in
+    let f : slice_get c.args.moments.now l.place ≡ Some moment = slice_get-get_or c.args.moments.now l.place moment found.3.0
+    ∙ ap (λ n. Some n) (sym found.1) in
     let number : c.from.result + l.place ≡ c.args.first + l.place = omega (arith, c.from.ensures) in
-    less_left _ _ _ (paired text c.args.first c.args.events.now c.args.moments.now) (paired text (c.args.first + l.place) (drop l.place c.args.events.now) (drop l.place c.args.moments.now))
-    (text (c.args.first + l.place) event moment) (paired text (c.args.first + (l.place + 1)) (drop (l.place + 1) c.args.events.now) (drop (l.place + 1) c.args.moments.now))
+    less_left _ _ _ (paired text c.args.first c.args.events.now c.args.moments.now)
+    (paired text (c.args.first + l.place) (drop l.place c.args.events.now) (drop l.place c.args.moments.now))
+    (text (c.args.first + l.place) event moment) (paired text (c.args.first + (l.place + 1)) (drop (l.place + 1) c.args.events.now)
+    (drop (l.place + 1) c.args.moments.now))
     (next_pair text c.args.first l.place c.args.events.now c.args.moments.now event moment e f) l.invariant
-    (sends_from _ _ _ _ c.in_ok-send_event.was (sends_same c.send_event.result _ _ (text (c.from.result + l.place) event moment) (text (c.args.first + l.place) event moment) (ap (λ (k : ℕ). text k event moment) number) c.send_event.ensures))
+    (sends_from _ _ _ _ c.in_ok-send_event.was (sends_same c.send_event.result _ _ (text (c.from.result + l.place) event moment)
+    (text (c.args.first + l.place) event moment) (ap (λ (k : ℕ). text k event moment) number) c.send_event.ensures))
 
 pub returns : goal.returns
 returns g c =
     let l = c.loop-place in
     let text = event_line c.args.object.now.code.program in
-    none_left _ tt _ _ (paired text c.args.first c.args.events.now c.args.moments.now) (paired text (c.args.first + l.place) (drop l.place c.args.events.now) (drop l.place c.args.moments.now)) refl
+    none_left _ tt _ _ (paired text c.args.first c.args.events.now c.args.moments.now)
+    (paired text (c.args.first + l.place) (drop l.place c.args.events.now) (drop l.place c.args.moments.now)) refl
     (no_event text (c.args.first + l.place) l.place c.args.events.now (drop l.place c.args.moments.now) c.loop-place-test.false) l.invariant

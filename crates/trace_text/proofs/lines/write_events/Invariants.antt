@@ -4,4 +4,5 @@ use Rattle.trace_text.proofs.Pairs.{IsLeft}
 use Rattle.trace_text.proofs.lines.write_events.Given as goal
 
 abbrev pub invariant-loop-place : goal.invariant-loop-place
-invariant-loop-place g l = IsLeft (g.W.Write.contents l.fn.writer) (g.W.Write.contents l.writer) (trace_text l.object.code.program l.first l.events l.moments) (trace_text l.object.code.program (l.first + l.place) (drop l.place l.events) (drop l.place l.moments))
+invariant-loop-place g l = IsLeft (g.W.Write.contents l.fn.writer) (g.W.Write.contents l.writer) (trace_text l.object.code.program l.first l.events
+    l.moments) (trace_text l.object.code.program (l.first + l.place) (drop l.place l.events) (drop l.place l.moments))

@@ -13,4 +13,5 @@ returns-then-frame-self g c =
 
 pub returns-else-frame-self : goal.returns-else-frame-self
 returns-else-frame-self g c =
-    le-ltb _ _ c.if-frame-self.false ∙ sym (flag_past c.self.inside.count c.self.inside.words.items c.args.frame c.if-frame-self.false) ∙ ap (λ flags. flag_at flags c.args.frame) c.self.view_is
+    le-ltb _ _ c.if-frame-self.false ∙ sym (flag_past c.self.inside.count c.self.inside.words.items c.args.frame c.if-frame-self.false)
+    ∙ ap (λ flags. flag_at flags c.args.frame) c.self.view_is

@@ -15,4 +15,5 @@ returns-in-None g c =
     let name = c.args.name.now in
     let graph = c.self.inside.graph in
     let found = c.in-None.ensures (block_names graph) c.self.invariant.1 in
-    place_none_count (λ (n : List ℕ × Block (List ℕ)). n.0) name graph.blocks _ c.block_count.ensures (sym found) ∙ ap (λ g. place_of name (block_names g)) c.self.view_is
+    place_none_count (λ (n : List ℕ × Block (List ℕ)). n.0) name graph.blocks _ c.block_count.ensures (sym found)
+    ∙ ap (λ g. place_of name (block_names g)) c.self.view_is

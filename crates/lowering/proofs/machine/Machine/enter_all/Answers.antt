@@ -10,5 +10,6 @@ returns-clause-entered g c = arm_enters c.args.self.now _ c.put_enters.new.self 
 pub returns-clause-values : goal.returns-clause-values
 returns-clause-values g c =
     let n : c.len.result ≡ length c.in_ok-taken.taken.items = search rules in
-    arm_values c.args.self.now _ c.args.arms.now (is_first c.args.side) c.args.at c.args.names.now c.in_ok-taken.taken.items c.in_ok-values.values.items c.len.result
+    arm_values c.args.self.now _ c.args.arms.now (is_first c.args.side) c.args.at c.args.names.now c.in_ok-taken.taken.items
+    c.in_ok-values.values.items c.len.result
     c.self.view_is c.in_ok-values.ensures n c.in_ok-taken.ensures

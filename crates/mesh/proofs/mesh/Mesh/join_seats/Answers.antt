@@ -8,7 +8,8 @@ use Rattle.mesh.proofs.mesh.Mesh.join_seats.Goals as goal
 
 pub joined-all-requires-clause-some : goal.joined-all-requires-clause-some
 joined-all-requires-clause-some g c =
-    let count : length c.args.seats.items ≡ c.args.self.now.elements = c.requires.0 in let some_element : 0 < c.self.inside.board.shared.key.elements = c.self.invariant.2 in
+    let count : length c.args.seats.items ≡ c.args.self.now.elements = c.requires.0
+    in let some_element : 0 < c.self.inside.board.shared.key.elements = c.self.invariant.2 in
     let same : c.self.inside.board.shared.key.elements ≡ c.args.self.now.elements = ap (λ (m : MeshId). m.elements) c.self.view_is in omega arith
 
 pub load-requires : goal.load-requires
@@ -36,6 +37,7 @@ returns-clause-no_more g c = let t = c.load.ensures.2 in
 
 pub returns-clause-stop : goal.returns-clause-stop
 returns-clause-stop g c = let t = c.load.ensures.2 in
-    stop_seen c.load.new.seat.table_id c.load.new.seat.me.0 (subst HasFirst (ap (λ m. m.0.parts) (sym t.1)) c.all.invariant.parts) c.args.self.now c.args.seats.items c.requires
+    stop_seen c.load.new.seat.table_id c.load.new.seat.me.0 (subst HasFirst (ap (λ m. m.0.parts) (sym t.1)) c.all.invariant.parts) c.args.self.now
+    c.args.seats.items c.requires
     (sym (ap (λ m. m.0.elements) t.1 ∙ (ap (λ (s : SeatView). s.mesh.elements) c.all.view_is ∙ ap (λ (m : MeshId). m.elements) c.joined-all.ensures.mesh)))
     (ap (λ m. accounts (seat_view c.load.new.seat.table_id m.0)) t.1 ∙ (ap accounts c.all.view_is ∙ c.joined-all.ensures.accounts)) t.5

@@ -34,7 +34,8 @@ loop-seat-preserved g c =
       p.0,
       inv.2 ∙ (owns_more c.pop-in-loop-seat.new.self.items c.loop-seat.seats.items c.in-Some-pop.seat (accounts c.loop-seat.all) is p.2
           ∙ ap (λ (z : List Account). map (λ (s : SeatView). s.own) c.pop-in-loop-seat.new.self.items ++ z)
-          (sym (joins_accounts c.join_seat.new.seat.table_id c.seat.inside.place.table_id c.all.inside.place.table_id c.seat.inside.place.me.0 c.all.inside.place.me.0 c.join_seat.new.seat.me.0
+          (sym (joins_accounts c.join_seat.new.seat.table_id c.seat.inside.place.table_id c.all.inside.place.table_id c.seat.inside.place.me.0
+          c.all.inside.place.me.0 c.join_seat.new.seat.me.0
           c.seat.invariant.parts c.all.invariant.parts (ap (λ m. m.0.parts) e.2)
           ∙ (λ i. accounts (c.seat.view_is i) ++ accounts (c.all.view_is i))))),
     )

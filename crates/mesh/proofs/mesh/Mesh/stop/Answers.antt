@@ -4,4 +4,5 @@ use Rattle.mesh.proofs.Values.{is_of}
 use Rattle.mesh.proofs.mesh.Mesh.stop.Goals as goal
 
 pub stop_at-requires-clause-seat : goal.stop_at-requires-clause-seat
-stop_at-requires-clause-seat g c = is_of c.seat.inside.element c.seat.inside.place c.seat.invariant (ap (λ (s : SeatView). s.joined) c.seat.view_is ∙ c.requires.mesh.1)
+stop_at-requires-clause-seat g c = is_of c.seat.inside.element c.seat.inside.place c.seat.invariant (ap (λ (s : SeatView). s.joined) c.seat.view_is
+    ∙ c.requires.mesh.1)

@@ -14,7 +14,8 @@ returns-then-block-self c =
     let p = c.args.self.now.code.program in
     let b = c.args.block in
     let blocks = blocks_seen t.bytes.now _ c.self.view_is in
-    sym (ap (λ bs. option_map (block_shown (first_of p b)) (slice_get bs b)) blocks ∙ ap (option_map (block_shown (first_of p b))) (past_tabulated (block_in w) 0 (w 2) b (omega (arith, t.blocks_parsed))))
+    sym (ap (λ bs. option_map (block_shown (first_of p b)) (slice_get bs b)) blocks ∙ ap (option_map (block_shown (first_of p b)))
+    (past_tabulated (block_in w) 0 (w 2) b (omega (arith, t.blocks_parsed))))
 
 pub returns : goal.returns
 returns c =
@@ -27,6 +28,14 @@ returns c =
     let len = length_tabulated (λ n. shown (instr_in w n)) (instrs_below w b) (count_in (w (6 + b))) in
     let same = c.first_of.ensures.counted ∙ sym first in
     let e = c.entry-entry.ensures in
-    let is : Some record { inputs = c.inputs.result; outputs = c.outputs.result; slots = c.slots.result; instrs = c.instrs.result; first = c.first_of.result } ≡ Some (block_shown (first_of p b) (block_in w b)) =
+    let is : Some record {
+      inputs = c.inputs.result;
+      outputs = c.outputs.result;
+      slots = c.slots.result;
+      instrs = c.instrs.result;
+      first =
+          c.first_of.result;
+    } ≡ Some (block_shown (first_of p b) (block_in w b)) =
     rw (c.inputs.ensures, c.outputs.ensures, c.slots.ensures, c.instrs.ensures, e, same, len) refl in
-    is ∙ sym (ap (λ bs. option_map (block_shown (first_of p b)) (slice_get bs b)) blocks ∙ ap (option_map (block_shown (first_of p b))) (get_tabulated (block_in w) 0 (w 2) b b (omega (arith, t.blocks_parsed)) (omega arith)))
+    is ∙ sym (ap (λ bs. option_map (block_shown (first_of p b)) (slice_get bs b)) blocks ∙ ap (option_map (block_shown (first_of p b)))
+    (get_tabulated (block_in w) 0 (w 2) b b (omega (arith, t.blocks_parsed)) (omega arith)))

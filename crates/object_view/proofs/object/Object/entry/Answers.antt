@@ -14,7 +14,8 @@ returns-then-block-self c =
     let p = c.args.self.now.code.program in
     let b = c.args.block in
     let blocks = blocks_seen t.bytes.now _ c.self.view_is in
-    sym (ap (λ bs. option_map (λ (x : CodeBlock). first_of p b) (slice_get bs b)) blocks ∙ ap (option_map (λ (x : CodeBlock). first_of p b)) (past_tabulated (block_in w) 0 (w 2) b (omega (arith, t.blocks_parsed))))
+    sym (ap (λ bs. option_map (λ (x : CodeBlock). first_of p b) (slice_get bs b)) blocks ∙ ap (option_map (λ (x : CodeBlock). first_of p b))
+    (past_tabulated (block_in w) 0 (w 2) b (omega (arith, t.blocks_parsed))))
 
 pub returns : goal.returns
 returns c =
@@ -24,4 +25,5 @@ returns c =
     let b = c.args.block in
     let blocks = blocks_seen t.bytes.now _ c.self.view_is in
     let first = first_of_tabulated w p (w 2) b blocks (omega (arith, t.blocks_parsed)) in
-    ap (λ n. Some n) (c.first_of.ensures.counted ∙ sym first) ∙ sym (ap (λ bs. option_map (λ (x : CodeBlock). first_of p b) (slice_get bs b)) blocks ∙ ap (option_map (λ (x : CodeBlock). first_of p b)) (get_tabulated (block_in w) 0 (w 2) b b (omega (arith, t.blocks_parsed)) (omega arith)))
+    ap (λ n. Some n) (c.first_of.ensures.counted ∙ sym first) ∙ sym (ap (λ bs. option_map (λ (x : CodeBlock). first_of p b) (slice_get bs b)) blocks
+    ∙ ap (option_map (λ (x : CodeBlock). first_of p b)) (get_tabulated (block_in w) 0 (w 2) b b (omega (arith, t.blocks_parsed)) (omega arith)))

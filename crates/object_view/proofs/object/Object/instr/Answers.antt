@@ -18,7 +18,8 @@ returns-then-ip-self c =
     let w = word_at t.bytes.now in
     let z : 0 + w 2 ≡ w 2 = omega arith in
     let all = ap (instrs_below w) z in
-    sym (ap (λ bs. instr_from bs c.args.ip) (blocks_seen t.bytes.now _ c.self.view_is) ∙ instr_not_there w 0 (w 2) c.args.ip (omega (arith, t.instrs_parsed, all)))
+    sym (ap (λ bs. instr_from bs c.args.ip) (blocks_seen t.bytes.now _ c.self.view_is)
+    ∙ instr_not_there w 0 (w 2) c.args.ip (omega (arith, t.instrs_parsed, all)))
 
 pub returns : goal.returns
 returns c =
@@ -26,4 +27,5 @@ returns c =
     let w = word_at t.bytes.now in
     let z : 0 + w 2 ≡ w 2 = omega arith in
     let all = ap (instrs_below w) z in
-    ap (λ i. Some (shown i)) c.instr.ensures ∙ sym (ap (λ bs. instr_from bs c.args.ip) (blocks_seen t.bytes.now _ c.self.view_is) ∙ instr_there w 0 (w 2) c.args.ip c.args.ip (omega arith) (omega (arith, t.instrs_parsed, all)))
+    ap (λ i. Some (shown i)) c.instr.ensures ∙ sym (ap (λ bs. instr_from bs c.args.ip) (blocks_seen t.bytes.now _ c.self.view_is)
+    ∙ instr_there w 0 (w 2) c.args.ip c.args.ip (omega arith) (omega (arith, t.instrs_parsed, all)))

@@ -41,13 +41,15 @@ returns-clause-object c =
     (sym same ∙ opened_spelt t (opened t) all ok refl, opened_lawful t (opened t) all ok refl)
 
 pub returns-in-Err-clause-complete : goal.returns-in-Err-clause-complete
-returns-in-Err-clause-complete c = λ version d is. never_refused c.args.bytes.now version d c.in-Err.fault (refused_early c.args.bytes.now c.in-Err.fault c.in-Err.ensures.checked) is
+returns-in-Err-clause-complete c = λ version d is. never_refused c.args.bytes.now version d c.in-Err.fault
+    (refused_early c.args.bytes.now c.in-Err.fault c.in-Err.ensures.checked) is
 
 pub returns-in-Err-check-clause-complete : goal.returns-in-Err-check-clause-complete
 returns-in-Err-check-clause-complete c =
     let same = c.in-Ok.ensures.same in
     let late = ap (λ (bs : List ℕ). content_checked (word_at bs)) (sym same) ∙ sym c.in-Err-check.ensures in
-    λ version d is. never_refused c.args.bytes.now version d c.in-Err-check.fault (refused_late c.args.bytes.now c.in-Err-check.fault c.in-Ok.ensures.checked late) is
+    λ version d is. never_refused c.args.bytes.now version d c.in-Err-check.fault (refused_late c.args.bytes.now c.in-Err-check.fault
+    c.in-Ok.ensures.checked late) is
 
 pub returns-clause-complete : goal.returns-clause-complete
 returns-clause-complete c =

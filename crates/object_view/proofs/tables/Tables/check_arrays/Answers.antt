@@ -10,7 +10,8 @@ returns-in-Err c =
     let w = word_at c.args.self.now.bytes.now in
     let l = c.loop-number in
     let n = c.args.self.now.arrays in
-    let bad : each (array_checked w) 0 n ≡ Err c.in-Err.flaw.fault = sym l.invariant.passed ∙ each_failed (array_checked w) l.number n c.in-Err.flaw.fault (omega arith) (sym c.in-Err.ensures.checked) in
+    let bad : each (array_checked w) 0 n ≡ Err c.in-Err.flaw.fault = sym l.invariant.passed ∙ each_failed (array_checked w) l.number n
+    c.in-Err.flaw.fault (omega arith) (sym c.in-Err.ensures.checked) in
     sym (failed_first (each (array_checked w) 0 (w 4)) _ c.in-Err.flaw.fault (ap (each (array_checked w) 0) (sym c.args.self.now.arrays_parsed) ∙ bad))
 
 pub loop-number-preserved : goal.loop-number-preserved

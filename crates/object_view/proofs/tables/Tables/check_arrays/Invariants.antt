@@ -5,4 +5,10 @@ use Rattle.object_view.proofs.tables.Tables.check_arrays.Given as goal
 
 abbrev pub invariant-loop-number : goal.invariant-loop-number
 invariant-loop-number l =
-    record { passed : each (array_checked (word_at l.self.bytes.now)) l.number (l.self.arrays - l.number) ≡ each (array_checked (word_at l.self.bytes.now)) 0 l.self.arrays; counted : l.cells ≡ cells_below (word_at l.self.bytes.now) l.number; few : l.cells ≤ 65536 * l.number }
+    record {
+      passed : each (array_checked (word_at l.self.bytes.now)) l.number (l.self.arrays - l.number)
+          ≡ each (array_checked (word_at l.self.bytes.now)) 0 l.self.arrays;
+      counted : l.cells ≡ cells_below (word_at l.self.bytes.now) l.number;
+      few :
+          l.cells ≤ 65536 * l.number;
+    }

@@ -11,7 +11,8 @@ returns-in-Err c =
     let l = c.loop-ip in
     let end = c.args.first + c.args.count in
     let check = instr_checked w c.args.slots end in
-    let bad : each check c.args.first c.args.count ≡ Err c.in-Err.flaw.fault = sym l.invariant.passed ∙ each_failed check l.ip end c.in-Err.flaw.fault (omega arith) (sym c.in-Err.ensures) in
+    let bad : each check c.args.first c.args.count ≡ Err c.in-Err.flaw.fault = sym l.invariant.passed ∙ each_failed check l.ip end c.in-Err.flaw.fault
+    (omega arith) (sym c.in-Err.ensures) in
     let failed : ObjectFault → Checked = λ fault. Err fault in
     ap failed c.at.ensures ∙ sym bad
 

@@ -17,8 +17,10 @@ pub returns-in-Err : goal.returns-in-Err
 returns-in-Err c =
     let w = word_at c.args.self.now.bytes.now in
     let l = c.loop-block in
-    let same = block_same w l.block _ _ _ (c.slots.ensures ∙ ap slots_in c.entry-entry.ensures) l.invariant.counted (c.instrs-count.ensures ∙ ap count_in c.entry-entry.ensures) in
-    sym (sym l.invariant.passed ∙ each_failed (block_checked w) l.block c.args.self.now.blocks c.in-Err.flaw.fault (omega arith) (sym same ∙ sym c.in-Err.ensures))
+    let same = block_same w l.block _ _ _ (c.slots.ensures ∙ ap slots_in c.entry-entry.ensures) l.invariant.counted (c.instrs-count.ensures
+    ∙ ap count_in c.entry-entry.ensures) in
+    sym (sym l.invariant.passed ∙ each_failed (block_checked w) l.block c.args.self.now.blocks c.in-Err.flaw.fault (omega arith) (sym same
+    ∙ sym c.in-Err.ensures))
 
 pub overflow_add-first : goal.overflow_add-first
 overflow_add-first c =

@@ -10,7 +10,8 @@ returns-in-Err c =
     let l = c.loop-number in
     let n = c.saturating_sub-pairs.result in
     let same : w 3 - 1 ≡ n = omega (arith, c.args.self.now.literals_parsed) in
-    let bad : each (literal_checked w) 0 n ≡ Err c.in-Err.flaw.fault = sym l.invariant ∙ each_failed (literal_checked w) l.number n c.in-Err.flaw.fault (omega arith) (sym c.in-Err.ensures) in
+    let bad : each (literal_checked w) 0 n ≡ Err c.in-Err.flaw.fault = sym l.invariant ∙ each_failed (literal_checked w) l.number n
+    c.in-Err.flaw.fault (omega arith) (sym c.in-Err.ensures) in
     sym (ap (each (literal_checked w) 0) same ∙ bad)
 
 pub loop-number-preserved : goal.loop-number-preserved

@@ -17,7 +17,15 @@ invariant_of-result c =
       main_parsed = c.word_at-4.ensures;
       code_follows = take_all _ _ (omega (arith, length-drop (8 * (6 + c.word_at-blocks.result)) c.args.bytes.now));
       instrs_parsed = c.in-Ok.ensures.counted ∙ ap (instrs_below w) c.word_at-blocks.ensures;
-      whole = omega (arith, c.in_default-check_length.ensures.whole, c.in-Ok.ensures.counted, ap (instrs_below w) c.word_at-blocks.ensures, c.word_at-blocks.ensures, c.word_at-2.ensures, c.word_at-3.ensures);
+      whole = omega (
+        arith,
+        c.in_default-check_length.ensures.whole,
+        c.in-Ok.ensures.counted,
+        ap (instrs_below w) c.word_at-blocks.ensures,
+        c.word_at-blocks.ensures,
+        c.word_at-2.ensures,
+        c.word_at-3.ensures,
+      );
       main_there = omega (arith, f.main_there, c.word_at-blocks.ensures, c.word_at-4.ensures);
       few_blocks = omega (arith, f.few_blocks, c.word_at-blocks.ensures);
       few_instrs = omega (arith, f.few_blocks, c.word_at-blocks.ensures, c.in-Ok.ensures.few);

@@ -1,7 +1,8 @@
 use Rattle.std.proofs.Common.{◌∙◌, refl}
 use Rattle.operators.specs.declared.Unary.TheVariants.{Neg, Not}
 use Rattle.operators.specs.declared.Binary.TheVariants.{Add, Sub, Mul, Div, Rem, And, Or, Xor, Shl, Shr, Eq, Ne, Lt, Le}
-use Rattle.semantics.specs.declared.opcode.Opcode.TheVariants.{Apply1, Lit, Copy, Sync, Switch, Fetch, Store, Frame, Link, Send, Return, Ask, Open, Take, Give, Drain, Release}
+use Rattle.semantics.specs.declared.opcode.Opcode.TheVariants.{Apply1, Lit, Copy, Sync, Switch, Fetch, Store, Frame, Link, Send, Return, Ask, Open}
+use Rattle.semantics.specs.declared.opcode.Opcode.TheVariants.{Take, Give, Drain, Release}
 use Rattle.object_view.proofs.Codes.{binary_known, flag_known, plain_known}
 use Rattle.object_view.proofs.words.Head.known_opcode.Goals as goal
 

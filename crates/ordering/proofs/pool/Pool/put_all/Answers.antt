@@ -11,4 +11,5 @@ loop-token-preserved g c q =
     omega (arith, inv, put, more)
 
 pub returns : goal.returns
-returns g c q = c.loop-token.invariant q ∙ ap (λ n. amount c.args.self.now q + n) (copies_whole q c.args.tokens.now c.loop-token.token-index c.loop-token-test.false)
+returns g c q = c.loop-token.invariant q ∙ ap (λ n. amount c.args.self.now q + n) (copies_whole q c.args.tokens.now c.loop-token.token-index
+    c.loop-token-test.false)

@@ -8,4 +8,5 @@ use Rattle.packed.proofs.token.PackedToken.frame.Goals as goal
 pub returns-clause-some : goal.returns-clause-some
 returns-clause-some c =
     let i = c.self.inside in
-    subst (λ (t : Token). (ip : ℕ) × (p : Port) × (t.to ≡ To.Instr (i.place / 4294967296) ip p)) c.self.view_is (low_is_instr i.head i.body i.place i.value c.self.invariant (omega arith))
+    subst (λ (t : Token). (ip : ℕ) × (p : Port) × (t.to ≡ To.Instr (i.place / 4294967296) ip p)) c.self.view_is
+    (low_is_instr i.head i.body i.place i.value c.self.invariant (omega arith))

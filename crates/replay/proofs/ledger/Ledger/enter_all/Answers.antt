@@ -40,7 +40,8 @@ returns-in_err-entry-clause-unfit g c =
     let l = c.loop-event in
     let ev = c.event-item.result in
     let from = err_from_is_err_and c.from_residual-in_err-entry.result c.from_residual-in_err-entry.ensures.1 in
-    passed_on (IsUnfit p l.self ev) (AreUnfit p c.args.self.now c.args.events.now) c.from_residual-in_err-entry.result from.0 c.in_err-entry.field-0.0 from.1 from.2
+    passed_on (IsUnfit p l.self ev) (AreUnfit p c.args.self.now c.args.events.now) c.from_residual-in_err-entry.result from.0 c.in_err-entry.field-0.0
+    from.1 from.2
     (λ unfit z b elements frames records last run.
     let here = l.invariant.so_far z b elements frames records in
     let next = event_after p z b here.0 c.args.events.now l.event-index ev l.entries.items last c.loop-event-test.true c.event-item.is here.1 run in

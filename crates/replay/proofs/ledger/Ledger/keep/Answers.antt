@@ -23,7 +23,8 @@ returns-clause-books g c z elements frames =
       first = n;
       passed = passed.1;
       tokens = c.in_ok-tokens.ensures ∙ sym passed.2.pool;
-      numbers = c.in_ok-extend_from_slice.ensures.items ∙ ap (λ (ns : List ℕ). ns ++ c.deref.result.now) c.new-numbers.ensures.items ∙ c.deref.ensures.value ∙ sym passed.2.numbers;
+      numbers = c.in_ok-extend_from_slice.ensures.items ∙ ap (λ (ns : List ℕ). ns ++ c.deref.result.now) c.new-numbers.ensures.items
+          ∙ c.deref.ensures.value ∙ sym passed.2.numbers;
       next = sym passed.2.next;
       last = entered.0;
       entries = entered.1;

@@ -6,14 +6,32 @@ use Rattle.test_meshes.proofs.player.Player.run_to_stop.Goals as goal
 
 pub returns-then-self-ne0 : goal.returns-then-self-ne0
 returns-then-self-ne0 g c = let r = c.offer.ensures in let e = c.stopped-self.ensures.found in (
-  (ap (λ (s : SeatView). s.mesh) e ∙ r.0.0, ap (λ (s : SeatView). s.joined) e ∙ r.0.1, r.0.2, r.0.3, r.0.4, r.0.5, created_same _ _ _ _ (ap (λ (s : SeatView). s.own.deeds) e) refl r.0.6),
+  (
+    ap (λ (s : SeatView). s.mesh) e ∙ r.0.0,
+    ap (λ (s : SeatView). s.joined) e ∙ r.0.1,
+    r.0.2,
+    r.0.3,
+    r.0.4,
+    r.0.5,
+    created_same _ _ _ _
+        (ap (λ (s : SeatView). s.own.deeds) e) refl r.0.6,
+  ),
   subst (λ (z : List Token). Has z c.offer.new.p.kept.items) (sym (ap (λ (s : SeatView). s.own.held) e)) r.1,
   r.2,
 )
 
 pub rounds-preserved : goal.rounds-preserved
 rounds-preserved g c = let r = c.offer.ensures in let e = c.stopped-self.ensures.found in (
-  (ap (λ (s : SeatView). s.mesh) e ∙ r.0.0, ap (λ (s : SeatView). s.joined) e ∙ r.0.1, r.0.2, r.0.3, r.0.4, r.0.5, created_same _ _ _ _ (ap (λ (s : SeatView). s.own.deeds) e) refl r.0.6),
+  (
+    ap (λ (s : SeatView). s.mesh) e ∙ r.0.0,
+    ap (λ (s : SeatView). s.joined) e ∙ r.0.1,
+    r.0.2,
+    r.0.3,
+    r.0.4,
+    r.0.5,
+    created_same _ _ _ _
+        (ap (λ (s : SeatView). s.own.deeds) e) refl r.0.6,
+  ),
   subst (λ (z : List Token). Has z c.offer.new.p.kept.items) (sym (ap (λ (s : SeatView). s.own.held) e)) r.1,
   r.2,
 )
