@@ -1,8 +1,7 @@
 //! The blocks of a graph, in its text, each line of which is in order.
 
-use crate::lines::{is_line_feed, text_at};
+use crate::lines::{is, is_line_feed, text_at};
 
-/// A block.
 #[derive(Clone, Copy)]
 pub struct Block<'a> {
     /// The number of its first line, from 1.
@@ -11,13 +10,23 @@ pub struct Block<'a> {
     pub inputs: u64,
 }
 
+/// Whether a line of the text is that of a loop of the block with this name.
+fn is_looped(text: &[u8], name: &str) -> bool {
+    for line in text.split(is_line_feed) {
+        if is(text_at(line, 1), "loop") && is(text_at(line, 2), name) {
+            return true;
+        }
+    }
+    false
+}
+
 impl<'a> Block<'a> {
     /// Block number `skipped` of the text, of those with this name if one is given.
     pub fn of(text: &'a [u8], name: Option<&str>, skipped: u64) -> Option<Block<'a>> {
         let mut left = skipped;
         for (place, line) in text.split(is_line_feed).enumerate() {
             let own = text_at(line, 1);
-            if text_at(line, 0) != "block" || own != name.unwrap_or(own) {
+            if !is(text_at(line, 0), "block") || !is(own, name.unwrap_or(own)) {
                 continue;
             }
             if left == 0 {
@@ -37,10 +46,7 @@ impl<'a> Block<'a> {
         let mut left = skipped;
         for place in 0..256u64 {
             let block = Block::of(text, None, place)?;
-            let mut lines = text.split(is_line_feed);
-            let is_loop = |line: &[u8]| text_at(line, 1) == "loop"
-                && text_at(line, 2) == block.name;
-            let is_looped = lines.any(is_loop);
+            let is_looped = is_looped(text, block.name);
             if is_looped && left == 0 {
                 return Some(block);
             }

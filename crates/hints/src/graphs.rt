@@ -1,134 +1,119 @@
 //! What is wrong with a graph that is not well formed, or that has no code.
 
 use crate::blocks::Block;
-use crate::lines::{is_line_feed, last_line, line_at, text_at, word_at};
-use crate::message::{
-    Bytes, Checking, Count, Found, Lies, Message, Number, Output, Piece, Word, at, at_line, say,
-};
-use graph_check::{ArityCause, CheckCause, CheckFaultKind, CheckRefusal, NameOf, RegionCause};
+use crate::catalog::Text;
+use crate::lines::{column_of, is, is_line_feed, last_line, line_at, text_at, word_at};
+use crate::message::{Found, Special, at_line, window};
+use graph_check::{ArityCause, CheckCause, CheckRefusal, NameOf, RegionCause};
+use semantics::graph::Source;
 
-/// The cause for a region that is bad, or that a node may not lie in.
-fn region_cause<'a>(cause: RegionCause) -> Message<'a> {
+/// A cause that is about a source.
+fn of_source(cause: Text, source: Source, ports: u32) -> (Text, u64, u64, u64) {
+    let (node, port) = (u64::from(source.node), u64::from(source.port));
+    (cause, node, port, u64::from(ports))
+}
+
+/// A cause that is about this node, or has this number.
+fn of_number(cause: Text, number: u32) -> (Text, u64, u64, u64) {
+    (cause, u64::from(number), 0, 0)
+}
+
+/// The cause of a refusal at a node, or at the line of results.
+fn node_cause(cause: CheckCause, is_result: bool) -> (Text, u64, u64, u64) {
     match cause {
-        RegionCause::NoConditional { cond } => say("no-cond").with(&[Number(u64::from(cond))]),
-        RegionCause::EnterInRoot => say("enter-in-root"),
-        RegionCause::MergeElsewhere { cond, lies, region } => {
-            say("merge-elsewhere").with(&[Number(u64::from(cond)), Lies(lies), Lies(region)])
-        }
+        CheckCause::NoSuchName(NameOf::Array) => ("there is no array $2", 0, 0, 0),
+        CheckCause::NoSuchName(_) => ("there is no block $2", 0, 0, 0),
+        CheckCause::Arity(ArityCause::Outputs { has, wants }) => ("outputs-wanted", has, wants, 0),
+        CheckCause::Arity(ArityCause::Inputs { has, wants }) => ("inputs-wanted", has, wants, 0),
+        CheckCause::Arity(ArityCause::Looped { inputs, outputs }) => ("looped", inputs, outputs, 0),
+        CheckCause::SourceNotEarlier(source) if is_result => of_source("late-result", source, 0),
+        CheckCause::SourceNotEarlier(source) => of_source("late-source", source, 0),
+        CheckCause::NoSuchPort { source, ports } => of_source("no-port", source, ports),
+        CheckCause::BadRegion(RegionCause::NoConditional { cond }) => of_number("no-cond", cond),
+        CheckCause::BadRegion(RegionCause::EnterInRoot) => ("enter-in-root", 0, 0, 0),
+        CheckCause::BadRegion(RegionCause::MergeElsewhere { cond, .. }) => {
+            of_number("merge-elsewhere", cond)
+        },
+        CheckCause::CrossesRegion { source, .. } => of_source("crossing-source", source, 0),
+        CheckCause::OutNotRoot { source, .. } => of_source("result-in-arm", source, 0),
+        CheckCause::BadBound(bound) => of_number("a loop's bound k is 2 to 64, and not $c", bound),
+        _ => ("kind", 0, 0, 0),
     }
 }
 
-/// The cause for a line with so many sources, where the block of this name wants another number of them.
-fn sources_cause<'a>(name: &'a str, wants: Piece<'a>, has: u64) -> Message<'a> {
-    say("block $1 has $2, this line has $3").with(&[Word(name), wants, Count(has, "source")])
-}
-
-/// The cause for another number of sources than the block has outputs, or the named one has inputs.
-fn arity_cause<'a>(cause: ArityCause, block: &'a str, named: &'a str) -> Message<'a> {
-    match cause {
-        ArityCause::Outputs { has, wants } => sources_cause(block, Count(wants, "output"), has),
-        ArityCause::Inputs { has, wants } => sources_cause(named, Count(wants, "input"), has),
-        ArityCause::Looped { inputs, outputs } => {
-            say("looped-block").with(&[
-                Word(named),
-                Count(inputs, "input"),
-                Count(outputs, "output"),
-            ])
-        }
-        // Lines of texts that were read have as many sources as their kinds take.
-        ArityCause::Sources { .. } => say("kind").with(&[Checking(CheckFaultKind::Arity)]),
-    }
-}
-
-/// The cause for a name that nothing has.
-fn name_cause<'a>(of: NameOf, name: &'a str) -> Message<'a> {
-    let is_array = matches!(of, NameOf::Array);
-    let noun = if is_array { "array" } else { "block" };
-    say("there is no $1 $2").with(&[Word(noun), Word(name)])
-}
-
-/// The cause of a refusal for which no name is shown.
-fn nameless_cause<'a>(refusal: CheckRefusal) -> Message<'a> {
+/// The regions of a cause, or else its kind.
+fn specials_of(refusal: CheckRefusal) -> [Special; 2] {
     match refusal.cause {
-        CheckCause::BadRegion(cause) => region_cause(cause),
-        CheckCause::BadBound(bound) => say("bound").with(&[Number(u64::from(bound))]),
-        CheckCause::NoSuchPort { source, ports } => {
-            let (node, port) = (u64::from(source.node), u64::from(source.port));
-            let ports = Count(u64::from(ports), "output port");
-            say("node $1 has $2, and no port $3").with(&[Number(node), ports, Number(port)])
+        CheckCause::BadRegion(RegionCause::MergeElsewhere { lies, region, .. }) => {
+            [Special::Lies(lies), Special::Lies(region)]
         }
-        CheckCause::CrossesRegion {
-            source,
-            lies,
-            wanted,
-        } => say("crossing-source").with(&[Output(source), Lies(lies), Lies(wanted)]),
-        CheckCause::OutNotRoot { source, lies } => {
-            say("result-in-arm").with(&[Output(source), Lies(lies)])
+        CheckCause::CrossesRegion { lies, wanted, .. } => {
+            [Special::Lies(lies), Special::Lies(wanted)]
         }
-        _ => say("kind").with(&[Checking(refusal.fault().kind)]),
+        CheckCause::OutNotRoot { lies, .. } => [Special::Lies(lies); 2],
+        _ => [Special::Checking(refusal.fault().kind); 2],
     }
 }
 
-/// The cause of a refusal at a node of this block, whose line has this as its third word.
-fn node_cause<'a>(refusal: CheckRefusal, block: &'a str, named: &'a str) -> Message<'a> {
-    match refusal.cause {
-        CheckCause::Arity(cause) => arity_cause(cause, block, named),
-        CheckCause::NoSuchName(of) => name_cause(of, named),
-        _ => nameless_cause(refusal),
-    }
-}
-
-/// Why a node of this block is not in order, or the line of results, whose number is that of nodes.
-fn node_fault<'a>(text: &'a [u8], block: Block<'a>, refusal: CheckRefusal) -> Option<Found<'a>> {
-    let number = refusal.node?;
-    let place = block.line.saturating_add(1).saturating_add(number);
+/// Why this node of the block is not in order, or the line of results, whose number is that of nodes.
+fn at_node<'a>(text: &'a [u8], block: Block<'a>, node: u64, refusal: CheckRefusal) -> Found<'a> {
+    let place = block.line.saturating_add(1).saturating_add(node);
     let place = place.saturating_sub(block.inputs);
     let line = line_at(text, place);
-    let (shown, late) = match text_at(line, 0) {
-        "out" => ("in block $2, line $3 is `$4`", "late-result"),
-        _ => ("node $1 of block $2, line $3, is `$4`", "late-source"),
+    let is_result = is(text_at(line, 0), "out");
+    let (cause, first, second, third) = node_cause(refusal.cause, is_result);
+    let words = [block.name, text_at(line, 2)];
+    let numbers = [node, place, first, second, third, 0];
+    let place = if is_result {
+        "in block $1, line $b is `$p`"
+    } else {
+        "node $a of block $1, line $b, is `$p`"
     };
-    let (node, name) = (Number(number), Word(block.name));
-    let shown = say(shown).with(&[node, name, Number(place), Bytes(line)]);
-    if let CheckCause::SourceNotEarlier(source) = refusal.cause {
-        let nodes = Count(number, "node");
-        return Some(at(shown, say(late).with(&[Output(source), node, nodes, name])));
-    }
-    Some(at(shown, node_cause(refusal, block.name, text_at(line, 2))))
+    let found = Found::of(Some(place), cause, words, [line; 3], numbers);
+    found.with(specials_of(refusal))
+}
+
+/// A cause at line `number`, whose second word is a name.
+fn at_name<'a>(text: &'a [u8], number: u64, cause: Text) -> Found<'a> {
+    let line = line_at(text, number);
+    let name = word_at(line, 1);
+    let seen = window(line, column_of(name, line));
+    let parts = [name, name, seen];
+    let place = Some(at_line(line, seen));
+    Found::of(place, cause, [""; 2], parts, [0, 0, 0, 0, 0, number])
 }
 
 /// Why the graph of the text is not well formed.
 pub fn graph_fault(text: &[u8], refusal: CheckRefusal) -> Option<Found<'_>> {
-    let (number, name) = match (refusal.block, refusal.cause) {
-        // The arrays are in the lines after the first one.
-        (None, CheckCause::SameName { place }) => (place.saturating_add(2), "same-array"),
-        (None, _) => (last_line(text), "there is no block $1 to be run"),
-        (Some(place), cause) => {
-            let block = Block::of(text, None, place)?;
-            if refusal.node.is_some() {
-                return node_fault(text, block, refusal);
-            }
-            let name = match cause {
-                CheckCause::SameName { .. } => "a block before it is called $1, too",
-                CheckCause::NoInput => "a block has at least one input",
-                _ => "a block has at least one output",
-            };
-            (block.line, name)
-        }
+    let Some(place) = refusal.block else {
+        return Some(match refusal.cause {
+            // The arrays are in the lines after the first one.
+            CheckCause::SameName { place } => at_name(text, place.saturating_add(2), "same-array"),
+            _ => at_name(text, last_line(text), "there is no block $p to be run"),
+        });
     };
-    let line = line_at(text, number);
-    Some(at_line(number, line, say(name).with(&[Bytes(word_at(line, 1))])))
+    let block = Block::of(text, None, place)?;
+    Some(match (refusal.node, refusal.cause) {
+        (Some(node), _) => at_node(text, block, node, refusal),
+        (None, CheckCause::SameName { .. }) => at_name(text, block.line, "same-block"),
+        (None, CheckCause::NoInput) => at_name(text, block.line, "a block has at least one input"),
+        (None, _) => at_name(text, block.line, "a block has at least one output"),
+    })
+}
+
+fn is_block(line: &&[u8]) -> bool {
+    is(text_at(*line, 0), "block")
 }
 
 /// Why the graph of the text has no code, at code block `number`: the plain codes of all blocks come first, then the codes of
 /// iterations, one for each block that some loop names.
-pub fn code_fault<'a>(text: &'a [u8], number: u64, cause: Message<'a>) -> Option<Found<'a>> {
-    let is_block = |line: &&[u8]| text_at(*line, 0) == "block";
-    let blocks = text.split(is_line_feed).filter(is_block).count();
-    let (place, block) = match number.checked_sub(blocks as u64) {
-        None => ("code-block", Block::of(text, None, number)?),
-        Some(after) => ("iterations", Block::looped(text, after)?),
+pub fn code_fault<'a>(text: &'a [u8], number: u64, cause: Text) -> Option<Found<'a>> {
+    let blocks = text.split(is_line_feed).filter(is_block).count() as u64;
+    let (place, block) = match number.checked_sub(blocks) {
+        None => ("at-code-block", Block::of(text, None, number)),
+        Some(after) => ("at-iterations", Block::looped(text, after)),
     };
-    let place = say(place).with(&[Number(number), Word(block.name)]);
-    Some(at(place, cause))
+    let words = [block?.name; 2];
+    let numbers = [number, 0, 0, 0, 0, 0];
+    Some(Found::of(Some(place), cause, words, [b""; 3], numbers))
 }

@@ -20,40 +20,65 @@ mod runs;
 mod texts;
 mod words;
 
-use catalog::found;
+use catalog::{Text, found};
 use command_line::{Asked, Request, read_words};
 use graphs::{code_fault, graph_fault};
 pub use line::{Hint, Line};
 use lines::split_graph;
 use listings::listing_fault;
-use message::{Checking, Found, Message, Reading, Word, nowhere, say};
+use message::{Found, Special, nowhere};
 use objects::object_fault;
 use outcomes::{Outcome, Refusal};
-use programs::{kind_message, program_fault};
-use runs::{Case, end_fault, given_fault, input_fault, memory_cause, page_fault, start_cause};
+use programs::{kind_cause, program_fault};
+use runs::{
+    Case, end_fault, given_fault, input_fault, is_of_object, memory_cause, page_fault, start_fault,
+};
 use std::alloc::{AllocError, Allocator};
 use std::convert::AsStr;
 use texts::text_fault;
+use words::runs_graph;
 
 /// What the input is, where it is something else than what the command reads.
-fn other_input<'a>(input: &[u8], command: &'a str) -> Option<Message<'a>> {
+fn other_input(input: &[u8], command: &str) -> Option<Text> {
     let group = match input {
         [] => "other/empty/",
         _ if input.starts_with(b"etsgraph ") => "other/graph/",
         _ if input.starts_with(b"ETSOBJCT") => "other/object/",
         _ if input.starts_with(b"ets ") => "other/listing/",
         _ if input.starts_with(b"fn ") || input.starts_with(b"array ") => "other/program/",
-        [b'/', b'/', ..] => "other/program/",
+        _ if input.starts_with(b"//") => "other/program/",
         _ => return None,
     };
     let reads = found("reads/", command).unwrap_or("graph");
-    let text = found(group, command).or(found(group, reads))?;
-    Some(say(text).with(&[Word(command)]))
+    found(group, command).or(found(group, reads))
 }
 
-/// Why the request of this case, which these words are, was refused. `None` where the place cannot be found, because the input
-/// was not kept or memory was refused.
-fn refusal_fault<'a, S: AsStr>(
+/// Why this input, which `command` reads, was refused.
+fn of_input<'a>(case: &Case<'_, 'a>, command: &'a str, refusal: Refusal) -> Option<Found<'a>> {
+    let input = case.input?;
+    if let Some(cause) = other_input(input, command) {
+        return Some(nowhere(cause, [command; 2]));
+    }
+    // Commands that run the graph read the inputs of the run after it.
+    let text = match runs_graph(case.request) {
+        true => split_graph(input).0,
+        false => input,
+    };
+    match refusal {
+        Refusal::Read(refusal) => Some(text_fault(refusal, text, command)),
+        Refusal::Check(refusal) => graph_fault(text, refusal),
+        Refusal::TooManySlots(block) => code_fault(text, block, "too-many-slots"),
+        Refusal::TooFar(block) => code_fault(text, block, "too-far"),
+        Refusal::Object(_fault) => object_fault(input),
+        Refusal::Asm(refusal) => Some(listing_fault(refusal, input)),
+        Refusal::Program(refusal) => Some(program_fault(input, refusal)),
+        Refusal::InputLine(number) => Some(input_fault(input, number)),
+        Refusal::Input | Refusal::Start(_) | Refusal::Memory => None,
+    }
+}
+
+/// Why the request of these words was refused. `None` where the place cannot be found, or the input was not kept.
+fn placed<'a, S: AsStr>(
     case: &Case<'_, 'a>,
     words: &'a [S],
     refusal: Refusal,
@@ -63,55 +88,30 @@ fn refusal_fault<'a, S: AsStr>(
         Request::Dot { code: true } => "dot --code",
         _ => first.as_str(),
     };
-    match (refusal, command) {
-        (Refusal::Input | Refusal::Memory, _) => return None,
-        (Refusal::Start(fault), _) => return Some(nowhere(start_cause(case, fault)?)),
-        (Refusal::InputLine(number), "exec") => return given_fault(rest, number),
-        _ => (),
-    }
-    let input = case.input?;
-    if let Some(cause) = other_input(input, command) {
-        return Some(nowhere(cause));
-    }
-    // Commands that run the graph read the inputs of the run after it.
-    let text = match command {
-        "run" | "mean" | "trace" | "profile" | "orders" => split_graph(input).0,
-        _ => input,
-    };
     match refusal {
-        Refusal::Read(refusal) => Some(text_fault(refusal, text, command)),
-        Refusal::Check(refusal) => graph_fault(text, refusal),
-        Refusal::TooManySlots(block) => code_fault(text, block, say("too-many-slots")),
-        Refusal::TooFar(block) => code_fault(text, block, say("too-far")),
-        Refusal::Object(_fault) => object_fault(input),
-        Refusal::Asm(refusal) => Some(listing_fault(refusal, input)),
-        Refusal::Program(refusal) => Some(program_fault(input, refusal)),
-        Refusal::InputLine(number) => Some(input_fault(input, number)),
-        Refusal::Input | Refusal::Start(_) | Refusal::Memory => None,
+        Refusal::Input | Refusal::Memory => None,
+        Refusal::Start(fault) => start_fault(case, fault),
+        Refusal::InputLine(number) if is_of_object(case.request) => given_fault(rest, number),
+        _ => of_input(case, command, refusal),
     }
 }
 
 /// What is said of a refusal whose place is nowhere, or cannot be found.
-fn unlocated<'a>(case: &Case<'_, '_>, refusal: Refusal) -> Message<'a> {
-    let part = match refusal {
-        Refusal::Input => return say("unread"),
-        Refusal::Memory => return memory_cause(case.request),
-        Refusal::Read(refusal) => return say("kind").with(&[Reading(refusal.fault().kind)]),
-        Refusal::Check(refusal) => return say("kind").with(&[Checking(refusal.fault().kind)]),
-        Refusal::Program(refusal) => return kind_message(refusal.fault.kind),
-        Refusal::Asm(_refusal) => "Faults of assembling",
-        Refusal::Object(_fault) => "Refusals of an object",
-        _ => "Refusals",
+fn unlocated<'a>(request: &Request, refusal: Refusal) -> Found<'a> {
+    let (cause, kind) = match refusal {
+        Refusal::Read(refusal) => ("kind", Special::Reading(refusal.fault().kind)),
+        Refusal::Check(refusal) => ("kind", Special::Checking(refusal.fault().kind)),
+        Refusal::Program(refusal) => {
+            let kind = refusal.fault.kind;
+            (kind_cause(kind), Special::Programming(kind))
+        }
+        Refusal::Input => ("unread", Special::Nothing),
+        Refusal::Memory => (memory_cause(request), Special::Nothing),
+        Refusal::Asm(_refusal) => ("assembling-fault", Special::Nothing),
+        Refusal::Object(_fault) => ("object-refusal", Special::Nothing),
+        _ => ("other-refusal", Special::Nothing),
     };
-    say("docs/FORMATS.md says what that means, under `$1`").with(&[Word(part)])
-}
-
-/// What the words ask for. Words that ask for nothing have a mistake, and no other outcome.
-fn request_of<S: AsStr>(words: &[S]) -> Request {
-    match read_words(words) {
-        Asked::Request(request) => request,
-        _ => Request::Check,
-    }
+    nowhere(cause, [""; 2]).with([kind; 2])
 }
 
 /// Why the words did not get what they asked for, where there is something to say.
@@ -122,36 +122,39 @@ fn cause_of<'a, S: AsStr>(
 ) -> Option<Found<'a>>
     ensures { is_some result ≡ wants_hint outcome }
 {
-    let request = request_of(words);
-    let request = &request;
+    // Words that ask for nothing have a mistake, and no other outcome.
+    let request = &match read_words(words) {
+        Asked::Request(request) => request,
+        _ => Request::Check,
+    };
     let case = Case { request, input };
     match outcome {
-        None => Some(nowhere(say("unwritten"))),
+        None => Some(nowhere("unwritten", [""; 2])),
         Some(Outcome::Done | Outcome::Drawn(_)) => None,
-        Some(Outcome::Mistake) => Some(nowhere(words::mistake(words))),
+        Some(Outcome::Mistake) => Some(words::mistake(words)),
         Some(Outcome::Refused(refusal)) => {
-            let found = refusal_fault(&case, words, refusal);
-            Some(found.unwrap_or(nowhere(unlocated(&case, refusal))))
+            let found = placed(&case, words, refusal);
+            Some(found.unwrap_or(unlocated(request, refusal)))
         }
         Some(Outcome::Reported(ending)) => end_fault(&case, ending),
         Some(Outcome::Paged { events, .. }) => page_fault(events),
-        Some(Outcome::Differed) => Some(nowhere(say("orders-differ"))),
+        Some(Outcome::Differed) => Some(nowhere("orders-differ", [""; 2])),
     }
 }
 
-/// The line that shows this message.
-fn line_of<A: Allocator + Clone>(alloc: A, message: &Message<'_>) -> Result<Line<A>, AllocError> {
-    let text = format!(in alloc.clone()?; "{message}")?;
+/// The line that shows this cause.
+fn line_of<A: Allocator + Clone>(alloc: A, found: &Found<'_>) -> Result<Line<A>, AllocError> {
+    let text = format!(in alloc.clone()?; "{found}")?;
     Line::of(alloc, text.as_str())
 }
 
 /// The hint that gives this cause.
 fn hint_of<A: Allocator + Clone>(alloc: A, found: &Found<'_>) -> Result<Hint<A>, AllocError> {
     let place = match found.place {
-        Some(place) => Some(line_of(alloc.clone()?, &place)?),
+        Some(cause) => Some(line_of(alloc.clone()?, &Found { cause, ..*found })?),
         None => None,
     };
-    let cause = line_of(alloc, &found.cause)?;
+    let cause = line_of(alloc, found)?;
     Ok(Hint { place, cause })
 }
 

@@ -10,6 +10,15 @@ pub fn is_line_feed(byte: &u8) -> bool {
     *byte == b'\n'
 }
 
+pub fn is_full(bytes: &&[u8]) -> bool {
+    !bytes.is_empty()
+}
+
+/// Whether the two are the same.
+pub fn is(one: &str, other: &str) -> bool {
+    one == other
+}
+
 /// Line `number` of the text, counted from 1; empty where there is no such line.
 pub fn line_at(text: &[u8], number: u64) -> &[u8] {
     let place = number.saturating_sub(1) as usize;
@@ -29,7 +38,7 @@ pub fn text_of(bytes: &[u8]) -> &str {
 
 /// The word at `place` of a line, counted from 0; empty where there is no such word.
 pub fn word_at(line: &[u8], place: usize) -> &[u8] {
-    let mut words = line.split(is_space).filter(|word| !word.is_empty());
+    let mut words = line.split(is_space).filter(is_full);
     words.nth(place).unwrap_or(b"")
 }
 
@@ -40,20 +49,19 @@ pub fn text_at(line: &[u8], place: usize) -> &str {
 
 /// How many words a line has.
 pub fn word_count(line: &[u8]) -> u64 {
-    let words = line.split(is_space).filter(|word| !word.is_empty());
-    words.count() as u64
+    line.split(is_space).filter(is_full).count() as u64
 }
 
-/// The column of the first field of the line that has these bytes, from 1.
-pub fn column_at(line: &[u8], field: &[u8]) -> Option<u64> {
+/// The column of the first field of the line that has these bytes, from 1; 1 where there is none.
+pub fn column_of(field: &[u8], line: &[u8]) -> u64 {
     let mut column = 1u64;
     for other in line.split(is_space) {
         if other == field {
-            return Some(column);
+            return column;
         }
         column = column.saturating_add(other.len() as u64).saturating_add(1);
     }
-    None
+    1
 }
 
 /// What a line of a listing says, before its comment.

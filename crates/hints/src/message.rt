@@ -1,166 +1,154 @@
-//! Messages: a text, with the values that it shows, and where its cause is.
+//! Messages: texts, with the values that they show.
 
-use crate::catalog::found;
-use crate::lines::column_at;
+use crate::catalog::{Text, found};
 use graph_check::CheckFaultKind;
 use graph_file::ReadFaultKind;
-use semantics::graph::{Region, Source};
+use semantics::graph::Region;
 use source::fault::FaultKind;
 use std::fmt::{self, Display};
 
-/// The most bytes of a piece that are shown.
+/// The most bytes of a part that are shown.
 const MOST: usize = 60;
 
-/// A value that a message shows.
+/// A value that is neither a word nor a part of the input nor a number.
 #[derive(Clone, Copy)]
-pub enum Piece<'a> {
+pub enum Special {
     Nothing,
-    Word(&'a str),
-    /// Bytes of a text.
-    Bytes(&'a [u8]),
-    Number(u64),
-    /// A line, of which the part round a column, from 1, is shown where the line is long.
-    Line(&'a [u8], u64),
-    /// How many of a thing there are: `1 source`, `2 sources`.
-    Count(u64, &'static str),
     /// A region: `the root`, or `arm 3+`.
     Lies(Region),
-    /// An output port of a node, as it is written: `3.0`.
-    Output(Source),
     Reading(ReadFaultKind),
     Checking(CheckFaultKind),
     Programming(FaultKind),
 }
 
-pub use Piece::{Bytes, Checking, Count, Lies, Line, Number, Output, Programming, Reading, Word};
+/// A cause, with two numbers.
+pub type Counted = (Text, u64, u64);
 
-/// Shows bytes: one that is not printable as `\xHH`, and only the beginning where there are many.
-fn show_bytes<W: fmt::Write>(bytes: &[u8], f: &mut fmt::Formatter<W>) -> fmt::Result {
-    for byte in bytes.iter().take(MOST) {
-        match *byte {
-            b' '..=b'~' => f.write_char(char::from(*byte))?,
-            other => write!(f, "\\x{other:02x}")?,
-        }
-    }
-    f.write_str(if bytes.len() > MOST { ".." } else { "" })
+/// What a person reads: a cause, and its place if that is known, each a text or the name of one, with the values that they show.
+#[derive(Clone, Copy)]
+pub struct Found<'a> {
+    pub place: Option<Text>,
+    pub cause: Text,
+    /// `$1` and `$2`: words, which are shown whole.
+    pub words: [&'a str; 2],
+    /// `$p`, `$q` and `$s`: parts of the input, of which only the beginning is shown where they are long.
+    pub parts: [&'a [u8]; 3],
+    /// `$a` to `$f`. For each there is an ending, `$A` to `$F`: it is `s`, or nothing where the number is 1.
+    pub numbers: [u64; 6],
+    /// `$x` and `$y`.
+    pub specials: [Special; 2],
 }
 
-fn show_line<W: fmt::Write>(line: &[u8], column: u64, f: &mut fmt::Formatter<W>) -> fmt::Result {
-    let column = column as usize;
-    if column <= MOST || line.len() <= MOST {
-        return show_bytes(line, f);
-    }
-    let most = line.len().saturating_sub(MOST);
-    let start = column.saturating_sub(MOST / 2).min(most);
-    f.write_str("..")?;
-    show_bytes(line.get(start..).unwrap_or(b""), f)
-}
-
-impl Display for Piece<'_> {
+impl Display for Special {
     fn fmt<W: fmt::Write>(&self, f: &mut fmt::Formatter<W>) -> fmt::Result {
         match *self {
-            Piece::Nothing => Ok(()),
-            Word(word) => f.write_str(word),
-            Bytes(bytes) => show_bytes(bytes, f),
-            Number(number) => write!(f, "{number}"),
-            Line(line, column) => show_line(line, column, f),
-            Count(1, noun) => write!(f, "1 {noun}"),
-            Count(count, noun) => write!(f, "{count} {noun}s"),
-            Lies(Region::Root) => f.write_str("the root"),
-            Lies(Region::Arm { cond, side: true }) => write!(f, "arm {cond}+"),
-            Lies(Region::Arm { cond, side: false }) => write!(f, "arm {cond}-"),
-            Output(Source { node, port }) => write!(f, "{node}.{port}"),
-            Reading(kind) => Display::fmt(&kind, f),
-            Checking(kind) => Display::fmt(&kind, f),
-            Programming(kind) => Display::fmt(&kind, f),
+            Special::Nothing => Ok(()),
+            Special::Lies(Region::Root) => f.write_str("the root"),
+            Special::Lies(Region::Arm { cond, side }) => {
+                write!(f, "arm {cond}{}", if side { '+' } else { '-' })
+            }
+            Special::Reading(kind) => Display::fmt(&kind, f),
+            Special::Checking(kind) => Display::fmt(&kind, f),
+            Special::Programming(kind) => Display::fmt(&kind, f),
         }
     }
 }
 
-/// A text, and the pieces that it shows, of which `$1` is the first.
-#[derive(Clone, Copy)]
-pub struct Message<'a> {
-    text: &'static str,
-    first: Piece<'a>,
-    second: Piece<'a>,
-    third: Piece<'a>,
-    fourth: Piece<'a>,
+/// Shows a byte: one that is not printable as `\xHH`.
+fn show_byte<W: fmt::Write>(byte: u8, f: &mut fmt::Formatter<W>) -> fmt::Result {
+    match byte {
+        b' '..=b'~' => f.write_char(char::from(byte)),
+        other => write!(f, "\\x{other:02x}"),
+    }
 }
 
-fn piece_at<'a>(pieces: &[Piece<'a>], place: usize) -> Piece<'a> {
-    pieces.get(place).copied().unwrap_or(Piece::Nothing)
+fn show_part<W: fmt::Write>(part: &[u8], f: &mut fmt::Formatter<W>) -> fmt::Result {
+    for byte in part.iter().take(MOST) {
+        show_byte(*byte, f)?;
+    }
+    f.write_str(if part.len() > MOST { ".." } else { "" })
 }
 
-/// The message with this text, or with the text of this name, which shows nothing.
-pub fn say<'a>(name: &'static str) -> Message<'a> {
-    let text = found("", name).unwrap_or(name);
-    Message::of(text, &[])
-}
-
-impl<'a> Message<'a> {
-    fn of(text: &'static str, pieces: &[Piece<'a>]) -> Message<'a> {
-        let (first, second) = (piece_at(pieces, 0), piece_at(pieces, 1));
-        let (third, fourth) = (piece_at(pieces, 2), piece_at(pieces, 3));
-        Message {
-            text,
-            first,
-            second,
-            third,
-            fourth,
+impl Found<'_> {
+    /// Shows the value that this sign stands for.
+    fn show<W: fmt::Write>(&self, sign: u8, f: &mut fmt::Formatter<W>) -> fmt::Result {
+        let specials = self.specials;
+        let place = sign.to_ascii_lowercase().wrapping_sub(b'a');
+        let number = self.numbers.get(usize::from(place)).copied().unwrap_or(0);
+        match sign {
+            b'1' => f.write_str(self.words[0]),
+            b'2' => f.write_str(self.words[1]),
+            b'a'..=b'f' => Display::fmt(&number, f),
+            b'A'..=b'F' => f.write_str(if number == 1 { "" } else { "s" }),
+            b'p' => show_part(self.parts[0], f),
+            b'q' => show_part(self.parts[1], f),
+            b's' => show_part(self.parts[2], f),
+            b'x' => Display::fmt(&specials[0], f),
+            _ => Display::fmt(&specials[1], f),
         }
     }
-
-    /// The message with these pieces, four at most.
-    pub fn with(self, pieces: &[Piece<'a>]) -> Message<'a> {
-        Message::of(self.text, pieces)
-    }
 }
 
-impl Display for Message<'_> {
+/// Shows the cause.
+impl Display for Found<'_> {
     fn fmt<W: fmt::Write>(&self, f: &mut fmt::Formatter<W>) -> fmt::Result {
-        let mut parts = self.text.split('$');
+        let mut parts = found("", self.cause).unwrap_or(self.cause).split('$');
         f.write_str(parts.next().unwrap_or(""))?;
         for part in parts {
-            match part.as_bytes().first() {
-                Some(b'1') => Display::fmt(&self.first, f)?,
-                Some(b'2') => Display::fmt(&self.second, f)?,
-                Some(b'3') => Display::fmt(&self.third, f)?,
-                _ => Display::fmt(&self.fourth, f)?,
-            }
+            let sign = part.as_bytes().first().copied().unwrap_or(b'x');
+            self.show(sign, f)?;
             f.write_str(part.get(1..).unwrap_or(""))?;
         }
         Ok(())
     }
 }
 
-/// What a person reads: a cause, and its place if that is known.
-#[derive(Clone, Copy)]
-pub struct Found<'a> {
-    pub place: Option<Message<'a>>,
-    pub cause: Message<'a>,
+/// What is shown of a line, where something is at this column, from 1: a long line is shown round it.
+pub fn window(line: &[u8], column: u64) -> &[u8] {
+    let column = column as usize;
+    if column <= MOST {
+        return line;
+    }
+    let most = line.len().saturating_sub(MOST);
+    let start = column.saturating_sub(MOST / 2).min(most);
+    line.get(start..).unwrap_or(line)
 }
 
-/// A cause without a place.
-pub fn nowhere<'a>(cause: Message<'a>) -> Found<'a> {
-    Found { place: None, cause }
+/// The place that a line is, of which this is shown.
+pub fn at_line(line: &[u8], shown: &[u8]) -> Text {
+    match line.len() {
+        0 => "line $f is empty",
+        len if shown.len() < len => "line $f is `..$s`",
+        _ => "line $f is `$s`",
+    }
 }
 
-/// A cause at this place.
-pub fn at<'a>(place: Message<'a>, cause: Message<'a>) -> Found<'a> {
-    let place = Some(place);
-    Found { place, cause }
+impl<'a> Found<'a> {
+    /// A cause at this place, if that is known, that shows these words, parts and numbers.
+    pub fn of(
+        place: Option<Text>,
+        cause: Text,
+        words: [&'a str; 2],
+        parts: [&'a [u8]; 3],
+        numbers: [u64; 6],
+    ) -> Found<'a> {
+        Found {
+            place,
+            cause,
+            words,
+            parts,
+            numbers,
+            specials: [Special::Nothing; 2],
+        }
+    }
+
+    /// The same, with what `$x` and `$y` are.
+    pub fn with(self, specials: [Special; 2]) -> Found<'a> {
+        Found { specials, ..self }
+    }
 }
 
-/// A cause at line `number` of a text, counted from 1, which is this line. What the cause shows first is to be seen there, if it
-/// is a word of the line, or a number, which is a column.
-pub fn at_line<'a>(number: u64, line: &'a [u8], cause: Message<'a>) -> Found<'a> {
-    let column = match cause.first {
-        Bytes(word) => column_at(line, word).unwrap_or(1),
-        Number(column) => column,
-        _ => 1,
-    };
-    let (full, bare) = ("line $1 is `$2`", "line $1 is empty");
-    let text = if line.is_empty() { bare } else { full };
-    let place = say(text).with(&[Number(number), Line(line, column)]);
-    at(place, cause)
+/// A cause without a place that shows these words at most.
+pub fn nowhere<'a>(cause: Text, words: [&'a str; 2]) -> Found<'a> {
+    Found::of(None, cause, words, [b""; 3], [0; 6])
 }

@@ -4,10 +4,11 @@ ghost use Rattle.std.specs.Prelude.{◌≡◌, ◌==◌, is_some, nat_lt, not};
 ghost use Rattle.outcomes.specs.Outcomes.{ending_status, exit_status, meaning_status};
 
 use crate::blocks::Block;
+use crate::catalog::Text;
 use crate::fields::literal_fault;
-use crate::lines::{is_line_feed, last_line, line_at, split_graph, text_at, word_at};
-use crate::message::{Bytes, Count, Found, Message, Number, Word, at, nowhere, say};
-use crate::words::bad_input_in;
+use crate::lines::{is_full, is_line_feed, last_line, line_at, split_graph, text_at, word_at};
+use crate::message::{Counted, Found, nowhere};
+use crate::words::{Sought, first_of};
 use command_line::{Inputs, Request, RunOptions, Sizes};
 use object_view::Object;
 use oracle::MeanEnd;
@@ -21,6 +22,16 @@ const STEPS: u64 = 4_294_967_296;
 /// The most picks of an order.
 const PICKS: u64 = 4_194_304;
 
+/// What the rules exclude, from the first.
+const RULES: [Text; 6] = [
+    "rule 1 excludes a token: it goes to an instruction that is not there",
+    "rule 2 excludes a token: it goes to the right port of an instruction that takes one token",
+    "rule 3 excludes a token: the slot of its instruction is in a state in which the instruction does not take it",
+    "rule 4 excludes a token: its word, or the one that it meets, is of a kind that is not taken there: a value, a frame or a continuation",
+    "rule 5 excludes a token: it gives back a frame that is not out",
+    "rule 6 excludes a token: it goes to an output of main that has its value, or that is not there",
+];
+
 /// What was asked for, and the input that was read for it, if that was kept.
 #[derive(Clone, Copy)]
 pub struct Case<'r, 'a> {
@@ -28,202 +39,187 @@ pub struct Case<'r, 'a> {
     pub input: Option<&'a [u8]>,
 }
 
+/// What is wrong with input `number`, which is this.
+fn at_input<'a>(place: Text, cause: Text, number: u64, input: &'a [u8]) -> Found<'a> {
+    let numbers = [number, 0, 0, 0, 0, 0];
+    Found::of(Some(place), cause, [""; 2], [input; 3], numbers)
+}
+
 /// The cause for line `number` of the inputs, which is not an integer.
 pub fn input_fault(input: &[u8], number: u64) -> Found<'_> {
     let line = line_at(split_graph(input).1, number);
-    let empty = line.is_empty();
-    let place = say(if empty { "no-line" } else { "input-line" });
-    let cause = match line {
-        [] => None,
-        [.., b'\r'] => Some(say("carriage-return").with(&[Word("inputs")])),
-        _ => Some(literal_fault(line)),
-    };
-    let cause = cause.unwrap_or(say("inputs are integers, one a line, and no empty lines"));
-    at(place.with(&[Number(number), Bytes(line)]), cause)
+    match line {
+        [] => at_input("no-input-line", "input-kinds", number, line),
+        [.., b'\r'] => at_input("input-line", "return-in-inputs", number, line),
+        _ => at_input("input-line", literal_fault(line), number, line),
+    }
 }
 
 /// The cause for input `number` of the words after `exec`, which is the first that is not an integer.
 pub fn given_fault<'a, S: AsStr>(words: &'a [S], number: u64) -> Option<Found<'a>> {
-    let input = bad_input_in(words)?.as_bytes();
-    let place = say("input $1 of the command line is `$2`").with(&[Number(number), Bytes(input)]);
-    Some(at(place, literal_fault(input)))
+    let input = first_of(Sought::Input, words)?.as_bytes();
+    Some(at_input(
+        "input $a of the command line is `$p`",
+        literal_fault(input),
+        number,
+        input,
+    ))
 }
 
 /// The cause for a run of this graph that was given another number of inputs than main has.
-fn inputs_cause(input: &[u8]) -> Option<Message<'_>> {
+fn inputs_fault(input: &[u8]) -> Option<Found<'_>> {
     let (text, lines) = split_graph(input);
     let name = text_at(line_at(text, last_line(text)), 1);
-    let wants = Count(Block::of(text, Some(name), 0)?.inputs, "input");
-    let inputs = lines.split(is_line_feed).filter(|line| !line.is_empty());
-    let has = Count(inputs.count() as u64, "integer");
-    Some(say("graph-inputs").with(&[Word(name), wants, has]))
+    let wants = Block::of(text, Some(name), 0)?.inputs;
+    let has = lines.split(is_line_feed).filter(is_full).count() as u64;
+    let numbers = [has, wants, 0, 0, 0, 0];
+    Some(Found::of(None, "graph-inputs", [name; 2], [b""; 3], numbers))
 }
 
 /// The cause for a run of an object that was given these inputs, where its main block wants another number.
-fn object_inputs_cause<'a>(object: &[u8], inputs: &Inputs) -> Option<Message<'a>> {
+fn object_inputs_fault<'a>(object: &[u8], inputs: &Inputs) -> Option<Found<'a>> {
     let object = Object::open(object).ok()?;
     let main = object.main();
-    let wants = Count(u64::from(object.block(main)?.inputs), "input");
-    match inputs {
-        Inputs::Integers(integers) => {
-            let has = Count(integers.len() as u64, "integer");
-            Some(say("object-inputs").with(&[Number(u64::from(main)), wants, has]))
-        }
-        Inputs::TooMany => Some(say("too-many-inputs")),
-        Inputs::NoInteger(_) => None,
-    }
+    let wants = u64::from(object.block(main)?.inputs);
+    let (cause, has) = match inputs {
+        Inputs::Integers(integers) => ("object-inputs", integers.len() as u64),
+        Inputs::TooMany => ("many-inputs", 0),
+        Inputs::NoInteger(_) => return None,
+    };
+    let numbers = [has, wants, u64::from(main), 0, 0, 0];
+    Some(Found::of(None, cause, [""; 2], [b""; 3], numbers))
 }
 
-/// The cause for an option with this value, if that is not within these limits.
-fn range<'a>(option: &'static str, value: u64, least: u64, most: u64) -> Option<Message<'a>> {
-    let pieces = [Word(option), Number(value), Number(least), Number(most)];
-    (value < least || most < value).then_some(say("--$1 is $3 to $4, and not $2").with(&pieces))
-}
-
-/// What is wrong with numbers of elements.
-fn sizes_cause<'a>(sizes: Sizes) -> Option<Message<'a>> {
-    for elements in 0..63u64 {
-        let cause = range("elements", elements, 1, 16);
-        if sizes.has(elements) && cause.is_some() {
-            return cause;
-        }
-    }
-    let large = say("--elements is 1 to 16, and not above 62");
-    sizes.has(63).then_some(large)
+/// A cause that shows a number.
+fn numbered<'a>(cause: Text, number: u64) -> Found<'a> {
+    Found::of(None, cause, [""; 2], [b""; 3], [number, 0, 0, 0, 0, 0])
 }
 
 /// The options of a request that can be refused because of them.
 fn options_of(request: &Request) -> Option<&RunOptions> {
     match request {
-        Request::Run(options) => Some(options),
-        Request::Exec { options, .. } => Some(options),
-        Request::Trace { options, .. } => Some(options),
-        Request::Profile { options, .. } => Some(options),
-        Request::Orders { options, .. } => Some(options),
+        Request::Run(options)
+        | Request::Exec { options, .. }
+        | Request::Trace { options, .. }
+        | Request::Profile { options, .. }
+        | Request::Orders { options, .. } => Some(options),
         _ => None,
     }
 }
 
-/// What is wrong with what this request alone has: the numbers of elements of a profile, or how many orders there are to be.
-fn own_cause<'a>(request: &Request) -> Option<Message<'a>> {
-    if let Request::Profile { sizes, .. } = request {
-        return sizes_cause(*sizes);
+/// What is wrong with numbers of elements, and the first that is wrong; 63 stands for all above 62.
+fn sizes_cause(sizes: Sizes) -> (Text, u64) {
+    for elements in 0..63u64 {
+        if sizes.has(elements) && !(1..=16).contains(&elements) {
+            return ("elements", elements);
+        }
     }
-    let cause = say("--count is at least 1, and not 0");
-    matches!(request, Request::Orders { count: 0, .. }).then_some(cause)
+    if sizes.has(63) {
+        return ("--elements is 1 to 16, and not above 62", 63);
+    }
+    ("mode", 0)
 }
 
-/// The first option whose value is outside its limits.
-fn option_cause<'a>(request: &Request) -> Option<Message<'a>> {
+/// The first option whose value is outside its limits, and the value.
+fn option_fault<'a>(request: &Request) -> Option<Found<'a>> {
     let options = options_of(request)?;
-    range("elements", options.elements, 1, 16)
-        .or(range("frames", options.frames, 1, 1_024))
-        .or(range("steps", options.steps, 0, STEPS))
-        .or(own_cause(request))
-        .or(Some(say("--mode is `one`, `rounds` or `free`")))
+    let (cause, value) = match request {
+        _ if !(1..=16).contains(&options.elements) => ("elements", options.elements),
+        _ if !(1..=1_024).contains(&options.frames) => ("frames", options.frames),
+        _ if STEPS < options.steps => ("--steps is 0 to 4294967296, and not $a", options.steps),
+        Request::Orders { count: 0, .. } => ("--count is at least 1, and not 0", 0),
+        Request::Profile { sizes, .. } => sizes_cause(*sizes),
+        _ => ("mode", 0),
+    };
+    Some(numbered(cause, value))
 }
 
 /// Why a run of this case does not start. `None` where that is not known, as where the input was not kept.
-pub fn start_cause<'a>(case: &Case<'_, 'a>, fault: StartFault) -> Option<Message<'a>> {
+pub fn start_fault<'a>(case: &Case<'_, 'a>, fault: StartFault) -> Option<Found<'a>> {
     match fault {
-        StartFault::NoFrames => return range("frames", options_of(case.request)?.frames, 1, 1_024),
-        StartFault::BadConfig => return option_cause(case.request),
         StartFault::Memory => return None,
+        StartFault::NoFrames => return Some(numbered("frames", options_of(case.request)?.frames)),
+        StartFault::BadConfig => return option_fault(case.request),
         StartFault::WrongInputs => (),
     }
     let input = case.input?;
     if let Request::Exec { inputs, .. } = case.request {
-        return object_inputs_cause(input, inputs);
+        return object_inputs_fault(input, inputs);
     }
-    inputs_cause(input)
+    inputs_fault(input)
 }
 
 /// What is said where memory is refused.
-pub fn memory_cause<'a>(request: &Request) -> Message<'a> {
-    say(match request {
-        Request::Run(_) | Request::Exec { .. } => "memory-of-run",
-        Request::Trace { .. } | Request::Orders { .. } | Request::Profile { svg: false, .. } => {
-            "memory-of-events"
-        }
+pub fn memory_cause(request: &Request) -> Text {
+    match request {
+        Request::Run(_) | Request::Exec { .. } => "run-memory",
+        Request::Trace { .. } | Request::Orders { .. } | Request::Profile { svg: false, .. } =>
+            "event-memory",
         _ => "memory was refused: this input wants more than there is",
-    })
+    }
 }
 
-/// What ran out. In an order with one element each pick is an event, and with more no element makes more events than there are picks.
-fn steps_cause<'a>(request: &Request) -> Message<'a> {
-    let most = Number(STEPS);
+/// What ran out, how much there was of it, and the most of it. Picks of an order are events of all elements together.
+fn steps_cause(request: &Request) -> Counted {
     match request {
-        Request::Run(options) | Request::Exec { options, .. } | Request::Trace { options, .. } => {
-            say("steps").with(&[Count(options.steps, "step"), most])
-        }
         Request::Orders { options, .. } => {
-            let name = match options.elements {
-                _ if options.steps >= PICKS => "picks",
-                1 => "steps",
-                _ => "steps-or-picks",
+            let cause = match options.elements {
+                _ if options.steps >= PICKS => "picks-end",
+                1 => "steps-end",
+                _ => "steps-or-picks-end",
             };
-            say(name).with(&[Count(options.steps, "step"), Number(PICKS)])
+            (cause, options.steps, PICKS)
         }
-        Request::Profile { options, .. } => say("wave").with(&[Number(options.steps), most]),
-        Request::Mean { steps } => say("activities").with(&[Number(*steps)]),
-        _ => say("activities").with(&[Number(0)]),
+        Request::Run(options) | Request::Exec { options, .. } | Request::Trace { options, .. } => {
+            ("steps-end", options.steps, STEPS)
+        }
+        Request::Profile { options, .. } => ("wave-end", options.steps, STEPS),
+        Request::Mean { steps } => ("activities-end", *steps, STEPS),
+        _ => ("activities-end", 0, STEPS),
     }
 }
 
 /// Whether an object was run.
-fn is_of_object(request: &Request) -> bool {
+pub fn is_of_object(request: &Request) -> bool {
     matches!(request, Request::Exec { .. })
 }
 
 /// Why this many requests for frames and for credits wait.
-fn starved_cause<'a>(request: &Request, frames: u64, credits: u64) -> Message<'a> {
-    let name = match (frames, credits) {
+fn starved_cause(request: &Request, frames: u64, credits: u64) -> Text {
+    match (frames, credits) {
         (_, 0) => "no-frame",
         (0, _) if is_of_object(request) => "no-credit-of-code",
         (0, _) => "no-credit",
         _ => "no-frame-no-credit",
-    };
-    say(name).with(&[Count(frames, "request"), Count(credits, "request")])
-}
-
-/// Why a run clashed: at this cell of array number `array`, whose name is known where a graph was read that was kept.
-fn clash_cause<'a>(case: &Case<'_, 'a>, array: u64, index: u32) -> Message<'a> {
-    let array = match case.input {
-        Some(text) if !is_of_object(case.request) => {
-            Bytes(word_at(line_at(text, array.saturating_add(2)), 1))
-        }
-        _ => Number(array),
-    };
-    say("clash").with(&[Number(u64::from(index)), array])
-}
-
-/// Why a rule excludes a token, and whose fault that is.
-fn stuck_fault<'a>(request: &Request, rule: u8) -> Found<'a> {
-    let of_object = is_of_object(request);
-    let cause = say(if of_object { "stuck-object" } else { "stuck" });
-    let rules = ["rule-1", "rule-2", "rule-3", "rule-4", "rule-5", "rule-6"];
-    match rules.get(usize::from(rule.wrapping_sub(1))) {
-        Some(name) => at(say(*name), cause),
-        None => nowhere(cause),
     }
 }
 
-/// Why a run did not end at rest, of which so many requests for frames and for credits wait.
-fn run_fault<'a>(case: &Case<'_, 'a>, end: End, frames: u64, credits: u64) -> Option<Found<'a>>
+/// Why a run clashed: at a cell of an array whose name is known where a graph was read that was kept.
+fn clash_cause(case: &Case<'_, '_>) -> Text {
+    let is_named = case.input.is_some() && !is_of_object(case.request);
+    if is_named { "named-clash" } else { "clash" }
+}
+
+/// Why a run did not end at rest, of which so many requests for frames and for credits wait, with two numbers: these, or others.
+fn run_cause(case: &Case<'_, '_>, end: End, frames: u64, credits: u64) -> Option<Counted>
     ensures { is_some result ≡ not (exit_status end == 0) }
 {
+    let request = case.request;
     match end {
         End::Rest | End::Stop => None,
-        End::Memory => Some(nowhere(memory_cause(case.request))),
-        End::Starved => Some(nowhere(starved_cause(case.request, frames, credits))),
-        End::Clash { array, index } => Some(nowhere(clash_cause(case, u64::from(array), index))),
-        End::Steps => Some(nowhere(steps_cause(case.request))),
-        End::Stuck { rule } => Some(stuck_fault(case.request, rule)),
+        End::Memory => Some((memory_cause(request), 0, 0)),
+        End::Starved => Some((starved_cause(request, frames, credits), frames, credits)),
+        End::Clash { array, index } => {
+            Some((clash_cause(case), u64::from(index), u64::from(array)))
+        }
+        End::Steps => Some(steps_cause(request)),
+        End::Stuck { .. } if is_of_object(request) => Some(("stuck-object", 0, 0)),
+        End::Stuck { .. } => Some(("stuck", 0, 0)),
     }
 }
 
-/// Why what was run did not end at rest.
-pub fn end_fault<'a>(case: &Case<'_, 'a>, ending: Ending) -> Option<Found<'a>>
+/// Why what was run did not end at rest, with two numbers.
+fn end_cause(case: &Case<'_, '_>, ending: Ending) -> Option<Counted>
     ensures { is_some result ≡ not (ending_status ending == 0) }
 {
     match ending {
@@ -231,18 +227,40 @@ pub fn end_fault<'a>(case: &Case<'_, 'a>, ending: Ending) -> Option<Found<'a>>
             end,
             frames,
             credits,
-        } => run_fault(case, end, frames, credits),
+        } => run_cause(case, end, frames, credits),
         Ending::Meaning(MeanEnd::Rest) => None,
         Ending::Meaning(MeanEnd::Clash { array, index }) => {
-            Some(nowhere(clash_cause(case, array as u64, index)))
+            Some((clash_cause(case), u64::from(index), array as u64))
         }
-        Ending::Meaning(MeanEnd::Steps) => Some(nowhere(steps_cause(case.request))),
+        Ending::Meaning(MeanEnd::Steps) => Some(steps_cause(case.request)),
     }
+}
+
+/// The rule that excludes a token at this ending.
+fn rule_of(ending: Ending) -> Option<Text> {
+    match ending {
+        Ending::Run {
+            end: End::Stuck { rule },
+            ..
+        } => RULES.get(usize::from(rule.wrapping_sub(1))).copied(),
+        _ => None,
+    }
+}
+
+/// Why what was run did not end at rest, and by which rule.
+pub fn end_fault<'a>(case: &Case<'_, 'a>, ending: Ending) -> Option<Found<'a>>
+    ensures { is_some result ≡ not (ending_status ending == 0) }
+{
+    let (cause, first, second) = end_cause(case, ending)?;
+    let line = line_at(case.input.unwrap_or(b""), second.saturating_add(2));
+    let parts = [word_at(line, 1); 3];
+    let numbers = [first, second, 0, 0, 0, 0];
+    Some(Found::of(rule_of(ending), cause, [""; 2], parts, numbers))
 }
 
 /// What is said of a page that shows this many events.
 pub fn page_fault<'a>(events: u64) -> Option<Found<'a>>
     ensures { is_some result ≡ nat_lt 200000 events }
 {
-    (events > 200_000).then_some(nowhere(say("large-page")))
+    (events > 200_000).then_some(nowhere("large-page", [""; 2]))
 }
