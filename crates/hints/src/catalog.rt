@@ -198,7 +198,10 @@ values/loop: a turn of this loop gives more or fewer values than the loop has na
 pub fn found(group: &str, name: &str) -> Option<Text> {
     for line in TEXTS.split('\n') {
         let (names, text) = line.split_once(": ").unwrap_or(("", line));
-        for own in names.strip_prefix(group).unwrap_or("").split(", ") {
+        let Some(names) = names.strip_prefix(group) else {
+            continue;
+        };
+        for own in names.split(", ") {
             if own == name {
                 return Some(text);
             }

@@ -148,16 +148,6 @@ fn line_of<A: Allocator + Clone>(alloc: A, found: &Found<'_>) -> Result<Line<A>,
     Line::of(alloc, text.as_str())
 }
 
-/// The hint that gives this cause.
-fn hint_of<A: Allocator + Clone>(alloc: A, found: &Found<'_>) -> Result<Hint<A>, AllocError> {
-    let place = match found.place {
-        Some(cause) => Some(line_of(alloc.clone()?, &Found { cause, ..*found })?),
-        None => None,
-    };
-    let cause = line_of(alloc, found)?;
-    Ok(Hint { place, cause })
-}
-
 /// The hint that a person gets after a command. `words` are the words of the command line, the program's name first. `input` is
 /// what the command read, if that was kept. `outcome` is the outcome of the words; `None` where a write failed. There is a hint
 /// exactly where one is wanted.
@@ -169,8 +159,13 @@ pub fn explain<S: AsStr, A: Allocator + Clone>(
 ) -> Result<Option<Hint<A>>, AllocError>
     ensures { IfOk result (λ hint. is_some hint ≡ wants_hint outcome) }
 {
-    match cause_of(words.get(1..).unwrap_or(words), input, outcome) {
-        Some(found) => Ok(Some(hint_of(alloc, &found)?)),
-        None => Ok(None),
-    }
+    let Some(found) = cause_of(words.get(1..).unwrap_or(words), input, outcome) else {
+        return Ok(None);
+    };
+    let place = match found.place {
+        Some(cause) => Some(line_of(alloc.clone()?, &Found { cause, ..found })?),
+        None => None,
+    };
+    let cause = line_of(alloc, &found)?;
+    Ok(Some(Hint { place, cause }))
 }

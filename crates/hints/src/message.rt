@@ -1,6 +1,7 @@
 //! Messages: texts, with the values that they show.
 
 use crate::catalog::{Text, found};
+use crate::lines::text_of;
 use graph_check::CheckFaultKind;
 use graph_file::ReadFaultKind;
 use semantics::graph::Region;
@@ -95,9 +96,10 @@ impl Display for Found<'_> {
         let mut parts = found("", self.cause).unwrap_or(self.cause).split('$');
         f.write_str(parts.next().unwrap_or(""))?;
         for part in parts {
-            let sign = part.as_bytes().first().copied().unwrap_or(b'x');
-            self.show(sign, f)?;
-            f.write_str(part.get(1..).unwrap_or(""))?;
+            if let [sign, rest @ ..] = part.as_bytes() {
+                self.show(*sign, f)?;
+                f.write_str(text_of(rest))?;
+            }
         }
         Ok(())
     }
