@@ -170,6 +170,11 @@ listing/block: block NUMBER inputs I outputs O slots S
 listing/array: array NUMBER CELLS
 listing/literal: literal NUMBER V
 listing/instruction: NUMBER NAME SLOT FIRST SECOND OPERAND
+next/fn, array: the next item begins
+head/etsgraph: other/graph/
+head/ets: other/listing/
+head/fn, array: other/program/
+alone/--, --literals, --code, --svg, --map: no value follows
 item/}: no block is open that this `}` could close
 item/;: no `;` comes after the body of a function
 name/array, fn, let, if, else, loop, while, strict: `$1` is a word of the language, and no name

@@ -24,7 +24,7 @@ use catalog::{Text, found};
 use command_line::{Asked, Request, read_words};
 use graphs::{code_fault, graph_fault};
 pub use line::{Hint, Line};
-use lines::split_graph;
+use lines::{split_graph, text_of, word_at};
 use listings::listing_fault;
 use message::{Found, Special, nowhere};
 use objects::object_fault;
@@ -42,12 +42,9 @@ use words::runs_graph;
 fn other_input(input: &[u8], command: &str) -> Option<Text> {
     let group = match input {
         [] => "other/empty/",
-        _ if input.starts_with(b"etsgraph ") => "other/graph/",
         _ if input.starts_with(b"ETSOBJCT") => "other/object/",
-        _ if input.starts_with(b"ets ") => "other/listing/",
-        _ if input.starts_with(b"fn ") || input.starts_with(b"array ") => "other/program/",
         _ if input.starts_with(b"//") => "other/program/",
-        _ => return None,
+        _ => found("head/", text_of(word_at(input, 0)))?,
     };
     let reads = found("reads/", command).unwrap_or("graph");
     found(group, command).or(found(group, reads))

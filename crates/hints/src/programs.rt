@@ -95,7 +95,7 @@ fn wrong(stop: Stop, before: &str, word: &str) -> Option<Text> {
         Expected::Step => Within::Block,
         Expected::Operand(within) | Expected::Operator(within) => within,
     };
-    if ["", "fn", "array"].contains(&word) {
+    if word.is_empty() || found("next/", word).is_some() {
         return match within {
             Within::Block | Within::Group | Within::Arguments | Within::Index => {
                 stop.open.and(Some("the `$q` of line $c is not closed"))

@@ -110,7 +110,7 @@ fn options_of(request: &Request) -> Option<&RunOptions> {
 /// What is wrong with numbers of elements, and the first that is wrong; 63 stands for all above 62.
 fn sizes_cause(sizes: Sizes) -> (Text, u64) {
     for elements in 0..63u64 {
-        if sizes.has(elements) && !(1..=16).contains(&elements) {
+        if sizes.has(elements) && (elements == 0 || 16 < elements) {
             return ("elements", elements);
         }
     }
@@ -124,8 +124,8 @@ fn sizes_cause(sizes: Sizes) -> (Text, u64) {
 fn option_fault<'a>(request: &Request) -> Option<Found<'a>> {
     let options = options_of(request)?;
     let (cause, value) = match request {
-        _ if !(1..=16).contains(&options.elements) => ("elements", options.elements),
-        _ if !(1..=1_024).contains(&options.frames) => ("frames", options.frames),
+        _ if options.elements == 0 || 16 < options.elements => ("elements", options.elements),
+        _ if options.frames == 0 || 1_024 < options.frames => ("frames", options.frames),
         _ if STEPS < options.steps => ("--steps is 0 to 4294967296, and not $a", options.steps),
         Request::Orders { count: 0, .. } => ("--count is at least 1, and not 0", 0),
         Request::Profile { sizes, .. } => sizes_cause(*sizes),

@@ -22,10 +22,8 @@ fn header_cause(first: &[u8]) -> Text {
 /// The cause for the byte at this place, which no line may contain, its column and the byte.
 fn byte_cause(place: FieldPlace, line: &[u8]) -> Counted {
     let column = place.column(line);
-    let byte = line
-        .get(column.saturating_sub(1) as usize)
-        .copied()
-        .unwrap_or(0);
+    let place = column.saturating_sub(1) as usize;
+    let byte = line.get(place).copied().unwrap_or(0);
     let text = match byte {
         b'\r' if column == line.len() as u64 => "return-in-graph",
         b'\t' => "column $a has a tab: one space separates two fields",

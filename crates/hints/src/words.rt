@@ -22,8 +22,7 @@ pub enum Sought {
 
 /// Whether the next word may be the value of this option.
 fn waits(word: &str) -> bool {
-    let alone = ["--", "--literals", "--code", "--svg", "--map"];
-    word.starts_with("--") && !alone.contains(&word) && !word.contains('=')
+    word.starts_with("--") && found("alone/", word).is_none() && !word.contains('=')
 }
 
 /// Whether this word is sought, which may be the value of an option, or is after `--`.
@@ -65,11 +64,11 @@ fn reading<'a, S: AsStr>(command: &'a str, words: &'a [S]) -> &'a str {
 
 /// Whether this request is of a command that runs the graph that it reads.
 pub fn runs_graph(request: &Request) -> bool {
-    match request {
-        Request::Run(_) | Request::Mean { .. } | Request::Trace { .. } => true,
-        Request::Profile { .. } | Request::Orders { .. } => true,
-        _ => false,
-    }
+    use Request::{Mean, Orders, Profile, Run, Trace};
+    matches!(
+        request,
+        Run(_) | Mean { .. } | Trace { .. } | Profile { .. } | Orders { .. }
+    )
 }
 
 /// What is wrong with the words after a command, which alone is this request.
