@@ -136,14 +136,20 @@ impl<'m, A: Allocator> Contents<'m, A> {
             token: *token,
         };
         match instr.op {
-            Op::Apply2 { .. } => { self.at_pair::<C, Operates, T, Site>(code, &arrival, &instr, sent) }
+            Op::Apply2 { .. } => {
+                self.at_pair::<C, Operates, T, Site>(code, &arrival, &instr, sent)
+            }
             Op::Sync => self.at_pair::<C, Syncs, T, Site>(code, &arrival, &instr, sent),
             Op::Switch => self.at_pair::<C, Switches, T, Site>(code, &arrival, &instr, sent),
             Op::Send { .. } => self.at_pair::<C, Sends, T, Site>(code, &arrival, &instr, sent),
-            Op::Return { .. } => { self.at_pair::<C, Returns, T, Site>(code, &arrival, &instr, sent) }
+            Op::Return { .. } => {
+                self.at_pair::<C, Returns, T, Site>(code, &arrival, &instr, sent)
+            }
             Op::Ask { .. } => self.at_pair::<C, Asks, T, Site>(code, &arrival, &instr, sent),
             Op::Store { .. } => { self.at_pair::<C, Stores, T, Site>(code, &arrival, &instr, sent) }
-            Op::Release { .. } => { self.at_pair::<C, Releases, T, Site>(code, &arrival, &instr, sent) }
+            Op::Release { .. } => {
+                self.at_pair::<C, Releases, T, Site>(code, &arrival, &instr, sent)
+            }
             Op::Apply1 { .. } => { self.at_lone::<C, Computes, Site>(code, &arrival, &instr) }
             Op::Apply2Right { .. } => {
                 self.at_lone::<C, AppliesRight, Site>(code, &arrival, &instr)
@@ -156,8 +162,12 @@ impl<'m, A: Allocator> Contents<'m, A> {
             Op::Take { .. } => { self.at_credit::<C, Takes, T, Site>(code, &arrival, &instr, sent) }
             Op::Give { .. } => { self.at_credit::<C, Gives, T, Site>(code, &arrival, &instr, sent) }
             Op::Frame => self.at_frame::<C, T, Site>(code, &arrival, &instr, sent),
-            Op::Link { .. } => { self.at_leaving::<C, Links, T, Site>(code, &arrival, &instr, sent) }
-            Op::Fetch { .. } => { self.at_leaving::<C, Fetches, T, Site>(code, &arrival, &instr, sent) }
+            Op::Link { .. } => {
+                self.at_leaving::<C, Links, T, Site>(code, &arrival, &instr, sent)
+            }
+            Op::Fetch { .. } => {
+                self.at_leaving::<C, Fetches, T, Site>(code, &arrival, &instr, sent)
+            }
             _ => false,
         }
     }
@@ -194,14 +204,20 @@ impl<'m, A: Allocator> Contents<'m, A> {
             token: *token,
         };
         match instr.op {
-            Op::Apply2 { .. } => { self.at_pair::<C, Operates, T, Site>(code, &arrival, &instr, sent) }
+            Op::Apply2 { .. } => {
+                self.at_pair::<C, Operates, T, Site>(code, &arrival, &instr, sent)
+            }
             Op::Sync => self.at_pair::<C, Syncs, T, Site>(code, &arrival, &instr, sent),
             Op::Switch => self.at_pair::<C, Switches, T, Site>(code, &arrival, &instr, sent),
             Op::Send { .. } => self.at_pair::<C, Sends, T, Site>(code, &arrival, &instr, sent),
-            Op::Return { .. } => { self.at_pair::<C, Returns, T, Site>(code, &arrival, &instr, sent) }
+            Op::Return { .. } => {
+                self.at_pair::<C, Returns, T, Site>(code, &arrival, &instr, sent)
+            }
             Op::Ask { .. } => self.at_pair::<C, Asks, T, Site>(code, &arrival, &instr, sent),
             Op::Store { .. } => { self.at_pair::<C, Stores, T, Site>(code, &arrival, &instr, sent) }
-            Op::Release { .. } => { self.at_pair::<C, Releases, T, Site>(code, &arrival, &instr, sent) }
+            Op::Release { .. } => {
+                self.at_pair::<C, Releases, T, Site>(code, &arrival, &instr, sent)
+            }
             _ => false,
         }
     }
@@ -241,7 +257,9 @@ impl<'m, A: Allocator> Contents<'m, A> {
                 let matched = Matched { left, right };
                 match arrival.port {
                     Port::Left => self.both::<C, K, T>(code, arrival, place, instr, &matched, sent),
-                    Port::Right => self.both::<C, K, T>(code, arrival, place, instr, &matched, sent),
+                    Port::Right => self.both::<C, K, T>(
+                        code, arrival, place, instr, &matched, sent,
+                    ),
                 }
             }
         }
@@ -390,12 +408,7 @@ impl<'m, A: Allocator> Contents<'m, A> {
 
     // The token is taken out, and one for the frame manager is made.
     #[inline(always)]
-    fn ask<T: Company>(
-        &mut self,
-        at: usize,
-        token: PackedToken,
-        sent: &mut Vec<Token, A>,
-    ) -> bool
+    fn ask<T: Company>(&mut self, at: usize, token: PackedToken, sent: &mut Vec<Token, A>) -> bool
         requires alone { T.ALONE ≡ true → self.old.elements ≡ 1 }
         requires some { self.old.element < self.old.elements }
         requires manager { token.to ≡ To.Manager }
@@ -504,7 +517,13 @@ impl<'m, A: Allocator> Contents<'m, A> {
             None => match K::leave(code, arrival.point, instr, left, right) {
                 Some(leaving) => { self.pass_out::<T>(arrival, Some(place), leaving, sent) }
                 None => match K::release(arrival.point, instr, left, right) {
-                    Some(after) => self.release::<T>(arrival.at, place, arrival.point.frame, after, sent),
+                    Some(after) => self.release::<T>(
+                        arrival.at,
+                        place,
+                        arrival.point.frame,
+                        after,
+                        sent,
+                    ),
                     None => false,
                 },
             },

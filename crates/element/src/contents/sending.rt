@@ -144,7 +144,8 @@ impl<'m, A: Allocator> Contents<'m, A> {
     pub(super) fn keeps<T: Company>(&self, token: &PackedToken) -> bool
         requires alone { T.ALONE ≡ true → self.now.elements ≡ 1 }
         requires there { self.now.element < self.now.elements }
-        ensures { result ≡ true → element_of self.now.elements token.now.to ≡ self.now.element }
+        ensures own { result ≡ true → element_of self.now.elements token.now.to ≡ self.now.element }
+        ensures together { result ≡ false → T.ALONE ≡ false }
     {
         if T::ALONE {
             return true;
