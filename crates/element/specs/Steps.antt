@@ -76,3 +76,10 @@ abbrev pub MakesEvents : Program → ℕ → ℕ → Holding → Holding → Typ
 MakesEvents p steps zero old new = new ≡ old
 MakesEvents p steps (suc n) old new = (mid : Holding) × MakesEvents p steps n old mid × (mid.made < steps) × IsSoundLane p new × (new.made ≤ steps)
     × Does p mid 0 [] new []
+
+-- So many events of a lane, one after another, each with its oldest token. What they make for other elements goes last among the tokens
+-- for these.
+abbrev pub SendsEvents : Program → ℕ → ℕ → Holding → List Token → Holding → List Token → Type 0
+SendsEvents p steps zero old before new after = (new ≡ old) × (after ≡ before)
+SendsEvents p steps (suc n) old before new after = (mid : Holding) × (sent : List Token) × SendsEvents p steps n old before mid sent × (mid.made < steps)
+    × IsSoundLane p new × (new.made ≤ steps) × Does p mid 0 sent new after

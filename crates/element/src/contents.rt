@@ -1,11 +1,12 @@
 //! What an element holds, and what it does with a token. During an event it is not sound.
 
-ghost use Rattle.std.specs.Prelude.{◌≡◌, ℕ, ◌+◌, ◌*◌, ◌%◌, ◌<◌, ◌≤◌, ◌^◌, true, false, [], ◌∷◌, ◌++◌, length, OnOk, OnErr, IfOk, IfSome, IfNone, None, replicate};
+ghost use Rattle.std.specs.Prelude.{◌≡◌, ℕ, ◌+◌, ◌*◌, ◌%◌, ◌<◌, ◌≤◌, ◌^◌, true, false, [], ◌∷◌, ◌++◌, length, OnOk, OnErr, IfOk, IfSome, IfNone, None, replicate, vec_len};
+ghost use Rattle.std.specs.Vec.{vec_capacity};
 ghost use Rattle.element.specs.Holding.{held_in, part_of, shape_of, with_queue, IsSoundLane};
 ghost use Rattle.frame_store.specs.BankViews.{bank_states};
 ghost use Rattle.semantics.specs.Program.{Program};
 ghost use Rattle.element.specs.Acts.{CanAct, ActsAs};
-ghost use Rattle.element.specs.Steps.{Steps, Picks, MakesEvents};
+ghost use Rattle.element.specs.Steps.{Steps, Picks, SendsEvents};
 ghost use Rattle.element.specs.Openings.{opened, shape_at, IsOpening, StartsAs};
 
 use crate::company::{Company, Together};
@@ -163,7 +164,10 @@ impl<'m, A: Allocator> Contents<'m, A> {
         requires { CanAct (C.program code.now) (C.width code.now) (held_in self.old) at token }
         ensures { ActsAs (C.program code.now) (held_in self.old) at token sent.old.items result (held_in self.new) sent.new.items }
     {
-        if self.queue.has_room(3) && self.acts_at_once::<C, Together, Site>(code, at, &token) {
+        if self.queue.has_room(3)
+            && sent.capacity() - sent.len() >= 2
+            && self.acts_at_once::<C, Together, Site>(code, at, &token, sent)
+        {
             return Stepped::Did;
         }
         self.act_otherwise(code, at, token, sent)
@@ -282,9 +286,15 @@ impl<'m, A: Allocator> Contents<'m, A> {
     }
 
     /// Makes so many events, each at once and with the oldest token, and answers whether it made them all: it stops where there is
-    /// no token, and before one that is not done at once. None makes a token for another element.
+    /// no token, and before one that is not done at once. Tokens for other elements go last into `sent`, which has room for two an
+    /// event.
     #[inline(always)]
-    pub fn make_at_once<C: Instructions, T: Company, Site>(&mut self, code: &C, events: u64) -> bool
+    pub fn make_at_once<C: Instructions, T: Company, Site>(
+        &mut self,
+        code: &C,
+        events: u64,
+        sent: &mut Vec<Token, A>,
+    ) -> bool
     where
         A: Clone,
         requires alone { T.ALONE ≡ true → self.old.elements ≡ 1 }
@@ -292,8 +302,9 @@ impl<'m, A: Allocator> Contents<'m, A> {
         requires width { C.width code.now ≤ self.old.bank.width }
         requires few { self.old.queue.gone + events < 2 ^ 63 }
         requires room { length self.old.queue.items + 2 * events + 1 ≤ self.old.queue.room }
-        ensures exact { (steps : ℕ) → self.old.queue.gone + events ≤ steps → (made : ℕ) × MakesEvents (C.program code.now) steps made (held_in self.old)
-            (held_in self.new) }
+        requires sent_room { T.ALONE ≡ false → vec_len sent.old + 2 * events ≤ vec_capacity sent.old }
+        ensures exact { (steps : ℕ) → self.old.queue.gone + events ≤ steps → (made : ℕ) × SendsEvents (C.program code.now) steps made (held_in self.old)
+            sent.old.items (held_in self.new) sent.new.items }
         ensures sound { IsSoundLane (C.program code.now) (held_in self.new) }
         ensures shape { shape_of self.new ≡ shape_of self.old }
         ensures all { result ≡ true → self.new.queue.gone ≡ self.old.queue.gone + events }
@@ -306,7 +317,7 @@ impl<'m, A: Allocator> Contents<'m, A> {
                 return false;
             }
             let token = self.queue.packed(0);
-            if !self.acts_at_once::<C, T, Site>(code, 0, &token) {
+            if !self.acts_at_once::<C, T, Site>(code, 0, &token, sent) {
                 return false;
             }
             left -= 1;

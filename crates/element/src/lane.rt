@@ -1,14 +1,15 @@
 //! The lane of an element: what it holds, with the code that it runs. It is sound between its events.
 
-ghost use Rattle.std.specs.Prelude.{◌≡◌, ◌==◌, ℕ, ◌+◌, ◌<◌, ◌≤◌, ◌*◌, ◌^◌, true, false, [], ◌∷◌, length, All, OnOk, OnErr, IfOk, IfSome, IfNone, slice_index_or};
+ghost use Rattle.std.specs.Prelude.{◌≡◌, ◌==◌, ℕ, ◌+◌, ◌<◌, ◌≤◌, ◌*◌, ◌^◌, true, false, [], ◌∷◌, length, All, OnOk, OnErr, IfOk, IfSome, IfNone, slice_index_or, vec_len};
+ghost use Rattle.std.specs.Vec.{vec_capacity};
 ghost use Rattle.tags.specs.declared.slot.SlotState.TheVariants.{Empty};
 ghost use Rattle.frame_store.specs.BankViews.{bank_states};
 ghost use Rattle.element.specs.Parts.{slot_place};
 ghost use Rattle.element.specs.Holding.{fixed_of, with_more, IsFor, IsSpent, IsSoundLane};
-ghost use Rattle.element.specs.Steps.{Steps, Stays, Picks, MakesEvents};
+ghost use Rattle.element.specs.Steps.{Steps, Stays, Picks, MakesEvents, SendsEvents};
 ghost use Rattle.element.specs.Openings.{opened, shape_at, IsOpening, StartsAs};
 
-use crate::company::Alone;
+use crate::company::{Alone, Company};
 use crate::contents::Contents;
 use crate::instructions::Instructions;
 use arrayvec::ArrayVec;
@@ -21,6 +22,9 @@ use tags::slot::SlotState;
 use tags::token::{FrameId, Token};
 use tags::value::Value;
 use token_queue::queue::TokenQueue;
+
+/// For how many tokens for other elements room is made at once.
+const ROOM: usize = 64;
 
 /// What a step did.
 #[derive(Clone, Copy, Debug, PartialEq, Eq)]
@@ -55,6 +59,21 @@ impl<'m, C: Instructions, A: Allocator> Model for Lane<'m, C, A> {
     ghost view = { λ l. record { program = C.program l.code.now; steps = l.steps; held = held_in l.contents } };
 
     ghost invariant = { λ l. IsRunnable (C.width l.code.now) (record { program = C.program l.code.now; steps = l.steps; held = held_in l.contents }) };
+}
+
+// Makes room among the tokens for other elements, and answers for how many events there is room: each makes two at most. After an
+// error nothing is changed. Where there are no others, no event needs any.
+#[inline(always)]
+fn room_in<T: Company, A: Allocator>(sent: &mut Vec<Token, A>) -> Result<u64, AllocError>
+    ensures sent { sent.new.items ≡ sent.old.items }
+    ensures some { IfOk result (λ events. 0 < events) }
+    ensures room { IfOk result (λ events. T.ALONE ≡ false → vec_len sent.new + 2 * events ≤ vec_capacity sent.new) }
+{
+    if T::ALONE {
+        return Ok(u64::MAX);
+    }
+    sent.reserve(ROOM)?;
+    Ok(((sent.capacity() - sent.len()) / 2) as u64)
 }
 
 impl<'m, C: Instructions, A: Allocator> Lane<'m, C, A> {
@@ -247,29 +266,31 @@ impl<'m, C: Instructions, A: Allocator> Lane<'m, C, A> {
     /// with an error where more room was refused; then it has a token, and may make one more event. `Site` stands for where it is
     /// called, as in `step`.
     #[inline(always)]
-    pub fn turn<Site>(&mut self) -> Result<(), AllocError>
+    pub fn turn<Site>(&mut self, sent: &mut Vec<Token, A>) -> Result<(), AllocError>
     where
         A: Clone,
         requires one { self.old.held.part.shape.elements ≡ 1 }
         ensures exact { (events : ℕ) × MakesEvents self.old.program self.old.steps events self.old.held self.new.held }
+        ensures none { sent.new.items ≡ sent.old.items }
         ensures refused { OnErr result ((0 < length self.new.held.queue) × (self.new.held.made < self.new.steps)) }
         ensures sound { IsSoundLane self.new.program self.new.held }
         ensures most { self.new.held.made ≤ self.new.steps }
         ensures fixed { fixed_of self.new ≡ fixed_of self.old }
     {
-        'rations: while self.makes_ration::<Site>(u64::MAX)? {}
+        'rations: while self.makes_ration::<Alone, Site>(u64::MAX, sent)? {}
         Ok(())
     }
 
-    /// As `turn`, but it makes up to `most` events, and no more than there is room for at once. It answers whether it made some and
-    /// may go on: where it did not, it made fewer than `most`, and there is no token for which it could make one.
+    /// As `turn`, but it makes up to `most` events, and no more than there is room for at once, and it may be one of several elements:
+    /// tokens for others go last into `sent`. It answers whether it made some and may go on: where it did not, it made fewer than
+    /// `most`, and there is no token for which it could make one.
     #[inline(always)]
-    pub fn makes_ration<Site>(&mut self, most: u64) -> Result<bool, AllocError>
+    pub fn makes_ration<T: Company, Site>(&mut self, most: u64, sent: &mut Vec<Token, A>) -> Result<bool, AllocError>
     where
         A: Clone,
-        requires one { self.old.held.part.shape.elements ≡ 1 }
+        requires alone { T.ALONE ≡ true → self.old.held.part.shape.elements ≡ 1 }
         requires some { 0 < most }
-        ensures exact { (events : ℕ) × MakesEvents self.old.program self.old.steps events self.old.held self.new.held }
+        ensures exact { (events : ℕ) × SendsEvents self.old.program self.old.steps events self.old.held sent.old.items self.new.held sent.new.items }
         ensures some { IfOk result (λ all. all ≡ true → self.old.held.made < self.new.held.made) }
         ensures within { self.new.held.made ≤ self.old.held.made + most }
         ensures fewer { OnErr result (self.new.held.made < self.old.held.made + most) }
@@ -283,10 +304,13 @@ impl<'m, C: Instructions, A: Allocator> Lane<'m, C, A> {
         if allowed == 0 || self.contents.queue.len() == 0 {
             return Ok(false);
         }
-        let events = allowed.min(self.contents.ration()?).min(most);
+        let events = allowed
+            .min(self.contents.ration()?)
+            .min(room_in::<T, A>(sent)?)
+            .min(most);
         Ok(
             self.contents
-                .make_at_once::<C, Alone, Site>(self.code, events),
+                .make_at_once::<C, T, Site>(self.code, events, sent),
         )
     }
 }

@@ -2,7 +2,7 @@
 #![tactic(auto)]
 
 pub mod bundled;
-mod company;
+pub mod company;
 mod contents;
 pub mod firing;
 pub mod instructions;

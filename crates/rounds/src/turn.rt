@@ -7,6 +7,7 @@ ghost use Rattle.schedule.specs.Steps.{logged};
 ghost use Rattle.rounds.specs.Turns.{by, Turns, IsWhole, HaltsLane, TookTurn};
 
 use crate::gate::Gate;
+use element::company::{Alone, Company, Together};
 use element::instructions::Instructions;
 use element::lane::{Lane, Stepped};
 use schedule::halt::Halt;
@@ -48,21 +49,23 @@ pub fn take_turn<C: Instructions, A: Allocator + Clone, L: Log>(
     ensures halts { HaltsLane lane.old.program lane.old.steps false lane.new.held result }
     ensures fixed { fixed_of lane.new ≡ fixed_of lane.old }
 {
-    if !L::KEEPS_EVENTS && lane.is_alone() {
-        take_alone::<C, A, L>(lane, sent, turn)
-    } else {
+    if L::KEEPS_EVENTS {
         take_each(lane, sent, log, turn)
+    } else if lane.is_alone() {
+        take_unlisted::<C, A, L, Alone>(lane, sent, turn)
+    } else {
+        take_unlisted::<C, A, L, Together>(lane, sent, turn)
     }
 }
 
-// The only element makes some events, up to `most`; false where it has no token.
+// The element makes some events, up to `most`; false where it has no token.
 #[inline(always)]
-fn make_some<C: Instructions, A: Allocator + Clone, L: Log>(
+fn make_some<C: Instructions, A: Allocator + Clone, L: Log, T: Company>(
     lane: &mut Lane<'_, C, A>,
     sent: &mut Vec<Token, A>,
     most: u64,
 ) -> Result<bool, Halt>
-    requires one { lane.old.held.part.shape.elements ≡ 1 }
+    requires alone { T.ALONE ≡ true → lane.old.held.part.shape.elements ≡ 1 }
     requires some { 0 < most }
     ensures sound { IsSoundLane lane.new.program lane.new.held }
     ensures turns { (taken : List Token) × Turns lane.old.program lane.old.steps lane.old.held sent.old.items taken lane.new.held sent.new.items
@@ -74,7 +77,7 @@ fn make_some<C: Instructions, A: Allocator + Clone, L: Log>(
     ensures halts { IfErr result (λ halt. HaltsLane lane.old.program lane.old.steps false lane.new.held (Some halt)) }
     ensures fixed { fixed_of lane.new ≡ fixed_of lane.old }
 {
-    match lane.makes_ration::<Turn<L>>(most) {
+    match lane.makes_ration::<T, (Turn<L>, T)>(most, sent) {
         Err(_) => Err(Halt::Memory),
         Ok(true) => Ok(true),
         Ok(false) => match lane.step_otherwise(sent) {
@@ -88,14 +91,14 @@ fn make_some<C: Instructions, A: Allocator + Clone, L: Log>(
     }
 }
 
-// The same of the only element, where no event is listed: between two events nothing but the lane is looked at.
+// The same where no event is listed: between two events nothing but the lane is looked at.
 #[inline(never)]
-fn take_alone<C: Instructions, A: Allocator + Clone, L: Log>(
+fn take_unlisted<C: Instructions, A: Allocator + Clone, L: Log, T: Company>(
     lane: &mut Lane<'_, C, A>,
     sent: &mut Vec<Token, A>,
     turn: u64,
 ) -> Option<Halt>
-    requires one { lane.old.held.part.shape.elements ≡ 1 }
+    requires alone { T.ALONE ≡ true → lane.old.held.part.shape.elements ≡ 1 }
     ensures sound { IsSoundLane lane.old.program lane.old.held → IsSoundLane lane.new.program lane.new.held }
     ensures turns { (taken : List Token) × Turns lane.old.program lane.old.steps lane.old.held sent.old.items taken lane.new.held sent.new.items
         × (length taken ≤ turn) }
@@ -109,7 +112,7 @@ fn take_alone<C: Instructions, A: Allocator + Clone, L: Log>(
         if left == 0 {
             return None;
         }
-        match make_some::<C, A, L>(lane, sent, left) {
+        match make_some::<C, A, L, T>(lane, sent, left) {
             Ok(true) => {}
             Ok(false) => return None,
             Err(halt) => return Some(halt),
@@ -117,7 +120,7 @@ fn take_alone<C: Instructions, A: Allocator + Clone, L: Log>(
     }
 }
 
-// The same of any element: it takes one token after another.
+// The same where events may be listed: it takes one token after another.
 fn take_each<C: Instructions, A: Allocator + Clone, L: Log>(
     lane: &mut Lane<'_, C, A>,
     sent: &mut Vec<Token, A>,

@@ -27,7 +27,7 @@ pub fn make_events<C: Instructions, A: Allocator + Clone, Site>(
     ensures fixed { fixed_of lane.new ≡ fixed_of lane.old }
 {
     'events: loop {
-        if lane.turn::<Site>().is_err() {
+        if lane.turn::<Site>(sent).is_err() {
             return Some(Stepped::Memory);
         }
         match lane.step_otherwise(sent) {

@@ -1,6 +1,7 @@
 //! What an element does with a token for an instruction.
 
-ghost use Rattle.std.specs.Prelude.{◌≡◌, ◌+◌, ◌%◌, ◌<◌, ◌≤◌, ◌^◌, true, false, List, [], ◌∷◌, length, IfSome, Some};
+ghost use Rattle.std.specs.Prelude.{◌≡◌, ◌+◌, ◌%◌, ◌<◌, ◌≤◌, ◌^◌, true, false, List, [], ◌∷◌, length, IfSome, Some, vec_len};
+ghost use Rattle.std.specs.Vec.{vec_capacity};
 ghost use Rattle.tags.specs.declared.token.Port.TheVariants.{Left, Right};
 ghost use Rattle.tags.specs.declared.token.To.{To};
 ghost use Rattle.semantics.specs.declared.program.Op.{Op};
@@ -65,8 +66,8 @@ pub struct Matched {
 }
 
 impl<'m, A: Allocator> Contents<'m, A> {
-    // What a token does at once, and whether it does: most that need no more than the words as they lie, a slot and room for
-    // three tokens here, which there has to be, and on the only element those that go to no instruction. Else nothing is changed.
+    // What a token does at once, and whether it does: most that need no more than the words as they lie, a slot and room for three
+    // tokens here and for two among those for others, which there has to be. Else nothing is changed.
     // Each port has a way of its own, and each site of the call code of its own.
     #[inline(always)]
     pub(super) fn acts_at_once<C: Instructions, T: Company, Site>(
@@ -74,27 +75,32 @@ impl<'m, A: Allocator> Contents<'m, A> {
         code: &C,
         at: usize,
         token: &PackedToken,
+        sent: &mut Vec<Token, A>,
     ) -> bool
     where
         A: Clone,
         requires alone { T.ALONE ≡ true → self.old.elements ≡ 1 }
         requires can { CanAct (C.program code.now) (C.width code.now) (held_in self.old) at token.now }
         requires spare { length self.old.queue.items + 3 ≤ self.old.queue.room }
-        ensures did { result ≡ true → (before : List Token) → ActsAs (C.program code.now) (held_in self.old) at token.now before Did (held_in self.new) before }
+        requires sent_spare { T.ALONE ≡ false → vec_len sent.old + 2 ≤ vec_capacity sent.old }
+        ensures did { result ≡ true → ActsAs (C.program code.now) (held_in self.old) at token.now sent.old.items Did (held_in self.new) sent.new.items }
         ensures not { result ≡ false → held_in self.new ≡ held_in self.old }
+        ensures unsent { result ≡ false → sent.new.items ≡ sent.old.items }
         ensures len { length self.new.queue.items ≤ length self.old.queue.items + 2 }
         ensures capacity { self.new.queue.room ≡ self.old.queue.room }
+        ensures sent_len { vec_len sent.new ≤ vec_len sent.old + 2 }
+        ensures sent_capacity { vec_capacity sent.new ≡ vec_capacity sent.old }
     {
         let Some(input) = token.input_below(code.count()) else {
-            return T::ALONE && self.acts_elsewhere(code, at, token);
+            return self.acts_elsewhere::<C, T>(code, at, token, sent);
         };
         let point = Point {
             frame: input.frame,
             ip: input.ip,
         };
         match input.port {
-            Port::Left => self.acts_left::<C, T, (Site, OnLeft)>(code, at, token, point),
-            Port::Right => self.acts_right::<C, T, (Site, OnRight)>(code, at, token, point),
+            Port::Left => self.acts_left::<C, T, (Site, OnLeft)>(code, at, token, point, sent),
+            Port::Right => self.acts_right::<C, T, (Site, OnRight)>(code, at, token, point, sent),
         }
     }
 
@@ -105,15 +111,20 @@ impl<'m, A: Allocator> Contents<'m, A> {
         at: usize,
         token: &PackedToken,
         point: Point,
+        sent: &mut Vec<Token, A>,
     ) -> bool
         requires alone { T.ALONE ≡ true → self.old.elements ≡ 1 }
         requires can { CanAct (C.program code.now) (C.width code.now) (held_in self.old) at token.now }
         requires address { token.now.to ≡ To.Instr point.frame point.ip Left }
         requires spare { length self.old.queue.items + 3 ≤ self.old.queue.room }
-        ensures did { result ≡ true → (before : List Token) → ActsAs (C.program code.now) (held_in self.old) at token.now before Did (held_in self.new) before }
+        requires sent_spare { T.ALONE ≡ false → vec_len sent.old + 2 ≤ vec_capacity sent.old }
+        ensures did { result ≡ true → ActsAs (C.program code.now) (held_in self.old) at token.now sent.old.items Did (held_in self.new) sent.new.items }
         ensures not { result ≡ false → held_in self.new ≡ held_in self.old }
+        ensures unsent { result ≡ false → sent.new.items ≡ sent.old.items }
         ensures len { length self.new.queue.items ≤ length self.old.queue.items + 2 }
         ensures capacity { self.new.queue.room ≡ self.old.queue.room }
+        ensures sent_len { vec_len sent.new ≤ vec_len sent.old + 2 }
+        ensures sent_capacity { vec_capacity sent.new ≡ vec_capacity sent.old }
     {
         let Some(instr) = code.instr(point.ip) else {
             return false;
@@ -125,14 +136,20 @@ impl<'m, A: Allocator> Contents<'m, A> {
             token: *token,
         };
         match instr.op {
-            Op::Apply2 { .. } => { self.at_pair::<C, Operates, T, Site>(code, &arrival, &instr) }
-            Op::Sync => self.at_pair::<C, Syncs, T, Site>(code, &arrival, &instr),
-            Op::Switch => self.at_pair::<C, Switches, T, Site>(code, &arrival, &instr),
-            Op::Send { .. } => self.at_pair::<C, Sends, T, Site>(code, &arrival, &instr),
-            Op::Return { .. } => { self.at_pair::<C, Returns, T, Site>(code, &arrival, &instr) }
-            Op::Ask { .. } => self.at_pair::<C, Asks, T, Site>(code, &arrival, &instr),
-            Op::Store { .. } => { self.at_pair::<C, Stores, T, Site>(code, &arrival, &instr) }
-            Op::Release { .. } => { self.at_pair::<C, Releases, T, Site>(code, &arrival, &instr) }
+            Op::Apply2 { .. } => {
+                self.at_pair::<C, Operates, T, Site>(code, &arrival, &instr, sent)
+            }
+            Op::Sync => self.at_pair::<C, Syncs, T, Site>(code, &arrival, &instr, sent),
+            Op::Switch => self.at_pair::<C, Switches, T, Site>(code, &arrival, &instr, sent),
+            Op::Send { .. } => self.at_pair::<C, Sends, T, Site>(code, &arrival, &instr, sent),
+            Op::Return { .. } => {
+                self.at_pair::<C, Returns, T, Site>(code, &arrival, &instr, sent)
+            }
+            Op::Ask { .. } => self.at_pair::<C, Asks, T, Site>(code, &arrival, &instr, sent),
+            Op::Store { .. } => { self.at_pair::<C, Stores, T, Site>(code, &arrival, &instr, sent) }
+            Op::Release { .. } => {
+                self.at_pair::<C, Releases, T, Site>(code, &arrival, &instr, sent)
+            }
             Op::Apply1 { .. } => { self.at_lone::<C, Computes, Site>(code, &arrival, &instr) }
             Op::Apply2Right { .. } => {
                 self.at_lone::<C, AppliesRight, Site>(code, &arrival, &instr)
@@ -142,11 +159,15 @@ impl<'m, A: Allocator> Contents<'m, A> {
             }
             Op::Lit { .. } => { self.at_lone::<C, Literals, Site>(code, &arrival, &instr) }
             Op::Copy => self.at_lone::<C, Copies, Site>(code, &arrival, &instr),
-            Op::Take { .. } => { self.at_credit::<C, Takes, T, Site>(code, &arrival, &instr) }
-            Op::Give { .. } => { self.at_credit::<C, Gives, T, Site>(code, &arrival, &instr) }
-            Op::Frame => self.at_frame::<C, Site>(code, &arrival, &instr),
-            Op::Link { .. } => { self.at_leaving::<C, Links, T, Site>(code, &arrival, &instr) }
-            Op::Fetch { .. } => { self.at_leaving::<C, Fetches, T, Site>(code, &arrival, &instr) }
+            Op::Take { .. } => { self.at_credit::<C, Takes, T, Site>(code, &arrival, &instr, sent) }
+            Op::Give { .. } => { self.at_credit::<C, Gives, T, Site>(code, &arrival, &instr, sent) }
+            Op::Frame => self.at_frame::<C, T, Site>(code, &arrival, &instr, sent),
+            Op::Link { .. } => {
+                self.at_leaving::<C, Links, T, Site>(code, &arrival, &instr, sent)
+            }
+            Op::Fetch { .. } => {
+                self.at_leaving::<C, Fetches, T, Site>(code, &arrival, &instr, sent)
+            }
             _ => false,
         }
     }
@@ -158,15 +179,20 @@ impl<'m, A: Allocator> Contents<'m, A> {
         at: usize,
         token: &PackedToken,
         point: Point,
+        sent: &mut Vec<Token, A>,
     ) -> bool
         requires alone { T.ALONE ≡ true → self.old.elements ≡ 1 }
         requires can { CanAct (C.program code.now) (C.width code.now) (held_in self.old) at token.now }
         requires address { token.now.to ≡ To.Instr point.frame point.ip Right }
         requires spare { length self.old.queue.items + 3 ≤ self.old.queue.room }
-        ensures did { result ≡ true → (before : List Token) → ActsAs (C.program code.now) (held_in self.old) at token.now before Did (held_in self.new) before }
+        requires sent_spare { T.ALONE ≡ false → vec_len sent.old + 2 ≤ vec_capacity sent.old }
+        ensures did { result ≡ true → ActsAs (C.program code.now) (held_in self.old) at token.now sent.old.items Did (held_in self.new) sent.new.items }
         ensures not { result ≡ false → held_in self.new ≡ held_in self.old }
+        ensures unsent { result ≡ false → sent.new.items ≡ sent.old.items }
         ensures len { length self.new.queue.items ≤ length self.old.queue.items + 2 }
         ensures capacity { self.new.queue.room ≡ self.old.queue.room }
+        ensures sent_len { vec_len sent.new ≤ vec_len sent.old + 2 }
+        ensures sent_capacity { vec_capacity sent.new ≡ vec_capacity sent.old }
     {
         let Some(instr) = code.instr(point.ip) else {
             return false;
@@ -178,14 +204,20 @@ impl<'m, A: Allocator> Contents<'m, A> {
             token: *token,
         };
         match instr.op {
-            Op::Apply2 { .. } => { self.at_pair::<C, Operates, T, Site>(code, &arrival, &instr) }
-            Op::Sync => self.at_pair::<C, Syncs, T, Site>(code, &arrival, &instr),
-            Op::Switch => self.at_pair::<C, Switches, T, Site>(code, &arrival, &instr),
-            Op::Send { .. } => self.at_pair::<C, Sends, T, Site>(code, &arrival, &instr),
-            Op::Return { .. } => { self.at_pair::<C, Returns, T, Site>(code, &arrival, &instr) }
-            Op::Ask { .. } => self.at_pair::<C, Asks, T, Site>(code, &arrival, &instr),
-            Op::Store { .. } => { self.at_pair::<C, Stores, T, Site>(code, &arrival, &instr) }
-            Op::Release { .. } => { self.at_pair::<C, Releases, T, Site>(code, &arrival, &instr) }
+            Op::Apply2 { .. } => {
+                self.at_pair::<C, Operates, T, Site>(code, &arrival, &instr, sent)
+            }
+            Op::Sync => self.at_pair::<C, Syncs, T, Site>(code, &arrival, &instr, sent),
+            Op::Switch => self.at_pair::<C, Switches, T, Site>(code, &arrival, &instr, sent),
+            Op::Send { .. } => self.at_pair::<C, Sends, T, Site>(code, &arrival, &instr, sent),
+            Op::Return { .. } => {
+                self.at_pair::<C, Returns, T, Site>(code, &arrival, &instr, sent)
+            }
+            Op::Ask { .. } => self.at_pair::<C, Asks, T, Site>(code, &arrival, &instr, sent),
+            Op::Store { .. } => { self.at_pair::<C, Stores, T, Site>(code, &arrival, &instr, sent) }
+            Op::Release { .. } => {
+                self.at_pair::<C, Releases, T, Site>(code, &arrival, &instr, sent)
+            }
             _ => false,
         }
     }
@@ -198,6 +230,7 @@ impl<'m, A: Allocator> Contents<'m, A> {
         code: &C,
         arrival: &PackedArrival,
         instr: &Instruction,
+        sent: &mut Vec<Token, A>,
     ) -> bool
         requires alone { T.ALONE ≡ true → self.old.elements ≡ 1 }
         requires can { CanAct (C.program code.now) (C.width code.now) (held_in self.old) arrival.now.at arrival.now.token }
@@ -206,11 +239,14 @@ impl<'m, A: Allocator> Contents<'m, A> {
         requires short { IsShort (C.width code.now) arrival.now.point.ip instr.now }
         requires pair { IsPair instr.now.op }
         requires spare { length self.old.queue.items + 3 ≤ self.old.queue.room }
-        ensures did { result ≡ true → (before : List Token) → ActsAs (C.program code.now) (held_in self.old) arrival.now.at arrival.now.token before
-            Did (held_in self.new) before }
+        requires sent_spare { T.ALONE ≡ false → vec_len sent.old + 2 ≤ vec_capacity sent.old }
+        ensures did { result ≡ true → ActsAs (C.program code.now) (held_in self.old) arrival.now.at arrival.now.token sent.old.items Did (held_in self.new) sent.new.items }
         ensures not { result ≡ false → held_in self.new ≡ held_in self.old }
+        ensures unsent { result ≡ false → sent.new.items ≡ sent.old.items }
         ensures len { length self.new.queue.items ≤ length self.old.queue.items + 2 }
         ensures capacity { self.new.queue.room ≡ self.old.queue.room }
+        ensures sent_len { vec_len sent.new ≤ vec_len sent.old + 2 }
+        ensures sent_capacity { vec_capacity sent.new ≡ vec_capacity sent.old }
     {
         let place = self.place_of_slot::<T>(arrival.point.frame, instr.slot());
         let held = self.slot_at(place);
@@ -220,8 +256,10 @@ impl<'m, A: Allocator> Contents<'m, A> {
             Meeting::Both { left, right } => {
                 let matched = Matched { left, right };
                 match arrival.port {
-                    Port::Left => self.both::<C, K, T>(code, arrival, place, instr, &matched),
-                    Port::Right => self.both::<C, K, T>(code, arrival, place, instr, &matched),
+                    Port::Left => self.both::<C, K, T>(code, arrival, place, instr, &matched, sent),
+                    Port::Right => self.both::<C, K, T>(
+                        code, arrival, place, instr, &matched, sent,
+                    ),
                 }
             }
         }
@@ -264,6 +302,7 @@ impl<'m, A: Allocator> Contents<'m, A> {
         code: &C,
         arrival: &PackedArrival,
         instr: &Instruction,
+        sent: &mut Vec<Token, A>,
     ) -> bool
         requires alone { T.ALONE ≡ true → self.old.elements ≡ 1 }
         requires can { CanAct (C.program code.now) (C.width code.now) (held_in self.old) arrival.now.at arrival.now.token }
@@ -272,16 +311,19 @@ impl<'m, A: Allocator> Contents<'m, A> {
         requires short { IsShort (C.width code.now) arrival.now.point.ip instr.now }
         requires lone { IsLone instr.now.op }
         requires spare { length self.old.queue.items + 3 ≤ self.old.queue.room }
-        ensures did { result ≡ true → (before : List Token) → ActsAs (C.program code.now) (held_in self.old) arrival.now.at arrival.now.token before
-            Did (held_in self.new) before }
+        requires sent_spare { T.ALONE ≡ false → vec_len sent.old + 2 ≤ vec_capacity sent.old }
+        ensures did { result ≡ true → ActsAs (C.program code.now) (held_in self.old) arrival.now.at arrival.now.token sent.old.items Did (held_in self.new) sent.new.items }
         ensures not { result ≡ false → held_in self.new ≡ held_in self.old }
+        ensures unsent { result ≡ false → sent.new.items ≡ sent.old.items }
         ensures len { length self.new.queue.items ≤ length self.old.queue.items + 2 }
         ensures capacity { self.new.queue.room ≡ self.old.queue.room }
+        ensures sent_len { vec_len sent.new ≤ vec_len sent.old + 2 }
+        ensures sent_capacity { vec_capacity sent.new ≡ vec_capacity sent.old }
     {
         match K::leave(code, arrival.point, instr, &arrival.token.word()) {
             Some(leaving) => match arrival.port {
                 Port::Right => false,
-                Port::Left => self.pass_out::<T>(arrival, None, leaving),
+                Port::Left => self.pass_out::<T>(arrival, None, leaving, sent),
             },
             None => false,
         }
@@ -294,6 +336,7 @@ impl<'m, A: Allocator> Contents<'m, A> {
         code: &C,
         arrival: &PackedArrival,
         instr: &Instruction,
+        sent: &mut Vec<Token, A>,
     ) -> bool
         requires alone { T.ALONE ≡ true → self.old.elements ≡ 1 }
         requires can { CanAct (C.program code.now) (C.width code.now) (held_in self.old) arrival.now.at arrival.now.token }
@@ -302,11 +345,14 @@ impl<'m, A: Allocator> Contents<'m, A> {
         requires short { IsShort (C.width code.now) arrival.now.point.ip instr.now }
         requires credit { IsCredit instr.now.op }
         requires spare { length self.old.queue.items + 3 ≤ self.old.queue.room }
-        ensures did { result ≡ true → (before : List Token) → ActsAs (C.program code.now) (held_in self.old) arrival.now.at arrival.now.token before
-            Did (held_in self.new) before }
+        requires sent_spare { T.ALONE ≡ false → vec_len sent.old + 2 ≤ vec_capacity sent.old }
+        ensures did { result ≡ true → ActsAs (C.program code.now) (held_in self.old) arrival.now.at arrival.now.token sent.old.items Did (held_in self.new) sent.new.items }
         ensures not { result ≡ false → held_in self.new ≡ held_in self.old }
+        ensures unsent { result ≡ false → sent.new.items ≡ sent.old.items }
         ensures len { length self.new.queue.items ≤ length self.old.queue.items + 2 }
         ensures capacity { self.new.queue.room ≡ self.old.queue.room }
+        ensures sent_len { vec_len sent.new ≤ vec_len sent.old + 2 }
+        ensures sent_capacity { vec_capacity sent.new ≡ vec_capacity sent.old }
     {
         let place = self.place_of_slot::<T>(arrival.point.frame, instr.slot());
         let held = self.slot_at(place);
@@ -318,66 +364,73 @@ impl<'m, A: Allocator> Contents<'m, A> {
             },
             Credit::Answered { slot, token } => match arrival.port {
                 Port::Right => false,
-                Port::Left => self.answer::<T>(arrival.at, place, slot, token),
+                Port::Left => self.answer::<T>(arrival.at, place, slot, token, sent),
             },
         }
     }
 
     // An instruction that asks for a frame, on the element of the frame manager.
     #[inline(always)]
-    fn at_frame<C: Instructions, Site>(
+    fn at_frame<C: Instructions, T: Company, Site>(
         &mut self,
         code: &C,
         arrival: &PackedArrival,
         instr: &Instruction,
+        sent: &mut Vec<Token, A>,
     ) -> bool
+        requires alone { T.ALONE ≡ true → self.old.elements ≡ 1 }
         requires can { CanAct (C.program code.now) (C.width code.now) (held_in self.old) arrival.now.at arrival.now.token }
         requires address { arrival.now.token.to ≡ To.Instr arrival.now.point.frame arrival.now.point.ip arrival.now.port }
         requires found { instr_at (C.program code.now) arrival.now.point.ip ≡ Some (instr_of instr.now) }
         requires short { IsShort (C.width code.now) arrival.now.point.ip instr.now }
         requires frame { instr.now.op ≡ Op.Frame }
         requires spare { length self.old.queue.items + 3 ≤ self.old.queue.room }
-        ensures did { result ≡ true → (before : List Token) → ActsAs (C.program code.now) (held_in self.old) arrival.now.at arrival.now.token before
-            Did (held_in self.new) before }
+        requires sent_spare { T.ALONE ≡ false → vec_len sent.old + 2 ≤ vec_capacity sent.old }
+        ensures did { result ≡ true → ActsAs (C.program code.now) (held_in self.old) arrival.now.at arrival.now.token sent.old.items Did (held_in self.new) sent.new.items }
         ensures not { result ≡ false → held_in self.new ≡ held_in self.old }
+        ensures unsent { result ≡ false → sent.new.items ≡ sent.old.items }
         ensures len { length self.new.queue.items ≤ length self.old.queue.items + 2 }
         ensures capacity { self.new.queue.room ≡ self.old.queue.room }
+        ensures sent_len { vec_len sent.new ≤ vec_len sent.old + 2 }
+        ensures sent_capacity { vec_capacity sent.new ≡ vec_capacity sent.old }
     {
         match arrival.port {
             Port::Right => false,
             Port::Left => {
-                self.ask(
+                self.ask::<T>(
                     arrival.at,
                     PackedToken::pack(frame_request(arrival.point, instr)),
+                    sent,
                 )
             }
         }
     }
 
-    // The token is taken out, and one for this element is made; nothing is done on another element than that of the frame manager.
+    // The token is taken out, and one for the frame manager is made.
     #[inline(always)]
-    fn ask(&mut self, at: usize, token: PackedToken) -> bool
-        requires some { 0 < self.old.elements }
+    fn ask<T: Company>(&mut self, at: usize, token: PackedToken, sent: &mut Vec<Token, A>) -> bool
+        requires alone { T.ALONE ≡ true → self.old.elements ≡ 1 }
+        requires some { self.old.element < self.old.elements }
         requires manager { token.to ≡ To.Manager }
         requires there { at < length self.old.queue.items }
         requires few { self.old.queue.gone < 2 ^ 63 }
         requires spare { length self.old.queue.items + 3 ≤ self.old.queue.room }
-        ensures did { result ≡ true → (before : List Token) → FiresAs (Some (token ∷ [])) (part_of self.old) (held_in self.old) at before Did
-            (held_in self.new) before }
+        requires sent_spare { T.ALONE ≡ false → vec_len sent.old + 2 ≤ vec_capacity sent.old }
+        ensures did { result ≡ true → FiresAs (Some (token ∷ [])) (part_of self.old) (held_in self.old) at sent.old.items Did
+            (held_in self.new) sent.new.items }
         ensures not { result ≡ false → held_in self.new ≡ held_in self.old }
+        ensures unsent { result ≡ false → sent.new.items ≡ sent.old.items }
         ensures len { length self.new.queue.items ≤ length self.old.queue.items + 2 }
         ensures capacity { self.new.queue.room ≡ self.old.queue.room }
+        ensures sent_len { vec_len sent.new ≤ vec_len sent.old + 2 }
+        ensures sent_capacity { vec_capacity sent.new ≡ vec_capacity sent.old }
     {
-        if self.element != 0 {
-            return false;
-        }
         self.take(at);
-        self.send_here(token);
+        self.send_to_first::<T>(token, sent);
         true
     }
 
-    // The slot at the place changes, the token is taken out, and one is made; nothing is done where that is for another
-    // element.
+    // The slot at the place changes, the token is taken out, and one is made.
     #[inline(always)]
     fn answer<T: Company>(
         &mut self,
@@ -385,6 +438,7 @@ impl<'m, A: Allocator> Contents<'m, A> {
         place: usize,
         held: Slot,
         token: PackedToken,
+        sent: &mut Vec<Token, A>,
     ) -> bool
         requires alone { T.ALONE ≡ true → self.old.elements ≡ 1 }
         requires some { self.old.element < self.old.elements }
@@ -392,18 +446,19 @@ impl<'m, A: Allocator> Contents<'m, A> {
         requires there { at < length self.old.queue.items }
         requires few { self.old.queue.gone < 2 ^ 63 }
         requires spare { length self.old.queue.items + 3 ≤ self.old.queue.room }
-        ensures did { result ≡ true → (before : List Token) → FiresAs (Some (token ∷ [])) (with_state (part_of self.old) place held)
-            (held_in self.old) at before Did (held_in self.new) before }
+        requires sent_spare { T.ALONE ≡ false → vec_len sent.old + 2 ≤ vec_capacity sent.old }
+        ensures did { result ≡ true → FiresAs (Some (token ∷ [])) (with_state (part_of self.old) place held)
+            (held_in self.old) at sent.old.items Did (held_in self.new) sent.new.items }
         ensures not { result ≡ false → held_in self.new ≡ held_in self.old }
+        ensures unsent { result ≡ false → sent.new.items ≡ sent.old.items }
         ensures len { length self.new.queue.items ≤ length self.old.queue.items + 2 }
         ensures capacity { self.new.queue.room ≡ self.old.queue.room }
+        ensures sent_len { vec_len sent.new ≤ vec_len sent.old + 2 }
+        ensures sent_capacity { vec_capacity sent.new ≡ vec_capacity sent.old }
     {
-        if !self.keeps::<T>(&token) {
-            return false;
-        }
         self.take(at);
         self.put_at(place, held);
-        self.send_here(token);
+        self.send_packed::<T>(token, sent);
         true
     }
 
@@ -432,6 +487,7 @@ impl<'m, A: Allocator> Contents<'m, A> {
         place: usize,
         instr: &Instruction,
         matched: &Matched,
+        sent: &mut Vec<Token, A>,
     ) -> bool
         requires alone { T.ALONE ≡ true → self.old.elements ≡ 1 }
         requires some { self.old.element < self.old.elements }
@@ -443,21 +499,31 @@ impl<'m, A: Allocator> Contents<'m, A> {
         requires few { self.old.queue.gone < 2 ^ 63 }
         requires room { HasRoomInWord matched.now.left }
         requires spare { length self.old.queue.items + 3 ≤ self.old.queue.room }
-        ensures did { result ≡ true → (before : List Token) → FiresAs (fire_two (C.program code.now) (point_of arrival.now.point) (instr_of instr.now)
-            instr.now.op matched.now.left matched.now.right) (with_state (part_of self.old) place Empty) (held_in self.old) arrival.now.at before Did
-            (held_in self.new) before }
+        requires sent_spare { T.ALONE ≡ false → vec_len sent.old + 2 ≤ vec_capacity sent.old }
+        ensures did { result ≡ true → FiresAs (fire_two (C.program code.now) (point_of arrival.now.point) (instr_of instr.now)
+            instr.now.op matched.now.left matched.now.right) (with_state (part_of self.old) place Empty) (held_in self.old) arrival.now.at sent.old.items Did
+            (held_in self.new) sent.new.items }
         ensures not { result ≡ false → held_in self.new ≡ held_in self.old }
+        ensures unsent { result ≡ false → sent.new.items ≡ sent.old.items }
         ensures len { length self.new.queue.items ≤ length self.old.queue.items + 2 }
         ensures capacity { self.new.queue.room ≡ self.old.queue.room }
+        ensures sent_len { vec_len sent.new ≤ vec_len sent.old + 2 }
+        ensures sent_capacity { vec_capacity sent.new ≡ vec_capacity sent.old }
     {
         let left = &matched.left;
         let right = &matched.right;
         match K::passes(instr, left, right) {
             Some(passed) => self.pass(arrival, Some(place), &passed),
             None => match K::leave(code, arrival.point, instr, left, right) {
-                Some(leaving) => { self.pass_out::<T>(arrival, Some(place), leaving) }
+                Some(leaving) => { self.pass_out::<T>(arrival, Some(place), leaving, sent) }
                 None => match K::release(arrival.point, instr, left, right) {
-                    Some(after) => self.release::<T>(arrival.at, place, arrival.point.frame, after),
+                    Some(after) => self.release::<T>(
+                        arrival.at,
+                        place,
+                        arrival.point.frame,
+                        after,
+                        sent,
+                    ),
                     None => false,
                 },
             },
@@ -503,13 +569,14 @@ impl<'m, A: Allocator> Contents<'m, A> {
     }
 
     // The slot at the place, if there is one, is empty then, the token is taken out, a token goes away, and signals go to two
-    // destinations of the own frame; but nothing is done where the token is for another element.
+    // destinations of the own frame.
     #[inline(always)]
     fn pass_out<T: Company>(
         &mut self,
         arrival: &PackedArrival,
         cleared: Option<usize>,
         leaving: Leaving,
+        sent: &mut Vec<Token, A>,
     ) -> bool
         requires alone { T.ALONE ≡ true → self.old.elements ≡ 1 }
         requires some { self.old.element < self.old.elements }
@@ -520,26 +587,26 @@ impl<'m, A: Allocator> Contents<'m, A> {
         requires there { arrival.now.at < length self.old.queue.items }
         requires few { self.old.queue.gone < 2 ^ 63 }
         requires spare { length self.old.queue.items + 3 ≤ self.old.queue.room }
-        ensures did { result ≡ true → (before : List Token) → FiresAs (Some (left_on (point_of arrival.now.point) leaving))
-            (with_place (part_of self.old) cleared Empty) (held_in self.old) arrival.now.at before Did (held_in self.new) before }
+        requires sent_spare { T.ALONE ≡ false → vec_len sent.old + 2 ≤ vec_capacity sent.old }
+        ensures did { result ≡ true → FiresAs (Some (left_on (point_of arrival.now.point) leaving))
+            (with_place (part_of self.old) cleared Empty) (held_in self.old) arrival.now.at sent.old.items Did (held_in self.new) sent.new.items }
         ensures not { result ≡ false → held_in self.new ≡ held_in self.old }
+        ensures unsent { result ≡ false → sent.new.items ≡ sent.old.items }
         ensures len { length self.new.queue.items ≤ length self.old.queue.items + 2 }
         ensures capacity { self.new.queue.room ≡ self.old.queue.room }
+        ensures sent_len { vec_len sent.new ≤ vec_len sent.old + 2 }
+        ensures sent_capacity { vec_capacity sent.new ≡ vec_capacity sent.old }
     {
-        if !self.keeps::<T>(&leaving.token) {
-            return false;
-        }
         self.take(arrival.at);
         self.clear(cleared);
-        self.send_here(leaving.token);
+        self.send_packed::<T>(leaving.token, sent);
         let signal = PackedWord::int(0);
         self.send_near(arrival, &signal, leaving.first);
         self.send_near(arrival, &signal, leaving.second);
         true
     }
 
-    // The slot at the place is empty then, the token is taken out, one releases the frame, and one goes into another frame; but
-    // nothing is done where either is for another element.
+    // The slot at the place is empty then, the token is taken out, one releases the frame, and one goes into another frame.
     #[inline(always)]
     fn release<T: Company>(
         &mut self,
@@ -547,6 +614,7 @@ impl<'m, A: Allocator> Contents<'m, A> {
         place: usize,
         frame: FrameId,
         after: PackedToken,
+        sent: &mut Vec<Token, A>,
     ) -> bool
         requires alone { T.ALONE ≡ true → self.old.elements ≡ 1 }
         requires some { self.old.element < self.old.elements }
@@ -554,20 +622,21 @@ impl<'m, A: Allocator> Contents<'m, A> {
         requires there { at < length self.old.queue.items }
         requires few { self.old.queue.gone < 2 ^ 63 }
         requires spare { length self.old.queue.items + 3 ≤ self.old.queue.room }
-        ensures did { result ≡ true → (before : List Token) → FiresAs (Some (Rule.token (To.Release frame) Rule.signal ∷ after ∷ []))
-            (with_state (part_of self.old) place Empty) (held_in self.old) at before Did (held_in self.new) before }
+        requires sent_spare { T.ALONE ≡ false → vec_len sent.old + 2 ≤ vec_capacity sent.old }
+        ensures did { result ≡ true → FiresAs (Some (Rule.token (To.Release frame) Rule.signal ∷ after ∷ []))
+            (with_state (part_of self.old) place Empty) (held_in self.old) at sent.old.items Did (held_in self.new) sent.new.items }
         ensures not { result ≡ false → held_in self.new ≡ held_in self.old }
+        ensures unsent { result ≡ false → sent.new.items ≡ sent.old.items }
         ensures len { length self.new.queue.items ≤ length self.old.queue.items + 2 }
         ensures capacity { self.new.queue.room ≡ self.old.queue.room }
+        ensures sent_len { vec_len sent.new ≤ vec_len sent.old + 2 }
+        ensures sent_capacity { vec_capacity sent.new ≡ vec_capacity sent.old }
     {
-        if self.element != 0 || !self.keeps::<T>(&after) {
-            return false;
-        }
         self.take(at);
         self.put_at(place, Slot::empty());
         let to = To::Release { frame };
-        self.send_here(PackedToken::pack(Token { to, word: SIGNAL }));
-        self.send_here(after);
+        self.send_to_first::<T>(PackedToken::pack(Token { to, word: SIGNAL }), sent);
+        self.send_packed::<T>(after, sent);
         true
     }
 

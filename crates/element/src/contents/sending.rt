@@ -1,6 +1,6 @@
 //! Tokens are taken out of the queue, and sent: into the queue, or to other elements.
 
-ghost use Rattle.std.specs.Prelude.{◌≡◌, ◌+◌, ◌*◌, ◌<◌, ◌≤◌, ◌^◌, ◌%◌, [], ◌∷◌, ◌++◌, ◌==◌, true, length, OnOk, IfOk, vec_len};
+ghost use Rattle.std.specs.Prelude.{◌≡◌, ◌+◌, ◌*◌, ◌<◌, ◌≤◌, ◌^◌, ◌%◌, [], ◌∷◌, ◌++◌, ◌==◌, true, false, length, OnOk, IfOk, vec_len};
 ghost use Rattle.std.specs.Vec.{vec_capacity};
 ghost use Rattle.element.specs.Holding.{held_in, shape_of, elsewhere, queued, taken};
 ghost use Rattle.tags.specs.Addresses.{element_of};
@@ -144,7 +144,8 @@ impl<'m, A: Allocator> Contents<'m, A> {
     pub(super) fn keeps<T: Company>(&self, token: &PackedToken) -> bool
         requires alone { T.ALONE ≡ true → self.now.elements ≡ 1 }
         requires there { self.now.element < self.now.elements }
-        ensures { result ≡ true → element_of self.now.elements token.now.to ≡ self.now.element }
+        ensures own { result ≡ true → element_of self.now.elements token.now.to ≡ self.now.element }
+        ensures together { result ≡ false → T.ALONE ≡ false }
     {
         if T::ALONE {
             return true;
@@ -153,6 +154,65 @@ impl<'m, A: Allocator> Contents<'m, A> {
             Some(frame) => owner_of(frame, self.elements) == self.element,
             None => false,
         }
+    }
+
+    // Puts a packed token last into the queue, or last among those for other elements.
+    #[inline(always)]
+    pub(super) fn send_packed<T: Company>(&mut self, token: PackedToken, sent: &mut Vec<Token, A>)
+        requires alone { T.ALONE ≡ true → self.old.elements ≡ 1 }
+        requires some { self.old.element < self.old.elements }
+        requires room { length self.old.queue.items < self.old.queue.room }
+        requires sent_room { T.ALONE ≡ false → vec_len sent.old < vec_capacity sent.old }
+        ensures held { held_in self.new ≡ queued (held_in self.old) (token ∷ []) }
+        ensures sent { sent.new.items ≡ sent.old.items ++ elsewhere (shape_of self.old) (token ∷ []) }
+        ensures len { length self.new.queue.items ≤ length self.old.queue.items + 1 }
+        ensures capacity { self.new.queue.room ≡ self.old.queue.room }
+        ensures sent_len { vec_len sent.new ≤ vec_len sent.old + 1 }
+        ensures sent_capacity { vec_capacity sent.new ≡ vec_capacity sent.old }
+    {
+        if self.keeps::<T>(&token) {
+            self.send_here(token);
+        } else {
+            self.send_away(token, sent);
+        }
+    }
+
+    // The same of a token that goes to element 0.
+    #[inline(always)]
+    pub(super) fn send_to_first<T: Company>(&mut self, token: PackedToken, sent: &mut Vec<Token, A>)
+        requires alone { T.ALONE ≡ true → self.old.elements ≡ 1 }
+        requires some { self.old.element < self.old.elements }
+        requires first { element_of self.old.elements token.to ≡ 0 }
+        requires room { length self.old.queue.items < self.old.queue.room }
+        requires sent_room { T.ALONE ≡ false → vec_len sent.old < vec_capacity sent.old }
+        ensures held { held_in self.new ≡ queued (held_in self.old) (token ∷ []) }
+        ensures sent { sent.new.items ≡ sent.old.items ++ elsewhere (shape_of self.old) (token ∷ []) }
+        ensures len { length self.new.queue.items ≤ length self.old.queue.items + 1 }
+        ensures capacity { self.new.queue.room ≡ self.old.queue.room }
+        ensures sent_len { vec_len sent.new ≤ vec_len sent.old + 1 }
+        ensures sent_capacity { vec_capacity sent.new ≡ vec_capacity sent.old }
+    {
+        if T::ALONE || self.element == 0 {
+            self.send_here(token);
+        } else {
+            self.send_away(token, sent);
+        }
+    }
+
+    // The same, out of line, where the token mostly goes to another element.
+    #[inline(never)]
+    fn send_away(&mut self, token: PackedToken, sent: &mut Vec<Token, A>)
+        requires some { 0 < self.old.elements }
+        requires room { length self.old.queue.items < self.old.queue.room }
+        requires sent_room { vec_len sent.old < vec_capacity sent.old }
+        ensures held { held_in self.new ≡ queued (held_in self.old) (token ∷ []) }
+        ensures sent { sent.new.items ≡ sent.old.items ++ elsewhere (shape_of self.old) (token ∷ []) }
+        ensures len { length self.new.queue.items ≤ length self.old.queue.items + 1 }
+        ensures capacity { self.new.queue.room ≡ self.old.queue.room }
+        ensures sent_len { vec_len sent.new ≤ vec_len sent.old + 1 }
+        ensures sent_capacity { vec_capacity sent.new ≡ vec_capacity sent.old }
+    {
+        self.send(token.unpack(), sent);
     }
 
     // Puts a token for this element last into the queue.

@@ -15,7 +15,7 @@ use Rattle.element.proofs.Classes.{credit_slot, waits_as, fired_as}
 use Rattle.element.proofs.contents.Contents.at_credit.Goals as goal
 
 pub returns-in-Left-clause-did : goal.returns-in-Left-clause-did
-returns-in-Left-clause-did g c = λ yes before.
+returns-in-Left-clause-did g c = λ yes.
     let p = g.C.Instructions.program c.args.code.now in
     let width = g.C.Instructions.width c.args.code.now in
     let old : Holding = held_in c.args.self.now in
@@ -32,12 +32,12 @@ returns-in-Left-clause-did g c = λ yes before.
     = subst (λ (w : Word). outcome_of p (point_of s) (instr_of i) i.op held Left w ≡ Becomes v []) c.word.ensures (c.in-SlotOnly.ensures p (point_of s)) in
     waits_as p width old t s.frame s.ip c.args.arrival.now.port i (Some i.slot) held c.requires.can.sound.part c.requires.can.width c.requires.address
     c.requires.can.near c.requires.can.addressed c.requires.short
-    c.requires.found (credit_slot (instr_of i) i.op c.requires.credit) there v c.args.arrival.now.at before (held_in c.wait.new.self)
+    c.requires.found (credit_slot (instr_of i) i.op c.requires.credit) there v c.args.arrival.now.at c.args.sent.now.items (held_in c.wait.new.self)
     (ap (λ (q : Port). outcome_of p (point_of s) (instr_of i) i.op held q t.word) c.in-Left.is ∙ comes)
     (c.wait.ensures.held ∙ ap (λ (n : ℕ). taken (with_part old (with_state old.part n v)) c.args.arrival.now.at) place)
 
 pub returns-in-Left-port-clause-did : goal.returns-in-Left-port-clause-did
-returns-in-Left-port-clause-did g c = λ yes before.
+returns-in-Left-port-clause-did g c = λ yes.
     let p = g.C.Instructions.program c.args.code.now in
     let width = g.C.Instructions.width c.args.code.now in
     let old : Holding = held_in c.args.self.now in
@@ -54,8 +54,10 @@ returns-in-Left-port-clause-did g c = λ yes before.
     let comes : outcome_of p (point_of s) (instr_of i) i.op held Left t.word ≡ Becomes v made
     = subst (λ (w : Word). outcome_of p (point_of s) (instr_of i) i.op held Left w ≡ Becomes v made) c.word.ensures (c.in-Answered.ensures p (point_of s)) in
     let new : Holding = held_in c.answer.new.self in
+    let before = c.args.sent.now.items in
+    let after = c.answer.new.sent.items in
     fired_as p width old t s.frame s.ip c.args.arrival.now.port i (Some i.slot) held c.requires.can.sound.part c.requires.can.width c.requires.address
     c.requires.can.near c.requires.can.addressed c.requires.short
-    c.requires.found (credit_slot (instr_of i) i.op c.requires.credit) there v (Some made) c.args.arrival.now.at before Did new before
+    c.requires.found (credit_slot (instr_of i) i.op c.requires.credit) there v (Some made) c.args.arrival.now.at before Did new after
     (ap (λ (q : Port). outcome_of p (point_of s) (instr_of i) i.op held q t.word) c.in-Left-port.is ∙ comes)
-    (subst (λ (n : ℕ). FiresAs (Some made) (with_state old.part n v) old c.args.arrival.now.at before Did new before) place (c.answer.ensures.did yes before))
+    (subst (λ (n : ℕ). FiresAs (Some made) (with_state old.part n v) old c.args.arrival.now.at before Did new after) place (c.answer.ensures.did yes))
