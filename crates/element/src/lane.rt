@@ -285,7 +285,11 @@ impl<'m, C: Instructions, A: Allocator> Lane<'m, C, A> {
     /// tokens for others go last into `sent`. It answers whether it made some and may go on: where it did not, it made fewer than
     /// `most`, and there is no token for which it could make one.
     #[inline(always)]
-    pub fn makes_ration<T: Company, Site>(&mut self, most: u64, sent: &mut Vec<Token, A>) -> Result<bool, AllocError>
+    pub fn makes_ration<T: Company, Site>(
+        &mut self,
+        most: u64,
+        sent: &mut Vec<Token, A>,
+    ) -> Result<bool, AllocError>
     where
         A: Clone,
         requires alone { T.ALONE ≡ true → self.old.held.part.shape.elements ≡ 1 }

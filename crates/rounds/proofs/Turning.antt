@@ -39,41 +39,17 @@ turns_append p steps old before [] mid sent us next after so_far more =
 turns_append p steps old before (t ∷ ts) mid sent us next after (m, s, d, is, low, good, rest) more =
     (m, s, d, is, low, good, turns_append p steps m s ts mid sent us next after rest more)
 
--- an event that sends nothing is one beside any tokens that were sent
-pub does_beside : (p : Program) (old new : Holding) (before : List Token) → one.Does p old 0 [] new [] → one.Does p old 0 before new before
-does_beside p old new before does = record {
-  token = does.token;
-  picks = does.picks;
-  made = does.made;
-  queue = does.queue;
-  sent = sym (append-nil before) ∙ ap (λ (l : List Token). before ++ l) does.sent;
-  near = does.near;
-  first = does.first;
-  count = does.count;
-  shape = does.shape;
-  event = λ m others part holds. let a = does.event m (before ++ others) part holds in record {
-    next = a.next;
-    event = a.event;
-    makes = a.makes;
-    part = a.part;
-    same = a.same;
-    tokens = a.tokens;
-  };
-}
-
--- THE ONLY ELEMENT. What its events took, and how many there were
-pub turns_of : (p : Program) (steps n : ℕ) (old new : Holding) (before : List Token) → one.MakesEvents p steps n old new
-    → (ts : List Token) × Turns p steps old before ts new before × (new.made ≡ old.made + length ts)
-unfolding does_beside
-turns_of p steps zero old new before same =
-    let count : new.made ≡ old.made = ap (λ (h : Holding). h.made) same in
-    ([], (same, refl), omega (arith, count))
-turns_of p steps (suc n) old new before (mid, events, few, sound, most, does) =
-    let so_far = turns_of p steps n old mid before events in
-    let last = does_beside p mid new before does in
+-- what the events of a lane took, and how many there were
+pub turns_of : (p : Program) (steps n : ℕ) (old new : Holding) (before after : List Token) → one.SendsEvents p steps n old before new after
+    → (ts : List Token) × Turns p steps old before ts new after × (new.made ≡ old.made + length ts)
+turns_of p steps zero old new before after same =
+    let count : new.made ≡ old.made = ap (λ (h : Holding). h.made) same.0 in
+    ([], (same.0, same.1), omega (arith, count))
+turns_of p steps (suc n) old new before after (mid, sent, events, few, sound, most, does) =
+    let so_far = turns_of p steps n old mid before sent events in
     let one_more : new.made ≡ mid.made + 1 = does.count in
     let length_is = length-append so_far.0 (does.token ∷ []) in
-    let turns = turns_more p steps old before so_far.0 mid before new before so_far.1 last few sound in
+    let turns = turns_more p steps old before so_far.0 mid sent new after so_far.1 does few sound in
     (so_far.0 ++ does.token ∷ [], turns, omega (arith, one_more, length_is, so_far.2))
 
 -- A LANE AS IT LIES IN MEMORY, and what it took so far in its turn

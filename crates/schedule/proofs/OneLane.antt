@@ -1,20 +1,18 @@
 -- A run of the one element.
-use Rattle.std.proofs.Common.{◌≡◌, refl, sym, ◌∙◌, ap, subst, ℕ, zero, suc, ◌+◌, ◌<◌, ◌≤◌, Bool, true, false, cond, List, [], ◌∷◌, ◌++◌, length}
+use Rattle.std.proofs.Common.{◌≡◌, refl, sym, ◌∙◌, ap, subst, ℕ, zero, suc, ◌+◌, ◌<◌, ◌≤◌, Bool, true, false, List, [], ◌∷◌, ◌++◌, length}
 use Rattle.std.proofs.Common.{map, drop, Option, Some, None, arith, append_assoc}
 use Rattle.std.specs.Prelude.{slice_get, slice_set}
-use Rattle.std.proofs.lemmas.Bool.{eq-eqb, not_from_true}
 use Rattle.std.proofs.lemmas.List.{append-nil, map-set}
 use Rattle.tags.specs.declared.token.Token.{Token}
-use Rattle.tags.specs.Addresses.{element_of}
-use Rattle.tags.proofs.Elements.{element_below}
 use Rattle.semantics.specs.Program.{Program}
 use Rattle.semantics.specs.Machine.{Events}
 use Rattle.element.specs.declared.lane.Stepped.{Stepped}
 use Rattle.element.specs.declared.lane.Stepped.TheVariants.{Idle, Did, Clash, Stuck, Memory}
 use Rattle.element.specs.Parts.{Shape}
-use Rattle.element.specs.Holding.{Holding, LaneView, Fixed, held_of, fixed_of, is_here, elsewhere, IsSoundLane}
+use Rattle.element.specs.Holding.{Holding, LaneView, Fixed, held_of, fixed_of, IsSoundLane}
 use Rattle.element.specs.Steps as one
 use Rattle.element.specs.Steps.{MakesEvents}
+use Rattle.element.proofs.Turns.{none_elsewhere}
 use Rattle.schedule.specs.declared.halt.Halt.{Halt}
 use Rattle.schedule.specs.Setting.{Setting}
 use Rattle.schedule.specs.State.{State, RunsAs, IsSoundState, delivered, lanes_of}
@@ -26,15 +24,7 @@ use Rattle.schedule.proofs.Memory.{none_arriving}
 use Rattle.schedule.proofs.Stepping.{answered, is_idle, is_used_up, is_refused}
 use Rattle.schedule.proofs.Playing.{turn_last, turn_on, turn_done}
 
--- NO TOKEN IS FOR ANOTHER ELEMENT
-none_elsewhere : (z : Shape) (ts : List Token) → z.elements ≡ 1 → z.element < z.elements → elsewhere z ts ≡ []
-none_elsewhere z [] single there = refl
-none_elsewhere z (t ∷ ts) single there =
-    let some : 0 < z.elements = omega arith in
-    let here : is_here z t ≡ true = eq-eqb (element_of z.elements t.to) z.element (omega (arith, element_below z.elements t.to some)) in
-    ap (λ (b : Bool). cond b (t ∷ elsewhere z ts) (elsewhere z ts)) (not_from_true (is_here z t) here) ∙ none_elsewhere z ts single there
-
--- so a step sends nothing
+-- NO TOKEN IS FOR ANOTHER ELEMENT, so a step sends nothing
 sends_none : (p : Program) (old new : Holding) (pick : ℕ) (before after : List Token) (answer : Stepped) → old.part.shape.elements ≡ 1
     → old.part.shape.element < old.part.shape.elements → one.Steps p old pick before answer new after → after ≡ before
 sends_none p old new pick before after Idle single there step = step.1.sent

@@ -53,7 +53,13 @@ impl<'m, A: Allocator> Contents<'m, A> {
 
     // What a token that goes to no instruction does at once, and whether it does. Else nothing is changed.
     #[inline(never)]
-    fn acts_away<C: Instructions, T: Company>(&mut self, _code: &C, at: usize, token: PackedToken, sent: &mut Vec<Token, A>) -> bool
+    fn acts_away<C: Instructions, T: Company>(
+        &mut self,
+        _code: &C,
+        at: usize,
+        token: PackedToken,
+        sent: &mut Vec<Token, A>,
+    ) -> bool
     where
         A: Clone,
         requires alone { T.ALONE ≡ true → self.old.elements ≡ 1 }
@@ -79,7 +85,13 @@ impl<'m, A: Allocator> Contents<'m, A> {
 
     // A token for a cell that reads it.
     #[inline(always)]
-    fn fetches<T: Company>(&mut self, at: usize, token: &PackedToken, cell: u32, sent: &mut Vec<Token, A>) -> bool
+    fn fetches<T: Company>(
+        &mut self,
+        at: usize,
+        token: &PackedToken,
+        cell: u32,
+        sent: &mut Vec<Token, A>,
+    ) -> bool
     where
         A: Clone,
         requires alone { T.ALONE ≡ true → self.old.elements ≡ 1 }
@@ -113,7 +125,14 @@ impl<'m, A: Allocator> Contents<'m, A> {
 
     // A token for a cell that fills it, where no reader waits.
     #[inline(always)]
-    fn stores<T: Company>(&mut self, at: usize, token: &PackedToken, cell: u32, value: &Value, sent: &mut Vec<Token, A>) -> bool
+    fn stores<T: Company>(
+        &mut self,
+        at: usize,
+        token: &PackedToken,
+        cell: u32,
+        value: &Value,
+        sent: &mut Vec<Token, A>,
+    ) -> bool
     where
         A: Clone,
         requires alone { T.ALONE ≡ true → self.old.elements ≡ 1 }
@@ -150,7 +169,12 @@ impl<'m, A: Allocator> Contents<'m, A> {
 
     // A request for a frame.
     #[inline(always)]
-    fn grants<T: Company>(&mut self, at: usize, token: &PackedToken, sent: &mut Vec<Token, A>) -> bool
+    fn grants<T: Company>(
+        &mut self,
+        at: usize,
+        token: &PackedToken,
+        sent: &mut Vec<Token, A>,
+    ) -> bool
         requires alone { T.ALONE ≡ true → self.old.elements ≡ 1 }
         requires some { self.old.element < self.old.elements }
         requires there { at < length self.old.queue.items }
@@ -181,7 +205,13 @@ impl<'m, A: Allocator> Contents<'m, A> {
 
     // The release of a frame.
     #[inline(always)]
-    fn frees<T: Company>(&mut self, at: usize, _token: &PackedToken, frame: FrameId, sent: &mut Vec<Token, A>) -> bool
+    fn frees<T: Company>(
+        &mut self,
+        at: usize,
+        _token: &PackedToken,
+        frame: FrameId,
+        sent: &mut Vec<Token, A>,
+    ) -> bool
         requires alone { T.ALONE ≡ true → self.old.elements ≡ 1 }
         requires some { self.old.element < self.old.elements }
         requires there { at < length self.old.queue.items }
@@ -209,7 +239,13 @@ impl<'m, A: Allocator> Contents<'m, A> {
 
     // The token is taken out, and a word goes to a continuation.
     #[inline(always)]
-    fn answers<T: Company>(&mut self, at: usize, cont: Cont, word: Word, sent: &mut Vec<Token, A>) -> bool
+    fn answers<T: Company>(
+        &mut self,
+        at: usize,
+        cont: Cont,
+        word: Word,
+        sent: &mut Vec<Token, A>,
+    ) -> bool
         requires alone { T.ALONE ≡ true → self.old.elements ≡ 1 }
         requires some { self.old.element < self.old.elements }
         requires there { at < length self.old.queue.items }

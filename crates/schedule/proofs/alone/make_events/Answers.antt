@@ -16,10 +16,10 @@ events-preserved g c =
     let fixed = c.turn.ensures.fixed ∙ inv.fixed in
     let events = lane_events_more start c.events.lane mid inv.fixed inv.made c.turn.ensures.exact in
     let made = c.in-Some-Did.ensures in
-    let step = subst (λ (s : Stepped). Steps mid.program mid.held 0 c.events.sent.items s next.held c.step_otherwise.new.sent.items)
+    let step = subst (λ (s : Stepped). Steps mid.program mid.held 0 c.turn.new.sent.items s next.held c.step_otherwise.new.sent.items)
     c.in-Some-Did.field-0-is made.exact in
-    let more = one_more start mid next c.events.sent.items c.step_otherwise.new.sent.items fixed c.step_otherwise.ensures.fixed c.requires.one
-    c.step_otherwise.ensures.sound c.step_otherwise.ensures.most inv.none made.allowed step in
+    let more = one_more start mid next c.turn.new.sent.items c.step_otherwise.new.sent.items fixed c.step_otherwise.ensures.fixed c.requires.one
+    c.step_otherwise.ensures.sound c.step_otherwise.ensures.most (c.turn.ensures.none ∙ inv.none) made.allowed step in
     record {
       made = (suc events.0, (mid.held, events.1, more.1, more.2, more.3, more.4));
       none = more.0;
@@ -35,7 +35,7 @@ events-smaller g c =
     let next = c.step_otherwise.new.self in
     let fixed = c.step_otherwise.ensures.fixed ∙ (c.turn.ensures.fixed ∙ inv.fixed) in
     let grows : old.held.made ≤ mid.held.made = events_grow old.program old.steps c.turn.ensures.exact.0 old.held mid.held c.turn.ensures.exact.1 in
-    let step = subst (λ (s : Stepped). Steps mid.program mid.held 0 c.events.sent.items s next.held c.step_otherwise.new.sent.items)
+    let step = subst (λ (s : Stepped). Steps mid.program mid.held 0 c.turn.new.sent.items s next.held c.step_otherwise.new.sent.items)
     c.in-Some-Did.field-0-is c.in-Some-Did.ensures.exact in
     let count : next.held.made ≡ mid.held.made + 1 = step.count in
     let steps : next.steps ≡ start.steps = ap (λ (f : Fixed). f.steps) fixed in
@@ -58,6 +58,9 @@ returns-then-is_err-clause-exact g c =
     let steps = ap (λ (f : Fixed). f.steps) (c.turn.ensures.fixed ∙ inv.fixed) in
     (events.0, mid.held, events.1, ((λ _. subst (λ (n : ℕ). mid.held.made < n) steps refused.1), (refused.0, record { held = refl; sent = refl })))
 
+pub returns-then-is_err-clause-none : goal.returns-then-is_err-clause-none
+returns-then-is_err-clause-none g c = c.turn.ensures.none ∙ c.events.invariant.none
+
 pub returns-in-None-clause-exact : goal.returns-in-None-clause-exact
 returns-in-None-clause-exact g c =
     let inv = c.events.invariant in
@@ -66,6 +69,9 @@ returns-in-None-clause-exact g c =
     let spent = c.in-None.ensures.spent in
     let steps = ap (λ (f : Fixed). f.steps) (c.turn.ensures.fixed ∙ inv.fixed) in
     (events.0, mid.held, events.1, (spent.1, spent.0 ∙ steps, spent.2.held))
+
+pub returns-in-None-clause-none : goal.returns-in-None-clause-none
+returns-in-None-clause-none g c = c.in-None.ensures.spent.2.sent ∙ c.turn.ensures.none ∙ c.events.invariant.none
 
 pub returns-in-Some : goal.returns-in-Some
 returns-in-Some g c =
@@ -76,8 +82,8 @@ returns-in-Some g c =
     let fixed = c.turn.ensures.fixed ∙ inv.fixed in
     let events = lane_events_more start c.events.lane mid inv.fixed inv.made c.turn.ensures.exact in
     let made = c.in-Some.ensures in
-    let answers = one_answer start mid next c.events.sent.items c.step_otherwise.new.sent.items c.in-Some.other fixed c.step_otherwise.ensures.fixed
-    c.requires.one c.step_otherwise.ensures.sound inv.none made.allowed made.exact in
+    let answers = one_answer start mid next c.turn.new.sent.items c.step_otherwise.new.sent.items c.in-Some.other fixed c.step_otherwise.ensures.fixed
+    c.requires.one c.step_otherwise.ensures.sound (c.turn.ensures.none ∙ inv.none) made.allowed made.exact in
     record {
       exact = (events.0, mid.held, events.1, answers.1);
       none = answers.0;

@@ -1,6 +1,4 @@
-use Rattle.std.proofs.Common.{◌≡◌, refl, sym, ◌∙◌, ap, List, [], ◌∷◌, ◌++◌}
-use Rattle.std.proofs.lemmas.List.{append-nil}
-use Rattle.tags.specs.declared.token.Token.{Token}
+use Rattle.std.proofs.Common.{◌≡◌, refl, sym, ◌∙◌, [], ◌∷◌}
 use Rattle.tags.specs.declared.token.Word.{Word}
 use Rattle.semantics.specs.Machine.{answer}
 use Rattle.istructure.specs.declared.FetchAnswer.{FetchAnswer}
@@ -11,7 +9,7 @@ use Rattle.element.proofs.Changing.{fetch_changes}
 use Rattle.element.proofs.contents.Contents.fetches.Goals as goal
 
 pub returns-in-Now-clause-did : goal.returns-in-Now-clause-did
-returns-in-Now-clause-did g c = λ yes p before sound near.
+returns-in-Now-clause-did g c = λ yes p sound near.
     let old : Holding = held_in c.args.self.now in
     let t = c.args.token.now in
     let cells = c.fetch.new.self in
@@ -20,11 +18,12 @@ returns-in-Now-clause-did g c = λ yes p before sound near.
     let changes = fetch_changes p old.part t c.args.cell cont (FetchAnswer.Now c.in-Now.value) cells sound.part c.requires.address word near
     c.requires.here tt c.in-Now.ensures.exact c.in-Now.ensures.event in
     acts p old old (taken (with_part old (with_cells old.part cells)) c.args.at) (held_in c.answers.new.self) c.args.at t
-    (answer cont (Word.Val c.in-Now.value) ∷ []) (with_cells old.part cells) before before before
-    refl refl changes refl c.answers.ensures.held (sym (ap (λ (ts : List Token). before ++ ts) c.answers.ensures.none ∙ append-nil before))
+    (answer cont (Word.Val c.in-Now.value) ∷ []) (with_cells old.part cells) c.args.sent.now.items c.args.sent.now.items
+    c.answers.new.sent.items
+    refl refl changes refl c.answers.ensures.held c.answers.ensures.sent
 
 pub returns-in-Deferred-clause-did : goal.returns-in-Deferred-clause-did
-returns-in-Deferred-clause-did g c = λ yes p before sound near.
+returns-in-Deferred-clause-did g c = λ yes p sound near.
     let old : Holding = held_in c.args.self.now in
     let t = c.args.token.now in
     let cells = c.fetch.new.self in
@@ -32,4 +31,5 @@ returns-in-Deferred-clause-did g c = λ yes p before sound near.
     let word : t.word ≡ Word.Back cont = sym c.word.ensures ∙ sym c.unpack.ensures ∙ c.in-Back.is in
     let changes = fetch_changes p old.part t c.args.cell cont FetchAnswer.Deferred cells sound.part c.requires.address word near c.requires.here tt
     c.in-Deferred.ensures.exact c.in-Deferred.ensures.event in
-    acts_none p old old (held_in c.is_taken.new.self) c.args.at t (with_cells old.part cells) before before refl refl changes c.is_taken.ensures.held
+    acts_none p old old (held_in c.is_taken.new.self) c.args.at t (with_cells old.part cells) c.args.sent.now.items c.args.sent.now.items
+    refl refl changes c.is_taken.ensures.held

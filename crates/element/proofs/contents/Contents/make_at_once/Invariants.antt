@@ -1,16 +1,19 @@
-use Rattle.std.proofs.Common.{◌≡◌, ◌+◌, ◌*◌, ◌≤◌, ℕ, length}
+use Rattle.std.proofs.Common.{◌≡◌, ◌+◌, ◌*◌, ◌≤◌, ℕ, false, length}
+use Rattle.std.specs.Prelude.{vec_len}
+use Rattle.std.specs.Vec.{vec_capacity}
 use Rattle.element.specs.Holding.{held_in, shape_of, IsSoundLane}
-use Rattle.element.specs.Steps.{MakesEvents}
+use Rattle.element.specs.Steps.{SendsEvents}
 use Rattle.element.proofs.contents.Contents.make_at_once.Given as goal
 
 abbrev pub invariant-events : goal.invariant-events
 invariant-events g l = record {
   count : l.self.queue.gone + l.left ≡ l.fn.self.queue.gone + l.fn.events;
-  made : (steps : ℕ) → l.fn.self.queue.gone + l.fn.events ≤ steps → (made : ℕ) × MakesEvents (g.C.Instructions.program l.code) steps made
-      (held_in l.fn.self) (held_in l.self);
+  made : (steps : ℕ) → l.fn.self.queue.gone + l.fn.events ≤ steps → (made : ℕ) × SendsEvents (g.C.Instructions.program l.code) steps made
+      (held_in l.fn.self) l.fn.sent.items (held_in l.self) l.sent.items;
   sound : IsSoundLane (g.C.Instructions.program l.code) (held_in l.self);
   shape : shape_of l.self ≡ shape_of l.fn.self;
   room : length l.self.queue.items + 2 * l.left + 1 ≤ l.self.queue.room;
+  sent_room : g.T.Company.ALONE ≡ false → vec_len l.sent + 2 * l.left ≤ vec_capacity l.sent;
 }
 
 abbrev pub decreases-events : goal.decreases-events

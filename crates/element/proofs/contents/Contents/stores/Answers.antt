@@ -1,9 +1,7 @@
 use Rattle.std.proofs.Common.{◌≡◌, refl, sym, ◌∙◌, ap, subst, List, [], ◌∷◌, ◌++◌, length, Option, Some, None, arith}
 use Rattle.std.specs.Prelude.{option_and_then, vec_capacity}
-use Rattle.std.proofs.lemmas.List.{append-nil}
 use Rattle.std.proofs.lemmas.Option.{same_Some}
 use Rattle.tags.specs.declared.token.Cont.{Cont}
-use Rattle.tags.specs.declared.token.Token.{Token}
 use Rattle.tags.specs.declared.token.Word.{Word}
 use Rattle.semantics.specs.Machine.{CellState, Vacant, Full, Deferred, answers}
 use Rattle.istructure.specs.declared.StoreAnswer.{StoreAnswer}
@@ -28,7 +26,7 @@ none_waits (Some (Full v)) readers none waits = absurd (let bad : ⊥ = cc in ba
 none_waits (Some (Deferred rs)) readers none waits = sym (same_Some rs readers waits) ∙ empty rs none
 
 pub returns-in-Stored-clause-did : goal.returns-in-Stored-clause-did
-returns-in-Stored-clause-did g c = λ yes p before sound near.
+returns-in-Stored-clause-did g c = λ yes p sound near.
     let old : Holding = held_in c.args.self.now in
     let t = c.args.token.now in
     let cells = c.store.new.self in
@@ -48,5 +46,6 @@ returns-in-Stored-clause-did g c = λ yes p before sound near.
     let changes = store_changes p old.part t x v cont room cells [] sound.part c.requires.address word near c.requires.here at event in
     let second = ap (λ (cs : List Cont). taken (with_answered (with_part old (with_cells old.part cells)) cs) c.args.at) (none ∙ sym answered) in
     acts p old old (taken (with_answered (with_part old (with_cells old.part cells)) listed) c.args.at) (held_in c.answers.new.self) c.args.at t
-    (answers ([] ++ cont ∷ []) v) (with_cells old.part cells) before before before
-    refl refl changes second c.answers.ensures.held (sym (ap (λ (ts : List Token). before ++ ts) c.answers.ensures.none ∙ append-nil before))
+    (answers ([] ++ cont ∷ []) v) (with_cells old.part cells) c.args.sent.now.items c.args.sent.now.items
+    c.answers.new.sent.items
+    refl refl changes second c.answers.ensures.held c.answers.ensures.sent

@@ -2,7 +2,7 @@ use Rattle.std.proofs.Common.{◌≡◌, ◌+◌, ◌-◌, ◌≤◌, List, leng
 use Rattle.tags.specs.declared.token.Token.{Token}
 use Rattle.element.specs.Holding.{fixed_of, IsSoundLane}
 use Rattle.rounds.specs.Turns.{Turns}
-use Rattle.rounds.proofs.turn.take_alone.Given as goal
+use Rattle.rounds.proofs.turn.take_unlisted.Given as goal
 
 abbrev pub invariant-events : goal.invariant-events
 invariant-events g l = record {
