@@ -46,7 +46,7 @@ use std::thread::Threads;
 const UNWRITTEN: u8 = 1;
 
 /// How many steps an element takes in one turn.
-const TURN: u64 = 1024;
+const TURN: u64 = 64;
 
 /// How the machine is to be configured.
 pub(crate) fn config_of(options: &RunOptions) -> Config
