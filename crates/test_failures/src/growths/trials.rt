@@ -121,12 +121,10 @@ fn is_whole(row: &Row<'_>, answer: &Outcome) -> bool {
 }
 
 /// Whether a growth that is refused in a run may leave the answer whole. A growth that is refused in the turn of an element that
-/// has no token is asked for again in the next turn; and where the only element asks for one to do something at once, it asks for it
-/// again to do that otherwise.
+/// has no token is asked for again in the next turn; and where an element asks for one to do something at once, it asks for it again
+/// to do that otherwise.
 fn may_be_made_good(row: &Row<'_>) -> bool {
-    (row.words.contains(&"--elements") || row.words.contains(&"run") || row.words.contains(&"exec"))
-        && !row.words.contains(&"--mode")
-        && !matches!(row.answer, Answer::Text)
+    !matches!(row.answer, Answer::Text)
 }
 
 /// How often a growth is refused before none is, if each refusal is reported or made good and the last answer is the whole one. Else
