@@ -52,8 +52,13 @@ pub record Parts (input : List ℕ) : Type 0 where
   pub end : length text ≡ graph_length input
 
 -- RUN
+-- how many events a turn has: an element that runs free looks at what all share after each
+abbrev pub turn_of : Option Mode → ℕ
+turn_of (Some Mode.Free) = 1024
+turn_of mode = 64
+
 abbrev pub config_of : RunOptions → Config
-config_of o = record { elements = o.elements; frames = o.frames; steps = o.steps; turn = 64 }
+config_of o = record { elements = o.elements; frames = o.frames; steps = o.steps; turn = turn_of o.mode }
 
 -- a true report of a run, in the mode that is asked for, of the graph that the input has, on the integers that follow it
 pub record IsRunOf (input : List ℕ) (o : RunOptions) (g : Graph) (r : Report) : Type 0 where

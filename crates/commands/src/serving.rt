@@ -3,7 +3,7 @@
 ghost use Rattle.std.specs.Prelude.{◌≡◌, MatchResult, None, drop, false, map};
 ghost use Rattle.object_view.specs.Checks.{first_refusal};
 ghost use Rattle.driver.specs.Disassembled.{listing_of, listing_with_literals_of, picture_of, upgrade_of};
-ghost use Rattle.commands.specs.Served.{config_of, IsRunOf, IsNoRunOf, IsMeaningOf, IsNoMeaningOf, Refuses, PrintsRun, PrintsMeaning, PrintsCheck};
+ghost use Rattle.commands.specs.Served.{config_of, turn_of, IsRunOf, IsNoRunOf, IsMeaningOf, IsNoMeaningOf, Refuses, PrintsRun, PrintsMeaning, PrintsCheck};
 ghost use Rattle.commands.specs.Served.{PrintsObject, PrintsOf, PrintsPicture, PrintsExec, IsExecOf, IsNoExecOf, Prints};
 ghost use Rattle.commands.specs.Answered.{Answers, ServesRequest, Says, ServesAsked, ServesWords, Serves};
 
@@ -17,7 +17,7 @@ use crate::refusal::{fault_refusal, input_refusal};
 use crate::refusal_text::write_refusal;
 use crate::tracing::print_trace;
 use command_line::{
-    Asked, Inputs, Literals, Lowering, Request, RunOptions, read_words, version_line,
+    Asked, Inputs, Literals, Lowering, Mode, Request, RunOptions, read_words, version_line,
 };
 use command_texts::{help_text, mistake_text};
 use dot::write_graph_dot;
@@ -48,6 +48,19 @@ const UNWRITTEN: u8 = 1;
 /// How many steps an element takes in one turn.
 const TURN: u64 = 64;
 
+/// The same of one that runs free: after each turn it looks at what all the elements share.
+const FREE_TURN: u64 = 1024;
+
+// How many steps an element takes in one turn in this mode.
+fn turn_of(mode: Option<Mode>) -> u64
+    ensures { result ≡ turn_of mode }
+{
+    match mode {
+        Some(Mode::Free) => FREE_TURN,
+        _ => TURN,
+    }
+}
+
 /// How the machine is to be configured.
 pub(crate) fn config_of(options: &RunOptions) -> Config
     ensures { result ≡ config_of options.now }
@@ -56,7 +69,7 @@ pub(crate) fn config_of(options: &RunOptions) -> Config
         elements: options.elements,
         frames: options.frames,
         steps: options.steps,
-        turn: TURN,
+        turn: turn_of(options.mode),
     }
 }
 

@@ -1,5 +1,5 @@
 -- What a block of events is made of the turn of a lane.
-use Rattle.std.proofs.Common.{◌≡◌, refl, sym, ◌∙◌, ap, subst, ℕ, suc, ◌+◌, ◌%◌, ◌<◌, ◌≤◌, List, [], ◌∷◌, ◌++◌, length, map, get_or, Some, arith, append_assoc}
+use Rattle.std.proofs.Common.{◌≡◌, refl, sym, ◌∙◌, ap, subst, ℕ, suc, ◌%◌, ◌<◌, ◌≤◌, List, [], ◌∷◌, ◌++◌, length, map, get_or, Some, arith, append_assoc}
 use Rattle.std.specs.Prelude.{All, IsPermutation, slice_get, remove}
 use Rattle.lemmas.proofs.Lists.{same_head, same_tail}
 use Rattle.law_confluence.proofs.Orders.{at_first, at_last}

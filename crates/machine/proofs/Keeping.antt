@@ -19,7 +19,7 @@ use Rattle.schedule.proofs.Memory.{ok_then}
 use Rattle.mesh.specs.declared.view.Commit.{Commit}
 use Rattle.mesh.specs.declared.view.Deed.{Deed}
 use Rattle.mesh.specs.declared.view.Deed.TheVariants.{Posted, FoundFull, Took, SawLive}
-use Rattle.mesh.specs.Deeds.{Bundle, created, made_in}
+use Rattle.mesh.specs.Deeds.{Bundle, made_in}
 use Rattle.mesh.specs.Seats.{MeshId, SeatView, AllTo, Has, Posts, Counts, Leaves, noting, having_taken}
 use Rattle.mesh.proofs.Deeds.{created_same}
 use Rattle.machine.specs.declared.runner.Departure.{Departure}
@@ -411,16 +411,18 @@ module _ {A : Type 0} where
           };
         }
 
-    pub keeps_refused : (unposted : Vec (Vec Token A) A) (back : Vec Token A) (s : SeatView) → length old.unposted.items ≡ g.elements → unposted.items
-        ≡ slice_set (slice_set old.unposted.items i empty) i back → back ≡ x → s ≡ noting old.seat (FoundFull i x.items)
-        → Keeps keeps_events g mesh old (record old { unposted = unposted; seat = s })
-    keeps_refused unposted back s count kept_is same found =
+    pub keeps_refused : (unposted : Vec (Vec Token A) A) (back : Vec Token A) (s : SeatView) (spare : Vec (Vec Token A) A)
+        → length old.unposted.items ≡ g.elements → unposted.items ≡ slice_set (slice_set old.unposted.items i empty) i back → back ≡ x
+        → s ≡ noting old.seat (FoundFull i x.items) → Keeps keeps_events g mesh old (record old { unposted = unposted; seat = s; spare = spare })
+    keeps_refused unposted back s spare count kept_is same found =
         let all : unposted.items ≡ slice_set old.unposted.items i back = kept_is ∙ set_again old.unposted.items i empty back in
         let keeps : KeepsTokens g.elements old.unposted.items unposted.items [] = subst (λ (l : List (Vec Token A)). KeepsTokens g.elements
         old.unposted.items l []) (sym all) (keeps_as_many g.elements old.unposted.items i x back count low is (ap (λ (v : Vec Token A). v.items) same)) in
-        keeps_twice keeps_events g mesh old (record old { unposted = unposted }) (record old { unposted = unposted; seat = s })
-        (keeps_bundles keeps_events g mesh old unposted keeps) (keeps_noting keeps_events g mesh (record old { unposted = unposted }) s
-        (FoundFull i x.items) (found_full i x.items) refl found)
+        let mid : Runner C A L = record old { unposted = unposted } in
+        let full : Runner C A L = record old { unposted = unposted; seat = s } in
+        keeps_twice keeps_events g mesh old mid (record full { spare = spare }) (keeps_bundles keeps_events g mesh old unposted keeps)
+        (keeps_twice keeps_events g mesh mid full (record full { spare = spare }) (keeps_noting keeps_events g mesh mid s
+        (FoundFull i x.items) (found_full i x.items) refl found) (keeps_sparing keeps_events g mesh full spare))
 
 -- THE END
 module _ {C A L : Type 0} (keeps_events : Bool) (g : Setting) (mesh : MeshId) (may_stop : Bool) where

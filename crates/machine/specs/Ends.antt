@@ -1,5 +1,5 @@
 -- How a free run ends: which elements halted for a reason of their own, and which of them says why the run ends.
-use Rattle.std.specs.Prelude.{◌≡◌, ℕ, ◌<◌, ◌⊎◌, ℤ, List, [], map, Bool, true, Option, Some, None, slice_get, length}
+use Rattle.std.specs.Prelude.{◌≡◌, ℕ, ◌⊎◌, ℤ, List, [], map, Bool, true, Option, Some, None, slice_get, length}
 use Rattle.tags.specs.declared.token.Token.{Token}
 use Rattle.semantics.specs.Machine.{Events}
 use Rattle.semantics.specs.Report.{Report}

@@ -1,6 +1,6 @@
 //! An element offers to others what it made for them.
 
-ghost use Rattle.std.specs.Prelude.{◌≡◌, ◌<◌, ◌++◌, ◌∷◌, [], length, OnOk, OnErr, IfOk, slice_set, slice_index_or, IsPermutation};
+ghost use Rattle.std.specs.Prelude.{◌≡◌, ◌<◌, ◌++◌, ◌∷◌, [], length, OnOk, OnErr, slice_set, slice_index_or, IsPermutation};
 ghost use Rattle.std.specs.List.{flat_map};
 ghost use Rattle.tags.specs.Addresses.{element_of};
 ghost use Rattle.element.specs.Holding.{held_of};
@@ -9,6 +9,7 @@ ghost use Rattle.schedule.specs.Setting.{IsGoodSetting};
 ghost use Rattle.machine.specs.Runners.{Runs, Keeps, IsClear, StaysAt, KeepsTokens};
 
 use crate::runner::Runner;
+use crate::spares::{empty_bundle, keep_spare};
 use element::bundled::element_for;
 use mesh::Mesh;
 use schedule::log::Log;
@@ -81,23 +82,8 @@ fn post_bundle<C: MainCode, A: Allocator, L: Log>(
     let at = to as usize;
     let bundle = mem::replace(&mut runner.unposted[at], empty);
     if let Err(back) = mesh.post(&mut runner.seat, to, bundle) {
-        runner.unposted[at] = back;
-    }
-}
-
-// An empty bundle: one that was emptied before, or else a new one.
-fn empty_bundle<A: Allocator + Clone>(
-    spare: &mut Vec<Vec<Token, A>, A>,
-    alloc: &A,
-) -> Result<Vec<Token, A>, AllocError>
-    ensures { IfOk result (λ bundle. bundle.items ≡ []) }
-{
-    match spare.pop() {
-        Some(mut bundle) => {
-            bundle.clear();
-            Ok(bundle)
-        }
-        None => Ok(Vec::new(alloc.clone()?)),
+        let empty = mem::replace(&mut runner.unposted[at], back);
+        keep_spare(&mut runner.spare, empty);
     }
 }
 

@@ -7,6 +7,7 @@ mod bundling;
 mod free;
 mod nearness;
 mod runner;
+mod spares;
 mod starting;
 mod taking;
 mod turns;

@@ -11,12 +11,13 @@ ghost use Rattle.machine.specs.Runners.{bounds_within, Runs, Keeps, IsClear, Sta
 
 use crate::nearness::{Reach, are_near};
 use crate::runner::Runner;
+use crate::spares::keep_spare;
 use mesh::Mesh;
 use schedule::halt::Halt;
 use schedule::log::Log;
 use schedule::main_code::MainCode;
 use schedule::shape::Shape;
-use std::alloc::{AllocError, Allocator};
+use std::alloc::Allocator;
 use tags::token::Token;
 
 // How much the machine has.
@@ -27,14 +28,6 @@ fn reach_of<C: MainCode>(shape: &Shape<'_, C>) -> Reach
     Reach {
         frames: shape.elements * shape.frames,
         cells: shape.code.cells(),
-    }
-}
-
-// Empties a bundle that is in the queue, and keeps it for later tokens: room for as many as an element posts in a turn.
-fn keep_spare<A: Allocator>(spare: &mut Vec<Vec<Token, A>, A>, mut bundle: Vec<Token, A>) {
-    if spare.len() < spare.capacity() {
-        bundle.clear();
-        let _is_kept = spare.push(bundle).is_ok();
     }
 }
 

@@ -26,7 +26,8 @@ returns-in-Err-clause-keeps g c =
     let e = c.in-Err.ensures.err in
     keeps_refused {A = g.row.A.Denot} {C = g.row.C.Denot} {L = g.row.L.Denot} g.L.Log.KEEPS_EVENTS
     (setting_in g.C.Instructions.program g.C.Instructions.width c.args.shape.now) c.args.mesh.now c.args.runner.now c.args.to
-    c.replace-bundle.result c.replace-bundle.new.dest low value none _ c.in-Err.back c.post.new.seat count refl e.0 e.1
+    c.replace-bundle.result c.replace-bundle.new.dest low value none _ c.replace-empty.new.dest c.post.new.seat _ count refl
+    (c.replace-empty.ensures.after ∙ e.0) e.1
 
 pub returns-in_default-clause-keeps : goal.returns-in_default-clause-keeps
 returns-in_default-clause-keeps g c =

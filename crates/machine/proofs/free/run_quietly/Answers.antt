@@ -1,12 +1,10 @@
-use Rattle.std.proofs.Common.{◌≢◌, refl, sym, ap, subst, [], false}
-use Rattle.semantics.specs.declared.report.End.{End}
-use Rattle.semantics.specs.Machine.{Events}
+use Rattle.std.proofs.Common.{refl, sym, ap, subst, [], false}
 use Rattle.schedule.specs.Setting.{size}
 use Rattle.schedule.specs.Runs.{SoFar, Began}
 use Rattle.schedule.specs.Unlisted.{with_events}
 use Rattle.rounds.specs.Rounds.{ShowsOn}
 use Rattle.rounds.proofs.Closing.{reported_quietly}
-use Rattle.machine.specs.Ends.{EndsFreely, EndsOn}
+use Rattle.machine.specs.Ends.{EndsFreely}
 use Rattle.machine.proofs.free.run_quietly.Goals as goal
 
 pub returns : goal.returns
