@@ -198,7 +198,8 @@ struct Counts {
 }
 
 /// Refuses one growth after another, until none is refused; `None` where a run went wrong. A growth that is refused in the turn of an
-/// element that has no token is asked for again in the next turn: then the run is as if none had been refused.
+/// element that has no token is asked for again in the next turn, and one that an element asks for to do something at once is asked for
+/// again to do that otherwise: then the run is as if none had been refused.
 fn refusals(part: &RefusingPart, alloc: Global, way: Way) -> Option<Counts> {
     let mut counts = Counts {
         start: 0,
@@ -212,7 +213,6 @@ fn refusals(part: &RefusingPart, alloc: Global, way: Way) -> Option<Counts> {
         match refused {
             Refused::Nowhere if is_over => return Some(counts),
             _ if is_over => return None,
-            Refused::Nowhere if part.elements == 1 => return None,
             Refused::Nowhere => {}
             Refused::AtTheStart => counts.start = counts.start.wrapping_add(1),
             Refused::InTheRun => counts.run = counts.run.wrapping_add(1),
