@@ -823,14 +823,16 @@ impl<const N: usize> Lane<'_, N> {
         let most = work.queue.len();
         let mut rule = DID;
         'all: loop {
-            let end = work.tail;
-            if head == end || end + 3 * (end - head) > most || end > last {
+            let tail = work.tail;
+            // The turns of several elements are short, so there a generation ends where the turn does.
+            let end = if N == 1 { tail } else { tail.min(last) };
+            if head == end || tail + 3 * (end - head) > most || end > last {
                 // A last generation that is cut short is made one event at a time.
-                if head == end || head >= last || end + 9 > most {
+                if head == end || head >= last || tail + 9 > most {
                     break;
                 }
             }
-            let end = if end + 3 * (end - head) > most || end > last { head + 3 } else { end };
+            let end = if tail + 3 * (end - head) > most || end > last { head + 3 } else { end };
             while head != end {
                 let (h, v, a) = (get(work.queue, head), get(work.queue, head + 1), get(work.queue, head + 2));
                 if (a as i32) < 0 {
@@ -861,12 +863,17 @@ impl<const N: usize> Lane<'_, N> {
     }
 }
 
+/// A box: what an element has posted to another. Each has a line of the cache of its own, since two threads look into it, and not the same two.
+#[repr(align(64))]
+#[derive(Default)]
+struct Posted(Mutex<Vec<Token>>);
+
 /// What the threads share.
 struct Shared<const N: usize> {
     /// How many tokens there are: in queues, sent, and in boxes.
     live: AtomicI64,
-    /// `boxes[from][to]` has what an element has posted to another.
-    boxes: [[Mutex<Vec<Token>>; N]; N],
+    /// As `boxes[from][to]`.
+    boxes: [[Posted; N]; N],
     /// Why a token cannot be taken.
     stuck: OnceLock<Stop>,
 }
@@ -880,8 +887,8 @@ impl<const N: usize> Lane<'_, N> {
 
     /// Takes what the others have posted to it.
     fn take(&mut self, shared: &Shared<N>) {
-        for posted in &shared.boxes {
-            if let Ok(mut tokens) = posted[self.element].try_lock() {
+        for boxes in &shared.boxes {
+            if let Ok(mut tokens) = boxes[self.element].0.try_lock() {
                 self.make_room(tokens.len());
                 tokens.drain(..).for_each(|t| self.put(t));
             }
@@ -891,7 +898,7 @@ impl<const N: usize> Lane<'_, N> {
     /// Posts what is sent to the others, where they have taken all that was posted before.
     fn post(&mut self, shared: &Shared<N>) {
         for (sent, posted) in self.sent.iter_mut().zip(&shared.boxes[self.element]).filter(|(sent, _)| !sent.is_empty()) {
-            if let Ok(mut tokens) = posted.try_lock() {
+            if let Ok(mut tokens) = posted.0.try_lock() {
                 if tokens.is_empty() {
                     std::mem::swap(&mut *tokens, sent);
                 }
@@ -925,7 +932,7 @@ impl<const N: usize> Lane<'_, N> {
 fn run_threads<const N: usize>(lanes: &mut [Lane<N>; N], look: u64) -> Stop {
     let shared = Shared {
         live: AtomicI64::new(lanes.iter().map(Lane::tokens).sum()),
-        boxes: array::from_fn(|_| array::from_fn(|_| Mutex::default())),
+        boxes: array::from_fn(|_| array::from_fn(|_| Posted::default())),
         stuck: OnceLock::new(),
     };
     thread::scope(|scope| {
