@@ -1,8 +1,10 @@
 //! The machine's inner loop in plain Rust, in a fast form, for comparison: words stay packed from the queue to the slot and back, a queue
-//! that slides, one jump for an instruction, a way of its own for each port. Each instruction is read from its 16 bytes when it is run. One
-//! element. It is no part of what is proved, and an index whose bound the opened object gives is not checked.
+//! that slides, one jump for an instruction, a way of its own for each port. Each instruction is read from its 16 bytes when it is run. 1, 2
+//! or 4 elements, a number that is known when this is compiled: one alone asks for no other, and several run in a thread each. It is no part
+//! of what is proved, and an index whose bound the opened object gives is not checked.
 //!
-//! Build: rustc --edition 2021 -O fast_machine.rs. Run: fast_machine OBJECT INPUT [FRAMES]. An object is taken to be sound.
+//! Build: rustc --edition 2021 -O fast_machine.rs. Run: fast_machine OBJECT INPUT [FRAMES [ELEMENTS [LOOK]]]. An object is taken to be sound.
+//! FRAMES are those of one element. Of several elements, each looks at its boxes when it has made LOOK events, or has no token.
 //!
 //! A token is three words: `h` and `v` are its word as a slot holds it (state byte 0); `a` is where it goes: for an instruction
 //! `frame << 32 | ip << 1 | port` with bit 31 clear; else bit 31, a kind in bits 24 to 30, and the rest above.
@@ -10,7 +12,11 @@
 mod sound_object;
 
 use sound_object::Code;
+use std::array;
 use std::collections::VecDeque;
+use std::sync::atomic::{AtomicI64, Ordering::SeqCst};
+use std::sync::{Mutex, OnceLock};
+use std::thread;
 use std::time::Instant;
 
 const INT: u64 = 1 << 8;
@@ -21,6 +27,8 @@ const BACK: u64 = 5 << 8;
 const HOST: u64 = 6 << 8;
 const KIND: u64 = 0xff00;
 
+/// The low half of an address.
+const LOW: u64 = u32::MAX as u64;
 /// In the low half of an address: for no instruction.
 const AWAY: u64 = 1 << 31;
 const TO_FETCH: u64 = AWAY;
@@ -43,6 +51,18 @@ enum Stop {
 
 type Token = [u64; 3];
 
+/// The element of `N` that a token goes to, by its address. Frames and cells go round the elements: frame `f` is place `f / N` of element
+/// `f % N`, and so is a cell. The frame manager and the outputs are those of element 0.
+#[inline(always)]
+fn element_of<const N: usize>(a: u64) -> usize {
+    let number = match a & LOW {
+        low if low & AWAY == 0 => a >> 32, // a frame
+        TO_FETCH => a >> 32,
+        TO_STORE => a >> 48,
+        _ => 0,
+    };
+    number as usize % N
+}
 
 struct Cell {
     h: u64,
@@ -92,9 +112,10 @@ impl Manager {
     }
 }
 
-/// The element: its slots, its queue, its cells, the frame manager and the outputs.
-struct Lane<'a> {
+/// An element of `N`: its slots, its queue, its cells, and the frame manager and the outputs, which only element 0 uses.
+struct Lane<'a, const N: usize> {
     code: &'a Code<'a>,
+    element: usize,
     slots: Vec<[u64; 2]>,
     width: usize,
     /// The words of its tokens, from `head` to `tail`.
@@ -106,6 +127,8 @@ struct Lane<'a> {
     outputs: Vec<Option<(u64, u64)>>,
     done: bool,
     made: u64,
+    /// Its tokens for each other element that are not posted yet.
+    sent: [Vec<Token>; N],
 }
 
 /// `c` plus an offset.
@@ -178,9 +201,36 @@ fn apply(op: u8, lh: u64, lv: u64, rh: u64, rv: u64, operand: u64) -> Result<(u6
     })
 }
 
-impl Lane<'_> {
+impl<'a, const N: usize> Lane<'a, N> {
+    fn new(code: &'a Code<'a>, element: usize, frames: u32) -> Lane<'a, N> {
+        let elements = N as u32;
+        Lane {
+            code,
+            element,
+            slots: vec![[0, 0]; frames as usize * code.slots],
+            width: code.slots,
+            buf: Vec::new(),
+            head: 0,
+            tail: 0,
+            cells: (0..code.cells.div_ceil(elements)).map(|_| Cell { h: 0, v: 0, readers: Vec::new() }).collect(),
+            manager: Manager::new(frames * elements),
+            outputs: vec![None; code.outputs],
+            done: false,
+            made: 0,
+            sent: array::from_fn(|_| Vec::new()),
+        }
+    }
+
+    /// Puts a token into the queue, or with what is sent to the element that it goes to.
+    fn send(&mut self, t: Token) {
+        let to = element_of::<N>(t[2]);
+        if to == self.element { self.push(t) } else { self.sent[to].push(t) }
+    }
+
     fn push(&mut self, t: Token) {
-        self.make_room(1);
+        if self.room() == 0 {
+            self.make_room(1);
+        }
         self.put(t);
     }
 
@@ -224,32 +274,32 @@ impl Lane<'_> {
     fn away(&mut self, a: u64, h: u64, v: u64) -> Stop {
         match a >> 24 & 127 {
             0 => {
-                let cell = &mut self.cells[(a >> 32) as usize];
+                let cell = &mut self.cells[(a >> 32) as usize / N];
                 if cell.h != 0 {
                     let t = [cell.h, cell.v, back_to(h, v)];
-                    self.put(t);
+                    self.send(t);
                 } else {
                     cell.readers.push((h, v));
                 }
             }
             1 => {
-                let place = (a >> 48) as usize;
+                let number = (a >> 48) as usize;
+                let place = number / N;
                 let kind = h & KIND;
                 if self.cells[place].h != 0 {
-                    return Stop::Clash(place as u32);
+                    return Stop::Clash(number as u32);
                 }
                 let readers = std::mem::take(&mut self.cells[place].readers);
                 self.cells[place].h = kind;
                 self.cells[place].v = v;
-                self.make_room(readers.len() + 1);
                 for (rh, rv) in readers {
-                    self.put([kind, v, back_to(rh, rv)]);
+                    self.send([kind, v, back_to(rh, rv)]);
                 }
                 let back = if h >> 17 & 1 == 1 { TO_HOST | h >> 32 << 32 } else { (a >> 32 & 0xffff) << 32 | (h >> 31) & !1 | h >> 16 & 1 };
-                self.put([kind, v, back]);
+                self.send([kind, v, back]);
             }
             2 => match self.manager.take() {
-                Some(f) => self.put([FRAME, f as u64, back_to(h, v)]),
+                Some(f) => self.send([FRAME, f as u64, back_to(h, v)]),
                 None => self.manager.waiting.push_back((h, v)),
             },
             3 => {
@@ -258,7 +308,7 @@ impl Lane<'_> {
                     return Stop::Stuck(5);
                 }
                 match self.manager.waiting.pop_front() {
-                    Some((h, v)) => self.put([FRAME, f as u64, back_to(h, v)]),
+                    Some((h, v)) => self.send([FRAME, f as u64, back_to(h, v)]),
                     None => self.manager.give(f),
                 }
             }
@@ -308,7 +358,8 @@ struct At {
     word: u64,
 }
 
-struct Work<'w> {
+/// What a turn works on.
+struct Work<'w, const N: usize> {
     code: &'w Code<'w>,
     instrs: &'w [u8],
     literals: &'w [u8],
@@ -317,17 +368,30 @@ struct Work<'w> {
     width: usize,
     queue: &'w mut [u64],
     tail: usize,
+    element: usize,
+    sent: &'w mut [Vec<Token>; N],
 }
 
 const DID: u8 = 0;
 
-impl<'w> Work<'w> {
+impl<const N: usize> Work<'_, N> {
     #[inline(always)]
     fn put(&mut self, h: u64, v: u64, a: u64) {
         set(self.queue, self.tail, h);
         set(self.queue, self.tail + 1, v);
         set(self.queue, self.tail + 2, a);
         self.tail += 3;
+    }
+
+    /// As `Lane::send`, where there is room. A token that stays in its frame stays on its element, so it needs `put` alone.
+    #[inline(always)]
+    fn send(&mut self, h: u64, v: u64, a: u64) {
+        let to = element_of::<N>(a);
+        if N == 1 || to == self.element {
+            self.put(h, v, a);
+        } else {
+            self.sent[to].push([h, v, a]);
+        }
     }
 
     #[inline(always)]
@@ -355,7 +419,7 @@ impl<'w> Work<'w> {
 
     #[inline(always)]
     fn place(&self, t: &At) -> usize {
-        t.frame as usize * self.width + (t.word >> 16 & 0xffff) as usize
+        t.frame as usize / N * self.width + (t.word >> 16 & 0xffff) as usize
     }
 
     #[inline(always)]
@@ -444,9 +508,9 @@ impl<'w> Work<'w> {
         } else if iv >= len as u64 {
             self.put(RANGE, operand >> 32, t.frame << 32 | there);
         } else if store {
-            self.put(answer(there) & !KIND | vh & KIND, vv, TO_STORE | t.frame << 32 | (base as u64 + iv) << 48);
+            self.send(answer(there) & !KIND | vh & KIND, vv, TO_STORE | t.frame << 32 | (base as u64 + iv) << 48);
         } else {
-            self.put(answer(there), t.frame, TO_FETCH | (base as u64 + iv) << 32);
+            self.send(answer(there), t.frame, TO_FETCH | (base as u64 + iv) << 32);
         }
         DID
     }
@@ -497,7 +561,7 @@ impl<'w> Work<'w> {
                 w.set_slot(place, [0, 0]);
                 let operand = w.operand(t);
                 let entry = unsafe { *w.code.entries.get_unchecked((operand >> 16) as usize) } as u64 + (operand & 0xffff);
-                w.put(rh & !255, rv, lv << 32 | entry << 1);
+                w.send(rh & !255, rv, lv << 32 | entry << 1);
                 w.both(t, INT, 0);
                 DID
             }),
@@ -506,7 +570,7 @@ impl<'w> Work<'w> {
                     return 4;
                 }
                 w.set_slot(place, [0, 0]);
-                w.put(rh & KIND, rv, beyond(lh, lv, w.operand(t), w.ends));
+                w.send(rh & KIND, rv, beyond(lh, lv, w.operand(t), w.ends));
                 w.both(t, INT, 0);
                 DID
             }),
@@ -515,7 +579,7 @@ impl<'w> Work<'w> {
                     return 4;
                 }
                 w.set_slot(place, [0, 0]);
-                w.put(answer(w.there(t)), t.frame, beyond(lh, lv, w.operand(t), w.ends));
+                w.send(answer(w.there(t)), t.frame, beyond(lh, lv, w.operand(t), w.ends));
                 DID
             }),
             0 => self.pair::<R>(t, |w, lh, lv, _, _, place| {
@@ -523,8 +587,8 @@ impl<'w> Work<'w> {
                     return 4;
                 }
                 w.set_slot(place, [0, 0]);
-                w.put(INT, 0, TO_RELEASE | t.frame << 32);
-                w.put(INT, 0, beyond(lh, lv, w.operand(t), w.ends));
+                w.send(INT, 0, TO_RELEASE | t.frame << 32);
+                w.send(INT, 0, beyond(lh, lv, w.operand(t), w.ends));
                 DID
             }),
             _ if R => 2,
@@ -546,7 +610,7 @@ impl<'w> Work<'w> {
                 self.request(false, t, t.h, t.v, INT, 0)
             }
             23 => {
-                self.put(answer(self.there(t)), t.frame, TO_MANAGER);
+                self.send(answer(self.there(t)), t.frame, TO_MANAGER);
                 DID
             }
             24 => {
@@ -554,7 +618,7 @@ impl<'w> Work<'w> {
                     return 4;
                 }
                 let entry = unsafe { *self.code.entries.get_unchecked(self.operand(t) as usize) } as u64;
-                self.put(answer(self.there(t) & !1), t.frame, t.v << 32 | entry << 1);
+                self.send(answer(self.there(t) & !1), t.frame, t.v << 32 | entry << 1);
                 self.dest(t, (t.word >> 48) as u16, INT, 0);
                 DID
             }
@@ -578,7 +642,7 @@ impl<'w> Work<'w> {
                 }
                 if n > 0 {
                     self.set_slot(place, [3, n - 1]);
-                    self.put(INT, 0, back_to(t.h, t.v));
+                    self.send(INT, 0, back_to(t.h, t.v));
                 } else {
                     self.set_slot(place, [t.h | 4, t.v]);
                 }
@@ -589,7 +653,7 @@ impl<'w> Work<'w> {
                 let [s, n] = self.slot(place);
                 if s as u8 == 4 {
                     self.set_slot(place, [3, 0]);
-                    self.put(INT, 0, back_to(s, n));
+                    self.send(INT, 0, back_to(s, n));
                 } else if s == 3 && n < self.operand(t) {
                     self.set_slot(place, [3, n + 1]);
                 } else if s == 5 && n > 1 {
@@ -645,11 +709,11 @@ const OUT: u8 = 2;
 
 /// A token for no instruction that makes at most one token; `OUT`, where nothing was done, is all else.
 #[inline(never)]
-fn away_one(cells: &mut [Cell], manager: &mut Manager, outputs: &mut [Option<(u64, u64)>], done: &mut bool, a: u64, h: u64, v: u64) -> (u8, Token) {
+fn away_one<const N: usize>(cells: &mut [Cell], manager: &mut Manager, outputs: &mut [Option<(u64, u64)>], done: &mut bool, a: u64, h: u64, v: u64) -> (u8, Token) {
     let none = (NONE, [0; 3]);
     match a >> 24 & 127 {
         0 => {
-            let cell = &mut cells[(a >> 32) as usize];
+            let cell = &mut cells[(a >> 32) as usize / N];
             if cell.h != 0 {
                 return (ONE, [cell.h, cell.v, back_to(h, v)]);
             }
@@ -657,7 +721,7 @@ fn away_one(cells: &mut [Cell], manager: &mut Manager, outputs: &mut [Option<(u6
             none
         }
         1 => {
-            let cell = &mut cells[(a >> 48) as usize];
+            let cell = &mut cells[(a >> 48) as usize / N];
             if cell.h != 0 || !cell.readers.is_empty() || h >> 17 & 1 == 1 {
                 return (OUT, [0; 3]);
             }
@@ -700,7 +764,7 @@ fn away_one(cells: &mut [Cell], manager: &mut Manager, outputs: &mut [Option<(u6
     }
 }
 
-impl Lane<'_> {
+impl<const N: usize> Lane<'_, N> {
     /// Up to `steps` events, oldest token first.
     fn run(&mut self, steps: u64) -> Stop {
         let mut left = steps;
@@ -753,27 +817,31 @@ impl Lane<'_> {
             width: self.width,
             queue: &mut self.buf,
             tail: self.tail,
+            element: self.element,
+            sent: &mut self.sent,
         };
         let most = work.queue.len();
         let mut rule = DID;
         'all: loop {
-            let end = work.tail;
-            if head == end || end + 3 * (end - head) > most || end > last {
+            let tail = work.tail;
+            // The turns of several elements are short, so there a generation ends where the turn does.
+            let end = if N == 1 { tail } else { tail.min(last) };
+            if head == end || tail + 3 * (end - head) > most || end > last {
                 // A last generation that is cut short is made one event at a time.
-                if head == end || head >= last || end + 9 > most {
+                if head == end || head >= last || tail + 9 > most {
                     break;
                 }
             }
-            let end = if end + 3 * (end - head) > most || end > last { head + 3 } else { end };
+            let end = if tail + 3 * (end - head) > most || end > last { head + 3 } else { end };
             while head != end {
                 let (h, v, a) = (get(work.queue, head), get(work.queue, head + 1), get(work.queue, head + 2));
                 if (a as i32) < 0 {
-                    let (done, token) = away_one(&mut self.cells, &mut self.manager, &mut self.outputs, &mut self.done, a, h, v);
+                    let (done, token) = away_one::<N>(&mut self.cells, &mut self.manager, &mut self.outputs, &mut self.done, a, h, v);
                     if done == OUT {
                         break 'all;
                     }
                     if done == ONE {
-                        work.put(token[0], token[1], token[2]);
+                        work.send(token[0], token[1], token[2]);
                     }
                     head += 3;
                     continue;
@@ -795,30 +863,110 @@ impl Lane<'_> {
     }
 }
 
+/// A box: what an element has posted to another. Each has a line of the cache of its own, since two threads look into it, and not the same two.
+#[repr(align(64))]
+#[derive(Default)]
+struct Posted(Mutex<Vec<Token>>);
+
+/// What the threads share.
+struct Shared<const N: usize> {
+    /// How many tokens there are: in queues, sent, and in boxes.
+    live: AtomicI64,
+    /// As `boxes[from][to]`.
+    boxes: [[Posted; N]; N],
+    /// Why a token cannot be taken.
+    stuck: OnceLock<Stop>,
+}
+
+impl<const N: usize> Lane<'_, N> {
+    /// How many tokens it has, with those that are not posted yet.
+    fn tokens(&self) -> i64 {
+        let sent: usize = self.sent.iter().map(Vec::len).sum();
+        (self.len() + sent) as i64
+    }
+
+    /// Takes what the others have posted to it.
+    fn take(&mut self, shared: &Shared<N>) {
+        for boxes in &shared.boxes {
+            if let Ok(mut tokens) = boxes[self.element].0.try_lock() {
+                self.make_room(tokens.len());
+                tokens.drain(..).for_each(|t| self.put(t));
+            }
+        }
+    }
+
+    /// Posts what is sent to the others, where they have taken all that was posted before.
+    fn post(&mut self, shared: &Shared<N>) {
+        for (sent, posted) in self.sent.iter_mut().zip(&shared.boxes[self.element]).filter(|(sent, _)| !sent.is_empty()) {
+            if let Ok(mut tokens) = posted.0.try_lock() {
+                if tokens.is_empty() {
+                    std::mem::swap(&mut *tokens, sent);
+                }
+            }
+        }
+    }
+
+    /// Runs until there is no token anywhere, or one cannot be taken. What a turn makes and takes is counted in one addition, before any of it is
+    /// posted: so as long as there is a token, the number is not 0.
+    fn run_beside(&mut self, shared: &Shared<N>, look: u64) {
+        while shared.stuck.get().is_none() {
+            self.take(shared);
+            if self.len() > 0 {
+                let before = self.tokens();
+                let stop = self.run(look);
+                if !matches!(stop, Stop::Turn | Stop::Idle) {
+                    shared.stuck.get_or_init(|| stop);
+                }
+                shared.live.fetch_add(self.tokens() - before, SeqCst);
+            } else if shared.live.load(SeqCst) == 0 {
+                return;
+            } else {
+                thread::yield_now();
+            }
+            self.post(shared);
+        }
+    }
+}
+
+/// Runs the elements, each in a thread of its own.
+fn run_threads<const N: usize>(lanes: &mut [Lane<N>; N], look: u64) -> Stop {
+    let shared = Shared {
+        live: AtomicI64::new(lanes.iter().map(Lane::tokens).sum()),
+        boxes: array::from_fn(|_| array::from_fn(|_| Posted::default())),
+        stuck: OnceLock::new(),
+    };
+    thread::scope(|scope| {
+        for lane in lanes {
+            scope.spawn(|| lane.run_beside(&shared, look));
+        }
+    });
+    shared.stuck.into_inner().unwrap_or(Stop::Idle)
+}
+
+/// Runs the code on `N` elements, and prints what came of it and how long it took.
+fn measure<const N: usize>(code: &Code, input: i64, frames: u32, look: u64) {
+    let mut lanes: [Lane<N>; N] = array::from_fn(|element| Lane::new(code, element, frames));
+    let first = u64::from(code.entries[code.main]);
+    lanes[0].push([HOST, 0, first << 1]);
+    lanes[0].push([INT, input as u64, (first + 1) << 1]);
+    let begun = Instant::now();
+    let end = if N == 1 { lanes[0].run(4_294_967_296) } else { run_threads(&mut lanes, look) };
+    let time = begun.elapsed().as_secs_f64();
+    let made: u64 = lanes.iter().map(|lane| lane.made).sum();
+    println!("{:?}, end {end:?}, {made} events, {time:.3} s, {:.1} M events/s", lanes[0].outputs, made as f64 / time / 1e6);
+}
+
 fn main() {
     let args: Vec<String> = std::env::args().collect();
+    let number = |place: usize, other: u32| args.get(place).map_or(other, |it| it.parse().expect("a number"));
     let bytes = std::fs::read(&args[1]).expect("an object");
     let input: i64 = args[2].parse().expect("a number");
-    let frames: u32 = args.get(3).map_or(8, |it| it.parse().expect("a number"));
+    let (frames, look) = (number(3, 8), u64::from(number(5, 1_024)));
     let code = Code::new(&bytes);
-    let mut lane = Lane {
-        code: &code,
-        slots: vec![[0, 0]; frames as usize * code.slots],
-        width: code.slots,
-        buf: Vec::new(),
-        head: 0,
-        tail: 0,
-        cells: (0..code.cells).map(|_| Cell { h: 0, v: 0, readers: Vec::new() }).collect(),
-        manager: Manager::new(frames),
-        outputs: vec![None; code.outputs],
-        done: false,
-        made: 0,
-    };
-    let first = u64::from(code.entries[code.main]);
-    lane.push([HOST, 0, first << 1]);
-    lane.push([INT, input as u64, (first + 1) << 1]);
-    let begun = Instant::now();
-    let end = lane.run(4_294_967_296);
-    let time = begun.elapsed().as_secs_f64();
-    println!("{:?}, end {end:?}, {} events, {time:.3} s, {:.1} M events/s", lane.outputs, lane.made, lane.made as f64 / time / 1e6);
+    match number(4, 1) {
+        1 => measure::<1>(&code, input, frames, look),
+        2 => measure::<2>(&code, input, frames, look),
+        4 => measure::<4>(&code, input, frames, look),
+        other => panic!("1, 2 or 4 elements, not {other}"),
+    }
 }
