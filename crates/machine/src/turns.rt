@@ -25,7 +25,7 @@ use std::thread;
 
 // How many events an element that has enough tokens makes between two looks at the mailboxes: those in which it takes what
 // others posted, and those in which it posts what it has for others.
-const LOOK: u64 = 1024;
+const LOOK: u64 = 128;
 
 // Whether the element has tokens for a whole turn, and looked at the mailboxes a short while ago, or has nobody who would post any.
 fn is_busy<C: MainCode, A: Allocator, L: Log>(
