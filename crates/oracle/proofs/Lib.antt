@@ -17,7 +17,7 @@ mod Gathered
 mod Gating
 mod Joining
 mod Known
-mod MadeOrder
+mod MadeEqual
 mod Nexting
 mod Numbers
 mod Partners
@@ -34,6 +34,7 @@ mod Taken
 mod Taking
 mod Steering
 mod Turning
+mod Used
 mod Views
 mod Waiting
 mod WaveRuns

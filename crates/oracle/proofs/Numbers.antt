@@ -3,20 +3,17 @@ use Rattle.std.proofs.Common.{◌≡◌, ◌≢◌, ℕ, suc, ◌+◌, ◌<◌, 
 use Rattle.std.proofs.Common.{sym, ap, ◌∙◌, subst, arith}
 use Rattle.std.specs.Prelude.{cond, unwrap_or}
 use Rattle.std.proofs.lemmas.Option.{slice_get_within}
-use Rattle.std.specs.Ordering.{is_eq}
-use Rattle.std.specs.declared.cmp.Ordering.{Ordering}
-use Rattle.std.specs.declared.cmp.Reverse.{Reverse}
-use Rattle.std.specs.BTreeMap.{BTreeMap, get, Updates}
+use Rattle.std.specs.HashMap.{HashMap, get, Updates}
 use Rattle.oracle.specs.declared.invocations.Made.{Made}
 use Rattle.oracle.specs.declared.invocations.Invocation.{Invocation}
 use Rattle.oracle.specs.Running.{same_made, made_from}
-use Rattle.oracle.specs.Numbering.{key, IsNumbering}
+use Rattle.oracle.specs.Numbering.{IsNumbering}
 use Rattle.oracle.proofs.Entering.{made_same, made_found}
 use Rattle.oracle.proofs.Apart.{made_refl}
 
--- whether two are equal in the order
-abbrev pub DealsApart : (Reverse Made → Reverse Made → Ordering) → Type 0
-DealsApart cmp = (x y : Made) → is_eq (cmp (key x) (key y)) ≡ same_made x y
+-- whether two are equal keys
+abbrev pub DealsApart : (Made → Made → Bool) → Type 0
+DealsApart eq = (x y : Made) → eq x y ≡ same_made x y
 
 abbrev or_later : Option ℕ → Option ℕ → Option ℕ
 or_later None o = o
@@ -38,18 +35,18 @@ last_from made i x (y ∷ ys) = go (same_made y.made made) (last_from made (i + 
         let e : i + suc (length ys) ≡ i + 1 + length ys = omega arith in
         rw e ih
 
-pub numbers_more : (cmp : Reverse Made → Reverse Made → Ordering) (m n : BTreeMap (Reverse Made) ℕ) (xs : List Invocation) (made : Made) (block : ℕ)
-    → DealsApart cmp → IsNumbering cmp m xs → made_from made 0 xs ≡ None
-    → Updates cmp m n (key made) (Some (length xs)) → IsNumbering cmp n (xs ++ record { made = made; block = block } ∷ [])
-numbers_more cmp m n xs made block apart numbers absent updates q =
-    updates.0 (key q) ∙ ap (λ b. cond b (Some (length xs)) (get cmp m (key q))) (apart made q) ∙ go (same_made made q) refl
+pub numbers_more : {S : Type 0} (eq : Made → Made → Bool) (m n : HashMap Made ℕ S) (xs : List Invocation) (made : Made) (block : ℕ)
+    → DealsApart eq → IsNumbering eq m xs → made_from made 0 xs ≡ None
+    → Updates eq m n made (Some (length xs)) → IsNumbering eq n (xs ++ record { made = made; block = block } ∷ [])
+numbers_more eq m n xs made block apart numbers absent updates q =
+    updates.0 q ∙ ap (λ b. cond b (Some (length xs)) (get eq m q)) (apart made q) ∙ go (same_made made q) refl
     ∙ sym (last_from q 0 (record { made = made; block = block }) xs)
   where
     later : (v : Option ℕ) → v ≡ or_later v None
     later None = refl
     later (Some i) = refl
 
-    go : (t : Bool) → same_made made q ≡ t → cond t (Some (length xs)) (get cmp m (key q))
+    go : (t : Bool) → same_made made q ≡ t → cond t (Some (length xs)) (get eq m q)
         ≡ or_later (made_from q 0 xs) (if t then Some (0 + length xs) else None)
     go true e =
         let none : made_from q 0 xs ≡ None = subst (λ a. made_from a 0 xs ≡ None) (made_same made q e) absent in
@@ -58,13 +55,13 @@ numbers_more cmp m n xs made block apart numbers absent updates q =
     go false e = numbers q ∙ later (made_from q 0 xs)
 
 -- the map has one of its numbers written again
-pub numbers_same : (cmp : Reverse Made → Reverse Made → Ordering) (m n : BTreeMap (Reverse Made) ℕ) (xs : List Invocation) (made : Made) (k : ℕ)
-    → DealsApart cmp → IsNumbering cmp m xs → made_from made 0 xs ≡ Some k
-    → Updates cmp m n (key made) (Some k) → IsNumbering cmp n xs
-numbers_same cmp m n xs made k apart numbers there updates q = updates.0 (key q) ∙ ap (λ b. cond b (Some k) (get cmp m (key q))) (apart made q)
+pub numbers_same : {S : Type 0} (eq : Made → Made → Bool) (m n : HashMap Made ℕ S) (xs : List Invocation) (made : Made) (k : ℕ)
+    → DealsApart eq → IsNumbering eq m xs → made_from made 0 xs ≡ Some k
+    → Updates eq m n made (Some k) → IsNumbering eq n xs
+numbers_same eq m n xs made k apart numbers there updates q = updates.0 q ∙ ap (λ b. cond b (Some k) (get eq m q)) (apart made q)
     ∙ go (same_made made q) refl
   where
-    go : (t : Bool) → same_made made q ≡ t → cond t (Some k) (get cmp m (key q)) ≡ made_from q 0 xs
+    go : (t : Bool) → same_made made q ≡ t → cond t (Some k) (get eq m q) ≡ made_from q 0 xs
     go true e = sym there ∙ ap (λ a. made_from a 0 xs) (made_same made q e)
     go false e = numbers q
 

@@ -12,4 +12,5 @@ pub mod Rows
 pub mod Running
 pub mod Sending
 pub mod Telling
+pub mod Uses
 pub mod Waves

@@ -142,3 +142,11 @@ same_spot (Out j) (Out k) = j == k
 same_spot (Flag j) (Flag k) = j == k
 same_spot (Carried j) (Carried k) = j == k
 same_spot s t = false
+
+-- what tells spots apart: what kind of place it is, and two numbers
+abbrev pub parts_of : Spot → ℕ × ℕ × ℕ
+parts_of (Operand n i) = (0, n, i)
+parts_of (Predicate n) = (1, n, 0)
+parts_of (Out j) = (2, j, 0)
+parts_of (Flag j) = (3, j, 0)
+parts_of (Carried j) = (4, j, 0)

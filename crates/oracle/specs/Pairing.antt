@@ -4,6 +4,8 @@ use Rattle.tags.specs.declared.value.Value.{Value}
 use Rattle.oracle.specs.declared.shapes.Shape.{Shape}
 use Rattle.oracle.specs.declared.shapes.Partner.{Partner}
 use Rattle.oracle.specs.declared.shapes.Partner.TheVariants.{Nothing, Then, First, Listed}
+use Rattle.oracle.specs.declared.gather.Taken.{Taken}
+use Rattle.oracle.specs.declared.gather.Taken.TheVariants.{One, Two, Listed as InList}
 use Rattle.oracle.specs.declared.tokens.Spot.{Spot}
 use Rattle.oracle.specs.declared.tokens.Token.{Token}
 use Rattle.oracle.specs.Lines.{spots_in, same_spot}
@@ -20,3 +22,9 @@ IsPartner shape s Listed = ⊤
 abbrev pub AreTaken : Token → Shape → List Token → List Token → List Value → Bool → Type 0
 AreTaken t shape w left vs true = (all_there t (spots_in shape) w ≡ true) × (left ≡ remaining_of t (spots_in shape) w) × (vs ≡ values_of t (spots_in shape) w)
 AreTaken t shape w left vs false = (all_there t (spots_in shape) w ≡ false) × (left ≡ w)
+
+-- the values that were taken
+abbrev pub taken_in : Taken → List Value → List Value
+taken_in (One v) vs = v ∷ []
+taken_in (Two v w) vs = v ∷ w ∷ []
+taken_in InList vs = vs

@@ -1,12 +1,14 @@
 //! What an activity does with the values that it takes.
 
-ghost use Rattle.std.specs.Prelude.{◌≡◌, ◌≤◌, Some};
+ghost use Rattle.std.specs.Prelude.{◌≡◌, ◌≤◌, ◌∷◌, [], Some};
 ghost use Rattle.operators.specs.Values as Values;
 ghost use Rattle.oracle.specs.Lines.{total_of};
 ghost use Rattle.oracle.specs.Acting as Acting;
 ghost use Rattle.oracle.specs.Deeds as Deeds;
+ghost use Rattle.oracle.specs.Pairing.{taken_in};
 ghost use Rattle.oracle.specs.Telling.{told, told_if};
 
+use crate::gather::Taken;
 use crate::invocations::{Invocation, Made};
 use crate::lines::{Line, array_len, arrays_of, cell_of, line_at, origin_at, version_of};
 use crate::shapes::Shape;
@@ -180,23 +182,23 @@ fn fired_one<'a, A: Allocator>(
     context: usize,
     node: usize,
     kind: &Kind<usize>,
-    value: Value,
+    value: &Value,
     origin: Origin,
 ) -> Option<Act>
     requires { total_of checked.now.arrays ≤ 65536 }
-    ensures { told_if result ≡ Acting.one_deed checked.now context node kind.now value origin }
+    ensures { told_if result ≡ Acting.one_deed checked.now context node kind.now value.now origin }
 {
     match kind {
         Kind::Lit { value } => Some(sends(context, node, 0, Value::Int(*value))),
-        Kind::Apply1 { op } => Some(sends(context, node, 0, apply1(*op, value))),
+        Kind::Apply1 { op } => Some(sends(context, node, 0, apply1(*op, *value))),
         Kind::Cond => Some(Act {
             task: Task::Steers {
                 context,
                 cond: node,
             },
-            value,
+            value: *value,
         }),
-        Kind::Fetch { array } => Some(fetch(checked, context, node, *array, value, origin)),
+        Kind::Fetch { array } => Some(fetch(checked, context, node, *array, *value, origin)),
         _ => None,
     }
 }
@@ -208,26 +210,99 @@ fn fired_two<'a, A: Allocator>(
     context: usize,
     node: usize,
     kind: &Kind<usize>,
-    operands: (Value, Value),
+    first: &Value,
+    second: &Value,
     origin: Origin,
 ) -> Option<Act>
     requires { total_of checked.now.arrays ≤ 65536 }
-    ensures { told_if result ≡ Acting.two_deed checked.now context node kind.now operands.0 operands.1 origin }
+    ensures { told_if result ≡ Acting.two_deed checked.now context node kind.now first.now second.now origin }
 {
     match kind {
         Kind::Apply2 { op } => Some(sends(
             context,
             node,
             0,
-            apply2_at(*op, operands.0, operands.1, origin),
+            apply2_at(*op, *first, *second, origin),
         )),
-        Kind::Store { array } => Some(store(checked, context, node, *array, operands, origin)),
+        Kind::Store { array } => Some(store(
+            checked,
+            context,
+            node,
+            *array,
+            (*first, *second),
+            origin,
+        )),
+        _ => None,
+    }
+}
+
+/// All values that a strict call takes enter the block.
+#[inline(always)]
+fn enters_all(context: usize, node: usize, block: usize) -> Act
+    ensures { told result ≡ Deeds.EntersAll (Made.Called context node) block }
+{
+    let made = Made::Called { by: context, node };
+    Act {
+        task: Task::EntersAll { made, block },
+        value: Value::Int(0),
+    }
+}
+
+/// What a node or an input does with its only operand.
+#[inline(always)]
+fn fires_one<'a, A: Allocator>(
+    checked: &Checked<'a, A>,
+    context: usize,
+    block: usize,
+    node: usize,
+    value: &Value,
+) -> Option<Act>
+    requires { total_of checked.now.arrays ≤ 65536 }
+    ensures { told_if result ≡ Acting.fires_deed checked.now context block node (value.now ∷ []) }
+{
+    match line_at(checked, block, node) {
+        Line::Input => Some(sends(context, node, 0, *value)),
+        Line::Node { arity, .. } if arity != 1 => None,
+        Line::Node {
+            kind: Kind::StrictCall { block },
+            ..
+        } => Some(enters_all(context, node, block)),
+        Line::Node { kind, .. } => {
+            let origin = origin_at(version_of(checked), block, node);
+            fired_one(checked, context, node, &kind, value, origin)
+        }
+        Line::Nothing => None,
+    }
+}
+
+/// What a node does with its two operands.
+#[inline(always)]
+fn fires_two<'a, A: Allocator>(
+    checked: &Checked<'a, A>,
+    context: usize,
+    block: usize,
+    node: usize,
+    first: &Value,
+    second: &Value,
+) -> Option<Act>
+    requires { total_of checked.now.arrays ≤ 65536 }
+    ensures { told_if result ≡ Acting.fires_deed checked.now context block node (first.now ∷ second.now ∷ []) }
+{
+    match line_at(checked, block, node) {
+        Line::Node { arity, .. } if arity != 2 => None,
+        Line::Node {
+            kind: Kind::StrictCall { block },
+            ..
+        } => Some(enters_all(context, node, block)),
+        Line::Node { kind, .. } => {
+            let origin = origin_at(version_of(checked), block, node);
+            fired_two(checked, context, node, &kind, first, second, origin)
+        }
         _ => None,
     }
 }
 
 /// What a node does with all its operands.
-#[inline(always)]
 fn fired<'a, A: Allocator>(
     checked: &Checked<'a, A>,
     context: usize,
@@ -240,24 +315,16 @@ fn fired<'a, A: Allocator>(
     ensures { told_if result ≡ Acting.fired_deed checked.now context node kind.now values.now origin }
 {
     if let Kind::StrictCall { block } = kind {
-        let made = Made::Called { by: context, node };
-        return Some(Act {
-            task: Task::EntersAll {
-                made,
-                block: *block,
-            },
-            value: Value::Int(0),
-        });
+        return Some(enters_all(context, node, *block));
     }
     match values {
-        [value] => fired_one(checked, context, node, kind, *value, origin),
-        [left, right] => fired_two(checked, context, node, kind, (*left, *right), origin),
+        [value] => fired_one(checked, context, node, kind, value, origin),
+        [left, right] => fired_two(checked, context, node, kind, left, right, origin),
         _ => None,
     }
 }
 
 /// What a node or an input does with all its operands.
-#[inline(always)]
 fn fired_at<'a, A: Allocator>(
     checked: &Checked<'a, A>,
     context: usize,
@@ -286,8 +353,8 @@ fn fired_at<'a, A: Allocator>(
 
 /// What an `enter` does with its source and its predicate.
 #[inline(always)]
-fn gated(context: usize, node: usize, line: &Line, value: Value, predicate: Value) -> Option<Act>
-    ensures { told_if result ≡ Acting.gated_deed context node line.now value predicate }
+fn gated(context: usize, node: usize, line: &Line, value: &Value, predicate: &Value) -> Option<Act>
+    ensures { told_if result ≡ Acting.gated_deed context node line.now value.now predicate.now }
 {
     match line {
         Line::Node {
@@ -295,12 +362,12 @@ fn gated(context: usize, node: usize, line: &Line, value: Value, predicate: Valu
             kind: Kind::Enter,
             ..
         } => {
-            if truth(predicate) == *side {
-                Some(sends(context, node, 0, value))
+            if truth(*predicate) == *side {
+                Some(sends(context, node, 0, *value))
             } else {
                 Some(Act {
                     task: Task::Stops,
-                    value,
+                    value: *value,
                 })
             }
         }
@@ -310,14 +377,14 @@ fn gated(context: usize, node: usize, line: &Line, value: Value, predicate: Valu
 
 /// What a merge, a call or a loop does with an operand.
 #[inline(always)]
-fn passed(context: usize, node: usize, position: usize, line: &Line, value: Value) -> Option<Act>
-    ensures { told_if result ≡ Acting.passed_deed context node position line.now value }
+fn passed(context: usize, node: usize, position: usize, line: &Line, value: &Value) -> Option<Act>
+    ensures { told_if result ≡ Acting.passed_deed context node position line.now value.now }
 {
     match line {
         Line::Node {
             kind: Kind::Merge { .. },
             ..
-        } => Some(sends(context, node, 0, value)),
+        } => Some(sends(context, node, 0, *value)),
         Line::Node {
             kind: Kind::Call { block },
             ..
@@ -327,7 +394,7 @@ fn passed(context: usize, node: usize, position: usize, line: &Line, value: Valu
                 block: *block,
                 input: position,
             },
-            value,
+            value: *value,
         }),
         Line::Node {
             kind: Kind::Loop { block, .. },
@@ -342,7 +409,7 @@ fn passed(context: usize, node: usize, position: usize, line: &Line, value: Valu
                 block: *block,
                 input: position,
             },
-            value,
+            value: *value,
         }),
         _ => None,
     }
@@ -350,14 +417,14 @@ fn passed(context: usize, node: usize, position: usize, line: &Line, value: Valu
 
 /// What a turn of an iteration does. There is no number for a turn beyond the last u64.
 #[inline(always)]
-fn turned(invocation: Invocation, number: usize, flag: Value, value: Value) -> Option<Act>
-    ensures { told_if result ≡ Acting.turned_deed invocation.made invocation.block number flag value }
+fn turned(invocation: &Invocation, number: usize, flag: &Value, value: &Value) -> Option<Act>
+    ensures { told_if result ≡ Acting.turned_deed invocation.now.made invocation.now.block number flag.now value.now }
 {
     let Made::Turned { by, node, turn } = invocation.made else {
         return None;
     };
     let place = number.saturating_sub(1);
-    if truth(flag) {
+    if truth(*flag) {
         let made = Made::Turned {
             by,
             node,
@@ -369,64 +436,127 @@ fn turned(invocation: Invocation, number: usize, flag: Value, value: Value) -> O
                 block: invocation.block,
                 input: place,
             },
-            value,
+            value: *value,
         })
     } else {
-        Some(sends(by, node, place, value))
+        Some(sends(by, node, place, *value))
     }
 }
 
 /// What a result of a call does.
 #[inline(always)]
-fn returned(invocation: Invocation, number: usize, value: Value) -> Option<Act>
-    ensures { told_if result ≡ Acting.returned_deed invocation.made number value }
+fn returned(invocation: &Invocation, number: usize, value: &Value) -> Option<Act>
+    ensures { told_if result ≡ Acting.returned_deed invocation.now.made number value.now }
 {
     match invocation.made {
-        Made::Called { by, node } => Some(sends(by, node, number, value)),
+        Made::Called { by, node } => Some(sends(by, node, number, *value)),
         _ => None,
     }
 }
 
 /// What a result of main does.
 #[inline(always)]
-fn shown(invocation: Invocation, number: usize, value: Value) -> Option<Act>
-    ensures { told_if result ≡ Acting.shown_deed invocation.made number value }
+fn shown(invocation: &Invocation, number: usize, value: &Value) -> Option<Act>
+    ensures { told_if result ≡ Acting.shown_deed invocation.now.made number value.now }
 {
     match invocation.made {
         Made::Main => Some(Act {
             task: Task::Puts { number },
-            value,
+            value: *value,
         }),
         _ => None,
     }
 }
 
-/// What an activity of that shape does in an invocation.
+/// What an activity of that shape, which takes one value, does in an invocation.
 #[inline(always)]
-pub fn deed_of<'a, A: Allocator>(
+fn deed_of_one<'a, A: Allocator>(
     checked: &Checked<'a, A>,
     context: usize,
-    invocation: Invocation,
+    invocation: &Invocation,
+    shape: Shape,
+    value: &Value,
+) -> Option<Act>
+    requires { total_of checked.now.arrays ≤ 65536 }
+    ensures { told_if result ≡ Acting.deed_in checked.now context invocation.now shape (value.now ∷ []) }
+{
+    let block = invocation.block;
+    match shape {
+        Shape::Fires { node, .. } => fires_one(checked, context, block, node, value),
+        Shape::Passes { node, position } => {
+            let line = line_at(checked, block, node);
+            passed(context, node, position, &line, value)
+        }
+        Shape::Returns { number } => returned(invocation, number, value),
+        Shape::Outputs { number } => shown(invocation, number, value),
+        _ => None,
+    }
+}
+
+/// What an activity of that shape, which takes two values, does in an invocation.
+#[inline(always)]
+fn deed_of_two<'a, A: Allocator>(
+    checked: &Checked<'a, A>,
+    context: usize,
+    invocation: &Invocation,
+    shape: Shape,
+    first: &Value,
+    second: &Value,
+) -> Option<Act>
+    requires { total_of checked.now.arrays ≤ 65536 }
+    ensures { told_if result ≡ Acting.deed_in checked.now context invocation.now shape (first.now ∷ second.now ∷ []) }
+{
+    let block = invocation.block;
+    match shape {
+        Shape::Fires { node, .. } => fires_two(checked, context, block, node, first, second),
+        Shape::Gates { node } => {
+            let line = line_at(checked, block, node);
+            gated(context, node, &line, first, second)
+        }
+        Shape::Turns { number } => turned(invocation, number, first, second),
+        _ => None,
+    }
+}
+
+/// What an activity of that shape does in an invocation with the values that are listed.
+fn deed_of_listed<'a, A: Allocator>(
+    checked: &Checked<'a, A>,
+    context: usize,
+    invocation: &Invocation,
     shape: Shape,
     values: &[Value],
 ) -> Option<Act>
     requires { total_of checked.now.arrays ≤ 65536 }
-    ensures { told_if result ≡ Acting.deed_in checked.now context invocation shape values.now }
+    ensures { told_if result ≡ Acting.deed_in checked.now context invocation.now shape values.now }
 {
-    let block = invocation.block;
     match (shape, values) {
-        (Shape::Fires { node, .. }, _) => fired_at(checked, context, block, node, values),
-        (Shape::Gates { node }, [value, predicate]) => {
-            let line = line_at(checked, block, node);
-            gated(context, node, &line, *value, *predicate)
+        (Shape::Fires { node, .. }, _) => {
+            fired_at(checked, context, invocation.block, node, values)
         }
-        (Shape::Passes { node, position }, [value]) => {
-            let line = line_at(checked, block, node);
-            passed(context, node, position, &line, *value)
-        }
-        (Shape::Returns { number }, [value]) => returned(invocation, number, *value),
-        (Shape::Turns { number }, [flag, value]) => turned(invocation, number, *flag, *value),
-        (Shape::Outputs { number }, [value]) => shown(invocation, number, *value),
+        (_, [value]) => deed_of_one(checked, context, invocation, shape, value),
+        (_, [first, second]) => { deed_of_two(checked, context, invocation, shape, first, second) }
         _ => None,
+    }
+}
+
+/// What an activity of that shape does in an invocation with the values that it takes.
+#[inline(always)]
+pub fn deed_of<'a, A: Allocator>(
+    checked: &Checked<'a, A>,
+    context: usize,
+    invocation: &Invocation,
+    shape: Shape,
+    taken: &Taken,
+    listed: &[Value],
+) -> Option<Act>
+    requires { total_of checked.now.arrays ≤ 65536 }
+    ensures { told_if result ≡ Acting.deed_in checked.now context invocation.now shape (taken_in taken.now listed.now) }
+{
+    match taken {
+        Taken::One(value) => deed_of_one(checked, context, invocation, shape, value),
+        Taken::Two(first, second) => {
+            deed_of_two(checked, context, invocation, shape, first, second)
+        }
+        Taken::Listed => deed_of_listed(checked, context, invocation, shape, listed),
     }
 }

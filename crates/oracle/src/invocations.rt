@@ -1,17 +1,16 @@
 //! The invocations of blocks, numbered: each is named by the place where it was made, and found by it in a map.
 
-ghost use Rattle.std.specs.Prelude.{◌≡◌, ◌++◌, ◌∷◌, [], None, Some, length, slice_get, unwrap_or, IfOk, IfSome, OnOk, OnErr};
-ghost use Rattle.std.specs.BTreeMap.{get, Updates, IsUnchanged};
-ghost use Rattle.oracle.specs.Numbering.{key};
+ghost use Rattle.std.specs.Prelude.{◌≡◌, ◌++◌, ◌∷◌, [], None, Some, length, slice_get, option_copied, unwrap_or, IfOk, IfSome, OnOk, OnErr};
+ghost use Rattle.std.specs.HashMap.{get, Updates, IsUnchanged};
 ghost use Rattle.oracle.specs.Running as Running;
 
 use std::alloc::{AllocError, Allocator};
-use std::cmp::Reverse;
-use std::collections::BTreeMap;
+use std::collections::HashMap;
+use std::hash::{BuildHasherDefault, FoldHasher};
 use std::marker::Model;
 
 /// Where an invocation was made: nowhere, by a call node of another one, or as a turn of a loop node of another one.
-#[derive(Clone, Copy, Debug, PartialEq, Eq, PartialOrd, Ord)]
+#[derive(Clone, Copy, Debug, PartialEq, Eq, Hash)]
 pub enum Made {
     Main,
     Called { by: usize, node: usize },
@@ -32,13 +31,12 @@ pub struct Numbered {
     pub number: usize,
 }
 
-/// The invocations in the order in which they were made, and the number of each by the place where it was made. The newest come first
-/// in the map, since most of those that are asked for are new. Values enter an invocation one after the other, so the one that was
-/// asked for last is looked at first.
+/// The invocations in the order in which they were made, and the number of each by the place where it was made. Values enter an
+/// invocation one after the other, so the one that was asked for last is looked at first.
 #[derive(Drop)]
 pub struct Invocations<A: Allocator> {
     table: Vec<Invocation, A>,
-    numbers: BTreeMap<Reverse<Made>, usize, A>,
+    numbers: HashMap<Made, usize, BuildHasherDefault<FoldHasher>, A>,
     last: Option<Numbered>,
 }
 
@@ -51,7 +49,7 @@ impl<A: Allocator> Model for Invocations<A> {
 
     ghost view = { λ s. s.table.items };
 
-    ghost invariant = { λ s. IsNumbering ⟦<Reverse<Made> as Ord>⟧.cmp s.numbers s.table.items × IsNumbered s.table.items s.last };
+    ghost invariant = { λ s. IsNumbering ⟦<Made as PartialEq>⟧.eq s.numbers s.table.items × IsNumbered s.table.items s.last };
 }
 
 /// Whether both are one place.
@@ -80,15 +78,15 @@ fn is_same(left: Made, right: Made) -> bool
 
 /// The number that the map has for a place. The given one is put there where it has none.
 fn kept_at<A: Allocator + Clone>(
-    numbers: &mut BTreeMap<Reverse<Made>, usize, A>,
+    numbers: &mut HashMap<Made, usize, BuildHasherDefault<FoldHasher>, A>,
     made: &Made,
     number: usize,
 ) -> Result<usize, AllocError>
-    ensures number { IfOk result (λ n. n ≡ unwrap_or (get ⟦<Reverse<Made> as Ord>⟧.cmp numbers.old (key made.now)) number) }
-    ensures kept { IfOk result (λ n. Updates ⟦<Reverse<Made> as Ord>⟧.cmp numbers.old numbers.new (key made.now) (Some n)) }
+    ensures number { IfOk result (λ n. n ≡ unwrap_or (get ⟦<Made as PartialEq>⟧.eq numbers.old made.now) number) }
+    ensures kept { IfOk result (λ n. Updates ⟦<Made as PartialEq>⟧.eq numbers.old numbers.new made.now (Some n)) }
     ensures refused { OnErr result (IsUnchanged numbers.old numbers.new) }
 {
-    Ok(*numbers.entry(Reverse(*made))?.or_insert(number))
+    Ok(*numbers.entry(*made)?.or_insert(number))
 }
 
 impl<A: Allocator + Clone> Invocations<A> {
@@ -98,7 +96,7 @@ impl<A: Allocator + Clone> Invocations<A> {
     {
         let mut invocations = Invocations {
             table: Vec::new(alloc.clone()?),
-            numbers: BTreeMap::new(alloc),
+            numbers: HashMap::new(alloc),
             last: None,
         };
         invocations.number_at(&Made::Main, block)?;
@@ -107,10 +105,10 @@ impl<A: Allocator + Clone> Invocations<A> {
 
     /// The invocation with that number.
     #[inline(always)]
-    pub fn get(&self, number: usize) -> Option<Invocation>
-        ensures { result ≡ slice_get self.now number }
+    pub fn get(&self, number: usize) -> Option<&Invocation>
+        ensures { option_copied result ≡ slice_get self.now number }
     {
-        self.table.get(number).copied()
+        self.table.get(number)
     }
 
     /// The number of the invocation that was made there, if it was asked for last.

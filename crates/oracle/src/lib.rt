@@ -14,6 +14,7 @@ mod sending;
 mod shapes;
 mod state;
 mod tokens;
+mod uses;
 mod wave;
 
 pub use laws::{runs_are_meant, steps_agree, waves_are_meant};

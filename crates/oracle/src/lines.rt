@@ -162,6 +162,19 @@ fn slice_of<'b, 'a, A: Allocator>(graph: &'b Graph<'a, A>) -> &'b [Array<'a>]
     &graph.arrays
 }
 
+/// The blocks of a graph.
+pub fn blocks_of<'b, 'a, A: Allocator>(checked: &'b Checked<'a, A>) -> &'b [Block<'a, A>]
+    ensures { result.now ≡ checked.now.blocks }
+{
+    blocks_in(checked.graph())
+}
+
+fn blocks_in<'b, 'a, A: Allocator>(graph: &'b Graph<'a, A>) -> &'b [Block<'a, A>]
+    ensures { result.now ≡ graph.now.blocks }
+{
+    &graph.blocks
+}
+
 /// The number of the cell at that index of the array at that place.
 pub fn cell_of<'a>(arrays: &[Array<'a>], array: usize, index: u32) -> usize
     requires { Lines.total_of arrays.now ≤ 65536 }

@@ -6,9 +6,10 @@ ghost use Rattle.oracle.specs.Running.{main_place};
 ghost use Rattle.oracle.specs.Gathering.{wave_counts};
 ghost use Rattle.oracle.specs.Waves.{AreWavesOf};
 
-use crate::lines::input_count;
+use crate::lines::{blocks_of, input_count};
 use crate::report::{MeanFault, WaveReport};
 use crate::runs::start;
+use crate::uses::list_uses;
 use crate::wave::next_wave;
 use graph_check::Checked;
 use std::alloc::{AllocError, Allocator};
@@ -25,10 +26,11 @@ fn run_waves<'a, A: Allocator + Clone>(
     ensures { IfOk result (λ r. wave_counts checked.now inputs.now steps ≡ Some (r.end, r.counts.items)) }
 {
     let mut state = start(alloc.clone()?, checked, inputs)?;
+    let uses = list_uses(alloc.clone()?, blocks_of(checked))?;
     let mut counts = Vec::new(alloc);
     let mut left = steps;
     loop {
-        match next_wave(checked, &mut state, left)? {
+        match next_wave(checked, &uses, &mut state, left)? {
             Ok(count) => {
                 counts.push(count)?;
                 left -= count;

@@ -5,13 +5,16 @@ ghost use Rattle.oracle.specs.Lines.{total_of, inputs_at};
 ghost use Rattle.oracle.specs.Sending.{entering_tokens};
 ghost use Rattle.oracle.specs.Reporting.{IsMeant};
 ghost use Rattle.oracle.specs.Rows.{rows_of, run_among};
+ghost use Rattle.oracle.specs.Uses.{listed_in};
 ghost use Rattle.oracle.specs.Running.{plain, nones, no_cells, start_of, main_place, full_if, full_from, full_in, run_result};
 
+use crate::gather::Spare;
 use crate::invocations::Invocations;
-use crate::lines::{arrays_of, input_count, output_count};
+use crate::lines::{arrays_of, blocks_of, input_count, output_count};
 use crate::report::{Full, MeanEnd, MeanFault, MeanReport};
-use crate::state::{Spare, State, held, next_act, perform};
+use crate::state::{State, held, next_act, perform};
 use crate::tokens::{Spot, Token};
+use crate::uses::{BlockUses, list_uses};
 use graph::Array;
 use graph_check::Checked;
 use std::alloc::{AllocError, Allocator};
@@ -93,9 +96,11 @@ pub fn start<'a, A: Allocator + Clone>(
 #[tactic(auto, using(crate::proofs::RowRuns::run_stops, crate::proofs::RowRuns::run_stays, crate::proofs::RowRuns::run_breaks))]
 fn run<'a, A: Allocator + Clone>(
     checked: &Checked<'a, A>,
+    uses: &[BlockUses<A>],
     state: &mut State<A>,
     steps: u64,
 ) -> Result<MeanEnd, AllocError>
+    requires listed { uses.now ≡ listed_in checked.now.blocks }
     requires few { total_of checked.now.arrays ≤ 65536 }
     requires has_end { run_among checked.now steps (plain state.old.invocations state.old.fresh.items [] state.old.deferred.items
         state.old.cells.items state.old.outputs.items) (rows_of (map (λ v. v.items) state.old.waiting.items)) ≢ None }
@@ -112,7 +117,7 @@ fn run<'a, A: Allocator + Clone>(
                     return Ok(MeanEnd::Steps);
                 }
                 left -= 1;
-                perform(checked, state, &act, &spare.values)?;
+                perform(checked, uses, state, &act, &spare.taken, &spare.values)?;
             }
             Err(end) => return Ok(end),
         }
@@ -184,7 +189,8 @@ fn run_to_end<'a, A: Allocator + Clone>(
     ensures { IfOk result (λ r. run_result checked.now inputs.now steps ≡ Some (r.end, r.outputs.items, r.cells.items)) }
 {
     let mut state = start(alloc.clone()?, checked, inputs)?;
-    let end = run(checked, &mut state, steps)?;
+    let uses = list_uses(alloc.clone()?, blocks_of(checked))?;
+    let end = run(checked, &uses, &mut state, steps)?;
     let cells = full_cells(alloc, arrays_of(checked), &state.cells)?;
     let State {
         invocations: _,

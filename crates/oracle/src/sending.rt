@@ -2,9 +2,11 @@
 
 ghost use Rattle.std.specs.Prelude.{◌≡◌, ◌++◌, ◌∷◌, ◌^◌, ◌+◌, ◌<◌, [], length, OnOk};
 ghost use Rattle.oracle.specs.Sending as Sending;
+ghost use Rattle.oracle.specs.Uses as Uses;
 
 use crate::invocations::Made;
 use crate::tokens::{Spot, Token};
+use crate::uses::{NodeUses, Use};
 use graph::{Block, Node};
 use semantics::graph::{Kind, Region, Source};
 use std::alloc::{AllocError, Allocator};
@@ -155,8 +157,7 @@ fn send_to_results<A: Allocator>(
     Ok(())
 }
 
-/// A token for each use of the port in the block.
-#[inline(always)]
+/// A token for each use of the port in the block, which are looked for.
 pub fn send<'a, A: Allocator>(
     fresh: &mut VecDeque<Token, A>,
     sent: &Sent,
@@ -171,6 +172,57 @@ pub fn send<'a, A: Allocator>(
     let inputs = block.inputs as usize;
     send_to_later(fresh, sent, node, port, inputs, &block.nodes)?;
     send_to_results(fresh, sent, made, inputs, (node, port), &block.results)
+}
+
+/// What is sent to a use of a port. A result of a turn goes to the next one.
+#[inline(always)]
+fn send_to_use<A: Allocator>(
+    fresh: &mut VecDeque<Token, A>,
+    sent: &Sent,
+    made: Made,
+    inputs: usize,
+    spot: Spot,
+) -> Result<(), AllocError>
+    ensures { OnOk result (fresh.new.items ≡ fresh.old.items ++ Uses.use_tokens sent.now made inputs spot) }
+{
+    match spot {
+        Spot::Out { number } => send_as_result(fresh, sent, made, inputs, number),
+        _ => push(fresh, sent, spot),
+    }
+}
+
+/// A token for each of the listed uses that is one of the port.
+#[inline(always)]
+pub fn send_to_uses<A: Allocator>(
+    fresh: &mut VecDeque<Token, A>,
+    sent: &Sent,
+    made: Made,
+    inputs: usize,
+    port: usize,
+    uses: &NodeUses<A>,
+) -> Result<(), AllocError>
+    ensures { OnOk result (fresh.new.items ≡ fresh.old.items ++ Uses.used_tokens sent.now made inputs port uses.now) }
+{
+    send_to_each(fresh, sent, made, inputs, port, &uses.uses)
+}
+
+#[inline(always)]
+fn send_to_each<A: Allocator>(
+    fresh: &mut VecDeque<Token, A>,
+    sent: &Sent,
+    made: Made,
+    inputs: usize,
+    port: usize,
+    uses: &[Use],
+) -> Result<(), AllocError>
+    ensures { OnOk result (fresh.new.items ≡ fresh.old.items ++ Uses.used_tokens sent.now made inputs port uses.now) }
+{
+    for it in uses {
+        if it.port as usize == port {
+            send_to_use(fresh, sent, made, inputs, it.spot)?;
+        }
+    }
+    Ok(())
 }
 
 /// Whether the region is an arm of the conditional.

@@ -148,10 +148,10 @@ fn shape_of_turn(made: Made, number: usize) -> Option<Shape>
 #[inline(always)]
 pub fn shape_of<'a, A: Allocator>(
     checked: &Checked<'a, A>,
-    invocation: Invocation,
+    invocation: &Invocation,
     spot: Spot,
 ) -> Option<Shape>
-    ensures { result ≡ Lines.shape_in checked.now invocation.made invocation.block spot }
+    ensures { result ≡ Lines.shape_in checked.now invocation.now.made invocation.now.block spot }
 {
     match spot {
         Spot::Operand { node, position } => {

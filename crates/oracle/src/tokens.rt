@@ -23,26 +23,26 @@ pub struct Token {
     pub value: Value,
 }
 
+/// What tells spots apart: what kind of place it is, and two numbers.
+#[inline(always)]
+fn parts_of(spot: Spot) -> (u8, usize, usize)
+    ensures { result ≡ Lines.parts_of spot }
+{
+    match spot {
+        Spot::Operand { node, position } => (0, node, position),
+        Spot::Predicate { node } => (1, node, 0),
+        Spot::Out { number } => (2, number, 0),
+        Spot::Flag { number } => (3, number, 0),
+        Spot::Carried { number } => (4, number, 0),
+    }
+}
+
 /// Whether both are one spot.
 #[inline(always)]
 pub fn same_spot(left: Spot, right: Spot) -> bool
     ensures { result ≡ Lines.same_spot left right }
 {
-    match (left, right) {
-        (
-            Spot::Operand {
-                node: n,
-                position: i,
-            },
-            Spot::Operand {
-                node: m,
-                position: j,
-            },
-        ) => n == m && i == j,
-        (Spot::Predicate { node: n }, Spot::Predicate { node: m }) => n == m,
-        (Spot::Out { number: i }, Spot::Out { number: j }) => i == j,
-        (Spot::Flag { number: i }, Spot::Flag { number: j }) => i == j,
-        (Spot::Carried { number: i }, Spot::Carried { number: j }) => i == j,
-        _ => false,
-    }
+    let (kind, number, position) = parts_of(left);
+    let (k, n, i) = parts_of(right);
+    kind == k && number == n && position == i
 }

@@ -1,15 +1,19 @@
 //! A wave: all tokens that were there before it are looked at, and then all that act do so.
 
-ghost use Rattle.std.specs.Prelude.{◌≡◌, ◌≢◌, ◌≤◌, ◌<◌, [], map, IfOk, MatchResult};
+ghost use Rattle.std.specs.Prelude.{◌≡◌, ◌≢◌, ◌≤◌, ◌<◌, [], map, IfOk, OnOk, MatchResult};
 ghost use Rattle.oracle.specs.Lines.{total_of};
 ghost use Rattle.oracle.specs.Running.{plain};
 ghost use Rattle.oracle.specs.Rows.{rows_of};
+ghost use Rattle.oracle.specs.Pairing.{taken_in};
 ghost use Rattle.oracle.specs.Telling.{told};
+ghost use Rattle.oracle.specs.Uses.{listed_in};
 ghost use Rattle.oracle.specs.Gathering.{gathered, Found, Clashed, Failed, performed_all, Does, Hits, wave_among, Passes, Halts, Breaks};
 
 use crate::deeds::Act;
+use crate::gather::{Spare, Taken};
 use crate::report::MeanEnd;
-use crate::state::{Gate, Spare, State, ask, join_among, perform};
+use crate::state::{Gate, InWave, State, ask, join_among, perform};
+use crate::uses::BlockUses;
 use graph_check::Checked;
 use std::alloc::{AllocError, Allocator};
 use std::mem;
@@ -22,13 +26,33 @@ struct Activity<A: Allocator> {
     act: Act,
 }
 
-/// An activity with the listed values. The list is empty then.
+/// Lists the values that were taken, where they are not listed.
+fn list_taken<A: Allocator>(values: &mut Vec<Value, A>, taken: &Taken) -> Result<(), AllocError>
+    ensures { OnOk result (values.new.items ≡ taken_in taken.now values.old.items) }
+{
+    match taken {
+        Taken::One(value) => {
+            values.clear();
+            values.push(*value)?;
+        }
+        Taken::Two(first, second) => {
+            values.clear();
+            values.push(*first)?;
+            values.push(*second)?;
+        }
+        Taken::Listed => {}
+    }
+    Ok(())
+}
+
+/// An activity with the values that it took. The list is empty then.
 fn with_values<A: Allocator + Clone>(
     act: Act,
     spare: &mut Spare<A>,
 ) -> Result<Activity<A>, AllocError>
-    ensures { IfOk result (λ a. (a.values.items ≡ spare.old.values.items) × (a.act ≡ act)) }
+    ensures { IfOk result (λ a. (a.values.items ≡ taken_in spare.old.taken spare.old.values.items) × (a.act ≡ act)) }
 {
+    list_taken(&mut spare.values, &spare.taken)?;
     let none = Vec::new(spare.values.allocator().clone()?);
     let values = mem::replace(&mut spare.values, none);
     Ok(Activity { values, act })
@@ -55,7 +79,13 @@ fn gather<'a, A: Allocator + Clone>(
     let mut spare = Spare::new(state.waiting.allocator().clone()?)?;
     while let Some(token) = state.fresh.pop_front() {
         let waiting = &mut state.waiting;
-        if let Some(act) = join_among(checked, &state.invocations, waiting, &token, &mut spare)? {
+        if let Some(act) = join_among::<A, InWave>(
+            checked,
+            &state.invocations,
+            waiting,
+            &token,
+            &mut spare,
+        )? {
             match ask(&state.cells, &act) {
                 Gate::Free => {
                     let activity = with_values(act, &mut spare)?;
@@ -72,9 +102,11 @@ fn gather<'a, A: Allocator + Clone>(
 /// Does the activities one after the other. A store to a cell that one of them filled is the end.
 fn perform_all<'a, A: Allocator + Clone>(
     checked: &Checked<'a, A>,
+    uses: &[BlockUses<A>],
     state: &mut State<A>,
     acts: &[Activity<A>],
 ) -> Result<Result<(), MeanEnd>, AllocError>
+    requires listed { uses.now ≡ listed_in checked.now.blocks }
     ensures done { let old = plain state.old.invocations state.old.fresh.items [] state.old.deferred.items state.old.cells.items state.old.outputs.items in
         let new = plain state.new.invocations state.new.fresh.items [] state.new.deferred.items state.new.cells.items state.new.outputs.items in
         let all = performed_all checked.now old (map (λ a. (a.values.items, told a.act)) acts.now) in
@@ -85,7 +117,14 @@ fn perform_all<'a, A: Allocator + Clone>(
         if let Gate::Clashes { array, index } = ask(&state.cells, &activity.act) {
             return Ok(Err(MeanEnd::Clash { array, index }));
         }
-        perform(checked, state, &activity.act, &activity.values)?;
+        perform(
+            checked,
+            uses,
+            state,
+            &activity.act,
+            &Taken::Listed,
+            &activity.values,
+        )?;
     }
     Ok(Ok(()))
 }
@@ -94,9 +133,11 @@ fn perform_all<'a, A: Allocator + Clone>(
 /// the wave has more, there is no wave, and the end is returned.
 pub fn next_wave<'a, A: Allocator + Clone>(
     checked: &Checked<'a, A>,
+    uses: &[BlockUses<A>],
     state: &mut State<A>,
     left: u64,
 ) -> Result<Result<u64, MeanEnd>, AllocError>
+    requires listed { uses.now ≡ listed_in checked.now.blocks }
     requires few { total_of checked.now.arrays ≤ 65536 }
     requires never_broken { wave_among checked.now left (plain state.old.invocations state.old.fresh.items [] state.old.deferred.items
         state.old.cells.items state.old.outputs.items) (rows_of (map (λ v. v.items) state.old.waiting.items)) ≢ Breaks }
@@ -118,7 +159,7 @@ pub fn next_wave<'a, A: Allocator + Clone>(
     if count > left {
         return Ok(Err(MeanEnd::Steps));
     }
-    match perform_all(checked, state, &acts)? {
+    match perform_all(checked, uses, state, &acts)? {
         Ok(()) => Ok(Ok(count)),
         Err(end) => Ok(Err(end)),
     }

@@ -2,6 +2,7 @@ use Rattle.std.proofs.Common.{◌≡◌, ◌-◌, [], map, ap, sym, ◌∙◌, s
 use Rattle.std.specs.Prelude.{MatchResult}
 use Rattle.oracle.specs.Running.{plain, performed}
 use Rattle.oracle.specs.Rows.{rows_of, next_among, Goes, Stays, run_among}
+use Rattle.oracle.specs.Pairing.{taken_in}
 use Rattle.oracle.specs.Telling.{told}
 use Rattle.oracle.proofs.RowRuns.{run_goes, run_kept}
 use Rattle.oracle.proofs.runs.run.Goals as goal
@@ -11,7 +12,8 @@ loop-spare-preserved g c =
     let f = c.args.state.now in
     let s = c.loop-spare.state in
     let t = c.next_act.new.state in
-    let vs = c.next_act.new.spare.values.items in
+    let taken = c.next_act.new.spare.taken in
+    let vs = taken_in taken c.next_act.new.spare.values.items in
     let act = c.in-Ok.act in
     let first = plain f.invocations f.fresh.items [] f.deferred.items f.cells.items f.outputs.items in
     let old = plain s.invocations s.fresh.items [] s.deferred.items s.cells.items s.outputs.items in
@@ -26,4 +28,5 @@ loop-spare-preserved g c =
     run_goes checked old mid from to vs (told act) left (run_among checked c.args.steps first (rows_of (map (λ v. v.items) f.waiting.items)))
     (omega (arith, some)) c.loop-spare.invariant came
     ∙ run_kept checked (left - 1) (performed checked mid vs (told act)) _ t.waiting.items _ (λ v. v.items)
-    (ap (λ vs. performed checked mid vs (told act)) (sym c.deref.ensures.value) ∙ sym (c.in_ok-perform-in-Ok.ensures.0)) (c.in_ok-perform-in-Ok.ensures.1)
+    (ap (λ vs. performed checked mid (taken_in taken vs) (told act)) (sym c.deref.ensures.value)
+    ∙ sym (c.in_ok-perform-in-Ok.ensures.0)) (c.in_ok-perform-in-Ok.ensures.1)

@@ -19,5 +19,5 @@ returns g c =
     told_from checked c.args.inputs.now c.args.steps first s.waiting.items (λ v. v.items) c.in_ok-state.ensures.0 c.in_ok-state.ensures.1
     ∙ ap (end_result_of checked) c.in_ok-end.ensures
     ∙ ap (λ cells. Some (c.in_ok-end.end, n.outputs.items, cells))
-    (sym (c.in_ok-cells.ensures ∙ ap (λ cells. full_in cells 0 0 c.arrays_of.result.now) c.deref.ensures.value
+    (sym (c.in_ok-cells.ensures ∙ ap (λ cells. full_in cells 0 0 c.arrays_of.result.now) c.deref-2.ensures.value
     ∙ ap (λ arrays. full_in n.cells.items 0 0 arrays) c.arrays_of.ensures))

@@ -1,5 +1,6 @@
 use Rattle.std.proofs.Common.{ap, sym, ◌∙◌}
 use Rattle.oracle.specs.Running.{join_of}
+use Rattle.oracle.specs.Pairing.{taken_in}
 use Rattle.oracle.specs.Telling.{told}
 use Rattle.oracle.proofs.RowLists.{row_here}
 use Rattle.oracle.proofs.RowRuns.{among}
@@ -16,5 +17,5 @@ join-requires-clause-never_fails g c =
 pub returns : goal.returns
 returns g c =
     among c.args.checked.now c.args.invocations.now c.args.token.now c.join.result c.args.rows.now.items c.reach.new.rows.items c.index_mut.result.now
-    c.join.new.waiting (λ v. v.items) (λ a. c.join.new.spare.values.items) told
+    c.join.new.waiting (λ v. v.items) (λ a. taken_in c.join.new.spare.taken c.join.new.spare.values.items) told
     c.in_ok-reach.ensures.same c.in_ok-reach.ensures.there c.index_mut.ensures.value c.join.ensures

@@ -1,6 +1,7 @@
 use Rattle.std.proofs.Common.{map, ap, sym, ◌∙◌}
 use Rattle.oracle.specs.Acting.{gate_of}
 use Rattle.oracle.specs.Rows.{rows_of, row_next}
+use Rattle.oracle.specs.Pairing.{taken_in}
 use Rattle.oracle.specs.Telling.{told}
 use Rattle.oracle.proofs.RowRuns.{next_alone, next_free, next_defers}
 use Rattle.oracle.proofs.state.next_act.Goals as goal
@@ -15,7 +16,7 @@ returns-in-Free g c =
     let outputs = s.outputs.items in
     c.loop-token.invariant ∙ ap (λ ts. row_next c.args.checked.now xs cells outputs ts from s.deferred.items) c.in-Some.ensures.items
     ∙ next_free c.args.checked.now xs cells outputs c.in-Some.token c.pop_front.new.self.items s.deferred.items from to c.in_ok-act.field-0
-    c.in-Some-2.act (λ a. c.join_among.new.spare.values.items) told
+    c.in-Some-2.act (λ a. taken_in c.join_among.new.spare.taken c.join_among.new.spare.values.items) told
     c.in-Some-2.is c.in_ok-act.ensures (ap (λ cells. gate_of cells (told c.in-Some-2.act)) (sym c.deref.ensures.value) ∙ sym c.ask.ensures ∙ c.in-Free.is)
 
 pub loop-token-preserved-in-Continue-branch-3 : goal.loop-token-preserved-in-Continue-branch-3
@@ -28,7 +29,7 @@ loop-token-preserved-in-Continue-branch-3 g c =
     let outputs = s.outputs.items in
     c.loop-token.invariant ∙ ap (λ ts. row_next c.args.checked.now xs cells outputs ts from s.deferred.items) c.in-Some.ensures.items
     ∙ next_defers c.args.checked.now xs cells outputs c.in-Some.token c.pop_front.new.self.items s.deferred.items from to c.in_ok-act.field-0
-    c.in-Some-2.act (λ a. c.join_among.new.spare.values.items) told
+    c.in-Some-2.act (λ a. taken_in c.join_among.new.spare.taken c.join_among.new.spare.values.items) told
     c.in-Some-2.is c.in_ok-act.ensures (ap (λ cells. gate_of cells (told c.in-Some-2.act)) (sym c.deref.ensures.value) ∙ sym c.ask.ensures ∙ c.in-Defers.is)
     ∙ ap (λ d. row_next c.args.checked.now xs cells outputs c.pop_front.new.self.items to d) (sym c.in_ok-push-in-Defers.ensures.items)
 
@@ -42,5 +43,5 @@ loop-token-preserved g c =
     let outputs = s.outputs.items in
     c.loop-token.invariant ∙ ap (λ ts. row_next c.args.checked.now xs cells outputs ts from s.deferred.items) c.in-Some.ensures.items
     ∙ next_alone c.args.checked.now xs cells outputs c.in-Some.token c.pop_front.new.self.items s.deferred.items from to c.in_ok-act.field-0
-    (λ a. c.join_among.new.spare.values.items) told
+    (λ a. taken_in c.join_among.new.spare.taken c.join_among.new.spare.values.items) told
     c.in_default-2.is c.in_ok-act.ensures

@@ -1,10 +1,10 @@
 use Rattle.std.proofs.Common.{◌≡◌, length, Some, sym, ap, ◌∙◌, subst}
 use Rattle.std.specs.Prelude.{unwrap_or}
-use Rattle.std.specs.BTreeMap.{Updates}
+use Rattle.std.specs.HashMap.{Updates}
 use Rattle.oracle.specs.Running.{made_from, more_if, with_made}
-use Rattle.oracle.specs.Numbering.{key, IsNumbering}
+use Rattle.oracle.specs.Numbering.{IsNumbering}
 use Rattle.oracle.proofs.Numbers.{numbers_more, kept_new, made_last}
-use Rattle.oracle.proofs.MadeOrder.{newest, newest_apart}
+use Rattle.oracle.proofs.MadeEqual.{equal, equal_apart}
 use Rattle.oracle.proofs.invocations.Invocations.number_at.Goals as goal
 
 pub invariant_of-self-else-number-next : goal.invariant_of-self-else-number-next
@@ -19,8 +19,8 @@ invariant_of-self-else-number-next g c =
     (c.self.invariant.0 made) ∙ ap (λ k. unwrap_or (made_from made 0 xs) k) count in
     let next : k ≡ length xs = c.if-number-next.false ∙ count in
     let absent = kept_new xs made k is next in
-    let updates : Updates newest m n (key made) (Some (length xs)) = subst (λ k. Updates newest m n (key made) (Some k)) next c.in-Ok.ensures.kept in
-    let numbers = subst (λ ys. IsNumbering newest n ys) (sym c.in_ok-push.ensures.items) (numbers_more newest m n xs made c.args.block newest_apart
+    let updates : Updates equal m n made (Some (length xs)) = subst (λ k. Updates equal m n made (Some k)) next c.in-Ok.ensures.kept in
+    let numbers = subst (λ ys. IsNumbering equal n ys) (sym c.in_ok-push.ensures.items) (numbers_more equal m n xs made c.args.block equal_apart
     c.self.invariant.0 absent updates) in
     let last = ap (made_from made 0) c.in_ok-push.ensures.items ∙ made_last xs made c.args.block absent ∙ ap (λ k. Some k) (sym next) in
     (numbers, last)
