@@ -1,10 +1,12 @@
 -- Events of a lane, one after another, each with its oldest token.
 use Rattle.std.proofs.Common.{◌≡◌, refl, sym, ◌∙◌, ap, subst, ℕ, zero, suc, ◌+◌, ◌*◌, ◌<◌, ◌≤◌, true, Bool, cond, List, [], ◌∷◌, ◌++◌, length, get_or, arith}
-use Rattle.std.proofs.Common.{append_assoc}
-use Rattle.std.specs.Prelude.{remove, IsPermutation}
+use Rattle.std.proofs.Common.{append_assoc, length-append}
+use Rattle.std.proofs.lemmas.List.Edits.{length-remove}
+use Rattle.std.specs.Prelude.{All, remove, IsPermutation}
 use Rattle.std.proofs.Math.Nat.{zero-mod, mod-lt}
 use Rattle.std.proofs.lemmas.Bool.{eq-eqb, not_from_true}
 use Rattle.std.proofs.lemmas.List.{append-nil}
+use Rattle.std.proofs.lemmas.List.Elements.{All-append}
 use Rattle.std.proofs.lemmas.List.Sorted.{IsPermutation-refl, IsPermutation-trans, IsPermutation-remove, IsPermutation-append_left}
 use Rattle.std.proofs.lemmas.List.Sorted.{IsPermutation-append_right, IsPermutation-append_comm}
 use Rattle.std.proofs.lemmas.Option.{get_or_from_slice_get}
@@ -15,8 +17,9 @@ use Rattle.semantics.specs.Program.{Program}
 use Rattle.semantics.specs.Machine.{Machine, Happens}
 use Rattle.element.specs.declared.lane.Stepped.{Stepped}
 use Rattle.element.specs.declared.lane.Stepped.TheVariants.{Did}
-use Rattle.element.specs.Parts.{Shape, IsPart}
-use Rattle.element.specs.Holding.{Holding, LaneView, Fixed, fixed_of, is_here, here, elsewhere, IsSoundLane}
+use Rattle.element.specs.Parts.{Shape, IsPart, bounds}
+use Rattle.element.specs.Near.{IsNearToken}
+use Rattle.element.specs.Holding.{Holding, LaneView, Fixed, fixed_of, with_more, is_here, here, elsewhere, IsFor, IsRunnable, IsSoundLane}
 use Rattle.element.specs.Acts.{Acts, ActsAs}
 use Rattle.element.specs.Steps.{place_of, HoldsTokens, IsAfter, Does, MakesEvents, SendsEvents}
 use Rattle.element.proofs.Stepping.{placed, steps_as, sound_as}
@@ -42,6 +45,27 @@ one_event_more p steps n start old new t first before after so_far sound some is
     let count : new.made ≡ old.made + 1 = ap (λ (h : Holding). h.made) acts.held in
     let most : new.made ≤ steps = omega arith in
     (old, before, so_far, few, sound_as p old 0 t before sound some there Did new after at, most, steps_as p old 0 t before sound some there Did new after at)
+
+-- so many after others
+pub sends_more : (p : Program) (steps n m : ℕ) (start mid new : Holding) (first before after : List Token) → SendsEvents p steps n start first mid before
+    → SendsEvents p steps m mid before new after → (k : ℕ) × SendsEvents p steps k start first new after
+sends_more p steps n zero start mid new first before after so_far same = (
+  n,
+  subst (λ (h : Holding). SendsEvents p steps n start first h after) (sym same.0)
+      (subst (λ (ts : List Token). SendsEvents p steps n start first mid ts) (sym same.1) so_far),
+)
+sends_more p steps n (suc m) start mid new first before after so_far (last, sent, between, few, sound, most, does) =
+    let all = sends_more p steps n m start mid last first before sent so_far between in
+    (suc all.0, (last, sent, all.1, few, sound, most, does))
+
+-- it takes one token out of the queue, and no more
+pub fewer_by_one : (p : Program) (old : Holding) (t : Token) (before : List Token) (new : Holding) (after : List Token) → Acts p old 0 t before new after
+    → 0 < length old.queue → length old.queue ≤ length new.queue + 1
+fewer_by_one p old t before new after acts some =
+    let made = here acts.part.shape acts.made in
+    let queue : new.queue ≡ remove old.queue 0 ++ made = ap (λ (h : Holding). h.queue) acts.held in
+    let long : length new.queue ≡ length (remove old.queue 0) + length made = ap (λ (ts : List Token). length ts) queue ∙ length-append (remove old.queue 0) made in
+    omega (arith, long, length-remove old.queue 0 some)
 
 -- and many more
 pub events_more : (p : Program) (steps n m : ℕ) (start mid new : Holding) → MakesEvents p steps n start mid → MakesEvents p steps m mid new
@@ -174,3 +198,24 @@ lane_alone_more start mid new first before after single fixed stays sound so_far
     let there = subst (λ (z : Shape). z.element < z.elements) (ap (λ (f : Fixed). f.shape) stays) sound.part.there in
     let all = alone_events mid.program mid.steps n mid.held new.held before after (ap (λ (f : Fixed). f.shape.elements) fixed ∙ single) there sends in
     (lane_events_more start mid new fixed so_far (n, all.0), all.1 ∙ none)
+
+-- A TOKEN MORE
+all_one : {X : Type 0} (P : X → Type 0) (x : X) → P x → All P (x ∷ [])
+all_one P x is zero d low = is
+all_one P x is (suc k) d low = absurd (omega arith)
+
+-- a lane that may run goes on so
+pub received : (slots : ℕ) (l : LaneView) (t : Token) → IsRunnable slots l → IsFor (fixed_of l) t → IsRunnable slots (with_more l (t ∷ []))
+received slots l t ok fit = record {
+  sound = record {
+    part = ok.sound.part;
+    near = All-append (IsNearToken (bounds l.program l.held.part.shape)) l.held.queue (t ∷ []) ok.sound.near (all_one (IsNearToken (bounds l.program l.held.part.shape)) t fit.near);
+    addressed =
+        All-append (λ (u : Token). element_of l.held.part.shape.elements u.to ≡ l.held.part.shape.element) l.held.queue (t ∷ [])
+        ok.sound.addressed (all_one (λ (u : Token). element_of l.held.part.shape.elements u.to ≡ l.held.part.shape.element) t fit.addressed);
+    answered = ok.sound.answered;
+  };
+  width = ok.width;
+  made = ok.made;
+  few = ok.few;
+}

@@ -4,6 +4,7 @@
 ghost use Rattle.std.specs.Prelude.{◌≡◌, ◌<◌, ◌/◌, ◌%◌};
 ghost use Rattle.tags.specs.Addresses.{element_of};
 
+use packed::token::PackedToken;
 use tags::token::To;
 
 /// The number that a frame or a cell has among those of its element.
@@ -40,7 +41,7 @@ pub fn owner_of(number: u32, elements: u32) -> u32
 
 /// The element that takes a token with this address.
 #[inline(always)]
-pub fn element_for(to: &To, elements: u32) -> u32
+pub(crate) fn element_for(to: &To, elements: u32) -> u32
     requires { 0 < elements }
     ensures { result ≡ element_of elements to.now }
 {
@@ -49,4 +50,25 @@ pub fn element_for(to: &To, elements: u32) -> u32
         To::Fetch { cell } | To::Store { cell, .. } => owner_of(cell, elements),
         To::Manager | To::Release { .. } | To::Host { .. } => 0,
     }
+}
+
+/// The element that takes a packed token.
+#[inline(always)]
+pub fn element_of_packed(token: &PackedToken, elements: u32) -> u32
+    requires { 0 < elements }
+    ensures { result ≡ element_of elements token.now.to }
+{
+    match token.frame() {
+        Some(frame) => owner_of(frame, elements),
+        None => element_of_other(token, elements),
+    }
+}
+
+// The same, out of line.
+#[inline(never)]
+fn element_of_other(token: &PackedToken, elements: u32) -> u32
+    requires { 0 < elements }
+    ensures { result ≡ element_of elements token.now.to }
+{
+    element_for(&token.to(), elements)
 }

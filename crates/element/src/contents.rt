@@ -13,6 +13,7 @@ use crate::company::{Company, Together};
 use crate::firing::Point;
 use crate::instructions::Instructions;
 use crate::lane::Stepped;
+use crate::waiting::{Few, Many, Waiting};
 use arrayvec::ArrayVec;
 use executing::Arrival;
 use frame_manager::Manager;
@@ -31,6 +32,12 @@ mod memory;
 mod requests;
 mod sending;
 mod slots;
+
+/// From how many waiting tokens on events are made by generations.
+const MANY: usize = 16;
+
+/// How many events are made before it is asked again whether there are many tokens.
+const FEW_EVENTS: usize = 64;
 
 /// What an element holds: the slots of its frames, its cells, its tokens, and on element 0 the frame manager, the outputs
 /// and the done mark.
@@ -107,24 +114,24 @@ impl<'m, A: Allocator> Contents<'m, A> {
     }
 
     /// Puts tokens for this element last into the queue. After an error nothing is changed.
-    pub fn receive(&mut self, tokens: &[Token]) -> Result<(), AllocError>
+    pub fn receive(&mut self, tokens: &[PackedToken]) -> Result<(), AllocError>
         ensures ok { OnOk result (held_in self.new ≡ with_queue (held_in self.old) (self.old.queue.items ++ tokens.now)) }
         ensures err { OnErr result (held_in self.new ≡ held_in self.old) }
     {
         self.queue.reserve(tokens.len())?;
         for token in tokens {
-            self.queue.push_back_reserved(*token);
+            self.queue.push_packed(*token);
         }
         Ok(())
     }
 
     /// Puts a token for this element last into the queue. After an error nothing is changed.
-    pub fn receive_one(&mut self, token: Token) -> Result<(), AllocError>
+    pub fn receive_one(&mut self, token: PackedToken) -> Result<(), AllocError>
         ensures ok { OnOk result (held_in self.new ≡ with_queue (held_in self.old) (self.old.queue.items ++ token ∷ [])) }
         ensures err { OnErr result (held_in self.new ≡ held_in self.old) }
     {
         self.queue.reserve(1)?;
-        self.queue.push_back_reserved(token);
+        self.queue.push_packed(token);
         Ok(())
     }
 
@@ -157,7 +164,7 @@ impl<'m, A: Allocator> Contents<'m, A> {
         code: &C,
         at: usize,
         token: PackedToken,
-        sent: &mut Vec<Token, A>,
+        sent: &mut Vec<PackedToken, A>,
     ) -> Stepped
     where
         A: Clone,
@@ -180,7 +187,7 @@ impl<'m, A: Allocator> Contents<'m, A> {
         code: &C,
         at: usize,
         token: PackedToken,
-        sent: &mut Vec<Token, A>,
+        sent: &mut Vec<PackedToken, A>,
     ) -> Stepped
     where
         A: Clone,
@@ -198,7 +205,7 @@ impl<'m, A: Allocator> Contents<'m, A> {
         code: &C,
         at: usize,
         token: PackedToken,
-        sent: &mut Vec<Token, A>,
+        sent: &mut Vec<PackedToken, A>,
     ) -> Stepped
     where
         A: Clone,
@@ -215,7 +222,7 @@ impl<'m, A: Allocator> Contents<'m, A> {
         code: &C,
         at: usize,
         token: &Token,
-        sent: &mut Vec<Token, A>,
+        sent: &mut Vec<PackedToken, A>,
     ) -> Stepped
     where
         A: Clone,
@@ -246,7 +253,7 @@ impl<'m, A: Allocator> Contents<'m, A> {
         &mut self,
         pick: u64,
         code: &C,
-        sent: &mut Vec<Token, A>,
+        sent: &mut Vec<PackedToken, A>,
     ) -> Stepped
     where
         A: Clone,
@@ -269,7 +276,11 @@ impl<'m, A: Allocator> Contents<'m, A> {
 
     /// The element takes its oldest token in the way that is for any token, as `step` does with the pick 0.
     #[inline(always)]
-    pub fn step_otherwise<C: Instructions>(&mut self, code: &C, sent: &mut Vec<Token, A>) -> Stepped
+    pub fn step_otherwise<C: Instructions>(
+        &mut self,
+        code: &C,
+        sent: &mut Vec<PackedToken, A>,
+    ) -> Stepped
     where
         A: Clone,
         requires sound { IsSoundLane (C.program code.now) (held_in self.old) }
@@ -285,15 +296,60 @@ impl<'m, A: Allocator> Contents<'m, A> {
         self.act_otherwise(code, 0, token, sent)
     }
 
+    // Makes so many events, each at once and with the oldest token, and answers whether it made them all: it stops where there is no
+    // token, and before one that is not done at once. Where many tokens wait each event has one of these.
+    #[inline(never)]
+    fn make_part<C: Instructions, T: Company, W: Waiting>(
+        &mut self,
+        code: &C,
+        events: usize,
+        sent: &mut Vec<PackedToken, A>,
+    ) -> bool
+    where
+        A: Clone,
+        requires alone { T.ALONE ≡ true → self.old.elements ≡ 1 }
+        requires many { W.MANY ≡ true → events ≤ length self.old.queue.items }
+        requires sound { IsSoundLane (C.program code.now) (held_in self.old) }
+        requires width { C.width code.now ≤ self.old.bank.width }
+        requires few { self.old.queue.gone + events < 2 ^ 63 }
+        requires room { length self.old.queue.items + 2 * events + 1 ≤ self.old.queue.room }
+        requires sent_room { T.ALONE ≡ false → vec_len sent.old + 2 * events ≤ vec_capacity sent.old }
+        ensures exact { (steps : ℕ) → self.old.queue.gone + events ≤ steps → (made : ℕ) × SendsEvents (C.program code.now) steps made (held_in self.old)
+            sent.old.items (held_in self.new) sent.new.items }
+        ensures sound { IsSoundLane (C.program code.now) (held_in self.new) }
+        ensures shape { shape_of self.new ≡ shape_of self.old }
+        ensures all { result ≡ true → self.new.queue.gone ≡ self.old.queue.gone + events }
+        ensures most { self.new.queue.gone ≤ self.old.queue.gone + events }
+        ensures part { result ≡ false → self.new.queue.gone < self.old.queue.gone + events }
+        ensures len { length self.new.queue.items ≤ length self.old.queue.items + 2 * events }
+        ensures capacity { self.new.queue.room ≡ self.old.queue.room }
+        ensures sent_len { vec_len sent.new ≤ vec_len sent.old + 2 * events }
+        ensures sent_capacity { vec_capacity sent.new ≡ vec_capacity sent.old }
+    {
+        let mut gone = self.queue.gone();
+        let end = gone + events;
+        'events: while gone != end {
+            if !W::MANY && gone == self.queue.come() {
+                return false;
+            }
+            let token = self.queue.oldest(gone);
+            if !self.acts_at_once::<C, T, W>(code, 0, &token, sent) {
+                return false;
+            }
+            gone += 1;
+        }
+        true
+    }
+
     /// Makes so many events, each at once and with the oldest token, and answers whether it made them all: it stops where there is
     /// no token, and before one that is not done at once. Tokens for other elements go last into `sent`, which has room for two an
     /// event.
     #[inline(always)]
-    pub fn make_at_once<C: Instructions, T: Company, Site>(
+    pub fn make_at_once<C: Instructions, T: Company>(
         &mut self,
         code: &C,
         events: u64,
-        sent: &mut Vec<Token, A>,
+        sent: &mut Vec<PackedToken, A>,
     ) -> bool
     where
         A: Clone,
@@ -311,16 +367,22 @@ impl<'m, A: Allocator> Contents<'m, A> {
         ensures most { self.new.queue.gone ≤ self.old.queue.gone + events }
         ensures part { result ≡ false → self.new.queue.gone < self.old.queue.gone + events }
     {
-        let mut left = events;
-        'events: while left != 0 {
-            if self.queue.len() == 0 {
-                return false;
+        let mut left = events as usize;
+        'parts: while left != 0 {
+            let waiting = self.queue.len();
+            if waiting < MANY {
+                let part = left.min(FEW_EVENTS);
+                if !self.make_part::<C, T, Few>(code, part, sent) {
+                    return false;
+                }
+                left -= part;
+            } else {
+                let part = left.min(waiting);
+                if !self.make_part::<C, T, Many>(code, part, sent) {
+                    return false;
+                }
+                left -= part;
             }
-            let token = self.queue.packed(0);
-            if !self.acts_at_once::<C, T, Site>(code, 0, &token, sent) {
-                return false;
-            }
-            left -= 1;
         }
         true
     }

@@ -16,6 +16,7 @@ use arrayvec::ArrayVec;
 use frame_manager::Manager;
 use frame_store::bank::BankMut;
 use istructure::Cells;
+use packed::token::PackedToken;
 use std::alloc::{AllocError, Allocator};
 use std::marker::Model;
 use tags::slot::SlotState;
@@ -64,7 +65,7 @@ impl<'m, C: Instructions, A: Allocator> Model for Lane<'m, C, A> {
 // Makes room among the tokens for other elements, and answers for how many events there is room: each makes two at most. After an
 // error nothing is changed. Where there are no others, no event needs any.
 #[inline(always)]
-fn room_in<T: Company, A: Allocator>(sent: &mut Vec<Token, A>) -> Result<u64, AllocError>
+fn room_in<T: Company, A: Allocator>(sent: &mut Vec<PackedToken, A>) -> Result<u64, AllocError>
     ensures sent { sent.new.items ≡ sent.old.items }
     ensures some { IfOk result (λ events. 0 < events) }
     ensures room { IfOk result (λ events. T.ALONE ≡ false → vec_len sent.new + 2 * events ≤ vec_capacity sent.new) }
@@ -180,7 +181,7 @@ impl<'m, C: Instructions, A: Allocator> Lane<'m, C, A> {
     }
 
     /// Puts tokens for this element last into the queue. After an error nothing is changed.
-    pub fn receive_all(&mut self, tokens: &[Token]) -> Result<(), AllocError>
+    pub fn receive_all(&mut self, tokens: &[PackedToken]) -> Result<(), AllocError>
         requires { All (IsFor (fixed_of self.old)) tokens.now }
         ensures ok { OnOk result (self.new ≡ with_more self.old tokens.now) }
         ensures err { OnErr result (self.new ≡ self.old) }
@@ -189,12 +190,13 @@ impl<'m, C: Instructions, A: Allocator> Lane<'m, C, A> {
     }
 
     /// Puts a token for this element last into the queue. After an error nothing is changed.
-    pub fn receive(&mut self, token: Token) -> Result<(), AllocError>
+    pub fn receive(&mut self, token: PackedToken) -> Result<(), AllocError>
         requires { IsFor (fixed_of self.old) token }
         ensures ok { OnOk result (self.new ≡ with_more self.old (token ∷ [])) }
         ensures err { OnErr result (self.new ≡ self.old) }
     {
-        self.contents.receive_one(token)
+        self.contents.receive_one(token)?;
+        Ok(())
     }
 
     /// The token that `pick` names, as `step` takes it.
@@ -213,7 +215,7 @@ impl<'m, C: Instructions, A: Allocator> Lane<'m, C, A> {
     /// `Stuck` and `Memory` nothing is changed. `Site` stands for where it is called: each has code of its own, which a loop with
     /// a site of its own has built into it.
     #[inline(always)]
-    pub fn step<Site>(&mut self, pick: u64, sent: &mut Vec<Token, A>) -> Option<Stepped>
+    pub fn step<Site>(&mut self, pick: u64, sent: &mut Vec<PackedToken, A>) -> Option<Stepped>
     where
         A: Clone,
         ensures exact { IfSome result (λ stepped. Steps self.old.program self.old.held pick sent.old.items stepped self.new.held sent.new.items) }
@@ -234,7 +236,7 @@ impl<'m, C: Instructions, A: Allocator> Lane<'m, C, A> {
 
     /// As `step` with the pick 0, in the way that is for any token: after a turn the oldest one mostly needs it.
     #[inline(always)]
-    pub fn step_otherwise(&mut self, sent: &mut Vec<Token, A>) -> Option<Stepped>
+    pub fn step_otherwise(&mut self, sent: &mut Vec<PackedToken, A>) -> Option<Stepped>
     where
         A: Clone,
         ensures exact { IfSome result (λ stepped. Steps self.old.program self.old.held 0 sent.old.items stepped self.new.held sent.new.items) }
@@ -263,10 +265,9 @@ impl<'m, C: Instructions, A: Allocator> Lane<'m, C, A> {
 
     /// The element makes one event after another, each at once and with its oldest token, as long as it has one, it may make one
     /// more event, and the token is one that is done at once. It is the only element, so no token is made for another one. It ends
-    /// with an error where more room was refused; then it has a token, and may make one more event. `Site` stands for where it is
-    /// called, as in `step`.
+    /// with an error where more room was refused; then it has a token, and may make one more event.
     #[inline(always)]
-    pub fn turn<Site>(&mut self, sent: &mut Vec<Token, A>) -> Result<(), AllocError>
+    pub fn turn(&mut self, sent: &mut Vec<PackedToken, A>) -> Result<(), AllocError>
     where
         A: Clone,
         requires one { self.old.held.part.shape.elements ≡ 1 }
@@ -277,18 +278,18 @@ impl<'m, C: Instructions, A: Allocator> Lane<'m, C, A> {
         ensures most { self.new.held.made ≤ self.new.steps }
         ensures fixed { fixed_of self.new ≡ fixed_of self.old }
     {
-        'rations: while self.makes_ration::<Alone, Site>(u64::MAX, sent)? {}
+        'rations: while self.makes_ration::<Alone>(u64::MAX, sent)? {}
         Ok(())
     }
 
     /// As `turn`, but it makes up to `most` events, and no more than there is room for at once, and it may be one of several elements:
     /// tokens for others go last into `sent`. It answers whether it made some and may go on: where it did not, it made fewer than
-    /// `most`, and there is no token for which it could make one.
+    /// `most`: there is no token, it may make no more events, or the oldest token is not done at once.
     #[inline(always)]
-    pub fn makes_ration<T: Company, Site>(
+    pub fn makes_ration<T: Company>(
         &mut self,
         most: u64,
-        sent: &mut Vec<Token, A>,
+        sent: &mut Vec<PackedToken, A>,
     ) -> Result<bool, AllocError>
     where
         A: Clone,
@@ -312,9 +313,6 @@ impl<'m, C: Instructions, A: Allocator> Lane<'m, C, A> {
             .min(self.contents.ration()?)
             .min(room_in::<T, A>(sent)?)
             .min(most);
-        Ok(
-            self.contents
-                .make_at_once::<C, T, Site>(self.code, events, sent),
-        )
+        Ok(self.contents.make_at_once::<C, T>(self.code, events, sent))
     }
 }

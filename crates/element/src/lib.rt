@@ -7,6 +7,7 @@ mod contents;
 pub mod firing;
 pub mod instructions;
 pub mod lane;
+mod waiting;
 
 ghost use Rattle.element.specs.Openings.{OthersStay};
 

@@ -14,6 +14,7 @@ use crate::runner::{Lost, Runner};
 use element::instructions::Instructions;
 use mesh::{Ask, Mesh};
 use ordering::log::{BlockLog, Counts};
+use packed::token::PackedToken;
 use rounds::{Gate, take_turn};
 use schedule::halt::Halt;
 use schedule::log::Log;
@@ -83,7 +84,7 @@ fn note_queue<A: Allocator>(
 }
 
 // Notes that these tokens were made.
-fn note_sent<A: Allocator>(notes: &mut BlockLog<A>, sent: &[Token]) -> Result<(), AllocError>
+fn note_sent<A: Allocator>(notes: &mut BlockLog<A>, sent: &[PackedToken]) -> Result<(), AllocError>
     ensures { OnOk result (noted_in notes.new ≡ record {
       taken = (noted_in notes.old).taken;
       made = (noted_in notes.old).made
@@ -93,7 +94,7 @@ fn note_sent<A: Allocator>(notes: &mut BlockLog<A>, sent: &[Token]) -> Result<()
 {
     for token in sent {
         notes.reserve(0, 1, 0)?;
-        notes.note_made(*token);
+        notes.note_made(token.unpack());
     }
     Ok(())
 }

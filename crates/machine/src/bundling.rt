@@ -10,27 +10,27 @@ ghost use Rattle.machine.specs.Runners.{Runs, Keeps, IsClear, StaysAt, KeepsToke
 
 use crate::runner::Runner;
 use crate::spares::{empty_bundle, keep_spare};
-use element::bundled::element_for;
+use element::bundled::element_of_packed;
 use mesh::Mesh;
+use packed::token::PackedToken;
 use schedule::log::Log;
 use schedule::main_code::MainCode;
 use schedule::shape::Shape;
 use std::alloc::{AllocError, Allocator};
 use std::mem;
-use tags::token::Token;
 
 // Puts a token into the bundle of its element. After an error all bundles have the tokens that they had.
 fn keep<A: Allocator>(
-    unposted: &mut Vec<Vec<Token, A>, A>,
+    unposted: &mut Vec<Vec<PackedToken, A>, A>,
     elements: u32,
-    token: Token,
+    token: PackedToken,
 ) -> Result<(), AllocError>
     requires some { 0 < elements }
     requires count { length unposted.old.items ≡ elements }
     ensures ok { OnOk result (KeepsTokens elements unposted.old.items unposted.new.items (token ∷ [])) }
     ensures err { OnErr result (KeepsTokens elements unposted.old.items unposted.new.items []) }
 {
-    let to = element_for(&token.to, elements) as usize;
+    let to = element_of_packed(&token, elements) as usize;
     unposted[to].push(token)?;
     Ok(())
 }
@@ -65,7 +65,7 @@ fn post_bundle<C: MainCode, A: Allocator, L: Log>(
     runner: &mut Runner<'_, C, A, L>,
     mesh: &Mesh<A>,
     shape: &Shape<'_, C>,
-    empty: Vec<Token, A>,
+    empty: Vec<PackedToken, A>,
     to: u32,
 )
     requires good { IsGoodSetting (setting_in C.program C.width shape.now) }

@@ -4,6 +4,7 @@ ghost use Rattle.std.specs.Prelude.{◌≡◌, All, true};
 ghost use Rattle.element.specs.Near.{IsNearCont, IsNearWord, IsNearTo, IsNearToken};
 ghost use Rattle.machine.specs.Runners.{bounds_within};
 
+use packed::token::PackedToken;
 use tags::token::{Cont, To, Token, Word};
 
 /// How many frames and cells the machine has.
@@ -50,12 +51,23 @@ fn is_near(token: &Token, reach: Reach) -> bool
     is_near_to(&token.to, reach) && is_near_word(&token.word, reach)
 }
 
+// The same of a packed token. Most bring an integer to an instruction.
+#[inline(always)]
+fn is_packed_near(token: &PackedToken, reach: Reach) -> bool
+    ensures { result ≡ true → IsNearToken (bounds_within reach) token.now }
+{
+    match (token.frame(), token.word().as_int()) {
+        (Some(frame), Some(_)) => frame < reach.frames,
+        _ => is_near(&token.unpack(), reach),
+    }
+}
+
 /// Whether all these tokens name only what there is.
-pub fn are_near(tokens: &[Token], reach: Reach) -> bool
+pub fn are_near(tokens: &[PackedToken], reach: Reach) -> bool
     ensures { result ≡ true → All (IsNearToken (bounds_within reach)) tokens.now }
 {
     for token in tokens {
-        if !is_near(token, reach) {
+        if !is_packed_near(token, reach) {
             return false;
         }
     }

@@ -4,10 +4,10 @@ use element::instructions::Instructions;
 use element::lane::Lane;
 use mesh::Seat;
 use ordering::log::BlockLog;
+use packed::token::PackedToken;
 use schedule::halt::Halt;
 use schedule::log::{EventLog, Log};
 use std::alloc::Allocator;
-use tags::token::Token;
 
 /// An element cannot report what it did: memory for its notes was refused, or its commits made more tokens than a mesh counts
 /// (that does not happen in a run that fits in memory).
@@ -33,15 +33,15 @@ pub struct Runner<'m, C: Instructions, A: Allocator, L: Log> {
     pub lane: Lane<'m, C, A>,
     pub seat: Seat<A>,
     /// What its last block made for other elements.
-    pub sent: Vec<Token, A>,
+    pub sent: Vec<PackedToken, A>,
     /// How many of these lie in bundles already.
     pub bundled: usize,
     /// For each element the tokens that are not posted yet.
-    pub unposted: Vec<Vec<Token, A>, A>,
+    pub unposted: Vec<Vec<PackedToken, A>, A>,
     /// What it took and could not put into its queue.
-    pub unqueued: Vec<Token, A>,
+    pub unqueued: Vec<PackedToken, A>,
     /// Emptied bundles, whose memory is used again.
-    pub spare: Vec<Vec<Token, A>, A>,
+    pub spare: Vec<Vec<PackedToken, A>, A>,
     /// The events of its turn.
     pub log: EventLog<A, L>,
     /// Its blocks, where events are listed.

@@ -2,11 +2,14 @@
 
 ghost use Rattle.std.specs.Prelude.{◌≡◌, [], IfOk};
 
+use packed::token::PackedToken;
 use std::alloc::{AllocError, Allocator};
-use tags::token::Token;
 
 /// Empties a bundle and keeps it for later tokens: room for as many as an element posts in a turn.
-pub fn keep_spare<A: Allocator>(spare: &mut Vec<Vec<Token, A>, A>, mut bundle: Vec<Token, A>) {
+pub fn keep_spare<A: Allocator>(
+    spare: &mut Vec<Vec<PackedToken, A>, A>,
+    mut bundle: Vec<PackedToken, A>,
+) {
     if spare.len() < spare.capacity() {
         bundle.clear();
         let _is_kept = spare.push(bundle).is_ok();
@@ -15,9 +18,9 @@ pub fn keep_spare<A: Allocator>(spare: &mut Vec<Vec<Token, A>, A>, mut bundle: V
 
 /// An empty bundle: one that was emptied before, or else a new one.
 pub fn empty_bundle<A: Allocator + Clone>(
-    spare: &mut Vec<Vec<Token, A>, A>,
+    spare: &mut Vec<Vec<PackedToken, A>, A>,
     alloc: &A,
-) -> Result<Vec<Token, A>, AllocError>
+) -> Result<Vec<PackedToken, A>, AllocError>
     ensures { IfOk result (λ bundle. bundle.items ≡ []) }
 {
     match spare.pop() {

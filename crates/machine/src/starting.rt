@@ -13,6 +13,7 @@ use element::instructions::Instructions;
 use element::lane::Lane;
 use mesh::Seat;
 use ordering::log::BlockLog;
+use packed::token::PackedToken;
 use schedule::log::{EventLog, Log};
 use std::alloc::{AllocError, Allocator};
 use tags::token::Token;
@@ -49,7 +50,7 @@ pub fn tokens_of<C: Instructions, A: Allocator>(
 fn bundles<A: Allocator + Clone>(
     alloc: &A,
     elements: u32,
-) -> Result<Vec<Vec<Token, A>, A>, AllocError>
+) -> Result<Vec<Vec<PackedToken, A>, A>, AllocError>
     ensures { IfOk result (λ all. AreEmpty elements all.items) }
 {
     let mut all = Vec::with_capacity(alloc.clone()?, elements as usize)?;

@@ -13,12 +13,12 @@ use crate::nearness::{Reach, are_near};
 use crate::runner::Runner;
 use crate::spares::keep_spare;
 use mesh::Mesh;
+use packed::token::PackedToken;
 use schedule::halt::Halt;
 use schedule::log::Log;
 use schedule::main_code::MainCode;
 use schedule::shape::Shape;
 use std::alloc::Allocator;
-use tags::token::Token;
 
 // How much the machine has.
 fn reach_of<C: MainCode>(shape: &Shape<'_, C>) -> Reach
@@ -36,7 +36,7 @@ fn reach_of<C: MainCode>(shape: &Shape<'_, C>) -> Reach
 fn receive_or_hold<C: MainCode, A: Allocator, L: Log>(
     runner: &mut Runner<'_, C, A, L>,
     shape: &Shape<'_, C>,
-    bundle: Vec<Token, A>,
+    bundle: Vec<PackedToken, A>,
 ) -> Option<Halt>
     requires good { IsGoodSetting (setting_in C.program C.width shape.now) }
     requires runs { RunsAs (setting_in C.program C.width shape.now) (fixed_of runner.old.lane) }

@@ -4,6 +4,7 @@
 
 use crate::view::View;
 use atomic_table::{Seat, Shared, Table, TableRule};
+use packed::token::PackedToken;
 use std::alloc::Allocator;
 use tags::token::Token;
 
@@ -24,7 +25,7 @@ pub struct Opening<A: Allocator> {
 
 pub struct Law;
 
-impl<A: Allocator> TableRule<Option<Vec<Token, A>>, View, Opening<A>> for Law {
+impl<A: Allocator> TableRule<Option<Vec<PackedToken, A>>, View, Opening<A>> for Law {
     ghost use Rattle.mesh.specs.Rule.{Preserved, first_view};
 
     ghost holds = { λ k. Preserved (λ v. v.items) k.elements k.start.items };
@@ -32,8 +33,8 @@ impl<A: Allocator> TableRule<Option<Vec<Token, A>>, View, Opening<A>> for Law {
     ghost first = { λ k. first_view k.elements k.start.items };
 }
 
-pub type Board<A> = Table<Option<Vec<Token, A>>, View, Opening<A>, Law, A>;
+pub type Board<A> = Table<Option<Vec<PackedToken, A>>, View, Opening<A>, Law, A>;
 
-pub type Top<A> = Shared<Option<Vec<Token, A>>, View, Opening<A>, Law>;
+pub type Top<A> = Shared<Option<Vec<PackedToken, A>>, View, Opening<A>, Law>;
 
-pub type Place<A> = Seat<Option<Vec<Token, A>>, View>;
+pub type Place<A> = Seat<Option<Vec<PackedToken, A>>, View>;

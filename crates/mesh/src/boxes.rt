@@ -8,6 +8,7 @@ ghost use Rattle.mesh.specs.Seats.{AllTo, Has};
 
 use crate::board::{Place, Top};
 use crate::plays::{Give, GiveBack, LookFrom, LookTo, Offer};
+use packed::token::PackedToken;
 use std::alloc::Allocator;
 use std::marker::Brand;
 use tags::token::Token;
@@ -17,8 +18,8 @@ fn post_as<A: Allocator, J: Offer>(
     place: &mut Place<A>,
     element: u32,
     to: u32,
-    bundle: Vec<Token, A>,
-) -> Result<(), Vec<Token, A>>
+    bundle: Vec<PackedToken, A>,
+) -> Result<(), Vec<PackedToken, A>>
     requires offered { J.bundle ≡ bundle.items }
     requires table { IsTop top.now.table_id place.old }
     requires seat { IsOf element place.old × (element < 16) × (to < 16) × (to < top.now.key.elements) }
@@ -42,8 +43,8 @@ pub(crate) fn post_at<A: Allocator>(
     place: &mut Place<A>,
     element: u32,
     to: u32,
-    bundle: Vec<Token, A>,
-) -> Result<(), Vec<Token, A>>
+    bundle: Vec<PackedToken, A>,
+) -> Result<(), Vec<PackedToken, A>>
     requires table { IsTop top.now.table_id place.old }
     requires seat { IsOf element place.old × (element < 16) × (to < 16) × (to < top.now.key.elements) }
     requires held { AllTo place.old.me.0.elements to bundle.items × Has (part_of place.old).held bundle.items }
@@ -60,7 +61,7 @@ pub(crate) fn take_at<A: Allocator>(
     place: &mut Place<A>,
     element: u32,
     from: u32,
-) -> Option<Vec<Token, A>>
+) -> Option<Vec<PackedToken, A>>
     requires table { IsTop top.now.table_id place.old }
     requires seat { IsOf element place.old × (element < 16) × (from < 16) × (from < top.now.key.elements) }
     ensures table { place.new.table_id ≡ place.old.table_id }

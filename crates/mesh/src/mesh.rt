@@ -8,6 +8,7 @@ use crate::board::{Board, Place};
 use crate::boxes::{post_at, take_at};
 use crate::plays::Ask;
 use crate::words::{commit_at, commit_by_at, live_at, stop_at, stopped_at};
+use packed::token::PackedToken;
 use std::alloc::Allocator;
 use std::marker::Model;
 use tags::token::Token;
@@ -99,8 +100,8 @@ impl<A: Allocator> Mesh<A> {
         &self,
         seat: &mut Seat<A>,
         to: u32,
-        bundle: Vec<Token, A>,
-    ) -> Result<(), Vec<Token, A>>
+        bundle: Vec<PackedToken, A>,
+    ) -> Result<(), Vec<PackedToken, A>>
         requires mesh { (seat.old.mesh ≡ self.now) × (seat.old.joined ≡ []) }
         requires to { to < self.now.elements }
         requires address { AllTo self.now.elements to bundle.items }
@@ -119,7 +120,7 @@ impl<A: Allocator> Mesh<A> {
 
     /// Takes the bundle out of the box from the element `from`: None where the box was found empty. The tokens of a
     /// bundle are addressed to the element that takes it.
-    pub fn take(&self, seat: &mut Seat<A>, from: u32) -> Option<Vec<Token, A>>
+    pub fn take(&self, seat: &mut Seat<A>, from: u32) -> Option<Vec<PackedToken, A>>
         requires mesh { (seat.old.mesh ≡ self.now) × (seat.old.joined ≡ []) }
         requires from { from < self.now.elements }
         ensures some { IfSome result (λ b. (seat.new ≡ having_taken seat.old from b.items) × AllTo self.now.elements seat.old.own.element b.items) }

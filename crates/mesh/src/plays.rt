@@ -2,6 +2,7 @@
 
 use crate::view::View;
 use atomic_table::{Join, Play, Split};
+use packed::token::PackedToken;
 use std::alloc::Allocator;
 use std::marker::{Brand, PhantomData};
 use tags::token::Token;
@@ -25,7 +26,7 @@ pub(crate) struct LookTo<J> {
     offered: PhantomData<J>,
 }
 
-impl<A: Allocator, J: Offer> Play<Option<Vec<Token, A>>, View> for LookTo<J> {
+impl<A: Allocator, J: Offer> Play<Option<Vec<PackedToken, A>>, View> for LookTo<J> {
     ghost use Rattle.mesh.specs.Plays.{looked_to};
 
     ghost then = { looked_to J.bundle };
@@ -34,7 +35,7 @@ impl<A: Allocator, J: Offer> Play<Option<Vec<Token, A>>, View> for LookTo<J> {
 /// The poster gives the slot back, full.
 pub(crate) struct Give;
 
-impl<A: Allocator> Play<Option<Vec<Token, A>>, View> for Give {
+impl<A: Allocator> Play<Option<Vec<PackedToken, A>>, View> for Give {
     ghost use Rattle.mesh.specs.Plays.{gave};
 
     ghost then = { gave (λ v. v.items) };
@@ -43,7 +44,7 @@ impl<A: Allocator> Play<Option<Vec<Token, A>>, View> for Give {
 /// The taker's look at a box.
 pub(crate) struct LookFrom;
 
-impl<A: Allocator> Play<Option<Vec<Token, A>>, View> for LookFrom {
+impl<A: Allocator> Play<Option<Vec<PackedToken, A>>, View> for LookFrom {
     ghost use Rattle.mesh.specs.Plays.{looked_from};
 
     ghost then = { looked_from (λ v. v.items) };
@@ -52,7 +53,7 @@ impl<A: Allocator> Play<Option<Vec<Token, A>>, View> for LookFrom {
 /// The taker gives the slot back, empty.
 pub(crate) struct GiveBack;
 
-impl<A: Allocator> Play<Option<Vec<Token, A>>, View> for GiveBack {
+impl<A: Allocator> Play<Option<Vec<PackedToken, A>>, View> for GiveBack {
     ghost use Rattle.mesh.specs.Plays.{gave_back};
 
     ghost then = { gave_back };
@@ -103,7 +104,7 @@ pub(crate) struct CommitThat<J> {
     asked: PhantomData<J>,
 }
 
-impl<A: Allocator, J: Ask> Play<Option<Vec<Token, A>>, View> for CommitThat<J> {
+impl<A: Allocator, J: Ask> Play<Option<Vec<PackedToken, A>>, View> for CommitThat<J> {
     ghost use Rattle.mesh.specs.Plays.{committed};
 
     ghost then = { committed J.spent J.made };
@@ -112,7 +113,7 @@ impl<A: Allocator, J: Ask> Play<Option<Vec<Token, A>>, View> for CommitThat<J> {
 /// A read of the live word.
 pub(crate) struct SeeLive;
 
-impl<A: Allocator> Play<Option<Vec<Token, A>>, View> for SeeLive {
+impl<A: Allocator> Play<Option<Vec<PackedToken, A>>, View> for SeeLive {
     ghost use Rattle.mesh.specs.Plays.{saw_live};
 
     ghost then = { saw_live };
@@ -121,7 +122,7 @@ impl<A: Allocator> Play<Option<Vec<Token, A>>, View> for SeeLive {
 /// A try to set the stop word.
 pub(crate) struct TryStop;
 
-impl<A: Allocator> Play<Option<Vec<Token, A>>, View> for TryStop {
+impl<A: Allocator> Play<Option<Vec<PackedToken, A>>, View> for TryStop {
     ghost use Rattle.mesh.specs.Plays.{tried_stop};
 
     ghost then = { tried_stop };
@@ -130,7 +131,7 @@ impl<A: Allocator> Play<Option<Vec<Token, A>>, View> for TryStop {
 /// A read of the stop word.
 pub(crate) struct SeeStop;
 
-impl<A: Allocator> Play<Option<Vec<Token, A>>, View> for SeeStop {
+impl<A: Allocator> Play<Option<Vec<PackedToken, A>>, View> for SeeStop {
     ghost use Rattle.mesh.specs.Plays.{saw_stop};
 
     ghost then = { saw_stop };
@@ -139,7 +140,7 @@ impl<A: Allocator> Play<Option<Vec<Token, A>>, View> for SeeStop {
 /// A read of the live word by a seat of several elements.
 pub(crate) struct Settle;
 
-impl<A: Allocator> Play<Option<Vec<Token, A>>, View> for Settle {
+impl<A: Allocator> Play<Option<Vec<PackedToken, A>>, View> for Settle {
     ghost use Rattle.mesh.specs.Plays.{settled};
 
     ghost then = { settled };

@@ -1,7 +1,7 @@
 -- An event of the lane that is all of the machine, as an entry of the books.
 use Rattle.std.proofs.Common.{◌≡◌, refl, sym, ◌∙◌, ap, subst, ℕ, suc, ◌+◌, ◌-◌, ◌*◌, ◌<◌, Bool, true, false, not, List, [], ◌∷◌, ◌++◌, length}
 use Rattle.std.proofs.Common.{drop, Option, Some, None, arith}
-use Rattle.std.specs.Prelude.{◌==◌, nat_lt, if◌then◌else◌, remove, slice_get, IsPermutation, Ok}
+use Rattle.std.specs.Prelude.{◌==◌, nat_lt, if◌then◌else◌, remove, slice_get, IsPermutation}
 use Rattle.std.specs.List.{range_with_len}
 use Rattle.std.proofs.Math.Nat.{mod-one, mod-eq_of_lt}
 use Rattle.std.proofs.Math.Seq.{drop-append_seam}
@@ -10,14 +10,13 @@ use Rattle.std.proofs.lemmas.List.{append-nil}
 use Rattle.std.proofs.lemmas.List.Edits.{length-remove}
 use Rattle.std.proofs.lemmas.List.Sorted.{IsPermutation-refl, IsPermutation-trans, IsPermutation-sym}
 use Rattle.tags.specs.Addresses.{element_of}
-use Rattle.tags.specs.declared.token.Cont.{Cont}
 use Rattle.tags.specs.declared.token.Word.{Word}
 use Rattle.tags.specs.declared.token.To.{To}
 use Rattle.tags.specs.declared.token.Token.{Token}
 use Rattle.tags.specs.declared.slot.SlotState.{SlotState}
 use Rattle.semantics.specs.Program.{Program, instr_at}
 use Rattle.semantics.specs.Machine.{Store, Size, Event, Happens, slot_in, slot_used, outputs_of}
-use Rattle.element.specs.Parts.{Shape, Part}
+use Rattle.element.specs.Parts.{Shape}
 use Rattle.element.specs.Holding.{LaneView, is_here, here, elsewhere}
 use Rattle.element.specs.Acts.{ServesFirst}
 use Rattle.element.specs.Steps.{Does, IsAfter, place_of}

@@ -1,8 +1,8 @@
 -- What is refused is no event of the machine, or no run of it.
-use Rattle.std.proofs.Common.{◌≡◌, refl, sym, ◌∙◌, ap, subst, ℕ, ◌+◌, ◌-◌, ◌*◌, ◌<◌, ◌≤◌, Bool, true, false, true≢false, ℤ, List, [], ◌∷◌, ◌++◌}
-use Rattle.std.proofs.Common.{length, take, get_or}
-use Rattle.std.proofs.Common.{Option, Some, None, Result, Err, IfErr, inl, inr, arith, ⊎_elim, length-append}
-use Rattle.std.specs.Prelude.{◌==◌, nat_lt, if◌then◌else◌, remove, slice_get, Contains, IsPermutation, IfSome, IfNone}
+use Rattle.std.proofs.Common.{◌≡◌, refl, sym, ◌∙◌, ap, subst, ℕ, ◌+◌, ◌-◌, ◌*◌, ◌<◌, Bool, true, false, List, [], ◌∷◌, ◌++◌}
+use Rattle.std.proofs.Common.{length}
+use Rattle.std.proofs.Common.{Option, Some, None, Result, Err, IfErr, inl, inr, arith, length-append}
+use Rattle.std.specs.Prelude.{◌==◌, nat_lt, if◌then◌else◌, remove, slice_get, Contains, IfSome, IfNone}
 use Rattle.std.specs.List.{range_with_len}
 use Rattle.std.proofs.Math.Nat.{mod-eq_of_lt}
 use Rattle.std.proofs.lemmas.Bool.{lt-ltb, le-ltb, eq-eqb}
@@ -10,23 +10,20 @@ use Rattle.std.proofs.lemmas.List.Edits.{length-remove}
 use Rattle.std.proofs.lemmas.List.FromFn.{length-range_with_len}
 use Rattle.std.proofs.lemmas.List.Sorted.{IsPermutation-sym, Contains-permutation}
 use Rattle.std.proofs.lemmas.Option.{slice_get_within, get_or_from_slice_get}
-use Rattle.tags.specs.Addresses.{element_of}
 use Rattle.tags.specs.declared.value.Value.{Value}
-use Rattle.tags.specs.declared.token.Cont.{Cont}
 use Rattle.tags.specs.declared.token.Word.{Word}
 use Rattle.tags.specs.declared.token.To.{To}
 use Rattle.tags.specs.declared.token.Token.{Token}
 use Rattle.semantics.specs.declared.program.Op.{Op}
 use Rattle.semantics.specs.Program.{Instr, Program, instr_at}
 use Rattle.semantics.specs.Rule.{Outcome, Becomes, Excluded, slot_of}
-use Rattle.semantics.specs.Machine.{CellState, Full, Store, Machine, Size, Event, Events, Happens, Fires, Stores, Releases, Hosts, outputs_of, slot_used}
+use Rattle.semantics.specs.Machine.{CellState, Full, Store, Machine, Size, Event, Happens, Fires, Stores, Hosts, outputs_of, slot_used}
 use Rattle.semantics.specs.Machine.{excluded_by, unless_value, filled, host_rule, stuck_rule}
 use Rattle.element.specs.Near.{IsNearToken}
-use Rattle.element.specs.Parts.{IsPart, bounds}
+use Rattle.element.specs.Parts.{bounds}
 use Rattle.element.specs.declared.lane.Stepped.{Stepped}
 use Rattle.element.specs.Holding.{Holding, LaneView, here}
 use Rattle.element.specs.Steps.{Does, Steps, Clashes, Excludes, place_of}
-use Rattle.frame_order.specs.InOrder.{OrderedEvent, OrderedRun}
 use Rattle.replay.specs.declared.extent.Extent.{Extent}
 use Rattle.replay.specs.declared.fault.ReplayRefusal.{ReplayRefusal}
 use Rattle.replay.specs.declared.fault.ReplayRefusal.TheVariants.{NotARun, Memory}

@@ -17,6 +17,7 @@ use crate::moment::Deed;
 use crate::slots::Place;
 use element::instructions::Instructions;
 use element::lane::{Lane, Stepped};
+use packed::token::PackedToken;
 use std::alloc::{AllocError, Allocator};
 use tags::slot::SlotState;
 use tags::token::{Cont, Port, To, Token, Word};
@@ -159,31 +160,31 @@ pub fn start_tokens<A: Allocator>(
     alloc: A,
     main: u32,
     inputs: &[i64],
-) -> Result<Vec<Token, A>, AllocError>
+) -> Result<Vec<PackedToken, A>, AllocError>
     requires short { main < 2 ^ 30 }
     requires few { length inputs.now ≤ 16 }
     ensures { IfOk result (λ v. v.items ≡ start_tokens main inputs.now) }
 {
     let mut tokens = Vec::new(alloc);
-    tokens.push(Token {
+    tokens.push(PackedToken::pack(Token {
         to: To::Instr {
             frame: 0,
             ip: main,
             port: Port::Left,
         },
         word: Word::Back(Cont::Host { port: 0 }),
-    })?;
+    }))?;
     let mut ip = main;
     for input in inputs {
         ip += 1;
-        tokens.push(Token {
+        tokens.push(PackedToken::pack(Token {
             to: To::Instr {
                 frame: 0,
                 ip,
                 port: Port::Left,
             },
             word: Word::Val(Value::Int(*input)),
-        })?;
+        }))?;
     }
     Ok(tokens)
 }

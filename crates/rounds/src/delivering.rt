@@ -7,15 +7,15 @@ ghost use Rattle.schedule.specs.State.{AllFrom, IsAt, IsNearIn, delivered};
 ghost use Rattle.rounds.specs.Rounds.{lanes_held, lanes_fixed, tokens_sent, events_noted, halts_in};
 
 use crate::turn::Turner;
-use element::bundled::element_for;
+use element::bundled::element_of_packed;
 use element::instructions::Instructions;
+use packed::token::PackedToken;
 use schedule::log::Log;
 use std::alloc::{AllocError, Allocator};
-use tags::token::Token;
 
 fn receive_one<C: Instructions, A: Allocator, L: Log>(
     turner: &mut Turner<'_, C, A, L>,
-    token: Token,
+    token: PackedToken,
 ) -> Result<(), AllocError>
     requires { IsFor (fixed_of turner.old.lane) token }
     ensures ok { OnOk result (turner.new.lane ≡ with_more turner.old.lane (token ∷ [])) }
@@ -32,7 +32,7 @@ fn receive_one<C: Instructions, A: Allocator, L: Log>(
 fn receive<C: Instructions, A: Allocator, L: Log>(
     turners: &mut Vec<Turner<'_, C, A, L>, A>,
     elements: u32,
-    token: Token,
+    token: PackedToken,
 ) -> Result<(), AllocError>
     requires some { 0 < elements }
     requires count { length turners.old.items ≡ elements }
@@ -46,7 +46,7 @@ fn receive<C: Instructions, A: Allocator, L: Log>(
     ensures halts { halts_in turners.new.items ≡ halts_in turners.old.items }
     ensures count { length turners.new.items ≡ length turners.old.items }
 {
-    let element = element_for(&token.to, elements) as usize;
+    let element = element_of_packed(&token, elements) as usize;
     let turner = &mut turners[element];
     receive_one(turner, token)
 }
@@ -55,7 +55,7 @@ fn receive<C: Instructions, A: Allocator, L: Log>(
 pub fn deliver_all<C: Instructions, A: Allocator, L: Log>(
     turners: &mut Vec<Turner<'_, C, A, L>, A>,
     elements: u32,
-    tokens: &mut Vec<Token, A>,
+    tokens: &mut Vec<PackedToken, A>,
 ) -> Result<(), AllocError>
     requires some { 0 < elements }
     requires count { length turners.old.items ≡ elements }

@@ -5,9 +5,9 @@ ghost use Rattle.rounds.specs.Rounds.{lane_held, lanes_held, lane_fixed, lanes_f
 
 use crate::turn::Turner;
 use element::instructions::Instructions;
+use packed::token::PackedToken;
 use schedule::log::{EventLog, Log};
 use std::alloc::{AllocError, Allocator};
-use tags::token::Token;
 
 fn take_events<C: Instructions, A: Allocator, L: Log>(
     turner: &mut Turner<'_, C, A, L>,
@@ -26,7 +26,7 @@ fn take_events<C: Instructions, A: Allocator, L: Log>(
 
 fn take_tokens<C: Instructions, A: Allocator, L: Log>(
     turner: &mut Turner<'_, C, A, L>,
-    tokens: &mut Vec<Token, A>,
+    tokens: &mut Vec<PackedToken, A>,
 ) -> Result<(), AllocError>
     ensures held { lane_held turner.new ≡ lane_held turner.old }
     ensures fixed { lane_fixed turner.new ≡ lane_fixed turner.old }
@@ -62,7 +62,7 @@ pub fn gather_events<C: Instructions, A: Allocator, L: Log>(
 /// Takes the tokens that all elements made for others, in order.
 pub fn gather_tokens<C: Instructions, A: Allocator, L: Log>(
     turners: &mut [Turner<'_, C, A, L>],
-    tokens: &mut Vec<Token, A>,
+    tokens: &mut Vec<PackedToken, A>,
 ) -> Result<(), AllocError>
     ensures lanes { lanes_held turners.new ≡ lanes_held turners.old }
     ensures fixed { lanes_fixed turners.new ≡ lanes_fixed turners.old }

@@ -1,7 +1,6 @@
 //! Rounds.
 
 ghost use Rattle.std.specs.Prelude.{◌≡◌, ◌<◌, ◌++◌, [], ℕ, ℤ, List, length, map, All, slice_index_or, IfOk, IfSome, IfNone, OnOk, Some, None, true, false};
-ghost use Rattle.tags.specs.declared.token.Token.{Token};
 ghost use Rattle.semantics.specs.Machine.{Events};
 ghost use Rattle.schedule.specs.Shown.{ShowsInOrder};
 ghost use Rattle.element.specs.Holding.{held_of, fixed_of};
@@ -20,6 +19,7 @@ use crate::gathering::{gather_events, gather_tokens};
 use crate::turn::{Turner, make_turn};
 use element::instructions::Instructions;
 use element::lane::Lane;
+use packed::token::PackedToken;
 use schedule::halt::Halt;
 use schedule::log::{EventLog, Log};
 use schedule::machine::Machine;
@@ -30,7 +30,6 @@ use std::alloc::{AllocError, Allocator};
 use std::sync::Wait;
 use std::thread;
 use std::thread::Threads;
-use tags::token::Token;
 
 // Each element makes its turn, in a thread of its own.
 fn make_turns<
@@ -111,7 +110,7 @@ fn make_round<
     rt: &R,
     setup: &mut Setup<'_, C, A, L>,
     turners: &mut [Turner<'_, C, A, L>],
-    tokens: &mut Vec<Token, A>,
+    tokens: &mut Vec<PackedToken, A>,
     gate: &G,
 ) -> Result<bool, AllocError>
     requires some { 0 < length turners.old }
@@ -142,7 +141,7 @@ fn make_whole_round<
     rt: &R,
     setup: &mut Setup<'_, C, A, L>,
     turners: &mut Vec<Turner<'_, C, A, L>, A>,
-    tokens: &mut Vec<Token, A>,
+    tokens: &mut Vec<PackedToken, A>,
     gate: &G,
 ) -> Result<bool, AllocError>
     requires some { 0 < length turners.old.items }
@@ -168,7 +167,7 @@ fn round<
     rt: &R,
     setup: &mut Setup<'_, C, A, L>,
     turners: &mut Vec<Turner<'_, C, A, L>, A>,
-    tokens: &mut Vec<Token, A>,
+    tokens: &mut Vec<PackedToken, A>,
     gate: &G,
 ) -> Result<Option<Halt>, AllocError>
     requires between { IsBetween (setting_in C.program C.width setup.old.shape) turners.old.items }
@@ -206,7 +205,7 @@ fn play<
     rt: &R,
     setup: &mut Setup<'_, C, A, L>,
     turners: &mut Vec<Turner<'_, C, A, L>, A>,
-    tokens: &mut Vec<Token, A>,
+    tokens: &mut Vec<PackedToken, A>,
     gate: &G,
 ) -> Result<Played, AllocError>
     requires between { IsBetween (setting_in C.program C.width setup.old.shape) turners.old.items }
@@ -228,7 +227,7 @@ fn play<
 // A lane before its first turn, with lists that are empty.
 fn turner<'m, C: Instructions, A: Allocator, L: Log>(
     lane: Lane<'m, C, A>,
-    sent: Vec<Token, A>,
+    sent: Vec<PackedToken, A>,
     log: EventLog<A, L>,
 ) -> Turner<'m, C, A, L>
     ensures lane { result.lane ≡ lane.entry }
@@ -279,7 +278,7 @@ fn lanes_in<'m, C: Instructions, A: Allocator, L: Log>(
 
 type Ready<'m, C, A, L> = (
     Vec<Turner<'m, C, A, L>, A>,
-    Vec<Token, A>,
+    Vec<PackedToken, A>,
     Vec<Lane<'m, C, A>, A>,
 );
 

@@ -10,23 +10,17 @@ use crate::gate::Gate;
 use element::company::{Alone, Company, Together};
 use element::instructions::Instructions;
 use element::lane::{Lane, Stepped};
+use packed::token::PackedToken;
 use schedule::halt::Halt;
 use schedule::log::{EventLog, Log};
 use std::alloc::Allocator;
-use std::marker::PhantomData;
-use tags::token::Token;
-
-/// The site of the turn of one element, which has the code of a step built into it.
-struct Turn<L: Log> {
-    _log: PhantomData<L>,
-}
 
 /// A lane with what it made in its turn.
 #[derive(Drop)]
 pub struct Turner<'m, C: Instructions, A: Allocator, L: Log> {
     pub lane: Lane<'m, C, A>,
     /// The tokens for other elements.
-    pub sent: Vec<Token, A>,
+    pub sent: Vec<PackedToken, A>,
     /// The events that it made.
     pub log: EventLog<A, L>,
     /// Why it makes no more events.
@@ -38,7 +32,7 @@ pub struct Turner<'m, C: Instructions, A: Allocator, L: Log> {
 /// The lane takes its oldest tokens, up to `turn` of them.
 pub fn take_turn<C: Instructions, A: Allocator + Clone, L: Log>(
     lane: &mut Lane<'_, C, A>,
-    sent: &mut Vec<Token, A>,
+    sent: &mut Vec<PackedToken, A>,
     log: &mut EventLog<A, L>,
     turn: u64,
 ) -> Option<Halt>
@@ -52,17 +46,17 @@ pub fn take_turn<C: Instructions, A: Allocator + Clone, L: Log>(
     if L::KEEPS_EVENTS {
         take_each(lane, sent, log, turn)
     } else if lane.is_alone() {
-        take_unlisted::<C, A, L, Alone>(lane, sent, turn)
+        take_unlisted::<C, A, Alone>(lane, sent, turn)
     } else {
-        take_unlisted::<C, A, L, Together>(lane, sent, turn)
+        take_unlisted::<C, A, Together>(lane, sent, turn)
     }
 }
 
 // The element makes some events, up to `most`; false where it has no token.
 #[inline(always)]
-fn make_some<C: Instructions, A: Allocator + Clone, L: Log, T: Company>(
+fn make_some<C: Instructions, A: Allocator + Clone, T: Company>(
     lane: &mut Lane<'_, C, A>,
-    sent: &mut Vec<Token, A>,
+    sent: &mut Vec<PackedToken, A>,
     most: u64,
 ) -> Result<bool, Halt>
     requires alone { T.ALONE ≡ true → lane.old.held.part.shape.elements ≡ 1 }
@@ -77,7 +71,7 @@ fn make_some<C: Instructions, A: Allocator + Clone, L: Log, T: Company>(
     ensures halts { IfErr result (λ halt. HaltsLane lane.old.program lane.old.steps false lane.new.held (Some halt)) }
     ensures fixed { fixed_of lane.new ≡ fixed_of lane.old }
 {
-    match lane.makes_ration::<T, (Turn<L>, T)>(most, sent) {
+    match lane.makes_ration::<T>(most, sent) {
         Err(_) => Err(Halt::Memory),
         Ok(true) => Ok(true),
         Ok(false) => match lane.step_otherwise(sent) {
@@ -93,9 +87,9 @@ fn make_some<C: Instructions, A: Allocator + Clone, L: Log, T: Company>(
 
 // The same where no event is listed: between two events nothing but the lane is looked at.
 #[inline(never)]
-fn take_unlisted<C: Instructions, A: Allocator + Clone, L: Log, T: Company>(
+fn take_unlisted<C: Instructions, A: Allocator + Clone, T: Company>(
     lane: &mut Lane<'_, C, A>,
-    sent: &mut Vec<Token, A>,
+    sent: &mut Vec<PackedToken, A>,
     turn: u64,
 ) -> Option<Halt>
     requires alone { T.ALONE ≡ true → lane.old.held.part.shape.elements ≡ 1 }
@@ -112,7 +106,7 @@ fn take_unlisted<C: Instructions, A: Allocator + Clone, L: Log, T: Company>(
         if left == 0 {
             return None;
         }
-        match make_some::<C, A, L, T>(lane, sent, left) {
+        match make_some::<C, A, T>(lane, sent, left) {
             Ok(true) => {}
             Ok(false) => return None,
             Err(halt) => return Some(halt),
@@ -123,7 +117,7 @@ fn take_unlisted<C: Instructions, A: Allocator + Clone, L: Log, T: Company>(
 // The same where events may be listed: it takes one token after another.
 fn take_each<C: Instructions, A: Allocator + Clone, L: Log>(
     lane: &mut Lane<'_, C, A>,
-    sent: &mut Vec<Token, A>,
+    sent: &mut Vec<PackedToken, A>,
     log: &mut EventLog<A, L>,
     turn: u64,
 ) -> Option<Halt>

@@ -7,15 +7,15 @@ ghost use Rattle.schedule.specs.Alone.{LaneAnswers};
 
 use element::instructions::Instructions;
 use element::lane::{Lane, Stepped};
+use packed::token::PackedToken;
 use std::alloc::Allocator;
-use tags::token::Token;
 
 /// The lane makes one event after another, each with its oldest token, and answers why it makes no more. It is the only one, so no
 /// token is for another element, and between two events nothing but the lane is looked at.
 #[inline(always)]
-pub fn make_events<C: Instructions, A: Allocator + Clone, Site>(
+pub fn make_events<C: Instructions, A: Allocator + Clone>(
     lane: &mut Lane<'_, C, A>,
-    sent: &mut Vec<Token, A>,
+    sent: &mut Vec<PackedToken, A>,
 ) -> Option<Stepped>
     requires one { lane.old.held.part.shape.elements ≡ 1 }
     requires sent { sent.old.items ≡ [] }
@@ -27,7 +27,7 @@ pub fn make_events<C: Instructions, A: Allocator + Clone, Site>(
     ensures fixed { fixed_of lane.new ≡ fixed_of lane.old }
 {
     'events: loop {
-        if lane.turn::<Site>(sent).is_err() {
+        if lane.turn(sent).is_err() {
             return Some(Stepped::Memory);
         }
         match lane.step_otherwise(sent) {

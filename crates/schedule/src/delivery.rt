@@ -6,9 +6,10 @@ ghost use Rattle.tags.specs.Addresses.{element_of};
 ghost use Rattle.element.specs.Holding.{held_of, fixed_of};
 ghost use Rattle.schedule.specs.State.{AllFrom, IsAt, IsNearIn, delivered, lanes_of};
 
-use element::bundled::element_for;
+use element::bundled::element_of_packed;
 use element::instructions::Instructions;
 use element::lane::Lane;
+use packed::token::PackedToken;
 use std::alloc::{AllocError, Allocator};
 use tags::token::Token;
 
@@ -27,7 +28,25 @@ pub fn receive<C: Instructions, A: Allocator>(
     ensures fixed { map fixed_of lanes.new.items ≡ map fixed_of lanes.old.items }
     ensures count { length lanes.new.items ≡ length lanes.old.items }
 {
-    let element = element_for(&token.to, elements) as usize;
+    receive_packed(lanes, elements, PackedToken::pack(token))
+}
+
+// The same of a packed token.
+fn receive_packed<C: Instructions, A: Allocator>(
+    lanes: &mut Vec<Lane<'_, C, A>, A>,
+    elements: u32,
+    token: PackedToken,
+) -> Result<(), AllocError>
+    requires some { 0 < elements }
+    requires count { length lanes.old.items ≡ elements }
+    requires at { AllFrom (IsAt elements) 0 (map held_of lanes.old.items) }
+    requires near { IsNearIn (map fixed_of lanes.old.items) token }
+    ensures ok { OnOk result (map held_of lanes.new.items ≡ delivered (token ∷ []) (map held_of lanes.old.items)) }
+    ensures err { OnErr result (map held_of lanes.new.items ≡ map held_of lanes.old.items) }
+    ensures fixed { map fixed_of lanes.new.items ≡ map fixed_of lanes.old.items }
+    ensures count { length lanes.new.items ≡ length lanes.old.items }
+{
+    let element = element_of_packed(&token, elements) as usize;
     let lane = &mut lanes[element];
     lane.receive(token)
 }
@@ -36,7 +55,7 @@ pub fn receive<C: Instructions, A: Allocator>(
 fn deliver_all<C: Instructions, A: Allocator>(
     lanes: &mut Vec<Lane<'_, C, A>, A>,
     elements: u32,
-    sent: &mut Vec<Token, A>,
+    sent: &mut Vec<PackedToken, A>,
     arrived: &mut usize,
 ) -> Result<(), AllocError>
     requires some { 0 < elements }
@@ -53,7 +72,7 @@ fn deliver_all<C: Instructions, A: Allocator>(
 {
     for place in *arrived..sent.len() {
         let token = sent[place];
-        match receive(lanes, elements, token) {
+        match receive_packed(lanes, elements, token) {
             Ok(()) => {}
             Err(error) => {
                 *arrived = place;
@@ -72,7 +91,7 @@ fn deliver_all<C: Instructions, A: Allocator>(
 pub fn deliver<C: Instructions, A: Allocator>(
     lanes: &mut Vec<Lane<'_, C, A>, A>,
     elements: u32,
-    sent: &mut Vec<Token, A>,
+    sent: &mut Vec<PackedToken, A>,
     arrived: &mut usize,
 ) -> Result<(), AllocError>
     requires some { 0 < elements }
@@ -94,13 +113,13 @@ pub fn deliver<C: Instructions, A: Allocator>(
 }
 
 /// Whether some of the tokens from the place on is for the element.
-pub fn has_token_for(tokens: &[Token], start: usize, elements: u32, element: u32) -> bool
+pub fn has_token_for(tokens: &[PackedToken], start: usize, elements: u32, element: u32) -> bool
     requires some { 0 < elements }
     requires start { start ≤ length tokens.now }
     ensures { result ≡ list_any (λ t. element_of elements t.to == element) (drop start tokens.now) }
 {
     for place in start..tokens.len() {
-        if element_for(&tokens[place].to, elements) == element {
+        if element_of_packed(&tokens[place], elements) == element {
             return true;
         }
     }

@@ -21,17 +21,12 @@ use crate::main_code::MainCode;
 use crate::shape::Shape;
 use arrayvec::ArrayVec;
 use element::lane::{Lane, Stepped};
+use packed::token::PackedToken;
 use std::alloc::{AllocError, Allocator};
 use std::marker::PhantomData;
-use tags::token::Token;
 use tags::value::Value;
 
-/// The site of the loop of one element, which has the code of a step built into it.
-struct Alone<L: Log> {
-    _log: PhantomData<L>,
-}
-
-/// The site of that loop where each event is listed.
+/// The site of the loop of one element where each event is listed, which has the code of a step built into it.
 struct Listed<L: Log> {
     _log: PhantomData<L>,
 }
@@ -51,7 +46,7 @@ pub struct Elements<'m, C: MainCode, A: Allocator> {
     pub shape: Shape<'m, C>,
     pub lanes: Vec<Lane<'m, C, A>, A>,
     /// The tokens that the last event made for other elements.
-    pub sent: Vec<Token, A>,
+    pub sent: Vec<PackedToken, A>,
     /// How many of these have arrived.
     pub arrived: usize,
 }
@@ -269,7 +264,7 @@ impl<'m, C: MainCode, A: Allocator> Elements<'m, C, A> {
 
     // Lets the one element make one event after another where no token is on its way, and answers why it makes no more.
     #[inline(always)]
-    fn run_alone<Site>(&mut self) -> Option<Stepped>
+    fn run_alone(&mut self) -> Option<Stepped>
     where
         A: Clone,
         requires well { IsWell C.program C.width self.old }
@@ -282,7 +277,7 @@ impl<'m, C: MainCode, A: Allocator> Elements<'m, C, A> {
             × Steps last 0 0 result (state_of C.program C.width self.new) events }
     {
         let lane = &mut self.lanes[0];
-        make_events::<C, A, Site>(lane, &mut self.sent)
+        make_events(lane, &mut self.sent)
     }
 
     // The same as `play_in_turn`, of one element, where no event is listed: the element is always in turn.
@@ -301,7 +296,7 @@ impl<'m, C: MainCode, A: Allocator> Elements<'m, C, A> {
         if self.settle().is_err() {
             return self.play_passes(log);
         }
-        let stepped = self.run_alone::<Alone<L>>();
+        let stepped = self.run_alone();
         match self.halts(Order::InTurn, stepped) {
             None => self.play_passes(log),
             Some(halt) => halt,

@@ -19,8 +19,8 @@ use crate::report::Report;
 use crate::reporting::{opening_report, report_of};
 use crate::shape::Shape;
 use element::lane::Lane;
+use packed::token::PackedToken;
 use std::alloc::Allocator;
-use tags::token::Token;
 
 /// What a machine has besides its lanes.
 #[derive(Drop)]
@@ -28,7 +28,7 @@ pub struct Setup<'m, C: MainCode, A: Allocator, L: Log> {
     pub shape: Shape<'m, C>,
     pub log: EventLog<A, L>,
     // The list in which tokens were on their way.
-    pub(crate) sent: Vec<Token, A>,
+    pub(crate) sent: Vec<PackedToken, A>,
     pub alloc: A,
 }
 

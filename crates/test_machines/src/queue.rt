@@ -3,6 +3,7 @@
 use crate::part::{Heap, Part};
 use crate::shown::push_token;
 use crate::words::Words;
+use packed::token::PackedToken;
 use std::alloc::{AllocError, Global};
 use std::collections::VecDeque;
 use tags::token::{Port, To, Token, Word};
@@ -38,7 +39,7 @@ pub struct QueuePart<'h> {
 /// Puts the token of this number in, where there is room for it and that many more.
 fn put(queue: &mut TokenQueue<Heap<'_>>, number: u32, more: usize) -> Result<(), AllocError> {
     queue.reserve(more.checked_add(1).ok_or(AllocError)?)?;
-    queue.push_back_reserved(token(number));
+    queue.push_packed(PackedToken::pack(token(number)));
     Ok(())
 }
 

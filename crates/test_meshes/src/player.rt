@@ -5,6 +5,7 @@ ghost use Rattle.mesh.specs.Seats.{AllTo, Has, fresh_seat};
 ghost use Rattle.test_meshes.specs.Playing.{IsAt, IsPlaying};
 
 use mesh::{Mesh, Seat};
+use packed::token::PackedToken;
 use std::alloc::{AllocError, Global};
 use std::mem;
 use std::sync::Wait;
@@ -41,7 +42,7 @@ impl Tally {
 pub struct Player {
     pub seat: Seat<Global>,
     /// The tokens that it made and has not posted yet.
-    pub kept: Vec<Token>,
+    pub kept: Vec<PackedToken>,
     pub elements: u32,
     pub next: u32,
     pub previous: u32,
@@ -96,6 +97,23 @@ fn forward(
     Ok(made)
 }
 
+/// Packs tokens, after those that the player keeps already.
+fn keep(kept: &mut Vec<PackedToken>, made: &[Token]) -> Result<(), AllocError>
+    ensures { OnOk result (kept.new.items ≡ kept.old.items ++ made.now) }
+{
+    for token in made {
+        kept.push(PackedToken::pack(*token))?;
+    }
+    Ok(())
+}
+
+/// The tokens of a bundle, unpacked.
+fn unpacked(alloc: Global, bundle: &[PackedToken]) -> Result<Vec<Token>, AllocError>
+    ensures { IfOk result (λ tokens. tokens.items ≡ bundle.now) }
+{
+    bundle.iter().map(|token| token.unpack()).collect(alloc)
+}
+
 /// Commits a bundle that the player was given, and stores what it made of it.
 fn pass_on(
     alloc: Global,
@@ -120,7 +138,7 @@ fn pass_on(
     }
     mesh.commit(&mut p.seat, bundle, &made);
     p.made += count;
-    p.kept.extend_from_slice(&made)?;
+    keep(&mut p.kept, &made)?;
     Ok(())
 }
 
@@ -144,7 +162,10 @@ fn receive(alloc: Global, mesh: &Mesh<Global>, p: &mut Player) -> Result<(), All
     ensures { OnOk result (IsPlaying mesh.now p.new) }
 {
     match mesh.take(&mut p.seat, p.previous) {
-        Some(bundle) => pass_on(alloc, mesh, p, &bundle),
+        Some(bundle) => {
+            let tokens = unpacked(alloc, &bundle)?;
+            pass_on(alloc, mesh, p, &tokens)
+        }
         None => Ok(()),
     }
 }

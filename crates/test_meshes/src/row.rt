@@ -7,6 +7,7 @@ ghost use Rattle.test_meshes.specs.Playing.{Holds};
 
 use crate::step::{commit, live, post, take};
 use mesh::{Mesh, Seat};
+use packed::token::PackedToken;
 use std::alloc::Global;
 use std::process::Abort;
 use std::test::Fail;
@@ -28,6 +29,14 @@ fn token(frame: u32, number: u32) -> Token
         },
         word: Word::Frame(number),
     }
+}
+
+/// The one token of a bundle.
+fn only(rt: &impl Abort, bundle: &[PackedToken]) -> Token
+    ensures { bundle.now ≡ result ∷ [] }
+{
+    assert!(rt; bundle.len() == 1);
+    bundle[0].unpack()
 }
 
 /// Element 0 spends t to make u and v.
@@ -59,7 +68,7 @@ fn post_both<'h>(
     seat: &mut Seat<Heap<'h>>,
     u: &Token,
     v: &Token,
-) -> Vec<Token, Heap<'h>>
+) -> Vec<PackedToken, Heap<'h>>
     requires mesh { mesh.now.elements ≡ 2 }
     requires seat { (seat.old.own.element ≡ 0) × Holds mesh.now seat.old (u.now ∷ v.now ∷ []) }
     requires tokens { (element_of 2 u.now.to ≡ 1) × (element_of 2 v.now.to ≡ 1) }
@@ -67,8 +76,8 @@ fn post_both<'h>(
     ensures seat { (seat.new.own.element ≡ 0) × Holds mesh.now seat.new (v.now ∷ []) }
 {
     let later = [*v];
-    let first = vec![in heap; *u].expect(rt, "memory");
-    let second = vec![in heap; *v].expect(rt, "memory");
+    let first = vec![in heap; PackedToken::pack(*u)].expect(rt, "memory");
+    let second = vec![in heap; PackedToken::pack(*v)].expect(rt, "memory");
     let left = heap.left();
     let Ok(()) = post(mesh, seat, 1, first, &later) else {
         panic!(rt; "the box is empty")
@@ -85,7 +94,7 @@ fn take_one<'h>(
     rt: &impl Abort,
     mesh: &Mesh<Heap<'h>>,
     seat: &mut Seat<Heap<'h>>,
-) -> Vec<Token, Heap<'h>>
+) -> Vec<PackedToken, Heap<'h>>
     requires mesh { mesh.now.elements ≡ 2 }
     requires seat { (seat.old.own.element ≡ 1) × (created seat.old.own.deeds ≡ 0) × Holds mesh.now seat.old [] }
     ensures seat { (seat.new.own.element ≡ 1) × (created seat.new.own.deeds ≡ 0) × Holds mesh.now seat.new result.items }
@@ -103,8 +112,8 @@ fn take_and_spend<'h>(
     rt: &impl Abort,
     mesh: &Mesh<Heap<'h>>,
     seat: &mut Seat<Heap<'h>>,
-    first: &[Token],
-) -> Vec<Token, Heap<'h>>
+    first: &[PackedToken],
+) -> Vec<PackedToken, Heap<'h>>
     requires mesh { mesh.now.elements ≡ 2 }
     requires seat { (seat.old.own.element ≡ 1) × (created seat.old.own.deeds ≡ 0) × Holds mesh.now seat.old first.now }
     requires address { AllTo 2 1 first.now }
@@ -113,9 +122,10 @@ fn take_and_spend<'h>(
     let Some(second) = take(mesh, seat, 0, first) else {
         panic!(rt; "the box is full")
     };
-    assert!(rt; first.len() == 1 && second.len() == 1);
-    commit(mesh, seat, first, &[], &second);
-    commit(mesh, seat, &second, &[], &[]);
+    let spent = [only(rt, first)];
+    let rest = [only(rt, &second)];
+    commit(mesh, seat, &spent, &[], &rest);
+    commit(mesh, seat, &rest, &[], &[]);
     second
 }
 
@@ -169,21 +179,19 @@ fn the_row<'h>(
     let (mut zero, mut one) = both_seats(rt, mesh, seats);
     let u = token(1, 1);
     let v = token(1, 2);
-    let only_u = [token(1, 1)];
-    let only_v = [token(1, 2)];
     let left = heap.left();
     spend(rt, mesh, &mut zero, t, &u, &v);
     assert_eq!(rt; heap.left(), left);
     let back = post_both(rt, heap, mesh, &mut zero, &u, &v);
-    assert_eq!(rt; back.as_slice(), only_v.as_slice());
+    assert_eq!(rt; only(rt, &back), token(1, 2));
     let left = heap.left();
     let first = take_one(rt, mesh, &mut one);
-    assert_eq!(rt; first.as_slice(), only_u.as_slice());
+    assert_eq!(rt; only(rt, &first), token(1, 1));
     let Ok(()) = post(mesh, &mut zero, 1, back, &[]) else {
         panic!(rt; "the box is empty")
     };
     let second = take_and_spend(rt, mesh, &mut one, &first);
-    assert_eq!(rt; second.as_slice(), only_v.as_slice());
+    assert_eq!(rt; only(rt, &second), token(1, 2));
     assert_eq!(rt; live(mesh, &mut zero, &[]), 0);
     assert_eq!(rt; live(mesh, &mut one, &[]), 0);
     assert!(rt; mesh.stop(&mut zero, 3));

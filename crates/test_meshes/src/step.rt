@@ -5,6 +5,7 @@ ghost use Rattle.mesh.specs.Seats.{AllTo, Has, Commits};
 ghost use Rattle.test_meshes.specs.Playing.{Holds};
 
 use mesh::{Ask, Mesh, Seat};
+use packed::token::PackedToken;
 use std::alloc::Allocator;
 use std::marker::Brand;
 use tags::token::Token;
@@ -50,9 +51,9 @@ pub fn post<A: Allocator>(
     mesh: &Mesh<A>,
     seat: &mut Seat<A>,
     to: u32,
-    bundle: Vec<Token, A>,
+    bundle: Vec<PackedToken, A>,
     rest: &[Token],
-) -> Result<(), Vec<Token, A>>
+) -> Result<(), Vec<PackedToken, A>>
     requires to { to < mesh.now.elements }
     requires address { AllTo mesh.now.elements to bundle.items }
     requires holds { Holds mesh.now seat.old (bundle.items ++ rest.now) }
@@ -71,8 +72,8 @@ pub fn take<A: Allocator>(
     mesh: &Mesh<A>,
     seat: &mut Seat<A>,
     from: u32,
-    rest: &[Token],
-) -> Option<Vec<Token, A>>
+    rest: &[PackedToken],
+) -> Option<Vec<PackedToken, A>>
     requires from { from < mesh.now.elements }
     requires holds { Holds mesh.now seat.old rest.now }
     ensures element { (seat.new.own.element ≡ seat.old.own.element) × (created seat.new.own.deeds ≡ created seat.old.own.deeds) }

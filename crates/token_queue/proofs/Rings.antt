@@ -1,15 +1,16 @@
 -- What is done in a ring, as seen in its list.
-use Rattle.std.proofs.Common.{◌≡◌, refl, ℕ, ◌+◌, ◌-◌, ◌%◌, ◌^◌, ◌<◌, ◌≤◌, ◌⊎◌, List, [], ◌∷◌, ◌++◌, length, get_or, take, drop, set, bit_and, sym}
+use Rattle.std.proofs.Common.{◌≡◌, refl, ℕ, suc, ◌+◌, ◌-◌, ◌%◌, ◌^◌, ◌<◌, ◌≤◌, ◌⊎◌, List, [], ◌∷◌, ◌++◌, length, get_or, take, drop, set, bit_and, sym}
 use Rattle.std.proofs.Common.{ap, ◌∙◌, subst, inl, inr, mod-eq_of_lt, arith, length-append, length-drop, length-set, length-take-le, get_or-drop}
 use Rattle.std.proofs.Common.{get_or-take, append_assoc}
 use native.Mathlib.Nat.{mod-eq-sub-mod, mod-add-mod}
-use Rattle.std.specs.List.{remove}
-use Rattle.std.proofs.lemmas.List.{append-nil, take-append-le, same_lists, get_or_append_left, get_or-append_right, take_all, take_at, take-take}
-use Rattle.std.proofs.lemmas.List.{set_at, take_more, drop_more, length-take}
-use Rattle.std.proofs.lemmas.List.Edits.{length-remove, get_or-remove_above}
-use Rattle.std.proofs.lemmas.Nat.{and_mask, pow_below}
+use Rattle.std.specs.List.{remove, slice_rotate_right}
+use Rattle.std.proofs.lemmas.List.{take-append-le, same_lists, get_or_append_left, get_or-append_right, take-take}
+use Rattle.std.proofs.lemmas.List.{set_at, take_more, drop_more, length-take, take-append-drop}
+use Rattle.std.proofs.Math.Seq.{drop-append_seam, take-append_seam}
+use Rattle.std.proofs.lemmas.List.Edits.{length-remove, get_or-remove_below}
+use Rattle.std.proofs.lemmas.Nat.{and_mask, and_le_r, pow_below}
 use lib.Pow.{pow_pos, mod-mod-pow}
-use Rattle.std.proofs.Math.Nat.{mod-lt, zero-mod}
+use Rattle.std.proofs.Math.Nat.{mod-lt}
 use Rattle.std.proofs.lemmas.Bool.{cases_lt}
 use Rattle.std.proofs.lemmas.Grind.{common_steps}
 use Rattle.token_queue.specs.Ring.{ring, between, held, IsPower}
@@ -82,20 +83,10 @@ between_pushed h t begun ended few = omega arith
 pub between_popped : (h t : ℕ) → h < 2 ^ 64 → t < 2 ^ 64 → 0 < between h t → between ((h + 1) % 2 ^ 64) t ≡ between h t - 1
 between_popped h t begun ended some = omega arith
 
-pub between_removed : (h t : ℕ) → h < 2 ^ 64 → t < 2 ^ 64 → 0 < between h t → between h ((t + (2 ^ 64 - 1)) % 2 ^ 64) ≡ between h t - 1
-between_removed h t begun ended some = omega arith
-
 pub held_long : {X : Type 0} (h t : ℕ) (xs : List X) → between h t ≤ length xs → length (held h t xs) ≡ between h t
 held_long h t xs fits = ring_long (h % length xs) (between h t) xs fits
 
--- what is counted from 0 on is a beginning
-pub held_first : {X : Type 0} (n : ℕ) (xs : List X) → n < 2 ^ 64 → held 0 n xs ≡ take n xs
-held_first n xs few =
-    let first : 0 % length xs ≡ 0 = zero-mod (length xs) in
-    let all : between 0 n ≡ n = omega arith in
-    ap (λ h. ring h (between 0 n) xs) first ∙ ap (λ m. ring 0 m xs) all ∙ ap (λ ys. take n ys) (append-nil xs)
-
--- and what is counted from elsewhere on is one of the places turned round
+-- what is counted from a place on is one of the places turned round
 pub held_turned : {X : Type 0} (h t mask : ℕ) (xs : List X) → (length xs ≡ 0) ⊎ IsPower (length xs) → mask ≡ length xs - 1 → between h t ≤ length xs
     → held h t xs ≡ take (between h t) (drop (bit_and h mask) xs ++ take (bit_and h mask) xs)
 held_turned h t mask xs (inl none) e fits =
@@ -106,16 +97,19 @@ held_turned h t mask xs (inr power) e fits =
     let is : bit_and h mask ≡ h % length xs = ap (λ m. bit_and h m) e ∙ masked (length xs) h power in
     ap (λ k. ring k (between h t) xs) (sym is)
 
+-- the place of the first one is one of the places
+pub front_within : {X : Type 0} (h mask : ℕ) (xs : List X) → mask ≡ length xs - 1 → bit_and h mask ≤ length xs
+front_within h mask xs e = omega (arith, and_le_r h mask)
+
 -- the places turned round, with more places after them
 pub held_grown : {X : Type 0} (h t mask n m : ℕ) (xs zs : List X) → (length xs ≡ 0) ⊎ IsPower (length xs) → mask ≡ length xs - 1
-    → between h t ≤ length xs → n ≡ between h t → n ≤ m → n < 2 ^ 64
-    → held 0 n (take m (drop (bit_and h mask) xs ++ take (bit_and h mask) xs) ++ zs) ≡ held h t xs
-held_grown h t mask n m xs zs power e fits count large few =
+    → between h t ≤ length xs → n ≡ between h t → n ≤ m
+    → take n (take m (drop (bit_and h mask) xs ++ take (bit_and h mask) xs) ++ zs) ≡ held h t xs
+held_grown h t mask n m xs zs power e fits count large =
     let rs = drop (bit_and h mask) xs ++ take (bit_and h mask) xs in
     let within : n ≤ length rs = turned_long (bit_and h mask) n xs (omega arith) in
     let kept : n ≤ length (take m rs) = omega (arith, length-take m rs) in
-    held_first n (take m rs ++ zs) few ∙ take-append-le n (take m rs) zs kept ∙ take-take n m rs large ∙ ap (λ k. take k rs) count
-    ∙ sym (held_turned h t mask xs power e fits)
+    take-append-le n (take m rs) zs kept ∙ take-take n m rs large ∙ ap (λ k. take k rs) count ∙ sym (held_turned h t mask xs power e fits)
 
 -- these use those above at other rings
 module _ {X : Type 0} (N k n : ℕ) (xs : List X) (head : k < N) (count : n ≤ N) (places : length xs ≡ N) where
@@ -163,52 +157,73 @@ module _ {X : Type 0} (N k n : ℕ) (xs : List X) (head : k < N) (count : n ≤ 
       ))
 
 module _ {X : Type 0} where
-  -- a list without the item at `at`, with those after it moved up, as far as the place i
-  abbrev pub closing : List X → ℕ → ℕ → List X
-  closing xs at i = take i (remove xs at) ++ drop i xs
+  -- the places while the items before `at` move up: those from the place i on have moved
+  abbrev pub opening : List X → ℕ → ℕ → List X
+  opening xs at i = take (i + 1) xs ++ drop i (remove xs at)
 
-  front : (xs : List X) (at i : ℕ) → at < length xs → i < length xs → length (take i (remove xs at)) ≡ i
-  front xs at i there within = length-take-le i (remove xs at) (omega (arith, length-remove xs at there))
+  front : (xs : List X) (i : ℕ) → i < length xs → length (take i xs) ≡ i
+  front xs i within = length-take-le i xs (omega arith)
 
-  closing_more : (xs : List X) (at i : ℕ) (d : X) → at ≤ i → i + 1 < length xs → set (closing xs at i) i (get_or xs (i + 1) d) ≡ closing xs at (i + 1)
-  closing_more xs at i d behind within =
-      let there : at < length xs = omega arith in
-      let kept : length (take i (remove xs at)) ≡ i = front xs at i there (omega arith) in
-      ap (λ ys. set (take i (remove xs at) ++ ys) i (get_or xs (i + 1) d)) (drop_more xs i d (omega arith))
-      ∙ set_at (take i (remove xs at)) (get_or xs i d) (drop (i + 1) xs) (get_or xs (i + 1) d) i kept
-      ∙ sym (append_assoc (take i (remove xs at)) (get_or xs (i + 1) d ∷ []) (drop (i + 1) xs))
-      ∙ ap (λ y. (take i (remove xs at) ++ y ∷ []) ++ drop (i + 1) xs) (sym (get_or-remove_above xs at d i behind there))
-      ∙ ap (λ ys. ys ++ drop (i + 1) xs) (sym (take_more (remove xs at) i d (omega (arith, length-remove xs at there))))
+  pub opening_all : (xs : List X) (at : ℕ) → at < length xs → opening xs at at ≡ xs
+  opening_all xs at there =
+      let long : length (take at xs) ≡ at = front xs at there in
+      let later : drop at (remove xs at) ≡ drop (suc at) xs =
+      ap (λ n. drop n (remove xs at)) (sym long) ∙ drop-append_seam (take at xs) (drop (suc at) xs) in
+      let next : at + 1 ≡ suc at = omega arith in
+      ap (λ ys. take (at + 1) xs ++ ys) later ∙ ap (λ n. take n xs ++ drop (suc at) xs) next ∙ take-append-drop (suc at) xs
 
-  read : (xs : List X) (at i : ℕ) (d : X) → at ≤ i → i + 1 < length xs → get_or (closing xs at i) (i + 1) d ≡ get_or xs (i + 1) d
-  read xs at i d behind within =
-      get_or-append_right (take i (remove xs at)) (drop i xs) i (i + 1) d (front xs at i (omega arith) (omega arith)) (omega arith)
-      ∙ get_or-drop i xs (i + 1 - i) d ∙ ap (λ j. get_or xs j d) (omega arith)
+  opening_more : (xs : List X) (at i : ℕ) (d : X) → i < at → at < length xs
+      → set (opening xs at (i + 1)) (i + 1) (get_or xs i d) ≡ opening xs at i
+  opening_more xs at i d before there =
+      let kept : length (take (i + 1) xs) ≡ i + 1 = front xs (i + 1) (omega arith) in
+      let some : i < length (remove xs at) = omega (arith, length-remove xs at there) in
+      let below : get_or (remove xs at) i d ≡ get_or xs i d = get_or-remove_below xs at d i before there in
+      ap (λ ys. set (ys ++ drop (i + 1) (remove xs at)) (i + 1) (get_or xs i d)) (take_more xs (i + 1) d (omega arith))
+      ∙ ap (λ ys. set ys (i + 1) (get_or xs i d)) (append_assoc (take (i + 1) xs) (get_or xs (i + 1) d ∷ []) (drop (i + 1) (remove xs at)))
+      ∙ set_at (take (i + 1) xs) (get_or xs (i + 1) d) (drop (i + 1) (remove xs at)) (get_or xs i d) (i + 1) kept
+      ∙ ap (λ y. take (i + 1) xs ++ y ∷ drop (i + 1) (remove xs at)) (sym below)
+      ∙ ap (λ ys. take (i + 1) xs ++ ys) (sym (drop_more (remove xs at) i d some))
 
-  pub closed_more : (N k n : ℕ) (ys xs : List X) (at i : ℕ) (x : X) → k < N → n ≤ N → length ys ≡ N → n ≡ length xs → ring k n ys ≡ closing xs at i
-      → at ≤ i → i + 1 < n
-      → x ≡ get_or ys ((k + (i + 1)) % N) x → ring k n (set ys ((k + i) % N) x) ≡ closing xs at (i + 1)
-  closed_more N k n ys xs at i x head count places long was behind within is =
-      let is_next : x ≡ get_or xs (i + 1) x =
-      is ∙ sym (get_or-ring N k n ys head count places (i + 1) x within) ∙ ap (λ zs. get_or zs (i + 1) x) was ∙ read xs at i x behind (omega arith) in
-      ring_set N k n ys head count places i x (omega arith) ∙ ap (λ zs. set zs i x) was ∙ ap (set (closing xs at i) i) is_next
-      ∙ closing_more xs at i x behind (omega arith)
+  read : (xs : List X) (at i : ℕ) (d : X) → i < at → at < length xs → get_or (opening xs at (i + 1)) i d ≡ get_or xs i d
+  read xs at i d before there =
+      get_or_append_left (take (i + 1 + 1) xs) (drop (i + 1) (remove xs at)) d i (omega (arith, length-take-le (i + 1 + 1) xs (omega arith)))
+      ∙ get_or-take (i + 1 + 1) xs i d (omega arith)
 
-  pub closed_all : (k m n : ℕ) (ys xs : List X) (at : ℕ) → m ≡ length xs → n + 1 ≡ m → ring k m ys ≡ closing xs at n → at < m → ring k n ys ≡ remove xs at
-  closed_all k m n ys xs at long more was there =
-      sym (take-take n m (drop k ys ++ take k ys) (omega arith)) ∙ ap (take n) was
-      ∙ take_at (take n (remove xs at)) (drop n xs) n (front xs at n (omega arith) (omega arith))
-      ∙ take_all n (remove xs at) (omega (arith, length-remove xs at (omega arith)))
+  pub opened_more : (N k n : ℕ) (ys xs : List X) (at i : ℕ) (x : X) → k < N → n ≤ N → length ys ≡ N → n ≡ length xs
+      → ring k n ys ≡ opening xs at (i + 1) → i < at → at < n
+      → x ≡ get_or ys ((k + i) % N) x → ring k n (set ys ((k + (i + 1)) % N) x) ≡ opening xs at i
+  opened_more N k n ys xs at i x head count places long was before there is =
+      let is_earlier : x ≡ get_or xs i x =
+      is ∙ sym (get_or-ring N k n ys head count places i x (omega arith)) ∙ ap (λ zs. get_or zs i x) was ∙ read xs at i x before (omega arith) in
+      ring_set N k n ys head count places (i + 1) x (omega arith) ∙ ap (λ zs. set zs (i + 1) x) was ∙ ap (set (opening xs at (i + 1)) (i + 1)) is_earlier
+      ∙ opening_more xs at i x before (omega arith)
 
--- HOW MANY WERE TAKEN OUT: a count in two parts
-gone_more : (more head : ℕ) → (more + head) % 2 ^ 64 < 2 ^ 63 → (more + head + 1) % 2 ^ 64 ≡ (more + head) % 2 ^ 64 + 1
-gone_more more head few = sym (mod-add-mod (more + head) (2 ^ 64) 1) ∙ mod-eq_of_lt (omega arith)
+  pub opened_all : (xs : List X) (at : ℕ) → at < length xs → drop 1 (opening xs at 0) ≡ remove xs at
+  opened_all xs at there =
+      let long : length (take 1 xs) ≡ 1 = length-take-le 1 xs (omega arith) in
+      ap (λ n. drop n (opening xs at 0)) (sym long) ∙ drop-append_seam (take 1 xs) (remove xs at)
 
-pub gone_removed : (more head : ℕ) → (more + head) % 2 ^ 64 < 2 ^ 63 → ((more + 1) % 2 ^ 64 + head) % 2 ^ 64 ≡ (more + head) % 2 ^ 64 + 1
-gone_removed more head few = mod-add-mod (more + 1) (2 ^ 64) head ∙ ap (λ (n : ℕ). n % 2 ^ 64) (the_next more head) ∙ gone_more more head few
-  where
-    the_next : (a b : ℕ) → a + 1 + b ≡ a + b + 1
-    the_next a b = omega arith
+-- the places turned back: the first one comes to the place k
+pub ring_turned_back : {X : Type 0} (N k n : ℕ) (xs : List X) → length xs ≡ N → k ≤ N
+    → ring k n (drop (N - k) xs ++ take (N - k) xs) ≡ take n xs
+ring_turned_back N k n xs places within =
+    let later = drop (N - k) xs in
+    let earlier = take (N - k) xs in
+    let long : length later ≡ k = length-drop (N - k) xs ∙ omega arith in
+    let dropped : drop k (later ++ earlier) ≡ earlier = ap (λ m. drop m (later ++ earlier)) (sym long) ∙ drop-append_seam later earlier in
+    let taken : take k (later ++ earlier) ≡ later = ap (λ m. take m (later ++ earlier)) (sym long) ∙ take-append_seam later earlier in
+    ap (λ ys. take n (ys ++ take k (later ++ earlier))) dropped ∙ ap (λ ys. take n (earlier ++ ys)) taken ∙ ap (λ ys. take n ys) (take-append-drop (N - k) xs)
+
+-- turned round and back
+pub turned_back : {X : Type 0} (k : ℕ) (xs : List X) → k ≤ length xs → slice_rotate_right (drop k xs ++ take k xs) k ≡ xs
+turned_back k xs within =
+    let later = drop k xs in
+    let earlier = take k xs in
+    let all : length (later ++ earlier) - k ≡ length later =
+    simp (length-append, length-drop) (omega (arith, length-take-le k xs within)) in
+    ap (λ n. drop n (later ++ earlier) ++ take n (later ++ earlier)) all
+    ∙ ap (λ ys. ys ++ take (length later) (later ++ earlier)) (drop-append_seam later earlier)
+    ∙ ap (λ ys. earlier ++ ys) (take-append_seam later earlier) ∙ take-append-drop k xs
 
 -- WHAT IS HELD
 module _ {X : Type 0} (h t : ℕ) (xs : List X) (power : IsPower (length xs)) (few : length xs ≤ 2 ^ 63) (begun : h < 2 ^ 64) (ended : t < 2 ^ 64)

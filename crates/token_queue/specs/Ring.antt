@@ -9,7 +9,7 @@ ring head count xs = take count (drop head xs ++ take head xs)
 abbrev pub between : ℕ → ℕ → ℕ
 between head tail = (tail + (2 ^ 64 - head)) % 2 ^ 64
 
--- what was put in and not taken out, each in the place of its count
+-- what was put in and not taken out, the oldest in the place of the count of those that were taken out
 abbrev pub held : {X : Type 0} → ℕ → ℕ → List X → List X
 held head tail xs = ring (head % length xs) (between head tail) xs
 

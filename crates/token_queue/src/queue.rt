@@ -19,7 +19,8 @@ const FILLER: Token = Token {
 const FEWEST: usize = 4;
 
 /// Tokens, oldest first. The number of places is 0 or a power of two. Tokens are counted as they come and as they go, and the
-/// counts begin again at 2 ^ 64: a token is in the place of its count modulo the number of places.
+/// counts begin again at 2 ^ 64. The oldest token is in the place whose number is how many were taken out, modulo the number of
+/// places, and each later one in the next place; a growth keeps that.
 #[derive(Drop)]
 pub struct TokenQueue<A: Allocator> {
     places: Vec<PackedToken, A>,
@@ -29,8 +30,6 @@ pub struct TokenQueue<A: Allocator> {
     head: usize,
     /// How many were put in.
     tail: usize,
-    /// What the count of all that were taken out is more than `head`.
-    more: usize,
 }
 
 impl<A: Allocator> Model for TokenQueue<A> {
@@ -43,7 +42,7 @@ impl<A: Allocator> Model for TokenQueue<A> {
     ghost view = { λ q. record {
       items = held q.head q.tail q.places.items;
       room = length q.places.items;
-      gone = (q.more + q.head) % 2 ^ 64;
+      gone = q.head;
     } };
 
     ghost invariant = { λ q. IsRing (length q.places.items) q.mask q.head q.tail };
@@ -72,7 +71,6 @@ impl<A: Allocator> TokenQueue<A> {
             mask: 0,
             head: 0,
             tail: 0,
-            more: 0,
         }
     }
 
@@ -89,7 +87,15 @@ impl<A: Allocator> TokenQueue<A> {
     pub fn gone(&self) -> usize
         ensures { result ≡ self.now.gone }
     {
-        self.more.wrapping_add(self.head)
+        self.head
+    }
+
+    /// How many tokens were put in, modulo 2 ^ 64. Contracts say so where fewer than 2 ^ 63 were taken out.
+    #[inline(always)]
+    pub fn come(&self) -> usize
+        ensures { self.now.gone < 2 ^ 63 → result ≡ self.now.gone + length self.now.items }
+    {
+        self.tail
     }
 
     /// For how many more tokens there is room.
@@ -127,7 +133,7 @@ impl<A: Allocator> TokenQueue<A> {
     }
 
     // Takes at least twice the room, and enough for `tokens` more tokens.
-    #[tactic(auto, using(crate::proofs::Rings::held_first, crate::proofs::Rings::held_turned, crate::proofs::Rings::held_long))]
+    #[tactic(auto, using(crate::proofs::Rings::held_turned, crate::proofs::Rings::held_long))]
     #[inline(never)]
     fn grow(&mut self, tokens: usize) -> Result<(), AllocError>
         ensures items { self.new.items ≡ self.old.items }
@@ -144,25 +150,15 @@ impl<A: Allocator> TokenQueue<A> {
             .max(FEWEST)
             .checked_next_power_of_two()
             .ok_or(AllocError)?;
-        self.places.rotate_left(self.head & self.mask);
-        self.more = self.more.wrapping_add(self.head);
-        self.head = 0;
-        self.tail = count;
-        self.places.resize(places, PackedToken::pack(FILLER))?;
+        let front = self.head & self.mask;
+        self.places.rotate_left(front);
+        if let Err(error) = self.places.resize(places, PackedToken::pack(FILLER)) {
+            self.places.rotate_right(front);
+            return Err(error);
+        }
         self.mask = places - 1;
+        self.places.rotate_right(self.head & self.mask);
         Ok(())
-    }
-
-    /// Puts a token last, where there is room.
-    #[inline(always)]
-    pub fn push_back_reserved(&mut self, token: Token)
-        requires { length self.old.items < self.old.room }
-        ensures items { self.new.items ≡ self.old.items ++ token ∷ [] }
-        ensures len { length self.new.items ≡ length self.old.items + 1 }
-        ensures room { self.new.room ≡ self.old.room }
-        ensures gone { self.new.gone ≡ self.old.gone }
-    {
-        self.push_packed(PackedToken::pack(token));
     }
 
     /// Puts a packed token last, where there is room.
@@ -197,6 +193,16 @@ impl<A: Allocator> TokenQueue<A> {
         self.places[place(self.places.len(), self.mask, self.head.wrapping_add(at))]
     }
 
+    /// The oldest token as it lies there, by how many were taken out.
+    #[inline(always)]
+    pub fn oldest(&self, gone: usize) -> PackedToken
+        requires some { 0 < length self.now.items }
+        requires gone { gone ≡ self.now.gone }
+        ensures { result ≡ slice_index_or self.now.items 0 result }
+    {
+        self.places[place(self.places.len(), self.mask, gone)]
+    }
+
     /// Takes the oldest token out.
     #[inline(always)]
     pub fn pop_front(&mut self)
@@ -209,7 +215,7 @@ impl<A: Allocator> TokenQueue<A> {
         self.head = self.head.wrapping_add(1);
     }
 
-    /// Takes the token of this number out, the oldest being 0. Those after it close up.
+    /// Takes the token of this number out, the oldest being 0. Those before it move up.
     #[inline(never)]
     pub fn remove(&mut self, at: usize)
         requires { at < length self.old.items }
@@ -219,12 +225,12 @@ impl<A: Allocator> TokenQueue<A> {
         ensures gone { self.old.gone < 2 ^ 63 → self.new.gone ≡ self.old.gone + 1 }
     {
         let places = self.places.len();
-        let last = self.len() - 1;
-        for before in at..last {
-            let next = self.places[place(places, self.mask, self.head.wrapping_add(before + 1))];
-            self.places[place(places, self.mask, self.head.wrapping_add(before))] = next;
+        let front = self.head;
+        for moved in 0..at {
+            let before = at - moved - 1;
+            let earlier = self.places[place(places, self.mask, front.wrapping_add(before))];
+            self.places[place(places, self.mask, front.wrapping_add(before + 1))] = earlier;
         }
-        self.tail = self.tail.wrapping_sub(1);
-        self.more = self.more.wrapping_add(1);
+        self.head = front.wrapping_add(1);
     }
 }

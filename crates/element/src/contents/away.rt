@@ -20,7 +20,7 @@ use crate::instructions::Instructions;
 use istructure::{FetchAnswer, StoreAnswer};
 use packed::token::PackedToken;
 use std::alloc::Allocator;
-use tags::token::{Cont, FrameId, To, Token, Word};
+use tags::token::{Cont, FrameId, To, Word};
 use tags::value::Value;
 
 impl<'m, A: Allocator> Contents<'m, A> {
@@ -31,7 +31,7 @@ impl<'m, A: Allocator> Contents<'m, A> {
         code: &C,
         at: usize,
         token: &PackedToken,
-        sent: &mut Vec<Token, A>,
+        sent: &mut Vec<PackedToken, A>,
     ) -> bool
     where
         A: Clone,
@@ -58,7 +58,7 @@ impl<'m, A: Allocator> Contents<'m, A> {
         _code: &C,
         at: usize,
         token: PackedToken,
-        sent: &mut Vec<Token, A>,
+        sent: &mut Vec<PackedToken, A>,
     ) -> bool
     where
         A: Clone,
@@ -90,7 +90,7 @@ impl<'m, A: Allocator> Contents<'m, A> {
         at: usize,
         token: &PackedToken,
         cell: u32,
-        sent: &mut Vec<Token, A>,
+        sent: &mut Vec<PackedToken, A>,
     ) -> bool
     where
         A: Clone,
@@ -131,7 +131,7 @@ impl<'m, A: Allocator> Contents<'m, A> {
         token: &PackedToken,
         cell: u32,
         value: &Value,
-        sent: &mut Vec<Token, A>,
+        sent: &mut Vec<PackedToken, A>,
     ) -> bool
     where
         A: Clone,
@@ -173,7 +173,7 @@ impl<'m, A: Allocator> Contents<'m, A> {
         &mut self,
         at: usize,
         token: &PackedToken,
-        sent: &mut Vec<Token, A>,
+        sent: &mut Vec<PackedToken, A>,
     ) -> bool
         requires alone { T.ALONE ≡ true → self.old.elements ≡ 1 }
         requires some { self.old.element < self.old.elements }
@@ -210,7 +210,7 @@ impl<'m, A: Allocator> Contents<'m, A> {
         at: usize,
         _token: &PackedToken,
         frame: FrameId,
-        sent: &mut Vec<Token, A>,
+        sent: &mut Vec<PackedToken, A>,
     ) -> bool
         requires alone { T.ALONE ≡ true → self.old.elements ≡ 1 }
         requires some { self.old.element < self.old.elements }
@@ -244,7 +244,7 @@ impl<'m, A: Allocator> Contents<'m, A> {
         at: usize,
         cont: Cont,
         word: Word,
-        sent: &mut Vec<Token, A>,
+        sent: &mut Vec<PackedToken, A>,
     ) -> bool
         requires alone { T.ALONE ≡ true → self.old.elements ≡ 1 }
         requires some { self.old.element < self.old.elements }

@@ -75,7 +75,7 @@ impl<'m, A: Allocator> Contents<'m, A> {
         code: &C,
         at: usize,
         token: &PackedToken,
-        sent: &mut Vec<Token, A>,
+        sent: &mut Vec<PackedToken, A>,
     ) -> bool
     where
         A: Clone,
@@ -111,7 +111,7 @@ impl<'m, A: Allocator> Contents<'m, A> {
         at: usize,
         token: &PackedToken,
         point: Point,
-        sent: &mut Vec<Token, A>,
+        sent: &mut Vec<PackedToken, A>,
     ) -> bool
         requires alone { T.ALONE ≡ true → self.old.elements ≡ 1 }
         requires can { CanAct (C.program code.now) (C.width code.now) (held_in self.old) at token.now }
@@ -179,7 +179,7 @@ impl<'m, A: Allocator> Contents<'m, A> {
         at: usize,
         token: &PackedToken,
         point: Point,
-        sent: &mut Vec<Token, A>,
+        sent: &mut Vec<PackedToken, A>,
     ) -> bool
         requires alone { T.ALONE ≡ true → self.old.elements ≡ 1 }
         requires can { CanAct (C.program code.now) (C.width code.now) (held_in self.old) at token.now }
@@ -230,7 +230,7 @@ impl<'m, A: Allocator> Contents<'m, A> {
         code: &C,
         arrival: &PackedArrival,
         instr: &Instruction,
-        sent: &mut Vec<Token, A>,
+        sent: &mut Vec<PackedToken, A>,
     ) -> bool
         requires alone { T.ALONE ≡ true → self.old.elements ≡ 1 }
         requires can { CanAct (C.program code.now) (C.width code.now) (held_in self.old) arrival.now.at arrival.now.token }
@@ -302,7 +302,7 @@ impl<'m, A: Allocator> Contents<'m, A> {
         code: &C,
         arrival: &PackedArrival,
         instr: &Instruction,
-        sent: &mut Vec<Token, A>,
+        sent: &mut Vec<PackedToken, A>,
     ) -> bool
         requires alone { T.ALONE ≡ true → self.old.elements ≡ 1 }
         requires can { CanAct (C.program code.now) (C.width code.now) (held_in self.old) arrival.now.at arrival.now.token }
@@ -336,7 +336,7 @@ impl<'m, A: Allocator> Contents<'m, A> {
         code: &C,
         arrival: &PackedArrival,
         instr: &Instruction,
-        sent: &mut Vec<Token, A>,
+        sent: &mut Vec<PackedToken, A>,
     ) -> bool
         requires alone { T.ALONE ≡ true → self.old.elements ≡ 1 }
         requires can { CanAct (C.program code.now) (C.width code.now) (held_in self.old) arrival.now.at arrival.now.token }
@@ -376,7 +376,7 @@ impl<'m, A: Allocator> Contents<'m, A> {
         code: &C,
         arrival: &PackedArrival,
         instr: &Instruction,
-        sent: &mut Vec<Token, A>,
+        sent: &mut Vec<PackedToken, A>,
     ) -> bool
         requires alone { T.ALONE ≡ true → self.old.elements ≡ 1 }
         requires can { CanAct (C.program code.now) (C.width code.now) (held_in self.old) arrival.now.at arrival.now.token }
@@ -408,7 +408,12 @@ impl<'m, A: Allocator> Contents<'m, A> {
 
     // The token is taken out, and one for the frame manager is made.
     #[inline(always)]
-    fn ask<T: Company>(&mut self, at: usize, token: PackedToken, sent: &mut Vec<Token, A>) -> bool
+    fn ask<T: Company>(
+        &mut self,
+        at: usize,
+        token: PackedToken,
+        sent: &mut Vec<PackedToken, A>,
+    ) -> bool
         requires alone { T.ALONE ≡ true → self.old.elements ≡ 1 }
         requires some { self.old.element < self.old.elements }
         requires manager { token.to ≡ To.Manager }
@@ -438,7 +443,7 @@ impl<'m, A: Allocator> Contents<'m, A> {
         place: usize,
         held: Slot,
         token: PackedToken,
-        sent: &mut Vec<Token, A>,
+        sent: &mut Vec<PackedToken, A>,
     ) -> bool
         requires alone { T.ALONE ≡ true → self.old.elements ≡ 1 }
         requires some { self.old.element < self.old.elements }
@@ -487,7 +492,7 @@ impl<'m, A: Allocator> Contents<'m, A> {
         place: usize,
         instr: &Instruction,
         matched: &Matched,
-        sent: &mut Vec<Token, A>,
+        sent: &mut Vec<PackedToken, A>,
     ) -> bool
         requires alone { T.ALONE ≡ true → self.old.elements ≡ 1 }
         requires some { self.old.element < self.old.elements }
@@ -576,7 +581,7 @@ impl<'m, A: Allocator> Contents<'m, A> {
         arrival: &PackedArrival,
         cleared: Option<usize>,
         leaving: Leaving,
-        sent: &mut Vec<Token, A>,
+        sent: &mut Vec<PackedToken, A>,
     ) -> bool
         requires alone { T.ALONE ≡ true → self.old.elements ≡ 1 }
         requires some { self.old.element < self.old.elements }
@@ -614,7 +619,7 @@ impl<'m, A: Allocator> Contents<'m, A> {
         place: usize,
         frame: FrameId,
         after: PackedToken,
-        sent: &mut Vec<Token, A>,
+        sent: &mut Vec<PackedToken, A>,
     ) -> bool
         requires alone { T.ALONE ≡ true → self.old.elements ≡ 1 }
         requires some { self.old.element < self.old.elements }
@@ -646,7 +651,7 @@ impl<'m, A: Allocator> Contents<'m, A> {
         code: &C,
         token: &Token,
         arrival: &Arrival,
-        sent: &mut Vec<Token, A>,
+        sent: &mut Vec<PackedToken, A>,
     ) -> Stepped
         requires can { CanAct (C.program code.now) (C.width code.now) (held_in self.old) arrival.now.at token.now }
         requires address { token.now.to ≡ To.Instr arrival.now.point.frame arrival.now.point.ip arrival.now.port }
@@ -665,7 +670,7 @@ impl<'m, A: Allocator> Contents<'m, A> {
         token: &Token,
         arrival: &Arrival,
         instr: &Instruction,
-        sent: &mut Vec<Token, A>,
+        sent: &mut Vec<PackedToken, A>,
     ) -> Stepped
         requires can { CanAct (C.program code.now) (C.width code.now) (held_in self.old) arrival.now.at token.now }
         requires address { token.now.to ≡ To.Instr arrival.now.point.frame arrival.now.point.ip arrival.now.port }

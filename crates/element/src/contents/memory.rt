@@ -15,6 +15,7 @@ use super::Contents;
 use crate::firing::answer;
 use crate::lane::Stepped;
 use istructure::{FetchAnswer, StoreAnswer};
+use packed::token::PackedToken;
 use std::alloc::Allocator;
 use tags::token::{Token, Word};
 use tags::value::Value;
@@ -25,7 +26,7 @@ impl<'m, A: Allocator> Contents<'m, A> {
         at: usize,
         token: Token,
         cell: u32,
-        sent: &mut Vec<Token, A>,
+        sent: &mut Vec<PackedToken, A>,
     ) -> Stepped
     where
         A: Clone,
@@ -65,7 +66,7 @@ impl<'m, A: Allocator> Contents<'m, A> {
         token: Token,
         cell: u32,
         value: &Value,
-        sent: &mut Vec<Token, A>,
+        sent: &mut Vec<PackedToken, A>,
     ) -> Stepped
     where
         A: Clone,
@@ -102,7 +103,7 @@ impl<'m, A: Allocator> Contents<'m, A> {
     }
 
     // Sends a value to each reader that is listed, in order, and clears the list.
-    fn answer_all(&mut self, value: &Value, sent: &mut Vec<Token, A>)
+    fn answer_all(&mut self, value: &Value, sent: &mut Vec<PackedToken, A>)
         requires some { 0 < self.old.elements }
         requires room { length self.old.queue.items + vec_len self.old.answered + 1 ≤ self.old.queue.room }
         requires sent_room { vec_len sent.old + vec_len self.old.answered + 1 ≤ vec_capacity sent.old }

@@ -13,6 +13,7 @@ use super::Contents;
 use crate::firing::answer;
 use crate::lane::Stepped;
 use frame_manager::{Manager, NotOut};
+use packed::token::PackedToken;
 use std::alloc::{AllocError, Allocator};
 use tags::token::{Cont, FrameId, Token, Word};
 
@@ -21,7 +22,7 @@ impl<'m, A: Allocator> Contents<'m, A> {
         &mut self,
         at: usize,
         token: Token,
-        sent: &mut Vec<Token, A>,
+        sent: &mut Vec<PackedToken, A>,
     ) -> Stepped
         requires some { 0 < self.old.elements }
         requires there { at < length self.old.queue.items }
@@ -57,7 +58,7 @@ impl<'m, A: Allocator> Contents<'m, A> {
         at: usize,
         token: Token,
         frame: FrameId,
-        sent: &mut Vec<Token, A>,
+        sent: &mut Vec<PackedToken, A>,
     ) -> Stepped
         requires some { 0 < self.old.elements }
         requires there { at < length self.old.queue.items }

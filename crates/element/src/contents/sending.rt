@@ -10,7 +10,7 @@ ghost use Rattle.element.specs.Fired.{point_of, tokens_of, outside_of, to_half};
 
 use super::Contents;
 use super::executing::PackedArrival;
-use crate::bundled::{element_for, owner_of};
+use crate::bundled::{element_for, element_of_packed};
 use crate::company::Company;
 use crate::firing::{Made, Point, SIGNAL};
 use crate::instructions::dest_in;
@@ -41,7 +41,7 @@ impl<'m, A: Allocator> Contents<'m, A> {
     pub(super) fn make_room(
         &mut self,
         tokens: usize,
-        sent: &mut Vec<Token, A>,
+        sent: &mut Vec<PackedToken, A>,
     ) -> Result<(), AllocError>
         ensures held { held_in self.new ≡ held_in self.old }
         ensures sent { sent.new.items ≡ sent.old.items }
@@ -79,7 +79,7 @@ impl<'m, A: Allocator> Contents<'m, A> {
 
     // Puts a token last into the queue, or last among those for other elements.
     #[inline(always)]
-    pub(super) fn send(&mut self, token: Token, sent: &mut Vec<Token, A>)
+    pub(super) fn send(&mut self, token: Token, sent: &mut Vec<PackedToken, A>)
         requires some { 0 < self.old.elements }
         requires room { length self.old.queue.items < self.old.queue.room }
         requires sent_room { vec_len sent.old < vec_capacity sent.old }
@@ -90,8 +90,10 @@ impl<'m, A: Allocator> Contents<'m, A> {
         ensures sent_len { vec_len sent.new ≤ vec_len sent.old + 1 }
         ensures sent_capacity { vec_capacity sent.new ≡ vec_capacity sent.old }
     {
-        if self.serves(&token.to) {
-            self.queue.push_back_reserved(token);
+        let serves = self.serves(&token.to);
+        let token = PackedToken::pack(token);
+        if serves {
+            self.queue.push_packed(token);
         } else {
             sent.push_reserved(token);
         }
@@ -99,7 +101,13 @@ impl<'m, A: Allocator> Contents<'m, A> {
 
     // Sends a word to the destination that a half word gives, if it gives one.
     #[inline(always)]
-    pub(super) fn send_to(&mut self, point: Point, word: &Word, half: u32, sent: &mut Vec<Token, A>)
+    pub(super) fn send_to(
+        &mut self,
+        point: Point,
+        word: &Word,
+        half: u32,
+        sent: &mut Vec<PackedToken, A>,
+    )
         requires some { 0 < self.old.elements }
         requires near { point.ip < 2 ^ 30 }
         requires room { length self.old.queue.items < self.old.queue.room }
@@ -139,26 +147,25 @@ impl<'m, A: Allocator> Contents<'m, A> {
         }
     }
 
-    // Whether a packed token goes to an instruction of a frame that lies here.
+    // Whether this element takes the packed token.
     #[inline(always)]
-    pub(super) fn keeps<T: Company>(&self, token: &PackedToken) -> bool
+    fn keeps<T: Company>(&self, token: &PackedToken) -> bool
         requires alone { T.ALONE ≡ true → self.now.elements ≡ 1 }
         requires there { self.now.element < self.now.elements }
         ensures own { result ≡ true → element_of self.now.elements token.now.to ≡ self.now.element }
+        ensures other { result ≡ false → (element_of self.now.elements token.now.to == self.now.element) ≡ false }
         ensures together { result ≡ false → T.ALONE ≡ false }
     {
-        if T::ALONE {
-            return true;
-        }
-        match token.frame() {
-            Some(frame) => owner_of(frame, self.elements) == self.element,
-            None => false,
-        }
+        T::ALONE || element_of_packed(token, self.elements) == self.element
     }
 
     // Puts a packed token last into the queue, or last among those for other elements.
     #[inline(always)]
-    pub(super) fn send_packed<T: Company>(&mut self, token: PackedToken, sent: &mut Vec<Token, A>)
+    pub(super) fn send_packed<T: Company>(
+        &mut self,
+        token: PackedToken,
+        sent: &mut Vec<PackedToken, A>,
+    )
         requires alone { T.ALONE ≡ true → self.old.elements ≡ 1 }
         requires some { self.old.element < self.old.elements }
         requires room { length self.old.queue.items < self.old.queue.room }
@@ -173,13 +180,17 @@ impl<'m, A: Allocator> Contents<'m, A> {
         if self.keeps::<T>(&token) {
             self.send_here(token);
         } else {
-            self.send_away(token, sent);
+            sent.push_reserved(token);
         }
     }
 
     // The same of a token that goes to element 0.
     #[inline(always)]
-    pub(super) fn send_to_first<T: Company>(&mut self, token: PackedToken, sent: &mut Vec<Token, A>)
+    pub(super) fn send_to_first<T: Company>(
+        &mut self,
+        token: PackedToken,
+        sent: &mut Vec<PackedToken, A>,
+    )
         requires alone { T.ALONE ≡ true → self.old.elements ≡ 1 }
         requires some { self.old.element < self.old.elements }
         requires first { element_of self.old.elements token.to ≡ 0 }
@@ -195,24 +206,8 @@ impl<'m, A: Allocator> Contents<'m, A> {
         if T::ALONE || self.element == 0 {
             self.send_here(token);
         } else {
-            self.send_away(token, sent);
+            sent.push_reserved(token);
         }
-    }
-
-    // The same, out of line, where the token mostly goes to another element.
-    #[inline(never)]
-    fn send_away(&mut self, token: PackedToken, sent: &mut Vec<Token, A>)
-        requires some { 0 < self.old.elements }
-        requires room { length self.old.queue.items < self.old.queue.room }
-        requires sent_room { vec_len sent.old < vec_capacity sent.old }
-        ensures held { held_in self.new ≡ queued (held_in self.old) (token ∷ []) }
-        ensures sent { sent.new.items ≡ sent.old.items ++ elsewhere (shape_of self.old) (token ∷ []) }
-        ensures len { length self.new.queue.items ≤ length self.old.queue.items + 1 }
-        ensures capacity { self.new.queue.room ≡ self.old.queue.room }
-        ensures sent_len { vec_len sent.new ≤ vec_len sent.old + 1 }
-        ensures sent_capacity { vec_capacity sent.new ≡ vec_capacity sent.old }
-    {
-        self.send(token.unpack(), sent);
     }
 
     // Puts a token for this element last into the queue.
@@ -230,7 +225,7 @@ impl<'m, A: Allocator> Contents<'m, A> {
 
     // Sends what leaves the frame, in order.
     #[inline(always)]
-    pub(super) fn send_outside(&mut self, made: &Made, sent: &mut Vec<Token, A>)
+    pub(super) fn send_outside(&mut self, made: &Made, sent: &mut Vec<PackedToken, A>)
         requires some { 0 < self.old.elements }
         requires room { length self.old.queue.items + 2 ≤ self.old.queue.room }
         requires sent_room { vec_len sent.old + 2 ≤ vec_capacity sent.old }
@@ -252,7 +247,7 @@ impl<'m, A: Allocator> Contents<'m, A> {
 
     // Sends what an instruction made, in order.
     #[inline(always)]
-    pub(super) fn send_all(&mut self, point: Point, made: &Made, sent: &mut Vec<Token, A>)
+    pub(super) fn send_all(&mut self, point: Point, made: &Made, sent: &mut Vec<PackedToken, A>)
         requires some { 0 < self.old.elements }
         requires near { point.ip < 2 ^ 30 }
         requires room { length self.old.queue.items + 4 ≤ self.old.queue.room }

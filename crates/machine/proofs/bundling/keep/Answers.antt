@@ -6,17 +6,17 @@ use Rattle.machine.proofs.bundling.keep.Goals as goal
 pub returns-in_err-push-clause-err : goal.returns-in_err-push-clause-err
 returns-in_err-push-clause-err g c =
     let below = element_below c.args.elements c.args.token.to c.requires.some in
-    let e = c.element_for-to.ensures in
+    let e = c.element_of_packed-to.ensures in
     let n = c.requires.count in
-    let low : c.element_for-to.result < length c.args.unposted.now.items = omega (arith, below, e, n) in
-    on_err c.from_residual.result _ (keeps_as_many c.args.elements c.args.unposted.now.items c.element_for-to.result c.index_mut.result.now
+    let low : c.element_of_packed-to.result < length c.args.unposted.now.items = omega (arith, below, e, n) in
+    on_err c.from_residual.result _ (keeps_as_many c.args.elements c.args.unposted.now.items c.element_of_packed-to.result c.index_mut.result.now
     c.push.new.self n low c.index_mut.ensures.value c.in_err-push.ensures.items)
 
 pub returns-clause-ok : goal.returns-clause-ok
 returns-clause-ok g c =
     let below = element_below c.args.elements c.args.token.to c.requires.some in
-    let e = c.element_for-to.ensures in
+    let e = c.element_of_packed-to.ensures in
     let n = c.requires.count in
-    let low : c.element_for-to.result < length c.args.unposted.now.items = omega (arith, below, e, n) in
-    keeps_more c.args.elements c.args.unposted.now.items c.element_for-to.result c.index_mut.result.now c.push.new.self c.args.token n low
+    let low : c.element_of_packed-to.result < length c.args.unposted.now.items = omega (arith, below, e, n) in
+    keeps_more c.args.elements c.args.unposted.now.items c.element_of_packed-to.result c.index_mut.result.now c.push.new.self c.args.token n low
     c.index_mut.ensures.value c.in_ok-push.ensures.items (sym e)

@@ -20,9 +20,9 @@ receive_one-requires g c =
     let x = c.index_mut-turner.result.now in
     let n = c.args.elements in
     let t = c.args.token in
-    let i = c.element_for-element.result in
+    let i = c.element_of_packed-element.result in
     let below = element_below n t.to c.requires.some in
-    let e = c.element_for-element.ensures in
+    let e = c.element_of_packed-element.ensures in
     let count = c.requires.count in
     let low : i < length ts = omega arith in
     let fixed_count = length-map ts lane_fixed in
@@ -42,13 +42,13 @@ returns-clause-ok g c =
     let n = c.args.elements in
     let t = c.args.token in
     let below = element_below n t.to c.requires.some in
-    let e = c.element_for-element.ensures in
+    let e = c.element_of_packed-element.ensures in
     let count = c.requires.count in
-    let low : c.element_for-element.result < length ts = omega arith in
-    let at : element_of n t.to ≡ c.element_for-element.result = omega arith in
+    let low : c.element_of_packed-element.result < length ts = omega arith in
+    let at : element_of n t.to ≡ c.element_of_packed-element.result = omega arith in
     ok_then c.receive_one.result (c.receive_one.new.turner.lane ≡ with_more x.lane (t ∷ []))
-    (lanes_held (slice_set ts c.element_for-element.result c.receive_one.new.turner) ≡ delivered (t ∷ []) (lanes_held ts))
-    (λ got. received ts n c.element_for-element.result x c.receive_one.new.turner t c.requires.at at low c.index_mut-turner.ensures.value
+    (lanes_held (slice_set ts c.element_of_packed-element.result c.receive_one.new.turner) ≡ delivered (t ∷ []) (lanes_held ts))
+    (λ got. received ts n c.element_of_packed-element.result x c.receive_one.new.turner t c.requires.at at low c.index_mut-turner.ensures.value
     (ap (λ (l : LaneView). held_of l) got)) c.receive_one.ensures.ok
 
 pub returns-clause-err : goal.returns-clause-err
@@ -57,12 +57,12 @@ returns-clause-err g c =
     let x = c.index_mut-turner.result.now in
     let n = c.args.elements in
     let below = element_below n c.args.token.to c.requires.some in
-    let e = c.element_for-element.ensures in
+    let e = c.element_of_packed-element.ensures in
     let count = c.requires.count in
-    let low : c.element_for-element.result < length ts = omega arith in
+    let low : c.element_of_packed-element.result < length ts = omega arith in
     err_then c.receive_one.result (c.receive_one.new.turner.lane ≡ x.lane)
-    (lanes_held (slice_set ts c.element_for-element.result c.receive_one.new.turner) ≡ lanes_held ts)
-    (λ same. map_kept (λ t. lane_held t) ts c.element_for-element.result x c.receive_one.new.turner low (ap (λ (l : LaneView). held_of l) same
+    (lanes_held (slice_set ts c.element_of_packed-element.result c.receive_one.new.turner) ≡ lanes_held ts)
+    (λ same. map_kept (λ t. lane_held t) ts c.element_of_packed-element.result x c.receive_one.new.turner low (ap (λ (l : LaneView). held_of l) same
     ∙ ap (λ t. lane_held t) c.index_mut-turner.ensures.value)) c.receive_one.ensures.err
 
 pub returns-clause-fixed : goal.returns-clause-fixed
@@ -72,23 +72,23 @@ returns-clause-fixed g c =
     let y = c.receive_one.new.turner in
     let n = c.args.elements in
     let below = element_below n c.args.token.to c.requires.some in
-    let e = c.element_for-element.ensures in
+    let e = c.element_of_packed-element.ensures in
     let count = c.requires.count in
-    let low : c.element_for-element.result < length ts = omega arith in
+    let low : c.element_of_packed-element.result < length ts = omega arith in
     let fixed : fixed_of y.lane ≡ fixed_of x.lane
     = ok_or_err c.receive_one.result (y.lane ≡ with_more x.lane (c.args.token ∷ [])) (y.lane ≡ x.lane) (fixed_of y.lane ≡ fixed_of x.lane)
     (λ got. ap (λ (l : LaneView). fixed_of l) got) (λ same. ap (λ (l : LaneView). fixed_of l) same) c.receive_one.ensures.ok c.receive_one.ensures.err in
-    map_kept (λ t. lane_fixed t) ts c.element_for-element.result x y low (fixed ∙ ap (λ t. lane_fixed t) c.index_mut-turner.ensures.value)
+    map_kept (λ t. lane_fixed t) ts c.element_of_packed-element.result x y low (fixed ∙ ap (λ t. lane_fixed t) c.index_mut-turner.ensures.value)
 
 pub returns-clause-sent : goal.returns-clause-sent
 returns-clause-sent g c =
     let ts = c.args.turners.now.items in
     let x = c.index_mut-turner.result.now in
     let below = element_below c.args.elements c.args.token.to c.requires.some in
-    let e = c.element_for-element.ensures in
+    let e = c.element_of_packed-element.ensures in
     let count = c.requires.count in
-    let low : c.element_for-element.result < length ts = omega arith in
-    flat_kept (λ t. t.sent.items) ts c.element_for-element.result x c.receive_one.new.turner low (c.receive_one.ensures.sent
+    let low : c.element_of_packed-element.result < length ts = omega arith in
+    flat_kept (λ t. t.sent.items) ts c.element_of_packed-element.result x c.receive_one.new.turner low (c.receive_one.ensures.sent
     ∙ ap (λ t. t.sent.items) c.index_mut-turner.ensures.value)
 
 pub returns-clause-events : goal.returns-clause-events
@@ -96,10 +96,10 @@ returns-clause-events g c =
     let ts = c.args.turners.now.items in
     let x = c.index_mut-turner.result.now in
     let below = element_below c.args.elements c.args.token.to c.requires.some in
-    let e = c.element_for-element.ensures in
+    let e = c.element_of_packed-element.ensures in
     let count = c.requires.count in
-    let low : c.element_for-element.result < length ts = omega arith in
-    flat_kept (λ t. t.log.events.items) ts c.element_for-element.result x c.receive_one.new.turner low (c.receive_one.ensures.events
+    let low : c.element_of_packed-element.result < length ts = omega arith in
+    flat_kept (λ t. t.log.events.items) ts c.element_of_packed-element.result x c.receive_one.new.turner low (c.receive_one.ensures.events
     ∙ ap (λ t. t.log.events.items) c.index_mut-turner.ensures.value)
 
 pub returns-clause-halts : goal.returns-clause-halts
@@ -107,8 +107,8 @@ returns-clause-halts g c =
     let ts = c.args.turners.now.items in
     let x = c.index_mut-turner.result.now in
     let below = element_below c.args.elements c.args.token.to c.requires.some in
-    let e = c.element_for-element.ensures in
+    let e = c.element_of_packed-element.ensures in
     let count = c.requires.count in
-    let low : c.element_for-element.result < length ts = omega arith in
-    map_kept (λ t. halt_in t) ts c.element_for-element.result x c.receive_one.new.turner low (c.receive_one.ensures.halt
+    let low : c.element_of_packed-element.result < length ts = omega arith in
+    map_kept (λ t. halt_in t) ts c.element_of_packed-element.result x c.receive_one.new.turner low (c.receive_one.ensures.halt
     ∙ ap (λ t. halt_in t) c.index_mut-turner.ensures.value)

@@ -1,76 +1,81 @@
-use Rattle.std.proofs.Common.{◌≡◌, refl, sym, ◌∙◌, ap, subst, suc, ◌+◌, ◌*◌, ◌<◌, ◌≤◌, true, false, List, length, get_or, arith}
+use Rattle.std.proofs.Common.{◌≡◌, ◌∙◌, ◌+◌, ◌-◌, ◌*◌, ◌≤◌, true, length, arith}
 use Rattle.std.specs.Prelude.{vec_len}
 use Rattle.std.specs.Vec.{vec_capacity}
 use Rattle.std.proofs.lemmas.Grind.{common_steps}
-use Rattle.tags.specs.declared.token.Token.{Token}
-use Rattle.element.specs.declared.lane.Stepped.TheVariants.{Did}
 use Rattle.element.specs.Holding.{Holding, held_in}
-use Rattle.element.specs.Acts.{Acts}
-use Rattle.element.specs.Steps.{SendsEvents}
-use Rattle.element.proofs.Stepping.{sound_as, shape_as}
-use Rattle.element.proofs.Turns.{oldest, oldest_acts, one_event_more}
+use Rattle.element.proofs.Turns.{sends_more}
 use Rattle.element.proofs.contents.Contents.make_at_once.Goals as goal
 
-pub events-init : goal.events-init
-events-init g c = record {
-  count = refl;
-  made = λ steps most. (0, (refl, refl));
-  sound = c.requires.sound;
-  shape = refl;
-  room = c.requires.room;
-  sent_room = c.requires.sent_room;
-}
+pub returns-then-not-make_part-clause-exact : goal.returns-then-not-make_part-clause-exact
+returns-then-not-make_part-clause-exact g c = λ steps most.
+    let inv = c.parts.invariant in
+    let old : Holding = held_in c.parts.self in
+    let so_far = inv.made steps most in
+    let counted : old.made + c.parts.left ≡ c.args.self.now.queue.gone + c.args.events = inv.gone in
+    let fits : c.min-part.result ≤ c.parts.left = grind (arith, common_steps) in
+    let more = c.make_part.ensures.exact steps (omega (arith, counted, fits, most)) in
+    sends_more (g.C.Instructions.program c.args.code.now) steps so_far.0 more.0 (held_in c.args.self.now) old (held_in c.make_part.new.self)
+    c.args.sent.now.items c.parts.sent.items c.make_part.new.sent.items so_far.1 more.1
 
-pub acts_at_once-requires-clause-sent_spare : goal.acts_at_once-requires-clause-sent_spare
-acts_at_once-requires-clause-sent_spare g c = λ no.
-    let room = c.events.invariant.sent_room no in
-    let more : 0 < c.events.left = grind (arith, common_steps) in
-    omega (arith, room, more)
-
-pub events-preserved : goal.events-preserved
-events-preserved g c =
-    let p = g.C.Instructions.program c.args.code.now in
-    let inv = c.events.invariant in
-    let start : Holding = held_in c.args.self.now in
-    let first = c.args.sent.now.items in
-    let old : Holding = held_in c.events.self in
-    let before = c.events.sent.items in
-    let new : Holding = held_in c.acts_at_once.new.self in
-    let after = c.acts_at_once.new.sent.items in
-    let t = c.packed-token.result in
-    let some : 0 < length old.queue = grind (arith, common_steps) in
-    let more : 0 < c.events.left = grind (arith, common_steps) in
-    let yes : c.acts_at_once.result ≡ true = grind (arith, common_steps) in
-    let oldest_is : t ≡ get_or old.queue 0 t = c.packed-token.ensures in
-    let acts : Acts p old 0 t before new after = c.acts_at_once.ensures.did yes in
-    let at = oldest_acts p old t before Did new after acts in
-    let count : new.made ≡ old.made + 1 = ap (λ (h : Holding). h.made) acts.held in
-    let so_far : old.made + c.events.left ≡ start.made + c.args.events = inv.count in
-    let room : length old.queue + 2 * c.events.left + 1 ≤ c.events.self.queue.room = inv.room in
-    let len : length new.queue ≤ length old.queue + 2 = c.acts_at_once.ensures.len in
-    let capacity : c.acts_at_once.new.self.queue.room ≡ c.events.self.queue.room = c.acts_at_once.ensures.capacity in
-    let sent_len : vec_len c.acts_at_once.new.sent ≤ vec_len c.events.sent + 2 = c.acts_at_once.ensures.sent_len in
-    let sent_capacity : vec_capacity c.acts_at_once.new.sent ≡ vec_capacity c.events.sent = c.acts_at_once.ensures.sent_capacity in
+pub parts-preserved-then-waiting-lt-MANY : goal.parts-preserved-then-waiting-lt-MANY
+parts-preserved-then-waiting-lt-MANY g c =
+    let inv = c.parts.invariant in
+    let old : Holding = held_in c.parts.self in
+    let counted : old.made + c.parts.left ≡ c.args.self.now.queue.gone + c.args.events = inv.gone in
+    let fits : c.min-part.result ≤ c.parts.left = grind (arith, common_steps) in
+    let yes : c.make_part.result ≡ true = grind (arith, common_steps) in
+    let gone : c.make_part.new.self.queue.gone ≡ old.made + c.min-part.result = c.make_part.ensures.all yes in
+    let room : length old.queue + 2 * c.parts.left + 1 ≤ c.parts.self.queue.room = inv.room in
+    let len : length c.make_part.new.self.queue.items ≤ length old.queue + 2 * c.min-part.result = c.make_part.ensures.len in
+    let capacity : c.make_part.new.self.queue.room ≡ c.parts.self.queue.room = c.make_part.ensures.capacity in
+    let sent_len : vec_len c.make_part.new.sent ≤ vec_len c.parts.sent + 2 * c.min-part.result = c.make_part.ensures.sent_len in
+    let sent_capacity : vec_capacity c.make_part.new.sent ≡ vec_capacity c.parts.sent = c.make_part.ensures.sent_capacity in
     record {
-      count = omega arith;
+      gone = omega (arith, counted, fits, gone);
       made = λ steps most.
-          let few : old.made < steps = omega arith in
-          let made = inv.made steps most in
-          (suc made.0, one_event_more p steps made.0 start old new t first before after made.1 inv.sound some oldest_is few acts);
-      sound = sound_as p old 0 t before inv.sound some (oldest old t oldest_is) Did new after at;
-      shape = shape_as p old 0 t before inv.sound some (oldest old t oldest_is) Did new after at ∙ inv.shape;
-      room = omega arith;
-      sent_room = λ no. let sent_room = inv.sent_room no in omega (arith, sent_room, more, sent_len, sent_capacity);
+          let so_far = inv.made steps most in
+          let more = c.make_part.ensures.exact steps (omega (arith, counted, fits, most)) in
+          sends_more (g.C.Instructions.program c.args.code.now) steps so_far.0 more.0 (held_in c.args.self.now) old (held_in c.make_part.new.self)
+          c.args.sent.now.items c.parts.sent.items c.make_part.new.sent.items so_far.1 more.1;
+      sound = c.make_part.ensures.sound;
+      shape = c.make_part.ensures.shape ∙ inv.shape;
+      room = omega (arith, room, len, capacity, fits);
+      sent_room = λ no. let sent_room = inv.sent_room no in omega (arith, sent_room, sent_len, sent_capacity, fits);
     }
 
-pub returns-then-not-acts_at_once-clause-exact : goal.returns-then-not-acts_at_once-clause-exact
-returns-then-not-acts_at_once-clause-exact g c = λ steps most.
-    let p = g.C.Instructions.program c.args.code.now in
-    let start : Holding = held_in c.args.self.now in
-    let first = c.args.sent.now.items in
-    let no : c.acts_at_once.result ≡ false = grind (arith, common_steps) in
-    let made = c.events.invariant.made steps most in (
-      made.0,
-      subst (λ (ts : List Token). SendsEvents p steps made.0 start first (held_in c.acts_at_once.new.self) ts) (sym (c.acts_at_once.ensures.unsent no))
-          (subst (λ (h : Holding). SendsEvents p steps made.0 start first h c.events.sent.items) (sym (c.acts_at_once.ensures.not no)) made.1),
-    )
+pub returns-then-not-make_part-2-clause-exact : goal.returns-then-not-make_part-2-clause-exact
+returns-then-not-make_part-2-clause-exact g c = λ steps most.
+    let inv = c.parts.invariant in
+    let old : Holding = held_in c.parts.self in
+    let so_far = inv.made steps most in
+    let counted : old.made + c.parts.left ≡ c.args.self.now.queue.gone + c.args.events = inv.gone in
+    let fits : c.min-part-else-waiting-lt-MANY.result ≤ c.parts.left = grind (arith, common_steps) in
+    let more = c.make_part-else-waiting-lt-MANY.ensures.exact steps (omega (arith, counted, fits, most)) in
+    sends_more (g.C.Instructions.program c.args.code.now) steps so_far.0 more.0 (held_in c.args.self.now) old (held_in c.make_part-else-waiting-lt-MANY.new.self)
+    c.args.sent.now.items c.parts.sent.items c.make_part-else-waiting-lt-MANY.new.sent.items so_far.1 more.1
+
+pub parts-preserved : goal.parts-preserved
+parts-preserved g c =
+    let inv = c.parts.invariant in
+    let old : Holding = held_in c.parts.self in
+    let counted : old.made + c.parts.left ≡ c.args.self.now.queue.gone + c.args.events = inv.gone in
+    let fits : c.min-part-else-waiting-lt-MANY.result ≤ c.parts.left = grind (arith, common_steps) in
+    let yes : c.make_part-else-waiting-lt-MANY.result ≡ true = grind (arith, common_steps) in
+    let gone : c.make_part-else-waiting-lt-MANY.new.self.queue.gone ≡ old.made + c.min-part-else-waiting-lt-MANY.result = c.make_part-else-waiting-lt-MANY.ensures.all yes in
+    let room : length old.queue + 2 * c.parts.left + 1 ≤ c.parts.self.queue.room = inv.room in
+    let len : length c.make_part-else-waiting-lt-MANY.new.self.queue.items ≤ length old.queue + 2 * c.min-part-else-waiting-lt-MANY.result = c.make_part-else-waiting-lt-MANY.ensures.len in
+    let capacity : c.make_part-else-waiting-lt-MANY.new.self.queue.room ≡ c.parts.self.queue.room = c.make_part-else-waiting-lt-MANY.ensures.capacity in
+    let sent_len : vec_len c.make_part-else-waiting-lt-MANY.new.sent ≤ vec_len c.parts.sent + 2 * c.min-part-else-waiting-lt-MANY.result = c.make_part-else-waiting-lt-MANY.ensures.sent_len in
+    let sent_capacity : vec_capacity c.make_part-else-waiting-lt-MANY.new.sent ≡ vec_capacity c.parts.sent = c.make_part-else-waiting-lt-MANY.ensures.sent_capacity in
+    record {
+      gone = omega (arith, counted, fits, gone);
+      made = λ steps most.
+          let so_far = inv.made steps most in
+          let more = c.make_part-else-waiting-lt-MANY.ensures.exact steps (omega (arith, counted, fits, most)) in
+          sends_more (g.C.Instructions.program c.args.code.now) steps so_far.0 more.0 (held_in c.args.self.now) old (held_in c.make_part-else-waiting-lt-MANY.new.self)
+          c.args.sent.now.items c.parts.sent.items c.make_part-else-waiting-lt-MANY.new.sent.items so_far.1 more.1;
+      sound = c.make_part-else-waiting-lt-MANY.ensures.sound;
+      shape = c.make_part-else-waiting-lt-MANY.ensures.shape ∙ inv.shape;
+      room = omega (arith, room, len, capacity, fits);
+      sent_room = λ no. let sent_room = inv.sent_room no in omega (arith, sent_room, sent_len, sent_capacity, fits);
+    }

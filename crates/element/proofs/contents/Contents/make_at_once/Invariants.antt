@@ -1,13 +1,13 @@
-use Rattle.std.proofs.Common.{◌≡◌, ◌+◌, ◌*◌, ◌≤◌, ℕ, false, length}
+use Rattle.std.proofs.Common.{◌≡◌, ◌+◌, ◌-◌, ◌*◌, ◌≤◌, ℕ, false, length}
 use Rattle.std.specs.Prelude.{vec_len}
 use Rattle.std.specs.Vec.{vec_capacity}
 use Rattle.element.specs.Holding.{held_in, shape_of, IsSoundLane}
 use Rattle.element.specs.Steps.{SendsEvents}
 use Rattle.element.proofs.contents.Contents.make_at_once.Given as goal
 
-abbrev pub invariant-events : goal.invariant-events
-invariant-events g l = record {
-  count : l.self.queue.gone + l.left ≡ l.fn.self.queue.gone + l.fn.events;
+abbrev pub invariant-parts : goal.invariant-parts
+invariant-parts g l = record {
+  gone : l.self.queue.gone + l.left ≡ l.fn.self.queue.gone + l.fn.events;
   made : (steps : ℕ) → l.fn.self.queue.gone + l.fn.events ≤ steps → (made : ℕ) × SendsEvents (g.C.Instructions.program l.code) steps made
       (held_in l.fn.self) l.fn.sent.items (held_in l.self) l.sent.items;
   sound : IsSoundLane (g.C.Instructions.program l.code) (held_in l.self);
@@ -16,5 +16,5 @@ invariant-events g l = record {
   sent_room : g.T.Company.ALONE ≡ false → vec_len l.sent + 2 * l.left ≤ vec_capacity l.sent;
 }
 
-abbrev pub decreases-events : goal.decreases-events
-decreases-events g l = l.left
+abbrev pub decreases-parts : goal.decreases-parts
+decreases-parts g l = l.left

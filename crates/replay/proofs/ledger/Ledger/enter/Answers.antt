@@ -1,4 +1,4 @@
-use Rattle.std.proofs.Common.{◌≡◌, ◌∙◌, sym, ap, subst, ℕ, ◌+◌, ◌-◌, ◌<◌, ◌++◌, [], List, length, length-drop, drop, Option, Some, Err, arith}
+use Rattle.std.proofs.Common.{◌≡◌, ◌∙◌, sym, ap, subst, ℕ, ◌+◌, ◌-◌, ◌<◌, ◌++◌, [], List, length, length-drop, drop, Some, arith}
 use Rattle.std.specs.Prelude.{remove, slice_get, Contains, IfSome}
 use Rattle.std.proofs.lemmas.Result.{err_from_is_err_and}
 use Rattle.std.specs.List.{range_with_len}
@@ -10,7 +10,6 @@ use Rattle.semantics.specs.Machine.{outputs_of}
 use Rattle.element.specs.Steps.{Does}
 use Rattle.replay.specs.declared.extent.Extent.{Extent}
 use Rattle.replay.specs.Entering.{StateIs, place_used, state_at, deed_by, change_by}
-use Rattle.replay.specs.declared.fault.ReplayRefusal.{ReplayRefusal}
 use Rattle.replay.specs.Entering.{IsThere, IsExcluded, IsUnfit}
 use Rattle.replay.proofs.Entering.{enters}
 use Rattle.replay.proofs.Fitting.{absent, place_there, token_there, excluded_unfit, numbered_after, queue_after, passed_on}
