@@ -60,15 +60,15 @@ pub fn element_of_packed(token: &PackedToken, elements: u32) -> u32
 {
     match token.frame() {
         Some(frame) => owner_of(frame, elements),
-        None => element_of_other(token, elements),
+        None => element_of_other(*token, elements),
     }
 }
 
-// The same, out of line.
+// The same, out of line. It takes a copy of the token: so the token itself need not lie in memory where it goes to an instruction.
 #[inline(never)]
-fn element_of_other(token: &PackedToken, elements: u32) -> u32
+fn element_of_other(token: PackedToken, elements: u32) -> u32
     requires { 0 < elements }
-    ensures { result ≡ element_of elements token.now.to }
+    ensures { result ≡ element_of elements token.to }
 {
     element_for(&token.to(), elements)
 }

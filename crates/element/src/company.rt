@@ -1,14 +1,20 @@
-//! Whether an element has others beside it.
+//! Whether an element has others beside it, and how many.
 
-ghost use Rattle.std.specs.Prelude.{Bool, true, false};
+ghost use Rattle.std.specs.Prelude.{Bool, ℕ, true, false};
 
-/// Whether the element whose code it is has others beside it. Where it has none, each frame and each cell lies on it, and its code
-/// asks for no element.
+/// What is known, where the code of an element is compiled, of how many elements there are. Where it has none beside it, each frame and
+/// each cell lies on it, and its code asks for no element. Where their number is known and is a power of two, the place of a frame among
+/// those of its element is one shift.
 pub trait Company {
     ghost ALONE: { Bool };
 
+    ghost COUNT: { ℕ };
+
     /// Whether there are no others.
     const ALONE: bool;
+
+    /// How many elements there are, or 0 where it is not known.
+    const COUNT: u32;
 }
 
 /// There are no other elements.
@@ -17,14 +23,48 @@ pub struct Alone;
 impl Company for Alone {
     ghost ALONE = { true };
 
+    ghost COUNT = { 1 };
+
     const ALONE: bool = true;
+
+    const COUNT: u32 = 1;
 }
 
-/// There may be other elements.
+/// There are two elements.
+pub struct Two;
+
+impl Company for Two {
+    ghost ALONE = { false };
+
+    ghost COUNT = { 2 };
+
+    const ALONE: bool = false;
+
+    const COUNT: u32 = 2;
+}
+
+/// There are four elements.
+pub struct Four;
+
+impl Company for Four {
+    ghost ALONE = { false };
+
+    ghost COUNT = { 4 };
+
+    const ALONE: bool = false;
+
+    const COUNT: u32 = 4;
+}
+
+/// There may be any number of other elements.
 pub struct Together;
 
 impl Company for Together {
     ghost ALONE = { false };
 
+    ghost COUNT = { 0 };
+
     const ALONE: bool = false;
+
+    const COUNT: u32 = 0;
 }

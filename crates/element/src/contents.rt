@@ -308,6 +308,7 @@ impl<'m, A: Allocator> Contents<'m, A> {
     where
         A: Clone,
         requires alone { T.ALONE ≡ true → self.old.elements ≡ 1 }
+        requires known { 0 < T.COUNT → self.old.elements ≡ T.COUNT }
         requires many { W.MANY ≡ true → events ≤ length self.old.queue.items }
         requires sound { IsSoundLane (C.program code.now) (held_in self.old) }
         requires width { C.width code.now ≤ self.old.bank.width }
@@ -354,6 +355,7 @@ impl<'m, A: Allocator> Contents<'m, A> {
     where
         A: Clone,
         requires alone { T.ALONE ≡ true → self.old.elements ≡ 1 }
+        requires known { 0 < T.COUNT → self.old.elements ≡ T.COUNT }
         requires sound { IsSoundLane (C.program code.now) (held_in self.old) }
         requires width { C.width code.now ≤ self.old.bank.width }
         requires few { self.old.queue.gone + events < 2 ^ 63 }

@@ -1,6 +1,6 @@
 //! The lane of an element: what it holds, with the code that it runs. It is sound between its events.
 
-ghost use Rattle.std.specs.Prelude.{◌≡◌, ◌==◌, ℕ, ◌+◌, ◌<◌, ◌≤◌, ◌*◌, ◌^◌, true, false, [], ◌∷◌, length, All, OnOk, OnErr, IfOk, IfSome, IfNone, slice_index_or, vec_len};
+ghost use Rattle.std.specs.Prelude.{◌≡◌, ℕ, ◌+◌, ◌<◌, ◌≤◌, ◌*◌, ◌^◌, true, false, [], ◌∷◌, length, All, OnOk, OnErr, IfOk, IfSome, IfNone, slice_index_or, vec_len};
 ghost use Rattle.std.specs.Vec.{vec_capacity};
 ghost use Rattle.tags.specs.declared.slot.SlotState.TheVariants.{Empty};
 ghost use Rattle.frame_store.specs.BankViews.{bank_states};
@@ -255,12 +255,12 @@ impl<'m, C: Instructions, A: Allocator> Lane<'m, C, A> {
         Some(self.contents.step_otherwise(self.code, sent))
     }
 
-    /// Whether it is the only element.
+    /// How many elements there are.
     #[inline(always)]
-    pub fn is_alone(&self) -> bool
-        ensures { result ≡ (self.now.held.part.shape.elements == 1) }
+    pub fn elements(&self) -> u32
+        ensures { result ≡ self.now.held.part.shape.elements }
     {
-        self.contents.elements == 1
+        self.contents.elements
     }
 
     /// The element makes one event after another, each at once and with its oldest token, as long as it has one, it may make one
@@ -294,6 +294,7 @@ impl<'m, C: Instructions, A: Allocator> Lane<'m, C, A> {
     where
         A: Clone,
         requires alone { T.ALONE ≡ true → self.old.held.part.shape.elements ≡ 1 }
+        requires known { 0 < T.COUNT → self.old.held.part.shape.elements ≡ T.COUNT }
         requires some { 0 < most }
         ensures exact { (events : ℕ) × SendsEvents self.old.program self.old.steps events self.old.held sent.old.items self.new.held sent.new.items }
         ensures some { IfOk result (λ all. all ≡ true → self.old.held.made < self.new.held.made) }

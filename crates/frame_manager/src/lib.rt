@@ -61,6 +61,7 @@ impl<A: Allocator + Clone> Manager<A> {
 impl<A: Allocator> Manager<A> {
     /// Hands out the free frame of least number. `None`: no frame is free, and the request waits. An error changes
     /// nothing.
+    #[inline(always)]
     pub fn request(&mut self, cont: Cont) -> Result<Option<FrameId>, AllocError>
         ensures exact { Requested self.old cont result self.new }
         ensures event { RequestIsEvent self.old cont result self.new }
@@ -79,6 +80,7 @@ impl<A: Allocator> Manager<A> {
     }
 
     /// Takes a frame back. The request that has waited longest gets it, and is returned with it. This takes no memory.
+    #[inline(always)]
     pub fn release(&mut self, frame: FrameId) -> Result<Option<(Cont, FrameId)>, NotOut>
         ensures exact { Released self.old frame result self.new }
         ensures event { ReleaseIsEvent self.old frame result self.new }

@@ -20,18 +20,21 @@ use std::alloc::{AllocError, Allocator};
 use std::mem;
 
 // Puts a token into the bundle of its element. After an error all bundles have the tokens that they had.
+#[inline(always)]
 fn keep<A: Allocator>(
     unposted: &mut Vec<Vec<PackedToken, A>, A>,
     elements: u32,
-    token: PackedToken,
+    token: &PackedToken,
 ) -> Result<(), AllocError>
     requires some { 0 < elements }
     requires count { length unposted.old.items ≡ elements }
-    ensures ok { OnOk result (KeepsTokens elements unposted.old.items unposted.new.items (token ∷ [])) }
+    ensures ok { OnOk result (KeepsTokens elements unposted.old.items unposted.new.items (token.now ∷ [])) }
     ensures err { OnErr result (KeepsTokens elements unposted.old.items unposted.new.items []) }
 {
-    let to = element_of_packed(&token, elements) as usize;
-    unposted[to].push(token)?;
+    let to = element_of_packed(token, elements) as usize;
+    let bundle = &mut unposted[to];
+    bundle.reserve(1)?;
+    bundle.push_reserved(*token);
     Ok(())
 }
 
@@ -50,9 +53,9 @@ pub fn fill_bundles<C: MainCode, A: Allocator, L: Log>(
     ensures lane { held_of runner.new.lane ≡ held_of runner.old.lane }
 {
     let _ = mesh;
+    let elements = shape.elements;
     for at in 0..runner.sent.len() {
-        let token = runner.sent[at];
-        keep(&mut runner.unposted, shape.elements, token)?;
+        keep(&mut runner.unposted, elements, &runner.sent[at])?;
         runner.bundled = at + 1;
     }
     runner.sent.clear();

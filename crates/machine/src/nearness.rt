@@ -5,7 +5,7 @@ ghost use Rattle.element.specs.Near.{IsNearCont, IsNearWord, IsNearTo, IsNearTok
 ghost use Rattle.machine.specs.Runners.{bounds_within};
 
 use packed::token::PackedToken;
-use tags::token::{Cont, To, Token, Word};
+use tags::token::{Cont, To, Word};
 
 /// How many frames and cells the machine has.
 #[derive(Clone, Copy)]
@@ -16,6 +16,7 @@ pub struct Reach {
 
 const MOST_IP: u32 = 1 << 31;
 
+#[inline(always)]
 fn is_near_cont(cont: &Cont, reach: Reach) -> bool
     ensures { result ≡ true → IsNearCont (bounds_within reach) cont.now }
 {
@@ -25,6 +26,7 @@ fn is_near_cont(cont: &Cont, reach: Reach) -> bool
     }
 }
 
+#[inline(always)]
 fn is_near_word(word: &Word, reach: Reach) -> bool
     ensures { result ≡ true → IsNearWord (bounds_within reach) word.now }
 {
@@ -35,6 +37,7 @@ fn is_near_word(word: &Word, reach: Reach) -> bool
     }
 }
 
+#[inline(always)]
 fn is_near_to(to: &To, reach: Reach) -> bool
     ensures { result ≡ true → IsNearTo (bounds_within reach) to.now }
 {
@@ -45,21 +48,12 @@ fn is_near_to(to: &To, reach: Reach) -> bool
     }
 }
 
-fn is_near(token: &Token, reach: Reach) -> bool
-    ensures { result ≡ true → IsNearToken (bounds_within reach) token.now }
-{
-    is_near_to(&token.to, reach) && is_near_word(&token.word, reach)
-}
-
-// The same of a packed token. Most bring an integer to an instruction.
+// The same of a packed token.
 #[inline(always)]
-fn is_packed_near(token: &PackedToken, reach: Reach) -> bool
+fn is_near(token: &PackedToken, reach: Reach) -> bool
     ensures { result ≡ true → IsNearToken (bounds_within reach) token.now }
 {
-    match (token.frame(), token.word().as_int()) {
-        (Some(frame), Some(_)) => frame < reach.frames,
-        _ => is_near(&token.unpack(), reach),
-    }
+    is_near_to(&token.to(), reach) && is_near_word(&token.word().unpack(), reach)
 }
 
 /// Whether all these tokens name only what there is.
@@ -67,7 +61,7 @@ pub fn are_near(tokens: &[PackedToken], reach: Reach) -> bool
     ensures { result ≡ true → All (IsNearToken (bounds_within reach)) tokens.now }
 {
     for token in tokens {
-        if !is_packed_near(token, reach) {
+        if !is_near(token, reach) {
             return false;
         }
     }

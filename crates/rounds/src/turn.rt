@@ -7,7 +7,7 @@ ghost use Rattle.schedule.specs.Steps.{logged};
 ghost use Rattle.rounds.specs.Turns.{by, Turns, IsWhole, HaltsLane, TookTurn};
 
 use crate::gate::Gate;
-use element::company::{Alone, Company, Together};
+use element::company::{Alone, Company, Four, Together, Two};
 use element::instructions::Instructions;
 use element::lane::{Lane, Stepped};
 use packed::token::PackedToken;
@@ -44,11 +44,13 @@ pub fn take_turn<C: Instructions, A: Allocator + Clone, L: Log>(
     ensures fixed { fixed_of lane.new ≡ fixed_of lane.old }
 {
     if L::KEEPS_EVENTS {
-        take_each(lane, sent, log, turn)
-    } else if lane.is_alone() {
-        take_unlisted::<C, A, Alone>(lane, sent, turn)
-    } else {
-        take_unlisted::<C, A, Together>(lane, sent, turn)
+        return take_each(lane, sent, log, turn);
+    }
+    match lane.elements() {
+        1 => take_unlisted::<C, A, Alone>(lane, sent, turn),
+        2 => take_unlisted::<C, A, Two>(lane, sent, turn),
+        4 => take_unlisted::<C, A, Four>(lane, sent, turn),
+        _ => take_unlisted::<C, A, Together>(lane, sent, turn),
     }
 }
 
@@ -60,6 +62,7 @@ fn make_some<C: Instructions, A: Allocator + Clone, T: Company>(
     most: u64,
 ) -> Result<bool, Halt>
     requires alone { T.ALONE ≡ true → lane.old.held.part.shape.elements ≡ 1 }
+    requires known { 0 < T.COUNT → lane.old.held.part.shape.elements ≡ T.COUNT }
     requires some { 0 < most }
     ensures sound { IsSoundLane lane.new.program lane.new.held }
     ensures turns { (taken : List Token) × Turns lane.old.program lane.old.steps lane.old.held sent.old.items taken lane.new.held sent.new.items
@@ -93,6 +96,7 @@ fn take_unlisted<C: Instructions, A: Allocator + Clone, T: Company>(
     turn: u64,
 ) -> Option<Halt>
     requires alone { T.ALONE ≡ true → lane.old.held.part.shape.elements ≡ 1 }
+    requires known { 0 < T.COUNT → lane.old.held.part.shape.elements ≡ T.COUNT }
     ensures sound { IsSoundLane lane.old.program lane.old.held → IsSoundLane lane.new.program lane.new.held }
     ensures turns { (taken : List Token) × Turns lane.old.program lane.old.steps lane.old.held sent.old.items taken lane.new.held sent.new.items
         × (length taken ≤ turn) }

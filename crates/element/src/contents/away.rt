@@ -36,6 +36,7 @@ impl<'m, A: Allocator> Contents<'m, A> {
     where
         A: Clone,
         requires alone { T.ALONE ≡ true → self.old.elements ≡ 1 }
+        requires known { 0 < T.COUNT → self.old.elements ≡ T.COUNT }
         requires can { CanAct (C.program code.now) (C.width code.now) (held_in self.old) at token.now }
         requires spare { length self.old.queue.items + 3 ≤ self.old.queue.room }
         requires sent_spare { T.ALONE ≡ false → vec_len sent.old + 2 ≤ vec_capacity sent.old }
@@ -63,6 +64,7 @@ impl<'m, A: Allocator> Contents<'m, A> {
     where
         A: Clone,
         requires alone { T.ALONE ≡ true → self.old.elements ≡ 1 }
+        requires known { 0 < T.COUNT → self.old.elements ≡ T.COUNT }
         requires can { CanAct (C.program _code.now) (C.width _code.now) (held_in self.old) at token }
         requires spare { length self.old.queue.items + 3 ≤ self.old.queue.room }
         requires sent_spare { T.ALONE ≡ false → vec_len sent.old + 2 ≤ vec_capacity sent.old }
@@ -95,6 +97,7 @@ impl<'m, A: Allocator> Contents<'m, A> {
     where
         A: Clone,
         requires alone { T.ALONE ≡ true → self.old.elements ≡ 1 }
+        requires known { 0 < T.COUNT → self.old.elements ≡ T.COUNT }
         requires some { self.old.element < self.old.elements }
         requires here { cell % self.old.elements ≡ self.old.element }
         requires there { at < length self.old.queue.items }
@@ -136,6 +139,7 @@ impl<'m, A: Allocator> Contents<'m, A> {
     where
         A: Clone,
         requires alone { T.ALONE ≡ true → self.old.elements ≡ 1 }
+        requires known { 0 < T.COUNT → self.old.elements ≡ T.COUNT }
         requires some { self.old.element < self.old.elements }
         requires here { cell % self.old.elements ≡ self.old.element }
         requires there { at < length self.old.queue.items }
@@ -176,6 +180,7 @@ impl<'m, A: Allocator> Contents<'m, A> {
         sent: &mut Vec<PackedToken, A>,
     ) -> bool
         requires alone { T.ALONE ≡ true → self.old.elements ≡ 1 }
+        requires known { 0 < T.COUNT → self.old.elements ≡ T.COUNT }
         requires some { self.old.element < self.old.elements }
         requires there { at < length self.old.queue.items }
         requires few { self.old.queue.gone < 2 ^ 63 }
@@ -213,6 +218,7 @@ impl<'m, A: Allocator> Contents<'m, A> {
         sent: &mut Vec<PackedToken, A>,
     ) -> bool
         requires alone { T.ALONE ≡ true → self.old.elements ≡ 1 }
+        requires known { 0 < T.COUNT → self.old.elements ≡ T.COUNT }
         requires some { self.old.element < self.old.elements }
         requires there { at < length self.old.queue.items }
         requires few { self.old.queue.gone < 2 ^ 63 }
@@ -247,6 +253,7 @@ impl<'m, A: Allocator> Contents<'m, A> {
         sent: &mut Vec<PackedToken, A>,
     ) -> bool
         requires alone { T.ALONE ≡ true → self.old.elements ≡ 1 }
+        requires known { 0 < T.COUNT → self.old.elements ≡ T.COUNT }
         requires some { self.old.element < self.old.elements }
         requires there { at < length self.old.queue.items }
         requires few { self.old.queue.gone < 2 ^ 63 }

@@ -80,6 +80,7 @@ impl<'m, A: Allocator> Contents<'m, A> {
     where
         A: Clone,
         requires alone { T.ALONE ≡ true → self.old.elements ≡ 1 }
+        requires known { 0 < T.COUNT → self.old.elements ≡ T.COUNT }
         requires can { CanAct (C.program code.now) (C.width code.now) (held_in self.old) at token.now }
         requires spare { length self.old.queue.items + 3 ≤ self.old.queue.room }
         requires sent_spare { T.ALONE ≡ false → vec_len sent.old + 2 ≤ vec_capacity sent.old }
@@ -114,6 +115,7 @@ impl<'m, A: Allocator> Contents<'m, A> {
         sent: &mut Vec<PackedToken, A>,
     ) -> bool
         requires alone { T.ALONE ≡ true → self.old.elements ≡ 1 }
+        requires known { 0 < T.COUNT → self.old.elements ≡ T.COUNT }
         requires can { CanAct (C.program code.now) (C.width code.now) (held_in self.old) at token.now }
         requires address { token.now.to ≡ To.Instr point.frame point.ip Left }
         requires spare { length self.old.queue.items + 3 ≤ self.old.queue.room }
@@ -182,6 +184,7 @@ impl<'m, A: Allocator> Contents<'m, A> {
         sent: &mut Vec<PackedToken, A>,
     ) -> bool
         requires alone { T.ALONE ≡ true → self.old.elements ≡ 1 }
+        requires known { 0 < T.COUNT → self.old.elements ≡ T.COUNT }
         requires can { CanAct (C.program code.now) (C.width code.now) (held_in self.old) at token.now }
         requires address { token.now.to ≡ To.Instr point.frame point.ip Right }
         requires spare { length self.old.queue.items + 3 ≤ self.old.queue.room }
@@ -233,6 +236,7 @@ impl<'m, A: Allocator> Contents<'m, A> {
         sent: &mut Vec<PackedToken, A>,
     ) -> bool
         requires alone { T.ALONE ≡ true → self.old.elements ≡ 1 }
+        requires known { 0 < T.COUNT → self.old.elements ≡ T.COUNT }
         requires can { CanAct (C.program code.now) (C.width code.now) (held_in self.old) arrival.now.at arrival.now.token }
         requires address { arrival.now.token.to ≡ To.Instr arrival.now.point.frame arrival.now.point.ip arrival.now.port }
         requires found { instr_at (C.program code.now) arrival.now.point.ip ≡ Some (instr_of instr.now) }
@@ -305,6 +309,7 @@ impl<'m, A: Allocator> Contents<'m, A> {
         sent: &mut Vec<PackedToken, A>,
     ) -> bool
         requires alone { T.ALONE ≡ true → self.old.elements ≡ 1 }
+        requires known { 0 < T.COUNT → self.old.elements ≡ T.COUNT }
         requires can { CanAct (C.program code.now) (C.width code.now) (held_in self.old) arrival.now.at arrival.now.token }
         requires address { arrival.now.token.to ≡ To.Instr arrival.now.point.frame arrival.now.point.ip arrival.now.port }
         requires found { instr_at (C.program code.now) arrival.now.point.ip ≡ Some (instr_of instr.now) }
@@ -339,6 +344,7 @@ impl<'m, A: Allocator> Contents<'m, A> {
         sent: &mut Vec<PackedToken, A>,
     ) -> bool
         requires alone { T.ALONE ≡ true → self.old.elements ≡ 1 }
+        requires known { 0 < T.COUNT → self.old.elements ≡ T.COUNT }
         requires can { CanAct (C.program code.now) (C.width code.now) (held_in self.old) arrival.now.at arrival.now.token }
         requires address { arrival.now.token.to ≡ To.Instr arrival.now.point.frame arrival.now.point.ip arrival.now.port }
         requires found { instr_at (C.program code.now) arrival.now.point.ip ≡ Some (instr_of instr.now) }
@@ -379,6 +385,7 @@ impl<'m, A: Allocator> Contents<'m, A> {
         sent: &mut Vec<PackedToken, A>,
     ) -> bool
         requires alone { T.ALONE ≡ true → self.old.elements ≡ 1 }
+        requires known { 0 < T.COUNT → self.old.elements ≡ T.COUNT }
         requires can { CanAct (C.program code.now) (C.width code.now) (held_in self.old) arrival.now.at arrival.now.token }
         requires address { arrival.now.token.to ≡ To.Instr arrival.now.point.frame arrival.now.point.ip arrival.now.port }
         requires found { instr_at (C.program code.now) arrival.now.point.ip ≡ Some (instr_of instr.now) }
@@ -415,6 +422,7 @@ impl<'m, A: Allocator> Contents<'m, A> {
         sent: &mut Vec<PackedToken, A>,
     ) -> bool
         requires alone { T.ALONE ≡ true → self.old.elements ≡ 1 }
+        requires known { 0 < T.COUNT → self.old.elements ≡ T.COUNT }
         requires some { self.old.element < self.old.elements }
         requires manager { token.to ≡ To.Manager }
         requires there { at < length self.old.queue.items }
@@ -446,6 +454,7 @@ impl<'m, A: Allocator> Contents<'m, A> {
         sent: &mut Vec<PackedToken, A>,
     ) -> bool
         requires alone { T.ALONE ≡ true → self.old.elements ≡ 1 }
+        requires known { 0 < T.COUNT → self.old.elements ≡ T.COUNT }
         requires some { self.old.element < self.old.elements }
         requires place { place < length (bank_states self.old.bank) }
         requires there { at < length self.old.queue.items }
@@ -495,6 +504,7 @@ impl<'m, A: Allocator> Contents<'m, A> {
         sent: &mut Vec<PackedToken, A>,
     ) -> bool
         requires alone { T.ALONE ≡ true → self.old.elements ≡ 1 }
+        requires known { 0 < T.COUNT → self.old.elements ≡ T.COUNT }
         requires some { self.old.element < self.old.elements }
         requires place { place < length (bank_states self.old.bank) }
         requires short { IsShort (C.width code.now) arrival.now.point.ip instr.now }
@@ -584,6 +594,7 @@ impl<'m, A: Allocator> Contents<'m, A> {
         sent: &mut Vec<PackedToken, A>,
     ) -> bool
         requires alone { T.ALONE ≡ true → self.old.elements ≡ 1 }
+        requires known { 0 < T.COUNT → self.old.elements ≡ T.COUNT }
         requires some { self.old.element < self.old.elements }
         requires near { arrival.now.point.ip < 2 ^ 30 }
         requires address { (q : Port) × (arrival.now.token.to ≡ To.Instr arrival.now.point.frame arrival.now.point.ip q) }
@@ -622,6 +633,7 @@ impl<'m, A: Allocator> Contents<'m, A> {
         sent: &mut Vec<PackedToken, A>,
     ) -> bool
         requires alone { T.ALONE ≡ true → self.old.elements ≡ 1 }
+        requires known { 0 < T.COUNT → self.old.elements ≡ T.COUNT }
         requires some { self.old.element < self.old.elements }
         requires place { place < length (bank_states self.old.bank) }
         requires there { at < length self.old.queue.items }

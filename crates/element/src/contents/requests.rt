@@ -88,6 +88,7 @@ impl<'m, A: Allocator> Contents<'m, A> {
 }
 
 // Asks the manager for a frame.
+#[inline(always)]
 pub(super) fn request<A: Allocator>(
     manager: &mut Option<Manager<A>>,
     cont: Cont,
@@ -101,6 +102,7 @@ pub(super) fn request<A: Allocator>(
     }
 }
 
+#[inline(always)]
 pub(super) fn release<A: Allocator>(
     manager: &mut Option<Manager<A>>,
     frame: FrameId,

@@ -151,12 +151,13 @@ impl<'m, A: Allocator> Contents<'m, A> {
     #[inline(always)]
     fn keeps<T: Company>(&self, token: &PackedToken) -> bool
         requires alone { T.ALONE ≡ true → self.now.elements ≡ 1 }
+        requires known { 0 < T.COUNT → self.now.elements ≡ T.COUNT }
         requires there { self.now.element < self.now.elements }
         ensures own { result ≡ true → element_of self.now.elements token.now.to ≡ self.now.element }
         ensures other { result ≡ false → (element_of self.now.elements token.now.to == self.now.element) ≡ false }
         ensures together { result ≡ false → T.ALONE ≡ false }
     {
-        T::ALONE || element_of_packed(token, self.elements) == self.element
+        T::ALONE || element_of_packed(token, self.team::<T>()) == self.element
     }
 
     // Puts a packed token last into the queue, or last among those for other elements.
@@ -167,6 +168,7 @@ impl<'m, A: Allocator> Contents<'m, A> {
         sent: &mut Vec<PackedToken, A>,
     )
         requires alone { T.ALONE ≡ true → self.old.elements ≡ 1 }
+        requires known { 0 < T.COUNT → self.old.elements ≡ T.COUNT }
         requires some { self.old.element < self.old.elements }
         requires room { length self.old.queue.items < self.old.queue.room }
         requires sent_room { T.ALONE ≡ false → vec_len sent.old < vec_capacity sent.old }
@@ -192,6 +194,7 @@ impl<'m, A: Allocator> Contents<'m, A> {
         sent: &mut Vec<PackedToken, A>,
     )
         requires alone { T.ALONE ≡ true → self.old.elements ≡ 1 }
+        requires known { 0 < T.COUNT → self.old.elements ≡ T.COUNT }
         requires some { self.old.element < self.old.elements }
         requires first { element_of self.old.elements token.to ≡ 0 }
         requires room { length self.old.queue.items < self.old.queue.room }

@@ -40,19 +40,24 @@ impl<'m, A: Allocator> Contents<'m, A> {
         self.bank.state(self.own_frame(frame), slot as usize)
     }
 
-    // How many elements there are: one where it is known that there are no others.
+    // How many elements there are: the number that is known where the code is compiled, if one is.
     #[inline(always)]
     pub(super) fn team<T: Company>(&self) -> u32
         requires alone { T.ALONE ≡ true → self.now.elements ≡ 1 }
+        requires known { 0 < T.COUNT → self.now.elements ≡ T.COUNT }
         ensures { result ≡ self.now.elements }
     {
-        if T::ALONE { 1 } else { self.elements }
+        if T::COUNT != 0 {
+            return T::COUNT;
+        }
+        self.elements
     }
 
     // Where the slot of an instruction is, in a frame on this element.
     #[inline(always)]
     pub(super) fn place_of_slot<T: Company>(&self, frame: FrameId, slot: u32) -> usize
         requires alone { T.ALONE ≡ true → self.now.elements ≡ 1 }
+        requires known { 0 < T.COUNT → self.now.elements ≡ T.COUNT }
         requires some { 0 < self.now.elements }
         requires bank { IsBank self.now.bank }
         requires frame { frame < self.now.elements * self.now.bank.frames }

@@ -32,7 +32,7 @@ loop-at-preserved g c =
           (setting_in g.C.Instructions.program g.C.Instructions.width c.args.shape.now) c.args.mesh.now c.args.runner.now c.loop-at.runner _ i.keeps
           (keeps_bundled_at {C = g.row.C.Denot} {A = g.row.A.Denot} {L = g.row.L.Denot} g.L.Log.KEEPS_EVENTS
           (setting_in g.C.Instructions.program g.C.Instructions.width c.args.shape.now) c.args.mesh.now c.loop-at.runner c.keep.new.unposted
-          c.index-token.result.now c.loop-at.at i.bundled c.in_ok-keep.ensures.ok low c.index-token.ensures);
+          c.index.result.now c.loop-at.at i.bundled c.in_ok-keep.ensures.ok low c.index.ensures);
       bundled = refl;
       sent = i.sent;
       unqueued = i.unqueued;
