@@ -54,7 +54,7 @@ pub record Parts (input : List ℕ) : Type 0 where
 -- RUN
 -- how many events a turn has: an element that runs free looks at what all share after each
 abbrev pub turn_of : Option Mode → ℕ
-turn_of (Some Mode.Free) = 1024
+turn_of (Some Mode.Free) = 256
 turn_of mode = 64
 
 abbrev pub config_of : RunOptions → Config

@@ -48,8 +48,9 @@ const UNWRITTEN: u8 = 1;
 /// How many steps an element takes in one turn.
 const TURN: u64 = 64;
 
-/// The same of one that runs free: after each turn it looks at what all the elements share.
-const FREE_TURN: u64 = 1024;
+/// The same of one that runs free, where others ask it for frames: after each turn it looks at what all the elements share. The others
+/// take up to eight times as many.
+const FREE_TURN: u64 = 256;
 
 // How many steps an element takes in one turn in this mode.
 fn turn_of(mode: Option<Mode>) -> u64

@@ -68,9 +68,9 @@ more_logs n blocks b taken made events spent left took makes many gone stay olde
     subst (λ (c : Counts). Logs (with_block open_one c) (blocks ++ b ∷ [])) counts (ends_block open_one blocks b notes oldest)
 
 -- a lane that made its whole turn, or has no token left, has no reason to halt
-pub no_reason : (g : Setting) (old new : Holding) → IsWhole g.turn old new None → HasNoReason g new
-no_reason g old new (inl made) = inr (omega arith)
-no_reason g old new (inr none) = inl none
+pub no_reason : (g : Setting) (turn : ℕ) (old new : Holding) → g.turn ≤ turn → IsWhole turn old new None → HasNoReason g new
+no_reason g turn old new long (inl made) = inr (omega (arith, made, long))
+no_reason g turn old new long (inr none) = inl none
 
 module _ {C A L : Type 0} (keeps_events : Bool) (g : Setting) (mesh : MeshId) (start old : Holding) (before events : ℕ) (r : Runner C A L)
     (h : HasMade keeps_events g mesh start old before events r) where

@@ -28,6 +28,12 @@ use token_queue::queue::TokenQueue;
 // How many tokens the commits of an element may make.
 const MOST: u64 = 1 << 40;
 
+// A turn that has fewer events than this has as many on each element.
+const SHORT: u64 = 128;
+
+// How many times longer turns are than those of element 0 on the other elements, and on one that is alone.
+const LONGER: u64 = 8;
+
 // The commit of a block, by the numbers of tokens that it spent and made.
 fn commit_counts<J: Ask, C: Instructions, A: Allocator, L: Log>(
     runner: &mut Runner<'_, C, A, L>,
@@ -171,7 +177,19 @@ fn commit<C: MainCode, A: Allocator, L: Log>(
     }
 }
 
-// Makes up to `turn` events, oldest token first, and commits them.
+// How many events the element makes in a turn at most: no fewer than a turn has. Others ask element 0 for frames, and wait for them, so
+// its turns are the shortest.
+fn turn_of<C: MainCode>(shape: &Shape<'_, C>, element: u32) -> u64
+    ensures { shape.now.turn ≤ result }
+{
+    let is_asked = element == 0 && shape.elements > 1;
+    if is_asked || shape.turn < SHORT {
+        return shape.turn;
+    }
+    shape.turn.saturating_mul(LONGER)
+}
+
+// Makes a turn of events, oldest token first, and commits them.
 fn make_events<C: MainCode, A: Allocator + Clone, L: Log>(
     runner: &mut Runner<'_, C, A, L>,
     mesh: &Mesh<A>,
@@ -188,13 +206,14 @@ fn make_events<C: MainCode, A: Allocator + Clone, L: Log>(
 {
     let before = runner.lane.queue().len() as u64;
     let first = runner.lane.made();
+    let turn = turn_of(shape, runner.lane.element());
     let Runner {
         lane,
         sent,
         log,
         ..
     } = runner;
-    let halt = take_turn(lane, sent, log, shape.turn);
+    let halt = take_turn(lane, sent, log, turn);
     let events = runner.lane.made() - first;
     commit(runner, mesh, shape, before, events)?;
     Ok(halt)

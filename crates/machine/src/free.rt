@@ -302,8 +302,10 @@ fn run_machine<
 }
 
 /// Lets all elements run freely until the run halts, and reports. Each element runs in a thread of its own from the first event to the last: it enters the gate
-/// once, and then repeatedly takes what others posted to it, asks the gate, makes a block of up to `turn` events with its oldest tokens, commits it, and posts
-/// what it made for others. Where several elements halt, the one of least number says why the run does. The events are listed block by block, in a legal order.
+/// once, and then repeatedly takes what others posted to it, asks the gate, makes a block of events with its oldest tokens, commits it, and posts what it made for
+/// others. A block of element 0, which others ask for frames, has up to `turn` events; one of another element, or of an element that is alone, has up to eight
+/// times as many where `turn` is 128 or more. Where several elements halt, the one of least number says why the run does. The events are listed block by block,
+/// in a legal order.
 pub fn run<
     R: Threads + Wait + Sync,
     C: MainCode + Sync,

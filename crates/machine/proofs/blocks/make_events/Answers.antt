@@ -63,5 +63,6 @@ returns-clause-whole g c = λ none.
     let s : Setting = setting_in g.C.Instructions.program g.C.Instructions.width c.args.shape.now in
     let old : Holding = held_of c.args.runner.now.lane in
     let new : Holding = held_of c.take_turn-halt.new.lane in
-    let whole : IsWhole s.turn old new None = subst (λ (why : Option Halt). IsWhole s.turn old new why) none c.take_turn-halt.ensures.whole in
-    subst (λ (h : Holding). HasNoReason s h) (sym c.in_ok-commit.ensures.lane) (no_reason s old new whole)
+    let turn : ℕ = c.turn_of-turn.result in
+    let whole : IsWhole turn old new None = subst (λ (why : Option Halt). IsWhole turn old new why) none c.take_turn-halt.ensures.whole in
+    subst (λ (h : Holding). HasNoReason s h) (sym c.in_ok-commit.ensures.lane) (no_reason s turn old new c.turn_of-turn.ensures whole)
