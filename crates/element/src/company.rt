@@ -1,17 +1,12 @@
 //! Whether an element has others beside it, and how many.
 
-ghost use Rattle.std.specs.Prelude.{Bool, ℕ, true, false};
+ghost use Rattle.std.specs.Prelude.{ℕ};
 
 /// What is known, where the code of an element is compiled, of how many elements there are. Where it has none beside it, each frame and
 /// each cell lies on it, and its code asks for no element. Where their number is known and is a power of two, the place of a frame among
 /// those of its element is one shift.
 pub trait Company {
-    ghost ALONE: { Bool };
-
     ghost COUNT: { ℕ };
-
-    /// Whether there are no others.
-    const ALONE: bool;
 
     /// How many elements there are, or 0 where it is not known.
     const COUNT: u32;
@@ -21,11 +16,7 @@ pub trait Company {
 pub struct Alone;
 
 impl Company for Alone {
-    ghost ALONE = { true };
-
     ghost COUNT = { 1 };
-
-    const ALONE: bool = true;
 
     const COUNT: u32 = 1;
 }
@@ -34,11 +25,7 @@ impl Company for Alone {
 pub struct Two;
 
 impl Company for Two {
-    ghost ALONE = { false };
-
     ghost COUNT = { 2 };
-
-    const ALONE: bool = false;
 
     const COUNT: u32 = 2;
 }
@@ -47,11 +34,7 @@ impl Company for Two {
 pub struct Four;
 
 impl Company for Four {
-    ghost ALONE = { false };
-
     ghost COUNT = { 4 };
-
-    const ALONE: bool = false;
 
     const COUNT: u32 = 4;
 }
@@ -60,11 +43,7 @@ impl Company for Four {
 pub struct Together;
 
 impl Company for Together {
-    ghost ALONE = { false };
-
     ghost COUNT = { 0 };
-
-    const ALONE: bool = false;
 
     const COUNT: u32 = 0;
 }

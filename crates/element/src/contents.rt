@@ -1,6 +1,6 @@
 //! What an element holds, and what it does with a token. During an event it is not sound.
 
-ghost use Rattle.std.specs.Prelude.{◌≡◌, ℕ, ◌+◌, ◌*◌, ◌%◌, ◌<◌, ◌≤◌, ◌^◌, true, false, [], ◌∷◌, ◌++◌, length, OnOk, OnErr, IfOk, IfSome, IfNone, None, replicate, vec_len};
+ghost use Rattle.std.specs.Prelude.{◌≡◌, ◌==◌, ℕ, ◌+◌, ◌*◌, ◌%◌, ◌<◌, ◌≤◌, ◌^◌, true, false, [], ◌∷◌, ◌++◌, length, OnOk, OnErr, IfOk, IfSome, IfNone, None, replicate, vec_len};
 ghost use Rattle.std.specs.Vec.{vec_capacity};
 ghost use Rattle.element.specs.Holding.{held_in, part_of, shape_of, with_queue, IsSoundLane};
 ghost use Rattle.frame_store.specs.BankViews.{bank_states};
@@ -307,14 +307,13 @@ impl<'m, A: Allocator> Contents<'m, A> {
     ) -> bool
     where
         A: Clone,
-        requires alone { T.ALONE ≡ true → self.old.elements ≡ 1 }
         requires known { 0 < T.COUNT → self.old.elements ≡ T.COUNT }
         requires many { W.MANY ≡ true → events ≤ length self.old.queue.items }
         requires sound { IsSoundLane (C.program code.now) (held_in self.old) }
         requires width { C.width code.now ≤ self.old.bank.width }
         requires few { self.old.queue.gone + events < 2 ^ 63 }
         requires room { length self.old.queue.items + 2 * events + 1 ≤ self.old.queue.room }
-        requires sent_room { T.ALONE ≡ false → vec_len sent.old + 2 * events ≤ vec_capacity sent.old }
+        requires sent_room { (T.COUNT == 1) ≡ false → vec_len sent.old + 2 * events ≤ vec_capacity sent.old }
         ensures exact { (steps : ℕ) → self.old.queue.gone + events ≤ steps → (made : ℕ) × SendsEvents (C.program code.now) steps made (held_in self.old)
             sent.old.items (held_in self.new) sent.new.items }
         ensures sound { IsSoundLane (C.program code.now) (held_in self.new) }
@@ -354,13 +353,12 @@ impl<'m, A: Allocator> Contents<'m, A> {
     ) -> bool
     where
         A: Clone,
-        requires alone { T.ALONE ≡ true → self.old.elements ≡ 1 }
         requires known { 0 < T.COUNT → self.old.elements ≡ T.COUNT }
         requires sound { IsSoundLane (C.program code.now) (held_in self.old) }
         requires width { C.width code.now ≤ self.old.bank.width }
         requires few { self.old.queue.gone + events < 2 ^ 63 }
         requires room { length self.old.queue.items + 2 * events + 1 ≤ self.old.queue.room }
-        requires sent_room { T.ALONE ≡ false → vec_len sent.old + 2 * events ≤ vec_capacity sent.old }
+        requires sent_room { (T.COUNT == 1) ≡ false → vec_len sent.old + 2 * events ≤ vec_capacity sent.old }
         ensures exact { (steps : ℕ) → self.old.queue.gone + events ≤ steps → (made : ℕ) × SendsEvents (C.program code.now) steps made (held_in self.old)
             sent.old.items (held_in self.new) sent.new.items }
         ensures sound { IsSoundLane (C.program code.now) (held_in self.new) }

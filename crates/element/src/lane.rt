@@ -1,6 +1,6 @@
 //! The lane of an element: what it holds, with the code that it runs. It is sound between its events.
 
-ghost use Rattle.std.specs.Prelude.{◌≡◌, ℕ, ◌+◌, ◌<◌, ◌≤◌, ◌*◌, ◌^◌, true, false, [], ◌∷◌, length, All, OnOk, OnErr, IfOk, IfSome, IfNone, slice_index_or, vec_len};
+ghost use Rattle.std.specs.Prelude.{◌≡◌, ◌==◌, ℕ, ◌+◌, ◌<◌, ◌≤◌, ◌*◌, ◌^◌, true, false, [], ◌∷◌, length, All, OnOk, OnErr, IfOk, IfSome, IfNone, slice_index_or, vec_len};
 ghost use Rattle.std.specs.Vec.{vec_capacity};
 ghost use Rattle.tags.specs.declared.slot.SlotState.TheVariants.{Empty};
 ghost use Rattle.frame_store.specs.BankViews.{bank_states};
@@ -68,9 +68,9 @@ impl<'m, C: Instructions, A: Allocator> Model for Lane<'m, C, A> {
 fn room_in<T: Company, A: Allocator>(sent: &mut Vec<PackedToken, A>) -> Result<u64, AllocError>
     ensures sent { sent.new.items ≡ sent.old.items }
     ensures some { IfOk result (λ events. 0 < events) }
-    ensures room { IfOk result (λ events. T.ALONE ≡ false → vec_len sent.new + 2 * events ≤ vec_capacity sent.new) }
+    ensures room { IfOk result (λ events. (T.COUNT == 1) ≡ false → vec_len sent.new + 2 * events ≤ vec_capacity sent.new) }
 {
-    if T::ALONE {
+    if T::COUNT == 1 {
         return Ok(u64::MAX);
     }
     sent.reserve(ROOM)?;
@@ -293,7 +293,6 @@ impl<'m, C: Instructions, A: Allocator> Lane<'m, C, A> {
     ) -> Result<bool, AllocError>
     where
         A: Clone,
-        requires alone { T.ALONE ≡ true → self.old.held.part.shape.elements ≡ 1 }
         requires known { 0 < T.COUNT → self.old.held.part.shape.elements ≡ T.COUNT }
         requires some { 0 < most }
         ensures exact { (events : ℕ) × SendsEvents self.old.program self.old.steps events self.old.held sent.old.items self.new.held sent.new.items }

@@ -61,7 +61,6 @@ fn make_some<C: Instructions, A: Allocator + Clone, T: Company>(
     sent: &mut Vec<PackedToken, A>,
     most: u64,
 ) -> Result<bool, Halt>
-    requires alone { T.ALONE ≡ true → lane.old.held.part.shape.elements ≡ 1 }
     requires known { 0 < T.COUNT → lane.old.held.part.shape.elements ≡ T.COUNT }
     requires some { 0 < most }
     ensures sound { IsSoundLane lane.new.program lane.new.held }
@@ -95,7 +94,6 @@ fn take_unlisted<C: Instructions, A: Allocator + Clone, T: Company>(
     sent: &mut Vec<PackedToken, A>,
     turn: u64,
 ) -> Option<Halt>
-    requires alone { T.ALONE ≡ true → lane.old.held.part.shape.elements ≡ 1 }
     requires known { 0 < T.COUNT → lane.old.held.part.shape.elements ≡ T.COUNT }
     ensures sound { IsSoundLane lane.old.program lane.old.held → IsSoundLane lane.new.program lane.new.held }
     ensures turns { (taken : List Token) × Turns lane.old.program lane.old.steps lane.old.held sent.old.items taken lane.new.held sent.new.items

@@ -1,6 +1,6 @@
 //! What an element does at once with tokens that go to no instruction.
 
-ghost use Rattle.std.specs.Prelude.{◌≡◌, ◌+◌, ◌%◌, ◌<◌, ◌≤◌, ◌^◌, true, false, [], ◌∷◌, ◌++◌, length, IsSome, vec_len};
+ghost use Rattle.std.specs.Prelude.{◌≡◌, ◌==◌, ◌+◌, ◌%◌, ◌<◌, ◌≤◌, ◌^◌, true, false, [], ◌∷◌, ◌++◌, length, IsSome, vec_len};
 ghost use Rattle.std.specs.Vec.{vec_capacity};
 ghost use Rattle.tags.specs.declared.token.To.{To};
 ghost use Rattle.semantics.specs.Rule as Rule;
@@ -35,11 +35,10 @@ impl<'m, A: Allocator> Contents<'m, A> {
     ) -> bool
     where
         A: Clone,
-        requires alone { T.ALONE ≡ true → self.old.elements ≡ 1 }
         requires known { 0 < T.COUNT → self.old.elements ≡ T.COUNT }
         requires can { CanAct (C.program code.now) (C.width code.now) (held_in self.old) at token.now }
         requires spare { length self.old.queue.items + 3 ≤ self.old.queue.room }
-        requires sent_spare { T.ALONE ≡ false → vec_len sent.old + 2 ≤ vec_capacity sent.old }
+        requires sent_spare { (T.COUNT == 1) ≡ false → vec_len sent.old + 2 ≤ vec_capacity sent.old }
         ensures did { result ≡ true → ActsAs (C.program code.now) (held_in self.old) at token.now sent.old.items Did (held_in self.new) sent.new.items }
         ensures not { result ≡ false → held_in self.new ≡ held_in self.old }
         ensures unsent { result ≡ false → sent.new.items ≡ sent.old.items }
@@ -63,11 +62,10 @@ impl<'m, A: Allocator> Contents<'m, A> {
     ) -> bool
     where
         A: Clone,
-        requires alone { T.ALONE ≡ true → self.old.elements ≡ 1 }
         requires known { 0 < T.COUNT → self.old.elements ≡ T.COUNT }
         requires can { CanAct (C.program _code.now) (C.width _code.now) (held_in self.old) at token }
         requires spare { length self.old.queue.items + 3 ≤ self.old.queue.room }
-        requires sent_spare { T.ALONE ≡ false → vec_len sent.old + 2 ≤ vec_capacity sent.old }
+        requires sent_spare { (T.COUNT == 1) ≡ false → vec_len sent.old + 2 ≤ vec_capacity sent.old }
         ensures did { result ≡ true → ActsAs (C.program _code.now) (held_in self.old) at token sent.old.items Did (held_in self.new) sent.new.items }
         ensures not { result ≡ false → held_in self.new ≡ held_in self.old }
         ensures unsent { result ≡ false → sent.new.items ≡ sent.old.items }
@@ -96,7 +94,6 @@ impl<'m, A: Allocator> Contents<'m, A> {
     ) -> bool
     where
         A: Clone,
-        requires alone { T.ALONE ≡ true → self.old.elements ≡ 1 }
         requires known { 0 < T.COUNT → self.old.elements ≡ T.COUNT }
         requires some { self.old.element < self.old.elements }
         requires here { cell % self.old.elements ≡ self.old.element }
@@ -105,7 +102,7 @@ impl<'m, A: Allocator> Contents<'m, A> {
         requires address { token.now.to ≡ To.Fetch cell }
         requires own { OwnsCell (part_of self.old) cell }
         requires spare { length self.old.queue.items + 3 ≤ self.old.queue.room }
-        requires sent_spare { T.ALONE ≡ false → vec_len sent.old + 2 ≤ vec_capacity sent.old }
+        requires sent_spare { (T.COUNT == 1) ≡ false → vec_len sent.old + 2 ≤ vec_capacity sent.old }
         ensures did { result ≡ true → (p : Program) → IsSoundLane p (held_in self.old)
             → IsNearToken (bounds p (shape_of self.old)) token.now → ActsAs p (held_in self.old) at token.now sent.old.items Did (held_in self.new) sent.new.items }
         ensures not { result ≡ false → held_in self.new ≡ held_in self.old }
@@ -138,7 +135,6 @@ impl<'m, A: Allocator> Contents<'m, A> {
     ) -> bool
     where
         A: Clone,
-        requires alone { T.ALONE ≡ true → self.old.elements ≡ 1 }
         requires known { 0 < T.COUNT → self.old.elements ≡ T.COUNT }
         requires some { self.old.element < self.old.elements }
         requires here { cell % self.old.elements ≡ self.old.element }
@@ -148,7 +144,7 @@ impl<'m, A: Allocator> Contents<'m, A> {
         requires own { OwnsCell (part_of self.old) cell }
         requires answered { self.old.answered.items ≡ [] }
         requires spare { length self.old.queue.items + 3 ≤ self.old.queue.room }
-        requires sent_spare { T.ALONE ≡ false → vec_len sent.old + 2 ≤ vec_capacity sent.old }
+        requires sent_spare { (T.COUNT == 1) ≡ false → vec_len sent.old + 2 ≤ vec_capacity sent.old }
         ensures did { result ≡ true → (p : Program) → IsSoundLane p (held_in self.old)
             → IsNearToken (bounds p (shape_of self.old)) token.now → ActsAs p (held_in self.old) at token.now sent.old.items Did (held_in self.new) sent.new.items }
         ensures not { result ≡ false → held_in self.new ≡ held_in self.old }
@@ -179,7 +175,6 @@ impl<'m, A: Allocator> Contents<'m, A> {
         token: &PackedToken,
         sent: &mut Vec<PackedToken, A>,
     ) -> bool
-        requires alone { T.ALONE ≡ true → self.old.elements ≡ 1 }
         requires known { 0 < T.COUNT → self.old.elements ≡ T.COUNT }
         requires some { self.old.element < self.old.elements }
         requires there { at < length self.old.queue.items }
@@ -188,7 +183,7 @@ impl<'m, A: Allocator> Contents<'m, A> {
         requires served { self.old.element ≡ 0 }
         requires manager { IsSome self.old.manager }
         requires spare { length self.old.queue.items + 3 ≤ self.old.queue.room }
-        requires sent_spare { T.ALONE ≡ false → vec_len sent.old + 2 ≤ vec_capacity sent.old }
+        requires sent_spare { (T.COUNT == 1) ≡ false → vec_len sent.old + 2 ≤ vec_capacity sent.old }
         ensures did { result ≡ true → (p : Program) → IsSoundLane p (held_in self.old)
             → IsNearToken (bounds p (shape_of self.old)) token.now → ActsAs p (held_in self.old) at token.now sent.old.items Did (held_in self.new) sent.new.items }
         ensures not { result ≡ false → held_in self.new ≡ held_in self.old }
@@ -217,7 +212,6 @@ impl<'m, A: Allocator> Contents<'m, A> {
         frame: FrameId,
         sent: &mut Vec<PackedToken, A>,
     ) -> bool
-        requires alone { T.ALONE ≡ true → self.old.elements ≡ 1 }
         requires known { 0 < T.COUNT → self.old.elements ≡ T.COUNT }
         requires some { self.old.element < self.old.elements }
         requires there { at < length self.old.queue.items }
@@ -226,7 +220,7 @@ impl<'m, A: Allocator> Contents<'m, A> {
         requires served { self.old.element ≡ 0 }
         requires manager { IsSome self.old.manager }
         requires spare { length self.old.queue.items + 3 ≤ self.old.queue.room }
-        requires sent_spare { T.ALONE ≡ false → vec_len sent.old + 2 ≤ vec_capacity sent.old }
+        requires sent_spare { (T.COUNT == 1) ≡ false → vec_len sent.old + 2 ≤ vec_capacity sent.old }
         ensures did { result ≡ true → (p : Program) → IsSoundLane p (held_in self.old)
             → ActsAs p (held_in self.old) at _token.now sent.old.items Did (held_in self.new) sent.new.items }
         ensures not { result ≡ false → held_in self.new ≡ held_in self.old }
@@ -252,13 +246,12 @@ impl<'m, A: Allocator> Contents<'m, A> {
         word: Word,
         sent: &mut Vec<PackedToken, A>,
     ) -> bool
-        requires alone { T.ALONE ≡ true → self.old.elements ≡ 1 }
         requires known { 0 < T.COUNT → self.old.elements ≡ T.COUNT }
         requires some { self.old.element < self.old.elements }
         requires there { at < length self.old.queue.items }
         requires few { self.old.queue.gone < 2 ^ 63 }
         requires spare { length self.old.queue.items + 3 ≤ self.old.queue.room }
-        requires sent_spare { T.ALONE ≡ false → vec_len sent.old + 2 ≤ vec_capacity sent.old }
+        requires sent_spare { (T.COUNT == 1) ≡ false → vec_len sent.old + 2 ≤ vec_capacity sent.old }
         ensures held { held_in self.new ≡ queued (taken (held_in self.old) at) (Rule.token (Rule.back_to cont) word ∷ []) }
         ensures sent { sent.new.items ≡ sent.old.items ++ elsewhere (shape_of self.old) (Rule.token (Rule.back_to cont) word ∷ []) }
         ensures did { result ≡ true }

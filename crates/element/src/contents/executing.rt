@@ -1,6 +1,6 @@
 //! What an element does with a token for an instruction.
 
-ghost use Rattle.std.specs.Prelude.{◌≡◌, ◌+◌, ◌%◌, ◌<◌, ◌≤◌, ◌^◌, true, false, List, [], ◌∷◌, length, IfSome, Some, vec_len};
+ghost use Rattle.std.specs.Prelude.{◌≡◌, ◌==◌, ◌+◌, ◌%◌, ◌<◌, ◌≤◌, ◌^◌, true, false, List, [], ◌∷◌, length, IfSome, Some, vec_len};
 ghost use Rattle.std.specs.Vec.{vec_capacity};
 ghost use Rattle.tags.specs.declared.token.Port.TheVariants.{Left, Right};
 ghost use Rattle.tags.specs.declared.token.To.{To};
@@ -79,11 +79,10 @@ impl<'m, A: Allocator> Contents<'m, A> {
     ) -> bool
     where
         A: Clone,
-        requires alone { T.ALONE ≡ true → self.old.elements ≡ 1 }
         requires known { 0 < T.COUNT → self.old.elements ≡ T.COUNT }
         requires can { CanAct (C.program code.now) (C.width code.now) (held_in self.old) at token.now }
         requires spare { length self.old.queue.items + 3 ≤ self.old.queue.room }
-        requires sent_spare { T.ALONE ≡ false → vec_len sent.old + 2 ≤ vec_capacity sent.old }
+        requires sent_spare { (T.COUNT == 1) ≡ false → vec_len sent.old + 2 ≤ vec_capacity sent.old }
         ensures did { result ≡ true → ActsAs (C.program code.now) (held_in self.old) at token.now sent.old.items Did (held_in self.new) sent.new.items }
         ensures not { result ≡ false → held_in self.new ≡ held_in self.old }
         ensures unsent { result ≡ false → sent.new.items ≡ sent.old.items }
@@ -114,12 +113,11 @@ impl<'m, A: Allocator> Contents<'m, A> {
         point: Point,
         sent: &mut Vec<PackedToken, A>,
     ) -> bool
-        requires alone { T.ALONE ≡ true → self.old.elements ≡ 1 }
         requires known { 0 < T.COUNT → self.old.elements ≡ T.COUNT }
         requires can { CanAct (C.program code.now) (C.width code.now) (held_in self.old) at token.now }
         requires address { token.now.to ≡ To.Instr point.frame point.ip Left }
         requires spare { length self.old.queue.items + 3 ≤ self.old.queue.room }
-        requires sent_spare { T.ALONE ≡ false → vec_len sent.old + 2 ≤ vec_capacity sent.old }
+        requires sent_spare { (T.COUNT == 1) ≡ false → vec_len sent.old + 2 ≤ vec_capacity sent.old }
         ensures did { result ≡ true → ActsAs (C.program code.now) (held_in self.old) at token.now sent.old.items Did (held_in self.new) sent.new.items }
         ensures not { result ≡ false → held_in self.new ≡ held_in self.old }
         ensures unsent { result ≡ false → sent.new.items ≡ sent.old.items }
@@ -183,12 +181,11 @@ impl<'m, A: Allocator> Contents<'m, A> {
         point: Point,
         sent: &mut Vec<PackedToken, A>,
     ) -> bool
-        requires alone { T.ALONE ≡ true → self.old.elements ≡ 1 }
         requires known { 0 < T.COUNT → self.old.elements ≡ T.COUNT }
         requires can { CanAct (C.program code.now) (C.width code.now) (held_in self.old) at token.now }
         requires address { token.now.to ≡ To.Instr point.frame point.ip Right }
         requires spare { length self.old.queue.items + 3 ≤ self.old.queue.room }
-        requires sent_spare { T.ALONE ≡ false → vec_len sent.old + 2 ≤ vec_capacity sent.old }
+        requires sent_spare { (T.COUNT == 1) ≡ false → vec_len sent.old + 2 ≤ vec_capacity sent.old }
         ensures did { result ≡ true → ActsAs (C.program code.now) (held_in self.old) at token.now sent.old.items Did (held_in self.new) sent.new.items }
         ensures not { result ≡ false → held_in self.new ≡ held_in self.old }
         ensures unsent { result ≡ false → sent.new.items ≡ sent.old.items }
@@ -235,7 +232,6 @@ impl<'m, A: Allocator> Contents<'m, A> {
         instr: &Instruction,
         sent: &mut Vec<PackedToken, A>,
     ) -> bool
-        requires alone { T.ALONE ≡ true → self.old.elements ≡ 1 }
         requires known { 0 < T.COUNT → self.old.elements ≡ T.COUNT }
         requires can { CanAct (C.program code.now) (C.width code.now) (held_in self.old) arrival.now.at arrival.now.token }
         requires address { arrival.now.token.to ≡ To.Instr arrival.now.point.frame arrival.now.point.ip arrival.now.port }
@@ -243,7 +239,7 @@ impl<'m, A: Allocator> Contents<'m, A> {
         requires short { IsShort (C.width code.now) arrival.now.point.ip instr.now }
         requires pair { IsPair instr.now.op }
         requires spare { length self.old.queue.items + 3 ≤ self.old.queue.room }
-        requires sent_spare { T.ALONE ≡ false → vec_len sent.old + 2 ≤ vec_capacity sent.old }
+        requires sent_spare { (T.COUNT == 1) ≡ false → vec_len sent.old + 2 ≤ vec_capacity sent.old }
         ensures did { result ≡ true → ActsAs (C.program code.now) (held_in self.old) arrival.now.at arrival.now.token sent.old.items Did (held_in self.new) sent.new.items }
         ensures not { result ≡ false → held_in self.new ≡ held_in self.old }
         ensures unsent { result ≡ false → sent.new.items ≡ sent.old.items }
@@ -308,7 +304,6 @@ impl<'m, A: Allocator> Contents<'m, A> {
         instr: &Instruction,
         sent: &mut Vec<PackedToken, A>,
     ) -> bool
-        requires alone { T.ALONE ≡ true → self.old.elements ≡ 1 }
         requires known { 0 < T.COUNT → self.old.elements ≡ T.COUNT }
         requires can { CanAct (C.program code.now) (C.width code.now) (held_in self.old) arrival.now.at arrival.now.token }
         requires address { arrival.now.token.to ≡ To.Instr arrival.now.point.frame arrival.now.point.ip arrival.now.port }
@@ -316,7 +311,7 @@ impl<'m, A: Allocator> Contents<'m, A> {
         requires short { IsShort (C.width code.now) arrival.now.point.ip instr.now }
         requires lone { IsLone instr.now.op }
         requires spare { length self.old.queue.items + 3 ≤ self.old.queue.room }
-        requires sent_spare { T.ALONE ≡ false → vec_len sent.old + 2 ≤ vec_capacity sent.old }
+        requires sent_spare { (T.COUNT == 1) ≡ false → vec_len sent.old + 2 ≤ vec_capacity sent.old }
         ensures did { result ≡ true → ActsAs (C.program code.now) (held_in self.old) arrival.now.at arrival.now.token sent.old.items Did (held_in self.new) sent.new.items }
         ensures not { result ≡ false → held_in self.new ≡ held_in self.old }
         ensures unsent { result ≡ false → sent.new.items ≡ sent.old.items }
@@ -343,7 +338,6 @@ impl<'m, A: Allocator> Contents<'m, A> {
         instr: &Instruction,
         sent: &mut Vec<PackedToken, A>,
     ) -> bool
-        requires alone { T.ALONE ≡ true → self.old.elements ≡ 1 }
         requires known { 0 < T.COUNT → self.old.elements ≡ T.COUNT }
         requires can { CanAct (C.program code.now) (C.width code.now) (held_in self.old) arrival.now.at arrival.now.token }
         requires address { arrival.now.token.to ≡ To.Instr arrival.now.point.frame arrival.now.point.ip arrival.now.port }
@@ -351,7 +345,7 @@ impl<'m, A: Allocator> Contents<'m, A> {
         requires short { IsShort (C.width code.now) arrival.now.point.ip instr.now }
         requires credit { IsCredit instr.now.op }
         requires spare { length self.old.queue.items + 3 ≤ self.old.queue.room }
-        requires sent_spare { T.ALONE ≡ false → vec_len sent.old + 2 ≤ vec_capacity sent.old }
+        requires sent_spare { (T.COUNT == 1) ≡ false → vec_len sent.old + 2 ≤ vec_capacity sent.old }
         ensures did { result ≡ true → ActsAs (C.program code.now) (held_in self.old) arrival.now.at arrival.now.token sent.old.items Did (held_in self.new) sent.new.items }
         ensures not { result ≡ false → held_in self.new ≡ held_in self.old }
         ensures unsent { result ≡ false → sent.new.items ≡ sent.old.items }
@@ -384,7 +378,6 @@ impl<'m, A: Allocator> Contents<'m, A> {
         instr: &Instruction,
         sent: &mut Vec<PackedToken, A>,
     ) -> bool
-        requires alone { T.ALONE ≡ true → self.old.elements ≡ 1 }
         requires known { 0 < T.COUNT → self.old.elements ≡ T.COUNT }
         requires can { CanAct (C.program code.now) (C.width code.now) (held_in self.old) arrival.now.at arrival.now.token }
         requires address { arrival.now.token.to ≡ To.Instr arrival.now.point.frame arrival.now.point.ip arrival.now.port }
@@ -392,7 +385,7 @@ impl<'m, A: Allocator> Contents<'m, A> {
         requires short { IsShort (C.width code.now) arrival.now.point.ip instr.now }
         requires frame { instr.now.op ≡ Op.Frame }
         requires spare { length self.old.queue.items + 3 ≤ self.old.queue.room }
-        requires sent_spare { T.ALONE ≡ false → vec_len sent.old + 2 ≤ vec_capacity sent.old }
+        requires sent_spare { (T.COUNT == 1) ≡ false → vec_len sent.old + 2 ≤ vec_capacity sent.old }
         ensures did { result ≡ true → ActsAs (C.program code.now) (held_in self.old) arrival.now.at arrival.now.token sent.old.items Did (held_in self.new) sent.new.items }
         ensures not { result ≡ false → held_in self.new ≡ held_in self.old }
         ensures unsent { result ≡ false → sent.new.items ≡ sent.old.items }
@@ -421,14 +414,13 @@ impl<'m, A: Allocator> Contents<'m, A> {
         token: PackedToken,
         sent: &mut Vec<PackedToken, A>,
     ) -> bool
-        requires alone { T.ALONE ≡ true → self.old.elements ≡ 1 }
         requires known { 0 < T.COUNT → self.old.elements ≡ T.COUNT }
         requires some { self.old.element < self.old.elements }
         requires manager { token.to ≡ To.Manager }
         requires there { at < length self.old.queue.items }
         requires few { self.old.queue.gone < 2 ^ 63 }
         requires spare { length self.old.queue.items + 3 ≤ self.old.queue.room }
-        requires sent_spare { T.ALONE ≡ false → vec_len sent.old + 2 ≤ vec_capacity sent.old }
+        requires sent_spare { (T.COUNT == 1) ≡ false → vec_len sent.old + 2 ≤ vec_capacity sent.old }
         ensures did { result ≡ true → FiresAs (Some (token ∷ [])) (part_of self.old) (held_in self.old) at sent.old.items Did
             (held_in self.new) sent.new.items }
         ensures not { result ≡ false → held_in self.new ≡ held_in self.old }
@@ -453,14 +445,13 @@ impl<'m, A: Allocator> Contents<'m, A> {
         token: PackedToken,
         sent: &mut Vec<PackedToken, A>,
     ) -> bool
-        requires alone { T.ALONE ≡ true → self.old.elements ≡ 1 }
         requires known { 0 < T.COUNT → self.old.elements ≡ T.COUNT }
         requires some { self.old.element < self.old.elements }
         requires place { place < length (bank_states self.old.bank) }
         requires there { at < length self.old.queue.items }
         requires few { self.old.queue.gone < 2 ^ 63 }
         requires spare { length self.old.queue.items + 3 ≤ self.old.queue.room }
-        requires sent_spare { T.ALONE ≡ false → vec_len sent.old + 2 ≤ vec_capacity sent.old }
+        requires sent_spare { (T.COUNT == 1) ≡ false → vec_len sent.old + 2 ≤ vec_capacity sent.old }
         ensures did { result ≡ true → FiresAs (Some (token ∷ [])) (with_state (part_of self.old) place held)
             (held_in self.old) at sent.old.items Did (held_in self.new) sent.new.items }
         ensures not { result ≡ false → held_in self.new ≡ held_in self.old }
@@ -503,7 +494,6 @@ impl<'m, A: Allocator> Contents<'m, A> {
         matched: &Matched,
         sent: &mut Vec<PackedToken, A>,
     ) -> bool
-        requires alone { T.ALONE ≡ true → self.old.elements ≡ 1 }
         requires known { 0 < T.COUNT → self.old.elements ≡ T.COUNT }
         requires some { self.old.element < self.old.elements }
         requires place { place < length (bank_states self.old.bank) }
@@ -514,7 +504,7 @@ impl<'m, A: Allocator> Contents<'m, A> {
         requires few { self.old.queue.gone < 2 ^ 63 }
         requires room { HasRoomInWord matched.now.left }
         requires spare { length self.old.queue.items + 3 ≤ self.old.queue.room }
-        requires sent_spare { T.ALONE ≡ false → vec_len sent.old + 2 ≤ vec_capacity sent.old }
+        requires sent_spare { (T.COUNT == 1) ≡ false → vec_len sent.old + 2 ≤ vec_capacity sent.old }
         ensures did { result ≡ true → FiresAs (fire_two (C.program code.now) (point_of arrival.now.point) (instr_of instr.now)
             instr.now.op matched.now.left matched.now.right) (with_state (part_of self.old) place Empty) (held_in self.old) arrival.now.at sent.old.items Did
             (held_in self.new) sent.new.items }
@@ -593,7 +583,6 @@ impl<'m, A: Allocator> Contents<'m, A> {
         leaving: Leaving,
         sent: &mut Vec<PackedToken, A>,
     ) -> bool
-        requires alone { T.ALONE ≡ true → self.old.elements ≡ 1 }
         requires known { 0 < T.COUNT → self.old.elements ≡ T.COUNT }
         requires some { self.old.element < self.old.elements }
         requires near { arrival.now.point.ip < 2 ^ 30 }
@@ -603,7 +592,7 @@ impl<'m, A: Allocator> Contents<'m, A> {
         requires there { arrival.now.at < length self.old.queue.items }
         requires few { self.old.queue.gone < 2 ^ 63 }
         requires spare { length self.old.queue.items + 3 ≤ self.old.queue.room }
-        requires sent_spare { T.ALONE ≡ false → vec_len sent.old + 2 ≤ vec_capacity sent.old }
+        requires sent_spare { (T.COUNT == 1) ≡ false → vec_len sent.old + 2 ≤ vec_capacity sent.old }
         ensures did { result ≡ true → FiresAs (Some (left_on (point_of arrival.now.point) leaving))
             (with_place (part_of self.old) cleared Empty) (held_in self.old) arrival.now.at sent.old.items Did (held_in self.new) sent.new.items }
         ensures not { result ≡ false → held_in self.new ≡ held_in self.old }
@@ -632,14 +621,13 @@ impl<'m, A: Allocator> Contents<'m, A> {
         after: PackedToken,
         sent: &mut Vec<PackedToken, A>,
     ) -> bool
-        requires alone { T.ALONE ≡ true → self.old.elements ≡ 1 }
         requires known { 0 < T.COUNT → self.old.elements ≡ T.COUNT }
         requires some { self.old.element < self.old.elements }
         requires place { place < length (bank_states self.old.bank) }
         requires there { at < length self.old.queue.items }
         requires few { self.old.queue.gone < 2 ^ 63 }
         requires spare { length self.old.queue.items + 3 ≤ self.old.queue.room }
-        requires sent_spare { T.ALONE ≡ false → vec_len sent.old + 2 ≤ vec_capacity sent.old }
+        requires sent_spare { (T.COUNT == 1) ≡ false → vec_len sent.old + 2 ≤ vec_capacity sent.old }
         ensures did { result ≡ true → FiresAs (Some (Rule.token (To.Release frame) Rule.signal ∷ after ∷ []))
             (with_state (part_of self.old) place Empty) (held_in self.old) at sent.old.items Did (held_in self.new) sent.new.items }
         ensures not { result ≡ false → held_in self.new ≡ held_in self.old }

@@ -150,14 +150,13 @@ impl<'m, A: Allocator> Contents<'m, A> {
     // Whether this element takes the packed token.
     #[inline(always)]
     fn keeps<T: Company>(&self, token: &PackedToken) -> bool
-        requires alone { T.ALONE ≡ true → self.now.elements ≡ 1 }
         requires known { 0 < T.COUNT → self.now.elements ≡ T.COUNT }
         requires there { self.now.element < self.now.elements }
         ensures own { result ≡ true → element_of self.now.elements token.now.to ≡ self.now.element }
         ensures other { result ≡ false → (element_of self.now.elements token.now.to == self.now.element) ≡ false }
-        ensures together { result ≡ false → T.ALONE ≡ false }
+        ensures together { result ≡ false → (T.COUNT == 1) ≡ false }
     {
-        T::ALONE || element_of_packed(token, self.team::<T>()) == self.element
+        T::COUNT == 1 || element_of_packed(token, self.team::<T>()) == self.element
     }
 
     // Puts a packed token last into the queue, or last among those for other elements.
@@ -167,11 +166,10 @@ impl<'m, A: Allocator> Contents<'m, A> {
         token: PackedToken,
         sent: &mut Vec<PackedToken, A>,
     )
-        requires alone { T.ALONE ≡ true → self.old.elements ≡ 1 }
         requires known { 0 < T.COUNT → self.old.elements ≡ T.COUNT }
         requires some { self.old.element < self.old.elements }
         requires room { length self.old.queue.items < self.old.queue.room }
-        requires sent_room { T.ALONE ≡ false → vec_len sent.old < vec_capacity sent.old }
+        requires sent_room { (T.COUNT == 1) ≡ false → vec_len sent.old < vec_capacity sent.old }
         ensures held { held_in self.new ≡ queued (held_in self.old) (token ∷ []) }
         ensures sent { sent.new.items ≡ sent.old.items ++ elsewhere (shape_of self.old) (token ∷ []) }
         ensures len { length self.new.queue.items ≤ length self.old.queue.items + 1 }
@@ -193,12 +191,11 @@ impl<'m, A: Allocator> Contents<'m, A> {
         token: PackedToken,
         sent: &mut Vec<PackedToken, A>,
     )
-        requires alone { T.ALONE ≡ true → self.old.elements ≡ 1 }
         requires known { 0 < T.COUNT → self.old.elements ≡ T.COUNT }
         requires some { self.old.element < self.old.elements }
         requires first { element_of self.old.elements token.to ≡ 0 }
         requires room { length self.old.queue.items < self.old.queue.room }
-        requires sent_room { T.ALONE ≡ false → vec_len sent.old < vec_capacity sent.old }
+        requires sent_room { (T.COUNT == 1) ≡ false → vec_len sent.old < vec_capacity sent.old }
         ensures held { held_in self.new ≡ queued (held_in self.old) (token ∷ []) }
         ensures sent { sent.new.items ≡ sent.old.items ++ elsewhere (shape_of self.old) (token ∷ []) }
         ensures len { length self.new.queue.items ≤ length self.old.queue.items + 1 }
@@ -206,7 +203,7 @@ impl<'m, A: Allocator> Contents<'m, A> {
         ensures sent_len { vec_len sent.new ≤ vec_len sent.old + 1 }
         ensures sent_capacity { vec_capacity sent.new ≡ vec_capacity sent.old }
     {
-        if T::ALONE || self.element == 0 {
+        if T::COUNT == 1 || self.element == 0 {
             self.send_here(token);
         } else {
             sent.push_reserved(token);

@@ -1,6 +1,6 @@
 //! The slots of the frames that lie on an element.
 
-ghost use Rattle.std.specs.Prelude.{◌≡◌, ◌*◌, ◌<◌, ◌/◌, true, length, slice_index_or};
+ghost use Rattle.std.specs.Prelude.{◌≡◌, ◌*◌, ◌<◌, ◌/◌, length, slice_index_or};
 ghost use Rattle.element.specs.Holding.{held_in, part_of, shape_of, with_part};
 ghost use Rattle.tags.specs.declared.slot.SlotState.TheVariants.{Empty};
 ghost use Rattle.frame_store.specs.BankViews.{bank_states, IsBank};
@@ -43,7 +43,6 @@ impl<'m, A: Allocator> Contents<'m, A> {
     // How many elements there are: the number that is known where the code is compiled, if one is.
     #[inline(always)]
     pub(super) fn team<T: Company>(&self) -> u32
-        requires alone { T.ALONE ≡ true → self.now.elements ≡ 1 }
         requires known { 0 < T.COUNT → self.now.elements ≡ T.COUNT }
         ensures { result ≡ self.now.elements }
     {
@@ -56,7 +55,6 @@ impl<'m, A: Allocator> Contents<'m, A> {
     // Where the slot of an instruction is, in a frame on this element.
     #[inline(always)]
     pub(super) fn place_of_slot<T: Company>(&self, frame: FrameId, slot: u32) -> usize
-        requires alone { T.ALONE ≡ true → self.now.elements ≡ 1 }
         requires known { 0 < T.COUNT → self.now.elements ≡ T.COUNT }
         requires some { 0 < self.now.elements }
         requires bank { IsBank self.now.bank }

@@ -1,10 +1,6 @@
-use Rattle.std.proofs.Common.{◌∙◌, ap, arith}
-use Rattle.element.specs.Holding.{Fixed}
+use Rattle.std.proofs.Common.{◌∙◌, arith}
 use Rattle.rounds.proofs.Turning.{took_all}
 use Rattle.rounds.proofs.turn.take_unlisted.Goals as goal
-
-pub make_some-requires-clause-alone : goal.make_some-requires-clause-alone
-make_some-requires-clause-alone g c = λ yes. ap (λ (f : Fixed). f.shape.elements) c.events.invariant.fixed ∙ c.requires.alone yes
 
 pub events-preserved : goal.events-preserved
 events-preserved g c =

@@ -4,9 +4,6 @@ use Rattle.element.specs.Parts.{Shape}
 use Rattle.element.specs.Holding.{Holding, held_in, shape_of, taken, queued, elsewhere}
 use Rattle.element.proofs.contents.Contents.answers.Goals as goal
 
-pub send_packed-requires-clause-alone : goal.send_packed-requires-clause-alone
-send_packed-requires-clause-alone g c = λ yes. ap (λ (h : Holding). h.part.shape.elements) c.take.ensures.held ∙ c.requires.alone yes
-
 pub send_packed-requires-clause-some : goal.send_packed-requires-clause-some
 send_packed-requires-clause-some g c =
     let shape : shape_of c.take.new.self ≡ shape_of c.args.self.now = ap (λ (h : Holding). h.part.shape) c.take.ensures.held in

@@ -1,4 +1,4 @@
-use Rattle.std.proofs.Common.{◌≡◌, ◌+◌, ◌-◌, ◌*◌, ◌≤◌, ℕ, false, length}
+use Rattle.std.proofs.Common.{◌≡◌, ◌==◌, ◌+◌, ◌*◌, ◌≤◌, ℕ, false, length}
 use Rattle.std.specs.Prelude.{vec_len}
 use Rattle.std.specs.Vec.{vec_capacity}
 use Rattle.element.specs.Holding.{held_in, shape_of, IsSoundLane}
@@ -13,7 +13,7 @@ invariant-parts g l = record {
   sound : IsSoundLane (g.C.Instructions.program l.code) (held_in l.self);
   shape : shape_of l.self ≡ shape_of l.fn.self;
   room : length l.self.queue.items + 2 * l.left + 1 ≤ l.self.queue.room;
-  sent_room : g.T.Company.ALONE ≡ false → vec_len l.sent + 2 * l.left ≤ vec_capacity l.sent;
+  sent_room : (g.T.Company.COUNT == 1) ≡ false → vec_len l.sent + 2 * l.left ≤ vec_capacity l.sent;
 }
 
 abbrev pub decreases-parts : goal.decreases-parts
