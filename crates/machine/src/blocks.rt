@@ -11,6 +11,7 @@ ghost use Rattle.ordering.specs.Noted.{noted_in, with_block};
 ghost use Rattle.machine.specs.Runners.{IsRunning, Runs, Keeps, IsClear, StaysAt, HasNoReason, HasMade, NotesBlock, tokens_of};
 
 use crate::runner::{Lost, Runner};
+use crate::turns::LOOK;
 use element::instructions::Instructions;
 use mesh::{Ask, Mesh};
 use ordering::log::{BlockLog, Counts};
@@ -28,10 +29,7 @@ use token_queue::queue::TokenQueue;
 // How many tokens the commits of an element may make.
 const MOST: u64 = 1 << 40;
 
-// A turn that has fewer events than this has as many on each element.
-const SHORT: u64 = 128;
-
-// How many times longer turns are than those of element 0 on the other elements, and on one that is alone.
+// How many times longer turns are on the elements that are not asked for frames.
 const LONGER: u64 = 8;
 
 // The commit of a block, by the numbers of tokens that it spent and made.
@@ -178,12 +176,12 @@ fn commit<C: MainCode, A: Allocator, L: Log>(
 }
 
 // How many events the element makes in a turn at most: no fewer than a turn has. Others ask element 0 for frames, and wait for them, so
-// its turns are the shortest.
+// its turns are the shortest; but where turns are shorter than what lies between two looks at the mailboxes, all are alike.
 fn turn_of<C: MainCode>(shape: &Shape<'_, C>, element: u32) -> u64
     ensures { shape.now.turn ≤ result }
 {
     let is_asked = element == 0 && shape.elements > 1;
-    if is_asked || shape.turn < SHORT {
+    if is_asked || shape.turn < LOOK {
         return shape.turn;
     }
     shape.turn.saturating_mul(LONGER)

@@ -23,9 +23,9 @@ use std::alloc::{AllocError, Allocator};
 use std::sync::Wait;
 use std::thread;
 
-// How many events an element that has enough tokens makes between two looks at the mailboxes: those in which it takes what
-// others posted, and those in which it posts what it has for others.
-const LOOK: u64 = 128;
+/// How many events an element that has enough tokens makes between two looks at the mailboxes: those in which it takes what
+/// others posted, and those in which it posts what it has for others.
+pub const LOOK: u64 = 128;
 
 // Whether the element has tokens for a whole turn, and looked at the mailboxes a short while ago, or has nobody who would post any.
 fn is_busy<C: MainCode, A: Allocator, L: Log>(
