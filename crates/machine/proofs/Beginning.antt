@@ -1,6 +1,6 @@
 -- What holds of an element before its first event.
 use Rattle.std.proofs.Common.{◌≡◌, ◌≢◌, refl, sym, ◌∙◌, ap, subst, ℕ, zero, suc, ◌+◌, ◌<◌, Bool, List, [], ◌∷◌, ◌++◌, drop, get_or, Some, arith}
-use Rattle.std.specs.Prelude.{All, slice_get, filter, flat_map, ◌==◌, if◌then◌else◌, Vec}
+use Rattle.std.specs.Prelude.{All, slice_get, filter, flat_map, ◌==◌, if◌then◌else◌}
 use Rattle.std.proofs.lemmas.Bool.{ne_eqb, eq-eqb}
 use Rattle.std.proofs.lemmas.List.{append-nil}
 use Rattle.std.proofs.lemmas.List.Elements.{All-head, All-tail, All-nil, filter-append}
@@ -8,6 +8,7 @@ use Rattle.std.proofs.lemmas.List.Sorted.{IsPermutation-refl}
 use Rattle.law_confluence.proofs.Orders.{at_first, at_last}
 use Rattle.tags.specs.declared.token.Token.{Token}
 use Rattle.tags.specs.Addresses.{element_of}
+use Rattle.element.specs.Near.{Bounds, IsNearToken}
 use Rattle.element.specs.Holding.{Holding, held_of, fixed_of}
 use Rattle.schedule.specs.Setting.{Setting}
 use Rattle.schedule.specs.State.{AllFrom, IsPlaced, RunsAs, tokens_in}
@@ -18,6 +19,8 @@ use Rattle.machine.specs.declared.runner.Runner.{Runner}
 use Rattle.ordering.specs.Noted.{Noted}
 use Rattle.ordering.specs.Logs.{Logs}
 use Rattle.ordering.proofs.Logging.{notes_nothing}
+use Rattle.law_linearization.specs.History.{bounds_of}
+use Rattle.machine.specs.Bundles.{BundleView}
 use Rattle.machine.specs.Runners.{IsRunning, IsClear, away}
 use Rattle.machine.specs.Starts.{IsNew}
 use Rattle.mesh.specs.Deeds.{commits_of, created}
@@ -74,24 +77,26 @@ pub own_tokens : (g : Setting) (e : ℕ) (lanes : List Holding) (h : Holding) �
 own_tokens g e lanes h placed there = own_from g e 0 e lanes h (omega arith) placed there
 
 -- EMPTY BUNDLES
-module _ {A : Type 0} where
-  no_tokens : (unposted : List (Vec Token A)) → All (λ (v : Vec Token A). v.items ≡ []) unposted → flat_map (λ (v : Vec Token A). v.items) unposted ≡ []
-  no_tokens [] all = refl
-  no_tokens (v ∷ vs) all =
-      ap (λ (l : List Token). l ++ flat_map (λ (v : Vec Token A). v.items) vs) (All-head (λ (v : Vec Token A). v.items ≡ []) v vs all)
-      ∙ no_tokens vs (All-tail (λ (v : Vec Token A). v.items ≡ []) v vs all)
+abbrev Blank : Bounds → BundleView → Type 0
+Blank bounds b = (b.tokens ≡ []) × (b.bounds ≡ bounds)
+
+no_tokens : (bounds : Bounds) (unposted : List BundleView) → All (Blank bounds) unposted → flat_map (λ (b : BundleView). b.tokens) unposted ≡ []
+no_tokens bounds [] all = refl
+no_tokens bounds (b ∷ bs) all =
+    ap (λ (l : List Token). l ++ flat_map (λ (b : BundleView). b.tokens) bs) (All-head (Blank bounds) b bs all).0
+    ∙ no_tokens bounds bs (All-tail (Blank bounds) b bs all)
 
 module _ {C A L : Type 0} where
-  nothing_beside : (r : Runner C A L) → IsClear r → All (λ (v : Vec Token A). v.items ≡ []) r.unposted.items → away r ≡ []
-  nothing_beside r (unqueued, sent, bundled) empty =
-      ap (λ (l : List Token). l ++ (flat_map (λ (v : Vec Token A). v.items) r.unposted.items ++ drop r.bundled r.sent.items)) unqueued
-      ∙ ap (λ (l : List Token). l ++ drop r.bundled r.sent.items) (no_tokens r.unposted.items empty)
+  nothing_beside : (bounds : Bounds) (r : Runner C A L) → IsClear r → All (Blank bounds) r.unposted.items → away r ≡ []
+  nothing_beside bounds r (unqueued, sent, bundled) empty =
+      ap (λ (l : List Token). l ++ (flat_map (λ (b : BundleView). b.tokens) r.unposted.items ++ drop r.bundled r.sent.items)) unqueued
+      ∙ ap (λ (l : List Token). l ++ drop r.bundled r.sent.items) (no_tokens bounds r.unposted.items empty)
       ∙ ap (λ (n : ℕ). drop n r.sent.items) bundled ∙ sent
 
   -- a lane with its fresh seat
   pub new_running : (keeps_events : Bool) (g : Setting) (mesh : MeshId) (e : ℕ) (lanes : List Holding) (r : Runner C A L) → mesh.elements ≡ g.elements
       → mesh.start ≡ tokens_in lanes → AllFrom (IsPlaced g) 0 lanes → slice_get lanes e ≡ Some (held_of r.lane) → RunsAs g (fixed_of r.lane)
-      → r.seat ≡ fresh_seat mesh e → IsNew g.elements r → IsRunning keeps_events g mesh (held_of r.lane) r
+      → r.seat ≡ fresh_seat mesh e → IsNew g.elements (bounds_of g) r → IsRunning keeps_events g mesh (held_of r.lane) r
   new_running keeps_events g mesh e lanes r elements start placed there runs seat new =
       let h : Holding = held_of r.lane in
       let element : r.seat.own.element ≡ e = ap (λ (s : SeatView). s.own.element) seat in
@@ -99,7 +104,7 @@ module _ {C A L : Type 0} where
       let mine : filter (to_be mesh.elements e) mesh.start ≡ h.queue = ap (λ (n : ℕ). filter (to_be n e) mesh.start) elements
       ∙ ap (λ (l : List Token). filter (to_be g.elements e) l) start ∙ own_tokens g e lanes h placed there in
       let held : r.seat.own.held ≡ h.queue = ap (λ (s : SeatView). s.own.held) seat ∙ mine in
-      let beside : away r ≡ [] = nothing_beside r new.clear new.unposted.1 in
+      let beside : away r ≡ [] = nothing_beside (bounds_of g) r new.clear new.unposted.1 in
       record {
         at = ap (λ (s : SeatView). s.mesh) seat;
         alone = ap (λ (s : SeatView). s.joined) seat;
@@ -119,7 +124,9 @@ module _ {C A L : Type 0} where
         };
         tidy = record {
           count = new.unposted.0;
-          addressed = λ i d low. let none : (get_or r.unposted.items i d).items ≡ [] = new.unposted.1 i d (omega (arith, low, new.unposted.0)) in
+          within = λ i d low. (new.unposted.1 i d (omega (arith, low, new.unposted.0))).1;
+          near = subst (λ (l : List Token). All (IsNearToken (bounds_of g)) l) (sym new.clear.1) (All-nil (IsNearToken (bounds_of g)));
+          addressed = λ i d low. let none : (get_or r.unposted.items i d).tokens ≡ [] = (new.unposted.1 i d (omega (arith, low, new.unposted.0))).0 in
               subst (λ (l : List Token). AllTo g.elements i l) (sym none) (All-nil (λ (t : Token). element_of g.elements t.to ≡ i));
           created = ap (λ (ds : List Deed). created ds) deeds ∙ sym new.created;
           few = omega (arith, new.created);

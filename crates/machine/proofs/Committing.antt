@@ -1,12 +1,14 @@
 -- A block is committed.
 use Rattle.std.proofs.Common.{◌≡◌, sym, ◌∙◌, ap, subst, ℕ, ◌+◌, ◌-◌, ◌^◌, ◌<◌, ◌≤◌, List, [], ◌∷◌, ◌++◌, length, drop, get_or, arith, append_assoc}
 use Rattle.std.proofs.Common.{◌⊎◌, inl, inr, Bool, true, false, take, refl, None}
-use Rattle.std.specs.Prelude.{IsPermutation, flat_map, min, Vec, if◌then◌else◌}
+use Rattle.std.specs.Prelude.{All, IsPermutation, flat_map, min, Vec, if◌then◌else◌}
 use Rattle.std.proofs.lemmas.Bool.{cases_lt}
 use Rattle.std.proofs.lemmas.List.{length-append, length-map, append-nil, take-append-drop}
+use Rattle.std.proofs.lemmas.List.Elements.{All-nil}
 use Rattle.lemmas.proofs.Permutations.{permutation_same}
 use Rattle.tags.specs.declared.token.Token.{Token}
 use Rattle.semantics.specs.Program.{Program}
+use Rattle.element.specs.Near.{IsNearToken}
 use Rattle.element.specs.Holding.{LaneView, Holding, held_of, IsSoundLane, Fixed, fixed_of}
 use Rattle.schedule.specs.Setting.{Setting}
 use Rattle.schedule.specs.State.{RunsAs}
@@ -20,7 +22,7 @@ use Rattle.schedule.specs.Steps.{logged}
 use Rattle.rounds.specs.Turns.{Turns, IsWhole, by}
 use Rattle.machine.specs.declared.runner.Runner.{Runner}
 use Rattle.semantics.specs.Machine.{Events}
-use Rattle.law_linearization.specs.History.{Act, Block}
+use Rattle.law_linearization.specs.History.{Act, Block, bounds_of}
 use Rattle.ordering.specs.declared.log.Counts.{Counts}
 use Rattle.ordering.specs.Noted.{Noted, noted_in, with_block}
 use Rattle.ordering.specs.Logs.{taken_in, made_in, counts_of, SpendsOldest, Notes, Logs}
@@ -29,7 +31,7 @@ use Rattle.law_confluence.proofs.Orders.{at_first}
 use Rattle.rounds.proofs.Counting.{grown}
 use Rattle.machine.specs.Runners.{Ran, IsRunning, IsClear, HasNoReason, HasMade, NotesBlock, left_last, still_first, away, tokens_of, behind_all}
 use Rattle.machine.proofs.Tokens.{minus}
-use Rattle.machine.proofs.Flowing.{acts_take}
+use Rattle.machine.proofs.Flowing.{acts_take, turn_near}
 use Rattle.machine.proofs.Steps.{Parted, acts, cut, ran_as, first_gone, minus_gone, gone_count, left_count, gone_has, gone_mine, block}
 use Rattle.machine.proofs.Steps.{ran_committed, ran_still}
 
@@ -75,7 +77,7 @@ no_reason g turn old new long (inr none) = inl none
 module _ {C A L : Type 0} (keeps_events : Bool) (g : Setting) (mesh : MeshId) (start old : Holding) (before events : ℕ) (r : Runner C A L)
     (h : HasMade keeps_events g mesh start old before events r) where
   abbrev pub beside : List Token
-  beside = r.unqueued.items ++ flat_map (λ v. v.items) r.unposted.items
+  beside = r.unqueued.tokens ++ flat_map (λ b. b.tokens) r.unposted.items
 
   abbrev new : Holding
   new = held_of r.lane
@@ -198,8 +200,8 @@ module _ {C A L : Type 0} (keeps_events : Bool) (g : Setting) (mesh : MeshId) (s
           spent made spent_is count_is gone gone_is unposted commits.2 in
           let unbundled : drop r.bundled r.sent.items ≡ r.sent.items = ap (λ (n : ℕ). drop n r.sent.items) h.unbundled in
           let same_away : away s ≡ beside ++ r.sent.items = ap (λ (z : Runner C A L). away z) others
-          ∙ ap (λ (l : List Token). r.unqueued.items ++ (flat_map (λ v. v.items) r.unposted.items ++ l)) unbundled
-          ∙ sym (append_assoc r.unqueued.items (flat_map (λ v. v.items) r.unposted.items) r.sent.items) in
+          ∙ ap (λ (l : List Token). r.unqueued.tokens ++ (flat_map (λ b. b.tokens) r.unposted.items ++ l)) unbundled
+          ∙ sym (append_assoc r.unqueued.tokens (flat_map (λ b. b.tokens) r.unposted.items) r.sent.items) in
           let lane : held_of s.lane ≡ new = ap (λ (z : Runner C A L). held_of z.lane) others in
           let deeds : s.seat.own.deeds ≡ ds = ap (λ (z : SeatView). z.own.deeds) is in
           let counted : created s.seat.own.deeds ≡ s.created + made = (let more = created_more own.deeds (Committed gone left)
@@ -217,8 +219,10 @@ module _ {C A L : Type 0} (keeps_events : Bool) (g : Setting) (mesh : MeshId) (s
                 (ap (λ (z : SeatView). z.own.element) is) lane deeds (ap (λ (z : SeatView). z.own.held) is) same_away ran;
             tidy = record {
               count = ap (λ (z : Runner C A L). length z.unposted.items) others ∙ h.tidy.count;
-              addressed = λ i d low. subst (λ (z : Runner C A L). AllTo g.elements i (get_or z.unposted.items i d).items) (sym others)
+              addressed = λ i d low. subst (λ (z : Runner C A L). AllTo g.elements i (get_or z.unposted.items i d).tokens) (sym others)
                   (h.tidy.addressed i d low);
+              within = λ i d low. ap (λ (z : Runner C A L). (get_or z.unposted.items i d).bounds) others ∙ h.tidy.within i d low;
+              near = subst (λ (z : Runner C A L). All (IsNearToken (bounds_of g)) z.sent.items) (sym others) h.tidy.near;
               created = counted;
               few = let o : s.created ≡ r.created = ap (λ (z : Runner C A L). z.created) others in omega (arith, o, small);
             };
@@ -238,9 +242,9 @@ module _ {C A L : Type 0} (keeps_events : Bool) (g : Setting) (mesh : MeshId) (s
   nothing_made none =
       let n : length h.taken ≡ 0 = sym h.events_are ∙ none in
       let still = ran_still g mesh start r.seat.own.element old r.seat.own.deeds r.seat.own.held beside h.ran h.taken new r.sent.items h.turns n in
-      let all : List Token = flat_map (λ v. v.items) r.unposted.items in
-      let same : away r ≡ beside = ap (λ (k : ℕ). r.unqueued.items ++ (all ++ drop k r.sent.items)) h.unbundled
-      ∙ ap (λ (l : List Token). r.unqueued.items ++ (all ++ l)) still.1 ∙ ap (λ (l : List Token). r.unqueued.items ++ l) (append-nil all) in
+      let all : List Token = flat_map (λ b. b.tokens) r.unposted.items in
+      let same : away r ≡ beside = ap (λ (k : ℕ). r.unqueued.tokens ++ (all ++ drop k r.sent.items)) h.unbundled
+      ∙ ap (λ (l : List Token). r.unqueued.tokens ++ (all ++ l)) still.1 ∙ ap (λ (l : List Token). r.unqueued.tokens ++ l) (append-nil all) in
       record {
         at = h.at;
         alone = h.alone;
@@ -248,7 +252,7 @@ module _ {C A L : Type 0} (keeps_events : Bool) (g : Setting) (mesh : MeshId) (s
         blocks = h.blocks;
         ran = ran_as g mesh start r.seat.own.element r.seat.own.element old new r.seat.own.deeds r.seat.own.deeds r.seat.own.held r.seat.own.held
             beside (away r) refl still.0 refl refl same h.ran;
-        tidy = record { count = h.tidy.count; addressed = h.tidy.addressed; created = h.tidy.created; few = h.tidy.few };
+        tidy = record { count = h.tidy.count; addressed = h.tidy.addressed; within = h.tidy.within; near = h.tidy.near; created = h.tidy.created; few = h.tidy.few };
         noted = h.noted;
         unlogged = h.log ∙ ap (λ (l : List Token). logged keeps_events [] (by old.part.shape.element l)) (none_taken h.taken n) ∙ nothing_logged keeps_events;
       }
@@ -285,9 +289,9 @@ module _ {C A L : Type 0} (keeps_events : Bool) (g : Setting) (mesh : MeshId) (s
       let fresh : Turns g.program g.steps old [] taken (held_of lane) sent.items = subst (λ (l : List Token). Turns g.program g.steps old l taken
       (held_of lane) sent.items) clear.1 turns in
       let count : lane.held.made ≡ r.lane.held.made + length taken = grown g.program g.steps old [] taken (held_of lane) sent.items fresh in
-      let all : List Token = flat_map (λ v. v.items) r.unposted.items in
-      let less : away r ≡ r.unqueued.items ++ all = ap (λ (n : ℕ). r.unqueued.items ++ (all ++ drop n r.sent.items)) clear.2
-      ∙ ap (λ (l : List Token). r.unqueued.items ++ (all ++ l)) clear.1 ∙ ap (λ (l : List Token). r.unqueued.items ++ l) (append-nil all) in
+      let all : List Token = flat_map (λ b. b.tokens) r.unposted.items in
+      let less : away r ≡ r.unqueued.tokens ++ all = ap (λ (n : ℕ). r.unqueued.tokens ++ (all ++ drop n r.sent.items)) clear.2
+      ∙ ap (λ (l : List Token). r.unqueued.tokens ++ (all ++ l)) clear.1 ∙ ap (λ (l : List Token). r.unqueued.tokens ++ l) (append-nil all) in
       record {
         at = run.at;
         alone = run.alone;
@@ -296,7 +300,14 @@ module _ {C A L : Type 0} (keeps_events : Bool) (g : Setting) (mesh : MeshId) (s
         ran = subst (λ (l : List Token). Ran g mesh r.seat.own.element start old r.seat.own.deeds r.seat.own.held l run.blocks) less run.ran;
         noted = run.noted;
         log = logs ∙ ap (λ (l : Events). logged keeps_events l (by r.lane.held.part.shape.element taken)) run.unlogged;
-        tidy = record { count = run.tidy.count; addressed = run.tidy.addressed; created = run.tidy.created; few = run.tidy.few };
+        tidy = record {
+          count = run.tidy.count;
+          addressed = run.tidy.addressed;
+          within = run.tidy.within;
+          near = turn_near g r.seat.own.element old [] taken (held_of lane) sent.items run.ran.placed fresh (All-nil (IsNearToken (bounds_of g)));
+          created = run.tidy.created;
+          few = run.tidy.few;
+        };
         taken = taken;
         turns = fresh;
         sound = sound;

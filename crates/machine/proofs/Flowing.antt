@@ -1,6 +1,7 @@
 -- What a block of events is made of the turn of a lane.
 use Rattle.std.proofs.Common.{◌≡◌, refl, sym, ◌∙◌, ap, subst, ℕ, suc, ◌%◌, ◌<◌, ◌≤◌, List, [], ◌∷◌, ◌++◌, length, map, get_or, Some, arith, append_assoc}
-use Rattle.std.specs.Prelude.{All, IsPermutation, slice_get, remove}
+use Rattle.std.specs.Prelude.{All, IsPermutation, not, slice_get, remove}
+use Rattle.std.proofs.lemmas.List.Elements.{All-append, All-filter}
 use Rattle.lemmas.proofs.Lists.{same_head, same_tail}
 use Rattle.law_confluence.proofs.Orders.{at_first, at_last}
 use Rattle.tags.specs.declared.token.Token.{Token}
@@ -8,7 +9,7 @@ use Rattle.tags.specs.Addresses.{element_of}
 use Rattle.semantics.specs.Program.{Program}
 use Rattle.element.specs.Near.{Bounds, IsNearToken}
 use Rattle.element.specs.Parts.{Shape}
-use Rattle.element.specs.Holding.{Holding, here, elsewhere, IsSoundLane}
+use Rattle.element.specs.Holding.{Holding, here, elsewhere, is_here, IsSoundLane}
 use Rattle.element.specs.Steps as one
 use Rattle.element.specs.Steps.{place_of}
 use Rattle.element.proofs.Quotients.{below}
@@ -157,3 +158,15 @@ turn_chain g e old before (t ∷ ts) new after start (mid, sent, does, is, few, 
     let addressed : element_of g.elements does.token.to ≡ e = subst (λ (n : ℕ). element_of n does.token.to ≡ e) start.elements (head ∙ start.element) in
     let near : All (IsNearToken (bounds_of g)) does.made = subst (λ (b : Bounds). All (IsNearToken b) does.made) (bounds_are g e old start) does.near in
     (mid.part, own_part g e mid next, addressed, near, steps_act g.program old mid 0 before sent does, turn_chain g e mid sent ts new after next rest)
+
+-- what is sent names what there is, if what was sent before does
+pub turn_near : (g : Setting) (e : ℕ) (old : Holding) (before ts : List Token) (new : Holding) (after : List Token) → IsPlaced g e old
+    → Turns g.program g.steps old before ts new after → All (IsNearToken (bounds_of g)) before → All (IsNearToken (bounds_of g)) after
+turn_near g e old before [] new after start turns near = subst (λ (l : List Token). All (IsNearToken (bounds_of g)) l) (sym turns.1) near
+turn_near g e old before (t ∷ ts) new after start (mid, sent, does, is, few, sound, rest) near =
+    let count : mid.made ≤ g.steps = (let c = does.count in omega arith) in
+    let next = next_placed g e old mid before sent start does sound count in
+    let made : All (IsNearToken (bounds_of g)) does.made = subst (λ (b : Bounds). All (IsNearToken b) does.made) (bounds_are g e old start) does.near in
+    let left : All (IsNearToken (bounds_of g)) (elsewhere old.part.shape does.made) = All-filter (λ (t : Token). not (is_here old.part.shape t)) (IsNearToken (bounds_of g)) does.made made in
+    turn_near g e mid sent ts new after next rest (subst (λ (l : List Token). All (IsNearToken (bounds_of g)) l) (sym does.sent)
+    (All-append (IsNearToken (bounds_of g)) before (elsewhere old.part.shape does.made) near left))

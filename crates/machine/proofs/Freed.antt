@@ -16,6 +16,7 @@ use Rattle.semantics.specs.Machine.{Events}
 use Rattle.semantics.specs.declared.report.End.{End}
 use Rattle.semantics.specs.Report.{Report}
 use Rattle.schedule.specs.Shown.{ShowsInOrder}
+use Rattle.element.specs.Near.{Bounds}
 use Rattle.element.specs.Holding.{Holding, Fixed, held_of}
 use Rattle.schedule.specs.declared.halt.Halt.{Halt}
 use Rattle.schedule.specs.Setting.{Setting, size}
@@ -29,7 +30,7 @@ use Rattle.rounds.specs.Turns.{HaltsLane, arriving}
 use Rattle.rounds.specs.Rounds.{IsHalted, ShowsOn}
 use Rattle.rounds.proofs.Closing.{raw_sound, none_sound, shows_any}
 use Rattle.rounds.proofs.Rounding.{halts_as}
-use Rattle.law_linearization.specs.History.{Block, events_in, LeavesTokens, AreBelow}
+use Rattle.law_linearization.specs.History.{Block, bounds_of, events_in, LeavesTokens, AreBelow}
 use Rattle.law_linearization.specs.Ends as ends
 use Rattle.ordering.specs.declared.log.BlockLog.{BlockLog}
 use Rattle.ordering.specs.Noted.{noted_in}
@@ -125,20 +126,21 @@ module _ {C A L : Type 0} where
     pub start : mesh.start ≡ tokens_in (lanes_in ps)
     pub count : length ps ≡ g.elements
     pub fresh : AreFresh mesh (seats_in ps)
-    pub new : All (λ (p : CachePadded (Runner C A L)). IsNew g.elements (padded_value p)) ps
+    pub new : All (λ (p : CachePadded (Runner C A L)). IsNew g.elements (bounds_of g) (padded_value p)) ps
 
   pub are_ready : (g : Setting) (mesh : MeshId) (ps : List (CachePadded (Runner C A L))) (raw : List Holding) (fixed : List Fixed)
       → IsSoundState (arriving g raw []) → All (RunsAs g) fixed → lanes_fixed ps ≡ fixed → (mesh.elements ≡ g.elements) × (mesh.start ≡ tokens_in raw)
       → (lanes_in ps ≡ raw) × (length ps ≡ g.elements)
-      → AreFresh mesh (seats_in ps) → All (λ (p : CachePadded (Runner C A L)). IsNew g.elements (padded_value p)) ps → AreReady g mesh ps
-  are_ready g mesh ps raw fixed sound runs same is lanes fresh new = record {
+      → AreFresh mesh (seats_in ps) → (bounds : Bounds) → bounds ≡ bounds_of g
+      → All (λ (p : CachePadded (Runner C A L)). IsNew g.elements bounds (padded_value p)) ps → AreReady g mesh ps
+  are_ready g mesh ps raw fixed sound runs same is lanes fresh bounds within new = record {
     runs = subst (λ (l : List Fixed). All (RunsAs g) l) (sym same) runs;
     sound = subst (λ (l : List Holding). IsSoundState (arriving g l [])) (sym lanes.0) sound;
     elements = is.0;
     start = is.1 ∙ ap (λ (l : List Holding). tokens_in l) (sym lanes.0);
     count = lanes.1;
     fresh = fresh;
-    new = new;
+    new = subst (λ (b : Bounds). All (λ (p : CachePadded (Runner C A L)). IsNew g.elements b (padded_value p)) ps) within new;
   }
 
   module _ (g : Setting) (mesh : MeshId) (keeps_events : Bool) (olds : List (CachePadded (Runner C A L))) (ready : AreReady g mesh olds) where

@@ -1,8 +1,8 @@
 -- An element runs on, from whatever it started.
-use Rattle.std.proofs.Common.{◌≡◌, ◌≢◌, refl, sym, ◌∙◌, ap, subst, ℕ, zero, suc, ◌+◌, ◌^◌, ◌<◌, ◌≤◌, Bool, List, [], ◌∷◌, ◌++◌, length, drop}
+use Rattle.std.proofs.Common.{◌≡◌, ◌≢◌, refl, sym, ◌∙◌, ap, subst, ℕ, zero, suc, ◌+◌, ◌^◌, ◌<◌, ◌≤◌, Bool, List, [], ◌∷◌, ◌++◌, length, drop, take}
 use Rattle.std.proofs.Common.{get_or, arith, append_assoc, true}
-use Rattle.std.specs.Prelude.{IsPermutation, flat_map, slice_set, Vec, Option, Some, None, IfSome, IfNone, Result, OnErr, OnOk}
-use Rattle.std.proofs.lemmas.List.{append-nil, drop_more, drop_all, length-set}
+use Rattle.std.specs.Prelude.{All, IsPermutation, flat_map, slice_set, Vec, Option, Some, None, IfSome, IfNone, Result, OnErr, OnOk}
+use Rattle.std.proofs.lemmas.List.{append-nil, drop_all, get_or_default, length-set, take-append-drop}
 use Rattle.std.proofs.lemmas.List.Elements.{All-nil, All-cons, All-append}
 use Rattle.std.proofs.lemmas.List.Sorted.{IsPermutation-sym, IsPermutation-trans, IsPermutation-append_left, IsPermutation-append_right}
 use mathlib.Core.Logic.{dite}
@@ -11,6 +11,7 @@ use Rattle.lemmas.proofs.Permutations.{permutation_cancel, permutation_same}
 use Rattle.law_confluence.proofs.Orders.{shuffled, Part as Piece, ◌⊕◌, at_first, at_last}
 use Rattle.tags.specs.declared.token.Token.{Token}
 use Rattle.tags.specs.Addresses.{element_of}
+use Rattle.element.specs.Near.{Bounds, IsNearToken}
 use Rattle.element.specs.Holding.{LaneView, Holding, Fixed, held_of, fixed_of, with_queue}
 use Rattle.schedule.specs.declared.halt.Halt.{Halt}
 use Rattle.schedule.specs.Setting.{Setting}
@@ -25,9 +26,11 @@ use Rattle.mesh.proofs.Deeds.{created_same}
 use Rattle.machine.specs.declared.runner.Departure.{Departure}
 use Rattle.machine.specs.declared.runner.Runner.{Runner}
 use Rattle.rounds.specs.Turns.{HaltsLane}
+use Rattle.law_linearization.specs.History.{bounds_of}
 use Rattle.ordering.specs.Noted.{noted_in}
 use Rattle.ordering.specs.Logs.{Logs}
-use Rattle.machine.specs.Runners.{Ended, IsDeparture, StaysAt, Runs, Keeps, IsClear, Receives, KeepsTokens, away, HasNoReason}
+use Rattle.machine.specs.Bundles.{BundleView}
+use Rattle.machine.specs.Runners.{Ended, IsDeparture, StaysAt, Runs, Keeps, IsClear, Receives, KeepsTokens, Fits, away, HasNoReason}
 use Rattle.machine.proofs.Accounts.{IsQuiet, found_full, saw_live}
 use Rattle.machine.proofs.Steps.{ran_as, ran_quiet, ran_beside, ran_received, ran_unqueued, ran_posted}
 
@@ -35,8 +38,8 @@ pub on_err : {X Y : Type 0} (r : Result X Y) (P : Type 0) → P → OnErr r P
 on_err (Result.Ok x) P p = tt
 on_err (Result.Err y) P p = p
 
-abbrev bundles : {A : Type 0} → List (Vec Token A) → List Token
-bundles vs = flat_map (λ v. v.items) vs
+abbrev bundles : List BundleView → List Token
+bundles vs = flat_map (λ b. b.tokens) vs
 
 module _ {C A L : Type 0} (keeps_events : Bool) (g : Setting) (mesh : MeshId) where
   pub runs_on : (old new : Runner C A L) → Runs keeps_events g mesh old → Keeps keeps_events g mesh old new → Runs keeps_events g mesh new
@@ -62,11 +65,11 @@ module _ {C A L : Type 0} (keeps_events : Bool) (g : Setting) (mesh : MeshId) wh
     ran = r.ran;
     noted = r.noted;
     unlogged = r.unlogged;
-    tidy = record { count = r.tidy.count; addressed = r.tidy.addressed; created = r.tidy.created; few = r.tidy.few };
+    tidy = record { count = r.tidy.count; addressed = r.tidy.addressed; within = r.tidy.within; near = r.tidy.near; created = r.tidy.created; few = r.tidy.few };
   }
 
   -- nor what memory it has for later bundles
-  pub keeps_sparing : (old : Runner C A L) (spare : Vec (Vec Token A) A) → Keeps keeps_events g mesh old (record old { spare = spare })
+  pub keeps_sparing : (old : Runner C A L) (spare : Vec BundleView A) → Keeps keeps_events g mesh old (record old { spare = spare })
   keeps_sparing old spare = λ start r. record {
     at = r.at;
     alone = r.alone;
@@ -75,7 +78,7 @@ module _ {C A L : Type 0} (keeps_events : Bool) (g : Setting) (mesh : MeshId) wh
     ran = r.ran;
     noted = r.noted;
     unlogged = r.unlogged;
-    tidy = record { count = r.tidy.count; addressed = r.tidy.addressed; created = r.tidy.created; few = r.tidy.few };
+    tidy = record { count = r.tidy.count; addressed = r.tidy.addressed; within = r.tidy.within; near = r.tidy.near; created = r.tidy.created; few = r.tidy.few };
   }
 
   -- nor why it left
@@ -88,7 +91,7 @@ module _ {C A L : Type 0} (keeps_events : Bool) (g : Setting) (mesh : MeshId) wh
     ran = r.ran;
     noted = r.noted;
     unlogged = r.unlogged;
-    tidy = record { count = r.tidy.count; addressed = r.tidy.addressed; created = r.tidy.created; few = r.tidy.few };
+    tidy = record { count = r.tidy.count; addressed = r.tidy.addressed; within = r.tidy.within; near = r.tidy.near; created = r.tidy.created; few = r.tidy.few };
   }
 
   -- one more deed that moves no token
@@ -110,6 +113,8 @@ module _ {C A L : Type 0} (keeps_events : Bool) (g : Setting) (mesh : MeshId) wh
         tidy = record {
           count = r.tidy.count;
           addressed = r.tidy.addressed;
+          within = r.tidy.within;
+          near = r.tidy.near;
           created = created_same own.deeds s.own.deeds d old.created (ap (λ (z : SeatView). z.own.deeds) is) none r.tidy.created;
           few = r.tidy.few;
         };
@@ -135,6 +140,8 @@ module _ {C A L : Type 0} (keeps_events : Bool) (g : Setting) (mesh : MeshId) wh
         tidy = record {
           count = r.tidy.count;
           addressed = r.tidy.addressed;
+          within = r.tidy.within;
+          near = r.tidy.near;
           created = created_same own.deeds s.own.deeds d old.created (ap (λ (z : SeatView). z.own.deeds) is) refl r.tidy.created;
           few = r.tidy.few;
         };
@@ -162,8 +169,10 @@ module _ {C A L : Type 0} (keeps_events : Bool) (g : Setting) (mesh : MeshId) wh
             (ran_received g mesh start own.element (held_of old.lane) own.deeds own.held (away old) r.ran from x low received.near mine);
         tidy = record {
           count = ap (λ (z : Runner C A L). length z.unposted.items) received.others ∙ r.tidy.count;
-          addressed = λ i d within. subst (λ (z : Runner C A L). AllTo g.elements i (get_or z.unposted.items i d).items) (sym received.others)
-              (r.tidy.addressed i d within);
+          addressed = λ i d low. subst (λ (z : Runner C A L). AllTo g.elements i (get_or z.unposted.items i d).tokens) (sym received.others)
+              (r.tidy.addressed i d low);
+          within = λ i d low. ap (λ (z : Runner C A L). (get_or z.unposted.items i d).bounds) received.others ∙ r.tidy.within i d low;
+          near = subst (λ (z : Runner C A L). All (IsNearToken (bounds_of g)) z.sent.items) (sym received.others) r.tidy.near;
           created = created_same own.deeds new.seat.own.deeds (Took from x) new.created (ap (λ (z : SeatView). z.own.deeds) whole) refl
               (r.tidy.created ∙ ap (λ (z : Runner C A L). z.created) (sym received.others));
           few = subst (λ (z : Runner C A L). z.created ≤ 2 ^ 40) (sym received.others) r.tidy.few;
@@ -171,12 +180,12 @@ module _ {C A L : Type 0} (keeps_events : Bool) (g : Setting) (mesh : MeshId) wh
       }
 
   -- a bundle was taken, and is not in the queue
-  pub keeps_unqueued : (old : Runner C A L) (s : SeatView) (from : ℕ) (x : Vec Token A) (lane : LaneView) → from < g.elements → IsClear old → s
-      ≡ having_taken old.seat from x.items → lane ≡ old.lane → Keeps keeps_events g mesh old (record old { seat = s; lane = lane; unqueued = x })
+  pub keeps_unqueued : (old : Runner C A L) (s : SeatView) (from : ℕ) (x : BundleView) (lane : LaneView) → from < g.elements → IsClear old → s
+      ≡ having_taken old.seat from x.tokens → lane ≡ old.lane → Keeps keeps_events g mesh old (record old { seat = s; lane = lane; unqueued = x })
   keeps_unqueued old s from x lane low clear is same = λ start r.
       let own = old.seat.own in
-      let beside : x.items ++ (bundles old.unposted.items ++ drop old.bundled old.sent.items) ≡ x.items
-      ++ away old = ap (λ (l : List Token). x.items ++ (l ++ (bundles old.unposted.items ++ drop old.bundled old.sent.items))) (sym clear.0) in
+      let beside : x.tokens ++ (bundles old.unposted.items ++ drop old.bundled old.sent.items) ≡ x.tokens
+      ++ away old = ap (λ (l : List Token). x.tokens ++ (l ++ (bundles old.unposted.items ++ drop old.bundled old.sent.items))) (sym clear.0) in
       record {
         at = ap (λ (z : SeatView). z.mesh) is ∙ r.at;
         alone = ap (λ (z : SeatView). z.joined) is ∙ r.alone;
@@ -184,38 +193,41 @@ module _ {C A L : Type 0} (keeps_events : Bool) (g : Setting) (mesh : MeshId) wh
         blocks = r.blocks;
         noted = r.noted;
         unlogged = r.unlogged;
-        ran = ran_as g mesh start own.element s.own.element (held_of old.lane) (held_of lane) (own.deeds ++ Took from x.items ∷ []) s.own.deeds
-            (x.items ++ own.held) s.own.held (x.items ++ away old) (x.items ++ (bundles old.unposted.items ++ drop old.bundled old.sent.items))
+        ran = ran_as g mesh start own.element s.own.element (held_of old.lane) (held_of lane) (own.deeds ++ Took from x.tokens ∷ []) s.own.deeds
+            (x.tokens ++ own.held) s.own.held (x.tokens ++ away old) (x.tokens ++ (bundles old.unposted.items ++ drop old.bundled old.sent.items))
             (ap (λ (z : SeatView). z.own.element) is) (ap (λ (l : LaneView). held_of l) same) (ap (λ (z : SeatView). z.own.deeds) is)
             (ap (λ (z : SeatView). z.own.held) is) beside
-            (ran_unqueued g mesh start own.element (held_of old.lane) own.deeds own.held (away old) r.ran from x.items low);
+            (ran_unqueued g mesh start own.element (held_of old.lane) own.deeds own.held (away old) r.ran from x.tokens low);
         tidy = record {
           count = r.tidy.count;
           addressed = r.tidy.addressed;
-          created = created_same own.deeds s.own.deeds (Took from x.items) old.created (ap (λ (z : SeatView). z.own.deeds) is) refl r.tidy.created;
+          within = r.tidy.within;
+          near = r.tidy.near;
+          created = created_same own.deeds s.own.deeds (Took from x.tokens) old.created (ap (λ (z : SeatView). z.own.deeds) is) refl r.tidy.created;
           few = r.tidy.few;
         };
       }
 
-  pub keeps_taken : (old new : Runner C A L) (s : SeatView) (from : ℕ) (x : Vec Token A) (o : Option Halt) → from < g.elements → IsClear old → s
-      ≡ having_taken old.seat from x.items → AllTo mesh.elements old.seat.own.element x.items
-      → IfNone o (Receives g (record old { seat = s }) x.items new) → IfSome o (λ halt. (halt ≡ Halt.Memory) × (new.lane ≡ old.lane)
+  pub keeps_taken : (old new : Runner C A L) (s : SeatView) (from : ℕ) (x : BundleView) (o : Option Halt) → from < g.elements → IsClear old → s
+      ≡ having_taken old.seat from x.tokens → AllTo mesh.elements old.seat.own.element x.tokens
+      → IfNone o (Receives g (record old { seat = s }) x.tokens new) → IfSome o (λ halt. (halt ≡ Halt.Memory) × (new.lane ≡ old.lane)
       × (new ≡ record old { seat = s; lane = new.lane; unqueued = x })) → Keeps keeps_events g mesh old new
-  keeps_taken old new s from x None low clear is to none some_one = keeps_received old new s from x.items low is to none
+  keeps_taken old new s from x None low clear is to none some_one = keeps_received old new s from x.tokens low is to none
   keeps_taken old new s from x (Some halt) low clear is to none some_one = subst (λ (z : Runner C A L). Keeps keeps_events g mesh old z)
       (sym some_one.2) (keeps_unqueued old s from x new.lane low clear is some_one.1)
 
   -- FILLING BUNDLES
-  pub keeps_bundled : (old : Runner C A L) (unposted : Vec (Vec Token A) A) (t : Token) → KeepsTokens g.elements old.unposted.items unposted.items
-      (t ∷ []) → old.bundled < length old.sent.items → t ≡ get_or old.sent.items old.bundled t
-      → Keeps keeps_events g mesh old (record old { unposted = unposted; bundled = old.bundled + 1 })
-  keeps_bundled old unposted t keeps low is = λ start r.
-      let first : drop old.bundled old.sent.items ≡ t ∷ drop (old.bundled + 1) old.sent.items = drop_more old.sent.items old.bundled t low
-      ∙ ap (λ (u : Token). u ∷ drop (old.bundled + 1) old.sent.items) (sym is) in
-      let rest = drop (old.bundled + 1) old.sent.items in
-      let beside : IsPermutation (away old) (old.unqueued.items ++ (bundles unposted.items ++ rest)) =
-      IsPermutation-append_right old.unqueued.items _ _ (at_first (ap (λ (l : List Token). bundles old.unposted.items ++ l) first)
-      (IsPermutation-trans _ _ _ (shuffled (bundles old.unposted.items ∷ (t ∷ []) ∷ rest ∷ []) (Piece 0 ⊕ (Piece 1 ⊕ Piece 2))
+  pub keeps_filled : (old : Runner C A L) (unposted : Vec BundleView A) (n : ℕ) → old.bundled ≡ 0
+      → KeepsTokens g.elements old.unposted.items unposted.items (take n old.sent.items)
+      → Keeps keeps_events g mesh old (record old { unposted = unposted; bundled = n })
+  keeps_filled old unposted n none keeps = λ start r.
+      let front = take n old.sent.items in
+      let rest = drop n old.sent.items in
+      let whole : drop old.bundled old.sent.items ≡ front ++ rest = ap (λ (k : ℕ). drop k old.sent.items) none
+      ∙ sym (take-append-drop n old.sent.items) in
+      let beside : IsPermutation (away old) (old.unqueued.tokens ++ (bundles unposted.items ++ rest)) =
+      IsPermutation-append_right old.unqueued.tokens _ _ (at_first (ap (λ (l : List Token). bundles old.unposted.items ++ l) whole)
+      (IsPermutation-trans _ _ _ (shuffled (bundles old.unposted.items ∷ front ∷ rest ∷ []) (Piece 0 ⊕ (Piece 1 ⊕ Piece 2))
       ((Piece 0 ⊕ Piece 1) ⊕ Piece 2) refl)
       (IsPermutation-append_left rest _ _ (IsPermutation-sym _ _ keeps.tokens)))) in
       record {
@@ -226,23 +238,27 @@ module _ {C A L : Type 0} (keeps_events : Bool) (g : Setting) (mesh : MeshId) wh
         noted = r.noted;
         unlogged = r.unlogged;
         ran = ran_beside g mesh start old.seat.own.element (held_of old.lane) old.seat.own.deeds old.seat.own.held (away old) r.ran
-            (old.unqueued.items ++ (bundles unposted.items ++ rest)) beside;
-        tidy = record { count = keeps.count ∙ r.tidy.count; addressed = keeps.addressed r.tidy.addressed; created = r.tidy.created; few = r.tidy.few };
+            (old.unqueued.tokens ++ (bundles unposted.items ++ rest)) beside;
+        tidy = record {
+          count = keeps.count ∙ r.tidy.count;
+          addressed = keeps.addressed r.tidy.addressed;
+          within = λ i d low. keeps.bounds i d low ∙ r.tidy.within i d low;
+          near = r.tidy.near;
+          created = r.tidy.created;
+          few = r.tidy.few;
+        };
       }
 
-  pub keeps_bundled_at : (old : Runner C A L) (unposted : Vec (Vec Token A) A) (t : Token) (at : ℕ) → old.bundled ≡ at
-      → KeepsTokens g.elements old.unposted.items unposted.items (t ∷ []) → at < length old.sent.items → t ≡ get_or old.sent.items at t
-      → Keeps keeps_events g mesh old (record old { unposted = unposted; bundled = at + 1 })
-  keeps_bundled_at old unposted t at there keeps low is =
-      subst (λ (n : ℕ). Keeps keeps_events g mesh old (record old { unposted = unposted; bundled = n + 1 })) there
-      (keeps_bundled old unposted t keeps (subst (λ (n : ℕ). n < length old.sent.items) (sym there) low)
-      (subst (λ (n : ℕ). t ≡ get_or old.sent.items n t) (sym there) is))
+  -- each bundle is for what there is, which each token that was sent names
+  pub fits_bundles : (old : Runner C A L) → Runs keeps_events g mesh old → All (Fits g.elements old.unposted.items) old.sent.items
+  fits_bundles old runs = λ at t low i d within.
+      subst (λ (b : Bounds). IsNearToken b (get_or old.sent.items at t)) (sym (runs.1.tidy.within i d within)) (runs.1.tidy.near at t low)
 
   pub kept_count : (old : Runner C A L) → Runs keeps_events g mesh old → length old.unposted.items ≡ g.elements
   kept_count old runs = runs.1.tidy.count
 
   -- the bundles have the same tokens
-  pub keeps_bundles : (old : Runner C A L) (unposted : Vec (Vec Token A) A) → KeepsTokens g.elements old.unposted.items unposted.items []
+  pub keeps_bundles : (old : Runner C A L) (unposted : Vec BundleView A) → KeepsTokens g.elements old.unposted.items unposted.items []
       → Keeps keeps_events g mesh old (record old { unposted = unposted })
   keeps_bundles old unposted keeps = λ start r.
       let rest = drop old.bundled old.sent.items in
@@ -256,9 +272,9 @@ module _ {C A L : Type 0} (keeps_events : Bool) (g : Setting) (mesh : MeshId) wh
         noted = r.noted;
         unlogged = r.unlogged;
         ran = ran_beside g mesh start old.seat.own.element (held_of old.lane) old.seat.own.deeds old.seat.own.held (away old) r.ran
-            (old.unqueued.items ++ (bundles unposted.items ++ rest))
-            (IsPermutation-append_right old.unqueued.items _ _ (IsPermutation-append_left rest _ _ same));
-        tidy = record { count = keeps.count ∙ r.tidy.count; addressed = keeps.addressed r.tidy.addressed; created = r.tidy.created; few = r.tidy.few };
+            (old.unqueued.tokens ++ (bundles unposted.items ++ rest))
+            (IsPermutation-append_right old.unqueued.tokens _ _ (IsPermutation-append_left rest _ _ same));
+        tidy = record { count = keeps.count ∙ r.tidy.count; addressed = keeps.addressed r.tidy.addressed; within = λ i d low. keeps.bounds i d low ∙ r.tidy.within i d low; near = r.tidy.near; created = r.tidy.created; few = r.tidy.few };
       }
 
   -- all are bundled
@@ -274,32 +290,39 @@ module _ {C A L : Type 0} (keeps_events : Bool) (g : Setting) (mesh : MeshId) wh
         noted = r.noted;
         unlogged = r.unlogged;
         ran = ran_beside g mesh start old.seat.own.element (held_of old.lane) old.seat.own.deeds old.seat.own.held (away old) r.ran
-            (old.unqueued.items ++ (bundles old.unposted.items ++ sent.items))
-            (permutation_same _ _ (ap (λ (l : List Token). old.unqueued.items ++ (bundles old.unposted.items ++ l)) same));
-        tidy = record { count = r.tidy.count; addressed = r.tidy.addressed; created = r.tidy.created; few = r.tidy.few };
+            (old.unqueued.tokens ++ (bundles old.unposted.items ++ sent.items))
+            (permutation_same _ _ (ap (λ (l : List Token). old.unqueued.tokens ++ (bundles old.unposted.items ++ l)) same));
+        tidy = record {
+          count = r.tidy.count;
+          addressed = r.tidy.addressed;
+          within = r.tidy.within;
+          near = subst (λ (l : List Token). All (IsNearToken (bounds_of g)) l) (sym none) (All-nil (IsNearToken (bounds_of g)));
+          created = r.tidy.created;
+          few = r.tidy.few;
+        };
       }
 
 -- BUNDLES
-module _ {A : Type 0} where
-  abbrev in_all : List (Vec Token A) → List Token
-  in_all vs = flat_map (λ (v : Vec Token A). v.items) vs
+module _ where
+  abbrev in_all : List BundleView → List Token
+  in_all vs = flat_map (λ (v : BundleView). v.tokens) vs
 
   -- one bundle for another
-  pub bundle_set : (vs : List (Vec Token A)) (i : ℕ) (d v : Vec Token A) → i < length vs
-      → IsPermutation (in_all vs ++ v.items) (in_all (slice_set vs i v) ++ (get_or vs i d).items)
+  pub bundle_set : (vs : List BundleView) (i : ℕ) (d v : BundleView) → i < length vs
+      → IsPermutation (in_all vs ++ v.tokens) (in_all (slice_set vs i v) ++ (get_or vs i d).tokens)
   bundle_set [] i d v low = absurd (omega (arith, low))
-  bundle_set (x ∷ xs) zero d v low = shuffled (x.items ∷ in_all xs ∷ v.items ∷ []) ((Piece 0 ⊕ Piece 1) ⊕ Piece 2) ((Piece 2 ⊕ Piece 1) ⊕ Piece 0) refl
+  bundle_set (x ∷ xs) zero d v low = shuffled (x.tokens ∷ in_all xs ∷ v.tokens ∷ []) ((Piece 0 ⊕ Piece 1) ⊕ Piece 2) ((Piece 2 ⊕ Piece 1) ⊕ Piece 0) refl
   bundle_set (x ∷ xs) (suc i) d v low =
       let rest = bundle_set xs i d v (omega arith) in
-      at_first (append_assoc x.items (in_all xs) v.items) (at_last (IsPermutation-append_right x.items _ _ rest)
-      (sym (append_assoc x.items (in_all (slice_set xs i v)) (get_or xs i d).items)))
+      at_first (append_assoc x.tokens (in_all xs) v.tokens) (at_last (IsPermutation-append_right x.tokens _ _ rest)
+      (sym (append_assoc x.tokens (in_all (slice_set xs i v)) (get_or xs i d).tokens)))
 
-  pub get_same : (vs : List (Vec Token A)) (i : ℕ) (d v : Vec Token A) → i < length vs → get_or (slice_set vs i v) i d ≡ v
+  pub get_same : (vs : List BundleView) (i : ℕ) (d v : BundleView) → i < length vs → get_or (slice_set vs i v) i d ≡ v
   get_same [] i d v low = absurd (omega (arith, low))
   get_same (x ∷ xs) zero d v low = refl
   get_same (x ∷ xs) (suc i) d v low = get_same xs i d v (omega arith)
 
-  pub get_other : (vs : List (Vec Token A)) (i k : ℕ) (d v : Vec Token A) → k ≢ i → get_or (slice_set vs i v) k d ≡ get_or vs k d
+  pub get_other : (vs : List BundleView) (i k : ℕ) (d v : BundleView) → k ≢ i → get_or (slice_set vs i v) k d ≡ get_or vs k d
   get_other [] i k d v ne = refl
   get_other (x ∷ xs) zero zero d v ne = absurd (ne refl)
   get_other (x ∷ xs) zero (suc k) d v ne = refl
@@ -307,84 +330,113 @@ module _ {A : Type 0} where
   get_other (x ∷ xs) (suc i) (suc k) d v ne = get_other xs i k d v (λ (s : k ≡ i). ne (ap (λ (n : ℕ). suc n) s))
 
   -- one bundle has other tokens
-  changed : (n : ℕ) (vs : List (Vec Token A)) (i : ℕ) (x new : Vec Token A) (more : List Token) → length vs ≡ n → i < length vs → x ≡ get_or vs i x
-      → new.items ≡ x.items ++ more → AllTo n i more → KeepsTokens n vs (slice_set vs i new) more
-  changed n vs i x new more count low is items to =
+  changed : (n : ℕ) (vs : List BundleView) (i : ℕ) (x new : BundleView) (more : List Token) → length vs ≡ n → i < length vs → x ≡ get_or vs i x
+      → new.tokens ≡ x.tokens ++ more → new.bounds ≡ x.bounds → AllTo n i more → KeepsTokens n vs (slice_set vs i new) more
+  changed n vs i x new more count low is items bounds to =
       let set = slice_set vs i new in
-      let swap : IsPermutation (in_all vs ++ (x.items ++ more)) (in_all set ++ x.items) = at_first
+      let swap : IsPermutation (in_all vs ++ (x.tokens ++ more)) (in_all set ++ x.tokens) = at_first
       (ap (λ (l : List Token). in_all vs ++ l) (sym items))
-      (at_last (bundle_set vs i x new low) (ap (λ (v : Vec Token A). in_all set ++ v.items) (sym is))) in
-      let front : IsPermutation (x.items ++ (in_all vs ++ more)) (in_all vs ++ (x.items ++ more)) = shuffled (x.items ∷ in_all vs ∷ more ∷ [])
+      (at_last (bundle_set vs i x new low) (ap (λ (v : BundleView). in_all set ++ v.tokens) (sym is))) in
+      let front : IsPermutation (x.tokens ++ (in_all vs ++ more)) (in_all vs ++ (x.tokens ++ more)) = shuffled (x.tokens ∷ in_all vs ∷ more ∷ [])
       (Piece 0 ⊕ (Piece 1 ⊕ Piece 2)) (Piece 1 ⊕ (Piece 0 ⊕ Piece 2)) refl in
-      let back : IsPermutation (in_all set ++ x.items) (x.items ++ in_all set) = shuffled (in_all set ∷ x.items ∷ []) (Piece 0 ⊕ Piece 1)
+      let back : IsPermutation (in_all set ++ x.tokens) (x.tokens ++ in_all set) = shuffled (in_all set ∷ x.tokens ∷ []) (Piece 0 ⊕ Piece 1)
       (Piece 1 ⊕ Piece 0) refl in
       record {
         count = length-set vs i new;
-        tokens = IsPermutation-sym _ _ (permutation_cancel x.items (in_all vs ++ more) (in_all set)
+        tokens = IsPermutation-sym _ _ (permutation_cancel x.tokens (in_all vs ++ more) (in_all set)
             (IsPermutation-trans _ _ _ front (IsPermutation-trans _ _ _ swap back)));
         addressed = λ all k d within. dite (ℕ_discrete k i)
             (λ hit.
-            let own : AllTo n i x.items = subst (λ (v : Vec Token A). AllTo n i v.items) (sym is) (all i x (omega (arith, low, count))) in
-            let both : AllTo n i (x.items ++ more) = All-append (λ (t : Token). element_of n t.to ≡ i) x.items more own to in
-            let here : AllTo n i new.items = subst (λ (l : List Token). AllTo n i l) (sym items) both in
-            let at : AllTo n i (get_or set i d).items = subst (λ (v : Vec Token A). AllTo n i v.items) (sym (get_same vs i d new low)) here in
-            subst (λ (j : ℕ). AllTo n j (get_or set j d).items) (sym hit) at)
-            (λ miss. subst (λ (v : Vec Token A). AllTo n k v.items) (sym (get_other vs i k d new miss)) (all k d within));
+            let own : AllTo n i x.tokens = subst (λ (v : BundleView). AllTo n i v.tokens) (sym is) (all i x (omega (arith, low, count))) in
+            let both : AllTo n i (x.tokens ++ more) = All-append (λ (t : Token). element_of n t.to ≡ i) x.tokens more own to in
+            let here : AllTo n i new.tokens = subst (λ (l : List Token). AllTo n i l) (sym items) both in
+            let at : AllTo n i (get_or set i d).tokens = subst (λ (v : BundleView). AllTo n i v.tokens) (sym (get_same vs i d new low)) here in
+            subst (λ (j : ℕ). AllTo n j (get_or set j d).tokens) (sym hit) at)
+            (λ miss. subst (λ (v : BundleView). AllTo n k v.tokens) (sym (get_other vs i k d new miss)) (all k d within));
+        bounds = λ k d within. dite (ℕ_discrete k i)
+            (λ hit.
+            let own : (get_or (slice_set vs i new) i d).bounds ≡ (get_or vs i d).bounds = ap (λ (v : BundleView). v.bounds) (get_same vs i d new low)
+            ∙ bounds ∙ ap (λ (v : BundleView). v.bounds) (is ∙ get_or_default vs i x d low) in
+            subst (λ (j : ℕ). (get_or (slice_set vs i new) j d).bounds ≡ (get_or vs j d).bounds) (sym hit) own)
+            (λ miss. ap (λ (v : BundleView). v.bounds) (get_other vs i k d new miss));
       }
 
-  pub keeps_more : (n : ℕ) (vs : List (Vec Token A)) (i : ℕ) (x new : Vec Token A) (t : Token) → length vs ≡ n → i < length vs → x ≡ get_or vs i x
-      → new.items ≡ x.items ++ t ∷ [] → element_of n t.to ≡ i → KeepsTokens n vs (slice_set vs i new) (t ∷ [])
-  keeps_more n vs i x new t count low is items to = changed n vs i x new (t ∷ []) count low is items (All-cons (λ (u : Token). element_of n u.to ≡ i)
+  -- no token more
+  pub keeps_none : (n : ℕ) (vs : List BundleView) → KeepsTokens n vs vs []
+  keeps_none n vs = record {
+    count = refl;
+    tokens = permutation_same _ _ (sym (append-nil (in_all vs)));
+    addressed = λ all. all;
+    bounds = λ i d low. refl;
+  }
+
+  -- some more, and then others
+  pub keeps_both : (n : ℕ) (old mid new : List BundleView) (xs ys : List Token) → KeepsTokens n old mid xs → KeepsTokens n mid new ys
+      → KeepsTokens n old new (xs ++ ys)
+  keeps_both n old mid new xs ys one two = record {
+    count = two.count ∙ one.count;
+    tokens = at_last (IsPermutation-trans _ _ _ two.tokens (IsPermutation-append_left ys _ _ one.tokens)) (append_assoc (in_all old) xs ys);
+    addressed = λ all. two.addressed (one.addressed all);
+    bounds = λ i d low. two.bounds i d low ∙ one.bounds i d low;
+  }
+
+  pub still_fits : (n : ℕ) (old new : List BundleView) (xs : List Token) (t : Token) → KeepsTokens n old new xs → Fits n old t → Fits n new t
+  still_fits n old new xs t keeps fits = λ i d low. subst (λ (b : Bounds). IsNearToken b t) (sym (keeps.bounds i d low)) (fits i d low)
+
+  pub keeps_more : (n : ℕ) (vs : List BundleView) (i : ℕ) (x new : BundleView) (t : Token) → length vs ≡ n → i < length vs → x ≡ get_or vs i x
+      → new.tokens ≡ x.tokens ++ t ∷ [] → new.bounds ≡ x.bounds → element_of n t.to ≡ i → KeepsTokens n vs (slice_set vs i new) (t ∷ [])
+  keeps_more n vs i x new t count low is items bounds to = changed n vs i x new (t ∷ []) count low is items bounds (All-cons (λ (u : Token). element_of n u.to ≡ i)
       t [] to (All-nil (λ (u : Token). element_of n u.to ≡ i)))
 
-  pub keeps_as_many : (n : ℕ) (vs : List (Vec Token A)) (i : ℕ) (x new : Vec Token A) → length vs ≡ n → i < length vs → x ≡ get_or vs i x → new.items
-      ≡ x.items → KeepsTokens n vs (slice_set vs i new) []
-  keeps_as_many n vs i x new count low is items = changed n vs i x new [] count low is (items ∙ sym (append-nil x.items))
+  pub keeps_as_many : (n : ℕ) (vs : List BundleView) (i : ℕ) (x new : BundleView) → length vs ≡ n → i < length vs → x ≡ get_or vs i x → new ≡ x
+      → KeepsTokens n vs (slice_set vs i new) []
+  keeps_as_many n vs i x new count low is same = changed n vs i x new [] count low is
+      (ap (λ (v : BundleView). v.tokens) same ∙ sym (append-nil x.tokens)) (ap (λ (v : BundleView). v.bounds) same)
       (All-nil (λ (u : Token). element_of n u.to ≡ i))
 
   -- a bundle is taken out for a post
-  out_of : (vs : List (Vec Token A)) (i : ℕ) (x empty : Vec Token A) → i < length vs → x ≡ get_or vs i x → empty.items ≡ []
-      → IsPermutation (in_all vs) (x.items ++ in_all (slice_set vs i empty))
+  out_of : (vs : List BundleView) (i : ℕ) (x empty : BundleView) → i < length vs → x ≡ get_or vs i x → empty.tokens ≡ []
+      → IsPermutation (in_all vs) (x.tokens ++ in_all (slice_set vs i empty))
   out_of vs i x empty low is none =
-      let one : IsPermutation (in_all vs) (in_all (slice_set vs i empty) ++ x.items) = at_first (sym (append-nil (in_all vs))
+      let one : IsPermutation (in_all vs) (in_all (slice_set vs i empty) ++ x.tokens) = at_first (sym (append-nil (in_all vs))
       ∙ ap (λ (l : List Token). in_all vs ++ l) (sym none))
-      (at_last (bundle_set vs i x empty low) (ap (λ (v : Vec Token A). in_all (slice_set vs i empty) ++ v.items) (sym is))) in
-      IsPermutation-trans _ _ _ one (shuffled (in_all (slice_set vs i empty) ∷ x.items ∷ []) (Piece 0 ⊕ Piece 1) (Piece 1 ⊕ Piece 0) refl)
+      (at_last (bundle_set vs i x empty low) (ap (λ (v : BundleView). in_all (slice_set vs i empty) ++ v.tokens) (sym is))) in
+      IsPermutation-trans _ _ _ one (shuffled (in_all (slice_set vs i empty) ∷ x.tokens ∷ []) (Piece 0 ⊕ Piece 1) (Piece 1 ⊕ Piece 0) refl)
 
-  set_again : (vs : List (Vec Token A)) (i : ℕ) (a b : Vec Token A) → slice_set (slice_set vs i a) i b ≡ slice_set vs i b
+  set_again : (vs : List BundleView) (i : ℕ) (a b : BundleView) → slice_set (slice_set vs i a) i b ≡ slice_set vs i b
   set_again [] i a b = refl
   set_again (x ∷ xs) zero a b = refl
-  set_again (x ∷ xs) (suc i) a b = ap (λ (l : List (Vec Token A)). x ∷ l) (set_again xs i a b)
+  set_again (x ∷ xs) (suc i) a b = ap (λ (l : List BundleView). x ∷ l) (set_again xs i a b)
 
-  module _ {C L : Type 0} (keeps_events : Bool) (g : Setting) (mesh : MeshId) (old : Runner C A L) (i : ℕ) (x empty : Vec Token A)
-      (low : i < length old.unposted.items) (is : x ≡ get_or old.unposted.items i x) (none : empty.items ≡ []) where
+  module _ {A C L : Type 0} (keeps_events : Bool) (g : Setting) (mesh : MeshId) (old : Runner C A L) (i : ℕ) (x empty : BundleView)
+      (low : i < length old.unposted.items) (is : x ≡ get_or old.unposted.items i x) (none : empty.tokens ≡ []) (fits : empty.bounds ≡ bounds_of g) where
     abbrev others : List Token
     others = in_all (slice_set old.unposted.items i empty) ++ drop old.bundled old.sent.items
 
-    beside_out : IsPermutation (away old) (x.items ++ (old.unqueued.items ++ others))
+    beside_out : IsPermutation (away old) (x.tokens ++ (old.unqueued.tokens ++ others))
     beside_out =
         let rest = drop old.bundled old.sent.items in
         let set = slice_set old.unposted.items i empty in
-        IsPermutation-trans _ _ _ (IsPermutation-append_right old.unqueued.items _ _
+        IsPermutation-trans _ _ _ (IsPermutation-append_right old.unqueued.tokens _ _
         (IsPermutation-append_left rest _ _ (out_of old.unposted.items i x empty low is none)))
-        (shuffled (old.unqueued.items ∷ x.items ∷ in_all set ∷ rest ∷ []) (Piece 0 ⊕ ((Piece 1 ⊕ Piece 2) ⊕ Piece 3))
+        (shuffled (old.unqueued.tokens ∷ x.tokens ∷ in_all set ∷ rest ∷ []) (Piece 0 ⊕ ((Piece 1 ⊕ Piece 2) ⊕ Piece 3))
         (Piece 1 ⊕ (Piece 0 ⊕ (Piece 2 ⊕ Piece 3))) refl)
 
-    pub may_post : Runs keeps_events g mesh old → Has old.seat.own.held x.items
+    pub may_post : Runs keeps_events g mesh old → Has old.seat.own.held x.tokens
     may_post (start, r) =
         let q = old.lane.held.queue in (
-          q ++ (old.unqueued.items ++ others),
+          q ++ (old.unqueued.tokens ++ others),
           IsPermutation-trans _ _ _ r.ran.holds (IsPermutation-trans _ _ _ (IsPermutation-append_right q _ _ beside_out)
-              (shuffled (q ∷ x.items ∷ (old.unqueued.items ++ others) ∷ []) (Piece 0 ⊕ (Piece 1 ⊕ Piece 2)) (Piece 1 ⊕ (Piece 0 ⊕ Piece 2)) refl)),
+              (shuffled (q ∷ x.tokens ∷ (old.unqueued.tokens ++ others) ∷ []) (Piece 0 ⊕ (Piece 1 ⊕ Piece 2)) (Piece 1 ⊕ (Piece 0 ⊕ Piece 2)) refl)),
         )
 
-    pub keeps_posted : (unposted : Vec (Vec Token A) A) (s : SeatView) → unposted.items ≡ slice_set old.unposted.items i empty → i < g.elements
-        → Posts i x.items old.seat s → Keeps keeps_events g mesh old (record old { unposted = unposted; seat = s })
+    pub keeps_posted : (unposted : Vec BundleView A) (s : SeatView) → unposted.items ≡ slice_set old.unposted.items i empty → i < g.elements
+        → Posts i x.tokens old.seat s → Keeps keeps_events g mesh old (record old { unposted = unposted; seat = s })
     keeps_posted unposted s kept_is within posts = λ start r.
         let own = old.seat.own in
         let whole = posts.2 in
-        let beside : old.unqueued.items ++ (in_all unposted.items ++ drop old.bundled old.sent.items) ≡ old.unqueued.items
-        ++ others = ap (λ (l : List (Vec Token A)). old.unqueued.items ++ (in_all l ++ drop old.bundled old.sent.items)) kept_is in
+        let beside : old.unqueued.tokens ++ (in_all unposted.items ++ drop old.bundled old.sent.items) ≡ old.unqueued.tokens
+        ++ others = ap (λ (l : List BundleView). old.unqueued.tokens ++ (in_all l ++ drop old.bundled old.sent.items)) kept_is in
         record {
           at = ap (λ (z : SeatView). z.mesh) whole ∙ r.at;
           alone = ap (λ (z : SeatView). z.joined) whole ∙ r.alone;
@@ -392,37 +444,42 @@ module _ {A : Type 0} where
           blocks = r.blocks;
           noted = r.noted;
           unlogged = r.unlogged;
-          ran = ran_as g mesh start own.element s.own.element (held_of old.lane) (held_of old.lane) (own.deeds ++ Posted i x.items ∷ []) s.own.deeds
-              posts.0 s.own.held (old.unqueued.items ++ others) (old.unqueued.items ++ (in_all unposted.items ++ drop old.bundled old.sent.items))
+          ran = ran_as g mesh start own.element s.own.element (held_of old.lane) (held_of old.lane) (own.deeds ++ Posted i x.tokens ∷ []) s.own.deeds
+              posts.0 s.own.held (old.unqueued.tokens ++ others) (old.unqueued.tokens ++ (in_all unposted.items ++ drop old.bundled old.sent.items))
               (ap (λ (z : SeatView). z.own.element) whole) refl (ap (λ (z : SeatView). z.own.deeds) whole) (ap (λ (z : SeatView). z.own.held) whole) beside
-              (ran_posted g mesh start own.element (held_of old.lane) own.deeds own.held (away old) r.ran i x.items posts.0 (old.unqueued.items
+              (ran_posted g mesh start own.element (held_of old.lane) own.deeds own.held (away old) r.ran i x.tokens posts.0 (old.unqueued.tokens
               ++ others) within posts.1 beside_out);
           tidy = record {
-            count = ap (λ (l : List (Vec Token A)). length l) kept_is ∙ length-set old.unposted.items i empty ∙ r.tidy.count;
-            addressed = λ k d below. subst (λ (l : List (Vec Token A)). AllTo g.elements k (get_or l k d).items) (sym kept_is)
+            count = ap (λ (l : List BundleView). length l) kept_is ∙ length-set old.unposted.items i empty ∙ r.tidy.count;
+            addressed = λ k d below. subst (λ (l : List BundleView). AllTo g.elements k (get_or l k d).tokens) (sym kept_is)
                 (dite (ℕ_discrete k i)
-                (λ hit. subst (λ (j : ℕ). AllTo g.elements j (get_or (slice_set old.unposted.items i empty) j d).items) (sym hit)
-                (subst (λ (v : Vec Token A). AllTo g.elements i v.items) (sym (get_same old.unposted.items i d empty low))
+                (λ hit. subst (λ (j : ℕ). AllTo g.elements j (get_or (slice_set old.unposted.items i empty) j d).tokens) (sym hit)
+                (subst (λ (v : BundleView). AllTo g.elements i v.tokens) (sym (get_same old.unposted.items i d empty low))
                 (subst (λ (l : List Token). AllTo g.elements i l) (sym none) (All-nil (λ (t : Token). element_of g.elements t.to ≡ i)))))
-                (λ miss. subst (λ (v : Vec Token A). AllTo g.elements k v.items) (sym (get_other old.unposted.items i k d empty miss))
+                (λ miss. subst (λ (v : BundleView). AllTo g.elements k v.tokens) (sym (get_other old.unposted.items i k d empty miss))
                 (r.tidy.addressed k d below)));
-            created = created_same own.deeds s.own.deeds (Posted i x.items) old.created (ap (λ (z : SeatView). z.own.deeds) whole) refl r.tidy.created;
+            within = λ k d below. ap (λ (l : List BundleView). (get_or l k d).bounds) kept_is ∙ dite (ℕ_discrete k i)
+                (λ hit. subst (λ (j : ℕ). (get_or (slice_set old.unposted.items i empty) j d).bounds ≡ bounds_of g) (sym hit)
+                (ap (λ (v : BundleView). v.bounds) (get_same old.unposted.items i d empty low) ∙ fits))
+                (λ miss. ap (λ (v : BundleView). v.bounds) (get_other old.unposted.items i k d empty miss) ∙ r.tidy.within k d below);
+            near = r.tidy.near;
+            created = created_same own.deeds s.own.deeds (Posted i x.tokens) old.created (ap (λ (z : SeatView). z.own.deeds) whole) refl r.tidy.created;
             few = r.tidy.few;
           };
         }
 
-    pub keeps_refused : (unposted : Vec (Vec Token A) A) (back : Vec Token A) (s : SeatView) (spare : Vec (Vec Token A) A)
+    pub keeps_refused : (unposted : Vec BundleView A) (back : BundleView) (s : SeatView) (spare : Vec BundleView A)
         → length old.unposted.items ≡ g.elements → unposted.items ≡ slice_set (slice_set old.unposted.items i empty) i back → back ≡ x
-        → s ≡ noting old.seat (FoundFull i x.items) → Keeps keeps_events g mesh old (record old { unposted = unposted; seat = s; spare = spare })
+        → s ≡ noting old.seat (FoundFull i x.tokens) → Keeps keeps_events g mesh old (record old { unposted = unposted; seat = s; spare = spare })
     keeps_refused unposted back s spare count kept_is same found =
         let all : unposted.items ≡ slice_set old.unposted.items i back = kept_is ∙ set_again old.unposted.items i empty back in
-        let keeps : KeepsTokens g.elements old.unposted.items unposted.items [] = subst (λ (l : List (Vec Token A)). KeepsTokens g.elements
-        old.unposted.items l []) (sym all) (keeps_as_many g.elements old.unposted.items i x back count low is (ap (λ (v : Vec Token A). v.items) same)) in
+        let keeps : KeepsTokens g.elements old.unposted.items unposted.items [] = subst (λ (l : List BundleView). KeepsTokens g.elements
+        old.unposted.items l []) (sym all) (keeps_as_many g.elements old.unposted.items i x back count low is same) in
         let mid : Runner C A L = record old { unposted = unposted } in
         let full : Runner C A L = record old { unposted = unposted; seat = s } in
         keeps_twice keeps_events g mesh old mid (record full { spare = spare }) (keeps_bundles keeps_events g mesh old unposted keeps)
         (keeps_twice keeps_events g mesh mid full (record full { spare = spare }) (keeps_noting keeps_events g mesh mid s
-        (FoundFull i x.items) (found_full i x.items) refl found) (keeps_sparing keeps_events g mesh full spare))
+        (FoundFull i x.tokens) (found_full i x.tokens) refl found) (keeps_sparing keeps_events g mesh full spare))
 
 -- THE END
 module _ {C A L : Type 0} (keeps_events : Bool) (g : Setting) (mesh : MeshId) (may_stop : Bool) where

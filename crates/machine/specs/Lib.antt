@@ -1,3 +1,4 @@
+pub mod Bundles
 pub mod Runners
 pub mod Ends
 pub mod Starts

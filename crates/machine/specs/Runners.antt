@@ -1,6 +1,6 @@
 -- What holds of an element that runs freely.
 use Rattle.std.specs.Prelude.{◌≡◌, ◌≢◌, ℕ, ◌+◌, ◌-◌, ◌≤◌, ◌<◌, ◌^◌, ◌⊎◌, List, [], ◌++◌, map, take, drop, length, Bool, Some, IsPermutation, All}
-use Rattle.std.specs.Prelude.{slice_index_or, ⊤, Vec, true, if◌then◌else◌, ◌∷◌}
+use Rattle.std.specs.Prelude.{slice_index_or, ⊤, true, if◌then◌else◌, ◌∷◌}
 use Rattle.std.specs.List.{flat_map}
 use Rattle.tags.specs.declared.token.Token.{Token}
 use Rattle.element.specs.Near.{Bounds, IsNearToken}
@@ -18,16 +18,13 @@ use Rattle.ordering.specs.Logs.{Logs}
 use Rattle.semantics.specs.Machine.{Events}
 use Rattle.law_linearization.specs.History.{Block, Blocks, bounds_of, commit_of, count_acts}
 use Rattle.law_linearization.specs.HistoryLaws.{IsBalanced}
-use Rattle.machine.specs.declared.nearness.Reach.{Reach}
+use Rattle.machine.specs.Bundles.{BundleView}
 use Rattle.machine.specs.declared.runner.Departure.{Departure}
 use Rattle.machine.specs.declared.runner.Runner.{Runner}
 
-abbrev pub bounds_within : Reach → Bounds
-bounds_within r = record { frames = r.frames; cells = r.cells }
-
 -- what it holds outside its queue: unqueued, in bundles, and not bundled yet
 abbrev pub away : {C A L : Type 0} → Runner C A L → List Token
-away r = r.unqueued.items ++ (flat_map (λ v. v.items) r.unposted.items ++ drop r.bundled r.sent.items)
+away r = r.unqueued.tokens ++ (flat_map (λ b. b.tokens) r.unposted.items ++ drop r.bundled r.sent.items)
 
 -- An element that began with the lane `start` has done these deeds and holds these tokens: its blocks of events have led its part
 -- on, each with a commit, its account is balanced, and what it holds is its queue and what is outside it.
@@ -41,10 +38,12 @@ pub record Ran (g : Setting) (mesh : MeshId) (e : ℕ) (start held : Holding) (d
   pub balanced : IsBalanced g.elements start.queue (record { element = e; deeds = deeds; held = tokens; last = [] })
   pub holds : IsPermutation tokens (held.queue ++ beside)
 
--- each bundle is for its element, and the element counts what it makes
+-- each bundle is for its element and for what there is, which what was sent names too, and the element counts what it makes
 pub record IsTidy {C A L : Type 0} (g : Setting) (r : Runner C A L) : Type 0 where
   pub count : length r.unposted.items ≡ g.elements
-  pub addressed : (i : ℕ) (d : _) → i < g.elements → AllTo g.elements i (slice_index_or r.unposted.items i d).items
+  pub addressed : (i : ℕ) (d : _) → i < g.elements → AllTo g.elements i (slice_index_or r.unposted.items i d).tokens
+  pub within : (i : ℕ) (d : _) → i < g.elements → (slice_index_or r.unposted.items i d).bounds ≡ bounds_of g
+  pub near : All (IsNearToken (bounds_of g)) r.sent.items
   pub created : created r.seat.own.deeds ≡ r.created
   pub few : r.created ≤ 2 ^ 40
 
@@ -70,7 +69,7 @@ Keeps keeps_events g mesh old new = (start : Holding) → IsRunning keeps_events
 
 -- all tokens are in the queue or in bundles
 abbrev pub IsClear : {C A L : Type 0} → Runner C A L → Type 0
-IsClear r = (r.unqueued.items ≡ []) × (r.sent.items ≡ []) × (r.bundled ≡ 0)
+IsClear r = (r.unqueued.tokens ≡ []) × (r.sent.items ≡ []) × (r.bundled ≡ 0)
 
 -- The lane has these tokens more, last in its queue. They name what there is. The memory of the bundle may be reused.
 pub record Receives {C A L : Type 0} (g : Setting) (old : Runner C A L) (tokens : List Token) (new : Runner C A L) : Type 0 where
@@ -109,7 +108,7 @@ pub record HasMade {C A L : Type 0} (keeps_events : Bool) (g : Setting) (mesh : 
   -- its lane runs the code of the machine
   pub runs : RunsAs g (fixed_of r.lane)
   pub blocks : List Block
-  pub ran : Ran g mesh r.seat.own.element start old r.seat.own.deeds r.seat.own.held (r.unqueued.items ++ flat_map (λ v. v.items) r.unposted.items) blocks
+  pub ran : Ran g mesh r.seat.own.element start old r.seat.own.deeds r.seat.own.held (r.unqueued.tokens ++ flat_map (λ b. b.tokens) r.unposted.items) blocks
   pub tidy : IsTidy g r
   pub noted : keeps_events ≡ true → Logs (noted_in r.notes) blocks
   pub taken : List Token
@@ -130,14 +129,19 @@ left_last r made = drop (length r.lane.held.queue - (made - length r.sent.items)
 
 abbrev pub still_first : {C A L : Type 0} → Runner C A L → ℕ → List Token
 still_first r made = take (length r.lane.held.queue - (made - length r.sent.items))
-    r.lane.held.queue ++ (r.unqueued.items ++ flat_map (λ v. v.items) r.unposted.items)
+    r.lane.held.queue ++ (r.unqueued.tokens ++ flat_map (λ b. b.tokens) r.unposted.items)
 
--- The bundles have these tokens more, in some order, and each is still for its element.
-pub record KeepsTokens {A : Type 0} (n : ℕ) (old new : List (Vec Token A)) (more : List Token) : Type 0 where
+-- each bundle is for what the token names
+abbrev pub Fits : ℕ → List BundleView → Token → Type 0
+Fits n bundles t = (i : ℕ) (d : BundleView) → i < n → IsNearToken (slice_index_or bundles i d).bounds t
+
+-- The bundles have these tokens more, in some order, and each is still for its element, and for what there is.
+pub record KeepsTokens (n : ℕ) (old new : List BundleView) (more : List Token) : Type 0 where
   pub count : length new ≡ length old
-  pub tokens : IsPermutation (flat_map (λ v. v.items) new) (flat_map (λ v. v.items) old ++ more)
-  pub addressed : ((i : ℕ) (d : Vec Token A) → i < n → AllTo n i (slice_index_or old i d).items) → (i : ℕ) (d : Vec Token A) → i < n
-      → AllTo n i (slice_index_or new i d).items
+  pub tokens : IsPermutation (flat_map (λ b. b.tokens) new) (flat_map (λ b. b.tokens) old ++ more)
+  pub addressed : ((i : ℕ) (d : BundleView) → i < n → AllTo n i (slice_index_or old i d).tokens) → (i : ℕ) (d : BundleView) → i < n
+      → AllTo n i (slice_index_or new i d).tokens
+  pub bounds : (i : ℕ) (d : BundleView) → i < n → (slice_index_or new i d).bounds ≡ (slice_index_or old i d).bounds
 
 -- a log with one block more: the tokens that its events took, those that it made, and its counts
 abbrev pub behind_all : Noted → List Token → List Token → Counts → Noted

@@ -1,8 +1,9 @@
 -- How runners are made of lanes and seats, and what is known of them once they have left.
-use Rattle.std.specs.Prelude.{◌≡◌, ℕ, ◌<◌, ◌⊎◌, List, [], length, map, All, Bool, Some, slice_get, slice_index_or, Vec, ◌++◌, IsPermutation}
+use Rattle.std.specs.Prelude.{◌≡◌, ℕ, ◌<◌, ◌⊎◌, List, [], length, map, All, Bool, Some, slice_get, slice_index_or, ◌++◌, IsPermutation}
 use Rattle.crossbeam_utils.specs.declared.cache_padded.CachePadded.{CachePadded}
 use Rattle.crossbeam_utils.specs.Padded.{padded_value}
 use Rattle.tags.specs.declared.token.Token.{Token}
+use Rattle.element.specs.Near.{Bounds}
 use Rattle.element.specs.Holding.{Holding, Fixed, held_of, fixed_of}
 use Rattle.schedule.specs.declared.halt.Halt.{Halt}
 use Rattle.schedule.specs.Setting.{Setting}
@@ -15,6 +16,7 @@ use Rattle.ordering.specs.Orders.{IsHistory, IsOrdered}
 use Rattle.machine.specs.declared.belongings.Belongings.{Belongings}
 use Rattle.machine.specs.declared.runner.Departure.{Departure}
 use Rattle.machine.specs.declared.runner.Runner.{Runner}
+use Rattle.machine.specs.Bundles.{BundleView}
 use Rattle.machine.specs.Runners.{IsClear, Ended}
 use Rattle.rounds.specs.Counted.{IsFirst, NoneHalts}
 use Rattle.machine.specs.Ends.{reasons_of}
@@ -55,22 +57,22 @@ Lists logs opening old new =
     (log : List Block) (start last : List Token) → IsHistory logs log start last → IsPermutation opening start → (made : Events)
     × IsOrdered (length logs) log start last made × (new ≡ old ++ made)
 
--- n bundles, all empty
-abbrev pub AreEmpty : {A : Type 0} → ℕ → List (Vec Token A) → Type 0
-AreEmpty n unposted = (length unposted ≡ n) × All (λ v. v.items ≡ []) unposted
+-- n bundles, all empty, for what there is
+abbrev pub AreEmpty : ℕ → Bounds → List BundleView → Type 0
+AreEmpty n bounds unposted = (length unposted ≡ n) × All (λ b. (b.tokens ≡ []) × (b.bounds ≡ bounds)) unposted
 
 -- lists with nothing
-pub record AreBlank {A L : Type 0} (n : ℕ) (l : Belongings A L) : Type 0 where
-  pub unqueued : l.unqueued.items ≡ []
+pub record AreBlank {A L : Type 0} (n : ℕ) (bounds : Bounds) (l : Belongings A L) : Type 0 where
+  pub unqueued : l.unqueued.tokens ≡ []
   pub sent : l.sent.items ≡ []
-  pub unposted : AreEmpty n l.unposted.items
+  pub unposted : AreEmpty n bounds l.unposted.items
   pub notes : noted_in l.notes ≡ nothing
   pub log : l.log.events.items ≡ []
 
 -- it holds no token outside its queue, and has made none
-pub record IsNew {C A L : Type 0} (n : ℕ) (r : Runner C A L) : Type 0 where
+pub record IsNew {C A L : Type 0} (n : ℕ) (bounds : Bounds) (r : Runner C A L) : Type 0 where
   pub clear : IsClear r
-  pub unposted : AreEmpty n r.unposted.items
+  pub unposted : AreEmpty n bounds r.unposted.items
   pub created : r.created ≡ 0
   pub notes : noted_in r.notes ≡ nothing
   pub log : r.log.events.items ≡ []

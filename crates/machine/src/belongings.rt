@@ -1,5 +1,6 @@
 //! What an element that runs freely holds besides its lane and its seat.
 
+use crate::bundle::NearBundle;
 use ordering::log::BlockLog;
 use packed::token::PackedToken;
 use schedule::log::{EventLog, Log};
@@ -9,9 +10,9 @@ use std::alloc::Allocator;
 #[derive(Drop)]
 pub struct Belongings<A: Allocator, L: Log> {
     pub sent: Vec<PackedToken, A>,
-    pub unposted: Vec<Vec<PackedToken, A>, A>,
-    pub unqueued: Vec<PackedToken, A>,
-    pub spare: Vec<Vec<PackedToken, A>, A>,
+    pub unposted: Vec<NearBundle<A>, A>,
+    pub unqueued: NearBundle<A>,
+    pub spare: Vec<NearBundle<A>, A>,
     pub log: EventLog<A, L>,
     pub notes: BlockLog<A>,
     pub alloc: A,

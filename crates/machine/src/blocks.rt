@@ -1,6 +1,6 @@
 //! An element makes a block of events, and commits it.
 
-ghost use Rattle.std.specs.Prelude.{◌≡◌, ◌<◌, ◌≤◌, ◌+◌, ◌^◌, ◌++◌, ◌-◌, [], drop, length, None, false, OnOk, IfOk};
+ghost use Rattle.std.specs.Prelude.{◌≡◌, ◌≢◌, ◌⊎◌, ◌*◌, min, ◌<◌, ◌≤◌, ◌+◌, ◌^◌, ◌++◌, ◌-◌, [], drop, length, None, false, OnOk, IfOk};
 ghost use Rattle.element.specs.Holding.{Holding, held_of};
 ghost use Rattle.schedule.specs.State.{setting_in};
 ghost use Rattle.schedule.specs.Setting.{IsGoodSetting};
@@ -10,10 +10,11 @@ ghost use Rattle.rounds.specs.Turns.{HaltsLane};
 ghost use Rattle.ordering.specs.Noted.{noted_in, with_block};
 ghost use Rattle.machine.specs.Runners.{IsRunning, Runs, Keeps, IsClear, StaysAt, HasNoReason, HasMade, NotesBlock, tokens_of};
 
+use crate::bundle::NearMesh;
 use crate::runner::{Lost, Runner};
 use crate::turns::LOOK;
 use element::instructions::Instructions;
-use mesh::{Ask, Mesh};
+use mesh::Ask;
 use ordering::log::{BlockLog, Counts};
 use packed::token::PackedToken;
 use rounds::{Gate, take_turn};
@@ -35,7 +36,7 @@ const LONGER: u64 = 8;
 // The commit of a block, by the numbers of tokens that it spent and made.
 fn commit_counts<J: Ask, C: Instructions, A: Allocator, L: Log>(
     runner: &mut Runner<'_, C, A, L>,
-    mesh: &Mesh<A>,
+    mesh: &NearMesh<A>,
     spent: u64,
     made: u64,
 )
@@ -143,7 +144,7 @@ fn note_block<C: Instructions, A: Allocator, L: Log>(
 // the block left is last in the queue, or was sent. It needs no memory, so events are always committed.
 fn commit<C: MainCode, A: Allocator, L: Log>(
     runner: &mut Runner<'_, C, A, L>,
-    mesh: &Mesh<A>,
+    mesh: &NearMesh<A>,
     shape: &Shape<'_, C>,
     before: u64,
     events: u64,
@@ -154,7 +155,7 @@ fn commit<C: MainCode, A: Allocator, L: Log>(
     ensures keeps { OnOk result ((start : Holding) (old : Holding) → HasMade L.KEEPS_EVENTS (setting_in C.program C.width shape.now) mesh.now start
         old before events runner.old → IsRunning L.KEEPS_EVENTS (setting_in C.program C.width shape.now) mesh.now start runner.new) }
     ensures lane { held_of runner.new.lane ≡ held_of runner.old.lane }
-    ensures others { (runner.new.unqueued.items ≡ runner.old.unqueued.items) × (runner.new.bundled ≡ runner.old.bundled) }
+    ensures others { (runner.new.unqueued.tokens ≡ runner.old.unqueued.tokens) × (runner.new.bundled ≡ runner.old.bundled) }
 {
     let _ = shape;
     if events == 0 {
@@ -178,7 +179,9 @@ fn commit<C: MainCode, A: Allocator, L: Log>(
 // How many events the element makes in a turn at most: no fewer than a turn has. Others ask element 0 for frames, and wait for them, so
 // its turns are the shortest; but where turns are shorter than what lies between two looks at the mailboxes, all are alike.
 fn turn_of<C: MainCode>(shape: &Shape<'_, C>, element: u32) -> u64
-    ensures { shape.now.turn ≤ result }
+    ensures enough { shape.now.turn ≤ result }
+    ensures alike { (shape.now.turn < 128) ⊎ ((element ≡ 0) × (1 < shape.now.elements)) → result ≡ shape.now.turn }
+    ensures longer { 128 ≤ shape.now.turn → (element ≢ 0) ⊎ (shape.now.elements ≤ 1) → result ≡ min (8 * shape.now.turn) (2 ^ 64 - 1) }
 {
     let is_asked = element == 0 && shape.elements > 1;
     if is_asked || shape.turn < LOOK {
@@ -190,7 +193,7 @@ fn turn_of<C: MainCode>(shape: &Shape<'_, C>, element: u32) -> u64
 // Makes a turn of events, oldest token first, and commits them.
 fn make_events<C: MainCode, A: Allocator + Clone, L: Log>(
     runner: &mut Runner<'_, C, A, L>,
-    mesh: &Mesh<A>,
+    mesh: &NearMesh<A>,
     shape: &Shape<'_, C>,
 ) -> Result<Option<Halt>, Lost>
     requires good { IsGoodSetting (setting_in C.program C.width shape.now) }
@@ -200,7 +203,7 @@ fn make_events<C: MainCode, A: Allocator + Clone, L: Log>(
     ensures keeps { OnOk result (Keeps L.KEEPS_EVENTS (setting_in C.program C.width shape.now) mesh.now runner.old runner.new) }
     ensures halts { IfOk result (λ halt. HaltsLane (C.program shape.now.code.now) shape.now.steps false (held_of runner.new.lane) halt) }
     ensures whole { IfOk result (λ halt. halt ≡ None → HasNoReason (setting_in C.program C.width shape.now) (held_of runner.new.lane)) }
-    ensures unbundled { (runner.new.unqueued.items ≡ []) × (runner.new.bundled ≡ 0) }
+    ensures unbundled { (runner.new.unqueued.tokens ≡ []) × (runner.new.bundled ≡ 0) }
 {
     let before = runner.lane.queue().len() as u64;
     let first = runner.lane.made();
@@ -220,7 +223,7 @@ fn make_events<C: MainCode, A: Allocator + Clone, L: Log>(
 /// Makes a block of events, if the element has a token and the gate lets it.
 pub fn make_block<C: MainCode, A: Allocator + Clone, L: Log, G: Gate>(
     runner: &mut Runner<'_, C, A, L>,
-    mesh: &Mesh<A>,
+    mesh: &NearMesh<A>,
     shape: &Shape<'_, C>,
     gate: &G,
 ) -> Result<Option<Halt>, Lost>
@@ -231,7 +234,7 @@ pub fn make_block<C: MainCode, A: Allocator + Clone, L: Log, G: Gate>(
     ensures keeps { OnOk result (Keeps L.KEEPS_EVENTS (setting_in C.program C.width shape.now) mesh.now runner.old runner.new) }
     ensures halts { IfOk result (λ halt. HaltsLane (C.program shape.now.code.now) shape.now.steps G.may_stop (held_of runner.new.lane) halt) }
     ensures whole { IfOk result (λ halt. halt ≡ None → HasNoReason (setting_in C.program C.width shape.now) (held_of runner.new.lane)) }
-    ensures unbundled { (runner.new.unqueued.items ≡ []) × (runner.new.bundled ≡ 0) }
+    ensures unbundled { (runner.new.unqueued.tokens ≡ []) × (runner.new.bundled ≡ 0) }
 {
     if runner.lane.queue().len() == 0 {
         return Ok(None);

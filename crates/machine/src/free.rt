@@ -15,17 +15,19 @@ ghost use Rattle.rounds.specs.Turns.{arriving};
 ghost use Rattle.rounds.specs.Counted.{IsFirst, NoneHalts};
 ghost use Rattle.rounds.specs.Rounds.{ShowsOn};
 ghost use Rattle.machine.specs.declared.runner.Departure.{Departure};
+ghost use Rattle.machine.specs.Bundles.{bounds_within};
 ghost use Rattle.machine.specs.Runners.{Runs, IsClear, Ended};
 ghost use Rattle.machine.specs.Ends.{reasons_of, EndsFreely, EndsOn};
 ghost use Rattle.machine.specs.Starts.{IsNew, Lists, lanes_in, lanes_fixed, seats_in, departures_in, IsHaltOf, AllEnded};
 
+use crate::bundle::{NearMesh, NearSeat, Reach};
 use crate::runner::{Departure, Runner};
 use crate::starting::{parts_in, runners_of, tokens_of};
 use crate::turns;
 use crossbeam_utils::CachePadded;
 use element::instructions::Instructions;
 use element::lane::Lane;
-use mesh::{Mesh, Seat};
+use mesh::Mesh;
 use ordering::log::BlockLog;
 use ordering::order;
 use rounds::Gate;
@@ -52,7 +54,7 @@ fn run_each<
 >(
     rt: &R,
     runners: &mut [CachePadded<Runner<'_, C, A, L>>],
-    mesh: &Mesh<A>,
+    mesh: &NearMesh<A>,
     shape: &Shape<'_, C>,
     gate: &G,
 )
@@ -89,7 +91,7 @@ fn run_all<
 >(
     rt: &R,
     runners: &mut Vec<CachePadded<Runner<'_, C, A, L>>, A>,
-    mesh: &Mesh<A>,
+    mesh: &NearMesh<A>,
     shape: &Shape<'_, C>,
     gate: &G,
 )
@@ -174,10 +176,10 @@ fn why<C: Instructions, A: Allocator, L: Log>(
 // the lanes have.
 #[derive(Drop)]
 struct Ready<'m, C: Instructions, A: Allocator, L: Log> {
-    mesh: Mesh<A>,
+    mesh: NearMesh<A>,
     runners: Vec<CachePadded<Runner<'m, C, A, L>>, A>,
     lanes: Vec<Lane<'m, C, A>, A>,
-    seats: Vec<Seat<A>, A>,
+    seats: Vec<NearSeat<A>, A>,
     logs: Vec<BlockLog<A>, A>,
     tokens: Vec<Token, A>,
 }
@@ -186,6 +188,7 @@ fn make_ready<'m, C: Instructions, A: Allocator + Clone, L: Log>(
     alloc: &A,
     lanes: Vec<Lane<'m, C, A>, A>,
     elements: u32,
+    reach: Reach,
 ) -> Result<Ready<'m, C, A, L>, AllocError>
     requires elements { (0 < elements) × (elements ≤ 16) }
     requires count { length lanes.items ≡ elements }
@@ -193,7 +196,7 @@ fn make_ready<'m, C: Instructions, A: Allocator + Clone, L: Log>(
     ensures lanes { IfOk result (λ r. (lanes_in r.runners.items ≡ map held_of lanes.entry.items) × (length r.runners.items ≡ elements)) }
     ensures fixed { IfOk result (λ r. lanes_fixed r.runners.items ≡ map fixed_of lanes.entry.items) }
     ensures seats { IfOk result (λ r. AreFresh r.mesh (seats_in r.runners.items)) }
-    ensures new { IfOk result (λ r. All (λ p. IsNew elements (padded_value p)) r.runners.items) }
+    ensures new { IfOk result (λ r. All (λ p. IsNew elements (bounds_within reach) (padded_value p)) r.runners.items) }
     ensures room { IfOk result (λ r. (r.lanes.items ≡ []) × (r.seats.items ≡ []) × (r.logs.items ≡ [])) }
     ensures tokens { IfOk result (λ r. r.tokens.items ≡ tokens_in (map held_of lanes.entry.items)) }
 {
@@ -207,7 +210,7 @@ fn make_ready<'m, C: Instructions, A: Allocator + Clone, L: Log>(
     let Ok((mesh, seats)) = Mesh::new(alloc.clone()?, elements, &tokens) else {
         return Err(AllocError);
     };
-    let runners = runners_of(alloc, lanes, seats, elements)?;
+    let runners = runners_of(alloc, lanes, seats, elements, reach)?;
     Ok(Ready {
         mesh,
         runners,
@@ -255,7 +258,9 @@ fn run_apart<
         → ShowsOn L.KEEPS_EVENTS (C.program setup.entry.shape.code.now) (size (setting_in C.program C.width setup.entry.shape)) inputs
         setup.entry.shape.steps G.may_stop setup.entry.log.events.items events result }
 {
-    let Ok(ready) = make_ready::<C, A, L>(&setup.alloc, lanes, setup.shape.elements) else {
+    let reach = Reach::of(&setup.shape);
+    let elements = setup.shape.elements;
+    let Ok(ready) = make_ready::<C, A, L>(&setup.alloc, lanes, elements, reach) else {
         return setup.refused();
     };
     let Ready {

@@ -3,9 +3,9 @@
 
 mod belongings;
 mod blocks;
+mod bundle;
 mod bundling;
 mod free;
-mod nearness;
 mod runner;
 mod spares;
 mod starting;

@@ -1,8 +1,8 @@
 //! An element that runs freely, with all that it holds.
 
+use crate::bundle::{NearBundle, NearSeat};
 use element::instructions::Instructions;
 use element::lane::Lane;
-use mesh::Seat;
 use ordering::log::BlockLog;
 use packed::token::PackedToken;
 use schedule::halt::Halt;
@@ -31,17 +31,17 @@ pub enum Departure {
 #[derive(Drop)]
 pub struct Runner<'m, C: Instructions, A: Allocator, L: Log> {
     pub lane: Lane<'m, C, A>,
-    pub seat: Seat<A>,
+    pub seat: NearSeat<A>,
     /// What its last block made for other elements.
     pub sent: Vec<PackedToken, A>,
     /// How many of these lie in bundles already.
     pub bundled: usize,
     /// For each element the tokens that are not posted yet.
-    pub unposted: Vec<Vec<PackedToken, A>, A>,
+    pub unposted: Vec<NearBundle<A>, A>,
     /// What it took and could not put into its queue.
-    pub unqueued: Vec<PackedToken, A>,
+    pub unqueued: NearBundle<A>,
     /// Emptied bundles, whose memory is used again.
-    pub spare: Vec<Vec<PackedToken, A>, A>,
+    pub spare: Vec<NearBundle<A>, A>,
     /// The events of its turn.
     pub log: EventLog<A, L>,
     /// Its blocks, where events are listed.

@@ -1,33 +1,31 @@
 //! Emptied bundles, whose memory is used again.
 
 ghost use Rattle.std.specs.Prelude.{◌≡◌, [], IfOk};
+ghost use Rattle.machine.specs.Bundles.{bounds_within};
 
-use packed::token::PackedToken;
+use crate::bundle::{NearBundle, Reach};
 use std::alloc::{AllocError, Allocator};
 
-/// Empties a bundle and keeps it for later tokens: room for as many as an element posts in a turn.
-pub fn keep_spare<A: Allocator>(
-    spare: &mut Vec<Vec<PackedToken, A>, A>,
-    mut bundle: Vec<PackedToken, A>,
-) {
+/// Keeps a bundle that is done with for later tokens: room for as many as an element posts in a turn.
+pub fn keep_spare<A: Allocator>(spare: &mut Vec<NearBundle<A>, A>, bundle: NearBundle<A>) {
     if spare.len() < spare.capacity() {
-        bundle.clear();
         let _is_kept = spare.push(bundle).is_ok();
     }
 }
 
-/// An empty bundle: one that was emptied before, or else a new one.
+/// An empty bundle: one that was used before, or else a new one.
 pub fn empty_bundle<A: Allocator + Clone>(
-    spare: &mut Vec<Vec<PackedToken, A>, A>,
+    spare: &mut Vec<NearBundle<A>, A>,
+    reach: Reach,
     alloc: &A,
-) -> Result<Vec<PackedToken, A>, AllocError>
-    ensures { IfOk result (λ bundle. bundle.items ≡ []) }
+) -> Result<NearBundle<A>, AllocError>
+    ensures { IfOk result (λ bundle. bundle ≡ record { tokens = []; bounds = bounds_within reach }) }
 {
     match spare.pop() {
         Some(mut bundle) => {
-            bundle.clear();
+            bundle.renew(reach);
             Ok(bundle)
         }
-        None => Ok(Vec::new(alloc.clone()?)),
+        None => Ok(NearBundle::new(alloc.clone()?, reach)),
     }
 }

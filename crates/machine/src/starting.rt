@@ -3,17 +3,18 @@
 ghost use Rattle.std.specs.Prelude.{◌≡◌, ℕ, [], ◌++◌, length, map, All, OnOk, IfOk};
 ghost use Rattle.crossbeam_utils.specs.Padded.{padded_value};
 ghost use Rattle.element.specs.Holding.{held_of, fixed_of};
+ghost use Rattle.element.specs.Near.{Bounds};
 ghost use Rattle.schedule.specs.State.{tokens_in};
+ghost use Rattle.machine.specs.Bundles.{bounds_within};
 ghost use Rattle.machine.specs.Starts.{AreBlank, AreEmpty, IsNew, lanes_in, lanes_fixed, seats_in, logs_in};
 
 use crate::belongings::Belongings;
+use crate::bundle::{NearBundle, NearSeat, Reach};
 use crate::runner::{Departure, Runner};
 use crossbeam_utils::CachePadded;
 use element::instructions::Instructions;
 use element::lane::Lane;
-use mesh::Seat;
 use ordering::log::BlockLog;
-use packed::token::PackedToken;
 use schedule::log::{EventLog, Log};
 use std::alloc::{AllocError, Allocator};
 use tags::token::Token;
@@ -50,12 +51,13 @@ pub fn tokens_of<C: Instructions, A: Allocator>(
 fn bundles<A: Allocator + Clone>(
     alloc: &A,
     elements: u32,
-) -> Result<Vec<Vec<PackedToken, A>, A>, AllocError>
-    ensures { IfOk result (λ all. AreEmpty elements all.items) }
+    reach: Reach,
+) -> Result<Vec<NearBundle<A>, A>, AllocError>
+    ensures { IfOk result (λ all. AreEmpty elements (bounds_within reach) all.items) }
 {
     let mut all = Vec::with_capacity(alloc.clone()?, elements as usize)?;
     for _to in 0..elements {
-        all.push(Vec::new(alloc.clone()?))?;
+        all.push(NearBundle::new(alloc.clone()?, reach))?;
     }
     Ok(all)
 }
@@ -63,12 +65,13 @@ fn bundles<A: Allocator + Clone>(
 fn belongings<A: Allocator + Clone, L: Log>(
     alloc: &A,
     elements: u32,
+    reach: Reach,
 ) -> Result<Belongings<A, L>, AllocError>
-    ensures { IfOk result (AreBlank elements) }
+    ensures { IfOk result (AreBlank elements (bounds_within reach)) }
 {
-    let unposted = bundles(alloc, elements)?;
+    let unposted = bundles(alloc, elements, reach)?;
     let sent = Vec::new(alloc.clone()?);
-    let unqueued = Vec::new(alloc.clone()?);
+    let unqueued = NearBundle::new(alloc.clone()?, reach);
     let spare = Vec::with_capacity(alloc.clone()?, elements as usize)?;
     let log = EventLog::new(alloc.clone()?);
     let notes = BlockLog::new(alloc.clone()?)?;
@@ -85,10 +88,10 @@ fn belongings<A: Allocator + Clone, L: Log>(
 
 fn runner<'m, C: Instructions, A: Allocator, L: Log>(
     lane: Lane<'m, C, A>,
-    seat: Seat<A>,
+    seat: NearSeat<A>,
     belongings: Belongings<A, L>,
 ) -> Runner<'m, C, A, L>
-    ensures new { (n : ℕ) → AreBlank n belongings → IsNew n result }
+    ensures new { (n : ℕ) (b : Bounds) → AreBlank n b belongings → IsNew n b result }
     ensures parts { (result.lane ≡ lane.entry) × (result.seat ≡ seat) }
 {
     let Belongings {
@@ -121,18 +124,19 @@ fn runner<'m, C: Instructions, A: Allocator, L: Log>(
 pub fn runners_of<'m, C: Instructions, A: Allocator + Clone, L: Log>(
     alloc: &A,
     mut lanes: Vec<Lane<'m, C, A>, A>,
-    mut seats: Vec<Seat<A>, A>,
+    mut seats: Vec<NearSeat<A>, A>,
     elements: u32,
+    reach: Reach,
 ) -> Result<Vec<CachePadded<Runner<'m, C, A, L>>, A>, AllocError>
     requires { length seats.items ≡ length lanes.items }
     ensures lanes { IfOk result (λ ps. lanes_in ps.items ≡ map held_of lanes.entry.items) }
     ensures fixed { IfOk result (λ ps. lanes_fixed ps.items ≡ map fixed_of lanes.entry.items) }
     ensures seats { IfOk result (λ ps. seats_in ps.items ≡ seats.items) }
-    ensures new { IfOk result (λ ps. All (λ p. IsNew elements (padded_value p)) ps.items) }
+    ensures new { IfOk result (λ ps. All (λ p. IsNew elements (bounds_within reach) (padded_value p)) ps.items) }
 {
     let mut runners = Vec::with_capacity(alloc.clone()?, lanes.len())?;
     'each: for _at in 0..lanes.len() {
-        let belongings = belongings(alloc, elements)?;
+        let belongings = belongings(alloc, elements, reach)?;
         let lane = lanes.remove(0);
         let seat = seats.remove(0);
         let one = runner(lane, seat, belongings);
@@ -145,7 +149,7 @@ pub fn runners_of<'m, C: Instructions, A: Allocator + Clone, L: Log>(
 pub fn parts_in<'m, C: Instructions, A: Allocator, L: Log>(
     runners: Vec<CachePadded<Runner<'m, C, A, L>>, A>,
     lanes: &mut Vec<Lane<'m, C, A>, A>,
-    seats: &mut Vec<Seat<A>, A>,
+    seats: &mut Vec<NearSeat<A>, A>,
     logs: &mut Vec<BlockLog<A>, A>,
 ) -> Result<(), AllocError>
     requires { (lanes.old.items ≡ []) × (seats.old.items ≡ []) × (logs.old.items ≡ []) }

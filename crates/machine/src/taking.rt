@@ -6,49 +6,36 @@ ghost use Rattle.element.specs.Holding.{fixed_of};
 ghost use Rattle.schedule.specs.State.{RunsAs, setting_in};
 ghost use Rattle.schedule.specs.Setting.{IsGoodSetting};
 ghost use Rattle.schedule.specs.declared.halt.Halt.{Halt};
-ghost use Rattle.law_linearization.specs.History.{bounds_of};
-ghost use Rattle.machine.specs.Runners.{bounds_within, Runs, Keeps, IsClear, StaysAt, Receives};
+ghost use Rattle.machine.specs.Runners.{Runs, Keeps, IsClear, StaysAt, Receives};
 
-use crate::nearness::{Reach, are_near};
+use crate::bundle::{NearBundle, NearMesh, Reach};
 use crate::runner::Runner;
 use crate::spares::keep_spare;
-use mesh::Mesh;
-use packed::token::PackedToken;
 use schedule::halt::Halt;
 use schedule::log::Log;
 use schedule::main_code::MainCode;
 use schedule::shape::Shape;
 use std::alloc::Allocator;
 
-// How much the machine has.
-fn reach_of<C: MainCode>(shape: &Shape<'_, C>) -> Reach
-    requires { IsGoodSetting (setting_in C.program C.width shape.now) }
-    ensures { bounds_within result ≡ bounds_of (setting_in C.program C.width shape.now) }
-{
-    Reach {
-        frames: shape.elements * shape.frames,
-        cells: shape.code.cells(),
-    }
-}
-
-// Puts a bundle into the queue. Where there is no room for it, or where it has a token that names what is not there, it stays
-// unqueued; the second case occurs in no run.
+// Puts a bundle into the queue. Where there is no room for it, or where it was begun for another reach, it stays unqueued; the second case
+// occurs in no run.
 fn receive_or_hold<C: MainCode, A: Allocator, L: Log>(
     runner: &mut Runner<'_, C, A, L>,
     shape: &Shape<'_, C>,
-    bundle: Vec<PackedToken, A>,
+    bundle: NearBundle<A>,
 ) -> Option<Halt>
     requires good { IsGoodSetting (setting_in C.program C.width shape.now) }
     requires runs { RunsAs (setting_in C.program C.width shape.now) (fixed_of runner.old.lane) }
-    requires addressed { All (λ t. element_of runner.old.lane.held.part.shape.elements t.to ≡ runner.old.lane.held.part.shape.element) bundle.items }
-    ensures none { IfNone result (Receives (setting_in C.program C.width shape.now) runner.old bundle.items runner.new) }
+    requires addressed { All (λ t. element_of runner.old.lane.held.part.shape.elements t.to ≡ runner.old.lane.held.part.shape.element) bundle.tokens }
+    ensures none { IfNone result (Receives (setting_in C.program C.width shape.now) runner.old bundle.tokens runner.new) }
     ensures some { IfSome result (λ halt. (halt ≡ Halt.Memory) × (runner.new.lane ≡ runner.old.lane)
         × (runner.new ≡ record runner.old { lane = runner.new.lane; unqueued = bundle })) }
 {
-    let near = are_near(&bundle, reach_of(shape));
-    if near && runner.lane.receive_all(&bundle).is_ok() {
-        keep_spare(&mut runner.spare, bundle);
-        return None;
+    if let Some(tokens) = bundle.within(Reach::of(shape)) {
+        if runner.lane.receive_all(tokens).is_ok() {
+            keep_spare(&mut runner.spare, bundle);
+            return None;
+        }
     }
     runner.unqueued = bundle;
     Some(Halt::Memory)
@@ -57,7 +44,7 @@ fn receive_or_hold<C: MainCode, A: Allocator, L: Log>(
 // Takes a bundle of the element `from`, if there is one.
 fn take_from<C: MainCode, A: Allocator, L: Log>(
     runner: &mut Runner<'_, C, A, L>,
-    mesh: &Mesh<A>,
+    mesh: &NearMesh<A>,
     shape: &Shape<'_, C>,
     from: u32,
 ) -> Option<Halt>
@@ -79,7 +66,7 @@ fn take_from<C: MainCode, A: Allocator, L: Log>(
 /// Takes what lies in the boxes to this element.
 pub fn take_all<C: MainCode, A: Allocator, L: Log>(
     runner: &mut Runner<'_, C, A, L>,
-    mesh: &Mesh<A>,
+    mesh: &NearMesh<A>,
     shape: &Shape<'_, C>,
 ) -> Option<Halt>
     requires good { IsGoodSetting (setting_in C.program C.width shape.now) }

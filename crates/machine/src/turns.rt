@@ -10,10 +10,10 @@ ghost use Rattle.machine.specs.declared.runner.Departure.{Departure};
 ghost use Rattle.machine.specs.Runners.{Runs, Keeps, IsClear, StaysAt, HasNoReason, IsDeparture, Ended};
 
 use crate::blocks::make_block;
+use crate::bundle::NearMesh;
 use crate::bundling::{fill_bundles, offer_all};
 use crate::runner::{Departure, Lost, Runner};
 use crate::taking::take_all;
-use mesh::Mesh;
 use rounds::Gate;
 use schedule::halt::Halt;
 use schedule::log::Log;
@@ -44,7 +44,7 @@ fn is_busy<C: MainCode, A: Allocator, L: Log>(
 // Takes what others posted, if it is time to look.
 fn take<C: MainCode, A: Allocator, L: Log>(
     runner: &mut Runner<'_, C, A, L>,
-    mesh: &Mesh<A>,
+    mesh: &NearMesh<A>,
     shape: &Shape<'_, C>,
 ) -> Option<Halt>
     requires good { IsGoodSetting (setting_in C.program C.width shape.now) }
@@ -64,7 +64,7 @@ fn take<C: MainCode, A: Allocator, L: Log>(
 // Takes what others posted, and makes a block of events.
 fn work<C: MainCode, A: Allocator + Clone, L: Log, G: Gate>(
     runner: &mut Runner<'_, C, A, L>,
-    mesh: &Mesh<A>,
+    mesh: &NearMesh<A>,
     shape: &Shape<'_, C>,
     gate: &G,
 ) -> Result<Option<Halt>, Lost>
@@ -75,7 +75,7 @@ fn work<C: MainCode, A: Allocator + Clone, L: Log, G: Gate>(
     ensures keeps { OnOk result (Keeps L.KEEPS_EVENTS (setting_in C.program C.width shape.now) mesh.now runner.old runner.new) }
     ensures halts { IfOk result (λ halt. HaltsLane (C.program shape.now.code.now) shape.now.steps G.may_stop (held_of runner.new.lane) halt) }
     ensures whole { IfOk result (λ halt. halt ≡ None → HasNoReason (setting_in C.program C.width shape.now) (held_of runner.new.lane)) }
-    ensures unbundled { IfOk result (λ halt. halt ≡ None → (runner.new.unqueued.items ≡ []) × (runner.new.bundled ≡ 0)) }
+    ensures unbundled { IfOk result (λ halt. halt ≡ None → (runner.new.unqueued.tokens ≡ []) × (runner.new.bundled ≡ 0)) }
 {
     match take(runner, mesh, shape) {
         Some(halt) => Ok(Some(halt)),
@@ -86,12 +86,12 @@ fn work<C: MainCode, A: Allocator + Clone, L: Log, G: Gate>(
 // Bundles what the block made for others, and offers it, if it is time to.
 fn pass_on<C: MainCode, A: Allocator + Clone, L: Log>(
     runner: &mut Runner<'_, C, A, L>,
-    mesh: &Mesh<A>,
+    mesh: &NearMesh<A>,
     shape: &Shape<'_, C>,
 ) -> Result<(), AllocError>
     requires good { IsGoodSetting (setting_in C.program C.width shape.now) }
     requires runs { Runs L.KEEPS_EVENTS (setting_in C.program C.width shape.now) mesh.now runner.old }
-    requires unbundled { (runner.old.unqueued.items ≡ []) × (runner.old.bundled ≡ 0) }
+    requires unbundled { (runner.old.unqueued.tokens ≡ []) × (runner.old.bundled ≡ 0) }
     ensures stays { StaysAt runner.old runner.new }
     ensures keeps { Keeps L.KEEPS_EVENTS (setting_in C.program C.width shape.now) mesh.now runner.old runner.new }
     ensures clear { OnOk result (IsClear runner.new) }
@@ -107,7 +107,7 @@ fn pass_on<C: MainCode, A: Allocator + Clone, L: Log>(
 // Whether the element leaves between two turns.
 fn look<C: MainCode, A: Allocator, L: Log>(
     runner: &mut Runner<'_, C, A, L>,
-    mesh: &Mesh<A>,
+    mesh: &NearMesh<A>,
     shape: &Shape<'_, C>,
 ) -> Option<Departure>
     requires runs { Runs L.KEEPS_EVENTS (setting_in C.program C.width shape.now) mesh.now runner.old }
@@ -134,7 +134,7 @@ fn look<C: MainCode, A: Allocator, L: Log>(
 // One turn: why the element leaves after it, if it does.
 fn turn<C: MainCode, A: Allocator + Clone, L: Log, G: Gate>(
     runner: &mut Runner<'_, C, A, L>,
-    mesh: &Mesh<A>,
+    mesh: &NearMesh<A>,
     shape: &Shape<'_, C>,
     gate: &G,
 ) -> Result<Option<Departure>, Lost>
@@ -159,7 +159,7 @@ fn turn<C: MainCode, A: Allocator + Clone, L: Log, G: Gate>(
 fn go<R: Wait, C: MainCode, A: Allocator + Clone, L: Log, G: Gate>(
     rt: &R,
     runner: &mut Runner<'_, C, A, L>,
-    mesh: &Mesh<A>,
+    mesh: &NearMesh<A>,
     shape: &Shape<'_, C>,
     gate: &G,
 ) -> Result<Departure, Lost>
@@ -181,7 +181,7 @@ fn go<R: Wait, C: MainCode, A: Allocator + Clone, L: Log, G: Gate>(
 // Calls for a stop, where the element leaves for a reason of its own.
 fn call_stop<C: MainCode, A: Allocator, L: Log>(
     runner: &mut Runner<'_, C, A, L>,
-    mesh: &Mesh<A>,
+    mesh: &NearMesh<A>,
     shape: &Shape<'_, C>,
 )
     requires at { (runner.old.seat.mesh ≡ mesh.now) × (runner.old.seat.joined ≡ []) }
@@ -203,7 +203,7 @@ fn call_stop<C: MainCode, A: Allocator, L: Log>(
 fn leave<R: Wait, C: MainCode, A: Allocator + Clone, L: Log, G: Gate>(
     rt: &R,
     runner: &mut Runner<'_, C, A, L>,
-    mesh: &Mesh<A>,
+    mesh: &NearMesh<A>,
     shape: &Shape<'_, C>,
     gate: &G,
 ) -> Departure
@@ -225,7 +225,7 @@ fn leave<R: Wait, C: MainCode, A: Allocator + Clone, L: Log, G: Gate>(
 pub fn run<R: Wait, C: MainCode, A: Allocator + Clone, L: Log, G: Gate>(
     rt: &R,
     runner: &mut Runner<'_, C, A, L>,
-    mesh: &Mesh<A>,
+    mesh: &NearMesh<A>,
     shape: &Shape<'_, C>,
     gate: &G,
 )

@@ -2,9 +2,9 @@
 //! Word 16 a + b is 1 where the box from a to b is full, and slot 16 a + b is that box. Word 256 counts the live tokens,
 //! and word 257 is the reason to stop, or 0. The numbers are the same for any number of elements.
 
+use crate::bundle::Bundle;
 use crate::view::View;
 use atomic_table::{Seat, Shared, Table, TableRule};
-use packed::token::PackedToken;
 use std::alloc::Allocator;
 use tags::token::Token;
 
@@ -25,16 +25,16 @@ pub struct Opening<A: Allocator> {
 
 pub struct Law;
 
-impl<A: Allocator> TableRule<Option<Vec<PackedToken, A>>, View, Opening<A>> for Law {
+impl<B: Bundle, A: Allocator> TableRule<Option<B>, View, Opening<A>> for Law {
     ghost use Rattle.mesh.specs.Rule.{Preserved, first_view};
 
-    ghost holds = { λ k. Preserved (λ v. v.items) k.elements k.start.items };
+    ghost holds = { λ k. Preserved B.tokens k.elements k.start.items };
 
     ghost first = { λ k. first_view k.elements k.start.items };
 }
 
-pub type Board<A> = Table<Option<Vec<PackedToken, A>>, View, Opening<A>, Law, A>;
+pub type Board<B, A> = Table<Option<B>, View, Opening<A>, Law, A>;
 
-pub type Top<A> = Shared<Option<Vec<PackedToken, A>>, View, Opening<A>, Law>;
+pub type Top<B, A> = Shared<Option<B>, View, Opening<A>, Law>;
 
-pub type Place<A> = Seat<Option<Vec<PackedToken, A>>, View>;
+pub type Place<B> = Seat<Option<B>, View>;

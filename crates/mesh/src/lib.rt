@@ -7,12 +7,14 @@
 
 mod board;
 mod boxes;
+mod bundle;
 mod memory;
 mod mesh;
 mod plays;
 pub mod view;
 mod words;
 
+pub use bundle::Bundle;
 pub use memory::Memory;
 pub use mesh::{Mesh, Seat};
 pub use plays::Ask;

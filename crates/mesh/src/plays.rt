@@ -1,9 +1,8 @@
 //! What each step shows to its caller.
 
+use crate::bundle::Bundle;
 use crate::view::View;
 use atomic_table::{Join, Play, Split};
-use packed::token::PackedToken;
-use std::alloc::Allocator;
 use std::marker::{Brand, PhantomData};
 use tags::token::Token;
 
@@ -26,7 +25,7 @@ pub(crate) struct LookTo<J> {
     offered: PhantomData<J>,
 }
 
-impl<A: Allocator, J: Offer> Play<Option<Vec<PackedToken, A>>, View> for LookTo<J> {
+impl<B: Bundle, J: Offer> Play<Option<B>, View> for LookTo<J> {
     ghost use Rattle.mesh.specs.Plays.{looked_to};
 
     ghost then = { looked_to J.bundle };
@@ -35,25 +34,25 @@ impl<A: Allocator, J: Offer> Play<Option<Vec<PackedToken, A>>, View> for LookTo<
 /// The poster gives the slot back, full.
 pub(crate) struct Give;
 
-impl<A: Allocator> Play<Option<Vec<PackedToken, A>>, View> for Give {
+impl<B: Bundle> Play<Option<B>, View> for Give {
     ghost use Rattle.mesh.specs.Plays.{gave};
 
-    ghost then = { gave (λ v. v.items) };
+    ghost then = { gave B.tokens };
 }
 
 /// The taker's look at a box.
 pub(crate) struct LookFrom;
 
-impl<A: Allocator> Play<Option<Vec<PackedToken, A>>, View> for LookFrom {
+impl<B: Bundle> Play<Option<B>, View> for LookFrom {
     ghost use Rattle.mesh.specs.Plays.{looked_from};
 
-    ghost then = { looked_from (λ v. v.items) };
+    ghost then = { looked_from B.tokens };
 }
 
 /// The taker gives the slot back, empty.
 pub(crate) struct GiveBack;
 
-impl<A: Allocator> Play<Option<Vec<PackedToken, A>>, View> for GiveBack {
+impl<B: Bundle> Play<Option<B>, View> for GiveBack {
     ghost use Rattle.mesh.specs.Plays.{gave_back};
 
     ghost then = { gave_back };
@@ -104,7 +103,7 @@ pub(crate) struct CommitThat<J> {
     asked: PhantomData<J>,
 }
 
-impl<A: Allocator, J: Ask> Play<Option<Vec<PackedToken, A>>, View> for CommitThat<J> {
+impl<B: Bundle, J: Ask> Play<Option<B>, View> for CommitThat<J> {
     ghost use Rattle.mesh.specs.Plays.{committed};
 
     ghost then = { committed J.spent J.made };
@@ -113,7 +112,7 @@ impl<A: Allocator, J: Ask> Play<Option<Vec<PackedToken, A>>, View> for CommitTha
 /// A read of the live word.
 pub(crate) struct SeeLive;
 
-impl<A: Allocator> Play<Option<Vec<PackedToken, A>>, View> for SeeLive {
+impl<B: Bundle> Play<Option<B>, View> for SeeLive {
     ghost use Rattle.mesh.specs.Plays.{saw_live};
 
     ghost then = { saw_live };
@@ -122,7 +121,7 @@ impl<A: Allocator> Play<Option<Vec<PackedToken, A>>, View> for SeeLive {
 /// A try to set the stop word.
 pub(crate) struct TryStop;
 
-impl<A: Allocator> Play<Option<Vec<PackedToken, A>>, View> for TryStop {
+impl<B: Bundle> Play<Option<B>, View> for TryStop {
     ghost use Rattle.mesh.specs.Plays.{tried_stop};
 
     ghost then = { tried_stop };
@@ -131,7 +130,7 @@ impl<A: Allocator> Play<Option<Vec<PackedToken, A>>, View> for TryStop {
 /// A read of the stop word.
 pub(crate) struct SeeStop;
 
-impl<A: Allocator> Play<Option<Vec<PackedToken, A>>, View> for SeeStop {
+impl<B: Bundle> Play<Option<B>, View> for SeeStop {
     ghost use Rattle.mesh.specs.Plays.{saw_stop};
 
     ghost then = { saw_stop };
@@ -140,7 +139,7 @@ impl<A: Allocator> Play<Option<Vec<PackedToken, A>>, View> for SeeStop {
 /// A read of the live word by a seat of several elements.
 pub(crate) struct Settle;
 
-impl<A: Allocator> Play<Option<Vec<PackedToken, A>>, View> for Settle {
+impl<B: Bundle> Play<Option<B>, View> for Settle {
     ghost use Rattle.mesh.specs.Plays.{settled};
 
     ghost then = { settled };

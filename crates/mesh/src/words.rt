@@ -9,14 +9,15 @@ ghost use Rattle.mesh.specs.Places.{IsOf, IsTop, Commits, part_of};
 ghost use Rattle.mesh.specs.Seats.{AllTo, Has};
 
 use crate::board::{LIVE, Place, STOP, Top};
+use crate::bundle::Bundle;
 use crate::plays::{Ask, CommitThat, SeeLive, SeeStop, TryStop};
 use std::alloc::Allocator;
 use std::marker::Brand;
 use tags::token::Token;
 
-pub(crate) fn commit_by_at<A: Allocator, J: Ask>(
-    top: &Top<A>,
-    place: &mut Place<A>,
+pub(crate) fn commit_by_at<B: Bundle, A: Allocator, J: Ask>(
+    top: &Top<B, A>,
+    place: &mut Place<B>,
     element: u32,
     spent: u64,
     made: u64,
@@ -36,9 +37,9 @@ pub(crate) fn commit_by_at<A: Allocator, J: Ask>(
     }
 }
 
-fn commit_as<A: Allocator, J: Ask>(
-    top: &Top<A>,
-    place: &mut Place<A>,
+fn commit_as<B: Bundle, A: Allocator, J: Ask>(
+    top: &Top<B, A>,
+    place: &mut Place<B>,
     element: u32,
     spent: &[Token],
     made: &[Token],
@@ -51,12 +52,12 @@ fn commit_as<A: Allocator, J: Ask>(
     ensures table { place.new.table_id ≡ place.old.table_id }
     ensures commits { Commits spent.now made.now place.old.me place.new.me }
 {
-    commit_by_at::<A, J>(top, place, element, spent.len() as u64, made.len() as u64);
+    commit_by_at::<B, A, J>(top, place, element, spent.len() as u64, made.len() as u64);
 }
 
-pub(crate) fn commit_at<A: Allocator>(
-    top: &Top<A>,
-    place: &mut Place<A>,
+pub(crate) fn commit_at<B: Bundle, A: Allocator>(
+    top: &Top<B, A>,
+    place: &mut Place<B>,
     element: u32,
     spent: &[Token],
     made: &[Token],
@@ -68,10 +69,14 @@ pub(crate) fn commit_at<A: Allocator>(
     ensures table { place.new.table_id ≡ place.old.table_id }
     ensures commits { Commits spent.now made.now place.old.me place.new.me }
 {
-    commit_as::<A, Brand>(top, place, element, spent, made);
+    commit_as::<B, A, Brand>(top, place, element, spent, made);
 }
 
-pub(crate) fn live_at<A: Allocator>(top: &Top<A>, place: &mut Place<A>, element: u32) -> u64
+pub(crate) fn live_at<B: Bundle, A: Allocator>(
+    top: &Top<B, A>,
+    place: &mut Place<B>,
+    element: u32,
+) -> u64
     requires table { IsTop top.now.table_id place.old }
     requires seat { IsOf element place.old }
     ensures table { place.new.table_id ≡ place.old.table_id }
@@ -82,9 +87,9 @@ pub(crate) fn live_at<A: Allocator>(top: &Top<A>, place: &mut Place<A>, element:
     top.load::<SeeLive>(place, LIVE)
 }
 
-pub(crate) fn stop_at<A: Allocator>(
-    top: &Top<A>,
-    place: &mut Place<A>,
+pub(crate) fn stop_at<B: Bundle, A: Allocator>(
+    top: &Top<B, A>,
+    place: &mut Place<B>,
     element: u32,
     reason: u64,
 ) -> u64
@@ -98,7 +103,11 @@ pub(crate) fn stop_at<A: Allocator>(
     top.compare_exchange::<TryStop>(place, STOP, 0, reason)
 }
 
-pub(crate) fn stopped_at<A: Allocator>(top: &Top<A>, place: &mut Place<A>, element: u32) -> u64
+pub(crate) fn stopped_at<B: Bundle, A: Allocator>(
+    top: &Top<B, A>,
+    place: &mut Place<B>,
+    element: u32,
+) -> u64
     requires table { IsTop top.now.table_id place.old }
     requires seat { IsOf element place.old }
     ensures table { place.new.table_id ≡ place.old.table_id }

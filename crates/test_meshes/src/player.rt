@@ -40,7 +40,7 @@ impl Tally {
 /// An element with its seat.
 #[derive(Drop)]
 pub struct Player {
-    pub seat: Seat<Global>,
+    pub seat: Seat<Vec<PackedToken>>,
     /// The tokens that it made and has not posted yet.
     pub kept: Vec<PackedToken>,
     pub elements: u32,
@@ -117,7 +117,7 @@ fn unpacked(alloc: Global, bundle: &[PackedToken]) -> Result<Vec<Token>, AllocEr
 /// Commits a bundle that the player was given, and stores what it made of it.
 fn pass_on(
     alloc: Global,
-    mesh: &Mesh<Global>,
+    mesh: &Mesh<Vec<PackedToken>, Global>,
     p: &mut Player,
     bundle: &[Token],
 ) -> Result<(), AllocError>
@@ -143,7 +143,7 @@ fn pass_on(
 }
 
 /// Offers all that the player keeps.
-fn offer(alloc: Global, mesh: &Mesh<Global>, p: &mut Player)
+fn offer(alloc: Global, mesh: &Mesh<Vec<PackedToken>, Global>, p: &mut Player)
     requires { IsPlaying mesh.now p.old }
     ensures { IsPlaying mesh.now p.new }
 {
@@ -157,7 +157,11 @@ fn offer(alloc: Global, mesh: &Mesh<Global>, p: &mut Player)
 }
 
 /// Takes what the previous element posted, if anything.
-fn receive(alloc: Global, mesh: &Mesh<Global>, p: &mut Player) -> Result<(), AllocError>
+fn receive(
+    alloc: Global,
+    mesh: &Mesh<Vec<PackedToken>, Global>,
+    p: &mut Player,
+) -> Result<(), AllocError>
     requires { IsPlaying mesh.now p.old }
     ensures { OnOk result (IsPlaying mesh.now p.new) }
 {
@@ -171,7 +175,7 @@ fn receive(alloc: Global, mesh: &Mesh<Global>, p: &mut Player) -> Result<(), All
 }
 
 /// Sets the reason to stop, unless it is 0.
-fn call_stop(mesh: &Mesh<Global>, p: &mut Player, reason: u64)
+fn call_stop(mesh: &Mesh<Vec<PackedToken>, Global>, p: &mut Player, reason: u64)
     requires { IsPlaying mesh.now p.old }
     ensures { IsPlaying mesh.now p.new }
 {
@@ -185,8 +189,8 @@ impl Player {
     /// A player with a fresh seat. It has passed on those start tokens that are its own.
     pub fn new(
         alloc: Global,
-        mesh: &Mesh<Global>,
-        seat: Seat<Global>,
+        mesh: &Mesh<Vec<PackedToken>, Global>,
+        seat: Seat<Vec<PackedToken>>,
         element: u32,
         elements: u32,
         start: &[Token],
@@ -220,7 +224,7 @@ impl Player {
         &mut self,
         rt: &R,
         alloc: Global,
-        mesh: &Mesh<Global>,
+        mesh: &Mesh<Vec<PackedToken>, Global>,
     ) -> Result<(), AllocError>
         requires { IsPlaying mesh.now self.old }
         ensures { OnOk result (IsPlaying mesh.now self.new) }
@@ -240,7 +244,7 @@ impl Player {
         &mut self,
         rt: &R,
         alloc: Global,
-        mesh: &Mesh<Global>,
+        mesh: &Mesh<Vec<PackedToken>, Global>,
         sets: u64,
     ) -> Result<(), AllocError>
         requires { IsPlaying mesh.now self.old }

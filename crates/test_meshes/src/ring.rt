@@ -7,6 +7,7 @@ ghost use Rattle.test_meshes.specs.Playing.{IsPlaying};
 use crate::player::{NUMBERS, Player};
 use crossbeam_utils::CachePadded;
 use mesh::{Mesh, Seat};
+use packed::token::PackedToken;
 use std::alloc::{AllocError, Global};
 use std::sync::Wait;
 use std::thread;
@@ -43,8 +44,8 @@ fn start_tokens(alloc: Global, elements: u32, each: u32) -> Result<Vec<Token>, A
 /// A player for each seat, the last seat first.
 fn players(
     alloc: Global,
-    mesh: &Mesh<Global>,
-    mut seats: Vec<Seat<Global>>,
+    mesh: &Mesh<Vec<PackedToken>, Global>,
+    mut seats: Vec<Seat<Vec<PackedToken>>>,
     elements: u32,
     start: &[Token],
 ) -> Result<Vec<CachePadded<Player>>, AllocError>
@@ -65,7 +66,7 @@ fn players(
 fn play<R: Threads + Wait + Sync>(
     rt: &R,
     alloc: Global,
-    mesh: &Mesh<Global>,
+    mesh: &Mesh<Vec<PackedToken>, Global>,
     players: &mut [CachePadded<Player>],
 )
     requires { All (λ p. IsPlaying mesh.now (padded_value p)) players.old }
@@ -87,7 +88,7 @@ fn play<R: Threads + Wait + Sync>(
 fn play_to_stop<R: Threads + Wait + Sync>(
     rt: &R,
     alloc: Global,
-    mesh: &Mesh<Global>,
+    mesh: &Mesh<Vec<PackedToken>, Global>,
     players: &mut [CachePadded<Player>],
     setter: usize,
     reason: u64,

@@ -17,6 +17,8 @@ use test_inputs::rationed::{Rationed, is_next_refused};
 /// Memory that counts how often it is asked: `Mesh::new` alone takes some.
 type Heap<'h> = &'h Rationed<Global>;
 
+type Bundle<'h> = Vec<PackedToken, Heap<'h>>;
+
 fn token(frame: u32, number: u32) -> Token
     requires { frame < 2 }
     ensures { element_of 2 result.to ≡ frame }
@@ -42,8 +44,8 @@ fn only(rt: &impl Abort, bundle: &[PackedToken]) -> Token
 /// Element 0 spends t to make u and v.
 fn spend<'h>(
     rt: &impl Abort,
-    mesh: &Mesh<Heap<'h>>,
-    seat: &mut Seat<Heap<'h>>,
+    mesh: &Mesh<Bundle<'h>, Heap<'h>>,
+    seat: &mut Seat<Bundle<'h>>,
     t: &Token,
     u: &Token,
     v: &Token,
@@ -64,11 +66,11 @@ fn spend<'h>(
 fn post_both<'h>(
     rt: &impl Abort,
     heap: Heap<'h>,
-    mesh: &Mesh<Heap<'h>>,
-    seat: &mut Seat<Heap<'h>>,
+    mesh: &Mesh<Bundle<'h>, Heap<'h>>,
+    seat: &mut Seat<Bundle<'h>>,
     u: &Token,
     v: &Token,
-) -> Vec<PackedToken, Heap<'h>>
+) -> Bundle<'h>
     requires mesh { mesh.now.elements ≡ 2 }
     requires seat { (seat.old.own.element ≡ 0) × Holds mesh.now seat.old (u.now ∷ v.now ∷ []) }
     requires tokens { (element_of 2 u.now.to ≡ 1) × (element_of 2 v.now.to ≡ 1) }
@@ -92,9 +94,9 @@ fn post_both<'h>(
 /// Element 1 takes what element 0 posted. Then the box is empty.
 fn take_one<'h>(
     rt: &impl Abort,
-    mesh: &Mesh<Heap<'h>>,
-    seat: &mut Seat<Heap<'h>>,
-) -> Vec<PackedToken, Heap<'h>>
+    mesh: &Mesh<Bundle<'h>, Heap<'h>>,
+    seat: &mut Seat<Bundle<'h>>,
+) -> Bundle<'h>
     requires mesh { mesh.now.elements ≡ 2 }
     requires seat { (seat.old.own.element ≡ 1) × (created seat.old.own.deeds ≡ 0) × Holds mesh.now seat.old [] }
     ensures seat { (seat.new.own.element ≡ 1) × (created seat.new.own.deeds ≡ 0) × Holds mesh.now seat.new result.items }
@@ -110,10 +112,10 @@ fn take_one<'h>(
 /// Element 1 takes the next bundle too, and spends both.
 fn take_and_spend<'h>(
     rt: &impl Abort,
-    mesh: &Mesh<Heap<'h>>,
-    seat: &mut Seat<Heap<'h>>,
+    mesh: &Mesh<Bundle<'h>, Heap<'h>>,
+    seat: &mut Seat<Bundle<'h>>,
     first: &[PackedToken],
-) -> Vec<PackedToken, Heap<'h>>
+) -> Bundle<'h>
     requires mesh { mesh.now.elements ≡ 2 }
     requires seat { (seat.old.own.element ≡ 1) × (created seat.old.own.deeds ≡ 0) × Holds mesh.now seat.old first.now }
     requires address { AllTo 2 1 first.now }
@@ -133,9 +135,9 @@ fn take_and_spend<'h>(
 fn join_both<'h>(
     rt: &impl Abort,
     heap: Heap<'h>,
-    mesh: &Mesh<Heap<'h>>,
-    zero: Seat<Heap<'h>>,
-    one: Seat<Heap<'h>>,
+    mesh: &Mesh<Bundle<'h>, Heap<'h>>,
+    zero: Seat<Bundle<'h>>,
+    one: Seat<Bundle<'h>>,
 )
     requires mesh { mesh.now.elements ≡ 2 }
     requires zero { (zero.own.element ≡ 0) × (zero.mesh ≡ mesh.now) × (zero.joined ≡ []) }
@@ -150,9 +152,9 @@ fn join_both<'h>(
 /// The seats of elements 0 and 1.
 fn both_seats<'h>(
     rt: &impl Abort,
-    mesh: &Mesh<Heap<'h>>,
-    mut seats: Vec<Seat<Heap<'h>>, Heap<'h>>,
-) -> (Seat<Heap<'h>>, Seat<Heap<'h>>)
+    mesh: &Mesh<Bundle<'h>, Heap<'h>>,
+    mut seats: Vec<Seat<Bundle<'h>>, Heap<'h>>,
+) -> (Seat<Bundle<'h>>, Seat<Bundle<'h>>)
     requires seats { (length seats.items ≡ 2) × AreFresh mesh.now seats.items }
     ensures zero { result.0 ≡ fresh_seat mesh.now 0 }
     ensures one { result.1 ≡ fresh_seat mesh.now 1 }
@@ -169,8 +171,8 @@ fn both_seats<'h>(
 fn the_row<'h>(
     rt: &impl Abort,
     heap: Heap<'h>,
-    mesh: &Mesh<Heap<'h>>,
-    seats: Vec<Seat<Heap<'h>>, Heap<'h>>,
+    mesh: &Mesh<Bundle<'h>, Heap<'h>>,
+    seats: Vec<Seat<Bundle<'h>>, Heap<'h>>,
     t: &Token,
 )
     requires mesh { (mesh.now.elements ≡ 2) × (mesh.now.start ≡ t.now ∷ []) × (element_of 2 t.now.to ≡ 0) }
@@ -224,7 +226,7 @@ fn each_growth_refused(rt: HostRuntime) -> Result<(), Fail> {
     let mut whole = false;
     for at in 1..10_000u64 {
         let heap = Rationed::new(rt.alloc(), at);
-        let is_made = Mesh::new(&heap, 16, &start).is_ok();
+        let is_made = Mesh::<Bundle<'_>, _>::new(&heap, 16, &start).is_ok();
         whole = is_next_refused(&heap);
         assert_eq!(rt; is_made, whole, "{at}");
         if whole {

@@ -12,8 +12,8 @@ use tags::token::Token;
 
 /// A commit by counts: the mesh gets no list.
 fn commit_counts<A: Allocator, J: Ask>(
-    mesh: &Mesh<A>,
-    seat: &mut Seat<A>,
+    mesh: &Mesh<Vec<PackedToken, A>, A>,
+    seat: &mut Seat<Vec<PackedToken, A>>,
     spent: &[Token],
     made: &[Token],
 )
@@ -29,8 +29,8 @@ fn commit_counts<A: Allocator, J: Ask>(
 }
 
 pub fn commit<A: Allocator>(
-    mesh: &Mesh<A>,
-    seat: &mut Seat<A>,
+    mesh: &Mesh<Vec<PackedToken, A>, A>,
+    seat: &mut Seat<Vec<PackedToken, A>>,
     spent: &[Token],
     made: &[Token],
     rest: &[Token],
@@ -48,8 +48,8 @@ pub fn commit<A: Allocator>(
 }
 
 pub fn post<A: Allocator>(
-    mesh: &Mesh<A>,
-    seat: &mut Seat<A>,
+    mesh: &Mesh<Vec<PackedToken, A>, A>,
+    seat: &mut Seat<Vec<PackedToken, A>>,
     to: u32,
     bundle: Vec<PackedToken, A>,
     rest: &[Token],
@@ -69,8 +69,8 @@ pub fn post<A: Allocator>(
 }
 
 pub fn take<A: Allocator>(
-    mesh: &Mesh<A>,
-    seat: &mut Seat<A>,
+    mesh: &Mesh<Vec<PackedToken, A>, A>,
+    seat: &mut Seat<Vec<PackedToken, A>>,
     from: u32,
     rest: &[PackedToken],
 ) -> Option<Vec<PackedToken, A>>
@@ -87,7 +87,11 @@ pub fn take<A: Allocator>(
     }
 }
 
-pub fn live<A: Allocator>(mesh: &Mesh<A>, seat: &mut Seat<A>, rest: &[Token]) -> u64
+pub fn live<A: Allocator>(
+    mesh: &Mesh<Vec<PackedToken, A>, A>,
+    seat: &mut Seat<Vec<PackedToken, A>>,
+    rest: &[Token],
+) -> u64
     requires holds { Holds mesh.now seat.old rest.now }
     ensures element { (seat.new.own.element ≡ seat.old.own.element) × (created seat.new.own.deeds ≡ created seat.old.own.deeds) }
     ensures holds { Holds mesh.now seat.new rest.now }

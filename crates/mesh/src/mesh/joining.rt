@@ -4,13 +4,14 @@ ghost use Rattle.mesh.specs.Seats.{AreAll, AreAt, accounts, Leaves, HasCommits, 
 
 use super::{Mesh, Seat};
 use crate::board::LIVE;
+use crate::bundle::Bundle;
 use crate::plays::{Both, Settle};
 use std::alloc::Allocator;
 
-impl<A: Allocator> Mesh<A> {
+impl<B: Bundle, A: Allocator> Mesh<B, A> {
     /// Makes one seat of those of all elements, in the order of `new`. It has the account of each, and it has seen the
     /// whole history. It is there to be read by contracts: no other call takes it.
-    pub fn join_seats(&self, seats: Vec<Seat<A>, A>) -> Seat<A>
+    pub fn join_seats(&self, seats: Vec<Seat<B>, A>) -> Seat<B>
         requires { AreAll self.now seats.items }
         ensures mesh { result.mesh ≡ self.now }
         ensures accounts { accounts result ≡ map (λ s. s.own) seats.items }
@@ -27,7 +28,7 @@ impl<A: Allocator> Mesh<A> {
         all
     }
 
-    fn joined(&self, mut seats: Vec<Seat<A>, A>) -> Seat<A>
+    fn joined(&self, mut seats: Vec<Seat<B>, A>) -> Seat<B>
         requires some { 0 < length seats.items }
         requires seats { AreAt self.now seats.items }
         ensures mesh { result.mesh ≡ self.now }

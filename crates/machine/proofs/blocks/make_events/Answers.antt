@@ -65,4 +65,4 @@ returns-clause-whole g c = λ none.
     let new : Holding = held_of c.take_turn-halt.new.lane in
     let turn : ℕ = c.turn_of-turn.result in
     let whole : IsWhole turn old new None = subst (λ (why : Option Halt). IsWhole turn old new why) none c.take_turn-halt.ensures.whole in
-    subst (λ (h : Holding). HasNoReason s h) (sym c.in_ok-commit.ensures.lane) (no_reason s turn old new c.turn_of-turn.ensures whole)
+    subst (λ (h : Holding). HasNoReason s h) (sym c.in_ok-commit.ensures.lane) (no_reason s turn old new c.turn_of-turn.ensures.enough whole)

@@ -1,52 +1,46 @@
-use Rattle.std.proofs.Common.{ap, refl, ◌<◌, ◌≤◌, length, arith}
+use Rattle.std.proofs.Common.{◌≡◌, sym, subst, ◌≤◌, List, length, take, arith}
+use Rattle.std.specs.Prelude.{All}
+use Rattle.tags.specs.declared.token.Token.{Token}
 use Rattle.schedule.specs.State.{setting_in}
-use Rattle.machine.proofs.Keeping.{runs_on, keeps_twice, kept_count, keeps_bundled_at, keeps_bundles, keeps_cleared}
+use Rattle.schedule.specs.Setting.{Setting}
+use Rattle.machine.specs.Runners.{KeepsTokens, Fits}
+use Rattle.machine.proofs.Keeping.{keeps_twice, kept_count, fits_bundles, keeps_filled, keeps_cleared}
 use Rattle.machine.proofs.bundling.fill_bundles.Goals as goal
 
-pub keep-requires-clause-count : goal.keep-requires-clause-count
-keep-requires-clause-count g c =
+pub fill-runner-requires-clause-count : goal.fill-runner-requires-clause-count
+fill-runner-requires-clause-count g c =
     kept_count {C = g.row.C.Denot} {A = g.row.A.Denot} {L = g.row.L.Denot} g.L.Log.KEEPS_EVENTS
-    (setting_in g.C.Instructions.program g.C.Instructions.width c.args.shape.now) c.args.mesh.now c.loop-at.runner
-    (runs_on {C = g.row.C.Denot} {A = g.row.A.Denot} {L = g.row.L.Denot} g.L.Log.KEEPS_EVENTS
-    (setting_in g.C.Instructions.program g.C.Instructions.width c.args.shape.now) c.args.mesh.now c.args.runner.now c.loop-at.runner
-    c.requires.runs c.loop-at.invariant.keeps)
+    (setting_in g.C.Instructions.program g.C.Instructions.width c.args.shape.now) c.args.mesh.now c.args.runner.now c.requires.runs
 
-pub returns-in_err-keep-clause-keeps : goal.returns-in_err-keep-clause-keeps
-returns-in_err-keep-clause-keeps g c =
-    keeps_twice {C = g.row.C.Denot} {A = g.row.A.Denot} {L = g.row.L.Denot} g.L.Log.KEEPS_EVENTS
-    (setting_in g.C.Instructions.program g.C.Instructions.width c.args.shape.now) c.args.mesh.now c.args.runner.now c.loop-at.runner _
-    c.loop-at.invariant.keeps
-    (keeps_bundles {C = g.row.C.Denot} {A = g.row.A.Denot} {L = g.row.L.Denot} g.L.Log.KEEPS_EVENTS
-    (setting_in g.C.Instructions.program g.C.Instructions.width c.args.shape.now) c.args.mesh.now c.loop-at.runner c.keep.new.unposted
-    c.in_err-keep.ensures.err)
+pub fill-runner-requires-clause-near : goal.fill-runner-requires-clause-near
+fill-runner-requires-clause-near g c =
+    subst (λ (l : List Token). All (Fits c.args.shape.now.elements c.args.runner.now.unposted.items) l) (sym c.deref.ensures.value)
+    (fits_bundles {C = g.row.C.Denot} {A = g.row.A.Denot} {L = g.row.L.Denot} g.L.Log.KEEPS_EVENTS
+    (setting_in g.C.Instructions.program g.C.Instructions.width c.args.shape.now) c.args.mesh.now c.args.runner.now c.requires.runs)
 
-pub loop-at-preserved : goal.loop-at-preserved
-loop-at-preserved g c =
-    let i = c.loop-at.invariant in
-    let end = c.len-at-end.ensures in
-    let low : c.loop-at.at < length c.loop-at.runner.sent.items = (let t = c.loop-at-test.true in let s = ap (λ l. length l) i.sent
-    in omega (arith, end, t, s)) in
-    record {
-      stays = i.stays;
-      keeps = keeps_twice {C = g.row.C.Denot} {A = g.row.A.Denot} {L = g.row.L.Denot} g.L.Log.KEEPS_EVENTS
-          (setting_in g.C.Instructions.program g.C.Instructions.width c.args.shape.now) c.args.mesh.now c.args.runner.now c.loop-at.runner _ i.keeps
-          (keeps_bundled_at {C = g.row.C.Denot} {A = g.row.A.Denot} {L = g.row.L.Denot} g.L.Log.KEEPS_EVENTS
-          (setting_in g.C.Instructions.program g.C.Instructions.width c.args.shape.now) c.args.mesh.now c.loop-at.runner c.keep.new.unposted
-          c.index.result.now c.loop-at.at i.bundled c.in_ok-keep.ensures.ok low c.index.ensures);
-      bundled = refl;
-      sent = i.sent;
-      unqueued = i.unqueued;
-      lane = i.lane;
-    }
+pub returns-then-runner-len-clause-keeps : goal.returns-then-runner-len-clause-keeps
+returns-then-runner-len-clause-keeps g c =
+    let filled : KeepsTokens c.args.shape.now.elements c.args.runner.now.unposted.items c.fill-runner.new.unposted.items
+    (take c.fill-runner.result c.args.runner.now.sent.items) = subst (λ (l : List Token). KeepsTokens c.args.shape.now.elements
+    c.args.runner.now.unposted.items c.fill-runner.new.unposted.items (take c.fill-runner.result l)) c.deref.ensures.value c.fill-runner.ensures.keeps in
+    keeps_filled {C = g.row.C.Denot} {A = g.row.A.Denot} {L = g.row.L.Denot} g.L.Log.KEEPS_EVENTS
+    (setting_in g.C.Instructions.program g.C.Instructions.width c.args.shape.now) c.args.mesh.now c.args.runner.now c.fill-runner.new.unposted
+    c.fill-runner.result c.requires.unbundled filled
 
 pub returns-clause-keeps : goal.returns-clause-keeps
 returns-clause-keeps g c =
-    let i = c.loop-at.invariant in
-    let end = c.len-at-end.ensures in
-    let past : length c.loop-at.runner.sent.items ≤ c.loop-at.runner.bundled = (let t = c.loop-at-test.false in let s = ap (λ l. length l) i.sent
-    in let d = i.bundled in omega (arith, end, t, s, d)) in
+    let filled : KeepsTokens c.args.shape.now.elements c.args.runner.now.unposted.items c.fill-runner.new.unposted.items
+    (take c.fill-runner.result c.args.runner.now.sent.items) = subst (λ (l : List Token). KeepsTokens c.args.shape.now.elements
+    c.args.runner.now.unposted.items c.fill-runner.new.unposted.items (take c.fill-runner.result l)) c.deref.ensures.value c.fill-runner.ensures.keeps in
+    let count = c.len.ensures in
+    let test = c.if-runner-len.false in
+    let past : length c.args.runner.now.sent.items ≤ c.fill-runner.result = omega (arith, count, test) in
     keeps_twice {C = g.row.C.Denot} {A = g.row.A.Denot} {L = g.row.L.Denot} g.L.Log.KEEPS_EVENTS
-    (setting_in g.C.Instructions.program g.C.Instructions.width c.args.shape.now) c.args.mesh.now c.args.runner.now c.loop-at.runner _ i.keeps
+    (setting_in g.C.Instructions.program g.C.Instructions.width c.args.shape.now) c.args.mesh.now c.args.runner.now
+    (record c.args.runner.now { unposted = c.fill-runner.new.unposted; bundled = c.fill-runner.result }) _
+    (keeps_filled {C = g.row.C.Denot} {A = g.row.A.Denot} {L = g.row.L.Denot} g.L.Log.KEEPS_EVENTS
+    (setting_in g.C.Instructions.program g.C.Instructions.width c.args.shape.now) c.args.mesh.now c.args.runner.now c.fill-runner.new.unposted
+    c.fill-runner.result c.requires.unbundled filled)
     (keeps_cleared {C = g.row.C.Denot} {A = g.row.A.Denot} {L = g.row.L.Denot} g.L.Log.KEEPS_EVENTS
-    (setting_in g.C.Instructions.program g.C.Instructions.width c.args.shape.now) c.args.mesh.now c.loop-at.runner c.clear.new.self past
-    c.clear.ensures.items)
+    (setting_in g.C.Instructions.program g.C.Instructions.width c.args.shape.now) c.args.mesh.now
+    (record c.args.runner.now { unposted = c.fill-runner.new.unposted; bundled = c.fill-runner.result }) c.clear.new.self past c.clear.ensures.items)

@@ -15,6 +15,7 @@ use Rattle.rounds.specs.Turns.{arriving}
 use Rattle.rounds.proofs.Closing.{refused_shows}
 use Rattle.ordering.specs.declared.log.BlockLog.{BlockLog}
 use Rattle.machine.specs.declared.runner.Runner.{Runner}
+use Rattle.machine.specs.Bundles.{bounds_within}
 use Rattle.machine.specs.Starts.{departures_in, logs_in, notes_of, IsHaltOf, Lists}
 use Rattle.machine.proofs.Freed.{AreReady, are_ready, all_run, all_seats, sound_last, cell, shows_last, ends_last}
 use Rattle.machine.proofs.free.run_apart.Goals as goal
@@ -62,7 +63,7 @@ run_all-requires-clause-ready g c = λ κs within.
     let olds = c.in-Ok.ready.runners.items in
     let e = c.in-Ok.ensures in
     let ready : AreReady s mesh olds = are_ready {C = g.row.C.Denot} {A = g.row.A.Denot} {L = g.row.L.Denot} s mesh olds raw
-    (map fixed_of c.args.lanes.items) c.requires.sound c.requires.runs e.fixed e.mesh e.lanes e.seats e.new in
+    (map fixed_of c.args.lanes.items) c.requires.sound c.requires.runs e.fixed e.mesh e.lanes e.seats (bounds_within c.of-reach.result) c.of-reach.ensures e.new in
     all_run {C = g.row.C.Denot} {A = g.row.A.Denot} {L = g.row.L.Denot} s mesh on olds ready
 
 pub join_seats-joined-requires : goal.join_seats-joined-requires
@@ -74,7 +75,7 @@ join_seats-joined-requires g c =
     let olds = c.in-Ok.ready.runners.items in
     let e = c.in-Ok.ensures in
     let ready : AreReady s mesh olds = are_ready {C = g.row.C.Denot} {A = g.row.A.Denot} {L = g.row.L.Denot} s mesh olds raw
-    (map fixed_of c.args.lanes.items) c.requires.sound c.requires.runs e.fixed e.mesh e.lanes e.seats e.new in
+    (map fixed_of c.args.lanes.items) c.requires.sound c.requires.runs e.fixed e.mesh e.lanes e.seats (bounds_within c.of-reach.result) c.of-reach.ensures e.new in
     let news = c.run_all.new.runners.items in
     let truth : IsHaltOf (departures_in news) c.in-Some.halt = subst (λ (l : List (CachePadded (Runner g.row.C.Denot g.row.A.Denot g.row.L.Denot))).
     IsHaltOf (departures_in l) c.in-Some.halt) c.deref.ensures.value c.in-Some.ensures in
@@ -93,7 +94,7 @@ report-requires-clause-sound g c =
     let olds = c.in-Ok.ready.runners.items in
     let e = c.in-Ok.ensures in
     let ready : AreReady s mesh olds = are_ready {C = g.row.C.Denot} {A = g.row.A.Denot} {L = g.row.L.Denot} s mesh olds raw
-    (map fixed_of c.args.lanes.items) c.requires.sound c.requires.runs e.fixed e.mesh e.lanes e.seats e.new in
+    (map fixed_of c.args.lanes.items) c.requires.sound c.requires.runs e.fixed e.mesh e.lanes e.seats (bounds_within c.of-reach.result) c.of-reach.ensures e.new in
     let news = c.run_all.new.runners.items in
     let truth : IsHaltOf (departures_in news) c.in-Some.halt = subst (λ (l : List (CachePadded (Runner g.row.C.Denot g.row.A.Denot g.row.L.Denot))).
     IsHaltOf (departures_in l) c.in-Some.halt) c.deref.ensures.value c.in-Some.ensures in
@@ -115,7 +116,7 @@ report-requires-clause-cell g c =
     let olds = c.in-Ok.ready.runners.items in
     let e = c.in-Ok.ensures in
     let ready : AreReady s mesh olds = are_ready {C = g.row.C.Denot} {A = g.row.A.Denot} {L = g.row.L.Denot} s mesh olds raw
-    (map fixed_of c.args.lanes.items) c.requires.sound c.requires.runs e.fixed e.mesh e.lanes e.seats e.new in
+    (map fixed_of c.args.lanes.items) c.requires.sound c.requires.runs e.fixed e.mesh e.lanes e.seats (bounds_within c.of-reach.result) c.of-reach.ensures e.new in
     let news = c.run_all.new.runners.items in
     let truth : IsHaltOf (departures_in news) c.in-Some.halt = subst (λ (l : List (CachePadded (Runner g.row.C.Denot g.row.A.Denot g.row.L.Denot))).
     IsHaltOf (departures_in l) c.in-Some.halt) c.deref.ensures.value c.in-Some.ensures in
@@ -136,7 +137,7 @@ returns-in-Ok-list_events-clause-shows g c = λ inputs evs began.
     let olds = c.in-Ok.ready.runners.items in
     let e = c.in-Ok.ensures in
     let ready : AreReady s mesh olds = are_ready {C = g.row.C.Denot} {A = g.row.A.Denot} {L = g.row.L.Denot} s mesh olds raw
-    (map fixed_of c.args.lanes.items) c.requires.sound c.requires.runs e.fixed e.mesh e.lanes e.seats e.new in
+    (map fixed_of c.args.lanes.items) c.requires.sound c.requires.runs e.fixed e.mesh e.lanes e.seats (bounds_within c.of-reach.result) c.of-reach.ensures e.new in
     let news = c.run_all.new.runners.items in
     let truth : IsHaltOf (departures_in news) c.in-Some.halt = subst (λ (l : List (CachePadded (Runner g.row.C.Denot g.row.A.Denot g.row.L.Denot))).
     IsHaltOf (departures_in l) c.in-Some.halt) c.deref.ensures.value c.in-Some.ensures in
@@ -184,7 +185,7 @@ returns-in-Ok-list_events-clause-ends g c = λ inputs evs began some.
     let olds = c.in-Ok.ready.runners.items in
     let e = c.in-Ok.ensures in
     let ready : AreReady s mesh olds = are_ready {C = g.row.C.Denot} {A = g.row.A.Denot} {L = g.row.L.Denot} s mesh olds raw
-    (map fixed_of c.args.lanes.items) c.requires.sound c.requires.runs e.fixed e.mesh e.lanes e.seats e.new in
+    (map fixed_of c.args.lanes.items) c.requires.sound c.requires.runs e.fixed e.mesh e.lanes e.seats (bounds_within c.of-reach.result) c.of-reach.ensures e.new in
     let news = c.run_all.new.runners.items in
     let truth : IsHaltOf (departures_in news) c.in-Some.halt = subst (λ (l : List (CachePadded (Runner g.row.C.Denot g.row.A.Denot g.row.L.Denot))).
     IsHaltOf (departures_in l) c.in-Some.halt) c.deref.ensures.value c.in-Some.ensures in

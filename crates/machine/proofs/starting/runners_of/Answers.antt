@@ -3,10 +3,12 @@ use Rattle.std.proofs.lemmas.List.{append-nil, nil_from_length}
 use Rattle.std.proofs.lemmas.List.Elements.{All-nil, All-push}
 use Rattle.crossbeam_utils.specs.declared.cache_padded.CachePadded.{CachePadded}
 use Rattle.crossbeam_utils.specs.Padded.{padded_value}
+use Rattle.element.specs.Near.{Bounds}
 use Rattle.element.specs.Holding.{LaneView, held_of, fixed_of}
 use Rattle.mesh.specs.Seats.{SeatView}
 use Rattle.rounds.proofs.Changes.{moved_first}
 use Rattle.machine.specs.declared.runner.Runner.{Runner}
+use Rattle.machine.specs.Bundles.{bounds_within}
 use Rattle.machine.specs.Starts.{IsNew, lane_in, lane_fixed, lanes_in, lanes_fixed, seats_in}
 use Rattle.machine.proofs.Lists.{seats_more, no_seats}
 use Rattle.machine.proofs.starting.runners_of.Goals as goal
@@ -15,13 +17,14 @@ pub each-init : goal.each-init
 each-init g c =
     let none = c.in_ok-runners.ensures.items in
     let n = c.args.elements in
+    let bounds : Bounds = bounds_within c.args.reach in
     record {
       held = ap (λ (l : List (CachePadded (Runner g.row.C.Denot g.row.A.Denot g.row.L.Denot))). lanes_in l ++ map held_of c.args.lanes.items) none;
       fixed = ap (λ (l : List (CachePadded (Runner g.row.C.Denot g.row.A.Denot g.row.L.Denot))). lanes_fixed l ++ map fixed_of c.args.lanes.items) none;
       seats = ap (λ (l : List (CachePadded (Runner g.row.C.Denot g.row.A.Denot g.row.L.Denot))). seats_in l ++ c.args.seats.items) none;
       new = subst (λ (l : List (CachePadded (Runner g.row.C.Denot g.row.A.Denot g.row.L.Denot))). All
-          (λ (p : CachePadded (Runner g.row.C.Denot g.row.A.Denot g.row.L.Denot)). IsNew n (padded_value p)) l) (sym none)
-          (All-nil (λ (p : CachePadded (Runner g.row.C.Denot g.row.A.Denot g.row.L.Denot)). IsNew n (padded_value p)));
+          (λ (p : CachePadded (Runner g.row.C.Denot g.row.A.Denot g.row.L.Denot)). IsNew n bounds (padded_value p)) l) (sym none)
+          (All-nil (λ (p : CachePadded (Runner g.row.C.Denot g.row.A.Denot g.row.L.Denot)). IsNew n bounds (padded_value p)));
       count = omega arith;
       seat_count = c.requires;
     }
@@ -29,6 +32,7 @@ each-init g c =
 pub each-preserved : goal.each-preserved
 each-preserved g c =
     let n = c.args.elements in
+    let bounds : Bounds = bounds_within c.args.reach in
     let inv = c.each.invariant in
     let ps : List (CachePadded (Runner g.row.C.Denot g.row.A.Denot g.row.L.Denot)) = c.each.runners.items in
     let p : CachePadded (Runner g.row.C.Denot g.row.A.Denot g.row.L.Denot) = c.new.result in
@@ -60,9 +64,9 @@ each-preserved g c =
           ∙ seats_more ps p seats c.remove-seat.result c.args.seats.items some_seat c.remove-seat.ensures.value
           (ap (λ (r : Runner g.row.C.Denot g.row.A.Denot g.row.L.Denot). r.seat) value ∙ made.parts.1) inv.seats;
       new = subst (λ (l : List (CachePadded (Runner g.row.C.Denot g.row.A.Denot g.row.L.Denot))). All
-          (λ (q : CachePadded (Runner g.row.C.Denot g.row.A.Denot g.row.L.Denot)). IsNew n (padded_value q)) l) (sym all)
-          (All-push (λ (q : CachePadded (Runner g.row.C.Denot g.row.A.Denot g.row.L.Denot)). IsNew n (padded_value q)) ps p inv.new
-          (subst (λ (r : Runner g.row.C.Denot g.row.A.Denot g.row.L.Denot). IsNew n r) (sym value) (made.new n c.in_ok-belongings.ensures)));
+          (λ (q : CachePadded (Runner g.row.C.Denot g.row.A.Denot g.row.L.Denot)). IsNew n bounds (padded_value q)) l) (sym all)
+          (All-push (λ (q : CachePadded (Runner g.row.C.Denot g.row.A.Denot g.row.L.Denot)). IsNew n bounds (padded_value q)) ps p inv.new
+          (subst (λ (r : Runner g.row.C.Denot g.row.A.Denot g.row.L.Denot). IsNew n bounds r) (sym value) (made.new n bounds c.in_ok-belongings.ensures)));
       count = omega arith;
       seat_count = omega arith;
     }

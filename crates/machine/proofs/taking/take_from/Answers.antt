@@ -29,6 +29,6 @@ pub receive_or_hold-requires-clause-addressed : goal.receive_or_hold-requires-cl
 receive_or_hold-requires-clause-addressed g c =
     let ran = c.requires.runs.1.ran in
     let z : Shape = c.args.runner.now.lane.held.part.shape in
-    let tokens = c.in-Some.bundle.items in
+    let tokens = c.in-Some.bundle.tokens in
     subst (λ (n : ℕ). All (λ (t : Token). element_of n t.to ≡ z.element) tokens) (ran.elements ∙ sym ran.placed.elements)
     (subst (λ (m : ℕ). All (λ (t : Token). element_of c.args.mesh.now.elements t.to ≡ m) tokens) (sym ran.placed.element) c.in-Some.ensures.some.1)

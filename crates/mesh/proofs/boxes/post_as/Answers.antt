@@ -16,7 +16,7 @@ load-requires g c = let t = c.requires.table in let s = c.requires.seat in let w
     in let le : c.args.element < 16 = s.1 in let lb : c.args.to < 16 = s.2 in (
       t.0,
       omega arith,
-      looks_to_at (λ v. v.items) _ _ _ _ c.args.element c.args.place.now.me (part_of c.args.place.now) t.2 s.0.1 s.0.2 s.0.3 _ c.args.to s.0.0 s.0.4 s.3,
+      looks_to_at g.B.Bundle.tokens _ _ _ _ c.args.element c.args.place.now.me (part_of c.args.place.now) t.2 s.0.1 s.0.2 s.0.3 _ c.args.to s.0.0 s.0.4 s.3,
     )
 
 pub returns-then-load-ne0-clause-err : goal.returns-then-load-ne0-clause-err
@@ -38,9 +38,9 @@ store-requires g c = let t = c.requires.table in let s = c.requires.seat in let 
     let v = ap (λ m. m.0) filled in (
       c.exchange-empty.ensures.0 ∙ (c.load.ensures.0 ∙ t.0),
       omega arith,
-      gives_full_at (λ v. v.items) _ _ _ _ c.args.element c.exchange-empty.new.seat.me (posed p (Posting c.args.to)) t.2 (subst Sits (sym v) s.0.1)
+      gives_full_at g.B.Bundle.tokens _ _ _ _ c.args.element c.exchange-empty.new.seat.me (posed p (Posting c.args.to)) t.2 (subst Sits (sym v) s.0.1)
           (ap (λ (u : View). u.parts) v) s.0.3 c.args.to c.args.bundle
-          c.requires.held.1.0 (ap (λ m. m.1) filled) refl s.3 (subst (λ (z : ℕ). AllTo z c.args.to c.args.bundle.items)
+          c.requires.held.1.0 (ap (λ m. m.1) filled) refl s.3 (subst (λ (z : ℕ). AllTo z c.args.to (g.B.Bundle.tokens c.args.bundle))
           (sym (ap (λ (u : View). u.elements) v)) c.requires.held.0) c.requires.held.1.1,
     )
 
@@ -54,5 +54,5 @@ returns-clause-ok g c = let t = c.requires.table in let s = c.requires.seat in l
     let filled = c.exchange-empty.ensures.3 ∙ ap (λ m. (m.0, (16 * c.args.element + c.args.to, Some c.args.bundle) ∷ rest m.1)) did in
     let v = ap (λ m. m.0) filled in
     let gave = c.store.ensures.2 p1 c.args.to c.args.bundle (ap (λ (u : View). u.parts) v) refl (ap (λ m. m.1) filled) in
-    let q : Part = after_post p c.args.to c.args.bundle.items gave.0 in
+    let q : Part = after_post p c.args.to (g.B.Bundle.tokens c.args.bundle) gave.0 in
     (gave.0, gave.1, gave.2 ∙ ap (λ m. (with_part m.0 q, [])) filled)

@@ -14,7 +14,7 @@ load-requires g c = let t = c.requires.table in let s = c.requires.seat in let w
     in let le : c.args.element < 16 = s.1 in let la : c.args.from < 16 = s.2 in (
       t.0,
       omega arith,
-      looks_from_at (λ v. v.items) _ _ _ _ c.args.element c.args.place.now.me (part_of c.args.place.now) t.2 s.0.1 s.0.2 s.0.3 c.args.from s.0.0 s.0.4 s.3,
+      looks_from_at g.B.Bundle.tokens _ _ _ _ c.args.element c.args.place.now.me (part_of c.args.place.now) t.2 s.0.1 s.0.2 s.0.3 c.args.from s.0.0 s.0.4 s.3,
     )
 
 pub returns-then-load-eq0-clause-none : goal.returns-then-load-eq0-clause-none
@@ -38,8 +38,8 @@ store-requires g c = let t = c.requires.table in let s = c.requires.seat in let 
     let v = ap (λ m. m.0) bare in (
       c.exchange-bundle.ensures.0 ∙ (c.load.ensures.0 ∙ t.0),
       omega arith,
-      gives_empty_at (λ v. v.items) _ _ _ _ c.args.element c.exchange-bundle.new.seat.me (posed p (Taking c.args.from did.0.items)) t.2
-          (subst Sits (sym v) s.0.1) (ap (λ (u : View). u.parts) v) s.0.3 c.args.from did.0.items
+      gives_empty_at g.B.Bundle.tokens _ _ _ _ c.args.element c.exchange-bundle.new.seat.me (posed p (Taking c.args.from (g.B.Bundle.tokens did.0))) t.2
+          (subst Sits (sym v) s.0.1) (ap (λ (u : View). u.parts) v) s.0.3 c.args.from (g.B.Bundle.tokens did.0)
           (ap (λ m. m.1) bare) refl s.3,
     )
 
@@ -52,10 +52,10 @@ returns-clause-some g c = let s = c.requires.seat in let p : Part = part_of c.ar
     (search rules) in
     let bare = c.exchange-bundle.ensures.3 ∙ ap (λ m. (m.0, (16 * c.args.from + c.args.element, None) ∷ rest m.1)) did.1 in
     let v = ap (λ m. m.0) bare in
-    let gave = c.store.ensures.2 (posed p (Taking c.args.from did.0.items)) c.args.from did.0.items (ap (λ (u : View). u.parts) v) refl in
+    let gave = c.store.ensures.2 (posed p (Taking c.args.from (g.B.Bundle.tokens did.0))) c.args.from (g.B.Bundle.tokens did.0) (ap (λ (u : View). u.parts) v) refl in
     let got : c.exchange-bundle.result ≡ Some did.0 = ap (second None) (sym c.exchange-bundle.ensures.2 ∙ ap (λ m. m.1) did.1) in
     rw got (
-      gave ∙ ap (λ m. (with_part m.0 (after_take p c.args.from did.0.items), [])) bare,
+      gave ∙ ap (λ m. (with_part m.0 (after_take p c.args.from (g.B.Bundle.tokens did.0)), [])) bare,
       subst (λ (z : ℕ). AllTo c.args.place.now.me.0.elements z
-          did.0.items) s.0.3 did.2,
+          (g.B.Bundle.tokens did.0)) s.0.3 did.2,
     )

@@ -13,7 +13,7 @@ fetch_add-requires g c = let t = c.requires.table in let s = c.requires.seat in 
     let spends : length g.J.Ask.spent ≡ c.args.spent = c.requires.asked.0 in let makes : length g.J.Ask.made ≡ c.args.made = c.requires.asked.1 in (
       t.0,
       omega arith,
-      commits (λ v. v.items) _ _ _ _ c.args.place.now.me.0 c.args.place.now.me.1 (part_of c.args.place.now) s.2 s.1 (step 0 0 0 0 none) g.J.Ask.spent
+      commits g.B.Bundle.tokens _ _ _ _ c.args.place.now.me.0 c.args.place.now.me.1 (part_of c.args.place.now) s.2 s.1 (step 0 0 0 0 none) g.J.Ask.spent
           g.J.Ask.made k.2.0 (λ x. (x + (c.args.made - c.args.spent)) % 2 ^ 64)
           (subst (λ (z : ℕ). 0 < z) (sym spends) k.0)
           (subst (λ (z : ℕ). AllTo c.args.place.now.me.0.elements z g.J.Ask.spent) (sym s.3) k.1)
@@ -26,7 +26,7 @@ fetch_sub-requires g c = let t = c.requires.table in let s = c.requires.seat in 
     let spends : length g.J.Ask.spent ≡ c.args.spent = c.requires.asked.0 in let makes : length g.J.Ask.made ≡ c.args.made = c.requires.asked.1 in (
       t.0,
       omega arith,
-      commits (λ v. v.items) _ _ _ _ c.args.place.now.me.0 c.args.place.now.me.1 (part_of c.args.place.now) s.2 s.1 (step 0 0 0 0 none) g.J.Ask.spent
+      commits g.B.Bundle.tokens _ _ _ _ c.args.place.now.me.0 c.args.place.now.me.1 (part_of c.args.place.now) s.2 s.1 (step 0 0 0 0 none) g.J.Ask.spent
           g.J.Ask.made k.2.0 (λ x. (x + (2 ^ 64 - (c.args.spent - c.args.made))) % 2 ^ 64)
           (subst (λ (z : ℕ). 0 < z) (sym spends) k.0)
           (subst (λ (z : ℕ). AllTo c.args.place.now.me.0.elements z g.J.Ask.spent) (sym s.3) k.1)

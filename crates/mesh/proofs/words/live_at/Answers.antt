@@ -7,4 +7,4 @@ use Rattle.mesh.proofs.words.live_at.Goals as goal
 
 pub load-requires : goal.load-requires
 load-requires g c = let t = c.requires.table in let s = c.requires.seat in let words : c.args.top.now.table_id.words ≡ 258 = t.1 in
-    (t.0, omega arith, looks_live (λ v. v.items) _ _ _ _ c.args.place.now.me.0 c.args.place.now.me.1 (part_of c.args.place.now) s.2 s.1 (step 0 0 0 0 none))
+    (t.0, omega arith, looks_live g.B.Bundle.tokens _ _ _ _ c.args.place.now.me.0 c.args.place.now.me.1 (part_of c.args.place.now) s.2 s.1 (step 0 0 0 0 none))

@@ -16,7 +16,7 @@ pub load-requires : goal.load-requires
 load-requires g c = let words : c.self.inside.board.shared.table_id.words ≡ 258 = c.self.invariant.0 in (
   ap (λ (m : MeshId). m.table) (ap (λ (s : SeatView). s.mesh) c.all.view_is ∙ (c.joined-all.ensures.mesh ∙ sym c.self.view_is)),
   omega arith,
-  settles (λ v. v.items) _ _ _ _ c.all.inside.place.me.0 c.all.inside.place.me.1 (step 0 0 0 0 none) c.all.invariant.seated.1,
+  settles g.B.Bundle.tokens _ _ _ _ c.all.inside.place.me.0 c.all.inside.place.me.1 (step 0 0 0 0 none) c.all.invariant.seated.1,
 )
 
 pub returns-clause-commits : goal.returns-clause-commits

@@ -21,7 +21,7 @@ join_seat-requires g c =
       ap (λ (m : MeshId). m.table) (ap (λ (s : SeatView). s.mesh) c.all.view_is ∙ (inv.0 ∙ sym c.self.view_is)),
       c.all.invariant.seated.0,
       omega arith,
-      joins (λ v. v.items) _ _ _ _ _ _ c.seat.invariant.seated.1 c.all.invariant.seated.1,
+      joins g.B.Bundle.tokens _ _ _ _ _ _ c.seat.invariant.seated.1 c.all.invariant.seated.1,
     )
 
 pub loop-seat-preserved : goal.loop-seat-preserved

@@ -12,7 +12,7 @@ split_seat-place-requires g c = let inv = c.loop-element.invariant in let m = c.
     let below : c.loop-element.element < c.args.elements = search rules in (
       inv.0 ∙ c.requires.table.0,
       c.requires.table.1,
-      splits (λ v. v.items) _ _ _ c.loop-element.maker.me.0 (ap (λ (u : View). u.parts) v ∙ m.1)
+      splits g.B.Bundle.tokens _ _ _ c.loop-element.maker.me.0 (ap (λ (u : View). u.parts) v ∙ m.1)
           (omega arith) (omega arith),
     )
 
