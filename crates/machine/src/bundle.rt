@@ -81,15 +81,15 @@ impl<A: Allocator> NearBundle<A> {
         self.tokens.is_empty()
     }
 
-    /// Puts a token behind the others. After an error it has those that it had.
+    /// Puts a token behind the others. After an error it has those that it had. The token goes there from where it lies.
     #[inline(always)]
-    pub fn push(&mut self, token: PackedToken) -> Result<(), AllocError>
-        requires near { IsNearToken self.old.bounds token }
-        ensures ok { OnOk result (self.new ≡ record { tokens = self.old.tokens ++ token ∷ []; bounds = self.old.bounds }) }
+    pub fn push(&mut self, token: &PackedToken) -> Result<(), AllocError>
+        requires near { IsNearToken self.old.bounds token.now }
+        ensures ok { OnOk result (self.new ≡ record { tokens = self.old.tokens ++ token.now ∷ []; bounds = self.old.bounds }) }
         ensures err { OnErr result (self.new ≡ self.old) }
     {
         self.tokens.reserve(1)?;
-        self.tokens.push_reserved(token);
+        self.tokens.push_reserved(*token);
         Ok(())
     }
 

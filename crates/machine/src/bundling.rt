@@ -34,7 +34,7 @@ fn keep<A: Allocator>(
     ensures err { OnErr result (KeepsTokens elements unposted.old.items unposted.new.items []) }
 {
     let to = element_of_packed(token, elements) as usize;
-    unposted[to].push(*token)
+    unposted[to].push(token)
 }
 
 // Puts tokens into the bundles of their elements until memory is refused: how many are there then.
