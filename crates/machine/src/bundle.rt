@@ -1,6 +1,6 @@
 //! Bundles of tokens that name only frames and cells that there are. It is in their type, and so a mesh gives them out as such.
 
-ghost use Rattle.std.specs.Prelude.{◌≡◌, ◌≢◌, ◌++◌, ◌∷◌, [], All, OnOk, OnErr, IfSome, IfNone};
+ghost use Rattle.std.specs.Prelude.{◌≡◌, ◌≢◌, ◌==◌, ◌++◌, ◌∷◌, [], length, All, OnOk, OnErr, IfSome, IfNone};
 ghost use Rattle.element.specs.Near.{IsNearToken};
 ghost use Rattle.schedule.specs.Setting.{IsGoodSetting};
 ghost use Rattle.schedule.specs.State.{setting_in};
@@ -77,7 +77,9 @@ impl<A: Allocator> NearBundle<A> {
     }
 
     /// Whether it has no token.
-    pub fn is_empty(&self) -> bool {
+    pub fn is_empty(&self) -> bool
+        ensures { result ≡ (length self.now.tokens == 0) }
+    {
         self.tokens.is_empty()
     }
 
