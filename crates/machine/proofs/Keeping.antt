@@ -1,5 +1,5 @@
 -- An element runs on, from whatever it started.
-use Rattle.std.proofs.Common.{◌≡◌, ◌≢◌, refl, sym, ◌∙◌, ap, subst, ℕ, zero, suc, ◌+◌, ◌^◌, ◌<◌, ◌≤◌, Bool, List, [], ◌∷◌, ◌++◌, length, drop, take}
+use Rattle.std.proofs.Common.{◌≡◌, ◌≢◌, refl, sym, ◌∙◌, ap, subst, ℕ, zero, suc, ◌^◌, ◌<◌, ◌≤◌, Bool, List, [], ◌∷◌, ◌++◌, length, drop, take}
 use Rattle.std.proofs.Common.{get_or, arith, append_assoc, true}
 use Rattle.std.specs.Prelude.{All, IsPermutation, flat_map, slice_set, Vec, Option, Some, None, IfSome, IfNone, Result, OnErr, OnOk}
 use Rattle.std.proofs.lemmas.List.{append-nil, drop_all, get_or_default, length-set, take-append-drop}

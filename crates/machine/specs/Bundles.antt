@@ -1,5 +1,5 @@
 -- What contracts see of a bundle.
-use Rattle.std.specs.Prelude.{ℕ, List}
+use Rattle.std.specs.Prelude.{List}
 use Rattle.tags.specs.declared.token.Token.{Token}
 use Rattle.element.specs.Near.{Bounds}
 use Rattle.machine.specs.declared.bundle.Reach.{Reach}

@@ -3,7 +3,7 @@ use Rattle.std.specs.Prelude.{◌≡◌, ◌≢◌, ℕ, ◌+◌, ◌-◌, ◌�
 use Rattle.std.specs.Prelude.{slice_index_or, ⊤, true, if◌then◌else◌, ◌∷◌}
 use Rattle.std.specs.List.{flat_map}
 use Rattle.tags.specs.declared.token.Token.{Token}
-use Rattle.element.specs.Near.{Bounds, IsNearToken}
+use Rattle.element.specs.Near.{IsNearToken}
 use Rattle.element.specs.Holding.{Holding, held_of, fixed_of, with_queue, IsSoundLane}
 use Rattle.schedule.specs.Setting.{Setting}
 use Rattle.schedule.specs.State.{IsPlaced, RunsAs}

@@ -15,7 +15,7 @@ use std::alloc::{AllocError, Allocator};
 use std::marker::Model;
 
 /// How many frames and cells the machine has.
-#[derive(Clone, Copy, PartialEq, Eq)]
+#[derive(Clone, Copy)]
 pub struct Reach {
     pub frames: u32,
     pub cells: u32,

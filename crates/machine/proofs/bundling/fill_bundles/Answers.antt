@@ -1,8 +1,7 @@
-use Rattle.std.proofs.Common.{◌≡◌, sym, subst, ◌≤◌, List, length, take, arith}
+use Rattle.std.proofs.Common.{sym, subst, ◌≤◌, List, length, take, arith}
 use Rattle.std.specs.Prelude.{All}
 use Rattle.tags.specs.declared.token.Token.{Token}
 use Rattle.schedule.specs.State.{setting_in}
-use Rattle.schedule.specs.Setting.{Setting}
 use Rattle.machine.specs.Runners.{KeepsTokens, Fits}
 use Rattle.machine.proofs.Keeping.{keeps_twice, kept_count, fits_bundles, keeps_filled, keeps_cleared}
 use Rattle.machine.proofs.bundling.fill_bundles.Goals as goal

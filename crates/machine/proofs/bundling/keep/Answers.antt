@@ -1,4 +1,4 @@
-use Rattle.std.proofs.Common.{◌≡◌, ap, subst, sym, ◌<◌, length, arith}
+use Rattle.std.proofs.Common.{ap, subst, sym, ◌<◌, length, arith}
 use Rattle.tags.proofs.Elements.{element_below}
 use Rattle.element.specs.Near.{IsNearToken}
 use Rattle.schedule.proofs.Memory.{ok_then, err_then}

@@ -1,4 +1,4 @@
-use Rattle.std.proofs.Common.{sym, ◌∙◌, subst, List, get_or}
+use Rattle.std.proofs.Common.{sym, subst, List, get_or}
 use Rattle.std.specs.Prelude.{All}
 use Rattle.tags.specs.declared.token.Token.{Token}
 use Rattle.element.specs.Near.{Bounds, IsNearToken}

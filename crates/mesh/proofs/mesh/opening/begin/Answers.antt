@@ -1,4 +1,4 @@
-use Rattle.std.proofs.Common.{rules, ◌≡◌, List, length, ℕ, sym, refl, subst, set, replicate, None, Vec}
+use Rattle.std.proofs.Common.{rules, ◌≡◌, List, length, ℕ, sym, refl, subst, set, replicate, None}
 use Rattle.tags.specs.declared.token.Token.{Token}
 use Rattle.atomic_table.specs.Table.{opening}
 use Rattle.mesh.specs.Rule.{Preserved, first_view}
