@@ -952,6 +952,10 @@ fn measure<const N: usize>(code: &Code, input: i64, frames: u32, look: u64) {
     let begun = Instant::now();
     let end = if N == 1 { lanes[0].run(4_294_967_296) } else { run_threads(&mut lanes, look) };
     let time = begun.elapsed().as_secs_f64();
+    code.print_cells(|number| {
+        let cell = &lanes[number as usize % N].cells[number as usize / N];
+        (cell.h == INT).then_some(cell.v as i64)
+    });
     let made: u64 = lanes.iter().map(|lane| lane.made).sum();
     println!("{:?}, end {end:?}, {made} events, {time:.3} s, {:.1} M events/s", lanes[0].outputs, made as f64 / time / 1e6);
 }

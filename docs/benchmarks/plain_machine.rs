@@ -589,6 +589,10 @@ fn main() {
         look => run_free(&code, &mut lanes, &mut host, look.into()),
     };
     let time = begun.elapsed().as_secs_f64();
+    code.print_cells(|number| match lanes[(number % elements) as usize].cells[(number / elements) as usize] {
+        Cell::Full(Value::Int(it)) => Some(it),
+        _ => None,
+    });
     let made: Vec<u64> = lanes.iter().map(|lane| lane.made).collect();
     let events: u64 = made.iter().sum();
     println!("{:?}, end {end:?}, {events} events {made:?}, {time:.3} s, {:.1} M events/s", host.outputs, events as f64 / time / 1e6);

@@ -1,6 +1,8 @@
 //! An object that is taken to be sound, for the machines in plain Rust beside this file: nothing of it is checked.
 #![allow(dead_code)] // each machine uses a part of it
 
+use std::io::{BufWriter, Write, stdout};
+
 /// Its code: numbers are of words and of instructions.
 pub struct Code<'a> {
     pub bytes: &'a [u8],
@@ -51,6 +53,18 @@ impl<'a> Code<'a> {
 
     pub fn word(&self, place: usize) -> u64 {
         u64::from_le_bytes(self.bytes[8 * place..8 * place + 8].try_into().unwrap())
+    }
+
+    /// Prints the cells that are full, as a report lists them: `value` is the integer in the cell of a number.
+    pub fn print_cells(&self, value: impl Fn(u32) -> Option<i64>) {
+        let mut out = BufWriter::new(stdout().lock());
+        for (array, &(base, len)) in self.arrays.iter().enumerate() {
+            for index in 0..len {
+                if let Some(it) = value(base + index) {
+                    writeln!(out, "cell {array} {index} {it}").expect("standard output");
+                }
+            }
+        }
     }
 
     /// The word with which the first instruction begins.

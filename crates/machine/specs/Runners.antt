@@ -38,7 +38,7 @@ pub record Ran (g : Setting) (mesh : MeshId) (e : ℕ) (start held : Holding) (d
   pub balanced : IsBalanced g.elements start.queue (record { element = e; deeds = deeds; held = tokens; last = [] })
   pub holds : IsPermutation tokens (held.queue ++ beside)
 
--- each bundle is for its element and for what there is, which what was sent names too, and the element counts what it makes
+-- each bundle is for its element and names only frames and cells that there are, as does what was sent; and the element counts what it makes
 pub record IsTidy {C A L : Type 0} (g : Setting) (r : Runner C A L) : Type 0 where
   pub count : length r.unposted.items ≡ g.elements
   pub addressed : (i : ℕ) (d : _) → i < g.elements → AllTo g.elements i (slice_index_or r.unposted.items i d).tokens

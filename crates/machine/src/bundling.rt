@@ -1,8 +1,6 @@
 //! An element offers to others what it made for them.
 
-ghost use Rattle.std.specs.Prelude.{◌≡◌, ◌<◌, ◌≤◌, ◌++◌, ◌∷◌, [], All, length, take, OnOk, OnErr, slice_set, slice_index_or, IsPermutation};
-ghost use Rattle.std.specs.List.{flat_map};
-ghost use Rattle.tags.specs.Addresses.{element_of};
+ghost use Rattle.std.specs.Prelude.{◌≡◌, ◌<◌, ◌≤◌, ◌∷◌, [], All, length, take, OnOk, OnErr};
 ghost use Rattle.element.specs.Holding.{held_of};
 ghost use Rattle.schedule.specs.State.{setting_in};
 ghost use Rattle.schedule.specs.Setting.{IsGoodSetting};

@@ -40,7 +40,7 @@ pub struct Runner<'m, C: Instructions, A: Allocator, L: Log> {
     pub unposted: Vec<NearBundle<A>, A>,
     /// What it took and could not put into its queue.
     pub unqueued: NearBundle<A>,
-    /// Emptied bundles, whose memory is used again.
+    /// Bundles that are done with, whose memory is used again.
     pub spare: Vec<NearBundle<A>, A>,
     /// The events of its turn.
     pub log: EventLog<A, L>,

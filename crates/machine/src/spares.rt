@@ -1,4 +1,4 @@
-//! Emptied bundles, whose memory is used again.
+//! Bundles that are done with, whose memory is used again. They are emptied then.
 
 ghost use Rattle.std.specs.Prelude.{◌≡◌, [], IfOk};
 ghost use Rattle.machine.specs.Bundles.{bounds_within};

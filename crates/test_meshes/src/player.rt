@@ -5,7 +5,6 @@ ghost use Rattle.mesh.specs.Seats.{AllTo, Has, fresh_seat};
 ghost use Rattle.test_meshes.specs.Playing.{IsAt, IsPlaying};
 
 use mesh::{Mesh, Seat};
-use packed::token::PackedToken;
 use std::alloc::{AllocError, Global};
 use std::mem;
 use std::sync::Wait;
@@ -40,9 +39,9 @@ impl Tally {
 /// An element with its seat.
 #[derive(Drop)]
 pub struct Player {
-    pub seat: Seat<Vec<PackedToken>>,
+    pub seat: Seat<Vec<Token>>,
     /// The tokens that it made and has not posted yet.
-    pub kept: Vec<PackedToken>,
+    pub kept: Vec<Token>,
     pub elements: u32,
     pub next: u32,
     pub previous: u32,
@@ -97,27 +96,10 @@ fn forward(
     Ok(made)
 }
 
-/// Packs tokens, after those that the player keeps already.
-fn keep(kept: &mut Vec<PackedToken>, made: &[Token]) -> Result<(), AllocError>
-    ensures { OnOk result (kept.new.items ≡ kept.old.items ++ made.now) }
-{
-    for token in made {
-        kept.push(PackedToken::pack(*token))?;
-    }
-    Ok(())
-}
-
-/// The tokens of a bundle, unpacked.
-fn unpacked(alloc: Global, bundle: &[PackedToken]) -> Result<Vec<Token>, AllocError>
-    ensures { IfOk result (λ tokens. tokens.items ≡ bundle.now) }
-{
-    bundle.iter().map(|token| token.unpack()).collect(alloc)
-}
-
 /// Commits a bundle that the player was given, and stores what it made of it.
 fn pass_on(
     alloc: Global,
-    mesh: &Mesh<Vec<PackedToken>, Global>,
+    mesh: &Mesh<Vec<Token>, Global>,
     p: &mut Player,
     bundle: &[Token],
 ) -> Result<(), AllocError>
@@ -138,12 +120,12 @@ fn pass_on(
     }
     mesh.commit(&mut p.seat, bundle, &made);
     p.made += count;
-    keep(&mut p.kept, &made)?;
+    p.kept.extend_from_slice(&made)?;
     Ok(())
 }
 
 /// Offers all that the player keeps.
-fn offer(alloc: Global, mesh: &Mesh<Vec<PackedToken>, Global>, p: &mut Player)
+fn offer(alloc: Global, mesh: &Mesh<Vec<Token>, Global>, p: &mut Player)
     requires { IsPlaying mesh.now p.old }
     ensures { IsPlaying mesh.now p.new }
 {
@@ -157,25 +139,18 @@ fn offer(alloc: Global, mesh: &Mesh<Vec<PackedToken>, Global>, p: &mut Player)
 }
 
 /// Takes what the previous element posted, if anything.
-fn receive(
-    alloc: Global,
-    mesh: &Mesh<Vec<PackedToken>, Global>,
-    p: &mut Player,
-) -> Result<(), AllocError>
+fn receive(alloc: Global, mesh: &Mesh<Vec<Token>, Global>, p: &mut Player) -> Result<(), AllocError>
     requires { IsPlaying mesh.now p.old }
     ensures { OnOk result (IsPlaying mesh.now p.new) }
 {
     match mesh.take(&mut p.seat, p.previous) {
-        Some(bundle) => {
-            let tokens = unpacked(alloc, &bundle)?;
-            pass_on(alloc, mesh, p, &tokens)
-        }
+        Some(bundle) => pass_on(alloc, mesh, p, &bundle),
         None => Ok(()),
     }
 }
 
 /// Sets the reason to stop, unless it is 0.
-fn call_stop(mesh: &Mesh<Vec<PackedToken>, Global>, p: &mut Player, reason: u64)
+fn call_stop(mesh: &Mesh<Vec<Token>, Global>, p: &mut Player, reason: u64)
     requires { IsPlaying mesh.now p.old }
     ensures { IsPlaying mesh.now p.new }
 {
@@ -189,8 +164,8 @@ impl Player {
     /// A player with a fresh seat. It has passed on those start tokens that are its own.
     pub fn new(
         alloc: Global,
-        mesh: &Mesh<Vec<PackedToken>, Global>,
-        seat: Seat<Vec<PackedToken>>,
+        mesh: &Mesh<Vec<Token>, Global>,
+        seat: Seat<Vec<Token>>,
         element: u32,
         elements: u32,
         start: &[Token],
@@ -224,7 +199,7 @@ impl Player {
         &mut self,
         rt: &R,
         alloc: Global,
-        mesh: &Mesh<Vec<PackedToken>, Global>,
+        mesh: &Mesh<Vec<Token>, Global>,
     ) -> Result<(), AllocError>
         requires { IsPlaying mesh.now self.old }
         ensures { OnOk result (IsPlaying mesh.now self.new) }
@@ -244,7 +219,7 @@ impl Player {
         &mut self,
         rt: &R,
         alloc: Global,
-        mesh: &Mesh<Vec<PackedToken>, Global>,
+        mesh: &Mesh<Vec<Token>, Global>,
         sets: u64,
     ) -> Result<(), AllocError>
         requires { IsPlaying mesh.now self.old }

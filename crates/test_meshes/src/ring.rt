@@ -7,7 +7,6 @@ ghost use Rattle.test_meshes.specs.Playing.{IsPlaying};
 use crate::player::{NUMBERS, Player};
 use crossbeam_utils::CachePadded;
 use mesh::{Mesh, Seat};
-use packed::token::PackedToken;
 use std::alloc::{AllocError, Global};
 use std::sync::Wait;
 use std::thread;
@@ -44,8 +43,8 @@ fn start_tokens(alloc: Global, elements: u32, each: u32) -> Result<Vec<Token>, A
 /// A player for each seat, the last seat first.
 fn players(
     alloc: Global,
-    mesh: &Mesh<Vec<PackedToken>, Global>,
-    mut seats: Vec<Seat<Vec<PackedToken>>>,
+    mesh: &Mesh<Vec<Token>, Global>,
+    mut seats: Vec<Seat<Vec<Token>>>,
     elements: u32,
     start: &[Token],
 ) -> Result<Vec<CachePadded<Player>>, AllocError>
@@ -66,7 +65,7 @@ fn players(
 fn play<R: Threads + Wait + Sync>(
     rt: &R,
     alloc: Global,
-    mesh: &Mesh<Vec<PackedToken>, Global>,
+    mesh: &Mesh<Vec<Token>, Global>,
     players: &mut [CachePadded<Player>],
 )
     requires { All (λ p. IsPlaying mesh.now (padded_value p)) players.old }
@@ -88,7 +87,7 @@ fn play<R: Threads + Wait + Sync>(
 fn play_to_stop<R: Threads + Wait + Sync>(
     rt: &R,
     alloc: Global,
-    mesh: &Mesh<Vec<PackedToken>, Global>,
+    mesh: &Mesh<Vec<Token>, Global>,
     players: &mut [CachePadded<Player>],
     setter: usize,
     reason: u64,

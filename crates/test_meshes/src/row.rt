@@ -7,7 +7,6 @@ ghost use Rattle.test_meshes.specs.Playing.{Holds};
 
 use crate::step::{commit, live, post, take};
 use mesh::{Mesh, Seat};
-use packed::token::PackedToken;
 use std::alloc::Global;
 use std::process::Abort;
 use std::test::Fail;
@@ -17,7 +16,7 @@ use test_inputs::rationed::{Rationed, is_next_refused};
 /// Memory that counts how often it is asked: `Mesh::new` alone takes some.
 type Heap<'h> = &'h Rationed<Global>;
 
-type Bundle<'h> = Vec<PackedToken, Heap<'h>>;
+type Bundle<'h> = Vec<Token, Heap<'h>>;
 
 fn token(frame: u32, number: u32) -> Token
     requires { frame < 2 }
@@ -34,11 +33,11 @@ fn token(frame: u32, number: u32) -> Token
 }
 
 /// The one token of a bundle.
-fn only(rt: &impl Abort, bundle: &[PackedToken]) -> Token
+fn only(rt: &impl Abort, bundle: &[Token]) -> Token
     ensures { bundle.now ≡ result ∷ [] }
 {
     assert!(rt; bundle.len() == 1);
-    bundle[0].unpack()
+    bundle[0]
 }
 
 /// Element 0 spends t to make u and v.
@@ -78,8 +77,8 @@ fn post_both<'h>(
     ensures seat { (seat.new.own.element ≡ 0) × Holds mesh.now seat.new (v.now ∷ []) }
 {
     let later = [*v];
-    let first = vec![in heap; PackedToken::pack(*u)].expect(rt, "memory");
-    let second = vec![in heap; PackedToken::pack(*v)].expect(rt, "memory");
+    let first = vec![in heap; *u].expect(rt, "memory");
+    let second = vec![in heap; *v].expect(rt, "memory");
     let left = heap.left();
     let Ok(()) = post(mesh, seat, 1, first, &later) else {
         panic!(rt; "the box is empty")
@@ -114,7 +113,7 @@ fn take_and_spend<'h>(
     rt: &impl Abort,
     mesh: &Mesh<Bundle<'h>, Heap<'h>>,
     seat: &mut Seat<Bundle<'h>>,
-    first: &[PackedToken],
+    first: &[Token],
 ) -> Bundle<'h>
     requires mesh { mesh.now.elements ≡ 2 }
     requires seat { (seat.old.own.element ≡ 1) × (created seat.old.own.deeds ≡ 0) × Holds mesh.now seat.old first.now }

@@ -5,15 +5,14 @@ ghost use Rattle.mesh.specs.Seats.{AllTo, Has, Commits};
 ghost use Rattle.test_meshes.specs.Playing.{Holds};
 
 use mesh::{Ask, Mesh, Seat};
-use packed::token::PackedToken;
 use std::alloc::Allocator;
 use std::marker::Brand;
 use tags::token::Token;
 
 /// A commit by counts: the mesh gets no list.
 fn commit_counts<A: Allocator, J: Ask>(
-    mesh: &Mesh<Vec<PackedToken, A>, A>,
-    seat: &mut Seat<Vec<PackedToken, A>>,
+    mesh: &Mesh<Vec<Token, A>, A>,
+    seat: &mut Seat<Vec<Token, A>>,
     spent: &[Token],
     made: &[Token],
 )
@@ -29,8 +28,8 @@ fn commit_counts<A: Allocator, J: Ask>(
 }
 
 pub fn commit<A: Allocator>(
-    mesh: &Mesh<Vec<PackedToken, A>, A>,
-    seat: &mut Seat<Vec<PackedToken, A>>,
+    mesh: &Mesh<Vec<Token, A>, A>,
+    seat: &mut Seat<Vec<Token, A>>,
     spent: &[Token],
     made: &[Token],
     rest: &[Token],
@@ -48,12 +47,12 @@ pub fn commit<A: Allocator>(
 }
 
 pub fn post<A: Allocator>(
-    mesh: &Mesh<Vec<PackedToken, A>, A>,
-    seat: &mut Seat<Vec<PackedToken, A>>,
+    mesh: &Mesh<Vec<Token, A>, A>,
+    seat: &mut Seat<Vec<Token, A>>,
     to: u32,
-    bundle: Vec<PackedToken, A>,
+    bundle: Vec<Token, A>,
     rest: &[Token],
-) -> Result<(), Vec<PackedToken, A>>
+) -> Result<(), Vec<Token, A>>
     requires to { to < mesh.now.elements }
     requires address { AllTo mesh.now.elements to bundle.items }
     requires holds { Holds mesh.now seat.old (bundle.items ++ rest.now) }
@@ -69,11 +68,11 @@ pub fn post<A: Allocator>(
 }
 
 pub fn take<A: Allocator>(
-    mesh: &Mesh<Vec<PackedToken, A>, A>,
-    seat: &mut Seat<Vec<PackedToken, A>>,
+    mesh: &Mesh<Vec<Token, A>, A>,
+    seat: &mut Seat<Vec<Token, A>>,
     from: u32,
-    rest: &[PackedToken],
-) -> Option<Vec<PackedToken, A>>
+    rest: &[Token],
+) -> Option<Vec<Token, A>>
     requires from { from < mesh.now.elements }
     requires holds { Holds mesh.now seat.old rest.now }
     ensures element { (seat.new.own.element ≡ seat.old.own.element) × (created seat.new.own.deeds ≡ created seat.old.own.deeds) }
@@ -88,8 +87,8 @@ pub fn take<A: Allocator>(
 }
 
 pub fn live<A: Allocator>(
-    mesh: &Mesh<Vec<PackedToken, A>, A>,
-    seat: &mut Seat<Vec<PackedToken, A>>,
+    mesh: &Mesh<Vec<Token, A>, A>,
+    seat: &mut Seat<Vec<Token, A>>,
     rest: &[Token],
 ) -> u64
     requires holds { Holds mesh.now seat.old rest.now }

@@ -12,7 +12,7 @@ returns-then-is_empty c = (c.requires.at, has_last _ _ _ c.requires.held, c.requ
 pub returns : goal.returns
 returns c = let r = c.requires.at in let e = c.commit.ensures.3 in
     let same : c.deref.result.now ≡ c.in_ok-made.made.items = c.deref.ensures.value in
-    let more : c.keep.new.kept.items ≡ c.args.p.now.kept.items ++ c.in_ok-made.made.items = search rules in
+    let more : c.extend_from_slice.new.self.items ≡ c.args.p.now.kept.items ++ c.in_ok-made.made.items = search rules in
     let count : c.len-count.result ≡ length c.in_ok-made.made.items = search rules in
     let low = c.if-p-count.false in let high = c.if-count-gt-MOST.false in
     let few : c.args.p.now.made + c.len-count.result ≤ 1099511627776 = omega arith in

@@ -19,8 +19,8 @@ pass_on-requires-clause-at c = let r = c.requires in let e = c.in-Some.ensures.s
 
 pub pass_on-requires-clause-held : goal.pass_on-requires-clause-held
 pass_on-requires-clause-held c = let e = c.in-Some.ensures.some.0 in
-    let same : c.deref-in-Some.result.now ≡ c.in-Some.bundle.items = search rules in
-    subst (λ (z : List Token). Has z (c.deref-in-Some.result.now ++ c.args.p.now.kept.items)) (sym (ap (λ (s : SeatView). s.own.held) e))
+    let same : c.deref.result.now ≡ c.in-Some.bundle.items = search rules in
+    subst (λ (z : List Token). Has z (c.deref.result.now ++ c.args.p.now.kept.items)) (sym (ap (λ (s : SeatView). s.own.held) e))
     (subst (λ (z : List Token). Has (c.in-Some.bundle.items ++ c.args.p.now.seat.own.held) (z ++ c.args.p.now.kept.items)) (sym same)
     (has_more c.args.p.now.seat.own.held c.in-Some.bundle.items c.args.p.now.kept.items c.requires.1))
 
