@@ -6,6 +6,12 @@ set -eu
 ets=${1:?words: ETS FOLDER}
 folder=${2:?words: ETS FOLDER}
 here=$(dirname "$0")
+for program in "$ets" dot; do
+    if ! command -v "$program" > /dev/null; then
+        echo "draw.sh: no program $program (dot is Graphviz's)" >&2
+        exit 1
+    fi
+done
 mkdir -p "$folder"
 draw() {
     dot -Tsvg "$folder/$1.dot" > "$folder/$1.svg" 2> "$folder/said"
