@@ -1,8 +1,9 @@
 -- An instruction that passed the checks is spelt by its two words.
 use Rattle.std.proofs.Common.{◌≡◌, ℕ, ◌+◌, ◌-◌, ◌*◌, ◌/◌, ◌%◌, ◌^◌, ◌<◌, ◌≤◌, Bool, true, false, ◌==◌, if◌then◌else◌, List, [], ◌∷◌, Option, Some}
 use Rattle.std.proofs.Common.{None, ℤ, refl, sym, ap, subst, ◌∙◌, arith, eqb-true}
-use Rattle.std.specs.Prelude.{⊤, option_to_list}
-use Rattle.std.proofs.lemmas.Bool.{eqb-false}
+use Rattle.std.specs.Prelude.{⊤, option_to_list, map}
+use Rattle.std.specs.List.{list_all}
+use Rattle.std.proofs.lemmas.Bool.{eqb-false, and_parts}
 use Rattle.tags.specs.declared.token.Port.TheVariants.{Left, Right}
 use Rattle.tags.specs.declared.value.Origin.TheVariants.{Untold, At}
 use Rattle.operators.specs.declared.Unary.TheVariants.{Neg, Not}
@@ -15,7 +16,7 @@ use Rattle.semantics.specs.declared.opcode.Opcode.TheVariants.{Frame, Link, Send
 use Rattle.semantics.proofs.OperatorWords.{binary_numbered}
 use Rattle.semantics.specs.Opcodes.{binary_code, code_number, flag_number}
 use Rattle.object_view.specs.Fields.{dest_of, port_of, has_origin, operand_in, origin_number, origin_of}
-use Rattle.semantics.specs.Opcodes.{binary_of, flagged, unflagged, opcode_from, opcode_of, with}
+use Rattle.semantics.specs.Opcodes.{binary_of, flagged, unflagged, opcode_from, opcode_of, other_opcodes, with}
 
 -- OPCODES BY THEIR NUMBERS
 lookup : {X : Type 0} → ℕ → List (ℕ × X) → Option X
@@ -38,52 +39,29 @@ lookup_holds {X} P c x (p ∷ ps) k h = go (lookup_holds P c x ps k.1) (c == p.0
         subst (λ (n : ℕ). P n x) key (subst (λ (y : X). P p.0 y) same k.0)
     go later false e q = later q
 
-abbrev plain : List (ℕ × Opcode)
-plain = (15, Apply1 Neg) ∷ (16, Apply1 Not) ∷ (17, Lit) ∷ (18, Copy) ∷ (19, Sync) ∷ (20, Switch) ∷ (21, Fetch) ∷ (22, Store) ∷ (23, Frame)
-    ∷ (24, Link) ∷ (25, Send) ∷ (26, Return) ∷ (27, Ask) ∷ (28, Open) ∷ (29, Take) ∷ (30, Give) ∷ (31, Drain) ∷ (32, Release) ∷ []
+-- those that have no flag, by their codes
+abbrev pub others : List Opcode
+others = Apply1 Neg ∷ Apply1 Not ∷ other_opcodes
+
+abbrev by_code : List Opcode → List (ℕ × Opcode)
+by_code os = map (λ (o : Opcode). (code_number o, o)) os
+
+-- of these holds what was computed of each
+each_holds : (test : Opcode → Bool) (os : List Opcode) → list_all test os ≡ true
+    → Holds (λ (n : ℕ) (o : Opcode). (code_number o ≡ n) × (test o ≡ true)) (by_code os)
+unfolding Holds
+each_holds test [] e = tt
+each_holds test (o ∷ os) e = let h = and_parts (test o) (list_all test os) e in ((refl, h.0), each_holds test os h.1)
+
+pub other_is : (test : Opcode → Bool) → list_all test others ≡ true → (c : ℕ) (o : Opcode) → unflagged c ≡ Some o → (code_number o ≡ c) × (test o ≡ true)
+unfolding lookup
+other_is test e c o h = lookup_holds (λ (n : ℕ) (p : Opcode). (code_number p ≡ n) × (test p ≡ true)) c o (by_code others) (each_holds test others e) h
 
 abbrev flags : Binary → List (ℕ × Opcode)
 flags op = (0, Apply2 op) ∷ (1, Apply2Right op) ∷ (2, Apply2Left op) ∷ []
 
 plain_numbered : (c : ℕ) (o : Opcode) → unflagged c ≡ Some o → (code_number o ≡ c) × (flag_number o ≡ 0)
-unfolding lookup Holds
-plain_numbered c o h = lookup_holds (λ (n : ℕ) (p : Opcode). (code_number p ≡ n) × (flag_number p ≡ 0)) c o plain (
-  (refl, refl),
-  (
-    (refl, refl),
-    (
-      (refl, refl),
-      (
-        (refl, refl),
-        (
-          (refl, refl),
-          (
-            (refl, refl),
-            (
-              (refl, refl),
-              (
-                (refl, refl),
-                (
-                  (refl, refl),
-                  (
-                    (refl, refl),
-                    (
-                      (refl, refl),
-                      (
-                        (refl, refl),
-                        ((refl, refl), ((refl, refl), ((refl, refl), ((refl, refl), ((refl, refl), ((refl, refl), tt)))))),
-                      ),
-                    ),
-                  ),
-                ),
-              ),
-            ),
-          ),
-        ),
-      ),
-    ),
-  ),
-) h
+plain_numbered c o h = let p = other_is (λ (o : Opcode). flag_number o == 0) refl c o h in (p.0, eqb-true (flag_number o) 0 p.1)
 
 flag_numbered : (op : Binary) (f : ℕ) (o : Opcode) → flagged op f ≡ Some o → (code_number o ≡ binary_code op) × (flag_number o ≡ f)
 unfolding lookup Holds

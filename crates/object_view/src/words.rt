@@ -1,6 +1,6 @@
 //! The words of an object's bytes.
 
-ghost use Rattle.std.specs.Prelude.{◌≡◌, ◌+◌, ◌*◌, ◌≤◌, Some, IsSome, length, option_map};
+ghost use Rattle.std.specs.Prelude.{◌≡◌, ◌+◌, ◌*◌, ◌%◌, ◌^◌, ◌≤◌, Some, None, IsSome, length, option_map};
 ghost use Rattle.object_view.specs.Fields as Fields;
 ghost use Rattle.semantics.specs.Opcodes as Opcodes;
 
@@ -82,46 +82,67 @@ impl Head {
         Opcode::of_code((self.word % 256) as u8, (self.word / 256 % 256) as u8)
     }
 
-    /// The same, where they exist. The low five bits of a code tell it from all others, so that one jump leads to its opcode.
+    /// The opcode that this operator has by the flag, where the code is its own and the flag exists.
+    #[inline(always)]
+    fn known_operator(self, op: Binary) -> Opcode
+        requires there { IsSome (Fields.opcode_in self.word) }
+        requires code { self.word % 256 ≡ Opcodes.binary_code op }
+        ensures { Fields.opcode_in self.word ≡ Some result }
+    {
+        with_flag(op, self.word / 256 % 256)
+    }
+
+    /// This opcode, which is no operator on two values and so has no flag, where the code is its own.
+    #[inline(always)]
+    fn known_other(self, opcode: Opcode) -> Opcode
+        requires there { IsSome (Fields.opcode_in self.word) }
+        requires code { self.word % 256 ≡ Opcodes.code_number opcode }
+        requires other { Opcodes.binary_of (Opcodes.code_number opcode) ≡ None }
+        requires named { Opcodes.unflagged (Opcodes.code_number opcode) ≡ Some opcode }
+        ensures { Fields.opcode_in self.word ≡ Some result }
+    {
+        opcode
+    }
+
+    /// The opcode, where it exists. No two have one code, so that one jump leads to each.
     #[inline(always)]
     pub fn known_opcode(self) -> Opcode
         requires { IsSome (Fields.opcode_in self.word) }
         ensures { Fields.opcode_in self.word ≡ Some result }
     {
-        let flag = self.word / 256 % 256;
-        match self.word % 32 {
-            0 => Opcode::Release,
-            1 => with_flag(Binary::Add, flag),
-            2 => with_flag(Binary::Sub, flag),
-            3 => with_flag(Binary::Mul, flag),
-            4 => with_flag(Binary::Div, flag),
-            5 => with_flag(Binary::Rem, flag),
-            6 => with_flag(Binary::And, flag),
-            7 => with_flag(Binary::Or, flag),
-            8 => with_flag(Binary::Xor, flag),
-            9 => with_flag(Binary::Shl, flag),
-            10 => with_flag(Binary::Shr, flag),
-            11 => with_flag(Binary::Eq, flag),
-            12 => with_flag(Binary::Ne, flag),
-            13 => with_flag(Binary::Lt, flag),
-            14 => with_flag(Binary::Le, flag),
-            15 => Opcode::Apply1 { op: Unary::Neg },
-            16 => Opcode::Apply1 { op: Unary::Not },
-            17 => Opcode::Lit,
-            18 => Opcode::Copy,
-            19 => Opcode::Sync,
-            20 => Opcode::Switch,
-            21 => Opcode::Fetch,
-            22 => Opcode::Store,
-            23 => Opcode::Frame,
-            24 => Opcode::Link,
-            25 => Opcode::Send,
-            26 => Opcode::Return,
-            27 => Opcode::Ask,
-            28 => Opcode::Open,
-            29 => Opcode::Take,
-            30 => Opcode::Give,
-            31 => Opcode::Drain,
+        match self.word % 256 {
+            1 => self.known_operator(Binary::Add),
+            2 => self.known_operator(Binary::Sub),
+            3 => self.known_operator(Binary::Mul),
+            4 => self.known_operator(Binary::Div),
+            5 => self.known_operator(Binary::Rem),
+            6 => self.known_operator(Binary::And),
+            7 => self.known_operator(Binary::Or),
+            8 => self.known_operator(Binary::Xor),
+            9 => self.known_operator(Binary::Shl),
+            10 => self.known_operator(Binary::Shr),
+            11 => self.known_operator(Binary::Eq),
+            12 => self.known_operator(Binary::Ne),
+            13 => self.known_operator(Binary::Lt),
+            14 => self.known_operator(Binary::Le),
+            15 => self.known_other(Opcode::Apply1 { op: Unary::Neg }),
+            16 => self.known_other(Opcode::Apply1 { op: Unary::Not }),
+            17 => self.known_other(Opcode::Lit),
+            18 => self.known_other(Opcode::Copy),
+            19 => self.known_other(Opcode::Sync),
+            20 => self.known_other(Opcode::Switch),
+            21 => self.known_other(Opcode::Fetch),
+            22 => self.known_other(Opcode::Store),
+            23 => self.known_other(Opcode::Frame),
+            24 => self.known_other(Opcode::Link),
+            25 => self.known_other(Opcode::Send),
+            26 => self.known_other(Opcode::Return),
+            27 => self.known_other(Opcode::Ask),
+            28 => self.known_other(Opcode::Open),
+            29 => self.known_other(Opcode::Take),
+            30 => self.known_other(Opcode::Give),
+            31 => self.known_other(Opcode::Drain),
+            32 => self.known_other(Opcode::Release),
             _ => unreachable!(),
         }
     }
