@@ -1,6 +1,6 @@
 //! The words of an object's bytes.
 
-ghost use Rattle.std.specs.Prelude.{◌≡◌, ◌+◌, ◌*◌, ◌%◌, ◌^◌, ◌≤◌, Some, None, IsSome, length, option_map};
+ghost use Rattle.std.specs.Prelude.{◌≡◌, ◌+◌, ◌*◌, ◌%◌, ◌≤◌, Some, None, IsSome, length, option_map};
 ghost use Rattle.object_view.specs.Fields as Fields;
 ghost use Rattle.semantics.specs.Opcodes as Opcodes;
 
