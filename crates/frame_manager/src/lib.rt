@@ -66,6 +66,21 @@ impl<A: Allocator> Manager<A> {
         ensures exact { Requested self.old cont result self.new }
         ensures event { RequestIsEvent self.old cont result self.new }
     {
+        match self.request_within(cont) {
+            Ok(given) => Ok(given),
+            Err(_) => {
+                self.waiting.push_back(cont)?;
+                Ok(None)
+            }
+        }
+    }
+
+    /// As `request`, but it takes no memory: it is an error where no frame is free and there is no room for one more request.
+    #[inline(always)]
+    pub fn request_within(&mut self, cont: Cont) -> Result<Option<FrameId>, AllocError>
+        ensures exact { Requested self.old cont result self.new }
+        ensures event { RequestIsEvent self.old cont result self.new }
+    {
         match self.frames.first_free() {
             Some(frame) => {
                 self.frames.take(frame);
@@ -73,7 +88,11 @@ impl<A: Allocator> Manager<A> {
                 Ok(Some(frame as FrameId))
             }
             None => {
-                self.waiting.push_back(cont)?;
+                let waiting = &mut self.waiting;
+                if waiting.len() == waiting.capacity() {
+                    return Err(AllocError);
+                }
+                waiting.push_back_reserved(cont);
                 Ok(None)
             }
         }

@@ -49,6 +49,24 @@ impl<A: Allocator + Clone> Cell<A> {
         }
     }
 
+    /// As `fetch`, but it takes no memory: that there is none is answered where there is no room for one more reader.
+    pub fn fetch_within(&mut self, reader: Cont) -> FetchAnswer
+        ensures { CellFetched (state_of self.old) reader result (state_of self.new) }
+    {
+        match self {
+            Cell::Full(value) => FetchAnswer::Now(*value),
+            Cell::Deferred(readers) => {
+                if readers.len() < readers.capacity() {
+                    readers.push_reserved(reader);
+                    FetchAnswer::Deferred
+                } else {
+                    FetchAnswer::Memory
+                }
+            }
+            Cell::Vacant => FetchAnswer::Memory,
+        }
+    }
+
     /// Fills the cell, and lists its readers after the answers.
     pub fn store<B: Allocator>(&mut self, value: Value, answers: &mut Vec<Cont, B>) -> StoreAnswer
         ensures { CellStored (state_of self.old) value (vec_capacity answers.old) answers.old.items result (state_of self.new) answers.new.items }

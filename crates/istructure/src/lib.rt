@@ -96,6 +96,18 @@ impl<A: Allocator + Clone> Cells<A> {
         held.fetch(alloc, reader)
     }
 
+    /// As `fetch`, but it takes no memory: that there is none is answered where there is no room for one more reader of the cell.
+    pub fn fetch_within(&mut self, cell: u32, reader: Cont) -> FetchAnswer
+        ensures exact { FetchedAt self.old cell reader result self.new }
+        ensures event { FetchIsEvent self.old cell reader result self.new }
+    {
+        let Some(place) = self.place(cell) else {
+            return FetchAnswer::NotHere;
+        };
+        let held = &mut self.cells[place];
+        held.fetch_within(reader)
+    }
+
     /// Fills a cell, and lists the readers that waited after the answers.
     pub fn store<B: Allocator>(
         &mut self,

@@ -69,6 +69,7 @@ impl Part for CellsPart<'_> {
         let cell = words.number()?;
         match operation {
             "fetch" => push_fetched(answer, cells.fetch(cell, words.cont()?)).ok(),
+            "fetch-within" => push_fetched(answer, cells.fetch_within(cell, words.cont()?)).ok(),
             "store" => {
                 let Some(value) = words.value() else {
                     return None;

@@ -72,6 +72,9 @@ impl Part for FramesPart<'_> {
         let manager = &mut self.manager;
         match words.word() {
             "request" => push_requested(answer, manager.request(words.cont()?)).ok(),
+            "request-within" => {
+                push_requested(answer, manager.request_within(words.cont()?)).ok()
+            }
             "requests" => {
                 let first = words.number()?;
                 let last = words.number()?;

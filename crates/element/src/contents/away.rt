@@ -13,7 +13,7 @@ ghost use Rattle.element.specs.Changed.{OwnsCell};
 ghost use Rattle.element.specs.declared.lane.Stepped.TheVariants.{Did};
 
 use super::Contents;
-use super::requests::{release, request};
+use super::requests::{release, request_within};
 use crate::company::Company;
 use crate::firing::answer;
 use crate::instructions::Instructions;
@@ -83,7 +83,7 @@ impl<'m, A: Allocator> Contents<'m, A> {
         }
     }
 
-    // A token for a cell that reads it.
+    // A token for a cell that reads it. Where the reader waits and there is no room for it, it is not done at once.
     #[inline(always)]
     fn fetches<T: Company>(
         &mut self,
@@ -115,7 +115,7 @@ impl<'m, A: Allocator> Contents<'m, A> {
         let Word::Back(cont) = token.word().unpack() else {
             return false;
         };
-        match self.cells.fetch(cell, cont) {
+        match self.cells.fetch_within(cell, cont) {
             FetchAnswer::Now(value) => self.answers::<T>(at, cont, Word::Val(value), sent),
             FetchAnswer::Deferred => self.is_taken(at),
             FetchAnswer::Memory => false,
@@ -167,7 +167,7 @@ impl<'m, A: Allocator> Contents<'m, A> {
         }
     }
 
-    // A request for a frame.
+    // A request for a frame. Where it waits and there is no room for it, it is not done at once.
     #[inline(always)]
     fn grants<T: Company>(
         &mut self,
@@ -196,7 +196,7 @@ impl<'m, A: Allocator> Contents<'m, A> {
         let Word::Back(cont) = token.word().unpack() else {
             return false;
         };
-        match request(&mut self.manager, cont) {
+        match request_within(&mut self.manager, cont) {
             Ok(Some(frame)) => self.answers::<T>(at, cont, Word::Frame(frame), sent),
             Ok(None) => self.is_taken(at),
             Err(_) => false,

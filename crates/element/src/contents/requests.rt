@@ -102,6 +102,21 @@ pub(super) fn request<A: Allocator>(
     }
 }
 
+// The same where no memory is taken: an error is that there is no room.
+#[inline(always)]
+pub(super) fn request_within<A: Allocator>(
+    manager: &mut Option<Manager<A>>,
+    cont: Cont,
+) -> Result<Option<FrameId>, AllocError>
+    requires { IsSome manager.old }
+    ensures { IsRequested manager.old cont result manager.new }
+{
+    match manager {
+        Some(manager) => manager.request_within(cont),
+        None => unreachable!(),
+    }
+}
+
 #[inline(always)]
 pub(super) fn release<A: Allocator>(
     manager: &mut Option<Manager<A>>,

@@ -12,7 +12,7 @@ pub returns-in-Now-clause-did : goal.returns-in-Now-clause-did
 returns-in-Now-clause-did g c = λ yes p sound near.
     let old : Holding = held_in c.args.self.now in
     let t = c.args.token.now in
-    let cells = c.fetch.new.self in
+    let cells = c.fetch_within.new.self in
     let cont = c.in-Back.cont in
     let word : t.word ≡ Word.Back cont = sym c.word.ensures ∙ sym c.unpack.ensures ∙ c.in-Back.is in
     let changes = fetch_changes p old.part t c.args.cell cont (FetchAnswer.Now c.in-Now.value) cells sound.part c.requires.address word near
@@ -26,7 +26,7 @@ pub returns-in-Deferred-clause-did : goal.returns-in-Deferred-clause-did
 returns-in-Deferred-clause-did g c = λ yes p sound near.
     let old : Holding = held_in c.args.self.now in
     let t = c.args.token.now in
-    let cells = c.fetch.new.self in
+    let cells = c.fetch_within.new.self in
     let cont = c.in-Back.cont in
     let word : t.word ≡ Word.Back cont = sym c.word.ensures ∙ sym c.unpack.ensures ∙ c.in-Back.is in
     let changes = fetch_changes p old.part t c.args.cell cont FetchAnswer.Deferred cells sound.part c.requires.address word near c.requires.here tt
