@@ -2,7 +2,7 @@
 
 ghost use Rattle.std.specs.Prelude.{◌≡◌, Bool, true, false};
 
-/// Is asked by each element, in the element's own thread. Each gate says whether it may stop a run.
+/// Is asked by each element, in the thread in which it makes its turn. Each gate says whether it may stop a run.
 pub trait Gate {
     /// Whether `go_on` may answer false.
     ghost may_stop: { Bool };

@@ -31,20 +31,39 @@ use std::sync::Wait;
 use std::thread;
 use std::thread::Threads;
 
-// Each element makes its turn, in a thread of its own.
+// Where the elements of a round make their turns.
+#[derive(Clone, Copy)]
+enum Threading {
+    // Each element in a thread of its own.
+    Apart,
+    // One element after another, in the thread of the caller.
+    Together,
+}
+
+// In how many threads so many elements make their turns.
+fn threads_of(threading: Threading, elements: usize) -> usize
+    ensures { 0 < elements → 0 < result }
+{
+    match threading {
+        Threading::Apart => elements,
+        Threading::Together => 1,
+    }
+}
+
+// Each element makes its turn.
 fn make_turns<
     R: Threads + Sync,
     C: Instructions + Sync,
     A: Allocator + Clone + Send,
     L: Log + Send,
     G: Gate + Sync,
->(rt: &R, turners: &mut [Turner<'_, C, A, L>], gate: &G, turn: u64)
+>(rt: &R, threading: Threading, turners: &mut [Turner<'_, C, A, L>], gate: &G, turn: u64)
     requires { 0 < length turners.old }
     ensures each { (i : ℕ) (d : _) → i < length turners.old → TookTurn turn L.KEEPS_EVENTS G.may_stop (slice_index_or turners.old i d)
         (slice_index_or turners.new i d) }
     ensures count { length turners.new ≡ length turners.old }
 {
-    let threads = turners.len();
+    let threads = threads_of(threading, turners.len());
     thread::for_each_mut(
         rt,
         turners,
@@ -108,6 +127,7 @@ fn make_round<
     G: Gate + Sync,
 >(
     rt: &R,
+    threading: Threading,
     setup: &mut Setup<'_, C, A, L>,
     turners: &mut [Turner<'_, C, A, L>],
     tokens: &mut Vec<PackedToken, A>,
@@ -122,7 +142,7 @@ fn make_round<
     ensures all { IfOk result (λ all. all ≡ true → tokens_sent turners.new ≡ []) }
     ensures count { length turners.new ≡ length turners.old }
 {
-    make_turns(rt, turners, gate, setup.shape.turn);
+    make_turns(rt, threading, turners, gate, setup.shape.turn);
     gather_events(turners, &mut setup.log)?;
     match gather_tokens(turners, tokens) {
         Ok(()) => Ok(true),
@@ -139,6 +159,7 @@ fn make_whole_round<
     G: Gate + Sync,
 >(
     rt: &R,
+    threading: Threading,
     setup: &mut Setup<'_, C, A, L>,
     turners: &mut Vec<Turner<'_, C, A, L>, A>,
     tokens: &mut Vec<PackedToken, A>,
@@ -153,7 +174,7 @@ fn make_whole_round<
     ensures all { IfOk result (λ all. all ≡ true → tokens_sent turners.new.items ≡ []) }
     ensures count { length turners.new.items ≡ length turners.old.items }
 {
-    make_round(rt, setup, turners, tokens, gate)
+    make_round(rt, threading, setup, turners, tokens, gate)
 }
 
 // One round: why the run halts after it, if it does. An error is that the list of events could not grow.
@@ -165,6 +186,7 @@ fn round<
     G: Gate + Sync,
 >(
     rt: &R,
+    threading: Threading,
     setup: &mut Setup<'_, C, A, L>,
     turners: &mut Vec<Turner<'_, C, A, L>, A>,
     tokens: &mut Vec<PackedToken, A>,
@@ -177,7 +199,7 @@ fn round<
         setup.old.log.events.items turners.new.items setup.new.log.events.items halt) }
     ensures tokens { IfOk result (λ halt. halt ≡ None → tokens.new.items ≡ []) }
 {
-    let all = make_whole_round(rt, setup, turners, tokens, gate)?;
+    let all = make_whole_round(rt, threading, setup, turners, tokens, gate)?;
     if !all {
         return Ok(Some(Halt::Memory));
     }
@@ -203,6 +225,7 @@ fn play<
     G: Gate + Sync,
 >(
     rt: &R,
+    threading: Threading,
     setup: &mut Setup<'_, C, A, L>,
     turners: &mut Vec<Turner<'_, C, A, L>, A>,
     tokens: &mut Vec<PackedToken, A>,
@@ -217,7 +240,7 @@ fn play<
     let mut rounds = 0;
     'rounds: for _ in rt.forever() {
         rounds += 1;
-        if let Some(halt) = round(rt, setup, turners, tokens, gate)? {
+        if let Some(halt) = round(rt, threading, setup, turners, tokens, gate)? {
             return Ok(Played { halt, rounds });
         }
     }
@@ -313,7 +336,13 @@ fn run_apart<
     A: Allocator + Clone + Send,
     L: Log + Send,
     G: Gate + Sync,
->(mut setup: Setup<'_, C, A, L>, lanes: Vec<Lane<'_, C, A>, A>, rt: &R, gate: &G) -> Counted<A>
+>(
+    mut setup: Setup<'_, C, A, L>,
+    lanes: Vec<Lane<'_, C, A>, A>,
+    rt: &R,
+    threading: Threading,
+    gate: &G,
+) -> Counted<A>
     requires sound { IsSoundState (arriving (setting_in C.program C.width setup.shape) (map held_of lanes.items) []) }
     requires runs { All (RunsAs (setting_in C.program C.width setup.shape)) (map fixed_of lanes.items) }
     ensures unlisted { L.KEEPS_EVENTS ≡ false → setup.entry.log.events.items ≡ [] → result.report.events ≡ [] }
@@ -326,7 +355,7 @@ fn run_apart<
     let Ok((mut turners, mut tokens, mut spare)) = ready(&setup.alloc, lanes) else {
         return unmade(setup.refused());
     };
-    let Ok(played) = play(rt, &mut setup, &mut turners, &mut tokens, gate) else {
+    let Ok(played) = play(rt, threading, &mut setup, &mut turners, &mut tokens, gate) else {
         return unmade(setup.refused());
     };
     match lanes_in(turners, &mut spare) {
@@ -353,7 +382,7 @@ fn run_machine<
     A: Allocator + Clone + Send,
     L: Log + Send,
     G: Gate + Sync,
->(machine: Machine<'_, C, A, L>, rt: &R, gate: &G) -> Counted<A>
+>(machine: Machine<'_, C, A, L>, rt: &R, threading: Threading, gate: &G) -> Counted<A>
     ensures unlisted { L.KEEPS_EVENTS ≡ false → machine.entry.events ≡ [] → result.report.events ≡ [] }
     ensures shows { (inputs : List ℤ) (events : Events) → Began inputs machine.entry.state events
         → ShowsOn L.KEEPS_EVENTS machine.entry.state.setting.program (size machine.entry.state.setting) inputs machine.entry.state.setting.steps
@@ -361,9 +390,23 @@ fn run_machine<
     ensures truth { ReportsRounds L.KEEPS_EVENTS G.may_stop machine.entry result.rounds result.report }
 {
     match machine.into_lanes() {
-        Ok((setup, lanes)) => run_apart(setup, lanes, rt, gate),
+        Ok((setup, lanes)) => run_apart(setup, lanes, rt, threading, gate),
         Err(machine) => unmade(machine.report(Halt::Memory)),
     }
+}
+
+// Rounds until the run halts, with a report that lists the events.
+fn run_listed<
+    R: Threads + Wait + Sync,
+    C: MainCode + Sync,
+    A: Allocator + Clone + Send,
+    G: Gate + Sync,
+>(machine: Machine<'_, C, A>, rt: &R, threading: Threading, gate: &G) -> Counted<A>
+    ensures shows { (inputs : List ℤ) → Began inputs machine.entry.state machine.entry.events → ShowsInOrder machine.entry.state.setting.program
+        (size machine.entry.state.setting) inputs machine.entry.state.setting.steps false G.may_stop result.report }
+    ensures truth { ReportsRounds true G.may_stop machine.entry result.rounds result.report }
+{
+    run_machine(machine, rt, threading, gate)
 }
 
 /// Makes rounds until the run halts, and reports. In each round every element asks the gate, and makes up to `turn` events
@@ -379,10 +422,11 @@ pub fn run<
         (size machine.entry.state.setting) inputs machine.entry.state.setting.steps false G.may_stop result }
     ensures truth { (rounds : ℕ) × ReportsRounds true G.may_stop machine.entry rounds result }
 {
-    run_counted(machine, rt, gate).report
+    run_listed(machine, rt, Threading::Apart, gate).report
 }
 
-/// As `run`, and answers how many rounds were made, too.
+/// As `run`, and answers how many rounds were made, too. All turns are made in the thread of the caller, one element's after
+/// another's: no thread is started.
 pub fn run_counted<
     R: Threads + Wait + Sync,
     C: MainCode + Sync,
@@ -393,7 +437,7 @@ pub fn run_counted<
         (size machine.entry.state.setting) inputs machine.entry.state.setting.steps false G.may_stop result.report }
     ensures truth { ReportsRounds true G.may_stop machine.entry result.rounds result.report }
 {
-    run_machine(machine, rt, gate)
+    run_listed(machine, rt, Threading::Together, gate)
 }
 
 /// As `run`, but the report lists no events: there is a run that it shows. A long run takes no more memory than a short one.
@@ -407,5 +451,5 @@ pub fn run_quietly<
         (size machine.entry.state.setting) inputs machine.entry.state.setting.steps false G.may_stop result }
     ensures truth { (rounds : ℕ) × ReportsRounds false G.may_stop (without_events machine.entry.state) rounds result }
 {
-    run_machine(machine.without_events(), rt, gate).report
+    run_machine(machine.without_events(), rt, Threading::Apart, gate).report
 }

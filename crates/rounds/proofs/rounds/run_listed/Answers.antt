@@ -1,6 +1,6 @@
 use Rattle.schedule.specs.Setting.{size}
 use Rattle.rounds.proofs.Closing.{reported_run}
-use Rattle.rounds.proofs.rounds.run_counted.Goals as goal
+use Rattle.rounds.proofs.rounds.run_listed.Goals as goal
 
 pub returns : goal.returns
 returns g c =
