@@ -1,5 +1,5 @@
 -- What `profile` prints: the waves of a graph's meaning, and what the machine took with each number of elements.
-use Rattle.std.specs.Prelude.{◌≡◌, ◌≢◌, ℕ, zero, suc, ◌+◌, ◌<◌, Bool, true, false, ℤ, ◌⊎◌, List, [], ◌∷◌, ◌++◌, length, map, Option, Some, Result}
+use Rattle.std.specs.Prelude.{◌≡◌, ◌≢◌, ℕ, zero, suc, ◌+◌, ◌<◌, ◌==◌, Bool, true, false, ℤ, ◌⊎◌, List, [], ◌∷◌, ◌++◌, length, map, Option, Some, None, Result}
 use Rattle.std.specs.Prelude.{Ok, Err, if◌then◌else◌, ⊤}
 use Rattle.semantics.specs.Graph.{Graph}
 use Rattle.semantics.specs.declared.report.End.{End}
@@ -25,7 +25,9 @@ use Rattle.commands.specs.declared.profiling.Quantity.{Quantity}
 use Rattle.outcomes.specs.declared.refusal.Refusal.{Refusal}
 use Rattle.commands.specs.Input.{integers_of}
 use Rattle.commands.specs.Served.{Parts, Prints, Refuses, IsReportedAs, IsRefusedLine}
+use Rattle.outcomes.specs.Outcomes.{exit_status}
 use Rattle.outcomes.specs.declared.outcome.Ending.{Ending}
+use Rattle.outcomes.specs.declared.outcome.FailedRow.{FailedRow}
 use Rattle.outcomes.specs.declared.outcome.Outcome.{Outcome}
 use Rattle.commands.specs.Feed.{IsFeed}
 
@@ -41,7 +43,7 @@ quantity_in Quantity.Frames x = x.frames_out
 
 -- What a run on that number of elements took: it is a run in rounds, in each of which every element makes one event if it has a token; these are exactly its
 -- rounds, and the tokens, the full slots and the frames out are the most that there were at any moment. At the start there are a token
--- for each input and one more, and one frame is out.
+-- for each input and one more, and one frame is out. The end, and the requests that wait then, are those of its report.
 pub record IsRow (text : List ℕ) (inputs : List ℤ) (o : RunOptions) (elements : ℕ) (row : MachineRow) : Type 0 where
   pub graph : Graph
   pub bytes : List ℕ
@@ -55,6 +57,8 @@ pub record IsRow (text : List ℕ) (inputs : List ℤ) (o : RunOptions) (element
   pub tokens : row.tokens ≡ greatest_from (length inputs + 1) (map (quantity_in Quantity.Tokens) moments)
   pub slots : row.slots ≡ greatest_from 0 (map (quantity_in Quantity.Slots) moments)
   pub frames : row.frames ≡ greatest_from 1 (map (quantity_in Quantity.Frames) moments)
+  pub end : row.end ≡ report.end
+  pub waiting : (row.waiting_frames ≡ report.waiting_frames) × (row.waiting_credits ≡ report.waiting_credits)
 
 -- a row for each of these numbers of elements, in order
 abbrev pub AreRows : List ℕ → List ℤ → RunOptions → List ℕ → List MachineRow → Type 0
@@ -114,14 +118,22 @@ abbrev pub text_of : ProfileFormat → Graph → MeanEnd → List ℕ → List M
 text_of ProfileFormat.Lines g end counts rows = profile_text g.arrays counts rows end
 text_of ProfileFormat.Picture g end counts rows = svg_text counts
 
+-- the first row whose run did not end at rest
+abbrev pub failed_row : MachineRow → FailedRow
+failed_row row = record { elements = row.elements; end = row.end; frames = row.waiting_frames; credits = row.waiting_credits }
+
+abbrev pub first_failed : List MachineRow → Option FailedRow
+first_failed [] = None
+first_failed (row ∷ rows) = if exit_status row.end == 0 then first_failed rows else Some (failed_row row)
+
 -- the outcome: a picture does not report how the meaning ended
-abbrev pub profiled : ProfileFormat → MeanEnd → Outcome
-profiled ProfileFormat.Lines end = Outcome.Reported (Ending.Meaning end)
-profiled ProfileFormat.Picture end = Outcome.Drawn (Ending.Meaning end)
+abbrev pub profiled : ProfileFormat → MeanEnd → List MachineRow → Outcome
+profiled ProfileFormat.Lines end rows = Outcome.Profiled end (first_failed rows)
+profiled ProfileFormat.Picture end rows = Outcome.Drawn (Ending.Meaning end)
 
 -- THE COMMAND
 abbrev pub PrintsProfile : {E : Type 0} → Result Outcome E → Option (List ℕ) → Option (List ℕ) → List ℕ → RunOptions → Sizes → ProfileFormat → Type 0
 PrintsProfile result old new input o z format =
     ((g : Graph) × (end : MeanEnd) × (counts : List ℕ) × (rows : List MachineRow) × IsProfileOf input o z format g end counts rows
-    × Prints result old new (text_of format g end counts rows) (profiled format end))
+    × Prints result old new (text_of format g end counts rows) (profiled format end rows))
     ⊎ ((f : Refusal) × IsNoProfileOf input o z format f × Refuses result old new f)

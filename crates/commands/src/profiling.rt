@@ -9,7 +9,7 @@ ghost use Rattle.outcomes.specs.declared.refusal.Refusal.{Refusal as AsRefusal};
 ghost use Rattle.driver.specs.Refused.{IsCompiled, IsGoodText, IsRefused};
 ghost use Rattle.commands.specs.Served.{IsReportedAs};
 ghost use Rattle.commands.specs.Profiled.{AreRows, IsChosen, IsNoProfileOf, IsNoRow, IsProfileOf, IsRow, PrintsProfile, config_with, format_of};
-ghost use Rattle.commands.specs.Profiled.{quantity_in, profiled, sizes_below, text_of};
+ghost use Rattle.commands.specs.Profiled.{quantity_in, profiled, sizes_below, text_of, first_failed};
 
 use crate::feed::read_feed;
 use crate::refusal::fault_refusal;
@@ -21,8 +21,7 @@ use driver::resources::Resources;
 use driver::watching::{WatchedRounds, watch_rounds};
 use graph_check::Checked;
 use loaded::Loaded;
-use oracle::MeanEnd;
-use outcomes::{Ending, Outcome, Refusal};
+use outcomes::{Ending, FailedRow, Outcome, Refusal, status_of};
 use profile_text::{MachineRow, write_profile, write_svg};
 use replay::Moment;
 use rounds::{Gate, Open};
@@ -102,13 +101,21 @@ fn most_of(quantity: Quantity, first: u64, moments: &[Moment]) -> u64
     most
 }
 
-/// The row that the moments of a run of this number of rounds give.
-fn row_of(elements: u64, inputs: &[i64], rounds: u64, moments: &[Moment]) -> MachineRow
+/// The row that the moments and the report of a run of this number of rounds give.
+fn row_of<A: Allocator>(
+    elements: u64,
+    inputs: &[i64],
+    rounds: u64,
+    moments: &[Moment],
+    report: &Report<A>,
+) -> MachineRow
     ensures number { result.elements ≡ elements }
     ensures rounds { result.rounds ≡ rounds }
     ensures tokens { result.tokens ≡ greatest_from (length inputs.now + 1) (map (quantity_in Quantity.Tokens) moments.now) }
     ensures slots { result.slots ≡ greatest_from 0 (map (quantity_in Quantity.Slots) moments.now) }
     ensures frames { result.frames ≡ greatest_from 1 (map (quantity_in Quantity.Frames) moments.now) }
+    ensures end { result.end ≡ report.now.end }
+    ensures waiting { (result.waiting_frames ≡ report.now.waiting_frames) × (result.waiting_credits ≡ report.now.waiting_credits) }
 {
     MachineRow {
         elements,
@@ -116,6 +123,9 @@ fn row_of(elements: u64, inputs: &[i64], rounds: u64, moments: &[Moment]) -> Mac
         tokens: most_of(Quantity::Tokens, inputs.len() as u64 + 1, moments),
         slots: most_of(Quantity::Slots, 0, moments),
         frames: most_of(Quantity::Frames, 1, moments),
+        end: report.end,
+        waiting_frames: report.waiting_frames,
+        waiting_credits: report.waiting_credits,
     }
 }
 
@@ -154,7 +164,7 @@ fn measure<R: Threads + Wait + Sync, A: Allocator + Clone + Send + Sync, G: Gate
     if wants_memory(&watched.report) {
         return Err(Refusal::Memory);
     }
-    Ok(row_of(elements, inputs, rounds, &watched.moments))
+    Ok(row_of(elements, inputs, rounds, &watched.moments, &watched.report))
 }
 
 /// A row of the object for each number of elements, in order.
@@ -308,14 +318,34 @@ fn write_made<A: Allocator, W: Write>(
     }
 }
 
-/// The outcome of a profile. A picture does not report how the meaning ended.
-fn profiled(format: ProfileFormat, end: MeanEnd) -> Outcome
-    ensures { result ≡ profiled format end }
+/// The first row whose run did not end at rest.
+fn first_failed(rows: &[MachineRow]) -> Option<FailedRow>
+    ensures { result ≡ first_failed rows.now }
 {
-    let ending = Ending::Meaning(end);
+    for row in rows {
+        if status_of(row.end) != 0 {
+            return Some(FailedRow {
+                elements: row.elements,
+                end: row.end,
+                frames: row.waiting_frames,
+                credits: row.waiting_credits,
+            });
+        }
+    }
+    None
+}
+
+/// The outcome of a profile. A picture does not report how the meaning ended.
+fn profiled<A: Allocator>(format: ProfileFormat, profile: &Profile<'_, A>) -> Outcome
+    ensures { result ≡ profiled format profile.now.waves.report.end profile.now.rows.items }
+{
+    let end = profile.waves.report.end;
     match format {
-        ProfileFormat::Lines => Outcome::Reported(ending),
-        ProfileFormat::Picture => Outcome::Drawn(ending),
+        ProfileFormat::Lines => Outcome::Profiled {
+            end,
+            failed: first_failed(&profile.rows),
+        },
+        ProfileFormat::Picture => Outcome::Drawn(Ending::Meaning(end)),
     }
 }
 
@@ -341,7 +371,7 @@ pub fn print_profile<
         Err(refusal) => return refuse(writer, &refusal),
     };
     match write_made(writer, &profile, format) {
-        Ok(()) => Ok(profiled(format, profile.waves.report.end)),
+        Ok(()) => Ok(profiled(format, &profile)),
         Err(fault) => Err(fault),
     }
 }

@@ -40,6 +40,10 @@ steps-or-picks-end: an element made its $a step$A, or the $b picks of an order r
 wave-end: --steps $a does not allow all activities of the next wave: raise it ($b at most), if the graph ends at all
 activities-end: --steps $a allows no further activity, and there is one: raise it, if the graph ends at all
 no-frame: $a request$A for a frame at the end, where no frame was free: raise --frames (1024 at most), or --elements (16 at most)
+no-frame-in-row: $a request$A for a frame at its end, where none of its $d frame$D was free: raise --frames (1024 at most), or leave $c out of --elements
+failed-row: the run on $c element$C does not end at rest, so its rounds are not those of all the work
+readers: $a reader$A at the end of cells that no store filled: `ets trace` shows them, each with a `read` that is `deferred` and no `write`
+readers-of-object: $a reader$A at the end of cells that no store filled: the report has a line `cell` for each cell that one did
 no-credit: $b request$B for a loop's credit at the end, where no iteration could end: raise the loop's bound k, the number in its line `loop F k ..`
 no-credit-of-code: $b request$B for a loop's credit at the end, where no iteration could end: raise the bound k of `open`, `take`, `give` and `drain`, unless the code gives no credit back
 no-frame-no-credit: $a request$A for a frame and $b request$B for a loop's credit at the end: raise --frames (1024 at most), or --elements (16 at most), and the bound k of the loops
@@ -136,6 +140,7 @@ other/graph/exec: standard input is a graph: `ets run` runs it, and `ets compile
 other/graph/dot --code: standard input is a graph: `ets dot` without --code draws it
 other/graph/program: standard input is a graph, which needs no lowering: `ets run < FILE` runs it
 other/graph/object, listing: standard input is a graph: `ets compile` makes an object of it
+other/refusal/graph, object, program, listing: the command before this one refused its input, and says why: `$p`
 other/object/dot: standard input is an object, and `ets dot` reads a graph; `ets dot --code` draws an object
 other/object/check, compile: standard input is an object, and `ets $1` reads a graph; `ets dis` lists an object
 other/object/graph: standard input is an object, and `ets $1` reads a graph; `ets exec` runs an object

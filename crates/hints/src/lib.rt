@@ -24,14 +24,15 @@ use catalog::{Text, found};
 use command_line::{Asked, Request, read_words};
 use graphs::{code_fault, graph_fault};
 pub use line::{Hint, Line};
-use lines::{split_graph, text_of, word_at};
+use lines::{line_at, split_graph, text_of, word_at};
 use listings::listing_fault;
 use message::{Found, Special, nowhere};
 use objects::object_fault;
 use outcomes::{Outcome, Refusal};
 use programs::{kind_cause, program_fault};
 use runs::{
-    Case, end_fault, given_fault, input_fault, is_of_object, memory_cause, page_fault, start_fault,
+    Case, end_fault, given_fault, input_fault, is_of_object, memory_cause, page_fault,
+    profile_fault, start_fault,
 };
 use std::alloc::{AllocError, Allocator};
 use std::convert::AsStr;
@@ -44,6 +45,7 @@ fn other_input(input: &[u8], command: &str) -> Option<Text> {
         [] => "other/empty/",
         _ if input.starts_with(b"ETSOBJCT") => "other/object/",
         _ if input.starts_with(b"//") => "other/program/",
+        _ if input.starts_with(b"refused: ") => "other/refusal/",
         _ => found("head/", text_of(word_at(input, 0)))?,
     };
     let reads = found("reads/", command).unwrap_or("graph");
@@ -54,7 +56,8 @@ fn other_input(input: &[u8], command: &str) -> Option<Text> {
 fn of_input<'a>(case: &Case<'_, 'a>, command: &'a str, refusal: Refusal) -> Option<Found<'a>> {
     let input = case.input?;
     if let Some(cause) = other_input(input, command) {
-        return Some(nowhere(cause, [command; 2]));
+        let line = line_at(input, 1);
+        return Some(Found::of(None, cause, [command; 2], [line; 3], [0; 6]));
     }
     // Commands that run the graph read the inputs of the run after it.
     let text = match runs_graph(case.request) {
@@ -134,6 +137,7 @@ fn cause_of<'a, S: AsStr>(
             Some(found.unwrap_or(unlocated(request, refusal)))
         }
         Some(Outcome::Reported(ending)) => end_fault(&case, ending),
+        Some(Outcome::Profiled { end, failed }) => profile_fault(&case, end, failed),
         Some(Outcome::Paged { events, .. }) => page_fault(events),
         Some(Outcome::Differed) => Some(nowhere("orders-differ", [""; 2])),
     }

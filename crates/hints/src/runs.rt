@@ -1,7 +1,8 @@
 //! Why a run does not start, and why it did not end at rest.
 
 ghost use Rattle.std.specs.Prelude.{◌≡◌, ◌==◌, is_some, nat_lt, not};
-ghost use Rattle.outcomes.specs.Outcomes.{ending_status, exit_status, meaning_status};
+ghost use Rattle.outcomes.specs.Outcomes.{exit_status, meaning_status};
+ghost use Rattle.hints.specs.Hints.{ending_wants, profile_wants, rests_waiting};
 
 use crate::blocks::Block;
 use crate::catalog::Text;
@@ -12,7 +13,7 @@ use crate::words::{Sought, first_of};
 use command_line::{Inputs, Request, RunOptions, Sizes};
 use object_view::Object;
 use oracle::MeanEnd;
-use outcomes::Ending;
+use outcomes::{Ending, FailedRow};
 use schedule::config::StartFault;
 use semantics::report::End;
 use std::convert::AsStr;
@@ -159,8 +160,8 @@ pub fn memory_cause(request: &Request) -> Text {
     }
 }
 
-/// What ran out, how much there was of it, and the most of it. Picks of an order are events of all elements together.
-fn steps_cause(request: &Request) -> Counted {
+/// What ran out in a run, how much there was of it, and the most of it. Picks of an order are events of all elements together.
+fn run_steps_cause(request: &Request) -> Counted {
     match request {
         Request::Orders { options, .. } => {
             let cause = match options.elements {
@@ -170,9 +171,17 @@ fn steps_cause(request: &Request) -> Counted {
             };
             (cause, options.steps, PICKS)
         }
-        Request::Run(options) | Request::Exec { options, .. } | Request::Trace { options, .. } => {
-            ("steps-end", options.steps, STEPS)
-        }
+        Request::Run(options)
+        | Request::Exec { options, .. }
+        | Request::Trace { options, .. }
+        | Request::Profile { options, .. } => ("steps-end", options.steps, STEPS),
+        _ => ("activities-end", 0, STEPS),
+    }
+}
+
+/// What ran out in the meaning, how much there was of it, and the most of it.
+fn meaning_steps_cause(request: &Request) -> Counted {
+    match request {
         Request::Profile { options, .. } => ("wave-end", options.steps, STEPS),
         Request::Mean { steps } => ("activities-end", *steps, STEPS),
         _ => ("activities-end", 0, STEPS),
@@ -184,9 +193,15 @@ pub fn is_of_object(request: &Request) -> bool {
     matches!(request, Request::Exec { .. })
 }
 
+/// Whether a run was made for each row of a profile.
+fn is_of_rows(request: &Request) -> bool {
+    matches!(request, Request::Profile { .. })
+}
+
 /// Why this many requests for frames and for credits wait.
 fn starved_cause(request: &Request, frames: u64, credits: u64) -> Text {
     match (frames, credits) {
+        _ if frames != 0 && is_of_rows(request) => "no-frame-in-row",
         (_, 0) => "no-frame",
         (0, _) if is_of_object(request) => "no-credit-of-code",
         (0, _) => "no-credit",
@@ -212,27 +227,53 @@ fn run_cause(case: &Case<'_, '_>, end: End, frames: u64, credits: u64) -> Option
         End::Clash { array, index } => {
             Some((clash_cause(case), u64::from(index), u64::from(array)))
         }
-        End::Steps => Some(steps_cause(request)),
+        End::Steps => Some(run_steps_cause(request)),
         End::Stuck { .. } if is_of_object(request) => Some(("stuck-object", 0, 0)),
         End::Stuck { .. } => Some(("stuck", 0, 0)),
     }
 }
 
-/// Why what was run did not end at rest, with two numbers.
+/// Why a run that ended at rest is not whole: so many readers wait.
+fn rest_cause(request: &Request, end: End, readers: u64) -> Option<Counted>
+    ensures { is_some result ≡ rests_waiting end readers }
+{
+    match end {
+        End::Rest if readers != 0 => {
+            let is_of_object = is_of_object(request);
+            Some((if is_of_object { "readers-of-object" } else { "readers" }, readers, 0))
+        }
+        _ => None,
+    }
+}
+
+/// Why the meaning did not end at rest, with two numbers.
+fn meaning_cause(case: &Case<'_, '_>, end: MeanEnd) -> Option<Counted>
+    ensures { is_some result ≡ not (meaning_status end == 0) }
+{
+    match end {
+        MeanEnd::Rest => None,
+        MeanEnd::Clash { array, index } => {
+            Some((clash_cause(case), u64::from(index), array as u64))
+        }
+        MeanEnd::Steps => Some(meaning_steps_cause(case.request)),
+    }
+}
+
+/// What is to be said of how what was run ended, with two numbers.
 fn end_cause(case: &Case<'_, '_>, ending: Ending) -> Option<Counted>
-    ensures { is_some result ≡ not (ending_status ending == 0) }
+    ensures { is_some result ≡ ending_wants ending }
 {
     match ending {
         Ending::Run {
             end,
             frames,
             credits,
-        } => run_cause(case, end, frames, credits),
-        Ending::Meaning(MeanEnd::Rest) => None,
-        Ending::Meaning(MeanEnd::Clash { array, index }) => {
-            Some((clash_cause(case), u64::from(index), array as u64))
-        }
-        Ending::Meaning(MeanEnd::Steps) => Some(steps_cause(case.request)),
+            readers,
+        } => match run_cause(case, end, frames, credits) {
+            Some(cause) => Some(cause),
+            None => rest_cause(case.request, end, readers),
+        },
+        Ending::Meaning(end) => meaning_cause(case, end),
     }
 }
 
@@ -247,15 +288,48 @@ fn rule_of(ending: Ending) -> Option<Text> {
     }
 }
 
-/// Why what was run did not end at rest, and by which rule.
-pub fn end_fault<'a>(case: &Case<'_, 'a>, ending: Ending) -> Option<Found<'a>>
-    ensures { is_some result ≡ not (ending_status ending == 0) }
-{
-    let (cause, first, second) = end_cause(case, ending)?;
+/// What shows this cause, of which the second number may be that of an array.
+fn shown<'a>(case: &Case<'_, 'a>, place: Option<Text>, counted: Counted, others: [u64; 2]) -> Found<'a> {
+    let (cause, first, second) = counted;
     let line = line_at(case.input.unwrap_or(b""), second.saturating_add(2));
     let parts = [word_at(line, 1); 3];
-    let numbers = [first, second, 0, 0, 0, 0];
-    Some(Found::of(rule_of(ending), cause, [""; 2], parts, numbers))
+    let numbers = [first, second, others[0], others[1], 0, 0];
+    Found::of(place, cause, [""; 2], parts, numbers)
+}
+
+/// What is to be said of how what was run ended, and the rule that excludes a token.
+pub fn end_fault<'a>(case: &Case<'_, 'a>, ending: Ending) -> Option<Found<'a>>
+    ensures { is_some result ≡ ending_wants ending }
+{
+    let counted = end_cause(case, ending)?;
+    Some(shown(case, rule_of(ending), counted, [0; 2]))
+}
+
+/// Why the run of a row of a profile did not end at rest.
+fn row_fault<'a>(case: &Case<'_, 'a>, row: FailedRow) -> Option<Found<'a>>
+    ensures { is_some result ≡ not (exit_status row.end == 0) }
+{
+    let counted = run_cause(case, row.end, row.frames, row.credits)?;
+    let each = match options_of(case.request) {
+        Some(options) => options.frames,
+        None => 0,
+    };
+    let frames = row.elements.saturating_mul(each);
+    Some(shown(case, Some("failed-row"), counted, [row.elements, frames]))
+}
+
+/// Why the meaning of a profile did not end at rest, or else the run of a row.
+pub fn profile_fault<'a>(
+    case: &Case<'_, 'a>,
+    end: MeanEnd,
+    failed: Option<FailedRow>,
+) -> Option<Found<'a>>
+    ensures { is_some result ≡ profile_wants end failed }
+{
+    match meaning_cause(case, end) {
+        Some(counted) => Some(shown(case, None, counted, [0; 2])),
+        None => row_fault(case, failed?),
+    }
 }
 
 /// What is said of a page that shows this many events.

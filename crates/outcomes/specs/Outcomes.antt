@@ -23,7 +23,7 @@ meaning_status (MeanEnd.Clash a i) = 3
 meaning_status MeanEnd.Steps = 4
 
 abbrev pub ending_status : Ending → ℕ
-ending_status (Ending.Run end frames credits) = exit_status end
+ending_status (Ending.Run end frames credits readers) = exit_status end
 ending_status (Ending.Meaning end) = meaning_status end
 
 -- the exit status for a command's outcome
@@ -32,10 +32,11 @@ outcome_status Outcome.Done = 0
 outcome_status Outcome.Mistake = 1
 outcome_status (Outcome.Refused f) = 1
 outcome_status (Outcome.Reported e) = ending_status e
+outcome_status (Outcome.Profiled end failed) = meaning_status end
 outcome_status (Outcome.Drawn e) = ending_status e
 outcome_status (Outcome.Paged e events) = ending_status e
 outcome_status Outcome.Differed = 1
 
 -- how the run with this report ended
 abbrev pub ending_of : Report → Ending
-ending_of r = Ending.Run r.end r.waiting_frames r.waiting_credits
+ending_of r = Ending.Run r.end r.waiting_frames r.waiting_credits r.deferred

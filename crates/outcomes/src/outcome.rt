@@ -22,9 +22,22 @@ pub enum Ending {
         frames: u64,
         /// How many requests for credits wait.
         credits: u64,
+        /// How many readers wait in cells.
+        readers: u64,
     },
     /// The meaning of a graph.
     Meaning(MeanEnd),
+}
+
+/// A row of a profile whose run on this number of elements did not end at rest.
+#[derive(Clone, Copy, Debug)]
+pub struct FailedRow {
+    pub elements: u64,
+    pub end: End,
+    /// How many requests for frames wait.
+    pub frames: u64,
+    /// How many requests for credits wait.
+    pub credits: u64,
 }
 
 /// The outcome of a command whose text was printed whole.
@@ -38,6 +51,12 @@ pub enum Outcome {
     Refused(Refusal),
     /// A report was printed, which says how the run ended.
     Reported(Ending),
+    /// The lines of a profile, which say how the meaning ended, and how each row's run did.
+    Profiled {
+        end: MeanEnd,
+        /// The first row whose run did not end at rest.
+        failed: Option<FailedRow>,
+    },
     /// A picture, or events as data, which do not say how the run ended.
     Drawn(Ending),
     /// A page that shows this many events of a run.
@@ -58,7 +77,7 @@ fn status_of_meaning(end: MeanEnd) -> u8
 }
 
 /// The exit status that reports the end of a run.
-fn status_of(end: End) -> u8
+pub fn status_of(end: End) -> u8
     ensures { result ≡ exit_status end }
 {
     match end {
@@ -80,6 +99,7 @@ impl Ending {
             end: report.end,
             frames: report.waiting_frames,
             credits: report.waiting_credits,
+            readers: report.deferred,
         }
     }
 
@@ -104,6 +124,7 @@ impl Outcome {
             Outcome::Mistake => REFUSED,
             Outcome::Refused(_refusal) => REFUSED,
             Outcome::Reported(ending) => ending.status(),
+            Outcome::Profiled { end, .. } => status_of_meaning(end),
             Outcome::Drawn(ending) => ending.status(),
             Outcome::Paged { ending, .. } => ending.status(),
             Outcome::Differed => REFUSED,

@@ -2,6 +2,7 @@
 use Rattle.std.specs.Prelude.{ℕ, zero, suc, ◌+◌, ◌*◌, ◌/◌, ◌%◌, Option, Some, None, List, [], ◌∷◌, ◌++◌, length, flat_map, decimal, codes, slice_get}
 use Rattle.semantics.specs.Text.{field, line}
 use Rattle.sink.specs.Numbered.{numbered}
+use Rattle.semantics.specs.declared.report.End.{End}
 use Rattle.oracle.specs.declared.report.MeanEnd.{MeanEnd}
 use Rattle.oracle.specs.Waves.{work}
 use Rattle.profile_text.specs.declared.lines.MachineRow.{MachineRow}
@@ -35,19 +36,33 @@ wave_line k n = line (codes "wave" ++ field (decimal (k + 1)) ++ field (decimal 
 abbrev pub waves_text : List ℕ → List ℕ
 waves_text counts = numbered wave_line 0 counts
 
--- THE MACHINE, for each number of elements
-abbrev pub row_line : MachineRow → List ℕ
-row_line r =
-    together (
-    codes "elements " ∷ decimal r.elements ∷ codes " rounds " ∷ decimal r.rounds ∷ codes " tokens " ∷ decimal r.tokens ∷ codes " slots "
-    ∷ decimal r.slots ∷ codes " frames " ∷ decimal r.frames ∷ codes "\n" ∷ []
-    )
-
--- THE END of the waves, as that of a meaning is reported
+-- the name of an array, and none where there is no array
 abbrev pub name_of : Option (List ℕ × ℕ) → List ℕ
 name_of None = []
 name_of (Some a) = a.0
 
+-- THE MACHINE, for each number of elements
+abbrev pub taken_text : MachineRow → List ℕ
+taken_text r =
+    together (
+    codes "elements " ∷ decimal r.elements ∷ codes " rounds " ∷ decimal r.rounds ∷ codes " tokens " ∷ decimal r.tokens ∷ codes " slots "
+    ∷ decimal r.slots ∷ codes " frames " ∷ decimal r.frames ∷ []
+    )
+
+-- how its run ended, where that is not at rest, in the words of the last line of the run's report; and the end of the line
+abbrev pub row_end : List (List ℕ × ℕ) → End → List ℕ
+row_end arrays End.Rest = line []
+row_end arrays End.Starved = line (codes " end Starved")
+row_end arrays (End.Clash a i) = line (codes " end Clash " ++ name_of (slice_get arrays a) ++ field (decimal i))
+row_end arrays End.Steps = line (codes " end Steps")
+row_end arrays (End.Stuck rule) = line (codes " end Stuck" ++ field (decimal rule))
+row_end arrays End.Memory = line (codes " end Memory")
+row_end arrays End.Stop = line (codes " end Stop")
+
+abbrev pub row_line : List (List ℕ × ℕ) → MachineRow → List ℕ
+row_line arrays r = taken_text r ++ row_end arrays r.end
+
+-- THE END of the waves, as that of a meaning is reported
 abbrev pub end_line : List (List ℕ × ℕ) → MeanEnd → List ℕ
 end_line arrays MeanEnd.Rest = line (codes "end Rest")
 end_line arrays (MeanEnd.Clash a i) = line (codes "end Clash " ++ name_of (slice_get arrays a) ++ field (decimal i))
@@ -55,4 +70,4 @@ end_line arrays MeanEnd.Steps = line (codes "end Steps")
 
 -- THE WHOLE
 abbrev pub profile_text : List (List ℕ × ℕ) → List ℕ → List MachineRow → MeanEnd → List ℕ
-profile_text arrays counts rows end = totals_text (work counts) (length counts) ++ waves_text counts ++ flat_map row_line rows ++ end_line arrays end
+profile_text arrays counts rows end = totals_text (work counts) (length counts) ++ waves_text counts ++ flat_map (row_line arrays) rows ++ end_line arrays end

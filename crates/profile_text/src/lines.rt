@@ -2,19 +2,20 @@
 
 ghost use Rattle.std.specs.Prelude.{◌≡◌, ◌++◌, codes, decimal, flat_map, length, slice_get};
 ghost use Rattle.oracle.specs.Waves.{work};
-ghost use Rattle.profile_text.specs.ProfileText.{totals_text, wave_line, waves_text, row_line, name_of, end_line, profile_text};
+ghost use Rattle.profile_text.specs.ProfileText.{totals_text, wave_line, waves_text, taken_text, row_end, row_line, name_of, end_line, profile_text};
 ghost use Rattle.sink.specs.Sends.{Sends};
 
 use crate::numbers::{parallelism_of, work_of};
 use graph::{Array, Graph};
 use itoa::Buffer;
 use oracle::{MeanEnd, WaveReport};
+use semantics::report::End;
 use sink::{send, send_all};
 use std::alloc::Allocator;
 use std::io::{self, Write};
 
 /// What a run of the machine with this number of elements took: rounds in which all elements act at once, tokens, and slots and frames
-/// that were in use at once.
+/// that were in use at once; and how it ended.
 #[derive(Clone, Copy, Debug)]
 pub struct MachineRow {
     pub elements: u64,
@@ -22,6 +23,11 @@ pub struct MachineRow {
     pub tokens: u64,
     pub slots: u64,
     pub frames: u64,
+    pub end: End,
+    /// How many requests for frames wait at the end.
+    pub waiting_frames: u64,
+    /// How many requests for credits wait at the end.
+    pub waiting_credits: u64,
 }
 
 /// The lines of the work, the span and the parallelism.
@@ -73,9 +79,9 @@ fn send_waves<W: Write>(writer: &mut W, counts: &[u64]) -> io::Result<()>
     Ok(())
 }
 
-/// The line of what the machine took.
-fn send_row<W: Write>(writer: &mut W, row: &MachineRow) -> io::Result<()>
-    ensures { Sends result (W.contents writer.old) (W.contents writer.new) (row_line row.now) }
+/// What the machine took.
+fn send_taken<W: Write>(writer: &mut W, row: &MachineRow) -> io::Result<()>
+    ensures { Sends result (W.contents writer.old) (W.contents writer.new) (taken_text row.now) }
 {
     let mut first = Buffer::new();
     let mut second = Buffer::new();
@@ -100,19 +106,8 @@ fn send_row<W: Write>(writer: &mut W, row: &MachineRow) -> io::Result<()>
             slots,
             b" frames ",
             frames,
-            b"\n",
         ],
     )
-}
-
-/// The lines of what the machine took.
-fn send_rows<W: Write>(writer: &mut W, rows: &[MachineRow]) -> io::Result<()>
-    ensures { Sends result (W.contents writer.old) (W.contents writer.new) (flat_map row_line rows.now) }
-{
-    for row in rows {
-        send_row(writer, row)?;
-    }
-    Ok(())
 }
 
 /// The name of the array at that place, and none where there is no array.
@@ -123,6 +118,52 @@ fn name_at<'t>(arrays: &[Array<'t>], place: usize) -> &'t [u8]
         Some(array) => array.name.bytes,
         None => b"",
     }
+}
+
+/// How a run ended that did not come to rest, and the end of its row.
+fn send_row_end<W: Write>(writer: &mut W, arrays: &[Array<'_>], end: End) -> io::Result<()>
+    ensures { Sends result (W.contents writer.old) (W.contents writer.new) (row_end arrays.now end) }
+{
+    match end {
+        End::Rest => send(writer, b"\n"),
+        End::Starved => send(writer, b" end Starved\n"),
+        End::Clash { array, index } => {
+            let mut digits = Buffer::new();
+            let name = name_at(arrays, array as usize);
+            let index = digits.format(index).as_bytes();
+            send_all(writer, &[b" end Clash ", name, b" ", index, b"\n"])
+        }
+        End::Steps => send(writer, b" end Steps\n"),
+        End::Stuck { rule } => {
+            let mut digits = Buffer::new();
+            let rule = digits.format(rule).as_bytes();
+            send_all(writer, &[b" end Stuck ", rule, b"\n"])
+        }
+        End::Memory => send(writer, b" end Memory\n"),
+        End::Stop => send(writer, b" end Stop\n"),
+    }
+}
+
+/// The line of what the machine took.
+fn send_row<W: Write>(writer: &mut W, arrays: &[Array<'_>], row: &MachineRow) -> io::Result<()>
+    ensures { Sends result (W.contents writer.old) (W.contents writer.new) (row_line arrays.now row.now) }
+{
+    send_taken(writer, row)?;
+    send_row_end(writer, arrays, row.end)
+}
+
+/// The lines of what the machine took.
+fn send_rows<W: Write>(
+    writer: &mut W,
+    arrays: &[Array<'_>],
+    rows: &[MachineRow],
+) -> io::Result<()>
+    ensures { Sends result (W.contents writer.old) (W.contents writer.new) (flat_map (row_line arrays.now) rows.now) }
+{
+    for row in rows {
+        send_row(writer, arrays, row)?;
+    }
+    Ok(())
 }
 
 /// The last line.
@@ -142,7 +183,7 @@ fn send_end<W: Write>(writer: &mut W, arrays: &[Array<'_>], end: MeanEnd) -> io:
 }
 
 /// Writes the lines of a profile: the work, the span and the parallelism, each wave, what the machine took with each number of
-/// elements, and the end of the waves. The writer is called until it has taken all of it; a call that takes no byte is a
+/// elements, with the end of its run if that is not at rest, and the end of the waves. The writer is called until it has taken all of it; a call that takes no byte is a
 /// fault. After an `Err` a beginning of the text was written. Takes no memory.
 pub fn write_profile<'a, A: Allocator, W: Write>(
     writer: &mut W,
@@ -154,6 +195,6 @@ pub fn write_profile<'a, A: Allocator, W: Write>(
 {
     send_totals(writer, &waves.counts)?;
     send_waves(writer, &waves.counts)?;
-    send_rows(writer, rows)?;
+    send_rows(writer, &graph.arrays, rows)?;
     send_end(writer, &graph.arrays, waves.end)
 }

@@ -12,11 +12,12 @@ fn number(word: Option<&str>) -> u64 {
     }
 }
 
-fn ended(end: End, frames: u64, credits: u64) -> Outcome {
+fn ended(end: End, frames: u64, credits: u64, readers: u64) -> Outcome {
     Outcome::Reported(Ending::Run {
         end,
         frames,
         credits,
+        readers,
     })
 }
 
@@ -40,12 +41,16 @@ pub fn outcome_of(words: &str) -> Option<Outcome> {
     let outcome = match words.next()? {
         "done" => Outcome::Done,
         "differed" => Outcome::Differed,
-        "steps" => ended(End::Steps, 0, 0),
-        "memory" => ended(End::Memory, 0, 0),
-        "starved" => ended(End::Starved, number(words.next()), number(words.next())),
+        "steps" => ended(End::Steps, 0, 0, 0),
+        "memory" => ended(End::Memory, 0, 0, 0),
+        "rest" => ended(End::Rest, 0, 0, number(words.next())),
+        "starved" => {
+            let frames = number(words.next());
+            ended(End::Starved, frames, number(words.next()), 0)
+        }
         "stuck" => {
             let rule = u8::try_from(number(words.next())).unwrap_or(0);
-            ended(End::Stuck { rule }, 0, 0)
+            ended(End::Stuck { rule }, 0, 0, 0)
         }
         "refused" => {
             let part = words.next()?;

@@ -3,6 +3,7 @@
 use graph_file::read;
 use oracle::{MeanEnd, WaveReport};
 use profile_text::{MachineRow, write_profile, write_svg};
+use semantics::report::End;
 use semantics::version::Version;
 use std::alloc::{AllocError, Global};
 use std::test::Fail;
@@ -23,7 +24,13 @@ wave 3 2
 wave 4 1
 wave 5 1
 elements 1 rounds 17 tokens 9 slots 7 frames 1
-elements 4 rounds 6 tokens 8 slots 7 frames 1
+elements 2 rounds 6 tokens 8 slots 7 frames 1 end Starved
+elements 3 rounds 6 tokens 8 slots 7 frames 1 end Clash A 20
+elements 4 rounds 6 tokens 8 slots 7 frames 1 end Steps
+elements 5 rounds 6 tokens 8 slots 7 frames 1 end Stuck 3
+elements 6 rounds 6 tokens 8 slots 7 frames 1 end Memory
+elements 7 rounds 6 tokens 8 slots 7 frames 1 end Stop
+elements 8 rounds 6 tokens 8 slots 7 frames 1
 end Rest
 ";
 
@@ -36,8 +43,8 @@ const BARS: &[u8] = b"<rect x=\"0\" width=\"160\" height=\"300\"/>
 </svg>
 ";
 
-/// A graph without blocks and arrays.
-const EMPTY: &[u8] = b"etsgraph 2\nmain m\n";
+/// A graph without blocks, with two arrays.
+const GRAPH: &[u8] = b"etsgraph 2\narray B 10\narray A 30\nmain m\n";
 
 fn waves_of<'h>(heap: Heap<'h>, counts: &[u64]) -> Result<WaveReport<Heap<'h>>, AllocError> {
     Ok(WaveReport {
@@ -46,8 +53,26 @@ fn waves_of<'h>(heap: Heap<'h>, counts: &[u64]) -> Result<WaveReport<Heap<'h>>, 
     })
 }
 
+/// A row of a run that ended so.
+fn row(elements: u64, end: End) -> MachineRow {
+    MachineRow {
+        elements,
+        rounds: 6,
+        tokens: 8,
+        slots: 7,
+        frames: 1,
+        end,
+        waiting_frames: 5,
+        waiting_credits: 4,
+    }
+}
+
 #[test]
 fn writes_a_profile(rt: HostRuntime) -> Result<(), Fail> {
+    let clash = End::Clash {
+        array: 1,
+        index: 20,
+    };
     let rows = [
         MachineRow {
             elements: 1,
@@ -55,17 +80,20 @@ fn writes_a_profile(rt: HostRuntime) -> Result<(), Fail> {
             tokens: 9,
             slots: 7,
             frames: 1,
+            end: End::Rest,
+            waiting_frames: 0,
+            waiting_credits: 0,
         },
-        MachineRow {
-            elements: 4,
-            rounds: 6,
-            tokens: 8,
-            slots: 7,
-            frames: 1,
-        },
+        row(2, End::Starved),
+        row(3, clash),
+        row(4, End::Steps),
+        row(5, End::Stuck { rule: 3 }),
+        row(6, End::Memory),
+        row(7, End::Stop),
+        row(8, End::Rest),
     ];
     let heap = Rationed::new(rt.alloc(), 0);
-    let graph = read(&heap, EMPTY)?;
+    let graph = read(&heap, GRAPH)?;
     let waves = waves_of(&heap, TREE)?;
     let left = heap.left();
     let mut text = Vec::new(rt.alloc());

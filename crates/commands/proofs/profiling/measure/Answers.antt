@@ -39,6 +39,8 @@ returns g c = λ text gr compiled.
           c.row_of.ensures.slots;
       frames = subst (λ (l : List Moment). c.row_of.result.frames ≡ greatest_from 1 (map (quantity_in Quantity.Frames) l)) c.deref.ensures.value
           c.row_of.ensures.frames;
+      end = c.row_of.ensures.end;
+      waiting = c.row_of.ensures.waiting;
     }
 
 pub returns-in_default : goal.returns-in_default

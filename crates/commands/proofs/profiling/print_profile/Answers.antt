@@ -12,7 +12,7 @@ returns-in-Ok-write_made g c =
       p.waves.report.counts.items,
       p.rows.items,
       c.in-Ok.ensures,
-      printed _ _ _ _ _ _ _ (profiled c.args.format p.waves.report.end) refl c.profiled.ensures c.in-Ok-write_made.ensures,
+      printed _ _ _ _ _ _ _ (profiled c.args.format p.waves.report.end p.rows.items) refl c.profiled.ensures c.in-Ok-write_made.ensures,
     )
 
 pub returns : goal.returns
@@ -24,5 +24,5 @@ returns g c =
       p.waves.report.counts.items,
       p.rows.items,
       c.in-Ok.ensures,
-      stopped _ _ _ _ _ _ (profiled c.args.format p.waves.report.end) refl c.in-Err-write_made.ensures,
+      stopped _ _ _ _ _ _ (profiled c.args.format p.waves.report.end p.rows.items) refl c.in-Err-write_made.ensures,
     )
