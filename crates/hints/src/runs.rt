@@ -233,16 +233,27 @@ fn run_cause(case: &Case<'_, '_>, end: End, frames: u64, credits: u64) -> Option
     }
 }
 
-/// Why a run that ended at rest is not whole: so many readers wait.
+/// What is said of readers that wait.
+fn readers_cause(request: &Request) -> Text {
+    if is_of_object(request) {
+        "readers-of-object"
+    } else {
+        "readers"
+    }
+}
+
+/// What is said of so many readers that wait at rest, with two numbers.
 fn rest_cause(request: &Request, end: End, readers: u64) -> Option<Counted>
     ensures { is_some result ≡ rests_waiting end readers }
 {
     match end {
-        End::Rest if readers != 0 => {
-            let is_of_object = is_of_object(request);
-            Some((if is_of_object { "readers-of-object" } else { "readers" }, readers, 0))
-        }
-        _ => None,
+        End::Rest => (readers > 0).then_some((readers_cause(request), readers, 0)),
+        End::Starved
+        | End::Clash { .. }
+        | End::Steps
+        | End::Stuck { .. }
+        | End::Memory
+        | End::Stop => None,
     }
 }
 
