@@ -300,7 +300,12 @@ fn rule_of(ending: Ending) -> Option<Text> {
 }
 
 /// What shows this cause, of which the second number may be that of an array.
-fn shown<'a>(case: &Case<'_, 'a>, place: Option<Text>, counted: Counted, others: [u64; 2]) -> Found<'a> {
+fn shown<'a>(
+    case: &Case<'_, 'a>,
+    place: Option<Text>,
+    counted: Counted,
+    others: [u64; 2],
+) -> Found<'a> {
     let (cause, first, second) = counted;
     let line = line_at(case.input.unwrap_or(b""), second.saturating_add(2));
     let parts = [word_at(line, 1); 3];

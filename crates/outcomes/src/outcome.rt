@@ -60,7 +60,10 @@ pub enum Outcome {
     /// A picture, or events as data, which do not say how the run ended.
     Drawn(Ending),
     /// A page that shows this many events of a run.
-    Paged { ending: Ending, events: u64 },
+    Paged {
+        ending: Ending,
+        events: u64,
+    },
     /// The reports of two orders that differ.
     Differed,
 }

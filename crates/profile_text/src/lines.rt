@@ -153,11 +153,7 @@ fn send_row<W: Write>(writer: &mut W, arrays: &[Array<'_>], row: &MachineRow) ->
 }
 
 /// The lines of what the machine took.
-fn send_rows<W: Write>(
-    writer: &mut W,
-    arrays: &[Array<'_>],
-    rows: &[MachineRow],
-) -> io::Result<()>
+fn send_rows<W: Write>(writer: &mut W, arrays: &[Array<'_>], rows: &[MachineRow]) -> io::Result<()>
     ensures { Sends result (W.contents writer.old) (W.contents writer.new) (flat_map (row_line arrays.now) rows.now) }
 {
     for row in rows {
