@@ -51,12 +51,13 @@ returns-in_err-send_rows g c =
     let w3 : Option (List ℕ) = g.W.Write.contents c.send_rows.new.writer in
     let e1 = ap (λ l. totals_text (work l) (length l)) c.deref.ensures.value in
     let e2 = ap waves_text c.deref-2.ensures.value in
+    let e3 = ap (λ l. flat_map (row_line l) c.args.rows.now) (c.deref-3.ensures.value ∙ ap (λ (h : Graph). h.arrays) c.graph.view_is) in
     rw p.1 (sends_less p.0 w0 w3 ((t1 ++ t2) ++ t3) t4
     (sends_more (Err p.0) w0 w2 w3 (t1 ++ t2) t3
     (appends_then w0 w1 w2 t1 t2 (sends_from c.send_totals.result w0 w1 t1 c.in_ok-send_totals.was
     (sends_same c.send_totals.result w0 w1 _ t1 e1 c.send_totals.ensures)) (sends_from c.send_waves.result w1 w2 t2 c.in_ok-send_waves.was
     (sends_same c.send_waves.result w1 w2 _ t2 e2 c.send_waves.ensures))) (sends_other c.in_err-send_rows.field-0.0 p.0 w2 w3 t3
-    c.in_err-send_rows.ensures)))
+    (sends_same (Err c.in_err-send_rows.field-0.0) w2 w3 _ t3 e3 c.in_err-send_rows.ensures))))
 
 pub returns : goal.returns
 returns g c =
@@ -71,9 +72,10 @@ returns g c =
     let w4 : Option (List ℕ) = g.W.Write.contents c.send_end.new.writer in
     let e1 = ap (λ l. totals_text (work l) (length l)) c.deref.ensures.value in
     let e2 = ap waves_text c.deref-2.ensures.value in
-    let e4 = ap (λ l. end_line l c.args.waves.now.end) (c.deref-3.ensures.value ∙ ap (λ (h : Graph). h.arrays) c.graph.view_is) in
+    let e3 = ap (λ l. flat_map (row_line l) c.args.rows.now) (c.deref-3.ensures.value ∙ ap (λ (h : Graph). h.arrays) c.graph.view_is) in
+    let e4 = ap (λ l. end_line l c.args.waves.now.end) (c.deref-4.ensures.value ∙ ap (λ (h : Graph). h.arrays) c.graph.view_is) in
     sends_more c.send_end.result w0 w3 w4 ((t1 ++ t2) ++ t3) t4
     (appends_then w0 w2 w3 (t1 ++ t2) t3 (appends_then w0 w1 w2 t1 t2 (sends_from c.send_totals.result w0 w1 t1 c.in_ok-send_totals.was
     (sends_same c.send_totals.result w0 w1 _ t1 e1 c.send_totals.ensures)) (sends_from c.send_waves.result w1 w2 t2 c.in_ok-send_waves.was
     (sends_same c.send_waves.result w1 w2 _ t2 e2 c.send_waves.ensures))) (sends_from c.send_rows.result w2 w3 t3 c.in_ok-send_rows.was
-    c.send_rows.ensures)) (sends_same c.send_end.result w3 w4 _ t4 e4 c.send_end.ensures)
+    (sends_same c.send_rows.result w2 w3 _ t3 e3 c.send_rows.ensures))) (sends_same c.send_end.result w3 w4 _ t4 e4 c.send_end.ensures)
