@@ -21,6 +21,7 @@ use Rattle.ordering.specs.Logs.{Logs}
 use Rattle.ordering.proofs.Logging.{notes_nothing}
 use Rattle.law_linearization.specs.History.{bounds_of}
 use Rattle.machine.specs.Bundles.{BundleView}
+use Rattle.machine.specs.Blocks.{IsShort}
 use Rattle.machine.specs.Runners.{IsRunning, IsClear, away}
 use Rattle.machine.specs.Starts.{IsNew}
 use Rattle.mesh.specs.Deeds.{commits_of, created}
@@ -110,6 +111,7 @@ module _ {C A L : Type 0} where
         alone = ap (λ (s : SeatView). s.joined) seat;
         runs = runs;
         blocks = [];
+        short = All-nil (IsShort g);
         noted = λ on. subst (λ (n : Noted). Logs n []) (sym new.notes) notes_nothing;
         unlogged = new.log;
         ran = record {

@@ -4,7 +4,7 @@ use Rattle.std.proofs.Common.{◌⊎◌, inl, inr, Bool, true, false, take, refl
 use Rattle.std.specs.Prelude.{All, IsPermutation, flat_map, min, Vec, if◌then◌else◌}
 use Rattle.std.proofs.lemmas.Bool.{cases_lt}
 use Rattle.std.proofs.lemmas.List.{length-append, length-map, append-nil, take-append-drop}
-use Rattle.std.proofs.lemmas.List.Elements.{All-nil}
+use Rattle.std.proofs.lemmas.List.Elements.{All-nil, All-push}
 use Rattle.lemmas.proofs.Permutations.{permutation_same}
 use Rattle.tags.specs.declared.token.Token.{Token}
 use Rattle.semantics.specs.Program.{Program}
@@ -29,9 +29,10 @@ use Rattle.ordering.specs.Logs.{taken_in, made_in, counts_of, SpendsOldest, Note
 use Rattle.ordering.proofs.Logging.{ends_block}
 use Rattle.law_confluence.proofs.Orders.{at_first}
 use Rattle.rounds.proofs.Counting.{grown}
+use Rattle.machine.specs.Blocks.{turn_of, IsShort}
 use Rattle.machine.specs.Runners.{Ran, IsRunning, IsClear, HasNoReason, HasMade, NotesBlock, left_last, still_first, away, tokens_of, behind_all}
 use Rattle.machine.proofs.Tokens.{minus}
-use Rattle.machine.proofs.Flowing.{acts_take, turn_near}
+use Rattle.machine.proofs.Flowing.{acts_take, turn_near, turn_placed}
 use Rattle.machine.proofs.Steps.{Parted, acts, cut, ran_as, first_gone, minus_gone, gone_count, left_count, gone_has, gone_mine, block}
 use Rattle.machine.proofs.Steps.{ran_committed, ran_still}
 
@@ -70,7 +71,7 @@ more_logs n blocks b taken made events spent left took makes many gone stay olde
     subst (λ (c : Counts). Logs (with_block open_one c) (blocks ++ b ∷ [])) counts (ends_block open_one blocks b notes oldest)
 
 -- a lane that made its whole turn, or has no token left, has no reason to halt
-pub no_reason : (g : Setting) (turn : ℕ) (old new : Holding) → g.turn ≤ turn → IsWhole turn old new None → HasNoReason g new
+pub no_reason : (g : Setting) (turn : ℕ) (old new : Holding) → turn_of g new.part.shape.element ≡ turn → IsWhole turn old new None → HasNoReason g new
 no_reason g turn old new long (inl made) = inr (omega (arith, made, long))
 no_reason g turn old new long (inr none) = inl none
 
@@ -189,6 +190,15 @@ module _ {C A L : Type 0} (keeps_events : Bool) (g : Setting) (mesh : MeshId) (s
           more_logs (noted_in r.notes) h.blocks the_block (tokens_of r.log.events.items) left (length r.log.events.items) spent made tokens refl
           events (sym asked.0) (sym asked.1) (drop spent h.taken, oldest) (h.noted on)
 
+      -- and has no more events than a turn of the element
+      block_short : IsShort g the_block
+      block_short =
+          let took : taken_in the_block ≡ h.taken = acts_take g.program g.steps old [] h.taken new r.sent.items h.turns in
+          let many : length the_block.acts ≡ length h.taken = sym (length-map the_block.acts (λ (a : Act). a.token)) ∙ ap (λ (l : List Token). length l) took in
+          let is = h.events_are in
+          let few = h.few in
+          omega (arith, many, is, few)
+
       pub committed : (s last : Runner C A L) → s ≡ record r { seat = s.seat } → Commits gone left r.seat s.seat → r.created + made ≤ 2 ^ 40
           → NotesBlock keeps_events spent made (record s { created = s.created + made }) last → IsRunning keeps_events g mesh start last
       committed s last others commits small notes =
@@ -214,6 +224,7 @@ module _ {C A L : Type 0} (keeps_events : Bool) (g : Setting) (mesh : MeshId) (s
             alone = ap (λ (z : SeatView). z.joined) is ∙ h.alone;
             runs = subst (λ (z : Runner C A L). RunsAs g (fixed_of z.lane)) (sym others) h.runs;
             blocks = h.blocks ++ the_block ∷ [];
+            short = All-push (IsShort g) h.blocks the_block h.short block_short;
             ran = ran_as g mesh start own.element s.seat.own.element new (held_of s.lane) ds s.seat.own.deeds (left ++ unposted) s.seat.own.held
                 (beside ++ r.sent.items) (away s)
                 (ap (λ (z : SeatView). z.own.element) is) lane deeds (ap (λ (z : SeatView). z.own.held) is) same_away ran;
@@ -250,6 +261,7 @@ module _ {C A L : Type 0} (keeps_events : Bool) (g : Setting) (mesh : MeshId) (s
         alone = h.alone;
         runs = h.runs;
         blocks = h.blocks;
+        short = h.short;
         ran = ran_as g mesh start r.seat.own.element r.seat.own.element old new r.seat.own.deeds r.seat.own.deeds r.seat.own.held r.seat.own.held
             beside (away r) refl still.0 refl refl same h.ran;
         tidy = record { count = h.tidy.count; addressed = h.tidy.addressed; within = h.tidy.within; near = h.tidy.near; created = h.tidy.created; few = h.tidy.few };
@@ -279,9 +291,9 @@ module _ {C A L : Type 0} (keeps_events : Bool) (g : Setting) (mesh : MeshId) (s
       → Turns r.lane.program r.lane.steps r.lane.held r.sent.items taken lane.held sent.items
       → (IsSoundLane r.lane.program r.lane.held → IsSoundLane lane.program lane.held) → fixed_of lane ≡ fixed_of r.lane
       → before ≡ length r.lane.held.queue → events ≡ lane.held.made - r.lane.held.made → log.events.items ≡ logged keeps_events r.log.events.items
-      (by r.lane.held.part.shape.element taken) → HasMade keeps_events g mesh start (held_of r.lane) before events
-      (record r { lane = lane; sent = sent; log = log })
-  has_made lane sent log taken before events as_turns as_sound fixed before_is events_is logs =
+      (by r.lane.held.part.shape.element taken) → (turn : ℕ) → turn ≡ turn_of g r.lane.held.part.shape.element → length taken ≤ turn
+      → HasMade keeps_events g mesh start (held_of r.lane) before events (record r { lane = lane; sent = sent; log = log })
+  has_made lane sent log taken before events as_turns as_sound fixed before_is events_is logs turn turn_is few =
       let old : Holding = held_of r.lane in
       let turns = turned lane sent taken as_turns in
       let sound : IsSoundLane g.program (held_of lane) = subst (λ (p : Program). IsSoundLane p (held_of lane)) (ap (λ (f : Fixed). f.program) fixed
@@ -289,6 +301,7 @@ module _ {C A L : Type 0} (keeps_events : Bool) (g : Setting) (mesh : MeshId) (s
       let fresh : Turns g.program g.steps old [] taken (held_of lane) sent.items = subst (λ (l : List Token). Turns g.program g.steps old l taken
       (held_of lane) sent.items) clear.1 turns in
       let count : lane.held.made ≡ r.lane.held.made + length taken = grown g.program g.steps old [] taken (held_of lane) sent.items fresh in
+      let own : turn ≡ turn_of g r.seat.own.element = turn_is ∙ ap (λ (e : ℕ). turn_of g e) run.ran.placed.element in
       let all : List Token = flat_map (λ b. b.tokens) r.unposted.items in
       let less : away r ≡ r.unqueued.tokens ++ all = ap (λ (n : ℕ). r.unqueued.tokens ++ (all ++ drop n r.sent.items)) clear.2
       ∙ ap (λ (l : List Token). r.unqueued.tokens ++ (all ++ l)) clear.1 ∙ ap (λ (l : List Token). r.unqueued.tokens ++ l) (append-nil all) in
@@ -297,6 +310,7 @@ module _ {C A L : Type 0} (keeps_events : Bool) (g : Setting) (mesh : MeshId) (s
         alone = run.alone;
         runs = subst (λ (f : Fixed). RunsAs g f) (sym fixed) run.runs;
         blocks = run.blocks;
+        short = run.short;
         ran = subst (λ (l : List Token). Ran g mesh r.seat.own.element start old r.seat.own.deeds r.seat.own.held l run.blocks) less run.ran;
         noted = run.noted;
         log = logs ∙ ap (λ (l : Events). logged keeps_events l (by r.lane.held.part.shape.element taken)) run.unlogged;
@@ -313,10 +327,19 @@ module _ {C A L : Type 0} (keeps_events : Bool) (g : Setting) (mesh : MeshId) (s
         sound = sound;
         before_is = before_is;
         events_are = omega (arith, count, events_is);
+        few = omega (arith, count, events_is, own, few);
         unbundled = clear.2;
       }
 
-  pub more_made : (lane : LaneView) (sent : Vec Token A) (taken : List Token) → Turns r.lane.program r.lane.steps r.lane.held r.sent.items taken
-      lane.held sent.items → r.lane.held.made ≤ lane.held.made
-  more_made lane sent taken as_turns = let turns = turned lane sent taken as_turns in let count : lane.held.made
-      ≡ r.lane.held.made + length taken = grown g.program g.steps (held_of r.lane) r.sent.items taken (held_of lane) sent.items turns in omega (arith, count)
+  -- it has made as many events more as it took tokens
+  pub made_more : (lane : LaneView) (sent : Vec Token A) (taken : List Token) → Turns r.lane.program r.lane.steps r.lane.held r.sent.items taken
+      lane.held sent.items → lane.held.made ≡ r.lane.held.made + length taken
+  made_more lane sent taken as_turns = grown g.program g.steps (held_of r.lane) r.sent.items taken (held_of lane) sent.items (turned lane sent taken as_turns)
+
+  -- and is the same element's
+  pub same_element : (lane : LaneView) (sent : Vec Token A) (taken : List Token) → Turns r.lane.program r.lane.steps r.lane.held r.sent.items taken
+      lane.held sent.items → lane.held.part.shape.element ≡ r.lane.held.part.shape.element
+  same_element lane sent taken as_turns =
+      let placed = turn_placed g r.seat.own.element (held_of r.lane) r.sent.items taken (held_of lane) sent.items run.ran.placed
+      (turned lane sent taken as_turns) in
+      placed.element ∙ sym run.ran.placed.element

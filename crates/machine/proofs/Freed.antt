@@ -288,6 +288,7 @@ module _ {C A L : Type 0} where
       own_said r (Departure.Halted halt) none is = is
       own_said r Departure.Rested none is = is.1
       own_said r Departure.Stopped none is = is
+      own_said r Departure.Waited none is = inl is
 
       own_reason : (e : ℕ) (h : Holding) (reason : Option Halt) → slice_get (lanes_in news) e ≡ Some h → slice_get (reasons_of (departures_in news)) e
           ≡ Some reason → IsOwn g may_stop h reason

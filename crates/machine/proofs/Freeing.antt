@@ -19,6 +19,7 @@ named Departure.Lost halt e = absurd (let no : ⊥ = cc in no)
 named (Departure.Halted h) halt e = let same : h ≡ halt = cc in ap (λ (x : Halt). Departure.Halted x) same
 named Departure.Rested halt e = absurd (let no : ⊥ = cc in no)
 named Departure.Stopped halt e = absurd (let no : ⊥ = cc in no)
+named Departure.Waited halt e = absurd (let no : ⊥ = cc in no)
 
 -- the element that has this reason halted for it
 pub halted_at : (ls : List Departure) (e : ℕ) (halt : Halt) → slice_get (reasons_of ls) e ≡ Some (Some halt) → slice_get ls e ≡ Some (Departure.Halted halt)
@@ -37,6 +38,7 @@ unhalted Departure.Lost none = refl
 unhalted (Departure.Halted h) none = absurd (none h refl)
 unhalted Departure.Rested none = refl
 unhalted Departure.Stopped none = refl
+unhalted Departure.Waited none = refl
 
 module _ {C A L : Type 0} where
   -- why the runner at this place left

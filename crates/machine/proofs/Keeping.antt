@@ -62,6 +62,7 @@ module _ {C A L : Type 0} (keeps_events : Bool) (g : Setting) (mesh : MeshId) wh
     alone = r.alone;
     runs = r.runs;
     blocks = r.blocks;
+    short = r.short;
     ran = r.ran;
     noted = r.noted;
     unlogged = r.unlogged;
@@ -75,6 +76,7 @@ module _ {C A L : Type 0} (keeps_events : Bool) (g : Setting) (mesh : MeshId) wh
     alone = r.alone;
     runs = r.runs;
     blocks = r.blocks;
+    short = r.short;
     ran = r.ran;
     noted = r.noted;
     unlogged = r.unlogged;
@@ -88,6 +90,7 @@ module _ {C A L : Type 0} (keeps_events : Bool) (g : Setting) (mesh : MeshId) wh
     alone = r.alone;
     runs = r.runs;
     blocks = r.blocks;
+    short = r.short;
     ran = r.ran;
     noted = r.noted;
     unlogged = r.unlogged;
@@ -104,6 +107,7 @@ module _ {C A L : Type 0} (keeps_events : Bool) (g : Setting) (mesh : MeshId) wh
         alone = ap (λ (z : SeatView). z.joined) is ∙ r.alone;
         runs = r.runs;
         blocks = r.blocks;
+        short = r.short;
         noted = r.noted;
         unlogged = r.unlogged;
         ran = ran_as g mesh start own.element s.own.element (held_of old.lane) (held_of old.lane) (own.deeds ++ d ∷ []) s.own.deeds own.held
@@ -131,6 +135,7 @@ module _ {C A L : Type 0} (keeps_events : Bool) (g : Setting) (mesh : MeshId) wh
         alone = ap (λ (z : SeatView). z.joined) is ∙ r.alone;
         runs = r.runs;
         blocks = r.blocks;
+        short = r.short;
         noted = r.noted;
         unlogged = r.unlogged;
         ran = ran_as g mesh start own.element s.own.element (held_of old.lane) (held_of old.lane) (own.deeds ++ d ∷ []) s.own.deeds own.held
@@ -160,6 +165,7 @@ module _ {C A L : Type 0} (keeps_events : Bool) (g : Setting) (mesh : MeshId) wh
         alone = ap (λ (z : SeatView). z.joined) whole ∙ r.alone;
         runs = subst (λ (f : Fixed). RunsAs g f) (sym received.fixed) r.runs;
         blocks = r.blocks;
+        short = r.short;
         noted = subst (λ (z : Runner C A L). keeps_events ≡ true → Logs (noted_in z.notes) r.blocks) (sym received.others) r.noted;
         unlogged = ap (λ (z : Runner C A L). z.log.events.items) received.others ∙ r.unlogged;
         ran = ran_as g mesh start own.element new.seat.own.element (with_queue (held_of old.lane) ((held_of old.lane).queue ++ x)) (held_of new.lane)
@@ -191,6 +197,7 @@ module _ {C A L : Type 0} (keeps_events : Bool) (g : Setting) (mesh : MeshId) wh
         alone = ap (λ (z : SeatView). z.joined) is ∙ r.alone;
         runs = subst (λ (l : LaneView). RunsAs g (fixed_of l)) (sym same) r.runs;
         blocks = r.blocks;
+        short = r.short;
         noted = r.noted;
         unlogged = r.unlogged;
         ran = ran_as g mesh start own.element s.own.element (held_of old.lane) (held_of lane) (own.deeds ++ Took from x.tokens ∷ []) s.own.deeds
@@ -235,6 +242,7 @@ module _ {C A L : Type 0} (keeps_events : Bool) (g : Setting) (mesh : MeshId) wh
         alone = r.alone;
         runs = r.runs;
         blocks = r.blocks;
+        short = r.short;
         noted = r.noted;
         unlogged = r.unlogged;
         ran = ran_beside g mesh start old.seat.own.element (held_of old.lane) old.seat.own.deeds old.seat.own.held (away old) r.ran
@@ -269,6 +277,7 @@ module _ {C A L : Type 0} (keeps_events : Bool) (g : Setting) (mesh : MeshId) wh
         alone = r.alone;
         runs = r.runs;
         blocks = r.blocks;
+        short = r.short;
         noted = r.noted;
         unlogged = r.unlogged;
         ran = ran_beside g mesh start old.seat.own.element (held_of old.lane) old.seat.own.deeds old.seat.own.held (away old) r.ran
@@ -287,6 +296,7 @@ module _ {C A L : Type 0} (keeps_events : Bool) (g : Setting) (mesh : MeshId) wh
         alone = r.alone;
         runs = r.runs;
         blocks = r.blocks;
+        short = r.short;
         noted = r.noted;
         unlogged = r.unlogged;
         ran = ran_beside g mesh start old.seat.own.element (held_of old.lane) old.seat.own.deeds old.seat.own.held (away old) r.ran
@@ -442,6 +452,7 @@ module _ where
           alone = ap (λ (z : SeatView). z.joined) whole ∙ r.alone;
           runs = r.runs;
           blocks = r.blocks;
+          short = r.short;
           noted = r.noted;
           unlogged = r.unlogged;
           ran = ran_as g mesh start own.element s.own.element (held_of old.lane) (held_of old.lane) (own.deeds ++ Posted i x.tokens ∷ []) s.own.deeds
@@ -492,15 +503,36 @@ module _ {C A L : Type 0} (keeps_events : Bool) (g : Setting) (mesh : MeshId) (m
     subst (λ (h : Holding). HasNoReason g h) (sym lane) is.1,
   )
   left_as old new Departure.Stopped lane at last is = subst (λ (h : Holding). HasNoReason g h) (sym lane) is
+  left_as old new Departure.Waited lane at last is = ap (λ (h : Holding). h.queue) lane ∙ is
 
   -- it left, and then called for a stop if it had to
   pub ended : (old mid new : Runner C A L) (departure : Departure) → StaysAt old mid → (departure ≢ Departure.Lost → Keeps keeps_events g mesh old mid)
       → IsDeparture g may_stop mid departure
       → StaysAt (record mid { departure = departure }) new → Keeps keeps_events g mesh (record mid { departure = departure }) new → held_of new.lane
-      ≡ held_of mid.lane → new.seat.own.last ≡ mid.seat.own.last → new.departure ≡ departure → Ended keeps_events g mesh may_stop old new
-  ended old mid new departure first keeps is second again lane last same = record {
+      ≡ held_of mid.lane → new.seat.own.last ≡ mid.seat.own.last → new.departure ≡ departure → (departure ≡ Departure.Waited → IsClear new)
+      → Ended keeps_events g mesh may_stop old new
+  ended old mid new departure first keeps is second again lane last same clear = record {
     stays = (second.0 ∙ first.0, second.1 ∙ first.1, second.2 ∙ first.2);
     keeps = λ ne. keeps_twice keeps_events g mesh old mid new (keeps (λ (e : departure ≡ Departure.Lost). ne (same ∙ e)))
         (keeps_twice keeps_events g mesh mid (record mid { departure = departure }) new (keeps_leaving keeps_events g mesh mid departure) again);
     departure = subst (λ (l : Departure). IsDeparture g may_stop new l) (sym same) (left_as mid new departure lane second.0 last is);
+    clear = λ w. clear (sym same ∙ w);
   }
+
+  -- it waited in vain, and went on
+  pub ended_twice : (old mid new : Runner C A L) → mid.departure ≡ Departure.Waited → Ended keeps_events g mesh may_stop old mid
+      → Ended keeps_events g mesh may_stop mid new → Ended keeps_events g mesh may_stop old new
+  ended_twice old mid new waited one two = record {
+    stays = (two.stays.0 ∙ one.stays.0, two.stays.1 ∙ one.stays.1, two.stays.2 ∙ one.stays.2);
+    keeps = λ ne. keeps_twice keeps_events g mesh old mid new (one.keeps (λ (e : mid.departure ≡ Departure.Lost). let no : ⊥ = cc in no)) (two.keeps ne);
+    departure = two.departure;
+    clear = two.clear;
+  }
+
+  -- one that waited in vain runs still, and is clear
+  pub waits_ready : (old mid : Runner C A L) → Runs keeps_events g mesh old → mid.departure ≡ Departure.Waited → Ended keeps_events g mesh may_stop old mid
+      → Runs keeps_events g mesh mid × IsClear mid
+  waits_ready old mid runs waited one = (
+    runs_on keeps_events g mesh old mid runs (one.keeps (λ (e : mid.departure ≡ Departure.Lost). let no : ⊥ = cc in no)),
+    one.clear waited,
+  )

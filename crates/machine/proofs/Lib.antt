@@ -9,3 +9,4 @@ pub mod Freeing
 pub mod Freed
 pub mod Keeping
 pub mod Committing
+pub mod Passes

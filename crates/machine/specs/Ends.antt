@@ -21,17 +21,18 @@ reason_of (Departure.Halted halt) = Some halt
 reason_of Departure.Lost = None
 reason_of Departure.Rested = None
 reason_of Departure.Stopped = None
+reason_of Departure.Waited = None
 
 abbrev pub reasons_of : List Departure → List (Option Halt)
 reasons_of departures = map reason_of departures
 
--- The reason is true of what the element held when it left. An element without one had no token left, or has made as many events as a
--- turn has: so one that has tokens, and has made fewer, has a reason.
+-- The reason is true of what the element held when it left. An element without one had no token left, or has made as many events as its
+-- turns have: so one that has tokens, and has made fewer, has a reason.
 abbrev pub IsOwn : Setting → Bool → Holding → Option Halt → Type 0
 IsOwn g may_stop h (Some halt) = HaltsLane g.program g.steps may_stop h (Some halt)
 IsOwn g may_stop h None = HasNoReason g h
 
--- THE END OF A FREE RUN. Each element ran in its own thread until it halted for a reason of its own, until another called for a stop, or until
+-- THE END OF A FREE RUN. Each element ran until it halted for a reason of its own, until another called for a stop, or until
 -- no token was live. Of those that halted, the one of least number says why the run ends; where none did, no token is left.
 pub record EndsFreely (g : Setting) (inputs : List ℤ) (may_stop : Bool) (r : Report) : Type 0 where
   -- what each element held when it left, by its number, and the tokens that were on their way to others

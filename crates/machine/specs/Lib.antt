@@ -1,4 +1,5 @@
 pub mod Bundles
+pub mod Blocks
 pub mod Runners
 pub mod Ends
 pub mod Starts

@@ -19,6 +19,7 @@ use Rattle.semantics.specs.Machine.{Events}
 use Rattle.law_linearization.specs.History.{Block, Blocks, bounds_of, commit_of, count_acts}
 use Rattle.law_linearization.specs.HistoryLaws.{IsBalanced}
 use Rattle.machine.specs.Bundles.{BundleView}
+use Rattle.machine.specs.Blocks.{turn_of, IsShort}
 use Rattle.machine.specs.declared.runner.Departure.{Departure}
 use Rattle.machine.specs.declared.runner.Runner.{Runner}
 
@@ -54,6 +55,8 @@ pub record IsRunning {C A L : Type 0} (keeps_events : Bool) (g : Setting) (mesh 
   pub runs : RunsAs g (fixed_of r.lane)
   pub blocks : List Block
   pub ran : Ran g mesh r.seat.own.element start (held_of r.lane) r.seat.own.deeds r.seat.own.held (away r) blocks
+  -- each block has no more events than a turn of the element
+  pub short : All (IsShort g) blocks
   pub tidy : IsTidy g r
   -- where events are listed it has noted its blocks
   pub noted : keeps_events ≡ true → Logs (noted_in r.notes) blocks
@@ -82,9 +85,9 @@ pub record Receives {C A L : Type 0} (g : Setting) (old : Runner C A L) (tokens 
 abbrev pub StaysAt : {C A L : Type 0} → Runner C A L → Runner C A L → Type 0
 StaysAt old new = (new.seat.mesh ≡ old.seat.mesh) × (new.seat.joined ≡ old.seat.joined) × (new.seat.own.element ≡ old.seat.own.element)
 
--- it had no token left, or has made as many events as a turn has
+-- it had no token left, or has made as many events as its turns have
 abbrev pub HasNoReason : Setting → Holding → Type 0
-HasNoReason g h = (h.queue ≡ []) ⊎ (g.turn ≤ h.made)
+HasNoReason g h = (h.queue ≡ []) ⊎ (turn_of g h.part.shape.element ≤ h.made)
 
 -- why it left; `may_stop`: the gate may answer false
 abbrev pub IsDeparture : {C A L : Type 0} → Setting → Bool → Runner C A L → Departure → Type 0
@@ -92,12 +95,15 @@ IsDeparture g may_stop r Departure.Lost = ⊤
 IsDeparture g may_stop r (Departure.Halted halt) = HaltsLane g.program g.steps may_stop (held_of r.lane) (Some halt)
 IsDeparture g may_stop r Departure.Rested = Leaves r.seat.mesh r.seat.own.last 0 × HasNoReason g (held_of r.lane)
 IsDeparture g may_stop r Departure.Stopped = HasNoReason g (held_of r.lane)
+IsDeparture g may_stop r Departure.Waited = (held_of r.lane).queue ≡ []
 
 -- what is known of an element that has run
 pub record Ended {C A L : Type 0} (keeps_events : Bool) (g : Setting) (mesh : MeshId) (may_stop : Bool) (old new : Runner C A L) : Type 0 where
   pub stays : StaysAt old new
   pub keeps : new.departure ≢ Departure.Lost → Keeps keeps_events g mesh old new
   pub departure : IsDeparture g may_stop new new.departure
+  -- one that waited in vain may go on
+  pub clear : new.departure ≡ Departure.Waited → IsClear new
 
 -- The lane has taken tokens since it was `old`, an event each, and the block that they make has no commit yet. The queue had
 -- `before` tokens before, and `events` events were made.
@@ -109,6 +115,7 @@ pub record HasMade {C A L : Type 0} (keeps_events : Bool) (g : Setting) (mesh : 
   pub runs : RunsAs g (fixed_of r.lane)
   pub blocks : List Block
   pub ran : Ran g mesh r.seat.own.element start old r.seat.own.deeds r.seat.own.held (r.unqueued.tokens ++ flat_map (λ b. b.tokens) r.unposted.items) blocks
+  pub short : All (IsShort g) blocks
   pub tidy : IsTidy g r
   pub noted : keeps_events ≡ true → Logs (noted_in r.notes) blocks
   pub taken : List Token
@@ -116,6 +123,8 @@ pub record HasMade {C A L : Type 0} (keeps_events : Bool) (g : Setting) (mesh : 
   pub sound : IsSoundLane g.program (held_of r.lane)
   pub before_is : before ≡ length old.queue
   pub events_are : events ≡ length taken
+  -- no more than a turn of the element has
+  pub few : events ≤ turn_of g r.seat.own.element
   pub unbundled : r.bundled ≡ 0
   pub log : r.log.events.items ≡ logged keeps_events [] (by old.part.shape.element taken)
 

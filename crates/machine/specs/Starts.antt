@@ -84,6 +84,10 @@ IsHaltOf departures halt =
     × (IsFirst (reasons_of departures) halt
     ⊎ (((e : ℕ) × (slice_get departures e ≡ Some Departure.Rested)) × NoneHalts (reasons_of departures) × (halt ≡ Halt.NoToken)))
 
+-- all wait in vain
+abbrev pub AllWait : {C A L : Type 0} → List (CachePadded (Runner C A L)) → Type 0
+AllWait ps = All (λ p. (padded_value p).departure ≡ Departure.Waited) ps
+
 -- all have run
 abbrev pub AllEnded : {C A L : Type 0} → Bool → Setting → MeshId → Bool → List (CachePadded (Runner C A L)) → List (CachePadded (Runner C A L)) → Type 0
 AllEnded keeps_events g mesh may_stop olds news = (i : ℕ) (d : _) → i < length olds

@@ -1,6 +1,6 @@
 //! An element makes a block of events, and commits it.
 
-ghost use Rattle.std.specs.Prelude.{◌≡◌, ◌≢◌, ◌⊎◌, ◌*◌, min, ◌<◌, ◌≤◌, ◌+◌, ◌^◌, ◌++◌, ◌-◌, [], drop, length, None, false, OnOk, IfOk};
+ghost use Rattle.std.specs.Prelude.{◌≡◌, ◌<◌, ◌≤◌, ◌+◌, ◌^◌, ◌++◌, ◌-◌, [], drop, length, None, false, OnOk, IfOk};
 ghost use Rattle.element.specs.Holding.{Holding, held_of};
 ghost use Rattle.schedule.specs.State.{setting_in};
 ghost use Rattle.schedule.specs.Setting.{IsGoodSetting};
@@ -8,11 +8,12 @@ ghost use Rattle.mesh.specs.Deeds.{created};
 ghost use Rattle.mesh.specs.Seats.{AllTo, Has, Commits};
 ghost use Rattle.rounds.specs.Turns.{HaltsLane};
 ghost use Rattle.ordering.specs.Noted.{noted_in, with_block};
+ghost use Rattle.machine.specs.Blocks.{turn_of};
 ghost use Rattle.machine.specs.Runners.{IsRunning, Runs, Keeps, IsClear, StaysAt, HasNoReason, HasMade, NotesBlock, tokens_of};
 
 use crate::bundle::NearMesh;
 use crate::runner::{Lost, Runner};
-use crate::turns::LOOK;
+use crate::turn_length::turn_of;
 use element::instructions::Instructions;
 use mesh::Ask;
 use ordering::log::{BlockLog, Counts};
@@ -29,9 +30,6 @@ use token_queue::queue::TokenQueue;
 
 // How many tokens the commits of an element may make.
 const MOST: u64 = 1 << 40;
-
-// How many times longer turns are on the elements that are not asked for frames.
-const LONGER: u64 = 8;
 
 // The commit of a block, by the numbers of tokens that it spent and made.
 fn commit_counts<J: Ask, C: Instructions, A: Allocator, L: Log>(
@@ -176,20 +174,6 @@ fn commit<C: MainCode, A: Allocator, L: Log>(
     }
 }
 
-// How many events the element makes in a turn at most: no fewer than a turn has. Others ask element 0 for frames, and wait for them, so
-// its turns are the shortest; but where turns are shorter than what lies between two looks at the mailboxes, all are alike.
-fn turn_of<C: MainCode>(shape: &Shape<'_, C>, element: u32) -> u64
-    ensures enough { shape.now.turn ≤ result }
-    ensures alike { (shape.now.turn < 128) ⊎ ((element ≡ 0) × (1 < shape.now.elements)) → result ≡ shape.now.turn }
-    ensures longer { 128 ≤ shape.now.turn → (element ≢ 0) ⊎ (shape.now.elements ≤ 1) → result ≡ min (8 * shape.now.turn) (2 ^ 64 - 1) }
-{
-    let is_asked = element == 0 && shape.elements > 1;
-    if is_asked || shape.turn < LOOK {
-        return shape.turn;
-    }
-    shape.turn.saturating_mul(LONGER)
-}
-
 // Makes a turn of events, oldest token first, and commits them.
 fn make_events<C: MainCode, A: Allocator + Clone, L: Log>(
     runner: &mut Runner<'_, C, A, L>,
@@ -204,6 +188,8 @@ fn make_events<C: MainCode, A: Allocator + Clone, L: Log>(
     ensures halts { IfOk result (λ halt. HaltsLane (C.program shape.now.code.now) shape.now.steps false (held_of runner.new.lane) halt) }
     ensures whole { IfOk result (λ halt. halt ≡ None → HasNoReason (setting_in C.program C.width shape.now) (held_of runner.new.lane)) }
     ensures unbundled { (runner.new.unqueued.tokens ≡ []) × (runner.new.bundled ≡ 0) }
+    ensures few { runner.new.lane.held.made ≤ runner.old.lane.held.made + turn_of (setting_in C.program C.width shape.now)
+        runner.old.lane.held.part.shape.element }
 {
     let before = runner.lane.queue().len() as u64;
     let first = runner.lane.made();
@@ -235,6 +221,8 @@ pub fn make_block<C: MainCode, A: Allocator + Clone, L: Log, G: Gate>(
     ensures halts { IfOk result (λ halt. HaltsLane (C.program shape.now.code.now) shape.now.steps G.may_stop (held_of runner.new.lane) halt) }
     ensures whole { IfOk result (λ halt. halt ≡ None → HasNoReason (setting_in C.program C.width shape.now) (held_of runner.new.lane)) }
     ensures unbundled { (runner.new.unqueued.tokens ≡ []) × (runner.new.bundled ≡ 0) }
+    ensures few { runner.new.lane.held.made ≤ runner.old.lane.held.made + turn_of (setting_in C.program C.width shape.now)
+        runner.old.lane.held.part.shape.element }
 {
     if runner.lane.queue().len() == 0 {
         return Ok(None);

@@ -18,8 +18,9 @@ ghost use Rattle.machine.specs.declared.runner.Departure.{Departure};
 ghost use Rattle.machine.specs.Bundles.{bounds_within};
 ghost use Rattle.machine.specs.Runners.{Runs, IsClear, Ended};
 ghost use Rattle.machine.specs.Ends.{reasons_of, EndsFreely, EndsOn};
-ghost use Rattle.machine.specs.Starts.{IsNew, Lists, lanes_in, lanes_fixed, seats_in, departures_in, IsHaltOf, AllEnded};
+ghost use Rattle.machine.specs.Starts.{IsNew, Lists, lanes_in, lanes_fixed, seats_in, departures_in, IsHaltOf, AllWait, AllEnded};
 
+use crate::attendance::Attendance;
 use crate::bundle::{NearMesh, NearSeat, Reach};
 use crate::runner::{Departure, Runner};
 use crate::starting::{parts_in, runners_of, tokens_of};
@@ -44,8 +45,67 @@ use std::thread;
 use std::thread::Threads;
 use tags::token::Token;
 
-// All elements run, each in a thread of its own.
+// All elements run. In the first pass they begin, each in a thread of its own; in another one this thread runs one after the other.
 fn run_each<
+    R: Threads + Wait + Sync,
+    C: MainCode + Sync,
+    A: Allocator + Clone + Send + Sync,
+    L: Log + Send,
+    G: Gate + Sync,
+>(
+    rt: &R,
+    runners: &mut [CachePadded<Runner<'_, C, A, L>>],
+    mesh: &NearMesh<A>,
+    shape: &Shape<'_, C>,
+    gate: &G,
+    attendance: &Attendance,
+    is_first: bool,
+)
+    requires some { 0 < length runners.old }
+    requires good { IsGoodSetting (setting_in C.program C.width shape.now) }
+    requires ready { All (λ p. Runs L.KEEPS_EVENTS (setting_in C.program C.width shape.now) mesh.now (padded_value p) × IsClear (padded_value p)) runners.old }
+    ensures each { AllEnded L.KEEPS_EVENTS (setting_in C.program C.width shape.now) mesh.now G.may_stop runners.old runners.new }
+    ensures count { length runners.new ≡ length runners.old }
+{
+    let threads = if is_first { runners.len() } else { 1 };
+    thread::for_each_mut(
+        rt,
+        runners,
+        threads,
+        &|_: usize, padded: &mut CachePadded<Runner<'_, C, A, L>>| -> ()
+            requires { IsGoodSetting (setting_in C.program C.width shape.now) × Runs L.KEEPS_EVENTS (setting_in C.program C.width shape.now) mesh.now
+                (padded_value padded.old) × IsClear (padded_value padded.old) }
+            ensures { Ended L.KEEPS_EVENTS (setting_in C.program C.width shape.entry.now) mesh.entry.now G.may_stop (padded_value padded.old)
+                (padded_value padded.new) }
+        {
+            let runner: &mut Runner<'_, C, A, L> = padded;
+            if is_first {
+                turns::begin(runner, gate, attendance);
+            }
+            turns::run(rt, runner, mesh, shape, gate, attendance);
+        },
+    );
+}
+
+// Whether all elements have waited in vain.
+fn all_wait<C: Instructions, A: Allocator, L: Log>(
+    runners: &[CachePadded<Runner<'_, C, A, L>>],
+) -> bool
+    ensures { result ≡ true → AllWait runners.now }
+{
+    for at in 0..runners.len() {
+        let runner: &Runner<'_, C, A, L> = &runners[at];
+        let Departure::Waited = runner.departure else {
+            return false;
+        };
+    }
+    true
+}
+
+// All elements run until one of them halts or is lost, or sees that no token is live. Where some threads could not be started the others
+// wait for them in vain. Then no element has a token that it could take, but there are tokens in mailboxes or bundles: so in each pass after the
+// first one an element goes on, until it has none.
+fn run_passes<
     R: Threads + Wait + Sync,
     C: MainCode + Sync,
     A: Allocator + Clone + Send + Sync,
@@ -64,21 +124,14 @@ fn run_each<
     ensures each { AllEnded L.KEEPS_EVENTS (setting_in C.program C.width shape.now) mesh.now G.may_stop runners.old runners.new }
     ensures count { length runners.new ≡ length runners.old }
 {
-    let threads = runners.len();
-    thread::for_each_mut(
-        rt,
-        runners,
-        threads,
-        &|_: usize, padded: &mut CachePadded<Runner<'_, C, A, L>>| -> ()
-            requires { IsGoodSetting (setting_in C.program C.width shape.now) × Runs L.KEEPS_EVENTS (setting_in C.program C.width shape.now) mesh.now
-                (padded_value padded.old) × IsClear (padded_value padded.old) }
-            ensures { Ended L.KEEPS_EVENTS (setting_in C.program C.width shape.entry.now) mesh.entry.now G.may_stop (padded_value padded.old)
-                (padded_value padded.new) }
-        {
-            let runner: &mut Runner<'_, C, A, L> = padded;
-            turns::run(rt, runner, mesh, shape, gate);
-        },
-    );
+    let attendance = Attendance::new();
+    run_each(rt, runners, mesh, shape, gate, &attendance, true);
+    'passes: for _pass in 0..u64::MAX {
+        if !all_wait(runners) {
+            return;
+        }
+        run_each(rt, runners, mesh, shape, gate, &attendance, false);
+    }
 }
 
 // All elements run.
@@ -102,7 +155,7 @@ fn run_all<
     ensures each { AllEnded L.KEEPS_EVENTS (setting_in C.program C.width shape.now) mesh.now G.may_stop runners.old.items runners.new.items }
     ensures count { length runners.new.items ≡ length runners.old.items }
 {
-    run_each(rt, runners, mesh, shape, gate);
+    run_passes(rt, runners, mesh, shape, gate);
 }
 
 // Whether an element is lost.
@@ -308,9 +361,10 @@ fn run_machine<
 
 /// Lets all elements run freely until the run halts, and reports. Each element runs in a thread of its own from the first event to the last: it enters the gate
 /// once, and then repeatedly takes what others posted to it, asks the gate, makes a block of events with its oldest tokens, commits it, and posts what it made for
-/// others. A block of element 0, which others ask for frames, has up to `turn` events; one of another element, or of an element that is alone, has up to eight
-/// times as many where `turn` is 128 or more. Where several elements halt, the one of least number says why the run does. The events are listed block by block,
-/// in a legal order.
+/// others. A block has up to `turn` events; one of element 0, which others ask for frames, up to an eighth of them, where there are others and `turn` is 128 or
+/// more. Where several elements halt, the one of least number says why the run does. The events are listed block by block, in a legal order. Where threads could not
+/// be started, elements that have no token do not wait for those that have not begun: they leave, and then this thread runs all elements, one after the other,
+/// again and again.
 pub fn run<
     R: Threads + Wait + Sync,
     C: MainCode + Sync,

@@ -25,6 +25,8 @@ pub enum Departure {
     Rested,
     /// Another element called for a stop.
     Stopped,
+    /// It has no token, and others have not begun: it waited for them in vain.
+    Waited,
 }
 
 /// A lane with its seat, and the tokens that it holds outside its queue.

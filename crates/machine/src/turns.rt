@@ -1,6 +1,6 @@
 //! The turns of an element, until it leaves.
 
-ghost use Rattle.std.specs.Prelude.{◌≡◌, ◌≢◌, [], Bool, None, OnOk, IfOk, IfSome, IfNone};
+ghost use Rattle.std.specs.Prelude.{◌≡◌, ◌≢◌, [], Bool, None, Some, OnOk, IfOk, IfSome, IfNone};
 ghost use Rattle.element.specs.Holding.{held_of};
 ghost use Rattle.schedule.specs.State.{setting_in};
 ghost use Rattle.schedule.specs.Setting.{IsGoodSetting};
@@ -9,11 +9,13 @@ ghost use Rattle.schedule.specs.declared.halt.Halt.{Halt};
 ghost use Rattle.machine.specs.declared.runner.Departure.{Departure};
 ghost use Rattle.machine.specs.Runners.{Runs, Keeps, IsClear, StaysAt, HasNoReason, IsDeparture, Ended};
 
+use crate::attendance::Attendance;
 use crate::blocks::make_block;
 use crate::bundle::NearMesh;
 use crate::bundling::{fill_bundles, offer_all};
 use crate::runner::{Departure, Lost, Runner};
 use crate::taking::take_all;
+use crate::turn_length::{LOOK, turn_of};
 use rounds::Gate;
 use schedule::halt::Halt;
 use schedule::log::Log;
@@ -22,10 +24,6 @@ use schedule::shape::Shape;
 use std::alloc::{AllocError, Allocator};
 use std::sync::Wait;
 use std::thread;
-
-/// How many events an element that has enough tokens makes between two looks at the mailboxes: those in which it takes what
-/// others posted, and those in which it posts what it has for others.
-pub const LOOK: u64 = 128;
 
 // Whether the element has tokens for a whole turn, and looked at the mailboxes a short while ago, or has nobody who would post any.
 fn is_busy<C: MainCode, A: Allocator, L: Log>(
@@ -37,8 +35,9 @@ fn is_busy<C: MainCode, A: Allocator, L: Log>(
     if shape.elements == 1 {
         return true;
     }
-    let every = LOOK / shape.turn;
-    every > 1 && runner.blocks % every != 0 && runner.lane.queue().len() as u64 >= shape.turn
+    let turn = turn_of(shape, runner.lane.element());
+    let every = LOOK / turn;
+    every > 1 && runner.blocks % every != 0 && runner.lane.queue().len() as u64 >= turn
 }
 
 // Takes what others posted, if it is time to look.
@@ -117,16 +116,14 @@ fn look<C: MainCode, A: Allocator, L: Log>(
     ensures keeps { Keeps L.KEEPS_EVENTS (setting_in C.program C.width shape.now) mesh.now runner.old runner.new }
     ensures departure { IfSome result (λ departure. (may_stop : Bool) → IsDeparture (setting_in C.program C.width shape.now) may_stop runner.new departure) }
     ensures clear { IsClear runner.new }
+    ensures waits { result ≢ Some Departure.Waited }
 {
     let _ = shape;
     if mesh.stopped(&mut runner.seat) != 0 {
         return Some(Departure::Stopped);
     }
-    if runner.lane.queue().len() == 0 {
-        if mesh.live(&mut runner.seat) == 0 {
-            return Some(Departure::Rested);
-        }
-        thread::yield_now();
+    if runner.lane.queue().len() == 0 && mesh.live(&mut runner.seat) == 0 {
+        return Some(Departure::Rested);
     }
     None
 }
@@ -145,6 +142,7 @@ fn turn<C: MainCode, A: Allocator + Clone, L: Log, G: Gate>(
     ensures keeps { OnOk result (Keeps L.KEEPS_EVENTS (setting_in C.program C.width shape.now) mesh.now runner.old runner.new) }
     ensures departure { IfOk result (λ departure. IfSome departure (IsDeparture (setting_in C.program C.width shape.now) G.may_stop runner.new)) }
     ensures clear { IfOk result (λ departure. departure ≡ None → IsClear runner.new) }
+    ensures waits { IfOk result (λ departure. departure ≢ Some Departure.Waited) }
 {
     if let Some(halt) = work(runner, mesh, shape, gate)? {
         return Ok(Some(Departure::Halted(halt)));
@@ -155,6 +153,16 @@ fn turn<C: MainCode, A: Allocator + Clone, L: Log, G: Gate>(
     }
 }
 
+// Whether an element that has no token waits for one, which it has done this often.
+fn may_wait(attendance: &Attendance, elements: u32, looks: &mut u64) -> bool {
+    if !attendance.may_wait(elements, *looks) {
+        return false;
+    }
+    *looks = looks.wrapping_add(1);
+    thread::yield_now();
+    true
+}
+
 // Turns until the element leaves.
 fn go<R: Wait, C: MainCode, A: Allocator + Clone, L: Log, G: Gate>(
     rt: &R,
@@ -162,6 +170,7 @@ fn go<R: Wait, C: MainCode, A: Allocator + Clone, L: Log, G: Gate>(
     mesh: &NearMesh<A>,
     shape: &Shape<'_, C>,
     gate: &G,
+    attendance: &Attendance,
 ) -> Result<Departure, Lost>
     requires good { IsGoodSetting (setting_in C.program C.width shape.now) }
     requires runs { Runs L.KEEPS_EVENTS (setting_in C.program C.width shape.now) mesh.now runner.old }
@@ -169,10 +178,15 @@ fn go<R: Wait, C: MainCode, A: Allocator + Clone, L: Log, G: Gate>(
     ensures stays { StaysAt runner.old runner.new }
     ensures keeps { OnOk result (Keeps L.KEEPS_EVENTS (setting_in C.program C.width shape.now) mesh.now runner.old runner.new) }
     ensures departure { IfOk result (IsDeparture (setting_in C.program C.width shape.now) G.may_stop runner.new) }
+    ensures clear { IfOk result (λ departure. departure ≡ Departure.Waited → IsClear runner.new) }
 {
+    let mut looks = 0;
     'turns: for _ in rt.forever() {
         if let Some(departure) = turn(runner, mesh, shape, gate)? {
             return Ok(departure);
+        }
+        if runner.lane.queue().len() == 0 && !may_wait(attendance, shape.elements, &mut looks) {
+            return Ok(Departure::Waited);
         }
     }
     unreachable!()
@@ -189,13 +203,14 @@ fn call_stop<C: MainCode, A: Allocator, L: Log>(
     ensures keeps { Keeps L.KEEPS_EVENTS (setting_in C.program C.width shape.now) mesh.now runner.old runner.new }
     ensures lane { held_of runner.new.lane ≡ held_of runner.old.lane }
     ensures last { (runner.new.seat.own.last ≡ runner.old.seat.own.last) × (runner.new.departure ≡ runner.old.departure) }
+    ensures clear { IsClear runner.old → IsClear runner.new }
 {
     let _ = shape;
     match runner.departure {
         Departure::Lost | Departure::Halted(_) => {
             let _set = mesh.stop(&mut runner.seat, 1);
         }
-        Departure::Rested | Departure::Stopped => {}
+        Departure::Rested | Departure::Stopped | Departure::Waited => {}
     }
 }
 
@@ -206,6 +221,7 @@ fn leave<R: Wait, C: MainCode, A: Allocator + Clone, L: Log, G: Gate>(
     mesh: &NearMesh<A>,
     shape: &Shape<'_, C>,
     gate: &G,
+    attendance: &Attendance,
 ) -> Departure
     requires good { IsGoodSetting (setting_in C.program C.width shape.now) }
     requires runs { Runs L.KEEPS_EVENTS (setting_in C.program C.width shape.now) mesh.now runner.old }
@@ -213,28 +229,39 @@ fn leave<R: Wait, C: MainCode, A: Allocator + Clone, L: Log, G: Gate>(
     ensures stays { StaysAt runner.old runner.new }
     ensures keeps { result ≢ Departure.Lost → Keeps L.KEEPS_EVENTS (setting_in C.program C.width shape.now) mesh.now runner.old runner.new }
     ensures departure { IsDeparture (setting_in C.program C.width shape.now) G.may_stop runner.new result }
+    ensures clear { result ≡ Departure.Waited → IsClear runner.new }
 {
-    match go(rt, runner, mesh, shape, gate) {
+    match go(rt, runner, mesh, shape, gate, attendance) {
         Ok(departure) => departure,
         Err(Lost) => Departure::Lost,
     }
 }
 
-/// Runs the element until no token is live, until another calls for a stop, or until it has a reason of its own to halt, and
-/// calls for a stop then.
+/// The element begins: it enters the gate.
+pub fn begin<C: MainCode, A: Allocator, L: Log, G: Gate>(
+    runner: &Runner<'_, C, A, L>,
+    gate: &G,
+    attendance: &Attendance,
+) {
+    gate.enter(runner.lane.element());
+    attendance.begin();
+}
+
+/// Runs the element until no token is live, until another calls for a stop, until it has waited in vain for others to begin, or
+/// until it has a reason of its own to halt, and calls for a stop then.
 pub fn run<R: Wait, C: MainCode, A: Allocator + Clone, L: Log, G: Gate>(
     rt: &R,
     runner: &mut Runner<'_, C, A, L>,
     mesh: &NearMesh<A>,
     shape: &Shape<'_, C>,
     gate: &G,
+    attendance: &Attendance,
 )
     requires good { IsGoodSetting (setting_in C.program C.width shape.now) }
     requires runs { Runs L.KEEPS_EVENTS (setting_in C.program C.width shape.now) mesh.now runner.old }
     requires clear { IsClear runner.old }
     ensures { Ended L.KEEPS_EVENTS (setting_in C.program C.width shape.now) mesh.now G.may_stop runner.old runner.new }
 {
-    gate.enter(runner.lane.element());
-    runner.departure = leave(rt, runner, mesh, shape, gate);
+    runner.departure = leave(rt, runner, mesh, shape, gate, attendance);
     call_stop(runner, mesh, shape);
 }
