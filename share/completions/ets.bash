@@ -3,8 +3,8 @@
 # The options of a command that take a value, and then those that take none.
 _ets_options() {
     case $1 in
-        run | exec) echo --elements --frames --steps --mode ;;
-        trace) echo --elements --frames --steps --mode --last --format ;;
+        run | exec) echo --elements --frames --steps --mode --turn ;;
+        trace) echo --elements --frames --steps --mode --turn --last --format ;;
         profile) echo --elements --frames --steps --svg ;;
         orders) echo --elements --frames --steps --count --seed ;;
         mean) echo --steps ;;
@@ -25,7 +25,7 @@ _ets_values() {
 # Whether the option takes a value.
 _ets_wants_value() {
     case $1 in
-        --elements | --frames | --steps | --mode | --last | --format | --count | --seed) return 0 ;;
+        --elements | --frames | --steps | --mode | --turn | --last | --format | --count | --seed) return 0 ;;
     esac
     return 1
 }

@@ -58,6 +58,7 @@ complete -c ets -n '__ets_takes frames run exec trace profile orders' -l frames 
 complete -c ets -n '__ets_takes steps run exec trace profile orders' -l steps -x -d 'steps that each element may make'
 complete -c ets -n '__ets_takes steps mean' -l steps -x -d 'activities at most'
 complete -c ets -n '__ets_takes mode run exec trace' -l mode -x -d 'how the elements take turns' -a 'one\t"in turn, in one thread" rounds\t"in rounds, a thread each" free\t"free, a thread each"'
+complete -c ets -n '__ets_takes turn run exec trace' -l turn -x -d 'tokens that an element takes at once, 1 to 65536'
 complete -c ets -n '__ets_takes last trace' -l last -x -d 'only the last events'
 complete -c ets -n '__ets_takes format trace' -l format -x -d 'how the trace is written' -a 'text\t"a line for each event" chrome\t"Trace Event JSON" html\t"a page that shows the run"'
 complete -c ets -n '__ets_takes svg profile' -l svg -d 'a picture in place of lines'

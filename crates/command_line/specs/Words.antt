@@ -51,6 +51,7 @@ option_named name =
     else (if bytes_eq name (codes "frames") then Some OptionName.Frames
     else (if bytes_eq name (codes "steps") then Some OptionName.Steps
     else (if bytes_eq name (codes "mode") then Some OptionName.Mode
+    else (if bytes_eq name (codes "turn") then Some OptionName.Turn
     else (if bytes_eq name (codes "literals") then Some OptionName.Literals
     else (if bytes_eq name (codes "code") then Some OptionName.Code
     else (if bytes_eq name (codes "last") then Some OptionName.Last
@@ -59,13 +60,14 @@ option_named name =
     else (if bytes_eq name (codes "seed") then Some OptionName.Seed
     else (if bytes_eq name (codes "svg") then Some OptionName.Svg
     else (if bytes_eq name (codes "map") then Some OptionName.Map
-    else None)))))))))))
+    else None))))))))))))
 
 abbrev pub says_how_to_run : OptionName → Bool
 says_how_to_run OptionName.Elements = true
 says_how_to_run OptionName.Frames = true
 says_how_to_run OptionName.Steps = true
 says_how_to_run OptionName.Mode = true
+says_how_to_run OptionName.Turn = true
 says_how_to_run o = false
 
 -- `profile` has a list of numbers of elements
@@ -106,6 +108,7 @@ run_options g = record {
   frames = unwrap_or g.frames 256;
   steps = unwrap_or g.steps 1000000;
   mode = unwrap_or g.mode (Some Mode.One);
+  turn = g.turn;
 }
 
 -- 1, 2, 4, 8 and 16 elements
@@ -199,6 +202,7 @@ with_option g OptionName.Elements value = option_map (λ n. record g { elements 
 with_option g OptionName.Frames value = option_map (λ n. record g { frames = Some n }) (first_number g.frames value)
 with_option g OptionName.Steps value = option_map (λ n. record g { steps = Some n }) (first_number g.steps value)
 with_option g OptionName.Mode value = option_map (λ m. record g { mode = Some m }) (first_mode g.mode value)
+with_option g OptionName.Turn value = option_map (λ n. record g { turn = Some n }) (first_number g.turn value)
 with_option g OptionName.Last value = option_map (λ n. record g { last = Some n }) (first_number g.last value)
 with_option g OptionName.Count value = option_map (λ n. record g { count = Some n }) (first_number g.count value)
 with_option g OptionName.Seed value = option_map (λ n. record g { seed = Some n }) (first_number g.seed value)
@@ -324,6 +328,7 @@ nothing = record {
   frames = None;
   steps = None;
   mode = None;
+  turn = None;
   literals = Literals.Omitted;
   code = false;
   last = None;

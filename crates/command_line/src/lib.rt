@@ -122,6 +122,8 @@ pub struct RunOptions {
     pub steps: u64,
     /// `None` where the mode's word is that of no mode.
     pub mode: Option<Mode>,
+    /// How many steps an element takes in one turn at most, where that was given.
+    pub turn: Option<u64>,
 }
 
 /// The commands.

@@ -18,6 +18,7 @@ pub(crate) enum OptionName {
     Frames,
     Steps,
     Mode,
+    Turn,
     /// It has no value.
     Literals,
     /// It has no value.
@@ -42,6 +43,7 @@ pub(crate) struct Collected {
     pub(crate) steps: Option<u64>,
     /// Within: `None` where the word is that of no mode.
     pub(crate) mode: Option<Option<Mode>>,
+    pub(crate) turn: Option<u64>,
     pub(crate) literals: Literals,
     pub(crate) code: bool,
     pub(crate) last: Option<u64>,
@@ -75,6 +77,7 @@ impl Collected {
             frames: None,
             steps: None,
             mode: None,
+            turn: None,
             literals: Literals::Omitted,
             code: false,
             last: None,
@@ -106,6 +109,10 @@ impl Collected {
             }),
             OptionName::Mode => Some(Collected {
                 mode: Some(first_mode(self.mode, value)?),
+                ..self
+            }),
+            OptionName::Turn => Some(Collected {
+                turn: Some(first_number(self.turn, value)?),
                 ..self
             }),
             OptionName::Last => Some(Collected {
@@ -236,6 +243,8 @@ fn option_named(name: &str) -> Option<OptionName>
         Some(OptionName::Steps)
     } else if name == "mode" {
         Some(OptionName::Mode)
+    } else if name == "turn" {
+        Some(OptionName::Turn)
     } else if name == "literals" {
         Some(OptionName::Literals)
     } else if name == "code" {
@@ -263,7 +272,11 @@ fn says_how_to_run(option: OptionName) -> bool
 {
     matches!(
         option,
-        OptionName::Elements | OptionName::Frames | OptionName::Steps | OptionName::Mode
+        OptionName::Elements
+            | OptionName::Frames
+            | OptionName::Steps
+            | OptionName::Mode
+            | OptionName::Turn
     )
 }
 
@@ -320,6 +333,7 @@ fn run_options(collected: Collected) -> RunOptions
         frames: collected.frames.unwrap_or(256),
         steps: collected.steps.unwrap_or(1_000_000),
         mode: collected.mode.unwrap_or(Some(Mode::One)),
+        turn: collected.turn,
     }
 }
 

@@ -144,13 +144,21 @@ fn with_run_options<'a>(alloc: Global, command: Command<'a>) -> Result<Command<'
         .value_name("MODE")
         .default_value("one")
         .help(
-            "one: the elements take their oldest tokens in turn; rounds: each takes up to 64 in a thread of its own; free: each runs in a thread of its own, without waiting for others",
+            "one: the elements take their oldest tokens in turn; rounds: each takes up to N of --turn in a thread of its own; free: each runs in a thread of its own, without waiting for others",
+        );
+    let turn = Arg::new(alloc, "turn")
+        .long("turn")
+        .value_name("N")
+        .value_parser(value_parser!(u64))
+        .help(
+            "tokens that an element takes at once, 1 to 65536, where it has a thread of its own; 64 if it is not given, and 2048 in the mode free",
         );
     command
         .arg(elements(alloc))?
         .arg(frames(alloc))?
         .arg(steps(alloc))?
-        .arg(mode)
+        .arg(mode)?
+        .arg(turn)
 }
 
 fn lower_command<'a>(alloc: Global) -> Result<Command<'a>, AllocError> {

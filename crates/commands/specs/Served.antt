@@ -1,5 +1,5 @@
 -- What the commands print, and with which outcomes.
-use Rattle.std.specs.Prelude.{◌≡◌, ℕ, ℤ, Bool, true, false, ◌⊎◌, List, ◌++◌, length, Option, Some, None, Result, Ok, Err, codes}
+use Rattle.std.specs.Prelude.{◌≡◌, ℕ, ℤ, Bool, true, false, ◌⊎◌, List, ◌++◌, length, Option, Some, None, unwrap_or, Result, Ok, Err, codes}
 use Rattle.std.specs.Io.KnownBytes.{Appends}
 use Rattle.tags.specs.declared.value.Value.{Value}
 use Rattle.semantics.specs.Graph.{Graph}
@@ -52,13 +52,16 @@ pub record Parts (input : List ℕ) : Type 0 where
   pub end : length text ≡ graph_length input
 
 -- RUN
--- how many events a turn has: an element that runs free looks at what all share after each
-abbrev pub turn_of : Option Mode → ℕ
-turn_of (Some Mode.Free) = 256
-turn_of mode = 64
+-- how many events a turn has where nothing is said: an element that runs free looks at what all share after each
+abbrev pub usual_turn : Option Mode → ℕ
+usual_turn (Some Mode.Free) = 2048
+usual_turn mode = 64
+
+abbrev pub turn_of : RunOptions → ℕ
+turn_of o = unwrap_or o.turn (usual_turn o.mode)
 
 abbrev pub config_of : RunOptions → Config
-config_of o = record { elements = o.elements; frames = o.frames; steps = o.steps; turn = turn_of o.mode }
+config_of o = record { elements = o.elements; frames = o.frames; steps = o.steps; turn = turn_of o }
 
 -- a true report of a run, in the mode that is asked for, of the graph that the input has, on the integers that follow it
 pub record IsRunOf (input : List ℕ) (o : RunOptions) (g : Graph) (r : Report) : Type 0 where

@@ -45,18 +45,20 @@ use std::thread::Threads;
 /// The exit status of a failed write.
 const UNWRITTEN: u8 = 1;
 
-/// How many steps an element takes in one turn.
+/// How many steps an element takes in one turn at most, where nothing is said.
 const TURN: u64 = 64;
 
-/// The same of one that runs free, where others ask it for frames: after each turn it looks at what all the elements share. The others
-/// take up to eight times as many.
-const FREE_TURN: u64 = 256;
+/// The same of one that runs free: after each turn it looks at what all the elements share.
+const FREE_TURN: u64 = 2_048;
 
-// How many steps an element takes in one turn in this mode.
-fn turn_of(mode: Option<Mode>) -> u64
-    ensures { result ≡ turn_of mode }
+// How many steps an element takes in one turn at most.
+fn turn_of(options: &RunOptions) -> u64
+    ensures { result ≡ turn_of options.now }
 {
-    match mode {
+    if let Some(turn) = options.turn {
+        return turn;
+    }
+    match options.mode {
         Some(Mode::Free) => FREE_TURN,
         _ => TURN,
     }
@@ -70,7 +72,7 @@ pub(crate) fn config_of(options: &RunOptions) -> Config
         elements: options.elements,
         frames: options.frames,
         steps: options.steps,
-        turn: turn_of(options.mode),
+        turn: turn_of(options),
     }
 }
 

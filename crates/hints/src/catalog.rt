@@ -149,9 +149,9 @@ other/object/listing: standard input is an object: `ets dis` makes a listing of 
 other/listing/graph: standard input is a listing, and `ets $1` reads a graph; `ets asm` makes an object of a listing
 other/listing/program: standard input is a listing, and `ets $1` reads a program; `ets asm` makes an object of a listing
 other/listing/object: standard input is a listing: `ets asm` makes an object of it
-options/run: the options of `ets $1` are --elements N (1 to 16), --frames N (1 to 1024), --steps N (at most 4294967296) and --mode one, rounds or free, each at most once
-options/exec: the options of `ets $1` are --elements N (1 to 16), --frames N (1 to 1024), --steps N (at most 4294967296) and --mode one, rounds or free, each at most once; all other words are inputs
-options/trace: the options of `ets $1` are --last N, --format text, chrome or html, --elements N (1 to 16), --frames N (1 to 1024), --steps N (at most 4294967296) and --mode one, rounds or free, each at most once
+options/run: the options of `ets $1` are --elements N (1 to 16), --frames N (1 to 1024), --steps N (at most 4294967296), --mode one, rounds or free, and --turn N (1 to 65536), each at most once
+options/exec: the options of `ets $1` are --elements N (1 to 16), --frames N (1 to 1024), --steps N (at most 4294967296), --mode one, rounds or free, and --turn N (1 to 65536), each at most once; all other words are inputs
+options/trace: the options of `ets $1` are --last N, --format text, chrome or html, --elements N (1 to 16), --frames N (1 to 1024), --steps N (at most 4294967296), --mode one, rounds or free, and --turn N (1 to 65536), each at most once
 options/profile: the options of `ets $1` are --elements N,N,.. (each 1 to 16), --frames N (1 to 1024), --steps N (at most 4294967296) and --svg, each at most once
 options/orders: the options of `ets $1` are --count N, --seed N, --elements N (1 to 16), --frames N (1 to 1024) and --steps N (at most 4294967296), each at most once
 options/mean: the options of `ets $1` are --steps N, at most once

@@ -20,6 +20,8 @@ use std::convert::AsStr;
 
 /// The most steps of an element.
 const STEPS: u64 = 4_294_967_296;
+/// The most steps of a turn.
+const TURN: u64 = 65_536;
 /// The most picks of an order.
 const PICKS: u64 = 4_194_304;
 
@@ -121,6 +123,11 @@ fn sizes_cause(sizes: Sizes) -> (Text, u64) {
     ("mode", 0)
 }
 
+/// Whether a number of steps of a turn is given that is outside its limits.
+fn is_no_turn(turn: Option<u64>) -> bool {
+    matches!(turn, Some(turn) if turn == 0 || TURN < turn)
+}
+
 /// The first option whose value is outside its limits, and the value.
 fn option_fault<'a>(request: &Request) -> Option<Found<'a>> {
     let options = options_of(request)?;
@@ -128,6 +135,10 @@ fn option_fault<'a>(request: &Request) -> Option<Found<'a>> {
         _ if options.elements == 0 || 16 < options.elements => ("elements", options.elements),
         _ if options.frames == 0 || 1_024 < options.frames => ("frames", options.frames),
         _ if STEPS < options.steps => ("--steps is 0 to 4294967296, and not $a", options.steps),
+        _ if is_no_turn(options.turn) => (
+            "--turn is 1 to 65536, and not $a",
+            options.turn.unwrap_or(0),
+        ),
         Request::Orders { count: 0, .. } => ("--count is at least 1, and not 0", 0),
         Request::Profile { sizes, .. } => sizes_cause(*sizes),
         _ => ("mode", 0),

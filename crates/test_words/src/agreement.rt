@@ -82,6 +82,7 @@ fn options_in(matches: &ArgMatches<'_>) -> Option<RunOptions> {
         frames: matches.get_one::<u64>("frames")?,
         steps: matches.get_one::<u64>("steps")?,
         mode: mode_in(matches.get_str("mode")?),
+        turn: matches.get_one::<u64>("turn"),
     })
 }
 
@@ -91,6 +92,7 @@ fn options_without_mode(matches: &ArgMatches<'_>) -> Option<RunOptions> {
         frames: matches.get_one::<u64>("frames")?,
         steps: matches.get_one::<u64>("steps")?,
         mode: Some(Mode::One),
+        turn: None,
     })
 }
 
@@ -175,7 +177,11 @@ fn request_in(matches: &ArgMatches<'_>) -> Option<Request> {
 }
 
 fn are_same(a: &RunOptions, b: &RunOptions) -> bool {
-    a.elements == b.elements && a.frames == b.frames && a.steps == b.steps && a.mode == b.mode
+    a.elements == b.elements
+        && a.frames == b.frames
+        && a.steps == b.steps
+        && a.mode == b.mode
+        && a.turn == b.turn
 }
 
 fn is_integer(word: &str) -> bool {
