@@ -69,6 +69,14 @@ impl<'m, C: MainCode, A: Allocator> Elements<'m, C, A> {
         )
     }
 
+    // Whether no token is on its way. One element sends none, so there it is always so.
+    fn is_settled(&self) -> bool
+        ensures sent { result ≡ true → self.now.sent.items ≡ [] }
+        ensures arrived { result ≡ true → self.now.arrived ≡ 0 }
+    {
+        self.sent.is_empty() && self.arrived == 0
+    }
+
     // Whether the element has a token.
     #[inline(always)]
     fn has_token(&self, element: u32) -> bool
@@ -81,7 +89,16 @@ impl<'m, C: MainCode, A: Allocator> Elements<'m, C, A> {
         waiting != 0 || has_token_for(&self.sent, self.arrived, self.shape.elements, element)
     }
 
-    // What a step answers that is refused memory.
+    // Whether the element has a token, and may make one more event. Memory is asked for only then, so that a run that is refused any ends.
+    #[inline(always)]
+    fn may_step(&self, element: u32) -> bool
+        requires well { IsWell C.program C.width self.now }
+        requires element { element < self.now.shape.elements }
+    {
+        self.has_token(element) && !self.lanes[element as usize].is_spent()
+    }
+
+    // What a step answers that makes no event: that there is no token, that all events are made, or else that memory is refused.
     #[cold]
     #[inline(never)]
     fn refused(&self, element: u32) -> Option<Stepped>
@@ -98,10 +115,12 @@ impl<'m, C: MainCode, A: Allocator> Elements<'m, C, A> {
         Some(Stepped::Memory)
     }
 
-    // Delivers the tokens that are on their way, makes room to note an event, and answers whether there was memory for both.
+    // Whether the element may make an event: then it delivers the tokens that are on their way, and makes room to note the event, and
+    // answers whether there was memory for both.
     #[inline(always)]
-    fn is_ready<L: Log>(&mut self, log: &mut EventLog<A, L>) -> bool
-        requires { IsWell C.program C.width self.old }
+    fn is_ready<L: Log>(&mut self, element: u32, log: &mut EventLog<A, L>) -> bool
+        requires well { IsWell C.program C.width self.old }
+        requires element { element < self.old.shape.elements }
         ensures well { IsWell C.program C.width self.new }
         ensures same { state_of C.program C.width self.new ≡ state_of C.program C.width self.old }
         ensures events { log.new.events.items ≡ log.old.events.items }
@@ -109,6 +128,9 @@ impl<'m, C: MainCode, A: Allocator> Elements<'m, C, A> {
         ensures arrived { result ≡ true → self.new.arrived ≡ 0 }
         ensures room { result ≡ true → L.KEEPS_EVENTS ≡ true → vec_len log.new.events < vec_capacity log.new.events }
     {
+        if !self.may_step(element) {
+            return false;
+        }
         if self.settle().is_err() {
             return false;
         }
@@ -160,7 +182,7 @@ impl<'m, C: MainCode, A: Allocator> Elements<'m, C, A> {
         ensures exact { (events : Events) × Steps (state_of C.program C.width self.old) element pick result (state_of C.program C.width self.new)
             events × (log.new.events.items ≡ logged L.KEEPS_EVENTS log.old.events.items events) }
     {
-        if !self.is_ready(log) {
+        if !self.is_ready(element, log) {
             return self.refused(element);
         }
         self.step_lane::<L, Site>(element, pick, log)
@@ -198,7 +220,7 @@ impl<'m, C: MainCode, A: Allocator> Elements<'m, C, A> {
         ensures exact { (events : Events) × Advances (is_by_list order) (state_of C.program C.width self.old) element pick
             (state_of C.program C.width self.new) events result × (log.new.events.items ≡ logged L.KEEPS_EVENTS log.old.events.items events) }
     {
-        if !self.is_ready(log) {
+        if !self.is_ready(element, log) {
             let refused = self.refused(element);
             return self.halts(order, refused);
         }
@@ -293,7 +315,7 @@ impl<'m, C: MainCode, A: Allocator> Elements<'m, C, A> {
             (state_of C.program C.width self.old) (state_of C.program C.width self.new) result events
             × (log.new.events.items ≡ logged L.KEEPS_EVENTS log.old.events.items events) }
     {
-        if self.settle().is_err() {
+        if !self.is_settled() {
             return self.play_passes(log);
         }
         let stepped = self.run_alone();

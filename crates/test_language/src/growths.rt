@@ -40,8 +40,8 @@ fn rationed_run<R: Threads + Wait + Sync>(
     }
 }
 
-/// Refuses each growth of a run in turn, until none is. Says how many there were, where each refusal is reported or made good and the last
-/// run is whole. One is made good where an element asks for a growth to do something at once, and again to do it otherwise.
+/// Refuses each growth of a run in turn, until none is. Says how many there were, where each refusal is reported and the last run is
+/// whole.
 pub fn refuse_each<R: Threads + Wait + Sync>(
     rt: &R,
     alloc: Global,
@@ -50,11 +50,12 @@ pub fn refuse_each<R: Threads + Wait + Sync>(
     for growth in 1..ENOUGH {
         let heap = Rationed::new(alloc, growth);
         let verdict = rationed_run(rt, alloc, subject, &heap);
-        if verdict == Verdict::Differs {
-            return None;
-        }
-        if is_next_refused(&heap) {
-            return (verdict != Verdict::OutOfMemory).then_some(growth);
+        let is_over = is_next_refused(&heap);
+        match verdict {
+            Verdict::Differs => return None,
+            Verdict::OutOfMemory if is_over => return None,
+            Verdict::OutOfMemory => {}
+            _ => return is_over.then_some(growth),
         }
     }
     None

@@ -197,9 +197,7 @@ struct Counts {
     report: u64,
 }
 
-/// Refuses one growth after another, until none is refused; `None` where a run went wrong. A growth that is refused in the turn of an
-/// element that has no token is asked for again in the next turn, and one that an element asks for to do something at once is asked for
-/// again to do that otherwise: then the run is as if none had been refused.
+/// Refuses one growth after another, until none is refused; `None` where a run went wrong, or was as if no growth had been refused.
 fn refusals(part: &RefusingPart, alloc: Global, way: Way) -> Option<Counts> {
     let mut counts = Counts {
         start: 0,
@@ -211,9 +209,8 @@ fn refusals(part: &RefusingPart, alloc: Global, way: Way) -> Option<Counts> {
         let refused = run_on(part, &heap, way)?;
         let is_over = is_next_refused(&heap);
         match refused {
-            Refused::Nowhere if is_over => return Some(counts),
+            Refused::Nowhere => return is_over.then_some(counts),
             _ if is_over => return None,
-            Refused::Nowhere => {}
             Refused::AtTheStart => counts.start = counts.start.wrapping_add(1),
             Refused::InTheRun => counts.run = counts.run.wrapping_add(1),
             Refused::InTheReport => counts.report = counts.report.wrapping_add(1),

@@ -120,15 +120,8 @@ fn is_whole(row: &Row<'_>, answer: &Outcome) -> bool {
     answer.status == row.status && answer.text.as_slice() == row.wanted
 }
 
-/// Whether a growth that is refused in a run may leave the answer whole. A growth that is refused in the turn of an element that
-/// has no token is asked for again in the next turn; and where an element asks for one to do something at once, it asks for it again
-/// to do that otherwise.
-fn may_be_made_good(row: &Row<'_>) -> bool {
-    !matches!(row.answer, Answer::Text)
-}
-
-/// How often a growth is refused before none is, if each refusal is reported or made good and the last answer is the whole one. Else
-/// an `Err` with the number of the growth where that is not so.
+/// How often a growth is refused before none is, if each refusal is reported and the last answer is the whole one. Else an `Err` with
+/// the number of the growth where that is not so.
 pub fn refuse_each<R: Threads + Wait + Sync>(
     rt: &R,
     alloc: Global,
@@ -152,7 +145,7 @@ pub fn refuse_each<R: Threads + Wait + Sync>(
             refusals.before = refusals.before.wrapping_add(1);
         } else if is_reported(row, &answer) {
             refusals.within = refusals.within.wrapping_add(1);
-        } else if !(may_be_made_good(row) && is_whole(row, &answer)) {
+        } else {
             return Err(ration);
         }
     }
