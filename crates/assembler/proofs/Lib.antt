@@ -1,4 +1,5 @@
 pub mod Each
+pub mod Sets
 pub mod Placed
 pub mod Spelled
 pub mod Taken

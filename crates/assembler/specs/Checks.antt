@@ -3,7 +3,9 @@
 -- destinations, its origin. Each refusal is of one line: lines with words are numbered from 0.
 use Rattle.std.specs.Prelude.{◌≡◌, ◌≤◌, ℕ, ◌+◌, ◌==◌, ◌&&◌, ◌||◌, not, nat_le, nat_lt, Bool, true, false, ℤ, int_lt, List, [], ◌∷◌, length, sum}
 use Rattle.std.specs.Prelude.{map, take, Option, Some, None, slice_get, Result, Ok, Err, ⊤, if◌then◌else◌}
+use Rattle.std.specs.BTreeSet.{BTreeSet, contains_by}
 use Rattle.std.specs.List.{list_any, list_all}
+use Rattle.std.specs.Ordering.{int_cmp}
 use Rattle.tags.specs.declared.token.Port.TheVariants.{Left, Right}
 use Rattle.tags.specs.declared.value.Origin.{Origin}
 use Rattle.tags.specs.declared.value.Origin.TheVariants.{Untold, At}
@@ -40,6 +42,10 @@ is_same z y = not (int_lt y z) && not (int_lt z y)
 
 abbrev pub has_literal : List ℤ → ℤ → Bool
 has_literal table z = list_any (is_same z) table
+
+-- a set with the literals of the table
+abbrev pub IsSetOf : BTreeSet ℤ → List ℤ → Type 0
+IsSetOf set table = (z : ℤ) → contains_by (int_cmp z) set ≡ has_literal table z
 
 abbrev pub is_bound : ℕ → Bool
 is_bound k = nat_le 2 k && nat_le k 64

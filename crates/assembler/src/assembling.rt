@@ -13,7 +13,7 @@ ghost use Rattle.assembler.specs.Laws.{IsExact, IsUnique, AllHaveListings, Round
 ghost use Rattle.assembler.specs.declared.fault.AsmFaultKind.TheVariants.{Memory};
 
 use crate::cause::{AsmCause, AsmRefusal};
-use crate::checks::check_code;
+use crate::checks::{check_code, set_of};
 use crate::fault::AsmFault;
 use crate::reading::{line_at, read_text};
 use code::Code;
@@ -70,11 +70,12 @@ pub fn assemble_listing<A: Allocator + Clone>(
     ensures exact { MatchResult result (λ a. Assembling.assembled text.now ≡ Ok (version_number a.version, a.code))
         (λ r. Assembling.IsFirstFault (fault_of r) (Assembling.assembled text.now)) }
 {
-    let read = match read_text(alloc, text) {
+    let read = match read_text(alloc.clone()?, text) {
         Ok(read) => read,
         Err(refusal) => return Err(refusal),
     };
-    match check_code(read.version, &read.code) {
+    let literals = set_of(alloc, &read.code.literals)?;
+    match check_code(read.version, &read.code, &literals) {
         Ok(()) => Ok(Assembled {
             version: version_of(read.version),
             code: read.code,

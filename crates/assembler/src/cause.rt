@@ -178,3 +178,14 @@ impl<T: Drop> From<AllocFailed<T>> for AsmCause {
         AsmCause::Memory
     }
 }
+
+impl From<AllocError> for AsmRefusal {
+    ghost from_gives = { λ _ refusal. fault_kind refusal.cause ≡ Memory };
+
+    fn from(e: AllocError) -> AsmRefusal {
+        AsmRefusal {
+            cause: AsmCause::from(e),
+            line: 0,
+        }
+    }
+}

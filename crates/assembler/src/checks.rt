@@ -1,8 +1,10 @@
 //! Which codes have an object.
 
-ghost use Rattle.std.specs.Prelude.{◌≡◌, ◌≤◌, ◌⊎◌, All, FitsSigned, OnOk, length, slice_get};
+ghost use Rattle.std.specs.Prelude.{◌≡◌, ◌≤◌, ◌⊎◌, All, FitsSigned, IfOk, OnOk, length, slice_get};
+ghost use Rattle.std.specs.BTreeSet.{contains_by};
 ghost use Rattle.std.specs.Int.{w64};
 ghost use Rattle.std.specs.List.{list_all};
+ghost use Rattle.std.specs.Ordering.{int_cmp};
 ghost use Rattle.semantics.specs.Bytes as Bytes;
 ghost use Rattle.semantics.specs.Rule.{slot_of};
 ghost use Rattle.assembler.specs.Checks as Checks;
@@ -10,7 +12,8 @@ ghost use Rattle.assembler.specs.Checks as Checks;
 use crate::cause::Unfit;
 use code::{Code, CodeBlock, Instr};
 use semantics::program::{Dest, Op};
-use std::alloc::Allocator;
+use std::alloc::{AllocError, Allocator};
+use std::collections::BTreeSet;
 use tags::token::Port;
 use tags::value::Origin;
 
@@ -32,21 +35,36 @@ fn unless(fits: bool, unfit: Unfit, index: u64) -> Result<(), Refusal>
     }
 }
 
-/// Whether the literal is in the table.
-fn has_literal(table: &[i64], literal: i64) -> bool
-    ensures { result ≡ Checks.has_literal table.now literal }
+/// The literals of a table, in whatever order it has them, so that each is found in few steps.
+pub(crate) fn set_of<A: Allocator + Clone>(
+    alloc: A,
+    table: &[i64],
+) -> Result<BTreeSet<i64, A>, AllocError>
+    ensures { IfOk result (λ literals. Checks.IsSetOf literals table.now) }
 {
-    table.iter().any(|x| *x == literal)
+    let mut literals = BTreeSet::new(alloc);
+    for literal in table {
+        literals.insert(*literal)?;
+    }
+    Ok(literals)
 }
 
-/// Whether the literal of an operation is in the table.
-fn literal_fits<A: Allocator>(code: &Code<A>, op: Op) -> bool
-    ensures { result ≡ Checks.literal_fits code.now op }
+/// Whether the literal is one of these.
+fn has<A: Allocator>(literals: &BTreeSet<i64, A>, literal: i64) -> bool
+    ensures { result ≡ contains_by (int_cmp literal) literals.now }
+{
+    literals.contains(&literal)
+}
+
+/// Whether the literal of an operation is in the table, which has these literals.
+fn literal_fits<A: Allocator>(_code: &Code<A>, literals: &BTreeSet<i64, A>, op: Op) -> bool
+    requires { Checks.IsSetOf literals.now _code.now.literals }
+    ensures { result ≡ Checks.literal_fits _code.now op }
 {
     match op {
-        Op::Apply2Right { literal, .. } => has_literal(&code.literals, literal),
-        Op::Apply2Left { literal, .. } => has_literal(&code.literals, literal),
-        Op::Lit { literal } => has_literal(&code.literals, literal),
+        Op::Apply2Right { literal, .. } => has(literals, literal),
+        Op::Apply2Left { literal, .. } => has(literals, literal),
+        Op::Lit { literal } => has(literals, literal),
         _ => true,
     }
 }
@@ -171,16 +189,22 @@ fn origin_fits(version: u32, op: Op, origin: Origin) -> bool
 fn check_instr<A: Allocator>(
     version: u32,
     code: &Code<A>,
+    literals: &BTreeSet<i64, A>,
     block: &CodeBlock<A>,
     index: u64,
     number: u32,
     instr: &Instr<A>,
 ) -> Result<(), Refusal>
-    requires { index ≤ 4294967296 }
+    requires literals { Checks.IsSetOf literals.now code.now.literals }
+    requires index { index ≤ 4294967296 }
     ensures { result ≡ Checks.instr_checked version code.now block.now index number instr.now }
 {
     let line = index + u64::from(number);
-    unless(literal_fits(code, instr.op), Unfit::NoLiteral, line)?;
+    unless(
+        literal_fits(code, literals, instr.op),
+        Unfit::NoLiteral,
+        line,
+    )?;
     unless(operand_fits(code, instr.op), Unfit::BadOperand, line)?;
     unless(slot_fits(block.slots, instr), Unfit::BadSlot, line)?;
     unless(dests_fit(block, number, instr), Unfit::BadDestination, line)?;
@@ -195,15 +219,17 @@ fn check_instr<A: Allocator>(
 fn check_instrs<A: Allocator>(
     version: u32,
     code: &Code<A>,
+    literals: &BTreeSet<i64, A>,
     block: &CodeBlock<A>,
     index: u64,
 ) -> Result<(), Refusal>
+    requires literals { Checks.IsSetOf literals.now code.now.literals }
     requires few { length block.now.instrs ≤ 32768 }
     requires index { index ≤ 4294967296 }
     ensures { result ≡ Checks.each (Checks.instr_checked version code.now block.now index) 0 block.now.instrs }
 {
     for (number, instr) in block.instrs.iter().enumerate() {
-        check_instr(version, code, block, index, number as u32, instr)?;
+        check_instr(version, code, literals, block, index, number as u32, instr)?;
     }
     Ok(())
 }
@@ -227,26 +253,33 @@ fn entry_fits<A: Allocator>(block: &CodeBlock<A>) -> bool
 fn check_block<A: Allocator>(
     version: u32,
     code: &Code<A>,
+    literals: &BTreeSet<i64, A>,
     index: u64,
     block: &CodeBlock<A>,
 ) -> Result<(), Refusal>
-    requires { index ≤ 4294967295 }
+    requires literals { Checks.IsSetOf literals.now code.now.literals }
+    requires index { index ≤ 4294967295 }
     ensures exact { result ≡ Checks.block_checked version code.now index block.now }
     ensures few { OnOk result (length block.now.instrs ≤ 32768) }
 {
     unless(entry_fits(block), Unfit::BadBlock, index)?;
-    check_instrs(version, code, block, index + 1)
+    check_instrs(version, code, literals, block, index + 1)
 }
 
 /// The first refusal of the blocks, or else how many lines they and the first one have.
 #[tactic(auto, unfolding(crate::specs::Checks::blocks_checked))]
-fn check_blocks<A: Allocator>(version: u32, code: &Code<A>) -> Result<u64, Refusal>
-    requires { length code.now.program.blocks ≤ 512 }
+fn check_blocks<A: Allocator>(
+    version: u32,
+    code: &Code<A>,
+    literals: &BTreeSet<i64, A>,
+) -> Result<u64, Refusal>
+    requires literals { Checks.IsSetOf literals.now code.now.literals }
+    requires few { length code.now.program.blocks ≤ 512 }
     ensures { Checks.Counts result (Checks.blocks_checked version code.now) (Checks.lines_before code.now.program.blocks (length code.now.program.blocks)) }
 {
     let mut index = 1;
     for block in &code.program.blocks {
-        check_block(version, code, index, block)?;
+        check_block(version, code, literals, index, block)?;
         index += 1 + block.instrs.len() as u64;
     }
     Ok(index)
@@ -320,16 +353,21 @@ fn are_words(literals: &[i64])
     }
 }
 
-/// The first refusal of a code.
+/// The first refusal of a code whose table has these literals.
 #[tactic(auto, unfolding(crate::specs::Checks::code_checked))]
-pub(crate) fn check_code<A: Allocator>(version: u32, code: &Code<A>) -> Result<(), Refusal>
+pub(crate) fn check_code<A: Allocator>(
+    version: u32,
+    code: &Code<A>,
+    literals: &BTreeSet<i64, A>,
+) -> Result<(), Refusal>
+    requires literals { Checks.IsSetOf literals.now code.now.literals }
     ensures exact { result ≡ Checks.code_checked version code.now }
     ensures version { OnOk result ((version ≡ 1) ⊎ (version ≡ 2)) }
     ensures words { All (λ z. FitsSigned w64 z) code.now.literals }
 {
     are_words(&code.literals);
     check_head(version, code)?;
-    let index = check_blocks(version, code)?;
+    let index = check_blocks(version, code, literals)?;
     check_arrays(index, &code.program.arrays)?;
     check_literals(index + code.program.arrays.len() as u64, &code.literals)
 }
