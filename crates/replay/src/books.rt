@@ -10,6 +10,7 @@ use crate::entry::Books;
 use crate::extent::Extent;
 use crate::fault::ReplayRefusal;
 use crate::ledger::Ledger;
+use crate::token_index::TokenIndex;
 use element::instructions::Instructions;
 use element::lane::Lane;
 use frame_manager::Manager;
@@ -67,6 +68,7 @@ where
     ensures { IfOk result (λ g. IsBlank (C.program code.now) g × (g.extent ≡ extent)) }
 {
     let numbers = Vec::new(alloc.clone()?);
+    let index = TokenIndex::new(alloc.clone()?)?;
     let Some(bank) = store.banks().next() else {
         return Err(AllocError);
     };
@@ -76,6 +78,7 @@ where
         lane,
         numbers,
         next: 0,
+        index,
     })
 }
 

@@ -15,6 +15,7 @@ use crate::extent::Extent;
 use crate::fault::ReplayRefusal;
 use crate::moment::Deed;
 use crate::slots::Place;
+use crate::token_index::TokenIndex;
 use element::instructions::Instructions;
 use element::lane::{Lane, Stepped};
 use packed::token::PackedToken;
@@ -32,6 +33,8 @@ pub struct Ledger<'m, C: Instructions, A: Allocator> {
     pub numbers: Vec<u64, A>,
     /// The number that the next token gets.
     pub next: u64,
+    /// Says where to look for a token.
+    pub index: TokenIndex<A>,
 }
 
 // Whether the tokens are equal.
@@ -209,13 +212,34 @@ fn number_all<A: Allocator>(
 }
 
 impl<'m, C: Instructions, A: Allocator> Ledger<'m, C, A> {
-    // Where the token is among the lane's: the first that is equal.
+    // Where the token may be among the lane's, as the index says: the numbers ascend.
+    fn likely_place(&self, token: &Token) -> Option<usize>
+        ensures { IfSome result (λ at. at < length self.now.lane.held.queue) }
+    {
+        let number = self.index.first(token)?;
+        let Ok(at) = self.numbers.binary_search(&number) else {
+            return None;
+        };
+        if at < self.lane.queue().len() {
+            Some(at)
+        } else {
+            None
+        }
+    }
+
+    // Where the token is among the lane's. All are searched only where it is not where it may be.
     fn place_of(&self, token: &Token) -> Option<usize>
         ensures there { IfSome result (λ at. slice_get self.now.lane.held.queue at ≡ Some token.now) }
         ensures within { IfSome result (λ at. at < length self.now.lane.held.queue) }
         ensures none { IfNone result (Contains self.now.lane.held.queue token.now → ⊥) }
     {
         let queue = self.lane.queue();
+        if let Some(at) = self.likely_place(token) {
+            let likely = queue.get(at);
+            if is_same(&likely, token) {
+                return Some(at);
+            }
+        }
         for at in 0..queue.len() {
             let held = queue.get(at);
             if is_same(&held, token) {
@@ -310,6 +334,8 @@ impl<'m, C: Instructions, A: Allocator> Ledger<'m, C, A> {
         self.next = number_all(&mut self.numbers, next, made.len())?;
         let deed = deed_by(&token.to, &before, &after, made.len());
         let change = change_by(self.extent.outputs, &token, used, after, &made);
+        self.index.take(&token)?;
+        self.index.put_all(&made, next)?;
         Ok(Entry {
             number,
             deed,

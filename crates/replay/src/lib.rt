@@ -13,6 +13,7 @@ mod moment;
 mod replaying;
 mod slots;
 mod state;
+mod token_index;
 
 pub use books::keep_books;
 pub use entry::{Books, Change, Entry};
