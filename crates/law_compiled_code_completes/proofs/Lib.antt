@@ -1,0 +1,2 @@
+pub mod SameLength
+pub mod Compiled
