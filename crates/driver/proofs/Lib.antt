@@ -9,3 +9,4 @@ pub mod Joined
 pub mod Watched
 pub mod Valued
 pub mod Booked
+pub mod Completed

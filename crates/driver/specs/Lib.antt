@@ -8,3 +8,4 @@ pub mod Reported
 pub mod Disassembled
 pub mod ListedEvents
 pub mod Values
+pub mod Completes

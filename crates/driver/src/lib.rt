@@ -4,6 +4,7 @@
 
 pub mod books;
 pub mod compiling;
+pub mod completion;
 pub mod emulation;
 pub mod fault;
 pub mod meaning;

@@ -1,3 +1,4 @@
 mod Outputs
 mod Shown
 mod Refusals
+mod Completed

@@ -1,5 +1,5 @@
 -- WHAT FOLLOWS FOR WHO TAKES THE STEPS ALONE: lowers a program, and runs the text of the graph in any way.
-use Rattle.std.specs.Prelude.{◌≡◌, ℕ, Bool, ℤ, List}
+use Rattle.std.specs.Prelude.{◌≡◌, ℕ, Bool, false, ℤ, List}
 use Rattle.semantics.specs.declared.report.End.TheVariants.{Rest}
 use Rattle.semantics.specs.Graph.{Graph}
 use Rattle.semantics.specs.Machine.{Size}
@@ -9,10 +9,14 @@ use Rattle.schedule.specs.declared.config.Config.{Config}
 use Rattle.command_line.specs.declared.Mode.{Mode}
 use Rattle.source.specs.Tree.{Program}
 use Rattle.lowered_text.specs.Lowers.{Lowers}
+use Rattle.law_compiler.specs.Objects.{plan_of}
+use Rattle.law_completion.specs.Total.{IsNotCut, Completes}
+use Rattle.law_completion.specs.TotalGraph.{NeedsAtMost, IsLargeEnough}
 use Rattle.driver.specs.declared.fault.Fault.{Fault}
+use Rattle.driver.specs.Orders.{size_of}
 use Rattle.driver.specs.Headline.{ReportsOf, ReportsTruthIn, ReportsQuietly}
 use Rattle.driver.specs.Refused.{IsRefused}
-use Rattle.programs.specs.Promise.{ShowsProgram}
+use Rattle.programs.specs.Promise.{ShowsProgram, ReportsProgram}
 use Rattle.programs.specs.Refused.{IsNotRun}
 
 -- A report of which the headline holds, of the text of a lowered program's graph, shows the program where it ends at rest with no
@@ -38,3 +42,11 @@ QuietReportsShowPrograms = (text : List ℕ) (p : Program) (g : Graph) → Lower
 abbrev pub RefusalsAreTheTexts : Type 0
 RefusalsAreTheTexts = (text : List ℕ) (p : Program) (g : Graph) → Lowers text p g → HasText g
     → (inputs : List ℤ) (c : Config) (f : Fault) → IsNotRun g inputs c f → IsRefused (text_of g) inputs c f
+
+-- WHICH PROGRAMS' RUNS COMPLETE. Where the machine is large enough for what the meaning of the program's graph calls for, the report of a run that was
+-- not cut off ends at rest with no deferred reader, and so shows the program.
+abbrev pub ProgramsComplete : Type 0
+ProgramsComplete = (mode : Mode) (text : List ℕ) (inputs : List ℤ) (c : Config) (may_stop : Bool) (r : Report)
+    → (report : ReportsProgram mode text inputs c may_stop r) → (d t : ℕ) → NeedsAtMost report.graph inputs d t
+    → IsLargeEnough report.graph (plan_of report.graph).program (size_of c) c.steps d t → IsNotCut false r
+    → Completes r × ShowsProgram report.program inputs r

@@ -1,6 +1,6 @@
 //! What reports say of programs, by whatever means the report was made.
 
-ghost use Rattle.programs.specs.Laws.{ReportsShowPrograms, ModesShowPrograms, QuietReportsShowPrograms, RefusalsAreTheTexts};
+ghost use Rattle.programs.specs.Laws.{ReportsShowPrograms, ModesShowPrograms, QuietReportsShowPrograms, RefusalsAreTheTexts, ProgramsComplete};
 
 /// A report of the text of a lowered program's graph is true of the program.
 ///
@@ -12,4 +12,12 @@ pub fn reports_show_programs()
     ensures modes { ModesShowPrograms }
     ensures quiet { QuietReportsShowPrograms }
     ensures refusals { RefusalsAreTheTexts }
+{}
+
+/// A report of a program's run over a machine that is large enough for what the meaning of its graph calls for shows the program.
+///
+/// Large enough is what `driver::completion` says. If the run was not cut off, it ends at rest with no deferred reader, so its outputs and cells are
+/// those that the program computes.
+pub fn programs_complete()
+    ensures { ProgramsComplete }
 {}

@@ -1,0 +1,32 @@
+-- WHICH RUNS COMPLETE: those of a machine that is large enough for what the graph's meaning calls for. The machine needs a frame for main and for each
+-- invocation that the meaning calls for, a limit above the most events that these can make, and loops whose bounds are at least their iterations.
+use Rattle.std.specs.Prelude.{ℕ, Bool, false, ℤ, List}
+use Rattle.semantics.specs.Graph.{Graph}
+use Rattle.semantics.specs.Machine.{Size}
+use Rattle.semantics.specs.Report.{Report}
+use Rattle.schedule.specs.declared.config.Config.{Config}
+use Rattle.command_line.specs.declared.Mode.{Mode}
+use Rattle.law_compiler.specs.Objects.{plan_of}
+use Rattle.law_completion.specs.Total.{IsNotCut, Completes}
+use Rattle.law_completion.specs.TotalGraph.{NeedsAtMost, IsLargeEnough}
+use Rattle.driver.specs.Orders.{size_of}
+use Rattle.driver.specs.Headline.{ReportsOf, ReportsTruthIn, ReportsQuietly}
+
+-- A report of which the headline holds, of a run in any order, ends at rest with no deferred reader, if the meaning needs no more than the machine has,
+-- and the run was not cut off.
+abbrev pub ReportsComplete : Type 0
+ReportsComplete = (text : List ℕ) (g : Graph) (inputs : List ℤ) (z : Size) (steps : ℕ) (by_list may_stop : Bool) (r : Report)
+    → ReportsOf text g inputs z steps by_list may_stop r → (d t : ℕ) → NeedsAtMost g inputs d t → IsLargeEnough g (plan_of g).program z steps d t
+    → IsNotCut by_list r → Completes r
+
+-- So it is in each mode,
+abbrev pub ModesComplete : Type 0
+ModesComplete = (mode : Mode) (text : List ℕ) (g : Graph) (inputs : List ℤ) (c : Config) (may_stop : Bool) (r : Report)
+    → ReportsTruthIn mode text g inputs c may_stop r → (d t : ℕ) → NeedsAtMost g inputs d t
+    → IsLargeEnough g (plan_of g).program (size_of c) c.steps d t → IsNotCut false r → Completes r
+
+-- and where the report lists no events.
+abbrev pub QuietReportsComplete : Type 0
+QuietReportsComplete = (mode : Mode) (text : List ℕ) (g : Graph) (inputs : List ℤ) (c : Config) (may_stop : Bool) (r : Report)
+    → ReportsQuietly mode text g inputs c may_stop r → (d t : ℕ) → NeedsAtMost g inputs d t
+    → IsLargeEnough g (plan_of g).program (size_of c) c.steps d t → IsNotCut false r → Completes r
