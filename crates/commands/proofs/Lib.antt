@@ -9,4 +9,4 @@ mod Agreeing
 mod Rowed
 mod GraphEnds
 mod IntegerLines
-mod PipedRuns
+pub mod PipedRuns

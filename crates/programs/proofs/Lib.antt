@@ -1,4 +1,4 @@
 mod Outputs
-mod Shown
+pub mod Shown
 mod Refusals
 mod Completed

@@ -1,0 +1,50 @@
+-- What is printed of a program's graph shows the program.
+use Rattle.std.proofs.Common.{◌≡◌, ◌⊎◌, inl, inr, ℕ, Bool, false, true, List, Option, Result, sym, ◌∙◌}
+use Rattle.std.specs.declared.io.Error.{Error}
+use Rattle.semantics.specs.declared.report.End.{End}
+use Rattle.semantics.specs.declared.report.End.TheVariants.{Stop}
+use Rattle.semantics.specs.Graph.{Graph}
+use Rattle.semantics.specs.Report.{Report}
+use Rattle.semantics.specs.Text.{text_of}
+use Rattle.command_line.specs.declared.Mode.{Mode}
+use Rattle.command_line.specs.declared.RunOptions.{RunOptions}
+use Rattle.outcomes.specs.declared.outcome.Outcome.{Outcome}
+use Rattle.source.specs.Tree.{Program}
+use Rattle.lowered_text.specs.Lowers.{Lowers}
+use Rattle.driver.proofs.Completed.{never_stopped, quiet_completes}
+use Rattle.commands.specs.declared.input.InputFault.{InputFault}
+use Rattle.commands.specs.Refusals.{unread_as}
+use Rattle.commands.specs.Served.{Refuses, config_of}
+use Rattle.commands.specs.Piped.{IsProgramRun, PrintsProgramRun}
+use Rattle.commands.proofs.PipedRuns.{commands_run_program}
+use Rattle.programs.proofs.Shown.{quiet_shows}
+use Rattle.law_pipes_show_programs.specs.Pipes.{ReportsProgramRun, PrintsProgram, CommandsShowPrograms}
+
+module _ (text : List ℕ) (p : Program) (g : Graph) (lowers : Lowers text p g) (o : RunOptions) where
+  reports : (r : Report) → IsProgramRun text g o r → ReportsProgramRun text p g o r
+  reports r run = record {
+    run = run;
+    shows = quiet_shows text p g lowers run.mode run.inputs (config_of o) false r run.truth;
+    completes = λ d t needs large granted.
+        quiet_completes run.mode (text_of g) g run.inputs (config_of o) false r run.truth d t needs large
+        record { memory = granted; gate = never_stopped run.mode (text_of g) g run.inputs (config_of o) r run.truth; list = λ e. absurd (cc) };
+  }
+
+  prints : (result : Result Outcome Error) (old new : Option (List ℕ)) → PrintsProgramRun result old new text g o → PrintsProgram result old new text p g o
+  prints result old new (inl (r, run, printed)) = inl (r, reports r run, printed)
+  prints result old new (inr none) = inr none
+
+  answers : (result : Result Outcome Error) (old new : Option (List ℕ))
+      → PrintsProgramRun result old new text g o ⊎ ((fault : InputFault) × Refuses result old new (unread_as fault))
+      → PrintsProgram result old new text p g o ⊎ ((fault : InputFault) × Refuses result old new (unread_as fault))
+  answers result old new (inl printed) = inl (prints result old new printed)
+  answers result old new (inr refused) = inr refused
+
+pub commands_show_programs : CommandsShowPrograms
+commands_show_programs lowering running o lowers_asked run_asked text piped lowered =
+    let pipe = commands_run_program lowering running o lowers_asked run_asked text piped lowered in (
+      pipe.0,
+      pipe.1,
+      pipe.2,
+      λ result old new served. answers text pipe.0 pipe.1 pipe.2 o result old new (pipe.3 result old new served),
+    )
