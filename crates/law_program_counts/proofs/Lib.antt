@@ -1,0 +1,13 @@
+pub mod MadeAt
+pub mod Lists
+pub mod SilentArms
+pub mod SameAnswers
+pub mod Parts
+pub mod Operators
+pub mod Bodies
+pub mod Calls
+pub mod Conditionals
+pub mod Turns
+pub mod Loops
+pub mod Induction
+pub mod Theorem
