@@ -1,5 +1,5 @@
 -- The invocations of a call are the call itself, those of its arguments, and those of the body of its function.
-use Rattle.std.proofs.Common.{◌≡◌, ℕ, ◌+◌, ◌<◌, ◌≤◌, Bool, true, false, List, [], ◌∷◌, ◌++◌, length, map, Some, Contains, refl, sym, ap, ◌∙◌, subst, arith}
+use Rattle.std.proofs.Common.{◌≡◌, ℕ, ◌+◌, ◌<◌, ◌≤◌, ◌⊎◌, inl, inr, Bool, true, false, List, [], ◌∷◌, ◌++◌, length, map, Some, Contains, refl, sym, ap, ◌∙◌, subst, arith}
 use Rattle.std.proofs.Common.{length-append}
 use Rattle.std.specs.Prelude.{slice_get, count_by}
 use Rattle.std.proofs.lemmas.List.{length-map}
@@ -11,7 +11,7 @@ use Rattle.semantics.specs.Graph.{Node, Block, node_at, node_count, place_of, re
 use Rattle.semantics.specs.Meaning.{Context, Called, Turned, IsCall, IsLoop, callee, callee_of, callee_in, block_number, block_numbered, block_of, node_in}
 use Rattle.semantics.specs.Meaning.{node_of}
 use Rattle.semantics.specs.Cause.{is_turn}
-use Rattle.lemmas.proofs.Contains.{contains_head, contains_tail}
+use Rattle.lemmas.proofs.Contains.{contains_cases, contains_head, contains_tail}
 use Rattle.law_confluence.specs.EquationsHave.{outputs_in, ports_of, source_line}
 use Rattle.law_confluence.specs.Equations.{LineEquation, HasSome}
 use Rattle.law_confluence.proofs.EquationsGraphForms.{line_past, line_below}
@@ -41,8 +41,8 @@ use Rattle.law_language.proofs.MeansInputs.{root_taken, input_gives, have_inputs
 use Rattle.law_language.proofs.MeansCalls.{some_output}
 use Rattle.law_language.proofs.MeansScene.{Scene, PortsGive, flow, world_of, StoodIn, DueIn, HasIn, HaveIn, KnownIn, ActiveIn, AllIn}
 use Rattle.law_language.proofs.MeansStanding.{first_in, rest_in}
-use Rattle.law_program_counts.proofs.MadeAt.{made_at, MadeBy, TheCall, TheTurn, WithinCall, WithinTurn, made_by, made_due, made_line}
-use Rattle.law_program_counts.proofs.Lists.{Lists, lists_both, lists_to, count_more}
+use Rattle.law_program_counts.proofs.MadeAt.{made_at, MadeBy, TheCall, TheTurn, WithinCall, WithinTurn, made_by, made_due, made_line, made_call, own_call, not_in_call}
+use Rattle.law_program_counts.proofs.Lists.{Lists, MadeIn, lists_both, lists_to, count_more, differ_cons}
 use Rattle.law_program_counts.proofs.Parts.{ExprCounts, ListCounts, BodyCounts}
 use Rattle.law_program_counts.proofs.SameAnswers.{same_list}
 
@@ -154,12 +154,23 @@ module _ (z : Scene) (c : Context) (due : DueIn z c) (n : ℕ) (line : Node ℕ)
             pick d due' (made_by c n d (subst (λ k. made_at c d ≡ Some k) same e)) out.invocations
             (λ k f. let in_it = within_block z (Called c n) d to k to_is due' f in let past = in_it.0 in let below = in_it.1 in
             out.all d k due' f past (omega (arith, below, long)));
+        just = λ d h. its d (contains_cases (Called c n) out.invocations d h) out.just;
+        differ = differ_cons (Called c n) out.invocations (λ h. let m = (out.just (Called c n) h).1 in not_in_call c n m.0 m.1) out.differ;
       }
     where
       no_turn : (t : ℕ) → DueIn z (Turned c n t) → ⊥
       no_turn t turn =
           let same : turn.1.0 ≡ line = same_Some turn.1.0 line (sym turn.1.1 ∙ line_is) in
           call_loop line.kind it.is_call (subst (λ (l : Node ℕ). IsLoop l.kind) same turn.1.2)
+
+      its : (d : Context) → (Called c n ≡ d) ⊎ Contains (counts (turn_site f.name.name) (main_spot f) (function_scope f) (bare f.params)
+          (written_or_one f.results) false good.fits good.values called_stands called_knows).invocations d
+          → ((d : Context) → Contains (counts (turn_site f.name.name) (main_spot f) (function_scope f) (bare f.params)
+          (written_or_one f.results) false good.fits good.values called_stands called_knows).invocations d
+          → DueIn z d × MadeIn (Called c n) (length f.params) (length f.params + length own.nodes) d)
+          → DueIn z d × MadeIn c n (n + 1) d
+      its d (inl e) inner = subst (λ d. DueIn z d × MadeIn c n (n + 1) d) e (called_due, (n, own_call c n, omega arith, omega arith))
+      its d (inr h) inner = let m = inner d h in (m.0, (n, made_call c d n m.1.0 m.1.1, omega arith, omega arith))
 
       pick : (d : Context) → DueIn z d → MadeBy c n d → (ds : List Context) → ((k : ℕ) → made_at (Called c n) d ≡ Some k → Contains ds d)
           → Contains (Called c n ∷ ds) d
@@ -199,5 +210,5 @@ counts_call {env = env} {vs = vs} {ss = ss} z c one_answer all at strict f es fu
     let mine = call_lists z c last.due own line last.block eb el fun (z.good f fun found) (z.placed f fun found) it gives vs have many g (body (Called c own)) in
     let long : own + 1 ≡ spot.next + length m.nodes = let x = length-append l.nodes (m1 ∷ []) in omega (arith, x) in
     lists_to z c spot.next (own + 1) (spot.next + length m.nodes) (both (list_counted d) (a_call (body_counted g))) long
-    (lists_both z c spot.next own (own + 1) (list_counted d) (a_call (body_counted g))
+    (lists_both z c spot.next own (own + 1) (list_counted d) (a_call (body_counted g)) (omega arith) (omega arith)
     (means site spot scope names (length k.function.params) fits k.arguments before known) mine)

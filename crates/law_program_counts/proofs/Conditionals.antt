@@ -127,24 +127,24 @@ module _ (z : Scene) (c : Context) (site : Site) (k : Spot) (at : ℕ) (ps : Lis
       omega (arith, n) in
       let arms = lists_to z c (k.next + 1) (k.next + 1 + length a.nodes + length b.nodes) (k.next + 1 + length (a.nodes ++ b.nodes)) count two f in
       let end : ℕ = k.next + 1 + length (a.nodes ++ b.nodes) + length ms in
-      let behind = lists_behind z c (k.next + 1) (k.next + 1 + length (a.nodes ++ b.nodes)) end count arms merges_empty in
+      let behind = lists_behind z c (k.next + 1) (k.next + 1 + length (a.nodes ++ b.nodes)) end count (omega arith) arms merges_empty in
       let long : end ≡ k.next + length (chosen site k at ps a b).nodes =
       let n = length-append (a.nodes ++ b.nodes) ms in let m = length-append a.nodes (b.nodes ++ ms) in let i = length-append b.nodes ms in
       let j = length-append a.nodes b.nodes in omega (arith, n, m, i, j) in
-      lists_to z c k.next end (k.next + length (chosen site k at ps a b).nodes) count long (lists_before z c k.next (k.next + 1) end count cond_empty behind)
+      lists_to z c k.next end (k.next + length (chosen site k at ps a b).nodes) count long (lists_before z c k.next (k.next + 1) end count (omega arith) cond_empty behind)
 
   pub left_lists : truth v ≡ true → (count : Count) → Lists z c (k.next + 1) (k.next + 1 + length a.nodes) count
       → (Lines (k.next + 1 + length a.nodes) b.nodes → LieIn h.block (Arm k.next false) b.nodes) → ListsOf z c k (chosen site k at ps a b) count
   left_lists t count f lies =
       all_lists count
-      (lists_behind z c (k.next + 1) (k.next + 1 + length a.nodes) (k.next + 1 + length a.nodes + length b.nodes) count f
+      (lists_behind z c (k.next + 1) (k.next + 1 + length a.nodes) (k.next + 1 + length a.nodes + length b.nodes) count (omega arith) f
       (other_empty false (λ e. cc) (k.next + 1 + length a.nodes) b.nodes arm_lines.1 (lies arm_lines.1)))
 
   pub right_lists : truth v ≡ false → (count : Count) → Lists z c (k.next + 1 + length a.nodes) (k.next + 1 + length a.nodes + length b.nodes) count
       → (Lines (k.next + 1) a.nodes → LieIn h.block (Arm k.next true) a.nodes) → ListsOf z c k (chosen site k at ps a b) count
   right_lists t count f lies =
       all_lists count
-      (lists_before z c (k.next + 1) (k.next + 1 + length a.nodes) (k.next + 1 + length a.nodes + length b.nodes) count
+      (lists_before z c (k.next + 1) (k.next + 1 + length a.nodes) (k.next + 1 + length a.nodes + length b.nodes) count (omega arith)
       (other_empty true (λ e. cc) (k.next + 1) a.nodes arm_lines.0 (lies arm_lines.0)) f)
 
 -- AN ARM whose region is taken has the invocations of its body.
@@ -181,7 +181,7 @@ module _ (z : Scene) (c : Context) (site : Site) (cond : ℕ) (side : Bool) (spo
       let long : spot.next + length l.nodes + length inside.nodes ≡ spot.next + length an_arm.nodes = let x = length-append l.nodes inside.nodes in
       omega (arith, x) in
       lists_to z c spot.next (spot.next + length l.nodes + length inside.nodes) (spot.next + length an_arm.nodes) (body_counted g) long
-      (lists_before z c spot.next (spot.next + length l.nodes) (spot.next + length l.nodes + length inside.nodes) (body_counted g) none out)
+      (lists_before z c spot.next (spot.next + length l.nodes) (spot.next + length l.nodes + length inside.nodes) (body_counted g) (omega arith) none out)
 
 -- where the lines of an arm lie
 pub arm_lies : (z : Scene) (b : Block ℕ) (site : Site) (cond : ℕ) (side : Bool) (spot : Spot) (at : ℕ) (scope : Scope) (predicate : Source) (body : Body)

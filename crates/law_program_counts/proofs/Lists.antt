@@ -1,11 +1,11 @@
 -- LISTS OF INVOCATIONS that are made at a range of nodes, and how many they are.
-use Rattle.std.proofs.Common.{◌≡◌, ℕ, ◌+◌, ◌<◌, ◌≤◌, ◌⊎◌, Bool, true, false, cond, List, [], ◌∷◌, ◌++◌, length, Some, Contains, refl, sym, ap, ◌∙◌, subst, arith}
+use Rattle.std.proofs.Common.{◌≡◌, ℕ, zero, suc, ◌+◌, ◌<◌, ◌≤◌, ◌⊎◌, Bool, true, false, cond, List, [], ◌∷◌, ◌++◌, length, Some, Contains, refl, sym, ap, ◌∙◌, subst, arith}
 use Rattle.std.proofs.Common.{length-append, ltb-true, ltb-false, ⊎_elim}
 use Rattle.std.specs.Prelude.{⊤, nat_lt, count_by}
-use Rattle.std.proofs.lemmas.List.Elements.{Contains-append_left, Contains-append_right}
+use Rattle.std.proofs.lemmas.List.Elements.{Contains-append_left, Contains-append_right, Contains-append_cases}
 use Rattle.std.proofs.lemmas.List.Sums.{sum_by-cons}
 use Rattle.std.proofs.lemmas.Option.{same_Some}
-use Rattle.lemmas.proofs.Contains.{contains_none}
+use Rattle.lemmas.proofs.Contains.{contains_none, contains_head, contains_tail, get_contains}
 use Rattle.lemmas.proofs.Permutations.{Each}
 use Rattle.semantics.specs.declared.graph.Kind.{Kind}
 use Rattle.semantics.specs.declared.graph.Kind.TheVariants.{Call, StrictCall, Loop}
@@ -14,6 +14,7 @@ use Rattle.semantics.specs.Meaning.{Context, IsCall, IsLoop, block_of, node_in, 
 use Rattle.semantics.specs.Cause.{is_turn}
 use Rattle.source.specs.Holds.{Holds}
 use Rattle.law_completion.specs.TotalProgram.{Count, none, both}
+use Rattle.law_completion.proofs.DueGrows.{AllDiffer, differ_head, differ_tail}
 use Rattle.law_language.proofs.MeansScene.{Scene, flow, DueIn}
 use Rattle.law_program_counts.proofs.MadeAt.{made_at, made_line}
 
@@ -21,12 +22,17 @@ use Rattle.law_program_counts.proofs.MadeAt.{made_at, made_line}
 abbrev pub Empty : Scene → Context → ℕ → ℕ → Type 0
 Empty z c lo hi = (d : Context) (n : ℕ) → DueIn z d → made_at c d ≡ Some n → lo ≤ n → n < hi → ⊥
 
--- All that are due and made there are among these, and these are as many as are counted.
+-- Those that are due and made there are just these, each once, and these are as many as are counted.
+abbrev pub MadeIn : Context → ℕ → ℕ → Context → Type 0
+MadeIn c lo hi d = (n : ℕ) × (made_at c d ≡ Some n) × (lo ≤ n) × (n < hi)
+
 pub record Lists (z : Scene) (c : Context) (lo hi : ℕ) (count : Count) : Type 0 where
   pub invocations : List Context
   pub many : length invocations ≡ count.calls + count.turns
   pub turns : count_by is_turn invocations ≡ count.turns
   pub all : (d : Context) (n : ℕ) → DueIn z d → made_at c d ≡ Some n → lo ≤ n → n < hi → Contains invocations d
+  pub just : (d : Context) → Contains invocations d → DueIn z d × MadeIn c lo hi d
+  pub differ : AllDiffer invocations
 
 -- COUNTING
 pub count_more : {X : Type 0} (f : X → Bool) (x : X) (xs : List X) → count_by f (x ∷ xs) ≡ cond (f x) 1 0 + count_by f xs
@@ -37,10 +43,31 @@ count_both f [] ys = omega arith
 count_both f (x ∷ xs) ys =
     let a = count_more f x (xs ++ ys) in let b = count_more f x xs in let c = count_both f xs ys in omega (arith, a, b, c)
 
+-- DIFFERENT ONES
+pub differ_cons : {X : Type 0} (x : X) (xs : List X) → (Contains xs x → ⊥) → AllDiffer xs → AllDiffer (x ∷ xs)
+differ_cons x xs out d zero zero y a b = refl
+differ_cons x xs out d zero (suc j) y a b = absurd (out (subst (Contains xs) (sym (same_Some x y a)) (get_contains xs j y b)))
+differ_cons x xs out d (suc i) zero y a b = absurd (out (subst (Contains xs) (sym (same_Some x y b)) (get_contains xs i y a)))
+differ_cons x xs out d (suc i) (suc j) y a b = ap suc (d i j y a b)
+
+pub differ_both : {X : Type 0} (xs ys : List X) → AllDiffer xs → AllDiffer ys → ((x : X) → Contains xs x → Contains ys x → ⊥) → AllDiffer (xs ++ ys)
+differ_both [] ys d e apart = e
+differ_both (x ∷ xs) ys d e apart =
+    differ_cons x (xs ++ ys)
+    (λ h. ⊎_elim (λ k. differ_head x xs d k) (λ k. apart x (contains_head x xs) k) (Contains-append_cases xs ys x h))
+    (differ_both xs ys (differ_tail x xs d) e (λ y h k. apart y (contains_tail x xs y h) k))
+
 module _ (z : Scene) (c : Context) where
   -- RANGES one after the other
   pub lists_none : (lo hi : ℕ) → Empty z c lo hi → Lists z c lo hi none
-  lists_none lo hi empty = record { invocations = []; many = refl; turns = refl; all = λ d n due e low high. absurd (empty d n due e low high) }
+  lists_none lo hi empty = record {
+    invocations = [];
+    many = refl;
+    turns = refl;
+    all = λ d n due e low high. absurd (empty d n due e low high);
+    just = λ d h. absurd (contains_none d h);
+    differ = λ i j x a b. absurd (contains_none x (get_contains [] i x a));
+  }
 
   pub empty_both : (lo mid hi : ℕ) → Empty z c lo mid → Empty z c mid hi → Empty z c lo hi
   empty_both lo mid hi f g d n due e low high = go (nat_lt n mid) refl
@@ -49,38 +76,53 @@ module _ (z : Scene) (c : Context) where
       go true h = f d n due e low (ltb-true n mid h)
       go false h = g d n due e (ltb-false n mid h) high
 
-  pub lists_both : (lo mid hi : ℕ) (x y : Count) → Lists z c lo mid x → Lists z c mid hi y → Lists z c lo hi (both x y)
-  lists_both lo mid hi x y f g = record {
+  pub lists_both : (lo mid hi : ℕ) (x y : Count) → lo ≤ mid → mid ≤ hi → Lists z c lo mid x → Lists z c mid hi y → Lists z c lo hi (both x y)
+  lists_both lo mid hi x y below above f g = record {
     invocations = f.invocations ++ g.invocations;
     many = let a = f.many in let b = g.many in let long = length-append f.invocations g.invocations in omega (arith, a, b, long);
     turns = let a = f.turns in let b = g.turns in let long = count_both is_turn f.invocations g.invocations in omega (arith, a, b, long);
     all = λ d n due e low high. pick d n due e low high (nat_lt n mid) refl;
+    just = λ d h. ⊎_elim (λ k. left d (f.just d k)) (λ k. right d (g.just d k)) (Contains-append_cases f.invocations g.invocations d h);
+    differ = differ_both f.invocations g.invocations f.differ g.differ (λ d h k. apart d (f.just d h).1 (g.just d k).1);
   }
     where
+      left : (d : Context) → DueIn z d × MadeIn c lo mid d → DueIn z d × MadeIn c lo hi d
+      left d h = let high = h.1.3 in (h.0, (h.1.0, h.1.1, h.1.2, omega (arith, high, above)))
+
+      right : (d : Context) → DueIn z d × MadeIn c mid hi d → DueIn z d × MadeIn c lo hi d
+      right d h = let low = h.1.2 in (h.0, (h.1.0, h.1.1, omega (arith, low, below), h.1.3))
+
+      apart : (d : Context) → MadeIn c lo mid d → MadeIn c mid hi d → ⊥
+      apart d h k = let same = same_Some h.0 k.0 (sym h.1 ∙ k.1) in let high = h.3 in let low = k.2 in omega (arith, same, high, low)
+
       pick : (d : Context) (n : ℕ) → DueIn z d → made_at c d ≡ Some n → lo ≤ n → n < hi → (t : Bool) → nat_lt n mid ≡ t
           → Contains (f.invocations ++ g.invocations) d
       pick d n due e low high true h = Contains-append_left f.invocations g.invocations d (f.all d n due e low (ltb-true n mid h))
       pick d n due e low high false h = Contains-append_right f.invocations g.invocations d (g.all d n due e (ltb-false n mid h) high)
 
   -- with a range in which nothing is made, before or behind
-  pub lists_before : (lo mid hi : ℕ) (x : Count) → Empty z c lo mid → Lists z c mid hi x → Lists z c lo hi x
-  lists_before lo mid hi x empty f = record {
+  pub lists_before : (lo mid hi : ℕ) (x : Count) → lo ≤ mid → Empty z c lo mid → Lists z c mid hi x → Lists z c lo hi x
+  lists_before lo mid hi x order empty f = record {
     invocations = f.invocations;
     many = f.many;
     turns = f.turns;
     all = λ d n due e low high. pick d n due e low high (nat_lt n mid) refl;
+    just = λ d h. let low = (f.just d h).1.2 in ((f.just d h).0, ((f.just d h).1.0, (f.just d h).1.1, omega (arith, low, order), (f.just d h).1.3));
+    differ = f.differ;
   }
     where
       pick : (d : Context) (n : ℕ) → DueIn z d → made_at c d ≡ Some n → lo ≤ n → n < hi → (t : Bool) → nat_lt n mid ≡ t → Contains f.invocations d
       pick d n due e low high true h = absurd (empty d n due e low (ltb-true n mid h))
       pick d n due e low high false h = f.all d n due e (ltb-false n mid h) high
 
-  pub lists_behind : (lo mid hi : ℕ) (x : Count) → Lists z c lo mid x → Empty z c mid hi → Lists z c lo hi x
-  lists_behind lo mid hi x f empty = record {
+  pub lists_behind : (lo mid hi : ℕ) (x : Count) → mid ≤ hi → Lists z c lo mid x → Empty z c mid hi → Lists z c lo hi x
+  lists_behind lo mid hi x order f empty = record {
     invocations = f.invocations;
     many = f.many;
     turns = f.turns;
     all = λ d n due e low high. pick d n due e low high (nat_lt n mid) refl;
+    just = λ d h. let high = (f.just d h).1.3 in ((f.just d h).0, ((f.just d h).1.0, (f.just d h).1.1, (f.just d h).1.2, omega (arith, high, order)));
+    differ = f.differ;
   }
     where
       pick : (d : Context) (n : ℕ) → DueIn z d → made_at c d ≡ Some n → lo ≤ n → n < hi → (t : Bool) → nat_lt n mid ≡ t → Contains f.invocations d

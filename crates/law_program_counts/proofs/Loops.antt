@@ -1,9 +1,9 @@
 -- The invocations of a loop are its turns, and those of its first values and of its turns.
 use Rattle.std.proofs.Common.{◌≡◌, ℕ, zero, suc, ◌+◌, ◌<◌, ◌≤◌, ◌⊎◌, inl, inr, Bool, true, false, List, [], ◌∷◌, ◌++◌, length, map, Option, Some, None, Ok, Contains}
-use Rattle.std.proofs.Common.{refl, sym, ap, ◌∙◌, subst, subst₂, arith, length-append, ltb-true, ltb-false, cond}
+use Rattle.std.proofs.Common.{refl, sym, ap, ◌∙◌, subst, subst₂, arith, length-append, ltb-true, ltb-false, cond, ⊎_elim}
 use Rattle.std.specs.Prelude.{slice_get, nat_lt, count_by}
 use Rattle.std.proofs.lemmas.List.{length-map}
-use Rattle.std.proofs.lemmas.List.Elements.{Contains-append_left, Contains-append_right}
+use Rattle.std.proofs.lemmas.List.Elements.{Contains-append_left, Contains-append_right, Contains-append_cases}
 use Rattle.std.proofs.lemmas.Option.{slice_get_within, same_Some}
 use Rattle.tags.specs.declared.value.Value.{Value}
 use Rattle.operators.specs.Values.{truth}
@@ -12,7 +12,7 @@ use Rattle.semantics.specs.declared.graph.Kind.TheVariants as node
 use Rattle.semantics.specs.Graph.{Node, Block, node_at, node_count, place_of, block_names}
 use Rattle.semantics.specs.Meaning.{Context, Called, Turned, IsCall, IsLoop, callee, callee_of, callee_in, block_number, block_numbered, block_of, node_in, node_of}
 use Rattle.semantics.specs.Cause.{is_turn}
-use Rattle.lemmas.proofs.Contains.{contains_head, contains_tail}
+use Rattle.lemmas.proofs.Contains.{contains_cases, contains_head, contains_tail}
 use Rattle.law_confluence.specs.EquationsHave.{ports_of, source_line, result_in, result_at}
 use Rattle.law_confluence.specs.Equations.{HasSome, Result, Flagged, Loops, LineEquation}
 use Rattle.law_confluence.proofs.EquationsGraphForms.{HasForm}
@@ -33,6 +33,7 @@ use Rattle.source.proofs.Holding.{holds_whole}
 use Rattle.source.proofs.OutsideNames.{uses_once}
 use Rattle.source.proofs.Counting.{list_count}
 use Rattle.law_completion.specs.TotalProgram.{Count, a_turn, both, counted, list_counted, body_counted, turns_counted}
+use Rattle.law_completion.proofs.DueGrows.{AllDiffer}
 use Rattle.law_language.specs.MeansHolds.{resolved, block_place, block_in, HasBlock, HasBlocks}
 use Rattle.law_language.specs.Means.{turn_gives}
 use Rattle.law_language.proofs.MeansHaving.{have_source, have_length, have_both, have_split}
@@ -45,8 +46,8 @@ use Rattle.law_language.proofs.MeansScene.{Scene, PortsGive, flow, world_of, Sto
 use Rattle.law_language.proofs.MeansStanding.{first_in, rest_in}
 use Rattle.law_language.proofs.MeansFirsts.{firsts_list, Apart, firsts_apart, scoped_sources, scoped_both, inputs_both}
 use Rattle.law_language.proofs.MeansTurnNames.{BoundTo, known_values, entered_values, agrees_behind}
-use Rattle.law_program_counts.proofs.MadeAt.{made_at, MadeBy, TheCall, TheTurn, WithinCall, WithinTurn, made_by, made_due}
-use Rattle.law_program_counts.proofs.Lists.{Lists, lists_both, lists_to, count_more, count_both}
+use Rattle.law_program_counts.proofs.MadeAt.{made_at, MadeBy, TheCall, TheTurn, WithinCall, WithinTurn, made_by, made_due, made_turn, own_turn, not_in_turn, made_once, turn_once}
+use Rattle.law_program_counts.proofs.Lists.{Lists, lists_both, lists_to, count_more, count_both, differ_cons, differ_both}
 use Rattle.law_program_counts.proofs.SameAnswers.{same_list}
 use Rattle.law_program_counts.proofs.Parts.{ListsOf, ExprCounts, ListCounts, BodyCounts}
 use Rattle.law_program_counts.proofs.Calls.{within_block}
@@ -306,6 +307,15 @@ module _ (z : Scene) (c : Context) (turn : Turn) (env : Env) (vs : List Value) (
     pub many : length invocations ≡ count.calls + count.turns
     pub turns : count_by is_turn invocations ≡ count.turns
     pub each : (d : Context) (u : ℕ) → DueIn z d → t ≤ u → InTurnOf u d → Contains invocations d
+    pub just : (d : Context) → Contains invocations d → DueIn z d × ((u : ℕ) × (t ≤ u) × InTurnOf u d)
+    pub differ : AllDiffer invocations
+
+  -- in one turn alone
+  one_turn : (t u : ℕ) (d : Context) → InTurnOf t d → InTurnOf u d → t ≡ u
+  one_turn t u d (inl e) (inl f) = turn_once c l.own t u (sym e ∙ f)
+  one_turn t u d (inl e) (inr f) = absurd (not_in_turn c l.own u t f.0 (subst (λ d. made_at (here u) d ≡ Some f.0) e f.1))
+  one_turn t u d (inr e) (inl f) = absurd (not_in_turn c l.own t u e.0 (subst (λ d. made_at (here t) d ≡ Some e.0) f e.1))
+  one_turn t u d (inr e) (inr f) = made_once c d l.own t u e.0 f.0 e.1 f.1
 
   turn_due : (u : ℕ) (d : Context) → DueIn z d → InTurnOf u d → DueIn z (here u)
   turn_due u d due (inl e) = subst (λ d. DueIn z d) e due
@@ -323,8 +333,19 @@ module _ (z : Scene) (c : Context) (turn : Turn) (env : Env) (vs : List Value) (
       ap (λ n. nx + no_ + n) (length-map (map line_node tl.nodes) _ ∙ length-map tl.nodes line_node) in
       contains_tail (here t) f.invocations d (f.all d m.0 due m.1 past (omega (arith, below, long)))
 
-  only_turn : (t : ℕ) (count : Count) → t ≡ last → TurnLists t count → FromTurn t (a_turn count)
-  only_turn t count ends f = record {
+  its_turn : (t : ℕ) (count : Count) → DueIn z (here t) → (f : TurnLists t count) → (d : Context) → Contains (here t ∷ f.invocations) d
+      → DueIn z d × InTurnOf t d
+  its_turn t count due f d h = go (contains_cases (here t) f.invocations d h)
+    where
+      go : (here t ≡ d) ⊎ Contains f.invocations d → DueIn z d × InTurnOf t d
+      go (inl e) = (subst (λ d. DueIn z d) e due, inl (sym e))
+      go (inr k) = let m = f.just d k in (m.0, inr (m.1.0, m.1.1))
+
+  turn_apart : (t : ℕ) (count : Count) → (f : TurnLists t count) → AllDiffer (here t ∷ f.invocations)
+  turn_apart t count f = differ_cons (here t) f.invocations (λ h. let m = (f.just (here t) h).1 in not_in_turn c l.own t t m.0 m.1) f.differ
+
+  only_turn : (t : ℕ) (count : Count) → DueIn z (here t) → t ≡ last → TurnLists t count → FromTurn t (a_turn count)
+  only_turn t count due_here ends f = record {
     invocations = here t ∷ f.invocations;
     many = let a = f.many in omega (arith, a);
     turns = let a = count_more is_turn (here t) f.invocations in let b = f.turns in omega (arith, a, b);
@@ -332,15 +353,23 @@ module _ (z : Scene) (c : Context) (turn : Turn) (env : Env) (vs : List Value) (
         let high = first.2.last u (turn_due u d due lies) in
         let same : u ≡ t = omega (arith, ends, low, high) in
         in_turn t count f d due (subst (λ u. InTurnOf u d) same lies);
+    just = λ d h. let m = its_turn t count due_here f d h in (m.0, (t, omega arith, m.1));
+    differ = turn_apart t count f;
   }
 
-  then_turns : (t : ℕ) (count more : Count) → TurnLists t count → FromTurn (suc t) more → FromTurn t (both (a_turn count) more)
-  then_turns t count more f g = record {
+  then_turns : (t : ℕ) (count more : Count) → DueIn z (here t) → TurnLists t count → FromTurn (suc t) more → FromTurn t (both (a_turn count) more)
+  then_turns t count more due_here f g = record {
     invocations = (here t ∷ f.invocations) ++ g.invocations;
     many = let a = f.many in let b = g.many in let long = length-append (here t ∷ f.invocations) g.invocations in omega (arith, a, b, long);
     turns = let a = count_more is_turn (here t) f.invocations in let b = f.turns in let c = g.turns in
         let long = count_both is_turn (here t ∷ f.invocations) g.invocations in omega (arith, a, b, c, long);
     each = λ d u due low lies. pick d u due low lies (nat_lt t u) refl;
+    just = λ d h. ⊎_elim (λ k. (let m = its_turn t count due_here f d k in (m.0, (t, omega arith, m.1))))
+        (λ k. (let m = g.just d k in let low = m.1.1 in (m.0, (m.1.0, omega (arith, low), m.1.2))))
+        (Contains-append_cases (here t ∷ f.invocations) g.invocations d h);
+    differ = differ_both (here t ∷ f.invocations) g.invocations (turn_apart t count f) g.differ
+        (λ d h k. let m = its_turn t count due_here f d h in let n = g.just d k in let same = one_turn t n.1.0 d m.1 n.1.2 in
+        let low = n.1.1 in omega (arith, same, low));
   }
     where
       pick : (d : Context) (u : ℕ) → DueIn z d → t ≤ u → InTurnOf u d → (b : Bool) → nat_lt t u ≡ b
@@ -409,8 +438,14 @@ module _ (z : Scene) (c : Context) (turn : Turn) (env : Env) (vs : List Value) (
         all = λ d k due e low high.
             let same : k ≡ l.own = omega (arith, low, high) in
             pick d due (made_by c l.own d (subst (λ k. made_at c d ≡ Some k) same e)) out.invocations (λ u lies. out.each d u due (omega arith) lies);
+        just = λ d h. let m = out.just d h in (m.0, (l.own, its_node d m.1.0 m.1.2, omega arith, omega arith));
+        differ = out.differ;
       }
     where
+      its_node : (d : Context) (u : ℕ) → InTurnOf u d → made_at c d ≡ Some l.own
+      its_node d u (inl e) = subst (λ d. made_at c d ≡ Some l.own) (sym e) (own_turn c l.own u)
+      its_node d u (inr m) = made_turn c d l.own u m.0 m.1
+
       no_call : DueIn z (Called c l.own) → ⊥
       no_call call =
           let same : call.1.0 ≡ l.line = same_Some call.1.0 l.line (sym call.1.1 ∙ line_is) in
@@ -438,7 +473,7 @@ module _ (z : Scene) (c : Context) (one_answer : OneAnswer) (all : (c : Context)
         (turn_from (Before xs q body) l.k) l.at (turn_scope (loop_names (Before xs q body)) (outside_turn (Before xs q body))) l.names l.fits l.rule
         (turn_stands z c (Before xs q body) env firsts l all t ((first z c (Before xs q body) env firsts l all).2.due t low))
         (turn_names z c (Before xs q body) env firsts l all t vs parts.0) (turn_knows z c (Before xs q body) env firsts l all t parts.1) in
-        only_turn z c (Before xs q body) env firsts l all t (counted d)
+        only_turn z c (Before xs q body) env firsts l all t (counted d) ((first z c (Before xs q body) env firsts l all).2.due t low)
         (it_ends z c (Before xs q body) env firsts l all t vs many h low (ap truth same ∙ off)) lists
 
     pub counts_goes : {b : Value} {us rs : List Value} {ss ts qs : Stores} (vs : List Value) (d : Evaluates (world_of z) (entered xs vs env) q (b ∷ []) ss)
@@ -455,7 +490,8 @@ module _ (z : Scene) (c : Context) (one_answer : OneAnswer) (all : (c : Context)
         (turn_names z c (Before xs q body) env firsts l all t vs parts.0) (turn_knows z c (Before xs q body) env firsts l all t parts.1) in
         let before = it_goes_on z c (Before xs q body) env firsts l all t vs many h low (ap truth same ∙ on) in
         let there = next_have z c (Before xs q body) env firsts l all t vs us many h low before values in
-        then_turns z c (Before xs q body) env firsts l all t (both (counted d) (body_counted g)) (turns_counted next) lists
+        then_turns z c (Before xs q body) env firsts l all t (both (counted d) (body_counted g)) (turns_counted next)
+        ((first z c (Before xs q body) env firsts l all).2.due t low) lists
         (later (suc t) (omega (arith, before)) there.0 there.1)
 
   module _ (l : Looping z c (After xs body q) env firsts) where
@@ -473,7 +509,7 @@ module _ (z : Scene) (c : Context) (one_answer : OneAnswer) (all : (c : Context)
         (turn_from (After xs body q) l.k) l.at (turn_scope (loop_names (After xs body q)) (outside_turn (After xs body q))) l.names l.fits l.rule
         (turn_stands z c (After xs body q) env firsts l all t ((first z c (After xs body q) env firsts l all).2.due t low))
         (turn_names z c (After xs body q) env firsts l all t vs parts.0) (turn_knows z c (After xs body q) env firsts l all t parts.1) in
-        only_turn z c (After xs body q) env firsts l all t (both (body_counted g) (counted d))
+        only_turn z c (After xs body q) env firsts l all t (both (body_counted g) (counted d)) ((first z c (After xs body q) env firsts l all).2.due t low)
         (it_ends z c (After xs body q) env firsts l all t vs many h low (ap truth same ∙ off)) lists
 
     pub counts_again : {b : Value} {us rs : List Value} {ts ss qs : Stores} (vs : List Value) (g : Runs (world_of z) (entered xs vs env) body us ts)
@@ -491,7 +527,8 @@ module _ (z : Scene) (c : Context) (one_answer : OneAnswer) (all : (c : Context)
         (turn_names z c (After xs body q) env firsts l all t vs parts.0) (turn_knows z c (After xs body q) env firsts l all t parts.1) in
         let before = it_goes_on z c (After xs body q) env firsts l all t vs many h low (ap truth same ∙ on) in
         let there = next_have z c (After xs body q) env firsts l all t vs us many h low before values in
-        then_turns z c (After xs body q) env firsts l all t (both (body_counted g) (counted d)) (turns_counted next) lists
+        then_turns z c (After xs body q) env firsts l all t (both (body_counted g) (counted d)) (turns_counted next)
+        ((first z c (After xs body q) env firsts l all).2.due t low) lists
         (later (suc t) (omega (arith, before)) there.0 there.1)
 
 block_name_loop : (f : Name) (m : ℕ) → block_name f (m + 1) ≡ loop_name f (m + 1)
@@ -566,5 +603,5 @@ counts_loop {env = env} {vs = vs} {ss = qs} z c one_answer all at bound firsts t
     } in
     let wide : own + 1 ≡ spot.next + length m.nodes = let x = length-append f.nodes (m1 ∷ []) in omega (arith, x) in
     lists_to z c spot.next (own + 1) (spot.next + length m.nodes) (both (list_counted d) (turns_counted g)) wide
-    (lists_both z c spot.next own (own + 1) (list_counted d) (turns_counted g)
+    (lists_both z c spot.next own (own + 1) (list_counted d) (turns_counted g) (omega arith) (omega arith)
     (means site spot scope names (count firsts) fits.1 values before agree.0) (loop_lists z c turn env vs l all g (turns l)))

@@ -35,7 +35,7 @@ module _ (z : Scene) (c : Context) where
       let long : own + 1 ≡ spot.next + length (ended site spot l at kind ss 1).nodes = let n = length-append l.nodes (made site at kind ss ∷ []) in
       omega (arith, n) in
       lists_to z c spot.next (own + 1) (spot.next + length (ended site spot l at kind ss 1).nodes) x long
-      (lists_behind z c spot.next own (own + 1) x f (empty_node z c own (resolved z.graph (made site at kind ss)) node quiet))
+      (lists_behind z c spot.next own (own + 1) x (omega arith) f (empty_node z c own (resolved z.graph (made site at kind ss)) node quiet))
 
   pub nothing_lists : (spot : Spot) (ss : List Source) → ListsOf z c spot (only ss) none
   nothing_lists spot ss = lists_none z c spot.next (spot.next + length (only ss).nodes) (λ d n due e low high. omega (arith, low, high))
@@ -47,7 +47,7 @@ module _ (z : Scene) (c : Context) where
       let long : spot.next + length l.nodes + length k.nodes ≡ spot.next + length (l.nodes ++ k.nodes) = let n = length-append l.nodes k.nodes in
       omega (arith, n) in
       lists_to z c spot.next (spot.next + length l.nodes + length k.nodes) (spot.next + length (l.nodes ++ k.nodes)) (both x y) long
-      (lists_both z c spot.next (spot.next + length l.nodes) (spot.next + length l.nodes + length k.nodes) x y f g)
+      (lists_both z c spot.next (spot.next + length l.nodes) (spot.next + length l.nodes + length k.nodes) x y (omega arith) (omega arith) f g)
 
   -- LEAVES
   pub counts_number : {env : Env} {t k : ℕ} {vs : List Value} {ss : Stores} (d : Evaluates (world_of z) env (Number t k) vs ss) → ExprCounts z c d

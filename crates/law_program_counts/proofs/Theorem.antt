@@ -1,17 +1,18 @@
 -- A program completes where a machine has a frame for main, for each call and for each iteration of its evaluation.
 use Rattle.std.proofs.Common.{◌≡◌, ℕ, ◌+◌, ◌<◌, ◌⊎◌, inl, inr, ℤ, Bool, true, List, [], ◌∷◌, length, map, Option, Some, None, Contains, refl, sym, ap, ◌∙◌, subst}
 use Rattle.std.proofs.Common.{arith, lt-ltb, if◌then◌else◌, nat_lt, ◌==◌, false}
-use Rattle.std.specs.Prelude.{slice_get, count_by}
+use Rattle.std.specs.Prelude.{slice_get, count_by, ◌≢◌}
 use Rattle.std.proofs.lemmas.List.{length-map}
 use Rattle.tags.specs.declared.value.Value.{Value}
 use Rattle.tags.specs.declared.value.Value.TheVariants.{Int}
 use Rattle.tags.specs.declared.value.Origin.{Origin}
 use Rattle.semantics.specs.Graph.{Graph, Flow, Node, Block, flow_of, node_at, node_count}
 use Rattle.semantics.specs.WellFormed.{WellFormed}
-use Rattle.semantics.specs.Meaning.{Context, Main, Called, Turned, State, Activity, Fires, Says, Sends, Run, start, deed, block_of, block_number, block_numbered}
+use Rattle.semantics.specs.Meaning.{Context, Main, Called, Turned, State, Activity, Fires, Says, Sends, Run, Stood, start, deed, block_of, block_number, block_numbered}
 use Rattle.semantics.specs.Meaning.{on_block, on_node, fired, fired_in, input_passed}
-use Rattle.semantics.specs.Cause.{is_turn}
-use Rattle.lemmas.proofs.Contains.{contains_get}
+use Rattle.semantics.specs.Cause.{AllDue, is_turn}
+use Rattle.lemmas.proofs.Alls.{all_from}
+use Rattle.lemmas.proofs.Contains.{contains_get, get_contains}
 use Rattle.law_confluence.specs.Outcome.{AreInputsOf}
 use Rattle.law_confluence.specs.EquationsHave.{Gives}
 use Rattle.law_confluence.specs.Equations.{IsDue}
@@ -86,18 +87,13 @@ module _ (z : Scene) where
       let gives : Gives (flow z) z.run z.state.memory c 0 0 v = (Fires c 0 (v ∷ []), Says (Sends c 0 0 v), h, passes c v b.0 b.1 some, refl) in
       z.settled.silent_invocations c 0 0 v gives
 
--- THE RUN that the state at rest has
+-- A RUN to the state at rest
 functions_are_placed : FunctionsArePlaced
 functions_are_placed = places_from_origins origins_are_traced
 
 module _ (one_answer : OneAnswer) (p : Program) (g : Graph) (origin : ℕ → Origin) (low : IsLoweredApart p g origin) (well : WellFormed g)
-    (inputs : List ℤ) (count : AreInputsOf g inputs) (s : State) (rests : RestsWell (flow_of g) inputs s) (k : Computes p origin inputs s.memory) where
-  abbrev run : List Activity
-  run = rests.reached.run
-
-  abbrev r : Run (flow_of g) (start inputs) run s
-  r = rests.reached.is_run
-
+    (inputs : List ℤ) (count : AreInputsOf g inputs) (s : State) (rests : RestsWell (flow_of g) inputs s) (k : Computes p origin inputs s.memory)
+    (run : List Activity) (r : Run (flow_of g) (start inputs) run s) where
   none : NoneWaits (flow_of g) s
   none = none_waits (flow_of g) s.tokens rests.none_waits
 
@@ -158,13 +154,35 @@ module _ (one_answer : OneAnswer) (p : Program) (g : Graph) (origin : ℕ → Or
       subst (λ t. CallsForAtMost (flow_of g) inputs ((count_of p origin inputs s.memory k).calls + (count_of p origin inputs s.memory k).turns) t) main_lists.turns
       (subst (λ d. CallsForAtMost (flow_of g) inputs d (count_by is_turn main_lists.invocations)) main_lists.many needs.calls)
 
+  -- and these are due, other than main, and differ
+  all_due : AllDue (flow_of g) run (Stood (flow_of g) (start inputs) run s r) main_lists.invocations
+  all_due = (
+    all_from (λ c. IsDue (flow_of g) inputs run s r c × (c ≢ Main)) main_lists.invocations
+        (λ i c e. let m = main_lists.just c (get_contains main_lists.invocations i c e) in (m.0, not_main c m.1.0 m.1.1)),
+    main_lists.differ,
+  )
+    where
+      not_main : (c : Context) (n : ℕ) → made_at Main c ≡ Some n → c ≢ Main
+      not_main c n e f = none_at n (subst (λ c. made_at Main c ≡ Some n) f e)
+        where
+          none_at : (n : ℕ) → None ≡ Some n → ⊥
+          none_at n e = cc
+
+  pub calls_just : (cs : List Context) × AllDue (flow_of g) run (Stood (flow_of g) (start inputs) run s r) cs
+      × (length cs ≡ (count_of p origin inputs s.memory k).calls + (count_of p origin inputs s.memory k).turns)
+      × (count_by is_turn cs ≡ (count_of p origin inputs s.memory k).turns)
+  calls_just = (main_lists.invocations, all_due, main_lists.many, main_lists.turns)
+
 pub programs_call_for : OneAnswer → ProgramsCallForCounted
-programs_call_for one p g origin low well inputs count s rests k = calls_counted one p g origin low well inputs count s rests k
+programs_call_for one p g origin low well inputs count s rests k = record {
+  at_most = calls_counted one p g origin low well inputs count s rests k rests.reached.run rests.reached.is_run;
+  just = λ run r. calls_just one p g origin low well inputs count s rests k run r;
+}
 
 pub programs_complete : OneAnswer → ProgramsCompleteCounted
 programs_complete one p g origin low well plan code true_code inputs count s rests k z most large by_list may_stop r shows uncut =
     total_graph g plan code well true_code inputs count _ _
-    record { state = s; rests = rests; calls = programs_call_for one p g origin low well inputs count s rests k } z most large by_list may_stop r shows uncut
+    record { state = s; rests = rests; calls = (programs_call_for one p g origin low well inputs count s rests k).at_most } z most large by_list may_stop r shows uncut
 
 -- TEXTS
 text_apart : (text : List ℕ) (p : Program) (g : Graph) (origin : ℕ → Origin) → IsLoweredText text p g origin → IsLoweredApart p g origin

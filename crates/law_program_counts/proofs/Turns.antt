@@ -148,7 +148,7 @@ module _ (z : Scene) (c : Context) (one_answer : OneAnswer) (all : AllIn z c) (x
       let mid : ℕ = spot.next + length p.nodes in
       let long : mid + length m.nodes ≡ spot.next + length (joined p m).nodes = let i = length-append p.nodes m.nodes in omega (arith, i) in
       lists_to z c spot.next (mid + length m.nodes) (spot.next + length (joined p m).nodes) (counted d) long
-      (lists_behind z c spot.next mid (mid + length m.nodes) (counted d) (test site spot scope names 1 fits.0 rules.0.values before tests)
+      (lists_behind z c spot.next mid (mid + length m.nodes) (counted d) (omega arith) (test site spot scope names 1 fits.0 rules.0.values before tests)
       (empty_of z c mid (mid + length m.nodes) stay))
 
   pub counts_moves : {us : List Value} {b : Value} {ss ts : Stores} (env : Env) (vs : List Value) (d : Evaluates (world_of z) (entered xs vs env) q (b ∷ []) ss)
