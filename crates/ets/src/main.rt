@@ -7,27 +7,35 @@ use std::process::ExitCode;
 use std::{env, io};
 
 /// The exit status where memory for the words, or for the buffer of standard output, was refused.
-const UNSTARTED: u8 = 1;
+const REFUSED: u8 = 1;
 
-fn serve(rt: &HostRuntime) -> io::Result<ExitCode> {
-    let words: Vec<String> = env::args(rt)?.collect(rt.alloc())?;
-    let ended = run_process(
-        &words,
-        rt.stdin(),
-        io::writer(rt),
-        &mut rt.stderr(),
-        rt.alloc(),
-        rt,
-    )?;
-    Ok(ExitCode::from(ended.status))
+/// Says that memory was refused before anything was read or written.
+fn refused<E: Write>(errors: &mut E) -> ExitCode {
+    let _is_told = errors.write_all(b"ets: out of memory\n").is_ok();
+    ExitCode::from(REFUSED)
 }
 
 fn main(rt: HostRuntime) -> io::Result<ExitCode> {
-    match serve(&rt) {
+    let given = match env::args(&rt) {
+        Ok(given) => given,
         Err(fault) if fault.kind() == ErrorKind::OutOfMemory => {
-            let _is_told = rt.stderr().write_all(b"ets: out of memory\n").is_ok();
-            Ok(ExitCode::from(UNSTARTED))
+            return Ok(refused(&mut rt.stderr()));
         }
-        served => served,
+        Err(fault) => return Err(fault),
+    };
+    let Ok(words): Result<Vec<String>, _> = given.collect(rt.alloc()) else {
+        return Ok(refused(&mut rt.stderr()));
+    };
+    let ended = run_process(
+        &words,
+        rt.stdin(),
+        io::writer(&rt),
+        &mut rt.stderr(),
+        rt.alloc(),
+        &rt,
+    );
+    match ended {
+        Ok(ended) => Ok(ExitCode::from(ended.status)),
+        Err(_) => Ok(refused(&mut rt.stderr())),
     }
 }

@@ -1,15 +1,16 @@
 -- Elements that waited in vain go on in another pass.
-use Rattle.std.proofs.Common.{◌≡◌, sym, ◌∙◌, ap, subst, ℕ, ◌+◌, ◌<◌, ◌≤◌, ◌⊎◌, inl, inr, Bool, List, length, get_or, arith}
-use Rattle.std.specs.Prelude.{All}
+use Rattle.std.proofs.Common.{◌≡◌, sym, ◌∙◌, ap, subst, ℕ, ◌+◌, ◌<◌, ◌≤◌, ◌⊎◌, inl, inr, Bool, List, [], length, get_or, arith, Option, Some, None}
+use Rattle.std.specs.Prelude.{All, IfSome}
 use Rattle.std.proofs.lemmas.Bool.{cases_lt}
 use Rattle.std.proofs.lemmas.List.{get_or_default}
 use Rattle.crossbeam_utils.specs.declared.cache_padded.CachePadded.{CachePadded}
 use Rattle.crossbeam_utils.specs.Padded.{padded_value}
+use Rattle.element.specs.Holding.{held_of}
 use Rattle.schedule.specs.Setting.{Setting}
 use Rattle.mesh.specs.Seats.{MeshId}
 use Rattle.machine.specs.declared.runner.Departure.{Departure}
 use Rattle.machine.specs.declared.runner.Runner.{Runner}
-use Rattle.machine.specs.Runners.{Runs, IsClear}
+use Rattle.machine.specs.Runners.{Runs, IsClear, IsDeparture}
 use Rattle.machine.specs.Starts.{departure_of, AllWait, AllEnded}
 use Rattle.machine.proofs.Keeping.{ended_twice, waits_ready}
 
@@ -48,3 +49,9 @@ module _ {C A L : Type 0} where
         let low : i < length olds = omega (arith, within, count) in
         waits_ready keeps_events g mesh may_stop (padded_value (get_or olds i d)) (padded_value (get_or mids i d)) (ready i d low).0 (wait i d within)
         (one i d low)
+
+  -- one that waited in vain has no token
+  pub waited_so : (g : Setting) (may_stop : Bool) (r : Runner C A L) (o : Option Departure) → IfSome o (λ departure. departure ≡ Departure.Waited)
+      → (held_of r.lane).queue ≡ [] → IfSome o (IsDeparture g may_stop r)
+  waited_so g may_stop r None waits none = tt
+  waited_so g may_stop r (Some departure) waits none = subst (λ (x : Departure). IsDeparture g may_stop r x) (sym waits) none

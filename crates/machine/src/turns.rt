@@ -122,14 +122,16 @@ fn look<C: MainCode, A: Allocator, L: Log>(
     if mesh.stopped(&mut runner.seat) != 0 {
         return Some(Departure::Stopped);
     }
-    if runner.lane.queue().len() == 0 && mesh.live(&mut runner.seat) == 0 {
-        return Some(Departure::Rested);
+    if runner.lane.queue().len() == 0 {
+        if mesh.live(&mut runner.seat) == 0 {
+            return Some(Departure::Rested);
+        }
     }
     None
 }
 
-// One turn: why the element leaves after it, if it does.
-fn turn<C: MainCode, A: Allocator + Clone, L: Log, G: Gate>(
+// One turn: why the element leaves after it, if it does, where it need not wait.
+fn make_turn<C: MainCode, A: Allocator + Clone, L: Log, G: Gate>(
     runner: &mut Runner<'_, C, A, L>,
     mesh: &NearMesh<A>,
     shape: &Shape<'_, C>,
@@ -153,14 +155,43 @@ fn turn<C: MainCode, A: Allocator + Clone, L: Log, G: Gate>(
     }
 }
 
-// Whether an element that has no token waits for one, which it has done this often.
-fn may_wait(attendance: &Attendance, elements: u32, looks: &mut u64) -> bool {
+// An element that has no token, and has looked this often for one, waits, or leaves.
+fn wait_or_leave(attendance: &Attendance, elements: u32, looks: &mut u64) -> Option<Departure>
+    ensures { IfSome result (λ departure. departure ≡ Departure.Waited) }
+{
     if !attendance.may_wait(elements, *looks) {
-        return false;
+        return Some(Departure::Waited);
     }
     *looks = looks.wrapping_add(1);
     thread::yield_now();
-    true
+    None
+}
+
+// One turn, and a wait where the element has no token: why it leaves then, if it does.
+fn turn<C: MainCode, A: Allocator + Clone, L: Log, G: Gate>(
+    runner: &mut Runner<'_, C, A, L>,
+    mesh: &NearMesh<A>,
+    shape: &Shape<'_, C>,
+    gate: &G,
+    attendance: &Attendance,
+    looks: &mut u64,
+) -> Result<Option<Departure>, Lost>
+    requires good { IsGoodSetting (setting_in C.program C.width shape.now) }
+    requires runs { Runs L.KEEPS_EVENTS (setting_in C.program C.width shape.now) mesh.now runner.old }
+    requires clear { IsClear runner.old }
+    ensures stays { StaysAt runner.old runner.new }
+    ensures keeps { OnOk result (Keeps L.KEEPS_EVENTS (setting_in C.program C.width shape.now) mesh.now runner.old runner.new) }
+    ensures departure { IfOk result (λ departure. IfSome departure (IsDeparture (setting_in C.program C.width shape.now) G.may_stop runner.new)) }
+    ensures clear { IfOk result (λ departure. departure ≡ None → IsClear runner.new) }
+    ensures waits { IfOk result (λ departure. departure ≡ Some Departure.Waited → IsClear runner.new) }
+{
+    if let Some(departure) = make_turn(runner, mesh, shape, gate)? {
+        return Ok(Some(departure));
+    }
+    if runner.lane.queue().len() != 0 {
+        return Ok(None);
+    }
+    Ok(wait_or_leave(attendance, shape.elements, looks))
 }
 
 // Turns until the element leaves.
@@ -182,11 +213,8 @@ fn go<R: Wait, C: MainCode, A: Allocator + Clone, L: Log, G: Gate>(
 {
     let mut looks = 0;
     'turns: for _ in rt.forever() {
-        if let Some(departure) = turn(runner, mesh, shape, gate)? {
+        if let Some(departure) = turn(runner, mesh, shape, gate, attendance, &mut looks)? {
             return Ok(departure);
-        }
-        if runner.lane.queue().len() == 0 && !may_wait(attendance, shape.elements, &mut looks) {
-            return Ok(Departure::Waited);
         }
     }
     unreachable!()

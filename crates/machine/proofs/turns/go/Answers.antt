@@ -1,4 +1,5 @@
-use Rattle.std.proofs.Common.{◌≡◌, ◌∙◌, None}
+use Rattle.std.proofs.Common.{◌≡◌, ◌∙◌, Some, None}
+use Rattle.machine.specs.declared.runner.Departure.{Departure}
 use Rattle.schedule.specs.State.{setting_in}
 use Rattle.machine.proofs.Keeping.{runs_on, keeps_twice}
 use Rattle.machine.proofs.turns.go.Goals as goal
@@ -25,3 +26,8 @@ turns-preserved g c =
           c.turn.new.runner i.keeps e.keeps;
       clear = e.clear none;
     }
+
+pub returns-in-Some-2-clause-clear : goal.returns-in-Some-2-clause-clear
+returns-in-Some-2-clause-clear g c = λ waits.
+    let some : c.in_ok-departure.field-0 ≡ Some Departure.Waited = cc in
+    c.in_ok-departure.ensures.waits some
