@@ -1,15 +1,14 @@
 -- Uses that are listed are those that are sent to.
-use Rattle.std.proofs.Common.{◌≡◌, ℕ, zero, suc, ◌+◌, ◌-◌, ◌<◌, Bool, true, false, ◌&&◌, ◌==◌, List, [], ◌∷◌, ◌++◌, map, Option, Some, None, slice_get}
-use Rattle.std.proofs.Common.{if◌then◌else◌, refl, sym, ap, ◌∙◌, subst, arith, append_assoc}
+use Rattle.std.proofs.Common.{◌≡◌, ℕ, zero, suc, ◌+◌, ◌-◌, ◌<◌, true, false, ◌&&◌, ◌==◌, List, [], ◌∷◌, ◌++◌, Some, slice_get}
+use Rattle.std.proofs.Common.{if◌then◌else◌, refl, sym, ap, ◌∙◌, arith, append_assoc}
 use Rattle.semantics.specs.declared.graph.Source.{Source}
-use Rattle.semantics.specs.Graph.{Node, Block, Graph}
+use Rattle.semantics.specs.Graph.{Node, Block}
 use Rattle.oracle.specs.declared.invocations.Made.{Made}
 use Rattle.oracle.specs.declared.sending.Sent.{Sent}
 use Rattle.oracle.specs.declared.tokens.Spot.TheVariants.{Operand, Out}
-use Rattle.oracle.specs.declared.tokens.Token.{Token}
 use Rattle.oracle.specs.declared.uses.Use.{Use}
 use Rattle.oracle.specs.Lines.{inputs_in}
-use Rattle.oracle.specs.Sending.{token_at, is_port_of, operand_tokens, node_tokens, result_tokens, results_tokens, sent_tokens}
+use Rattle.oracle.specs.Sending.{token_at, operand_tokens, node_tokens, result_tokens, results_tokens, sent_tokens}
 use Rattle.oracle.specs.Running.{sent_by}
 use Rattle.oracle.specs.Uses.{operand_uses, node_uses, result_uses, uses_in, uses_from, listed_count, listed_in, row_at, use_tokens, used_tokens}
 use Rattle.oracle.proofs.Counting.{less_one}

@@ -1,6 +1,7 @@
 pub mod Acting
 pub mod Agreeing
 pub mod Deeds
+pub mod Fetches
 pub mod Gathering
 pub mod Lines
 pub mod Meant

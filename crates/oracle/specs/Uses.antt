@@ -1,7 +1,7 @@
 -- The uses of the output ports of a node, listed before a run.
 use Rattle.std.specs.Prelude.{ℕ, zero, suc, ◌+◌, ◌==◌, List, [], ◌∷◌, ◌++◌, map, length, Option, Some, None, slice_get, nat_lt, if◌then◌else◌}
 use Rattle.semantics.specs.declared.graph.Source.{Source}
-use Rattle.semantics.specs.Graph.{Node, Block, Graph}
+use Rattle.semantics.specs.Graph.{Node, Block}
 use Rattle.oracle.specs.declared.invocations.Made.{Made}
 use Rattle.oracle.specs.declared.sending.Sent.{Sent}
 use Rattle.oracle.specs.declared.tokens.Spot.{Spot}

@@ -3,6 +3,7 @@
 #![tactic(auto)]
 
 mod deeds;
+mod fetches;
 mod gather;
 mod invocations;
 mod laws;
@@ -17,7 +18,8 @@ mod tokens;
 mod uses;
 mod wave;
 
+pub use fetches::waiting_fetches;
 pub use laws::{runs_are_meant, steps_agree, waves_are_meant};
 pub use profile::waves;
-pub use report::{Full, MeanEnd, MeanFault, MeanReport, WaveReport};
+pub use report::{Full, MeanEnd, MeanFault, MeanReport, WaitingFetch, WaveReport};
 pub use runs::mean;

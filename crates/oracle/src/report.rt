@@ -24,6 +24,16 @@ pub struct Full {
     pub value: Value,
 }
 
+/// A fetch that waits: its node, with the place of the block that the node is in, and the cell, by the place of its array and its
+/// index there.
+#[derive(Clone, Copy, Debug, PartialEq, Eq)]
+pub struct WaitingFetch {
+    pub block: usize,
+    pub node: usize,
+    pub array: usize,
+    pub index: i64,
+}
+
 /// How a run ended, the outputs by their ports, and the full cells in order of arrays and indexes.
 #[derive(Drop)]
 pub struct MeanReport<A: Allocator> {

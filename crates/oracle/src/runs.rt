@@ -94,7 +94,7 @@ pub fn start<'a, A: Allocator + Clone>(
 
 /// Does at most `steps` activities.
 #[tactic(auto, using(crate::proofs::RowRuns::run_stops, crate::proofs::RowRuns::run_stays, crate::proofs::RowRuns::run_breaks))]
-fn run<'a, A: Allocator + Clone>(
+pub fn run<'a, A: Allocator + Clone>(
     checked: &Checked<'a, A>,
     uses: &[BlockUses<A>],
     state: &mut State<A>,
