@@ -43,6 +43,7 @@ no-frame: $a request$A for a frame at the end, where no frame was free: raise --
 no-frame-in-row: $a request$A for a frame at its end, where none of its $d frame$D was free: raise --frames (1024 at most), or leave $c out of --elements
 failed-row: the run on $c element$C does not end at rest, so its rounds are not those of all the work
 readers: $a reader$A at the end of cells that no store filled: `ets trace` shows them, each with a `read` that is `deferred` and no `write`
+readers-of-cells: $a reader$A at the end of cells that no store filled: $x
 readers-of-object: $a reader$A at the end of cells that no store filled: the report has a line `cell` for each cell that one did
 no-credit: $b request$B for a loop's credit at the end, where no iteration could end: raise the loop's bound k, the number in its line `loop F k ..`
 no-credit-of-code: $b request$B for a loop's credit at the end, where no iteration could end: raise the bound k of `open`, `take`, `give` and `drain`, unless the code gives no credit back

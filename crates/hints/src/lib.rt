@@ -16,6 +16,7 @@ mod listings;
 mod message;
 mod objects;
 mod programs;
+mod readers;
 mod runs;
 mod texts;
 mod words;
@@ -28,12 +29,14 @@ use lines::{line_at, split_graph, text_of, word_at};
 use listings::listing_fault;
 use message::{Found, Special, nowhere};
 use objects::object_fault;
-use outcomes::{Outcome, Refusal};
+use outcomes::{Ending, Outcome, Refusal};
 use programs::{kind_cause, program_fault};
+use readers::{ReaderCells, reader_cells};
 use runs::{
     Case, end_fault, given_fault, input_fault, is_of_object, memory_cause, page_fault,
     profile_fault, start_fault,
 };
+use semantics::report::End;
 use std::alloc::{AllocError, Allocator};
 use std::convert::AsStr;
 use texts::text_fault;
@@ -143,6 +146,19 @@ fn cause_of<'a, S: AsStr>(
     }
 }
 
+/// The cells that a hint names of a run that ended at rest: those for which readers wait, where its graph was read.
+fn named_cells<A: Allocator + Clone>(
+    alloc: A,
+    input: Option<&[u8]>,
+    outcome: Option<Outcome>,
+) -> Result<Option<ReaderCells>, AllocError> {
+    let Some(Outcome::Reported(Ending::Run { end: End::Rest, .. })) = outcome else {
+        return Ok(None);
+    };
+    let cells = reader_cells(alloc, input.unwrap_or(b""))?;
+    Ok((cells.count > 0).then_some(cells))
+}
+
 /// The line that shows this cause.
 fn line_of<A: Allocator + Clone>(alloc: A, found: &Found<'_>) -> Result<Line<A>, AllocError> {
     let text = format!(in alloc.clone()?; "{found}")?;
@@ -162,6 +178,15 @@ pub fn explain<S: AsStr, A: Allocator + Clone>(
 {
     let Some(found) = cause_of(words.get(1..).unwrap_or(words), input, outcome) else {
         return Ok(None);
+    };
+    let found = match named_cells(alloc.clone()?, input, outcome)? {
+        Some(cells) => Found {
+            cause: "readers-of-cells",
+            parts: [input.unwrap_or(b""); 3],
+            specials: [Special::Readers(cells); 2],
+            ..found
+        },
+        None => found,
     };
     let place = match found.place {
         Some(cause) => Some(line_of(alloc.clone()?, &Found { cause, ..found })?),

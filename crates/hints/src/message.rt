@@ -1,7 +1,8 @@
 //! Messages: texts, with the values that they show.
 
 use crate::catalog::{Text, found};
-use crate::lines::text_of;
+use crate::lines::{line_at, text_of, word_at};
+use crate::readers::ReaderCells;
 use graph_check::CheckFaultKind;
 use graph_file::ReadFaultKind;
 use semantics::graph::Region;
@@ -20,6 +21,8 @@ pub enum Special {
     Reading(ReadFaultKind),
     Checking(CheckFaultKind),
     Programming(FaultKind),
+    /// Cells, whose arrays are in the first lines of `$p`.
+    Readers(ReaderCells),
 }
 
 /// A cause, with two numbers.
@@ -51,6 +54,7 @@ impl Display for Special {
             Special::Reading(kind) => Display::fmt(&kind, f),
             Special::Checking(kind) => Display::fmt(&kind, f),
             Special::Programming(kind) => Display::fmt(&kind, f),
+            Special::Readers(cells) => Display::fmt(&cells.count, f),
         }
     }
 }
@@ -70,6 +74,36 @@ fn show_part<W: fmt::Write>(part: &[u8], f: &mut fmt::Formatter<W>) -> fmt::Resu
     f.write_str(if part.len() > MOST { ".." } else { "" })
 }
 
+/// Shows cells as `A[0], A[3] and 2 more`.
+fn show_cells<W: fmt::Write>(
+    cells: &ReaderCells,
+    text: &[u8],
+    f: &mut fmt::Formatter<W>,
+) -> fmt::Result {
+    let mut before = "";
+    for (array, index) in cells.first.iter().take(cells.count) {
+        let name = text_of(word_at(line_at(text, (*array as u64).saturating_add(2)), 1));
+        write!(f, "{before}{name}[{index}]")?;
+        before = ", ";
+    }
+    match cells.count.saturating_sub(cells.first.len()) {
+        0 => Ok(()),
+        more => write!(f, " and {more} more"),
+    }
+}
+
+/// Shows a special value. Cells are named by this text of the graph.
+fn show_special<W: fmt::Write>(
+    special: &Special,
+    text: &[u8],
+    f: &mut fmt::Formatter<W>,
+) -> fmt::Result {
+    match special {
+        Special::Readers(cells) => show_cells(cells, text, f),
+        other => Display::fmt(other, f),
+    }
+}
+
 impl Found<'_> {
     /// Shows the value that this sign stands for.
     fn show<W: fmt::Write>(&self, sign: u8, f: &mut fmt::Formatter<W>) -> fmt::Result {
@@ -84,7 +118,7 @@ impl Found<'_> {
             b'p' => show_part(self.parts[0], f),
             b'q' => show_part(self.parts[1], f),
             b's' => show_part(self.parts[2], f),
-            b'x' => Display::fmt(&specials[0], f),
+            b'x' => show_special(&specials[0], self.parts[0], f),
             _ => Display::fmt(&specials[1], f),
         }
     }
