@@ -297,7 +297,6 @@ module _ (z : Scene) (c : Context) (turn : Turn) (env : Env) (vs : List Value) (
       let next : q + 1 ≡ suc q = omega arith in
       subst (λ o. SomeAt t o v) (sym (ap (λ j. result_at (flow z) (here t) j) next ∙ ap (λ o. result_in o (suc q)) (turn_is t) ∙ x.1)) x.2
 
-
   -- THE INVOCATIONS of a turn on: the turns, and what is made in them
   abbrev InTurnOf : ℕ → Context → Type 0
   InTurnOf u d = (d ≡ here u) ⊎ ((k : ℕ) × (made_at (here u) d ≡ Some k))

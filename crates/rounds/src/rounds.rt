@@ -42,7 +42,8 @@ enum Threading {
 
 // In how many threads so many elements make their turns.
 fn threads_of(threading: Threading, elements: usize) -> usize
-    ensures { 0 < elements → 0 < result }
+    requires { 0 < elements }
+    ensures { 0 < result }
 {
     match threading {
         Threading::Apart => elements,
