@@ -14,6 +14,7 @@ use Rattle.tags.specs.declared.token.Token.{Token}
 use Rattle.tags.specs.declared.slot.SlotState.{SlotState}
 use Rattle.operators.specs.declared.Unary.{Unary}
 use Rattle.operators.specs.declared.Binary.{Binary}
+use Rattle.operators.proofs.Every.{all_binary}
 use Rattle.semantics.specs.declared.program.Dest.{Dest}
 use Rattle.semantics.specs.declared.program.Op.{Op}
 use Rattle.semantics.specs.declared.graph.Region.{Region}
@@ -239,20 +240,7 @@ unary_plain Unary.Neg = refl
 unary_plain Unary.Not = refl
 
 binary_plain : (op : Binary) → Plain (binary_word op)
-binary_plain Binary.Add = refl
-binary_plain Binary.Sub = refl
-binary_plain Binary.Mul = refl
-binary_plain Binary.Div = refl
-binary_plain Binary.Rem = refl
-binary_plain Binary.And = refl
-binary_plain Binary.Or = refl
-binary_plain Binary.Xor = refl
-binary_plain Binary.Shl = refl
-binary_plain Binary.Shr = refl
-binary_plain Binary.Eq = refl
-binary_plain Binary.Ne = refl
-binary_plain Binary.Lt = refl
-binary_plain Binary.Le = refl
+binary_plain = all_binary (λ op. list_all plain (binary_word op)) refl
 
 op_plain : (op : Op) → Plain (op_word op)
 op_plain (Op.Apply1 u) = unary_plain u
