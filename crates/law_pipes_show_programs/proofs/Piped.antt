@@ -1,12 +1,9 @@
 -- What is printed of a program's graph shows the program.
-use Rattle.std.proofs.Common.{◌≡◌, ◌⊎◌, inl, inr, ℕ, Bool, false, true, List, Option, Result, sym, ◌∙◌}
+use Rattle.std.proofs.Common.{◌⊎◌, inl, inr, ℕ, false, List, Option, Result}
 use Rattle.std.specs.declared.io.Error.{Error}
-use Rattle.semantics.specs.declared.report.End.{End}
-use Rattle.semantics.specs.declared.report.End.TheVariants.{Stop}
 use Rattle.semantics.specs.Graph.{Graph}
 use Rattle.semantics.specs.Report.{Report}
 use Rattle.semantics.specs.Text.{text_of}
-use Rattle.command_line.specs.declared.Mode.{Mode}
 use Rattle.command_line.specs.declared.RunOptions.{RunOptions}
 use Rattle.outcomes.specs.declared.outcome.Outcome.{Outcome}
 use Rattle.source.specs.Tree.{Program}
