@@ -1,17 +1,21 @@
 -- WHAT FOLLOWS FOR WHO TAKES THE STEPS ALONE: lowers a program, and runs the text of the graph in any way.
-use Rattle.std.specs.Prelude.{◌≡◌, ℕ, Bool, false, ℤ, List}
+use Rattle.std.specs.Prelude.{◌≡◌, ℕ, ◌+◌, Bool, false, ℤ, List}
 use Rattle.semantics.specs.declared.report.End.TheVariants.{Rest}
-use Rattle.semantics.specs.Graph.{Graph}
+use Rattle.semantics.specs.Graph.{Graph, flow_of}
+use Rattle.semantics.specs.Meaning.{State}
 use Rattle.semantics.specs.Machine.{Size}
 use Rattle.semantics.specs.Report.{Report}
 use Rattle.semantics.specs.Text.{HasText, text_of}
 use Rattle.schedule.specs.declared.config.Config.{Config}
 use Rattle.command_line.specs.declared.Mode.{Mode}
 use Rattle.source.specs.Tree.{Program}
+use Rattle.source.specs.Lowered.{origin_of}
+use Rattle.source.specs.Theorem.{RestsWell, Computes}
 use Rattle.lowered_text.specs.Lowers.{Lowers}
 use Rattle.law_compiler.specs.Objects.{plan_of}
 use Rattle.law_completion.specs.Total.{IsNotCut, Completes}
 use Rattle.law_completion.specs.TotalGraph.{NeedsAtMost, IsLargeEnough}
+use Rattle.law_completion.specs.TotalProgram.{Count, count_of}
 use Rattle.driver.specs.declared.fault.Fault.{Fault}
 use Rattle.driver.specs.Orders.{size_of}
 use Rattle.driver.specs.Headline.{ReportsOf, ReportsTruthIn, ReportsQuietly}
@@ -50,3 +54,16 @@ ProgramsComplete = (mode : Mode) (text : List ℕ) (inputs : List ℤ) (c : Conf
     → (report : ReportsProgram mode text inputs c may_stop r) → (d t : ℕ) → NeedsAtMost report.graph inputs d t
     → IsLargeEnough report.graph (plan_of report.graph).program (size_of c) c.steps d t → IsNotCut false r
     → Completes r × ShowsProgram report.program inputs r
+
+-- What the machine needs is counted in the program's own evaluation, which knows no graph. Where the meaning of its graph rests well the program has an
+-- evaluation over its memory; and where the machine has a frame for main, for each call and for each iteration of it, and steps and credits for these,
+-- the report shows the program.
+abbrev pub CountedProgramsComplete : Type 0
+CountedProgramsComplete = (mode : Mode) (text : List ℕ) (inputs : List ℤ) (c : Config) (may_stop : Bool) (r : Report)
+    → (report : ReportsProgram mode text inputs c may_stop r) → (s : State) → RestsWell (flow_of report.graph) inputs s
+    → (k : Computes report.program (origin_of report.program) inputs s.memory)
+    → IsLargeEnough report.graph (plan_of report.graph).program (size_of c) c.steps
+    ((count_of report.program (origin_of report.program) inputs s.memory k).calls
+    + (count_of report.program (origin_of report.program) inputs s.memory k).turns)
+    (count_of report.program (origin_of report.program) inputs s.memory k).turns
+    → IsNotCut false r → Completes r × ShowsProgram report.program inputs r

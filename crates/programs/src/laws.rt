@@ -1,6 +1,6 @@
 //! What reports say of programs, by whatever means the report was made.
 
-ghost use Rattle.programs.specs.Laws.{ReportsShowPrograms, ModesShowPrograms, QuietReportsShowPrograms, RefusalsAreTheTexts, ProgramsComplete};
+ghost use Rattle.programs.specs.Laws.{ReportsShowPrograms, ModesShowPrograms, QuietReportsShowPrograms, RefusalsAreTheTexts, ProgramsComplete, CountedProgramsComplete};
 
 /// A report of the text of a lowered program's graph is true of the program.
 ///
@@ -21,3 +21,12 @@ pub fn reports_show_programs()
 pub fn programs_complete()
     ensures { ProgramsComplete }
 {}
+
+/// How large a machine has to be is told by the program's own evaluation: a frame for main, one for each call and one for each iteration of a loop.
+///
+/// Each loop's bound has to be at least the iterations of all loops. Then a report that was not cut off shows the program, in every mode.
+pub fn programs_complete_counted()
+    ensures { CountedProgramsComplete }
+{
+    law_program_counts::programs_complete_counted();
+}
