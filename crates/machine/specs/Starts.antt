@@ -86,7 +86,7 @@ IsHaltOf departures halt =
 
 -- all wait in vain
 abbrev pub AllWait : {C A L : Type 0} → List (CachePadded (Runner C A L)) → Type 0
-AllWait ps = All (λ p. (padded_value p).departure ≡ Departure.Waited) ps
+AllWait {C} {A} {L} ps = All (λ (p : CachePadded (Runner C A L)). departure_of p ≡ Departure.Waited) ps
 
 -- all have run
 abbrev pub AllEnded : {C A L : Type 0} → Bool → Setting → MeshId → Bool → List (CachePadded (Runner C A L)) → List (CachePadded (Runner C A L)) → Type 0
