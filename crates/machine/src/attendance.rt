@@ -3,7 +3,7 @@
 use std::sync::atomic::{AtomicBool, AtomicU64, Ordering};
 
 /// How often an element without a token looks for one while other elements have not begun.
-const PATIENCE: u64 = 1 << 12;
+const PATIENCE: u64 = 1 << 14;
 
 /// How many elements have begun, and whether one of them has waited for the others in vain.
 #[derive(Drop)]
