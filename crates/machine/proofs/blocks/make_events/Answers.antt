@@ -87,3 +87,15 @@ returns-clause-few g c =
     let turn = c.turn_of-turn.ensures.exact ∙ ap (λ (e : ℕ). turn_of s e) c.element.ensures in
     let lane = ap (λ (h : Holding). h.made) c.commit.ensures.lane in
     omega (arith, more, few, turn, lane)
+
+pub returns-in_err-commit-clause-few : goal.returns-in_err-commit-clause-few
+returns-in_err-commit-clause-few g c =
+    let s : Setting = setting_in g.C.Instructions.program g.C.Instructions.width c.args.shape.now in
+    let run = c.requires.runs in
+    let t = c.take_turn-halt.ensures.turns in
+    let more = made_more {C = g.row.C.Denot} {A = g.row.A.Denot} {L = g.row.L.Denot} g.L.Log.KEEPS_EVENTS s c.args.mesh.now run.0 c.args.runner.now
+    run.1 c.requires.clear c.take_turn-halt.new.lane c.take_turn-halt.new.sent t.0 t.1 in
+    let few = t.3 in
+    let turn = c.turn_of-turn.ensures.exact ∙ ap (λ (e : ℕ). turn_of s e) c.element.ensures in
+    let lane = ap (λ (h : Holding). h.made) c.commit.ensures.lane in
+    omega (arith, more, few, turn, lane)
