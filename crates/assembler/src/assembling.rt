@@ -13,7 +13,7 @@ ghost use Rattle.assembler.specs.Laws.{IsExact, IsUnique, AllHaveListings, Round
 ghost use Rattle.assembler.specs.declared.fault.AsmFaultKind.TheVariants.{Memory};
 
 use crate::cause::{AsmCause, AsmRefusal};
-use crate::checks::{check_code, set_of};
+use crate::checks::{check_code, literals_of};
 use crate::fault::AsmFault;
 use crate::reading::{line_at, read_text};
 use code::Code;
@@ -74,7 +74,7 @@ pub fn assemble_listing<A: Allocator + Clone>(
         Ok(read) => read,
         Err(refusal) => return Err(refusal),
     };
-    let literals = set_of(alloc, &read.code.literals)?;
+    let literals = literals_of(alloc, &read.code)?;
     match check_code(read.version, &read.code, &literals) {
         Ok(()) => Ok(Assembled {
             version: version_of(read.version),

@@ -1,10 +1,8 @@
 //! Which codes have an object.
 
 ghost use Rattle.std.specs.Prelude.{◌≡◌, ◌≤◌, ◌⊎◌, All, FitsSigned, IfOk, OnOk, length, slice_get};
-ghost use Rattle.std.specs.BTreeSet.{contains_by};
 ghost use Rattle.std.specs.Int.{w64};
 ghost use Rattle.std.specs.List.{list_all};
-ghost use Rattle.std.specs.Ordering.{int_cmp};
 ghost use Rattle.semantics.specs.Bytes as Bytes;
 ghost use Rattle.semantics.specs.Rule.{slot_of};
 ghost use Rattle.assembler.specs.Checks as Checks;
@@ -36,10 +34,7 @@ fn unless(fits: bool, unfit: Unfit, index: u64) -> Result<(), Refusal>
 }
 
 /// The literals of a table, in whatever order it has them, so that each is found in few steps.
-pub(crate) fn set_of<A: Allocator + Clone>(
-    alloc: A,
-    table: &[i64],
-) -> Result<BTreeSet<i64, A>, AllocError>
+fn set_of<A: Allocator + Clone>(alloc: A, table: &[i64]) -> Result<BTreeSet<i64, A>, AllocError>
     ensures { IfOk result (λ literals. Checks.IsSetOf literals table.now) }
 {
     let mut literals = BTreeSet::new(alloc);
@@ -49,22 +44,33 @@ pub(crate) fn set_of<A: Allocator + Clone>(
     Ok(literals)
 }
 
-/// Whether the literal is one of these.
-fn has<A: Allocator>(literals: &BTreeSet<i64, A>, literal: i64) -> bool
-    ensures { result ≡ contains_by (int_cmp literal) literals.now }
+/// The literals of a code's table, likewise.
+pub(crate) fn literals_of<A: Allocator + Clone>(
+    alloc: A,
+    code: &Code<A>,
+) -> Result<BTreeSet<i64, A>, AllocError>
+    ensures { IfOk result (λ literals. Checks.IsSetOf literals code.now.literals) }
+{
+    set_of(alloc, &code.literals)
+}
+
+/// Whether the literal is in the table, which has these literals.
+fn has_literal<A: Allocator>(_code: &Code<A>, literals: &BTreeSet<i64, A>, literal: i64) -> bool
+    requires { Checks.IsSetOf literals.now _code.now.literals }
+    ensures { result ≡ Checks.has_literal _code.now.literals literal }
 {
     literals.contains(&literal)
 }
 
 /// Whether the literal of an operation is in the table, which has these literals.
-fn literal_fits<A: Allocator>(_code: &Code<A>, literals: &BTreeSet<i64, A>, op: Op) -> bool
-    requires { Checks.IsSetOf literals.now _code.now.literals }
-    ensures { result ≡ Checks.literal_fits _code.now op }
+fn literal_fits<A: Allocator>(code: &Code<A>, literals: &BTreeSet<i64, A>, op: Op) -> bool
+    requires { Checks.IsSetOf literals.now code.now.literals }
+    ensures { result ≡ Checks.literal_fits code.now op }
 {
     match op {
-        Op::Apply2Right { literal, .. } => has(literals, literal),
-        Op::Apply2Left { literal, .. } => has(literals, literal),
-        Op::Lit { literal } => has(literals, literal),
+        Op::Apply2Right { literal, .. } => has_literal(code, literals, literal),
+        Op::Apply2Left { literal, .. } => has_literal(code, literals, literal),
+        Op::Lit { literal } => has_literal(code, literals, literal),
         _ => true,
     }
 }
