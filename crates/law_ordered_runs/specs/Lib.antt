@@ -1,0 +1,2 @@
+pub mod RunsGoOn
+pub mod InOrder
