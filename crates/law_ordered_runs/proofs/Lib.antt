@@ -1,2 +1,9 @@
 pub mod GoingOn
 pub mod Ordered
+pub mod Extending
+pub mod UsesSent
+pub mod Lines
+pub mod Staying
+pub mod Memory
+pub mod Reaching
+pub mod ReachingParts
