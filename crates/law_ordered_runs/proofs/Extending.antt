@@ -14,7 +14,7 @@ use Rattle.lemmas.proofs.Contains.{contains_head, contains_cases, contains_none,
 use Rattle.lemmas.proofs.Permutations.{Within, Each, within_from, within_to, within_append, within_left, within_right, within_permutation}
 use Rattle.law_confluence.specs.Outcome.{AreInputsOf}
 use Rattle.law_confluence.specs.EquationsHave.{SaysIn, Gives}
-use Rattle.law_confluence.proofs.ActivityDeeds.{CellsKept, empty_of}
+use Rattle.law_confluence.proofs.ActivityDeeds.{CellsKept, empty_of, full_of}
 use Rattle.law_confluence.proofs.ActivityDiamond.{deed_of}
 use Rattle.law_confluence.proofs.OutcomeDeterminacy.{same_refl}
 use Rattle.law_confluence.proofs.History.{stood_ever}
@@ -148,6 +148,12 @@ module _ (g : Graph) (inputs : List ℤ) (well : WellFormed g) (count : AreInput
   pub read_gives : (x : Going g inputs) (a : Activity) (c : Context) (n q : ℕ) (v : Value) (e : Extended x a (Reads c n q)) → x.state.memory.cells q ≡ Some v
       → Gives fl e.to.run e.to.state.memory c n 0 v
   read_gives x a c n q v e full = (a, Reads c n q, e.happened, e.is_deed, (v, e.on.cells q v full, refl))
+
+  pub read_memory : (x : Going g inputs) (a : Activity) (c : Context) (n q : ℕ) (e : Extended x a (Reads c n q)) → e.to.state.memory ≡ x.state.memory
+  read_memory x a c n q e =
+      ⊎_elim (λ h. h) (λ (h : (E : Effect) × (done fl x.state.memory (Reads c n q) ≡ Some E) × (e.to.state.memory ≡ E.memory)).
+      (let f = full_of (x.state.memory.cells q) (λ v. adds (tokens_of fl (Sends c n 0 v)) x.state.memory) h.0 h.1 in
+      h.2 ∙ ap (λ (E : Effect). E.memory) (sym (same_Some _ h.0 f.2)))) e.memory
 
   -- WHAT A STORE FILLS is full, and given; each other cell is as before.
   pub filled_gives : (x : Going g inputs) (a : Activity) (c : Context) (n q : ℕ) (v : Value) (e : Extended x a (Fills c n q v))

@@ -7,3 +7,4 @@ pub mod Staying
 pub mod Memory
 pub mod Reaching
 pub mod ReachingParts
+pub mod ReachingCells

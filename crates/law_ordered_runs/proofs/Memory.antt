@@ -47,7 +47,7 @@ FillsStored ts ss = (x : ℕ) → Contains ts (Fills x) → (v : Value) × Conta
 fills_none : (ss : Stores) → FillsStored [] ss
 fills_none ss x h = absurd (contains_none (Fills x) h)
 
-fills_both : (ts us : List Touch) (ss qs : Stores) → FillsStored ts ss → FillsStored us qs → FillsStored (ts ++ us) (ss ++ qs)
+pub fills_both : (ts us : List Touch) (ss qs : Stores) → FillsStored ts ss → FillsStored us qs → FillsStored (ts ++ us) (ss ++ qs)
 fills_both ts us ss qs f g x h =
     ⊎_elim (λ k. (let a = f x k in (a.0, Contains-append_left ss qs (x, a.0) a.1))) (λ k. (let a = g x k in (a.0, Contains-append_right ss qs (x, a.0) a.1)))
     (Contains-append_cases ts us (Fills x) h)
