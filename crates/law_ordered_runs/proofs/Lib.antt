@@ -8,3 +8,4 @@ pub mod Memory
 pub mod Reaching
 pub mod ReachingParts
 pub mod ReachingCells
+pub mod ReachingArms

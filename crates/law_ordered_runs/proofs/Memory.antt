@@ -44,7 +44,7 @@ reads_both full (Fills x ∷ ts) us h =
 abbrev pub FillsStored : List Touch → Stores → Type 0
 FillsStored ts ss = (x : ℕ) → Contains ts (Fills x) → (v : Value) × Contains ss (x, v)
 
-fills_none : (ss : Stores) → FillsStored [] ss
+pub fills_none : (ss : Stores) → FillsStored [] ss
 fills_none ss x h = absurd (contains_none (Fills x) h)
 
 pub fills_both : (ts us : List Touch) (ss qs : Stores) → FillsStored ts ss → FillsStored us qs → FillsStored (ts ++ us) (ss ++ qs)
