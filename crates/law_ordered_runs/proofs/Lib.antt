@@ -9,3 +9,8 @@ pub mod Reaching
 pub mod ReachingParts
 pub mod ReachingCells
 pub mod ReachingArms
+pub mod ReachingCalls
+pub mod ReachingLoops
+pub mod ReachingTurns
+pub mod ReachingAll
+pub mod ReachingMain

@@ -7,7 +7,7 @@ use Rattle.semantics.specs.declared.graph.Kind.TheVariants.{Loop}
 use Rattle.semantics.specs.Graph.{Node, Graph, Flow, flow_of}
 use Rattle.semantics.specs.WellFormed.{WellFormed}
 use Rattle.semantics.specs.Meaning as Meaning
-use Rattle.semantics.specs.Meaning.{Context, Main, Called, Turned, State, Activity, Fires, Gates, Passes, Returns, Turns, Outputs, Run, start, node_of}
+use Rattle.semantics.specs.Meaning.{Context, Main, Called, Turned, State, Activity, Fires, Gates, Passes, Returns, Turns, Outputs, Run, Reached, start, node_of}
 use Rattle.source.specs.Tree.{Expr, Exprs, Body, Turn, Program}
 use Rattle.source.specs.Evaluates as eval
 use Rattle.source.specs.Evaluates.{World, Env, Stores, place_in, Evaluates, EvaluatesAll, Runs, number, named, bracket, prefix, infix_, fetch, store, call}
@@ -103,6 +103,13 @@ abbrev mutual
 -- each cell that is read was filled before
 abbrev pub ReadsBehindStores : List Touch → Type 0
 ReadsBehindStores ts = (i x : ℕ) → slice_get ts i ≡ Some (Reads x) → (j : ℕ) × (j < i) × (slice_get ts j ≡ Some (Fills x))
+
+-- THEN THE MEANING REACHES what the program computes: all its outputs, and just its cells. This is proved, of a text's program.
+abbrev pub ProgramsReach : Type 0
+ProgramsReach = (text : List ℕ) (p : Program) (g : Graph) (origin : ℕ → Origin) → IsLoweredText text p g origin → WellFormed g
+    → (inputs : List ℤ) → AreInputsOf g inputs → (m : Meaning.Memory) (k : Computes p origin inputs m) → ReadsBehindStores (body_touches k.main.runs)
+    → (s : State) × Reached (flow_of g) inputs s × ((x : ℕ) → s.memory.cells x ≡ m.cells x)
+    × ((j : ℕ) (v : Value) → m.outputs j ≡ Some v → s.memory.outputs j ≡ Some v)
 
 -- Then the meaning of the program's graph has a run to rest, with no fetch waiting and with that memory, in which the iterations of each loop take
 -- place one after another. THIS IS OPEN: it is not proved, and nothing uses it.

@@ -1,7 +1,7 @@
 //! How a run of the meaning is made, activity by activity, when it is over, and which loops it keeps within their bounds.
 #![tactic(auto)]
 
-ghost use Rattle.law_ordered_runs.specs.InOrder.{OneAfterAnotherKeeps};
+ghost use Rattle.law_ordered_runs.specs.InOrder.{OneAfterAnotherKeeps, ProgramsReach};
 ghost use Rattle.law_ordered_runs.specs.RunsGoOn.{ClosedRunsRest, RunsGoOn};
 
 /// An activity all of whose tokens have been present has happened, or can happen where the memory allows it. A run in which each such activity has
@@ -14,4 +14,9 @@ pub fn runs_go_on()
 /// A run in which the iterations of each loop take place one after another keeps each loop within its bound, if that is at least 2.
 pub fn one_after_another_keeps()
     ensures keeps { OneAfterAnotherKeeps }
+{}
+
+/// The meaning of a program that reads each cell behind the store that fills it, in the order of the text, reaches what the program computes.
+pub fn programs_reach()
+    ensures reach { ProgramsReach }
 {}
