@@ -1,5 +1,5 @@
 -- The invocations of lists and bodies are those of their parts.
-use Rattle.std.proofs.Common.{◌≡◌, ℕ, ◌+◌, false, List, ◌++◌, length, refl, sym, subst}
+use Rattle.std.proofs.Common.{◌≡◌, ℕ, false, List, ◌++◌, length, refl, sym, subst}
 use Rattle.tags.specs.declared.value.Value.{Value}
 use Rattle.semantics.specs.Meaning.{Context}
 use Rattle.source.specs.Tree.{Target, Expr, Exprs, Body}

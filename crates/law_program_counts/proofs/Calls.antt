@@ -1,5 +1,5 @@
 -- The invocations of a call are the call itself, those of its arguments, and those of the body of its function.
-use Rattle.std.proofs.Common.{◌≡◌, ℕ, ◌+◌, ◌<◌, ◌≤◌, ◌⊎◌, inl, inr, Bool, true, false, List, [], ◌∷◌, ◌++◌, length, map, Some, Contains, refl, sym, ap, ◌∙◌, subst, arith}
+use Rattle.std.proofs.Common.{◌≡◌, ℕ, ◌+◌, ◌<◌, ◌≤◌, ◌⊎◌, inl, inr, Bool, true, false, List, [], ◌∷◌, length, map, Some, Contains, refl, sym, ap, ◌∙◌, subst, arith}
 use Rattle.std.proofs.Common.{length-append}
 use Rattle.std.specs.Prelude.{slice_get, count_by}
 use Rattle.std.proofs.lemmas.List.{length-map}
@@ -16,8 +16,8 @@ use Rattle.law_confluence.specs.EquationsHave.{outputs_in, ports_of, source_line
 use Rattle.law_confluence.specs.Equations.{LineEquation, HasSome}
 use Rattle.law_confluence.proofs.EquationsGraphForms.{line_past, line_below}
 use Rattle.law_confluence.proofs.EquationsGraphFormed.{shaped}
-use Rattle.source.specs.Tree.{Name, Exprs, Call, Function}
-use Rattle.source.specs.Outside.{bare, list_uses, body_uses}
+use Rattle.source.specs.Tree.{Name, Exprs, Function}
+use Rattle.source.specs.Outside.{bare, body_uses}
 use Rattle.source.specs.Rules.{function_in, written_or_one}
 use Rattle.source.specs.Evaluates.{Env, Stores, EvaluatesAll, Runs, call, entered}
 use Rattle.source.specs.Once.{OneAnswer}
@@ -28,7 +28,7 @@ use Rattle.source.proofs.Kept.{IsCalled, in_call}
 use Rattle.source.proofs.Holding.{holds_whole}
 use Rattle.source.proofs.NamesUsed.{body_used}
 use Rattle.source.proofs.Counting.{list_count}
-use Rattle.law_completion.specs.TotalProgram.{Count, a_call, both, list_counted, body_counted}
+use Rattle.law_completion.specs.TotalProgram.{a_call, both, list_counted, body_counted}
 use Rattle.law_language.specs.MeansHolds.{resolved, block_in, HasBlocks}
 use Rattle.law_language.proofs.MeansHaving.{have_source, have_length}
 use Rattle.law_language.proofs.MeansHolding.{resolved_all}

@@ -7,13 +7,13 @@ use Rattle.operators.specs.Values.{truth}
 use Rattle.semantics.specs.declared.graph.Region.TheVariants.{Arm}
 use Rattle.semantics.specs.declared.graph.Source.{Source}
 use Rattle.semantics.specs.declared.graph.Kind.TheVariants as node
-use Rattle.semantics.specs.Graph.{Node, Block, node_at, node_count}
+use Rattle.semantics.specs.Graph.{Node, Block, node_count}
 use Rattle.semantics.specs.Meaning.{Context, Main, AtNode, Operand, tagged, ArmsTaken, arm_of, arms_round, arms_at, block_of, node_in, node_of}
 use Rattle.law_confluence.specs.EquationsHave.{source_line}
 use Rattle.law_confluence.specs.Equations.{TakenAt, HasSome}
 use Rattle.lemmas.proofs.Permutations.{Each, each_map}
 use Rattle.law_confluence.proofs.EquationsGraphFormed.{shaped}
-use Rattle.source.specs.Tree.{Name, Expr, Body, If}
+use Rattle.source.specs.Tree.{Name, Expr, Body}
 use Rattle.source.specs.Fits.{FitsBody}
 use Rattle.source.specs.Outside.{outside_body, uses, body_uses}
 use Rattle.source.specs.Rules.{body_values}
@@ -22,19 +22,16 @@ use Rattle.source.specs.Once.{OneAnswer}
 use Rattle.source.specs.Lowered.{Made, Lowered, Site, Spot, Scope, spot_after, next_spot, first_of, followed, made, source_in, or_predicate, enters}
 use Rattle.source.specs.Lowered.{entered_names, arm_site, arm_scope, arm, merges, chosen, lower, lower_body}
 use Rattle.source.proofs.Kept.{in_if}
-use Rattle.source.proofs.Counting.{count_of}
 use Rattle.source.proofs.OutsideNames.{uses_once}
-use Rattle.law_completion.specs.TotalProgram.{Count, both, counted, body_counted}
+use Rattle.law_completion.specs.TotalProgram.{Count, counted, body_counted}
 use Rattle.law_language.specs.MeansHolds.{resolved}
 use Rattle.law_language.proofs.MeansNamesAgree.{agrees_split, agrees_once, agrees_arm}
 use Rattle.law_language.proofs.MeansParts.{own_line, block_is}
-use Rattle.law_language.proofs.MeansOperators.{HasOneValue, one_each}
-use Rattle.law_language.proofs.MeansCells.{two}
 use Rattle.law_language.proofs.MeansScene.{Scene, flow, world_of, StoodIn, RegionIn, HasIn, HaveIn, KnownIn, ActiveIn, AllIn}
 use Rattle.law_language.proofs.MeansStanding.{first_in, rest_in, stands_in_arm}
 use Rattle.law_language.proofs.MeansLies.{HoldsMade, made_split, LieIn, Inside, lie_arm, body_lies}
 use Rattle.law_language.proofs.MeansConditionals.{arm_entered, arm_trigger, cond_block, open_there, left_stands, right_stands}
-use Rattle.law_program_counts.proofs.Lists.{Empty, Lists, MakesNone, empty_both, lists_before, lists_behind, lists_to, empty_to, empty_node, empty_lines}
+use Rattle.law_program_counts.proofs.Lists.{Empty, Lists, MakesNone, lists_before, lists_behind, lists_to, empty_node, empty_lines}
 use Rattle.law_program_counts.proofs.SilentArms.{empty_arm}
 use Rattle.law_program_counts.proofs.SameAnswers.{same_values}
 use Rattle.law_program_counts.proofs.Parts.{ListsOf, ExprCounts, BodyCounts}

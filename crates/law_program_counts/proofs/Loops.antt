@@ -1,6 +1,6 @@
 -- The invocations of a loop are its turns, and those of its first values and of its turns.
-use Rattle.std.proofs.Common.{◌≡◌, ℕ, zero, suc, ◌+◌, ◌<◌, ◌≤◌, ◌⊎◌, inl, inr, Bool, true, false, List, [], ◌∷◌, ◌++◌, length, map, Option, Some, None, Ok, Contains}
-use Rattle.std.proofs.Common.{refl, sym, ap, ◌∙◌, subst, subst₂, arith, length-append, ltb-true, ltb-false, cond, ⊎_elim}
+use Rattle.std.proofs.Common.{◌≡◌, ℕ, suc, ◌+◌, ◌<◌, ◌≤◌, ◌⊎◌, inl, inr, Bool, true, false, List, [], ◌∷◌, ◌++◌, length, map, Option, Some, Ok, Contains}
+use Rattle.std.proofs.Common.{refl, sym, ap, ◌∙◌, subst, subst₂, arith, length-append, ltb-true, ltb-false, ⊎_elim}
 use Rattle.std.specs.Prelude.{slice_get, nat_lt, count_by}
 use Rattle.std.proofs.lemmas.List.{length-map}
 use Rattle.std.proofs.lemmas.List.Elements.{Contains-append_left, Contains-append_right, Contains-append_cases}
@@ -17,7 +17,7 @@ use Rattle.law_confluence.specs.EquationsHave.{ports_of, source_line, result_in,
 use Rattle.law_confluence.specs.Equations.{HasSome, Result, Flagged, Loops, LineEquation}
 use Rattle.law_confluence.proofs.EquationsGraphForms.{HasForm}
 use Rattle.law_confluence.proofs.EquationsGraphFormed.{shaped}
-use Rattle.source.specs.Tree.{Name, NameAt, NumberAt, Expr, Exprs, One, More, Body, Loop, Turn, Before, After, Program, names_of}
+use Rattle.source.specs.Tree.{Name, NameAt, NumberAt, Expr, Exprs, One, More, Body, Turn, Before, After, Program, names_of}
 use Rattle.source.specs.Fits.{FitsTurn, count}
 use Rattle.source.specs.Outside.{without, bare, list_uses, uses, body_uses, turn_uses, outside_turn}
 use Rattle.source.specs.Rules.{turn_values}

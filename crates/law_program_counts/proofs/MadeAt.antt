@@ -1,5 +1,5 @@
 -- WHERE AN INVOCATION IS MADE: at a node of one around it, which is a call or a loop and is taken.
-use Rattle.std.proofs.Common.{◌≡◌, ℕ, ◌+◌, ◌≤◌, ◌⊎◌, inl, inr, Option, Some, None, refl, sym, ap, ap₂, ◌∙◌, subst, arith}
+use Rattle.std.proofs.Common.{◌≡◌, ℕ, ◌⊎◌, inl, inr, Option, Some, None, ap, ap₂, subst, arith}
 use Rattle.semantics.specs.Graph.{Node}
 use Rattle.semantics.specs.Meaning.{Context, Main, Called, Turned, IsCall, IsLoop, node_of}
 use Rattle.law_confluence.specs.EquationsContexts.{depth}

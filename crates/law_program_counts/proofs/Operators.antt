@@ -13,7 +13,7 @@ use Rattle.source.specs.Tree.{Name, Expr, Number, Named, Bracket, Prefix, Infix,
 use Rattle.source.specs.Fits.{Fits, IsLeast}
 use Rattle.source.specs.Outside.{uses}
 use Rattle.source.specs.Evaluates.{Env, Stores, Evaluates, Reads, place_in, number, named, bracket, prefix, infix_, fetch, store, signed}
-use Rattle.source.specs.Lowered.{Lowered, Site, Spot, Scope, source_in, made, only, joined, ended, operator_of, operands, prefixed, lower, spot_after}
+use Rattle.source.specs.Lowered.{Lowered, Site, Spot, source_in, made, only, joined, ended, operator_of, operands, prefixed, lower, spot_after}
 use Rattle.source.proofs.Kept.{in_prefix, in_infix, in_fetch, in_store}
 use Rattle.law_completion.specs.TotalProgram.{Count, none, both, counted}
 use Rattle.law_language.specs.MeansHolds.{resolved}

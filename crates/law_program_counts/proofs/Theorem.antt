@@ -1,10 +1,9 @@
 -- A program completes where a machine has a frame for main, for each call and for each iteration of its evaluation.
-use Rattle.std.proofs.Common.{◌≡◌, ℕ, ◌+◌, ◌<◌, ◌⊎◌, inl, inr, ℤ, Bool, true, List, [], ◌∷◌, length, map, Option, Some, None, Contains, refl, sym, ap, ◌∙◌, subst}
-use Rattle.std.proofs.Common.{arith, lt-ltb, if◌then◌else◌, nat_lt, ◌==◌, false}
+use Rattle.std.proofs.Common.{◌≡◌, ℕ, ◌+◌, ◌<◌, ◌⊎◌, inl, inr, ℤ, Bool, List, [], ◌∷◌, length, map, Option, Some, None, Contains, refl, ap, ◌∙◌, subst}
+use Rattle.std.proofs.Common.{arith, lt-ltb, if◌then◌else◌, ◌==◌, false}
 use Rattle.std.specs.Prelude.{slice_get, count_by, ◌≢◌}
 use Rattle.std.proofs.lemmas.List.{length-map}
 use Rattle.tags.specs.declared.value.Value.{Value}
-use Rattle.tags.specs.declared.value.Value.TheVariants.{Int}
 use Rattle.tags.specs.declared.value.Origin.{Origin}
 use Rattle.semantics.specs.Graph.{Graph, Flow, Node, Block, flow_of, node_at, node_count}
 use Rattle.semantics.specs.WellFormed.{WellFormed}
@@ -16,7 +15,7 @@ use Rattle.lemmas.proofs.Contains.{contains_get, get_contains}
 use Rattle.law_confluence.specs.Outcome.{AreInputsOf}
 use Rattle.law_confluence.specs.EquationsHave.{Gives}
 use Rattle.law_confluence.specs.Equations.{IsDue}
-use Rattle.law_confluence.specs.EquationsSettled.{Settled, NoneWaits}
+use Rattle.law_confluence.specs.EquationsSettled.{NoneWaits}
 use Rattle.law_confluence.proofs.Equations.{runs_at_rest, store_indexes}
 use Rattle.law_confluence.proofs.EquationsNoneWaits.{none_waits}
 use Rattle.law_confluence.proofs.EquationsRunTakers.{run_deeds}
@@ -28,7 +27,7 @@ use Rattle.source.specs.Once.{OneAnswer}
 use Rattle.source.specs.Lowered.{node_of as line_node, function_scope, turn_site}
 use Rattle.source.specs.Theorem.{RestsWell, Computes}
 use Rattle.law_completion.specs.Total.{CallsForAtMost}
-use Rattle.law_completion.specs.TotalProgram.{Count, count_of, body_counted}
+use Rattle.law_completion.specs.TotalProgram.{count_of, body_counted}
 use Rattle.law_completion.proofs.Graphs.{total_graph}
 use Rattle.law_completion.proofs.OneRun.{one_run_counts}
 use Rattle.law_language.specs.MeansBelow.{node_under}

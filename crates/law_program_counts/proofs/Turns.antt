@@ -1,10 +1,10 @@
 -- The invocations of one turn of a loop are those of its test and, where it goes on or has the test behind it, of its body.
-use Rattle.std.proofs.Common.{◌≡◌, ℕ, ◌+◌, ◌<◌, Bool, true, false, List, [], ◌∷◌, ◌++◌, length, map, Ok, refl, sym, ap, ◌∙◌, subst, arith, length-append}
+use Rattle.std.proofs.Common.{◌≡◌, ℕ, ◌+◌, true, false, List, [], ◌∷◌, ◌++◌, length, map, Ok, refl, sym, subst, arith, length-append}
 use Rattle.tags.specs.declared.value.Value.{Value}
 use Rattle.operators.specs.Values.{truth}
 use Rattle.semantics.specs.declared.graph.Source.{Source}
 use Rattle.semantics.specs.Meaning.{Context}
-use Rattle.source.specs.Tree.{Name, NameAt, Expr, Body, Turn, Before, After, names_of}
+use Rattle.source.specs.Tree.{Name, NameAt, Expr, Body, Before, After}
 use Rattle.source.specs.Fits.{FitsBody, FitsTurn}
 use Rattle.source.specs.Outside.{bare, uses, body_uses, turn_uses}
 use Rattle.source.specs.Rules.{body_values, turn_values}
@@ -13,8 +13,8 @@ use Rattle.source.specs.Once.{OneAnswer}
 use Rattle.source.specs.Lowered.{Lowered, Site, Spot, Scope, spot_after, next_spot, first_of, joined, scoped, source_in, or_predicate, entered_names, arm_site}
 use Rattle.source.specs.Lowered.{turn_site, chosen, lower, lower_body, lower_turn}
 use Rattle.source.proofs.Kept.{in_before, in_after}
-use Rattle.source.proofs.Counting.{count_of, body_count}
-use Rattle.law_completion.specs.TotalProgram.{Count, none, both, counted, body_counted}
+use Rattle.source.proofs.Counting.{body_count}
+use Rattle.law_completion.specs.TotalProgram.{none, both, counted, body_counted}
 use Rattle.law_language.specs.Means.{OneTurn, stays, moves, tests}
 use Rattle.law_language.proofs.MeansNamesAgree.{agrees_entered}
 use Rattle.law_language.proofs.MeansParts.{block_is}
@@ -23,11 +23,11 @@ use Rattle.law_language.proofs.MeansStanding.{first_in, rest_in}
 use Rattle.law_language.proofs.MeansLies.{lie_enters}
 use Rattle.law_language.proofs.MeansConditionals.{open_there, left_stands, right_stands}
 use Rattle.law_language.proofs.MeansTurnNames.{agrees_named, without_split}
-use Rattle.law_program_counts.proofs.Lists.{Lists, lists_none, lists_behind, lists_to, empty_of}
+use Rattle.law_program_counts.proofs.Lists.{lists_none, lists_behind, lists_to, empty_of}
 use Rattle.law_program_counts.proofs.SameAnswers.{same_values, same_results}
 use Rattle.law_program_counts.proofs.Parts.{ListsOf, ExprCounts, BodyCounts}
 use Rattle.law_program_counts.proofs.Operators.{both_lists}
-use Rattle.law_program_counts.proofs.Conditionals.{an_arm, arm_lists, arm_lies, enters_empty, left_lists, right_lists, Tested, tested}
+use Rattle.law_program_counts.proofs.Conditionals.{an_arm, arm_lists, arm_lies, enters_empty, left_lists, right_lists, tested}
 
 -- ONE TURN has one flag, and one list of next values.
 same_head : (v w : Value) (vs ws : List Value) → v ∷ vs ≡ w ∷ ws → v ≡ w

@@ -14,7 +14,7 @@ use Rattle.source.specs.Theorem.{RestsWell, Computes}
 use Rattle.law_confluence.specs.Outcome.{AreInputsOf}
 use Rattle.law_completion.specs.Total.{CallsForAtMost, IsTrueCode, IsNotCut, Completes}
 use Rattle.law_completion.specs.TotalGraph.{IsLargeEnough}
-use Rattle.law_completion.specs.TotalProgram.{Count, count_of}
+use Rattle.law_completion.specs.TotalProgram.{count_of}
 use Rattle.law_language.specs.MeansTheorem.{IsLoweredApart, IsLoweredText}
 
 -- The meaning calls for just d invocations beside main, of which t are iterations of loops: no run for more, and each run to s for as many.
