@@ -108,10 +108,10 @@ module _ (g : Graph) (inputs : List ℤ) (well : WellFormed g) (count : AreInput
       go (inr p) = record {
         to = after x a p.0 p.1;
         on = record {
-            kept = λ b k. Contains-append_left x.run (a ∷ []) b k;
-            came = λ u k. came_after x a p.0 p.1 u k;
-            cells = step_cells fl x.state p.0 a p.1;
-          };
+          kept = λ b k. Contains-append_left x.run (a ∷ []) b k;
+          came = λ u k. came_after x a p.0 p.1 u k;
+          cells = step_cells fl x.state p.0 a p.1;
+        };
         happened = Contains-append_right x.run (a ∷ []) a (contains_head a []);
         is_deed = e;
         memory = inr (p.1.does, ap (λ o. done_if fl x.state.memory o) (sym e) ∙ p.1.allowed, p.1.memory);

@@ -97,11 +97,13 @@ module _ (g : Graph) (inputs : List ℤ) (well : WellFormed g) (count : AreInput
         → ExtendedBy (Gates c n v w) (Says (if same_side (truth w) side then Sends c n 0 v else Nothing))
     enter_happens k side s v w er ek es h a happened e =
         extend g inputs well count x (Gates c n v w) (Says (if same_side (truth w) side then Sends c n 0 v else Nothing))
-        (deed_gates fl c b eb n line el v w ∙ ap₂ (λ region kind. gated c n v w region kind) er ek)
-        (
+        (deed_gates fl c b eb n line el v w ∙ ap₂ (λ region kind. gated c n v w region kind) er ek) (
           operand_came g inputs well count x c b n 0 line s v eb el es h,
-          (said_came g inputs well count x a (Says (Steers c k w)) (Steers c k w) happened e refl (tagged c (AtNode n) Predicate w)
-              (predicate_told fl c b k n side line w eb el er ek), tt),
+          (
+            said_came g inputs well count x a (Says (Steers c k w)) (Steers c k w) happened e refl (tagged c (AtNode n) Predicate w)
+                (predicate_told fl c b k n side line w eb el er ek),
+            tt,
+          ),
         ) tt
 
   -- A RESULT of a call, whose token has been present

@@ -28,9 +28,11 @@ pub reads_both : (full : ℕ → Type 0) (ts us : List Touch) → ReadsFull full
     → ReadsFull full ts × ReadsFull (λ x. full x ⊎ Contains ts (Fills x)) us
 reads_both full [] us h = (tt, reads_more full (λ x. full x ⊎ Contains [] (Fills x)) (λ x k. inl k) us h)
 reads_both full (Reads x ∷ ts) us h =
-    let k = reads_both full ts us h.1 in
-    ((h.0, k.0), reads_more (λ y. full y ⊎ Contains ts (Fills y)) (λ y. full y ⊎ Contains (Reads x ∷ ts) (Fills y))
-    (λ y i. ⊎_elim (λ j. inl j) (λ j. inr (contains_tail (Reads x) ts (Fills y) j)) i) us k.1)
+    let k = reads_both full ts us h.1 in (
+      (h.0, k.0),
+      reads_more (λ y. full y ⊎ Contains ts (Fills y)) (λ y. full y ⊎ Contains (Reads x ∷ ts) (Fills y))
+          (λ y i. ⊎_elim (λ j. inl j) (λ j. inr (contains_tail (Reads x) ts (Fills y) j)) i) us k.1,
+    )
 reads_both full (Fills x ∷ ts) us h =
     let k = reads_both (λ y. full y ⊎ (y ≡ x)) ts us h in
     (k.0, reads_more (λ y. (full y ⊎ (y ≡ x)) ⊎ Contains ts (Fills y)) (λ y. full y ⊎ Contains (Fills x ∷ ts) (Fills y)) (λ y i. there y i) us k.1)

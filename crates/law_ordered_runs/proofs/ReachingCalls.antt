@@ -83,8 +83,11 @@ inputs_pass z d b eb x i (suc n) (v ∷ vs) long low h =
     let q = inputs_pass z d b eb r.to (i + 1) n vs (omega (arith, long)) (omega (arith, low)) (arrived_on z x r.to r.on d (i + 1) vs h.1) in
     record {
       quietly = quietly_then z x r q.quietly;
-      have = (has_on z.graph z.inputs z.well z.count r.to q.quietly.to q.quietly.on d (port i 0) v
-          (said_gives z.graph z.inputs z.well z.count x (Fires d i (v ∷ [])) d i 0 v e), q.have);
+      have = (
+        has_on z.graph z.inputs z.well z.count r.to q.quietly.to q.quietly.on d (port i 0) v
+            (said_gives z.graph z.inputs z.well z.count x (Fires d i (v ∷ [])) d i 0 v e),
+        q.have,
+      );
     }
 
 -- ARGUMENTS, one by one, or all at once
@@ -138,8 +141,11 @@ results_return z c n b eb x j (suc count) (s ∷ ss) (v ∷ vs) long at h =
     record {
       to = q.to;
       on = on_then z.graph z.inputs z.well z.count x e.to q.to e.on q.on;
-      have = (has_on z.graph z.inputs z.well z.count e.to q.to q.on c (port n j) v
-          (said_gives z.graph z.inputs z.well z.count x (Returns c n j v) c n j v e), q.have);
+      have = (
+        has_on z.graph z.inputs z.well z.count e.to q.to q.on c (port n j) v
+            (said_gives z.graph z.inputs z.well z.count x (Returns c n j v) c n j v e),
+        q.have,
+      );
       changed = changed_both (cells_of z x) (cells_of z e.to) (cells_of z q.to) [] [] q.on.cells
           (changed_same (cells_of z x) (cells_of z x) (cells_of z e.to) []
           (sym (ap (λ (m : Meaning.Memory). m.cells) (said_memory z.graph z.inputs z.well z.count x (Returns c n j v) (Sends c n j v) e)))
@@ -169,10 +175,10 @@ call_in z x c b eb n site at true f ss vs el h =
     let e = line_happens z.graph z.inputs z.well z.count x c b eb n (resolved z.graph (made site at (call_kind true f) ss)) el vs (Says (Enters d 0 vs)) h refl tt in
     record {
       arrives = record {
-          quietly = says_quietly z x (Fires c n vs) (Enters d 0 vs) e;
-          arrived = all_arrived z e.to d 0 vs (λ j v k. said_came z.graph z.inputs z.well z.count e.to (Fires c n vs) (Says (Enters d 0 vs)) (Enters d 0 vs)
-              e.happened e.is_deed refl (tagged d (AtNode (0 + j)) (Operand 0) v) (entering_within d 0 vs j v k));
-        };
+        quietly = says_quietly z x (Fires c n vs) (Enters d 0 vs) e;
+        arrived = all_arrived z e.to d 0 vs (λ j v k. said_came z.graph z.inputs z.well z.count e.to (Fires c n vs) (Says (Enters d 0 vs)) (Enters d 0 vs)
+            e.happened e.is_deed refl (tagged d (AtNode (0 + j)) (Operand 0) v) (entering_within d 0 vs j v k));
+      };
       starts = (vs, e.happened);
       calls = refl;
       is_call = tt;

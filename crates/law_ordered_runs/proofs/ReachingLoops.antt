@@ -383,12 +383,12 @@ module _ (z : Land) (c : Context) (turn : Turn) (env : Env) (l : Looping z c tur
       record {
         quietly = q.quietly;
         begins = record {
-            due = due_on z.graph z.inputs z.well z.count y w all c h.due;
-            region = arms_on z.graph z.inputs z.well z.count y w all c _ h.region;
-            flags = λ j low. flag_of w all h.flags (1, b, q.quietly.on.came _ came, on) j low (nat_lt j t) refl;
-            many = many;
-            arrived = q.arrived;
-          };
+          due = due_on z.graph z.inputs z.well z.count y w all c h.due;
+          region = arms_on z.graph z.inputs z.well z.count y w all c _ h.region;
+          flags = λ j low. flag_of w all h.flags (1, b, q.quietly.on.came _ came, on) j low (nat_lt j t) refl;
+          many = many;
+          arrived = q.arrived;
+        };
       }
     where
       flag_of : (w : RunOf z) → OnX z y w → ((j : ℕ) → j < t → HadTrueFlag (Stood (flow z) (start z.inputs) y.run y.state y.is_run) (here j))
