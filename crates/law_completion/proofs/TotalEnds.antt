@@ -1,4 +1,4 @@
--- End by end: a run that has enough comes to rest with nothing waiting.
+-- End by end: a run that has room, and in which no loop starves, comes to rest with nothing waiting; so does a run that has enough.
 use Rattle.std.proofs.Common.{◌≡◌, refl, sym, ap, ◌∙◌, subst, ℕ, ◌+◌, ◌*◌, ◌<◌, ◌≤◌, ◌⊎◌, inl, inr, ℤ, Bool, true, false, cond, List, [], ◌∷◌}
 use Rattle.std.proofs.Common.{length, Option, Some, None, arith}
 use Rattle.std.specs.Prelude.{◌==◌, sum}
@@ -20,7 +20,7 @@ use Rattle.semantics.specs.Program.{Program}
 use Rattle.semantics.specs.Rule.{slot_of, array_base}
 use Rattle.semantics.specs.Machine.{Machine, Size, Events, Run, Resting, Wants, at_start, stuck_rule, slot_used, reader_count}
 use Rattle.semantics.specs.Cause.{HasCause, request_count, credit_count}
-use Rattle.semantics.specs.Faithful.{IsRun, IsExact, inputs_of, largest}
+use Rattle.semantics.specs.Faithful.{Faithful, IsRun, IsExact, inputs_of, largest}
 use Rattle.semantics.specs.Report.{Report, IsPicture, HasEnd, Shows, sum_below, waiters}
 use Rattle.semantics.specs.Plan.{Plan}
 use Rattle.semantics.specs.Handed.{Tenure}
@@ -32,7 +32,8 @@ use Rattle.law_reuse.proofs.BoundsTallies.{Grants, granted_is}
 use Rattle.law_reuse.proofs.BoundsTenures.{TenureRun, tenure_run}
 use Rattle.law_reuse.proofs.Frames.{so_start}
 use Rattle.law_reuse.proofs.FramesNames.{known}
-use Rattle.law_completion.specs.Total.{IsTrueCode, HasEnough, HasOneSlot, IsNotCut, Completes, RunsRest, RunsComplete}
+use Rattle.law_completion.specs.Total.{CallsForAtMost, HasCredits, IsTrueCode, HasRoom, NeverStarves, HasEnough, HasOneSlot, IsNotCut, Completes}
+use Rattle.law_completion.specs.Total.{RoomyRunsRest, RoomyRunsComplete, RunsRest, RunsComplete}
 use Rattle.law_completion.proofs.FramesOut.{frames_suffice}
 use Rattle.law_completion.proofs.CreditsSought.{run_owed}
 use Rattle.law_completion.proofs.Tenures.{tenure}
@@ -61,81 +62,46 @@ open_slot p q one loop k ip s P =
     one.1 ip loop s P.holds
     (ap slot_used P.is_at ∙ ap (slot_of P.instr) P.does ∙ ap Some P.uses)
 
-module _ (fl : Flow) (p : Plan) (q : Program) (code : IsTrueCode fl p q) (inputs : List ℤ) (z : Size) (steps : ℕ) (some_element : 0 < z.elements)
-    (some_frame : 0 < z.frames) (fit : length inputs ≡ inputs_of fl) (enough : HasEnough fl inputs q z steps) where
+module _ (fl : Flow) (q : Program) (faithful : Faithful fl q) (inputs : List ℤ) (z : Size) (steps : ℕ) (some_element : 0 < z.elements)
+    (some_frame : 0 < z.frames) (fit : length inputs ≡ inputs_of fl) (room : HasRoom fl inputs q z steps) (never : NeverStarves fl q inputs z) where
   is_run : (events : Events) (m : Machine) → Run q z (at_start q inputs) events m → IsRun fl q inputs z events m
   is_run events m r = record { inputs_fit = fit; some_element = some_element; some_frame = some_frame; run = r }
 
   module _ (events : Events) (m : Machine) (r : Run q z (at_start q inputs) events m) where
     cause : HasCause fl q inputs events m
-    cause = code.faithful.cause inputs z events m (is_run events m r)
+    cause = faithful.cause inputs z events m (is_run events m r)
 
-    -- the requests and the credits are for what the meaning calls for
-    few_requests : request_count events ≤ enough.due
+    -- the requests are for what the meaning calls for
+    few_requests : request_count events ≤ room.due
     few_requests =
-        let a = cause.enough in let b = enough.calls.invocations cause.run cause.state cause.is_run cause.due cause.are_due in omega (arith, a, b)
-
-    few_credits : credit_count q events ≤ enough.turns
-    few_credits =
-        let a = cause.credits in let b = enough.calls.turns cause.run cause.state cause.is_run cause.due cause.are_due in omega (arith, a, b)
+        let a = cause.enough in let b = room.calls.invocations cause.run cause.state cause.is_run cause.due cause.are_due in omega (arith, a, b)
 
     -- so few events
     few_events : length events < steps
     few_events =
-        let a = few_requests in let b = code.faithful.bound inputs z events m (is_run events m r) in let c = enough.time in
-        let more : 1 + request_count events ≤ 1 + enough.due = omega (arith, a) in
+        let a = few_requests in let b = faithful.bound inputs z events m (is_run events m r) in let c = room.time in
+        let more : 1 + request_count events ≤ 1 + room.due = omega (arith, a) in
         let times = mul-le-mul_left (6 * (largest q.blocks + 1)) more in
         omega (arith, b, c, times)
 
     -- no request waits
     no_request : m.store.requests ≡ []
-    no_request = let a = few_requests in let b = enough.frames in frames_suffice q z inputs events m r (omega (arith, a, b))
-
-    -- no credit is waited for: the loop would have granted all its credits, and so more than were asked for
-    no_waiter : Resting m → (f s : ℕ) (c : Cont) → m.store.slots f s ≡ Waiter c → ⊥
-    no_waiter rest f s c waits = by_out (cases_Bool (m.store.out f))
-      where
-        by_out : (m.store.out f ≡ true) ⊎ (m.store.out f ≡ false) → ⊥
-        by_out (inr none) =
-            let K = known p q z inputs (λ events m r. code.releases inputs z events m (is_run events m r)) events m so_start (λ x F. refl) r in
-            empty_or (m.store.slots f s) c ((K.free f none).slots s) waits
-        by_out (inl out) =
-            let t : Tenure q z inputs f m = tenure q z inputs events m r f out in
-            let T : TenureRun p q z inputs f t.first t.part m t.run =
-            tenure_run p q z inputs f m (λ events m r. code.releases inputs z events m (is_run events m r)) t in
-            let all = (code.credits inputs z events m f (is_run events m r) t).all_granted s c rest waits in
-            let loop = all.0 in
-            let L = all.3 in
-            let slot = open_slot p q code.one_slot loop all.1 L.open_ip s L.opens in
-            let owed = run_owed p q code.one_slot loop f z T.events 0 so_start (at_start q inputs) m (omega arith) T.whole in
-            let one : waiters (m.store.slots f (code.one_slot.0 loop)) ≡ 1 =
-            ap (λ (s : ℕ). waiters (m.store.slots f s)) (sym slot) ∙ ap waiters waits in
-            let same = granted_is p q f loop z t.first t.part m t.run in
-            let counted = T.counted (Grants loop) in
-            let sought = credits_of T.events T.whole in
-            let k = enough.credits L.open_ip all.1 L.opens.instr L.opens.is_at L.opens.does in
-            let eq = all.4 in
-            omega (arith, owed, one, same, counted, sought, k, eq)
-          where
-            credits_of : (events : Events) → Run q z (at_start q inputs) events m → credit_count q events ≤ enough.turns
-            credits_of events r =
-                let cause = code.faithful.cause inputs z events m (is_run events m r) in
-                let a = cause.credits in let b = enough.calls.turns cause.run cause.state cause.is_run cause.due cause.are_due in omega (arith, a, b)
+    no_request = let a = few_requests in let b = room.frames in frames_suffice q z inputs events m r (omega (arith, a, b))
 
     never_wants : Resting m → Wants m → ⊥
     never_wants rest (inl some) = some no_request
-    never_wants rest (inr (f, s, c, waits)) = no_waiter rest f s c waits
+    never_wants rest (inr (f, s, c, waits)) = never events m (is_run events m r) rest no_request f s c waits
 
     -- at rest no fetch waits, since the state is the meaning's
-    none_deferred : sum_below (sum fl.arrays) (λ x. fetch_count fl x enough.state.tokens) ≡ 0 → (r : Report) → IsPicture q z m r → IsExact fl inputs m
+    none_deferred : sum_below (sum fl.arrays) (λ x. fetch_count fl x room.state.tokens) ≡ 0 → (r : Report) → IsPicture q z m r → IsExact fl inputs m
         → r.deferred ≡ 0
     none_deferred none_waiting report pic exact =
-        let lead = exact.only enough.state enough.reached in
-        let same = leads_nowhere fl enough.state exact.state lead.0 enough.at_rest lead.1 in
-        let none = none_waits fl enough.state.tokens none_waiting in
+        let lead = exact.only room.state room.reached in
+        let same = leads_nowhere fl room.state exact.state lead.0 room.at_rest lead.1 in
+        let none = none_waits fl room.state.tokens none_waiting in
         let each : (x : ℕ) → reader_count (m.store.cells x) ≡ 0 =
         (λ x. exact.readers x
-        ∙ sum_by-IsPermutation (λ (t : Tagged). cond (waits_for fl x t.context t.statement t.value) 1 0) enough.state.tokens exact.state.tokens same.0
+        ∙ sum_by-IsPermutation (λ (t : Tagged). cond (waits_for fl x t.context t.statement t.value) 1 0) room.state.tokens exact.state.tokens same.0
         ∙ none x) in
         pic.deferred ∙ sum_of_zeros (array_base q (length q.arrays)) (λ x. reader_count (m.store.cells x)) each
 
@@ -151,8 +117,8 @@ module _ (fl : Flow) (p : Plan) (q : Program) (code : IsTrueCode fl p q) (inputs
     go Starved eq = let h = ended Starved eq in absurd (never_wants r.events last shows.run h.0 h.1)
     go (Clash a i) eq =
         let h = ended (Clash a i) eq in
-        let second = code.faithful.second_store inputs z r.events last (array_base q a + i) (is_run r.events last shows.run) h.2 in
-        absurd (second.always enough.state enough.reached enough.at_rest enough.no_clash)
+        let second = faithful.second_store inputs z r.events last (array_base q a + i) (is_run r.events last shows.run) h.2 in
+        absurd (second.always room.state room.reached room.at_rest room.no_clash)
     go Steps eq = absurd (pick (ended Steps eq))
       where
         pick : HasEnd q z steps by_list may_stop r.events last Steps → ⊥
@@ -162,7 +128,7 @@ module _ (fl : Flow) (p : Plan) (q : Program) (code : IsTrueCode fl p q) (inputs
         pick (inr (list, token)) = uncut.list list eq
     go (Stuck n) eq =
         let h = ended (Stuck n) eq in
-        let none = code.faithful.matching inputs z r.events last h.0 (is_run r.events last shows.run) h.1 in
+        let none = faithful.matching inputs z r.events last h.0 (is_run r.events last shows.run) h.1 in
         absurd (not_both (stuck_rule q last.store h.0.to h.0.word) n none h.2)
     go Memory eq = absurd (uncut.memory eq)
     go Stop eq = absurd (uncut.gate eq)
@@ -170,16 +136,75 @@ module _ (fl : Flow) (p : Plan) (q : Program) (code : IsTrueCode fl p q) (inputs
     pub rests : r.end ≡ Rest
     rests = go r.end refl
 
-    pub completes : sum_below (sum fl.arrays) (λ x. fetch_count fl x enough.state.tokens) ≡ 0 → Completes r
+    pub completes : sum_below (sum fl.arrays) (λ x. fetch_count fl x room.state.tokens) ≡ 0 → Completes r
     completes none_waiting =
         let h = ended Rest rests in
-        let exact = code.faithful.exact inputs z r.events last (is_run r.events last shows.run) h.0 h.1 in
+        let exact = faithful.exact inputs z r.events last (is_run r.events last shows.run) h.0 h.1 in
         record { rest = rests; none_waits = none_deferred r.events last shows.run none_waiting r shows.picture exact }
 
+-- No credit is waited for: the loop would have granted all its credits, and so more than were asked for.
+module _ (fl : Flow) (p : Plan) (q : Program) (code : IsTrueCode fl p q) (inputs : List ℤ) (d t : ℕ) (calls : CallsForAtMost fl inputs d t)
+    (credits : HasCredits q t) (z : Size) where
+  few_credits : (events : Events) (m : Machine) → IsRun fl q inputs z events m → credit_count q events ≤ t
+  few_credits events m r =
+      let cause = code.faithful.cause inputs z events m r in
+      let a = cause.credits in let b = calls.turns cause.run cause.state cause.is_run cause.due cause.are_due in omega (arith, a, b)
+
+  never_starves : NeverStarves fl q inputs z
+  never_starves events m r rest none f s c waits = by_out (cases_Bool (m.store.out f))
+    where
+      is_run : (events : Events) (m : Machine) → Run q z (at_start q inputs) events m → IsRun fl q inputs z events m
+      is_run events m k = record { inputs_fit = r.inputs_fit; some_element = r.some_element; some_frame = r.some_frame; run = k }
+
+      by_out : (m.store.out f ≡ true) ⊎ (m.store.out f ≡ false) → ⊥
+      by_out (inr none) =
+          let K = known p q z inputs (λ events m k. code.releases inputs z events m (is_run events m k)) events m so_start (λ x F. refl) r.run in
+          empty_or (m.store.slots f s) c ((K.free f none).slots s) waits
+      by_out (inl out) =
+          let t : Tenure q z inputs f m = tenure q z inputs events m r.run f out in
+          let T : TenureRun p q z inputs f t.first t.part m t.run =
+          tenure_run p q z inputs f m (λ events m k. code.releases inputs z events m (is_run events m k)) t in
+          let all = (code.credits inputs z events m f r t).all_granted s c rest waits in
+          let loop = all.0 in
+          let L = all.3 in
+          let slot = open_slot p q code.one_slot loop all.1 L.open_ip s L.opens in
+          let owed = run_owed p q code.one_slot loop f z T.events 0 so_start (at_start q inputs) m (omega arith) T.whole in
+          let one : waiters (m.store.slots f (code.one_slot.0 loop)) ≡ 1 =
+          ap (λ (s : ℕ). waiters (m.store.slots f s)) (sym slot) ∙ ap waiters waits in
+          let same = granted_is p q f loop z t.first t.part m t.run in
+          let counted = T.counted (Grants loop) in
+          let sought = few_credits T.events m (is_run T.events m T.whole) in
+          let k = credits L.open_ip all.1 L.opens.instr L.opens.is_at L.opens.does in
+          let eq = all.4 in
+          omega (arith, owed, one, same, counted, sought, k, eq)
+
+abbrev room_of : (fl : Flow) (inputs : List ℤ) (q : Program) (z : Size) (steps : ℕ) → HasEnough fl inputs q z steps → HasRoom fl inputs q z steps
+room_of fl inputs q z steps enough = record {
+  state = enough.state;
+  reached = enough.reached;
+  at_rest = enough.at_rest;
+  no_clash = enough.no_clash;
+  due = enough.due;
+  turns = enough.turns;
+  calls = enough.calls;
+  frames = enough.frames;
+  time = enough.time;
+}
+
+pub roomy_runs_rest : RoomyRunsRest
+roomy_runs_rest fl q faithful inputs z steps e f fit room never by_list may_stop r shows uncut =
+    rests fl q faithful inputs z steps e f fit room never by_list may_stop r shows uncut
+
+pub roomy_runs_complete : RoomyRunsComplete
+roomy_runs_complete fl q faithful inputs z steps e f fit room never none_waiting by_list may_stop r shows uncut =
+    completes fl q faithful inputs z steps e f fit room never by_list may_stop r shows uncut none_waiting
+
 pub runs_rest : RunsRest
-runs_rest fl p q code inputs z steps e f fit enough by_list may_stop r shows uncut =
-    rests fl p q code inputs z steps e f fit enough by_list may_stop r shows uncut
+runs_rest fl p q code inputs z steps e f fit enough =
+    roomy_runs_rest fl q code.faithful inputs z steps e f fit (room_of fl inputs q z steps enough)
+    (never_starves fl p q code inputs enough.due enough.turns enough.calls enough.credits z)
 
 pub runs_complete : RunsComplete
-runs_complete fl p q code inputs z steps e f fit enough none_waiting by_list may_stop r shows uncut =
-    completes fl p q code inputs z steps e f fit enough by_list may_stop r shows uncut none_waiting
+runs_complete fl p q code inputs z steps e f fit enough none_waiting =
+    roomy_runs_complete fl q code.faithful inputs z steps e f fit (room_of fl inputs q z steps enough)
+    (never_starves fl p q code inputs enough.due enough.turns enough.calls enough.credits z) none_waiting

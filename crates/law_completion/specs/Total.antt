@@ -1,5 +1,7 @@
 -- Which runs come to their end: those that have frames, credits and steps enough for what the meaning calls for.
 use Rattle.std.specs.Prelude.{◌≡◌, ◌≢◌, ℕ, ◌+◌, ◌-◌, ◌*◌, ◌<◌, ◌≤◌, Bool, true, ℤ, List, [], length, count_by, sum, Some, All}
+use Rattle.tags.specs.declared.token.Cont.{Cont}
+use Rattle.tags.specs.declared.slot.SlotState.TheVariants.{Waiter}
 use Rattle.semantics.specs.declared.report.End.TheVariants.{Rest, Steps, Memory, Stop}
 use Rattle.semantics.specs.declared.program.Op.TheVariants.{Open}
 use Rattle.semantics.specs.Graph.{Graph, Block, Flow, flow_of}
@@ -8,7 +10,7 @@ use Rattle.semantics.specs.Meaning.{Context, State, Activity, Stood, Run, Reache
 use Rattle.semantics.specs.Program.{Instr, Program, instr_at}
 use Rattle.semantics.specs.Cause.{AllDue, request_count, is_turn, loop_bounds}
 use Rattle.semantics.specs.Machine as Machine
-use Rattle.semantics.specs.Machine.{Machine, Size, Events, at_start, slot_used}
+use Rattle.semantics.specs.Machine.{Machine, Size, Events, at_start, slot_used, Resting}
 use Rattle.semantics.specs.Faithful.{Faithful, IsRun, inputs_of, largest}
 use Rattle.semantics.specs.Report.{Report, Shows, sum_below}
 use Rattle.semantics.specs.Reuse.{ReleasesLast}
@@ -84,7 +86,38 @@ pub record IsNotCut (by_list : Bool) (r : Report) : Type 0 where
   pub gate : r.end ≢ Stop
   pub list : by_list ≡ true → r.end ≢ Steps
 
--- The meaning comes to rest without a second store, fetches waiting or not, and this machine has enough for all that it calls for.
+-- ROOM. The meaning comes to rest without a second store, fetches waiting or not, and this machine has frames and steps for all that it calls for.
+pub record HasRoom (fl : Flow) (inputs : List ℤ) (p : Program) (z : Size) (steps : ℕ) : Type 0 where
+  pub state : State
+  pub reached : Reached fl inputs state
+  pub at_rest : AtRest fl state
+  pub no_clash : (x : ℕ) → Clashes fl state x → ⊥
+  pub due : ℕ
+  pub turns : ℕ
+  pub calls : CallsForAtMost fl inputs due turns
+  pub frames : HasFrames z due
+  pub time : HasSteps p steps due
+
+-- Where this machine is at rest and no frame is wanted, no iteration waits for a credit.
+abbrev pub NeverStarves : Flow → Program → List ℤ → Size → Type 0
+NeverStarves fl q inputs z = (events : Events) (m : Machine) → IsRun fl q inputs z events m → Resting m → m.store.requests ≡ []
+    → (f s : ℕ) (c : Cont) → m.store.slots f s ≡ Waiter c → ⊥
+
+-- Faithful code that never starves for a credit comes to rest where it has room, whatever the order, if the run was not cut off,
+abbrev pub RoomyRunsRest : Type 0
+RoomyRunsRest = (fl : Flow) (q : Program) → Faithful fl q
+    → (inputs : List ℤ) (z : Size) (steps : ℕ) → 0 < z.elements → 0 < z.frames → length inputs ≡ inputs_of fl → HasRoom fl inputs q z steps
+    → NeverStarves fl q inputs z
+    → (by_list may_stop : Bool) (r : Report) → Shows q z inputs steps by_list may_stop r → IsNotCut by_list r → r.end ≡ Rest
+
+-- and completes where no fetch waits in the meaning.
+abbrev pub RoomyRunsComplete : Type 0
+RoomyRunsComplete = (fl : Flow) (q : Program) → Faithful fl q
+    → (inputs : List ℤ) (z : Size) (steps : ℕ) → 0 < z.elements → 0 < z.frames → length inputs ≡ inputs_of fl → (room : HasRoom fl inputs q z steps)
+    → NeverStarves fl q inputs z → sum_below (sum fl.arrays) (λ x. fetch_count fl x room.state.tokens) ≡ 0
+    → (by_list may_stop : Bool) (r : Report) → Shows q z inputs steps by_list may_stop r → IsNotCut by_list r → Completes r
+
+-- ENOUGH. The same, and the loops have credits for all iterations.
 pub record HasEnough (fl : Flow) (inputs : List ℤ) (p : Program) (z : Size) (steps : ℕ) : Type 0 where
   pub state : State
   pub reached : Reached fl inputs state

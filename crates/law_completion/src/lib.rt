@@ -29,7 +29,8 @@
 //!   of a program's evaluation, and what follows if the meaning calls for just these, which is not proved here.
 #![tactic(auto)]
 
-ghost use Rattle.law_completion.specs.Total.{FramesSuffice, LengthBounds, RunsRest, RunsComplete, BoundsAreCredits, CodeHasOneSlot};
+ghost use Rattle.law_completion.specs.Total.{FramesSuffice, LengthBounds, RoomyRunsRest, RoomyRunsComplete, RunsRest, RunsComplete, BoundsAreCredits};
+ghost use Rattle.law_completion.specs.Total.{CodeHasOneSlot};
 ghost use Rattle.law_completion.specs.TotalGraph.{OneRunTells, OneRunCounts, TotalGraph};
 ghost use Rattle.law_completion.specs.TotalProgram.{CountsSuffice};
 
@@ -40,6 +41,8 @@ ghost use Rattle.law_completion.specs.TotalProgram.{CountsSuffice};
 pub fn enough_suffices()
     ensures frames { FramesSuffice }
     ensures length { LengthBounds }
+    ensures room_rest { RoomyRunsRest }
+    ensures room_complete { RoomyRunsComplete }
     ensures rest { RunsRest }
     ensures complete { RunsComplete }
     ensures bounds { BoundsAreCredits }

@@ -22,3 +22,9 @@ returns-clause-slots c = One.one_slot
 
 pub returns-clause-rest : goal.returns-clause-rest
 returns-clause-rest c = Ends.runs_rest
+
+pub returns-clause-room_rest : goal.returns-clause-room_rest
+returns-clause-room_rest c = Ends.roomy_runs_rest
+
+pub returns-clause-room_complete : goal.returns-clause-room_complete
+returns-clause-room_complete c = Ends.roomy_runs_complete
