@@ -1,0 +1,2 @@
+pub mod LoopsComplete
+pub mod Within
