@@ -1,24 +1,19 @@
 -- Where no loop outgrows its bound, code that waits for credits only for loops that do completes.
-use Rattle.std.proofs.Common.{◌≡◌, sym, ap, ◌∙◌, subst, ℕ, zero, suc, ◌⊎◌, inl, inr, ℤ, List, [], ◌∷◌, map, Some, Contains, arith}
+use Rattle.std.proofs.Common.{◌≡◌, sym, ap, ◌∙◌, subst, ℕ, zero, suc, inr, ℤ, List, [], ◌∷◌, map, Some, Contains, arith}
 use Rattle.std.specs.Prelude.{slice_get}
 use Rattle.lemmas.proofs.Alls.{all_from}
 use Rattle.lemmas.proofs.Contains.{contains_head, contains_map, contains_mapped}
 use Rattle.tags.specs.declared.value.Value.{Value}
-use Rattle.semantics.specs.declared.graph.Kind.TheVariants.{Loop}
-use Rattle.semantics.specs.Graph.{Graph, Flow, Node, flow_of}
-use Rattle.semantics.specs.WellFormed.{WellFormed}
-use Rattle.semantics.specs.Meaning.{Context, Main, Turned, State, Activity, Fires, Run, Stood, Due, start, node_of}
+use Rattle.semantics.specs.Graph.{Flow, flow_of}
+use Rattle.semantics.specs.Meaning.{Context, Main, Turned, State, Activity, Fires, Run, Stood, Due, start}
 use Rattle.semantics.specs.Program.{Program}
 use Rattle.semantics.specs.Cause.{AllDue}
 use Rattle.semantics.specs.Machine.{Size}
-use Rattle.source.specs.Theorem.{RestsWell}
-use Rattle.law_confluence.specs.Outcome.{AreInputsOf}
-use Rattle.law_completion.specs.Total.{NeverStarves, HasRoom}
-use Rattle.law_completion.specs.TotalGraph.{NeedsAtMost}
+use Rattle.law_completion.specs.Total.{NeverStarves}
 use Rattle.law_completion.proofs.OneRun.{among}
 use Rattle.law_completion.proofs.TotalEnds.{roomy_runs_complete}
-use Rattle.law_loops_complete.specs.Loops.{Outgrows, WaitsForMore}
-use Rattle.law_loops_complete.specs.LoopsComplete.{NoneOutgrows, OneRunBounds, HasSpace, LoopsComplete}
+use Rattle.law_loops_complete.specs.Loops.{WaitsForMore}
+use Rattle.law_loops_complete.specs.LoopsComplete.{NoneOutgrows, OneRunBounds, LoopsComplete}
 
 -- ---- ONE RUN TELLS
 

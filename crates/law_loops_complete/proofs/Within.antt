@@ -1,9 +1,8 @@
 -- Where some run of the meaning keeps within, code that starves only where none does completes; and the first activity that is missing is enabled.
-use Rattle.std.proofs.Common.{◌≡◌, refl, sym, ap, ◌∙◌, subst, ◌⊎◌, inl, inr, ℤ, List, [], ◌∷◌, ◌++◌, IsPermutation}
+use Rattle.std.proofs.Common.{refl, ap, subst, ◌⊎◌, inl, inr, ℤ, List, [], ◌∷◌, ◌++◌, IsPermutation}
 use Rattle.std.proofs.lemmas.List.Sorted.{IsPermutation-refl, IsPermutation-trans, IsPermutation-cons, IsPermutation-middle}
-use Rattle.semantics.specs.Graph.{Graph, Flow, flow_of}
+use Rattle.semantics.specs.Graph.{Flow, flow_of}
 use Rattle.semantics.specs.Meaning.{State, Activity, Step, Run, AtRest, start}
-use Rattle.semantics.specs.Program.{Program}
 use Rattle.law_confluence.specs.Outcome.{NoClash}
 use Rattle.law_confluence.proofs.ActivityDiamond.{One, Joined, Clash, diamond}
 use Rattle.law_confluence.proofs.OutcomeDeterminacy.{IsKept, same_sym, step_same, run_same}
