@@ -45,6 +45,14 @@ use std::thread;
 use std::thread::Threads;
 use tags::token::Token;
 
+// In how many threads so many elements run: in the first pass each has one of its own.
+fn threads_of(is_first: bool, elements: usize) -> usize
+    requires { 0 < elements }
+    ensures { 0 < result }
+{
+    if is_first { elements } else { 1 }
+}
+
 // All elements run. In the first pass they begin, each in a thread of its own; in another one this thread runs one after the other.
 fn run_each<
     R: Threads + Wait + Sync,
@@ -67,7 +75,7 @@ fn run_each<
     ensures each { AllEnded L.KEEPS_EVENTS (setting_in C.program C.width shape.now) mesh.now G.may_stop runners.old runners.new }
     ensures count { length runners.new ≡ length runners.old }
 {
-    let threads = if is_first { runners.len() } else { 1 };
+    let threads = threads_of(is_first, runners.len());
     thread::for_each_mut(
         rt,
         runners,
