@@ -1,6 +1,6 @@
 -- RUNS THAT GO ON: by an activity all of whose tokens have been present; and what stays so.
-use Rattle.std.proofs.Common.{◌≡◌, ℕ, ◌⊎◌, ℤ, Bool, true, false, ◌==◌, eqb-true, List, [], ◌∷◌, ◌++◌, Option, Some, Contains, flat_map, inl, inr, refl, sym, ap, ◌∙◌, subst, ⊎_elim, eq-eqb}
-use Rattle.std.proofs.Common.{if◌then◌else◌, IsPermutation}
+use Rattle.std.proofs.Common.{◌≡◌, ℕ, ◌⊎◌, ℤ, Bool, true, false, ◌==◌, eqb-true, List, [], ◌∷◌, ◌++◌, Some, Contains, flat_map, inl, inr, refl, sym, ap, ◌∙◌, subst, ⊎_elim, eq-eqb}
+use Rattle.std.proofs.Common.{if◌then◌else◌}
 use Rattle.std.proofs.lemmas.List.Concat.{flat_map-append}
 use Rattle.std.proofs.lemmas.List.Elements.{Contains-append_left, Contains-append_right}
 use Rattle.std.proofs.lemmas.List.Sorted.{IsPermutation-sym}
@@ -11,7 +11,7 @@ use Rattle.semantics.specs.WellFormed.{WellFormed}
 use Rattle.semantics.specs.Meaning.{Context, Tagged, Memory, State, Effect, Activity, taken, Deed, Says, Reads, Fills, Puts, Message, Sends, tokens_of, adds}
 use Rattle.semantics.specs.Meaning.{with_cell, done_if, deed, done, Step, Run, Stood, start}
 use Rattle.lemmas.proofs.Contains.{contains_head, contains_cases, contains_none, contains_get}
-use Rattle.lemmas.proofs.Permutations.{Within, Each, within_from, within_to, within_append, within_left, within_right, within_permutation}
+use Rattle.lemmas.proofs.Permutations.{Within, Each, within_to, within_append, within_left, within_right, within_permutation}
 use Rattle.law_confluence.specs.Outcome.{AreInputsOf}
 use Rattle.law_confluence.specs.EquationsHave.{SaysIn, Gives}
 use Rattle.law_confluence.proofs.ActivityDeeds.{CellsKept, empty_of, full_of}

@@ -1,20 +1,18 @@
 -- THE STEPS OF A RUN, by the kinds of nodes: where its operands have values, a node happens.
-use Rattle.std.proofs.Common.{◌≡◌, ℕ, ◌+◌, ◌-◌, ◌<◌, ◌≤◌, ℤ, Bool, true, false, List, [], ◌∷◌, length, Option, Some, None, nat_lt, ◌==◌, if◌then◌else◌, refl, sym, ap}
+use Rattle.std.proofs.Common.{◌≡◌, ℕ, ◌+◌, ◌-◌, ◌<◌, ℤ, Bool, List, [], ◌∷◌, length, Some, None, ◌==◌, if◌then◌else◌, refl, sym, ap}
 use Rattle.std.proofs.Common.{ap₂, ◌∙◌, subst, arith, le-ltb, lt-ltb, eq-eqb, Contains}
 use Rattle.std.specs.Prelude.{slice_get}
 use Rattle.tags.specs.declared.value.Value.{Value}
 use Rattle.operators.specs.Values.{truth}
 use Rattle.semantics.specs.declared.graph.Region.TheVariants.{Arm}
 use Rattle.semantics.specs.declared.graph.Source.{Source}
-use Rattle.semantics.specs.declared.graph.Kind.TheVariants.{Cond, Enter}
+use Rattle.semantics.specs.declared.graph.Kind.TheVariants.{Enter}
 use Rattle.semantics.specs.Graph.{Graph, Node, Block, Flow, flow_of, node_at}
 use Rattle.semantics.specs.WellFormed.{WellFormed}
 use Rattle.semantics.specs.Meaning.{Context, Main, Called, Turned, AtNode, AtOut, AtTurn, Operand, Predicate, Flag, Carried, tagged, Activity, Fires, Gates, Passes}
 use Rattle.semantics.specs.Meaning.{Returns, Turns, Outputs, Deed, Says, Puts, Sends, Steers, Enters, Nothing, deed, fired, fired_in, input_passed, passed, gated, same_side}
-use Rattle.semantics.specs.Meaning.{on_node, on_block, block_of, start}
-use Rattle.lemmas.proofs.Permutations.{Each}
+use Rattle.semantics.specs.Meaning.{on_node, on_block, block_of}
 use Rattle.law_confluence.specs.Outcome.{AreInputsOf}
-use Rattle.law_confluence.specs.EquationsHave.{Gives}
 use Rattle.law_confluence.specs.Equations.{Has}
 use Rattle.law_confluence.proofs.EquationsGraphForms.{line_past}
 use Rattle.law_confluence.proofs.EquationsRunUses.{operands_each, predicate_told}

@@ -1,14 +1,14 @@
 -- WHAT IS SHOWN OF EACH PART: a run goes on, by the activities of the part in the order of its text, until its sources have the values that it is
 -- evaluated to, and its stores are made.
-use Rattle.std.proofs.Common.{◌≡◌, ℕ, ◌+◌, ℤ, Bool, List, [], ◌∷◌, ◌++◌, length, Option, Some, Ok, Contains, refl, sym, ap, ap₂, ◌∙◌, subst, arith}
+use Rattle.std.proofs.Common.{◌≡◌, ℕ, ◌+◌, ℤ, Bool, List, [], ◌∷◌, ◌++◌, length, Option, Some, Ok, refl, sym, ap, ap₂, ◌∙◌}
 use Rattle.tags.specs.declared.value.Value.{Value}
 use Rattle.tags.specs.declared.value.Origin.{Origin}
 use Rattle.tags.specs.declared.value.Origin.TheVariants.{At}
 use Rattle.semantics.specs.declared.graph.Source.{Source}
 use Rattle.semantics.specs.declared.graph.Kind.{Kind}
-use Rattle.semantics.specs.Graph.{Graph, Flow, Node, Block, flow_of, node_at}
+use Rattle.semantics.specs.Graph.{Graph, Flow, Block, flow_of, node_at}
 use Rattle.semantics.specs.WellFormed.{WellFormed}
-use Rattle.semantics.specs.Meaning.{Context, Memory, Fires, Says, Sends, block_of, block_number, origin_at, origin_in, fired}
+use Rattle.semantics.specs.Meaning.{Context, Memory, Fires, Says, Sends, block_of, origin_at, origin_in, fired}
 use Rattle.law_confluence.specs.Outcome.{AreInputsOf}
 use Rattle.law_confluence.specs.Equations.{Has}
 use Rattle.source.specs.Tree.{Name, Expr, Exprs, Body, Function, Program}
@@ -16,7 +16,7 @@ use Rattle.source.specs.Fits.{Fits, FitsAll, FitsBody}
 use Rattle.source.specs.Outside.{uses, list_uses, body_uses}
 use Rattle.source.specs.Rules.{values, list_values, body_values, function_in}
 use Rattle.source.specs.Evaluates.{World, Env, Stores, Evaluates, EvaluatesAll, Runs}
-use Rattle.source.specs.Lowered.{Made, MadeBlock, Lowered, Site, Spot, Scope, made, ended, port, ports_from, spot_after, lower, lower_list, lower_body, function_blocks, graph_of}
+use Rattle.source.specs.Lowered.{Made, MadeBlock, Lowered, Site, Spot, Scope, made, ended, ports_from, spot_after, lower, lower_list, lower_body, function_blocks, graph_of}
 use Rattle.source.specs.Theorem.{world}
 use Rattle.law_language.specs.Means.{IsActive}
 use Rattle.law_language.specs.MeansAgrees.{Agrees, Have}

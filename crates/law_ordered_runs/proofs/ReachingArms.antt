@@ -1,5 +1,5 @@
 -- A conditional, where a run has reached its predicate: the arm that is chosen is reached, and its values are merged.
-use Rattle.std.proofs.Common.{◌≡◌, ℕ, ◌+◌, Bool, true, false, List, [], ◌∷◌, ◌++◌, length, map, Option, Some, Ok, Contains, if◌then◌else◌, refl, sym, ap, ◌∙◌, subst}
+use Rattle.std.proofs.Common.{◌≡◌, ℕ, ◌+◌, Bool, true, false, List, [], ◌∷◌, ◌++◌, length, map, Some, Ok, Contains, if◌then◌else◌, refl, sym, ap, ◌∙◌, subst}
 use Rattle.std.proofs.Common.{arith, length-append}
 use Rattle.std.specs.Prelude.{slice_get}
 use Rattle.std.proofs.lemmas.Option.{same_Some}
@@ -8,18 +8,18 @@ use Rattle.operators.specs.Values.{truth}
 use Rattle.semantics.specs.declared.graph.Region.TheVariants.{Arm}
 use Rattle.semantics.specs.declared.graph.Source.{Source}
 use Rattle.semantics.specs.declared.graph.Kind.TheVariants as node
-use Rattle.semantics.specs.Graph.{Node, Block, node_at, node_count}
+use Rattle.semantics.specs.Graph.{Block, node_at, node_count}
 use Rattle.semantics.specs.Meaning.{Context, AtNode, Operand, tagged, Activity, Fires, Gates, Passes, Deed, Says, Sends, Steers, Nothing, Stood, ArmsTaken, arm_of}
 use Rattle.semantics.specs.Meaning as Meaning
 use Rattle.semantics.specs.Meaning.{arms_round, block_of, same_side, deed, start}
 use Rattle.law_confluence.proofs.EquationsValuesSides.{one_more}
-use Rattle.source.specs.Tree.{Name, Expr, Body, If}
+use Rattle.source.specs.Tree.{Name, Expr, Body}
 use Rattle.source.specs.Fits.{FitsBody}
 use Rattle.source.specs.Holds.{Holds}
 use Rattle.source.specs.Outside.{outside_body, uses, body_uses}
 use Rattle.source.specs.Rules.{body_values}
 use Rattle.source.specs.Evaluates.{Env, Stores, Evaluates, Runs, if_true, if_false}
-use Rattle.source.specs.Lowered.{Made, MadeBlock, Lowered, Site, Spot, Scope, spot_after, next_spot, first_of, followed, made, source_in, or_predicate, enters}
+use Rattle.source.specs.Lowered.{Made, Lowered, Site, Spot, Scope, spot_after, next_spot, first_of, followed, made, source_in, or_predicate}
 use Rattle.source.specs.Lowered.{entered_names, arm_site, arm_scope, arm, merges, chosen, inputs_from, port, lower, lower_body}
 use Rattle.source.proofs.Kept.{in_if}
 use Rattle.source.proofs.Counting.{body_count}
@@ -29,16 +29,16 @@ use Rattle.law_language.proofs.MeansNamesAgree.{Entered, agrees_split, agrees_on
 use Rattle.law_language.proofs.MeansParts.{own_line, block_is}
 use Rattle.law_language.proofs.MeansLeaves.{append_nothing}
 use Rattle.law_language.proofs.MeansLies.{HoldsMade, made_split}
-use Rattle.law_language.proofs.MeansTurnNames.{BoundTo, known_values, entered_values}
+use Rattle.law_language.proofs.MeansTurnNames.{known_values, entered_values}
 use Rattle.law_ordered_runs.specs.InOrder.{Touch, touches, body_touches}
-use Rattle.law_ordered_runs.proofs.Extending.{On, Extended, on_then, on_same, said_gives, said_memory}
+use Rattle.law_ordered_runs.proofs.Extending.{Extended, said_gives, said_memory}
 use Rattle.law_ordered_runs.proofs.Lines.{line_happens, operand_happens, enter_happens}
-use Rattle.law_ordered_runs.proofs.Memory.{Ready, Changed, fills, fills_none, ready_first, ready_then, changed_none, changed_same}
+use Rattle.law_ordered_runs.proofs.Memory.{fills, fills_none, ready_first, ready_then, changed_none, changed_same}
 use Rattle.law_ordered_runs.proofs.Staying.{due_on, has_on, have_on, agrees_on, active_on, arms_on}
 use Rattle.law_ordered_runs.proofs.UsesSent.{operand_came}
-use Rattle.law_ordered_runs.proofs.Reaching.{Land, RunOf, flow, world_of, cells_of, HasX, HaveX, KnownX, ActiveX, ReadyX, OnX, Reaches, ExprReaches, BodyReaches}
+use Rattle.law_ordered_runs.proofs.Reaching.{Land, RunOf, flow, world_of, cells_of, HasX, HaveX, KnownX, ActiveX, ReadyX, Reaches, ExprReaches, BodyReaches}
 use Rattle.law_ordered_runs.proofs.Reaching.{there_already, first_in, rest_in}
-use Rattle.law_ordered_runs.proofs.ReachingParts.{both_reached, second_reached, OneSource, one_source}
+use Rattle.law_ordered_runs.proofs.ReachingParts.{both_reached, second_reached, one_source}
 
 -- WHAT SAYS A VALUE, with no store
 pub says_reached : (z : Land) (x : RunOf z) (c : Context) (a : Activity) (n : ℕ) (v : Value) → Extended z.graph z.inputs z.well z.count x a (Says (Sends c n 0 v))

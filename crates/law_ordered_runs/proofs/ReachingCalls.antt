@@ -1,19 +1,19 @@
 -- A call, where a run has reached its arguments: its function's body is reached, and its results are returned.
-use Rattle.std.proofs.Common.{◌≡◌, ℕ, zero, suc, ◌+◌, ◌<◌, ◌≤◌, Bool, true, false, List, [], ◌∷◌, ◌++◌, length, map, Option, Some, Contains, inl, refl, sym, ap, ◌∙◌, subst}
+use Rattle.std.proofs.Common.{◌≡◌, ℕ, zero, suc, ◌+◌, ◌<◌, ◌≤◌, Bool, true, false, List, [], ◌∷◌, length, map, Option, Some, inl, refl, sym, ap, ◌∙◌, subst}
 use Rattle.std.proofs.Common.{arith}
 use Rattle.std.specs.Prelude.{⊤, slice_get}
-use Rattle.std.proofs.lemmas.Option.{slice_get_within, same_Some}
+use Rattle.std.proofs.lemmas.Option.{same_Some}
 use Rattle.tags.specs.declared.value.Value.{Value}
 use Rattle.semantics.specs.declared.graph.Source.{Source}
 use Rattle.semantics.specs.declared.graph.Kind.{Kind}
-use Rattle.semantics.specs.Graph.{Node, Block, node_at, node_count, place_of, resolved_kind, array_names, block_names}
+use Rattle.semantics.specs.Graph.{Node, Block, node_at, node_count, place_of, block_names}
 use Rattle.semantics.specs.Meaning as Meaning
 use Rattle.semantics.specs.Meaning.{Context, Called, AtNode, AtOut, Operand, tagged, Activity, Fires, Passes, Returns, Deed, Says, Sends, Enters, Stood, IsCall, StartsWhenStrict}
 use Rattle.semantics.specs.Meaning.{ArmsTaken, arm_of, arms_round, arms_at, callee, callee_of, callee_in, block_number, block_numbered, block_of, node_in, node_of, passed, fired, start}
 use Rattle.law_confluence.specs.Equations.{IsDue}
 use Rattle.law_confluence.proofs.EquationsGraphFormed.{shaped}
 use Rattle.law_confluence.proofs.EquationsRunUses.{entering_within}
-use Rattle.source.specs.Tree.{Name, Exprs, Call, Function}
+use Rattle.source.specs.Tree.{Name, Exprs, Function}
 use Rattle.source.specs.Outside.{bare, body_uses}
 use Rattle.source.specs.Rules.{function_in, written_or_one}
 use Rattle.source.specs.Evaluates.{Env, Stores, EvaluatesAll, Runs, call, entered}
@@ -25,20 +25,20 @@ use Rattle.source.proofs.Holding.{holds_whole}
 use Rattle.source.proofs.NamesUsed.{body_used}
 use Rattle.source.proofs.Counting.{list_count, body_count}
 use Rattle.law_language.specs.MeansHolds.{resolved, block_in, HasBlocks}
-use Rattle.law_language.proofs.MeansHaving.{have_source, have_length}
+use Rattle.law_language.proofs.MeansHaving.{have_length}
 use Rattle.law_language.proofs.MeansHolding.{resolved_all}
 use Rattle.law_language.proofs.MeansNamesAgree.{agrees_each, known_in}
 use Rattle.law_language.proofs.MeansParts.{own_line, block_is}
 use Rattle.law_language.proofs.MeansLeaves.{append_nothing}
 use Rattle.law_language.proofs.MeansMainActive.{IsGoodFunction, function_named, main_spot, main_lowered, main_made}
 use Rattle.law_language.proofs.MeansInputs.{root_taken}
-use Rattle.law_ordered_runs.specs.InOrder.{Touch, list_touches, body_touches}
-use Rattle.law_ordered_runs.proofs.Extending.{On, Extended, Came, on_then, on_same, said_came, said_gives, said_memory}
+use Rattle.law_ordered_runs.specs.InOrder.{list_touches, body_touches}
+use Rattle.law_ordered_runs.proofs.Extending.{Extended, Came, on_then, on_same, said_came, said_gives, said_memory}
 use Rattle.law_ordered_runs.proofs.Lines.{line_happens, operand_happens, input_happens, result_happens}
 use Rattle.law_ordered_runs.proofs.Memory.{Changed, list_fills, fills_none, ready_first, ready_then, changed_none, changed_same, changed_both}
-use Rattle.law_ordered_runs.proofs.Staying.{due_on, has_on, have_on, agrees_on, active_on, arms_on}
+use Rattle.law_ordered_runs.proofs.Staying.{due_on, has_on, have_on, arms_on}
 use Rattle.law_ordered_runs.proofs.UsesSent.{result_came}
-use Rattle.law_ordered_runs.proofs.Reaching.{Land, RunOf, flow, world_of, cells_of, HasX, HaveX, KnownX, ActiveX, ReadyX, OnX, Reaches, ExprReaches, ListReaches}
+use Rattle.law_ordered_runs.proofs.Reaching.{Land, RunOf, flow, world_of, cells_of, HasX, HaveX, ActiveX, ReadyX, OnX, Reaches, ExprReaches, ListReaches}
 use Rattle.law_ordered_runs.proofs.Reaching.{BodyReaches, there_already, first_in, rest_in}
 use Rattle.law_ordered_runs.proofs.ReachingParts.{second_reached}
 

@@ -1,9 +1,8 @@
 -- Operators of two operands, fetches and stores, where a run reaches their operands.
-use Rattle.std.proofs.Common.{◌≡◌, ℕ, ◌+◌, ◌⊎◌, List, [], ◌∷◌, ◌++◌, length, reverse, Option, Some, None, Ok, Contains, inl, inr, refl, sym, ap, ap₂, ◌∙◌, subst, subst₂, ⊎_elim}
+use Rattle.std.proofs.Common.{◌≡◌, ℕ, ◌+◌, List, [], ◌∷◌, ◌++◌, length, reverse, Some, None, Ok, Contains, inl, inr, refl, sym, ap, ◌∙◌, subst, subst₂, ⊎_elim}
 use Rattle.std.proofs.lemmas.Option.{same_Some}
 use Rattle.lemmas.proofs.Contains.{contains_none, contains_head, contains_cases}
 use Rattle.tags.specs.declared.value.Value.{Value}
-use Rattle.tags.specs.declared.value.Origin.{Origin}
 use Rattle.operators.specs.Values.{Indexed, Place, Outside, index_in}
 use Rattle.semantics.specs.declared.graph.Source.{Source}
 use Rattle.semantics.specs.declared.graph.Kind.TheVariants as node
@@ -13,7 +12,7 @@ use Rattle.semantics.specs.Meaning as Meaning
 use Rattle.semantics.specs.Meaning.{Context, Memory, Says, Sends, Fires, fired, fetched, stored, origin_at}
 use Rattle.source.specs.declared.word.InfixSign.{InfixSign}
 use Rattle.source.specs.declared.word.InfixSign.TheVariants.{Direct, Greater, AtLeast}
-use Rattle.source.specs.Tree.{Name, Expr, Infix, Fetch, Store}
+use Rattle.source.specs.Tree.{Name, Expr}
 use Rattle.source.specs.Fits.{Fits}
 use Rattle.source.specs.Outside.{uses}
 use Rattle.source.specs.Rules.{values}
@@ -25,14 +24,14 @@ use Rattle.law_language.specs.MeansHolds.{resolved}
 use Rattle.law_language.proofs.MeansNamesAgree.{agrees_split}
 use Rattle.law_language.proofs.MeansLeaves.{append_nothing}
 use Rattle.law_language.proofs.MeansCells.{cell_named}
-use Rattle.law_ordered_runs.specs.InOrder.{Touch, reading, filling, touches}
+use Rattle.law_ordered_runs.specs.InOrder.{reading, filling, touches}
 use Rattle.law_ordered_runs.proofs.Extending.{Extended, on_then, read_gives, read_memory, filled_gives, filled_full, filled_other}
 use Rattle.law_ordered_runs.proofs.Lines.{line_happens}
-use Rattle.law_ordered_runs.proofs.Memory.{ReadsFull, Ready, Changed, fills, fills_both, reads_both, reads_more, ready_first, ready_then, changed_both, changed_same}
+use Rattle.law_ordered_runs.proofs.Memory.{ReadsFull, Changed, fills, fills_both, reads_both, reads_more, ready_first, ready_then, changed_both, changed_same}
 use Rattle.law_ordered_runs.proofs.Staying.{agrees_on, active_on}
 use Rattle.law_ordered_runs.proofs.Reaching.{Land, RunOf, flow, world_of, cells_of, HaveX, KnownX, ActiveX, ReadyX, Reaches, ExprReaches, Ending, first_in, rest_in}
 use Rattle.law_ordered_runs.proofs.Reaching.{ending, line_says}
-use Rattle.law_ordered_runs.proofs.ReachingParts.{both_reached, one_source}
+use Rattle.law_ordered_runs.proofs.ReachingParts.{both_reached}
 
 -- TWO OPERANDS, one after the other
 module _ (z : Land) (c : Context) where

@@ -1,9 +1,9 @@
 -- A loop, where a run has reached its first values: its iterations are reached, one after another.
-use Rattle.std.proofs.Common.{◌≡◌, ℕ, zero, suc, ◌+◌, ◌-◌, ◌<◌, ◌≤◌, ◌⊎◌, Bool, true, false, List, [], ◌∷◌, ◌++◌, length, map, Option, Some, None, Ok, Contains}
+use Rattle.std.proofs.Common.{◌≡◌, ℕ, zero, suc, ◌+◌, ◌-◌, ◌<◌, ◌≤◌, Bool, true, false, List, [], ◌∷◌, ◌++◌, length, map, Option, Some, Ok}
 use Rattle.std.proofs.Common.{inl, refl, sym, ap, ◌∙◌, subst, subst₂, arith, length-append, ltb-true, ltb-false, if◌then◌else◌}
 use Rattle.std.specs.Prelude.{slice_get, nat_lt}
 use Rattle.std.proofs.lemmas.List.{length-map}
-use Rattle.std.proofs.lemmas.Option.{slice_get_within, same_Some}
+use Rattle.std.proofs.lemmas.Option.{same_Some}
 use Rattle.tags.specs.declared.value.Value.{Value}
 use Rattle.operators.specs.Values.{truth}
 use Rattle.semantics.specs.declared.graph.Source.{Source}
@@ -15,13 +15,13 @@ use Rattle.semantics.specs.Meaning.{arms_round, arms_at, callee, callee_of, call
 use Rattle.law_confluence.specs.Equations.{IsDue}
 use Rattle.law_confluence.proofs.EquationsGraphForms.{HasForm}
 use Rattle.law_confluence.proofs.EquationsGraphFormed.{shaped}
-use Rattle.source.specs.Tree.{Name, NameAt, NumberAt, Expr, Exprs, One, More, Body, Loop, Turn, Before, After, Program, names_of}
+use Rattle.source.specs.Tree.{Name, NameAt, NumberAt, Exprs, One, More, Turn, Before, After, Program, names_of}
 use Rattle.source.specs.Fits.{FitsTurn, count}
 use Rattle.source.specs.Outside.{without, bare, list_uses, uses, body_uses, turn_uses, outside_turn}
 use Rattle.source.specs.Rules.{turn_values}
 use Rattle.source.specs.Evaluates as eval
 use Rattle.source.specs.Evaluates.{Env, Stores, entered, Evaluates, EvaluatesAll, Runs}
-use Rattle.source.specs.Lowered.{Made, MadeBlock, Lowered, Spot, Scope, made, node_of as line_node, source_in, scoped, turn_site, turn_scope, turn_block}
+use Rattle.source.specs.Lowered.{Made, MadeBlock, Lowered, Spot, Scope, made, source_in, scoped, turn_site, turn_scope, turn_block}
 use Rattle.source.specs.Lowered.{looped, loop_name, block_name, inputs_from, ports_from, port, spot_after, lower_list, lower_turn}
 use Rattle.source.proofs.Steps.{ok_as}
 use Rattle.source.proofs.CountedSources.{inputs_count}
@@ -39,16 +39,16 @@ use Rattle.law_language.proofs.MeansTurnNames.{BoundTo, known_values, entered_va
 use Rattle.law_language.proofs.MeansParts.{own_line, block_is}
 use Rattle.law_language.proofs.MeansLeaves.{append_nothing}
 use Rattle.law_language.proofs.MeansPlaced.{get_left}
-use Rattle.law_ordered_runs.specs.InOrder.{Touch, touches, list_touches, body_touches, turn_touches}
+use Rattle.law_ordered_runs.specs.InOrder.{Touch, list_touches, turn_touches}
 use Rattle.law_ordered_runs.proofs.Extending.{Extended, on_then, on_same, said_came, said_gives, said_memory}
 use Rattle.law_ordered_runs.proofs.Lines.{iteration_happens}
 use Rattle.law_ordered_runs.proofs.Memory.{Changed, FillsStored, list_fills, fills_none, ready_first, ready_then, changed_none, changed_same, changed_both}
-use Rattle.law_ordered_runs.proofs.Staying.{due_on, has_on, have_on, agrees_on, active_on, arms_on}
+use Rattle.law_ordered_runs.proofs.Staying.{due_on, has_on, have_on, agrees_on, arms_on}
 use Rattle.law_ordered_runs.proofs.UsesSent.{carried_came, flag_came}
 use Rattle.law_ordered_runs.proofs.Reaching.{Land, RunOf, flow, world_of, cells_of, HasX, HaveX, KnownX, ActiveX, ReadyX, OnX, Reaches, ExprReaches, ListReaches}
-use Rattle.law_ordered_runs.proofs.Reaching.{BodyReaches, there_already, first_in, rest_in}
+use Rattle.law_ordered_runs.proofs.Reaching.{there_already, first_in, rest_in}
 use Rattle.law_ordered_runs.proofs.ReachingParts.{second_reached}
-use Rattle.law_ordered_runs.proofs.ReachingCalls.{Quietly, says_quietly, quietly_then, Arrived, arrived_on, InputsIn, inputs_pass, ArrivedIn, operands_pass}
+use Rattle.law_ordered_runs.proofs.ReachingCalls.{Quietly, says_quietly, quietly_then, Arrived, inputs_pass, ArrivedIn, operands_pass}
 
 turn_uses_are : (turn : Turn) → (ys : List Name) × (turn_uses turn ≡ without (bare (names_of turn)) ys)
 turn_uses_are (Before xs q body) = (uses q ++ body_uses body, refl)

@@ -1,14 +1,13 @@
 -- A program that reads each cell behind the store that fills it: its meaning reaches what it computes.
-use Rattle.std.proofs.Common.{◌≡◌, ℕ, zero, suc, ◌+◌, ◌<◌, ◌≤◌, ◌⊎◌, inl, inr, ℤ, Bool, true, false, List, [], ◌∷◌, ◌++◌, length, map, Option, Some, None, Contains, ◌↔◌, refl}
-use Rattle.std.proofs.Common.{sym, ap, ◌∙◌, subst, arith, ⊎_elim, eq-eqb, if◌then◌else◌, flat_map}
-use Rattle.std.specs.Prelude.{⊤, slice_get}
+use Rattle.std.proofs.Common.{◌≡◌, ℕ, zero, suc, ◌+◌, ◌<◌, ◌⊎◌, inl, inr, ℤ, Bool, false, List, [], ◌∷◌, ◌++◌, length, map, Option, Some, None, Contains, ◌↔◌, refl}
+use Rattle.std.proofs.Common.{sym, ap, ◌∙◌, subst, arith, ⊎_elim, eq-eqb, if◌then◌else◌}
+use Rattle.std.specs.Prelude.{slice_get}
 use Rattle.std.proofs.lemmas.List.{length-map}
 use Rattle.std.proofs.lemmas.Option.{same_Some}
 use Rattle.tags.specs.declared.value.Value.{Value}
 use Rattle.tags.specs.declared.value.Value.TheVariants.{Int}
-use Rattle.tags.specs.declared.value.Origin.{Origin}
 use Rattle.semantics.specs.declared.graph.Source.{Source}
-use Rattle.semantics.specs.Graph.{Graph, Flow, Block, flow_of, node_count, place_of, block_names}
+use Rattle.semantics.specs.Graph.{Graph, Block, flow_of, node_count, place_of, block_names}
 use Rattle.semantics.specs.WellFormed.{WellFormed}
 use Rattle.semantics.specs.Meaning as Meaning
 use Rattle.semantics.specs.Meaning.{Main, AtNode, AtOut, Operand, tagged, Tagged, State, Effect, Activity, Outputs, Puts, taken, deed, done, Run, Reached, Stood, block_of, start}
@@ -17,40 +16,37 @@ use Rattle.semantics.specs.Faithful.{inputs_in}
 use Rattle.lemmas.proofs.Contains.{contains_none, contains_cases}
 use Rattle.lemmas.proofs.Permutations.{within_to}
 use Rattle.law_confluence.specs.Outcome.{AreInputsOf}
-use Rattle.law_confluence.proofs.ActivityKeys.{Unique}
 use Rattle.law_confluence.proofs.ActivityDiamond.{deed_of}
 use Rattle.law_confluence.proofs.OutcomeDeterminacy.{same_refl}
 use Rattle.law_confluence.proofs.Outcome.{each_place_once}
 use Rattle.law_confluence.proofs.HistoryRuns.{run_append, run_outputs}
 use Rattle.law_confluence.proofs.EquationsGraphFormed.{shaped}
 use Rattle.law_confluence.proofs.EquationsRunUses.{entering_within}
-use Rattle.source.specs.Tree.{Program, Function}
+use Rattle.source.specs.Tree.{Function}
 use Rattle.source.specs.Outside.{bare, body_uses}
 use Rattle.source.specs.Rules.{function_in, main_name, written_or_one}
 use Rattle.source.specs.Evaluates.{Stores, Runs, entered}
-use Rattle.source.specs.Lowered.{Lowered, function_scope, function_blocks, inputs_from, port, turn_site}
-use Rattle.source.specs.Theorem.{Computes}
+use Rattle.source.specs.Lowered.{Lowered, function_scope, inputs_from, port, turn_site}
 use Rattle.source.proofs.CountedSources.{inputs_count}
 use Rattle.source.proofs.Holding.{holds_whole}
 use Rattle.source.proofs.NamesUsed.{body_used}
 use Rattle.law_language.specs.MeansHolds.{resolved, block_in}
-use Rattle.law_language.specs.MeansTheorem.{FunctionsArePlaced, IsLoweredText, IsLoweredApart}
-use Rattle.law_language.proofs.MeansHaving.{have_source}
+use Rattle.law_language.specs.MeansTheorem.{FunctionsArePlaced, IsLoweredApart}
 use Rattle.law_language.proofs.MeansHolding.{resolved_all}
 use Rattle.law_language.proofs.MeansInputs.{root_taken}
-use Rattle.law_language.proofs.MeansMainActive.{IsGoodFunction, graph_is, each_function_good, function_named, main_spot, main_lowered, main_made}
+use Rattle.law_language.proofs.MeansMainActive.{graph_is, each_function_good, function_named, main_spot, main_lowered, main_made}
 use Rattle.law_language.proofs.MeansNamesAgree.{agrees_each, known_in}
 use Rattle.law_language.proofs.MeansOriginsTraced.{origins_are_traced}
 use Rattle.law_language.proofs.MeansPlaced.{places_from_origins}
 use Rattle.law_language.proofs.MeansTexts.{tokens_rise, spellings_differ}
-use Rattle.law_ordered_runs.specs.InOrder.{Touch, Reads, Fills, ReadsBehindStores, body_touches, ProgramsReach}
-use Rattle.law_ordered_runs.proofs.Extending.{Going, On, Extended, on_same, on_then}
+use Rattle.law_ordered_runs.specs.InOrder.{Touch, Reads, Fills, body_touches, ProgramsReach}
+use Rattle.law_ordered_runs.proofs.Extending.{Extended, on_same, on_then}
 use Rattle.law_ordered_runs.proofs.Lines.{output_happens}
 use Rattle.law_ordered_runs.proofs.Memory.{ReadsFull, Ready, Changed, apart_from, fills_none, ready_then, changed_none, changed_same}
 use Rattle.law_ordered_runs.proofs.Staying.{have_on}
 use Rattle.law_ordered_runs.proofs.UsesSent.{result_came}
-use Rattle.law_ordered_runs.proofs.Reaching.{Land, RunOf, flow, world_of, cells_of, HasX, HaveX, ActiveX, OnX, Reaches}
-use Rattle.law_ordered_runs.proofs.ReachingCalls.{Arrived, inputs_pass, all_arrived}
+use Rattle.law_ordered_runs.proofs.Reaching.{Land, RunOf, flow, world_of, cells_of, HasX, HaveX, ActiveX, OnX}
+use Rattle.law_ordered_runs.proofs.ReachingCalls.{inputs_pass, all_arrived}
 use Rattle.law_ordered_runs.proofs.ReachingAll.{body}
 
 -- READS BEHIND STORES, part by part

@@ -1,5 +1,5 @@
 -- Numbers, names, operators, lists and bodies, where a run reaches their parts.
-use Rattle.std.proofs.Common.{◌≡◌, ℕ, ◌+◌, ◌⊎◌, Bool, false, List, [], ◌∷◌, ◌++◌, length, Some, refl, sym, ap, ap₂, ◌∙◌, subst, ⊎_elim}
+use Rattle.std.proofs.Common.{◌≡◌, ℕ, ◌⊎◌, false, List, [], ◌∷◌, ◌++◌, length, refl, sym, ◌∙◌, subst, ⊎_elim}
 use Rattle.std.proofs.lemmas.Option.{same_Some}
 use Rattle.tags.specs.declared.value.Value.{Value}
 use Rattle.tags.specs.declared.value.Value.TheVariants.{Int}
@@ -8,27 +8,24 @@ use Rattle.operators.specs.declared.Unary.TheVariants.{Neg, Not}
 use Rattle.operators.specs.Values.{apply1, on_int}
 use Rattle.semantics.specs.declared.graph.Source.{Source}
 use Rattle.semantics.specs.declared.graph.Kind.TheVariants as node
-use Rattle.semantics.specs.Meaning.{Context, Says, Sends, fired, origin_at}
-use Rattle.source.specs.declared.word.InfixSign.{InfixSign}
-use Rattle.source.specs.declared.word.InfixSign.TheVariants.{Direct, Greater, AtLeast}
+use Rattle.semantics.specs.Meaning.{Context}
 use Rattle.source.specs.Tree.{Name, Target, Expr, Exprs, Body, Number, Named, Bracket, Prefix, Infix, Fetch, Store, Call, If, Loop}
 use Rattle.source.specs.Fits.{Fits, IsLeast}
 use Rattle.source.specs.Outside.{without, bound_by, uses, list_uses, body_uses}
-use Rattle.source.specs.Evaluates.{Env, Stores, let_in, operated, Evaluates, EvaluatesAll, Runs, number, named, bracket, prefix, infix_, one, more, lets, does}
+use Rattle.source.specs.Evaluates.{Env, Stores, let_in, Evaluates, EvaluatesAll, Runs, number, named, bracket, prefix, one, more, lets, does}
 use Rattle.source.specs.Evaluates.{gives, chain, signed}
-use Rattle.source.specs.Lowered.{Lowered, Site, Spot, Scope, source_in, made, only, joined, followed, ended, operator_of, operands, prefixed, let_scoped, lower}
-use Rattle.source.specs.Lowered.{lower_list, lower_body, spot_after, ports_from}
-use Rattle.source.proofs.Kept.{in_prefix, in_infix, in_more, in_let, in_do}
+use Rattle.source.specs.Lowered.{Lowered, Site, Spot, Scope, source_in, made, only, joined, followed, ended, prefixed, let_scoped, lower}
+use Rattle.source.specs.Lowered.{lower_list, lower_body, spot_after}
+use Rattle.source.proofs.Kept.{in_prefix, in_more, in_let, in_do}
 use Rattle.source.proofs.Counting.{list_count}
-use Rattle.law_language.specs.MeansHolds.{resolved}
 use Rattle.law_language.proofs.MeansHaving.{have_both}
 use Rattle.law_language.proofs.MeansNamesAgree.{agrees_split, agrees_let}
 use Rattle.law_language.proofs.MeansLeaves.{append_nothing}
 use Rattle.law_ordered_runs.specs.InOrder.{touches, list_touches, body_touches}
 use Rattle.law_ordered_runs.proofs.Extending.{on_then}
-use Rattle.law_ordered_runs.proofs.Memory.{fills, list_fills, body_fills, ready_first, ready_then, changed_both}
+use Rattle.law_ordered_runs.proofs.Memory.{fills, list_fills, ready_first, ready_then, changed_both}
 use Rattle.law_ordered_runs.proofs.Staying.{have_on, agrees_on, active_on}
-use Rattle.law_ordered_runs.proofs.Reaching.{Land, RunOf, flow, world_of, cells_of, HaveX, KnownX, ActiveX, ReadyX, OnX, Reaches, ExprReaches, ListReaches}
+use Rattle.law_ordered_runs.proofs.Reaching.{Land, RunOf, flow, world_of, cells_of, HaveX, ActiveX, Reaches, ExprReaches, ListReaches}
 use Rattle.law_ordered_runs.proofs.Reaching.{BodyReaches, there_already, first_in, rest_in, ending, line_says}
 
 -- ONE PART AFTER ANOTHER, with the values of both, or of the second

@@ -1,16 +1,16 @@
 -- One iteration of a loop, where a run reaches its test and its body.
-use Rattle.std.proofs.Common.{◌≡◌, ℕ, ◌+◌, ◌<◌, Bool, true, false, List, [], ◌∷◌, ◌++◌, length, map, Option, Some, Ok, refl, sym, ap, ◌∙◌, subst, arith}
+use Rattle.std.proofs.Common.{◌≡◌, ℕ, ◌<◌, true, false, List, [], ◌∷◌, ◌++◌, length, map, Ok, refl, sym, ap, ◌∙◌, subst, arith}
 use Rattle.std.proofs.lemmas.List.{length-map}
 use Rattle.tags.specs.declared.value.Value.{Value}
 use Rattle.operators.specs.Values.{truth}
 use Rattle.semantics.specs.declared.graph.Source.{Source}
 use Rattle.semantics.specs.Meaning.{Context}
-use Rattle.source.specs.Tree.{Name, NameAt, Expr, Body, Turn, Before, After, names_of}
+use Rattle.source.specs.Tree.{Name, NameAt, Expr, Body, Before, After}
 use Rattle.source.specs.Outside.{without, bare, outside_body, uses, body_uses}
 use Rattle.source.specs.Rules.{body_values}
 use Rattle.source.specs.Evaluates.{Env, Stores, entered, Evaluates, Runs}
 use Rattle.source.specs.Lowered.{Lowered, Site, Spot, Scope, spot_after, next_spot, first_of, joined, scoped, source_in, or_predicate, entered_names, arm_site}
-use Rattle.source.specs.Lowered.{arm_scope, turn_site, chosen, lower, lower_body, lower_turn}
+use Rattle.source.specs.Lowered.{arm_scope, turn_site, chosen, lower, lower_body}
 use Rattle.source.proofs.CountedSources.{inputs_count}
 use Rattle.source.proofs.Kept.{in_before, in_after}
 use Rattle.source.proofs.Counting.{body_count}
@@ -19,13 +19,13 @@ use Rattle.law_language.proofs.MeansNamesAgree.{agrees_entered}
 use Rattle.law_language.proofs.MeansParts.{block_is}
 use Rattle.law_language.proofs.MeansLeaves.{append_nothing}
 use Rattle.law_language.proofs.MeansTurnNames.{agrees_named, without_split}
-use Rattle.law_ordered_runs.specs.InOrder.{Touch, touches, body_touches}
+use Rattle.law_ordered_runs.specs.InOrder.{touches, body_touches}
 use Rattle.law_ordered_runs.proofs.Extending.{on_then}
 use Rattle.law_ordered_runs.proofs.Memory.{fills, body_fills, ready_first, ready_then, changed_both}
 use Rattle.law_ordered_runs.proofs.Staying.{has_on, have_on, agrees_on, active_on}
-use Rattle.law_ordered_runs.proofs.Reaching.{Land, RunOf, flow, world_of, cells_of, HasX, HaveX, KnownX, ActiveX, ReadyX, OnX, Reaches, ExprReaches, BodyReaches}
+use Rattle.law_ordered_runs.proofs.Reaching.{Land, RunOf, flow, world_of, cells_of, HasX, HaveX, KnownX, ActiveX, OnX, Reaches, ExprReaches, BodyReaches}
 use Rattle.law_ordered_runs.proofs.Reaching.{first_in, rest_in}
-use Rattle.law_ordered_runs.proofs.ReachingParts.{both_reached, second_reached, OneSource, one_source}
+use Rattle.law_ordered_runs.proofs.ReachingParts.{both_reached, one_source}
 use Rattle.law_ordered_runs.proofs.ReachingArms.{an_arm, arm_reached, enters_reached, after, steers, opens, left_stands, right_stands, left_reached, right_reached}
 use Rattle.law_ordered_runs.proofs.ReachingArms.{ready_after}
 use Rattle.law_ordered_runs.proofs.ReachingLoops.{IterationReaches}

@@ -1,5 +1,5 @@
 -- WHAT STAYS as a run goes on: what is due, which arms are taken, values, names, and what is active.
-use Rattle.std.proofs.Common.{◌≡◌, ℕ, ℤ, Bool, List, [], ◌∷◌}
+use Rattle.std.proofs.Common.{ℕ, ℤ, Bool, List, [], ◌∷◌}
 use Rattle.tags.specs.declared.value.Value.{Value}
 use Rattle.tags.specs.declared.value.Origin.{Origin}
 use Rattle.semantics.specs.declared.graph.Source.{Source}

@@ -1,12 +1,12 @@
 -- WHERE THE TOKENS OF A VALUE ARE: at each operand and each result that its port is used for.
-use Rattle.std.proofs.Common.{◌≡◌, ℕ, zero, suc, ◌+◌, ◌-◌, ◌≤◌, ◌&&◌, ℤ, Bool, true, false, List, [], ◌∷◌, Option, Some, None, map, flat_map, ◌==◌, if◌then◌else◌}
-use Rattle.std.proofs.Common.{inl, inr, refl, sym, ap, ap₂, ◌∙◌, subst, arith, eq-eqb}
+use Rattle.std.proofs.Common.{◌≡◌, ℕ, zero, suc, ◌+◌, ◌-◌, ◌≤◌, ◌&&◌, ℤ, Bool, true, false, List, [], ◌∷◌, Option, Some, map, flat_map, ◌==◌, if◌then◌else◌}
+use Rattle.std.proofs.Common.{inl, refl, sym, ap₂, subst, arith, eq-eqb}
 use Rattle.std.specs.Prelude.{slice_get}
 use Rattle.tags.specs.declared.value.Value.{Value}
 use Rattle.semantics.specs.declared.graph.Source.{Source}
 use Rattle.semantics.specs.Graph.{Graph, Node, Block, Flow, flow_of, node_at}
 use Rattle.semantics.specs.WellFormed.{WellFormed}
-use Rattle.semantics.specs.Meaning.{Context, Main, Called, Turned, Statement, AtNode, AtOut, AtTurn, Operand, Flag, Carried, Tagged, tagged, Activity, Sends, Stood, start}
+use Rattle.semantics.specs.Meaning.{Context, Main, Called, Turned, AtNode, AtOut, AtTurn, Operand, Flag, Carried, Tagged, tagged, Sends}
 use Rattle.semantics.specs.Meaning.{tokens_of, positions, uses_at, uses_in, result_uses, sent_in, block_of}
 use Rattle.lemmas.proofs.Permutations.{Within, put_first, put_later, within_map, within_flat_map, within_left, within_right}
 use Rattle.law_confluence.specs.Outcome.{AreInputsOf}

@@ -1,5 +1,5 @@
 -- HOW A RUN OF THE MEANING IS MADE, activity by activity, and when it is over.
-use Rattle.std.specs.Prelude.{◌≡◌, ℕ, ◌⊎◌, ⊤, ℤ, List, None, Some, Contains}
+use Rattle.std.specs.Prelude.{◌≡◌, ◌⊎◌, ⊤, ℤ, List, None, Some, Contains}
 use Rattle.tags.specs.declared.value.Value.{Value}
 use Rattle.semantics.specs.Graph.{Graph, flow_of}
 use Rattle.semantics.specs.WellFormed.{WellFormed}
