@@ -168,10 +168,10 @@ fn line_of<A: Allocator + Clone>(alloc: A, found: &Found<'_>) -> Result<Line<A>,
 /// The hint that a person gets after a command. `words` are the words of the command line, the program's name first. `input` is
 /// what the command read, if that was kept. `outcome` is the outcome of the words; `None` where a write failed. There is a hint
 /// exactly where one is wanted.
-pub fn explain<S: AsStr, A: Allocator + Clone>(
+pub fn explain<'a, S: AsStr, A: Allocator + Clone>(
     alloc: A,
-    words: &[S],
-    input: Option<&[u8]>,
+    words: &'a [S],
+    input: Option<&'a [u8]>,
     outcome: Option<Outcome>,
 ) -> Result<Option<Hint<A>>, AllocError>
     ensures { IfOk result (λ hint. is_some hint ≡ wants_hint outcome) }

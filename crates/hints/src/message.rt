@@ -80,11 +80,10 @@ fn show_cells<W: fmt::Write>(
     text: &[u8],
     f: &mut fmt::Formatter<W>,
 ) -> fmt::Result {
-    let mut before = "";
-    for (array, index) in cells.first.iter().take(cells.count) {
+    for (at, (array, index)) in cells.first.iter().take(cells.count).enumerate() {
         let name = text_of(word_at(line_at(text, (*array as u64).saturating_add(2)), 1));
-        write!(f, "{before}{name}[{index}]")?;
-        before = ", ";
+        f.write_str(if at == 0 { "" } else { ", " })?;
+        write!(f, "{name}[{index}]")?;
     }
     match cells.count.saturating_sub(cells.first.len()) {
         0 => Ok(()),

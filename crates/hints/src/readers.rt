@@ -57,21 +57,19 @@ fn waiting_cells<A: Allocator + Clone>(
 
 /// The first of these cells, which are in order, and how many there are.
 fn first_of(cells: &[Place]) -> ReaderCells {
-    let mut found = ReaderCells {
-        first: [(0, 0); NAMED],
-        count: 0,
-    };
+    let mut first = [(0, 0); NAMED];
+    let mut count = 0usize;
     let mut last = None;
     for cell in cells {
         if last != Some(*cell) {
-            if let Some(place) = found.first.get_mut(found.count) {
-                *place = *cell;
+            if count < NAMED {
+                first[count] = *cell;
             }
-            found.count = found.count.saturating_add(1);
+            count = count.saturating_add(1);
             last = Some(*cell);
         }
     }
-    found
+    ReaderCells { first, count }
 }
 
 /// The cells for which readers wait where the run of this graph on its inputs is at rest. There are none where the meaning of the
