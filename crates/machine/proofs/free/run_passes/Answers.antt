@@ -5,7 +5,7 @@ use Rattle.machine.proofs.Passes.{all_twice, all_ready}
 use Rattle.machine.proofs.free.run_passes.Goals as goal
 
 pub run_each-requires-in-passes-clause-ready : goal.run_each-requires-in-passes-clause-ready
-run_each-requires-in-passes-clause-ready g c =
+run_each-requires-in-passes-clause-ready g c κs within =
     let s : Setting = setting_in g.C.Instructions.program g.C.Instructions.width c.args.shape.now in
     let i = c.passes.invariant in
     all_ready {C = g.row.C.Denot} {A = g.row.A.Denot} {L = g.row.L.Denot} g.L.Log.KEEPS_EVENTS s c.args.mesh.now g.G.Gate.may_stop c.args.runners.now
