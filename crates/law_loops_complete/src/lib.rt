@@ -2,7 +2,7 @@
 //!
 //! **The statement.** A loop with bound `k` outgrows it where some run of the meaning calls for iteration `k`, numbered from 0, in one invocation
 //! (`Outgrows`, in `specs/Loops`). Let faithful code wait for a credit only where some loop has outgrown its bound (`WaitsForMore`; that the
-//! compiler's code does is not proved here). Where the meaning of a well-formed graph rests well, and no loop outgrows its bound, each run of that code that was not
+//! compiler's code does is the law of `law_loop_credits`). Where the meaning of a well-formed graph rests well, and no loop outgrows its bound, each run of that code that was not
 //! cut off completes, in every order, on each machine with frames and steps enough (`LoopsComplete`, in `specs/LoopsComplete`). So a bound of at least
 //! the loop's own iterations, in one invocation, suffices. One run of the meaning to its end tells (`OneRunBounds`).
 //!

@@ -1,0 +1,9 @@
+-- Waits
+pub mod WaitsNet
+pub mod WaitsSimulated
+pub mod WaitsRenumbered
+pub mod WaitsShared
+pub mod Waits
+-- Within
+pub mod WithinPlaces
+pub mod WithinParts
