@@ -3,7 +3,7 @@ use Rattle.std.proofs.Common.{sym, subst, ℕ, Bool, false, true≢false, ℤ, L
 use Rattle.std.specs.Prelude.{◌≢◌}
 use Rattle.semantics.specs.declared.report.End.{End}
 use Rattle.semantics.specs.declared.report.End.TheVariants.{Stop}
-use Rattle.semantics.specs.Graph.{Graph}
+use Rattle.semantics.specs.Graph.{Graph, flow_of}
 use Rattle.semantics.specs.Machine.{Size}
 use Rattle.semantics.specs.Program.{Program}
 use Rattle.semantics.specs.Report.{Report, HasEnd, Shows}
@@ -14,6 +14,8 @@ use Rattle.law_compiler.specs.Objects.{plan_of}
 use Rattle.law_completion.specs.Total.{IsNotCut, Completes}
 use Rattle.law_completion.specs.TotalGraph.{NeedsAtMost, IsLargeEnough}
 use Rattle.law_compiled_code_completes.proofs.Compiled.{compiled_code_completes}
+use Rattle.law_loops_complete.specs.LoopsComplete.{NoneOutgrows, HasSpace}
+use Rattle.law_loop_credits.proofs.Waits.{compiled_loops_complete}
 use Rattle.driver.specs.Orders.{size_of}
 use Rattle.driver.specs.Headline.{ReportsOf, ReportsTruthIn, ReportsQuietly}
 
@@ -37,6 +39,29 @@ pub quiet_completes : (mode : Mode) (text : List ℕ) (g : Graph) (inputs : List
     → IsLargeEnough g (plan_of g).program (size_of c) c.steps d t → IsNotCut false r → Completes r
 quiet_completes mode text g inputs c may_stop r h d t needs large uncut =
     let v = mode_completes mode text g inputs c may_stop (with_events r h.2.1) h.2.2 d t needs large
+    record { memory = uncut.memory; gate = uncut.gate; list = uncut.list } in
+    record { rest = v.rest; none_waits = v.none_waits }
+
+-- where no loop outgrows its bound
+pub own_bounds_suffice : (text : List ℕ) (g : Graph) (inputs : List ℤ) (z : Size) (steps : ℕ) (by_list may_stop : Bool) (r : Report)
+    → ReportsOf text g inputs z steps by_list may_stop r → (d t : ℕ) → NeedsAtMost g inputs d t → NoneOutgrows (flow_of g) inputs
+    → HasSpace (plan_of g).program z steps d → IsNotCut by_list r → Completes r
+own_bounds_suffice text g inputs z steps by_list may_stop r h d t needs none space uncut =
+    compiled_loops_complete g h.made.slots h.made.version h.is_text.1 h.well_formed h.made.assigned.good h.made.version_is inputs h.inputs_fit d t needs none z
+    steps space by_list may_stop r (subst (λ (p : Program). Shows p z inputs steps by_list may_stop r) h.made.program h.shows) uncut
+
+pub own_bounds_suffice_in : (mode : Mode) (text : List ℕ) (g : Graph) (inputs : List ℤ) (c : Config) (may_stop : Bool) (r : Report)
+    → ReportsTruthIn mode text g inputs c may_stop r → (d t : ℕ) → NeedsAtMost g inputs d t → NoneOutgrows (flow_of g) inputs
+    → HasSpace (plan_of g).program (size_of c) c.steps d → IsNotCut false r → Completes r
+own_bounds_suffice_in Mode.One text g inputs c may_stop r h = own_bounds_suffice text g inputs (size_of c) c.steps false false r h.0
+own_bounds_suffice_in Mode.Rounds text g inputs c may_stop r h = own_bounds_suffice text g inputs (size_of c) c.steps false may_stop r h
+own_bounds_suffice_in Mode.Free text g inputs c may_stop r h = own_bounds_suffice text g inputs (size_of c) c.steps false may_stop r h
+
+pub own_bounds_suffice_quietly : (mode : Mode) (text : List ℕ) (g : Graph) (inputs : List ℤ) (c : Config) (may_stop : Bool) (r : Report)
+    → ReportsQuietly mode text g inputs c may_stop r → (d t : ℕ) → NeedsAtMost g inputs d t → NoneOutgrows (flow_of g) inputs
+    → HasSpace (plan_of g).program (size_of c) c.steps d → IsNotCut false r → Completes r
+own_bounds_suffice_quietly mode text g inputs c may_stop r h d t needs none space uncut =
+    let v = own_bounds_suffice_in mode text g inputs c may_stop (with_events r h.2.1) h.2.2 d t needs none space
     record { memory = uncut.memory; gate = uncut.gate; list = uncut.list } in
     record { rest = v.rest; none_waits = v.none_waits }
 

@@ -1,6 +1,7 @@
 //! Which runs complete.
 
 ghost use Rattle.driver.specs.Completes.{ReportsComplete, ModesComplete, QuietReportsComplete};
+ghost use Rattle.driver.specs.Completes.{OwnBoundsSuffice, OwnBoundsSufficeIn, OwnBoundsSufficeQuietly};
 
 /// A report of a run over a machine that is large enough for what the graph's meaning calls for ends at rest with no deferred reader, in any order of
 /// the events, in each mode, and where the report lists no events: so it has the only outcome of the meaning.
@@ -12,4 +13,14 @@ pub fn reports_complete()
     ensures reports { ReportsComplete }
     ensures modes { ModesComplete }
     ensures quiet { QuietReportsComplete }
+{}
+
+/// The same loop by loop: each loop's bound needs only be at least the number of the loop's own iterations, in one invocation of it.
+///
+/// So it is where no run of the meaning calls for iteration `k`, numbered from 0, of a loop with bound `k`. One run of the meaning to its end tells:
+/// `law_loops_complete::own_bounds_suffice`. The frames, the steps, and what cuts a run off are as for [`reports_complete`].
+pub fn own_bounds_suffice()
+    ensures reports { OwnBoundsSuffice }
+    ensures modes { OwnBoundsSufficeIn }
+    ensures quiet { OwnBoundsSufficeQuietly }
 {}

@@ -1,6 +1,7 @@
 //! What reports say of programs, by whatever means the report was made.
 
 ghost use Rattle.programs.specs.Laws.{ReportsShowPrograms, ModesShowPrograms, QuietReportsShowPrograms, RefusalsAreTheTexts, ProgramsComplete, CountedProgramsComplete};
+ghost use Rattle.programs.specs.Laws.{OwnBoundsSufficeProgram};
 
 /// A report of the text of a lowered program's graph is true of the program.
 ///
@@ -27,6 +28,16 @@ pub fn programs_complete()
 /// Each loop's bound has to be at least the iterations of all loops. Then a report that was not cut off shows the program, in every mode.
 pub fn programs_complete_counted()
     ensures { CountedProgramsComplete }
+{
+    law_program_counts::programs_complete_counted();
+}
+
+/// The same loop by loop: each loop's bound needs only be at least the number of the loop's own iterations, in one invocation of it.
+///
+/// So it is where no run of the meaning of the program's graph calls for iteration `k`, numbered from 0, of a loop with bound `k`. The frames and the
+/// steps are counted in the program's own evaluation.
+pub fn own_bounds_suffice()
+    ensures { OwnBoundsSufficeProgram }
 {
     law_program_counts::programs_complete_counted();
 }
