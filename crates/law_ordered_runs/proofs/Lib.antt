@@ -1,7 +1,12 @@
 pub mod GoingOn
 pub mod Ordered
+pub mod Order
 pub mod Extending
 pub mod UsesSent
+pub mod Origins
+pub mod Closing
+pub mod EntersPast
+pub mod Silent
 pub mod Lines
 pub mod Staying
 pub mod Memory

@@ -25,7 +25,7 @@ use Rattle.law_ordered_runs.proofs.UsesSent.{operand_came}
 -- DEEDS
 module _ (fl : Flow) (c : Context) (b : Block ℕ) (eb : block_of fl c ≡ Some b) where
   -- an input passes its value on
-  deed_input : (i : ℕ) (v : Value) → i < b.inputs → deed fl (Fires c i (v ∷ [])) ≡ Some (Says (Sends c i 0 v))
+  pub deed_input : (i : ℕ) (v : Value) → i < b.inputs → deed fl (Fires c i (v ∷ [])) ≡ Some (Says (Sends c i 0 v))
   deed_input i v low =
       ap (λ o. on_block o (fired_in fl c i (v ∷ []))) eb
       ∙ ap (λ (t : Bool). if t then input_passed c i (v ∷ []) else on_node (node_at b i)
@@ -33,7 +33,7 @@ module _ (fl : Flow) (c : Context) (b : Block ℕ) (eb : block_of fl c ≡ Some 
 
   module _ (n : ℕ) (line : Node ℕ) (el : node_at b n ≡ Some line) where
     -- a node does what its kind says
-    deed_fires : (vs : List Value) → length vs ≡ length line.sources → deed fl (Fires c n vs) ≡ fired fl c n line.kind vs
+    pub deed_fires : (vs : List Value) → length vs ≡ length line.sources → deed fl (Fires c n vs) ≡ fired fl c n line.kind vs
     deed_fires vs long =
         ap (λ o. on_block o (fired_in fl c n vs)) eb
         ∙ ap (λ (t : Bool). if t then input_passed c n vs else on_node (node_at b n)
@@ -41,12 +41,12 @@ module _ (fl : Flow) (c : Context) (b : Block ℕ) (eb : block_of fl c ≡ Some 
         ∙ ap (λ o. on_node o (λ (node : Node ℕ). if length vs == length node.sources then fired fl c n node.kind vs else None)) el
         ∙ ap (λ (t : Bool). if t then fired fl c n line.kind vs else None) (eq-eqb (length vs) (length line.sources) long)
 
-    deed_passes : (i : ℕ) (v : Value) → deed fl (Passes c n i v) ≡ passed c n i v line.kind
+    pub deed_passes : (i : ℕ) (v : Value) → deed fl (Passes c n i v) ≡ passed c n i v line.kind
     deed_passes i v =
         ap (λ o. on_block o (λ (k : Block ℕ). on_node (node_at k n) (λ (node : Node ℕ). passed c n i v node.kind))) eb
         ∙ ap (λ o. on_node o (λ (node : Node ℕ). passed c n i v node.kind)) el
 
-    deed_gates : (v w : Value) → deed fl (Gates c n v w) ≡ gated c n v w line.region line.kind
+    pub deed_gates : (v w : Value) → deed fl (Gates c n v w) ≡ gated c n v w line.region line.kind
     deed_gates v w =
         ap (λ o. on_block o (λ (k : Block ℕ). on_node (node_at k n) (λ (node : Node ℕ). gated c n v w node.region node.kind))) eb
         ∙ ap (λ o. on_node o (λ (node : Node ℕ). gated c n v w node.region node.kind)) el
