@@ -95,6 +95,7 @@ module _ (g : Graph) (inputs : List ℤ) (well : WellFormed g) (count : AreInput
   pub record Extended (x : Going g inputs) (a : Activity) (d : Deed) : Type 0 where
     pub to : Going g inputs
     pub on : On x to
+    pub grows : (to.run ≡ x.run) ⊎ (to.run ≡ x.run ++ a ∷ [])
     pub happened : Contains to.run a
     pub is_deed : deed fl a ≡ Some d
     pub memory : (to.state.memory ≡ x.state.memory) ⊎ ((E : Effect) × (done fl x.state.memory d ≡ Some E) × (to.state.memory ≡ E.memory))
@@ -104,7 +105,7 @@ module _ (g : Graph) (inputs : List ℤ) (well : WellFormed g) (count : AreInput
   extend x a d e h ok = go (goes_on g inputs well count x.run x.state x.is_run a d e h ok)
     where
       go : Within a x.run ⊎ ((t : State) × Step fl a x.state t) → Extended x a d
-      go (inl k) = record { to = x; on = on_same x; happened = within_to a x.run k; is_deed = e; memory = inl refl }
+      go (inl k) = record { to = x; on = on_same x; grows = inl refl; happened = within_to a x.run k; is_deed = e; memory = inl refl }
       go (inr p) = record {
         to = after x a p.0 p.1;
         on = record {
@@ -112,6 +113,7 @@ module _ (g : Graph) (inputs : List ℤ) (well : WellFormed g) (count : AreInput
           came = λ u k. came_after x a p.0 p.1 u k;
           cells = step_cells fl x.state p.0 a p.1;
         };
+        grows = inr refl;
         happened = Contains-append_right x.run (a ∷ []) a (contains_head a []);
         is_deed = e;
         memory = inr (p.1.does, ap (λ o. done_if fl x.state.memory o) (sym e) ∙ p.1.allowed, p.1.memory);

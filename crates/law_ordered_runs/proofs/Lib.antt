@@ -7,6 +7,7 @@ pub mod Origins
 pub mod Closing
 pub mod EntersPast
 pub mod Silent
+pub mod Doing
 pub mod Lines
 pub mod Staying
 pub mod Memory

@@ -177,14 +177,6 @@ turned_place c n t (Returns d m j v) h = h
 turned_place c n t (Turns d m i j b v) h = h
 turned_place c n t (Outputs j v) h = h
 
-pub turned_seat : (c : Context) (n t : ℕ) (a : Activity) → IsIn (Turned c n t) (place_of a) → IsIn (Turned c n t) (seat a)
-turned_seat c n t (Fires d m vs) h = inr h
-turned_seat c n t (Gates d m v b) h = inr h
-turned_seat c n t (Passes d m i v) h = inr h
-turned_seat c n t (Returns d m j v) h = h
-turned_seat c n t (Turns d m i j b v) h = h
-turned_seat c n t (Outputs j v) h = h
-
 -- where one takes place round the other
 pub precedes_round : (a b : Activity) → IsIn (place_of a) (seat b) → Precedes a b
 precedes_round a b h c n t u low i j =
@@ -232,6 +224,15 @@ precedes_turns a b c n t u h k low d m v w less i j = ⊎_elim (λ x. outer x) (
         let one = one_turn c n t u (seat b) (in_trans (Turned c n t) d (seat b) x (in_trans d (Turned d m v) (seat b) (inr (in_self d)) j)) k in
         omega (arith, one, low)
 
+-- what takes place in an invocation belongs to it
+pub place_in_seat : (c : Context) (a : Activity) → IsIn c (place_of a) → IsIn c (seat a)
+place_in_seat c (Fires d m vs) h = inr h
+place_in_seat c (Gates d m v b) h = inr h
+place_in_seat c (Passes d m i v) h = inr h
+place_in_seat c (Returns d m j v) h = h
+place_in_seat c (Turns d m i j b v) h = h
+place_in_seat c (Outputs j v) h = h
+
 -- IN ORDER
 abbrev pub InOrder : List Activity → Type 0
 InOrder run = Spread Precedes run
@@ -251,4 +252,4 @@ order_at (x ∷ run) h (suc i) (suc j) a b low e f = order_at run h.1 i j a b (o
 
 pub one_after_another : (run : List Activity) → InOrder run → OneAfterAnother run
 one_after_another run h c n t u i j a b low e x f y =
-    ⊎_elim (λ late. absurd (order_at run h j i b a late f e c n t u low (turned_seat c n u b y) (turned_seat c n t a x))) (λ k. k) (half j i)
+    ⊎_elim (λ late. absurd (order_at run h j i b a late f e c n t u low (place_in_seat (Turned c n u) b y) (place_in_seat (Turned c n t) a x))) (λ k. k) (half j i)

@@ -1,7 +1,8 @@
 -- A conditional, where a run has reached its predicate: the arm that is chosen is reached, and its values are merged.
-use Rattle.std.proofs.Common.{◌≡◌, ℕ, ◌+◌, Bool, true, false, List, [], ◌∷◌, ◌++◌, length, map, Some, Ok, Contains, if◌then◌else◌, refl, sym, ap, ◌∙◌, subst}
+use Rattle.std.proofs.Common.{◌≡◌, ℕ, suc, ◌+◌, ◌≤◌, Bool, true, false, List, [], ◌∷◌, ◌++◌, length, map, Some, Ok, Contains, if◌then◌else◌, refl, sym, ap, ◌∙◌, subst}
 use Rattle.std.proofs.Common.{arith, length-append}
 use Rattle.std.specs.Prelude.{slice_get}
+use Rattle.std.proofs.lemmas.List.{length-map}
 use Rattle.std.proofs.lemmas.Option.{same_Some}
 use Rattle.tags.specs.declared.value.Value.{Value}
 use Rattle.operators.specs.Values.{truth}
@@ -28,24 +29,30 @@ use Rattle.law_language.specs.MeansHolds.{resolved, AreTraced}
 use Rattle.law_language.proofs.MeansNamesAgree.{Entered, agrees_split, agrees_once, agrees_arm}
 use Rattle.law_language.proofs.MeansParts.{own_line, block_is}
 use Rattle.law_language.proofs.MeansLeaves.{append_nothing}
-use Rattle.law_language.proofs.MeansLies.{HoldsMade, made_split}
+use Rattle.law_language.proofs.MeansLies.{HoldsMade, made_split, body_lies}
 use Rattle.law_language.proofs.MeansTurnNames.{known_values, entered_values}
 use Rattle.law_ordered_runs.specs.InOrder.{Touch, touches, body_touches}
-use Rattle.law_ordered_runs.proofs.Extending.{Extended, said_gives, said_memory}
+use Rattle.law_ordered_runs.proofs.Order.{seat, Under}
+use Rattle.law_ordered_runs.proofs.Closing.{closes_quiet, line_gated}
+use Rattle.law_ordered_runs.proofs.EntersPast.{body_past}
+use Rattle.law_ordered_runs.proofs.Silent.{merge_closed, silent_lines}
+use Rattle.law_ordered_runs.proofs.Doing.{own_called, adds_none, adds_one, does_none, does_then, does_before, does_to, fires_does}
+use Rattle.law_ordered_runs.proofs.Extending.{Extended, on_same, on_then, said_gives, said_memory}
 use Rattle.law_ordered_runs.proofs.Lines.{line_happens, operand_happens, enter_happens}
 use Rattle.law_ordered_runs.proofs.Memory.{fills, fills_none, ready_first, ready_then, changed_none, changed_same}
 use Rattle.law_ordered_runs.proofs.Staying.{due_on, has_on, have_on, agrees_on, active_on, arms_on}
 use Rattle.law_ordered_runs.proofs.UsesSent.{operand_came}
 use Rattle.law_ordered_runs.proofs.Reaching.{Land, RunOf, flow, world_of, cells_of, HasX, HaveX, KnownX, ActiveX, ReadyX, Reaches, ExprReaches, BodyReaches}
-use Rattle.law_ordered_runs.proofs.Reaching.{there_already, first_in, rest_in}
-use Rattle.law_ordered_runs.proofs.ReachingParts.{both_reached, second_reached, one_source}
+use Rattle.law_ordered_runs.proofs.Reaching.{OnX, DoesX, reaches_to, after_both, there_already, first_in, rest_in}
+use Rattle.law_ordered_runs.proofs.ReachingParts.{both_reached, second_reached, second_part, one_source}
 
 -- WHAT SAYS A VALUE, with no store
-pub says_reached : (z : Land) (x : RunOf z) (c : Context) (a : Activity) (n : ℕ) (v : Value) → Extended z.graph z.inputs z.well z.count x a (Says (Sends c n 0 v))
-    → Reaches z x c (port n 0 ∷ []) (v ∷ []) []
-says_reached z x c a n v e = record {
+pub says_reached : (z : Land) (x : RunOf z) (c : Context) (a : Activity) (n : ℕ) (v : Value)
+    (e : Extended z.graph z.inputs z.well z.count x a (Says (Sends c n 0 v))) → DoesX z x e.to c n (n + 1) → Reaches z x c n (n + 1) (port n 0 ∷ []) (v ∷ []) []
+says_reached z x c a n v e does = record {
   to = e.to;
   on = e.on;
+  does = does;
   have = (said_gives z.graph z.inputs z.well z.count x a c n 0 v e, tt);
   changed = changed_same (cells_of z x) (cells_of z x) (cells_of z e.to) []
       (sym (ap (λ (m : Meaning.Memory). m.cells) (said_memory z.graph z.inputs z.well z.count x a (Sends c n 0 v) e))) (changed_none (cells_of z x));
@@ -58,63 +65,132 @@ chosen_side true false e = cc
 chosen_side false true e = cc
 chosen_side false false e = refl
 
+-- nothing but that it shuts
+pub record Shut (z : Land) (x : RunOf z) (c : Context) (lo hi : ℕ) : Type 0 where
+  pub to : RunOf z
+  pub on : OnX z x to
+  pub does : DoesX z x to c lo hi
+  pub cells : cells_of z to ≡ cells_of z x
+
 module _ (z : Land) (c : Context) (b : Block ℕ) (eb : block_of (flow z) c ≡ Some b) (here : Site) (cond : ℕ) (side : Bool) (at : ℕ) (w : Value)
-    (in_arm : here.region ≡ Arm cond side) (chooses : truth w ≡ side) where
-  abbrev Steered : RunOf z → Type 0
+    (in_arm : here.region ≡ Arm cond side) where
+  abbrev pub Steered : RunOf z → Type 0
   Steered x = Contains x.run (Fires c cond (w ∷ [])) × (deed (flow z) (Fires c cond (w ∷ [])) ≡ Some (Says (Steers c cond w)))
 
-  enter_reached : (x : RunOf z) → Steered x → (n : ℕ) (s : Source) (v : Value) → node_at b n ≡ Some (resolved z.graph (made here at node.Enter (s ∷ [])))
-      → HasX z x c s v → Reaches z x c (port n 0 ∷ []) (v ∷ []) []
-  enter_reached x steered n s v el h =
-      let happens = enter_happens z.graph z.inputs z.well z.count x c b eb n (resolved z.graph (made here at node.Enter (s ∷ []))) el cond side s v w in_arm refl
-      refl h (Fires c cond (w ∷ [])) steered.0 steered.1 in
-      says_reached z x c (Gates c n v w) n v
-      (subst (λ (t : Bool). Extended z.graph z.inputs z.well z.count x (Gates c n v w) (Says (if t then Sends c n 0 v else Nothing)))
-      (chosen_side (truth w) side chooses) happens)
+  gate_happens : (x : RunOf z) → Steered x → (n : ℕ) (s : Source) (v : Value) → node_at b n ≡ Some (resolved z.graph (made here at node.Enter (s ∷ [])))
+      → HasX z x c s v
+      → Extended z.graph z.inputs z.well z.count x (Gates c n v w) (Says (if same_side (truth w) side then Sends c n 0 v else Nothing))
+  gate_happens x steered n s v el h =
+      enter_happens z.graph z.inputs z.well z.count x c b eb n (resolved z.graph (made here at node.Enter (s ∷ []))) el cond side s v w in_arm refl
+      refl h (Fires c cond (w ∷ [])) steered.0 steered.1
 
-  pub enters_reached : (x : RunOf z) → Steered x → (n : ℕ) (ss : List Source) (vs : List Value)
+  gate_does : (x : RunOf z) (n : ℕ) (s : Source) (v : Value) → node_at b n ≡ Some (resolved z.graph (made here at node.Enter (s ∷ []))) → (d : Deed)
+      (e : Extended z.graph z.inputs z.well z.count x (Gates c n v w) d) → DoesX z x e.to c n (n + 1)
+  gate_does x n s v el d e = record {
+    adds = adds_one z.graph z.inputs z.well z.count x (Gates c n v w) d (λ a. Under c n (n + 1) (seat a)) e (own_called c n);
+    closed = closes_quiet z.graph z.inputs z.well z.count e.to c b eb n (resolved z.graph (made here at node.Enter (s ∷ []))) el (λ h. h) (λ h. h)
+        (line_gated z.graph z.inputs z.well z.count e.to c b eb n (resolved z.graph (made here at node.Enter (s ∷ []))) el refl v w e.happened);
+  }
+
+  -- in the arm that is not chosen
+  pub enters_shut : (x : RunOf z) → Steered x → (n : ℕ) (ss : List Source) (vs : List Value)
+      → HoldsMade z.program z.graph b n (map (λ (s : Source). made here at node.Enter (s ∷ [])) ss) → HaveX z x c ss vs → Shut z x c n (n + length ss)
+  enters_shut x steered n [] [] lines h = record {
+    to = x;
+    on = on_same z.graph z.inputs z.well z.count x;
+    does = does_to z.graph z.inputs z.well z.count x x c n n (n + 0) (omega arith) (does_none z.graph z.inputs z.well z.count x c n);
+    cells = refl;
+  }
+  enters_shut x steered n [] (v ∷ vs) lines h = absurd h
+  enters_shut x steered n (s ∷ ss) [] lines h = absurd h
+  enters_shut x steered n (s ∷ ss) (v ∷ vs) lines h =
+      let e = gate_happens x steered n s v lines.0 h.0 in
+      let says : Meaning.Message = (if same_side (truth w) side then Sends c n 0 v else Nothing) in
+      let q = enters_shut e.to (e.on.kept _ steered.0, steered.1) (n + 1) ss vs lines.1 (have_on z.graph z.inputs z.well z.count x e.to e.on c ss vs h.1) in
+      record {
+        to = q.to;
+        on = on_then z.graph z.inputs z.well z.count x e.to q.to e.on q.on;
+        does = does_to z.graph z.inputs z.well z.count x q.to c n (n + 1 + length ss) (n + length (s ∷ ss)) (omega arith)
+            (does_then z.graph z.inputs z.well z.count x e.to q.to c n (n + 1) (n + 1 + length ss) (omega arith) (omega arith) q.on
+            (gate_does x n s v lines.0 (Says says) e) q.does);
+        cells = q.cells ∙ ap (λ (m : Meaning.Memory). m.cells) (said_memory z.graph z.inputs z.well z.count x (Gates c n v w) says e);
+      }
+
+module _ (z : Land) (c : Context) (b : Block ℕ) (eb : block_of (flow z) c ≡ Some b) (here : Site) (cond : ℕ) (side : Bool) (at : ℕ) (w : Value)
+    (in_arm : here.region ≡ Arm cond side) (chooses : truth w ≡ side) where
+  enter_reached : (x : RunOf z) → Steered z c b eb here cond side at w in_arm x → (n : ℕ) (s : Source) (v : Value)
+      → node_at b n ≡ Some (resolved z.graph (made here at node.Enter (s ∷ []))) → HasX z x c s v → Reaches z x c n (n + 1) (port n 0 ∷ []) (v ∷ []) []
+  enter_reached x steered n s v el h =
+      let happens = gate_happens z c b eb here cond side at w in_arm x steered n s v el h in
+      let says : Extended z.graph z.inputs z.well z.count x (Gates c n v w) (Says (Sends c n 0 v)) =
+      subst (λ (t : Bool). Extended z.graph z.inputs z.well z.count x (Gates c n v w) (Says (if t then Sends c n 0 v else Nothing)))
+      (chosen_side (truth w) side chooses) happens in
+      says_reached z x c (Gates c n v w) n v says (gate_does z c b eb here cond side at w in_arm x n s v el (Says (Sends c n 0 v)) says)
+
+  pub enters_reached : (x : RunOf z) → Steered z c b eb here cond side at w in_arm x → (n : ℕ) (ss : List Source) (vs : List Value)
       → HoldsMade z.program z.graph b n (map (λ (s : Source). made here at node.Enter (s ∷ [])) ss) → HaveX z x c ss vs
-      → Reaches z x c (inputs_from n (length ss)) vs []
-  enters_reached x steered n [] [] lines h = there_already z x c [] [] tt
+      → Reaches z x c n (n + length ss) (inputs_from n (length ss)) vs []
+  enters_reached x steered n [] [] lines h = reaches_to z x c n n (n + 0) [] [] [] (omega arith) (there_already z x c n [] [] tt)
   enters_reached x steered n [] (v ∷ vs) lines h = absurd h
   enters_reached x steered n (s ∷ ss) [] lines h = absurd h
   enters_reached x steered n (s ∷ ss) (v ∷ vs) lines h =
       let r = enter_reached x steered n s v lines.0 h.0 in
       let q = enters_reached r.to (r.on.kept _ steered.0, steered.1) (n + 1) ss vs lines.1 (have_on z.graph z.inputs z.well z.count x r.to r.on c ss vs h.1) in
-      both_reached z x c (port n 0 ∷ []) (inputs_from (n + 1) (length ss)) (v ∷ []) vs [] [] r q
+      reaches_to z x c n (n + 1 + length ss) (n + length (s ∷ ss)) (port n 0 ∷ inputs_from (n + 1) (length ss)) (v ∷ vs) [] (omega arith)
+      (both_reached z x c n (n + 1) (n + 1 + length ss) (omega arith) (omega arith) (port n 0 ∷ []) (inputs_from (n + 1) (length ss)) (v ∷ []) vs [] [] r q)
 
--- MERGES of values that came by one of the two ports
-module _ (z : Land) (c : Context) (b : Block ℕ) (eb : block_of (flow z) c ≡ Some b) (site : Site) (cond at : ℕ) where
-  merge_reached : (x : RunOf z) (n i : ℕ) (s t u : Source) (v : Value) → node_at b n ≡ Some (resolved z.graph (made site at (node.Merge cond) (s ∷ t ∷ [])))
-      → slice_get (s ∷ t ∷ []) i ≡ Some u → HasX z x c u v → Reaches z x c (port n 0 ∷ []) (v ∷ []) []
-  merge_reached x n i s t u v el eu h =
-      says_reached z x c (Passes c n i v) n v
-      (operand_happens z.graph z.inputs z.well z.count x c b eb n (resolved z.graph (made site at (node.Merge cond) (s ∷ t ∷ []))) el i u v (Says (Sends c n 0 v))
-      eu h refl tt)
+-- MERGES of values that came by one of the two ports, which the conditional has chosen
+module _ (z : Land) (c : Context) (b : Block ℕ) (eb : block_of (flow z) c ≡ Some b) (site : Site) (cond at : ℕ) (w : Value) where
+  abbrev Chose : RunOf z → Type 0
+  Chose x = Contains x.run (Fires c cond (w ∷ []))
 
-  pub left_merged : (x : RunOf z) (n : ℕ) (ls rs : List Source) (vs : List Value) → length ls ≡ length rs → HaveX z x c ls vs
-      → HoldsMade z.program z.graph b n (merges site at cond ls rs) → Reaches z x c (inputs_from n (length (merges site at cond ls rs))) vs []
-  left_merged x n [] [] [] e h lines = there_already z x c [] [] tt
-  left_merged x n [] [] (v ∷ vs) e h lines = absurd h
-  left_merged x n [] (r ∷ rs) vs e h lines = absurd (omega (arith, e))
-  left_merged x n (l ∷ ls) [] vs e h lines = absurd (omega (arith, e))
-  left_merged x n (l ∷ ls) (r ∷ rs) [] e h lines = absurd h
-  left_merged x n (l ∷ ls) (r ∷ rs) (v ∷ vs) e h lines =
-      let p = merge_reached x n 0 l r l v lines.0 refl h.0 in
-      let q = left_merged p.to (n + 1) ls rs vs (omega (arith, e)) (have_on z.graph z.inputs z.well z.count x p.to p.on c ls vs h.1) lines.1 in
-      both_reached z x c (port n 0 ∷ []) (inputs_from (n + 1) (length (merges site at cond ls rs))) (v ∷ []) vs [] [] p q
+  merge_reached : (on_side : Bool) → truth w ≡ on_side → (x : RunOf z) → Chose x → (n i : ℕ) → i ≡ (if on_side then 0 else 1) → (s t u : Source) (v : Value)
+      → node_at b n ≡ Some (resolved z.graph (made site at (node.Merge cond) (s ∷ t ∷ [])))
+      → slice_get (s ∷ t ∷ []) i ≡ Some u → HasX z x c u v → Reaches z x c n (n + 1) (port n 0 ∷ []) (v ∷ []) []
+  merge_reached on_side chooses x chose n i at_side s t u v el eu h =
+      let line = resolved z.graph (made site at (node.Merge cond) (s ∷ t ∷ [])) in
+      let e = operand_happens z.graph z.inputs z.well z.count x c b eb n line el i u v (Says (Sends c n 0 v)) eu h refl tt in
+      says_reached z x c (Passes c n i v) n v e
+      (record {
+        adds = adds_one z.graph z.inputs z.well z.count x (Passes c n i v) (Says (Sends c n 0 v)) (λ a. Under c n (n + 1) (seat a)) e (own_called c n);
+        closed = closes_quiet z.graph z.inputs z.well z.count e.to c b eb n line el (λ h. h) (λ h. h)
+            (merge_closed z.graph z.inputs z.well z.count c b eb e.to cond w (e.on.kept _ chose) n line el refl on_side chooses i at_side v e.happened);
+      })
 
-  pub right_merged : (x : RunOf z) (n : ℕ) (ls rs : List Source) (vs : List Value) → length ls ≡ length rs → HaveX z x c rs vs
-      → HoldsMade z.program z.graph b n (merges site at cond ls rs) → Reaches z x c (inputs_from n (length (merges site at cond ls rs))) vs []
-  right_merged x n [] [] [] e h lines = there_already z x c [] [] tt
-  right_merged x n [] [] (v ∷ vs) e h lines = absurd h
-  right_merged x n [] (r ∷ rs) vs e h lines = absurd (omega (arith, e))
-  right_merged x n (l ∷ ls) [] vs e h lines = absurd (omega (arith, e))
-  right_merged x n (l ∷ ls) (r ∷ rs) [] e h lines = absurd h
-  right_merged x n (l ∷ ls) (r ∷ rs) (v ∷ vs) e h lines =
-      let p = merge_reached x n 1 l r r v lines.0 refl h.0 in
-      let q = right_merged p.to (n + 1) ls rs vs (omega (arith, e)) (have_on z.graph z.inputs z.well z.count x p.to p.on c rs vs h.1) lines.1 in
-      both_reached z x c (port n 0 ∷ []) (inputs_from (n + 1) (length (merges site at cond ls rs))) (v ∷ []) vs [] [] p q
+  more_merged : (x : RunOf z) (n k : ℕ) (v : Value) (vs : List Value) (r : Reaches z x c n (n + 1) (port n 0 ∷ []) (v ∷ []) [])
+      → Reaches z r.to c (n + 1) (n + 1 + k) (inputs_from (n + 1) k) vs [] → Reaches z x c n (n + suc k) (inputs_from n (suc k)) (v ∷ vs) []
+  more_merged x n k v vs r q =
+      reaches_to z x c n (n + 1 + k) (n + suc k) (inputs_from n (suc k)) (v ∷ vs) [] (omega arith)
+      (both_reached z x c n (n + 1) (n + 1 + k) (omega arith) (omega arith) (port n 0 ∷ []) (inputs_from (n + 1) k) (v ∷ []) vs [] [] r q)
+
+  none_merged : (x : RunOf z) (n : ℕ) → Reaches z x c n (n + 0) (inputs_from n 0) [] []
+  none_merged x n = reaches_to z x c n n (n + 0) [] [] [] (omega arith) (there_already z x c n [] [] tt)
+
+  pub left_merged : truth w ≡ true → (x : RunOf z) → Chose x → (n : ℕ) (ls rs : List Source) (vs : List Value) → length ls ≡ length rs → HaveX z x c ls vs
+      → HoldsMade z.program z.graph b n (merges site at cond ls rs)
+      → Reaches z x c n (n + length (merges site at cond ls rs)) (inputs_from n (length (merges site at cond ls rs))) vs []
+  left_merged t x chose n [] [] [] e h lines = none_merged x n
+  left_merged t x chose n [] [] (v ∷ vs) e h lines = absurd h
+  left_merged t x chose n [] (r ∷ rs) vs e h lines = absurd (omega (arith, e))
+  left_merged t x chose n (l ∷ ls) [] vs e h lines = absurd (omega (arith, e))
+  left_merged t x chose n (l ∷ ls) (r ∷ rs) [] e h lines = absurd h
+  left_merged t x chose n (l ∷ ls) (r ∷ rs) (v ∷ vs) e h lines =
+      let p = merge_reached true t x chose n 0 refl l r l v lines.0 refl h.0 in
+      let q = left_merged t p.to (p.on.kept _ chose) (n + 1) ls rs vs (omega (arith, e)) (have_on z.graph z.inputs z.well z.count x p.to p.on c ls vs h.1) lines.1 in
+      more_merged x n (length (merges site at cond ls rs)) v vs p q
+
+  pub right_merged : truth w ≡ false → (x : RunOf z) → Chose x → (n : ℕ) (ls rs : List Source) (vs : List Value) → length ls ≡ length rs → HaveX z x c rs vs
+      → HoldsMade z.program z.graph b n (merges site at cond ls rs)
+      → Reaches z x c n (n + length (merges site at cond ls rs)) (inputs_from n (length (merges site at cond ls rs))) vs []
+  right_merged t x chose n [] [] [] e h lines = none_merged x n
+  right_merged t x chose n [] [] (v ∷ vs) e h lines = absurd h
+  right_merged t x chose n [] (r ∷ rs) vs e h lines = absurd (omega (arith, e))
+  right_merged t x chose n (l ∷ ls) [] vs e h lines = absurd (omega (arith, e))
+  right_merged t x chose n (l ∷ ls) (r ∷ rs) [] e h lines = absurd h
+  right_merged t x chose n (l ∷ ls) (r ∷ rs) (v ∷ vs) e h lines =
+      let p = merge_reached false t x chose n 1 refl l r r v lines.0 refl h.0 in
+      let q = right_merged t p.to (p.on.kept _ chose) (n + 1) ls rs vs (omega (arith, e)) (have_on z.graph z.inputs z.well z.count x p.to p.on c rs vs h.1) lines.1 in
+      more_merged x n (length (merges site at cond ls rs)) v vs p q
 
 -- AN ARM that is chosen, whose region is taken
 module _ (z : Land) (c : Context) (site : Site) (cond : ℕ) (side : Bool) (spot : Spot) (at : ℕ) (scope : Scope) (predicate : Source) (body : Body) where
@@ -157,19 +233,55 @@ module _ (z : Land) (c : Context) (site : Site) (cond : ℕ) (side : Bool) (spot
       first_value y [] h = absurd h
       first_value y (v ∷ vs) h = (v, h.0)
 
+  enters_many : spot.next + length (enters_of (outside_body body)) ≡ spot.next + length l.nodes
+  enters_many =
+      let n = length-map (enters_of (outside_body body)) (λ (s : Source). made here at node.Enter (s ∷ [])) in omega (arith, n)
+
+  -- WHERE IT IS NOT CHOSEN its enters shut, and nothing happens in its body.
+  pub arm_shut : (env : Env) (w : Value) → (truth w ≡ side → ⊥) → cond + 1 ≤ spot.next → (x : RunOf z) (b : Block ℕ) → block_of (flow z) c ≡ Some b
+      → HoldsMade z.program z.graph b spot.next an_arm.nodes
+      → Contains x.run (Fires c cond (w ∷ [])) → deed (flow z) (Fires c cond (w ∷ [])) ≡ Some (Says (Steers c cond w))
+      → HasX z x c predicate w → KnownX z x c scope env (body_uses body) → Shut z x c spot.next (spot.next + length an_arm.nodes)
+  arm_shut env w other low x b eb holds happened is_deed has known =
+      let lines = made_split z.program z.graph b spot.next l.nodes inside.nodes holds in
+      let outer = agrees_once (flow z) z.inputs x.run x.state x.is_run c scope env (body_uses body) known in
+      let e = entering x env w (outside_body body) has outer in
+      let r = enters_shut z c b eb here cond side at w refl x (happened, is_deed) spot.next (enters_of (outside_body body)) e.vs lines.0 e.have in
+      let mid : ℕ = spot.next + length l.nodes in
+      let rest : DoesX z r.to r.to c mid (mid + length inside.nodes) =
+      record {
+        adds = adds_none z.graph z.inputs z.well z.count r.to (λ a. Under c mid (mid + length inside.nodes) (seat a));
+        closed = silent_lines z.graph z.inputs z.well z.count z.program c b eb r.to cond w (r.on.kept _ happened) side other mid inside.nodes lines.1
+            (body_lies z.program z.graph b here (spot_after spot l) (arm_scope l (outside_body body)) body lines.1)
+            (body_past z.program (cond + 1) here (spot_after spot l) (arm_scope l (outside_body body)) body (omega (arith, low)));
+      } in
+      record {
+        to = r.to;
+        on = r.on;
+        does = does_to z.graph z.inputs z.well z.count x r.to c spot.next (mid + length inside.nodes) (spot.next + length an_arm.nodes)
+            (after_both spot.next l.nodes inside.nodes)
+            (does_then z.graph z.inputs z.well z.count x r.to r.to c spot.next mid (mid + length inside.nodes) (omega arith) (omega arith)
+            (on_same z.graph z.inputs z.well z.count r.to)
+            (does_to z.graph z.inputs z.well z.count x r.to c spot.next (spot.next + length (enters_of (outside_body body))) mid enters_many r.does) rest);
+        cells = r.cells;
+      }
+
   pub arm_reached : {env : Env} {vs : List Value} {ss : Stores} (w : Value) (names : List Name) (n : ℕ) (behind_else : Bool) → FitsBody behind_else body
       → body_values z.program names body ≡ Ok n
       → (g : Runs (world_of z) env body vs ss) → BodyReaches z c g → truth w ≡ side
       → (x : RunOf z) (h : ActiveX z x c site spot an_arm)
       → ArmsTaken (Stood (flow z) (start z.inputs) x.run x.state x.is_run) c (arms_round (node_count h.block) h.block (Arm cond side))
       → Contains x.run (Fires c cond (w ∷ [])) → deed (flow z) (Fires c cond (w ∷ [])) ≡ Some (Says (Steers c cond w))
-      → HasX z x c predicate w → KnownX z x c scope env (body_uses body) → ReadyX z x ss (body_touches g) → Reaches z x c an_arm.sources vs ss
+      → HasX z x c predicate w → KnownX z x c scope env (body_uses body) → ReadyX z x ss (body_touches g)
+      → Reaches z x c spot.next (spot.next + length an_arm.nodes) an_arm.sources vs ss
   arm_reached {env = env} {vs = vs} {ss = ss} w names n behind_else fits rule g means chooses x h region happened is_deed has known ready =
       let eb = block_is z.program z.graph z.origin z.inputs x.run x.state x.is_run c site spot an_arm h in
       let lines = (made_split z.program z.graph h.block spot.next l.nodes inside.nodes h.lines).0 in
       let outer = agrees_once (flow z) z.inputs x.run x.state x.is_run c scope env (body_uses body) known in
       let e = entering x env w (outside_body body) has outer in
-      let r = enters_reached z c h.block eb here cond side at w refl chooses x (happened, is_deed) spot.next (enters_of (outside_body body)) e.vs lines e.have in
+      let r = reaches_to z x c spot.next (spot.next + length (enters_of (outside_body body))) (spot.next + length l.nodes)
+      (inputs_from spot.next (length (enters_of (outside_body body)))) e.vs [] enters_many
+      (enters_reached z c h.block eb here cond side at w refl chooses x (happened, is_deed) spot.next (enters_of (outside_body body)) e.vs lines e.have) in
       let first = e.first r.to r.have in
       let all : ActiveX z r.to c here spot an_arm =
       record {
@@ -190,7 +302,7 @@ module _ (z : Land) (c : Context) (site : Site) (cond : ℕ) (side : Bool) (spot
       (uses_once (body_uses body)) in
       let q = means r.to here (spot_after spot l) (arm_scope l (outside_body body)) names n behind_else fits rule stands knows
       (ready_then z.memory (cells_of z x) (cells_of z r.to) [] ss [] (body_touches g) ready r.on.cells r.changed (fills_none [])) in
-      second_reached z x c l.sources inside.sources e.vs vs [] ss r q
+      second_part z x c spot.next l.nodes inside.nodes l.sources inside.sources e.vs vs [] ss r q
 
 -- THE CONDITIONAL of a predicate with value v
 module _ (z : Land) (x : RunOf z) (c : Context) (site : Site) (k : Spot) (at : ℕ) (ps : List Source) (a b : Lowered) (s : Source) (v : Value)
@@ -275,33 +387,85 @@ module _ (z : Land) (x : RunOf z) (c : Context) (site : Site) (k : Spot) (at : �
   sources_at : k.next + 1 + length both.nodes ≡ k.next + 1 + length a.nodes + length b.nodes
   sources_at = let n = length-append a.nodes b.nodes in omega (arith, n)
 
+  abbrev mid : ℕ
+  mid = k.next + 1 + length both.nodes
+
+  steers_does : DoesX z x after c k.next (k.next + 1)
+  steers_does = fires_does z.graph z.inputs z.well z.count x c h.block is_block k.next (resolved z.graph cond) el tt (v ∷ []) (Says (Steers c k.next v)) steers
+
+  chosen_ends : mid + length ms ≡ k.next + length (chosen site k at ps a b).nodes
+  chosen_ends = let n = length-append both.nodes ms in omega (arith, n)
+
   -- what the arm has is merged
-  merged : (vs : List Value) (ss : Stores) (sources : List Source) (r : Reaches z after c sources vs ss)
-      → Reaches z r.to c (inputs_from (k.next + 1 + length both.nodes) (length ms)) vs [] → Reaches z x c (chosen site k at ps a b).sources vs ss
+  merged : (vs : List Value) (ss : Stores) (sources : List Source) (r : Reaches z after c (k.next + 1) mid sources vs ss)
+      → Reaches z r.to c mid (mid + length ms) (inputs_from mid (length ms)) vs []
+      → Reaches z x c k.next (k.next + length (chosen site k at ps a b).nodes) (chosen site k at ps a b).sources vs ss
   merged vs ss sources r q =
-      let first : Reaches z x c [] [] [] =
+      let first : Reaches z x c k.next (k.next + 1) [] [] [] =
       record {
         to = after;
         on = steers.on;
+        does = steers_does;
         have = tt;
         changed = changed_same (cells_of z x) (cells_of z x) (cells_of z after) []
             (sym (ap (λ (m : Meaning.Memory). m.cells) (said_memory z.graph z.inputs z.well z.count x (Fires c k.next (v ∷ [])) (Steers c k.next v) steers)))
             (changed_none (cells_of z x));
       } in
-      subst (λ n. Reaches z x c (inputs_from n (length ms)) vs ss) sources_at
-      (subst (λ ss. Reaches z x c (inputs_from (k.next + 1 + length both.nodes) (length ms)) vs ss) (append_nothing ss)
-      (second_reached z x c [] (inputs_from (k.next + 1 + length both.nodes) (length ms)) [] vs [] (ss ++ []) first
-      (second_reached z after c sources (inputs_from (k.next + 1 + length both.nodes) (length ms)) vs vs ss [] r q)))
+      reaches_to z x c k.next (mid + length ms) (k.next + length (chosen site k at ps a b).nodes) (chosen site k at ps a b).sources vs ss chosen_ends
+      (subst (λ n. Reaches z x c k.next (mid + length ms) (inputs_from n (length ms)) vs ss) sources_at
+      (subst (λ ss. Reaches z x c k.next (mid + length ms) (inputs_from mid (length ms)) vs ss) (append_nothing ss)
+      (second_reached z x c k.next (k.next + 1) (mid + length ms) (omega arith) (omega arith) [] (inputs_from mid (length ms)) [] vs [] (ss ++ []) first
+      (second_reached z after c (k.next + 1) mid (mid + length ms) (omega arith) (omega arith) sources (inputs_from mid (length ms)) vs vs ss [] r q))))
 
-  pub left_reached : (vs : List Value) (ss : Stores) → length a.sources ≡ length b.sources → Reaches z after c a.sources vs ss
-      → Reaches z x c (chosen site k at ps a b).sources vs ss
-  left_reached vs ss same r =
-      merged vs ss a.sources r (left_merged z c h.block is_block site k.next at r.to (k.next + 1 + length both.nodes) a.sources b.sources vs same r.have both_lines.1)
+  abbrev next : ℕ
+  next = k.next + 1
 
-  pub right_reached : (vs : List Value) (ss : Stores) → length a.sources ≡ length b.sources → Reaches z after c b.sources vs ss
-      → Reaches z x c (chosen site k at ps a b).sources vs ss
-  right_reached vs ss same r =
-      merged vs ss b.sources r (right_merged z c h.block is_block site k.next at r.to (k.next + 1 + length both.nodes) a.sources b.sources vs same r.have both_lines.1)
+  abbrev middle : ℕ
+  middle = k.next + 1 + length a.nodes
+
+  pub left_reached : truth v ≡ true → (vs : List Value) (ss : Stores) → length a.sources ≡ length b.sources
+      → (r : Reaches z after c next (next + length a.nodes) a.sources vs ss) → Shut z r.to c middle (middle + length b.nodes)
+      → Reaches z x c k.next (k.next + length (chosen site k at ps a b).nodes) (chosen site k at ps a b).sources vs ss
+  left_reached t vs ss same r shut =
+      let on = on_then z.graph z.inputs z.well z.count after r.to shut.to r.on shut.on in
+      let all : Reaches z after c next mid a.sources vs ss =
+      record {
+        to = shut.to;
+        on = on;
+        does = does_to z.graph z.inputs z.well z.count after shut.to c next (middle + length b.nodes) mid (after_both next a.nodes b.nodes)
+            (does_then z.graph z.inputs z.well z.count after r.to shut.to c next middle (middle + length b.nodes) (omega arith) (omega arith) shut.on r.does shut.does);
+        have = have_on z.graph z.inputs z.well z.count r.to shut.to shut.on c a.sources vs r.have;
+        changed = changed_same (cells_of z after) (cells_of z r.to) (cells_of z shut.to) ss (sym shut.cells) r.changed;
+      } in
+      merged vs ss a.sources all
+      (left_merged z c h.block is_block site k.next at v t shut.to (on.kept _ steers.happened) mid a.sources b.sources vs same all.have both_lines.1)
+
+  pub right_reached : truth v ≡ false → (vs : List Value) (ss : Stores) → length a.sources ≡ length b.sources
+      → (r : Reaches z after c middle (middle + length b.nodes) b.sources vs ss) → Shut z r.to c next (next + length a.nodes)
+      → Reaches z x c k.next (k.next + length (chosen site k at ps a b).nodes) (chosen site k at ps a b).sources vs ss
+  right_reached t vs ss same r shut =
+      let on = on_then z.graph z.inputs z.well z.count after r.to shut.to r.on shut.on in
+      let all : Reaches z after c next mid b.sources vs ss =
+      record {
+        to = shut.to;
+        on = on;
+        does = does_to z.graph z.inputs z.well z.count after shut.to c next (middle + length b.nodes) mid (after_both next a.nodes b.nodes)
+            (does_before z.graph z.inputs z.well z.count after r.to shut.to c next middle (middle + length b.nodes) (omega arith) (omega arith) shut.on r.does shut.does);
+        have = have_on z.graph z.inputs z.well z.count r.to shut.to shut.on c b.sources vs r.have;
+        changed = changed_same (cells_of z after) (cells_of z r.to) (cells_of z shut.to) ss (sym shut.cells) r.changed;
+      } in
+      merged vs ss b.sources all
+      (right_merged z c h.block is_block site k.next at v t shut.to (on.kept _ steers.happened) mid a.sources b.sources vs same all.have both_lines.1)
+
+  -- WHERE BOTH ARE: the block, and the lines of both arms
+  pub its_block : block_of (flow z) c ≡ Some h.block
+  its_block = is_block
+
+  pub left_lines : Lines next a.nodes
+  left_lines = (made_split z.program z.graph h.block next a.nodes b.nodes both_lines.0).0
+
+  pub right_lines : Lines middle b.nodes
+  right_lines = (made_split z.program z.graph h.block next a.nodes b.nodes both_lines.0).1
 
   -- the memory is as before, and so is what is ready
   pub ready_after : (ss : Stores) (ts : List Touch) → ReadyX z x ss ts → ReadyX z after ss ts
@@ -361,8 +525,16 @@ module _ (z : Land) (c : Context) (at : ℕ) (q : Expr) (l r : Body) where
       (agrees_on z.graph z.inputs z.well z.count x o.to o.on c scope env (body_uses l) inner.1))
       (ready_after z o.to c site k at p.sources a b s.source v s.is has here us (body_touches g)
       (ready_then z.memory (cells_of z x) (cells_of z o.to) ss us (touches d) (body_touches g) ready o.on.cells o.changed (fills d))) in
-      second_reached z x c p.sources m.sources (v ∷ []) vs ss us o
-      (left_reached z o.to c site k at p.sources a b s.source v s.is has here vs us (arms_alike z c at l r site k scope p.sources names n rules.1 rules.2) mine)
+      let on = on_then z.graph z.inputs z.well z.count o.to y mine.to go.on mine.on in
+      let shut = arm_shut z c site k.next false (spot_after (next_spot k) a) at scope (first_of p.sources) r env v (λ f. (let e = sym t ∙ f in cc)) (omega arith)
+      mine.to here.block (its_block z o.to c site k at p.sources a b s.source v s.is has here)
+      (right_lines z o.to c site k at p.sources a b s.source v s.is has here) (mine.on.kept _ go.happened) go.is_deed
+      (subst (λ s. HasX z mine.to c s v) (sym (first_is p.sources s.source s.is)) (has_on z.graph z.inputs z.well z.count o.to mine.to on c s.source v has))
+      (agrees_on z.graph z.inputs z.well z.count o.to mine.to on c scope env (body_uses r)
+      (agrees_on z.graph z.inputs z.well z.count x o.to o.on c scope env (body_uses r) outer.1)) in
+      second_part z x c spot.next p.nodes m.nodes p.sources m.sources (v ∷ []) vs ss us o
+      (left_reached z o.to c site k at p.sources a b s.source v s.is has here t vs us (arms_alike z c at l r site k scope p.sources names n rules.1 rules.2) mine
+      shut)
 
   pub reaches_if_false : {env : Env} {b : Value} {vs : List Value} {ss us : Stores} (d : Evaluates (world_of z) env q (b ∷ []) ss) (t : truth b ≡ false)
       (g : Runs (world_of z) env r vs us) → ExprReaches z c d → BodyReaches z c g → ExprReaches z c (if_false {t = at} {p = q} {l = l} {r = r} d t g)
@@ -391,5 +563,13 @@ module _ (z : Land) (c : Context) (at : ℕ) (q : Expr) (l r : Body) where
       (agrees_on z.graph z.inputs z.well z.count x o.to o.on c scope env (body_uses r) outer.1))
       (ready_after z o.to c site k at p.sources a b s.source v s.is has here us (body_touches g)
       (ready_then z.memory (cells_of z x) (cells_of z o.to) ss us (touches d) (body_touches g) ready o.on.cells o.changed (fills d))) in
-      second_reached z x c p.sources m.sources (v ∷ []) vs ss us o
-      (right_reached z o.to c site k at p.sources a b s.source v s.is has here vs us (arms_alike z c at l r site k scope p.sources names n rules.1 rules.2) mine)
+      let on = on_then z.graph z.inputs z.well z.count o.to y mine.to go.on mine.on in
+      let shut = arm_shut z c site k.next true (next_spot k) at scope (first_of p.sources) l env v (λ f. (let e = sym t ∙ f in cc)) (omega arith)
+      mine.to here.block (its_block z o.to c site k at p.sources a b s.source v s.is has here)
+      (left_lines z o.to c site k at p.sources a b s.source v s.is has here) (mine.on.kept _ go.happened) go.is_deed
+      (subst (λ s. HasX z mine.to c s v) (sym (first_is p.sources s.source s.is)) (has_on z.graph z.inputs z.well z.count o.to mine.to on c s.source v has))
+      (agrees_on z.graph z.inputs z.well z.count o.to mine.to on c scope env (body_uses l)
+      (agrees_on z.graph z.inputs z.well z.count x o.to o.on c scope env (body_uses l) inner.1)) in
+      second_part z x c spot.next p.nodes m.nodes p.sources m.sources (v ∷ []) vs ss us o
+      (right_reached z o.to c site k at p.sources a b s.source v s.is has here t vs us (arms_alike z c at l r site k scope p.sources names n rules.1 rules.2) mine
+      shut)

@@ -30,8 +30,8 @@ use Rattle.law_ordered_runs.proofs.Lines.{line_happens}
 use Rattle.law_ordered_runs.proofs.Memory.{ReadsFull, Changed, fills, fills_both, reads_both, reads_more, ready_first, ready_then, changed_both, changed_same}
 use Rattle.law_ordered_runs.proofs.Staying.{agrees_on, active_on}
 use Rattle.law_ordered_runs.proofs.Reaching.{Land, RunOf, flow, world_of, cells_of, HaveX, KnownX, ActiveX, ReadyX, Reaches, ExprReaches, Ending, first_in, rest_in}
-use Rattle.law_ordered_runs.proofs.Reaching.{ending, line_says}
-use Rattle.law_ordered_runs.proofs.ReachingParts.{both_reached}
+use Rattle.law_ordered_runs.proofs.Reaching.{ending, line_does, line_says}
+use Rattle.law_ordered_runs.proofs.ReachingParts.{both_parts}
 
 -- TWO OPERANDS, one after the other
 module _ (z : Land) (c : Context) where
@@ -41,7 +41,9 @@ module _ (z : Land) (c : Context) where
       → Fits e → Fits f → values z.program names e ≡ Ok 1 → values z.program names f ≡ Ok 1
       → ActiveX z x c site spot (joined (lower z.program site spot scope e) (lower z.program site (spot_after spot (lower z.program site spot scope e)) scope f))
       → KnownX z x c scope env (uses e ++ uses f) → ReadyX z x (ss ++ us) (touches d ++ touches g)
-      → Reaches z x c ((lower z.program site spot scope e).sources ++ (lower z.program site (spot_after spot (lower z.program site spot scope e)) scope f).sources)
+      → Reaches z x c spot.next
+      (spot.next + length (joined (lower z.program site spot scope e) (lower z.program site (spot_after spot (lower z.program site spot scope e)) scope f)).nodes)
+      ((lower z.program site spot scope e).sources ++ (lower z.program site (spot_after spot (lower z.program site spot scope e)) scope f).sources)
       (a ∷ b ∷ []) (ss ++ us)
   operands_reached {env = env} {a = a} {b = b} {ss = ss} {us = us} e f d g left right x site spot scope names fe ff re rf h known ready =
       let l : Lowered = lower z.program site spot scope e in
@@ -54,12 +56,12 @@ module _ (z : Land) (c : Context) where
       (active_on z.graph z.inputs z.well z.count x r.to r.on z.program z.origin c site (spot_after spot l) k behind)
       (agrees_on z.graph z.inputs z.well z.count x r.to r.on c scope env (uses f) agree.1)
       (ready_then z.memory (cells_of z x) (cells_of z r.to) ss us (touches d) (touches g) ready r.on.cells r.changed (fills d)) in
-      both_reached z x c l.sources k.sources (a ∷ []) (b ∷ []) ss us r q
+      both_parts z x c spot.next l.nodes k.nodes l.sources k.sources (a ∷ []) (b ∷ []) ss us r q
 
 -- `>` and `>=` have their operands swapped
-swapped : (z : Land) (x : RunOf z) (c : Context) (ls ks : List Source) (a b : Value) (ss : Stores) → Reaches z x c (ls ++ ks) (a ∷ b ∷ []) ss
-    → Reaches z x c (reverse (ls ++ ks)) (b ∷ a ∷ []) ss
-swapped z x c ls ks a b ss r = record { to = r.to; on = r.on; have = turned (ls ++ ks) r.have; changed = r.changed }
+swapped : (z : Land) (x : RunOf z) (c : Context) (lo hi : ℕ) (ls ks : List Source) (a b : Value) (ss : Stores)
+    → Reaches z x c lo hi (ls ++ ks) (a ∷ b ∷ []) ss → Reaches z x c lo hi (reverse (ls ++ ks)) (b ∷ a ∷ []) ss
+swapped z x c lo hi ls ks a b ss r = record { to = r.to; on = r.on; does = r.does; have = turned (ls ++ ks) r.have; changed = r.changed }
   where
     turned : (ss : List Source) → HaveX z r.to c ss (a ∷ b ∷ []) → HaveX z r.to c (reverse ss) (b ∷ a ∷ [])
     turned [] h = absurd h
@@ -69,32 +71,35 @@ swapped z x c ls ks a b ss r = record { to = r.to; on = r.on; have = turned (ls 
 
 infix_line : (z : Land) (x : RunOf z) (c : Context) (site : Site) (spot : Spot) (m : Lowered) (at : ℕ) (sign : InfixSign) (ls ks : List Source) (a b : Value)
     (ss : Stores)
-    → Ending z x c site spot m at (node.Apply2 (operator_of sign)) (operands sign (ls ++ ks)) → Reaches z x c (ls ++ ks) (a ∷ b ∷ []) ss
-    → Reaches z x c (ports_from (spot.next + length m.nodes) 0 1) (operated sign a b (z.origin at) ∷ []) ss
+    → Ending z x c site spot m at (node.Apply2 (operator_of sign)) (operands sign (ls ++ ks))
+    → Reaches z x c spot.next (spot.next + length m.nodes) (ls ++ ks) (a ∷ b ∷ []) ss
+    → Reaches z x c spot.next (spot.next + length (m.nodes ++ made site at (node.Apply2 (operator_of sign)) (operands sign (ls ++ ks)) ∷ []))
+    (ports_from (spot.next + length m.nodes) 0 1) (operated sign a b (z.origin at) ∷ []) ss
 infix_line z x c site spot m at (Direct op) ls ks a b ss end r =
-    line_says z x c site spot m at (node.Apply2 op) (ls ++ ks) (a ∷ b ∷ []) (operated (Direct op) a b (z.origin at)) ss end r
+    line_says z x c site spot m at (node.Apply2 op) (ls ++ ks) (a ∷ b ∷ []) (operated (Direct op) a b (z.origin at)) ss end tt r
     (ap (λ o. Some (Says (Sends c (spot.next + length m.nodes) 0 (operated (Direct op) a b o)))) (end.traced tt))
 infix_line z x c site spot m at Greater ls ks a b ss end r =
-    line_says z x c site spot m at (node.Apply2 (operator_of Greater)) (reverse (ls ++ ks)) (b ∷ a ∷ []) (operated Greater a b (z.origin at)) ss end
-    (swapped z x c ls ks a b ss r) (ap (λ o. Some (Says (Sends c (spot.next + length m.nodes) 0 (operated Greater a b o)))) (end.traced tt))
+    line_says z x c site spot m at (node.Apply2 (operator_of Greater)) (reverse (ls ++ ks)) (b ∷ a ∷ []) (operated Greater a b (z.origin at)) ss end tt
+    (swapped z x c spot.next (spot.next + length m.nodes) ls ks a b ss r) (ap (λ o. Some (Says (Sends c (spot.next + length m.nodes) 0 (operated Greater a b o)))) (end.traced tt))
 infix_line z x c site spot m at AtLeast ls ks a b ss end r =
-    line_says z x c site spot m at (node.Apply2 (operator_of AtLeast)) (reverse (ls ++ ks)) (b ∷ a ∷ []) (operated AtLeast a b (z.origin at)) ss end
-    (swapped z x c ls ks a b ss r) (ap (λ o. Some (Says (Sends c (spot.next + length m.nodes) 0 (operated AtLeast a b o)))) (end.traced tt))
+    line_says z x c site spot m at (node.Apply2 (operator_of AtLeast)) (reverse (ls ++ ks)) (b ∷ a ∷ []) (operated AtLeast a b (z.origin at)) ss end tt
+    (swapped z x c spot.next (spot.next + length m.nodes) ls ks a b ss r) (ap (λ o. Some (Says (Sends c (spot.next + length m.nodes) 0 (operated AtLeast a b o)))) (end.traced tt))
 
 -- A FETCH of a cell that is full, or of none
 fetch_line : (z : Land) (x : RunOf z) (c : Context) (site : Site) (spot : Spot) (l : Lowered) (at : ℕ) (a : Name) (i v : Value) (ss : Stores)
-    (end : Ending z x c site spot l at (node.Fetch a) l.sources) (r : Reaches z x c l.sources (i ∷ []) ss)
+    (end : Ending z x c site spot l at (node.Fetch a) l.sources) (r : Reaches z x c spot.next (spot.next + length l.nodes) l.sources (i ∷ []) ss)
     → ((q : ℕ) (w : Value) → cells_of z r.to q ≡ Some w → z.memory q ≡ Some w)
     → (ix : Indexed) → index_in (array_len (flow z) (graph.place_of a (array_names z.graph))) i (z.origin at) ≡ ix
     → eval.Reads (world_of z) (counted_from (first_cell (flow z) (graph.place_of a (array_names z.graph))) ix) v
     → ReadsFull (λ q. (w : Value) × (cells_of z r.to q ≡ Some w)) (reading (counted_from (first_cell (flow z) (graph.place_of a (array_names z.graph))) ix))
-    → Reaches z x c (ports_from (spot.next + length l.nodes) 0 1) (v ∷ []) ss
+    → Reaches z x c spot.next (spot.next + length (l.nodes ++ made site at (node.Fetch a) l.sources ∷ [])) (ports_from (spot.next + length l.nodes) 0 1) (v ∷ []) ss
 fetch_line z x c site spot l at a i v ss end r sound (Outside f) e reads full =
     let array : ℕ = graph.place_of a (array_names z.graph) in
     let base : ℕ = first_cell (flow z) array in
     let own : ℕ = spot.next + length l.nodes in
-    subst (λ v. Reaches z x c (ports_from own 0 1) (v ∷ []) ss) (sym reads)
-    (line_says z x c site spot l at (node.Fetch a) l.sources (i ∷ []) f ss end r
+    let end_at : ℕ = spot.next + length (l.nodes ++ made site at (node.Fetch a) l.sources ∷ []) in
+    subst (λ v. Reaches z x c spot.next end_at (ports_from own 0 1) (v ∷ []) ss) (sym reads)
+    (line_says z x c site spot l at (node.Fetch a) l.sources (i ∷ []) f ss end tt r
     (ap (λ o. Some (fetched c own base (index_in (array_len (flow z) array) i o))) (end.traced tt) ∙ ap (λ ix. Some (fetched c own base ix)) e))
 fetch_line z x c site spot l at a i v ss end r sound (Place k) e reads full =
     let array : ℕ = graph.place_of a (array_names z.graph) in
@@ -105,10 +110,12 @@ fetch_line z x c site spot l at a i v ss end r sound (Place k) e reads full =
     let more : Extended z.graph z.inputs z.well z.count r.to (Fires c own (i ∷ [])) (Meaning.Reads c own (base + k)) =
     line_happens z.graph z.inputs z.well z.count r.to c end.block end.is_block own line end.line_at (i ∷ []) (Meaning.Reads c own (base + k)) r.have
     (ap (λ o. Some (fetched c own base (index_in (array_len (flow z) array) i o))) (end.traced tt) ∙ ap (λ ix. Some (fetched c own base ix)) e) full.0 in
-    subst (λ v. Reaches z x c (ports_from own 0 1) (v ∷ []) ss) same
+    let end_at : ℕ = spot.next + length (l.nodes ++ made site at (node.Fetch a) l.sources ∷ []) in
+    subst (λ v. Reaches z x c spot.next end_at (ports_from own 0 1) (v ∷ []) ss) same
     (record {
       to = more.to;
       on = on_then z.graph z.inputs z.well z.count x r.to more.to r.on more.on;
+      does = line_does z x c site spot l at (node.Fetch a) l.sources (i ∷ []) ss (Meaning.Reads c own (base + k)) end tt r more;
       have = (read_gives z.graph z.inputs z.well z.count r.to (Fires c own (i ∷ [])) c own (base + k) full.0.0 more full.0.1, tt);
       changed = changed_same (cells_of z x) (cells_of z r.to) (cells_of z more.to) ss
           (sym (ap (λ (m : Memory). m.cells) (read_memory z.graph z.inputs z.well z.count r.to (Fires c own (i ∷ [])) c own (base + k) more))) r.changed;
@@ -116,19 +123,20 @@ fetch_line z x c site spot l at a i v ss end r sound (Place k) e reads full =
 
 -- A STORE to an empty cell, or to none
 store_line : (z : Land) (x : RunOf z) (c : Context) (site : Site) (spot : Spot) (m : Lowered) (at : ℕ) (a : Name) (i v : Value) (ss : Stores)
-    (end : Ending z x c site spot m at (node.Store a) m.sources) (r : Reaches z x c m.sources (i ∷ v ∷ []) ss)
+    (end : Ending z x c site spot m at (node.Store a) m.sources) (r : Reaches z x c spot.next (spot.next + length m.nodes) m.sources (i ∷ v ∷ []) ss)
     → (ix : Indexed) → index_in (array_len (flow z) (graph.place_of a (array_names z.graph))) i (z.origin at) ≡ ix
     → ((q : ℕ) (w : Value) → Contains (filled (counted_from (first_cell (flow z) (graph.place_of a (array_names z.graph))) ix) v) (q, w)
     → cells_of z r.to q ≡ None)
-    → Reaches z x c (ports_from (spot.next + length m.nodes) 0 1)
+    → Reaches z x c spot.next (spot.next + length (m.nodes ++ made site at (node.Store a) m.sources ∷ [])) (ports_from (spot.next + length m.nodes) 0 1)
     (answer (counted_from (first_cell (flow z) (graph.place_of a (array_names z.graph))) ix) v ∷ [])
     (ss ++ filled (counted_from (first_cell (flow z) (graph.place_of a (array_names z.graph))) ix) v)
 store_line z x c site spot m at a i v ss end r (Outside f) e empty =
     let array : ℕ = graph.place_of a (array_names z.graph) in
     let base : ℕ = first_cell (flow z) array in
     let own : ℕ = spot.next + length m.nodes in
-    subst (λ ss. Reaches z x c (ports_from own 0 1) (f ∷ []) ss) (sym (append_nothing ss))
-    (line_says z x c site spot m at (node.Store a) m.sources (i ∷ v ∷ []) f ss end r
+    let end_at : ℕ = spot.next + length (m.nodes ++ made site at (node.Store a) m.sources ∷ []) in
+    subst (λ ss. Reaches z x c spot.next end_at (ports_from own 0 1) (f ∷ []) ss) (sym (append_nothing ss))
+    (line_says z x c site spot m at (node.Store a) m.sources (i ∷ v ∷ []) f ss end tt r
     (ap (λ o. Some (stored c own base v (index_in (array_len (flow z) array) i o))) (end.traced tt) ∙ ap (λ ix. Some (stored c own base v ix)) e))
 store_line z x c site spot m at a i v ss end r (Place k) e empty =
     let array : ℕ = graph.place_of a (array_names z.graph) in
@@ -153,6 +161,7 @@ store_line z x c site spot m at a i v ss end r (Place k) e empty =
     record {
       to = more.to;
       on = on_then z.graph z.inputs z.well z.count x r.to more.to r.on more.on;
+      does = line_does z x c site spot m at (node.Store a) m.sources (i ∷ v ∷ []) ss (Meaning.Fills c own (base + k) v) end tt r more;
       have = (filled_gives z.graph z.inputs z.well z.count r.to act c own (base + k) v more, tt);
       changed = changed_both (cells_of z x) (cells_of z r.to) (cells_of z more.to) ss one more.on.cells r.changed mine;
     }
@@ -210,7 +219,7 @@ module _ (z : Land) (c : Context) where
       let named = cell_named z.program z.graph z.is_graph a i (z.origin at) rules.0 in
       let later = ready_then z.memory (cells_of z x) (cells_of z r.to) (ss ++ us) (filled place v) (touches d ++ touches g) (filling place) ready r.on.cells
       r.changed (fills_both (touches d) (touches g) ss us (fills d) (fills g)) in
-      subst (λ ix. Reaches z x c m.sources (answer ix v ∷ []) (ss ++ us ++ filled ix v)) (sym named)
+      subst (λ ix. Reaches z x c spot.next (spot.next + length m.nodes) m.sources (answer ix v ∷ []) (ss ++ us ++ filled ix v)) (sym named)
       (store_line z x c site spot both at a i v (ss ++ us) (ending z x c site spot both at (node.Store a) both.sources 1 h) r
       (index_in (array_len (flow z) (graph.place_of a (array_names z.graph))) i (z.origin at)) refl
       (subst (λ ix. (q : ℕ) (w : Value) → Contains (filled ix v) (q, w) → cells_of z r.to q ≡ None) named (λ q w k. later.empty q w k)))

@@ -1,5 +1,5 @@
 -- Numbers, names, operators, lists and bodies, where a run reaches their parts.
-use Rattle.std.proofs.Common.{◌≡◌, ℕ, ◌⊎◌, false, List, [], ◌∷◌, ◌++◌, length, refl, sym, ◌∙◌, subst, ⊎_elim}
+use Rattle.std.proofs.Common.{◌≡◌, ℕ, ◌+◌, ◌≤◌, ◌⊎◌, arith, false, List, [], ◌∷◌, ◌++◌, length, refl, sym, ◌∙◌, subst, ⊎_elim}
 use Rattle.std.proofs.lemmas.Option.{same_Some}
 use Rattle.tags.specs.declared.value.Value.{Value}
 use Rattle.tags.specs.declared.value.Value.TheVariants.{Int}
@@ -14,7 +14,7 @@ use Rattle.source.specs.Fits.{Fits, IsLeast}
 use Rattle.source.specs.Outside.{without, bound_by, uses, list_uses, body_uses}
 use Rattle.source.specs.Evaluates.{Env, Stores, let_in, Evaluates, EvaluatesAll, Runs, number, named, bracket, prefix, one, more, lets, does}
 use Rattle.source.specs.Evaluates.{gives, chain, signed}
-use Rattle.source.specs.Lowered.{Lowered, Site, Spot, Scope, source_in, made, only, joined, followed, ended, prefixed, let_scoped, lower}
+use Rattle.source.specs.Lowered.{Made, Lowered, Site, Spot, Scope, source_in, made, only, joined, followed, ended, prefixed, let_scoped, lower}
 use Rattle.source.specs.Lowered.{lower_list, lower_body, spot_after}
 use Rattle.source.proofs.Kept.{in_prefix, in_more, in_let, in_do}
 use Rattle.source.proofs.Counting.{list_count}
@@ -22,30 +22,51 @@ use Rattle.law_language.proofs.MeansHaving.{have_both}
 use Rattle.law_language.proofs.MeansNamesAgree.{agrees_split, agrees_let}
 use Rattle.law_language.proofs.MeansLeaves.{append_nothing}
 use Rattle.law_ordered_runs.specs.InOrder.{touches, list_touches, body_touches}
+use Rattle.law_ordered_runs.proofs.Doing.{does_then}
 use Rattle.law_ordered_runs.proofs.Extending.{on_then}
 use Rattle.law_ordered_runs.proofs.Memory.{fills, list_fills, ready_first, ready_then, changed_both}
 use Rattle.law_ordered_runs.proofs.Staying.{have_on, agrees_on, active_on}
-use Rattle.law_ordered_runs.proofs.Reaching.{Land, RunOf, flow, world_of, cells_of, HaveX, ActiveX, Reaches, ExprReaches, ListReaches}
-use Rattle.law_ordered_runs.proofs.Reaching.{BodyReaches, there_already, first_in, rest_in, ending, line_says}
+use Rattle.law_ordered_runs.proofs.Reaching.{Land, RunOf, flow, world_of, cells_of, HasX, HaveX, ActiveX, Reaches, ExprReaches, ListReaches}
+use Rattle.law_ordered_runs.proofs.Reaching.{reaches_to, after_both, BodyReaches, there_already, first_in, rest_in, ending, line_says}
 
 -- ONE PART AFTER ANOTHER, with the values of both, or of the second
-pub both_reached : (z : Land) (x : RunOf z) (c : Context) (ls ks : List Source) (vs us : List Value) (ss qs : Stores) (r : Reaches z x c ls vs ss)
-    → Reaches z r.to c ks us qs → Reaches z x c (ls ++ ks) (vs ++ us) (ss ++ qs)
-both_reached z x c ls ks vs us ss qs r q = record {
-  to = q.to;
-  on = on_then z.graph z.inputs z.well z.count x r.to q.to r.on q.on;
-  have = have_both (flow z) z.inputs q.to.run q.to.state q.to.is_run c ls ks vs us (have_on z.graph z.inputs z.well z.count r.to q.to q.on c ls vs r.have) q.have;
-  changed = changed_both (cells_of z x) (cells_of z r.to) (cells_of z q.to) ss qs q.on.cells r.changed q.changed;
-}
+module _ (z : Land) (x : RunOf z) (c : Context) (lo mid hi : ℕ) (below : lo ≤ mid) (above : mid ≤ hi) where
+  pub both_reached : (ls ks : List Source) (vs us : List Value) (ss qs : Stores) (r : Reaches z x c lo mid ls vs ss)
+      → Reaches z r.to c mid hi ks us qs → Reaches z x c lo hi (ls ++ ks) (vs ++ us) (ss ++ qs)
+  both_reached ls ks vs us ss qs r q = record {
+    to = q.to;
+    on = on_then z.graph z.inputs z.well z.count x r.to q.to r.on q.on;
+    does = does_then z.graph z.inputs z.well z.count x r.to q.to c lo mid hi below above q.on r.does q.does;
+    have = have_both (flow z) z.inputs q.to.run q.to.state q.to.is_run c ls ks vs us
+        (have_on z.graph z.inputs z.well z.count r.to q.to q.on c ls vs r.have) q.have;
+    changed = changed_both (cells_of z x) (cells_of z r.to) (cells_of z q.to) ss qs q.on.cells r.changed q.changed;
+  }
 
-pub second_reached : (z : Land) (x : RunOf z) (c : Context) (ls ks : List Source) (vs us : List Value) (ss qs : Stores) (r : Reaches z x c ls vs ss)
-    → Reaches z r.to c ks us qs → Reaches z x c ks us (ss ++ qs)
-second_reached z x c ls ks vs us ss qs r q = record {
-  to = q.to;
-  on = on_then z.graph z.inputs z.well z.count x r.to q.to r.on q.on;
-  have = q.have;
-  changed = changed_both (cells_of z x) (cells_of z r.to) (cells_of z q.to) ss qs q.on.cells r.changed q.changed;
-}
+  pub second_reached : (ls ks : List Source) (vs us : List Value) (ss qs : Stores) (r : Reaches z x c lo mid ls vs ss)
+      → Reaches z r.to c mid hi ks us qs → Reaches z x c lo hi ks us (ss ++ qs)
+  second_reached ls ks vs us ss qs r q = record {
+    to = q.to;
+    on = on_then z.graph z.inputs z.well z.count x r.to q.to r.on q.on;
+    does = does_then z.graph z.inputs z.well z.count x r.to q.to c lo mid hi below above q.on r.does q.does;
+    have = q.have;
+    changed = changed_both (cells_of z x) (cells_of z r.to) (cells_of z q.to) ss qs q.on.cells r.changed q.changed;
+  }
+
+-- of the nodes of two parts
+module _ (z : Land) (x : RunOf z) (c : Context) (lo : ℕ) (ms ns : List Made) where
+  pub both_parts : (ls ks : List Source) (vs us : List Value) (ss qs : Stores) (r : Reaches z x c lo (lo + length ms) ls vs ss)
+      → Reaches z r.to c (lo + length ms) (lo + length ms + length ns) ks us qs
+      → Reaches z x c lo (lo + length (ms ++ ns)) (ls ++ ks) (vs ++ us) (ss ++ qs)
+  both_parts ls ks vs us ss qs r q =
+      reaches_to z x c lo (lo + length ms + length ns) (lo + length (ms ++ ns)) (ls ++ ks) (vs ++ us) (ss ++ qs) (after_both lo ms ns)
+      (both_reached z x c lo (lo + length ms) (lo + length ms + length ns) (omega arith) (omega arith) ls ks vs us ss qs r q)
+
+  pub second_part : (ls ks : List Source) (vs us : List Value) (ss qs : Stores) (r : Reaches z x c lo (lo + length ms) ls vs ss)
+      → Reaches z r.to c (lo + length ms) (lo + length ms + length ns) ks us qs
+      → Reaches z x c lo (lo + length (ms ++ ns)) ks us (ss ++ qs)
+  second_part ls ks vs us ss qs r q =
+      reaches_to z x c lo (lo + length ms + length ns) (lo + length (ms ++ ns)) ks us (ss ++ qs) (after_both lo ms ns)
+      (second_reached z x c lo (lo + length ms) (lo + length ms + length ns) (omega arith) (omega arith) ls ks vs us ss qs r q)
 
 -- sources with one value are one
 pub record OneSource (z : Land) (x : RunOf z) (c : Context) (ss : List Source) : Type 0 where
@@ -59,16 +80,27 @@ one_source z x c (s ∷ t ∷ ss) v h = absurd h.1
 
 module _ (z : Land) (c : Context) where
   -- LEAVES
+  nothing_more : (spot : Spot) → spot.next ≡ spot.next + length (only []).nodes
+  nothing_more spot = omega arith
+
+  triggered : (x : RunOf z) (site : Site) (spot : Spot) (v : Value) → HasX z x c site.trigger v
+      → Reaches z x c spot.next (spot.next + length (only []).nodes) (site.trigger ∷ []) (v ∷ []) []
+  triggered x site spot v h =
+      reaches_to z x c spot.next spot.next (spot.next + length (only []).nodes) (site.trigger ∷ []) (v ∷ []) [] (nothing_more spot)
+      (there_already z x c spot.next (site.trigger ∷ []) (v ∷ []) (h, tt))
+
   pub reaches_number : {env : Env} {t k : ℕ} {vs : List Value} {ss : Stores} (d : Evaluates (world_of z) env (Number t k) vs ss) → ExprReaches z c d
   reaches_number {t = t} {k = k} number x site spot scope names n fits rule h known ready =
       line_says z x c site spot (only []) t (node.Lit (signed k)) (site.trigger ∷ []) (h.trigger ∷ []) (Int (signed k)) []
-      (ending z x c site spot (only []) t (node.Lit (signed k)) (site.trigger ∷ []) 1 h)
-      (there_already z x c (site.trigger ∷ []) (h.trigger ∷ []) (h.triggered, tt)) refl
+      (ending z x c site spot (only []) t (node.Lit (signed k)) (site.trigger ∷ []) 1 h) tt
+      (triggered x site spot h.trigger h.triggered) refl
 
   pub reaches_named : {env : Env} {t : ℕ} {y : Name} {vs : List Value} {ss : Stores} (d : Evaluates (world_of z) env (Named t y) vs ss) → ExprReaches z c d
   reaches_named {y = y} (named {v = v} b) x site spot scope names n fits rule h known ready =
       let same : known.0.0 ≡ v = same_Some known.0.0 v (sym known.0.1 ∙ b) in
-      there_already z x c (source_in scope y ∷ []) (v ∷ []) (subst (λ v. HaveX z x c (source_in scope y ∷ []) (v ∷ [])) same (known.0.2, tt))
+      reaches_to z x c spot.next spot.next (spot.next + length (only []).nodes) (source_in scope y ∷ []) (v ∷ []) [] (nothing_more spot)
+      (there_already z x c spot.next (source_in scope y ∷ []) (v ∷ [])
+      (subst (λ v. HaveX z x c (source_in scope y ∷ []) (v ∷ [])) same (known.0.2, tt)))
 
   pub reaches_bracket : {env : Env} {e : Expr} {vs : List Value} {ss : Stores} (d : Evaluates (world_of z) env e vs ss) → ExprReaches z c d
       → ExprReaches z c (bracket d)
@@ -79,8 +111,8 @@ module _ (z : Land) (c : Context) where
       → ExprReaches z c (prefix {t = at} {op = Neg} d)
   negated at u k number x site spot scope names n fits rule h known ready =
       line_says z x c site spot (only []) at (node.Lit (on_int Neg (signed k))) (site.trigger ∷ []) (h.trigger ∷ []) (apply1 Neg (Int (signed k))) []
-      (ending z x c site spot (only []) at (node.Lit (on_int Neg (signed k))) (site.trigger ∷ []) 1 h)
-      (there_already z x c (site.trigger ∷ []) (h.trigger ∷ []) (h.triggered, tt)) refl
+      (ending z x c site spot (only []) at (node.Lit (on_int Neg (signed k))) (site.trigger ∷ []) 1 h) tt
+      (triggered x site spot h.trigger h.triggered) refl
 
   prefixed_reaches : {env : Env} {v : Value} {ss : Stores} (at : ℕ) (op : Unary) (e : Expr) (d : Evaluates (world_of z) env e (v ∷ []) ss)
       → ((site : Site) (spot : Spot) (l : Lowered) → prefixed site spot at op e l ≡ ended site spot l at (node.Apply1 op) l.sources 1)
@@ -94,9 +126,9 @@ module _ (z : Land) (c : Context) where
       let before : ActiveX z x c site spot l = first_in z x c site spot l m (made site at (node.Apply1 op) l.sources ∷ []) [] refl
       (sym (append_nothing l.blocks)) here in
       let r = means x site spot scope names 1 (fit fits.1) rules.0.values before known ready in
-      subst (λ (m : Lowered). Reaches z x c m.sources (apply1 op v ∷ []) ss) (sym same)
+      subst (λ (m : Lowered). Reaches z x c spot.next (spot.next + length m.nodes) m.sources (apply1 op v ∷ []) ss) (sym same)
       (line_says z x c site spot l at (node.Apply1 op) l.sources (v ∷ []) (apply1 op v) ss
-      (ending z x c site spot l at (node.Apply1 op) l.sources 1 here) r refl)
+      (ending z x c site spot l at (node.Apply1 op) l.sources 1 here) tt r refl)
 
   pub reaches_prefix : {env : Env} {v : Value} {ss : Stores} (at : ℕ) (op : Unary) (e : Expr) (d : Evaluates (world_of z) env e (v ∷ []) ss)
       → ExprReaches z c d → ExprReaches z c (prefix {t = at} {op = op} d)
@@ -136,7 +168,7 @@ module _ (z : Land) (c : Context) where
       (active_on z.graph z.inputs z.well z.count x r.to r.on z.program z.origin c site (spot_after spot l) k behind)
       (agrees_on z.graph z.inputs z.well z.count x r.to r.on c scope env (list_uses es) agree.1)
       (ready_then z.memory (cells_of z x) (cells_of z r.to) ss qs (touches d) (list_touches g) ready r.on.cells r.changed (fills d)) in
-      both_reached z x c l.sources k.sources vs us ss qs r q
+      both_parts z x c spot.next l.nodes k.nodes l.sources k.sources vs us ss qs r q
 
   -- BODIES
   pub reaches_give : {env : Env} {es : Exprs} {vs : List Value} {ss : Stores} (d : EvaluatesAll (world_of z) env es vs ss) → ListReaches z c d
@@ -162,7 +194,7 @@ module _ (z : Land) (c : Context) where
       (active_on z.graph z.inputs z.well z.count x r.to r.on z.program z.origin c site (spot_after spot l) k behind)
       (agrees_on z.graph z.inputs z.well z.count x r.to r.on c scope env (body_uses rest) agree.1)
       (ready_then z.memory (cells_of z x) (cells_of z r.to) ss us (list_touches d) (body_touches g) ready r.on.cells r.changed (list_fills d)) in
-      second_reached z x c l.sources k.sources vs rs ss us r q
+      second_part z x c spot.next l.nodes k.nodes l.sources k.sources vs rs ss us r q
 
   pub reaches_let : {env : Env} {vs rs : List Value} {ss us : Stores} (at : ℕ) (targets : List Target) (es : Exprs) (rest : Body)
       (d : EvaluatesAll (world_of z) env es vs ss) (g : Runs (world_of z) (let_in targets vs env) rest rs us) → ListReaches z c d → BodyReaches z c g
@@ -184,4 +216,4 @@ module _ (z : Land) (c : Context) where
       let q = means r.to site (spot_after spot l) inner (bound_by targets ++ names) n false fits.2 rules.2
       (active_on z.graph z.inputs z.well z.count x r.to r.on z.program z.origin c site (spot_after spot l) k behind) bound
       (ready_then z.memory (cells_of z x) (cells_of z r.to) ss us (list_touches d) (body_touches g) ready r.on.cells r.changed (list_fills d)) in
-      second_reached z x c l.sources k.sources vs rs ss us r q
+      second_part z x c spot.next l.nodes k.nodes l.sources k.sources vs rs ss us r q

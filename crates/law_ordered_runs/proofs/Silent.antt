@@ -10,7 +10,7 @@ use Rattle.semantics.specs.declared.graph.Region.TheVariants.{Root, Arm}
 use Rattle.semantics.specs.declared.graph.Source.{Source}
 use Rattle.semantics.specs.declared.graph.Kind.{Kind}
 use Rattle.semantics.specs.declared.graph.Kind.TheVariants.{Lit, Apply1, Apply2, Cond, Enter, Merge, Fetch, Store, Call, StrictCall, Loop}
-use Rattle.semantics.specs.Graph.{Graph, Node, Block, Flow, flow_of, node_at, node_count}
+use Rattle.semantics.specs.Graph.{Graph, Node, Block, Flow, flow_of, node_at, node_count, array_names, block_names, resolved_kind}
 use Rattle.semantics.specs.WellFormed.{WellFormed}
 use Rattle.semantics.specs.Meaning.{Context, Called, Turned, AtNode, Operand, Predicate, Tagged, tagged, Activity, Fires, Gates, Passes, Deed, Sends, taken, deed, fired}
 use Rattle.semantics.specs.Meaning.{passed, gated, block_of, block_number, block_numbered, node_of, ArmsTaken, arm_of, arms_round, arms_at, IsCall, IsLoop}
@@ -23,11 +23,15 @@ use Rattle.law_confluence.proofs.OutcomeResolved.{flow_well}
 use Rattle.law_confluence.proofs.EquationsGraphForms.{IsBlock, IsCondAt, HasForm, line_below}
 use Rattle.law_confluence.proofs.EquationsGraphFormed.{shaped}
 use Rattle.law_confluence.proofs.EquationsProgressInvocations.{merge_form}
-use Rattle.law_language.proofs.MeansLies.{Inside, Here, Further}
+use Rattle.source.specs.Tree.{Name, Program}
+use Rattle.source.specs.Lowered.{Made}
+use Rattle.law_language.specs.MeansHolds.{resolved}
+use Rattle.law_language.proofs.MeansLies.{Inside, Here, Further, LieIn, HoldsMade}
+use Rattle.law_ordered_runs.proofs.EntersPast.{Past}
 use Rattle.law_ordered_runs.proofs.Extending.{Going, Came, On}
 use Rattle.law_ordered_runs.proofs.Origins.{DueIn, Comes, some_operand, happened_at, operand_source, lawful, one_token, taken_came}
 use Rattle.law_ordered_runs.proofs.Closing.{AtLine, AsFires, AsGates, AsPasses, fires_line, gates_line, passes_line, Closes, ClosesLine, ClosesIn, closes_node}
-use Rattle.law_ordered_runs.proofs.Closing.{closes_never}
+use Rattle.law_ordered_runs.proofs.Closing.{closes_never, closes_none, closes_both}
 
 pub block_shaped : (g : Graph) → WellFormed g → (c : Context) (b : Block ℕ) → block_of (flow_of g) c ≡ Some b → IsBlock (flow_of g) b
 block_shaped g well c b e = go (block_number (flow_of g) c) e
@@ -241,3 +245,31 @@ module _ (g : Graph) (inputs : List ℤ) (well : WellFormed g) (count : AreInput
         side_is false t at r er law (suc zero) ej = here (at ∙ ej)
         side_is on_side t at r er law (suc (suc m)) ej =
             let none = sym (ap (λ ss. slice_get ss (suc (suc m))) form.2) ∙ ap (λ i. slice_get line.sources i) ej ∙ er in absurd (cc)
+
+-- MANY LINES of an arm that is not taken
+resolved_enter : (arrays blocks : List Name) (kind : Kind Name) → resolved_kind arrays blocks kind ≡ Enter → kind ≡ Enter
+resolved_enter arrays blocks Enter e = refl
+resolved_enter arrays blocks (Lit z) e = cc
+resolved_enter arrays blocks (Apply1 op) e = cc
+resolved_enter arrays blocks (Apply2 op) e = cc
+resolved_enter arrays blocks Cond e = cc
+resolved_enter arrays blocks (Merge k) e = cc
+resolved_enter arrays blocks (Fetch a) e = cc
+resolved_enter arrays blocks (Store a) e = cc
+resolved_enter arrays blocks (Call f) e = cc
+resolved_enter arrays blocks (StrictCall f) e = cc
+resolved_enter arrays blocks (Loop f k) e = cc
+
+pub silent_lines : (g : Graph) (inputs : List ℤ) (well : WellFormed g) (count : AreInputsOf g inputs) (p : Program) (c : Context) (b : Block ℕ)
+    (eb : block_of (flow_of g) c ≡ Some b) (x : Going g inputs) (k : ℕ) (w : Value) (happened : Contains x.run (Fires c k (w ∷ []))) (side : Bool)
+    → (truth w ≡ side → ⊥) → (n : ℕ) (ms : List Made) → HoldsMade p g b n ms → LieIn b (Arm k side) ms → Each (Past p (k + 1)) ms
+    → Closes g inputs well count x c n (n + length ms)
+silent_lines g inputs well count p c b eb x k w happened side other n [] lines lies past =
+    subst (λ hi. Closes g inputs well count x c n hi) (omega arith) (closes_none g inputs well count x c n)
+silent_lines g inputs well count p c b eb x k w happened side other n (m ∷ ms) lines lies past =
+    subst (λ hi. Closes g inputs well count x c n hi) (omega arith)
+    (closes_both g inputs well count x c n (n + 1) (n + 1 + length ms)
+    (silent_line g inputs well count c b eb x k w happened side other n (resolved g m) lines.0 lies.0
+    (silent_own g inputs well count c b eb x k w happened side other n (resolved g m) lines.0 lies.0
+    (λ e f. (let low = past.0 k side (resolved_enter (array_names g) (block_names g) m.node.kind e) f in omega (arith, low)))))
+    (silent_lines g inputs well count p c b eb x k w happened side other (n + 1) ms lines.1 lies.1 past.1))
