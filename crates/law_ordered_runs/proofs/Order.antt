@@ -105,7 +105,7 @@ comparable b c (Turned d n t) (inr h) (inl k) = inl (subst (λ c. IsIn b c) (sym
 comparable b c (Turned d n t) (inr h) (inr k) = comparable b c d h k
 
 -- in one iteration of a loop only
-turns_alike : (c d : Context) (n m t u : ℕ) → Turned c n t ≡ Turned d m u → (c ≡ d) × (n ≡ m) × (t ≡ u)
+pub turns_alike : (c d : Context) (n m t u : ℕ) → Turned c n t ≡ Turned d m u → (c ≡ d) × (n ≡ m) × (t ≡ u)
 turns_alike c d n m t u e = (ap by_of e, ap node_of_it e, ap turn_of e)
   where
     by_of : Context → Context
