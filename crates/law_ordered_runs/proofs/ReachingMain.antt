@@ -1,20 +1,28 @@
 -- A program that reads each cell behind the store that fills it: its meaning reaches what it computes.
 use Rattle.std.proofs.Common.{◌≡◌, ℕ, zero, suc, ◌+◌, ◌<◌, ◌⊎◌, inl, inr, ℤ, Bool, false, List, [], ◌∷◌, ◌++◌, length, map, Option, Some, None, Contains, ◌↔◌, refl}
 use Rattle.std.proofs.Common.{sym, ap, ◌∙◌, subst, arith, ⊎_elim, eq-eqb, if◌then◌else◌}
-use Rattle.std.specs.Prelude.{slice_get}
+use Rattle.std.specs.Prelude.{⊤, slice_get}
 use Rattle.std.proofs.lemmas.List.{length-map}
-use Rattle.std.proofs.lemmas.Option.{same_Some}
+use Rattle.std.proofs.lemmas.Option.{same_Some, slice_get_within}
 use Rattle.tags.specs.declared.value.Value.{Value}
 use Rattle.tags.specs.declared.value.Value.TheVariants.{Int}
 use Rattle.semantics.specs.declared.graph.Source.{Source}
-use Rattle.semantics.specs.Graph.{Graph, Block, flow_of, node_count, place_of, block_names}
+use Rattle.semantics.specs.Graph.{Graph, Block, Flow, flow_of, node_count, place_of, block_names}
 use Rattle.semantics.specs.WellFormed.{WellFormed}
 use Rattle.semantics.specs.Meaning as Meaning
-use Rattle.semantics.specs.Meaning.{Main, AtNode, AtOut, Operand, tagged, Tagged, State, Effect, Activity, Outputs, Puts, taken, deed, done, Run, Reached, Stood, block_of, start}
+use Rattle.semantics.specs.Meaning.{Context, Main, Called, Turned, AtNode, AtOut, Operand, tagged, Tagged, State, Effect, Activity, Outputs, Puts, taken, deed, done, Run, Reached, Stood, block_of, start}
 use Rattle.semantics.specs.Meaning.{with_output, adds}
 use Rattle.semantics.specs.Faithful.{inputs_in}
 use Rattle.lemmas.proofs.Contains.{contains_none, contains_cases}
-use Rattle.lemmas.proofs.Permutations.{within_to}
+use Rattle.lemmas.proofs.Permutations.{each_from, put_first, within_to}
+use Rattle.lemmas.proofs.SliceGet.{get_some}
+use Rattle.law_confluence.specs.Equations.{HasSome}
+use Rattle.law_confluence.specs.EquationsHave.{result_in}
+use Rattle.law_confluence.specs.EquationsSettled.{Settled}
+use Rattle.law_confluence.proofs.Equations.{runs_at_rest}
+use Rattle.law_confluence.proofs.EquationsNoneWaits.{none_waits}
+use Rattle.law_language.proofs.MeansHaving.{have_length}
+use Rattle.source.specs.Theorem.{RestsWell}
 use Rattle.law_confluence.specs.Outcome.{AreInputsOf}
 use Rattle.law_confluence.proofs.ActivityDiamond.{deed_of}
 use Rattle.law_confluence.proofs.OutcomeDeterminacy.{same_refl}
@@ -39,14 +47,20 @@ use Rattle.law_language.proofs.MeansNamesAgree.{agrees_each, known_in}
 use Rattle.law_language.proofs.MeansOriginsTraced.{origins_are_traced}
 use Rattle.law_language.proofs.MeansPlaced.{places_from_origins}
 use Rattle.law_language.proofs.MeansTexts.{tokens_rise, spellings_differ}
-use Rattle.law_ordered_runs.specs.InOrder.{Touch, Reads, Fills, body_touches, ProgramsReach}
+use Rattle.law_ordered_runs.specs.InOrder as ordered
+use Rattle.law_ordered_runs.specs.InOrder.{IsIn, OneAfterAnother, Touch, Reads, Fills, body_touches, ProgramsReach, ProgramsRunInOrder}
+use Rattle.law_ordered_runs.proofs.Order.{seat, Under, InOrder, one_after_another}
+use Rattle.law_ordered_runs.proofs.Origins.{Comes, result_source, happened_at}
+use Rattle.law_ordered_runs.proofs.Closing.{AsReturns, AsTurns, AsOutputs, Closes, ClosesIn, ClosesEnd, closes_on, closes_whole}
+use Rattle.law_ordered_runs.proofs.Doing.{adds_none, adds_one, adds_then, does_then, does_to, precedes_at, precedes_behind}
+use Rattle.law_ordered_runs.proofs.GoingOn.{closed_runs_rest}
 use Rattle.law_ordered_runs.proofs.Extending.{Extended, on_same, on_then}
 use Rattle.law_ordered_runs.proofs.Lines.{output_happens}
 use Rattle.law_ordered_runs.proofs.Memory.{ReadsFull, Ready, Changed, apart_from, fills_none, ready_then, changed_none, changed_same}
 use Rattle.law_ordered_runs.proofs.Staying.{have_on}
 use Rattle.law_ordered_runs.proofs.UsesSent.{result_came}
-use Rattle.law_ordered_runs.proofs.Reaching.{Land, RunOf, flow, world_of, cells_of, HasX, HaveX, ActiveX, OnX}
-use Rattle.law_ordered_runs.proofs.ReachingCalls.{inputs_pass, all_arrived}
+use Rattle.law_ordered_runs.proofs.Reaching.{Land, RunOf, flow, world_of, cells_of, HasX, HaveX, ActiveX, OnX, AddsX, DoesX}
+use Rattle.law_ordered_runs.proofs.ReachingCalls.{inputs_pass, all_arrived, value_at}
 use Rattle.law_ordered_runs.proofs.ReachingAll.{body}
 
 -- READS BEHIND STORES, part by part
@@ -94,16 +108,29 @@ puts_full g inputs well count s t before (b ∷ later) p q j v h =
         run_outputs (flow_of g) inputs (λ s r k. each_place_once g well inputs count s r k) q.0 t (before ++ b ∷ []) later so_far q.2 j v
         (ap (λ (m : Meaning.Memory). m.outputs j) (q.1.memory ∙ sym put) ∙ ap (λ (t : Bool). if t then Some v else s.memory.outputs j) (eq-eqb j j refl))
 
+-- everything takes place in main
+in_main : (d : Context) → IsIn Main d
+in_main Main = refl
+in_main (Called d n) = inr (in_main d)
+in_main (Turned d n t) = inr (in_main d)
+
 -- THE RESULTS OF MAIN become outputs, one by one.
 record PutOut (z : Land) (x : RunOf z) (j : ℕ) (vs : List Value) : Type 0 where
   pub to : RunOf z
   pub on : OnX z x to
+  pub adds : AddsX z x to (λ a. ordered.place_of a ≡ Main)
   pub cells : cells_of z to ≡ cells_of z x
   pub put : (i : ℕ) (v : Value) → slice_get vs i ≡ Some v → Contains to.run (Outputs (j + i) v)
 
 results_put : (z : Land) (b : Block ℕ) → block_of (flow z) Main ≡ Some b → (x : RunOf z) (j : ℕ) (ss : List Source) (vs : List Value)
     → ((i : ℕ) (s : Source) → slice_get ss i ≡ Some s → slice_get b.results (j + i) ≡ Some s) → HaveX z x Main ss vs → PutOut z x j vs
-results_put z b eb x j [] [] at h = record { to = x; on = on_same z.graph z.inputs z.well z.count x; cells = refl; put = λ i v e. cc }
+results_put z b eb x j [] [] at h = record {
+  to = x;
+  on = on_same z.graph z.inputs z.well z.count x;
+  adds = adds_none z.graph z.inputs z.well z.count x (λ a. ordered.place_of a ≡ Main);
+  cells = refl;
+  put = λ i v e. cc;
+}
 results_put z b eb x j [] (v ∷ vs) at h = absurd h
 results_put z b eb x j (s ∷ ss) [] at h = absurd h
 results_put z b eb x j (s ∷ ss) (v ∷ vs) at h =
@@ -114,10 +141,15 @@ results_put z b eb x j (s ∷ ss) (v ∷ vs) at h =
     record {
       to = q.to;
       on = on_then z.graph z.inputs z.well z.count x e.to q.to e.on q.on;
+      adds = adds_then z.graph z.inputs z.well z.count x e.to q.to P P P (adds_one z.graph z.inputs z.well z.count x (Outputs j v) (Puts j v) P e refl) q.adds
+          (λ a b p k. precedes_at Main a b p (in_main (seat b))) (λ a p. p) (λ a p. p);
       cells = q.cells ∙ cells_same e;
       put = λ i w f. which e q i w f;
     }
   where
+    P : Activity → Type 0
+    P a = ordered.place_of a ≡ Main
+
     cells_same : (e : Extended z.graph z.inputs z.well z.count x (Outputs j v) (Puts j v)) → cells_of z e.to ≡ cells_of z x
     cells_same e =
         ⊎_elim (λ h. ap (λ (m : Meaning.Memory). m.cells) h) (λ (h : (E : Effect) × (done (flow z) x.state.memory (Puts j v) ≡ Some E)
@@ -134,10 +166,18 @@ results_put z b eb x j (s ∷ ss) (v ∷ vs) at h =
 functions_are_placed : FunctionsArePlaced
 functions_are_placed = places_from_origins origins_are_traced
 
--- MAIN, from the start
+abbrev results_at : Option (Block ℕ) → List Source
+results_at None = []
+results_at (Some b) = b.results
+
+-- MAIN, from the start to rest
 record MainReached (z : Land) (rs : List Value) (us : Stores) : Type 0 where
+  pub run : List Activity
   pub state : State
-  pub reached : Reached (flow z) z.inputs state
+  pub is_run : Run (flow z) (start z.inputs) run state
+  pub rests : RestsWell (flow z) z.inputs state
+  pub ordered : OneAfterAnother run
+  pub many : length rs ≡ length (results_at (block_of (flow z) Main))
   pub changed : Changed (λ x. None) state.memory.cells us
   pub outputs : (j : ℕ) (v : Value) → slice_get rs j ≡ Some v → state.memory.outputs j ≡ Some v
 
@@ -161,6 +201,26 @@ module _ (z : Land) (f : Function) (named : function_in z.program main_name ≡ 
 
   as_many : length z.inputs ≡ length f.params
   as_many = z.count ∙ ap inputs_in main_is
+
+  whole_main : length f.params + length own.nodes ≡ node_count to
+  whole_main = let n = ap length (resolved_all z.graph own.nodes) ∙ length-map own.nodes (resolved z.graph) in omega (arith, n)
+
+  main_closed : (u v : RunOf z) → OnX z u v → Closes z.graph z.inputs z.well z.count u Main 0 (node_count to)
+      → ((j : ℕ) (s : Source) → slice_get own.sources j ≡ Some s → (w : Value) × Contains v.run (Outputs j w))
+      → ClosesIn z.graph z.inputs z.well z.count v Main
+  main_closed u v on lines put =
+      closes_whole z.graph z.inputs z.well z.count v Main to main_is (closes_on z.graph z.inputs z.well z.count u v on Main 0 (node_count to) lines) end
+    where
+      end : ClosesEnd z.graph z.inputs z.well z.count v Main
+      end y more a k (AsReturns e m j w ed ea) = absurd (cc)
+      end y more a k (AsTurns e m i j w q ed ea) = absurd (cc)
+      end y more a k (AsOutputs j w ed ea) =
+          let i = subst (λ a. Comes z.graph z.inputs z.well z.count y a) ea k in
+          let s = result_source z.graph z.inputs z.well z.count y Main to j w main_is i.came.0 in
+          let h = put j s.0 s.1 in
+          subst (λ a. Contains y.run a) (sym ea)
+          (happened_at z.graph z.inputs z.well z.count y (Outputs j w) (Outputs j h.0) i (more.kept _ h.1) (tagged Main (AtOut j) (Operand 0) h.0)
+          (tagged Main (AtOut j) (Operand 0) w) (_, put_first _ _) (_, put_first _ _) (refl, refl, refl))
 
   main_reached : {rs : List Value} {us : Stores} (g : Runs (world_of z) (entered f.params arguments []) f.body rs us)
       → Ready z.memory (λ x. None) us (body_touches g) → MainReached z rs us
@@ -197,9 +257,25 @@ module _ (z : Land) (f : Function) (named : function_in z.program main_name ≡ 
       let r = body z g Main w (turn_site f.name.name) (main_spot f) (function_scope f) (bare f.params) (written_or_one f.results) false good.fits good.values
       stands knows (ready_then z.memory (λ x. None) (cells_of z w) [] us [] (body_touches g) ready ins.quietly.on.cells same (fills_none [])) in
       let q = results_put z to main_is r.to 0 own.sources rs (λ i s e. subst (λ k. slice_get own.sources k ≡ Some s) (omega arith) e) r.have in
+      let lines : DoesX z first r.to Main 0 (node_count to) =
+      does_to z.graph z.inputs z.well z.count first r.to Main 0 (length f.params + length own.nodes) (node_count to) whole_main
+      (does_then z.graph z.inputs z.well z.count first w r.to Main 0 (length f.params) (length f.params + length own.nodes) (omega arith) (omega arith) r.on
+      (does_to z.graph z.inputs z.well z.count first w Main 0 (0 + length f.params) (length f.params) (omega arith) ins.does) r.does) in
+      let all : AddsX z first q.to (λ a. ⊤) =
+      adds_then z.graph z.inputs z.well z.count first r.to q.to (λ a. Under Main 0 (node_count to) (seat a)) (λ a. ordered.place_of a ≡ Main) (λ a. ⊤) lines.adds
+      q.adds (λ a b p k. precedes_behind Main a b k (in_main (seat a))) (λ a p. tt) (λ a p. tt) in
+      let everything = main_closed r.to q.to q.on lines.closed
+      (λ j s e. (let v = value_at z r.to Main own.sources rs j s r.have e in
+      (v.0, subst (λ k. Contains q.to.run (Outputs k v.0)) (omega arith) (q.put j v.0 v.1)))) in
       record {
+        run = q.to.run;
         state = q.to.state;
-        reached = record { run = q.to.run; is_run = q.to.is_run };
+        is_run = q.to.is_run;
+        rests = closed_runs_rest z.graph z.inputs z.well z.count q.to.run q.to.state q.to.is_run
+            (λ a d e h. everything q.to (on_same z.graph z.inputs z.well z.count q.to) a
+            (record { does = d; is_deed = e; came = each_from _ (taken a) (λ t k. h t (within_to t (taken a) k)) }) (in_main (ordered.place_of a)));
+        ordered = one_after_another q.to.run (subst InOrder (sym all.is) all.ordered);
+        many = sym (have_length (flow z) z.inputs r.to.run r.to.state r.to.is_run Main own.sources rs r.have) ∙ sym (ap (λ o. length (results_at o)) main_is);
         changed = changed_same (λ x. None) (cells_of z r.to) (cells_of z q.to) us (sym q.cells)
             (subst (λ old. Changed old (cells_of z r.to) us) ins.quietly.cells r.changed);
         outputs = λ j v e. puts_full z.graph z.inputs z.well z.count (start z.inputs) q.to.state [] q.to.run (same_refl (start z.inputs)) q.to.is_run j v
@@ -224,8 +300,33 @@ cells_same m new us filled changed x = go (m x) refl
         none_some : (v : Value) → None ≡ Some v → ⊥
         none_some v d = cc
 
-pub programs_reach : ProgramsReach
-programs_reach text p g origin low well inputs count m k behind =
+-- no other outputs
+outputs_same : (fl : Flow) (inputs : List ℤ) (run : List Activity) (s : State) (r : Run fl (start inputs) run s) → Settled fl inputs run s r → (rs : List Value)
+    → length rs ≡ length (results_at (block_of fl Main)) → ((j : ℕ) (v : Value) → slice_get rs j ≡ Some v → s.memory.outputs j ≡ Some v) → (j : ℕ)
+    → s.memory.outputs j ≡ slice_get rs j
+outputs_same fl inputs run s r st rs many put j = go (slice_get rs j) (s.memory.outputs j) refl refl
+  where
+    low : (o : Option (Block ℕ)) (v : Value) → HasSome fl inputs run s r Main (result_in o j) v → j < length (results_at o)
+    low None v h = absurd h
+    low (Some b) v h = below (slice_get b.results j) refl h
+      where
+        below : (o : Option Source) → slice_get b.results j ≡ o → HasSome fl inputs run s r Main o v → j < length b.results
+        below None e h = absurd h
+        below (Some x) e h = slice_get_within b.results j x e
+
+    go : (o p : Option Value) → slice_get rs j ≡ o → s.memory.outputs j ≡ p → s.memory.outputs j ≡ slice_get rs j
+    go (Some v) p e f = put j v e ∙ sym e
+    go None None e f = f ∙ sym e
+    go None (Some v) e f =
+        let less = low (block_of fl Main) v (st.outputs_results j v f) in
+        let some = get_some rs j (omega (arith, less, many)) in
+        absurd (none_some some.0 (sym e ∙ some.1))
+      where
+        none_some : (v : Value) → None ≡ Some v → ⊥
+        none_some v d = cc
+
+pub programs_run_in_order : ProgramsRunInOrder
+programs_run_in_order text p g origin low well inputs count m k behind =
     let apart : IsLoweredApart p g origin =
     record { lowered = low.lowered; apart = spellings_differ text low.tokens p low.spelled (tokens_rise text low.tokens low.read) } in
     let z : Land =
@@ -249,7 +350,23 @@ programs_reach text p g origin low well inputs count m k behind =
       once = apart_from k.stores k.once;
       reads = reads_from (λ x. (v : Value) × (None ≡ Some v)) (body_touches k.main.runs) (λ i x e. inr (behind i x e));
     }) in
-    (r.state, r.reached, cells_same m.cells r.state.memory.cells k.stores k.filled r.changed, λ j v e. r.outputs j v (sym (k.shown j) ∙ e))
+    let settled = runs_at_rest g inputs well count r.run r.state r.is_run r.rests.at_rest r.rests.no_clash
+    (none_waits (flow_of g) r.state.tokens r.rests.none_waits) in
+    record {
+      run = r.run;
+      state = r.state;
+      is_run = r.is_run;
+      rests = r.rests;
+      outputs = λ j. outputs_same (flow_of g) inputs r.run r.state r.is_run settled k.outputs r.many r.outputs j ∙ sym (k.shown j);
+      cells = cells_same m.cells r.state.memory.cells k.stores k.filled r.changed;
+      ordered = r.ordered;
+    }
   where
     none_some : (v : Value) → None ≡ Some v → ⊥
     none_some v d = cc
+
+-- so it reaches what the program computes
+pub programs_reach : ProgramsReach
+programs_reach text p g origin low well inputs count m k behind =
+    let r = programs_run_in_order text p g origin low well inputs count m k behind in
+    (r.state, record { run = r.run; is_run = r.is_run }, r.cells, λ j v e. r.outputs j ∙ e)
