@@ -17,7 +17,7 @@ use Rattle.semantics.specs.Meaning.{Outputs, taken, Deed, deed, fired, fired_in,
 use Rattle.lemmas.proofs.Permutations.{Within, Each, put_first, put_later}
 use Rattle.law_confluence.specs.Outcome.{AreInputsOf}
 use Rattle.law_confluence.proofs.EquationsGraphForms.{line_past, line_below}
-use Rattle.law_ordered_runs.specs.InOrder.{place_of, IsIn}
+use Rattle.law_loops_complete.specs.Within.{place_of, IsIn}
 use Rattle.law_ordered_runs.proofs.Extending.{Going, Came, On, on_then}
 use Rattle.law_ordered_runs.proofs.Order.{half, seat, Under, under_more, under_split, under_at, in_self, in_trans, in_under}
 use Rattle.law_ordered_runs.proofs.Origins.{DueIn, Comes, place_due, fired_once, happened_at, operand_source, result_source, lawful}

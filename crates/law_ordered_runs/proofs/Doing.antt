@@ -11,7 +11,7 @@ use Rattle.semantics.specs.Graph.{Graph, Node, Block, flow_of, node_at}
 use Rattle.semantics.specs.WellFormed.{WellFormed}
 use Rattle.semantics.specs.Meaning.{Context, Main, Called, Turned, Activity, Fires, Deed, IsCall, IsLoop, block_of}
 use Rattle.law_confluence.specs.Outcome.{AreInputsOf}
-use Rattle.law_ordered_runs.specs.InOrder.{IsIn, place_of}
+use Rattle.law_loops_complete.specs.Within.{IsIn, place_of}
 use Rattle.law_ordered_runs.proofs.Extending.{Going, On, Extended}
 use Rattle.law_ordered_runs.proofs.Order.{seat, Under, InOrder, Precedes, under_more, order_both, precedes_apart, precedes_turned, precedes_round, precedes_inner}
 use Rattle.law_ordered_runs.proofs.Closing.{FiresAtOnce, Closes, closes_none, closes_both, closes_on, closes_quiet, line_fired}

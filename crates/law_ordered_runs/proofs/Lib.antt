@@ -20,3 +20,4 @@ pub mod ReachingLoops
 pub mod ReachingTurns
 pub mod ReachingAll
 pub mod ReachingMain
+pub mod InOrderCompletes

@@ -6,7 +6,8 @@ use Rattle.std.proofs.lemmas.Option.{same_Some}
 use Rattle.semantics.specs.Meaning.{Context, Main, Called, Turned, Activity, Fires, Gates, Passes, Returns, Turns, Outputs}
 use Rattle.lemmas.proofs.Permutations.{Within, Each, Spread, each_from, each_within, spread_append, within_to, get_within}
 use Rattle.law_confluence.specs.EquationsContexts.{depth}
-use Rattle.law_ordered_runs.specs.InOrder.{place_of, IsIn, OneAfterAnother}
+use Rattle.law_loops_complete.specs.Within.{place_of, IsIn}
+use Rattle.law_ordered_runs.specs.InOrder.{OneAfterAnother}
 
 -- the invocation that an activity belongs to: that of its node as if that were a call, or the one that it takes a result of
 abbrev pub seat : Activity → Context

@@ -3,7 +3,8 @@ use Rattle.std.proofs.Common.{◌≡◌, ℕ, ◌+◌, ◌<◌, List, [], ◌∷
 use Rattle.std.proofs.lemmas.List.Elements.{All-head}
 use Rattle.std.specs.Prelude.{slice_get}
 use Rattle.semantics.specs.Meaning.{Context, Turned, Activity}
-use Rattle.law_ordered_runs.specs.InOrder.{place_of, IsIn, OneAfterAnother, IsUnderWay, OneAfterAnotherKeeps}
+use Rattle.law_loops_complete.specs.Within.{place_of, IsIn, IsUnderWay}
+use Rattle.law_ordered_runs.specs.InOrder.{OneAfterAnother, OneAfterAnotherKeeps}
 
 none_under_way : (run : List Activity) → OneAfterAnother run → (c : Context) (n u j : ℕ) (b : Activity) → slice_get run j ≡ Some b
     → IsIn (Turned c n u) (place_of b) → (t : ℕ) → t + 1 < u → IsUnderWay run c n j t → ⊥

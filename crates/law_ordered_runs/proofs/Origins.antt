@@ -26,7 +26,7 @@ use Rattle.law_confluence.proofs.OutcomeResolved.{flow_well, fits}
 use Rattle.law_confluence.proofs.OutcomeRest.{takes_some}
 use Rattle.law_confluence.proofs.EquationsGraphForms.{line_past}
 use Rattle.law_confluence.proofs.EquationsRunTakers.{Taker, run_deeds, same_taker}
-use Rattle.law_ordered_runs.specs.InOrder.{place_of}
+use Rattle.law_loops_complete.specs.Within.{place_of}
 use Rattle.law_ordered_runs.proofs.Extending.{Going, Came}
 
 module _ (g : Graph) (inputs : List ℤ) (well : WellFormed g) (count : AreInputsOf g inputs) (x : Going g inputs) where

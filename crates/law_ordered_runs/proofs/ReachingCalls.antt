@@ -35,8 +35,9 @@ use Rattle.law_language.proofs.MeansLeaves.{append_nothing}
 use Rattle.law_language.proofs.MeansMainActive.{IsGoodFunction, function_named, main_spot, main_lowered, main_made}
 use Rattle.law_language.proofs.MeansInputs.{root_taken}
 use Rattle.lemmas.proofs.Permutations.{put_first}
-use Rattle.law_ordered_runs.specs.InOrder as ordered
-use Rattle.law_ordered_runs.specs.InOrder.{IsIn, list_touches, body_touches}
+use Rattle.law_loops_complete.specs.Within as ordered
+use Rattle.law_loops_complete.specs.Within.{IsIn}
+use Rattle.law_ordered_runs.specs.InOrder.{list_touches, body_touches}
 use Rattle.law_ordered_runs.proofs.Order.{seat, Under, Precedes, in_self, under_in, place_in_seat}
 use Rattle.law_ordered_runs.proofs.Origins.{Comes, result_source, happened_at}
 use Rattle.law_ordered_runs.proofs.Closing.{AsReturns, AsTurns, AsOutputs, ClosesLine, ClosesEnd, closes_on, closes_line_on, closes_node, closes_input, closes_whole, not_turned}

@@ -41,8 +41,9 @@ use Rattle.law_language.proofs.MeansLeaves.{append_nothing}
 use Rattle.law_language.proofs.MeansPlaced.{get_left}
 use Rattle.lemmas.proofs.Permutations.{put_first}
 use Rattle.lemmas.proofs.SliceGet.{get_some}
-use Rattle.law_ordered_runs.specs.InOrder as ordered
-use Rattle.law_ordered_runs.specs.InOrder.{IsIn, Touch, list_touches, turn_touches}
+use Rattle.law_loops_complete.specs.Within as ordered
+use Rattle.law_loops_complete.specs.Within.{IsIn}
+use Rattle.law_ordered_runs.specs.InOrder.{Touch, list_touches, turn_touches}
 use Rattle.law_ordered_runs.proofs.Order.{seat, Under, Precedes, in_self, under_in, place_in_seat, precedes_turns, turns_alike}
 use Rattle.law_ordered_runs.proofs.Origins.{Comes, happened_at, lawful, one_token, taken_came}
 use Rattle.law_ordered_runs.proofs.Closing.{AsReturns, AsTurns, AsOutputs, Closes, ClosesIn, ClosesEnd, closes_on, closes_in_on, closes_node, closes_whole, closes_never}

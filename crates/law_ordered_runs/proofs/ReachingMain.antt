@@ -47,8 +47,9 @@ use Rattle.law_language.proofs.MeansNamesAgree.{agrees_each, known_in}
 use Rattle.law_language.proofs.MeansOriginsTraced.{origins_are_traced}
 use Rattle.law_language.proofs.MeansPlaced.{places_from_origins}
 use Rattle.law_language.proofs.MeansTexts.{tokens_rise, spellings_differ}
-use Rattle.law_ordered_runs.specs.InOrder as ordered
-use Rattle.law_ordered_runs.specs.InOrder.{IsIn, OneAfterAnother, Touch, Reads, Fills, body_touches, ProgramsReach, ProgramsRunInOrder}
+use Rattle.law_loops_complete.specs.Within as ordered
+use Rattle.law_loops_complete.specs.Within.{IsIn}
+use Rattle.law_ordered_runs.specs.InOrder.{OneAfterAnother, Touch, Reads, Fills, body_touches, ProgramsRunInOrder}
 use Rattle.law_ordered_runs.proofs.Order.{seat, Under, InOrder, one_after_another}
 use Rattle.law_ordered_runs.proofs.Origins.{Comes, result_source, happened_at}
 use Rattle.law_ordered_runs.proofs.Closing.{AsReturns, AsTurns, AsOutputs, Closes, ClosesIn, ClosesEnd, closes_on, closes_whole}
@@ -364,9 +365,3 @@ programs_run_in_order text p g origin low well inputs count m k behind =
   where
     none_some : (v : Value) → None ≡ Some v → ⊥
     none_some v d = cc
-
--- so it reaches what the program computes
-pub programs_reach : ProgramsReach
-programs_reach text p g origin low well inputs count m k behind =
-    let r = programs_run_in_order text p g origin low well inputs count m k behind in
-    (r.state, record { run = r.run; is_run = r.is_run }, r.cells, λ j v e. r.outputs j ∙ e)

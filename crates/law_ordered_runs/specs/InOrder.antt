@@ -14,42 +14,13 @@ use Rattle.source.specs.Evaluates.{World, Env, Stores, place_in, Evaluates, Eval
 use Rattle.source.specs.Evaluates.{if_true, if_false, loop, one, more, lets, does, gives, chain, leaves, goes, ends, again}
 use Rattle.source.specs.Theorem.{Computes, RestsWell}
 use Rattle.law_confluence.specs.Outcome.{AreInputsOf}
+use Rattle.law_loops_complete.specs.Within.{place_of, IsIn, HasBound, KeepsWithin}
 use Rattle.law_language.specs.MeansTheorem.{IsLoweredText}
-
--- WHERE AN ACTIVITY TAKES PLACE
-abbrev pub place_of : Activity → Context
-place_of (Fires c n vs) = c
-place_of (Gates c n v b) = c
-place_of (Passes c n i v) = c
-place_of (Returns c n j v) = Called c n
-place_of (Turns c n i j b v) = Turned c n i
-place_of (Outputs j v) = Main
-
--- in an invocation, or in one that it made
-abbrev pub IsIn : Context → Context → Type 0
-IsIn top Main = top ≡ Main
-IsIn top (Called c n) = (top ≡ Called c n) ⊎ IsIn top c
-IsIn top (Turned c n i) = (top ≡ Turned c n i) ⊎ IsIn top c
 
 -- The iterations of each loop take place one after another: all of one before any of a later one.
 abbrev pub OneAfterAnother : List Activity → Type 0
 OneAfterAnother run = (c : Context) (n t u i j : ℕ) (a b : Activity) → t < u
     → slice_get run i ≡ Some a → IsIn (Turned c n t) (place_of a) → slice_get run j ≡ Some b → IsIn (Turned c n u) (place_of b) → i ≤ j
-
--- BOUNDS. Iteration t of the loop has an activity after place j of the run.
-abbrev pub HasBound : Option (Node ℕ) → ℕ → Type 0
-HasBound None k = ⊥
-HasBound (Some line) k = (f : ℕ) × (line.kind ≡ Loop f k)
-
-abbrev pub IsUnderWay : List Activity → Context → ℕ → ℕ → ℕ → Type 0
-IsUnderWay run c n j t = (i : ℕ) × (a : Activity) × (j < i) × (slice_get run i ≡ Some a) × IsIn (Turned c n t) (place_of a)
-
--- A run of the meaning keeps each loop within its bound k: when iteration u has an activity, fewer than k - 1 of those before u - 1 are under way.
--- Iteration u - 1 is always under way then: its frame is released only after it has sent iteration u its values.
-abbrev pub KeepsWithin : Flow → List Activity → Type 0
-KeepsWithin fl run = (c : Context) (n k u j : ℕ) (b : Activity) → HasBound (node_of fl c n) k → slice_get run j ≡ Some b → IsIn (Turned c n u) (place_of b)
-    → (ts : List ℕ) → All (λ t. (t + 1 < u) × IsUnderWay run c n j t) ts
-    → ((x y t : ℕ) → slice_get ts x ≡ Some t → slice_get ts y ≡ Some t → x ≡ y) → 1 + length ts < k
 
 -- One after another, iterations keep within each bound of at least 2.
 abbrev pub OneAfterAnotherKeeps : Type 0
@@ -104,15 +75,8 @@ abbrev mutual
 abbrev pub ReadsBehindStores : List Touch → Type 0
 ReadsBehindStores ts = (i x : ℕ) → slice_get ts i ≡ Some (Reads x) → (j : ℕ) × (j < i) × (slice_get ts j ≡ Some (Fills x))
 
--- THEN THE MEANING REACHES what the program computes: all its outputs, and just its cells. This is proved, of a text's program.
-abbrev pub ProgramsReach : Type 0
-ProgramsReach = (text : List ℕ) (p : Program) (g : Graph) (origin : ℕ → Origin) → IsLoweredText text p g origin → WellFormed g
-    → (inputs : List ℤ) → AreInputsOf g inputs → (m : Meaning.Memory) (k : Computes p origin inputs m) → ReadsBehindStores (body_touches k.main.runs)
-    → (s : State) × Reached (flow_of g) inputs s × ((x : ℕ) → s.memory.cells x ≡ m.cells x)
-    × ((j : ℕ) (v : Value) → m.outputs j ≡ Some v → s.memory.outputs j ≡ Some v)
-
--- Then the meaning of the program's graph has a run to rest, with no fetch waiting and with that memory, in which the iterations of each loop take
--- place one after another. THIS IS OPEN: it is not proved, and nothing uses it.
+-- THEN THE MEANING COMES TO REST. The meaning of the program's graph has a run to rest, with no second store, with no fetch waiting, and with all outputs
+-- and cells that the program computes, and no others. In it the iterations of each loop take place one after another.
 pub record RunsInOrder (g : Graph) (inputs : List ℤ) (m : Meaning.Memory) : Type 0 where
   pub run : List Activity
   pub state : State
@@ -122,6 +86,7 @@ pub record RunsInOrder (g : Graph) (inputs : List ℤ) (m : Meaning.Memory) : Ty
   pub cells : (x : ℕ) → state.memory.cells x ≡ m.cells x
   pub ordered : OneAfterAnother run
 
+-- of a text's program
 abbrev pub ProgramsRunInOrder : Type 0
 ProgramsRunInOrder = (text : List ℕ) (p : Program) (g : Graph) (origin : ℕ → Origin) → IsLoweredText text p g origin → WellFormed g
     → (inputs : List ℤ) → AreInputsOf g inputs → (m : Meaning.Memory) (k : Computes p origin inputs m) → ReadsBehindStores (body_touches k.main.runs)

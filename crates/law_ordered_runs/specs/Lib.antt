@@ -1,2 +1,3 @@
 pub mod RunsGoOn
 pub mod InOrder
+pub mod InOrderCompletes

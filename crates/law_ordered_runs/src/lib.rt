@@ -19,7 +19,8 @@
 //!    start (`ReachingMain`).
 #![tactic(auto)]
 
-ghost use Rattle.law_ordered_runs.specs.InOrder.{OneAfterAnotherKeeps, ProgramsReach};
+ghost use Rattle.law_ordered_runs.specs.InOrder.{OneAfterAnotherKeeps, ProgramsRunInOrder};
+ghost use Rattle.law_ordered_runs.specs.InOrderCompletes.{ProgramsComeToRest, ProgramsInOrderComplete, ProgramsInOrderCompleteWithin};
 ghost use Rattle.law_ordered_runs.specs.RunsGoOn.{ClosedRunsRest, RunsGoOn};
 
 /// An activity all of whose tokens have been present has happened, or can happen where the memory allows it. A run in which each such activity has
@@ -34,8 +35,22 @@ pub fn one_after_another_keeps()
     ensures keeps { OneAfterAnotherKeeps }
 {}
 
-/// The meaning of a program that reads each cell behind the store that fills it, in the order of the text, reaches what the program computes: all
-/// its outputs, and just its cells.
-pub fn programs_reach()
-    ensures reach { ProgramsReach }
+/// The meaning of a program that reads each cell behind the store that fills it, in the order of the text, has a run to rest that computes what the
+/// program computes, and in which the iterations of each loop take place one after another.
+pub fn programs_run_in_order()
+    ensures runs { ProgramsRunInOrder }
 {}
+
+/// A program that reads each cell behind the store that fills it completes, in every order, on a machine with a frame for main, for each call and for
+/// each iteration of its own evaluation.
+///
+/// Its meaning comes to rest, with no fetch waiting, and calls for no more than these. True code of its graph completes where each loop's bound is at
+/// least the iterations of all loops. Faithful code completes whatever the bounds are, if it starves for credits alone only where no run of the
+/// meaning to its end keeps each loop within its bound; that the compiler's code is such code is not proved here.
+pub fn programs_complete_in_order()
+    ensures rests { ProgramsComeToRest }
+    ensures completes { ProgramsInOrderComplete }
+    ensures within { ProgramsInOrderCompleteWithin }
+{
+    law_program_counts::programs_complete_counted();
+}
