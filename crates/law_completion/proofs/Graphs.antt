@@ -1,7 +1,6 @@
 -- True code of a graph completes wherever the machine is large enough.
 use Rattle.semantics.specs.Graph.{flow_of}
 use Rattle.law_completion.specs.TotalGraph.{OneRunTells, TotalGraph}
-use Rattle.law_completion.specs.TotalProgram.{CountsSuffice}
 use Rattle.law_completion.proofs.BoundsCredits.{bounds_are_credits}
 use Rattle.law_completion.proofs.DueGrows.{length_bounds}
 use Rattle.law_completion.proofs.TotalEnds.{runs_complete}
@@ -24,8 +23,3 @@ total_graph g p q well code inputs fit d t needs z most large by_list may_stop r
       time = large.steps;
       credits = bounds_are_credits (flow_of g) q t code.faithful large.credits;
     } needs.rests.none_waits by_list may_stop r shows uncut
-
-pub counts_suffice : CountsSuffice
-counts_suffice calls p g origin lowered well plan code true inputs fit s rests k z most large by_list may_stop r shows uncut =
-    total_graph g plan code well true inputs fit _ _
-    record { state = s; rests = rests; calls = calls p g origin lowered well inputs fit s rests k } z most large by_list may_stop r shows uncut

@@ -1,22 +1,12 @@
--- TOTAL CORRECTNESS of programs: what a machine needs is counted in the program's own evaluation.
-use Rattle.std.specs.Prelude.{ℕ, ◌+◌, Bool, ℤ, List}
+-- WHAT A PROGRAM'S EVALUATION MAKES: its calls, and the iterations of its loops.
+use Rattle.std.specs.Prelude.{ℕ, ◌+◌, ℤ, List}
 use Rattle.tags.specs.declared.value.Value.{Value}
 use Rattle.tags.specs.declared.value.Origin.{Origin}
-use Rattle.semantics.specs.Graph.{Graph, flow_of}
-use Rattle.semantics.specs.WellFormed.{WellFormed}
 use Rattle.semantics.specs.Meaning as Meaning
-use Rattle.semantics.specs.Meaning.{State}
-use Rattle.semantics.specs.Machine.{Size}
-use Rattle.semantics.specs.Report.{Report, Shows}
 use Rattle.source.specs.Tree.{Expr, Exprs, Body, Turn, Program}
 use Rattle.source.specs.Evaluates.{World, Env, Stores, Evaluates, EvaluatesAll, Runs, Turns, number, named, bracket, prefix, infix_}
 use Rattle.source.specs.Evaluates.{fetch, store, call, if_true, if_false, loop, one, more, lets, does, gives, chain, leaves, goes, ends, again}
-use Rattle.source.specs.Theorem.{RestsWell, Computes, IsLowered}
-use Rattle.law_confluence.specs.Outcome.{AreInputsOf}
-use Rattle.semantics.specs.Program as Code
-use Rattle.semantics.specs.Plan.{Plan}
-use Rattle.law_completion.specs.Total.{CallsForAtMost, IsTrueCode, IsNotCut, Completes}
-use Rattle.law_completion.specs.TotalGraph.{IsLargeEnough}
+use Rattle.source.specs.Theorem.{Computes}
 
 -- HOW MANY CALLS an evaluation makes, and how many iterations of loops. One that only tests counts, too.
 pub record Count : Type 0 where
@@ -68,25 +58,3 @@ abbrev mutual
 -- of main
 abbrev pub count_of : (p : Program) (origin : ℕ → Origin) (inputs : List ℤ) (m : Meaning.Memory) → Computes p origin inputs m → Count
 count_of p origin inputs m k = body_counted k.main.runs
-
--- That the meaning of a lowered program calls for no other invocations than these. This is stated here and NOT PROVED: it is only the condition of
--- `CountsSuffice`.
-abbrev pub ProgramsCallFor : Type 0
-ProgramsCallFor = (p : Program) (g : Graph) (origin : ℕ → Origin) → IsLowered p g origin → WellFormed g → (inputs : List ℤ) → AreInputsOf g inputs
-    → (s : State) → RestsWell (flow_of g) inputs s → (k : Computes p origin inputs s.memory)
-    → CallsForAtMost (flow_of g) inputs ((count_of p origin inputs s.memory k).calls + (count_of p origin inputs s.memory k).turns)
-    (count_of p origin inputs s.memory k).turns
-
--- A program whose meaning rests well completes on each machine that has a frame for main, for each call and for each iteration.
-abbrev pub TotalProgram : Type 0
-TotalProgram = (p : Program) (g : Graph) (origin : ℕ → Origin) → IsLowered p g origin → WellFormed g
-    → (plan : Plan) (code : Code.Program) → IsTrueCode (flow_of g) plan code
-    → (inputs : List ℤ) → AreInputsOf g inputs → (s : State) → RestsWell (flow_of g) inputs s → (k : Computes p origin inputs s.memory)
-    → (z : Size) (most : ℕ)
-    → IsLargeEnough g code z most ((count_of p origin inputs s.memory k).calls + (count_of p origin inputs s.memory k).turns)
-    (count_of p origin inputs s.memory k).turns
-    → (by_list may_stop : Bool) (r : Report) → Shows code z inputs most by_list may_stop r → IsNotCut by_list r → Completes r
-
--- The second follows from the first. That is all that is proved of these two.
-abbrev pub CountsSuffice : Type 0
-CountsSuffice = ProgramsCallFor → TotalProgram

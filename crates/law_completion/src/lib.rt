@@ -26,13 +26,12 @@
 //!
 //! **The files**, by chapter.
 //! - `specs/Total`: what suffices, for any flow and plan; `specs/TotalGraph`: the theorem of graphs; `specs/TotalProgram`: the calls and iterations
-//!   of a program's evaluation, and what follows if the meaning calls for just these, which is not proved here.
+//!   of a program's evaluation, which tell it for programs (`law_program_counts`).
 #![tactic(auto)]
 
 ghost use Rattle.law_completion.specs.Total.{FramesSuffice, LengthBounds, RoomyRunsRest, RoomyRunsComplete, RunsRest, RunsComplete, BoundsAreCredits};
 ghost use Rattle.law_completion.specs.Total.{CodeHasOneSlot};
 ghost use Rattle.law_completion.specs.TotalGraph.{OneRunTells, OneRunCounts, TotalGraph};
-ghost use Rattle.law_completion.specs.TotalProgram.{CountsSuffice};
 
 /// A run that has enough comes to rest, and completes where no fetch waits in the meaning.
 ///
@@ -52,11 +51,9 @@ pub fn enough_suffices()
 /// True code of a graph completes in every order, on each machine that is large enough for what the meaning calls for.
 ///
 /// One run of the meaning to its end tells how large that is: by its number of activities, or more sharply by the invocations whose first input
-/// passes in it. The clause `programs` has a condition: if the meaning of a lowered program's graph calls for just the calls and iterations of the
-/// program's evaluation, these tell it, too.
+/// passes in it.
 pub fn graphs_complete()
     ensures tells { OneRunTells }
     ensures counts { OneRunCounts }
     ensures total { TotalGraph }
-    ensures programs { CountsSuffice }
 {}

@@ -26,7 +26,7 @@ fit Mode.One text g inputs c may_stop r h = h.0.inputs_fit
 fit Mode.Rounds text g inputs c may_stop r h = h.inputs_fit
 fit Mode.Free text g inputs c may_stop r h = h.inputs_fit
 
-quiet_fit : (mode : Mode) (text : List ℕ) (g : Graph) (inputs : List ℤ) (c : Config) (may_stop : Bool) (r : Report)
+pub quiet_fit : (mode : Mode) (text : List ℕ) (g : Graph) (inputs : List ℤ) (c : Config) (may_stop : Bool) (r : Report)
     → ReportsQuietly mode text g inputs c may_stop r → AreInputsOf g inputs
 quiet_fit mode text g inputs c may_stop r h = fit mode text g inputs c may_stop (with_events r h.2.1) h.2.2
 

@@ -2,4 +2,4 @@ pub mod Promise
 pub mod Compiled
 pub mod Refused
 pub mod Laws
-pub mod Open
+pub mod InOrder

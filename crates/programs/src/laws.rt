@@ -1,5 +1,6 @@
 //! What reports say of programs, by whatever means the report was made.
 
+ghost use Rattle.programs.specs.InOrder.{OrderedProgramsComplete};
 ghost use Rattle.programs.specs.Laws.{ReportsShowPrograms, ModesShowPrograms, QuietReportsShowPrograms, RefusalsAreTheTexts, ProgramsComplete, CountedProgramsComplete};
 ghost use Rattle.programs.specs.Laws.{OwnBoundsSufficeProgram};
 
@@ -40,4 +41,15 @@ pub fn own_bounds_suffice()
     ensures { OwnBoundsSufficeProgram }
 {
     law_program_counts::programs_complete_counted();
+}
+
+/// What an ordinary sequential run of a program computes, the machine computes, in every mode and every order of the elements' steps.
+///
+/// Let the program read each cell behind the store that fills it, in the order of the text, iteration after iteration. Where the machine has a frame for
+/// main, for each call and for each iteration of that evaluation, and steps and credits for these, a report that was not cut off ends at rest with no
+/// deferred reader, and has the evaluation's outputs and cells. Each loop's bound has to be at least the iterations of all loops.
+pub fn programs_complete_in_order()
+    ensures { OrderedProgramsComplete }
+{
+    law_ordered_runs::programs_complete_in_order();
 }

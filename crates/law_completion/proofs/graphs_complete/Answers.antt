@@ -8,8 +8,5 @@ returns-clause-tells c = Graphs.one_run_tells
 pub returns-clause-total : goal.returns-clause-total
 returns-clause-total c = Graphs.total_graph
 
-pub returns-clause-programs : goal.returns-clause-programs
-returns-clause-programs c = Graphs.counts_suffice
-
 pub returns-clause-counts : goal.returns-clause-counts
 returns-clause-counts c = One.one_run_counts
