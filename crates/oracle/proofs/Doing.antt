@@ -186,6 +186,8 @@ module _ (g : Graph) (inputs : List ℤ) where
           free = free;
           turn = t.turn;
           put = put_of g act.1 now sound.output_count t.put;
+          some = t.some;
+          past = f.past;
         }
 
     abbrev Next : Type 0

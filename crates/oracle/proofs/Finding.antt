@@ -30,7 +30,7 @@ use Rattle.oracle.proofs.Entering.{AreKnown}
 use Rattle.oracle.proofs.Following.{meant, RunsSoFar, PutLow, to_waiting, to_deferred, to_taken, to_fresh}
 use Rattle.oracle.proofs.Gaining.{gated, joined}
 use Rattle.oracle.proofs.Gating.{gate_defers}
-use Rattle.oracle.proofs.Nexting.{moved, x, made, block, here, others_known, waits, view, join, takes, is_known, left_stuck, left_same, put_low, defers}
+use Rattle.oracle.proofs.Nexting.{moved, moved_past, takes_one, x, made, block, here, others_known, waits, view, join, takes, is_known, left_stuck, left_same, put_low, defers}
 use Rattle.oracle.proofs.Partners.{taken_out}
 use Rattle.oracle.proofs.RowRuns.{cut, in_mine, left_by, rows_alone, rows_left}
 use Rattle.oracle.proofs.Rows.{mine}
@@ -164,6 +164,7 @@ module _ (g : Graph) (text : HasText g) (well : WellFormed g) (inputs : List ℤ
             turn = turn_law g k t.context its.0 (f.sound.turns t.context its.0 its.1) v.shape vs deed' v.deed;
             put = shown_of g deed' (plain xs later left d cells outputs) f.sound.output_count (put_low g text well inputs fit k low xs cells outputs t
                 later w d f left vs deed' e deed' refl);
+            some = takes_one g text well inputs fit k low xs cells outputs t later w d f left vs deed' e;
           }
 
       gains_free : gate_of cells deed' ≡ Free → Has ts left d (acts ++ (vs, deed') ∷ [])
@@ -192,6 +193,8 @@ module _ (g : Graph) (text : HasText g) (well : WellFormed g) (inputs : List ℤ
               run = f.run;
               is_run = moved g text well inputs fit k low xs cells outputs old' (ts ++ (h.held ++ own)) left d cs f.run f.is_run order refl refl;
               count = f.count;
+              past = moved_past g text well inputs fit k low xs cells outputs cs f.run ((t ∷ later) ++ (w ++ d)) ((ts ++ (h.held ++ own)) ++ (left ++ d))
+                  order f.past;
             };
             taking = taking_more g k cs (length xs) (λ e. gate_of cells e ≡ Free) h.held acts h.activities h.taking own (vs, deed') activity one gate;
             same = same_trans old (meant cs old') (meant cs new') h.same (state_same g old' new' cs cs s.named s.named (λ i y e. e) s.known order refl refl);

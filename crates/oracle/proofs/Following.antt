@@ -18,6 +18,7 @@ use Rattle.oracle.specs.Meant.{tagged_of, deed_of}
 use Rattle.oracle.specs.Naming.{Named, IsKnown}
 use Rattle.oracle.specs.Reporting.{IsEnd}
 use Rattle.oracle.proofs.Apart.{MadesDiffer, EachMade}
+use Rattle.oracle.proofs.Counted.{Touched, past_of}
 use Rattle.oracle.proofs.Entering.{AreKnown}
 use Rattle.oracle.proofs.Filling.{memory_of}
 use Rattle.oracle.proofs.Turning.{DeedTurn}
@@ -49,6 +50,7 @@ pub record RunsSoFar (g : Graph) (inputs : List ℤ) (k : ℕ) (s : Plain) : Typ
   pub run : List Activity
   pub is_run : Run (flow_of g) (start inputs) run (meant sound.names s)
   pub count : length run ≡ k
+  pub past : Touched (past_of run (meant sound.names s).tokens) sound.names
 
 -- an output that a deed fills exists
 abbrev pub PutLow : Deed → Plain → Type 0
@@ -70,6 +72,8 @@ pub record Ready (g : Graph) (inputs : List ℤ) (k : ℕ) (s : Plain) (vs : Lis
   pub free : gate_of s.cells d ≡ Free
   pub turn : DeedTurn k d
   pub put : PutLow d s
+  pub some : 0 < length vs
+  pub past : Touched (past_of run old.tokens) sound.names
 
 -- k activities lead to a state with that memory, in which the run ends
 pub record Ended (g : Graph) (inputs : List ℤ) (k : ℕ) (cells outputs : List (Option Value)) (e : MeanEnd) : Type 0 where
@@ -82,9 +86,18 @@ pub record Ended (g : Graph) (inputs : List ℤ) (k : ℕ) (cells outputs : List
   pub output_count : length outputs ≡ outputs_at g (main_place g)
   pub ended : IsEnd g k run state e
 
+-- the same of a rest, and what the numbered invocations stand for
+pub record Rested (g : Graph) (inputs : List ℤ) (k : ℕ) (s : Plain) : Type 0 where
+  pub ended : Ended g inputs k s.cells s.outputs Rest
+  pub names : List Context
+  pub named : Named g s.invocations names
+  pub differ : MadesDiffer s.invocations
+  pub past : Touched (past_of ended.run ended.state.tokens) names
+  pub stuck : s.deferred ≡ [] → Stuck (flow_of g) ended.state.tokens
+
 abbrev pub Outcome : Graph → List ℤ → ℕ → Came → Type 0
 Outcome g inputs k (Acts s vs d) = Ready g inputs k s vs d
-Outcome g inputs k (Ends s Rest) = Ended g inputs k s.cells s.outputs Rest
+Outcome g inputs k (Ends s Rest) = Rested g inputs k s
 Outcome g inputs k (Ends s (Clash a i)) = Ended g inputs k s.cells s.outputs (Clash a i)
 Outcome g inputs k (Ends s Steps) = ⊥
 Outcome g inputs k Broken = ⊥

@@ -1,7 +1,9 @@
 mod Acts
 mod Apart
+mod Called
 mod Clashing
 mod Complete
+mod Counted
 pub mod Counting
 mod DeedLaws
 mod Doing

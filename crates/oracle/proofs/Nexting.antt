@@ -1,5 +1,6 @@
 -- What comes next in a run: an activity that is enabled in the meaning, or a true end.
 use Rattle.std.proofs.Common.{◌≡◌, ℕ, ◌+◌, ◌<◌, ◌^◌, ℤ, List, [], ◌∷◌, ◌++◌, map, length, Option, Some, slice_get, IsPermutation, refl, sym, ap, ◌∙◌, subst}
+use Rattle.std.proofs.Common.{append-nil, arith}
 use Rattle.std.proofs.lemmas.List.{map-append}
 use Rattle.std.proofs.lemmas.List.Sorted.{IsPermutation-sym, IsPermutation-map}
 use Rattle.tags.specs.declared.value.Value.{Value}
@@ -29,6 +30,7 @@ use Rattle.oracle.specs.Meant.{name_in, made_of, tagged_of, deed_of}
 use Rattle.oracle.specs.Naming.{IsKnown}
 use Rattle.oracle.specs.Agreeing.{IsJoin}
 use Rattle.oracle.specs.Reporting.{cell_at}
+use Rattle.oracle.proofs.Counted.{Touched, past_of, touched_moved, own_some}
 use Rattle.oracle.proofs.Entering.{AreKnown}
 use Rattle.oracle.proofs.Filling.{memory_of}
 use Rattle.oracle.proofs.Following.{all_tokens, meant, Sound, RunsSoFar, PutLow, Ready, Ended, Outcome, to_waiting, to_deferred, to_taken}
@@ -59,17 +61,24 @@ module _ (g : Graph) (text : HasText g) (well : WellFormed g) (inputs : List ℤ
       let unique = reached_unique g well inputs fit state record { run = f.run; is_run = f.is_run } in
       let here = map-append (tagged_of cs) w d in
       record {
-        run = f.run;
-        state = state;
-        is_run = f.is_run;
-        count = f.count;
-        memory = refl;
-        cell_count = s.cell_count;
-        output_count = s.output_count;
-        ended = (
-          at_rest (flow_of g) (held_in cells) state.tokens (map (tagged_of cs) w) (map (tagged_of cs) d) unique here s.stuck s.defers (held_in outputs),
-          no_clash (flow_of g) (held_in cells) state.tokens (map (tagged_of cs) w) (map (tagged_of cs) d) unique here s.stuck s.defers (held_in outputs),
-        );
+        ended = record {
+          run = f.run;
+          state = state;
+          is_run = f.is_run;
+          count = f.count;
+          memory = refl;
+          cell_count = s.cell_count;
+          output_count = s.output_count;
+          ended = (
+            at_rest (flow_of g) (held_in cells) state.tokens (map (tagged_of cs) w) (map (tagged_of cs) d) unique here s.stuck s.defers (held_in outputs),
+            no_clash (flow_of g) (held_in cells) state.tokens (map (tagged_of cs) w) (map (tagged_of cs) d) unique here s.stuck s.defers (held_in outputs),
+          );
+        };
+        names = cs;
+        named = s.named;
+        differ = s.differ;
+        past = f.past;
+        stuck = λ none. subst (λ l. Stuck (flow_of g) (map (tagged_of cs) l)) (sym (ap (λ d. w ++ d) none ∙ append-nil w)) s.stuck;
       }
 
   -- the same state, with its tokens in other lists
@@ -79,6 +88,11 @@ module _ (g : Graph) (text : HasText g) (well : WellFormed g) (inputs : List ℤ
   moved s ts w d cs run r p e h =
       run_to_same (flow_of g) (start inputs) (meant cs s) (meant cs (plain xs ts w d cells outputs)) run r
       (IsPermutation-map (tagged_of cs) (all_tokens s) (ts ++ (w ++ d)) p, ap (λ c. memory_of c s.outputs) e ∙ ap (memory_of cells) h)
+
+  pub moved_past : (cs : List Context) (run : List Activity) (old new : List Token) → IsPermutation old new
+      → Touched (past_of run (map (tagged_of cs) old)) cs → Touched (past_of run (map (tagged_of cs) new)) cs
+  moved_past cs run old new p h =
+      touched_moved run (map (tagged_of cs) old) (map (tagged_of cs) new) cs (IsPermutation-map (tagged_of cs) old new p) h
 
   module _ (t : Token) (ts w d : List Token) (f : Now (t ∷ ts) w d) where
     abbrev s : Sound g k (plain xs (t ∷ ts) w d cells outputs)
@@ -123,6 +137,7 @@ module _ (g : Graph) (text : HasText g) (well : WellFormed g) (inputs : List ℤ
           run = f.run;
           is_run = moved (plain xs (t ∷ ts) w d cells outputs) ts (w ++ t ∷ []) d cs f.run f.is_run order refl refl;
           count = f.count;
+          past = moved_past cs f.run ((t ∷ ts) ++ (w ++ d)) (ts ++ ((w ++ t ∷ []) ++ d)) order f.past;
         }
 
     module _ (left : List Token) (vs : List Value) (deed' : Deed) (e : join_in g w t (Some x.0) ≡ Joins left vs deed') where
@@ -175,6 +190,12 @@ module _ (g : Graph) (text : HasText g) (well : WellFormed g) (inputs : List ℤ
       put_low (Reads c n y) q = tt
       put_low (Fills c n y a i v) q = tt
 
+      pub takes_one : 0 < length vs
+      takes_one =
+          let one = own_some t.spot (spots_in view.shape) (own_law g x.0.made x.0.block t.spot view.shape view.here) in
+          let long = view.long in
+          omega (arith, one, long)
+
       pub acts : gate_of cells deed' ≡ Free → Ready g inputs k (plain xs ts left d cells outputs) vs deed'
       acts free = record {
         sound = record {
@@ -201,6 +222,8 @@ module _ (g : Graph) (text : HasText g) (well : WellFormed g) (inputs : List ℤ
         free = free;
         turn = turn_law g k t.context x.0 (s.turns t.context x.0 x.1) view.shape vs deed' view.deed;
         put = put_low deed' refl;
+        some = takes_one;
+        past = f.past;
       }
 
       -- a fetch of an empty cell takes no other token
@@ -247,6 +270,7 @@ module _ (g : Graph) (text : HasText g) (well : WellFormed g) (inputs : List ℤ
             run = f.run;
             is_run = moved (plain xs (t ∷ ts) w d cells outputs) ts left (d ++ t ∷ []) cs f.run f.is_run order refl refl;
             count = f.count;
+            past = moved_past cs f.run ((t ∷ ts) ++ (w ++ d)) (ts ++ (left ++ (d ++ t ∷ []))) order f.past;
           }
 
       pub clashes : (a i : ℕ) → gate_of cells deed' ≡ GateClashes a i → Ended g inputs k cells outputs (Clash a i)

@@ -1,5 +1,5 @@
 -- What an activity does in a run is what it does in the meaning.
-use Rattle.std.proofs.Common.{◌≡◌, ℕ, suc, ◌+◌, ◌<◌, ◌≤◌, ℤ, List, [], ◌∷◌, ◌++◌, map, length, Option, Some, None, if◌then◌else◌, IsPermutation}
+use Rattle.std.proofs.Common.{◌≡◌, ℕ, suc, ◌+◌, ◌<◌, ◌≤◌, ◌⊎◌, inl, ℤ, List, [], ◌∷◌, ◌++◌, map, length, Option, Some, None, if◌then◌else◌, IsPermutation}
 use Rattle.std.proofs.Common.{refl, sym, ap, ◌∙◌, subst, arith}
 use Rattle.std.specs.Prelude.{is_some}
 use Rattle.std.proofs.lemmas.List.{map-append, length-append}
@@ -9,7 +9,7 @@ use Rattle.semantics.specs.Graph.{Graph, flow_of}
 use Rattle.semantics.specs.Meaning.{Context, Tagged, Memory, Effect, State, Activity, taken, effect, done, adds, tokens_of, with_cell, with_output}
 use Rattle.semantics.specs.Meaning.{when_full, when_empty, Step, Run, start}
 use Rattle.semantics.specs.Meaning as Meaning
-use Rattle.lemmas.proofs.Permutations.{Each, each_append, each_append_back, each_weaker}
+use Rattle.lemmas.proofs.Permutations.{Within, Each, each_append, each_append_back, each_weaker}
 use Rattle.law_confluence.proofs.ActivityDiamond.{effect_of}
 use Rattle.law_confluence.proofs.OutcomeDeterminacy.{same_refl}
 use Rattle.law_confluence.proofs.HistoryRuns.{run_append, step_of}
@@ -25,6 +25,7 @@ use Rattle.oracle.specs.Running.{Plain, plain, number_in, with_made, sent_of, se
 use Rattle.oracle.specs.Meant.{name_in, made_of, tagged_of, deed_of}
 use Rattle.oracle.specs.Naming.{CanEnter}
 use Rattle.oracle.proofs.Apart.{EachMade, mades_more, made_more}
+use Rattle.oracle.proofs.Counted.{touched_more, token_named, entered_wide, entered_first, entered_fresh}
 use Rattle.oracle.proofs.Entering.{AreKnown, entered_law, tokens_kept}
 use Rattle.oracle.proofs.Filling.{memory_of, filled_long, filled_same, cell_low}
 use Rattle.oracle.proofs.Following.{all_tokens, meant, Sound, RunsSoFar, Ready, to_fresh, to_woken}
@@ -47,6 +48,17 @@ free_reads (Some v) h = (v, refl)
 free_fills : (o : Option Value) (a i : ℕ) → (if is_some o then Clashes a i else Free) ≡ Free → o ≡ None
 free_fills None a i h = refl
 free_fills (Some v) a i h = cc
+
+entering_some : (c i : ℕ) (vs : List Value) → 0 < length vs → 0 < length (entering_tokens c i vs)
+entering_some c i [] h = absurd (omega (arith, h))
+entering_some c i (v ∷ vs) h = omega arith
+
+-- the names after it are those before it, and perhaps one of an invocation that its tokens are in
+record Grows (names more : List Context) (added : List Tagged) : Type 0 where
+  others : List Context
+  first : more ≡ Meaning.Main ∷ others
+  wide : (c : Context) → Within c names → Within c more
+  fresh : (c : Context) → Within c more → Within c names ⊎ ((x : Tagged) × Within x added × (x.context ≡ c))
 
 -- the activity leads to that state
 pub record Acted (g : Graph) (inputs : List ℤ) (k : ℕ) (s : Plain) (vs : List Value) (d : Deed) (r : Ready g inputs k s vs d) (t : Plain) : Type 0 where
@@ -84,11 +96,14 @@ module _ (g : Graph) (inputs : List ℤ) (k : ℕ) (s : Plain) (vs : List Value)
         let e = does names d r.free in
         (r.activity, _, step_of (flow_of g) r.activity r.old e.0 (map (tagged_of names) (all_tokens s)) (allowed e.0 e.1) r.takes)
 
+    same_names : (added : List Tagged) → Grows names names added
+    same_names added = record { others = r.past.others; first = r.past.first; wide = λ c k. k; fresh = λ c k. inl k }
+
     -- the run goes on to a state that stands for what the effect makes
     goes : (E : Effect) → done (flow_of g) m (deed_of names vs d) ≡ Some E → (t : Plain) (sound : Sound g (suc k) t)
         → IsPermutation (map (tagged_of sound.names) (all_tokens t)) (E.added ++ map (tagged_of names) (all_tokens s)) → memory_of t.cells t.outputs
-        ≡ E.memory → Acted g inputs k s vs d r t
-    goes E h t sound tokens memory =
+        ≡ E.memory → Grows names sound.names E.added → Acted g inputs k s vs d r t
+    goes E h t sound tokens memory grows =
         let step : Step (flow_of g) r.activity r.old (meant sound.names t) = record {
           does = E;
           rest = map (tagged_of names) (all_tokens s);
@@ -106,6 +121,9 @@ module _ (g : Graph) (inputs : List ℤ) (k : ℕ) (s : Plain) (vs : List Value)
             is_run = run_append (flow_of g) (start inputs) r.old (meant sound.names t) r.run (r.activity ∷ []) r.is_run
                 (meant sound.names t, step, same_refl (meant sound.names t));
             count = omega (arith, long, count);
+            past = touched_more r.run r.activity r.old.tokens (meant sound.names t).tokens E.added (map (tagged_of names) (all_tokens s)) r.takes tokens
+                names sound.names r.past grows.others grows.first grows.wide
+                (λ x k. token_named sound.names (length t.invocations) (all_tokens t) (sym sound.named.count) sound.known x k) grows.fresh;
           };
           step = step;
         }
@@ -142,7 +160,7 @@ module _ (g : Graph) (inputs : List ℤ) (k : ℕ) (s : Plain) (vs : List Value)
     sent_more new added known same h =
         goes record { added = added; memory = m } h (plain s.invocations (s.fresh ++ new) s.waiting s.deferred s.cells s.outputs) (sent_sound new known)
         (subst (λ l. IsPermutation (map (tagged_of names) ((s.fresh ++ new) ++ (s.waiting ++ s.deferred)))
-        (l ++ map (tagged_of names) (all_tokens s))) same (fresh_order names new)) refl
+        (l ++ map (tagged_of names) (all_tokens s))) same (fresh_order names new)) refl (same_names added)
 
     stops : done (flow_of g) m (deed_of names vs d) ≡ Some record { added = []; memory = m } → Acted g inputs k s vs d r s
     stops h =
@@ -157,7 +175,7 @@ module _ (g : Graph) (inputs : List ℤ) (k : ℕ) (s : Plain) (vs : List Value)
           cell_count = r.sound.cell_count;
           output_count = r.sound.output_count;
         } in
-        goes record { added = []; memory = m } h s sound (IsPermutation-refl _) refl
+        goes record { added = []; memory = m } h s sound (IsPermutation-refl _) refl (same_names [])
 
     -- A CELL IS FILLED
     fills : (x : ℕ) (v : Value) (new : List Token) (added : List Tagged) → x < length s.cells → AreKnown (length s.invocations) new
@@ -186,7 +204,7 @@ module _ (g : Graph) (inputs : List ℤ) (k : ℕ) (s : Plain) (vs : List Value)
         (IsPermutation-map (tagged_of names) (all_tokens t) (new ++ all_tokens s) (to_woken s.fresh s.waiting s.deferred new)) in
         goes record { added = added; memory = with_cell m x v } h t sound
         (subst (λ l. IsPermutation (map (tagged_of names) (all_tokens t)) (l ++ map (tagged_of names) (all_tokens s))) same order)
-        (ap (λ (f : ℕ → Option Value). record { cells = f; outputs = held_in s.outputs }) (filled_same s.cells x v low))
+        (ap (λ (f : ℕ → Option Value). record { cells = f; outputs = held_in s.outputs }) (filled_same s.cells x v low)) (same_names added)
 
     -- AN OUTPUT IS FILLED
     puts : (j : ℕ) (v : Value) → j < length s.outputs → done (flow_of g) m (deed_of names vs d) ≡ Some record { added = []; memory = with_output m j v }
@@ -205,15 +223,15 @@ module _ (g : Graph) (inputs : List ℤ) (k : ℕ) (s : Plain) (vs : List Value)
           output_count = filled_long s.outputs j v low ∙ r.sound.output_count;
         } in
         goes record { added = []; memory = with_output m j v } h t sound (IsPermutation-refl _)
-        (ap (λ (f : ℕ → Option Value). record { cells = held_in s.cells; outputs = f }) (filled_same s.outputs j v low))
+        (ap (λ (f : ℕ → Option Value). record { cells = held_in s.cells; outputs = f }) (filled_same s.outputs j v low)) (same_names [])
 
     -- AN INVOCATION IS ENTERED
     enters : (made : Made) (f : ℕ) (new : List Token) (added : List Tagged) → CanEnter g names (length s.invocations) made f → TurnBelow (suc k) made
-        → AreOf (number_in s.invocations made) new
+        → AreOf (number_in s.invocations made) new → 0 < length new
         → ((cs : List Context) → name_in cs (number_in s.invocations made) ≡ made_of names made → map (tagged_of cs) new ≡ added)
         → done (flow_of g) m (deed_of names vs d) ≡ Some record { added = added; memory = m }
         → Acted g inputs k s vs d r (plain (with_made s.invocations made f) (s.fresh ++ new) s.waiting s.deferred s.cells s.outputs)
-    enters made f new added can turn of same h =
+    enters made f new added can turn of some same h =
         let e = entered_law g s.invocations names made f r.sound.named can in
         let t : Plain = plain (with_made s.invocations made f) (s.fresh ++ new) s.waiting s.deferred s.cells s.outputs in
         let count = r.sound.named.count in
@@ -244,6 +262,13 @@ module _ (g : Graph) (inputs : List ℤ) (k : ℕ) (s : Plain) (vs : List Value)
         (subst (λ l. IsPermutation (map (tagged_of e.names) (all_tokens t)) (added ++ l)) (kept (all_tokens s) r.sound.known)
         (subst (λ l. IsPermutation (map (tagged_of e.names) (all_tokens t)) (l ++ map (tagged_of e.names) (all_tokens s))) (same e.names e.name)
         (fresh_order e.names new))) refl
+        record {
+          others = (entered_first g s.invocations names made f count e r.past.others r.past.first).0;
+          first = (entered_first g s.invocations names made f count e r.past.others r.past.first).1;
+          wide = entered_wide g s.invocations names made f count e;
+          fresh = λ c k. subst (λ l. Within c names ⊎ ((x : Tagged) × Within x l × (x.context ≡ c))) (same e.names e.name)
+              (entered_fresh g s.invocations names made f count e new of some c k);
+        }
 
   -- Each deed in its turn.
   pub acts : (d : Deed) (r : Ready g inputs k s vs d) → Acted g inputs k s vs d r (performed g s vs d)
@@ -255,11 +280,11 @@ module _ (g : Graph) (inputs : List ℤ) (k : ℕ) (s : Plain) (vs : List Value)
       sent_more (Steers c n v) r (steered_in g s.invocations (sent_of c v) n) _ (known_of c _ r.is_known _ q.1) q.0 refl
   acts (Enters made f i v) r =
       let c = number_in s.invocations made in
-      enters (Enters made f i v) r made f (token_at (sent_of c v) (Operand i 0) ∷ []) _ r.is_known r.turn (refl, tt)
+      enters (Enters made f i v) r made f (token_at (sent_of c v) (Operand i 0) ∷ []) _ r.is_known r.turn (refl, tt) (omega arith)
       (λ cs e. ap (λ c. Meaning.tagged c (Meaning.AtNode i) (Meaning.Operand 0) v ∷ []) e) refl
   acts (EntersAll made f) r =
       let c = number_in s.invocations made in
-      enters (EntersAll made f) r made f (entering_tokens c 0 vs) _ r.is_known r.turn (entering_of c 0 vs)
+      enters (EntersAll made f) r made f (entering_tokens c 0 vs) _ r.is_known r.turn (entering_of c 0 vs) (entering_some c 0 vs r.some)
       (λ cs e. entering_same cs c 0 vs ∙ ap (λ c. Meaning.entering c 0 vs) e) refl
   acts Stops r = stops Stops r refl
   acts (Reads c n x) r =

@@ -196,7 +196,7 @@ performed_waits g s vs (Reads c n x) = refl
 performed_waits g s vs (Fills c n x a i v) = refl
 performed_waits g s vs (Puts j v) = refl
 
-abbrev bare_end : Option (MeanEnd × Plain) → Option (MeanEnd × Plain)
+abbrev pub bare_end : Option (MeanEnd × Plain) → Option (MeanEnd × Plain)
 bare_end None = None
 bare_end (Some r) = Some (r.0, bare r.1)
 
@@ -206,7 +206,7 @@ ended n = elim n [ Goes t rs vs d ↦ Some (Steps, t) | Stays t e ↦ Some (e, t
 abbrev went : Graph → ℕ → Next → Option (MeanEnd × Plain)
 went g k n = elim n [ Goes t rs vs d ↦ run_among g k (performed g t vs d) rs | Stays t e ↦ Some (e, t) | Breaks ↦ None ]
 
-run_rows : (g : Graph) (k : ℕ) (s : Plain) → run_among g k (bare s) (λ c. mine c s.waiting) ≡ bare_end (run_of g k s)
+pub run_rows : (g : Graph) (k : ℕ) (s : Plain) → run_among g k (bare s) (λ c. mine c s.waiting) ≡ bare_end (run_of g k s)
 run_rows g zero s = ap ended (next_rows g s) ∙ go (next_in g s)
   where
     go : (n : Came) → ended (rowed n) ≡ bare_end (elim n [ Acts t vs d ↦ Some (Steps, t) | Ends t e ↦ Some (e, t) | Broken ↦ None ])

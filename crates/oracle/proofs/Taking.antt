@@ -32,6 +32,7 @@ pub record Taking (g : Graph) (k : ℕ) (cs : List Context) (m : ℕ) (own : Lis
   pub is_known : IsKnown g cs m act.0 act.1
   pub turn : DeedTurn k act.1
   pub put : IsShown g act.1
+  pub some : 0 < length act.0
 
 -- each in its turn
 abbrev pub AreTaking : Graph → ℕ → List Context → ℕ → (Deed → Type 0) → List Token → List (List Value × Deed) → List Activity → Type 0
@@ -77,6 +78,7 @@ module _ (g : Graph) (k : ℕ) (xs ys : List Invocation) (cs ds : List Context) 
     is_known = known_same g xs ys cs ds old new more act.0 act.1 t.is_known;
     turn = turn t.turn;
     put = t.put;
+    some = t.some;
   }
 
   pub taking_moved : (j : ℕ) (P Q : Deed → Type 0) → ((d : Deed) → DeedTurn k d → DeedTurn j d) → ((d : Deed) → P d → Q d)

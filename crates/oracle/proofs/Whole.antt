@@ -1,6 +1,6 @@
 -- A whole run of numbered invocations is a run of the meaning, and what it reports is true.
 use Rattle.std.proofs.Common.{◌≡◌, ℕ, zero, suc, ◌+◌, ◌<◌, ◌≤◌, ◌^◌, ℤ, List, [], ◌∷◌, ◌++◌, map, length, Option, Some, None, slice_get}
-use Rattle.std.proofs.Common.{IsPermutation, refl, sym, ap, ◌∙◌, subst, arith, append-nil}
+use Rattle.std.proofs.Common.{IsPermutation, refl, sym, ap, ◌∙◌, subst, arith, append-nil, inl, inr}
 use Rattle.std.proofs.lemmas.List.Sorted.{IsPermutation-refl}
 use Rattle.std.proofs.lemmas.Option.{same_Some}
 use Rattle.tags.specs.declared.value.Value.{Value}
@@ -11,7 +11,8 @@ use Rattle.semantics.specs.WellFormed.{WellFormed}
 use Rattle.semantics.specs.Faithful.{inputs_of}
 use Rattle.semantics.specs.Meaning.{Context, Tagged, Memory, State, Activity, Step, Run, Reached, start, entering}
 use Rattle.semantics.specs.Meaning as Meaning
-use Rattle.lemmas.proofs.Permutations.{each_append, each_weaker}
+use Rattle.std.specs.Prelude.{⊤}
+use Rattle.lemmas.proofs.Permutations.{Within, each_append, each_weaker}
 use Rattle.law_confluence.proofs.OutcomeResolved.{flow_well}
 use Rattle.law_confluence.proofs.Outcome.{determinacy, second_store_from}
 use Rattle.oracle.specs.declared.invocations.Made.TheVariants.{Main}
@@ -27,8 +28,9 @@ use Rattle.oracle.specs.Running.{Plain, main_place, start_of, Came, Acts, Ends, 
 use Rattle.oracle.specs.Meant.{name_in, made_of, tagged_of}
 use Rattle.oracle.specs.Naming.{Named, IsBelow}
 use Rattle.oracle.specs.Reporting.{cell_at, AreFull, IsEnd, IsOutcome, IsMeant, RunsEnd, ReportsAreTrue}
+use Rattle.oracle.proofs.Counted.{token_named}
 use Rattle.oracle.proofs.Filling.{empty_at_start, nones_long, cells_long}
-use Rattle.oracle.proofs.Following.{Sound, RunsSoFar, Ready, Ended, Outcome}
+use Rattle.oracle.proofs.Following.{Sound, RunsSoFar, Ready, Ended, Rested, Outcome}
 use Rattle.oracle.proofs.Fulls.{full_law}
 use Rattle.oracle.proofs.Nexting.{next_law}
 use Rattle.oracle.proofs.Performing.{enabled, acted}
@@ -63,6 +65,10 @@ module _ (g : Graph) (well : WellFormed g) (inputs : List ℤ) where
   abbrev values : List Value
   values = map (λ (z : ℤ). Int z) inputs
 
+  only_main : (c : Context) → Within c cs → c ≡ Meaning.Main
+  only_main c (zs, inl p) = p.0
+  only_main c (zs, inr p) = absurd p.2
+
   pub begins : RunsSoFar g inputs 0 (start_of g inputs)
   begins =
       let sound : Sound g 0 (start_of g inputs) = record {
@@ -88,14 +94,24 @@ module _ (g : Graph) (well : WellFormed g) (inputs : List ℤ) where
           sym (empty_at_start g.arrays (outputs_at g (main_place g))),
         );
         count = refl;
+        past = record {
+          others = [];
+          first = refl;
+          seen = λ x k. token_named cs 1 (entering_tokens 0 0 values ++ []) refl sound.known x k;
+          touched = λ c k. inl (only_main c k);
+        };
       }
 
 -- THE RUN
 
+abbrev pub RestOut : Graph → List ℤ → ℕ → Plain → MeanEnd → Type 0
+RestOut g inputs j s Rest = Rested g inputs j s
+RestOut g inputs j s e = ⊤
+
 -- after at most n activities it ends as it says
-abbrev RunOut : Graph → List ℤ → ℕ → Option (MeanEnd × Plain) → Type 0
+abbrev pub RunOut : Graph → List ℤ → ℕ → Option (MeanEnd × Plain) → Type 0
 RunOut g inputs n None = ⊥
-RunOut g inputs n (Some r) = (j : ℕ) × (e : Ended g inputs j r.1.cells r.1.outputs r.0) × (j ≤ n) × IsEnd g n e.run e.state r.0
+RunOut g inputs n (Some r) = (j : ℕ) × (e : Ended g inputs j r.1.cells r.1.outputs r.0) × (j ≤ n) × IsEnd g n e.run e.state r.0 × RestOut g inputs j r.1 r.0
 
 module _ (g : Graph) (text : HasText g) (well : WellFormed g) (inputs : List ℤ) (fit : length inputs ≡ inputs_of (flow_of g)) where
   steps_out : (n : ℕ) (s : Plain) (vs : List Value) (d : Deed) → Ready g inputs n s vs d → RunOut g inputs n (Some (Steps, s))
@@ -114,12 +130,13 @@ module _ (g : Graph) (text : HasText g) (well : WellFormed g) (inputs : List ℤ
         },
         omega arith,
         (r.count, a),
+        tt,
       )
 
   -- other ends than by the number of steps
   ends_out : (k n : ℕ) → k ≤ n → (s : Plain) (e : MeanEnd) → Outcome g inputs k (Ends s e) → RunOut g inputs n (Some (e, s))
-  ends_out k n le s Rest h = (k, h, le, h.ended)
-  ends_out k n le s (Clash a i) h = (k, h, le, h.ended)
+  ends_out k n le s Rest h = (k, h.ended, le, h.ended.ended, h)
+  ends_out k n le s (Clash a i) h = (k, h, le, h.ended, tt)
   ends_out k n le s Steps h = absurd h
 
   run_law : (steps k n : ℕ) → k + steps ≡ n → n < 2 ^ 64 → (s : Plain) → RunsSoFar g inputs k s → RunOut g inputs n (run_of g steps s)
@@ -155,7 +172,7 @@ module _ (g : Graph) (text : HasText g) (well : WellFormed g) (inputs : List ℤ
       ] in
       cases (next_in g s) (next_law g text well inputs fit k less s.invocations s.cells s.outputs s.fresh s.waiting s.deferred f)
 
-  whole : (steps : ℕ) → steps < 2 ^ 64 → RunOut g inputs steps (run_of g steps (start_of g inputs))
+  pub whole : (steps : ℕ) → steps < 2 ^ 64 → RunOut g inputs steps (run_of g steps (start_of g inputs))
   whole steps low = run_law steps 0 steps (omega arith) low (start_of g inputs) (begins g well inputs)
 
   -- WHAT IS REPORTED

@@ -1,5 +1,6 @@
 pub mod Acting
 pub mod Agreeing
+pub mod Calling
 pub mod Deeds
 pub mod Fetches
 pub mod Gathering

@@ -1,11 +1,10 @@
 //! The fetches that wait where the meaning is at rest.
 
-ghost use Rattle.std.specs.Prelude.{◌≡◌, ◌≢◌, ◌↔◌, ◌≤◌, ◌++◌, ◌∷◌, [], length, Some, None, IfOk, OnOk, IfSome};
-ghost use Rattle.oracle.specs.declared.report.MeanEnd.TheVariants.{Rest};
+ghost use Rattle.std.specs.Prelude.{◌≡◌, ◌≢◌, ◌↔◌, ◌≤◌, ◌++◌, ◌∷◌, [], length, None, IfOk, OnOk, IfSome, IfNone};
+ghost use Rattle.oracle.specs.Calling.{Rests};
 ghost use Rattle.oracle.specs.Fetches.{fetch_at, fetch_under, fetches_of};
 ghost use Rattle.oracle.specs.Lines.{total_of, inputs_at};
-ghost use Rattle.oracle.specs.Rows.{rows_of, run_among};
-ghost use Rattle.oracle.specs.Running.{Plain, main_place, run_result, start_of};
+ghost use Rattle.oracle.specs.Running.{Plain, main_place, run_result};
 
 use crate::invocations::Invocations;
 use crate::lines::{Line, blocks_of, input_count, line_at};
@@ -84,8 +83,9 @@ fn run_to_rest<'a, A: Allocator + Clone>(
 ) -> Result<Option<Vec<WaitingFetch, A>>, AllocError>
     requires few { total_of checked.now.arrays ≤ 65536 }
     requires has_end { run_result checked.now inputs.now steps ≢ None }
-    ensures { IfOk result (λ r. IfSome r (λ v. (s : Plain) × (run_among checked.now steps (start_of checked.now inputs.now) (rows_of []) ≡ Some (Rest, s))
+    ensures fetches { IfOk result (λ r. IfSome r (λ v. (s : Plain) × Rests checked.now inputs.now steps s
         × (v.items ≡ fetches_of checked.now s.invocations s.deferred))) }
+    ensures none { IfOk result (λ r. IfNone r ((s : Plain) → Rests checked.now inputs.now steps s → ⊥)) }
 {
     let mut state = start(alloc.clone()?, checked, inputs)?;
     let uses = list_uses(alloc.clone()?, blocks_of(checked))?;
@@ -109,8 +109,9 @@ pub fn waiting_fetches<'a, A: Allocator + Clone>(
     steps: u64,
 ) -> Result<Option<Vec<WaitingFetch, A>>, MeanFault>
     ensures wrong { result ≡ Err MeanFault.WrongInputs ↔ (length inputs.now ≢ inputs_at checked.now (main_place checked.now)) }
-    ensures fetches { IfOk result (λ r. IfSome r (λ v. (s : Plain) × (run_among checked.now steps (start_of checked.now inputs.now) (rows_of [])
-        ≡ Some (Rest, s)) × (v.items ≡ fetches_of checked.now s.invocations s.deferred))) }
+    ensures fetches { IfOk result (λ r. IfSome r (λ v. (s : Plain) × Rests checked.now inputs.now steps s
+        × (v.items ≡ fetches_of checked.now s.invocations s.deferred))) }
+    ensures none { IfOk result (λ r. IfNone r ((s : Plain) → Rests checked.now inputs.now steps s → ⊥)) }
 {
     if inputs.len() != input_count(checked.graph(), checked.main_place()) {
         return Err(MeanFault::WrongInputs);

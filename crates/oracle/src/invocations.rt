@@ -1,9 +1,11 @@
 //! The invocations of blocks, numbered: each is named by the place where it was made, and found by it in a map.
 
-ghost use Rattle.std.specs.Prelude.{◌≡◌, ◌++◌, ◌∷◌, [], None, Some, length, slice_get, option_copied, unwrap_or, IfOk, IfSome, OnOk, OnErr};
+ghost use Rattle.std.specs.Prelude.{◌≡◌, ◌++◌, ◌∷◌, ◌-◌, [], None, Some, length, slice_get, option_copied, unwrap_or, IfOk, IfSome, OnOk, OnErr};
 ghost use Rattle.std.specs.HashMap.{get, Updates, IsUnchanged};
+ghost use Rattle.oracle.specs.Calling.{iterations_in};
 ghost use Rattle.oracle.specs.Running as Running;
 
+use crate::report::CallCounts;
 use std::alloc::{AllocError, Allocator};
 use std::collections::HashMap;
 use std::hash::{BuildHasherDefault, FoldHasher};
@@ -76,6 +78,16 @@ fn is_same(left: Made, right: Made) -> bool
     }
 }
 
+/// How many of these are iterations of loops.
+fn count_iterations(invocations: &[Invocation]) -> usize
+    ensures { result ≡ iterations_in invocations.now }
+{
+    invocations
+        .iter()
+        .filter(|invocation| matches!(invocation.made, Made::Turned { .. }))
+        .count()
+}
+
 /// The number that the map has for a place. The given one is put there where it has none.
 fn kept_at<A: Allocator + Clone>(
     numbers: &mut HashMap<Made, usize, BuildHasherDefault<FoldHasher>, A>,
@@ -119,6 +131,17 @@ impl<A: Allocator + Clone> Invocations<A> {
         match self.last {
             Some(last) if is_same(last.made, *made) => Some(last.number),
             _ => None,
+        }
+    }
+
+    /// How many there are beside main, which is the first, and how many of them are iterations.
+    pub fn counts(&self) -> CallCounts
+        ensures invocations { result.invocations ≡ length self.now - 1 }
+        ensures iterations { result.iterations ≡ iterations_in self.now }
+    {
+        CallCounts {
+            invocations: self.len().saturating_sub(1),
+            iterations: count_iterations(&self.table),
         }
     }
 

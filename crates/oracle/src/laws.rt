@@ -1,6 +1,7 @@
 //! How the run agrees with the meaning.
 
 ghost use Rattle.oracle.specs.Agreeing.{JoinsAgree, SendingAgrees};
+ghost use Rattle.oracle.specs.Calling.{CallsAreTold};
 ghost use Rattle.oracle.specs.Naming.{DeedsAreKnown, EnteringAgrees};
 ghost use Rattle.oracle.specs.Reporting.{RunsEnd, ReportsAreTrue};
 ghost use Rattle.oracle.specs.Waves.{WorkIsOne, SpanIsLow};
@@ -27,4 +28,10 @@ pub fn runs_are_meant()
 pub fn waves_are_meant()
     ensures work { WorkIsOne }
     ensures span { SpanIsLow }
+{}
+
+/// Where the run that `mean` makes came to rest and no fetch is deferred, its invocations beside main are those that the meaning calls for, and no
+/// others.
+pub fn calls_are_told()
+    ensures { CallsAreTold }
 {}

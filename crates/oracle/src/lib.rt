@@ -2,6 +2,7 @@
 //! Transactions on Computers 39(3), 1990).
 #![tactic(auto)]
 
+mod calls;
 mod deeds;
 mod fetches;
 mod gather;
@@ -18,8 +19,9 @@ mod tokens;
 mod uses;
 mod wave;
 
+pub use calls::call_counts;
 pub use fetches::waiting_fetches;
-pub use laws::{runs_are_meant, steps_agree, waves_are_meant};
+pub use laws::{calls_are_told, runs_are_meant, steps_agree, waves_are_meant};
 pub use profile::waves;
-pub use report::{Full, MeanEnd, MeanFault, MeanReport, WaitingFetch, WaveReport};
+pub use report::{CallCounts, Full, MeanEnd, MeanFault, MeanReport, WaitingFetch, WaveReport};
 pub use runs::mean;

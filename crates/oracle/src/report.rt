@@ -50,6 +50,14 @@ pub struct WaveReport<A: Allocator> {
     pub counts: Vec<u64, A>,
 }
 
+/// How many invocations beside main a meaning calls for: calls, and iterations of loops.
+#[derive(Clone, Copy, Debug, PartialEq, Eq)]
+pub struct CallCounts {
+    pub invocations: usize,
+    /// How many of the invocations are iterations of loops.
+    pub iterations: usize,
+}
+
 /// Why a graph was not run.
 #[derive(Clone, Copy, Debug, Drop, PartialEq, Eq)]
 pub enum MeanFault {

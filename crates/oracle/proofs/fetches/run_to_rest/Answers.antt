@@ -11,8 +11,8 @@ run-requires-clause-has_end g c =
     λ e. c.requires.has_end (told_none c.args.checked.now c.args.inputs.now c.args.steps first s.waiting.items (λ v. v.items) c.in_ok-state.ensures.0
     c.in_ok-state.ensures.1 e)
 
-pub returns-in_ok-fetches-in-Rest : goal.returns-in_ok-fetches-in-Rest
-returns-in_ok-fetches-in-Rest g c =
+pub returns-in_ok-fetches-in-Rest-clause-fetches : goal.returns-in_ok-fetches-in-Rest-clause-fetches
+returns-in_ok-fetches-in-Rest-clause-fetches g c =
     let s = c.in_ok-state.state in
     let n = c.run.new.state in
     let checked = c.args.checked.now in
