@@ -92,6 +92,10 @@ pub record IsFor (f : Fixed) (t : Token) : Type 0 where
 abbrev pub with_more : LaneView → List Token → LaneView
 with_more l ts = record { program = l.program; steps = l.steps; held = with_queue l.held (l.held.queue ++ ts) }
 
+-- without its tokens
+abbrev pub emptied : LaneView → LaneView
+emptied l = record { program = l.program; steps = l.steps; held = with_queue l.held [] }
+
 -- it has made all its events
 abbrev pub IsSpent : LaneView → Type 0
 IsSpent l = l.held.made ≡ l.steps

@@ -135,7 +135,14 @@ impl<'m, A: Allocator> Contents<'m, A> {
         Ok(())
     }
 
-    /// How many events it has made: each takes a token out of the queue, and nothing else does.
+    /// Lets all its tokens go. That makes no event.
+    pub fn clear_queue(&mut self)
+        ensures { held_in self.new ≡ with_queue (held_in self.old) [] }
+    {
+        self.queue.clear();
+    }
+
+    /// How many events it has made: each counts a token as taken out of the queue, and nothing else does.
     #[inline(always)]
     pub fn made(&self) -> u64
         ensures { result ≡ (held_in self.now).made }

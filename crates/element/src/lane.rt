@@ -5,7 +5,7 @@ ghost use Rattle.std.specs.Vec.{vec_capacity};
 ghost use Rattle.tags.specs.declared.slot.SlotState.TheVariants.{Empty};
 ghost use Rattle.frame_store.specs.BankViews.{bank_states};
 ghost use Rattle.element.specs.Parts.{slot_place};
-ghost use Rattle.element.specs.Holding.{fixed_of, with_more, IsFor, IsSpent, IsSoundLane};
+ghost use Rattle.element.specs.Holding.{fixed_of, with_more, emptied, IsFor, IsSpent, IsSoundLane};
 ghost use Rattle.element.specs.Steps.{Steps, Stays, Picks, MakesEvents, SendsEvents};
 ghost use Rattle.element.specs.Openings.{opened, shape_at, IsOpening, StartsAs};
 
@@ -197,6 +197,13 @@ impl<'m, C: Instructions, A: Allocator> Lane<'m, C, A> {
     {
         self.contents.receive_one(token)?;
         Ok(())
+    }
+
+    /// Lets all its tokens go. That makes no event.
+    pub fn clear_queue(&mut self)
+        ensures { self.new ≡ emptied self.old }
+    {
+        self.contents.clear_queue();
     }
 
     /// The token that `pick` names, as `step` takes it.

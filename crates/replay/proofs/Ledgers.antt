@@ -1,11 +1,10 @@
 -- What a ledger is filled with.
-use Rattle.std.proofs.Common.{◌≡◌, refl, sym, ◌∙◌, ap, subst, ℕ, zero, suc, ◌+◌, ◌-◌, ◌*◌, ◌<◌, ◌≤◌, ℤ, List, [], ◌∷◌, ◌++◌, length, take, drop, get_or}
-use Rattle.std.proofs.Common.{arith, length-take-le, length-drop, get_or-drop, take_all, append_assoc, lit<}
+use Rattle.std.proofs.Common.{◌≡◌, refl, sym, ◌∙◌, ap, subst, ℕ, ◌+◌, ◌*◌, ◌<◌, ◌≤◌, ℤ, List, [], ◌∷◌, ◌++◌, length, map, take, get_or, suc, Option, Some}
+use Rattle.std.proofs.Common.{arith, length-map, length-take-le, take_all, lit<}
 use Rattle.std.specs.Prelude.{All}
 use Rattle.std.specs.List.{range_with_len}
 use Rattle.std.proofs.lemmas.List.{take_more}
 use Rattle.std.proofs.lemmas.List.Elements.{All-nil, All-cons, All-append, All-weaker}
-use Rattle.std.proofs.lemmas.List.FromFn.{length-range_with_len}
 use Rattle.tags.specs.declared.value.Value.TheVariants.{Int}
 use Rattle.tags.specs.declared.token.Port.TheVariants.{Left}
 use Rattle.tags.specs.declared.token.Cont.{Cont}
@@ -17,15 +16,15 @@ use Rattle.semantics.specs.Program.{Program, first_of}
 use Rattle.semantics.specs.Rule.{token}
 use Rattle.semantics.specs.Machine.{Store, Size, Events, input_tokens, at_start}
 use Rattle.element.specs.Near.{Bounds, IsNearToken}
-use Rattle.element.specs.Parts.{IsPart}
-use Rattle.element.specs.Holding.{LaneView, IsFor, fixed_of, bounds_at, with_more}
+use Rattle.element.specs.Holding.{LaneView, Fixed, IsFor, IsSoundLane, fixed_of, bounds_at, with_more, emptied}
 use Rattle.element.specs.Openings.{StartsAs}
 use Rattle.replay.specs.Views.{EntryView}
 use Rattle.replay.specs.declared.entry.Change.{Change}
 use Rattle.replay.specs.Books.{Book, IsEntry, AreEntries, opening, changed, all_changed}
-use Rattle.replay.specs.Entering.{start_tokens, IsWhole, Records}
+use Rattle.replay.specs.Entering.{start_tokens, on_way, numbers_from, IsWhole, Records}
 use Rattle.replay.specs.declared.extent.Extent.{Extent}
 use Rattle.replay.proofs.Entering.{on_first}
+use Rattle.replay.proofs.Places.{all_on_way, all_numbers}
 
 -- one more entry
 pub entries_push : (p : Program) (z : Size) (a b c : Book) (events : Events) (xs : List EntryView) (ev : ℕ × Token) (x : EntryView)
@@ -35,37 +34,6 @@ entries_push p z a b c [] [] ev x w e = (c, subst (λ (m : Book). IsEntry p z ev
 entries_push p z a b c [] (y ∷ ys) ev x w e = absurd w
 entries_push p z a b c (f ∷ events) [] ev x w e = absurd w
 entries_push p z a b c (f ∷ events) (y ∷ ys) ev x w e = (w.0, w.1, entries_push p z w.0 b c events ys ev x w.2 e)
-
--- one more number
-range_push : (a n : ℕ) → range_with_len a (suc n) ≡ range_with_len a n ++ (a + n) ∷ []
-range_push a zero = let e : a ≡ a + 0 = omega arith in ap (λ (i : ℕ). i ∷ []) e
-range_push a (suc n) =
-    let e : (a + 1) + n ≡ a + suc n = omega arith in
-    ap (λ (is : List ℕ). a ∷ is) (range_push (a + 1) n ∙ ap (λ (i : ℕ). range_with_len (a + 1) n ++ i ∷ []) e)
-
-pub range_more : (next number : ℕ) (xs ys zs : List ℕ) → next ≤ number → ys ≡ xs ++ range_with_len next (number - next) → zs ≡ ys ++ number ∷ []
-    → zs ≡ xs ++ range_with_len next (number + 1 - next)
-range_more next number xs ys zs low ys_are zs_are =
-    let count : number + 1 - next ≡ suc (number - next) = omega (arith, low) in
-    let last : next + (number - next) ≡ number = omega (arith, low) in
-    zs_are ∙ ap (λ (is : List ℕ). is ++ number ∷ []) ys_are ∙ append_assoc xs (range_with_len next (number - next)) (number ∷ [])
-    ∙ ap (λ (i : ℕ). xs ++ (range_with_len next (number - next) ++ i ∷ [])) (sym last)
-    ∙ ap (λ (is : List ℕ). xs ++ is) (sym (range_push next (number - next)))
-    ∙ ap (λ (n : ℕ). xs ++ range_with_len next n) (sym count)
-
--- the tokens of a list from a place on, one after the other
-pub tail_more : (first at : ℕ) (xs : List Token) (x : Token) → first ≤ at → at < length xs → x ≡ get_or xs at x
-    → take (at - first) (drop first xs) ++ x ∷ [] ≡ take (at + 1 - first) (drop first xs)
-tail_more first at xs x low high is =
-    let more : at + 1 - first ≡ at - first + 1 = omega (arith, low) in
-    let back : first + (at - first) ≡ at = omega (arith, low) in
-    let long = length-drop first xs in
-    let within : at - first < length (drop first xs) = omega (arith, low, high, long) in
-    sym (ap (λ (n : ℕ). take n (drop first xs)) more ∙ take_more (drop first xs) (at - first) x within
-    ∙ ap (λ (y : Token). take (at - first) (drop first xs) ++ y ∷ []) (get_or-drop first xs (at - first) x ∙ ap (λ (n : ℕ). get_or xs n x) back ∙ sym is))
-
-pub tail_all : (first at : ℕ) (xs : List Token) → length xs ≤ at → take (at - first) (drop first xs) ≡ drop first xs
-tail_all first at xs high = let long = length-drop first xs in take_all (at - first) (drop first xs) (omega (arith, high, long))
 
 -- THE TOKENS OF THE START
 inputs_push : (ip : ℕ) (xs : List ℤ) (x : ℤ) → input_tokens ip (xs ++ x ∷ []) ≡ input_tokens ip xs
@@ -110,48 +78,51 @@ start_for p x l whole some first inputs =
     (λ t near. record { near = near; addressed = ap (λ (n : ℕ). element_of n t.to) one ∙ on_first t.to ∙ sym whole.element })
     (start_tokens first inputs) (start_near (bounds_at (fixed_of l)) few first inputs)
 
--- a lane that receives tokens is whole still
-pub more_whole : (p : Program) (x : Extent) (l k : LaneView) (ts : List Token) → IsWhole p x l → All (IsFor (fixed_of l)) ts → k ≡ with_more l ts
-    → IsWhole p x k
-more_whole p x l k ts whole all is = subst (λ (v : LaneView). IsWhole p x v) (sym is) (record {
-  program = whole.program;
-  element = whole.element;
-  elements = whole.elements;
-  frames = whole.frames;
-  slots = whole.slots;
-  sound = record {
-    part = whole.sound.part;
-    near = All-append (IsNearToken (bounds_at (fixed_of l))) l.held.queue ts whole.sound.near
-        (All-weaker (IsFor (fixed_of l)) (IsNearToken (bounds_at (fixed_of l))) (λ t f. f.near) ts all);
-    addressed = All-append (λ (t : Token). element_of l.held.part.shape.elements t.to ≡ l.held.part.shape.element) l.held.queue ts whole.sound.addressed
-        (All-weaker (IsFor (fixed_of l)) (λ (t : Token). element_of l.held.part.shape.elements t.to ≡ l.held.part.shape.element) (λ t f. f.addressed) ts all);
-    answered = whole.sound.answered;
-  };
+-- with a token that it can receive, it is sound still
+pub more_sound : (l : LaneView) (t : Token) → IsSoundLane l.program l.held → IsFor (fixed_of l) t → (k : LaneView) → k ≡ with_more l (t ∷ [])
+    → IsSoundLane k.program k.held
+more_sound l t sound fit k is = subst (λ (v : LaneView). IsSoundLane v.program v.held) (sym is) (record {
+  part = sound.part;
+  near = All-append (IsNearToken (bounds_at (fixed_of l))) l.held.queue (t ∷ []) sound.near
+      (All-cons (IsNearToken (bounds_at (fixed_of l))) t [] fit.near (All-nil (IsNearToken (bounds_at (fixed_of l)))));
+  addressed = All-append (λ (u : Token). element_of l.held.part.shape.elements u.to ≡ l.held.part.shape.element) l.held.queue (t ∷ []) sound.addressed
+      (All-cons (λ (u : Token). element_of l.held.part.shape.elements u.to ≡ l.held.part.shape.element) t [] fit.addressed
+      (All-nil (λ (u : Token). element_of l.held.part.shape.elements u.to ≡ l.held.part.shape.element)));
+  answered = sound.answered;
 })
 
--- and each of its tokens has a number
-pub begun_numbered : (numbers more : List ℕ) (q r ts : List Token) (next count : ℕ) → numbers ≡ [] → q ≡ [] → more ≡ numbers ++ range_with_len next count
-    → r ≡ q ++ ts → count ≡ length ts → length more ≡ length r
-begun_numbered numbers more q r ts next count none empty more_is r_is counted =
-    ap (λ (l : List ℕ). length l) (more_is ∙ ap (λ (l : List ℕ). l ++ range_with_len next count) none) ∙ length-range_with_len next count ∙ counted
-    ∙ sym (ap (λ (l : List Token). length l) (r_is ∙ ap (λ (l : List Token). l ++ ts) empty))
+-- as is one without its tokens
+pub emptied_sound : (l k : LaneView) → IsSoundLane l.program l.held → k ≡ emptied l → IsSoundLane k.program k.held
+emptied_sound l k sound is = subst (λ (v : LaneView). IsSoundLane v.program v.held) (sym is) (record {
+  part = sound.part;
+  near = All-nil (IsNearToken (bounds_at (fixed_of l)));
+  addressed = All-nil (λ (u : Token). element_of l.held.part.shape.elements u.to ≡ l.held.part.shape.element);
+  answered = sound.answered;
+})
 
--- once it received them, it has what the books have that are opened
-pub opened_records : (p : Program) (l k : LaneView) (inputs : List ℤ) (tokens : List Token) (numbers more : List ℕ) (next after count : ℕ)
-    → StartsAs p l.held.part → l.held.queue ≡ [] → numbers ≡ [] → next ≡ 0
-    → tokens ≡ start_tokens (first_of p p.main) inputs → k ≡ with_more l tokens → more ≡ numbers ++ range_with_len next count → after ≡ next + count
-    → count ≡ length tokens → Records k more after (opening p inputs)
-opened_records p l k inputs tokens numbers more next after count starts none no_numbers first are is more_are after_is count_is =
-    let pool : k.held.queue ≡ start_tokens (first_of p p.main) inputs = ap (λ (v : LaneView). v.held.queue) is ∙ ap (λ (ts : List Token). ts ++ tokens) none
-    ∙ are in
-    let long : count ≡ length (start_tokens (first_of p p.main) inputs) = count_is ∙ ap (λ (ts : List Token). length ts) are in
+-- a lane can receive what it holds
+pub held_for : (l : LaneView) (f : Fixed) → IsSoundLane l.program l.held → fixed_of l ≡ f → All (IsFor f) l.held.queue
+held_for l f sound is = subst (λ (x : Fixed). All (IsFor x) l.held.queue) is
+    (λ i d low. record { near = sound.near i d low; addressed = sound.addressed i d low })
+
+-- THE START. What the ledger has then is what the books have that are opened.
+pub opened_records : (p : Program) (l : LaneView) (inputs : List ℤ) (tokens : List Token) (places more : List (Option Token))
+    → StartsAs p l.held.part → places ≡ [] → tokens ≡ start_tokens (first_of p p.main) inputs → more ≡ places ++ map Some tokens
+    → Records l more (opening p inputs)
+opened_records p l inputs tokens places more starts none are more_are =
+    let is : more ≡ map Some tokens = more_are ∙ ap (λ (ps : List (Option Token)). ps ++ map Some tokens) none in
+    let long = length-map Some tokens in
     record {
-      part = subst (λ (v : LaneView). IsPart v.held.part (at_start p inputs).store) (sym is) (starts inputs);
-      pool = sym pool;
-      numbers = sym (more_are ∙ ap (λ (ns : List ℕ). ns ++ range_with_len next count) no_numbers ∙ ap (λ (n : ℕ). range_with_len n count) first
-          ∙ ap (λ (n : ℕ). range_with_len 0 n) long);
-      next = sym (after_is ∙ ap (λ (n : ℕ). n + count) first ∙ (let zero_plus : 0 + count ≡ count = omega arith in zero_plus) ∙ long);
+      part = starts inputs;
+      pool = sym (ap on_way is ∙ all_on_way tokens ∙ are);
+      numbers = sym (ap (numbers_from 0) is ∙ all_numbers 0 tokens ∙ ap (λ (ts : List Token). range_with_len 0 (length ts)) are);
+      next = sym (ap (λ (ps : List (Option Token)). length ps) is ∙ long ∙ ap (λ (ts : List Token). length ts) are);
     }
+
+pub opened_near : (P : Token → Type 0) (tokens : List Token) (places more : List (Option Token)) → places ≡ [] → more ≡ places ++ map Some tokens
+    → All P tokens → All P (on_way more)
+opened_near P tokens places more none more_are all = subst (All P)
+    (sym (ap on_way (more_are ∙ ap (λ (ps : List (Option Token)). ps ++ map Some tokens) none) ∙ all_on_way tokens)) all
 
 -- the next entry of the events in order
 pub entries_next : (p : Program) (z : Size) (a b c : Book) (events : Events) (i : ℕ) (ev : ℕ × Token) (xs ys : List EntryView) (x : EntryView)

@@ -6,6 +6,7 @@ pub mod Watching
 pub mod Deeds
 pub mod Complete
 pub mod Same
+pub mod Places
 pub mod Entering
 pub mod Ledgers
 pub mod Determined

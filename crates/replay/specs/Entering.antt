@@ -1,5 +1,6 @@
 -- How the books of a run are kept: on one lane that holds the whole machine.
-use Rattle.std.specs.Prelude.{◌≡◌, ℕ, ◌+◌, ◌*◌, ◌^◌, ◌<◌, ◌≤◌, ◌==◌, nat_lt, if◌then◌else◌, ℤ, List, [], ◌∷◌, length, sum, Option, Some, None, slice_get, ⊤}
+use Rattle.std.specs.Prelude.{◌≡◌, ℕ, zero, suc, ◌+◌, ◌*◌, ◌^◌, ◌<◌, ◌≤◌, ◌==◌, nat_lt, if◌then◌else◌, ℤ, List, [], ◌∷◌, length, sum, Option, Some, None, slice_get, ⊤}
+use Rattle.std.specs.Prelude.{All}
 use Rattle.tags.specs.declared.token.Port.TheVariants.{Left}
 use Rattle.tags.specs.declared.token.Cont.{Cont}
 use Rattle.tags.specs.declared.token.Word.{Word}
@@ -11,7 +12,7 @@ use Rattle.semantics.specs.Program.{Program, instr_at, first_of}
 use Rattle.semantics.specs.Rule.{token}
 use Rattle.semantics.specs.Machine.{Store, Machine, Size, Event, Events, Happens, outputs_of, slot_used, input_tokens}
 use Rattle.element.specs.Parts.{IsPart}
-use Rattle.element.specs.Holding.{LaneView, IsSoundLane}
+use Rattle.element.specs.Holding.{Holding, LaneView, IsFor, IsSoundLane, fixed_of, with_queue}
 use Rattle.frame_order.specs.InOrder.{OrderedRun, IsOrdered}
 use Rattle.element.specs.Openings.{StartsAs}
 use Rattle.element.specs.Steps.{Does}
@@ -103,58 +104,77 @@ IsThere x y = (y.frame < x.frames) × (y.slot < x.slots)
 abbrev pub StateIs : LaneView → Option Place → SlotState → Type 0
 StateIs l place v = (s : Store) → IsPart l.held.part s → v ≡ state_at s place
 
--- The lane and the numbers of its tokens have what the books have.
-pub record Records (l : LaneView) (given : List ℕ) (upcoming : ℕ) (b : Book) : Type 0 where
+-- THE TOKENS THAT ARE ON THEIR WAY, and their numbers from one on: each stands in the place of its number until it is taken.
+abbrev pub on_way : List (Option Token) → List Token
+on_way [] = []
+on_way (None ∷ places) = on_way places
+on_way (Some t ∷ places) = t ∷ on_way places
+
+abbrev pub numbers_from : ℕ → List (Option Token) → List ℕ
+numbers_from n [] = []
+numbers_from n (None ∷ places) = numbers_from (n + 1) places
+numbers_from n (Some t ∷ places) = n ∷ numbers_from (n + 1) places
+
+-- The lane and the places have what the books have.
+pub record Records (l : LaneView) (places : List (Option Token)) (b : Book) : Type 0 where
   pub part : IsPart l.held.part b.store
-  pub pool : b.pool ≡ l.held.queue
-  pub numbers : b.numbers ≡ given
-  pub next : b.next ≡ upcoming
+  pub pool : b.pool ≡ on_way places
+  pub numbers : b.numbers ≡ numbers_from 0 places
+  pub next : b.next ≡ length places
 
 -- Whatever the books are that the ledger has, this is the entry of the event, and the ledger has the books after it.
 abbrev pub Enters : {C A : Type 0} → Program → Ledger C A → ℕ × Token → EntryView → Ledger C A → Type 0
 Enters p old ev x new = (z : Size) (b : Book) → z.elements ≡ old.extent.elements → z.elements * z.frames ≡ old.extent.frames
-    → Records old.lane old.numbers.items old.next b
-    → (n : Book) × IsEntry p z ev.0 ev.1 b n x × Records new.lane new.numbers.items new.next n
+    → Records old.lane old.places.items b
+    → (n : Book) × IsEntry p z ev.0 ev.1 b n x × Records new.lane new.places.items n
 
 -- the same of all of these events
 abbrev pub EntersAll : {C A : Type 0} → Program → Ledger C A → Events → List EntryView → Type 0
 EntersAll p old events entries = (z : Size) (b : Book) → z.elements ≡ old.extent.elements → z.elements * z.frames ≡ old.extent.frames
-    → Records old.lane old.numbers.items old.next b
+    → Records old.lane old.places.items b
     → (n : Book) × AreEntries p z b events entries n
 
 -- Whatever the books are that the ledger has, these events were entered and these are their changes, and the ledger has the books after them.
 abbrev pub Passes : {C A : Type 0} → Program → Ledger C A → Events → List Change → Ledger C A → Type 0
 Passes p old events changes new = (z : Size) (b : Book) → z.elements ≡ old.extent.elements → z.elements * z.frames ≡ old.extent.frames
-    → Records old.lane old.numbers.items old.next b
-    → (n : Book) × Passed p z b events changes n × Records new.lane new.numbers.items new.next n
+    → Records old.lane old.places.items b
+    → (n : Book) × Passed p z b events changes n × Records new.lane new.places.items n
 
--- each of the lane's tokens has its number
-abbrev pub IsNumbered : {C A : Type 0} → Ledger C A → Type 0
-IsNumbered g = length g.numbers.items ≡ length g.lane.held.queue
+-- The lane has no token, and can receive each that is on its way.
+pub record IsReady {C A : Type 0} (g : Ledger C A) : Type 0 where
+  pub idle : g.lane.held.queue ≡ []
+  pub near : All (IsFor (fixed_of g.lane)) (on_way g.places.items)
 
--- the lane took the token at that place
-abbrev pub Took : LaneView → ℕ → LaneView → Type 0
-Took old at new = (sent : List Token) × Does old.program old.held at [] new.held sent
+-- The lane, which had no token, took this one, and was left without those that this made.
+pub record Took (p : Program) (old : LaneView) (t : Token) (made : List Token) (new : LaneView) : Type 0 where
+  pub between : Holding
+  pub sent : List Token
+  pub does : Does p (with_queue old.held (t ∷ [])) 0 [] between sent
+  pub made_are : made ≡ between.queue
+  pub after : new.held ≡ with_queue between []
 
 -- WHAT IS NO RUN. Where the fault is that there is none, this is so.
 abbrev pub Says : ReplayRefusal → Type 0 → Type 0
 Says NotARun P = P
 Says Memory P = ⊤
 
--- In no machine of which the lane is the part, a rule lets the token at that place act.
-abbrev pub IsExcluded : LaneView → ℕ → Type 0
-IsExcluded l at = (t : Token) → slice_get l.held.queue at ≡ Some t → (s n : Store) (total : ℕ) (made : List Token) → IsPart l.held.part s
-    → Happens l.program total s t.to t.word made n → ⊥
+-- In no machine of which the lane is the part, a rule lets the token act.
+abbrev pub IsExcluded : LaneView → Token → Type 0
+IsExcluded l t = (s n : Store) (total : ℕ) (made : List Token) → IsPart l.held.part s → Happens l.program total s t.to t.word made n → ⊥
+
+-- the same of the lane's oldest token
+abbrev pub IsFirstExcluded : LaneView → Type 0
+IsFirstExcluded l = (t : Token) → slice_get l.held.queue 0 ≡ Some t → IsExcluded l t
 
 -- Whatever the books are that the ledger has, there is no such event.
 abbrev pub IsUnfit : {C A : Type 0} → Program → Ledger C A → ℕ × Token → Type 0
 IsUnfit p old ev = (z : Size) (b : Book) → z.elements ≡ old.extent.elements → z.elements * z.frames ≡ old.extent.frames
-    → Records old.lane old.numbers.items old.next b → (m : Machine) → Event p z ev.0 ev.1 (machine_of b) m → ⊥
+    → Records old.lane old.places.items b → (m : Machine) → Event p z ev.0 ev.1 (machine_of b) m → ⊥
 
 -- there is no run in order by these events
 abbrev pub AreUnfit : {C A : Type 0} → Program → Ledger C A → Events → Type 0
 AreUnfit p old events = (z : Size) (b : Book) → z.elements ≡ old.extent.elements → z.elements * z.frames ≡ old.extent.frames
-    → Records old.lane old.numbers.items old.next b → (last : Machine) → OrderedRun p z (machine_of b) events last → ⊥
+    → Records old.lane old.places.items b → (last : Machine) → OrderedRun p z (machine_of b) events last → ⊥
 
 -- No machine of this extent has a run by these events, from the start on these inputs on, in which the free frame of least number is handed out,
 -- and a released frame goes to the request that has waited longest.
@@ -174,12 +194,11 @@ pub record IsFreshLane (p : Program) (x : Extent) (l : LaneView) : Type 0 where
 -- nothing is entered yet
 pub record IsBlank {C A : Type 0} (p : Program) (g : Ledger C A) : Type 0 where
   pub lane : IsFreshLane p g.extent g.lane
-  pub numbers : g.numbers.items ≡ []
-  pub next : g.next ≡ 0
+  pub places : g.places.items ≡ []
 
 -- the ledger has the books of the start on these inputs
 abbrev pub Begins : {C A : Type 0} → Program → List ℤ → Ledger C A → Type 0
-Begins p inputs new = Records new.lane new.numbers.items new.next (opening p inputs)
+Begins p inputs new = Records new.lane new.places.items (opening p inputs)
 
 -- THE BOOKS of the events, from the start on these inputs on
 abbrev pub AreBooks : Program → Extent → List ℤ → Events → Events → BooksView → Type 0

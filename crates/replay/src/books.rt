@@ -67,7 +67,7 @@ where
     requires empty { store.old ≡ all_empty 1 extent.frames extent.slots }
     ensures { IfOk result (λ g. IsBlank (C.program code.now) g × (g.extent ≡ extent)) }
 {
-    let numbers = Vec::new(alloc.clone()?);
+    let places = Vec::new(alloc.clone()?);
     let index = TokenIndex::new(alloc.clone()?)?;
     let Some(bank) = store.banks().next() else {
         return Err(AllocError);
@@ -76,8 +76,7 @@ where
     Ok(Ledger {
         extent,
         lane,
-        numbers,
-        next: 0,
+        places,
         index,
     })
 }

@@ -1,13 +1,14 @@
 //! The books of a run while they are kept.
 
-ghost use Rattle.std.specs.Prelude.{◌≡◌, ◌<◌, ◌≤◌, ◌+◌, ◌++◌, ◌^◌, true, false, drop, length, nat_lt, slice_get, IfOk, IfErr, IfSome, IfNone, OnOk, Contains};
-ghost use Rattle.std.specs.List.{range_with_len};
+ghost use Rattle.std.specs.Prelude.{◌≡◌, ◌<◌, ◌≤◌, ◌++◌, ◌^◌, [], true, false, None, Some, length, map, set, nat_lt, slice_get, All, List, ℕ, IfOk, IfErr, IfSome, IfNone, OnOk};
 ghost use Rattle.semantics.specs.Program.{Program};
 ghost use Rattle.replay.specs.Books.{frame_change, host_change};
-ghost use Rattle.element.specs.Holding.{fixed_of, IsSoundLane};
-ghost use Rattle.replay.specs.Entering.{IsExtent, IsWhole, IsBlank, IsThere, IsNumbered, StateIs, Took, Enters, EntersAll, Passes, Begins, AreBooks};
-ghost use Rattle.replay.specs.Entering.{Says, IsExcluded, IsUnfit, AreUnfit, HasNoRun, start_tokens, place_used, deed_by, change_by};
-ghost use Rattle.replay.specs.Entering.{place_change, request_change, fetch_change};
+ghost use Rattle.element.specs.Holding.{fixed_of, IsFor, IsSoundLane};
+ghost use Rattle.element.specs.Steps.{Does};
+ghost use Rattle.tags.specs.declared.token.Token.{Token};
+ghost use Rattle.replay.specs.Entering.{IsExtent, IsWhole, IsBlank, IsThere, IsReady, StateIs, Took, Enters, EntersAll, Passes, Begins, AreBooks};
+ghost use Rattle.replay.specs.Entering.{Says, IsExcluded, IsFirstExcluded, IsUnfit, AreUnfit, HasNoRun, start_tokens, on_way, numbers_from};
+ghost use Rattle.replay.specs.Entering.{place_used, deed_by, change_by, place_change, request_change, fetch_change};
 
 use crate::acts::deed_at;
 use crate::entry::{Books, Change, Entry};
@@ -24,15 +25,14 @@ use tags::slot::SlotState;
 use tags::token::{Cont, Port, To, Token, Word};
 use tags::value::Value;
 
-/// A lane that is all of the machine, with the numbers of its tokens.
+/// A lane that is all of the machine, with the tokens that are on their way. An event takes as long however many these are.
 #[derive(Drop)]
 pub struct Ledger<'m, C: Instructions, A: Allocator> {
     pub extent: Extent,
+    /// It has a token only during an event.
     pub lane: Lane<'m, C, A>,
-    /// The numbers of the lane's tokens, in their order.
-    pub numbers: Vec<u64, A>,
-    /// The number that the next token gets.
-    pub next: u64,
+    /// Each token that was made, in the place of its number, until it is taken.
+    pub places: Vec<Option<Token>, A>,
     /// Says where to look for a token.
     pub index: TokenIndex<A>,
 }
@@ -163,87 +163,105 @@ pub fn start_tokens<A: Allocator>(
     alloc: A,
     main: u32,
     inputs: &[i64],
-) -> Result<Vec<PackedToken, A>, AllocError>
+) -> Result<Vec<Token, A>, AllocError>
     requires short { main < 2 ^ 30 }
     requires few { length inputs.now ≤ 16 }
     ensures { IfOk result (λ v. v.items ≡ start_tokens main inputs.now) }
 {
     let mut tokens = Vec::new(alloc);
-    tokens.push(PackedToken::pack(Token {
+    tokens.push(Token {
         to: To::Instr {
             frame: 0,
             ip: main,
             port: Port::Left,
         },
         word: Word::Back(Cont::Host { port: 0 }),
-    }))?;
+    })?;
     let mut ip = main;
     for input in inputs {
         ip += 1;
-        tokens.push(PackedToken::pack(Token {
+        tokens.push(Token {
             to: To::Instr {
                 frame: 0,
                 ip,
                 port: Port::Left,
             },
             word: Word::Val(Value::Int(*input)),
-        }))?;
+        })?;
     }
     Ok(tokens)
 }
 
-// Gives the next numbers to so many tokens, and says which number is next. An error is that memory was refused, or that there are too many
-// tokens to be numbered.
-fn number_all<A: Allocator>(
-    numbers: &mut Vec<u64, A>,
-    next: u64,
-    count: usize,
-) -> Result<u64, AllocError>
-    ensures after { IfOk result (λ after. after ≡ next + count) }
-    ensures all { IfOk result (λ after. numbers.new.items ≡ numbers.old.items ++ range_with_len next count) }
+// The tokens get the next places.
+fn place_all<A: Allocator>(
+    places: &mut Vec<Option<Token>, A>,
+    tokens: &[Token],
+) -> Result<(), AllocError>
+    ensures { OnOk result (places.new.items ≡ places.old.items ++ map Some tokens.now) }
 {
-    let Some(after) = next.checked_add(count as u64) else {
-        return Err(AllocError);
-    };
-    for number in next..after {
-        numbers.push(number)?;
+    for token in tokens {
+        places.push(Some(*token))?;
     }
-    Ok(after)
+    Ok(())
+}
+
+// The tokens that are on their way.
+fn tokens_in<A: Allocator>(alloc: A, places: &[Option<Token>]) -> Result<Vec<Token, A>, AllocError>
+    ensures { IfOk result (λ tokens. tokens.items ≡ on_way places.now) }
+{
+    let mut tokens = Vec::new(alloc);
+    for place in places {
+        if let Some(token) = *place {
+            tokens.push(token)?;
+        }
+    }
+    Ok(tokens)
+}
+
+// The numbers of the tokens that are on their way.
+fn numbers_in<A: Allocator>(alloc: A, places: &[Option<Token>]) -> Result<Vec<u64, A>, AllocError>
+    ensures { IfOk result (λ numbers. numbers.items ≡ numbers_from 0 places.now) }
+{
+    let mut numbers = Vec::new(alloc);
+    for number in 0..places.len() {
+        if places[number].is_some() {
+            numbers.push(number as u64)?;
+        }
+    }
+    Ok(numbers)
 }
 
 impl<'m, C: Instructions, A: Allocator> Ledger<'m, C, A> {
-    // Where the token may be among the lane's, as the index says: the numbers ascend.
-    fn likely_place(&self, token: &Token) -> Option<usize>
-        ensures { IfSome result (λ at. at < length self.now.lane.held.queue) }
+    // Whether the token of this number is on its way and is this one.
+    fn has(&self, number: usize, token: &Token) -> bool
+        ensures yes { result ≡ true → slice_get self.now.places.items number ≡ Some (Some token.now) }
+        ensures no { result ≡ false → slice_get self.now.places.items number ≡ Some (Some token.now) → ⊥ }
     {
-        let number = self.index.first(token)?;
-        let Ok(at) = self.numbers.binary_search(&number) else {
-            return None;
-        };
-        if at < self.lane.queue().len() {
-            Some(at)
-        } else {
-            None
+        match self.places.get(number) {
+            Some(Some(held)) => is_same(held, token),
+            _ => false,
         }
     }
 
-    // Where the token is among the lane's. All are searched only where it is not where it may be.
-    fn place_of(&self, token: &Token) -> Option<usize>
-        ensures there { IfSome result (λ at. slice_get self.now.lane.held.queue at ≡ Some token.now) }
-        ensures within { IfSome result (λ at. at < length self.now.lane.held.queue) }
-        ensures none { IfNone result (Contains self.now.lane.held.queue token.now → ⊥) }
+    // The number that the token may have, as the index says.
+    fn likely_number(&self, token: &Token) -> Option<usize> {
+        let number = self.index.first(token)?;
+        usize::try_from(number).ok()
+    }
+
+    // The number of the token. All places are searched only where it has not the number that it may have.
+    fn number_of(&self, token: &Token) -> Option<usize>
+        ensures there { IfSome result (λ number. slice_get self.now.places.items number ≡ Some (Some token.now)) }
+        ensures none { IfNone result ((number : ℕ) → slice_get self.now.places.items number ≡ Some (Some token.now) → ⊥) }
     {
-        let queue = self.lane.queue();
-        if let Some(at) = self.likely_place(token) {
-            let likely = queue.get(at);
-            if is_same(&likely, token) {
-                return Some(at);
+        if let Some(number) = self.likely_number(token) {
+            if self.has(number, token) {
+                return Some(number);
             }
         }
-        for at in 0..queue.len() {
-            let held = queue.get(at);
-            if is_same(&held, token) {
-                return Some(at);
+        for number in 0..self.places.len() {
+            if self.has(number, token) {
+                return Some(number);
             }
         }
         None
@@ -261,40 +279,81 @@ impl<'m, C: Instructions, A: Allocator> Ledger<'m, C, A> {
         }
     }
 
-    // The lane's tokens from that place on.
-    fn tokens_from(&self, alloc: A, first: usize) -> Result<Vec<Token, A>, AllocError>
-        ensures { IfOk result (λ tokens. tokens.items ≡ drop first self.now.lane.held.queue) }
+    // The lane's tokens.
+    fn tokens_held(&self, alloc: A) -> Result<Vec<Token, A>, AllocError>
+        ensures { IfOk result (λ tokens. tokens.items ≡ self.now.lane.held.queue) }
     {
         let queue = self.lane.queue();
         let mut tokens = Vec::new(alloc);
-        for at in first..queue.len() {
+        for at in 0..queue.len() {
             tokens.push(queue.get(at))?;
         }
         Ok(tokens)
     }
 
-    // The lane takes the token at that place. `NotARun` says that a rule excludes the token.
-    fn step(&mut self, alloc: &A, at: usize) -> Result<(), ReplayRefusal>
+    // The lane takes its oldest token. `NotARun` says that a rule excludes the token.
+    fn step(&mut self, alloc: &A) -> Result<(), ReplayRefusal>
     where
         A: Clone,
-        requires low { at < length self.old.lane.held.queue }
+        requires some { 0 < length self.old.lane.held.queue }
         requires sound { IsSoundLane self.old.lane.program self.old.lane.held }
-        ensures did { OnOk result (Took self.old.lane at self.new.lane) }
-        ensures excluded { IfErr result (λ fault. Says fault (IsExcluded self.old.lane at)) }
+        ensures did { OnOk result ((sent : List Token) × Does self.old.lane.program self.old.lane.held 0 [] self.new.lane.held sent) }
+        ensures excluded { IfErr result (λ fault. Says fault (IsFirstExcluded self.old.lane)) }
         ensures sound { IsSoundLane self.new.lane.program self.new.lane.held }
         ensures fixed { fixed_of self.new.lane ≡ fixed_of self.old.lane }
         ensures extent { self.new.extent ≡ self.old.extent }
-        ensures numbers { self.new.numbers ≡ self.old.numbers }
-        ensures next { self.new.next ≡ self.old.next }
+        ensures places { self.new.places ≡ self.old.places }
     {
         let mut sent = Vec::new(alloc.clone()?);
-        match self.lane.step::<()>(at as u64, &mut sent) {
+        match self.lane.step::<()>(0, &mut sent) {
             Some(Stepped::Did) => Ok(()),
             Some(Stepped::Idle) => Err(ReplayRefusal::NotARun),
             Some(Stepped::Clash { .. }) => Err(ReplayRefusal::NotARun),
             Some(Stepped::Stuck { .. }) => Err(ReplayRefusal::NotARun),
             Some(Stepped::Memory) | None => Err(ReplayRefusal::Memory),
         }
+    }
+
+    // The lane takes the token, and is left without those that it makes, which are answered. `NotARun` says that a rule excludes the token.
+    fn fire(&mut self, alloc: &A, token: Token) -> Result<Vec<Token, A>, ReplayRefusal>
+    where
+        A: Clone,
+        requires idle { self.old.lane.held.queue ≡ [] }
+        requires near { IsFor (fixed_of self.old.lane) token }
+        requires sound { IsSoundLane self.old.lane.program self.old.lane.held }
+        ensures did { IfOk result (λ made. Took self.old.lane.program self.old.lane token made.items self.new.lane) }
+        ensures near { IfOk result (λ made. All (IsFor (fixed_of self.old.lane)) made.items) }
+        ensures excluded { IfErr result (λ fault. Says fault (IsExcluded self.old.lane token)) }
+        ensures sound { IsSoundLane self.new.lane.program self.new.lane.held }
+        ensures fixed { fixed_of self.new.lane ≡ fixed_of self.old.lane }
+        ensures extent { self.new.extent ≡ self.old.extent }
+        ensures places { self.new.places ≡ self.old.places }
+    {
+        self.lane.receive(PackedToken::pack(token))?;
+        self.step(alloc)?;
+        let made = self.tokens_held(alloc.clone()?)?;
+        self.lane.clear_queue();
+        Ok(made)
+    }
+
+    // The token of this number is on its way no more, and those that it made are.
+    fn replace(
+        &mut self,
+        number: usize,
+        token: &Token,
+        made: &[Token],
+    ) -> Result<(), AllocError>
+    where
+        A: Clone,
+        requires { number < length self.old.places.items }
+        ensures places { OnOk result (self.new.places.items ≡ set self.old.places.items number None ++ map Some made.now) }
+        ensures lane { self.new.lane ≡ self.old.lane }
+        ensures extent { self.new.extent ≡ self.old.extent }
+    {
+        self.places[number] = None;
+        self.index.take(token)?;
+        self.index.put_all(made, self.places.len() as u64)?;
+        place_all(&mut self.places, made)
     }
 
     // Enters an event. `NotARun` says that the machine has no such event. After an error the ledger is of no use.
@@ -308,10 +367,10 @@ impl<'m, C: Instructions, A: Allocator> Ledger<'m, C, A> {
         A: Clone,
         requires whole { IsWhole (C.program code.now) self.old.extent self.old.lane }
         requires extent { IsExtent (C.program code.now) (C.width code.now) self.old.extent }
-        requires numbered { IsNumbered self.old }
+        requires ready { IsReady self.old }
         ensures whole { IsWhole (C.program code.now) self.new.extent self.new.lane }
         ensures extent { self.new.extent ≡ self.old.extent }
-        ensures numbered { IfOk result (λ x. IsNumbered self.new) }
+        ensures ready { IfOk result (λ x. IsReady self.new) }
         ensures entered { IfOk result (λ x. Enters (C.program code.now) self.old event.now x self.new) }
         ensures unfit { IfErr result (λ fault. Says fault (IsUnfit (C.program code.now) self.old event.now)) }
     {
@@ -319,25 +378,18 @@ impl<'m, C: Instructions, A: Allocator> Ledger<'m, C, A> {
         if token.to.element(self.extent.elements) != event.0 {
             return Err(ReplayRefusal::NotARun);
         }
-        let Some(at) = self.place_of(&token) else {
+        let Some(number) = self.number_of(&token) else {
             return Err(ReplayRefusal::NotARun);
         };
-        let number = self.numbers[at];
         let used = place_used(code, &token.to);
         let before = self.state_at(used);
-        let held = self.lane.queue().len();
-        self.step(alloc, at)?;
+        let made = self.fire(alloc, token)?;
         let after = self.state_at(used);
-        let made = self.tokens_from(alloc.clone()?, held - 1)?;
-        self.numbers.remove(at);
-        let next = self.next;
-        self.next = number_all(&mut self.numbers, next, made.len())?;
+        self.replace(number, &token, &made)?;
         let deed = deed_by(&token.to, &before, &after, made.len());
         let change = change_by(self.extent.outputs, &token, used, after, &made);
-        self.index.take(&token)?;
-        self.index.put_all(&made, next)?;
         Ok(Entry {
-            number,
+            number: number as u64,
             deed,
             change,
             made,
@@ -355,7 +407,7 @@ impl<'m, C: Instructions, A: Allocator> Ledger<'m, C, A> {
         A: Clone,
         requires whole { IsWhole (C.program code.now) self.old.extent self.old.lane }
         requires extent { IsExtent (C.program code.now) (C.width code.now) self.old.extent }
-        requires numbered { IsNumbered self.old }
+        requires ready { IsReady self.old }
         ensures entered { IfOk result (λ v. EntersAll (C.program code.now) self.old events.now v.items) }
         ensures unfit { IfErr result (λ fault. Says fault (AreUnfit (C.program code.now) self.old events.now)) }
     {
@@ -379,10 +431,10 @@ impl<'m, C: Instructions, A: Allocator> Ledger<'m, C, A> {
         A: Clone,
         requires whole { IsWhole (C.program code.now) self.old.extent self.old.lane }
         requires extent { IsExtent (C.program code.now) (C.width code.now) self.old.extent }
-        requires numbered { IsNumbered self.old }
+        requires ready { IsReady self.old }
         ensures whole { IsWhole (C.program code.now) self.new.extent self.new.lane }
         ensures extent { self.new.extent ≡ self.old.extent }
-        ensures numbered { IfOk result (λ v. IsNumbered self.new) }
+        ensures ready { IfOk result (λ v. IsReady self.new) }
         ensures passed { IfOk result (λ v. Passes (C.program code.now) self.old events.now v.items self.new) }
         ensures unfit { IfErr result (λ fault. Says fault (AreUnfit (C.program code.now) self.old events.now)) }
     {
@@ -403,14 +455,12 @@ impl<'m, C: Instructions, A: Allocator> Ledger<'m, C, A> {
         requires few { length inputs.now ≤ 16 }
         ensures whole { IsWhole (C.program code.now) self.new.extent self.new.lane }
         ensures extent { self.new.extent ≡ self.old.extent }
-        ensures numbered { OnOk result (IsNumbered self.new) }
+        ensures ready { OnOk result (IsReady self.new) }
         ensures begun { OnOk result (Begins (C.program code.now) inputs.now self.new) }
     {
         let tokens = start_tokens(alloc, self.extent.main, inputs)?;
-        self.lane.receive_all(&tokens)?;
-        let next = self.next;
-        self.next = number_all(&mut self.numbers, next, tokens.len())?;
-        Ok(())
+        self.index.put_all(&tokens, 0)?;
+        place_all(&mut self.places, &tokens)
     }
 
     /// The books of a run on these inputs: enters the tokens of the start, and then each of the events, and gives the entries of `events`, before
@@ -435,10 +485,9 @@ impl<'m, C: Instructions, A: Allocator> Ledger<'m, C, A> {
     {
         self.begin(alloc.clone()?, code, inputs)?;
         let changes = self.pass_all(&alloc, code, earlier)?;
-        let tokens = self.tokens_from(alloc.clone()?, 0)?;
-        let mut numbers = Vec::new(alloc.clone()?);
-        numbers.extend_from_slice(&self.numbers)?;
-        let next = self.next;
+        let tokens = tokens_in(alloc.clone()?, &self.places)?;
+        let numbers = numbers_in(alloc.clone()?, &self.places)?;
+        let next = self.places.len() as u64;
         let entries = self.enter_all(alloc, code, events)?;
         Ok(Books {
             changes,

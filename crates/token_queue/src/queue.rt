@@ -215,6 +215,16 @@ impl<A: Allocator> TokenQueue<A> {
         self.head = self.head.wrapping_add(1);
     }
 
+    /// Lets all tokens go, as if they had never been put in. The room stays.
+    #[inline(always)]
+    pub fn clear(&mut self)
+        ensures items { self.new.items ≡ [] }
+        ensures room { self.new.room ≡ self.old.room }
+        ensures gone { self.new.gone ≡ self.old.gone }
+    {
+        self.tail = self.head;
+    }
+
     /// Takes the token of this number out, the oldest being 0. Those before it move up.
     #[inline(never)]
     pub fn remove(&mut self, at: usize)

@@ -1,10 +1,10 @@
-use Rattle.std.proofs.Common.{◌∙◌, ◌++◌, sym, ap, ℕ, List}
+use Rattle.std.proofs.Common.{◌∙◌, ◌++◌, sym, ap}
 use Rattle.std.proofs.lemmas.Result.{err_from_is_err_and}
 use Rattle.semantics.specs.Machine.{at_start}
 use Rattle.frame_order.proofs.InOrder.{run_split}
 use Rattle.replay.specs.declared.extent.Extent.{Extent}
 use Rattle.replay.specs.Books.{opening}
-use Rattle.replay.specs.Entering.{AreUnfit, HasNoRun}
+use Rattle.replay.specs.Entering.{on_way, numbers_from, AreUnfit, HasNoRun}
 use Rattle.replay.proofs.Determined.{run_after}
 use Rattle.replay.proofs.Fitting.{passed_on}
 use Rattle.replay.proofs.ledger.Ledger.keep.Goals as goal
@@ -22,10 +22,9 @@ returns-clause-books g c z elements frames =
     record {
       first = n;
       passed = passed.1;
-      tokens = c.in_ok-tokens.ensures ∙ sym passed.2.pool;
-      numbers = c.in_ok-extend_from_slice.ensures.items ∙ ap (λ (ns : List ℕ). ns ++ c.deref.result.now) c.new-numbers.ensures.items
-          ∙ c.deref.ensures.value ∙ sym passed.2.numbers;
-      next = sym passed.2.next;
+      tokens = c.in_ok-tokens.ensures ∙ ap on_way c.deref.ensures.value ∙ sym passed.2.pool;
+      numbers = c.in_ok-numbers.ensures ∙ ap (numbers_from 0) c.deref-2.ensures.value ∙ sym passed.2.numbers;
+      next = c.len-next.ensures ∙ sym passed.2.next;
       last = entered.0;
       entries = entered.1;
     }

@@ -17,7 +17,7 @@ loop-event-preserved g c =
     record {
       whole = c.enter.ensures.whole;
       extent = c.enter.ensures.extent ∙ l.invariant.extent;
-      numbered = c.in_ok-entry.ensures.numbered;
+      ready = c.in_ok-entry.ensures.ready;
       so_far = λ z b elements frames records.
           let here = l.invariant.so_far z b elements frames records in
           let next = c.in_ok-entry.ensures.entered z here.0 (elements ∙ ap (λ (y : Extent). y.elements) (sym l.invariant.extent))

@@ -9,8 +9,8 @@ returns-in-Some-Clash-clause-excluded g c =
     let cell = c.in-Some-Clash.field-0-0 in
     let told = c.in-Some-Clash.field-0-is in
     let is : c.in-Some-Clash.field-0 ≡ Stepped.Clash cell = cc (told) in
-    clash_excluded l c.args.at c.requires.low cell
-    (clash_steps l c.args.at cell c.in-Some-Clash.field-0 c.new-sent.result.items c.step.new.self.held c.step.new.sent.items is c.in-Some-Clash.ensures.exact)
+    clash_excluded l cell
+    (clash_steps l cell c.in-Some-Clash.field-0 c.new-sent.result.items c.step.new.self.held c.step.new.sent.items is c.in-Some-Clash.ensures.exact)
 
 pub returns-in-Some-Stuck-clause-excluded : goal.returns-in-Some-Stuck-clause-excluded
 returns-in-Some-Stuck-clause-excluded g c =
@@ -18,5 +18,5 @@ returns-in-Some-Stuck-clause-excluded g c =
     let rule = c.in-Some-Stuck.field-0-0 in
     let told = c.in-Some-Stuck.field-0-is in
     let is : c.in-Some-Stuck.field-0 ≡ Stepped.Stuck rule = cc (told) in
-    stuck_excluded l c.args.at c.requires.low rule
-    (stuck_steps l c.args.at rule c.in-Some-Stuck.field-0 c.new-sent.result.items c.step.new.self.held c.step.new.sent.items is c.in-Some-Stuck.ensures.exact)
+    stuck_excluded l rule
+    (stuck_steps l rule c.in-Some-Stuck.field-0 c.new-sent.result.items c.step.new.self.held c.step.new.sent.items is c.in-Some-Stuck.ensures.exact)
