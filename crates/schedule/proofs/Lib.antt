@@ -7,6 +7,7 @@ pub mod Staying
 pub mod Memory
 pub mod Starting
 pub mod Playing
+pub mod Turning
 pub mod OneLane
 pub mod Ending
 pub mod Sums

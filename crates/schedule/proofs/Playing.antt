@@ -99,17 +99,18 @@ Moves old e new = (steps_over new < steps_over old) ⊎ ((new ≡ old) × IsIdle
 not_both : (h : Halt) → (let o : Option Halt = None in o) ≡ Some h → ⊥
 not_both h e = let no : ⊥ = cc in no
 
-moves_by : (old new : State) (e : ℕ) (now : Events) (answer : Option Stepped) → Steps old e 0 answer new now → IsHalt false answer new None → Moves old e new
-moves_by old new e now None step halts = absurd (not_both Halt.Steps halts)
-moves_by old new e now (Some Did) step halts = inl (less_left old new e 0 now step)
-moves_by old new e now (Some Idle) step (inl (has, same)) = inr (step.1.0, step.0, has)
-moves_by old new e now (Some Idle) step (inr (none, same)) = absurd (not_both Halt.NoToken same)
-moves_by old new e now (Some (Clash cell)) step halts = absurd (not_both (Halt.Clash cell) halts)
-moves_by old new e now (Some (Stuck rule)) step halts = absurd (not_both (Halt.Stuck rule) halts)
-moves_by old new e now (Some Memory) step halts = absurd (not_both Halt.Memory halts)
+moves_by : (old new : State) (e pick : ℕ) (now : Events) (answer : Option Stepped) → Steps old e pick answer new now → IsHalt false answer new None
+    → Moves old e new
+moves_by old new e pick now None step halts = absurd (not_both Halt.Steps halts)
+moves_by old new e pick now (Some Did) step halts = inl (less_left old new e pick now step)
+moves_by old new e pick now (Some Idle) step (inl (has, same)) = inr (step.1.0, step.0, has)
+moves_by old new e pick now (Some Idle) step (inr (none, same)) = absurd (not_both Halt.NoToken same)
+moves_by old new e pick now (Some (Clash cell)) step halts = absurd (not_both (Halt.Clash cell) halts)
+moves_by old new e pick now (Some (Stuck rule)) step halts = absurd (not_both (Halt.Stuck rule) halts)
+moves_by old new e pick now (Some Memory) step halts = absurd (not_both Halt.Memory halts)
 
-pub moves : (old new : State) (e : ℕ) (now : Events) → Advances false old e 0 new now None → Moves old e new
-moves old new e now a = moves_by old new e now a.answer a.step a.halts
+pub moves : (old new : State) (e pick : ℕ) (now : Events) → Advances false old e pick new now None → Moves old e new
+moves old new e pick now a = moves_by old new e pick now a.answer a.step a.halts
 
 -- so far in a pass that began at `first`: an event was made, or the first k lanes have no token and others have
 abbrev pub Passes : State → ℕ → State → Type 0
@@ -117,7 +118,7 @@ Passes first k s = (steps_over s < steps_over first) ⊎ ((s ≡ first) × ((i :
     × (0 < k → HasToken s))
 
 pub passes_more : (first old new : State) (k : ℕ) (now : Events) → Passes first k old → Advances false old k 0 new now None → Passes first (k + 1) new
-passes_more first old new k now so_far a = by_both so_far (moves old new k now a)
+passes_more first old new k now so_far a = by_both so_far (moves old new k 0 now a)
   where
     by_both : Passes first k old → Moves old k new → Passes first (k + 1) new
     by_both (inl less) (inl more) = inl (omega arith)

@@ -5,6 +5,7 @@ pub mod Runs
 pub mod Alone
 pub mod Starts
 pub mod Reported
+pub mod Turns
 pub mod Unlisted
 pub mod Apart
 pub mod Shown

@@ -4,11 +4,13 @@ use Rattle.semantics.specs.Program.{Program}
 use Rattle.semantics.specs.Machine.{Size, Events}
 use Rattle.semantics.specs.Report.{Report}
 use Rattle.schedule.specs.declared.halt.Halt.{Halt}
+use Rattle.schedule.specs.declared.take.Take.{Take}
 use Rattle.schedule.specs.Setting.{size}
 use Rattle.schedule.specs.State.{State}
 use Rattle.schedule.specs.Runs.{SoFar, Began, Plays, HaltsAs, rounds_of}
 use Rattle.schedule.specs.Reported.{IsReportOf}
 use Rattle.schedule.specs.Shown.{ShowsInOrder}
+use Rattle.schedule.specs.Turns.{PlaysTaking}
 
 -- the report with these events in place of its own
 abbrev pub with_events : Report → Events → Report
@@ -61,6 +63,17 @@ pub record RunsInTurn (first : SoFar) (r : Report) : Type 0 where
   pub rounds : ℕ
   pub made : Events
   pub plays : Plays false (rounds_of rounds first.state.setting.elements) first.state last.state halt made
+  pub events : last.events ≡ first.events ++ made
+  pub reported : IsReportOf last halt r
+  pub shows : (inputs : List ℤ) → Began inputs first.state first.events → ShowsInOrder first.state.setting.program (size first.state.setting) inputs
+      first.state.setting.steps false false r
+
+-- BY AN ORDER OF THE TOKENS. As `RunsInTurn`, of the turns that this order gives.
+pub record RunsTaking (take : Take) (first : SoFar) (r : Report) : Type 0 where
+  pub last : SoFar
+  pub halt : Halt
+  pub made : Events
+  pub plays : PlaysTaking take first.state last.state halt made
   pub events : last.events ≡ first.events ++ made
   pub reported : IsReportOf last halt r
   pub shows : (inputs : List ℤ) → Began inputs first.state first.events → ShowsInOrder first.state.setting.program (size first.state.setting) inputs

@@ -10,6 +10,7 @@ ghost use Rattle.schedule.specs.Reported.{credits_below, ShowsLaneParts};
 ghost use Rattle.schedule.specs.State.{State, state_of, IsWell, IsSoundState, tokens_in};
 ghost use Rattle.schedule.specs.Alone.{LeadsTo};
 ghost use Rattle.schedule.specs.Steps.{Steps, logged};
+ghost use Rattle.schedule.specs.Turns.{TakesNone};
 ghost use Rattle.schedule.specs.Runs.{HasToken, is_by_list, IsHalt, Advances, Plays, rounds_of};
 
 use crate::alone::make_events;
@@ -101,10 +102,11 @@ impl<'m, C: MainCode, A: Allocator> Elements<'m, C, A> {
     // What a step answers that makes no event: that there is no token, that all events are made, or else that memory is refused.
     #[cold]
     #[inline(never)]
-    fn refused(&self, element: u32) -> Option<Stepped>
+    pub(crate) fn refused(&self, element: u32) -> Option<Stepped>
         requires well { IsWell C.program C.width self.now }
         requires element { element < self.now.shape.elements }
-        ensures { (pick : ℕ) → Steps (state_of C.program C.width self.now) element pick result (state_of C.program C.width self.now) [] }
+        ensures exact { (pick : ℕ) → Steps (state_of C.program C.width self.now) element pick result (state_of C.program C.width self.now) [] }
+        ensures none { TakesNone result }
     {
         if !self.has_token(element) {
             return Some(Stepped::Idle);
@@ -205,7 +207,7 @@ impl<'m, C: MainCode, A: Allocator> Elements<'m, C, A> {
     // Makes one step of a run, and answers whether the run halts there. A run over a list passes over an element that has
     // made all its events. Each answer of the step goes its own way, so that after an event nothing is asked.
     #[inline(always)]
-    fn advance<L: Log, Site>(
+    pub(crate) fn advance<L: Log, Site>(
         &mut self,
         order: Order,
         element: u32,
@@ -233,7 +235,7 @@ impl<'m, C: MainCode, A: Allocator> Elements<'m, C, A> {
 
     // The same as `halted`. What has to lie in memory to go out of line is made here, and not at each event.
     #[inline(always)]
-    fn halts(&self, order: Order, stepped: Option<Stepped>) -> Option<Halt>
+    pub(crate) fn halts(&self, order: Order, stepped: Option<Stepped>) -> Option<Halt>
         requires well { IsWell C.program C.width self.now }
         ensures { IsHalt (is_by_list order) stepped (state_of C.program C.width self.now) result }
     {

@@ -13,13 +13,15 @@ ghost use Rattle.schedule.specs.Reported.{IsReportOf};
 ghost use Rattle.schedule.specs.Shown.{ShowsInOrder};
 ghost use Rattle.schedule.specs.Setting.{size};
 ghost use Rattle.schedule.specs.State.{State};
-ghost use Rattle.schedule.specs.Unlisted.{Quietly, RunsInTurn, ReportsSoFar, ShowsBut, so_far_with, without_events};
+ghost use Rattle.schedule.specs.Unlisted.{Quietly, RunsInTurn, RunsTaking, ReportsSoFar, ShowsBut, so_far_with, without_events};
 ghost use Rattle.schedule.specs.State.{IsSoundState, RunsAs, setting_in};
 ghost use Rattle.schedule.specs.Apart.{so_far_of, state_in};
+ghost use Rattle.schedule.specs.Turns.{PlaysTaking};
 
 use crate::config::{Config, StartFault};
 use crate::delivery::receive;
 use crate::elements::Elements;
+use crate::grant_order::GrantOrder;
 use crate::halt::Halt;
 use crate::log::{EventLog, FullLog, Log, NoLog};
 use crate::main_code::MainCode;
@@ -28,6 +30,7 @@ use crate::report::Report;
 use crate::reporting::report_of;
 use crate::setup::{Apart, Setup};
 use crate::shape::Shape;
+use crate::take::Take;
 use element::instructions::Instructions;
 use element::lane::{Lane, Stepped};
 use frame_store::store::Store;
@@ -219,6 +222,16 @@ impl<'m, C: MainCode, A: Allocator> Machine<'m, C, A> {
         self.report(halt)
     }
 
+    /// As `run_one`, in the given order of the tokens.
+    pub fn run_in_turn(mut self, take: Take) -> Report<A>
+    where
+        A: Clone,
+        ensures { RunsTaking take self.entry result }
+    {
+        let halt = self.play_taking(take);
+        self.report(halt)
+    }
+
     /// The same machine without the list of its events.
     pub fn without_events(self) -> Machine<'m, C, A, NoLog>
         ensures { result ≡ without_events self.entry.state }
@@ -245,6 +258,18 @@ impl<'m, C: MainCode, A: Allocator> Machine<'m, C, A> {
         let mut quiet = self.without_events();
         let halt = quiet.play_in_turn();
         quiet.report(halt)
+    }
+
+    /// As `run_in_turn`, but the report lists no events: with the events of the run that the elements made in turn it is the report
+    /// of `run_in_turn`. A long run takes no more memory than a short one.
+    pub fn run_quietly_in_turn(self, take: Take) -> Report<A>
+    where
+        A: Clone,
+        ensures { Quietly (RunsTaking take self.entry) result }
+    {
+        let mut unlisted = self.without_events();
+        let halt = unlisted.play_taking(take);
+        unlisted.report(halt)
     }
 }
 
@@ -298,6 +323,23 @@ impl<'m, C: MainCode, A: Allocator, L: Log> Machine<'m, C, A, L> {
         ensures cell { NamesCell self.new.state.setting.program result }
     {
         self.elements.play_in_turn(&mut self.log)
+    }
+
+    /// As `play_in_turn`, in the given order of the tokens. With `Take::Depth` memory is refused, too, where the ages of the frames have no
+    /// room.
+    pub fn play_taking(&mut self, take: Take) -> Halt
+    where
+        A: Clone,
+        ensures plays { (made : Events) × PlaysTaking take self.old.state self.new.state result made
+            × (self.new.events ≡ logged L.KEEPS_EVENTS self.old.events made)
+            × ((inputs : List ℤ) (before : Events) → Began inputs self.old.state before → Began inputs self.new.state (before ++ made)) }
+        ensures began { (inputs : List ℤ) → BeganIfNoted L.KEEPS_EVENTS inputs self.old → BeganIfNoted L.KEEPS_EVENTS inputs self.new }
+        ensures halts { HaltsAs self.new.state false result }
+        ensures setting { self.new.state.setting ≡ self.old.state.setting }
+        ensures cell { NamesCell self.new.state.setting.program result }
+    {
+        let order = self.alloc.clone().ok().map(GrantOrder::new);
+        self.elements.play_taking(take, order, &mut self.log)
     }
 
     /// What the machine holds and what happened, with the end of a run that halted so; of a machine that lists no events all but

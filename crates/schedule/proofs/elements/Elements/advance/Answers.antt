@@ -11,7 +11,7 @@ returns-then-not-is_ready-clause-exact g c =
       record {
         answer = c.refused-refused.result;
         step = subst (λ (s : State). Steps s c.args.element c.args.pick c.refused-refused.result ready []) c.is_ready.ensures.same
-            (c.refused-refused.ensures c.args.pick);
+            (c.refused-refused.ensures.exact c.args.pick);
         halts = c.halts.ensures;
       },
       c.is_ready.ensures.events ∙ logged_none g.L.Log.KEEPS_EVENTS c.args.log.now.events.items,

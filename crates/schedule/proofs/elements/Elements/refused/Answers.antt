@@ -8,15 +8,15 @@ use Rattle.schedule.specs.State.{RunsAs}
 use Rattle.schedule.proofs.Stepping.{is_idle, is_used_up, is_refused}
 use Rattle.schedule.proofs.elements.Elements.refused.Goals as goal
 
-pub returns-then-not-has_token : goal.returns-then-not-has_token
-returns-then-not-has_token g c = λ pick.
+pub returns-then-not-has_token-clause-exact : goal.returns-then-not-has_token-clause-exact
+returns-then-not-has_token-clause-exact g c = λ pick.
     let s = state_of g.C.Instructions.program g.C.Instructions.width c.args.self.now in
     let low : c.args.element < length s.lanes = (let l = c.requires.element in let n = c.requires.well.sound.count in omega arith) in
     let lane = get_some s.lanes c.args.element low in
     is_idle s s c.args.element pick lane.0 refl lane.1 (c.has_token.ensures.no c.if-not-has_token.true lane.0 lane.1)
 
-pub returns-then-is_spent : goal.returns-then-is_spent
-returns-then-is_spent g c = λ pick.
+pub returns-then-is_spent-clause-exact : goal.returns-then-is_spent-clause-exact
+returns-then-is_spent-clause-exact g c = λ pick.
     let m = c.args.self.now in
     let s = state_of g.C.Instructions.program g.C.Instructions.width m in
     let e = c.args.element in
@@ -29,8 +29,8 @@ returns-then-is_spent g c = λ pick.
     let runs = runs_at (RunsAs s.setting) m.lanes.items e x c.requires.well.runs low c.index.ensures in
     is_used_up s s e pick (queued (held_of x) ts) refl there some (c.is_spent.ensures.yes c.if-is_spent.true ∙ runs.steps)
 
-pub returns : goal.returns
-returns g c = λ pick.
+pub returns-clause-exact : goal.returns-clause-exact
+returns-clause-exact g c = λ pick.
     let m = c.args.self.now in
     let s = state_of g.C.Instructions.program g.C.Instructions.width m in
     let e = c.args.element in

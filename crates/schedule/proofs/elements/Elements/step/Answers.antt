@@ -8,6 +8,6 @@ pub returns-then-not-is_ready-clause-exact : goal.returns-then-not-is_ready-clau
 returns-then-not-is_ready-clause-exact g c =
     let ready = state_of g.C.Instructions.program g.C.Instructions.width c.is_ready.new.self in (
       [],
-      subst (λ (s : State). Steps s c.args.element c.args.pick c.refused.result ready []) c.is_ready.ensures.same (c.refused.ensures c.args.pick),
+      subst (λ (s : State). Steps s c.args.element c.args.pick c.refused.result ready []) c.is_ready.ensures.same (c.refused.ensures.exact c.args.pick),
       c.is_ready.ensures.events ∙ logged_none g.L.Log.KEEPS_EVENTS c.args.log.now.events.items,
     )
