@@ -9,7 +9,7 @@ pub struct Config {
     pub frames: u64,
     /// How many events each element may make: up to 4,294,967,296.
     pub steps: u64,
-    /// How many events a turn has: 1 to 65,536.
+    /// How many events an element makes in a turn at most, and in a block that it commits: 1 to 65,536.
     pub turn: u64,
 }
 
