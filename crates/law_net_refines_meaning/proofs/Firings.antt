@@ -19,13 +19,12 @@ use Rattle.law_net.specs.ContextsBlocks.{side, waits_in, is_kind, is_plain, is_c
 use Rattle.law_net.specs.Contexts.{Wires, block_in, wiring_in, code_in, IsContext}
 use Rattle.law_net.specs.ContextsWires.{Runs}
 use Rattle.law_net.specs.ContextsFirings.{takes, makes, memory_of, along, back_from, value_in, left_item, right_way, renewed, request_of, given_back, IsProper}
-use Rattle.law_net.specs.ContextsLaws.{Fits, spot_there, WordFits, Allowed, FiringIsMeant}
+use Rattle.law_net.specs.ContextsLaws.{Fits, spot_there, WordFits, Allowed}
 use Rattle.law_net.specs.ContextsMeant.{meant}
 use Rattle.law_net.specs.ContextsTheorem.{IsGood}
 use Rattle.law_net_refines_meaning.specs.Firings.{AllIsMeant}
 use Rattle.law_net_refines_meaning.proofs.FiringsActs.{Acts}
 use Rattle.law_net_refines_meaning.proofs.FiringsNodes as Nodes
-use Rattle.law_net_refines_meaning.proofs.FiringsNodes.{kind_is}
 use Rattle.law_net_refines_meaning.proofs.FiringsControl as Control
 use Rattle.law_net_refines_meaning.proofs.FiringsControl.{block_is}
 use Rattle.law_net_refines_meaning.proofs.FiringsCalls as Calls
@@ -46,7 +45,15 @@ module _ (fl : Flow) (p : Plan) (w : Wires) (inputs : List ℤ) (good : IsGood f
   by r l k = record f { part = r; left = l; right = k }
 
   abbrev IsMeantBy : Part → Note → Note → Type 0
-  IsMeantBy r l k = FiringIsMeant fl w inputs (by r l k) fired
+  IsMeantBy r l k =
+      Acts fl f.context r (flat_map (meant fl) (takes fl (by r l k))) (memory_of fl fired) (flat_map (meant fl) (makes fl w (by r l k)))
+      (memory_of fl (by r l k ∷ fired))
+
+  -- of the firing itself
+  abbrev IsPassed : Part → Type 0
+  IsPassed r =
+      Acts fl f.context r (flat_map (meant fl) (takes fl (at r))) (memory_of fl fired) (flat_map (meant fl) (makes fl w (at r)))
+      (memory_of fl (at r ∷ fired))
 
   -- words that are values
   abbrev IsValue : Note → Type 0
@@ -101,12 +108,12 @@ module _ (fl : Flow) (p : Plan) (w : Wires) (inputs : List ℤ) (good : IsGood f
             } ∷ [] else along fl w (by (Line n) l k) (Line n) false) (e ∙ f)
 
         acts_by : (v : Value) (k : Note) (t : Bool) → is_pair b n ≡ t
-            → Acts fl (flat_map (meant fl) (taken_by n v k t)) (memory_of fl fired) (flat_map (meant fl) (along fl w (by (Line n) (Datum v) k) (Line n) false))
+            → Acts fl c (Line n) (flat_map (meant fl) (taken_by n v k t)) (memory_of fl fired) (flat_map (meant fl) (along fl w (by (Line n) (Datum v) k) (Line n) false))
             (memory_of fl fired) → IsMeantBy (Line n) (Datum v) k
         acts_by v k t e h =
-            subst (λ (l : List Item). Acts fl (flat_map (meant fl) (takes fl (by (Line n) (Datum v) k))) (memory_of fl fired) (flat_map (meant fl) l)
+            subst (λ (l : List Item). Acts fl c (Line n) (flat_map (meant fl) (takes fl (by (Line n) (Datum v) k))) (memory_of fl fired) (flat_map (meant fl) l)
             (memory_of fl fired)) (sym (made_along (Datum v) k (is_cell b n) refl cell))
-            (subst (λ (t : Bool). Acts fl (flat_map (meant fl) (taken_by n v k t)) (memory_of fl fired)
+            (subst (λ (t : Bool). Acts fl c (Line n) (flat_map (meant fl) (taken_by n v k t)) (memory_of fl fired)
             (flat_map (meant fl) (along fl w (by (Line n) (Datum v) k) (Line n) false)) (memory_of fl fired)) (sym e) h)
 
         by_pair : (v : Value) (t : Bool) → is_pair b n ≡ t → IsMeantBy (Line n) (Datum v) f.right
@@ -162,7 +169,7 @@ module _ (fl : Flow) (p : Plan) (w : Wires) (inputs : List ℤ) (good : IsGood f
         absurd (true≢false (sym (first_of_and false (nat_lt 0 (b.inputs + 1)) (second_of_and (is_turn f.context) (false && nat_lt 0 (b.inputs + 1)) e))))
     turn_from (suc h) e = (h, omega arith)
 
-    turn_value_meant : (j h : ℕ) → j ≡ h + 1 → Spot (TurnValue j) → IsValue f.left → IsValue f.right → FiringIsMeant fl w inputs (at (TurnValue j)) fired
+    turn_value_meant : (j h : ℕ) → j ≡ h + 1 → Spot (TurnValue j) → IsValue f.left → IsValue f.right → IsPassed (TurnValue j)
     turn_value_meant j h e there left right =
         subst (λ (j : ℕ). IsMeantBy (TurnValue j) f.left f.right) (sym e)
         (with_left (TurnValue (h + 1)) f.right left
@@ -170,7 +177,7 @@ module _ (fl : Flow) (p : Plan) (w : Wires) (inputs : List ℤ) (good : IsGood f
         (λ u. Calls.turn_value fl p w good.operands f fired ctx Here here code h v u (subst (λ (j : ℕ). Spot (TurnValue j)) e there))))
 
     -- BY PARTS
-    by_part : (r : Part) → Spot r → Words r → IsProper fl fired (at r) → FiringIsMeant fl w inputs (at r) fired
+    by_part : (r : Part) → Spot r → Words r → IsProper fl fired (at r) → IsPassed r
     by_part (Line n) there words proper = line_or_cell n there words (cases_Bool (is_cell b n))
     by_part (Gate n) there words proper =
         gate_meant n there (first_word (left_at (Gate n) 0) (right_at (Gate n) 0 ∷ []) words) (second_word (left_at (Gate n) 0) (right_at (Gate n) 0) [] words)
@@ -249,21 +256,24 @@ module _ (fl : Flow) (p : Plan) (w : Wires) (inputs : List ℤ) (good : IsGood f
   pub context_of : All (Allowed fl w inputs fired) (takes fl f) → IsContext fl f.context
   context_of all = let k = first_at f.part all in subst (IsContext fl) k.2 k.1.is_context
 
-  drained_meant : (ctx : IsContext fl f.context) (n : ℕ) → FiringIsMeant fl w inputs (at (Drained n)) fired
+  drained_meant : (ctx : IsContext fl f.context) (n : ℕ) → IsPassed (Drained n)
   drained_meant ctx n = Control.drained fl p w good.operands f fired ctx (Here ctx) (here ctx) (code ctx) n
 
   meant_at_part : (r : Part) → All (Allowed fl w inputs fired) (takes fl (at r)) → All Word (takes fl (at r)) → IsContext fl f.context
       → IsProper fl fired (at r)
-      → FiringIsMeant fl w inputs (at r) fired
+      → IsPassed r
   meant_at_part (Drained n) all words ctx proper = drained_meant ctx n
   meant_at_part r all words ctx proper = by_part ctx r (at_spot (first_at r all)) words proper
     where
       at_spot : (k : (i : Item) × Fit i × (i.context ≡ c) × (i.inlet.part ≡ r)) → spot_there fl w f.context r ≡ true
       at_spot (i, fit, ec, er) = ap (spot_there fl w f.context) (sym er) ∙ ap (λ (d : Context). spot_there fl w d i.inlet.part) (sym ec) ∙ fit.there
 
-  pub firing_meant : All (Allowed fl w inputs fired) (takes fl f) → All Word (takes fl f) → IsProper fl fired f → FiringIsMeant fl w inputs f fired
-  firing_meant all words proper = meant_at_part f.part all words (context_of all) proper
+  -- whose activities pass no other input than its own
+  pub firing_passes : All (Allowed fl w inputs fired) (takes fl f) → All Word (takes fl f) → IsProper fl fired f
+      → Acts fl f.context f.part (flat_map (meant fl) (takes fl f)) (memory_of fl fired) (flat_map (meant fl) (makes fl w f)) (memory_of fl (f ∷ fired))
+  firing_passes all words proper = meant_at_part f.part all words (context_of all) proper
 
 -- ALL FIRINGS
 pub all_meant : AllIsMeant
-all_meant group fl p w inputs f fired good fit all words proper e = firing_meant fl p w inputs good f fired all words proper
+all_meant group fl p w inputs f fired good fit all words proper e rest =
+    let k = firing_passes fl p w inputs good f fired all words proper rest in (k.0, k.1)

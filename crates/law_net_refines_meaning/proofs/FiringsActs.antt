@@ -1,14 +1,18 @@
 -- Some tokens lead to others by activities, whatever else there is.
 use Rattle.std.proofs.Common.{◌≡◌, ℕ, ◌-◌, Bool, true, false, List, [], ◌∷◌, ◌++◌, length, Option, Some, None, nat_lt, ◌==◌, if◌then◌else◌, refl, ap, ◌∙◌}
 use Rattle.std.proofs.Common.{subst, eq-eqb}
-use Rattle.std.specs.Prelude.{IsPermutation, slice_get}
+use Rattle.std.specs.Prelude.{IsPermutation, slice_get, All, ⊤}
+use Rattle.std.proofs.lemmas.List.Elements.{All-append, All-nil, All-cons}
 use Rattle.std.proofs.lemmas.List.Sorted.{IsPermutation-refl, IsPermutation-sym, IsPermutation-append_left}
 use Rattle.tags.specs.declared.value.Value.{Value}
 use Rattle.semantics.specs.Graph.{Node, Block, Flow, node_at}
-use Rattle.semantics.specs.Meaning.{Context, Activity, Fires, Gates, Passes, Tagged, Memory, Deed, Says, Message, Sends, State, Leads, taken, effect, deed}
+use Rattle.semantics.specs.Meaning.{Context, Activity, Fires, Gates, Passes, Tagged, Memory, Deed, Says, Message, Sends, State, Run, taken, effect, deed}
 use Rattle.semantics.specs.Meaning.{done_if, fired, fired_in, input_passed, gated, passed, on_block, on_node, block_of, tokens_of}
 use Rattle.law_confluence.proofs.Orders.{shuffled, Part, ◌⊕◌}
 use Rattle.law_confluence.proofs.NetMeans.{state_of, run_join}
+use Rattle.law_net.specs.ContextsParts as Parts
+use Rattle.law_net.specs.ContextsParts.{Line}
+use Rattle.law_net.specs.Contexts.{block_in}
 
 -- a line of the block is past the inputs
 pub line_past : (b : Block ℕ) (n : ℕ) (node : Node ℕ) → node_at b n ≡ Some node → nat_lt n b.inputs ≡ false
@@ -18,15 +22,24 @@ line_past b n node e = go (nat_lt n b.inputs) e
     go true e = cc
     go false e = refl
 
-module _ (fl : Flow) where
+-- AN INPUT passes where its own line fires: no other firing has that activity.
+abbrev pub Passing : Flow → Context → Parts.Part → Activity → Type 0
+Passing fl at by (Fires c n vs) = nat_lt n (block_in fl c).inputs ≡ true → (c ≡ at) × (by ≡ Line n)
+Passing fl at by a = ⊤
+
+-- By the activities of a firing, of a part in a context.
+module _ (fl : Flow) (at : Context) (by : Parts.Part) where
+  abbrev LeadsBy : State → State → Type 0
+  LeadsBy old new = (run : List Activity) × Run fl old run new × All (Passing fl at by) run
+
   abbrev pub Acts : List Tagged → Memory → List Tagged → Memory → Type 0
-  Acts old m new after = (rest : List Tagged) → Leads fl (state_of (old ++ rest) m) (state_of (new ++ rest) after)
+  Acts old m new after = (rest : List Tagged) → LeadsBy (state_of (old ++ rest) m) (state_of (new ++ rest) after)
 
-  leads_then : (old mid new : State) → Leads fl old mid → Leads fl mid new → Leads fl old new
-  leads_then old mid new a c = (a.0 ++ c.0, run_join fl a.0 c.0 old mid new a.1 c.1)
+  leads_then : (old mid new : State) → LeadsBy old mid → LeadsBy mid new → LeadsBy old new
+  leads_then old mid new a c = (a.0 ++ c.0, run_join fl a.0 c.0 old mid new a.1 c.1, All-append (Passing fl at by) a.0 c.0 a.2 c.2)
 
-  moved : (xs ys : List Tagged) (m : Memory) → IsPermutation xs ys → Leads fl (state_of xs m) (state_of ys m)
-  moved xs ys m p = ([], (p, refl))
+  moved : (xs ys : List Tagged) (m : Memory) → IsPermutation xs ys → LeadsBy (state_of xs m) (state_of ys m)
+  moved xs ys m p = ([], (p, refl), All-nil (Passing fl at by))
 
   -- the tokens stay, in any order
   pub stays : (old new : List Tagged) (m : Memory) → IsPermutation old new → Acts old m new m
@@ -36,9 +49,9 @@ module _ (fl : Flow) where
   same old new m e = stays old new m (subst (λ (l : List Tagged). IsPermutation old l) e (IsPermutation-refl old))
 
   -- one activity
-  pub acts : (a : Activity) (old new added : List Tagged) (m after : Memory) → IsPermutation old (taken a)
+  pub acts : (a : Activity) → Passing fl at by a → (old new added : List Tagged) (m after : Memory) → IsPermutation old (taken a)
       → effect fl m a ≡ Some record { added = added; memory = after } → IsPermutation added new → Acts old m new after
-  acts a old new added m after t e p rest = (
+  acts a passing old new added m after t e p rest = (
     a ∷ [],
     (
       state_of (new ++ rest) after,
@@ -52,6 +65,7 @@ module _ (fl : Flow) where
       },
       (IsPermutation-refl _, refl),
     ),
+    All-cons (Passing fl at by) a [] passing (All-nil (Passing fl at by)),
   )
 
   pub follow : (old mid new : List Tagged) (m after last : Memory) → Acts old m mid after → Acts mid after new last → Acts old m new last
@@ -69,9 +83,10 @@ module _ (fl : Flow) where
       leads_then _ _ _ first (leads_then _ _ _ (a (more ++ rest)) (leads_then _ _ _ mid (leads_then _ _ _ (c (new ++ rest)) last)))
 
   -- WHAT ACTIVITIES DO
-  pub says_acts : (a : Activity) (msg : Message) (m : Memory) → deed fl a ≡ Some (Says msg) → Acts (taken a) m (tokens_of fl msg) m
-  says_acts a msg m e = acts a (taken a) (tokens_of fl msg) (tokens_of fl msg) m m (IsPermutation-refl _) (ap (done_if fl m) e) (IsPermutation-refl _)
+  pub says_acts : (a : Activity) → Passing fl at by a → (msg : Message) (m : Memory) → deed fl a ≡ Some (Says msg) → Acts (taken a) m (tokens_of fl msg) m
+  says_acts a passing msg m e = acts a passing (taken a) (tokens_of fl msg) (tokens_of fl msg) m m (IsPermutation-refl _) (ap (done_if fl m) e) (IsPermutation-refl _)
 
+module _ (fl : Flow) where
   -- a node with all its operands
   pub fires_deed : (c : Context) (n : ℕ) (vs : List Value) (b : Block ℕ) (node : Node ℕ) → block_of fl c ≡ Some b → node_at b n ≡ Some node
       → length vs ≡ length node.sources

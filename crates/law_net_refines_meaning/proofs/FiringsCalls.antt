@@ -18,8 +18,8 @@ use Rattle.semantics.specs.Meaning.{node_of}
 use Rattle.semantics.specs.Cause.{is_turn}
 use Rattle.law_confluence.proofs.Orders.{shuffled, Part, ◌⊕◌}
 use Rattle.law_net.specs.ContextsParts as Parts
-use Rattle.law_net.specs.ContextsParts.{Line, Answer, Framer, Sender, Landing, TurnValue, NextSender, LastReturn, Shown, Asked, Fanned, inlet, Note, Datum}
-use Rattle.law_net.specs.ContextsParts.{BackTo, signal, Item, item, each, Firing}
+use Rattle.law_net.specs.ContextsParts.{Framer, Sender, Landing, TurnValue, NextSender, LastReturn, Shown, inlet, Note, Datum}
+use Rattle.law_net.specs.ContextsParts.{signal, Item, item, each, Firing}
 use Rattle.law_net.specs.ContextsBlocks.{side, Wiring, there_in, is_call, is_loop, is_strict, invokes, call_kind, loop_kind, strict_kind, source_count}
 use Rattle.law_net.specs.ContextsBlocks.{exit_kind}
 use Rattle.law_net.specs.Contexts.{Wires, block_in, site_in, wiring_in, IsContext, child}
@@ -29,7 +29,7 @@ use Rattle.law_net.specs.ContextsFirings.{takes, makes, memory_of, arguments_fro
 use Rattle.law_net.specs.ContextsLaws.{is_main}
 use Rattle.law_net.specs.ContextsOperands.{HaveOperands}
 use Rattle.law_net.proofs.ContextsBlocks.{is_main_true}
-use Rattle.law_net_refines_meaning.proofs.FiringsActs.{Acts, same, stays, follow, acts, says_acts, fires_deed, passes_deed}
+use Rattle.law_net_refines_meaning.proofs.FiringsActs.{Acts, same, stays, follow, acts, says_acts, fires_deed, passes_deed, line_past}
 use Rattle.law_net_refines_meaning.proofs.FiringsSettles.{sends_settled}
 use Rattle.law_net_refines_meaning.proofs.FiringsWords.{none_meant}
 use Rattle.law_net_refines_meaning.proofs.FiringsNodes.{kind_is, kind_of, exit_of, goes, leaves, Sent}
@@ -56,7 +56,7 @@ module _ (fl : Flow) (p : Plan) (w : Wires) (operands : HaveOperands fl) (f : Fi
 
   abbrev pub IsMeantBy : Parts.Part → Note → Note → Type 0
   IsMeantBy r l k =
-      Acts fl (flat_map (meant fl) (takes fl (by r l k))) (memory_of fl fired') (flat_map (meant fl) (makes fl w (by r l k))) (memory_of fl (by r l k ∷ fired'))
+      Acts fl f.context r (flat_map (meant fl) (takes fl (by r l k))) (memory_of fl fired') (flat_map (meant fl) (makes fl w (by r l k))) (memory_of fl (by r l k ∷ fired'))
 
   abbrev mem : Memory
   mem = memory_of fl fired'
@@ -65,7 +65,7 @@ module _ (fl : Flow) (p : Plan) (w : Wires) (operands : HaveOperands fl) (f : Fi
   pub shown : (j : ℕ) (v : Value) (k : Note) → is_main c ≡ true → IsMeantBy (Shown j) (Datum v) k
   shown j v k main =
       let e : tagged c (AtOut j) (Operand 0) v ∷ [] ≡ taken (Outputs j v) = ap (λ (d : Context). tagged d (AtOut j) (Operand 0) v ∷ []) (is_main_true c main) in
-      acts fl (Outputs j v) (tagged c (AtOut j) (Operand 0) v ∷ []) [] [] mem (with_output mem j v) (permutation_same _ _ e) refl (IsPermutation-refl [])
+      acts fl c (Shown j) (Outputs j v) tt (tagged c (AtOut j) (Operand 0) v ∷ []) [] [] mem (with_output mem j v) (permutation_same _ _ e) refl (IsPermutation-refl [])
 
   -- WHAT LANDS
   exit_call : (n q : ℕ) (r : Region) (k : Kind ℕ) → call_kind k ≡ true → exit_kind wg n q r k ≡ side (Landing n q) false
@@ -92,15 +92,15 @@ module _ (fl : Flow) (p : Plan) (w : Wires) (operands : HaveOperands fl) (f : Fi
           let (line, en, kind) = kind_is b call_kind n e in
           let old : tagged (Called c n) (AtOut j) (Operand 0) v ∷ [] ≡ landed fl c n j v (node_of fl c n) ++ [] =
           (λ i. sym (landed_call fl c n j v ctx e) i ++ []) in
-          subst (λ l. Acts fl l mem (Sent fl p w operands c eb Here here code v (side (Landing n j) false)) mem) old
-          (leaves fl p w operands c eb Here here code (Returns c n j v) n j v (side (Landing n j) false) mem refl
+          subst (λ l. Acts fl c (Landing n j) l mem (Sent fl p w operands c eb Here here code v (side (Landing n j) false)) mem) old
+          (leaves fl p w operands c eb Here here code (Landing n j) (Returns c n j v) tt n j v (side (Landing n j) false) mem refl
           (exit_of b wg n j line en ∙ exit_call n j line.region line.kind kind) there port)
       pick (inr e) =
           let (line, en, kind) = kind_is b loop_kind n e in
           let old : settled_sent fl c n j v ≡ landed fl c n j v (node_of fl c n) ++ [] = sym (append-nil _)
           ∙ (λ i. sym (landed_loop fl c n j v ctx e) i ++ []) in
-          subst (λ l. Acts fl l mem (Sent fl p w operands c eb Here here code v (side (Landing n j) false)) mem) old
-          (goes fl p w operands c eb Here here code n j v (side (Landing n j) false) mem
+          subst (λ l. Acts fl c (Landing n j) l mem (Sent fl p w operands c eb Here here code v (side (Landing n j) false)) mem) old
+          (goes fl p w operands c eb Here here code (Landing n j) n j v (side (Landing n j) false) mem
           (exit_of b wg n j line en ∙ exit_loop n j line.region line.kind kind) there port)
 
   -- ARGUMENTS
@@ -146,27 +146,27 @@ module _ (fl : Flow) (p : Plan) (w : Wires) (operands : HaveOperands fl) (f : Fi
 
   passed_in : (n i : ℕ) (v : Value) (line : Node ℕ) → node_at b n ≡ Some line → (d : Context)
       → ((call_kind line.kind ≡ true) × (strict_kind line.kind ≡ false) × (d ≡ Called c n)) ⊎ ((loop_kind line.kind ≡ true) × (d ≡ Turned c n 0))
-      → Acts fl (operand c n i v ∷ []) mem (operand d i 0 v ∷ []) mem
-  passed_in n i v line en d h = says_acts fl (Passes c n i v) (Enters d i (v ∷ [])) mem (passes_deed fl c n i v b line eb en ∙ passes n i v line.kind d h)
+      → Acts fl c (Sender n i) (operand c n i v ∷ []) mem (operand d i 0 v ∷ []) mem
+  passed_in n i v line en d h = says_acts fl c (Sender n i) (Passes c n i v) tt (Enters d i (v ∷ [])) mem (passes_deed fl c n i v b line eb en ∙ passes n i v line.kind d h)
 
   -- the token of an argument
   sent_in : (n i : ℕ) (v : Value) → invokes b n ≡ true
-      → Acts fl (meant_at fl c (Sender n i) Right (way_of (is_strict b n)) v) mem (operand (child fl c n) i 0 v ∷ []) mem
+      → Acts fl c (Sender n i) (meant_at fl c (Sender n i) Right (way_of (is_strict b n)) v) mem (operand (child fl c n) i 0 v ∷ []) mem
   sent_in n i v there = pick (either (is_call b n) (is_loop b n) there)
     where
       by_strict : (line : Node ℕ) → node_at b n ≡ Some line → call_kind line.kind ≡ true → is_loop b n ≡ false → (t : Bool) → is_strict b n ≡ t
-          → Acts fl (meant_at fl c (Sender n i) Right (way_of t) v) mem (operand (child fl c n) i 0 v ∷ []) mem
-      by_strict line en kind none true e = same fl _ _ mem (ap (λ (d : Context). operand d i 0 v ∷ []) (sym (child_call n none)))
+          → Acts fl c (Sender n i) (meant_at fl c (Sender n i) Right (way_of t) v) mem (operand (child fl c n) i 0 v ∷ []) mem
+      by_strict line en kind none true e = same fl c (Sender n i) _ _ mem (ap (λ (d : Context). operand d i 0 v ∷ []) (sym (child_call n none)))
       by_strict line en kind none false e = passed_in n i v line en (child fl c n) (inl (kind, sym (kind_of b strict_kind n line en) ∙ e, child_call n none))
 
       pick : (is_call b n ≡ true) ⊎ (is_loop b n ≡ true)
-          → Acts fl (meant_at fl c (Sender n i) Right (way_of (is_strict b n)) v) mem (operand (child fl c n) i 0 v ∷ []) mem
+          → Acts fl c (Sender n i) (meant_at fl c (Sender n i) Right (way_of (is_strict b n)) v) mem (operand (child fl c n) i 0 v ∷ []) mem
       pick (inl e) =
           let (line, en, kind) = kind_is b call_kind n e in
           by_strict line en kind (kind_of b loop_kind n line en ∙ call_or_loop line.kind kind) (is_strict b n) refl
       pick (inr e) =
           let (line, en, kind) = kind_is b loop_kind n e in
-          subst (λ (t : Bool). Acts fl (meant_at fl c (Sender n i) Right (way_of t) v) mem (operand (child fl c n) i 0 v ∷ []) mem)
+          subst (λ (t : Bool). Acts fl c (Sender n i) (meant_at fl c (Sender n i) Right (way_of t) v) mem (operand (child fl c n) i 0 v ∷ []) mem)
           (sym (kind_of b strict_kind n line en ∙ loop_strict line.kind kind))
           (passed_in n i v line en (child fl c n) (inr (kind, child_loop n e)))
 
@@ -178,8 +178,8 @@ module _ (fl : Flow) (p : Plan) (w : Wires) (operands : HaveOperands fl) (f : Fi
       sym (append-nil _) ∙ (λ k. sym (none_meant fl c (inlet (Sender n i) Left 0) l (λ v. refl)) k ++ (meant_at fl c (Sender n i) Right way v ++ [])) in
       let new : operand (child fl c n) i 0 v ∷ [] ≡ flat_map (meant fl) (makes fl w (by (Sender n i) l (Datum v))) =
       (λ k. operand (child fl c n) i 0 v ∷ sym (along_none fl p w operands f fired' ctx Here here code (Sender n i) false signal there tt (λ e. e)) k) in
-      subst (λ x. Acts fl x mem (flat_map (meant fl) (makes fl w (by (Sender n i) l (Datum v)))) mem) old
-      (subst (λ x. Acts fl (meant_at fl c (Sender n i) Right way v) mem x mem) new (sent_in n i v (first_of_and _ _ there)))
+      subst (λ x. Acts fl c (Sender n i) x mem (flat_map (meant fl) (makes fl w (by (Sender n i) l (Datum v)))) mem) old
+      (subst (λ x. Acts fl c (Sender n i) (meant_at fl c (Sender n i) Right way v) mem x mem) new (sent_in n i v (first_of_and _ _ there)))
 
   -- STRICT CALLS: all arguments at once
   arguments_before : (n i : ℕ) (vs : List Value) → flat_map (meant fl) (arguments_from c n 0 i vs) ≡ operands_from c (AtNode n) i vs
@@ -198,23 +198,23 @@ module _ (fl : Flow) (p : Plan) (w : Wires) (operands : HaveOperands fl) (f : Fi
   chosen t items = if t then items else []
 
   framed : (n : ℕ) (t : Bool) → is_strict b n ≡ t → (length f.operands ≡ (if t then source_count b n else 0))
-      → Acts fl (flat_map (meant fl) (chosen t (arguments_from c n 0 0 f.operands))) mem
+      → Acts fl c (Framer n) (flat_map (meant fl) (chosen t (arguments_from c n 0 0 f.operands))) mem
       (flat_map (meant fl) (chosen t (arguments_from c n 1 0 f.operands))) mem
-  framed n false e len = same fl [] [] mem refl
+  framed n false e len = same fl c (Framer n) [] [] mem refl
   framed n true e len =
       let (line, en, kind) = kind_is b strict_kind n e in
       let count : source_count b n ≡ length line.sources = ap (λ o. elim o as (λ x. ℕ) [ None ↦ 0 | Some line ↦ length line.sources ]) en in
       let d = fires_deed fl c n f.operands b line eb en (len ∙ count) ∙ strict_deed n f.operands line.kind kind in
-      subst (λ x. Acts fl x mem (flat_map (meant fl) (arguments_from c n 1 0 f.operands)) mem) (sym (arguments_before n 0 f.operands))
-      (subst (λ x. Acts fl (operands_from c (AtNode n) 0 f.operands) mem x mem) (sym (arguments_after n 0 f.operands))
-      (says_acts fl (Fires c n f.operands) (Enters (Called c n) 0 f.operands) mem d))
+      subst (λ x. Acts fl c (Framer n) x mem (flat_map (meant fl) (arguments_from c n 1 0 f.operands)) mem) (sym (arguments_before n 0 f.operands))
+      (subst (λ x. Acts fl c (Framer n) (operands_from c (AtNode n) 0 f.operands) mem x mem) (sym (arguments_after n 0 f.operands))
+      (says_acts fl c (Framer n) (Fires c n f.operands) (λ x. absurd (true≢false (sym x ∙ line_past b n line en))) (Enters (Called c n) 0 f.operands) mem d))
 
   pub framer : (n : ℕ) (l k : Note) → (length f.operands ≡ (if is_strict b n then source_count b n else 0)) → IsMeantBy (Framer n) l k
   framer n l k len =
       let old : flat_map (meant fl) (chosen (is_strict b n) (arguments_from c n 0 0 f.operands)) ≡ flat_map (meant fl) (takes fl (by (Framer n) l k)) =
       (λ i. sym (none_meant fl c (inlet (Framer n) Left 0) l (λ v. refl)) i
       ++ flat_map (meant fl) (chosen (is_strict b n) (arguments_from c n 0 0 f.operands))) in
-      subst (λ x. Acts fl x mem (flat_map (meant fl) (chosen (is_strict b n) (arguments_from c n 1 0 f.operands))) mem) old (framed n (is_strict b n) refl len)
+      subst (λ x. Acts fl c (Framer n) x mem (flat_map (meant fl) (chosen (is_strict b n) (arguments_from c n 1 0 f.operands))) mem) old (framed n (is_strict b n) refl len)
 
   -- TURNS
   -- the value goes to the next turn, or leaves the loop
@@ -224,7 +224,7 @@ module _ (fl : Flow) (p : Plan) (w : Wires) (operands : HaveOperands fl) (f : Fi
   turned d j v t = []
 
   turn_acts : (d : Context) (j : ℕ) (v u : Value) → is_turn d ≡ true
-      → Acts fl (tagged d (AtTurn (j + 1)) Carried v ∷ tagged d (AtTurn (j + 1)) Flag u ∷ []) mem (turned d j v (truth u)) mem
+      → Acts fl c (TurnValue (j + 1)) (tagged d (AtTurn (j + 1)) Carried v ∷ tagged d (AtTurn (j + 1)) Flag u ∷ []) mem (turned d j v (truth u)) mem
   turn_acts Main j v u e = absurd (true≢false (sym e))
   turn_acts (Called d n) j v u e = absurd (true≢false (sym e))
   turn_acts (Turned d n i) j v u e = pick (truth u) refl
@@ -235,9 +235,9 @@ module _ (fl : Flow) (p : Plan) (w : Wires) (operands : HaveOperands fl) (f : Fi
       before : j + 1 - 1 ≡ j
       before = omega arith
 
-      first : Acts fl old mem (taken (Turns d n i (j + 1) u v)) mem
+      first : Acts fl c (TurnValue (j + 1)) old mem (taken (Turns d n i (j + 1) u v)) mem
       first =
-          stays fl old (taken (Turns d n i (j + 1) u v)) mem
+          stays fl c (TurnValue (j + 1)) old (taken (Turns d n i (j + 1) u v)) mem
           (shuffled ((tagged (Turned d n i) (AtTurn (j + 1)) Carried v ∷ []) ∷ (tagged (Turned d n i) (AtTurn (j + 1)) Flag u ∷ []) ∷ []) (Part 0 ⊕ Part 1)
           (Part 1 ⊕ Part 0) refl)
 
@@ -246,13 +246,13 @@ module _ (fl : Flow) (p : Plan) (w : Wires) (operands : HaveOperands fl) (f : Fi
           ap (λ (t : Bool). Some (Says (if t then Enters (Turned d n (i + 1)) (j + 1 - 1) (v ∷ []) else Sends d n (j + 1 - 1) v))) e
           ∙ ap (λ (x : ℕ). Some (Says (if t then Enters (Turned d n (i + 1)) x (v ∷ []) else Sends d n x v))) before
 
-      pick : (t : Bool) → truth u ≡ t → Acts fl old mem (turned (Turned d n i) j v t) mem
+      pick : (t : Bool) → truth u ≡ t → Acts fl c (TurnValue (j + 1)) old mem (turned (Turned d n i) j v t) mem
       pick true e =
-          follow fl old (taken (Turns d n i (j + 1) u v)) (turned (Turned d n i) j v true) mem mem mem first
-          (says_acts fl (Turns d n i (j + 1) u v) (Enters (Turned d n (i + 1)) j (v ∷ [])) mem (deed_of true e))
+          follow fl c (TurnValue (j + 1)) old (taken (Turns d n i (j + 1) u v)) (turned (Turned d n i) j v true) mem mem mem first
+          (says_acts fl c (TurnValue (j + 1)) (Turns d n i (j + 1) u v) tt (Enters (Turned d n (i + 1)) j (v ∷ [])) mem (deed_of true e))
       pick false e =
-          follow fl old (taken (Turns d n i (j + 1) u v)) (turned (Turned d n i) j v false) mem mem mem first
-          (sends_settled fl operands (Turns d n i (j + 1) u v) d n j v mem (deed_of false e))
+          follow fl c (TurnValue (j + 1)) old (taken (Turns d n i (j + 1) u v)) (turned (Turned d n i) j v false) mem mem mem first
+          (sends_settled fl operands c (TurnValue (j + 1)) (Turns d n i (j + 1) u v) tt d n j v mem (deed_of false e))
 
   -- the wires of a turn's switch stand for just that
   turn_wires : (d : Context) (j : ℕ) (v : Value) (t : Bool) → is_turn d ≡ true
@@ -266,7 +266,7 @@ module _ (fl : Flow) (p : Plan) (w : Wires) (operands : HaveOperands fl) (f : Fi
   turn_value j v u there =
       let turn = first_of_and (is_turn c) _ there in
       let k = code.uses.turn_value j there in
-      subst (λ x. Acts fl (tagged c (AtTurn (j + 1)) Carried v ∷ tagged c (AtTurn (j + 1)) Flag u ∷ []) mem x mem)
+      subst (λ x. Acts fl c (TurnValue (j + 1)) (tagged c (AtTurn (j + 1)) Carried v ∷ tagged c (AtTurn (j + 1)) Flag u ∷ []) mem x mem)
       (turn_wires c j v (truth u) turn ∙ ap (λ l. flat_map (meant fl) (each c (Datum v) l)) (wire_of (truth u) k.0 k.1)) (turn_acts c j v u turn)
     where
       same_next : suc j ≡ j + 1

@@ -23,7 +23,7 @@ use Rattle.law_net.specs.ContextsWires.{IsWiredCode}
 use Rattle.law_net.specs.ContextsFirings.{takes, makes, memory_of, along, back_from, value_in, stored_at, second_of, place_at, index_of, array_in, array_at}
 use Rattle.law_net.specs.ContextsFirings.{cell_of, Answers, AFault, ARead, AFill}
 use Rattle.law_net.specs.ContextsOperands.{HaveOperands, HasOperands}
-use Rattle.law_net_refines_meaning.proofs.FiringsActs.{Acts, same, follow, acts, fires_deed}
+use Rattle.law_net_refines_meaning.proofs.FiringsActs.{Acts, same, follow, acts, fires_deed, line_past}
 use Rattle.law_net_refines_meaning.proofs.FiringsSettles.{settles, operands_in}
 use Rattle.law_net_refines_meaning.proofs.FiringsNodes.{kind_is, kind_of, exit_of, goes, Sent, node_in_block}
 use Rattle.law_net_refines_meaning.proofs.FiringsControl.{block_is}
@@ -48,7 +48,7 @@ module _ (fl : Flow) (p : Plan) (w : Wires) (operands : HaveOperands fl) (f : Fi
 
   abbrev IsMeantBy : Parts.Part → Note → Note → Type 0
   IsMeantBy r l k =
-      Acts fl (flat_map (meant fl) (takes fl (by r l k))) (memory_of fl fired') (flat_map (meant fl) (makes fl w (by r l k))) (memory_of fl (by r l k ∷ fired'))
+      Acts fl f.context r (flat_map (meant fl) (takes fl (by r l k))) (memory_of fl fired') (flat_map (meant fl) (makes fl w (by r l k))) (memory_of fl (by r l k ∷ fired'))
 
   abbrev mem : Memory
   mem = memory_of fl fired'
@@ -67,8 +67,8 @@ module _ (fl : Flow) (p : Plan) (w : Wires) (operands : HaveOperands fl) (f : Fi
   pub answer : (n : ℕ) (v : Value) (k : Note) → there_in fl (site_in fl w c) wg (Answer n) ≡ true → IsMeantBy (Answer n) (Datum v) k
   answer n v k there =
       let (line, en, kind) = kind_is b cell_kind n (first_of_and _ _ there) in
-      subst (λ l. Acts fl l mem (Sent fl p w operands c eb Here here code v (side (Answer n) false)) mem) (sym (append-nil (settled_sent fl c n 0 v)))
-      (goes fl p w operands c eb Here here code n 0 v (side (Answer n) false) mem
+      subst (λ l. Acts fl c (Answer n) l mem (Sent fl p w operands c eb Here here code v (side (Answer n) false)) mem) (sym (append-nil (settled_sent fl c n 0 v)))
+      (goes fl p w operands c eb Here here code (Answer n) n 0 v (side (Answer n) false) mem
       (exit_of b wg n 0 line en ∙ exit_answer n 0 line.region line.kind kind true (second_of_and _ _ there)) there (port_zero _))
 
   -- THE REQUEST carries the operands
@@ -107,7 +107,7 @@ module _ (fl : Flow) (p : Plan) (w : Wires) (operands : HaveOperands fl) (f : Fi
       let pair : is_pair b n ≡ is_store b n = kind_of b pair_kind n line en ∙ same_pair line.kind kind ∙ sym (kind_of b store_kind n line en) in
       let made = ap (λ (t : Bool). flat_map (meant fl) (if t then request n v k (is_store b n) ∷ [] else along fl w (by (Line n) (Datum v) k) (Line n) false))
       (sym cell) in
-      same fl _ _ mem (asked_same n v k (is_pair b n) right ∙ ap (λ (t : Bool). flat_map (meant fl) (request n v k t ∷ [])) pair ∙ made)
+      same fl c (Line n) _ _ mem (asked_same n v k (is_pair b n) right ∙ ap (λ (t : Bool). flat_map (meant fl) (request n v k t ∷ [])) pair ∙ made)
 
   -- WHAT THE CELL ANSWERS
   abbrev after : ℕ → List Value → Memory
@@ -238,7 +238,7 @@ module _ (fl : Flow) (p : Plan) (w : Wires) (operands : HaveOperands fl) (f : Fi
   and_both false u e f = absurd (true≢false (sym e))
 
   answer_goes : (n : ℕ) (v : Value) (m : Memory) → is_cell b n ≡ true
-      → Acts fl (settled_sent fl c n 0 v) m (Sent fl p w operands c eb Here here code v (side (Line n) false)) m
+      → Acts fl c (InCell n) (settled_sent fl c n 0 v) m (Sent fl p w operands c eb Here here code v (side (Line n) false)) m
   answer_goes n v m cell = pick (cases_Bool (wg.answers n))
     where
       found : (line : Node ℕ) × (node_at b n ≡ Some line) × (cell_kind line.kind ≡ true)
@@ -248,23 +248,24 @@ module _ (fl : Flow) (p : Plan) (w : Wires) (operands : HaveOperands fl) (f : Fi
       there = or_right (nat_lt n b.inputs) (is_kind plain_kind b n) (kind_of b plain_kind n found.0 found.1 ∙ plain_cell found.0.kind found.2)
 
       pick : (wg.answers n ≡ true) ⊎ (wg.answers n ≡ false)
-          → Acts fl (settled_sent fl c n 0 v) m (Sent fl p w operands c eb Here here code v (side (Line n) false)) m
-      pick (inl e) = same fl (settled_sent fl c n 0 v) (Sent fl p w operands c eb Here here code v (side (Line n) false)) m
+          → Acts fl c (InCell n) (settled_sent fl c n 0 v) m (Sent fl p w operands c eb Here here code v (side (Line n) false)) m
+      pick (inl e) = same fl c (InCell n) (settled_sent fl c n 0 v) (Sent fl p w operands c eb Here here code v (side (Line n) false)) m
           (sym (append-nil (settled_sent fl c n 0 v))
           ∙ ap (λ l. flat_map (meant fl) (each c (Datum v) l)) (sym (code.uses.answers n (and_both (is_cell b n) (wg.answers n) cell e))))
       pick (inr e) =
-          goes fl p w operands c eb Here here code n 0 v (side (Line n) false) m
+          goes fl p w operands c eb Here here code (InCell n) n 0 v (side (Line n) false) m
           (exit_of b wg n 0 found.0 found.1 ∙ exit_answer n 0 found.0.region found.0.kind found.2 false e) there (port_zero _)
 
   pub held : (n : ℕ) (l k : Note) → is_cell b n ≡ true → length f.operands ≡ (if is_store b n then 2 else 1) → Answers fl mem c n f.operands f.answer
       → IsMeantBy (InCell n) l k
   held n l k cell len answers =
       let old : operands_from c (AtNode n) 0 f.operands ≡ flat_map (meant fl) (takes fl (by (InCell n) l k)) = sym (append-nil _) in
-      let act = acts fl (Fires c n f.operands) (operands_from c (AtNode n) 0 f.operands) (sent fl c n 0 f.answer) (sent fl c n 0 f.answer) mem
+      let (line, en, kind) = kind_is b cell_kind n cell in
+      let act = acts fl c (InCell n) (Fires c n f.operands) (λ e. absurd (true≢false (sym e ∙ line_past b n line en))) (operands_from c (AtNode n) 0 f.operands) (sent fl c n 0 f.answer) (sent fl c n 0 f.answer) mem
       (after n f.operands) (IsPermutation-refl _) (held_effect n f.operands f.answer cell len answers) (IsPermutation-refl _) in
-      let all = follow fl (operands_from c (AtNode n) 0 f.operands) (sent fl c n 0 f.answer)
+      let all = follow fl c (InCell n) (operands_from c (AtNode n) 0 f.operands) (sent fl c n 0 f.answer)
       (Sent fl p w operands c eb Here here code f.answer (side (Line n) false)) mem (after n f.operands) (after n f.operands) act
-      (follow fl (sent fl c n 0 f.answer) (settled_sent fl c n 0 f.answer) (Sent fl p w operands c eb Here here code f.answer (side (Line n) false))
+      (follow fl c (InCell n) (sent fl c n 0 f.answer) (settled_sent fl c n 0 f.answer) (Sent fl p w operands c eb Here here code f.answer (side (Line n) false))
       (after n f.operands) (after n f.operands) (after n f.operands)
-      (settles fl operands c n 0 f.answer (after n f.operands)) (answer_goes n f.answer (after n f.operands) cell)) in
-      subst (λ x. Acts fl x mem (Sent fl p w operands c eb Here here code f.answer (side (Line n) false)) (after n f.operands)) old all
+      (settles fl operands c (InCell n) c n 0 f.answer (after n f.operands)) (answer_goes n f.answer (after n f.operands) cell)) in
+      subst (λ x. Acts fl c (InCell n) x mem (Sent fl p w operands c eb Here here code f.answer (side (Line n) false)) (after n f.operands)) old all

@@ -97,7 +97,7 @@ module _ (fl : Flow) (p : Plan) (w : Wires) (operands : HaveOperands fl) (f : Fi
   at r = record f { part = r }
 
   abbrev pub IsMeant : Part → Type 0
-  IsMeant r = Acts fl (flat_map (meant fl) (takes fl (at r))) (memory_of fl fired) (flat_map (meant fl) (makes fl w (at r))) (memory_of fl (at r ∷ fired))
+  IsMeant r = Acts fl f.context r (flat_map (meant fl) (takes fl (at r))) (memory_of fl fired) (flat_map (meant fl) (makes fl w (at r))) (memory_of fl (at r ∷ fired))
 
   abbrev pub There : Part → Type 0
   There r = there_in fl (site_in fl w f.context) (wiring_in fl w f.context) r ≡ true
@@ -115,46 +115,46 @@ module _ (fl : Flow) (p : Plan) (w : Wires) (operands : HaveOperands fl) (f : Fi
 
   -- parts that take one item
   pub entry : There Entry → IsMeant Entry
-  entry there = same fl _ _ _ (none_one (inlet Entry Left 0) f.left (λ v. refl) ∙ sym (along_none Entry false f.left there tt (λ e. e)))
+  entry there = same fl c Entry _ _ _ (none_one (inlet Entry Left 0) f.left (λ v. refl) ∙ sym (along_none Entry false f.left there tt (λ e. e)))
 
   pub opener : (n : ℕ) → There (Opener n) → IsMeant (Opener n)
-  opener n there = same fl _ _ _ (none_one (inlet (Opener n) Left 0) f.left (λ v. refl) ∙ sym (along_none (Opener n) false signal there tt (λ e. e)))
+  opener n there = same fl c (Opener n) _ _ _ (none_one (inlet (Opener n) Left 0) f.left (λ v. refl) ∙ sym (along_none (Opener n) false signal there tt (λ e. e)))
 
   pub fanned : (n : ℕ) → There (Fanned n) → IsMeant (Fanned n)
-  fanned n there = same fl _ _ _ (none_one (inlet (Fanned n) Left 0) f.left (λ v. refl) ∙ sym (along_none (Fanned n) false f.left there tt (λ e. e)))
+  fanned n there = same fl c (Fanned n) _ _ _ (none_one (inlet (Fanned n) Left 0) f.left (λ v. refl) ∙ sym (along_none (Fanned n) false f.left there tt (λ e. e)))
 
   pub call_done : (n : ℕ) → There (CallDone n) → IsMeant (CallDone n)
-  call_done n there = same fl _ _ _ (none_one (inlet (CallDone n) Left 0) f.left (λ v. refl) ∙ sym (along_none (CallDone n) false f.left there tt (λ e. e)))
+  call_done n there = same fl c (CallDone n) _ _ _ (none_one (inlet (CallDone n) Left 0) f.left (λ v. refl) ∙ sym (along_none (CallDone n) false f.left there tt (λ e. e)))
 
   pub loop_done : (n : ℕ) → There (LoopDone n) → IsMeant (LoopDone n)
-  loop_done n there = same fl _ _ _ (none_one (inlet (LoopDone n) Left 0) f.left (λ v. refl) ∙ sym (along_none (LoopDone n) false f.left there tt (λ e. e)))
+  loop_done n there = same fl c (LoopDone n) _ _ _ (none_one (inlet (LoopDone n) Left 0) f.left (λ v. refl) ∙ sym (along_none (LoopDone n) false f.left there tt (λ e. e)))
 
   pub next_fanned : There NextFanned → IsMeant NextFanned
-  next_fanned there = same fl _ _ _ (none_one (inlet NextFanned Left 0) f.left (λ v. refl) ∙ sym (along_none NextFanned false f.left there tt (λ e. e)))
+  next_fanned there = same fl c NextFanned _ _ _ (none_one (inlet NextFanned Left 0) f.left (λ v. refl) ∙ sym (along_none NextFanned false f.left there tt (λ e. e)))
 
   pub cond_end : (k : ℕ) → There (CondEnd k) → IsMeant (CondEnd k)
-  cond_end k there = same fl _ _ _ (none_one (inlet (CondEnd k) Left f.way) f.left (λ v. refl) ∙ sym (along_none (CondEnd k) false f.left there tt (λ e. e)))
+  cond_end k there = same fl c (CondEnd k) _ _ _ (none_one (inlet (CondEnd k) Left f.way) f.left (λ v. refl) ∙ sym (along_none (CondEnd k) false f.left there tt (λ e. e)))
 
   pub linker : (n : ℕ) → IsMeant (Linker n)
-  linker n = same fl _ _ _ (none_one (inlet (Linker n) Left 0) f.left (λ v. refl))
+  linker n = same fl c (Linker n) _ _ _ (none_one (inlet (Linker n) Left 0) f.left (λ v. refl))
 
   pub taker : (n : ℕ) → IsMeant (Taker n)
-  taker n = same fl _ _ _ (none_one (inlet (Taker n) Left f.way) f.left (λ v. refl))
+  taker n = same fl c (Taker n) _ _ _ (none_one (inlet (Taker n) Left f.way) f.left (λ v. refl))
 
   pub next_framer : IsMeant NextFramer
-  next_framer = same fl _ _ _ (none_one (inlet NextFramer Left 0) f.left (λ v. refl))
+  next_framer = same fl c NextFramer _ _ _ (none_one (inlet NextFramer Left 0) f.left (λ v. refl))
 
   pub asked : (n : ℕ) → IsMeant (Asked n)
-  asked n = same fl _ _ _ (none_one (inlet (Asked n) Left 0) f.left (λ v. refl))
+  asked n = same fl c (Asked n) _ _ _ (none_one (inlet (Asked n) Left 0) f.left (λ v. refl))
 
   pub next_asked : IsMeant NextAsked
-  next_asked = same fl _ _ _ (none_one (inlet NextAsked Left 0) f.left (λ v. refl))
+  next_asked = same fl c NextAsked _ _ _ (none_one (inlet NextAsked Left 0) f.left (λ v. refl))
 
   pub is_done : IsMeant Done
-  is_done = same fl _ _ _ (none_one (inlet Done Left 0) f.left (λ v. refl))
+  is_done = same fl c Done _ _ _ (none_one (inlet Done Left 0) f.left (λ v. refl))
 
   pub freed : IsMeant Freed
-  freed = same fl _ _ _ (none_one (inlet Freed Left 0) f.left (λ v. refl))
+  freed = same fl c Freed _ _ _ (none_one (inlet Freed Left 0) f.left (λ v. refl))
 
   -- all credits of a loop
   given_none : (n t : ℕ) → flat_map (meant fl) (given_back c n t) ≡ []
@@ -162,19 +162,19 @@ module _ (fl : Flow) (p : Plan) (w : Wires) (operands : HaveOperands fl) (f : Fi
   given_none n (suc t) = given_none n t
 
   pub drained : (n : ℕ) → IsMeant (Drained n)
-  drained n = same fl _ _ _
+  drained n = same fl c (Drained n) _ _ _
       (ap (flat_map (meant fl)) (append-nil (item c (inlet (Drainer n) Left f.turns) f.left ∷ given_back c n (f.turns + 1)))
       ∙ (λ i. none_meant fl c (inlet (Drainer n) Left f.turns) f.left (λ v. refl) i ++ given_none n (f.turns + 1) i))
 
   -- parts that take two
   pub join : (r : Region) (i : ℕ) → There (Join r i) → IsMeant (Join r i)
   join r i there =
-      same fl _ _ _ (none_two (inlet (Join r i) Left 0) (inlet (Join r i) Right 0) f.left f.right (λ v. refl) (λ v. refl)
+      same fl c (Join r i) _ _ _ (none_two (inlet (Join r i) Left 0) (inlet (Join r i) Right 0) f.left f.right (λ v. refl) (λ v. refl)
       ∙ sym (along_none (Join r i) false signal there tt (λ e. e)))
 
   pub strict : (n i : ℕ) → There (Strict n i) → IsMeant (Strict n i)
   strict n i there =
-      same fl _ _ _ (none_two (inlet (Strict n i) Left 0) (inlet (Strict n i) Right 0) f.left f.right (λ v. refl) (λ v. refl)
+      same fl c (Strict n i) _ _ _ (none_two (inlet (Strict n i) Left 0) (inlet (Strict n i) Right 0) f.left f.right (λ v. refl) (λ v. refl)
       ∙ sym (along_none (Strict n i) false signal there tt (λ e. e)))
 
   switch_none : (r : Part) (k : Note) → There r → IsSilent r → (IsExit r → ⊥) → flat_map (meant fl) (switched fl w (at r) r k) ≡ []
@@ -185,17 +185,17 @@ module _ (fl : Flow) (p : Plan) (w : Wires) (operands : HaveOperands fl) (f : Fi
 
   pub trigger : (k : ℕ) → There (Trigger k) → IsMeant (Trigger k)
   trigger k there =
-      same fl _ _ _ (none_two (inlet (Trigger k) Left 0) (inlet (Trigger k) Right 0) f.left f.right (λ v. refl) (λ v. refl)
+      same fl c (Trigger k) _ _ _ (none_two (inlet (Trigger k) Left 0) (inlet (Trigger k) Right 0) f.left f.right (λ v. refl) (λ v. refl)
       ∙ sym (switch_none (Trigger k) f.right there tt (λ e. e)))
 
   pub turn_cont : There TurnCont → IsMeant TurnCont
   turn_cont there =
-      same fl _ _ _ (none_two (inlet TurnCont Left 0) (inlet TurnCont Right 0) f.left f.right (λ v. refl) (λ v. refl)
+      same fl c TurnCont _ _ _ (none_two (inlet TurnCont Left 0) (inlet TurnCont Right 0) f.left f.right (λ v. refl) (λ v. refl)
       ∙ sym (switch_none TurnCont f.right there tt (λ e. e)))
 
   pub turn_flag : There TurnFlag → IsMeant TurnFlag
   turn_flag there =
-      same fl _ _ _ (none_two (inlet TurnFlag Left 0) (inlet TurnFlag Right 0) f.left f.right (λ v. refl) (λ v. refl)
+      same fl c TurnFlag _ _ _ (none_two (inlet TurnFlag Left 0) (inlet TurnFlag Right 0) f.left f.right (λ v. refl) (λ v. refl)
       ∙ sym (switch_none TurnFlag f.right there tt (λ e. e)))
 
   credit_none : (d : Context) → flat_map (meant fl) (credit_asked d) ≡ []
@@ -204,7 +204,7 @@ module _ (fl : Flow) (p : Plan) (w : Wires) (operands : HaveOperands fl) (f : Fi
   credit_none (Turned d n i) = refl
 
   pub asker : IsMeant Asker
-  asker = same fl _ _ _ (none_two (inlet Asker Left 0) (inlet Asker Right 0) f.left f.right (λ v. refl) (λ v. refl) ∙ sym (credit_none c))
+  asker = same fl c Asker _ _ _ (none_two (inlet Asker Left 0) (inlet Asker Right 0) f.left f.right (λ v. refl) (λ v. refl) ∙ sym (credit_none c))
 
   end_none : (d : Context) → flat_map (meant fl) (end_back d) ≡ []
   end_none Main = refl
@@ -212,7 +212,7 @@ module _ (fl : Flow) (p : Plan) (w : Wires) (operands : HaveOperands fl) (f : Fi
   end_none (Turned d n i) = refl
 
   pub ended : IsMeant End
-  ended = same fl _ _ _ (none_two (inlet End Left 0) (inlet End Right 0) f.left f.right (λ v. refl) (λ v. refl) ∙ sym (end_none c))
+  ended = same fl c End _ _ _ (none_two (inlet End Left 0) (inlet End Right 0) f.left f.right (λ v. refl) (λ v. refl) ∙ sym (end_none c))
 
   drain_none : (d : Context) (k : Note) → flat_map (meant fl) (drain_back d k) ≡ []
   drain_none Main k = refl
@@ -220,7 +220,7 @@ module _ (fl : Flow) (p : Plan) (w : Wires) (operands : HaveOperands fl) (f : Fi
   drain_none (Turned d n i) k = (λ x. none_meant fl d (inlet (Drainer n) Left i) k (λ v. refl) x ++ [])
 
   pub drain_return : There DrainReturn → IsMeant DrainReturn
-  drain_return there = same fl _ _ _ (none_two (inlet DrainReturn Left 0) (inlet DrainReturn Right 0) f.left f.right (λ v. refl) (λ v. refl)
+  drain_return there = same fl c DrainReturn _ _ _ (none_two (inlet DrainReturn Left 0) (inlet DrainReturn Right 0) f.left f.right (λ v. refl) (λ v. refl)
       ∙ sym (flat_map-append (meant fl) (drain_back c f.right) (each c signal ((wiring_in fl w c).wire (side DrainReturn false)))
       ∙ (λ i. drain_none c f.right i ++ along_none DrainReturn false signal there tt (λ e. e) i)))
 
@@ -235,18 +235,18 @@ module _ (fl : Flow) (p : Plan) (w : Wires) (operands : HaveOperands fl) (f : Fi
 
   pub result : (j : ℕ) → There (Result j) → IsMeant (Result j)
   result j there =
-      same fl _ _ _ (sent_on (inlet (Result j) Left 0) (inlet (Result j) Right 0) (result_back c j f.right) (Result j) (λ v. refl) there tt (λ e. e)
+      same fl c (Result j) _ _ _ (sent_on (inlet (Result j) Left 0) (inlet (Result j) Right 0) (result_back c j f.right) (Result j) (λ v. refl) there tt (λ e. e)
       (result_meant fl c j f.right ctx (not-true (is_turn c) (first_of_and _ _ there))))
 
   pub last_return : (j : ℕ) → There (LastReturn j) → IsMeant (LastReturn j)
   last_return j there =
-      same fl _ _ _ (sent_on (inlet (LastReturn j) Left 0) (inlet (LastReturn j) Right 0) (result_back c j f.right) (LastReturn j) (λ v. refl) there tt (λ e. e)
+      same fl c (LastReturn j) _ _ _ (sent_on (inlet (LastReturn j) Left 0) (inlet (LastReturn j) Right 0) (result_back c j f.right) (LastReturn j) (λ v. refl) there tt (λ e. e)
       (last_back fl c j f.right ctx (first_of_and _ _ there)))
 
   pub next_sender : (j : ℕ) → There (NextSender j) → IsMeant (NextSender j)
   next_sender zero there =
-      same fl _ _ _ (none_two (inlet (NextSender 0) Left 0) (inlet (NextSender 0) Right 0) f.left f.right (λ v. refl) (λ v. refl)
+      same fl c (NextSender 0) _ _ _ (none_two (inlet (NextSender 0) Left 0) (inlet (NextSender 0) Right 0) f.left f.right (λ v. refl) (λ v. refl)
       ∙ sym (λ i. none_meant fl (next c) (inlet Entry Left 0) f.right (λ v. refl) i ++ along_none (NextSender 0) false signal there tt (λ e. e) i))
   next_sender (suc j) there =
-      same fl _ _ _ (sent_on (inlet (NextSender (suc j)) Left 0) (inlet (NextSender (suc j)) Right 0) (item (next c) (inlet (Line j) Left 0) f.right ∷ [])
+      same fl c (NextSender (suc j)) _ _ _ (sent_on (inlet (NextSender (suc j)) Left 0) (inlet (NextSender (suc j)) Right 0) (item (next c) (inlet (Line j) Left 0) f.right ∷ [])
       (NextSender (suc j)) (λ v. refl) there tt (λ e. e) (next_back fl c j f.right (first_of_and _ _ there)))

@@ -23,7 +23,7 @@ use Rattle.law_net.specs.ContextsMeant.{meant, settled_sent, operand}
 use Rattle.law_net.specs.ContextsWires.{IsWiredCode, has_port, meant_along, IsSilent}
 use Rattle.law_net.specs.ContextsFirings.{kind_value, line_value}
 use Rattle.law_net.specs.ContextsOperands.{HasOperands, HaveOperands}
-use Rattle.law_net_refines_meaning.proofs.FiringsActs.{Acts, stays, follow, says_acts, fires_deed, input_deed, gates_deed, passes_deed, line_past}
+use Rattle.law_net_refines_meaning.proofs.FiringsActs.{Passing, Acts, stays, follow, says_acts, fires_deed, input_deed, gates_deed, passes_deed, line_past}
 use Rattle.law_net_refines_meaning.proofs.FiringsSettles.{operands_in, sends_settled}
 use Rattle.law_net_refines_meaning.proofs.FiringsWords.{meant_each, none_each, IsExit, exit_is, exit_gate}
 
@@ -58,19 +58,20 @@ module _ (fl : Flow) (p : Plan) (w : Wires) (operands : HaveOperands fl) (c : Co
   Sent v s = flat_map (meant fl) (each c (Datum v) (wg.wire s))
 
   -- what is settled goes along the wires
-  pub goes : (n q : ℕ) (v : Value) (s : Side) (m : Memory) → exit b wg n q ≡ s → there_in fl (site_in fl w c) wg s.part ≡ true → has_port fl b n q ≡ true
-      → Acts fl (settled_sent fl c n q v) m (Sent v s) m
-  goes n q v s m e there port =
+  pub goes : (by : Part) (n q : ℕ) (v : Value) (s : Side) (m : Memory) → exit b wg n q ≡ s → there_in fl (site_in fl w c) wg s.part ≡ true → has_port fl b n q ≡ true
+      → Acts fl c by (settled_sent fl c n q v) m (Sent v s) m
+  goes by n q v s m e there port =
       let uses = code.uses.uses c n q v here (ap (λ (s : Side). there_in fl (site_in fl w c) wg s.part) e ∙ there) port in
       let uses' : IsPermutation (meant_along fl c v (wg.wire s)) (settled_sent fl c n q v) =
       subst (λ (s : Side). IsPermutation (meant_along fl c v (wg.wire s)) (settled_sent fl c n q v)) e uses in
-      stays fl (settled_sent fl c n q v) (Sent v s) m (IsPermutation-sym _ _ (at_first (meant_each fl c v (wg.wire s)) uses'))
+      stays fl c by (settled_sent fl c n q v) (Sent v s) m (IsPermutation-sym _ _ (at_first (meant_each fl c v (wg.wire s)) uses'))
 
   -- an activity that sends on a port
-  pub leaves : (a : Activity) (n q : ℕ) (v : Value) (s : Side) (m : Memory) → deed fl a ≡ Some (Says (Sends c n q v)) → exit b wg n q ≡ s
-      → there_in fl (site_in fl w c) wg s.part ≡ true → has_port fl b n q ≡ true → Acts fl (taken a) m (Sent v s) m
-  leaves a n q v s m d e there port =
-      follow fl (taken a) (settled_sent fl c n q v) (Sent v s) m m m (sends_settled fl operands a c n q v m d) (goes n q v s m e there port)
+  pub leaves : (by : Part) (a : Activity) → Passing fl c by a → (n q : ℕ) (v : Value) (s : Side) (m : Memory) → deed fl a ≡ Some (Says (Sends c n q v)) → exit b wg n q ≡ s
+      → there_in fl (site_in fl w c) wg s.part ≡ true → has_port fl b n q ≡ true → Acts fl c by (taken a) m (Sent v s) m
+  leaves by a passing n q v s m d e there port =
+      follow fl c by (taken a) (settled_sent fl c n q v) (Sent v s) m m m (sends_settled fl operands c by a passing c n q v m d)
+      (goes by n q v s m e there port)
 
   -- what leaves by a side that is no exit stands for no token
   pub silent : (s : Side) (k : Note) → there_in fl (site_in fl w c) wg s.part ≡ true → IsSilent s.part → ((n q : ℕ) → exit b wg n q ≢ s)
@@ -116,7 +117,7 @@ module _ (fl : Flow) (p : Plan) (w : Wires) (operands : HaveOperands fl) (c : Co
 
   -- a line that is no cell, with one operand or with two
   abbrev LineActs : ℕ → List Value → Value → Memory → Type 0
-  LineActs n vs v m = Acts fl (taken (Fires c n vs)) m (Sent v (side (Line n) false)) m
+  LineActs n vs v m = Acts fl c (Line n) (taken (Fires c n vs)) m (Sent v (side (Line n) false)) m
 
   value_is : (n : ℕ) (v u : Value) (o : Option (Node ℕ)) → node_at b n ≡ o → line_value fl c n v u ≡ Value_of n v u o
   value_is n v u o e = ap (λ (o : Option (Node ℕ)). Value_of n v u o) (node_in_block n ∙ e)
@@ -134,14 +135,14 @@ module _ (fl : Flow) (p : Plan) (w : Wires) (operands : HaveOperands fl) (c : Co
       let ex : exit b wg n 0 ≡ side (Line n) false =
       ap (λ o. elim o as (λ x. Side) [ None ↦ side (Line n) false | Some line ↦ exit_kind wg n 0 line.region line.kind ]) none in
       subst (λ x. LineActs n (v ∷ []) x m) (sym (value_is n v u None none))
-      (leaves (Fires c n (v ∷ [])) n 0 v (side (Line n) false) m (input_deed fl c n v b eb e) ex plain (or_true _))
+      (leaves (Line n) (Fires c n (v ∷ [])) (λ e. (refl, refl)) n 0 v (side (Line n) false) m (input_deed fl c n v b eb e) ex plain (or_true _))
 
   line_acts : (n : ℕ) (vs : List Value) (v u : Value) (m : Memory) (line : Node ℕ) → is_plain b n ≡ true → node_at b n ≡ Some line → plain_kind line.kind ≡ true
       → cell_kind line.kind ≡ false → deed fl (Fires c n vs) ≡ Some (Says (Sends c n 0 (kind_value fl c n v u line.kind)))
       → LineActs n vs (line_value fl c n v u) m
   line_acts n vs v u m line plain en kind never d =
       subst (λ x. LineActs n vs x m) (sym (value_is n v u (Some line) en))
-      (leaves (Fires c n vs) n 0 (kind_value fl c n v u line.kind) (side (Line n) false) m d
+      (leaves (Line n) (Fires c n vs) (λ e. (refl, refl)) n 0 (kind_value fl c n v u line.kind) (side (Line n) false) m d
       (exit_of b wg n 0 line en ∙ line_exit n 0 line.region line.kind kind never) plain (or_true _))
 
   pub line_one : (n : ℕ) (v u : Value) (m : Memory) → is_plain b n ≡ true → is_cell b n ≡ false → is_pair b n ≡ false
@@ -174,11 +175,11 @@ module _ (fl : Flow) (p : Plan) (w : Wires) (operands : HaveOperands fl) (c : Co
   merge_deed n i v (Kind.Merge k) e = (refl, λ r. refl)
   merge_deed n i v k e = absurd (true≢false (sym e))
 
-  pub merge_acts : (n i : ℕ) (v : Value) (m : Memory) → is_kind merge_kind b n ≡ true → Acts fl (operand c n i v ∷ []) m (Sent v (side (Merge n) false)) m
+  pub merge_acts : (n i : ℕ) (v : Value) (m : Memory) → is_kind merge_kind b n ≡ true → Acts fl c (Merge n) (operand c n i v ∷ []) m (Sent v (side (Merge n) false)) m
   merge_acts n i v m there =
       let (line, en, kind) = kind_is b merge_kind n there in
       let k = merge_deed n i v line.kind kind in
-      leaves (Passes c n i v) n 0 v (side (Merge n) false) m (passes_deed fl c n i v b line eb en ∙ k.0) (exit_of b wg n 0 line en ∙ k.1 line.region) there
+      leaves (Merge n) (Passes c n i v) tt n 0 v (side (Merge n) false) m (passes_deed fl c n i v b line eb en ∙ k.0) (exit_of b wg n 0 line en ∙ k.1 line.region) there
       (or_true _)
 
   -- ENTERS
@@ -197,7 +198,7 @@ module _ (fl : Flow) (p : Plan) (w : Wires) (operands : HaveOperands fl) (c : Co
   side_cases false true = inr (λ e. true≢false e, refl)
 
   pub gate_acts : (n : ℕ) (v u : Value) (m : Memory) → is_kind enter_kind b n ≡ true
-      → Acts fl (operand c n 0 v ∷ tagged c (AtNode n) Predicate u ∷ []) m (Sent v (side (Gate n) (not (truth u)))) m
+      → Acts fl c (Gate n) (operand c n 0 v ∷ tagged c (AtNode n) Predicate u ∷ []) m (Sent v (side (Gate n) (not (truth u)))) m
   gate_acts n v u m there = pick (side_cases (truth u) t)
     where
       found : (line : Node ℕ) × (node_at b n ≡ Some line) × (enter_kind line.kind ≡ true)
@@ -221,11 +222,11 @@ module _ (fl : Flow) (p : Plan) (w : Wires) (operands : HaveOperands fl) (c : Co
       own = ap second_side (ap arm_of found.1 ∙ k.2)
 
       pick : ((not (truth u) ≡ not t) × (same_side (truth u) t ≡ true)) ⊎ ((not (truth u) ≡ not t → ⊥) × (same_side (truth u) t ≡ false))
-          → Acts fl (taken (Gates c n v u)) m (Sent v (side (Gate n) (not (truth u)))) m
+          → Acts fl c (Gate n) (taken (Gates c n v u)) m (Sent v (side (Gate n) (not (truth u)))) m
       pick (inl (e, y)) =
-          leaves (Gates c n v u) n 0 v (side (Gate n) (not (truth u))) m (d ∙ ap (λ (t : Bool). Some (Says (if t then Sends c n 0 v else Nothing))) y)
+          leaves (Gate n) (Gates c n v u) tt n 0 v (side (Gate n) (not (truth u))) m (d ∙ ap (λ (t : Bool). Some (Says (if t then Sends c n 0 v else Nothing))) y)
           (exit_of b wg n 0 line found.1 ∙ k.4 ∙ ap (side (Gate n)) (sym e)) there (or_true _)
       pick (inr (never, y)) =
           let quiet = silent (side (Gate n) (not (truth u))) (Datum v) there tt (λ i q e. never ((exit_gate b wg i q n (not (truth u)) e).1 ∙ own)) in
-          subst (λ l. Acts fl (taken (Gates c n v u)) m l m) (sym quiet)
-          (says_acts fl (Gates c n v u) Nothing m (d ∙ ap (λ (t : Bool). Some (Says (if t then Sends c n 0 v else Nothing))) y))
+          subst (λ l. Acts fl c (Gate n) (taken (Gates c n v u)) m l m) (sym quiet)
+          (says_acts fl c (Gate n) (Gates c n v u) tt Nothing m (d ∙ ap (λ (t : Bool). Some (Says (if t then Sends c n 0 v else Nothing))) y))

@@ -7,7 +7,7 @@
 //! 1. An item stands for some tokens of the meaning, or for none (`meant`, in `law_net`): an argument that waits for a frame stands for that operand
 //!    of the call; a signal, a frame and a continuation stand for none.
 //! 2. So what a firing takes and what it makes stand for tokens, and some activities must lead from the former to the latter, whatever else is there
-//!    (`FiringsActs`).
+//!    (`FiringsActs`). An input passes only where its own line fires: no other firing has that activity (`Passing`).
 //! 3. A conditional has no instruction: as soon as its source is sent, it is decided (`FiringsSettles`).
 //! 4. A node's part fires as the node does, and the conditionals that it feeds act with it (`FiringsNodes`).
 //! 5. For a part that only controls, what it takes and what it sends on stand for the same tokens, or for none (`FiringsControl`).
