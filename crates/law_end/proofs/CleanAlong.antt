@@ -24,7 +24,7 @@ use Rattle.law_end.proofs.CleanStill.{AtRest, Arrives, Fired, sent, held_arrives
 use Rattle.law_end.proofs.CleanFires.{fires_one}
 use Rattle.law_end.proofs.CleanStarts.{chooser, predicate_is, sends_none, first_side}
 
-module _ (u : AtRest) (c : Context) (con : IsContext u.fl c) where
+module _ (u : AtRest) (c : Context) (con : IsContext u.fl c) (ins : u.Inside c) where
   abbrev Here : Part → Type 0
   Here r = IsHere u.fl u.p u.w u.good c con r
 
@@ -56,7 +56,7 @@ module _ (u : AtRest) (c : Context) (con : IsContext u.fl c) where
   maker_fires (Line n) f = go (is_cell (block_in u.fl c) n) refl
     where
       go : (t : Bool) → is_cell (block_in u.fl c) n ≡ t → Fired u c (if t then InCell n else Line n)
-      go true e = fires_one u c (InCell n) 0 refl refl (held_arrives u c n e f)
+      go true e = fires_one u c ins (InCell n) 0 refl refl (held_arrives u c n e f)
       go false e = f
   maker_fires r f = f
 

@@ -1,35 +1,27 @@
--- At rest: a turn that asked for the next got its credit; and a loop whose last turn is over, and each before it, has all credits back.
-use Rattle.std.proofs.Common.{◌≡◌, ℕ, zero, suc, ◌+◌, ◌-◌, ◌<◌, ◌≤◌, Bool, true, false, ◌⊎◌, inl, inr, List, [], ◌∷◌, ◌++◌, Option, nat_lt, ◌&&◌, ◌==◌}
+-- At rest: a turn in question that asked for the next got its credit; and a loop whose last turn is over, and each before it, has all credits back.
+use Rattle.std.proofs.Common.{◌≡◌, ℕ, zero, suc, ◌+◌, ◌-◌, ◌<◌, ◌≤◌, Bool, true, false, ◌⊎◌, inl, inr, List, [], ◌∷◌, ◌++◌, nat_lt, ◌&&◌, ◌==◌}
 use Rattle.std.proofs.Common.{if◌then◌else◌, refl, sym, ap, ◌∙◌, subst, arith, true≢false, ltb-true, lt-ltb, eq-eqb, eqb-true}
 use Rattle.std.specs.Prelude.{Contains}
 use Rattle.std.proofs.lemmas.Bool.{cases_Bool}
 use Rattle.std.proofs.lemmas.List.Elements.{Contains-append_right}
 use Rattle.lemmas.proofs.Contains.{contains_cases, contains_none}
 use Rattle.tags.specs.declared.token.Port.TheVariants.{Left}
-use Rattle.tags.specs.declared.token.Cont.{Cont}
-use Rattle.tags.specs.declared.slot.SlotState.TheVariants as Slot
 use Rattle.semantics.specs.Graph.{Flow}
-use Rattle.semantics.specs.Meaning.{Context}
+use Rattle.semantics.specs.Meaning.{Context, Turned}
 use Rattle.law_confluence.specs.OrdersTotals.{one, total}
 use Rattle.law_confluence.proofs.Net.{Waits, Fires}
 use Rattle.law_confluence.proofs.Orders.{one_of_both}
-use Rattle.law_net.specs.ContextsParts.{Part, Opener, Giver, Taker, Drainer, NextFramer, Drained, Inlet, inlet, Item, Firing}
+use Rattle.law_net.specs.ContextsParts.{Part, Giver, Taker, Drainer, Drained, Inlet, inlet, Item, Firing}
 use Rattle.law_net.specs.ContextsBlocks.{is_loop}
-use Rattle.law_net.specs.Contexts.{Wires, block_in, wiring_in, IsContext}
-use Rattle.law_net.specs.ContextsCredits.{Ledger, waits_or}
-use Rattle.law_net.specs.ContextsFirings.{Config, Move, begin, takes, own_takes, renewed, frame_at, left_item, times, turn_before, ProperAt, IsProperMove}
+use Rattle.law_net.specs.Contexts.{Wires, block_in, IsContext}
+use Rattle.law_net.specs.ContextsCredits.{Ledger}
+use Rattle.law_net.specs.ContextsFirings.{Config, Move, begin, takes, own_takes, renewed, left_item, times, ProperAt, IsProperMove}
 use Rattle.law_net.specs.ContextsFirings.{ProperMoves, Still, Then}
-use Rattle.law_net.specs.ContextsMirror.{conts_of, only, is_item_at, items_at, is_over, granted_of}
-use Rattle.law_net.proofs.ContextsSames.{spot_is}
-use Rattle.law_net.proofs.ContextsBlocks.{first_cont_some}
-use Rattle.law_net.proofs.CreditsOpened.{NTaker}
-use Rattle.law_net.proofs.Credits.{near_opened, keeps, book, bound, slot_is, open_form, firing_of, some_firing}
-use Rattle.law_net.proofs.CreditsTurns.{no_later}
+use Rattle.law_net.specs.ContextsMirror.{is_item_at, items_at, is_over, granted_of}
+use Rattle.law_net.proofs.Credits.{keeps, book, bound, firing_of, some_firing}
 use Rattle.law_net.proofs.RunsPigeons.{items_total, item_here, some_item}
-use Rattle.law_end.proofs.OverMade.{credit_gone, twice}
-use Rattle.law_end.proofs.OverBack.{turn_ended, turn_asked}
-use Rattle.law_end.proofs.CleanStill.{AtRest, Stood, Arrives, Fired}
-use Rattle.law_end.proofs.CleanFires.{TookBy, Own, Back, Renewed, took_by, goes_back, waits_or_taken, waiting_stands, carried, cont_waits}
+use Rattle.law_end.proofs.CleanStill.{AtRest, Arrives, Fired}
+use Rattle.law_end.proofs.CleanFires.{TookBy, Own, Back, Renewed, took_by, goes_back, waits_or_taken}
 
 -- MANY items at one part, each with its way
 one_step : (a : Bool) (x k : ℕ) → one (a && nat_lt x k) + one (a && (x == k)) ≤ one (a && nat_lt x (suc k))
@@ -113,48 +105,10 @@ module _ (u : AtRest) (c : Context) (con : IsContext u.fl c) (n : ℕ) (l : is_l
       pick (inl g) = ap (λ (i : Item). i.inlet.way) (sym g)
       pick (inr k) = absurd (contains_none i k)
 
-  -- NO TAKE WAITS
-  module _ (t : ℕ) (i : Item) (waits : Contains u.kept.tracks.net.waiting i) (a : i.context ≡ c) (e : i.inlet ≡ inlet (Taker n) Left (suc t)) where
-    part : i.inlet.part ≡ Taker n
-    part = ap (λ (x : Inlet). x.part) e
-
-    way : i.inlet.way ≡ suc t
-    way = ap (λ (x : Inlet). x.way) e
-
-    stood : Stood u i
-    stood = waiting_stands u i waits
-
-    over_not : (b : Bool) → is_over u.kept.tracks.net c n ≡ b → is_over u.kept.tracks.net c n ≡ false
-    over_not false g = g
-    over_not true g =
-        let (h, d, x, y) = firing_of c (Drained n) u.kept.tracks.net.fired (ltb-true 0 (times c (Drained n) u.kept.tracks.net.fired) g) in
-        let low = no_later u.fl u.p u.w u.inputs u.past u.m u.good u.kept c con n l h d x y i stood a part in
-        let asked = turn_asked u.fl u.p u.w u.inputs u.past u.m u.good u.fit u.kept c con n l t
-        (turn_ended u.fl u.p u.w u.inputs u.past u.m u.good u.fit u.kept c con n l h d x y (suc t) (let z = way in omega (arith, low, z))) in
-        let (j, o, b, z) = credit_gone u.fl u.p u.w u.inputs u.past u.m u.good u.fit u.kept c n t asked in
-        absurd (twice u.fl u.p u.w u.inputs u.past u.m u.good u.fit u.kept i j
-        (Contains-append_right u.kept.tracks.net.pending u.kept.tracks.net.waiting i waits) o
-        (spot_is (record { context = j.context; inlet = j.inlet }) (record { context = i.context; inlet = i.inlet }) (b ∙ sym a) (z ∙ sym e)))
-
-    no_take_waits : ⊥
-    no_take_waits =
-        let opened = lt-ltb 0 (times c (Opener n) u.kept.tracks.net.fired)
-        (near_opened u.fl u.p u.w u.inputs u.past u.m u.good u.kept c con n l i stood (NTaker a part)) in
-        let (k, o) = cont_waits u (is_item_at c (Taker n)) i waits (item_here c (Taker n) i a part) (turn_before i.context n i.inlet.way)
-        (inlet NextFramer Left 0) (carried u i stood (Taker n) part) in
-        let (b, some) = first_cont_some (conts_of u.fl u.p u.w u.kept.tracks.net.fired (only (is_item_at c (Taker n)) u.kept.tracks.net.waiting)) k o in
-        let (g, at) = u.kept.tracks.stands.known i stood in
-        let drains = ((keeps u.fl u.p u.w u.inputs u.past u.m u.good u.kept c con n l).law.waits b some).1 in
-        let slot = slot_is u.fl u.p u.w u.inputs u.past u.m u.good u.kept c con n l g (ap (frame_at u.fl u.kept.tracks.net.fired) (sym a) ∙ at)
-        ∙ open_form u.fl u.p u.w u.inputs u.past u.m u.good u.kept c con n l opened (over_not (is_over u.kept.tracks.net c n) refl)
-        ∙ ap (λ (t : Bool). if t then Slot.Draining (log.granted - log.given) else waits_or log.waiter (Slot.Credits (most - (log.granted - log.given)))) drains
-        ∙ ap (λ (w : Option Cont). waits_or w (Slot.Credits (most - (log.granted - log.given)))) some in
-        u.wants (inr (g, (wiring_in u.fl u.w c).slot (Opener n), b, slot))
-
   -- A CREDIT that was asked for was taken
-  pub taker_fires : (t : ℕ) → Arrives u c (inlet (Taker n) Left (suc t))
+  pub taker_fires : (t : ℕ) → u.Inside (Turned c n t) → Arrives u c (inlet (Taker n) Left (suc t))
       → (h : Firing) × Contains u.kept.tracks.net.fired h × (h.context ≡ c) × (h.part ≡ Taker n) × (h.way ≡ suc t)
-  taker_fires t (i, s, a, e) = pick (waits_or_taken u i s)
+  taker_fires t ins (i, s, a, e) = pick (waits_or_taken u i s)
     where
       is_part : i.inlet.part ≡ Taker n
       is_part = ap (λ (x : Inlet). x.part) e
@@ -168,7 +122,7 @@ module _ (u : AtRest) (c : Context) (con : IsContext u.fl c) (n : ℕ) (l : is_l
 
       pick : Contains u.kept.tracks.net.waiting i ⊎ ((h : Firing) × Contains u.kept.tracks.net.fired h × Contains (takes u.fl h) i)
           → (h : Firing) × Contains u.kept.tracks.net.fired h × (h.context ≡ c) × (h.part ≡ Taker n) × (h.way ≡ suc t)
-      pick (inl d) = absurd (no_take_waits t i d a e)
+      pick (inl d) = absurd (u.no_credit i n t d e (subst (λ (c : Context). u.Inside (Turned c n t)) (sym a) ins))
       pick (inr (h, d, o)) = let (same, took) = took_by u.fl h i o in by h d o same took
 
   -- ALL CREDITS are back
@@ -177,7 +131,7 @@ module _ (u : AtRest) (c : Context) (con : IsContext u.fl c) (n : ℕ) (l : is_l
   loop_of (Drainer k) = k
   loop_of r = 0
 
-  back_waits : (r : Part) (t : ℕ) → goes_back r ≡ true → loop_of r ≡ n → (f : Arrives u c (inlet r Left t))
+  pub back_waits : (r : Part) (t : ℕ) → goes_back r ≡ true → loop_of r ≡ n → (f : Arrives u c (inlet r Left t))
       → Contains u.kept.tracks.net.waiting f.0 ⊎ Fired u c (Drained n)
   back_waits r t back mine (i, s, a, e) = pick (waits_or_taken u i s)
     where

@@ -1,6 +1,6 @@
--- At rest, with nothing wanted and no reader waiting, a part has fired if something arrived at each of its ports.
-use Rattle.std.proofs.Common.{◌≡◌, ℕ, zero, suc, ◌+◌, Bool, true, false, ◌⊎◌, inl, inr, List, [], ◌∷◌, ◌++◌, map, length, if◌then◌else◌, refl, sym, ap, ◌∙◌}
-use Rattle.std.proofs.Common.{subst, arith, true≢false, eq-eqb}
+-- At rest, where nothing waits for a credit or at a cell, a part has fired if something arrived at each of its ports.
+use Rattle.std.proofs.Common.{◌≡◌, ℕ, zero, suc, ◌+◌, Bool, true, false, ◌⊎◌, inl, inr, List, [], ◌∷◌, ◌++◌, map, if◌then◌else◌, refl, sym, ap, ◌∙◌}
+use Rattle.std.proofs.Common.{subst, arith, true≢false}
 use Rattle.std.specs.Prelude.{Contains, IsPermutation, flat_map}
 use Rattle.std.proofs.lemmas.List.Sorted.{IsPermutation-sym, Contains-permutation}
 use Rattle.std.proofs.lemmas.List.Elements.{Contains-append_right, Contains-append_cases}
@@ -14,28 +14,20 @@ use Rattle.tags.specs.declared.slot.SlotState.{SlotState}
 use Rattle.tags.specs.declared.slot.SlotState.TheVariants as Slot
 use Rattle.semantics.specs.Graph.{Flow}
 use Rattle.semantics.specs.Meaning.{Context}
-use Rattle.semantics.specs.Machine.{CellState, Vacant, Full, Deferred, reader_count}
-use Rattle.semantics.specs.Orderly.{readers_of}
-use Rattle.law_net.specs.ContextsParts.{Part, Line, Framer, Fanned, Sender, Giver, Taker, Drainer, NextFanned, Asked, NextAsked, InCell, Drained, Inlet, inlet}
+use Rattle.law_net.specs.ContextsParts.{Part, Framer, Fanned, Sender, Giver, Taker, Drainer, NextFanned, Asked, NextAsked, InCell, Drained, Inlet, inlet}
 use Rattle.law_net.specs.ContextsParts.{Note, Datum, BackTo, signal, Item, item, Firing, spot_of}
-use Rattle.law_net.specs.ContextsBlocks.{side, waits_in, is_cell}
+use Rattle.law_net.specs.ContextsBlocks.{waits_in}
 use Rattle.law_net.specs.Contexts.{block_in, wiring_in, is_strict_in}
 use Rattle.law_net.specs.ContextsWires.{arrives_at}
-use Rattle.law_net.specs.ContextsFirings.{left_item, right_way, arguments_from, given_back, request_of, takes, own_takes, renewed, back_from}
-use Rattle.law_net.specs.ContextsLaws.{Fits, Carries, spot_there, port_fits}
-use Rattle.law_net.specs.ContextsMirror.{frame_of, ip_of, word_of, cont_in, conts_of, only, in_slot, slot_of, on_side, is_asked, is_in_cell, reads, reads_cell}
+use Rattle.law_net.specs.ContextsFirings.{left_item, right_way, arguments_from, given_back, request_of, takes, own_takes, renewed}
+use Rattle.law_net.specs.ContextsLaws.{Fits, Carries, port_fits}
+use Rattle.law_net.specs.ContextsMirror.{frame_of, ip_of, word_of, cont_in, conts_of, only, in_slot, slot_of, on_side, is_asked, is_in_cell}
 use Rattle.law_net.specs.ContextsMirror.{token_of}
 use Rattle.law_net.proofs.ContextsWords.{carries_of}
 use Rattle.law_net.proofs.WiredNets.{only_has, flat_contains}
-use Rattle.law_net.proofs.WiredSends.{cell_plain}
 use Rattle.law_end.specs.Over.{is_turning}
 use Rattle.law_end.proofs.OverMade.{fits, word, left_stands}
-use Rattle.law_end.proofs.OverPaths.{Wire, next}
 use Rattle.law_end.proofs.CleanStill.{AtRest, Stood, Arrives, Fired}
-
-none_left : {X : Type 0} (xs : List X) → length xs ≡ 0 → (x : X) → Contains xs x → ⊥
-none_left [] e x c = contains_none x c
-none_left (y ∷ xs) e x c = absurd (omega (arith, e))
 
 image_none : {X Y : Type 0} (f : X → Y) (xs : List X) (x : X) → Contains xs x → IsPermutation [] (map f xs) → ⊥
 image_none f xs x c perm = go xs c (IsPermutation-sym _ _ perm)
@@ -43,12 +35,6 @@ image_none f xs x c perm = go xs c (IsPermutation-sym _ _ perm)
     go : (xs : List _) → Contains xs x → IsPermutation (map f xs) [] → ⊥
     go [] c perm = contains_none x c
     go (y ∷ xs) c perm = contains_none (f y) (Contains-permutation _ _ (f y) perm (contains_head (f y) (map f xs)))
-
--- readers of a cell
-readers_length : (s : CellState) → length (readers_of s) ≡ reader_count s
-readers_length Vacant = refl
-readers_length (Full v) = refl
-readers_length (Deferred cs) = refl
 
 -- WHO TOOK an item: its own part; or a loop whose credits are all back; or a strict call that made it anew
 pub data TookBy (fl : Flow) (h : Firing) (i : Item) : Type 0 where
@@ -198,48 +184,30 @@ module _ (u : AtRest) where
   no_requests i c e d x g =
       let (k, o) = cont_waits (λ (i : Item). is_asked i.inlet.part) i c e d x g in
       let there = Contains-permutation _ _ k (IsPermutation-sym _ _ u.kept.tracks.stands.requests) o in
-      u.wants (inl (λ none. contains_none k (subst (λ (l : List Cont). Contains l k) none there)))
+      contains_none k (subst (λ (l : List Cont). Contains l k) u.calm there)
 
   none_asked : (i : Item) → Contains u.kept.tracks.net.waiting i → (r : Part) → i.inlet.part ≡ r → is_asked r ≡ true → ⊥
   none_asked i c (Asked n) e h = no_requests i c (ap is_asked e) i.context (inlet (Fanned n) Left 0) (carried i (waiting_stands i c) (Asked n) e)
   none_asked i c NextAsked e h = no_requests i c (ap is_asked e) i.context (inlet NextFanned Left 0) (carried i (waiting_stands i c) NextAsked e)
   none_asked i c r e h = true≢false (sym h)
 
-  none_held : (i : Item) → Contains u.kept.tracks.net.waiting i → (r : Part) → i.inlet.part ≡ r → is_in_cell r ≡ true → ⊥
-  none_held i c (InCell n) e h = go ((wiring_in u.fl u.w i.context).wire (side (Line n) false)) wired.1.goes (carried i (waiting_stands i c) (InCell n) e)
-    where
-      spot : Fits u.fl u.w (spot_of i)
-      spot = fits_at i (waiting_stands i c)
-
-      cell : is_cell (block_in u.fl i.context) n ≡ true
-      cell = ap (spot_there u.fl u.w i.context) (sym e) ∙ spot.there
-
-      wired : (x : Inlet) × Wire u.fl u.p u.w u.good i.context spot.is_context (side (Line n) false) x
-      wired = next u.fl u.p u.w u.good i.context spot.is_context (side (Line n) false) (cell_plain (block_in u.fl i.context) n cell) refl refl
-
-      go : (xs : List Inlet) → Contains xs wired.0 → i.word ≡ back_from i.context xs → ⊥
-      go [] d g = contains_none wired.0 d
-      go (x ∷ xs) d g =
-          let (y, at) = u.kept.tracks.stands.good i n (Contains-append_right u.kept.tracks.net.pending u.kept.tracks.net.waiting i c) e in
-          let yes' : reads u.fl y i i.inlet.part ≡ true = ap (reads u.fl y i) e ∙ ap (reads_cell y) at ∙ eq-eqb y y refl in
-          let (k, o) = cont_waits (λ (i : Item). reads u.fl y i i.inlet.part) i c yes' i.context x g in
-          let there = Contains-permutation _ _ k (IsPermutation-sym _ _ (u.kept.tracks.stands.readers y)) o in
-          none_left (readers_of (u.m.store.cells y)) (readers_length (u.m.store.cells y) ∙ u.unread y) k there
-  none_held i c r e h = true≢false (sym h)
+  none_held : (i : Item) → Contains u.kept.tracks.net.waiting i → (r : Part) → i.inlet.part ≡ r → is_in_cell r ≡ true → u.Inside i.context → ⊥
+  none_held i c (InCell n) e h ins = u.no_reader i n c e ins
+  none_held i c r e h ins = true≢false (sym h)
 
   -- so it waits for another word, or is of a loop
   pub data Waits (i : Item) : Type 0 where
     InSlot : waits_in (block_in u.fl i.context) i.inlet.part ≡ true → Waits i
     OfLoop : (n : ℕ) → (i.inlet.part ≡ Giver n) ⊎ ((i.inlet.part ≡ Taker n) ⊎ (i.inlet.part ≡ Drainer n)) → Waits i
 
-  pub waits_as : (i : Item) → Contains u.kept.tracks.net.waiting i → Waits i
-  waits_as i c = pick (u.kept.tracks.stands.waits i c)
+  pub waits_as : (i : Item) → Contains u.kept.tracks.net.waiting i → u.Inside i.context → Waits i
+  waits_as i c ins = pick (u.kept.tracks.stands.waits i c)
     where
       pick : (in_slot u.fl i ≡ true) ⊎ ((is_asked i.inlet.part ≡ true)
           ⊎ ((is_in_cell i.inlet.part ≡ true) ⊎ ((n : ℕ) × ((i.inlet.part ≡ Giver n) ⊎ ((i.inlet.part ≡ Taker n) ⊎ (i.inlet.part ≡ Drainer n)))))) → Waits i
       pick (inl e) = InSlot e
       pick (inr (inl e)) = absurd (none_asked i c i.inlet.part refl e)
-      pick (inr (inr (inl e))) = absurd (none_held i c i.inlet.part refl e)
+      pick (inr (inr (inl e))) = absurd (none_held i c i.inlet.part refl e ins)
       pick (inr (inr (inr (n, e)))) = OfLoop n e
 
   -- and two words of one part do not wait
@@ -272,9 +240,9 @@ module _ (u : AtRest) where
   left_renews c r t n l s e = let same : Left ≡ Right = ap (λ (x : Inlet). x.port) e in absurd (cc)
 
   -- what waits there waits for another word
-  waits_two : (c : Context) (x : Inlet) (i : Item) → Contains u.kept.tracks.net.waiting i → i.context ≡ c → i.inlet ≡ x → is_turning x.part ≡ false
+  waits_two : (c : Context) → u.Inside c → (x : Inlet) (i : Item) → Contains u.kept.tracks.net.waiting i → i.context ≡ c → i.inlet ≡ x → is_turning x.part ≡ false
       → waits_in (block_in u.fl c) x.part ≡ true
-  waits_two c x i d a e apart' = pick (waits_as i d)
+  waits_two c ins x i d a e apart' = pick (waits_as i d (subst u.Inside (sym a) ins))
     where
       loop_not : (r : Part) → i.inlet.part ≡ r → is_turning r ≡ true → ⊥
       loop_not r g h = true≢false (sym h ∙ ap is_turning (sym g ∙ ap (λ (x : Inlet). x.part) e) ∙ apart')
@@ -285,11 +253,11 @@ module _ (u : AtRest) where
       pick (OfLoop n (inr (inl g))) = absurd (loop_not (Taker n) g refl)
       pick (OfLoop n (inr (inr g))) = absurd (loop_not (Drainer n) g refl)
 
-  pub fires_one : (c : Context) (r : Part) (t : ℕ) → is_turning r ≡ false → waits_in (block_in u.fl c) r ≡ false → Arrives u c (inlet r Left t) → Fired u c r
-  fires_one c r t loop one (i, s, a, e) = pick (came_fired c (inlet r Left t) i s a e (not_back r loop) (left_renews c r t))
+  pub fires_one : (c : Context) → u.Inside c → (r : Part) (t : ℕ) → is_turning r ≡ false → waits_in (block_in u.fl c) r ≡ false → Arrives u c (inlet r Left t) → Fired u c r
+  fires_one c ins r t loop one (i, s, a, e) = pick (came_fired c (inlet r Left t) i s a e (not_back r loop) (left_renews c r t))
     where
       pick : Contains u.kept.tracks.net.waiting i ⊎ Fired u c r → Fired u c r
-      pick (inl d) = absurd (true≢false (sym (waits_two c (inlet r Left t) i d a e loop) ∙ one))
+      pick (inl d) = absurd (true≢false (sym (waits_two c ins (inlet r Left t) i d a e loop) ∙ one))
       pick (inr f) = f
 
   -- and one that takes two

@@ -73,7 +73,7 @@ turn_main c n t e = absurd (cc)
 module _ (u : AtRest) where
   -- ALL THAT IS SUPPLIED fires: contexts are not deeper than those in which something fired
   whole : (k : ℕ) (c : Context) → total (λ (f : Firing). size f.context) u.kept.tracks.net.fired < size c + k → Supplied u c → AllFired u c
-  whole zero c far s = let low = deep u c Entry (fires_one u c Entry 0 refl refl s.entry) in absurd (omega (arith, far, low))
+  whole zero c far s = let low = deep u c Entry (fires_one u c s.inside Entry 0 refl refl s.entry) in absurd (omega (arith, far, low))
   whole (suc k) c far s = all_fired u c s (λ d e more. whole k d (omega (arith, far, e)) more)
 
   pub over : (c : Context) → Supplied u c → AllFired u c
@@ -147,50 +147,52 @@ module _ (u : AtRest) where
       go : HandedOut u.fl u.kept.tracks.net.fired c → AskedFor c
       go (By f d e) = asker_of c f.context f.part (f, d, refl, refl) e
 
-  -- EACH CONTEXT that has a frame was supplied
-  called_for : (d : Context) (n : ℕ) → (HasFrame d → Supplied u d) → AskedFor (Called d n) → Supplied u (Called d n)
-  called_for d n more (ByTurn x m t f e) = absurd (call_turn d x n m (suc t) e)
-  called_for d n more (ByNode x m f (ByLoop l e)) = absurd (call_turn d x n m 0 e)
-  called_for d n more (ByNode x m f (ByCall l e)) =
-      let (a, b) = called_same d x n m e in
-      let sup : Supplied u x = subst (Supplied u) a (more (subst HasFrame (sym a) (known_of x (Asked m) f))) in
-      subst (Supplied u) (sym e) (call_supplied u x sup.is_context m l (sent_in x m f sup))
+  -- WHERE all invocations are in question
+  module _ (all : (c : Context) → u.Inside c) where
+    -- EACH CONTEXT that has a frame was supplied
+    called_for : (d : Context) (n : ℕ) → (HasFrame d → Supplied u d) → AskedFor (Called d n) → Supplied u (Called d n)
+    called_for d n more (ByTurn x m t f e) = absurd (call_turn d x n m (suc t) e)
+    called_for d n more (ByNode x m f (ByLoop l e)) = absurd (call_turn d x n m 0 e)
+    called_for d n more (ByNode x m f (ByCall l e)) =
+        let (a, b) = called_same d x n m e in
+        let sup : Supplied u x = subst (Supplied u) a (more (subst HasFrame (sym a) (known_of x (Asked m) f))) in
+        subst (Supplied u) (sym e) (call_supplied u x sup.is_context sup.inside m l (sent_in x m f sup))
 
-  turned_for : (d : Context) (n : ℕ) → (HasFrame d → Supplied u d) → (t : ℕ) → HasFrame (Turned d n t) → Supplied u (Turned d n t)
-  turned_for d n more zero has = go (asked_for (Turned d n 0) has (turn_main d n 0))
-    where
-      go : AskedFor (Turned d n 0) → Supplied u (Turned d n 0)
-      go (ByTurn x m t f e) = let late' = (turned_same d x n m 0 (suc t) e).2 in absurd (omega (arith, late'))
-      go (ByNode x m f (ByCall l e)) = absurd (turn_call d x n m 0 e)
-      go (ByNode x m f (ByLoop l e)) =
-          let (a, b, o) = turned_same d x n m 0 0 e in
-          let sup : Supplied u x = subst (Supplied u) a (more (subst HasFrame (sym a) (known_of x (Asked m) f))) in
-          subst (Supplied u) (sym e) (loop_supplied u x sup.is_context m l (sent_in x m f sup))
-  turned_for d n more (suc t) has = go (asked_for (Turned d n (suc t)) has (turn_main d n (suc t))) (turned_for d n more t)
-    where
-      next_for : (s : Supplied u (Turned d n t)) → Fired u (Turned d n t) NextAsked → Supplied u (Turned d n (suc t))
-      next_for s f =
-          let open' = (next_there (Turned d n t) f).1 in
-          next_supplied u d s.is_context.0 n t s.is_context.1 open'
-          (λ j low. over (Turned d n t) s (NextSender j) (lt-ltb j ((block_in u.fl (Turned d n t)).inputs + 1) low) refl open')
+    turned_for : (d : Context) (n : ℕ) → (HasFrame d → Supplied u d) → (t : ℕ) → HasFrame (Turned d n t) → Supplied u (Turned d n t)
+    turned_for d n more zero has = go (asked_for (Turned d n 0) has (turn_main d n 0))
+      where
+        go : AskedFor (Turned d n 0) → Supplied u (Turned d n 0)
+        go (ByTurn x m t f e) = let late' = (turned_same d x n m 0 (suc t) e).2 in absurd (omega (arith, late'))
+        go (ByNode x m f (ByCall l e)) = absurd (turn_call d x n m 0 e)
+        go (ByNode x m f (ByLoop l e)) =
+            let (a, b, o) = turned_same d x n m 0 0 e in
+            let sup : Supplied u x = subst (Supplied u) a (more (subst HasFrame (sym a) (known_of x (Asked m) f))) in
+            subst (Supplied u) (sym e) (loop_supplied u x sup.is_context sup.inside m l (sent_in x m f sup))
+    turned_for d n more (suc t) has = go (asked_for (Turned d n (suc t)) has (turn_main d n (suc t))) (turned_for d n more t)
+      where
+        next_for : (s : Supplied u (Turned d n t)) → Fired u (Turned d n t) NextAsked → Supplied u (Turned d n (suc t))
+        next_for s f =
+            let open' = (next_there (Turned d n t) f).1 in
+            next_supplied u d s.is_context.0 n t (all (Turned d n (suc t))) s.is_context.1 open'
+            (λ j low. over (Turned d n t) s (NextSender j) (lt-ltb j ((block_in u.fl (Turned d n t)).inputs + 1) low) refl open')
 
-      go : AskedFor (Turned d n (suc t)) → (HasFrame (Turned d n t) → Supplied u (Turned d n t)) → Supplied u (Turned d n (suc t))
-      go (ByNode x m f (ByCall l e)) back = absurd (turn_call d x n m (suc t) e)
-      go (ByNode x m f (ByLoop l e)) back = let late' = (turned_same d x n m (suc t) 0 e).2 in absurd (omega (arith, late'))
-      go (ByTurn x m s f e) back =
-          let (a, b, o) = turned_same d x n m (suc t) (suc s) e in
-          let up : t ≡ s = omega (arith, o) in
-          let f' : Fired u (Turned d n t) NextAsked = subst (λ (c : Context). Fired u c NextAsked) (λ k. Turned (sym a k) (sym b k) (sym up k)) f in
-          next_for (back (known_of (Turned d n t) NextAsked f')) f'
+        go : AskedFor (Turned d n (suc t)) → (HasFrame (Turned d n t) → Supplied u (Turned d n t)) → Supplied u (Turned d n (suc t))
+        go (ByNode x m f (ByCall l e)) back = absurd (turn_call d x n m (suc t) e)
+        go (ByNode x m f (ByLoop l e)) back = let late' = (turned_same d x n m (suc t) 0 e).2 in absurd (omega (arith, late'))
+        go (ByTurn x m s f e) back =
+            let (a, b, o) = turned_same d x n m (suc t) (suc s) e in
+            let up : t ≡ s = omega (arith, o) in
+            let f' : Fired u (Turned d n t) NextAsked = subst (λ (c : Context). Fired u c NextAsked) (λ k. Turned (sym a k) (sym b k) (sym up k)) f in
+            next_for (back (known_of (Turned d n t) NextAsked f')) f'
 
-  pub supplied : (c : Context) → HasFrame c → Supplied u c
-  supplied Main has = main_supplied u
-  supplied (Called d n) has = called_for d n (supplied d) (asked_for (Called d n) has (call_main d n))
-  supplied (Turned d n t) has = turned_for d n (supplied d) t has
+    pub supplied : (c : Context) → HasFrame c → Supplied u c
+    supplied Main has = main_supplied u (all Main)
+    supplied (Called d n) has = called_for d n (supplied d) (asked_for (Called d n) has (call_main d n))
+    supplied (Turned d n t) has = turned_for d n (supplied d) t has
 
-  -- IT IS OVER, and its frame was handed back
-  pub ended : (c : Context) (g : ℕ) → frame_at u.fl u.kept.tracks.net.fired c ≡ Some g → Fired u c End
-  ended c g at = let s = supplied c (g, at) in over c s End refl refl s.opened
+    -- IT IS OVER, and its frame was handed back
+    pub ended : (c : Context) (g : ℕ) → frame_at u.fl u.kept.tracks.net.fired c ≡ Some g → Fired u c End
+    ended c g at = let s = supplied c (g, at) in over c s End refl refl s.opened
 
-  pub freed : (c : Context) (g : ℕ) → frame_at u.fl u.kept.tracks.net.fired c ≡ Some g → Fired u c Freed
-  freed c g at = fires_one u c Freed 0 refl refl (freed_arrives u c (ended c g at))
+    pub freed : (c : Context) (g : ℕ) → frame_at u.fl u.kept.tracks.net.fired c ≡ Some g → Fired u c Freed
+    freed c g at = fires_one u c (all c) Freed 0 refl refl (freed_arrives u c (ended c g at))

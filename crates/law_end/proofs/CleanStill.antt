@@ -1,4 +1,4 @@
--- A run at rest, with nothing wanted and no reader waiting; and what its firings made and gave.
+-- A run at rest, with no frame wanted, and some invocations in which nothing waits for a credit or at a cell; and what its firings made and gave.
 use Rattle.std.proofs.Common.{◌≡◌, ℕ, zero, suc, ◌+◌, ◌<◌, ℤ, Bool, true, ◌⊎◌, inl, inr, List, [], ◌∷◌, ◌++◌, length, Option, Some, if◌then◌else◌, refl, sym}
 use Rattle.std.proofs.Common.{ap, ◌∙◌, subst, arith}
 use Rattle.std.specs.Prelude.{Contains, flat_map}
@@ -10,8 +10,7 @@ use Rattle.tags.specs.declared.token.Port.TheVariants.{Left, Right}
 use Rattle.semantics.specs.Graph.{Flow}
 use Rattle.semantics.specs.Plan.{Plan}
 use Rattle.semantics.specs.Meaning.{Context, Main, Called, Turned}
-use Rattle.semantics.specs.Machine.{Machine, Resting, Wants}
-use Rattle.semantics.specs.Faithful.{NoReader}
+use Rattle.semantics.specs.Machine.{Machine, Resting}
 use Rattle.law_confluence.specs.OrdersTotals.{one, total}
 use Rattle.law_confluence.proofs.Net.{weigh, Waits, Fires}
 use Rattle.law_confluence.proofs.Orders.{total-append, total_there}
@@ -30,7 +29,7 @@ use Rattle.law_net.proofs.ContextsSames.{hits_at, hit_found, hit_counted}
 use Rattle.law_net.proofs.WiredSends.{side_by, gives_by, sent_along, splits, asks_cell}
 use Rattle.law_net.proofs.WiredNets.{all_of, total_flat}
 
-pub record AtRest : Type 0 where
+pub record AtRest : Type 1 where
   pub fl : Flow
   pub p : Plan
   pub w : Wires
@@ -41,8 +40,14 @@ pub record AtRest : Type 0 where
   pub fit : InputsFit fl inputs
   pub kept : Keeps fl p w inputs past m
   pub rests : Resting m
-  pub wants : Wants m → ⊥
-  pub unread : NoReader m
+  pub calm : m.store.requests ≡ []
+  -- the invocations in question, with all that they invoke
+  pub Inside : Context → Type 0
+  pub called : (c : Context) (n : ℕ) → Inside c → Inside (Called c n)
+  pub turned : (c : Context) (n t : ℕ) → Inside c → Inside (Turned c n t)
+  -- ask for no credit that waits, and wait at no cell
+  pub no_credit : (i : Item) (n t : ℕ) → Contains kept.tracks.net.waiting i → i.inlet ≡ inlet (Taker n) Left (suc t) → Inside (Turned i.context n t) → ⊥
+  pub no_reader : (i : Item) (n : ℕ) → Contains kept.tracks.net.waiting i → i.inlet.part ≡ InCell n → Inside i.context → ⊥
 
 -- the inputs of main are there
 input_has : (n : ℕ) (zs : List ℤ) (l : ℕ) → l < length zs

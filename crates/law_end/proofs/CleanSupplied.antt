@@ -39,6 +39,7 @@ module _ (u : AtRest) where
 
   pub record Supplied (c : Context) : Type 0 where
     pub is_context : IsContext u.fl c
+    pub inside : u.Inside c
     pub entry : Arrives u c (inlet Entry Left 0)
     pub inputs : (l : ℕ) → l < (block_in u.fl c).inputs → Arrives u c (inlet (Line l) Left 0)
     pub opened : IsOpen u.fl u.w u.kept.tracks.net.fired c Root
@@ -49,9 +50,10 @@ module _ (u : AtRest) where
     pub senders : (l : ℕ) → l < source_count (block_in u.fl c) n → Fired u c (Sender n l)
     pub opened : IsOpen u.fl u.w u.kept.tracks.net.fired c (lies_in (block_in u.fl c) n)
 
-  pub main_supplied : Supplied Main
-  main_supplied = record {
+  pub main_supplied : u.Inside Main → Supplied Main
+  main_supplied ins = record {
     is_context = u.good.main;
+    inside = ins;
     entry = main_entry u;
     inputs =
         λ l low. main_input u l (let same : length u.inputs ≡ (block_in u.fl Main).inputs = u.fit
@@ -59,12 +61,13 @@ module _ (u : AtRest) where
     opened = λ x d. absurd (contains_none x (subst (λ (l : List Way). Contains l x) (root_region u.fl Main) d));
   }
 
-  pub call_supplied : (c : Context) (con : IsContext u.fl c) (n : ℕ) → is_call (block_in u.fl c) n ≡ true → AllSent c n → Supplied (Called c n)
-  call_supplied c con n e s =
+  pub call_supplied : (c : Context) (con : IsContext u.fl c) → u.Inside c → (n : ℕ) → is_call (block_in u.fl c) n ≡ true → AllSent c n → Supplied (Called c n)
+  call_supplied c con ins n e s =
       let first : child u.fl c n ≡ Called c n = ap (λ (t : Bool). if t then Turned c n 0 else Called c n) (not_loop (block_in u.fl c) n e) in
       let same = (call_invoked u.fl u.p u.w u.good c n con e).0.inputs in
       record {
         is_context = is_called u.fl u.p u.w u.good c n con e;
+        inside = u.called c n ins;
         entry = subst (λ (d : Context). Arrives u d (inlet Entry Left 0)) first (entry_arrives u c n s.linker);
         inputs = λ l low. subst (λ (d : Context). Arrives u d (inlet (Line l) Left 0)) first (input_arrives u c n l (s.senders l (omega (arith, low, same))));
         opened =
@@ -72,12 +75,13 @@ module _ (u : AtRest) where
             (subst (λ (l : List Way). Contains l x) (root_region u.fl (Called c n)) d));
       }
 
-  pub loop_supplied : (c : Context) (con : IsContext u.fl c) (n : ℕ) → is_loop (block_in u.fl c) n ≡ true → AllSent c n → Supplied (Turned c n 0)
-  loop_supplied c con n e s =
+  pub loop_supplied : (c : Context) (con : IsContext u.fl c) → u.Inside c → (n : ℕ) → is_loop (block_in u.fl c) n ≡ true → AllSent c n → Supplied (Turned c n 0)
+  loop_supplied c con ins n e s =
       let first : child u.fl c n ≡ Turned c n 0 = ap (λ (t : Bool). if t then Turned c n 0 else Called c n) e in
       let same = (loop_invoked u.fl u.p u.w u.good c n 0 con e).0.inputs in
       record {
         is_context = is_turned u.fl u.p u.w u.good c n 0 con e;
+        inside = u.turned c n 0 ins;
         entry = subst (λ (d : Context). Arrives u d (inlet Entry Left 0)) first (entry_arrives u c n s.linker);
         inputs = λ l low. subst (λ (d : Context). Arrives u d (inlet (Line l) Left 0)) first (input_arrives u c n l (s.senders l (omega (arith, low, same))));
         opened =
@@ -85,11 +89,12 @@ module _ (u : AtRest) where
             (subst (λ (l : List Way). Contains l x) (root_region u.fl (Turned c n 0)) d));
       }
 
-  pub next_supplied : (c : Context) (con : IsContext u.fl c) (n t : ℕ) → is_loop (block_in u.fl c) n ≡ true
+  pub next_supplied : (c : Context) (con : IsContext u.fl c) (n t : ℕ) → u.Inside (Turned c n (suc t)) → is_loop (block_in u.fl c) n ≡ true
       → IsOpen u.fl u.w u.kept.tracks.net.fired (Turned c n t) (Arm (flag (block_in u.fl (Turned c n t))) true)
       → ((j : ℕ) → j < (block_in u.fl (Turned c n t)).inputs + 1 → Fired u (Turned c n t) (NextSender j)) → Supplied (Turned c n (suc t))
-  next_supplied c con n t e open' sends = record {
+  next_supplied c con n t ins e open' sends = record {
     is_context = is_turned u.fl u.p u.w u.good c n (suc t) con e;
+    inside = ins;
     entry = next_arrives u c n t 0 (sends 0 (omega arith));
     inputs = λ l low. next_arrives u c n t (suc l) (sends (suc l) (omega (arith, low)));
     opened =

@@ -99,7 +99,7 @@ module _ (u : AtRest) (c : Context) (sup : Supplied u c) (inner : (d : Context) 
   }
 
   call_over : (n : ℕ) → is_call (block_in u.fl c) n ≡ true → AllSent u c n → AllFired u (Called c n)
-  call_over n e s = inner (Called c n) refl (call_supplied u c con n e s)
+  call_over n e s = inner (Called c n) refl (call_supplied u c con sup.inside n e s)
 
   -- all turns of a loop, to the last
   pub record TurnsOver (n : ℕ) : Type 0 where
@@ -115,7 +115,7 @@ module _ (u : AtRest) (c : Context) (sup : Supplied u c) (inner : (d : Context) 
         → (way : Bool) × IsOpen u.fl u.w u.kept.tracks.net.fired (Turned c n t) (Arm (flag (block_in u.fl (Turned c n t))) way)
     flagged t s f =
         let switch = flag_switched u (Turned c n t) s.is_context refl in
-        let o = chose u (Turned c n t) s.is_context (flag (block_in u.fl (Turned c n t))) TurnFlag switch f in (
+        let o = chose u (Turned c n t) s.is_context s.inside (flag (block_in u.fl (Turned c n t))) TurnFlag switch f in (
           o.way,
           arm_open u.fl u.p u.w u.inputs u.past u.m u.good u.fit u.kept (Turned c n t) s.is_context
               (flag (block_in u.fl (Turned c n t))) o.way switch.choice o.decided
@@ -124,7 +124,7 @@ module _ (u : AtRest) (c : Context) (sup : Supplied u c) (inner : (d : Context) 
 
     chain : (k t : ℕ) → total (λ (f : Firing). turn_of f.context) u.kept.tracks.net.fired < t + k → Supplied u (Turned c n t) → ((s : ℕ) → s < t → Over s)
         → TurnsOver n
-    chain zero t far s before = let low = late u (Turned c n t) Entry (fires_one u (Turned c n t) Entry 0 refl refl s.entry) in absurd (omega (arith, far, low))
+    chain zero t far s before = let low = late u (Turned c n t) Entry (fires_one u (Turned c n t) s.inside Entry 0 refl refl s.entry) in absurd (omega (arith, far, low))
     chain (suc k) t far s before = go (flagged t s (all TurnFlag refl refl s.opened)) (λ more. chain k (suc t) (omega (arith, far)) more now)
       where
         all : AllFired u (Turned c n t)
@@ -140,12 +140,12 @@ module _ (u : AtRest) (c : Context) (sup : Supplied u c) (inner : (d : Context) 
         go : (way : Bool) × IsOpen u.fl u.w u.kept.tracks.net.fired (Turned c n t) (Arm (flag (block_in u.fl (Turned c n t))) way)
             → (Supplied u (Turned c n (suc t)) → TurnsOver n) → TurnsOver n
         go (true, open') more =
-            more (next_supplied u c con n t l open' (λ j low. all (NextSender j) (lt-ltb j ((block_in u.fl (Turned c n t)).inputs + 1) low) refl open'))
+            more (next_supplied u c con n t (u.turned c n (suc t) sup.inside) l open' (λ j low. all (NextSender j) (lt-ltb j ((block_in u.fl (Turned c n t)).inputs + 1) low) refl open'))
         go (false, open') more = record { last = t; over = λ v low. now v (omega (arith, low)); leaves = open' }
 
     turns_over : AllSent u c n → TurnsOver n
     turns_over s =
-        chain (suc (total (λ (f : Firing). turn_of f.context) u.kept.tracks.net.fired)) 0 (omega arith) (loop_supplied u c con n l s)
+        chain (suc (total (λ (f : Firing). turn_of f.context) u.kept.tracks.net.fired)) 0 (omega arith) (loop_supplied u c con sup.inside n l s)
         (λ v low. absurd (omega (arith, low)))
 
     loop_drained : AllSent u c n → Fired u c (Drained n)
@@ -158,7 +158,7 @@ module _ (u : AtRest) (c : Context) (sup : Supplied u c) (inner : (d : Context) 
     loop_lands j low s =
         let o = turns_over s in
         let same = (loop_invoked u.fl u.p u.w u.good c n o.last con l).1 in
-        fires_one u c (Landing n j) o.last refl refl
+        fires_one u c sup.inside (Landing n j) o.last refl refl
         (last_arrives u c n o.last j ((o.over o.last (omega arith)).0 (LastReturn j) (ap (nat_lt j) (sym same) ∙ low) refl o.leaves))
 
   -- WHERE NO WIRE LEADS
@@ -167,21 +167,21 @@ module _ (u : AtRest) (c : Context) (sup : Supplied u c) (inner : (d : Context) 
   asked_back (Called d n) e t f = absurd (true≢false (sym t))
   asked_back (Turned d n t) e turn f =
       let con' : IsContext u.fl (Turned d n t) = subst (IsContext u.fl) (sym e) con in
-      let (h, o, a, g, way) = taker_fires u d con'.0 n con'.1 t (credit_arrives u d n t f) in
-      subst (λ (c : Context). Fired u c NextFramer) e (fires_one u (Turned d n t) NextFramer 0 refl refl (framer_arrives u d n t h o a g way))
+      let (h, o, a, g, way) = taker_fires u d con'.0 n con'.1 t (subst u.Inside (sym e) sup.inside) (credit_arrives u d n t f) in
+      subst (λ (c : Context). Fired u c NextFramer) e (fires_one u (Turned d n t) (subst u.Inside (sym e) sup.inside) NextFramer 0 refl refl (framer_arrives u d n t h o a g way))
 
   given_fires : (r : Part) → Here r → is_turning r ≡ false → is_unwired (block_in u.fl c) r ≡ true → Open (region_of (block_in u.fl c) r) → RestBelow (place r)
       → Fired u c r
-  given_fires Entry h t g open' below = fires_one u c Entry 0 refl refl sup.entry
+  given_fires Entry h t g open' below = fires_one u c sup.inside Entry 0 refl refl sup.entry
   given_fires (Line n) h t g open' below =
-      fires_one u c (Line n) 0 refl (ap (λ (o : Option (Node ℕ)). elim o as (λ x. Bool) [ None ↦ false | Some node ↦ pair_kind node.kind ])
+      fires_one u c sup.inside (Line n) 0 refl (ap (λ (o : Option (Node ℕ)). elim o as (λ x. Bool) [ None ↦ false | Some node ↦ pair_kind node.kind ])
       (input_none (block_in u.fl c) n g)) (sup.inputs n (ltb-true n (block_in u.fl c).inputs g))
   given_fires (Fanned n) h t g open' below =
       let framer = below (Framer n) h refl (answer_later u c con (Framer n) (Fanned n) h (contains_head (inlet (Fanned n) Left 0) [])) open' in
-      fires_one u c (Fanned n) 0 refl refl (fanned_arrives u c n (fires_one u c (Asked n) 0 refl refl (asked_arrives u c n framer)))
+      fires_one u c sup.inside (Fanned n) 0 refl refl (fanned_arrives u c n (fires_one u c sup.inside (Asked n) 0 refl refl (asked_arrives u c n framer)))
   given_fires NextFanned h t g open' below =
       let framer = below NextFramer h refl (answer_later u c con NextFramer NextFanned h (contains_head (inlet NextFanned Left 0) [])) open' in
-      fires_one u c NextFanned 0 refl refl (next_fanned_arrives u c (fires_one u c NextAsked 0 refl refl (next_asked_arrives u c framer)))
+      fires_one u c sup.inside NextFanned 0 refl refl (next_fanned_arrives u c (fires_one u c sup.inside NextAsked 0 refl refl (next_asked_arrives u c framer)))
   given_fires NextFramer h t g open' below =
       asked_back c refl h (below Asker h refl (answer_later u c con Asker NextFramer h (contains_head (inlet NextFramer Left 0) [])) open')
   given_fires (Landing n j) h t g open' below = pick (or_cases (is_call (block_in u.fl c) n) (is_loop (block_in u.fl c) n) (both h).0)
@@ -202,13 +202,13 @@ module _ (u : AtRest) (c : Context) (sup : Supplied u c) (inner : (d : Context) 
       pick (inr l) = loop_lands n l j low sent
       pick (inl e) =
           let same = (call_invoked u.fl u.p u.w u.good c n con e).1 in
-          fires_one u c (Landing n j) 0 refl refl
-          (result_arrives u c n j (call_over n e sent (Result j) (ap (nat_lt j) (sym same) ∙ low) refl (call_supplied u c con n e sent).opened))
+          fires_one u c sup.inside (Landing n j) 0 refl refl
+          (result_arrives u c n j (call_over n e sent (Result j) (ap (nat_lt j) (sym same) ∙ low) refl (call_supplied u c con sup.inside n e sent).opened))
   given_fires (CallDone n) h t g open' below =
       let sent = all_sent n (invokes_call u c con n h) (place (CallDone n)) (called_later u c con n h) below open' in
-      fires_one u c (CallDone n) 0 refl refl (called_arrives u c n (call_over n h sent End refl refl (call_supplied u c con n h sent).opened))
+      fires_one u c sup.inside (CallDone n) 0 refl refl (called_arrives u c n (call_over n h sent End refl refl (call_supplied u c con sup.inside n h sent).opened))
   given_fires (LoopDone n) h t g open' below =
-      fires_one u c (LoopDone n) 0 refl refl
+      fires_one u c sup.inside (LoopDone n) 0 refl refl
       (loop_done_arrives u c n (loop_drained n h (all_sent n (invokes_loop u c con n h) (place (LoopDone n)) (looped_later u c con n h) below open')))
   given_fires (Giver n) h t g open' below = absurd (true≢false t)
   given_fires (Taker n) h t g open' below = absurd (true≢false t)
@@ -221,8 +221,8 @@ module _ (u : AtRest) (c : Context) (sup : Supplied u c) (inner : (d : Context) 
   arrives x h way port given open' below =
       let f = feeder u c con x h way port given in
       let leaves = subst Open f.wire.region open' in
-      sends u c con f.from x f.wire f.is_side f.turning leaves
-      (below f.from.part f.wire.from f.turning f.wire.rises (side_open u c con f.from f.wire.from f.turning f.is_side leaves))
+      sends u c con sup.inside f.from x f.wire f.is_side f.turning leaves
+      (below f.from.part f.wire.from f.turning f.wire.rises (side_open u c con sup.inside f.from f.wire.from f.turning f.is_side leaves))
 
   -- the right word: a strict call's arguments are sent when it fires
   strict_arrives : (n l : ℕ) → Here (Sender n l) → is_strict_in u.fl c n ≡ true → Open (lies_in (block_in u.fl c) n) → RestBelow (place (Sender n l))
@@ -254,21 +254,21 @@ module _ (u : AtRest) (c : Context) (sup : Supplied u c) (inner : (d : Context) 
 
       go : (waits_in (block_in u.fl c) r ≡ true) ⊎ (waits_in (block_in u.fl c) r ≡ false) → Fired u c r
       go (inl two) = fires_two u c r 0 turns left (right_arrives r h two given region open' below)
-      go (inr one) = fires_one u c r 0 turns one left
+      go (inr one) = fires_one u c sup.inside r 0 turns one left
 
   -- what joins two arms takes the word of that which was taken
   joining : (k : ℕ) (r : Part) → Here r → Joined u.fl u.p u.w u.good c con k r → Open (lies_in (block_in u.fl c) k) → RestBelow (place r) → Fired u c r
   joining k r h join open' below =
       let d = join_decides u c con k r h join in
       let leaves : Open (leaves_in (block_in u.fl c) d.from.part d.from.second) = subst Open (sym d.region) open' in
-      by_source d.from d.is d.turning (maker_fires u c con d.from.part
-      (below d.from.part d.here d.turning d.early (side_open u c con d.from d.here d.turning d.is_side leaves)))
+      by_source d.from d.is d.turning (maker_fires u c con sup.inside d.from.part
+      (below d.from.part d.here d.turning d.early (side_open u c con sup.inside d.from d.here d.turning d.is_side leaves)))
     where
       by_way : (t : Bool) → IsDecided u.fl u.w u.kept.tracks.net.fired (record { context = c; cond = k }) t → Fired u c r
       by_way t decided =
           let opened : Open (entered (block_in u.fl c) r (way_for t)) = subst Open (sym (join.enters (way_for t) ∙ ap (Arm k) (back_way t)))
           (arm_open u.fl u.p u.w u.inputs u.past u.m u.good u.fit u.kept c con k t join.choice decided open') in
-          fires_one u c r (way_for t) join.quiet.turning join.waits
+          fires_one u c sup.inside r (way_for t) join.quiet.turning join.waits
           (arrives (inlet r Left (way_for t)) h (join.way (way_for t) ∙ two_way t) refl join.given opened below)
 
       by_source : (s : Side) → s ≡ decider (block_in u.fl c) (wiring_in u.fl u.w c) k → is_turning s.part ≡ false

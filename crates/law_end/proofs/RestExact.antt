@@ -1,6 +1,6 @@
 -- At rest the machine shows what the graph means: the meaning is at rest, no store clashes, and a reader waits for each fetch that
 -- waits.
-use Rattle.std.proofs.Common.{◌≡◌, ℕ, ℤ, Bool, true, false, List, [], ◌∷◌, ◌++◌, flat_map, Some, None, refl, sym, ap, ◌∙◌, arith, true≢false}
+use Rattle.std.proofs.Common.{◌≡◌, ℕ, ℤ, Bool, true, false, ◌⊎◌, inl, inr, List, [], ◌∷◌, ◌++◌, flat_map, Some, None, refl, sym, ap, ◌∙◌, arith, true≢false}
 use Rattle.std.specs.Prelude.{Contains}
 use Rattle.tags.specs.declared.value.Value.{Value}
 use Rattle.operators.specs.Values.{index_in}
@@ -8,8 +8,8 @@ use Rattle.semantics.specs.declared.graph.Kind.{Kind}
 use Rattle.semantics.specs.Graph.{Node, Flow, node_at, first_cell, array_len}
 use Rattle.semantics.specs.Plan.{Plan}
 use Rattle.semantics.specs.Meaning as Meaning
-use Rattle.semantics.specs.Meaning.{Context, AtNode, Operand, Predicate, Tagged, tagged, Activity, Fires, Fills, taken, node_of, node_in, cell_is, fetches}
-use Rattle.semantics.specs.Meaning.{fetch_cell, waits_for, fetch_count}
+use Rattle.semantics.specs.Meaning.{Context, AtNode, Operand, Predicate, Tagged, tagged, Fires, Fills, taken, node_of, node_in, cell_is, fetches}
+use Rattle.semantics.specs.Meaning.{Clashes, fetch_cell, waits_for, fetch_count}
 use Rattle.semantics.specs.Machine.{Machine, Resting, Wants, reader_count}
 use Rattle.semantics.specs.Faithful.{IsExact}
 use Rattle.law_confluence.specs.Outcome.{NoClash}
@@ -35,10 +35,11 @@ use Rattle.law_end.proofs.RestStarted.{all_start}
 use Rattle.law_end.specs.RestStarts.{AllStart}
 use Rattle.law_end.proofs.RestCells.{reader_length, same_cell, same_test, total_agree, total_nothing}
 use Rattle.law_end.proofs.RestStores.{seen, fits_main}
-use Rattle.law_end.proofs.RestWaits.{is_credit, Waits, InSlot, AtCell, OfLoop, waits, rests_net}
+use Rattle.law_end.specs.Over.{is_turning}
+use Rattle.law_end.proofs.RestWaits.{calm_of, held_wants, Waits, InSlot, AtCell, OfLoop, waits, rests_net}
 use Rattle.law_end.proofs.RestReaders.{readers_count}
-use Rattle.law_end.proofs.RestTokens.{Says, AtLeft, AtRight, GateLeft, GateRight, Reading, Argument, TurnLeft, TurnRight, says, con, reader, credit_meant}
-use Rattle.law_end.proofs.RestHalts.{FetchAt, fetch_at, fetch_array, has_all, at_rest}
+use Rattle.law_end.proofs.RestTokens.{Says, AtLeft, AtRight, GateLeft, GateRight, Reading, Argument, TurnLeft, TurnRight, Going, says, con, reader, credit_meant}
+use Rattle.law_end.proofs.RestHalts.{FetchAt, Reads, IsNext, fetch_at, fetch_array, has_all, at_rest}
 
 pair_fetches : (fl : Flow) (v : Value) (k : Kind ℕ) → pair_kind k ≡ true → fetch_cell fl v k ≡ None
 pair_fetches fl v (Kind.Apply2 op) e = refl
@@ -54,18 +55,24 @@ strict_fetches fl v (Kind.StrictCall f) e = refl
 strict_fetches fl v k e = absurd (true≢false (sym e))
 
 module _ (fl : Flow) (p : Plan) (w : Wires) (inputs : List ℤ) (past : Past) (m : Machine) (good : IsGood fl p w) (fit : InputsFit fl inputs)
-    (kept : Keeps fl p w inputs past m) (rests : Resting m) (wants : Wants m → ⊥) (starts : AllStart fl w) where
+    (kept : Keeps fl p w inputs past m) (rests : Resting m) (wants : Wants m → ⊥) (calm : m.store.requests ≡ []) (starts : AllStart fl w) where
   abbrev Says' : Item → Tagged → Type 0
-  Says' i t = Says fl p w inputs past m good fit kept rests wants starts i t
+  Says' i t = Says fl p w inputs past m good fit kept rests calm starts i t
 
   -- NO STORE clashes
   no_clash : NoClash fl kept.state
   no_clash x c =
       let a = Fires c.context c.node (c.index ∷ c.value ∷ []) in
-      let r = has_all fl p w inputs past m good fit kept rests wants starts c.context c.node c.index (c.value ∷ [])
+      reads c
+      (has_all fl p w inputs past m good fit kept rests calm starts c.context c.node c.index (c.value ∷ [])
       (held_from kept.state.tokens (taken a) c.rest c.tokens)
-      (fires_mode fl c.context c.node (c.index ∷ c.value ∷ []) (Fills c.context c.node x c.value) c.is_store) in
-      let z = r.none in absurd (cc)
+      (fires_mode fl c.context c.node (c.index ∷ c.value ∷ []) (Fills c.context c.node x c.value) c.is_store))
+    where
+      reads : (c : Clashes fl kept.state x)
+          → Reads fl p w inputs past m good fit kept rests calm starts c.context c.node c.index (c.value ∷ [])
+          ⊎ IsNext fl p w inputs past m good fit kept rests calm starts c.context → ⊥
+      reads c (inl r) = let z = r.none in absurd (cc)
+      reads c (inr g) = wants (held_wants fl p w inputs past m good fit kept g.caller g.node g.before g.held)
 
   -- READERS
   abbrev Fetches : ℕ → Tagged → Bool
@@ -89,49 +96,50 @@ module _ (fl : Flow) (p : Plan) (w : Wires) (inputs : List ℤ) (past : Past) (m
   not_fetched x i t here two (Argument n l v e h a g) = line_not x i.context here t n (Operand l) v strict_kind (strict_fetches fl v) h g
   not_fetched x i t here two (TurnLeft j v e l g) = ap (Fetches x) g
   not_fetched x i t here two (TurnRight j v e l g) = ap (Fetches x) g
+  not_fetched x i t here two (Going d n u j v a held g) = absurd (wants (held_wants fl p w inputs past m good fit kept d n u held))
   not_fetched x i t here two (Reading n v e cell store held g) = absurd (true≢false (sym two ∙ ap (waits_in (block_in fl i.context)) e))
 
   slot_reads : (x : ℕ) (i : Item) (r : Part) → waits_in (block_in fl i.context) r ≡ true → reads fl x i r ≡ false
   slot_reads x i (Parts.InCell n) e = absurd (true≢false (sym e))
   slot_reads x i r e = refl
 
-  credit_reads : (x : ℕ) (i : Item) (r : Part) → is_credit r ≡ true → reads fl x i r ≡ false
+  credit_reads : (x : ℕ) (i : Item) (r : Part) → is_turning r ≡ true → reads fl x i r ≡ false
   credit_reads x i (Parts.InCell n) e = absurd (true≢false (sym e))
   credit_reads x i r e = refl
 
   -- a reader is a fetch of its cell
   reader_fetches : (x : ℕ) (c : Context) (here : IsContext fl c) (n : ℕ) (v : Value)
-      → FetchAt fl p w inputs past m good fit kept rests wants starts c here n → waits_for fl x c (AtNode n) v ≡ reads_cell x (cell_of fl c n (v ∷ []))
+      → FetchAt fl p w inputs past m good fit kept rests calm starts c here n → waits_for fl x c (AtNode n) v ≡ reads_cell x (cell_of fl c n (v ∷ []))
   reader_fetches x c here n v f =
       ap (λ o. cell_is x (fetches fl v o)) (node_is c here n f.line f.at) ∙ ap (λ (k : Kind ℕ). cell_is x (fetch_cell fl v k)) f.kind
       ∙ same_test x (Meaning.cell_of fl f.array v)
       ∙ ap (reads_cell x) (sym (ap (λ (a : ℕ). place_at (first_cell fl a) (index_in (array_len fl a) v (Meaning.origin_at fl c n)))
-      (fetch_array fl p w inputs past m good fit kept rests wants starts c here n f)
+      (fetch_array fl p w inputs past m good fit kept rests calm starts c here n f)
       ∙ same_cell (array_len fl f.array) v (Meaning.origin_at fl c n) (first_cell fl f.array)))
 
   meant_reads : (x : ℕ) (i : Item) → Contains kept.tracks.net.waiting i
       → total (λ (t : Tagged). one (Fetches x t)) (meant fl i) ≡ one (reads fl x i i.inlet.part)
-  meant_reads x i c = pick (waits fl p w inputs past m good fit kept rests wants i c)
+  meant_reads x i c = pick (waits fl p w inputs past m good fit kept rests calm i c)
     where
       here : IsContext fl i.context
-      here = con fl p w inputs past m good fit kept rests wants starts i c
+      here = con fl p w inputs past m good fit kept rests calm starts i c
 
-      pick : Waits fl p w inputs past m good fit kept rests wants i
+      pick : Waits fl p w inputs past m good fit kept rests calm i
           → total (λ (t : Tagged). one (Fetches x t)) (meant fl i) ≡ one (reads fl x i i.inlet.part)
       pick (InSlot e) =
           total_nothing (λ (t : Tagged). one (Fetches x t)) (meant fl i)
-          (λ t d. ap one (not_fetched x i t here e (says fl p w inputs past m good fit kept rests wants starts i c t d)))
+          (λ t d. ap one (not_fetched x i t here e (says fl p w inputs past m good fit kept rests calm starts i c t d)))
           ∙ ap one (sym (slot_reads x i i.inlet.part e))
       pick (OfLoop e) =
           total_nothing (λ (t : Tagged). one (Fetches x t)) (meant fl i)
-          (λ t d. absurd (credit_meant fl p w inputs past m good fit kept rests wants starts i c t i.inlet.part e d))
+          (λ t d. absurd (credit_meant fl p w inputs past m good fit kept rests calm starts i c t i.inlet.part e d))
           ∙ ap one (sym (credit_reads x i i.inlet.part e))
       pick (AtCell n e) =
-          let r = reader fl p w inputs past m good fit kept rests wants starts i n c e in
+          let r = reader fl p w inputs past m good fit kept rests calm starts i n c e in
           let test : reads fl x i i.inlet.part ≡ Fetches x (tagged i.context (AtNode n) (Operand 0) r.index) =
           ap (reads fl x i) e ∙ ap (λ (vs : List Value). reads_cell x (cell_of fl i.context n vs)) r.held
           ∙ sym (reader_fetches x i.context here n r.index
-          (fetch_at fl p w inputs past m good fit kept rests wants starts i.context here n r.cell r.store)) in
+          (fetch_at fl p w inputs past m good fit kept rests calm starts i.context here n r.cell r.store)) in
           let o = ap one test in
           let all = ap (total (λ (t : Tagged). one (Fetches x t))) r.meant in
           omega (arith, o, all)
@@ -146,7 +154,7 @@ module _ (fl : Flow) (p : Plan) (w : Wires) (inputs : List ℤ) (past : Past) (m
       let e : total (λ (t : Tagged). one (Fetches x t)) (flat_map (meant fl) (kept.tracks.net.pending ++ kept.tracks.net.waiting))
       ≡ total (λ (t : Tagged). one (Fetches x t)) (flat_map (meant fl) kept.tracks.net.waiting) =
       ap (λ (l : List Item). total (λ (t : Tagged). one (Fetches x t)) (flat_map (meant fl) (l ++ kept.tracks.net.waiting)))
-      (rests_net fl p w inputs past m good fit kept rests wants) in
+      (rests_net fl p w inputs past m good fit kept rests calm) in
       let g = total-IsPermutation (λ (t : Tagged). one (Fetches x t)) kept.state.tokens
       (flat_map (meant fl) (kept.tracks.net.pending ++ kept.tracks.net.waiting)) kept.meant.tokens in
       let h = count_total (Fetches x) kept.state.tokens in
@@ -154,7 +162,7 @@ module _ (fl : Flow) (p : Plan) (w : Wires) (inputs : List ℤ) (past : Past) (m
 
   pub exact : IsExact fl inputs m
   exact =
-      let rest = at_rest fl p w inputs past m good fit kept rests wants starts in
+      let rest = at_rest fl p w inputs past m good fit kept rests calm starts wants in
       let d = flow_determinate fl good.well inputs (fits_main fl p w inputs past m good fit kept) kept.state kept.meant.reached rest no_clash in record {
         state = kept.state;
         reached = kept.meant.reached;
@@ -167,4 +175,4 @@ module _ (fl : Flow) (p : Plan) (w : Wires) (inputs : List ℤ) (past : Past) (m
 
 pub all_exact_at_rest : AllExactAtRest
 all_exact_at_rest fl p w inputs past m good fit kept rests wants =
-    exact fl p w inputs past m good fit kept rests wants (all_start fl p w good)
+    exact fl p w inputs past m good fit kept rests wants (calm_of m wants) (all_start fl p w good)

@@ -1,4 +1,5 @@
--- At rest no activity of the meaning is enabled: of what waits no two words meet, no reader has its value, and no strict call all its arguments.
+-- At rest no activity of the meaning is enabled, but in iterations whose credits wait: of what waits no two words meet, no reader has its value, and no
+-- strict call all its arguments.
 use Rattle.std.proofs.Common.{◌≡◌, ℕ, zero, suc, ◌+◌, ◌-◌, ◌<◌, ℤ, Bool, true, false, ◌⊎◌, inl, inr, List, [], ◌∷◌, ◌++◌, length, Option, Some, None, nat_lt}
 use Rattle.std.proofs.Common.{if◌then◌else◌, refl, sym, ap, ◌∙◌, subst, arith, true≢false}
 use Rattle.std.specs.Prelude.{Contains, slice_get}
@@ -13,16 +14,17 @@ use Rattle.semantics.specs.Graph.{Node, Flow, Block, node_at, first_cell, array_
 use Rattle.semantics.specs.Plan.{Plan}
 use Rattle.semantics.specs.Meaning as Meaning
 use Rattle.semantics.specs.Meaning.{Context, Statement, AtNode, AtOut, AtTurn, Operand, Predicate, Flag, Carried, Tagged, tagged, Activity, Fires, Gates}
-use Rattle.semantics.specs.Meaning.{Passes, Returns, Turns, Outputs, taken, Effect, done_if, effect, deed, fired, fetched, operands_from, origin_at, block_of}
-use Rattle.semantics.specs.Meaning.{node_of, node_in, AtRest}
+use Rattle.semantics.specs.Meaning.{Passes, Returns, Turns, Outputs, taken, Effect, done_if, effect, deed, fired, fetched, operands_from, origin_at}
+use Rattle.semantics.specs.Meaning.{Turned, State, Step, node_in, AtRest}
 use Rattle.semantics.specs.Machine.{Machine, Resting, Wants}
 use Rattle.lemmas.proofs.Permutations.{Within, within_to}
 use Rattle.lemmas.proofs.Contains.{contains_none, contains_flat_mapped}
-use Rattle.law_confluence.proofs.ActivityKeys.{Together, ByGate, Alone, mode_of, mode_node, mode_in, mode_at, Held, fires_mode, gates_mode, passes_mode}
+use Rattle.law_confluence.proofs.ActivityKeys as Tokens
+use Rattle.law_confluence.proofs.ActivityKeys.{Together, ByGate, Alone, mode_of, mode_node, mode_in, mode_at, fires_mode, gates_mode, passes_mode}
 use Rattle.law_confluence.proofs.ActivityDiamond.{deed_of, held_from}
 use Rattle.law_confluence.proofs.OutcomeRest.{takes_some}
 use Rattle.law_net.specs.ContextsParts as Parts
-use Rattle.law_net.specs.ContextsParts.{Part, Line, Gate, Sender, TurnValue, Inlet, inlet, Item}
+use Rattle.law_net.specs.ContextsParts.{Part, Line, Gate, Sender, TurnValue, inlet, Item}
 use Rattle.law_net.specs.ContextsBlocks.{is_pair, is_cell, is_store, is_strict, is_kind, pair_kind, cell_kind, store_kind, enter_kind, strict_kind}
 use Rattle.law_net.specs.ContextsBlocks.{source_count}
 use Rattle.law_net.specs.Contexts.{Wires, block_in, IsContext}
@@ -38,9 +40,9 @@ use Rattle.law_net_refines_meaning.proofs.FiringsSettles.{operands_in}
 use Rattle.law_net.proofs.WiredInvoked.{block_here}
 use Rattle.law_end.specs.RestStarts.{AllStart}
 use Rattle.law_end.proofs.RestCells.{fetch_of, fetch_none}
-use Rattle.law_end.proofs.RestWaits.{Waiting, rests_net, apart}
+use Rattle.law_end.proofs.RestWaits.{Waiting, Held, held_wants, rests_net, apart}
 use Rattle.law_end.proofs.RestReaders.{reader_empty}
-use Rattle.law_end.proofs.RestTokens.{Says, AtLeft, AtRight, GateLeft, GateRight, Reading, Argument, TurnLeft, TurnRight, says, con, not_complete}
+use Rattle.law_end.proofs.RestTokens.{Says, AtLeft, AtRight, GateLeft, GateRight, Reading, Argument, TurnLeft, TurnRight, Going, says, con, not_complete}
 
 -- how a node takes its operands
 together_is : (n k : ℕ) → Together n ≡ Together k → n ≡ k
@@ -90,22 +92,29 @@ pair_count r (Kind.Store a) n e h = h
 pair_count r k n e h = absurd (true≢false (sym e))
 
 -- each operand that an activity takes
-held_each : (ts : List Tagged) (c : Context) (s : Statement) (from : ℕ) (vs : List Value) → Held ts (operands_from c s from vs) → (l j : ℕ) → l < length vs
+held_each : (ts : List Tagged) (c : Context) (s : Statement) (from : ℕ) (vs : List Value) → Tokens.Held ts (operands_from c s from vs) → (l j : ℕ) → l < length vs
     → from + l ≡ j → (v : Value) × Within (tagged c s (Operand j) v) ts
 held_each ts c s from [] h l j low e = absurd (omega (arith, low))
 held_each ts c s from (v ∷ vs) h zero j low e = let same : from ≡ j = omega (arith, e) in (v, subst (λ (k : ℕ). Within (tagged c s (Operand k) v) ts) same h.0)
 held_each ts c s from (v ∷ vs) h (suc l) j low e = held_each ts c s (from + 1) vs h.1 l j (omega (arith, low)) (omega (arith, e))
 
+-- where an activity at a node takes place
+abbrev pub node_place : Activity → Context
+node_place (Fires c n vs) = c
+node_place (Gates c n v u) = c
+node_place (Passes c n i v) = c
+node_place a = Meaning.Main
+
 module _ (fl : Flow) (p : Plan) (w : Wires) (inputs : List ℤ) (past : Past) (m : Machine) (good : IsGood fl p w) (fit : InputsFit fl inputs)
-    (kept : Keeps fl p w inputs past m) (rests : Resting m) (wants : Wants m → ⊥) (starts : AllStart fl w) where
+    (kept : Keeps fl p w inputs past m) (rests : Resting m) (calm : m.store.requests ≡ []) (starts : AllStart fl w) where
   abbrev Waits' : Item → Type 0
   Waits' i = Waiting fl p w inputs past m good fit kept i
 
   abbrev Says' : Item → Tagged → Type 0
-  Says' i t = Says fl p w inputs past m good fit kept rests wants starts i t
+  Says' i t = Says fl p w inputs past m good fit kept rests calm starts i t
 
   con_of : (i : Item) → Waits' i → IsContext fl i.context
-  con_of i d = con fl p w inputs past m good fit kept rests wants starts i d
+  con_of i d = con fl p w inputs past m good fit kept rests calm starts i d
 
   -- MODES
   module _ (c : Context) (here : IsContext fl c) (n : ℕ) where
@@ -171,18 +180,26 @@ module _ (fl : Flow) (p : Plan) (w : Wires) (inputs : List ℤ) (past : Past) (m
 
   -- an item that waits stands for the token
   abbrev pub Meant : Tagged → Type 0
-  Meant t = (i : Item) × Waiting fl p w inputs past m good fit kept i × Says fl p w inputs past m good fit kept rests wants starts i t
+  Meant t = (i : Item) × Waiting fl p w inputs past m good fit kept i × Says fl p w inputs past m good fit kept rests calm starts i t
 
   pub from_state : (t : Tagged) → Within t kept.state.tokens → Meant t
   from_state t h =
       let (i, d, e) = contains_flat_mapped (meant fl) (kept.tracks.net.pending ++ kept.tracks.net.waiting) t
       (Contains-permutation _ _ t kept.meant.tokens (within_to t kept.state.tokens h)) in
       let c = pick i (Contains-append_cases kept.tracks.net.pending kept.tracks.net.waiting i d) in
-      (i, c, says fl p w inputs past m good fit kept rests wants starts i c t e)
+      (i, c, says fl p w inputs past m good fit kept rests calm starts i c t e)
     where
       pick : (i : Item) → Contains kept.tracks.net.pending i ⊎ Waits' i → Waits' i
-      pick i (inl c) = absurd (contains_none i (subst (λ (l : List Item). Contains l i) (rests_net fl p w inputs past m good fit kept rests wants) c))
+      pick i (inl c) = absurd (contains_none i (subst (λ (l : List Item). Contains l i) (rests_net fl p w inputs past m good fit kept rests calm) c))
       pick i (inr c) = c
+
+  -- an iteration whose credit waits
+  pub record IsNext (c : Context) : Type 0 where
+    pub caller : Context
+    pub node : ℕ
+    pub before : ℕ
+    pub is : c ≡ Turned caller node (before + 1)
+    pub held : Held fl p w inputs past m good fit kept caller node before
 
   -- TOKENS OF A NODE
   abbrev Placed : Item → Context → Part → Type 0
@@ -195,6 +212,7 @@ module _ (fl : Flow) (p : Plan) (w : Wires) (inputs : List ℤ) (past : Past) (m
     ByReader : (i : Item) → Placed i c (Parts.InCell n) → is_cell (block_in fl c) n ≡ true → is_store (block_in fl c) n ≡ false → i.held ≡ v ∷ [] → l ≡ 0
         → OperandAt c n l v
     ByArgument : (i : Item) → Placed i c (Sender n l) → is_strict (block_in fl c) n ≡ true → i.inlet ≡ inlet (Sender n l) Right 0 → OperandAt c n l v
+    ByNext : IsNext c → l ≡ 0 → OperandAt c n l v
 
   at_context : (i : Item) (c : Context) (n j : ℕ) (x y : Meaning.Port) (v u : Value) → tagged c (AtNode n) x v ≡ tagged i.context (AtNode j) y u
       → (i.context ≡ c) × (j ≡ n)
@@ -223,6 +241,9 @@ module _ (fl : Flow) (p : Plan) (w : Wires) (inputs : List ℤ) (past : Past) (m
           (at ∙ (λ o. inlet (Sender (z o) (y o)) Right 0))
       go i d (TurnLeft j u e g q) = let z : AtNode n ≡ AtTurn j = ap (λ (t : Tagged). t.statement) q in absurd (cc)
       go i d (TurnRight j u e g q) = let z : AtNode n ≡ AtTurn j = ap (λ (t : Tagged). t.statement) q in absurd (cc)
+      go i d (Going x k t j u a held q) =
+          ByNext record { caller = x; node = k; before = t; is = ap (λ (t : Tagged). t.context) q; held = held }
+          (same_operand l 0 (ap (λ (t : Tagged). t.port) q))
 
   -- two words of one part do not both wait
   meet : (c : Context) (r : Part) (i j : Item) → Placed i c r → Placed j c r → i.inlet.port ≡ Left → j.inlet.port ≡ Right → ⊥
@@ -244,6 +265,7 @@ module _ (fl : Flow) (p : Plan) (w : Wires) (inputs : List ℤ) (past : Past) (m
       go i d (Argument j k u e strict at q) = let z : Predicate ≡ Operand k = ap (λ (t : Tagged). t.port) q in absurd (cc)
       go i d (TurnLeft j u e g q) = let z : AtNode n ≡ AtTurn j = ap (λ (t : Tagged). t.statement) q in absurd (cc)
       go i d (TurnRight j u e g q) = let z : AtNode n ≡ AtTurn j = ap (λ (t : Tagged). t.statement) q in absurd (cc)
+      go i d (Going x k t j u a held q) = let z : Predicate ≡ Operand 0 = ap (λ (t : Tagged). t.port) q in absurd (cc)
 
   -- a value, or a flag, at a turn
   turn_here : (c : Context) (j : ℕ) (x : Meaning.Port) (v : Value) → Within (tagged c (AtTurn j) x v) kept.state.tokens
@@ -261,6 +283,7 @@ module _ (fl : Flow) (p : Plan) (w : Wires) (inputs : List ℤ) (past : Past) (m
       go i d (GateRight n u e two g q) = absurd (at_turn n Predicate i u q)
       go i d (Reading n u e cell store held q) = absurd (at_turn n (Operand 0) i u q)
       go i d (Argument n k u e strict at q) = absurd (at_turn n (Operand k) i u q)
+      go i d (Going y k t n u a held q) = let z : AtTurn j ≡ AtNode n = ap (λ (t : Tagged). t.statement) q in absurd (cc)
       go i d (TurnLeft n u e g q) = (
         i,
         (d, ap (λ (t : Tagged). t.context) (sym q), e ∙ ap TurnValue (same_turn n j (ap (λ (t : Tagged). t.statement) (sym q)))),
@@ -284,10 +307,12 @@ module _ (fl : Flow) (p : Plan) (w : Wires) (inputs : List ℤ) (past : Past) (m
       go i (Reading n u e cell store held q) = let z : AtOut j ≡ AtNode n = ap (λ (t : Tagged). t.statement) q in absurd (cc)
       go i (Argument n k u e strict at q) = let z : AtOut j ≡ AtNode n = ap (λ (t : Tagged). t.statement) q in absurd (cc)
       go i (TurnLeft n u e g q) = let z : AtOut j ≡ AtTurn n = ap (λ (t : Tagged). t.statement) q in absurd (cc)
+      go i (Going y k t n u a held q) = let z : AtOut j ≡ AtNode n = ap (λ (t : Tagged). t.statement) q in absurd (cc)
       go i (TurnRight n u e g q) = let z : AtOut j ≡ AtTurn n = ap (λ (t : Tagged). t.statement) q in absurd (cc)
 
   -- a node of which an operand waits does not take it alone
-  not_alone : (c : Context) (n l : ℕ) (v : Value) → OperandAt c n l v → mode_at fl c n ≡ Alone → ⊥
+  not_alone : (c : Context) (n l : ℕ) (v : Value) → OperandAt c n l v → mode_at fl c n ≡ Alone → IsNext c
+  not_alone c n l v (ByNext h z) e = h
   not_alone c n l v (ByLeft i o two g z) e = let y = sym (pair_takes c (here_at i c o.0 o.1) n two) ∙ e in absurd (cc)
   not_alone c n l v (ByRight i o two g z) e = let y = sym (pair_takes c (here_at i c o.0 o.1) n two) ∙ e in absurd (cc)
   not_alone c n l v (ByEnter i o two g z) e = let y = sym (gate_takes c (here_at i c o.0 o.1) n two) ∙ e in absurd (cc)
@@ -306,19 +331,22 @@ module _ (fl : Flow) (p : Plan) (w : Wires) (inputs : List ℤ) (past : Past) (m
     pub held : item.held ≡ v ∷ []
     pub none : us ≡ []
 
-  strict_argued : (c : Context) (n : ℕ) → is_strict (block_in fl c) n ≡ true → (l : ℕ) (v : Value) → OperandAt c n l v
-      → (i : Item) × Waits' i × (i.context ≡ c) × (i.inlet ≡ inlet (Sender n l) Right 0)
-  strict_argued c n strict l v (ByLeft i o two g z) = absurd (kind_apart (block_in fl c) n strict_kind pair_kind strict_pair strict two)
-  strict_argued c n strict l v (ByRight i o two g z) = absurd (kind_apart (block_in fl c) n strict_kind pair_kind strict_pair strict two)
-  strict_argued c n strict l v (ByEnter i o two g z) = absurd (kind_apart (block_in fl c) n strict_kind enter_kind strict_enter strict two)
-  strict_argued c n strict l v (ByReader i o cell store held z) = absurd (kind_apart (block_in fl c) n strict_kind cell_kind strict_cell strict cell)
-  strict_argued c n strict l v (ByArgument i o s at) = (i, o.0, o.1, at)
+  abbrev Argued : Context → ℕ → ℕ → Type 0
+  Argued c n l = (i : Item) × Waits' i × (i.context ≡ c) × (i.inlet ≡ inlet (Sender n l) Right 0)
 
-  pub has_all : (c : Context) (n : ℕ) (v : Value) (us : List Value) → Held kept.state.tokens (operands_from c (AtNode n) 0 (v ∷ us))
-      → mode_at fl c n ≡ Together (length (v ∷ us)) → Reads c n v us
+  strict_argued : (c : Context) (n : ℕ) → is_strict (block_in fl c) n ≡ true → Argued c n 0 → (l : ℕ) (v : Value) → OperandAt c n l v → Argued c n l
+  strict_argued c n strict first l v (ByNext h z) = subst (Argued c n) (sym z) first
+  strict_argued c n strict first l v (ByLeft i o two g z) = absurd (kind_apart (block_in fl c) n strict_kind pair_kind strict_pair strict two)
+  strict_argued c n strict first l v (ByRight i o two g z) = absurd (kind_apart (block_in fl c) n strict_kind pair_kind strict_pair strict two)
+  strict_argued c n strict first l v (ByEnter i o two g z) = absurd (kind_apart (block_in fl c) n strict_kind enter_kind strict_enter strict two)
+  strict_argued c n strict first l v (ByReader i o cell store held z) = absurd (kind_apart (block_in fl c) n strict_kind cell_kind strict_cell strict cell)
+  strict_argued c n strict first l v (ByArgument i o s at) = (i, o.0, o.1, at)
+
+  pub has_all : (c : Context) (n : ℕ) (v : Value) (us : List Value) → Tokens.Held kept.state.tokens (operands_from c (AtNode n) 0 (v ∷ us))
+      → mode_at fl c n ≡ Together (length (v ∷ us)) → Reads c n v us ⊎ IsNext c
   has_all c n v us h e = go (operand_at c n 0 v h.0)
     where
-      pair_not : (i : Item) → Placed i c (Line n) → i.inlet.port ≡ Left → (us : List Value) → Held kept.state.tokens (operands_from c (AtNode n) 1 us)
+      pair_not : (i : Item) → Placed i c (Line n) → i.inlet.port ≡ Left → (us : List Value) → Tokens.Held kept.state.tokens (operands_from c (AtNode n) 1 us)
           → is_pair (block_in fl c) n ≡ true → Together 2 ≡ Together (length (v ∷ us)) → ⊥
       pair_not i o left [] h two g = let z = together_is 2 1 g in absurd (omega (arith, z))
       pair_not i o left (u ∷ us) h two g = second (operand_at c n 1 u h.0)
@@ -329,26 +357,38 @@ module _ (fl : Flow) (p : Plan) (w : Wires) (inputs : List ℤ) (past : Past) (m
           second (ByEnter j q t x z) = omega (arith, z)
           second (ByReader j q cell store held z) = omega (arith, z)
           second (ByArgument j q s at) = kind_apart (block_in fl c) n strict_kind pair_kind strict_pair s two
+          second (ByNext g z) = omega (arith, z)
 
       alone : (us : List Value) → Together 1 ≡ Together (length (v ∷ us)) → us ≡ []
       alone [] g = refl
       alone (u ∷ us) g = let z = together_is 1 (length (v ∷ u ∷ us)) g in absurd (omega (arith, z))
 
-      go : OperandAt c n 0 v → Reads c n v us
+      go : OperandAt c n 0 v → Reads c n v us ⊎ IsNext c
+      go (ByNext g z) = inr g
       go (ByRight i o two g z) = absurd (omega (arith, z))
       go (ByLeft i o two g z) = absurd (pair_not i o g us h.1 two (sym (pair_takes c (here_at i c o.0 o.1) n two) ∙ e))
       go (ByEnter i o two g z) = let y = sym (gate_takes c (here_at i c o.0 o.1) n two) ∙ e in absurd (cc)
       go (ByReader i o cell store held z) =
           let here = here_at i c o.0 o.1 in let f = fetch_at c here n cell store in
-          record { item = i; waiting = o.0; context = o.1; part = o.2; here = here; fetch = f; held = held; none = alone us (sym (fetch_takes c here n f) ∙ e) }
+          inl
+          record {
+            item = i;
+            waiting = o.0;
+            context = o.1;
+            part = o.2;
+            here = here;
+            fetch = f;
+            held = held;
+            none = alone us (sym (fetch_takes c here n f) ∙ e);
+          }
       go (ByArgument i o strict at) =
           let here = here_at i c o.0 o.1 in
           let count = together_is (source_count (block_in fl c) n) (length (v ∷ us)) (sym (strict_takes c here n strict) ∙ e) in
-          absurd (not_complete fl p w inputs past m good fit kept rests wants starts c here n strict
+          absurd (not_complete fl p w inputs past m good fit kept rests calm starts c here n strict
           (λ l low. let (u, k) = held_each kept.state.tokens c (AtNode n) 0 (v ∷ us) h l l (omega (arith, low, count)) (omega arith) in
-          strict_argued c n strict l u (operand_at c n l u k)) (omega (arith, count)))
+          strict_argued c n strict (i, o.0, o.1, at) l u (operand_at c n l u k)) (omega (arith, count)))
 
-  -- NO ACTIVITY is enabled
+  -- NO ACTIVITY is enabled, but in such iterations
   some_none : (o : Option Effect) (E : Effect) → o ≡ Some E → o ≡ None → ⊥
   some_none o E e f = let z : Some E ≡ None = sym e ∙ f in absurd (cc)
 
@@ -361,18 +401,24 @@ module _ (fl : Flow) (p : Plan) (w : Wires) (inputs : List ℤ) (past : Past) (m
       ∙ fetch_none fl kept.state.memory c n (first_cell fl (array_at fl c n)) x (index_of fl c n (v ∷ [])) here
       (reader_empty fl p w inputs past m good fit kept r.item n x r.waiting r.part cell)
 
-  fires_not : (c : Context) (n : ℕ) (vs : List Value) → Held kept.state.tokens (taken (Fires c n vs)) → (E : Effect)
-      → effect fl kept.state.memory (Fires c n vs) ≡ Some E → 0 < length (taken (Fires c n vs)) → mode_at fl c n ≡ Together (length vs) → ⊥
-  fires_not c n [] h E e some mode = omega (arith, some)
-  fires_not c n (v ∷ us) h E e some mode = some_none (effect fl kept.state.memory (Fires c n (v ∷ us))) E e (reads_nothing c n v us (has_all c n v us h mode))
+  fires_not : (c : Context) (n : ℕ) (vs : List Value) → Tokens.Held kept.state.tokens (taken (Fires c n vs)) → (E : Effect)
+      → effect fl kept.state.memory (Fires c n vs) ≡ Some E → 0 < length (taken (Fires c n vs)) → mode_at fl c n ≡ Together (length vs) → IsNext c
+  fires_not c n [] h E e some mode = absurd (omega (arith, some))
+  fires_not c n (v ∷ us) h E e some mode = pick (has_all c n v us h mode)
+    where
+      pick : Reads c n v us ⊎ IsNext c → IsNext c
+      pick (inl r) = absurd (some_none (effect fl kept.state.memory (Fires c n (v ∷ us))) E e (reads_nothing c n v us r))
+      pick (inr g) = g
 
-  gates_not : (c : Context) (n : ℕ) (v u : Value) → OperandAt c n 0 v → Within (tagged c (AtNode n) Predicate u) kept.state.tokens → mode_at fl c n ≡ ByGate → ⊥
+  gates_not : (c : Context) (n : ℕ) (v u : Value) → OperandAt c n 0 v → Within (tagged c (AtNode n) Predicate u) kept.state.tokens → mode_at fl c n ≡ ByGate
+      → IsNext c
+  gates_not c n v u (ByNext h z) k e = h
   gates_not c n v u (ByLeft i o two g z) k e = let y = sym (pair_takes c (here_at i c o.0 o.1) n two) ∙ e in absurd (cc)
   gates_not c n v u (ByRight i o two g z) k e = let y = sym (pair_takes c (here_at i c o.0 o.1) n two) ∙ e in absurd (cc)
   gates_not c n v u (ByReader i o cell store held z) k e =
       let h = here_at i c o.0 o.1 in let y = sym (fetch_takes c h n (fetch_at c h n cell store)) ∙ e in absurd (cc)
   gates_not c n v u (ByArgument i o strict at) k e = let y = sym (strict_takes c (here_at i c o.0 o.1) n strict) ∙ e in absurd (cc)
-  gates_not c n v u (ByEnter i o two g z) k e = let (j, q, right) = predicate_here c n u k in meet c (Gate n) i j o q g right
+  gates_not c n v u (ByEnter i o two g z) k e = let (j, q, right) = predicate_here c n u k in absurd (meet c (Gate n) i j o q g right)
 
   turns_not : (c : Context) (j : ℕ) (u v : Value) → Within (tagged c (AtTurn j) Flag u) kept.state.tokens
       → Within (tagged c (AtTurn j) Carried v) kept.state.tokens → ⊥
@@ -384,7 +430,7 @@ module _ (fl : Flow) (p : Plan) (w : Wires) (inputs : List ℤ) (past : Past) (m
       go l (i, o, inr (e, g)) = absurd (cc)
       go (i, o, inr (e, g)) (k, q, inl (f, z)) = meet c (TurnValue j) k i q o z g
 
-  none_enabled : (a : Activity) → Held kept.state.tokens (taken a) → (E : Effect) → effect fl kept.state.memory a ≡ Some E → ⊥
+  none_enabled : (a : Activity) → Tokens.Held kept.state.tokens (taken a) → (E : Effect) → effect fl kept.state.memory a ≡ Some E → IsNext (node_place a)
   none_enabled (Fires c n vs) h E e =
       let d = deed_of fl kept.state.memory (Fires c n vs) E e in
       fires_not c n vs h E e (takes_some fl good.well (Fires c n vs) d.0 d.1) (fires_mode fl c n vs d.0 d.1)
@@ -392,9 +438,13 @@ module _ (fl : Flow) (p : Plan) (w : Wires) (inputs : List ℤ) (past : Past) (m
       let d = deed_of fl kept.state.memory (Gates c n v u) E e in gates_not c n v u (operand_at c n 0 v h.0) h.1.0 (gates_mode fl c n v u d.0 d.1)
   none_enabled (Passes c n i v) h E e =
       let d = deed_of fl kept.state.memory (Passes c n i v) E e in not_alone c n i v (operand_at c n i v h.0) (passes_mode fl c n i v d.0 d.1)
-  none_enabled (Returns c n j v) h E e = no_out (Meaning.Called c n) j (Operand 0) v h.0
-  none_enabled (Turns c n i j u v) h E e = turns_not (Meaning.Turned c n i) j u v h.0 h.1.0
-  none_enabled (Outputs j v) h E e = no_out Meaning.Main j (Operand 0) v h.0
+  none_enabled (Returns c n j v) h E e = absurd (no_out (Meaning.Called c n) j (Operand 0) v h.0)
+  none_enabled (Turns c n i j u v) h E e = absurd (turns_not (Meaning.Turned c n i) j u v h.0 h.1.0)
+  none_enabled (Outputs j v) h E e = absurd (no_out Meaning.Main j (Operand 0) v h.0)
 
-  pub at_rest : AtRest fl kept.state
-  at_rest a t step = none_enabled a (held_from kept.state.tokens (taken a) step.rest step.takes) step.does step.allowed
+  pub next_alone : (a : Activity) (t : State) → Step fl a kept.state t → IsNext (node_place a)
+  next_alone a t step = none_enabled a (held_from kept.state.tokens (taken a) step.rest step.takes) step.does step.allowed
+
+  -- where no credit waits there is none
+  pub at_rest : (Wants m → ⊥) → AtRest fl kept.state
+  at_rest wants a t step = let g = next_alone a t step in wants (held_wants fl p w inputs past m good fit kept g.caller g.node g.before g.held)

@@ -1,5 +1,5 @@
--- At rest each context that has a frame was entered, and the frame of what it started was handed out: so the first word of what sends into or out
--- of a context arrived.
+-- At rest each context that has a frame was entered, and the frame of what it started was handed out, but for iterations whose credit waits: so the
+-- first word of what sends into or out of a context arrived.
 use Rattle.std.proofs.Common.{◌≡◌, ℕ, zero, suc, ◌+◌, ℤ, Bool, true, false, not, ◌&&◌, ◌⊎◌, inl, inr, List, [], ◌∷◌, ◌++◌, Option, Some, None, if◌then◌else◌}
 use Rattle.std.proofs.Common.{refl, sym, ap, ◌∙◌, subst, arith, true≢false, lt-ltb}
 use Rattle.std.specs.Prelude.{Contains}
@@ -12,7 +12,7 @@ use Rattle.semantics.specs.Graph.{Flow, Block}
 use Rattle.semantics.specs.Plan.{Plan}
 use Rattle.semantics.specs.Meaning.{Context, Main, Called, Turned}
 use Rattle.semantics.specs.Cause.{is_turn}
-use Rattle.semantics.specs.Machine.{Machine, Resting, Wants}
+use Rattle.semantics.specs.Machine.{Machine, Resting}
 use Rattle.law_confluence.specs.EquationsContexts.{same_context}
 use Rattle.law_confluence.proofs.EquationsContexts.{same_context_is}
 use Rattle.law_net.specs.ContextsParts.{Part, Entry, Trigger, Opener, Framer, Fanned, Linker, Sender, Taker, TurnCont, TurnFlag, Asker, NextFramer, NextFanned}
@@ -38,7 +38,7 @@ use Rattle.law_end.proofs.OverBack.{frame_from, next_frame_from, return_from}
 use Rattle.law_end.specs.RestStarts.{AllStart}
 use Rattle.law_net.specs.ContextsWires.{is_start}
 use Rattle.law_end.proofs.RestCells.{one_of}
-use Rattle.law_end.proofs.RestWaits.{Waiting, is_credit, taken_as, Takes, Own, OfCredits, Renewed, fires_alone, fires_both, waits_or_taken, taker_wants}
+use Rattle.law_end.proofs.RestWaits.{Waiting, is_credit, taken_as, Takes, Own, OfCredits, Renewed, fires_alone, fires_both, waits_or_taken, Held}
 use Rattle.law_end.proofs.RestWaits.{is_sender}
 use Rattle.law_end.proofs.RestForward.{begin_stands, gift_stands, feeder, along, decided_arrives}
 
@@ -100,7 +100,7 @@ pub root_arm : (k : ℕ) (t : Bool) → Root ≡ Arm k t → ⊥
 root_arm k t e = absurd (cc)
 
 module _ (fl : Flow) (p : Plan) (w : Wires) (inputs : List ℤ) (past : Past) (m : Machine) (good : IsGood fl p w) (fit : InputsFit fl inputs)
-    (kept : Keeps fl p w inputs past m) (rests : Resting m) (wants : Wants m → ⊥) where
+    (kept : Keeps fl p w inputs past m) (rests : Resting m) (calm : m.store.requests ≡ []) where
   abbrev done : List Firing
   done = kept.tracks.net.fired
 
@@ -109,14 +109,14 @@ module _ (fl : Flow) (p : Plan) (w : Wires) (inputs : List ℤ) (past : Past) (m
 
   -- a part that takes one word, and what a firing gave it
   alone_at : (c : Context) (r : Part) (i : Item) → Stood i → i.context ≡ c → i.inlet.part ≡ r → ((b : Block ℕ) → waits_in b r ≡ false) → is_in_cell r ≡ false
-      → is_credit r ≡ false → HasFired c r done
+      → is_turning r ≡ false → HasFired c r done
   alone_at c r i s a e single cell credit =
-      let (h, d, x, y) = fires_alone fl p w inputs past m good fit kept rests wants i s
-      (ap (waits_in (block_in fl i.context)) e ∙ single (block_in fl i.context)) (ap is_in_cell e ∙ cell) (ap is_credit e ∙ credit) in
+      let (h, d, x, y) = fires_alone fl p w inputs past m good fit kept rests calm i s
+      (ap (waits_in (block_in fl i.context)) e ∙ single (block_in fl i.context)) (ap is_in_cell e ∙ cell) (ap is_turning e ∙ credit) in
       (h, d, x ∙ a, y ∙ e)
 
   given_at : (h : Firing) (q : Part) → Contains done h → h.part ≡ q → (i : Item) → Contains (gives_by fl w h q) i
-      → ((b : Block ℕ) → waits_in b i.inlet.part ≡ false) → is_in_cell i.inlet.part ≡ false → is_credit i.inlet.part ≡ false
+      → ((b : Block ℕ) → waits_in b i.inlet.part ≡ false) → is_in_cell i.inlet.part ≡ false → is_turning i.inlet.part ≡ false
       → HasFired i.context i.inlet.part done
   given_at h q d e i g single cell credit =
       let (j, s, same) = gift_stands fl p w inputs past m good fit kept h q i d e g in
@@ -142,14 +142,17 @@ module _ (fl : Flow) (p : Plan) (w : Wires) (inputs : List ℤ) (past : Past) (m
       let (f, x, y, z) = given_at h NextFramer d e (item h.context (inlet NextAsked Left 0) (BackTo h.context (inlet NextFanned Left 0))) (contains_head _ [])
       (λ b. refl) refl refl in (f, x, y ∙ a, z)
 
-  -- a credit that was asked for was granted
-  pub granted : (d : Context) (n t : ℕ) → HasFired (Turned d n t) Asker done → HasFired (Turned d n t) NextFramer done
+  -- a credit that was asked for waits, or was granted
+  abbrev pub Granted : Context → ℕ → ℕ → Type 0
+  Granted d n t = Held fl p w inputs past m good fit kept d n t ⊎ HasFired (Turned d n t) NextFramer kept.tracks.net.fired
+
+  pub granted : (d : Context) (n t : ℕ) → HasFired (Turned d n t) Asker done → Granted d n t
   granted d n t (h, x, a, e) =
       let credit = item d (inlet (Taker n) Left (t + 1)) (BackTo (Turned d n t) (inlet NextFramer Left 0)) in
       let (j, s, same) = gift_stands fl p w inputs past m good fit kept h Asker credit x e
       (subst (λ (c : Context). Contains (credit_asked c) credit) (sym a) (contains_head credit [])) in
       by_taking j s (ap (λ (x : Spot). x.context) same) (ap (λ (x : Spot). x.inlet.part) same) (ap (λ (x : Spot). x.inlet.way) same)
-      (waits_or_taken fl p w inputs past m good fit kept rests wants j s)
+      (waits_or_taken fl p w inputs past m good fit kept rests calm j s)
     where
       by_own : (j : Item) → j.context ≡ d → j.inlet.part ≡ Taker n → j.inlet.way ≡ t + 1 → (f : Firing) → Contains done f → Contains (takes fl f) j
           → (j.context ≡ f.context) × Takes f j → HasFired (Turned d n t) NextFramer done
@@ -165,9 +168,9 @@ module _ (fl : Flow) (p : Plan) (w : Wires) (inputs : List ℤ) (past : Past) (m
 
       by_taking : (j : Item) → Stood j → j.context ≡ d → j.inlet.part ≡ Taker n → j.inlet.way ≡ t + 1
           → Waiting fl p w inputs past m good fit kept j ⊎ ((f : Firing) × Contains done f × Contains (takes fl f) j)
-          → HasFired (Turned d n t) NextFramer done
-      by_taking j s jc jr jw (inl c) = absurd (wants (taker_wants fl p w inputs past m good fit kept j n c jr))
-      by_taking j s jc jr jw (inr (f, y, took)) = by_own j jc jr jw f y took (taken_as fl f j took)
+          → Granted d n t
+      by_taking j s jc jr jw (inl c) = let next' : t + 1 ≡ suc t = omega arith in inl (j, c, jc, jr, jw ∙ next')
+      by_taking j s jc jr jw (inr (f, y, took)) = inr (by_own j jc jr jw f y took (taken_as fl f j took))
 
   -- IN A CONTEXT
   module _ (c : Context) (con : IsContext fl c) where
@@ -204,10 +207,10 @@ module _ (fl : Flow) (p : Plan) (w : Wires) (inputs : List ℤ) (past : Past) (m
 
     both_fire : (r : Part) → waits_in b r ≡ true → ((n l : ℕ) → r ≡ Sender n l → ⊥) → At (inlet r Left 0) → At (inlet r Right 0) → Fires r
     both_fire r two other (i, si, ic, ix) (j, sj, jc, jx) =
-        fires_both fl p w inputs past m good fit kept rests wants c r i j si sj ic jc (ap (λ (x : Inlet). x.part) ix) (ap (λ (x : Inlet). x.part) jx)
+        fires_both fl p w inputs past m good fit kept rests calm c r i j si sj ic jc (ap (λ (x : Inlet). x.part) ix) (ap (λ (x : Inlet). x.part) jx)
         (ap (λ (x : Inlet). x.port) ix) (ap (λ (x : Inlet). x.port) jx) two (no_sender r other)
       where
-        no_sender : (r : Part) → ((n l : ℕ) → r ≡ Sender n l → ⊥) → is_sender fl p w inputs past m good fit kept rests wants r ≡ false
+        no_sender : (r : Part) → ((n l : ℕ) → r ≡ Sender n l → ⊥) → is_sender fl p w inputs past m good fit kept rests calm r ≡ false
         no_sender (Sender n l) h = absurd (h n l refl)
         no_sender r h = refl
 
@@ -303,7 +306,7 @@ module _ (fl : Flow) (p : Plan) (w : Wires) (inputs : List ℤ) (past : Past) (m
           go r e g = absurd (true≢false (sym g))
 
       module _ (starts : AllStart fl w) where
-        alone_here : (r : Part) → At (inlet r Left 0) → ((b : Block ℕ) → waits_in b r ≡ false) → is_in_cell r ≡ false → is_credit r ≡ false → Fires r
+        alone_here : (r : Part) → At (inlet r Left 0) → ((b : Block ℕ) → waits_in b r ≡ false) → is_in_cell r ≡ false → is_turning r ≡ false → Fires r
         alone_here r (i, s, a, x) single cell credit = alone_at c r i s a (ap (λ (x : Inlet). x.part) x) single cell credit
 
         pub loop_framed : (n : ℕ) → is_loop b n ≡ true → Opens (lies_in b n) → Fires (Framer n)

@@ -1,31 +1,33 @@
 -- A run of the meaning beside the moves of the net, in which each token was present that an item of the net ever stood for.
-use Rattle.std.proofs.Common.{◌≡◌, ℕ, ℤ, List, [], ◌∷◌, ◌++◌, refl, sym, ap, ◌∙◌, subst, append_assoc, append-nil, ⊎_elim}
-use Rattle.std.specs.Prelude.{All, IsPermutation, Contains, flat_map}
+use Rattle.std.proofs.Common.{◌≡◌, ℤ, true, nat_lt, List, [], ◌∷◌, ◌++◌, refl, sym, ap, ◌∙◌, subst, append_assoc, append-nil, ⊎_elim}
+use Rattle.std.specs.Prelude.{All, IsPermutation, Contains, flat_map, ⊤}
+use Rattle.lemmas.proofs.Contains.{contains_head, contains_tail}
 use Rattle.std.proofs.lemmas.List.Concat.{flat_map-append}
 use Rattle.std.proofs.lemmas.List.Sorted.{IsPermutation-trans, IsPermutation-refl, IsPermutation-sym, IsPermutation-append, IsPermutation-append_left}
 use Rattle.std.proofs.lemmas.List.Sorted.{All-permutation}
 use Rattle.std.proofs.lemmas.List.Elements.{All-append, All-nil, All-weaker, All-contains, All-contains_itself}
 use Rattle.semantics.specs.Graph.{Flow}
 use Rattle.semantics.specs.Meaning as Meaning
-use Rattle.semantics.specs.Meaning.{State, Memory, Activity, Main, Tagged, taken, start, entering, Leads}
+use Rattle.semantics.specs.Meaning.{State, Activity, Tagged, taken, start}
 use Rattle.semantics.specs.Plan.{Plan}
 use Rattle.semantics.specs.Machine.{Machine}
 use Rattle.lemmas.proofs.Permutations.{Within, within_permutation, within_append, within_left, within_right, within_from}
 use Rattle.lemmas.proofs.Alls.{all_left, all_right}
 use Rattle.law_confluence.proofs.Orders.{at_last, shuffled, flat_map-IsPermutation, Part, ◌⊕◌}
 use Rattle.law_confluence.proofs.Net.{Waits, Fires, net_sound_moves, net_sound_begins, fires_allowed}
-use Rattle.law_confluence.proofs.NetMeans.{run_from, run_join, state_of, Simulates}
+use Rattle.law_confluence.proofs.NetMeans.{run_from, run_join, state_of}
 use Rattle.law_confluence.proofs.NetArms.{arms_lawful}
-use Rattle.law_net.specs.ContextsParts.{Item, Firing, spot_of, same_spot, role_of}
-use Rattle.law_net.specs.Contexts.{Wires}
+use Rattle.law_net.specs.ContextsParts.{Line, Item, Firing, spot_of, same_spot, role_of}
+use Rattle.law_net.specs.Contexts.{Wires, block_in}
 use Rattle.law_net.specs.ContextsMeant.{meant}
-use Rattle.law_net.specs.ContextsFirings.{Config, Move, begin, begins, takes, makes, memory_of, IsProperMove, ProperMoves, Still, Then}
+use Rattle.law_net.specs.ContextsFirings.{Config, Move, begin, begins, takes, makes, memory_of, HasFired, IsProperMove, ProperMoves, Still, Then}
 use Rattle.law_net.specs.ContextsLaws.{Fits, WordFits, IsPredicate, is_true, InArm, source, says, Allowed, NetHasArms, NetIsLawful, IsSoundNet, WordsFit}
 use Rattle.law_net.specs.ContextsMirror.{Past}
 use Rattle.law_net.specs.ContextsTheorem.{IsGood}
-use Rattle.law_net.specs.ContextsPackages.{InputsFit, Keeps, group_of}
+use Rattle.law_net.specs.ContextsPackages.{InputsFit, Keeps}
 use Rattle.law_net.proofs.ContextsComposition.{meant_inputs}
-use Rattle.law_net_refines_meaning.proofs.Firings.{all_meant}
+use Rattle.law_net_refines_meaning.proofs.FiringsActs.{Passing, Acts}
+use Rattle.law_net_refines_meaning.proofs.Firings.{firing_passes}
 use Rattle.law_net.proofs.WiredWords.{words_are_fit}
 use Rattle.law_net.proofs.WiredFed.{inlets_are_fed}
 use Rattle.law_net.proofs.WiredEntered.{arms_are_entered}
@@ -42,6 +44,19 @@ stays_in fl (a ∷ r) s t p x h =
     (stays_in fl r p.0 t p.2 x (within_permutation x (p.1.does.added ++ p.1.rest) p.0.tokens (IsPermutation-sym _ _ p.1.leaves)
     (within_right x p.1.does.added p.1.rest k))))
     (within_append x (taken a) p.1.rest (within_permutation x s.tokens (taken a ++ p.1.rest) p.1.takes h)))
+
+-- WHICH INPUTS pass: those of lines that have fired
+abbrev pub Passed : Flow → List Firing → Activity → Type 0
+Passed fl fired (Meaning.Fires c n vs) = nat_lt n (block_in fl c).inputs ≡ true → HasFired c (Line n) fired
+Passed fl fired a = ⊤
+
+passed_later : (fl : Flow) (f : Firing) (fired : List Firing) (a : Activity) → Passed fl fired a → Passed fl (f ∷ fired) a
+passed_later fl f fired (Meaning.Fires c n vs) h = λ e. (let (g, d, x, y) = h e in (g, contains_tail f fired g d, x, y))
+passed_later fl f fired a h = tt
+
+passed_now : (fl : Flow) (f : Firing) (fired : List Firing) (a : Activity) → Passing fl f.context f.part a → Passed fl (f ∷ fired) a
+passed_now fl f fired (Meaning.Fires c n vs) h = λ e. (let (x, y) = h e in (f, contains_head f fired, sym x, y))
+passed_now fl f fired a h = tt
 
 module _ (fl : Flow) (p : Plan) (w : Wires) (inputs : List ℤ) (good : IsGood fl p w) (fit : InputsFit fl inputs) where
   arms : NetHasArms fl w inputs
@@ -80,6 +95,7 @@ module _ (fl : Flow) (p : Plan) (w : Wires) (inputs : List ℤ) (good : IsGood f
     pub tokens : IsPermutation state.tokens (flat_map (meant fl) (c.pending ++ c.waiting))
     pub memory_is : state.memory ≡ memory_of fl c.fired
     pub ever : All (Ever (flat_map taken run ++ state.tokens)) (c.pending ++ (c.waiting ++ flat_map (takes fl) c.fired))
+    pub passed : All (Passed fl c.fired) run
 
   -- what a firing takes, and the rest
   split : (P : Item → Type 0) (c : Config) (f : Firing) (now kept rest others : List Item) → IsPermutation c.pending (now ++ rest)
@@ -134,14 +150,15 @@ module _ (fl : Flow) (p : Plan) (w : Wires) (inputs : List ℤ) (good : IsGood f
         (shuffled ((i ∷ []) ∷ rest ∷ c.waiting ∷ []) ((Part 0 ⊕ Part 1) ⊕ Part 2) (Part 1 ⊕ (Part 0 ⊕ Part 2)) refl)));
     memory_is = k.memory_is;
     ever = waits_all (Ever (flat_map taken k.run ++ k.state.tokens)) c i rest a k.ever;
+    passed = k.passed;
   })
   move_meant c d (Fires f now kept rest others a b both e) proper k =
       let allowed = fires_allowed spot_of same_spot (takes fl) (makes fl w) (begins inputs) role_of
       (Allowed fl w inputs) lawful c k.sound f now kept rest others a b both in
       let words = all_left (WordFits fl w) (takes fl f) (rest ++ (others ++ flat_map (takes fl) c.fired))
       (split (WordFits fl w) c f now kept rest others a b both k.fits) in
-      let sim : Simulates fl inputs (takes fl) (makes fl w) (meant fl) (memory_of fl) f c.fired =
-      all_meant (group_of fl f.context f.part) fl p w inputs f c.fired good fit allowed words proper refl in
+      let sim : Acts fl f.context f.part (flat_map (meant fl) (takes fl f)) (memory_of fl c.fired) (flat_map (meant fl) (makes fl w f))
+      (memory_of fl (f ∷ c.fired)) = firing_passes fl p w inputs good f c.fired allowed words proper in
       let frame = flat_map (meant fl) (rest ++ others) in
       let perm : IsPermutation (c.pending ++ c.waiting) (takes fl f ++ (rest ++ others)) =
       IsPermutation-trans _ _ _ (IsPermutation-append _ _ _ _ a b) (IsPermutation-trans _ _ _
@@ -172,6 +189,9 @@ module _ (fl : Flow) (p : Plan) (w : Wires) (inputs : List ℤ) (good : IsGood f
             (λ x h. within_right x (flat_map taken (k.run ++ led.0)) t.tokens (within_left x (flat_map (meant fl) (makes fl w f)) frame h)))
             (All-weaker (Ever (flat_map taken k.run ++ k.state.tokens)) (Ever (flat_map taken (k.run ++ led.0) ++ t.tokens))
             (λ i h x q. more x (h x q)) _ k.ever);
+        passed = All-append (Passed fl (f ∷ c.fired)) k.run led.0
+            (All-weaker (Passed fl c.fired) (Passed fl (f ∷ c.fired)) (λ a h. passed_later fl f c.fired a h) k.run k.passed)
+            (All-weaker (Passing fl f.context f.part) (Passed fl (f ∷ c.fired)) (λ a h. passed_now fl f c.fired a h) led.0 led.2);
       })
     where
       same_tokens : {xs ys : List Tagged} → xs ≡ ys → IsPermutation xs ys
@@ -204,6 +224,7 @@ module _ (fl : Flow) (p : Plan) (w : Wires) (inputs : List ℤ) (good : IsGood f
         tokens = subst (λ (l : List Tagged). IsPermutation (start inputs).tokens l) (sym same) (IsPermutation-refl (start inputs).tokens);
         memory_is = refl;
         ever = meant_in (begins inputs ++ []) (start inputs).tokens (λ x h. subst (λ (l : List Tagged). Within x l) same h);
+        passed = All-nil (Passed fl []);
       }
 
 -- OF EACH RUN

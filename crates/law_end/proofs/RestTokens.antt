@@ -13,13 +13,13 @@ use Rattle.semantics.specs.Graph.{Flow, Block}
 use Rattle.semantics.specs.Plan.{Plan}
 use Rattle.semantics.specs.Meaning.{Context, Main, Called, Turned, AtNode, AtTurn, Operand, Predicate, Flag, Carried, Tagged, tagged, operands_from}
 use Rattle.semantics.specs.Cause.{is_turn}
-use Rattle.semantics.specs.Machine.{Machine, Resting, Wants}
-use Rattle.law_net.specs.ContextsParts.{Part, Entry, Line, Answer, Merge, Landing, Giver, Drainer, Shown, Gate, Framer, Sender, Strict, Asker, NextFramer}
-use Rattle.law_net.specs.ContextsParts.{NextFanned, NextSender, Result, TurnValue, LastReturn, InCell, Inlet, inlet, Note, Datum, Item, item, Firing, spot_of}
+use Rattle.semantics.specs.Machine.{Machine, Resting}
+use Rattle.law_net.specs.ContextsParts.{Part, Entry, Line, Answer, Merge, Landing, Giver, Taker, Drainer, Shown, Gate, Framer, Sender, Strict, Asker, NextFramer}
+use Rattle.law_net.specs.ContextsParts.{NextSender, Result, TurnValue, LastReturn, InCell, Inlet, inlet, Note, Datum, Item, item, Firing, spot_of}
 use Rattle.law_net.specs.ContextsBlocks.{side, waits_in, is_pair, is_cell, is_store, is_strict, is_call, is_loop, is_kind, enter_kind, entered, lies_in}
 use Rattle.law_net.specs.ContextsBlocks.{source_count, there_in, invokes}
 use Rattle.law_net.specs.Contexts.{Wires, block_in, site_in, wiring_in, IsContext}
-use Rattle.law_net.specs.ContextsMeant.{meant, meant_by, meant_word}
+use Rattle.law_net.specs.ContextsMeant.{meant, meant_by, meant_word, next_meant}
 use Rattle.law_net.specs.ContextsFirings.{takes, right_way, HasFired}
 use Rattle.law_net.specs.ContextsLaws.{spot_there, sender_way, way_fits}
 use Rattle.law_net.specs.ContextsMirror.{Past, is_in_cell}
@@ -31,17 +31,17 @@ use Rattle.law_net.proofs.WiredSends.{takes_right}
 use Rattle.law_net.proofs.WiredNets.{taken_in}
 use Rattle.law_net.proofs.WiredInvoked.{strict_call}
 use Rattle.law_net.proofs.WiredFed.{UWay}
-use Rattle.law_end.specs.Over.{IsOpen}
+use Rattle.law_end.specs.Over.{IsOpen, is_turning}
 use Rattle.law_end.proofs.OverPaths.{wire_of}
 use Rattle.law_end.proofs.OverMade.{Mirrors, fits, word, given_by, twice}
 use Rattle.law_end.proofs.OverOpen.{stands_open, renewed_too}
 use Rattle.law_end.proofs.OverBack.{sender_of}
 use Rattle.law_end.specs.RestStarts.{AllStart, join_after, join_of}
 use Rattle.law_end.proofs.RestCells.{one_of}
-use Rattle.law_end.proofs.RestWaits.{Waiting, stood_of, left_of, apart, is_credit, Takes, Own, OfCredits, Renewed, taken_as, waits_or_taken, Waits, InSlot}
+use Rattle.law_end.proofs.RestWaits.{Waiting, stood_of, left_of, apart, is_credit, Takes, Own, OfCredits, Renewed, taken_as, waits_or_taken, Waits, InSlot, Held}
 use Rattle.law_end.proofs.RestWaits.{AtCell, OfLoop, waits, fires_alone, fires_both}
 use Rattle.law_end.proofs.RestForward.{along}
-use Rattle.law_end.proofs.RestReached.{At, asked, fanned, next_fanned, next_asked, granted, entered_at, result_left, last_left, sender_left, next_left}
+use Rattle.law_end.proofs.RestReached.{At, asked, fanned, next_fanned, next_asked, Granted, granted, entered_at, result_left, last_left, sender_left, next_left}
 use Rattle.law_end.proofs.RestReached.{loop_framed, call_framed, goes_on}
 
 abbrev nil_for : Note → List Tagged
@@ -49,7 +49,7 @@ nil_for (Datum v) = []
 nil_for u = []
 
 module _ (fl : Flow) (p : Plan) (w : Wires) (inputs : List ℤ) (past : Past) (m : Machine) (good : IsGood fl p w) (fit : InputsFit fl inputs)
-    (kept : Keeps fl p w inputs past m) (rests : Resting m) (wants : Wants m → ⊥) (starts : AllStart fl w) where
+    (kept : Keeps fl p w inputs past m) (rests : Resting m) (calm : m.store.requests ≡ []) (starts : AllStart fl w) where
   abbrev done : List Firing
   done = kept.tracks.net.fired
 
@@ -57,12 +57,12 @@ module _ (fl : Flow) (p : Plan) (w : Wires) (inputs : List ℤ) (past : Past) (m
   Waits' i = Waiting fl p w inputs past m good fit kept i
 
   abbrev AtSpot : (c : Context) → IsContext fl c → Inlet → Type 0
-  AtSpot c con x = At fl p w inputs past m good fit kept rests wants c con x
+  AtSpot c con x = At fl p w inputs past m good fit kept rests calm c con x
 
   -- A SECOND WORD does not wait where the first one arrived
   pub no_right : (i : Item) → Waits' i → (con : IsContext fl i.context) → (r : Part) → i.inlet.part ≡ r → i.inlet.port ≡ Right
       → i.inlet.way ≡ right_way fl i.context r → waits_in (block_in fl i.context) r ≡ true → AtSpot i.context con (inlet r Left 0) → ⊥
-  no_right i c con r e right way two (j, s, a, x) = pick (waits_or_taken fl p w inputs past m good fit kept rests wants j s)
+  no_right i c con r e right way two (j, s, a, x) = pick (waits_or_taken fl p w inputs past m good fit kept rests calm j s)
     where
       part : j.inlet.part ≡ r
       part = ap (λ (x : Inlet). x.part) x
@@ -109,37 +109,46 @@ module _ (fl : Flow) (p : Plan) (w : Wires) (inputs : List ℤ) (past : Past) (m
         (stands_open fl p w inputs past m good fit kept i.context con i stood refl)
 
     entry : HasFired i.context Entry done
-    entry = entered_at fl p w inputs past m good fit kept rests wants i stood
+    entry = entered_at fl p w inputs past m good fit kept rests calm i stood
 
     -- a result
     result_not : (j : ℕ) → i.inlet.part ≡ Result j → i.inlet.port ≡ Right → ⊥
     result_not j e g =
         no_right i c con (Result j) e g (eqb-true i.inlet.way 0 (way_as (Result j) e g)) refl
-        (result_left fl p w inputs past m good fit kept rests wants i.context con entry j (there (Result j) e))
+        (result_left fl p w inputs past m good fit kept rests calm i.context con entry j (there (Result j) e))
 
     last_not : (j : ℕ) → i.inlet.part ≡ LastReturn j → i.inlet.port ≡ Right → ⊥
     last_not j e g =
         no_right i c con (LastReturn j) e g (eqb-true i.inlet.way 0 (way_as (LastReturn j) e g)) refl
-        (last_left fl p w inputs past m good fit kept rests wants i.context con entry j (there (LastReturn j) e) (opened (LastReturn j) e))
+        (last_left fl p w inputs past m good fit kept rests calm i.context con entry j (there (LastReturn j) e) (opened (LastReturn j) e))
 
-    -- what goes to the next turn: its frame was asked for and came
-    next_not : (j : ℕ) → i.inlet.part ≡ NextSender j → i.inlet.port ≡ Right → ⊥
-    next_not j e g =
-        no_right i c con (NextSender j) e g (eqb-true i.inlet.way 0 (way_as (NextSender j) e g)) refl
-        (next_left fl p w inputs past m good fit kept rests wants i.context con j (there (NextSender j) e) (opened (NextSender j) e)
-        (framed i.context refl))
+    -- what goes to the next turn: its frame was asked for and came, unless its credit waits
+    next_held : (j : ℕ) → i.inlet.part ≡ NextSender j → i.inlet.port ≡ Right
+        → (d : Context) × (n : ℕ) × (t : ℕ) × (i.context ≡ Turned d n t) × Held fl p w inputs past m good fit kept d n t
+    next_held j e g = go i.context refl
       where
         turning : is_turn i.context ≡ true
         turning = (and_parts _ _ (there (NextSender j) e)).0
 
-        framed : (d : Context) → i.context ≡ d → HasFired i.context NextFanned done
-        framed Main a = absurd (true≢false (sym turning ∙ ap is_turn a))
-        framed (Called d n) a = absurd (true≢false (sym turning ∙ ap is_turn a))
-        framed (Turned d n t) a =
-            let asks = goes_on fl p w inputs past m good fit kept rests wants i.context con entry starts turning (opened (NextSender j) e) in
-            let framer = granted fl p w inputs past m good fit kept rests wants d n t (subst (λ (c : Context). HasFired c Asker done) a asks) in
-            next_fanned fl p w inputs past m good fit kept rests wants i.context
-            (next_asked fl p w inputs past m good fit kept rests wants i.context (subst (λ (c : Context). HasFired c NextFramer done) (sym a) framer))
+        both : HasFired i.context NextFramer done → ⊥
+        both framer =
+            no_right i c con (NextSender j) e g (eqb-true i.inlet.way 0 (way_as (NextSender j) e g)) refl
+            (next_left fl p w inputs past m good fit kept rests calm i.context con j (there (NextSender j) e) (opened (NextSender j) e)
+            (next_fanned fl p w inputs past m good fit kept rests calm i.context
+            (next_asked fl p w inputs past m good fit kept rests calm i.context framer)))
+
+        go : (d : Context) → i.context ≡ d
+            → (d : Context) × (n : ℕ) × (t : ℕ) × (i.context ≡ Turned d n t) × Held fl p w inputs past m good fit kept d n t
+        go Main a = absurd (true≢false (sym turning ∙ ap is_turn a))
+        go (Called d n) a = absurd (true≢false (sym turning ∙ ap is_turn a))
+        go (Turned d n t) a =
+            let asks = goes_on fl p w inputs past m good fit kept rests calm i.context con entry starts turning (opened (NextSender j) e) in
+            pick (granted fl p w inputs past m good fit kept rests calm d n t (subst (λ (c : Context). HasFired c Asker done) a asks))
+          where
+            pick : Granted fl p w inputs past m good fit kept rests calm d n t
+                → (d : Context) × (n : ℕ) × (t : ℕ) × (i.context ≡ Turned d n t) × Held fl p w inputs past m good fit kept d n t
+            pick (inl held) = (d, n, t, a, held)
+            pick (inr framer) = absurd (both (subst (λ (c : Context). HasFired c NextFramer done) (sym a) framer))
 
     -- an argument: only of a strict call that has not fired
     abbrev b : Block ℕ
@@ -149,8 +158,8 @@ module _ (fl : Flow) (p : Plan) (w : Wires) (inputs : List ℤ) (past : Past) (m
         → HasFired i.context (Framer n) done → ⊥
     sender_framed n l e g way f =
         no_right i c con (Sender n l) e g way refl
-        (sender_left fl p w inputs past m good fit kept rests wants i.context con n l (there (Sender n l) e) (opened (Sender n l) e)
-        (fanned fl p w inputs past m good fit kept rests wants i.context n (asked fl p w inputs past m good fit kept rests wants i.context n f)))
+        (sender_left fl p w inputs past m good fit kept rests calm i.context con n l (there (Sender n l) e) (opened (Sender n l) e)
+        (fanned fl p w inputs past m good fit kept rests calm i.context n (asked fl p w inputs past m good fit kept rests calm i.context n f)))
 
     pub argument_of : (n l : ℕ) → i.inlet.part ≡ Sender n l → i.inlet.port ≡ Right → (is_strict b n ≡ true) × (i.inlet.way ≡ 0)
     argument_of n l e g = by_strict (cases_Bool (is_strict b n))
@@ -169,8 +178,8 @@ module _ (fl : Flow) (p : Plan) (w : Wires) (inputs : List ℤ) (past : Past) (m
 
         framed : is_strict b n ≡ false → (is_call b n ≡ true) ⊎ (is_loop b n ≡ true) → HasFired i.context (Framer n) done
         framed s (inl call) =
-            call_framed fl p w inputs past m good fit kept rests wants i.context con entry starts n (and_parts _ _ here).0 call s (opened (Sender n l) e)
-        framed s (inr loop) = loop_framed fl p w inputs past m good fit kept rests wants i.context con entry starts n loop (opened (Sender n l) e)
+            call_framed fl p w inputs past m good fit kept rests calm i.context con entry starts n (and_parts _ _ here).0 call s (opened (Sender n l) e)
+        framed s (inr loop) = loop_framed fl p w inputs past m good fit kept rests calm i.context con entry starts n loop (opened (Sender n l) e)
 
         by_way : (t : ℕ) → i.inlet.way ≡ t → nat_lt t 2 ≡ true → is_strict b n ≡ true → (is_strict b n ≡ true) × (i.inlet.way ≡ 0)
         by_way zero x low s = (s, x)
@@ -201,6 +210,9 @@ module _ (fl : Flow) (p : Plan) (w : Wires) (inputs : List ℤ) (past : Past) (m
         → t ≡ tagged i.context (AtNode n) (Operand l) v → Says i t
     TurnLeft : (j : ℕ) (v : Value) → i.inlet.part ≡ TurnValue j → i.inlet.port ≡ Left → t ≡ tagged i.context (AtTurn j) Carried v → Says i t
     TurnRight : (j : ℕ) (v : Value) → i.inlet.part ≡ TurnValue j → i.inlet.port ≡ Right → t ≡ tagged i.context (AtTurn j) Flag v → Says i t
+    -- what goes to an iteration whose credit waits
+    Going : (d : Context) (n u j : ℕ) (v : Value) → i.context ≡ Turned d n u → Held fl p w inputs past m good fit kept d n u
+        → t ≡ tagged (Turned d n (u + 1)) (AtNode j) (Operand 0) v → Says i t
 
   module _ (i : Item) (c : Waits' i) (t : Tagged) where
     abbrev d : Context
@@ -220,7 +232,10 @@ module _ (fl : Flow) (p : Plan) (w : Wires) (inputs : List ℤ) (past : Past) (m
     group (TurnValue j) e two Right g y z (Datum v) h = TurnRight j v e g (one_of _ t h)
     group (Result j) e two Right g y z (Datum v) h = absurd (result_not i c j e g)
     group (LastReturn j) e two Right g y z (Datum v) h = absurd (last_not i c j e g)
-    group (NextSender j) e two Right g y z (Datum v) h = absurd (next_not i c j e g)
+    group (NextSender zero) e two Right g y z (Datum v) h = absurd (contains_none t h)
+    group (NextSender (suc j)) e two Right g y z (Datum v) h =
+        let (x, n, u, a, held) = next_held i c (suc j) e g in
+        Going x n u j v a held (one_of _ t (subst (λ (c : Context). Contains (next_meant c j v) t) a h))
     group (NextSender zero) e two Left g y z (Datum v) h = absurd (contains_none t h)
     group (NextSender (suc j)) e two Left g y z (Datum v) h = absurd (contains_none t h)
     group (Sender n l) e two Right g zero z (Datum v) h =
@@ -238,7 +253,7 @@ module _ (fl : Flow) (p : Plan) (w : Wires) (inputs : List ℤ) (past : Past) (m
     slot_word (InCell n) e = absurd (true≢false (sym e))
     slot_word r e = refl
 
-    pub credit_meant : (r : Part) → is_credit r ≡ true → Contains (meant_by fl i r) t → ⊥
+    pub credit_meant : (r : Part) → is_turning r ≡ true → Contains (meant_by fl i r) t → ⊥
     credit_meant (Giver n) e h = go i.word h
       where
         go : (u : Note) → Contains (meant_word fl i.context (Giver n) i.inlet.port i.inlet.way u) t → ⊥
@@ -247,6 +262,11 @@ module _ (fl : Flow) (p : Plan) (w : Wires) (inputs : List ℤ) (past : Past) (m
     credit_meant (Drainer n) e h = go i.word h
       where
         go : (u : Note) → Contains (meant_word fl i.context (Drainer n) i.inlet.port i.inlet.way u) t → ⊥
+        go (Datum v) h = contains_none t h
+        go u h = contains_none t h
+    credit_meant (Taker n) e h = go i.word h
+      where
+        go : (u : Note) → Contains (meant_word fl i.context (Taker n) i.inlet.port i.inlet.way u) t → ⊥
         go (Datum v) h = contains_none t h
         go u h = contains_none t h
     credit_meant r e h = true≢false (sym e)
@@ -274,9 +294,9 @@ module _ (fl : Flow) (p : Plan) (w : Wires) (inputs : List ℤ) (past : Past) (m
       }
 
   pub says : (i : Item) → Waits' i → (t : Tagged) → Contains (meant fl i) t → Says i t
-  says i c t h = pick (waits fl p w inputs past m good fit kept rests wants i c)
+  says i c t h = pick (waits fl p w inputs past m good fit kept rests calm i c)
     where
-      pick : Waits fl p w inputs past m good fit kept rests wants i → Says i t
+      pick : Waits fl p w inputs past m good fit kept rests calm i → Says i t
       pick (InSlot e) =
           group i c t i.inlet.part refl e i.inlet.port refl i.inlet.way refl i.word
           (subst (λ (l : List Tagged). Contains l t) (slot_word i c t i.inlet.part e) h)
@@ -333,7 +353,7 @@ module _ (fl : Flow) (p : Plan) (w : Wires) (inputs : List ℤ) (past : Past) (m
       behind (suc l) low =
           let (i, si, ic, ix) = not_last l low (behind l (omega (arith, low))) in
           let (j, sj, jc, jx) = joined (suc l) low in
-          let f = fires_both fl p w inputs past m good fit kept rests wants c (Strict n (suc l)) i j si sj ic jc (ap (λ (x : Inlet). x.part) ix)
+          let f = fires_both fl p w inputs past m good fit kept rests calm c (Strict n (suc l)) i j si sj ic jc (ap (λ (x : Inlet). x.part) ix)
           (ap (λ (x : Inlet). x.part) jx) (ap (λ (x : Inlet). x.port) ix) (ap (λ (x : Inlet). x.port) jx) refl refl in
           let here = strict_here l low in
           let goes = (starts c con').chains n (suc l) strict here in
@@ -347,8 +367,8 @@ module _ (fl : Flow) (p : Plan) (w : Wires) (inputs : List ℤ) (past : Past) (m
           (ap (λ (t : Bool). if t then inlet (Framer n) Left 0 else inlet (Strict n (count - 1 + 1)) Left 0) (eq-eqb (count - 1 + 1) count last))
           (behind (count - 1) (omega (arith, some))) in
           let part : i.inlet.part ≡ Framer n = ap (λ (x : Inlet). x.part) x in
-          let (h, d, y, z) = fires_alone fl p w inputs past m good fit kept rests wants i s (ap (waits_in (block_in fl i.context)) part) (ap is_in_cell part)
-          (ap is_credit part) in
+          let (h, d, y, z) = fires_alone fl p w inputs past m good fit kept rests calm i s (ap (waits_in (block_in fl i.context)) part) (ap is_in_cell part)
+          (ap is_turning part) in
           (h, d, y ∙ a, z ∙ part)
 
       -- and then its first argument's sender would have both words
@@ -356,9 +376,9 @@ module _ (fl : Flow) (p : Plan) (w : Wires) (inputs : List ℤ) (past : Past) (m
       not_complete =
           let (i, d, a, x) = all 0 some in
           let here : there_in fl (site_in fl w c) (wiring_in fl w c) (Sender n 0) ≡ true = (λ k. invoked k && lt-ltb 0 count some k) in
-          let (j, s, e, g) = sender_left fl p w inputs past m good fit kept rests wants c con' n 0 here region_open
-          (fanned fl p w inputs past m good fit kept rests wants c n (asked fl p w inputs past m good fit kept rests wants c n framer)) in
-          pick i d a x j e g (waits_or_taken fl p w inputs past m good fit kept rests wants j s)
+          let (j, s, e, g) = sender_left fl p w inputs past m good fit kept rests calm c con' n 0 here region_open
+          (fanned fl p w inputs past m good fit kept rests calm c n (asked fl p w inputs past m good fit kept rests calm c n framer)) in
+          pick i d a x j e g (waits_or_taken fl p w inputs past m good fit kept rests calm j s)
         where
           by_taking : (i : Item) → Waits' i → i.context ≡ c → i.inlet ≡ inlet (Sender n 0) Right 0 → (j : Item) → j.context ≡ c
               → j.inlet ≡ inlet (Sender n 0) Left 0 → (h : Firing) → Contains done h → (j.context ≡ h.context) × Takes h j → ⊥

@@ -1,5 +1,5 @@
--- At rest, where neither a frame nor a credit is wanted: what arrived at a part that takes one word was taken, and two words of a part do not both
--- wait.
+-- At rest, where no frame is wanted: what arrived at a part that takes one word was taken, and two words of a part do not both wait. Credits may be
+-- wanted.
 use Rattle.std.proofs.Common.{◌≡◌, ℕ, zero, suc, ◌+◌, ◌<◌, ◌≤◌, ℤ, Bool, true, false, ◌⊎◌, inl, inr, List, [], ◌∷◌, ◌++◌, map, Option, Some, if◌then◌else◌}
 use Rattle.std.proofs.Common.{nat_lt, refl, sym, ap, ◌∙◌, subst, arith, true≢false, lt-ltb, le-ltb}
 use Rattle.std.specs.Prelude.{Contains, flat_map}
@@ -25,7 +25,8 @@ use Rattle.law_net.specs.ContextsBlocks.{waits_in, is_loop}
 use Rattle.law_net.specs.Contexts.{Wires, block_in, wiring_in, IsContext, is_strict_in}
 use Rattle.law_net.specs.ContextsWires.{arrives_at}
 use Rattle.law_net.specs.ContextsCredits.{waits_or}
-use Rattle.law_net.specs.ContextsFirings.{takes, own_takes, renewed, request_of, given_back, arguments_from, left_item, right_way, times, turn_before, HasFired}
+use Rattle.law_net.specs.ContextsFirings.{takes, own_takes, renewed, request_of, given_back, arguments_from, left_item, right_way, times, turn_before, frame_at}
+use Rattle.law_net.specs.ContextsFirings.{HasFired}
 use Rattle.law_net.specs.ContextsLaws.{spot_there, port_fits, Carries}
 use Rattle.law_net.specs.ContextsMirror.{Past, cont_in, frame_of, word_of, slot_of, in_slot, on_side, is_asked, is_in_cell, only, conts_of}
 use Rattle.law_net.specs.ContextsMirror.{is_item_at, token_of}
@@ -39,14 +40,28 @@ use Rattle.law_net.proofs.RunsPigeons.{item_here}
 use Rattle.law_net.proofs.CreditsOpened.{NTaker}
 use Rattle.law_net.proofs.CreditsTurns.{no_later, turns_now}
 use Rattle.law_net.proofs.Credits.{firing_of, near_opened, keeps, slot_is, open_form}
+use Rattle.law_end.specs.Over.{is_turning}
 use Rattle.law_end.proofs.OverMade.{fits, word, left_stands, Mirrors}
 use Rattle.law_end.proofs.RestCells.{one_of, map_empty}
+
+-- where nothing is wanted no frame is
+pub calm_of : (m : Machine) → (Wants m → ⊥) → m.store.requests ≡ []
+calm_of m wants = go m.store.requests (λ some. wants (inl some))
+  where
+    go : (cs : List Cont) → ((cs ≡ [] → ⊥) → ⊥) → cs ≡ []
+    go [] h = refl
+    go (c ∷ cs) h = absurd (h (λ e. contains_none c (subst (λ (l : List Cont). Contains l c) e (contains_head c cs))))
 
 -- what a firing takes for another part than its own: credits, and the arguments of a strict call
 abbrev pub is_credit : Part → Bool
 is_credit (Giver n) = true
 is_credit (Drainer n) = true
 is_credit r = false
+
+credit_turns : (r : Part) → is_credit r ≡ true → is_turning r ≡ true
+credit_turns (Giver n) e = refl
+credit_turns (Drainer n) e = refl
+credit_turns r e = absurd (true≢false (sym e))
 
 pub data Takes (h : Firing) (i : Item) : Type 0 where
   Own : i.inlet.part ≡ h.part → Takes h i
@@ -168,15 +183,17 @@ module _ (fl : Flow) (p : Plan) (w : Wires) (inputs : List ℤ) (past : Past) (m
       flat_contains (λ (i : Item). cont_in (word_of fl p w done i.word)) (only test kept.tracks.net.waiting) i d (only_has test kept.tracks.net.waiting i c e)
       (subst (λ (l : List Cont). Contains l d) (sym g) (contains_head d []))
 
-  pub asked_wants : (i : Item) → Waiting i → is_asked i.inlet.part ≡ true → Wants m
-  asked_wants i c e =
+  pub asked_wants : (i : Item) → Waiting i → is_asked i.inlet.part ≡ true → m.store.requests ≡ [] → ⊥
+  asked_wants i c e none =
       let (d, g) = request_word i.context i.inlet.way i.inlet.part i.inlet.port i.word e (carries i (stood_of i c)) in
-      inl (λ none. contains_none d (subst (λ (l : List Cont). Contains l d)
+      contains_none d (subst (λ (l : List Cont). Contains l d)
       (empty_list (conts_of fl p w done (only (λ (i : Item). is_asked i.inlet.part) kept.tracks.net.waiting)) m.store.requests
-      (IsPermutation-sym _ _ kept.tracks.stands.requests) none) (conts_has (λ (i : Item). is_asked i.inlet.part) i d c e g)))
+      (IsPermutation-sym _ _ kept.tracks.stands.requests) none) (conts_has (λ (i : Item). is_asked i.inlet.part) i d c e g))
 
-  pub taker_wants : (i : Item) (n : ℕ) → Waiting i → i.inlet.part ≡ Taker n → Wants m
-  taker_wants i n c e =
+  pub taker_asks : (i : Item) (n : ℕ) → Waiting i → i.inlet.part ≡ Taker n
+      → (g : ℕ) × (frame_at fl kept.tracks.net.fired i.context ≡ Some g) × (d : Cont)
+      × (m.store.slots g ((wiring_in fl w i.context).slot (Opener n)) ≡ Waiter d)
+  taker_asks i n c e =
       let con = (fits fl p w inputs past m good fit kept i (stood_of i c)).is_context in
       let loop : is_loop (block_in fl i.context) n ≡ true = ap (spot_there fl w i.context) (sym e)
       ∙ (fits fl p w inputs past m good fit kept i (stood_of i c)).there in
@@ -190,10 +207,9 @@ module _ (fl : Flow) (p : Plan) (w : Wires) (inputs : List ℤ) (past : Past) (m
       let way = law.takes i (left_of i c) refl e in
       let over : nat_lt 0 (times i.context (Drained n) done) ≡ false =
       le-ltb 0 (times i.context (Drained n) done) (none_over con loop opened way (cases_eq (times i.context (Drained n) done) 0)) in
-      let draining = (law.law.waits d first).1 in
-      inr (
+      let draining = (law.law.waits d first).1 in (
         g,
-        (wiring_in fl w i.context).slot (Opener n),
+        at,
         d,
         slot_is fl p w inputs past m good kept i.context con n loop g at
             ∙ open_form fl p w inputs past m good kept i.context con n loop (lt-ltb 0 (times i.context (Opener n) done) opened) over
@@ -210,8 +226,19 @@ module _ (fl : Flow) (p : Plan) (w : Wires) (inputs : List ℤ) (past : Past) (m
           let turns = subst (λ (c : Context). h.turns ≤ times c (Taker n) done) a (turns_now fl p w inputs past m good kept h n arrive b) in
           absurd (omega (arith, low, turns, opened, way))
 
+  pub taker_wants : (i : Item) (n : ℕ) → Waiting i → i.inlet.part ≡ Taker n → Wants m
+  taker_wants i n c e =
+      let (g, at, d, slot) = taker_asks i n c e in inr (g, (wiring_in fl w i.context).slot (Opener n), d, slot)
+
+  -- the credit for the iteration after number t waits
+  abbrev pub Held : Context → ℕ → ℕ → Type 0
+  Held d n t = (j : Item) × Contains kept.tracks.net.waiting j × (j.context ≡ d) × (j.inlet.part ≡ Taker n) × (j.inlet.way ≡ suc t)
+
+  pub held_wants : (d : Context) (n t : ℕ) → Held d n t → Wants m
+  held_wants d n t (j, c, a, e, way) = taker_wants j n c e
+
   -- AT REST
-  module _ (rests : Resting m) (wants : Wants m → ⊥) where
+  module _ (rests : Resting m) (calm : m.store.requests ≡ []) where
     pub rests_net : kept.tracks.net.pending ≡ []
     rests_net =
         map_empty (token_of fl p w done) kept.tracks.net.pending
@@ -230,11 +257,11 @@ module _ (fl : Flow) (p : Plan) (w : Wires) (inputs : List ℤ) (past : Past) (m
         first (inl d) = absurd (contains_none i (subst (λ (l : List Item). Contains l i) rests_net d))
         first (inr d) = second (Contains-append_cases kept.tracks.net.waiting (flat_map (takes fl) done) i d)
 
-    -- WHAT WAITS: for another word, at a cell, or a credit that was given back
+    -- WHAT WAITS: for another word, at a cell, or of a loop's credits
     pub data Waits (i : Item) : Type 0 where
       InSlot : waits_in (block_in fl i.context) i.inlet.part ≡ true → Waits i
       AtCell : (n : ℕ) → i.inlet.part ≡ InCell n → Waits i
-      OfLoop : is_credit i.inlet.part ≡ true → Waits i
+      OfLoop : is_turning i.inlet.part ≡ true → Waits i
 
     held_part : (r : Part) → is_in_cell r ≡ true → (n : ℕ) × (r ≡ InCell n)
     held_part (InCell n) e = (n, refl)
@@ -246,15 +273,15 @@ module _ (fl : Flow) (p : Plan) (w : Wires) (inputs : List ℤ) (past : Past) (m
         pick : (in_slot fl i ≡ true) ⊎ ((is_asked i.inlet.part ≡ true)
             ⊎ ((is_in_cell i.inlet.part ≡ true) ⊎ ((n : ℕ) × ((i.inlet.part ≡ Giver n) ⊎ ((i.inlet.part ≡ Taker n) ⊎ (i.inlet.part ≡ Drainer n)))))) → Waits i
         pick (inl e) = InSlot e
-        pick (inr (inl e)) = absurd (wants (asked_wants i c e))
+        pick (inr (inl e)) = absurd (asked_wants i c e calm)
         pick (inr (inr (inl e))) = let (n, g) = held_part i.inlet.part e in AtCell n g
-        pick (inr (inr (inr (n, inl e)))) = OfLoop (ap is_credit e)
-        pick (inr (inr (inr (n, inr (inl e))))) = absurd (wants (taker_wants i n c e))
-        pick (inr (inr (inr (n, inr (inr e))))) = OfLoop (ap is_credit e)
+        pick (inr (inr (inr (n, inl e)))) = OfLoop (ap is_turning e)
+        pick (inr (inr (inr (n, inr (inl e))))) = OfLoop (ap is_turning e)
+        pick (inr (inr (inr (n, inr (inr e))))) = OfLoop (ap is_turning e)
 
     -- A PART that takes one word: what arrived there was taken
     pub fires_alone : (i : Item) → Stood i → waits_in (block_in fl i.context) i.inlet.part ≡ false → is_in_cell i.inlet.part ≡ false
-        → is_credit i.inlet.part ≡ false → HasFired i.context i.inlet.part done
+        → is_turning i.inlet.part ≡ false → HasFired i.context i.inlet.part done
     fires_alone i c single cell credit = pick (waits_or_taken i c)
       where
         no_wait : Waits i → ⊥
@@ -264,7 +291,7 @@ module _ (fl : Flow) (p : Plan) (w : Wires) (inputs : List ℤ) (past : Past) (m
 
         by_taking : (h : Firing) → Contains done h → (i.context ≡ h.context) × Takes h i → HasFired i.context i.inlet.part done
         by_taking h d (a, Own e) = (h, d, sym a, sym e)
-        by_taking h d (a, OfCredits e) = absurd (true≢false (sym e ∙ credit))
+        by_taking h d (a, OfCredits e) = absurd (true≢false (sym (credit_turns i.inlet.part e) ∙ credit))
         by_taking h d (a, Renewed n l e g x) = absurd (true≢false (ap (waits_in (block_in fl i.context)) (sym e) ∙ single))
 
         pick : Waiting i ⊎ ((h : Firing) × Contains done h × Contains (takes fl h) i) → HasFired i.context i.inlet.part done

@@ -14,12 +14,14 @@
 //!    back nothing names the frame (`OverLast`).
 //! 3. At rest, what arrived at a part that takes one word was taken, and two words of a part do not both wait (`RestWaits`).
 //! 4. So what waits stands for tokens of the meaning that also wait (`RestTokens`): no activity is enabled (`RestHalts`), and the meaning's state is
-//!    at rest (`RestExact`).
-//! 5. Beside the moves of the net there is a run of the meaning; each token that an item stood for was present in it (`RestStory`). So where the arms
+//!    at rest (`RestExact`). Where credits are wanted, those in iterations whose credits wait are; that is what `law_loop_credits` builds on.
+//! 5. Beside the moves of the net there is a run of the meaning; each token that an item stood for was present in it, and each input that passed in it
+//!    is that of a line that has fired (`RestStory`). So where the arms
 //!    round a call are open, the meaning has taken them, and the call is due (`CausesCalls`, `CausesDues`); no two requests are for the same context
 //!    (`CausesAsked`).
-//! 6. At rest, with nothing wanted, each context that has a frame was supplied (`CleanSupplied`), so all its parts in open arms have fired
-//!    (`CleanWhole`), and its frame was handed back (`CleanFrames`).
+//! 6. At rest, in invocations in which nothing waits for a credit or at a cell, all parts in open arms of a context that was supplied have fired
+//!    (`CleanSupplied`, `CleanWhole`). With nothing wanted and no reader waiting these are all, and each context that has a frame was supplied; so its
+//!    frame was handed back (`CleanFrames`).
 //!
 //! **The files**, by chapter.
 //! - `Over`: when a context is over; `Rest`: what the machine shows at rest; `Causes`: what it asked for; `Clean`: nothing is left.
