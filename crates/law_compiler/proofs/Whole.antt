@@ -40,7 +40,7 @@ has_main g well =
     (f.0, f.1)
 
 -- the plan that a graph becomes first is a good one
-good_plan : AllStatic → (g : Graph) → HasText g → WellFormed g → (w : Wires) × IsGood (flow_of g) (expanded (flow_of g)) w
+pub good_plan : AllStatic → (g : Graph) → HasText g → WellFormed g → (w : Wires) × IsGood (flow_of g) (expanded (flow_of g)) w
 good_plan static g text well =
     let fl : Flow = flow_of g in
     let wired = expanded_is_wired static g text well in (

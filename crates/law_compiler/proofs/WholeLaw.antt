@@ -25,7 +25,7 @@ use Rattle.law_wiring.proofs.Whole.{every_is_static}
 use Rattle.law_compiler.specs.Whole.{GraphsKeepPromises}
 use Rattle.law_compiler.proofs.Whole.{parts_suffice}
 
-packages : AllPackages
+pub packages : AllPackages
 packages = record {
   starts = starts;
   tokens = tokens_are_items;

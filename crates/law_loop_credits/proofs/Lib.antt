@@ -6,4 +6,8 @@ pub mod WaitsShared
 pub mod Waits
 -- Within
 pub mod WithinPlaces
+pub mod WithinNext
+pub mod WithinHeld
+pub mod WithinDone
 pub mod WithinParts
+pub mod WithinEnds

@@ -21,7 +21,7 @@ use Rattle.law_net.specs.Contexts.{Wires, block_in, wiring_in, IsContext}
 use Rattle.law_net.specs.ContextsCredits.{Ledger, waits_or}
 use Rattle.law_net.specs.ContextsFirings.{Config, frame_at}
 use Rattle.law_net.specs.ContextsLaws.{way_fits}
-use Rattle.law_net.specs.ContextsMirror.{Past, on_side, only, is_item_at, items_at, granted_of, first_cont, conts_of, slot_of, in_slot, frame_of, word_of, KeepsCredits}
+use Rattle.law_net.specs.ContextsMirror.{Past, on_side, only, is_item_at, items_at, is_over, granted_of, first_cont, conts_of, slot_of, in_slot, frame_of, word_of, KeepsCredits}
 use Rattle.law_net.specs.ContextsTheorem.{IsGood}
 use Rattle.law_net.specs.ContextsPackages.{Keeps, InputsFit}
 use Rattle.law_net.proofs.WiredInvoked.{block_here}
@@ -134,7 +134,7 @@ module _ (fl : Flow) (p : Plan) (w : Wires) (inputs : List ℤ) (past : Past) (m
     law = keeps fl p w inputs past m good kept c T.is_context n T.is_loop'
 
     -- the take that waits
-    waiting_take : (i : Item) × Contains net.waiting i × (i.context ≡ c) × (i.inlet.part ≡ Taker n)
+    pub waiting_take : (i : Item) × Contains net.waiting i × (i.context ≡ c) × (i.inlet.part ≡ Taker n)
     waiting_take =
         let i = first (only (is_item_at c (Taker n)) net.waiting) ledger_waits in
         let there = only_contains (is_item_at c (Taker n)) net.waiting i.0 i.1 in
@@ -208,14 +208,18 @@ module _ (fl : Flow) (p : Plan) (w : Wires) (inputs : List ℤ) (past : Past) (m
           },
         )
 
+    -- it is not over
+    pub not_over : is_over net c n ≡ false
+    not_over =
+        waiter_forms log.opened log.over log.draining log.waiter (log.granted - log.given) (most - (log.granted - log.given)) T.asker
+        (sym (slot_is fl p w inputs past m good kept c T.is_context n T.is_loop' T.frame T.has_frame) ∙ T.asks)
+
     -- the iterations that were granted are the bound more than those whose credits were given back, and what was given back waits
     pub count : (u ≡ items_at c (Giver n) net.waiting + most)
     count =
-        let forms = waiter_forms log.opened log.over log.draining log.waiter (log.granted - log.given) (most - (log.granted - log.given)) T.asker
-        (sym (slot_is fl p w inputs past m good kept c T.is_context n T.is_loop' T.frame T.has_frame) ∙ T.asks) in
         let a = (law.law.waits T.asker ledger_waits).0 in
         let b : log.given ≡ items_at c (Giver n) net.waiting =
-        ap (λ (t : Bool). if t then granted_of net c n else items_at c (Giver n) net.waiting) forms in
+        ap (λ (t : Bool). if t then granted_of net c n else items_at c (Giver n) net.waiting) not_over in
         let d = T.number in omega (arith, a, b, d)
 
 pub nets_wait_for_more : NetsWaitForMore

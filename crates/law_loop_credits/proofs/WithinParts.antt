@@ -1,4 +1,4 @@
--- Wired plans starve for credits alone only where no run of the meaning keeps within, if three parts hold: the count.
+-- Wired plans starve for credits alone only where no run of the meaning keeps within: the count.
 use Rattle.std.proofs.Common.{◌≡◌, refl, sym, ◌∙◌, subst, ℕ, ◌+◌, ◌-◌, ◌<◌, ◌⊎◌, inl, inr, ℤ, Bool, true, false, List, [], ◌∷◌, ◌++◌, map}
 use Rattle.std.proofs.Common.{length, Some, Option, arith, Contains, if◌then◌else◌}
 use Rattle.std.specs.Prelude.{slice_get}
@@ -29,9 +29,12 @@ use Rattle.law_end.proofs.RestStores.{fits_main}
 use Rattle.law_end.proofs.RestStory.{story}
 use Rattle.law_loops_complete.specs.Within.{SomeKeepsWithin, IsMissing, IsUnderWay, IsIn, place_of, HasBound}
 use Rattle.law_loops_complete.proofs.Within.{flow_missing}
+use Rattle.law_loop_credits.proofs.WithinNext.{next_is_held}
+use Rattle.law_loop_credits.proofs.WithinHeld.{held_has_token}
+use Rattle.law_loop_credits.proofs.WithinDone.{done_is_given_back}
 use Rattle.law_loop_credits.proofs.WithinPlaces.{Absent, absent, under_way_or, one_turn, at_middle}
-use Rattle.law_loop_credits.specs.NetsWait.{NoneIsLeft}
-use Rattle.law_loop_credits.specs.WithinParts.{IsGivenBack, NextOfTurn, NextIsHeld, HeldHasToken, DoneIsGivenBack, PartsSuffice}
+use Rattle.law_loop_credits.specs.NetsWait.{EndsWell, NetsStarveOutside}
+use Rattle.law_loop_credits.specs.WithinParts.{IsGivenBack, NextOfTurn}
 use Rattle.law_loop_credits.proofs.WaitsNet.{AtLoop, at_loop, Bounded, bounded, count}
 
 has_bound : (o : Option (Node ℕ)) (line : Node ℕ) (f k : ℕ) → o ≡ Some line → line.kind ≡ Kind.Loop f k → HasBound o k
@@ -59,9 +62,9 @@ only_has test (j ∷ items) i k e = go (contains_cases j items i k) (only_has te
         subst (λ (j : Item). Contains ((if test j then j ∷ [] else []) ++ only test items) i) (sym same) (here (test i) e)
     go (inr c) more = Contains-append_right (if test j then j ∷ [] else []) (only test items) i (more c e)
 
-module _ (next_held : NextIsHeld) (held_stands : HeldHasToken) (done_given : DoneIsGivenBack) (fl : Flow) (p : Plan) (w : Wires) (good : IsGood fl p w)
+module _ (fl : Flow) (p : Plan) (w : Wires) (good : IsGood fl p w)
     (inputs : List ℤ) (past : Past) (m : Machine) (fit : InputsFit fl inputs) (kept : Keeps fl p w inputs past m) (rest : Resting m)
-    (calm : m.store.requests ≡ []) (within : SomeKeepsWithin fl inputs) (left : NoneIsLeft fl inputs) where
+    (calm : m.store.requests ≡ []) (within : SomeKeepsWithin fl inputs) (ends : EndsWell fl inputs) where
   abbrev net : Config
   net = kept.tracks.net
 
@@ -127,8 +130,8 @@ module _ (next_held : NextIsHeld) (held_stands : HeldHasToken) (done_given : Don
             ⊎ ((a : Activity) → Contains M.later a → IsIn (Turned c n t) (place_of a) → ⊥) → IsUnderWay within.run c n (length M.before) t
         go (inl way) = subst (λ (l : List Activity). IsUnderWay l c n (length M.before) t) (sym M.splits) way
         go (inr none) =
-            absurd (A.none t k (in_given t (done_given fl p w inputs past m good fit kept rest calm c n u t H.waits (omega (arith, low))
-            within.run within.state within.rests (left within.state within.rests) within.is_run (happened none))))
+            absurd (A.none t k (in_given t (done_is_given_back fl p w inputs past m good fit kept rest calm c n u t H.waits (omega (arith, low))
+            ends within.run within.state within.rests within.is_run (happened none))))
 
     soon : (t : ℕ) → Contains A.ts t → (t + 1 < u) × IsUnderWay within.run c n (length M.before) t
     soon t k = let l = A.low t k in (omega (arith, l), under_way t k)
@@ -150,14 +153,14 @@ module _ (next_held : NextIsHeld) (held_stands : HeldHasToken) (done_given : Don
       go : AtRest fl (story fl p w inputs past m good fit kept).state ⊎ IsMissing fl within.run part (story fl p w inputs past m good fit kept).state → ⊥
       go (inl quiet) =
           let L : AtLoop fl p w inputs past m good fit kept = at_loop fl p w inputs past m good fit kept f s x e in
-          let T = held_stands fl p w inputs past m good fit kept rest calm L.context L.node L.turn L.waits in
+          let T = held_has_token fl p w inputs past m good fit kept rest calm L.context L.node L.turn L.waits in
           let same = (flow_determinate fl good.well inputs (fits_main fl p w inputs past m good fit kept) within.state within.rests.reached
           within.rests.at_rest within.rests.no_clash).one_end (story fl p w inputs past m good fit kept).state
           record { run = (story fl p w inputs past m good fit kept).run; is_run = (story fl p w inputs past m good fit kept).is_run } quiet in
-          contains_none T.token (subst (λ (ts : List Tagged). Contains ts T.token) (left within.state within.rests)
+          contains_none T.token (subst (λ (ts : List Tagged). Contains ts T.token) (ends.none_left within.state within.rests)
           (Contains-permutation _ _ T.token same.0 T.stands))
-      go (inr M) = never M (next_held fl p w inputs past m good fit kept rest calm M.next M.after M.enabled)
+      go (inr M) = never M (next_is_held fl p w inputs past m good fit kept rest calm M.next M.after M.enabled)
 
-pub parts_suffice : PartsSuffice
-parts_suffice next_held held_stands done_given fl p w good inputs past m fit kept f s x e rest calm within left =
-    starves next_held held_stands done_given fl p w good inputs past m fit kept rest calm within left f s x e
+pub nets_starve_outside : NetsStarveOutside
+nets_starve_outside fl p w good inputs past m fit kept f s x e rest calm within ends =
+    starves fl p w good inputs past m fit kept rest calm within ends f s x e

@@ -15,8 +15,7 @@ use Rattle.law_completion.specs.Total.{IsNotCut, Completes}
 use Rattle.law_completion.specs.TotalGraph.{NeedsAtMost}
 use Rattle.law_loops_complete.specs.Loops.{WaitsForMore}
 use Rattle.law_loops_complete.specs.LoopsComplete.{NoneOutgrows, HasSpace}
-use Rattle.law_loops_complete.specs.Within.{StarvesOutside}
-use Rattle.law_loop_credits.specs.NetsWait.{NetsStarveOutside}
+use Rattle.law_loops_complete.specs.Within.{SomeKeepsWithin, StarvesOutside}
 
 -- THE LAW. The compiler's code for a well-formed graph within the limits of a text
 abbrev pub GraphsWaitForMore : Type 0
@@ -32,7 +31,21 @@ CompiledLoopsComplete = (g : Graph) (slots : List (List ℕ)) (version : Version
     → (z : Size) (most : ℕ) → HasSpace (plan_of g).program z most d
     → (by_list may_stop : Bool) (r : Report) → Shows (code_of version (plan_of g) slots) z inputs most by_list may_stop r → IsNotCut by_list r → Completes r
 
--- If wired plans do, the code of graphs does.
+-- THE LAW OF ORDERS. It starves for credits alone only where no run of the meaning keeps each loop within its bound.
 abbrev pub GraphsStarveOutside : Type 0
-GraphsStarveOutside = NetsStarveOutside → (g : Graph) (slots : List (List ℕ)) (version : Version) → HasText g → WellFormed g → Good (plan_of g) slots
+GraphsStarveOutside = (g : Graph) (slots : List (List ℕ)) (version : Version) → HasText g → WellFormed g → Good (plan_of g) slots
     → version_number version ≡ g.version → StarvesOutside (flow_of g) (code_of version (plan_of g) slots)
+
+-- So it completes, in every order, where one does, with room for all that the meaning calls for.
+abbrev pub CompiledWithinCompletes : Type 0
+CompiledWithinCompletes = (g : Graph) (slots : List (List ℕ)) (version : Version) → HasText g → WellFormed g → Good (plan_of g) slots
+    → version_number version ≡ g.version
+    → (inputs : List ℤ) → AreInputsOf g inputs → (d t : ℕ) → NeedsAtMost g inputs d t → SomeKeepsWithin (flow_of g) inputs
+    → (z : Size) (most : ℕ) → HasSpace (plan_of g).program z most d
+    → (by_list may_stop : Bool) (r : Report) → Shows (code_of version (plan_of g) slots) z inputs most by_list may_stop r → IsNotCut by_list r → Completes r
+
+-- OPEN: the converse, that where a run of the code completes some run of the meaning keeps within. It is stated here and NOT PROVED, and nothing uses it.
+abbrev pub CompletedRunsKeepWithin : Type 0
+CompletedRunsKeepWithin = (g : Graph) (slots : List (List ℕ)) (version : Version) → HasText g → WellFormed g → Good (plan_of g) slots
+    → version_number version ≡ g.version → (inputs : List ℤ) → AreInputsOf g inputs → (z : Size) (most : ℕ) (by_list may_stop : Bool) (r : Report)
+    → Shows (code_of version (plan_of g) slots) z inputs most by_list may_stop r → Completes r → SomeKeepsWithin (flow_of g) inputs

@@ -1,9 +1,10 @@
 -- Of wired plans: where an iteration waits for a credit, its loop has outgrown its bound.
-use Rattle.std.specs.Prelude.{◌≡◌, ℕ, ℤ, true, List, [], Some}
+use Rattle.std.specs.Prelude.{◌≡◌, ℕ, ◌<◌, ℤ, true, List, [], ◌∷◌, Some, Contains}
+use Rattle.tags.specs.declared.value.Value.{Value}
 use Rattle.tags.specs.declared.token.Cont.{Cont}
 use Rattle.tags.specs.declared.slot.SlotState.TheVariants.{Waiter}
 use Rattle.semantics.specs.Graph.{Flow}
-use Rattle.semantics.specs.Meaning.{Context, State}
+use Rattle.semantics.specs.Meaning.{Context, State, Activity, Fires, Run, Stood, Due, start}
 use Rattle.semantics.specs.Machine.{Machine, Resting}
 use Rattle.semantics.specs.Plan.{Plan}
 use Rattle.source.specs.Theorem.{RestsWell}
@@ -37,13 +38,14 @@ pub record TakeWaits (fl : Flow) (w : Wires) (m : Machine) (net : Config) (c : C
   pub asks : m.store.slots frame ((wiring_in fl w c).slot (Opener n)) ≡ Waiter asker
   pub number : granted_of net c n ≡ u
 
--- Where the meaning rests well no token is left. So it is for each graph (`Settled`, `law_confluence`).
-abbrev pub NoneIsLeft : Flow → List ℤ → Type 0
-NoneIsLeft fl inputs = (s : State) → RestsWell fl inputs s → s.tokens ≡ []
+-- WHERE THE MEANING RESTS WELL no token is left, and each input of each invocation that is due has passed. So it is for each graph.
+pub record EndsWell (fl : Flow) (inputs : List ℤ) : Type 0 where
+  pub none_left : (s : State) → RestsWell fl inputs s → s.tokens ≡ []
+  pub passes : (s : State) (run : List Activity) (r : Run fl (start inputs) run s) → RestsWell fl inputs s → (c : Context)
+      → Due fl run (Stood fl (start inputs) run s r) c → (l : ℕ) → l < (block_in fl c).inputs → (v : Value) × Contains run (Fires c l (v ∷ []))
 
--- WITHIN. That a wired plan at rest, with no frame wanted, waits for a credit only where no run of the meaning keeps within is NOT PROVED; it is only
--- the condition of `GraphsStarveOutside`.
+-- WITHIN. A wired plan at rest, with no frame wanted, waits for a credit only where no run of the meaning keeps within.
 abbrev pub NetsStarveOutside : Type 0
 NetsStarveOutside = (fl : Flow) (p : Plan) (w : Wires) → IsGood fl p w → (inputs : List ℤ) (past : Past) (m : Machine) → InputsFit fl inputs
     → Keeps fl p w inputs past m → (f s : ℕ) (c : Cont) → m.store.slots f s ≡ Waiter c → Resting m → m.store.requests ≡ []
-    → SomeKeepsWithin fl inputs → NoneIsLeft fl inputs → ⊥
+    → SomeKeepsWithin fl inputs → EndsWell fl inputs → ⊥

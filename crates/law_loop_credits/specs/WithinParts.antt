@@ -1,4 +1,4 @@
--- From which parts it follows that wired plans starve for credits alone only where no run of the meaning keeps within. None of them is proved.
+-- The parts of the law that wired plans starve for credits alone only where no run of the meaning keeps within.
 use Rattle.std.specs.Prelude.{◌≡◌, ℕ, suc, ◌+◌, ◌<◌, ◌⊎◌, ℤ, List, [], Contains}
 use Rattle.semantics.specs.Graph.{Flow}
 use Rattle.semantics.specs.Meaning.{Context, Turned, Tagged, State, Activity, Step, Run, start}
@@ -13,7 +13,7 @@ use Rattle.law_net.specs.ContextsTheorem.{IsGood}
 use Rattle.law_net.specs.ContextsPackages.{InputsFit, Keeps}
 use Rattle.law_end.proofs.RestStory.{story}
 use Rattle.law_loops_complete.specs.Within.{place_of, IsIn}
-use Rattle.law_loop_credits.specs.NetsWait.{TakeWaits, NetsStarveOutside}
+use Rattle.law_loop_credits.specs.NetsWait.{TakeWaits, EndsWell}
 
 -- what iteration t gave back waits
 pub record IsGivenBack (net : Config) (c : Context) (n t : ℕ) : Type 0 where
@@ -56,10 +56,6 @@ HeldHasToken = AtRestOf (λ fl p w inputs past m good fit kept. (c : Context) (n
 -- and an iteration before the one that asks has given back its credit if all has happened that any run to the end has in it.
 abbrev pub DoneIsGivenBack : Type 0
 DoneIsGivenBack = AtRestOf (λ fl p w inputs past m good fit kept. (c : Context) (n u t : ℕ) → TakeWaits fl w m kept.tracks.net c n u → t + 1 < u
-    → (whole : List Activity) (e : State) → RestsWell fl inputs e → e.tokens ≡ [] → Run fl (start inputs) whole e
+    → EndsWell fl inputs → (whole : List Activity) (e : State) → RestsWell fl inputs e → Run fl (start inputs) whole e
     → ((a : Activity) → Contains whole a → IsIn (Turned c n t) (place_of a) → Contains (story fl p w inputs past m good fit kept).run a)
     → IsGivenBack kept.tracks.net c n t)
-
--- It follows from these three.
-abbrev pub PartsSuffice : Type 0
-PartsSuffice = NextIsHeld → HeldHasToken → DoneIsGivenBack → NetsStarveOutside

@@ -14,29 +14,54 @@
 //!    waits in that of its holder (`WaitsShared`). Emitted code has the same runs. What a wait shows is of the meaning alone, so it is the same for all
 //!    of them (`Waits`).
 //!
-//! `GraphsStarveOutside` has a condition: if wired plans at rest, with no frame wanted, wait for a credit only where no run of the meaning to its end
-//! keeps each loop within its bound, the compiler's code does. The condition, `NetsStarveOutside`, is not proved. It follows from three parts
-//! (`PartsSuffice`, in `specs/WithinParts`), which are not proved either.
+//! **Which orders complete.** `GraphsStarveOutside`: at rest, with no frame wanted, the code waits for a credit only where no run of the meaning to its
+//! end keeps each loop within its bound. So where one does, and the machine has room, the code completes in every order (`CompiledWithinCompletes`).
+//! One does, whatever the bounds, where the iterations of each loop can take place one after another (`law_ordered_runs`). That one does where a run of
+//! the code completes is open (`CompletedRunsKeepWithin`).
+//!
+//! **Why it holds.** Let wired code rest while credits wait. The meaning has come as far as the net (`RestStory`, `law_end`). Take the first activity of
+//! the run that keeps within that has not happened there (`FirstMissing`, `law_loops_complete`).
+//! 1. It is in an iteration whose credit waits (`NextIsHeld`): of what waits elsewhere no two words meet, as where nothing is wanted (`RestHalts`,
+//!    `law_end`).
+//! 2. There is such an activity (`HeldHasToken`): where a credit waits a token stands, of a flag in the iteration that asks or of the value that goes to
+//!    the next one; and no token is left where the meaning rests well.
+//! 3. An iteration before the one that asks, in which the whole run has no later activity, has given back its credit (`DoneIsGivenBack`). No token stands
+//!    in it, or in what it invoked, since the rest of the run would take it again. So nothing in it waits at a cell or for a credit. Its inputs have
+//!    passed, which only their own lines do (`Passing`, `law_net_refines_meaning`). So it was supplied, all of it has fired (`CleanWhole`, `law_end`),
+//!    and it is over.
+//! 4. So as many iterations are under way as the bound allows, and one more begins: the run does not keep within (`WithinParts`).
 //!
 //! **The files**, by chapter.
-//! - `Waits`: what a wait shows, from the net to the code; `Within`: from which parts `NetsStarveOutside` follows.
+//! - `Waits`: what a wait shows, from the net to the code; `Within`: where code starves, and which orders complete.
 #![tactic(auto)]
 
-ghost use Rattle.law_loop_credits.specs.NetsWait.{NetsWaitForMore};
-ghost use Rattle.law_loop_credits.specs.GraphsWait.{GraphsWaitForMore, CompiledLoopsComplete, GraphsStarveOutside};
-ghost use Rattle.law_loop_credits.specs.WithinParts.{PartsSuffice};
+ghost use Rattle.law_loop_credits.specs.NetsWait.{NetsWaitForMore, NetsStarveOutside};
+ghost use Rattle.law_loop_credits.specs.GraphsWait.{GraphsWaitForMore, CompiledLoopsComplete, GraphsStarveOutside, CompiledWithinCompletes};
+ghost use Rattle.law_loop_credits.specs.WithinParts.{NextIsHeld, HeldHasToken, DoneIsGivenBack};
 
-/// In a wired plan, an iteration waits for a credit only where its loop has outgrown its bound. The clause `parts` has conditions: from three parts it
-/// follows that wired plans starve for credits alone only where no run of the meaning keeps within.
+/// In a wired plan, an iteration waits for a credit only where its loop has outgrown its bound.
 pub fn nets_wait_for_more()
     ensures waits { NetsWaitForMore }
-    ensures parts { PartsSuffice }
 {}
 
-/// The compiler's code waits for a credit only where a loop has outgrown its bound. So it completes where none does, whatever the order. If wired plans
-/// starve for credits alone only where no run of the meaning keeps within, it does so, too.
+/// A wired plan starves for credits alone only where no run of the meaning keeps within: what is enabled is in an iteration whose credit waits; where
+/// one waits a token stands; and an iteration in which all has happened has given back its own.
+pub fn nets_starve_outside()
+    ensures next { NextIsHeld }
+    ensures held { HeldHasToken }
+    ensures back { DoneIsGivenBack }
+    ensures within { NetsStarveOutside }
+{}
+
+/// The compiler's code waits for a credit only where a loop has outgrown its bound. So it completes where none does, whatever the order.
 pub fn graphs_wait_for_more()
     ensures waits { GraphsWaitForMore }
     ensures complete { CompiledLoopsComplete }
+{}
+
+/// The compiler's code starves for credits alone only where no run of the meaning keeps each loop within its bound. So it completes, in every order,
+/// where one does.
+pub fn graphs_starve_outside()
     ensures within { GraphsStarveOutside }
+    ensures complete { CompiledWithinCompletes }
 {}

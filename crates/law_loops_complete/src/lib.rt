@@ -7,7 +7,7 @@
 //! the loop's own iterations, in one invocation, suffices. One run of the meaning to its end tells (`OneRunBounds`).
 //!
 //! `WithinCompletes`, in `specs/Within`, is the same of code that starves for credits alone only where no run of the meaning to its end keeps each
-//! loop within its bound. That the compiler's code is such code is not proved. `FirstMissing` is a step towards it.
+//! loop within its bound. That the compiler's code is such code is the law of `law_loop_credits`. `FirstMissing` is a step towards it.
 //!
 //! **Why it holds.**
 //! 1. By `RoomyRunsComplete` (`law_completion`) it is enough that no run starves for a credit.

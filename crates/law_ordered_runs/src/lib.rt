@@ -10,7 +10,7 @@
 //!   the evaluation has calls and iterations (`ProgramsComeToRest`); and true code of the graph completes, in every order, on a machine with a frame for
 //!   main and for each of these, with steps for these, and with bounds that are at least the iterations of all loops (`ProgramsInOrderComplete`). Faithful
 //!   code completes there whatever the bounds are, if it starves for credits alone only where no run of the meaning to its end keeps within
-//!   (`ProgramsInOrderCompleteWithin`). That is a condition on the code, which is not proved of the compiler's.
+//!   (`ProgramsInOrderCompleteWithin`). That is a condition on the code; `law_loop_credits` proves it of the compiler's.
 //! - `one_after_another_keeps`: a run in which iterations take place one after another keeps each loop within its bound, if that is at least 2.
 //! - `runs_go_on` (`specs/RunsGoOn`): an activity all of whose tokens have been present has happened, or can happen where the memory allows it; a run in
 //!   which all such have happened is at rest.

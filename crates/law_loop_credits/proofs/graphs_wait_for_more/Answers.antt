@@ -6,6 +6,3 @@ returns-clause-waits c = Waits.graphs_wait_for_more
 
 pub returns-clause-complete : goal.returns-clause-complete
 returns-clause-complete c = Waits.compiled_loops_complete
-
-pub returns-clause-within : goal.returns-clause-within
-returns-clause-within c = Waits.graphs_starve_outside
