@@ -15,7 +15,8 @@ use Rattle.law_completion.specs.Total.{IsNotCut, Completes}
 use Rattle.law_completion.specs.TotalGraph.{NeedsAtMost, IsLargeEnough}
 use Rattle.law_compiled_code_completes.proofs.Compiled.{compiled_code_completes}
 use Rattle.law_loops_complete.specs.LoopsComplete.{NoneOutgrows, HasSpace}
-use Rattle.law_loop_credits.proofs.Waits.{compiled_loops_complete}
+use Rattle.law_loops_complete.specs.Within.{SomeKeepsWithin}
+use Rattle.law_loop_credits.proofs.Waits.{compiled_loops_complete, compiled_within_completes}
 use Rattle.driver.specs.Orders.{size_of}
 use Rattle.driver.specs.Headline.{ReportsOf, ReportsTruthIn, ReportsQuietly}
 
@@ -62,6 +63,29 @@ pub own_bounds_suffice_quietly : (mode : Mode) (text : List ℕ) (g : Graph) (in
     → HasSpace (plan_of g).program (size_of c) c.steps d → IsNotCut false r → Completes r
 own_bounds_suffice_quietly mode text g inputs c may_stop r h d t needs none space uncut =
     let v = own_bounds_suffice_in mode text g inputs c may_stop (with_events r h.2.1) h.2.2 d t needs none space
+    record { memory = uncut.memory; gate = uncut.gate; list = uncut.list } in
+    record { rest = v.rest; none_waits = v.none_waits }
+
+-- where some run of the meaning keeps within
+pub kept_order_suffices : (text : List ℕ) (g : Graph) (inputs : List ℤ) (z : Size) (steps : ℕ) (by_list may_stop : Bool) (r : Report)
+    → ReportsOf text g inputs z steps by_list may_stop r → (d t : ℕ) → NeedsAtMost g inputs d t → SomeKeepsWithin (flow_of g) inputs
+    → HasSpace (plan_of g).program z steps d → IsNotCut by_list r → Completes r
+kept_order_suffices text g inputs z steps by_list may_stop r h d t needs within space uncut =
+    compiled_within_completes g h.made.slots h.made.version h.is_text.1 h.well_formed h.made.assigned.good h.made.version_is inputs h.inputs_fit d t needs within z
+    steps space by_list may_stop r (subst (λ (p : Program). Shows p z inputs steps by_list may_stop r) h.made.program h.shows) uncut
+
+pub kept_order_suffices_in : (mode : Mode) (text : List ℕ) (g : Graph) (inputs : List ℤ) (c : Config) (may_stop : Bool) (r : Report)
+    → ReportsTruthIn mode text g inputs c may_stop r → (d t : ℕ) → NeedsAtMost g inputs d t → SomeKeepsWithin (flow_of g) inputs
+    → HasSpace (plan_of g).program (size_of c) c.steps d → IsNotCut false r → Completes r
+kept_order_suffices_in Mode.One text g inputs c may_stop r h = kept_order_suffices text g inputs (size_of c) c.steps false false r h.0
+kept_order_suffices_in Mode.Rounds text g inputs c may_stop r h = kept_order_suffices text g inputs (size_of c) c.steps false may_stop r h
+kept_order_suffices_in Mode.Free text g inputs c may_stop r h = kept_order_suffices text g inputs (size_of c) c.steps false may_stop r h
+
+pub kept_order_suffices_quietly : (mode : Mode) (text : List ℕ) (g : Graph) (inputs : List ℤ) (c : Config) (may_stop : Bool) (r : Report)
+    → ReportsQuietly mode text g inputs c may_stop r → (d t : ℕ) → NeedsAtMost g inputs d t → SomeKeepsWithin (flow_of g) inputs
+    → HasSpace (plan_of g).program (size_of c) c.steps d → IsNotCut false r → Completes r
+kept_order_suffices_quietly mode text g inputs c may_stop r h d t needs within space uncut =
+    let v = kept_order_suffices_in mode text g inputs c may_stop (with_events r h.2.1) h.2.2 d t needs within space
     record { memory = uncut.memory; gate = uncut.gate; list = uncut.list } in
     record { rest = v.rest; none_waits = v.none_waits }
 

@@ -10,6 +10,7 @@ use Rattle.law_compiler.specs.Objects.{plan_of}
 use Rattle.law_completion.specs.Total.{IsNotCut, Completes}
 use Rattle.law_completion.specs.TotalGraph.{NeedsAtMost, IsLargeEnough}
 use Rattle.law_loops_complete.specs.LoopsComplete.{NoneOutgrows, HasSpace}
+use Rattle.law_loops_complete.specs.Within.{SomeKeepsWithin}
 use Rattle.driver.specs.Orders.{size_of}
 use Rattle.driver.specs.Headline.{ReportsOf, ReportsTruthIn, ReportsQuietly}
 
@@ -49,4 +50,22 @@ OwnBoundsSufficeIn = (mode : Mode) (text : List ℕ) (g : Graph) (inputs : List 
 abbrev pub OwnBoundsSufficeQuietly : Type 0
 OwnBoundsSufficeQuietly = (mode : Mode) (text : List ℕ) (g : Graph) (inputs : List ℤ) (c : Config) (may_stop : Bool) (r : Report)
     → ReportsQuietly mode text g inputs c may_stop r → (d t : ℕ) → NeedsAtMost g inputs d t → NoneOutgrows (flow_of g) inputs
+    → HasSpace (plan_of g).program (size_of c) c.steps d → IsNotCut false r → Completes r
+
+-- WHICH ORDERS. It is enough that some run of the meaning to its end keeps each loop within its bound. So it is for a report of a run in any order,
+abbrev pub KeptOrderSuffices : Type 0
+KeptOrderSuffices = (text : List ℕ) (g : Graph) (inputs : List ℤ) (z : Size) (steps : ℕ) (by_list may_stop : Bool) (r : Report)
+    → ReportsOf text g inputs z steps by_list may_stop r → (d t : ℕ) → NeedsAtMost g inputs d t → SomeKeepsWithin (flow_of g) inputs
+    → HasSpace (plan_of g).program z steps d → IsNotCut by_list r → Completes r
+
+-- in each mode,
+abbrev pub KeptOrderSufficesIn : Type 0
+KeptOrderSufficesIn = (mode : Mode) (text : List ℕ) (g : Graph) (inputs : List ℤ) (c : Config) (may_stop : Bool) (r : Report)
+    → ReportsTruthIn mode text g inputs c may_stop r → (d t : ℕ) → NeedsAtMost g inputs d t → SomeKeepsWithin (flow_of g) inputs
+    → HasSpace (plan_of g).program (size_of c) c.steps d → IsNotCut false r → Completes r
+
+-- and where the report lists no events.
+abbrev pub KeptOrderSufficesQuietly : Type 0
+KeptOrderSufficesQuietly = (mode : Mode) (text : List ℕ) (g : Graph) (inputs : List ℤ) (c : Config) (may_stop : Bool) (r : Report)
+    → ReportsQuietly mode text g inputs c may_stop r → (d t : ℕ) → NeedsAtMost g inputs d t → SomeKeepsWithin (flow_of g) inputs
     → HasSpace (plan_of g).program (size_of c) c.steps d → IsNotCut false r → Completes r

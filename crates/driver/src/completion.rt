@@ -2,6 +2,7 @@
 
 ghost use Rattle.driver.specs.Completes.{ReportsComplete, ModesComplete, QuietReportsComplete};
 ghost use Rattle.driver.specs.Completes.{OwnBoundsSuffice, OwnBoundsSufficeIn, OwnBoundsSufficeQuietly};
+ghost use Rattle.driver.specs.Completes.{KeptOrderSuffices, KeptOrderSufficesIn, KeptOrderSufficesQuietly};
 
 /// A report of a run over a machine that is large enough for what the graph's meaning calls for ends at rest with no deferred reader, in any order of
 /// the events, in each mode, and where the report lists no events: so it has the only outcome of the meaning.
@@ -23,4 +24,14 @@ pub fn own_bounds_suffice()
     ensures reports { OwnBoundsSuffice }
     ensures modes { OwnBoundsSufficeIn }
     ensures quiet { OwnBoundsSufficeQuietly }
+{}
+
+/// The same where some run of the meaning to its end keeps each loop within its bound: then every order does.
+///
+/// A run keeps a loop with bound `k` within it if, whenever iteration `u` of it has an activity, fewer than `k - 1` of the iterations before `u - 1` have
+/// one later. The frames, the steps, and what cuts a run off are as for [`reports_complete`].
+pub fn kept_order_suffices()
+    ensures reports { KeptOrderSuffices }
+    ensures modes { KeptOrderSufficesIn }
+    ensures quiet { KeptOrderSufficesQuietly }
 {}

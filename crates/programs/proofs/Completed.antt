@@ -11,8 +11,8 @@ use Rattle.source.specs.Tokens.{program_of}
 use Rattle.law_confluence.specs.Outcome.{AreInputsOf}
 use Rattle.law_program_counts.specs.ProgramCounts.{TextsCallForCounted}
 use Rattle.driver.specs.Headline.{ReportsTruthIn, ReportsQuietly}
-use Rattle.driver.proofs.Completed.{quiet_completes, own_bounds_suffice_quietly}
-use Rattle.programs.specs.Laws.{ProgramsComplete, CountedProgramsComplete, OwnBoundsSufficeProgram}
+use Rattle.driver.proofs.Completed.{quiet_completes, own_bounds_suffice_quietly, kept_order_suffices_quietly}
+use Rattle.programs.specs.Laws.{ProgramsComplete, CountedProgramsComplete, OwnBoundsSufficeProgram, KeptOrderSufficesProgram}
 use Rattle.programs.proofs.Shown.{lowered_text}
 
 pub programs_complete : ProgramsComplete
@@ -46,4 +46,14 @@ own_bounds_suffice counted mode text inputs c may_stop r report s rests k none s
     let calls = counted (program_of text) report.program report.graph (origin_of report.program) low report.lowers.well_formed inputs fits s rests k in
     let v = own_bounds_suffice_quietly mode (text_of report.graph) report.graph inputs c may_stop r report.truth _ _
     (record { state = s; rests = rests; calls = calls.at_most }) none space uncut in
+    (v, report.shows v.rest v.none_waits)
+
+-- and it is enough that some run of the meaning keeps within
+pub kept_order_suffices : TextsCallForCounted → KeptOrderSufficesProgram
+kept_order_suffices counted mode text inputs c may_stop r report s rests k within space uncut =
+    let low = lowered_text text report.program report.graph report.lowers in
+    let fits = quiet_fit mode (text_of report.graph) report.graph inputs c may_stop r report.truth in
+    let calls = counted (program_of text) report.program report.graph (origin_of report.program) low report.lowers.well_formed inputs fits s rests k in
+    let v = kept_order_suffices_quietly mode (text_of report.graph) report.graph inputs c may_stop r report.truth _ _
+    (record { state = s; rests = rests; calls = calls.at_most }) within space uncut in
     (v, report.shows v.rest v.none_waits)

@@ -18,8 +18,9 @@ use Rattle.source.specs.Tokens.{program_of}
 use Rattle.lowered_text.specs.Lowers.{Lowers}
 use Rattle.law_ordered_runs.specs.InOrderCompletes.{EvaluatesInOrder, ComesToRest, ProgramsComeToRest}
 use Rattle.driver.specs.Headline.{IsOutcome, ReportsOf, ReportsTruthIn}
+use Rattle.driver.proofs.Completed.{kept_order_suffices_quietly}
 use Rattle.programs.specs.InOrder.{OrderedProgramsComplete}
-use Rattle.programs.proofs.Completed.{programs_complete, quiet_fit}
+use Rattle.programs.proofs.Completed.{quiet_fit}
 use Rattle.programs.proofs.Shown.{lowered_text, evaluation_shown}
 
 -- a state at rest leads to itself alone
@@ -51,11 +52,12 @@ module _ (text : List ℕ) (p : Program) (g : Graph) (h : Lowers text p g) (inpu
   mode_shown Mode.Free c may_stop r t = report_shown _ _ _ _ r t
 
 pub ordered_programs_complete : ProgramsComeToRest → OrderedProgramsComplete
-ordered_programs_complete come mode text inputs c may_stop r report k large uncut =
+ordered_programs_complete come mode text inputs c may_stop r report k space uncut =
     let low = lowered_text text report.program report.graph report.lowers in
     let fits = quiet_fit mode (text_of report.graph) report.graph inputs c may_stop r report.truth in
     let at = come (program_of text) report.program report.graph (origin_of report.program) low report.lowers.well_formed inputs fits k in
-    let v = programs_complete mode text inputs c may_stop r report _ _ (record { state = at.state; rests = at.rests; calls = at.calls }) large uncut in
+    let v = kept_order_suffices_quietly mode (text_of report.graph) report.graph inputs c may_stop r report.truth _ _
+    (record { state = at.state; rests = at.rests; calls = at.calls }) at.within space uncut in
     let shown = mode_shown text report.program report.graph report.lowers inputs k.memory k.computes at.state at.rests at.memory mode c may_stop
-    (with_events r report.truth.2.1) report.truth.2.2 v.0.rest v.0.none_waits in
-    (v.0, v.1, shown.0, shown.1)
+    (with_events r report.truth.2.1) report.truth.2.2 v.rest v.none_waits in
+    (v, report.shows v.rest v.none_waits, shown.0, shown.1)

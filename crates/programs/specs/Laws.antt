@@ -17,6 +17,7 @@ use Rattle.law_completion.specs.Total.{IsNotCut, Completes}
 use Rattle.law_completion.specs.TotalGraph.{NeedsAtMost, IsLargeEnough}
 use Rattle.law_completion.specs.TotalProgram.{Count, count_of}
 use Rattle.law_loops_complete.specs.LoopsComplete.{NoneOutgrows, HasSpace}
+use Rattle.law_loops_complete.specs.Within.{SomeKeepsWithin}
 use Rattle.driver.specs.declared.fault.Fault.{Fault}
 use Rattle.driver.specs.Orders.{size_of}
 use Rattle.driver.specs.Headline.{ReportsOf, ReportsTruthIn, ReportsQuietly}
@@ -75,6 +76,16 @@ abbrev pub OwnBoundsSufficeProgram : Type 0
 OwnBoundsSufficeProgram = (mode : Mode) (text : List ℕ) (inputs : List ℤ) (c : Config) (may_stop : Bool) (r : Report)
     → (report : ReportsProgram mode text inputs c may_stop r) → (s : State) → RestsWell (flow_of report.graph) inputs s
     → (k : Computes report.program (origin_of report.program) inputs s.memory) → NoneOutgrows (flow_of report.graph) inputs
+    → HasSpace (plan_of report.graph).program (size_of c) c.steps
+    ((count_of report.program (origin_of report.program) inputs s.memory k).calls
+    + (count_of report.program (origin_of report.program) inputs s.memory k).turns)
+    → IsNotCut false r → Completes r × ShowsProgram report.program inputs r
+
+-- WHICH ORDERS. The same, where some run of the meaning of the program's graph to its end keeps each loop within its bound.
+abbrev pub KeptOrderSufficesProgram : Type 0
+KeptOrderSufficesProgram = (mode : Mode) (text : List ℕ) (inputs : List ℤ) (c : Config) (may_stop : Bool) (r : Report)
+    → (report : ReportsProgram mode text inputs c may_stop r) → (s : State) → RestsWell (flow_of report.graph) inputs s
+    → (k : Computes report.program (origin_of report.program) inputs s.memory) → SomeKeepsWithin (flow_of report.graph) inputs
     → HasSpace (plan_of report.graph).program (size_of c) c.steps
     ((count_of report.program (origin_of report.program) inputs s.memory k).calls
     + (count_of report.program (origin_of report.program) inputs s.memory k).turns)

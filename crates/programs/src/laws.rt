@@ -2,7 +2,7 @@
 
 ghost use Rattle.programs.specs.InOrder.{OrderedProgramsComplete};
 ghost use Rattle.programs.specs.Laws.{ReportsShowPrograms, ModesShowPrograms, QuietReportsShowPrograms, RefusalsAreTheTexts, ProgramsComplete, CountedProgramsComplete};
-ghost use Rattle.programs.specs.Laws.{OwnBoundsSufficeProgram};
+ghost use Rattle.programs.specs.Laws.{OwnBoundsSufficeProgram, KeptOrderSufficesProgram};
 
 /// A report of the text of a lowered program's graph is true of the program.
 ///
@@ -43,11 +43,20 @@ pub fn own_bounds_suffice()
     law_program_counts::programs_complete_counted();
 }
 
+/// The same where some run of the meaning of the program's graph to its end keeps each loop within its bound: then every order does.
+///
+/// What that is `driver::completion::kept_order_suffices` says. The frames and the steps are counted in the program's own evaluation.
+pub fn kept_order_suffices()
+    ensures { KeptOrderSufficesProgram }
+{
+    law_program_counts::programs_complete_counted();
+}
+
 /// What an ordinary sequential run of a program computes, the machine computes, in every mode and every order of the elements' steps.
 ///
 /// Let the program read each cell behind the store that fills it, in the order of the text, iteration after iteration. Where the machine has a frame for
-/// main, for each call and for each iteration of that evaluation, and steps and credits for these, a report that was not cut off ends at rest with no
-/// deferred reader, and has the evaluation's outputs and cells. Each loop's bound has to be at least the iterations of all loops.
+/// main, for each call and for each iteration of that evaluation, and steps for these, a report that was not cut off ends at rest with no deferred
+/// reader, and has the evaluation's outputs and cells. So it is whatever the bounds of the program's loops are.
 pub fn programs_complete_in_order()
     ensures { OrderedProgramsComplete }
 {
