@@ -13,7 +13,7 @@ use schedule::report::Report;
 use std::alloc::{AllocError, Allocator};
 
 /// The books of the events that the report lists, from number `first` on. The report is of a run of the object. It takes as much memory as the
-/// machine, and as the books. An error is that this was refused.
+/// machine, as all tokens that the run makes, and as the books. An error is that this was refused.
 pub fn books_of<A: Allocator + Clone>(
     alloc: A,
     object: &OwnedObject<A>,

@@ -1,6 +1,6 @@
 -- An event of the lane that is all of the machine, as an entry of the books.
 use Rattle.std.proofs.Common.{◌≡◌, refl, sym, ◌∙◌, ap, subst, ℕ, suc, ◌+◌, ◌*◌, ◌<◌, Bool, true, false, not, List, [], ◌∷◌, ◌++◌, length}
-use Rattle.std.proofs.Common.{map, set, Option, Some, None, arith, lit<}
+use Rattle.std.proofs.Common.{map, set, Option, Some, None, arith}
 use Rattle.std.specs.Prelude.{◌==◌, nat_lt, if◌then◌else◌, remove, slice_get, IsPermutation}
 use Rattle.std.specs.List.{range_with_len}
 use Rattle.std.proofs.Math.Nat.{mod-one, mod-eq_of_lt}
@@ -109,7 +109,7 @@ module _ (p : Program) (x : Extent) (l k : LaneView) (whole : IsWhole p x l) (z 
   others = remove (on_way ps) place
 
   first : place_of (with_queue l.held (t ∷ [])) 0 ≡ 0
-  first = mod-eq_of_lt {0} {length (t ∷ [])} (lit< tt)
+  first = let low : 0 < length (t ∷ []) = omega arith in mod-eq_of_lt low
 
   token_same : does.token ≡ t
   token_same = let both : Some does.token ≡ Some t = sym does.picks.token ∙ ap (λ (i : ℕ). slice_get (t ∷ []) i) first in cc (both)

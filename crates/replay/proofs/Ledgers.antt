@@ -1,9 +1,9 @@
 -- What a ledger is filled with.
 use Rattle.std.proofs.Common.{◌≡◌, refl, sym, ◌∙◌, ap, subst, ℕ, ◌+◌, ◌*◌, ◌<◌, ◌≤◌, ℤ, List, [], ◌∷◌, ◌++◌, length, map, take, get_or, suc, Option, Some}
-use Rattle.std.proofs.Common.{arith, length-map, length-take-le, take_all, lit<}
+use Rattle.std.proofs.Common.{arith, length-take-le, take_all, lit<}
 use Rattle.std.specs.Prelude.{All}
 use Rattle.std.specs.List.{range_with_len}
-use Rattle.std.proofs.lemmas.List.{take_more}
+use Rattle.std.proofs.lemmas.List.{take_more, length-map}
 use Rattle.std.proofs.lemmas.List.Elements.{All-nil, All-cons, All-append, All-weaker}
 use Rattle.tags.specs.declared.value.Value.TheVariants.{Int}
 use Rattle.tags.specs.declared.token.Port.TheVariants.{Left}
@@ -14,14 +14,15 @@ use Rattle.tags.specs.declared.token.Token.{Token}
 use Rattle.tags.specs.Addresses.{element_of}
 use Rattle.semantics.specs.Program.{Program, first_of}
 use Rattle.semantics.specs.Rule.{token}
-use Rattle.semantics.specs.Machine.{Store, Size, Events, input_tokens, at_start}
+use Rattle.semantics.specs.Machine.{Store, Size, Events, input_tokens}
 use Rattle.element.specs.Near.{Bounds, IsNearToken}
-use Rattle.element.specs.Holding.{LaneView, Fixed, IsFor, IsSoundLane, fixed_of, bounds_at, with_more, emptied}
+use Rattle.element.specs.Holding.{LaneView, Fixed, IsFor, IsSoundLane, fixed_of, bounds_at, with_queue, with_more, emptied}
 use Rattle.element.specs.Openings.{StartsAs}
+use Rattle.element.specs.Steps.{Does}
 use Rattle.replay.specs.Views.{EntryView}
 use Rattle.replay.specs.declared.entry.Change.{Change}
 use Rattle.replay.specs.Books.{Book, IsEntry, AreEntries, opening, changed, all_changed}
-use Rattle.replay.specs.Entering.{start_tokens, on_way, numbers_from, IsWhole, Records}
+use Rattle.replay.specs.Entering.{start_tokens, on_way, numbers_from, IsWhole, Records, Took, IsExcluded, IsFirstExcluded}
 use Rattle.replay.specs.declared.extent.Extent.{Extent}
 use Rattle.replay.proofs.Entering.{on_first}
 use Rattle.replay.proofs.Places.{all_on_way, all_numbers}
@@ -91,19 +92,35 @@ more_sound l t sound fit k is = subst (λ (v : LaneView). IsSoundLane v.program 
   answered = sound.answered;
 })
 
--- as is one without its tokens
-pub emptied_sound : (l k : LaneView) → IsSoundLane l.program l.held → k ≡ emptied l → IsSoundLane k.program k.held
-emptied_sound l k sound is = subst (λ (v : LaneView). IsSoundLane v.program v.held) (sym is) (record {
-  part = sound.part;
-  near = All-nil (IsNearToken (bounds_at (fixed_of l)));
-  addressed = All-nil (λ (u : Token). element_of l.held.part.shape.elements u.to ≡ l.held.part.shape.element);
-  answered = sound.answered;
-})
-
 -- a lane can receive what it holds
 pub held_for : (l : LaneView) (f : Fixed) → IsSoundLane l.program l.held → fixed_of l ≡ f → All (IsFor f) l.held.queue
 held_for l f sound is = subst (λ (x : Fixed). All (IsFor x) l.held.queue) is
     (λ i d low. record { near = sound.near i d low; addressed = sound.addressed i d low })
+
+-- THE LANE'S ONE TOKEN. It had none, and received this one.
+module _ (l k : LaneView) (t u : Token) (idle : l.held.queue ≡ []) (same : u ≡ t) (is : k ≡ with_more l (u ∷ [])) where
+  alone : k ≡ with_more (emptied l) (t ∷ [])
+  alone = is ∙ ap (λ (ts : List Token). record { program = l.program; steps = l.steps; held = with_queue l.held (ts ++ u ∷ []) }) idle
+      ∙ ap (λ (x : Token). record { program = l.program; steps = l.steps; held = with_queue l.held (x ∷ []) }) same
+
+  pub has_one : 0 < length k.held.queue
+  has_one = let some : 0 < length (t ∷ []) = omega arith in subst (λ (v : LaneView). 0 < length v.held.queue) (sym alone) some
+
+  pub takes_one : (m n : LaneView) (made sent : List Token) → Does k.program k.held 0 [] m.held sent → made ≡ m.held.queue → n ≡ emptied m
+      → Took l.program l t made n
+  takes_one m n made sent does made_are after = record {
+    between = m.held;
+    sent = sent;
+    does = subst (λ (v : LaneView). Does v.program v.held 0 [] m.held sent) alone does;
+    made_are = made_are;
+    after = ap (λ (v : LaneView). v.held) after;
+  }
+
+  pub excludes_one : IsFirstExcluded k → IsExcluded l t
+  excludes_one excluded = (subst (λ (v : LaneView). IsFirstExcluded v) alone excluded) t refl
+
+  pub same_fixed : fixed_of k ≡ fixed_of l
+  same_fixed = ap fixed_of alone
 
 -- THE START. What the ledger has then is what the books have that are opened.
 pub opened_records : (p : Program) (l : LaneView) (inputs : List ℤ) (tokens : List Token) (places more : List (Option Token))
@@ -111,7 +128,7 @@ pub opened_records : (p : Program) (l : LaneView) (inputs : List ℤ) (tokens : 
     → Records l more (opening p inputs)
 opened_records p l inputs tokens places more starts none are more_are =
     let is : more ≡ map Some tokens = more_are ∙ ap (λ (ps : List (Option Token)). ps ++ map Some tokens) none in
-    let long = length-map Some tokens in
+    let long = length-map tokens Some in
     record {
       part = starts inputs;
       pool = sym (ap on_way is ∙ all_on_way tokens ∙ are);

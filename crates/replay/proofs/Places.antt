@@ -1,9 +1,9 @@
 -- The tokens that are on their way, in the places of their numbers.
 use Rattle.std.proofs.Common.{◌≡◌, refl, sym, ◌∙◌, ap, subst, ℕ, zero, suc, ◌+◌, ◌<◌, List, [], ◌∷◌, ◌++◌, length, map, set, take, drop, get_or, Option, Some, None}
-use Rattle.std.proofs.Common.{arith, length-set, length-append, length-map, take_all}
-use Rattle.std.specs.Prelude.{remove, slice_get, All, Contains, IsPermutation, IfSome}
+use Rattle.std.proofs.Common.{arith, length-set, length-append, length-take-le}
+use Rattle.std.specs.Prelude.{remove, slice_get, All, Contains, IsPermutation}
 use Rattle.std.specs.List.{range_with_len}
-use Rattle.std.proofs.lemmas.List.{take_more}
+use Rattle.std.proofs.lemmas.List.{take_more, length-map}
 use Rattle.std.proofs.lemmas.List.Elements.{All-take, All-drop, All-append}
 use Rattle.std.proofs.lemmas.List.Sorted.{IsPermutation-remove}
 use Rattle.std.proofs.lemmas.Option.{slice_get_within, slice_get-get_or, get_or_from_slice_get}
@@ -97,7 +97,7 @@ module _ (ps qs : List (Option Token)) (n : ℕ) (t : Token) (made : List Token)
   next_after =
       let sum = length-append (set ps n None) (map Some made) in
       let one = length-set ps n None in
-      let other = length-map Some made in
+      let other = length-map made Some in
       let whole : length qs ≡ length (set ps n None ++ map Some made) = ap (λ (l : List (Option Token)). length l) is in
       omega (arith, sum, one, other, whole)
 
@@ -128,9 +128,18 @@ pub contained : (ps : List (Option Token)) (t : Token) → Contains (on_way ps) 
 contained ps t c = numbered ps c.0 t (slice_get-get_or (on_way ps) c.0 t c.1 ∙ ap (λ (x : Token). Some x) c.2)
 
 -- ONE PLACE MORE is looked at.
-pub on_way_more : (ps : List (Option Token)) (i : ℕ) (p : Option Token) → i < length ps → p ≡ get_or ps i p
-    → on_way (take (i + 1) ps) ≡ on_way (take i ps) ++ on_way (p ∷ [])
-on_way_more ps i p low is = ap on_way (take_more ps i p low ∙ ap (λ (q : Option Token). take i ps ++ q ∷ []) (sym is)) ∙ on_way_append (take i ps) (p ∷ [])
+one_more : (ps : List (Option Token)) (i : ℕ) (p : Option Token) → i < length ps → p ≡ get_or ps i p → take (i + 1) ps ≡ take i ps ++ p ∷ []
+one_more ps i p low is = take_more ps i p low ∙ ap (λ (q : Option Token). take i ps ++ q ∷ []) (sym is)
 
-pub on_way_all : (ps : List (Option Token)) (i : ℕ) → length ps < i + 1 → on_way (take i ps) ≡ on_way ps
-on_way_all ps i high = ap on_way (take_all i ps (omega (arith, high)))
+pub tokens_more : (ps : List (Option Token)) (i : ℕ) (p : Option Token) (old new : List Token) → i < length ps → p ≡ get_or ps i p → old ≡ on_way (take i ps)
+    → new ≡ old ++ on_way (p ∷ []) → new ≡ on_way (take (i + 1) ps)
+tokens_more ps i p old new low is was now = now ∙ ap (λ (ts : List Token). ts ++ on_way (p ∷ [])) was ∙ sym (ap on_way (one_more ps i p low is)
+    ∙ on_way_append (take i ps) (p ∷ []))
+
+pub numbers_more : (ps : List (Option Token)) (i : ℕ) (p : Option Token) (old new : List ℕ) → i < length ps → p ≡ get_or ps i p
+    → old ≡ numbers_from 0 (take i ps) → new ≡ old ++ numbers_from i (p ∷ []) → new ≡ numbers_from 0 (take (i + 1) ps)
+numbers_more ps i p old new low is was now =
+    let long : length (take i ps) ≡ i = length-take-le i ps (omega (arith, low)) in
+    let first : 0 + length (take i ps) ≡ i = omega (arith, long) in
+    now ∙ ap (λ (ns : List ℕ). ns ++ numbers_from i (p ∷ [])) was ∙ sym (ap (numbers_from 0) (one_more ps i p low is) ∙ numbers_append 0 (take i ps) (p ∷ [])
+    ∙ ap (λ (n : ℕ). numbers_from 0 (take i ps) ++ numbers_from n (p ∷ [])) first)

@@ -104,7 +104,8 @@ fn keep_in<C: Instructions, A: Allocator + Clone>(
 
 /// The books of `events` of a run on these inputs, before which there were the events `earlier`. The machine hands out the free frame of least
 /// number, and gives a released frame to the request that has waited longest. What is answered is a run of the machine by these events.
-/// `NotARun` says that no machine of this extent has such a run by them. It takes as much memory as the machine, and as the books.
+/// `NotARun` says that no machine of this extent has such a run by them. It takes as much memory as the machine, as all tokens that the run
+/// makes, and as the books.
 pub fn keep_books<C: Instructions, A: Allocator + Clone>(
     alloc: A,
     code: &C,

@@ -1,6 +1,6 @@
 //! The books of a run while they are kept.
 
-ghost use Rattle.std.specs.Prelude.{◌≡◌, ◌<◌, ◌≤◌, ◌++◌, ◌^◌, [], true, false, None, Some, length, map, set, nat_lt, slice_get, All, List, ℕ, IfOk, IfErr, IfSome, IfNone, OnOk};
+ghost use Rattle.std.specs.Prelude.{◌≡◌, ◌<◌, ◌≤◌, ◌++◌, ◌∷◌, ◌^◌, [], true, false, None, Some, length, map, set, nat_lt, slice_get, All, List, ℕ, IfOk, IfErr, IfSome, IfNone, OnOk};
 ghost use Rattle.semantics.specs.Program.{Program};
 ghost use Rattle.replay.specs.Books.{frame_change, host_change};
 ghost use Rattle.element.specs.Holding.{fixed_of, IsFor, IsSoundLane};
@@ -205,17 +205,42 @@ fn place_all<A: Allocator>(
     Ok(())
 }
 
+// The token of one place more, if it has one.
+fn add_token<A: Allocator>(
+    tokens: &mut Vec<Token, A>,
+    place: Option<Token>,
+) -> Result<(), AllocError>
+    ensures { OnOk result (tokens.new.items ≡ tokens.old.items ++ on_way (place ∷ [])) }
+{
+    if let Some(token) = place {
+        tokens.push(token)?;
+    }
+    Ok(())
+}
+
 // The tokens that are on their way.
 fn tokens_in<A: Allocator>(alloc: A, places: &[Option<Token>]) -> Result<Vec<Token, A>, AllocError>
     ensures { IfOk result (λ tokens. tokens.items ≡ on_way places.now) }
 {
     let mut tokens = Vec::new(alloc);
     for place in places {
-        if let Some(token) = *place {
-            tokens.push(token)?;
-        }
+        add_token(&mut tokens, *place)?;
     }
     Ok(tokens)
+}
+
+// The number of one place more, if that has a token.
+fn add_number<A: Allocator>(
+    numbers: &mut Vec<u64, A>,
+    number: u64,
+    place: Option<Token>,
+) -> Result<(), AllocError>
+    ensures { OnOk result (numbers.new.items ≡ numbers.old.items ++ numbers_from number (place ∷ [])) }
+{
+    if place.is_some() {
+        numbers.push(number)?;
+    }
+    Ok(())
 }
 
 // The numbers of the tokens that are on their way.
@@ -224,9 +249,7 @@ fn numbers_in<A: Allocator>(alloc: A, places: &[Option<Token>]) -> Result<Vec<u6
 {
     let mut numbers = Vec::new(alloc);
     for number in 0..places.len() {
-        if places[number].is_some() {
-            numbers.push(number as u64)?;
-        }
+        add_number(&mut numbers, number as u64, places[number])?;
     }
     Ok(numbers)
 }
@@ -254,9 +277,9 @@ impl<'m, C: Instructions, A: Allocator> Ledger<'m, C, A> {
         ensures there { IfSome result (λ number. slice_get self.now.places.items number ≡ Some (Some token.now)) }
         ensures none { IfNone result ((number : ℕ) → slice_get self.now.places.items number ≡ Some (Some token.now) → ⊥) }
     {
-        if let Some(number) = self.likely_number(token) {
-            if self.has(number, token) {
-                return Some(number);
+        if let Some(likely) = self.likely_number(token) {
+            if self.has(likely, token) {
+                return Some(likely);
             }
         }
         for number in 0..self.places.len() {
@@ -337,12 +360,7 @@ impl<'m, C: Instructions, A: Allocator> Ledger<'m, C, A> {
     }
 
     // The token of this number is on its way no more, and those that it made are.
-    fn replace(
-        &mut self,
-        number: usize,
-        token: &Token,
-        made: &[Token],
-    ) -> Result<(), AllocError>
+    fn replace(&mut self, number: usize, token: &Token, made: &[Token]) -> Result<(), AllocError>
     where
         A: Clone,
         requires { number < length self.old.places.items }
@@ -460,7 +478,8 @@ impl<'m, C: Instructions, A: Allocator> Ledger<'m, C, A> {
     {
         let tokens = start_tokens(alloc, self.extent.main, inputs)?;
         self.index.put_all(&tokens, 0)?;
-        place_all(&mut self.places, &tokens)
+        place_all(&mut self.places, &tokens)?;
+        Ok(())
     }
 
     /// The books of a run on these inputs: enters the tokens of the start, and then each of the events, and gives the entries of `events`, before

@@ -20,10 +20,9 @@ loop-input-preserved g c =
     let same : x ≡ read = search rules in
     let is : x ≡ get_or c.args.inputs.now c.loop-input.input-index x = same ∙ get_or_default c.args.inputs.now c.loop-input.input-index (pos 0) x low in
     let t : Token = token (To.Instr 0 (c.loop-input.ip + 1) Left) (Word.Val (Int x)) in
-    let packed : c.pack-in-loop-input.result ≡ t = c.pack-in-loop-input.ensures in
     let place = c.loop-input.invariant.ip in
     record {
-      items = c.in_ok-push-2.ensures.items ∙ ap (λ (u : Token). c.loop-input.tokens.items ++ u ∷ []) packed
+      items = c.in_ok-push-2.ensures.items
           ∙ ap (λ (ts : List Token). ts ++ t ∷ []) c.loop-input.invariant.items
           ∙ start_more c.args.main c.loop-input.ip c.loop-input.input-index c.args.inputs.now x low is place;
       ip = omega (arith, place);

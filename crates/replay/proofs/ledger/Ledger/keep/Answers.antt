@@ -24,7 +24,7 @@ returns-clause-books g c z elements frames =
       passed = passed.1;
       tokens = c.in_ok-tokens.ensures ∙ ap on_way c.deref.ensures.value ∙ sym passed.2.pool;
       numbers = c.in_ok-numbers.ensures ∙ ap (numbers_from 0) c.deref-2.ensures.value ∙ sym passed.2.numbers;
-      next = c.len-next.ensures ∙ sym passed.2.next;
+      next = c.len-next.ensures ∙ c.pass_all.new.self.places.ok.0 ∙ sym passed.2.next;
       last = entered.0;
       entries = entered.1;
     }
