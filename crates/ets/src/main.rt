@@ -2,11 +2,30 @@
 #![tactic(auto)]
 
 use process::run_process;
+use std::io::{ErrorKind, Write};
 use std::process::ExitCode;
 use std::{env, io};
 
+/// The exit status where memory for the words, or for the buffer of standard output, was refused.
+const REFUSED: u8 = 1;
+
+/// Says that memory was refused before anything was read or written.
+fn refused<E: Write>(errors: &mut E) -> ExitCode {
+    let _is_told = errors.write_all(b"ets: out of memory\n").is_ok();
+    ExitCode::from(REFUSED)
+}
+
 fn main(rt: HostRuntime) -> io::Result<ExitCode> {
-    let words: Vec<String> = env::args(&rt)?.collect(rt.alloc())?;
+    let given = match env::args(&rt) {
+        Ok(given) => given,
+        Err(fault) if fault.kind() == ErrorKind::OutOfMemory => {
+            return Ok(refused(&mut rt.stderr()));
+        }
+        Err(fault) => return Err(fault),
+    };
+    let Ok(words): Result<Vec<String>, _> = given.collect(rt.alloc()) else {
+        return Ok(refused(&mut rt.stderr()));
+    };
     let ended = run_process(
         &words,
         rt.stdin(),
@@ -14,6 +33,9 @@ fn main(rt: HostRuntime) -> io::Result<ExitCode> {
         &mut rt.stderr(),
         rt.alloc(),
         &rt,
-    )?;
-    Ok(ExitCode::from(ended.status))
+    );
+    match ended {
+        Ok(ended) => Ok(ExitCode::from(ended.status)),
+        Err(_) => Ok(refused(&mut rt.stderr())),
+    }
 }
