@@ -1,5 +1,5 @@
 use Rattle.law_loop_credits.proofs.WaitsNet as Nets
 use Rattle.law_loop_credits.proofs.nets_wait_for_more.Goals as goal
 
-pub returns-clause-waits : goal.returns-clause-waits
-returns-clause-waits c = Nets.nets_wait_for_more
+pub returns : goal.returns
+returns c = Nets.nets_wait_for_more
