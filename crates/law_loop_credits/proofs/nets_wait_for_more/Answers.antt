@@ -2,4 +2,4 @@ use Rattle.law_loop_credits.proofs.WaitsNet as Nets
 use Rattle.law_loop_credits.proofs.nets_wait_for_more.Goals as goal
 
 pub returns : goal.returns
-returns c = Nets.nets_wait_for_more
+returns c = record { waits = Nets.nets_wait_for_more }
